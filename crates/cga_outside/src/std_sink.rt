@@ -1,0 +1,80 @@
+ghost use Rattle.std.specs.Prelude.{◌≡◌, ◌<◌, false, length, IfOk, is_ok, if◌then◌else◌};
+ghost use Rattle.std.specs.Io.{WritesAtMost};
+ghost use Rattle.std.specs.Io.KnownBytes.{WriteAppends, Keeps};
+ghost use Rattle.cga_outside.specs.Causes.{HasCause, flushed_after, risen};
+
+use crate::failed::Failed;
+use crate::sink::Sink;
+use std::io::Write;
+
+/// A sink over one of std's writers. It tells of its bytes what the writer tells, which is nothing for
+/// standard output. Any error of the writer counts as a fault, and so does a write that takes nothing.
+#[derive(Drop)]
+pub struct StdSink<W: Write> {
+    writer: W,
+    flushed: bool,
+    faults: u64,
+}
+
+impl<W: Write> StdSink<W> {
+    /// A sink that isn't flushed. Takes no memory.
+    pub fn new(writer: W) -> StdSink<W>
+        ensures writer { result.writer ≡ writer }
+        ensures unflushed { result.flushed ≡ false }
+        ensures faults { result.faults ≡ 0 }
+    {
+        StdSink {
+            writer,
+            flushed: false,
+            faults: 0,
+        }
+    }
+}
+
+impl<W: Write> Sink for StdSink<W> {
+    ghost held = { λ s. W.contents s.writer };
+
+    ghost flushed = { λ s. s.flushed };
+
+    ghost faults = { λ s. s.faults };
+
+    fn write(&mut self, piece: &[u8]) -> Result<usize, Failed>
+        ensures within { WritesAtMost result piece.now }
+        ensures some { IfOk result (λ n. 0 < length piece.now → 0 < n) }
+        ensures bytes { WriteAppends (W.contents self.old.writer) (W.contents self.new.writer) result piece.now }
+        ensures mark { self.new.flushed ≡ flushed_after self.old.flushed piece.now }
+        ensures cause { HasCause self.old.faults self.new.faults result }
+        ensures faults { self.new.faults ≡ (if is_ok result then self.old.faults else risen self.old.faults) }
+    {
+        if piece.is_empty() {
+            return Ok(0);
+        }
+        self.flushed = false;
+        match self.writer.write(piece) {
+            Ok(count) if count > 0 => Ok(count),
+            _ => {
+                self.faults = self.faults.saturating_add(1);
+                Err(Failed)
+            }
+        }
+    }
+
+    fn flush(&mut self) -> Result<(), Failed>
+        ensures mark { self.new.flushed ≡ is_ok result }
+        ensures bytes { Keeps (W.contents self.old.writer) (W.contents self.new.writer) }
+        ensures cause { HasCause self.old.faults self.new.faults result }
+        ensures faults { self.new.faults ≡ (if is_ok result then self.old.faults else risen self.old.faults) }
+    {
+        match self.writer.flush() {
+            Ok(()) => {
+                self.flushed = true;
+                Ok(())
+            }
+            Err(_) => {
+                self.flushed = false;
+                self.faults = self.faults.saturating_add(1);
+                Err(Failed)
+            }
+        }
+    }
+}
