@@ -1,0 +1,30 @@
+//! Names and the small enumerations that rules, shapes and the engine share. This crate stands on
+//! no other of the repository and knows nothing of grammars: a word that the rule language
+//! reserves, as `T`, is a name like any other here, and refusing it is the parser's matter.
+//! Nothing takes memory.
+#![tactic(auto)]
+
+mod answer;
+mod answers;
+mod axis;
+mod mode;
+mod name;
+mod primitive;
+mod selector;
+mod side;
+mod target;
+mod turn;
+
+pub use answer::Answer;
+pub use answers::Answers;
+pub use axis::Axis;
+pub use mode::Mode;
+pub use name::Name;
+pub use primitive::Primitive;
+pub use selector::Selector;
+pub use side::Side;
+pub use target::Target;
+pub use turn::Turn;
+
+#[cfg(test)]
+mod tests;
