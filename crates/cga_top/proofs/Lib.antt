@@ -1,0 +1,12 @@
+pub mod Blanks
+pub mod BlockLines
+pub mod Shapes
+pub mod Numerals
+pub mod Wholes
+pub mod Turns
+pub mod Known
+pub mod Runs
+pub mod Pieces
+pub mod Reading
+pub mod Ends
+pub mod Complete

@@ -1,0 +1,37 @@
+use Rattle.std.proofs.Common.{◌≡◌, ◌++◌, ◌∷◌, [], rules, refl, sym, ◌∙◌, None, Some, true, false, subst, arith, ◌≤◌, ◌+◌}
+use Rattle.cga_script.specs.Lines.{Line}
+use Rattle.cga_top.specs.Forms.{form_of}
+use Rattle.cga_top.specs.Blocks.{gathered, ends_block, block_of}
+use Rattle.cga_top.specs.Output.{turn, asked, closed, silent}
+use Rattle.cga_top.specs.Session.{Stands, IsOpen}
+use Rattle.cga_top.proofs.Turns.{turn_outside, turn_inside}
+use Rattle.cga_top.proofs.session.take_turn.Goals as goal
+
+pub returns-in-None : goal.returns-in-None
+returns-in-None g c = λ s stands.
+    let line : Line = record { bytes = c.args.line.now; long = c.args.long } in
+    let none : c.args.session.now.block ≡ None = search rules in
+    let taken : c.take.new.self ≡ None = search rules in
+    let turned : turn s line ≡ asked s c.form.result = turn_outside s c.args.session.now line stands none ∙ rw c.form.ensures refl in
+    rw turned (c.answer.ensures s c.args._expansions.now (record { sources = stands.sources; block = subst (IsOpen s.block) (none ∙ sym taken) stands.block }))
+
+pub returns-in-Some : goal.returns-in-Some
+returns-in-Some g c = λ s stands.
+    let line : Line = record { bytes = c.args.line.now; long = c.args.long } in
+    let some : c.args.session.now.block ≡ Some c.in-Some.block = search rules in
+    let inside = turn_inside s c.args.session.now c.in-Some.block line stands some in
+    let taken : c.take.new.self ≡ None = search rules in
+    let ends : ends_block line ≡ true = search rules in
+    let read = c.finish.ensures inside.lines inside.come in
+    let turned : turn s line ≡ closed (record s { block = None }) c.finish.result = inside.turned ∙ rw (ends, read) refl in
+    rw turned (c.close.ensures (record s { block = None }) c.args._expansions.now (record { sources = stands.sources; block = subst (IsOpen None) (sym taken) tt }))
+
+pub returns-in-Some-2 : goal.returns-in-Some-2
+returns-in-Some-2 g c = λ s stands.
+    let line : Line = record { bytes = c.args.line.now; long = c.args.long } in
+    let some : c.args.session.now.block ≡ Some c.in-Some.block = search rules in
+    let inside = turn_inside s c.args.session.now c.in-Some.block line stands some in
+    let ends : ends_block line ≡ false = search rules in
+    let turned : turn s line ≡ silent (record s { block = Some (inside.lines ++ line ∷ []) }) = inside.turned ∙ rw ends refl in
+    let more : c.line.result ≡ gathered (inside.lines ++ line ∷ []) = c.line.ensures inside.lines inside.come in
+    rw turned (record { stands = record { sources = stands.sources; block = more }; reply = c.new.ensures.items; least = omega arith; most = omega arith })

@@ -1,0 +1,59 @@
+use Rattle.std.proofs.Common.{◌≡◌, ◌≤◌, ap, sym, ◌∙◌, Err, rules, arith, refl}
+use Rattle.cga_top.proofs.Ends.{start_pending, done_means, failed_means, too_long_means, stopped_means, stopped_rose, stopped_prefix, end_prefix, no_sooner}
+use Rattle.cga_top.proofs.Complete.{complete_of, not_used, done_not_used, read_not_used, long_not_used}
+use Rattle.cga_top.proofs.top.run_script.Goals as goal
+
+pub read_lines-requires-clause-lines : goal.read_lines-requires-clause-lines
+read_lines-requires-clause-lines g c = start_pending _ c.in-Ok.ensures
+
+pub returns-in-Ok-end_script-clause-means : goal.returns-in-Ok-end_script-clause-means
+returns-in-Ok-end_script-clause-means g c =
+    let r = c.in-Ended.ensures.end in
+    let w = c.in-Ok-end_script.ensures.ok _ _ r.1.wrote.stands (ap (λ p. p.kept) r.1.lines_are) in
+    let f = c.flushed.ensures in
+    done_means _ _ _ _ _ _ _ _ _ _ _ _ _ _ _ _ _ _ _ _ _ r.0 r.1 r.2 r.3 r.4 w f.answers f.done
+    (λ e. no_sooner _ _ _ (omega (arith, c.in-Ended.ensures.sink, c.in-Ok-end_script.ensures.count)) (f.fault e)) f.bytes
+
+pub returns-in-Ended-clause-means : goal.returns-in-Ended-clause-means
+returns-in-Ended-clause-means g c =
+    let r = c.in-Ended.ensures.end in
+    let s = c.in-Err-end_script.ensures.err _ _ r.1.wrote.stands (ap (λ p. p.kept) r.1.lines_are) in
+    stopped_means c.in-Err-end_script.stop _ _ _ _ _ _ _ _ _ _ _ _ _ _ _ c.status_of.ensures.write c.status_of.ensures.memory
+    (λ e. no_sooner _ _ _ c.in-Ended.ensures.sink (c.in-Err-end_script.ensures.cause (ap (λ h. Err h) e)))
+    (end_prefix _ _ _ _ _ _ _ _ _ r.0 r.1 r.2 r.3 s)
+
+pub returns-in-Failed-clause-means : goal.returns-in-Failed-clause-means
+returns-in-Failed-clause-means g c =
+    let r = c.in-Failed.ensures.end in
+    let f = c.flushed-in-Failed.ensures in
+    failed_means _ _ _ _ _ _ _ _ _ _ _ _ _ _ _ _ _ _ r.0 r.1 r.2 r.3 f.answers f.done (λ e. no_sooner _ _ _ c.in-Failed.ensures.sink (f.fault e)) f.bytes
+
+pub returns-in-TooLong-clause-means : goal.returns-in-TooLong-clause-means
+returns-in-TooLong-clause-means g c =
+    let r = c.in-TooLong.ensures.end in
+    let f = c.flushed-in-TooLong.ensures in
+    too_long_means _ _ _ _ _ _ _ _ _ _ _ _ _ _ _ _ _ _ r.0 r.1 r.2 f.answers f.done (λ e. no_sooner _ _ _ c.in-TooLong.ensures.sink (f.fault e)) f.bytes
+
+pub returns-clause-means : goal.returns-clause-means
+returns-clause-means g c =
+    let r = c.in-Stopped.ensures.end in
+    stopped_means c.in-Stopped.stop _ _ _ _ _ _ _ _ _ _ _ _ _ _ _ c.status_of-in-Stopped.ensures.write c.status_of-in-Stopped.ensures.memory
+    (stopped_rose c.in-Stopped.stop _ _ _ _ _ _ _ _ _ _ _ _ _ r) (stopped_prefix c.in-Stopped.stop _ _ _ _ _ _ _ _ _ _ _ _ _ r)
+
+pub returns-in-Ok-end_script-clause-complete : goal.returns-in-Ok-end_script-clause-complete
+returns-in-Ok-end_script-clause-complete g c = λ few calm silent. complete_of _ _ _ (returns-in-Ok-end_script-clause-means g c) few calm silent (not_used _ _ c.flushed.ensures.answers done_not_used)
+
+pub returns-in-Ended-clause-complete : goal.returns-in-Ended-clause-complete
+returns-in-Ended-clause-complete g c = λ few calm silent. complete_of _ _ _ (returns-in-Ended-clause-means g c) few calm silent c.status_of.ensures.used
+
+pub returns-in-Failed-clause-complete : goal.returns-in-Failed-clause-complete
+returns-in-Failed-clause-complete g c = λ few calm silent. complete_of _ _ _ (returns-in-Failed-clause-means g c) few calm silent (not_used _ _ c.flushed-in-Failed.ensures.answers read_not_used)
+
+pub returns-in-TooLong-clause-complete : goal.returns-in-TooLong-clause-complete
+returns-in-TooLong-clause-complete g c = λ few calm silent. complete_of _ _ _ (returns-in-TooLong-clause-means g c) few calm silent (not_used _ _ c.flushed-in-TooLong.ensures.answers long_not_used)
+
+pub returns-clause-complete : goal.returns-clause-complete
+returns-clause-complete g c = λ few calm silent. complete_of _ _ _ (returns-clause-means g c) few calm silent c.status_of-in-Stopped.ensures.used
+
+pub returns-in-TooLong-clause-used : goal.returns-in-TooLong-clause-used
+returns-in-TooLong-clause-used g c = not_used _ _ c.flushed-in-TooLong.ensures.answers long_not_used

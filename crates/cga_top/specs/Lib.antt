@@ -1,0 +1,14 @@
+pub mod Words
+pub mod Numbers
+pub mod Symbols
+pub mod Forms
+pub mod Blocks
+pub mod Texts
+pub mod Cube
+pub mod Output
+pub mod Session
+pub mod Writes
+pub mod Wrote
+pub mod Progress
+pub mod Reads
+pub mod Top
