@@ -20,7 +20,7 @@ whole_lot _ _ _ _ _ _ _ = None
 unfoldable pub lot_of : List (List ℕ) → Option Lot
 lot_of (kind ∷ name ∷ seed ∷ x ∷ z ∷ width ∷ depth ∷ symbol ∷ []) =
     if bytes_eq kind (codes "lot") then
-      whole_lot (symbol_of name) (number_of 18 seed) (number_of 6 x) (number_of 6 z) (above_zero (number_of 6 width)) (above_zero (number_of 6 depth)) (symbol_of symbol)
+    whole_lot (symbol_of name) (number_of 18 seed) (number_of 6 x) (number_of 6 z) (above_zero (number_of 6 width)) (above_zero (number_of 6 depth)) (symbol_of symbol)
     else None
 lot_of _ = None
 

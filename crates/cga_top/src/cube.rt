@@ -97,7 +97,12 @@ fn push_cube(alloc: Global, text: &mut Vec<u8>, lot: &Lot, height: u32) -> Resul
     )
 }
 
-fn push_instance(alloc: Global, text: &mut Vec<u8>, rule: &Option<BoxRule>, lot: &Lot) -> Result<(), NoMemory>
+fn push_instance(
+    alloc: Global,
+    text: &mut Vec<u8>,
+    rule: &Option<BoxRule>,
+    lot: &Lot,
+) -> Result<(), NoMemory>
     ensures { OnOk result (text.new.items ≡ text.old.items ++ instance_text rule.now lot.now) }
 {
     let Some(rule) = rule else { return Ok(()) };
@@ -110,7 +115,9 @@ fn push_instance(alloc: Global, text: &mut Vec<u8>, rule: &Option<BoxRule>, lot:
 fn push_lot(alloc: Global, text: &mut Vec<u8>, sources: &Sources) -> Result<(), NoMemory>
     ensures { OnOk result (text.new.items ≡ text.old.items ++ lot_text sources.now.rule sources.now.lot) }
 {
-    let Some(lot) = &sources.lot else { return Ok(()) };
+    let Some(lot) = &sources.lot else {
+        return Ok(())
+    };
     push(text, b"o ")?;
     push(text, lot.name.bytes())?;
     push(text, b"\n")?;

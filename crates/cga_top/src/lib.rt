@@ -23,3 +23,6 @@ mod words;
 
 pub use status::Status;
 pub use top::run_city;
+
+#[cfg(test)]
+mod tests;

@@ -22,7 +22,7 @@ loop-rest-preserved-in-Ok g c =
     let t = takes_line c.loop-rest.lines.kept c.loop-rest.rest.now c.split_at.result.1.now c.feed-fed.result.taken c.feed-fed.new.self inv.part.one f.0 f.1 f.2 f.3 c.split_at.ensures.back f.4 in
     let done = c.in-Ok.ensures in
     record {
-          part = part_cleared _ done.lines;
+      part = part_cleared _ done.lines;
       count = omega (arith, inv.count, done.count);
       each = λ s st. subst (λ (q : Pending). Progress s (c.args.lines.now.kept ++ c.args.piece.now) (q.kept ++ c.split_at.result.1.now) c.take_line.new.session (g.K.Sink.held c.args.out.now) (g.K.Sink.held c.take_line.new.out) c.args.expansions.now c.take_line.new.expansions)
           (sym done.lines) (progress_line s _ _ _ _ _ _ _ _ _ _ _ _ t.lines (inv.each s st) (λ u su. done.ok u su));
@@ -36,7 +36,7 @@ loop-rest-preserved g c =
     let one = one_more _ _ inv.part.one f.0 in
     let none = nothing_left _ _ _ f.1 c.split_at.ensures.back in
     record {
-          part = part_kept _ _ f.2 one;
+      part = part_kept _ _ f.2 one;
       count = inv.count;
       each = λ s st. progress_same s _ _ _ _ _ _ _ _ (lines_kept_none _ _ _ f.2 none one) (inv.each s st);
       kept = left_kept _ _ _ f.2 none one ∙ inv.kept;

@@ -39,6 +39,6 @@ loop-total-preserved g c =
       so_far = (
         read ++ take c.in-Ok.count c.read.new.buf,
         reads_more read _ _ _ _ _ _ _ _ _ _ _ _ _ _ _ few first inv.so_far.1 c.in-Ok.ensures.bytes.0 done.ok done.lines,
-        omega (arith, length-append read (take c.in-Ok.count c.read.new.buf), length-take-le c.in-Ok.count c.read.new.buf c.in-Ok.ensures.bound.0, inv.so_far.2)
+        omega (arith, length-append read (take c.in-Ok.count c.read.new.buf), length-take-le c.in-Ok.count c.read.new.buf c.in-Ok.ensures.bound.0, inv.so_far.2),
       );
     }
