@@ -1,12 +1,13 @@
 -- What a piece does to the lines that are read.
-use Rattle.std.proofs.Common.{◌≡◌, ◌≢◌, ℕ, zero, suc, ◌+◌, ◌-◌, ◌<◌, ◌≤◌, List, [], ◌∷◌, ◌++◌, length, take, drop, get_or, map, subst, refl, sym, ap, ap₂, ◌∙◌, arith, append_assoc, add-one, drop-cons}
-use Rattle.std.specs.Prelude.{All}
+use Rattle.std.proofs.Common.{◌≡◌, ◌≢◌, ℕ, zero, suc, ◌+◌, ◌-◌, ◌<◌, ◌≤◌, List, [], ◌∷◌, ◌++◌, length, take, drop, get_or, map, subst, refl, sym, ap, ap₂, ◌∙◌, arith, append_assoc, add-one, drop-cons, Bool}
+use Rattle.std.specs.Prelude.{All, ◌↔◌, IsFalse}
+use Rattle.std.proofs.Math.Seq.{take-nil}
 use Rattle.std.proofs.lemmas.List.{take-append-drop, append-nil}
 use Rattle.std.proofs.lemmas.List.Elements.{All-append, All-take}
 use Rattle.cga_script.specs.Lines.{Cut, cut, IsOneLine, Line, clipped, without_cr, lines_of}
-use Rattle.cga_script.specs.Pending.{Pending, kept_of, ready_line}
+use Rattle.cga_script.specs.Pending.{Pending, IsPart, kept_of, ready_line}
 use Rattle.cga_script.specs.declared.ending.Ending.TheVariants.{Open, Lf, End}
-use Rattle.cga_script.proofs.Cuts.{cut_line, cut_part, cut_after, line_kept, take_twice, rest_is_one}
+use Rattle.cga_script.proofs.Cuts.{cut_line, cut_part, cut_after, line_kept, last_kept, lines_kept, kept_again, take_twice, rest_is_one}
 
 abbrev IsByte : ℕ → Type 0
 IsByte b = b ≢ 10
@@ -47,3 +48,39 @@ kept_twice part = take_twice 4098 4098 part (omega arith)
 
 pub one_more : (kept part : List ℕ) → IsOneLine kept → IsOneLine part → IsOneLine (kept ++ part)
 one_more kept part a b = All-append IsByte kept part a b
+
+-- a piece that has an LF completes the line that is read
+pub cuts_line : (rest piece : List ℕ) (old new : Pending) (end : ℕ) → IsPart rest old → end < length piece → get_or piece end 0 ≡ 10 → IsOneLine (take end piece)
+    → new ≡ record { kept = kept_of (old.kept ++ take end piece); ending = Lf } → lines_of (rest ++ piece) ≡ ready_line new ∷ lines_of (drop (end + 1) piece)
+cuts_line rest piece old new end part within lf one is =
+    let kept : old.kept ≡ kept_of rest = ap (λ (p : Pending). p.kept) part.kept in
+    let back : end + 1 - 1 ≡ end = omega arith in
+    let taken : new ≡ record { kept = kept_of (kept_of rest ++ take (end + 1 - 1) piece); ending = Lf } = rw (back, ← kept) is in
+    sym (lines_kept rest piece part.one)
+    ∙ (takes_line (kept_of rest) piece (drop (end + 1) piece) (end + 1) new (kept_one rest part.one) (omega arith) (omega arith) (rw back lf) (rw back one) refl taken).lines
+
+-- a piece with no LF goes on with it
+pub goes_on : (rest piece : List ℕ) (old new : Pending) → IsPart rest old → IsOneLine piece → new ≡ record { kept = kept_of (old.kept ++ piece); ending = Open } → (lines_of (rest ++ piece) ≡ []) × IsPart (rest ++ piece) new
+goes_on rest piece old new part one is =
+    let kept : old.kept ≡ kept_of rest = ap (λ (p : Pending). p.kept) part.kept in
+    let both = one_more rest piece part.one one in
+    (
+      no_lines (rest ++ piece) both,
+      record { one = both; kept = is ∙ ap (λ (k : List ℕ). record { kept = kept_of (k ++ piece); ending = Open }) kept ∙ ap (λ (k : List ℕ). record { kept = k; ending = Open }) (kept_again 4098 rest piece) },
+    )
+
+nothing_kept : (byte : ℕ) (bytes : List ℕ) → kept_of (byte ∷ bytes) ≡ [] → ⊥
+nothing_kept byte bytes e = let bad : byte ∷ take 4097 bytes ≡ [] = e in cc
+
+none_kept : (rest : List ℕ) → (kept_of rest ≡ []) ↔ (rest ≡ [])
+none_kept [] = (λ e. refl, λ e. take-nil 4098)
+none_kept (byte ∷ bytes) = (λ e. absurd (nothing_kept byte bytes e), λ e. cc)
+
+-- the line that the script's end leaves
+pub ends_line : (rest : List ℕ) (old new : Pending) (ready : Bool) → IsPart rest old → (IsFalse ready ↔ (old.kept ≡ [])) → new ≡ record { kept = old.kept; ending = End } → (IsFalse ready ↔ (rest ≡ [])) × (ready_line new ≡ clipped rest)
+ends_line rest old new ready part exact is =
+    let kept : old.kept ≡ kept_of rest = ap (λ (p : Pending). p.kept) part.kept in
+    (
+      (λ none. (none_kept rest).0 (sym kept ∙ exact.0 none), λ none. exact.1 (kept ∙ (none_kept rest).1 none)),
+      ap ready_line is ∙ ap clipped kept ∙ last_kept rest,
+    )

@@ -1,6 +1,8 @@
 -- What is kept of the line that is being read.
 use Rattle.std.specs.Prelude.{◌≡◌, ℕ, ◌+◌, ◌-◌, ◌<◌, ◌≤◌, List, [], ◌∷◌, ◌++◌, Bool, true, false, length, take, drop, slice_index}
-use Rattle.cga_script.specs.Lines.{Line, IsOneLine, clipped, without_cr}
+use Rattle.std.specs.Bool.{MatchBool}
+use Rattle.cga_script.specs.Lines.{Line, IsOneLine, clipped, without_cr, lines_of}
+use Rattle.cga_script.specs.declared.fed.Fed.{Fed}
 use Rattle.cga_script.specs.declared.ending.Ending.{Ending}
 use Rattle.cga_script.specs.declared.ending.Ending.TheVariants.{Open, Lf, End}
 
@@ -21,3 +23,15 @@ ended_by End kept = kept
 
 abbrev pub ready_line : Pending → Line
 ready_line p = clipped (ended_by p.ending p.kept)
+
+-- so much is kept of a line that goes on, of which these bytes have come
+pub record IsPart (rest : List ℕ) (p : Pending) : Type 0 where
+  pub one : IsOneLine rest
+  pub kept : p ≡ record { kept = kept_of rest; ending = Open }
+
+-- what a piece does after these bytes of a line: it completes the line, which is ready then and comes first, or
+-- the line goes on
+abbrev pub CutsLine : List ℕ → List ℕ → Fed → Pending → Type 0
+CutsLine rest piece fed new = MatchBool fed.ready
+    (lines_of (rest ++ piece) ≡ ready_line new ∷ lines_of (drop fed.taken piece))
+    ((lines_of (rest ++ piece) ≡ []) × IsPart (rest ++ piece) new)

@@ -1,6 +1,6 @@
-ghost use Rattle.std.specs.Prelude.{◌≡◌, ◌↔◌, ◌<◌, ◌≤◌, ◌-◌, ◌+◌, ◌++◌, ◌∷◌, [], length, take, slice_index, IfOk, IsTrue, IsFalse, MatchOption, nat_lt, vec_len, vec_capacity};
-ghost use Rattle.cga_script.specs.Lines.{IsOneLine, without_cr};
-ghost use Rattle.cga_script.specs.Pending.{Pending, kept_of, ready_line};
+ghost use Rattle.std.specs.Prelude.{◌≡◌, ◌↔◌, List, ℕ, ◌<◌, ◌≤◌, ◌-◌, ◌+◌, ◌++◌, ◌∷◌, [], length, take, slice_index, IfOk, IsTrue, IsFalse, MatchOption, nat_lt, vec_len, vec_capacity};
+ghost use Rattle.cga_script.specs.Lines.{IsOneLine, without_cr, clipped};
+ghost use Rattle.cga_script.specs.Pending.{Pending, kept_of, ready_line, IsPart, CutsLine};
 
 use crate::ending::Ending;
 use crate::fed::Fed;
@@ -97,6 +97,7 @@ impl Lines {
     /// Takes the bytes up to and with the next LF, or the whole piece where it has none. Takes no memory.
     pub fn feed(&mut self, piece: &[u8]) -> Fed
         requires { self.old.ending ≡ Ending.Open }
+        ensures cut { (rest : List ℕ) → IsPart rest self.old → CutsLine rest piece.now result self.new }
         ensures none { IsFalse result.ready → IsOneLine piece.now × (result.taken ≡ length piece.now)
             × (self.new ≡ record { kept = kept_of (self.old.kept ++ piece.now); ending = Ending.Open }) }
         ensures some { IsTrue result.ready → (0 < result.taken) × (result.taken ≤ length piece.now)
@@ -147,6 +148,14 @@ impl Lines {
     /// Ends the script's last line, and says whether bytes came after the last LF. Takes no memory.
     pub fn finish(&mut self) -> bool
         requires { self.old.ending ≡ Ending.Open }
+        ensures ready { IsFalse result ↔ (self.old.kept ≡ []) }
+        ensures line { self.new ≡ record { kept = self.old.kept; ending = Ending.End } }
+        ensures last { (rest : List ℕ) → IsPart rest self.old → (IsFalse result ↔ (rest ≡ [])) × (ready_line self.new ≡ clipped rest) }
+    {
+        self.end_line()
+    }
+
+    fn end_line(&mut self) -> bool
         ensures ready { IsFalse result ↔ (self.old.kept ≡ []) }
         ensures line { self.new ≡ record { kept = self.old.kept; ending = Ending.End } }
     {

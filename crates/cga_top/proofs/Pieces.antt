@@ -11,7 +11,7 @@ use Rattle.cga_script.proofs.Feeds.{kept_one, kept_twice, no_lines, rest_of_part
 use Rattle.cga_top.specs.declared.session.Session.{Session}
 use Rattle.cga_top.specs.Output.{State, Turn, turn, then_turn, silent, run_from}
 use Rattle.cga_top.specs.Session.{Stands}
-use Rattle.cga_top.specs.Wrote.{Wrote, IsPart}
+use Rattle.cga_top.specs.Wrote.{Wrote, IsKeptPart}
 use Rattle.cga_top.specs.Writes.{AppendsSome}
 use Rattle.cga_top.specs.Progress.{Progress}
 use Rattle.cga_top.proofs.Runs.{then_assoc, then_silent, silent_then, run_none, run_more, wrote_more, wrote_nothing, some_after, some_more}
@@ -48,11 +48,11 @@ progress_err s all now more line session a b c i j e p each =
     subst (λ (t : Turn). AppendsSome a c t.reply) same some
 
 -- the line that is read is empty again
-pub part_cleared : (p : Pending) → p ≡ record { kept = []; ending = Open } → IsPart p
-part_cleared p e = subst IsPart (sym e) (record { open_line = refl; one = All-nil (λ (b : ℕ). b ≢ 10); short = refl })
+pub part_cleared : (p : Pending) → p ≡ record { kept = []; ending = Open } → IsKeptPart p
+part_cleared p e = subst IsKeptPart (sym e) (record { open_line = refl; one = All-nil (λ (b : ℕ). b ≢ 10); short = refl })
 
-pub part_kept : (p : Pending) (part : List ℕ) → p ≡ record { kept = kept_of part; ending = Open } → IsOneLine part → IsPart p
-part_kept p part e one = subst IsPart (sym e) (record { open_line = refl; one = kept_one part one; short = kept_twice part })
+pub part_kept : (p : Pending) (part : List ℕ) → p ≡ record { kept = kept_of part; ending = Open } → IsOneLine part → IsKeptPart p
+part_kept p part e one = subst IsKeptPart (sym e) (record { open_line = refl; one = kept_one part one; short = kept_twice part })
 
 -- after a line that an LF ended
 pub left_cleared : (p : Pending) (now more : List ℕ) → p ≡ record { kept = []; ending = Open } → (cut now).rest ≡ (cut more).rest → kept_of (cut (p.kept ++ more)).rest ≡ kept_of (cut now).rest
@@ -75,7 +75,7 @@ nothing_left rest more n e d = d ∙ ap (λ (k : ℕ). drop k rest) e ∙ drop-l
 pub no_more_lines : (kept rest : List ℕ) → rest ≡ [] → IsOneLine kept → lines_of (kept ++ rest) ≡ []
 no_more_lines kept rest none one = ap (λ (r : List ℕ). lines_of (kept ++ r)) none ∙ ap lines_of (append-nil kept) ∙ no_lines kept one
 
-pub no_more_left : (p : Pending) (rest all : List ℕ) → rest ≡ [] → IsPart p → kept_of (cut (p.kept ++ rest)).rest ≡ kept_of (cut all).rest → p ≡ record { kept = kept_of (cut all).rest; ending = Open }
+pub no_more_left : (p : Pending) (rest all : List ℕ) → rest ≡ [] → IsKeptPart p → kept_of (cut (p.kept ++ rest)).rest ≡ kept_of (cut all).rest → p ≡ record { kept = kept_of (cut all).rest; ending = Open }
 no_more_left p rest all none part e =
     let same : p.kept ≡ kept_of (cut all).rest = sym part.short ∙ ap kept_of (sym (rest_of_part p.kept part.one)) ∙ ap (λ (r : List ℕ). kept_of (cut r).rest) (sym (append-nil p.kept) ∙ ap (λ (r : List ℕ). p.kept ++ r) (sym none)) ∙ e in
     ap (λ (e : Ending). record { kept = p.kept; ending = e }) part.open_line ∙ ap (λ (k : List ℕ). record { kept = k; ending = Open }) same

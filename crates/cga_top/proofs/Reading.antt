@@ -17,7 +17,7 @@ use Rattle.cga_top.specs.declared.stop.Stop.TheVariants.{WriteFault, NoMemory}
 use Rattle.cga_top.specs.declared.read_end.ReadEnd.TheVariants.{Stopped}
 use Rattle.cga_top.specs.Output.{State, Turn, start, silent, then_turn, run_from, whole_lines, replies_of}
 use Rattle.cga_top.specs.Session.{Stands}
-use Rattle.cga_top.specs.Wrote.{Wrote, IsPart}
+use Rattle.cga_top.specs.Wrote.{Wrote, IsKeptPart}
 use Rattle.cga_top.specs.Writes.{AppendsSome}
 use Rattle.cga_top.specs.Reads.{limit, pending_after, IsRead, IsStopped, ReadsTo}
 use Rattle.cga_top.proofs.Known.{consumes_nothing, consumes_more}
@@ -37,7 +37,7 @@ reads_start session lines a o i st e =
       lines_are = e ∙ ap pending_after (sym none);
     }
 
-pub is_part : (read : List ℕ) (p : Pending) → p ≡ pending_after read → IsPart p
+pub is_part : (read : List ℕ) (p : Pending) → p ≡ pending_after read → IsKeptPart p
 is_part read p e = part_kept p (cut read).rest e (rest_is_one read)
 
 -- what is looked at of one more chunk

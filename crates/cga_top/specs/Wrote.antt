@@ -16,7 +16,7 @@ pub record Wrote (t : Turn) (session : Session) (old new : Option (List ℕ)) (b
   pub most : after ≤ before + t.most
 
 -- a part of a line, as it is kept
-pub record IsPart (p : Pending) : Type 0 where
+pub record IsKeptPart (p : Pending) : Type 0 where
   pub open_line : p.ending ≡ Open
   pub one : IsOneLine p.kept
   pub short : kept_of p.kept ≡ p.kept

@@ -6,7 +6,7 @@ ghost use Rattle.cga_script.specs.Pending.{kept_of, ready_line};
 ghost use Rattle.cga_script.specs.declared.ending.Ending.TheVariants as ending;
 ghost use Rattle.cga_top.specs.Output.{State, turn, run_from};
 ghost use Rattle.cga_top.specs.Session.{Stands};
-ghost use Rattle.cga_top.specs.Wrote.{Wrote, IsPart};
+ghost use Rattle.cga_top.specs.Wrote.{Wrote, IsKeptPart};
 ghost use Rattle.cga_top.specs.Writes.{AppendsSome};
 
 use crate::session::{Session, take_turn};
@@ -69,7 +69,7 @@ pub(crate) fn take_piece<K: Sink, E: Ledger, T: Ledger>(
     expansions: &mut Steps<E>,
     tests: &mut Steps<T>,
 ) -> Result<(), Stop>
-    requires { IsPart lines.old }
+    requires { IsKeptPart lines.old }
     ensures ok { (s : State) → Stands s session.old → OnOk result (Wrote (run_from s (lines_of (lines.old.kept ++ piece.now))) session.new (K.held out.old) (K.held out.new) expansions.old expansions.new) }
     ensures err { (s : State) → Stands s session.old → OnErr result (AppendsSome (K.held out.old) (K.held out.new) (run_from s (lines_of (lines.old.kept ++ piece.now))).reply) }
     ensures cause { result ≡ Err Stop.WriteFault → Rose (K.faults out.old) (K.faults out.new) }
@@ -99,7 +99,7 @@ pub(crate) fn reply_to<K: Sink, E: Ledger, T: Ledger>(
     expansions: &mut Steps<E>,
     tests: &mut Steps<T>,
 ) -> Result<(), Stop>
-    requires { IsPart lines.old }
+    requires { IsKeptPart lines.old }
     ensures ok { (s : State) → Stands s session.old → OnOk result (Wrote (run_from s (lines_of (lines.old.kept ++ piece.now))) session.new (K.held out.old) (K.held out.new) expansions.old expansions.new) }
     ensures err { (s : State) → Stands s session.old → OnErr result (AppendsSome (K.held out.old) (K.held out.new) (run_from s (lines_of (lines.old.kept ++ piece.now))).reply) }
     ensures cause { result ≡ Err Stop.WriteFault → Rose (K.faults out.old) (K.faults out.new) }
