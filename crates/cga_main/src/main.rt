@@ -67,8 +67,12 @@ fn end(rt: &HostRuntime, exit: Exit) -> ExitCode {
 fn main(mut rt: HostRuntime) -> ExitCode {
     match words(&rt) {
         Ok(words) => {
-            let status =
-                run::<Brand, Brand>(&mut rt, words.as_slice(), Blank::new(1), Blank::new(1));
+            let status = run::<Brand, Brand>(
+                &mut rt,
+                words.as_slice(),
+                Blank::new(1),
+                Blank::new(1),
+            );
             end(&rt, exit_of(status))
         }
         Err(exit) => end(&rt, exit),

@@ -1,5 +1,5 @@
 -- A source and a sink in memory, as contracts see them.
-use Rattle.std.specs.Prelude.{ℕ, ◌≤◌, ◌<◌, List, length, Bool, Contains, ◌⊎◌, ◌-◌, min}
+use Rattle.std.specs.Prelude.{ℕ, ◌≤◌, ◌<◌, List, length, Bool, ◌-◌, min}
 
 -- a source: the bytes that are left, the most that a read gives, the numbers of the reads that fail, the number
 -- of the next read, whether a read met the end, and how often one failed

@@ -28,7 +28,14 @@ impl Model for MemorySink {
 
     ghost Value = { Writing };
 
-    ghost view = { λ s. record { held = s.held.items; room = s.room; fails = s.fails; number = s.number; flushed = s.flushed; faults = s.faults } };
+    ghost view = { λ s. record {
+      held = s.held.items;
+      room = s.room;
+      fails = s.fails;
+      number = s.number;
+      flushed = s.flushed;
+      faults = s.faults;
+    } };
 
     ghost invariant = { λ s. (s.room ≤ vec_capacity s.held) × (vec_len s.held ≤ s.room) };
 }
@@ -36,7 +43,14 @@ impl Model for MemorySink {
 impl MemorySink {
     /// An empty sink with room for so many bytes. Takes memory for all of them.
     pub fn new(alloc: Global, room: usize, fails: List<u64>) -> Result<MemorySink, NoMemory>
-        ensures { IfOk result (λ sink. sink ≡ record { held = []; room = room; fails = fails; number = 0; flushed = false; faults = 0 }) }
+        ensures { IfOk result (λ sink. sink ≡ record {
+          held = [];
+          room = room;
+          fails = fails;
+          number = 0;
+          flushed = false;
+          faults = 0;
+        }) }
     {
         let held = Vec::with_capacity(alloc, room)?;
         Ok(MemorySink {
@@ -70,8 +84,10 @@ impl Sink for MemorySink {
         ensures bytes { WriteAppends (Some self.old.held) (Some self.new.held) result piece.now }
         ensures mark { self.new.flushed ≡ flushed_after self.old.flushed piece.now }
         ensures cause { HasCause self.old.faults self.new.faults result }
-        ensures fails { IsErr result ↔ (Contains self.old.fails self.old.number ⊎ IsFull self.old piece.now) }
-        ensures faults { self.new.faults ≡ (if is_ok result then self.old.faults else risen self.old.faults) }
+        ensures fails { IsErr result ↔
+            (Contains self.old.fails self.old.number ⊎ IsFull self.old piece.now) }
+        ensures faults { self.new.faults ≡
+            (if is_ok result then self.old.faults else risen self.old.faults) }
         ensures count { IfOk result (λ n. n ≡ write_count self.old piece.now) }
         ensures number { self.new.number ≡ risen self.old.number }
         ensures same { (self.new.fails ≡ self.old.fails) × (self.new.room ≡ self.old.room) }
@@ -98,7 +114,8 @@ impl Sink for MemorySink {
         ensures bytes { Keeps (Some self.old.held) (Some self.new.held) }
         ensures cause { HasCause self.old.faults self.new.faults result }
         ensures fails { IsErr result ↔ Contains self.old.fails self.old.number }
-        ensures faults { self.new.faults ≡ (if is_ok result then self.old.faults else risen self.old.faults) }
+        ensures faults { self.new.faults ≡
+            (if is_ok result then self.old.faults else risen self.old.faults) }
         ensures number { self.new.number ≡ risen self.old.number }
         ensures same { (self.new.fails ≡ self.old.fails) × (self.new.room ≡ self.old.room) }
     {

@@ -28,7 +28,14 @@ impl Model for MemorySource {
 
     ghost Value = { Reading };
 
-    ghost view = { λ s. record { left = drop s.taken s.bytes; most = s.most; fails = s.fails; number = s.number; ended = s.ended; faults = s.faults } };
+    ghost view = { λ s. record {
+      left = drop s.taken s.bytes;
+      most = s.most;
+      fails = s.fails;
+      number = s.number;
+      ended = s.ended;
+      faults = s.faults;
+    } };
 
     ghost invariant = { λ s. (s.taken ≤ length s.bytes) × (0 < s.most) };
 }
@@ -37,7 +44,14 @@ impl MemorySource {
     /// A source that gives at most `most` bytes a read. Takes no memory.
     pub fn new(bytes: List<u8>, most: usize, fails: List<u64>) -> MemorySource
         requires { 0 < most }
-        ensures { result ≡ record { left = bytes; most = most; fails = fails; number = 0; ended = false; faults = 0 } }
+        ensures { result ≡ record {
+          left = bytes;
+          most = most;
+          fails = fails;
+          number = 0;
+          ended = false;
+          faults = 0;
+        } }
     {
         MemorySource {
             bytes,
@@ -75,7 +89,8 @@ impl Source for MemorySource {
         ensures mark { self.new.ended ≡ ended_after self.old.ended result buf.new }
         ensures cause { HasCause self.old.faults self.new.faults result }
         ensures fails { IsErr result ↔ Contains self.old.fails self.old.number }
-        ensures faults { self.new.faults ≡ (if is_ok result then self.old.faults else risen self.old.faults) }
+        ensures faults { self.new.faults ≡
+            (if is_ok result then self.old.faults else risen self.old.faults) }
         ensures count { IfOk result (λ n. n ≡ read_count self.old buf.old) }
         ensures number { self.new.number ≡ risen self.old.number }
         ensures same { (self.new.fails ≡ self.old.fails) × (self.new.most ≡ self.old.most) }

@@ -41,10 +41,12 @@ impl<W: Write> Sink for StdSink<W> {
     fn write(&mut self, piece: &[u8]) -> Result<usize, Failed>
         ensures within { WritesAtMost result piece.now }
         ensures some { IfOk result (λ n. 0 < length piece.now → 0 < n) }
-        ensures bytes { WriteAppends (W.contents self.old.writer) (W.contents self.new.writer) result piece.now }
+        ensures bytes { WriteAppends (W.contents self.old.writer)
+            (W.contents self.new.writer) result piece.now }
         ensures mark { self.new.flushed ≡ flushed_after self.old.flushed piece.now }
         ensures cause { HasCause self.old.faults self.new.faults result }
-        ensures faults { self.new.faults ≡ (if is_ok result then self.old.faults else risen self.old.faults) }
+        ensures faults { self.new.faults ≡
+            (if is_ok result then self.old.faults else risen self.old.faults) }
     {
         if piece.is_empty() {
             return Ok(0);
@@ -63,7 +65,8 @@ impl<W: Write> Sink for StdSink<W> {
         ensures mark { self.new.flushed ≡ is_ok result }
         ensures bytes { Keeps (W.contents self.old.writer) (W.contents self.new.writer) }
         ensures cause { HasCause self.old.faults self.new.faults result }
-        ensures faults { self.new.faults ≡ (if is_ok result then self.old.faults else risen self.old.faults) }
+        ensures faults { self.new.faults ≡
+            (if is_ok result then self.old.faults else risen self.old.faults) }
     {
         match self.writer.flush() {
             Ok(()) => {

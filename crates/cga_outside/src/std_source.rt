@@ -40,11 +40,13 @@ impl<R: Read> Source for StdSource<R> {
 
     fn read(&mut self, buf: &mut [u8]) -> Result<usize, Failed>
         ensures bound { ReadsAtMost result buf.new }
-        ensures bytes { ReadConsumes (R.remaining self.old.reader) (R.remaining self.new.reader) result buf.new }
+        ensures bytes { ReadConsumes (R.remaining self.old.reader)
+            (R.remaining self.new.reader) result buf.new }
         ensures end { IsZeroAtEnd (R.remaining self.old.reader) result buf.new }
         ensures mark { self.new.ended ≡ ended_after self.old.ended result buf.new }
         ensures cause { HasCause self.old.faults self.new.faults result }
-        ensures faults { self.new.faults ≡ (if is_ok result then self.old.faults else risen self.old.faults) }
+        ensures faults { self.new.faults ≡
+            (if is_ok result then self.old.faults else risen self.old.faults) }
     {
         match self.reader.read(buf) {
             Ok(count) => {

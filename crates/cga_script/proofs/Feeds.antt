@@ -1,13 +1,13 @@
 -- What a piece does to the lines that are read.
-use Rattle.std.proofs.Common.{◌≡◌, ◌≢◌, ℕ, zero, suc, ◌+◌, ◌-◌, ◌<◌, ◌≤◌, List, [], ◌∷◌, ◌++◌, length, take, drop, get_or, map, subst, refl, sym, ap, ap₂, ◌∙◌, arith, append_assoc, add-one, drop-cons, Bool}
-use Rattle.std.specs.Prelude.{All, ◌↔◌, IsFalse}
+use Rattle.std.proofs.Common.{◌≡◌, ◌≢◌, ℕ, suc, ◌+◌, ◌-◌, ◌<◌, ◌≤◌, List, [], ◌∷◌, ◌++◌, length, take, drop, get_or, map, refl, sym, ap, ap₂, ◌∙◌, arith, append_assoc, drop-cons, Bool}
+use Rattle.std.specs.Prelude.{◌↔◌, IsFalse}
 use Rattle.std.proofs.Math.Seq.{take-nil}
-use Rattle.std.proofs.lemmas.List.{take-append-drop, append-nil}
+use Rattle.std.proofs.lemmas.List.{take-append-drop}
 use Rattle.std.proofs.lemmas.List.Elements.{All-append, All-take}
 use Rattle.cga_script.specs.Lines.{Cut, cut, IsOneLine, Line, clipped, without_cr, lines_of}
 use Rattle.cga_script.specs.Pending.{Pending, IsPart, kept_of, ready_line}
 use Rattle.cga_script.specs.declared.ending.Ending.TheVariants.{Open, Lf, End}
-use Rattle.cga_script.proofs.Cuts.{cut_line, cut_part, cut_after, line_kept, last_kept, lines_kept, kept_again, take_twice, rest_is_one}
+use Rattle.cga_script.proofs.Cuts.{cut_line, cut_part, line_kept, last_kept, lines_kept, kept_again, take_twice}
 
 abbrev IsByte : ℕ → Type 0
 IsByte b = b ≢ 10
@@ -63,8 +63,7 @@ cuts_line rest piece old new end part within lf one is =
 pub goes_on : (rest piece : List ℕ) (old new : Pending) → IsPart rest old → IsOneLine piece → new ≡ record { kept = kept_of (old.kept ++ piece); ending = Open } → (lines_of (rest ++ piece) ≡ []) × IsPart (rest ++ piece) new
 goes_on rest piece old new part one is =
     let kept : old.kept ≡ kept_of rest = ap (λ (p : Pending). p.kept) part.kept in
-    let both = one_more rest piece part.one one in
-    (
+    let both = one_more rest piece part.one one in (
       no_lines (rest ++ piece) both,
       record { one = both; kept = is ∙ ap (λ (k : List ℕ). record { kept = kept_of (k ++ piece); ending = Open }) kept ∙ ap (λ (k : List ℕ). record { kept = k; ending = Open }) (kept_again 4098 rest piece) },
     )
@@ -79,8 +78,7 @@ none_kept (byte ∷ bytes) = (λ e. absurd (nothing_kept byte bytes e), λ e. cc
 -- the line that the script's end leaves
 pub ends_line : (rest : List ℕ) (old new : Pending) (ready : Bool) → IsPart rest old → (IsFalse ready ↔ (old.kept ≡ [])) → new ≡ record { kept = old.kept; ending = End } → (IsFalse ready ↔ (rest ≡ [])) × (ready_line new ≡ clipped rest)
 ends_line rest old new ready part exact is =
-    let kept : old.kept ≡ kept_of rest = ap (λ (p : Pending). p.kept) part.kept in
-    (
+    let kept : old.kept ≡ kept_of rest = ap (λ (p : Pending). p.kept) part.kept in (
       (λ none. (none_kept rest).0 (sym kept ∙ exact.0 none), λ none. exact.1 (kept ∙ (none_kept rest).1 none)),
       ap ready_line is ∙ ap clipped kept ∙ last_kept rest,
     )

@@ -1,5 +1,5 @@
 -- What is kept of the line that is being read.
-use Rattle.std.specs.Prelude.{◌≡◌, ℕ, ◌+◌, ◌-◌, ◌<◌, ◌≤◌, List, [], ◌∷◌, ◌++◌, Bool, true, false, length, take, drop, slice_index}
+use Rattle.std.specs.Prelude.{◌≡◌, ℕ, List, [], ◌∷◌, ◌++◌, take, drop}
 use Rattle.std.specs.Bool.{MatchBool}
 use Rattle.cga_script.specs.Lines.{Line, IsOneLine, clipped, without_cr, lines_of}
 use Rattle.cga_script.specs.declared.fed.Fed.{Fed}

@@ -44,7 +44,8 @@ fn first(bytes: &[u8], most: usize) -> &[u8]
 }
 
 fn line_end(bytes: &[u8]) -> Option<usize>
-    ensures { MatchOption result (IsOneLine bytes.now) (λ end. (end < length bytes.now) × (slice_index bytes.now end ≡ 10) × IsOneLine (take end bytes.now)) }
+    ensures { MatchOption result (IsOneLine bytes.now) (λ end. (end < length bytes.now)
+        × (slice_index bytes.now end ≡ 10) × IsOneLine (take end bytes.now)) }
 {
     bytes.iter().position(|byte| *byte == b'\n')
 }
@@ -88,7 +89,10 @@ impl Lines {
     }
 
     fn keep(&mut self, bytes: &[u8], ending: Ending)
-        ensures { self.new ≡ record { kept = kept_of (self.old.kept ++ bytes.now); ending = ending } }
+        ensures { self.new ≡ record {
+          kept = kept_of (self.old.kept ++ bytes.now);
+          ending = ending;
+        } }
     {
         extend_kept(&mut self.kept, bytes);
         self.ending = ending;
@@ -97,12 +101,22 @@ impl Lines {
     /// Takes the bytes up to and with the next LF, or the whole piece where it has none. Takes no memory.
     pub fn feed(&mut self, piece: &[u8]) -> Fed
         requires { self.old.ending ≡ Ending.Open }
-        ensures cut { (rest : List ℕ) → IsPart rest self.old → CutsLine rest piece.now result self.new }
-        ensures none { IsFalse result.ready → IsOneLine piece.now × (result.taken ≡ length piece.now)
-            × (self.new ≡ record { kept = kept_of (self.old.kept ++ piece.now); ending = Ending.Open }) }
+        ensures cut { (rest : List ℕ) → IsPart rest self.old
+            → CutsLine rest piece.now result self.new }
+        ensures none { IsFalse result.ready
+            → IsOneLine piece.now × (result.taken ≡ length piece.now)
+            × (self.new ≡ record {
+              kept = kept_of (self.old.kept ++ piece.now);
+              ending = Ending.Open;
+            }) }
         ensures some { IsTrue result.ready → (0 < result.taken) × (result.taken ≤ length piece.now)
-            × (slice_index piece.now (result.taken - 1) ≡ 10) × IsOneLine (take (result.taken - 1) piece.now)
-            × (self.new ≡ record { kept = kept_of (self.old.kept ++ take (result.taken - 1) piece.now); ending = Ending.Lf }) }
+            × (slice_index piece.now (result.taken - 1) ≡ 10)
+            × IsOneLine (take (result.taken - 1) piece.now)
+            × (self.new ≡ record {
+              kept = kept_of (self.old.kept ++ take
+                  (result.taken - 1) piece.now);
+              ending = Ending.Lf;
+            }) }
     {
         match line_end(piece) {
             Some(end) => {
@@ -137,7 +151,10 @@ impl Lines {
     }
 
     fn whole(&self) -> &[u8]
-        ensures { (ready_line self.now) ≡ record { bytes = take 4096 result.now; long = nat_lt 4096 (length result.now) } }
+        ensures { (ready_line self.now) ≡ record {
+          bytes = take 4096 result.now;
+          long = nat_lt 4096 (length result.now);
+        } }
     {
         match self.ending {
             Ending::Lf => without_return(self.kept.as_slice()),
@@ -150,7 +167,8 @@ impl Lines {
         requires { self.old.ending ≡ Ending.Open }
         ensures ready { IsFalse result ↔ (self.old.kept ≡ []) }
         ensures line { self.new ≡ record { kept = self.old.kept; ending = Ending.End } }
-        ensures last { (rest : List ℕ) → IsPart rest self.old → (IsFalse result ↔ (rest ≡ [])) × (ready_line self.new ≡ clipped rest) }
+        ensures last { (rest : List ℕ) → IsPart rest self.old
+            → (IsFalse result ↔ (rest ≡ [])) × (ready_line self.new ≡ clipped rest) }
     {
         self.end_line()
     }

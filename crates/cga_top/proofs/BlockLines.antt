@@ -1,5 +1,5 @@
 -- What one more line does to a block.
-use Rattle.std.proofs.Common.{◌≡◌, ℕ, List, [], ◌∷◌, ◌++◌, refl, sym, ap, ◌∙◌, Option, Some, None, Bool, true, false}
+use Rattle.std.proofs.Common.{◌≡◌, List, [], ◌∷◌, ◌++◌, refl, sym, ap, ◌∙◌, Option, Some, None, true, false}
 use Rattle.std.specs.Prelude.{filter}
 use Rattle.std.specs.Option.{option_map_or}
 use Rattle.std.proofs.lemmas.List.{append-nil}
@@ -8,7 +8,6 @@ use Rattle.cga_script.specs.Lines.{Line}
 use Rattle.cga_top.specs.Forms.{rule_in}
 use Rattle.cga_top.specs.Blocks.{is_filled, only_rule, block_of, seen_in, gathered}
 use Rattle.cga_top.specs.declared.box_rule.BoxRule.{BoxRule}
-use Rattle.cga_top.specs.declared.block.Block.{Block}
 use Rattle.cga_top.specs.declared.block.Block.TheVariants.{Nothing, Rule, Other}
 
 one_rule : (found : Option BoxRule) (rule : BoxRule) → Rule rule ≡ option_map_or Rule found Other → Some rule ≡ found

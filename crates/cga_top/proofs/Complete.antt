@@ -1,5 +1,5 @@
 -- Completeness, from what the statuses mean.
-use Rattle.std.proofs.Common.{◌≡◌, ℕ, ◌+◌, ◌≤◌, ◌<◌, ◌⊎◌, ◌≢◌, inl, inr, List, ◌++◌, length, Option, Some, None, refl, sym, ap, subst, ◌∙◌, arith, length-append}
+use Rattle.std.proofs.Common.{◌≡◌, ℕ, ◌≤◌, ◌<◌, ◌⊎◌, ◌≢◌, inl, inr, List, length, Option, Some, None, refl, sym, ap, subst, ◌∙◌, arith, length-append}
 use Rattle.std.specs.Prelude.{IfSome}
 use Rattle.std.specs.Io.KnownBytes.{Consumes, Appends}
 use Rattle.cga_top.specs.Output.{output_of}
@@ -7,7 +7,7 @@ use Rattle.cga_outside.specs.Causes.{Rose}
 use Rattle.cga_top.specs.declared.status.Status.{Status}
 use Rattle.cga_top.specs.declared.status.Status.TheVariants.{Done, Usage, ReadFault, WriteFault, TooLong, NoMemory}
 use Rattle.cga_top.specs.Reads.{limit}
-use Rattle.cga_top.specs.Top.{Outside, StatusMeans, HoldsFew, WritesReplies, WritesAll}
+use Rattle.cga_top.specs.Top.{Outside, StatusMeans, HoldsFew, WritesAll}
 
 not_so_long : (bytes read : List ℕ) (left : Option (List ℕ)) → Consumes (Some bytes) left read → limit < length read → length bytes ≤ limit → ⊥
 not_so_long bytes read None p h few = p

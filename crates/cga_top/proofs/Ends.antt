@@ -1,13 +1,13 @@
 -- The end of a script.
-use Rattle.std.proofs.Common.{◌≡◌, ℕ, ◌+◌, ◌-◌, ◌≤◌, ◌<◌, ◌≢◌, ◌⊎◌, inl, inr, List, [], ◌∷◌, ◌++◌, length, take, drop, Option, Some, None, Bool, refl, sym, ap, subst, ◌∙◌, arith, append_assoc, length-append}
+use Rattle.std.proofs.Common.{◌≡◌, ℕ, ◌≤◌, ◌<◌, ◌≢◌, ◌⊎◌, inl, inr, List, [], ◌∷◌, ◌++◌, length, take, drop, Option, Some, None, Bool, refl, sym, ap, subst, ◌∙◌, arith, append_assoc}
 use Rattle.std.specs.Prelude.{IfSome, IsTrue}
 use Rattle.std.proofs.Math.Seq.{take-nil}
 use Rattle.std.proofs.lemmas.List.{take_all, take-append-drop, append-nil}
 use Rattle.std.specs.Io.KnownBytes.{Appends, Consumes, Keeps, IsAtEnd}
 use Rattle.cga_outside.specs.Causes.{Rose}
-use Rattle.cga_script.specs.Lines.{Line, cut, clipped, lines_of}
+use Rattle.cga_script.specs.Lines.{cut, clipped, lines_of}
 use Rattle.cga_script.specs.Pending.{Pending, kept_of, ready_line}
-use Rattle.cga_script.specs.declared.ending.Ending.TheVariants.{Open, Lf, End}
+use Rattle.cga_script.specs.declared.ending.Ending.TheVariants.{Open, End}
 use Rattle.std.proofs.lemmas.List.Elements.{All-nil}
 use Rattle.cga_script.proofs.Cuts.{last_kept, lines_append}
 use Rattle.cga_script.proofs.Feeds.{rest_of_part}
@@ -19,10 +19,10 @@ use Rattle.cga_top.specs.Writes.{AppendsSome}
 use Rattle.cga_top.specs.declared.stop.Stop.{Stop}
 use Rattle.cga_top.specs.declared.stop.Stop.TheVariants as halt
 use Rattle.cga_top.specs.declared.status.Status.{Status}
-use Rattle.cga_top.specs.declared.status.Status.TheVariants.{Done, Usage, ReadFault, WriteFault, TooLong, NoMemory}
+use Rattle.cga_top.specs.declared.status.Status.TheVariants.{Done, ReadFault, WriteFault, TooLong, NoMemory}
 use Rattle.cga_top.specs.declared.read_end.ReadEnd.TheVariants.{Stopped}
-use Rattle.cga_top.specs.Reads.{limit, pending_after, IsRead, IsStopped, ReadsTo}
-use Rattle.cga_top.specs.Top.{Outside, Spent, WritesAll, WritesReplies, StatusMeans}
+use Rattle.cga_top.specs.Reads.{limit, pending_after, IsRead, ReadsTo}
+use Rattle.cga_top.specs.Top.{Outside, WritesAll, WritesReplies, StatusMeans}
 use Rattle.cga_top.proofs.Runs.{run_append, some_more, some_after, wrote_more}
 
 nothing_kept : (x : ℕ) (xs : List ℕ) → take 4098 (x ∷ xs) ≡ [] → ⊥

@@ -1,14 +1,14 @@
 -- One more read.
-use Rattle.std.proofs.Common.{◌≡◌, ◌≢◌, ℕ, ◌+◌, ◌-◌, ◌≤◌, ◌<◌, List, [], ◌∷◌, ◌++◌, length, take, drop, Option, Some, None, Bool, Err, Result, refl, sym, ap, subst, ◌∙◌, arith, length-append}
+use Rattle.std.proofs.Common.{◌≡◌, ◌≢◌, ℕ, ◌-◌, ◌≤◌, List, [], ◌++◌, length, take, Option, Bool, refl, sym, ap, subst, ◌∙◌}
 use Rattle.std.proofs.Math.Seq.{take-nil}
 use Rattle.std.proofs.lemmas.List.{take_all}
 use Rattle.std.proofs.lemmas.List.Elements.{All-nil}
-use Rattle.std.specs.Io.KnownBytes.{Appends, Consumes}
+use Rattle.std.specs.Io.KnownBytes.{Consumes}
 use Rattle.cga_outside.specs.Causes.{Rose}
-use Rattle.cga_script.specs.Lines.{Line, Cut, IsOneLine, cut, lines_of}
+use Rattle.cga_script.specs.Lines.{IsOneLine, cut, lines_of}
 use Rattle.cga_script.specs.Pending.{Pending, kept_of}
 use Rattle.cga_script.specs.declared.ending.Ending.TheVariants.{Open}
-use Rattle.cga_script.proofs.Cuts.{cut_part, lines_append, kept_append, rest_is_one}
+use Rattle.cga_script.proofs.Cuts.{lines_append, kept_append, rest_is_one}
 use Rattle.cga_script.proofs.Feeds.{no_lines}
 use Rattle.cga_script.proofs.Kept.{take_room}
 use Rattle.cga_top.specs.declared.session.Session.{Session}

@@ -1,11 +1,9 @@
 -- Which lists of words are in form, by their number.
-use Rattle.std.proofs.Common.{◌≡◌, ℕ, ◌+◌, ◌<◌, ◌≤◌, List, [], ◌∷◌, length, refl, sym, ap, ◌∙◌, arith, Option, Some, None, true, false}
+use Rattle.std.proofs.Common.{◌≡◌, ℕ, ◌<◌, ◌≤◌, List, [], ◌∷◌, length, refl, ap, ◌∙◌, arith, None, true, false}
 use Rattle.std.specs.Prelude.{bytes_eq, codes}
 use Rattle.cga_top.specs.Numbers.{number_of, above_zero}
 use Rattle.cga_top.specs.Symbols.{symbol_of}
 use Rattle.cga_top.specs.Forms.{lot_of, whole_lot, rule_of, whole_rule, is_template, marked_number, before_mark}
-use Rattle.cga_top.specs.declared.lot.Lot.{Lot}
-use Rattle.cga_top.specs.declared.box_rule.BoxRule.{BoxRule}
 
 pub lot_of-few : (words : List (List ℕ)) → length words < 8 → lot_of words ≡ None
 unfolding lot_of

@@ -5,7 +5,7 @@ use Rattle.cga_top.specs.declared.block.Block.{Block}
 use Rattle.cga_top.specs.declared.session.Session.{Session}
 use Rattle.cga_top.specs.Forms.{form_of}
 use Rattle.cga_top.specs.Blocks.{gathered}
-use Rattle.cga_top.specs.Output.{State, Turn, turn, turn_by, asked, in_block}
+use Rattle.cga_top.specs.Output.{State, turn, turn_by, asked, in_block}
 use Rattle.cga_top.specs.Session.{Stands, IsOpen}
 
 none_open : (b : Option (List Line)) → IsOpen b None → b ≡ None

@@ -1,10 +1,9 @@
 -- A whole number as a quotient.
-use Rattle.std.proofs.Common.{◌≡◌, ℕ, suc, ◌+◌, ◌/◌, ◌≤◌, ◌<◌, ◌^◌, refl, sym, ap, ◌∙◌, arith, pos, Ok, Result}
+use Rattle.std.proofs.Common.{◌≡◌, ℕ, ◌/◌, ◌<◌, ◌^◌, refl, sym, ap, ◌∙◌, arith, pos, Ok, Result}
 use Rattle.cga_fraction.specs.Gcd.{gcd}
 use Rattle.cga_fraction.specs.Rat.{Rat, of_int}
 use Rattle.cga_fraction.specs.Arithmetic.{reduced}
 use Rattle.cga_fraction.specs.Refusals.{checked, quotient_of}
-use Rattle.cga_fraction.specs.declared.overflow.Overflow.{Overflow}
 use Rattle.cga_fraction.specs.declared.overflow.DivFault.{DivFault}
 use Rattle.cga_fraction.proofs.Lowest.{whole_is_reduced, reduced-parts, checked-in}
 use Rattle.cga_fraction.proofs.Quotients.{by_positive}

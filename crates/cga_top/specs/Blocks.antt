@@ -1,5 +1,5 @@
 -- The lines of a block.
-use Rattle.std.specs.Prelude.{ℕ, List, [], ◌∷◌, Option, Some, None, Bool, not, ◌&&◌, ◌||◌, bytes_eq, codes, filter}
+use Rattle.std.specs.Prelude.{List, [], ◌∷◌, Option, None, Bool, not, ◌&&◌, ◌||◌, bytes_eq, codes, filter}
 use Rattle.std.specs.Option.{option_map_or}
 use Rattle.cga_script.specs.Lines.{Line}
 use Rattle.cga_top.specs.Forms.{rule_in}

@@ -1,5 +1,5 @@
 -- Whole numbers as words.
-use Rattle.std.specs.Prelude.{ℕ, zero, suc, ◌&&◌, List, length, Option, Some, None, Bool, nat_lt, nat_le, if◌then◌else◌}
+use Rattle.std.specs.Prelude.{ℕ, ◌&&◌, List, length, Option, Some, None, Bool, nat_lt, nat_le, if◌then◌else◌}
 use Rattle.std.specs.List.{list_all}
 use Rattle.std.specs.Char.{is_ascii_digit}
 use Rattle.std.specs.Str.Parse.{digits_value}

@@ -1,7 +1,6 @@
 -- How far the lines of a piece have come.
-use Rattle.std.specs.Prelude.{◌≡◌, ℕ, ◌++◌, List, Option}
-use Rattle.cga_script.specs.Lines.{cut, lines_of}
-use Rattle.cga_script.specs.Pending.{kept_of}
+use Rattle.std.specs.Prelude.{◌≡◌, ℕ, List, Option}
+use Rattle.cga_script.specs.Lines.{lines_of}
 use Rattle.cga_top.specs.declared.session.Session.{Session}
 use Rattle.cga_top.specs.Output.{State, Turn, then_turn, run_from}
 use Rattle.cga_top.specs.Wrote.{Wrote}

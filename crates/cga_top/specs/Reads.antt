@@ -1,16 +1,15 @@
 -- How reading a script ended.
-use Rattle.std.specs.Prelude.{◌≡◌, ℕ, ◌+◌, ◌≤◌, ◌<◌, List, length, take, Bool, IsTrue, Option}
-use Rattle.std.specs.Io.KnownBytes.{Appends, Consumes, IsAtEnd}
+use Rattle.std.specs.Prelude.{◌≡◌, ℕ, ◌≤◌, ◌<◌, List, length, take, Bool, IsTrue, Option}
+use Rattle.std.specs.Io.KnownBytes.{Consumes, IsAtEnd}
 use Rattle.cga_outside.specs.Causes.{Rose}
 use Rattle.cga_script.specs.Lines.{cut}
 use Rattle.cga_script.specs.Pending.{Pending, kept_of}
 use Rattle.cga_script.specs.declared.ending.Ending.TheVariants.{Open}
 use Rattle.cga_top.specs.declared.session.Session.{Session}
-use Rattle.cga_top.specs.declared.stop.Stop.{Stop}
 use Rattle.cga_top.specs.declared.stop.Stop.TheVariants.{WriteFault, NoMemory}
 use Rattle.cga_top.specs.declared.read_end.ReadEnd.{ReadEnd}
 use Rattle.cga_top.specs.declared.read_end.ReadEnd.TheVariants.{Ended, Failed, TooLong, Stopped}
-use Rattle.cga_top.specs.Output.{Turn, whole_lines, replies_of}
+use Rattle.cga_top.specs.Output.{whole_lines, replies_of}
 use Rattle.cga_top.specs.Wrote.{Wrote}
 use Rattle.cga_top.specs.Writes.{AppendsSome}
 

@@ -1,5 +1,5 @@
 -- Names that aren't reserved.
-use Rattle.std.specs.Prelude.{ℕ, List, [], ◌∷◌, Option, Some, None, Bool, bytes_eq, codes, if◌then◌else◌}
+use Rattle.std.specs.Prelude.{ℕ, List, [], ◌∷◌, Option, None, Bool, bytes_eq, codes, if◌then◌else◌}
 use Rattle.std.specs.List.{list_any}
 use Rattle.cga_word.specs.Name.{name_of}
 

@@ -3,10 +3,9 @@ use Rattle.std.specs.Prelude.{◌≡◌, ℕ, ◌+◌, ◌≤◌, List, Option}
 use Rattle.std.specs.Io.KnownBytes.{Appends}
 use Rattle.cga_script.specs.Lines.{IsOneLine}
 use Rattle.cga_script.specs.Pending.{Pending, kept_of}
-use Rattle.cga_script.specs.declared.ending.Ending.{Ending}
 use Rattle.cga_script.specs.declared.ending.Ending.TheVariants.{Open}
 use Rattle.cga_top.specs.declared.session.Session.{Session}
-use Rattle.cga_top.specs.Output.{State, Turn}
+use Rattle.cga_top.specs.Output.{Turn}
 use Rattle.cga_top.specs.Session.{Stands}
 
 pub record Wrote (t : Turn) (session : Session) (old new : Option (List ℕ)) (before after : ℕ) : Type 0 where

@@ -45,7 +45,8 @@ impl Block {
 
     /// The block with one more line.
     pub(crate) fn line(self, line: &[u8], long: bool) -> Block
-        ensures { (lines : List Line) → self ≡ gathered lines → result ≡ gathered (lines ++ record { bytes = line.now; long = long } ∷ []) }
+        ensures { (lines : List Line) → self ≡ gathered lines
+            → result ≡ gathered (lines ++ record { bytes = line.now; long = long } ∷ []) }
     {
         if !is_filled(line, long) {
             return self;

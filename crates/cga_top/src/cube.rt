@@ -113,7 +113,8 @@ fn push_instance(
 }
 
 fn push_lot(alloc: Global, text: &mut Vec<u8>, sources: &Sources) -> Result<(), NoMemory>
-    ensures { OnOk result (text.new.items ≡ text.old.items ++ lot_text sources.now.rule sources.now.lot) }
+    ensures { OnOk result
+        (text.new.items ≡ text.old.items ++ lot_text sources.now.rule sources.now.lot) }
 {
     let Some(lot) = &sources.lot else {
         return Ok(())

@@ -25,8 +25,10 @@ struct LotWords<'a> {
 }
 
 fn whole_lot(words: &LotWords) -> Option<Lot>
-    ensures { result ≡ whole_lot (symbol_of words.now.name.now) (number_of 18 words.now.seed.now) (number_of 6 words.now.x.now) (number_of 6 words.now.z.now)
-        (above_zero (number_of 6 words.now.width.now)) (above_zero (number_of 6 words.now.depth.now)) (symbol_of words.now.symbol.now) }
+    ensures { result ≡ whole_lot (symbol_of words.now.name.now) (number_of 18 words.now.seed.now)
+        (number_of 6 words.now.x.now) (number_of 6 words.now.z.now)
+        (above_zero (number_of 6 words.now.width.now)) (above_zero
+        (number_of 6 words.now.depth.now)) (symbol_of words.now.symbol.now) }
 {
     Some(Lot {
         name: symbol(words.name)?,
@@ -91,7 +93,8 @@ fn is_template(arrow: &[u8], width: &[u8], depth: &[u8], solid: &[u8]) -> bool
 }
 
 fn whole_rule(id: &[u8], name: &[u8], height: &[u8]) -> Option<BoxRule>
-    ensures { result ≡ whole_rule (marked_number (before_mark 58 id.now)) (symbol_of name.now) (marked_number (before_mark 44 height.now)) }
+    ensures { result ≡ whole_rule (marked_number (before_mark 58 id.now)) (symbol_of name.now)
+        (marked_number (before_mark 44 height.now)) }
 {
     Some(BoxRule {
         id: marked_number(id, b':')?,

@@ -41,8 +41,12 @@ pub(crate) fn take_line<K: Sink, E: Ledger, T: Ledger>(
     expansions: &mut Steps<E>,
     tests: &mut Steps<T>,
 ) -> Result<(), Stop>
-    ensures ok { (s : State) → Stands s session.old → OnOk result (Wrote (turn s (ready_line lines.old)) session.new (K.held out.old) (K.held out.new) expansions.old expansions.new) }
-    ensures err { (s : State) → Stands s session.old → OnErr result (AppendsSome (K.held out.old) (K.held out.new) (turn s (ready_line lines.old)).reply) }
+    ensures ok { (s : State) → Stands s session.old
+        → OnOk result (Wrote (turn s (ready_line lines.old)) session.new (K.held out.old)
+        (K.held out.new) expansions.old expansions.new) }
+    ensures err { (s : State) → Stands s session.old
+        → OnErr result (AppendsSome (K.held out.old) (K.held out.new) (turn s
+        (ready_line lines.old)).reply) }
     ensures cause { result ≡ Err Stop.WriteFault → Rose (K.faults out.old) (K.faults out.new) }
     ensures count { K.faults out.old ≤ K.faults out.new }
     ensures lines { OnOk result (lines.new ≡ record { kept = []; ending = ending.Open }) }
@@ -70,11 +74,19 @@ pub(crate) fn take_piece<K: Sink, E: Ledger, T: Ledger>(
     tests: &mut Steps<T>,
 ) -> Result<(), Stop>
     requires { IsKeptPart lines.old }
-    ensures ok { (s : State) → Stands s session.old → OnOk result (Wrote (run_from s (lines_of (lines.old.kept ++ piece.now))) session.new (K.held out.old) (K.held out.new) expansions.old expansions.new) }
-    ensures err { (s : State) → Stands s session.old → OnErr result (AppendsSome (K.held out.old) (K.held out.new) (run_from s (lines_of (lines.old.kept ++ piece.now))).reply) }
+    ensures ok { (s : State) → Stands s session.old
+        → OnOk result (Wrote (run_from s (lines_of (lines.old.kept ++ piece.now))) session.new
+        (K.held out.old) (K.held out.new) expansions.old expansions.new) }
+    ensures err { (s : State) → Stands s session.old
+        → OnErr result (AppendsSome (K.held out.old) (K.held out.new) (run_from s (lines_of
+        (lines.old.kept ++ piece.now))).reply) }
     ensures cause { result ≡ Err Stop.WriteFault → Rose (K.faults out.old) (K.faults out.new) }
     ensures count { K.faults out.old ≤ K.faults out.new }
-    ensures lines { OnOk result (lines.new ≡ record { kept = kept_of (cut (lines.old.kept ++ piece.now)).rest; ending = ending.Open }) }
+    ensures lines { OnOk result (lines.new ≡ record {
+      kept = kept_of (cut
+          (lines.old.kept ++ piece.now)).rest;
+      ending = ending.Open;
+    }) }
 {
     let mut rest = piece;
     while !rest.is_empty() {
@@ -100,11 +112,19 @@ pub(crate) fn reply_to<K: Sink, E: Ledger, T: Ledger>(
     tests: &mut Steps<T>,
 ) -> Result<(), Stop>
     requires { IsKeptPart lines.old }
-    ensures ok { (s : State) → Stands s session.old → OnOk result (Wrote (run_from s (lines_of (lines.old.kept ++ piece.now))) session.new (K.held out.old) (K.held out.new) expansions.old expansions.new) }
-    ensures err { (s : State) → Stands s session.old → OnErr result (AppendsSome (K.held out.old) (K.held out.new) (run_from s (lines_of (lines.old.kept ++ piece.now))).reply) }
+    ensures ok { (s : State) → Stands s session.old
+        → OnOk result (Wrote (run_from s (lines_of (lines.old.kept ++ piece.now))) session.new
+        (K.held out.old) (K.held out.new) expansions.old expansions.new) }
+    ensures err { (s : State) → Stands s session.old
+        → OnErr result (AppendsSome (K.held out.old) (K.held out.new) (run_from s (lines_of
+        (lines.old.kept ++ piece.now))).reply) }
     ensures cause { result ≡ Err Stop.WriteFault → Rose (K.faults out.old) (K.faults out.new) }
     ensures count { K.faults out.old ≤ K.faults out.new }
-    ensures lines { OnOk result (lines.new ≡ record { kept = kept_of (cut (lines.old.kept ++ piece.now)).rest; ending = ending.Open }) }
+    ensures lines { OnOk result (lines.new ≡ record {
+      kept = kept_of (cut
+          (lines.old.kept ++ piece.now)).rest;
+      ending = ending.Open;
+    }) }
 {
     match take_piece(session, lines, piece, out, expansions, tests) {
         Ok(()) => {}

@@ -35,7 +35,9 @@ pub(crate) fn read_lines<S: Source, K: Sink, E: Ledger, T: Ledger>(
 ) -> ReadEnd
     requires session { Stands start session.old }
     requires lines { lines.old ≡ pending_after [] }
-    ensures end { ReadsTo result (S.left script.old) (S.left script.new) (S.ended script.new) (S.faults script.old) (S.faults script.new) session.new lines.new (K.held out.old) (K.held out.new) expansions.old expansions.new (K.faults out.old) (K.faults out.new) }
+    ensures end { ReadsTo result (S.left script.old) (S.left script.new) (S.ended script.new)
+        (S.faults script.old) (S.faults script.new) session.new lines.new (K.held out.old)
+        (K.held out.new) expansions.old expansions.new (K.faults out.old) (K.faults out.new) }
     ensures source { S.faults script.old ≤ S.faults script.new }
     ensures sink { K.faults out.old ≤ K.faults out.new }
 {

@@ -84,7 +84,8 @@ fn with_rule(there: Option<Lot>, rule: BoxRule) -> Result<Sources, Refused>
 
 // Does an edit, or refuses it and changes nothing.
 fn edit(session: &mut Session, outcome: Result<Sources, Refused>) -> Result<Vec<u8>, NoMemory>
-    ensures { (s : State) (n : ℕ) → Stands s session.old → IfOk result (λ reply. Did (edited s outcome) session.new reply.items n n) }
+    ensures { (s : State) (n : ℕ) → Stands s session.old
+        → IfOk result (λ reply. Did (edited s outcome) session.new reply.items n n) }
 {
     match outcome {
         Ok(sources) => {
@@ -97,7 +98,8 @@ fn edit(session: &mut Session, outcome: Result<Sources, Refused>) -> Result<Vec<
 
 // Does what a line outside a block asks for.
 fn answer(session: &mut Session, wanted: Form) -> Result<Vec<u8>, NoMemory>
-    ensures { (s : State) (n : ℕ) → Stands s session.old → IfOk result (λ reply. Did (asked s wanted) session.new reply.items n n) }
+    ensures { (s : State) (n : ℕ) → Stands s session.old
+        → IfOk result (λ reply. Did (asked s wanted) session.new reply.items n n) }
 {
     match wanted {
         Form::Blank => Ok(Vec::new(session.alloc)),
@@ -113,7 +115,8 @@ fn answer(session: &mut Session, wanted: Form) -> Result<Vec<u8>, NoMemory>
 
 // Ends a block.
 fn close(session: &mut Session, found: Option<BoxRule>) -> Result<Vec<u8>, NoMemory>
-    ensures { (s : State) (n : ℕ) → Stands s session.old → IfOk result (λ reply. Did (closed s found) session.new reply.items n n) }
+    ensures { (s : State) (n : ℕ) → Stands s session.old
+        → IfOk result (λ reply. Did (closed s found) session.new reply.items n n) }
 {
     match found {
         Some(rule) => edit(session, with_rule(session.sources.lot, rule)),
@@ -129,7 +132,11 @@ pub(crate) fn take_turn<E: Ledger, T: Ledger>(
     _expansions: &mut Steps<E>,
     _tests: &mut Steps<T>,
 ) -> Result<Vec<u8>, NoMemory>
-    ensures { (s : State) → Stands s session.old → IfOk result (λ reply. Did (turn s (record { bytes = line.now; long = long })) session.new reply.items _expansions.old _expansions.new) }
+    ensures { (s : State) → Stands s session.old
+        → IfOk result (λ reply. Did (turn s (record {
+          bytes = line.now;
+          long = long;
+        })) session.new reply.items _expansions.old _expansions.new) }
 {
     match session.block.take() {
         None => answer(session, form(line, long)),

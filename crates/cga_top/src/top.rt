@@ -58,8 +58,13 @@ fn end_line<K: Sink, E: Ledger, T: Ledger>(
     tests: &mut Steps<T>,
 ) -> Result<(), Stop>
     requires { lines.old.ending ≡ ending.Open }
-    ensures ok { (s : State) (rest : List ℕ) → Stands s session.old → lines.old.kept ≡ kept_of rest → OnOk result (Wrote (last_line s rest) session.new (K.held out.old) (K.held out.new) expansions.old expansions.new) }
-    ensures err { (s : State) (rest : List ℕ) → Stands s session.old → lines.old.kept ≡ kept_of rest → OnErr result (AppendsSome (K.held out.old) (K.held out.new) (last_line s rest).reply) }
+    ensures ok { (s : State) (rest : List ℕ) → Stands s session.old
+        → lines.old.kept ≡ kept_of rest
+        → OnOk result (Wrote (last_line s rest) session.new (K.held out.old)
+        (K.held out.new) expansions.old expansions.new) }
+    ensures err { (s : State) (rest : List ℕ) → Stands s session.old
+        → lines.old.kept ≡ kept_of rest
+        → OnErr result (AppendsSome (K.held out.old) (K.held out.new) (last_line s rest).reply) }
     ensures cause { result ≡ Err Stop.WriteFault → Rose (K.faults out.old) (K.faults out.new) }
     ensures count { K.faults out.old ≤ K.faults out.new }
 {
@@ -74,8 +79,10 @@ fn end_line<K: Sink, E: Ledger, T: Ledger>(
 
 // A block that is still open.
 fn end_block<K: Sink>(session: &Session, out: &mut K) -> Result<(), Stop>
-    ensures ok { (s : State) → Stands s session.now → OnOk result (Appends (K.held out.old) (K.held out.new) (at_end s).reply) }
-    ensures err { (s : State) → Stands s session.now → OnErr result (AppendsSome (K.held out.old) (K.held out.new) (at_end s).reply) }
+    ensures ok { (s : State) → Stands s session.now
+        → OnOk result (Appends (K.held out.old) (K.held out.new) (at_end s).reply) }
+    ensures err { (s : State) → Stands s session.now
+        → OnErr result (AppendsSome (K.held out.old) (K.held out.new) (at_end s).reply) }
     ensures cause { result ≡ Err Stop.WriteFault → Rose (K.faults out.old) (K.faults out.new) }
     ensures count { K.faults out.old ≤ K.faults out.new }
 {
@@ -101,8 +108,13 @@ fn end_script<K: Sink, E: Ledger, T: Ledger>(
     tests: &mut Steps<T>,
 ) -> Result<(), Stop>
     requires { lines.old.ending ≡ ending.Open }
-    ensures ok { (s : State) (rest : List ℕ) → Stands s session.old → lines.old.kept ≡ kept_of rest → OnOk result (Wrote (last_turn s rest) session.new (K.held out.old) (K.held out.new) expansions.old expansions.new) }
-    ensures err { (s : State) (rest : List ℕ) → Stands s session.old → lines.old.kept ≡ kept_of rest → OnErr result (AppendsSome (K.held out.old) (K.held out.new) (last_turn s rest).reply) }
+    ensures ok { (s : State) (rest : List ℕ) → Stands s session.old
+        → lines.old.kept ≡ kept_of rest
+        → OnOk result (Wrote (last_turn s rest) session.new (K.held out.old)
+        (K.held out.new) expansions.old expansions.new) }
+    ensures err { (s : State) (rest : List ℕ) → Stands s session.old
+        → lines.old.kept ≡ kept_of rest
+        → OnErr result (AppendsSome (K.held out.old) (K.held out.new) (last_turn s rest).reply) }
     ensures cause { result ≡ Err Stop.WriteFault → Rose (K.faults out.old) (K.faults out.new) }
     ensures count { K.faults out.old ≤ K.faults out.new }
 {
@@ -126,10 +138,28 @@ fn run_script<S: Source, K: Sink, E: Ledger, T: Ledger>(
 ) -> Status
     requires { IsFalse (S.ended script.old) }
     ensures means { StatusMeans result
-        (record { left = S.left script.old; ended = S.ended script.old; reads_failed = S.faults script.old; held = K.held out.old; flushed = K.flushed out.old; writes_failed = K.faults out.old; expanded = expansions.old })
-        (record { left = S.left script.new; ended = S.ended script.new; reads_failed = S.faults script.new; held = K.held out.new; flushed = K.flushed out.new; writes_failed = K.faults out.new; expanded = expansions.new }) }
+        (record {
+          left = S.left script.old;
+          ended = S.ended script.old;
+          reads_failed = S.faults script.old;
+          held = K.held out.old;
+          flushed = K.flushed out.old;
+          writes_failed = K.faults out.old;
+          expanded = expansions.old;
+        })
+        (record {
+          left = S.left script.new;
+          ended = S.ended script.new;
+          reads_failed = S.faults script.new;
+          held = K.held out.new;
+          flushed = K.flushed out.new;
+          writes_failed = K.faults out.new;
+          expanded = expansions.new;
+        }) }
     ensures used { result ≢ Status.Usage }
-    ensures complete { HoldsFew (S.left script.old) → (Rose (S.faults script.old) (S.faults script.new) → ⊥) → (Rose (K.faults out.old) (K.faults out.new) → ⊥)
+    ensures complete { HoldsFew (S.left script.old)
+        → (Rose (S.faults script.old) (S.faults script.new) → ⊥)
+        → (Rose (K.faults out.old) (K.faults out.new) → ⊥)
         → (result ≡ Status.Done) ⊎ (result ≡ Status.NoMemory) }
 {
     let mut lines = match Lines::new(alloc) {
@@ -164,16 +194,36 @@ pub fn run_city<S: Source, K: Sink, E: Ledger, T: Ledger>(
     requires { IsFalse (S.ended script.old) }
 
     // Where all was done, what the sink holds is what it held and the output.
-    ensures headline { result ≡ Status.Done → IfSome (S.left script.old) (λ bytes. Appends (K.held out.old) (K.held out.new) (output_of bytes)) }
+    ensures headline { result ≡ Status.Done
+        → IfSome (S.left script.old) (λ bytes. Appends (K.held out.old) (K.held out.new)
+        (output_of bytes)) }
 
     // When each status comes, and what was read and written then.
     ensures means { StatusMeans result
-        (record { left = S.left script.old; ended = S.ended script.old; reads_failed = S.faults script.old; held = K.held out.old; flushed = K.flushed out.old; writes_failed = K.faults out.old; expanded = expansions.old })
-        (record { left = S.left script.new; ended = S.ended script.new; reads_failed = S.faults script.new; held = K.held out.new; flushed = K.flushed out.new; writes_failed = K.faults out.new; expanded = expansions.new }) }
+        (record {
+          left = S.left script.old;
+          ended = S.ended script.old;
+          reads_failed = S.faults script.old;
+          held = K.held out.old;
+          flushed = K.flushed out.old;
+          writes_failed = K.faults out.old;
+          expanded = expansions.old;
+        })
+        (record {
+          left = S.left script.new;
+          ended = S.ended script.new;
+          reads_failed = S.faults script.new;
+          held = K.held out.new;
+          flushed = K.flushed out.new;
+          writes_failed = K.faults out.new;
+          expanded = expansions.new;
+        }) }
     ensures usage { (result ≡ Status.Usage) ↔ (1 < length words.now) }
 
     // Nothing but a fault, a script that is too long and want of memory keeps a script from being done.
-    ensures complete { length words.now ≤ 1 → HoldsFew (S.left script.old) → (Rose (S.faults script.old) (S.faults script.new) → ⊥) → (Rose (K.faults out.old) (K.faults out.new) → ⊥)
+    ensures complete { length words.now ≤ 1 → HoldsFew (S.left script.old)
+        → (Rose (S.faults script.old) (S.faults script.new) → ⊥)
+        → (Rose (K.faults out.old) (K.faults out.new) → ⊥)
         → (result ≡ Status.Done) ⊎ (result ≡ Status.NoMemory) }
 {
     if words.len() > 1 {

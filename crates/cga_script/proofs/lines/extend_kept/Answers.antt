@@ -1,4 +1,4 @@
-use Rattle.std.proofs.Common.{◌≡◌, length, arith, rules, ◌-◌, ◌≤◌, refl, vec_len}
+use Rattle.std.proofs.Common.{rules}
 use Rattle.cga_script.proofs.Kept.{kept_is}
 use Rattle.cga_script.proofs.lines.extend_kept.Goals as goal
 

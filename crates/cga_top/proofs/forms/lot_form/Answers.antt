@@ -1,4 +1,4 @@
-use Rattle.std.proofs.Common.{◌≡◌, [], sym, ◌∙◌}
+use Rattle.std.proofs.Common.{[], sym, ◌∙◌}
 use Rattle.cga_top.proofs.Shapes.{no_lot-three, no_lot-six, no_lot-seven, no_lot-nine, eight_words, lot_of-others, lot_of-words}
 use Rattle.cga_top.proofs.forms.lot_form.Goals as goal
 

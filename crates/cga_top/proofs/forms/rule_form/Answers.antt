@@ -1,4 +1,4 @@
-use Rattle.std.proofs.Common.{◌≡◌, [], sym, ◌∙◌}
+use Rattle.std.proofs.Common.{[], sym, ◌∙◌}
 use Rattle.cga_top.proofs.Shapes.{no_rule-three, no_rule-six, no_rule-eight, seven_words, rule_of-others, rule_of-words}
 use Rattle.cga_top.proofs.forms.rule_form.Goals as goal
 

@@ -1,6 +1,4 @@
-use Rattle.std.proofs.Common.{◌≤◌, ◌<◌, ◌+◌, ◌*◌, ◌^◌, ◌≡◌, length, sym, arith, ap, ◌∙◌, take, refl}
-use Rattle.std.proofs.lemmas.List.{take_all}
-use Rattle.std.specs.Str.Parse.{digits_value}
+use Rattle.std.proofs.Common.{◌≤◌, length, sym, arith}
 use Rattle.cga_top.proofs.Numerals.{has_room, below_more, below_power, length-is_number, written_more}
 use Rattle.cga_top.proofs.number.number.Goals as goal
 

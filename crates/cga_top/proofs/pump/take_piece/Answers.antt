@@ -1,8 +1,7 @@
-use Rattle.std.proofs.Common.{◌≡◌, ◌++◌, ◌≤◌, List, ℕ, [], length, drop, refl, sym, ap, subst, ◌∙◌, arith, rules, length-drop}
+use Rattle.std.proofs.Common.{◌≡◌, ◌++◌, [], refl, sym, subst, ◌∙◌, arith, rules}
 use Rattle.std.proofs.lemmas.List.{nil_from_length}
-use Rattle.cga_script.specs.Lines.{cut, lines_of, IsOneLine}
-use Rattle.cga_script.specs.Pending.{Pending, kept_of, ready_line}
-use Rattle.cga_script.proofs.Feeds.{takes_line, no_lines, rest_of_part, one_more}
+use Rattle.cga_script.specs.Pending.{Pending}
+use Rattle.cga_script.proofs.Feeds.{takes_line, one_more}
 use Rattle.cga_top.specs.Progress.{Progress}
 use Rattle.cga_top.proofs.Pieces.{progress_start, progress_same, progress_line, progress_end, progress_err, part_cleared, part_kept, left_cleared, left_kept, lines_kept_none, nothing_left, no_more_lines, no_more_left}
 use Rattle.cga_top.proofs.pump.take_piece.Goals as goal

@@ -1,4 +1,4 @@
-use Rattle.std.proofs.Common.{◌≡◌, ◌≤◌, ◌++◌, length, true}
+use Rattle.std.proofs.Common.{◌≡◌, ◌≤◌, ◌++◌, length}
 use Rattle.cga_script.specs.Lines.{cut}
 use Rattle.cga_script.specs.Pending.{kept_of}
 use Rattle.cga_top.specs.Output.{State}

@@ -1,4 +1,4 @@
-use Rattle.std.proofs.Common.{◌≡◌, ◌++◌, ◌≤◌, ◌-◌, List, ℕ, [], length, take, refl, sym, ap, subst, ◌∙◌, arith, rules, length-append, Err}
+use Rattle.std.proofs.Common.{◌++◌, ◌≤◌, ◌-◌, ℕ, [], length, take, refl, sym, ap, ◌∙◌, arith, rules, length-append, Err}
 use Rattle.std.proofs.lemmas.List.{length-take-le}
 use Rattle.cga_top.proofs.Reading.{reads_start, is_part, reads_more, reads_stop, stopped_to}
 use Rattle.cga_top.proofs.reads.read_lines.Goals as goal

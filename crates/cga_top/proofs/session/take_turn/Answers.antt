@@ -1,9 +1,8 @@
-use Rattle.std.proofs.Common.{◌≡◌, ◌++◌, ◌∷◌, [], rules, refl, sym, ◌∙◌, None, Some, true, false, subst, arith, ◌≤◌, ◌+◌}
+use Rattle.std.proofs.Common.{◌≡◌, ◌++◌, ◌∷◌, [], rules, refl, sym, ◌∙◌, None, Some, true, false, subst, arith}
 use Rattle.cga_script.specs.Lines.{Line}
-use Rattle.cga_top.specs.Forms.{form_of}
-use Rattle.cga_top.specs.Blocks.{gathered, ends_block, block_of}
+use Rattle.cga_top.specs.Blocks.{gathered, ends_block}
 use Rattle.cga_top.specs.Output.{turn, asked, closed, silent}
-use Rattle.cga_top.specs.Session.{Stands, IsOpen}
+use Rattle.cga_top.specs.Session.{IsOpen}
 use Rattle.cga_top.proofs.Turns.{turn_outside, turn_inside}
 use Rattle.cga_top.proofs.session.take_turn.Goals as goal
 

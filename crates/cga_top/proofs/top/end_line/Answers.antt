@@ -1,5 +1,5 @@
-use Rattle.std.proofs.Common.{◌≡◌, ◌≤◌, List, ℕ, [], refl, sym, ap, subst, ◌∙◌, arith, rules, true, false}
-use Rattle.cga_top.specs.Output.{Turn, silent, last_line}
+use Rattle.std.proofs.Common.{◌≡◌, [], sym, subst}
+use Rattle.cga_top.specs.Output.{Turn}
 use Rattle.cga_top.specs.Wrote.{Wrote}
 use Rattle.cga_top.specs.Writes.{AppendsSome}
 use Rattle.cga_top.proofs.Ends.{line_at_end, no_line_at_end}

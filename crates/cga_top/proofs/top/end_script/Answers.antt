@@ -1,4 +1,4 @@
-use Rattle.cga_top.specs.Output.{last_line, at_end}
+use Rattle.cga_top.specs.Output.{last_line}
 use Rattle.cga_top.proofs.Ends.{ended_line}
 use Rattle.cga_top.proofs.Runs.{some_more, some_after}
 use Rattle.cga_top.proofs.top.end_script.Goals as goal

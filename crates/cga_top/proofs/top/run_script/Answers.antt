@@ -1,4 +1,4 @@
-use Rattle.std.proofs.Common.{◌≡◌, ◌≤◌, ap, sym, ◌∙◌, Err, rules, arith, refl}
+use Rattle.std.proofs.Common.{ap, Err, arith}
 use Rattle.cga_top.proofs.Ends.{start_pending, done_means, failed_means, too_long_means, stopped_means, stopped_rose, stopped_prefix, end_prefix, no_sooner}
 use Rattle.cga_top.proofs.Complete.{complete_of, not_used, done_not_used, read_not_used, long_not_used}
 use Rattle.cga_top.proofs.top.run_script.Goals as goal

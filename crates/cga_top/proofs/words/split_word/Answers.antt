@@ -1,4 +1,3 @@
-use Rattle.std.proofs.Common.{ap}
 use Rattle.cga_top.proofs.Blanks.{words_of-one, words_of-split}
 use Rattle.cga_top.proofs.words.split_word.Goals as goal
 

@@ -1,4 +1,4 @@
-use Rattle.std.proofs.Common.{◌≡◌, sym, ◌∙◌, inl, inr}
+use Rattle.std.proofs.Common.{sym, ◌∙◌, inl, inr}
 use Rattle.cga_top.proofs.BlockLines.{block_of-rule, block_of-nothing, block_of-other}
 use Rattle.cga_top.proofs.block.Block.finish.Goals as goal
 

@@ -1,5 +1,5 @@
 use Rattle.std.proofs.Common.{◌≡◌, sym, ◌∙◌, inl, inr}
-use Rattle.cga_top.specs.declared.block.Block.TheVariants.{Nothing, Rule, Other}
+use Rattle.cga_top.specs.declared.block.Block.TheVariants.{Nothing}
 use Rattle.cga_top.specs.Blocks.{gathered}
 use Rattle.cga_top.proofs.BlockLines.{gathered-empty, gathered-first, gathered-more}
 use Rattle.cga_top.proofs.block.Block.line.Goals as goal
