@@ -1,0 +1,4 @@
+mod Maxima
+mod Order
+mod Prefixes
+mod Tops

@@ -1,0 +1,5 @@
+pub mod Rank
+pub mod Chain
+pub mod Stamp
+pub mod Seen
+pub mod Walk
