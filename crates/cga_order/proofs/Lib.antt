@@ -1,4 +1,5 @@
-mod Maxima
-mod Order
-mod Prefixes
-mod Tops
+pub mod Maxima
+pub mod Order
+pub mod Prefixes
+pub mod Tops
+pub mod Chains

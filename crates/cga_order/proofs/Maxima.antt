@@ -25,6 +25,10 @@ module _ {R : Type 0} (cmp : R → R → Ordering) (o : IsTotalOrder cmp) where
   Apart r [] = Unit {0}
   Apart r (q ∷ rs) = ((cmp q r ≡ Equal) → ⊥) × Apart r rs
 
+  pub Apart-push : (r q : R) (rs : List R) → Apart r rs → (cmp q r ≡ Equal → ⊥) → Apart r (rs ++ q ∷ [])
+  Apart-push r q [] a h = (h, tt)
+  Apart-push r q (x ∷ xs) a h = (a.0, Apart-push r q xs a.1 h)
+
   pub less_not : (a : Ordering) → is_lt a ≡ false → a ≡ Less → ⊥
   less_not a e l = cc
 

@@ -3,3 +3,7 @@ pub mod Chain
 pub mod Stamp
 pub mod Seen
 pub mod Walk
+pub mod World
+pub mod Run
+pub mod Consistent
+pub mod Laws

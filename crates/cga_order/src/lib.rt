@@ -8,6 +8,7 @@
 use cga_fraction::List;
 
 mod chain;
+pub mod laws;
 mod walk;
 
 pub use chain::{Chain, cmp_rank};
