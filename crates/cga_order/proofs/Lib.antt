@@ -3,3 +3,5 @@ pub mod Order
 pub mod Prefixes
 pub mod Tops
 pub mod Chains
+pub mod Members
+pub mod Steps

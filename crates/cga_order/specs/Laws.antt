@@ -1,11 +1,13 @@
 -- What is proved of the order of derivation, in both modes.
-use Rattle.std.specs.Prelude.{◌≡◌, ℕ, List, Bool, true, false, Option, Some, None}
+use Rattle.std.specs.Prelude.{◌≡◌, ◌≢◌, ℕ, List, Bool, true, false, Option, Some, None}
 use Rattle.std.specs.declared.cmp.Ordering.TheVariants.{Less, Equal}
 use Rattle.std.specs.Cmp.{IsTotalOrder}
 use Rattle.cga_word.specs.declared.mode.Mode.{Mode}
 use Rattle.cga_order.specs.Rank.{rank_cmp}
 use Rattle.cga_order.specs.Chain.{Chain, IsWhole, IsChild, rank}
 use Rattle.cga_order.specs.Stamp.{stamp_cmp}
+use Rattle.cga_order.specs.World.{World, IsWorld, Placed, Waiting, Has, IsEarlier, place_of, stamp_of}
+use Rattle.cga_order.specs.Run.{IsStep, Reached, Rises}
 
 -- ranks and stamps are in total orders, in which equal ones are those of one lot and path
 pub record AreOrders : Type 0 where
@@ -17,3 +19,13 @@ pub record AreOrders : Type 0 where
 -- a child's stamp is greater than its parent's
 abbrev pub ChildrenComeLater : Type 0
 ChildrenComeLater = (mode : Mode) (parent : Chain) (i : ℕ) (child : Chain) → IsWhole parent → IsChild parent i child → stamp_cmp mode parent child ≡ Less
+
+-- at each step the waiting shape of least rank is that of least stamp
+abbrev pub LeastRankIsLeastStamp : (N A F P : Type 0) → Type 0
+LeastRankIsLeastStamp N A F P =
+    (world : World N A F P) → IsWorld world → (taken : List N) (before after : List (Placed N F P)) (s : N) → Reached world taken before → IsStep world before after s
+    → (w : N) → Has before w Waiting → place_of world w ≢ place_of world s → IsEarlier world (stamp_of world s) (stamp_of world w)
+
+-- a derivation takes its shapes by rising stamps
+abbrev pub RunsRise : (N A F P : Type 0) → Type 0
+RunsRise N A F P = (world : World N A F P) → IsWorld world → (taken : List N) (list : List (Placed N F P)) → Reached world taken list → Rises world taken

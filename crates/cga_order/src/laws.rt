@@ -1,7 +1,7 @@
 //! What is proved of the order of derivation. Each function here does nothing: its contract is the
 //! law, which a caller's proof can cite.
 
-ghost use Rattle.cga_order.specs.Laws.{AreOrders, ChildrenComeLater};
+ghost use Rattle.cga_order.specs.Laws.{AreOrders, ChildrenComeLater, LeastRankIsLeastStamp, RunsRise};
 
 /// Both comparisons are total orders, and only shapes of one lot and one path compare as equal.
 pub fn orders()
@@ -11,4 +11,14 @@ pub fn orders()
 /// A child's stamp is greater than its parent's.
 pub fn children_come_later()
     ensures { ChildrenComeLater }
+{}
+
+/// At each step of a derivation the waiting shape of least rank is that of least stamp.
+pub fn least_rank_is_least_stamp<N, A, F, P>()
+    ensures { LeastRankIsLeastStamp N A F P }
+{}
+
+/// A derivation takes its shapes by strictly rising stamps.
+pub fn runs_rise<N, A, F, P>()
+    ensures { RunsRise N A F P }
 {}
