@@ -5,3 +5,4 @@ pub mod Tops
 pub mod Chains
 pub mod Members
 pub mod Steps
+pub mod Unique

@@ -3,7 +3,7 @@ use Rattle.std.specs.Prelude.{◌≡◌, List, [], ◌∷◌, Bool, true, false,
 use Rattle.std.specs.Ordering.{is_lt}
 use Rattle.cga_order.specs.Rank.{Rank}
 use Rattle.cga_order.specs.Stamp.{stamps_cmp}
-use Rattle.cga_order.specs.World.{World, Placed, Kind, Waiting, Done, Faulted, Has, Among, shapes_where, is_instance, IsEarlier, stamp_of, birth_of, place_of}
+use Rattle.cga_order.specs.World.{World, Placed, Kind, Waiting, Done, Faulted, Has, Among, shapes_where, is_waiting, is_instance, IsEarlier, stamp_of, birth_of, place_of}
 
 module _ {N A F P : Type 0} (world : World N A F P) where
   -- n exists at the stamp of q: it is a root, or its parent's stamp is smaller than that of q
@@ -45,3 +45,24 @@ module _ {N A F P : Type 0} (world : World N A F P) where
     pub roots : (n : N) → Among n world.roots → Stands list n Waiting
     pub each : (n : N) (k : Kind F P) → Has list n k → is_instance k ≡ false → IsBefore limit (stamp_of world n) → HasOutcome list k (outcome_at list n)
     pub only : (n : N) (k : Kind F P) → Has list n k → IsBefore limit (birth_of world n) → Among n world.roots ⊎ IsMade list n
+
+  -- each of these shapes has a stamp before the limit
+  abbrev pub AllBefore : Option (List Rank) → List N → Type 0
+  AllBefore limit [] = Unit {0}
+  AllBefore limit (s ∷ taken) = IsBefore limit (stamp_of world s) × AllBefore limit taken
+
+  -- nothing waits whose stamp is before the limit: with none, nothing waits at all
+  abbrev pub NothingWaits : Option (List Rank) → List (Placed N F P) → Type 0
+  NothingWaits limit list = (w : N) → Has list w Waiting → IsBefore limit (stamp_of world w) → ⊥
+
+  -- both lists have the same members
+  abbrev pub SameMembers : List (Placed N F P) → List (Placed N F P) → Type 0
+  SameMembers list other = (n : N) (k : Kind F P) → (Has list n k → Has other n k) × (Has other n k → Has list n k)
+
+  -- a list has the members of a configuration, with their kinds unless they wait
+  abbrev pub HasMembers : List (Placed N F P) → List (Placed N F P) → Type 0
+  HasMembers list reached = (n : N) (k : Kind F P) → Has reached n k → (j : Kind F P) × Has list n j × (is_waiting k ≡ false → j ≡ k)
+
+  -- a configuration has the members of a list that were made before the limit
+  abbrev pub HasMade : Option (List Rank) → List (Placed N F P) → List (Placed N F P) → Type 0
+  HasMade limit reached list = (n : N) (k : Kind F P) → Has list n k → IsBefore limit (birth_of world n) → (j : Kind F P) × Has reached n j

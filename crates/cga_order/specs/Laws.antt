@@ -3,11 +3,12 @@ use Rattle.std.specs.Prelude.{◌≡◌, ◌≢◌, ℕ, List, Bool, true, false
 use Rattle.std.specs.declared.cmp.Ordering.TheVariants.{Less, Equal}
 use Rattle.std.specs.Cmp.{IsTotalOrder}
 use Rattle.cga_word.specs.declared.mode.Mode.{Mode}
-use Rattle.cga_order.specs.Rank.{rank_cmp}
+use Rattle.cga_order.specs.Rank.{Rank, rank_cmp}
 use Rattle.cga_order.specs.Chain.{Chain, IsWhole, IsChild, rank}
 use Rattle.cga_order.specs.Stamp.{stamp_cmp}
 use Rattle.cga_order.specs.World.{World, IsWorld, Placed, Waiting, Has, IsEarlier, place_of, stamp_of}
 use Rattle.cga_order.specs.Run.{IsStep, Reached, Rises}
+use Rattle.cga_order.specs.Consistent.{IsConsistent, AllBefore, NothingWaits, SameMembers, HasMembers, HasMade}
 
 -- ranks and stamps are in total orders, in which equal ones are those of one lot and path
 pub record AreOrders : Type 0 where
@@ -29,3 +30,16 @@ LeastRankIsLeastStamp N A F P =
 -- a derivation takes its shapes by rising stamps
 abbrev pub RunsRise : (N A F P : Type 0) → Type 0
 RunsRise N A F P = (world : World N A F P) → IsWorld world → (taken : List N) (list : List (Placed N F P)) → Reached world taken list → Rises world taken
+
+-- a list that is consistent has the members of the derivation, whatever order it stands in
+abbrev pub ConsistentIsDerived : (N A F P : Type 0) → Type 0
+ConsistentIsDerived N A F P =
+    (world : World N A F P) → IsWorld world → (list : List (Placed N F P)) → IsConsistent world None list
+    → (taken : List N) (reached : List (Placed N F P)) → Reached world taken reached → NothingWaits world None reached → SameMembers world list reached
+
+-- a list that is consistent as far as a limit has the members of the derivation that far
+abbrev pub ConsistentSoFar : (N A F P : Type 0) → Type 0
+ConsistentSoFar N A F P =
+    (world : World N A F P) → IsWorld world → (limit : Option (List Rank)) (list : List (Placed N F P)) → IsConsistent world limit list
+    → (taken : List N) (reached : List (Placed N F P)) → Reached world taken reached → AllBefore world limit taken
+    → HasMembers world list reached × (NothingWaits world limit reached → HasMade world limit reached list)

@@ -1,7 +1,7 @@
 //! What is proved of the order of derivation. Each function here does nothing: its contract is the
 //! law, which a caller's proof can cite.
 
-ghost use Rattle.cga_order.specs.Laws.{AreOrders, ChildrenComeLater, LeastRankIsLeastStamp, RunsRise};
+ghost use Rattle.cga_order.specs.Laws.{AreOrders, ChildrenComeLater, LeastRankIsLeastStamp, RunsRise, ConsistentIsDerived, ConsistentSoFar};
 
 /// Both comparisons are total orders, and only shapes of one lot and one path compare as equal.
 pub fn orders()
@@ -21,4 +21,16 @@ pub fn least_rank_is_least_stamp<N, A, F, P>()
 /// A derivation takes its shapes by strictly rising stamps.
 pub fn runs_rise<N, A, F, P>()
     ensures { RunsRise N A F P }
+{}
+
+/// A list that is consistent has the members of the derivation, whatever order it stands in: what
+/// was worked out in any other way, and is consistent, is what the derivation gives.
+pub fn consistent_is_derived<N, A, F, P>()
+    ensures { ConsistentIsDerived N A F P }
+{}
+
+/// A list that is consistent as far as a limit of stamps has the members of the derivation that
+/// far. So members can be counted before the whole list is consistent.
+pub fn consistent_so_far<N, A, F, P>()
+    ensures { ConsistentSoFar N A F P }
 {}
