@@ -6,3 +6,5 @@ pub mod Chains
 pub mod Members
 pub mod Steps
 pub mod Unique
+pub mod Derived
+pub mod Turns

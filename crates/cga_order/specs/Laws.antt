@@ -6,9 +6,10 @@ use Rattle.cga_word.specs.declared.mode.Mode.{Mode}
 use Rattle.cga_order.specs.Rank.{Rank, rank_cmp}
 use Rattle.cga_order.specs.Chain.{Chain, IsWhole, IsChild, rank}
 use Rattle.cga_order.specs.Stamp.{stamp_cmp}
-use Rattle.cga_order.specs.World.{World, IsWorld, Placed, Waiting, Has, IsEarlier, place_of, stamp_of}
-use Rattle.cga_order.specs.Run.{IsStep, Reached, Rises}
-use Rattle.cga_order.specs.Consistent.{IsConsistent, AllBefore, NothingWaits, SameMembers, HasMembers, HasMade}
+use Rattle.cga_order.specs.World.{World, IsWorld, Placed, Kind, Waiting, Has, IsEarlier, place_of, stamp_of}
+use Rattle.cga_order.specs.Run.{outcome, IsStep, Reached, Rises}
+use Rattle.cga_order.specs.Consistent.{exists_at, outcome_at, IsBefore, IsConsistent, AllBefore, NothingWaits, SameMembers, HasMembers, HasMade}
+use Rattle.cga_order.specs.Agenda.{Node, members_of, IsTurn, AllRight, IsTree}
 
 -- ranks and stamps are in total orders, in which equal ones are those of one lot and path
 pub record AreOrders : Type 0 where
@@ -43,3 +44,31 @@ ConsistentSoFar N A F P =
     (world : World N A F P) → IsWorld world → (limit : Option (List Rank)) (list : List (Placed N F P)) → IsConsistent world limit list
     → (taken : List N) (reached : List (Placed N F P)) → Reached world taken reached → AllBefore world limit taken
     → HasMembers world list reached × (NothingWaits world limit reached → HasMade world limit reached list)
+
+-- what a shape saw when it was taken is what exists, and waits, at its stamp: it was made before
+pub record SeesWhatWasMade {N A F P : Type 0} (world : World N A F P) (before after : List (Placed N F P)) (s : N) : Type 0 where
+  pub made : (n : N) (k : Kind F P) → Has before n k → exists_at world s n k ≡ true
+  pub only : (n : N) (k : Kind F P) → Has after n k → exists_at world s n k ≡ true → (j : Kind F P) × Has before n j
+  pub outcome : outcome world before s ≡ outcome_at world after s
+
+abbrev pub EachSeesWhatWasMade : (N A F P : Type 0) → Type 0
+EachSeesWhatWasMade N A F P =
+    (world : World N A F P) → IsWorld world → (taken : List N) (before after : List (Placed N F P)) (s : N) → Reached world taken before → IsStep world before after s
+    → SeesWhatWasMade world before after s
+
+-- what a derivation ends with is a consistent list
+abbrev pub DerivedIsConsistent : (N A F P : Type 0) → Type 0
+DerivedIsConsistent N A F P =
+    (world : World N A F P) → IsWorld world → (taken : List N) (reached : List (Placed N F P)) → Reached world taken reached → NothingWaits world None reached → IsConsistent world None reached
+
+-- a turn of an agenda leaves each node right, or on the agenda
+abbrev pub TurnsKeepRight : (N A F P : Type 0) → Type 0
+TurnsKeepRight N A F P =
+    (world : World N A F P) → IsWorld world → (before after : List (Node N A F P)) (s : N) (queued requeued : N → Bool) → IsTurn world before after s queued requeued
+    → AllRight world before queued → AllRight world after requeued
+
+-- where no node before a limit is on the agenda, the list is consistent as far as the limit
+abbrev pub RightIsConsistent : (N A F P : Type 0) → Type 0
+RightIsConsistent N A F P =
+    (world : World N A F P) → IsWorld world → (nodes : List (Node N A F P)) (queued : N → Bool) (limit : Option (List Rank)) → IsTree world nodes → AllRight world nodes queued
+    → ((n : N) → queued n ≡ true → IsBefore world limit (stamp_of world n) → ⊥) → IsConsistent world limit (members_of nodes)

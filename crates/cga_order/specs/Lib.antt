@@ -6,4 +6,5 @@ pub mod Walk
 pub mod World
 pub mod Run
 pub mod Consistent
+pub mod Agenda
 pub mod Laws

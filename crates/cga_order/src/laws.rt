@@ -1,7 +1,7 @@
 //! What is proved of the order of derivation. Each function here does nothing: its contract is the
 //! law, which a caller's proof can cite.
 
-ghost use Rattle.cga_order.specs.Laws.{AreOrders, ChildrenComeLater, LeastRankIsLeastStamp, RunsRise, ConsistentIsDerived, ConsistentSoFar};
+ghost use Rattle.cga_order.specs.Laws.{AreOrders, ChildrenComeLater, LeastRankIsLeastStamp, RunsRise, ConsistentIsDerived, ConsistentSoFar, EachSeesWhatWasMade, DerivedIsConsistent, TurnsKeepRight, RightIsConsistent};
 
 /// Both comparisons are total orders, and only shapes of one lot and one path compare as equal.
 pub fn orders()
@@ -33,4 +33,27 @@ pub fn consistent_is_derived<N, A, F, P>()
 /// far. So members can be counted before the whole list is consistent.
 pub fn consistent_so_far<N, A, F, P>()
     ensures { ConsistentSoFar N A F P }
+{}
+
+/// What a shape sees at its stamp was made before it: when it is taken, it sees just what exists,
+/// or waits, at its stamp.
+pub fn each_sees_what_was_made<N, A, F, P>()
+    ensures { EachSeesWhatWasMade N A F P }
+{}
+
+/// What a derivation ends with is a consistent list.
+pub fn derived_is_consistent<N, A, F, P>()
+    ensures { DerivedIsConsistent N A F P }
+{}
+
+/// A turn of an agenda that queues each later shape that sees what came or went leaves every node
+/// right, or queued.
+pub fn turns_keep_right<N, A, F, P>()
+    ensures { TurnsKeepRight N A F P }
+{}
+
+/// Where all that is queued comes after a limit, the kept list is consistent that far; where
+/// nothing is queued, it is consistent.
+pub fn right_is_consistent<N, A, F, P>()
+    ensures { RightIsConsistent N A F P }
 {}
