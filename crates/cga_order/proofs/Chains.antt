@@ -1,16 +1,15 @@
 -- The ranks on a chain, and those on the chain of a child.
-use Rattle.std.proofs.Common.{◌≡◌, ℕ, zero, suc, ◌+◌, ◌-◌, ◌<◌, ◌≤◌, List, [], ◌∷◌, ◌++◌, length, take, refl, sym, ap, ◌∙◌, ◌⊎◌, inl, inr, subst, arith, length-append}
+use Rattle.std.proofs.Common.{◌≡◌, ℕ, zero, suc, ◌+◌, ◌≤◌, List, [], ◌∷◌, ◌++◌, length, take, refl, sym, ap, ◌∙◌, inl, inr, subst, arith, length-append}
 use Rattle.std.specs.Prelude.{slice_index}
-use Rattle.std.specs.declared.cmp.Ordering.{Ordering}
-use Rattle.std.specs.declared.cmp.Ordering.TheVariants.{Less, Equal, Greater}
+use Rattle.std.specs.declared.cmp.Ordering.TheVariants.{Less, Equal}
 use Rattle.std.proofs.Math.Seq.{take-length, take-append_seam, get_or-append_seam}
 use Rattle.std.proofs.Common.{get_or}
-use Rattle.std.proofs.lemmas.List.{length-take, length-take-le, take-append-le, get_or_append_left}
+use Rattle.std.proofs.lemmas.List.{length-take, take-append-le, get_or_append_left}
 use Rattle.cga_word.specs.declared.mode.Mode.{Mode}
 use Rattle.cga_order.specs.Rank.{Rank, rank_cmp}
 use Rattle.cga_order.specs.Chain.{Chain, IsWhole, IsChild, rank_at, ranks_down, rank, ranks_above, ranks}
 use Rattle.cga_order.specs.Stamp.{maxima, stamps_cmp, stamp_cmp, stamp, birth}
-use Rattle.cga_order.proofs.Order.{rank_total, rank_exact, stamps_total, stamps_exact}
+use Rattle.cga_order.proofs.Order.{rank_total, rank_exact, stamps_exact}
 use Rattle.cga_order.proofs.Maxima as stamps
 
 abbrev pub Apart : Mode → Rank → List Rank → Type 0

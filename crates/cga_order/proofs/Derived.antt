@@ -1,17 +1,16 @@
 -- What a derivation gives is a consistent list: what a shape sees at its stamp was made before it.
-use Rattle.std.proofs.Common.{◌≡◌, ℕ, List, [], ◌∷◌, ◌++◌, Bool, true, false, refl, sym, ap, ◌∙◌, subst, ◌⊎◌, inl, inr, ◌&&◌, Result, Ok, Err, Option, Some, None}
+use Rattle.std.proofs.Common.{◌≡◌, List, [], ◌∷◌, Bool, true, false, refl, sym, ap, ◌∙◌, subst, ◌⊎◌, inl, inr, ◌&&◌, Result, Ok, Err, None}
 use Rattle.std.specs.Prelude.{not}
-use Rattle.std.specs.declared.cmp.Ordering.TheVariants.{Less}
 use Rattle.std.specs.Ordering.{is_lt}
 use Rattle.std.specs.Cmp.{IsTotalOrder}
 use Rattle.cga_order.specs.Rank.{Rank}
 use Rattle.cga_order.specs.Stamp.{stamps_cmp}
-use Rattle.cga_order.specs.World.{World, IsWorld, Placed, Kind, Waiting, Done, Faulted, Instance, Has, Among, shapes_where, is_waiting, is_instance, place_of, stamp_of, birth_of, IsEarlier, SameSeen}
+use Rattle.cga_order.specs.World.{World, IsWorld, Placed, Kind, Waiting, Done, Faulted, Instance, Has, Among, shapes_where, is_waiting, is_instance, stamp_of, birth_of, IsEarlier, SameSeen}
 use Rattle.cga_order.specs.Run.{outcome, start, IsStep, Reached}
-use Rattle.cga_order.specs.Consistent.{exists_at, waits_at, outcome_at, Stands, IsBefore, HasOutcome, IsMade, IsConsistent, NothingWaits}
+use Rattle.cga_order.specs.Consistent.{exists_at, waits_at, outcome_at, Stands, HasOutcome, IsMade, IsConsistent, NothingWaits}
 use Rattle.cga_order.specs.Laws.{SeesWhatWasMade}
 use Rattle.cga_order.proofs.Order.{stamps_total}
-use Rattle.cga_order.proofs.Members.{either, waits, place_dec, Has-start, start-Has, Among-shapes_where, Has-from_shapes_where}
+use Rattle.cga_order.proofs.Members.{waits, place_dec, Has-start, start-Has, Among-shapes_where, Has-from_shapes_where}
 use Rattle.cga_order.proofs.Steps as steps
 use Rattle.cga_order.proofs.Maxima as stamps
 

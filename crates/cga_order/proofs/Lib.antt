@@ -8,3 +8,4 @@ pub mod Steps
 pub mod Unique
 pub mod Derived
 pub mod Turns
+pub mod FourShapesInOrder

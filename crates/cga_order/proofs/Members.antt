@@ -1,10 +1,10 @@
 -- Members of lists, and what a step makes of them.
-use Rattle.std.proofs.Common.{◌≡◌, ℕ, zero, suc, ◌+◌, List, [], ◌∷◌, ◌++◌, map, Bool, true, false, cond, refl, sym, ap, ◌∙◌, subst, ◌⊎◌, inl, inr, ◌&&◌, Option, Some, None, Result, Ok, Err}
+use Rattle.std.proofs.Common.{◌≡◌, ℕ, suc, List, [], ◌∷◌, ◌++◌, map, Bool, true, false, cond, refl, sym, ap, ◌∙◌, subst, ◌⊎◌, inl, inr, ◌&&◌, Some}
 use Rattle.std.specs.Prelude.{slice_get, nat_eq}
 use lib.Pointwise.{pointwise, bytes_decides}
 use Rattle.cga_order.specs.Chain.{Chain}
 use Rattle.cga_order.specs.World.{World, Placed, Kind, Waiting, Done, Faulted, Instance, Has, Among, shapes_where, is_waiting, place_of}
-use Rattle.cga_order.specs.Run.{same_place, become, start}
+use Rattle.cga_order.specs.Run.{same_place, become}
 use Rattle.cga_order.proofs.Chains.{place}
 
 pub either : (b : Bool) → (b ≡ true) ⊎ (b ≡ false)

@@ -1,18 +1,17 @@
 -- Configurations that are reached are in order: their waiting members come after all that was done.
-use Rattle.std.proofs.Common.{◌≡◌, ℕ, zero, suc, ◌+◌, ◌≤◌, ◌<◌, List, [], ◌∷◌, ◌++◌, length, map, Bool, true, false, refl, sym, ap, ◌∙◌, subst, ◌⊎◌, inl, inr, Result, Ok, Err, Option, Some, None, arith, length-append}
+use Rattle.std.proofs.Common.{◌≡◌, ℕ, ◌+◌, List, [], ◌∷◌, ◌++◌, length, map, refl, sym, ap, ◌∙◌, subst, ◌⊎◌, inl, inr, Result, Ok, Err, Some, arith, length-append}
 use Rattle.std.specs.Prelude.{slice_get}
-use Rattle.std.specs.declared.cmp.Ordering.{Ordering}
-use Rattle.std.specs.declared.cmp.Ordering.TheVariants.{Less, Equal, Greater}
+use Rattle.std.specs.declared.cmp.Ordering.TheVariants.{Less}
 use Rattle.std.specs.Cmp.{IsTotalOrder}
 use Rattle.std.proofs.lemmas.List.{append-nil}
 use Rattle.cga_order.specs.Rank.{Rank, rank_cmp}
-use Rattle.cga_order.specs.Chain.{Chain, IsWhole, IsChild, rank}
-use Rattle.cga_order.specs.Stamp.{stamps_cmp, stamp_cmp}
-use Rattle.cga_order.specs.World.{World, IsWorld, Placed, Kind, Waiting, Done, Faulted, Instance, Has, Among, is_waiting, place_of, stamp_of, birth_of, IsEarlier}
+use Rattle.cga_order.specs.Chain.{IsChild, rank}
+use Rattle.cga_order.specs.Stamp.{stamps_cmp}
+use Rattle.cga_order.specs.World.{World, IsWorld, Placed, Kind, Waiting, Done, Faulted, Instance, Has, Among, place_of, stamp_of, birth_of, IsEarlier}
 use Rattle.cga_order.specs.Run.{become, told, outcome, start, IsStep, Reached, AllEarlier, Rises}
 use Rattle.cga_order.proofs.Order.{stamps_total}
-use Rattle.cga_order.proofs.Chains.{place, stamps-place, rank-before, root-before, birth-stamp, birth-child, stamp-child, snoc-same}
-use Rattle.cga_order.proofs.Members.{Has-left, Has-right, Has-append, Has-index, waits, place_dec, Has-start, start-Has, Has-become, become-Has_elsewhere, become-Has_there}
+use Rattle.cga_order.proofs.Chains.{stamps-place, rank-before, root-before, birth-stamp, birth-child, stamp-child, snoc-same}
+use Rattle.cga_order.proofs.Members.{Has-left, Has-right, Has-append, Has-index, Has-start, Has-become, become-Has_elsewhere, become-Has_there}
 use Rattle.cga_order.proofs.Maxima as stamps
 
 module _ {N A F P : Type 0} (world : World N A F P) where

@@ -1,15 +1,12 @@
 -- A turn of an agenda keeps what is off it right, and a list that is right is consistent.
-use Rattle.std.proofs.Common.{◌≡◌, ℕ, List, [], ◌∷◌, ◌++◌, Bool, true, false, refl, sym, ap, ◌∙◌, subst, ◌⊎◌, inl, inr, ◌&&◌, Result, Ok, Err, Option, Some, None}
-use Rattle.std.specs.Prelude.{not}
-use Rattle.std.specs.declared.cmp.Ordering.TheVariants.{Less}
-use Rattle.std.specs.Ordering.{is_lt}
+use Rattle.std.proofs.Common.{◌≡◌, ℕ, List, [], ◌∷◌, Bool, true, false, refl, sym, ap, ◌∙◌, subst, ◌⊎◌, inl, inr, Result, Ok, Err, Option}
 use Rattle.std.specs.Cmp.{IsTotalOrder}
 use Rattle.cga_order.specs.Rank.{Rank}
 use Rattle.cga_order.specs.Chain.{IsChild}
 use Rattle.cga_order.specs.Stamp.{stamps_cmp}
-use Rattle.cga_order.specs.World.{World, IsWorld, Placed, Kind, Waiting, Done, Faulted, Has, Among, shapes_where, is_instance, place_of, stamp_of, birth_of, IsEarlier, SameSeen}
+use Rattle.cga_order.specs.World.{World, IsWorld, Placed, Kind, Done, Has, Among, shapes_where, is_instance, place_of, stamp_of, birth_of, IsEarlier}
 use Rattle.cga_order.specs.Consistent.{exists_at, waits_at, outcome_at, Stands, IsBefore, HasOutcome, IsMade, IsConsistent}
-use Rattle.cga_order.specs.Agenda.{Node, members_of, Keeps, asked, HasChildren, IsSettled, IsRight, AllRight, QueuesWhatSees, Came, Went, Remains, IsTurn, IsTree}
+use Rattle.cga_order.specs.Agenda.{Node, members_of, Keeps, asked, HasChildren, IsSettled, IsRight, AllRight, Came, Remains, IsTurn, IsTree}
 use Rattle.cga_order.proofs.Order.{stamps_total}
 use Rattle.cga_order.proofs.Chains.{birth-child, snoc-same}
 use Rattle.cga_order.proofs.Members.{either, place_dec, Among-shapes_where, Has-from_shapes_where}

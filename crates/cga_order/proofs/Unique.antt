@@ -1,15 +1,13 @@
 -- A list that is consistent, as far as a limit, has the members of the derivation that far.
-use Rattle.std.proofs.Common.{◌≡◌, ℕ, zero, suc, ◌+◌, ◌≤◌, ◌<◌, List, [], ◌∷◌, ◌++◌, length, Bool, true, false, cond, refl, sym, ap, ◌∙◌, subst, ◌⊎◌, inl, inr, ◌&&◌, Result, Ok, Err, Option, Some, None, arith, length-append}
+use Rattle.std.proofs.Common.{◌≡◌, ℕ, zero, suc, ◌+◌, ◌<◌, List, [], ◌∷◌, length, Bool, true, false, refl, sym, ap, ◌∙◌, subst, ◌⊎◌, inl, inr, ◌&&◌, Ok, Err, Option, Some, None, arith, length-append}
 use Rattle.std.specs.Prelude.{not}
-use Rattle.std.specs.declared.cmp.Ordering.TheVariants.{Less}
 use Rattle.std.specs.Ordering.{is_lt}
 use Rattle.std.specs.Cmp.{IsTotalOrder}
-use Rattle.cga_order.specs.Rank.{Rank, rank_cmp}
-use Rattle.cga_order.specs.Chain.{Chain, IsChild, rank}
+use Rattle.cga_order.specs.Rank.{Rank}
 use Rattle.cga_order.specs.Stamp.{stamps_cmp}
 use Rattle.cga_order.specs.World.{World, IsWorld, Placed, Kind, Waiting, Done, Faulted, Instance, Has, Among, shapes_where, is_waiting, is_instance, place_of, stamp_of, birth_of, IsEarlier, SameSeen}
 use Rattle.cga_order.specs.Run.{outcome, start, IsStep, Reached}
-use Rattle.cga_order.specs.Consistent.{exists_at, waits_at, outcome_at, Stands, IsBefore, HasOutcome, IsMade, IsConsistent, AllBefore, NothingWaits, SameMembers, HasMembers, HasMade}
+use Rattle.cga_order.specs.Consistent.{exists_at, waits_at, outcome_at, Stands, IsBefore, HasOutcome, IsConsistent, AllBefore, NothingWaits, SameMembers, HasMembers, HasMade}
 use Rattle.cga_order.proofs.Order.{stamps_total}
 use Rattle.cga_order.proofs.Chains.{birth-stamp, birth-child}
 use Rattle.cga_order.proofs.Members.{either, waits, place_dec, Has-start, start-Has, Among-shapes_where, Has-from_shapes_where}

@@ -1,9 +1,8 @@
 -- A kept list whose members are right, but for those on an agenda; and one turn of the agenda.
-use Rattle.std.specs.Prelude.{◌≡◌, ◌≢◌, ℕ, List, [], ◌∷◌, map, Bool, true, false, ◌⊎◌, Option, Result, Ok, Err}
-use Rattle.cga_order.specs.Rank.{Rank}
+use Rattle.std.specs.Prelude.{◌≡◌, ◌≢◌, ℕ, List, [], ◌∷◌, map, Bool, true, false, ◌⊎◌, Result, Ok, Err}
 use Rattle.cga_order.specs.Chain.{IsChild}
 use Rattle.cga_order.specs.World.{World, Placed, Kind, Waiting, Done, Faulted, Has, Among, shapes_where, is_instance, IsEarlier, stamp_of, birth_of, place_of}
-use Rattle.cga_order.specs.Consistent.{exists_at, waits_at, Stands, IsBefore}
+use Rattle.cga_order.specs.Consistent.{exists_at, waits_at, Stands}
 
 -- a member that keeps the answers that it got when it was last expanded
 pub record Node (N A F P : Type 0) : Type 0 where

@@ -8,3 +8,4 @@ pub mod Run
 pub mod Consistent
 pub mod Agenda
 pub mod Laws
+pub mod FourShapes

@@ -1,6 +1,7 @@
 //! What is proved of the order of derivation. Each function here does nothing: its contract is the
 //! law, which a caller's proof can cite.
 
+ghost use Rattle.cga_order.specs.FourShapes.{FourShapesInOrder, TwoModes};
 ghost use Rattle.cga_order.specs.Laws.{AreOrders, ChildrenComeLater, LeastRankIsLeastStamp, RunsRise, ConsistentIsDerived, ConsistentSoFar, EachSeesWhatWasMade, DerivedIsConsistent, TurnsKeepRight, RightIsConsistent};
 
 /// Both comparisons are total orders, and only shapes of one lot and one path compare as equal.
@@ -56,4 +57,16 @@ pub fn turns_keep_right<N, A, F, P>()
 /// nothing is queued, it is consistent.
 pub fn right_is_consistent<N, A, F, P>()
     ensures { RightIsConsistent N A F P }
+{}
+
+/// The worlds of the laws can be met: where c, of lower priority than b, has a child d of the
+/// priority of a, the order is a, c, d, b.
+pub fn four_shapes_in_order()
+    ensures { FourShapesInOrder }
+{}
+
+/// Where b has the child d and all have one priority, the order is a, b, c, d by breadth, and
+/// a, b, d, c by depth.
+pub fn two_modes()
+    ensures { TwoModes }
 {}
