@@ -5,6 +5,7 @@ pub mod Tops
 pub mod Chains
 pub mod Members
 pub mod Steps
+pub mod Places
 pub mod Unique
 pub mod Derived
 pub mod Turns

@@ -37,7 +37,7 @@ module _ {N A F P : Type 0} (world : World N A F P) where
   children_of (Ok children) = children
   children_of (Err fault) = []
 
-  told-is : (C : Members) (s : N) (r : Result Members F) → told world C s r ≡ map (become world s (kind_after r)) C ++ children_of r
+  pub told-is : (C : Members) (s : N) (r : Result Members F) → told world C s r ≡ map (become world s (kind_after r)) C ++ children_of r
   told-is C s (Ok children) = refl
   told-is C s (Err fault) = sym (append-nil (map (become world s (Faulted fault)) C))
 

@@ -7,7 +7,7 @@ use Rattle.cga_order.specs.Rank.{Rank, rank_cmp}
 use Rattle.cga_order.specs.Chain.{Chain, IsWhole, IsChild, rank}
 use Rattle.cga_order.specs.Stamp.{stamp_cmp}
 use Rattle.cga_order.specs.World.{World, IsWorld, Placed, Kind, Waiting, Has, IsEarlier, place_of, stamp_of}
-use Rattle.cga_order.specs.Run.{outcome, IsStep, Reached, Rises}
+use Rattle.cga_order.specs.Run.{outcome, IsStep, Reached, Rises, StandsByBirth}
 use Rattle.cga_order.specs.Consistent.{exists_at, outcome_at, IsBefore, IsConsistent, AllBefore, NothingWaits, SameMembers, HasMembers, HasMade}
 use Rattle.cga_order.specs.Agenda.{Node, members_of, IsTurn, AllRight, IsTree}
 
@@ -31,6 +31,10 @@ LeastRankIsLeastStamp N A F P =
 -- a derivation takes its shapes by rising stamps
 abbrev pub RunsRise : (N A F P : Type 0) → Type 0
 RunsRise N A F P = (world : World N A F P) → IsWorld world → (taken : List N) (list : List (Placed N F P)) → Reached world taken list → Rises world taken
+
+-- in a derivation's list the members after the roots stand by their parents' stamps, and then by their indices
+abbrev pub MembersStandByBirth : (N A F P : Type 0) → Type 0
+MembersStandByBirth N A F P = (world : World N A F P) → IsWorld world → (taken : List N) (list : List (Placed N F P)) → Reached world taken list → StandsByBirth world list
 
 -- a list that is consistent has the members of the derivation, whatever order it stands in
 abbrev pub ConsistentIsDerived : (N A F P : Type 0) → Type 0

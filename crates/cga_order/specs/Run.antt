@@ -1,10 +1,10 @@
 -- The derivation: at each step the waiting shape of least rank is expanded.
-use Rattle.std.specs.Prelude.{◌≡◌, ◌≢◌, List, [], ◌∷◌, ◌++◌, map, Bool, true, ◌&&◌, Result, Ok, Err, nat_eq, if◌then◌else◌}
+use Rattle.std.specs.Prelude.{ℕ, ◌≡◌, ◌≢◌, List, [], ◌∷◌, ◌++◌, map, Bool, true, ◌&&◌, Result, Ok, Err, nat_eq, if◌then◌else◌, ◌<◌, ◌≤◌, ◌⊎◌, Some, slice_get, length}
 use Rattle.std.specs.declared.cmp.Ordering.TheVariants.{Less}
 use lib.Pointwise.{pointwise}
 use Rattle.cga_order.specs.Rank.{rank_cmp}
-use Rattle.cga_order.specs.Chain.{Chain, rank}
-use Rattle.cga_order.specs.World.{World, Placed, Kind, Waiting, Done, Faulted, Has, shapes_where, is_waiting, IsEarlier, stamp_of}
+use Rattle.cga_order.specs.Chain.{Chain, IsChild, rank}
+use Rattle.cga_order.specs.World.{World, Placed, Kind, Waiting, Done, Faulted, Has, shapes_where, is_waiting, IsEarlier, stamp_of, birth_of}
 
 -- one lot and one path
 abbrev pub same_place : Chain → Chain → Bool
@@ -47,3 +47,13 @@ module _ {N A F P : Type 0} (world : World N A F P) where
   abbrev pub Rises : List N → Type 0
   Rises [] = Unit {0}
   Rises (s ∷ taken) = AllEarlier s taken × Rises taken
+
+  -- two children of one shape, the first of a smaller index
+  abbrev pub AreSiblings : N → N → Type 0
+  AreSiblings n m = (parent : N) × (i : ℕ) × (j : ℕ) × IsChild (world.chain parent) i (world.chain n) × IsChild (world.chain parent) j (world.chain m) × (i < j)
+
+  -- what stands after the roots stands by its parent's stamp, and then by its index
+  abbrev pub StandsByBirth : List (Placed N F P) → Type 0
+  StandsByBirth list =
+      (i j : ℕ) (m n : Placed N F P) → slice_get list i ≡ Some m → slice_get list j ≡ Some n → i < j → length world.roots ≤ j
+      → IsEarlier world (birth_of world m.shape) (birth_of world n.shape) ⊎ AreSiblings m.shape n.shape

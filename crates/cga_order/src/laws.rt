@@ -2,7 +2,7 @@
 //! law, which a caller's proof can cite.
 
 ghost use Rattle.cga_order.specs.FourShapes.{FourShapesInOrder, TwoModes};
-ghost use Rattle.cga_order.specs.Laws.{AreOrders, ChildrenComeLater, LeastRankIsLeastStamp, RunsRise, ConsistentIsDerived, ConsistentSoFar, EachSeesWhatWasMade, DerivedIsConsistent, TurnsKeepRight, RightIsConsistent};
+ghost use Rattle.cga_order.specs.Laws.{AreOrders, ChildrenComeLater, LeastRankIsLeastStamp, RunsRise, MembersStandByBirth, ConsistentIsDerived, ConsistentSoFar, EachSeesWhatWasMade, DerivedIsConsistent, TurnsKeepRight, RightIsConsistent};
 
 /// Both comparisons are total orders, and only shapes of one lot and one path compare as equal.
 pub fn orders()
@@ -22,6 +22,12 @@ pub fn least_rank_is_least_stamp<N, A, F, P>()
 /// A derivation takes its shapes by strictly rising stamps.
 pub fn runs_rise<N, A, F, P>()
     ensures { RunsRise N A F P }
+{}
+
+/// The members of a derivation after the roots stand by their parents' stamps, and then by their
+/// indices.
+pub fn members_stand_by_birth<N, A, F, P>()
+    ensures { MembersStandByBirth N A F P }
 {}
 
 /// A list that is consistent has the members of the derivation, whatever order it stands in: what
