@@ -1,5 +1,5 @@
 -- Decimal texts read as numbers.
-use Rattle.std.specs.Prelude.{ℕ, ◌+◌, ◌^◌, ◌==◌, pos, List, [], length, ◌++◌, take, drop, position, Bool, not, ◌&&◌, nat_le, Option, Some, None, Result, Ok, Err, if◌then◌else◌}
+use Rattle.std.specs.Prelude.{◌≡◌, ℕ, ◌+◌, ◌≤◌, ◌^◌, ◌==◌, pos, List, [], length, ◌++◌, take, drop, position, Bool, not, ◌&&◌, nat_le, Option, Some, None, Result, Ok, Err, if◌then◌else◌}
 use Rattle.std.specs.Char.{is_ascii_digit}
 use Rattle.std.specs.List.{list_all}
 use Rattle.std.specs.Str.Parse.{digits_value}
@@ -35,3 +35,12 @@ is_point c = c == 46
 -- the number that a text is read as, or why it is read as none: digits, then optionally a point and digits
 unfoldable pub decimal_of : List ℕ → Result Rat DecimalFault
 decimal_of text = read_at text (position is_point text)
+
+-- some text is read as a
+abbrev pub IsLiteral : Rat → Type 0
+IsLiteral a = (text : List ℕ) × (decimal_of text ≡ Ok a)
+
+-- text is read as a, and no shorter text is
+pub record IsShortest (a : Rat) (text : List ℕ) : Type 0 where
+  pub reads : decimal_of text ≡ Ok a
+  pub shortest : (other : List ℕ) → decimal_of other ≡ Ok a → length text ≤ length other
