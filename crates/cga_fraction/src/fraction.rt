@@ -1,15 +1,17 @@
-ghost use Rattle.std.specs.Prelude.{◌≡◌, ◌<◌, ◌≤◌, ◌^◌, ◌*ℤ◌, pos, unsigned_abs};
+ghost use Rattle.std.specs.Prelude.{◌≡◌, ◌<◌, ◌≤◌, ◌/◌, ◌^◌, ◌*ℤ◌, pos, unsigned_abs};
 ghost use Rattle.cga_fraction.specs.Rat.{den, zero_rat, IsFraction};
 ghost use Rattle.cga_fraction.specs.Arithmetic.{reduced, with_sign};
 ghost use Rattle.cga_fraction.specs.Refusals.{checked};
 
 mod arithmetic;
+mod decimal;
 mod order;
 mod rounding;
 mod text;
 
-use crate::gcd::common_divisor;
+use crate::gcd::{common_divisor, narrow_divisor};
 use crate::overflow::Overflow;
+pub use decimal::DecimalFault;
 use std::marker::Model;
 
 /// A number in lowest terms, each of whose parts is at most 2^62. There is no `Ord`: its laws would have to
@@ -64,14 +66,28 @@ impl Fraction {
         self.denominator as i64
     }
 
+    // n over d in lowest terms, where both are small.
+    fn lowest(n: u64, d: u64) -> Fraction
+        requires above_zero { 0 < d }
+        requires small { n ≤ 2 ^ 62 }
+        requires few { d ≤ 2 ^ 62 }
+        ensures { result ≡ reduced (pos n) d }
+    {
+        let common = narrow_divisor(n, d);
+        Fraction {
+            numerator: (n / common) as i64,
+            denominator: d / common,
+        }
+    }
+
     // n over d in lowest terms, where that is in range.
     fn in_lowest_terms(n: i128, d: u128) -> Result<Fraction, Overflow>
         requires { 0 < d }
         ensures { result ≡ checked (reduced n d) }
     {
         let common = common_divisor(n.unsigned_abs(), d);
-        let magnitude = n.unsigned_abs() / common;
-        let denominator = d / common;
+        let magnitude = quotient(n.unsigned_abs(), common);
+        let denominator = quotient(d, common);
         if magnitude > LIMIT || denominator > LIMIT {
             return Err(Overflow);
         }
@@ -98,6 +114,17 @@ impl From<u32> for Fraction {
 }
 
 const LIMIT: u128 = 1 << 62;
+
+// Most numbers are in lowest terms as they come, and a wide division is dear.
+fn quotient(n: u128, d: u128) -> u128
+    requires { 0 < d }
+    ensures { result ≡ n / d }
+{
+    if d == 1 {
+        return n;
+    }
+    n / d
+}
 
 fn signed_like(n: i128, magnitude: u128) -> i64
     requires { magnitude ≤ 2 ^ 62 }

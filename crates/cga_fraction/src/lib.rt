@@ -10,9 +10,11 @@ mod list;
 mod memory;
 mod overflow;
 mod steps;
+#[cfg(test)]
+mod tests;
 
 pub use boxed::Boxed;
-pub use fraction::Fraction;
+pub use fraction::{DecimalFault, Fraction};
 pub use list::List;
 pub use memory::NoMemory;
 pub use overflow::{DivFault, Overflow};
