@@ -202,6 +202,14 @@ pub max_least : (x a b : Rat) → IsTrue (rat_le a x) → IsTrue (rat_le b x) �
 unfolding rat_max
 max_least x a b h k = either (λ z. IsTrue (rat_le z x)) b a (rat_le a b) k h
 
+pub lt_min : (x a b : Rat) → IsTrue (rat_lt x a) → IsTrue (rat_lt x b) → IsTrue (rat_lt x (rat_min a b))
+unfolding rat_min
+lt_min x a b h k = either (λ z. IsTrue (rat_lt x z)) a b (rat_le a b) h k
+
+pub max_lt : (x a b : Rat) → IsTrue (rat_lt a x) → IsTrue (rat_lt b x) → IsTrue (rat_lt (rat_max a b) x)
+unfolding rat_max
+max_lt x a b h k = either (λ z. IsTrue (rat_lt z x)) b a (rat_le a b) k h
+
 -- ---- between two numbers there is one
 
 -- the sum of the numerators over the sum of the denominators

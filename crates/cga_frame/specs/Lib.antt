@@ -1,7 +1,0 @@
-pub mod Axes
-pub mod Box
-pub mod Component
-pub mod Meeting
-pub mod Points
-pub mod Scope
-pub mod Standing
