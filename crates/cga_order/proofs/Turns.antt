@@ -9,9 +9,10 @@ use Rattle.cga_order.specs.Consistent.{exists_at, waits_at, outcome_at, Stands, 
 use Rattle.cga_order.specs.Agenda.{Node, members_of, Keeps, asked, HasChildren, IsSettled, IsRight, AllRight, Came, Remains, IsTurn, IsTree}
 use Rattle.cga_order.proofs.Order.{stamps_total}
 use Rattle.cga_order.proofs.Chains.{birth-child, snoc-same}
-use Rattle.cga_order.proofs.Members.{either, place_dec, Among-shapes_where, Has-from_shapes_where}
+use Rattle.cga_order.proofs.Members.{place_dec, Among-shapes_where, Has-from_shapes_where}
 use Rattle.cga_order.proofs.Steps as steps
 use Rattle.cga_order.proofs.Derived as derived
+use Rattle.cga_order.proofs.Maxima.{either}
 use Rattle.cga_order.proofs.Maxima as stamps
 
 module _ {N A F P : Type 0} where

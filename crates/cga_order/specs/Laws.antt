@@ -1,5 +1,5 @@
 -- What is proved of the order of derivation, in both modes.
-use Rattle.std.specs.Prelude.{◌≡◌, ◌≢◌, ℕ, List, Bool, true, Option, None}
+use Rattle.std.specs.Prelude.{length, ◌≤◌, ◌≡◌, ◌≢◌, ℕ, List, Bool, true, Option, None}
 use Rattle.std.specs.declared.cmp.Ordering.TheVariants.{Less, Equal}
 use Rattle.std.specs.Cmp.{IsTotalOrder}
 use Rattle.cga_word.specs.declared.mode.Mode.{Mode}
@@ -35,6 +35,10 @@ RunsRise N A F P = (world : World N A F P) → IsWorld world → (taken : List N
 -- in a derivation's list the members after the roots stand by their parents' stamps, and then by their indices
 abbrev pub MembersStandByBirth : (N A F P : Type 0) → Type 0
 MembersStandByBirth N A F P = (world : World N A F P) → IsWorld world → (taken : List N) (list : List (Placed N F P)) → Reached world taken list → StandsByBirth world list
+
+-- a derivation has at least as many members as steps, so one of few members ends after few steps
+abbrev pub StepsLeaveMembers : (N A F P : Type 0) → Type 0
+StepsLeaveMembers N A F P = (world : World N A F P) → IsWorld world → (taken : List N) (list : List (Placed N F P)) → Reached world taken list → length taken ≤ length list
 
 -- a list that is consistent has the members of the derivation, whatever order it stands in
 abbrev pub ConsistentIsDerived : (N A F P : Type 0) → Type 0

@@ -2,7 +2,7 @@
 //! law, which a caller's proof can cite.
 
 ghost use Rattle.cga_order.specs.FourShapes.{FourShapesInOrder, TwoModes};
-ghost use Rattle.cga_order.specs.Laws.{AreOrders, ChildrenComeLater, LeastRankIsLeastStamp, RunsRise, MembersStandByBirth, ConsistentIsDerived, ConsistentSoFar, EachSeesWhatWasMade, DerivedIsConsistent, TurnsKeepRight, RightIsConsistent};
+ghost use Rattle.cga_order.specs.Laws.{AreOrders, ChildrenComeLater, LeastRankIsLeastStamp, RunsRise, MembersStandByBirth, StepsLeaveMembers, ConsistentIsDerived, ConsistentSoFar, EachSeesWhatWasMade, DerivedIsConsistent, TurnsKeepRight, RightIsConsistent};
 
 /// Both comparisons are total orders, and only shapes of one lot and one path compare as equal.
 pub fn orders()
@@ -28,6 +28,11 @@ pub fn runs_rise<N, A, F, P>()
 /// indices.
 pub fn members_stand_by_birth<N, A, F, P>()
     ensures { MembersStandByBirth N A F P }
+{}
+
+/// A derivation has at least as many members as it took steps.
+pub fn steps_leave_members<N, A, F, P>()
+    ensures { StepsLeaveMembers N A F P }
 {}
 
 /// A list that is consistent has the members of the derivation, whatever order it stands in: what
