@@ -1,4 +1,5 @@
--- Consistent lists, which speak of no order of steps: each member has the outcome that its stamp allows.
+-- Consistent lists, which speak of no order of steps: each member has the outcome that its stamp
+-- allows.
 use Rattle.std.specs.Prelude.{◌≡◌, List, [], ◌∷◌, Bool, true, false, ◌&&◌, not, ◌⊎◌, Option, Some, None, Result, Ok, Err}
 use Rattle.std.specs.Ordering.{is_lt}
 use Rattle.cga_order.specs.Rank.{Rank}

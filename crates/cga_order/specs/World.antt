@@ -1,4 +1,5 @@
--- What a derivation is run over: any shapes that have chains, see one another, and expand by what they see.
+-- What a derivation is run over: any shapes that have chains, see one another, and expand by what
+-- they see.
 use Rattle.std.specs.Prelude.{◌≡◌, ◌≢◌, ℕ, List, [], ◌∷◌, Bool, true, false, ◌⊎◌, Some, Result, Ok, slice_get, if◌then◌else◌}
 use Rattle.std.specs.declared.cmp.Ordering.TheVariants.{Less}
 use Rattle.cga_word.specs.declared.mode.Mode.{Mode}
@@ -6,7 +7,8 @@ use Rattle.cga_order.specs.Rank.{Rank}
 use Rattle.cga_order.specs.Chain.{Chain, IsWhole, IsChild}
 use Rattle.cga_order.specs.Stamp.{stamp, birth, stamps_cmp}
 
--- the state of a member: it waits for its expansion, had it or met a fault F, or is an instance that draws P
+-- the state of a member: it waits for its expansion, is done or met a fault F, or is an instance
+-- that draws P
 pub data Kind (F P : Type 0) : Type 0 where
   Waiting : Kind F P
   Done : Kind F P

@@ -2,14 +2,17 @@
 //! law, which a caller's proof can cite.
 
 ghost use Rattle.cga_order.specs.FourShapes.{FourShapesInOrder, TwoModes};
-ghost use Rattle.cga_order.specs.Laws.{AreOrders, ChildrenComeLater, LeastRankIsLeastStamp, RunsRise, MembersStandByBirth, StepsLeaveMembers, ConsistentIsDerived, ConsistentSoFar, EachSeesWhatWasMade, DerivedIsConsistent, TurnsKeepRight, RightIsConsistent};
+ghost use Rattle.cga_order.specs.Laws.{AreOrders, ChildrenComeLater, LeastRankIsLeastStamp, RunsRise};
+ghost use Rattle.cga_order.specs.Laws.{MembersStandByBirth, StepsLeaveMembers, EachSeesWhatWasMade};
+ghost use Rattle.cga_order.specs.Laws.{DerivedIsConsistent, ConsistentIsDerived, ConsistentSoFar};
+ghost use Rattle.cga_order.specs.Laws.{TurnsKeepRight, RightIsConsistent};
 
 /// Both comparisons are total orders, and only shapes of one lot and one path compare as equal.
 pub fn orders()
     ensures { AreOrders }
 {}
 
-/// A child's stamp is greater than its parent's.
+/// A child is made at its parent's stamp and has a greater one; a root is there at every stamp.
 pub fn children_come_later()
     ensures { ChildrenComeLater }
 {}
