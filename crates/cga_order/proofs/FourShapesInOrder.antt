@@ -9,7 +9,7 @@ use Rattle.cga_order.specs.Rank.{rank_cmp}
 use Rattle.cga_order.specs.Chain.{Chain, IsWhole, IsChild, rank}
 use Rattle.cga_order.specs.World.{World, IsWorld, Placed, Kind, Waiting, Done, Instance, Has}
 use Rattle.cga_order.specs.Run.{IsStep}
-use Rattle.cga_order.specs.FourShapes.{Four, a, b, c, d, waiting, done, chain_under_b, chain_under_c, children_under_b, children_under_c, world_of, FourShapesInOrder, TwoModes}
+use Rattle.cga_order.specs.FourShapes.{Four, a, b, c, d, waiting, done, all_done, chain_under_b, chain_under_c, children_under_b, children_under_c, world_of, FourShapesInOrder, TwoModes}
 
 IsNew : Kind ℕ ℕ → Type 0
 IsNew k = (k ≡ Waiting) ⊎ ((p : ℕ) × (k ≡ Instance p))
@@ -111,9 +111,6 @@ first = waiting a ∷ []
 
 abbrev second : List (Placed Four ℕ ℕ)
 second = done a ∷ waiting b ∷ waiting c ∷ []
-
-abbrev all_done : List (Placed Four ℕ ℕ)
-all_done = done a ∷ done b ∷ done c ∷ done d ∷ []
 
 pub four_shapes : FourShapesInOrder
 four_shapes =

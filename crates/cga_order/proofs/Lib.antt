@@ -1,4 +1,5 @@
 pub mod Maxima
+pub mod Heads
 pub mod Order
 pub mod Prefixes
 pub mod Tops
@@ -6,6 +7,7 @@ pub mod Chains
 pub mod Members
 pub mod Steps
 pub mod Places
+pub mod Counts
 pub mod Unique
 pub mod Derived
 pub mod Turns

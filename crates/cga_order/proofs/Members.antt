@@ -6,21 +6,18 @@ use Rattle.cga_order.specs.Chain.{Chain}
 use Rattle.cga_order.specs.World.{World, Placed, Kind, Waiting, Done, Faulted, Instance, Has, Among, shapes_where, is_waiting, place_of}
 use Rattle.cga_order.specs.Run.{same_place, become}
 use Rattle.cga_order.proofs.Chains.{place}
-
-pub either : (b : Bool) → (b ≡ true) ⊎ (b ≡ false)
-either true = inl refl
-either false = inr refl
+use Rattle.cga_order.proofs.Maxima.{either}
 
 both_true : (a b : Bool) → (a && b) ≡ true → (a ≡ true) × (b ≡ true)
 both_true true b e = (refl, e)
 both_true false b e = let x : false ≡ true = e in cc
 
-same_place-is : (a b : Chain) → same_place a b ≡ true → place a ≡ place b
+pub same_place-is : (a b : Chain) → same_place a b ≡ true → place a ≡ place b
 same_place-is a b e =
     let parts = both_true _ _ e in
     λ i. ((bytes_decides a.lot b.lot).0 parts.0 i, (bytes_decides a.path b.path).0 parts.1 i)
 
-same_place-not : (a b : Chain) → same_place a b ≡ false → place a ≡ place b → ⊥
+pub same_place-not : (a b : Chain) → same_place a b ≡ false → place a ≡ place b → ⊥
 same_place-not a b e same =
     let lots : pointwise nat_eq a.lot b.lot ≡ true = (bytes_decides a.lot b.lot).1 (ap (λ p. p.0) same) in
     let paths : pointwise nat_eq a.path b.path ≡ true = (bytes_decides a.path b.path).1 (ap (λ p. p.1) same) in

@@ -15,6 +15,7 @@ use Rattle.cga_order.specs.Stamp.{maxima, stamps_cmp, stamp_cmp}
 use Rattle.cga_order.specs.Walk.{ranks_run, ranks_from, IsTop, tops_cmp}
 use Rattle.cga_order.proofs.Prefixes.{nat_cmp-less, slice_cmp-within}
 use Rattle.cga_order.proofs.Order.{rank_total, rank_exact}
+use Rattle.cga_order.proofs.Heads as heads
 use Rattle.cga_order.proofs.Maxima as stamps
 
 -- the order of the stamps of the ranks from this depth on
@@ -92,9 +93,9 @@ In-ranks_run mode chain depth (suc n) q i = elim i [
 ]
 
 -- a rank at some depth ties with none that stands deeper on any chain
-TiesNone-deeper : (mode : Mode) (a b : Chain) (depth : ℕ) → IsWhole b → stamps.TiesNone (rank_cmp mode) (rank_total mode) (rank_at a depth) (maxima (rank_cmp mode) (ranks_from b (depth + 1)))
+TiesNone-deeper : (mode : Mode) (a b : Chain) (depth : ℕ) → IsWhole b → heads.TiesNone (rank_cmp mode) (rank_total mode) (rank_at a depth) (maxima (rank_cmp mode) (ranks_from b (depth + 1)))
 TiesNone-deeper mode a b depth whole q i =
-    let w = In-ranks_run mode b (depth + 1) (length b.priorities - (depth + 1)) q (stamps.in_maxima (rank_cmp mode) (rank_total mode) q (ranks_from b (depth + 1)) i) in
+    let w = In-ranks_run mode b (depth + 1) (length b.priorities - (depth + 1)) q (heads.in_maxima (rank_cmp mode) (rank_total mode) q (ranks_from b (depth + 1)) i) in
     let here : length (take depth a.path) ≤ depth = omega (arith, length-take depth a.path) in
     let there : length (take w.0 b.path) ≡ w.0 = length-take-le w.0 b.path (omega (arith, whole, w.1, w.2)) in
     let deeper : length q.path ≡ w.0 = ap (λ r. length r.path) w.3 ∙ there in (
@@ -109,7 +110,7 @@ IsTop-under mode chain depth top whole within le h =
       | inl l ↦ rank_at-priority mode chain depth top l
       | inr e ↦ rank_at-depth mode chain depth top e (omega (arith, h.0)) (omega (arith, whole, h.1))
     ] in
-    (omega (arith, h.0), h.1, h.2, ap (maxima (rank_cmp mode)) (ranks_from-step chain depth within) ∙ (stamps.maxima-under (rank_cmp mode) (rank_total mode) (rank_at chain depth) (ranks_from chain (depth + 1)) (rank_at chain top) h.2 h.3 below ∙ h.3))
+    (omega (arith, h.0), h.1, h.2, ap (maxima (rank_cmp mode)) (ranks_from-step chain depth within) ∙ (heads.maxima-under (rank_cmp mode) (rank_total mode) (rank_at chain depth) (ranks_from chain (depth + 1)) (rank_at chain top) h.2 h.3 below ∙ h.3))
   where
     lt_or_eq : {m n : ℕ} → m ≤ n → (m < n) ⊎ (m ≡ n)
     lt_or_eq {m = m} {n = n} le = elim (nat_cmp m n) as (λ v. MatchOrdering v (m < n) (m ≡ n) (n < m) → (m < n) ⊎ (m ≡ n)) [
@@ -120,12 +121,12 @@ IsTop-under mode chain depth top whole within le h =
 
 pub IsTop-over : (mode : Mode) (chain : Chain) (depth top : ℕ) → depth < length chain.priorities → slice_index chain.priorities top < slice_index chain.priorities depth → IsTop mode chain (depth + 1) (Some top) → IsTop mode chain depth (Some depth)
 IsTop-over mode chain depth top within lt h =
-    (omega arith, within, maxima (rank_cmp mode) (ranks_from chain (depth + 1)), ap (maxima (rank_cmp mode)) (ranks_from-step chain depth within) ∙ stamps.maxima-over (rank_cmp mode) (rank_total mode) (rank_at chain depth) (ranks_from chain (depth + 1)) (rank_at chain top) h.2 h.3 (rank_at-priority mode chain top depth lt))
+    (omega arith, within, maxima (rank_cmp mode) (ranks_from chain (depth + 1)), ap (maxima (rank_cmp mode)) (ranks_from-step chain depth within) ∙ heads.maxima-over (rank_cmp mode) (rank_total mode) (rank_at chain depth) (ranks_from chain (depth + 1)) (rank_at chain top) h.2 h.3 (rank_at-priority mode chain top depth lt))
 
 -- the maxima from one depth on are those from the next on, with one more or not
-Extends-ranks_from : (mode : Mode) (chain : Chain) (depth : ℕ) → stamps.Extends (rank_cmp mode) (rank_total mode) (rank_at chain depth) (maxima (rank_cmp mode) (ranks_from chain (depth + 1))) (maxima (rank_cmp mode) (ranks_from chain depth))
+Extends-ranks_from : (mode : Mode) (chain : Chain) (depth : ℕ) → heads.Extends (rank_cmp mode) (rank_total mode) (rank_at chain depth) (maxima (rank_cmp mode) (ranks_from chain (depth + 1))) (maxima (rank_cmp mode) (ranks_from chain depth))
 Extends-ranks_from mode chain depth = elim (within_or_past depth (length chain.priorities)) [
-  | inl within ↦ subst (λ rs. stamps.Extends (rank_cmp mode) (rank_total mode) (rank_at chain depth) (maxima (rank_cmp mode) (ranks_from chain (depth + 1))) (maxima (rank_cmp mode) rs)) (sym (ranks_from-step chain depth within)) (stamps.Extends-maxima (rank_cmp mode) (rank_total mode) (rank_at chain depth) (ranks_from chain (depth + 1)))
+  | inl within ↦ subst (λ rs. heads.Extends (rank_cmp mode) (rank_total mode) (rank_at chain depth) (maxima (rank_cmp mode) (ranks_from chain (depth + 1))) (maxima (rank_cmp mode) rs)) (sym (ranks_from-step chain depth within)) (heads.Extends-maxima (rank_cmp mode) (rank_total mode) (rank_at chain depth) (ranks_from chain (depth + 1)))
   | inr past ↦ inr (ap (maxima (rank_cmp mode)) (ranks_from-end chain depth past ∙ sym (ranks_from-end chain (depth + 1) (omega (arith, past)))))
 ]
   where
@@ -140,16 +141,16 @@ none : (mode : Mode) (chain : Chain) (depth : ℕ) → length chain.priorities �
 none mode chain depth past = ap (maxima (rank_cmp mode)) (ranks_from-end chain depth past)
 
 -- the tops are the first of the maxima
-heads_cmp-tops : (mode : Mode) (a b : Chain) (depth : ℕ) (left right : Option ℕ) → IsTop mode a depth left → IsTop mode b depth right → stamps.heads_cmp (rank_cmp mode) (rank_total mode) (maxima (rank_cmp mode) (ranks_from a depth)) (maxima (rank_cmp mode) (ranks_from b depth)) ≡ tops_cmp mode a left b right
-heads_cmp-tops mode a b depth None None h k = ap2 (stamps.heads_cmp (rank_cmp mode) (rank_total mode)) (none mode a depth h) (none mode b depth k)
-heads_cmp-tops mode a b depth None (Some j) h k = ap2 (stamps.heads_cmp (rank_cmp mode) (rank_total mode)) (none mode a depth h) k.3
-heads_cmp-tops mode a b depth (Some i) None h k = ap2 (stamps.heads_cmp (rank_cmp mode) (rank_total mode)) h.3 (none mode b depth k)
-heads_cmp-tops mode a b depth (Some i) (Some j) h k = ap2 (stamps.heads_cmp (rank_cmp mode) (rank_total mode)) h.3 k.3
+heads_cmp-tops : (mode : Mode) (a b : Chain) (depth : ℕ) (left right : Option ℕ) → IsTop mode a depth left → IsTop mode b depth right → heads.heads_cmp (rank_cmp mode) (rank_total mode) (maxima (rank_cmp mode) (ranks_from a depth)) (maxima (rank_cmp mode) (ranks_from b depth)) ≡ tops_cmp mode a left b right
+heads_cmp-tops mode a b depth None None h k = ap2 (heads.heads_cmp (rank_cmp mode) (rank_total mode)) (none mode a depth h) (none mode b depth k)
+heads_cmp-tops mode a b depth None (Some j) h k = ap2 (heads.heads_cmp (rank_cmp mode) (rank_total mode)) (none mode a depth h) k.3
+heads_cmp-tops mode a b depth (Some i) None h k = ap2 (heads.heads_cmp (rank_cmp mode) (rank_total mode)) h.3 (none mode b depth k)
+heads_cmp-tops mode a b depth (Some i) (Some j) h k = ap2 (heads.heads_cmp (rank_cmp mode) (rank_total mode)) h.3 k.3
 
 -- one step of the walk: the stamps' order from this depth on, by the tops and by the order from the next depth on
 pub stamps_cmp-step : (mode : Mode) (a b : Chain) (depth : ℕ) (left right : Option ℕ) → IsWhole a → IsWhole b → IsTop mode a depth left → IsTop mode b depth right → order_from mode a b depth ≡ ordering_then (tops_cmp mode a left b right) (order_from mode a b (depth + 1))
 stamps_cmp-step mode a b depth left right whole_a whole_b h k =
-    stamps.cmps-extended (rank_cmp mode) (rank_total mode) (rank_at a depth) (rank_at b depth) _ _ _ _
+    heads.cmps-extended (rank_cmp mode) (rank_total mode) (rank_at a depth) (rank_at b depth) _ _ _ _
     (Extends-ranks_from mode a depth) (Extends-ranks_from mode b depth) (TiesNone-deeper mode a b depth whole_b) (TiesNone-deeper mode b a depth whole_a)
     ∙ ap (λ c. ordering_then c (order_from mode a b (depth + 1))) (heads_cmp-tops mode a b depth left right h k)
 

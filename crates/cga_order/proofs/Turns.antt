@@ -9,9 +9,10 @@ use Rattle.cga_order.specs.Consistent.{exists_at, waits_at, outcome_at, Stands, 
 use Rattle.cga_order.specs.Agenda.{Node, members_of, Keeps, asked, HasChildren, IsSettled, IsRight, AllRight, Came, Remains, IsTurn, IsTree}
 use Rattle.cga_order.proofs.Order.{stamps_total}
 use Rattle.cga_order.proofs.Chains.{birth-child, snoc-same}
-use Rattle.cga_order.proofs.Members.{either, place_dec, Among-shapes_where, Has-from_shapes_where}
+use Rattle.cga_order.proofs.Members.{place_dec, Among-shapes_where, Has-from_shapes_where}
 use Rattle.cga_order.proofs.Steps as steps
 use Rattle.cga_order.proofs.Derived as derived
+use Rattle.cga_order.proofs.Maxima.{either}
 use Rattle.cga_order.proofs.Maxima as stamps
 
 module _ {N A F P : Type 0} where
@@ -108,8 +109,8 @@ module _ {N A F P : Type 0} (world : World N A F P) (laws : IsWorld world) where
     ]
 
     -- the children of a node other than s stay
-    children_stay : (m : N) (k : Kind F P) (a : A) (children : List (Placed N F P)) → Keeps after m k a → (place_of world m ≡ place_of world s → ⊥) → ((c : N) (j : Kind F P) → Has children c j → (i : ℕ) × IsChild (world.chain m) i (world.chain c)) → HasChildren world before m children → HasChildren world after m children
-    children_stay m k a children has apart below h = record {
+    children_stay : (m : N) (k : Kind F P) (a : A) (children : List (Placed N F P)) → Keeps before m k a → Keeps after m k a → (place_of world m ≡ place_of world s → ⊥) → ((c : N) (j : Kind F P) → Has children c j → (i : ℕ) × IsChild (world.chain m) i (world.chain c)) → HasChildren world before m children → HasChildren world after m children
+    children_stay m k a children had has apart below h = record {
       all = λ c j g. stand c j g (h.all c j g);
       only = λ c j b g i child. elim (where_from c j b g) [
         | inl q ↦ let w = self_before c j b q g in h.only c w.0 w.1 w.2 i child
@@ -133,13 +134,13 @@ module _ {N A F P : Type 0} (world : World N A F P) (laws : IsWorld world) where
               | inl r ↦ (r.0, Has-Keeps after c r.0 r.1 r.2, r.3 ∙ alike, λ i. r.4 (alike ∙ i) ∙ same i)
               | inr went ↦
                   let b = below c j g in
-                  elim (went.below m b.0 b.1) [ inl e ↦ absurd (apart e) | inr gone ↦ absurd (gone k a has) ]
+                  elim (went.below m b.0 b.1) [ inl e ↦ absurd (apart e) | inr gone ↦ absurd (gone k a had has) ]
             ]
 
-    settled_stays : (m : N) (k : Kind F P) (a : A) → Keeps after m k a → (place_of world m ≡ place_of world s → ⊥) → (r : Result (List (Placed N F P)) F) → world.expand m a ≡ r → IsSettled world before m k r → IsSettled world after m k r
-    settled_stays m k a has apart (Ok children) e h =
-        (h.0, children_stay m k a children has apart (λ c j g. let u = steps.child_of world laws m a children e c j g in (u.0, u.5)) h.1)
-    settled_stays m k a has apart (Err fault) e h = (h.0, children_stay m k a [] has apart (λ c j g. absurd g) h.1)
+    settled_stays : (m : N) (k : Kind F P) (a : A) → Keeps before m k a → Keeps after m k a → (place_of world m ≡ place_of world s → ⊥) → (r : Result (List (Placed N F P)) F) → world.expand m a ≡ r → IsSettled world before m k r → IsSettled world after m k r
+    settled_stays m k a had has apart (Ok children) e h =
+        (h.0, children_stay m k a children had has apart (λ c j g. let u = steps.child_of world laws m a children e c j g in (u.0, u.5)) h.1)
+    settled_stays m k a had has apart (Err fault) e h = (h.0, children_stay m k a [] had has apart (λ c j g. absurd g) h.1)
 
     pub still_right : AllRight world before queued → AllRight world after requeued
     still_right all n k a h y = elim (where_from n k a h) [
@@ -151,7 +152,7 @@ module _ {N A F P : Type 0} (world : World N A F P) (laws : IsWorld world) where
           | inl z ↦ inl (turn.queued_still n k a h (λ e. w.0 (ap (place_of world) e)) z)
           | inr z ↦ elim (either (requeued n)) [
             | inl t ↦ inl t
-            | inr f ↦ inr (z.0 ∙ asks_same n before after (same_to n f) (same_from n f), settled_stays n k a h w.0 (world.expand n a) refl z.1)
+            | inr f ↦ inr (z.0 ∙ asks_same n before after (same_to n f) (same_from n f), settled_stays n k a old h w.0 (world.expand n a) refl z.1)
           ]
         ]
         | inr came ↦ inl (came.1 y)

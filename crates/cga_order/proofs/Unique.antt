@@ -10,8 +10,9 @@ use Rattle.cga_order.specs.Run.{outcome, start, IsStep, Reached}
 use Rattle.cga_order.specs.Consistent.{exists_at, waits_at, outcome_at, Stands, IsBefore, HasOutcome, IsConsistent, AllBefore, NothingWaits, SameMembers, HasMembers, HasMade}
 use Rattle.cga_order.proofs.Order.{stamps_total}
 use Rattle.cga_order.proofs.Chains.{birth-stamp, birth-child}
-use Rattle.cga_order.proofs.Members.{either, waits, place_dec, Has-start, start-Has, Among-shapes_where, Has-from_shapes_where}
+use Rattle.cga_order.proofs.Members.{waits, place_dec, Has-start, start-Has, Among-shapes_where, Has-from_shapes_where}
 use Rattle.cga_order.proofs.Steps as steps
+use Rattle.cga_order.proofs.Maxima.{either}
 use Rattle.cga_order.proofs.Maxima as stamps
 
 module _ {N A F P : Type 0} (world : World N A F P) (laws : IsWorld world) (limit : Option (List Rank)) (L : List (Placed N F P)) (con : IsConsistent world limit L) where

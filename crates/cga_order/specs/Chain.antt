@@ -14,7 +14,11 @@ IsWhole chain = length chain.priorities ≡ length chain.path + 1
 
 -- the rank of the shape at this depth of the chain
 abbrev pub rank_at : Chain → ℕ → Rank
-rank_at chain depth = record { priority = slice_index chain.priorities depth; lot = chain.lot; path = take depth chain.path }
+rank_at chain depth = record {
+  priority = slice_index chain.priorities depth;
+  lot = chain.lot;
+  path = take depth chain.path;
+}
 
 -- the ranks of so many shapes from the root down
 abbrev pub ranks_down : Chain → ℕ → List Rank

@@ -60,15 +60,18 @@ world_of mode chain children = record {
   expand = λ n answers. Ok (children n);
 }
 
+abbrev pub all_done : List (Placed Four ℕ ℕ)
+all_done = done a ∷ done b ∷ done c ∷ done d ∷ []
+
 -- in this world the shapes are taken in this order, the last first, and all are done then
 abbrev pub Takes : World Four ℕ ℕ ℕ → List Four → List (Placed Four ℕ ℕ) → Type 0
 Takes world taken list = IsWorld world × Reached world taken list
 
 -- a, c, d, b: d waits for c, and b comes last by its priority
 abbrev pub FourShapesInOrder : Type 0
-FourShapesInOrder = Takes (world_of Breadth chain_under_c children_under_c) (b ∷ d ∷ c ∷ a ∷ []) (done a ∷ done b ∷ done c ∷ done d ∷ [])
+FourShapesInOrder = Takes (world_of Breadth chain_under_c children_under_c) (b ∷ d ∷ c ∷ a ∷ []) all_done
 
 -- by breadth a, b, c, d, and by depth a, b, d, c
 pub record TwoModes : Type 0 where
-  pub breadth : Takes (world_of Breadth chain_under_b children_under_b) (d ∷ c ∷ b ∷ a ∷ []) (done a ∷ done b ∷ done c ∷ done d ∷ [])
-  pub depth : Takes (world_of Depth chain_under_b children_under_b) (c ∷ d ∷ b ∷ a ∷ []) (done a ∷ done b ∷ done c ∷ done d ∷ [])
+  pub breadth : Takes (world_of Breadth chain_under_b children_under_b) (d ∷ c ∷ b ∷ a ∷ []) all_done
+  pub depth : Takes (world_of Depth chain_under_b children_under_b) (c ∷ d ∷ b ∷ a ∷ []) all_done

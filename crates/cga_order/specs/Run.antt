@@ -17,7 +17,8 @@ module _ {N A F P : Type 0} (world : World N A F P) where
 
   -- the member at the place of s gets this kind
   abbrev pub become : N → Kind F P → Placed N F P → Placed N F P
-  become s kind m = if same_place (world.chain m.shape) (world.chain s) then record { shape = m.shape; kind = kind } else m
+  become s kind m =
+      if same_place (world.chain m.shape) (world.chain s) then record { shape = m.shape; kind = kind } else m
 
   -- a configuration after the expansion of s
   abbrev pub told : List (Placed N F P) → N → Result (List (Placed N F P)) F → List (Placed N F P)
@@ -26,23 +27,28 @@ module _ {N A F P : Type 0} (world : World N A F P) where
 
   -- what s gives where it sees the members of a configuration
   abbrev pub outcome : List (Placed N F P) → N → Result (List (Placed N F P)) F
-  outcome list s = world.expand s (world.answers s (shapes_where (λ n kind. true) list) (shapes_where (λ n kind. is_waiting kind) list))
+  outcome list s =
+      world.expand s
+      (world.answers s (shapes_where (λ n kind. true) list) (shapes_where (λ n kind. is_waiting kind) list))
 
   -- one step, which takes s
   pub record IsStep (before after : List (Placed N F P)) (s : N) : Type 0 where
     pub waits : Has before s Waiting
-    pub least : (w : N) → Has before w Waiting → rank_cmp world.mode (rank (world.chain w)) (rank (world.chain s)) ≢ Less
+    pub least : (w : N) → Has before w Waiting
+        → rank_cmp world.mode (rank (world.chain w)) (rank (world.chain s)) ≢ Less
     pub told : after ≡ told before s (outcome before s)
 
   -- the configuration that is reached by the steps that took these shapes, the last first
   abbrev pub Reached : List N → List (Placed N F P) → Type 0
   Reached [] list = list ≡ start
-  Reached (s ∷ taken) list = (before : List (Placed N F P)) × Reached taken before × IsStep before list s
+  Reached (s ∷ taken) list =
+      (before : List (Placed N F P)) × Reached taken before × IsStep before list s
 
   -- each of the stamps is greater than those of all shapes that were taken before
   abbrev pub AllEarlier : N → List N → Type 0
   AllEarlier s [] = Unit {0}
-  AllEarlier s (t ∷ taken) = IsEarlier world (stamp_of world t) (stamp_of world s) × AllEarlier s taken
+  AllEarlier s (t ∷ taken) =
+      IsEarlier world (stamp_of world t) (stamp_of world s) × AllEarlier s taken
 
   abbrev pub Rises : List N → Type 0
   Rises [] = Unit {0}
@@ -50,10 +56,13 @@ module _ {N A F P : Type 0} (world : World N A F P) where
 
   -- two children of one shape, the first of a smaller index
   abbrev pub AreSiblings : N → N → Type 0
-  AreSiblings n m = (parent : N) × (i : ℕ) × (j : ℕ) × IsChild (world.chain parent) i (world.chain n) × IsChild (world.chain parent) j (world.chain m) × (i < j)
+  AreSiblings n m =
+      (parent : N) × (i : ℕ) × (j : ℕ) × IsChild (world.chain parent) i (world.chain n)
+      × IsChild (world.chain parent) j (world.chain m) × (i < j)
 
   -- what stands after the roots stands by its parent's stamp, and then by its index
   abbrev pub StandsByBirth : List (Placed N F P) → Type 0
   StandsByBirth list =
-      (i j : ℕ) (m n : Placed N F P) → slice_get list i ≡ Some m → slice_get list j ≡ Some n → i < j → length world.roots ≤ j
+      (i j : ℕ) (m n : Placed N F P) → slice_get list i ≡ Some m → slice_get list j ≡ Some n
+      → i < j → length world.roots ≤ j
       → IsEarlier world (birth_of world m.shape) (birth_of world n.shape) ⊎ AreSiblings m.shape n.shape

@@ -11,7 +11,8 @@ use Rattle.cga_order.specs.Chain.{Chain, ranks, ranks_above}
 -- the elements that are greater than every later one
 abbrev pub maxima : {R : Type 0} → (R → R → Ordering) → List R → List R
 maxima cmp [] = []
-maxima cmp (r ∷ rs) = if list_all (λ later. is_lt (cmp later r)) rs then r ∷ maxima cmp rs else maxima cmp rs
+maxima cmp (r ∷ rs) =
+    if list_all (λ later. is_lt (cmp later r)) rs then r ∷ maxima cmp rs else maxima cmp rs
 
 -- the ranks on the path that are greater than every later one, the shape's own the last
 abbrev pub stamp : Mode → Chain → List Rank

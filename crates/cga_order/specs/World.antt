@@ -1,4 +1,5 @@
--- What a derivation is run over: any shapes that have chains, see one another, and expand by what they see.
+-- What a derivation is run over: any shapes that have chains, see one another, and expand by what
+-- they see.
 use Rattle.std.specs.Prelude.{◌≡◌, ◌≢◌, ℕ, List, [], ◌∷◌, Bool, true, false, ◌⊎◌, Some, Result, Ok, slice_get, if◌then◌else◌}
 use Rattle.std.specs.declared.cmp.Ordering.TheVariants.{Less}
 use Rattle.cga_word.specs.declared.mode.Mode.{Mode}
@@ -6,7 +7,8 @@ use Rattle.cga_order.specs.Rank.{Rank}
 use Rattle.cga_order.specs.Chain.{Chain, IsWhole, IsChild}
 use Rattle.cga_order.specs.Stamp.{stamp, birth, stamps_cmp}
 
--- the state of a member: it waits for its expansion, had it or met a fault F, or is an instance that draws P
+-- the state of a member: it waits for its expansion, is done or met a fault F, or is an instance
+-- that draws P
 pub data Kind (F P : Type 0) : Type 0 where
   Waiting : Kind F P
   Done : Kind F P
@@ -54,7 +56,8 @@ Among n (m ∷ ms) = (m ≡ n) ⊎ Among n ms
 -- the shapes of the members that pass a test
 abbrev pub shapes_where : {N F P : Type 0} → (N → Kind F P → Bool) → List (Placed N F P) → List N
 shapes_where test [] = []
-shapes_where test (m ∷ ms) = if test m.shape m.kind then m.shape ∷ shapes_where test ms else shapes_where test ms
+shapes_where test (m ∷ ms) =
+    if test m.shape m.kind then m.shape ∷ shapes_where test ms else shapes_where test ms
 
 module _ {N A F P : Type 0} (world : World N A F P) where
   -- a shape's lot and path
@@ -73,16 +76,26 @@ module _ {N A F P : Type 0} (world : World N A F P) where
 
   -- of what n sees, both lists have the same
   abbrev pub SameSeen : N → List N → List N → Type 0
-  SameSeen n xs ys = (m : N) → world.sees n m ≡ true → (Among m xs → Among m ys) × (Among m ys → Among m xs)
+  SameSeen n xs ys =
+      (m : N) → world.sees n m ≡ true → (Among m xs → Among m ys) × (Among m ys → Among m xs)
+
+  -- a child waits, or is an instance
+  abbrev pub IsNew : Kind F P → Type 0
+  IsNew kind = (kind ≡ Waiting) ⊎ ((p : P) × (kind ≡ Instance p))
 
   pub record IsWorld : Type 0 where
     pub whole : (n : N) → IsWhole (world.chain n)
     pub root : (n : N) → Among n world.roots → (world.chain n).path ≡ []
     -- no two roots have one place
-    pub roots_apart : (n m : N) → Among n world.roots → Among m world.roots → place_of n ≡ place_of m → n ≡ m
-    -- child i of a shape stands at i below it, and waits or is an instance
-    pub child : (s : N) (a : A) (children : List (Placed N F P)) → world.expand s a ≡ Ok children → (i : ℕ) (c : Placed N F P) → slice_get children i ≡ Some c → IsChild (world.chain s) i (world.chain c.shape) × ((c.kind ≡ Waiting) ⊎ ((p : P) × (c.kind ≡ Instance p)))
+    pub roots_apart : (n m : N) → Among n world.roots → Among m world.roots
+        → place_of n ≡ place_of m → n ≡ m
+    -- child i of a shape stands at i below it
+    pub child : (s : N) (a : A) (children : List (Placed N F P)) → world.expand s a ≡ Ok children
+        → (i : ℕ) (c : Placed N F P) → slice_get children i ≡ Some c
+        → IsChild (world.chain s) i (world.chain c.shape) × IsNew c.kind
     -- nothing that stands where a shape stands is seen by it
     pub unseen : (n m : N) → world.sees n m ≡ true → place_of m ≢ place_of n
     -- answers depend only on which of the shapes that are seen exist, and wait
-    pub local : (n : N) (existing waiting existing' waiting' : List N) → SameSeen n existing existing' → SameSeen n waiting waiting' → world.answers n existing waiting ≡ world.answers n existing' waiting'
+    pub local : (n : N) (existing waiting existing' waiting' : List N)
+        → SameSeen n existing existing' → SameSeen n waiting waiting'
+        → world.answers n existing waiting ≡ world.answers n existing' waiting'

@@ -2,14 +2,17 @@
 //! law, which a caller's proof can cite.
 
 ghost use Rattle.cga_order.specs.FourShapes.{FourShapesInOrder, TwoModes};
-ghost use Rattle.cga_order.specs.Laws.{AreOrders, ChildrenComeLater, LeastRankIsLeastStamp, RunsRise, MembersStandByBirth, ConsistentIsDerived, ConsistentSoFar, EachSeesWhatWasMade, DerivedIsConsistent, TurnsKeepRight, RightIsConsistent};
+ghost use Rattle.cga_order.specs.Laws.{AreOrders, ChildrenComeLater, LeastRankIsLeastStamp, RunsRise};
+ghost use Rattle.cga_order.specs.Laws.{MembersStandByBirth, StepsLeaveMembers, EachSeesWhatWasMade};
+ghost use Rattle.cga_order.specs.Laws.{DerivedIsConsistent, ConsistentIsDerived, ConsistentSoFar};
+ghost use Rattle.cga_order.specs.Laws.{TurnsKeepRight, RightIsConsistent};
 
 /// Both comparisons are total orders, and only shapes of one lot and one path compare as equal.
 pub fn orders()
     ensures { AreOrders }
 {}
 
-/// A child's stamp is greater than its parent's.
+/// A child is made at its parent's stamp and has a greater one; a root is there at every stamp.
 pub fn children_come_later()
     ensures { ChildrenComeLater }
 {}
@@ -28,6 +31,11 @@ pub fn runs_rise<N, A, F, P>()
 /// indices.
 pub fn members_stand_by_birth<N, A, F, P>()
     ensures { MembersStandByBirth N A F P }
+{}
+
+/// A derivation has at least as many members as it took steps.
+pub fn steps_leave_members<N, A, F, P>()
+    ensures { StepsLeaveMembers N A F P }
 {}
 
 /// A list that is consistent has the members of the derivation, whatever order it stands in: what

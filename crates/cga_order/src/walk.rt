@@ -63,7 +63,8 @@ fn common_length(xs: &[u16], ys: &[u16]) -> usize
 /// On one chain a rank is greater by its priority, and among equal ones by its depth.
 fn top(chain: &Chain, depth: usize, below: Option<usize>) -> Option<usize>
     requires { IsWithin (chain_of chain.now) below }
-    ensures { (mode : Mode) → IsWhole (chain_of chain.now) → IsTop mode (chain_of chain.now) (depth + 1) below
+    ensures { (mode : Mode) → IsWhole (chain_of chain.now)
+        → IsTop mode (chain_of chain.now) (depth + 1) below
         → IsTop mode (chain_of chain.now) depth result }
 {
     if chain.priorities.len() <= depth {
