@@ -1,0 +1,12 @@
+// Exact fractions, and the small types that every crate above shares: lists and boxes that contracts see as
+// what they hold, the answer for want of memory, and counters of steps. It knows nothing of shapes or scopes.
+// The one thing that callers get wrong: a result that leaves the range is refused, and never rounded.
+#![tactic(auto)]
+
+mod boxed;
+mod list;
+mod memory;
+
+pub use boxed::Boxed;
+pub use list::List;
+pub use memory::NoMemory;
