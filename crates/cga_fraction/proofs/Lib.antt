@@ -1,0 +1,5 @@
+pub mod Gcds
+pub mod Lowest
+pub mod Order
+pub mod Quotients
+pub mod Texts

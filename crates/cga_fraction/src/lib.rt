@@ -4,9 +4,16 @@
 #![tactic(auto)]
 
 mod boxed;
+mod fraction;
+mod gcd;
 mod list;
 mod memory;
+mod overflow;
+mod steps;
 
 pub use boxed::Boxed;
+pub use fraction::Fraction;
 pub use list::List;
 pub use memory::NoMemory;
+pub use overflow::{DivFault, Overflow};
+pub use steps::Steps;

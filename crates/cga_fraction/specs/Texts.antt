@@ -1,0 +1,32 @@
+-- The texts of rational numbers.
+use Rattle.std.specs.Prelude.{ℕ, zero, suc, ◌+◌, ◌*◌, ◌/◌, ◌%◌, ◌^◌, ℤ, pos, negsuc, unsigned_abs, List, [], ◌∷◌, ◌++◌, decimal}
+use Rattle.cga_fraction.specs.Rat.{Rat, den}
+use Rattle.cga_fraction.specs.Arithmetic.{with_sign}
+
+-- the whole number nearest to a * 10 ^ places, and of two equally near ones the one farther from zero
+unfoldable pub round_of : Rat → ℕ → ℤ
+round_of a places = with_sign a.num ((2 * (unsigned_abs a.num * 10 ^ places) + den a) / (2 * den a))
+
+-- a minus before a number below 0
+abbrev pub minus_of : ℤ → List ℕ
+minus_of (pos n) = []
+minus_of (negsuc n) = 45 ∷ []
+
+-- the last so many digits of n, with leading zeros
+unfoldable pub padded : ℕ → ℕ → List ℕ
+padded zero n = []
+padded (suc places) n = (48 + n / 10 ^ places % 10) ∷ padded places n
+
+-- a point and so many digits; nothing where there are none
+abbrev pub after_point : ℕ → ℕ → List ℕ
+after_point zero n = []
+after_point (suc places) n = 46 ∷ padded (suc places) n
+
+-- the digits of n with a point before the last so many, and at least one before it
+unfoldable pub pointed : ℕ → ℕ → List ℕ
+pointed places n = decimal (n / 10 ^ places) ++ after_point places n
+
+-- the decimal text of a with so many places
+unfoldable pub decimal_text_of : Rat → ℕ → List ℕ
+decimal_text_of a places =
+    let z = round_of a places in minus_of z ++ pointed places (unsigned_abs z)

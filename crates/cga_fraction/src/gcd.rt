@@ -1,0 +1,33 @@
+// The greatest common divisor.
+ghost use Rattle.std.specs.Prelude.{◌≡◌};
+ghost use Rattle.cga_fraction.specs.Gcd.{gcd};
+
+// Most parts fit in 64 bits, where a remainder is cheap.
+fn narrow_divisor(a: u64, b: u64) -> u64
+    ensures { result ≡ gcd a b }
+{
+    let mut x = a;
+    let mut y = b;
+    while y != 0 {
+        let rest = x % y;
+        x = y;
+        y = rest;
+    }
+    x
+}
+
+pub(crate) fn common_divisor(a: u128, b: u128) -> u128
+    ensures { result ≡ gcd a b }
+{
+    let mut x = a;
+    let mut y = b;
+    while y > u64::MAX as u128 {
+        let rest = x % y;
+        x = y;
+        y = rest;
+    }
+    if y == 0 {
+        return x;
+    }
+    narrow_divisor(y as u64, (x % y) as u64) as u128
+}
