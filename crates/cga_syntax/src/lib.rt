@@ -12,6 +12,8 @@ mod copy;
 mod expr;
 mod grammar;
 mod item;
+mod keyword;
+mod lexeme;
 mod rule;
 
 pub use check_fault::CheckFault;
@@ -19,4 +21,6 @@ pub use cond::{Cond, Conj, Relation, Test};
 pub use expr::{Added, Expr, Factor, Primary, Scaled, Term};
 pub use grammar::{Attribute, Entry, Grammar, Group};
 pub use item::{Body, Item, Size};
+pub use keyword::Keyword;
+pub use lexeme::Lexeme;
 pub use rule::{Alternative, Rule};
