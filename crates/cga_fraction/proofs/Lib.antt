@@ -1,3 +1,5 @@
+pub mod Decimals
+pub mod Digits
 pub mod Gcds
 pub mod Lowest
 pub mod Order

@@ -54,7 +54,7 @@ fn minus(numerator: i64, magnitude: u128) -> &'static [u8]
 }
 
 #[tactic(auto, using(crate::proofs::Texts::ten_positive))]
-fn power_of_ten(exponent: u8) -> u128
+pub(super) fn power_of_ten(exponent: u8) -> u128
     requires { exponent ≤ 17 }
     ensures value { result ≡ 10 ^ exponent }
     ensures positive { 0 < result }
