@@ -1,11 +1,11 @@
 -- A turn of the lexer's loop.
-use Rattle.std.proofs.Common.{◌≡◌, ℕ, zero, suc, ◌+◌, ◌-◌, ◌<◌, ◌≤◌, List, [], ◌∷◌, ◌++◌, length, length-drop, take, drop, get_or, append_assoc, add_assoc, add-zero, arith, ap, sym, ◌∙◌, refl, Result, Ok, Err}
-use Rattle.std.proofs.lemmas.List.{at_drop_more, at_drop_all, drop-drop, take_all}
+use Rattle.std.proofs.Common.{◌≡◌, ℕ, zero, suc, ◌+◌, ◌-◌, ◌<◌, ◌≤◌, List, [], ◌∷◌, ◌++◌, length, length-drop, drop, get_or, append_assoc, arith, ap, sym, ◌∙◌, refl, Result, Ok, Err}
+use Rattle.std.proofs.lemmas.List.{at_drop_more, at_drop_all, drop-drop}
 use Rattle.cga_lexer.specs.declared.token.Token.{Token}
 use Rattle.cga_lexer.specs.declared.fault.LexFault.{LexFault}
 use Rattle.cga_lexer.specs.declared.front.Front.{Front}
 use Rattle.cga_lexer.specs.declared.token.TokenKind.{TokenKind}
-use Rattle.cga_lexer.specs.declared.front.Front.TheVariants.{Blank, Token as Found}
+use Rattle.cga_lexer.specs.declared.front.Front.TheVariants.{Token as Found}
 use Rattle.cga_lexer.specs.Line.{lex, from_front, behind, with_found, Rise}
 use Rattle.cga_lexer.specs.Front.{front}
 

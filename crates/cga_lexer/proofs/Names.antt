@@ -1,5 +1,5 @@
 -- The bytes of a word are a name, where they are few enough.
-use Rattle.std.proofs.Common.{◌≡◌, ℕ, zero, suc, ◌+◌, ◌<◌, ◌≤◌, ◌&&◌, ◌||◌, Bool, true, false, not, nat_lt, nat_le, nat_eq, List, [], ◌∷◌, length, take, drop, IsTrue, Option, Some, None, arith, ap, sym, ◌∙◌, refl, if◌then◌else◌, length-take}
+use Rattle.std.proofs.Common.{◌≡◌, ℕ, suc, ◌<◌, ◌&&◌, ◌||◌, Bool, true, false, nat_lt, nat_eq, List, [], ◌∷◌, length, take, drop, Some, None, arith, ap, sym, ◌∙◌, refl, if◌then◌else◌, length-take}
 use Rattle.std.specs.List.{list_all}
 use Rattle.std.specs.Char.{is_ascii_digit}
 use Rattle.std.specs.Int.{is_in_range}
@@ -8,7 +8,6 @@ use Rattle.cga_lexer.specs.Bytes.{run, begins}
 use Rattle.cga_lexer.specs.Front.{word}
 use Rattle.cga_lexer.specs.declared.token.TokenKind.TheVariants as kind
 use Rattle.cga_lexer.specs.declared.front.Front.TheVariants.{Token, LongName}
-use Rattle.cga_lexer.specs.declared.front.Front.{Front}
 use Rattle.std.proofs.lemmas.Bool.Decides.{nat_tests}
 use Rattle.cga_lexer.proofs.Running.{run_within}
 

@@ -1,14 +1,13 @@
 -- What stands at the front of a text.
-use Rattle.std.specs.Prelude.{ℕ, zero, suc, ◌+◌, ◌==◌, ◌||◌, ◌&&◌, Bool, true, false, not, List, [], ◌∷◌, length, take, drop, Option, Some, None, Result, Ok, Err, if◌then◌else◌, nat_lt, ◌<◌, ◌≤◌}
+use Rattle.std.specs.Prelude.{ℕ, zero, suc, ◌+◌, ◌==◌, ◌||◌, ◌&&◌, Bool, false, not, List, [], ◌∷◌, length, take, drop, Option, Some, None, Result, Ok, Err, if◌then◌else◌, nat_lt, ◌<◌, ◌≤◌}
 use Rattle.cga_word.specs.Name.{begins_name, continues_name}
 use Rattle.cga_lexer.specs.Bytes.{run, begins}
 use Rattle.std.specs.Char.{is_ascii_digit}
-use Rattle.cga_fraction.specs.Decimal.{decimal_of}
+use Rattle.cga_fraction.specs.Decimals.{decimal_of}
 use Rattle.cga_fraction.specs.Rat.{Rat}
-use Rattle.cga_fraction.specs.declared.fraction.DecimalFault.{DecimalFault}
+use Rattle.cga_fraction.specs.declared.fraction.decimal.DecimalFault.{DecimalFault}
 use Rattle.cga_lexer.specs.declared.sign.Sign.{Sign}
 use Rattle.cga_lexer.specs.declared.sign.Sign.TheVariants as sign
-use Rattle.cga_lexer.specs.declared.token.TokenKind.{TokenKind}
 use Rattle.cga_lexer.specs.declared.token.TokenKind.TheVariants as kind
 use Rattle.cga_lexer.specs.declared.front.Front.{Front}
 use Rattle.cga_lexer.specs.declared.front.Front.TheVariants.{End, Blank, Token, BadByte, BadNumber, LongName, OpenText}

@@ -1,8 +1,8 @@
-use Rattle.std.proofs.Common.{◌≡◌, ◌+◌, ◌-◌, sym, arith, ◌∙◌, ap, drop, length, length-drop, Ok, Err, List, [], ◌∷◌, ◌++◌, subst, ℕ, ◌<◌, ◌≤◌}
+use Rattle.std.proofs.Common.{◌+◌, sym, arith, ◌∙◌, ap, drop, length, [], ◌∷◌, ◌++◌, subst, ◌<◌, ◌≤◌}
 use Rattle.cga_lexer.specs.Line.{lex, with_found, Rise}
 use Rattle.cga_lexer.specs.declared.token.Token.{Token as Found}
 use Rattle.cga_lexer.specs.Front.{front}
-use Rattle.cga_lexer.specs.declared.front.Front.TheVariants.{End, Blank, Token, BadByte, BadNumber, LongName, OpenText}
+use Rattle.cga_lexer.specs.declared.front.Front.TheVariants.{End, Blank, BadByte, BadNumber, LongName, OpenText}
 use Rattle.cga_lexer.proofs.Lexing.{seen, token_seen, all_found, ended, rise_further, rise_behind}
 use Rattle.cga_lexer.proofs.tokens.Goals as goal
 

@@ -1,7 +1,7 @@
-use Rattle.std.proofs.Common.{◌≡◌, ◌<◌, true, false, List, ℕ, ap, sym, ◌∙◌, take, length, arith, subst}
+use Rattle.std.proofs.Common.{◌<◌, List, ℕ, ap, sym, ◌∙◌, take, length, arith, subst}
 use Rattle.std.specs.List.{list_all}
 use Rattle.cga_word.specs.Name.{begins_name, continues_name}
-use Rattle.cga_lexer.specs.Bytes.{begins, run}
+use Rattle.cga_lexer.specs.Bytes.{begins}
 use Rattle.cga_lexer.proofs.Names.{begun, all_run}
 use Rattle.std.proofs.lemmas.Bool.Decides.{nat_tests}
 use Rattle.cga_lexer.proofs.front.quoted.Goals as goal
