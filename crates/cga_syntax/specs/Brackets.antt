@@ -39,3 +39,6 @@ walk_on f (Some n) = f n
 unfoldable pub walk : ℕ → List Lexeme → Option ℕ
 walk n [] = Some n
 walk n (l ∷ ls) = walk_on (λ m. walk m ls) (counted (bracket_of l) n)
+
+abbrev pub IsOpening : Lexeme → Type 0
+IsOpening l = bracket_of l ≡ opens

@@ -1,5 +1,5 @@
 -- What a tree is written as.
-use Rattle.std.specs.Prelude.{◌≡◌, ℕ, ◌+◌, ◌⊎◌, ◌&&◌, List, [], ◌∷◌, ◌++◌, map, Bool, true, false, if◌then◌else◌, nat_le, pos, Option, Some, None, codes}
+use Rattle.std.specs.Prelude.{◌≡◌, ℕ, ◌+◌, ◌⊎◌, ◌&&◌, List, [], ◌∷◌, ◌++◌, map, Bool, true, false, if◌then◌else◌, length, nat_le, pos, Option, Some, None, codes}
 use Rattle.cga_fraction.specs.Rat.{Rat, of_int}
 use Rattle.cga_lexer.specs.declared.sign.Sign.{Sign}
 use Rattle.cga_lexer.specs.declared.sign.Sign.TheVariants as s
@@ -123,35 +123,28 @@ concat (p ∷ ps) = p ++ concat ps
 
 -- each behind a token
 abbrev pub behind_each : Piece → List Pieces → Pieces
-behind_each p pss = concat (map (λ ps. p ∷ ps) pss)
+behind_each p [] = []
+behind_each p (ps ∷ pss) = p ∷ (ps ++ behind_each p pss)
 
--- one or more, one after the other
-abbrev pub nonempty : List Pieces → Pieces
-nonempty [] = never ∷ []
-nonempty (p ∷ ps) = p ++ concat ps
+-- one or more, one after the other, and what follows them
+abbrev pub nonempty : List Pieces → Pieces → Pieces
+nonempty [] end = never ∷ []
+nonempty (p ∷ ps) end = p ++ (concat ps ++ end)
 
--- one or more, with a token between them
-abbrev pub separated : Piece → List Pieces → Pieces
-separated p [] = never ∷ []
-separated p (ps ∷ pss) = ps ++ behind_each p pss
+-- one or more, with a token between them, and what follows them
+abbrev pub separated : Piece → List Pieces → Pieces → Pieces
+separated p [] end = never ∷ []
+separated p (ps ∷ pss) end = ps ++ (behind_each p pss ++ end)
 
-abbrev pub in_round : Pieces → Pieces
-in_round ps = sign s.LeftRound ∷ (ps ++ (sign s.RightRound ∷ []))
-
-abbrev pub in_square : Pieces → Pieces
-in_square ps = sign s.LeftSquare ∷ (ps ++ (sign s.RightSquare ∷ []))
-
-abbrev pub in_curly : Pieces → Pieces
-in_curly ps = sign s.LeftCurly ∷ (ps ++ (sign s.RightCurly ∷ []))
+-- one or more, each behind a token, and what follows them
+abbrev pub preceded : Piece → List Pieces → Pieces → Pieces
+preceded p [] end = never ∷ []
+preceded p (ps ∷ pss) end = p ∷ (ps ++ (behind_each p pss ++ end))
 
 -- at most four in brackets; nothing where there is none
 abbrev pub arguments : List Pieces → Pieces
 arguments [] = []
-arguments (a ∷ []) = in_round (separated (sign s.Comma) (a ∷ []))
-arguments (a ∷ b ∷ []) = in_round (separated (sign s.Comma) (a ∷ b ∷ []))
-arguments (a ∷ b ∷ c ∷ []) = in_round (separated (sign s.Comma) (a ∷ b ∷ c ∷ []))
-arguments (a ∷ b ∷ c ∷ d ∷ []) = in_round (separated (sign s.Comma) (a ∷ b ∷ c ∷ d ∷ []))
-arguments (a ∷ b ∷ c ∷ d ∷ e ∷ more) = never ∷ []
+arguments (a ∷ more) = if nat_le (length more) 3 then sign s.LeftRound ∷ separated (sign s.Comma) (a ∷ more) (sign s.RightRound ∷ []) else never ∷ []
 
 -- ---- expressions
 
@@ -160,14 +153,17 @@ size_word axis.X = codes "sx"
 size_word axis.Y = codes "sy"
 size_word axis.Z = codes "sz"
 
+abbrev pub grouped : Pieces → Pieces
+grouped ps = sign s.LeftRound ∷ (ps ++ (sign s.RightRound ∷ []))
+
 abbrev pub primary_step : Primary-F Pieces Pieces Pieces Pieces Pieces Pieces → Pieces
 primary_step (primary.Number value) = plain (lexeme.Number value) ∷ []
 primary_step (primary.Named name) = named name ∷ []
 primary_step (primary.ScopeSize a) = keyword k.Scope ∷ sign s.Dot ∷ word (size_word a) ∷ []
-primary_step (primary.Group e) = in_round e
-primary_step (primary.Floor e) = keyword k.Floor ∷ in_round e
-primary_step (primary.Ceil e) = keyword k.Ceil ∷ in_round e
-primary_step (primary.Rand j low high steps) = drawn j ∷ in_round (low ++ (sign s.Comma ∷ (high ++ (sign s.Comma ∷ whole 1 1000000 steps ∷ []))))
+primary_step (primary.Group e) = grouped e
+primary_step (primary.Floor e) = keyword k.Floor ∷ grouped e
+primary_step (primary.Ceil e) = keyword k.Ceil ∷ grouped e
+primary_step (primary.Rand j low high steps) = drawn j ∷ sign s.LeftRound ∷ (low ++ (sign s.Comma ∷ (high ++ (sign s.Comma ∷ whole 1 1000000 steps ∷ sign s.RightRound ∷ []))))
 
 abbrev pub added_step : Added-F Pieces Pieces Pieces Pieces Pieces Pieces → Pieces
 added_step a = sign (if a.minus then s.Minus else s.Plus) ∷ a.term
@@ -225,18 +221,21 @@ relation_sign relation.AtLeast = s.AtLeast
 abbrev pub equality_sign : Bool → Sign
 equality_sign equal = if equal then s.Equal else s.Unequal
 
+abbrev pub squared : Pieces → Pieces
+squared ps = sign s.LeftSquare ∷ (ps ++ (sign s.RightSquare ∷ []))
+
 abbrev pub test_step : Test-F Pieces Pieces Pieces → Pieces
-test_step (test.Group c) = in_square c
-test_step (test.Not c) = keyword k.Not ∷ in_square c
+test_step (test.Group c) = squared c
+test_step (test.Not c) = keyword k.Not ∷ squared c
 test_step (test.Occ t equal state) =
-    keyword k.Scope ∷ sign s.Dot ∷ word (codes "occ") ∷ (in_round (text (target_text t) ∷ []) ++ (sign (equality_sign equal) ∷ text (state_text state) ∷ []))
+    keyword k.Scope ∷ sign s.Dot ∷ word (codes "occ") ∷ sign s.LeftRound ∷ text (target_text t) ∷ sign s.RightRound ∷ sign (equality_sign equal) ∷ text (state_text state) ∷ []
 test_step (test.Compare left r right) = expr_pieces left ++ (sign (relation_sign r) ∷ expr_pieces right)
 
 abbrev pub cond_step : Cond-F Pieces Pieces Pieces → Pieces
-cond_step c = separated (keyword k.Or) c.conjs
+cond_step c = separated (keyword k.Or) c.conjs []
 
 abbrev pub conj_step : Conj-F Pieces Pieces Pieces → Pieces
-conj_step c = separated (keyword k.And) c.tests
+conj_step c = separated (keyword k.And) c.tests []
 
 unfoldable pub cond_pieces : Cond → Pieces
 cond_pieces = fold-Cond Pieces Pieces Pieces test_step cond_step conj_step
@@ -287,27 +286,28 @@ size_pieces (size.Relative factor) = plain (lexeme.Relative factor) ∷ []
 size_pieces (size.Absolute e) = expr_pieces e
 
 abbrev pub three : Pieces → Pieces → Pieces → Pieces
-three x y z = in_round (x ++ (sign s.Comma ∷ (y ++ (sign s.Comma ∷ z))))
+three x y z = sign s.LeftRound ∷ (x ++ (sign s.Comma ∷ (y ++ (sign s.Comma ∷ (z ++ (sign s.RightRound ∷ []))))))
 
 -- an empty body is NIL
 abbrev pub body_of : List Pieces → Pieces
 body_of [] = keyword k.Nil ∷ []
 body_of (i ∷ is) = i ++ concat is
 
--- one or more, each behind a comma
-abbrev pub further : List Pieces → Pieces
-further [] = never ∷ []
-further (p ∷ ps) = behind_each (sign s.Comma) (p ∷ ps)
+abbrev pub in_curly : Pieces → Pieces
+in_curly ps = sign s.LeftCurly ∷ (ps ++ (sign s.RightCurly ∷ []))
 
 abbrev pub item_step : Item-F Pieces Pieces → Pieces
 item_step (item.Move x y z) = keyword k.T ∷ three (expr_pieces x) (expr_pieces y) (expr_pieces z)
 item_step (item.Resize x y z) = keyword k.S ∷ three (size_pieces x) (size_pieces y) (size_pieces z)
-item_step (item.Rotate a by) = keyword (turn_keyword a) ∷ in_round (turned by ∷ [])
-item_step (item.Scoped items) = in_square (nonempty items)
-item_step (item.Solid p) = keyword k.I ∷ in_round (text (solid_text p) ∷ [])
-item_step (item.Subdiv a sizes bodies) = keyword k.Subdiv ∷ (in_round (text (axis_text a) ∷ further (map size_pieces sizes)) ++ in_curly (separated (sign s.Bar) bodies))
-item_step (item.Repeat a length body) = keyword k.Repeat ∷ (in_round (text (axis_text a) ∷ sign s.Comma ∷ expr_pieces length) ++ in_curly body)
-item_step (item.Comp sel body) = keyword k.Comp ∷ (in_round (selector_pieces sel) ++ in_curly body)
+item_step (item.Rotate a by) = keyword (turn_keyword a) ∷ sign s.LeftRound ∷ turned by ∷ sign s.RightRound ∷ []
+item_step (item.Scoped items) = sign s.LeftSquare ∷ nonempty items (sign s.RightSquare ∷ [])
+item_step (item.Solid p) = keyword k.I ∷ sign s.LeftRound ∷ text (solid_text p) ∷ sign s.RightRound ∷ []
+item_step (item.Subdiv a sizes bodies) =
+    keyword k.Subdiv ∷ sign s.LeftRound ∷ text (axis_text a)
+    ∷ preceded (sign s.Comma) (map size_pieces sizes) (sign s.RightRound ∷ sign s.LeftCurly ∷ separated (sign s.Bar) bodies (sign s.RightCurly ∷ []))
+item_step (item.Repeat a length body) =
+    keyword k.Repeat ∷ sign s.LeftRound ∷ text (axis_text a) ∷ sign s.Comma ∷ (expr_pieces length ++ (sign s.RightRound ∷ in_curly body))
+item_step (item.Comp sel body) = keyword k.Comp ∷ sign s.LeftRound ∷ (selector_pieces sel ++ (sign s.RightRound ∷ in_curly body))
 item_step (item.Child symbol args) = named symbol ∷ arguments (map expr_pieces args)
 
 abbrev pub body_step : Body-F Pieces Pieces → Pieces
@@ -332,4 +332,4 @@ condition_pieces (Some c) = sign s.Colon ∷ cond_pieces c
 unfoldable pub rule_pieces : Rule → Pieces
 rule_pieces r =
     whole 1 999999 r.id ∷ token none_before (lexeme.Sign s.Colon) ∷ named r.symbol
-    ∷ (arguments (map (λ p. named p ∷ []) r.params) ++ (condition_pieces r.cond ++ nonempty (map alternative_pieces r.alternatives)))
+    ∷ (arguments (map (λ p. named p ∷ []) r.params) ++ (condition_pieces r.cond ++ nonempty (map alternative_pieces r.alternatives) []))

@@ -2,6 +2,7 @@ use crate::copy::rule::{copy_entries, copy_slice};
 use crate::rule::Rule;
 use cga_fraction::{Fraction, List, NoMemory};
 use cga_word::Name;
+use std::alloc::Global;
 
 /// A named number that rules may use.
 #[derive(Clone, Copy, Debug)]
@@ -36,10 +37,9 @@ impl Grammar {
     ghost use Rattle.std.specs.Prelude.{◌≡◌, IfOk};
 
     /// An equal grammar.
-    pub fn copy(&self) -> Result<Grammar, NoMemory>
+    pub fn copy(&self, alloc: Global) -> Result<Grammar, NoMemory>
         ensures { IfOk result (λ copy. copy ≡ self.now) }
     {
-        let alloc = self.attributes.allocator();
         let rules = copy_entries(alloc, self.rules.as_slice())?;
         let attributes = copy_slice(alloc, self.attributes.as_slice())?;
         Ok(Grammar { attributes, rules })

@@ -15,6 +15,8 @@ mod item;
 mod keyword;
 mod lexeme;
 mod rule;
+#[cfg(test)]
+mod tests;
 
 pub use check_fault::CheckFault;
 pub use cond::{Cond, Conj, Relation, Test};

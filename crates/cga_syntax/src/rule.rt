@@ -3,6 +3,7 @@ use crate::copy::rule::copy_rule;
 use crate::item::Item;
 use cga_fraction::{Fraction, List, NoMemory};
 use cga_word::Name;
+use std::alloc::Global;
 
 /// A rule: the shapes of a symbol, where the condition holds, are replaced by an alternative.
 #[derive(Debug, Drop)]
@@ -25,9 +26,9 @@ impl Rule {
     ghost use Rattle.std.specs.Prelude.{◌≡◌, IfOk};
 
     /// An equal rule.
-    pub fn copy(&self) -> Result<Rule, NoMemory>
+    pub fn copy(&self, alloc: Global) -> Result<Rule, NoMemory>
         ensures { IfOk result (λ copy. copy ≡ self.now) }
     {
-        copy_rule(self.params.allocator(), self)
+        copy_rule(alloc, self)
     }
 }
