@@ -128,23 +128,27 @@ behind_each p (ps ∷ pss) = p ∷ (ps ++ behind_each p pss)
 
 -- one or more, one after the other, and what follows them
 abbrev pub nonempty : List Pieces → Pieces → Pieces
-nonempty [] end = never ∷ []
+nonempty [] end = never ∷ end
 nonempty (p ∷ ps) end = p ++ (concat ps ++ end)
 
 -- one or more, with a token between them, and what follows them
 abbrev pub separated : Piece → List Pieces → Pieces → Pieces
-separated p [] end = never ∷ []
+separated p [] end = never ∷ end
 separated p (ps ∷ pss) end = ps ++ (behind_each p pss ++ end)
 
 -- one or more, each behind a token, and what follows them
 abbrev pub preceded : Piece → List Pieces → Pieces → Pieces
-preceded p [] end = never ∷ []
+preceded p [] end = never ∷ end
 preceded p (ps ∷ pss) end = p ∷ (ps ++ (behind_each p pss ++ end))
+
+-- at most so many, each behind a token
+abbrev pub at_most : ℕ → Piece → List Pieces → Pieces
+at_most most p pss = if nat_le (length pss) most then behind_each p pss else never ∷ []
 
 -- at most four in brackets; nothing where there is none
 abbrev pub arguments : List Pieces → Pieces
 arguments [] = []
-arguments (a ∷ more) = if nat_le (length more) 3 then sign s.LeftRound ∷ separated (sign s.Comma) (a ∷ more) (sign s.RightRound ∷ []) else never ∷ []
+arguments (a ∷ more) = sign s.LeftRound ∷ (a ++ (at_most 3 (sign s.Comma) more ++ (sign s.RightRound ∷ [])))
 
 -- ---- expressions
 
