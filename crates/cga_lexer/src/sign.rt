@@ -1,0 +1,26 @@
+/// A sign of one or two bytes, in the order in which the language lists them.
+#[derive(Clone, Copy, Debug, PartialEq, Eq)]
+pub enum Sign {
+    LeftRound,
+    RightRound,
+    LeftSquare,
+    RightSquare,
+    LeftCurly,
+    RightCurly,
+    Comma,
+    Colon,
+    Bar,
+    Plus,
+    Minus,
+    Star,
+    Slash,
+    Dot,
+    Assign,
+    Arrow,
+    Equal,
+    Unequal,
+    Less,
+    AtMost,
+    Greater,
+    AtLeast,
+}

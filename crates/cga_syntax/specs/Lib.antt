@@ -1,0 +1,4 @@
+pub mod Lexemes
+pub mod Pieces
+pub mod Spelling
+pub mod Brackets

@@ -1,0 +1,5 @@
+//! Copies of trees, one function for each type.
+pub(crate) mod cond;
+pub(crate) mod expr;
+pub(crate) mod item;
+pub(crate) mod rule;

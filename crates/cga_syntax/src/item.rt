@@ -1,0 +1,50 @@
+use crate::expr::Expr;
+use cga_fraction::{Fraction, List};
+use cga_word::{Axis, Name, Primitive, Selector, Turn};
+
+/// What a split makes of one of its parts. It is `NIL` where it has no items.
+#[cycle(item)]
+#[derive(Debug, Drop)]
+pub struct Body {
+    pub items: List<Item>,
+}
+
+/// A step of a successor. `Move`, `Resize` and `Rotate` are T, S and Rx, Ry, Rz of the paper, and
+/// `Solid` is its I. The items of a `Scoped` leave the scope as it was.
+#[cycle(item)]
+#[derive(Debug, Drop)]
+pub enum Item {
+    Move(Expr, Expr, Expr),
+    Resize(Size, Size, Size),
+    Rotate {
+        axis: Axis,
+        by: Turn,
+    },
+    Scoped(List<Item>),
+    Solid(Primitive),
+    Subdiv {
+        axis: Axis,
+        sizes: List<Size>,
+        bodies: List<Body>,
+    },
+    Repeat {
+        axis: Axis,
+        length: Expr,
+        body: Body,
+    },
+    Comp {
+        selector: Selector,
+        body: Body,
+    },
+    Child {
+        symbol: Name,
+        args: List<Expr>,
+    },
+}
+
+/// A size of a part or of a scope: a factor, as `1r`, or a value.
+#[derive(Debug, Drop)]
+pub enum Size {
+    Relative(Fraction),
+    Absolute(Expr),
+}
