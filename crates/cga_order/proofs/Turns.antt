@@ -6,9 +6,10 @@ use Rattle.cga_order.specs.Chain.{IsChild}
 use Rattle.cga_order.specs.Stamp.{stamps_cmp}
 use Rattle.cga_order.specs.World.{World, IsWorld, Placed, Kind, Done, Has, Among, shapes_where, is_instance, place_of, stamp_of, birth_of, IsEarlier}
 use Rattle.cga_order.specs.Consistent.{exists_at, waits_at, outcome_at, Stands, IsBefore, HasOutcome, IsMade, IsConsistent}
-use Rattle.cga_order.specs.Agenda.{Node, members_of, Keeps, asked, HasChildren, IsSettled, IsRight, AllRight, Came, Remains, IsTurn, IsTree}
+use Rattle.cga_order.specs.Agenda.{Node, members_of, Keeps, asked, HasChildren, IsSettled, IsRight, AllRight, Came, Remains, IsTurn, IsTree, IsNext, QueuesOnly, Worked}
+use Rattle.cga_order.specs.Run.{AllEarlier, Rises}
 use Rattle.cga_order.proofs.Order.{stamps_total}
-use Rattle.cga_order.proofs.Chains.{birth-child, snoc-same}
+use Rattle.cga_order.proofs.Chains.{birth-child, stamp-child, snoc-same}
 use Rattle.cga_order.proofs.Members.{place_dec, Among-shapes_where, Has-from_shapes_where}
 use Rattle.cga_order.proofs.Steps as steps
 use Rattle.cga_order.proofs.Derived as derived
@@ -194,3 +195,45 @@ module _ {N A F P : Type 0} (world : World N A F P) (laws : IsWorld world) where
                 inr (made_of u.0 n u.1 k u.2 w.0 u.3 u.4 w.1 u.6 (world.expand u.0 u.2) (ap (world.expand u.0) (sym z.0)) z.1)
           ];
     }
+
+  -- what is on the agenda comes after each shape that had its turn
+  abbrev Later : List N → Nodes → (N → Bool) → Type 0
+  Later turned nodes queued = (t : N) → Among t turned → (m : N) (k : Kind F P) (a : A) → Keeps nodes m k a → queued m ≡ true → IsEarlier world (stamp_of world t) (stamp_of world m)
+
+  all_earlier : (turned : List N) (s : N) → ((t : N) → Among t turned → IsEarlier world (stamp_of world t) (stamp_of world s)) → AllEarlier world s turned
+  all_earlier [] s h = tt
+  all_earlier (t ∷ turned) s h = (h t (inl refl), all_earlier turned s (λ u i. h u (inr i)))
+
+  module _ (start : Nodes) (queued : N → Bool) where
+    after-turn : (before nodes : Nodes) (s : N) (then now : N → Bool) → IsNext world before s then → QueuesOnly world before nodes s then now → (m : N) (k : Kind F P) (a : A) → Keeps nodes m k a → now m ≡ true → IsEarlier world (stamp_of world s) (stamp_of world m)
+    after-turn before nodes s then now next only m k a h q = elim (only m k a h q) [
+      | inl w ↦ next.first m k a w.0 w.1 w.2
+      | inr r ↦ elim r [
+        | inl c ↦ stamp-child world.mode (world.chain s) c.0 (world.chain m) (laws.whole s) c.1
+        | inr e ↦ e
+      ]
+    ]
+
+    turned-earlier : (before : Nodes) (s : N) (then : N → Bool) (turned : List N) → IsNext world before s then → ((k : Kind F P) × (a : A) × Keeps before s k a × (is_instance k ≡ false)) → Later turned before then → (t : N) → Among t turned → IsEarlier world (stamp_of world t) (stamp_of world s)
+    turned-earlier before s then turned next was later t i = later t i s was.0 was.1 was.2 next.there
+
+    later-worked : (turned : List N) (nodes : Nodes) (now : N → Bool) → Worked world start queued turned nodes now → Later turned nodes now
+    later-worked [] nodes now w t i m k a h q = absurd i
+    later-worked (s ∷ turned) nodes now (before, then, worked, next, turn, only) t i m k a h q =
+        let after = after-turn before nodes s then now next only m k a h q in
+        elim i [
+          | inl e ↦ subst (λ x. IsEarlier world (stamp_of world x) (stamp_of world m)) e after
+          | inr j ↦ order.trans (stamp_of world t) (stamp_of world s) (stamp_of world m) (turned-earlier before s then turned next turn.was (later-worked turned before then worked) t j) after
+        ]
+
+    turns-rise : (turned : List N) (nodes : Nodes) (now : N → Bool) → Worked world start queued turned nodes now → Rises world turned
+    turns-rise [] nodes now w = tt
+    turns-rise (s ∷ turned) nodes now (before, then, worked, next, turn, only) =
+        (all_earlier turned s (turned-earlier before s then turned next turn.was (later-worked turned before then worked)), turns-rise turned before then worked)
+
+    right-worked : (turned : List N) (nodes : Nodes) (now : N → Bool) → Worked world start queued turned nodes now → AllRight world start queued → AllRight world nodes now
+    right-worked [] nodes now w right = subst (λ q. AllRight world nodes q) (sym w.1) (subst (λ x. AllRight world x queued) (sym w.0) right)
+    right-worked (s ∷ turned) nodes now (before, then, worked, next, turn, only) right = still_right before nodes s then now turn (right-worked turned before then worked right)
+
+    pub worked_rises : (turned : List N) (nodes : Nodes) (now : N → Bool) → Worked world start queued turned nodes now → Rises world turned × (AllRight world start queued → AllRight world nodes now)
+    worked_rises turned nodes now w = (turns-rise turned nodes now w, right-worked turned nodes now w)

@@ -110,3 +110,24 @@ module _ {N A F P : Type 0} (world : World N A F P) where
     pub roots : (n : N) → Among n world.roots → Remains nodes n Waiting
     pub under : (n : N) (k : Kind F P) (a : A) → Keeps nodes n k a
         → Among n world.roots ⊎ HasParent nodes n
+
+  -- the agenda's next shape: it is on the agenda, and every other node there comes after it
+  pub record IsNext (nodes : Nodes) (s : N) (queued : N → Bool) : Type 0 where
+    pub there : queued s ≡ true
+    pub first : (m : N) (k : Kind F P) (a : A) → Keeps nodes m k a → queued m ≡ true
+        → place_of world m ≢ place_of world s → IsEarlier world (stamp_of world s) (stamp_of world m)
+
+  -- after the turn of s a node is on the agenda only if it was, or is a child of s, or comes after s
+  abbrev pub QueuesOnly : Nodes → Nodes → N → (N → Bool) → (N → Bool) → Type 0
+  QueuesOnly before after s queued requeued =
+      (m : N) (k : Kind F P) (a : A) → Keeps after m k a → requeued m ≡ true
+      → (Keeps before m k a × (queued m ≡ true) × (place_of world m ≢ place_of world s))
+      ⊎ (((i : ℕ) × IsChild (world.chain s) i (world.chain m))
+      ⊎ IsEarlier world (stamp_of world s) (stamp_of world m))
+
+  -- the kept list and the agenda after the turns of these shapes, the last first
+  abbrev pub Worked : Nodes → (N → Bool) → List N → Nodes → (N → Bool) → Type 0
+  Worked start queued [] nodes now = (nodes ≡ start) × (now ≡ queued)
+  Worked start queued (s ∷ turned) nodes now =
+      (before : Nodes) × (then : N → Bool) × Worked start queued turned before then
+      × IsNext before s then × IsTurn before nodes s then now × QueuesOnly before nodes s then now

@@ -9,7 +9,7 @@ use Rattle.cga_order.specs.Stamp.{stamp, birth, stamps_cmp, stamp_cmp}
 use Rattle.cga_order.specs.World.{World, IsWorld, Placed, Kind, Waiting, Has, IsEarlier, place_of, stamp_of}
 use Rattle.cga_order.specs.Run.{outcome, IsStep, Reached, Rises, StandsByBirth}
 use Rattle.cga_order.specs.Consistent.{exists_at, outcome_at, IsBefore, IsConsistent, AllBefore, NothingWaits, SameMembers, HasMembers, HasMade}
-use Rattle.cga_order.specs.Agenda.{Node, members_of, IsTurn, AllRight, IsTree}
+use Rattle.cga_order.specs.Agenda.{Node, members_of, IsTurn, Worked, AllRight, IsTree}
 
 -- ranks and stamps are in total orders, in which equal ones are those of one lot and path
 pub record AreOrders : Type 0 where
@@ -109,6 +109,16 @@ module _ (N A F P : Type 0) where
       → (before after : List (Node N A F P)) (s : N) (queued requeued : N → Bool)
       → IsTurn world before after s queued requeued
       → AllRight world before queued → AllRight world after requeued
+
+  -- an agenda that is worked by its least stamp takes each shape once, by rising stamps, and leaves
+  -- each node right, or on the agenda
+  abbrev pub TurnsRise : Type 0
+  TurnsRise =
+      (world : World N A F P) → IsWorld world
+      → (start : List (Node N A F P)) (queued : N → Bool) (turned : List N)
+      (nodes : List (Node N A F P)) (now : N → Bool)
+      → Worked world start queued turned nodes now
+      → Rises world turned × (AllRight world start queued → AllRight world nodes now)
 
   -- where no node before a limit is on the agenda, the list is consistent as far as the limit
   abbrev pub RightIsConsistent : Type 0

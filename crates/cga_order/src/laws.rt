@@ -5,7 +5,7 @@ ghost use Rattle.cga_order.specs.FourShapes.{FourShapesInOrder, TwoModes};
 ghost use Rattle.cga_order.specs.Laws.{AreOrders, ChildrenComeLater, LeastRankIsLeastStamp, RunsRise};
 ghost use Rattle.cga_order.specs.Laws.{MembersStandByBirth, StepsLeaveMembers, EachSeesWhatWasMade};
 ghost use Rattle.cga_order.specs.Laws.{DerivedIsConsistent, ConsistentIsDerived, ConsistentSoFar};
-ghost use Rattle.cga_order.specs.Laws.{TurnsKeepRight, RightIsConsistent};
+ghost use Rattle.cga_order.specs.Laws.{TurnsKeepRight, TurnsRise, RightIsConsistent};
 
 /// Both comparisons are total orders, and only shapes of one lot and one path compare as equal.
 pub fn orders()
@@ -65,6 +65,11 @@ pub fn derived_is_consistent<N, A, F, P>()
 /// right, or queued.
 pub fn turns_keep_right<N, A, F, P>()
     ensures { TurnsKeepRight N A F P }
+{}
+
+/// An agenda that is worked by its least stamp takes each shape once, by strictly rising stamps.
+pub fn turns_rise<N, A, F, P>()
+    ensures { TurnsRise N A F P }
 {}
 
 /// Where all that is queued comes after a limit, the kept list is consistent that far; where
