@@ -124,6 +124,32 @@ turn_of a By270 = composed (composed (quarter a) (quarter a)) (quarter a)
 unfoldable pub turned : Frame → Axis → Turn → Frame
 turned f a by = composed f (turn_of a by)
 
--- the frame after four quarter turns about one of its axes
-abbrev pub four_turned : Frame → Axis → Frame
-four_turned f a = turned (turned (turned (turned f a By90) a By90) a By90) a By90
+-- the signed world axis of a signed axis of the frame
+abbrev pub seen : Frame → Signed → Signed
+seen f s = flipped s.against (axis_of f s.axis)
+
+-- the new axes of a quarter turn in the old ones: Rx gives Y' = Z and Z' = -Y, and so on around
+abbrev pub rule_of : Axis → Axis → Signed
+rule_of X X = plus_of X
+rule_of X Y = plus_of Z
+rule_of X Z = minus_of Y
+rule_of Y X = minus_of Z
+rule_of Y Y = plus_of Y
+rule_of Y Z = plus_of X
+rule_of Z X = plus_of Y
+rule_of Z Y = minus_of X
+rule_of Z Z = plus_of Z
+
+-- the axes of the new frame are those that a quarter turn makes of the old one's
+pub record IsQuarter (a : Axis) (old new : Frame) : Type 0 where
+  pub x : axis_of new X ≡ seen old (rule_of a X)
+  pub y : axis_of new Y ≡ seen old (rule_of a Y)
+  pub z : axis_of new Z ≡ seen old (rule_of a Z)
+
+-- the turns of a frame about one of its axes: greater ones repeat the quarter turn, and four quarters are none
+pub record IsTurning (f : Frame) (a : Axis) : Type 0 where
+  pub none : turned f a By0 ≡ f
+  pub quarter_turn : IsQuarter a f (turned f a By90)
+  pub half : turned f a By180 ≡ turned (turned f a By90) a By90
+  pub three_quarters : turned f a By270 ≡ turned (turned (turned f a By90) a By90) a By90
+  pub whole : turned (turned (turned (turned f a By90) a By90) a By90) a By90 ≡ f

@@ -28,7 +28,7 @@ impl Model for Frame {
 }
 
 impl Frame {
-    ghost use Rattle.cga_frame.specs.Axes.{along, axis_of, base_frame, composed, direction, four_turned, quarter, turn_of, turned, IsFrame, IsRightHanded};
+    ghost use Rattle.cga_frame.specs.Axes.{along, axis_of, base_frame, composed, direction, quarter, turn_of, turned, IsFrame, IsRightHanded, IsTurning};
 
     /// The frame of the world's own axes.
     #[tactic(auto, using(crate::proofs::Frames::base_right_handed))]
@@ -73,7 +73,7 @@ impl Frame {
     pub fn turn(self, axis: Axis, by: Turn) -> Frame
         ensures value { result ≡ turned self axis by }
         ensures right_handed { IsRightHanded result }
-        ensures four_are_none { four_turned self axis ≡ self }
+        ensures rules { IsTurning self axis }
     {
         self.composed(Frame::of_turn(axis, by))
     }
@@ -129,6 +129,7 @@ impl Frame {
     fn composed(self, inner: Frame) -> Frame
         ensures value { result ≡ composed self inner }
         ensures frame { IsFrame result }
+        ensures outer { IsFrame self }
     {
         Frame {
             x: inner.along(self.x.axis).flipped(self.x.against),
