@@ -1,0 +1,13 @@
+pub mod Runs
+pub mod Written
+pub mod Forms
+pub mod Again
+pub mod Layers
+pub mod Singles
+pub mod Exprs
+pub mod ExprsAgain
+pub mod Lists
+pub mod Conds
+pub mod CondsAgain
+pub mod Items
+pub mod ItemsAgain

@@ -1,0 +1,5 @@
+//! Reading rules.
+#![tactic(auto)]
+
+pub mod fault;
+pub mod heads;
