@@ -11,3 +11,7 @@ pub mod Conds
 pub mod CondsAgain
 pub mod Items
 pub mod ItemsAgain
+pub mod Rules
+pub mod RulesAgain
+pub mod Whole
+pub mod Lines

@@ -293,3 +293,14 @@ unfoldable pub rule : ℕ → Reader Rule
 rule n =
     single (a_whole 1 999999) >>= λ id. sign s.Colon >> (single a_name >>= λ name. parameters n >>= λ ps. condition n >>= λ c.
     alternative n >>= λ a. many (is_sign s.Arrow) (alternative n) >>= λ more. pure (record { id = id; symbol = name; params = ps; cond = c; alternatives = a ∷ more }))
+
+abbrev pub any : Lexeme → Bool
+any _ = true
+
+-- the end of the line
+unfoldable pub finish : Reader (Unit {0})
+finish = peeked any refuse (pure tt)
+
+-- a line that is a rule
+unfoldable pub rule_line : ℕ → Reader Rule
+rule_line n = rule n >>= λ r. finish >> pure r

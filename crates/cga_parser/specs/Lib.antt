@@ -1,3 +1,4 @@
 pub mod Reader
 pub mod Tokens
 pub mod Grammar
+pub mod Answers
