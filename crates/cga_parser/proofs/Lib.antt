@@ -15,3 +15,6 @@ pub mod Rules
 pub mod RulesAgain
 pub mod Whole
 pub mod Lines
+pub mod Nexts
+pub mod Turns
+pub mod Listings

@@ -2,3 +2,4 @@ pub mod Reader
 pub mod Tokens
 pub mod Grammar
 pub mod Answers
+pub mod Code

@@ -1,5 +1,11 @@
-//! Reading rules.
+//! Reading rules: which tokens are a rule, which rule they are, and where the first fault is.
+//!
+//! It knows the forms of the language, and neither what a rule does nor whether a grammar is valid.
+//! Callers get the fault's place wrong: it is the first token with which no rule could go on.
 #![tactic(auto)]
 
+mod expr;
 pub mod fault;
-pub mod heads;
+mod heads;
+pub mod tokens;
+mod words;
