@@ -4,8 +4,11 @@
 //! Callers get the fault's place wrong: it is the first token with which no rule could go on.
 #![tactic(auto)]
 
+mod cond;
 mod expr;
 pub mod fault;
+mod first;
 mod heads;
+
 pub mod tokens;
 mod words;

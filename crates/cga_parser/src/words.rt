@@ -117,3 +117,108 @@ fn within(value: Fraction, low: u32, high: u32) -> Option<u32>
         _ => None,
     }
 }
+
+pub(crate) fn relation(next: Option<Lexeme>) -> Option<Relation>
+    ensures { result ≡ decoded spec.a_relation next }
+{
+    match next? {
+        Lexeme::Sign(sign) => relation_of(sign),
+        _ => None,
+    }
+}
+
+fn relation_of(sign: Sign) -> Option<Relation>
+    ensures { result ≡ spec.relation_of sign }
+{
+    match sign {
+        Sign::Equal => Some(Relation::Equal),
+        Sign::Unequal => Some(Relation::Unequal),
+        Sign::Less => Some(Relation::Less),
+        Sign::AtMost => Some(Relation::AtMost),
+        Sign::Greater => Some(Relation::Greater),
+        Sign::AtLeast => Some(Relation::AtLeast),
+        _ => None,
+    }
+}
+
+pub(crate) fn equality(next: Option<Lexeme>) -> Option<bool>
+    ensures { result ≡ decoded spec.an_equality next }
+{
+    match next {
+        Some(Lexeme::Sign(Sign::Equal)) => Some(true),
+        Some(Lexeme::Sign(Sign::Unequal)) => Some(false),
+        _ => None,
+    }
+}
+
+pub(crate) fn target(next: Option<Lexeme>) -> Option<Target>
+    ensures { result ≡ decoded spec.a_target next }
+{
+    match next? {
+        Lexeme::Text(text) => target_of(text),
+        _ => None,
+    }
+}
+
+fn target_of(text: Name) -> Option<Target>
+    ensures { result ≡ spec.target_of text }
+{
+    let text = text.bytes();
+    if text == b"noparent".as_slice() {
+        Some(Target::Noparent)
+    } else if text == b"active".as_slice() {
+        Some(Target::Active)
+    } else {
+        None
+    }
+}
+
+pub(crate) fn state(next: Option<Lexeme>) -> Option<Answer>
+    ensures { result ≡ decoded spec.a_state next }
+{
+    match next? {
+        Lexeme::Text(text) => state_of(text),
+        _ => None,
+    }
+}
+
+fn state_of(text: Name) -> Option<Answer>
+    ensures { result ≡ spec.state_of text }
+{
+    let text = text.bytes();
+    if text == b"none".as_slice() {
+        Some(Answer::Nothing)
+    } else if text == b"part".as_slice() {
+        Some(Answer::Part)
+    } else if text == b"full".as_slice() {
+        Some(Answer::Full)
+    } else {
+        None
+    }
+}
+
+pub(crate) fn scope_word(next: Option<Lexeme>) -> Option<ScopeWord>
+    ensures { result ≡ decoded spec.a_scope_word next }
+{
+    match next? {
+        Lexeme::Name(name) => scope_word_of(name),
+        _ => None,
+    }
+}
+
+fn scope_word_of(name: Name) -> Option<ScopeWord>
+    ensures { result ≡ spec.scope_word_of name }
+{
+    let name = name.bytes();
+    if name == b"occ".as_slice() {
+        Some(ScopeWord::Occ)
+    } else if name == b"sx".as_slice() {
+        Some(ScopeWord::Size(Axis::X))
+    } else if name == b"sy".as_slice() {
+        Some(ScopeWord::Size(Axis::Y))
+    } else if name == b"sz".as_slice() {
+        Some(ScopeWord::Size(Axis::Z))
+    } else {
+        None
+    }
+}
