@@ -385,7 +385,10 @@ selector_part_reads n inside = in_round n (selector_part_rest 0).some (λ m e. s
 abbrev pub further_argument_pieces : Expr → Pieces
 further_argument_pieces a = sign s.Comma ∷ expr_pieces a
 
-further_argument_reads : (n m : ℕ) (p : Reader Expr) → Reads m m expr_pieces p → Reads m m further_argument_pieces (g.further_argument n p)
+pub further_argument_long : Long further_argument_pieces
+further_argument_long c x a d w = long_of c usual (lexeme.Sign s.Comma) (expr_pieces a) x d w
+
+pub further_argument_reads : (n m : ℕ) (p : Reader Expr) → Reads m m expr_pieces p → Reads m m further_argument_pieces (g.further_argument n p)
 unfolding g.further_argument
 further_argument_reads n m p h = next (comma m) (λ _. next h (λ a. done refl))
 

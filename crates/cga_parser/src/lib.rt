@@ -9,6 +9,8 @@ mod expr;
 pub mod fault;
 mod first;
 mod heads;
+mod item;
+mod parts;
 
 pub mod tokens;
 mod words;

@@ -1,5 +1,5 @@
 //! What single tokens stand for.
-ghost use Rattle.std.specs.Prelude.{◌≡◌};
+ghost use Rattle.std.specs.Prelude.{◌≡◌, ◌≤◌, IfSome};
 ghost use Rattle.cga_parser.specs.Code.{IsProper};
 ghost use Rattle.cga_parser.specs.Reader.{decoded};
 ghost use Rattle.cga_parser.specs.Tokens as spec;
@@ -98,7 +98,8 @@ fn size_axis_of(name: Name) -> Option<Axis>
 
 /// A whole number within bounds.
 pub(crate) fn whole(next: Option<Lexeme>, low: u32, high: u32) -> Option<u32>
-    ensures { result ≡ decoded (spec.a_whole low high) next }
+    ensures value { result ≡ decoded (spec.a_whole low high) next }
+    ensures below { IfSome result (λ n. n ≤ high) }
 {
     match next? {
         Lexeme::Number(value) => within(value, low, high),
@@ -107,7 +108,8 @@ pub(crate) fn whole(next: Option<Lexeme>, low: u32, high: u32) -> Option<u32>
 }
 
 fn within(value: Fraction, low: u32, high: u32) -> Option<u32>
-    ensures { result ≡ spec.bounded low high (spec.whole_of value) }
+    ensures value { result ≡ spec.bounded low high (spec.whole_of value) }
+    ensures below { IfSome result (λ n. n ≤ high) }
 {
     if value.denominator() != 1 {
         return None;
@@ -115,6 +117,16 @@ fn within(value: Fraction, low: u32, high: u32) -> Option<u32>
     match u32::try_from(value.numerator()) {
         Ok(n) if low <= n && n <= high => Some(n),
         _ => None,
+    }
+}
+
+/// The number of an edge.
+pub(crate) fn edge(next: Option<Lexeme>) -> Option<u8>
+    ensures { result ≡ decoded (spec.a_whole 1 12) next }
+{
+    match whole(next, 1, 12) {
+        Some(number) => Some(number as u8),
+        None => None,
     }
 }
 
@@ -218,6 +230,201 @@ fn scope_word_of(name: Name) -> Option<ScopeWord>
         Some(ScopeWord::Size(Axis::Y))
     } else if name == b"sz".as_slice() {
         Some(ScopeWord::Size(Axis::Z))
+    } else {
+        None
+    }
+}
+
+pub(crate) fn item_head(next: Option<Lexeme>) -> Option<ItemHead>
+    requires { IsProper next }
+    ensures { result ≡ decoded spec.item_head next }
+{
+    match next? {
+        Lexeme::Name(name) => Some(ItemHead::Child(name)),
+        Lexeme::Keyword(keyword) => item_keyword(keyword),
+        _ => None,
+    }
+}
+
+fn item_keyword(keyword: Keyword) -> Option<ItemHead>
+    ensures { result ≡ spec.item_keyword keyword }
+{
+    match keyword {
+        Keyword::T => Some(ItemHead::Move),
+        Keyword::S => Some(ItemHead::Resize),
+        Keyword::Rx => Some(ItemHead::Rotate(Axis::X)),
+        Keyword::Ry => Some(ItemHead::Rotate(Axis::Y)),
+        Keyword::Rz => Some(ItemHead::Rotate(Axis::Z)),
+        Keyword::I => Some(ItemHead::Solid),
+        Keyword::Subdiv => Some(ItemHead::Subdiv),
+        Keyword::Repeat => Some(ItemHead::Repeat),
+        Keyword::Comp => Some(ItemHead::Comp),
+        _ => None,
+    }
+}
+
+pub(crate) fn relative(next: Option<Lexeme>) -> Option<Fraction>
+    ensures { result ≡ decoded spec.a_relative next }
+{
+    match next? {
+        Lexeme::Relative(factor) => Some(factor),
+        _ => None,
+    }
+}
+
+pub(crate) fn turn(next: Option<Lexeme>) -> Option<Turn>
+    ensures { result ≡ decoded spec.a_turn next }
+{
+    match next? {
+        Lexeme::Number(value) => turn_of(value),
+        _ => None,
+    }
+}
+
+fn turn_of(value: Fraction) -> Option<Turn>
+    ensures { result ≡ spec.turned_by (spec.whole_of value) }
+{
+    match whole_of(value)? {
+        0 => Some(Turn::By0),
+        90 => Some(Turn::By90),
+        180 => Some(Turn::By180),
+        270 => Some(Turn::By270),
+        _ => None,
+    }
+}
+
+/// The value, where it is whole and not below 0.
+fn whole_of(value: Fraction) -> Option<u64>
+    ensures { result ≡ spec.whole_of value }
+{
+    if value.denominator() != 1 {
+        return None;
+    }
+    u64::try_from(value.numerator()).ok()
+}
+
+pub(crate) fn ninety(next: Option<Lexeme>) -> Option<()>
+    ensures { result ≡ decoded spec.a_ninety next }
+{
+    match next? {
+        Lexeme::Number(value) => ninety_of(value),
+        _ => None,
+    }
+}
+
+fn ninety_of(value: Fraction) -> Option<()>
+    ensures { result ≡ spec.ninety_by (spec.whole_of value) }
+{
+    if whole_of(value)? == 90 { Some(()) } else { None }
+}
+
+pub(crate) fn axis(next: Option<Lexeme>) -> Option<Axis>
+    ensures { result ≡ decoded spec.an_axis next }
+{
+    match next? {
+        Lexeme::Text(text) => axis_of(text),
+        _ => None,
+    }
+}
+
+fn axis_of(text: Name) -> Option<Axis>
+    ensures { result ≡ spec.axis_of text }
+{
+    let text = text.bytes();
+    if text == b"X".as_slice() {
+        Some(Axis::X)
+    } else if text == b"Y".as_slice() {
+        Some(Axis::Y)
+    } else if text == b"Z".as_slice() {
+        Some(Axis::Z)
+    } else {
+        None
+    }
+}
+
+pub(crate) fn solid(next: Option<Lexeme>) -> Option<Primitive>
+    ensures { result ≡ decoded spec.a_solid next }
+{
+    match next? {
+        Lexeme::Text(text) => solid_of(text),
+        _ => None,
+    }
+}
+
+fn solid_of(text: Name) -> Option<Primitive>
+    ensures { result ≡ spec.solid_of text }
+{
+    let text = text.bytes();
+    if text == b"cube".as_slice() {
+        Some(Primitive::Cube)
+    } else if text == b"quad".as_slice() {
+        Some(Primitive::Quad)
+    } else if text == b"shed".as_slice() {
+        Some(Primitive::Shed)
+    } else if text == b"gable".as_slice() {
+        Some(Primitive::Gable)
+    } else if text == b"hip".as_slice() {
+        Some(Primitive::Hip)
+    } else {
+        None
+    }
+}
+
+pub(crate) fn side(next: Option<Lexeme>) -> Option<Side>
+    ensures { result ≡ decoded spec.a_side next }
+{
+    match next? {
+        Lexeme::Text(text) => side_of(text),
+        _ => None,
+    }
+}
+
+fn side_of(text: Name) -> Option<Side>
+    ensures { result ≡ spec.side_of text }
+{
+    let text = text.bytes();
+    if text == b"front".as_slice() {
+        Some(Side::Front)
+    } else if text == b"right".as_slice() {
+        Some(Side::Right)
+    } else if text == b"back".as_slice() {
+        Some(Side::Back)
+    } else if text == b"left".as_slice() {
+        Some(Side::Left)
+    } else if text == b"top".as_slice() {
+        Some(Side::Top)
+    } else if text == b"bottom".as_slice() {
+        Some(Side::Bottom)
+    } else {
+        None
+    }
+}
+
+pub(crate) fn selector(next: Option<Lexeme>) -> Option<SelectorHead>
+    ensures { result ≡ decoded spec.a_selector next }
+{
+    match next? {
+        Lexeme::Text(text) => selector_of(text),
+        _ => None,
+    }
+}
+
+fn selector_of(text: Name) -> Option<SelectorHead>
+    ensures { result ≡ spec.selector_of text }
+{
+    let text = text.bytes();
+    if text == b"faces".as_slice() {
+        Some(SelectorHead::Faces)
+    } else if text == b"sidefaces".as_slice() {
+        Some(SelectorHead::Sidefaces)
+    } else if text == b"face".as_slice() {
+        Some(SelectorHead::Face)
+    } else if text == b"edges".as_slice() {
+        Some(SelectorHead::Edges)
+    } else if text == b"edge".as_slice() {
+        Some(SelectorHead::Edge)
+    } else if text == b"vertices".as_slice() {
+        Some(SelectorHead::Vertices)
     } else {
         None
     }
