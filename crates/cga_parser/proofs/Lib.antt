@@ -18,3 +18,4 @@ pub mod Lines
 pub mod Nexts
 pub mod Turns
 pub mod Listings
+pub mod RuleListings

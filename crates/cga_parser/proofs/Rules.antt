@@ -26,7 +26,10 @@ use Rattle.cga_parser.proofs.Items.{list_pieces, body_reads, item_reads, argumen
 abbrev pub further_name_pieces : List ℕ → Pieces
 further_name_pieces a = sign s.Comma ∷ name_pieces a
 
-further_name_reads : (m : ℕ) → Reads m m further_name_pieces g.further_name
+pub further_name_long : Long further_name_pieces
+further_name_long c x a d w = long_of c usual (lexeme.Sign s.Comma) (name_pieces a) x d w
+
+pub further_name_reads : (m : ℕ) → Reads m m further_name_pieces g.further_name
 unfolding g.further_name
 further_name_reads m = next (comma m) (λ _. next (one_token (name_token m)) (λ a. done refl))
 

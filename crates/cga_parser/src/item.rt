@@ -188,3 +188,34 @@ fn item(alloc: Global, tokens: &mut Tokens<'_>, depth: u8) -> Result<Item, Stop>
     let head = tokens.take(words::item_head(tokens.peek()))?;
     item_rest(alloc, tokens, depth, head)
 }
+
+fn further_items(alloc: Global, tokens: &mut Tokens<'_>, depth: u8) -> Result<List<Item>, Stop>
+    ensures { Reads (many spec.begins_item (spec.item depth) (input_of tokens.old)) result (input_of tokens.new) }
+{
+    let mut rest = List::new(alloc);
+    'items: while begins_item(tokens) {
+        let more = item(alloc, tokens, depth)?;
+        rest.push(more)?;
+    }
+    Ok(rest)
+}
+
+fn items(alloc: Global, tokens: &mut Tokens<'_>, depth: u8) -> Result<List<Item>, Stop>
+    ensures { Reads (spec.items_by (spec.item depth) (input_of tokens.old)) result (input_of tokens.new) }
+{
+    let first = item(alloc, tokens, depth)?;
+    let rest = further_items(alloc, tokens, depth)?;
+    let items = with_first(first, rest)?;
+    Ok(items)
+}
+
+/// Items, or `NIL`, where so many brackets may be opened.
+pub(crate) fn body(alloc: Global, tokens: &mut Tokens<'_>, depth: u8) -> Result<List<Item>, Stop>
+    ensures { Reads (spec.body_by (spec.item depth) (input_of tokens.old)) result (input_of tokens.new) }
+{
+    if tokens.at_keyword(Keyword::Nil) {
+        tokens.keyword(Keyword::Nil)?;
+        return Ok(List::new(alloc));
+    }
+    items(alloc, tokens, depth)
+}

@@ -11,6 +11,7 @@ mod first;
 mod heads;
 mod item;
 mod parts;
+pub mod rule;
 
 pub mod tokens;
 mod words;
