@@ -1,13 +1,13 @@
 -- What is written so is read so, or nests too deep.
-use Rattle.std.proofs.Common.{◌≡◌, ℕ, zero, suc, ◌+◌, ◌≤◌, List, [], ◌∷◌, ◌++◌, length, map, append_assoc, Bool, true, false, Option, Some, None, Result, Ok, Err, refl, ap, sym, ◌∙◌, subst, if◌then◌else◌, cond, nat_le, ◌&&◌, arith}
+use Rattle.std.proofs.Common.{◌≡◌, ℕ, zero, suc, ◌+◌, ◌≤◌, List, [], ◌∷◌, ◌++◌, length, map, append_assoc, Bool, true, false, Option, Some, Ok, Err, refl, ap, sym, ◌∙◌, subst, if◌then◌else◌, cond, nat_le, ◌&&◌, arith}
 use Rattle.cga_parser.specs.declared.fault.Fault.TheVariants.{Unexpected, TooNested}
 use Rattle.cga_syntax.specs.declared.lexeme.Lexeme.{Lexeme}
 use Rattle.cga_syntax.specs.declared.lexeme.Lexeme.TheVariants as lexeme
 use Rattle.cga_syntax.specs.declared.keyword.Keyword.TheVariants as k
 use Rattle.cga_syntax.specs.Lexemes.{is_reserved}
-use Rattle.cga_syntax.specs.Pieces.{Piece, Space, usual, token, drawn, never, plain, number, whole, named, word, Pieces, concat, IsWritten, Writes}
+use Rattle.cga_syntax.specs.Pieces.{Space, usual, token, drawn, never, plain, number, whole, named, word, Pieces, concat, Writes}
 use Rattle.cga_parser.specs.Tokens.{a_whole, when}
-use Rattle.cga_parser.specs.Reader.{Input, Outcome, Reader, at, and_then, ◌>>=◌, ◌>>◌, pure, refuse, taking, single, entering, enter, drawing, drawn_word, peeked, begins, many_from, many_after, many}
+use Rattle.cga_parser.specs.Reader.{Input, Outcome, Reader, at, and_then, ◌>>=◌, pure, taking, single, entering, enter, drawing, drawn_word, peeked, begins, many_from, many_after, many}
 use Rattle.std.proofs.lemmas.Bool.Decides.{nat_tests}
 use Rattle.cga_parser.proofs.Forms.{few_pieces}
 use Rattle.cga_parser.proofs.Written.{cut, head_of, end_of, nil_right}
@@ -70,14 +70,18 @@ pub begun_named : {test : Lexeme → Bool} {qs : Pieces} (name : List ℕ) → t
 begun_named {test = test} {qs = qs} name e = record { begun = λ c x d r w. named_by test name qs e (is_reserved name) c x d r w }
 
 pub begun_append : {test : Lexeme → Bool} {ps : Pieces} (qs : Pieces) → Begun test ps → Begun test (ps ++ qs)
-begun_append {test = test} {ps = ps} qs h = record { begun = λ c x d r w.
-    let t = cut ps qs x c d w in
-    ap (begins test) (ap (λ z. z ++ r) t.3 ∙ append_assoc t.0 t.1 r) ∙ h.begun c t.0 t.2 (t.1 ++ r) t.4 }
+begun_append {test = test} {ps = ps} qs h = record {
+  begun = λ c x d r w.
+      let t = cut ps qs x c d w in
+      ap (begins test) (ap (λ z. z ++ r) t.3 ∙ append_assoc t.0 t.1 r) ∙ h.begun c t.0 t.2 (t.1 ++ r) t.4;
+}
 
 pub starts_append : {test : Lexeme → Bool} {ps : Pieces} (qs : Pieces) → Starts test ps → Starts test (ps ++ qs)
-starts_append {test = test} {ps = ps} qs h = record { starts = λ c x d r w.
-    let t = cut ps qs x c d w in
-    ap (begins test) (ap (λ z. z ++ r) t.3 ∙ append_assoc t.0 t.1 r) ∙ h.starts c t.0 t.2 (t.1 ++ r) t.4 }
+starts_append {test = test} {ps = ps} qs h = record {
+  starts = λ c x d r w.
+      let t = cut ps qs x c d w in
+      ap (begins test) (ap (λ z. z ++ r) t.3 ∙ append_assoc t.0 t.1 r) ∙ h.starts c t.0 t.2 (t.1 ++ r) t.4;
+}
 
 pub missed : {test s : Lexeme → Bool} {ps : Pieces} → Begun test ps → Misses test ps s
 missed h = record { misses = λ c x d r w e. h.begun c x d r w }
@@ -91,7 +95,7 @@ misses_end {test = test} {s = s} h = record { misses = λ c x d r w e. ap (λ z.
 
 misses_all : {A : Type 0} {test s : Lexeme → Bool} {w : A → Pieces} {qs : Pieces} → ((a : A) → Begun test (w a)) → Misses test qs s → (xs : List A) → (c : ℕ) (x : List Lexeme) (d : ℕ) (r : List Lexeme) → Writes c (concat (map w xs) ++ qs) x d → begins s r ≡ false → begins test (x ++ r) ≡ false
 misses_all h g [] c x d r v e = g.misses c x d r v e
-misses_all {w = w} {qs = qs} h g (a ∷ xs) c x d r v e = (begun_append (concat (map w xs) ++ qs) (h a)).begun c x d r (subst (λ z. Writes c z x d) (append_assoc (w a) (concat (map w xs)) qs) v) 
+misses_all {w = w} {qs = qs} h g (a ∷ xs) c x d r v e = (begun_append (concat (map w xs) ++ qs) (h a)).begun c x d r (subst (λ z. Writes c z x d) (append_assoc (w a) (concat (map w xs)) qs) v)
 
 pub misses_each : {A : Type 0} {test s : Lexeme → Bool} {w : A → Pieces} {qs : Pieces} (xs : List A) → ((a : A) → Begun test (w a)) → Misses test qs s → Misses test (concat (map w xs) ++ qs) s
 misses_each xs h g = record { misses = λ c x d r w e. misses_all h g xs c x d r w e }
@@ -126,18 +130,22 @@ pub ends : {B : Type 0} {s : Lexeme → Bool} {b : B} → Leads s [] (pure b) b
 ends {s = s} {b = b} = record { leads = λ c x d r w e. let t = end_of c x d w in (refl, ap (λ z. at (z ++ r) c) t.0 ∙ ap (λ n. at r n) t.1) }
 
 pub took : {A B : Type 0} {s : Lexeme → Bool} {sp : Space} {l : Lexeme} {qs : Pieces} {f : A → Reader B} {b : B} (decode : Lexeme → Option A) (a : A) → decode l ≡ Some a → Leads s qs (f a) b → Leads s (token sp l ∷ qs) (single decode >>= f) b
-took {s = s} {sp = sp} {l = l} {qs = qs} {f = f} {b = b} decode a e h = record { leads = λ c x d r w q.
-    let t = head_of c sp l qs x d w in
-    subst (λ z. Agrees (and_then (single decode (at (z ++ r) c)) f) b (at r d)) (sym t.1)
-    (subst (λ o. Agrees (and_then (taking o (at (l ∷ (t.0 ++ r)) c)) f) b (at r d)) (sym e) (h.leads c t.0 d r t.2 q)) }
+took {s = s} {sp = sp} {l = l} {qs = qs} {f = f} {b = b} decode a e h = record {
+  leads = λ c x d r w q.
+      let t = head_of c sp l qs x d w in
+      subst (λ z. Agrees (and_then (single decode (at (z ++ r) c)) f) b (at r d)) (sym t.1)
+      (subst (λ o. Agrees (and_then (taking o (at (l ∷ (t.0 ++ r)) c)) f) b (at r d)) (sym e) (h.leads c t.0 d r t.2 q));
+}
 
 -- one token that is a whole value
 pub took_last : {A : Type 0} {s : Lexeme → Bool} {sp : Space} {l : Lexeme} (decode : Lexeme → Option A) (a : A) → decode l ≡ Some a → Leads s (token sp l ∷ []) (single decode) a
-took_last {s = s} {sp = sp} {l = l} decode a e = record { leads = λ c x d r w q.
-    let t = head_of c sp l [] x d w in
-    let u = end_of c t.0 d t.2 in
-    subst (λ z. Agrees (single decode (at (z ++ r) c)) a (at r d)) (sym t.1)
-    (subst (λ o. Agrees (taking o (at (l ∷ (t.0 ++ r)) c)) a (at r d)) (sym e) (refl, ap (λ z. at (z ++ r) c) u.0 ∙ ap (λ n. at r n) u.1)) }
+took_last {s = s} {sp = sp} {l = l} decode a e = record {
+  leads = λ c x d r w q.
+      let t = head_of c sp l [] x d w in
+      let u = end_of c t.0 d t.2 in
+      subst (λ z. Agrees (single decode (at (z ++ r) c)) a (at r d)) (sym t.1)
+      (subst (λ o. Agrees (taking o (at (l ∷ (t.0 ++ r)) c)) a (at r d)) (sym e) (refl, ap (λ z. at (z ++ r) c) u.0 ∙ ap (λ n. at r n) u.1));
+}
 
 named_leads : {B : Type 0} (s : Lexeme → Bool) (name : List ℕ) (qs : Pieces) (p : Reader B) (b : B) (t : Bool) → (t ≡ false → Leads s (word name ∷ qs) p b) → (c : ℕ) (x : List Lexeme) (d : ℕ) (r : List Lexeme) →
     Writes c ((if t then never else word name) ∷ qs) x d → begins s r ≡ false → Agrees (p (at (x ++ r) c)) b (at r d)
@@ -168,35 +176,45 @@ entered_at s l qs f b (suc m) h c y d r w q = (h m refl).leads c y d r w q
 
 pub entered : {B : Type 0} {s : Lexeme → Bool} {sp : Space} {l : Lexeme} {qs : Pieces} {f : Unit {0} → Reader B} {b : B} (decode : Lexeme → Option (Unit {0})) (n : ℕ) → decode l ≡ Some tt → ((m : ℕ) → n ≡ suc m → Leads s qs (f tt) b) →
     Leads s (token sp l ∷ qs) (enter decode n >>= f) b
-entered {s = s} {sp = sp} {l = l} {qs = qs} {f = f} {b = b} decode n e h = record { leads = λ c x d r w q.
-    let t = head_of c sp l qs x d w in
-    subst (λ z. Agrees (and_then (enter decode n (at (z ++ r) c)) f) b (at r d)) (sym t.1)
-    (subst (λ o. Agrees (and_then (entering n o (at (l ∷ (t.0 ++ r)) c)) f) b (at r d)) (sym e) (entered_at s l qs f b n h c t.0 d r t.2 q)) }
+entered {s = s} {sp = sp} {l = l} {qs = qs} {f = f} {b = b} decode n e h = record {
+  leads = λ c x d r w q.
+      let t = head_of c sp l qs x d w in
+      subst (λ z. Agrees (and_then (enter decode n (at (z ++ r) c)) f) b (at r d)) (sym t.1)
+      (subst (λ o. Agrees (and_then (entering n o (at (l ∷ (t.0 ++ r)) c)) f) b (at r d)) (sym e) (entered_at s l qs f b n h c t.0 d r t.2 q));
+}
 
 pub drew : {B : Type 0} {s : Lexeme → Bool} {qs : Pieces} {f : ℕ → Reader B} {b : B} (decode : Lexeme → Option (Unit {0})) (j : ℕ) → decode (lexeme.Keyword k.Rand) ≡ Some tt → Leads s qs (f j) b → Leads s (drawn j ∷ qs) (drawn_word decode >>= f) b
-drew {s = s} {qs = qs} {f = f} {b = b} decode j e h = record { leads = λ c x d r w q.
-    let t = rand_of c j qs x d w in
-    subst (λ z. Agrees (and_then (drawn_word decode (at (z ++ r) c)) f) b (at r d)) (sym t.1)
-    (subst (λ o. Agrees (and_then (drawing o (at (lexeme.Keyword k.Rand ∷ (t.0 ++ r)) c)) f) b (at r d)) (sym e)
-    (subst (λ i. Agrees (f i (at (t.0 ++ r) (c + 1))) b (at r d)) t.2 (h.leads (c + 1) t.0 d r t.3 q))) }
+drew {s = s} {qs = qs} {f = f} {b = b} decode j e h = record {
+  leads = λ c x d r w q.
+      let t = rand_of c j qs x d w in
+      subst (λ z. Agrees (and_then (drawn_word decode (at (z ++ r) c)) f) b (at r d)) (sym t.1)
+      (subst (λ o. Agrees (and_then (drawing o (at (lexeme.Keyword k.Rand ∷ (t.0 ++ r)) c)) f) b (at r d)) (sym e)
+      (subst (λ i. Agrees (f i (at (t.0 ++ r) (c + 1))) b (at r d)) t.2 (h.leads (c + 1) t.0 d r t.3 q)));
+}
 
 pub peek_yes : {B : Type 0} {s : Lexeme → Bool} {ps : Pieces} {p q : Reader B} {b : B} (test : Lexeme → Bool) → Starts test ps → Leads s ps p b → Leads s ps (peeked test p q) b
-peek_yes {p = p} {q = q} {b = b} test h g = record { leads = λ c x d r w e.
-    subst (λ t. Agrees (cond t (p (at (x ++ r) c)) (q (at (x ++ r) c))) b (at r d)) (sym (h.starts c x d r w)) (g.leads c x d r w e) }
+peek_yes {p = p} {q = q} {b = b} test h g = record {
+  leads = λ c x d r w e.
+      subst (λ t. Agrees (cond t (p (at (x ++ r) c)) (q (at (x ++ r) c))) b (at r d)) (sym (h.starts c x d r w)) (g.leads c x d r w e);
+}
 
 pub peek_no : {B : Type 0} {s : Lexeme → Bool} {ps : Pieces} {p q : Reader B} {b : B} (test : Lexeme → Bool) → Misses test ps s → Leads s ps q b → Leads s ps (peeked test p q) b
-peek_no {p = p} {q = q} {b = b} test h g = record { leads = λ c x d r w e.
-    subst (λ t. Agrees (cond t (p (at (x ++ r) c)) (q (at (x ++ r) c))) b (at r d)) (sym (h.misses c x d r w e)) (g.leads c x d r w e) }
+peek_no {p = p} {q = q} {b = b} test h g = record {
+  leads = λ c x d r w e.
+      subst (λ t. Agrees (cond t (p (at (x ++ r) c)) (q (at (x ++ r) c))) b (at r d)) (sym (h.misses c x d r w e)) (g.leads c x d r w e);
+}
 
 -- the next of several forms
 pub after : {A B : Type 0} {v : A → Pieces} {t s : Lexeme → Bool} {qs : Pieces} {p : Reader A} {b : B} (f : A → Reader B) (a : A) → Again v t p → Misses t qs s → Leads s qs (f a) b → Leads s (v a ++ qs) (p >>= f) b
-after {v = v} {qs = qs} {p = p} {b = b} f a again m h = record { leads = λ c x d r w e.
-    let t = cut (v a) qs x c d w in
-    let q : x ++ r ≡ t.0 ++ (t.1 ++ r) = ap (λ z. z ++ r) t.3 ∙ append_assoc t.0 t.1 r in
-    subst (λ z. Agrees (and_then (p (at z c)) f) b (at r d)) (sym q)
-    (then_agrees f (p (at (t.0 ++ (t.1 ++ r)) c)) a (at (t.1 ++ r) t.2) b (at r d)
+after {v = v} {qs = qs} {p = p} {b = b} f a again m h = record {
+  leads = λ c x d r w e.
+      let t = cut (v a) qs x c d w in
+      let q : x ++ r ≡ t.0 ++ (t.1 ++ r) = ap (λ z. z ++ r) t.3 ∙ append_assoc t.0 t.1 r in
+      subst (λ z. Agrees (and_then (p (at z c)) f) b (at r d)) (sym q)
+      (then_agrees f (p (at (t.0 ++ (t.1 ++ r)) c)) a (at (t.1 ++ r) t.2) b (at r d)
       ((again.all a).leads c t.0 t.2 (t.1 ++ r) t.4 (m.misses t.2 t.1 d r t.5 e))
-      (h.leads t.2 t.1 d r t.5 e)) }
+      (h.leads t.2 t.1 d r t.5 e));
+}
 
 pub plainly : {B : Type 0} {s : Lexeme → Bool} {ps : Pieces} {p : Reader B} {b : B} → Leads s (ps ++ []) p b → Leads s ps p b
 plainly {s = s} {ps = ps} {p = p} {b = b} h = subst (λ z. Leads s z p b) (nil_right ps) h
@@ -234,8 +252,8 @@ module _ {A : Type 0} (w : A → Pieces) (t test : Lexeme → Bool) (p : Reader 
         (sym (unroll so_far (at (x ++ r) c) ∙ ap (λ z. if z then (p >>= λ y. many_after test p (so_far ++ y ∷ [])) (at (x ++ r) c) else Ok (so_far, at (x ++ r) c)) y))
         (subst (λ z. Agrees (and_then (and_then (p (at z c)) (λ y. many_after test p (so_far ++ y ∷ []))) f) b (at r d)) (sym q)
         (then_twice (λ y. many_after test p (so_far ++ y ∷ [])) f (p (at (u.0 ++ (u.1 ++ r)) c)) a (at (u.1 ++ r) u.2) b (at r d)
-          ((again.all a).leads c u.0 u.2 (u.1 ++ r) u.4 ((misses_each xs apart out).misses u.2 u.1 d r u.5 e))
-          (many_on xs (so_far ++ a ∷ []) (subst (λ z. Leads s qs (f z) b) (sym (append_assoc so_far (a ∷ []) xs)) h) u.2 u.1 d r u.5 e)))
+        ((again.all a).leads c u.0 u.2 (u.1 ++ r) u.4 ((misses_each xs apart out).misses u.2 u.1 d r u.5 e))
+        (many_on xs (so_far ++ a ∷ []) (subst (λ z. Leads s qs (f z) b) (sym (append_assoc so_far (a ∷ []) xs)) h) u.2 u.1 d r u.5 e)))
 
 -- each of a list, and then what follows it
 pub all_of : {A B : Type 0} {w : A → Pieces} {t s : Lexeme → Bool} {qs : Pieces} {p : Reader A} {b : B} (f : List A → Reader B) (test : Lexeme → Bool) (xs : List A) → Again w t p → ((a : A) → Starts test (w a)) → ((a : A) → Begun t (w a)) →
@@ -282,8 +300,8 @@ module _ {A : Type 0} (w : A → Pieces) (t test : Lexeme → Bool) (p : Reader 
         (sym (ap (λ z. if z then (p >>= λ y. many_from test p turns (so_far ++ y ∷ [])) (at (x ++ r) c) else Ok (so_far, at (x ++ r) c)) y))
         (subst (λ z. Agrees (and_then (and_then (p (at z c)) (λ y. many_from test p turns (so_far ++ y ∷ []))) f) b (at r d)) (sym q)
         (then_twice (λ y. many_from test p turns (so_far ++ y ∷ [])) f (p (at (u.0 ++ (u.1 ++ r)) c)) a (at (u.1 ++ r) u.2) b (at r d)
-          ((again.all a).leads c u.0 u.2 (u.1 ++ r) u.4 ((misses_each xs apart out).misses u.2 u.1 d r u.5 e))
-          (few_on xs turns (so_far ++ a ∷ []) (omega arith) (subst (λ z. Leads s qs (f z) b) (sym (append_assoc so_far (a ∷ []) xs)) h) u.2 u.1 d r u.5 e)))
+        ((again.all a).leads c u.0 u.2 (u.1 ++ r) u.4 ((misses_each xs apart out).misses u.2 u.1 d r u.5 e))
+        (few_on xs turns (so_far ++ a ∷ []) (omega arith) (subst (λ z. Leads s qs (f z) b) (sym (append_assoc so_far (a ∷ []) xs)) h) u.2 u.1 d r u.5 e)))
 
 -- each of a list of at most so many, and then what follows it
 pub few_of : {A B : Type 0} {t s : Lexeme → Bool} {p : Reader A} {b : B} (w : A → Pieces) (qs : Pieces) (f : List A → Reader B) (test : Lexeme → Bool) (most : ℕ) (xs : List A) → Again w t p → ((a : A) → Starts test (w a)) → ((a : A) → Begun t (w a)) →

@@ -1,6 +1,5 @@
 -- Conditions are read exactly.
-use Rattle.std.proofs.Common.{◌≡◌, ℕ, zero, suc, ◌+◌, ◌≤◌, List, [], ◌∷◌, ◌++◌, map, length, append_assoc, Bool, true, false, Option, Some, None, refl, ap, sym, ◌∙◌, subst, if◌then◌else◌, arith, codes}
-use Rattle.cga_fraction.specs.Rat.{Rat, of_int}
+use Rattle.std.proofs.Common.{◌≡◌, ℕ, zero, suc, List, [], ◌∷◌, ◌++◌, map, append_assoc, Bool, true, false, Some, refl, ap, sym, ◌∙◌, subst, arith, codes}
 use Rattle.cga_lexer.specs.declared.sign.Sign.{Sign}
 use Rattle.cga_lexer.specs.declared.sign.Sign.TheVariants as s
 use Rattle.cga_word.specs.declared.axis.Axis.{Axis}
@@ -25,20 +24,20 @@ use Rattle.cga_syntax.specs.declared.cond.Test.TheFolds.{fold-roll-Cond, fold-ro
 use Rattle.cga_syntax.specs.declared.cond.Test.TheOpen as layer
 use Rattle.cga_syntax.specs.declared.cond.Relation.{Relation}
 use Rattle.cga_syntax.specs.declared.cond.Relation.TheVariants as relation
-use Rattle.cga_syntax.specs.Pieces.{Piece, Space, usual, token, sign, keyword, word, text, Pieces, concat, Writes, squared, separated, size_word, target_text, state_text, relation_sign, equality_sign, expr_pieces, scaled_pieces, added_pieces, cond_pieces, conj_pieces, test_pieces, test_step, cond_step, conj_step}
+use Rattle.cga_syntax.specs.Pieces.{usual, token, sign, keyword, word, text, Pieces, concat, squared, size_word, target_text, state_text, relation_sign, equality_sign, expr_pieces, scaled_pieces, added_pieces, cond_pieces, conj_pieces, test_pieces, test_step, cond_step, conj_step}
 use Rattle.cga_syntax.specs.Brackets.{counted, bracket_of}
-use Rattle.cga_parser.specs.Reader.{Reader, ◌>>=◌, ◌>>◌, pure, refuse, single, enter, many}
-use Rattle.cga_parser.specs.Tokens.{a_sign, a_keyword, is_sign, is_keyword, a_relation, relation_of, an_equality, equality_of, a_target, target_of, a_state, state_of, a_scope_word, scope_word_of}
+use Rattle.cga_parser.specs.Reader.{Reader, ◌>>=◌, ◌>>◌, pure, refuse, single}
+use Rattle.cga_parser.specs.Tokens.{is_sign, is_keyword, a_relation, relation_of, an_equality, equality_of, a_target, target_of, a_state, state_of, a_scope_word, scope_word_of}
 use Rattle.cga_parser.specs.Grammar as g
 use Rattle.cga_parser.specs.declared.heads.ScopeWord.{ScopeWord}
 use Rattle.cga_parser.specs.declared.heads.ScopeWord.TheVariants as scope_word
 use Rattle.cga_parser.proofs.Runs.{Some_text}
-use Rattle.cga_parser.proofs.Written.{nothing, token_first, plain_written, long_of, nil_right}
+use Rattle.cga_parser.proofs.Written.{plain_written, long_of, nil_right}
 use Rattle.cga_parser.proofs.Forms.{After, Goes, Reads, next, done, Token, one_token, bracketed, either, refusing, Long, listed}
 use Rattle.cga_parser.proofs.Singles.{sign_token, keyword_token, opening, a_sign_is, as_token, by_token, pick, no_more}
 use Rattle.cga_parser.proofs.Layers.{expr_layer, term_layer, factor_layer, size_layer}
 use Rattle.cga_parser.proofs.Lists.{separated_is}
-use Rattle.cga_parser.proofs.Exprs.{dot, close, round, in_round, some_as, expr_some, expr_reads, inside_reads, scaled_long, scaled_reads, added_long, added_reads}
+use Rattle.cga_parser.proofs.Exprs.{dot, close, round, in_round, some_as, expr_reads, inside_reads, scaled_long, scaled_reads, added_long, added_reads}
 
 abbrev pub scope_bytes : ScopeWord → List ℕ
 scope_bytes scope_word.Occ = codes "occ"
@@ -139,7 +138,7 @@ scope_of_is : (name : List ℕ) (a : ScopeWord) → scope_word_of name ≡ Some 
 scope_of_is name a =
     pick scope_bytes name scope_word.Occ (is name (scope_bytes scope_word.Occ)) _ a refl
     (pick scope_bytes name (scope_word.Size axis.X) (is name (size_word axis.X)) _ a refl
-      (pick scope_bytes name (scope_word.Size axis.Y) (is name (size_word axis.Y)) _ a refl (pick scope_bytes name (scope_word.Size axis.Z) (is name (size_word axis.Z)) _ a refl (no_more scope_bytes name a))))
+    (pick scope_bytes name (scope_word.Size axis.Y) (is name (size_word axis.Y)) _ a refl (pick scope_bytes name (scope_word.Size axis.Z) (is name (size_word axis.Z)) _ a refl (no_more scope_bytes name a))))
 
 scope_is : (l : Lexeme) (a : ScopeWord) → a_scope_word l ≡ Some a → l ≡ lexeme.Name (scope_bytes a)
 scope_is (lexeme.Name name) a e = ap lexeme.Name (scope_of_is name a e)
@@ -219,8 +218,8 @@ module _ (n : ℕ) (inner : Reader Cond) (h : IsInner n inner) where
   test_reads =
       either (is_sign s.LeftSquare) (next (square_reads n inner h) (λ c. done (group_layer c)))
       (either (is_keyword k.Not) (next (one_token (keyword_token k.Not n refl)) (λ _. next (square_reads n inner h) (λ c. done (not_layer c))))
-        (either (is_keyword k.Scope) (next (one_token (keyword_token k.Scope n refl)) (λ _. next (dot n) (λ _. next (one_token (scope_token n)) scope_reads)))
-          (next (expr_reads n) (λ left. compare_reads left _ refl))))
+      (either (is_keyword k.Scope) (next (one_token (keyword_token k.Scope n refl)) (λ _. next (dot n) (λ _. next (one_token (scope_token n)) scope_reads)))
+      (next (expr_reads n) (λ left. compare_reads left _ refl))))
 
   pub further_test_long : Long further_test_pieces
   further_test_long c x a d w = long_of c usual (lexeme.Keyword k.And) (test_pieces a) x d w

@@ -1,5 +1,5 @@
 -- A condition is read as it is written.
-use Rattle.std.proofs.Common.{◌≡◌, ℕ, zero, suc, ◌+◌, ◌||◌, List, [], ◌∷◌, ◌++◌, map, append_assoc, Bool, true, false, Option, Some, None, refl, ap, sym, ◌∙◌, subst, if◌then◌else◌, arith}
+use Rattle.std.proofs.Common.{◌≡◌, ℕ, zero, suc, ◌||◌, List, [], ◌∷◌, ◌++◌, map, append_assoc, Bool, true, false, Some, refl, ap, sym, ◌∙◌, subst, arith}
 use Rattle.cga_lexer.specs.declared.sign.Sign.TheVariants as s
 use Rattle.cga_word.specs.declared.axis.Axis.{Axis}
 use Rattle.cga_word.specs.declared.axis.Axis.TheVariants as axis
@@ -11,7 +11,7 @@ use Rattle.cga_syntax.specs.declared.keyword.Keyword.TheVariants as k
 use Rattle.cga_syntax.specs.declared.lexeme.Lexeme.{Lexeme}
 use Rattle.cga_syntax.specs.declared.lexeme.Lexeme.TheVariants as lexeme
 use Rattle.cga_syntax.specs.declared.expr.Expr.{Expr, roll-Expr, out-Expr, roll-out-Expr}
-use Rattle.cga_syntax.specs.declared.expr.Term.{Term, roll-Term, out-Term, roll-out-Term}
+use Rattle.cga_syntax.specs.declared.expr.Term.{Term, out-Term, roll-out-Term}
 use Rattle.cga_syntax.specs.declared.expr.Added.{Added}
 use Rattle.cga_syntax.specs.declared.expr.Scaled.{Scaled}
 use Rattle.cga_syntax.specs.declared.expr.Factor.{Factor}
@@ -27,18 +27,17 @@ use Rattle.cga_syntax.specs.declared.cond.Test.TheFolds.{fold-roll-Cond, fold-ro
 use Rattle.cga_syntax.specs.declared.cond.Test.TheOpen as test
 use Rattle.cga_syntax.specs.declared.cond.Relation.{Relation}
 use Rattle.cga_syntax.specs.declared.cond.Relation.TheVariants as relation
-use Rattle.cga_syntax.specs.Pieces.{Piece, never, token, sign, keyword, word, Pieces, concat, target_text, state_text, relation_sign, equality_sign, expr_pieces, term_pieces, scaled_pieces, added_pieces, factor_pieces, primary_pieces, cond_pieces, conj_pieces, test_pieces, test_step, cond_step, conj_step}
-use Rattle.cga_parser.specs.Reader.{Reader, ◌>>=◌, pure, refuse}
+use Rattle.cga_syntax.specs.Pieces.{never, sign, keyword, word, Pieces, concat, target_text, state_text, relation_sign, equality_sign, expr_pieces, scaled_pieces, added_pieces, factor_pieces, primary_pieces, cond_pieces, conj_pieces, test_pieces, test_step, cond_step, conj_step}
+use Rattle.cga_parser.specs.Reader.{Reader, refuse}
 use Rattle.cga_parser.specs.Tokens.{a_sign, a_keyword, is_sign, is_keyword, a_relation, an_equality, a_target, a_state, a_scope_word}
 use Rattle.cga_parser.specs.Grammar as g
 use Rattle.cga_parser.specs.declared.heads.ScopeWord.TheVariants as scope_word
-use Rattle.cga_parser.proofs.Written.{nil_right}
 use Rattle.cga_parser.proofs.Forms.{turned}
 use Rattle.cga_parser.proofs.Layers.{expr_layer, term_layer, factor_layer, number_layer, named_layer, group_layer as bracket_layer, floor_layer, ceil_layer, rand_layer}
 use Rattle.cga_parser.proofs.Exprs.{inside_reads, scaled_long, scaled_reads, added_long, added_reads}
 use Rattle.cga_parser.proofs.ExprsAgain.{goes_on, no_scaling, no_addition, Spares, expr_begun, scaled_again, scaled_starts, added_again, added_starts, added_begun, expr_again, inside_again, neither}
 use Rattle.cga_parser.proofs.Conds.{scope_bytes, IsInner, no_inner, one_inner, cond_reads, square_pieces, occ_pieces, sum_layer, further_test_pieces, further_test_long, further_test_reads, further_conj_pieces, further_conj_long, further_conj_reads, cond_layer, conj_layer, group_layer, not_layer, occ_layer, compare_layer}
-use Rattle.cga_parser.proofs.Again.{Leads, Again, Begun, Starts, Misses, begun_token, starts_token, begun_drawn, begun_named, begun_append, begun_as, missed, misses_end, misses_each, nothing, misses_nothing, begun_nothing, never_leads, ends, took, entered, peek_yes, peek_no, after, plainly, written_as, all_of}
+use Rattle.cga_parser.proofs.Again.{Leads, Again, Begun, begun_token, starts_token, begun_drawn, begun_named, begun_append, begun_as, missed, misses_end, misses_each, nothing, misses_nothing, begun_nothing, never_leads, ends, took, entered, peek_yes, peek_no, after, plainly, written_as, all_of}
 
 -- the tokens that go on with a conjunction, and with a condition
 abbrev pub with_and : Lexeme → Bool
@@ -109,8 +108,10 @@ module _ (n : ℕ) (inner : Reader Cond) (h : AgainInner n inner) (r : IsInner n
 
   occ_again : Again occ_pieces nothing (g.occ_parts n inner)
   unfolding g.occ_parts
-  occ_again = record { all = λ p. entered (a_sign s.LeftRound) n refl (λ m q.
-      took a_target p.0 (target_read p.0) (took (a_sign s.RightRound) tt refl (took an_equality p.1 (equality_read p.1) (took a_state p.2 (state_read p.2) ends)))) }
+  occ_again = record {
+    all = λ p. entered (a_sign s.LeftRound) n refl (λ m q.
+        took a_target p.0 (target_read p.0) (took (a_sign s.RightRound) tt refl (took an_equality p.1 (equality_read p.1) (took a_state p.2 (state_read p.2) ends))));
+  }
 
   compare_again : (left : Expr) (o : Relation) (right : Expr) → Leads goes_on (sign (relation_sign o) ∷ expr_pieces right) (g.compare_after n inner left) (t.Compare left o right)
   unfolding g.compare_after
@@ -131,7 +132,7 @@ module _ (n : ℕ) (inner : Reader Cond) (h : AgainInner n inner) (r : IsInner n
   unfolding g.test
   asked_again a equal state =
       written_as (occ_layer a equal state) (peek_no _ (missed (begun_token refl)) (peek_no _ (missed (begun_token refl)) (peek_yes _ (starts_token refl)
-        (took (a_keyword k.Scope) tt refl (took (a_sign s.Dot) tt refl (took a_scope_word scope_word.Occ refl (plainly (after _ (a, equal, state) occ_again misses_nothing ends))))))))
+      (took (a_keyword k.Scope) tt refl (took (a_sign s.Dot) tt refl (took a_scope_word scope_word.Occ refl (plainly (after _ (a, equal, state) occ_again misses_nothing ends))))))))
 
   -- a comparison that begins with a size of the scope
   sum_again : (a : Axis) (fs : List Scaled) (ts : List Added) (o : Relation) (right : Expr) → At_test (t.Compare (g.sum_of (g.size_factor a) fs ts) o right)
@@ -141,14 +142,14 @@ module _ (n : ℕ) (inner : Reader Cond) (h : AgainInner n inner) (r : IsInner n
       let end : Pieces = sign (relation_sign o) ∷ expr_pieces right in
       written_as (compare_layer left o right ∙ ap (λ z. z ++ end) (sum_layer n inner r a fs ts) ∙ ap (λ z. keyword k.Scope ∷ sign s.Dot ∷ word (scope_bytes (scope_word.Size a)) ∷ z) (append_assoc (concat (map scaled_pieces fs)) (concat (map added_pieces ts)) end))
       (peek_no _ (missed (begun_token refl)) (peek_no _ (missed (begun_token refl)) (peek_yes _ (starts_token refl)
-        (took (a_keyword k.Scope) tt refl (took (a_sign s.Dot) tt refl (took a_scope_word (scope_word.Size a) (size_read a)
-          (all_of _ g.is_scaling fs (scaled_again n (g.inside_of n) (inside_again n) (inside_reads n)) scaled_starts (λ z. begun_nothing)
-            (turned scaled_pieces n g.is_scaling (g.scaled n (g.inside_of n)) scaled_long (scaled_reads n (g.inside_of n) (inside_reads n)))
-            misses_nothing (misses_each ts added_begun (missed (begun_token (no_scaling (lexeme.Sign (relation_sign o)) (relation_stops o)))))
-            (all_of _ g.is_addition ts (added_again n (g.inside_of n) (inside_again n) (inside_reads n)) added_starts added_begun
-              (turned added_pieces n g.is_addition (g.added n (g.inside_of n)) added_long (added_reads n (g.inside_of n) (inside_reads n)))
-              (missed (begun_token (no_scaling (lexeme.Sign (relation_sign o)) (relation_stops o)))) (missed (begun_token (no_addition (lexeme.Sign (relation_sign o)) (relation_stops o))))
-              (compare_again left o right)))))))))
+      (took (a_keyword k.Scope) tt refl (took (a_sign s.Dot) tt refl (took a_scope_word (scope_word.Size a) (size_read a)
+      (all_of _ g.is_scaling fs (scaled_again n (g.inside_of n) (inside_again n) (inside_reads n)) scaled_starts (λ z. begun_nothing)
+      (turned scaled_pieces n g.is_scaling (g.scaled n (g.inside_of n)) scaled_long (scaled_reads n (g.inside_of n) (inside_reads n)))
+      misses_nothing (misses_each ts added_begun (missed (begun_token (no_scaling (lexeme.Sign (relation_sign o)) (relation_stops o)))))
+      (all_of _ g.is_addition ts (added_again n (g.inside_of n) (inside_again n) (inside_reads n)) added_starts added_begun
+      (turned added_pieces n g.is_addition (g.added n (g.inside_of n)) added_long (added_reads n (g.inside_of n) (inside_reads n)))
+      (missed (begun_token (no_scaling (lexeme.Sign (relation_sign o)) (relation_stops o)))) (missed (begun_token (no_addition (lexeme.Sign (relation_sign o)) (relation_stops o))))
+      (compare_again left o right)))))))))
 
   -- one that doesn't
   other_again : (left : Expr) (o : Relation) (right : Expr) → Begun (is_keyword k.Scope) (expr_pieces left) → At_test (t.Compare left o right)
@@ -156,7 +157,7 @@ module _ (n : ℕ) (inner : Reader Cond) (h : AgainInner n inner) (r : IsInner n
   other_again left o right b =
       let end : Pieces = sign (relation_sign o) ∷ expr_pieces right in
       written_as (compare_layer left o right) (peek_no _ (missed (begun_append end (expr_begun square_spares refl left))) (peek_no _ (missed (begun_append end (expr_begun not_spares refl left)))
-        (peek_no _ (missed (begun_append end b)) (after _ left (expr_again n) (missed (begun_token (relation_stops o))) (compare_again left o right)))))
+      (peek_no _ (missed (begun_append end b)) (after _ left (expr_again n) (missed (begun_token (relation_stops o))) (compare_again left o right)))))
 
   by_primary : (q : Primary-F Primary Added Expr Factor Scaled Term) (fs : List Scaled) (ts : List Added) (o : Relation) (right : Expr) → At_test (t.Compare (g.sum_of (record { minus = false; primary = roll-Primary q }) fs ts) o right)
   by_primary (layer.ScopeSize a) fs ts o right = subst (λ p. At_test (t.Compare (g.sum_of (record { minus = false; primary = p }) fs ts) o right)) (sym (rolls-ScopeSize a)) (sum_again a fs ts o right)
@@ -176,7 +177,7 @@ module _ (n : ℕ) (inner : Reader Cond) (h : AgainInner n inner) (r : IsInner n
   compared_again left o right =
       subst (λ z. At_test (t.Compare z o right)) (roll-out-Expr left)
       (subst (λ z. At_test (t.Compare (roll-Expr (record { first = z; rest = (out-Expr left).rest })) o right)) (roll-out-Term (out-Expr left).first)
-        (by_factor (out-Term (out-Expr left).first).first.minus (out-Term (out-Expr left).first).first.primary (out-Term (out-Expr left).first).rest (out-Expr left).rest o right))
+      (by_factor (out-Term (out-Expr left).first).first.minus (out-Term (out-Expr left).first).first.primary (out-Term (out-Expr left).first).rest (out-Expr left).rest o right))
 
   test_at : (q : Test-F Test Cond Conj) → At_test (roll-Test q)
   test_at (test.Group c) = subst At_test (sym (rolls-Squared c)) (group_again c)
@@ -197,8 +198,8 @@ module _ (n : ℕ) (inner : Reader Cond) (h : AgainInner n inner) (r : IsInner n
   conj_at (a ∷ more) =
       let stop : (l : Lexeme) → with_and l ≡ false → goes_on l ≡ false = λ l e. (neither (goes_on l) (is_keyword k.And l) e).0 in
       written_as (conj_layer a more) (after _ a test_again (misses_each more (λ z. begun_token refl) (misses_end stop))
-        (all_of _ (is_keyword k.And) more further_test_again (λ z. starts_token refl) (λ z. begun_token refl) (turned further_test_pieces n (is_keyword k.And) (g.further_test n inner) (further_test_long n inner r) (further_test_reads n inner r))
-          (misses_end stop) (misses_end (λ l e. (neither (goes_on l) (is_keyword k.And l) e).1)) ends))
+      (all_of _ (is_keyword k.And) more further_test_again (λ z. starts_token refl) (λ z. begun_token refl) (turned further_test_pieces n (is_keyword k.And) (g.further_test n inner) (further_test_long n inner r) (further_test_reads n inner r))
+      (misses_end stop) (misses_end (λ l e. (neither (goes_on l) (is_keyword k.And l) e).1)) ends))
 
   conj_again : Again conj_pieces with_and (g.conj n inner)
   conj_again = record { all = λ c. subst (λ z. Leads with_and (conj_pieces z) (g.conj n inner) z) (roll-out-Conj c) (conj_at (out-Conj c).tests) }
@@ -213,8 +214,8 @@ module _ (n : ℕ) (inner : Reader Cond) (h : AgainInner n inner) (r : IsInner n
   cond_at (a ∷ more) =
       let stop : (l : Lexeme) → with_or l ≡ false → with_and l ≡ false = λ l e. (neither (with_and l) (is_keyword k.Or l) e).0 in
       written_as (cond_layer a more) (after _ a conj_again (misses_each more (λ z. begun_token refl) (misses_end stop))
-        (all_of _ (is_keyword k.Or) more further_conj_again (λ z. starts_token refl) (λ z. begun_token refl) (turned further_conj_pieces n (is_keyword k.Or) (g.further_conj n inner) (further_conj_long n inner r) (further_conj_reads n inner r))
-          (misses_end stop) (misses_end (λ l e. (neither (with_and l) (is_keyword k.Or l) e).1)) ends))
+      (all_of _ (is_keyword k.Or) more further_conj_again (λ z. starts_token refl) (λ z. begun_token refl) (turned further_conj_pieces n (is_keyword k.Or) (g.further_conj n inner) (further_conj_long n inner r) (further_conj_reads n inner r))
+      (misses_end stop) (misses_end (λ l e. (neither (with_and l) (is_keyword k.Or l) e).1)) ends))
 
   pub layer_again : Again cond_pieces with_or (g.cond_layer n inner)
   layer_again = record { all = λ c. subst (λ z. Leads with_or (cond_pieces z) (g.cond_layer n inner) z) (roll-out-Cond c) (cond_at (out-Cond c).conjs) }

@@ -1,6 +1,6 @@
 -- Expressions are read exactly.
-use Rattle.std.proofs.Common.{◌≡◌, ℕ, zero, suc, ◌+◌, ◌≤◌, List, [], ◌∷◌, ◌++◌, map, length, append_assoc, Bool, true, false, Option, Some, None, refl, ap, sym, ◌∙◌, subst, if◌then◌else◌, arith, ℤ, pos}
-use Rattle.cga_fraction.specs.Rat.{Rat, of_int}
+use Rattle.std.proofs.Common.{◌≡◌, ℕ, zero, suc, List, [], ◌∷◌, ◌++◌, append_assoc, Bool, true, false, Some, refl, ap, sym, ◌∙◌, subst, if◌then◌else◌, arith, pos}
+use Rattle.cga_fraction.specs.Rat.{of_int}
 use Rattle.cga_lexer.specs.declared.sign.Sign.{Sign}
 use Rattle.cga_lexer.specs.declared.sign.Sign.TheVariants as s
 use Rattle.cga_word.specs.declared.axis.Axis.{Axis}
@@ -12,22 +12,20 @@ use Rattle.cga_syntax.specs.declared.lexeme.Lexeme.{Lexeme}
 use Rattle.cga_syntax.specs.declared.lexeme.Lexeme.TheVariants as lexeme
 use Rattle.cga_syntax.specs.declared.expr.Expr.{Expr, roll-Expr}
 use Rattle.cga_syntax.specs.declared.expr.Term.{Term, roll-Term}
-use Rattle.cga_syntax.specs.declared.expr.Added.{Added, roll-Added, out-Added, roll-out-Added}
-use Rattle.cga_syntax.specs.declared.expr.Scaled.{Scaled}
+use Rattle.cga_syntax.specs.declared.expr.Added.{out-Added, roll-out-Added}
 use Rattle.cga_syntax.specs.declared.expr.Factor.{Factor}
-use Rattle.cga_syntax.specs.declared.expr.Primary.{Primary}
 use Rattle.cga_syntax.specs.declared.expr.Primary.TheVariants as v
-use Rattle.cga_syntax.specs.Pieces.{Piece, Space, usual, none_after, token, never, plain, sign, keyword, named, word, whole, drawn, Pieces, concat, Writes, grouped, size_word, expr_pieces, term_pieces, added_pieces, scaled_pieces, factor_pieces, primary_pieces}
-use Rattle.cga_syntax.specs.Brackets.{walk, counted, bracket_of}
-use Rattle.cga_parser.specs.Reader.{Reader, at, ◌>>=◌, ◌>>◌, pure, refuse, single, enter, drawn_word, peeked, many}
-use Rattle.cga_parser.specs.Tokens.{a_sign, a_keyword, a_name, a_whole, primary_head, primary_keyword, size_axis, size_axis_of, an_addition, add_sign, a_scaling, scale_sign, is_sign, is_keyword, unless}
+use Rattle.cga_syntax.specs.Pieces.{Space, usual, none_after, token, plain, sign, keyword, named, word, whole, Pieces, Writes, grouped, size_word, expr_pieces, term_pieces, added_pieces, scaled_pieces, factor_pieces, primary_pieces}
+use Rattle.cga_syntax.specs.Brackets.{counted, bracket_of}
+use Rattle.cga_parser.specs.Reader.{Reader, ◌>>=◌, ◌>>◌, pure, refuse, single, enter}
+use Rattle.cga_parser.specs.Tokens.{a_sign, a_whole, primary_head, primary_keyword, size_axis, size_axis_of, an_addition, add_sign, a_scaling, scale_sign, is_sign, is_keyword, unless}
 use Rattle.cga_parser.specs.Grammar as g
 use Rattle.cga_parser.specs.declared.heads.PrimaryHead.{PrimaryHead}
 use Rattle.cga_parser.specs.declared.heads.PrimaryHead.TheVariants as head
-use Rattle.cga_parser.proofs.Runs.{Language, Exact, Run, Some_text}
-use Rattle.cga_parser.proofs.Written.{nothing, token_first, head_of, long_of, nil_right}
-use Rattle.cga_parser.proofs.Forms.{After, Goes, Reads, next, done, Token, one_token, Opening, bracketed, one_rand, rand_piece, either, refusing, Long, listed}
-use Rattle.cga_parser.proofs.Singles.{sign_token, keyword_token, opening, a_sign_is, a_keyword_is, as_token, whole_token, whole_pieces, by_token, named_is, pick, no_more}
+use Rattle.cga_parser.proofs.Runs.{Some_text}
+use Rattle.cga_parser.proofs.Written.{nothing, token_first, long_of, nil_right}
+use Rattle.cga_parser.proofs.Forms.{After, Goes, Reads, next, done, Token, one_token, bracketed, one_rand, either, refusing, Long, listed}
+use Rattle.cga_parser.proofs.Singles.{sign_token, opening, a_sign_is, a_keyword_is, as_token, whole_token, by_token, named_is, pick, no_more}
 use Rattle.cga_parser.proofs.Layers.{expr_layer, term_layer, added_layer, scaled_layer, factor_layer, number_layer, named_layer, size_layer, group_layer, floor_layer, ceil_layer, rand_layer}
 
 pub comma : (n : ℕ) → Reads n n (as_token usual (lexeme.Sign s.Comma)) (g.sign s.Comma)
@@ -197,7 +195,7 @@ module _ (n : ℕ) (inside : Reader Expr) (h : IsInside n inside) where
   primary_reads =
       either (is_sign s.LeftRound) (next (group_reads n inside h) (λ e. done (group_layer e)))
       (either (is_keyword k.Rand) (next (one_rand (λ l e. a_keyword_is k.Rand l tt e) n) (λ j. next (rand_reads n inside h) (λ p. done (rand_layer j p.0 p.1 p.2))))
-        (next (one_token (head_token n)) rest_reads))
+      (next (one_token (head_token n)) rest_reads))
 
   pub factor_reads : Reads n n factor_pieces (g.factor n inside)
   unfolding g.factor

@@ -1,6 +1,6 @@
 -- An expression is read as it is written.
-use Rattle.std.proofs.Common.{◌≡◌, ℕ, zero, suc, ◌+◌, ◌||◌, List, [], ◌∷◌, ◌++◌, map, Bool, true, false, Option, Some, None, refl, ap, sym, ◌∙◌, subst, if◌then◌else◌, arith, is_some}
-use Rattle.cga_fraction.specs.Rat.{Rat, of_int}
+use Rattle.std.proofs.Common.{◌≡◌, ℕ, zero, suc, ◌||◌, List, [], ◌++◌, map, Bool, true, false, Some, refl, ap, sym, ◌∙◌, subst, if◌then◌else◌, arith}
+use Rattle.cga_fraction.specs.Rat.{Rat}
 use Rattle.cga_lexer.specs.declared.sign.Sign.TheVariants as s
 use Rattle.cga_word.specs.declared.axis.Axis.{Axis}
 use Rattle.cga_word.specs.declared.axis.Axis.TheVariants as axis
@@ -16,16 +16,16 @@ use Rattle.cga_syntax.specs.declared.expr.Primary.{Primary, Primary-F, out-Prima
 use Rattle.cga_syntax.specs.declared.expr.Primary.TheVariants as v
 use Rattle.cga_syntax.specs.declared.expr.Primary.TheVariants.{rolls-Number, rolls-Named, rolls-ScopeSize, rolls-Group, rolls-Floor, rolls-Ceil, rolls-Rand}
 use Rattle.cga_syntax.specs.declared.expr.Primary.TheOpen as layer
-use Rattle.cga_syntax.specs.Pieces.{Piece, token, sign, named, whole, Pieces, concat, size_word, expr_pieces, term_pieces, added_pieces, scaled_pieces, factor_pieces, primary_pieces}
-use Rattle.cga_parser.specs.Reader.{Reader, Input, ◌>>=◌, pure, refuse, begins, many_after}
-use Rattle.cga_parser.specs.Tokens.{a_sign, a_keyword, a_whole, primary_head, size_axis, an_addition, a_scaling, is_sign, is_keyword, unless}
+use Rattle.cga_syntax.specs.Pieces.{concat, size_word, expr_pieces, term_pieces, added_pieces, scaled_pieces, factor_pieces, primary_pieces}
+use Rattle.cga_parser.specs.Reader.{Reader, refuse}
+use Rattle.cga_parser.specs.Tokens.{a_sign, a_keyword, a_whole, primary_head, size_axis, an_addition, a_scaling, is_sign, unless}
 use Rattle.cga_parser.specs.Grammar as g
 use Rattle.cga_parser.specs.declared.heads.PrimaryHead.TheVariants as head
 use Rattle.cga_parser.proofs.Written.{nil_right}
-use Rattle.cga_parser.proofs.Forms.{Reads, turned}
+use Rattle.cga_parser.proofs.Forms.{turned}
 use Rattle.cga_parser.proofs.Exprs.{IsInside, group_pieces, rand_rest_pieces, scaled_long, scaled_reads, added_long, added_reads, expr_reads, no_inside, one_inside}
 use Rattle.cga_parser.proofs.Layers.{expr_layer, term_layer, added_layer, scaled_layer, factor_layer, number_layer, named_layer, size_layer, group_layer, floor_layer, ceil_layer, rand_layer}
-use Rattle.cga_parser.proofs.Again.{Leads, Again, Begun, Starts, Misses, begun_token, starts_token, begun_drawn, starts_drawn, begun_named, begun_append, begun_as, starts_as, missed, misses_end, misses_each, nothing, misses_nothing, begun_nothing, ends, took, by_name, entered, drew, peek_yes, peek_no, after, plainly, written_as, all_of, whole_leads}
+use Rattle.cga_parser.proofs.Again.{Leads, Again, Begun, Starts, begun_token, starts_token, begun_drawn, starts_drawn, begun_named, begun_append, begun_as, starts_as, missed, misses_end, misses_each, nothing, misses_nothing, begun_nothing, ends, took, by_name, entered, drew, peek_yes, peek_no, after, plainly, written_as, all_of, whole_leads}
 
 -- the tokens that go on with an expression
 abbrev pub goes_on : Lexeme → Bool
@@ -123,10 +123,12 @@ module _ (n : ℕ) (inside : Reader Expr) (h : AgainInside n inside) (r : IsInsi
 
   rand_again : Again rand_rest_pieces nothing (g.rand_parts n inside)
   unfolding g.rand_parts
-  rand_again = record { all = λ p. entered (a_sign s.LeftRound) n refl (λ m q.
-      after _ p.0 (h m q) (missed (begun_token refl)) (took (a_sign s.Comma) tt refl
-      (after _ p.1 (h m q) (missed (begun_token refl)) (took (a_sign s.Comma) tt refl
-      (whole_leads 1 1000000 p.2 (λ e. took (a_whole 1 1000000) p.2 e (took (a_sign s.RightRound) tt refl ends))))))) }
+  rand_again = record {
+    all = λ p. entered (a_sign s.LeftRound) n refl (λ m q.
+        after _ p.0 (h m q) (missed (begun_token refl)) (took (a_sign s.Comma) tt refl
+        (after _ p.1 (h m q) (missed (begun_token refl)) (took (a_sign s.Comma) tt refl
+        (whole_leads 1 1000000 p.2 (λ e. took (a_whole 1 1000000) p.2 e (took (a_sign s.RightRound) tt refl ends)))))));
+  }
 
   number_again : (value : Rat) → Leads nothing (primary_pieces (v.Number value)) (g.primary n inside) (v.Number value)
   unfolding g.primary
@@ -136,13 +138,13 @@ module _ (n : ℕ) (inside : Reader Expr) (h : AgainInside n inside) (r : IsInsi
   unfolding g.primary
   named_again name =
       written_as (named_layer name) (peek_no _ (missed (begun_named name refl)) (peek_no _ (missed (begun_named name refl))
-        (by_name name (λ e. took primary_head (head.Named name) (ap (λ b. unless b (head.Named name)) e) ends))))
+      (by_name name (λ e. took primary_head (head.Named name) (ap (λ b. unless b (head.Named name)) e) ends))))
 
   size_again : (a : Axis) → Leads nothing (primary_pieces (v.ScopeSize a)) (g.primary n inside) (v.ScopeSize a)
   unfolding g.primary
   size_again a =
       written_as (size_layer a) (peek_no _ (missed (begun_token refl)) (peek_no _ (missed (begun_token refl))
-        (took primary_head head.Scope refl (took (a_sign s.Dot) tt refl (took size_axis a (axis_read a) ends)))))
+      (took primary_head head.Scope refl (took (a_sign s.Dot) tt refl (took size_axis a (axis_read a) ends)))))
 
   grouped_again : (e : Expr) → Leads nothing (primary_pieces (v.Group e)) (g.primary n inside) (v.Group e)
   unfolding g.primary
@@ -160,7 +162,7 @@ module _ (n : ℕ) (inside : Reader Expr) (h : AgainInside n inside) (r : IsInsi
   unfolding g.primary
   drawn_again j low high steps =
       written_as (rand_layer j low high steps) (peek_no _ (missed (begun_drawn refl)) (peek_yes _ (starts_drawn refl)
-        (drew (a_keyword k.Rand) j refl (plainly (after _ (low, high, steps) rand_again misses_nothing ends)))))
+      (drew (a_keyword k.Rand) j refl (plainly (after _ (low, high, steps) rand_again misses_nothing ends)))))
 
   abbrev At_primary : Primary → Type 0
   At_primary p = Leads nothing (primary_pieces p) (g.primary n inside) p
@@ -196,7 +198,7 @@ module _ (n : ℕ) (inside : Reader Expr) (h : AgainInside n inside) (r : IsInsi
   pub term_rest : (f : Factor) (rest : List Scaled) → Leads g.is_scaling (concat (map scaled_pieces rest)) (g.term_after n inside f) (roll-Term (record { first = f; rest = rest }))
   term_rest f rest =
       plainly (all_of _ g.is_scaling rest scaled_again scaled_starts (λ a. begun_nothing) (turned scaled_pieces n g.is_scaling (g.scaled n inside) scaled_long (scaled_reads n inside r))
-        misses_nothing (misses_end (λ l e. e)) ends)
+      misses_nothing (misses_end (λ l e. e)) ends)
 
   term_at : (f : Factor) (rest : List Scaled) → Leads g.is_scaling (term_pieces (roll-Term (record { first = f; rest = rest }))) (g.term n inside) (roll-Term (record { first = f; rest = rest }))
   unfolding g.term

@@ -1,13 +1,13 @@
 -- Each form's reader takes what is written so, and stops at the first token with which nothing is.
-use Rattle.std.proofs.Common.{◌≡◌, ℕ, zero, suc, ◌+◌, ◌-◌, List, [], ◌∷◌, ◌++◌, map, length, ◌≤◌, ◌<◌, append_assoc, Bool, true, false, Option, Some, None, refl, ap, sym, ◌∙◌, subst, arith, nat_le, Ok, if◌then◌else◌}
+use Rattle.std.proofs.Common.{◌≡◌, ℕ, zero, suc, ◌+◌, ◌-◌, List, [], ◌∷◌, ◌++◌, map, length, ◌≤◌, ◌<◌, append_assoc, Bool, true, false, Option, Some, refl, ap, sym, ◌∙◌, subst, arith, nat_le, Ok, if◌then◌else◌}
 use Rattle.cga_syntax.specs.declared.lexeme.Lexeme.{Lexeme}
 use Rattle.cga_syntax.specs.declared.lexeme.Lexeme.TheVariants as lexeme
 use Rattle.cga_syntax.specs.declared.keyword.Keyword.TheVariants as k
-use Rattle.cga_syntax.specs.Pieces.{Piece, Space, usual, token, never, drawn, Pieces, concat, Writes}
-use Rattle.cga_syntax.specs.Brackets.{walk, counted, bracket_of, opens}
-use Rattle.cga_parser.specs.Reader.{Reader, at, ◌>>=◌, pure, refuse, single, enter, drawn_word, peeked, begins, many_from, many_after, many, Input}
+use Rattle.cga_syntax.specs.Pieces.{Space, usual, token, never, drawn, Pieces, concat, Writes}
+use Rattle.cga_syntax.specs.Brackets.{counted, bracket_of, opens}
+use Rattle.cga_parser.specs.Reader.{Reader, ◌>>=◌, pure, refuse, single, enter, drawn_word, peeked, begins, many_from, many_after, many, Input}
 use Rattle.std.proofs.lemmas.Bool.Decides.{nat_tests}
-use Rattle.cga_parser.proofs.Runs.{Language, Verdict, found, unexpected, nested, Means, Exact, Run, Some_text, Seq, Each, Grown, weaker, pure_runs, refuse_runs, bind_runs, single_runs, enter_runs, drawn_runs, peeked_runs, closed_runs, many_runs, Limited, limited_runs, unroll, shortens}
+use Rattle.cga_parser.proofs.Runs.{Language, Exact, Some_text, Seq, Each, Grown, weaker, pure_runs, refuse_runs, bind_runs, single_runs, enter_runs, drawn_runs, peeked_runs, closed_runs, many_runs, Limited, limited_runs, unroll, shortens}
 use Rattle.cga_parser.proofs.Written.{nothing, token_first, join, one, Of, each_writes}
 
 -- what is still to be written of a value, behind pieces that stand already
@@ -135,8 +135,8 @@ pub translated : {A B : Type 0} {v : A → Pieces} {w : B → Pieces} {n m : ℕ
 translated {A} {B} {v = v} {w = w} {n = n} {m = m} {p = p} f h g = record {
   runs = weaker {L = Seq (After [] v) (λ a. Same (f a))} {M = After [] w} n m
       (λ c x b d s.
-          let t = subst (λ z. Writes c (v s.2) z d) (sym (s.4 ∙ ap (λ z. s.0 ++ z) s.6.1 ∙ nil_right s.0)) (subst (λ e. Writes c (v s.2) s.0 e) s.6.2 (of_after v c s.0 s.2 s.3 s.5)) in
-          (w b, refl, subst (λ z. Writes c (w z) x d) (sym s.6.0) (h c x s.2 d t)))
+      let t = subst (λ z. Writes c (v s.2) z d) (sym (s.4 ∙ ap (λ z. s.0 ++ z) s.6.1 ∙ nil_right s.0)) (subst (λ e. Writes c (v s.2) s.0 e) s.6.2 (of_after v c s.0 s.2 s.3 s.5)) in
+      (w b, refl, subst (λ z. Writes c (w z) x d) (sym s.6.0) (h c x s.2 d t)))
       (bind_runs (After [] v) (λ a. Same (f a)) n m m p (λ a. pure (f a)) (λ a c. ([], f a, c, (refl, refl, refl))) (λ a. pure_runs {L = Same (f a)} m (f a) (λ c. (refl, refl, refl))) g.runs);
   some = λ c. let t = g.some c in (t.0, f t.1, t.2, (w (f t.1), refl, h c t.0 t.1 t.2 (of_after v c t.0 t.1 t.2 t.3)));
 }
@@ -176,8 +176,8 @@ pub limited : {A : Type 0} {w : A → Pieces} {n : ℕ} {p : Reader A} (test : L
 limited {w = w} {n = n} {p = p} test most g = record {
   runs = weaker {L = Limited (After [] w) n test p g.runs most []} {M = After [] (few_pieces most w)} n n
       (λ c x xs d h.
-          let e : xs ≡ h.0 = h.1 in
-          (few_pieces most w xs, refl, subst (λ z. Writes c z x d) (sym (few_is most w xs (subst (λ ys. length ys ≤ most) (sym e) h.3))) (each_writes w c x xs d (each_of w c x xs d (subst (λ ys. Each (After [] w) c x ys d) (sym e) h.2)))))
+      let e : xs ≡ h.0 = h.1 in
+      (few_pieces most w xs, refl, subst (λ z. Writes c z x d) (sym (few_is most w xs (subst (λ ys. length ys ≤ most) (sym e) h.3))) (each_writes w c x xs d (each_of w c x xs d (subst (λ ys. Each (After [] w) c x ys d) (sym e) h.2)))))
       (limited_runs (After [] w) n test p g.runs most []);
   some = λ c. ([], [], c, (few_pieces most w [], refl, subst (λ z. Writes c z [] c) (sym (few_is most w [] (omega arith))) (nothing c)));
 }

@@ -1,8 +1,7 @@
 -- Items are read exactly.
-use Rattle.std.proofs.Common.{◌≡◌, ℕ, zero, suc, ◌+◌, ◌≤◌, ◌==◌, ◌⊎◌, inl, inr, nat_le, List, [], ◌∷◌, ◌++◌, map, length, append_assoc, Bool, true, false, Option, Some, None, refl, ap, sym, ◌∙◌, subst, if◌then◌else◌, arith, codes, ℤ, pos}
+use Rattle.std.proofs.Common.{◌≡◌, ℕ, zero, suc, ◌≤◌, ◌==◌, inl, inr, nat_le, List, [], ◌∷◌, ◌++◌, map, length, append_assoc, Bool, true, false, Option, Some, None, refl, ap, sym, ◌∙◌, subst, if◌then◌else◌, arith, codes, pos}
 use Rattle.std.proofs.lemmas.Bool.{eqb-true}
 use Rattle.cga_fraction.specs.Rat.{Rat, of_int}
-use Rattle.cga_lexer.specs.declared.sign.Sign.{Sign}
 use Rattle.cga_lexer.specs.declared.sign.Sign.TheVariants as s
 use Rattle.cga_word.specs.declared.axis.Axis.{Axis}
 use Rattle.cga_word.specs.declared.axis.Axis.TheVariants as axis
@@ -13,7 +12,6 @@ use Rattle.cga_word.specs.declared.primitive.Primitive.TheVariants as solid
 use Rattle.cga_word.specs.declared.side.Side.{Side}
 use Rattle.cga_word.specs.declared.side.Side.TheVariants as side
 use Rattle.cga_word.specs.declared.selector.Selector.{Selector}
-use Rattle.cga_word.specs.declared.selector.Selector.TheVariants as selector
 use Rattle.cga_syntax.specs.Lexemes.{is, is_reserved}
 use Rattle.cga_syntax.specs.declared.keyword.Keyword.{Keyword}
 use Rattle.cga_syntax.specs.declared.keyword.Keyword.TheVariants as k
@@ -28,22 +26,22 @@ use Rattle.cga_syntax.specs.declared.item.Item.TheVariants as i
 use Rattle.cga_syntax.specs.declared.item.Item.TheVariants.{rolls-Move, rolls-Resize, rolls-Rotate, rolls-Scoped, rolls-Solid, rolls-Subdiv, rolls-Repeat, rolls-Comp, rolls-Child}
 use Rattle.cga_syntax.specs.declared.item.Item.TheFolds.{fold-roll-Body, fold-roll-Item}
 use Rattle.cga_syntax.specs.declared.item.Item.TheOpen as layer
-use Rattle.cga_syntax.specs.Pieces.{Piece, Space, usual, token, turned, plain, number, never, sign, keyword, word, text, named, whole, Pieces, concat, IsTurn, IsWritten, Writes, nonempty, separated, preceded, at_most, behind_each, arguments, three, body_of, in_curly, axis_text, turn_keyword, solid_text, side_text, selector_pieces, size_pieces, expr_pieces, item_pieces, body_pieces, item_step, body_step}
+use Rattle.cga_syntax.specs.Pieces.{Piece, Space, usual, token, turned, plain, number, never, sign, keyword, word, text, named, Pieces, concat, IsTurn, Writes, nonempty, separated, preceded, at_most, behind_each, arguments, three, body_of, in_curly, axis_text, turn_keyword, solid_text, side_text, selector_pieces, size_pieces, expr_pieces, item_pieces, body_pieces, item_step, body_step}
 use Rattle.cga_syntax.specs.Brackets.{counted, bracket_of}
-use Rattle.cga_parser.specs.Reader.{Reader, ◌>>=◌, ◌>>◌, pure, refuse, single, enter, peeked, many, many_from}
-use Rattle.cga_parser.specs.Tokens.{passing, a_sign, a_keyword, is_sign, is_keyword, unless, whole_of, whole_parts, a_whole, item_head, item_keyword, a_relative, is_relative, turn_of, turned_by, a_turn, ninety_by, a_ninety, axis_of, an_axis, solid_of, a_solid, side_of, a_side, selector_of, a_selector}
+use Rattle.cga_parser.specs.Reader.{Reader, ◌>>=◌, ◌>>◌, pure, refuse, single, enter, many, many_from}
+use Rattle.cga_parser.specs.Tokens.{passing, a_sign, is_sign, is_keyword, unless, whole_of, item_head, item_keyword, a_relative, is_relative, turn_of, turned_by, a_turn, ninety_by, a_ninety, axis_of, an_axis, solid_of, a_solid, side_of, a_side, selector_of, a_selector}
 use Rattle.cga_parser.specs.Grammar as g
 use Rattle.cga_parser.specs.declared.heads.ItemHead.{ItemHead}
 use Rattle.cga_parser.specs.declared.heads.ItemHead.TheVariants as head
 use Rattle.cga_parser.specs.declared.heads.SelectorHead.{SelectorHead}
 use Rattle.cga_parser.specs.declared.heads.SelectorHead.TheVariants as choice
-use Rattle.cga_parser.proofs.Runs.{Some_text, pure_runs}
-use Rattle.cga_parser.proofs.Written.{nothing, token_first, head_of, end_of, long_of, nil_right, plain_written, piece_written}
+use Rattle.cga_parser.proofs.Runs.{Some_text}
+use Rattle.cga_parser.proofs.Written.{head_of, end_of, long_of, nil_right, plain_written, piece_written}
 use Rattle.cga_parser.proofs.Forms.{After, Goes, Reads, next, done, Token, one_token, bracketed, either, refusing, Long, listed, limited, few_pieces, translated}
 use Rattle.cga_parser.proofs.Singles.{sign_token, keyword_token, opening, a_sign_is, as_token, by_token, whole_token, whole_value, named_is, pick, no_more}
 use Rattle.cga_parser.proofs.Lists.{behind_map, separated_is, preceded_is}
 use Rattle.cga_parser.proofs.Again.{never_written}
-use Rattle.cga_parser.proofs.Exprs.{comma, close, round, in_round, some_as, expr_some, refused_expr, IsInside, expr_reads, inside_reads}
+use Rattle.cga_parser.proofs.Exprs.{comma, close, round, in_round, some_as, expr_some, refused_expr, IsInside, inside_reads}
 
 -- ---- one layer of the pieces
 
@@ -156,7 +154,7 @@ axis_token n = by_token usual (λ a. lexeme.Text (axis_text a)) an_axis n axis_i
 solid_of_is : (name : List ℕ) (a : Primitive) → solid_of name ≡ Some a → name ≡ solid_text a
 solid_of_is name a =
     pick solid_text name solid.Cube (is name (solid_text solid.Cube)) _ a refl (pick solid_text name solid.Quad (is name (solid_text solid.Quad)) _ a refl (pick solid_text name solid.Shed (is name (solid_text solid.Shed)) _ a refl
-      (pick solid_text name solid.Gable (is name (solid_text solid.Gable)) _ a refl (pick solid_text name solid.Hip (is name (solid_text solid.Hip)) _ a refl (no_more solid_text name a)))))
+    (pick solid_text name solid.Gable (is name (solid_text solid.Gable)) _ a refl (pick solid_text name solid.Hip (is name (solid_text solid.Hip)) _ a refl (no_more solid_text name a)))))
 
 solid_is : (l : Lexeme) (a : Primitive) → a_solid l ≡ Some a → l ≡ lexeme.Text (solid_text a)
 solid_is (lexeme.Text name) a e = ap lexeme.Text (solid_of_is name a e)
@@ -168,7 +166,7 @@ solid_token n = by_token usual (λ a. lexeme.Text (solid_text a)) a_solid n soli
 side_of_is : (name : List ℕ) (a : Side) → side_of name ≡ Some a → name ≡ side_text a
 side_of_is name a =
     pick side_text name side.Front (is name (side_text side.Front)) _ a refl (pick side_text name side.Right (is name (side_text side.Right)) _ a refl (pick side_text name side.Back (is name (side_text side.Back)) _ a refl
-      (pick side_text name side.Left (is name (side_text side.Left)) _ a refl (pick side_text name side.Top (is name (side_text side.Top)) _ a refl (pick side_text name side.Bottom (is name (side_text side.Bottom)) _ a refl (no_more side_text name a))))))
+    (pick side_text name side.Left (is name (side_text side.Left)) _ a refl (pick side_text name side.Top (is name (side_text side.Top)) _ a refl (pick side_text name side.Bottom (is name (side_text side.Bottom)) _ a refl (no_more side_text name a))))))
 
 side_is : (l : Lexeme) (a : Side) → a_side l ≡ Some a → l ≡ lexeme.Text (side_text a)
 side_is (lexeme.Text name) a e = ap lexeme.Text (side_of_is name a e)
@@ -188,7 +186,7 @@ choice_text choice.Vertices = codes "vertices"
 choice_of_is : (name : List ℕ) (a : SelectorHead) → selector_of name ≡ Some a → name ≡ choice_text a
 choice_of_is name a =
     pick choice_text name choice.Faces (is name (choice_text choice.Faces)) _ a refl (pick choice_text name choice.Sidefaces (is name (choice_text choice.Sidefaces)) _ a refl (pick choice_text name choice.Face (is name (choice_text choice.Face)) _ a refl
-      (pick choice_text name choice.Edges (is name (choice_text choice.Edges)) _ a refl (pick choice_text name choice.Edge (is name (choice_text choice.Edge)) _ a refl (pick choice_text name choice.Vertices (is name (choice_text choice.Vertices)) _ a refl (no_more choice_text name a))))))
+    (pick choice_text name choice.Edges (is name (choice_text choice.Edges)) _ a refl (pick choice_text name choice.Edge (is name (choice_text choice.Edge)) _ a refl (pick choice_text name choice.Vertices (is name (choice_text choice.Vertices)) _ a refl (no_more choice_text name a))))))
 
 choice_is : (l : Lexeme) (a : SelectorHead) → a_selector l ≡ Some a → l ≡ lexeme.Text (choice_text a)
 choice_is (lexeme.Text name) a e = ap lexeme.Text (choice_of_is name a e)

@@ -1,6 +1,5 @@
 -- An item is read as it is written.
-use Rattle.std.proofs.Common.{◌≡◌, ℕ, zero, suc, ◌+◌, ◌||◌, List, [], ◌∷◌, ◌++◌, map, append_assoc, Bool, true, false, Option, Some, None, is_some, refl, ap, sym, ◌∙◌, subst, if◌then◌else◌, arith, inl, inr}
-use Rattle.cga_fraction.specs.Rat.{Rat}
+use Rattle.std.proofs.Common.{◌≡◌, ℕ, zero, suc, ◌||◌, List, [], ◌∷◌, ◌++◌, map, append_assoc, Bool, true, false, Some, is_some, refl, ap, sym, ◌∙◌, subst, arith, inl, inr}
 use Rattle.cga_lexer.specs.declared.sign.Sign.TheVariants as s
 use Rattle.cga_word.specs.declared.axis.Axis.{Axis}
 use Rattle.cga_word.specs.declared.axis.Axis.TheVariants as axis
@@ -12,7 +11,6 @@ use Rattle.cga_word.specs.declared.side.Side.{Side}
 use Rattle.cga_word.specs.declared.side.Side.TheVariants as side
 use Rattle.cga_word.specs.declared.selector.Selector.{Selector}
 use Rattle.cga_word.specs.declared.selector.Selector.TheVariants as selector
-use Rattle.cga_syntax.specs.Lexemes.{is_reserved}
 use Rattle.cga_syntax.specs.declared.keyword.Keyword.TheVariants as k
 use Rattle.cga_syntax.specs.declared.lexeme.Lexeme.{Lexeme}
 use Rattle.cga_syntax.specs.declared.lexeme.Lexeme.TheVariants as lexeme
@@ -24,19 +22,19 @@ use Rattle.cga_syntax.specs.declared.item.Item.{Item, Item-F, roll-Item, out-Ite
 use Rattle.cga_syntax.specs.declared.item.Item.TheVariants as i
 use Rattle.cga_syntax.specs.declared.item.Item.TheVariants.{rolls-Move, rolls-Resize, rolls-Rotate, rolls-Scoped, rolls-Solid, rolls-Subdiv, rolls-Repeat, rolls-Comp, rolls-Child}
 use Rattle.cga_syntax.specs.declared.item.Item.TheOpen as layer
-use Rattle.cga_syntax.specs.Pieces.{Piece, usual, token, turned, plain, number, never, sign, keyword, text, named, whole, Pieces, concat, IsTurn, Writes, nonempty, separated, preceded, arguments, three, axis_text, turn_keyword, solid_text, side_text, selector_pieces, size_pieces, expr_pieces, item_pieces, body_pieces}
-use Rattle.cga_parser.specs.Reader.{Reader, at, ◌>>=◌, ◌>>◌, pure, refuse, single, begins}
+use Rattle.cga_syntax.specs.Pieces.{usual, token, turned, plain, number, sign, keyword, text, Pieces, concat, IsTurn, Writes, axis_text, turn_keyword, solid_text, side_text, selector_pieces, size_pieces, expr_pieces, item_pieces, body_pieces}
+use Rattle.cga_parser.specs.Reader.{Reader, at, ◌>>=◌, ◌>>◌, pure, refuse, begins}
 use Rattle.cga_parser.specs.Tokens.{a_sign, a_keyword, is_sign, is_keyword, unless, a_whole, item_head, a_relative, is_relative, a_turn, a_ninety, an_axis, a_solid, a_side, a_selector}
 use Rattle.cga_parser.specs.Grammar as g
 use Rattle.cga_parser.specs.declared.heads.ItemHead.TheVariants as head
 use Rattle.cga_parser.specs.declared.heads.SelectorHead.TheVariants as choice
-use Rattle.cga_parser.proofs.Written.{nil_right, piece_of, piece_written, plain_written}
+use Rattle.cga_parser.proofs.Written.{nil_right, piece_of, plain_written}
 use Rattle.cga_parser.proofs.Forms.{Reads, turned as unrolled}
 use Rattle.cga_parser.proofs.Lists.{separated_is, preceded_is}
 use Rattle.cga_parser.proofs.Exprs.{IsInside, inside_reads}
 use Rattle.cga_parser.proofs.ExprsAgain.{goes_on, Spares, expr_begun, AgainInside, inside_again, neither}
-use Rattle.cga_parser.proofs.Items.{move_layer, resize_layer, rotate_layer, scoped_layer, solid_layer, subdiv_layer, repeat_layer, comp_layer, child_layer, list_pieces, body_layer, turn_number, choice_text, size_relative, size_absolute, triple, turn_pieces, turn_part_pieces, solid_pieces, further_size_pieces, further_size_long, further_size_reads, split_pieces, repeat_pieces, selector_part_pieces, further_argument_pieces, at_most_is, arguments_pieces, item_long, some_pieces, IsInnerItem, scoped_pieces, scoped_is, block_pieces, further_body_pieces, further_body_long, further_body_reads, blocks_pieces, subdiv_is, inner_item_reads, no_inner_item, one_inner_item, item_reads}
-use Rattle.cga_parser.proofs.Again.{Agrees, Leads, Again, Begun, Starts, Misses, begun_token, starts_token, begun_named, starts_named, begun_append, begun_as, starts_as, missed, misses_end, misses_each, few_misses, nothing, misses_nothing, begun_nothing, never_leads, ends, took, by_name, whole_leads, entered, peek_yes, peek_no, after, plainly, written_as, all_of, few_of}
+use Rattle.cga_parser.proofs.Items.{move_layer, resize_layer, rotate_layer, scoped_layer, solid_layer, subdiv_layer, repeat_layer, comp_layer, child_layer, list_pieces, body_layer, turn_number, size_relative, size_absolute, triple, turn_pieces, turn_part_pieces, solid_pieces, further_size_pieces, further_size_long, further_size_reads, split_pieces, repeat_pieces, selector_part_pieces, further_argument_pieces, at_most_is, arguments_pieces, item_long, some_pieces, IsInnerItem, scoped_pieces, scoped_is, block_pieces, further_body_pieces, further_body_long, further_body_reads, blocks_pieces, subdiv_is, no_inner_item, one_inner_item, item_reads}
+use Rattle.cga_parser.proofs.Again.{Agrees, Leads, Again, Begun, Starts, begun_token, starts_token, begun_named, starts_named, begun_append, begun_as, starts_as, missed, misses_end, misses_each, few_misses, nothing, misses_nothing, never_leads, ends, took, by_name, whole_leads, entered, peek_yes, peek_no, after, plainly, written_as, all_of, few_of}
 
 relative_spares : Spares is_relative
 relative_spares = record { number = λ v. refl; name = λ n. refl; bracket = refl; scope = refl; floor = refl; ceil = refl; rand = refl }
@@ -260,10 +258,10 @@ module _ (n : ℕ) (inside : Reader Expr) (h : AgainInside n inside) (r : IsInsi
   split_at a (x ∷ more) =
       written_as (ap (λ z. sign s.LeftRound ∷ text (axis_text a) ∷ z) (preceded_is (sign s.Comma) size_pieces x more (sign s.RightRound ∷ [])))
       (entered (a_sign s.LeftRound) n refl (λ m e. took an_axis a (axis_read a)
-        (after {v = further_size_pieces} _ x (further_size_again m e) (misses_each more (λ z. begun_token refl) (missed (begun_token refl)))
-          (all_of _ (is_sign s.Comma) more (further_size_again m e) (λ z. starts_token refl) (λ z. begun_token refl)
-            (unrolled further_size_pieces m (is_sign s.Comma) (g.further_size n inside) further_size_long (further_size_reads n m inside (r m e)))
-            (missed (begun_token refl)) (missed (begun_token refl)) (took (a_sign s.RightRound) tt refl ends)))))
+      (after {v = further_size_pieces} _ x (further_size_again m e) (misses_each more (λ z. begun_token refl) (missed (begun_token refl)))
+      (all_of _ (is_sign s.Comma) more (further_size_again m e) (λ z. starts_token refl) (λ z. begun_token refl)
+      (unrolled further_size_pieces m (is_sign s.Comma) (g.further_size n inside) further_size_long (further_size_reads n m inside (r m e)))
+      (missed (begun_token refl)) (missed (begun_token refl)) (took (a_sign s.RightRound) tt refl ends)))))
 
   split_again : Again split_pieces nothing (g.split_parts n inside)
   split_again = record { all = λ p. split_at p.0 p.1 }
@@ -285,7 +283,7 @@ module _ (n : ℕ) (inside : Reader Expr) (h : AgainInside n inside) (r : IsInsi
   some_arguments_at x more =
       written_as (ap (λ z. sign s.LeftRound ∷ (expr_pieces x ++ (z ++ (sign s.RightRound ∷ [])))) (at_most_is 3 (sign s.Comma) expr_pieces more))
       (entered (a_sign s.LeftRound) n refl (λ m e. after _ x (h m e) (few_misses further_argument_pieces (sign s.RightRound ∷ []) 3 more (misses_each more (λ z. begun_token refl) (missed (begun_token refl))))
-        (few_of further_argument_pieces (sign s.RightRound ∷ []) _ (is_sign s.Comma) 3 more (further_argument_again m e) (λ z. starts_token refl) (λ z. begun_token refl) (missed (begun_token refl)) (missed (begun_token refl)) (took (a_sign s.RightRound) tt refl ends))))
+      (few_of further_argument_pieces (sign s.RightRound ∷ []) _ (is_sign s.Comma) 3 more (further_argument_again m e) (λ z. starts_token refl) (λ z. begun_token refl) (missed (begun_token refl)) (missed (begun_token refl)) (took (a_sign s.RightRound) tt refl ends))))
 
   arguments_at : (es : List Expr) → Leads with_bracket (arguments_pieces es) (g.arguments n inside) es
   unfolding g.arguments
@@ -322,9 +320,9 @@ module _ (n : ℕ) (inside : Reader Expr) (h : AgainInside n inside) (r : IsInsi
     blocks_of is more =
         written_as (ap (λ z. sign s.LeftCurly ∷ z) (separated_is (sign s.Bar) body_pieces (roll-Body (record { items = is })) more (sign s.RightCurly ∷ [])) ∙ ap (λ z. sign s.LeftCurly ∷ (z ++ (concat (map further_body_pieces more) ++ (sign s.RightCurly ∷ [])))) (body_layer is))
         (entered (a_sign s.LeftCurly) n refl (λ m e. after _ is (body_again m inner (hi m e) (ri m e)) (misses_each more (λ z. begun_token refl) (missed (begun_token refl)))
-          (all_of _ (is_sign s.Bar) more (further_body_again m e) (λ z. starts_token refl) (λ z. begun_token refl)
-            (unrolled further_body_pieces m (is_sign s.Bar) (g.further_body n inside inner) further_body_long (further_body_reads n m inside inner (ri m e)))
-            (missed (begun_token refl)) (missed (begun_token refl)) (took (a_sign s.RightCurly) tt refl ends))))
+        (all_of _ (is_sign s.Bar) more (further_body_again m e) (λ z. starts_token refl) (λ z. begun_token refl)
+        (unrolled further_body_pieces m (is_sign s.Bar) (g.further_body n inside inner) further_body_long (further_body_reads n m inside inner (ri m e)))
+        (missed (begun_token refl)) (missed (begun_token refl)) (took (a_sign s.RightCurly) tt refl ends))))
 
     blocks_at : (bs : List Body) → Leads nothing (blocks_pieces bs) (g.blocks n inside inner) bs
     unfolding g.blocks
@@ -351,16 +349,16 @@ module _ (n : ℕ) (inside : Reader Expr) (h : AgainInside n inside) (r : IsInsi
     item_at (layer.Solid p) = subst At_item (sym (rolls-Solid p)) (written_as (solid_layer p) (peek_no _ (missed (begun_token refl)) (took item_head head.Solid refl (plainly (after {v = solid_pieces} _ p solid_again misses_nothing ends)))))
     item_at (layer.Subdiv a sizes bodies) =
         subst At_item (sym (rolls-Subdiv a sizes bodies)) (written_as (subdiv_is a sizes bodies) (peek_no _ (missed (begun_token refl)) (took item_head head.Subdiv refl
-          (after {v = split_pieces} _ (a, sizes) split_again misses_nothing (plainly (after {v = blocks_pieces} _ bodies blocks_again misses_nothing ends))))))
+        (after {v = split_pieces} _ (a, sizes) split_again misses_nothing (plainly (after {v = blocks_pieces} _ bodies blocks_again misses_nothing ends))))))
     item_at (layer.Repeat a x body) =
         subst At_item (sym (rolls-Repeat a x body)) (written_as (repeat_is a x body) (peek_no _ (missed (begun_token refl)) (took item_head head.Repeat refl
-          (after {v = repeat_pieces} _ (a, x) repeat_again misses_nothing (plainly (after {v = block_pieces} _ body block_again misses_nothing ends))))))
+        (after {v = repeat_pieces} _ (a, x) repeat_again misses_nothing (plainly (after {v = block_pieces} _ body block_again misses_nothing ends))))))
     item_at (layer.Comp x body) =
         subst At_item (sym (rolls-Comp x body)) (written_as (comp_is x body) (peek_no _ (missed (begun_token refl)) (took item_head head.Comp refl
-          (after {v = selector_part_pieces} _ x selector_part_again misses_nothing (plainly (after {v = block_pieces} _ body block_again misses_nothing ends))))))
+        (after {v = selector_part_pieces} _ x selector_part_again misses_nothing (plainly (after {v = block_pieces} _ body block_again misses_nothing ends))))))
     item_at (layer.Child name args) =
         subst At_item (sym (rolls-Child name args)) (written_as (child_layer name args) (peek_no _ (missed (begun_named name refl))
-          (by_name name (λ e. took item_head (head.Child name) (ap (λ b. unless b (head.Child name)) e) (plainly (after {v = arguments_pieces} _ args arguments_again (misses_end (λ l q. q)) ends))))))
+        (by_name name (λ e. took item_head (head.Child name) (ap (λ b. unless b (head.Child name)) e) (plainly (after {v = arguments_pieces} _ args arguments_again (misses_end (λ l q. q)) ends))))))
 
     pub layer_again : Again item_pieces with_bracket (g.item_layer n inside inner)
     layer_again = record { all = λ a. subst At_item (roll-out-Item a) (item_at (out-Item a)) }

@@ -19,3 +19,4 @@ pub mod Nexts
 pub mod Turns
 pub mod Listings
 pub mod RuleListings
+pub mod Spans

@@ -1,17 +1,17 @@
 -- A line that is a form.
-use Rattle.std.proofs.Common.{◌≡◌, ℕ, zero, suc, List, [], ◌∷◌, ◌++◌, Bool, true, false, Result, Ok, Err, refl, ap, sym, ◌∙◌, subst, if◌then◌else◌}
+use Rattle.std.proofs.Common.{◌≡◌, ℕ, List, [], ◌∷◌, Bool, true, false, Ok, Err, refl, ap, sym, subst}
 use Rattle.cga_parser.specs.declared.fault.Fault.{Fault}
 use Rattle.cga_syntax.specs.declared.lexeme.Lexeme.{Lexeme}
 use Rattle.cga_syntax.specs.declared.rule.Rule.{Rule}
-use Rattle.cga_syntax.specs.Pieces.{Pieces, Writes, rule_pieces}
+use Rattle.cga_syntax.specs.Pieces.{Pieces, rule_pieces}
 use Rattle.cga_syntax.specs.Spelling.{Spelled}
 use Rattle.cga_parser.specs.Answers.{Answers}
-use Rattle.cga_parser.specs.Reader.{Input, Outcome, Reader, at, and_then, ◌>>=◌, ◌>>◌, pure, refuse, begins}
+use Rattle.cga_parser.specs.Reader.{Input, Outcome, Reader, at, and_then, ◌>>=◌, ◌>>◌, pure}
 use Rattle.cga_parser.specs.Grammar.{any, finish, rule, rule_line}
 use Rattle.cga_parser.proofs.Forms.{Reads}
 use Rattle.cga_parser.proofs.Rules.{rule_reads, line_reads}
-use Rattle.cga_parser.proofs.RulesAgain.{with_rule, rule_again}
-use Rattle.cga_parser.proofs.Again.{Agrees, Again, Leads, Misses, ends, after, plainly, misses_end, peek_no, nothing, misses_nothing}
+use Rattle.cga_parser.proofs.RulesAgain.{rule_again}
+use Rattle.cga_parser.proofs.Again.{Again, ends, after, plainly, misses_end, peek_no}
 use Rattle.cga_parser.proofs.Whole.{Judges, judged, unique}
 
 abbrev nowhere : Unit {0} → Pieces

@@ -1,7 +1,6 @@
 -- Lists with a token between their members.
-use Rattle.std.proofs.Common.{◌≡◌, List, [], ◌∷◌, ◌++◌, map, refl, ap, sym, ◌∙◌}
+use Rattle.std.proofs.Common.{◌≡◌, List, [], ◌∷◌, ◌++◌, map, refl, ap}
 use Rattle.cga_syntax.specs.Pieces.{Piece, Pieces, concat, behind_each, separated, preceded}
-use Rattle.cga_parser.proofs.Written.{nil_right}
 
 pub behind_map : {A : Type 0} (p : Piece) (w : A → Pieces) (xs : List A) → behind_each p (map w xs) ≡ concat (map (λ a. p ∷ w a) xs)
 behind_map p w [] = refl

@@ -1,5 +1,5 @@
 -- Which token comes next.
-use Rattle.std.proofs.Common.{◌≡◌, ◌↔◌, ℕ, ◌==◌, Bool, true, false, List, [], ◌∷◌, Option, Some, None, refl, ap, sym, ◌∙◌, IsTrue}
+use Rattle.std.proofs.Common.{◌≡◌, ◌↔◌, Bool, true, false, List, [], ◌∷◌, Some, None, refl, ap, sym, ◌∙◌, IsTrue}
 use Rattle.std.proofs.lemmas.Bool.{eq-eqb}
 use Rattle.cga_lexer.specs.declared.sign.Sign.{Sign}
 use Rattle.cga_syntax.specs.declared.keyword.Keyword.{Keyword}

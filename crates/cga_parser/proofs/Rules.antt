@@ -1,22 +1,19 @@
 -- Rules are read exactly.
-use Rattle.std.proofs.Common.{◌≡◌, ℕ, zero, suc, ◌+◌, ◌≤◌, ◌⊎◌, inl, inr, List, [], ◌∷◌, ◌++◌, map, length, append_assoc, Bool, true, false, Option, Some, None, refl, ap, sym, ◌∙◌, subst, if◌then◌else◌, arith, codes, ℤ, pos}
+use Rattle.std.proofs.Common.{◌≡◌, ℕ, suc, inl, inr, List, [], ◌∷◌, ◌++◌, map, append_assoc, refl, ap, sym, ◌∙◌, subst, pos}
 use Rattle.cga_fraction.specs.Rat.{Rat, of_int}
 use Rattle.cga_lexer.specs.declared.sign.Sign.TheVariants as s
-use Rattle.cga_syntax.specs.declared.keyword.Keyword.TheVariants as k
 use Rattle.cga_syntax.specs.declared.lexeme.Lexeme.{Lexeme}
 use Rattle.cga_syntax.specs.declared.lexeme.Lexeme.TheVariants as lexeme
-use Rattle.cga_syntax.specs.declared.cond.Cond.{Cond}
 use Rattle.cga_syntax.specs.declared.item.Item.{Item}
-use Rattle.cga_syntax.specs.declared.rule.Alternative.{Alternative}
 use Rattle.cga_syntax.specs.declared.rule.Rule.{Rule}
-use Rattle.cga_syntax.specs.Pieces.{Piece, usual, none_before, token, plain, sign, named, whole, number, Pieces, concat, probability, IsProbability, Writes, nonempty, arguments, condition_pieces, cond_pieces, item_pieces, alternative_pieces, rule_pieces}
-use Rattle.cga_parser.specs.Reader.{Reader, ◌>>=◌, ◌>>◌, pure, refuse, single, many, many_from}
-use Rattle.cga_parser.specs.Tokens.{a_sign, is_sign, a_name, a_whole, a_number}
+use Rattle.cga_syntax.specs.Pieces.{usual, none_before, token, plain, sign, named, whole, Pieces, concat, probability, Writes, nonempty, arguments, condition_pieces, alternative_pieces, rule_pieces}
+use Rattle.cga_parser.specs.Reader.{Reader, ◌>>=◌, ◌>>◌, pure, single, many_from}
+use Rattle.cga_parser.specs.Tokens.{is_sign, a_name}
 use Rattle.cga_parser.specs.Grammar as g
-use Rattle.cga_parser.proofs.Runs.{Some_text, pure_runs}
-use Rattle.cga_parser.proofs.Written.{nothing, head_of, end_of, long_of, nil_right, piece_written, plain_written}
-use Rattle.cga_parser.proofs.Forms.{After, Goes, Reads, next, done, one_token, either, refusing, Long, listed, limited, few_pieces, translated}
-use Rattle.cga_parser.proofs.Singles.{sign_token, name_token, name_pieces, whole_token, whole_pieces, number_token, as_token}
+use Rattle.cga_parser.proofs.Runs.{pure_runs}
+use Rattle.cga_parser.proofs.Written.{nothing, head_of, end_of, long_of, nil_right, piece_written}
+use Rattle.cga_parser.proofs.Forms.{After, Goes, Reads, next, done, one_token, either, refusing, Long, listed, limited, translated}
+use Rattle.cga_parser.proofs.Singles.{sign_token, name_token, name_pieces, whole_token, number_token, as_token}
 use Rattle.cga_parser.proofs.Exprs.{comma, close, round, in_round}
 use Rattle.cga_parser.proofs.Conds.{cond_reads}
 use Rattle.cga_parser.proofs.Items.{list_pieces, body_reads, item_reads, arguments_is}

@@ -1,5 +1,5 @@
 -- A rule is read as it is written.
-use Rattle.std.proofs.Common.{◌≡◌, ℕ, zero, suc, ◌+◌, ◌||◌, ◌⊎◌, inl, inr, List, [], ◌∷◌, ◌++◌, map, append_assoc, Bool, true, false, Option, Some, None, refl, ap, sym, ◌∙◌, subst, if◌then◌else◌, arith, ℤ, pos}
+use Rattle.std.proofs.Common.{◌≡◌, ℕ, ◌||◌, inl, inr, List, [], ◌∷◌, ◌++◌, map, append_assoc, Bool, false, Option, Some, None, refl, ap, sym, ◌∙◌, subst, pos}
 use Rattle.cga_fraction.specs.Rat.{Rat, of_int}
 use Rattle.cga_lexer.specs.declared.sign.Sign.TheVariants as s
 use Rattle.cga_syntax.specs.Lexemes.{is_reserved}
@@ -8,20 +8,19 @@ use Rattle.cga_syntax.specs.declared.lexeme.Lexeme.TheVariants as lexeme
 use Rattle.cga_syntax.specs.declared.cond.Cond.{Cond}
 use Rattle.cga_syntax.specs.declared.item.Item.{Item}
 use Rattle.cga_syntax.specs.declared.rule.Alternative.{Alternative}
-use Rattle.cga_syntax.specs.declared.rule.Rule.{Rule}
-use Rattle.cga_syntax.specs.Pieces.{Piece, usual, none_before, token, never, plain, sign, named, whole, number, Pieces, concat, probability, IsProbability, Writes, nonempty, arguments, condition_pieces, alternative_pieces, rule_pieces}
-use Rattle.cga_parser.specs.Reader.{Reader, at, ◌>>=◌, ◌>>◌, pure, refuse, begins}
+use Rattle.cga_syntax.specs.Pieces.{usual, none_before, token, never, sign, named, whole, Pieces, probability, IsProbability, Writes, condition_pieces, alternative_pieces, rule_pieces}
+use Rattle.cga_parser.specs.Reader.{at, begins}
 use Rattle.cga_parser.specs.Tokens.{a_sign, is_sign, a_name, a_whole, a_number, unless}
 use Rattle.cga_parser.specs.Grammar as g
-use Rattle.cga_parser.proofs.Written.{cut, nil_right, piece_of, plain_written, end_of}
+use Rattle.cga_parser.proofs.Written.{cut, piece_of, plain_written}
 use Rattle.cga_parser.proofs.Forms.{turned as unrolled}
 use Rattle.cga_parser.proofs.Singles.{name_pieces}
 use Rattle.cga_parser.proofs.ExprsAgain.{neither}
 use Rattle.cga_parser.proofs.CondsAgain.{with_or, cond_again}
-use Rattle.cga_parser.proofs.Items.{list_pieces, at_most_is, item_reads}
+use Rattle.cga_parser.proofs.Items.{at_most_is, item_reads}
 use Rattle.cga_parser.proofs.ItemsAgain.{with_bracket, with_item, body_again, item_again}
 use Rattle.cga_parser.proofs.Rules.{further_name_pieces, parameters_pieces, given_pieces, probability_pieces, alternative_is, alternative_long, alternative_reads, rule_is}
-use Rattle.cga_parser.proofs.Again.{Agrees, Leads, Again, Begun, Starts, Misses, begun_token, starts_token, begun_append, begun_as, starts_as, missed, misses_end, misses_each, few_misses, nothing, misses_nothing, begun_nothing, never_leads, never_written, ends, took, by_name, whole_leads, entered, peek_yes, peek_no, after, plainly, written_as, all_of, few_of, going_on}
+use Rattle.cga_parser.proofs.Again.{Agrees, Leads, Again, Begun, Starts, Misses, begun_token, starts_token, begun_append, begun_as, starts_as, missed, misses_end, misses_each, nothing, misses_nothing, begun_nothing, never_written, ends, took, by_name, whole_leads, entered, peek_yes, peek_no, after, plainly, written_as, all_of, few_of}
 
 -- ---- parameters
 
@@ -40,7 +39,7 @@ unfolding g.some_parameters
 some_parameters_at n x more =
     written_as (ap (λ z. sign s.LeftRound ∷ (name_pieces x ++ (z ++ (sign s.RightRound ∷ [])))) (at_most_is 3 (sign s.Comma) name_pieces more))
     (entered (a_sign s.LeftRound) n refl (λ m e. by_name x (λ q. took a_name x (name_read x q)
-      (few_of further_name_pieces (sign s.RightRound ∷ []) _ (is_sign s.Comma) 3 more further_name_again (λ z. starts_token refl) (λ z. begun_nothing) misses_nothing (missed (begun_token refl)) (took (a_sign s.RightRound) tt refl ends)))))
+    (few_of further_name_pieces (sign s.RightRound ∷ []) _ (is_sign s.Comma) 3 more further_name_again (λ z. starts_token refl) (λ z. begun_nothing) misses_nothing (missed (begun_token refl)) (took (a_sign s.RightRound) tt refl ends)))))
 
 parameters_at : (n : ℕ) (ps : List (List ℕ)) → Leads with_bracket (parameters_pieces ps) (g.parameters n) ps
 unfolding g.parameters
@@ -109,7 +108,7 @@ alternative_at : (n : ℕ) (is : List Item) (p : Rat) → Leads with_more (alter
 unfolding g.alternative
 alternative_at n is p =
     written_as (alternative_is is p) (took (a_sign s.Arrow) tt refl (after _ is (body_again n (g.item n) (item_again n) (item_reads n)) (probability_misses p)
-      (plainly (after {v = probability_pieces} _ p probability_again (misses_end (λ l q. (neither (with_item l) (a_colon l) q).1)) ends))))
+    (plainly (after {v = probability_pieces} _ p probability_again (misses_end (λ l q. (neither (with_item l) (a_colon l) q).1)) ends))))
 
 alternative_again : (n : ℕ) → Again alternative_pieces with_more (g.alternative n)
 alternative_again n = record { all = λ a. alternative_at n a.items a.prob }
@@ -138,18 +137,18 @@ rule_of n id name ps c a more =
     let stop : (l : Lexeme) → with_rule l ≡ false → with_more l ≡ false = λ l e. (neither (with_more l) (is_sign s.Arrow l) e).0 in
     written_as (rule_is _)
     (whole_leads 1 999999 id (λ e. took (a_whole 1 999999) id e (took (a_sign s.Colon) tt refl (by_name name (λ q. took a_name name (name_read name q)
-      (after {v = parameters_pieces} _ ps (parameters_again n) (condition_begun refl refl c a _)
-        (after {v = condition_pieces} _ c (condition_again n) (missed (begun_append _ (alternative_begun refl a)))
-          (after _ a (alternative_again n) (misses_each more (alternative_begun refl) (misses_end stop))
-            (all_of _ (is_sign s.Arrow) more (alternative_again n) alternative_starts (alternative_begun refl) (unrolled alternative_pieces n (is_sign s.Arrow) (g.alternative n) alternative_long (alternative_reads n))
-              (misses_end stop) (misses_end (λ l e. (neither (with_more l) (is_sign s.Arrow l) e).1)) ends)))))))))
+    (after {v = parameters_pieces} _ ps (parameters_again n) (condition_begun refl refl c a _)
+    (after {v = condition_pieces} _ c (condition_again n) (missed (begun_append _ (alternative_begun refl a)))
+    (after _ a (alternative_again n) (misses_each more (alternative_begun refl) (misses_end stop))
+    (all_of _ (is_sign s.Arrow) more (alternative_again n) alternative_starts (alternative_begun refl) (unrolled alternative_pieces n (is_sign s.Arrow) (g.alternative n) alternative_long (alternative_reads n))
+    (misses_end stop) (misses_end (λ l e. (neither (with_more l) (is_sign s.Arrow l) e).1)) ends)))))))))
 
 -- a rule without one isn't written
 rule_none : (id : ℕ) (name : List ℕ) (ps : List (List ℕ)) (c : Option Cond) (n : ℕ) (x : List Lexeme) (d : ℕ) → Writes n (rule_pieces (record { id = id; symbol = name; params = ps; cond = c; alternatives = [] })) x d → ⊥
 rule_none id name ps c n x d w =
     let front : Pieces = whole 1 999999 id ∷ token none_before (lexeme.Sign s.Colon) ∷ named name ∷ (parameters_pieces ps ++ condition_pieces c) in
     let e : rule_pieces (record { id = id; symbol = name; params = ps; cond = c; alternatives = [] }) ≡ front ++ (never ∷ []) =
-        rule_is _ ∙ ap (λ z. whole 1 999999 id ∷ token none_before (lexeme.Sign s.Colon) ∷ named name ∷ z) (sym (append_assoc (parameters_pieces ps) (condition_pieces c) (never ∷ []))) in
+    rule_is _ ∙ ap (λ z. whole 1 999999 id ∷ token none_before (lexeme.Sign s.Colon) ∷ named name ∷ z) (sym (append_assoc (parameters_pieces ps) (condition_pieces c) (never ∷ []))) in
     let t = cut front (never ∷ []) x n d (subst (λ ps. Writes n ps x d) e w) in
     never_written t.2 [] t.1 d t.5
 

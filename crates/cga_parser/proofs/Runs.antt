@@ -1,9 +1,8 @@
 -- What a reader does on a text: it takes a front of it, and answers the same however the text goes on behind the next token.
-use Rattle.std.proofs.Common.{◌≡◌, ℕ, zero, suc, ◌+◌, ◌-◌, Bool, true, false, List, [], ◌∷◌, ◌++◌, length, append_assoc, ◌⊎◌, inl, inr, ◌≤◌, ◌<◌, length-append, refl, sym, ap, ◌∙◌, subst, Option, Some, None, Result, Ok, Err, if◌then◌else◌, cond, arith}
+use Rattle.std.proofs.Common.{◌≡◌, ℕ, zero, suc, ◌+◌, ◌-◌, Bool, true, false, List, [], ◌∷◌, ◌++◌, length, append_assoc, ◌≤◌, ◌<◌, length-append, refl, sym, ap, ◌∙◌, Option, Some, None, Ok, Err, if◌then◌else◌, cond, arith}
 use Rattle.cga_syntax.specs.declared.lexeme.Lexeme.{Lexeme}
-use Rattle.cga_parser.specs.declared.fault.Fault.{Fault}
 use Rattle.cga_parser.specs.declared.fault.Fault.TheVariants.{Unexpected, TooNested}
-use Rattle.cga_parser.specs.Reader.{Input, at, Outcome, Reader, and_then, ◌>>=◌, pure, refuse, too_nested, first, after_first, skipped, decoded, taking, single, entering, enter, drawing, drawn_word, peeked, begins, many_from, many_after, many}
+use Rattle.cga_parser.specs.Reader.{Input, at, Outcome, Reader, and_then, ◌>>=◌, pure, refuse, first, decoded, taking, single, entering, enter, drawing, drawn_word, peeked, begins, many_from, many_after, many}
 use Rattle.cga_syntax.specs.Brackets.{walk, counted, walk_on, bracket_of, opens, IsOpening}
 
 -- what a reader may read: from a count on, a text as a value, up to a count
@@ -99,14 +98,21 @@ module _ {A B : Type 0} (L : Language A) (M : A → Language B) (n m l : ℕ) (p
   after c text x r unexpected s same w second =
       let t = some w.1 w.2 in
       record {
-        front = x; rest = r; verdict = unexpected; split = s;
+        front = x;
+        rest = r;
+        verdict = unexpected;
+        split = s;
         same = λ b e. ap (λ o. and_then o f) (same b e);
         means = (w.0 ++ t.0, t.1, t.2, w.3, (x ++ w.0, t.0, w.1, w.2, sym (append_assoc x w.0 t.0), w.4, t.3), w.5);
       }
   after c text x r nested s same w second =
       let t = some w.2 w.3 in
       record {
-        front = x; rest = r; verdict = nested; split = s; same = λ b e. ap (λ o. and_then o f) (same b e);
+        front = x;
+        rest = r;
+        verdict = nested;
+        split = s;
+        same = λ b e. ap (λ o. and_then o f) (same b e);
         means = (w.0, w.1 ++ t.0, t.1, t.2, (x ++ w.0 ∷ w.1, t.0, w.2, w.3, sym (append_assoc x (w.0 ∷ w.1) t.0), w.4, t.3), w.5, w.6, w.7);
       }
 
@@ -122,7 +128,10 @@ module _ {A : Type 0} (L : Language A) (n m : ℕ) (decode : Lexeme → Option A
   none_runs : (c : ℕ) (text : List Lexeme) → decoded decode (first text) ≡ None → Run n m L (single decode) c text
   unfolding walk
   none_runs c text e = let t = some c in record {
-    front = []; rest = text; verdict = unexpected; split = refl;
+    front = [];
+    rest = text;
+    verdict = unexpected;
+    split = refl;
     same = λ b h. ap (λ o. taking (decoded decode o) (at b c)) h ∙ ap (λ o. taking o (at b c)) e;
     means = (t.0, t.1, t.2, n, t.3, refl);
   }
@@ -132,7 +141,10 @@ module _ {A : Type 0} (L : Language A) (n m : ℕ) (decode : Lexeme → Option A
     unfolding walk
     one_runs c l ls None e = none_runs c (l ∷ ls) e
     one_runs c l ls (Some a) e = record {
-      front = l ∷ []; rest = ls; verdict = found a c; split = refl;
+      front = l ∷ [];
+      rest = ls;
+      verdict = found a c;
+      split = refl;
       same = λ b h. ap (λ o. taking o (at (l ∷ b) c)) e;
       means = ((fine l a e).0 c, ap (λ o. walk_on (λ i. walk i []) o) (fine l a e).1);
     }
@@ -146,7 +158,10 @@ module _ (L : Language (Unit {0})) (decode : Lexeme → Option (Unit {0})) (some
   shut_runs : (n m c : ℕ) (text : List Lexeme) → decoded decode (first text) ≡ None → Run n m L (enter decode n) c text
   unfolding walk
   shut_runs n m c text e = let t = some c in record {
-    front = []; rest = text; verdict = unexpected; split = refl;
+    front = [];
+    rest = text;
+    verdict = unexpected;
+    split = refl;
     same = λ b h. ap (λ o. entering n (decoded decode o) (at b c)) h ∙ ap (λ o. entering n o (at b c)) e;
     means = (t.0, t.1, t.2, n, t.3, refl);
   }
@@ -156,12 +171,18 @@ module _ (L : Language (Unit {0})) (decode : Lexeme → Option (Unit {0})) (some
     unfolding walk
     open_runs n c l ls None e = shut_runs n (n - 1) c (l ∷ ls) e
     open_runs zero c l ls (Some u) e = record {
-      front = []; rest = l ∷ ls; verdict = nested; split = refl;
+      front = [];
+      rest = l ∷ ls;
+      verdict = nested;
+      split = refl;
       same = λ b h. ap (λ o. entering 0 (decoded decode o) (at b c)) h ∙ ap (λ o. entering 0 o (at b c)) e;
       means = (l, [], tt, c, (fine l e).0 c, refl, refl, (fine l e).1);
     }
     open_runs (suc n) c l ls (Some u) e = record {
-      front = l ∷ []; rest = ls; verdict = found tt c; split = refl;
+      front = l ∷ [];
+      rest = ls;
+      verdict = found tt c;
+      split = refl;
       same = λ b h. ap (λ o. entering (suc n) o (at (l ∷ b) c)) e;
       means = ((fine l e).0 c, ap (λ k. walk_on (λ i. walk i []) (counted k (suc n))) (fine l e).1 ∙ ap Some (let e : n ≡ suc n - 1 = omega arith in e));
     }
@@ -176,7 +197,10 @@ module _ {A : Type 0} (L : Language A) (m : ℕ) (decode : Lexeme → Option (Un
   unopened_runs : (c : ℕ) (text : List Lexeme) → decoded decode (first text) ≡ None → Run 0 m L (enter decode 0 >>= λ _. q) c text
   unfolding walk
   unopened_runs c text e = let t = some c in record {
-    front = []; rest = text; verdict = unexpected; split = refl;
+    front = [];
+    rest = text;
+    verdict = unexpected;
+    split = refl;
     same = λ b h. ap (λ o. and_then (entering 0 (decoded decode o) (at b c)) (λ _. q)) h ∙ ap (λ o. and_then (entering 0 o (at b c)) (λ _. q)) e;
     means = (t.0, t.1, t.2, 0, t.3, refl);
   }
@@ -185,7 +209,10 @@ module _ {A : Type 0} (L : Language A) (m : ℕ) (decode : Lexeme → Option (Un
   unfolding walk
   full_runs c l ls None e = unopened_runs c (l ∷ ls) e
   full_runs c l ls (Some u) e = let t = (fine l e).0 c in record {
-    front = []; rest = l ∷ ls; verdict = nested; split = refl;
+    front = [];
+    rest = l ∷ ls;
+    verdict = nested;
+    split = refl;
     same = λ b h. ap (λ o. and_then (entering 0 (decoded decode o) (at b c)) (λ _. q)) h ∙ ap (λ o. and_then (entering 0 o (at b c)) (λ _. q)) e;
     means = (l, t.0, t.1, t.2, t.3, refl, refl, (fine l e).1);
   }
@@ -200,7 +227,10 @@ module _ (L : Language ℕ) (n : ℕ) (decode : Lexeme → Option (Unit {0})) (s
   undrawn_runs : (c : ℕ) (text : List Lexeme) → decoded decode (first text) ≡ None → Run n n L (drawn_word decode) c text
   unfolding walk
   undrawn_runs c text e = let t = some c in record {
-    front = []; rest = text; verdict = unexpected; split = refl;
+    front = [];
+    rest = text;
+    verdict = unexpected;
+    split = refl;
     same = λ b h. ap (λ o. drawing (decoded decode o) (at b c)) h ∙ ap (λ o. drawing o (at b c)) e;
     means = (t.0, t.1, t.2, n, t.3, refl);
   }
@@ -209,7 +239,10 @@ module _ (L : Language ℕ) (n : ℕ) (decode : Lexeme → Option (Unit {0})) (s
   unfolding walk
   draw_runs c l ls None e = undrawn_runs c (l ∷ ls) e
   draw_runs c l ls (Some u) e = record {
-    front = l ∷ []; rest = ls; verdict = found (c + 1) (c + 1); split = refl;
+    front = l ∷ [];
+    rest = ls;
+    verdict = found (c + 1) (c + 1);
+    split = refl;
     same = λ b h. ap (λ o. drawing o (at (l ∷ b) c)) e;
     means = ((fine l e).0 c, ap (λ o. walk_on (λ i. walk i []) o) (fine l e).1);
   }
@@ -258,7 +291,10 @@ module _ {A : Type 0} (L : Language A) (n : ℕ) (test : Lexeme → Bool) (p : R
   stopping : (go : List A → Reader (List A)) (so_far : List A) (c : ℕ) (text : List Lexeme) → begins test text ≡ false → Run n n (Grown L so_far) (turn go so_far) c text
   unfolding walk
   stopping go so_far c text e = record {
-    front = []; rest = text; verdict = found so_far c; split = refl;
+    front = [];
+    rest = text;
+    verdict = found so_far c;
+    split = refl;
     same = λ b h.
         let g : begins test b ≡ false = same_begins test b text h ∙ e in
         ap (λ z. cond z ((p >>= λ x. go (so_far ++ x ∷ [])) (at b c)) (Ok (so_far, at b c))) g;
@@ -269,7 +305,10 @@ module _ {A : Type 0} (L : Language A) (n : ℕ) (test : Lexeme → Bool) (p : R
   unfolding walk
   looked go so_far c text t true e =
       record {
-        front = t.front; rest = t.rest; verdict = t.verdict; split = t.split;
+        front = t.front;
+        rest = t.rest;
+        verdict = t.verdict;
+        split = t.split;
         same = λ b h.
             let g : begins test (t.front ++ b) ≡ true = same_begins test (t.front ++ b) text (first_same t.front t.rest b h ∙ ap first (sym t.split)) ∙ e in
             ap (λ z. cond z ((p >>= λ x. go (so_far ++ x ∷ [])) (at (t.front ++ b) c)) (Ok (so_far, at (t.front ++ b) c))) g ∙ t.same b h;
@@ -287,8 +326,8 @@ module _ {A : Type 0} (L : Language A) (n : ℕ) (test : Lexeme → Bool) (p : R
   many_from_runs (suc turns) so_far c text =
       looked (many_from test p turns) so_far c text
       (weaker_run {L = Seq L (λ a. Grown L (so_far ++ a ∷ []))} {M = Grown L so_far} n n (grown_more so_far) c text
-        (bind_runs L (λ a. Grown L (so_far ++ a ∷ [])) n n n p (λ x. many_from test p turns (so_far ++ x ∷ [])) (λ a. grown_text (so_far ++ a ∷ []))
-            (λ a. many_from_runs turns (so_far ++ a ∷ [])) p_runs c text))
+      (bind_runs L (λ a. Grown L (so_far ++ a ∷ [])) n n n p (λ x. many_from test p turns (so_far ++ x ∷ [])) (λ a. grown_text (so_far ++ a ∷ []))
+      (λ a. many_from_runs turns (so_far ++ a ∷ [])) p_runs c text))
       (begins test text) refl
 
   -- at most so many more
@@ -304,7 +343,10 @@ module _ {A : Type 0} (L : Language A) (n : ℕ) (test : Lexeme → Bool) (p : R
   limited_stop : (most : ℕ) (go : List A → Reader (List A)) (so_far : List A) (c : ℕ) (text : List Lexeme) → begins test text ≡ false → Run n n (Limited most so_far) (turn go so_far) c text
   unfolding walk
   limited_stop most go so_far c text e = record {
-    front = []; rest = text; verdict = found so_far c; split = refl;
+    front = [];
+    rest = text;
+    verdict = found so_far c;
+    split = refl;
     same = λ b h.
         let g : begins test b ≡ false = same_begins test b text h ∙ e in
         ap (λ z. cond z ((p >>= λ x. go (so_far ++ x ∷ [])) (at b c)) (Ok (so_far, at b c))) g;
@@ -314,7 +356,10 @@ module _ {A : Type 0} (L : Language A) (n : ℕ) (test : Lexeme → Bool) (p : R
   limited_turn : (most : ℕ) (go : List A → Reader (List A)) (so_far : List A) (c : ℕ) (text : List Lexeme) → Run n n (Limited most so_far) (p >>= λ x. go (so_far ++ x ∷ [])) c text → (b : Bool) → begins test text ≡ b → Run n n (Limited most so_far) (turn go so_far) c text
   limited_turn most go so_far c text t true e =
       record {
-        front = t.front; rest = t.rest; verdict = t.verdict; split = t.split;
+        front = t.front;
+        rest = t.rest;
+        verdict = t.verdict;
+        split = t.split;
         same = λ b h.
             let g : begins test (t.front ++ b) ≡ true = same_begins test (t.front ++ b) text (first_same t.front t.rest b h ∙ ap first (sym t.split)) ∙ e in
             ap (λ z. cond z ((p >>= λ x. go (so_far ++ x ∷ [])) (at (t.front ++ b) c)) (Ok (so_far, at (t.front ++ b) c))) g ∙ t.same b h;
@@ -331,8 +376,8 @@ module _ {A : Type 0} (L : Language A) (n : ℕ) (test : Lexeme → Bool) (p : R
   limited_runs (suc turns) so_far c text =
       limited_turn (suc turns) (many_from test p turns) so_far c text
       (weaker_run {L = Seq L (λ a. Limited turns (so_far ++ a ∷ []))} {M = Limited (suc turns) so_far} n n (limited_more turns so_far) c text
-        (bind_runs L (λ a. Limited turns (so_far ++ a ∷ [])) n n n p (λ x. many_from test p turns (so_far ++ x ∷ [])) (λ a. limited_text turns (so_far ++ a ∷ []))
-            (λ a. limited_runs turns (so_far ++ a ∷ [])) p_runs c text))
+      (bind_runs L (λ a. Limited turns (so_far ++ a ∷ [])) n n n p (λ x. many_from test p turns (so_far ++ x ∷ [])) (λ a. limited_text turns (so_far ++ a ∷ []))
+      (λ a. limited_runs turns (so_far ++ a ∷ [])) p_runs c text))
       (begins test text) refl
 
   module _ (long : (c : ℕ) (x : List Lexeme) (a : A) (d : ℕ) → L c x a d → 1 ≤ length x) where
@@ -391,11 +436,11 @@ module _ {A : Type 0} (L : Language A) (n : ℕ) (test : Lexeme → Bool) (p : R
     many_after_runs (suc size) so_far c text h =
         renamed n n c text (unroll so_far)
         (looked (many_after test p) so_far c text
-          (weaker_run {L = Seq L (λ a. Grown L (so_far ++ a ∷ []))} {M = Grown L so_far} n n (grown_more so_far) c text
-            (let t = p_runs c text in
-            bind_run L (λ a. Grown L (so_far ++ a ∷ [])) n n n p (λ x. many_after test p (so_far ++ x ∷ [])) (λ a. grown_text (so_far ++ a ∷ [])) c text t
-                (λ a d w. many_after_runs size (so_far ++ a ∷ []) d t.rest (omega (arith, long c t.front a d w, ap length t.split, length-append t.front t.rest)))))
-          (begins test text) refl)
+        (weaker_run {L = Seq L (λ a. Grown L (so_far ++ a ∷ []))} {M = Grown L so_far} n n (grown_more so_far) c text
+        (let t = p_runs c text in
+        bind_run L (λ a. Grown L (so_far ++ a ∷ [])) n n n p (λ x. many_after test p (so_far ++ x ∷ [])) (λ a. grown_text (so_far ++ a ∷ [])) c text t
+        (λ a d w. many_after_runs size (so_far ++ a ∷ []) d t.rest (omega (arith, long c t.front a d w, ap length t.split, length-append t.front t.rest)))))
+        (begins test text) refl)
 
     pub many_runs : Exact n n (Grown L []) (many test p)
     unfolding many
@@ -405,14 +450,20 @@ module _ {A : Type 0} (L : Language A) (n : ℕ) (test : Lexeme → Bool) (p : R
 module _ {A : Type 0} (L : Language A) (n m : ℕ) (test : Lexeme → Bool) (p q : Reader A) where
   by_test : (c : ℕ) (text : List Lexeme) → Run n m L p c text → Run n m L q c text → (b : Bool) → begins test text ≡ b → Run n m L (peeked test p q) c text
   by_test c text t u true e = record {
-    front = t.front; rest = t.rest; verdict = t.verdict; split = t.split;
+    front = t.front;
+    rest = t.rest;
+    verdict = t.verdict;
+    split = t.split;
     same = λ b h.
         let g : begins test (t.front ++ b) ≡ true = same_begins test (t.front ++ b) text (first_same t.front t.rest b h ∙ ap first (sym t.split)) ∙ e in
         ap (λ z. cond z (p (at (t.front ++ b) c)) (q (at (t.front ++ b) c))) g ∙ t.same b h;
     means = t.means;
   }
   by_test c text t u false e = record {
-    front = u.front; rest = u.rest; verdict = u.verdict; split = u.split;
+    front = u.front;
+    rest = u.rest;
+    verdict = u.verdict;
+    split = u.split;
     same = λ b h.
         let g : begins test (u.front ++ b) ≡ false = same_begins test (u.front ++ b) text (first_same u.front u.rest b h ∙ ap first (sym u.split)) ∙ e in
         ap (λ z. cond z (p (at (u.front ++ b) c)) (q (at (u.front ++ b) c))) g ∙ u.same b h;

@@ -1,17 +1,15 @@
 -- What single tokens stand for, and how they are written.
-use Rattle.std.proofs.Common.{◌≡◌, ℕ, zero, suc, ◌+◌, ◌==◌, ◌&&◌, nat_le, Bool, true, false, List, [], ◌∷◌, Option, Some, None, refl, ap, sym, ◌∙◌, if◌then◌else◌, ℤ, pos, negsuc}
+use Rattle.std.proofs.Common.{◌≡◌, ℕ, zero, suc, ◌==◌, ◌&&◌, nat_le, Bool, true, false, List, [], ◌∷◌, Option, Some, None, refl, ap, sym, ◌∙◌, if◌then◌else◌, ℤ, pos, negsuc}
 use Rattle.std.proofs.lemmas.Bool.{eqb-true}
 use Rattle.cga_fraction.specs.Rat.{Rat, of_int}
 use Rattle.cga_lexer.specs.declared.sign.Sign.{Sign}
 use Rattle.cga_lexer.specs.declared.sign.Sign.TheVariants as s
-use Rattle.cga_word.specs.declared.axis.Axis.{Axis}
-use Rattle.cga_word.specs.declared.axis.Axis.TheVariants as axis
 use Rattle.cga_syntax.specs.Lexemes.{is, is_reserved, keyword_of}
 use Rattle.cga_syntax.specs.declared.keyword.Keyword.{Keyword}
 use Rattle.cga_syntax.specs.declared.keyword.Keyword.TheVariants as k
 use Rattle.cga_syntax.specs.declared.lexeme.Lexeme.{Lexeme}
 use Rattle.cga_syntax.specs.declared.lexeme.Lexeme.TheVariants as lexeme
-use Rattle.cga_syntax.specs.Pieces.{Piece, Space, usual, token, never, plain, Pieces, named, word, whole, number}
+use Rattle.cga_syntax.specs.Pieces.{Space, usual, token, never, plain, Pieces, named, word, whole, number}
 use Rattle.cga_syntax.specs.Brackets.{counted, bracket_of, bracket_of_sign, opens}
 use Rattle.cga_parser.specs.Tokens.{sign_number, keyword_number, is_sign, is_keyword, passing, a_sign, a_keyword, unless, when, a_name, whole_of, whole_parts, bounded, a_whole, a_number, is_word}
 use Rattle.cga_parser.proofs.Forms.{Token, Opening}

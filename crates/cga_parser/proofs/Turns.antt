@@ -1,5 +1,5 @@
 -- The turns of a loop over a list.
-use Rattle.std.proofs.Common.{◌≡◌, ℕ, zero, suc, ◌+◌, ◌-◌, ◌<◌, ◌&&◌, nat_lt, arith, length-append, List, [], ◌∷◌, ◌++◌, length, Bool, true, false, Result, Ok, Err, refl, ap, sym, ◌∙◌, if◌then◌else◌}
+use Rattle.std.proofs.Common.{◌≡◌, ℕ, zero, suc, ◌-◌, ◌<◌, ◌&&◌, nat_lt, arith, length-append, List, [], ◌∷◌, ◌++◌, length, Bool, true, false, Ok, Err, refl, ap, ◌∙◌, if◌then◌else◌}
 use Rattle.cga_parser.specs.declared.fault.Fault.{Fault as FaultOf}
 use Rattle.cga_parser.specs.declared.fault.Stop.{Stop}
 use Rattle.cga_parser.specs.declared.fault.Stop.TheVariants.{Memory, Fault}

@@ -1,14 +1,13 @@
 -- What a line of a form is answered.
-use Rattle.std.proofs.Common.{◌≡◌, ℕ, zero, suc, ◌+◌, ◌≤◌, ◌<◌, List, [], ◌∷◌, ◌++◌, length, append_assoc, Bool, false, Option, Some, None, Result, Ok, Err, refl, ap, sym, ◌∙◌, subst, arith, length-append}
-use Rattle.cga_parser.specs.declared.fault.Fault.{Fault}
+use Rattle.std.proofs.Common.{◌≡◌, ℕ, zero, suc, ◌+◌, ◌≤◌, List, [], ◌∷◌, ◌++◌, length, append_assoc, Bool, false, Some, None, Ok, Err, refl, ap, sym, ◌∙◌, subst, arith, length-append}
 use Rattle.cga_parser.specs.declared.fault.Fault.TheVariants.{Unexpected, TooNested}
 use Rattle.cga_syntax.specs.declared.lexeme.Lexeme.{Lexeme}
-use Rattle.cga_syntax.specs.Pieces.{Piece, Pieces, Writes}
-use Rattle.cga_parser.specs.Reader.{Input, Outcome, Reader, at, and_then, ◌>>=◌, ◌>>◌, pure, refuse, begins, first}
-use Rattle.cga_syntax.specs.Spelling.{Spelled, Begins, Stops}
+use Rattle.cga_syntax.specs.Pieces.{Pieces, Writes}
+use Rattle.cga_parser.specs.Reader.{Input, Outcome, Reader, at, begins, first}
+use Rattle.cga_syntax.specs.Spelling.{Spelled, Stops}
 use Rattle.cga_parser.specs.Answers.{Answers}
 use Rattle.cga_syntax.specs.Brackets.{walk, counted, walk_on, bracket_of, Bracket, opens, closes, other}
-use Rattle.cga_parser.proofs.Runs.{Verdict, found, unexpected, nested, answer, Means, Run, Language}
+use Rattle.cga_parser.proofs.Runs.{Verdict, found, unexpected, nested, answer, Means}
 use Rattle.cga_parser.proofs.Forms.{After, Reads}
 use Rattle.cga_parser.proofs.Again.{Again, Agrees}
 

@@ -1,5 +1,5 @@
 -- What pieces are written as, joined and cut.
-use Rattle.std.proofs.Common.{◌≡◌, ℕ, List, [], ◌∷◌, ◌++◌, map, length, ◌≤◌, arith, add-one, append_assoc, refl, ap, sym, ◌∙◌, subst}
+use Rattle.std.proofs.Common.{◌≡◌, ℕ, List, [], ◌∷◌, ◌++◌, map, length, ◌≤◌, arith, append_assoc, refl, ap, sym, ◌∙◌, subst}
 use Rattle.cga_syntax.specs.declared.lexeme.Lexeme.{Lexeme}
 use Rattle.cga_syntax.specs.Pieces.{Piece, Space, usual, token, Pieces, concat, IsWritten, Writes}
 use Rattle.cga_parser.proofs.Runs.{Language, Each}

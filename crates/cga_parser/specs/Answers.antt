@@ -1,7 +1,7 @@
 -- What is answered to the tokens of a line.
-use Rattle.std.specs.Prelude.{◌≡◌, ℕ, suc, List, [], ◌∷◌, ◌++◌, length, Option, Some, Result, Ok, Err}
+use Rattle.std.specs.Prelude.{◌≡◌, ℕ, suc, List, [], ◌∷◌, ◌++◌, length, Some, Result, Ok, Err}
 use Rattle.cga_syntax.specs.declared.lexeme.Lexeme.{Lexeme}
-use Rattle.cga_syntax.specs.Pieces.{Pieces, Writes}
+use Rattle.cga_syntax.specs.Pieces.{Pieces}
 use Rattle.cga_syntax.specs.Spelling.{Spelled, Begins, Stops}
 use Rattle.cga_syntax.specs.Brackets.{walk, IsOpening}
 use Rattle.cga_parser.specs.declared.fault.Fault.{Fault}

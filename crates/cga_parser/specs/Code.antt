@@ -1,5 +1,5 @@
 -- What the code's cursor stands for, and what a function that reads ensures.
-use Rattle.std.specs.Prelude.{◌≡◌, ℕ, zero, suc, Bool, false, List, map, Result, Ok, Err, Option, Some, None}
+use Rattle.std.specs.Prelude.{◌≡◌, false, map, Result, Ok, Err, Option, Some}
 use Rattle.cga_lexer.specs.declared.token.Token.{Token}
 use Rattle.cga_syntax.specs.Lexemes.{lexeme_of, is_reserved}
 use Rattle.cga_syntax.specs.declared.lexeme.Lexeme.{Lexeme}

@@ -1,5 +1,5 @@
 -- How a text is read: one token after the other.
-use Rattle.std.specs.Prelude.{◌≡◌, ℕ, zero, suc, ◌+◌, Bool, true, false, List, [], ◌∷◌, ◌++◌, length, Option, Some, None, Result, Ok, Err, is_some, if◌then◌else◌}
+use Rattle.std.specs.Prelude.{ℕ, zero, suc, Bool, true, false, List, [], ◌∷◌, Option, Some, None, is_some}
 use Rattle.cga_lexer.specs.declared.sign.Sign.{Sign}
 use Rattle.cga_lexer.specs.declared.sign.Sign.TheVariants as s
 use Rattle.cga_syntax.specs.declared.keyword.Keyword.TheVariants as k
@@ -20,7 +20,7 @@ use Rattle.cga_word.specs.declared.target.Target.{Target}
 use Rattle.cga_word.specs.declared.answer.Answer.{Answer}
 use Rattle.cga_parser.specs.declared.heads.ScopeWord.{ScopeWord}
 use Rattle.cga_parser.specs.declared.heads.ScopeWord.TheVariants as scope_word
-use Rattle.std.specs.Prelude.{ℤ, pos, ◌||◌}
+use Rattle.std.specs.Prelude.{pos, ◌||◌}
 use Rattle.cga_fraction.specs.Rat.{Rat, of_int}
 use Rattle.cga_word.specs.declared.turn.Turn.{Turn}
 use Rattle.cga_word.specs.declared.turn.Turn.TheVariants as turn
@@ -137,7 +137,7 @@ module _ (n : ℕ) (inner : Reader Cond) where
   test =
       peeked (is_sign s.LeftSquare) (square >>= λ c. pure (t.Group c))
       (peeked (is_keyword k.Not) (single (a_keyword k.Not) >> (square >>= λ c. pure (t.Not c)))
-        (peeked (is_keyword k.Scope) (single (a_keyword k.Scope) >> (sign s.Dot >> (single a_scope_word >>= scope_rest))) (expr n >>= compare_after)))
+      (peeked (is_keyword k.Scope) (single (a_keyword k.Scope) >> (sign s.Dot >> (single a_scope_word >>= scope_rest))) (expr n >>= compare_after)))
 
   unfoldable pub further_test : Reader Test
   further_test = single (a_keyword k.And) >> (test >>= λ a. pure a)

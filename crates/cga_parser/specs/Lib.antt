@@ -3,3 +3,4 @@ pub mod Tokens
 pub mod Grammar
 pub mod Answers
 pub mod Code
+pub mod LineAnswers

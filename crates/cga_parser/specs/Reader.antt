@@ -1,6 +1,5 @@
 -- The steps that each reader is made of.
-use Rattle.std.specs.Prelude.{◌≡◌, ℕ, zero, suc, ◌+◌, Bool, true, false, List, [], ◌∷◌, ◌++◌, length, Option, Some, None, Result, Ok, Err, if◌then◌else◌}
-use Rattle.cga_lexer.specs.declared.sign.Sign.{Sign}
+use Rattle.std.specs.Prelude.{ℕ, zero, suc, ◌+◌, Bool, false, List, [], ◌∷◌, ◌++◌, length, Option, Some, None, Result, Ok, Err, if◌then◌else◌}
 use Rattle.cga_syntax.specs.declared.lexeme.Lexeme.{Lexeme}
 use Rattle.cga_parser.specs.declared.fault.Fault.{Fault}
 use Rattle.cga_parser.specs.declared.fault.Fault.TheVariants.{Unexpected, TooNested}

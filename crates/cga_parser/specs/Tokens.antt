@@ -1,6 +1,6 @@
 -- What single tokens stand for.
-use Rattle.std.specs.Prelude.{ℕ, zero, suc, ◌+◌, ◌&&◌, ◌==◌, nat_le, ℤ, pos, negsuc, Bool, true, false, List, [], ◌∷◌, Option, Some, None, if◌then◌else◌, codes}
-use Rattle.cga_fraction.specs.Rat.{Rat, of_int}
+use Rattle.std.specs.Prelude.{ℕ, zero, suc, ◌&&◌, ◌==◌, nat_le, ℤ, pos, negsuc, Bool, true, false, List, Option, Some, None, if◌then◌else◌, codes}
+use Rattle.cga_fraction.specs.Rat.{Rat}
 use Rattle.cga_lexer.specs.declared.sign.Sign.{Sign}
 use Rattle.cga_lexer.specs.declared.sign.Sign.TheVariants as s
 use Rattle.cga_word.specs.declared.axis.Axis.{Axis}
@@ -24,7 +24,6 @@ use Rattle.cga_syntax.specs.declared.cond.Relation.{Relation}
 use Rattle.cga_syntax.specs.declared.cond.Relation.TheVariants as relation
 use Rattle.cga_parser.specs.declared.heads.PrimaryHead.{PrimaryHead}
 use Rattle.cga_parser.specs.declared.heads.PrimaryHead.TheVariants as primary
-
 use Rattle.cga_parser.specs.declared.heads.ScopeWord.{ScopeWord}
 use Rattle.cga_parser.specs.declared.heads.ScopeWord.TheVariants as scope_word
 use Rattle.cga_parser.specs.declared.heads.ItemHead.{ItemHead}

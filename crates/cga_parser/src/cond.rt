@@ -6,8 +6,8 @@ ghost use Rattle.cga_parser.specs.Tokens.{is_keyword};
 
 use crate::expr::{all_added, all_scaled, expr};
 use crate::fault::Stop;
-use crate::heads::ScopeWord;
 use crate::first::with_first;
+use crate::heads::ScopeWord;
 use crate::tokens::Tokens;
 use crate::words;
 use cga_fraction::List;
@@ -48,12 +48,7 @@ fn occ_parts(tokens: &mut Tokens<'_>, depth: u8) -> Result<(Target, bool, Answer
 }
 
 /// A comparison that begins with a size of the scope.
-fn size_rest(
-    alloc: Global,
-    tokens: &mut Tokens<'_>,
-    depth: u8,
-    axis: Axis,
-) -> Result<Test, Stop>
+fn size_rest(alloc: Global, tokens: &mut Tokens<'_>, depth: u8, axis: Axis) -> Result<Test, Stop>
     ensures { Reads (spec.scope_rest depth (spec.inner_of depth) (ScopeWord.Size axis) (input_of tokens.old)) result (input_of tokens.new) }
 {
     let factor = Factor {
@@ -142,11 +137,7 @@ fn further_test(alloc: Global, tokens: &mut Tokens<'_>, depth: u8) -> Result<Tes
 }
 
 #[cycle(cond)]
-fn further_tests(
-    alloc: Global,
-    tokens: &mut Tokens<'_>,
-    depth: u8,
-) -> Result<List<Test>, Stop>
+fn further_tests(alloc: Global, tokens: &mut Tokens<'_>, depth: u8) -> Result<List<Test>, Stop>
     ensures { Reads (many (is_keyword Keyword.And) (spec.further_test depth (spec.inner_of depth)) (input_of tokens.old)) result (input_of tokens.new) }
 {
     let mut rest = List::new(alloc);
@@ -178,11 +169,7 @@ fn further_conj(alloc: Global, tokens: &mut Tokens<'_>, depth: u8) -> Result<Con
 }
 
 #[cycle(cond)]
-fn further_conjs(
-    alloc: Global,
-    tokens: &mut Tokens<'_>,
-    depth: u8,
-) -> Result<List<Conj>, Stop>
+fn further_conjs(alloc: Global, tokens: &mut Tokens<'_>, depth: u8) -> Result<List<Conj>, Stop>
     ensures { Reads (many (is_keyword Keyword.Or) (spec.further_conj depth (spec.inner_of depth)) (input_of tokens.old)) result (input_of tokens.new) }
 {
     let mut rest = List::new(alloc);

@@ -120,11 +120,7 @@ fn further_size(alloc: Global, tokens: &mut Tokens<'_>, depth: u8) -> Result<Siz
     size(alloc, tokens, depth)
 }
 
-fn further_sizes(
-    alloc: Global,
-    tokens: &mut Tokens<'_>,
-    depth: u8,
-) -> Result<List<Size>, Stop>
+fn further_sizes(alloc: Global, tokens: &mut Tokens<'_>, depth: u8) -> Result<List<Size>, Stop>
     requires { 0 < depth }
     ensures { Reads (many (is_sign sign.Comma) (spec.further_size depth (spec.inside_of depth)) (input_of tokens.old)) result (input_of tokens.new) }
 {
@@ -225,11 +221,7 @@ pub(crate) fn goes_on(tokens: &Tokens<'_>, taken: usize) -> bool
 }
 
 /// At most three arguments after the first.
-fn further_arguments(
-    alloc: Global,
-    tokens: &mut Tokens<'_>,
-    depth: u8,
-) -> Result<List<Expr>, Stop>
+fn further_arguments(alloc: Global, tokens: &mut Tokens<'_>, depth: u8) -> Result<List<Expr>, Stop>
     requires { 0 < depth }
     ensures { Reads (many_from (is_sign sign.Comma) (spec.further_argument depth (spec.inside_of depth)) 3 [] (input_of tokens.old)) result (input_of tokens.new) }
 {
@@ -242,11 +234,7 @@ fn further_arguments(
 }
 
 #[tactic(auto, unfolding(crate::specs::Grammar::some_arguments))]
-fn some_arguments(
-    alloc: Global,
-    tokens: &mut Tokens<'_>,
-    depth: u8,
-) -> Result<List<Expr>, Stop>
+fn some_arguments(alloc: Global, tokens: &mut Tokens<'_>, depth: u8) -> Result<List<Expr>, Stop>
     ensures { Reads (spec.some_arguments depth (spec.inside_of depth) (input_of tokens.old)) result (input_of tokens.new) }
 {
     tokens.enter(Sign::LeftRound, depth)?;

@@ -41,11 +41,7 @@ fn further_names(alloc: Global, tokens: &mut Tokens<'_>) -> Result<List<Name>, S
 }
 
 #[tactic(auto, unfolding(crate::specs::Grammar::some_parameters))]
-fn some_parameters(
-    alloc: Global,
-    tokens: &mut Tokens<'_>,
-    depth: u8,
-) -> Result<List<Name>, Stop>
+fn some_parameters(alloc: Global, tokens: &mut Tokens<'_>, depth: u8) -> Result<List<Name>, Stop>
     ensures { Reads (spec.some_parameters depth (input_of tokens.old)) result (input_of tokens.new) }
 {
     tokens.enter(Sign::LeftRound, depth)?;

@@ -315,7 +315,11 @@ pub(crate) fn ninety(next: Option<Lexeme>) -> Option<()>
 fn ninety_of(value: Fraction) -> Option<()>
     ensures { result ≡ spec.ninety_by (spec.whole_of value) }
 {
-    if whole_of(value)? == 90 { Some(()) } else { None }
+    if whole_of(value)? == 90 {
+        Some(())
+    } else {
+        None
+    }
 }
 
 pub(crate) fn axis(next: Option<Lexeme>) -> Option<Axis>

@@ -1,4 +1,4 @@
-use Rattle.std.proofs.Common.{◌≡◌, ℕ, ◌+◌, ◌*◌, [], length}
+use Rattle.std.proofs.Common.{◌≡◌, ◌+◌, ◌*◌, length}
 use Rattle.cga_syntax.specs.declared.keyword.Keyword.TheVariants as k
 use Rattle.cga_parser.specs.Code.{input_of}
 use Rattle.cga_parser.specs.Grammar.{inner_of, further_test, further_conj}
@@ -44,4 +44,3 @@ invariant-further_conjs-conjs l = many (is_keyword k.Or) (further_conj l.depth (
 
 abbrev pub decreases-further_conjs-conjs : goal.decreases-further_conjs-conjs
 decreases-further_conjs-conjs l = length (input_of l.tokens).left
-

@@ -1,4 +1,4 @@
-use Rattle.std.proofs.Common.{◌≡◌, ℕ, ◌+◌, ◌*◌, [], length}
+use Rattle.std.proofs.Common.{◌≡◌, ◌+◌, ◌*◌, length}
 use Rattle.cga_parser.specs.Code.{input_of}
 use Rattle.cga_parser.specs.Grammar.{inside_of, is_scaling, is_addition, scaled, added}
 use Rattle.cga_parser.specs.Reader.{many_after, many}
@@ -54,4 +54,3 @@ invariant-all_added-added l = many is_addition (added l.depth (inside_of l.depth
 
 abbrev pub decreases-all_added-added : goal.decreases-all_added-added
 decreases-all_added-added l = length (input_of l.tokens).left
-

@@ -1,4 +1,4 @@
-use Rattle.std.proofs.Common.{◌≡◌, ℕ, ◌+◌, ◌*◌, [], length}
+use Rattle.std.proofs.Common.{◌≡◌, ◌+◌, ◌*◌, length}
 use Rattle.cga_lexer.specs.declared.sign.Sign.TheVariants as s
 use Rattle.cga_parser.specs.Code.{input_of}
 use Rattle.cga_parser.specs.Grammar.{inside_of, inner_item, begins_item, further_body}
@@ -50,4 +50,3 @@ invariant-further_bodies-bodies l = many (is_sign s.Bar) (further_body l.depth (
 
 abbrev pub decreases-further_bodies-bodies : goal.decreases-further_bodies-bodies
 decreases-further_bodies-bodies l = length (input_of l.tokens).left
-

@@ -1,12 +1,12 @@
-use Rattle.std.proofs.Common.{sym, ap, ◌∙◌, [], length, ◌-◌, ◌&&◌, nat_lt}
+use Rattle.std.proofs.Common.{sym, ap, ◌∙◌}
 use Rattle.std.proofs.lemmas.Result.{err_from_is_err_and}
 use Rattle.cga_lexer.specs.declared.sign.Sign.TheVariants as s
 use Rattle.cga_parser.specs.Code.{input_of}
-use Rattle.cga_parser.specs.Grammar.{item, begins_item, alternative, further_name}
+use Rattle.cga_parser.specs.Grammar.{alternative}
 use Rattle.cga_parser.specs.Tokens.{is_sign}
-use Rattle.cga_parser.specs.Reader.{begins, many_from, many_after, many}
-use Rattle.cga_parser.proofs.RuleListings.{item_listing, alternative_listing, name_listing}
-use Rattle.cga_parser.proofs.Turns.{many_is, on, off, fails, shortens, few_on, few_off, few_fails}
+use Rattle.cga_parser.specs.Reader.{many_after, many}
+use Rattle.cga_parser.proofs.RuleListings.{alternative_listing}
+use Rattle.cga_parser.proofs.Turns.{many_is, on, off, fails, shortens}
 use Rattle.cga_parser.proofs.rule.further_alternatives.Goals as goal
 
 pub alternatives-init : goal.alternatives-init
