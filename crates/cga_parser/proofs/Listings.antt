@@ -1,0 +1,37 @@
+-- The lists of forms, as their loops read them.
+use Rattle.std.proofs.Common.{◌≡◌, ℕ, suc, ◌-◌, ◌<◌, arith}
+use Rattle.cga_syntax.specs.Pieces.{scaled_pieces, added_pieces}
+use Rattle.cga_parser.specs.Grammar as g
+use Rattle.cga_syntax.specs.Pieces.{item_pieces}
+use Rattle.cga_parser.proofs.Items.{further_size_pieces, further_size_long, further_size_reads, further_argument_pieces, further_argument_long, further_argument_reads, item_long, inner_item_reads, further_body_pieces, further_body_long, further_body_reads}
+use Rattle.cga_parser.proofs.Turns.{Listing}
+use Rattle.cga_parser.proofs.Conds.{inner_reads, further_test_pieces, further_test_long, further_test_reads, further_conj_pieces, further_conj_long, further_conj_reads}
+use Rattle.cga_parser.proofs.Exprs.{inside_reads, scaled_long, scaled_reads, added_long, added_reads}
+
+pub scaled_listing : (n : ℕ) → Listing n scaled_pieces (g.scaled n (g.inside_of n))
+scaled_listing n = record { long = scaled_long; reads = scaled_reads n (g.inside_of n) (inside_reads n) }
+
+pub added_listing : (n : ℕ) → Listing n added_pieces (g.added n (g.inside_of n))
+added_listing n = record { long = added_long; reads = added_reads n (g.inside_of n) (inside_reads n) }
+
+pub test_listing : (n : ℕ) → Listing n further_test_pieces (g.further_test n (g.inner_of n))
+test_listing n = record { long = further_test_long n (g.inner_of n) (inner_reads n); reads = further_test_reads n (g.inner_of n) (inner_reads n) }
+
+pub conj_listing : (n : ℕ) → Listing n further_conj_pieces (g.further_conj n (g.inner_of n))
+conj_listing n = record { long = further_conj_long n (g.inner_of n) (inner_reads n); reads = further_conj_reads n (g.inner_of n) (inner_reads n) }
+
+-- a number above 0 is one more than another
+before : (n : ℕ) → 0 < n → n ≡ suc (n - 1)
+before n h = omega arith
+
+pub size_listing : (n : ℕ) → 0 < n → Listing (n - 1) further_size_pieces (g.further_size n (g.inside_of n))
+size_listing n h = record { long = further_size_long; reads = further_size_reads n (n - 1) (g.inside_of n) (inside_reads n (n - 1) (before n h)) }
+
+pub argument_listing : (n : ℕ) → 0 < n → Listing (n - 1) further_argument_pieces (g.further_argument n (g.inside_of n))
+argument_listing n h = record { long = further_argument_long; reads = further_argument_reads n (n - 1) (g.inside_of n) (inside_reads n (n - 1) (before n h)) }
+
+pub inner_listing : (n : ℕ) → 0 < n → Listing (n - 1) item_pieces (g.inner_item n)
+inner_listing n h = record { long = item_long; reads = inner_item_reads n (n - 1) (before n h) }
+
+pub body_listing : (n : ℕ) → 0 < n → Listing (n - 1) further_body_pieces (g.further_body n (g.inside_of n) (g.inner_item n))
+body_listing n h = record { long = further_body_long; reads = further_body_reads n (n - 1) (g.inside_of n) (g.inner_item n) (inner_item_reads n (n - 1) (before n h)) }

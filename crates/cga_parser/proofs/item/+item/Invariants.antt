@@ -1,0 +1,52 @@
+use Rattle.std.proofs.Common.{◌≡◌, ◌+◌, ◌*◌, length}
+use Rattle.cga_lexer.specs.declared.sign.Sign.TheVariants as s
+use Rattle.cga_parser.specs.Code.{input_of}
+use Rattle.cga_parser.specs.Grammar.{inside_of, inner_item, begins_item, further_body}
+use Rattle.cga_parser.specs.Tokens.{is_sign}
+use Rattle.cga_parser.specs.Reader.{many_after, many}
+use Rattle.cga_parser.proofs.item.+item.Given as goal
+
+abbrev pub decreases-inner : goal.decreases-inner
+decreases-inner l = 10 * l.depth + 0
+
+abbrev pub decreases-further_inner : goal.decreases-further_inner
+decreases-further_inner l = 10 * l.depth + 1
+
+abbrev pub decreases-inner_items : goal.decreases-inner_items
+decreases-inner_items l = 10 * l.depth + 2
+
+abbrev pub decreases-inner_body : goal.decreases-inner_body
+decreases-inner_body l = 10 * l.depth + 3
+
+abbrev pub decreases-scoped : goal.decreases-scoped
+decreases-scoped l = 10 * l.depth + 4
+
+abbrev pub decreases-block : goal.decreases-block
+decreases-block l = 10 * l.depth + 4
+
+abbrev pub decreases-further_body : goal.decreases-further_body
+decreases-further_body l = 10 * l.depth + 4
+
+abbrev pub decreases-further_bodies : goal.decreases-further_bodies
+decreases-further_bodies l = 10 * l.depth + 5
+
+abbrev pub decreases-blocks : goal.decreases-blocks
+decreases-blocks l = 10 * l.depth + 6
+
+abbrev pub decreases-item_rest : goal.decreases-item_rest
+decreases-item_rest l = 10 * l.depth + 7
+
+abbrev pub decreases-item : goal.decreases-item
+decreases-item l = 10 * l.depth + 8
+
+abbrev pub invariant-further_inner-items : goal.invariant-further_inner-items
+invariant-further_inner-items l = many begins_item (inner_item l.depth) (input_of l.initial.tokens) ≡ many_after begins_item (inner_item l.depth) l.rest (input_of l.tokens)
+
+abbrev pub decreases-further_inner-items : goal.decreases-further_inner-items
+decreases-further_inner-items l = length (input_of l.tokens).left
+
+abbrev pub invariant-further_bodies-bodies : goal.invariant-further_bodies-bodies
+invariant-further_bodies-bodies l = many (is_sign s.Bar) (further_body l.depth (inside_of l.depth) (inner_item l.depth)) (input_of l.initial.tokens) ≡ many_after (is_sign s.Bar) (further_body l.depth (inside_of l.depth) (inner_item l.depth)) l.rest (input_of l.tokens)
+
+abbrev pub decreases-further_bodies-bodies : goal.decreases-further_bodies-bodies
+decreases-further_bodies-bodies l = length (input_of l.tokens).left

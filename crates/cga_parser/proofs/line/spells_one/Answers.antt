@@ -1,0 +1,5 @@
+use Rattle.cga_parser.proofs.Lines.{rule_unique}
+use Rattle.cga_parser.proofs.line.spells_one.Goals as goal
+
+pub returns : goal.returns
+returns c = rule_unique

@@ -1,0 +1,6 @@
+pub mod Reader
+pub mod Tokens
+pub mod Grammar
+pub mod Answers
+pub mod Code
+pub mod LineAnswers

@@ -1,0 +1,193 @@
+ghost use Rattle.std.specs.Prelude.{◌≡◌, ◌<◌};
+ghost use Rattle.cga_parser.specs.Code.{input_of, Reads};
+ghost use Rattle.cga_parser.specs.Reader.{many};
+ghost use Rattle.cga_parser.specs.Grammar as spec;
+ghost use Rattle.cga_parser.specs.Tokens.{is_keyword};
+
+use crate::expr::{all_added, all_scaled, expr};
+use crate::fault::Stop;
+use crate::first::with_first;
+use crate::heads::ScopeWord;
+use crate::tokens::Tokens;
+use crate::words;
+use cga_fraction::List;
+use cga_lexer::Sign;
+use cga_syntax::{Cond, Conj, Expr, Factor, Keyword, Primary, Term, Test};
+use cga_word::{Answer, Axis, Target};
+use std::alloc::Global;
+
+/// What a comparison goes on with.
+#[tactic(auto, unfolding(crate::specs::Grammar::compare_after))]
+fn compare_after(
+    alloc: Global,
+    tokens: &mut Tokens<'_>,
+    depth: u8,
+    left: Expr,
+) -> Result<Test, Stop>
+    ensures { Reads (spec.compare_after depth (spec.inner_of depth) left (input_of tokens.old)) result (input_of tokens.new) }
+{
+    let relation = tokens.take(words::relation(tokens.peek()))?;
+    let right = expr(alloc, tokens, depth)?;
+    Ok(Test::Compare {
+        left,
+        relation,
+        right,
+    })
+}
+
+#[tactic(auto, unfolding(crate::specs::Grammar::occ_parts))]
+fn occ_parts(tokens: &mut Tokens<'_>, depth: u8) -> Result<(Target, bool, Answer), Stop>
+    ensures { Reads (spec.occ_parts depth (spec.inner_of depth) (input_of tokens.old)) result (input_of tokens.new) }
+{
+    tokens.enter(Sign::LeftRound, depth)?;
+    let target = tokens.take(words::target(tokens.peek()))?;
+    tokens.sign(Sign::RightRound)?;
+    let equal = tokens.take(words::equality(tokens.peek()))?;
+    let state = tokens.take(words::state(tokens.peek()))?;
+    Ok((target, equal, state))
+}
+
+/// A comparison that begins with a size of the scope.
+fn size_rest(alloc: Global, tokens: &mut Tokens<'_>, depth: u8, axis: Axis) -> Result<Test, Stop>
+    ensures { Reads (spec.scope_rest depth (spec.inner_of depth) (ScopeWord.Size axis) (input_of tokens.old)) result (input_of tokens.new) }
+{
+    let factor = Factor {
+        minus: false,
+        primary: Primary::ScopeSize(axis),
+    };
+    let first = Term {
+        first: factor,
+        rest: all_scaled(alloc, tokens, depth)?,
+    };
+    let rest = all_added(alloc, tokens, depth)?;
+    compare_after(alloc, tokens, depth, Expr { first, rest })
+}
+
+/// What stands behind `Scope.` and a word.
+fn scope_rest(
+    alloc: Global,
+    tokens: &mut Tokens<'_>,
+    depth: u8,
+    word: ScopeWord,
+) -> Result<Test, Stop>
+    ensures { Reads (spec.scope_rest depth (spec.inner_of depth) word (input_of tokens.old)) result (input_of tokens.new) }
+{
+    match word {
+        ScopeWord::Occ => {
+            let (target, equal, state) = occ_parts(tokens, depth)?;
+            Ok(Test::Occ {
+                target,
+                equal,
+                state,
+            })
+        }
+        ScopeWord::Size(axis) => size_rest(alloc, tokens, depth, axis),
+    }
+}
+
+/// A condition in one more bracket.
+#[cycle(cond)]
+fn inner(alloc: Global, tokens: &mut Tokens<'_>, depth: u8) -> Result<Cond, Stop>
+    requires { 0 < depth }
+    ensures { Reads (spec.inner_of depth (input_of tokens.old)) result (input_of tokens.new) }
+{
+    cond(alloc, tokens, depth - 1)
+}
+
+#[cycle(cond)]
+#[tactic(auto, unfolding(crate::specs::Grammar::square))]
+fn square(alloc: Global, tokens: &mut Tokens<'_>, depth: u8) -> Result<Cond, Stop>
+    ensures { Reads (spec.square depth (spec.inner_of depth) (input_of tokens.old)) result (input_of tokens.new) }
+{
+    tokens.enter(Sign::LeftSquare, depth)?;
+    let cond = inner(alloc, tokens, depth)?;
+    tokens.sign(Sign::RightSquare)?;
+    Ok(cond)
+}
+
+#[cycle(cond)]
+#[tactic(auto, unfolding(crate::specs::Grammar::test))]
+fn test(alloc: Global, tokens: &mut Tokens<'_>, depth: u8) -> Result<Test, Stop>
+    ensures { Reads (spec.test depth (spec.inner_of depth) (input_of tokens.old)) result (input_of tokens.new) }
+{
+    if tokens.at_sign(Sign::LeftSquare) {
+        return Ok(Test::Group(square(alloc, tokens, depth)?));
+    }
+    if tokens.at_keyword(Keyword::Not) {
+        tokens.keyword(Keyword::Not)?;
+        return Ok(Test::Not(square(alloc, tokens, depth)?));
+    }
+    if tokens.at_keyword(Keyword::Scope) {
+        tokens.keyword(Keyword::Scope)?;
+        tokens.sign(Sign::Dot)?;
+        let word = tokens.take(words::scope_word(tokens.peek()))?;
+        return scope_rest(alloc, tokens, depth, word);
+    }
+    let left = expr(alloc, tokens, depth)?;
+    compare_after(alloc, tokens, depth, left)
+}
+
+#[cycle(cond)]
+#[tactic(auto, unfolding(crate::specs::Grammar::further_test))]
+fn further_test(alloc: Global, tokens: &mut Tokens<'_>, depth: u8) -> Result<Test, Stop>
+    ensures { Reads (spec.further_test depth (spec.inner_of depth) (input_of tokens.old)) result (input_of tokens.new) }
+{
+    tokens.keyword(Keyword::And)?;
+    test(alloc, tokens, depth)
+}
+
+#[cycle(cond)]
+fn further_tests(alloc: Global, tokens: &mut Tokens<'_>, depth: u8) -> Result<List<Test>, Stop>
+    ensures { Reads (many (is_keyword Keyword.And) (spec.further_test depth (spec.inner_of depth)) (input_of tokens.old)) result (input_of tokens.new) }
+{
+    let mut rest = List::new(alloc);
+    'tests: while tokens.at_keyword(Keyword::And) {
+        let more = further_test(alloc, tokens, depth)?;
+        rest.push(more)?;
+    }
+    Ok(rest)
+}
+
+#[cycle(cond)]
+#[tactic(auto, unfolding(crate::specs::Grammar::conj))]
+fn conj(alloc: Global, tokens: &mut Tokens<'_>, depth: u8) -> Result<Conj, Stop>
+    ensures { Reads (spec.conj depth (spec.inner_of depth) (input_of tokens.old)) result (input_of tokens.new) }
+{
+    let first = test(alloc, tokens, depth)?;
+    let rest = further_tests(alloc, tokens, depth)?;
+    let tests = with_first(first, rest)?;
+    Ok(Conj { tests })
+}
+
+#[cycle(cond)]
+#[tactic(auto, unfolding(crate::specs::Grammar::further_conj))]
+fn further_conj(alloc: Global, tokens: &mut Tokens<'_>, depth: u8) -> Result<Conj, Stop>
+    ensures { Reads (spec.further_conj depth (spec.inner_of depth) (input_of tokens.old)) result (input_of tokens.new) }
+{
+    tokens.keyword(Keyword::Or)?;
+    conj(alloc, tokens, depth)
+}
+
+#[cycle(cond)]
+fn further_conjs(alloc: Global, tokens: &mut Tokens<'_>, depth: u8) -> Result<List<Conj>, Stop>
+    ensures { Reads (many (is_keyword Keyword.Or) (spec.further_conj depth (spec.inner_of depth)) (input_of tokens.old)) result (input_of tokens.new) }
+{
+    let mut rest = List::new(alloc);
+    'conjs: while tokens.at_keyword(Keyword::Or) {
+        let more = further_conj(alloc, tokens, depth)?;
+        rest.push(more)?;
+    }
+    Ok(rest)
+}
+
+/// A condition, where so many brackets may be opened.
+#[cycle(cond)]
+#[tactic(auto, unfolding(crate::specs::Grammar::cond, crate::specs::Grammar::cond_layer))]
+pub(crate) fn cond(alloc: Global, tokens: &mut Tokens<'_>, depth: u8) -> Result<Cond, Stop>
+    ensures { Reads (spec.cond depth (input_of tokens.old)) result (input_of tokens.new) }
+{
+    let first = conj(alloc, tokens, depth)?;
+    let rest = further_conjs(alloc, tokens, depth)?;
+    let conjs = with_first(first, rest)?;
+    Ok(Cond { conjs })
+}

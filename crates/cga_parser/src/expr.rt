@@ -1,0 +1,209 @@
+ghost use Rattle.std.specs.Prelude.{◌≡◌, ◌<◌};
+ghost use Rattle.cga_parser.specs.Code.{input_of, Reads};
+ghost use Rattle.cga_parser.specs.Reader.{begins, many};
+ghost use Rattle.cga_parser.specs.Grammar as spec;
+
+use crate::fault::Stop;
+use crate::heads::PrimaryHead;
+use crate::tokens::Tokens;
+use crate::words;
+use cga_fraction::{Boxed, List};
+use cga_lexer::Sign;
+use cga_syntax::{Added, Expr, Factor, Keyword, Primary, Scaled, Term};
+use std::alloc::Global;
+
+/// An expression in one more bracket.
+#[cycle(expr)]
+pub(crate) fn inside(alloc: Global, tokens: &mut Tokens<'_>, depth: u8) -> Result<Expr, Stop>
+    requires { 0 < depth }
+    ensures { Reads (spec.inside_of depth (input_of tokens.old)) result (input_of tokens.new) }
+{
+    expr(alloc, tokens, depth - 1)
+}
+
+#[cycle(expr)]
+#[tactic(auto, unfolding(crate::specs::Grammar::group))]
+fn group(alloc: Global, tokens: &mut Tokens<'_>, depth: u8) -> Result<Expr, Stop>
+    ensures { Reads (spec.group depth (spec.inside_of depth) (input_of tokens.old)) result (input_of tokens.new) }
+{
+    tokens.enter(Sign::LeftRound, depth)?;
+    let expr = inside(alloc, tokens, depth)?;
+    tokens.sign(Sign::RightRound)?;
+    Ok(expr)
+}
+
+/// The ends and the number of steps of a rand.
+#[cycle(expr)]
+#[tactic(auto, unfolding(crate::specs::Grammar::rand_parts))]
+fn rand_parts(
+    alloc: Global,
+    tokens: &mut Tokens<'_>,
+    depth: u8,
+) -> Result<(Boxed<Expr>, Boxed<Expr>, u32), Stop>
+    ensures { Reads (spec.rand_parts depth (spec.inside_of depth) (input_of tokens.old)) result (input_of tokens.new) }
+{
+    tokens.enter(Sign::LeftRound, depth)?;
+    let low = Boxed::new(alloc, inside(alloc, tokens, depth)?)?;
+    tokens.sign(Sign::Comma)?;
+    let high = Boxed::new(alloc, inside(alloc, tokens, depth)?)?;
+    tokens.sign(Sign::Comma)?;
+    let steps = tokens.take(words::whole(tokens.peek(), 1, 1_000_000))?;
+    tokens.sign(Sign::RightRound)?;
+    Ok((low, high, steps))
+}
+
+#[cycle(expr)]
+#[tactic(auto, unfolding(crate::specs::Grammar::primary))]
+fn primary(alloc: Global, tokens: &mut Tokens<'_>, depth: u8) -> Result<Primary, Stop>
+    ensures { Reads (spec.primary depth (spec.inside_of depth) (input_of tokens.old)) result (input_of tokens.new) }
+{
+    if tokens.at_sign(Sign::LeftRound) {
+        let expr = group(alloc, tokens, depth)?;
+        return Ok(Primary::Group(Boxed::new(alloc, expr)?));
+    }
+    if tokens.at_keyword(Keyword::Rand) {
+        let number = tokens.rand()?;
+        let (low, high, steps) = rand_parts(alloc, tokens, depth)?;
+        return Ok(Primary::Rand {
+            number,
+            low,
+            high,
+            steps,
+        });
+    }
+    let head = tokens.take(words::primary_head(tokens.peek()))?;
+    primary_rest(alloc, tokens, depth, head)
+}
+
+#[cycle(expr)]
+fn primary_rest(
+    alloc: Global,
+    tokens: &mut Tokens<'_>,
+    depth: u8,
+    head: PrimaryHead,
+) -> Result<Primary, Stop>
+    ensures { Reads (spec.primary_rest depth (spec.inside_of depth) head (input_of tokens.old)) result (input_of tokens.new) }
+{
+    match head {
+        PrimaryHead::Number(value) => Ok(Primary::Number(value)),
+        PrimaryHead::Named(name) => Ok(Primary::Named(name)),
+        PrimaryHead::Scope => {
+            tokens.sign(Sign::Dot)?;
+            let axis = tokens.take(words::size_axis(tokens.peek()))?;
+            Ok(Primary::ScopeSize(axis))
+        }
+        PrimaryHead::Floor => {
+            let expr = group(alloc, tokens, depth)?;
+            Ok(Primary::Floor(Boxed::new(alloc, expr)?))
+        }
+        PrimaryHead::Ceil => {
+            let expr = group(alloc, tokens, depth)?;
+            Ok(Primary::Ceil(Boxed::new(alloc, expr)?))
+        }
+    }
+}
+
+#[cycle(expr)]
+fn signed(alloc: Global, tokens: &mut Tokens<'_>, depth: u8, minus: bool) -> Result<Factor, Stop>
+    ensures { Reads (spec.signed depth (spec.inside_of depth) minus (input_of tokens.old)) result (input_of tokens.new) }
+{
+    let primary = primary(alloc, tokens, depth)?;
+    Ok(Factor { minus, primary })
+}
+
+#[cycle(expr)]
+#[tactic(auto, unfolding(crate::specs::Grammar::factor))]
+fn factor(alloc: Global, tokens: &mut Tokens<'_>, depth: u8) -> Result<Factor, Stop>
+    ensures { Reads (spec.factor depth (spec.inside_of depth) (input_of tokens.old)) result (input_of tokens.new) }
+{
+    if tokens.at_sign(Sign::Minus) {
+        tokens.sign(Sign::Minus)?;
+        return signed(alloc, tokens, depth, true);
+    }
+    signed(alloc, tokens, depth, false)
+}
+
+fn begins_scaled(tokens: &Tokens<'_>) -> bool
+    ensures { result ≡ begins spec.is_scaling (input_of tokens.now).left }
+{
+    words::scaling(tokens.peek()).is_some()
+}
+
+fn begins_added(tokens: &Tokens<'_>) -> bool
+    ensures { result ≡ begins spec.is_addition (input_of tokens.now).left }
+{
+    words::addition(tokens.peek()).is_some()
+}
+
+#[cycle(expr)]
+#[tactic(auto, unfolding(crate::specs::Grammar::scaled))]
+fn scaled(alloc: Global, tokens: &mut Tokens<'_>, depth: u8) -> Result<Scaled, Stop>
+    ensures { Reads (spec.scaled depth (spec.inside_of depth) (input_of tokens.old)) result (input_of tokens.new) }
+{
+    let divide = tokens.take(words::scaling(tokens.peek()))?;
+    let factor = factor(alloc, tokens, depth)?;
+    Ok(Scaled { divide, factor })
+}
+
+#[cycle(expr)]
+pub(crate) fn all_scaled(
+    alloc: Global,
+    tokens: &mut Tokens<'_>,
+    depth: u8,
+) -> Result<List<Scaled>, Stop>
+    ensures { Reads (many spec.is_scaling (spec.scaled depth (spec.inside_of depth)) (input_of tokens.old)) result (input_of tokens.new) }
+{
+    let mut rest = List::new(alloc);
+    'scaled: while begins_scaled(tokens) {
+        let more = scaled(alloc, tokens, depth)?;
+        rest.push(more)?;
+    }
+    Ok(rest)
+}
+
+#[cycle(expr)]
+#[tactic(auto, unfolding(crate::specs::Grammar::term))]
+fn term(alloc: Global, tokens: &mut Tokens<'_>, depth: u8) -> Result<Term, Stop>
+    ensures { Reads (spec.term depth (spec.inside_of depth) (input_of tokens.old)) result (input_of tokens.new) }
+{
+    let first = factor(alloc, tokens, depth)?;
+    let rest = all_scaled(alloc, tokens, depth)?;
+    Ok(Term { first, rest })
+}
+
+#[cycle(expr)]
+#[tactic(auto, unfolding(crate::specs::Grammar::added))]
+fn added(alloc: Global, tokens: &mut Tokens<'_>, depth: u8) -> Result<Added, Stop>
+    ensures { Reads (spec.added depth (spec.inside_of depth) (input_of tokens.old)) result (input_of tokens.new) }
+{
+    let minus = tokens.take(words::addition(tokens.peek()))?;
+    let term = term(alloc, tokens, depth)?;
+    Ok(Added { minus, term })
+}
+
+#[cycle(expr)]
+pub(crate) fn all_added(
+    alloc: Global,
+    tokens: &mut Tokens<'_>,
+    depth: u8,
+) -> Result<List<Added>, Stop>
+    ensures { Reads (many spec.is_addition (spec.added depth (spec.inside_of depth)) (input_of tokens.old)) result (input_of tokens.new) }
+{
+    let mut rest = List::new(alloc);
+    'added: while begins_added(tokens) {
+        let more = added(alloc, tokens, depth)?;
+        rest.push(more)?;
+    }
+    Ok(rest)
+}
+
+/// An expression, where so many brackets may be opened.
+#[cycle(expr)]
+#[tactic(auto, unfolding(crate::specs::Grammar::expr, crate::specs::Grammar::expr_layer))]
+pub(crate) fn expr(alloc: Global, tokens: &mut Tokens<'_>, depth: u8) -> Result<Expr, Stop>
+    ensures { Reads (spec.expr depth (input_of tokens.old)) result (input_of tokens.new) }
+{
+    let first = term(alloc, tokens, depth)?;
+    let rest = all_added(alloc, tokens, depth)?;
+    Ok(Expr { first, rest })
+}

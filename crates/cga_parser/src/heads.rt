@@ -1,0 +1,40 @@
+//! What the first token of a form says of the rest.
+use cga_fraction::Fraction;
+use cga_word::{Axis, Name};
+
+#[derive(Clone, Copy, Debug)]
+pub enum PrimaryHead {
+    Number(Fraction),
+    Named(Name),
+    Scope,
+    Floor,
+    Ceil,
+}
+
+#[derive(Clone, Copy, Debug)]
+pub enum ScopeWord {
+    Occ,
+    Size(Axis),
+}
+
+#[derive(Clone, Copy, Debug)]
+pub enum ItemHead {
+    Move,
+    Resize,
+    Rotate(Axis),
+    Solid,
+    Subdiv,
+    Repeat,
+    Comp,
+    Child(Name),
+}
+
+#[derive(Clone, Copy, Debug)]
+pub enum SelectorHead {
+    Faces,
+    Sidefaces,
+    Face,
+    Edges,
+    Edge,
+    Vertices,
+}

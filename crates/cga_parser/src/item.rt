@@ -1,0 +1,220 @@
+ghost use Rattle.std.specs.Prelude.{◌≡◌, ◌<◌};
+ghost use Rattle.cga_parser.specs.Code.{input_of, Reads};
+ghost use Rattle.cga_parser.specs.Reader.{begins, many};
+ghost use Rattle.cga_parser.specs.Grammar as spec;
+ghost use Rattle.cga_parser.specs.Tokens.{is_sign};
+ghost use Rattle.cga_lexer.specs.declared.sign.Sign.TheVariants as sign;
+
+use crate::fault::Stop;
+use crate::first::with_first;
+use crate::heads::ItemHead;
+use crate::tokens::Tokens;
+use crate::{parts, words};
+use cga_fraction::List;
+use cga_lexer::Sign;
+use cga_syntax::{Body, Item, Keyword};
+use std::alloc::Global;
+
+fn begins_item(tokens: &Tokens<'_>) -> bool
+    ensures { result ≡ begins spec.begins_item (input_of tokens.now).left }
+{
+    tokens.at_sign(Sign::LeftSquare) || words::item_head(tokens.peek()).is_some()
+}
+
+/// An item in one more bracket.
+#[cycle(item)]
+fn inner(alloc: Global, tokens: &mut Tokens<'_>, depth: u8) -> Result<Item, Stop>
+    requires { 0 < depth }
+    ensures { Reads (spec.inner_item depth (input_of tokens.old)) result (input_of tokens.new) }
+{
+    item(alloc, tokens, depth - 1)
+}
+
+#[cycle(item)]
+fn further_inner(alloc: Global, tokens: &mut Tokens<'_>, depth: u8) -> Result<List<Item>, Stop>
+    requires { 0 < depth }
+    ensures { Reads (many spec.begins_item (spec.inner_item depth) (input_of tokens.old)) result (input_of tokens.new) }
+{
+    let mut rest = List::new(alloc);
+    'items: while begins_item(tokens) {
+        let more = inner(alloc, tokens, depth)?;
+        rest.push(more)?;
+    }
+    Ok(rest)
+}
+
+#[cycle(item)]
+fn inner_items(alloc: Global, tokens: &mut Tokens<'_>, depth: u8) -> Result<List<Item>, Stop>
+    requires { 0 < depth }
+    ensures { Reads (spec.items_by (spec.inner_item depth) (input_of tokens.old)) result (input_of tokens.new) }
+{
+    let first = inner(alloc, tokens, depth)?;
+    let rest = further_inner(alloc, tokens, depth)?;
+    let items = with_first(first, rest)?;
+    Ok(items)
+}
+
+#[cycle(item)]
+fn inner_body(alloc: Global, tokens: &mut Tokens<'_>, depth: u8) -> Result<List<Item>, Stop>
+    requires { 0 < depth }
+    ensures { Reads (spec.body_by (spec.inner_item depth) (input_of tokens.old)) result (input_of tokens.new) }
+{
+    if tokens.at_keyword(Keyword::Nil) {
+        tokens.keyword(Keyword::Nil)?;
+        return Ok(List::new(alloc));
+    }
+    inner_items(alloc, tokens, depth)
+}
+
+#[cycle(item)]
+#[tactic(auto, unfolding(crate::specs::Grammar::scoped))]
+fn scoped(alloc: Global, tokens: &mut Tokens<'_>, depth: u8) -> Result<List<Item>, Stop>
+    ensures { Reads (spec.scoped depth (spec.inside_of depth) (spec.inner_item depth) (input_of tokens.old)) result (input_of tokens.new) }
+{
+    tokens.enter(Sign::LeftSquare, depth)?;
+    let items = inner_items(alloc, tokens, depth)?;
+    tokens.sign(Sign::RightSquare)?;
+    Ok(items)
+}
+
+#[cycle(item)]
+#[tactic(auto, unfolding(crate::specs::Grammar::block))]
+fn block(alloc: Global, tokens: &mut Tokens<'_>, depth: u8) -> Result<Body, Stop>
+    ensures { Reads (spec.block depth (spec.inside_of depth) (spec.inner_item depth) (input_of tokens.old)) result (input_of tokens.new) }
+{
+    tokens.enter(Sign::LeftCurly, depth)?;
+    let items = inner_body(alloc, tokens, depth)?;
+    tokens.sign(Sign::RightCurly)?;
+    Ok(Body { items })
+}
+
+#[cycle(item)]
+#[tactic(auto, unfolding(crate::specs::Grammar::further_body))]
+fn further_body(alloc: Global, tokens: &mut Tokens<'_>, depth: u8) -> Result<Body, Stop>
+    requires { 0 < depth }
+    ensures { Reads (spec.further_body depth (spec.inside_of depth) (spec.inner_item depth) (input_of tokens.old)) result (input_of tokens.new) }
+{
+    tokens.sign(Sign::Bar)?;
+    let items = inner_body(alloc, tokens, depth)?;
+    Ok(Body { items })
+}
+
+#[cycle(item)]
+fn further_bodies(alloc: Global, tokens: &mut Tokens<'_>, depth: u8) -> Result<List<Body>, Stop>
+    requires { 0 < depth }
+    ensures { Reads (many (is_sign sign.Bar) (spec.further_body depth (spec.inside_of depth) (spec.inner_item depth)) (input_of tokens.old)) result (input_of tokens.new) }
+{
+    let mut rest = List::new(alloc);
+    'bodies: while tokens.at_sign(Sign::Bar) {
+        let more = further_body(alloc, tokens, depth)?;
+        rest.push(more)?;
+    }
+    Ok(rest)
+}
+
+#[cycle(item)]
+#[tactic(auto, unfolding(crate::specs::Grammar::blocks))]
+fn blocks(alloc: Global, tokens: &mut Tokens<'_>, depth: u8) -> Result<List<Body>, Stop>
+    ensures { Reads (spec.blocks depth (spec.inside_of depth) (spec.inner_item depth) (input_of tokens.old)) result (input_of tokens.new) }
+{
+    tokens.enter(Sign::LeftCurly, depth)?;
+    let items = inner_body(alloc, tokens, depth)?;
+    let rest = further_bodies(alloc, tokens, depth)?;
+    tokens.sign(Sign::RightCurly)?;
+    let bodies = with_first(Body { items }, rest)?;
+    Ok(bodies)
+}
+
+/// What stands behind the word of an item.
+#[cycle(item)]
+fn item_rest(
+    alloc: Global,
+    tokens: &mut Tokens<'_>,
+    depth: u8,
+    head: ItemHead,
+) -> Result<Item, Stop>
+    ensures { Reads (spec.item_rest depth (spec.inside_of depth) (spec.inner_item depth) head (input_of tokens.old)) result (input_of tokens.new) }
+{
+    match head {
+        ItemHead::Move => {
+            let (x, y, z) = parts::move_parts(alloc, tokens, depth)?;
+            Ok(Item::Move(x, y, z))
+        }
+        ItemHead::Resize => {
+            let (x, y, z) = parts::resize_parts(alloc, tokens, depth)?;
+            Ok(Item::Resize(x, y, z))
+        }
+        ItemHead::Rotate(axis) => {
+            let by = parts::turn_part(tokens, depth)?;
+            Ok(Item::Rotate { axis, by })
+        }
+        ItemHead::Solid => Ok(Item::Solid(parts::solid_part(tokens, depth)?)),
+        ItemHead::Subdiv => {
+            let (axis, sizes) = parts::split_parts(alloc, tokens, depth)?;
+            let bodies = blocks(alloc, tokens, depth)?;
+            Ok(Item::Subdiv {
+                axis,
+                sizes,
+                bodies,
+            })
+        }
+        ItemHead::Repeat => {
+            let (axis, length) = parts::repeat_parts(alloc, tokens, depth)?;
+            let body = block(alloc, tokens, depth)?;
+            Ok(Item::Repeat { axis, length, body })
+        }
+        ItemHead::Comp => {
+            let selector = parts::selector_part(tokens, depth)?;
+            let body = block(alloc, tokens, depth)?;
+            Ok(Item::Comp { selector, body })
+        }
+        ItemHead::Child(symbol) => {
+            let args = parts::arguments(alloc, tokens, depth)?;
+            Ok(Item::Child { symbol, args })
+        }
+    }
+}
+
+/// An item, where so many brackets may be opened.
+#[cycle(item)]
+#[tactic(auto, unfolding(crate::specs::Grammar::item, crate::specs::Grammar::item_layer))]
+fn item(alloc: Global, tokens: &mut Tokens<'_>, depth: u8) -> Result<Item, Stop>
+    ensures { Reads (spec.item depth (input_of tokens.old)) result (input_of tokens.new) }
+{
+    if tokens.at_sign(Sign::LeftSquare) {
+        return Ok(Item::Scoped(scoped(alloc, tokens, depth)?));
+    }
+    let head = tokens.take(words::item_head(tokens.peek()))?;
+    item_rest(alloc, tokens, depth, head)
+}
+
+fn further_items(alloc: Global, tokens: &mut Tokens<'_>, depth: u8) -> Result<List<Item>, Stop>
+    ensures { Reads (many spec.begins_item (spec.item depth) (input_of tokens.old)) result (input_of tokens.new) }
+{
+    let mut rest = List::new(alloc);
+    'items: while begins_item(tokens) {
+        let more = item(alloc, tokens, depth)?;
+        rest.push(more)?;
+    }
+    Ok(rest)
+}
+
+fn items(alloc: Global, tokens: &mut Tokens<'_>, depth: u8) -> Result<List<Item>, Stop>
+    ensures { Reads (spec.items_by (spec.item depth) (input_of tokens.old)) result (input_of tokens.new) }
+{
+    let first = item(alloc, tokens, depth)?;
+    let rest = further_items(alloc, tokens, depth)?;
+    let items = with_first(first, rest)?;
+    Ok(items)
+}
+
+/// Items, or `NIL`, where so many brackets may be opened.
+pub(crate) fn body(alloc: Global, tokens: &mut Tokens<'_>, depth: u8) -> Result<List<Item>, Stop>
+    ensures { Reads (spec.body_by (spec.item depth) (input_of tokens.old)) result (input_of tokens.new) }
+{
+    if tokens.at_keyword(Keyword::Nil) {
+        tokens.keyword(Keyword::Nil)?;
+        return Ok(List::new(alloc));
+    }
+    items(alloc, tokens, depth)
+}

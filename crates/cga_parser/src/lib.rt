@@ -1,0 +1,24 @@
+//! Reading rules: which tokens are a rule, which rule they are, and where the first fault is.
+//!
+//! It knows the forms of the language, and neither what a rule does nor whether a grammar is valid.
+//! Callers get the fault's place wrong: it is the first token with which no rule could go on, or
+//! the end of the line, which comes behind blanks and a comment.
+#![tactic(auto)]
+
+mod cond;
+mod expr;
+pub mod fault;
+mod first;
+mod heads;
+mod item;
+mod line;
+mod line_fault;
+mod parts;
+pub mod rule;
+#[cfg(test)]
+mod tests;
+pub mod tokens;
+mod words;
+
+pub use line::{parse_rule, spells_one};
+pub use line_fault::LineFault;

@@ -1,0 +1,260 @@
+//! What items have in round brackets.
+ghost use Rattle.std.specs.Prelude.{◌≡◌, ◌<◌, ◌&&◌, [], nat_lt};
+ghost use Rattle.cga_parser.specs.Code.{input_of, Reads};
+ghost use Rattle.cga_parser.specs.Reader.{begins, many, many_from};
+ghost use Rattle.cga_parser.specs.Grammar as spec;
+ghost use Rattle.cga_parser.specs.Tokens.{is_sign, is_relative};
+ghost use Rattle.cga_lexer.specs.declared.sign.Sign.TheVariants as sign;
+
+use crate::expr::inside;
+use crate::fault::Stop;
+use crate::first::with_first;
+use crate::heads::SelectorHead;
+use crate::tokens::Tokens;
+use crate::words;
+use cga_fraction::List;
+use cga_lexer::Sign;
+use cga_syntax::{Expr, Size};
+use cga_word::{Axis, Primitive, Selector, Turn};
+use std::alloc::Global;
+
+fn begins_relative(tokens: &Tokens<'_>) -> bool
+    ensures { result ≡ begins is_relative (input_of tokens.now).left }
+{
+    words::relative(tokens.peek()).is_some()
+}
+
+#[tactic(auto, unfolding(crate::specs::Grammar::size))]
+fn size(alloc: Global, tokens: &mut Tokens<'_>, depth: u8) -> Result<Size, Stop>
+    requires { 0 < depth }
+    ensures { Reads (spec.size depth (spec.inside_of depth) (input_of tokens.old)) result (input_of tokens.new) }
+{
+    if begins_relative(tokens) {
+        let factor = tokens.take(words::relative(tokens.peek()))?;
+        return Ok(Size::Relative(factor));
+    }
+    Ok(Size::Absolute(inside(alloc, tokens, depth)?))
+}
+
+#[tactic(auto, unfolding(crate::specs::Grammar::move_parts))]
+pub(crate) fn move_parts(
+    alloc: Global,
+    tokens: &mut Tokens<'_>,
+    depth: u8,
+) -> Result<(Expr, Expr, Expr), Stop>
+    ensures { Reads (spec.move_parts depth (spec.inside_of depth) (input_of tokens.old)) result (input_of tokens.new) }
+{
+    tokens.enter(Sign::LeftRound, depth)?;
+    let x = inside(alloc, tokens, depth)?;
+    tokens.sign(Sign::Comma)?;
+    let y = inside(alloc, tokens, depth)?;
+    tokens.sign(Sign::Comma)?;
+    let z = inside(alloc, tokens, depth)?;
+    tokens.sign(Sign::RightRound)?;
+    Ok((x, y, z))
+}
+
+#[tactic(auto, unfolding(crate::specs::Grammar::resize_parts))]
+pub(crate) fn resize_parts(
+    alloc: Global,
+    tokens: &mut Tokens<'_>,
+    depth: u8,
+) -> Result<(Size, Size, Size), Stop>
+    ensures { Reads (spec.resize_parts depth (spec.inside_of depth) (input_of tokens.old)) result (input_of tokens.new) }
+{
+    tokens.enter(Sign::LeftRound, depth)?;
+    let x = size(alloc, tokens, depth)?;
+    tokens.sign(Sign::Comma)?;
+    let y = size(alloc, tokens, depth)?;
+    tokens.sign(Sign::Comma)?;
+    let z = size(alloc, tokens, depth)?;
+    tokens.sign(Sign::RightRound)?;
+    Ok((x, y, z))
+}
+
+#[tactic(auto, unfolding(crate::specs::Grammar::minus_ninety))]
+fn minus_ninety(tokens: &mut Tokens<'_>) -> Result<(), Stop>
+    ensures { Reads (spec.minus_ninety (input_of tokens.old)) result (input_of tokens.new) }
+{
+    tokens.sign(Sign::Minus)?;
+    tokens.take(words::ninety(tokens.peek()))
+}
+
+#[tactic(auto, unfolding(crate::specs::Grammar::quarter_turn))]
+fn quarter_turn(tokens: &mut Tokens<'_>) -> Result<Turn, Stop>
+    ensures { Reads (spec.quarter_turn (input_of tokens.old)) result (input_of tokens.new) }
+{
+    if tokens.at_sign(Sign::Minus) {
+        minus_ninety(tokens)?;
+        return Ok(Turn::By270);
+    }
+    tokens.take(words::turn(tokens.peek()))
+}
+
+#[tactic(auto, unfolding(crate::specs::Grammar::turn_part))]
+pub(crate) fn turn_part(tokens: &mut Tokens<'_>, depth: u8) -> Result<Turn, Stop>
+    ensures { Reads (spec.turn_part depth (spec.inside_of depth) (input_of tokens.old)) result (input_of tokens.new) }
+{
+    tokens.enter(Sign::LeftRound, depth)?;
+    let by = quarter_turn(tokens)?;
+    tokens.sign(Sign::RightRound)?;
+    Ok(by)
+}
+
+#[tactic(auto, unfolding(crate::specs::Grammar::solid_part))]
+pub(crate) fn solid_part(tokens: &mut Tokens<'_>, depth: u8) -> Result<Primitive, Stop>
+    ensures { Reads (spec.solid_part depth (spec.inside_of depth) (input_of tokens.old)) result (input_of tokens.new) }
+{
+    tokens.enter(Sign::LeftRound, depth)?;
+    let solid = tokens.take(words::solid(tokens.peek()))?;
+    tokens.sign(Sign::RightRound)?;
+    Ok(solid)
+}
+
+#[tactic(auto, unfolding(crate::specs::Grammar::further_size))]
+fn further_size(alloc: Global, tokens: &mut Tokens<'_>, depth: u8) -> Result<Size, Stop>
+    requires { 0 < depth }
+    ensures { Reads (spec.further_size depth (spec.inside_of depth) (input_of tokens.old)) result (input_of tokens.new) }
+{
+    tokens.sign(Sign::Comma)?;
+    size(alloc, tokens, depth)
+}
+
+fn further_sizes(alloc: Global, tokens: &mut Tokens<'_>, depth: u8) -> Result<List<Size>, Stop>
+    requires { 0 < depth }
+    ensures { Reads (many (is_sign sign.Comma) (spec.further_size depth (spec.inside_of depth)) (input_of tokens.old)) result (input_of tokens.new) }
+{
+    let mut rest = List::new(alloc);
+    'sizes: while tokens.at_sign(Sign::Comma) {
+        let more = further_size(alloc, tokens, depth)?;
+        rest.push(more)?;
+    }
+    Ok(rest)
+}
+
+#[tactic(auto, unfolding(crate::specs::Grammar::split_parts))]
+pub(crate) fn split_parts(
+    alloc: Global,
+    tokens: &mut Tokens<'_>,
+    depth: u8,
+) -> Result<(Axis, List<Size>), Stop>
+    ensures { Reads (spec.split_parts depth (spec.inside_of depth) (input_of tokens.old)) result (input_of tokens.new) }
+{
+    tokens.enter(Sign::LeftRound, depth)?;
+    let axis = tokens.take(words::axis(tokens.peek()))?;
+    let first = further_size(alloc, tokens, depth)?;
+    let rest = further_sizes(alloc, tokens, depth)?;
+    tokens.sign(Sign::RightRound)?;
+    let sizes = with_first(first, rest)?;
+    Ok((axis, sizes))
+}
+
+#[tactic(auto, unfolding(crate::specs::Grammar::repeat_parts))]
+pub(crate) fn repeat_parts(
+    alloc: Global,
+    tokens: &mut Tokens<'_>,
+    depth: u8,
+) -> Result<(Axis, Expr), Stop>
+    ensures { Reads (spec.repeat_parts depth (spec.inside_of depth) (input_of tokens.old)) result (input_of tokens.new) }
+{
+    tokens.enter(Sign::LeftRound, depth)?;
+    let axis = tokens.take(words::axis(tokens.peek()))?;
+    tokens.sign(Sign::Comma)?;
+    let length = inside(alloc, tokens, depth)?;
+    tokens.sign(Sign::RightRound)?;
+    Ok((axis, length))
+}
+
+fn selector_rest(tokens: &mut Tokens<'_>, head: SelectorHead) -> Result<Selector, Stop>
+    ensures { Reads (spec.selector_rest head (input_of tokens.old)) result (input_of tokens.new) }
+{
+    match head {
+        SelectorHead::Faces => Ok(Selector::Faces),
+        SelectorHead::Sidefaces => Ok(Selector::Sidefaces),
+        SelectorHead::Face => {
+            tokens.sign(Sign::Comma)?;
+            let side = tokens.take(words::side(tokens.peek()))?;
+            Ok(Selector::Face(side))
+        }
+        SelectorHead::Edges => Ok(Selector::Edges),
+        SelectorHead::Edge => {
+            tokens.sign(Sign::Comma)?;
+            let number = tokens.take(words::edge(tokens.peek()))?;
+            Ok(Selector::Edge(number))
+        }
+        SelectorHead::Vertices => Ok(Selector::Vertices),
+    }
+}
+
+#[tactic(auto, unfolding(crate::specs::Grammar::selector))]
+fn selector(tokens: &mut Tokens<'_>) -> Result<Selector, Stop>
+    ensures { Reads (spec.selector (input_of tokens.old)) result (input_of tokens.new) }
+{
+    let head = tokens.take(words::selector(tokens.peek()))?;
+    selector_rest(tokens, head)
+}
+
+#[tactic(auto, unfolding(crate::specs::Grammar::selector_part))]
+pub(crate) fn selector_part(tokens: &mut Tokens<'_>, depth: u8) -> Result<Selector, Stop>
+    ensures { Reads (spec.selector_part depth (spec.inside_of depth) (input_of tokens.old)) result (input_of tokens.new) }
+{
+    tokens.enter(Sign::LeftRound, depth)?;
+    let selector = selector(tokens)?;
+    tokens.sign(Sign::RightRound)?;
+    Ok(selector)
+}
+
+#[tactic(auto, unfolding(crate::specs::Grammar::further_argument))]
+fn further_argument(alloc: Global, tokens: &mut Tokens<'_>, depth: u8) -> Result<Expr, Stop>
+    requires { 0 < depth }
+    ensures { Reads (spec.further_argument depth (spec.inside_of depth) (input_of tokens.old)) result (input_of tokens.new) }
+{
+    tokens.sign(Sign::Comma)?;
+    inside(alloc, tokens, depth)
+}
+
+/// Whether a further one of at most four comes, where so many came after the first.
+pub(crate) fn goes_on(tokens: &Tokens<'_>, taken: usize) -> bool
+    ensures { result ≡ (nat_lt taken 3 && begins (is_sign sign.Comma) (input_of tokens.now).left) }
+{
+    taken < 3 && tokens.at_sign(Sign::Comma)
+}
+
+/// At most three arguments after the first.
+fn further_arguments(alloc: Global, tokens: &mut Tokens<'_>, depth: u8) -> Result<List<Expr>, Stop>
+    requires { 0 < depth }
+    ensures { Reads (many_from (is_sign sign.Comma) (spec.further_argument depth (spec.inside_of depth)) 3 [] (input_of tokens.old)) result (input_of tokens.new) }
+{
+    let mut rest = List::new(alloc);
+    'arguments: while goes_on(tokens, rest.len()) {
+        let more = further_argument(alloc, tokens, depth)?;
+        rest.push(more)?;
+    }
+    Ok(rest)
+}
+
+#[tactic(auto, unfolding(crate::specs::Grammar::some_arguments))]
+fn some_arguments(alloc: Global, tokens: &mut Tokens<'_>, depth: u8) -> Result<List<Expr>, Stop>
+    ensures { Reads (spec.some_arguments depth (spec.inside_of depth) (input_of tokens.old)) result (input_of tokens.new) }
+{
+    tokens.enter(Sign::LeftRound, depth)?;
+    let first = inside(alloc, tokens, depth)?;
+    let rest = further_arguments(alloc, tokens, depth)?;
+    tokens.sign(Sign::RightRound)?;
+    let arguments = with_first(first, rest)?;
+    Ok(arguments)
+}
+
+#[tactic(auto, unfolding(crate::specs::Grammar::arguments))]
+pub(crate) fn arguments(
+    alloc: Global,
+    tokens: &mut Tokens<'_>,
+    depth: u8,
+) -> Result<List<Expr>, Stop>
+    ensures { Reads (spec.arguments depth (spec.inside_of depth) (input_of tokens.old)) result (input_of tokens.new) }
+{
+    if tokens.at_sign(Sign::LeftRound) {
+        return some_arguments(alloc, tokens, depth);
+    }
+    Ok(List::new(alloc))
+}

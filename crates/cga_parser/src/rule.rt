@@ -1,0 +1,175 @@
+ghost use Rattle.std.specs.Prelude.{◌≡◌, ◌≤◌, ◌∷◌, [], length, map, IfOk, List};
+ghost use Rattle.cga_parser.specs.Code.{input_of, Reads, seen};
+ghost use Rattle.cga_parser.specs.Reader.{many, many_from};
+ghost use Rattle.cga_parser.specs.Grammar as spec;
+ghost use Rattle.cga_parser.specs.Answers.{Answers};
+ghost use Rattle.cga_parser.specs.Tokens.{is_sign};
+ghost use Rattle.cga_syntax.specs.Pieces.{rule_pieces};
+ghost use Rattle.cga_lexer.specs.declared.sign.Sign.TheVariants as sign;
+
+use crate::cond::cond;
+use crate::fault::{Fault, Stop};
+use crate::first::with_first;
+use crate::item::body;
+use crate::parts::goes_on;
+use crate::tokens::Tokens;
+use crate::words;
+use cga_fraction::{Fraction, List, NoMemory};
+use cga_lexer::{Sign, Token};
+use cga_syntax::{Alternative, Cond, Rule};
+use cga_word::Name;
+use std::alloc::Global;
+
+#[tactic(auto, unfolding(crate::specs::Grammar::further_name))]
+fn further_name(tokens: &mut Tokens<'_>) -> Result<Name, Stop>
+    ensures { Reads (spec.further_name (input_of tokens.old)) result (input_of tokens.new) }
+{
+    tokens.sign(Sign::Comma)?;
+    tokens.take(words::name(tokens.peek()))
+}
+
+/// At most three names after the first.
+fn further_names(alloc: Global, tokens: &mut Tokens<'_>) -> Result<List<Name>, Stop>
+    ensures { Reads (many_from (is_sign sign.Comma) spec.further_name 3 [] (input_of tokens.old)) result (input_of tokens.new) }
+{
+    let mut rest = List::new(alloc);
+    'names: while goes_on(tokens, rest.len()) {
+        let more = further_name(tokens)?;
+        rest.push(more)?;
+    }
+    Ok(rest)
+}
+
+#[tactic(auto, unfolding(crate::specs::Grammar::some_parameters))]
+fn some_parameters(alloc: Global, tokens: &mut Tokens<'_>, depth: u8) -> Result<List<Name>, Stop>
+    ensures { Reads (spec.some_parameters depth (input_of tokens.old)) result (input_of tokens.new) }
+{
+    tokens.enter(Sign::LeftRound, depth)?;
+    let first = tokens.take(words::name(tokens.peek()))?;
+    let rest = further_names(alloc, tokens)?;
+    tokens.sign(Sign::RightRound)?;
+    let names = with_first(first, rest)?;
+    Ok(names)
+}
+
+#[tactic(auto, unfolding(crate::specs::Grammar::parameters))]
+fn parameters(alloc: Global, tokens: &mut Tokens<'_>, depth: u8) -> Result<List<Name>, Stop>
+    ensures { Reads (spec.parameters depth (input_of tokens.old)) result (input_of tokens.new) }
+{
+    if tokens.at_sign(Sign::LeftRound) {
+        return some_parameters(alloc, tokens, depth);
+    }
+    Ok(List::new(alloc))
+}
+
+#[tactic(auto, unfolding(crate::specs::Grammar::condition))]
+fn condition(alloc: Global, tokens: &mut Tokens<'_>, depth: u8) -> Result<Option<Cond>, Stop>
+    ensures { Reads (spec.condition depth (input_of tokens.old)) result (input_of tokens.new) }
+{
+    if tokens.at_sign(Sign::Colon) {
+        tokens.sign(Sign::Colon)?;
+        return Ok(Some(cond(alloc, tokens, depth)?));
+    }
+    Ok(None)
+}
+
+#[tactic(auto, unfolding(crate::specs::Grammar::given_probability))]
+fn given_probability(tokens: &mut Tokens<'_>) -> Result<Fraction, Stop>
+    ensures { Reads (spec.given_probability (input_of tokens.old)) result (input_of tokens.new) }
+{
+    tokens.sign(Sign::Colon)?;
+    tokens.take(words::number(tokens.peek()))
+}
+
+#[tactic(auto, unfolding(crate::specs::Grammar::probability))]
+fn probability(tokens: &mut Tokens<'_>) -> Result<Fraction, Stop>
+    ensures { Reads (spec.probability (input_of tokens.old)) result (input_of tokens.new) }
+{
+    if tokens.at_sign(Sign::Colon) {
+        return given_probability(tokens);
+    }
+    Ok(Fraction::from(1))
+}
+
+#[tactic(auto, unfolding(crate::specs::Grammar::alternative))]
+fn alternative(alloc: Global, tokens: &mut Tokens<'_>, depth: u8) -> Result<Alternative, Stop>
+    ensures { Reads (spec.alternative depth (input_of tokens.old)) result (input_of tokens.new) }
+{
+    tokens.sign(Sign::Arrow)?;
+    let items = body(alloc, tokens, depth)?;
+    let prob = probability(tokens)?;
+    Ok(Alternative { items, prob })
+}
+
+fn further_alternatives(
+    alloc: Global,
+    tokens: &mut Tokens<'_>,
+    depth: u8,
+) -> Result<List<Alternative>, Stop>
+    ensures { Reads (many (is_sign sign.Arrow) (spec.alternative depth) (input_of tokens.old)) result (input_of tokens.new) }
+{
+    let mut rest = List::new(alloc);
+    'alternatives: while tokens.at_sign(Sign::Arrow) {
+        let more = alternative(alloc, tokens, depth)?;
+        rest.push(more)?;
+    }
+    Ok(rest)
+}
+
+/// A rule, where so many brackets may be opened.
+#[tactic(auto, unfolding(crate::specs::Grammar::rule))]
+pub(crate) fn rule(alloc: Global, tokens: &mut Tokens<'_>, depth: u8) -> Result<Rule, Stop>
+    ensures { Reads (spec.rule depth (input_of tokens.old)) result (input_of tokens.new) }
+{
+    let id = tokens.take(words::whole(tokens.peek(), 1, 999_999))?;
+    tokens.sign(Sign::Colon)?;
+    let symbol = tokens.take(words::name(tokens.peek()))?;
+    let params = parameters(alloc, tokens, depth)?;
+    let cond = condition(alloc, tokens, depth)?;
+    let first = alternative(alloc, tokens, depth)?;
+    let rest = further_alternatives(alloc, tokens, depth)?;
+    let alternatives = with_first(first, rest)?;
+    Ok(Rule {
+        id,
+        symbol,
+        params,
+        cond,
+        alternatives,
+    })
+}
+
+#[tactic(auto, unfolding(crate::specs::Grammar::finish))]
+fn finish(tokens: &mut Tokens<'_>) -> Result<(), Stop>
+    ensures { Reads (spec.finish (input_of tokens.old)) result (input_of tokens.new) }
+{
+    match tokens.peek() {
+        None => Ok(()),
+        Some(_) => Err(tokens.unexpected()),
+    }
+}
+
+#[tactic(auto, unfolding(crate::specs::Grammar::rule_line))]
+fn whole_line(alloc: Global, tokens: &mut Tokens<'_>) -> Result<Rule, Stop>
+    ensures { Reads (spec.rule_line 32 (input_of tokens.old)) result (input_of tokens.new) }
+{
+    let rule = rule(alloc, tokens, 32)?;
+    finish(tokens)?;
+    Ok(rule)
+}
+
+/// The rule that the tokens of a line spell, or the fault of the first token with which they spell
+/// none. At most 32 brackets may be open.
+pub fn rule_of(alloc: Global, tokens: &[Token]) -> Result<Result<Rule, Fault>, NoMemory>
+    requires { length tokens.now ≤ 65535 }
+    ensures { IfOk result (λ found. Answers rule_pieces 32 (map seen tokens.now) found) }
+{
+    let mut left = Tokens {
+        rest: tokens,
+        rands: 0,
+    };
+    match whole_line(alloc, &mut left) {
+        Ok(rule) => Ok(Ok(rule)),
+        Err(Stop::Fault(fault)) => Ok(Err(fault)),
+        Err(Stop::Memory) => Err(NoMemory),
+    }
+}

@@ -1,0 +1,435 @@
+//! What single tokens stand for.
+ghost use Rattle.std.specs.Prelude.{◌≡◌, ◌≤◌, IfSome};
+ghost use Rattle.cga_parser.specs.Code.{IsProper};
+ghost use Rattle.cga_parser.specs.Reader.{decoded};
+ghost use Rattle.cga_parser.specs.Tokens as spec;
+
+use crate::heads::{ItemHead, PrimaryHead, ScopeWord, SelectorHead};
+use cga_fraction::Fraction;
+use cga_lexer::Sign;
+use cga_syntax::{Keyword, Lexeme, Relation};
+use cga_word::{Answer, Axis, Name, Primitive, Side, Target, Turn};
+
+pub(crate) fn name(next: Option<Lexeme>) -> Option<Name>
+    requires { IsProper next }
+    ensures { result ≡ decoded spec.a_name next }
+{
+    match next? {
+        Lexeme::Name(name) => Some(name),
+        _ => None,
+    }
+}
+
+pub(crate) fn number(next: Option<Lexeme>) -> Option<Fraction>
+    ensures { result ≡ decoded spec.a_number next }
+{
+    match next? {
+        Lexeme::Number(value) => Some(value),
+        _ => None,
+    }
+}
+
+pub(crate) fn primary_head(next: Option<Lexeme>) -> Option<PrimaryHead>
+    requires { IsProper next }
+    ensures { result ≡ decoded spec.primary_head next }
+{
+    match next? {
+        Lexeme::Number(value) => Some(PrimaryHead::Number(value)),
+        Lexeme::Name(name) => Some(PrimaryHead::Named(name)),
+        Lexeme::Keyword(keyword) => primary_keyword(keyword),
+        _ => None,
+    }
+}
+
+fn primary_keyword(keyword: Keyword) -> Option<PrimaryHead>
+    ensures { result ≡ spec.primary_keyword keyword }
+{
+    match keyword {
+        Keyword::Scope => Some(PrimaryHead::Scope),
+        Keyword::Floor => Some(PrimaryHead::Floor),
+        Keyword::Ceil => Some(PrimaryHead::Ceil),
+        _ => None,
+    }
+}
+
+pub(crate) fn addition(next: Option<Lexeme>) -> Option<bool>
+    ensures { result ≡ decoded spec.an_addition next }
+{
+    match next {
+        Some(Lexeme::Sign(Sign::Plus)) => Some(false),
+        Some(Lexeme::Sign(Sign::Minus)) => Some(true),
+        _ => None,
+    }
+}
+
+pub(crate) fn scaling(next: Option<Lexeme>) -> Option<bool>
+    ensures { result ≡ decoded spec.a_scaling next }
+{
+    match next {
+        Some(Lexeme::Sign(Sign::Star)) => Some(false),
+        Some(Lexeme::Sign(Sign::Slash)) => Some(true),
+        _ => None,
+    }
+}
+
+pub(crate) fn size_axis(next: Option<Lexeme>) -> Option<Axis>
+    ensures { result ≡ decoded spec.size_axis next }
+{
+    match next? {
+        Lexeme::Name(name) => size_axis_of(name),
+        _ => None,
+    }
+}
+
+fn size_axis_of(name: Name) -> Option<Axis>
+    ensures { result ≡ spec.size_axis_of name }
+{
+    let name = name.bytes();
+    if name == b"sx".as_slice() {
+        Some(Axis::X)
+    } else if name == b"sy".as_slice() {
+        Some(Axis::Y)
+    } else if name == b"sz".as_slice() {
+        Some(Axis::Z)
+    } else {
+        None
+    }
+}
+
+/// A whole number within bounds.
+pub(crate) fn whole(next: Option<Lexeme>, low: u32, high: u32) -> Option<u32>
+    ensures value { result ≡ decoded (spec.a_whole low high) next }
+    ensures below { IfSome result (λ n. n ≤ high) }
+{
+    match next? {
+        Lexeme::Number(value) => within(value, low, high),
+        _ => None,
+    }
+}
+
+fn within(value: Fraction, low: u32, high: u32) -> Option<u32>
+    ensures value { result ≡ spec.bounded low high (spec.whole_of value) }
+    ensures below { IfSome result (λ n. n ≤ high) }
+{
+    if value.denominator() != 1 {
+        return None;
+    }
+    match u32::try_from(value.numerator()) {
+        Ok(n) if low <= n && n <= high => Some(n),
+        _ => None,
+    }
+}
+
+/// The number of an edge.
+pub(crate) fn edge(next: Option<Lexeme>) -> Option<u8>
+    ensures { result ≡ decoded (spec.a_whole 1 12) next }
+{
+    match whole(next, 1, 12) {
+        Some(number) => Some(number as u8),
+        None => None,
+    }
+}
+
+pub(crate) fn relation(next: Option<Lexeme>) -> Option<Relation>
+    ensures { result ≡ decoded spec.a_relation next }
+{
+    match next? {
+        Lexeme::Sign(sign) => relation_of(sign),
+        _ => None,
+    }
+}
+
+fn relation_of(sign: Sign) -> Option<Relation>
+    ensures { result ≡ spec.relation_of sign }
+{
+    match sign {
+        Sign::Equal => Some(Relation::Equal),
+        Sign::Unequal => Some(Relation::Unequal),
+        Sign::Less => Some(Relation::Less),
+        Sign::AtMost => Some(Relation::AtMost),
+        Sign::Greater => Some(Relation::Greater),
+        Sign::AtLeast => Some(Relation::AtLeast),
+        _ => None,
+    }
+}
+
+pub(crate) fn equality(next: Option<Lexeme>) -> Option<bool>
+    ensures { result ≡ decoded spec.an_equality next }
+{
+    match next {
+        Some(Lexeme::Sign(Sign::Equal)) => Some(true),
+        Some(Lexeme::Sign(Sign::Unequal)) => Some(false),
+        _ => None,
+    }
+}
+
+pub(crate) fn target(next: Option<Lexeme>) -> Option<Target>
+    ensures { result ≡ decoded spec.a_target next }
+{
+    match next? {
+        Lexeme::Text(text) => target_of(text),
+        _ => None,
+    }
+}
+
+fn target_of(text: Name) -> Option<Target>
+    ensures { result ≡ spec.target_of text }
+{
+    let text = text.bytes();
+    if text == b"noparent".as_slice() {
+        Some(Target::Noparent)
+    } else if text == b"active".as_slice() {
+        Some(Target::Active)
+    } else {
+        None
+    }
+}
+
+pub(crate) fn state(next: Option<Lexeme>) -> Option<Answer>
+    ensures { result ≡ decoded spec.a_state next }
+{
+    match next? {
+        Lexeme::Text(text) => state_of(text),
+        _ => None,
+    }
+}
+
+fn state_of(text: Name) -> Option<Answer>
+    ensures { result ≡ spec.state_of text }
+{
+    let text = text.bytes();
+    if text == b"none".as_slice() {
+        Some(Answer::Nothing)
+    } else if text == b"part".as_slice() {
+        Some(Answer::Part)
+    } else if text == b"full".as_slice() {
+        Some(Answer::Full)
+    } else {
+        None
+    }
+}
+
+pub(crate) fn scope_word(next: Option<Lexeme>) -> Option<ScopeWord>
+    ensures { result ≡ decoded spec.a_scope_word next }
+{
+    match next? {
+        Lexeme::Name(name) => scope_word_of(name),
+        _ => None,
+    }
+}
+
+fn scope_word_of(name: Name) -> Option<ScopeWord>
+    ensures { result ≡ spec.scope_word_of name }
+{
+    let name = name.bytes();
+    if name == b"occ".as_slice() {
+        Some(ScopeWord::Occ)
+    } else if name == b"sx".as_slice() {
+        Some(ScopeWord::Size(Axis::X))
+    } else if name == b"sy".as_slice() {
+        Some(ScopeWord::Size(Axis::Y))
+    } else if name == b"sz".as_slice() {
+        Some(ScopeWord::Size(Axis::Z))
+    } else {
+        None
+    }
+}
+
+pub(crate) fn item_head(next: Option<Lexeme>) -> Option<ItemHead>
+    requires { IsProper next }
+    ensures { result ≡ decoded spec.item_head next }
+{
+    match next? {
+        Lexeme::Name(name) => Some(ItemHead::Child(name)),
+        Lexeme::Keyword(keyword) => item_keyword(keyword),
+        _ => None,
+    }
+}
+
+fn item_keyword(keyword: Keyword) -> Option<ItemHead>
+    ensures { result ≡ spec.item_keyword keyword }
+{
+    match keyword {
+        Keyword::T => Some(ItemHead::Move),
+        Keyword::S => Some(ItemHead::Resize),
+        Keyword::Rx => Some(ItemHead::Rotate(Axis::X)),
+        Keyword::Ry => Some(ItemHead::Rotate(Axis::Y)),
+        Keyword::Rz => Some(ItemHead::Rotate(Axis::Z)),
+        Keyword::I => Some(ItemHead::Solid),
+        Keyword::Subdiv => Some(ItemHead::Subdiv),
+        Keyword::Repeat => Some(ItemHead::Repeat),
+        Keyword::Comp => Some(ItemHead::Comp),
+        _ => None,
+    }
+}
+
+pub(crate) fn relative(next: Option<Lexeme>) -> Option<Fraction>
+    ensures { result ≡ decoded spec.a_relative next }
+{
+    match next? {
+        Lexeme::Relative(factor) => Some(factor),
+        _ => None,
+    }
+}
+
+pub(crate) fn turn(next: Option<Lexeme>) -> Option<Turn>
+    ensures { result ≡ decoded spec.a_turn next }
+{
+    match next? {
+        Lexeme::Number(value) => turn_of(value),
+        _ => None,
+    }
+}
+
+fn turn_of(value: Fraction) -> Option<Turn>
+    ensures { result ≡ spec.turned_by (spec.whole_of value) }
+{
+    match whole_of(value)? {
+        0 => Some(Turn::By0),
+        90 => Some(Turn::By90),
+        180 => Some(Turn::By180),
+        270 => Some(Turn::By270),
+        _ => None,
+    }
+}
+
+/// The value, where it is whole and not below 0.
+fn whole_of(value: Fraction) -> Option<u64>
+    ensures { result ≡ spec.whole_of value }
+{
+    if value.denominator() != 1 {
+        return None;
+    }
+    u64::try_from(value.numerator()).ok()
+}
+
+pub(crate) fn ninety(next: Option<Lexeme>) -> Option<()>
+    ensures { result ≡ decoded spec.a_ninety next }
+{
+    match next? {
+        Lexeme::Number(value) => ninety_of(value),
+        _ => None,
+    }
+}
+
+fn ninety_of(value: Fraction) -> Option<()>
+    ensures { result ≡ spec.ninety_by (spec.whole_of value) }
+{
+    if whole_of(value)? == 90 {
+        Some(())
+    } else {
+        None
+    }
+}
+
+pub(crate) fn axis(next: Option<Lexeme>) -> Option<Axis>
+    ensures { result ≡ decoded spec.an_axis next }
+{
+    match next? {
+        Lexeme::Text(text) => axis_of(text),
+        _ => None,
+    }
+}
+
+fn axis_of(text: Name) -> Option<Axis>
+    ensures { result ≡ spec.axis_of text }
+{
+    let text = text.bytes();
+    if text == b"X".as_slice() {
+        Some(Axis::X)
+    } else if text == b"Y".as_slice() {
+        Some(Axis::Y)
+    } else if text == b"Z".as_slice() {
+        Some(Axis::Z)
+    } else {
+        None
+    }
+}
+
+pub(crate) fn solid(next: Option<Lexeme>) -> Option<Primitive>
+    ensures { result ≡ decoded spec.a_solid next }
+{
+    match next? {
+        Lexeme::Text(text) => solid_of(text),
+        _ => None,
+    }
+}
+
+fn solid_of(text: Name) -> Option<Primitive>
+    ensures { result ≡ spec.solid_of text }
+{
+    let text = text.bytes();
+    if text == b"cube".as_slice() {
+        Some(Primitive::Cube)
+    } else if text == b"quad".as_slice() {
+        Some(Primitive::Quad)
+    } else if text == b"shed".as_slice() {
+        Some(Primitive::Shed)
+    } else if text == b"gable".as_slice() {
+        Some(Primitive::Gable)
+    } else if text == b"hip".as_slice() {
+        Some(Primitive::Hip)
+    } else {
+        None
+    }
+}
+
+pub(crate) fn side(next: Option<Lexeme>) -> Option<Side>
+    ensures { result ≡ decoded spec.a_side next }
+{
+    match next? {
+        Lexeme::Text(text) => side_of(text),
+        _ => None,
+    }
+}
+
+fn side_of(text: Name) -> Option<Side>
+    ensures { result ≡ spec.side_of text }
+{
+    let text = text.bytes();
+    if text == b"front".as_slice() {
+        Some(Side::Front)
+    } else if text == b"right".as_slice() {
+        Some(Side::Right)
+    } else if text == b"back".as_slice() {
+        Some(Side::Back)
+    } else if text == b"left".as_slice() {
+        Some(Side::Left)
+    } else if text == b"top".as_slice() {
+        Some(Side::Top)
+    } else if text == b"bottom".as_slice() {
+        Some(Side::Bottom)
+    } else {
+        None
+    }
+}
+
+pub(crate) fn selector(next: Option<Lexeme>) -> Option<SelectorHead>
+    ensures { result ≡ decoded spec.a_selector next }
+{
+    match next? {
+        Lexeme::Text(text) => selector_of(text),
+        _ => None,
+    }
+}
+
+fn selector_of(text: Name) -> Option<SelectorHead>
+    ensures { result ≡ spec.selector_of text }
+{
+    let text = text.bytes();
+    if text == b"faces".as_slice() {
+        Some(SelectorHead::Faces)
+    } else if text == b"sidefaces".as_slice() {
+        Some(SelectorHead::Sidefaces)
+    } else if text == b"face".as_slice() {
+        Some(SelectorHead::Face)
+    } else if text == b"edges".as_slice() {
+        Some(SelectorHead::Edges)
+    } else if text == b"edge".as_slice() {
+        Some(SelectorHead::Edge)
+    } else if text == b"vertices".as_slice() {
+        Some(SelectorHead::Vertices)
+    } else {
+        None
+    }
+}
