@@ -12,4 +12,5 @@ pub mod Places
 pub mod Quotients
 pub mod Ratios
 pub mod Rounding
+pub mod Spelling
 pub mod Texts
