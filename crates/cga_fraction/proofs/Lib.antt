@@ -1,5 +1,14 @@
+pub mod Decimals
+pub mod Diffs
+pub mod Digits
 pub mod Gcds
+pub mod Laws
+pub mod Literals
 pub mod Lowest
+pub mod Naturals
 pub mod Order
+pub mod Places
 pub mod Quotients
+pub mod Ratios
+pub mod Rounding
 pub mod Texts

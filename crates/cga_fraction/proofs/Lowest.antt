@@ -1,9 +1,11 @@
 -- Numbers brought to lowest terms.
-use Rattle.std.proofs.Common.{◌≡◌, ℕ, zero, suc, ◌*◌, ◌/◌, ◌-◌, ◌+◌, ◌<◌, ◌≤◌, ◌^◌, refl, sym, subst, ap, ◌∙◌, arith, false, ℤ, pos, negsuc, Ok, Err, Result, ◌⊎◌}
+use Rattle.std.proofs.Common.{◌≡◌, ℕ, zero, suc, ◌*◌, ◌/◌, ◌-◌, ◌+◌, ◌<◌, ◌≤◌, ◌^◌, refl, sym, subst, ap, ◌∙◌, arith, false, ℤ, pos, negsuc, Ok, Err, Result, ◌⊎◌, w64, to_z}
 use Rattle.std.specs.Prelude.{unsigned_abs}
-use Rattle.std.proofs.Math.Nat.{div-mul_cancel, mul-div_cancel', mul-dvd-mul_right, one-mul, dvd_of_mul-dvd-mul_right, one-dvd}
+use Rattle.std.proofs.Math.Nat.{div-mul_cancel, mul-div_cancel', mul-dvd-mul_right, one-mul, div-le_self, dvd_of_mul-dvd-mul_right, one-dvd}
 use Rattle.std.specs.Int.{IsGcd, ◌∣◌}
 use Rattle.std.proofs.lemmas.Bool.Decides.{leb_tells}
+use Rattle.std.proofs.lemmas.Int.{to_z_pos}
+use mir.Val.{hbits}
 use Rattle.std.proofs.lemmas.Nat.Gcd.{same_from_IsGcd}
 use Rattle.cga_fraction.specs.Gcd.{gcd}
 use Rattle.cga_fraction.specs.Rat.{Rat, den, IsReduced}
@@ -95,3 +97,18 @@ whole_is_reduced n h = record {
 
 pub zero_is_reduced : IsReduced (pos 0) 1
 zero_is_reduced = whole_is_reduced (pos 0) (omega arith)
+
+-- ---- parts of 64 bits
+
+pub narrow_is : (n d g : ℕ) → g ≡ gcd n d → n ≤ 2 ^ 62 → d ≤ 2 ^ 62 → 0 < d → IsReduced (to_z w64 (n / g)) (d / g)
+narrow_is n d g e a b h =
+    let k : n / g ≤ n = div-le_self n g in
+    let j : d / g ≤ d = div-le_self d g in
+    let f : n / g < 2 ^ hbits w64 = omega arith in
+    rw (to_z_pos w64 (n / g) f) (within_is (pos n) d n n g (pos (n / g)) refl refl e refl (omega arith) (omega arith) h)
+
+pub narrow : (n d g : ℕ) → g ≡ gcd n d → n ≤ 2 ^ 62 → ◌≡◌ {A = Rat} (record { num = to_z w64 (n / g); above = d / g - 1 }) (reduced (pos n) d)
+narrow n d g e a =
+    let k : n / g ≤ n = div-le_self n g in
+    let f : n / g < 2 ^ hbits w64 = omega arith in
+    rw (to_z_pos w64 (n / g) f) (sym (reduced-parts (pos n) d g e))

@@ -49,6 +49,14 @@ lt_not_le a b h k = grind arith
 pub not_le_lt : (a b : Rat) → (IsTrue (rat_le b a) → ⊥) → IsTrue (rat_lt a b)
 not_le_lt a b h = grind arith
 
+pub lt_fact : (a b : Rat) → IsTrue (rat_lt a b) → cross a b < cross b a
+unfolding rat_le
+lt_fact a b h = grind (arith, nat_tests)
+
+pub lt_test : (a b : Rat) → cross a b < cross b a → IsTrue (rat_lt a b)
+unfolding rat_le
+lt_test a b h = grind (arith, nat_tests)
+
 pub lt_le : (a b : Rat) → IsTrue (rat_lt a b) → IsTrue (rat_le a b)
 lt_le a b h = elim (le_total a b) [ inl k ↦ k | inr k ↦ absurd (lt_not_le a b h k) ]
 
@@ -84,14 +92,16 @@ cmp_is : (x y : ℤ) (u v : ℕ) → (positive_part x + negative_part y < positi
 cmp_is x y u v f g k =
     nat_cmp_is u v (int_cmp x y) (ranked (x <ℤ y) (x ≡ y) (y <ℤ x) (u < v) (u ≡ v) (v < u) (int_cmp x y) (int_ranks x y) (λ h. f (lt_out x y h)) g (λ h. k (lt_out y x h)))
 
-neg_parts : (m : ℕ) → (positive_part (neg_ℤ (pos m)) ≡ 0) × (negative_part (neg_ℤ (pos m)) ≡ m)
-neg_parts zero = (refl, refl)
-neg_parts (suc m) = (refl, refl)
+-- the negative of a number has its parts the other way round
+pub neg_parts : (z : ℤ) → (positive_part (neg_ℤ z) ≡ negative_part z) × (negative_part (neg_ℤ z) ≡ positive_part z)
+neg_parts (pos zero) = (refl, refl)
+neg_parts (pos (suc n)) = (refl, refl)
+neg_parts (negsuc n) = (refl, refl)
 
 -- a product with a natural has the products of the parts
 pub scaled_parts : (x : ℤ) (k : ℕ) → (positive_part (x *ℤ pos k) ≡ positive_part x * k) × (negative_part (x *ℤ pos k) ≡ negative_part x * k)
 scaled_parts (pos n) k = (refl, omega arith)
-scaled_parts (negsuc n) k = let m = neg_parts (suc n * k) in (rw m.0 (omega arith), m.1)
+scaled_parts (negsuc n) k = let m = neg_parts (pos (suc n * k)) in (rw m.0 (omega arith), m.1)
 
 pub le-cross : (a b : Rat) → le_z (a.num *ℤ pos (den b)) (b.num *ℤ pos (den a)) ≡ rat_le a b
 unfolding rat_le

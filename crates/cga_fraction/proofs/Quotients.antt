@@ -15,12 +15,7 @@ use Rattle.cga_fraction.specs.declared.overflow.Overflow.{Overflow}
 use Rattle.cga_fraction.specs.declared.overflow.DivFault.{DivFault}
 use Rattle.cga_fraction.specs.declared.overflow.DivFault.TheVariants.{ZeroDivide}
 use Rattle.cga_fraction.proofs.Gcds.{gcd-IsGcd}
-use Rattle.cga_fraction.proofs.Order.{scaled_parts}
-
-neg_parts : (z : ℤ) → (positive_part (neg_ℤ z) ≡ negative_part z) × (negative_part (neg_ℤ z) ≡ positive_part z)
-neg_parts (pos zero) = (refl, refl)
-neg_parts (pos (suc n)) = (refl, refl)
-neg_parts (negsuc n) = (refl, refl)
+use Rattle.cga_fraction.proofs.Order.{neg_parts, scaled_parts}
 
 pub neg-scaled : (x : ℤ) (k : ℕ) → neg_ℤ x *ℤ pos k ≡ neg_ℤ (x *ℤ pos k)
 neg-scaled x k =

@@ -38,16 +38,3 @@ inverse a = inverse_of a.num a.above
 -- a / b, for a number b other than 0
 unfoldable pub divided : Rat → Rat → Rat
 divided a b = times a (inverse b)
-
--- n / d, rounded down
-abbrev pub floor_div : ℤ → ℕ → ℤ
-floor_div (pos n) d = pos (n / d)
-floor_div (negsuc n) d = negsuc (n / d)
-
--- the greatest whole number that is at most a
-unfoldable pub floor_of : Rat → ℤ
-floor_of a = floor_div a.num (den a)
-
--- the least whole number that is at least a
-abbrev pub ceil_of : Rat → ℤ
-ceil_of a = neg_ℤ (floor_of (negated a))

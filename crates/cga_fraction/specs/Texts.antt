@@ -1,5 +1,6 @@
 -- The texts of rational numbers.
-use Rattle.std.specs.Prelude.{ℕ, zero, suc, ◌+◌, ◌*◌, ◌/◌, ◌%◌, ◌^◌, ℤ, pos, negsuc, unsigned_abs, List, [], ◌∷◌, ◌++◌, decimal}
+use Rattle.std.specs.Prelude.{ℕ, zero, suc, ◌+◌, ◌*◌, ◌/◌, ◌%◌, ◌^◌, ℤ, pos, negsuc, unsigned_abs, List, [], ◌∷◌, ◌++◌, decimal, ◌==◌, if◌then◌else◌}
+use Rattle.std.specs.Fmt.{signed_decimal}
 use Rattle.cga_fraction.specs.Rat.{Rat, den}
 use Rattle.cga_fraction.specs.Arithmetic.{with_sign}
 
@@ -30,3 +31,20 @@ pointed places n = decimal (n / 10 ^ places) ++ after_point places n
 unfoldable pub decimal_text_of : Rat → ℕ → List ℕ
 decimal_text_of a places =
     let z = round_of a places in minus_of z ++ pointed places (unsigned_abs z)
+
+-- the numerator, and a stroke and the denominator where that isn't 1
+unfoldable pub exact_text_of : Rat → List ℕ
+exact_text_of a = signed_decimal a.num ++ (if a.above == 0 then [] else (47 ∷ decimal (den a)))
+
+-- the least number of places, from some on, of which so many tenths divide into parts of d; one past the last where there is none
+unfoldable pub places_from : ℕ → ℕ → ℕ → ℕ
+places_from zero places d = places
+places_from (suc more) places d = if 10 ^ places % d == 0 then places else places_from more (places + 1) d
+
+-- the least number of places, up to 17, with which the decimal text of a is exact
+abbrev pub least_places : Rat → ℕ
+least_places a = places_from 17 0 (den a)
+
+-- the decimal text with those places, of a number that isn't below 0
+unfoldable pub literal_text_of : Rat → List ℕ
+literal_text_of a = pointed (least_places a) (unsigned_abs a.num * 10 ^ least_places a / den a)

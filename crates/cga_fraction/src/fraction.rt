@@ -4,12 +4,14 @@ ghost use Rattle.cga_fraction.specs.Arithmetic.{reduced, with_sign};
 ghost use Rattle.cga_fraction.specs.Refusals.{checked};
 
 mod arithmetic;
+mod decimal;
 mod order;
 mod rounding;
 mod text;
 
-use crate::gcd::common_divisor;
+use crate::gcd::{common_divisor, narrow_divisor};
 use crate::overflow::Overflow;
+pub use decimal::DecimalFault;
 use std::marker::Model;
 
 /// A number in lowest terms, each of whose parts is at most 2^62. There is no `Ord`: its laws would have to
@@ -62,6 +64,20 @@ impl Fraction {
         ensures fraction { IsFraction self }
     {
         self.denominator as i64
+    }
+
+    // n over d in lowest terms, where both are small.
+    fn lowest(n: u64, d: u64) -> Fraction
+        requires above_zero { 0 < d }
+        requires small { n ≤ 2 ^ 62 }
+        requires few { d ≤ 2 ^ 62 }
+        ensures { result ≡ reduced (pos n) d }
+    {
+        let common = narrow_divisor(n, d);
+        Fraction {
+            numerator: (n / common) as i64,
+            denominator: d / common,
+        }
     }
 
     // n over d in lowest terms, where that is in range.

@@ -3,7 +3,7 @@ ghost use Rattle.std.specs.Prelude.{◌≡◌};
 ghost use Rattle.cga_fraction.specs.Gcd.{gcd};
 
 // Most parts fit in 64 bits, where a remainder is cheap.
-fn narrow_divisor(a: u64, b: u64) -> u64
+pub(crate) fn narrow_divisor(a: u64, b: u64) -> u64
     ensures { result ≡ gcd a b }
 {
     let mut x = a;

@@ -12,7 +12,7 @@ mod overflow;
 mod steps;
 
 pub use boxed::Boxed;
-pub use fraction::Fraction;
+pub use fraction::{DecimalFault, Fraction};
 pub use list::List;
 pub use memory::NoMemory;
 pub use overflow::{DivFault, Overflow};

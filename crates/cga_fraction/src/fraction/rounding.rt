@@ -1,21 +1,23 @@
 ghost use Rattle.std.specs.Prelude.{◌≡◌, ◌<◌, ◌≤◌, ◌^◌, unsigned_abs, neg_ℤ};
-ghost use Rattle.cga_fraction.specs.Arithmetic.{floor_of, floor_div, ceil_of};
+ghost use Rattle.cga_fraction.specs.Rounding.{IsCeil, IsFloor, ceil_of, floor_div, floor_of};
 
 use super::Fraction;
 
 impl Fraction {
     /// The greatest whole number that is at most this one, below 0 too.
-    #[tactic(auto, unfolding(crate::specs::Arithmetic::floor_of))]
+    #[tactic(auto, unfolding(crate::specs::Rounding::floor_of))]
     pub fn floor(self) -> i64
-        ensures { result ≡ floor_of self }
+        ensures value { result ≡ floor_of self }
+        ensures floor { IsFloor self result }
     {
         floor_quotient(self.numerator, self.denominator)
     }
 
     /// The least whole number that is at least this one.
-    #[tactic(auto, unfolding(crate::specs::Arithmetic::floor_of))]
+    #[tactic(auto, unfolding(crate::specs::Rounding::floor_of))]
     pub fn ceil(self) -> i64
-        ensures { result ≡ ceil_of self }
+        ensures value { result ≡ ceil_of self }
+        ensures ceil { IsCeil self result }
     {
         -floor_quotient(-self.numerator, self.denominator)
     }

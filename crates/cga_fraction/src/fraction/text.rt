@@ -1,6 +1,6 @@
 ghost use Rattle.std.specs.Prelude.{◌≡◌, ◌≤◌, ◌<◌, ◌^◌, ◌++◌, OnOk, IfOk, unsigned_abs};
 ghost use Rattle.cga_fraction.specs.Arithmetic.{with_sign};
-ghost use Rattle.cga_fraction.specs.Texts.{after_point, minus_of, padded, pointed};
+ghost use Rattle.cga_fraction.specs.Texts.{minus_of, padded, places_from, pointed};
 
 use super::Fraction;
 use crate::list::List;
@@ -9,7 +9,8 @@ use itoa::Buffer;
 use std::alloc::Global;
 
 impl Fraction {
-    ghost use Rattle.cga_fraction.specs.Texts.{decimal_text_of, round_of};
+    ghost use Rattle.cga_fraction.specs.Texts.{decimal_text_of, exact_text_of, literal_text_of, round_of};
+    ghost use Rattle.cga_fraction.specs.Decimals.{IsLiteral, IsShortest};
 
     /// Takes memory.
     pub fn decimal_text(self, alloc: Global, places: u8) -> Result<List<u8>, NoMemory>
@@ -17,6 +18,34 @@ impl Fraction {
         ensures { IfOk result (λ text. text ≡ decimal_text_of self places) }
     {
         self.rounded_text(alloc, places)
+    }
+
+    /// `n` where the denominator is 1, otherwise `n/d`. Takes memory.
+    #[tactic(auto, unfolding(crate::specs::Texts::exact_text_of))]
+    pub fn exact_text(self, alloc: Global) -> Result<List<u8>, NoMemory>
+        ensures { IfOk result (λ text. text ≡ exact_text_of self) }
+    {
+        let mut out = Vec::new(alloc);
+        out.extend_from_slice(Buffer::new().format(self.numerator).as_bytes())?;
+        if self.denominator != 1 {
+            out.push(b'/')?;
+            out.extend_from_slice(Buffer::new().format(self.denominator).as_bytes())?;
+        }
+        Ok(List::from_vec(out))
+    }
+
+    /// The shortest text that `of_decimal` reads as this number. Takes memory.
+    pub fn literal_text(self, alloc: Global) -> Result<List<u8>, NoMemory>
+        requires { IsLiteral self }
+        ensures value { IfOk result (λ text. text ≡ literal_text_of self) }
+        ensures shortest { IfOk result (IsShortest self) }
+    {
+        let places = least_places_of(self.denominator);
+        let numerator = self.numerator.unsigned_abs() as u128;
+        let digits = numerator * power_of_ten(places) / self.denominator as u128;
+        let mut out = Vec::new(alloc);
+        push_pointed(&mut out, digits, places)?;
+        Ok(List::from_vec(out))
     }
 
     #[tactic(auto, unfolding(crate::specs::Texts::decimal_text_of))]
@@ -54,12 +83,25 @@ fn minus(numerator: i64, magnitude: u128) -> &'static [u8]
 }
 
 #[tactic(auto, using(crate::proofs::Texts::ten_positive))]
-fn power_of_ten(exponent: u8) -> u128
+pub(super) fn power_of_ten(exponent: u8) -> u128
     requires { exponent ≤ 17 }
     ensures value { result ≡ 10 ^ exponent }
     ensures positive { 0 < result }
 {
     10u128.pow(exponent as u32)
+}
+
+// The least number of places, up to 17, in which a number over d is exact.
+fn least_places_of(d: u64) -> u8
+    requires { 0 < d }
+    ensures value { result ≡ places_from 17 0 d }
+    ensures few { result ≤ 17 }
+{
+    let mut places = 0;
+    while places < 17 && power_of_ten(places) % d as u128 != 0 {
+        places += 1;
+    }
+    places
 }
 
 fn push_pointed(out: &mut Vec<u8>, number: u128, places: u8) -> Result<(), NoMemory>
