@@ -1,0 +1,5 @@
+pub mod Covers
+pub mod Parts
+pub mod Repeats
+pub mod Subdivs
+pub mod Sums

@@ -1,0 +1,4 @@
+pub mod Chains
+pub mod Cuts
+pub mod Subdiv
+pub mod Repeat
