@@ -1,12 +1,14 @@
 -- Laws of numbers in lowest terms, and of the least and the greatest.
-use Rattle.std.proofs.Common.{◌≡◌, ℕ, zero, suc, ◌+◌, ◌*◌, ◌/◌, ◌≤◌, ◌<◌, arith, refl, ap, ◌∙◌, ℤ, pos, negsuc, true, false, Bool, Ok, inl, inr}
-use Rattle.std.specs.Prelude.{IsTrue, unsigned_abs, neg_ℤ, ◌+ℤ◌, if◌then◌else◌}
+use Rattle.std.proofs.Common.{◌≡◌, ℕ, zero, suc, ◌+◌, ◌*◌, ◌/◌, ◌≤◌, ◌<◌, arith, refl, ap, ◌∙◌, ℤ, pos, negsuc, true, false, Bool, ◌&&◌, ◌^◌, Ok, Err, inl, inr}
+use Rattle.std.specs.Prelude.{IsTrue, unsigned_abs, neg_ℤ, nat_le, ◌+ℤ◌, if◌then◌else◌}
+use Rattle.std.proofs.lemmas.Bool.Decides.{leb_tells}
 use Rattle.std.proofs.Math.Nat.{mul-pos, eq_of_mul-eq-mul_right}
 use Rattle.cga_fraction.specs.Gcd.{gcd}
 use Rattle.cga_fraction.specs.Rat.{Rat, den, zero_rat, IsFraction}
 use Rattle.cga_fraction.specs.Arithmetic.{reduced, plus, minus, times, negated}
 use Rattle.cga_fraction.specs.Order.{positive_part, negative_part, rat_le, rat_lt, rat_min, rat_max}
-use Rattle.cga_fraction.specs.Refusals.{checked}
+use Rattle.cga_fraction.specs.Refusals.{checked, in_range}
+use Rattle.cga_fraction.specs.declared.overflow.Overflow.{Overflow}
 use Rattle.cga_fraction.proofs.Gcds.{same_lowest}
 use Rattle.cga_fraction.proofs.Lowest.{abs-with_sign, den-reduced, lowest}
 use Rattle.cga_fraction.proofs.Order.{le_fact, le_refl, le_total, lt_fact, lt_test}
@@ -123,6 +125,48 @@ pub checked_is : (r a : Rat) → checked r ≡ Ok a → r ≡ a
 unfolding checked
 checked_is r a h = grind arith
 
+in_both : (x y : Bool) → (x && y) ≡ true → (x ≡ true) × (y ≡ true)
+in_both true true e = (refl, refl)
+in_both true false e = absurd (cc)
+in_both false y e = absurd (cc)
+
+checked_at : (r : Rat) (t : Bool) → in_range r ≡ t → checked r ≡ (if t then Ok r else Err (record {}))
+unfolding checked
+checked_at r t e = rw e refl
+
+in_range_at : (r a : Rat) (t : Bool) → in_range r ≡ t → checked r ≡ Ok a → in_range r ≡ true
+in_range_at r a true e h = e
+in_range_at r a false e h = absurd (let k = checked_at r false e in cc)
+
+out_of_range_at : (r : Rat) (o : Overflow) (t : Bool) → in_range r ≡ t → checked r ≡ Err o → in_range r ≡ false
+out_of_range_at r o true e h = absurd (let k = checked_at r true e in cc)
+out_of_range_at r o false e h = e
+
+pub in_range_from_ok : (r a : Rat) → checked r ≡ Ok a → in_range r ≡ true
+in_range_from_ok r a h = in_range_at r a (in_range r) refl h
+
+pub out_of_range_from_err : (r : Rat) (e : Overflow) → checked r ≡ Err e → in_range r ≡ false
+out_of_range_from_err r e h = out_of_range_at r e (in_range r) refl h
+
+pub checked_in_range : (r : Rat) → in_range r ≡ true → checked r ≡ Ok r
+checked_in_range r h = checked_at r true h
+
+-- a result in lowest terms that isn't refused is a fraction
+pub fraction_from_ok : (r a : Rat) → IsLowest r → checked r ≡ Ok a → IsFraction a
+fraction_from_ok r a l h =
+    let k = in_both (nat_le (unsigned_abs r.num) (2 ^ 62)) (nat_le (den r) (2 ^ 62)) (in_range_from_ok r a h) in
+    rw (← checked_is r a h) (record {
+      positive = omega arith;
+      lowest = l.coprime;
+      numerator = grind (arith, leb_tells (unsigned_abs r.num) (2 ^ 62));
+      denominator = grind (arith, leb_tells (den r) (2 ^ 62));
+    })
+
+pub fraction_in_range : (a : Rat) → IsFraction a → in_range a ≡ true
+fraction_in_range a h =
+    let x : nat_le (unsigned_abs a.num) (2 ^ 62) ≡ true = let k = h.numerator in grind (arith, leb_tells (unsigned_abs a.num) (2 ^ 62)) in
+    let y : nat_le (den a) (2 ^ 62) ≡ true = let k = h.denominator in grind (arith, leb_tells (den a) (2 ^ 62)) in rw (x, y) refl
+
 -- ---- the least and the greatest
 
 not_le_ge : (a b : Rat) → rat_le a b ≡ false → IsTrue (rat_le b a)
@@ -157,6 +201,14 @@ max_above a b = max_at a b (rat_le a b) refl
 pub max_least : (x a b : Rat) → IsTrue (rat_le a x) → IsTrue (rat_le b x) → IsTrue (rat_le (rat_max a b) x)
 unfolding rat_max
 max_least x a b h k = either (λ z. IsTrue (rat_le z x)) b a (rat_le a b) k h
+
+pub lt_min : (x a b : Rat) → IsTrue (rat_lt x a) → IsTrue (rat_lt x b) → IsTrue (rat_lt x (rat_min a b))
+unfolding rat_min
+lt_min x a b h k = either (λ z. IsTrue (rat_lt x z)) a b (rat_le a b) h k
+
+pub max_lt : (x a b : Rat) → IsTrue (rat_lt a x) → IsTrue (rat_lt b x) → IsTrue (rat_lt (rat_max a b) x)
+unfolding rat_max
+max_lt x a b h k = either (λ z. IsTrue (rat_lt z x)) b a (rat_le a b) k h
 
 -- ---- between two numbers there is one
 

@@ -56,7 +56,7 @@ unfolding checked
 checked-out a e = rw e refl
 
 -- both parts are within the limit
-pub within : (n : ℤ) (d u v g : ℕ) (z : ℤ) → u ≡ unsigned_abs n → v ≡ unsigned_abs n → g ≡ gcd u d → z ≡ with_sign n (v / g) → v / g ≤ 2 ^ 62 → d / g ≤ 2 ^ 62 → 0 < d
+within : (n : ℤ) (d u v g : ℕ) (z : ℤ) → u ≡ unsigned_abs n → v ≡ unsigned_abs n → g ≡ gcd u d → z ≡ with_sign n (v / g) → v / g ≤ 2 ^ 62 → d / g ≤ 2 ^ 62 → 0 < d
     → ◌≡◌ {A = Result Rat Overflow} (Ok (record { num = z; above = d / g - 1 })) (checked (reduced n d))
 within n d u v g z eu ev eg ez a b h =
     let e : g ≡ gcd (unsigned_abs n) d = eg ∙ ap (λ k. gcd k d) eu in
@@ -66,7 +66,7 @@ within n d u v g z eu ev eg ez a b h =
     let same : ◌≡◌ {A = Rat} (record { num = z; above = d / g - 1 }) (reduced n d) = rw (ez, ev) (sym (reduced-parts n d g e)) in
     rw (← same) (sym (checked-in (record { num = z; above = d / g - 1 }) m k))
 
-pub within_is : (n : ℤ) (d u v g : ℕ) (z : ℤ) → u ≡ unsigned_abs n → v ≡ unsigned_abs n → g ≡ gcd u d → z ≡ with_sign n (v / g) → v / g ≤ 2 ^ 62 → d / g ≤ 2 ^ 62 → 0 < d
+within_is : (n : ℤ) (d u v g : ℕ) (z : ℤ) → u ≡ unsigned_abs n → v ≡ unsigned_abs n → g ≡ gcd u d → z ≡ with_sign n (v / g) → v / g ≤ 2 ^ 62 → d / g ≤ 2 ^ 62 → 0 < d
     → IsReduced z (d / g)
 within_is n d u v g z eu ev eg ez a b h =
     let e : g ≡ gcd (unsigned_abs n) d = eg ∙ ap (λ k. gcd k d) eu in
@@ -78,7 +78,7 @@ within_is n d u v g z eu ev eg ez a b h =
     }
 
 -- one part is above it
-pub beyond : (n : ℤ) (d u v g : ℕ) → u ≡ unsigned_abs n → v ≡ unsigned_abs n → g ≡ gcd u d → ((2 ^ 62 < v / g) ⊎ (2 ^ 62 < d / g)) → 0 < d
+beyond : (n : ℤ) (d u v g : ℕ) → u ≡ unsigned_abs n → v ≡ unsigned_abs n → g ≡ gcd u d → ((2 ^ 62 < v / g) ⊎ (2 ^ 62 < d / g)) → 0 < d
     → ◌≡◌ {A = Result Rat Overflow} (Err (record {})) (checked (reduced n d))
 beyond n d u v g eu ev eg above h =
     let e : g ≡ gcd (unsigned_abs n) d = eg ∙ ap (λ k. gcd k d) eu in
@@ -86,6 +86,20 @@ beyond n d u v g eu ev eg above h =
     let k : d / g - 1 + 1 ≡ d / g = omega arith in
     let out : in_range (record { num = with_sign n (unsigned_abs n / g); above = d / g - 1 }) ≡ false = rw (abs-with_sign, ← ev, k) (grind (arith, leb_tells (v / g) (2 ^ 62), leb_tells (d / g) (2 ^ 62))) in
     rw (reduced-parts n d g e) (sym (checked-out _ out))
+
+-- ---- the same, by quotients that were formed
+
+pub formed : (n : ℤ) (d u v g q e : ℕ) (z : ℤ) → u ≡ unsigned_abs n → v ≡ unsigned_abs n → g ≡ gcd u d → q ≡ v / g → e ≡ d / g → z ≡ with_sign n q → q ≤ 2 ^ 62 → e ≤ 2 ^ 62 → 0 < d
+    → ◌≡◌ {A = Result Rat Overflow} (Ok (record { num = z; above = e - 1 })) (checked (reduced n d))
+formed n d u v g q e z eu ev eg eq ee ez a b h = rw ee (within n d u v g z eu ev eg (ez ∙ ap (λ (k : ℕ). with_sign n k) eq) (rw eq at a) (rw ee at b) h)
+
+pub formed_is : (n : ℤ) (d u v g q e : ℕ) (z : ℤ) → u ≡ unsigned_abs n → v ≡ unsigned_abs n → g ≡ gcd u d → q ≡ v / g → e ≡ d / g → z ≡ with_sign n q → q ≤ 2 ^ 62 → e ≤ 2 ^ 62 → 0 < d
+    → IsReduced z e
+formed_is n d u v g q e z eu ev eg eq ee ez a b h = rw ee (within_is n d u v g z eu ev eg (ez ∙ ap (λ (k : ℕ). with_sign n k) eq) (rw eq at a) (rw ee at b) h)
+
+pub formed_beyond : (n : ℤ) (d u v g q e : ℕ) → u ≡ unsigned_abs n → v ≡ unsigned_abs n → g ≡ gcd u d → q ≡ v / g → e ≡ d / g → ((2 ^ 62 < q) ⊎ (2 ^ 62 < e)) → 0 < d
+    → ◌≡◌ {A = Result Rat Overflow} (Err (record {})) (checked (reduced n d))
+formed_beyond n d u v g q e eu ev eg eq ee above h = beyond n d u v g eu ev eg (rw (eq, ee) at above) h
 
 pub whole_is_reduced : (n : ℤ) → unsigned_abs n ≤ 2 ^ 62 → IsReduced n 1
 whole_is_reduced n h = record {

@@ -1,4 +1,4 @@
-ghost use Rattle.std.specs.Prelude.{◌≡◌, ◌<◌, ◌≤◌, ◌^◌, ◌*ℤ◌, pos, unsigned_abs};
+ghost use Rattle.std.specs.Prelude.{◌≡◌, ◌<◌, ◌≤◌, ◌/◌, ◌^◌, ◌*ℤ◌, pos, unsigned_abs};
 ghost use Rattle.cga_fraction.specs.Rat.{den, zero_rat, IsFraction};
 ghost use Rattle.cga_fraction.specs.Arithmetic.{reduced, with_sign};
 ghost use Rattle.cga_fraction.specs.Refusals.{checked};
@@ -86,8 +86,8 @@ impl Fraction {
         ensures { result ≡ checked (reduced n d) }
     {
         let common = common_divisor(n.unsigned_abs(), d);
-        let magnitude = n.unsigned_abs() / common;
-        let denominator = d / common;
+        let magnitude = quotient(n.unsigned_abs(), common);
+        let denominator = quotient(d, common);
         if magnitude > LIMIT || denominator > LIMIT {
             return Err(Overflow);
         }
@@ -114,6 +114,17 @@ impl From<u32> for Fraction {
 }
 
 const LIMIT: u128 = 1 << 62;
+
+// Most numbers are in lowest terms as they come, and a wide division is dear.
+fn quotient(n: u128, d: u128) -> u128
+    requires { 0 < d }
+    ensures { result ≡ n / d }
+{
+    if d == 1 {
+        return n;
+    }
+    n / d
+}
 
 fn signed_like(n: i128, magnitude: u128) -> i64
     requires { magnitude ≤ 2 ^ 62 }

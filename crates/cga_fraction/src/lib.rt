@@ -10,6 +10,8 @@ mod list;
 mod memory;
 mod overflow;
 mod steps;
+#[cfg(test)]
+mod tests;
 
 pub use boxed::Boxed;
 pub use fraction::{DecimalFault, Fraction};

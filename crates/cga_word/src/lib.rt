@@ -1,7 +1,7 @@
-//! Names and the small enumerations that rules, shapes and the engine share. This crate stands on
-//! no other of the repository and knows nothing of grammars: a word that the rule language
-//! reserves, as `T`, is a name like any other here, and refusing it is the parser's matter.
-//! Nothing takes memory.
+//! Names, the small enumerations that rules, shapes and the engine share, and the random words of
+//! shapes. This crate stands on no other of the repository and knows nothing of grammars: a word
+//! that the rule language reserves, as `T`, is a name like any other here, and refusing it is the
+//! parser's matter. Nothing takes memory.
 #![tactic(auto)]
 
 mod answer;
@@ -10,6 +10,7 @@ mod axis;
 mod mode;
 mod name;
 mod primitive;
+mod seed;
 mod selector;
 mod side;
 mod target;
@@ -21,6 +22,7 @@ pub use axis::Axis;
 pub use mode::Mode;
 pub use name::Name;
 pub use primitive::Primitive;
+pub use seed::{child_seed, word};
 pub use selector::Selector;
 pub use side::Side;
 pub use target::Target;

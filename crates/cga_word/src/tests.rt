@@ -1,4 +1,4 @@
-use crate::Name;
+use crate::{Name, child_seed, word};
 use std::collections::HashMap;
 use std::process::Abort;
 use std::test::Fail;
@@ -33,4 +33,11 @@ fn names_are_keys(mut rt: HostRuntime) -> Result<(), Fail> {
     assert_eq!(rt; heights.get(&name(&rt, "wall2")).copied(), None);
     assert!(rt; name(&rt, "wall") < name(&rt, "wall2"));
     Ok(())
+}
+
+// The first words of the reference generator of PCG's C code, and one of stream 0 by its formulas.
+#[test]
+fn seeds_and_words(rt: HostRuntime) {
+    assert_eq!(rt; child_seed(42, 53), 0x7b47_f409_a15c_02b7);
+    assert_eq!(rt; word(42, 2), 0x9548_a9bd);
 }

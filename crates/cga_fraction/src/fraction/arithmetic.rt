@@ -51,10 +51,9 @@ impl Fraction {
         ensures left { IsFraction self }
         ensures right { IsFraction other }
     {
-        Fraction::in_lowest_terms(
-            self.numerator as i128 * other.numerator as i128,
-            self.denominator as u128 * other.denominator as u128,
-        )
+        let numerator = self.numerator as i128 * other.numerator as i128;
+        let denominator = self.denominator as u128 * other.denominator as u128;
+        Fraction::in_lowest_terms(numerator, denominator)
     }
 
     /// This number divided by the other.

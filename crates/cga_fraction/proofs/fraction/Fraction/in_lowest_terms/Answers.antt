@@ -1,21 +1,22 @@
-use Rattle.std.proofs.Common.{arith, rules, inl, inr, ◌∙◌, ap, w64, unsigned_abs, ℤ, ◌/◌}
+use Rattle.std.proofs.Common.{arith, rules, inl, inr, ◌∙◌, ap, w64, unsigned_abs, ℤ}
 use mir.Syntax.{w128}
 use Rattle.std.proofs.lemmas.Int.{to_z-of_z}
 use Rattle.std.specs.Int.RustNames.{FitsSigned}
 use Rattle.cga_fraction.specs.Arithmetic.{with_sign}
 use Rattle.cga_fraction.proofs.Gcds.{gcd_positive}
-use Rattle.cga_fraction.proofs.Lowest.{beyond, within, within_is}
+use Rattle.cga_fraction.proofs.Lowest.{formed, formed_beyond, formed_is}
 use Rattle.cga_fraction.proofs.fraction.Fraction.in_lowest_terms.Goals as goal
 use Rattle.cga_fraction.proofs.fraction.Fraction.in_lowest_terms.Goals.{then-magnitude-gt-LIMIT-via-then-magnitude-gt-LIMIT, then-magnitude-gt-LIMIT-via-else-magnitude-gt-LIMIT+then-denominator-gt-LIMIT}
 
-pub nonzero_div-magnitude : goal.nonzero_div-magnitude
-nonzero_div-magnitude c = rw c.common_divisor-common.ensures (gcd_positive _ _ c.requires)
+pub quotient-magnitude-requires : goal.quotient-magnitude-requires
+quotient-magnitude-requires c = rw c.common_divisor-common.ensures (gcd_positive _ _ c.requires)
 
-pub nonzero_div-denominator : goal.nonzero_div-denominator
-nonzero_div-denominator c = rw c.common_divisor-common.ensures (gcd_positive _ _ c.requires)
+pub quotient-denominator-requires : goal.quotient-denominator-requires
+quotient-denominator-requires c = rw c.common_divisor-common.ensures (gcd_positive _ _ c.requires)
 
 pub returns-then-magnitude-gt-LIMIT : goal.returns-then-magnitude-gt-LIMIT
-returns-then-magnitude-gt-LIMIT c = beyond c.args.n c.args.d _ _ _ (c.unsigned_abs.ensures.value ∙ ap unsigned_abs (to_z-of_z w128 _ c.ranges.n)) (c.unsigned_abs-2.ensures.value ∙ ap unsigned_abs (to_z-of_z w128 _ c.ranges.n)) c.common_divisor-common.ensures
+returns-then-magnitude-gt-LIMIT c =
+    formed_beyond c.args.n c.args.d _ _ _ _ _ (c.unsigned_abs.ensures.value ∙ ap unsigned_abs (to_z-of_z w128 _ c.ranges.n)) (c.unsigned_abs-2.ensures.value ∙ ap unsigned_abs (to_z-of_z w128 _ c.ranges.n)) c.common_divisor-common.ensures c.quotient-magnitude.ensures c.quotient-denominator.ensures
     (elim c.then-magnitude-gt-LIMIT.branch [
       | then-magnitude-gt-LIMIT-via-then-magnitude-gt-LIMIT w ↦ inl (omega arith)
       | then-magnitude-gt-LIMIT-via-else-magnitude-gt-LIMIT+then-denominator-gt-LIMIT w ↦ inr (omega arith)
@@ -25,9 +26,11 @@ returns-then-magnitude-gt-LIMIT c = beyond c.args.n c.args.d _ _ _ (c.unsigned_a
 pub invariant_of-result : goal.invariant_of-result
 invariant_of-result c =
     let f : FitsSigned w64 c.signed_like.result = search rules in
-    within_is c.args.n c.args.d _ _ _ _ (c.unsigned_abs.ensures.value ∙ ap unsigned_abs (to_z-of_z w128 _ c.ranges.n)) (c.unsigned_abs-2.ensures.value ∙ ap unsigned_abs (to_z-of_z w128 _ c.ranges.n)) c.common_divisor-common.ensures (to_z-of_z w64 _ f ∙ c.signed_like.ensures ∙ ap (λ (k : ℤ). with_sign k (c.unsigned_abs-2.result / c.common_divisor-common.result)) (to_z-of_z w128 _ c.ranges.n)) (omega arith) (omega arith) c.requires
+    let z = to_z-of_z w64 _ f ∙ c.signed_like.ensures ∙ ap (λ (k : ℤ). with_sign k c.quotient-magnitude.result) (to_z-of_z w128 _ c.ranges.n) in
+    formed_is c.args.n c.args.d _ _ _ _ _ _ (c.unsigned_abs.ensures.value ∙ ap unsigned_abs (to_z-of_z w128 _ c.ranges.n)) (c.unsigned_abs-2.ensures.value ∙ ap unsigned_abs (to_z-of_z w128 _ c.ranges.n)) c.common_divisor-common.ensures c.quotient-magnitude.ensures c.quotient-denominator.ensures z (omega arith) (omega arith) c.requires
 
 pub returns : goal.returns
 returns c =
     let f : FitsSigned w64 c.signed_like.result = search rules in
-    within c.args.n c.args.d _ _ _ _ (c.unsigned_abs.ensures.value ∙ ap unsigned_abs (to_z-of_z w128 _ c.ranges.n)) (c.unsigned_abs-2.ensures.value ∙ ap unsigned_abs (to_z-of_z w128 _ c.ranges.n)) c.common_divisor-common.ensures (to_z-of_z w64 _ f ∙ c.signed_like.ensures ∙ ap (λ (k : ℤ). with_sign k (c.unsigned_abs-2.result / c.common_divisor-common.result)) (to_z-of_z w128 _ c.ranges.n)) (omega arith) (omega arith) c.requires
+    let z = to_z-of_z w64 _ f ∙ c.signed_like.ensures ∙ ap (λ (k : ℤ). with_sign k c.quotient-magnitude.result) (to_z-of_z w128 _ c.ranges.n) in
+    formed c.args.n c.args.d _ _ _ _ _ _ (c.unsigned_abs.ensures.value ∙ ap unsigned_abs (to_z-of_z w128 _ c.ranges.n)) (c.unsigned_abs-2.ensures.value ∙ ap unsigned_abs (to_z-of_z w128 _ c.ranges.n)) c.common_divisor-common.ensures c.quotient-magnitude.ensures c.quotient-denominator.ensures z (omega arith) (omega arith) c.requires

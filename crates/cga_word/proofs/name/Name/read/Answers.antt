@@ -1,5 +1,4 @@
-use Rattle.std.proofs.Common.{◌≡◌, ap, sym, ◌∙◌}
-use Rattle.cga_word.specs.Name.{is_name}
+use Rattle.std.proofs.Common.{sym, ◌∙◌}
 use Rattle.cga_word.proofs.Padding.{IsPadded-over_zeros}
 use Rattle.cga_word.proofs.name.Name.read.Goals as goal
 

@@ -1,0 +1,146 @@
+-- Members of lists, and what a step makes of them.
+use Rattle.std.proofs.Common.{◌≡◌, ℕ, suc, List, [], ◌∷◌, ◌++◌, map, Bool, true, false, cond, refl, sym, ap, ◌∙◌, subst, ◌⊎◌, inl, inr, ◌&&◌, Some}
+use Rattle.std.specs.Prelude.{slice_get, nat_eq}
+use lib.Pointwise.{pointwise, bytes_decides}
+use Rattle.cga_order.specs.Chain.{Chain}
+use Rattle.cga_order.specs.World.{World, Placed, Kind, Waiting, Done, Faulted, Instance, Has, Among, shapes_where, is_waiting, place_of}
+use Rattle.cga_order.specs.Run.{same_place, become}
+use Rattle.cga_order.proofs.Chains.{place}
+
+pub either : (b : Bool) → (b ≡ true) ⊎ (b ≡ false)
+either true = inl refl
+either false = inr refl
+
+both_true : (a b : Bool) → (a && b) ≡ true → (a ≡ true) × (b ≡ true)
+both_true true b e = (refl, e)
+both_true false b e = let x : false ≡ true = e in cc
+
+same_place-is : (a b : Chain) → same_place a b ≡ true → place a ≡ place b
+same_place-is a b e =
+    let parts = both_true _ _ e in
+    λ i. ((bytes_decides a.lot b.lot).0 parts.0 i, (bytes_decides a.path b.path).0 parts.1 i)
+
+same_place-not : (a b : Chain) → same_place a b ≡ false → place a ≡ place b → ⊥
+same_place-not a b e same =
+    let lots : pointwise nat_eq a.lot b.lot ≡ true = (bytes_decides a.lot b.lot).1 (ap (λ p. p.0) same) in
+    let paths : pointwise nat_eq a.path b.path ≡ true = (bytes_decides a.path b.path).1 (ap (λ p. p.1) same) in
+    let both : same_place a b ≡ true = ap (λ x. x && pointwise nat_eq a.path b.path) lots ∙ paths in
+    let x : false ≡ true = sym e ∙ both in cc
+
+module _ {N F P : Type 0} where
+  pub Has-left : (xs ys : List (Placed N F P)) (n : N) (k : Kind F P) → Has xs n k → Has (xs ++ ys) n k
+  Has-left [] ys n k h = absurd h
+  Has-left (x ∷ xs) ys n k h = elim h [ inl e ↦ inl e | inr r ↦ inr (Has-left xs ys n k r) ]
+
+  pub Has-right : (xs ys : List (Placed N F P)) (n : N) (k : Kind F P) → Has ys n k → Has (xs ++ ys) n k
+  Has-right [] ys n k h = h
+  Has-right (x ∷ xs) ys n k h = inr (Has-right xs ys n k h)
+
+  pub Has-append : (xs ys : List (Placed N F P)) (n : N) (k : Kind F P) → Has (xs ++ ys) n k → Has xs n k ⊎ Has ys n k
+  Has-append [] ys n k h = inr h
+  Has-append (x ∷ xs) ys n k h = elim h [
+    | inl e ↦ inl (inl e)
+    | inr r ↦ elim (Has-append xs ys n k r) [ inl a ↦ inl (inr a) | inr b ↦ inr b ]
+  ]
+
+  -- a member has a place in the list
+  pub Has-index : (xs : List (Placed N F P)) (n : N) (k : Kind F P) → Has xs n k → (i : ℕ) × (m : Placed N F P) × (slice_get xs i ≡ Some m) × (m.shape ≡ n) × (m.kind ≡ k)
+  Has-index [] n k h = absurd h
+  Has-index (x ∷ xs) n k h = elim h [
+    | inl e ↦ (0, x, refl, e.0, e.1)
+    | inr r ↦ let w = Has-index xs n k r in (suc w.0, w.1, w.2, w.3, w.4)
+  ]
+
+  pub waits : (xs : List (Placed N F P)) (n : N) (k : Kind F P) → Has xs n k → is_waiting k ≡ true → Has xs n Waiting
+  waits xs n k h e = elim k as (λ v. Has xs n v → is_waiting v ≡ true → Has xs n Waiting) [
+    | Waiting ↦ λ g f. g
+    | Done ↦ λ g f. let x : false ≡ true = f in cc
+    | Faulted y ↦ λ g f. let x : false ≡ true = f in cc
+    | Instance y ↦ λ g f. let x : false ≡ true = f in cc
+  ] h e
+
+  pub Among-shapes_where : (test : N → Kind F P → Bool) (ms : List (Placed N F P)) (n : N) (k : Kind F P) → Has ms n k → test n k ≡ true → Among n (shapes_where test ms)
+  Among-shapes_where test [] n k h e = absurd h
+  Among-shapes_where test (m ∷ ms) n k h e = elim h [
+    | inl w ↦
+        let t : test m.shape m.kind ≡ true = ap (λ x. test x m.kind) w.0 ∙ (ap (λ x. test n x) w.1 ∙ e) in
+        subst (Among n) (sym (ap (λ b. cond b (m.shape ∷ shapes_where test ms) (shapes_where test ms)) t)) (inl w.0)
+    | inr r ↦ elim (test m.shape m.kind) as (λ b. Among n (cond b (m.shape ∷ shapes_where test ms) (shapes_where test ms))) [
+      | true ↦ inr (Among-shapes_where test ms n k r e)
+      | false ↦ Among-shapes_where test ms n k r e
+    ]
+  ]
+
+  pub Has-from_shapes_where : (test : N → Kind F P → Bool) (ms : List (Placed N F P)) (n : N) → Among n (shapes_where test ms) → (k : Kind F P) × Has ms n k × (test n k ≡ true)
+  Has-from_shapes_where test [] n h = absurd h
+  Has-from_shapes_where test (m ∷ ms) n h = elim (either (test m.shape m.kind)) [
+    | inl t ↦ elim (subst (Among n) (ap (λ b. cond b (m.shape ∷ shapes_where test ms) (shapes_where test ms)) t) h) [
+      | inl e ↦ (m.kind, inl (e, refl), ap (λ x. test x m.kind) (sym e) ∙ t)
+      | inr r ↦ let w = Has-from_shapes_where test ms n r in (w.0, inr w.1, w.2)
+    ]
+    | inr f ↦ let w = Has-from_shapes_where test ms n (subst (Among n) (ap (λ b. cond b (m.shape ∷ shapes_where test ms) (shapes_where test ms)) f) h) in (w.0, inr w.1, w.2)
+  ]
+
+module _ {N A F P : Type 0} (world : World N A F P) where
+  pub place_dec : (n m : N) → (place_of world n ≡ place_of world m) ⊎ (place_of world n ≡ place_of world m → ⊥)
+  place_dec n m = elim (either (same_place (world.chain n) (world.chain m))) [
+    | inl e ↦ inl (same_place-is (world.chain n) (world.chain m) e)
+    | inr e ↦ inr (same_place-not (world.chain n) (world.chain m) e)
+  ]
+
+  pub Has-start : (xs : List N) (n : N) (k : Kind F P) → Has (map (λ r. record { shape = r; kind = Waiting }) xs) n k → Among n xs × (k ≡ Waiting)
+  Has-start [] n k h = absurd h
+  Has-start (x ∷ xs) n k h = elim h [
+    | inl e ↦ (inl e.0, sym e.1)
+    | inr r ↦ let w = Has-start xs n k r in (inr w.0, w.1)
+  ]
+
+  pub start-Has : (xs : List N) (n : N) → Among n xs → Has {N = N} {F = F} {P = P} (map (λ r. record { shape = r; kind = Waiting }) xs) n Waiting
+  start-Has [] n h = absurd h
+  start-Has (x ∷ xs) n h = elim h [ inl e ↦ inl (e, refl) | inr r ↦ inr (start-Has xs n r) ]
+
+  become-there : (s : N) (k : Kind F P) (m : Placed N F P) → same_place (world.chain m.shape) (world.chain s) ≡ true → become world s k m ≡ record { shape = m.shape; kind = k }
+  become-there s k m e = ap (λ b. cond b (record { shape = m.shape; kind = k }) m) e
+
+  become-elsewhere : (s : N) (k : Kind F P) (m : Placed N F P) → same_place (world.chain m.shape) (world.chain s) ≡ false → become world s k m ≡ m
+  become-elsewhere s k m e = ap (λ b. cond b (record { shape = m.shape; kind = k }) m) e
+
+  -- a member after the change of one place is there, with the new kind, or elsewhere, as before
+  pub Has-become : (s : N) (kind : Kind F P) (xs : List (Placed N F P)) (n : N) (k : Kind F P) → Has (map (become world s kind) xs) n k → ((place_of world n ≡ place_of world s → ⊥) × Has xs n k) ⊎ ((place_of world n ≡ place_of world s) × (k ≡ kind) × ((j : Kind F P) × Has xs n j))
+  Has-become s kind [] n k h = absurd h
+  Has-become s kind (m ∷ xs) n k h = elim h [
+    | inl e ↦ elim (either (same_place (world.chain m.shape) (world.chain s))) [
+      | inl t ↦
+          let is = become-there s kind m t in
+          let shape : m.shape ≡ n = sym (ap (λ x. x.shape) is) ∙ e.0 in
+          inr (sym (ap (λ x. place_of world x) shape) ∙ same_place-is (world.chain m.shape) (world.chain s) t, sym e.1 ∙ ap (λ x. x.kind) is, (m.kind, inl (shape, refl)))
+      | inr f ↦
+          let is = become-elsewhere s kind m f in
+          let shape : m.shape ≡ n = sym (ap (λ x. x.shape) is) ∙ e.0 in
+          inl ((λ same. same_place-not (world.chain m.shape) (world.chain s) f (ap (λ x. place_of world x) shape ∙ same)), inl (shape, sym (ap (λ x. x.kind) is) ∙ e.1))
+    ]
+    | inr r ↦ elim (Has-become s kind xs n k r) [
+      | inl a ↦ inl (a.0, inr a.1)
+      | inr b ↦ inr (b.0, b.1, (b.2.0, inr b.2.1))
+    ]
+  ]
+
+  pub become-Has_elsewhere : (s : N) (kind : Kind F P) (xs : List (Placed N F P)) (n : N) (k : Kind F P) → (place_of world n ≡ place_of world s → ⊥) → Has xs n k → Has (map (become world s kind) xs) n k
+  become-Has_elsewhere s kind [] n k d h = absurd h
+  become-Has_elsewhere s kind (m ∷ xs) n k d h = elim h [
+    | inl e ↦ elim (either (same_place (world.chain m.shape) (world.chain s))) [
+      | inl t ↦ absurd (d (sym (ap (λ x. place_of world x) e.0) ∙ same_place-is (world.chain m.shape) (world.chain s) t))
+      | inr f ↦ let is = become-elsewhere s kind m f in inl (ap (λ x. x.shape) is ∙ e.0, ap (λ x. x.kind) is ∙ e.1)
+    ]
+    | inr r ↦ inr (become-Has_elsewhere s kind xs n k d r)
+  ]
+
+  pub become-Has_there : (s : N) (kind : Kind F P) (xs : List (Placed N F P)) (k : Kind F P) → Has xs s k → Has (map (become world s kind) xs) s kind
+  become-Has_there s kind [] k h = absurd h
+  become-Has_there s kind (m ∷ xs) k h = elim h [
+    | inl e ↦ elim (either (same_place (world.chain m.shape) (world.chain s))) [
+      | inl t ↦ let is = become-there s kind m t in inl (ap (λ x. x.shape) is ∙ e.0, ap (λ x. x.kind) is)
+      | inr f ↦ absurd (same_place-not (world.chain m.shape) (world.chain s) f (ap (λ x. place_of world x) e.0))
+    ]
+    | inr r ↦ inr (become-Has_there s kind xs k r)
+  ]

@@ -1,0 +1,195 @@
+-- A turn of an agenda keeps what is off it right, and a list that is right is consistent.
+use Rattle.std.proofs.Common.{◌≡◌, ℕ, List, [], ◌∷◌, Bool, true, false, refl, sym, ap, ◌∙◌, subst, ◌⊎◌, inl, inr, Result, Ok, Err, Option}
+use Rattle.std.specs.Cmp.{IsTotalOrder}
+use Rattle.cga_order.specs.Rank.{Rank}
+use Rattle.cga_order.specs.Chain.{IsChild}
+use Rattle.cga_order.specs.Stamp.{stamps_cmp}
+use Rattle.cga_order.specs.World.{World, IsWorld, Placed, Kind, Done, Has, Among, shapes_where, is_instance, place_of, stamp_of, birth_of, IsEarlier}
+use Rattle.cga_order.specs.Consistent.{exists_at, waits_at, outcome_at, Stands, IsBefore, HasOutcome, IsMade, IsConsistent}
+use Rattle.cga_order.specs.Agenda.{Node, members_of, Keeps, asked, HasChildren, IsSettled, IsRight, AllRight, Came, Remains, IsTurn, IsTree}
+use Rattle.cga_order.proofs.Order.{stamps_total}
+use Rattle.cga_order.proofs.Chains.{birth-child, snoc-same}
+use Rattle.cga_order.proofs.Members.{either, place_dec, Among-shapes_where, Has-from_shapes_where}
+use Rattle.cga_order.proofs.Steps as steps
+use Rattle.cga_order.proofs.Derived as derived
+use Rattle.cga_order.proofs.Maxima as stamps
+
+module _ {N A F P : Type 0} where
+  pub Has-Keeps : (nodes : List (Node N A F P)) (n : N) (k : Kind F P) (a : A) → Keeps nodes n k a → Has (members_of nodes) n k
+  Has-Keeps [] n k a h = absurd h
+  Has-Keeps (m ∷ ms) n k a h = elim h [ inl e ↦ inl (e.0, e.1) | inr r ↦ inr (Has-Keeps ms n k a r) ]
+
+  pub Keeps-Has : (nodes : List (Node N A F P)) (n : N) (k : Kind F P) → Has (members_of nodes) n k → (a : A) × Keeps nodes n k a
+  Keeps-Has [] n k h = absurd h
+  Keeps-Has (m ∷ ms) n k h = elim h [ inl e ↦ (m.answers, inl (e.0, e.1, refl)) | inr r ↦ let w = Keeps-Has ms n k r in (w.0, inr w.1) ]
+
+module _ {N A F P : Type 0} (world : World N A F P) (laws : IsWorld world) where
+  abbrev Nodes : Type 0
+  Nodes = List (Node N A F P)
+
+  order : IsTotalOrder (stamps_cmp world.mode)
+  order = stamps_total world.mode
+
+  -- what n sees and exists at its stamp in the one list is in the other, an instance in both or in neither
+  abbrev SameAt : N → Nodes → Nodes → Type 0
+  SameAt n xs ys = (m : N) (k : Kind F P) (a : A) → world.sees n m ≡ true → IsEarlier world (birth_of world m) (stamp_of world n) → Keeps xs m k a → (j : Kind F P) × (b : A) × Keeps ys m j b × (is_instance j ≡ is_instance k)
+
+  existing-on : (n : N) (xs ys : Nodes) → SameAt n xs ys → (m : N) → world.sees n m ≡ true → Among m (shapes_where (exists_at world n) (members_of xs)) → Among m (shapes_where (exists_at world n) (members_of ys))
+  existing-on n xs ys same m v h =
+      let w = Has-from_shapes_where (exists_at world n) (members_of xs) m h in
+      let g = Keeps-Has xs m w.0 w.1 in
+      let u = same m w.0 g.0 v (stamps.less_is (stamps_cmp world.mode) order _ w.2) g.1 in
+      Among-shapes_where (exists_at world n) (members_of ys) m u.0 (Has-Keeps ys m u.0 u.1 u.2) w.2
+
+  waiting-on : (n : N) (xs ys : Nodes) → SameAt n xs ys → (m : N) → world.sees n m ≡ true → Among m (shapes_where (waits_at world n) (members_of xs)) → Among m (shapes_where (waits_at world n) (members_of ys))
+  waiting-on n xs ys same m v h =
+      let w = Has-from_shapes_where (waits_at world n) (members_of xs) m h in
+      let g = Keeps-Has xs m w.0 w.1 in
+      let p = derived.waits_at-parts world laws n m w.0 w.2 in
+      let u = same m w.0 g.0 v p.0 g.1 in
+      Among-shapes_where (waits_at world n) (members_of ys) m u.0 (Has-Keeps ys m u.0 u.1 u.2) (derived.waits_at-true world laws n m u.0 p.0 (u.3 ∙ p.1) p.2)
+
+  -- what n asks is the same where what it sees is
+  asks_same : (n : N) (xs ys : Nodes) → SameAt n xs ys → SameAt n ys xs → asked world xs n ≡ asked world ys n
+  asks_same n xs ys to from =
+      laws.local n _ _ _ _
+      (λ m v. (existing-on n xs ys to m v, existing-on n ys xs from m v))
+      (λ m v. (waiting-on n xs ys to m v, waiting-on n ys xs from m v))
+
+  module _ (before after : Nodes) (s : N) (queued requeued : N → Bool) (turn : IsTurn world before after s queued requeued) where
+    -- between what was made at the stamp of s or later and n lies s
+    across : (m n : N) → (IsEarlier world (birth_of world m) (stamp_of world s) → ⊥) → IsEarlier world (birth_of world m) (stamp_of world n) → IsEarlier world (stamp_of world s) (stamp_of world n)
+    across m n late e = stamps.past_left (stamps_cmp world.mode) order (stamp_of world s) (birth_of world m) (stamp_of world n) late e
+
+    came_late : (m : N) (k : Kind F P) → Came world s m k requeued → IsEarlier world (birth_of world m) (stamp_of world s) → ⊥
+    came_late m k came e =
+        let birth = birth-child world.mode (world.chain s) came.0.0 (world.chain m) (laws.whole s) came.0.1 in
+        stamps.not_self (stamps_cmp world.mode) order (stamp_of world s) (subst (λ x. IsEarlier world x (stamp_of world s)) birth e)
+
+    -- a node of the new list is s, or stayed, or came
+    where_from : (m : N) (k : Kind F P) (a : A) → Keeps after m k a → (m ≡ s) ⊎ ((place_of world m ≡ place_of world s → ⊥) × (Keeps before m k a ⊎ Came world s m k requeued))
+    where_from m k a h = elim (place_dec world m s) [
+      | inl same ↦ inl (turn.alone m k a h same)
+      | inr apart ↦ inr (apart, turn.from m k a h (λ e. apart (ap (place_of world) e)))
+    ]
+
+    self_before : (m : N) (k : Kind F P) (a : A) → m ≡ s → Keeps after m k a → (j : Kind F P) × (b : A) × Keeps before m j b × (is_instance j ≡ is_instance k)
+    self_before m k a e h =
+        let w = turn.was in
+        (w.0, w.1, subst (λ x. Keeps before x w.0 w.1) (sym e) w.2, w.3 ∙ sym (turn.now k a (subst (λ x. Keeps after x k a) e h)).0)
+
+    remains : (m : N) (k : Kind F P) → Remains world after m k → (j : Kind F P) × (b : A) × Keeps after m j b × (is_instance j ≡ is_instance k)
+    remains m k (now, b, has, alike, same) = (now, b, has, alike)
+
+    -- a node that isn't on the agenda sees the same before and after
+    same_to : (n : N) → requeued n ≡ false → SameAt n before after
+    same_to n off m k a v e h = elim (turn.to m k a h) [
+      | inl r ↦ remains m k r
+      | inr went ↦ let x : true ≡ false = sym (went.seen n (across m n went.late e) v) ∙ off in cc
+    ]
+
+    same_from : (n : N) → requeued n ≡ false → SameAt n after before
+    same_from n off m k a v e h = elim (where_from m k a h) [
+      | inl q ↦ self_before m k a q h
+      | inr w ↦ elim w.1 [
+        | inl g ↦ (k, a, g, refl)
+        | inr came ↦ let x : true ≡ false = sym (came.2 n (across m n (came_late m k came) e) v) ∙ off in cc
+      ]
+    ]
+
+    -- s itself sees the same, since nothing that went or came exists at its stamp
+    self_to : SameAt s before after
+    self_to m k a v e h = elim (turn.to m k a h) [ inl r ↦ remains m k r | inr went ↦ absurd (went.late e) ]
+
+    self_from : SameAt s after before
+    self_from m k a v e h = elim (where_from m k a h) [
+      | inl q ↦ self_before m k a q h
+      | inr w ↦ elim w.1 [ inl g ↦ (k, a, g, refl) | inr came ↦ absurd (came_late m k came e) ]
+    ]
+
+    -- the children of a node other than s stay
+    children_stay : (m : N) (k : Kind F P) (a : A) (children : List (Placed N F P)) → Keeps after m k a → (place_of world m ≡ place_of world s → ⊥) → ((c : N) (j : Kind F P) → Has children c j → (i : ℕ) × IsChild (world.chain m) i (world.chain c)) → HasChildren world before m children → HasChildren world after m children
+    children_stay m k a children has apart below h = record {
+      all = λ c j g. stand c j g (h.all c j g);
+      only = λ c j b g i child. elim (where_from c j b g) [
+        | inl q ↦ let w = self_before c j b q g in h.only c w.0 w.1 w.2 i child
+        | inr w ↦ elim w.1 [
+          | inl old ↦ h.only c j b old i child
+          | inr came ↦ absurd (apart (one_parent c i came.0.0 child came.0.1))
+        ]
+      ];
+    }
+      where
+        one_parent : (c : N) (i j : ℕ) → IsChild (world.chain m) i (world.chain c) → IsChild (world.chain s) j (world.chain c) → place_of world m ≡ place_of world s
+        one_parent c i j u v =
+            let path = (snoc-same (world.chain m).path (world.chain s).path i j (sym u.path ∙ v.path)).0 in
+            let lot : (world.chain m).lot ≡ (world.chain s).lot = sym u.lot ∙ v.lot in
+            λ x. (lot x, path x)
+
+        stand : (c : N) (j : Kind F P) → Has children c j → Stands world (members_of before) c j → Stands world (members_of after) c j
+        stand c j g (old, there, alike, same) =
+            let w = Keeps-Has before c old there in
+            elim (turn.to c old w.0 w.1) [
+              | inl r ↦ (r.0, Has-Keeps after c r.0 r.1 r.2, r.3 ∙ alike, λ i. r.4 (alike ∙ i) ∙ same i)
+              | inr went ↦
+                  let b = below c j g in
+                  elim (went.below m b.0 b.1) [ inl e ↦ absurd (apart e) | inr gone ↦ absurd (gone k a has) ]
+            ]
+
+    settled_stays : (m : N) (k : Kind F P) (a : A) → Keeps after m k a → (place_of world m ≡ place_of world s → ⊥) → (r : Result (List (Placed N F P)) F) → world.expand m a ≡ r → IsSettled world before m k r → IsSettled world after m k r
+    settled_stays m k a has apart (Ok children) e h =
+        (h.0, children_stay m k a children has apart (λ c j g. let u = steps.child_of world laws m a children e c j g in (u.0, u.5)) h.1)
+    settled_stays m k a has apart (Err fault) e h = (h.0, children_stay m k a [] has apart (λ c j g. absurd g) h.1)
+
+    pub still_right : AllRight world before queued → AllRight world after requeued
+    still_right all n k a h y = elim (where_from n k a h) [
+      | inl q ↦
+          let now = turn.now k a (subst (λ x. Keeps after x k a) q h) in
+          inr (subst (λ x. IsRight world after x k a) (sym q) (now.1 ∙ asks_same s before after self_to self_from, now.2))
+      | inr w ↦ elim w.1 [
+        | inl old ↦ elim (all n k a old y) [
+          | inl z ↦ inl (turn.queued_still n k a h (λ e. w.0 (ap (place_of world) e)) z)
+          | inr z ↦ elim (either (requeued n)) [
+            | inl t ↦ inl t
+            | inr f ↦ inr (z.0 ∙ asks_same n before after (same_to n f) (same_from n f), settled_stays n k a h w.0 (world.expand n a) refl z.1)
+          ]
+        ]
+        | inr came ↦ inl (came.1 y)
+      ]
+    ]
+
+  -- a list that is right as far as a limit is consistent that far
+  module _ (nodes : Nodes) (queued : N → Bool) (limit : Option (List Rank)) (tree : IsTree world nodes) (right : AllRight world nodes queued) (late : (n : N) → queued n ≡ true → IsBefore world limit (stamp_of world n) → ⊥) where
+    settled : (n : N) (k : Kind F P) (a : A) → Keeps nodes n k a → is_instance k ≡ false → IsBefore world limit (stamp_of world n) → IsRight world nodes n k a
+    settled n k a h i before = elim (right n k a h i) [ inl q ↦ absurd (late n q before) | inr r ↦ r ]
+
+    outcome_is : (k : Kind F P) (n : N) (r : Result (List (Placed N F P)) F) → IsSettled world nodes n k r → HasOutcome world (members_of nodes) k r
+    outcome_is k n (Ok children) h = (h.0, h.1.all)
+    outcome_is k n (Err fault) h = h.0
+
+    made_of : (s n : N) (j k : Kind F P) (b a : A) (i : ℕ) → Keeps nodes s j b → Keeps nodes n k a → IsChild (world.chain s) i (world.chain n) → (r : Result (List (Placed N F P)) F) → outcome_at world (members_of nodes) s ≡ r → IsSettled world nodes s j r → IsMade world (members_of nodes) n
+    made_of s n j k b a i has there child (Ok children) e h =
+        (s, children, Has-Keeps nodes s Done b (subst (λ x. Keeps nodes s x b) h.0 has), e, h.1.only n k a there i child)
+    made_of s n j k b a i has there child (Err fault) e h = absurd (h.1.only n k a there i child).1
+
+    pub right_consistent : IsConsistent world limit (members_of nodes)
+    right_consistent = record {
+      distinct = λ n m k j h g e.
+          let u = Keeps-Has nodes n k h in
+          let v = Keeps-Has nodes m j g in
+          tree.distinct n m k j u.0 v.0 u.1 v.1 e;
+      roots = λ n r. let w = tree.roots n r in (w.0, Has-Keeps nodes n w.0 w.1 w.2, w.3, w.4);
+      each = λ n k h i before.
+          let w = Keeps-Has nodes n k h in
+          let z = settled n k w.0 w.1 i before in
+          subst (HasOutcome world (members_of nodes) k) (ap (world.expand n) z.0) (outcome_is k n (world.expand n w.0) z.1);
+      only = λ n k h before.
+          let w = Keeps-Has nodes n k h in
+          elim (tree.under n k w.0 w.1) [
+            | inl r ↦ inl r
+            | inr u ↦
+                let birth = birth-child world.mode (world.chain u.0) u.3 (world.chain n) (laws.whole u.0) u.6 in
+                let z = settled u.0 u.1 u.2 u.4 u.5 (subst (IsBefore world limit) birth before) in
+                inr (made_of u.0 n u.1 k u.2 w.0 u.3 u.4 w.1 u.6 (world.expand u.0 u.2) (ap (world.expand u.0) (sym z.0)) z.1)
+          ];
+    }

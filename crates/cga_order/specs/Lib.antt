@@ -1,0 +1,11 @@
+pub mod Rank
+pub mod Chain
+pub mod Stamp
+pub mod Seen
+pub mod Walk
+pub mod World
+pub mod Run
+pub mod Consistent
+pub mod Agenda
+pub mod Laws
+pub mod FourShapes

@@ -1,0 +1,21 @@
+//! The order of derivation. A shape's rank says which of two waiting shapes is expanded first, and
+//! its stamp, which is computed from the ranks on its path, says when it is expanded: the shape of
+//! least rank is always that of least stamp, and stamps rise as the derivation goes on. This crate
+//! must not know what a shape is beyond its chain, its lot, path and priorities. What callers get
+//! wrong: ranks don't rise as the derivation goes on, so what was done is told by stamps alone.
+#![tactic(auto)]
+
+use cga_fraction::List;
+
+mod chain;
+pub mod laws;
+mod walk;
+
+pub use chain::{Chain, cmp_rank};
+pub use walk::cmp_stamp;
+
+/// The indices of the children on the way from a lot's root to a shape. A root's is empty.
+pub type Path = List<u16>;
+
+#[cfg(test)]
+mod tests;

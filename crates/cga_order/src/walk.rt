@@ -1,0 +1,131 @@
+ghost use Rattle.std.specs.Prelude.{◌≡◌, ℕ, ◌<◌, ◌≤◌, ◌+◌, length, take};
+ghost use Rattle.std.specs.Ordering.{nat_cmp};
+ghost use Rattle.std.specs.Cmp.Lexicographic.{slice_cmp};
+ghost use Rattle.cga_word.specs.declared.mode.Mode.{Mode};
+ghost use Rattle.cga_order.specs.Chain.{IsWhole, rank_at};
+ghost use Rattle.cga_order.specs.Rank.{rank_cmp};
+ghost use Rattle.cga_order.specs.Seen.{chain_of};
+ghost use Rattle.cga_order.specs.Stamp.{stamp_cmp};
+ghost use Rattle.cga_order.specs.Walk.{IsCommonLength, IsParting, IsTop, IsWithin, tops_cmp};
+
+use crate::chain::Chain;
+use cga_word::Mode;
+use std::cmp::Ordering;
+
+/// How the lots of two chains compare, and how long the common part of their paths is. With it
+/// any two ranks on them are compared in constant time.
+#[derive(Clone, Copy)]
+struct Parting {
+    lots: Ordering,
+    common: usize,
+}
+
+/// The order of the stamps of two shapes. It takes time linear in the two paths, and no memory.
+pub fn cmp_stamp(mode: Mode, a: &Chain, b: &Chain) -> Ordering
+    requires left { IsWhole (chain_of a.now) }
+    requires right { IsWhole (chain_of b.now) }
+    ensures { result ≡ stamp_cmp mode (chain_of a.now) (chain_of b.now) }
+{
+    let parting = parting_of(a, b);
+    let mut order = Ordering::Equal;
+    let mut left = None;
+    let mut right = None;
+    let mut depth = a.priorities.len().max(b.priorities.len());
+    while depth > 0 {
+        depth -= 1;
+        left = top(a, depth, left);
+        right = top(b, depth, right);
+        order = cmp_tops(mode, parting, a, left, b, right).then(order);
+    }
+    order
+}
+
+fn parting_of(a: &Chain, b: &Chain) -> Parting
+    ensures { IsParting (chain_of a.now) (chain_of b.now) result }
+{
+    Parting {
+        lots: a.lot.cmp(&b.lot),
+        common: common_length(a.path, b.path),
+    }
+}
+
+fn common_length(xs: &[u16], ys: &[u16]) -> usize
+    ensures { IsCommonLength xs.now ys.now result }
+{
+    let mut common = 0;
+    while common < xs.len() && common < ys.len() && xs[common] == ys[common] {
+        common += 1;
+    }
+    common
+}
+
+/// At which depth the greatest rank of those from `depth` on stands, given that of those below it.
+/// On one chain a rank is greater by its priority, and among equal ones by its depth.
+fn top(chain: &Chain, depth: usize, below: Option<usize>) -> Option<usize>
+    requires { IsWithin (chain_of chain.now) below }
+    ensures { (mode : Mode) → IsWhole (chain_of chain.now) → IsTop mode (chain_of chain.now) (depth + 1) below
+        → IsTop mode (chain_of chain.now) depth result }
+{
+    if chain.priorities.len() <= depth {
+        return None;
+    }
+    match below {
+        Some(top) if chain.priorities[depth] <= chain.priorities[top] => below,
+        _ => Some(depth),
+    }
+}
+
+fn cmp_tops(
+    mode: Mode,
+    parting: Parting,
+    a: &Chain,
+    left: Option<usize>,
+    b: &Chain,
+    right: Option<usize>,
+) -> Ordering
+    requires parting { IsParting (chain_of a.now) (chain_of b.now) parting }
+    requires whole_left { IsWhole (chain_of a.now) }
+    requires whole_right { IsWhole (chain_of b.now) }
+    requires left { IsWithin (chain_of a.now) left }
+    requires right { IsWithin (chain_of b.now) right }
+    ensures { result ≡ tops_cmp mode (chain_of a.now) left (chain_of b.now) right }
+{
+    match (left, right) {
+        (None, None) => Ordering::Equal,
+        (None, Some(_)) => Ordering::Less,
+        (Some(_), None) => Ordering::Greater,
+        (Some(i), Some(j)) => cmp_ranks_at(mode, parting, a, i, b, j),
+    }
+}
+
+fn cmp_ranks_at(mode: Mode, parting: Parting, a: &Chain, i: usize, b: &Chain, j: usize) -> Ordering
+    requires parting { IsParting (chain_of a.now) (chain_of b.now) parting }
+    requires whole_left { IsWhole (chain_of a.now) }
+    requires whole_right { IsWhole (chain_of b.now) }
+    requires left { i < length a.now.priorities.now }
+    requires right { j < length b.now.priorities.now }
+    ensures { result ≡ rank_cmp mode (rank_at (chain_of a.now) i) (rank_at (chain_of b.now) j) }
+{
+    let depth = match mode {
+        Mode::Breadth => i.cmp(&j),
+        Mode::Depth => Ordering::Equal,
+    };
+    a.priorities[i]
+        .cmp(&b.priorities[j])
+        .then(depth)
+        .then(parting.lots)
+        .then(cmp_prefixes(a.path, i, b.path, j, parting.common))
+}
+
+fn cmp_prefixes(xs: &[u16], i: usize, ys: &[u16], j: usize, common: usize) -> Ordering
+    requires common { IsCommonLength xs.now ys.now common }
+    requires left { i ≤ length xs.now }
+    requires right { j ≤ length ys.now }
+    ensures { result ≡ slice_cmp nat_cmp (take i xs.now) (take j ys.now) }
+{
+    if common < i && common < j {
+        xs[common].cmp(&ys[common])
+    } else {
+        i.cmp(&j)
+    }
+}
