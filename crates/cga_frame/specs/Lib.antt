@@ -1,0 +1,6 @@
+pub mod Axes
+pub mod Box
+pub mod Meeting
+pub mod Points
+pub mod Scope
+pub mod Standing

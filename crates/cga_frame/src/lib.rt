@@ -1,0 +1,19 @@
+// Scopes and boxes: positions, frames of signed axes, oriented boxes and what of them meets in the world. It knows
+// nothing of symbols, rules or trees, and takes no memory. The one thing that callers get wrong: boxes that only
+// touch don't meet, but two that are flat in one plane may.
+#![tactic(auto)]
+
+mod direction;
+mod frame;
+mod point;
+mod scope;
+mod scope_fault;
+mod signed;
+mod world_box;
+
+pub use direction::Direction;
+pub use frame::Frame;
+pub use point::Point;
+pub use scope::Scope;
+pub use scope_fault::ScopeFault;
+pub use world_box::WorldBox;

@@ -1,0 +1,230 @@
+ghost use Rattle.std.specs.Prelude.{◌≡◌, IfOk};
+ghost use Rattle.cga_fraction.specs.Rat.{IsFraction};
+ghost use Rattle.cga_fraction.specs.Refusals.{checked};
+ghost use Rattle.cga_frame.specs.Points.{checked_point, InRange};
+ghost use Rattle.cga_frame.specs.Scope.{has_negative, joined, moved_along, place_of, stepped};
+
+use crate::frame::Frame;
+use crate::point::Point;
+use crate::scope_fault::ScopeFault;
+use crate::signed::Signed;
+use crate::world_box::WorldBox;
+use cga_fraction::{Fraction, Overflow};
+use cga_word::{Axis, Turn};
+use std::marker::Model;
+
+/// An oriented box whose world box is in range: a position, a frame and three sizes that aren't below 0. It
+/// keeps the corner opposite to the position, so that its world box takes no arithmetic.
+#[derive(Clone, Copy, Debug, PartialEq, Eq)]
+pub struct Scope {
+    at: Point,
+    frame: Frame,
+    size: Point,
+    far: Point,
+}
+
+impl Model for Scope {
+    ghost use Rattle.cga_frame.specs.Scope.{Scope, far_of};
+    ghost use Rattle.cga_frame.specs.Standing.{IsStanding};
+
+    ghost Value = { Scope };
+
+    ghost view = { λ s. record { at = s.at; frame = s.frame; size = s.size } };
+
+    ghost invariant = { λ s. IsStanding (record { at = s.at; frame = s.frame; size = s.size }) s.far };
+
+    ghost inverse = { λ s. record { at = s.at; frame = s.frame; size = s.size; far = far_of s } };
+
+    ghost use Rattle.cga_frame.specs.Standing.{inverse_ok};
+
+    ghost inverse_ok = { inverse_ok };
+}
+
+impl Scope {
+    ghost use Rattle.std.specs.Prelude.{true, false};
+    ghost use Rattle.cga_fraction.specs.Rat.{zero_rat};
+    ghost use Rattle.cga_fraction.specs.Order.{rat_lt};
+    ghost use Rattle.cga_frame.specs.Points.{checked_point};
+    ghost use Rattle.cga_frame.specs.Scope.{existing, part_of, scope_of, step_of, translated, turned_scope, Exists};
+    ghost use Rattle.cga_frame.specs.Box.{box_of, is_box};
+
+    /// The scope with its corner of all zero coordinates there.
+    pub fn new(at: Point, frame: Frame, size: Point) -> Result<Scope, ScopeFault>
+        ensures value { result ≡ scope_of at frame size }
+        ensures exists { IfOk result Exists }
+    {
+        if has_negative(&size) {
+            return Err(ScopeFault::NegativeSize);
+        }
+        match Scope::standing(at, frame, size) {
+            Ok(scope) => Ok(scope),
+            Err(Overflow) => Err(ScopeFault::Overflow),
+        }
+    }
+
+    /// The corner of all zero coordinates.
+    pub fn at(&self) -> Point
+        ensures value { result ≡ self.now.at }
+        ensures exists { Exists self.now }
+    {
+        self.at
+    }
+
+    pub fn frame(&self) -> Frame
+        ensures { result ≡ self.now.frame }
+    {
+        self.frame
+    }
+
+    /// Along the scope's own axes.
+    pub fn size(&self) -> Point
+        ensures value { result ≡ self.now.size }
+        ensures sizes { has_negative self.now.size ≡ false }
+    {
+        self.size
+    }
+
+    /// On each world axis the interval between the position and the position plus the signed size.
+    pub fn world_box(&self) -> WorldBox
+        ensures value { result ≡ box_of self.now }
+        ensures ordered { is_box result ≡ true }
+        ensures exists { Exists self.now }
+    {
+        WorldBox {
+            low: self.at.min(self.far),
+            high: self.at.max(self.far),
+        }
+    }
+
+    // The scope, where it exists.
+    fn standing(at: Point, frame: Frame, size: Point) -> Result<Scope, Overflow>
+        requires { has_negative size ≡ false }
+        ensures value { result ≡ existing (record { at = at; frame = frame; size = size }) }
+        ensures exists { IfOk result Exists }
+    {
+        match placed(&at, &frame, &size) {
+            Ok(far) => Ok(Scope {
+                at,
+                frame,
+                size,
+                far,
+            }),
+            Err(Overflow) => Err(Overflow),
+        }
+    }
+
+    /// The world point of local coordinates.
+    pub fn place(&self, local: Point) -> Result<Point, Overflow>
+        ensures { result ≡ checked_point (place_of self.now.at self.now.frame local) }
+    {
+        placed(&self.at, &self.frame, &local)
+    }
+
+    /// Moved along its own axes.
+    pub fn translate(&self, by: Point) -> Result<Scope, Overflow>
+        ensures value { result ≡ existing (translated self.now by) }
+        ensures exists { IfOk result Exists }
+    {
+        match self.place(by) {
+            Ok(at) => Scope::standing(at, self.frame, self.size),
+            Err(Overflow) => Err(Overflow),
+        }
+    }
+
+    /// Turned about one of its own axes; the sizes stay as they are.
+    pub fn turn(&self, axis: Axis, by: Turn) -> Result<Scope, Overflow>
+        ensures value { result ≡ existing (turned_scope self.now axis by) }
+        ensures exists { IfOk result Exists }
+    {
+        Scope::standing(self.at, self.frame.turn(axis, by), self.size)
+    }
+
+    /// With another size.
+    pub fn resize(&self, size: Point) -> Result<Scope, ScopeFault>
+        ensures value { result ≡ scope_of self.now.at self.now.frame size }
+        ensures exists { IfOk result Exists }
+    {
+        Scope::new(self.at, self.frame, size)
+    }
+
+    /// Moved along one of its axes, and with another size along it.
+    pub fn part(&self, axis: Axis, from: Fraction, length: Fraction) -> Result<Scope, Overflow>
+        requires { rat_lt length zero_rat ≡ false }
+        ensures value { result ≡ existing (part_of self.now axis from length) }
+        ensures exists { IfOk result Exists }
+    {
+        match self.stepped(axis, from) {
+            Ok(at) => Scope::standing(at, self.frame, self.size.with(axis, length)),
+            Err(Overflow) => Err(Overflow),
+        }
+    }
+
+    // The position moved along one of the axes.
+    fn stepped(&self, axis: Axis, by: Fraction) -> Result<Point, Overflow>
+        ensures { result ≡ checked_point (step_of self.now axis by) }
+    {
+        let x = stepped(self.at.x, self.frame.along(Axis::X), axis, by);
+        let y = stepped(self.at.y, self.frame.along(Axis::Y), axis, by);
+        let z = stepped(self.at.z, self.frame.along(Axis::Z), axis, by);
+        joined(x, y, z)
+    }
+}
+
+fn has_negative(size: &Point) -> bool
+    ensures { result ≡ has_negative size.now }
+{
+    size.x.is_negative() || size.y.is_negative() || size.z.is_negative()
+}
+
+// The world point of local coordinates.
+fn placed(at: &Point, frame: &Frame, local: &Point) -> Result<Point, Overflow>
+    ensures value { result ≡ checked_point (place_of at.now frame.now local.now) }
+    ensures at { InRange at.now }
+    ensures in_range { IfOk result InRange }
+{
+    let x = moved(at.x, frame.along(Axis::X), local);
+    let y = moved(at.y, frame.along(Axis::Y), local);
+    let z = moved(at.z, frame.along(Axis::Z), local);
+    joined(x, y, z)
+}
+
+// The point of three coordinates, none of which is refused.
+fn joined(
+    x: Result<Fraction, Overflow>,
+    y: Result<Fraction, Overflow>,
+    z: Result<Fraction, Overflow>,
+) -> Result<Point, Overflow>
+    ensures { result ≡ joined x y z }
+{
+    match (x, y, z) {
+        (Ok(x), Ok(y), Ok(z)) => Ok(Point { x, y, z }),
+        _ => Err(Overflow),
+    }
+}
+
+// A world coordinate moved by the local one along the axis that lies there.
+fn moved(from: Fraction, along: Signed, local: &Point) -> Result<Fraction, Overflow>
+    ensures value { result ≡ checked (moved_along along from local.now) }
+    ensures from { IsFraction from }
+    ensures fraction { IfOk result IsFraction }
+{
+    let by = local.along(along.axis);
+    if along.against {
+        return from.sub(by);
+    }
+    from.add(by)
+}
+
+// A world coordinate moved where the axis lies there.
+fn stepped(from: Fraction, along: Signed, axis: Axis, by: Fraction) -> Result<Fraction, Overflow>
+    requires { IsFraction from }
+    ensures { result ≡ checked (stepped along axis from by) }
+{
+    if !along.lies_along(axis) {
+        return Ok(from);
+    }
+    if along.against {
+        return from.sub(by);
+    }
+    from.add(by)
+}
