@@ -27,8 +27,8 @@ unfolding Found
 find_in x c d [] r h k = (0, (c, d), refl, (h, k))
 find_in x c d (e ∷ ds) r h k =
     elim (le_total x d) [
-      inl below ↦ (0, (c, d), refl, (h, below))
-    | inr above ↦ let f = find_in x d e ds r.1 above k in (suc f.0, f.1, f.2, f.3)
+      | inl below ↦ (0, (c, d), refl, (h, below))
+      | inr above ↦ let f = find_in x d e ds r.1 above k in (suc f.0, f.1, f.2, f.3)
     ]
 
 within : (x c : Rat) (ds : List Rat) → Rises c ds → (i : ℕ) (p : Rat × Rat) → slice_get (neighbours (c ∷ ds)) i ≡ Some p → Between x p → IsTrue (rat_le c x) × IsTrue (rat_le x (last_of c ds))

@@ -1,12 +1,12 @@
 -- The parts that a split gives are those of the cuts.
-use Rattle.std.proofs.Common.{◌≡◌, ℕ, zero, suc, ◌+◌, List, [], ◌∷◌, refl, sym, ap, ◌∙◌, Ok, Err}
+use Rattle.std.proofs.Common.{◌≡◌, ℕ, zero, suc, ◌+◌, List, [], ◌∷◌, ◌++◌, append_assoc, refl, sym, ap, ◌∙◌, Ok, Err}
 use Rattle.std.specs.Prelude.{Result}
 use Rattle.cga_fraction.specs.Rat.{Rat}
 use Rattle.cga_fraction.specs.Arithmetic.{plus, minus, times, divided}
 use Rattle.cga_fraction.specs.Refusals.{checked}
 use Rattle.cga_fraction.specs.declared.overflow.Overflow.{Overflow}
 use Rattle.cga_fraction.proofs.Laws.{IsLowest, minus-plus_left, checked_is}
-use Rattle.cga_split.specs.Chains.{then_, as_fault, within}
+use Rattle.cga_split.specs.Chains.{then_, as_fault, within, onto}
 use Rattle.cga_split.specs.Cuts.{neighbours, parts_of}
 use Rattle.cga_split.specs.declared.split_fault.SplitFault.{SplitFault}
 use Rattle.cga_split.specs.declared.part_size.PartSize.{PartSize}
@@ -33,7 +33,7 @@ abbrev pub AllLengthsLowest : Rat → Rat → List PartSize → Type 0
 AllLengthsLowest rest total [] = Unit {0}
 AllLengthsLowest rest total (s ∷ ss) = IsLowest (length_of rest total s) × AllLengthsLowest rest total ss
 
-length_is : (rest total : Rat) (s : PartSize) (len : Rat) → checked_length rest total s ≡ Ok len → length_of rest total s ≡ len
+pub length_is : (rest total : Rat) (s : PartSize) (len : Rat) → checked_length rest total s ≡ Ok len → length_of rest total s ≡ len
 length_is rest total (Absolute x) len h = ok_same x len h
 length_is rest total (Relative r) len h =
     let w = then_ok (within (times rest r)) (λ m. within (divided m total)) len h in
@@ -73,3 +73,17 @@ relative_is a (Absolute x ∷ sizes) t h = relative_is a sizes t h
 relative_is a (Relative r ∷ sizes) t h =
     let w = then_ok (within (plus a r)) (λ b. relative_total b sizes) t h in
     ap (λ b. relative_sum b sizes) (within_is (plus a r) w.0 w.1) ∙ relative_is w.0 sizes t w.2
+
+onto_more : {P F : Type 0} (made : List P) (p : P) (r : Result (List P) F) → onto made (then_ r (λ ps. Ok (p ∷ ps))) ≡ onto (made ++ p ∷ []) r
+onto_more made p (Ok ps) = ap Ok (sym (append_assoc made (p ∷ []) ps))
+onto_more made p (Err e) = refl
+
+-- one part more
+pub one_more : {P : Type 0} (part : Rat → Rat → Result P SplitFault) (rest total from length next : Rat) (made longer : List P) (p : P) (s : PartSize) (ss : List PartSize) (target : Result (List P) SplitFault)
+    → onto made (parts_from part rest total from (s ∷ ss)) ≡ target → ◌≡◌ {A = Result Rat SplitFault} (Ok length) (checked_length rest total s) → Ok p ≡ part from length
+    → ◌≡◌ {A = Result Rat SplitFault} (Ok next) (within (plus from length)) → longer ≡ made ++ p ∷ [] → onto longer (parts_from part rest total next ss) ≡ target
+one_more part rest total from length next made longer p s ss target h a b c e =
+    rw e (sym (onto_more made p (parts_from part rest total next ss)) ∙ step ∙ h)
+  where
+    step : onto made (then_ (parts_from part rest total next ss) (λ ps. Ok (p ∷ ps))) ≡ onto made (parts_from part rest total from (s ∷ ss))
+    step = rw (← a) (rw (← b) (rw (← c) refl))

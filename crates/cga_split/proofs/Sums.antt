@@ -45,7 +45,10 @@ ends rest total at a r k q (Absolute x ∷ sizes) p s e =
     let w = plus_ratio at x _ _ _ _ e.at_is s.2 in
     let v = like _ _ _ ((e.na * s.1 + s.0 * e.da) * k * e.dr + q * e.nr * (e.da * s.1)) (e.da * s.1 * k * e.dr) w (absolute_step e.na k e.dr q e.nr e.da s.0 s.1) (mul-pos (mul-pos (mul-pos e.a_is.positive s.2.positive) p) e.r_is.positive) in
     ends rest total (plus at x) (plus a x) r k q sizes p s.3 (record {
-      na = e.na * s.1 + s.0 * e.da; da = e.da * s.1; nr = e.nr; dr = e.dr;
+      na = e.na * s.1 + s.0 * e.da;
+      da = e.da * s.1;
+      nr = e.nr;
+      dr = e.dr;
       a_is = plus_ratio a x _ _ _ _ e.a_is s.2;
       r_is = e.r_is;
       at_is = v;
@@ -54,7 +57,10 @@ ends rest total at a r k q (Relative f ∷ sizes) p s e =
     let w = plus_ratio at (length_of rest total (Relative f)) _ _ _ _ e.at_is s.3 in
     let v = like _ _ _ (e.na * k * (e.dr * s.1) + q * (e.nr * s.1 + s.0 * e.dr) * e.da) (e.da * k * (e.dr * s.1)) w (relative_step e.na k e.dr q e.nr e.da s.0 s.1) (mul-pos (mul-pos e.a_is.positive p) (mul-pos e.r_is.positive s.2.positive)) in
     ends rest total (plus at (length_of rest total (Relative f))) a (plus r f) k q sizes p s.4 (record {
-      na = e.na; da = e.da; nr = e.nr * s.1 + s.0 * e.dr; dr = e.dr * s.1;
+      na = e.na;
+      da = e.da;
+      nr = e.nr * s.1 + s.0 * e.dr;
+      dr = e.dr * s.1;
       a_is = e.a_is;
       r_is = plus_ratio r f _ _ _ _ e.r_is s.2;
       at_is = v;
@@ -86,7 +92,6 @@ shares_of rest total np dp nt dt (Relative f ∷ sizes) r t p s =
 zero_ratio : IsRatio zero_rat 0 1
 zero_ratio = record { positive = omega arith; top = 0; is = refl; same = refl }
 
-
 pub absolute_ratio : (a : Rat) (n d : ℕ) (sizes : List PartSize) → IsRatio a n d → AreRatios sizes → (m : ℕ) × (e : ℕ) × IsRatio (absolute_sum a sizes) m e
 absolute_ratio a n d [] r s = (n, d, r)
 absolute_ratio a n d (Absolute x ∷ sizes) r s = absolute_ratio (plus a x) _ _ sizes (plus_ratio a x _ _ _ _ r s.2) s.3
@@ -111,8 +116,8 @@ last_ratio size sizes nl dl nt dt l s t p h =
     let m = minus_ratio size (absolute_sum zero_rat sizes) nl dl a.0 a.1 l a.2 h in
     let k : 0 < dl * a.1 * nt = mul-pos m.2.positive p in
     finish size (absolute_sum zero_rat sizes) (relative_sum zero_rat sizes) _ nl dl nt dt m.0 (dl * a.1) l h m.2 t
-        (ends (minus size (absolute_sum zero_rat sizes)) (relative_sum zero_rat sizes) zero_rat zero_rat zero_rat (dl * a.1 * nt) (m.0 * dt) sizes k
-            (shares_of (minus size (absolute_sum zero_rat sizes)) (relative_sum zero_rat sizes) m.0 (dl * a.1) nt dt sizes m.2 t p s) (start (dl * a.1 * nt) (m.0 * dt) k))
+    (ends (minus size (absolute_sum zero_rat sizes)) (relative_sum zero_rat sizes) zero_rat zero_rat zero_rat (dl * a.1 * nt) (m.0 * dt) sizes k
+    (shares_of (minus size (absolute_sum zero_rat sizes)) (relative_sum zero_rat sizes) m.0 (dl * a.1) nt dt sizes m.2 t p s) (start (dl * a.1 * nt) (m.0 * dt) k))
 
 -- the cuts rise
 plus_rises : (at x : Rat) (n d m e : ℕ) → IsRatio at n d → IsRatio x m e → IsTrue (rat_le at (plus at x))

@@ -1,5 +1,5 @@
 -- Steps that may be refused.
-use Rattle.std.specs.Prelude.{Bool, Result, Ok, Err, if◌then◌else◌}
+use Rattle.std.specs.Prelude.{List, ◌++◌, Bool, Result, Ok, Err, if◌then◌else◌}
 use Rattle.cga_fraction.specs.Rat.{Rat}
 use Rattle.cga_fraction.specs.Refusals.{checked}
 use Rattle.cga_fraction.specs.declared.overflow.Overflow as Unit
@@ -23,3 +23,8 @@ as_fault (Err e) = Err Overflow
 -- a number, where it is in range
 abbrev pub within : Rat → Result Rat SplitFault
 within a = as_fault (checked a)
+
+-- a list, and behind it what follows
+abbrev pub onto : {A F : Type 0} → List A → Result (List A) F → Result (List A) F
+onto before (Ok more) = Ok (before ++ more)
+onto before (Err e) = Err e

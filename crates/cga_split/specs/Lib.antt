@@ -2,3 +2,5 @@ pub mod Chains
 pub mod Cuts
 pub mod Subdiv
 pub mod Repeat
+pub mod Split
+pub mod Stops

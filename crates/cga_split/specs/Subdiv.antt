@@ -1,7 +1,7 @@
 -- The cuts of Subdiv.
 use Rattle.std.specs.Prelude.{List, [], ◌∷◌, Bool, true, false, not, ◌||◌, Result, Ok, if◌then◌else◌}
 use Rattle.std.specs.List.{list_all, list_any}
-use Rattle.cga_fraction.specs.Rat.{Rat, zero_rat}
+use Rattle.cga_fraction.specs.Rat.{Rat, zero_rat, IsFraction}
 use Rattle.cga_fraction.specs.Arithmetic.{plus, minus, times, divided}
 use Rattle.cga_fraction.specs.Order.{rat_le, rat_lt}
 use Rattle.cga_split.specs.Chains.{then_, refused_if, within}
@@ -81,3 +81,13 @@ subdivided part size sizes =
     (then_ (absolute_total zero_rat sizes) (λ a. then_ (relative_total zero_rat sizes) (λ r.
     refused_if (is_off size a sizes) SubdivSum
     (then_ (within (minus size a)) (λ rest. parts_from part rest r zero_rat sizes))))))
+
+-- the number of a size
+abbrev pub number_of : PartSize → Rat
+number_of (Absolute x) = x
+number_of (Relative r) = r
+
+-- each size is in lowest terms and in range
+abbrev pub AllFractions : List PartSize → Type 0
+AllFractions [] = Unit {0}
+AllFractions (size ∷ sizes) = IsFraction (number_of size) × AllFractions sizes

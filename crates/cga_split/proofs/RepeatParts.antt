@@ -1,5 +1,5 @@
 -- The parts of Repeat are those of its cuts, which cover the axis.
-use Rattle.std.proofs.Common.{◌≡◌, ℕ, zero, suc, ◌+◌, ◌*◌, ◌<◌, ◌≤◌, List, [], ◌∷◌, false, refl, sym, ap, ◌∙◌, subst, arith, Ok, pos, negsuc, ℤ, unsigned_abs}
+use Rattle.std.proofs.Common.{◌≡◌, ℕ, zero, suc, ◌+◌, ◌*◌, ◌-◌, ◌<◌, ◌≤◌, List, [], ◌∷◌, ◌++◌, append_assoc, Err, false, refl, sym, ap, ◌∙◌, subst, arith, Ok, pos, negsuc, ℤ, unsigned_abs}
 use Rattle.std.specs.Prelude.{Result, IsTrue, not, nat_lt}
 use Rattle.std.proofs.Math.Nat.{mul-pos}
 use Rattle.cga_fraction.specs.Rat.{Rat, den, zero_rat, of_int}
@@ -11,7 +11,7 @@ use Rattle.cga_fraction.proofs.Laws.{IsLowest, minus_lowest, times_lowest, same_
 use Rattle.cga_fraction.proofs.Diffs.{minus_of, times_diff, itself}
 use Rattle.cga_fraction.proofs.Ratios.{IsRatio, like, times_ratio, divided_ratio, le_ratio, zero_ratio}
 use Rattle.cga_fraction.proofs.Rounding.{is_ceil}
-use Rattle.cga_split.specs.Chains.{then_, refused_if, within}
+use Rattle.cga_split.specs.Chains.{then_, refused_if, within, onto}
 use Rattle.cga_split.specs.Cuts.{Cover, IsCut, parts_of}
 use Rattle.cga_split.specs.Repeat.{whole, multiples, repeat_cuts, count_of, repeats_from, counted, repeated}
 use Rattle.cga_split.specs.declared.split_fault.SplitFault.{SplitFault}
@@ -21,10 +21,10 @@ use Rattle.cga_split.proofs.Subdivs.{IsPositive, positive, not_refused, not_true
 
 -- ---- the multiples of a part
 
-whole_ratio : (n : ℕ) → IsRatio (whole n) n 1
+pub whole_ratio : (n : ℕ) → IsRatio (whole n) n 1
 whole_ratio n = record { positive = omega arith; top = n; is = refl; same = refl }
 
-part_ratio : (size : Rat) (nl dl n : ℕ) → IsRatio size nl dl → 0 < n → IsRatio (divided size (whole n)) nl (dl * n)
+pub part_ratio : (size : Rat) (nl dl n : ℕ) → IsRatio size nl dl → 0 < n → IsRatio (divided size (whole n)) nl (dl * n)
 part_ratio size nl dl n l h = like (divided size (whole n)) _ _ nl (dl * n) (divided_ratio size (whole n) nl dl n 1 l (whole_ratio n) h) (omega arith) (mul-pos l.positive h)
 
 multiple_ratio : (part : Rat) (np dp i : ℕ) → IsRatio part np dp → IsRatio (times part (whole i)) (np * i) dp
@@ -64,7 +64,7 @@ repeats_are part place exact step low i (suc n) ps h =
     let c = then_ok (repeats_from part step (i + 1) n) _ ps b.2 in
     let at : times step (whole i) ≡ a.0 = within_is (times step (whole i)) a.0 a.1 in
     let head : b.0 ≡ place (times step (whole i)) (minus (times step (whole (i + 1))) (times step (whole i))) =
-        exact a.0 step b.0 b.1 ∙ ap (λ (x : Rat). place x step) (sym at) ∙ ap (place (times step (whole i))) (sym (step_is step i low)) in
+    exact a.0 step b.0 b.1 ∙ ap (λ (x : Rat). place x step) (sym at) ∙ ap (place (times step (whole i))) (sym (step_is step i low)) in
     joined b.0 c.0 ps _ _ c.2 head (repeats_are part place exact step low (i + 1) n c.0 c.1)
 
 -- ---- the count
@@ -75,7 +75,7 @@ above_of (pos (suc n)) h = (n, refl)
 above_of (negsuc n) h = let f = lt_fact zero_rat (of_int (negsuc n)) h in absurd (omega arith)
 
 -- of a quotient above 0 the count is above 0, and the least whole number that is at least it
-count_is : (q : Rat) → IsTrue (rat_lt zero_rat q) → (n : ℕ) × (count_of q ≡ suc n) × IsCeil q (pos (suc n))
+pub count_is : (q : Rat) → IsTrue (rat_lt zero_rat q) → (n : ℕ) × (count_of q ≡ suc n) × IsCeil q (pos (suc n))
 count_is q some =
     let c = is_ceil q in
     let top = above_of (ceil_of q) (lt_of_lt_le zero_rat q (of_int (ceil_of q)) some c.above) in
@@ -89,7 +89,7 @@ some_top (suc t) d n e h p q = omega arith
 lt_parts : (z : ℤ) (t d : ℕ) → z ≡ pos t → 0 < t → 0 * d + negative_part z * 1 < positive_part z * 1 + 0 * d
 lt_parts z t d is some = rw is (omega arith)
 
-lt_ratio : (q : Rat) (n d : ℕ) → IsRatio q n d → 0 < n → IsTrue (rat_lt zero_rat q)
+pub lt_ratio : (q : Rat) (n d : ℕ) → IsRatio q n d → 0 < n → IsTrue (rat_lt zero_rat q)
 lt_ratio q n d r some = lt_test zero_rat q (lt_parts q.num r.top (den q) r.is (some_top r.top d n (den q) r.same some (omega arith)))
 
 -- ---- the cover
@@ -108,8 +108,8 @@ repeat_covers size nl dl n l =
     let end : last_of (times part (whole 0)) (multiples part (0 + 1) (suc n)) ≡ times part (whole (suc n)) = last_multiple part 0 (suc n) ∙ ap (λ k. times part (whole k)) (omega arith) in
     let last = repeat_end size nl dl (suc n) l (omega arith) in
     covers (times part (whole 0)) (times part (whole (0 + 1))) (multiples part (0 + 1 + 1) n) size zeros.0 zeros.1 (multiples_rise part nl (dl * suc n) 0 (suc n) r)
-        (subst (λ (x : Rat). IsTrue (rat_le x size)) (sym end) (le_ratio (times part (whole (suc n))) size nl dl nl dl last l (omega arith)))
-        (subst (λ (x : Rat). IsTrue (rat_le size x)) (sym end) (le_ratio size (times part (whole (suc n))) nl dl nl dl l last (omega arith)))
+    (subst (λ (x : Rat). IsTrue (rat_le x size)) (sym end) (le_ratio (times part (whole (suc n))) size nl dl nl dl last l (omega arith)))
+    (subst (λ (x : Rat). IsTrue (rat_le size x)) (sym end) (le_ratio size (times part (whole (suc n))) nl dl nl dl l last (omega arith)))
 
 divided_lowest : (a b : Rat) → IsLowest (divided a b)
 unfolding divided
@@ -141,3 +141,30 @@ repeated_is part place exact size length ps h =
     let n : count_of q.0 ≡ suc count.0 = ap count_of (sym quotient) ∙ count.1 in
     let given : counted part size (suc count.0) ≡ Ok ps = ap (counted part size) (sym n) ∙ q.2 in
     (suc count.0, count.2, record { parts = counted_is part place exact size (suc count.0) ps given; cover = repeat_covers size l.n l.d count.0 l.ratio })
+
+-- ---- one part more
+
+onto_more : {P F : Type 0} (made : List P) (p : P) (r : Result (List P) F) → onto made (then_ r (λ ps. Ok (p ∷ ps))) ≡ onto (made ++ p ∷ []) r
+onto_more made p (Ok ps) = ap Ok (sym (append_assoc made (p ∷ []) ps))
+onto_more made p (Err e) = refl
+
+module _ {P : Type 0} (part : Rat → Rat → Result P SplitFault) (step : Rat) (i left : ℕ) (made : List P) (target : Result (List P) SplitFault) (some : 0 < left)
+    (so_far : onto made (repeats_from part step i left) ≡ target) where
+  less : left ≡ suc (left - 1)
+  less = omega arith
+
+  here : onto made (repeats_from part step i (suc (left - 1))) ≡ target
+  here = ap (λ (n : ℕ). onto made (repeats_from part step i n)) (sym less) ∙ so_far
+
+  pub one_repeat : (from : Rat) (longer : List P) (p : P) → ◌≡◌ {A = Result Rat SplitFault} (Ok from) (within (times step (whole i))) → Ok p ≡ part from step → longer ≡ made ++ p ∷ []
+      → onto longer (repeats_from part step (i + 1) (left - 1)) ≡ target
+  one_repeat from longer p a b e = rw e (sym (onto_more made p (repeats_from part step (i + 1) (left - 1))) ∙ back ∙ here)
+    where
+      back : onto made (then_ (repeats_from part step (i + 1) (left - 1)) (λ ps. Ok (p ∷ ps))) ≡ onto made (repeats_from part step i (suc (left - 1)))
+      back = rw (← a) (rw (← b) refl)
+
+  pub place_fault : (fault : SplitFault) → ◌≡◌ {A = Result Rat SplitFault} (Err fault) (within (times step (whole i))) → target ≡ Err fault
+  place_fault fault a = sym here ∙ (rw (← a) refl)
+
+  pub part_fault : (from : Rat) (fault : SplitFault) → ◌≡◌ {A = Result Rat SplitFault} (Ok from) (within (times step (whole i))) → Err fault ≡ part from step → target ≡ Err fault
+  part_fault from fault a b = sym here ∙ (rw (← a) (rw (← b) refl))
