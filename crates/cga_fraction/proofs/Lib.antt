@@ -6,6 +6,7 @@ pub mod Laws
 pub mod Literals
 pub mod Lowest
 pub mod Naturals
+pub mod Nearest
 pub mod Order
 pub mod Places
 pub mod Quotients

@@ -1,5 +1,5 @@
 -- The texts of rational numbers.
-use Rattle.std.specs.Prelude.{ℕ, zero, suc, ◌+◌, ◌*◌, ◌/◌, ◌%◌, ◌^◌, ℤ, pos, negsuc, unsigned_abs, List, [], ◌∷◌, ◌++◌, decimal, ◌==◌, if◌then◌else◌}
+use Rattle.std.specs.Prelude.{◌≡◌, ◌≤◌, ◌*ℤ◌, ◌-ℤ◌, ℕ, zero, suc, ◌+◌, ◌*◌, ◌/◌, ◌%◌, ◌^◌, ℤ, pos, negsuc, unsigned_abs, List, [], ◌∷◌, ◌++◌, decimal, ◌==◌, if◌then◌else◌}
 use Rattle.std.specs.Fmt.{signed_decimal}
 use Rattle.cga_fraction.specs.Rat.{Rat, den}
 use Rattle.cga_fraction.specs.Arithmetic.{with_sign}
@@ -7,6 +7,15 @@ use Rattle.cga_fraction.specs.Arithmetic.{with_sign}
 -- the whole number nearest to a * 10 ^ places, and of two equally near ones the one farther from zero
 unfoldable pub round_of : Rat → ℕ → ℤ
 round_of a places = with_sign a.num ((2 * (unsigned_abs a.num * 10 ^ places) + den a) / (2 * den a))
+
+-- how far z is from a * 10 ^ places, in parts of the denominator
+abbrev pub distance : Rat → ℕ → ℤ → ℕ
+distance a places z = unsigned_abs (a.num *ℤ pos (10 ^ places) -ℤ z *ℤ pos (den a))
+
+-- z is as near to a * 10 ^ places as any whole number, and none that is as near is farther from zero
+pub record IsNearest (a : Rat) (places : ℕ) (z : ℤ) : Type 0 where
+  pub nearest : (w : ℤ) → distance a places z ≤ distance a places w
+  pub farthest : (w : ℤ) → distance a places w ≡ distance a places z → unsigned_abs w ≤ unsigned_abs z
 
 -- a minus before a number below 0
 abbrev pub minus_of : ℤ → List ℕ

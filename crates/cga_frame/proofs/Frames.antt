@@ -3,7 +3,8 @@ use Rattle.std.proofs.Common.{◌≡◌, refl, sym, ap, ◌∙◌, Bool, true, f
 use Rattle.std.specs.Prelude.{not}
 use Rattle.cga_word.specs.declared.axis.Axis.{Axis}
 use Rattle.cga_word.specs.declared.axis.Axis.TheVariants.{X, Y, Z}
-use Rattle.cga_frame.specs.Axes.{Frame, IsFrame, parity, differ, along, composed}
+use Rattle.cga_frame.specs.Axes.{Frame, IsFrame, IsRightHanded, parity, differ, along, within, composed, turned, four_turned, quarter, base_frame}
+use Rattle.cga_frame.specs.declared.signed.Signed.{Signed}
 
 -- ---- flags
 
@@ -139,3 +140,67 @@ composed_at a b c s t u g h k = absurd (cc)
 -- a frame that is given in the axes of another is a frame
 pub composed_is_frame : (f g : Frame) → IsFrame f → IsFrame g → IsFrame (composed f g)
 composed_is_frame f g p q = record { even = composed_at f.x.axis f.y.axis f.z.axis f.x.against f.y.against f.z.against g p.even q.even }
+
+-- ---- the third axis is the cross product of the first two
+
+not_twice : (u e : Bool) → not (not u) ≡ e → u ≡ e
+not_twice u e h = sym (not-not u) ∙ h
+
+last : (s t u e : Bool) → differ s (differ t u) ≡ e → u ≡ differ (differ s t) e
+last true true u e h = not_twice u e h
+last true false u e h = sym (not-not u) ∙ ap not h
+last false true u e h = sym (not-not u) ∙ ap not h
+last false false u e h = h
+
+on : Axis → Bool → Signed
+on a b = record { axis = a; against = b }
+
+right_at : (a b c : Axis) (s t u : Bool) → parity a b c ≡ Some (differ s (differ t u)) → IsRightHanded (record { x = record { axis = a; against = s }; y = record { axis = b; against = t }; z = record { axis = c; against = u } })
+unfolding on
+right_at X Y Z s t u h = let e : differ s (differ t u) ≡ false = cc in record { third = ap (on Z) (last s t u false e); apart = refl }
+right_at Y Z X s t u h =
+    let e : differ s (differ t u) ≡ false = cc in record { third = ap (on Y) (last u s t false (differ_comm u (differ s t) ∙ differ_assoc s t u ∙ e)); apart = refl }
+right_at Z X Y s t u h =
+    let e : differ s (differ t u) ≡ false = cc in record { third = ap (on X) (last t u s false (sym (differ_assoc t u s) ∙ differ_comm (differ t u) s ∙ e)); apart = refl }
+right_at X Z Y s t u h =
+    let e : differ s (differ t u) ≡ true = cc in record { third = ap (on Y) (last s u t true (ap (differ s) (differ_comm u t) ∙ e)); apart = refl }
+right_at Y X Z s t u h =
+    let e : differ s (differ t u) ≡ true = cc in record { third = ap (on Z) (last t s u true (sym (differ_assoc t s u) ∙ ap (λ (b : Bool). differ b u) (differ_comm t s) ∙ differ_assoc s t u ∙ e)); apart = refl }
+right_at Z Y X s t u h =
+    let e : differ s (differ t u) ≡ true = cc in record { third = ap (on X) (last u t s true (differ_comm u (differ t s) ∙ ap (λ (b : Bool). differ b u) (differ_comm t s) ∙ differ_assoc s t u ∙ e)); apart = refl }
+right_at a b c s t u h = absurd (cc)
+
+pub right_handed : (f : Frame) → IsFrame f → IsRightHanded f
+right_handed f h = right_at f.x.axis f.y.axis f.z.axis f.x.against f.y.against f.z.against h.even
+
+pub base_right_handed : (f : Frame) → f ≡ base_frame → IsRightHanded f
+base_right_handed f e = rw e (record { third = refl; apart = refl })
+
+-- ---- four quarter turns are none
+
+four_at : (a j : Axis) (b : Bool) → within (quarter a) (within (quarter a) (within (quarter a) (within (quarter a) (record { axis = j; against = b })))) ≡ record { axis = j; against = b }
+four_at X X true = refl
+four_at X X false = refl
+four_at X Y true = refl
+four_at X Y false = refl
+four_at X Z true = refl
+four_at X Z false = refl
+four_at Y X true = refl
+four_at Y X false = refl
+four_at Y Y true = refl
+four_at Y Y false = refl
+four_at Y Z true = refl
+four_at Y Z false = refl
+four_at Z X true = refl
+four_at Z X false = refl
+four_at Z Y true = refl
+four_at Z Y false = refl
+four_at Z Z true = refl
+four_at Z Z false = refl
+
+same_frame : (x y z a b c : Signed) → x ≡ a → y ≡ b → z ≡ c → ◌≡◌ {A = Frame} (record { x = x; y = y; z = z }) (record { x = a; y = b; z = c })
+same_frame x y z a b c e f g = rw (e, f, g) refl
+
+pub four_are_none : (f : Frame) (a : Axis) → four_turned f a ≡ f
+unfolding turned
+four_are_none f a = same_frame _ _ _ f.x f.y f.z (four_at a f.x.axis f.x.against) (four_at a f.y.axis f.y.against) (four_at a f.z.axis f.z.against)

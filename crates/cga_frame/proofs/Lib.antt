@@ -1,5 +1,7 @@
 pub mod Boxes
+pub mod Components
 pub mod Flags
 pub mod Frames
+pub mod Inside
 pub mod Intervals
 pub mod Standing

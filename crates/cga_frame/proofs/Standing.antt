@@ -131,7 +131,7 @@ pub no_part : (s : Scope) (axis : Axis) (from length : Rat) (o : Overflow) → E
 unfolding part_of
 no_part s axis from length o h = not_at (record { at = step_of s axis from; frame = s.frame; size = with_coordinate s.size axis length }) o h
 
-neither : (a b c : Bool) → (a || b || c) ≡ false → (a ≡ false) × (b ≡ false) × (c ≡ false)
+pub neither : (a b c : Bool) → (a || b || c) ≡ false → (a ≡ false) × (b ≡ false) × (c ≡ false)
 neither true true c e = absurd (cc)
 neither true false c e = absurd (cc)
 neither false true c e = absurd (cc)

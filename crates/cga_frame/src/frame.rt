@@ -28,11 +28,13 @@ impl Model for Frame {
 }
 
 impl Frame {
-    ghost use Rattle.cga_frame.specs.Axes.{along, axis_of, base_frame, composed, direction, four_turned, quarter, turned, IsFrame, IsRightHanded};
+    ghost use Rattle.cga_frame.specs.Axes.{along, axis_of, base_frame, composed, direction, four_turned, quarter, turn_of, turned, IsFrame, IsRightHanded};
 
     /// The frame of the world's own axes.
+    #[tactic(auto, using(crate::proofs::Frames::base_right_handed))]
     pub fn base() -> Frame
-        ensures { result ≡ base_frame }
+        ensures value { result ≡ base_frame }
+        ensures right_handed { IsRightHanded result }
     {
         Frame {
             x: Signed::plus(Axis::X),
@@ -69,14 +71,23 @@ impl Frame {
     /// The frame after a turn about one of its own axes.
     #[tactic(auto, unfolding(crate::specs::Axes::turned))]
     pub fn turn(self, axis: Axis, by: Turn) -> Frame
-        ensures { result ≡ turned self axis by }
+        ensures value { result ≡ turned self axis by }
+        ensures right_handed { IsRightHanded result }
+        ensures four_are_none { four_turned self axis ≡ self }
+    {
+        self.composed(Frame::of_turn(axis, by))
+    }
+
+    // The frame that a turn makes of the base frame.
+    fn of_turn(axis: Axis, by: Turn) -> Frame
+        ensures { result ≡ turn_of axis by }
     {
         let quarter = Frame::quarter(axis);
         match by {
-            Turn::By0 => self.composed(Frame::base()),
-            Turn::By90 => self.composed(quarter),
-            Turn::By180 => self.composed(quarter.composed(quarter)),
-            Turn::By270 => self.composed(quarter.composed(quarter).composed(quarter)),
+            Turn::By0 => Frame::base(),
+            Turn::By90 => quarter,
+            Turn::By180 => quarter.composed(quarter),
+            Turn::By270 => quarter.composed(quarter).composed(quarter),
         }
     }
 
@@ -116,7 +127,8 @@ impl Frame {
 
     // The inner frame, which is given in the axes of this one.
     fn composed(self, inner: Frame) -> Frame
-        ensures { result ≡ composed self inner }
+        ensures value { result ≡ composed self inner }
+        ensures frame { IsFrame result }
     {
         Frame {
             x: inner.along(self.x.axis).flipped(self.x.against),

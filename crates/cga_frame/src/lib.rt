@@ -3,14 +3,18 @@
 // touch don't meet, but two that are flat in one plane may.
 #![tactic(auto)]
 
+mod component;
 mod direction;
 mod frame;
 mod point;
 mod scope;
 mod scope_fault;
 mod signed;
+#[cfg(test)]
+mod tests;
 mod world_box;
 
+pub use component::Component;
 pub use direction::Direction;
 pub use frame::Frame;
 pub use point::Point;

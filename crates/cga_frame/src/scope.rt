@@ -2,8 +2,10 @@ ghost use Rattle.std.specs.Prelude.{◌≡◌, IfOk};
 ghost use Rattle.cga_fraction.specs.Rat.{IsFraction};
 ghost use Rattle.cga_fraction.specs.Refusals.{checked};
 ghost use Rattle.cga_frame.specs.Points.{checked_point, InRange};
+ghost use Rattle.cga_frame.specs.Component.{size_by};
 ghost use Rattle.cga_frame.specs.Scope.{has_negative, joined, moved_along, place_of, stepped};
 
+use crate::component::Component;
 use crate::frame::Frame;
 use crate::point::Point;
 use crate::scope_fault::ScopeFault;
@@ -47,6 +49,7 @@ impl Scope {
     ghost use Rattle.cga_frame.specs.Points.{checked_point};
     ghost use Rattle.cga_frame.specs.Scope.{existing, part_of, scope_of, step_of, translated, turned_scope, Exists};
     ghost use Rattle.cga_frame.specs.Box.{box_of, is_box};
+    ghost use Rattle.cga_frame.specs.Component.{component_of, IsFitting};
 
     /// The scope with its corner of all zero coordinates there.
     pub fn new(at: Point, frame: Frame, size: Point) -> Result<Scope, ScopeFault>
@@ -93,6 +96,52 @@ impl Scope {
         WorldBox {
             low: self.at.min(self.far),
             high: self.at.max(self.far),
+        }
+    }
+
+    /// The scope of a component, which begins at one corner of this one and is flat or of its size along each
+    /// axis: its far corner is another of these corners, so nothing can be refused.
+    pub fn component(&self, part: Component) -> Scope
+        requires { IsFitting part }
+        ensures value { result ≡ component_of self.now part }
+        ensures exists { Exists result }
+    {
+        let frame = self.frame.turn(part.axis, part.by);
+        let x = part.ends(
+            self.frame.along(Axis::X),
+            frame.along(Axis::X),
+            self.at.x,
+            self.far.x,
+        );
+        let y = part.ends(
+            self.frame.along(Axis::Y),
+            frame.along(Axis::Y),
+            self.at.y,
+            self.far.y,
+        );
+        let z = part.ends(
+            self.frame.along(Axis::Z),
+            frame.along(Axis::Z),
+            self.at.z,
+            self.far.z,
+        );
+        Scope {
+            at: Point {
+                x: x.near,
+                y: y.near,
+                z: z.near,
+            },
+            frame,
+            size: Point {
+                x: size_by(&self.size, part.width),
+                y: size_by(&self.size, part.height),
+                z: size_by(&self.size, part.depth),
+            },
+            far: Point {
+                x: x.far,
+                y: y.far,
+                z: z.far,
+            },
         }
     }
 
@@ -167,6 +216,16 @@ impl Scope {
         let y = stepped(self.at.y, self.frame.along(Axis::Y), axis, by);
         let z = stepped(self.at.z, self.frame.along(Axis::Z), axis, by);
         joined(x, y, z)
+    }
+}
+
+// The size that a component has along an axis of its own.
+fn size_by(size: &Point, extent: Option<Axis>) -> Fraction
+    ensures { result ≡ size_by size.now extent }
+{
+    match extent {
+        Some(axis) => size.along(axis),
+        None => Fraction::zero(),
     }
 }
 

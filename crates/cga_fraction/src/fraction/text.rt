@@ -9,13 +9,15 @@ use itoa::Buffer;
 use std::alloc::Global;
 
 impl Fraction {
-    ghost use Rattle.cga_fraction.specs.Texts.{decimal_text_of, exact_text_of, literal_text_of, round_of};
+    ghost use Rattle.cga_fraction.specs.Texts.{decimal_text_of, exact_text_of, literal_text_of, round_of, IsNearest};
     ghost use Rattle.cga_fraction.specs.Decimals.{IsLiteral, IsShortest};
 
-    /// Takes memory.
+    /// The decimal text with so many places: the nearest, and of two equally near ones the one farther from
+    /// zero. Takes memory.
     pub fn decimal_text(self, alloc: Global, places: u8) -> Result<List<u8>, NoMemory>
         requires { places ≤ 9 }
-        ensures { IfOk result (λ text. text ≡ decimal_text_of self places) }
+        ensures value { IfOk result (λ text. text ≡ decimal_text_of self places) }
+        ensures nearest { IsNearest self places (round_of self places) }
     {
         self.rounded_text(alloc, places)
     }

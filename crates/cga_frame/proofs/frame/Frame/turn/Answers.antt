@@ -1,11 +1,8 @@
-use Rattle.std.proofs.Common.{refl}
-use Rattle.cga_frame.specs.Axes.{turned}
+use Rattle.cga_frame.proofs.Frames.{four_are_none, right_handed}
 use Rattle.cga_frame.proofs.frame.Frame.turn.Goals as goal
 
-pub returns-in-By180 : goal.returns-in-By180
-unfolding turned
-returns-in-By180 c = rw (c.composed-in-By180-2.ensures, c.composed-in-By180.ensures, c.quarter-quarter.ensures, c.in-By180.is) refl
+pub returns-clause-right_handed : goal.returns-clause-right_handed
+returns-clause-right_handed c = right_handed c.composed.result c.composed.ensures.frame
 
-pub returns-in-By270 : goal.returns-in-By270
-unfolding turned
-returns-in-By270 c = rw (c.composed-in-By270-3.ensures, c.composed-in-By270-2.ensures, c.composed-in-By270.ensures, c.quarter-quarter.ensures, c.in-By270.is) refl
+pub returns-clause-four_are_none : goal.returns-clause-four_are_none
+returns-clause-four_are_none c = four_are_none c.args.self c.args.axis
