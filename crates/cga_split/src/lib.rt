@@ -8,6 +8,8 @@ mod repeats;
 mod split_fault;
 mod stop;
 mod subdivide;
+#[cfg(test)]
+mod tests;
 
 pub use part_size::PartSize;
 pub use repeats::repeat;
