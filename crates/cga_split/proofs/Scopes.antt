@@ -1,0 +1,36 @@
+-- Splits of scopes.
+use Rattle.std.proofs.Common.{◌≡◌, ℕ, ◌<◌, List, [], ◌∷◌, length, true, false, refl, sym, ap, ◌∙◌, arith, pos, Ok, Err, Result}
+use Rattle.std.specs.Prelude.{if◌then◌else◌, Bool}
+use Rattle.cga_fraction.specs.Rat.{Rat}
+use Rattle.cga_fraction.specs.Arithmetic.{divided}
+use Rattle.cga_fraction.specs.Rounding.{IsCeil}
+use Rattle.cga_fraction.specs.declared.overflow.Overflow as Unit
+use Rattle.cga_word.specs.declared.axis.Axis.{Axis}
+use Rattle.cga_frame.specs.Points.{coordinate}
+use Rattle.cga_frame.specs.Scope.{Scope, exists, existing, part_of}
+use Rattle.cga_split.specs.Chains.{as_fault}
+use Rattle.cga_split.specs.Cuts.{IsCut}
+use Rattle.cga_split.specs.Subdiv.{AllFractions, subdiv_cuts}
+use Rattle.cga_split.specs.Repeat.{repeat_cuts}
+use Rattle.cga_split.specs.Split.{part_at, subdiv_of, repeat_of}
+use Rattle.cga_split.specs.declared.part_size.PartSize.{PartSize}
+use Rattle.cga_split.proofs.Subdivs.{subdivided_is}
+use Rattle.cga_split.proofs.RepeatParts.{repeated_is}
+
+existing_is : (s p : Scope) (b : Bool) → as_fault (if b then Ok s else Err (record {})) ≡ Ok p → p ≡ s
+existing_is s p true h = cc
+existing_is s p false h = cc
+
+-- a part that is given is the part
+part_is : (s : Scope) (axis : Axis) (from length : Rat) (p : Scope) → part_at s axis from length ≡ Ok p → p ≡ part_of s axis from length
+unfolding existing
+part_is s axis from length p h = existing_is (part_of s axis from length) p (exists (part_of s axis from length)) h
+
+pub subdiv_is : (s : Scope) (axis : Axis) (sizes : List PartSize) (parts : List Scope) → 0 < length sizes → AllFractions sizes → subdiv_of s axis sizes ≡ Ok parts
+    → IsCut (part_of s axis) (subdiv_cuts (coordinate s.size axis) sizes) (coordinate s.size axis) parts
+subdiv_is s axis [] parts some all h = absurd (omega arith)
+subdiv_is s axis (size ∷ sizes) parts some all h = subdivided_is (part_at s axis) (part_of s axis) (part_is s axis) (coordinate s.size axis) size sizes parts all h
+
+pub repeat_is : (s : Scope) (axis : Axis) (length : Rat) (parts : List Scope) → repeat_of s axis length ≡ Ok parts
+    → (n : ℕ) × IsCeil (divided (coordinate s.size axis) length) (pos n) × IsCut (part_of s axis) (repeat_cuts (coordinate s.size axis) n) (coordinate s.size axis) parts
+repeat_is s axis length parts h = repeated_is (part_at s axis) (part_of s axis) (part_is s axis) (coordinate s.size axis) length parts h

@@ -1,0 +1,6 @@
+pub mod Chains
+pub mod Cuts
+pub mod Subdiv
+pub mod Repeat
+pub mod Split
+pub mod Stops

@@ -1,0 +1,14 @@
+/// Why a scope can't be split so.
+#[derive(Clone, Copy, Debug, PartialEq, Eq)]
+pub enum SplitFault {
+    /// The scope's size along the axis is 0.
+    FlatScope,
+    /// A size, a factor or a length isn't above 0.
+    PartNotPositive,
+    /// The lengths don't fit the scope.
+    SubdivSum,
+    /// More than 10,000 parts.
+    RepeatCount,
+    /// A number leaves the range.
+    Overflow,
+}
