@@ -1,6 +1,7 @@
-ghost use Rattle.std.specs.Prelude.{◌≡◌, ◌≢◌, IfOk, All};
+ghost use Rattle.std.specs.Prelude.{◌≡◌, ◌≢◌, IfOk, OnOk, All, false};
 ghost use Rattle.cga_frame.specs.Box.{box_of};
 ghost use Rattle.cga_frame.specs.Meeting.{IsIn};
+ghost use Rattle.cga_frame.specs.Scope.{has_negative};
 ghost use Rattle.cga_solid.specs.Chains.{then_};
 ghost use Rattle.cga_solid.specs.Corners.{corners_of};
 ghost use Rattle.cga_solid.specs.Faces.{IsClosed};
@@ -89,6 +90,7 @@ fn vertices(alloc: Global, scope: &Scope, form: Form, size: &Point) -> Result<Li
 #[tactic(auto, unfolding(crate::specs::Solids::mesh_of))]
 fn made(alloc: Global, primitive: Primitive, scope: &Scope) -> Result<SolidMesh, Stop>
     ensures value { Makes (mesh_of primitive scope.now) result }
+    ensures sizes { OnOk result (has_negative scope.now.size ≡ false) }
 {
     let size = scope.size();
     if lacks_size(primitive, &size) {
