@@ -2,7 +2,7 @@ ghost use Rattle.std.specs.Prelude.{◌≡◌, ◌∷◌, [], Ok};
 ghost use Rattle.cga_fraction.specs.Arithmetic.{minus};
 ghost use Rattle.cga_solid.specs.Chains.{within};
 ghost use Rattle.cga_solid.specs.Corners.{corners_of, half_of, over_base, point};
-ghost use Rattle.cga_solid.specs.Given.{listed, Lists};
+ghost use Rattle.cga_solid.specs.Listed.{listed, Lists};
 ghost use Rattle.cga_solid.specs.declared.form.Form.TheVariants as form;
 
 use crate::form::Form;
@@ -127,24 +127,25 @@ fn gable_along_z(size: &Point) -> Result<Corners, SolidFault>
     Ok(with_ridge(size, first, point(middle, size.y, size.z)))
 }
 
+// Each end of the ridge is half of the depth away from its side.
 #[tactic(auto, unfolding(crate::specs::Corners::corners_of))]
 fn hip_along_x(size: &Point) -> Result<Corners, SolidFault>
     ensures { Lists (corners_of form.HipAlongX size.now) result }
 {
-    let middle = half(size.z)?;
-    let far = difference(size.x, middle)?;
-    let first = point(middle, size.y, middle);
-    Ok(with_ridge(size, first, point(far, size.y, middle)))
+    let inset = half(size.z)?;
+    let far = difference(size.x, inset)?;
+    let first = point(inset, size.y, inset);
+    Ok(with_ridge(size, first, point(far, size.y, inset)))
 }
 
 #[tactic(auto, unfolding(crate::specs::Corners::corners_of))]
 fn hip_along_z(size: &Point) -> Result<Corners, SolidFault>
     ensures { Lists (corners_of form.HipAlongZ size.now) result }
 {
-    let middle = half(size.x)?;
-    let far = difference(size.z, middle)?;
-    let first = point(middle, size.y, middle);
-    Ok(with_ridge(size, first, point(middle, size.y, far)))
+    let inset = half(size.x)?;
+    let far = difference(size.z, inset)?;
+    let first = point(inset, size.y, inset);
+    Ok(with_ridge(size, first, point(inset, size.y, far)))
 }
 
 #[tactic(auto, unfolding(crate::specs::Corners::corners_of))]

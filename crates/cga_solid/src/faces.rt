@@ -6,11 +6,7 @@ use crate::form::Form;
 use cga_fraction::{List, NoMemory};
 use std::alloc::Global;
 
-fn add_face(
-    alloc: Global,
-    faces: &mut List<List<u32>>,
-    corners: &[u32],
-) -> Result<(), NoMemory>
+fn add_face(alloc: Global, faces: &mut List<List<u32>>, corners: &[u32]) -> Result<(), NoMemory>
     ensures { OnOk result (faces.new ≡ faces.old ++ corners.now ∷ []) }
 {
     let mut face = List::new(alloc);

@@ -10,6 +10,8 @@ mod solid;
 mod solid_fault;
 mod solid_mesh;
 mod stop;
+#[cfg(test)]
+mod tests;
 
 pub use solid::{check_solid, mesh};
 pub use solid_fault::SolidFault;
