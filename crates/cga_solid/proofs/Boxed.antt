@@ -1,11 +1,10 @@
 -- What is local to a scope is placed in its box, and meshes are closed.
-use Rattle.std.proofs.Common.{◌≡◌, ◌≢◌, ℕ, zero, suc, ◌+◌, ◌*◌, ◌<◌, ◌≤◌, List, [], ◌∷◌, length, get_or, Bool, true, false, refl, sym, ap, ◌∙◌, subst, arith, Ok, Err, Result, All}
+use Rattle.std.proofs.Common.{◌≡◌, ◌≢◌, List, [], ◌∷◌, Bool, true, false, refl, subst, arith, Ok, Err, Result, All}
 use Rattle.std.proofs.lemmas.List.Elements.{All-nil, All-cons}
 use Rattle.std.specs.Prelude.{IsTrue, if◌then◌else◌}
-use Rattle.cga_fraction.specs.Rat.{Rat, den, zero_rat}
-use Rattle.cga_fraction.specs.Order.{rat_le, rat_lt, rat_min, rat_max, positive_part, negative_part}
+use Rattle.cga_fraction.specs.Rat.{Rat, zero_rat}
+use Rattle.cga_fraction.specs.Order.{rat_le, rat_lt, rat_min, rat_max}
 use Rattle.cga_fraction.specs.Arithmetic.{plus, minus}
-use Rattle.cga_fraction.specs.declared.overflow.Overflow as Unit
 use Rattle.cga_fraction.proofs.Diffs.{itself, le_diff, plus_diff, plus_le, minus_diff, minus_le}
 use Rattle.cga_fraction.proofs.Laws.{min_below, max_above}
 use Rattle.cga_fraction.proofs.Order.{le_trans}
@@ -19,9 +18,9 @@ use Rattle.cga_frame.specs.Points.{coordinate, checked_point, point_in_range}
 use Rattle.cga_frame.specs.Scope.{Scope, has_negative, moved, moved_along, place_of}
 use Rattle.cga_frame.specs.declared.point.Point.{Point}
 use Rattle.cga_frame.specs.declared.signed.Signed.{Signed}
-use Rattle.cga_solid.specs.Chains.{then_, refused_if, as_fault}
+use Rattle.cga_solid.specs.Chains.{refused_if, as_fault}
 use Rattle.cga_solid.specs.Corners.{corners_of}
-use Rattle.cga_solid.specs.Faces.{faces_of, IsClosed}
+use Rattle.cga_solid.specs.Faces.{IsClosed}
 use Rattle.cga_solid.specs.Solids.{all_placed, form_of, lacks_size, mesh_in, mesh_of, placed, vertices_of}
 use Rattle.cga_solid.specs.declared.form.Form.{Form}
 use Rattle.cga_solid.specs.declared.form.Form.TheVariants as form

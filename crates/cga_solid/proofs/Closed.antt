@@ -1,6 +1,6 @@
 -- Closedness by one computed test.
-use Rattle.std.proofs.Common.{◌≡◌, ◌≢◌, ◌<◌, get_or, zero, suc, length, ap, sym, ◌∙◌, ℕ, List, [], ◌∷◌, Bool, true, false, ◌&&◌, refl, arith}
-use Rattle.std.specs.Prelude.{nat_eq, IsTrue, Contains}
+use Rattle.std.proofs.Common.{◌≡◌, ◌≢◌, ◌<◌, get_or, zero, suc, length, ap, sym, ◌∙◌, ℕ, List, [], ◌∷◌, Bool, true, ◌&&◌, refl, arith}
+use Rattle.std.specs.Prelude.{nat_eq}
 use Rattle.std.specs.List.{list_all}
 use Rattle.std.proofs.lemmas.Bool.Decides.{nat_tests}
 use Rattle.cga_solid.specs.declared.form.Form.{Form}

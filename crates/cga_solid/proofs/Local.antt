@@ -1,5 +1,5 @@
 -- The corners of a solid lie between 0 and the scope's size.
-use Rattle.std.proofs.Common.{◌≡◌, List, [], ◌∷◌, Bool, true, false, refl, sym, ap, ◌∙◌, subst, Ok, Err, Result}
+use Rattle.std.proofs.Common.{◌≡◌, List, [], ◌∷◌, Bool, true, false, refl, ap, ◌∙◌, subst, Ok, Err, Result}
 use Rattle.std.specs.Prelude.{IsTrue, not, ◌||◌, if◌then◌else◌}
 use Rattle.cga_fraction.specs.Rat.{Rat, zero_rat}
 use Rattle.cga_fraction.specs.Order.{rat_le, rat_lt}

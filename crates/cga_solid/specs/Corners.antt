@@ -1,5 +1,5 @@
 -- The corners of the solids, in local coordinates.
-use Rattle.std.specs.Prelude.{List, [], ◌∷◌, ◌++◌, Result, Ok, pos}
+use Rattle.std.specs.Prelude.{List, [], ◌∷◌, Result, Ok, pos}
 use Rattle.cga_fraction.specs.Rat.{Rat, of_int, zero_rat}
 use Rattle.cga_fraction.specs.Arithmetic.{minus, divided}
 use Rattle.cga_frame.specs.declared.point.Point.{Point}

@@ -1,5 +1,5 @@
 -- The faces of the solids, and closedness.
-use Rattle.std.specs.Prelude.{◌≡◌, ℕ, List, [], ◌∷◌, Bool, ◌&&◌, nat_eq, flat_map, count_by, Contains}
+use Rattle.std.specs.Prelude.{◌≡◌, ℕ, List, [], ◌∷◌, ◌&&◌, nat_eq, flat_map, count_by, Contains}
 use Rattle.cga_solid.specs.declared.form.Form.{Form}
 use Rattle.cga_solid.specs.declared.form.Form.TheVariants.{Cube, Shed, GableAlongX, GableAlongZ, HipAlongX, HipAlongZ, Pyramid, Quad}
 

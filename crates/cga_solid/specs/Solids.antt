@@ -1,5 +1,5 @@
 -- Solids in a scope.
-use Rattle.std.specs.Prelude.{ℕ, List, [], ◌∷◌, Bool, ◌||◌, not, Result, Ok, if◌then◌else◌}
+use Rattle.std.specs.Prelude.{List, [], ◌∷◌, Bool, ◌||◌, not, Result, Ok, if◌then◌else◌}
 use Rattle.cga_fraction.specs.Rat.{Rat, zero_rat}
 use Rattle.cga_fraction.specs.Order.{rat_le, rat_lt}
 use Rattle.cga_frame.specs.Points.{checked_point}
