@@ -18,7 +18,7 @@ fn scope(rt: &impl Abort, size: Point) -> Scope {
 }
 
 #[test]
-fn hips(rt: HostRuntime) -> Result<(), Fail> {
+fn long_hip(rt: HostRuntime) -> Result<(), Fail> {
     let long = scope(&rt, point(12, 3, 8));
     let vertices = [
         point(0, 0, 0),
@@ -31,6 +31,11 @@ fn hips(rt: HostRuntime) -> Result<(), Fail> {
     let hip = mesh(rt.alloc(), Primitive::Hip, &long)?.expect(&rt, "a hip");
     assert_eq!(rt; hip.vertices.as_slice(), vertices.as_slice());
     assert_eq!(rt; check_solid(Primitive::Hip, &long), Ok(()));
+    Ok(())
+}
+
+#[test]
+fn square_hip(rt: HostRuntime) -> Result<(), Fail> {
     let square = scope(&rt, point(8, 3, 8));
     let hip = mesh(rt.alloc(), Primitive::Hip, &square)?.expect(&rt, "a hip");
     assert_eq!(rt; hip.vertices.len(), 5);
@@ -40,6 +45,11 @@ fn hips(rt: HostRuntime) -> Result<(), Fail> {
     );
     assert_eq!(rt; hip.faces.len(), 5);
     assert_eq!(rt; check_solid(Primitive::Hip, &square), Ok(()));
+    Ok(())
+}
+
+#[test]
+fn flat_hip(rt: HostRuntime) -> Result<(), Fail> {
     let lot = scope(&rt, point(10, 0, 8));
     let fault = mesh(rt.alloc(), Primitive::Hip, &lot)?.expect_err(&rt, "flat");
     assert_eq!(rt; fault, SolidFault::FlatScope);
