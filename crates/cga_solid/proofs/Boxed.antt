@@ -1,0 +1,123 @@
+-- What is local to a scope is placed in its box, and meshes are closed.
+use Rattle.std.proofs.Common.{◌≡◌, ◌≢◌, List, [], ◌∷◌, Bool, true, false, refl, subst, arith, Ok, Err, Result, All}
+use Rattle.std.proofs.lemmas.List.Elements.{All-nil, All-cons}
+use Rattle.std.specs.Prelude.{IsTrue, if◌then◌else◌}
+use Rattle.cga_fraction.specs.Rat.{Rat, zero_rat}
+use Rattle.cga_fraction.specs.Order.{rat_le, rat_lt, rat_min, rat_max}
+use Rattle.cga_fraction.specs.Arithmetic.{plus, minus}
+use Rattle.cga_fraction.proofs.Diffs.{itself, le_diff, plus_diff, plus_le, minus_diff, minus_le}
+use Rattle.cga_fraction.proofs.Laws.{min_below, max_above}
+use Rattle.cga_fraction.proofs.Order.{le_trans}
+use Rattle.cga_word.specs.declared.axis.Axis.{Axis}
+use Rattle.cga_word.specs.declared.axis.Axis.TheVariants.{X, Y, Z}
+use Rattle.cga_word.specs.declared.primitive.Primitive.{Primitive}
+use Rattle.cga_word.specs.declared.primitive.Primitive.TheVariants as primitive
+use Rattle.cga_frame.specs.Box.{box_of}
+use Rattle.cga_frame.specs.Meeting.{IsBetween, IsIn}
+use Rattle.cga_frame.specs.Points.{coordinate, checked_point, point_in_range}
+use Rattle.cga_frame.specs.Scope.{Scope, has_negative, moved, moved_along, place_of}
+use Rattle.cga_frame.specs.declared.point.Point.{Point}
+use Rattle.cga_frame.specs.declared.signed.Signed.{Signed}
+use Rattle.cga_solid.specs.Chains.{refused_if, as_fault}
+use Rattle.cga_solid.specs.Corners.{corners_of}
+use Rattle.cga_solid.specs.Faces.{IsClosed}
+use Rattle.cga_solid.specs.Solids.{all_placed, form_of, lacks_size, mesh_in, mesh_of, placed, vertices_of}
+use Rattle.cga_solid.specs.declared.form.Form.{Form}
+use Rattle.cga_solid.specs.declared.form.Form.TheVariants as form
+use Rattle.cga_solid.specs.declared.solid_fault.SolidFault.{SolidFault}
+use Rattle.cga_solid.specs.declared.solid_mesh.SolidMesh.{SolidMesh}
+use Rattle.cga_solid.proofs.Closed.{all_close}
+use Rattle.cga_solid.proofs.Halves.{IsWithin}
+use Rattle.cga_solid.proofs.Local.{AllLocal, IsLocal, corners_local, same_ok, sizes, then_ok}
+
+-- ---- along one axis
+
+low_end : (a b : Rat) → IsTrue (rat_le zero_rat b) → IsTrue (rat_le a (plus a b))
+low_end a b h = le_trans a (plus a zero_rat) (plus a b) (le_diff a (plus a zero_rat) _ _ _ _ _ _ (itself a) (plus_diff a zero_rat) (omega arith)) (plus_le a zero_rat b h)
+
+high_end : (a b : Rat) → IsTrue (rat_le zero_rat b) → IsTrue (rat_le (minus a b) a)
+high_end a b h = le_trans (minus a b) (minus a zero_rat) a (minus_le a zero_rat b h) (le_diff (minus a zero_rat) a _ _ _ _ _ _ (minus_diff a zero_rat) (itself a) (omega arith))
+
+moved_inside : (against : Bool) (p x size : Rat) → IsWithin x size → IsBetween (moved against p x) (rat_min p (moved against p size)) (rat_max p (moved against p size))
+moved_inside false p x size w = record {
+  from = le_trans (rat_min p (plus p size)) p (plus p x) (min_below p (plus p size)).0 (low_end p x w.low);
+  to = le_trans (plus p x) (plus p size) (rat_max p (plus p size)) (plus_le p x size w.high) (max_above p (plus p size)).1;
+}
+moved_inside true p x size w = record {
+  from = le_trans (rat_min p (minus p size)) (minus p size) (minus p x) (min_below p (minus p size)).1 (minus_le p x size w.high);
+  to = le_trans (minus p x) p (rat_max p (minus p size)) (high_end p x w.low) (max_above p (minus p size)).0;
+}
+
+along : (c size : Point) (axis : Axis) → IsLocal c size → IsWithin (coordinate c axis) (coordinate size axis)
+along c size X l = l.x
+along c size Y l = l.y
+along c size Z l = l.z
+
+one_axis : (s : Signed) (p : Rat) (c size : Point) → IsLocal c size → IsBetween (moved_along s p c) (rat_min p (moved_along s p size)) (rat_max p (moved_along s p size))
+one_axis s p c size l = moved_inside s.against p (coordinate c s.axis) (coordinate size s.axis) (along c size s.axis l)
+
+-- ---- in the box
+
+in_box : (s : Scope) (c : Point) → IsLocal c s.size → IsIn (place_of s.at s.frame c) (box_of s)
+unfolding place_of
+in_box s c l = record {
+  x = one_axis s.frame.x s.at.x c s.size l;
+  y = one_axis s.frame.y s.at.y c s.size l;
+  z = one_axis s.frame.z s.at.z c s.size l;
+}
+
+point_is : (p v : Point) (b : Bool) → ◌≡◌ {A = Result Point SolidFault} (as_fault (if b then Ok p else Err (record {}))) (Ok v) → p ≡ v
+point_is p v true h = same_ok p v h
+point_is p v false h = absurd (cc)
+
+placed_is : (s : Scope) (c v : Point) → placed s c ≡ Ok v → place_of s.at s.frame c ≡ v
+unfolding checked_point
+placed_is s c v h = point_is (place_of s.at s.frame c) v (point_in_range (place_of s.at s.frame c)) h
+
+all_in : (s : Scope) (cs vs : List Point) → AllLocal s.size cs → all_placed s cs ≡ Ok vs → All (λ v. IsIn v (box_of s)) vs
+all_in s [] vs l h = subst (λ (ws : List Point). All (λ v. IsIn v (box_of s)) ws) (same_ok [] vs h) (All-nil (λ v. IsIn v (box_of s)))
+all_in s (c ∷ cs) vs l h =
+    let a = then_ok (placed s c) _ vs h in
+    let b = then_ok (all_placed s cs) _ vs a.2 in
+    let first : IsIn a.0 (box_of s) = subst (λ (v : Point). IsIn v (box_of s)) (placed_is s c a.0 a.1) (in_box s c l.0) in
+    let more : All (λ v. IsIn v (box_of s)) b.0 = all_in s cs b.0 l.1 b.1 in
+    subst (λ (ws : List Point). All (λ v. IsIn v (box_of s)) ws) (same_ok (a.0 ∷ b.0) vs b.2) (All-cons (λ v. IsIn v (box_of s)) a.0 b.0 first more)
+
+-- ---- of meshes
+
+not_refused : {A F : Type 0} (test : Bool) (fault : F) (more : Result A F) (y : A) → refused_if test fault more ≡ Ok y → more ≡ Ok y
+not_refused true fault more y h = absurd (cc)
+not_refused false fault more y h = h
+
+-- a mesh that is given has the vertices and the faces of its form
+mesh_is : (kind : Primitive) (s : Scope) (m : SolidMesh) → mesh_of kind s ≡ Ok m → (vs : List Point) × (vertices_of (form_of kind s.size) s ≡ Ok vs) × (mesh_in (form_of kind s.size) vs ≡ m)
+unfolding mesh_of
+mesh_is kind s m h =
+    let a = then_ok (vertices_of (form_of kind s.size) s) _ m (not_refused (lacks_size kind s.size) _ _ m h) in (a.0, a.1, same_ok _ m a.2)
+
+gable_solid : (b : Bool) → ◌≡◌ {A = Form} (if b then form.GableAlongX else form.GableAlongZ) form.Quad → ⊥
+gable_solid true h = cc
+gable_solid false h = cc
+
+hip_solid : (b c : Bool) → ◌≡◌ {A = Form} (if b then form.HipAlongX else (if c then form.HipAlongZ else form.Pyramid)) form.Quad → ⊥
+hip_solid true c h = cc
+hip_solid false true h = cc
+hip_solid false false h = cc
+
+no_quad : (kind : Primitive) (s : Point) → kind ≢ primitive.Quad → form_of kind s ≢ form.Quad
+no_quad primitive.Cube s n h = cc
+no_quad primitive.Quad s n h = n refl
+no_quad primitive.Shed s n h = cc
+no_quad primitive.Gable s n h = gable_solid (rat_le s.z s.x) h
+no_quad primitive.Hip s n h = hip_solid (rat_lt s.z s.x) (rat_lt s.x s.z) h
+
+pub mesh_closed : (kind : Primitive) (s : Scope) (m : SolidMesh) → mesh_of kind s ≡ Ok m → kind ≢ primitive.Quad → IsClosed m.faces
+mesh_closed kind s m h n =
+    let a = mesh_is kind s m h in
+    subst (λ (k : SolidMesh). IsClosed k.faces) a.2 (all_close (form_of kind s.size) (no_quad kind s.size n))
+
+pub mesh_inside : (kind : Primitive) (s : Scope) (m : SolidMesh) → has_negative s.size ≡ false → mesh_of kind s ≡ Ok m → All (λ v. IsIn v (box_of s)) m.vertices
+mesh_inside kind s m size h =
+    let a = mesh_is kind s m h in
+    let b = then_ok (corners_of (form_of kind s.size) s.size) _ a.0 a.1 in
+    subst (λ (k : SolidMesh). All (λ v. IsIn v (box_of s)) k.vertices) a.2 (all_in s b.0 a.0 (corners_local kind s.size b.0 (sizes s.size size) b.1) b.2)

@@ -1,0 +1,4 @@
+pub mod Boxed
+pub mod Closed
+pub mod Halves
+pub mod Local

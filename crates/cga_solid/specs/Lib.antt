@@ -1,0 +1,6 @@
+pub mod Chains
+pub mod Corners
+pub mod Faces
+pub mod Listed
+pub mod Solids
+pub mod Stops
