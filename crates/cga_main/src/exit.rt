@@ -1,3 +1,6 @@
+ghost use Rattle.std.specs.Prelude.{◌≡◌};
+ghost use Rattle.cga_main.specs.Exits.{number_of};
+
 use cga_top::Status;
 
 /// The exit status, and the line for standard error, which is empty where all is well.
@@ -18,7 +21,9 @@ pub(crate) const UNREADABLE: Exit = Exit {
     line: "cga_city: cannot read the command line",
 };
 
-pub(crate) fn exit_of(status: Status) -> Exit {
+pub(crate) fn exit_of(status: Status) -> Exit
+    ensures { result.status ≡ number_of status }
+{
     let (status, line) = match status {
         Status::Done => (0, ""),
         Status::Usage => (2, "usage: cga_city [--decimals N] [--town N]"),
