@@ -9,7 +9,7 @@ use crate::fault::Stop;
 use crate::first::with_first;
 use crate::heads::ScopeWord;
 use crate::tokens::Tokens;
-use crate::words;
+use crate::{texts, words};
 use cga_fraction::List;
 use cga_lexer::Sign;
 use cga_syntax::{Cond, Conj, Expr, Factor, Keyword, Primary, Term, Test};
@@ -40,10 +40,10 @@ fn occ_parts(tokens: &mut Tokens<'_>, depth: u8) -> Result<(Target, bool, Answer
     ensures { Reads (spec.occ_parts depth (spec.inner_of depth) (input_of tokens.old)) result (input_of tokens.new) }
 {
     tokens.enter(Sign::LeftRound, depth)?;
-    let target = tokens.take(words::target(tokens.peek()))?;
+    let target = tokens.take(texts::target(tokens.peek()))?;
     tokens.sign(Sign::RightRound)?;
     let equal = tokens.take(words::equality(tokens.peek()))?;
-    let state = tokens.take(words::state(tokens.peek()))?;
+    let state = tokens.take(texts::state(tokens.peek()))?;
     Ok((target, equal, state))
 }
 

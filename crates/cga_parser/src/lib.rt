@@ -17,6 +17,7 @@ mod parts;
 pub mod rule;
 #[cfg(test)]
 mod tests;
+mod texts;
 pub mod tokens;
 mod words;
 

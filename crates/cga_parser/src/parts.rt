@@ -11,7 +11,7 @@ use crate::fault::Stop;
 use crate::first::with_first;
 use crate::heads::SelectorHead;
 use crate::tokens::Tokens;
-use crate::words;
+use crate::{texts, words};
 use cga_fraction::List;
 use cga_lexer::Sign;
 use cga_syntax::{Expr, Size};
@@ -106,7 +106,7 @@ pub(crate) fn solid_part(tokens: &mut Tokens<'_>, depth: u8) -> Result<Primitive
     ensures { Reads (spec.solid_part depth (spec.inside_of depth) (input_of tokens.old)) result (input_of tokens.new) }
 {
     tokens.enter(Sign::LeftRound, depth)?;
-    let solid = tokens.take(words::solid(tokens.peek()))?;
+    let solid = tokens.take(texts::solid(tokens.peek()))?;
     tokens.sign(Sign::RightRound)?;
     Ok(solid)
 }
@@ -141,7 +141,7 @@ pub(crate) fn split_parts(
     ensures { Reads (spec.split_parts depth (spec.inside_of depth) (input_of tokens.old)) result (input_of tokens.new) }
 {
     tokens.enter(Sign::LeftRound, depth)?;
-    let axis = tokens.take(words::axis(tokens.peek()))?;
+    let axis = tokens.take(texts::axis(tokens.peek()))?;
     let first = further_size(alloc, tokens, depth)?;
     let rest = further_sizes(alloc, tokens, depth)?;
     tokens.sign(Sign::RightRound)?;
@@ -158,7 +158,7 @@ pub(crate) fn repeat_parts(
     ensures { Reads (spec.repeat_parts depth (spec.inside_of depth) (input_of tokens.old)) result (input_of tokens.new) }
 {
     tokens.enter(Sign::LeftRound, depth)?;
-    let axis = tokens.take(words::axis(tokens.peek()))?;
+    let axis = tokens.take(texts::axis(tokens.peek()))?;
     tokens.sign(Sign::Comma)?;
     let length = inside(alloc, tokens, depth)?;
     tokens.sign(Sign::RightRound)?;
@@ -173,7 +173,7 @@ fn selector_rest(tokens: &mut Tokens<'_>, head: SelectorHead) -> Result<Selector
         SelectorHead::Sidefaces => Ok(Selector::Sidefaces),
         SelectorHead::Face => {
             tokens.sign(Sign::Comma)?;
-            let side = tokens.take(words::side(tokens.peek()))?;
+            let side = tokens.take(texts::side(tokens.peek()))?;
             Ok(Selector::Face(side))
         }
         SelectorHead::Edges => Ok(Selector::Edges),
@@ -190,7 +190,7 @@ fn selector_rest(tokens: &mut Tokens<'_>, head: SelectorHead) -> Result<Selector
 fn selector(tokens: &mut Tokens<'_>) -> Result<Selector, Stop>
     ensures { Reads (spec.selector (input_of tokens.old)) result (input_of tokens.new) }
 {
-    let head = tokens.take(words::selector(tokens.peek()))?;
+    let head = tokens.take(texts::selector(tokens.peek()))?;
     selector_rest(tokens, head)
 }
 
