@@ -1,9 +1,11 @@
--- The exit statuses.
+-- The words of the command line, and the exit statuses.
 use Rattle.std.specs.Prelude.{ℕ}
+use Rattle.std.specs.declared.io.ErrorKind.{ErrorKind}
+use Rattle.std.specs.declared.io.ErrorKind.TheVariants as kind
 use Rattle.cga_top.specs.declared.status.Status.{Status}
 use Rattle.cga_top.specs.declared.status.Status.TheVariants.{Done, Usage, ReadFault, WriteFault, TooLong, NoMemory}
 
--- the exit status for each end of a run; 7 stands for words that aren't text
+-- the exit status for each end of a run
 abbrev pub number_of : Status → ℕ
 number_of Done = 0
 number_of Usage = 2
@@ -11,3 +13,8 @@ number_of ReadFault = 3
 number_of WriteFault = 4
 number_of TooLong = 5
 number_of NoMemory = 6
+
+-- the exit status where the system doesn't give the words: it finds no memory, or they aren't text
+abbrev pub refusal_of : ErrorKind → ℕ
+refusal_of kind.OutOfMemory = 6
+refusal_of _ = 7

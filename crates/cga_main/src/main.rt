@@ -1,16 +1,27 @@
 // The program: replies to the script on standard input. It knows the system's input and output, its words and
 // exit statuses, and nothing of lines, rules or lots. Replies go through a buffer that is flushed after each
 // read, so that a person who types is answered at once and a long script isn't written line by line.
+// The one thing to get wrong: `main` alone has no contract, so it only hands on what the other functions answer.
 #![tactic(auto)]
 
-ghost use Rattle.std.specs.Prelude.{◌≡◌, ◌<◌};
+ghost use Rattle.std.specs.Prelude.{◌≡◌, ◌<◌, ◌≤◌, ◌↔◌, ◌⊎◌, ℕ, length, IfSome, IsFalse, IfOk, IfErr, IsErrAnd, MatchResult};
+ghost use Rattle.std.specs.Io.KnownBytes.{Appends};
+ghost use Rattle.std.specs.Process.{exit_status};
+ghost use Rattle.cga_outside.specs.Causes.{Rose};
+ghost use Rattle.cga_top.specs.Output.{output_of};
+ghost use Rattle.cga_top.specs.Top.{Outside, StatusMeans, HoldsFew};
+ghost use Rattle.std.specs.Vec.Iter.{into_iter_items};
+ghost use Rattle.std.specs.IoError.{error_kind};
+ghost use Rattle.cga_main.specs.Exits.{refusal_of};
 
 mod exit;
 
 use cga_fraction::Steps;
-use cga_outside::{StdSink, StdSource};
+use cga_outside::{Sink, Source, StdSink, StdSource};
 use cga_top::{Status, run_city};
 use exit::{Exit, OUT_OF_MEMORY, UNREADABLE, exit_of};
+use std::alloc::Global;
+use std::env::Args;
 use std::io::{BufWriter, ErrorKind};
 use std::marker::Brand;
 use std::process::ExitCode;
@@ -18,46 +29,74 @@ use std::sync::ledger::{Blank, Ledger};
 use std::{env, io};
 
 // The words of the command line, the program's name first.
-fn words(rt: &HostRuntime) -> Result<Vec<String>, Exit> {
-    match env::args(rt) {
-        Ok(words) => words.collect(rt.alloc()).map_err(|_| OUT_OF_MEMORY),
+fn words(alloc: Global, found: io::Result<Args>) -> Result<Vec<String>, Exit>
+    ensures given { IfOk found (λ given.
+        MatchResult result (λ words. words.items ≡ into_iter_items given) (λ exit. exit.status ≡ 6)) }
+    ensures refused { IfErr found (λ error.
+        IsErrAnd result (λ exit. exit.status ≡ refusal_of (error_kind error))) }
+{
+    match found {
+        Ok(words) => match words.collect(alloc) {
+            Ok(words) => Ok(words),
+            Err(_) => Err(OUT_OF_MEMORY),
+        },
         Err(error) if error.kind() == ErrorKind::OutOfMemory => Err(OUT_OF_MEMORY),
         Err(_) => Err(UNREADABLE),
     }
 }
 
-// Replies to standard input, with counters over these ledgers.
-fn run<E: Ledger, T: Ledger>(
+// Replies to a script, with counters over these ledgers, which begin at 0.
+fn run<S: Source, K: Sink, E: Ledger, T: Ledger>(
     rt: &mut HostRuntime,
     words: &[String],
+    script: &mut S,
+    out: &mut K,
     expansions: Blank,
     tests: Blank,
 ) -> Status
+    requires open { IsFalse (S.ended script.old) }
     requires expansions_name { expansions.name ≡ E.name }
     requires expansions_parts { expansions.parts ≡ E.parts }
     requires expansions_some { 0 < expansions.parts }
     requires tests_name { tests.name ≡ T.name }
     requires tests_parts { tests.parts ≡ T.parts }
     requires tests_some { 0 < tests.parts }
+    ensures headline { result ≡ Status.Done
+        → IfSome (S.left script.old) (λ bytes. Appends (K.held out.old) (K.held out.new)
+        (output_of bytes)) }
+    ensures means { (expanded : ℕ) × StatusMeans result
+        (record {
+          left = S.left script.old;
+          ended = S.ended script.old;
+          reads_failed = S.faults script.old;
+          held = K.held out.old;
+          flushed = K.flushed out.old;
+          writes_failed = K.faults out.old;
+          expanded = 0;
+        })
+        (record {
+          left = S.left script.new;
+          ended = S.ended script.new;
+          reads_failed = S.faults script.new;
+          held = K.held out.new;
+          flushed = K.flushed out.new;
+          writes_failed = K.faults out.new;
+          expanded = expanded;
+        }) }
+    ensures usage { (result ≡ Status.Usage) ↔ (1 < length words.now) }
+    ensures complete { length words.now ≤ 1 → HoldsFew (S.left script.old)
+        → (Rose (S.faults script.old) (S.faults script.new) → ⊥)
+        → (Rose (K.faults out.old) (K.faults out.new) → ⊥)
+        → (result ≡ Status.Done) ⊎ (result ≡ Status.NoMemory) }
 {
     let mut expansions = Steps::<E>::new(rt, expansions);
     let mut tests = Steps::<T>::new(rt, tests);
-    let Ok(writer) = BufWriter::new(rt.alloc(), io::writer(rt)) else {
-        return Status::NoMemory;
-    };
-    let mut script = StdSource::new(rt.reader());
-    let mut out = StdSink::new(writer);
-    run_city(
-        rt.alloc(),
-        words,
-        &mut script,
-        &mut out,
-        &mut expansions,
-        &mut tests,
-    )
+    run_city(rt.alloc(), words, script, out, &mut expansions, &mut tests)
 }
 
-fn end(rt: &HostRuntime, exit: Exit) -> ExitCode {
+fn end(rt: &HostRuntime, exit: Exit) -> ExitCode
+    ensures { exit_status result ≡ exit.status }
+{
     if !exit.line.is_empty() {
         let _ = eprintln!(rt; "{}", exit.line);
     }
@@ -65,16 +104,23 @@ fn end(rt: &HostRuntime, exit: Exit) -> ExitCode {
 }
 
 fn main(mut rt: HostRuntime) -> ExitCode {
-    match words(&rt) {
-        Ok(words) => {
-            let status = run::<Brand, Brand>(
-                &mut rt,
-                words.as_slice(),
-                Blank::new(1),
-                Blank::new(1),
-            );
-            end(&rt, exit_of(status))
-        }
-        Err(exit) => end(&rt, exit),
-    }
+    let exit = match words(rt.alloc(), env::args(&rt)) {
+        Ok(words) => match BufWriter::new(rt.alloc(), rt.stdout()) {
+            Ok(writer) => {
+                let mut script = StdSource::new(rt.reader());
+                let mut out = StdSink::new(writer);
+                exit_of(run::<_, _, Brand, Brand>(
+                    &mut rt,
+                    words.as_slice(),
+                    &mut script,
+                    &mut out,
+                    Blank::new(1),
+                    Blank::new(1),
+                ))
+            }
+            Err(_) => OUT_OF_MEMORY,
+        },
+        Err(exit) => exit,
+    };
+    end(&rt, exit)
 }
