@@ -122,13 +122,13 @@ numeral ds h e =
 few_digits : (n : ℕ) → n ≤ 18 → nat_le n 18 ≡ true
 few_digits n h = grind (arith, leb_tells n 18)
 
-reads_whole : (ds : List ℕ) → 0 < length ds → list_all is_ascii_digit ds ≡ true → length ds ≤ 18 → decimal_of ds ≡ Ok (reduced (pos (digits_value 10 ds)) 1)
+pub reads_whole : (ds : List ℕ) → 0 < length ds → list_all is_ascii_digit ds ≡ true → length ds ≤ 18 → decimal_of ds ≡ Ok (reduced (pos (digits_value 10 ds)) 1)
 unfolding decimal_of
 reads_whole ds h e few =
     let k : length ds + 0 ≤ 18 = omega arith in
     rw (position_alone ds e, numeral ds h e, few_digits (length ds + 0) k, append-nil ds) refl
 
-reads_parts : (ds ps : List ℕ) → 0 < length ds → list_all is_ascii_digit ds ≡ true → 0 < length ps → list_all is_ascii_digit ps ≡ true → length ds + length ps ≤ 18
+pub reads_parts : (ds ps : List ℕ) → 0 < length ds → list_all is_ascii_digit ds ≡ true → 0 < length ps → list_all is_ascii_digit ps ≡ true → length ds + length ps ≤ 18
     → decimal_of (ds ++ 46 ∷ ps) ≡ Ok (reduced (pos (digits_value 10 (ds ++ ps))) (10 ^ length ps))
 unfolding decimal_of
 reads_parts ds ps h e k f few =

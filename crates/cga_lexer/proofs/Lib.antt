@@ -1,3 +1,4 @@
 pub mod Running
 pub mod Lexing
 pub mod Names
+pub mod Numbers

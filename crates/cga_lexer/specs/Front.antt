@@ -32,6 +32,13 @@ number_len text = run is_ascii_digit text + with_point (decimals (drop (run is_a
 abbrev pub digit_count : List ℕ → ℕ
 digit_count text = run is_ascii_digit text + decimals (drop (run is_ascii_digit text) text)
 
+-- the digits before the point, and those after it
+abbrev pub before : List ℕ → List ℕ
+before text = take (run is_ascii_digit text) text
+
+abbrev pub behind : List ℕ → List ℕ
+behind text = take (decimals (drop (run is_ascii_digit text) text)) (drop (run is_ascii_digit text + 1) text)
+
 -- an r that no letter, digit or _ follows
 abbrev pub is_mark : List ℕ → Bool
 is_mark [] = false

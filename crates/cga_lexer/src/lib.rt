@@ -10,6 +10,7 @@ ghost use Rattle.cga_lexer.specs.Line.{tokens_of, Rise};
 mod bytes;
 pub mod fault;
 pub mod front;
+mod laws;
 mod number;
 pub mod sign;
 #[cfg(test)]
@@ -19,6 +20,7 @@ pub mod token;
 use cga_fraction::{List, NoMemory};
 pub use fault::LexFault;
 use front::{Front, look_at};
+pub use laws::numbers_have_values;
 pub use sign::Sign;
 use std::alloc::Global;
 pub use token::{Token, TokenKind};
