@@ -1,5 +1,6 @@
 // Exact fractions, and the small types that every crate above shares: lists and boxes that contracts see as
-// what they hold, the answer for want of memory, and counters of steps. It knows nothing of shapes or scopes.
+// what they hold, the answers for want of memory and for an early stop, and counters of steps. It knows nothing of
+// shapes or scopes.
 // The one thing that callers get wrong: a result that leaves the range is refused, and never rounded.
 #![tactic(auto)]
 
@@ -10,6 +11,7 @@ mod list;
 mod memory;
 mod overflow;
 mod steps;
+mod stop;
 #[cfg(test)]
 mod tests;
 
@@ -19,3 +21,4 @@ pub use list::List;
 pub use memory::NoMemory;
 pub use overflow::{DivFault, Overflow};
 pub use steps::Steps;
+pub use stop::Stop;

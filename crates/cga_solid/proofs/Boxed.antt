@@ -18,7 +18,8 @@ use Rattle.cga_frame.specs.Points.{coordinate, checked_point, point_in_range}
 use Rattle.cga_frame.specs.Scope.{Scope, has_negative, moved, moved_along, place_of}
 use Rattle.cga_frame.specs.declared.point.Point.{Point}
 use Rattle.cga_frame.specs.declared.signed.Signed.{Signed}
-use Rattle.cga_solid.specs.Chains.{refused_if, as_fault}
+use Rattle.cga_fraction.specs.Chains.{refused_if}
+use Rattle.cga_solid.specs.Chains.{as_fault}
 use Rattle.cga_solid.specs.Corners.{corners_of}
 use Rattle.cga_solid.specs.Faces.{IsClosed}
 use Rattle.cga_solid.specs.Solids.{all_placed, form_of, lacks_size, mesh_in, mesh_of, placed, vertices_of}

@@ -9,7 +9,8 @@ use Rattle.cga_frame.specs.Scope.{has_negative}
 use Rattle.cga_frame.specs.declared.point.Point.{Point}
 use Rattle.cga_word.specs.declared.primitive.Primitive.{Primitive}
 use Rattle.cga_word.specs.declared.primitive.Primitive.TheVariants as primitive
-use Rattle.cga_solid.specs.Chains.{then_, within}
+use Rattle.cga_fraction.specs.Chains.{then_}
+use Rattle.cga_solid.specs.Chains.{within}
 use Rattle.cga_solid.specs.Corners.{corners_of, half_of, over_base, point, two}
 use Rattle.cga_solid.specs.Solids.{form_of}
 use Rattle.cga_solid.specs.declared.form.Form.TheVariants.{Cube, Shed, GableAlongX, GableAlongZ, HipAlongX, HipAlongZ, Pyramid, Quad}

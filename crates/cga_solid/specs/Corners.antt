@@ -3,7 +3,8 @@ use Rattle.std.specs.Prelude.{List, [], ◌∷◌, Result, Ok, pos}
 use Rattle.cga_fraction.specs.Rat.{Rat, of_int, zero_rat}
 use Rattle.cga_fraction.specs.Arithmetic.{minus, divided}
 use Rattle.cga_frame.specs.declared.point.Point.{Point}
-use Rattle.cga_solid.specs.Chains.{then_, within}
+use Rattle.cga_fraction.specs.Chains.{then_}
+use Rattle.cga_solid.specs.Chains.{within}
 use Rattle.cga_solid.specs.declared.form.Form.{Form}
 use Rattle.cga_solid.specs.declared.form.Form.TheVariants.{Cube, Shed, GableAlongX, GableAlongZ, HipAlongX, HipAlongZ, Pyramid, Quad}
 use Rattle.cga_solid.specs.declared.solid_fault.SolidFault.{SolidFault}

@@ -3,4 +3,3 @@ pub mod Corners
 pub mod Faces
 pub mod Listed
 pub mod Solids
-pub mod Stops

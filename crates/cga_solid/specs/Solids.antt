@@ -7,7 +7,8 @@ use Rattle.cga_frame.specs.Scope.{Scope, place_of}
 use Rattle.cga_frame.specs.declared.point.Point.{Point}
 use Rattle.cga_word.specs.declared.primitive.Primitive.{Primitive}
 use Rattle.cga_word.specs.declared.primitive.Primitive.TheVariants as primitive
-use Rattle.cga_solid.specs.Chains.{then_, refused_if, as_fault}
+use Rattle.cga_fraction.specs.Chains.{then_, refused_if}
+use Rattle.cga_solid.specs.Chains.{as_fault}
 use Rattle.cga_solid.specs.Corners.{corners_of}
 use Rattle.cga_solid.specs.Faces.{faces_of}
 use Rattle.cga_solid.specs.declared.form.Form.{Form}

@@ -9,7 +9,6 @@ mod form;
 mod solid;
 mod solid_fault;
 mod solid_mesh;
-mod stop;
 #[cfg(test)]
 mod tests;
 

@@ -2,11 +2,11 @@ ghost use Rattle.std.specs.Prelude.{◌≡◌, ◌≢◌, IfOk, OnOk, All, false
 ghost use Rattle.cga_frame.specs.Box.{box_of};
 ghost use Rattle.cga_frame.specs.Meeting.{IsIn};
 ghost use Rattle.cga_frame.specs.Scope.{has_negative};
-ghost use Rattle.cga_solid.specs.Chains.{then_};
+ghost use Rattle.cga_fraction.specs.Chains.{then_};
 ghost use Rattle.cga_solid.specs.Corners.{corners_of};
 ghost use Rattle.cga_solid.specs.Faces.{IsClosed};
 ghost use Rattle.cga_solid.specs.Solids.{all_placed, check_solid_of, fault_of, form_of, is_flat, lacks_size, mesh_of, placed, vertices_of};
-ghost use Rattle.cga_solid.specs.Stops.{Makes};
+ghost use Rattle.cga_fraction.specs.Stops.{Makes};
 ghost use Rattle.cga_word.specs.declared.primitive.Primitive.TheVariants as solid;
 
 use crate::corners::Corners;
@@ -14,8 +14,7 @@ use crate::faces::faces;
 use crate::form::Form;
 use crate::solid_fault::SolidFault;
 use crate::solid_mesh::SolidMesh;
-use crate::stop::Stop;
-use cga_fraction::{Fraction, List, NoMemory};
+use cga_fraction::{Fraction, List, NoMemory, Stop};
 use cga_frame::{Point, Scope};
 use cga_word::Primitive;
 use std::alloc::Global;
@@ -67,7 +66,11 @@ pub fn check_solid(primitive: Primitive, scope: &Scope) -> Result<(), SolidFault
     check_corners(scope, corners.as_slice())
 }
 
-fn place_corners(alloc: Global, scope: &Scope, corners: &[Point]) -> Result<List<Point>, Stop>
+fn place_corners(
+    alloc: Global,
+    scope: &Scope,
+    corners: &[Point],
+) -> Result<List<Point>, Stop<SolidFault>>
     ensures { Makes (all_placed scope.now corners.now) result }
 {
     let mut vertices = List::new(alloc);
@@ -79,7 +82,12 @@ fn place_corners(alloc: Global, scope: &Scope, corners: &[Point]) -> Result<List
 }
 
 // The vertices of a form, in order.
-fn vertices(alloc: Global, scope: &Scope, form: Form, size: &Point) -> Result<List<Point>, Stop>
+fn vertices(
+    alloc: Global,
+    scope: &Scope,
+    form: Form,
+    size: &Point,
+) -> Result<List<Point>, Stop<SolidFault>>
     requires { size.now ≡ scope.now.size }
     ensures { Makes (vertices_of form scope.now) result }
 {
@@ -88,7 +96,7 @@ fn vertices(alloc: Global, scope: &Scope, form: Form, size: &Point) -> Result<Li
 }
 
 #[tactic(auto, unfolding(crate::specs::Solids::mesh_of))]
-fn made(alloc: Global, primitive: Primitive, scope: &Scope) -> Result<SolidMesh, Stop>
+fn made(alloc: Global, primitive: Primitive, scope: &Scope) -> Result<SolidMesh, Stop<SolidFault>>
     ensures value { Makes (mesh_of primitive scope.now) result }
     ensures sizes { OnOk result (has_negative scope.now.size ≡ false) }
 {

@@ -1,10 +1,10 @@
 -- Rising cuts cover.
-use Rattle.std.proofs.Common.{◌≡◌, ℕ, subst, zero, suc, ◌+◌, ◌<◌, List, [], ◌∷◌, arith, refl, ap, sym, inl, inr, ◌⊎◌}
-use Rattle.std.specs.Prelude.{IsTrue, slice_get, Some, None, ◌↔◌}
+use Rattle.std.proofs.Common.{◌≡◌, ℕ, subst, zero, suc, List, [], ◌∷◌, refl, ap, inl, inr}
+use Rattle.std.specs.Prelude.{IsTrue, slice_get, Some}
 use Rattle.cga_fraction.specs.Rat.{Rat, zero_rat}
 use Rattle.cga_fraction.specs.Order.{rat_le, rat_lt}
 use Rattle.cga_split.specs.Cuts.{neighbours, Between, StrictlyBetween, Cover}
-use Rattle.cga_fraction.proofs.Order.{le_refl, le_trans, le_total, lt_not_le, lt_of_le_lt, lt_asym}
+use Rattle.cga_fraction.proofs.Order.{le_refl, le_trans, le_total, lt_of_le_lt, lt_asym}
 
 -- each cut is at most the next
 abbrev pub Rises : Rat → List Rat → Type 0

@@ -1,13 +1,14 @@
 -- The parts that a split gives are those of the cuts.
-use Rattle.std.proofs.Common.{◌≡◌, ℕ, zero, suc, ◌+◌, List, [], ◌∷◌, ◌++◌, append_assoc, refl, sym, ap, ◌∙◌, Ok, Err}
+use Rattle.std.proofs.Common.{◌≡◌, List, [], ◌∷◌, ◌++◌, append_assoc, refl, sym, ap, ◌∙◌, Ok, Err}
 use Rattle.std.specs.Prelude.{Result}
 use Rattle.cga_fraction.specs.Rat.{Rat}
 use Rattle.cga_fraction.specs.Arithmetic.{plus, minus, times, divided}
 use Rattle.cga_fraction.specs.Refusals.{checked}
 use Rattle.cga_fraction.specs.declared.overflow.Overflow.{Overflow}
 use Rattle.cga_fraction.proofs.Laws.{IsLowest, minus-plus_left, checked_is}
-use Rattle.cga_split.specs.Chains.{then_, as_fault, within, onto}
-use Rattle.cga_split.specs.Cuts.{neighbours, parts_of}
+use Rattle.cga_fraction.specs.Chains.{then_, onto}
+use Rattle.cga_split.specs.Chains.{as_fault, within}
+use Rattle.cga_split.specs.Cuts.{parts_of}
 use Rattle.cga_split.specs.declared.split_fault.SplitFault.{SplitFault}
 use Rattle.cga_split.specs.declared.part_size.PartSize.{PartSize}
 use Rattle.cga_split.specs.declared.part_size.PartSize.TheVariants.{Absolute, Relative}

@@ -1,5 +1,5 @@
 -- The parts of Repeat are those of its cuts, which cover the axis.
-use Rattle.std.proofs.Common.{◌≡◌, ℕ, zero, suc, ◌+◌, ◌*◌, ◌-◌, ◌<◌, ◌≤◌, List, [], ◌∷◌, ◌++◌, append_assoc, Err, false, refl, sym, ap, ◌∙◌, subst, arith, Ok, pos, negsuc, ℤ, unsigned_abs}
+use Rattle.std.proofs.Common.{◌≡◌, ℕ, zero, suc, ◌+◌, ◌*◌, ◌-◌, ◌<◌, List, [], ◌∷◌, ◌++◌, append_assoc, Err, refl, sym, ap, ◌∙◌, subst, arith, Ok, pos, negsuc, ℤ, unsigned_abs}
 use Rattle.std.specs.Prelude.{Result, IsTrue, not, nat_lt}
 use Rattle.std.proofs.Math.Nat.{mul-pos}
 use Rattle.cga_fraction.specs.Rat.{Rat, den, zero_rat, of_int}
@@ -11,13 +11,14 @@ use Rattle.cga_fraction.proofs.Laws.{IsLowest, minus_lowest, times_lowest, same_
 use Rattle.cga_fraction.proofs.Diffs.{minus_of, times_diff, itself}
 use Rattle.cga_fraction.proofs.Ratios.{IsRatio, like, times_ratio, divided_ratio, le_ratio, zero_ratio}
 use Rattle.cga_fraction.proofs.Rounding.{is_ceil}
-use Rattle.cga_split.specs.Chains.{then_, refused_if, within, onto}
+use Rattle.cga_fraction.specs.Chains.{then_, onto}
+use Rattle.cga_split.specs.Chains.{within}
 use Rattle.cga_split.specs.Cuts.{Cover, IsCut, parts_of}
 use Rattle.cga_split.specs.Repeat.{whole, multiples, repeat_cuts, count_of, repeats_from, counted, repeated}
 use Rattle.cga_split.specs.declared.split_fault.SplitFault.{SplitFault}
 use Rattle.cga_split.proofs.Covers.{Rises, last_of, covers}
 use Rattle.cga_split.proofs.Parts.{then_ok, within_is, joined}
-use Rattle.cga_split.proofs.Subdivs.{IsPositive, positive, not_refused, not_true}
+use Rattle.cga_split.proofs.Subdivs.{positive, not_refused, not_true}
 
 -- ---- the multiples of a part
 

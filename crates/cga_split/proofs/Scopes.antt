@@ -1,10 +1,9 @@
 -- Splits of scopes.
-use Rattle.std.proofs.Common.{◌≡◌, ℕ, ◌<◌, List, [], ◌∷◌, length, true, false, refl, sym, ap, ◌∙◌, arith, pos, Ok, Err, Result}
+use Rattle.std.proofs.Common.{◌≡◌, ℕ, ◌<◌, List, [], ◌∷◌, length, true, false, arith, pos, Ok, Err}
 use Rattle.std.specs.Prelude.{if◌then◌else◌, Bool}
 use Rattle.cga_fraction.specs.Rat.{Rat}
 use Rattle.cga_fraction.specs.Arithmetic.{divided}
 use Rattle.cga_fraction.specs.Rounding.{IsCeil}
-use Rattle.cga_fraction.specs.declared.overflow.Overflow as Unit
 use Rattle.cga_word.specs.declared.axis.Axis.{Axis}
 use Rattle.cga_frame.specs.Points.{coordinate}
 use Rattle.cga_frame.specs.Scope.{Scope, exists, existing, part_of}

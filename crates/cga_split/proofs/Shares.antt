@@ -1,15 +1,16 @@
 -- The length of a part by its share.
-use Rattle.std.proofs.Common.{◌≡◌, ℕ, suc, zero, ◌+◌, ◌*◌, ◌<◌, ◌≤◌, Bool, true, false, refl, sym, ap, ◌∙◌, subst, arith, Ok, Err, Result, pos, negsuc, ℤ}
+use Rattle.std.proofs.Common.{◌≡◌, ℕ, suc, ◌+◌, ◌*◌, ◌<◌, true, false, refl, sym, ap, ◌∙◌, subst, arith, Ok, Err, Result, pos, negsuc, ℤ}
 use Rattle.std.specs.Prelude.{IsTrue, not}
 use Rattle.cga_fraction.specs.Rat.{Rat, den, zero_rat}
-use Rattle.cga_fraction.specs.Order.{rat_le, rat_lt, positive_part, negative_part, cross}
+use Rattle.cga_fraction.specs.Order.{rat_le, rat_lt, positive_part, negative_part}
 use Rattle.cga_fraction.specs.Arithmetic.{minus, times, divided}
 use Rattle.cga_fraction.specs.Refusals.{checked, quotient_of, with_fault, is_zero}
 use Rattle.cga_fraction.specs.declared.overflow.Overflow as Unit
 use Rattle.cga_fraction.specs.declared.overflow.DivFault.{DivFault}
 use Rattle.cga_fraction.proofs.Order.{lt_test, lt_not_le}
 use Rattle.cga_fraction.proofs.Ratios.{IsRatio, times_ratio, minus_ratio, divided_ratio, le_ratio, zero_ratio}
-use Rattle.cga_split.specs.Chains.{then_, as_fault, within}
+use Rattle.cga_fraction.specs.Chains.{then_}
+use Rattle.cga_split.specs.Chains.{as_fault, within}
 use Rattle.cga_split.specs.Subdiv.{checked_length, is_off, is_positive, is_relative, absolute_sum, absolute_total, relative_sum, relative_total}
 use Rattle.cga_split.specs.declared.part_size.PartSize.{PartSize}
 use Rattle.std.specs.List.{list_all, list_any}
@@ -17,7 +18,7 @@ use Rattle.std.specs.Prelude.{List}
 use Rattle.cga_split.specs.declared.split_fault.SplitFault.{SplitFault}
 use Rattle.cga_split.specs.declared.split_fault.SplitFault.TheVariants.{Overflow}
 use Rattle.cga_split.specs.declared.part_size.PartSize.TheVariants.{Relative}
-use Rattle.cga_split.proofs.Subdivs.{IsPositive, positive, positive_top, not_true, are_ratios, fits_relative, fits_absolute, relative_some}
+use Rattle.cga_split.proofs.Subdivs.{positive, positive_top, not_true, are_ratios, fits_relative, fits_absolute, relative_some}
 use Rattle.cga_split.proofs.Sums.{absolute_ratio}
 use Rattle.cga_split.proofs.RepeatParts.{lt_ratio, whole_ratio, part_ratio, count_is}
 use Rattle.cga_split.specs.Repeat.{whole, count_of}

@@ -1,5 +1,5 @@
 -- The parts of Subdiv are those of its cuts, which cover the axis.
-use Rattle.std.proofs.Common.{◌≡◌, ℕ, zero, suc, ◌+◌, ◌*◌, ◌<◌, ◌≤◌, List, [], ◌∷◌, Bool, true, false, ◌⊎◌, inl, inr, refl, sym, ap, ◌∙◌, subst, arith, Ok, Err, pos, negsuc, ℤ}
+use Rattle.std.proofs.Common.{◌≡◌, ℕ, zero, suc, ◌+◌, ◌*◌, ◌<◌, List, [], ◌∷◌, Bool, true, false, inl, inr, refl, sym, ap, ◌∙◌, subst, arith, Ok, pos, negsuc, ℤ}
 use Rattle.std.specs.Prelude.{Result, IsTrue, not, ◌&&◌, ◌||◌, if◌then◌else◌}
 use Rattle.std.specs.List.{list_all, list_any}
 use Rattle.std.proofs.Math.Nat.{mul-pos}
@@ -8,13 +8,14 @@ use Rattle.cga_fraction.specs.Order.{rat_le, rat_lt, positive_part, negative_par
 use Rattle.cga_fraction.specs.Arithmetic.{plus, minus, times, divided}
 use Rattle.cga_fraction.proofs.Order.{le_refl, le_total, lt_fact, lt_le, not_le_lt}
 use Rattle.cga_fraction.proofs.Laws.{IsLowest, fraction_lowest, times_lowest}
-use Rattle.cga_fraction.proofs.Ratios.{IsRatio, like, plus_ratio, minus_ratio, le_ratio, zero_ratio}
-use Rattle.cga_split.specs.Chains.{then_, refused_if, within}
+use Rattle.cga_fraction.proofs.Ratios.{IsRatio, plus_ratio, minus_ratio, le_ratio, zero_ratio}
+use Rattle.cga_fraction.specs.Chains.{refused_if}
+use Rattle.cga_split.specs.Chains.{within}
 use Rattle.cga_split.specs.Cuts.{Cover, IsCut, parts_of}
 use Rattle.cga_split.specs.declared.split_fault.SplitFault.{SplitFault}
 use Rattle.cga_split.specs.declared.part_size.PartSize.{PartSize}
 use Rattle.cga_split.specs.declared.part_size.PartSize.TheVariants.{Absolute, Relative}
-use Rattle.cga_split.specs.Subdiv.{AllFractions, is_positive, is_relative, is_off, length_of, cuts_after, subdiv_cuts, parts_from, absolute_sum, absolute_total, relative_sum, relative_total, subdivided}
+use Rattle.cga_split.specs.Subdiv.{AllFractions, is_positive, is_relative, is_off, length_of, cuts_after, subdiv_cuts, absolute_sum, absolute_total, relative_sum, relative_total, subdivided}
 use Rattle.cga_split.proofs.Covers.{Rises, last_of, covers}
 use Rattle.cga_split.proofs.Sums.{AreRatios, Shares, shares_of, absolute_ratio, last_ratio, rises}
 use Rattle.cga_split.proofs.Parts.{AllLengthsLowest, then_ok, within_is, parts_are, absolute_is, relative_is}

@@ -1,16 +1,15 @@
 -- The parts of Subdiv add up to the size.
-use Rattle.std.proofs.Common.{◌≡◌, ℕ, zero, suc, ◌+◌, ◌*◌, ◌-◌, ◌≤◌, ◌<◌, List, [], ◌∷◌, arith, refl, sym, ap, ◌∙◌, subst, ℤ, pos}
+use Rattle.std.proofs.Common.{◌≡◌, ℕ, ◌+◌, ◌*◌, ◌<◌, List, [], ◌∷◌, arith, refl, ap}
 use Rattle.std.specs.Prelude.{IsTrue}
 use Rattle.std.proofs.Math.Nat.{mul-pos}
-use Rattle.cga_fraction.specs.Rat.{Rat, den, zero_rat}
+use Rattle.cga_fraction.specs.Rat.{Rat, zero_rat}
 use Rattle.cga_fraction.specs.Order.{rat_le}
-use Rattle.cga_fraction.specs.Arithmetic.{plus, minus, times, divided}
+use Rattle.cga_fraction.specs.Arithmetic.{plus, minus, times}
 use Rattle.cga_split.specs.declared.part_size.PartSize.{PartSize}
 use Rattle.cga_split.specs.declared.part_size.PartSize.TheVariants.{Absolute, Relative}
-use Rattle.cga_split.specs.Subdiv.{absolute_sum, relative_sum, length_of, cuts_after, subdiv_cuts}
-use Rattle.cga_split.specs.Cuts.{Cover}
-use Rattle.cga_fraction.proofs.Ratios.{IsRatio, like, both, plus_ratio, times_ratio, divided_ratio, minus_ratio, le_ratio, reduced_ratio}
-use Rattle.cga_split.proofs.Covers.{last_of, Rises, covers}
+use Rattle.cga_split.specs.Subdiv.{absolute_sum, relative_sum, length_of, cuts_after}
+use Rattle.cga_fraction.proofs.Ratios.{IsRatio, like, both, plus_ratio, times_ratio, divided_ratio, minus_ratio, le_ratio}
+use Rattle.cga_split.proofs.Covers.{last_of, Rises}
 
 -- each size as a ratio, and each share as the factor times q / k
 abbrev pub Shares : Rat → Rat → ℕ → ℕ → List PartSize → Type 0

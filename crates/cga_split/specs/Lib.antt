@@ -3,4 +3,3 @@ pub mod Cuts
 pub mod Subdiv
 pub mod Repeat
 pub mod Split
-pub mod Stops

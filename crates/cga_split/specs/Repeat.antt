@@ -4,7 +4,8 @@ use Rattle.cga_fraction.specs.Rat.{Rat, of_int, zero_rat}
 use Rattle.cga_fraction.specs.Order.{rat_lt}
 use Rattle.cga_fraction.specs.Arithmetic.{times, divided}
 use Rattle.cga_fraction.specs.Rounding.{ceil_of}
-use Rattle.cga_split.specs.Chains.{then_, refused_if, within}
+use Rattle.cga_fraction.specs.Chains.{then_, refused_if}
+use Rattle.cga_split.specs.Chains.{within}
 use Rattle.cga_split.specs.declared.split_fault.SplitFault.{SplitFault}
 use Rattle.cga_split.specs.declared.split_fault.SplitFault.TheVariants.{FlatScope, PartNotPositive, RepeatCount}
 

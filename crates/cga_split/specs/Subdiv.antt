@@ -4,7 +4,8 @@ use Rattle.std.specs.List.{list_all, list_any}
 use Rattle.cga_fraction.specs.Rat.{Rat, zero_rat, IsFraction}
 use Rattle.cga_fraction.specs.Arithmetic.{plus, minus, times, divided}
 use Rattle.cga_fraction.specs.Order.{rat_le, rat_lt}
-use Rattle.cga_split.specs.Chains.{then_, refused_if, within}
+use Rattle.cga_fraction.specs.Chains.{then_, refused_if}
+use Rattle.cga_split.specs.Chains.{within}
 use Rattle.cga_split.specs.declared.split_fault.SplitFault.{SplitFault}
 use Rattle.cga_split.specs.declared.split_fault.SplitFault.TheVariants.{FlatScope, PartNotPositive, SubdivSum}
 use Rattle.cga_split.specs.declared.part_size.PartSize.{PartSize}

@@ -6,7 +6,6 @@
 mod part_size;
 mod repeats;
 mod split_fault;
-mod stop;
 mod subdivide;
 #[cfg(test)]
 mod tests;

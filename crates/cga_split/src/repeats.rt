@@ -9,12 +9,11 @@ ghost use Rattle.cga_split.specs.Chains.{within};
 ghost use Rattle.cga_split.specs.Cuts.{IsCut};
 ghost use Rattle.cga_split.specs.Repeat.{whole, count_of, counted, repeats_from, repeat_cuts};
 ghost use Rattle.cga_split.specs.Split.{part_at, repeat_of};
-ghost use Rattle.cga_split.specs.Stops.{Makes};
+ghost use Rattle.cga_fraction.specs.Stops.{Makes};
 
 use crate::split_fault::SplitFault;
-use crate::stop::Stop;
 use crate::subdivide::part;
-use cga_fraction::{Fraction, List, NoMemory};
+use cga_fraction::{Fraction, List, NoMemory, Stop};
 use cga_frame::Scope;
 use cga_word::Axis;
 use std::alloc::Global;
@@ -47,7 +46,7 @@ fn parts(
     axis: Axis,
     step: Fraction,
     count: u32,
-) -> Result<List<Scope>, Stop>
+) -> Result<List<Scope>, Stop<SplitFault>>
     requires { rat_lt step zero_rat ≡ false }
     ensures { Makes (repeats_from (part_at scope.now axis) step 0 count) result }
 {
@@ -78,7 +77,7 @@ fn counted(
     axis: Axis,
     length: Fraction,
     count: u64,
-) -> Result<List<Scope>, Stop>
+) -> Result<List<Scope>, Stop<SplitFault>>
     requires length { IsTrue (rat_lt zero_rat length) }
     requires count { 0 < count }
     ensures { Makes (counted (part_at scope.now axis) length count) result }
@@ -94,7 +93,12 @@ fn counted(
 }
 
 #[tactic(auto, unfolding(crate::specs::Repeat::repeated))]
-fn repeated(alloc: Global, scope: &Scope, axis: Axis, step: Fraction) -> Result<List<Scope>, Stop>
+fn repeated(
+    alloc: Global,
+    scope: &Scope,
+    axis: Axis,
+    step: Fraction,
+) -> Result<List<Scope>, Stop<SplitFault>>
     ensures { Makes (repeat_of scope.now axis step) result }
 {
     let length = scope.size().along(axis);

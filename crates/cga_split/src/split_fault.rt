@@ -1,3 +1,5 @@
+use cga_fraction::Stop;
+
 /// Why a scope can't be split so.
 #[derive(Clone, Copy, Debug, PartialEq, Eq)]
 pub enum SplitFault {
@@ -11,4 +13,15 @@ pub enum SplitFault {
     RepeatCount,
     /// A number leaves the range.
     Overflow,
+}
+
+impl From<SplitFault> for Stop<SplitFault> {
+    ghost use Rattle.std.specs.Prelude.{◌≡◌};
+    ghost use Rattle.cga_fraction.specs.declared.stop.Stop.TheVariants as stop;
+
+    ghost from_gives = { λ f s. s ≡ stop.Fault f };
+
+    fn from(fault: SplitFault) -> Stop<SplitFault> {
+        Stop::Fault(fault)
+    }
 }

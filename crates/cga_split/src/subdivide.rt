@@ -9,12 +9,11 @@ ghost use Rattle.cga_split.specs.Chains.{within};
 ghost use Rattle.cga_split.specs.Cuts.{IsCut};
 ghost use Rattle.cga_split.specs.Subdiv.{number_of, AllFractions, is_positive, is_relative, is_off, absolute_total, relative_total, checked_length, parts_from, subdiv_cuts};
 ghost use Rattle.cga_split.specs.Split.{part_at, subdiv_of};
-ghost use Rattle.cga_split.specs.Stops.{Makes};
+ghost use Rattle.cga_fraction.specs.Stops.{Makes};
 
 use crate::part_size::PartSize;
 use crate::split_fault::SplitFault;
-use crate::stop::Stop;
-use cga_fraction::{Fraction, List, NoMemory};
+use cga_fraction::{Fraction, List, NoMemory, Stop};
 use cga_frame::Scope;
 use cga_word::Axis;
 use std::alloc::Global;
@@ -153,7 +152,7 @@ fn parts(
     sizes: &[PartSize],
     rest: Fraction,
     total: Fraction,
-) -> Result<List<Scope>, Stop>
+) -> Result<List<Scope>, Stop<SplitFault>>
     requires some { IsTrue (list_all is_positive sizes.now) }
     requires rest { rat_lt rest zero_rat ≡ false }
     requires total { IsTrue (list_any is_relative sizes.now) → IsTrue (rat_lt zero_rat total) }
@@ -177,7 +176,12 @@ fn difference(a: Fraction, b: Fraction) -> Result<Fraction, SplitFault>
 }
 
 #[tactic(auto, unfolding(crate::specs::Subdiv::subdivided))]
-fn divide(alloc: Global, scope: &Scope, axis: Axis, sizes: &[PartSize]) -> Result<List<Scope>, Stop>
+fn divide(
+    alloc: Global,
+    scope: &Scope,
+    axis: Axis,
+    sizes: &[PartSize],
+) -> Result<List<Scope>, Stop<SplitFault>>
     ensures value { Makes (subdiv_of scope.now axis sizes.now) result }
     ensures fractions { OnOk result (AllFractions sizes.now) }
 {

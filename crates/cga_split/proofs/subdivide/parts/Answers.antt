@@ -1,9 +1,7 @@
 use Rattle.std.proofs.Common.{◌≡◌, List, ◌∷◌, ◌+◌, drop, ap, sym, ◌∙◌, suc, add-one, drop-cons}
-use Rattle.std.specs.Prelude.{Result, IsTrue}
-use Rattle.std.specs.List.{list_all, list_any}
-use Rattle.cga_split.specs.Chains.{onto}
+use Rattle.cga_fraction.specs.Chains.{onto}
 use Rattle.cga_split.specs.Split.{part_at}
-use Rattle.cga_split.specs.Subdiv.{is_positive, is_relative, parts_from}
+use Rattle.cga_split.specs.Subdiv.{parts_from}
 use Rattle.cga_split.specs.declared.part_size.PartSize.{PartSize}
 use Rattle.cga_split.proofs.Parts.{one_more}
 use Rattle.cga_split.proofs.Subdivs.{all_more, any_more}
