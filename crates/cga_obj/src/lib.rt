@@ -10,3 +10,6 @@ mod obj;
 
 pub use faults::fault_text;
 pub use obj::obj_text;
+
+#[cfg(test)]
+mod tests;

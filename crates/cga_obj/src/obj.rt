@@ -1,4 +1,4 @@
-ghost use Rattle.std.specs.Prelude.{◌≡◌, ◌≤◌, ◌^◌, ◌+◌, ◌*◌, ◌++◌, IfOk, IsOk, OnOk, length};
+ghost use Rattle.std.specs.Prelude.{◌≡◌, ◌≤◌, ◌^◌, codes, ◌+◌, ◌*◌, ◌++◌, IfOk, IsOk, OnOk, length};
 ghost use Rattle.std.specs.List.{IsDistinct, prefix_len};
 ghost use Rattle.std.specs.Prelude.{bytes_eq};
 ghost use Rattle.cga_solid.specs.Solids.{check_solid_of};
@@ -24,6 +24,16 @@ fn mesh_of(alloc: Global, drawn: &Drawn) -> Result<SolidMesh, NoMemory>
     }
 }
 
+// Adds a line of a word and a name.
+fn push_name(text: &mut Vec<u8>, word: &[u8], name: &Name) -> Result<(), NoMemory>
+    ensures { OnOk result
+        (text.new.items ≡ text.old.items ++ (word.now ++ (name.now ++ codes "\n"))) }
+{
+    push(text, word)?;
+    push(text, name.bytes())?;
+    push(text, b"\n")
+}
+
 // Adds an instance, and gives the number of its vertices.
 #[tactic(auto, unfolding(crate::specs::Lots::instance_text))]
 fn push_instance(
@@ -40,9 +50,7 @@ fn push_instance(
         (text.new.items ≡ text.old.items ++ instance_text decimals before drawn.now) }
     ensures count { IfOk result (λ count. count ≡ vertex_count drawn.now) }
 {
-    push(text, b"g ")?;
-    push(text, drawn.symbol.bytes())?;
-    push(text, b"\n")?;
+    push_name(text, b"g ", &drawn.symbol)?;
     let mesh = mesh_of(alloc, drawn)?;
     push_mesh(text, decimals, before, &mesh)?;
     Ok(mesh.vertices.len())
@@ -88,9 +96,7 @@ fn push_lot(
     ensures count { IfOk result (λ after. after ≡ before + vertices_in drawn.now) }
     ensures room { IfOk result (λ after. after ≤ before + length drawn.now * 2 ^ 64) }
 {
-    push(text, b"o ")?;
-    push(text, lot.bytes())?;
-    push(text, b"\n")?;
+    push_name(text, b"o ", lot)?;
     push_instances(alloc, text, decimals, before, drawn)
 }
 
