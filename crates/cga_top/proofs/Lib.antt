@@ -2,7 +2,7 @@ pub mod Blanks
 pub mod BlockLines
 pub mod Shapes
 pub mod Numerals
-pub mod Wholes
+pub mod Cubes
 pub mod Turns
 pub mod Known
 pub mod Runs

@@ -4,7 +4,7 @@ pub mod Symbols
 pub mod Forms
 pub mod Blocks
 pub mod Texts
-pub mod Cube
+pub mod Drawing
 pub mod Output
 pub mod Session
 pub mod Writes

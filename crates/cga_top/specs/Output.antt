@@ -11,7 +11,7 @@ use Rattle.cga_top.specs.declared.refused.Refused.TheVariants.{NotBuilt, NoSymbo
 use Rattle.cga_top.specs.Forms.{form_of}
 use Rattle.cga_top.specs.Blocks.{ends_block, block_of}
 use Rattle.cga_top.specs.Texts.{ok_text, refusal}
-use Rattle.cga_top.specs.Cube.{obj_text}
+use Rattle.cga_top.specs.Drawing.{obj_text}
 
 -- what a script has come to: what its edits have left, and the lines of a block that is open
 pub record State : Type 0 where

@@ -1,9 +1,10 @@
+use crate::positive::Positive;
 use cga_word::Name;
 
 /// The rule that raises the lot by a height and puts a cube there.
 #[derive(Clone, Copy)]
 pub(crate) struct BoxRule {
-    pub(crate) id: u32,
+    pub(crate) id: Positive,
     pub(crate) symbol: Name,
-    pub(crate) height: u32,
+    pub(crate) height: Positive,
 }

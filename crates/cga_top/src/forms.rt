@@ -9,6 +9,7 @@ use crate::box_rule::BoxRule;
 use crate::form::Form;
 use crate::lot::Lot;
 use crate::number::{number, short_length, short_number};
+use crate::positive::Positive;
 use crate::symbol::symbol;
 use crate::words::{only_word, split_three, split_word};
 
@@ -74,7 +75,7 @@ fn before_mark(word: &[u8], mark: u8) -> Option<&[u8]>
     word.strip_suffix([mark].as_slice())
 }
 
-fn marked_number(word: &[u8], mark: u8) -> Option<u32>
+fn marked_number(word: &[u8], mark: u8) -> Option<Positive>
     ensures { result ≡ marked_number (before_mark mark word.now) }
 {
     match before_mark(word, mark) {

@@ -7,11 +7,12 @@
 
 mod block;
 mod box_rule;
-mod cube;
+mod drawing;
 mod form;
 mod forms;
 mod lot;
 mod number;
+mod positive;
 mod pump;
 mod read_end;
 mod reads;

@@ -3,6 +3,8 @@ ghost use Rattle.std.specs.List.{list_all};
 ghost use Rattle.std.specs.Char.{is_ascii_digit, digit_value};
 ghost use Rattle.cga_top.specs.Numbers.{is_number, number_of, above_zero};
 
+use crate::positive::Positive;
+
 fn are_digits(word: &[u8]) -> bool
     ensures { result ≡ list_all is_ascii_digit word.now }
 {
@@ -50,11 +52,11 @@ pub(crate) fn short_number(word: &[u8]) -> Option<u32>
 }
 
 /// The number of at most six digits, where it isn't 0.
-pub(crate) fn short_length(word: &[u8]) -> Option<u32>
+pub(crate) fn short_length(word: &[u8]) -> Option<Positive>
     ensures { result ≡ above_zero (number_of 6 word.now) }
 {
     match short_number(word) {
-        Some(value) if value > 0 => Some(value),
-        _ => None,
+        Some(value) => Positive::new(value),
+        None => None,
     }
 }

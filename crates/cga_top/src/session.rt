@@ -4,7 +4,7 @@ ghost use Rattle.cga_top.specs.Session.{Stands, Did};
 
 use crate::block::{Block, ends_block};
 use crate::box_rule::BoxRule;
-use crate::cube::obj_text;
+use crate::drawing::obj_text;
 use crate::form::Form;
 use crate::forms::form;
 use crate::lot::Lot;

@@ -1,0 +1,90 @@
+ghost use Rattle.std.specs.Prelude.{◌≡◌, ◌++◌, IfOk, OnOk, flat_map};
+ghost use Rattle.cga_obj.specs.Faults.{fault_code, fault_line, fault_text_of, index_text, path_text};
+
+use crate::bytes::{push, push_whole};
+use cga_fraction::{List, NoMemory};
+use cga_shape::{FaultLine, ShapeFault};
+use std::alloc::Global;
+
+#[tactic(auto, unfolding(crate::specs::Faults::index_text))]
+fn push_index(text: &mut Vec<u8>, index: u16) -> Result<(), NoMemory>
+    ensures { OnOk result (text.new.items ≡ text.old.items ++ index_text index) }
+{
+    push(text, b"/")?;
+    push_whole(text, u128::from(index))
+}
+
+fn push_indices(text: &mut Vec<u8>, path: &[u16]) -> Result<(), NoMemory>
+    ensures { OnOk result (text.new.items ≡ text.old.items ++ flat_map index_text path.now) }
+{
+    for index in path {
+        push_index(text, *index)?;
+    }
+    Ok(())
+}
+
+#[tactic(auto, unfolding(crate::specs::Faults::path_text))]
+fn push_path(text: &mut Vec<u8>, path: &[u16]) -> Result<(), NoMemory>
+    ensures { OnOk result (text.new.items ≡ text.old.items ++ path_text path.now) }
+{
+    match path {
+        [] => push(text, b"/"),
+        _ => push_indices(text, path),
+    }
+}
+
+#[tactic(auto, unfolding(crate::specs::Faults::fault_code))]
+fn code(fault: ShapeFault) -> &'static [u8]
+    ensures { result.now ≡ fault_code fault }
+{
+    match fault {
+        ShapeFault::TooDeep => b"TooDeep",
+        ShapeFault::Unmatched => b"Unmatched",
+        ShapeFault::Overflow => b"Overflow",
+        ShapeFault::ZeroDivide => b"ZeroDivide",
+        ShapeFault::NegativeSize => b"NegativeSize",
+        ShapeFault::FlatScope => b"FlatScope",
+        ShapeFault::PartNotPositive => b"PartNotPositive",
+        ShapeFault::SubdivSum => b"SubdivSum",
+        ShapeFault::RepeatCount => b"RepeatCount",
+        ShapeFault::TooManyParts => b"TooManyParts",
+        ShapeFault::TooManyChildren => b"TooManyChildren",
+    }
+}
+
+#[tactic(auto, unfolding(crate::specs::Faults::fault_line))]
+fn push_fault(text: &mut Vec<u8>, line: &FaultLine) -> Result<(), NoMemory>
+    ensures { OnOk result (text.new.items ≡ text.old.items ++ fault_line line.now) }
+{
+    push(text, b"# fault ")?;
+    push(text, line.lot.bytes())?;
+    push(text, b" ")?;
+    push_path(text, line.path.as_slice())?;
+    push(text, b" ")?;
+    push(text, line.symbol.bytes())?;
+    push(text, b" ")?;
+    push(text, code(line.fault))?;
+    push(text, b"\n")
+}
+
+fn push_faults(text: &mut Vec<u8>, faults: &[FaultLine]) -> Result<(), NoMemory>
+    ensures { OnOk result (text.new.items ≡ text.old.items ++ flat_map fault_line faults.now) }
+{
+    for line in faults {
+        push_fault(text, line)?;
+    }
+    Ok(())
+}
+
+/// The number of faults, and a line for each: its lot, its path, its symbol and its code. Takes memory.
+#[tactic(auto, unfolding(crate::specs::Faults::fault_text_of))]
+pub fn fault_text(alloc: Global, faults: &[FaultLine]) -> Result<List<u8>, NoMemory>
+    ensures { IfOk result (λ text. text ≡ fault_text_of faults.now) }
+{
+    let mut text = Vec::new(alloc);
+    push(&mut text, b"# faults ")?;
+    push_whole(&mut text, faults.len() as u128)?;
+    push(&mut text, b"\n")?;
+    push_faults(&mut text, faults)?;
+    Ok(List::from_vec(text))
+}

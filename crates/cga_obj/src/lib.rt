@@ -1,0 +1,15 @@
+//! The texts that show a city: the OBJ text of what is drawn in lots, and the list of faults. It must not know how
+//! shapes come about. The one thing that callers get wrong: what is drawn must stand lot by lot, in the order of the
+//! lots; vertex numbers run over the whole text, so texts of single lots can't be joined.
+#![tactic(auto)]
+
+mod bytes;
+mod faults;
+mod mesh;
+mod obj;
+
+pub use faults::fault_text;
+pub use obj::obj_text;
+
+#[cfg(test)]
+mod tests;

@@ -1,0 +1,157 @@
+ghost use Rattle.std.specs.Prelude.{◌≡◌, ◌≤◌, ◌^◌, codes, ◌+◌, ◌*◌, ◌++◌, IfOk, IsOk, OnOk, length};
+ghost use Rattle.std.specs.List.{IsDistinct, prefix_len};
+ghost use Rattle.std.specs.Prelude.{bytes_eq};
+ghost use Rattle.cga_solid.specs.Solids.{check_solid_of};
+ghost use Rattle.cga_obj.specs.Meshes.{mesh_drawn, vertex_count};
+ghost use Rattle.cga_obj.specs.Lots.{AreSolid, StandsBy, instance_text, instances_text, is_of, lot_text, lots_text, obj_text_of, vertices_in};
+
+use crate::bytes::push;
+use crate::mesh::push_mesh;
+use cga_fraction::{List, NoMemory};
+use cga_shape::Drawn;
+use cga_solid::{SolidMesh, mesh};
+use cga_word::Name;
+use std::alloc::Global;
+
+// The mesh of what is drawn.
+fn mesh_of(alloc: Global, drawn: &Drawn) -> Result<SolidMesh, NoMemory>
+    requires { IsOk (check_solid_of drawn.now.primitive drawn.now.scope) }
+    ensures { IfOk result (λ mesh. mesh ≡ mesh_drawn drawn.now) }
+{
+    match mesh(alloc, drawn.primitive, &drawn.scope)? {
+        Ok(mesh) => Ok(mesh),
+        Err(_) => unreachable!(),
+    }
+}
+
+// Adds a line of a word and a name.
+fn push_name(text: &mut Vec<u8>, word: &[u8], name: &Name) -> Result<(), NoMemory>
+    ensures { OnOk result
+        (text.new.items ≡ text.old.items ++ (word.now ++ (name.now ++ codes "\n"))) }
+{
+    push(text, word)?;
+    push(text, name.bytes())?;
+    push(text, b"\n")
+}
+
+// Adds an instance, and gives the number of its vertices.
+#[tactic(auto, unfolding(crate::specs::Lots::instance_text))]
+fn push_instance(
+    alloc: Global,
+    text: &mut Vec<u8>,
+    decimals: u8,
+    before: u128,
+    drawn: &Drawn,
+) -> Result<usize, NoMemory>
+    requires few { decimals ≤ 9 }
+    requires room { before + 2 ^ 64 ≤ 2 ^ 128 }
+    requires solid { IsOk (check_solid_of drawn.now.primitive drawn.now.scope) }
+    ensures text { OnOk result
+        (text.new.items ≡ text.old.items ++ instance_text decimals before drawn.now) }
+    ensures count { IfOk result (λ count. count ≡ vertex_count drawn.now) }
+{
+    push_name(text, b"g ", &drawn.symbol)?;
+    let mesh = mesh_of(alloc, drawn)?;
+    push_mesh(text, decimals, before, &mesh)?;
+    Ok(mesh.vertices.len())
+}
+
+// Adds these, and gives the number of vertices behind them.
+fn push_instances(
+    alloc: Global,
+    text: &mut Vec<u8>,
+    decimals: u8,
+    before: u128,
+    drawn: &[Drawn],
+) -> Result<u128, NoMemory>
+    requires few { decimals ≤ 9 }
+    requires room { before + length drawn.now * 2 ^ 64 + 2 ^ 64 ≤ 2 ^ 128 }
+    requires solid { AreSolid drawn.now }
+    ensures text { OnOk result
+        (text.new.items ≡ text.old.items ++ instances_text decimals before drawn.now) }
+    ensures count { IfOk result (λ after. after ≡ before + vertices_in drawn.now) }
+    ensures room { IfOk result (λ after. after ≤ before + length drawn.now * 2 ^ 64) }
+{
+    let mut after = before;
+    for instance in drawn {
+        after += push_instance(alloc, text, decimals, after, instance)? as u128;
+    }
+    Ok(after)
+}
+
+#[tactic(auto, unfolding(crate::specs::Lots::lot_text))]
+fn push_lot(
+    alloc: Global,
+    text: &mut Vec<u8>,
+    decimals: u8,
+    before: u128,
+    lot: &Name,
+    drawn: &[Drawn],
+) -> Result<u128, NoMemory>
+    requires few { decimals ≤ 9 }
+    requires room { before + length drawn.now * 2 ^ 64 + 2 ^ 64 ≤ 2 ^ 128 }
+    requires solid { AreSolid drawn.now }
+    ensures text { OnOk result
+        (text.new.items ≡ text.old.items ++ lot_text decimals before lot.now drawn.now) }
+    ensures count { IfOk result (λ after. after ≡ before + vertices_in drawn.now) }
+    ensures room { IfOk result (λ after. after ≤ before + length drawn.now * 2 ^ 64) }
+{
+    push_name(text, b"o ", lot)?;
+    push_instances(alloc, text, decimals, before, drawn)
+}
+
+// How many at the front are the lot's.
+fn own_count(lot: &Name, drawn: &[Drawn]) -> usize
+    ensures { result ≡ prefix_len (is_of lot.now) drawn.now }
+{
+    drawn
+        .iter()
+        .take_while(|instance| *lot == instance.lot)
+        .count()
+}
+
+fn push_lots(
+    alloc: Global,
+    text: &mut Vec<u8>,
+    decimals: u8,
+    lots: &[Name],
+    drawn: &[Drawn],
+) -> Result<(), NoMemory>
+    requires few { decimals ≤ 9 }
+    requires order { StandsBy lots.now drawn.now }
+    requires distinct { IsDistinct bytes_eq lots.now }
+    requires solid { AreSolid drawn.now }
+    ensures { OnOk result
+        (text.new.items ≡ text.old.items ++ lots_text decimals drawn.now 0 lots.now) }
+{
+    let mut rest = drawn;
+    let mut before = 0;
+    for lot in lots {
+        let (own, others) = rest.split_at(own_count(lot, rest));
+        before = push_lot(alloc, text, decimals, before, lot, own)?;
+        rest = others;
+    }
+    Ok(())
+}
+
+/// The text of lots and of what is drawn in them: `o NAME` for each lot, then for each of its instances `g SYMBOL`,
+/// lines `v X Y Z` with so many decimals, and lines `f I J K ..`. Takes memory, for one mesh at a time beside the
+/// text.
+#[tactic(auto, unfolding(crate::specs::Lots::obj_text_of))]
+pub fn obj_text(
+    alloc: Global,
+    lots: &[Name],
+    drawn: &[Drawn],
+    decimals: u8,
+) -> Result<List<u8>, NoMemory>
+    requires few { decimals ≤ 9 }
+    requires order { StandsBy lots.now drawn.now }
+    requires distinct { IsDistinct bytes_eq lots.now }
+    requires solid { AreSolid drawn.now }
+    ensures { IfOk result (λ text. text ≡ obj_text_of lots.now drawn.now decimals) }
+{
+    let mut text = Vec::new(alloc);
+    push(&mut text, b"# cga_city obj\n")?;
+    push_lots(alloc, &mut text, decimals, lots, drawn)?;
+    Ok(List::from_vec(text))
+}
