@@ -1,6 +1,5 @@
 -- The lines of a solid.
-use Rattle.std.specs.Prelude.{ℕ, ◌+◌, List, [], ◌∷◌, ◌++◌, Result, Ok, Err, codes, decimal, flat_map, length}
-use Rattle.cga_fraction.specs.Rat.{Rat}
+use Rattle.std.specs.Prelude.{ℕ, ◌+◌, List, [], ◌++◌, Result, Ok, Err, codes, decimal, flat_map, length}
 use Rattle.cga_fraction.specs.Texts.{decimal_text_of}
 use Rattle.cga_frame.specs.declared.point.Point.{Point}
 use Rattle.cga_shape.specs.declared.drawn.Drawn.{Drawn}

@@ -1,8 +1,7 @@
 -- A cube over whole coordinates stands in its scope and has a mesh.
-use Rattle.std.proofs.Common.{◌≡◌, ℕ, ◌+◌, ◌*◌, ◌/◌, ◌<◌, ◌≤◌, ◌^◌, refl, sym, ap, ◌∙◌, arith, pos, ℤ, Ok, Result, true, false}
-use Rattle.std.specs.Prelude.{◌*ℤ◌, ◌+ℤ◌}
+use Rattle.std.proofs.Common.{◌≡◌, ℕ, ◌+◌, ◌*◌, ◌/◌, ◌<◌, ◌≤◌, ◌^◌, refl, sym, ap, ◌∙◌, arith, pos, Ok, Result, true, false}
 use Rattle.cga_fraction.specs.Gcd.{gcd}
-use Rattle.cga_fraction.specs.Rat.{Rat, of_int, zero_rat}
+use Rattle.cga_fraction.specs.Rat.{of_int, zero_rat}
 use Rattle.cga_fraction.specs.Arithmetic.{plus, reduced}
 use Rattle.cga_fraction.specs.Order.{rat_lt}
 use Rattle.cga_fraction.specs.Refusals.{in_range}

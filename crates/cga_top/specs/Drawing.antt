@@ -1,6 +1,6 @@
 -- What is drawn in the city.
 use Rattle.std.specs.Prelude.{ℕ, List, [], ◌∷◌, Option, Some, None, pos}
-use Rattle.cga_fraction.specs.Rat.{Rat, of_int}
+use Rattle.cga_fraction.specs.Rat.{of_int}
 use Rattle.cga_frame.specs.Axes.{base_frame}
 use Rattle.cga_frame.specs.Scope.{Scope}
 use Rattle.cga_frame.specs.declared.point.Point.{Point}

@@ -1,4 +1,4 @@
-use Rattle.std.proofs.Common.{rules, arith, sym}
+use Rattle.std.proofs.Common.{arith, sym}
 use Rattle.std.proofs.lemmas.Grind.{common_steps}
 use Rattle.cga_obj.proofs.Instances.{one_more, no_more}
 use Rattle.cga_obj.proofs.obj.push_instances.Goals as goal

@@ -1,11 +1,11 @@
-use Rattle.std.proofs.Common.{◌∙◌, arith, rules, sym, subst, length, ◌≤◌, ℕ}
+use Rattle.std.proofs.Common.{arith, sym, subst, length, ◌≤◌, ℕ}
 use Rattle.std.proofs.lemmas.List.Elements.{All-drop}
 use Rattle.std.proofs.lemmas.List.Sums.{prefix_len-le-length}
 use Rattle.std.specs.Prelude.{IsOk}
 use Rattle.cga_shape.specs.declared.drawn.Drawn.{Drawn}
 use Rattle.cga_solid.specs.Solids.{check_solid_of}
 use Rattle.cga_obj.specs.Lots.{AreSolid, is_of, StandsBy}
-use Rattle.cga_obj.proofs.Runs.{FirstRun, no_lot, one_lot, run_from}
+use Rattle.cga_obj.proofs.Runs.{no_lot, one_lot, run_from}
 use Rattle.cga_obj.proofs.obj.push_lots.Goals as goal
 
 pub split_at-requires : goal.split_at-requires

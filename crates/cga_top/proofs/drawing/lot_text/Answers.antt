@@ -1,4 +1,4 @@
-use Rattle.std.proofs.Common.{◌≡◌, [], ◌∷◌, refl, sym, ap, ◌∙◌, List}
+use Rattle.std.proofs.Common.{◌≡◌, [], ◌∷◌, refl, ap, List}
 use Rattle.std.specs.List.{IsDistinct}
 use Rattle.std.proofs.lemmas.List.Elements.{All-cons, All-nil}
 use Rattle.cga_shape.specs.declared.drawn.Drawn.{Drawn}
