@@ -36,7 +36,7 @@ unfolding finish
 finish_by r a [] c o h = ok_left h
 finish_by r a (l ∷ ls) c o h = absurd (cc)
 
-ends_by : {A : Type 0} (q : Outcome A) (a : A) (o : Input) → and_then q (λ r. finish >> pure r) ≡ Ok (a, o) → o.left ≡ []
+pub ends_by : {A : Type 0} (q : Outcome A) (a : A) (o : Input) → and_then q (λ r. finish >> pure r) ≡ Ok (a, o) → o.left ≡ []
 ends_by (Ok q) a o h = finish_by q.0 a q.1.left q.1.count o h
 ends_by (Err f) a o h = absurd (cc)
 

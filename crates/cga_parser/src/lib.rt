@@ -5,6 +5,8 @@
 //! the end of the line, which comes behind blanks and a comment.
 #![tactic(auto)]
 
+pub mod block;
+mod block_line;
 mod cond;
 mod expr;
 pub mod fault;
@@ -21,5 +23,6 @@ mod texts;
 pub mod tokens;
 mod words;
 
+pub use block_line::BlockLine;
 pub use line::{parse_rule, spells_one};
 pub use line_fault::LineFault;

@@ -139,7 +139,7 @@ pub(crate) fn rule(alloc: Global, tokens: &mut Tokens<'_>, depth: u8) -> Result<
 }
 
 #[tactic(auto, unfolding(crate::specs::Grammar::finish))]
-fn finish(tokens: &mut Tokens<'_>) -> Result<(), Stop>
+pub(crate) fn finish(tokens: &mut Tokens<'_>) -> Result<(), Stop>
     ensures { Reads (spec.finish (input_of tokens.old)) result (input_of tokens.new) }
 {
     match tokens.peek() {

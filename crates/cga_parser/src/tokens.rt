@@ -1,6 +1,7 @@
 ghost use Rattle.std.specs.Prelude.{◌≡◌, ◌+◌, ◌≤◌, ◌<◌, ℕ, length, IsTrue, ◌↔◌, OnOk};
 
 use crate::fault::{Fault, Stop};
+use crate::words;
 use cga_lexer::{Sign, Token};
 use cga_syntax::{Keyword, Lexeme};
 
@@ -22,6 +23,7 @@ impl<'a> Tokens<'a> {
     ghost use Rattle.cga_parser.specs.Code.{input_of, Reads, IsProper};
     ghost use Rattle.cga_parser.specs.Reader.{first, skipped, begins, taking, single, enter, drawn_word};
     ghost use Rattle.cga_parser.specs.Tokens as spec;
+    ghost use Rattle.cga_parser.specs.Blocks.{a_word};
 
     /// The next token.
     pub fn peek(&self) -> Option<Lexeme>
@@ -91,6 +93,19 @@ impl<'a> Tokens<'a> {
             return Ok(());
         }
         Err(self.unexpected())
+    }
+
+    /// Whether a word that a form names comes next.
+    pub fn at_word(&self, bytes: &[u8]) -> bool
+        ensures { result ≡ begins (spec.is_word bytes.now) (input_of self.now).left }
+    {
+        words::word(self.peek(), bytes).is_some()
+    }
+
+    pub fn word(&mut self, bytes: &[u8]) -> Result<(), Stop>
+        ensures { Reads (single (a_word bytes.now) (input_of self.old)) result (input_of self.new) }
+    {
+        self.take(words::word(self.peek(), bytes))
     }
 
     /// Takes an opening bracket, where so many brackets may still be opened.

@@ -1,8 +1,11 @@
 //! What single tokens stand for.
-ghost use Rattle.std.specs.Prelude.{◌≡◌, ◌≤◌, IfSome};
+ghost use Rattle.std.specs.Prelude.{◌≡◌, ◌≤◌, ◌<◌, ◌^◌, IfSome};
 ghost use Rattle.cga_parser.specs.Code.{IsProper};
 ghost use Rattle.cga_parser.specs.Reader.{decoded};
 ghost use Rattle.cga_parser.specs.Tokens as spec;
+ghost use Rattle.cga_parser.specs.Blocks.{a_word, a_divisor};
+ghost use Rattle.cga_parser.specs.Blocks as blocks;
+ghost use Rattle.cga_syntax.specs.Lexemes.{is};
 
 use crate::heads::{ItemHead, PrimaryHead, ScopeWord};
 use cga_fraction::Fraction;
@@ -248,8 +251,9 @@ fn turn_of(value: Fraction) -> Option<Turn>
 }
 
 /// The value, where it is whole and not below 0.
-fn whole_of(value: Fraction) -> Option<u64>
-    ensures { result ≡ spec.whole_of value }
+pub(crate) fn whole_of(value: Fraction) -> Option<u64>
+    ensures value { result ≡ spec.whole_of value }
+    ensures small { IfSome result (λ n. n ≤ 2 ^ 62) }
 {
     if value.denominator() != 1 {
         return None;
@@ -270,6 +274,57 @@ fn ninety_of(value: Fraction) -> Option<()>
     ensures { result ≡ spec.ninety_by (spec.whole_of value) }
 {
     if whole_of(value)? == 90 {
+        Some(())
+    } else {
+        None
+    }
+}
+
+/// A whole number that isn't 0.
+pub(crate) fn divisor(next: Option<Lexeme>) -> Option<u64>
+    ensures value { result ≡ decoded a_divisor next }
+    ensures above_zero { IfSome result (λ d. 0 < d) }
+    ensures small { IfSome result (λ d. d ≤ 2 ^ 62) }
+{
+    match next? {
+        Lexeme::Number(value) => above_zero(value),
+        _ => None,
+    }
+}
+
+fn above_zero(value: Fraction) -> Option<u64>
+    ensures value { result ≡ blocks.above_zero (spec.whole_of value) }
+    ensures above_zero { IfSome result (λ d. 0 < d) }
+    ensures small { IfSome result (λ d. d ≤ 2 ^ 62) }
+{
+    let n = whole_of(value)?;
+    if n == 0 { None } else { Some(n) }
+}
+
+/// The priority of a symbol.
+pub(crate) fn prio(next: Option<Lexeme>) -> Option<u16>
+    ensures { result ≡ decoded (spec.a_whole 0 65535) next }
+{
+    match whole(next, 0, 65535) {
+        Some(number) => Some(number as u16),
+        None => None,
+    }
+}
+
+/// A word that a form names.
+pub(crate) fn word(next: Option<Lexeme>, bytes: &[u8]) -> Option<()>
+    ensures { result ≡ decoded (a_word bytes.now) next }
+{
+    match next? {
+        Lexeme::Name(name) => same(name, bytes),
+        _ => None,
+    }
+}
+
+fn same(name: Name, bytes: &[u8]) -> Option<()>
+    ensures { result ≡ spec.passing (is name bytes.now) }
+{
+    if name.bytes() == bytes {
         Some(())
     } else {
         None
