@@ -26,3 +26,4 @@ pub mod Quotients
 pub mod Blocks
 pub mod BlocksAgain
 pub mod BlockLines
+pub mod BlockReaders

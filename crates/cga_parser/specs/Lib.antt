@@ -5,3 +5,4 @@ pub mod Blocks
 pub mod Answers
 pub mod Code
 pub mod LineAnswers
+pub mod BlockAnswers

@@ -11,6 +11,8 @@ mod cond;
 mod expr;
 pub mod fault;
 mod first;
+mod grammar_fault;
+mod grammar_reader;
 mod heads;
 mod item;
 mod line;
@@ -24,5 +26,7 @@ pub mod tokens;
 mod words;
 
 pub use block_line::BlockLine;
-pub use line::{parse_rule, spells_one};
+pub use grammar_fault::GrammarFault;
+pub use grammar_reader::GrammarReader;
+pub use line::{parse_rule, read_block_line, spells_one, spells_one_line};
 pub use line_fault::LineFault;
