@@ -1,5 +1,5 @@
 -- What a reader keeps after one more line.
-use Rattle.std.proofs.Common.{◌≡◌, ℕ, suc, ◌+◌, ◌==◌, List, [], ◌∷◌, ◌++◌, length, length-append, append_assoc, map, Bool, true, false, Option, Some, None, is_some, Result, Ok, Err, refl, ap, sym, ◌∙◌, subst, min, OnOk, arith}
+use Rattle.std.proofs.Common.{◌≡◌, ℕ, ◌+◌, ◌==◌, List, [], ◌∷◌, ◌++◌, length, length-append, append_assoc, map, true, false, Option, Some, None, is_some, Result, Ok, Err, refl, ap, sym, ◌∙◌, subst, min, OnOk, arith}
 use Rattle.cga_lexer.specs.declared.token.Token.{Token}
 use Rattle.cga_parser.specs.declared.block_line.BlockLine.{BlockLine}
 use Rattle.cga_parser.specs.declared.block_line.BlockLine.TheVariants as line
@@ -76,12 +76,13 @@ module _ (old : GrammarReader) (m : ℕ) (l : Line) (e : m ≡ min (old.lines + 
   -- a line that says something, or is blank
   keeps_more : (lines : List Line) (said : Option BlockLine) (new : GrammarReader) → Adds later said new → BlockAnswers l (Ok said) → (o : Option GrammarFault) → is_some o ≡ false → Keeps old lines o → Keeps new (lines ++ l ∷ []) o
   keeps_more lines said new a h (Some f) q k = absurd (let g : true ≡ false = q in cc)
-  keeps_more lines said new a h None q k =
-      (k.0 ++ said ∷ [],
-      say_more lines k.0 l said k.1 h,
-      a.attributes ∙ ap (λ z. z ++ attributes_of (said ∷ [])) k.2 ∙ sym (attributes_more k.0 said),
-      a.rules ∙ ap (λ z. z ++ entries_from old.priority (said ∷ [])) k.3 ∙ ap (λ z. entries_from 1 k.0 ++ entries_from z (said ∷ [])) k.4 ∙ sym (entries_more 1 k.0 said),
-      a.priority ∙ ap (λ z. priority_after z (said ∷ [])) k.4 ∙ sym (priority_more 1 k.0 said))
+  keeps_more lines said new a h None q k = (
+    k.0 ++ said ∷ [],
+    say_more lines k.0 l said k.1 h,
+    a.attributes ∙ ap (λ z. z ++ attributes_of (said ∷ [])) k.2 ∙ sym (attributes_more k.0 said),
+    a.rules ∙ ap (λ z. z ++ entries_from old.priority (said ∷ [])) k.3 ∙ ap (λ z. entries_from 1 k.0 ++ entries_from z (said ∷ [])) k.4 ∙ sym (entries_more 1 k.0 said),
+    a.priority ∙ ap (λ z. priority_after z (said ∷ [])) k.4 ∙ sym (priority_more 1 k.0 said),
+  )
 
   more : (lines : List Line) (said : Option BlockLine) (new : GrammarReader) → is_some old.fault ≡ false → BlockAnswers l (Ok said) → StandsFor old lines → Adds later said new → StandsFor new (lines ++ l ∷ [])
   more lines said new q h k a =

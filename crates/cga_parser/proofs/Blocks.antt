@@ -1,17 +1,15 @@
 -- The lines of a block are read exactly.
-use Rattle.std.proofs.Common.{◌≡◌, ℕ, List, [], ◌∷◌, ◌++◌, Bool, true, false, Option, Some, refl, ap, sym, ◌∙◌, codes}
+use Rattle.std.proofs.Common.{◌≡◌, ℕ, List, [], ◌∷◌, Bool, true, false, Some, refl, ap, sym, codes}
 use Rattle.cga_lexer.specs.declared.sign.Sign.TheVariants as s
-use Rattle.cga_syntax.specs.Lexemes.{is, is_reserved}
 use Rattle.cga_syntax.specs.declared.lexeme.Lexeme.{Lexeme}
 use Rattle.cga_syntax.specs.declared.lexeme.Lexeme.TheVariants as lexeme
 use Rattle.cga_syntax.specs.Brackets.{counted, bracket_of}
 use Rattle.cga_syntax.specs.Pieces.{Pieces, usual, none_before, token, word}
-use Rattle.cga_parser.specs.declared.block_line.BlockLine.TheVariants as line
 use Rattle.cga_parser.specs.Tokens.{is_word, passing}
 use Rattle.cga_parser.specs.Blocks as b
 use Rattle.cga_parser.proofs.Forms.{Token, Reads, next, done, one_token, either}
 use Rattle.cga_parser.proofs.Singles.{sign_token, name_token, whole_token, word_is}
-use Rattle.cga_parser.proofs.Rules.{rule_reads, line_reads}
+use Rattle.cga_parser.proofs.Rules.{rule_reads}
 use Rattle.cga_parser.proofs.Values.{value_reads}
 
 passed : (t : Bool) (a : Unit {0}) → passing t ≡ Some a → t ≡ true
@@ -48,7 +46,3 @@ block_reads n =
     either (is_word (codes "attr")) (next (attribute_reads n) (λ a. done refl))
     (either (is_word (codes "PRIORITY")) (next (priority_reads n) (λ p. done refl))
     (either (is_word (codes "end")) (next (one_token (word_token (codes "end") n refl)) (λ _. done refl)) (next (rule_reads n) (λ r. done refl))))
-
-pub whole_block_reads : (n : ℕ) → Reads n n b.block_pieces (b.whole_block n)
-unfolding b.whole_block
-whole_block_reads n = line_reads n (block_reads n)

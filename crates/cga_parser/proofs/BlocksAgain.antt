@@ -1,5 +1,5 @@
 -- A line of a block is read as it is written.
-use Rattle.std.proofs.Common.{◌≡◌, ℕ, ◌||◌, ◌&&◌, List, [], ◌∷◌, ◌++◌, Bool, true, false, Some, nat_le, refl, ap, sym, ◌∙◌, codes, if◌then◌else◌}
+use Rattle.std.proofs.Common.{◌≡◌, ℕ, ◌||◌, ◌&&◌, List, ◌∷◌, ◌++◌, Bool, true, false, Some, nat_le, refl, ap, codes, if◌then◌else◌}
 use Rattle.cga_lexer.specs.declared.sign.Sign.TheVariants as s
 use Rattle.cga_syntax.specs.Lexemes.{is_reserved}
 use Rattle.cga_syntax.specs.declared.lexeme.Lexeme.{Lexeme}
@@ -10,7 +10,7 @@ use Rattle.cga_syntax.specs.Pieces.{Pieces, token, usual, never, number, whole, 
 use Rattle.cga_parser.specs.declared.block_line.BlockLine.{BlockLine}
 use Rattle.cga_parser.specs.declared.block_line.BlockLine.TheVariants as line
 use Rattle.cga_parser.specs.Reader.{begins}
-use Rattle.cga_parser.specs.Tokens.{a_sign, a_name, a_whole, is_word, unless}
+use Rattle.cga_parser.specs.Tokens.{a_sign, a_name, a_whole, unless}
 use Rattle.cga_parser.specs.Blocks as b
 use Rattle.cga_parser.proofs.ExprsAgain.{neither}
 use Rattle.cga_parser.proofs.Rules.{rule_is}

@@ -27,3 +27,4 @@ pub mod Blocks
 pub mod BlocksAgain
 pub mod BlockLines
 pub mod BlockReaders
+pub mod Ends

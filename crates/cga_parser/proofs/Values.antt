@@ -1,17 +1,17 @@
 -- Values are read exactly, and again as they are written.
 use Rattle.std.proofs.Common.{◌≡◌, ℕ, zero, suc, ◌<◌, List, [], ◌∷◌, ◌++◌, Bool, true, false, Option, Some, None, inl, inr, ◌⊎◌, refl, ap, sym, ◌∙◌, subst, pos, arith}
 use Rattle.cga_fraction.specs.Rat.{Rat, of_int}
-use Rattle.cga_fraction.specs.Arithmetic.{negated, divided}
+use Rattle.cga_fraction.specs.Arithmetic.{divided}
 use Rattle.cga_lexer.specs.declared.sign.Sign.TheVariants as s
 use Rattle.cga_syntax.specs.declared.lexeme.Lexeme.{Lexeme}
 use Rattle.cga_syntax.specs.declared.lexeme.Lexeme.TheVariants as lexeme
 use Rattle.cga_syntax.specs.Brackets.{counted, bracket_of}
-use Rattle.cga_syntax.specs.Pieces.{Pieces, usual, token, sign, plain, number, valued, IsMagnitude, IsValue, Writes}
-use Rattle.cga_parser.specs.Reader.{Reader, at, begins, ◌>>=◌, ◌>>◌, pure, single, peeked}
+use Rattle.cga_syntax.specs.Pieces.{Pieces, usual, token, plain, number, valued, IsMagnitude, IsValue, Writes}
+use Rattle.cga_parser.specs.Reader.{◌>>=◌, pure, single}
 use Rattle.cga_parser.specs.Tokens.{a_sign, is_sign, a_number, whole_of}
 use Rattle.cga_parser.specs.Blocks as b
 use Rattle.cga_parser.proofs.Runs.{Language, Exact, Some_text, Seq, weaker, pure_runs, bind_runs, single_runs, peeked_runs}
-use Rattle.cga_parser.proofs.Written.{head_of, end_of, nil_right, piece_of, piece_written}
+use Rattle.cga_parser.proofs.Written.{head_of, end_of, nil_right, piece_written}
 use Rattle.cga_parser.proofs.Forms.{After, Reads, one_token}
 use Rattle.cga_parser.proofs.Singles.{sign_token, number_token, as_token, whole_value}
 

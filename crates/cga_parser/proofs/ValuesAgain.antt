@@ -1,12 +1,11 @@
 -- A value is read as it is written.
-use Rattle.std.proofs.Common.{◌≡◌, ℕ, zero, suc, ◌<◌, List, [], ◌∷◌, ◌++◌, map, if◌then◌else◌, Bool, true, false, Option, Some, None, inl, inr, ◌⊎◌, refl, ap, sym, ◌∙◌, subst, pos, arith}
+use Rattle.std.proofs.Common.{◌≡◌, ℕ, zero, suc, ◌<◌, List, [], ◌∷◌, ◌++◌, map, if◌then◌else◌, Bool, true, false, Option, Some, None, inl, inr, refl, ap, sym, subst, pos, arith}
 use Rattle.cga_fraction.specs.Rat.{Rat, of_int}
-use Rattle.cga_fraction.specs.Arithmetic.{divided}
 use Rattle.cga_lexer.specs.declared.sign.Sign.TheVariants as s
 use Rattle.cga_syntax.specs.declared.lexeme.Lexeme.{Lexeme}
 use Rattle.cga_syntax.specs.declared.lexeme.Lexeme.TheVariants as lexeme
 use Rattle.cga_syntax.specs.Pieces.{Pieces, usual, token, sign, plain, number, valued, IsMagnitude, IsValue, never, Writes}
-use Rattle.cga_parser.specs.Reader.{Reader, at, begins, ◌>>=◌, single}
+use Rattle.cga_parser.specs.Reader.{at, begins, ◌>>=◌, single}
 use Rattle.cga_parser.specs.Tokens.{a_sign, is_sign, a_number, whole_of}
 use Rattle.cga_parser.specs.Blocks as b
 use Rattle.cga_parser.proofs.Written.{piece_of, plain_written}

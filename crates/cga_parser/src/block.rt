@@ -1,96 +1,25 @@
-ghost use Rattle.std.specs.Prelude.{◌≡◌, ◌≤◌, ◌<◌, ◌^◌, length, map, pos, IfOk, OnOk, Some};
-ghost use Rattle.cga_fraction.specs.Rat.{of_int};
-ghost use Rattle.cga_fraction.specs.Arithmetic.{divided};
+ghost use Rattle.std.specs.Prelude.{◌≡◌, ◌≤◌, length, map, IfOk};
 ghost use Rattle.cga_parser.specs.Code.{input_of, Reads, seen};
 ghost use Rattle.cga_parser.specs.Answers.{Answers};
 ghost use Rattle.cga_parser.specs.Blocks as spec;
 
 use crate::block_line::BlockLine;
 use crate::fault::{Fault, Stop};
-use crate::rule::{finish, rule};
+use crate::form::{finish, name, prio};
+use crate::rule::rule;
 use crate::tokens::Tokens;
-use crate::words;
-use cga_fraction::{Fraction, NoMemory};
+use crate::value::value;
+use cga_fraction::NoMemory;
 use cga_lexer::{Sign, Token};
 use cga_syntax::Attribute;
 use std::alloc::Global;
-
-fn with_minus(minus: bool, value: Fraction) -> Fraction
-    ensures { result ≡ spec.with_minus minus value }
-{
-    if minus { value.neg() } else { value }
-}
-
-/// n divided by d, which never leaves the range of fractions.
-fn quotient(n: u64, d: u64) -> Fraction
-    requires small { n ≤ 2 ^ 62 }
-    requires above_zero { 0 < d }
-    requires few { d ≤ 2 ^ 62 }
-    ensures { result ≡ divided (of_int (pos n)) (of_int (pos d)) }
-{
-    match Fraction::new(n as i64, d as i64) {
-        Ok(value) => value,
-        Err(_) => unreachable!(),
-    }
-}
-
-#[tactic(auto, unfolding(crate::specs::Blocks::divisor))]
-fn divisor(tokens: &mut Tokens<'_>) -> Result<u64, Stop>
-    ensures reads { Reads (spec.divisor (input_of tokens.old)) result (input_of tokens.new) }
-    ensures above_zero { IfOk result (λ d. 0 < d) }
-    ensures few { IfOk result (λ d. d ≤ 2 ^ 62) }
-{
-    tokens.sign(Sign::Slash)?;
-    tokens.take(words::divisor(tokens.peek()))
-}
-
-/// What stands behind a whole number.
-fn whole_rest(
-    tokens: &mut Tokens<'_>,
-    minus: bool,
-    first: Fraction,
-    n: u64,
-) -> Result<Fraction, Stop>
-    requires { n ≤ 2 ^ 62 }
-    ensures { Reads (spec.magnitude_rest minus first (Some n) (input_of tokens.old)) result (input_of tokens.new) }
-{
-    if tokens.at_sign(Sign::Slash) {
-        let d = divisor(tokens)?;
-        return Ok(with_minus(minus, quotient(n, d)));
-    }
-    Ok(with_minus(minus, first))
-}
-
-#[tactic(auto, unfolding(crate::specs::Blocks::magnitude))]
-fn magnitude(tokens: &mut Tokens<'_>, minus: bool) -> Result<Fraction, Stop>
-    ensures { Reads (spec.magnitude minus (input_of tokens.old)) result (input_of tokens.new) }
-{
-    let first = tokens.take(words::number(tokens.peek()))?;
-    match words::whole_of(first) {
-        Some(n) => whole_rest(tokens, minus, first, n),
-        None => Ok(with_minus(minus, first)),
-    }
-}
-
-/// A number, or two whole numbers with a slash between them, of which the second isn't 0; a minus may
-/// stand before it. The value is exact, and none is out of range.
-#[tactic(auto, unfolding(crate::specs::Blocks::value))]
-pub fn value(tokens: &mut Tokens<'_>) -> Result<Fraction, Stop>
-    ensures { Reads (spec.value (input_of tokens.old)) result (input_of tokens.new) }
-{
-    if tokens.at_sign(Sign::Minus) {
-        tokens.sign(Sign::Minus)?;
-        return magnitude(tokens, true);
-    }
-    magnitude(tokens, false)
-}
 
 #[tactic(auto, unfolding(crate::specs::Blocks::attribute))]
 fn attribute(tokens: &mut Tokens<'_>) -> Result<Attribute, Stop>
     ensures { Reads (spec.attribute (input_of tokens.old)) result (input_of tokens.new) }
 {
     tokens.word(b"attr")?;
-    let name = tokens.take(words::name(tokens.peek()))?;
+    let name = name(tokens)?;
     tokens.sign(Sign::Assign)?;
     let value = value(tokens)?;
     Ok(Attribute { name, value })
@@ -101,7 +30,7 @@ fn priority(tokens: &mut Tokens<'_>) -> Result<u16, Stop>
     ensures { Reads (spec.priority (input_of tokens.old)) result (input_of tokens.new) }
 {
     tokens.word(b"PRIORITY")?;
-    let priority = tokens.take(words::prio(tokens.peek()))?;
+    let priority = prio(tokens)?;
     tokens.sign(Sign::Colon)?;
     Ok(priority)
 }
@@ -139,10 +68,7 @@ pub fn block_of(alloc: Global, tokens: &[Token]) -> Result<Result<BlockLine, Fau
     requires { length tokens.now ≤ 65535 }
     ensures { IfOk result (λ found. Answers spec.block_pieces 32 (map seen tokens.now) found) }
 {
-    let mut left = Tokens {
-        rest: tokens,
-        rands: 0,
-    };
+    let mut left = Tokens::of(tokens);
     match whole_block(alloc, &mut left) {
         Ok(line) => Ok(Ok(line)),
         Err(Stop::Fault(fault)) => Ok(Err(fault)),

@@ -2,8 +2,8 @@ ghost use Rattle.std.specs.Prelude.{◌≡◌, ◌++◌, ◌∷◌, [], List, On
 ghost use Rattle.cga_parser.specs.BlockAnswers.{Line, GrammarAnswers, StandsFor, Adds, line_number};
 
 use crate::block_line::BlockLine;
+use crate::block_text::read_block_line;
 use crate::grammar_fault::GrammarFault;
-use crate::line::read_block_line;
 use cga_fraction::{List, NoMemory};
 use cga_syntax::{Attribute, Entry, Grammar};
 use std::alloc::Global;

@@ -7,10 +7,12 @@
 
 pub mod block;
 mod block_line;
+mod block_text;
 mod cond;
 mod expr;
 pub mod fault;
 mod first;
+pub mod form;
 mod grammar_fault;
 mod grammar_reader;
 mod heads;
@@ -18,15 +20,18 @@ mod item;
 mod line;
 mod line_fault;
 mod parts;
+pub mod place;
 pub mod rule;
 #[cfg(test)]
 mod tests;
 mod texts;
 pub mod tokens;
+pub mod value;
 mod words;
 
 pub use block_line::BlockLine;
+pub use block_text::{read_block_line, says_end, spells_one_line};
 pub use grammar_fault::GrammarFault;
 pub use grammar_reader::GrammarReader;
-pub use line::{parse_rule, read_block_line, spells_one, spells_one_line};
+pub use line::{parse_rule, spells_one};
 pub use line_fault::LineFault;

@@ -1,7 +1,7 @@
 use Rattle.std.proofs.Common.{w64, ℕ, ◌≡◌, ◌≤◌, ◌^◌, arith, pos, to_z}
 use Rattle.std.proofs.lemmas.Int.{to_z_pos}
 use Rattle.cga_parser.proofs.Quotients.{never_refused, quotient_found}
-use Rattle.cga_parser.proofs.block.quotient.Goals as goal
+use Rattle.cga_parser.proofs.value.quotient.Goals as goal
 
 signed : (n : ℕ) → n ≤ 2 ^ 62 → to_z w64 n ≡ pos n
 signed n h = to_z_pos w64 n (omega arith)

@@ -1,10 +1,9 @@
-use Rattle.std.proofs.Common.{◌≡◌, Ok, Err, Some, ◌∙◌, sym, ap, subst, map, length}
+use Rattle.std.proofs.Common.{Ok, Err, ◌∙◌, sym, subst, map}
 use Rattle.cga_parser.specs.Answers.{Answers}
 use Rattle.cga_parser.specs.Blocks.{block_pieces}
 use Rattle.cga_parser.specs.Code.{seen}
-use Rattle.cga_parser.specs.BlockAnswers.{unless_blank}
 use Rattle.cga_parser.proofs.BlockReaders.{not_blank}
-use Rattle.cga_parser.proofs.line.of_tokens.Goals as goal
+use Rattle.cga_parser.proofs.block_text.of_tokens.Goals as goal
 
 pub returns-in-Ok : goal.returns-in-Ok
 returns-in-Ok c =
