@@ -28,3 +28,5 @@ pub mod BlocksAgain
 pub mod BlockLines
 pub mod BlockReaders
 pub mod Ends
+pub mod Once
+pub mod OnceLines

@@ -1,11 +1,6 @@
 //! What the lines of a block say.
-ghost use Rattle.std.specs.Prelude.{◌≡◌, ◌≤◌, ◌↔◌, length, IfOk, List, Ok, Some};
-ghost use Rattle.cga_parser.specs.BlockAnswers.{Line, BlockAnswers, EndsBlock, unless_blank};
-ghost use Rattle.cga_parser.specs.Blocks.{block_pieces};
-ghost use Rattle.cga_parser.specs.declared.block_line.BlockLine.{BlockLine};
-ghost use Rattle.cga_parser.specs.declared.block_line.BlockLine.TheVariants.{End};
-ghost use Rattle.cga_syntax.specs.Spelling.{Spelled};
-ghost use Rattle.cga_syntax.specs.declared.lexeme.Lexeme.{Lexeme};
+ghost use Rattle.std.specs.Prelude.{◌≤◌, length, IfOk, Ok};
+ghost use Rattle.cga_parser.specs.BlockAnswers.{BlockAnswers, unless_blank};
 
 use crate::block::block_of;
 use crate::block_line::BlockLine;
@@ -51,13 +46,3 @@ fn of_tokens(
         Err(fault) => Ok(Err(at_place(fault, end, tokens))),
     }
 }
-
-/// No tokens spell two lines of a block.
-pub fn spells_one_line()
-    ensures { (text : List Lexeme) (a b : BlockLine) → Spelled block_pieces text a → Spelled block_pieces text b → a ≡ b }
-{}
-
-/// A line says `end` exactly where it ends its block.
-pub fn says_end()
-    ensures { (l : Line) → EndsBlock l ↔ BlockAnswers l (Ok (Some End)) }
-{}

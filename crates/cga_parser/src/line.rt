@@ -1,9 +1,6 @@
-ghost use Rattle.std.specs.Prelude.{◌≡◌, IfOk, List};
+ghost use Rattle.std.specs.Prelude.{IfOk};
 ghost use Rattle.cga_parser.specs.LineAnswers.{LineAnswers};
 ghost use Rattle.cga_syntax.specs.Pieces.{rule_pieces};
-ghost use Rattle.cga_syntax.specs.Spelling.{Spelled};
-ghost use Rattle.cga_syntax.specs.declared.lexeme.Lexeme.{Lexeme};
-ghost use Rattle.cga_syntax.specs.declared.rule.Rule.{Rule};
 
 use crate::line_fault::LineFault;
 use crate::place::{at_place, of_lexer};
@@ -38,8 +35,3 @@ pub fn parse_rule(alloc: Global, line: &[u8]) -> Result<Result<Rule, LineFault>,
         }
     }
 }
-
-/// No tokens spell two rules.
-pub fn spells_one()
-    ensures { (text : List Lexeme) (a b : Rule) → Spelled rule_pieces text a → Spelled rule_pieces text b → a ≡ b }
-{}
