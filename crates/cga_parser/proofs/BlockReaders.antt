@@ -10,7 +10,8 @@ use Rattle.cga_parser.specs.Answers.{Answers}
 use Rattle.cga_parser.specs.Blocks.{block_pieces}
 use Rattle.cga_parser.specs.Code.{seen}
 use Rattle.cga_parser.specs.LineAnswers.{with_place}
-use Rattle.cga_parser.specs.BlockAnswers.{Line, Found, as_line, unless_blank, BlockAnswers, Say, attributes_of, entries_from, priority_after, line_number, GrammarAnswers, Keeps, StandsFor, Adds}
+use Rattle.cga_parser.specs.BlockAnswers.{Line, Found, as_line, unless_blank, BlockAnswers, Say, attributes_of, entries_from, priority_after, line_number, grammar_of, GrammarAnswers, Keeps, StandsFor, Adds}
+use Rattle.cga_parser.proofs.OnceLines.{good_or_faulty}
 
 -- ---- a line with tokens
 
@@ -95,3 +96,12 @@ module _ (old : GrammarReader) (m : ℕ) (l : Line) (e : m ≡ min (old.lines + 
   pub one_more : {T E : Type 0} (r : Result T E) (said : Option BlockLine) (new : GrammarReader) → is_some old.fault ≡ false → (found : Found) → BlockAnswers l found → found ≡ Ok said → OnOk r (Adds later said new) →
       (lines : List Line) → StandsFor old lines → OnOk r (StandsFor new (lines ++ l ∷ []))
   one_more r said new q found h f a lines k = on_ok r _ _ (more lines said new q (subst (λ z. BlockAnswers l z) f h) k) a
+
+-- ---- a reader with a faulty line
+
+faulty_at : (reader : GrammarReader) (lines : List Line) (f : GrammarFault) (o : Option GrammarFault) → Keeps reader lines o → GrammarAnswers lines (Err f) → is_some o ≡ true
+faulty_at reader lines f None k h = absurd (good_or_faulty lines (grammar_of k.0) f (k.0, k.1, refl) h)
+faulty_at reader lines f (Some g) k h = refl
+
+pub never_good : (reader : GrammarReader) → is_some reader.fault ≡ false → (lines : List Line) (f : GrammarFault) → StandsFor reader lines → GrammarAnswers lines (Err f) → ⊥
+never_good reader e lines f k h = let q : true ≡ false = sym (faulty_at reader lines f reader.fault k.1 h) ∙ e in cc

@@ -98,7 +98,7 @@ both_faulty lines a b h k =
       | inr s ↦ let t = first_fault k.0 h.0 k.1 h.1 k.2 h.2 s.0 h.3 b.fault a.fault k.6 h.6 h.5 s.1 s.2 in (h.7 ∙ ap (λ z. line_number (suc z)) (sym t.0) ∙ sym k.7, sym t.1)
     ]
 
-good_or_faulty : (lines : List Line) (g : Grammar) (f : GrammarFault) → GrammarAnswers lines (Ok g) → GrammarAnswers lines (Err f) → ⊥
+pub good_or_faulty : (lines : List Line) (g : Grammar) (f : GrammarFault) → GrammarAnswers lines (Ok g) → GrammarAnswers lines (Err f) → ⊥
 good_or_faulty lines g f h k = says_none k.0 k.1 k.2 h.0 f.fault (subst (λ z. Say z h.0) k.4 h.1) k.6
 
 pub once_lines : (lines : List Line) (f g : Result Grammar GrammarFault) → GrammarAnswers lines f → GrammarAnswers lines g → f ≡ g

@@ -1,4 +1,5 @@
-ghost use Rattle.std.specs.Prelude.{◌≡◌, ◌++◌, ◌∷◌, [], List, OnOk};
+ghost use Rattle.std.specs.Prelude.{◌≡◌, ◌++◌, ◌∷◌, [], List, OnOk, IsOk, Err};
+ghost use Rattle.cga_parser.specs.declared.grammar_fault.GrammarFault.{GrammarFault};
 ghost use Rattle.cga_parser.specs.BlockAnswers.{Line, GrammarAnswers, StandsFor, Adds, line_number};
 
 use crate::block_line::BlockLine;
@@ -38,8 +39,10 @@ impl GrammarReader {
     /// Takes the next line of the block, without its end. Where it is long, its bytes are not looked at. After a faulty
     /// line the others are only counted, which takes no memory. After NoMemory the reader stands for nothing.
     pub fn line(&mut self, bytes: &[u8], long: bool) -> Result<(), NoMemory>
-        ensures { (lines : List Line) → StandsFor self.old lines
+        ensures taken { (lines : List Line) → StandsFor self.old lines
             → OnOk result (StandsFor self.new (lines ++ record { bytes = bytes.now; long = long } ∷ [])) }
+        ensures free { (lines : List Line) (f : GrammarFault) → StandsFor self.old lines
+            → GrammarAnswers lines (Err f) → IsOk result }
     {
         self.lines = self.lines.saturating_add(1);
         if self.fault.is_some() {
