@@ -1,4 +1,4 @@
-use Rattle.std.proofs.Common.{◌≡◌, Ok, ◌∙◌, sym}
+use Rattle.std.proofs.Common.{◌∙◌, sym}
 use Rattle.cga_parser.proofs.BlockReaders.{passed_over, one_more, never_good}
 use Rattle.cga_parser.proofs.grammar_reader.GrammarReader.line.Goals as goal
 
