@@ -15,7 +15,7 @@ ghost use Rattle.cga_parser.specs.Blocks as blocks;
 
 use crate::fault::Stop;
 use crate::tokens::Tokens;
-use crate::words;
+use crate::{numbers, words};
 use cga_word::Name;
 
 /// A word that isn't reserved.
@@ -29,14 +29,14 @@ pub fn name(tokens: &mut Tokens<'_>) -> Result<Name, Stop>
 pub fn id(tokens: &mut Tokens<'_>) -> Result<u32, Stop>
     ensures { Reads (blocks.id (input_of tokens.old)) result (input_of tokens.new) }
 {
-    tokens.take(words::whole(tokens.peek(), 1, 999_999))
+    tokens.take(numbers::whole(tokens.peek(), 1, 999_999))
 }
 
 /// The priority of a symbol: a whole number, 0 to 65,535.
 pub fn prio(tokens: &mut Tokens<'_>) -> Result<u16, Stop>
     ensures { Reads (blocks.prio (input_of tokens.old)) result (input_of tokens.new) }
 {
-    tokens.take(words::prio(tokens.peek()))
+    tokens.take(numbers::prio(tokens.peek()))
 }
 
 /// The end of the line: no token is left.

@@ -23,6 +23,7 @@ mod item;
 mod laws;
 mod line;
 mod line_fault;
+mod numbers;
 mod parts;
 pub mod place;
 pub mod rule;

@@ -14,7 +14,7 @@ use crate::form::{finish, id, name};
 use crate::item::body;
 use crate::parts::goes_on;
 use crate::tokens::Tokens;
-use crate::words;
+use crate::{numbers, words};
 use cga_fraction::{Fraction, List, NoMemory};
 use cga_lexer::{Sign, Token};
 use cga_syntax::{Alternative, Cond, Rule};
@@ -79,7 +79,7 @@ fn given_probability(tokens: &mut Tokens<'_>) -> Result<Fraction, Stop>
     ensures { Reads (spec.given_probability (input_of tokens.old)) result (input_of tokens.new) }
 {
     tokens.sign(Sign::Colon)?;
-    tokens.take(words::number(tokens.peek()))
+    tokens.take(numbers::number(tokens.peek()))
 }
 
 #[tactic(auto, unfolding(crate::specs::Grammar::probability))]

@@ -5,8 +5,8 @@ ghost use Rattle.cga_parser.specs.Code.{input_of, Reads};
 ghost use Rattle.cga_parser.specs.Blocks as spec;
 
 use crate::fault::Stop;
+use crate::numbers;
 use crate::tokens::Tokens;
-use crate::words;
 use cga_fraction::Fraction;
 use cga_lexer::Sign;
 
@@ -36,7 +36,7 @@ fn divisor(tokens: &mut Tokens<'_>) -> Result<u64, Stop>
     ensures few { IfOk result (λ d. d ≤ 2 ^ 62) }
 {
     tokens.sign(Sign::Slash)?;
-    tokens.take(words::divisor(tokens.peek()))
+    tokens.take(numbers::divisor(tokens.peek()))
 }
 
 /// What stands behind a whole number.
@@ -60,8 +60,8 @@ fn whole_rest(
 fn magnitude(tokens: &mut Tokens<'_>, minus: bool) -> Result<Fraction, Stop>
     ensures { Reads (spec.magnitude minus (input_of tokens.old)) result (input_of tokens.new) }
 {
-    let first = tokens.take(words::number(tokens.peek()))?;
-    match words::whole_of(first) {
+    let first = tokens.take(numbers::number(tokens.peek()))?;
+    match numbers::whole_of(first) {
         Some(n) => whole_rest(tokens, minus, first, n),
         None => Ok(with_minus(minus, first)),
     }
