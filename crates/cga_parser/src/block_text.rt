@@ -11,8 +11,8 @@ use cga_fraction::NoMemory;
 use cga_lexer::{Token, tokens};
 use std::alloc::Global;
 
-/// What a line of a block says, or its first fault; None where it is blank. A line that is said to be long, or has
-/// more than 4,096 bytes, isn't looked at.
+/// What a line of a block says, or its first fault; None where it is blank. A line that is said to
+/// be long, or has more than 4,096 bytes, isn't looked at.
 #[tactic(auto, using(crate::proofs::Spans::few_tokens))]
 pub fn read_block_line(
     alloc: Global,

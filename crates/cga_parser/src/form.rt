@@ -1,13 +1,16 @@
-//! Parts that the lines of several forms have. A crate above reads a line of its own with them:
+//! Parts that the lines of several forms have. A crate above reads lines of its own with them:
 //!
-//! - Its form is a reader in its specs, made of those of `Grammar` and `Blocks` by the steps of `Reader`, and beside it the
-//!   pieces that a member is written as.
+//! - Its form is a reader in its specs, made of those of `Grammar` and `Blocks` by the steps of
+//!   `Reader`, and beside it the pieces that a member is written as.
 //! - A function over `&mut Tokens` follows the reader, a call for each part, with the clause
-//!   `Reads (reader (input_of tokens.old)) result (input_of tokens.new)`. It starts at `Tokens::of` and ends with `finish`.
-//! - `at_place` gives a fault of the tokens its place in the line, and `of_lexer` takes over a fault of its bytes.
-//! - That the reader reads exactly (`Reads` of proofs/Forms) and again what is written (`Again` of proofs/Again) gives the
-//!   answer to the whole line, and that no tokens spell two members (`form_found`, `form_refused` and `form_unique` of
-//!   proofs/Lines).
+//!   `Reads (reader (input_of tokens.old)) result (input_of tokens.new)`. It starts at `Tokens::of`,
+//!   and `finish` is its last part.
+//! - `at_place` gives a fault of the tokens its place in the line, and `of_lexer` takes over a fault
+//!   of the bytes.
+//! - Two facts of the reader, that it reads exactly (`Reads` of proofs/Forms) and again what is
+//!   written (`Again` of proofs/Again), give the answer to the whole line, and that no tokens spell
+//!   two members (`form_found`, `form_refused` and `form_unique` of proofs/Lines, `once_line` of
+//!   proofs/OnceLines).
 ghost use Rattle.std.specs.Prelude.{◌≡◌};
 ghost use Rattle.cga_parser.specs.Code.{input_of, Reads};
 ghost use Rattle.cga_parser.specs.Grammar as spec;

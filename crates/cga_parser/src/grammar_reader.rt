@@ -36,8 +36,9 @@ impl GrammarReader {
         }
     }
 
-    /// Takes the next line of the block, without its end. Where it is long, its bytes are not looked at. After a faulty
-    /// line the others are only counted, which takes no memory. After NoMemory the reader stands for nothing.
+    /// Takes the next line of the block, without its end. The bytes of a long one aren't looked at.
+    /// After a faulty line the others are only counted, which takes no memory. After NoMemory the
+    /// reader stands for nothing.
     pub fn line(&mut self, bytes: &[u8], long: bool) -> Result<(), NoMemory>
         ensures taken { (lines : List Line) → StandsFor self.old lines
             → OnOk result (StandsFor self.new (lines ++ record { bytes = bytes.now; long = long } ∷ [])) }
@@ -74,8 +75,9 @@ impl GrammarReader {
         Ok(())
     }
 
-    /// The grammar that the lines say: its attributes and its rules in the order of the lines, each rule with
-    /// the priority of the last `PRIORITY` line before it, or 1. Or the first faulty line. Takes no memory.
+    /// The grammar that the lines say: its attributes and its rules in the order of the lines, each
+    /// rule with the priority of the last `PRIORITY` line before it, or 1. Or the first faulty line.
+    /// Takes no memory.
     pub fn finish(self) -> Result<Grammar, GrammarFault>
         ensures { (lines : List Line) → StandsFor self lines → GrammarAnswers lines result }
     {

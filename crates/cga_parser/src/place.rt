@@ -18,7 +18,7 @@ pub fn of_lexer(fault: LexFault) -> LineFault
     }
 }
 
-/// A fault of the tokens of a line, at its place. `end` is the place behind the last byte of the line.
+/// A fault of the tokens of a line, at its place. `end` is the place behind the last byte.
 pub fn at_place(fault: Fault, end: u32, tokens: &[Token]) -> LineFault
     ensures { result ≡ placed end tokens.now fault }
 {
