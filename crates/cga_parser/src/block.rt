@@ -14,8 +14,9 @@ use cga_lexer::{Sign, Token};
 use cga_syntax::Attribute;
 use std::alloc::Global;
 
+/// A name and its value, behind the word `attr`.
 #[tactic(auto, unfolding(crate::specs::Blocks::attribute))]
-fn attribute(tokens: &mut Tokens<'_>) -> Result<Attribute, Stop>
+pub fn attribute(tokens: &mut Tokens<'_>) -> Result<Attribute, Stop>
     ensures { Reads (spec.attribute (input_of tokens.old)) result (input_of tokens.new) }
 {
     tokens.word(b"attr")?;
@@ -37,7 +38,7 @@ fn priority(tokens: &mut Tokens<'_>) -> Result<u16, Stop>
 
 /// A line of a block, where so many brackets may be opened.
 #[tactic(auto, unfolding(crate::specs::Blocks::block))]
-fn block(alloc: Global, tokens: &mut Tokens<'_>, depth: u8) -> Result<BlockLine, Stop>
+pub fn block(alloc: Global, tokens: &mut Tokens<'_>, depth: u8) -> Result<BlockLine, Stop>
     ensures { Reads (spec.block depth (input_of tokens.old)) result (input_of tokens.new) }
 {
     if tokens.at_word(b"attr") {
