@@ -14,12 +14,27 @@ impl Fraction {
 
     /// The decimal text with so many places: the nearest, and of two equally near ones the one farther from
     /// zero. Takes memory.
+    #[tactic(auto, using(crate::proofs::Nearest::is_nearest))]
     pub fn decimal_text(self, alloc: Global, places: u8) -> Result<List<u8>, NoMemory>
         requires { places ≤ 9 }
         ensures value { IfOk result (λ text. text ≡ decimal_text_of self places) }
         ensures nearest { IsNearest self places (round_of self places) }
     {
-        self.rounded_text(alloc, places)
+        let mut text = Vec::new(alloc);
+        self.push_decimal(&mut text, places)?;
+        Ok(List::from_vec(text))
+    }
+
+    /// Appends the decimal text, so that a long text is written without memory of its own for each number in it.
+    /// Takes memory as the text grows.
+    #[tactic(auto, unfolding(crate::specs::Texts::decimal_text_of))]
+    pub fn push_decimal(self, text: &mut Vec<u8>, places: u8) -> Result<(), NoMemory>
+        requires { places ≤ 9 }
+        ensures { OnOk result (text.new.items ≡ text.old.items ++ decimal_text_of self places) }
+    {
+        let magnitude = self.rounded_magnitude(places);
+        text.extend_from_slice(minus(self.numerator, magnitude))?;
+        push_pointed(text, magnitude, places)
     }
 
     /// `n` where the denominator is 1, otherwise `n/d`. Takes memory.
@@ -42,24 +57,21 @@ impl Fraction {
         ensures value { IfOk result (λ text. text ≡ literal_text_of self) }
         ensures shortest { IfOk result (IsShortest self) }
     {
+        let mut text = Vec::new(alloc);
+        self.push_literal(&mut text)?;
+        Ok(List::from_vec(text))
+    }
+
+    /// Appends that text, so that a long text is written without memory of its own for each number in it. Takes
+    /// memory as the text grows.
+    pub fn push_literal(self, text: &mut Vec<u8>) -> Result<(), NoMemory>
+        requires { IsLiteral self }
+        ensures { OnOk result (text.new.items ≡ text.old.items ++ literal_text_of self) }
+    {
         let places = least_places_of(self.denominator);
         let numerator = self.numerator.unsigned_abs() as u128;
         let digits = numerator * power_of_ten(places) / self.denominator as u128;
-        let mut out = Vec::new(alloc);
-        push_pointed(&mut out, digits, places)?;
-        Ok(List::from_vec(out))
-    }
-
-    #[tactic(auto, unfolding(crate::specs::Texts::decimal_text_of))]
-    fn rounded_text(self, alloc: Global, places: u8) -> Result<List<u8>, NoMemory>
-        requires { places ≤ 17 }
-        ensures { IfOk result (λ text. text ≡ decimal_text_of self places) }
-    {
-        let magnitude = self.rounded_magnitude(places);
-        let mut out = Vec::new(alloc);
-        out.extend_from_slice(minus(self.numerator, magnitude))?;
-        push_pointed(&mut out, magnitude, places)?;
-        Ok(List::from_vec(out))
+        push_pointed(text, digits, places)
     }
 
     // The magnitude of the whole number nearest to 10 ^ places times this one.
