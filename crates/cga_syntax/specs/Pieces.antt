@@ -1,6 +1,7 @@
 -- What a tree is written as.
-use Rattle.std.specs.Prelude.{◌≡◌, ℕ, ◌+◌, ◌⊎◌, ◌&&◌, List, [], ◌∷◌, ◌++◌, map, Bool, if◌then◌else◌, length, nat_le, pos, Option, Some, None, codes}
+use Rattle.std.specs.Prelude.{◌≡◌, ℕ, ◌+◌, ◌<◌, ◌⊎◌, ◌&&◌, List, [], ◌∷◌, ◌++◌, map, Bool, if◌then◌else◌, length, nat_le, pos, Option, Some, None, codes}
 use Rattle.cga_fraction.specs.Rat.{Rat, of_int}
+use Rattle.cga_fraction.specs.Arithmetic.{negated, divided}
 use Rattle.cga_lexer.specs.declared.sign.Sign.{Sign}
 use Rattle.cga_lexer.specs.declared.sign.Sign.TheVariants as s
 use Rattle.cga_word.specs.declared.axis.Axis.{Axis}
@@ -60,6 +61,7 @@ pub data Piece : Type 0 where
   turned : Turn → Piece
   -- the probability of an alternative, with the colon before it
   probability : Rat → Piece
+  valued : Rat → Piece
   -- what no text is written as
   never : Piece
 
@@ -75,12 +77,23 @@ IsTurn turn.By270 text = (text ≡ number 270 ∷ []) ⊎ (text ≡ lexeme.Sign 
 abbrev pub IsProbability : Rat → List Lexeme → Type 0
 IsProbability p text = (text ≡ lexeme.Sign s.Colon ∷ lexeme.Number p ∷ []) ⊎ ((p ≡ of_int (pos 1)) × (text ≡ []))
 
+-- a number; or a whole number, a slash and a whole number that isn't 0, the first divided by the second
+abbrev pub IsMagnitude : Rat → List Lexeme → Type 0
+IsMagnitude v text =
+    (text ≡ lexeme.Number v ∷ [])
+    ⊎ ((n : ℕ) × (d : ℕ) × (text ≡ number n ∷ lexeme.Sign s.Slash ∷ number d ∷ []) × (0 < d) × (v ≡ divided (of_int (pos n)) (of_int (pos d))))
+
+-- that, or the negative of what stands behind a minus
+abbrev pub IsValue : Rat → List Lexeme → Type 0
+IsValue v text = IsMagnitude v text ⊎ ((m : Rat) × (rest : List Lexeme) × (text ≡ lexeme.Sign s.Minus ∷ rest) × IsMagnitude m rest × (v ≡ negated m))
+
 -- the piece is written as the text, where so many rands come before it and after it
 abbrev pub IsWritten : ℕ → Piece → List Lexeme → ℕ → Type 0
 IsWritten n (token space l) text m = (text ≡ l ∷ []) × (n ≡ m)
 IsWritten n (drawn j) text m = (text ≡ lexeme.Keyword k.Rand ∷ []) × (j ≡ n + 1) × (m ≡ n + 1)
 IsWritten n (turned t) text m = IsTurn t text × (n ≡ m)
 IsWritten n (probability p) text m = IsProbability p text × (n ≡ m)
+IsWritten n (valued v) text m = IsValue v text × (n ≡ m)
 IsWritten n never text m = ⊥
 
 -- the pieces are written one after the other as the text
