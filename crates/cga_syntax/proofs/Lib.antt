@@ -1,0 +1,5 @@
+pub mod Printed
+pub mod Wholes
+pub mod Layers
+pub mod CondLayers
+pub mod ItemLayers

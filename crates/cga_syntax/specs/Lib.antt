@@ -2,3 +2,4 @@ pub mod Lexemes
 pub mod Pieces
 pub mod Spelling
 pub mod Brackets
+pub mod Printing
