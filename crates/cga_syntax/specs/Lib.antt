@@ -3,3 +3,4 @@ pub mod Pieces
 pub mod Spelling
 pub mod Brackets
 pub mod Printing
+pub mod Reading

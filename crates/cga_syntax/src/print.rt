@@ -3,6 +3,7 @@ ghost use Rattle.std.specs.Prelude.{◌≡◌, ◌++◌, IfOk, OnOk};
 ghost use Rattle.cga_syntax.specs.Pieces.{rule_pieces};
 ghost use Rattle.cga_syntax.specs.Printing.{printed, text_of, HaveTexts};
 
+pub(crate) mod back;
 pub(crate) mod cond;
 pub(crate) mod expr;
 pub(crate) mod gap;
@@ -15,6 +16,7 @@ pub(crate) mod text;
 pub(crate) mod token;
 pub(crate) mod words;
 
+pub use crate::print::back::lexes_back;
 use crate::print::rule::push_rule;
 use crate::print::text::push_marks;
 use crate::rule::Rule;

@@ -1,0 +1,31 @@
+-- What printed tokens are read back as.
+use Rattle.std.specs.Prelude.{◌≡◌, true, false, List, [], ◌∷◌, map, Result, Ok, Err}
+use Rattle.cga_fraction.specs.Decimals.{IsLiteral}
+use Rattle.cga_word.specs.Name.{is_name}
+use Rattle.cga_lexer.specs.Line.{Outcome}
+use Rattle.cga_lexer.specs.declared.token.Token.{Token}
+use Rattle.cga_syntax.specs.Lexemes.{lexeme_of, is_reserved}
+use Rattle.cga_syntax.specs.declared.lexeme.Lexeme.{Lexeme}
+use Rattle.cga_syntax.specs.declared.lexeme.Lexeme.TheVariants as lexeme
+
+-- a token that some line has: a number that some text is read as, or a name
+abbrev pub IsToken : Lexeme → Type 0
+IsToken (lexeme.Number value) = IsLiteral value
+IsToken (lexeme.Relative value) = IsLiteral value
+IsToken (lexeme.Keyword word) = Unit {0}
+IsToken (lexeme.Name name) = (is_name name ≡ true) × (is_reserved name ≡ false)
+IsToken (lexeme.Text name) = is_name name ≡ true
+IsToken (lexeme.Sign sign) = Unit {0}
+
+abbrev pub AreTokens : List Lexeme → Type 0
+AreTokens [] = Unit {0}
+AreTokens (l ∷ ls) = IsToken l × AreTokens ls
+
+-- the tokens of a line, as the forms of the language see them
+abbrev pub seen_of : List Token → List Lexeme
+seen_of ts = map (λ t. lexeme_of t.kind) ts
+
+-- a line's tokens are these
+abbrev pub AreRead : Outcome → List Lexeme → Type 0
+AreRead (Ok ts) ls = seen_of ts ≡ ls
+AreRead (Err f) ls = ⊥
