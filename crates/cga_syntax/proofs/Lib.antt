@@ -6,3 +6,4 @@ pub mod ItemLayers
 pub mod Fronts
 pub mod Signs
 pub mod Back
+pub mod Sections
