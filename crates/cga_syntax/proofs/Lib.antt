@@ -7,3 +7,7 @@ pub mod Fronts
 pub mod Signs
 pub mod Back
 pub mod Sections
+pub mod Tokens
+pub mod Exact
+pub mod Again
+pub mod Spelled

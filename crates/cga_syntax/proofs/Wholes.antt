@@ -8,7 +8,7 @@ use Rattle.cga_fraction.specs.declared.overflow.DivFault.{DivFault}
 use Rattle.cga_fraction.proofs.Gcds.{gcd-one}
 use Rattle.cga_fraction.proofs.Lowest.{checked-in, reduced-parts}
 
-whole_reduced : (n : ℕ) → reduced (pos n) 1 ≡ of_int (pos n)
+pub whole_reduced : (n : ℕ) → reduced (pos n) 1 ≡ of_int (pos n)
 whole_reduced n = reduced-parts (pos n) 1 1 (sym (gcd-one n)) ∙ ap (λ m. of_int (pos m)) (let e : n / 1 ≡ n = omega arith in e)
 
 whole_divided : (n : ℕ) → divided (of_int (pos n)) (of_int (pos 1)) ≡ of_int (pos n)

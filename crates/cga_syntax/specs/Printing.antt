@@ -1,5 +1,5 @@
 -- What a rule is printed as: its tokens in order, and where no space stands between two of them.
-use Rattle.std.specs.Prelude.{ℕ, zero, suc, ◌&&◌, ◌||◌, ◌==◌, ℤ, pos, negsuc, List, [], ◌∷◌, ◌++◌, Bool, true, false, if◌then◌else◌, Option, Some, None, codes}
+use Rattle.std.specs.Prelude.{ℕ, zero, suc, ◌+◌, ◌&&◌, ◌||◌, ◌==◌, ℤ, pos, negsuc, List, [], ◌∷◌, ◌++◌, Bool, true, false, if◌then◌else◌, Option, Some, None, codes}
 use Rattle.std.specs.List.{All}
 use Rattle.cga_fraction.specs.Rat.{Rat}
 use Rattle.cga_fraction.specs.Decimals.{IsLiteral}
@@ -49,13 +49,22 @@ is_whole_one (negsuc n) = false
 abbrev pub is_one : Rat → Bool
 is_one p = is_whole_one p.num && p.above == 0
 
+-- a whole number, or two with a slash between them where the denominator isn't 1
+abbrev pub magnitude : ℕ → ℕ → List Mark
+magnitude n zero = usually (number n) ∷ []
+magnitude n (suc above) = usually (number n) ∷ usually (lexeme.Sign s.Slash) ∷ usually (number (suc above + 1)) ∷ []
+
+abbrev pub exactly : ℤ → ℕ → List Mark
+exactly (pos n) above = magnitude n above
+exactly (negsuc n) above = marked gap.NoneAfter (lexeme.Sign s.Minus) ∷ magnitude (suc n) above
+
 -- the tokens that a piece is printed as: a turn is its degrees, and a probability of 1 is left out
 abbrev pub printed_piece : Piece → List Mark
 printed_piece (token space l) = marked (gap_of space) l ∷ []
 printed_piece (drawn j) = usually (lexeme.Keyword k.Rand) ∷ []
 printed_piece (turned t) = usually (number (degrees t)) ∷ []
 printed_piece (probability p) = if is_one p then [] else usually (lexeme.Sign s.Colon) ∷ usually (lexeme.Number p) ∷ []
-printed_piece (valued v) = []
+printed_piece (valued v) = exactly v.num v.above
 printed_piece never = []
 
 abbrev pub printed : List Piece → List Mark

@@ -1,10 +1,13 @@
 -- What printed tokens are read back as.
-use Rattle.std.specs.Prelude.{◌≡◌, true, false, List, [], ◌∷◌, map, Result, Ok, Err}
+use Rattle.std.specs.Prelude.{◌≡◌, ℕ, true, false, List, [], ◌∷◌, map, Result, Ok, Err}
 use Rattle.cga_fraction.specs.Decimals.{IsLiteral}
 use Rattle.cga_word.specs.Name.{is_name}
-use Rattle.cga_lexer.specs.Line.{Outcome}
+use Rattle.cga_lexer.specs.Line.{Outcome, tokens_of}
 use Rattle.cga_lexer.specs.declared.token.Token.{Token}
 use Rattle.cga_syntax.specs.Lexemes.{lexeme_of, is_reserved}
+use Rattle.cga_syntax.specs.Pieces.{Pieces}
+use Rattle.cga_syntax.specs.Printing.{printed, text_of, HaveTexts}
+use Rattle.cga_syntax.specs.Spelling.{Spelled}
 use Rattle.cga_syntax.specs.declared.lexeme.Lexeme.{Lexeme}
 use Rattle.cga_syntax.specs.declared.lexeme.Lexeme.TheVariants as lexeme
 
@@ -29,3 +32,15 @@ seen_of ts = map (λ t. lexeme_of t.kind) ts
 abbrev pub AreRead : Outcome → List Lexeme → Type 0
 AreRead (Ok ts) ls = seen_of ts ≡ ls
 AreRead (Err f) ls = ⊥
+
+abbrev pub outcome_spells : {A : Type 0} → (A → Pieces) → Outcome → A → Type 0
+outcome_spells w (Ok ts) a = Spelled w (seen_of ts) a
+outcome_spells w (Err f) a = ⊥
+
+-- the line's tokens are written as the value's pieces
+abbrev pub LineSpells : {A : Type 0} → (A → Pieces) → List ℕ → A → Type 0
+LineSpells w line a = outcome_spells w (tokens_of line) a
+
+-- each number of what is printed has a text, and the text spells the value
+abbrev pub IsPrintedWell : {A : Type 0} → (A → Pieces) → A → Type 0
+IsPrintedWell w a = HaveTexts (printed (w a)) × LineSpells w (text_of (printed (w a))) a

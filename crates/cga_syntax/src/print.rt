@@ -20,7 +20,7 @@ pub(crate) mod token;
 pub(crate) mod words;
 
 use crate::grammar::Grammar;
-pub use crate::print::back::lexes_back;
+pub use crate::print::back::{lexes_back, spells_back};
 use crate::print::grammar::{push_attributes, push_sections};
 use crate::print::rule::push_rule;
 use crate::print::text::push_marks;
