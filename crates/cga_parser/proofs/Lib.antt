@@ -20,3 +20,13 @@ pub mod Turns
 pub mod Listings
 pub mod RuleListings
 pub mod Spans
+pub mod Values
+pub mod ValuesAgain
+pub mod Quotients
+pub mod Blocks
+pub mod BlocksAgain
+pub mod BlockLines
+pub mod BlockReaders
+pub mod Ends
+pub mod Once
+pub mod OnceLines

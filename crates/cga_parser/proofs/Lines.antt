@@ -10,7 +10,7 @@ use Rattle.cga_parser.specs.Reader.{Input, Outcome, Reader, at, and_then, ◌>>=
 use Rattle.cga_parser.specs.Grammar.{any, finish, rule, rule_line}
 use Rattle.cga_parser.proofs.Forms.{Reads}
 use Rattle.cga_parser.proofs.Rules.{rule_reads, line_reads}
-use Rattle.cga_parser.proofs.RulesAgain.{rule_again}
+use Rattle.cga_parser.proofs.RulesAgain.{with_rule, rule_again}
 use Rattle.cga_parser.proofs.Again.{Again, ends, after, plainly, misses_end, peek_no}
 use Rattle.cga_parser.proofs.Whole.{Judges, judged, unique}
 
@@ -40,31 +40,42 @@ ends_by : {A : Type 0} (q : Outcome A) (a : A) (o : Input) → and_then q (λ r.
 ends_by (Ok q) a o h = finish_by q.0 a q.1.left q.1.count o h
 ends_by (Err f) a o h = absurd (cc)
 
+-- ---- any form
+
+module _ {A : Type 0} (w : A → Pieces) (t : Lexeme → Bool) (p : ℕ → Reader A) (reads : (n : ℕ) → Reads n n w (p n)) (again : (n : ℕ) → Again w t (p n)) where
+  -- a line that is a member of the form
+  abbrev pub whole : ℕ → Reader A
+  whole n = p n >>= λ a. finish >> pure a
+
+  whole_ends : (n : ℕ) (text : List Lexeme) (a : A) (o : Input) → whole n (at text 0) ≡ Ok (a, o) → o.left ≡ []
+  whole_ends n text a o h = ends_by (p n (at text 0)) a o h
+
+  whole_judged : (n : ℕ) (text : List Lexeme) → Judges w n text (whole n (at text 0))
+  whole_judged n = judged w any n (whole n) (line_reads n (reads n)) (line_again (again n)) (whole_ends n)
+
+  judged_as : (n : ℕ) (text : List Lexeme) (o : Outcome A) → whole n (at text 0) ≡ o → Judges w n text o
+  judged_as n text o e = subst (λ q. Judges w n text q) e (whole_judged n text)
+
+  -- no tokens spell two members
+  pub form_unique : (text : List Lexeme) (a b : A) → Spelled w text a → Spelled w text b → a ≡ b
+  form_unique = unique w any whole (λ n. line_reads n (reads n)) (λ n. line_again (again n)) whole_ends refl
+
+  -- what is read is what the line spells, and a refusal is the right one
+  pub form_found : (n : ℕ) (text : List Lexeme) (a : A) (o : Input) → whole n (at text 0) ≡ Ok (a, o) → Answers w n text (Ok a)
+  form_found n text a o e = judged_as n text (Ok (a, o)) e
+
+  pub form_refused : (n : ℕ) (text : List Lexeme) (f : Fault) → whole n (at text 0) ≡ Err f → Answers w n text (Err f)
+  form_refused n text f e = judged_as n text (Err f) e
+
 -- ---- rules
 
-rule_line_reads : (n : ℕ) → Reads n n rule_pieces (rule_line n)
-unfolding rule_line
-rule_line_reads n = line_reads n (rule_reads n)
-
-rule_line_again : (n : ℕ) → Again rule_pieces any (rule_line n)
-unfolding rule_line
-rule_line_again n = line_again (rule_again n)
-
-rule_line_ends : (n : ℕ) (text : List Lexeme) (a : Rule) (o : Input) → rule_line n (at text 0) ≡ Ok (a, o) → o.left ≡ []
-unfolding rule_line
-rule_line_ends n text a o h = ends_by (rule n (at text 0)) a o h
-
-pub rule_judged : (n : ℕ) (text : List Lexeme) → Judges rule_pieces n text (rule_line n (at text 0))
-rule_judged n = judged rule_pieces any n (rule_line n) (rule_line_reads n) (rule_line_again n) (rule_line_ends n)
-
 pub rule_unique : (text : List Lexeme) (a b : Rule) → Spelled rule_pieces text a → Spelled rule_pieces text b → a ≡ b
-rule_unique = unique rule_pieces any rule_line rule_line_reads rule_line_again rule_line_ends refl
-
-judged_as : (n : ℕ) (text : List Lexeme) (o : Outcome Rule) → rule_line n (at text 0) ≡ o → Judges rule_pieces n text o
-judged_as n text o e = subst (λ q. Judges rule_pieces n text q) e (rule_judged n text)
+rule_unique = form_unique rule_pieces with_rule rule rule_reads rule_again
 
 pub found_is_right : (n : ℕ) (text : List Lexeme) (a : Rule) (o : Input) → rule_line n (at text 0) ≡ Ok (a, o) → Answers rule_pieces n text (Ok a)
-found_is_right n text a o e = judged_as n text (Ok (a, o)) e
+unfolding rule_line
+found_is_right n text a o e = form_found rule_pieces with_rule rule rule_reads rule_again n text a o e
 
 pub fault_is_right : (n : ℕ) (text : List Lexeme) (f : Fault) → rule_line n (at text 0) ≡ Err f → Answers rule_pieces n text (Err f)
-fault_is_right n text f e = judged_as n text (Err f) e
+unfolding rule_line
+fault_is_right n text f e = form_refused rule_pieces with_rule rule rule_reads rule_again n text f e

@@ -6,7 +6,7 @@ ghost use Rattle.cga_parser.specs.Grammar as spec;
 use crate::fault::Stop;
 use crate::heads::PrimaryHead;
 use crate::tokens::Tokens;
-use crate::words;
+use crate::{numbers, words};
 use cga_fraction::{Boxed, List};
 use cga_lexer::Sign;
 use cga_syntax::{Added, Expr, Factor, Keyword, Primary, Scaled, Term};
@@ -47,7 +47,7 @@ fn rand_parts(
     tokens.sign(Sign::Comma)?;
     let high = Boxed::new(alloc, inside(alloc, tokens, depth)?)?;
     tokens.sign(Sign::Comma)?;
-    let steps = tokens.take(words::whole(tokens.peek(), 1, 1_000_000))?;
+    let steps = tokens.take(numbers::whole(tokens.peek(), 1, 1_000_000))?;
     tokens.sign(Sign::RightRound)?;
     Ok((low, high, steps))
 }

@@ -11,7 +11,7 @@ use crate::fault::Stop;
 use crate::first::with_first;
 use crate::heads::SelectorHead;
 use crate::tokens::Tokens;
-use crate::{texts, words};
+use crate::{numbers, texts};
 use cga_fraction::List;
 use cga_lexer::Sign;
 use cga_syntax::{Expr, Size};
@@ -21,7 +21,7 @@ use std::alloc::Global;
 fn begins_relative(tokens: &Tokens<'_>) -> bool
     ensures { result ≡ begins is_relative (input_of tokens.now).left }
 {
-    words::relative(tokens.peek()).is_some()
+    numbers::relative(tokens.peek()).is_some()
 }
 
 #[tactic(auto, unfolding(crate::specs::Grammar::size))]
@@ -30,7 +30,7 @@ fn size(alloc: Global, tokens: &mut Tokens<'_>, depth: u8) -> Result<Size, Stop>
     ensures { Reads (spec.size depth (spec.inside_of depth) (input_of tokens.old)) result (input_of tokens.new) }
 {
     if begins_relative(tokens) {
-        let factor = tokens.take(words::relative(tokens.peek()))?;
+        let factor = tokens.take(numbers::relative(tokens.peek()))?;
         return Ok(Size::Relative(factor));
     }
     Ok(Size::Absolute(inside(alloc, tokens, depth)?))
@@ -77,7 +77,7 @@ fn minus_ninety(tokens: &mut Tokens<'_>) -> Result<(), Stop>
     ensures { Reads (spec.minus_ninety (input_of tokens.old)) result (input_of tokens.new) }
 {
     tokens.sign(Sign::Minus)?;
-    tokens.take(words::ninety(tokens.peek()))
+    tokens.take(numbers::ninety(tokens.peek()))
 }
 
 #[tactic(auto, unfolding(crate::specs::Grammar::quarter_turn))]
@@ -88,7 +88,7 @@ fn quarter_turn(tokens: &mut Tokens<'_>) -> Result<Turn, Stop>
         minus_ninety(tokens)?;
         return Ok(Turn::By270);
     }
-    tokens.take(words::turn(tokens.peek()))
+    tokens.take(numbers::turn(tokens.peek()))
 }
 
 #[tactic(auto, unfolding(crate::specs::Grammar::turn_part))]
@@ -179,7 +179,7 @@ fn selector_rest(tokens: &mut Tokens<'_>, head: SelectorHead) -> Result<Selector
         SelectorHead::Edges => Ok(Selector::Edges),
         SelectorHead::Edge => {
             tokens.sign(Sign::Comma)?;
-            let number = tokens.take(words::edge(tokens.peek()))?;
+            let number = tokens.take(numbers::edge(tokens.peek()))?;
             Ok(Selector::Edge(number))
         }
         SelectorHead::Vertices => Ok(Selector::Vertices),

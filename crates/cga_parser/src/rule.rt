@@ -10,10 +10,11 @@ ghost use Rattle.cga_lexer.specs.declared.sign.Sign.TheVariants as sign;
 use crate::cond::cond;
 use crate::fault::{Fault, Stop};
 use crate::first::with_first;
+use crate::form::{finish, id, name};
 use crate::item::body;
 use crate::parts::goes_on;
 use crate::tokens::Tokens;
-use crate::words;
+use crate::{numbers, words};
 use cga_fraction::{Fraction, List, NoMemory};
 use cga_lexer::{Sign, Token};
 use cga_syntax::{Alternative, Cond, Rule};
@@ -78,7 +79,7 @@ fn given_probability(tokens: &mut Tokens<'_>) -> Result<Fraction, Stop>
     ensures { Reads (spec.given_probability (input_of tokens.old)) result (input_of tokens.new) }
 {
     tokens.sign(Sign::Colon)?;
-    tokens.take(words::number(tokens.peek()))
+    tokens.take(numbers::number(tokens.peek()))
 }
 
 #[tactic(auto, unfolding(crate::specs::Grammar::probability))]
@@ -118,12 +119,12 @@ fn further_alternatives(
 
 /// A rule, where so many brackets may be opened.
 #[tactic(auto, unfolding(crate::specs::Grammar::rule))]
-pub(crate) fn rule(alloc: Global, tokens: &mut Tokens<'_>, depth: u8) -> Result<Rule, Stop>
+pub fn rule(alloc: Global, tokens: &mut Tokens<'_>, depth: u8) -> Result<Rule, Stop>
     ensures { Reads (spec.rule depth (input_of tokens.old)) result (input_of tokens.new) }
 {
-    let id = tokens.take(words::whole(tokens.peek(), 1, 999_999))?;
+    let id = id(tokens)?;
     tokens.sign(Sign::Colon)?;
-    let symbol = tokens.take(words::name(tokens.peek()))?;
+    let symbol = name(tokens)?;
     let params = parameters(alloc, tokens, depth)?;
     let cond = condition(alloc, tokens, depth)?;
     let first = alternative(alloc, tokens, depth)?;
@@ -136,16 +137,6 @@ pub(crate) fn rule(alloc: Global, tokens: &mut Tokens<'_>, depth: u8) -> Result<
         cond,
         alternatives,
     })
-}
-
-#[tactic(auto, unfolding(crate::specs::Grammar::finish))]
-fn finish(tokens: &mut Tokens<'_>) -> Result<(), Stop>
-    ensures { Reads (spec.finish (input_of tokens.old)) result (input_of tokens.new) }
-{
-    match tokens.peek() {
-        None => Ok(()),
-        Some(_) => Err(tokens.unexpected()),
-    }
 }
 
 #[tactic(auto, unfolding(crate::specs::Grammar::rule_line))]
@@ -163,10 +154,7 @@ pub fn rule_of(alloc: Global, tokens: &[Token]) -> Result<Result<Rule, Fault>, N
     requires { length tokens.now ≤ 65535 }
     ensures { IfOk result (λ found. Answers rule_pieces 32 (map seen tokens.now) found) }
 {
-    let mut left = Tokens {
-        rest: tokens,
-        rands: 0,
-    };
+    let mut left = Tokens::of(tokens);
     match whole_line(alloc, &mut left) {
         Ok(rule) => Ok(Ok(rule)),
         Err(Stop::Fault(fault)) => Ok(Err(fault)),

@@ -1,6 +1,7 @@
-ghost use Rattle.std.specs.Prelude.{◌≡◌, ◌+◌, ◌≤◌, ◌<◌, ℕ, length, IsTrue, ◌↔◌, OnOk};
+ghost use Rattle.std.specs.Prelude.{◌≡◌, ◌+◌, ◌≤◌, ◌<◌, ℕ, length, map, IsTrue, ◌↔◌, OnOk};
 
 use crate::fault::{Fault, Stop};
+use crate::words;
 use cga_lexer::{Sign, Token};
 use cga_syntax::{Keyword, Lexeme};
 
@@ -19,9 +20,21 @@ fn is_next(next: Option<Lexeme>, wanted: Lexeme) -> bool
 }
 
 impl<'a> Tokens<'a> {
-    ghost use Rattle.cga_parser.specs.Code.{input_of, Reads, IsProper};
-    ghost use Rattle.cga_parser.specs.Reader.{first, skipped, begins, taking, single, enter, drawn_word};
+    ghost use Rattle.cga_parser.specs.Code.{input_of, Reads, IsProper, seen};
+    ghost use Rattle.cga_parser.specs.Reader.{at, first, skipped, begins, taking, single, enter, drawn_word};
     ghost use Rattle.cga_parser.specs.Tokens as spec;
+    ghost use Rattle.cga_parser.specs.Blocks.{a_word};
+
+    /// All tokens of a line, of which none is read yet.
+    pub fn of(tokens: &'a [Token]) -> Tokens<'a>
+        requires { length tokens.now ≤ 65535 }
+        ensures { input_of result ≡ at (map seen tokens.now) 0 }
+    {
+        Tokens {
+            rest: tokens,
+            rands: 0,
+        }
+    }
 
     /// The next token.
     pub fn peek(&self) -> Option<Lexeme>
@@ -34,7 +47,8 @@ impl<'a> Tokens<'a> {
         }
     }
 
-    pub(crate) fn skip(&mut self)
+    /// Goes on behind the next token, where there is one.
+    pub fn skip(&mut self)
         ensures { input_of self.new ≡ skipped (input_of self.old) }
     {
         if let [_, rest @ ..] = self.rest {
@@ -42,26 +56,29 @@ impl<'a> Tokens<'a> {
         }
     }
 
-    pub(crate) fn unexpected(&self) -> Stop
+    /// The refusal of the next token, or of the end.
+    pub fn unexpected(&self) -> Stop
         ensures { result ≡ Stop.Fault (Fault.Unexpected (length (input_of self.now).left)) }
     {
         Stop::Fault(Fault::Unexpected(self.rest.len()))
     }
 
-    pub(crate) fn at_sign(&self, sign: Sign) -> bool
+    /// Whether the sign comes next.
+    pub fn at_sign(&self, sign: Sign) -> bool
         ensures { result ≡ begins (spec.is_sign sign) (input_of self.now).left }
     {
         is_next(self.peek(), Lexeme::Sign(sign))
     }
 
-    pub(crate) fn at_keyword(&self, keyword: Keyword) -> bool
+    /// Whether the reserved word comes next.
+    pub fn at_keyword(&self, keyword: Keyword) -> bool
         ensures { result ≡ begins (spec.is_keyword keyword) (input_of self.now).left }
     {
         is_next(self.peek(), Lexeme::Keyword(keyword))
     }
 
-    /// Takes a token that stands for a value.
-    pub(crate) fn take<A>(&mut self, decoded: Option<A>) -> Result<A, Stop>
+    /// Takes the next token, given what it stands for. It is unexpected where that is nothing.
+    pub fn take<A>(&mut self, decoded: Option<A>) -> Result<A, Stop>
         ensures { Reads (taking decoded (input_of self.old)) result (input_of self.new) }
     {
         match decoded {
@@ -73,7 +90,8 @@ impl<'a> Tokens<'a> {
         }
     }
 
-    pub(crate) fn sign(&mut self, sign: Sign) -> Result<(), Stop>
+    /// Takes the sign, or refuses the next token.
+    pub fn sign(&mut self, sign: Sign) -> Result<(), Stop>
         ensures { Reads (single (spec.a_sign sign) (input_of self.old)) result (input_of self.new) }
     {
         if self.at_sign(sign) {
@@ -83,7 +101,8 @@ impl<'a> Tokens<'a> {
         Err(self.unexpected())
     }
 
-    pub(crate) fn keyword(&mut self, keyword: Keyword) -> Result<(), Stop>
+    /// Takes the reserved word, or refuses the next token.
+    pub fn keyword(&mut self, keyword: Keyword) -> Result<(), Stop>
         ensures { Reads (single (spec.a_keyword keyword) (input_of self.old)) result (input_of self.new) }
     {
         if self.at_keyword(keyword) {
@@ -93,8 +112,22 @@ impl<'a> Tokens<'a> {
         Err(self.unexpected())
     }
 
+    /// Whether a word that a form names comes next.
+    pub fn at_word(&self, bytes: &[u8]) -> bool
+        ensures { result ≡ begins (spec.is_word bytes.now) (input_of self.now).left }
+    {
+        words::word(self.peek(), bytes).is_some()
+    }
+
+    /// Takes a word that a form names, or refuses the next token.
+    pub fn word(&mut self, bytes: &[u8]) -> Result<(), Stop>
+        ensures { Reads (single (a_word bytes.now) (input_of self.old)) result (input_of self.new) }
+    {
+        self.take(words::word(self.peek(), bytes))
+    }
+
     /// Takes an opening bracket, where so many brackets may still be opened.
-    pub(crate) fn enter(&mut self, sign: Sign, depth: u8) -> Result<(), Stop>
+    pub fn enter(&mut self, sign: Sign, depth: u8) -> Result<(), Stop>
         ensures reads { Reads (enter (spec.a_sign sign) depth (input_of self.old)) result (input_of self.new) }
         ensures inner { OnOk result (0 < depth) }
     {
@@ -109,7 +142,7 @@ impl<'a> Tokens<'a> {
     }
 
     /// Takes the word of a rand, and gives its number.
-    pub(crate) fn rand(&mut self) -> Result<u16, Stop>
+    pub fn rand(&mut self) -> Result<u16, Stop>
         ensures { Reads (drawn_word (spec.a_keyword Keyword.Rand) (input_of self.old)) result (input_of self.new) }
     {
         match self.rest {

@@ -1,14 +1,15 @@
 //! What single tokens stand for.
-ghost use Rattle.std.specs.Prelude.{◌≡◌, ◌≤◌, IfSome};
+ghost use Rattle.std.specs.Prelude.{◌≡◌};
 ghost use Rattle.cga_parser.specs.Code.{IsProper};
 ghost use Rattle.cga_parser.specs.Reader.{decoded};
 ghost use Rattle.cga_parser.specs.Tokens as spec;
+ghost use Rattle.cga_parser.specs.Blocks.{a_word};
+ghost use Rattle.cga_syntax.specs.Lexemes.{is};
 
 use crate::heads::{ItemHead, PrimaryHead, ScopeWord};
-use cga_fraction::Fraction;
 use cga_lexer::Sign;
 use cga_syntax::{Keyword, Lexeme, Relation};
-use cga_word::{Axis, Name, Turn};
+use cga_word::{Axis, Name};
 
 pub(crate) fn name(next: Option<Lexeme>) -> Option<Name>
     requires { IsProper next }
@@ -16,15 +17,6 @@ pub(crate) fn name(next: Option<Lexeme>) -> Option<Name>
 {
     match next? {
         Lexeme::Name(name) => Some(name),
-        _ => None,
-    }
-}
-
-pub(crate) fn number(next: Option<Lexeme>) -> Option<Fraction>
-    ensures { result ≡ decoded spec.a_number next }
-{
-    match next? {
-        Lexeme::Number(value) => Some(value),
         _ => None,
     }
 }
@@ -93,40 +85,6 @@ fn size_axis_of(name: Name) -> Option<Axis>
         Some(Axis::Z)
     } else {
         None
-    }
-}
-
-/// A whole number within bounds.
-pub(crate) fn whole(next: Option<Lexeme>, low: u32, high: u32) -> Option<u32>
-    ensures value { result ≡ decoded (spec.a_whole low high) next }
-    ensures below { IfSome result (λ n. n ≤ high) }
-{
-    match next? {
-        Lexeme::Number(value) => within(value, low, high),
-        _ => None,
-    }
-}
-
-fn within(value: Fraction, low: u32, high: u32) -> Option<u32>
-    ensures value { result ≡ spec.bounded low high (spec.whole_of value) }
-    ensures below { IfSome result (λ n. n ≤ high) }
-{
-    if value.denominator() != 1 {
-        return None;
-    }
-    match u32::try_from(value.numerator()) {
-        Ok(n) if low <= n && n <= high => Some(n),
-        _ => None,
-    }
-}
-
-/// The number of an edge.
-pub(crate) fn edge(next: Option<Lexeme>) -> Option<u8>
-    ensures { result ≡ decoded (spec.a_whole 1 12) next }
-{
-    match whole(next, 1, 12) {
-        Some(number) => Some(number as u8),
-        None => None,
     }
 }
 
@@ -217,59 +175,20 @@ fn item_keyword(keyword: Keyword) -> Option<ItemHead>
     }
 }
 
-pub(crate) fn relative(next: Option<Lexeme>) -> Option<Fraction>
-    ensures { result ≡ decoded spec.a_relative next }
+/// A word that a form names.
+pub(crate) fn word(next: Option<Lexeme>, bytes: &[u8]) -> Option<()>
+    ensures { result ≡ decoded (a_word bytes.now) next }
 {
     match next? {
-        Lexeme::Relative(factor) => Some(factor),
+        Lexeme::Name(name) => same(name, bytes),
         _ => None,
     }
 }
 
-pub(crate) fn turn(next: Option<Lexeme>) -> Option<Turn>
-    ensures { result ≡ decoded spec.a_turn next }
+fn same(name: Name, bytes: &[u8]) -> Option<()>
+    ensures { result ≡ spec.passing (is name bytes.now) }
 {
-    match next? {
-        Lexeme::Number(value) => turn_of(value),
-        _ => None,
-    }
-}
-
-fn turn_of(value: Fraction) -> Option<Turn>
-    ensures { result ≡ spec.turned_by (spec.whole_of value) }
-{
-    match whole_of(value)? {
-        0 => Some(Turn::By0),
-        90 => Some(Turn::By90),
-        180 => Some(Turn::By180),
-        270 => Some(Turn::By270),
-        _ => None,
-    }
-}
-
-/// The value, where it is whole and not below 0.
-fn whole_of(value: Fraction) -> Option<u64>
-    ensures { result ≡ spec.whole_of value }
-{
-    if value.denominator() != 1 {
-        return None;
-    }
-    u64::try_from(value.numerator()).ok()
-}
-
-pub(crate) fn ninety(next: Option<Lexeme>) -> Option<()>
-    ensures { result ≡ decoded spec.a_ninety next }
-{
-    match next? {
-        Lexeme::Number(value) => ninety_of(value),
-        _ => None,
-    }
-}
-
-fn ninety_of(value: Fraction) -> Option<()>
-    ensures { result ≡ spec.ninety_by (spec.whole_of value) }
-{
-    if whole_of(value)? == 90 {
+    if name.bytes() == bytes {
         Some(())
     } else {
         None

@@ -1,5 +1,5 @@
 use Rattle.cga_parser.proofs.Lines.{rule_unique}
-use Rattle.cga_parser.proofs.line.spells_one.Goals as goal
+use Rattle.cga_parser.proofs.laws.spells_one.Goals as goal
 
 pub returns : goal.returns
 returns c = rule_unique

@@ -1,0 +1,12 @@
+use cga_syntax::{Attribute, Rule};
+
+/// What a line of a block says.
+#[derive(Debug, Drop)]
+pub enum BlockLine {
+    Attribute(Attribute),
+    /// The priority of the rules that follow.
+    Priority(u16),
+    Rule(Rule),
+    /// The line `end`, which ends the block.
+    End,
+}
