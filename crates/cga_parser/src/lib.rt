@@ -26,6 +26,8 @@ mod line_fault;
 mod numbers;
 mod parts;
 mod printed;
+#[cfg(test)]
+mod printed_tests;
 pub mod place;
 pub mod rule;
 #[cfg(test)]
