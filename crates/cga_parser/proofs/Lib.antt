@@ -30,3 +30,5 @@ pub mod BlockReaders
 pub mod Ends
 pub mod Once
 pub mod OnceLines
+pub mod ReadBack
+pub mod Printable

@@ -6,3 +6,4 @@ pub mod Answers
 pub mod Code
 pub mod LineAnswers
 pub mod BlockAnswers
+pub mod Back

@@ -1,0 +1,13 @@
+pub mod Printed
+pub mod Wholes
+pub mod Layers
+pub mod CondLayers
+pub mod ItemLayers
+pub mod Fronts
+pub mod Signs
+pub mod Back
+pub mod Sections
+pub mod Tokens
+pub mod Exact
+pub mod Again
+pub mod Spelled

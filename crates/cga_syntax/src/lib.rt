@@ -14,6 +14,7 @@ mod grammar;
 mod item;
 mod keyword;
 mod lexeme;
+mod print;
 mod rule;
 #[cfg(test)]
 mod tests;
@@ -25,4 +26,5 @@ pub use grammar::{Attribute, Entry, Grammar, Group};
 pub use item::{Body, Item, Size};
 pub use keyword::Keyword;
 pub use lexeme::Lexeme;
+pub use print::{lexes_back, print_grammar, print_rule, spells_back};
 pub use rule::{Alternative, Rule};

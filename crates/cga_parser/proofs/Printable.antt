@@ -1,0 +1,85 @@
+-- What was read may be printed.
+use Rattle.std.proofs.Common.{◌≡◌, ℕ, ◌+◌, nat_lt, Bool, true, false, List, [], ◌∷◌, length, map, Option, Some, None, Result, Ok, Err, refl, ap, sym, ◌∙◌, subst}
+use Rattle.std.proofs.lemmas.List.Elements.{All-nil, All-cons}
+use Rattle.cga_lexer.specs.Line.{tokens_of, Outcome as Lexed}
+use Rattle.cga_lexer.specs.declared.token.Token.{Token}
+use Rattle.cga_syntax.specs.declared.grammar.Entry.{Entry}
+use Rattle.cga_syntax.specs.declared.grammar.Grammar.{Grammar}
+use Rattle.cga_syntax.specs.declared.rule.Rule.{Rule}
+use Rattle.cga_syntax.specs.GrammarText.{ArePrintable}
+use Rattle.cga_syntax.specs.Pieces.{Pieces, rule_pieces}
+use Rattle.cga_syntax.specs.Printing.{printed, HaveTexts}
+use Rattle.cga_parser.specs.declared.block_line.BlockLine.{BlockLine}
+use Rattle.cga_parser.specs.declared.block_line.BlockLine.TheVariants as line
+use Rattle.cga_parser.specs.declared.fault.Fault.{Fault}
+use Rattle.cga_parser.specs.declared.line_fault.LineFault.{LineFault}
+use Rattle.cga_parser.specs.Answers.{Answers}
+use Rattle.cga_parser.specs.Back.{few_brackets, SpellsRule}
+use Rattle.cga_parser.specs.BlockAnswers.{Line, Found, is_long, as_line, unless_blank, unless_long, BlockAnswers, Say, entries_from, grammar_of, GrammarAnswers}
+use Rattle.cga_parser.specs.Blocks.{block_pieces}
+use Rattle.cga_parser.specs.Code.{seen}
+use Rattle.cga_parser.specs.LineAnswers.{with_place, by_tokens, by_length, LineAnswers}
+use Rattle.cga_parser.proofs.ReadBack.{rule_back}
+
+-- ---- a rule
+
+same_value : {A : Type 0} (a b : A) → ◌≡◌ {A = Result A LineFault} (Ok a) (Ok b) → b ≡ a
+same_value a b h = cc
+
+module _ {A : Type 0} (w : A → Pieces) (a : A) where
+  placed_value : (end : ℕ) (ts : List Token) (found : Result A Fault) → ◌≡◌ {A = Result A LineFault} (Ok a) (with_place end ts found) → Answers w 32 (map seen ts) found → Answers w 32 (map seen ts) (Ok a)
+  placed_value end ts (Ok b) e h = subst (λ z. Answers w 32 (map seen ts) (Ok z)) (same_value a b e) h
+  placed_value end ts (Err f) e h = absurd (cc)
+
+from_tokens : (r : Rule) (end : ℕ) (o : Lexed) → by_tokens rule_pieces end o (Ok r) → few_brackets o r
+from_tokens r end (Ok ts) h = let a = placed_value rule_pieces r end ts h.0 h.2 h.1 in (a.0, (32, a.1))
+from_tokens r end (Err f) h = absurd (cc)
+
+from_length : (r : Rule) (bytes : List ℕ) (long : Bool) → by_length rule_pieces bytes long (Ok r) → few_brackets (tokens_of bytes) r
+from_length r bytes true h = absurd (cc)
+from_length r bytes false h = from_tokens r (length bytes + 1) (tokens_of bytes) h
+
+pub parsed_spells : (bytes : List ℕ) (r : Rule) → LineAnswers rule_pieces bytes (Ok r) → SpellsRule bytes r
+parsed_spells bytes r h = from_length r bytes (nat_lt 4096 (length bytes)) h
+
+pub parsed_prints : (bytes : List ℕ) (r : Rule) → LineAnswers rule_pieces bytes (Ok r) → HaveTexts (printed (rule_pieces r))
+parsed_prints bytes r h = (rule_back bytes r (parsed_spells bytes r h)).0
+
+-- ---- a grammar
+
+some_line : (said b : BlockLine) → ◌≡◌ {A = Found} (Ok (Some said)) (Ok (Some b)) → b ≡ said
+some_line said b h = cc
+
+block_tokens : (r : Rule) (end : ℕ) (t : Token) (ts : List Token) (found : Result BlockLine LineFault) → by_tokens block_pieces end (Ok (t ∷ ts)) found → ◌≡◌ {A = Found} (Ok (Some (line.Rule r))) (as_line found) → few_brackets (Ok (t ∷ ts)) r
+block_tokens r end t ts (Ok said) h e =
+    let q : said ≡ line.Rule r = some_line (line.Rule r) said e in
+    let g : by_tokens block_pieces end (Ok (t ∷ ts)) (Ok (line.Rule r)) = subst (λ z. by_tokens block_pieces end (Ok (t ∷ ts)) (Ok z)) q h in
+    let a = placed_value block_pieces (line.Rule r) end (t ∷ ts) g.0 g.2 g.1 in (a.0, (32, a.1))
+block_tokens r end t ts (Err f) h e = absurd (cc)
+
+block_blank : (r : Rule) (end : ℕ) (o : Lexed) → unless_blank end o (Ok (Some (line.Rule r))) → few_brackets o r
+block_blank r end (Err f) h = absurd (cc)
+block_blank r end (Ok []) h = absurd (let q : Some (line.Rule r) ≡ None = cc in cc)
+block_blank r end (Ok (t ∷ ts)) h = block_tokens r end t ts h.0 h.1 h.2
+
+block_long : (r : Rule) (bytes : List ℕ) (long : Bool) → unless_long bytes long (Ok (Some (line.Rule r))) → few_brackets (tokens_of bytes) r
+block_long r bytes true h = absurd (cc)
+block_long r bytes false h = block_blank r (length bytes + 1) (tokens_of bytes) h
+
+line_prints : (l : Line) (r : Rule) → BlockAnswers l (Ok (Some (line.Rule r))) → HaveTexts (printed (rule_pieces r))
+line_prints l r h = (rule_back l.bytes r (block_long r l.bytes (is_long l) h)).0
+
+lines_print : (priority : ℕ) (lines : List Line) (all : List (Option BlockLine)) → Say lines all → ArePrintable (entries_from priority all)
+unfolding Say entries_from
+lines_print p [] [] h = All-nil (λ (e : Entry). HaveTexts (printed (rule_pieces e.rule)))
+lines_print p (l ∷ ls) [] h = absurd h
+lines_print p [] (said ∷ all) h = absurd h
+lines_print p (l ∷ ls) (None ∷ all) h = lines_print p ls all h.1
+lines_print p (l ∷ ls) (Some (line.Attribute a) ∷ all) h = lines_print p ls all h.1
+lines_print p (l ∷ ls) (Some (line.Priority q) ∷ all) h = lines_print q ls all h.1
+lines_print p (l ∷ ls) (Some line.End ∷ all) h = lines_print p ls all h.1
+lines_print p (l ∷ ls) (Some (line.Rule r) ∷ all) h =
+    All-cons (λ (e : Entry). HaveTexts (printed (rule_pieces e.rule))) (record { priority = p; rule = r }) (entries_from p all) (line_prints l r h.0) (lines_print p ls all h.1)
+
+pub grammar_prints : (lines : List Line) (grammar : Grammar) → GrammarAnswers lines (Ok grammar) → ArePrintable grammar.rules
+grammar_prints lines grammar h = subst (λ (g : Grammar). ArePrintable g.rules) (sym h.2) (lines_print 1 lines h.0 h.1)

@@ -1,0 +1,21 @@
+//! Printed rules are read back.
+ghost use Rattle.std.specs.Prelude.{ℕ, List, Ok};
+ghost use Rattle.cga_parser.specs.LineAnswers.{LineAnswers};
+ghost use Rattle.cga_parser.specs.BlockAnswers.{Line, GrammarAnswers};
+ghost use Rattle.cga_parser.specs.Back.{SpellsRule, IsReadBack};
+ghost use Rattle.cga_syntax.specs.GrammarText.{ArePrintable};
+ghost use Rattle.cga_syntax.specs.Pieces.{rule_pieces};
+ghost use Rattle.cga_syntax.specs.declared.grammar.Grammar.{Grammar};
+ghost use Rattle.cga_syntax.specs.declared.rule.Rule.{Rule};
+
+/// The text that `print_rule` gives of a rule that some line spells is read as this rule, and by
+/// `answers_once` as nothing else.
+pub fn reads_back()
+    ensures { (line : List ℕ) (rule : Rule) → SpellsRule line rule → IsReadBack rule }
+{}
+
+/// What was read may be printed: a rule, and the rules of the lines of a block.
+pub fn may_be_printed()
+    ensures rule { (line : List ℕ) (rule : Rule) → LineAnswers rule_pieces line (Ok rule) → SpellsRule line rule }
+    ensures grammar { (lines : List Line) (grammar : Grammar) → GrammarAnswers lines (Ok grammar) → ArePrintable grammar.rules }
+{}

@@ -1,0 +1,67 @@
+//! Rules as texts: first their tokens, one function for each type, and then the bytes of these.
+ghost use Rattle.std.specs.Prelude.{◌≡◌, ◌++◌, IfOk, OnOk};
+ghost use Rattle.cga_syntax.specs.GrammarText.{grammar_text, ArePrintable};
+ghost use Rattle.cga_syntax.specs.Pieces.{rule_pieces};
+ghost use Rattle.cga_syntax.specs.Printing.{printed, text_of, HaveTexts};
+
+pub(crate) mod back;
+pub(crate) mod cond;
+pub(crate) mod expr;
+pub(crate) mod gap;
+pub(crate) mod grammar;
+pub(crate) mod item;
+pub(crate) mod least;
+pub(crate) mod list;
+pub(crate) mod mark;
+pub(crate) mod parts;
+pub(crate) mod rule;
+pub(crate) mod text;
+pub(crate) mod token;
+pub(crate) mod words;
+
+use crate::grammar::Grammar;
+pub use crate::print::back::{lexes_back, spells_back};
+use crate::print::grammar::{push_attributes, push_sections};
+use crate::print::rule::push_rule;
+use crate::print::text::push_marks;
+use crate::rule::Rule;
+use cga_fraction::{List, NoMemory};
+use std::alloc::Global;
+
+/// The text of a rule, without the end of its line. Every rule that some line spells may be
+/// printed; of another what no line spells is left out, as a reserved name. Takes memory for the
+/// text, and for the rule's tokens while it is made.
+pub fn print_rule(alloc: Global, rule: &Rule) -> Result<List<u8>, NoMemory>
+    requires { HaveTexts (printed (rule_pieces rule.now)) }
+    ensures { IfOk result (λ text. text ≡ text_of (printed (rule_pieces rule.now))) }
+{
+    let mut text = Vec::new(alloc);
+    push_text_of(alloc, &mut text, rule)?;
+    Ok(List::from_vec(text))
+}
+
+/// The text of a grammar, as the command `grammar` writes it: each line ends with one LF. Takes
+/// memory for the text, and for the tokens of one rule at a time. The time grows with the square of
+/// the number of rules.
+pub fn print_grammar(alloc: Global, grammar: &Grammar) -> Result<List<u8>, NoMemory>
+    requires { ArePrintable grammar.now.rules }
+    ensures { IfOk result (λ text. text ≡ grammar_text grammar.now) }
+{
+    let mut text = Vec::new(alloc);
+    text.extend_from_slice(b"rules\n")?;
+    push_attributes(alloc, &mut text, grammar.attributes.as_slice())?;
+    push_sections(alloc, &mut text, grammar.rules.as_slice())?;
+    text.extend_from_slice(b"end\n")?;
+    Ok(List::from_vec(text))
+}
+
+/// Appends the text of a rule.
+#[tactic(auto, using(crate::proofs::Printed::on_is))]
+pub(crate) fn push_text_of(alloc: Global, text: &mut Vec<u8>, rule: &Rule) -> Result<(), NoMemory>
+    requires { HaveTexts (printed (rule_pieces rule.now)) }
+    ensures { OnOk result (text.new.items ≡ text.old.items ++ text_of (printed (rule_pieces rule.now))) }
+{
+    let mut marks = List::new(alloc);
+    push_rule(&mut marks, rule)?;
+    push_marks(text, marks.as_slice())
+}

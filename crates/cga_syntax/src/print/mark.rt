@@ -1,0 +1,24 @@
+use crate::lexeme::Lexeme;
+use crate::print::gap::Gap;
+
+/// A token that is to be printed.
+#[derive(Clone, Copy, Debug)]
+pub struct Mark {
+    pub lexeme: Lexeme,
+    pub gap: Gap,
+}
+
+impl Mark {
+    ghost use Rattle.std.specs.Prelude.{◌≡◌};
+    ghost use Rattle.cga_syntax.specs.Printing.{usually};
+
+    /// A token that stands apart from its neighbours where its sign says nothing else.
+    pub(crate) fn usual(lexeme: Lexeme) -> Mark
+        ensures { result ≡ usually lexeme }
+    {
+        Mark {
+            lexeme,
+            gap: Gap::Usual,
+        }
+    }
+}
