@@ -12,7 +12,8 @@ use Rattle.cga_syntax.specs.declared.item.Item.TheFolds.{fold_out-Body, fold-rol
 use Rattle.cga_syntax.specs.declared.item.Item.TheOpen as layer
 use Rattle.cga_syntax.specs.declared.print.mark.Mark.{Mark}
 use Rattle.cga_syntax.specs.Pieces.{Pieces, keyword, sign, text, axis_text, preceded, in_curly, body_of, expr_pieces, size_pieces, item_pieces, body_pieces, item_step, body_step}
-use Rattle.cga_syntax.specs.Printing.{printed_on, subdivided, bodies_of, repeated}
+use Rattle.cga_syntax.specs.Forms.{subdivided, bodies_of, repeated}
+use Rattle.cga_syntax.specs.Printing.{printed_on}
 use Rattle.cga_syntax.proofs.Printed.{on_join, preceded_cut}
 
 pub body_out : (b : Body) → body_pieces b ≡ body_of (map item_pieces (out-Body b).items)

@@ -2,6 +2,7 @@ pub mod Lexemes
 pub mod Pieces
 pub mod Spelling
 pub mod Brackets
+pub mod Forms
 pub mod GrammarText
 pub mod Least
 pub mod Printing

@@ -1,5 +1,5 @@
-//! Rules as trees: what a rule, its condition and its bodies are made of, copies of them, and what
-//! each is spelled as.
+//! Rules as trees: what a rule, its condition and its bodies are made of, copies of them, what each
+//! is spelled as, and the texts of rules and grammars.
 //!
 //! It knows tokens and names, and neither reads a line nor says what a rule does. Callers get the
 //! empty list wrong: an alternative or a body without items is `NIL`, and no other list of a tree

@@ -1,7 +1,8 @@
 //! The tokens of conditions.
 ghost use Rattle.std.specs.Prelude.{◌≡◌, ◌∷◌, [], OnOk, map};
 ghost use Rattle.cga_syntax.specs.Pieces as spec;
-ghost use Rattle.cga_syntax.specs.Printing.{printed_on, occ_pieces, compared};
+ghost use Rattle.cga_syntax.specs.Forms.{occ_pieces, compared};
+ghost use Rattle.cga_syntax.specs.Printing.{printed_on};
 
 use crate::cond::{Cond, Conj, Relation, Test};
 use crate::expr::Expr;

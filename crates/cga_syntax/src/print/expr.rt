@@ -1,7 +1,8 @@
 //! The tokens of expressions.
 ghost use Rattle.std.specs.Prelude.{◌≡◌, OnOk, map, [], ◌∷◌};
 ghost use Rattle.cga_syntax.specs.Pieces as spec;
-ghost use Rattle.cga_syntax.specs.Printing.{printed_on, scope_size};
+ghost use Rattle.cga_syntax.specs.Forms.{scope_size};
+ghost use Rattle.cga_syntax.specs.Printing.{printed_on};
 
 use crate::expr::{Added, Expr, Factor, Primary, Scaled, Term};
 use crate::keyword::Keyword;

@@ -1,7 +1,7 @@
 //! The tokens of items and of the bodies of alternatives and splits.
 ghost use Rattle.std.specs.Prelude.{◌≡◌, ◌∷◌, [], OnOk, map};
 ghost use Rattle.cga_syntax.specs.Pieces as spec;
-ghost use Rattle.cga_syntax.specs.Printing as printing;
+ghost use Rattle.cga_syntax.specs.Forms as forms;
 ghost use Rattle.cga_syntax.specs.Printing.{printed_on};
 
 use crate::expr::Expr;
@@ -59,7 +59,7 @@ fn push_child(marks: &mut List<Mark>, symbol: Name, args: &[Expr]) -> Result<(),
 #[cycle(print)]
 #[tactic(auto, using(crate::proofs::Printed::on_join, crate::proofs::Printed::nonempty_cut))]
 fn push_scoped(marks: &mut List<Mark>, items: &[Item]) -> Result<(), NoMemory>
-    ensures { OnOk result (marks.new ≡ printed_on marks.old (printing.scoped (map spec.item_pieces items.now))) }
+    ensures { OnOk result (marks.new ≡ printed_on marks.old (forms.scoped (map spec.item_pieces items.now))) }
 {
     push_sign(marks, Sign::LeftSquare)?;
     push_items(marks, items)?;
@@ -110,7 +110,7 @@ fn push_in_curly(marks: &mut List<Mark>, body: &Body) -> Result<(), NoMemory>
 #[cycle(print)]
 #[tactic(auto, using(crate::proofs::Printed::on_join, crate::proofs::Printed::separated_cut))]
 fn push_bodies(marks: &mut List<Mark>, bodies: &[Body]) -> Result<(), NoMemory>
-    ensures { OnOk result (marks.new ≡ printed_on marks.old (printing.bodies_of (map spec.body_pieces bodies.now))) }
+    ensures { OnOk result (marks.new ≡ printed_on marks.old (forms.bodies_of (map spec.body_pieces bodies.now))) }
 {
     push_sign(marks, Sign::LeftCurly)?;
     push_all_bodies(marks, bodies)?;

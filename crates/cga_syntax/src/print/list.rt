@@ -2,7 +2,8 @@
 //! more than four, which no line spells, only the first is printed.
 ghost use Rattle.std.specs.Prelude.{◌≡◌, ◌∷◌, [], OnOk, map};
 ghost use Rattle.cga_syntax.specs.Pieces as spec;
-ghost use Rattle.cga_syntax.specs.Printing.{printed_on, name_pieces};
+ghost use Rattle.cga_syntax.specs.Forms.{name_pieces};
+ghost use Rattle.cga_syntax.specs.Printing.{printed_on};
 
 use crate::expr::Expr;
 use crate::print::expr::push_expr;

@@ -1,7 +1,7 @@
 //! The tokens of items without their bodies.
 ghost use Rattle.std.specs.Prelude.{◌≡◌, ◌∷◌, [], OnOk, map};
 ghost use Rattle.cga_syntax.specs.Pieces as spec;
-ghost use Rattle.cga_syntax.specs.Printing as printing;
+ghost use Rattle.cga_syntax.specs.Forms as forms;
 ghost use Rattle.cga_syntax.specs.Printing.{printed_on};
 
 use crate::expr::Expr;
@@ -77,7 +77,7 @@ fn push_size(marks: &mut List<Mark>, size: &Size) -> Result<(), NoMemory>
 }
 
 pub(crate) fn push_rotate(marks: &mut List<Mark>, axis: Axis, by: Turn) -> Result<(), NoMemory>
-    ensures { OnOk result (marks.new ≡ printed_on marks.old (printing.rotated axis by)) }
+    ensures { OnOk result (marks.new ≡ printed_on marks.old (forms.rotated axis by)) }
 {
     push_keyword(marks, turn_keyword(axis))?;
     push_sign(marks, Sign::LeftRound)?;
@@ -86,7 +86,7 @@ pub(crate) fn push_rotate(marks: &mut List<Mark>, axis: Axis, by: Turn) -> Resul
 }
 
 pub(crate) fn push_solid(marks: &mut List<Mark>, solid: Primitive) -> Result<(), NoMemory>
-    ensures { OnOk result (marks.new ≡ printed_on marks.old (printing.solid_of solid)) }
+    ensures { OnOk result (marks.new ≡ printed_on marks.old (forms.solid_of solid)) }
 {
     push_keyword(marks, Keyword::I)?;
     push_sign(marks, Sign::LeftRound)?;
@@ -101,7 +101,7 @@ pub(crate) fn push_subdiv(
     axis: Axis,
     sizes: &[Size],
 ) -> Result<(), NoMemory>
-    ensures { OnOk result (marks.new ≡ printed_on marks.old (printing.subdivided axis (map spec.size_pieces sizes.now))) }
+    ensures { OnOk result (marks.new ≡ printed_on marks.old (forms.subdivided axis (map spec.size_pieces sizes.now))) }
 {
     push_keyword(marks, Keyword::Subdiv)?;
     push_sign(marks, Sign::LeftRound)?;
@@ -124,7 +124,7 @@ fn push_sizes(marks: &mut List<Mark>, sizes: &[Size]) -> Result<(), NoMemory>
 /// A Repeat up to its body.
 #[tactic(auto, using(crate::proofs::Printed::on_join))]
 pub(crate) fn push_repeat(marks: &mut List<Mark>, axis: Axis, length: &Expr) -> Result<(), NoMemory>
-    ensures { OnOk result (marks.new ≡ printed_on marks.old (printing.repeated axis (spec.expr_pieces length.now))) }
+    ensures { OnOk result (marks.new ≡ printed_on marks.old (forms.repeated axis (spec.expr_pieces length.now))) }
 {
     push_keyword(marks, Keyword::Repeat)?;
     push_sign(marks, Sign::LeftRound)?;
@@ -136,7 +136,7 @@ pub(crate) fn push_repeat(marks: &mut List<Mark>, axis: Axis, length: &Expr) -> 
 /// A Comp up to its body.
 #[tactic(auto, using(crate::proofs::Printed::on_join))]
 pub(crate) fn push_comp(marks: &mut List<Mark>, selector: Selector) -> Result<(), NoMemory>
-    ensures { OnOk result (marks.new ≡ printed_on marks.old (printing.selected selector)) }
+    ensures { OnOk result (marks.new ≡ printed_on marks.old (forms.selected selector)) }
 {
     push_keyword(marks, Keyword::Comp)?;
     push_sign(marks, Sign::LeftRound)?;

@@ -1,7 +1,7 @@
 //! The tokens of a rule.
 ghost use Rattle.std.specs.Prelude.{◌≡◌, ◌∷◌, [], OnOk, map};
 ghost use Rattle.cga_syntax.specs.Pieces as spec;
-ghost use Rattle.cga_syntax.specs.Printing as printing;
+ghost use Rattle.cga_syntax.specs.Forms as forms;
 ghost use Rattle.cga_syntax.specs.Printing.{printed_on};
 
 use crate::cond::Cond;
@@ -30,7 +30,7 @@ pub(crate) fn push_rule(marks: &mut List<Mark>, rule: &Rule) -> Result<(), NoMem
 }
 
 fn push_head(marks: &mut List<Mark>, id: u32, symbol: Name) -> Result<(), NoMemory>
-    ensures { OnOk result (marks.new ≡ printed_on marks.old (printing.head_of id symbol)) }
+    ensures { OnOk result (marks.new ≡ printed_on marks.old (forms.head_of id symbol)) }
 {
     push_whole(marks, 1, LAST_ID, id)?;
     push_close(marks, Gap::NoneBefore, Sign::Colon)?;

@@ -1,6 +1,6 @@
 use Rattle.cga_lexer.specs.declared.sign.Sign.TheVariants as s
 use Rattle.cga_syntax.specs.Pieces.{sign}
-use Rattle.cga_syntax.specs.Printing.{name_pieces}
+use Rattle.cga_syntax.specs.Forms.{name_pieces}
 use Rattle.cga_syntax.proofs.Printed.{behind_on}
 use Rattle.cga_syntax.proofs.print.list.push_names.Goals as goal
 

@@ -1,7 +1,8 @@
 use Rattle.std.proofs.Common.{◌≡◌, map, drop}
 use Rattle.cga_lexer.specs.declared.sign.Sign.TheVariants as s
 use Rattle.cga_syntax.specs.Pieces.{behind_each, sign}
-use Rattle.cga_syntax.specs.Printing.{printed_on, name_pieces}
+use Rattle.cga_syntax.specs.Forms.{name_pieces}
+use Rattle.cga_syntax.specs.Printing.{printed_on}
 use Rattle.cga_syntax.proofs.print.list.push_names.Given as goal
 
 abbrev pub invariant-loop-name : goal.invariant-loop-name

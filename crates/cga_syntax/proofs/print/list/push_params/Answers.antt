@@ -1,7 +1,7 @@
 use Rattle.std.proofs.Common.{◌≡◌, List, subst}
 use Rattle.std.specs.Prelude.{OnOk}
 use Rattle.cga_syntax.specs.declared.print.mark.Mark.{Mark}
-use Rattle.cga_syntax.specs.Printing.{name_pieces}
+use Rattle.cga_syntax.specs.Forms.{name_pieces}
 use Rattle.cga_syntax.proofs.Printed.{arguments_on}
 use Rattle.cga_syntax.proofs.print.list.push_params.Goals as goal
 
