@@ -1,0 +1,73 @@
+-- The lines that the text of a grammar has, and the grammar that they say.
+use Rattle.std.specs.Prelude.{◌≡◌, ◌≤◌, ◌&&◌, ◌^◌, ◌+◌, ℕ, zero, suc, nat_eq, List, [], ◌∷◌, ◌++◌, length, map, false, Ok, IsPermutation, decimal, codes, if◌then◌else◌}
+use Rattle.cga_fraction.specs.Texts.{exact_text_of}
+use Rattle.cga_syntax.specs.GrammarText.{line, has, priorities, grammar_text}
+use Rattle.cga_syntax.specs.Pieces.{rule_pieces}
+use Rattle.cga_syntax.specs.Printing.{printed, text_of}
+use Rattle.cga_syntax.specs.declared.grammar.Attribute.{Attribute}
+use Rattle.cga_syntax.specs.declared.grammar.Entry.{Entry}
+use Rattle.cga_syntax.specs.declared.grammar.Grammar.{Grammar}
+use Rattle.cga_parser.specs.declared.block_line.BlockLine.{BlockLine}
+use Rattle.cga_parser.specs.declared.block_line.BlockLine.TheVariants as says
+use Rattle.cga_parser.specs.BlockAnswers.{Line, GrammarAnswers}
+
+-- ---- the entries in the order of the text
+
+-- what is listed for so many numbers from one on
+unfoldable pub all_from : {A : Type 0} → (ℕ → List A) → ℕ → ℕ → List A
+all_from f from zero = []
+all_from f from (suc n) = f from ++ all_from f (from + 1) n
+
+-- the entries of a priority whose rule has an id, in the list's order
+abbrev pub with_id : List Entry → ℕ → ℕ → List Entry
+with_id [] p id = []
+with_id (e ∷ es) p id = (if nat_eq e.priority p && nat_eq e.rule.id id then e ∷ [] else []) ++ with_id es p id
+
+-- the entries of a priority by rising id
+abbrev pub by_id : List Entry → ℕ → List Entry
+by_id es p = all_from (with_id es p) 0 (2 ^ 32)
+
+-- the entries by rising priority, and those of one priority by rising id
+abbrev pub by_rank : List Entry → List Entry
+by_rank es = all_from (by_id es) 0 (2 ^ 16)
+
+-- ---- the lines
+
+abbrev pub rule_of : Entry → BlockLine
+rule_of e = says.Rule e.rule
+
+-- a priority and its rules; nothing for a priority that no rule has
+abbrev pub section : List Entry → ℕ → List BlockLine
+section es p = if has (priorities es) p then says.Priority p ∷ map rule_of (by_id es p) else []
+
+-- what the lines between the first and the last say
+abbrev pub said_of : Grammar → List BlockLine
+said_of g = map says.Attribute g.attributes ++ all_from (section g.rules) 0 (2 ^ 16)
+
+-- the text of a line, without its end
+abbrev pub line_text : BlockLine → List ℕ
+line_text (says.Attribute a) = codes "attr " ++ (a.name ++ (codes " = " ++ exact_text_of a.value))
+line_text (says.Priority p) = codes "PRIORITY " ++ (decimal p ++ codes ":")
+line_text (says.Rule r) = text_of (printed (rule_pieces r))
+line_text says.End = codes "end"
+
+abbrev pub lines_text : List BlockLine → List ℕ
+lines_text [] = []
+lines_text (b ∷ bs) = line (line_text b) ++ lines_text bs
+
+abbrev pub given : BlockLine → Line
+given b = record { bytes = line_text b; long = false }
+
+-- none of the lines is too long
+abbrev pub AreShort : List BlockLine → Type 0
+AreShort [] = Unit {0}
+AreShort (b ∷ bs) = (length (line_text b) ≤ 4096) × AreShort bs
+
+-- ---- the grammar's text is read back
+
+-- The text of the grammar is these lines between `rules` and `end`. Where none is too long they are answered by the
+-- grammar with its entries in the order of the text, which are the same entries, each as often.
+pub record ReadsBack (g : Grammar) : Type 0 where
+  pub text : grammar_text g ≡ line (codes "rules") ++ (lines_text (said_of g) ++ line (codes "end"))
+  pub answered : AreShort (said_of g) → GrammarAnswers (map given (said_of g)) (Ok (record { attributes = g.attributes; rules = by_rank g.rules }))
+  pub same : IsPermutation g.rules (by_rank g.rules)
