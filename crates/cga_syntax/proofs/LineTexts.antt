@@ -1,7 +1,8 @@
 -- The lines of attributes and priorities are lexed as their tokens.
-use Rattle.std.proofs.Common.{◌≡◌, ℕ, zero, suc, ◌+◌, ◌*◌, ◌/◌, ◌<◌, ◌^◌, ◌==◌, false, List, [], ◌∷◌, ◌++◌, map, ℤ, pos, negsuc, arith, ap, sym, ◌∙◌, refl, subst, inl, inr, codes, decimal, if◌then◌else◌}
+use Rattle.std.proofs.Common.{◌≡◌, ℕ, zero, suc, ◌+◌, ◌*◌, ◌/◌, ◌<◌, ◌≤◌, ◌^◌, ◌==◌, false, List, [], ◌∷◌, ◌++◌, length, length-append, map, ℤ, pos, negsuc, arith, ap, sym, ◌∙◌, refl, subst, inl, inr, codes, decimal, if◌then◌else◌}
 use Rattle.std.specs.Fmt.{signed_decimal}
 use Rattle.std.proofs.lemmas.Bool.Decides.{nat_tests}
+use Rattle.std.proofs.lemmas.Fmt.{length-decimal-le}
 use Rattle.cga_fraction.specs.Rat.{Rat, of_int}
 use Rattle.cga_fraction.specs.Decimals.{IsLiteral}
 use Rattle.cga_fraction.specs.Texts.{literal_text_of, places_from, pointed, exact_text_of}
@@ -17,7 +18,8 @@ use Rattle.cga_syntax.specs.declared.lexeme.Lexeme.{Lexeme}
 use Rattle.cga_syntax.specs.declared.lexeme.Lexeme.TheVariants as lexeme
 use Rattle.cga_syntax.proofs.Again.{lexemes}
 use Rattle.cga_syntax.proofs.Back.{primary_apart, lex_nil, token_read, space_read}
-use Rattle.cga_syntax.proofs.Exact.{whole_literal}
+use Rattle.cga_syntax.proofs.Exact.{whole_literal, whole_small}
+use Rattle.cga_syntax.proofs.Fronts.{Named, named_of}
 use Rattle.cga_syntax.proofs.Signs.{second, Ends}
 
 nil_right : {A : Type 0} (xs : List A) → xs ++ [] ≡ xs
@@ -121,3 +123,29 @@ priority_read n h =
 pub end_read : AreRead (tokens_of (codes "end")) (lexeme.Name (codes "end") ∷ [])
 unfolding keyword_of
 end_read = token_read (lexeme.Name (codes "end")) [] 1 [] (refl, refl) refl nothing_read
+
+-- ---- their lengths
+
+whole_short : (n : ℕ) → IsToken (number n) → length (decimal n) ≤ 18
+whole_short n t = let b = whole_small n t in length-decimal-le 18 n (omega arith) b (omega arith)
+
+magnitude_short : (n above : ℕ) → AreTokens (lexemes (magnitude n above)) → length (decimal n ++ below above) ≤ 37
+magnitude_short n zero t = omega (arith, whole_short n t.0, ap length (nil_right (decimal n)))
+magnitude_short n (suc above) t =
+    omega (arith, whole_short n t.0, whole_short (suc above + 1) t.1.1.0, length-append (decimal n) (below (suc above)), ap length (below_more above))
+
+signed_short : (z : ℤ) (above : ℕ) → AreTokens (lexemes (exactly z above)) → length (signed_decimal z ++ below above) ≤ 38
+signed_short (pos n) above t = omega (arith, magnitude_short n above t)
+signed_short (negsuc n) above t = omega (arith, magnitude_short (suc n) above t.1)
+
+exact_short : (v : Rat) → AreTokens (lexemes (exactly v.num v.above)) → length (exact_text_of v) ≤ 38
+unfolding exact_text_of
+exact_short v t = signed_short v.num v.above t
+
+pub attribute_short : (a : Attribute) → AreTokens (attribute_tokens a) → length (codes "attr " ++ (a.name ++ (codes " = " ++ exact_text_of a.value))) ≤ 4096
+attribute_short a t =
+    let n = (named_of a.name t.1.0.0).few in
+    omega (arith, n, exact_short a.value t.1.1.1, length-append a.name (codes " = " ++ exact_text_of a.value))
+
+pub priority_short : (n : ℕ) → n < 2 ^ 16 → length (codes "PRIORITY " ++ (decimal n ++ codes ":")) ≤ 4096
+priority_short n h = omega (arith, whole_short n (whole_literal n (omega arith)), length-append (decimal n) (codes ":"))
