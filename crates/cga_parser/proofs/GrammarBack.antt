@@ -1,15 +1,17 @@
 -- The text of a grammar that some lines say is read back.
 use Rattle.std.proofs.Common.{◌≡◌, ℕ, zero, suc, ◌+◌, ◌<◌, ◌≤◌, ◌^◌, ◌&&◌, nat_eq, Bool, true, false, List, [], ◌∷◌, ◌++◌, length, map, Option, Some, None, Ok, arith, sym, refl, subst, if◌then◌else◌}
+use Rattle.std.specs.List.{All}
+use Rattle.std.proofs.lemmas.List.Elements.{All-head, All-tail, All-nil, All-cons}
 use Rattle.cga_syntax.specs.GrammarText.{has, priorities}
 use Rattle.cga_syntax.specs.declared.grammar.Attribute.{Attribute}
 use Rattle.cga_syntax.specs.declared.grammar.Entry.{Entry}
 use Rattle.cga_syntax.specs.declared.grammar.Grammar.{Grammar}
 use Rattle.cga_parser.specs.declared.block_line.BlockLine.{BlockLine}
 use Rattle.cga_parser.specs.declared.block_line.BlockLine.TheVariants as says
-use Rattle.cga_parser.specs.BlockAnswers.{Line, BlockAnswers, Say, attributes_of, entries_from, grammar_of, GrammarAnswers}
+use Rattle.cga_parser.specs.BlockAnswers.{Line, BlockAnswers, EndsBlock, Say, attributes_of, entries_from, grammar_of, GrammarAnswers}
 use Rattle.cga_parser.specs.GrammarLines.{all_from, with_id, by_id, by_rank, rule_of, section, said_of, line_text, given, AreShort, ReadsBack}
 use Rattle.cga_parser.proofs.GrammarLines.{whole_text, said_grammar}
-use Rattle.cga_parser.proofs.LinesBack.{attribute_back, priority_back, rule_back, id_bound, priority_bound}
+use Rattle.cga_parser.proofs.LinesBack.{attribute_back, attribute_open, priority_back, priority_open, rule_back, rule_open, id_bound, priority_bound}
 use Rattle.cga_parser.proofs.Ranked.{Every, every_join, every_from, IsBounded, ranked}
 
 -- ---- what some line says
@@ -58,47 +60,76 @@ bounded p (l ∷ ls) (Some says.End ∷ all) b h = bounded p ls all b h.1
 
 -- ---- the printed lines
 
--- where it isn't too long, the line is answered
+module _ (P : Entry → Type 0) where
+  taken_all : (e : Entry) (t : Bool) → P e → Every P (if t then e ∷ [] else [])
+  taken_all e true h = (h, tt)
+  taken_all e false h = tt
+
+  id_all : (es : List Entry) (p id : ℕ) → Every P es → Every P (with_id es p id)
+  id_all [] p id h = tt
+  id_all (e ∷ es) p id h =
+      every_join P (if nat_eq e.priority p && nat_eq e.rule.id id then e ∷ [] else []) (with_id es p id) (taken_all e (nat_eq e.priority p && nat_eq e.rule.id id) h.0) (id_all es p id h.1)
+
+-- what holds of each line of an attribute, a priority and a rule
+module _ (P : BlockLine → Type 0) (attribute : (a : Attribute) → SaysAttribute a → P (says.Attribute a)) (priority : (p : ℕ) → p < 2 ^ 16 → P (says.Priority p)) where
+  attributes_all : (as' : List Attribute) → Every SaysAttribute as' → Every P (map says.Attribute as')
+  attributes_all [] h = tt
+  attributes_all (a ∷ as') h = (attribute a h.0, attributes_all as' h.1)
+
+  rules_all : (es : List Entry) → Every (λ e. P (rule_of e)) es → Every P (map rule_of es)
+  rules_all [] h = tt
+  rules_all (e ∷ es) h = (h.0, rules_all es h.1)
+
+  section_all : (es : List Entry) (p : ℕ) (t : Bool) → p < 2 ^ 16 → Every (λ e. P (rule_of e)) es → Every P (if t then says.Priority p ∷ map rule_of (by_id es p) else [])
+  section_all es p true b h = (priority p b, rules_all (by_id es p) (every_from (λ e. P (rule_of e)) (with_id es p) 0 (2 ^ 32) (λ id l. id_all (λ e. P (rule_of e)) es p id h)))
+  section_all es p false b h = tt
+
+  said_all : (g : Grammar) → Every SaysAttribute g.attributes → Every (λ e. P (rule_of e)) g.rules → Every P (said_of g)
+  said_all g a r =
+      every_join P (map says.Attribute g.attributes) (all_from (section g.rules) 0 (2 ^ 16)) (attributes_all g.attributes a)
+      (every_from P (section g.rules) 0 (2 ^ 16) (λ p l. section_all g.rules p (has (priorities g.rules) p) (omega arith) r))
+
 abbrev IsAnswered : BlockLine → Type 0
-IsAnswered b = length (line_text b) ≤ 4096 → BlockAnswers (given b) (Ok (Some b))
+IsAnswered b = BlockAnswers (given b) (Ok (Some b))
 
-attributes_answered : (as' : List Attribute) → Every SaysAttribute as' → Every IsAnswered (map says.Attribute as')
-attributes_answered [] h = tt
-attributes_answered (a ∷ as') h = (attribute_back a h.0.0 h.0.1, attributes_answered as' h.1)
+abbrev IsShort : Entry → Type 0
+IsShort e = length (line_text (rule_of e)) ≤ 4096
 
-rules_answered : (es : List Entry) → Every SaysRule es → Every IsAnswered (map rule_of es)
-rules_answered [] h = tt
-rules_answered (e ∷ es) h = (rule_back e.rule h.0.0 h.0.1, rules_answered es h.1)
+rules_answered : (es : List Entry) → Every SaysRule es → AreShort es → Every (λ e. IsAnswered (rule_of e)) es
+rules_answered [] h s = tt
+rules_answered (e ∷ es) h s = (rule_back e.rule h.0.0 h.0.1 (All-head IsShort e es s), rules_answered es h.1 (All-tail IsShort e es s))
 
-taken_said : (e : Entry) (t : Bool) → SaysRule e → Every SaysRule (if t then e ∷ [] else [])
-taken_said e true h = (h, tt)
-taken_said e false h = tt
+abbrev IsOpen : BlockLine → Type 0
+IsOpen b = EndsBlock (given b) → ⊥
 
-id_said : (es : List Entry) (p id : ℕ) → Every SaysRule es → Every SaysRule (with_id es p id)
-id_said [] p id h = tt
-id_said (e ∷ es) p id h =
-    every_join SaysRule (if nat_eq e.priority p && nat_eq e.rule.id id then e ∷ [] else []) (with_id es p id) (taken_said e (nat_eq e.priority p && nat_eq e.rule.id id) h.0) (id_said es p id h.1)
+rules_open : (es : List Entry) → Every SaysRule es → Every (λ e. IsOpen (rule_of e)) es
+rules_open [] h = tt
+rules_open (e ∷ es) h = (rule_open e.rule h.0.0 h.0.1, rules_open es h.1)
 
-section_answered : (es : List Entry) (p : ℕ) (t : Bool) → p < 2 ^ 16 → Every SaysRule es → Every IsAnswered (if t then says.Priority p ∷ map rule_of (by_id es p) else [])
-section_answered es p true b h = (priority_back p b, rules_answered (by_id es p) (every_from SaysRule (with_id es p) 0 (2 ^ 32) (λ id l. id_said es p id h)))
-section_answered es p false b h = tt
+all_of : (P : BlockLine → Type 0) (bs : List BlockLine) → Every P bs → All P bs
+all_of P [] h = All-nil P
+all_of P (b ∷ bs) h = All-cons P b bs h.0 (all_of P bs h.1)
 
-said_answered : (g : Grammar) → Every SaysAttribute g.attributes → Every SaysRule g.rules → Every IsAnswered (said_of g)
-said_answered g a r =
-    every_join IsAnswered (map says.Attribute g.attributes) (all_from (section g.rules) 0 (2 ^ 16)) (attributes_answered g.attributes a)
-    (every_from IsAnswered (section g.rules) 0 (2 ^ 16) (λ p l. section_answered g.rules p (has (priorities g.rules) p) (omega arith) r))
-
-say : (bs : List BlockLine) → Every IsAnswered bs → AreShort bs → Say (map given bs) (map Some bs)
+say : (bs : List BlockLine) → Every IsAnswered bs → Say (map given bs) (map Some bs)
 unfolding Say
-say [] h s = tt
-say (b ∷ bs) h s = (h.0 s.0, say bs h.1 s.1)
+say [] h = tt
+say (b ∷ bs) h = (h.0, say bs h.1)
+
+module _ (g : Grammar) (attributes : Every SaysAttribute g.attributes) (rules : Every SaysRule g.rules) where
+  said_open : All IsOpen (said_of g)
+  said_open = all_of IsOpen (said_of g) (said_all IsOpen (λ a h. attribute_open a h.0 h.1) priority_open g attributes (rules_open g.rules rules))
+
+  said_answered : AreShort g.rules → Every IsAnswered (said_of g)
+  said_answered s = said_all IsAnswered (λ a h. attribute_back a h.0 h.1) priority_back g attributes (rules_answered g.rules rules s)
 
 said_back : (lines : List Line) (all : List (Option BlockLine)) → Say lines all → ReadsBack (grammar_of all)
 said_back lines all h =
-    let g : Grammar = grammar_of all in
+    let a = attributes_are lines all h in
+    let r = rules_are 1 lines all h in
     record {
       text = whole_text (grammar_of all);
-      answered = λ s. (map Some (said_of (grammar_of all)), say (said_of (grammar_of all)) (said_answered (grammar_of all) (attributes_are lines all h) (rules_are 1 lines all h)) s, said_grammar (grammar_of all));
+      no_end = said_open (grammar_of all) a r;
+      answered = λ s. (map Some (said_of (grammar_of all)), say (said_of (grammar_of all)) (said_answered (grammar_of all) a r s), said_grammar (grammar_of all));
       same = ranked (entries_from 1 all) (bounded 1 lines all (omega arith) h);
     }
 

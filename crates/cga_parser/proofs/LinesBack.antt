@@ -2,25 +2,26 @@
 use Rattle.std.proofs.Common.{◌≡◌, ℕ, zero, suc, ◌+◌, ◌<◌, ◌≤◌, ◌^◌, nat_le, nat_lt, ◌&&◌, Bool, true, false, List, [], ◌∷◌, ◌++◌, length, map, Some, None, Ok, Err, Result, arith, refl, ap, sym, ◌∙◌, subst, codes, if◌then◌else◌}
 use Rattle.std.proofs.lemmas.Bool.Decides.{nat_tests}
 use Rattle.cga_lexer.specs.Line.{tokens_of, Outcome as Lexed}
+use Rattle.cga_lexer.specs.declared.token.Token.{Token}
 use Rattle.cga_lexer.specs.declared.sign.Sign.TheVariants as s
 use Rattle.cga_syntax.specs.declared.grammar.Attribute.{Attribute}
 use Rattle.cga_syntax.specs.declared.lexeme.Lexeme.{Lexeme}
 use Rattle.cga_syntax.specs.declared.lexeme.Lexeme.TheVariants as lexeme
 use Rattle.cga_syntax.specs.declared.rule.Rule.{Rule}
 use Rattle.cga_syntax.specs.Brackets.{walk}
-use Rattle.cga_syntax.specs.Lexemes.{is_reserved}
+use Rattle.cga_syntax.specs.Lexemes.{is, is_reserved}
 use Rattle.cga_syntax.specs.Pieces.{Pieces, Piece, usual, none_before, token, never, number, whole, word, sign as signed, valued, rule_pieces, Writes}
 use Rattle.cga_syntax.specs.Printing.{printed, exactly}
 use Rattle.cga_syntax.specs.Reading.{AreTokens, AreRead}
 use Rattle.cga_syntax.specs.Spelling.{Spelled}
 use Rattle.cga_syntax.proofs.Again.{lexemes, again, Again}
 use Rattle.cga_syntax.proofs.Back.{text_read}
-use Rattle.cga_syntax.proofs.LineTexts.{attribute_tokens, attribute_read, priority_tokens, priority_read}
+use Rattle.cga_syntax.proofs.LineTexts.{attribute_tokens, attribute_read, attribute_short, priority_tokens, priority_read, priority_short}
 use Rattle.cga_syntax.proofs.Tokens.{line_tokens}
 use Rattle.cga_parser.specs.declared.block_line.BlockLine.{BlockLine}
 use Rattle.cga_parser.specs.declared.block_line.BlockLine.TheVariants as line
 use Rattle.cga_parser.specs.Answers.{Answers}
-use Rattle.cga_parser.specs.BlockAnswers.{Line, is_long, unless_blank, unless_long, BlockAnswers}
+use Rattle.cga_parser.specs.BlockAnswers.{Line, is_long, unless_blank, unless_long, BlockAnswers, EndsBlock}
 use Rattle.cga_parser.specs.Blocks.{block_pieces, attribute_pieces, priority_pieces, whole_block}
 use Rattle.cga_parser.specs.Code.{seen}
 use Rattle.cga_parser.specs.GrammarLines.{line_text, given}
@@ -49,6 +50,26 @@ module _ (b : BlockLine) where
       subst (λ t. unless_long (line_text b) t (Ok (Some b))) (sym (short_enough (line_text b) few))
       (not_blank (tokens_of (line_text b)) l ls (length (line_text b) + 1) e a)
 
+-- a text whose first token is another than `end` ends no block
+module _ (b : BlockLine) where
+  not_end_by : (o : Lexed) (t : Token) (l : Lexeme) (ls : List Lexeme) → o ≡ Ok (t ∷ []) → AreRead o (l ∷ ls) → l ≡ seen t
+  not_end_by (Err f) t l ls e a = absurd a
+  not_end_by (Ok []) t l ls e a = absurd (cc)
+  not_end_by (Ok (u ∷ us)) t l ls e a =
+      let p : u ∷ us ≡ t ∷ [] = cc in
+      let q : u ≡ t = cc in
+      let r : seen u ∷ map seen us ≡ l ∷ ls = a in
+      let z : seen u ≡ l = cc in
+      sym z ∙ ap seen q
+
+  not_end : (l : Lexeme) (ls : List Lexeme) → AreRead (tokens_of (line_text b)) (l ∷ ls) → (l ≡ lexeme.Name (codes "end") → ⊥) → EndsBlock (given b) → ⊥
+  not_end l ls a other h = other (not_end_by (tokens_of (line_text b)) h.0 l ls h.2 a ∙ h.3)
+
+other_word : (word : List ℕ) → lexeme.Name word ≡ lexeme.Name (codes "end") → is word (codes "end") ≡ false → ⊥
+other_word word e h =
+    let q : word ≡ codes "end" = cc in
+    let z : true ≡ false = ap (λ w. is w (codes "end")) (sym q) ∙ h in cc
+
 -- ---- a priority
 
 in_bounds : (n : ℕ) → n < 2 ^ 16 → (nat_le 0 n && nat_le n 65535) ≡ true
@@ -65,10 +86,13 @@ priority_walk : (n : ℕ) → walk 32 (priority_tokens n) ≡ Some 32
 unfolding walk
 priority_walk n = refl
 
-pub priority_back : (n : ℕ) → n < 2 ^ 16 → length (line_text (line.Priority n)) ≤ 4096 → BlockAnswers (given (line.Priority n)) (Ok (Some (line.Priority n)))
+pub priority_back : (n : ℕ) → n < 2 ^ 16 → BlockAnswers (given (line.Priority n)) (Ok (Some (line.Priority n)))
 priority_back n h =
     by_tokens (line.Priority n) (lexeme.Name (codes "PRIORITY")) (number n ∷ lexeme.Sign s.Colon ∷ []) (priority_read n h)
-    (line_answered (priority_tokens n) (line.Priority n) 32 (priority_spelled n h) (priority_walk n))
+    (line_answered (priority_tokens n) (line.Priority n) 32 (priority_spelled n h) (priority_walk n)) (priority_short n h)
+
+pub priority_open : (n : ℕ) → n < 2 ^ 16 → EndsBlock (given (line.Priority n)) → ⊥
+priority_open n h = not_end (line.Priority n) (lexeme.Name (codes "PRIORITY")) (number n ∷ lexeme.Sign s.Colon ∷ []) (priority_read n h) (λ e. other_word (codes "PRIORITY") e refl)
 
 -- ---- what some line says
 
@@ -102,12 +126,22 @@ proper a x w =
     let h = head_of 0 usual (lexeme.Name (codes "attr")) ((if is_reserved a.name then never else word a.name) ∷ signed s.Assign ∷ valued a.value ∷ []) x w.0 w.1 in
     proper_by a (is_reserved a.name) h.0 0 w.0 refl h.2
 
-pub attribute_back : (a : Attribute) (l : Line) → BlockAnswers l (Ok (Some (line.Attribute a))) → length (line_text (line.Attribute a)) ≤ 4096 → BlockAnswers (given (line.Attribute a)) (Ok (Some (line.Attribute a)))
-attribute_back a l h =
+-- its printed tokens
+attribute_is : (a : Attribute) (l : Line) → BlockAnswers l (Ok (Some (line.Attribute a))) → AreTokens (attribute_tokens a) × Answers block_pieces 32 (attribute_tokens a) (Ok (line.Attribute a))
+attribute_is a l h =
     let g = back (line.Attribute a) l h in
     let e = name_tokens a (proper a (lexemes (printed (attribute_pieces a))) g.answers.0) in
-    by_tokens (line.Attribute a) (lexeme.Name (codes "attr")) (lexeme.Name a.name ∷ lexeme.Sign s.Assign ∷ lexemes (exactly a.value.num a.value.above))
-    (attribute_read a (subst AreTokens e g.tokens)) (subst (λ z. Answers block_pieces 32 z (Ok (line.Attribute a))) e g.answers)
+    (subst AreTokens e g.tokens, subst (λ z. Answers block_pieces 32 z (Ok (line.Attribute a))) e g.answers)
+
+pub attribute_back : (a : Attribute) (l : Line) → BlockAnswers l (Ok (Some (line.Attribute a))) → BlockAnswers (given (line.Attribute a)) (Ok (Some (line.Attribute a)))
+attribute_back a l h =
+    let g = attribute_is a l h in
+    by_tokens (line.Attribute a) (lexeme.Name (codes "attr")) (lexeme.Name a.name ∷ lexeme.Sign s.Assign ∷ lexemes (exactly a.value.num a.value.above)) (attribute_read a g.0) g.1 (attribute_short a g.0)
+
+pub attribute_open : (a : Attribute) (l : Line) → BlockAnswers l (Ok (Some (line.Attribute a))) → EndsBlock (given (line.Attribute a)) → ⊥
+attribute_open a l h =
+    not_end (line.Attribute a) (lexeme.Name (codes "attr")) (lexeme.Name a.name ∷ lexeme.Sign s.Assign ∷ lexemes (exactly a.value.num a.value.above)) (attribute_read a (attribute_is a l h).0)
+    (λ e. other_word (codes "attr") e refl)
 
 -- ---- a rule
 
@@ -134,6 +168,16 @@ rule_by r (l ∷ ls) e g =
 
 pub rule_back : (r : Rule) (l : Line) → BlockAnswers l (Ok (Some (line.Rule r))) → length (line_text (line.Rule r)) ≤ 4096 → BlockAnswers (given (line.Rule r)) (Ok (Some (line.Rule r)))
 rule_back r l h = rule_by r (lexemes (printed (rule_pieces r))) refl (back (line.Rule r) l h)
+
+rule_open_by : (r : Rule) (x : List Lexeme) → lexemes (printed (rule_pieces r)) ≡ x → AreTokens (lexemes (printed (rule_pieces r))) → (y : List Lexeme) → x ≡ number r.id ∷ y → EndsBlock (given (line.Rule r)) → ⊥
+rule_open_by r x e t y f =
+    not_end (line.Rule r) (number r.id) y (subst (λ z. AreRead (tokens_of (line_text (line.Rule r))) z) (e ∙ f) (text_read (printed (rule_pieces r)) t)) (λ q. let z : number r.id ≡ lexeme.Name (codes "end") = q in cc)
+
+pub rule_open : (r : Rule) (l : Line) → BlockAnswers l (Ok (Some (line.Rule r))) → EndsBlock (given (line.Rule r)) → ⊥
+rule_open r l h =
+    let g = back (line.Rule r) l h in
+    let f = id_first r (lexemes (printed (rule_pieces r))) g.answers.0 in
+    rule_open_by r (lexemes (printed (rule_pieces r))) refl g.tokens f.0 f.1
 
 -- ---- bounds
 

@@ -1,5 +1,6 @@
 -- The lines that the text of a grammar has, and the grammar that they say.
 use Rattle.std.specs.Prelude.{◌≡◌, ◌≤◌, ◌&&◌, ◌^◌, ◌+◌, ℕ, zero, suc, nat_eq, List, [], ◌∷◌, ◌++◌, length, map, false, Ok, IsPermutation, decimal, codes, if◌then◌else◌}
+use Rattle.std.specs.List.{All}
 use Rattle.cga_fraction.specs.Texts.{exact_text_of}
 use Rattle.cga_syntax.specs.GrammarText.{line, has, priorities, grammar_text}
 use Rattle.cga_syntax.specs.Pieces.{rule_pieces}
@@ -9,7 +10,7 @@ use Rattle.cga_syntax.specs.declared.grammar.Entry.{Entry}
 use Rattle.cga_syntax.specs.declared.grammar.Grammar.{Grammar}
 use Rattle.cga_parser.specs.declared.block_line.BlockLine.{BlockLine}
 use Rattle.cga_parser.specs.declared.block_line.BlockLine.TheVariants as says
-use Rattle.cga_parser.specs.BlockAnswers.{Line, GrammarAnswers}
+use Rattle.cga_parser.specs.BlockAnswers.{Line, EndsBlock, GrammarAnswers}
 
 -- ---- the entries in the order of the text
 
@@ -58,16 +59,16 @@ lines_text (b ∷ bs) = line (line_text b) ++ lines_text bs
 abbrev pub given : BlockLine → Line
 given b = record { bytes = line_text b; long = false }
 
--- none of the lines is too long
-abbrev pub AreShort : List BlockLine → Type 0
-AreShort [] = Unit {0}
-AreShort (b ∷ bs) = (length (line_text b) ≤ 4096) × AreShort bs
-
 -- ---- the grammar's text is read back
 
--- The text of the grammar is these lines between `rules` and `end`. Where none is too long they are answered by the
--- grammar with its entries in the order of the text, which are the same entries, each as often.
+-- no rule's text is too long for a line
+abbrev pub AreShort : List Entry → Type 0
+AreShort es = All (λ (e : Entry). length (line_text (rule_of e)) ≤ 4096) es
+
+-- The text of the grammar is these lines between `rules` and `end`, and none of them ends the block. Where no rule is
+-- too long they are answered by the grammar with its entries in the order of the text, which are the same entries.
 pub record ReadsBack (g : Grammar) : Type 0 where
   pub text : grammar_text g ≡ line (codes "rules") ++ (lines_text (said_of g) ++ line (codes "end"))
-  pub answered : AreShort (said_of g) → GrammarAnswers (map given (said_of g)) (Ok (record { attributes = g.attributes; rules = by_rank g.rules }))
+  pub no_end : All (λ b. EndsBlock (given b) → ⊥) (said_of g)
+  pub answered : AreShort g.rules → GrammarAnswers (map given (said_of g)) (Ok (record { attributes = g.attributes; rules = by_rank g.rules }))
   pub same : IsPermutation g.rules (by_rank g.rules)
