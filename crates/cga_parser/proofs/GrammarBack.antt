@@ -8,10 +8,10 @@ use Rattle.cga_syntax.specs.declared.grammar.Entry.{Entry}
 use Rattle.cga_syntax.specs.declared.grammar.Grammar.{Grammar}
 use Rattle.cga_parser.specs.declared.block_line.BlockLine.{BlockLine}
 use Rattle.cga_parser.specs.declared.block_line.BlockLine.TheVariants as says
-use Rattle.cga_parser.specs.BlockAnswers.{Line, BlockAnswers, EndsBlock, Say, attributes_of, entries_from, grammar_of, GrammarAnswers}
-use Rattle.cga_parser.specs.GrammarLines.{all_from, with_id, by_id, by_rank, rule_of, section, said_of, line_text, given, AreShort, ReadsBack}
+use Rattle.cga_parser.specs.BlockAnswers.{Line, BlockAnswers, Say, attributes_of, entries_from, grammar_of, GrammarAnswers}
+use Rattle.cga_parser.specs.GrammarLines.{all_from, with_id, by_id, by_rank, rule_of, section, said_of, line_text, given, IsInside, AreShort, ReadsBack}
 use Rattle.cga_parser.proofs.GrammarLines.{whole_text, said_grammar}
-use Rattle.cga_parser.proofs.LinesBack.{attribute_back, attribute_open, priority_back, priority_open, rule_back, rule_open, id_bound, priority_bound}
+use Rattle.cga_parser.proofs.LinesBack.{attribute_back, attribute_inside, priority_back, priority_inside, rule_back, rule_inside, id_bound, priority_bound}
 use Rattle.cga_parser.proofs.Ranked.{Every, every_join, every_from, IsBounded, ranked}
 
 -- ---- what some line says
@@ -99,12 +99,9 @@ rules_answered : (es : List Entry) → Every SaysRule es → AreShort es → Eve
 rules_answered [] h s = tt
 rules_answered (e ∷ es) h s = (rule_back e.rule h.0.0 h.0.1 (All-head IsShort e es s), rules_answered es h.1 (All-tail IsShort e es s))
 
-abbrev IsOpen : BlockLine → Type 0
-IsOpen b = EndsBlock (given b) → ⊥
-
-rules_open : (es : List Entry) → Every SaysRule es → Every (λ e. IsOpen (rule_of e)) es
-rules_open [] h = tt
-rules_open (e ∷ es) h = (rule_open e.rule h.0.0 h.0.1, rules_open es h.1)
+rules_inside : (es : List Entry) → Every SaysRule es → Every (λ e. IsInside (rule_of e)) es
+rules_inside [] h = tt
+rules_inside (e ∷ es) h = (rule_inside e.rule h.0.0 h.0.1, rules_inside es h.1)
 
 all_of : (P : BlockLine → Type 0) (bs : List BlockLine) → Every P bs → All P bs
 all_of P [] h = All-nil P
@@ -116,8 +113,8 @@ say [] h = tt
 say (b ∷ bs) h = (h.0, say bs h.1)
 
 module _ (g : Grammar) (attributes : Every SaysAttribute g.attributes) (rules : Every SaysRule g.rules) where
-  said_open : All IsOpen (said_of g)
-  said_open = all_of IsOpen (said_of g) (said_all IsOpen (λ a h. attribute_open a h.0 h.1) priority_open g attributes (rules_open g.rules rules))
+  said_inside : All IsInside (said_of g)
+  said_inside = all_of IsInside (said_of g) (said_all IsInside (λ a h. attribute_inside a h.0 h.1) priority_inside g attributes (rules_inside g.rules rules))
 
   said_answered : AreShort g.rules → Every IsAnswered (said_of g)
   said_answered s = said_all IsAnswered (λ a h. attribute_back a h.0 h.1) priority_back g attributes (rules_answered g.rules rules s)
@@ -128,7 +125,7 @@ said_back lines all h =
     let r = rules_are 1 lines all h in
     record {
       text = whole_text (grammar_of all);
-      no_end = said_open (grammar_of all) a r;
+      inside = said_inside (grammar_of all) a r;
       answered = λ s. (map Some (said_of (grammar_of all)), say (said_of (grammar_of all)) (said_answered (grammar_of all) a r s), said_grammar (grammar_of all));
       same = ranked (entries_from 1 all) (bounded 1 lines all (omega arith) h);
     }

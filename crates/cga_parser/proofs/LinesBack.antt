@@ -18,13 +18,14 @@ use Rattle.cga_syntax.proofs.Again.{lexemes, again, Again}
 use Rattle.cga_syntax.proofs.Back.{text_read}
 use Rattle.cga_syntax.proofs.LineTexts.{attribute_tokens, attribute_read, attribute_short, priority_tokens, priority_read, priority_short}
 use Rattle.cga_syntax.proofs.Tokens.{line_tokens}
+use Rattle.cga_syntax.proofs.Visible.{text_visible, attribute_visible, priority_visible}
 use Rattle.cga_parser.specs.declared.block_line.BlockLine.{BlockLine}
 use Rattle.cga_parser.specs.declared.block_line.BlockLine.TheVariants as line
 use Rattle.cga_parser.specs.Answers.{Answers}
 use Rattle.cga_parser.specs.BlockAnswers.{Line, is_long, unless_blank, unless_long, BlockAnswers, EndsBlock}
 use Rattle.cga_parser.specs.Blocks.{block_pieces, attribute_pieces, priority_pieces, whole_block}
 use Rattle.cga_parser.specs.Code.{seen}
-use Rattle.cga_parser.specs.GrammarLines.{line_text, given}
+use Rattle.cga_parser.specs.GrammarLines.{line_text, given, IsInside}
 use Rattle.cga_parser.proofs.Again.{never_written}
 use Rattle.cga_parser.proofs.Answered.{answered}
 use Rattle.cga_parser.proofs.BlockLines.{block_unique, block_found, block_refused}
@@ -91,8 +92,8 @@ priority_back n h =
     by_tokens (line.Priority n) (lexeme.Name (codes "PRIORITY")) (number n ∷ lexeme.Sign s.Colon ∷ []) (priority_read n h)
     (line_answered (priority_tokens n) (line.Priority n) 32 (priority_spelled n h) (priority_walk n)) (priority_short n h)
 
-pub priority_open : (n : ℕ) → n < 2 ^ 16 → EndsBlock (given (line.Priority n)) → ⊥
-priority_open n h = not_end (line.Priority n) (lexeme.Name (codes "PRIORITY")) (number n ∷ lexeme.Sign s.Colon ∷ []) (priority_read n h) (λ e. other_word (codes "PRIORITY") e refl)
+pub priority_inside : (n : ℕ) → n < 2 ^ 16 → IsInside (line.Priority n)
+priority_inside n h = (priority_visible n h, not_end (line.Priority n) (lexeme.Name (codes "PRIORITY")) (number n ∷ lexeme.Sign s.Colon ∷ []) (priority_read n h) (λ e. other_word (codes "PRIORITY") e refl))
 
 -- ---- what some line says
 
@@ -138,10 +139,13 @@ attribute_back a l h =
     let g = attribute_is a l h in
     by_tokens (line.Attribute a) (lexeme.Name (codes "attr")) (lexeme.Name a.name ∷ lexeme.Sign s.Assign ∷ lexemes (exactly a.value.num a.value.above)) (attribute_read a g.0) g.1 (attribute_short a g.0)
 
-pub attribute_open : (a : Attribute) (l : Line) → BlockAnswers l (Ok (Some (line.Attribute a))) → EndsBlock (given (line.Attribute a)) → ⊥
-attribute_open a l h =
-    not_end (line.Attribute a) (lexeme.Name (codes "attr")) (lexeme.Name a.name ∷ lexeme.Sign s.Assign ∷ lexemes (exactly a.value.num a.value.above)) (attribute_read a (attribute_is a l h).0)
-    (λ e. other_word (codes "attr") e refl)
+pub attribute_inside : (a : Attribute) (l : Line) → BlockAnswers l (Ok (Some (line.Attribute a))) → IsInside (line.Attribute a)
+attribute_inside a l h =
+    let t = (attribute_is a l h).0 in
+    (
+      attribute_visible a t,
+      not_end (line.Attribute a) (lexeme.Name (codes "attr")) (lexeme.Name a.name ∷ lexeme.Sign s.Assign ∷ lexemes (exactly a.value.num a.value.above)) (attribute_read a t) (λ e. other_word (codes "attr") e refl),
+    )
 
 -- ---- a rule
 
@@ -169,15 +173,15 @@ rule_by r (l ∷ ls) e g =
 pub rule_back : (r : Rule) (l : Line) → BlockAnswers l (Ok (Some (line.Rule r))) → length (line_text (line.Rule r)) ≤ 4096 → BlockAnswers (given (line.Rule r)) (Ok (Some (line.Rule r)))
 rule_back r l h = rule_by r (lexemes (printed (rule_pieces r))) refl (back (line.Rule r) l h)
 
-rule_open_by : (r : Rule) (x : List Lexeme) → lexemes (printed (rule_pieces r)) ≡ x → AreTokens (lexemes (printed (rule_pieces r))) → (y : List Lexeme) → x ≡ number r.id ∷ y → EndsBlock (given (line.Rule r)) → ⊥
-rule_open_by r x e t y f =
-    not_end (line.Rule r) (number r.id) y (subst (λ z. AreRead (tokens_of (line_text (line.Rule r))) z) (e ∙ f) (text_read (printed (rule_pieces r)) t)) (λ q. let z : number r.id ≡ lexeme.Name (codes "end") = q in cc)
+rule_not_end : (r : Rule) (y : List Lexeme) → lexemes (printed (rule_pieces r)) ≡ number r.id ∷ y → AreTokens (lexemes (printed (rule_pieces r))) → EndsBlock (given (line.Rule r)) → ⊥
+rule_not_end r y e t =
+    not_end (line.Rule r) (number r.id) y (subst (λ z. AreRead (tokens_of (line_text (line.Rule r))) z) e (text_read (printed (rule_pieces r)) t)) (λ q. let z : number r.id ≡ lexeme.Name (codes "end") = q in cc)
 
-pub rule_open : (r : Rule) (l : Line) → BlockAnswers l (Ok (Some (line.Rule r))) → EndsBlock (given (line.Rule r)) → ⊥
-rule_open r l h =
+pub rule_inside : (r : Rule) (l : Line) → BlockAnswers l (Ok (Some (line.Rule r))) → IsInside (line.Rule r)
+rule_inside r l h =
     let g = back (line.Rule r) l h in
     let f = id_first r (lexemes (printed (rule_pieces r))) g.answers.0 in
-    rule_open_by r (lexemes (printed (rule_pieces r))) refl g.tokens f.0 f.1
+    (text_visible (printed (rule_pieces r)) g.tokens, rule_not_end r f.0 f.1 g.tokens)
 
 -- ---- bounds
 

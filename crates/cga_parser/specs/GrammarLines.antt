@@ -61,14 +61,18 @@ given b = record { bytes = line_text b; long = false }
 
 -- ---- the grammar's text is read back
 
+-- the text is one line, without a control byte, and doesn't end a block
+abbrev pub IsInside : BlockLine → Type 0
+IsInside b = All (λ byte. 32 ≤ byte) (line_text b) × (EndsBlock (given b) → ⊥)
+
 -- no rule's text is too long for a line
 abbrev pub AreShort : List Entry → Type 0
 AreShort es = All (λ (e : Entry). length (line_text (rule_of e)) ≤ 4096) es
 
--- The text of the grammar is these lines between `rules` and `end`, and none of them ends the block. Where no rule is
--- too long they are answered by the grammar with its entries in the order of the text, which are the same entries.
+-- The text of the grammar is these lines between `rules` and `end`. Where no rule is too long they are answered by the
+-- grammar with its entries in the order of the text, which are the same entries.
 pub record ReadsBack (g : Grammar) : Type 0 where
   pub text : grammar_text g ≡ line (codes "rules") ++ (lines_text (said_of g) ++ line (codes "end"))
-  pub no_end : All (λ b. EndsBlock (given b) → ⊥) (said_of g)
+  pub inside : All IsInside (said_of g)
   pub answered : AreShort g.rules → GrammarAnswers (map given (said_of g)) (Ok (record { attributes = g.attributes; rules = by_rank g.rules }))
   pub same : IsPermutation g.rules (by_rank g.rules)

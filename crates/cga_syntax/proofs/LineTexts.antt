@@ -28,7 +28,7 @@ nil_right (x ∷ xs) = ap (λ z. x ∷ z) (nil_right xs)
 
 -- ---- whole numbers
 
-whole_text : (n : ℕ) → literal_text_of (of_int (pos n)) ≡ decimal n
+pub whole_text : (n : ℕ) → literal_text_of (of_int (pos n)) ≡ decimal n
 unfolding literal_text_of places_from pointed
 whole_text n =
     let e : n * 10 ^ 0 / 1 / 10 ^ 0 ≡ n = omega arith in
@@ -49,10 +49,10 @@ whole_apart n rest t = ap (λ z. begins second (z ++ rest)) (sym (whole_text n))
 -- ---- values
 
 -- a slash and the denominator, where it isn't 1
-abbrev below : ℕ → List ℕ
+abbrev pub below : ℕ → List ℕ
 below above = if above == 0 then [] else (47 ∷ decimal (above + 1))
 
-below_more : (above : ℕ) → below (suc above) ≡ 47 ∷ decimal (suc above + 1)
+pub below_more : (above : ℕ) → below (suc above) ≡ 47 ∷ decimal (suc above + 1)
 below_more above =
     let e : (suc above == 0) ≡ false = grind (arith, nat_tests) in
     ap (λ t. if t then [] else (47 ∷ decimal (suc above + 1))) e
@@ -65,7 +65,7 @@ magnitude_read n (suc above) place t =
     (whole_read n (47 ∷ decimal (suc above + 1)) place (lexeme.Sign s.Slash ∷ number (suc above + 1) ∷ []) t.0 (refl, refl)
     (λ p. token_read (lexeme.Sign s.Slash) (decimal (suc above + 1)) p (number (suc above + 1) ∷ []) tt (inr apart) (λ q. whole_last (suc above + 1) q t.1.1.0)))
 
-first_whole : (n above : ℕ) → AreTokens (lexemes (magnitude n above)) → IsToken (number n)
+pub first_whole : (n above : ℕ) → AreTokens (lexemes (magnitude n above)) → IsToken (number n)
 first_whole n zero t = t.0
 first_whole n (suc above) t = t.0
 
