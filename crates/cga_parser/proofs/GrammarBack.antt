@@ -1,5 +1,5 @@
 -- The text of a grammar that some lines say is read back.
-use Rattle.std.proofs.Common.{◌≡◌, ℕ, zero, suc, ◌+◌, ◌<◌, ◌≤◌, ◌^◌, ◌&&◌, nat_eq, Bool, true, false, List, [], ◌∷◌, ◌++◌, length, map, Option, Some, None, Ok, arith, sym, refl, subst, if◌then◌else◌}
+use Rattle.std.proofs.Common.{ℕ, ◌<◌, ◌≤◌, ◌^◌, ◌&&◌, nat_eq, Bool, true, false, List, [], ◌∷◌, length, map, Option, Some, None, Ok, arith, sym, subst, if◌then◌else◌}
 use Rattle.std.specs.List.{All}
 use Rattle.std.proofs.lemmas.List.Elements.{All-head, All-tail, All-nil, All-cons}
 use Rattle.cga_syntax.specs.GrammarText.{has, priorities}
@@ -9,7 +9,7 @@ use Rattle.cga_syntax.specs.declared.grammar.Grammar.{Grammar}
 use Rattle.cga_parser.specs.declared.block_line.BlockLine.{BlockLine}
 use Rattle.cga_parser.specs.declared.block_line.BlockLine.TheVariants as says
 use Rattle.cga_parser.specs.BlockAnswers.{Line, BlockAnswers, Say, attributes_of, entries_from, grammar_of, GrammarAnswers}
-use Rattle.cga_parser.specs.GrammarLines.{all_from, with_id, by_id, by_rank, rule_of, section, said_of, line_text, given, IsInside, AreShort, ReadsBack}
+use Rattle.cga_parser.specs.GrammarLines.{all_from, with_id, by_id, rule_of, section, said_of, line_text, given, IsInside, AreShort, ReadsBack}
 use Rattle.cga_parser.proofs.GrammarLines.{whole_text, said_grammar}
 use Rattle.cga_parser.proofs.LinesBack.{attribute_back, attribute_inside, priority_back, priority_inside, rule_back, rule_inside, id_bound, priority_bound}
 use Rattle.cga_parser.proofs.Ranked.{Every, every_join, every_from, IsBounded, ranked}

@@ -1,17 +1,15 @@
 -- The lines of the text of a grammar, and what they say.
-use Rattle.std.proofs.Common.{◌≡◌, ℕ, zero, suc, ◌+◌, ◌<◌, ◌≤◌, ◌^◌, ◌&&◌, ◌||◌, nat_eq, Bool, true, false, List, [], ◌∷◌, ◌++◌, length, map, append_assoc, Option, Some, None, Ok, arith, ap, sym, ◌∙◌, refl, subst, codes, if◌then◌else◌}
+use Rattle.std.proofs.Common.{◌≡◌, ℕ, zero, suc, ◌+◌, ◌^◌, ◌&&◌, ◌||◌, nat_eq, Bool, true, false, List, [], ◌∷◌, ◌++◌, map, append_assoc, Option, Some, arith, ap, sym, ◌∙◌, refl, codes, if◌then◌else◌}
 use Rattle.std.proofs.lemmas.Bool.Decides.{nat_tests}
 use Rattle.cga_syntax.specs.GrammarText.{line, attribute_lines, rule_line, each_from, has, priorities, rules_with, priority_section, section_at, grammar_text}
 use Rattle.cga_syntax.specs.declared.grammar.Attribute.{Attribute}
 use Rattle.cga_syntax.specs.declared.grammar.Entry.{Entry}
 use Rattle.cga_syntax.specs.declared.grammar.Grammar.{Grammar}
-use Rattle.cga_syntax.specs.declared.rule.Rule.{Rule}
 use Rattle.cga_parser.specs.declared.block_line.BlockLine.{BlockLine}
 use Rattle.cga_parser.specs.declared.block_line.BlockLine.TheVariants as says
-use Rattle.cga_parser.specs.BlockAnswers.{Line, BlockAnswers, Say, attributes_of, entries_from, grammar_of, GrammarAnswers}
-use Rattle.cga_parser.specs.GrammarLines.{all_from, with_id, by_id, by_rank, rule_of, section, said_of, line_text, lines_text, given, AreShort, ReadsBack}
-use Rattle.cga_parser.proofs.LinesBack.{attribute_back, priority_back, rule_back, id_bound, priority_bound}
-use Rattle.cga_parser.proofs.Ranked.{Every, every_join, every_from, none_from, IsBounded, ranked}
+use Rattle.cga_parser.specs.BlockAnswers.{attributes_of, entries_from, grammar_of}
+use Rattle.cga_parser.specs.GrammarLines.{all_from, with_id, by_id, by_rank, rule_of, section, said_of, line_text, lines_text}
+use Rattle.cga_parser.proofs.Ranked.{Every, every_join, every_from, none_from}
 
 -- ---- the text
 
@@ -44,7 +42,6 @@ taken_text e false = refl
 id_text : (es : List Entry) (p id : ℕ) → lines_text (map rule_of (with_id es p id)) ≡ rules_with es p id
 id_text [] p id = refl
 id_text (e ∷ es) p id =
-    let t : Bool = nat_eq e.priority p && nat_eq e.rule.id id in
     rules_text (taken e (nat_eq e.priority p && nat_eq e.rule.id id)) (with_id es p id)
     ∙ ap (λ z. z ++ lines_text (map rule_of (with_id es p id))) (taken_text e (nat_eq e.priority p && nat_eq e.rule.id id))
     ∙ ap (λ z. (if nat_eq e.priority p && nat_eq e.rule.id id then rule_line e.rule else []) ++ z) (id_text es p id)

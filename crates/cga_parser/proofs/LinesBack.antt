@@ -1,5 +1,5 @@
 -- The text of a line that some line says is answered by it.
-use Rattle.std.proofs.Common.{◌≡◌, ℕ, zero, suc, ◌+◌, ◌<◌, ◌≤◌, ◌^◌, nat_le, nat_lt, ◌&&◌, Bool, true, false, List, [], ◌∷◌, ◌++◌, length, map, Some, None, Ok, Err, Result, arith, refl, ap, sym, ◌∙◌, subst, codes, if◌then◌else◌}
+use Rattle.std.proofs.Common.{◌≡◌, ℕ, ◌+◌, ◌<◌, ◌≤◌, ◌^◌, nat_le, nat_lt, ◌&&◌, Bool, true, false, List, [], ◌∷◌, length, map, Some, Ok, Err, arith, refl, ap, sym, ◌∙◌, subst, codes, if◌then◌else◌}
 use Rattle.std.proofs.lemmas.Bool.Decides.{nat_tests}
 use Rattle.cga_lexer.specs.Line.{tokens_of, Outcome as Lexed}
 use Rattle.cga_lexer.specs.declared.token.Token.{Token}
@@ -10,11 +10,11 @@ use Rattle.cga_syntax.specs.declared.lexeme.Lexeme.TheVariants as lexeme
 use Rattle.cga_syntax.specs.declared.rule.Rule.{Rule}
 use Rattle.cga_syntax.specs.Brackets.{walk}
 use Rattle.cga_syntax.specs.Lexemes.{is, is_reserved}
-use Rattle.cga_syntax.specs.Pieces.{Pieces, Piece, usual, none_before, token, never, number, whole, word, sign as signed, valued, rule_pieces, Writes}
+use Rattle.cga_syntax.specs.Pieces.{Pieces, usual, none_before, token, never, number, whole, word, sign as signed, valued, rule_pieces, Writes}
 use Rattle.cga_syntax.specs.Printing.{printed, exactly}
 use Rattle.cga_syntax.specs.Reading.{AreTokens, AreRead}
 use Rattle.cga_syntax.specs.Spelling.{Spelled}
-use Rattle.cga_syntax.proofs.Again.{lexemes, again, Again}
+use Rattle.cga_syntax.proofs.Again.{lexemes, again}
 use Rattle.cga_syntax.proofs.Back.{text_read}
 use Rattle.cga_syntax.proofs.LineTexts.{attribute_tokens, attribute_read, attribute_short, priority_tokens, priority_read, priority_short}
 use Rattle.cga_syntax.proofs.Tokens.{line_tokens}
@@ -22,7 +22,7 @@ use Rattle.cga_syntax.proofs.Visible.{text_visible, attribute_visible, priority_
 use Rattle.cga_parser.specs.declared.block_line.BlockLine.{BlockLine}
 use Rattle.cga_parser.specs.declared.block_line.BlockLine.TheVariants as line
 use Rattle.cga_parser.specs.Answers.{Answers}
-use Rattle.cga_parser.specs.BlockAnswers.{Line, is_long, unless_blank, unless_long, BlockAnswers, EndsBlock}
+use Rattle.cga_parser.specs.BlockAnswers.{Line, unless_blank, unless_long, BlockAnswers, EndsBlock}
 use Rattle.cga_parser.specs.Blocks.{block_pieces, attribute_pieces, priority_pieces, whole_block}
 use Rattle.cga_parser.specs.Code.{seen}
 use Rattle.cga_parser.specs.GrammarLines.{line_text, given, IsInside}
@@ -77,11 +77,13 @@ in_bounds : (n : ℕ) → n < 2 ^ 16 → (nat_le 0 n && nat_le n 65535) ≡ true
 in_bounds n h = grind (arith, nat_tests)
 
 priority_spelled : (n : ℕ) → n < 2 ^ 16 → Spelled block_pieces (priority_tokens n) (line.Priority n)
-priority_spelled n h =
-    (0, subst (λ t. Writes 0 (word (codes "PRIORITY") ∷ (if t then token usual (number n) else never) ∷ token none_before (lexeme.Sign s.Colon) ∷ []) (priority_tokens n) 0) (sym (in_bounds n h))
-    (token_first 0 usual (lexeme.Name (codes "PRIORITY")) (token usual (number n) ∷ token none_before (lexeme.Sign s.Colon) ∷ []) (number n ∷ lexeme.Sign s.Colon ∷ []) 0
-    (token_first 0 usual (number n) (token none_before (lexeme.Sign s.Colon) ∷ []) (lexeme.Sign s.Colon ∷ []) 0
-    (token_first 0 none_before (lexeme.Sign s.Colon) [] [] 0 (nothing 0)))))
+priority_spelled n h = (
+  0,
+  subst (λ t. Writes 0 (word (codes "PRIORITY") ∷ (if t then token usual (number n) else never) ∷ token none_before (lexeme.Sign s.Colon) ∷ []) (priority_tokens n) 0) (sym (in_bounds n h))
+      (token_first 0 usual (lexeme.Name (codes "PRIORITY")) (token usual (number n) ∷ token none_before (lexeme.Sign s.Colon) ∷ []) (number n ∷ lexeme.Sign s.Colon ∷ []) 0
+      (token_first 0 usual (number n) (token none_before (lexeme.Sign s.Colon) ∷ []) (lexeme.Sign s.Colon ∷ []) 0
+      (token_first 0 none_before (lexeme.Sign s.Colon) [] [] 0 (nothing 0)))),
+)
 
 priority_walk : (n : ℕ) → walk 32 (priority_tokens n) ≡ Some 32
 unfolding walk
@@ -141,8 +143,7 @@ attribute_back a l h =
 
 pub attribute_inside : (a : Attribute) (l : Line) → BlockAnswers l (Ok (Some (line.Attribute a))) → IsInside (line.Attribute a)
 attribute_inside a l h =
-    let t = (attribute_is a l h).0 in
-    (
+    let t = (attribute_is a l h).0 in (
       attribute_visible a t,
       not_end (line.Attribute a) (lexeme.Name (codes "attr")) (lexeme.Name a.name ∷ lexeme.Sign s.Assign ∷ lexemes (exactly a.value.num a.value.above)) (attribute_read a t) (λ e. other_word (codes "attr") e refl),
     )

@@ -1,5 +1,5 @@
 -- What was read may be printed.
-use Rattle.std.proofs.Common.{◌≡◌, ℕ, ◌+◌, nat_lt, Bool, true, false, List, [], ◌∷◌, length, map, Option, Some, None, Result, Ok, Err, refl, ap, sym, ◌∙◌, subst}
+use Rattle.std.proofs.Common.{◌≡◌, ℕ, ◌+◌, nat_lt, Bool, true, false, List, [], ◌∷◌, length, map, Option, Some, None, Result, Ok, Err, sym, subst}
 use Rattle.std.proofs.lemmas.List.Elements.{All-nil, All-cons}
 use Rattle.cga_lexer.specs.Line.{tokens_of, Outcome as Lexed}
 use Rattle.cga_lexer.specs.declared.token.Token.{Token}
@@ -15,7 +15,7 @@ use Rattle.cga_parser.specs.declared.fault.Fault.{Fault}
 use Rattle.cga_parser.specs.declared.line_fault.LineFault.{LineFault}
 use Rattle.cga_parser.specs.Answers.{Answers}
 use Rattle.cga_parser.specs.Back.{few_brackets, SpellsRule}
-use Rattle.cga_parser.specs.BlockAnswers.{Line, Found, is_long, as_line, unless_blank, unless_long, BlockAnswers, Say, entries_from, grammar_of, GrammarAnswers}
+use Rattle.cga_parser.specs.BlockAnswers.{Line, Found, is_long, as_line, unless_blank, unless_long, BlockAnswers, Say, entries_from, GrammarAnswers}
 use Rattle.cga_parser.specs.Blocks.{block_pieces}
 use Rattle.cga_parser.specs.Code.{seen}
 use Rattle.cga_parser.specs.LineAnswers.{with_place, by_tokens, by_length, LineAnswers}

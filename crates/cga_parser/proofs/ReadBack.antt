@@ -1,25 +1,22 @@
 -- The text of a printed rule is answered by the rule.
-use Rattle.std.proofs.Common.{◌≡◌, ℕ, zero, suc, ◌+◌, ◌≤◌, nat_lt, Bool, true, false, List, [], ◌∷◌, ◌++◌, length, map, append_assoc, Some, None, Option, Ok, Err, arith, refl, ap, sym, ◌∙◌, subst}
+use Rattle.std.proofs.Common.{◌≡◌, ℕ, ◌+◌, ◌≤◌, nat_lt, false, List, length, map, Some, Ok, Err, arith, refl, sym, ◌∙◌, subst}
 use Rattle.std.proofs.lemmas.Bool.Decides.{nat_tests}
 use Rattle.cga_lexer.specs.Line.{tokens_of, Outcome as Lexed}
 use Rattle.cga_syntax.specs.declared.lexeme.Lexeme.{Lexeme}
 use Rattle.cga_syntax.specs.declared.rule.Rule.{Rule}
-use Rattle.cga_syntax.specs.Brackets.{walk, walk_on, counted, bracket_of, IsOpening}
+use Rattle.cga_syntax.specs.Brackets.{walk}
 use Rattle.cga_syntax.specs.Pieces.{rule_pieces}
 use Rattle.cga_syntax.specs.Printing.{printed, text_of}
 use Rattle.cga_syntax.specs.Reading.{AreRead}
-use Rattle.cga_syntax.specs.Spelling.{Spelled, Stops}
-use Rattle.cga_syntax.proofs.Again.{lexemes, again, have_texts, walk_join}
+use Rattle.cga_syntax.specs.Spelling.{Spelled}
+use Rattle.cga_syntax.proofs.Again.{lexemes, again, have_texts}
 use Rattle.cga_syntax.proofs.Back.{text_read}
 use Rattle.cga_syntax.proofs.Tokens.{line_tokens}
-use Rattle.cga_parser.specs.declared.fault.Fault.{Fault}
-use Rattle.cga_parser.specs.declared.fault.Fault.TheVariants.{Unexpected, TooNested}
 use Rattle.cga_parser.specs.Answers.{Answers}
 use Rattle.cga_parser.specs.Back.{few_brackets, SpellsRule, IsReadBack}
 use Rattle.cga_parser.specs.Code.{seen}
 use Rattle.cga_parser.specs.Grammar.{rule_line}
 use Rattle.cga_parser.specs.LineAnswers.{by_tokens, by_length}
-use Rattle.cga_parser.specs.Reader.{Outcome, at}
 use Rattle.cga_parser.proofs.Answered.{answered}
 use Rattle.cga_parser.proofs.Lines.{rule_unique, found_is_right, fault_is_right}
 
@@ -39,8 +36,7 @@ module _ (r : Rule) where
   read_back line (Ok ts) e h =
       let text : List ℕ = text_of (printed (rule_pieces r)) in
       let g = again 0 (rule_pieces r) (map seen ts) h.0.0 (line_tokens line ts e) h.0.1 in
-      let a = rule_answered (lexemes (printed (rule_pieces r))) r h.1.0 (h.0.0, g.written) (g.brackets 32 ∙ h.1.1) in
-      (
+      let a = rule_answered (lexemes (printed (rule_pieces r))) r h.1.0 (h.0.0, g.written) (g.brackets 32 ∙ h.1.1) in (
         have_texts (printed (rule_pieces r)) g.tokens,
         λ few.
             subst (λ t. by_length rule_pieces text t (Ok r)) (sym (short_enough text few))

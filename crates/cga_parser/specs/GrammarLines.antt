@@ -5,7 +5,6 @@ use Rattle.cga_fraction.specs.Texts.{exact_text_of}
 use Rattle.cga_syntax.specs.GrammarText.{line, has, priorities, grammar_text}
 use Rattle.cga_syntax.specs.Pieces.{rule_pieces}
 use Rattle.cga_syntax.specs.Printing.{printed, text_of}
-use Rattle.cga_syntax.specs.declared.grammar.Attribute.{Attribute}
 use Rattle.cga_syntax.specs.declared.grammar.Entry.{Entry}
 use Rattle.cga_syntax.specs.declared.grammar.Grammar.{Grammar}
 use Rattle.cga_parser.specs.declared.block_line.BlockLine.{BlockLine}

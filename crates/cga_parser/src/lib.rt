@@ -25,10 +25,10 @@ mod line;
 mod line_fault;
 mod numbers;
 mod parts;
+pub mod place;
 mod printed;
 #[cfg(test)]
 mod printed_tests;
-pub mod place;
 pub mod rule;
 #[cfg(test)]
 mod tests;
