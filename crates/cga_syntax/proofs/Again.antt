@@ -1,5 +1,5 @@
 -- What is printed is written as the same pieces as the tokens of some line.
-use Rattle.std.proofs.Common.{◌≡◌, ℕ, zero, suc, ◌+◌, ◌<◌, ◌≤◌, ◌^◌, ◌&&◌, ◌==◌, Bool, true, false, List, [], ◌∷◌, ◌++◌, length, map, Option, Some, None, ℤ, pos, negsuc, arith, ap, sym, ◌∙◌, refl, subst, inl, inr, ◌⊎◌, if◌then◌else◌}
+use Rattle.std.proofs.Common.{◌≡◌, ℕ, ◌&&◌, ◌==◌, Bool, true, false, List, [], ◌∷◌, ◌++◌, map, Option, Some, None, ℤ, pos, negsuc, arith, ap, sym, ◌∙◌, refl, subst, inl, inr, if◌then◌else◌}
 use Rattle.std.proofs.lemmas.Bool.Decides.{nat_tests}
 use Rattle.std.proofs.lemmas.List.Elements.{All-nil, All-cons}
 use Rattle.cga_word.specs.declared.turn.Turn.{Turn}
@@ -7,13 +7,13 @@ use Rattle.cga_word.specs.declared.turn.Turn.TheVariants as turn
 use Rattle.cga_fraction.specs.Rat.{Rat, of_int}
 use Rattle.cga_lexer.specs.declared.sign.Sign.TheVariants as s
 use Rattle.cga_syntax.specs.Brackets.{walk, walk_on, counted, bracket_of}
-use Rattle.cga_syntax.specs.Pieces.{Piece, Space, Pieces, token, drawn, turned, probability, valued, never, number, IsTurn, IsProbability, IsMagnitude, IsValue, IsWritten, Writes}
-use Rattle.cga_syntax.specs.Printing.{printed_piece, printed, degrees, is_one, is_whole_one, exactly, magnitude, HasText, HaveTexts, gap_of, usually, marked}
+use Rattle.cga_syntax.specs.Pieces.{Piece, Pieces, token, drawn, turned, probability, valued, never, number, IsTurn, IsProbability, IsMagnitude, IsValue, IsWritten, Writes}
+use Rattle.cga_syntax.specs.Printing.{printed_piece, printed, degrees, is_one, is_whole_one, exactly, HasText, HaveTexts, usually}
 use Rattle.cga_syntax.specs.Reading.{IsToken, AreTokens}
 use Rattle.cga_syntax.specs.declared.lexeme.Lexeme.{Lexeme}
 use Rattle.cga_syntax.specs.declared.lexeme.Lexeme.TheVariants as lexeme
 use Rattle.cga_syntax.specs.declared.print.mark.Mark.{Mark}
-use Rattle.cga_syntax.proofs.Exact.{whole_literal, Exactly, exact}
+use Rattle.cga_syntax.proofs.Exact.{whole_literal, exact}
 
 abbrev pub lexemes : List Mark → List Lexeme
 lexemes ms = map (λ m. m.lexeme) ms

@@ -1,10 +1,10 @@
 -- The text of printed tokens is lexed as these tokens.
-use Rattle.std.proofs.Common.{◌≡◌, ℕ, zero, suc, ◌+◌, ◌-◌, ◌<◌, ◌≤◌, ◌==◌, ◌&&◌, ◌||◌, Bool, true, false, List, [], ◌∷◌, ◌++◌, length, length-append, drop, map, Option, Some, None, Result, Ok, Err, arith, ap, sym, ◌∙◌, refl, subst, if◌then◌else◌, inl, inr}
+use Rattle.std.proofs.Common.{◌≡◌, ℕ, ◌+◌, ◌-◌, ◌<◌, ◌&&◌, ◌||◌, Bool, true, false, List, [], ◌∷◌, ◌++◌, length, length-append, map, Option, Some, None, Ok, Err, arith, ap, sym, ◌∙◌, refl, subst, if◌then◌else◌, inl, inr}
 use Rattle.std.specs.Prelude.{◌⊎◌}
 use Rattle.std.specs.Char.{is_ascii_digit}
 use Rattle.std.specs.List.{list_all}
 use Rattle.std.proofs.lemmas.Bool.Decides.{nat_tests}
-use Rattle.cga_word.specs.Name.{begins_name, continues_name, is_name}
+use Rattle.cga_word.specs.Name.{begins_name, continues_name}
 use Rattle.cga_fraction.specs.Rat.{Rat}
 use Rattle.cga_fraction.specs.Decimals.{is_point, IsLiteral}
 use Rattle.cga_fraction.specs.Texts.{literal_text_of}
@@ -27,7 +27,7 @@ use Rattle.cga_syntax.specs.declared.lexeme.Lexeme.{Lexeme}
 use Rattle.cga_syntax.specs.declared.lexeme.Lexeme.TheVariants as lexeme
 use Rattle.cga_syntax.specs.declared.print.mark.Mark.{Mark}
 use Rattle.cga_syntax.proofs.Fronts.{Shape, shape, dotted, drop_over, Named, named_of}
-use Rattle.cga_syntax.proofs.Signs.{second, Alone, Ends, Seen, token_front}
+use Rattle.cga_syntax.proofs.Signs.{second, Ends, token_front}
 
 -- ---- what ends a token
 

@@ -1,5 +1,5 @@
 -- One layer of the pieces of a condition that is read.
-use Rattle.std.proofs.Common.{◌≡◌, List, [], map}
+use Rattle.std.proofs.Common.{◌≡◌, [], map}
 use Rattle.cga_syntax.specs.declared.keyword.Keyword.TheVariants as k
 use Rattle.cga_syntax.specs.declared.cond.Cond.{Cond, out-Cond}
 use Rattle.cga_syntax.specs.declared.cond.Conj.{Conj, out-Conj}

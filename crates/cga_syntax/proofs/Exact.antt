@@ -1,6 +1,6 @@
 -- The value of an attribute, as it is printed.
-use Rattle.std.proofs.Common.{◌≡◌, ℕ, zero, suc, ◌+◌, ◌-◌, ◌*◌, ◌/◌, ◌<◌, ◌≤◌, ◌^◌, Bool, true, false, List, [], ◌∷◌, ◌++◌, length, length-append, map, Ok, ℤ, pos, negsuc, arith, ap, sym, ◌∙◌, refl, subst, inl, inr, ◌⊎◌}
-use Rattle.std.specs.Prelude.{decimal, unsigned_abs, ◌*ℤ◌, neg_ℤ}
+use Rattle.std.proofs.Common.{◌≡◌, ℕ, zero, suc, ◌+◌, ◌-◌, ◌*◌, ◌/◌, ◌<◌, ◌≤◌, ◌^◌, true, List, ◌++◌, length, length-append, map, Ok, pos, arith, ap, sym, ◌∙◌, refl, subst, inl, inr, ◌⊎◌}
+use Rattle.std.specs.Prelude.{decimal, unsigned_abs, neg_ℤ}
 use Rattle.std.specs.Char.{is_ascii_digit}
 use Rattle.std.specs.List.{list_all}
 use Rattle.std.specs.Str.Parse.{digits_value}
@@ -11,18 +11,16 @@ use Rattle.std.proofs.Math.Nat.{div-le_self, one-le-pow, pow-le-pow_right}
 use Rattle.cga_fraction.specs.Gcd.{gcd}
 use Rattle.cga_fraction.specs.Rat.{Rat, den, of_int}
 use Rattle.cga_fraction.specs.Arithmetic.{reduced, times, divided, negated}
-use Rattle.cga_fraction.specs.Decimals.{decimal_of, IsLiteral, value_of}
+use Rattle.cga_fraction.specs.Decimals.{IsLiteral}
 use Rattle.cga_fraction.specs.Texts.{pointed}
 use Rattle.cga_fraction.proofs.Gcds.{gcd-IsGcd}
 use Rattle.cga_fraction.proofs.Lowest.{lowest, reduced-parts, quotient_positive}
-use Rattle.cga_fraction.proofs.Literals.{Reads, reads}
+use Rattle.cga_fraction.proofs.Literals.{reads}
 use Rattle.cga_fraction.proofs.Spelling.{own, reads-pointed}
-use Rattle.cga_lexer.specs.declared.sign.Sign.TheVariants as s
-use Rattle.cga_syntax.specs.Pieces.{number, IsMagnitude, IsValue}
+use Rattle.cga_syntax.specs.Pieces.{IsMagnitude, IsValue}
 use Rattle.cga_syntax.specs.Printing.{magnitude, exactly}
-use Rattle.cga_syntax.specs.Reading.{IsToken, AreTokens}
+use Rattle.cga_syntax.specs.Reading.{AreTokens}
 use Rattle.cga_syntax.specs.declared.lexeme.Lexeme.{Lexeme}
-use Rattle.cga_syntax.specs.declared.lexeme.Lexeme.TheVariants as lexeme
 use Rattle.cga_syntax.specs.declared.print.mark.Mark.{Mark}
 use Rattle.cga_syntax.proofs.Wholes.{whole_reduced}
 

@@ -1,5 +1,5 @@
 -- What stands at the front of a text that begins with the bytes of a number, a word or a quoted name.
-use Rattle.std.proofs.Common.{◌≡◌, ℕ, zero, suc, ◌+◌, ◌-◌, ◌<◌, ◌≤◌, ◌==◌, ◌&&◌, ◌||◌, Bool, true, false, not, nat_eq, nat_lt, nat_le, List, [], ◌∷◌, ◌++◌, length, take, drop, get_or, length-append, append_assoc, Option, Some, None, Result, Ok, Err, arith, ap, sym, ◌∙◌, refl, subst, if◌then◌else◌}
+use Rattle.std.proofs.Common.{◌≡◌, ℕ, suc, ◌+◌, ◌<◌, ◌≤◌, ◌==◌, ◌&&◌, Bool, true, false, not, nat_lt, nat_le, List, [], ◌∷◌, ◌++◌, length, take, drop, get_or, length-append, append_assoc, Option, Some, None, Result, Ok, Err, arith, ap, sym, ◌∙◌, refl, subst, if◌then◌else◌}
 use Rattle.std.specs.Prelude.{position}
 use Rattle.std.specs.List.{list_all}
 use Rattle.std.specs.Char.{is_ascii_digit}
@@ -13,9 +13,8 @@ use Rattle.cga_fraction.specs.Decimals.{decimal_of, is_point, is_numeral, read_o
 use Rattle.cga_fraction.specs.declared.fraction.decimal.DecimalFault.{DecimalFault}
 use Rattle.cga_fraction.specs.declared.fraction.decimal.DecimalFault.TheVariants.{NotNumber, TooManyDigits}
 use Rattle.cga_lexer.specs.Bytes.{run, begins}
-use Rattle.cga_lexer.specs.Front.{front, number, word, quoted, closed, enclosed, followed, valued, decimals, with_point, number_len, digit_count, is_mark}
+use Rattle.cga_lexer.specs.Front.{front, number, word, quoted, closed, enclosed, followed, valued, decimals, with_point, number_len, digit_count}
 use Rattle.cga_lexer.specs.declared.token.TokenKind.TheVariants as kind
-use Rattle.cga_lexer.specs.declared.front.Front.{Front}
 use Rattle.cga_lexer.specs.declared.front.Front.TheVariants.{Token, BadNumber, LongName, BadByte}
 
 nil_right : {A : Type 0} (xs : List A) → xs ++ [] ≡ xs

@@ -1,5 +1,5 @@
 -- One layer of the pieces of a tree that is read.
-use Rattle.std.proofs.Common.{◌≡◌, ℕ, List, [], ◌∷◌, ◌++◌, map, Bool, if◌then◌else◌, ap, sym, ◌∙◌}
+use Rattle.std.proofs.Common.{◌≡◌, ℕ, List, [], ◌∷◌, ◌++◌, map, if◌then◌else◌, ap, sym, ◌∙◌}
 use Rattle.cga_lexer.specs.declared.sign.Sign.TheVariants as s
 use Rattle.cga_syntax.specs.declared.expr.Expr.{Expr, out-Expr}
 use Rattle.cga_syntax.specs.declared.expr.Term.{Term, out-Term}

@@ -1,10 +1,9 @@
 -- The lines of attributes and priorities are lexed as their tokens.
-use Rattle.std.proofs.Common.{◌≡◌, ℕ, zero, suc, ◌+◌, ◌*◌, ◌/◌, ◌<◌, ◌≤◌, ◌^◌, ◌==◌, false, List, [], ◌∷◌, ◌++◌, length, length-append, map, ℤ, pos, negsuc, arith, ap, sym, ◌∙◌, refl, subst, inl, inr, codes, decimal, if◌then◌else◌}
+use Rattle.std.proofs.Common.{◌≡◌, ℕ, zero, suc, ◌+◌, ◌*◌, ◌/◌, ◌<◌, ◌≤◌, ◌^◌, ◌==◌, false, List, [], ◌∷◌, ◌++◌, length, length-append, ℤ, pos, negsuc, arith, ap, sym, ◌∙◌, refl, subst, inr, codes, decimal, if◌then◌else◌}
 use Rattle.std.specs.Fmt.{signed_decimal}
 use Rattle.std.proofs.lemmas.Bool.Decides.{nat_tests}
 use Rattle.std.proofs.lemmas.Fmt.{length-decimal-le}
 use Rattle.cga_fraction.specs.Rat.{Rat, of_int}
-use Rattle.cga_fraction.specs.Decimals.{IsLiteral}
 use Rattle.cga_fraction.specs.Texts.{literal_text_of, places_from, pointed, exact_text_of}
 use Rattle.cga_lexer.specs.Bytes.{begins}
 use Rattle.cga_lexer.specs.Line.{lex, tokens_of}
@@ -19,7 +18,7 @@ use Rattle.cga_syntax.specs.declared.lexeme.Lexeme.TheVariants as lexeme
 use Rattle.cga_syntax.proofs.Again.{lexemes}
 use Rattle.cga_syntax.proofs.Back.{primary_apart, lex_nil, token_read, space_read}
 use Rattle.cga_syntax.proofs.Exact.{whole_literal, whole_small}
-use Rattle.cga_syntax.proofs.Fronts.{Named, named_of}
+use Rattle.cga_syntax.proofs.Fronts.{named_of}
 use Rattle.cga_syntax.proofs.Signs.{second, Ends}
 
 nil_right : {A : Type 0} (xs : List A) → xs ++ [] ≡ xs

@@ -1,9 +1,9 @@
 -- What stands at the front of a text that begins with the bytes of a token.
-use Rattle.std.proofs.Common.{◌≡◌, ℕ, suc, ◌+◌, ◌==◌, ◌||◌, Bool, true, false, List, [], ◌∷◌, ◌++◌, length, length-append, append_assoc, Option, Some, None, Ok, arith, ap, sym, ◌∙◌, refl, subst, if◌then◌else◌}
+use Rattle.std.proofs.Common.{◌≡◌, ℕ, suc, ◌+◌, ◌==◌, ◌||◌, Bool, true, false, List, [], ◌∷◌, ◌++◌, length, length-append, append_assoc, Option, Some, None, Ok, arith, ap, sym, ◌∙◌, refl, if◌then◌else◌}
 use Rattle.std.specs.Prelude.{◌⊎◌, is_some}
 use Rattle.std.proofs.Common.{inl, inr}
 use Rattle.std.proofs.lemmas.Bool.Decides.{nat_tests}
-use Rattle.cga_word.specs.Name.{begins_name, continues_name, is_name}
+use Rattle.cga_word.specs.Name.{continues_name, is_name}
 use Rattle.cga_fraction.specs.Rat.{Rat}
 use Rattle.cga_fraction.specs.Decimals.{decimal_of, is_point, IsLiteral}
 use Rattle.cga_fraction.specs.Texts.{literal_text_of}
@@ -14,9 +14,8 @@ use Rattle.cga_lexer.specs.declared.sign.Sign.{Sign}
 use Rattle.cga_lexer.specs.declared.sign.Sign.TheVariants as s
 use Rattle.cga_lexer.specs.declared.token.TokenKind.{TokenKind}
 use Rattle.cga_lexer.specs.declared.token.TokenKind.TheVariants as kind
-use Rattle.cga_lexer.specs.declared.front.Front.{Front}
 use Rattle.cga_lexer.specs.declared.front.Front.TheVariants.{Token}
-use Rattle.cga_syntax.specs.Lexemes.{lexeme_of, keyword_of, keyword_bytes, is_reserved, word_lexeme}
+use Rattle.cga_syntax.specs.Lexemes.{lexeme_of, keyword_of, keyword_bytes, word_lexeme}
 use Rattle.cga_syntax.specs.Printing.{sign_bytes, lexeme_bytes, opens_up}
 use Rattle.cga_syntax.specs.Reading.{IsToken}
 use Rattle.cga_syntax.specs.declared.keyword.Keyword.{Keyword}

@@ -1,11 +1,10 @@
 -- What a line spells, printed, spells it again.
 use Rattle.std.proofs.Common.{◌≡◌, ℕ, List, Ok, Err, refl, subst, sym}
 use Rattle.cga_lexer.specs.Line.{Outcome, tokens_of}
-use Rattle.cga_lexer.specs.declared.token.Token.{Token}
 use Rattle.cga_syntax.specs.declared.lexeme.Lexeme.{Lexeme}
-use Rattle.cga_syntax.specs.Pieces.{Pieces, Writes}
+use Rattle.cga_syntax.specs.Pieces.{Pieces}
 use Rattle.cga_syntax.specs.Printing.{printed, text_of}
-use Rattle.cga_syntax.specs.Reading.{AreTokens, AreRead, seen_of, outcome_spells, LineSpells, IsPrintedWell}
+use Rattle.cga_syntax.specs.Reading.{AreRead, seen_of, outcome_spells, LineSpells, IsPrintedWell}
 use Rattle.cga_syntax.specs.Spelling.{Spelled}
 use Rattle.cga_syntax.proofs.Again.{lexemes, again, have_texts}
 use Rattle.cga_syntax.proofs.Back.{text_read}

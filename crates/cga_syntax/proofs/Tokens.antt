@@ -1,5 +1,5 @@
 -- The tokens of a line: its numbers are read from a text, and its words are names.
-use Rattle.std.proofs.Common.{◌≡◌, ℕ, zero, suc, ◌+◌, ◌-◌, ◌<◌, ◌≤◌, ◌==◌, ◌&&◌, ◌||◌, Bool, true, false, nat_lt, List, [], ◌∷◌, ◌++◌, length, length-take, take, drop, Option, Some, None, Result, Ok, Err, arith, ap, sym, ◌∙◌, refl, subst, if◌then◌else◌}
+use Rattle.std.proofs.Common.{◌≡◌, ℕ, zero, suc, ◌+◌, ◌-◌, ◌<◌, ◌==◌, ◌&&◌, ◌||◌, Bool, true, false, nat_lt, List, [], ◌∷◌, length, length-take, take, drop, Option, Some, None, Result, Ok, Err, arith, ap, ◌∙◌, refl, subst, if◌then◌else◌}
 use Rattle.std.specs.Prelude.{is_some}
 use Rattle.std.specs.List.{list_all}
 use Rattle.std.specs.Char.{is_ascii_digit}
@@ -9,11 +9,10 @@ use Rattle.cga_fraction.specs.Rat.{Rat}
 use Rattle.cga_fraction.specs.Decimals.{decimal_of}
 use Rattle.cga_fraction.specs.declared.fraction.decimal.DecimalFault.{DecimalFault}
 use Rattle.cga_lexer.specs.Bytes.{run, begins}
-use Rattle.cga_lexer.specs.Front.{front, number, word, quoted, closed, enclosed, followed, valued, number_len, digit_count, is_mark, sign_of, short, long_or, pair, single}
+use Rattle.cga_lexer.specs.Front.{front, number, word, quoted, closed, enclosed, valued, number_len, digit_count, is_mark, sign_of, short, long_or, pair, single}
 use Rattle.cga_lexer.specs.Line.{Outcome, lex, from_front, behind, tokens_of}
 use Rattle.cga_lexer.specs.declared.sign.Sign.{Sign}
 use Rattle.cga_lexer.specs.declared.token.Token.{Token as Read}
-use Rattle.cga_lexer.specs.declared.fault.LexFault.{LexFault}
 use Rattle.cga_lexer.specs.declared.token.TokenKind.{TokenKind}
 use Rattle.cga_lexer.specs.declared.token.TokenKind.TheVariants as kind
 use Rattle.cga_lexer.specs.declared.front.Front.{Front}

@@ -1,5 +1,5 @@
 -- No byte of a printed line is a control byte.
-use Rattle.std.proofs.Common.{◌≡◌, ℕ, zero, suc, ◌+◌, ◌<◌, ◌≤◌, ◌^◌, ◌&&◌, nat_le, Bool, true, false, List, [], ◌∷◌, ◌++◌, map, Option, Some, None, ℤ, pos, negsuc, arith, ap, sym, ◌∙◌, refl, subst, codes, decimal, if◌then◌else◌}
+use Rattle.std.proofs.Common.{◌≡◌, ℕ, zero, suc, ◌+◌, ◌<◌, ◌≤◌, ◌^◌, ◌&&◌, nat_le, Bool, true, false, List, [], ◌∷◌, ◌++◌, Option, Some, None, ℤ, pos, negsuc, arith, ap, sym, ◌∙◌, refl, subst, codes, decimal, if◌then◌else◌}
 use Rattle.std.specs.Char.{is_ascii_digit}
 use Rattle.std.specs.Fmt.{signed_decimal}
 use Rattle.std.specs.List.{All, list_all}
@@ -23,7 +23,7 @@ use Rattle.cga_syntax.specs.declared.lexeme.Lexeme.TheVariants as lexeme
 use Rattle.cga_syntax.specs.declared.print.mark.Mark.{Mark}
 use Rattle.cga_syntax.proofs.Again.{lexemes}
 use Rattle.cga_syntax.proofs.Exact.{whole_literal}
-use Rattle.cga_syntax.proofs.Fronts.{Shape, shape, dotted, named_of}
+use Rattle.cga_syntax.proofs.Fronts.{shape, dotted, named_of}
 use Rattle.cga_syntax.proofs.LineTexts.{whole_text, below, below_more, first_whole, attribute_tokens}
 use Rattle.cga_syntax.proofs.Signs.{keyword_is_name}
 

@@ -1,8 +1,7 @@
 -- Whole numbers as fractions.
-use Rattle.std.proofs.Common.{◌≡◌, ℕ, zero, suc, ◌*◌, ◌/◌, ◌-◌, ◌<◌, ◌≤◌, ◌^◌, pos, ◌*ℤ◌, arith, refl, ap, sym, ◌∙◌, Result, Ok}
+use Rattle.std.proofs.Common.{◌≡◌, ℕ, ◌*◌, ◌/◌, ◌<◌, ◌^◌, pos, arith, ap, sym, ◌∙◌, Result, Ok}
 use Rattle.cga_fraction.specs.Rat.{Rat, of_int}
-use Rattle.cga_fraction.specs.Gcd.{gcd}
-use Rattle.cga_fraction.specs.Arithmetic.{reduced, times, divided, inverse}
+use Rattle.cga_fraction.specs.Arithmetic.{reduced, times, divided}
 use Rattle.cga_fraction.specs.Refusals.{quotient_of, with_fault, checked}
 use Rattle.cga_fraction.specs.declared.overflow.DivFault.{DivFault}
 use Rattle.cga_fraction.proofs.Gcds.{gcd-one}

@@ -1,5 +1,5 @@
 -- What printed tokens are read back as.
-use Rattle.std.specs.Prelude.{◌≡◌, ℕ, true, false, List, [], ◌∷◌, map, Result, Ok, Err}
+use Rattle.std.specs.Prelude.{◌≡◌, ℕ, true, false, List, [], ◌∷◌, map, Ok, Err}
 use Rattle.cga_fraction.specs.Decimals.{IsLiteral}
 use Rattle.cga_word.specs.Name.{is_name}
 use Rattle.cga_lexer.specs.Line.{Outcome, tokens_of}
