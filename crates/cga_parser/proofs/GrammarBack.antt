@@ -2,22 +2,22 @@
 use Rattle.std.proofs.Common.{ℕ, ◌<◌, ◌≤◌, ◌^◌, ◌&&◌, nat_eq, Bool, true, false, List, [], ◌∷◌, length, map, Option, Some, None, Ok, arith, sym, subst, if◌then◌else◌}
 use Rattle.std.specs.List.{All}
 use Rattle.std.proofs.lemmas.List.Elements.{All-head, All-tail, All-nil, All-cons}
-use Rattle.cga_syntax.specs.GrammarText.{has, priorities}
+use Rattle.cga_syntax.specs.GrammarText.{has, priorities, ArePrintable}
+use Rattle.cga_syntax.specs.Pieces.{rule_pieces}
+use Rattle.cga_syntax.specs.Printing.{printed, HaveTexts}
 use Rattle.cga_syntax.specs.declared.grammar.Attribute.{Attribute}
 use Rattle.cga_syntax.specs.declared.grammar.Entry.{Entry}
 use Rattle.cga_syntax.specs.declared.grammar.Grammar.{Grammar}
 use Rattle.cga_parser.specs.declared.block_line.BlockLine.{BlockLine}
 use Rattle.cga_parser.specs.declared.block_line.BlockLine.TheVariants as says
 use Rattle.cga_parser.specs.BlockAnswers.{Line, BlockAnswers, Say, attributes_of, entries_from, grammar_of, GrammarAnswers}
-use Rattle.cga_parser.specs.GrammarLines.{all_from, with_id, by_id, rule_of, section, said_of, line_text, given, IsInside, AreShort, ReadsBack}
+use Rattle.cga_parser.specs.GrammarLines.{all_from, with_id, by_id, rule_of, section, said_of, line_text, given, IsSaid, IsSpelled, IsInside, AreShort, ReadsBack}
 use Rattle.cga_parser.proofs.GrammarLines.{whole_text, said_grammar}
 use Rattle.cga_parser.proofs.LinesBack.{attribute_back, attribute_inside, priority_back, priority_inside, rule_back, rule_inside, id_bound, priority_bound}
+use Rattle.cga_parser.proofs.Printable.{line_prints}
 use Rattle.cga_parser.proofs.Ranked.{Every, every_join, every_from, IsBounded, ranked}
 
 -- ---- what some line says
-
-abbrev IsSaid : BlockLine → Type 0
-IsSaid b = (l : Line) × BlockAnswers l (Ok (Some b))
 
 abbrev SaysAttribute : Attribute → Type 0
 SaysAttribute a = IsSaid (says.Attribute a)
@@ -25,38 +25,51 @@ SaysAttribute a = IsSaid (says.Attribute a)
 abbrev SaysRule : Entry → Type 0
 SaysRule e = IsSaid (rule_of e)
 
-attributes_are : (lines : List Line) (all : List (Option BlockLine)) → Say lines all → Every SaysAttribute (attributes_of all)
+abbrev HasFew : Entry → Type 0
+HasFew e = e.priority ≤ 65535
+
+attributes_are : (lines : List Line) (all : List (Option BlockLine)) → Say lines all → All SaysAttribute (attributes_of all)
 unfolding Say attributes_of
-attributes_are [] [] h = tt
+attributes_are [] [] h = All-nil SaysAttribute
 attributes_are (l ∷ ls) [] h = absurd h
 attributes_are [] (said ∷ all) h = absurd h
 attributes_are (l ∷ ls) (None ∷ all) h = attributes_are ls all h.1
-attributes_are (l ∷ ls) (Some (says.Attribute a) ∷ all) h = ((l, h.0), attributes_are ls all h.1)
+attributes_are (l ∷ ls) (Some (says.Attribute a) ∷ all) h = All-cons SaysAttribute a (attributes_of all) (l, h.0) (attributes_are ls all h.1)
 attributes_are (l ∷ ls) (Some (says.Priority q) ∷ all) h = attributes_are ls all h.1
 attributes_are (l ∷ ls) (Some (says.Rule r) ∷ all) h = attributes_are ls all h.1
 attributes_are (l ∷ ls) (Some says.End ∷ all) h = attributes_are ls all h.1
 
-rules_are : (p : ℕ) (lines : List Line) (all : List (Option BlockLine)) → Say lines all → Every SaysRule (entries_from p all)
+rules_are : (p : ℕ) (lines : List Line) (all : List (Option BlockLine)) → Say lines all → All SaysRule (entries_from p all)
 unfolding Say entries_from
-rules_are p [] [] h = tt
+rules_are p [] [] h = All-nil SaysRule
 rules_are p (l ∷ ls) [] h = absurd h
 rules_are p [] (said ∷ all) h = absurd h
 rules_are p (l ∷ ls) (None ∷ all) h = rules_are p ls all h.1
 rules_are p (l ∷ ls) (Some (says.Attribute a) ∷ all) h = rules_are p ls all h.1
 rules_are p (l ∷ ls) (Some (says.Priority q) ∷ all) h = rules_are q ls all h.1
-rules_are p (l ∷ ls) (Some (says.Rule r) ∷ all) h = ((l, h.0), rules_are p ls all h.1)
+rules_are p (l ∷ ls) (Some (says.Rule r) ∷ all) h = All-cons SaysRule (record { priority = p; rule = r }) (entries_from p all) (l, h.0) (rules_are p ls all h.1)
 rules_are p (l ∷ ls) (Some says.End ∷ all) h = rules_are p ls all h.1
 
-bounded : (p : ℕ) (lines : List Line) (all : List (Option BlockLine)) → p < 2 ^ 16 → Say lines all → Every IsBounded (entries_from p all)
+few_are : (p : ℕ) (lines : List Line) (all : List (Option BlockLine)) → p ≤ 65535 → Say lines all → All HasFew (entries_from p all)
 unfolding Say entries_from
-bounded p [] [] b h = tt
-bounded p (l ∷ ls) [] b h = absurd h
-bounded p [] (said ∷ all) b h = absurd h
-bounded p (l ∷ ls) (None ∷ all) b h = bounded p ls all b h.1
-bounded p (l ∷ ls) (Some (says.Attribute a) ∷ all) b h = bounded p ls all b h.1
-bounded p (l ∷ ls) (Some (says.Priority q) ∷ all) b h = bounded q ls all (priority_bound q l h.0) h.1
-bounded p (l ∷ ls) (Some (says.Rule r) ∷ all) b h = ((b, id_bound r l h.0), bounded p ls all b h.1)
-bounded p (l ∷ ls) (Some says.End ∷ all) b h = bounded p ls all b h.1
+few_are p [] [] b h = All-nil HasFew
+few_are p (l ∷ ls) [] b h = absurd h
+few_are p [] (said ∷ all) b h = absurd h
+few_are p (l ∷ ls) (None ∷ all) b h = few_are p ls all b h.1
+few_are p (l ∷ ls) (Some (says.Attribute a) ∷ all) b h = few_are p ls all b h.1
+few_are p (l ∷ ls) (Some (says.Priority q) ∷ all) b h = let f = priority_bound q l h.0 in few_are q ls all (omega arith) h.1
+few_are p (l ∷ ls) (Some (says.Rule r) ∷ all) b h = All-cons HasFew (record { priority = p; rule = r }) (entries_from p all) b (few_are p ls all b h.1)
+few_are p (l ∷ ls) (Some says.End ∷ all) b h = few_are p ls all b h.1
+
+said_spelled : (lines : List Line) (all : List (Option BlockLine)) → Say lines all → IsSpelled (grammar_of all)
+said_spelled lines all h = record { attributes = attributes_are lines all h; rules = rules_are 1 lines all h; priorities = few_are 1 lines all (omega arith) h }
+
+pub spelled : (lines : List Line) (grammar : Grammar) → GrammarAnswers lines (Ok grammar) → IsSpelled grammar
+spelled lines grammar h = subst IsSpelled (sym h.2) (said_spelled lines h.0 h.1)
+
+every_of : {A : Type 0} (P : A → Type 0) (xs : List A) → All P xs → Every P xs
+every_of P [] h = tt
+every_of P (x ∷ xs) h = (All-head P x xs h, every_of P xs (All-tail P x xs h))
 
 -- ---- the printed lines
 
@@ -112,6 +125,14 @@ unfolding Say
 say [] h = tt
 say (b ∷ bs) h = (h.0, say bs h.1)
 
+bounded : (es : List Entry) → Every SaysRule es → Every HasFew es → Every IsBounded es
+bounded [] h k = tt
+bounded (e ∷ es) h k = let f = k.0 in ((omega arith, id_bound e.rule h.0.0 h.0.1), bounded es h.1 k.1)
+
+rules_print : (es : List Entry) → Every SaysRule es → ArePrintable es
+rules_print [] h = All-nil (λ (e : Entry). HaveTexts (printed (rule_pieces e.rule)))
+rules_print (e ∷ es) h = All-cons (λ (e : Entry). HaveTexts (printed (rule_pieces e.rule))) e es (line_prints h.0.0 e.rule h.0.1) (rules_print es h.1)
+
 module _ (g : Grammar) (attributes : Every SaysAttribute g.attributes) (rules : Every SaysRule g.rules) where
   said_inside : All IsInside (said_of g)
   said_inside = all_of IsInside (said_of g) (said_all IsInside (λ a h. attribute_inside a h.0 h.1) priority_inside g attributes (rules_inside g.rules rules))
@@ -119,16 +140,14 @@ module _ (g : Grammar) (attributes : Every SaysAttribute g.attributes) (rules : 
   said_answered : AreShort g.rules → Every IsAnswered (said_of g)
   said_answered s = said_all IsAnswered (λ a h. attribute_back a h.0 h.1) priority_back g attributes (rules_answered g.rules rules s)
 
-said_back : (lines : List Line) (all : List (Option BlockLine)) → Say lines all → ReadsBack (grammar_of all)
-said_back lines all h =
-    let a = attributes_are lines all h in
-    let r = rules_are 1 lines all h in
+pub grammar_back : (grammar : Grammar) → IsSpelled grammar → ReadsBack grammar
+grammar_back g h =
+    let a = every_of SaysAttribute g.attributes h.attributes in
+    let r = every_of SaysRule g.rules h.rules in
     record {
-      text = whole_text (grammar_of all);
-      inside = said_inside (grammar_of all) a r;
-      answered = λ s. (map Some (said_of (grammar_of all)), say (said_of (grammar_of all)) (said_answered (grammar_of all) a r s), said_grammar (grammar_of all));
-      same = ranked (entries_from 1 all) (bounded 1 lines all (omega arith) h);
+      printable = rules_print g.rules r;
+      text = whole_text g;
+      inside = said_inside g a r;
+      answered = λ s. (map Some (said_of g), say (said_of g) (said_answered g a r s), said_grammar g);
+      same = ranked g.rules (bounded g.rules r (every_of HasFew g.rules h.priorities));
     }
-
-pub grammar_back : (lines : List Line) (grammar : Grammar) → GrammarAnswers lines (Ok grammar) → ReadsBack grammar
-grammar_back lines grammar h = subst ReadsBack (sym h.2) (said_back lines h.0 h.1)

@@ -78,7 +78,7 @@ rule_few : (r : Rule) (o : Lexed) → says_by o (line.Rule r) → few_brackets o
 rule_few r (Ok ts) h = (h.0, (32, h.1))
 rule_few r (Err f) h = absurd h
 
-line_prints : (l : Line) (r : Rule) → BlockAnswers l (Ok (Some (line.Rule r))) → HaveTexts (printed (rule_pieces r))
+pub line_prints : (l : Line) (r : Rule) → BlockAnswers l (Ok (Some (line.Rule r))) → HaveTexts (printed (rule_pieces r))
 line_prints l r h = (rule_back l.bytes r (rule_few r (tokens_of l.bytes) (line_says (line.Rule r) l h))).0
 
 lines_print : (priority : ℕ) (lines : List Line) (all : List (Option BlockLine)) → Say lines all → ArePrintable (entries_from priority all)

@@ -1,15 +1,15 @@
 -- The lines that the text of a grammar has, and the grammar that they say.
-use Rattle.std.specs.Prelude.{◌≡◌, ◌≤◌, ◌&&◌, ◌^◌, ◌+◌, ℕ, zero, suc, nat_eq, List, [], ◌∷◌, ◌++◌, length, map, false, Ok, IsPermutation, decimal, codes, if◌then◌else◌}
+use Rattle.std.specs.Prelude.{◌≡◌, ◌≤◌, ◌&&◌, ◌^◌, ◌+◌, ℕ, zero, suc, nat_eq, List, [], ◌∷◌, ◌++◌, length, map, false, Some, Ok, IsPermutation, decimal, codes, if◌then◌else◌}
 use Rattle.std.specs.List.{All}
 use Rattle.cga_fraction.specs.Texts.{exact_text_of}
-use Rattle.cga_syntax.specs.GrammarText.{line, has, priorities, grammar_text}
+use Rattle.cga_syntax.specs.GrammarText.{line, has, priorities, grammar_text, ArePrintable}
 use Rattle.cga_syntax.specs.Pieces.{rule_pieces}
 use Rattle.cga_syntax.specs.Printing.{printed, text_of}
 use Rattle.cga_syntax.specs.declared.grammar.Entry.{Entry}
 use Rattle.cga_syntax.specs.declared.grammar.Grammar.{Grammar}
 use Rattle.cga_parser.specs.declared.block_line.BlockLine.{BlockLine}
 use Rattle.cga_parser.specs.declared.block_line.BlockLine.TheVariants as says
-use Rattle.cga_parser.specs.BlockAnswers.{Line, EndsBlock, GrammarAnswers}
+use Rattle.cga_parser.specs.BlockAnswers.{Line, BlockAnswers, EndsBlock, GrammarAnswers}
 
 -- ---- the entries in the order of the text
 
@@ -60,17 +60,28 @@ given b = record { bytes = line_text b; long = false }
 
 -- ---- the grammar's text is read back
 
+-- some line says it
+abbrev pub IsSaid : BlockLine → Type 0
+IsSaid b = (l : Line) × BlockAnswers l (Ok (Some b))
+
+-- each attribute and each rule is one that some line says, and each priority one that a line may have
+pub record IsSpelled (g : Grammar) : Type 0 where
+  pub attributes : All (λ a. IsSaid (says.Attribute a)) g.attributes
+  pub rules : All (λ e. IsSaid (rule_of e)) g.rules
+  pub priorities : All (λ (e : Entry). e.priority ≤ 65535) g.rules
+
 -- the text is one line, without a control byte, and doesn't end a block
 abbrev pub IsInside : BlockLine → Type 0
 IsInside b = All (λ byte. 32 ≤ byte) (line_text b) × (EndsBlock (given b) → ⊥)
 
 -- no rule's text is too long for a line
 abbrev pub AreShort : List Entry → Type 0
-AreShort es = All (λ (e : Entry). length (line_text (rule_of e)) ≤ 4096) es
+AreShort es = All (λ e. length (line_text (rule_of e)) ≤ 4096) es
 
--- The text of the grammar is these lines between `rules` and `end`. Where no rule is too long they are answered by the
--- grammar with its entries in the order of the text, which are the same entries.
+-- The grammar may be printed, and its text is these lines between `rules` and `end`. Where no rule is too long they are
+-- answered by the grammar with its entries in the order of the text, which are the same entries.
 pub record ReadsBack (g : Grammar) : Type 0 where
+  pub printable : ArePrintable g.rules
   pub text : grammar_text g ≡ line (codes "rules") ++ (lines_text (said_of g) ++ line (codes "end"))
   pub inside : All IsInside (said_of g)
   pub answered : AreShort g.rules → GrammarAnswers (map given (said_of g)) (Ok (record { attributes = g.attributes; rules = by_rank g.rules }))

@@ -1,9 +1,9 @@
-//! Printed rules are read back.
+//! Printed rules and grammars are read back.
 ghost use Rattle.std.specs.Prelude.{ℕ, List, Ok};
 ghost use Rattle.cga_parser.specs.LineAnswers.{LineAnswers};
 ghost use Rattle.cga_parser.specs.BlockAnswers.{Line, GrammarAnswers};
 ghost use Rattle.cga_parser.specs.Back.{SpellsRule, IsReadBack};
-ghost use Rattle.cga_parser.specs.GrammarLines.{ReadsBack};
+ghost use Rattle.cga_parser.specs.GrammarLines.{IsSpelled, ReadsBack};
 ghost use Rattle.cga_syntax.specs.GrammarText.{ArePrintable};
 ghost use Rattle.cga_syntax.specs.Pieces.{rule_pieces};
 ghost use Rattle.cga_syntax.specs.declared.grammar.Grammar.{Grammar};
@@ -21,8 +21,10 @@ pub fn may_be_printed()
     ensures grammar { (lines : List Line) (grammar : Grammar) → GrammarAnswers lines (Ok grammar) → ArePrintable grammar.rules }
 {}
 
-/// The text that `print_grammar` gives of what the lines of a block say is read as the same
-/// attributes in order and the same entries, by rising priority and id.
+/// The text that `print_grammar` gives is read as the same attributes in order and the same entries
+/// by rising priority and id, where lines say each attribute and each rule. Of a grammar that was
+/// read they do.
 pub fn grammar_reads_back()
-    ensures { (lines : List Line) (grammar : Grammar) → GrammarAnswers lines (Ok grammar) → ReadsBack grammar }
+    ensures spelled { (lines : List Line) (grammar : Grammar) → GrammarAnswers lines (Ok grammar) → IsSpelled grammar }
+    ensures back { (grammar : Grammar) → IsSpelled grammar → ReadsBack grammar }
 {}
