@@ -1,5 +1,6 @@
 pub mod Runs
 pub mod Written
+pub mod Answered
 pub mod Forms
 pub mod Again
 pub mod Layers
@@ -32,3 +33,7 @@ pub mod Once
 pub mod OnceLines
 pub mod ReadBack
 pub mod Printable
+pub mod LinesBack
+pub mod Ranked
+pub mod GrammarLines
+pub mod GrammarBack

@@ -1,5 +1,5 @@
 -- What was read may be printed.
-use Rattle.std.proofs.Common.{◌≡◌, ℕ, ◌+◌, nat_lt, Bool, true, false, List, [], ◌∷◌, length, map, Option, Some, None, Result, Ok, Err, refl, ap, sym, ◌∙◌, subst}
+use Rattle.std.proofs.Common.{◌≡◌, ℕ, ◌+◌, nat_lt, Bool, true, false, List, [], ◌∷◌, length, map, Option, Some, None, Result, Ok, Err, sym, subst}
 use Rattle.std.proofs.lemmas.List.Elements.{All-nil, All-cons}
 use Rattle.cga_lexer.specs.Line.{tokens_of, Outcome as Lexed}
 use Rattle.cga_lexer.specs.declared.token.Token.{Token}
@@ -15,7 +15,7 @@ use Rattle.cga_parser.specs.declared.fault.Fault.{Fault}
 use Rattle.cga_parser.specs.declared.line_fault.LineFault.{LineFault}
 use Rattle.cga_parser.specs.Answers.{Answers}
 use Rattle.cga_parser.specs.Back.{few_brackets, SpellsRule}
-use Rattle.cga_parser.specs.BlockAnswers.{Line, Found, is_long, as_line, unless_blank, unless_long, BlockAnswers, Say, entries_from, grammar_of, GrammarAnswers}
+use Rattle.cga_parser.specs.BlockAnswers.{Line, Found, is_long, as_line, unless_blank, unless_long, BlockAnswers, Say, entries_from, GrammarAnswers}
 use Rattle.cga_parser.specs.Blocks.{block_pieces}
 use Rattle.cga_parser.specs.Code.{seen}
 use Rattle.cga_parser.specs.LineAnswers.{with_place, by_tokens, by_length, LineAnswers}
@@ -50,24 +50,36 @@ parsed_prints bytes r h = (rule_back bytes r (parsed_spells bytes r h)).0
 some_line : (said b : BlockLine) → ◌≡◌ {A = Found} (Ok (Some said)) (Ok (Some b)) → b ≡ said
 some_line said b h = cc
 
-block_tokens : (r : Rule) (end : ℕ) (t : Token) (ts : List Token) (found : Result BlockLine LineFault) → by_tokens block_pieces end (Ok (t ∷ ts)) found → ◌≡◌ {A = Found} (Ok (Some (line.Rule r))) (as_line found) → few_brackets (Ok (t ∷ ts)) r
-block_tokens r end t ts (Ok said) h e =
-    let q : said ≡ line.Rule r = some_line (line.Rule r) said e in
-    let g : by_tokens block_pieces end (Ok (t ∷ ts)) (Ok (line.Rule r)) = subst (λ z. by_tokens block_pieces end (Ok (t ∷ ts)) (Ok z)) q h in
-    let a = placed_value block_pieces (line.Rule r) end (t ∷ ts) g.0 g.2 g.1 in (a.0, (32, a.1))
-block_tokens r end t ts (Err f) h e = absurd (cc)
+-- the line's tokens say it
+abbrev pub says_by : Lexed → BlockLine → Type 0
+says_by (Ok ts) b = Answers block_pieces 32 (map seen ts) (Ok b)
+says_by (Err f) b = ⊥
 
-block_blank : (r : Rule) (end : ℕ) (o : Lexed) → unless_blank end o (Ok (Some (line.Rule r))) → few_brackets o r
-block_blank r end (Err f) h = absurd (cc)
-block_blank r end (Ok []) h = absurd (let q : Some (line.Rule r) ≡ None = cc in cc)
-block_blank r end (Ok (t ∷ ts)) h = block_tokens r end t ts h.0 h.1 h.2
+block_tokens : (b : BlockLine) (end : ℕ) (t : Token) (ts : List Token) (found : Result BlockLine LineFault) → by_tokens block_pieces end (Ok (t ∷ ts)) found → ◌≡◌ {A = Found} (Ok (Some b)) (as_line found) → says_by (Ok (t ∷ ts)) b
+block_tokens b end t ts (Ok said) h e =
+    let q : said ≡ b = some_line b said e in
+    let g : by_tokens block_pieces end (Ok (t ∷ ts)) (Ok b) = subst (λ z. by_tokens block_pieces end (Ok (t ∷ ts)) (Ok z)) q h in
+    placed_value block_pieces b end (t ∷ ts) g.0 g.2 g.1
+block_tokens b end t ts (Err f) h e = absurd (cc)
 
-block_long : (r : Rule) (bytes : List ℕ) (long : Bool) → unless_long bytes long (Ok (Some (line.Rule r))) → few_brackets (tokens_of bytes) r
-block_long r bytes true h = absurd (cc)
-block_long r bytes false h = block_blank r (length bytes + 1) (tokens_of bytes) h
+block_blank : (b : BlockLine) (end : ℕ) (o : Lexed) → unless_blank end o (Ok (Some b)) → says_by o b
+block_blank b end (Err f) h = absurd (cc)
+block_blank b end (Ok []) h = absurd (let q : Some b ≡ None = cc in cc)
+block_blank b end (Ok (t ∷ ts)) h = block_tokens b end t ts h.0 h.1 h.2
 
-line_prints : (l : Line) (r : Rule) → BlockAnswers l (Ok (Some (line.Rule r))) → HaveTexts (printed (rule_pieces r))
-line_prints l r h = (rule_back l.bytes r (block_long r l.bytes (is_long l) h)).0
+block_long : (b : BlockLine) (bytes : List ℕ) (long : Bool) → unless_long bytes long (Ok (Some b)) → says_by (tokens_of bytes) b
+block_long b bytes true h = absurd (cc)
+block_long b bytes false h = block_blank b (length bytes + 1) (tokens_of bytes) h
+
+pub line_says : (b : BlockLine) (l : Line) → BlockAnswers l (Ok (Some b)) → says_by (tokens_of l.bytes) b
+line_says b l h = block_long b l.bytes (is_long l) h
+
+rule_few : (r : Rule) (o : Lexed) → says_by o (line.Rule r) → few_brackets o r
+rule_few r (Ok ts) h = (h.0, (32, h.1))
+rule_few r (Err f) h = absurd h
+
+pub line_prints : (l : Line) (r : Rule) → BlockAnswers l (Ok (Some (line.Rule r))) → HaveTexts (printed (rule_pieces r))
+line_prints l r h = (rule_back l.bytes r (rule_few r (tokens_of l.bytes) (line_says (line.Rule r) l h))).0
 
 lines_print : (priority : ℕ) (lines : List Line) (all : List (Option BlockLine)) → Say lines all → ArePrintable (entries_from priority all)
 unfolding Say entries_from

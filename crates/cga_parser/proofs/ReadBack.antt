@@ -1,55 +1,28 @@
 -- The text of a printed rule is answered by the rule.
-use Rattle.std.proofs.Common.{◌≡◌, ℕ, zero, suc, ◌+◌, ◌≤◌, nat_lt, Bool, true, false, List, [], ◌∷◌, ◌++◌, length, map, append_assoc, Some, None, Option, Ok, Err, arith, refl, ap, sym, ◌∙◌, subst}
+use Rattle.std.proofs.Common.{◌≡◌, ℕ, ◌+◌, ◌≤◌, nat_lt, false, List, length, map, Some, Ok, Err, arith, refl, sym, ◌∙◌, subst}
 use Rattle.std.proofs.lemmas.Bool.Decides.{nat_tests}
 use Rattle.cga_lexer.specs.Line.{tokens_of, Outcome as Lexed}
 use Rattle.cga_syntax.specs.declared.lexeme.Lexeme.{Lexeme}
 use Rattle.cga_syntax.specs.declared.rule.Rule.{Rule}
-use Rattle.cga_syntax.specs.Brackets.{walk, walk_on, counted, bracket_of, IsOpening}
+use Rattle.cga_syntax.specs.Brackets.{walk}
 use Rattle.cga_syntax.specs.Pieces.{rule_pieces}
 use Rattle.cga_syntax.specs.Printing.{printed, text_of}
 use Rattle.cga_syntax.specs.Reading.{AreRead}
-use Rattle.cga_syntax.specs.Spelling.{Spelled, Stops}
-use Rattle.cga_syntax.proofs.Again.{lexemes, again, have_texts, walk_join}
+use Rattle.cga_syntax.specs.Spelling.{Spelled}
+use Rattle.cga_syntax.proofs.Again.{lexemes, again, have_texts}
 use Rattle.cga_syntax.proofs.Back.{text_read}
 use Rattle.cga_syntax.proofs.Tokens.{line_tokens}
-use Rattle.cga_parser.specs.declared.fault.Fault.{Fault}
-use Rattle.cga_parser.specs.declared.fault.Fault.TheVariants.{Unexpected, TooNested}
 use Rattle.cga_parser.specs.Answers.{Answers}
 use Rattle.cga_parser.specs.Back.{few_brackets, SpellsRule, IsReadBack}
 use Rattle.cga_parser.specs.Code.{seen}
 use Rattle.cga_parser.specs.Grammar.{rule_line}
 use Rattle.cga_parser.specs.LineAnswers.{by_tokens, by_length}
-use Rattle.cga_parser.specs.Reader.{Outcome, at}
+use Rattle.cga_parser.proofs.Answered.{answered}
 use Rattle.cga_parser.proofs.Lines.{rule_unique, found_is_right, fault_is_right}
-use Rattle.cga_parser.proofs.Written.{nil_right}
-
--- behind 32 open brackets no further one is opened
-one_too_many : (j : Lexeme) (r : List Lexeme) → IsOpening j → walk 0 (j ∷ r) ≡ None
-unfolding walk
-one_too_many j r h = ap (λ b. walk_on (λ m. walk m r) (counted b 0)) h
-
-not_deep : (x front r : List Lexeme) (j : Lexeme) (m : ℕ) → x ≡ front ++ j ∷ r → walk 32 front ≡ Some 0 → IsOpening j → walk 32 x ≡ Some m → ⊥
-not_deep x front r j m e w o h =
-    let q : walk 32 x ≡ None = ap (walk 32) e ∙ walk_join front (j ∷ r) 32 ∙ ap (walk_on (λ n. walk n (j ∷ r))) w ∙ one_too_many j r o in
-    let z : None ≡ Some m = sym q ∙ h in
-    cc
-
-goes_on : (x front rest : List Lexeme) (r : Rule) → x ≡ front ++ rest → Stops rule_pieces front rest → Spelled rule_pieces x r → ⊥
-goes_on x front [] r e stops s = stops r (subst (λ z. Spelled rule_pieces z r) (e ∙ nil_right front) s)
-goes_on x front (j ∷ t) r e stops s = stops (t, r, subst (λ z. Spelled rule_pieces z r) (e ∙ sym (append_assoc front (j ∷ []) t)) s)
 
 -- a text that spells a rule, with few enough brackets, is answered by the rule
-answered_by : (x : List Lexeme) (r : Rule) (m : ℕ) → Spelled rule_pieces x r → walk 32 x ≡ Some m → (f : Fault) → Answers rule_pieces 32 x (Err f) → ⊥
-answered_by x r m s w (Unexpected left) h = goes_on x h.0 h.1 r h.3 h.6 s
-answered_by x r m s w (TooNested left) h = not_deep x h.0 h.2 h.1 m h.3 h.6 h.7 w
-
-answered_as : (x : List Lexeme) (r : Rule) (m : ℕ) → Spelled rule_pieces x r → walk 32 x ≡ Some m → (o : Outcome Rule) → rule_line 32 (at x 0) ≡ o → Answers rule_pieces 32 x (Ok r)
-answered_as x r m s w (Ok q) e = let h = found_is_right 32 x q.0 q.1 e in subst (λ z. Answers rule_pieces 32 x (Ok z)) (rule_unique x q.0 r h.0 s) h
-answered_as x r m s w (Err f) e = absurd (answered_by x r m s w f (fault_is_right 32 x f e))
-
--- a text that spells a rule, with few enough brackets, is answered by the rule
-answered : (x : List Lexeme) (r : Rule) (m : ℕ) → Spelled rule_pieces x r → walk 32 x ≡ Some m → Answers rule_pieces 32 x (Ok r)
-answered x r m s w = answered_as x r m s w (rule_line 32 (at x 0)) refl
+rule_answered : (x : List Lexeme) (r : Rule) (m : ℕ) → Spelled rule_pieces x r → walk 32 x ≡ Some m → Answers rule_pieces 32 x (Ok r)
+rule_answered = answered rule_pieces (rule_line 32) rule_unique (found_is_right 32) (fault_is_right 32)
 
 module _ (r : Rule) where
   by_read : (o : Lexed) (ls : List Lexeme) (end : ℕ) → AreRead o ls → Answers rule_pieces 32 ls (Ok r) → by_tokens rule_pieces end o (Ok r)
@@ -63,8 +36,7 @@ module _ (r : Rule) where
   read_back line (Ok ts) e h =
       let text : List ℕ = text_of (printed (rule_pieces r)) in
       let g = again 0 (rule_pieces r) (map seen ts) h.0.0 (line_tokens line ts e) h.0.1 in
-      let a = answered (lexemes (printed (rule_pieces r))) r h.1.0 (h.0.0, g.written) (g.brackets 32 ∙ h.1.1) in
-      (
+      let a = rule_answered (lexemes (printed (rule_pieces r))) r h.1.0 (h.0.0, g.written) (g.brackets 32 ∙ h.1.1) in (
         have_texts (printed (rule_pieces r)) g.tokens,
         λ few.
             subst (λ t. by_length rule_pieces text t (Ok r)) (sym (short_enough text few))

@@ -7,3 +7,4 @@ pub mod Code
 pub mod LineAnswers
 pub mod BlockAnswers
 pub mod Back
+pub mod GrammarLines

@@ -25,10 +25,10 @@ mod line;
 mod line_fault;
 mod numbers;
 mod parts;
+pub mod place;
 mod printed;
 #[cfg(test)]
 mod printed_tests;
-pub mod place;
 pub mod rule;
 #[cfg(test)]
 mod tests;
@@ -44,4 +44,4 @@ pub use grammar_reader::GrammarReader;
 pub use laws::{answers_once, says_end, spells_one, spells_one_line};
 pub use line::parse_rule;
 pub use line_fault::LineFault;
-pub use printed::{may_be_printed, reads_back};
+pub use printed::{grammar_reads_back, may_be_printed, reads_back};

@@ -1,8 +1,9 @@
-//! Printed rules are read back.
+//! Printed rules and grammars are read back.
 ghost use Rattle.std.specs.Prelude.{ℕ, List, Ok};
 ghost use Rattle.cga_parser.specs.LineAnswers.{LineAnswers};
 ghost use Rattle.cga_parser.specs.BlockAnswers.{Line, GrammarAnswers};
 ghost use Rattle.cga_parser.specs.Back.{SpellsRule, IsReadBack};
+ghost use Rattle.cga_parser.specs.GrammarLines.{IsSpelled, ReadsBack};
 ghost use Rattle.cga_syntax.specs.GrammarText.{ArePrintable};
 ghost use Rattle.cga_syntax.specs.Pieces.{rule_pieces};
 ghost use Rattle.cga_syntax.specs.declared.grammar.Grammar.{Grammar};
@@ -18,4 +19,12 @@ pub fn reads_back()
 pub fn may_be_printed()
     ensures rule { (line : List ℕ) (rule : Rule) → LineAnswers rule_pieces line (Ok rule) → SpellsRule line rule }
     ensures grammar { (lines : List Line) (grammar : Grammar) → GrammarAnswers lines (Ok grammar) → ArePrintable grammar.rules }
+{}
+
+/// The text that `print_grammar` gives is read as the same attributes in order and the same entries
+/// by rising priority and id, where lines say each attribute and each rule. Of a grammar that was
+/// read they do.
+pub fn grammar_reads_back()
+    ensures spelled { (lines : List Line) (grammar : Grammar) → GrammarAnswers lines (Ok grammar) → IsSpelled grammar }
+    ensures back { (grammar : Grammar) → IsSpelled grammar → ReadsBack grammar }
 {}

@@ -23,10 +23,7 @@ fn rules_are_printed_with_their_spaces(mut rt: HostRuntime) -> Result<(), Fail> 
             "1: a -> Rx(-90) T(0, -1, 0) I(\"cube\")",
             "1: a -> Rx(270) T(0, -1, 0) I(\"cube\")",
         ),
-        (
-            "1.0: a -> Rx(90.0) Rx(- 90) a",
-            "1: a -> Rx(90) Rx(270) a",
-        ),
+        ("1.0: a -> Rx(90.0) Rx(- 90) a", "1: a -> Rx(90) Rx(270) a"),
         (
             "1: a:(1)>0 and (1)>0 or not[b==1]->NIL",
             "1: a : (1) > 0 and(1) > 0 or not [ b == 1 ] -> NIL",

@@ -148,7 +148,7 @@ primary_sign : (sign : Sign) (rest : List ℕ) → begins_primary (lexeme.Sign s
 primary_sign s.LeftRound rest h = refl
 primary_sign _ rest h = absurd (let q : false ≡ true = h in cc)
 
-primary_apart : (l : Lexeme) (rest : List ℕ) → IsToken l → begins_primary l ≡ true → begins second (lexeme_bytes l ++ rest) ≡ false
+pub primary_apart : (l : Lexeme) (rest : List ℕ) → IsToken l → begins_primary l ≡ true → begins second (lexeme_bytes l ++ rest) ≡ false
 primary_apart (lexeme.Number value) rest t h = number_apart (literal_text_of value) rest (shape (literal_text_of value) value (literal_is_shortest value t).reads)
 primary_apart (lexeme.Relative value) rest t h = absurd (let q : false ≡ true = h in cc)
 primary_apart (lexeme.Keyword word) rest t h = keyword_apart word rest
@@ -290,19 +290,19 @@ lex_blank : (place : ℕ) (rest : List ℕ) → lex 0 place (32 ∷ rest) ≡ le
 unfolding lex front
 lex_blank place rest = refl
 
-lex_nil : (place : ℕ) → lex 0 place [] ≡ Ok []
+pub lex_nil : (place : ℕ) → lex 0 place [] ≡ Ok []
 unfolding lex
 lex_nil place = refl
 
 -- a token's bytes and what is printed behind it
-token_read : (l : Lexeme) (rest : List ℕ) (place : ℕ) (ls : List Lexeme) → IsToken l → Ends l rest → ((p : ℕ) → AreRead (lex 0 p rest) ls) → AreRead (lex 0 place (lexeme_bytes l ++ rest)) (l ∷ ls)
+pub token_read : (l : Lexeme) (rest : List ℕ) (place : ℕ) (ls : List Lexeme) → IsToken l → Ends l rest → ((p : ℕ) → AreRead (lex 0 p rest) ls) → AreRead (lex 0 place (lexeme_bytes l ++ rest)) (l ∷ ls)
 token_read l rest place ls t e h =
     let f = token_front l rest t e in
     let at : Token = record { kind = f.kind; from = place; to = place + length (lexeme_bytes l) } in
     subst (λ o. AreRead o (l ∷ ls)) (sym (some_bytes (lexeme_bytes l) rest place f.kind f.there (bytes_some l t)))
     (front_first at (lex 0 (place + length (lexeme_bytes l)) rest) l ls f.is (h (place + length (lexeme_bytes l))))
 
-space_read : (c : Bool) (text : List ℕ) (place : ℕ) (ls : List Lexeme) → ((p : ℕ) → AreRead (lex 0 p text) ls) → AreRead (lex 0 place ((if c then [] else 32 ∷ []) ++ text)) ls
+pub space_read : (c : Bool) (text : List ℕ) (place : ℕ) (ls : List Lexeme) → ((p : ℕ) → AreRead (lex 0 p text) ls) → AreRead (lex 0 place ((if c then [] else 32 ∷ []) ++ text)) ls
 space_read true text place ls h = h place
 space_read false text place ls h = subst (λ o. AreRead o ls) (sym (lex_blank place text)) (h (place + 1))
 

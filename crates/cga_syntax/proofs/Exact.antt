@@ -64,7 +64,7 @@ whole_literal n h =
     let l : length (decimal (n / 10 ^ 0)) ≤ 18 = length-decimal-le 18 (n / 10 ^ 0) (omega arith) (omega arith) (omega arith) in
     (pointed 0 n, reads-pointed 0 n (omega arith) (omega arith) ∙ ap Ok (whole_reduced n))
 
-whole_small : (n : ℕ) → IsLiteral (of_int (pos n)) → n < 10 ^ 18
+pub whole_small : (n : ℕ) → IsLiteral (of_int (pos n)) → n < 10 ^ 18
 whole_small n h =
     let s = literal_small (of_int (pos n)) h in
     let e : n ≡ s.top = ap unsigned_abs s.num in

@@ -1,6 +1,8 @@
 pub mod Printed
 pub mod Wholes
 pub mod Layers
+pub mod LineTexts
+pub mod Visible
 pub mod CondLayers
 pub mod ItemLayers
 pub mod Fronts

@@ -90,7 +90,7 @@ sign_front s.AtLeast rest h = refl
 
 -- ---- words
 
-keyword_is_name : (word : Keyword) → is_name (keyword_bytes word) ≡ true
+pub keyword_is_name : (word : Keyword) → is_name (keyword_bytes word) ≡ true
 keyword_is_name k.T = refl
 keyword_is_name k.S = refl
 keyword_is_name k.Rx = refl
