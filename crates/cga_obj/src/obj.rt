@@ -1,6 +1,5 @@
-ghost use Rattle.std.specs.Prelude.{◌≡◌, ◌≤◌, ◌^◌, codes, ◌+◌, ◌*◌, ◌++◌, IfOk, IsOk, OnOk, length};
+ghost use Rattle.std.specs.Prelude.{◌≡◌, ◌≤◌, ◌^◌, ◌+◌, ◌*◌, ◌++◌, IfOk, IsOk, OnOk, bytes_eq, codes, length};
 ghost use Rattle.std.specs.List.{IsDistinct, prefix_len};
-ghost use Rattle.std.specs.Prelude.{bytes_eq};
 ghost use Rattle.cga_solid.specs.Solids.{check_solid_of};
 ghost use Rattle.cga_obj.specs.Meshes.{mesh_drawn, vertex_count};
 ghost use Rattle.cga_obj.specs.Lots.{AreSolid, StandsBy, instance_text, instances_text, is_of, lot_text, lots_text, obj_text_of, vertices_in};
