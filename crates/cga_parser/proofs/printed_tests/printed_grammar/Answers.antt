@@ -1,5 +1,4 @@
-use Rattle.std.proofs.Common.{List, [], ◌∷◌, ◌++◌, false}
-use Rattle.cga_parser.specs.BlockAnswers.{Line}
+use Rattle.std.proofs.Common.{[], ◌∷◌, ◌++◌, false}
 use Rattle.cga_parser.proofs.Printable.{grammar_prints}
 use Rattle.cga_parser.proofs.printed_tests.printed_grammar.Goals as goal
 
