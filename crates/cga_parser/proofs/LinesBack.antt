@@ -53,10 +53,10 @@ module _ (b : BlockLine) where
 
 -- a text whose first token is another than `end` ends no block
 module _ (b : BlockLine) where
-  not_end_by : (o : Lexed) (t : Token) (l : Lexeme) (ls : List Lexeme) → o ≡ Ok (t ∷ []) → AreRead o (l ∷ ls) → l ≡ seen t
-  not_end_by (Err f) t l ls e a = absurd a
-  not_end_by (Ok []) t l ls e a = absurd (cc)
-  not_end_by (Ok (u ∷ us)) t l ls e a =
+  first_seen : (o : Lexed) (t : Token) (l : Lexeme) (ls : List Lexeme) → o ≡ Ok (t ∷ []) → AreRead o (l ∷ ls) → l ≡ seen t
+  first_seen (Err f) t l ls e a = absurd a
+  first_seen (Ok []) t l ls e a = absurd (cc)
+  first_seen (Ok (u ∷ us)) t l ls e a =
       let p : u ∷ us ≡ t ∷ [] = cc in
       let q : u ≡ t = cc in
       let r : seen u ∷ map seen us ≡ l ∷ ls = a in
@@ -64,7 +64,7 @@ module _ (b : BlockLine) where
       sym z ∙ ap seen q
 
   not_end : (l : Lexeme) (ls : List Lexeme) → AreRead (tokens_of (line_text b)) (l ∷ ls) → (l ≡ lexeme.Name (codes "end") → ⊥) → EndsBlock (given b) → ⊥
-  not_end l ls a other h = other (not_end_by (tokens_of (line_text b)) h.0 l ls h.2 a ∙ h.3)
+  not_end l ls a other h = other (first_seen (tokens_of (line_text b)) h.0 l ls h.2 a ∙ h.3)
 
 other_word : (word : List ℕ) → lexeme.Name word ≡ lexeme.Name (codes "end") → is word (codes "end") ≡ false → ⊥
 other_word word e h =
