@@ -1,3 +1,4 @@
+use crate::grammars::{BASE_AND_TOP, TOWN, WINDOW};
 use crate::{BlockLine, GrammarFault, GrammarReader, LineFault, read_block_line};
 use cga_fraction::Fraction;
 use cga_syntax::Grammar;
@@ -111,48 +112,6 @@ fn read(alloc: Global, text: &str) -> Result<Result<Grammar, GrammarFault>, Fail
     }
     Ok(reader.finish())
 }
-
-const WINDOW: &str = "PRIORITY 1:
-1: early -> S(1r, 6, 1r) mass
-PRIORITY 2:
-2: mass -> Comp(\"face\", \"front\") { facade }
-PRIORITY 3:
-3: facade -> Subdiv(\"X\", 1r, 2, 1r) { NIL | window | NIL }
-PRIORITY 4:
-4: window : Scope.occ(\"noparent\") == \"none\" -> I(\"quad\")
-5: window : Scope.occ(\"noparent\") == \"full\" -> NIL
-6: window -> S(1r, 1r, 0.5) I(\"cube\")
-PRIORITY 9:
-7: late -> S(1r, 6, 1r) mass";
-
-const BASE_AND_TOP: &str = "attr h = 1
-PRIORITY 1:
-1: la -> [ S(1r, h, 1r) base ] T(0, 4, 0) S(1r, 1, 1r) top
-2: lb -> T(0, 2, 0) S(1r, 1, 1r) mid
-PRIORITY 2:
-3: base -> I(\"cube\")
-PRIORITY 3:
-4: mid : Scope.occ(\"noparent\") == \"none\" -> I(\"cube\")
-5: mid -> S(1r, 3, 1r) bulk
-PRIORITY 4:
-6: bulk -> I(\"cube\")
-PRIORITY 5:
-7: top : Scope.occ(\"noparent\") == \"none\" -> I(\"cube\")
-8: top -> NIL";
-
-const TOWN: &str = "attr storey = 3
-attr bay = 2.5
-PRIORITY 1:
-1: lot -> S(1r, 3 * storey, 1r) mass T(0, 3 * storey, 0) S(1r, 2, 1r) roof
-2: mass -> Comp(\"sidefaces\") { facade }
-PRIORITY 2:
-3: roof -> I(\"hip\") : 0.5 -> I(\"gable\") : 0.5
-4: facade -> Repeat(\"Y\", storey) { level }
-5: level -> Repeat(\"X\", bay) { tile }
-6: tile : Scope.occ(\"noparent\") == \"none\" -> Subdiv(\"X\", 1r, 1, 1r) { wall | window | wall }
-7: tile -> wall
-8: window -> S(1r, 1r, 0.25) I(\"cube\")
-9: wall -> I(\"quad\")";
 
 #[test]
 fn the_example_grammars_are_read(mut rt: HostRuntime) -> Result<(), Fail> {

@@ -18,6 +18,8 @@ mod first;
 pub mod form;
 mod grammar_fault;
 mod grammar_reader;
+#[cfg(test)]
+mod grammars;
 mod heads;
 mod item;
 mod laws;

@@ -1,3 +1,4 @@
+use crate::grammars::{BASE_AND_TOP, TOWN, WINDOW};
 use crate::{GrammarReader, parse_rule};
 use cga_fraction::{List, NoMemory};
 use cga_syntax::{print_grammar, print_rule};
@@ -131,5 +132,29 @@ fn a_grammar_is_printed_by_priority_and_id(mut rt: HostRuntime) -> Result<(), Fa
     );
     let text = printed_grammar(rt.alloc(), &lines)?;
     assert_eq!(rt; text.as_slice(), wanted.as_bytes());
+    Ok(())
+}
+
+// The text of the grammar that the lines of a text say.
+fn printed_text(alloc: Global, text: &str) -> Result<List<u8>, NoMemory> {
+    let lines: Vec<&str> = text.split('\n').collect(alloc)?;
+    printed_grammar(alloc, lines.as_slice())
+}
+
+#[test]
+fn the_example_grammars_are_printed_and_read_again(mut rt: HostRuntime) -> Result<(), Fail> {
+    let (before, behind) = TOWN.split_once("2.5").expect(&rt, "a bay");
+    let town = format!(in rt.alloc(); "{before}5/2{behind}")?;
+    let table: [(&str, &str); 4] = [
+        (WINDOW, WINDOW),
+        (BASE_AND_TOP, BASE_AND_TOP),
+        (TOWN, town.as_str()),
+        (town.as_str(), town.as_str()),
+    ];
+    for (written, wanted) in table {
+        let wanted = format!(in rt.alloc(); "rules\n{wanted}\nend\n")?;
+        let text = printed_text(rt.alloc(), written)?;
+        assert_eq!(rt; text.as_slice(), wanted.as_bytes());
+    }
     Ok(())
 }
