@@ -5,6 +5,7 @@ use Rattle.cga_syntax.specs.Lexemes.{lexeme_of, is_reserved}
 use Rattle.cga_syntax.specs.declared.lexeme.Lexeme.{Lexeme}
 use Rattle.cga_syntax.specs.declared.lexeme.Lexeme.TheVariants as lexeme
 use Rattle.cga_parser.specs.declared.tokens.Tokens.{Tokens}
+use Rattle.cga_parser.specs.declared.fault.Fault.{Fault as At}
 use Rattle.cga_parser.specs.declared.fault.Stop.{Stop}
 use Rattle.cga_parser.specs.declared.fault.Stop.TheVariants.{Memory, Fault}
 use Rattle.cga_parser.specs.Reader.{Input, at, Outcome}
@@ -24,6 +25,11 @@ Fails (Fault f) o = o ≡ Err f
 abbrev pub Reads : {A : Type 0} → Outcome A → Result A Stop → Input → Type 0
 Reads o (Ok a) new = o ≡ Ok (a, new)
 Reads o (Err e) new = Fails e o
+
+-- a function that takes no memory gives the reader's outcome
+abbrev pub Finds : {A : Type 0} → Outcome A → Result A At → Input → Type 0
+Finds o (Ok a) new = o ≡ Ok (a, new)
+Finds o (Err f) new = o ≡ Err f
 
 -- a name isn't reserved
 abbrev pub IsProper : Option Lexeme → Type 0

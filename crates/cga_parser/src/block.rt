@@ -1,5 +1,5 @@
 ghost use Rattle.std.specs.Prelude.{◌≡◌, ◌≤◌, length, map, IfOk};
-ghost use Rattle.cga_parser.specs.Code.{input_of, Reads, seen};
+ghost use Rattle.cga_parser.specs.Code.{input_of, Finds, Reads, seen};
 ghost use Rattle.cga_parser.specs.Answers.{Answers};
 ghost use Rattle.cga_parser.specs.Blocks as spec;
 
@@ -16,8 +16,8 @@ use std::alloc::Global;
 
 /// A name and its value, behind the word `attr`.
 #[tactic(auto, unfolding(crate::specs::Blocks::attribute))]
-pub fn attribute(tokens: &mut Tokens<'_>) -> Result<Attribute, Stop>
-    ensures { Reads (spec.attribute (input_of tokens.old)) result (input_of tokens.new) }
+pub fn attribute(tokens: &mut Tokens<'_>) -> Result<Attribute, Fault>
+    ensures { Finds (spec.attribute (input_of tokens.old)) result (input_of tokens.new) }
 {
     tokens.word(b"attr")?;
     let name = name(tokens)?;
@@ -27,8 +27,8 @@ pub fn attribute(tokens: &mut Tokens<'_>) -> Result<Attribute, Stop>
 }
 
 #[tactic(auto, unfolding(crate::specs::Blocks::priority))]
-fn priority(tokens: &mut Tokens<'_>) -> Result<u16, Stop>
-    ensures { Reads (spec.priority (input_of tokens.old)) result (input_of tokens.new) }
+fn priority(tokens: &mut Tokens<'_>) -> Result<u16, Fault>
+    ensures { Finds (spec.priority (input_of tokens.old)) result (input_of tokens.new) }
 {
     tokens.word(b"PRIORITY")?;
     let priority = prio(tokens)?;

@@ -1,11 +1,11 @@
 ghost use Rattle.std.specs.Prelude.{◌≡◌, ◌<◌};
-ghost use Rattle.cga_parser.specs.Code.{input_of, Reads};
+ghost use Rattle.cga_parser.specs.Code.{input_of, Finds, Reads};
 ghost use Rattle.cga_parser.specs.Reader.{many};
 ghost use Rattle.cga_parser.specs.Grammar as spec;
 ghost use Rattle.cga_parser.specs.Tokens.{is_keyword};
 
 use crate::expr::{all_added, all_scaled, expr};
-use crate::fault::Stop;
+use crate::fault::{Fault, Stop};
 use crate::first::with_first;
 use crate::heads::ScopeWord;
 use crate::tokens::Tokens;
@@ -36,8 +36,8 @@ fn compare_after(
 }
 
 #[tactic(auto, unfolding(crate::specs::Grammar::occ_parts))]
-fn occ_parts(tokens: &mut Tokens<'_>, depth: u8) -> Result<(Target, bool, Answer), Stop>
-    ensures { Reads (spec.occ_parts depth (spec.inner_of depth) (input_of tokens.old)) result (input_of tokens.new) }
+fn occ_parts(tokens: &mut Tokens<'_>, depth: u8) -> Result<(Target, bool, Answer), Fault>
+    ensures { Finds (spec.occ_parts depth (spec.inner_of depth) (input_of tokens.old)) result (input_of tokens.new) }
 {
     tokens.enter(Sign::LeftRound, depth)?;
     let target = tokens.take(texts::target(tokens.peek()))?;

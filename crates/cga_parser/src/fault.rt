@@ -1,5 +1,5 @@
 ghost use Rattle.std.specs.Prelude.{◌≡◌};
-ghost use Rattle.cga_parser.specs.declared.fault.Stop.TheVariants.{Memory};
+ghost use Rattle.cga_parser.specs.declared.fault.Stop.TheVariants as stop;
 
 use cga_fraction::NoMemory;
 
@@ -18,9 +18,17 @@ pub enum Stop {
 }
 
 impl From<NoMemory> for Stop {
-    ghost from_gives = { λ _ e. e ≡ Memory };
+    ghost from_gives = { λ _ e. e ≡ stop.Memory };
 
     fn from(_error: NoMemory) -> Stop {
         Stop::Memory
+    }
+}
+
+impl From<Fault> for Stop {
+    ghost from_gives = { λ f e. e ≡ stop.Fault f };
+
+    fn from(fault: Fault) -> Stop {
+        Stop::Fault(fault)
     }
 }

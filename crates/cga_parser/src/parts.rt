@@ -1,13 +1,13 @@
 //! What items have in round brackets.
 ghost use Rattle.std.specs.Prelude.{◌≡◌, ◌<◌, ◌&&◌, [], nat_lt};
-ghost use Rattle.cga_parser.specs.Code.{input_of, Reads};
+ghost use Rattle.cga_parser.specs.Code.{input_of, Finds, Reads};
 ghost use Rattle.cga_parser.specs.Reader.{begins, many, many_from};
 ghost use Rattle.cga_parser.specs.Grammar as spec;
 ghost use Rattle.cga_parser.specs.Tokens.{is_sign, is_relative};
 ghost use Rattle.cga_lexer.specs.declared.sign.Sign.TheVariants as sign;
 
 use crate::expr::inside;
-use crate::fault::Stop;
+use crate::fault::{Fault, Stop};
 use crate::first::with_first;
 use crate::heads::SelectorHead;
 use crate::tokens::Tokens;
@@ -73,16 +73,16 @@ pub(crate) fn resize_parts(
 }
 
 #[tactic(auto, unfolding(crate::specs::Grammar::minus_ninety))]
-fn minus_ninety(tokens: &mut Tokens<'_>) -> Result<(), Stop>
-    ensures { Reads (spec.minus_ninety (input_of tokens.old)) result (input_of tokens.new) }
+fn minus_ninety(tokens: &mut Tokens<'_>) -> Result<(), Fault>
+    ensures { Finds (spec.minus_ninety (input_of tokens.old)) result (input_of tokens.new) }
 {
     tokens.sign(Sign::Minus)?;
     tokens.take(numbers::ninety(tokens.peek()))
 }
 
 #[tactic(auto, unfolding(crate::specs::Grammar::quarter_turn))]
-fn quarter_turn(tokens: &mut Tokens<'_>) -> Result<Turn, Stop>
-    ensures { Reads (spec.quarter_turn (input_of tokens.old)) result (input_of tokens.new) }
+fn quarter_turn(tokens: &mut Tokens<'_>) -> Result<Turn, Fault>
+    ensures { Finds (spec.quarter_turn (input_of tokens.old)) result (input_of tokens.new) }
 {
     if tokens.at_sign(Sign::Minus) {
         minus_ninety(tokens)?;
@@ -92,8 +92,8 @@ fn quarter_turn(tokens: &mut Tokens<'_>) -> Result<Turn, Stop>
 }
 
 #[tactic(auto, unfolding(crate::specs::Grammar::turn_part))]
-pub(crate) fn turn_part(tokens: &mut Tokens<'_>, depth: u8) -> Result<Turn, Stop>
-    ensures { Reads (spec.turn_part depth (spec.inside_of depth) (input_of tokens.old)) result (input_of tokens.new) }
+pub(crate) fn turn_part(tokens: &mut Tokens<'_>, depth: u8) -> Result<Turn, Fault>
+    ensures { Finds (spec.turn_part depth (spec.inside_of depth) (input_of tokens.old)) result (input_of tokens.new) }
 {
     tokens.enter(Sign::LeftRound, depth)?;
     let by = quarter_turn(tokens)?;
@@ -102,8 +102,8 @@ pub(crate) fn turn_part(tokens: &mut Tokens<'_>, depth: u8) -> Result<Turn, Stop
 }
 
 #[tactic(auto, unfolding(crate::specs::Grammar::solid_part))]
-pub(crate) fn solid_part(tokens: &mut Tokens<'_>, depth: u8) -> Result<Primitive, Stop>
-    ensures { Reads (spec.solid_part depth (spec.inside_of depth) (input_of tokens.old)) result (input_of tokens.new) }
+pub(crate) fn solid_part(tokens: &mut Tokens<'_>, depth: u8) -> Result<Primitive, Fault>
+    ensures { Finds (spec.solid_part depth (spec.inside_of depth) (input_of tokens.old)) result (input_of tokens.new) }
 {
     tokens.enter(Sign::LeftRound, depth)?;
     let solid = tokens.take(texts::solid(tokens.peek()))?;
@@ -165,8 +165,8 @@ pub(crate) fn repeat_parts(
     Ok((axis, length))
 }
 
-fn selector_rest(tokens: &mut Tokens<'_>, head: SelectorHead) -> Result<Selector, Stop>
-    ensures { Reads (spec.selector_rest head (input_of tokens.old)) result (input_of tokens.new) }
+fn selector_rest(tokens: &mut Tokens<'_>, head: SelectorHead) -> Result<Selector, Fault>
+    ensures { Finds (spec.selector_rest head (input_of tokens.old)) result (input_of tokens.new) }
 {
     match head {
         SelectorHead::Faces => Ok(Selector::Faces),
@@ -187,16 +187,16 @@ fn selector_rest(tokens: &mut Tokens<'_>, head: SelectorHead) -> Result<Selector
 }
 
 #[tactic(auto, unfolding(crate::specs::Grammar::selector))]
-fn selector(tokens: &mut Tokens<'_>) -> Result<Selector, Stop>
-    ensures { Reads (spec.selector (input_of tokens.old)) result (input_of tokens.new) }
+fn selector(tokens: &mut Tokens<'_>) -> Result<Selector, Fault>
+    ensures { Finds (spec.selector (input_of tokens.old)) result (input_of tokens.new) }
 {
     let head = tokens.take(texts::selector(tokens.peek()))?;
     selector_rest(tokens, head)
 }
 
 #[tactic(auto, unfolding(crate::specs::Grammar::selector_part))]
-pub(crate) fn selector_part(tokens: &mut Tokens<'_>, depth: u8) -> Result<Selector, Stop>
-    ensures { Reads (spec.selector_part depth (spec.inside_of depth) (input_of tokens.old)) result (input_of tokens.new) }
+pub(crate) fn selector_part(tokens: &mut Tokens<'_>, depth: u8) -> Result<Selector, Fault>
+    ensures { Finds (spec.selector_part depth (spec.inside_of depth) (input_of tokens.old)) result (input_of tokens.new) }
 {
     tokens.enter(Sign::LeftRound, depth)?;
     let selector = selector(tokens)?;

@@ -1,5 +1,5 @@
 ghost use Rattle.std.specs.Prelude.{◌≡◌, ◌≤◌, ◌∷◌, [], length, map, IfOk, List};
-ghost use Rattle.cga_parser.specs.Code.{input_of, Reads, seen};
+ghost use Rattle.cga_parser.specs.Code.{input_of, Finds, Reads, seen};
 ghost use Rattle.cga_parser.specs.Reader.{many, many_from};
 ghost use Rattle.cga_parser.specs.Grammar as spec;
 ghost use Rattle.cga_parser.specs.Answers.{Answers};
@@ -22,8 +22,8 @@ use cga_word::Name;
 use std::alloc::Global;
 
 #[tactic(auto, unfolding(crate::specs::Grammar::further_name))]
-fn further_name(tokens: &mut Tokens<'_>) -> Result<Name, Stop>
-    ensures { Reads (spec.further_name (input_of tokens.old)) result (input_of tokens.new) }
+fn further_name(tokens: &mut Tokens<'_>) -> Result<Name, Fault>
+    ensures { Finds (spec.further_name (input_of tokens.old)) result (input_of tokens.new) }
 {
     tokens.sign(Sign::Comma)?;
     tokens.take(words::name(tokens.peek()))
@@ -75,16 +75,16 @@ fn condition(alloc: Global, tokens: &mut Tokens<'_>, depth: u8) -> Result<Option
 }
 
 #[tactic(auto, unfolding(crate::specs::Grammar::given_probability))]
-fn given_probability(tokens: &mut Tokens<'_>) -> Result<Fraction, Stop>
-    ensures { Reads (spec.given_probability (input_of tokens.old)) result (input_of tokens.new) }
+fn given_probability(tokens: &mut Tokens<'_>) -> Result<Fraction, Fault>
+    ensures { Finds (spec.given_probability (input_of tokens.old)) result (input_of tokens.new) }
 {
     tokens.sign(Sign::Colon)?;
     tokens.take(numbers::number(tokens.peek()))
 }
 
 #[tactic(auto, unfolding(crate::specs::Grammar::probability))]
-fn probability(tokens: &mut Tokens<'_>) -> Result<Fraction, Stop>
-    ensures { Reads (spec.probability (input_of tokens.old)) result (input_of tokens.new) }
+fn probability(tokens: &mut Tokens<'_>) -> Result<Fraction, Fault>
+    ensures { Finds (spec.probability (input_of tokens.old)) result (input_of tokens.new) }
 {
     if tokens.at_sign(Sign::Colon) {
         return given_probability(tokens);

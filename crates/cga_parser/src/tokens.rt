@@ -1,6 +1,6 @@
 ghost use Rattle.std.specs.Prelude.{◌≡◌, ◌+◌, ◌≤◌, ◌<◌, ℕ, length, map, IsTrue, ◌↔◌, OnOk};
 
-use crate::fault::{Fault, Stop};
+use crate::fault::Fault;
 use crate::words;
 use cga_lexer::{Sign, Token};
 use cga_syntax::{Keyword, Lexeme};
@@ -20,7 +20,7 @@ fn is_next(next: Option<Lexeme>, wanted: Lexeme) -> bool
 }
 
 impl<'a> Tokens<'a> {
-    ghost use Rattle.cga_parser.specs.Code.{input_of, Reads, IsProper, seen};
+    ghost use Rattle.cga_parser.specs.Code.{input_of, Finds, IsProper, seen};
     ghost use Rattle.cga_parser.specs.Reader.{at, first, skipped, begins, taking, single, enter, drawn_word};
     ghost use Rattle.cga_parser.specs.Tokens as spec;
     ghost use Rattle.cga_parser.specs.Blocks.{a_word};
@@ -57,10 +57,10 @@ impl<'a> Tokens<'a> {
     }
 
     /// The refusal of the next token, or of the end.
-    pub fn unexpected(&self) -> Stop
-        ensures { result ≡ Stop.Fault (Fault.Unexpected (length (input_of self.now).left)) }
+    pub fn unexpected(&self) -> Fault
+        ensures { result ≡ Fault.Unexpected (length (input_of self.now).left) }
     {
-        Stop::Fault(Fault::Unexpected(self.rest.len()))
+        Fault::Unexpected(self.rest.len())
     }
 
     /// Whether the sign comes next.
@@ -78,8 +78,8 @@ impl<'a> Tokens<'a> {
     }
 
     /// Takes the next token, given what it stands for. It is unexpected where that is nothing.
-    pub fn take<A>(&mut self, decoded: Option<A>) -> Result<A, Stop>
-        ensures { Reads (taking decoded (input_of self.old)) result (input_of self.new) }
+    pub fn take<A>(&mut self, decoded: Option<A>) -> Result<A, Fault>
+        ensures { Finds (taking decoded (input_of self.old)) result (input_of self.new) }
     {
         match decoded {
             Some(value) => {
@@ -91,8 +91,8 @@ impl<'a> Tokens<'a> {
     }
 
     /// Takes the sign, or refuses the next token.
-    pub fn sign(&mut self, sign: Sign) -> Result<(), Stop>
-        ensures { Reads (single (spec.a_sign sign) (input_of self.old)) result (input_of self.new) }
+    pub fn sign(&mut self, sign: Sign) -> Result<(), Fault>
+        ensures { Finds (single (spec.a_sign sign) (input_of self.old)) result (input_of self.new) }
     {
         if self.at_sign(sign) {
             self.skip();
@@ -102,8 +102,8 @@ impl<'a> Tokens<'a> {
     }
 
     /// Takes the reserved word, or refuses the next token.
-    pub fn keyword(&mut self, keyword: Keyword) -> Result<(), Stop>
-        ensures { Reads (single (spec.a_keyword keyword) (input_of self.old)) result (input_of self.new) }
+    pub fn keyword(&mut self, keyword: Keyword) -> Result<(), Fault>
+        ensures { Finds (single (spec.a_keyword keyword) (input_of self.old)) result (input_of self.new) }
     {
         if self.at_keyword(keyword) {
             self.skip();
@@ -120,30 +120,30 @@ impl<'a> Tokens<'a> {
     }
 
     /// Takes a word that a form names, or refuses the next token.
-    pub fn word(&mut self, bytes: &[u8]) -> Result<(), Stop>
-        ensures { Reads (single (a_word bytes.now) (input_of self.old)) result (input_of self.new) }
+    pub fn word(&mut self, bytes: &[u8]) -> Result<(), Fault>
+        ensures { Finds (single (a_word bytes.now) (input_of self.old)) result (input_of self.new) }
     {
         self.take(words::word(self.peek(), bytes))
     }
 
     /// Takes an opening bracket, where so many brackets may still be opened.
-    pub fn enter(&mut self, sign: Sign, depth: u8) -> Result<(), Stop>
-        ensures reads { Reads (enter (spec.a_sign sign) depth (input_of self.old)) result (input_of self.new) }
+    pub fn enter(&mut self, sign: Sign, depth: u8) -> Result<(), Fault>
+        ensures reads { Finds (enter (spec.a_sign sign) depth (input_of self.old)) result (input_of self.new) }
         ensures inner { OnOk result (0 < depth) }
     {
         if !self.at_sign(sign) {
             return Err(self.unexpected());
         }
         if depth == 0 {
-            return Err(Stop::Fault(Fault::TooNested(self.rest.len())));
+            return Err(Fault::TooNested(self.rest.len()));
         }
         self.skip();
         Ok(())
     }
 
     /// Takes the word of a rand, and gives its number.
-    pub fn rand(&mut self) -> Result<u16, Stop>
-        ensures { Reads (drawn_word (spec.a_keyword Keyword.Rand) (input_of self.old)) result (input_of self.new) }
+    pub fn rand(&mut self) -> Result<u16, Fault>
+        ensures { Finds (drawn_word (spec.a_keyword Keyword.Rand) (input_of self.old)) result (input_of self.new) }
     {
         match self.rest {
             [token, rest @ ..] if Lexeme::of(token.kind) == Lexeme::Keyword(Keyword::Rand) => {

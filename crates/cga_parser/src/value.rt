@@ -1,10 +1,10 @@
 ghost use Rattle.std.specs.Prelude.{◌≡◌, ◌≤◌, ◌<◌, ◌^◌, pos, IfOk, Some};
 ghost use Rattle.cga_fraction.specs.Rat.{of_int};
 ghost use Rattle.cga_fraction.specs.Arithmetic.{divided};
-ghost use Rattle.cga_parser.specs.Code.{input_of, Reads};
+ghost use Rattle.cga_parser.specs.Code.{input_of, Finds};
 ghost use Rattle.cga_parser.specs.Blocks as spec;
 
-use crate::fault::Stop;
+use crate::fault::Fault;
 use crate::numbers;
 use crate::tokens::Tokens;
 use cga_fraction::Fraction;
@@ -30,8 +30,8 @@ fn quotient(n: u64, d: u64) -> Fraction
 }
 
 #[tactic(auto, unfolding(crate::specs::Blocks::divisor))]
-fn divisor(tokens: &mut Tokens<'_>) -> Result<u64, Stop>
-    ensures reads { Reads (spec.divisor (input_of tokens.old)) result (input_of tokens.new) }
+fn divisor(tokens: &mut Tokens<'_>) -> Result<u64, Fault>
+    ensures reads { Finds (spec.divisor (input_of tokens.old)) result (input_of tokens.new) }
     ensures above_zero { IfOk result (λ d. 0 < d) }
     ensures few { IfOk result (λ d. d ≤ 2 ^ 62) }
 {
@@ -45,9 +45,9 @@ fn whole_rest(
     minus: bool,
     first: Fraction,
     n: u64,
-) -> Result<Fraction, Stop>
+) -> Result<Fraction, Fault>
     requires { n ≤ 2 ^ 62 }
-    ensures { Reads (spec.magnitude_rest minus first (Some n) (input_of tokens.old)) result (input_of tokens.new) }
+    ensures { Finds (spec.magnitude_rest minus first (Some n) (input_of tokens.old)) result (input_of tokens.new) }
 {
     if tokens.at_sign(Sign::Slash) {
         let d = divisor(tokens)?;
@@ -57,8 +57,8 @@ fn whole_rest(
 }
 
 #[tactic(auto, unfolding(crate::specs::Blocks::magnitude))]
-fn magnitude(tokens: &mut Tokens<'_>, minus: bool) -> Result<Fraction, Stop>
-    ensures { Reads (spec.magnitude minus (input_of tokens.old)) result (input_of tokens.new) }
+fn magnitude(tokens: &mut Tokens<'_>, minus: bool) -> Result<Fraction, Fault>
+    ensures { Finds (spec.magnitude minus (input_of tokens.old)) result (input_of tokens.new) }
 {
     let first = tokens.take(numbers::number(tokens.peek()))?;
     match numbers::whole_of(first) {
@@ -70,8 +70,8 @@ fn magnitude(tokens: &mut Tokens<'_>, minus: bool) -> Result<Fraction, Stop>
 /// A number, or two whole numbers with a slash between them, of which the second isn't 0; a minus may
 /// stand before it. The value is exact, and none is out of range.
 #[tactic(auto, unfolding(crate::specs::Blocks::value))]
-pub fn value(tokens: &mut Tokens<'_>) -> Result<Fraction, Stop>
-    ensures { Reads (spec.value (input_of tokens.old)) result (input_of tokens.new) }
+pub fn value(tokens: &mut Tokens<'_>) -> Result<Fraction, Fault>
+    ensures { Finds (spec.value (input_of tokens.old)) result (input_of tokens.new) }
 {
     if tokens.at_sign(Sign::Minus) {
         tokens.sign(Sign::Minus)?;

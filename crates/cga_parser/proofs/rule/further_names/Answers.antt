@@ -1,6 +1,7 @@
 use Rattle.std.proofs.Common.{sym, ap, ◌∙◌, [], length, ◌-◌, ◌&&◌, nat_lt}
 use Rattle.std.proofs.lemmas.Result.{err_from_is_err_and}
 use Rattle.cga_lexer.specs.declared.sign.Sign.TheVariants as s
+use Rattle.cga_parser.specs.declared.fault.Stop.TheVariants as stop
 use Rattle.cga_parser.specs.Code.{input_of}
 use Rattle.cga_parser.specs.Grammar.{further_name}
 use Rattle.cga_parser.specs.Tokens.{is_sign}
@@ -27,5 +28,5 @@ returns c = few_off (is_sign s.Comma) 3 further_name c.names.rest (input_of c.na
 pub returns-in_err-more : goal.returns-in_err-more
 returns-in_err-more c =
     let p = err_from_is_err_and c.from_residual.result c.from_residual.ensures.1 in
-    rw (p.1, p.2) (few_fails (is_sign s.Comma) 3 further_name c.names.rest (input_of c.names.tokens) (many_from (is_sign s.Comma) further_name 3 [] (input_of c.args.tokens.now)) c.in_err-more.field-0.0
+    rw (p.1, p.2) (few_fails (is_sign s.Comma) 3 further_name c.names.rest (input_of c.names.tokens) (many_from (is_sign s.Comma) further_name 3 [] (input_of c.args.tokens.now)) (stop.Fault c.in_err-more.field-0.0)
     (ap (λ n. nat_lt n 3 && begins (is_sign s.Comma) (input_of c.names.tokens).left) (sym c.len.ensures) ∙ sym c.goes_on.ensures ∙ c.names-test.true) c.in_err-more.ensures c.names.invariant)
