@@ -109,7 +109,9 @@ fn right_face(rt: HostRuntime) {
 #[test]
 fn moves_and_sizes(rt: HostRuntime) {
     let scope = turned(&rt);
-    let moved = scope.translate(Point::whole(1, 2, 3)).expect(&rt, "in range");
+    let moved = scope
+        .translate(Point::whole(1, 2, 3))
+        .expect(&rt, "in range");
     assert_eq!(rt; moved.at(), Point::whole(3, 2, -1));
     let part = scope.part(Axis::X, number(&rt, 2, 1), Fraction::zero());
     assert_eq!(rt; part.expect(&rt, "in range").at(), Point::whole(0, 0, -2));

@@ -127,7 +127,12 @@ fn together(
 
 #[test]
 fn one_box(rt: HostRuntime) -> Result<(), Fail> {
-    let house = Solid::new(b"house", Primitive::Cube, Point::whole(0, 0, 0), Point::whole(10, 6, 8));
+    let house = Solid::new(
+        b"house",
+        Primitive::Cube,
+        Point::whole(0, 0, 0),
+        Point::whole(10, 6, 8),
+    );
     let lot = name(&rt, b"a");
     let drawn = all_drawn(&rt, rt.alloc(), lot, &[house])?;
     let text = alone(rt.alloc(), lot, drawn.as_slice(), 6)?;
@@ -170,16 +175,56 @@ fn every_solid(rt: HostRuntime) -> Result<(), Fail> {
     let gable = Primitive::Gable;
     let hip = Primitive::Hip;
     let north = [
-        Solid::new(b"cube", Primitive::Cube, Point::whole(0, 0, 0), Point::whole(2, 3, 4)),
-        Solid::new(b"quad", Primitive::Quad, Point::whole(10, 0, 1), Point::whole(2, 3, 0)),
-        Solid::new(b"shed", Primitive::Shed, Point::whole(20, 0, 0), Point::whole(2, 3, 4)),
-        Solid::new(b"long_gable", gable, Point::whole(30, 0, 0), Point::whole(4, 3, 2)),
+        Solid::new(
+            b"cube",
+            Primitive::Cube,
+            Point::whole(0, 0, 0),
+            Point::whole(2, 3, 4),
+        ),
+        Solid::new(
+            b"quad",
+            Primitive::Quad,
+            Point::whole(10, 0, 1),
+            Point::whole(2, 3, 0),
+        ),
+        Solid::new(
+            b"shed",
+            Primitive::Shed,
+            Point::whole(20, 0, 0),
+            Point::whole(2, 3, 4),
+        ),
+        Solid::new(
+            b"long_gable",
+            gable,
+            Point::whole(30, 0, 0),
+            Point::whole(4, 3, 2),
+        ),
     ];
     let east = [
-        Solid::new(b"deep_gable", gable, Point::whole(0, 0, 10), Point::whole(2, 3, 4)),
-        Solid::new(b"long_hip", hip, Point::whole(10, 0, 10), Point::whole(5, 3, 2)),
-        Solid::new(b"deep_hip", hip, Point::whole(20, 0, 10), Point::whole(2, 3, 5)),
-        Solid::new(b"square_hip", hip, Point::whole(30, 0, 10), Point::whole(3, 3, 3)),
+        Solid::new(
+            b"deep_gable",
+            gable,
+            Point::whole(0, 0, 10),
+            Point::whole(2, 3, 4),
+        ),
+        Solid::new(
+            b"long_hip",
+            hip,
+            Point::whole(10, 0, 10),
+            Point::whole(5, 3, 2),
+        ),
+        Solid::new(
+            b"deep_hip",
+            hip,
+            Point::whole(20, 0, 10),
+            Point::whole(2, 3, 5),
+        ),
+        Solid::new(
+            b"square_hip",
+            hip,
+            Point::whole(30, 0, 10),
+            Point::whole(3, 3, 3),
+        ),
     ];
     let of_north = all_drawn(&rt, rt.alloc(), lots.first, &north)?;
     let of_east = all_drawn(&rt, rt.alloc(), lots.second, &east)?;
