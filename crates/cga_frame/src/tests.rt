@@ -39,7 +39,7 @@ fn lot_out_of_range(rt: HostRuntime) {
 }
 
 // The box of a mass that is 10 wide and 6 high.
-fn mass(rt: &impl Abort, z: i64, depth: i64) -> WorldBox {
+fn mass(rt: &impl Abort, z: i32, depth: i32) -> WorldBox {
     scope(rt, Point::whole(0, 0, z), Point::whole(10, 6, depth)).world_box()
 }
 
@@ -115,7 +115,10 @@ fn moves_and_sizes(rt: HostRuntime) {
     assert_eq!(rt; moved.at(), Point::whole(3, 2, -1));
     let part = scope.part(Axis::X, number(&rt, 2, 1), Fraction::zero());
     assert_eq!(rt; part.expect(&rt, "in range").at(), Point::whole(0, 0, -2));
-    let far = Point::whole(0, 0, 4611686018427387904);
+    let far = Point {
+        z: number(&rt, 1 << 62, 1),
+        ..Point::whole(0, 0, 0)
+    };
     assert_eq!(rt; scope.translate(far), Err(Overflow));
     assert!(rt; scope.resize(Point::whole(0, 0, 0)).is_ok());
 }

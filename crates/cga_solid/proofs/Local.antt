@@ -1,5 +1,5 @@
 -- The corners of a solid lie between 0 and the scope's size.
-use Rattle.std.proofs.Common.{◌≡◌, List, [], ◌∷◌, Bool, true, false, refl, ap, ◌∙◌, subst, Ok, Err, Result}
+use Rattle.std.proofs.Common.{◌≡◌, List, [], ◌∷◌, Bool, true, false, refl, ap, ◌∙◌, subst, Ok, Result}
 use Rattle.std.specs.Prelude.{IsTrue, not, ◌||◌, if◌then◌else◌}
 use Rattle.cga_fraction.specs.Rat.{Rat, zero_rat}
 use Rattle.cga_fraction.specs.Order.{rat_le, rat_lt}
@@ -9,7 +9,6 @@ use Rattle.cga_frame.specs.Scope.{has_negative}
 use Rattle.cga_frame.specs.declared.point.Point.{Point}
 use Rattle.cga_word.specs.declared.primitive.Primitive.{Primitive}
 use Rattle.cga_word.specs.declared.primitive.Primitive.TheVariants as primitive
-use Rattle.cga_fraction.specs.Results.{and_then}
 use Rattle.cga_fraction.proofs.Results.{and_then-ok}
 use Rattle.cga_solid.specs.Faults.{within}
 use Rattle.cga_solid.specs.Corners.{corners_of, half_of, over_base, point, two}

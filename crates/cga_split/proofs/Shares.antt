@@ -5,7 +5,6 @@ use Rattle.cga_fraction.specs.Rat.{Rat, den, zero_rat}
 use Rattle.cga_fraction.specs.Order.{rat_le, rat_lt, positive_part, negative_part}
 use Rattle.cga_fraction.specs.Arithmetic.{minus, times, divided}
 use Rattle.cga_fraction.specs.Refusals.{checked, quotient_of, is_zero}
-use Rattle.cga_fraction.specs.declared.overflow.Overflow as Unit
 use Rattle.cga_fraction.specs.declared.overflow.DivFault.{DivFault}
 use Rattle.cga_fraction.proofs.Order.{lt_test, lt_not_le}
 use Rattle.cga_fraction.proofs.Ratios.{IsRatio, times_ratio, minus_ratio, divided_ratio, le_ratio, zero_ratio}
