@@ -132,8 +132,12 @@ module _ {N A F P : Type 0} (world : World N A F P) (laws : IsWorld world) where
           ]),
     )
 
+    -- what a shape with a smaller stamp is answered stays
+    pub same_answers : (n : N) → IsEarlier world (stamp_of world n) (stamp_of world s) → world.answers n (shapes_where (exists_at world n) C) (shapes_where (waits_at world n) C) ≡ world.answers n (shapes_where (exists_at world n) D) (shapes_where (waits_at world n) D)
+    same_answers n before = laws.local n _ _ _ _ (sees_existing n before) (sees_waiting n before)
+
     same_outcome : (n : N) → IsEarlier world (stamp_of world n) (stamp_of world s) → outcome_at world C n ≡ outcome_at world D n
-    same_outcome n before = ap (world.expand n) (laws.local n _ _ _ _ (sees_existing n before) (sees_waiting n before))
+    same_outcome n before = ap (world.expand n) (same_answers n before)
 
     -- what s saw is what it sees at its stamp
     saw_existing : SameSeen world s (shapes_where (λ n k. true) C) (shapes_where (exists_at world s) D)
@@ -170,8 +174,12 @@ module _ {N A F P : Type 0} (world : World N A F P) (laws : IsWorld world) where
           ]),
     )
 
+    -- what s was answered is what it is answered at its stamp
+    pub saw_answers : world.answers s (shapes_where (λ n k. true) C) (shapes_where (λ n k. is_waiting k) C) ≡ world.answers s (shapes_where (exists_at world s) D) (shapes_where (waits_at world s) D)
+    saw_answers = laws.local s _ _ _ _ saw_existing saw_waiting
+
     saw : outcome world C s ≡ outcome_at world D s
-    saw = ap (world.expand s) (laws.local s _ _ _ _ saw_existing saw_waiting)
+    saw = ap (world.expand s) saw_answers
 
     stands_on : (c : N) (k : Kind F P) → Stands world C c k → Stands world D c k
     stands_on c k (now, has, alike, same) =

@@ -23,11 +23,16 @@ record IsFamily (chain : Four → Chain) (children : Four → List (Placed Four 
 ok_same : (x y : List (Placed Four ℕ ℕ)) → ◌≡◌ {A = Result (List (Placed Four ℕ ℕ)) ℕ} (Ok x) (Ok y) → x ≡ y
 ok_same x y e = cc
 
+one_index : (i j : ℕ) (n m : Four) → slice_get (a ∷ []) i ≡ Some n → slice_get (a ∷ []) j ≡ Some m → i ≡ j
+one_index zero zero n m h g = refl
+one_index zero (suc j) n m h g = let x : ◌≡◌ {A = Option Four} None (Some m) = g in cc
+one_index (suc i) j n m h g = let x : ◌≡◌ {A = Option Four} None (Some n) = h in cc
+
 is_world : (mode : Mode) (chain : Four → Chain) (children : Four → List (Placed Four ℕ ℕ)) → IsFamily chain children → IsWorld (world_of mode chain children)
 is_world mode chain children family = record {
   whole = family.whole;
   root = λ n h. elim h [ inl e ↦ subst (λ x. (chain x).path ≡ []) e family.root | inr r ↦ absurd r ];
-  roots_apart = λ n m h g e. elim h [ inl p ↦ elim g [ inl q ↦ sym p ∙ q | inr r ↦ absurd r ] | inr r ↦ absurd r ];
+  roots_apart = λ i j n m h g e. one_index i j n m h g;
   child = λ s answers cs e i m g. family.child s i m (subst (λ x. slice_get x i ≡ Some m) (sym (ok_same (children s) cs e)) g);
   unseen = λ n m e. let x : false ≡ true = e in cc;
   local = λ n e w e' w' h g. refl;
