@@ -128,7 +128,7 @@ module _ {N A F P : Type 0} (world : World N A F P) (laws : IsWorld world) where
             let lot : (world.chain m).lot ≡ (world.chain s).lot = sym u.lot ∙ v.lot in
             λ x. (lot x, path x)
 
-        stand : (c : N) (j : Kind F P) → Has children c j → Stands world (members_of before) c j → Stands world (members_of after) c j
+        stand : (c : N) (j : Kind F P) → Has children c j → Stands (members_of before) c j → Stands (members_of after) c j
         stand c j g (old, there, alike, same) =
             let w = Keeps-Has before c old there in
             elim (turn.to c old w.0 w.1) [
@@ -165,7 +165,7 @@ module _ {N A F P : Type 0} (world : World N A F P) (laws : IsWorld world) where
     settled : (n : N) (k : Kind F P) (a : A) → Keeps nodes n k a → is_instance k ≡ false → IsBefore world limit (stamp_of world n) → IsRight world nodes n k a
     settled n k a h i before = elim (right n k a h i) [ inl q ↦ absurd (late n k a h q before) | inr r ↦ r ]
 
-    outcome_is : (k : Kind F P) (n : N) (r : Result (List (Placed N F P)) F) → IsSettled world nodes n k r → HasOutcome world (members_of nodes) k r
+    outcome_is : (k : Kind F P) (n : N) (r : Result (List (Placed N F P)) F) → IsSettled world nodes n k r → HasOutcome (members_of nodes) k r
     outcome_is k n (Ok children) h = (h.0, h.1.all)
     outcome_is k n (Err fault) h = h.0
 
@@ -184,7 +184,7 @@ module _ {N A F P : Type 0} (world : World N A F P) (laws : IsWorld world) where
       each = λ n k h i before.
           let w = Keeps-Has nodes n k h in
           let z = settled n k w.0 w.1 i before in
-          subst (HasOutcome world (members_of nodes) k) (ap (world.expand n) z.0) (outcome_is k n (world.expand n w.0) z.1);
+          subst (HasOutcome (members_of nodes) k) (ap (world.expand n) z.0) (outcome_is k n (world.expand n w.0) z.1);
       only = λ n k h before.
           let w = Keeps-Has nodes n k h in
           elim (tree.under n k w.0 w.1) [

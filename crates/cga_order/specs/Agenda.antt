@@ -33,7 +33,7 @@ module _ {N A F P : Type 0} (world : World N A F P) where
 
   -- the nodes right below n are these children
   pub record HasChildren (nodes : Nodes) (n : N) (children : List (Placed N F P)) : Type 0 where
-    pub all : (c : N) (k : Kind F P) → Has children c k → Stands world (members_of nodes) c k
+    pub all : (c : N) (k : Kind F P) → Has children c k → Stands (members_of nodes) c k
     pub only : (c : N) (k : Kind F P) (a : A) → Keeps nodes c k a → (i : ℕ) → IsChild (world.chain n) i (world.chain c)
         → (j : Kind F P) × Has children c j
 

@@ -90,7 +90,7 @@ module _ (N A F P : Type 0) where
       → (list : Members) → IsConsistent world None list
       → (taken : List N) (reached : Members) → Reached world taken reached
       → NothingWaits world None reached
-      → SameMembers world list reached
+      → SameMembers list reached
 
   -- a list that is consistent as far as a limit has the members of the derivation that far
   abbrev pub ConsistentSoFar : Type 0
@@ -99,7 +99,7 @@ module _ (N A F P : Type 0) where
       → (limit : Option (List Rank)) (list : Members) → IsConsistent world limit list
       → (taken : List N) (reached : Members) → Reached world taken reached
       → AllBefore world limit taken
-      → HasMembers world list reached
+      → HasMembers list reached
       × (NothingWaits world limit reached → HasMade world limit reached list)
 
   -- a turn of an agenda leaves each node right, or on the agenda

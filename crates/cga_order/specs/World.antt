@@ -34,6 +34,10 @@ is_instance Done = false
 is_instance (Faulted f) = false
 is_instance (Instance p) = true
 
+-- a child is new: it waits, or is an instance
+abbrev pub IsNew : {F P : Type 0} → Kind F P → Type 0
+IsNew {P = P} kind = (kind ≡ Waiting) ⊎ ((p : P) × (kind ≡ Instance p))
+
 -- the shape is a member of this kind
 abbrev pub Has : {N F P : Type 0} → List (Placed N F P) → N → Kind F P → Type 0
 Has [] n kind = ⊥
@@ -68,10 +72,6 @@ module _ {N A F P : Type 0} (world : World N A F P) where
   abbrev pub SameSeen : N → List N → List N → Type 0
   SameSeen n xs ys =
       (m : N) → world.sees n m ≡ true → (Among m xs → Among m ys) × (Among m ys → Among m xs)
-
-  -- a child waits, or is an instance
-  abbrev pub IsNew : Kind F P → Type 0
-  IsNew kind = (kind ≡ Waiting) ⊎ ((p : P) × (kind ≡ Instance p))
 
   pub record IsWorld : Type 0 where
     pub whole : (n : N) → IsWhole (world.chain n)
