@@ -10,6 +10,7 @@ pub mod Turn
 pub mod Ends
 pub mod Stamps
 pub mod Derive
+pub mod One
 pub mod Inherited
 pub mod Unique
 pub mod Derived

@@ -11,7 +11,7 @@ use Rattle.cga_derivation.proofs.Lists.{ok_same, err_ok}
 use Rattle.cga_derivation.specs.Derivation.{Derivation, IsDerivation, place_of, rank_of, SameSeen}
 use Rattle.cga_derivation.specs.Sites.{Site, fitted, sited, all_sited, chain_of, world_of}
 
-length-fitted : (n : ℕ) (xs : List ℕ) → length (fitted n xs) ≡ n
+pub length-fitted : (n : ℕ) (xs : List ℕ) → length (fitted n xs) ≡ n
 length-fitted zero xs = refl
 length-fitted (suc n) [] = let e = length-fitted n [] in omega (arith, e)
 length-fitted (suc n) (x ∷ xs) = let e = length-fitted n xs in omega (arith, e)

@@ -101,7 +101,11 @@ module _ {N A F P : Type 0} (derivation : Derivation N A F P) where
   abbrev pub NothingWaits : List (Placed N F P) → Type 0
   NothingWaits list = (n : N) → Has list n Waiting → ⊥
 
-  -- the configuration in which nothing waits; none where one with more members than the budget is reached
+  -- the configuration in which nothing waits
+  abbrev pub IsDerived : List (Placed N F P) → Type 0
+  IsDerived list = (n : ℕ) × (list ≡ reached n) × NothingWaits list
+
+  -- that configuration; none where one with more members than the budget is reached
   unfoldable pub derive : ℕ → Option (List (Placed N F P))
   derive budget = if nat_lt budget (length (reached budget)) then None else Some (reached budget)
 

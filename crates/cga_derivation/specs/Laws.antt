@@ -1,10 +1,10 @@
 -- What is proved of derivations.
-use Rattle.std.specs.Prelude.{◌≡◌, ℕ, List, length, ◌<◌, ◌≤◌, MatchOption}
+use Rattle.std.specs.Prelude.{◌≡◌, ℕ, List, length, ◌<◌, ◌≤◌, Some, MatchOption}
 use Rattle.cga_order.specs.declared.placed.Placed.{Placed}
 use Rattle.cga_order.specs.World.{IsWorld}
 use Rattle.cga_order.specs.Run.{Reached}
 use Rattle.cga_order.specs.Consistent.{SameMembers}
-use Rattle.cga_derivation.specs.Derivation.{Derivation, IsDerivation, reached, NothingWaits, derive, expanded}
+use Rattle.cga_derivation.specs.Derivation.{Derivation, IsDerivation, reached, NothingWaits, IsDerived, derive, expanded}
 use Rattle.cga_derivation.specs.Consistent.{IsConsistent}
 use Rattle.cga_derivation.specs.Stamps.{RisesIn, StandsInOrder}
 use Rattle.cga_derivation.specs.Sites.{erase, world_of, sites, taken}
@@ -42,6 +42,15 @@ module _ (N A F P : Type 0) where
       ((n : ℕ) × (budget < length (reached derivation n)))
       (λ list. ((m : ℕ) → length (reached derivation m) ≤ budget)
       × ((n : ℕ) × (n ≤ budget) × (list ≡ reached derivation n) × NothingWaits derivation list))
+
+  -- there is at most one configuration in which nothing waits, and `derive` gives no other
+  pub record DerivationIsOne : Type 0 where
+    pub one : (derivation : Derivation N A F P) → IsDerivation derivation
+        → (list other : List (Placed N F P)) → IsDerived derivation list → IsDerived derivation other
+        → list ≡ other
+    pub within : (derivation : Derivation N A F P) → IsDerivation derivation
+        → (budget : ℕ) (list : List (Placed N F P)) → derive derivation budget ≡ Some list
+        → IsDerived derivation list
 
   -- a consistent list has the members of the configuration in which nothing waits
   abbrev pub ConsistentIsDerived : Type 0

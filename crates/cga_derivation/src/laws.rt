@@ -2,7 +2,7 @@
 //! caller's proof can cite.
 
 ghost use Rattle.cga_derivation.specs.Laws.{SitesAreWorlds, SitesRunAlong, StampsRise, MembersStandInOrder};
-ghost use Rattle.cga_derivation.specs.Laws.{DeriveSays, ConsistentIsDerived, DerivedIsConsistent};
+ghost use Rattle.cga_derivation.specs.Laws.{DeriveSays, DerivationIsOne, ConsistentIsDerived, DerivedIsConsistent};
 
 /// Where shapes know their ancestors' priorities, each derivation is that of a world. So the laws of
 /// the order of derivation speak of it.
@@ -29,6 +29,11 @@ pub fn members_stand_in_order<N, A, F, P>()
 /// configuration in which nothing waits.
 pub fn derive_says<N, A, F, P>()
     ensures { DeriveSays N A F P }
+{}
+
+/// A derivation ends in one configuration, and `derive` gives no other.
+pub fn derivation_is_one<N, A, F, P>()
+    ensures { DerivationIsOne N A F P }
 {}
 
 /// A consistent list has the members of the derivation, whatever order it stands in.
