@@ -1,0 +1,5 @@
+//! The agenda.
+#![tactic(auto)]
+
+pub mod agenda;
+pub mod laws;

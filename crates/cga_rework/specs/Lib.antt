@@ -1,0 +1,5 @@
+pub mod Rules
+pub mod Ranked
+pub mod Touched
+pub mod Laws
+pub mod Example

@@ -1,0 +1,4 @@
+//! An edit.
+#![tactic(auto)]
+
+pub mod laws;
