@@ -28,16 +28,16 @@ use Rattle.cga_syntax.specs.declared.cond.Test.TheOpen as test
 use Rattle.cga_syntax.specs.declared.cond.Relation.{Relation}
 use Rattle.cga_syntax.specs.declared.cond.Relation.TheVariants as relation
 use Rattle.cga_syntax.specs.Pieces.{never, sign, keyword, word, Pieces, concat, target_text, state_text, relation_sign, equality_sign, expr_pieces, scaled_pieces, added_pieces, factor_pieces, primary_pieces, cond_pieces, conj_pieces, test_pieces, test_step, cond_step, conj_step}
-use Rattle.cga_parser.specs.Reader.{Reader, refuse}
+use Rattle.cga_form.specs.Reader.{Reader, refuse}
 use Rattle.cga_parser.specs.Tokens.{a_sign, a_keyword, is_sign, is_keyword, a_relation, an_equality, a_target, a_state, a_scope_word}
 use Rattle.cga_parser.specs.Grammar as g
 use Rattle.cga_parser.specs.declared.heads.ScopeWord.TheVariants as scope_word
-use Rattle.cga_parser.proofs.Forms.{turned}
+use Rattle.cga_form.proofs.Forms.{turned}
 use Rattle.cga_parser.proofs.Layers.{expr_layer, term_layer, factor_layer, number_layer, named_layer, group_layer as bracket_layer, floor_layer, ceil_layer, rand_layer}
 use Rattle.cga_parser.proofs.Exprs.{inside_reads, scaled_long, scaled_reads, added_long, added_reads}
 use Rattle.cga_parser.proofs.ExprsAgain.{goes_on, no_scaling, no_addition, Spares, expr_begun, scaled_again, scaled_starts, added_again, added_starts, added_begun, expr_again, inside_again, neither}
 use Rattle.cga_parser.proofs.Conds.{scope_bytes, IsInner, no_inner, one_inner, cond_reads, square_pieces, occ_pieces, sum_layer, further_test_pieces, further_test_long, further_test_reads, further_conj_pieces, further_conj_long, further_conj_reads, cond_layer, conj_layer, group_layer, not_layer, occ_layer, compare_layer}
-use Rattle.cga_parser.proofs.Again.{Leads, Again, Begun, begun_token, starts_token, begun_drawn, begun_named, begun_append, begun_as, missed, misses_end, misses_each, nothing, misses_nothing, begun_nothing, never_leads, ends, took, entered, peek_yes, peek_no, after, plainly, written_as, all_of}
+use Rattle.cga_form.proofs.Again.{Leads, Again, Begun, begun_token, starts_token, begun_drawn, begun_named, begun_append, begun_as, missed, misses_end, misses_each, nothing, misses_nothing, begun_nothing, never_leads, ends, took, entered, peek_yes, peek_no, after, plainly, written_as, all_of}
 
 -- the tokens that go on with a conjunction, and with a condition
 abbrev pub with_and : Lexeme → Bool

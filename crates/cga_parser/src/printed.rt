@@ -1,7 +1,8 @@
 //! Printed rules and grammars are read back.
 ghost use Rattle.std.specs.Prelude.{ℕ, List, Ok};
-ghost use Rattle.cga_parser.specs.LineAnswers.{LineAnswers};
-ghost use Rattle.cga_parser.specs.BlockAnswers.{Line, GrammarAnswers};
+ghost use Rattle.cga_form.specs.LineAnswers.{LineAnswers};
+ghost use Rattle.cga_parser.specs.BlockAnswers.{GrammarAnswers};
+ghost use Rattle.cga_form.specs.BlockAnswers.{Line};
 ghost use Rattle.cga_parser.specs.Back.{SpellsRule, IsReadBack};
 ghost use Rattle.cga_parser.specs.GrammarLines.{IsSpelled, ReadsBack};
 ghost use Rattle.cga_syntax.specs.GrammarText.{ArePrintable};
