@@ -4,8 +4,8 @@ use Rattle.cga_lexer.specs.declared.sign.Sign.TheVariants as s
 use Rattle.cga_syntax.specs.Lexemes.{is_reserved}
 use Rattle.cga_syntax.specs.declared.lexeme.Lexeme.{Lexeme}
 use Rattle.cga_syntax.specs.declared.lexeme.Lexeme.TheVariants as lexeme
-use Rattle.cga_syntax.specs.declared.grammar.Attribute.{Attribute}
-use Rattle.cga_syntax.specs.declared.rule.Rule.{Rule}
+use Rattle.cga_rule.specs.declared.grammar.Attribute.{Attribute}
+use Rattle.cga_rule.specs.declared.rule.Rule.{Rule}
 use Rattle.cga_syntax.specs.Pieces.{Pieces, token, usual, never, number, whole, rule_pieces, Writes}
 use Rattle.cga_parser.specs.declared.block_line.BlockLine.{BlockLine}
 use Rattle.cga_parser.specs.declared.block_line.BlockLine.TheVariants as line

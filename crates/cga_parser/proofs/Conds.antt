@@ -12,18 +12,18 @@ use Rattle.cga_syntax.specs.Lexemes.{is}
 use Rattle.cga_syntax.specs.declared.keyword.Keyword.TheVariants as k
 use Rattle.cga_syntax.specs.declared.lexeme.Lexeme.{Lexeme}
 use Rattle.cga_syntax.specs.declared.lexeme.Lexeme.TheVariants as lexeme
-use Rattle.cga_syntax.specs.declared.expr.Expr.{Expr}
-use Rattle.cga_syntax.specs.declared.expr.Scaled.{Scaled}
-use Rattle.cga_syntax.specs.declared.expr.Added.{Added}
-use Rattle.cga_syntax.specs.declared.cond.Cond.{Cond, roll-Cond}
-use Rattle.cga_syntax.specs.declared.cond.Conj.{Conj, roll-Conj}
-use Rattle.cga_syntax.specs.declared.cond.Test.{Test}
-use Rattle.cga_syntax.specs.declared.cond.Test.TheVariants as t
-use Rattle.cga_syntax.specs.declared.cond.Test.TheVariants.{rolls-Group, rolls-Not, rolls-Occ, rolls-Compare}
-use Rattle.cga_syntax.specs.declared.cond.Test.TheFolds.{fold-roll-Cond, fold-roll-Conj, fold-roll-Test}
-use Rattle.cga_syntax.specs.declared.cond.Test.TheOpen as layer
-use Rattle.cga_syntax.specs.declared.cond.Relation.{Relation}
-use Rattle.cga_syntax.specs.declared.cond.Relation.TheVariants as relation
+use Rattle.cga_rule.specs.declared.expr.Expr.{Expr}
+use Rattle.cga_rule.specs.declared.expr.Scaled.{Scaled}
+use Rattle.cga_rule.specs.declared.expr.Added.{Added}
+use Rattle.cga_rule.specs.declared.cond.Cond.{Cond, roll-Cond}
+use Rattle.cga_rule.specs.declared.cond.Conj.{Conj, roll-Conj}
+use Rattle.cga_rule.specs.declared.cond.Test.{Test}
+use Rattle.cga_rule.specs.declared.cond.Test.TheVariants as t
+use Rattle.cga_rule.specs.declared.cond.Test.TheVariants.{rolls-Group, rolls-Not, rolls-Occ, rolls-Compare}
+use Rattle.cga_rule.specs.declared.cond.Test.TheFolds.{fold-roll-Cond, fold-roll-Conj, fold-roll-Test}
+use Rattle.cga_rule.specs.declared.cond.Test.TheOpen as layer
+use Rattle.cga_rule.specs.declared.cond.Relation.{Relation}
+use Rattle.cga_rule.specs.declared.cond.Relation.TheVariants as relation
 use Rattle.cga_syntax.specs.Pieces.{usual, token, sign, keyword, word, text, Pieces, concat, squared, size_word, target_text, state_text, relation_sign, equality_sign, expr_pieces, scaled_pieces, added_pieces, cond_pieces, conj_pieces, test_pieces, test_step, cond_step, conj_step}
 use Rattle.cga_syntax.specs.Brackets.{counted, bracket_of}
 use Rattle.cga_form.specs.Reader.{Reader, ◌>>=◌, ◌>>◌, pure, refuse, single}

@@ -10,11 +10,11 @@ use Rattle.cga_syntax.specs.declared.keyword.Keyword.{Keyword}
 use Rattle.cga_syntax.specs.declared.keyword.Keyword.TheVariants as k
 use Rattle.cga_syntax.specs.declared.lexeme.Lexeme.{Lexeme}
 use Rattle.cga_syntax.specs.declared.lexeme.Lexeme.TheVariants as lexeme
-use Rattle.cga_syntax.specs.declared.expr.Expr.{Expr, roll-Expr}
-use Rattle.cga_syntax.specs.declared.expr.Term.{Term, roll-Term}
-use Rattle.cga_syntax.specs.declared.expr.Added.{out-Added, roll-out-Added}
-use Rattle.cga_syntax.specs.declared.expr.Factor.{Factor}
-use Rattle.cga_syntax.specs.declared.expr.Primary.TheVariants as v
+use Rattle.cga_rule.specs.declared.expr.Expr.{Expr, roll-Expr}
+use Rattle.cga_rule.specs.declared.expr.Term.{Term, roll-Term}
+use Rattle.cga_rule.specs.declared.expr.Added.{out-Added, roll-out-Added}
+use Rattle.cga_rule.specs.declared.expr.Factor.{Factor}
+use Rattle.cga_rule.specs.declared.expr.Primary.TheVariants as v
 use Rattle.cga_syntax.specs.Pieces.{Space, usual, none_after, token, plain, sign, keyword, named, word, whole, Pieces, Writes, grouped, size_word, expr_pieces, term_pieces, added_pieces, scaled_pieces, factor_pieces, primary_pieces}
 use Rattle.cga_syntax.specs.Brackets.{counted, bracket_of}
 use Rattle.cga_form.specs.Reader.{Reader, ◌>>=◌, ◌>>◌, pure, refuse, single, enter}

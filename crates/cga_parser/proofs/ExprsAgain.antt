@@ -7,15 +7,15 @@ use Rattle.cga_word.specs.declared.axis.Axis.TheVariants as axis
 use Rattle.cga_syntax.specs.declared.keyword.Keyword.TheVariants as k
 use Rattle.cga_syntax.specs.declared.lexeme.Lexeme.{Lexeme}
 use Rattle.cga_syntax.specs.declared.lexeme.Lexeme.TheVariants as lexeme
-use Rattle.cga_syntax.specs.declared.expr.Expr.{Expr, roll-Expr, out-Expr, roll-out-Expr}
-use Rattle.cga_syntax.specs.declared.expr.Term.{Term, roll-Term, out-Term, roll-out-Term}
-use Rattle.cga_syntax.specs.declared.expr.Added.{Added, roll-Added, out-Added, roll-out-Added}
-use Rattle.cga_syntax.specs.declared.expr.Scaled.{Scaled}
-use Rattle.cga_syntax.specs.declared.expr.Factor.{Factor}
-use Rattle.cga_syntax.specs.declared.expr.Primary.{Primary, Primary-F, out-Primary, roll-Primary, roll-out-Primary}
-use Rattle.cga_syntax.specs.declared.expr.Primary.TheVariants as v
-use Rattle.cga_syntax.specs.declared.expr.Primary.TheVariants.{rolls-Number, rolls-Named, rolls-ScopeSize, rolls-Group, rolls-Floor, rolls-Ceil, rolls-Rand}
-use Rattle.cga_syntax.specs.declared.expr.Primary.TheOpen as layer
+use Rattle.cga_rule.specs.declared.expr.Expr.{Expr, roll-Expr, out-Expr, roll-out-Expr}
+use Rattle.cga_rule.specs.declared.expr.Term.{Term, roll-Term, out-Term, roll-out-Term}
+use Rattle.cga_rule.specs.declared.expr.Added.{Added, roll-Added, out-Added, roll-out-Added}
+use Rattle.cga_rule.specs.declared.expr.Scaled.{Scaled}
+use Rattle.cga_rule.specs.declared.expr.Factor.{Factor}
+use Rattle.cga_rule.specs.declared.expr.Primary.{Primary, Primary-F, out-Primary, roll-Primary, roll-out-Primary}
+use Rattle.cga_rule.specs.declared.expr.Primary.TheVariants as v
+use Rattle.cga_rule.specs.declared.expr.Primary.TheVariants.{rolls-Number, rolls-Named, rolls-ScopeSize, rolls-Group, rolls-Floor, rolls-Ceil, rolls-Rand}
+use Rattle.cga_rule.specs.declared.expr.Primary.TheOpen as layer
 use Rattle.cga_syntax.specs.Pieces.{concat, size_word, expr_pieces, term_pieces, added_pieces, scaled_pieces, factor_pieces, primary_pieces}
 use Rattle.cga_form.specs.Reader.{Reader, refuse}
 use Rattle.cga_parser.specs.Tokens.{a_sign, a_keyword, a_whole, primary_head, size_axis, an_addition, a_scaling, is_sign, unless}

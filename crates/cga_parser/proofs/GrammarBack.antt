@@ -5,9 +5,9 @@ use Rattle.std.proofs.lemmas.List.Elements.{All-head, All-tail, All-nil, All-con
 use Rattle.cga_syntax.specs.GrammarText.{has, priorities, ArePrintable}
 use Rattle.cga_syntax.specs.Pieces.{rule_pieces}
 use Rattle.cga_syntax.specs.Printing.{printed, HaveTexts}
-use Rattle.cga_syntax.specs.declared.grammar.Attribute.{Attribute}
-use Rattle.cga_syntax.specs.declared.grammar.Entry.{Entry}
-use Rattle.cga_syntax.specs.declared.grammar.Grammar.{Grammar}
+use Rattle.cga_rule.specs.declared.grammar.Attribute.{Attribute}
+use Rattle.cga_rule.specs.declared.grammar.Entry.{Entry}
+use Rattle.cga_rule.specs.declared.grammar.Grammar.{Grammar}
 use Rattle.cga_parser.specs.declared.block_line.BlockLine.{BlockLine}
 use Rattle.cga_parser.specs.declared.block_line.BlockLine.TheVariants as says
 use Rattle.cga_parser.specs.Blocks.{block_pieces}

@@ -17,15 +17,15 @@ use Rattle.cga_syntax.specs.declared.keyword.Keyword.{Keyword}
 use Rattle.cga_syntax.specs.declared.keyword.Keyword.TheVariants as k
 use Rattle.cga_syntax.specs.declared.lexeme.Lexeme.{Lexeme}
 use Rattle.cga_syntax.specs.declared.lexeme.Lexeme.TheVariants as lexeme
-use Rattle.cga_syntax.specs.declared.expr.Expr.{Expr}
-use Rattle.cga_syntax.specs.declared.item.Size.{Size}
-use Rattle.cga_syntax.specs.declared.item.Size.TheVariants as size
-use Rattle.cga_syntax.specs.declared.item.Body.{Body, roll-Body}
-use Rattle.cga_syntax.specs.declared.item.Item.{Item, Item-F, roll-Item, out-Item, roll-out-Item}
-use Rattle.cga_syntax.specs.declared.item.Item.TheVariants as i
-use Rattle.cga_syntax.specs.declared.item.Item.TheVariants.{rolls-Move, rolls-Resize, rolls-Rotate, rolls-Scoped, rolls-Solid, rolls-Subdiv, rolls-Repeat, rolls-Comp, rolls-Child}
-use Rattle.cga_syntax.specs.declared.item.Item.TheFolds.{fold-roll-Body, fold-roll-Item}
-use Rattle.cga_syntax.specs.declared.item.Item.TheOpen as layer
+use Rattle.cga_rule.specs.declared.expr.Expr.{Expr}
+use Rattle.cga_rule.specs.declared.item.Size.{Size}
+use Rattle.cga_rule.specs.declared.item.Size.TheVariants as size
+use Rattle.cga_rule.specs.declared.item.Body.{Body, roll-Body}
+use Rattle.cga_rule.specs.declared.item.Item.{Item, Item-F, roll-Item, out-Item, roll-out-Item}
+use Rattle.cga_rule.specs.declared.item.Item.TheVariants as i
+use Rattle.cga_rule.specs.declared.item.Item.TheVariants.{rolls-Move, rolls-Resize, rolls-Rotate, rolls-Scoped, rolls-Solid, rolls-Subdiv, rolls-Repeat, rolls-Comp, rolls-Child}
+use Rattle.cga_rule.specs.declared.item.Item.TheFolds.{fold-roll-Body, fold-roll-Item}
+use Rattle.cga_rule.specs.declared.item.Item.TheOpen as layer
 use Rattle.cga_syntax.specs.Pieces.{Piece, Space, usual, token, turned, plain, number, never, sign, keyword, word, text, named, Pieces, concat, IsTurn, Writes, nonempty, separated, preceded, at_most, behind_each, arguments, three, body_of, in_curly, axis_text, turn_keyword, solid_text, side_text, selector_pieces, size_pieces, expr_pieces, item_pieces, body_pieces, item_step, body_step}
 use Rattle.cga_syntax.specs.Brackets.{counted, bracket_of}
 use Rattle.cga_form.specs.Reader.{Reader, ◌>>=◌, ◌>>◌, pure, refuse, single, enter, many, many_from}

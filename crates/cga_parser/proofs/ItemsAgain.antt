@@ -14,14 +14,14 @@ use Rattle.cga_word.specs.declared.selector.Selector.TheVariants as selector
 use Rattle.cga_syntax.specs.declared.keyword.Keyword.TheVariants as k
 use Rattle.cga_syntax.specs.declared.lexeme.Lexeme.{Lexeme}
 use Rattle.cga_syntax.specs.declared.lexeme.Lexeme.TheVariants as lexeme
-use Rattle.cga_syntax.specs.declared.expr.Expr.{Expr}
-use Rattle.cga_syntax.specs.declared.item.Size.{Size}
-use Rattle.cga_syntax.specs.declared.item.Size.TheVariants as size
-use Rattle.cga_syntax.specs.declared.item.Body.{Body, roll-Body, out-Body, roll-out-Body}
-use Rattle.cga_syntax.specs.declared.item.Item.{Item, Item-F, roll-Item, out-Item, roll-out-Item}
-use Rattle.cga_syntax.specs.declared.item.Item.TheVariants as i
-use Rattle.cga_syntax.specs.declared.item.Item.TheVariants.{rolls-Move, rolls-Resize, rolls-Rotate, rolls-Scoped, rolls-Solid, rolls-Subdiv, rolls-Repeat, rolls-Comp, rolls-Child}
-use Rattle.cga_syntax.specs.declared.item.Item.TheOpen as layer
+use Rattle.cga_rule.specs.declared.expr.Expr.{Expr}
+use Rattle.cga_rule.specs.declared.item.Size.{Size}
+use Rattle.cga_rule.specs.declared.item.Size.TheVariants as size
+use Rattle.cga_rule.specs.declared.item.Body.{Body, roll-Body, out-Body, roll-out-Body}
+use Rattle.cga_rule.specs.declared.item.Item.{Item, Item-F, roll-Item, out-Item, roll-out-Item}
+use Rattle.cga_rule.specs.declared.item.Item.TheVariants as i
+use Rattle.cga_rule.specs.declared.item.Item.TheVariants.{rolls-Move, rolls-Resize, rolls-Rotate, rolls-Scoped, rolls-Solid, rolls-Subdiv, rolls-Repeat, rolls-Comp, rolls-Child}
+use Rattle.cga_rule.specs.declared.item.Item.TheOpen as layer
 use Rattle.cga_syntax.specs.Pieces.{usual, token, turned, plain, number, sign, keyword, text, Pieces, concat, IsTurn, Writes, axis_text, turn_keyword, solid_text, side_text, selector_pieces, size_pieces, expr_pieces, item_pieces, body_pieces}
 use Rattle.cga_form.specs.Reader.{Reader, at, ◌>>=◌, ◌>>◌, pure, refuse, begins}
 use Rattle.cga_parser.specs.Tokens.{a_sign, a_keyword, is_sign, is_keyword, unless, a_whole, item_head, a_relative, is_relative, a_turn, a_ninety, an_axis, a_solid, a_side, a_selector}

@@ -3,9 +3,9 @@ use Rattle.std.proofs.Common.{◌≡◌, ℕ, ◌+◌, nat_lt, Bool, true, false
 use Rattle.std.proofs.lemmas.List.Elements.{All-nil, All-cons}
 use Rattle.cga_lexer.specs.Line.{tokens_of, Outcome as Lexed}
 use Rattle.cga_lexer.specs.declared.token.Token.{Token}
-use Rattle.cga_syntax.specs.declared.grammar.Entry.{Entry}
-use Rattle.cga_syntax.specs.declared.grammar.Grammar.{Grammar}
-use Rattle.cga_syntax.specs.declared.rule.Rule.{Rule}
+use Rattle.cga_rule.specs.declared.grammar.Entry.{Entry}
+use Rattle.cga_rule.specs.declared.grammar.Grammar.{Grammar}
+use Rattle.cga_rule.specs.declared.rule.Rule.{Rule}
 use Rattle.cga_syntax.specs.GrammarText.{ArePrintable}
 use Rattle.cga_syntax.specs.Pieces.{Pieces, rule_pieces}
 use Rattle.cga_syntax.specs.Printing.{printed, HaveTexts}

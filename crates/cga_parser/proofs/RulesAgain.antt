@@ -5,9 +5,9 @@ use Rattle.cga_lexer.specs.declared.sign.Sign.TheVariants as s
 use Rattle.cga_syntax.specs.Lexemes.{is_reserved}
 use Rattle.cga_syntax.specs.declared.lexeme.Lexeme.{Lexeme}
 use Rattle.cga_syntax.specs.declared.lexeme.Lexeme.TheVariants as lexeme
-use Rattle.cga_syntax.specs.declared.cond.Cond.{Cond}
-use Rattle.cga_syntax.specs.declared.item.Item.{Item}
-use Rattle.cga_syntax.specs.declared.rule.Alternative.{Alternative}
+use Rattle.cga_rule.specs.declared.cond.Cond.{Cond}
+use Rattle.cga_rule.specs.declared.item.Item.{Item}
+use Rattle.cga_rule.specs.declared.rule.Alternative.{Alternative}
 use Rattle.cga_syntax.specs.Pieces.{usual, none_before, token, never, sign, named, whole, Pieces, probability, IsProbability, Writes, condition_pieces, alternative_pieces, rule_pieces}
 use Rattle.cga_form.specs.Reader.{at, begins}
 use Rattle.cga_parser.specs.Tokens.{a_sign, is_sign, a_name, a_whole, a_number, unless}

@@ -1,7 +1,7 @@
 -- The forms of the language.
 use Rattle.std.proofs.Common.{◌≡◌, List}
 use Rattle.cga_syntax.specs.declared.lexeme.Lexeme.{Lexeme}
-use Rattle.cga_syntax.specs.declared.rule.Rule.{Rule}
+use Rattle.cga_rule.specs.declared.rule.Rule.{Rule}
 use Rattle.cga_syntax.specs.Pieces.{rule_pieces}
 use Rattle.cga_syntax.specs.Spelling.{Spelled}
 use Rattle.cga_form.specs.Laws.{IsForm}

@@ -7,7 +7,7 @@ use Rattle.cga_syntax.specs.Brackets.{walk}
 use Rattle.cga_syntax.specs.Pieces.{rule_pieces}
 use Rattle.cga_syntax.specs.Printing.{printed, text_of, HaveTexts}
 use Rattle.cga_syntax.specs.Spelling.{Spelled}
-use Rattle.cga_syntax.specs.declared.rule.Rule.{Rule}
+use Rattle.cga_rule.specs.declared.rule.Rule.{Rule}
 use Rattle.cga_form.specs.Code.{seen}
 use Rattle.cga_form.specs.LineAnswers.{LineAnswers}
 

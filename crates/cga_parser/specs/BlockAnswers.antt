@@ -3,9 +3,9 @@ use Rattle.std.specs.Prelude.{◌≡◌, ℕ, false, List, [], ◌∷◌, ◌++�
 use Rattle.cga_lexer.specs.Line.{tokens_of}
 use Rattle.cga_lexer.specs.declared.token.Token.{Token}
 use Rattle.cga_syntax.specs.declared.lexeme.Lexeme.TheVariants as lexeme
-use Rattle.cga_syntax.specs.declared.grammar.Attribute.{Attribute}
-use Rattle.cga_syntax.specs.declared.grammar.Entry.{Entry}
-use Rattle.cga_syntax.specs.declared.grammar.Grammar.{Grammar}
+use Rattle.cga_rule.specs.declared.grammar.Attribute.{Attribute}
+use Rattle.cga_rule.specs.declared.grammar.Entry.{Entry}
+use Rattle.cga_rule.specs.declared.grammar.Grammar.{Grammar}
 use Rattle.cga_form.specs.declared.block_fault.BlockFault.{BlockFault}
 use Rattle.cga_form.specs.BlockAnswers as form
 use Rattle.cga_form.specs.BlockAnswers.{Line, is_long, Found}

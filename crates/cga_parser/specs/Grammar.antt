@@ -3,17 +3,17 @@ use Rattle.std.specs.Prelude.{ℕ, zero, suc, Bool, true, false, List, [], ◌�
 use Rattle.cga_lexer.specs.declared.sign.Sign.TheVariants as s
 use Rattle.cga_syntax.specs.declared.keyword.Keyword.TheVariants as k
 use Rattle.cga_syntax.specs.declared.lexeme.Lexeme.{Lexeme}
-use Rattle.cga_syntax.specs.declared.expr.Expr.{Expr, roll-Expr}
-use Rattle.cga_syntax.specs.declared.expr.Term.{Term, roll-Term}
-use Rattle.cga_syntax.specs.declared.expr.Added.{Added, roll-Added}
-use Rattle.cga_syntax.specs.declared.expr.Scaled.{Scaled}
-use Rattle.cga_syntax.specs.declared.expr.Factor.{Factor}
-use Rattle.cga_syntax.specs.declared.expr.Primary.{Primary}
-use Rattle.cga_syntax.specs.declared.expr.Primary.TheVariants as v
-use Rattle.cga_syntax.specs.declared.cond.Cond.{Cond, roll-Cond}
-use Rattle.cga_syntax.specs.declared.cond.Conj.{Conj, roll-Conj}
-use Rattle.cga_syntax.specs.declared.cond.Test.{Test}
-use Rattle.cga_syntax.specs.declared.cond.Test.TheVariants as t
+use Rattle.cga_rule.specs.declared.expr.Expr.{Expr, roll-Expr}
+use Rattle.cga_rule.specs.declared.expr.Term.{Term, roll-Term}
+use Rattle.cga_rule.specs.declared.expr.Added.{Added, roll-Added}
+use Rattle.cga_rule.specs.declared.expr.Scaled.{Scaled}
+use Rattle.cga_rule.specs.declared.expr.Factor.{Factor}
+use Rattle.cga_rule.specs.declared.expr.Primary.{Primary}
+use Rattle.cga_rule.specs.declared.expr.Primary.TheVariants as v
+use Rattle.cga_rule.specs.declared.cond.Cond.{Cond, roll-Cond}
+use Rattle.cga_rule.specs.declared.cond.Conj.{Conj, roll-Conj}
+use Rattle.cga_rule.specs.declared.cond.Test.{Test}
+use Rattle.cga_rule.specs.declared.cond.Test.TheVariants as t
 use Rattle.cga_word.specs.declared.axis.Axis.{Axis}
 use Rattle.cga_word.specs.declared.target.Target.{Target}
 use Rattle.cga_word.specs.declared.answer.Answer.{Answer}
@@ -26,13 +26,13 @@ use Rattle.cga_word.specs.declared.turn.Turn.TheVariants as turn
 use Rattle.cga_word.specs.declared.primitive.Primitive.{Primitive}
 use Rattle.cga_word.specs.declared.selector.Selector.{Selector}
 use Rattle.cga_word.specs.declared.selector.Selector.TheVariants as chosen
-use Rattle.cga_syntax.specs.declared.item.Size.{Size}
-use Rattle.cga_syntax.specs.declared.item.Size.TheVariants as size_of
-use Rattle.cga_syntax.specs.declared.item.Body.{Body, roll-Body}
-use Rattle.cga_syntax.specs.declared.item.Item.{Item}
-use Rattle.cga_syntax.specs.declared.item.Item.TheVariants as i
-use Rattle.cga_syntax.specs.declared.rule.Alternative.{Alternative}
-use Rattle.cga_syntax.specs.declared.rule.Rule.{Rule}
+use Rattle.cga_rule.specs.declared.item.Size.{Size}
+use Rattle.cga_rule.specs.declared.item.Size.TheVariants as size_of
+use Rattle.cga_rule.specs.declared.item.Body.{Body, roll-Body}
+use Rattle.cga_rule.specs.declared.item.Item.{Item}
+use Rattle.cga_rule.specs.declared.item.Item.TheVariants as i
+use Rattle.cga_rule.specs.declared.rule.Alternative.{Alternative}
+use Rattle.cga_rule.specs.declared.rule.Rule.{Rule}
 use Rattle.cga_parser.specs.declared.heads.ItemHead.{ItemHead}
 use Rattle.cga_parser.specs.declared.heads.ItemHead.TheVariants as item_head_of
 use Rattle.cga_parser.specs.declared.heads.SelectorHead.{SelectorHead}

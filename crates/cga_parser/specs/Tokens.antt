@@ -20,8 +20,8 @@ use Rattle.cga_syntax.specs.declared.keyword.Keyword.{Keyword}
 use Rattle.cga_syntax.specs.declared.keyword.Keyword.TheVariants as k
 use Rattle.cga_syntax.specs.declared.lexeme.Lexeme.{Lexeme}
 use Rattle.cga_syntax.specs.declared.lexeme.Lexeme.TheVariants as lexeme
-use Rattle.cga_syntax.specs.declared.cond.Relation.{Relation}
-use Rattle.cga_syntax.specs.declared.cond.Relation.TheVariants as relation
+use Rattle.cga_rule.specs.declared.cond.Relation.{Relation}
+use Rattle.cga_rule.specs.declared.cond.Relation.TheVariants as relation
 use Rattle.cga_parser.specs.declared.heads.PrimaryHead.{PrimaryHead}
 use Rattle.cga_parser.specs.declared.heads.PrimaryHead.TheVariants as primary
 use Rattle.cga_parser.specs.declared.heads.ScopeWord.{ScopeWord}

@@ -10,9 +10,9 @@ ghost use Rattle.cga_form.specs.declared.line_fault.LineFault.{LineFault};
 ghost use Rattle.cga_form.specs.declared.block_fault.BlockFault.{BlockFault};
 ghost use Rattle.cga_syntax.specs.Pieces.{rule_pieces};
 ghost use Rattle.cga_syntax.specs.Spelling.{Spelled};
-ghost use Rattle.cga_syntax.specs.declared.grammar.Grammar.{Grammar};
+ghost use Rattle.cga_rule.specs.declared.grammar.Grammar.{Grammar};
 ghost use Rattle.cga_syntax.specs.declared.lexeme.Lexeme.{Lexeme};
-ghost use Rattle.cga_syntax.specs.declared.rule.Rule.{Rule};
+ghost use Rattle.cga_rule.specs.declared.rule.Rule.{Rule};
 
 /// No tokens spell two rules.
 pub fn spells_one()

@@ -1,5 +1,5 @@
 use Rattle.std.proofs.Common.{◌≡◌, take}
-use Rattle.cga_syntax.proofs.copy.cond.+copy.Given as goal
+use Rattle.cga_rule.proofs.copy.cond.+copy.Given as goal
 
 abbrev pub invariant-copy_cond-loop-conj : goal.invariant-copy_cond-loop-conj
 invariant-copy_cond-loop-conj l = l.conjs ≡ take l.conj-index l.conj-items

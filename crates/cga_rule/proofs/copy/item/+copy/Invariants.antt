@@ -1,5 +1,5 @@
 use Rattle.std.proofs.Common.{◌≡◌, take}
-use Rattle.cga_syntax.proofs.copy.item.+copy.Given as goal
+use Rattle.cga_rule.proofs.copy.item.+copy.Given as goal
 
 abbrev pub invariant-copy_bodies-loop-body : goal.invariant-copy_bodies-loop-body
 invariant-copy_bodies-loop-body l = l.copy ≡ take l.body-index l.bodies
