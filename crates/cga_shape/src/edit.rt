@@ -1,7 +1,7 @@
 use crate::lot::Lot;
 use crate::sources::Sources;
 use cga_fraction::Fraction;
-use cga_syntax::{Grammar, Rule};
+use cga_rule::{Grammar, Rule};
 use cga_word::{Mode, Name};
 
 /// A change of the sources.

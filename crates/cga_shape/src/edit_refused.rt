@@ -1,5 +1,5 @@
 use cga_fraction::NoMemory;
-use cga_syntax::CheckFault;
+use cga_rule::CheckFault;
 use cga_word::Name;
 use thiserror::Error;
 

@@ -3,7 +3,7 @@ ghost use Rattle.std.specs.Prelude.{◌≡◌, IfOk};
 use crate::copy::copy_lots;
 use crate::lot::Lot;
 use cga_fraction::{List, NoMemory};
-use cga_syntax::Grammar;
+use cga_rule::Grammar;
 use cga_word::Mode;
 use std::alloc::Global;
 

@@ -4,7 +4,6 @@ ghost use Rattle.cga_syntax.specs.Pieces as spec;
 ghost use Rattle.cga_syntax.specs.Forms.{scope_size};
 ghost use Rattle.cga_syntax.specs.Printing.{printed_on};
 
-use crate::expr::{Added, Expr, Factor, Primary, Scaled, Term};
 use crate::keyword::Keyword;
 use crate::lexeme::Lexeme;
 use crate::print::gap::Gap;
@@ -15,6 +14,7 @@ use crate::print::token::{
 use crate::print::words::size_word;
 use cga_fraction::{List, NoMemory};
 use cga_lexer::Sign;
+use cga_rule::{Added, Expr, Factor, Primary, Scaled, Term};
 use cga_word::Axis;
 
 #[cycle(print)]

@@ -5,12 +5,12 @@ ghost use Rattle.cga_syntax.specs.Pieces as spec;
 ghost use Rattle.cga_syntax.specs.Forms.{name_pieces};
 ghost use Rattle.cga_syntax.specs.Printing.{printed_on};
 
-use crate::expr::Expr;
 use crate::print::expr::push_expr;
 use crate::print::mark::Mark;
 use crate::print::token::{push_named, push_sign};
 use cga_fraction::{List, NoMemory};
 use cga_lexer::Sign;
+use cga_rule::Expr;
 use cga_word::Name;
 
 /// The greatest number of arguments behind the first.

@@ -4,8 +4,6 @@ ghost use Rattle.cga_syntax.specs.Pieces as spec;
 ghost use Rattle.cga_syntax.specs.Forms as forms;
 ghost use Rattle.cga_syntax.specs.Printing.{printed_on};
 
-use crate::expr::Expr;
-use crate::item::Size;
 use crate::keyword::Keyword;
 use crate::lexeme::Lexeme;
 use crate::print::expr::push_expr;
@@ -14,6 +12,7 @@ use crate::print::token::{push_keyword, push_lexeme, push_sign, push_text, push_
 use crate::print::words::{axis_text, known, side_text, solid_text, turn_keyword};
 use cga_fraction::{List, NoMemory};
 use cga_lexer::Sign;
+use cga_rule::{Expr, Size};
 use cga_word::{Axis, Primitive, Selector, Turn};
 
 #[tactic(auto, using(crate::proofs::Printed::on_join))]
