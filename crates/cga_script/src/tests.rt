@@ -1,5 +1,7 @@
 // Lines with ample memory, cut from pieces: their bytes, and which of them are long.
 use crate::Lines;
+use cga_fraction::NoMemory;
+use std::alloc::Global;
 use std::test::Fail;
 
 #[test]
@@ -18,16 +20,22 @@ fn cuts_pieces_into_lines(rt: HostRuntime) -> Result<(), Fail> {
     Ok(())
 }
 
+// How much is given of a line of so many bytes and a CR, and whether it is long.
+fn given(alloc: Global, count: usize) -> Result<(usize, bool), NoMemory> {
+    let mut lines = Lines::new(alloc)?;
+    let mut piece = Vec::new(alloc);
+    for _ in 0..count {
+        piece.push(b'x')?;
+    }
+    piece.extend_from_slice(b"\r\n")?;
+    lines.feed(piece.as_slice());
+    Ok((lines.line().len(), lines.is_long()))
+}
+
 #[test]
 fn tells_long_lines(rt: HostRuntime) -> Result<(), Fail> {
-    let mut lines = Lines::new(rt.alloc())?;
-    for (count, long) in [(4096, false), (4097, true), (9000, true)] {
-        let bytes = [b'x'; 9000];
-        assert!(rt; !lines.feed(&bytes[..count]).ready);
-        assert!(rt; lines.feed(b"\r\n").ready);
-        assert_eq!(rt; lines.is_long(), long);
-        assert_eq!(rt; lines.line(), &bytes[..4096]);
-        lines.clear();
-    }
+    assert_eq!(rt; given(rt.alloc(), 4096)?, (4096, false));
+    assert_eq!(rt; given(rt.alloc(), 4097)?, (4096, true));
+    assert_eq!(rt; given(rt.alloc(), 9000)?, (4096, true));
     Ok(())
 }

@@ -2,4 +2,4 @@ use Rattle.cga_top.proofs.Known.{appends_all}
 use Rattle.cga_top.proofs.pump.reply_to.Goals as goal
 
 pub returns-in-Err-flush-clause-err : goal.returns-in-Err-flush-clause-err
-returns-in-Err-flush-clause-err g c = λ s stands. appends_all _ _ _ _ (c.in-Ok.ensures.ok s stands).written c.in-Err-flush.ensures.bytes
+returns-in-Err-flush-clause-err g c = λ s at_it. appends_all _ _ _ _ (c.in-Ok.ensures.ok s at_it).written c.in-Err-flush.ensures.bytes
