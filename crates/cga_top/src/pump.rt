@@ -1,5 +1,5 @@
 ghost use Rattle.std.specs.Prelude.{◌≡◌, ◌++◌, OnOk, OnErr, IsTrue, []};
-ghost use Rattle.std.specs.Io.KnownBytes.{Appends};
+ghost use Rattle.std.specs.Io.KnownBytes.{Appends, Keeps};
 ghost use Rattle.cga_outside.specs.Causes.{HasCause};
 ghost use Rattle.cga_script.specs.Lines.{cut, lines_of};
 ghost use Rattle.cga_script.specs.Pending.{kept_of, ready_line};
@@ -102,6 +102,18 @@ pub(crate) fn take_piece<K: Sink, E: Ledger, T: Ledger>(
     Ok(())
 }
 
+// Sends the replies on.
+fn send_on<K: Sink>(out: &mut K) -> Result<(), Halt>
+    ensures flushed { OnOk result (IsTrue (K.flushed out.new)) }
+    ensures faults { FaultsBy result (K.faults out.old) (K.faults out.new) }
+    ensures bytes { Keeps (K.held out.old) (K.held out.new) }
+{
+    match out.flush() {
+        Ok(()) => Ok(()),
+        Err(Failed) => Err(Halt::WriteFault),
+    }
+}
+
 /// Replies to the lines that a piece ends, and sends the replies on.
 pub(crate) fn reply_to<K: Sink, E: Ledger, T: Ledger>(
     session: &mut Session,
@@ -130,8 +142,8 @@ pub(crate) fn reply_to<K: Sink, E: Ledger, T: Ledger>(
         Ok(()) => {}
         Err(halt) => return Err(halt),
     }
-    match out.flush() {
+    match send_on(out) {
         Ok(()) => Ok(()),
-        Err(Failed) => Err(Halt::WriteFault),
+        Err(halt) => Err(halt),
     }
 }
