@@ -11,9 +11,12 @@ pub record Pending : Type 0 where
   pub kept : List ℕ
   pub ending : Ending
 
--- as many bytes are kept: one more than a line with its CR may have
+-- the most bytes of a line that are kept: one more than the longest line with its CR has
+abbrev pub kept_limit : ℕ
+kept_limit = 4098
+
 abbrev pub kept_of : List ℕ → List ℕ
-kept_of bytes = take 4098 bytes
+kept_of bytes = take kept_limit bytes
 
 -- the line that is ready: an LF takes one CR before it away
 abbrev pub ended_by : Ending → List ℕ → List ℕ

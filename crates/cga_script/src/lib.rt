@@ -10,3 +10,6 @@ mod lines;
 pub use ending::Ending;
 pub use fed::Fed;
 pub use lines::Lines;
+
+#[cfg(test)]
+mod tests;

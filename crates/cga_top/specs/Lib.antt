@@ -5,10 +5,15 @@ pub mod Forms
 pub mod Blocks
 pub mod Texts
 pub mod Drawing
+pub mod State
+pub mod Effect
+pub mod Replies
 pub mod Output
 pub mod Session
-pub mod Writes
+pub mod Prefixes
 pub mod Wrote
 pub mod Progress
+pub mod Outside
+pub mod Faults
 pub mod Reads
-pub mod Top
+pub mod Statuses
