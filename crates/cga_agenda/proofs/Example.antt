@@ -12,7 +12,7 @@ use Rattle.cga_order.specs.Agenda.{Node, members_of, Keeps, HasChildren, IsSettl
 use Rattle.cga_agenda.specs.Edit.{IsEdit, world_of, old_world, new_world, renewed}
 use Rattle.cga_agenda.specs.Work.{IsFresh, IsBegun, renewed_child, HasRenewed, IsTurnOf, IsWorking, IsStart}
 use Rattle.cga_agenda.specs.Record.{Drawn, Draws, IsChange, IsRecord}
-use Rattle.cga_agenda.proofs.Work.{next}
+use Rattle.cga_agenda.proofs.Working.{next}
 use Rattle.cga_agenda.proofs.Begin.{begins}
 use Rattle.cga_agenda.proofs.Exact.{exact}
 use Rattle.cga_agenda.proofs.Record.{record_begins, record_next, record_exact}

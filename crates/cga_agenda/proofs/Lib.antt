@@ -1,5 +1,5 @@
 pub mod Lists
-pub mod Work
+pub mod Working
 pub mod Begin
 pub mod Exact
 pub mod Record

@@ -81,15 +81,6 @@ module _ {N A B F P : Type 0} (edit : Edit N A B F P) where
   abbrev pub Kept : List (Placed N F P) → List (Placed N F P) → N → Type 0
   Kept old new n = (depth : ℕ) × KeptAt old new depth n
 
-  -- the same, said by prefixes: each prefix of the path, itself included, names a non-instance of both
-  -- lists, as the same shape with the same priorities
-  abbrev pub KeptByPrefix : List (Placed N F P) → List (Placed N F P) → N → Type 0
-  KeptByPrefix old new n =
-      NonInstance old n × NonInstance new n
-      × ((i : ℕ) → i ≤ length (edit.chain n).path
-      → (m : N) × ((edit.chain m).lot ≡ (edit.chain n).lot)
-      × ((edit.chain m).path ≡ take i (edit.chain n).path) × NonInstance old m × NonInstance new m)
-
   -- the shape is equal, and so are its setting and its answers at its own step
   abbrev pub SameInputs : List (Placed N F P) → List (Placed N F P) → N → Type 0
   SameInputs old new n =

@@ -9,7 +9,7 @@ use Rattle.cga_order.specs.Agenda.{Node}
 use Rattle.cga_agenda.specs.Edit.{Side, Edit, IsEdit}
 use Rattle.cga_agenda.specs.Work.{IsBegun, IsTurnOf, IsStart}
 use Rattle.cga_agenda.specs.Record.{IsChange}
-use Rattle.cga_agenda.specs.Laws.{IsExact, IsExactRecord}
+use Rattle.cga_agenda.specs.Exact.{IsExact, IsExactRecord}
 
 -- a root, its child with the priority 1 or 2, and the instance below it in either case
 pub data Site : Type 0 where
@@ -114,5 +114,5 @@ pub record ExampleWorks : Type 0 where
   pub went : IsChange nodes_0 nodes_1 (record { shape = i1; solid = 0 } ∷ []) []
   pub came : IsChange nodes_1 nodes_2 [] (record { shape = i2; solid = 0 } ∷ [])
   -- so c2 alone was touched and expanded, and the record is the two instances
-  pub exact : IsExact Site ℕ ℕ ℕ ℕ edit nodes_0 nodes_2 (c2 ∷ [])
-  pub recorded : IsExactRecord Site ℕ ℕ ℕ ℕ edit nodes_0 nodes_2 (record { shape = i1; solid = 0 } ∷ []) (record { shape = i2; solid = 0 } ∷ [])
+  pub exact : IsExact edit nodes_0 nodes_2 (c2 ∷ [])
+  pub recorded : IsExactRecord edit nodes_0 nodes_2 (record { shape = i1; solid = 0 } ∷ []) (record { shape = i2; solid = 0 } ∷ [])

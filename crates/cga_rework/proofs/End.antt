@@ -12,12 +12,12 @@ use Rattle.cga_agenda.specs.Edit.{Edit, IsEdit, new_world, NonInstance}
 use Rattle.cga_rework.specs.Ranked.{Ranked, ranked_world, edit_of, unranked, unranked_drawn}
 use Rattle.cga_agenda.specs.Work.{Once, IsWorking, IsStart}
 use Rattle.cga_agenda.specs.Record.{Drawn, drawn, IsRecord}
-use Rattle.cga_agenda.specs.Budget.{shapes_of, IsKnown}
-use Rattle.cga_agenda.specs.Laws.{IsUpdate}
+use Rattle.cga_agenda.specs.Known.{shapes_of, IsKnown}
+use Rattle.cga_agenda.proofs.Update.{IsUpdate}
 use Rattle.cga_rework.proofs.Lists.{Among-map, map-Among, Once-map, count-map, drawn-unranked}
 use Rattle.cga_order.proofs.Places.{slice_get-map}
 use Rattle.cga_agenda.proofs.Lists.{length-once, Once-index}
-use Rattle.cga_agenda.proofs.Work.{path_not_empty}
+use Rattle.cga_agenda.proofs.Working.{path_not_empty}
 use Rattle.cga_agenda.proofs.Budget.{length-map, known_derived, turned_derived, all_derived}
 use Rattle.cga_agenda.proofs.Update.{update}
 use Rattle.cga_derivation.specs.Derivation.{IsDerivation, reached, derive, NothingWaits, IsDerived}
@@ -131,7 +131,7 @@ module _ {S A B F P : Type 0} (shapes : Shapes S) where
 
       module _ (gone come : List (Drawn (Ranked S) P)) (kept : IsRecord edit start now worked gone come) (empty : (n : Ranked S) (k : Kind F P) (a : A) → Keeps now n k a → queued n ≡ false) (start_once : Once (shapes_of (members_of start))) (now_once : Once (shapes_of (members_of now))) (i j : ℕ) (quiet_old : NothingWaits (derivation_of shapes old) (reached (derivation_of shapes old) i)) (quiet_new : NothingWaits (derivation_of shapes new) (reached (derivation_of shapes new) j)) where
         module _ (o : SitedRun shapes old laws.was i) (w : SitedRun shapes new laws.is j) where
-          done : SameMembers (members_of now) w.1 × IsUpdate (Ranked S) A B F P edit o.1 w.1 worked gone come
+          done : SameMembers (members_of now) w.1 × IsUpdate edit o.1 w.1 worked gone come
           done = update edit made start started now queued turned worked gone come good kept empty (once_roots old laws.was) (once_roots new laws.is) start_once now_once o.0 w.0 o.1 w.1 o.2 (quiet shapes old laws.was i quiet_old o) w.2 (quiet shapes new laws.is j quiet_new w)
 
           size : length now ≡ length (new_list j)

@@ -14,7 +14,7 @@ use Rattle.cga_agenda.specs.Edit.{Edit, NonInstance}
 use Rattle.cga_rework.specs.Ranked.{Ranked, placed_as, placed, all_placed, chain_of, ranked_world, edit_of, unranked}
 use Rattle.cga_rework.proofs.Lists.{Among-map}
 use Rattle.cga_order.proofs.Places.{slice_get-map}
-use Rattle.cga_agenda.proofs.Work.{path_not_empty}
+use Rattle.cga_agenda.proofs.Working.{path_not_empty}
 use Rattle.cga_derivation.specs.Derivation.{IsDerivation}
 use Rattle.cga_rework.specs.Rules.{Shapes, Rules, derivation_of}
 use Rattle.cga_rework.specs.Touched.{Kept}

@@ -14,7 +14,7 @@ use Rattle.cga_order.specs.Run.{IsStep, Reached}
 use Rattle.cga_order.proofs.Members.{Has-index, Has-start, waits}
 use Rattle.cga_rework.specs.Ranked.{Ranked, placed_as, placed, all_placed, chain_of, ranked_world, unranked}
 use Rattle.cga_derivation.specs.Sites.{fitted}
-use Rattle.cga_agenda.specs.Own.{AnsweredIn}
+use Rattle.cga_agenda.proofs.Own.{AnsweredIn}
 use Rattle.cga_derivation.proofs.Sites.{length-fitted, fitted-same}
 use Rattle.cga_rework.proofs.Lists.{Among-map}
 use Rattle.cga_order.proofs.Places.{slice_get-map}

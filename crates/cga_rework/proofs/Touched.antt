@@ -6,7 +6,7 @@ use Rattle.cga_order.specs.declared.placed.Kind.TheVariants.{Waiting}
 use Rattle.cga_order.specs.Consistent as order
 use Rattle.cga_agenda.specs.Edit.{Edit, answers_at, NonInstance}
 use Rattle.cga_rework.specs.Ranked.{Ranked, ranked_world, edit_of, unranked}
-use Rattle.cga_agenda.specs.Own.{AnsweredIn}
+use Rattle.cga_agenda.proofs.Own.{AnsweredIn}
 use Rattle.cga_agenda.proofs.Own.{own, taken-in}
 use Rattle.cga_agenda.proofs.Prefixes.{to_prefixes}
 use Rattle.cga_derivation.specs.Derivation.{IsDerivation, reached, NothingWaits}

@@ -8,10 +8,10 @@ use Rattle.cga_order.specs.Consistent.{SameMembers}
 use Rattle.cga_order.specs.Agenda.{Node, members_of, Keeps}
 use Rattle.cga_derivation.specs.Derivation.{Derivation, IsDerivation, IsDerived, derive}
 use Rattle.cga_agenda.specs.Edit.{IsEdit, NonInstance, renewed}
-use Rattle.cga_agenda.specs.Work.{Once, NoneQueued, IsStart, IsWorking}
+use Rattle.cga_agenda.specs.Work.{Once, StandOnce, NoneQueued, IsStart, IsWorking}
 use Rattle.cga_agenda.specs.Record.{Drawn, drawn, IsRecord}
-use Rattle.cga_agenda.specs.Budget.{shapes_of, IsKnown, IsOverBudget}
-use Rattle.cga_agenda.specs.Loop.{IsOver, IsWithin}
+use Rattle.cga_agenda.specs.Known.{IsKnown, IsOverBudget}
+use Rattle.cga_agenda.specs.Loop.{State, IsOver, IsDone}
 use Rattle.cga_rework.specs.Rules.{Shapes, Rules, IsRulesEdit, derivation_of, shapes_from, rules_from, no_lots, Readings, IsReadBy}
 use Rattle.cga_rework.specs.Ranked.{Ranked, edit_of, ranked_world, unranked, unranked_drawn}
 use Rattle.cga_rework.specs.Touched.{Answered, Kept, SameInputs, Touched}
@@ -83,8 +83,8 @@ module _ (S A B F P : Type 0) where
       (shapes : Shapes S) (old new : Rules S A B F P) → IsRulesEdit shapes old new
       → (start now : List (Node (Ranked S) A F P)) (queued : Ranked S → Bool) (turned worked : List (Ranked S))
       (gone come : List (Drawn (Ranked S) P))
-      → IsStart (edit_of shapes old new) start → Once (shapes_of (members_of start))
-      → IsWorking (edit_of shapes old new) start now queued turned worked → Once (shapes_of (members_of now))
+      → IsStart (edit_of shapes old new) start → StandOnce start
+      → IsWorking (edit_of shapes old new) start now queued turned worked → StandOnce now
       → IsRecord (edit_of shapes old new) start now worked gone come
       → NoneQueued (edit_of shapes old new) now queued
       → (before after : List (Placed S F P))
@@ -135,17 +135,23 @@ module _ (S A B F P : Type 0) where
       → renewed (edit_of shapes old new).renew ((edit_of shapes old new).old.expand n a)
       ≡ (edit_of shapes old new).old.expand n a
 
-  -- what the loop over the agenda ends with, in plain words
+  -- what the loop over the agenda ends with
   pub record LoopIsExact : Type 0 where
+    -- over the budget, so is the new derivation
     pub over : (shapes : Shapes S) (old new : Rules S A B F P) → IsRulesEdit shapes old new
-        → (budget calls : ℕ) → IsOver (edit_of shapes old new) budget calls
+        → (first last : State (Ranked S) A F P) (budget : ℕ)
+        → IsOver (edit_of shapes old new) first last budget
         → derive (derivation_of shapes new) budget ≡ None
-    pub within : (shapes : Shapes S) (old new : Rules S A B F P) → IsRulesEdit shapes old new
-        → (start now : List (Node (Ranked S) A F P)) → IsStart (edit_of shapes old new) start
-        → (budget calls : ℕ) → IsWithin (edit_of shapes old new) start now budget calls
+    -- within it, the rework is exact, and there was a call of expand for each shape that was expanded
+    pub done : (shapes : Shapes S) (old new : Rules S A B F P) → IsRulesEdit shapes old new
+        → (start : List (Node (Ranked S) A F P)) → IsStart (edit_of shapes old new) start → StandOnce start
+        → (first last : State (Ranked S) A F P) (budget : ℕ)
+        → IsDone (edit_of shapes old new) start first last budget
         → (before : List (Placed S F P)) → IsDerived (derivation_of shapes old) before
         → (after : List (Placed S F P)) × (derive (derivation_of shapes new) budget ≡ Some after)
-        × ((worked : List (Ranked S)) × IsExactWork shapes old new now worked before after × (calls ≡ length worked))
+        × ((worked : List (Ranked S))
+        × IsExactRework shapes old new last.nodes worked last.gone last.come before after
+        × (last.calls ≡ first.calls + length worked))
 
   -- sources that read no more than the settings meet what two sources have to
   abbrev pub ReadingsMakeEdits : Type 0
