@@ -1,5 +1,5 @@
 -- What the loop over an agenda keeps, and how it ends.
-use Rattle.std.proofs.Common.{◌≡◌, ℕ, ◌+◌, ◌≤◌, ◌<◌, List, [], ◌∷◌, ◌++◌, length, Bool, true, false, refl, sym, ap, ◌∙◌, subst, ◌⊎◌, inl, inr, Option, Some, None, arith, length-append}
+use Rattle.std.proofs.Common.{◌≡◌, ℕ, ◌+◌, ◌≤◌, ◌<◌, List, [], ◌∷◌, ◌++◌, length, Bool, true, false, refl, sym, ◌∙◌, subst, ◌⊎◌, inl, inr, Option, Some, None, arith, length-append}
 use Rattle.std.specs.Prelude.{MatchOption}
 use Rattle.cga_order.specs.Agenda.{Node, asked}
 use Rattle.cga_agenda.specs.Edit.{Edit, new_world}

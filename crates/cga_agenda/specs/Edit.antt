@@ -1,5 +1,5 @@
 -- An edit: old and new sources of one mode over one type of shapes, and which shapes it touches.
-use Rattle.std.specs.Prelude.{◌≡◌, ℕ, zero, suc, ◌≤◌, List, [], map, length, take, Bool, true, false, ◌⊎◌, Result, Ok, Err}
+use Rattle.std.specs.Prelude.{◌≡◌, ℕ, zero, suc, List, [], map, Bool, true, false, ◌⊎◌, Result, Ok, Err}
 use Rattle.cga_word.specs.declared.mode.Mode.{Mode}
 use Rattle.cga_order.specs.Chain.{Chain, IsChild}
 use Rattle.cga_order.specs.World.{World, IsWorld, Has, shapes_where, is_instance}

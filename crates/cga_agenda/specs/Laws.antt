@@ -1,5 +1,5 @@
 -- What is proved of the work of an edit.
-use Rattle.std.specs.Prelude.{◌≡◌, ℕ, ◌<◌, ◌⊎◌, List, [], ◌∷◌, ◌++◌, Bool, length}
+use Rattle.std.specs.Prelude.{ℕ, ◌<◌, ◌⊎◌, List, [], ◌∷◌, ◌++◌, Bool, length}
 use Rattle.cga_order.specs.Chain.{IsChild}
 use Rattle.cga_order.specs.World.{IsEarlier, birth_of, stamp_of}
 use Rattle.cga_order.specs.Agenda.{Node}
