@@ -17,16 +17,19 @@ module _ {N A B F P : Type 0} (edit : Edit N A B F P) (start now : List (Node N 
     pub touched : (n : N) → Among n worked → Touched edit (members_of start) (members_of now) n
     pub all : (n : N) → Touched edit (members_of start) (members_of now) n → Among n worked
 
-  -- the record of change: what came are instances below touched shapes, what went is no child of a kept
-  -- shape of equal inputs, and both account for the instances before and after
+  -- the record of change
   pub record IsExactRecord (gone come : List (Drawn N P)) : Type 0 where
+    -- each is named once
     pub gone_once : Once gone
     pub come_once : Once come
+    -- what came is an instance, and a child of a touched shape
     pub each_come : (d : Drawn N P) → Among d come
         → Draws now d × ((parent : N) × (i : ℕ) × IsChild (edit.chain parent) i (edit.chain d.shape)
         × Touched edit (members_of start) (members_of now) parent)
+    -- what went was an instance, and is no child of a kept shape of equal inputs
     pub each_gone : (d : Drawn N P) → Among d gone
         → Draws start d × ((parent : N) (i : ℕ) → IsChild (edit.chain parent) i (edit.chain d.shape)
         → Kept edit (members_of start) (members_of now) parent
         → SameInputs edit (members_of start) (members_of now) parent → ⊥)
+    -- both account for the instances before and after, each as often
     pub balance : Balances (members_of start) come (members_of now) gone
