@@ -11,3 +11,4 @@ pub mod Loop
 pub mod Late
 pub mod Own
 pub mod Example
+pub mod OneLot

@@ -6,3 +6,4 @@ pub mod Exact
 pub mod Loop
 pub mod Laws
 pub mod Example
+pub mod OneLot

@@ -90,3 +90,9 @@ module _ {N A B F P : Type 0} (edit : Edit N A B F P) where
   abbrev pub IsEnded : List (Node N A F P) → State N A F P → State N A F P → ℕ → Ended → Type 0
   IsEnded start first last budget Within = IsDone start first last budget
   IsEnded start first last budget OverBudget = IsOver first last budget
+
+  -- from whatever nodes the edit started, if they and the first state are ready for it
+  abbrev pub Ends : State N A F P → State N A F P → ℕ → ℕ → Ended → Type 0
+  Ends first last roots budget ended =
+      (start : List (Node N A F P)) → IsReady start first roots
+      → IsEnded start first last budget ended

@@ -1,6 +1,5 @@
-ghost use Rattle.std.specs.Prelude.{IfOk, List};
-ghost use Rattle.cga_order.specs.Agenda.{Node};
-ghost use Rattle.cga_agenda.specs.Loop.{IsReady, IsEnded};
+ghost use Rattle.std.specs.Prelude.{IfOk};
+ghost use Rattle.cga_agenda.specs.Loop.{Ends};
 
 use crate::ended::Ended;
 use crate::worker::Worker;
@@ -15,9 +14,7 @@ pub fn work<N, A, B, F, P, W: Worker<N, A, B, F, P>>(
     roots: u32,
     budget: u32,
 ) -> Result<Ended, NoMemory>
-    ghost start: { List (Node N A F P) }
-    requires { IsReady W.edit start (W.state worker.old) roots }
-    ensures { IfOk result (λ ended. IsEnded W.edit start (W.state worker.old) (W.state worker.new) budget ended) }
+    ensures { IfOk result (λ ended. Ends W.edit (W.state worker.old) (W.state worker.new) roots budget ended) }
 {
     let mut known = u64::from(roots);
     let mut turns: u32 = 0;

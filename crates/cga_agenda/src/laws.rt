@@ -2,6 +2,7 @@
 //! which a caller's proof can cite.
 
 ghost use Rattle.cga_agenda.specs.Example.{ExampleWorks};
+ghost use Rattle.cga_agenda.specs.OneLot.{ALotComes};
 ghost use Rattle.cga_agenda.specs.Laws.{WorkBegins, TurnsKeepWorking, WorkIsExact};
 ghost use Rattle.cga_agenda.specs.Laws.{RecordBegins, TurnsKeepRecord, RecordIsExact};
 ghost use Rattle.cga_agenda.specs.Laws.{KnownGrows, OverBudgetIsExact, BelowIsLate};
@@ -45,6 +46,12 @@ pub fn known_grows<N, A, B, F, P>()
 /// an empty agenda it is so exactly where there are more nodes.
 pub fn over_budget_is_exact<N, A, B, F, P>()
     ensures { OverBudgetIsExact N A B F P }
+{}
+
+/// What the loop wants of a worker can be met: a lot comes where there was none, and its root is
+/// expanded.
+pub fn a_lot_comes()
+    ensures { ALotComes }
 {}
 
 /// The premises can be met: where the priority of one child's symbol changes, its parent's turn
