@@ -1,16 +1,16 @@
 -- The example of a lot that comes: its premises, and its one turn.
-use Rattle.std.proofs.Common.{◌≡◌, ◌≢◌, ℕ, zero, suc, ◌+◌, List, [], ◌∷◌, ◌++◌, Bool, true, false, refl, sym, ap, ◌∙◌, subst, ◌⊎◌, inl, inr, Result, Ok, Err, Option, Some, None, arith, length, length-append}
+use Rattle.std.proofs.Common.{◌≡◌, ℕ, zero, suc, ◌+◌, List, [], ◌∷◌, true, false, refl, sym, ap, ◌∙◌, inl, inr, Result, Ok, Option, Some, None, arith, length, length-append}
 use Rattle.std.specs.Prelude.{slice_get}
-use Rattle.cga_order.specs.Chain.{Chain, IsChild}
-use Rattle.cga_order.specs.World.{World, IsWorld, Among, is_instance}
+use Rattle.cga_order.specs.Chain.{IsChild}
+use Rattle.cga_order.specs.World.{is_instance}
 use Rattle.cga_order.specs.declared.placed.Placed.{Placed}
 use Rattle.cga_order.specs.declared.placed.Kind.{Kind}
 use Rattle.cga_order.specs.declared.placed.Kind.TheVariants.{Waiting, Done}
 use Rattle.cga_order.specs.Agenda.{Node, Keeps, IsTree}
-use Rattle.cga_agenda.specs.Edit.{IsEdit, world_of, old_world, new_world}
-use Rattle.cga_agenda.specs.Work.{IsStart, IsBegun, IsTurnOf, Expands}
+use Rattle.cga_agenda.specs.Edit.{IsEdit, new_world}
+use Rattle.cga_agenda.specs.Work.{IsStart, IsBegun, Expands}
 use Rattle.cga_agenda.specs.Record.{IsChange}
-use Rattle.cga_agenda.specs.Loop.{State, Turns, IsReady}
+use Rattle.cga_agenda.specs.Loop.{Turns, IsReady}
 use Rattle.cga_agenda.specs.OneLot.{one_lot, state_when, ALotComes}
 
 abbrev K : Type 0
@@ -104,7 +104,7 @@ no_change = record {
   balance = λ test. refl;
 }
 
-ready : IsReady one_lot [] (state_when false) 1
+pub ready : IsReady one_lot [] (state_when false) 1
 ready = record {
   laws = laws;
   started = started;
@@ -131,7 +131,7 @@ expands = record {
       );
 }
 
-turn : Turns one_lot (state_when false) (state_when true) 0
+pub turn : Turns one_lot (state_when false) (state_when true) 0
 turn = (
   0,
   true,

@@ -16,3 +16,6 @@ mod worker;
 pub use agenda::work;
 pub use ended::Ended;
 pub use worker::Worker;
+
+#[cfg(test)]
+mod tests;

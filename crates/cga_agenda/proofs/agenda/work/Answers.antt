@@ -1,4 +1,4 @@
-use Rattle.std.proofs.Common.{ℕ, ◌+◌, ◌≤◌, ◌<◌, ◌⊎◌, inl, inr, arith, length}
+use Rattle.std.proofs.Common.{◌+◌, ◌<◌, ◌⊎◌, inl, inr, arith}
 use Rattle.cga_agenda.proofs.Loop.{knows_first, knows_next, over_early, moved, idle, ends_over, ends_done}
 use Rattle.cga_agenda.proofs.agenda.work.Goals as goal
 
