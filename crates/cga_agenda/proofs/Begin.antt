@@ -9,7 +9,7 @@ use Rattle.cga_order.proofs.Maxima.{either}
 use Rattle.cga_order.proofs.Turns.{SameAt, asks_same}
 use Rattle.cga_agenda.specs.Edit.{Side, Edit, IsEdit, world_of, old_world, new_world, NonInstance, Kept}
 use Rattle.cga_agenda.specs.Work.{IsBegun, IsOld, IsWorking, IsStart}
-use Rattle.cga_agenda.proofs.Work.{ChildrenFrom, ChildrenTo, Keeps-NonInstance, NonInstance-Keeps, still_settled, settled_done, kept_new, was_right, root_no_child}
+use Rattle.cga_agenda.proofs.Working.{ChildrenFrom, ChildrenTo, Keeps-NonInstance, NonInstance-Keeps, still_settled, settled_done, kept_new, was_right, root_no_child}
 
 module _ {N A B F P : Type 0} (edit : Edit N A B F P) where
   abbrev Nodes : Type 0

@@ -24,9 +24,9 @@ use Rattle.cga_order.proofs.Unique.{has_made, same_members}
 use Rattle.cga_agenda.specs.Edit.{Edit, IsEdit, new_world}
 use Rattle.cga_agenda.specs.Work.{Once, next_worked, IsBegun, Expands, IsTurnOf, IsWorking, NoneQueued, IsStart}
 use Rattle.cga_agenda.specs.Record.{IsMade}
-use Rattle.cga_agenda.specs.Budget.{shapes_of, made_by, next_known, IsKnown}
+use Rattle.cga_agenda.specs.Known.{shapes_of, made_by, next_known, IsKnown}
 use Rattle.cga_agenda.proofs.Lists.{Among-append, Once-append, Once-index, length-once, Has-Among, Among-Has}
-use Rattle.cga_agenda.proofs.Work.{parents_same, root_no_child, not_worked}
+use Rattle.cga_agenda.proofs.Working.{parents_same, root_no_child, not_worked}
 use Rattle.cga_agenda.proofs.Record.{made_stays, made_on}
 
 pub length-map : {X Y : Type 0} (f : X → Y) (xs : List X) → length (map f xs) ≡ length xs

@@ -6,8 +6,8 @@ use Rattle.cga_order.specs.Agenda.{Node, members_of, Keeps, IsRight}
 use Rattle.cga_order.proofs.Turns.{right_consistent}
 use Rattle.cga_agenda.specs.Edit.{Edit, IsEdit, new_world, Touched}
 use Rattle.cga_agenda.specs.Work.{IsWorking, IsStart}
-use Rattle.cga_agenda.specs.Laws.{IsExact}
-use Rattle.cga_agenda.proofs.Work.{Keeps-NonInstance, NonInstance-Keeps, settled_done, was_right}
+use Rattle.cga_agenda.specs.Exact.{IsExact}
+use Rattle.cga_agenda.proofs.Working.{Keeps-NonInstance, NonInstance-Keeps, settled_done, was_right}
 
 module _ {N A B F P : Type 0} (edit : Edit N A B F P) (laws : IsEdit edit) (start : List (Node N A F P)) (started : IsStart edit start) (now : List (Node N A F P)) (queued : N → Bool) (turned worked : List N) (good : IsWorking edit start now queued turned worked) (empty : (n : N) (k : Kind F P) (a : A) → Keeps now n k a → queued n ≡ false) where
   abbrev w : World N A F P
@@ -43,7 +43,7 @@ module _ {N A B F P : Type 0} (edit : Edit N A B F P) (laws : IsEdit edit) (star
       setting : (k : Kind F P) (a : A) → (queued n ≡ true) ⊎ (edit.old.setting n ≡ edit.new.setting n) → Keeps now n k a → edit.old.setting n ≡ edit.new.setting n
       setting k a s h = elim s [ inl q ↦ (let x : true ≡ false = sym q ∙ empty n k a h in cc) | inr e ↦ e ]
 
-  pub exact : IsExact N A B F P edit start now worked
+  pub exact : IsExact edit start now worked
   exact = record {
     consistent = right_consistent w laws.new now queued None good.tree good.right (λ n k a h q b. let x : true ≡ false = sym q ∙ empty n k a h in cc);
     once = good.once;

@@ -1,5 +1,5 @@
 pub mod Lists
-pub mod Work
+pub mod Working
 pub mod Begin
 pub mod Exact
 pub mod Record
@@ -11,3 +11,4 @@ pub mod Loop
 pub mod Late
 pub mod Own
 pub mod Example
+pub mod OneLot

@@ -6,7 +6,7 @@ use Rattle.cga_order.specs.World.{World, IsWorld, Among, Has}
 use Rattle.cga_order.specs.declared.placed.Placed.{Placed}
 use Rattle.cga_order.specs.declared.placed.Kind.{Kind}
 use Rattle.cga_agenda.specs.Work.{Once}
-use Rattle.cga_agenda.specs.Budget.{shapes_of}
+use Rattle.cga_agenda.specs.Known.{shapes_of}
 
 module _ {X : Type 0} where
   pub Among-append : (xs ys : List X) (x : X) → Among x (xs ++ ys) → Among x xs ⊎ Among x ys

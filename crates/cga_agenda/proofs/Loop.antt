@@ -1,65 +1,99 @@
--- What the loop over an agenda keeps.
-use Rattle.std.proofs.Common.{◌≡◌, ℕ, ◌+◌, ◌≤◌, ◌<◌, List, [], ◌∷◌, length, Bool, true, false, cond, refl, sym, ◌∙◌, subst, ◌⊎◌, inl, inr, arith, length-append}
-use Rattle.cga_order.specs.declared.placed.Kind.{Kind}
-use Rattle.cga_order.specs.Agenda.{Node, Keeps, asked}
+-- What the loop over an agenda keeps, and how it ends.
+use Rattle.std.proofs.Common.{◌≡◌, ℕ, ◌+◌, ◌≤◌, ◌<◌, List, [], ◌∷◌, ◌++◌, length, Bool, true, false, refl, sym, ◌∙◌, subst, ◌⊎◌, inl, inr, Option, Some, None, arith, length-append}
+use Rattle.std.specs.Prelude.{MatchOption}
+use Rattle.cga_order.specs.Agenda.{Node, asked}
 use Rattle.cga_agenda.specs.Edit.{Edit, new_world}
-use Rattle.cga_agenda.specs.Work.{next_worked}
-use Rattle.cga_agenda.specs.Budget.{made_by, next_known}
-use Rattle.cga_agenda.specs.Loop.{Knows, Turns, IsReady, IsOver, IsWithin, StandOnce}
+use Rattle.cga_agenda.specs.Work.{StandOnce, NoneQueued, next_worked}
+use Rattle.cga_agenda.specs.Record.{IsRecord}
+use Rattle.cga_agenda.specs.Known.{made_by, next_known}
+use Rattle.cga_agenda.specs.Loop.{State, children_of, calls_of, Turns, IsIdle, IsReady, Knows, IsOver, IsDone}
 use Rattle.cga_agenda.proofs.Lists.{length-once, roots_once}
-use Rattle.cga_agenda.proofs.Work as work
+use Rattle.cga_agenda.proofs.Working as work
 use Rattle.cga_agenda.proofs.Begin as begin
-use Rattle.cga_agenda.proofs.Exact as exact
+use Rattle.cga_agenda.proofs.Record as record_of
 use Rattle.cga_agenda.proofs.Budget as budgets
 use Rattle.cga_agenda.proofs.OverBudget as overs
 
--- the numbers after a turn, by what it told
-pub numbers : (expanded : Bool) (calls known children now_calls now_known : ℕ) → ((expanded ≡ true) × (now_calls ≡ calls + 1) × (now_known ≡ known + children)) ⊎ ((expanded ≡ false) × (now_calls ≡ calls) × (now_known ≡ known)) → (now_calls ≡ calls + cond expanded 1 0) × (now_known ≡ known + cond expanded children 0)
-numbers expanded calls known children now_calls now_known told = elim told [
-  | inl h ↦ (subst (λ b. now_calls ≡ calls + cond b 1 0) (sym h.0) h.1, subst (λ b. now_known ≡ known + cond b children 0) (sym h.0) h.2)
-  | inr h ↦ (subst (λ b. now_calls ≡ calls + cond b 1 0) (sym h.0) (omega (arith, h.1)), subst (λ b. now_known ≡ known + cond b children 0) (sym h.0) (omega (arith, h.2)))
-]
+module _ {N A B F P : Type 0} (edit : Edit N A B F P) (start : List (Node N A F P)) (first : State N A F P) (roots : ℕ) (ready : IsReady edit start first roots) where
+  pub knows_first : (known : ℕ) → known ≡ roots → Knows edit start first first 0 known
+  knows_first known e = record {
+    turned = [];
+    worked = [];
+    learnt = edit.new.roots;
+    working = begin.begins edit ready.laws start ready.started first.nodes first.queued ready.begun;
+    recorded = subst (IsRecord edit start first.nodes [] first.gone) (sym ready.come) (record_of.record_begins edit ready.laws start ready.started first.nodes first.queued ready.begun first.gone ready.gone);
+    knows = budgets.known_begins edit ready.laws start ready.started first.nodes first.queued ready.begun (roots_once (new_world edit) ready.laws.new);
+    turns_are = refl;
+    known_are = e ∙ ready.roots;
+    calls_are = omega arith;
+  }
 
-module _ {N A B F P : Type 0} (edit : Edit N A B F P) (start : List (Node N A F P)) (begun : List (Node N A F P)) (begun_queued : N → Bool) (roots : ℕ) (ready : IsReady edit start begun begun_queued roots) where
-  abbrev Nodes : Type 0
-  Nodes = List (Node N A F P)
-
-  pub knows_first : Knows edit start begun begun_queued 0 0 roots
-  knows_first =
-      ([], [], edit.new.roots, begin.begins edit ready.0 start ready.1 begun begun_queued ready.2, budgets.known_begins edit ready.0 start ready.1 begun begun_queued ready.2 (roots_once (new_world edit) ready.0.new), refl, refl, ready.3)
-
-  module _ (now : Nodes) (queued : N → Bool) (turns calls known : ℕ) (knows : Knows edit start now queued turns calls known) where
-    pub knows_next : (after : Nodes) (requeued : N → Bool) (expanded : Bool) (children : ℕ) → Turns edit now queued after requeued expanded children → Knows edit start after requeued (turns + 1) (calls + cond expanded 1 0) (known + cond expanded children 0)
-    knows_next after requeued expanded children (s, turn, tells) =
-        let good = work.next edit ready.0 start ready.1 now after s queued requeued knows.0 knows.1 expanded knows.3 turn in
-        let learnt = budgets.known_grows edit ready.0 start ready.1 now after s queued requeued knows.0 knows.1 expanded knows.2 knows.3 turn knows.4 in
-        (s ∷ knows.0, next_worked s expanded knows.1, next_known edit now s expanded knows.2, good, learnt, omega (arith, knows.5), worked_more expanded, known_more expanded tells)
+  module _ (now : State N A F P) (turns known : ℕ) (k : Knows edit start first now turns known) where
+    pub knows_next : (after : State N A F P) (children more : ℕ) → more ≡ children → Turns edit now after children → Knows edit start first after (turns + 1) (known + more)
+    knows_next after children more e (s, expanded, turn, (went, came, change, gone_is, come_is), tells, calls) = record {
+      turned = s ∷ k.turned;
+      worked = next_worked s expanded k.worked;
+      learnt = next_known edit now.nodes s expanded k.learnt;
+      working = work.next edit ready.laws start ready.started now.nodes after.nodes s now.queued after.queued k.turned k.worked expanded k.working turn;
+      recorded = subst (λ g. IsRecord edit start after.nodes (next_worked s expanded k.worked) g after.come) (sym gone_is) (subst (IsRecord edit start after.nodes (next_worked s expanded k.worked) (now.gone ++ went)) (sym come_is) (record_of.record_next edit ready.laws start ready.started now.nodes after.nodes s now.queued after.queued k.turned k.worked expanded k.working turn now.gone now.come went came k.recorded change));
+      knows = budgets.known_grows edit ready.laws start ready.started now.nodes after.nodes s now.queued after.queued k.turned k.worked expanded k.learnt k.working turn k.knows;
+      turns_are = omega (arith, k.turns_are);
+      known_are = known_more expanded tells;
+      calls_are = calls_more expanded calls;
+    }
       where
-        worked_more : (b : Bool) → calls + cond b 1 0 ≡ length (next_worked s b knows.1)
-        worked_more true = omega (arith, knows.6)
-        worked_more false = omega (arith, knows.6)
+        known_more : (b : Bool) → children ≡ children_of edit now.nodes s b → known + more ≡ length (next_known edit now.nodes s b k.learnt)
+        known_more true t = omega (arith, e, t, k.known_are, length-append (made_by (edit.new.expand s (asked (new_world edit) now.nodes s))) k.learnt)
+        known_more false t = omega (arith, e, t, k.known_are)
 
-        known_more : (b : Bool) → (b ≡ true → children ≡ length (made_by (edit.new.expand s (asked (new_world edit) now s)))) → known + cond b children 0 ≡ length (next_known edit now s b knows.2)
-        known_more true t = omega (arith, t refl, knows.7, length-append (made_by (edit.new.expand s (asked (new_world edit) now s))) knows.2)
-        known_more false t = omega (arith, knows.7)
+        calls_more : (b : Bool) → after.calls ≡ now.calls + calls_of edit b → after.calls ≡ first.calls + length (next_worked s b k.worked)
+        calls_more true t = omega (arith, t, k.calls_are)
+        calls_more false t = omega (arith, t, k.calls_are)
 
-    -- the same with numbers that are equal
-    pub knows_as : (now_calls now_known : ℕ) → (now_calls ≡ calls) × (now_known ≡ known) → Knows edit start now queued turns now_calls now_known
-    knows_as now_calls now_known same = (knows.0, knows.1, knows.2, knows.3, knows.4, knows.5, same.0 ∙ knows.6, same.1 ∙ knows.7)
+    few_calls : now.calls ≤ first.calls + turns
+    few_calls = omega (arith, k.turns_are, k.calls_are, length-once k.worked k.turned k.working.once (λ x i. (k.working.expanded x i).0))
 
-    pub calls_turns : calls ≤ turns
-    calls_turns = omega (arith, knows.5, knows.6, length-once knows.1 knows.0 knows.3.once (λ x i. (knows.3.expanded x i).0))
+    pub over_early : (budget : ℕ) → (budget < known) ⊎ (budget < turns) → turns ≤ budget + 1 → IsOver edit first now budget
+    over_early budget more most = record {
+      over = overs.early edit ready.laws start ready.started now.nodes now.queued k.turned k.worked k.working k.learnt k.knows budget (elim more [ inl lt ↦ inl (omega (arith, lt, k.known_are)) | inr lt ↦ inr (omega (arith, lt, k.turns_are)) ]);
+      calls = omega (arith, few_calls, most);
+    }
 
-    pub over_early : (budget : ℕ) → (budget < known) ⊎ (budget < turns) → turns ≤ budget + 1 → IsOver edit budget calls
-    over_early budget more most =
-        (overs.early edit ready.0 start ready.1 now queued knows.0 knows.1 knows.3 knows.2 knows.4 budget (elim more [ inl lt ↦ inl (omega (arith, lt, knows.7)) | inr lt ↦ inr (omega (arith, lt, knows.5)) ]), omega (arith, calls_turns, most))
+    module _ (empty : NoneQueued edit now.nodes now.queued) (once : StandOnce now.nodes) (budget : ℕ) where
+      over_late : budget < length now.nodes → turns ≤ budget → IsOver edit first now budget
+      over_late lt most = record {
+        over = (overs.late edit ready.laws start ready.started now.nodes now.queued k.turned k.worked k.working empty (roots_once (new_world edit) ready.laws.new) once budget).1 lt;
+        calls = omega (arith, few_calls, most);
+      }
 
-    module _ (empty : (n : N) (k : Kind F P) (a : A) → Keeps now n k a → queued n ≡ false) (once : StandOnce edit now) (budget : ℕ) where
-      pub over_late : budget < length now → turns ≤ budget → IsOver edit budget calls
-      over_late lt most = ((overs.late edit ready.0 start ready.1 now queued knows.0 knows.1 knows.3 empty (roots_once (new_world edit) ready.0.new) once budget).1 lt, omega (arith, calls_turns, most))
+      done : (budget < length now.nodes → ⊥) → IsDone edit start first now budget
+      done not_more = record {
+        within = λ o. not_more ((overs.late edit ready.laws start ready.started now.nodes now.queued k.turned k.worked k.working empty (roots_once (new_world edit) ready.laws.new) once budget).0 o);
+        turned = k.turned;
+        worked = k.worked;
+        working = k.working;
+        recorded = k.recorded;
+        none_queued = empty;
+        once = once;
+        calls = k.calls_are;
+      }
 
-      pub within_end : (budget < length now → ⊥) → IsWithin edit start now budget calls
-      within_end not_more = (
-        (λ o. not_more ((overs.late edit ready.0 start ready.1 now queued knows.0 knows.1 knows.3 empty (roots_once (new_world edit) ready.0.new) once budget).0 o)),
-        (knows.1, exact.exact edit ready.0 start ready.1 now queued knows.0 knows.1 knows.3 empty, knows.6),
-      )
+module _ {N A B F P : Type 0} (edit : Edit N A B F P) (before after : State N A F P) where
+  abbrev Turned : Option ℕ → Type 0
+  Turned turned = MatchOption turned (IsIdle edit before after) (λ children. Turns edit before after children)
+
+  -- what a worker says where it did a turn
+  pub moved : (turned : Option ℕ) (children : ℕ) → turned ≡ Some children → Turned turned → Turns edit before after children
+  moved turned children is h = subst Turned is h
+
+  -- and where it did none
+  pub idle : (turned : Option ℕ) → turned ≡ None → Turned turned → IsIdle edit before after
+  idle turned is h = subst Turned is h
+
+module _ {N A B F P : Type 0} (edit : Edit N A B F P) (start : List (Node N A F P)) (first now after : State N A F P) (roots turns known budget : ℕ) (ready : IsReady edit start first roots) (k : Knows edit start first now turns known) (still : IsIdle edit now after) (once : StandOnce after.nodes) where
+  -- the ends where nothing is on the agenda
+  pub ends_over : budget < length after.nodes → turns ≤ budget → IsOver edit first after budget
+  ends_over lt most = subst (λ x. IsOver edit first x budget) (sym still.0) (over_late edit start first roots ready now turns known k still.1 (subst (λ (x : State N A F P). StandOnce x.nodes) still.0 once) budget (subst (λ (x : State N A F P). budget < length x.nodes) still.0 lt) most)
+
+  pub ends_done : length after.nodes ≤ budget → IsDone edit start first after budget
+  ends_done le = subst (λ x. IsDone edit start first x budget) (sym still.0) (done edit start first roots ready now turns known k still.1 (subst (λ (x : State N A F P). StandOnce x.nodes) still.0 once) budget (λ lt. let l : length now.nodes ≤ budget = subst (λ (x : State N A F P). length x.nodes ≤ budget) still.0 le in omega (arith, l, lt)))

@@ -21,7 +21,7 @@ use Rattle.cga_order.proofs.Turns.{right_consistent}
 use Rattle.cga_order.proofs.Unique.{has_members}
 use Rattle.cga_agenda.specs.Edit.{Edit, IsEdit, new_world}
 use Rattle.cga_agenda.specs.Work.{Once, IsWorking, IsStart}
-use Rattle.cga_agenda.specs.Budget.{shapes_of, IsOverBudget, IsKnown}
+use Rattle.cga_agenda.specs.Known.{shapes_of, IsOverBudget, IsKnown}
 use Rattle.cga_agenda.proofs.Lists.{length-once, Has-Among, Among-Has}
 use Rattle.cga_agenda.proofs.Budget.{length-map, once-reached, known_derived, turned_derived, all_derived}
 

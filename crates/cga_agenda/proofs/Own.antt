@@ -1,5 +1,5 @@
 -- The answers that a shape got at its own step are those at its stamp.
-use Rattle.std.proofs.Common.{◌≡◌, List, [], ◌∷◌, true, false, refl, sym, ap, ◌∙◌, subst, inl, inr, None}
+use Rattle.std.proofs.Common.{◌≡◌, List, [], ◌∷◌, true, false, refl, sym, ap, ◌∙◌, ◌⊎◌, subst, inl, inr, None}
 use Rattle.cga_order.specs.World.{World, IsWorld, Has, Among, shapes_where, is_waiting, is_instance}
 use Rattle.cga_order.specs.declared.placed.Placed.{Placed}
 use Rattle.cga_order.specs.declared.placed.Kind.{Kind}
@@ -11,7 +11,14 @@ use Rattle.cga_order.proofs.Members.{waits, Has-start}
 use Rattle.cga_order.proofs.Steps as steps
 use Rattle.cga_order.proofs.Derived as derived
 use Rattle.cga_agenda.specs.Edit.{answers_at}
-use Rattle.cga_agenda.specs.Own.{AnsweredIn}
+
+-- n got these answers at its step of the run
+abbrev pub AnsweredIn : {N A F P : Type 0} (world : World N A F P) (taken : List N) (list : List (Placed N F P)) → Reached world taken list → N → A → Type 0
+AnsweredIn world [] list run n a = ⊥
+AnsweredIn world (s ∷ taken) list run n a =
+    ((s ≡ n)
+    × (world.answers s (shapes_where (λ m kind. true) run.0) (shapes_where (λ m kind. is_waiting kind) run.0) ≡ a))
+    ⊎ AnsweredIn world taken run.0 run.1 n a
 
 module _ {N A F P : Type 0} (world : World N A F P) (laws : IsWorld world) where
   abbrev Members : Type 0

@@ -1,12 +1,12 @@
 -- A shape is kept where each prefix of its path is.
-use Rattle.std.proofs.Common.{◌≡◌, ℕ, zero, suc, ◌+◌, ◌-◌, ◌≤◌, ◌<◌, List, [], ◌∷◌, length, take, refl, sym, ap, ◌∙◌, subst, ◌⊎◌, inl, inr, arith, length-append}
+use Rattle.std.proofs.Common.{◌≡◌, ℕ, zero, suc, ◌+◌, ◌-◌, ◌≤◌, ◌<◌, List, [], ◌∷◌, length, take, refl, sym, ap, ◌∙◌, ◌⊎◌, inl, inr, arith, length-append}
 use Rattle.std.proofs.Math.Seq.{take-length}
 use Rattle.std.proofs.lemmas.List.{take-append-le}
 use Rattle.cga_order.specs.Chain.{IsChild}
 use Rattle.cga_order.specs.declared.placed.Placed.{Placed}
 use Rattle.cga_order.specs.Run.{Reached}
 use Rattle.cga_order.proofs.Steps as steps
-use Rattle.cga_agenda.specs.Edit.{Edit, IsEdit, new_world, NonInstance, KeptAt, Kept, KeptByPrefix, Touched}
+use Rattle.cga_agenda.specs.Edit.{Edit, IsEdit, new_world, NonInstance, KeptAt, Kept}
 
 last_or_less : (i n : ℕ) → i ≤ n → (i ≡ n) ⊎ (i < n)
 last_or_less i n h = elim (zero_or (n - i)) [ inl e ↦ inl (omega (arith, e, h)) | inr e ↦ inr (omega (arith, e)) ]
@@ -14,6 +14,16 @@ last_or_less i n h = elim (zero_or (n - i)) [ inl e ↦ inl (omega (arith, e, h)
     zero_or : (d : ℕ) → (d ≡ 0) ⊎ (0 < d)
     zero_or zero = inl refl
     zero_or (suc d) = inr (omega arith)
+
+module _ {N A B F P : Type 0} (edit : Edit N A B F P) where
+  -- kept, said by prefixes: each prefix of the path, itself included, names a non-instance of both
+  -- lists, as the same shape with the same priorities
+  abbrev pub KeptByPrefix : List (Placed N F P) → List (Placed N F P) → N → Type 0
+  KeptByPrefix old new n =
+      NonInstance old n × NonInstance new n
+      × ((i : ℕ) → i ≤ length (edit.chain n).path
+      → (m : N) × ((edit.chain m).lot ≡ (edit.chain n).lot)
+      × ((edit.chain m).path ≡ take i (edit.chain n).path) × NonInstance old m × NonInstance new m)
 
 module _ {N A B F P : Type 0} (edit : Edit N A B F P) (laws : IsEdit edit) (old new : List (Placed N F P)) (taken : List N) (run : Reached (new_world edit) taken new) where
   good : steps.IsOrdered (new_world edit) new
@@ -51,31 +61,3 @@ module _ {N A B F P : Type 0} (edit : Edit N A B F P) (laws : IsEdit edit) (old 
 
   pub to_prefixes : (n : N) → Kept edit old new n → KeptByPrefix edit old new n
   to_prefixes n h = let b = both h.0 n h.1 in (b.0, b.1, named h.0 n h.1)
-
-  from_named : (bound : ℕ) (n : N) → length (edit.chain n).path < bound → NonInstance old n → NonInstance new n → ((i : ℕ) → i ≤ length (edit.chain n).path → Named n i) → Kept edit old new n
-  from_named zero n lt was is each = absurd (omega (arith, lt))
-  from_named (suc bound) n lt was is each = elim (good.under n is.0 is.1) [
-    | inl root ↦ (0, (was, is, root))
-    | inr (e, i, there, child) ↦
-        let longer = size e n i child in
-        let m = each (length (edit.chain e).path) (omega (arith, longer)) in
-        let path : (edit.chain m.0).path ≡ (edit.chain e).path = m.2 ∙ (prefix_up e n i (length (edit.chain e).path) child (omega arith) ∙ take-length (edit.chain e).path) in
-        let lot : (edit.chain m.0).lot ≡ (edit.chain e).lot = m.1 ∙ child.lot in
-        let same : m.0 ≡ e = (good.distinct m.0 e m.4.0 _ m.4.1 there (λ x. (lot x, path x))).0 in
-        let up = from_named bound e (omega (arith, lt, longer)) (subst (NonInstance old) same m.3) (subst (NonInstance new) same m.4)
-        (λ j le.
-        let q = each j (omega (arith, le, longer)) in
-        (q.0, q.1 ∙ child.lot, q.2 ∙ prefix_up e n i j child le, q.3, q.4)) in
-        (suc up.0, (was, is, (e, i, child, up.1)))
-  ]
-
-  pub from_prefixes : (n : N) → KeptByPrefix edit old new n → Kept edit old new n
-  from_prefixes n h = from_named (length (edit.chain n).path + 1) n (omega arith) h.0 h.1 h.2
-
-module _ {N A B F P : Type 0} (edit : Edit N A B F P) (new : List (Placed N F P)) (n : N) where
-  none_at : (depth : ℕ) → KeptAt edit [] new depth n → ⊥
-  none_at zero h = h.0.1
-  none_at (suc depth) h = h.0.1
-
-  pub all_touched : (Touched edit [] new n → NonInstance new n) × (NonInstance new n → Touched edit [] new n)
-  all_touched = ((λ h. h.0), λ h. (h, inl (λ k. none_at k.0 k.1)))

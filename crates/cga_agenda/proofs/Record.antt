@@ -14,9 +14,9 @@ use Rattle.cga_order.proofs.Turns.{Has-Keeps, Keeps-Has}
 use Rattle.cga_agenda.specs.Edit.{Edit, IsEdit, old_world, new_world, renewed, Kept}
 use Rattle.cga_agenda.specs.Work.{next_worked, IsBegun, Places, IsTurnOf, IsWorking, IsStart}
 use Rattle.cga_agenda.specs.Record.{Drawn, Draws, IsChange, IsMade, IsRecord}
-use Rattle.cga_agenda.specs.Laws.{IsExact, IsExactRecord}
+use Rattle.cga_agenda.specs.Exact.{IsExact, IsExactRecord}
 use Rattle.cga_agenda.proofs.Lists.{Among-append, Once-append, Has-map, map-Has}
-use Rattle.cga_agenda.proofs.Work.{NonInstance-Keeps, kept_new, one_kind, turned_before, remains_early, alone, where_from, as_it_was, s_settled, kept_back, placed, is_turn, still_worked}
+use Rattle.cga_agenda.proofs.Working.{NonInstance-Keeps, kept_new, one_kind, turned_before, remains_early, alone, where_from, as_it_was, s_settled, kept_back, placed, is_turn, still_worked}
 use Rattle.cga_agenda.proofs.Exact.{exact}
 
 told_true : {N : Type 0} (s : N) (worked : List N) (expanded : Bool) → expanded ≡ true → next_worked s expanded worked ≡ s ∷ worked
@@ -163,41 +163,41 @@ module _ {N A B F P : Type 0} (edit : Edit N A B F P) (laws : IsEdit edit) (star
       made_next : (d : Drawn N P) → (Draws before d → IsMade edit worked d.shape) → Draws after d → IsMade edit reworked d.shape
       made_next d was h = elim (there_next d h) [ inl b ↦ made_on d.shape (was b) | inr m ↦ m ]
 
-      next_come : (d : Drawn N P) → Among d (came ++ come) → Draws after d × IsMade edit reworked d.shape
-      next_come d i = elim (Among-append came come d i) [
-        | inl c ↦ let g = change.each_came d c in (g.0, made_next d (λ b. absurd (g.1 b)) g.0)
-        | inr c ↦ let g = kept.each_come d c in (drawn_stays d g.0 g.1, made_on d.shape g.1)
+      next_come : (d : Drawn N P) → Among d (come ++ came) → Draws after d × IsMade edit reworked d.shape
+      next_come d i = elim (Among-append come came d i) [
+        | inr c ↦ let g = change.each_came d c in (g.0, made_next d (λ b. absurd (g.1 b)) g.0)
+        | inl c ↦ let g = kept.each_come d c in (drawn_stays d g.0 g.1, made_on d.shape g.1)
       ]
 
       was_old : (d : Drawn N P) → Draws before d → (Draws after d → ⊥) → Draws start d
       was_old d h lost = elim (kept.there d h) [ inl old ↦ old | inr made ↦ absurd (lost (drawn_stays d h made)) ]
 
-      next_gone : (d : Drawn N P) → Among d (went ++ gone) → Draws start d × (Draws after d → IsMade edit reworked d.shape) × ((q : N) (i : ℕ) → IsChild (edit.chain q) i (edit.chain d.shape) → Kept edit (members_of start) (members_of after) q → Among q reworked)
-      next_gone d i = elim (Among-append went gone d i) [
-        | inl c ↦ let g = change.each_went d c in (was_old d g.0 g.1, (λ h. absurd (g.1 h)), went_from d g.0 g.1)
-        | inr c ↦
+      next_gone : (d : Drawn N P) → Among d (gone ++ went) → Draws start d × (Draws after d → IsMade edit reworked d.shape) × ((q : N) (i : ℕ) → IsChild (edit.chain q) i (edit.chain d.shape) → Kept edit (members_of start) (members_of after) q → Among q reworked)
+      next_gone d i = elim (Among-append gone went d i) [
+        | inr c ↦ let g = change.each_went d c in (was_old d g.0 g.1, (λ h. absurd (g.1 h)), went_from d g.0 g.1)
+        | inl c ↦
             let g = kept.each_gone d c in
             (g.0, made_next d g.1, λ q j child k. still_worked edit laws start started before after s queued requeued turned worked expanded good turn q (g.2 q j child (back q k)))
       ]
 
-      pub record_next : IsRecord edit start after reworked (went ++ gone) (came ++ come)
+      pub record_next : IsRecord edit start after reworked (gone ++ went) (come ++ came)
       record_next = record {
-        gone_once = Once-append went gone change.went_once kept.gone_once (λ d i j. let g = change.each_went d i in g.1 (drawn_stays d g.0 ((kept.each_gone d j).1 g.0)));
-        come_once = Once-append came come change.came_once kept.come_once (λ d i j. (change.each_came d i).1 (kept.each_come d j).0);
+        gone_once = Once-append gone went kept.gone_once change.went_once (λ d j i. let g = change.each_went d i in g.1 (drawn_stays d g.0 ((kept.each_gone d j).1 g.0)));
+        come_once = Once-append come came kept.come_once change.came_once (λ d j i. (change.each_came d i).1 (kept.each_come d j).0);
         each_come = next_come;
         each_gone = next_gone;
         there = λ d h. elim (there_next d h) [
           | inl b ↦ elim (kept.there d b) [ inl old ↦ inl old | inr made ↦ inr (made_on d.shape made) ]
           | inr made ↦ inr made
         ];
-        balance = λ test. omega (arith, kept.balance test, change.balance test, count_append test came come, count_append test went gone);
+        balance = λ test. omega (arith, kept.balance test, change.balance test, count_append test come came, count_append test gone went);
       }
 
   module _ (now : Nodes) (queued : N → Bool) (turned worked : List N) (good : IsWorking edit start now queued turned worked) (gone come : List (Drawn N P)) (kept : IsRecord edit start now worked gone come) (empty : (n : N) (k : Kind F P) (a : A) → Keeps now n k a → queued n ≡ false) where
-    done : IsExact N A B F P edit start now worked
+    done : IsExact edit start now worked
     done = exact edit laws start started now queued turned worked good empty
 
-    pub record_exact : IsExactRecord N A B F P edit start now gone come
+    pub record_exact : IsExactRecord edit start now gone come
     record_exact = record {
       gone_once = kept.gone_once;
       come_once = kept.come_once;

@@ -1,6 +1,7 @@
 -- The end of an update, over the two derivations.
-use Rattle.std.proofs.Common.{◌≡◌, ℕ, zero, suc, List, [], ◌∷◌, Bool, true, false, refl, sym, ap, ◌∙◌, subst, inl, inr, None, arith}
+use Rattle.std.proofs.Common.{◌≡◌, ℕ, zero, suc, List, length, [], ◌∷◌, Bool, true, false, refl, sym, ap, ◌∙◌, subst, inl, inr, None, arith}
 use Rattle.std.specs.Prelude.{count_by}
+use Rattle.cga_order.specs.Chain.{IsChild}
 use Rattle.cga_order.specs.World.{World, IsWorld, Has, Among, shapes_where}
 use Rattle.cga_order.specs.declared.placed.Placed.{Placed}
 use Rattle.cga_order.specs.declared.placed.Kind.{Kind}
@@ -13,13 +14,32 @@ use Rattle.cga_order.proofs.Turns.{Has-Keeps, right_consistent}
 use Rattle.cga_order.proofs.Unique.{same_members}
 use Rattle.cga_agenda.specs.Edit.{Edit, IsEdit, old_world, new_world, answers_at, NonInstance, KeptAt, Kept, SameInputs, Touched}
 use Rattle.cga_agenda.specs.Work.{Once, IsWorking, IsStart}
-use Rattle.cga_agenda.specs.Record.{Drawn, drawn, IsRecord}
-use Rattle.cga_agenda.specs.Budget.{shapes_of}
-use Rattle.cga_agenda.specs.Laws.{IsExact, IsExactRecord, IsUpdate}
+use Rattle.cga_agenda.specs.Record.{Drawn, drawn, IsRecord, Balances}
+use Rattle.cga_agenda.specs.Known.{shapes_of}
+use Rattle.cga_agenda.specs.Exact.{IsExact, IsExactRecord}
 use Rattle.cga_agenda.proofs.Lists.{length-once, count-once, Has-Among}
 use Rattle.cga_agenda.proofs.Exact.{exact}
 use Rattle.cga_agenda.proofs.Record.{record_exact}
 use Rattle.cga_agenda.proofs.Budget.{once-reached}
+
+-- over the two derivations: the shapes that were expanded are those touched, so many as there are; and
+-- the record of change
+pub record IsUpdate {N A B F P : Type 0} (edit : Edit N A B F P) (old new : List (Placed N F P)) (worked : List N) (gone come : List (Drawn N P)) : Type 0 where
+  pub once : Once worked
+  pub touched : (n : N) → (Among n worked → Touched edit old new n) × (Touched edit old new n → Among n worked)
+  pub count : (list : List N) → Once list
+      → ((n : N) → (Among n list → Touched edit old new n) × (Touched edit old new n → Among n list))
+      → length worked ≡ length list
+  pub gone_once : Once gone
+  pub come_once : Once come
+  pub each_come : (d : Drawn N P) → Among d come
+      → Has new d.shape (Instance d.solid)
+      × ((parent : N) × (i : ℕ) × IsChild (edit.chain parent) i (edit.chain d.shape) × Touched edit old new parent)
+  pub each_gone : (d : Drawn N P) → Among d gone
+      → Has old d.shape (Instance d.solid)
+      × ((parent : N) (i : ℕ) → IsChild (edit.chain parent) i (edit.chain d.shape)
+      → Kept edit old new parent → SameInputs edit old new parent → ⊥)
+  pub balance : Balances old come new gone
 
 module _ {N A F P : Type 0} (world : World N A F P) (laws : IsWorld world) where
   seen_in : (n : N) (test : N → Kind F P → Bool) (xs ys : List (Placed N F P)) → SameMembers xs ys → (m : N) → Among m (shapes_where test xs) → Among m (shapes_where test ys)
@@ -115,7 +135,7 @@ module _ {N A B F P : Type 0} (edit : Edit N A B F P) (laws : IsEdit edit) where
       )
 
   module _ (start : List (Node N A F P)) (started : IsStart edit start) (now : List (Node N A F P)) (queued : N → Bool) (turned worked : List N) (gone come : List (Drawn N P)) (good : IsWorking edit start now queued turned worked) (kept : IsRecord edit start now worked gone come) (empty : (n : N) (k : Kind F P) (a : A) → Keeps now n k a → queued n ≡ false) (old_roots : Once edit.old.roots) (new_roots : Once edit.new.roots) (start_once : Once (shapes_of (members_of start))) (now_once : Once (shapes_of (members_of now))) (taken_old taken_new : List N) (old new : List (Placed N F P)) (old_run : Reached (old_world edit) taken_old old) (old_quiet : NothingWaits (old_world edit) None old) (new_run : Reached w taken_new new) (new_quiet : NothingWaits w None new) where
-    done : IsExact N A B F P edit start now worked
+    done : IsExact edit start now worked
     done = exact edit laws start started now queued turned worked good empty
 
     olds : SameMembers (members_of start) old
@@ -130,10 +150,10 @@ module _ {N A B F P : Type 0} (edit : Edit N A B F P) (laws : IsEdit edit) where
     from : (n : N) → Touched edit old new n → Touched edit (members_of start) (members_of now) n
     from n h = touched_as old (members_of start) new (members_of now) (turned_round w laws.new (members_of start) old olds) (turned_round w laws.new (members_of now) new news) n h
 
-    record_done : IsExactRecord N A B F P edit start now gone come
+    record_done : IsExactRecord edit start now gone come
     record_done = record_exact edit laws start started now queued turned worked good gone come kept empty
 
-    pub update : SameMembers (members_of now) new × IsUpdate N A B F P edit old new worked gone come
+    pub update : SameMembers (members_of now) new × IsUpdate edit old new worked gone come
     update = (
       news,
       record {

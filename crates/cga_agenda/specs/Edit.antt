@@ -1,5 +1,6 @@
--- An edit: old and new sources of one mode over one type of shapes, and which shapes it touches.
-use Rattle.std.specs.Prelude.{◌≡◌, ℕ, zero, suc, ◌≤◌, List, [], map, length, take, Bool, true, false, ◌⊎◌, Result, Ok, Err}
+-- An edit, from an old derivation to a new one of the same mode, and which shapes it touches. A shape N
+-- has the priorities on its path within it: where one of them changes, it is another shape.
+use Rattle.std.specs.Prelude.{◌≡◌, ℕ, zero, suc, List, [], map, Bool, true, false, ◌⊎◌, Result, Ok, Err}
 use Rattle.cga_word.specs.declared.mode.Mode.{Mode}
 use Rattle.cga_order.specs.Chain.{Chain, IsChild}
 use Rattle.cga_order.specs.World.{World, IsWorld, Has, shapes_where, is_instance}
@@ -7,7 +8,7 @@ use Rattle.cga_order.specs.declared.placed.Placed.{Placed}
 use Rattle.cga_order.specs.declared.placed.Kind.{Kind}
 use Rattle.cga_order.specs.Consistent.{exists_at, waits_at}
 
--- what a derivation takes from sources; a shape N has the priorities on its path within it
+-- one side of an edit: what the old derivation, or the new one, takes from its sources
 pub record Side (N A B F P : Type 0) : Type 0 where
   pub roots : List N
   pub sees : N → N → Bool
@@ -16,14 +17,16 @@ pub record Side (N A B F P : Type 0) : Type 0 where
   pub setting : N → B
   pub expand : N → A → Result (List (Placed N F P)) F
 
+-- both sides, over the same chains
 pub record Edit (N A B F P : Type 0) : Type 0 where
   pub mode : Mode
   pub chain : N → Chain
   pub old : Side N A B F P
   pub new : Side N A B F P
-  -- a child with the priority that its symbol has in the new sources
+  -- a child with the priority that its symbol has on the new side
   pub renew : Placed N F P → Placed N F P
 
+-- the world of the derivation of a side
 abbrev pub world_of : {N A B F P : Type 0} → Edit N A B F P → Side N A B F P → World N A F P
 world_of edit side = record {
   mode = edit.mode;
@@ -55,7 +58,7 @@ abbrev pub NonInstance : {N F P : Type 0} → List (Placed N F P) → N → Type
 NonInstance {N} {F} {P} list n = (k : Kind F P) × Has list n k × (is_instance k ≡ false)
 
 module _ {N A B F P : Type 0} (edit : Edit N A B F P) where
-  -- what the two sources have in common
+  -- what both sides have to meet
   pub record IsEdit : Type 0 where
     pub old : IsWorld (old_world edit)
     pub new : IsWorld (new_world edit)
@@ -65,12 +68,13 @@ module _ {N A B F P : Type 0} (edit : Edit N A B F P) where
         → edit.old.answers n existing waiting ≡ edit.new.answers n existing waiting
     pub outcome : (n : N) (a : A) → edit.old.setting n ≡ edit.new.setting n
         → edit.new.expand n a ≡ renewed edit.renew (edit.old.expand n a)
-    -- an instance has its parent's priority, which the parent's shape has in it
+    -- a child stays of its kind
     pub kinds : (c : Placed N F P) → (edit.renew c).kind ≡ c.kind
+    -- an instance stays, since it has its parent's priority
     pub solids : (c : Placed N F P) → is_instance c.kind ≡ true → edit.renew c ≡ c
 
-  -- n is a root, or so many levels below one, and it and each of its ancestors is a non-instance of
-  -- both lists, as the same shape with the same priorities
+  -- n is a root, or so many levels below one, and it and each of its ancestors is a non-instance of both
+  -- lists
   abbrev pub KeptAt : List (Placed N F P) → List (Placed N F P) → ℕ → N → Type 0
   KeptAt old new zero n = NonInstance old n × NonInstance new n × ((edit.chain n).path ≡ [])
   KeptAt old new (suc depth) n =
@@ -78,24 +82,17 @@ module _ {N A B F P : Type 0} (edit : Edit N A B F P) where
       × ((parent : N) × (i : ℕ) × IsChild (edit.chain parent) i (edit.chain n)
       × KeptAt old new depth parent)
 
+  -- kept: it and each of its ancestors is a non-instance of both lists
   abbrev pub Kept : List (Placed N F P) → List (Placed N F P) → N → Type 0
   Kept old new n = (depth : ℕ) × KeptAt old new depth n
 
-  -- the same, said by prefixes: each prefix of the path, itself included, names a non-instance of both
-  -- lists, as the same shape with the same priorities
-  abbrev pub KeptByPrefix : List (Placed N F P) → List (Placed N F P) → N → Type 0
-  KeptByPrefix old new n =
-      NonInstance old n × NonInstance new n
-      × ((i : ℕ) → i ≤ length (edit.chain n).path
-      → (m : N) × ((edit.chain m).lot ≡ (edit.chain n).lot)
-      × ((edit.chain m).path ≡ take i (edit.chain n).path) × NonInstance old m × NonInstance new m)
-
-  -- the shape is equal, and so are its setting and its answers at its own step
+  -- its setting is equal, and its answers at its own step are
   abbrev pub SameInputs : List (Placed N F P) → List (Placed N F P) → N → Type 0
   SameInputs old new n =
       (edit.old.setting n ≡ edit.new.setting n)
       × (answers_at (old_world edit) old n ≡ answers_at (new_world edit) new n)
 
+  -- a non-instance of the new list that isn't kept, or is kept and has other inputs
   abbrev pub Touched : List (Placed N F P) → List (Placed N F P) → N → Type 0
   Touched old new n =
       NonInstance new n

@@ -1,6 +1,6 @@
 -- The work of an edit by an agenda: what it starts from, how it begins, one turn, and what holds
 -- between turns.
-use Rattle.std.specs.Prelude.{◌≡◌, ◌≢◌, ℕ, List, [], ◌∷◌, Bool, true, false, ◌⊎◌}
+use Rattle.std.specs.Prelude.{◌≡◌, ◌≢◌, ℕ, List, map, [], ◌∷◌, Bool, true, false, ◌⊎◌}
 use Rattle.cga_order.specs.Chain.{IsChild}
 use Rattle.cga_order.specs.World.{Among, is_waiting, is_instance, IsNew, IsEarlier, stamp_of}
 use Rattle.cga_order.specs.declared.placed.Placed.{Placed}
@@ -19,6 +19,10 @@ Once (x ∷ xs) = (Among x xs → ⊥) × Once xs
 abbrev pub next_worked : {N : Type 0} → N → Bool → List N → List N
 next_worked s true worked = s ∷ worked
 next_worked s false worked = worked
+
+-- each node stands once
+abbrev pub StandOnce : {N A F P : Type 0} → List (Node N A F P) → Type 0
+StandOnce nodes = Once (map (λ m. m.shape) (members_of nodes))
 
 module _ {N A B F P : Type 0} (edit : Edit N A B F P) where
   abbrev pub Nodes : Type 0

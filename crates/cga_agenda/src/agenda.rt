@@ -1,72 +1,35 @@
-//! The loop over an agenda, for whatever does the turns: a sketch of what an update does.
+ghost use Rattle.std.specs.Prelude.{IfOk};
+ghost use Rattle.cga_agenda.specs.Loop.{Ends};
 
-ghost use Rattle.std.specs.Prelude.{◌≡◌, ℕ, List, Bool, true, false, length, MatchOption};
-ghost use Rattle.cga_order.specs.Agenda.{Node};
-ghost use Rattle.cga_agenda.specs.Edit.{Edit};
-ghost use Rattle.cga_agenda.specs.Loop.{Turns, IsIdle, IsReady, IsOver, IsWithin, StandOnce};
+use crate::ended::Ended;
+use crate::worker::Worker;
+use cga_fraction::NoMemory;
 
-/// What a turn did: whether it called expand, and how many children that gave.
-#[derive(Clone, Copy)]
-pub struct Turned {
-    pub expanded: bool,
-    pub children: u16,
-}
-
-/// What does the turns: it has nodes, and some of them are queued.
-pub trait Worker<N, A, B, F, P> {
-    ghost edit: { Edit N A B F P };
-
-    ghost nodes: { Self → List (Node N A F P) };
-
-    ghost queued: { Self → N → Bool };
-
-    /// One turn of the least stamp on the agenda; none where nothing is queued.
-    fn turn(&mut self) -> Option<Turned>
-        ensures { MatchOption result
-            (IsIdle edit (nodes self.old) (queued self.old) (nodes self.new) (queued self.new))
-            (λ t. Turns edit (nodes self.old) (queued self.old) (nodes self.new) (queued self.new) t.expanded t.children) };
-
-    fn count(&self) -> usize
-        ensures number { result ≡ length (nodes self.now) }
-        ensures once { StandOnce edit (nodes self.now) };
-}
-
-/// How the work ended: over the budget, or not, after so many calls of expand.
-#[derive(Clone, Copy)]
-pub struct Ended {
-    pub over: bool,
-    pub calls: u64,
-}
-
-/// Works the agenda until it is empty, or more members are known than the budget allows.
+/// Works the agenda until nothing is on it, or more members of the new derivation are known than the
+/// budget allows; `roots` is the number of its roots. It takes at most `budget + 1` turns. Turns are
+/// counted beside the known members, since the turn of a shape that was kept makes none known. After
+/// want of memory nothing is said of the state.
 pub fn work<N, A, B, F, P, W: Worker<N, A, B, F, P>>(
     worker: &mut W,
     roots: u32,
     budget: u32,
-) -> Ended
-    ghost start: { List (Node N A F P) }
-    requires { IsReady W.edit start (W.nodes worker.old) (W.queued worker.old) roots }
-    ensures over { result.over ≡ true → IsOver W.edit budget result.calls }
-    ensures within { result.over ≡ false → IsWithin W.edit start (W.nodes worker.new) budget result.calls }
+) -> Result<Ended, NoMemory>
+    ensures { IfOk result (λ ended. Ends W.edit (W.state worker.old) (W.state worker.new) roots budget ended) }
 {
-    let mut known: u64 = u64::from(roots);
+    let mut known = u64::from(roots);
     let mut turns: u32 = 0;
-    let mut calls: u64 = 0;
     if known > u64::from(budget) {
-        return Ended { over: true, calls };
+        return Ok(Ended::OverBudget);
     }
-    while let Some(turned) = worker.turn() {
-        if turned.expanded {
-            calls += 1;
-            known += u64::from(turned.children);
-        }
+    while let Some(children) = worker.turn()? {
+        known += u64::from(children);
         if known > u64::from(budget) || turns == budget {
-            return Ended { over: true, calls };
+            return Ok(Ended::OverBudget);
         }
         turns += 1;
     }
-    Ended {
-        over: worker.count() > budget as usize,
-        calls,
+    if worker.count() > budget as usize {
+        return Ok(Ended::OverBudget);
     }
+    Ok(Ended::Within)
 }

@@ -24,8 +24,8 @@ child_at zero zero c e =
 child_at zero (suc i) c e = none c e
 child_at (suc s) i c e = none c e
 
-is_plain : (p : ℕ) → IsDerivation (derivation_of two_shapes (with_priority p))
-is_plain p = record {
+is_derivation : (p : ℕ) → IsDerivation (derivation_of two_shapes (with_priority p))
+is_derivation p = record {
   root = λ n h. elim h [ inl e ↦ ap path_of (sym e) | inr r ↦ absurd r ];
   roots_apart = λ i j n m e f same. by i j n m e f;
   child = λ s a cs e i c g.
@@ -79,7 +79,7 @@ root_kept i le =
 
 pub example : PriorityTouchesTheChild
 example = record {
-  edit = record { was = is_plain 0; is = is_plain 5; answers = λ s xs ws e. refl; outcome = λ s a e. refl };
+  edit = record { was = is_derivation 0; is = is_derivation 5; answers = λ s xs ws e. refl; outcome = λ s a e. refl };
   was = derived_old;
   is = derived_new;
   child = ((Done, inr (inl (refl, refl)), refl), inl not_kept);

@@ -1,4 +1,4 @@
--- A site is kept where its shape is, with the priorities of its path.
+-- A ranked shape is kept where its shape is, with the priorities on its path.
 use Rattle.std.proofs.Common.{◌≡◌, ℕ, zero, suc, ◌+◌, ◌≤◌, ◌<◌, List, [], ◌∷◌, ◌++◌, map, length, take, true, false, refl, sym, ap, ◌∙◌, subst, ◌⊎◌, inl, inr, Result, Ok, Err, arith, length-append}
 use Rattle.std.proofs.Math.Seq.{take-length}
 use Rattle.std.proofs.lemmas.List.{take-append-le}
@@ -14,7 +14,7 @@ use Rattle.cga_agenda.specs.Edit.{Edit, NonInstance}
 use Rattle.cga_rework.specs.Ranked.{Ranked, placed_as, placed, all_placed, chain_of, ranked_world, edit_of, unranked}
 use Rattle.cga_rework.proofs.Lists.{Among-map}
 use Rattle.cga_order.proofs.Places.{slice_get-map}
-use Rattle.cga_agenda.proofs.Work.{path_not_empty}
+use Rattle.cga_agenda.proofs.Working.{path_not_empty}
 use Rattle.cga_derivation.specs.Derivation.{IsDerivation}
 use Rattle.cga_rework.specs.Rules.{Shapes, Rules, derivation_of}
 use Rattle.cga_rework.specs.Touched.{Kept}
@@ -37,7 +37,7 @@ module _ {S A B F P : Type 0} (shapes : Shapes S) (old new : Rules S A B F P) wh
     laws : IsWorld world
     laws = is_world shapes rules are
 
-    -- a site has its own priority last, below those of its parent
+    -- a ranked shape has its own priority last, below those of its parent
     abbrev SiteIs : Sited → Ranked S → Type 0
     SiteIs C n =
         ((shapes.path n.shape ≡ []) × (n.priorities ≡ rules.priority n.shape ∷ []))
@@ -47,8 +47,8 @@ module _ {S A B F P : Type 0} (shapes : Shapes S) (old new : Rules S A B F P) wh
     abbrev SitesAre : Sited → Type 0
     SitesAre C = (n : Ranked S) (k : Kind F P) → Has C n k → is_instance k ≡ false → SiteIs C n
 
-    sites-start : SitesAre (start world)
-    sites-start n k h i =
+    all_ranked-start : SitesAre (start world)
+    all_ranked-start n k h i =
         let w = Among-map (λ s. let m : Ranked S = record { shape = s; priorities = rules.priority s ∷ [] } in m) rules.roots n (Has-start world world.roots n k h).0 in
         subst (SiteIs (start world)) w.2 (inl (are.root w.0 w.1, refl))
 
@@ -62,12 +62,12 @@ module _ {S A B F P : Type 0} (shapes : Shapes S) (old new : Rules S A B F P) wh
         | inr apart ↦ changes.to p Done apart h
       ]
 
-      site-stays : (n : Ranked S) → SiteIs C n → SiteIs D n
-      site-stays n is = elim is [ inl r ↦ inl r | inr c ↦ inr (c.0, c.1, done-stays c.0 c.2, c.3, c.4) ]
+      ranked-stays : (n : Ranked S) → SiteIs C n → SiteIs D n
+      ranked-stays n is = elim is [ inl r ↦ inl r | inr c ↦ inr (c.0, c.1, done-stays c.0 c.2, c.3, c.4) ]
 
-      site-child : (r : Result (List (Placed S F P)) F) (a : A) → rules.expand s.shape a ≡ r → all_placed rules.priority (chain_of shapes s).priorities r ≡ outcome world C s → (n : Ranked S) (k : Kind F P) → Has (steps.children_of world (all_placed rules.priority (chain_of shapes s).priorities r)) n k → is_instance k ≡ false → SiteIs D n
-      site-child (Err f) a e same n k h i = absurd h
-      site-child (Ok es) a e same n k h i =
+      ranked-child : (r : Result (List (Placed S F P)) F) (a : A) → rules.expand s.shape a ≡ r → all_placed rules.priority (chain_of shapes s).priorities r ≡ outcome world C s → (n : Ranked S) (k : Kind F P) → Has (steps.children_of world (all_placed rules.priority (chain_of shapes s).priorities r)) n k → is_instance k ≡ false → SiteIs D n
+      ranked-child (Err f) a e same n k h i = absurd h
+      ranked-child (Ok es) a e same n k h i =
           let f = placed {F = F} {P = P} rules.priority (chain_of shapes s).priorities in
           let w = Has-index (map f es) n k h in
           let g = slice_get-map f es w.0 w.1 w.2 in
@@ -80,18 +80,18 @@ module _ {S A B F P : Type 0} (shapes : Shapes S) (old new : Rules S A B F P) wh
           by t (Faulted f) is kind child done = inr (s, child.0, done, child.1, sym (ap (λ x. x.priorities) is) ∙ ap (λ x. (chain_of shapes s).priorities ++ rules.priority x ∷ []) (ap (λ x. x.shape) is))
           by t (Instance p) is kind child done = let x : true ≡ false = ap is_instance kind ∙ i in cc
 
-      sites-next : SitesAre C → SitesAre D
-      sites-next sites n k h i = elim (changes.from n k h) [
-        | inl x ↦ site-stays n (sites n k x.1 i)
+      all_ranked-next : SitesAre C → SitesAre D
+      all_ranked-next all_ranked n k h i = elim (changes.from n k h) [
+        | inl x ↦ ranked-stays n (all_ranked n k x.1 i)
         | inr x ↦ elim x [
-          | inl e ↦ subst (SiteIs D) (sym e.0) (site-stays s (sites s Waiting step.waits refl))
-          | inr c ↦ site-child (rules.expand s.shape _) _ refl refl n k c i
+          | inl e ↦ subst (SiteIs D) (sym e.0) (ranked-stays s (all_ranked s Waiting step.waits refl))
+          | inr c ↦ ranked-child (rules.expand s.shape _) _ refl refl n k c i
         ]
       ]
 
-    pub sites-reached : (taken : List (Ranked S)) (C : Sited) → Reached world taken C → SitesAre C
-    sites-reached [] C e = subst SitesAre (sym e) sites-start
-    sites-reached (s ∷ taken) D (C, reached, step) = sites-next C D s (steps.in_order world laws taken C reached) step (sites-reached taken C reached)
+    pub all_ranked-reached : (taken : List (Ranked S)) (C : Sited) → Reached world taken C → SitesAre C
+    all_ranked-reached [] C e = subst SitesAre (sym e) all_ranked-start
+    all_ranked-reached (s ∷ taken) D (C, reached, step) = all_ranked-next C D s (steps.in_order world laws taken C reached) step (all_ranked-reached taken C reached)
 
     pub last_is : (C : Sited) (n : Ranked S) → SiteIs C n → (above : List ℕ) × (n.priorities ≡ above ++ rules.priority n.shape ∷ [])
     last_is C n is = elim is [ inl r ↦ ([], r.1) | inr c ↦ ((chain_of shapes c.0).priorities, c.4) ]
@@ -103,17 +103,17 @@ module _ {S A B F P : Type 0} (shapes : Shapes S) (old new : Rules S A B F P) wh
     good_new : steps.IsOrdered (world new news) W
     good_new = steps.in_order (world new news) (laws new news) taken_new W run_new
 
-    old_site : (n : Ranked S) → NonInstance O n → SiteIs old olds O n
-    old_site n is = sites-reached old olds taken_old O run_old n is.0 is.1 is.2
+    old_ranked : (n : Ranked S) → NonInstance O n → SiteIs old olds O n
+    old_ranked n is = all_ranked-reached old olds taken_old O run_old n is.0 is.1 is.2
 
-    new_site : (n : Ranked S) → NonInstance W n → SiteIs new news W n
-    new_site n is = sites-reached new news taken_new W run_new n is.0 is.1 is.2
+    new_ranked : (n : Ranked S) → NonInstance W n → SiteIs new news W n
+    new_ranked n is = all_ranked-reached new news taken_new W run_new n is.0 is.1 is.2
 
-    -- an equal site has equal priorities in both
+    -- an equal shape has equal priorities in both
     same_priority : (n : Ranked S) → NonInstance O n → NonInstance W n → old.priority n.shape ≡ new.priority n.shape
     same_priority n was is =
-        let u = last_is old olds O n (old_site n was) in
-        let v = last_is new news W n (new_site n is) in
+        let u = last_is old olds O n (old_ranked n was) in
+        let v = last_is new news W n (new_ranked n is) in
         (snoc-same u.0 v.0 (old.priority n.shape) (new.priority n.shape) (sym u.1 ∙ v.1)).1
 
     erased-non : (ms : Sited) (n : Ranked S) → NonInstance ms n → NonInstance (map unranked ms) n.shape
@@ -122,10 +122,10 @@ module _ {S A B F P : Type 0} (shapes : Shapes S) (old new : Rules S A B F P) wh
     non-erased : (ms : Sited) (s : S) → NonInstance (map unranked ms) s → (n : Ranked S) × NonInstance ms n × (n.shape ≡ s)
     non-erased ms s is = let w = Has-unranked ms s is.0 is.1 in (w.0, (is.0, w.1, is.2), w.2)
 
-    site_same : (n m : Ranked S) → n.shape ≡ m.shape → n.priorities ≡ m.priorities → n ≡ m
-    site_same n m e f = λ i. record { shape = e i; priorities = f i }
+    ranked_same : (n m : Ranked S) → n.shape ≡ m.shape → n.priorities ≡ m.priorities → n ≡ m
+    ranked_same n m e f = λ i. record { shape = e i; priorities = f i }
 
-    -- the site of the old list at the place of n, where its shape and priority are equal
+    -- the ranked shape of the old list at the place of n, where its shape and priority are equal
     at_place : (n : Ranked S) → NonInstance W n → (m : S) → (shapes.lot m ≡ shapes.lot n.shape) → (shapes.path m ≡ shapes.path n.shape) → NonInstance (map unranked O) m → NonInstance (map unranked W) m → (old.priority m ≡ new.priority m) → (x : Ranked S) × NonInstance O x × (x.shape ≡ n.shape) × (old.priority x.shape ≡ new.priority n.shape)
     at_place n is m lot path was there priority =
         let y = non-erased W m there in
@@ -134,32 +134,32 @@ module _ {S A B F P : Type 0} (shapes : Shapes S) (old new : Rules S A B F P) wh
         let x = non-erased O m was in
         (x.0, x.1, x.2 ∙ shape, ap old.priority x.2 ∙ (priority ∙ ap new.priority shape))
 
-    from_plain : (bound : ℕ) (n : Ranked S) → length (shapes.path n.shape) < bound → NonInstance W n → Kept shapes old new (map unranked O) (map unranked W) n.shape → agenda.Kept edit O W n
-    from_plain zero n lt is kept = absurd (omega (arith, lt))
-    from_plain (suc bound) n lt is kept =
+    from_shape : (bound : ℕ) (n : Ranked S) → length (shapes.path n.shape) < bound → NonInstance W n → Kept shapes old new (map unranked O) (map unranked W) n.shape → agenda.Kept edit O W n
+    from_shape zero n lt is kept = absurd (omega (arith, lt))
+    from_shape (suc bound) n lt is kept =
         let m = kept (length (shapes.path n.shape)) (omega arith) in
         let x = at_place n is m.0 m.1 (m.2 ∙ take-length (shapes.path n.shape)) m.3 m.4 m.5 in
-        elim (new_site n is) [
-          | inl root ↦ elim (old_site x.0 x.1) [
+        elim (new_ranked n is) [
+          | inl root ↦ elim (old_ranked x.0 x.1) [
             | inl r ↦
-                let same = site_same x.0 n x.2 (r.1 ∙ (ap (λ p. p ∷ []) x.3 ∙ sym root.1)) in
+                let same = ranked_same x.0 n x.2 (r.1 ∙ (ap (λ p. p ∷ []) x.3 ∙ sym root.1)) in
                 (0, (subst (NonInstance O) same x.1, is, root.0))
             | inr c ↦ absurd (path_not_empty (shapes.path c.0.shape) c.1 (sym c.3.path ∙ (ap shapes.path x.2 ∙ root.0)))
           ]
           | inr c ↦
               let longer : length (shapes.path n.shape) ≡ length (shapes.path c.0.shape) + 1 = ap length c.3.path ∙ length-append (shapes.path c.0.shape) (c.1 ∷ []) in
-              let up = from_plain bound c.0 (omega (arith, lt, longer)) (Done, c.2, refl)
+              let up = from_shape bound c.0 (omega (arith, lt, longer)) (Done, c.2, refl)
               (λ j le.
               let q = kept j (omega (arith, le, longer)) in
               (q.0, q.1 ∙ c.3.lot, q.2 ∙ (ap (take j) c.3.path ∙ take-append-le j (shapes.path c.0.shape) (c.1 ∷ []) le), q.3, q.4, q.5)) in
               let above = kept_old up.0 c.0 up.1 in
-              elim (old_site x.0 x.1) [
+              elim (old_ranked x.0 x.1) [
                 | inl r ↦ absurd (path_not_empty (shapes.path c.0.shape) c.1 (sym c.3.path ∙ (sym (ap shapes.path x.2) ∙ r.0)))
                 | inr d ↦
                     let path = (snoc-same (shapes.path d.0.shape) (shapes.path c.0.shape) d.1 c.1 (sym d.3.path ∙ (ap shapes.path x.2 ∙ c.3.path))).0 in
                     let lot : shapes.lot d.0.shape ≡ shapes.lot c.0.shape = sym d.3.lot ∙ (ap shapes.lot x.2 ∙ c.3.lot) in
                     let parent : d.0 ≡ c.0 = (good_old.distinct d.0 c.0 Done above.0 d.2 above.1 (λ i. (lot i, path i))).0 in
-                    let same = site_same x.0 n x.2 (d.4 ∙ ((λ i. (chain_of shapes (parent i)).priorities ++ x.3 i ∷ []) ∙ sym c.4)) in
+                    let same = ranked_same x.0 n x.2 (d.4 ∙ ((λ i. (chain_of shapes (parent i)).priorities ++ x.3 i ∷ []) ∙ sym c.4)) in
                     (suc up.0, (subst (NonInstance O) same x.1, is, (c.0, c.1, c.3, up.1)))
               ]
         ]
@@ -168,10 +168,10 @@ module _ {S A B F P : Type 0} (shapes : Shapes S) (old new : Rules S A B F P) wh
         kept_old zero p h = h.0
         kept_old (suc depth) p h = h.0
 
-    pub kept_plain : ((n : Ranked S) → agenda.Kept edit O W n → (i : ℕ) → i ≤ length (shapes.path n.shape) → (m : Ranked S) × (shapes.lot m.shape ≡ shapes.lot n.shape) × (shapes.path m.shape ≡ take i (shapes.path n.shape)) × NonInstance O m × NonInstance W m) → (n : Ranked S) → NonInstance W n → (agenda.Kept edit O W n → Kept shapes old new (map unranked O) (map unranked W) n.shape) × (Kept shapes old new (map unranked O) (map unranked W) n.shape → agenda.Kept edit O W n)
-    kept_plain prefixes n is = (
+    pub kept_shape : ((n : Ranked S) → agenda.Kept edit O W n → (i : ℕ) → i ≤ length (shapes.path n.shape) → (m : Ranked S) × (shapes.lot m.shape ≡ shapes.lot n.shape) × (shapes.path m.shape ≡ take i (shapes.path n.shape)) × NonInstance O m × NonInstance W m) → (n : Ranked S) → NonInstance W n → (agenda.Kept edit O W n → Kept shapes old new (map unranked O) (map unranked W) n.shape) × (Kept shapes old new (map unranked O) (map unranked W) n.shape → agenda.Kept edit O W n)
+    kept_shape prefixes n is = (
       (λ k i le.
           let m = prefixes n k i le in
           (m.0.shape, m.1, m.2, erased-non O m.0 m.3, erased-non W m.0 m.4, same_priority m.0 m.3 m.4)),
-      from_plain (length (shapes.path n.shape) + 1) n (omega arith) is,
+      from_shape (length (shapes.path n.shape) + 1) n (omega arith) is,
     )

@@ -1,28 +1,24 @@
--- The budget over sites, derivations from no lots, and children that keep their priorities.
-use Rattle.std.proofs.Common.{◌≡◌, ℕ, ◌+◌, ◌-◌, ◌≤◌, ◌<◌, List, [], ◌∷◌, ◌++◌, map, length, false, refl, sym, ap, ◌∙◌, subst, inl, inr, Result, Ok, Err, Option, Some, None, arith}
-use Rattle.std.specs.Prelude.{nat_lt}
-use Rattle.std.proofs.lemmas.Bool.Decides.{nat_tests}
+-- The budget over ranked shapes, derivations from no lots, and children that keep their priorities.
+use Rattle.std.proofs.Common.{◌≡◌, ℕ, ◌≤◌, List, [], ◌∷◌, ◌++◌, map, length, false, refl, sym, ap, ◌∙◌, subst, inl, inr, Result, Ok, Err, Option, Some, None, arith}
 use Rattle.cga_order.specs.World.{World, Has, is_instance}
 use Rattle.cga_order.specs.declared.placed.Placed.{Placed}
 use Rattle.cga_order.specs.declared.placed.Kind.{Kind}
 use Rattle.cga_order.specs.declared.placed.Kind.TheVariants.{Waiting, Done, Faulted, Instance}
 use Rattle.cga_order.specs.Consistent.{AllBefore}
 use Rattle.cga_order.specs.Run.{Reached}
-use Rattle.cga_order.proofs.Maxima.{either}
 use Rattle.cga_order.proofs.Derived.{consistent-reached}
 use Rattle.cga_order.proofs.Unique.{has_members}
 use Rattle.cga_agenda.specs.Edit.{NonInstance, renewed}
 use Rattle.cga_rework.specs.Ranked.{Ranked, placed_as, placed, all_placed, chain_of, edit_of, ranked_world, unranked}
-use Rattle.cga_agenda.specs.Budget.{shapes_of, IsOverBudget}
+use Rattle.cga_agenda.specs.Known.{shapes_of, IsOverBudget}
 use Rattle.cga_agenda.proofs.Lists.{length-once, Has-Among, Among-Has}
 use Rattle.cga_agenda.proofs.Budget.{length-map, once-reached}
 use Rattle.cga_derivation.specs.Derivation.{Derivation, IsDerivation, reached, derive, NothingWaits, IsDerived}
-use Rattle.cga_derivation.proofs.Budget.{settled-reached}
 use Rattle.cga_derivation.proofs.Derive.{says}
 use Rattle.cga_rework.specs.Rules.{Shapes, Rules, IsRulesEdit, derivation_of, shapes_from, rules_from, no_lots}
 use Rattle.cga_rework.specs.Touched.{Kept, Touched}
 use Rattle.cga_rework.proofs.Worlds.{is_world, outcome}
-use Rattle.cga_rework.proofs.Runs.{sited_run}
+use Rattle.cga_rework.proofs.Runs.{ranked_run}
 use Rattle.cga_rework.proofs.Touched.{quiet}
 use Rattle.cga_derivation.proofs.One.{Says}
 use Rattle.cga_rework.proofs.Budget.{derived_or_none}
@@ -39,7 +35,7 @@ module _ {S A B F P : Type 0} (shapes : Shapes S) where
 
     no_more : (j : ℕ) → NothingWaits (derivation_of shapes rules) (reached (derivation_of shapes rules) j) → (taken : List (Ranked S)) (C : List (Placed (Ranked S) F P)) → Reached world taken C → length C ≤ length (reached (derivation_of shapes rules) j)
     no_more j settled taken C run =
-        let w = sited_run shapes rules are j in
+        let w = ranked_run shapes rules are j in
         let laws = is_world shapes rules are in
         let con = consistent-reached world laws w.0 w.1 w.2 (quiet shapes rules are j settled w) in
         let has = has_members world laws None w.1 con taken C run (all-before taken) in
@@ -62,7 +58,7 @@ module _ {S A B F P : Type 0} (shapes : Shapes S) where
     pub none_over : (budget : ℕ) → derive (derivation_of shapes rules) budget ≡ None → IsOverBudget world budget
     none_over budget none =
         let h : Says (derivation_of shapes rules) are budget None = subst (Says (derivation_of shapes rules) are budget) none (says (derivation_of shapes rules) are budget) in
-        let w = sited_run shapes rules are h.0 in
+        let w = ranked_run shapes rules are h.0 in
         let size : length w.1 ≡ length (reached (derivation_of shapes rules) h.0) = sym (length-map unranked w.1) ∙ ap length w.3 in
         (w.0, w.1, w.2, (let more = h.1 in omega (arith, more, size)))
 
@@ -109,8 +105,8 @@ module _ {S A B F P : Type 0} (shapes : Shapes S) where
     pub unchanged : (n : Ranked S) (a : A) → ((cs : List (Placed S F P)) → old.expand n.shape a ≡ Ok cs → (c : S) (k : Kind F P) → Has cs c k → is_instance k ≡ false → old.priority c ≡ new.priority c) → renewed (edit_of shapes old new).renew (all_placed old.priority (chain_of shapes n).priorities (old.expand n.shape a)) ≡ all_placed old.priority (chain_of shapes n).priorities (old.expand n.shape a)
     unchanged n a h = sym (outcome shapes old new (chain_of shapes n).priorities (old.expand n.shape a)) ∙ same_result (chain_of shapes n).priorities (old.expand n.shape a) h
 
-pub plains_rules : {S A B F P : Type 0} (old new : Derivation S A F P) (setting : S → B) → old.mode ≡ new.mode → old.lot ≡ new.lot → old.path ≡ new.path → (derivation_of (shapes_from old) (rules_from old setting) ≡ old) × (derivation_of (shapes_from old) (rules_from new setting) ≡ new)
-plains_rules old new setting mode lot path = (
+pub derivations_rules : {S A B F P : Type 0} (old new : Derivation S A F P) (setting : S → B) → old.mode ≡ new.mode → old.lot ≡ new.lot → old.path ≡ new.path → (derivation_of (shapes_from old) (rules_from old setting) ≡ old) × (derivation_of (shapes_from old) (rules_from new setting) ≡ new)
+derivations_rules old new setting mode lot path = (
   refl,
   λ i. record {
     mode = mode i;

@@ -1,4 +1,4 @@
--- The answers of a shape at its own step, in a run over sites of so many steps that nothing waits.
+-- The answers of a shape at its own step, in a run of so many steps that nothing waits.
 use Rattle.std.proofs.Common.{◌≡◌, ℕ, zero, suc, ◌+◌, ◌-◌, ◌≤◌, ◌<◌, true, false, sym, ap, ◌∙◌, subst, inl, inr, Some, arith}
 use Rattle.std.specs.Prelude.{nat_lt}
 use Rattle.std.proofs.lemmas.Bool.Decides.{nat_tests}

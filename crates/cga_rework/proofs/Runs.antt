@@ -1,4 +1,4 @@
--- The plain derivation is that of a run over sites.
+-- A derivation is that of a run over ranked shapes.
 use Rattle.std.proofs.Common.{◌≡◌, ℕ, zero, suc, ◌+◌, ◌⊎◌, List, [], ◌∷◌, ◌++◌, map, length, Bool, true, false, cond, not, ◌&&◌, refl, sym, ap, ◌∙◌, subst, inl, inr, Result, Ok, Err, Option, Some, None, length-append}
 use Rattle.std.specs.Prelude.{slice_index}
 use Rattle.std.specs.Ordering.{is_lt}
@@ -14,7 +14,7 @@ use Rattle.cga_order.specs.Run.{IsStep, Reached}
 use Rattle.cga_order.proofs.Members.{Has-index, Has-start, waits}
 use Rattle.cga_rework.specs.Ranked.{Ranked, placed_as, placed, all_placed, chain_of, ranked_world, unranked}
 use Rattle.cga_derivation.specs.Sites.{fitted}
-use Rattle.cga_agenda.specs.Own.{AnsweredIn}
+use Rattle.cga_agenda.proofs.Own.{AnsweredIn}
 use Rattle.cga_derivation.proofs.Sites.{length-fitted, fitted-same}
 use Rattle.cga_rework.proofs.Lists.{Among-map}
 use Rattle.cga_order.proofs.Places.{slice_get-map}
@@ -100,7 +100,7 @@ module _ {S A B F P : Type 0} (shapes : Shapes S) (rules : Rules S A B F P) (are
   told-erased C n (Ok cs) = map-append unranked (map (run.become world n Done) C) cs ∙ ap (λ xs. xs ++ map unranked cs) (all-become n Done C)
   told-erased C n (Err f) = all-become n (Faulted f) C
 
-  -- a site that waits has the rank of its shape
+  -- a ranked shape that waits has the rank of its shape
   abbrev RanksRight : Sited → Type 0
   RanksRight C = (n : Ranked S) → Has C n Waiting → rank (chain_of shapes n) ≡ rank_of derivation n.shape
 
@@ -154,16 +154,16 @@ module _ {S A B F P : Type 0} (shapes : Shapes S) (rules : Rules S A B F P) (are
   start-erased : map unranked (run.start world) ≡ start derivation
   start-erased = map-map unranked (λ n. record { shape = n; kind = Waiting }) world.roots ∙ map-map (λ n. record { shape = n.shape; kind = Waiting }) (λ s. record { shape = s; priorities = rules.priority s ∷ [] }) rules.roots
 
-  -- so many plain steps are those of a run over sites, in which the same answers were got
-  abbrev pub SitedRun : ℕ → Type 0
-  SitedRun n =
-      (sites : List (Ranked S)) × (C : Sited) × (run : Reached world sites C) × (map unranked C ≡ reached derivation n)
-      × ((m : Ranked S) (a : A) → AnsweredIn world sites C run m a → AnsweredTo derivation n m.shape a)
-      × ((s : S) (a : A) → AnsweredTo derivation n s a → (m : Ranked S) × (m.shape ≡ s) × AnsweredIn world sites C run m a)
+  -- so many steps are those of a run over ranked shapes, in which the same answers were got
+  abbrev pub RankedRun : ℕ → Type 0
+  RankedRun n =
+      (all_ranked : List (Ranked S)) × (C : Sited) × (run : Reached world all_ranked C) × (map unranked C ≡ reached derivation n)
+      × ((m : Ranked S) (a : A) → AnsweredIn world all_ranked C run m a → AnsweredTo derivation n m.shape a)
+      × ((s : S) (a : A) → AnsweredTo derivation n s a → (m : Ranked S) × (m.shape ≡ s) × AnsweredIn world all_ranked C run m a)
 
-  sited_next : (n : ℕ) (o : Option (Placed S F P)) → next_of derivation (reached derivation n) ≡ o → SitedRun n → SitedRun (suc n)
+  ranked_next : (n : ℕ) (o : Option (Placed S F P)) → next_of derivation (reached derivation n) ≡ o → RankedRun n → RankedRun (suc n)
   unfolding reached step
-  sited_next n None e w = (
+  ranked_next n None e w = (
     w.0,
     w.1,
     w.2,
@@ -174,7 +174,7 @@ module _ {S A B F P : Type 0} (shapes : Shapes S) (rules : Rules S A B F P) (are
       | inr r ↦ w.5 s a r
     ],
   )
-  sited_next n (Some t) e w =
+  ranked_next n (Some t) e w =
       let C = w.1 in
       let ranks = ranks-reached w.0 C w.2 in
       let passes = both _ _ (first_of-passes (is_next derivation (reached derivation n)) (reached derivation n) t e) in
@@ -220,10 +220,10 @@ module _ {S A B F P : Type 0} (shapes : Shapes S) (rules : Rules S A B F P) (are
         ],
       )
 
-  sited_start : SitedRun 0
+  ranked_start : RankedRun 0
   unfolding reached
-  sited_start = ([], run.start world, refl, start-erased, (λ m a h. h), λ s a h. absurd h)
+  ranked_start = ([], run.start world, refl, start-erased, (λ m a h. h), λ s a h. absurd h)
 
-  pub sited_run : (n : ℕ) → SitedRun n
-  sited_run zero = sited_start
-  sited_run (suc n) = sited_next n (next_of derivation (reached derivation n)) refl (sited_run n)
+  pub ranked_run : (n : ℕ) → RankedRun n
+  ranked_run zero = ranked_start
+  ranked_run (suc n) = ranked_next n (next_of derivation (reached derivation n)) refl (ranked_run n)

@@ -1,4 +1,4 @@
--- What an edit starts from stands for the old sources.
+-- What an edit starts from stands for the old derivation.
 use Rattle.std.proofs.Common.{◌≡◌, ℕ, List, [], ◌∷◌, ◌++◌, map, true, false, sym, ◌∙◌, subst, inl, inr, None}
 use Rattle.cga_order.specs.World.{World, IsWorld, Has, is_instance}
 use Rattle.cga_order.specs.declared.placed.Placed.{Placed}
@@ -13,10 +13,10 @@ use Rattle.cga_agenda.proofs.Update.{answers_same}
 use Rattle.cga_derivation.specs.Derivation.{IsDerivation, reached, NothingWaits, IsDerived}
 use Rattle.cga_rework.specs.Rules.{Shapes, Rules, derivation_of}
 use Rattle.cga_rework.specs.Touched.{Answered}
-use Rattle.cga_rework.specs.Laws.{StandsFor}
+use Rattle.cga_rework.specs.Exact.{StandsFor}
 use Rattle.cga_rework.proofs.Worlds.{is_world}
-use Rattle.cga_rework.proofs.Runs.{SitedRun, sited_run, unranked-Has, Has-unranked}
-use Rattle.cga_rework.proofs.Kept.{sites-reached, last_is}
+use Rattle.cga_rework.proofs.Runs.{RankedRun, ranked_run, unranked-Has, Has-unranked}
+use Rattle.cga_rework.proofs.Kept.{all_ranked-reached, last_is}
 use Rattle.cga_rework.proofs.Touched.{quiet, to_own}
 
 module _ {S A B F P : Type 0} (shapes : Shapes S) (rules : Rules S A B F P) (are : IsDerivation (derivation_of shapes rules)) where
@@ -26,7 +26,7 @@ module _ {S A B F P : Type 0} (shapes : Shapes S) (rules : Rules S A B F P) (are
   laws : IsWorld world
   laws = is_world shapes rules are
 
-  module _ (nodes : List (Node (Ranked S) A F P)) (tree : IsTree world nodes) (right : AllRight world nodes (λ n. false)) (i : ℕ) (settled : NothingWaits (derivation_of shapes rules) (reached (derivation_of shapes rules) i)) (w : SitedRun shapes rules are i) where
+  module _ (nodes : List (Node (Ranked S) A F P)) (tree : IsTree world nodes) (right : AllRight world nodes (λ n. false)) (i : ℕ) (settled : NothingWaits (derivation_of shapes rules) (reached (derivation_of shapes rules) i)) (w : RankedRun shapes rules are i) where
     same : SameMembers (members_of nodes) w.1
     same = same_members world laws (members_of nodes) (right_consistent world laws nodes (λ n. false) None tree right (λ n k a h q b. let x : false ≡ true = q in cc)) w.0 w.1 w.2 (quiet shapes rules are i settled w)
 
@@ -55,7 +55,7 @@ module _ {S A B F P : Type 0} (shapes : Shapes S) (rules : Rules S A B F P) (are
         subst (Answered (derivation_of shapes rules) n.shape) (sym kept) (to_own shapes rules are i settled w n (k, there n k a h, e))
 
     priorities : (n : Ranked S) (k : Kind F P) (a : A) → Keeps nodes n k a → is_instance k ≡ false → (above : List ℕ) × (n.priorities ≡ above ++ rules.priority n.shape ∷ [])
-    priorities n k a h e = last_is shapes rules rules rules are w.1 n (sites-reached shapes rules rules rules are w.0 w.1 w.2 n k (there n k a h) e)
+    priorities n k a h e = last_is shapes rules rules rules are w.1 n (all_ranked-reached shapes rules rules rules are w.0 w.1 w.2 n k (there n k a h) e)
 
     stands : StandsFor shapes rules nodes list
     stands = record {
@@ -67,4 +67,4 @@ module _ {S A B F P : Type 0} (shapes : Shapes S) (rules : Rules S A B F P) (are
   pub start_stands : (new : Rules S A B F P) (start : List (Node (Ranked S) A F P)) → IsStart (edit_of shapes rules new) start → (derived : List (Placed S F P)) → IsDerived (derivation_of shapes rules) derived → StandsFor shapes rules start derived
   start_stands new start started derived (i, e, q) =
       let settled = subst (NothingWaits (derivation_of shapes rules)) e q in
-      subst (StandsFor shapes rules start) (sym e) (stands start started.tree started.right i settled (sited_run shapes rules are i))
+      subst (StandsFor shapes rules start) (sym e) (stands start started.tree started.right i settled (ranked_run shapes rules are i))

@@ -1,5 +1,5 @@
--- Two plain sources make an edit over sites.
-use Rattle.std.proofs.Common.{◌≡◌, ℕ, ◌+◌, List, [], ◌∷◌, ◌++◌, map, length, true, false, refl, sym, ap, ◌∙◌, subst, inl, inr, Result, Ok, Err, Some, arith, length-append}
+-- Rules make worlds and edits over ranked shapes.
+use Rattle.std.proofs.Common.{◌≡◌, ℕ, ◌+◌, List, [], ◌∷◌, ◌++◌, map, length, true, false, refl, sym, ap, ◌∙◌, subst, Result, Ok, Err, Some, arith, length-append}
 use Rattle.std.specs.Prelude.{slice_get}
 use Rattle.cga_order.specs.Chain.{IsChild}
 use Rattle.cga_order.specs.World.{World, IsWorld, Among, is_instance, place_of, IsNew}
@@ -13,7 +13,6 @@ use Rattle.cga_derivation.proofs.Sites.{length-fitted, fitted-same}
 use Rattle.cga_rework.proofs.Lists.{Among-map, map-Among}
 use Rattle.cga_order.proofs.Places.{slice_get-map}
 use Rattle.cga_derivation.specs.Derivation.{IsDerivation}
-use Rattle.cga_order.proofs.Members.{Among-index}
 use Rattle.cga_rework.specs.Rules.{Shapes, Rules, derivation_of, IsRulesEdit}
 
 with_last_from-snoc : (last own p : ℕ) (ps : List ℕ) → with_last_from last p (ps ++ own ∷ []) ≡ p ∷ (ps ++ last ∷ [])
@@ -32,8 +31,8 @@ module _ {S A B F P : Type 0} (shapes : Shapes S) where
     abbrev world : World (Ranked S) A F P
     world = ranked_world shapes rules
 
-    abbrev pub root_site : S → Ranked S
-    root_site s = record { shape = s; priorities = rules.priority s ∷ [] }
+    abbrev pub root_ranked : S → Ranked S
+    root_ranked s = record { shape = s; priorities = rules.priority s ∷ [] }
 
     -- a child that is placed below these priorities
     child_of : (s : Ranked S) (i : ℕ) (own : ℕ) (e : S) → (shapes.lot e ≡ shapes.lot s.shape) → (shapes.path e ≡ shapes.path s.shape ++ i ∷ []) → IsChild (chain_of shapes s) i (chain_of shapes (record { shape = e; priorities = (chain_of shapes s).priorities ++ own ∷ [] }))
@@ -69,11 +68,11 @@ module _ {S A B F P : Type 0} (shapes : Shapes S) where
     is_world = record {
       whole = whole;
       root = λ n h.
-          let w = Among-map root_site rules.roots n h in
+          let w = Among-map root_ranked rules.roots n h in
           subst (λ (x : Ranked S). shapes.path x.shape ≡ []) w.2 (are.root w.0 w.1);
       roots_apart = λ i j n m h g e.
-          let a = slice_get-map root_site rules.roots i n h in
-          let b = slice_get-map root_site rules.roots j m g in
+          let a = slice_get-map root_ranked rules.roots i n h in
+          let b = slice_get-map root_ranked rules.roots j m g in
           are.roots_apart i j a.0 b.0 a.1 b.1 (ap (place_of world) a.2 ∙ (e ∙ sym (ap (place_of world) b.2)));
       child = λ s a cs e i c g. child s a (rules.expand s.shape a) refl cs e i c g;
       unseen = λ n m v. are.unseen n.shape m.shape v;

@@ -1,97 +1,43 @@
 -- What is proved of an edit between two derivations.
-use Rattle.std.specs.Prelude.{◌≡◌, ℕ, ◌+◌, ◌<◌, ◌⊎◌, List, [], ◌∷◌, ◌++◌, map, length, Bool, false, Some, None, Ok, count_by}
-use Rattle.cga_order.specs.World.{Has, Among, is_instance}
+use Rattle.std.specs.Prelude.{◌≡◌, ℕ, ◌+◌, ◌<◌, ◌⊎◌, List, [], length, Bool, false, Some, None, Ok}
+use Rattle.cga_order.specs.World.{Has, is_instance}
 use Rattle.cga_order.specs.declared.placed.Placed.{Placed}
 use Rattle.cga_order.specs.declared.placed.Kind.{Kind}
-use Rattle.cga_order.specs.declared.placed.Kind.TheVariants.{Instance}
-use Rattle.cga_order.specs.Consistent.{SameMembers}
-use Rattle.cga_order.specs.Agenda.{Node, members_of, Keeps}
+use Rattle.cga_order.specs.Agenda.{Node}
 use Rattle.cga_derivation.specs.Derivation.{Derivation, IsDerivation, IsDerived, derive}
 use Rattle.cga_agenda.specs.Edit.{IsEdit, NonInstance, renewed}
-use Rattle.cga_agenda.specs.Work.{Once, NoneQueued, IsStart, IsWorking}
-use Rattle.cga_agenda.specs.Record.{Drawn, drawn, IsRecord}
-use Rattle.cga_agenda.specs.Budget.{shapes_of, IsKnown, IsOverBudget}
-use Rattle.cga_agenda.specs.Loop.{IsOver, IsWithin}
+use Rattle.cga_agenda.specs.Work.{StandOnce, NoneQueued, IsStart, IsWorking}
+use Rattle.cga_agenda.specs.Record.{Drawn, IsRecord}
+use Rattle.cga_agenda.specs.Known.{IsKnown, IsOverBudget}
+use Rattle.cga_agenda.specs.Loop.{State, IsOver, IsDone}
 use Rattle.cga_rework.specs.Rules.{Shapes, Rules, IsRulesEdit, derivation_of, shapes_from, rules_from, no_lots, Readings, IsReadBy}
-use Rattle.cga_rework.specs.Ranked.{Ranked, edit_of, ranked_world, unranked, unranked_drawn}
-use Rattle.cga_rework.specs.Touched.{Answered, Kept, SameInputs, Touched}
-
--- nodes stand for sources: they are the members of the derivation, and each that is no instance keeps
--- the answers of its own step, and the priority of its symbol
-pub record StandsFor {S A B F P : Type 0} (shapes : Shapes S) (rules : Rules S A B F P) (nodes : List (Node (Ranked S) A F P)) (list : List (Placed S F P)) : Type 0 where
-  pub members : (s : S) (k : Kind F P)
-      → (Has (map unranked (members_of nodes)) s k → Has list s k)
-      × (Has list s k → Has (map unranked (members_of nodes)) s k)
-  pub answers : (n : Ranked S) (k : Kind F P) (a : A) → Keeps nodes n k a → is_instance k ≡ false
-      → Answered (derivation_of shapes rules) n.shape a
-  pub priorities : (n : Ranked S) (k : Kind F P) (a : A) → Keeps nodes n k a → is_instance k ≡ false
-      → (above : List ℕ) × (n.priorities ≡ above ++ rules.priority n.shape ∷ [])
-
--- child i of parent
-abbrev pub IsBelow : {S : Type 0} → Shapes S → S → ℕ → S → Type 0
-IsBelow shapes parent i s = (shapes.lot s ≡ shapes.lot parent) × (shapes.path s ≡ shapes.path parent ++ i ∷ [])
-
--- what the work of an edit leaves, over the two derivations: nodes, and shapes that were expanded
-pub record IsExactWork {S A B F P : Type 0} (shapes : Shapes S) (old new : Rules S A B F P) (now : List (Node (Ranked S) A F P)) (worked : List (Ranked S)) (before after : List (Placed S F P)) : Type 0 where
-  -- the nodes are the members of the new derivation
-  pub members : (s : S) (k : Kind F P)
-      → (Has (map unranked (members_of now)) s k → Has after s k)
-      × (Has after s k → Has (map unranked (members_of now)) s k)
-  -- what was expanded is what is touched, each once
-  pub once : Once (map (λ n. n.shape) worked)
-  pub touched : (s : S)
-      → (Among s (map (λ n. n.shape) worked) → Touched shapes old new before after s)
-      × (Touched shapes old new before after s → Among s (map (λ n. n.shape) worked))
-  pub count : (list : List S) → Once list
-      → ((s : S) → (Among s list → Touched shapes old new before after s)
-      × (Touched shapes old new before after s → Among s list))
-      → length worked ≡ length list
-
--- and the record of change
-pub record IsExactRework {S A B F P : Type 0} (shapes : Shapes S) (old new : Rules S A B F P) (now : List (Node (Ranked S) A F P)) (worked : List (Ranked S)) (gone come : List (Drawn (Ranked S) P)) (before after : List (Placed S F P)) : Type 0 where
-  pub work : IsExactWork shapes old new now worked before after
-  pub size : length now ≡ length after
-  -- the new derivation is over the budget where there are more nodes
-  pub budget : (budget : ℕ)
-      → (derive (derivation_of shapes new) budget ≡ None → budget < length now)
-      × (budget < length now → derive (derivation_of shapes new) budget ≡ None)
-  pub gone_once : Once (map unranked_drawn gone)
-  pub come_once : Once (map unranked_drawn come)
-  -- what came is an instance of the new derivation, and a child of a touched shape
-  pub each_come : (d : Drawn (Ranked S) P) → Among d come
-      → Has after d.shape.shape (Instance d.solid)
-      × ((parent : S) × (i : ℕ) × IsBelow shapes parent i d.shape.shape × Touched shapes old new before after parent)
-  -- what went is an instance of the old derivation, and no child of a kept shape of equal inputs
-  pub each_gone : (d : Drawn (Ranked S) P) → Among d gone
-      → Has before d.shape.shape (Instance d.solid)
-      × ((parent : S) (i : ℕ) → NonInstance after parent → IsBelow shapes parent i d.shape.shape
-      → Kept shapes old new before after parent → SameInputs shapes old new parent → ⊥)
-  pub balance : (test : Drawn S P → Bool)
-      → count_by test (drawn before) + count_by test (map unranked_drawn come)
-      ≡ count_by test (drawn after) + count_by test (map unranked_drawn gone)
+use Rattle.cga_rework.specs.Ranked.{Ranked, edit_of, ranked_world}
+use Rattle.cga_rework.specs.Touched.{Touched}
+use Rattle.cga_rework.specs.Exact.{StandsFor, IsExactRework}
 
 module _ (S A B F P : Type 0) where
-  -- two plain sources make an edit over sites
+  -- old and new rules make the edit of an agenda
   abbrev pub RulesMakeEdits : Type 0
   RulesMakeEdits =
       (shapes : Shapes S) (old new : Rules S A B F P) → IsRulesEdit shapes old new
       → IsEdit (edit_of shapes old new)
 
-  -- when the agenda is empty
+  -- when nothing is on the agenda, the work is done, with its record
   abbrev pub ReworkIsExact : Type 0
   ReworkIsExact =
       (shapes : Shapes S) (old new : Rules S A B F P) → IsRulesEdit shapes old new
       → (start now : List (Node (Ranked S) A F P)) (queued : Ranked S → Bool) (turned worked : List (Ranked S))
       (gone come : List (Drawn (Ranked S) P))
-      → IsStart (edit_of shapes old new) start → Once (shapes_of (members_of start))
-      → IsWorking (edit_of shapes old new) start now queued turned worked → Once (shapes_of (members_of now))
+      → IsStart (edit_of shapes old new) start → StandOnce start
+      → IsWorking (edit_of shapes old new) start now queued turned worked → StandOnce now
       → IsRecord (edit_of shapes old new) start now worked gone come
       → NoneQueued (edit_of shapes old new) now queued
       → (before after : List (Placed S F P))
       → IsDerived (derivation_of shapes old) before → IsDerived (derivation_of shapes new) after
       → IsExactRework shapes old new now worked gone come before after
 
-  -- before: where more is known, or more shapes had their turn, than the budget allows, it is over it
+  -- where more is known, or more shapes had their turn, than the budget allows, the new derivation is
+  -- over it, whatever is still on the agenda
   abbrev pub KnownIsOver : Type 0
   KnownIsOver =
       (shapes : Shapes S) (old new : Rules S A B F P) → IsRulesEdit shapes old new
@@ -102,14 +48,14 @@ module _ (S A B F P : Type 0) where
       → (budget : ℕ) → (budget < length known) ⊎ (budget < length turned)
       → derive (derivation_of shapes new) budget ≡ None
 
-  -- in the world over sites a configuration passes the budget exactly where the plain derivation is none
+  -- a configuration of ranked shapes has more members than the budget exactly where `derive` is none
   abbrev pub OverIsNone : Type 0
   OverIsNone =
       (shapes : Shapes S) (rules : Rules S A B F P) → IsDerivation (derivation_of shapes rules) → (budget : ℕ)
       → (IsOverBudget (ranked_world shapes rules) budget → derive (derivation_of shapes rules) budget ≡ None)
       × (derive (derivation_of shapes rules) budget ≡ None → IsOverBudget (ranked_world shapes rules) budget)
 
-  -- two plain records of equal mode, lots and paths are such sources
+  -- two derivations of equal mode, lots and paths are rules over the same shapes
   abbrev pub DerivationsAreRules : Type 0
   DerivationsAreRules =
       (old new : Derivation S A F P) (setting : S → B)
@@ -135,19 +81,25 @@ module _ (S A B F P : Type 0) where
       → renewed (edit_of shapes old new).renew ((edit_of shapes old new).old.expand n a)
       ≡ (edit_of shapes old new).old.expand n a
 
-  -- what the loop over the agenda ends with, in plain words
+  -- what the loop over the agenda ends with
   pub record LoopIsExact : Type 0 where
+    -- over the budget, so is the new derivation
     pub over : (shapes : Shapes S) (old new : Rules S A B F P) → IsRulesEdit shapes old new
-        → (budget calls : ℕ) → IsOver (edit_of shapes old new) budget calls
+        → (first last : State (Ranked S) A F P) (budget : ℕ)
+        → IsOver (edit_of shapes old new) first last budget
         → derive (derivation_of shapes new) budget ≡ None
-    pub within : (shapes : Shapes S) (old new : Rules S A B F P) → IsRulesEdit shapes old new
-        → (start now : List (Node (Ranked S) A F P)) → IsStart (edit_of shapes old new) start
-        → (budget calls : ℕ) → IsWithin (edit_of shapes old new) start now budget calls
+    -- within it, the rework is exact, and there was a call of expand for each shape that was expanded
+    pub done : (shapes : Shapes S) (old new : Rules S A B F P) → IsRulesEdit shapes old new
+        → (start : List (Node (Ranked S) A F P)) → IsStart (edit_of shapes old new) start → StandOnce start
+        → (first last : State (Ranked S) A F P) (budget : ℕ)
+        → IsDone (edit_of shapes old new) start first last budget
         → (before : List (Placed S F P)) → IsDerived (derivation_of shapes old) before
         → (after : List (Placed S F P)) × (derive (derivation_of shapes new) budget ≡ Some after)
-        × ((worked : List (Ranked S)) × IsExactWork shapes old new now worked before after × (calls ≡ length worked))
+        × ((worked : List (Ranked S))
+        × IsExactRework shapes old new last.nodes worked last.gone last.come before after
+        × (last.calls ≡ first.calls + length worked))
 
-  -- sources that read no more than the settings meet what two sources have to
+  -- rules that read no more of their sources than the settings meet what an edit's rules have to
   abbrev pub ReadingsMakeEdits : Type 0
   ReadingsMakeEdits =
       (shapes : Shapes S) (readings : Readings S A B F P) (old new : Rules S A B F P)
@@ -165,7 +117,7 @@ module _ (S A B F P : Type 0) where
     pub first : (shapes : Shapes S) (new : Rules S A B F P)
         → IsStart (edit_of shapes (no_lots new) new) []
 
-  -- what the work of an edit starts from stands for the old sources
+  -- what the work of an edit starts from stands for the old derivation
   abbrev pub StartStands : Type 0
   StartStands =
       (shapes : Shapes S) (old new : Rules S A B F P) → IsDerivation (derivation_of shapes old)

@@ -1,54 +1,45 @@
-use Rattle.std.proofs.Common.{◌≡◌, ◌+◌, ◌<◌, true, false, cond, sym, ap, ◌∙◌, subst, ◌⊎◌, inl, inr, arith, length}
-use Rattle.std.proofs.lemmas.Bool.{ltb-true, lt-ltb}
-use Rattle.cga_agenda.specs.Loop.{StandOnce, IsWithin}
-use Rattle.cga_agenda.proofs.Loop.{knows_first, numbers, knows_next, knows_as, calls_turns, over_early, over_late, within_end}
+use Rattle.std.proofs.Common.{◌+◌, ◌<◌, ◌⊎◌, inl, inr, arith}
+use Rattle.cga_agenda.proofs.Loop.{knows_first, knows_next, over_early, moved, idle, ends_over, ends_done}
 use Rattle.cga_agenda.proofs.agenda.work.Goals as goal
-use Rattle.cga_agenda.proofs.agenda.work.Goals.{then-turned, else-turned}
 
-pub loop-turned-init : goal.loop-turned-init
-loop-turned-init g c =
-    let k = knows_first g.W.Worker.edit g.start (g.W.Worker.nodes c.args.worker.now) (g.W.Worker.queued c.args.worker.now) c.args.roots c.requires.1.1.1.1.1.1 in
-    ((k.0, k.1, k.2, k.3, k.4, k.5, k.6, c.from-known.ensures ∙ k.7), omega (arith, c.if-known-from.false, c.from.ensures), omega arith, omega arith)
+pub returns-then-known-from : goal.returns-then-known-from
+returns-then-known-from g c = λ start ready.
+    let first = g.W.Worker.state c.args.worker.now in
+    let knows = knows_first g.W.Worker.edit start first c.args.roots ready c.from-known.result c.from-known.ensures in
+    over_early g.W.Worker.edit start first c.args.roots ready first 0 c.from-known.result knows c.args.budget (inl (omega (arith, c.if-known-from.true, c.from.ensures))) (omega arith)
 
-pub loop-turned-preserved : goal.loop-turned-preserved
-loop-turned-preserved g c =
-    let t = c.in-Some.turned in
-    let k = knows_next g.W.Worker.edit g.start (g.W.Worker.nodes c.args.worker.now) (g.W.Worker.queued c.args.worker.now) c.args.roots c.requires.1.1.1.1.1.1 (g.W.Worker.nodes c.loop-turned.worker) (g.W.Worker.queued c.loop-turned.worker) c.loop-turned.turns c.loop-turned.calls c.loop-turned.known c.loop-turned.invariant.0 (g.W.Worker.nodes c.turn.new.self) (g.W.Worker.queued c.turn.new.self) t.expanded t.children c.in-Some.ensures in
-    let n = numbers t.expanded c.loop-turned.calls c.loop-turned.known t.children c.if-turned.calls c.if-turned.known (elim c.if-turned.branch [
-      | then-turned v ↦ inl (v.if-turned.true, v.calls-is, v.known-is ∙ ap (λ x. c.loop-turned.known + x) v.from-known-then-turned.ensures)
-      | else-turned v ↦ inr (v.if-turned.false, v.calls-is, v.known-is)
-    ]) in
-    let now = knows_as g.W.Worker.edit g.start (g.W.Worker.nodes c.args.worker.now) (g.W.Worker.queued c.args.worker.now) c.args.roots c.requires.1.1.1.1.1.1 (g.W.Worker.nodes c.turn.new.self) (g.W.Worker.queued c.turn.new.self) (c.loop-turned.turns + 1) (c.loop-turned.calls + cond t.expanded 1 0) (c.loop-turned.known + cond t.expanded t.children 0) k c.if-turned.calls c.if-turned.known n in (
-      now,
-      omega (arith, c.if-known-from-2.false, c.from-in-Some.ensures),
-      omega (arith, c.loop-turned.invariant.2, c.if-turns-budget.false),
-      calls_turns g.W.Worker.edit g.start (g.W.Worker.nodes c.args.worker.now) (g.W.Worker.queued c.args.worker.now) c.args.roots c.requires.1.1.1.1.1.1 (g.W.Worker.nodes c.turn.new.self) (g.W.Worker.queued c.turn.new.self) (c.loop-turned.turns + 1) c.if-turned.calls c.if-turned.known now,
-    )
+pub loop-children-init : goal.loop-children-init
+loop-children-init g c = (
+  (λ start ready. knows_first g.W.Worker.edit start (g.W.Worker.state c.args.worker.now) c.args.roots ready c.from-known.result c.from-known.ensures),
+  omega (arith, c.if-known-from.false, c.from.ensures),
+  omega arith,
+)
 
-pub returns-then-known-from-2-clause-over : goal.returns-then-known-from-2-clause-over
-returns-then-known-from-2-clause-over g c = λ e.
-    let t = c.in-Some.turned in
-    let k = knows_next g.W.Worker.edit g.start (g.W.Worker.nodes c.args.worker.now) (g.W.Worker.queued c.args.worker.now) c.args.roots c.requires.1.1.1.1.1.1 (g.W.Worker.nodes c.loop-turned.worker) (g.W.Worker.queued c.loop-turned.worker) c.loop-turned.turns c.loop-turned.calls c.loop-turned.known c.loop-turned.invariant.0 (g.W.Worker.nodes c.turn.new.self) (g.W.Worker.queued c.turn.new.self) t.expanded t.children c.in-Some.ensures in
-    let n = numbers t.expanded c.loop-turned.calls c.loop-turned.known t.children c.if-turned.calls c.if-turned.known (elim c.if-turned.branch [
-      | then-turned v ↦ inl (v.if-turned.true, v.calls-is, v.known-is ∙ ap (λ x. c.loop-turned.known + x) v.from-known-then-turned.ensures)
-      | else-turned v ↦ inr (v.if-turned.false, v.calls-is, v.known-is)
-    ]) in
-    let now = knows_as g.W.Worker.edit g.start (g.W.Worker.nodes c.args.worker.now) (g.W.Worker.queued c.args.worker.now) c.args.roots c.requires.1.1.1.1.1.1 (g.W.Worker.nodes c.turn.new.self) (g.W.Worker.queued c.turn.new.self) (c.loop-turned.turns + 1) (c.loop-turned.calls + cond t.expanded 1 0) (c.loop-turned.known + cond t.expanded t.children 0) k c.if-turned.calls c.if-turned.known n in
-    let more : (c.args.budget < c.if-turned.known) ⊎ (c.args.budget < c.loop-turned.turns + 1) = elim c.then-known-from-2.either [
+pub returns-then-known-from-2 : goal.returns-then-known-from-2
+returns-then-known-from-2 g c = λ start ready.
+    let first = g.W.Worker.state c.args.worker.now in
+    let turn = moved g.W.Worker.edit (g.W.Worker.state c.loop-children.worker) (g.W.Worker.state c.turn.new.self) c.in_ok-children.field-0 c.in-Some.children c.in-Some.is c.in_ok-children.ensures in
+    let next = knows_next g.W.Worker.edit start first c.args.roots ready (g.W.Worker.state c.loop-children.worker) c.loop-children.turns c.loop-children.known (c.loop-children.invariant.0 start ready) (g.W.Worker.state c.turn.new.self) c.in-Some.children c.from-known-in-Some.result c.from-known-in-Some.ensures turn in
+    let more : (c.args.budget < c.loop-children.known + c.from-known-in-Some.result) ⊎ (c.args.budget < c.loop-children.turns + 1) = elim c.then-known-from-2.either [
       | inl lt ↦ inl (omega (arith, lt, c.from-in-Some.ensures))
       | inr h ↦ inr (omega (arith, h.1))
     ] in
-    over_early g.W.Worker.edit g.start (g.W.Worker.nodes c.args.worker.now) (g.W.Worker.queued c.args.worker.now) c.args.roots c.requires.1.1.1.1.1.1 (g.W.Worker.nodes c.turn.new.self) (g.W.Worker.queued c.turn.new.self) (c.loop-turned.turns + 1) c.if-turned.calls c.if-turned.known now c.args.budget more (omega (arith, c.loop-turned.invariant.2))
+    over_early g.W.Worker.edit start first c.args.roots ready (g.W.Worker.state c.turn.new.self) (c.loop-children.turns + 1) (c.loop-children.known + c.from-known-in-Some.result) next c.args.budget more (omega (arith, c.loop-children.invariant.2))
 
-pub returns-clause-over : goal.returns-clause-over
-returns-clause-over g c = λ e.
-    let i = c.in_default.ensures in
-    let o = over_late g.W.Worker.edit g.start (g.W.Worker.nodes c.args.worker.now) (g.W.Worker.queued c.args.worker.now) c.args.roots c.requires.1.1.1.1.1.1 (g.W.Worker.nodes c.loop-turned.worker) (g.W.Worker.queued c.loop-turned.worker) c.loop-turned.turns c.loop-turned.calls c.loop-turned.known c.loop-turned.invariant.0 i.2 (subst (StandOnce g.W.Worker.edit) i.0 c.count.ensures.once) c.args.budget in
-    let more : c.args.budget < c.count.result = ltb-true c.args.budget c.count.result e in
-    o (omega (arith, more, c.count.ensures.number, ap length i.0)) c.loop-turned.invariant.2
+pub loop-children-preserved : goal.loop-children-preserved
+loop-children-preserved g c =
+    let turn = moved g.W.Worker.edit (g.W.Worker.state c.loop-children.worker) (g.W.Worker.state c.turn.new.self) c.in_ok-children.field-0 c.in-Some.children c.in-Some.is c.in_ok-children.ensures in (
+      (λ start ready. knows_next g.W.Worker.edit start (g.W.Worker.state c.args.worker.now) c.args.roots ready (g.W.Worker.state c.loop-children.worker) c.loop-children.turns c.loop-children.known (c.loop-children.invariant.0 start ready) (g.W.Worker.state c.turn.new.self) c.in-Some.children c.from-known-in-Some.result c.from-known-in-Some.ensures turn),
+      omega (arith, c.if-known-from-2.false, c.from-in-Some.ensures),
+      omega (arith, c.loop-children.invariant.2, c.if-turns-budget.false),
+    )
 
-pub returns-clause-within : goal.returns-clause-within
-returns-clause-within g c = λ e.
-    let i = c.in_default.ensures in
-    let o = within_end g.W.Worker.edit g.start (g.W.Worker.nodes c.args.worker.now) (g.W.Worker.queued c.args.worker.now) c.args.roots c.requires.1.1.1.1.1.1 (g.W.Worker.nodes c.loop-turned.worker) (g.W.Worker.queued c.loop-turned.worker) c.loop-turned.turns c.loop-turned.calls c.loop-turned.known c.loop-turned.invariant.0 i.2 (subst (StandOnce g.W.Worker.edit) i.0 c.count.ensures.once) c.args.budget (λ lt. let more : c.args.budget < c.count.result = omega (arith, lt, c.count.ensures.number, ap length i.0) in let x : true ≡ false = sym (lt-ltb c.args.budget c.count.result more) ∙ e in cc) in
-    subst (λ nodes. IsWithin g.W.Worker.edit g.start nodes c.args.budget c.loop-turned.calls) (sym i.0) o
+pub returns-then-count-budget : goal.returns-then-count-budget
+returns-then-count-budget g c = λ start ready.
+    let still = idle g.W.Worker.edit (g.W.Worker.state c.loop-children.worker) (g.W.Worker.state c.turn.new.self) c.in_ok-children.field-0 c.in_default.is c.in_ok-children.ensures in
+    ends_over g.W.Worker.edit start (g.W.Worker.state c.args.worker.now) (g.W.Worker.state c.loop-children.worker) (g.W.Worker.state c.turn.new.self) c.args.roots c.loop-children.turns c.loop-children.known c.args.budget ready (c.loop-children.invariant.0 start ready) still c.count.ensures.once (omega (arith, c.if-count-budget.true, c.count.ensures.number)) c.loop-children.invariant.2
+
+pub returns : goal.returns
+returns g c = λ start ready.
+    let still = idle g.W.Worker.edit (g.W.Worker.state c.loop-children.worker) (g.W.Worker.state c.turn.new.self) c.in_ok-children.field-0 c.in_default.is c.in_ok-children.ensures in
+    ends_done g.W.Worker.edit start (g.W.Worker.state c.args.worker.now) (g.W.Worker.state c.loop-children.worker) (g.W.Worker.state c.turn.new.self) c.args.roots c.loop-children.turns c.loop-children.known c.args.budget ready (c.loop-children.invariant.0 start ready) still c.count.ensures.once (omega (arith, c.if-count-budget.false, c.count.ensures.number))

@@ -1,4 +1,4 @@
--- What is known of the new derivation before the work is done.
+-- What is known of the new derivation before the work is done, and when it is over a budget.
 use Rattle.std.specs.Prelude.{ℕ, ◌<◌, List, [], ◌++◌, map, length, Bool, true, false, ◌⊎◌, Result, Ok, Err}
 use Rattle.cga_order.specs.World.{World, Among}
 use Rattle.cga_order.specs.declared.placed.Placed.{Placed}
@@ -9,14 +9,16 @@ use Rattle.cga_agenda.specs.Edit.{Edit, new_world}
 use Rattle.cga_agenda.specs.Work.{Once}
 use Rattle.cga_agenda.specs.Record.{IsMade}
 
+-- the shapes of the members
 abbrev pub shapes_of : {N F P : Type 0} → List (Placed N F P) → List N
 shapes_of list = map (λ m. m.shape) list
 
+-- the shapes of the children that an outcome has
 abbrev pub made_by : {N F P : Type 0} → Result (List (Placed N F P)) F → List N
 made_by (Ok children) = shapes_of children
 made_by (Err fault) = []
 
--- some configuration that is reached has more members
+-- some configuration that is reached has more members than the budget
 abbrev pub IsOverBudget : {N A F P : Type 0} → World N A F P → ℕ → Type 0
 IsOverBudget {N} {A} {F} {P} world budget =
     (taken : List N) × (reached : List (Placed N F P)) × Reached world taken reached × (budget < length reached)
