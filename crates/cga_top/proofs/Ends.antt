@@ -1,5 +1,5 @@
 -- The end of a script.
-use Rattle.std.proofs.Common.{◌≡◌, ℕ, ◌+◌, ◌≤◌, ◌<◌, ◌≢◌, ◌⊎◌, inl, inr, List, [], ◌∷◌, ◌++◌, length, take, drop, Option, Some, None, Bool, refl, sym, ap, subst, ◌∙◌, arith, append_assoc}
+use Rattle.std.proofs.Common.{◌≡◌, ℕ, ◌+◌, ◌≤◌, ◌<◌, ◌≢◌, ◌⊎◌, inl, inr, List, [], ◌∷◌, ◌++◌, length, take, drop, Option, Some, None, refl, sym, ap, subst, ◌∙◌, arith, append_assoc}
 use Rattle.std.specs.Prelude.{IfSome, IsTrue}
 use Rattle.std.proofs.Math.Seq.{take-nil}
 use Rattle.std.proofs.lemmas.List.{take_all, take-append-drop, append-nil}
@@ -16,7 +16,6 @@ use Rattle.cga_top.specs.State.{State, start}
 use Rattle.cga_top.specs.Effect.{Effect, silent, followed_by}
 use Rattle.cga_top.specs.Replies.{effect, at_end}
 use Rattle.cga_top.specs.Output.{effect_of_all, last_line, last_effect, effect_of_lines, effect_of_script, replies_of, output_of}
-use Rattle.cga_top.specs.Session.{IsAt}
 use Rattle.cga_top.specs.Wrote.{Wrote}
 use Rattle.cga_top.specs.Prefixes.{AppendsSome}
 use Rattle.cga_top.specs.declared.halt.Halt.{Halt}

@@ -14,7 +14,8 @@ use Rattle.cga_top.specs.Effect.{Effect, followed_by, silent}
 use Rattle.cga_top.specs.Replies.{effect}
 use Rattle.cga_top.specs.Output.{effect_of_all}
 use Rattle.cga_top.specs.Session.{IsAt}
-use Rattle.cga_top.specs.Wrote.{Wrote, IsKeptPart}
+use Rattle.cga_top.specs.Wrote.{Wrote}
+use Rattle.cga_top.specs.KeptPart.{IsKeptPart}
 use Rattle.cga_top.specs.Prefixes.{AppendsSome}
 use Rattle.cga_top.specs.Progress.{Progress}
 use Rattle.cga_top.proofs.Effects.{followed_assoc, followed_silent, silent_followed, all_none, all_more, wrote_more, wrote_nothing, some_after, some_more}

@@ -16,7 +16,8 @@ use Rattle.cga_top.specs.State.{State, start}
 use Rattle.cga_top.specs.Effect.{Effect, silent, followed_by}
 use Rattle.cga_top.specs.Output.{effect_of_all, effect_of_lines, replies_of}
 use Rattle.cga_top.specs.Session.{IsAt}
-use Rattle.cga_top.specs.Wrote.{Wrote, IsKeptPart}
+use Rattle.cga_top.specs.Wrote.{Wrote}
+use Rattle.cga_top.specs.KeptPart.{IsKeptPart}
 use Rattle.cga_top.specs.Prefixes.{AppendsSome}
 use Rattle.cga_top.specs.Outside.{Outside}
 use Rattle.cga_top.specs.Reads.{limit, pending_after, IsRead, IsHalted}

@@ -13,6 +13,7 @@ pub record Effect : Type 0 where
 abbrev pub says : State → List ℕ → Effect
 says s text = record { state = s; reply = text; least = 0; most = 0 }
 
+-- no reply, and no expansion
 abbrev pub silent : State → Effect
 silent s = says s []
 

@@ -12,6 +12,7 @@ pub mod Output
 pub mod Session
 pub mod Prefixes
 pub mod Wrote
+pub mod KeptPart
 pub mod Progress
 pub mod Outside
 pub mod Faults

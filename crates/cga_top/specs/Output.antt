@@ -15,6 +15,7 @@ abbrev pub last_line : State → List ℕ → Effect
 last_line s [] = silent s
 last_line s (byte ∷ bytes) = effect s (clipped (byte ∷ bytes))
 
+-- the last line, and then the end
 abbrev pub last_effect : State → List ℕ → Effect
 last_effect s rest = followed_by (last_line s rest) (at_end (last_line s rest).state)
 

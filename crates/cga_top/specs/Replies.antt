@@ -42,6 +42,7 @@ abbrev pub edited : State → Result Sources Refused → Effect
 edited s (Ok sources) = says (record s { sources = sources }) ok_text
 edited s (Err refused) = says s (refusal refused)
 
+-- what a line outside a block does
 abbrev pub asked : State → Form → Effect
 asked s form.Blank = silent s
 asked s form.Rules = silent (record s { block = Some [] })
@@ -54,11 +55,13 @@ abbrev pub closed : State → Option BoxRule → Effect
 closed s (Some rule) = edited s (with_rule s.sources.lot rule)
 closed s None = says s (refusal NotBuilt)
 
+-- what a line inside a block does: it ends the block, or is one more of its lines
 abbrev pub in_block : State → List Line → Line → Effect
 in_block s lines line =
     if ends_block line then closed (record s { block = None }) (block_of lines)
     else silent (record s { block = Some (lines ++ line ∷ []) })
 
+-- by the block that is open, or none
 abbrev pub effect_by : Option (List Line) → State → Line → Effect
 effect_by (Some lines) s line = in_block s lines line
 effect_by None s line = asked s (form_of line)

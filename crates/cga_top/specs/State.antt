@@ -8,8 +8,10 @@ pub record State : Type 0 where
   pub sources : Sources
   pub block : Option (List Line)
 
+-- no rule and no lot
 abbrev pub empty_sources : Sources
 empty_sources = record { rule = None; lot = None }
 
+-- before the first line
 abbrev pub start : State
 start = record { sources = empty_sources; block = None }

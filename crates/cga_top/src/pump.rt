@@ -8,7 +8,8 @@ ghost use Rattle.cga_top.specs.State.{State};
 ghost use Rattle.cga_top.specs.Replies.{effect};
 ghost use Rattle.cga_top.specs.Output.{effect_of_all};
 ghost use Rattle.cga_top.specs.Session.{IsAt};
-ghost use Rattle.cga_top.specs.Wrote.{Wrote, IsKeptPart};
+ghost use Rattle.cga_top.specs.Wrote.{Wrote};
+ghost use Rattle.cga_top.specs.KeptPart.{IsKeptPart};
 ghost use Rattle.cga_top.specs.Prefixes.{AppendsSome};
 ghost use Rattle.cga_top.specs.Faults.{FaultsBy};
 

@@ -167,6 +167,9 @@ fn run_script<S: Source, K: Sink, E: Ledger, T: Ledger>(
 /// first; it takes no other. The source is read in pieces of at most 4,096 bytes, and no more than 67,108,864
 /// bytes of it are replied to. The memory that is taken doesn't grow with the script.
 ///
+/// What a read completes is replied to, and the replies are flushed, before the next read. That is tested: no
+/// clause ties the reads of the source to the flushes of the sink.
+///
 /// The reply to a script is `output_of` its bytes: that of each line, by the rules and lots that stand then.
 pub fn run_city<S: Source, K: Sink, E: Ledger, T: Ledger>(
     alloc: Global,

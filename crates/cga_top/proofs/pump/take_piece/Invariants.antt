@@ -3,7 +3,7 @@ use Rattle.cga_script.specs.Lines.{cut}
 use Rattle.cga_script.specs.Pending.{kept_of}
 use Rattle.cga_top.specs.State.{State}
 use Rattle.cga_top.specs.Session.{IsAt}
-use Rattle.cga_top.specs.Wrote.{IsKeptPart}
+use Rattle.cga_top.specs.KeptPart.{IsKeptPart}
 use Rattle.cga_top.specs.Progress.{Progress}
 use Rattle.cga_top.proofs.pump.take_piece.Given as goal
 

@@ -1,4 +1,4 @@
-use Rattle.std.proofs.Common.{ap, refl, ◌∙◌}
+use Rattle.std.proofs.Common.{ap, refl}
 use Rattle.cga_top.specs.Outside.{outside_of}
 use Rattle.cga_top.proofs.Ends.{start_pending, done_means, failed_means, too_long_means, halted_means, halted_prefix, end_prefix}
 use Rattle.cga_top.proofs.Faults.{faults_since}
