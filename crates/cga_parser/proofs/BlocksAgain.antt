@@ -4,20 +4,21 @@ use Rattle.cga_lexer.specs.declared.sign.Sign.TheVariants as s
 use Rattle.cga_syntax.specs.Lexemes.{is_reserved}
 use Rattle.cga_syntax.specs.declared.lexeme.Lexeme.{Lexeme}
 use Rattle.cga_syntax.specs.declared.lexeme.Lexeme.TheVariants as lexeme
-use Rattle.cga_syntax.specs.declared.grammar.Attribute.{Attribute}
-use Rattle.cga_syntax.specs.declared.rule.Rule.{Rule}
+use Rattle.cga_rule.specs.declared.grammar.Attribute.{Attribute}
+use Rattle.cga_rule.specs.declared.rule.Rule.{Rule}
 use Rattle.cga_syntax.specs.Pieces.{Pieces, token, usual, never, number, whole, rule_pieces, Writes}
 use Rattle.cga_parser.specs.declared.block_line.BlockLine.{BlockLine}
 use Rattle.cga_parser.specs.declared.block_line.BlockLine.TheVariants as line
-use Rattle.cga_parser.specs.Reader.{begins}
+use Rattle.cga_form.specs.Reader.{begins}
 use Rattle.cga_parser.specs.Tokens.{a_sign, a_name, a_whole, unless}
+use Rattle.cga_form.specs.Parts.{a_word}
 use Rattle.cga_parser.specs.Blocks as b
 use Rattle.cga_parser.proofs.ExprsAgain.{neither}
 use Rattle.cga_parser.proofs.Rules.{rule_is}
 use Rattle.cga_parser.proofs.RulesAgain.{with_rule, rule_again}
-use Rattle.cga_parser.proofs.Values.{value_pieces}
-use Rattle.cga_parser.proofs.ValuesAgain.{a_slash, value_again}
-use Rattle.cga_parser.proofs.Again.{Leads, Again, Begun, begun_token, starts_token, begun_as, missed, misses_end, nothing, never_written, ends, took, by_name, whole_leads, peek_yes, peek_no, after, plainly}
+use Rattle.cga_form.proofs.Values.{value_pieces}
+use Rattle.cga_form.proofs.ValuesAgain.{a_slash, value_again}
+use Rattle.cga_form.proofs.Again.{Leads, Again, Begun, begun_token, starts_token, begun_as, missed, misses_end, nothing, never_written, ends, took, by_name, whole_leads, peek_yes, peek_no, after, plainly}
 
 name_read : (name : List ℕ) → is_reserved name ≡ false → a_name (lexeme.Name name) ≡ Some name
 name_read name e = ap (λ t. unless t name) e
@@ -25,7 +26,7 @@ name_read name e = ap (λ t. unless t name) e
 attribute_at : (a : Attribute) → Leads a_slash (b.attribute_pieces a) b.attribute a
 unfolding b.attribute
 attribute_at a =
-    took (b.a_word (codes "attr")) tt refl (by_name a.name (λ e. took a_name a.name (name_read a.name e)
+    took (a_word (codes "attr")) tt refl (by_name a.name (λ e. took a_name a.name (name_read a.name e)
     (took (a_sign s.Assign) tt refl (plainly (after {v = value_pieces} _ a.value value_again (misses_end (λ l q. q)) ends)))))
 
 attribute_again : Again b.attribute_pieces a_slash b.attribute
@@ -33,7 +34,7 @@ attribute_again = record { all = attribute_at }
 
 priority_at : (n : ℕ) → Leads nothing (b.priority_pieces n) b.priority n
 unfolding b.priority
-priority_at n = took (b.a_word (codes "PRIORITY")) tt refl (whole_leads 0 65535 n (λ e. took (a_whole 0 65535) n e (took (a_sign s.Colon) tt refl ends)))
+priority_at n = took (a_word (codes "PRIORITY")) tt refl (whole_leads 0 65535 n (λ e. took (a_whole 0 65535) n e (took (a_sign s.Colon) tt refl ends)))
 
 priority_again : Again b.priority_pieces nothing b.priority
 priority_again = record { all = priority_at }
@@ -63,7 +64,7 @@ block_at n (line.Priority p) = peek_no _ (missed (begun_token refl)) (peek_yes _
 block_at n (line.Rule r) =
     peek_no _ (missed (rule_begun r refl)) (peek_no _ (missed (rule_begun r refl)) (peek_no _ (missed (rule_begun r refl))
     (plainly (after {v = rule_pieces} _ r (rule_again n) (misses_end (λ l e. (neither (with_rule l) (a_slash l) e).0)) ends))))
-block_at n line.End = peek_no _ (missed (begun_token refl)) (peek_no _ (missed (begun_token refl)) (peek_yes _ (starts_token refl) (took (b.a_word (codes "end")) tt refl ends)))
+block_at n line.End = peek_no _ (missed (begun_token refl)) (peek_no _ (missed (begun_token refl)) (peek_yes _ (starts_token refl) (took (a_word (codes "end")) tt refl ends)))
 
 pub block_again : (n : ℕ) → Again b.block_pieces with_line (b.block n)
 block_again n = record { all = block_at n }

@@ -12,29 +12,29 @@ use Rattle.cga_syntax.specs.Lexemes.{is}
 use Rattle.cga_syntax.specs.declared.keyword.Keyword.TheVariants as k
 use Rattle.cga_syntax.specs.declared.lexeme.Lexeme.{Lexeme}
 use Rattle.cga_syntax.specs.declared.lexeme.Lexeme.TheVariants as lexeme
-use Rattle.cga_syntax.specs.declared.expr.Expr.{Expr}
-use Rattle.cga_syntax.specs.declared.expr.Scaled.{Scaled}
-use Rattle.cga_syntax.specs.declared.expr.Added.{Added}
-use Rattle.cga_syntax.specs.declared.cond.Cond.{Cond, roll-Cond}
-use Rattle.cga_syntax.specs.declared.cond.Conj.{Conj, roll-Conj}
-use Rattle.cga_syntax.specs.declared.cond.Test.{Test}
-use Rattle.cga_syntax.specs.declared.cond.Test.TheVariants as t
-use Rattle.cga_syntax.specs.declared.cond.Test.TheVariants.{rolls-Group, rolls-Not, rolls-Occ, rolls-Compare}
-use Rattle.cga_syntax.specs.declared.cond.Test.TheFolds.{fold-roll-Cond, fold-roll-Conj, fold-roll-Test}
-use Rattle.cga_syntax.specs.declared.cond.Test.TheOpen as layer
-use Rattle.cga_syntax.specs.declared.cond.Relation.{Relation}
-use Rattle.cga_syntax.specs.declared.cond.Relation.TheVariants as relation
+use Rattle.cga_rule.specs.declared.expr.Expr.{Expr}
+use Rattle.cga_rule.specs.declared.expr.Scaled.{Scaled}
+use Rattle.cga_rule.specs.declared.expr.Added.{Added}
+use Rattle.cga_rule.specs.declared.cond.Cond.{Cond, roll-Cond}
+use Rattle.cga_rule.specs.declared.cond.Conj.{Conj, roll-Conj}
+use Rattle.cga_rule.specs.declared.cond.Test.{Test}
+use Rattle.cga_rule.specs.declared.cond.Test.TheVariants as t
+use Rattle.cga_rule.specs.declared.cond.Test.TheVariants.{rolls-Group, rolls-Not, rolls-Occ, rolls-Compare}
+use Rattle.cga_rule.specs.declared.cond.Test.TheFolds.{fold-roll-Cond, fold-roll-Conj, fold-roll-Test}
+use Rattle.cga_rule.specs.declared.cond.Test.TheOpen as layer
+use Rattle.cga_rule.specs.declared.cond.Relation.{Relation}
+use Rattle.cga_rule.specs.declared.cond.Relation.TheVariants as relation
 use Rattle.cga_syntax.specs.Pieces.{usual, token, sign, keyword, word, text, Pieces, concat, squared, size_word, target_text, state_text, relation_sign, equality_sign, expr_pieces, scaled_pieces, added_pieces, cond_pieces, conj_pieces, test_pieces, test_step, cond_step, conj_step}
 use Rattle.cga_syntax.specs.Brackets.{counted, bracket_of}
-use Rattle.cga_parser.specs.Reader.{Reader, ◌>>=◌, ◌>>◌, pure, refuse, single}
+use Rattle.cga_form.specs.Reader.{Reader, ◌>>=◌, ◌>>◌, pure, refuse, single}
 use Rattle.cga_parser.specs.Tokens.{is_sign, is_keyword, a_relation, relation_of, an_equality, equality_of, a_target, target_of, a_state, state_of, a_scope_word, scope_word_of}
 use Rattle.cga_parser.specs.Grammar as g
 use Rattle.cga_parser.specs.declared.heads.ScopeWord.{ScopeWord}
 use Rattle.cga_parser.specs.declared.heads.ScopeWord.TheVariants as scope_word
-use Rattle.cga_parser.proofs.Runs.{Some_text}
-use Rattle.cga_parser.proofs.Written.{plain_written, long_of, nil_right}
-use Rattle.cga_parser.proofs.Forms.{After, Goes, Reads, next, done, Token, one_token, bracketed, either, refusing, Long, listed}
-use Rattle.cga_parser.proofs.Singles.{sign_token, keyword_token, opening, a_sign_is, as_token, by_token, pick, no_more}
+use Rattle.cga_form.proofs.Runs.{Some_text}
+use Rattle.cga_form.proofs.Written.{plain_written, long_of, nil_right}
+use Rattle.cga_form.proofs.Forms.{After, Goes, Reads, next, done, Token, one_token, bracketed, either, refusing, Long, listed}
+use Rattle.cga_form.proofs.Singles.{sign_token, keyword_token, opening, a_sign_is, as_token, by_token, pick, no_more}
 use Rattle.cga_parser.proofs.Layers.{expr_layer, term_layer, factor_layer, size_layer}
 use Rattle.cga_parser.proofs.Lists.{separated_is}
 use Rattle.cga_parser.proofs.Exprs.{dot, close, round, in_round, some_as, expr_reads, inside_reads, scaled_long, scaled_reads, added_long, added_reads}

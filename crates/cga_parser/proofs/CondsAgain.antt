@@ -10,34 +10,34 @@ use Rattle.cga_word.specs.declared.answer.Answer.TheVariants as answer
 use Rattle.cga_syntax.specs.declared.keyword.Keyword.TheVariants as k
 use Rattle.cga_syntax.specs.declared.lexeme.Lexeme.{Lexeme}
 use Rattle.cga_syntax.specs.declared.lexeme.Lexeme.TheVariants as lexeme
-use Rattle.cga_syntax.specs.declared.expr.Expr.{Expr, roll-Expr, out-Expr, roll-out-Expr}
-use Rattle.cga_syntax.specs.declared.expr.Term.{Term, out-Term, roll-out-Term}
-use Rattle.cga_syntax.specs.declared.expr.Added.{Added}
-use Rattle.cga_syntax.specs.declared.expr.Scaled.{Scaled}
-use Rattle.cga_syntax.specs.declared.expr.Factor.{Factor}
-use Rattle.cga_syntax.specs.declared.expr.Primary.{Primary, Primary-F, out-Primary, roll-Primary, roll-out-Primary}
-use Rattle.cga_syntax.specs.declared.expr.Primary.TheVariants.{rolls-Number, rolls-Named, rolls-ScopeSize, rolls-Group, rolls-Floor, rolls-Ceil, rolls-Rand}
-use Rattle.cga_syntax.specs.declared.expr.Primary.TheOpen as layer
-use Rattle.cga_syntax.specs.declared.cond.Cond.{Cond, roll-Cond, out-Cond, roll-out-Cond}
-use Rattle.cga_syntax.specs.declared.cond.Conj.{Conj, roll-Conj, out-Conj, roll-out-Conj}
-use Rattle.cga_syntax.specs.declared.cond.Test.{Test, Test-F, out-Test, roll-Test, roll-out-Test}
-use Rattle.cga_syntax.specs.declared.cond.Test.TheVariants as t
-use Rattle.cga_syntax.specs.declared.cond.Test.TheVariants.{rolls-Group as rolls-Squared, rolls-Not, rolls-Occ, rolls-Compare}
-use Rattle.cga_syntax.specs.declared.cond.Test.TheFolds.{fold-roll-Cond, fold-roll-Conj}
-use Rattle.cga_syntax.specs.declared.cond.Test.TheOpen as test
-use Rattle.cga_syntax.specs.declared.cond.Relation.{Relation}
-use Rattle.cga_syntax.specs.declared.cond.Relation.TheVariants as relation
+use Rattle.cga_rule.specs.declared.expr.Expr.{Expr, roll-Expr, out-Expr, roll-out-Expr}
+use Rattle.cga_rule.specs.declared.expr.Term.{Term, out-Term, roll-out-Term}
+use Rattle.cga_rule.specs.declared.expr.Added.{Added}
+use Rattle.cga_rule.specs.declared.expr.Scaled.{Scaled}
+use Rattle.cga_rule.specs.declared.expr.Factor.{Factor}
+use Rattle.cga_rule.specs.declared.expr.Primary.{Primary, Primary-F, out-Primary, roll-Primary, roll-out-Primary}
+use Rattle.cga_rule.specs.declared.expr.Primary.TheVariants.{rolls-Number, rolls-Named, rolls-ScopeSize, rolls-Group, rolls-Floor, rolls-Ceil, rolls-Rand}
+use Rattle.cga_rule.specs.declared.expr.Primary.TheOpen as layer
+use Rattle.cga_rule.specs.declared.cond.Cond.{Cond, roll-Cond, out-Cond, roll-out-Cond}
+use Rattle.cga_rule.specs.declared.cond.Conj.{Conj, roll-Conj, out-Conj, roll-out-Conj}
+use Rattle.cga_rule.specs.declared.cond.Test.{Test, Test-F, out-Test, roll-Test, roll-out-Test}
+use Rattle.cga_rule.specs.declared.cond.Test.TheVariants as t
+use Rattle.cga_rule.specs.declared.cond.Test.TheVariants.{rolls-Group as rolls-Squared, rolls-Not, rolls-Occ, rolls-Compare}
+use Rattle.cga_rule.specs.declared.cond.Test.TheFolds.{fold-roll-Cond, fold-roll-Conj}
+use Rattle.cga_rule.specs.declared.cond.Test.TheOpen as test
+use Rattle.cga_rule.specs.declared.cond.Relation.{Relation}
+use Rattle.cga_rule.specs.declared.cond.Relation.TheVariants as relation
 use Rattle.cga_syntax.specs.Pieces.{never, sign, keyword, word, Pieces, concat, target_text, state_text, relation_sign, equality_sign, expr_pieces, scaled_pieces, added_pieces, factor_pieces, primary_pieces, cond_pieces, conj_pieces, test_pieces, test_step, cond_step, conj_step}
-use Rattle.cga_parser.specs.Reader.{Reader, refuse}
+use Rattle.cga_form.specs.Reader.{Reader, refuse}
 use Rattle.cga_parser.specs.Tokens.{a_sign, a_keyword, is_sign, is_keyword, a_relation, an_equality, a_target, a_state, a_scope_word}
 use Rattle.cga_parser.specs.Grammar as g
 use Rattle.cga_parser.specs.declared.heads.ScopeWord.TheVariants as scope_word
-use Rattle.cga_parser.proofs.Forms.{turned}
+use Rattle.cga_form.proofs.Forms.{turned}
 use Rattle.cga_parser.proofs.Layers.{expr_layer, term_layer, factor_layer, number_layer, named_layer, group_layer as bracket_layer, floor_layer, ceil_layer, rand_layer}
 use Rattle.cga_parser.proofs.Exprs.{inside_reads, scaled_long, scaled_reads, added_long, added_reads}
 use Rattle.cga_parser.proofs.ExprsAgain.{goes_on, no_scaling, no_addition, Spares, expr_begun, scaled_again, scaled_starts, added_again, added_starts, added_begun, expr_again, inside_again, neither}
 use Rattle.cga_parser.proofs.Conds.{scope_bytes, IsInner, no_inner, one_inner, cond_reads, square_pieces, occ_pieces, sum_layer, further_test_pieces, further_test_long, further_test_reads, further_conj_pieces, further_conj_long, further_conj_reads, cond_layer, conj_layer, group_layer, not_layer, occ_layer, compare_layer}
-use Rattle.cga_parser.proofs.Again.{Leads, Again, Begun, begun_token, starts_token, begun_drawn, begun_named, begun_append, begun_as, missed, misses_end, misses_each, nothing, misses_nothing, begun_nothing, never_leads, ends, took, entered, peek_yes, peek_no, after, plainly, written_as, all_of}
+use Rattle.cga_form.proofs.Again.{Leads, Again, Begun, begun_token, starts_token, begun_drawn, begun_named, begun_append, begun_as, missed, misses_end, misses_each, nothing, misses_nothing, begun_nothing, never_leads, ends, took, entered, peek_yes, peek_no, after, plainly, written_as, all_of}
 
 -- the tokens that go on with a conjunction, and with a condition
 abbrev pub with_and : Lexeme → Bool

@@ -10,22 +10,22 @@ use Rattle.cga_syntax.specs.declared.keyword.Keyword.{Keyword}
 use Rattle.cga_syntax.specs.declared.keyword.Keyword.TheVariants as k
 use Rattle.cga_syntax.specs.declared.lexeme.Lexeme.{Lexeme}
 use Rattle.cga_syntax.specs.declared.lexeme.Lexeme.TheVariants as lexeme
-use Rattle.cga_syntax.specs.declared.expr.Expr.{Expr, roll-Expr}
-use Rattle.cga_syntax.specs.declared.expr.Term.{Term, roll-Term}
-use Rattle.cga_syntax.specs.declared.expr.Added.{out-Added, roll-out-Added}
-use Rattle.cga_syntax.specs.declared.expr.Factor.{Factor}
-use Rattle.cga_syntax.specs.declared.expr.Primary.TheVariants as v
+use Rattle.cga_rule.specs.declared.expr.Expr.{Expr, roll-Expr}
+use Rattle.cga_rule.specs.declared.expr.Term.{Term, roll-Term}
+use Rattle.cga_rule.specs.declared.expr.Added.{out-Added, roll-out-Added}
+use Rattle.cga_rule.specs.declared.expr.Factor.{Factor}
+use Rattle.cga_rule.specs.declared.expr.Primary.TheVariants as v
 use Rattle.cga_syntax.specs.Pieces.{Space, usual, none_after, token, plain, sign, keyword, named, word, whole, Pieces, Writes, grouped, size_word, expr_pieces, term_pieces, added_pieces, scaled_pieces, factor_pieces, primary_pieces}
 use Rattle.cga_syntax.specs.Brackets.{counted, bracket_of}
-use Rattle.cga_parser.specs.Reader.{Reader, ◌>>=◌, ◌>>◌, pure, refuse, single, enter}
+use Rattle.cga_form.specs.Reader.{Reader, ◌>>=◌, ◌>>◌, pure, refuse, single, enter}
 use Rattle.cga_parser.specs.Tokens.{a_sign, a_whole, primary_head, primary_keyword, size_axis, size_axis_of, an_addition, add_sign, a_scaling, scale_sign, is_sign, is_keyword, unless}
 use Rattle.cga_parser.specs.Grammar as g
 use Rattle.cga_parser.specs.declared.heads.PrimaryHead.{PrimaryHead}
 use Rattle.cga_parser.specs.declared.heads.PrimaryHead.TheVariants as head
-use Rattle.cga_parser.proofs.Runs.{Some_text}
-use Rattle.cga_parser.proofs.Written.{nothing, token_first, long_of, nil_right}
-use Rattle.cga_parser.proofs.Forms.{After, Goes, Reads, next, done, Token, one_token, bracketed, one_rand, either, refusing, Long, listed}
-use Rattle.cga_parser.proofs.Singles.{sign_token, opening, a_sign_is, a_keyword_is, as_token, whole_token, by_token, named_is, pick, no_more}
+use Rattle.cga_form.proofs.Runs.{Some_text}
+use Rattle.cga_form.proofs.Written.{nothing, token_first, long_of, nil_right}
+use Rattle.cga_form.proofs.Forms.{After, Goes, Reads, next, done, Token, one_token, bracketed, one_rand, either, refusing, Long, listed}
+use Rattle.cga_form.proofs.Singles.{sign_token, opening, a_sign_is, a_keyword_is, as_token, whole_token, by_token, named_is, pick, no_more}
 use Rattle.cga_parser.proofs.Layers.{expr_layer, term_layer, added_layer, scaled_layer, factor_layer, number_layer, named_layer, size_layer, group_layer, floor_layer, ceil_layer, rand_layer}
 
 pub comma : (n : ℕ) → Reads n n (as_token usual (lexeme.Sign s.Comma)) (g.sign s.Comma)

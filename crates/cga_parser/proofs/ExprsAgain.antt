@@ -7,25 +7,25 @@ use Rattle.cga_word.specs.declared.axis.Axis.TheVariants as axis
 use Rattle.cga_syntax.specs.declared.keyword.Keyword.TheVariants as k
 use Rattle.cga_syntax.specs.declared.lexeme.Lexeme.{Lexeme}
 use Rattle.cga_syntax.specs.declared.lexeme.Lexeme.TheVariants as lexeme
-use Rattle.cga_syntax.specs.declared.expr.Expr.{Expr, roll-Expr, out-Expr, roll-out-Expr}
-use Rattle.cga_syntax.specs.declared.expr.Term.{Term, roll-Term, out-Term, roll-out-Term}
-use Rattle.cga_syntax.specs.declared.expr.Added.{Added, roll-Added, out-Added, roll-out-Added}
-use Rattle.cga_syntax.specs.declared.expr.Scaled.{Scaled}
-use Rattle.cga_syntax.specs.declared.expr.Factor.{Factor}
-use Rattle.cga_syntax.specs.declared.expr.Primary.{Primary, Primary-F, out-Primary, roll-Primary, roll-out-Primary}
-use Rattle.cga_syntax.specs.declared.expr.Primary.TheVariants as v
-use Rattle.cga_syntax.specs.declared.expr.Primary.TheVariants.{rolls-Number, rolls-Named, rolls-ScopeSize, rolls-Group, rolls-Floor, rolls-Ceil, rolls-Rand}
-use Rattle.cga_syntax.specs.declared.expr.Primary.TheOpen as layer
+use Rattle.cga_rule.specs.declared.expr.Expr.{Expr, roll-Expr, out-Expr, roll-out-Expr}
+use Rattle.cga_rule.specs.declared.expr.Term.{Term, roll-Term, out-Term, roll-out-Term}
+use Rattle.cga_rule.specs.declared.expr.Added.{Added, roll-Added, out-Added, roll-out-Added}
+use Rattle.cga_rule.specs.declared.expr.Scaled.{Scaled}
+use Rattle.cga_rule.specs.declared.expr.Factor.{Factor}
+use Rattle.cga_rule.specs.declared.expr.Primary.{Primary, Primary-F, out-Primary, roll-Primary, roll-out-Primary}
+use Rattle.cga_rule.specs.declared.expr.Primary.TheVariants as v
+use Rattle.cga_rule.specs.declared.expr.Primary.TheVariants.{rolls-Number, rolls-Named, rolls-ScopeSize, rolls-Group, rolls-Floor, rolls-Ceil, rolls-Rand}
+use Rattle.cga_rule.specs.declared.expr.Primary.TheOpen as layer
 use Rattle.cga_syntax.specs.Pieces.{concat, size_word, expr_pieces, term_pieces, added_pieces, scaled_pieces, factor_pieces, primary_pieces}
-use Rattle.cga_parser.specs.Reader.{Reader, refuse}
+use Rattle.cga_form.specs.Reader.{Reader, refuse}
 use Rattle.cga_parser.specs.Tokens.{a_sign, a_keyword, a_whole, primary_head, size_axis, an_addition, a_scaling, is_sign, unless}
 use Rattle.cga_parser.specs.Grammar as g
 use Rattle.cga_parser.specs.declared.heads.PrimaryHead.TheVariants as head
-use Rattle.cga_parser.proofs.Written.{nil_right}
-use Rattle.cga_parser.proofs.Forms.{turned}
+use Rattle.cga_form.proofs.Written.{nil_right}
+use Rattle.cga_form.proofs.Forms.{turned}
 use Rattle.cga_parser.proofs.Exprs.{IsInside, group_pieces, rand_rest_pieces, scaled_long, scaled_reads, added_long, added_reads, expr_reads, no_inside, one_inside}
 use Rattle.cga_parser.proofs.Layers.{expr_layer, term_layer, added_layer, scaled_layer, factor_layer, number_layer, named_layer, size_layer, group_layer, floor_layer, ceil_layer, rand_layer}
-use Rattle.cga_parser.proofs.Again.{Leads, Again, Begun, Starts, begun_token, starts_token, begun_drawn, starts_drawn, begun_named, begun_append, begun_as, starts_as, missed, misses_end, misses_each, nothing, misses_nothing, begun_nothing, ends, took, by_name, entered, drew, peek_yes, peek_no, after, plainly, written_as, all_of, whole_leads}
+use Rattle.cga_form.proofs.Again.{Leads, Again, Begun, Starts, begun_token, starts_token, begun_drawn, starts_drawn, begun_named, begun_append, begun_as, starts_as, missed, misses_end, misses_each, nothing, misses_nothing, begun_nothing, ends, took, by_name, entered, drew, peek_yes, peek_no, after, plainly, written_as, all_of, whole_leads}
 
 -- the tokens that go on with an expression
 abbrev pub goes_on : Lexeme → Bool

@@ -5,12 +5,14 @@ use Rattle.std.proofs.lemmas.List.Elements.{All-head, All-tail, All-nil, All-con
 use Rattle.cga_syntax.specs.GrammarText.{has, priorities, ArePrintable}
 use Rattle.cga_syntax.specs.Pieces.{rule_pieces}
 use Rattle.cga_syntax.specs.Printing.{printed, HaveTexts}
-use Rattle.cga_syntax.specs.declared.grammar.Attribute.{Attribute}
-use Rattle.cga_syntax.specs.declared.grammar.Entry.{Entry}
-use Rattle.cga_syntax.specs.declared.grammar.Grammar.{Grammar}
+use Rattle.cga_rule.specs.declared.grammar.Attribute.{Attribute}
+use Rattle.cga_rule.specs.declared.grammar.Entry.{Entry}
+use Rattle.cga_rule.specs.declared.grammar.Grammar.{Grammar}
 use Rattle.cga_parser.specs.declared.block_line.BlockLine.{BlockLine}
 use Rattle.cga_parser.specs.declared.block_line.BlockLine.TheVariants as says
-use Rattle.cga_parser.specs.BlockAnswers.{Line, BlockAnswers, Say, attributes_of, entries_from, grammar_of, GrammarAnswers}
+use Rattle.cga_parser.specs.Blocks.{block_pieces}
+use Rattle.cga_form.specs.BlockAnswers.{Line, Say}
+use Rattle.cga_parser.specs.BlockAnswers.{BlockAnswers, attributes_of, entries_from, grammar_of, GrammarAnswers}
 use Rattle.cga_parser.specs.GrammarLines.{all_from, with_id, by_id, rule_of, section, said_of, line_text, given, IsSaid, IsSpelled, IsInside, AreShort, ReadsBack}
 use Rattle.cga_parser.proofs.GrammarLines.{whole_text, said_grammar}
 use Rattle.cga_parser.proofs.LinesBack.{attribute_back, attribute_inside, priority_back, priority_inside, rule_back, rule_inside, id_bound, priority_bound}
@@ -28,7 +30,7 @@ SaysRule e = IsSaid (rule_of e)
 abbrev HasFew : Entry → Type 0
 HasFew e = e.priority ≤ 65535
 
-attributes_are : (lines : List Line) (all : List (Option BlockLine)) → Say lines all → All SaysAttribute (attributes_of all)
+attributes_are : (lines : List Line) (all : List (Option BlockLine)) → Say block_pieces lines all → All SaysAttribute (attributes_of all)
 unfolding Say attributes_of
 attributes_are [] [] h = All-nil SaysAttribute
 attributes_are (l ∷ ls) [] h = absurd h
@@ -39,7 +41,7 @@ attributes_are (l ∷ ls) (Some (says.Priority q) ∷ all) h = attributes_are ls
 attributes_are (l ∷ ls) (Some (says.Rule r) ∷ all) h = attributes_are ls all h.1
 attributes_are (l ∷ ls) (Some says.End ∷ all) h = attributes_are ls all h.1
 
-rules_are : (p : ℕ) (lines : List Line) (all : List (Option BlockLine)) → Say lines all → All SaysRule (entries_from p all)
+rules_are : (p : ℕ) (lines : List Line) (all : List (Option BlockLine)) → Say block_pieces lines all → All SaysRule (entries_from p all)
 unfolding Say entries_from
 rules_are p [] [] h = All-nil SaysRule
 rules_are p (l ∷ ls) [] h = absurd h
@@ -50,7 +52,7 @@ rules_are p (l ∷ ls) (Some (says.Priority q) ∷ all) h = rules_are q ls all h
 rules_are p (l ∷ ls) (Some (says.Rule r) ∷ all) h = All-cons SaysRule (record { priority = p; rule = r }) (entries_from p all) (l, h.0) (rules_are p ls all h.1)
 rules_are p (l ∷ ls) (Some says.End ∷ all) h = rules_are p ls all h.1
 
-few_are : (p : ℕ) (lines : List Line) (all : List (Option BlockLine)) → p ≤ 65535 → Say lines all → All HasFew (entries_from p all)
+few_are : (p : ℕ) (lines : List Line) (all : List (Option BlockLine)) → p ≤ 65535 → Say block_pieces lines all → All HasFew (entries_from p all)
 unfolding Say entries_from
 few_are p [] [] b h = All-nil HasFew
 few_are p (l ∷ ls) [] b h = absurd h
@@ -61,7 +63,7 @@ few_are p (l ∷ ls) (Some (says.Priority q) ∷ all) b h = let f = priority_bou
 few_are p (l ∷ ls) (Some (says.Rule r) ∷ all) b h = All-cons HasFew (record { priority = p; rule = r }) (entries_from p all) b (few_are p ls all b h.1)
 few_are p (l ∷ ls) (Some says.End ∷ all) b h = few_are p ls all b h.1
 
-said_spelled : (lines : List Line) (all : List (Option BlockLine)) → Say lines all → IsSpelled (grammar_of all)
+said_spelled : (lines : List Line) (all : List (Option BlockLine)) → Say block_pieces lines all → IsSpelled (grammar_of all)
 said_spelled lines all h = record { attributes = attributes_are lines all h; rules = rules_are 1 lines all h; priorities = few_are 1 lines all (omega arith) h }
 
 pub spelled : (lines : List Line) (grammar : Grammar) → GrammarAnswers lines (Ok grammar) → IsSpelled grammar
@@ -120,7 +122,7 @@ all_of : (P : BlockLine → Type 0) (bs : List BlockLine) → Every P bs → All
 all_of P [] h = All-nil P
 all_of P (b ∷ bs) h = All-cons P b bs h.0 (all_of P bs h.1)
 
-say : (bs : List BlockLine) → Every IsAnswered bs → Say (map given bs) (map Some bs)
+say : (bs : List BlockLine) → Every IsAnswered bs → Say block_pieces (map given bs) (map Some bs)
 unfolding Say
 say [] h = tt
 say (b ∷ bs) h = (h.0, say bs h.1)

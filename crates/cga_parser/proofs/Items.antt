@@ -17,30 +17,30 @@ use Rattle.cga_syntax.specs.declared.keyword.Keyword.{Keyword}
 use Rattle.cga_syntax.specs.declared.keyword.Keyword.TheVariants as k
 use Rattle.cga_syntax.specs.declared.lexeme.Lexeme.{Lexeme}
 use Rattle.cga_syntax.specs.declared.lexeme.Lexeme.TheVariants as lexeme
-use Rattle.cga_syntax.specs.declared.expr.Expr.{Expr}
-use Rattle.cga_syntax.specs.declared.item.Size.{Size}
-use Rattle.cga_syntax.specs.declared.item.Size.TheVariants as size
-use Rattle.cga_syntax.specs.declared.item.Body.{Body, roll-Body}
-use Rattle.cga_syntax.specs.declared.item.Item.{Item, Item-F, roll-Item, out-Item, roll-out-Item}
-use Rattle.cga_syntax.specs.declared.item.Item.TheVariants as i
-use Rattle.cga_syntax.specs.declared.item.Item.TheVariants.{rolls-Move, rolls-Resize, rolls-Rotate, rolls-Scoped, rolls-Solid, rolls-Subdiv, rolls-Repeat, rolls-Comp, rolls-Child}
-use Rattle.cga_syntax.specs.declared.item.Item.TheFolds.{fold-roll-Body, fold-roll-Item}
-use Rattle.cga_syntax.specs.declared.item.Item.TheOpen as layer
+use Rattle.cga_rule.specs.declared.expr.Expr.{Expr}
+use Rattle.cga_rule.specs.declared.item.Size.{Size}
+use Rattle.cga_rule.specs.declared.item.Size.TheVariants as size
+use Rattle.cga_rule.specs.declared.item.Body.{Body, roll-Body}
+use Rattle.cga_rule.specs.declared.item.Item.{Item, Item-F, roll-Item, out-Item, roll-out-Item}
+use Rattle.cga_rule.specs.declared.item.Item.TheVariants as i
+use Rattle.cga_rule.specs.declared.item.Item.TheVariants.{rolls-Move, rolls-Resize, rolls-Rotate, rolls-Scoped, rolls-Solid, rolls-Subdiv, rolls-Repeat, rolls-Comp, rolls-Child}
+use Rattle.cga_rule.specs.declared.item.Item.TheFolds.{fold-roll-Body, fold-roll-Item}
+use Rattle.cga_rule.specs.declared.item.Item.TheOpen as layer
 use Rattle.cga_syntax.specs.Pieces.{Piece, Space, usual, token, turned, plain, number, never, sign, keyword, word, text, named, Pieces, concat, IsTurn, Writes, nonempty, separated, preceded, at_most, behind_each, arguments, three, body_of, in_curly, axis_text, turn_keyword, solid_text, side_text, selector_pieces, size_pieces, expr_pieces, item_pieces, body_pieces, item_step, body_step}
 use Rattle.cga_syntax.specs.Brackets.{counted, bracket_of}
-use Rattle.cga_parser.specs.Reader.{Reader, ◌>>=◌, ◌>>◌, pure, refuse, single, enter, many, many_from}
+use Rattle.cga_form.specs.Reader.{Reader, ◌>>=◌, ◌>>◌, pure, refuse, single, enter, many, many_from}
 use Rattle.cga_parser.specs.Tokens.{passing, a_sign, is_sign, is_keyword, unless, whole_of, item_head, item_keyword, a_relative, is_relative, turn_of, turned_by, a_turn, ninety_by, a_ninety, axis_of, an_axis, solid_of, a_solid, side_of, a_side, selector_of, a_selector}
 use Rattle.cga_parser.specs.Grammar as g
 use Rattle.cga_parser.specs.declared.heads.ItemHead.{ItemHead}
 use Rattle.cga_parser.specs.declared.heads.ItemHead.TheVariants as head
 use Rattle.cga_parser.specs.declared.heads.SelectorHead.{SelectorHead}
 use Rattle.cga_parser.specs.declared.heads.SelectorHead.TheVariants as choice
-use Rattle.cga_parser.proofs.Runs.{Some_text}
-use Rattle.cga_parser.proofs.Written.{head_of, end_of, long_of, nil_right, plain_written, piece_written}
-use Rattle.cga_parser.proofs.Forms.{After, Goes, Reads, next, done, Token, one_token, bracketed, either, refusing, Long, listed, limited, few_pieces, translated}
-use Rattle.cga_parser.proofs.Singles.{sign_token, keyword_token, opening, a_sign_is, as_token, by_token, whole_token, whole_value, named_is, pick, no_more}
+use Rattle.cga_form.proofs.Runs.{Some_text}
+use Rattle.cga_form.proofs.Written.{head_of, end_of, long_of, nil_right, plain_written, piece_written}
+use Rattle.cga_form.proofs.Forms.{After, Goes, Reads, next, done, Token, one_token, bracketed, either, refusing, Long, listed, limited, few_pieces, translated}
+use Rattle.cga_form.proofs.Singles.{sign_token, keyword_token, opening, a_sign_is, as_token, by_token, whole_token, whole_value, named_is, pick, no_more}
 use Rattle.cga_parser.proofs.Lists.{behind_map, separated_is, preceded_is}
-use Rattle.cga_parser.proofs.Again.{never_written}
+use Rattle.cga_form.proofs.Again.{never_written}
 use Rattle.cga_parser.proofs.Exprs.{comma, close, round, in_round, some_as, expr_some, refused_expr, IsInside, inside_reads}
 
 -- ---- one layer of the pieces

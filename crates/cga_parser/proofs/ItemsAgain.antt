@@ -14,27 +14,27 @@ use Rattle.cga_word.specs.declared.selector.Selector.TheVariants as selector
 use Rattle.cga_syntax.specs.declared.keyword.Keyword.TheVariants as k
 use Rattle.cga_syntax.specs.declared.lexeme.Lexeme.{Lexeme}
 use Rattle.cga_syntax.specs.declared.lexeme.Lexeme.TheVariants as lexeme
-use Rattle.cga_syntax.specs.declared.expr.Expr.{Expr}
-use Rattle.cga_syntax.specs.declared.item.Size.{Size}
-use Rattle.cga_syntax.specs.declared.item.Size.TheVariants as size
-use Rattle.cga_syntax.specs.declared.item.Body.{Body, roll-Body, out-Body, roll-out-Body}
-use Rattle.cga_syntax.specs.declared.item.Item.{Item, Item-F, roll-Item, out-Item, roll-out-Item}
-use Rattle.cga_syntax.specs.declared.item.Item.TheVariants as i
-use Rattle.cga_syntax.specs.declared.item.Item.TheVariants.{rolls-Move, rolls-Resize, rolls-Rotate, rolls-Scoped, rolls-Solid, rolls-Subdiv, rolls-Repeat, rolls-Comp, rolls-Child}
-use Rattle.cga_syntax.specs.declared.item.Item.TheOpen as layer
+use Rattle.cga_rule.specs.declared.expr.Expr.{Expr}
+use Rattle.cga_rule.specs.declared.item.Size.{Size}
+use Rattle.cga_rule.specs.declared.item.Size.TheVariants as size
+use Rattle.cga_rule.specs.declared.item.Body.{Body, roll-Body, out-Body, roll-out-Body}
+use Rattle.cga_rule.specs.declared.item.Item.{Item, Item-F, roll-Item, out-Item, roll-out-Item}
+use Rattle.cga_rule.specs.declared.item.Item.TheVariants as i
+use Rattle.cga_rule.specs.declared.item.Item.TheVariants.{rolls-Move, rolls-Resize, rolls-Rotate, rolls-Scoped, rolls-Solid, rolls-Subdiv, rolls-Repeat, rolls-Comp, rolls-Child}
+use Rattle.cga_rule.specs.declared.item.Item.TheOpen as layer
 use Rattle.cga_syntax.specs.Pieces.{usual, token, turned, plain, number, sign, keyword, text, Pieces, concat, IsTurn, Writes, axis_text, turn_keyword, solid_text, side_text, selector_pieces, size_pieces, expr_pieces, item_pieces, body_pieces}
-use Rattle.cga_parser.specs.Reader.{Reader, at, ◌>>=◌, ◌>>◌, pure, refuse, begins}
+use Rattle.cga_form.specs.Reader.{Reader, at, ◌>>=◌, ◌>>◌, pure, refuse, begins}
 use Rattle.cga_parser.specs.Tokens.{a_sign, a_keyword, is_sign, is_keyword, unless, a_whole, item_head, a_relative, is_relative, a_turn, a_ninety, an_axis, a_solid, a_side, a_selector}
 use Rattle.cga_parser.specs.Grammar as g
 use Rattle.cga_parser.specs.declared.heads.ItemHead.TheVariants as head
 use Rattle.cga_parser.specs.declared.heads.SelectorHead.TheVariants as choice
-use Rattle.cga_parser.proofs.Written.{nil_right, piece_of, plain_written}
-use Rattle.cga_parser.proofs.Forms.{Reads, turned as unrolled}
+use Rattle.cga_form.proofs.Written.{nil_right, piece_of, plain_written}
+use Rattle.cga_form.proofs.Forms.{Reads, turned as unrolled}
 use Rattle.cga_parser.proofs.Lists.{separated_is, preceded_is}
 use Rattle.cga_parser.proofs.Exprs.{IsInside, inside_reads}
 use Rattle.cga_parser.proofs.ExprsAgain.{goes_on, Spares, expr_begun, AgainInside, inside_again, neither}
 use Rattle.cga_parser.proofs.Items.{move_layer, resize_layer, rotate_layer, scoped_layer, solid_layer, subdiv_layer, repeat_layer, comp_layer, child_layer, list_pieces, body_layer, turn_number, size_relative, size_absolute, triple, turn_pieces, turn_part_pieces, solid_pieces, further_size_pieces, further_size_long, further_size_reads, split_pieces, repeat_pieces, selector_part_pieces, further_argument_pieces, at_most_is, arguments_pieces, item_long, some_pieces, IsInnerItem, scoped_pieces, scoped_is, block_pieces, further_body_pieces, further_body_long, further_body_reads, blocks_pieces, subdiv_is, no_inner_item, one_inner_item, item_reads}
-use Rattle.cga_parser.proofs.Again.{Agrees, Leads, Again, Begun, Starts, begun_token, starts_token, begun_named, starts_named, begun_append, begun_as, starts_as, missed, misses_end, misses_each, few_misses, nothing, misses_nothing, never_leads, ends, took, by_name, whole_leads, entered, peek_yes, peek_no, after, plainly, written_as, all_of, few_of}
+use Rattle.cga_form.proofs.Again.{Agrees, Leads, Again, Begun, Starts, begun_token, starts_token, begun_named, starts_named, begun_append, begun_as, starts_as, missed, misses_end, misses_each, few_misses, nothing, misses_nothing, never_leads, ends, took, by_name, whole_leads, entered, peek_yes, peek_no, after, plainly, written_as, all_of, few_of}
 
 relative_spares : Spares is_relative
 relative_spares = record { number = λ v. refl; name = λ n. refl; bracket = refl; scope = refl; floor = refl; ceil = refl; rand = refl }

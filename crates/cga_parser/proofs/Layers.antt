@@ -5,15 +5,15 @@ use Rattle.cga_lexer.specs.declared.sign.Sign.TheVariants as s
 use Rattle.cga_word.specs.declared.axis.Axis.{Axis}
 use Rattle.cga_syntax.specs.declared.keyword.Keyword.TheVariants as k
 use Rattle.cga_syntax.specs.declared.lexeme.Lexeme.TheVariants as lexeme
-use Rattle.cga_syntax.specs.declared.expr.Expr.{Expr, roll-Expr}
-use Rattle.cga_syntax.specs.declared.expr.Term.{Term, roll-Term}
-use Rattle.cga_syntax.specs.declared.expr.Added.{Added, roll-Added}
-use Rattle.cga_syntax.specs.declared.expr.Scaled.{Scaled}
-use Rattle.cga_syntax.specs.declared.expr.Factor.{Factor}
-use Rattle.cga_syntax.specs.declared.expr.Primary.{Primary}
-use Rattle.cga_syntax.specs.declared.expr.Primary.TheVariants.{Number, rolls-Number, Named, rolls-Named, ScopeSize, rolls-ScopeSize, Group, rolls-Group, Floor, rolls-Floor, Ceil, rolls-Ceil, Rand, rolls-Rand}
-use Rattle.cga_syntax.specs.declared.expr.Primary.TheFolds.{fold-roll-Expr, fold-roll-Term, fold-roll-Added, fold_out-Scaled, fold_out-Factor, fold-roll-Primary}
-use Rattle.cga_syntax.specs.declared.expr.Primary.TheOpen as layer
+use Rattle.cga_rule.specs.declared.expr.Expr.{Expr, roll-Expr}
+use Rattle.cga_rule.specs.declared.expr.Term.{Term, roll-Term}
+use Rattle.cga_rule.specs.declared.expr.Added.{Added, roll-Added}
+use Rattle.cga_rule.specs.declared.expr.Scaled.{Scaled}
+use Rattle.cga_rule.specs.declared.expr.Factor.{Factor}
+use Rattle.cga_rule.specs.declared.expr.Primary.{Primary}
+use Rattle.cga_rule.specs.declared.expr.Primary.TheVariants.{Number, rolls-Number, Named, rolls-Named, ScopeSize, rolls-ScopeSize, Group, rolls-Group, Floor, rolls-Floor, Ceil, rolls-Ceil, Rand, rolls-Rand}
+use Rattle.cga_rule.specs.declared.expr.Primary.TheFolds.{fold-roll-Expr, fold-roll-Term, fold-roll-Added, fold_out-Scaled, fold_out-Factor, fold-roll-Primary}
+use Rattle.cga_rule.specs.declared.expr.Primary.TheOpen as layer
 use Rattle.cga_syntax.specs.Pieces.{Pieces, plain, token, none_after, drawn, sign, keyword, word, named, whole, concat, grouped, size_word, expr_pieces, term_pieces, added_pieces, scaled_pieces, factor_pieces, primary_pieces, primary_step, added_step, expr_step, factor_step, scaled_step, term_step}
 
 pub expr_layer : (t : Term) (rest : List Added) → expr_pieces (roll-Expr (record { first = t; rest = rest })) ≡ term_pieces t ++ concat (map added_pieces rest)

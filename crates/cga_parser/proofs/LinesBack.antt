@@ -4,10 +4,10 @@ use Rattle.std.proofs.lemmas.Bool.Decides.{nat_tests}
 use Rattle.cga_lexer.specs.Line.{tokens_of, Outcome as Lexed}
 use Rattle.cga_lexer.specs.declared.token.Token.{Token}
 use Rattle.cga_lexer.specs.declared.sign.Sign.TheVariants as s
-use Rattle.cga_syntax.specs.declared.grammar.Attribute.{Attribute}
+use Rattle.cga_rule.specs.declared.grammar.Attribute.{Attribute}
 use Rattle.cga_syntax.specs.declared.lexeme.Lexeme.{Lexeme}
 use Rattle.cga_syntax.specs.declared.lexeme.Lexeme.TheVariants as lexeme
-use Rattle.cga_syntax.specs.declared.rule.Rule.{Rule}
+use Rattle.cga_rule.specs.declared.rule.Rule.{Rule}
 use Rattle.cga_syntax.specs.Brackets.{walk}
 use Rattle.cga_syntax.specs.Lexemes.{is, is_reserved}
 use Rattle.cga_syntax.specs.Pieces.{Pieces, usual, none_before, token, never, number, whole, word, sign as signed, valued, rule_pieces, Writes}
@@ -21,26 +21,27 @@ use Rattle.cga_syntax.proofs.Tokens.{line_tokens}
 use Rattle.cga_syntax.proofs.Visible.{text_visible, attribute_visible, priority_visible}
 use Rattle.cga_parser.specs.declared.block_line.BlockLine.{BlockLine}
 use Rattle.cga_parser.specs.declared.block_line.BlockLine.TheVariants as line
-use Rattle.cga_parser.specs.Answers.{Answers}
-use Rattle.cga_parser.specs.BlockAnswers.{Line, unless_blank, unless_long, BlockAnswers, EndsBlock}
-use Rattle.cga_parser.specs.Blocks.{block_pieces, attribute_pieces, priority_pieces, whole_block}
-use Rattle.cga_parser.specs.Code.{seen}
+use Rattle.cga_form.specs.Answers.{Answers}
+use Rattle.cga_form.specs.BlockAnswers.{Line, unless_blank, unless_long}
+use Rattle.cga_parser.specs.BlockAnswers.{BlockAnswers, EndsBlock}
+use Rattle.cga_parser.specs.Blocks.{block_pieces, attribute_pieces, priority_pieces, block}
+use Rattle.cga_form.specs.Code.{seen}
 use Rattle.cga_parser.specs.GrammarLines.{line_text, given, IsInside}
-use Rattle.cga_parser.proofs.Again.{never_written}
-use Rattle.cga_parser.proofs.Answered.{answered}
-use Rattle.cga_parser.proofs.BlockLines.{block_unique, block_found, block_refused}
+use Rattle.cga_form.proofs.Again.{never_written}
+use Rattle.cga_form.proofs.Answered.{form_answered}
+use Rattle.cga_parser.proofs.TheForms.{block_form}
 use Rattle.cga_parser.proofs.Printable.{says_by, line_says}
-use Rattle.cga_parser.proofs.Written.{nil_right, head_of, token_first, nothing}
+use Rattle.cga_form.proofs.Written.{nil_right, head_of, token_first, nothing}
 
 -- a text that spells a line, with few enough brackets, is answered by the line
 line_answered : (x : List Lexeme) (b : BlockLine) (m : ℕ) → Spelled block_pieces x b → walk 32 x ≡ Some m → Answers block_pieces 32 x (Ok b)
-line_answered = answered block_pieces (whole_block 32) block_unique (block_found 32) (block_refused 32)
+line_answered = form_answered block_pieces block block_form
 
 short_enough : (text : List ℕ) → length text ≤ 4096 → nat_lt 4096 (length text) ≡ false
 short_enough text h = grind (arith, nat_tests)
 
 module _ (b : BlockLine) where
-  not_blank : (o : Lexed) (l : Lexeme) (ls : List Lexeme) (end : ℕ) → AreRead o (l ∷ ls) → Answers block_pieces 32 (l ∷ ls) (Ok b) → unless_blank end o (Ok (Some b))
+  not_blank : (o : Lexed) (l : Lexeme) (ls : List Lexeme) (end : ℕ) → AreRead o (l ∷ ls) → Answers block_pieces 32 (l ∷ ls) (Ok b) → unless_blank block_pieces end o (Ok (Some b))
   not_blank (Err f) l ls end e a = absurd e
   not_blank (Ok []) l ls end e a = absurd (cc)
   not_blank (Ok (t ∷ ts)) l ls end e a = (Ok b, (Ok b, subst (λ z. Answers block_pieces 32 z (Ok b)) (sym e) a, refl), refl)
@@ -48,7 +49,7 @@ module _ (b : BlockLine) where
   -- a short text with the tokens of the line is answered by it
   by_tokens : (l : Lexeme) (ls : List Lexeme) → AreRead (tokens_of (line_text b)) (l ∷ ls) → Answers block_pieces 32 (l ∷ ls) (Ok b) → length (line_text b) ≤ 4096 → BlockAnswers (given b) (Ok (Some b))
   by_tokens l ls e a few =
-      subst (λ t. unless_long (line_text b) t (Ok (Some b))) (sym (short_enough (line_text b) few))
+      subst (λ t. unless_long block_pieces (line_text b) t (Ok (Some b))) (sym (short_enough (line_text b) few))
       (not_blank (tokens_of (line_text b)) l ls (length (line_text b) + 1) e a)
 
 -- a text whose first token is another than `end` ends no block

@@ -3,22 +3,23 @@ use Rattle.std.proofs.Common.{◌≡◌, ℕ, ◌+◌, nat_lt, Bool, true, false
 use Rattle.std.proofs.lemmas.List.Elements.{All-nil, All-cons}
 use Rattle.cga_lexer.specs.Line.{tokens_of, Outcome as Lexed}
 use Rattle.cga_lexer.specs.declared.token.Token.{Token}
-use Rattle.cga_syntax.specs.declared.grammar.Entry.{Entry}
-use Rattle.cga_syntax.specs.declared.grammar.Grammar.{Grammar}
-use Rattle.cga_syntax.specs.declared.rule.Rule.{Rule}
+use Rattle.cga_rule.specs.declared.grammar.Entry.{Entry}
+use Rattle.cga_rule.specs.declared.grammar.Grammar.{Grammar}
+use Rattle.cga_rule.specs.declared.rule.Rule.{Rule}
 use Rattle.cga_syntax.specs.GrammarText.{ArePrintable}
 use Rattle.cga_syntax.specs.Pieces.{Pieces, rule_pieces}
 use Rattle.cga_syntax.specs.Printing.{printed, HaveTexts}
 use Rattle.cga_parser.specs.declared.block_line.BlockLine.{BlockLine}
 use Rattle.cga_parser.specs.declared.block_line.BlockLine.TheVariants as line
-use Rattle.cga_parser.specs.declared.fault.Fault.{Fault}
-use Rattle.cga_parser.specs.declared.line_fault.LineFault.{LineFault}
-use Rattle.cga_parser.specs.Answers.{Answers}
+use Rattle.cga_form.specs.declared.fault.Fault.{Fault}
+use Rattle.cga_form.specs.declared.line_fault.LineFault.{LineFault}
+use Rattle.cga_form.specs.Answers.{Answers}
 use Rattle.cga_parser.specs.Back.{few_brackets, SpellsRule}
-use Rattle.cga_parser.specs.BlockAnswers.{Line, Found, is_long, as_line, unless_blank, unless_long, BlockAnswers, Say, entries_from, GrammarAnswers}
+use Rattle.cga_form.specs.BlockAnswers.{Line, Found, is_long, as_line, unless_blank, unless_long, Say}
+use Rattle.cga_parser.specs.BlockAnswers.{BlockAnswers, entries_from, GrammarAnswers}
 use Rattle.cga_parser.specs.Blocks.{block_pieces}
-use Rattle.cga_parser.specs.Code.{seen}
-use Rattle.cga_parser.specs.LineAnswers.{with_place, by_tokens, by_length, LineAnswers}
+use Rattle.cga_form.specs.Code.{seen}
+use Rattle.cga_form.specs.LineAnswers.{with_place, by_tokens, by_length, LineAnswers}
 use Rattle.cga_parser.proofs.ReadBack.{rule_back}
 
 -- ---- a rule
@@ -47,7 +48,7 @@ parsed_prints bytes r h = (rule_back bytes r (parsed_spells bytes r h)).0
 
 -- ---- a grammar
 
-some_line : (said b : BlockLine) → ◌≡◌ {A = Found} (Ok (Some said)) (Ok (Some b)) → b ≡ said
+some_line : (said b : BlockLine) → ◌≡◌ {A = Found BlockLine} (Ok (Some said)) (Ok (Some b)) → b ≡ said
 some_line said b h = cc
 
 -- the line's tokens say it
@@ -55,19 +56,19 @@ abbrev pub says_by : Lexed → BlockLine → Type 0
 says_by (Ok ts) b = Answers block_pieces 32 (map seen ts) (Ok b)
 says_by (Err f) b = ⊥
 
-block_tokens : (b : BlockLine) (end : ℕ) (t : Token) (ts : List Token) (found : Result BlockLine LineFault) → by_tokens block_pieces end (Ok (t ∷ ts)) found → ◌≡◌ {A = Found} (Ok (Some b)) (as_line found) → says_by (Ok (t ∷ ts)) b
+block_tokens : (b : BlockLine) (end : ℕ) (t : Token) (ts : List Token) (found : Result BlockLine LineFault) → by_tokens block_pieces end (Ok (t ∷ ts)) found → ◌≡◌ {A = Found BlockLine} (Ok (Some b)) (as_line found) → says_by (Ok (t ∷ ts)) b
 block_tokens b end t ts (Ok said) h e =
     let q : said ≡ b = some_line b said e in
     let g : by_tokens block_pieces end (Ok (t ∷ ts)) (Ok b) = subst (λ z. by_tokens block_pieces end (Ok (t ∷ ts)) (Ok z)) q h in
     placed_value block_pieces b end (t ∷ ts) g.0 g.2 g.1
 block_tokens b end t ts (Err f) h e = absurd (cc)
 
-block_blank : (b : BlockLine) (end : ℕ) (o : Lexed) → unless_blank end o (Ok (Some b)) → says_by o b
+block_blank : (b : BlockLine) (end : ℕ) (o : Lexed) → unless_blank block_pieces end o (Ok (Some b)) → says_by o b
 block_blank b end (Err f) h = absurd (cc)
 block_blank b end (Ok []) h = absurd (let q : Some b ≡ None = cc in cc)
 block_blank b end (Ok (t ∷ ts)) h = block_tokens b end t ts h.0 h.1 h.2
 
-block_long : (b : BlockLine) (bytes : List ℕ) (long : Bool) → unless_long bytes long (Ok (Some b)) → says_by (tokens_of bytes) b
+block_long : (b : BlockLine) (bytes : List ℕ) (long : Bool) → unless_long block_pieces bytes long (Ok (Some b)) → says_by (tokens_of bytes) b
 block_long b bytes true h = absurd (cc)
 block_long b bytes false h = block_blank b (length bytes + 1) (tokens_of bytes) h
 
@@ -81,7 +82,7 @@ rule_few r (Err f) h = absurd h
 pub line_prints : (l : Line) (r : Rule) → BlockAnswers l (Ok (Some (line.Rule r))) → HaveTexts (printed (rule_pieces r))
 line_prints l r h = (rule_back l.bytes r (rule_few r (tokens_of l.bytes) (line_says (line.Rule r) l h))).0
 
-lines_print : (priority : ℕ) (lines : List Line) (all : List (Option BlockLine)) → Say lines all → ArePrintable (entries_from priority all)
+lines_print : (priority : ℕ) (lines : List Line) (all : List (Option BlockLine)) → Say block_pieces lines all → ArePrintable (entries_from priority all)
 unfolding Say entries_from
 lines_print p [] [] h = All-nil (λ (e : Entry). HaveTexts (printed (rule_pieces e.rule)))
 lines_print p (l ∷ ls) [] h = absurd h

@@ -3,7 +3,7 @@ use Rattle.std.proofs.Common.{◌≡◌, ℕ, ◌+◌, ◌≤◌, nat_lt, false,
 use Rattle.std.proofs.lemmas.Bool.Decides.{nat_tests}
 use Rattle.cga_lexer.specs.Line.{tokens_of, Outcome as Lexed}
 use Rattle.cga_syntax.specs.declared.lexeme.Lexeme.{Lexeme}
-use Rattle.cga_syntax.specs.declared.rule.Rule.{Rule}
+use Rattle.cga_rule.specs.declared.rule.Rule.{Rule}
 use Rattle.cga_syntax.specs.Brackets.{walk}
 use Rattle.cga_syntax.specs.Pieces.{rule_pieces}
 use Rattle.cga_syntax.specs.Printing.{printed, text_of}
@@ -12,17 +12,17 @@ use Rattle.cga_syntax.specs.Spelling.{Spelled}
 use Rattle.cga_syntax.proofs.Again.{lexemes, again, have_texts}
 use Rattle.cga_syntax.proofs.Back.{text_read}
 use Rattle.cga_syntax.proofs.Tokens.{line_tokens}
-use Rattle.cga_parser.specs.Answers.{Answers}
+use Rattle.cga_form.specs.Answers.{Answers}
 use Rattle.cga_parser.specs.Back.{few_brackets, SpellsRule, IsReadBack}
-use Rattle.cga_parser.specs.Code.{seen}
-use Rattle.cga_parser.specs.Grammar.{rule_line}
-use Rattle.cga_parser.specs.LineAnswers.{by_tokens, by_length}
-use Rattle.cga_parser.proofs.Answered.{answered}
-use Rattle.cga_parser.proofs.Lines.{rule_unique, found_is_right, fault_is_right}
+use Rattle.cga_form.specs.Code.{seen}
+use Rattle.cga_parser.specs.Grammar.{rule}
+use Rattle.cga_form.specs.LineAnswers.{by_tokens, by_length}
+use Rattle.cga_form.proofs.Answered.{form_answered}
+use Rattle.cga_parser.proofs.TheForms.{rule_form}
 
 -- a text that spells a rule, with few enough brackets, is answered by the rule
 rule_answered : (x : List Lexeme) (r : Rule) (m : ℕ) → Spelled rule_pieces x r → walk 32 x ≡ Some m → Answers rule_pieces 32 x (Ok r)
-rule_answered = answered rule_pieces (rule_line 32) rule_unique (found_is_right 32) (fault_is_right 32)
+rule_answered = form_answered rule_pieces rule rule_form
 
 module _ (r : Rule) where
   by_read : (o : Lexed) (ls : List Lexeme) (end : ℕ) → AreRead o ls → Answers rule_pieces 32 ls (Ok r) → by_tokens rule_pieces end o (Ok r)

@@ -1,19 +1,19 @@
 -- Rules are read exactly.
-use Rattle.std.proofs.Common.{◌≡◌, ℕ, suc, inl, inr, List, [], ◌∷◌, ◌++◌, map, append_assoc, refl, ap, sym, ◌∙◌, subst, pos}
+use Rattle.std.proofs.Common.{◌≡◌, ℕ, suc, inl, inr, List, [], ◌∷◌, ◌++◌, map, append_assoc, refl, ap, ◌∙◌, subst, pos}
 use Rattle.cga_fraction.specs.Rat.{Rat, of_int}
 use Rattle.cga_lexer.specs.declared.sign.Sign.TheVariants as s
 use Rattle.cga_syntax.specs.declared.lexeme.Lexeme.{Lexeme}
 use Rattle.cga_syntax.specs.declared.lexeme.Lexeme.TheVariants as lexeme
-use Rattle.cga_syntax.specs.declared.item.Item.{Item}
-use Rattle.cga_syntax.specs.declared.rule.Rule.{Rule}
+use Rattle.cga_rule.specs.declared.item.Item.{Item}
+use Rattle.cga_rule.specs.declared.rule.Rule.{Rule}
 use Rattle.cga_syntax.specs.Pieces.{usual, none_before, token, plain, sign, named, whole, Pieces, concat, probability, Writes, nonempty, arguments, condition_pieces, alternative_pieces, rule_pieces}
-use Rattle.cga_parser.specs.Reader.{Reader, ◌>>=◌, ◌>>◌, pure, single, many_from}
+use Rattle.cga_form.specs.Reader.{◌>>=◌, ◌>>◌, pure, single, many_from}
 use Rattle.cga_parser.specs.Tokens.{is_sign, a_name}
 use Rattle.cga_parser.specs.Grammar as g
-use Rattle.cga_parser.proofs.Runs.{pure_runs}
-use Rattle.cga_parser.proofs.Written.{nothing, head_of, end_of, long_of, nil_right, piece_written}
-use Rattle.cga_parser.proofs.Forms.{After, Goes, Reads, next, done, one_token, either, refusing, Long, listed, limited, translated}
-use Rattle.cga_parser.proofs.Singles.{sign_token, name_token, name_pieces, whole_token, number_token, as_token}
+use Rattle.cga_form.proofs.Runs.{pure_runs}
+use Rattle.cga_form.proofs.Written.{head_of, end_of, long_of, nil_right, piece_written}
+use Rattle.cga_form.proofs.Forms.{After, Goes, Reads, next, done, one_token, either, Long, listed, limited, translated}
+use Rattle.cga_form.proofs.Singles.{sign_token, name_token, name_pieces, whole_token, number_token, as_token}
 use Rattle.cga_parser.proofs.Exprs.{comma, close, round, in_round}
 use Rattle.cga_parser.proofs.Conds.{cond_reads}
 use Rattle.cga_parser.proofs.Items.{list_pieces, body_reads, item_reads, arguments_is}
@@ -103,16 +103,3 @@ rule_reads n =
     next (one_token (whole_token 1 999999 n refl)) (λ id. next (one_token (sign_token none_before s.Colon n n refl refl)) (λ _. next (one_token (name_token n)) (λ name.
     next (parameters_reads n) (λ ps. next (condition_reads n) (λ c. next (alternative_reads n) (λ a. next (listed (is_sign s.Arrow) alternative_long (alternative_reads n)) (λ more.
     done (rule_is _ ∙ ap (λ z. whole 1 999999 id ∷ token none_before (lexeme.Sign s.Colon) ∷ named name ∷ (parameters_pieces ps ++ (condition_pieces c ++ (alternative_pieces a ++ z)))) (nil_right (concat (map alternative_pieces more))) ∙ simp append_assoc))))))))
-
--- ---- whole lines
-
-abbrev none : Unit {0} → Pieces
-none _ = []
-
-pub finish_reads : (n : ℕ) → Reads n n none g.finish
-unfolding g.finish
-finish_reads n = either g.any (refusing (λ c. ([], tt, c, ([], refl, nothing c)))) (done refl)
-
--- a form and then the end
-pub line_reads : {A : Type 0} {w : A → Pieces} {p : Reader A} (n : ℕ) → Reads n n w p → Reads n n w (p >>= λ a. g.finish >> pure a)
-line_reads {w = w} n h = next h (λ a. next (finish_reads n) (λ _. done (sym (nil_right (w a)))))

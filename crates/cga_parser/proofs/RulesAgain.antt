@@ -5,22 +5,22 @@ use Rattle.cga_lexer.specs.declared.sign.Sign.TheVariants as s
 use Rattle.cga_syntax.specs.Lexemes.{is_reserved}
 use Rattle.cga_syntax.specs.declared.lexeme.Lexeme.{Lexeme}
 use Rattle.cga_syntax.specs.declared.lexeme.Lexeme.TheVariants as lexeme
-use Rattle.cga_syntax.specs.declared.cond.Cond.{Cond}
-use Rattle.cga_syntax.specs.declared.item.Item.{Item}
-use Rattle.cga_syntax.specs.declared.rule.Alternative.{Alternative}
+use Rattle.cga_rule.specs.declared.cond.Cond.{Cond}
+use Rattle.cga_rule.specs.declared.item.Item.{Item}
+use Rattle.cga_rule.specs.declared.rule.Alternative.{Alternative}
 use Rattle.cga_syntax.specs.Pieces.{usual, none_before, token, never, sign, named, whole, Pieces, probability, IsProbability, Writes, condition_pieces, alternative_pieces, rule_pieces}
-use Rattle.cga_parser.specs.Reader.{at, begins}
+use Rattle.cga_form.specs.Reader.{at, begins}
 use Rattle.cga_parser.specs.Tokens.{a_sign, is_sign, a_name, a_whole, a_number, unless}
 use Rattle.cga_parser.specs.Grammar as g
-use Rattle.cga_parser.proofs.Written.{cut, piece_of, plain_written}
-use Rattle.cga_parser.proofs.Forms.{turned as unrolled}
-use Rattle.cga_parser.proofs.Singles.{name_pieces}
+use Rattle.cga_form.proofs.Written.{cut, piece_of, plain_written}
+use Rattle.cga_form.proofs.Forms.{turned as unrolled}
+use Rattle.cga_form.proofs.Singles.{name_pieces}
 use Rattle.cga_parser.proofs.ExprsAgain.{neither}
 use Rattle.cga_parser.proofs.CondsAgain.{with_or, cond_again}
 use Rattle.cga_parser.proofs.Items.{at_most_is, item_reads}
 use Rattle.cga_parser.proofs.ItemsAgain.{with_bracket, with_item, body_again, item_again}
 use Rattle.cga_parser.proofs.Rules.{further_name_pieces, parameters_pieces, given_pieces, probability_pieces, alternative_is, alternative_long, alternative_reads, rule_is}
-use Rattle.cga_parser.proofs.Again.{Agrees, Leads, Again, Begun, Starts, Misses, begun_token, starts_token, begun_append, begun_as, starts_as, missed, misses_end, misses_each, nothing, misses_nothing, begun_nothing, never_written, ends, took, by_name, whole_leads, entered, peek_yes, peek_no, after, plainly, written_as, all_of, few_of}
+use Rattle.cga_form.proofs.Again.{Agrees, Leads, Again, Begun, Starts, Misses, begun_token, starts_token, begun_append, begun_as, starts_as, missed, misses_end, misses_each, nothing, misses_nothing, begun_nothing, never_written, ends, took, by_name, whole_leads, entered, peek_yes, peek_no, after, plainly, written_as, all_of, few_of}
 
 -- ---- parameters
 

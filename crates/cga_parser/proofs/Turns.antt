@@ -1,14 +1,14 @@
 -- The turns of a loop over a list.
 use Rattle.std.proofs.Common.{◌≡◌, ℕ, zero, suc, ◌-◌, ◌<◌, ◌&&◌, nat_lt, arith, length-append, List, [], ◌∷◌, ◌++◌, length, Bool, true, false, Ok, Err, refl, ap, ◌∙◌, if◌then◌else◌}
-use Rattle.cga_parser.specs.declared.fault.Fault.{Fault as FaultOf}
-use Rattle.cga_parser.specs.declared.fault.Stop.{Stop}
-use Rattle.cga_parser.specs.declared.fault.Stop.TheVariants.{Memory, Fault}
+use Rattle.cga_form.specs.declared.fault.Fault.{Fault as FaultOf}
+use Rattle.cga_form.specs.declared.fault.Stop.{Stop}
+use Rattle.cga_form.specs.declared.fault.Stop.TheVariants.{Memory, Fault}
 use Rattle.cga_syntax.specs.declared.lexeme.Lexeme.{Lexeme}
 use Rattle.cga_syntax.specs.Pieces.{Pieces}
-use Rattle.cga_parser.specs.Reader.{Input, Reader, Outcome, and_then, ◌>>=◌, begins, many_from, many_after, many}
-use Rattle.cga_parser.specs.Code.{Fails}
+use Rattle.cga_form.specs.Reader.{Input, Reader, Outcome, and_then, ◌>>=◌, begins, many_from, many_after, many}
+use Rattle.cga_form.specs.Code.{Fails}
 use Rattle.std.proofs.lemmas.Bool.Decides.{nat_tests}
-use Rattle.cga_parser.proofs.Forms.{Reads, Long, turned, shorter}
+use Rattle.cga_form.proofs.Forms.{Reads, Long, turned, shorter}
 
 pub many_is : {A : Type 0} (test : Lexeme → Bool) (p : Reader A) (i : Input) → many test p i ≡ many_after test p [] i
 unfolding many

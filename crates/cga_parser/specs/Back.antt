@@ -7,9 +7,9 @@ use Rattle.cga_syntax.specs.Brackets.{walk}
 use Rattle.cga_syntax.specs.Pieces.{rule_pieces}
 use Rattle.cga_syntax.specs.Printing.{printed, text_of, HaveTexts}
 use Rattle.cga_syntax.specs.Spelling.{Spelled}
-use Rattle.cga_syntax.specs.declared.rule.Rule.{Rule}
-use Rattle.cga_parser.specs.Code.{seen}
-use Rattle.cga_parser.specs.LineAnswers.{LineAnswers}
+use Rattle.cga_rule.specs.declared.rule.Rule.{Rule}
+use Rattle.cga_form.specs.Code.{seen}
+use Rattle.cga_form.specs.LineAnswers.{LineAnswers}
 
 abbrev pub few_brackets : Result (List Token) LexFault → Rule → Type 0
 few_brackets (Ok ts) r = Spelled rule_pieces (map seen ts) r × ((m : ℕ) × (walk 32 (map seen ts) ≡ Some m))

@@ -1,20 +1,19 @@
 -- How a text is read: one token after the other.
 use Rattle.std.specs.Prelude.{ℕ, zero, suc, Bool, true, false, List, [], ◌∷◌, Option, Some, None, is_some}
-use Rattle.cga_lexer.specs.declared.sign.Sign.{Sign}
 use Rattle.cga_lexer.specs.declared.sign.Sign.TheVariants as s
 use Rattle.cga_syntax.specs.declared.keyword.Keyword.TheVariants as k
 use Rattle.cga_syntax.specs.declared.lexeme.Lexeme.{Lexeme}
-use Rattle.cga_syntax.specs.declared.expr.Expr.{Expr, roll-Expr}
-use Rattle.cga_syntax.specs.declared.expr.Term.{Term, roll-Term}
-use Rattle.cga_syntax.specs.declared.expr.Added.{Added, roll-Added}
-use Rattle.cga_syntax.specs.declared.expr.Scaled.{Scaled}
-use Rattle.cga_syntax.specs.declared.expr.Factor.{Factor}
-use Rattle.cga_syntax.specs.declared.expr.Primary.{Primary}
-use Rattle.cga_syntax.specs.declared.expr.Primary.TheVariants as v
-use Rattle.cga_syntax.specs.declared.cond.Cond.{Cond, roll-Cond}
-use Rattle.cga_syntax.specs.declared.cond.Conj.{Conj, roll-Conj}
-use Rattle.cga_syntax.specs.declared.cond.Test.{Test}
-use Rattle.cga_syntax.specs.declared.cond.Test.TheVariants as t
+use Rattle.cga_rule.specs.declared.expr.Expr.{Expr, roll-Expr}
+use Rattle.cga_rule.specs.declared.expr.Term.{Term, roll-Term}
+use Rattle.cga_rule.specs.declared.expr.Added.{Added, roll-Added}
+use Rattle.cga_rule.specs.declared.expr.Scaled.{Scaled}
+use Rattle.cga_rule.specs.declared.expr.Factor.{Factor}
+use Rattle.cga_rule.specs.declared.expr.Primary.{Primary}
+use Rattle.cga_rule.specs.declared.expr.Primary.TheVariants as v
+use Rattle.cga_rule.specs.declared.cond.Cond.{Cond, roll-Cond}
+use Rattle.cga_rule.specs.declared.cond.Conj.{Conj, roll-Conj}
+use Rattle.cga_rule.specs.declared.cond.Test.{Test}
+use Rattle.cga_rule.specs.declared.cond.Test.TheVariants as t
 use Rattle.cga_word.specs.declared.axis.Axis.{Axis}
 use Rattle.cga_word.specs.declared.target.Target.{Target}
 use Rattle.cga_word.specs.declared.answer.Answer.{Answer}
@@ -27,24 +26,22 @@ use Rattle.cga_word.specs.declared.turn.Turn.TheVariants as turn
 use Rattle.cga_word.specs.declared.primitive.Primitive.{Primitive}
 use Rattle.cga_word.specs.declared.selector.Selector.{Selector}
 use Rattle.cga_word.specs.declared.selector.Selector.TheVariants as chosen
-use Rattle.cga_syntax.specs.declared.item.Size.{Size}
-use Rattle.cga_syntax.specs.declared.item.Size.TheVariants as size_of
-use Rattle.cga_syntax.specs.declared.item.Body.{Body, roll-Body}
-use Rattle.cga_syntax.specs.declared.item.Item.{Item}
-use Rattle.cga_syntax.specs.declared.item.Item.TheVariants as i
-use Rattle.cga_syntax.specs.declared.rule.Alternative.{Alternative}
-use Rattle.cga_syntax.specs.declared.rule.Rule.{Rule}
+use Rattle.cga_rule.specs.declared.item.Size.{Size}
+use Rattle.cga_rule.specs.declared.item.Size.TheVariants as size_of
+use Rattle.cga_rule.specs.declared.item.Body.{Body, roll-Body}
+use Rattle.cga_rule.specs.declared.item.Item.{Item}
+use Rattle.cga_rule.specs.declared.item.Item.TheVariants as i
+use Rattle.cga_rule.specs.declared.rule.Alternative.{Alternative}
+use Rattle.cga_rule.specs.declared.rule.Rule.{Rule}
 use Rattle.cga_parser.specs.declared.heads.ItemHead.{ItemHead}
 use Rattle.cga_parser.specs.declared.heads.ItemHead.TheVariants as item_head_of
 use Rattle.cga_parser.specs.declared.heads.SelectorHead.{SelectorHead}
 use Rattle.cga_parser.specs.declared.heads.SelectorHead.TheVariants as selector_head
-use Rattle.cga_parser.specs.Reader.{Reader, ◌>>=◌, ◌>>◌, pure, refuse, single, enter, drawn_word, peeked, many, many_from}
+use Rattle.cga_form.specs.Reader.{Reader, ◌>>=◌, ◌>>◌, pure, refuse, single, enter, drawn_word, peeked, many, many_from}
 use Rattle.cga_parser.specs.Tokens.{is_sign, is_keyword, a_sign, a_keyword, a_name, a_whole, a_number, primary_head, size_axis, an_addition, a_scaling, a_relation, an_equality, a_target, a_state, a_scope_word, item_head, a_relative, is_relative, a_turn, a_ninety, an_axis, a_solid, a_side, a_selector}
 use Rattle.cga_parser.specs.declared.heads.PrimaryHead.{PrimaryHead}
 use Rattle.cga_parser.specs.declared.heads.PrimaryHead.TheVariants as head
-
-abbrev pub sign : Sign → Reader (Unit {0})
-sign x = single (a_sign x)
+pub use Rattle.cga_form.specs.Parts.{sign, any, finish}
 
 -- ---- expressions, where so many brackets may be opened and `inside` reads what stands in one
 
@@ -293,14 +290,3 @@ unfoldable pub rule : ℕ → Reader Rule
 rule n =
     single (a_whole 1 999999) >>= λ id. sign s.Colon >> (single a_name >>= λ name. parameters n >>= λ ps. condition n >>= λ c.
     alternative n >>= λ a. many (is_sign s.Arrow) (alternative n) >>= λ more. pure (record { id = id; symbol = name; params = ps; cond = c; alternatives = a ∷ more }))
-
-abbrev pub any : Lexeme → Bool
-any _ = true
-
--- the end of the line
-unfoldable pub finish : Reader (Unit {0})
-finish = peeked any refuse (pure tt)
-
--- a line that is a rule
-unfoldable pub rule_line : ℕ → Reader Rule
-rule_line n = rule n >>= λ r. finish >> pure r

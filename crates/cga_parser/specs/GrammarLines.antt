@@ -5,11 +5,12 @@ use Rattle.cga_fraction.specs.Texts.{exact_text_of}
 use Rattle.cga_syntax.specs.GrammarText.{line, has, priorities, grammar_text, ArePrintable}
 use Rattle.cga_syntax.specs.Pieces.{rule_pieces}
 use Rattle.cga_syntax.specs.Printing.{printed, text_of}
-use Rattle.cga_syntax.specs.declared.grammar.Entry.{Entry}
-use Rattle.cga_syntax.specs.declared.grammar.Grammar.{Grammar}
+use Rattle.cga_rule.specs.declared.grammar.Entry.{Entry}
+use Rattle.cga_rule.specs.declared.grammar.Grammar.{Grammar}
 use Rattle.cga_parser.specs.declared.block_line.BlockLine.{BlockLine}
 use Rattle.cga_parser.specs.declared.block_line.BlockLine.TheVariants as says
-use Rattle.cga_parser.specs.BlockAnswers.{Line, BlockAnswers, EndsBlock, GrammarAnswers}
+use Rattle.cga_form.specs.BlockAnswers.{Line}
+use Rattle.cga_parser.specs.BlockAnswers.{BlockAnswers, EndsBlock, GrammarAnswers}
 
 -- ---- the entries in the order of the text
 

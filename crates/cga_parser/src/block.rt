@@ -1,14 +1,14 @@
 ghost use Rattle.std.specs.Prelude.{◌≡◌, ◌≤◌, length, map, IfOk};
-ghost use Rattle.cga_parser.specs.Code.{input_of, Finds, Reads, seen};
-ghost use Rattle.cga_parser.specs.Answers.{Answers};
+ghost use Rattle.cga_form.specs.Code.{input_of, Finds, Reads, seen};
+ghost use Rattle.cga_form.specs.Answers.{Answers};
 ghost use Rattle.cga_parser.specs.Blocks as spec;
 
 use crate::block_line::BlockLine;
-use crate::fault::{Fault, Stop};
-use crate::form::{finish, name, prio};
 use crate::rule::rule;
-use crate::tokens::Tokens;
-use crate::value::value;
+use cga_form::fault::{Fault, Stop};
+use cga_form::parts::{finish, name, prio};
+use cga_form::tokens::Tokens;
+use cga_form::value::value;
 use cga_fraction::NoMemory;
 use cga_lexer::{Sign, Token};
 use cga_syntax::Attribute;
@@ -52,27 +52,4 @@ pub fn block(alloc: Global, tokens: &mut Tokens<'_>, depth: u8) -> Result<BlockL
         return Ok(BlockLine::End);
     }
     Ok(BlockLine::Rule(rule(alloc, tokens, depth)?))
-}
-
-#[tactic(auto, unfolding(crate::specs::Blocks::whole_block))]
-fn whole_block(alloc: Global, tokens: &mut Tokens<'_>) -> Result<BlockLine, Stop>
-    ensures { Reads (spec.whole_block 32 (input_of tokens.old)) result (input_of tokens.new) }
-{
-    let line = block(alloc, tokens, 32)?;
-    finish(tokens)?;
-    Ok(line)
-}
-
-/// The line of a block that the tokens spell, or the fault of the first token with which they spell
-/// none. At most 32 brackets may be open.
-pub fn block_of(alloc: Global, tokens: &[Token]) -> Result<Result<BlockLine, Fault>, NoMemory>
-    requires { length tokens.now ≤ 65535 }
-    ensures { IfOk result (λ found. Answers spec.block_pieces 32 (map seen tokens.now) found) }
-{
-    let mut left = Tokens::of(tokens);
-    match whole_block(alloc, &mut left) {
-        Ok(line) => Ok(Ok(line)),
-        Err(Stop::Fault(fault)) => Ok(Err(fault)),
-        Err(Stop::Memory) => Err(NoMemory),
-    }
 }

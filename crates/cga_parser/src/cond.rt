@@ -1,15 +1,15 @@
 ghost use Rattle.std.specs.Prelude.{◌≡◌, ◌<◌};
-ghost use Rattle.cga_parser.specs.Code.{input_of, Finds, Reads};
-ghost use Rattle.cga_parser.specs.Reader.{many};
+ghost use Rattle.cga_form.specs.Code.{input_of, Finds, Reads};
+ghost use Rattle.cga_form.specs.Reader.{many};
 ghost use Rattle.cga_parser.specs.Grammar as spec;
 ghost use Rattle.cga_parser.specs.Tokens.{is_keyword};
 
 use crate::expr::{all_added, all_scaled, expr};
-use crate::fault::{Fault, Stop};
 use crate::first::with_first;
 use crate::heads::ScopeWord;
-use crate::tokens::Tokens;
 use crate::{texts, words};
+use cga_form::fault::{Fault, Stop};
+use cga_form::tokens::Tokens;
 use cga_fraction::List;
 use cga_lexer::Sign;
 use cga_syntax::{Cond, Conj, Expr, Factor, Keyword, Primary, Term, Test};

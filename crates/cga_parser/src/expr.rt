@@ -1,12 +1,12 @@
 ghost use Rattle.std.specs.Prelude.{◌≡◌, ◌<◌};
-ghost use Rattle.cga_parser.specs.Code.{input_of, Reads};
-ghost use Rattle.cga_parser.specs.Reader.{begins, many};
+ghost use Rattle.cga_form.specs.Code.{input_of, Reads};
+ghost use Rattle.cga_form.specs.Reader.{begins, many};
 ghost use Rattle.cga_parser.specs.Grammar as spec;
 
-use crate::fault::Stop;
 use crate::heads::PrimaryHead;
-use crate::tokens::Tokens;
 use crate::{numbers, words};
+use cga_form::fault::Stop;
+use cga_form::tokens::Tokens;
 use cga_fraction::{Boxed, List};
 use cga_lexer::Sign;
 use cga_syntax::{Added, Expr, Factor, Keyword, Primary, Scaled, Term};
@@ -47,7 +47,7 @@ fn rand_parts(
     tokens.sign(Sign::Comma)?;
     let high = Boxed::new(alloc, inside(alloc, tokens, depth)?)?;
     tokens.sign(Sign::Comma)?;
-    let steps = tokens.take(numbers::whole(tokens.peek(), 1, 1_000_000))?;
+    let steps = tokens.take(cga_form::numbers::whole(tokens.peek(), 1, 1_000_000))?;
     tokens.sign(Sign::RightRound)?;
     Ok((low, high, steps))
 }

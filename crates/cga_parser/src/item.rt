@@ -1,15 +1,15 @@
 ghost use Rattle.std.specs.Prelude.{◌≡◌, ◌<◌};
-ghost use Rattle.cga_parser.specs.Code.{input_of, Reads};
-ghost use Rattle.cga_parser.specs.Reader.{begins, many};
+ghost use Rattle.cga_form.specs.Code.{input_of, Reads};
+ghost use Rattle.cga_form.specs.Reader.{begins, many};
 ghost use Rattle.cga_parser.specs.Grammar as spec;
 ghost use Rattle.cga_parser.specs.Tokens.{is_sign};
 ghost use Rattle.cga_lexer.specs.declared.sign.Sign.TheVariants as sign;
 
-use crate::fault::Stop;
 use crate::first::with_first;
 use crate::heads::ItemHead;
-use crate::tokens::Tokens;
 use crate::{parts, words};
+use cga_form::fault::Stop;
+use cga_form::tokens::Tokens;
 use cga_fraction::List;
 use cga_lexer::Sign;
 use cga_syntax::{Body, Item, Keyword};

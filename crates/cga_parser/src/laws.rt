@@ -1,17 +1,18 @@
 //! What the definitions say of themselves.
 ghost use Rattle.std.specs.Prelude.{◌≡◌, ◌↔◌, ℕ, List, Option, Result, Ok, Some};
-ghost use Rattle.cga_parser.specs.LineAnswers.{LineAnswers};
-ghost use Rattle.cga_parser.specs.BlockAnswers.{Line, BlockAnswers, EndsBlock, GrammarAnswers};
+ghost use Rattle.cga_form.specs.LineAnswers.{LineAnswers};
+ghost use Rattle.cga_parser.specs.BlockAnswers.{BlockAnswers, EndsBlock, GrammarAnswers};
+ghost use Rattle.cga_form.specs.BlockAnswers.{Line};
 ghost use Rattle.cga_parser.specs.Blocks.{block_pieces};
 ghost use Rattle.cga_parser.specs.declared.block_line.BlockLine.{BlockLine};
 ghost use Rattle.cga_parser.specs.declared.block_line.BlockLine.TheVariants.{End};
-ghost use Rattle.cga_parser.specs.declared.line_fault.LineFault.{LineFault};
-ghost use Rattle.cga_parser.specs.declared.grammar_fault.GrammarFault.{GrammarFault};
+ghost use Rattle.cga_form.specs.declared.line_fault.LineFault.{LineFault};
+ghost use Rattle.cga_form.specs.declared.block_fault.BlockFault.{BlockFault};
 ghost use Rattle.cga_syntax.specs.Pieces.{rule_pieces};
 ghost use Rattle.cga_syntax.specs.Spelling.{Spelled};
-ghost use Rattle.cga_syntax.specs.declared.grammar.Grammar.{Grammar};
+ghost use Rattle.cga_rule.specs.declared.grammar.Grammar.{Grammar};
 ghost use Rattle.cga_syntax.specs.declared.lexeme.Lexeme.{Lexeme};
-ghost use Rattle.cga_syntax.specs.declared.rule.Rule.{Rule};
+ghost use Rattle.cga_rule.specs.declared.rule.Rule.{Rule};
 
 /// No tokens spell two rules.
 pub fn spells_one()
@@ -27,7 +28,7 @@ pub fn spells_one_line()
 pub fn answers_once()
     ensures rule { (line : List ℕ) (a b : Result Rule LineFault) → LineAnswers rule_pieces line a → LineAnswers rule_pieces line b → a ≡ b }
     ensures line { (line : Line) (a b : Result (Option BlockLine) LineFault) → BlockAnswers line a → BlockAnswers line b → a ≡ b }
-    ensures lines { (lines : List Line) (a b : Result Grammar GrammarFault) → GrammarAnswers lines a → GrammarAnswers lines b → a ≡ b }
+    ensures lines { (lines : List Line) (a b : Result Grammar BlockFault) → GrammarAnswers lines a → GrammarAnswers lines b → a ≡ b }
 {}
 
 /// A line says `end` exactly where it ends its block.

@@ -1,17 +1,17 @@
 //! What items have in round brackets.
 ghost use Rattle.std.specs.Prelude.{◌≡◌, ◌<◌, ◌&&◌, [], nat_lt};
-ghost use Rattle.cga_parser.specs.Code.{input_of, Finds, Reads};
-ghost use Rattle.cga_parser.specs.Reader.{begins, many, many_from};
+ghost use Rattle.cga_form.specs.Code.{input_of, Finds, Reads};
+ghost use Rattle.cga_form.specs.Reader.{begins, many, many_from};
 ghost use Rattle.cga_parser.specs.Grammar as spec;
 ghost use Rattle.cga_parser.specs.Tokens.{is_sign, is_relative};
 ghost use Rattle.cga_lexer.specs.declared.sign.Sign.TheVariants as sign;
 
 use crate::expr::inside;
-use crate::fault::{Fault, Stop};
 use crate::first::with_first;
 use crate::heads::SelectorHead;
-use crate::tokens::Tokens;
 use crate::{numbers, texts};
+use cga_form::fault::{Fault, Stop};
+use cga_form::tokens::Tokens;
 use cga_fraction::List;
 use cga_lexer::Sign;
 use cga_syntax::{Expr, Size};

@@ -1,13 +1,14 @@
 //! Printed rules and grammars are read back.
 ghost use Rattle.std.specs.Prelude.{ℕ, List, Ok};
-ghost use Rattle.cga_parser.specs.LineAnswers.{LineAnswers};
-ghost use Rattle.cga_parser.specs.BlockAnswers.{Line, GrammarAnswers};
+ghost use Rattle.cga_form.specs.LineAnswers.{LineAnswers};
+ghost use Rattle.cga_parser.specs.BlockAnswers.{GrammarAnswers};
+ghost use Rattle.cga_form.specs.BlockAnswers.{Line};
 ghost use Rattle.cga_parser.specs.Back.{SpellsRule, IsReadBack};
 ghost use Rattle.cga_parser.specs.GrammarLines.{IsSpelled, ReadsBack};
 ghost use Rattle.cga_syntax.specs.GrammarText.{ArePrintable};
 ghost use Rattle.cga_syntax.specs.Pieces.{rule_pieces};
-ghost use Rattle.cga_syntax.specs.declared.grammar.Grammar.{Grammar};
-ghost use Rattle.cga_syntax.specs.declared.rule.Rule.{Rule};
+ghost use Rattle.cga_rule.specs.declared.grammar.Grammar.{Grammar};
+ghost use Rattle.cga_rule.specs.declared.rule.Rule.{Rule};
 
 /// The text that `print_rule` gives of a rule that some line spells is read as this rule, and by
 /// `answers_once` as nothing else.

@@ -1,5 +1,5 @@
 use crate::grammars::{BASE_AND_TOP, TOWN, WINDOW};
-use crate::{GrammarReader, parse_rule};
+use crate::{grammar_reader, parse_rule};
 use cga_fraction::{List, NoMemory};
 use cga_syntax::{print_grammar, print_rule};
 use std::alloc::Global;
@@ -102,7 +102,7 @@ fn rules_of_the_example_grammars_are_printed_as_they_stand(
 
 // The text of the grammar that lines say; nothing where one is faulty.
 fn printed_grammar(alloc: Global, lines: &[&str]) -> Result<List<u8>, NoMemory> {
-    let mut reader = GrammarReader::new(alloc);
+    let mut reader = grammar_reader(alloc);
     for line in lines {
         reader.line(line.as_bytes(), false)?;
     }

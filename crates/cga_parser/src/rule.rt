@@ -1,20 +1,20 @@
 ghost use Rattle.std.specs.Prelude.{◌≡◌, ◌≤◌, ◌∷◌, [], length, map, IfOk, List};
-ghost use Rattle.cga_parser.specs.Code.{input_of, Finds, Reads, seen};
-ghost use Rattle.cga_parser.specs.Reader.{many, many_from};
+ghost use Rattle.cga_form.specs.Code.{input_of, Finds, Reads, seen};
+ghost use Rattle.cga_form.specs.Reader.{many, many_from};
 ghost use Rattle.cga_parser.specs.Grammar as spec;
-ghost use Rattle.cga_parser.specs.Answers.{Answers};
+ghost use Rattle.cga_form.specs.Answers.{Answers};
 ghost use Rattle.cga_parser.specs.Tokens.{is_sign};
 ghost use Rattle.cga_syntax.specs.Pieces.{rule_pieces};
 ghost use Rattle.cga_lexer.specs.declared.sign.Sign.TheVariants as sign;
 
 use crate::cond::cond;
-use crate::fault::{Fault, Stop};
 use crate::first::with_first;
-use crate::form::{finish, id, name};
 use crate::item::body;
 use crate::parts::goes_on;
-use crate::tokens::Tokens;
 use crate::{numbers, words};
+use cga_form::fault::{Fault, Stop};
+use cga_form::parts::{finish, id, name};
+use cga_form::tokens::Tokens;
 use cga_fraction::{Fraction, List, NoMemory};
 use cga_lexer::{Sign, Token};
 use cga_syntax::{Alternative, Cond, Rule};
@@ -26,7 +26,7 @@ fn further_name(tokens: &mut Tokens<'_>) -> Result<Name, Fault>
     ensures { Finds (spec.further_name (input_of tokens.old)) result (input_of tokens.new) }
 {
     tokens.sign(Sign::Comma)?;
-    tokens.take(words::name(tokens.peek()))
+    tokens.take(cga_form::words::name(tokens.peek()))
 }
 
 /// At most three names after the first.
@@ -46,7 +46,7 @@ fn some_parameters(alloc: Global, tokens: &mut Tokens<'_>, depth: u8) -> Result<
     ensures { Reads (spec.some_parameters depth (input_of tokens.old)) result (input_of tokens.new) }
 {
     tokens.enter(Sign::LeftRound, depth)?;
-    let first = tokens.take(words::name(tokens.peek()))?;
+    let first = tokens.take(cga_form::words::name(tokens.peek()))?;
     let rest = further_names(alloc, tokens)?;
     tokens.sign(Sign::RightRound)?;
     let names = with_first(first, rest)?;
@@ -79,7 +79,7 @@ fn given_probability(tokens: &mut Tokens<'_>) -> Result<Fraction, Fault>
     ensures { Finds (spec.given_probability (input_of tokens.old)) result (input_of tokens.new) }
 {
     tokens.sign(Sign::Colon)?;
-    tokens.take(numbers::number(tokens.peek()))
+    tokens.take(cga_form::numbers::number(tokens.peek()))
 }
 
 #[tactic(auto, unfolding(crate::specs::Grammar::probability))]
@@ -137,27 +137,4 @@ pub fn rule(alloc: Global, tokens: &mut Tokens<'_>, depth: u8) -> Result<Rule, S
         cond,
         alternatives,
     })
-}
-
-#[tactic(auto, unfolding(crate::specs::Grammar::rule_line))]
-fn whole_line(alloc: Global, tokens: &mut Tokens<'_>) -> Result<Rule, Stop>
-    ensures { Reads (spec.rule_line 32 (input_of tokens.old)) result (input_of tokens.new) }
-{
-    let rule = rule(alloc, tokens, 32)?;
-    finish(tokens)?;
-    Ok(rule)
-}
-
-/// The rule that the tokens of a line spell, or the fault of the first token with which they spell
-/// none. At most 32 brackets may be open.
-pub fn rule_of(alloc: Global, tokens: &[Token]) -> Result<Result<Rule, Fault>, NoMemory>
-    requires { length tokens.now ≤ 65535 }
-    ensures { IfOk result (λ found. Answers rule_pieces 32 (map seen tokens.now) found) }
-{
-    let mut left = Tokens::of(tokens);
-    match whole_line(alloc, &mut left) {
-        Ok(rule) => Ok(Ok(rule)),
-        Err(Stop::Fault(fault)) => Ok(Err(fault)),
-        Err(Stop::Memory) => Err(NoMemory),
-    }
 }

@@ -1,4 +1,5 @@
-use crate::{LineFault, parse_rule};
+use crate::parse_rule;
+use cga_form::LineFault;
 use std::test::Fail;
 
 #[test]

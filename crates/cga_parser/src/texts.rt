@@ -1,6 +1,6 @@
 //! What texts in quotes stand for.
 ghost use Rattle.std.specs.Prelude.{◌≡◌};
-ghost use Rattle.cga_parser.specs.Reader.{decoded};
+ghost use Rattle.cga_form.specs.Reader.{decoded};
 ghost use Rattle.cga_parser.specs.Tokens as spec;
 
 use crate::heads::SelectorHead;

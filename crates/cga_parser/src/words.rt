@@ -1,25 +1,15 @@
 //! What single tokens stand for.
 ghost use Rattle.std.specs.Prelude.{◌≡◌};
-ghost use Rattle.cga_parser.specs.Code.{IsProper};
-ghost use Rattle.cga_parser.specs.Reader.{decoded};
+ghost use Rattle.cga_form.specs.Code.{IsProper};
+ghost use Rattle.cga_form.specs.Reader.{decoded};
 ghost use Rattle.cga_parser.specs.Tokens as spec;
-ghost use Rattle.cga_parser.specs.Blocks.{a_word};
+ghost use Rattle.cga_form.specs.Parts.{a_word};
 ghost use Rattle.cga_syntax.specs.Lexemes.{is};
 
 use crate::heads::{ItemHead, PrimaryHead, ScopeWord};
 use cga_lexer::Sign;
 use cga_syntax::{Keyword, Lexeme, Relation};
 use cga_word::{Axis, Name};
-
-pub(crate) fn name(next: Option<Lexeme>) -> Option<Name>
-    requires { IsProper next }
-    ensures { result ≡ decoded spec.a_name next }
-{
-    match next? {
-        Lexeme::Name(name) => Some(name),
-        _ => None,
-    }
-}
 
 pub(crate) fn primary_head(next: Option<Lexeme>) -> Option<PrimaryHead>
     requires { IsProper next }
@@ -172,25 +162,5 @@ fn item_keyword(keyword: Keyword) -> Option<ItemHead>
         Keyword::Repeat => Some(ItemHead::Repeat),
         Keyword::Comp => Some(ItemHead::Comp),
         _ => None,
-    }
-}
-
-/// A word that a form names.
-pub(crate) fn word(next: Option<Lexeme>, bytes: &[u8]) -> Option<()>
-    ensures { result ≡ decoded (a_word bytes.now) next }
-{
-    match next? {
-        Lexeme::Name(name) => same(name, bytes),
-        _ => None,
-    }
-}
-
-fn same(name: Name, bytes: &[u8]) -> Option<()>
-    ensures { result ≡ spec.passing (is name bytes.now) }
-{
-    if name.bytes() == bytes {
-        Some(())
-    } else {
-        None
     }
 }

@@ -3,13 +3,13 @@ use Rattle.std.proofs.Common.{◌≡◌, List, [], ◌∷◌, ◌++◌, map, ap,
 use Rattle.cga_lexer.specs.declared.sign.Sign.TheVariants as s
 use Rattle.cga_word.specs.declared.axis.Axis.{Axis}
 use Rattle.cga_syntax.specs.declared.keyword.Keyword.TheVariants as k
-use Rattle.cga_syntax.specs.declared.expr.Expr.{Expr}
-use Rattle.cga_syntax.specs.declared.item.Size.{Size}
-use Rattle.cga_syntax.specs.declared.item.Body.{Body, out-Body}
-use Rattle.cga_syntax.specs.declared.item.Item.{Item}
-use Rattle.cga_syntax.specs.declared.item.Item.TheVariants.{Subdiv, rolls-Subdiv, Repeat, rolls-Repeat}
-use Rattle.cga_syntax.specs.declared.item.Item.TheFolds.{fold_out-Body, fold-roll-Item}
-use Rattle.cga_syntax.specs.declared.item.Item.TheOpen as layer
+use Rattle.cga_rule.specs.declared.expr.Expr.{Expr}
+use Rattle.cga_rule.specs.declared.item.Size.{Size}
+use Rattle.cga_rule.specs.declared.item.Body.{Body, out-Body}
+use Rattle.cga_rule.specs.declared.item.Item.{Item}
+use Rattle.cga_rule.specs.declared.item.Item.TheVariants.{Subdiv, rolls-Subdiv, Repeat, rolls-Repeat}
+use Rattle.cga_rule.specs.declared.item.Item.TheFolds.{fold_out-Body, fold-roll-Item}
+use Rattle.cga_rule.specs.declared.item.Item.TheOpen as layer
 use Rattle.cga_syntax.specs.declared.print.mark.Mark.{Mark}
 use Rattle.cga_syntax.specs.Pieces.{Pieces, keyword, sign, text, axis_text, preceded, in_curly, body_of, expr_pieces, size_pieces, item_pieces, body_pieces, item_step, body_step}
 use Rattle.cga_syntax.specs.Forms.{subdivided, bodies_of, repeated}

@@ -1,13 +1,13 @@
 -- One layer of the pieces of a tree that is read.
 use Rattle.std.proofs.Common.{◌≡◌, ℕ, List, [], ◌∷◌, ◌++◌, map, if◌then◌else◌, ap, sym, ◌∙◌}
 use Rattle.cga_lexer.specs.declared.sign.Sign.TheVariants as s
-use Rattle.cga_syntax.specs.declared.expr.Expr.{Expr, out-Expr}
-use Rattle.cga_syntax.specs.declared.expr.Term.{Term, out-Term}
-use Rattle.cga_syntax.specs.declared.expr.Added.{Added, out-Added}
-use Rattle.cga_syntax.specs.declared.expr.Primary.TheFolds.{fold_out-Expr, fold_out-Term, fold_out-Added, fold-roll-Primary}
-use Rattle.cga_syntax.specs.declared.expr.Primary.{Primary}
-use Rattle.cga_syntax.specs.declared.expr.Primary.TheVariants.{Rand, rolls-Rand}
-use Rattle.cga_syntax.specs.declared.expr.Primary.TheOpen as layer
+use Rattle.cga_rule.specs.declared.expr.Expr.{Expr, out-Expr}
+use Rattle.cga_rule.specs.declared.expr.Term.{Term, out-Term}
+use Rattle.cga_rule.specs.declared.expr.Added.{Added, out-Added}
+use Rattle.cga_rule.specs.declared.expr.Primary.TheFolds.{fold_out-Expr, fold_out-Term, fold_out-Added, fold-roll-Primary}
+use Rattle.cga_rule.specs.declared.expr.Primary.{Primary}
+use Rattle.cga_rule.specs.declared.expr.Primary.TheVariants.{Rand, rolls-Rand}
+use Rattle.cga_rule.specs.declared.expr.Primary.TheOpen as layer
 use Rattle.cga_syntax.specs.declared.print.mark.Mark.{Mark}
 use Rattle.cga_syntax.specs.Printing.{printed_on, printed_piece}
 use Rattle.cga_syntax.proofs.Printed.{on_join}

@@ -12,7 +12,7 @@ use Rattle.cga_syntax.specs.Lexemes.{keyword_of}
 use Rattle.cga_syntax.specs.Pieces.{number}
 use Rattle.cga_syntax.specs.Printing.{exactly, magnitude}
 use Rattle.cga_syntax.specs.Reading.{IsToken, AreTokens, AreRead}
-use Rattle.cga_syntax.specs.declared.grammar.Attribute.{Attribute}
+use Rattle.cga_rule.specs.declared.grammar.Attribute.{Attribute}
 use Rattle.cga_syntax.specs.declared.lexeme.Lexeme.{Lexeme}
 use Rattle.cga_syntax.specs.declared.lexeme.Lexeme.TheVariants as lexeme
 use Rattle.cga_syntax.proofs.Again.{lexemes}

@@ -17,7 +17,7 @@ use Rattle.cga_syntax.specs.Lexemes.{keyword_bytes}
 use Rattle.cga_syntax.specs.Pieces.{number}
 use Rattle.cga_syntax.specs.Printing.{sign_bytes, lexeme_bytes, closes_up, space_before, text_behind, text_of, exactly, magnitude}
 use Rattle.cga_syntax.specs.Reading.{IsToken, AreTokens}
-use Rattle.cga_syntax.specs.declared.grammar.Attribute.{Attribute}
+use Rattle.cga_rule.specs.declared.grammar.Attribute.{Attribute}
 use Rattle.cga_syntax.specs.declared.lexeme.Lexeme.{Lexeme}
 use Rattle.cga_syntax.specs.declared.lexeme.Lexeme.TheVariants as lexeme
 use Rattle.cga_syntax.specs.declared.print.mark.Mark.{Mark}

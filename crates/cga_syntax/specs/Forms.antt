@@ -10,7 +10,7 @@ use Rattle.cga_word.specs.declared.turn.Turn.{Turn}
 use Rattle.cga_syntax.specs.Pieces.{none_before, Pieces, keyword, sign, word, text, named, whole, nonempty, preceded, separated, turn_keyword, solid_text, axis_text, selector_pieces, size_word, target_text, equality_sign, relation_sign, state_text, token, turned}
 use Rattle.cga_syntax.specs.declared.keyword.Keyword.TheVariants as k
 use Rattle.cga_syntax.specs.declared.lexeme.Lexeme.TheVariants as lexeme
-use Rattle.cga_syntax.specs.declared.cond.Relation.{Relation}
+use Rattle.cga_rule.specs.declared.cond.Relation.{Relation}
 
 abbrev pub scope_size : Axis → Pieces
 scope_size a = keyword k.Scope ∷ sign s.Dot ∷ word (size_word a) ∷ []

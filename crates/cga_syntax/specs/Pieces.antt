@@ -23,29 +23,29 @@ use Rattle.cga_syntax.specs.declared.keyword.Keyword.{Keyword}
 use Rattle.cga_syntax.specs.declared.keyword.Keyword.TheVariants as k
 use Rattle.cga_syntax.specs.declared.lexeme.Lexeme.{Lexeme}
 use Rattle.cga_syntax.specs.declared.lexeme.Lexeme.TheVariants as lexeme
-use Rattle.cga_syntax.specs.declared.expr.Expr.{Expr, Expr-F}
-use Rattle.cga_syntax.specs.declared.expr.Term.{Term, Term-F}
-use Rattle.cga_syntax.specs.declared.expr.Added.{Added, Added-F}
-use Rattle.cga_syntax.specs.declared.expr.Scaled.{Scaled, Scaled-F}
-use Rattle.cga_syntax.specs.declared.expr.Factor.{Factor, Factor-F}
-use Rattle.cga_syntax.specs.declared.expr.Primary.{Primary, Primary-F}
-use Rattle.cga_syntax.specs.declared.expr.Primary.TheFolds.{fold-Expr, fold-Term, fold-Added, fold-Scaled, fold-Factor, fold-Primary}
-use Rattle.cga_syntax.specs.declared.expr.Primary.TheOpen as primary
-use Rattle.cga_syntax.specs.declared.cond.Cond.{Cond, Cond-F}
-use Rattle.cga_syntax.specs.declared.cond.Conj.{Conj, Conj-F}
-use Rattle.cga_syntax.specs.declared.cond.Test.{Test, Test-F}
-use Rattle.cga_syntax.specs.declared.cond.Test.TheFolds.{fold-Cond, fold-Conj, fold-Test}
-use Rattle.cga_syntax.specs.declared.cond.Test.TheOpen as test
-use Rattle.cga_syntax.specs.declared.cond.Relation.{Relation}
-use Rattle.cga_syntax.specs.declared.cond.Relation.TheVariants as relation
-use Rattle.cga_syntax.specs.declared.item.Size.{Size}
-use Rattle.cga_syntax.specs.declared.item.Size.TheVariants as size
-use Rattle.cga_syntax.specs.declared.item.Body.{Body, Body-F}
-use Rattle.cga_syntax.specs.declared.item.Item.{Item, Item-F}
-use Rattle.cga_syntax.specs.declared.item.Item.TheFolds.{fold-Body, fold-Item}
-use Rattle.cga_syntax.specs.declared.item.Item.TheOpen as item
-use Rattle.cga_syntax.specs.declared.rule.Alternative.{Alternative}
-use Rattle.cga_syntax.specs.declared.rule.Rule.{Rule}
+use Rattle.cga_rule.specs.declared.expr.Expr.{Expr, Expr-F}
+use Rattle.cga_rule.specs.declared.expr.Term.{Term, Term-F}
+use Rattle.cga_rule.specs.declared.expr.Added.{Added, Added-F}
+use Rattle.cga_rule.specs.declared.expr.Scaled.{Scaled, Scaled-F}
+use Rattle.cga_rule.specs.declared.expr.Factor.{Factor, Factor-F}
+use Rattle.cga_rule.specs.declared.expr.Primary.{Primary, Primary-F}
+use Rattle.cga_rule.specs.declared.expr.Primary.TheFolds.{fold-Expr, fold-Term, fold-Added, fold-Scaled, fold-Factor, fold-Primary}
+use Rattle.cga_rule.specs.declared.expr.Primary.TheOpen as primary
+use Rattle.cga_rule.specs.declared.cond.Cond.{Cond, Cond-F}
+use Rattle.cga_rule.specs.declared.cond.Conj.{Conj, Conj-F}
+use Rattle.cga_rule.specs.declared.cond.Test.{Test, Test-F}
+use Rattle.cga_rule.specs.declared.cond.Test.TheFolds.{fold-Cond, fold-Conj, fold-Test}
+use Rattle.cga_rule.specs.declared.cond.Test.TheOpen as test
+use Rattle.cga_rule.specs.declared.cond.Relation.{Relation}
+use Rattle.cga_rule.specs.declared.cond.Relation.TheVariants as relation
+use Rattle.cga_rule.specs.declared.item.Size.{Size}
+use Rattle.cga_rule.specs.declared.item.Size.TheVariants as size
+use Rattle.cga_rule.specs.declared.item.Body.{Body, Body-F}
+use Rattle.cga_rule.specs.declared.item.Item.{Item, Item-F}
+use Rattle.cga_rule.specs.declared.item.Item.TheFolds.{fold-Body, fold-Item}
+use Rattle.cga_rule.specs.declared.item.Item.TheOpen as item
+use Rattle.cga_rule.specs.declared.rule.Alternative.{Alternative}
+use Rattle.cga_rule.specs.declared.rule.Rule.{Rule}
 
 -- Where a token has no space beside it, apart from what signs have by themselves.
 pub data Space : Type 0 where

@@ -19,12 +19,12 @@ pub(crate) mod text;
 pub(crate) mod token;
 pub(crate) mod words;
 
-use crate::grammar::Grammar;
+use cga_rule::Grammar;
 pub use crate::print::back::{lexes_back, spells_back};
 use crate::print::grammar::{push_attributes, push_sections};
 use crate::print::rule::push_rule;
 use crate::print::text::push_marks;
-use crate::rule::Rule;
+use cga_rule::Rule;
 use cga_fraction::{List, NoMemory};
 use std::alloc::Global;
 

@@ -5,7 +5,7 @@ ghost use Rattle.cga_syntax.specs.Pieces.{rule_pieces};
 ghost use Rattle.cga_syntax.specs.Printing.{text_of};
 ghost use Rattle.cga_syntax.specs.Reading.{AreTokens, AreRead, LineSpells, IsPrintedWell};
 ghost use Rattle.cga_syntax.specs.declared.print.mark.Mark.{Mark};
-ghost use Rattle.cga_syntax.specs.declared.rule.Rule.{Rule};
+ghost use Rattle.cga_rule.specs.declared.rule.Rule.{Rule};
 
 /// The text of printed tokens has these tokens and no others, whatever they are.
 pub fn lexes_back()

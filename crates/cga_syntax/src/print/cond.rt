@@ -4,8 +4,8 @@ ghost use Rattle.cga_syntax.specs.Pieces as spec;
 ghost use Rattle.cga_syntax.specs.Forms.{occ_pieces, compared};
 ghost use Rattle.cga_syntax.specs.Printing.{printed_on};
 
-use crate::cond::{Cond, Conj, Relation, Test};
-use crate::expr::Expr;
+use cga_rule::{Cond, Conj, Relation, Test};
+use cga_rule::Expr;
 use crate::keyword::Keyword;
 use crate::lexeme::Lexeme;
 use crate::print::expr::push_expr;

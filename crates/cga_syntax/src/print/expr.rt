@@ -4,7 +4,7 @@ ghost use Rattle.cga_syntax.specs.Pieces as spec;
 ghost use Rattle.cga_syntax.specs.Forms.{scope_size};
 ghost use Rattle.cga_syntax.specs.Printing.{printed_on};
 
-use crate::expr::{Added, Expr, Factor, Primary, Scaled, Term};
+use cga_rule::{Added, Expr, Factor, Primary, Scaled, Term};
 use crate::keyword::Keyword;
 use crate::lexeme::Lexeme;
 use crate::print::gap::Gap;

@@ -5,7 +5,7 @@ ghost use Rattle.cga_syntax.specs.Pieces as spec;
 ghost use Rattle.cga_syntax.specs.Forms.{name_pieces};
 ghost use Rattle.cga_syntax.specs.Printing.{printed_on};
 
-use crate::expr::Expr;
+use cga_rule::Expr;
 use crate::print::expr::push_expr;
 use crate::print::mark::Mark;
 use crate::print::token::{push_named, push_sign};

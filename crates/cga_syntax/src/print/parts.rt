@@ -4,8 +4,8 @@ ghost use Rattle.cga_syntax.specs.Pieces as spec;
 ghost use Rattle.cga_syntax.specs.Forms as forms;
 ghost use Rattle.cga_syntax.specs.Printing.{printed_on};
 
-use crate::expr::Expr;
-use crate::item::Size;
+use cga_rule::Expr;
+use cga_rule::Size;
 use crate::keyword::Keyword;
 use crate::lexeme::Lexeme;
 use crate::print::expr::push_expr;

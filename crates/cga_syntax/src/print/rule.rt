@@ -4,14 +4,14 @@ ghost use Rattle.cga_syntax.specs.Pieces as spec;
 ghost use Rattle.cga_syntax.specs.Forms as forms;
 ghost use Rattle.cga_syntax.specs.Printing.{printed_on};
 
-use crate::cond::Cond;
+use cga_rule::Cond;
 use crate::print::cond::push_cond;
 use crate::print::gap::Gap;
 use crate::print::item::push_body_items;
 use crate::print::list::push_params;
 use crate::print::mark::Mark;
 use crate::print::token::{push_close, push_named, push_probability, push_sign, push_whole};
-use crate::rule::{Alternative, Rule};
+use cga_rule::{Alternative, Rule};
 use cga_fraction::{List, NoMemory};
 use cga_lexer::Sign;
 use cga_word::Name;

@@ -1,9 +1,9 @@
 use Rattle.std.proofs.Common.{◌≡◌, ◌+◌, ◌*◌, length}
 use Rattle.cga_lexer.specs.declared.sign.Sign.TheVariants as s
-use Rattle.cga_parser.specs.Code.{input_of}
+use Rattle.cga_form.specs.Code.{input_of}
 use Rattle.cga_parser.specs.Grammar.{inside_of, inner_item, begins_item, further_body}
 use Rattle.cga_parser.specs.Tokens.{is_sign}
-use Rattle.cga_parser.specs.Reader.{many_after, many}
+use Rattle.cga_form.specs.Reader.{many_after, many}
 use Rattle.cga_parser.proofs.item.+item.Given as goal
 
 abbrev pub decreases-inner : goal.decreases-inner

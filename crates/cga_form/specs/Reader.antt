@@ -1,0 +1,101 @@
+-- The steps that each reader is made of.
+use Rattle.std.specs.Prelude.{ℕ, zero, suc, ◌+◌, Bool, false, List, [], ◌∷◌, ◌++◌, length, Option, Some, None, Result, Ok, Err, if◌then◌else◌}
+use Rattle.cga_syntax.specs.declared.lexeme.Lexeme.{Lexeme}
+use Rattle.cga_form.specs.declared.fault.Fault.{Fault}
+use Rattle.cga_form.specs.declared.fault.Fault.TheVariants.{Unexpected, TooNested}
+
+-- the tokens that are left, and how many rands were read
+pub record Input : Type 0 where
+  pub left : List Lexeme
+  pub count : ℕ
+
+abbrev pub at : List Lexeme → ℕ → Input
+at left count = record { left = left; count = count }
+
+abbrev pub Outcome : Type 0 → Type 0
+Outcome A = Result (A × Input) Fault
+
+abbrev pub Reader : Type 0 → Type 0
+Reader A = Input → Outcome A
+
+abbrev pub and_then : {A B : Type 0} → Outcome A → (A → Reader B) → Outcome B
+and_then (Ok p) f = f p.0 p.1
+and_then (Err e) f = Err e
+
+infixl 10 ◌>>=◌
+abbrev pub ◌>>=◌ : {A B : Type 0} → Reader A → (A → Reader B) → Reader B
+p >>= f = λ i. and_then (p i) f
+
+infixl 10 ◌>>◌
+abbrev pub ◌>>◌ : {A B : Type 0} → Reader A → Reader B → Reader B
+p >> q = p >>= (λ _. q)
+
+abbrev pub pure : {A : Type 0} → A → Reader A
+pure a = λ i. Ok (a, i)
+
+abbrev pub refuse : {A : Type 0} → Reader A
+refuse = λ i. Err (Unexpected (length i.left))
+
+abbrev pub too_nested : {A : Type 0} → Reader A
+too_nested = λ i. Err (TooNested (length i.left))
+
+abbrev pub first : List Lexeme → Option Lexeme
+first [] = None
+first (k ∷ ks) = Some k
+
+abbrev pub after_first : List Lexeme → List Lexeme
+after_first [] = []
+after_first (k ∷ ks) = ks
+
+abbrev pub skipped : Input → Input
+skipped i = at (after_first i.left) i.count
+
+-- what a token stands for, where one comes next
+abbrev pub decoded : {A : Type 0} → (Lexeme → Option A) → Option Lexeme → Option A
+decoded decode None = None
+decoded decode (Some l) = decode l
+
+abbrev pub taking : {A : Type 0} → Option A → Reader A
+taking None = refuse
+taking (Some a) = λ i. Ok (a, skipped i)
+
+-- one token, by what it stands for
+abbrev pub single : {A : Type 0} → (Lexeme → Option A) → Reader A
+single decode = λ i. taking (decoded decode (first i.left)) i
+
+abbrev pub begins : (Lexeme → Bool) → List Lexeme → Bool
+begins test [] = false
+begins test (k ∷ ks) = test k
+
+-- one of two readers, by the next token
+abbrev pub peeked : {A : Type 0} → (Lexeme → Bool) → Reader A → Reader A → Reader A
+peeked test p q = λ i. if begins test i.left then p i else q i
+
+abbrev pub entering : ℕ → Option (Unit {0}) → Reader (Unit {0})
+entering n None = refuse
+entering zero (Some u) = too_nested
+entering (suc n) (Some u) = λ i. Ok (tt, skipped i)
+
+-- an opening bracket, where so many may be opened
+abbrev pub enter : (Lexeme → Option (Unit {0})) → ℕ → Reader (Unit {0})
+enter decode n = λ i. entering n (decoded decode (first i.left)) i
+
+abbrev pub drawing : Option (Unit {0}) → Reader ℕ
+drawing None = refuse
+drawing (Some u) = λ i. Ok (i.count + 1, at (after_first i.left) (i.count + 1))
+
+-- the word of a rand, with the number that it gets
+abbrev pub drawn_word : (Lexeme → Option (Unit {0})) → Reader ℕ
+drawn_word decode = λ i. drawing (decoded decode (first i.left)) i
+
+-- each of a list, where a token that passes the test comes next, in at most so many turns
+unfoldable pub many_from : {A : Type 0} → (Lexeme → Bool) → Reader A → ℕ → List A → Reader (List A)
+many_from test p zero so_far = pure so_far
+many_from test p (suc n) so_far = λ i. if begins test i.left then (p >>= λ x. many_from test p n (so_far ++ x ∷ [])) i else Ok (so_far, i)
+
+-- each of a list: a turn takes a token, so the number of tokens is turns enough
+abbrev pub many_after : {A : Type 0} → (Lexeme → Bool) → Reader A → List A → Reader (List A)
+many_after test p so_far = λ i. many_from test p (length i.left) so_far i
+
+unfoldable pub many : {A : Type 0} → (Lexeme → Bool) → Reader A → Reader (List A)
+many test p = many_after test p []

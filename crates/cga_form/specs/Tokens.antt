@@ -1,0 +1,117 @@
+-- What single tokens stand for.
+use Rattle.std.specs.Prelude.{ℕ, zero, suc, ◌&&◌, ◌==◌, nat_le, ℤ, pos, negsuc, Bool, true, false, List, Option, Some, None}
+use Rattle.cga_fraction.specs.Rat.{Rat}
+use Rattle.cga_lexer.specs.declared.sign.Sign.{Sign}
+use Rattle.cga_lexer.specs.declared.sign.Sign.TheVariants as s
+use Rattle.cga_syntax.specs.Lexemes.{is, is_reserved}
+use Rattle.cga_syntax.specs.declared.keyword.Keyword.{Keyword}
+use Rattle.cga_syntax.specs.declared.keyword.Keyword.TheVariants as k
+use Rattle.cga_syntax.specs.declared.lexeme.Lexeme.{Lexeme}
+use Rattle.cga_syntax.specs.declared.lexeme.Lexeme.TheVariants as lexeme
+
+-- ---- signs and keywords
+
+-- the place of a sign in the list of signs
+abbrev pub sign_number : Sign → ℕ
+sign_number s.LeftRound = 0
+sign_number s.RightRound = 1
+sign_number s.LeftSquare = 2
+sign_number s.RightSquare = 3
+sign_number s.LeftCurly = 4
+sign_number s.RightCurly = 5
+sign_number s.Comma = 6
+sign_number s.Colon = 7
+sign_number s.Bar = 8
+sign_number s.Plus = 9
+sign_number s.Minus = 10
+sign_number s.Star = 11
+sign_number s.Slash = 12
+sign_number s.Dot = 13
+sign_number s.Assign = 14
+sign_number s.Arrow = 15
+sign_number s.Equal = 16
+sign_number s.Unequal = 17
+sign_number s.Less = 18
+sign_number s.AtMost = 19
+sign_number s.Greater = 20
+sign_number s.AtLeast = 21
+
+-- the place of a keyword in the list of keywords
+abbrev pub keyword_number : Keyword → ℕ
+keyword_number k.T = 0
+keyword_number k.S = 1
+keyword_number k.Rx = 2
+keyword_number k.Ry = 3
+keyword_number k.Rz = 4
+keyword_number k.I = 5
+keyword_number k.Subdiv = 6
+keyword_number k.Repeat = 7
+keyword_number k.Comp = 8
+keyword_number k.Nil = 9
+keyword_number k.Scope = 10
+keyword_number k.Rand = 11
+keyword_number k.Floor = 12
+keyword_number k.Ceil = 13
+keyword_number k.And = 14
+keyword_number k.Or = 15
+keyword_number k.Not = 16
+
+abbrev pub is_sign : Sign → Lexeme → Bool
+is_sign x (lexeme.Sign y) = sign_number x == sign_number y
+is_sign x _ = false
+
+abbrev pub is_keyword : Keyword → Lexeme → Bool
+is_keyword x (lexeme.Keyword y) = keyword_number x == keyword_number y
+is_keyword x _ = false
+
+abbrev pub passing : Bool → Option (Unit {0})
+passing true = Some tt
+passing false = None
+
+abbrev pub a_sign : Sign → Lexeme → Option (Unit {0})
+a_sign x l = passing (is_sign x l)
+
+abbrev pub a_keyword : Keyword → Lexeme → Option (Unit {0})
+a_keyword x l = passing (is_keyword x l)
+
+-- a name by itself
+abbrev pub is_word : List ℕ → Lexeme → Bool
+is_word bytes (lexeme.Name name) = is name bytes
+is_word bytes _ = false
+
+-- ---- names and numbers
+
+abbrev pub unless : {A : Type 0} → Bool → A → Option A
+unless true a = None
+unless false a = Some a
+
+abbrev pub when : {A : Type 0} → Bool → A → Option A
+when true a = Some a
+when false a = None
+
+-- a word that isn't reserved
+abbrev pub a_name : Lexeme → Option (List ℕ)
+a_name (lexeme.Name name) = unless (is_reserved name) name
+a_name _ = None
+
+abbrev pub whole_parts : ℤ → ℕ → Option ℕ
+whole_parts (pos n) zero = Some n
+whole_parts (pos n) (suc d) = None
+whole_parts (negsuc n) d = None
+
+-- the whole number that a number is
+abbrev pub whole_of : Rat → Option ℕ
+whole_of r = whole_parts r.num r.above
+
+abbrev pub bounded : ℕ → ℕ → Option ℕ → Option ℕ
+bounded low high None = None
+bounded low high (Some n) = when (nat_le low n && nat_le n high) n
+
+-- a whole number within bounds
+abbrev pub a_whole : ℕ → ℕ → Lexeme → Option ℕ
+a_whole low high (lexeme.Number value) = bounded low high (whole_of value)
+a_whole low high _ = None
+
+abbrev pub a_number : Lexeme → Option Rat
+a_number (lexeme.Number value) = Some value
+a_number _ = None

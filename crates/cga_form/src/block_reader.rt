@@ -1,0 +1,73 @@
+ghost use Rattle.std.specs.Prelude.{◌≡◌, ◌++◌, ◌∷◌, [], List, OnOk, IsOk, Err};
+ghost use Rattle.cga_form.specs.declared.block_fault.BlockFault.{BlockFault};
+ghost use Rattle.cga_form.specs.BlockAnswers.{Line, AllAnswers, StandsFor, IsFaulty, line_number};
+
+use crate::block_fault::BlockFault;
+use crate::block_line::read_block_line;
+use crate::gather::Gather;
+use cga_fraction::NoMemory;
+use std::alloc::Global;
+
+/// Reads the lines of a block one after the other. Of a faulty block it keeps the first faulty line.
+#[derive(Drop)]
+pub struct BlockReader<G> {
+    alloc: Global,
+    lines: u32,
+    gathered: G,
+    fault: Option<BlockFault>,
+}
+
+impl<G: Gather + Drop> BlockReader<G> {
+    /// A reader of no lines yet. Takes no memory.
+    #[tactic(auto, unfolding(crate::specs::BlockAnswers::Say))]
+    pub fn new(alloc: Global, empty: G) -> BlockReader<G>
+        requires { G.holds empty [] }
+        ensures { StandsFor G.pieces G.holds result [] }
+    {
+        BlockReader {
+            alloc,
+            lines: 0,
+            gathered: empty,
+            fault: None,
+        }
+    }
+
+    /// Takes the next line of the block, without its end. The bytes of a long one aren't looked at.
+    /// After a faulty line the others are only counted, which takes no memory. After NoMemory the
+    /// reader stands for nothing.
+    pub fn line(&mut self, bytes: &[u8], long: bool) -> Result<(), NoMemory>
+        ensures taken { (lines : List Line) → StandsFor G.pieces G.holds self.old lines
+            → OnOk result (StandsFor G.pieces G.holds self.new (lines ++ record { bytes = bytes.now; long = long } ∷ [])) }
+        ensures free { (lines : List Line) (f : BlockFault) → StandsFor G.pieces G.holds self.old lines
+            → IsFaulty G.pieces lines f → IsOk result }
+    {
+        G::is_form();
+        self.lines = self.lines.saturating_add(1);
+        if self.fault.is_some() {
+            return Ok(());
+        }
+        match read_block_line::<G>(self.alloc, bytes, long)? {
+            Ok(said) => self.gathered.add(said),
+            Err(fault) => {
+                let line = self.lines;
+                self.fault = Some(BlockFault { line, fault });
+                Ok(())
+            }
+        }
+    }
+
+    /// What the lines say, or the first faulty one. Takes no memory.
+    pub fn finish(self) -> Result<G::All, BlockFault>
+        ensures { (lines : List Line) → StandsFor G.pieces G.holds self lines → AllAnswers G.pieces G.says lines result }
+    {
+        let BlockReader {
+            gathered,
+            fault,
+            ..
+        } = self;
+        match fault {
+            None => Ok(gathered.finish()),
+            Some(fault) => Err(fault),
+        }
+    }
+}

@@ -1,0 +1,20 @@
+ghost use Rattle.std.specs.Prelude.{◌≡◌, ◌++◌, ◌∷◌, [], List, Option, OnOk};
+
+use crate::form::Form;
+use cga_fraction::NoMemory;
+
+/// What is gathered of the lines of a block, each a member of the form.
+pub trait Gather: Form {
+    type All;
+
+    /// It was given these lines, of which some may be blank.
+    ghost holds: { Self → List (Option Self.Member) → Type 0 };
+
+    ghost says: { List (Option Self.Member) → Self.All };
+
+    fn add(&mut self, said: Option<Self::Member>) -> Result<(), NoMemory>
+        ensures { (all : List (Option Self.Member)) → holds self.old all → OnOk result (holds self.new (all ++ said ∷ [])) };
+
+    fn finish(self) -> Self::All
+        ensures { (all : List (Option Self.Member)) → holds self all → result ≡ says all };
+}

@@ -1,0 +1,24 @@
+//! Rules as trees: what a rule, its condition and its bodies are made of, grammars and groups of
+//! rules, the faults of a check, and copies of trees.
+//!
+//! It knows names and numbers, and neither how a tree is written nor what a rule does. Callers get
+//! the empty list wrong: an alternative or a body without items is `NIL`, and no other list of a
+//! tree that some line spells is empty, but for parameters and arguments.
+#![tactic(auto)]
+
+mod check_fault;
+mod cond;
+mod copy;
+mod expr;
+mod grammar;
+mod item;
+mod rule;
+#[cfg(test)]
+mod tests;
+
+pub use check_fault::CheckFault;
+pub use cond::{Cond, Conj, Relation, Test};
+pub use expr::{Added, Expr, Factor, Primary, Scaled, Term};
+pub use grammar::{Attribute, Entry, Grammar, Group};
+pub use item::{Body, Item, Size};
+pub use rule::{Alternative, Rule};
