@@ -7,22 +7,22 @@ use Rattle.cga_word.specs.declared.answers.Answers.{Answers}
 use Rattle.cga_word.specs.declared.axis.Axis.{Axis}
 use Rattle.cga_word.specs.declared.target.Target.{Target}
 use Rattle.cga_frame.specs.Points.{coordinate}
-use Rattle.cga_syntax.specs.declared.expr.Expr.{Expr, out-Expr}
-use Rattle.cga_syntax.specs.declared.expr.Term.{Term, out-Term}
-use Rattle.cga_syntax.specs.declared.expr.Added.{Added, out-Added}
-use Rattle.cga_syntax.specs.declared.expr.Scaled.{Scaled}
-use Rattle.cga_syntax.specs.declared.expr.Factor.{Factor}
-use Rattle.cga_syntax.specs.declared.expr.Primary.{Primary}
-use Rattle.cga_syntax.specs.declared.expr.Primary.TheVariants.{Number, rolls-Number, Named, rolls-Named, ScopeSize, rolls-ScopeSize, Group, rolls-Group, Floor, rolls-Floor, Ceil, rolls-Ceil, Rand, rolls-Rand}
-use Rattle.cga_syntax.specs.declared.expr.Primary.TheFolds.{fold_out-Expr, fold_out-Term, fold_out-Added, fold_out-Scaled, fold_out-Factor, fold-roll-Primary}
-use Rattle.cga_syntax.specs.declared.expr.Primary.TheOpen as layer
-use Rattle.cga_syntax.specs.declared.cond.Cond.{Cond, out-Cond}
-use Rattle.cga_syntax.specs.declared.cond.Conj.{Conj, out-Conj}
-use Rattle.cga_syntax.specs.declared.cond.Test.{Test}
-use Rattle.cga_syntax.specs.declared.cond.Relation.{Relation}
-use Rattle.cga_syntax.specs.declared.cond.Test.TheVariants as test
-use Rattle.cga_syntax.specs.declared.cond.Test.TheFolds.{fold_out-Cond, fold_out-Conj, fold-roll-Test}
-use Rattle.cga_syntax.specs.declared.cond.Test.TheOpen as part
+use Rattle.cga_rule.specs.declared.expr.Expr.{Expr, out-Expr}
+use Rattle.cga_rule.specs.declared.expr.Term.{Term, out-Term}
+use Rattle.cga_rule.specs.declared.expr.Added.{Added, out-Added}
+use Rattle.cga_rule.specs.declared.expr.Scaled.{Scaled}
+use Rattle.cga_rule.specs.declared.expr.Factor.{Factor}
+use Rattle.cga_rule.specs.declared.expr.Primary.{Primary}
+use Rattle.cga_rule.specs.declared.expr.Primary.TheVariants.{Number, rolls-Number, Named, rolls-Named, ScopeSize, rolls-ScopeSize, Group, rolls-Group, Floor, rolls-Floor, Ceil, rolls-Ceil, Rand, rolls-Rand}
+use Rattle.cga_rule.specs.declared.expr.Primary.TheFolds.{fold_out-Expr, fold_out-Term, fold_out-Added, fold_out-Scaled, fold_out-Factor, fold-roll-Primary}
+use Rattle.cga_rule.specs.declared.expr.Primary.TheOpen as layer
+use Rattle.cga_rule.specs.declared.cond.Cond.{Cond, out-Cond}
+use Rattle.cga_rule.specs.declared.cond.Conj.{Conj, out-Conj}
+use Rattle.cga_rule.specs.declared.cond.Test.{Test}
+use Rattle.cga_rule.specs.declared.cond.Relation.{Relation}
+use Rattle.cga_rule.specs.declared.cond.Test.TheVariants as test
+use Rattle.cga_rule.specs.declared.cond.Test.TheFolds.{fold_out-Cond, fold_out-Conj, fold-roll-Test}
+use Rattle.cga_rule.specs.declared.cond.Test.TheOpen as part
 use Rattle.cga_expr.specs.Names.{Known, number_of}
 use Rattle.cga_expr.specs.Arithmetic.{added, scaled, signed, floored, ceiled}
 use Rattle.cga_expr.specs.Value.{Meaning, Marked, from_left, random_value, expr_value, term_value, added_value, scaled_value, factor_value, primary_value, primary_step, added_step, expr_step, factor_step, scaled_step, term_step}

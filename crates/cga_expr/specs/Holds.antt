@@ -9,13 +9,13 @@ use Rattle.cga_word.specs.declared.answer.Answer.TheVariants.{Nothing, Part, Ful
 use Rattle.cga_word.specs.declared.answers.Answers.{Answers}
 use Rattle.cga_word.specs.declared.target.Target.{Target}
 use Rattle.cga_word.specs.declared.target.Target.TheVariants.{Noparent, Active}
-use Rattle.cga_syntax.specs.declared.cond.Cond.{Cond, Cond-F}
-use Rattle.cga_syntax.specs.declared.cond.Conj.{Conj, Conj-F}
-use Rattle.cga_syntax.specs.declared.cond.Test.{Test, Test-F}
-use Rattle.cga_syntax.specs.declared.cond.Test.TheFolds.{fold-Cond, fold-Conj, fold-Test}
-use Rattle.cga_syntax.specs.declared.cond.Test.TheOpen.{Group, Not, Occ, Compare}
-use Rattle.cga_syntax.specs.declared.cond.Relation.{Relation}
-use Rattle.cga_syntax.specs.declared.cond.Relation.TheVariants.{Equal, Unequal, Less, AtMost, Greater, AtLeast}
+use Rattle.cga_rule.specs.declared.cond.Cond.{Cond, Cond-F}
+use Rattle.cga_rule.specs.declared.cond.Conj.{Conj, Conj-F}
+use Rattle.cga_rule.specs.declared.cond.Test.{Test, Test-F}
+use Rattle.cga_rule.specs.declared.cond.Test.TheFolds.{fold-Cond, fold-Conj, fold-Test}
+use Rattle.cga_rule.specs.declared.cond.Test.TheOpen.{Group, Not, Occ, Compare}
+use Rattle.cga_rule.specs.declared.cond.Relation.{Relation}
+use Rattle.cga_rule.specs.declared.cond.Relation.TheVariants.{Equal, Unequal, Less, AtMost, Greater, AtLeast}
 use Rattle.cga_expr.specs.declared.expr_fault.ExprFault.{ExprFault}
 use Rattle.cga_expr.specs.Names.{Known}
 use Rattle.cga_expr.specs.Value.{Meaning, expr_value}

@@ -4,14 +4,14 @@ use Rattle.cga_fraction.specs.Rat.{Rat}
 use Rattle.cga_fraction.specs.Chains.{then_}
 use Rattle.cga_word.specs.Seed.{shape_word_of}
 use Rattle.cga_frame.specs.Points.{coordinate}
-use Rattle.cga_syntax.specs.declared.expr.Expr.{Expr, Expr-F}
-use Rattle.cga_syntax.specs.declared.expr.Term.{Term, Term-F}
-use Rattle.cga_syntax.specs.declared.expr.Added.{Added, Added-F}
-use Rattle.cga_syntax.specs.declared.expr.Scaled.{Scaled, Scaled-F}
-use Rattle.cga_syntax.specs.declared.expr.Factor.{Factor, Factor-F}
-use Rattle.cga_syntax.specs.declared.expr.Primary.{Primary, Primary-F}
-use Rattle.cga_syntax.specs.declared.expr.Primary.TheFolds.{fold-Expr, fold-Term, fold-Added, fold-Scaled, fold-Factor, fold-Primary}
-use Rattle.cga_syntax.specs.declared.expr.Primary.TheOpen.{Number, Named, ScopeSize, Group, Floor, Ceil, Rand}
+use Rattle.cga_rule.specs.declared.expr.Expr.{Expr, Expr-F}
+use Rattle.cga_rule.specs.declared.expr.Term.{Term, Term-F}
+use Rattle.cga_rule.specs.declared.expr.Added.{Added, Added-F}
+use Rattle.cga_rule.specs.declared.expr.Scaled.{Scaled, Scaled-F}
+use Rattle.cga_rule.specs.declared.expr.Factor.{Factor, Factor-F}
+use Rattle.cga_rule.specs.declared.expr.Primary.{Primary, Primary-F}
+use Rattle.cga_rule.specs.declared.expr.Primary.TheFolds.{fold-Expr, fold-Term, fold-Added, fold-Scaled, fold-Factor, fold-Primary}
+use Rattle.cga_rule.specs.declared.expr.Primary.TheOpen.{Number, Named, ScopeSize, Group, Floor, Ceil, Rand}
 use Rattle.cga_expr.specs.Names.{Known, number_of}
 use Rattle.cga_expr.specs.Arithmetic.{Outcome, added, scaled, signed, floored, ceiled, drawn}
 

@@ -8,7 +8,7 @@ use crate::expr::value;
 use crate::expr_fault::ExprFault;
 use crate::names::Names;
 use cga_fraction::Fraction;
-use cga_syntax::{Cond, Conj, Expr, Relation, Test};
+use cga_rule::{Cond, Conj, Expr, Relation, Test};
 use cga_word::{Answer, Answers, Target};
 use std::cmp::Ordering;
 

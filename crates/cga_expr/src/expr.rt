@@ -6,7 +6,7 @@ use crate::arithmetic::{added, ceil, drawn, floor, scaled, signed};
 use crate::expr_fault::ExprFault;
 use crate::names::Names;
 use cga_fraction::Fraction;
-use cga_syntax::{Expr, Factor, Primary, Term};
+use cga_rule::{Expr, Factor, Primary, Term};
 use cga_word::word;
 
 /// The value of an expression. A name that is neither a parameter nor an attribute stands for 0;

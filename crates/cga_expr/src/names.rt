@@ -3,7 +3,7 @@ ghost use Rattle.cga_expr.specs.Names.{argument_of, attribute_of, number_of, sam
 
 use cga_fraction::Fraction;
 use cga_frame::Point;
-use cga_syntax::Attribute;
+use cga_rule::Attribute;
 use cga_word::Name;
 
 /// What an expression reads beside itself: the parameters of the rule's symbol with the shape's

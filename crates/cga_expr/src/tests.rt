@@ -1,9 +1,7 @@
 use crate::{ExprFault, Names, holds, value};
 use cga_fraction::{Boxed, Fraction, List, NoMemory};
 use cga_frame::Point;
-use cga_syntax::{
-    Added, Attribute, Cond, Conj, Expr, Factor, Primary, Relation, Scaled, Term, Test,
-};
+use cga_rule::{Added, Attribute, Cond, Conj, Expr, Factor, Primary, Relation, Scaled, Term, Test};
 use cga_word::{Answer, Answers, Axis, Name, Target};
 use std::alloc::Global;
 use std::process::Abort;
