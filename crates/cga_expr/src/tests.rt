@@ -7,113 +7,113 @@ use std::alloc::Global;
 use std::process::Abort;
 use std::test::Fail;
 
-fn name(rt: &impl Abort, text: &str) -> Name {
-    Name::read(text.as_bytes()).expect(rt, "a name")
-}
-
 fn fraction(rt: &impl Abort, n: i64, d: i64) -> Fraction {
     Fraction::new(n, d).expect(rt, "in range")
 }
 
-fn number(rt: &impl Abort, n: i64) -> Primary {
-    Primary::Number(fraction(rt, n, 1))
+fn name(rt: &impl Abort, byte: u8) -> Name {
+    Name::read([byte].as_slice()).expect(rt, "a letter")
 }
 
-fn term(alloc: Global, primary: Primary) -> Term {
-    let first = Factor {
-        minus: false,
-        primary,
-    };
+fn factor(minus: bool, primary: Primary) -> Factor {
+    Factor { minus, primary }
+}
+
+fn term(alloc: Global, factor: Factor) -> Term {
     Term {
-        first,
+        first: factor,
         rest: List::new(alloc),
     }
 }
 
-fn alone(alloc: Global, primary: Primary) -> Expr {
+fn alone(alloc: Global, minus: bool, primary: Primary) -> Expr {
     Expr {
-        first: term(alloc, primary),
+        first: term(alloc, factor(minus, primary)),
         rest: List::new(alloc),
     }
 }
 
-fn negative(alloc: Global, primary: Primary) -> Expr {
-    let mut expr = alone(alloc, primary);
-    expr.first.first.minus = true;
-    expr
+// A digit, `M` for 2^61, a name, or a size of the scope.
+fn operand(rt: &impl Abort, byte: u8) -> Option<Primary> {
+    match byte {
+        b'0'..=b'9' => Some(Primary::Number(Fraction::from(u32::from(byte - b'0')))),
+        b'M' => Some(Primary::Number(fraction(rt, 1 << 61, 1))),
+        b'h' | b'w' => Some(Primary::Named(name(rt, byte))),
+        b'x' => Some(Primary::ScopeSize(Axis::X)),
+        b'z' => Some(Primary::ScopeSize(Axis::Z)),
+        _ => None,
+    }
 }
 
-// One more operand of the sum.
-fn and_added(alloc: Global, expr: Expr, minus: bool, primary: Primary) -> Result<Expr, NoMemory> {
-    let mut expr = expr;
-    let term = term(alloc, primary);
-    expr.rest.push(Added { minus, term })?;
-    Ok(expr)
+fn unary(alloc: Global, byte: u8, expr: Expr) -> Result<Expr, NoMemory> {
+    let inner = Boxed::new(alloc, expr)?;
+    match byte {
+        b'f' => Ok(alone(alloc, false, Primary::Floor(inner))),
+        b'c' => Ok(alone(alloc, false, Primary::Ceil(inner))),
+        b'n' => Ok(alone(alloc, true, Primary::Group(inner))),
+        _ => Ok(alone(alloc, false, Primary::Group(inner))),
+    }
 }
 
-// One more operand of the sum's first term.
-fn and_scaled(expr: Expr, divide: bool, primary: Primary) -> Result<Expr, NoMemory> {
-    let mut expr = expr;
-    let factor = Factor {
-        minus: false,
-        primary,
-    };
-    expr.first.rest.push(Scaled { divide, factor })?;
-    Ok(expr)
-}
-
-fn plus(alloc: Global, left: Primary, right: Primary) -> Result<Expr, NoMemory> {
-    and_added(alloc, alone(alloc, left), false, right)
-}
-
-fn times(alloc: Global, left: Primary, right: Primary) -> Result<Expr, NoMemory> {
-    and_scaled(alone(alloc, left), false, right)
-}
-
-fn over(alloc: Global, left: Primary, right: Primary) -> Result<Expr, NoMemory> {
-    and_scaled(alone(alloc, left), true, right)
-}
-
-fn group(alloc: Global, expr: Expr) -> Result<Primary, NoMemory> {
-    Ok(Primary::Group(Boxed::new(alloc, expr)?))
-}
-
-fn random(alloc: Global, number: u16, low: Expr, high: Expr, steps: u32) -> Result<Expr, NoMemory> {
+fn rand(alloc: Global, low: Expr, high: Expr, steps: u32) -> Result<Expr, NoMemory> {
     let low = Boxed::new(alloc, low)?;
     let high = Boxed::new(alloc, high)?;
+    let number = 2;
     let rand = Primary::Rand {
         number,
         low,
         high,
         steps,
     };
-    Ok(alone(alloc, rand))
+    Ok(alone(alloc, false, rand))
 }
 
-fn no_number(rt: &impl Abort, alloc: Global) -> Result<Expr, NoMemory> {
-    over(alloc, number(rt, 1), number(rt, 0))
+// The right operand follows those that the left expression has.
+fn binary(alloc: Global, byte: u8, left: Expr, right: Expr) -> Result<Expr, NoMemory> {
+    if byte == b'r' {
+        return rand(alloc, left, right, 3);
+    }
+    let mut expr = left;
+    let factor = factor(false, Primary::Group(Boxed::new(alloc, right)?));
+    if byte == b'+' || byte == b'-' {
+        let term = term(alloc, factor);
+        let minus = byte == b'-';
+        expr.rest.push(Added { minus, term })?;
+    } else {
+        let divide = byte == b'/';
+        expr.first.rest.push(Scaled { divide, factor })?;
+    }
+    Ok(expr)
 }
 
-fn too_great(rt: &impl Abort, alloc: Global) -> Result<Expr, NoMemory> {
-    times(alloc, number(rt, 1 << 40), number(rt, 1 << 40))
+// An expression whose operators stand behind their operands, one byte each.
+fn read(rt: &impl Abort, alloc: Global, text: &str) -> Result<Expr, NoMemory> {
+    let mut stack = Vec::new(alloc);
+    for byte in text.as_bytes() {
+        if let Some(primary) = operand(rt, *byte) {
+            stack.push(alone(alloc, false, primary))?;
+            continue;
+        }
+        let right = stack.pop().expect(rt, "an operand");
+        if matches!(*byte, b'f' | b'c' | b'n' | b'g') {
+            stack.push(unary(alloc, *byte, right)?)?;
+            continue;
+        }
+        let left = stack.pop().expect(rt, "two operands");
+        stack.push(binary(alloc, *byte, left, right)?)?;
+    }
+    let read = stack.pop().expect(rt, "one expression");
+    Ok(read)
 }
 
-// A shape of size (10, 0, 8) and seed 42 whose one argument is 4.
-#[derive(Drop)]
-struct Setting {
-    params: [Name; 1],
-    args: [Fraction; 1],
-    attributes: [Attribute; 2],
-    size: Point,
-}
-
-fn town(rt: &impl Abort) -> Setting {
+// What a shape of size (10, 0, 8) and seed 42 whose one argument is 4 makes of an expression.
+fn valued(rt: &impl Abort, expr: &Expr) -> Result<Fraction, ExprFault> {
     let height = Attribute {
-        name: name(rt, "h"),
+        name: name(rt, b'h'),
         value: fraction(rt, 5, 2),
     };
     let hidden = Attribute {
-        name: name(rt, "w"),
+        name: name(rt, b'w'),
         value: fraction(rt, 9, 1),
     };
     let size = Point {
@@ -121,186 +121,165 @@ fn town(rt: &impl Abort) -> Setting {
         y: Fraction::zero(),
         z: fraction(rt, 8, 1),
     };
-    Setting {
-        params: [name(rt, "w")],
-        args: [fraction(rt, 4, 1)],
-        attributes: [height, hidden],
+    let params = [name(rt, b'w')];
+    let args = [fraction(rt, 4, 1)];
+    let attributes = [hidden, height];
+    let names = Names {
+        params: params.as_slice(),
+        args: args.as_slice(),
+        attributes: attributes.as_slice(),
         size,
-    }
-}
-
-fn names(setting: &Setting) -> Names<'_> {
-    Names {
-        params: setting.params.as_slice(),
-        args: setting.args.as_slice(),
-        attributes: setting.attributes.as_slice(),
-        size: setting.size,
         seed: 42,
-    }
-}
-
-fn is_value(rt: &impl Abort, expr: Expr, n: i64, d: i64) {
-    let setting = town(rt);
-    assert_eq!(rt; value(&expr, &names(&setting)), Ok(fraction(rt, n, d)));
-}
-
-fn is_fault(rt: &impl Abort, expr: Expr, fault: ExprFault) {
-    let setting = town(rt);
-    assert_eq!(rt; value(&expr, &names(&setting)), Err(fault));
+    };
+    value(expr, &names)
 }
 
 #[test]
 fn values(rt: HostRuntime) -> Result<(), Fail> {
-    let alloc = rt.alloc();
-    let height = Primary::Named(name(&rt, "h"));
-    let width = Primary::ScopeSize(Axis::X);
-    let quarter = over(alloc, width, number(&rt, 4))?;
-    let row = times(alloc, number(&rt, 2), height)?;
-    let row = and_added(
-        alloc,
-        row,
-        false,
-        Primary::Floor(Boxed::new(alloc, quarter)?),
-    )?;
-    is_value(&rt, row, 7, 1);
-    let chain = and_added(alloc, alone(alloc, number(&rt, 10)), true, number(&rt, 2))?;
-    is_value(&rt, and_added(alloc, chain, true, number(&rt, 3))?, 5, 1);
-    let chain = over(alloc, number(&rt, 8), number(&rt, 4))?;
-    is_value(&rt, and_scaled(chain, true, number(&rt, 2))?, 1, 1);
-    let below = over(
-        alloc,
-        group(alloc, negative(alloc, number(&rt, 3)))?,
-        number(&rt, 2),
-    )?;
-    let ceil = Primary::Ceil(Boxed::new(alloc, below)?);
-    is_value(&rt, plus(alloc, ceil, Primary::ScopeSize(Axis::Z))?, 7, 1);
-    is_value(&rt, alone(alloc, Primary::Named(name(&rt, "w"))), 4, 1);
+    for (text, n, d) in [
+        ("2h*x4/f+", 7, 1),
+        ("92-3-", 4, 1),
+        ("84/2/", 1, 1),
+        ("132*+", 7, 1),
+        ("13+g2*", 8, 1),
+        ("32/nf", -2, 1),
+        ("32/nc", -1, 1),
+        ("3f", 3, 1),
+        ("w", 4, 1),
+        ("zn2/", -4, 1),
+        ("MM+M-M-", 0, 1),
+        ("2xr", 22, 3),
+    ] {
+        let expr = read(&rt, rt.alloc(), text)?;
+        assert_eq!(rt; valued(&rt, &expr), Ok(fraction(&rt, n, d)), "{text}");
+    }
     Ok(())
 }
 
 #[test]
 fn first_faults(rt: HostRuntime) -> Result<(), Fail> {
-    let alloc = rt.alloc();
-    let left = group(alloc, no_number(&rt, alloc)?)?;
-    let right = group(alloc, too_great(&rt, alloc)?)?;
-    is_fault(&rt, plus(alloc, left, right)?, ExprFault::ZeroDivide);
-    let left = group(alloc, too_great(&rt, alloc)?)?;
-    let right = group(alloc, no_number(&rt, alloc)?)?;
-    is_fault(&rt, plus(alloc, left, right)?, ExprFault::Overflow);
-    let late = and_scaled(too_great(&rt, alloc)?, true, number(&rt, 0))?;
-    is_fault(&rt, late, ExprFault::Overflow);
-    let high = too_great(&rt, alloc)?;
-    let ends = random(alloc, 1, no_number(&rt, alloc)?, high, 1)?;
-    is_fault(&rt, ends, ExprFault::ZeroDivide);
-    let low = negative(alloc, number(&rt, 1 << 62));
-    let span = random(alloc, 1, low, alone(alloc, number(&rt, 1)), 1)?;
-    is_fault(&rt, span, ExprFault::Overflow);
-    Ok(())
-}
-
-// Word 2 of seed 42 is 0x9548a9bd, which is 0.58314 of 2^32.
-#[test]
-fn rands(rt: HostRuntime) -> Result<(), Fail> {
-    let alloc = rt.alloc();
-    for (steps, n, d) in [
-        (1, 10, 1),
-        (2, 6, 1),
-        (3, 22, 3),
-        (1_000_000, 41_657, 6_250),
+    for (text, fault) in [
+        ("10/", ExprFault::ZeroDivide),
+        ("MM*", ExprFault::Overflow),
+        ("MM+M+", ExprFault::Overflow),
+        ("10/MM*+", ExprFault::ZeroDivide),
+        ("MM*10/+", ExprFault::Overflow),
+        ("MM*0/", ExprFault::Overflow),
+        ("MM*n10/gr", ExprFault::Overflow),
+        ("10/MM*r", ExprFault::ZeroDivide),
+        ("M2*n1r", ExprFault::Overflow),
     ] {
-        let low = alone(alloc, number(&rt, 2));
-        let high = alone(alloc, number(&rt, 10));
-        is_value(&rt, random(alloc, 2, low, high, steps)?, n, d);
+        let expr = read(&rt, rt.alloc(), text)?;
+        assert_eq!(rt; valued(&rt, &expr), Err(fault), "{text}");
     }
     Ok(())
 }
 
-fn compare(rt: &impl Abort, alloc: Global, left: i64, relation: Relation) -> Test {
-    Test::Compare {
-        left: alone(alloc, number(rt, left)),
-        relation,
-        right: alone(alloc, number(rt, 2)),
-    }
-}
-
-fn refused(rt: &impl Abort, alloc: Global) -> Result<Test, NoMemory> {
-    Ok(Test::Compare {
-        left: no_number(rt, alloc)?,
-        relation: Relation::Less,
-        right: too_great(rt, alloc)?,
-    })
-}
-
-fn both(alloc: Global, first: Test, second: Test) -> Result<Cond, NoMemory> {
-    let mut tests = List::new(alloc);
-    tests.push(first)?;
-    tests.push(second)?;
-    let mut conjs = List::new(alloc);
-    conjs.push(Conj { tests })?;
-    Ok(Cond { conjs })
-}
-
-fn either(alloc: Global, first: Test, second: Test) -> Result<Cond, NoMemory> {
-    let mut conjs = List::new(alloc);
-    for test in [first, second] {
-        let mut tests = List::new(alloc);
-        tests.push(test)?;
-        conjs.push(Conj { tests })?;
-    }
-    Ok(Cond { conjs })
-}
-
-fn asked(rt: &impl Abort, cond: &Cond) -> Result<bool, ExprFault> {
-    let setting = town(rt);
+fn held(rt: &impl Abort, cond: &Cond) -> Result<bool, ExprFault> {
+    let zero = Fraction::zero();
+    let size = Point {
+        x: zero,
+        y: zero,
+        z: zero,
+    };
+    let names = Names {
+        params: &[],
+        args: &[],
+        attributes: &[],
+        size,
+        seed: 0,
+    };
     let answers = Answers {
         noparent: Some(Answer::Part),
         active: None,
     };
-    holds(cond, &names(&setting), &answers)
+    holds(cond, &names, &answers)
+}
+
+fn compare(
+    rt: &impl Abort,
+    alloc: Global,
+    left: &str,
+    relation: Relation,
+) -> Result<Test, NoMemory> {
+    let left = read(rt, alloc, left)?;
+    let right = read(rt, alloc, "2")?;
+    Ok(Test::Compare {
+        left,
+        relation,
+        right,
+    })
+}
+
+fn conj(alloc: Global, test: Test) -> Result<Conj, NoMemory> {
+    let mut tests = List::new(alloc);
+    tests.push(test)?;
+    Ok(Conj { tests })
+}
+
+fn single(alloc: Global, test: Test) -> Result<Cond, NoMemory> {
+    let mut conjs = List::new(alloc);
+    conjs.push(conj(alloc, test)?)?;
+    Ok(Cond { conjs })
 }
 
 #[test]
 fn comparisons(rt: HostRuntime) -> Result<(), Fail> {
-    let alloc = rt.alloc();
-    for (relation, below, same, above) in [
-        (Relation::Equal, false, true, false),
-        (Relation::Unequal, true, false, true),
-        (Relation::Less, true, false, false),
-        (Relation::AtMost, true, true, false),
-        (Relation::Greater, false, false, true),
-        (Relation::AtLeast, false, true, true),
+    for (relation, left, want) in [
+        (Relation::Equal, "1", false),
+        (Relation::Equal, "42/", true),
+        (Relation::Unequal, "1", true),
+        (Relation::Unequal, "2", false),
+        (Relation::Less, "1", true),
+        (Relation::Less, "2", false),
+        (Relation::AtMost, "2", true),
+        (Relation::AtMost, "3", false),
+        (Relation::Greater, "2", false),
+        (Relation::Greater, "3", true),
+        (Relation::AtLeast, "1", false),
+        (Relation::AtLeast, "2", true),
     ] {
-        for (left, want) in [(1, below), (2, same), (3, above)] {
-            let first = compare(&rt, alloc, left, relation);
-            let second = compare(&rt, alloc, left, relation);
-            let cond = both(alloc, first, second)?;
-            assert_eq!(rt; asked(&rt, &cond), Ok(want));
-        }
+        let cond = single(rt.alloc(), compare(&rt, rt.alloc(), left, relation)?)?;
+        assert_eq!(rt; held(&rt, &cond), Ok(want), "{left}");
     }
     Ok(())
 }
 
+// Whether the first is below 2, and so is a number divided by 0.
+fn with_refused(rt: &impl Abort, alloc: Global, first: &str, and: bool) -> Result<Cond, NoMemory> {
+    let mut cond = single(alloc, compare(rt, alloc, first, Relation::Less)?)?;
+    let refused = compare(rt, alloc, "10/", Relation::Less)?;
+    if and {
+        let inner = Test::Group(cond);
+        let mut conj = conj(alloc, inner)?;
+        conj.tests.push(refused)?;
+        let mut conjs = List::new(alloc);
+        conjs.push(conj)?;
+        return Ok(Cond { conjs });
+    }
+    cond.conjs.push(conj(alloc, refused)?)?;
+    Ok(cond)
+}
+
 #[test]
 fn and_and_or_stop(rt: HostRuntime) -> Result<(), Fail> {
-    let alloc = rt.alloc();
     let fault = Err(ExprFault::ZeroDivide);
-    for (left, and, or) in [(1, fault, Ok(true)), (2, Ok(false), fault)] {
-        let first = compare(&rt, alloc, left, Relation::Less);
-        let cond = both(alloc, first, refused(&rt, alloc)?)?;
-        assert_eq!(rt; asked(&rt, &cond), and);
-        let first = compare(&rt, alloc, left, Relation::Less);
-        let cond = either(alloc, first, refused(&rt, alloc)?)?;
-        assert_eq!(rt; asked(&rt, &cond), or);
-        let not = Test::Not(cond);
-        let cond = both(alloc, not, compare(&rt, alloc, 1, Relation::Less))?;
-        assert_eq!(rt; asked(&rt, &cond), or.map(|holds| !holds));
+    for (first, and, want) in [
+        ("1", true, fault),
+        ("2", true, Ok(false)),
+        ("1", false, Ok(true)),
+        ("2", false, fault),
+    ] {
+        let cond = with_refused(&rt, rt.alloc(), first, and)?;
+        assert_eq!(rt; held(&rt, &cond), want, "{first}");
+        let not = single(rt.alloc(), Test::Not(cond))?;
+        assert_eq!(rt; held(&rt, &not), want.map(|holds| !holds), "{first}");
     }
     Ok(())
 }
 
 #[test]
 fn queries(rt: HostRuntime) -> Result<(), Fail> {
-    let alloc = rt.alloc();
     for (target, state, want) in [
         (Target::Noparent, Answer::Nothing, false),
         (Target::Noparent, Answer::Part, true),
@@ -308,13 +287,13 @@ fn queries(rt: HostRuntime) -> Result<(), Fail> {
         (Target::Active, Answer::Part, false),
     ] {
         for equal in [true, false] {
-            let first = Test::Occ {
+            let query = Test::Occ {
                 target,
                 equal,
                 state,
             };
-            let cond = both(alloc, first, compare(&rt, alloc, 1, Relation::Less))?;
-            assert_eq!(rt; asked(&rt, &cond), Ok(want == equal));
+            let cond = single(rt.alloc(), query)?;
+            assert_eq!(rt; held(&rt, &cond), Ok(want == equal));
         }
     }
     Ok(())
