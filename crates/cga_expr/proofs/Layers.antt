@@ -1,5 +1,5 @@
 -- One layer of what an expression and a condition mean.
-use Rattle.std.proofs.Common.{◌≡◌, ℕ, List, map, Bool, Ok, not, refl, ap, sym, ◌∙◌, if◌then◌else◌}
+use Rattle.std.proofs.Common.{◌≡◌, ℕ, List, map, Bool, Ok, not, ap, sym, ◌∙◌, if◌then◌else◌}
 use Rattle.cga_fraction.specs.Rat.{Rat}
 use Rattle.cga_fraction.specs.Chains.{then_}
 use Rattle.cga_word.specs.declared.answer.Answer.{Answer}
@@ -12,13 +12,11 @@ use Rattle.cga_rule.specs.declared.expr.Term.{Term, out-Term}
 use Rattle.cga_rule.specs.declared.expr.Added.{Added, out-Added}
 use Rattle.cga_rule.specs.declared.expr.Scaled.{Scaled}
 use Rattle.cga_rule.specs.declared.expr.Factor.{Factor}
-use Rattle.cga_rule.specs.declared.expr.Primary.{Primary}
 use Rattle.cga_rule.specs.declared.expr.Primary.TheVariants.{Number, rolls-Number, Named, rolls-Named, ScopeSize, rolls-ScopeSize, Group, rolls-Group, Floor, rolls-Floor, Ceil, rolls-Ceil, Rand, rolls-Rand}
 use Rattle.cga_rule.specs.declared.expr.Primary.TheFolds.{fold_out-Expr, fold_out-Term, fold_out-Added, fold_out-Scaled, fold_out-Factor, fold-roll-Primary}
 use Rattle.cga_rule.specs.declared.expr.Primary.TheOpen as layer
 use Rattle.cga_rule.specs.declared.cond.Cond.{Cond, out-Cond}
 use Rattle.cga_rule.specs.declared.cond.Conj.{Conj, out-Conj}
-use Rattle.cga_rule.specs.declared.cond.Test.{Test}
 use Rattle.cga_rule.specs.declared.cond.Relation.{Relation}
 use Rattle.cga_rule.specs.declared.cond.Test.TheVariants as test
 use Rattle.cga_rule.specs.declared.cond.Test.TheFolds.{fold_out-Cond, fold_out-Conj, fold-roll-Test}

@@ -1,5 +1,5 @@
 -- A whole number over 1.
-use Rattle.std.proofs.Common.{◌≡◌, ℕ, ◌-◌, ◌/◌, zero, suc, refl, sym, ap, ◌∙◌, ℤ, pos, negsuc, Ok, Err, Result, arith}
+use Rattle.std.proofs.Common.{◌≡◌, ℕ, ◌/◌, refl, sym, ap, ◌∙◌, ℤ, pos, negsuc, Ok, Err, Result, arith}
 use Rattle.std.specs.Prelude.{unsigned_abs}
 use Rattle.cga_fraction.specs.Rat.{Rat, of_int}
 use Rattle.cga_fraction.specs.Arithmetic.{reduced, with_sign}

@@ -1,5 +1,5 @@
 -- The operations of expressions: the exact result, or why there is none.
-use Rattle.std.specs.Prelude.{ℕ, ◌+◌, ◌*◌, ◌/◌, ◌^◌, ℤ, pos, Bool, true, false, Result, Ok, Err}
+use Rattle.std.specs.Prelude.{ℕ, ◌+◌, ◌*◌, ◌/◌, ◌^◌, pos, Bool, true, false, Result, Ok, Err}
 use Rattle.cga_fraction.specs.Rat.{Rat, of_int}
 use Rattle.cga_fraction.specs.Arithmetic.{plus, minus, times, negated}
 use Rattle.cga_fraction.specs.Refusals.{checked, quotient_of}
