@@ -1,7 +1,7 @@
 use crate::drawn::Drawn;
 use cga_fraction::List;
 
-/// The instances that an edit took away, and those that it brought. One that stays is in neither list.
+/// What an edit took from the drawn instances of a city, and what it added. No order is meant.
 #[derive(Debug, Drop)]
 pub struct Changes {
     pub gone: List<Drawn>,

@@ -4,20 +4,22 @@ use cga_fraction::Fraction;
 use cga_rule::{Grammar, Rule};
 use cga_word::{Mode, Name};
 
-/// A change of the sources.
+/// One change of a city's sources.
 #[derive(Debug, Drop)]
 pub enum Edit {
-    /// All attributes and rules.
+    /// Another grammar.
     Rules(Grammar),
-    /// A rule with the priority of its symbol; it takes the place of a rule of the same id.
+    /// A rule with the priority of its symbol, in place of the one of its id.
     Put(u16, Rule),
-    /// The rule of an id goes.
+    /// No rule of this id.
     Drop(u32),
     SetAttribute(Name, Fraction),
+    /// Of a symbol.
     SetPriority(Name, u16),
-    /// A lot that is there keeps its place.
+    /// A lot, in the place of the one of its name, or behind all others.
     SetLot(Lot),
     Unlot(Name),
     SetOrder(Mode),
+    /// Other sources.
     Whole(Sources),
 }

@@ -3,26 +3,26 @@ use cga_rule::CheckFault;
 use cga_word::Name;
 use thiserror::Error;
 
-/// Why an edit is refused. Nothing that a script is replied to rests on the text of these.
-#[derive(Clone, Copy, Debug, PartialEq, Eq, Error)]
+/// Why an edit isn't done. The name is that of the lot, the symbol or the attribute in question.
+#[derive(Debug, Drop, Error)]
 pub enum EditRefused {
-    #[error("no rule has this id")]
+    #[error("no rule has the id")]
     NoRule(u32),
     #[error("the attribute isn't declared")]
     NoAttribute(Name),
-    #[error("the symbol has no rule that fits")]
+    #[error("no rules without parameters have the symbol")]
     NoSymbol(Name),
-    #[error("no lot has this name")]
+    #[error("no lot has the name")]
     NoLot(Name),
-    #[error("the lot has no area, or leaves the range")]
+    #[error("the lot has no extent, or leaves the range")]
     BadLot(Name),
-    #[error("there are as many lots as there may be")]
+    #[error("there are too many lots")]
     TooManyLots,
     #[error("the grammar isn't valid")]
     Check(CheckFault),
-    #[error("the city would have more shapes than it may have")]
+    #[error("the city has too many shapes")]
     OverBudget,
-    #[error("out of memory")]
+    #[error("memory is wanting")]
     NoMemory,
 }
 
@@ -30,7 +30,7 @@ impl From<NoMemory> for EditRefused {
     ghost use Rattle.std.specs.Prelude.{◌≡◌};
     ghost use Rattle.cga_shape.specs.declared.edit_refused.EditRefused.TheVariants as refused;
 
-    ghost from_gives = { λ _ e. e ≡ refused.NoMemory };
+    ghost from_gives = { λ _ r. r ≡ refused.NoMemory };
 
     fn from(_none: NoMemory) -> EditRefused {
         EditRefused::NoMemory

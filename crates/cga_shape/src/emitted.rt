@@ -2,8 +2,8 @@ use cga_fraction::{Fraction, List};
 use cga_frame::Scope;
 use cga_word::{Name, Primitive};
 
-/// What a successor puts in the place of a shape, with the scope that was current there: a shape of a symbol, or an
-/// instance of a solid. Its index is its place among all that the expansion emits.
+/// What an expansion gives, in order: shapes that wait, and solids that are drawn. Its place in the
+/// list is its index, and so the last of its path.
 #[derive(Debug, Drop)]
 pub enum Emitted {
     Child {

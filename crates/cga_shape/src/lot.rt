@@ -1,13 +1,9 @@
-ghost use Rattle.std.specs.Prelude.{◌≡◌, IsOk};
-ghost use Rattle.cga_shape.specs.Roots.{has_root, root_of, root_scope};
-
-use crate::shape::Shape;
-use cga_fraction::{Fraction, List};
-use cga_frame::{Frame, Point, Scope};
+use cga_fraction::Fraction;
+use cga_frame::{Frame, Point, Scope, ScopeFault};
 use cga_word::Name;
-use std::alloc::Global;
 
-/// A rectangle on the ground from (x, z), in the lot's unit, whose root shape has the symbol and the seed. Y is up.
+/// A piece of ground from (x, z) to (x + width, z + depth), in the unit of all lots, and the symbol
+/// and the seed of its root shape.
 #[derive(Clone, Copy, Debug)]
 pub struct Lot {
     pub name: Name,
@@ -19,39 +15,26 @@ pub struct Lot {
     pub symbol: Name,
 }
 
-/// The shape with which a lot's derivation begins: flat on the ground, with the lot's symbol and no arguments. Takes
-/// no memory.
-pub fn root_shape(alloc: Global, lot: &Lot) -> Shape
-    requires { IsOk (has_root lot.now) }
-    ensures { result ≡ root_of lot.now }
-{
-    Shape {
-        lot: lot.name,
-        path: List::new(alloc),
-        symbol: lot.symbol,
-        args: List::new(alloc),
-        scope: scope_of(lot),
-        seed: lot.seed,
-    }
-}
+impl Lot {
+    ghost use Rattle.std.specs.Prelude.{◌≡◌};
+    ghost use Rattle.cga_shape.specs.Root.{root_scope};
 
-#[tactic(auto, using(crate::proofs::Roots::scope_is))]
-fn scope_of(lot: &Lot) -> Scope
-    requires { IsOk (has_root lot.now) }
-    ensures { result ≡ root_scope lot.now }
-{
-    let at = Point {
-        x: lot.x,
-        y: Fraction::zero(),
-        z: lot.z,
-    };
-    let size = Point {
-        x: lot.width,
-        y: Fraction::zero(),
-        z: lot.depth,
-    };
-    match Scope::new(at, Frame::base(), size) {
-        Ok(scope) => scope,
-        Err(_) => unreachable!(),
+    /// The scope of the lot's root: flat on the ground, along the world's axes. It doesn't exist where
+    /// an extent is below 0, or the far corner leaves the range.
+    pub fn root_scope(&self) -> Result<Scope, ScopeFault>
+        ensures { result ≡ root_scope self.now }
+    {
+        let zero = Fraction::zero();
+        let at = Point {
+            x: self.x,
+            y: zero,
+            z: self.z,
+        };
+        let size = Point {
+            x: self.width,
+            y: zero,
+            z: self.depth,
+        };
+        Scope::new(at, Frame::base(), size)
     }
 }

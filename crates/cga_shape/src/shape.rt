@@ -1,14 +1,15 @@
-ghost use Rattle.std.specs.Prelude.{◌≡◌, IfOk};
+ghost use Rattle.std.specs.Prelude.{◌≡◌, IsOk};
+ghost use Rattle.cga_shape.specs.Root.{root_of, root_scope};
 
-use crate::copy::{copy_args, copy_path};
-use cga_fraction::{Fraction, List, NoMemory};
+use crate::lot::Lot;
+use cga_fraction::{Fraction, List};
 use cga_frame::Scope;
 use cga_order::Path;
 use cga_word::Name;
 use std::alloc::Global;
 
-/// A symbol in a scope. Its lot and its path say which one it is; two shapes of one city never share both. An instance
-/// has the symbol of the shape that emitted it and no arguments.
+/// A shape, by all that its expansion reads of it. An instance has the symbol of the shape that
+/// emitted it, and no arguments.
 #[derive(Debug, Drop)]
 pub struct Shape {
     pub lot: Name,
@@ -19,20 +20,20 @@ pub struct Shape {
     pub seed: u64,
 }
 
-impl Shape {
-    /// An equal shape. Takes memory for its path and its arguments.
-    pub fn copy(&self, alloc: Global) -> Result<Shape, NoMemory>
-        ensures { IfOk result (λ copy. copy ≡ self.now) }
-    {
-        let path = copy_path(alloc, self.path.as_slice())?;
-        let args = copy_args(alloc, self.args.as_slice())?;
-        Ok(Shape {
-            lot: self.lot,
-            path,
-            symbol: self.symbol,
-            args,
-            scope: self.scope,
-            seed: self.seed,
-        })
+/// The root of a lot, in the lot's scope. Takes no memory.
+pub fn root_shape(alloc: Global, lot: &Lot) -> Shape
+    requires { IsOk (root_scope lot.now) }
+    ensures { root_of lot.now ≡ Ok result }
+{
+    match lot.root_scope() {
+        Ok(scope) => Shape {
+            lot: lot.name,
+            path: List::new(alloc),
+            symbol: lot.symbol,
+            args: List::new(alloc),
+            scope,
+            seed: lot.seed,
+        },
+        Err(_) => unreachable!(),
     }
 }

@@ -1,14 +1,11 @@
-ghost use Rattle.std.specs.Prelude.{◌≡◌, IfOk};
-
-use crate::copy::copy_lots;
 use crate::lot::Lot;
 use cga_fraction::{List, NoMemory};
 use cga_rule::Grammar;
 use cga_word::Mode;
 use std::alloc::Global;
 
-/// All that a city is derived from: attributes and rules, lots in the order in which their names were added, and the
-/// mode. Nothing says that they are valid.
+/// All that a city comes of. Lots stand in the order in which their names were added. Nothing says
+/// that the grammar is valid, or that lots differ.
 #[derive(Debug, Drop)]
 pub struct Sources {
     pub grammar: Grammar,
@@ -17,15 +14,17 @@ pub struct Sources {
 }
 
 impl Sources {
+    ghost use Rattle.std.specs.Prelude.{◌≡◌, IfOk};
+
     /// Equal sources. Takes memory.
     pub fn copy(&self, alloc: Global) -> Result<Sources, NoMemory>
         ensures { IfOk result (λ copy. copy ≡ self.now) }
     {
         let grammar = self.grammar.copy(alloc)?;
-        let lots = copy_lots(alloc, self.lots.as_slice())?;
+        let lots = Vec::from_slice(alloc, self.lots.as_slice())?;
         Ok(Sources {
             grammar,
-            lots,
+            lots: List::from_vec(lots),
             mode: self.mode,
         })
     }

@@ -1,8 +1,15 @@
-use crate::outcome::Outcome;
+use crate::shape_fault::ShapeFault;
 use cga_order::Path;
 use cga_word::{Answers, Name};
 
-/// One expansion of a derivation: which shape, what it was answered, and what it came to.
+/// What an expansion came to: so many children, or a fault.
+#[derive(Clone, Copy, Debug, PartialEq, Eq)]
+pub enum Outcome {
+    Grew(u16),
+    Faulted(ShapeFault),
+}
+
+/// The expansion of one shape, with what it was answered then.
 #[derive(Debug, Drop)]
 pub struct TraceStep {
     pub lot: Name,
