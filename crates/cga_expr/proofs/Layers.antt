@@ -1,7 +1,7 @@
 -- One layer of what an expression and a condition mean.
 use Rattle.std.proofs.Common.{◌≡◌, ℕ, List, map, Bool, Ok, not, ap, sym, ◌∙◌, if◌then◌else◌}
 use Rattle.cga_fraction.specs.Rat.{Rat}
-use Rattle.cga_fraction.specs.Chains.{then_}
+use Rattle.cga_fraction.specs.Results.{and_then}
 use Rattle.cga_word.specs.declared.answer.Answer.{Answer}
 use Rattle.cga_word.specs.declared.answers.Answers.{Answers}
 use Rattle.cga_word.specs.declared.axis.Axis.{Axis}
@@ -32,11 +32,11 @@ at_known e k = ap (λ (m : Meaning). m k) e
 at_both : {m n : Holding} → m ≡ n → (k : Known) (a : Answers) → m k a ≡ n k a
 at_both e k a = ap (λ (m : Holding). m k a) e
 
-pub expr_layer : (e : Expr) (k : Known) → expr_value e k ≡ then_ (term_value (out-Expr e).first k) (from_left added (map added_value (out-Expr e).rest) k)
+pub expr_layer : (e : Expr) (k : Known) → expr_value e k ≡ and_then (term_value (out-Expr e).first k) (from_left added (map added_value (out-Expr e).rest) k)
 unfolding expr_value term_value added_value
 expr_layer e = at_known (fold_out-Expr Meaning Marked Meaning Meaning Marked Meaning primary_step added_step expr_step factor_step scaled_step term_step e)
 
-pub term_layer : (t : Term) (k : Known) → term_value t k ≡ then_ (factor_value (out-Term t).first k) (from_left scaled (map scaled_value (out-Term t).rest) k)
+pub term_layer : (t : Term) (k : Known) → term_value t k ≡ and_then (factor_value (out-Term t).first k) (from_left scaled (map scaled_value (out-Term t).rest) k)
 unfolding term_value factor_value scaled_value
 term_layer t = at_known (fold_out-Term Meaning Marked Meaning Meaning Marked Meaning primary_step added_step expr_step factor_step scaled_step term_step t)
 
@@ -48,7 +48,7 @@ pub scaled_layer : (s : Scaled) → scaled_value s ≡ (s.divide, factor_value s
 unfolding scaled_value factor_value
 scaled_layer s = fold_out-Scaled Meaning Marked Meaning Meaning Marked Meaning primary_step added_step expr_step factor_step scaled_step term_step s
 
-pub factor_layer : (f : Factor) (k : Known) → factor_value f k ≡ then_ (primary_value f.primary k) (λ x. Ok (signed f.minus x))
+pub factor_layer : (f : Factor) (k : Known) → factor_value f k ≡ and_then (primary_value f.primary k) (λ x. Ok (signed f.minus x))
 unfolding factor_value primary_value
 factor_layer f = at_known (fold_out-Factor Meaning Marked Meaning Meaning Marked Meaning primary_step added_step expr_step factor_step scaled_step term_step f)
 
@@ -68,11 +68,11 @@ pub primary_Group : (e : Expr) (k : Known) → primary_value (Group e) k ≡ exp
 unfolding primary_value expr_value
 primary_Group e = at_known (ap primary_value (sym (rolls-Group e)) ∙ fold-roll-Primary Meaning Marked Meaning Meaning Marked Meaning primary_step added_step expr_step factor_step scaled_step term_step (layer.Group e))
 
-pub primary_Floor : (e : Expr) (k : Known) → primary_value (Floor e) k ≡ then_ (expr_value e k) floored
+pub primary_Floor : (e : Expr) (k : Known) → primary_value (Floor e) k ≡ and_then (expr_value e k) floored
 unfolding primary_value expr_value
 primary_Floor e = at_known (ap primary_value (sym (rolls-Floor e)) ∙ fold-roll-Primary Meaning Marked Meaning Meaning Marked Meaning primary_step added_step expr_step factor_step scaled_step term_step (layer.Floor e))
 
-pub primary_Ceil : (e : Expr) (k : Known) → primary_value (Ceil e) k ≡ then_ (expr_value e k) ceiled
+pub primary_Ceil : (e : Expr) (k : Known) → primary_value (Ceil e) k ≡ and_then (expr_value e k) ceiled
 unfolding primary_value expr_value
 primary_Ceil e = at_known (ap primary_value (sym (rolls-Ceil e)) ∙ fold-roll-Primary Meaning Marked Meaning Meaning Marked Meaning primary_step added_step expr_step factor_step scaled_step term_step (layer.Ceil e))
 
@@ -92,7 +92,7 @@ pub test_Group : (c : Cond) (k : Known) (a : Answers) → test_holds (test.Group
 unfolding test_holds cond_holds
 test_Group c = at_both (ap test_holds (sym (test.rolls-Group c)) ∙ fold-roll-Test Holding Holding Holding test_step cond_step conj_step (part.Group c))
 
-pub test_Not : (c : Cond) (k : Known) (a : Answers) → test_holds (test.Not c) k a ≡ then_ (cond_holds c k a) (λ b. Ok (not b))
+pub test_Not : (c : Cond) (k : Known) (a : Answers) → test_holds (test.Not c) k a ≡ and_then (cond_holds c k a) (λ b. Ok (not b))
 unfolding test_holds cond_holds
 test_Not c = at_both (ap test_holds (sym (test.rolls-Not c)) ∙ fold-roll-Test Holding Holding Holding test_step cond_step conj_step (part.Not c))
 

@@ -1,3 +1,3 @@
 pub mod Layers
-pub mod Turns
+pub mod Operands
 pub mod Whole

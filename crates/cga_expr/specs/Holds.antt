@@ -3,7 +3,7 @@ use Rattle.std.specs.Prelude.{List, [], ◌∷◌, Bool, true, false, not, Optio
 use Rattle.std.specs.Ordering.{is_eq, is_ne, is_lt, is_le, is_gt, is_ge}
 use Rattle.std.specs.declared.cmp.Ordering.{Ordering}
 use Rattle.cga_fraction.specs.Order.{rat_cmp}
-use Rattle.cga_fraction.specs.Chains.{then_}
+use Rattle.cga_fraction.specs.Results.{and_then}
 use Rattle.cga_word.specs.declared.answer.Answer.{Answer}
 use Rattle.cga_word.specs.declared.answer.Answer.TheVariants.{Nothing, Part, Full}
 use Rattle.cga_word.specs.declared.answers.Answers.{Answers}
@@ -27,12 +27,12 @@ Holding = Known → Answers → Result Bool ExprFault
 -- `and` stops at the first that doesn't hold
 abbrev pub all_hold : List Holding → Holding
 all_hold [] k answers = Ok true
-all_hold (t ∷ ts) k answers = then_ (t k answers) (λ b. if b then all_hold ts k answers else Ok false)
+all_hold (t ∷ ts) k answers = and_then (t k answers) (λ b. if b then all_hold ts k answers else Ok false)
 
 -- `or` stops at the first that holds
 abbrev pub any_holds : List Holding → Holding
 any_holds [] k answers = Ok false
-any_holds (t ∷ ts) k answers = then_ (t k answers) (λ b. if b then Ok true else any_holds ts k answers)
+any_holds (t ∷ ts) k answers = and_then (t k answers) (λ b. if b then Ok true else any_holds ts k answers)
 
 -- what two numbers that compare so have to each other
 abbrev pub relates : Relation → Ordering → Bool
@@ -45,7 +45,7 @@ relates AtLeast o = is_ge o
 
 -- the left value, the right value, and how they compare
 abbrev pub compared : Meaning → Relation → Meaning → Known → Result Bool ExprFault
-compared left relation right k = then_ (left k) (λ x. then_ (right k) (λ y. Ok (relates relation (rat_cmp x y))))
+compared left relation right k = and_then (left k) (λ x. and_then (right k) (λ y. Ok (relates relation (rat_cmp x y))))
 
 -- the shape's answer for a target
 abbrev pub answer_to : Answers → Target → Option Answer
@@ -73,7 +73,7 @@ Layer F = F Holding Holding Holding
 
 abbrev pub test_step : Layer Test-F → Holding
 test_step (Group c) k answers = c k answers
-test_step (Not c) k answers = then_ (c k answers) (λ b. Ok (not b))
+test_step (Not c) k answers = and_then (c k answers) (λ b. Ok (not b))
 test_step (Occ target equal state) k answers = Ok (if equal then is_answered answers target state else not (is_answered answers target state))
 test_step (Compare left relation right) k answers = compared (expr_value left) relation (expr_value right) k
 

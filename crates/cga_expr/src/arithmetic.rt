@@ -1,13 +1,14 @@
 //! The operations of expressions, each with the fault that refuses it.
 ghost use Rattle.std.specs.Prelude.{◌≡◌, pos};
 ghost use Rattle.cga_fraction.specs.Rat.{of_int};
-ghost use Rattle.cga_expr.specs.Arithmetic.{added, ceiled, drawn, exact, floored, or_fault, or_overflow, scaled, signed, step_of};
+ghost use Rattle.cga_fraction.specs.Results.{or_err};
+ghost use Rattle.cga_expr.specs.Arithmetic.{added, ceiled, drawn, exact, floored, or_fault, scaled, signed, step_of};
 
 use crate::expr_fault::ExprFault;
 use cga_fraction::{DivFault, Fraction, Overflow};
 
 fn or_overflow(outcome: Result<Fraction, Overflow>) -> Result<Fraction, ExprFault>
-    ensures { result ≡ or_overflow outcome }
+    ensures { result ≡ or_err ExprFault.Overflow outcome }
 {
     outcome.map_err(|_| ExprFault::Overflow)
 }

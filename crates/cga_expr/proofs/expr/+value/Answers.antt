@@ -1,5 +1,5 @@
 use Rattle.std.proofs.lemmas.Result.{err_from_is_err_and}
-use Rattle.cga_expr.proofs.Turns.{goes_on, has_no_operand, is_refused}
+use Rattle.cga_expr.proofs.Operands.{goes_on, has_no_operand, is_refused}
 use Rattle.cga_expr.proofs.Layers.{added_layer, scaled_layer}
 use Rattle.cga_expr.proofs.expr.+value.Goals as goal
 
