@@ -1,8 +1,10 @@
 pub mod Lists
 pub mod Working
+pub mod Turning
 pub mod Begin
 pub mod Exact
 pub mod Record
+pub mod Made
 pub mod Budget
 pub mod OverBudget
 pub mod Update
@@ -10,5 +12,6 @@ pub mod Prefixes
 pub mod Loop
 pub mod Late
 pub mod Own
+pub mod ExampleNodes
 pub mod Example
 pub mod OneLot

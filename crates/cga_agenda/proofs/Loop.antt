@@ -8,7 +8,7 @@ use Rattle.cga_agenda.specs.Record.{IsRecord}
 use Rattle.cga_agenda.specs.Known.{made_by, next_known}
 use Rattle.cga_agenda.specs.Loop.{State, children_of, calls_of, Turns, IsIdle, IsReady, Knows, IsOver, IsDone}
 use Rattle.cga_agenda.proofs.Lists.{length-once, roots_once}
-use Rattle.cga_agenda.proofs.Working as work
+use Rattle.cga_agenda.proofs.Turning as work
 use Rattle.cga_agenda.proofs.Begin as begin
 use Rattle.cga_agenda.proofs.Record as record_of
 use Rattle.cga_agenda.proofs.Budget as budgets

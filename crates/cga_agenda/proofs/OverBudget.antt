@@ -23,7 +23,8 @@ use Rattle.cga_agenda.specs.Edit.{Edit, IsEdit, new_world}
 use Rattle.cga_agenda.specs.Work.{Once, IsWorking, IsStart}
 use Rattle.cga_agenda.specs.Known.{shapes_of, IsOverBudget, IsKnown}
 use Rattle.cga_agenda.proofs.Lists.{length-once, Has-Among, Among-Has}
-use Rattle.cga_agenda.proofs.Budget.{length-map, once-reached, known_derived, turned_derived, all_derived}
+use Rattle.cga_agenda.proofs.Made.{length-map, once-reached}
+use Rattle.cga_agenda.proofs.Budget.{known_derived, turned_derived, all_derived}
 
 module _ {N A F P : Type 0} (world : World N A F P) (laws : IsWorld world) where
   abbrev Members : Type 0

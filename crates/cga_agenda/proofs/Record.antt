@@ -16,7 +16,8 @@ use Rattle.cga_agenda.specs.Work.{next_worked, IsBegun, Places, IsTurnOf, IsWork
 use Rattle.cga_agenda.specs.Record.{Drawn, Draws, IsChange, IsMade, IsRecord}
 use Rattle.cga_agenda.specs.Exact.{IsExact, IsExactRecord}
 use Rattle.cga_agenda.proofs.Lists.{Among-append, Once-append, Has-map, map-Has}
-use Rattle.cga_agenda.proofs.Working.{NonInstance-Keeps, kept_new, one_kind, turned_before, remains_early, alone, where_from, as_it_was, s_settled, kept_back, placed, is_turn, still_worked}
+use Rattle.cga_agenda.proofs.Working.{NonInstance-Keeps, kept_new, one_kind, placed}
+use Rattle.cga_agenda.proofs.Turning.{turned_before, remains_early, alone, where_from, as_it_was, s_settled, kept_back, is_turn, still_worked}
 use Rattle.cga_agenda.proofs.Exact.{exact}
 
 told_true : {N : Type 0} (s : N) (worked : List N) (expanded : Bool) → expanded ≡ true → next_worked s expanded worked ≡ s ∷ worked

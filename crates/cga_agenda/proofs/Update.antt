@@ -20,7 +20,7 @@ use Rattle.cga_agenda.specs.Exact.{IsExact, IsExactRecord}
 use Rattle.cga_agenda.proofs.Lists.{length-once, count-once, Has-Among}
 use Rattle.cga_agenda.proofs.Exact.{exact}
 use Rattle.cga_agenda.proofs.Record.{record_exact}
-use Rattle.cga_agenda.proofs.Budget.{once-reached}
+use Rattle.cga_agenda.proofs.Made.{once-reached}
 
 -- over the two derivations: the shapes that were expanded are those touched, so many as there are; and
 -- the record of change

@@ -18,7 +18,8 @@ use Rattle.cga_rework.proofs.Lists.{Among-map, map-Among, Once-map, count-map, d
 use Rattle.cga_order.proofs.Places.{slice_get-map}
 use Rattle.cga_agenda.proofs.Lists.{length-once, Once-index}
 use Rattle.cga_agenda.proofs.Working.{path_not_empty}
-use Rattle.cga_agenda.proofs.Budget.{length-map, known_derived, turned_derived, all_derived}
+use Rattle.cga_agenda.proofs.Made.{length-map}
+use Rattle.cga_agenda.proofs.Budget.{known_derived, turned_derived, all_derived}
 use Rattle.cga_agenda.proofs.Update.{update}
 use Rattle.cga_derivation.specs.Derivation.{IsDerivation, reached, derive, NothingWaits, IsDerived}
 use Rattle.cga_rework.specs.Rules.{Shapes, Rules, IsRulesEdit, derivation_of}

@@ -1,4 +1,4 @@
-use Rattle.cga_agenda.proofs.Working.{next}
+use Rattle.cga_agenda.proofs.Turning.{next}
 use Rattle.cga_agenda.proofs.laws.turns_keep_working.Goals as goal
 
 pub returns : goal.returns
