@@ -5,7 +5,7 @@ ghost use Rattle.cga_fraction.specs.Order.{rat_lt};
 ghost use Rattle.cga_fraction.specs.Arithmetic.{plus, minus};
 ghost use Rattle.cga_frame.specs.Points.{coordinate};
 ghost use Rattle.cga_frame.specs.Scope.{part_of};
-ghost use Rattle.cga_split.specs.Chains.{within};
+ghost use Rattle.cga_split.specs.Faults.{within};
 ghost use Rattle.cga_split.specs.Cuts.{IsCut};
 ghost use Rattle.cga_split.specs.Subdiv.{number_of, AllFractions, is_positive, is_relative, is_off, absolute_total, relative_total, checked_length, parts_from, subdiv_cuts};
 ghost use Rattle.cga_split.specs.Split.{part_at, subdiv_of};
@@ -13,7 +13,7 @@ ghost use Rattle.cga_fraction.specs.Stops.{Makes};
 
 use crate::part_size::PartSize;
 use crate::split_fault::SplitFault;
-use cga_fraction::{Fraction, List, NoMemory, Stop};
+use cga_fraction::{Fraction, List, NoMemory, Stop, settled};
 use cga_frame::Scope;
 use cga_word::Axis;
 use std::alloc::Global;
@@ -215,9 +215,5 @@ pub fn subdiv(
         (IsCut (part_of scope.now axis) (subdiv_cuts (coordinate scope.now.size axis) sizes.now)
         (coordinate scope.now.size axis))) }
 {
-    match divide(alloc, scope, axis, sizes) {
-        Ok(parts) => Ok(Ok(parts)),
-        Err(Stop::Fault(fault)) => Ok(Err(fault)),
-        Err(Stop::NoMemory) => Err(NoMemory),
-    }
+    settled(divide(alloc, scope, axis, sizes))
 }
