@@ -7,7 +7,6 @@ ghost use Rattle.cga_syntax.specs.Printing.{printed, text_of, HaveTexts};
 pub(crate) mod back;
 pub(crate) mod cond;
 pub(crate) mod expr;
-pub(crate) mod gap;
 pub(crate) mod grammar;
 pub(crate) mod item;
 pub(crate) mod least;
@@ -15,17 +14,18 @@ pub(crate) mod list;
 pub(crate) mod mark;
 pub(crate) mod parts;
 pub(crate) mod rule;
+pub(crate) mod space;
 pub(crate) mod text;
 pub(crate) mod token;
 pub(crate) mod words;
 
-use cga_rule::Grammar;
 pub use crate::print::back::{lexes_back, spells_back};
 use crate::print::grammar::{push_attributes, push_sections};
 use crate::print::rule::push_rule;
+pub use crate::print::space::Space;
 use crate::print::text::push_marks;
 use cga_fraction::{List, NoMemory, Text};
-use cga_rule::Rule;
+use cga_rule::{Grammar, Rule};
 use std::alloc::Global;
 
 /// The text of a rule, without the end of its line. Every rule that some line spells may be
