@@ -5,7 +5,9 @@ use Rattle.cga_syntax.specs.declared.lexeme.Lexeme.{Lexeme}
 use Rattle.cga_syntax.specs.declared.lexeme.Lexeme.TheVariants as lexeme
 use Rattle.cga_syntax.specs.declared.keyword.Keyword.TheVariants as k
 use Rattle.cga_syntax.specs.Lexemes.{is_reserved}
-use Rattle.cga_syntax.specs.Pieces.{Space, usual, token, drawn, never, plain, number, whole, named, word, Pieces, concat, Writes}
+use Rattle.cga_syntax.specs.declared.print.space.Space.{Space}
+use Rattle.cga_syntax.specs.declared.print.space.Space.TheVariants.{Usual}
+use Rattle.cga_syntax.specs.Pieces.{token, drawn, never, plain, number, whole, named, word, Pieces, concat, Writes}
 use Rattle.cga_form.specs.Tokens.{a_whole, when}
 use Rattle.cga_form.specs.Reader.{Input, Outcome, Reader, at, and_then, ◌>>=◌, pure, taking, single, entering, enter, drawing, drawn_word, peeked, begins, many_from, many_after, many}
 use Rattle.std.proofs.lemmas.Bool.Decides.{nat_tests}
@@ -139,8 +141,8 @@ named_leads s name qs p b false h c x d r w q = (h refl).leads c x d r w q
 pub by_name : {B : Type 0} {s : Lexeme → Bool} {qs : Pieces} {p : Reader B} {b : B} (name : List ℕ) → (is_reserved name ≡ false → Leads s (word name ∷ qs) p b) → Leads s (named name ∷ qs) p b
 by_name {s = s} {qs = qs} {p = p} {b = b} name h = record { leads = λ c x d r w q. named_leads s name qs p b (is_reserved name) h c x d r w q }
 
-whole_by : {B : Type 0} (s : Lexeme → Bool) (l : Lexeme) (qs : Pieces) (p : Reader B) (b : B) (t : Bool) → (t ≡ true → Leads s (token usual l ∷ qs) p b) → (c : ℕ) (x : List Lexeme) (d : ℕ) (r : List Lexeme) →
-    Writes c ((if t then token usual l else never) ∷ qs) x d → begins s r ≡ false → Agrees (p (at (x ++ r) c)) b (at r d)
+whole_by : {B : Type 0} (s : Lexeme → Bool) (l : Lexeme) (qs : Pieces) (p : Reader B) (b : B) (t : Bool) → (t ≡ true → Leads s (token Usual l ∷ qs) p b) → (c : ℕ) (x : List Lexeme) (d : ℕ) (r : List Lexeme) →
+    Writes c ((if t then token Usual l else never) ∷ qs) x d → begins s r ≡ false → Agrees (p (at (x ++ r) c)) b (at r d)
 whole_by s l qs p b true h c x d r w q = (h refl).leads c x d r w q
 whole_by s l qs p b false h c x d r w q = absurd (never_written c qs x d w)
 

@@ -1,17 +1,21 @@
 -- A line that is a member of a form.
-use Rattle.std.proofs.Common.{◌≡◌, ℕ, List, [], ◌∷◌, Bool, true, false, Ok, Err, refl, ap, sym, subst}
+use Rattle.std.proofs.Common.{◌≡◌, ℕ, List, [], ◌∷◌, Bool, true, false, Result, Ok, Err, IfOk, refl, ap, sym, subst}
+use Rattle.cga_fraction.specs.Stops.{settled_of}
+use Rattle.cga_fraction.specs.declared.stop.Stop.{Stop}
+use Rattle.cga_fraction.specs.declared.stop.Stop.TheVariants as stop
 use Rattle.cga_form.specs.declared.fault.Fault.{Fault}
 use Rattle.cga_syntax.specs.declared.lexeme.Lexeme.{Lexeme}
 use Rattle.cga_syntax.specs.Pieces.{Pieces}
 use Rattle.cga_syntax.specs.Spelling.{Spelled}
-use Rattle.cga_form.specs.Answers.{Answers}
+use Rattle.cga_form.specs.Tells.{Tells}
+use Rattle.cga_form.specs.Cursor as cursor
 use Rattle.cga_form.specs.Reader.{Input, Outcome, Reader, at, and_then, ◌>>=◌, ◌>>◌, pure}
 use Rattle.cga_form.specs.Parts.{any, finish}
 use Rattle.cga_form.proofs.Forms.{Reads, next, done, either, refusing}
 use Rattle.cga_form.specs.Laws.{IsForm}
 use Rattle.cga_form.proofs.Written.{nothing, nil_right}
 use Rattle.cga_form.proofs.Again.{Again, ends, after, plainly, misses_end, peek_no}
-use Rattle.cga_form.proofs.Whole.{Judges, judged, unique}
+use Rattle.cga_form.proofs.Complete.{Judges, judged, unique}
 
 abbrev nowhere : Unit {0} → Pieces
 nowhere _ = []
@@ -51,25 +55,31 @@ ends_by (Err f) a o h = absurd (cc)
 
 module _ {A : Type 0} (w : A → Pieces) (p : ℕ → Reader A) (form : IsForm w p) where
   -- a line that is a member of the form
-  abbrev pub whole : ℕ → Reader A
-  whole n = p n >>= λ a. finish >> pure a
+  abbrev pub complete : ℕ → Reader A
+  complete n = p n >>= λ a. finish >> pure a
 
-  whole_ends : (n : ℕ) (text : List Lexeme) (a : A) (o : Input) → whole n (at text 0) ≡ Ok (a, o) → o.left ≡ []
-  whole_ends n text a o h = ends_by (p n (at text 0)) a o h
+  complete_ends : (n : ℕ) (text : List Lexeme) (a : A) (o : Input) → complete n (at text 0) ≡ Ok (a, o) → o.left ≡ []
+  complete_ends n text a o h = ends_by (p n (at text 0)) a o h
 
-  whole_judged : (n : ℕ) (text : List Lexeme) → Judges w n text (whole n (at text 0))
-  whole_judged n = judged w any n (whole n) (line_reads n (form.exact n)) (line_again (form.again n)) (whole_ends n)
+  complete_judged : (n : ℕ) (text : List Lexeme) → Judges w n text (complete n (at text 0))
+  complete_judged n = judged w any n (complete n) (line_reads n (form.exact n)) (line_again (form.again n)) (complete_ends n)
 
-  judged_as : (n : ℕ) (text : List Lexeme) (o : Outcome A) → whole n (at text 0) ≡ o → Judges w n text o
-  judged_as n text o e = subst (λ q. Judges w n text q) e (whole_judged n text)
+  judged_as : (n : ℕ) (text : List Lexeme) (o : Outcome A) → complete n (at text 0) ≡ o → Judges w n text o
+  judged_as n text o e = subst (λ q. Judges w n text q) e (complete_judged n text)
 
   -- no tokens spell two members
   pub form_unique : (text : List Lexeme) (a b : A) → Spelled w text a → Spelled w text b → a ≡ b
-  form_unique = unique w any whole (λ n. line_reads n (form.exact n)) (λ n. line_again (form.again n)) whole_ends refl
+  form_unique = unique w any complete (λ n. line_reads n (form.exact n)) (λ n. line_again (form.again n)) complete_ends refl
 
   -- what is read is what the line spells, and a refusal is the right one
-  pub form_found : (n : ℕ) (text : List Lexeme) (a : A) (o : Input) → whole n (at text 0) ≡ Ok (a, o) → Answers w n text (Ok a)
+  pub form_found : (n : ℕ) (text : List Lexeme) (a : A) (o : Input) → complete n (at text 0) ≡ Ok (a, o) → Tells w n text (Ok a)
   form_found n text a o e = judged_as n text (Ok (a, o)) e
 
-  pub form_refused : (n : ℕ) (text : List Lexeme) (f : Fault) → whole n (at text 0) ≡ Err f → Answers w n text (Err f)
+  pub form_refused : (n : ℕ) (text : List Lexeme) (f : Fault) → complete n (at text 0) ≡ Err f → Tells w n text (Err f)
   form_refused n text f e = judged_as n text (Err f) e
+
+  -- what was made of the line, settled, is what its tokens tell
+  pub form_settled : (n : ℕ) (text : List Lexeme) (new : Input) (made : Result A (Stop Fault)) → cursor.Reads (complete n (at text 0)) made new → IfOk (settled_of made) (λ found. Tells w n text found)
+  form_settled n text new (Ok a) e = form_found n text a new e
+  form_settled n text new (Err (stop.Fault f)) e = form_refused n text f e
+  form_settled n text new (Err stop.NoMemory) e = tt

@@ -20,7 +20,7 @@ fn is_next(next: Option<Lexeme>, wanted: Lexeme) -> bool
 }
 
 impl<'a> Tokens<'a> {
-    ghost use Rattle.cga_form.specs.Code.{input_of, Finds, IsProper, seen};
+    ghost use Rattle.cga_form.specs.Cursor.{input_of, Finds, IsProper, seen};
     ghost use Rattle.cga_form.specs.Reader.{at, first, skipped, begins, taking, single, enter, drawn_word};
     ghost use Rattle.cga_form.specs.Tokens as spec;
     ghost use Rattle.cga_form.specs.Parts.{a_word};
@@ -47,7 +47,7 @@ impl<'a> Tokens<'a> {
         }
     }
 
-    /// Goes on behind the next token, where there is one.
+    /// Goes on after the next token, where there is one.
     pub fn skip(&mut self)
         ensures { input_of self.new ≡ skipped (input_of self.old) }
     {

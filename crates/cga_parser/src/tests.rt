@@ -1,5 +1,4 @@
-use crate::parse_rule;
-use cga_form::LineFault;
+use crate::{LineFault, parse_rule};
 use std::test::Fail;
 
 #[test]

@@ -1,15 +1,14 @@
 ghost use Rattle.std.specs.Prelude.{◌≡◌, ◌↔◌, List, ℕ, ◌<◌, ◌≤◌, ◌-◌, ◌+◌, ◌++◌, ◌∷◌, [], length, take, slice_index, IfOk, IsTrue, IsFalse, MatchOption, nat_lt, vec_len, vec_capacity};
-ghost use Rattle.cga_script.specs.Lines.{IsOneLine, without_cr, clipped, line_limit};
+ghost use Rattle.cga_form.specs.Limits.{line_limit};
+ghost use Rattle.cga_script.specs.Lines.{IsOneLine, without_cr, clipped};
 ghost use Rattle.cga_script.specs.Pending.{Pending, kept_of, kept_limit, ready_line, IsPart, CutsLine};
 
 use crate::ending::Ending;
 use crate::fed::Fed;
+use cga_form::limits::LINE_LIMIT;
 use cga_fraction::NoMemory;
 use std::alloc::Global;
 use std::marker::Model;
-
-// The most bytes of a line that are given.
-const LINE_LIMIT: usize = 4096;
 
 // The most bytes of a line that are kept: one more than a line of that length with its CR has, enough to tell
 // whether it is long.

@@ -8,6 +8,7 @@
 
 mod keyword;
 mod lexeme;
+pub mod limits;
 mod print;
 #[cfg(test)]
 mod tests;
@@ -18,4 +19,4 @@ pub use cga_rule::{
 };
 pub use keyword::Keyword;
 pub use lexeme::Lexeme;
-pub use print::{lexes_back, print_grammar, print_rule, spells_back};
+pub use print::{Space, lexes_back, print_grammar, print_rule, spells_back};

@@ -5,8 +5,8 @@ ghost use Rattle.cga_syntax.specs.Printing as spec;
 
 use crate::keyword::Keyword;
 use crate::lexeme::Lexeme;
-use crate::print::gap::Gap;
 use crate::print::mark::Mark;
+use crate::print::space::Space;
 use cga_fraction::{NoMemory, Text};
 use cga_lexer::Sign;
 
@@ -88,7 +88,7 @@ fn is_word(lexeme: Lexeme) -> bool
 fn is_prefix(mark: Mark) -> bool
     ensures { result ≡ spec.is_prefix mark }
 {
-    matches!(mark.lexeme, Lexeme::Sign(Sign::Minus)) && mark.gap == Gap::NoneAfter
+    matches!(mark.lexeme, Lexeme::Sign(Sign::Minus)) && mark.space == Space::NoneAfter
 }
 
 fn begins_primary(lexeme: Lexeme) -> bool
@@ -100,11 +100,11 @@ fn begins_primary(lexeme: Lexeme) -> bool
     )
 }
 
-/// The colon behind the id.
+/// The colon after the id.
 fn is_label(mark: Mark) -> bool
     ensures { result ≡ spec.is_label mark }
 {
-    matches!(mark.lexeme, Lexeme::Sign(Sign::Colon)) && mark.gap == Gap::NoneBefore
+    matches!(mark.lexeme, Lexeme::Sign(Sign::Colon)) && mark.space == Space::NoneBefore
 }
 
 fn keyword_bytes(keyword: Keyword) -> &'static [u8]
