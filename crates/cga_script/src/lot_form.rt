@@ -1,11 +1,11 @@
 ghost use Rattle.cga_form.specs.Cursor.{input_of, Finds};
 ghost use Rattle.cga_script.specs.Lots as spec;
 
+use cga_form::Form;
 use cga_form::fault::Fault;
 use cga_form::parts::{name, seed};
 use cga_form::tokens::Tokens;
 use cga_form::value::value;
-use cga_form::Form;
 use cga_fraction::Stop;
 use cga_shape::Lot;
 use std::alloc::Global;
