@@ -1,5 +1,5 @@
 -- What the lines of a block tell.
-use Rattle.std.specs.Prelude.{◌≡◌, ℕ, suc, ◌+◌, ◌||◌, Bool, true, false, nat_lt, min, List, [], ◌∷◌, ◌++◌, length, Option, Some, None, Result, Ok, Err}
+use Rattle.std.specs.Prelude.{◌≡◌, ℕ, suc, ◌+◌, Bool, true, false, min, List, [], ◌∷◌, ◌++◌, length, Option, Some, None, Result, Ok, Err}
 use Rattle.cga_lexer.specs.Line.{tokens_of}
 use Rattle.cga_lexer.specs.declared.token.Token.{Token}
 use Rattle.cga_lexer.specs.declared.fault.LexFault.{LexFault}

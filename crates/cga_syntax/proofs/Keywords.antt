@@ -1,10 +1,7 @@
 -- Which reserved words have so many bytes.
-use Rattle.std.proofs.Common.{◌≡◌, ◌≢◌, ℕ, ◌<◌, List, [], ◌∷◌, length, Bool, true, false, nat_eq, refl, arith, Some, None}
-use Rattle.std.specs.Prelude.{Option, if◌then◌else◌, codes, ◌&&◌}
-use lib.Pointwise.{pointwise}
+use Rattle.std.proofs.Common.{◌≡◌, ◌≢◌, ℕ, List, [], ◌∷◌, length, Bool, true, false, nat_eq, refl, arith, None}
+use Rattle.std.specs.Prelude.{codes, ◌&&◌}
 use Rattle.cga_syntax.specs.Lexemes.{is, keyword_of, one_byte_keyword, two_byte_keyword, three_byte_keyword, four_byte_keyword, five_byte_keyword, six_byte_keyword}
-use Rattle.cga_syntax.specs.declared.keyword.Keyword.{Keyword}
-use Rattle.cga_syntax.specs.declared.keyword.Keyword.TheVariants as keyword
 
 both_false : (b : Bool) → (b && false) ≡ false
 both_false true = refl
