@@ -1,0 +1,5 @@
+pub mod Faults
+pub mod Collect
+pub mod Scopes
+pub mod Walk
+pub mod Rules

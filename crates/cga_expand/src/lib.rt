@@ -1,0 +1,11 @@
+//! One expansion: what a shape becomes by the rules of its symbol, or the first fault in reading
+//! order. So far its definition stands here alone, and no call meets it yet.
+//!
+//! It must not know other shapes: what they are to a shape is in its answers. Callers get the order
+//! wrong: a fault comes where it stands in the text, and nothing is emitted then.
+#![tactic(auto)]
+
+pub mod limits;
+mod state;
+
+pub use state::State;
