@@ -5,7 +5,9 @@
 //! wrong: a fault comes where it stands in the text, and nothing is emitted then.
 #![tactic(auto)]
 
+mod faults;
 pub mod limits;
+mod scopes;
 mod state;
 
 pub use state::State;
