@@ -2,4 +2,5 @@ pub mod Faults
 pub mod Collect
 pub mod Scopes
 pub mod Walk
+pub mod Stops
 pub mod Rules

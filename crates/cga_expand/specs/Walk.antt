@@ -29,13 +29,13 @@ Walk = Known → State → Result State ShapeFault
 abbrev pub with_scope : Scope → State → State
 with_scope scope s = record s { scope = scope }
 
--- the next child has the next index, and the seed of that index
-abbrev pub next_seed : Known → State → ℕ
-next_seed k s = child_seed_of k.seed (length s.children)
+-- the index of the next child, up to the limit
+abbrev pub next_index : State → Result ℕ ShapeFault
+next_index s = if nat_le MOST_CHILDREN (length s.children) then Err TooManyChildren else Ok (length s.children)
 
--- one more child, up to the limit
-abbrev pub emit : Emitted → State → Result State ShapeFault
-emit e s = if nat_le MOST_CHILDREN (length s.children) then Err TooManyChildren else Ok (record s { children = s.children ++ e ∷ [] })
+-- one more child, made with the seed of its index
+abbrev pub emit : (ℕ → Emitted) → Walk
+emit made k s = then_ (next_index s) (λ i. Ok (record s { children = s.children ++ made (child_seed_of k.seed i) ∷ [] }))
 
 -- so many more parts, up to the limit
 abbrev pub count_parts : ℕ → State → Result State ShapeFault
@@ -43,11 +43,11 @@ count_parts n s = if nat_lt MOST_PARTS (s.parts + n) then Err TooManyParts else 
 
 -- I: the solid can be drawn into the scope, then it is emitted
 abbrev pub drawn : Primitive → Walk
-drawn p k s = then_ (faulted of_solid (check_solid_of p s.scope)) (λ u. emit (emitted.Solid p s.scope (next_seed k s)) s)
+drawn p k s = then_ (faulted of_solid (check_solid_of p s.scope)) (λ u. emit (emitted.Solid p s.scope) k s)
 
 -- a symbol: its arguments in order, then the child
 abbrev pub grown : List ℕ → List Expr → Walk
-grown symbol args k s = then_ (collected (value_in k s.scope) args) (λ xs. emit (emitted.Child symbol xs s.scope (next_seed k s)) s)
+grown symbol args k s = then_ (collected (value_in k s.scope) args) (λ xs. emit (emitted.Child symbol xs s.scope) k s)
 
 -- another scope
 abbrev pub rescoped : Result Scope ShapeFault → State → Result State ShapeFault
