@@ -8,7 +8,9 @@
 mod emit;
 mod faults;
 pub mod limits;
+mod parts;
 mod scopes;
 mod state;
+mod walk;
 
 pub use state::State;

@@ -75,7 +75,7 @@ pub(crate) fn turned(axis: Axis, by: Turn, scope: &Scope) -> Result<Scope, Shape
     or_overflow(scope.turn(axis, by))
 }
 
-fn part_in(size: &Size, names: &Names, scope: &Scope) -> Result<PartSize, ShapeFault>
+pub(crate) fn part_in(size: &Size, names: &Names, scope: &Scope) -> Result<PartSize, ShapeFault>
     ensures { result ≡ part_in (seen names.now) scope.now size.now }
 {
     match size {
