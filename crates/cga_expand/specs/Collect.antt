@@ -1,5 +1,5 @@
 -- The results of a list in order, up to the first fault.
-use Rattle.std.specs.Prelude.{List, [], ◌∷◌, Result, Ok, Err}
+use Rattle.std.specs.Prelude.{List, [], ◌∷◌, Result, Ok}
 use Rattle.cga_fraction.specs.Chains.{then_}
 
 abbrev pub collected : {A B F : Type 0} → (A → Result B F) → List A → Result (List B) F

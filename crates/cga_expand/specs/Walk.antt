@@ -1,6 +1,5 @@
 -- The items of a successor, from left to right: what each does to a state, or its first fault.
-use Rattle.std.specs.Prelude.{ℕ, ◌+◌, List, [], ◌∷◌, ◌++◌, length, map, Result, Ok, Err, nat_lt, nat_le, if◌then◌else◌}
-use Rattle.cga_fraction.specs.Rat.{Rat}
+use Rattle.std.specs.Prelude.{ℕ, ◌+◌, List, [], ◌∷◌, ◌++◌, length, Result, Ok, Err, nat_lt, nat_le, if◌then◌else◌}
 use Rattle.cga_fraction.specs.Chains.{then_}
 use Rattle.cga_word.specs.Seed.{child_seed_of}
 use Rattle.cga_word.specs.declared.primitive.Primitive.{Primitive}

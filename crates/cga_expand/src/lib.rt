@@ -1,5 +1,5 @@
 //! One expansion: what a shape becomes by the rules of its symbol, or the first fault in reading
-//! order. So far its definition stands here alone, and no call meets it yet.
+//! order.
 //!
 //! It must not know other shapes: what they are to a shape is in its answers. Callers get the order
 //! wrong: a fault comes where it stands in the text, and nothing is emitted then.
@@ -9,8 +9,10 @@ mod emit;
 mod faults;
 pub mod limits;
 mod parts;
+mod rules;
 mod scopes;
 mod state;
 mod walk;
 
+pub use rules::expansion;
 pub use state::State;
