@@ -202,14 +202,14 @@ fn divide(
 }
 
 /// The parts of a scope along one of its axes, in order, by their sizes: an absolute size has its own length, and
-/// the relative ones share what those leave by their factors (Subdiv of the SIGGRAPH paper). Takes memory.
+/// the relative ones share what those leave by their factors (Subdiv of the SIGGRAPH paper). No sizes at all are too
+/// little. Takes memory.
 pub fn subdiv(
     alloc: Global,
     scope: &Scope,
     axis: Axis,
     sizes: &[PartSize],
 ) -> Result<Result<List<Scope>, SplitFault>, NoMemory>
-    requires { 0 < length sizes.now }
     ensures value { IfOk result (λ made. made ≡ subdiv_of scope.now axis sizes.now) }
     ensures cut { IfOk result (λ made. IfOk made
         (IsCut (part_of scope.now axis) (subdiv_cuts (coordinate scope.now.size axis) sizes.now)
