@@ -3,7 +3,7 @@ use Rattle.std.proofs.Common.{◌≡◌, ℕ, zero, suc, ◌+◌, ◌≤◌, Lis
 use Rattle.cga_form.specs.declared.fault.Fault.TheVariants.{Unexpected, TooNested}
 use Rattle.cga_syntax.specs.declared.lexeme.Lexeme.{Lexeme}
 use Rattle.cga_syntax.specs.Pieces.{Pieces, Writes}
-use Rattle.cga_form.specs.Reader.{Input, Outcome, Reader, at, begins, first}
+use Rattle.cga_form.specs.Reader.{Input, ReadResult, Reader, at, begins, first}
 use Rattle.cga_syntax.specs.Spelling.{Spelled, Stops}
 use Rattle.cga_form.specs.Tells.{Tells}
 use Rattle.cga_syntax.specs.Brackets.{walk, counted, walk_on, bracket_of, Bracket, opens, closes, other}
@@ -12,15 +12,15 @@ use Rattle.cga_form.proofs.Forms.{After, Reads}
 use Rattle.cga_form.proofs.Again.{Again, Agrees}
 
 -- what a reader gives, whatever it leaves
-abbrev pub Judges : {A : Type 0} → (A → Pieces) → ℕ → List Lexeme → Outcome A → Type 0
+abbrev pub Judges : {A : Type 0} → (A → Pieces) → ℕ → List Lexeme → ReadResult A → Type 0
 Judges w n text (Ok q) = Tells w n text (Ok q.0)
 Judges w n text (Err f) = Tells w n text (Err f)
 
 spelled_of : {A : Type 0} (w : A → Pieces) (x : List Lexeme) (a : A) (d : ℕ) → After [] w 0 x a d → Spelled w x a
 spelled_of w x a d h = (d, subst (λ qs. Writes 0 qs x d) (sym h.1) h.2)
 
-agreed : {A : Type 0} (o : Outcome A) (a : A) (i : Input) (l : ℕ) → o ≡ Err (Unexpected l) → Agrees o a i → ⊥
-agreed o a i l e h = let P : Outcome _ → Type 0 = λ q. Agrees q a i in subst P e h
+agreed : {A : Type 0} (o : ReadResult A) (a : A) (i : Input) (l : ℕ) → o ≡ Err (Unexpected l) → Agrees o a i → ⊥
+agreed o a i l e h = let P : ReadResult _ → Type 0 = λ q. Agrees q a i in subst P e h
 
 module _ {A : Type 0} (w : A → Pieces) (s : Lexeme → Bool) (n : ℕ) (p : Reader A) (reads : Reads n n w p) (again : Again w s p)
     (ends : (text : List Lexeme) (a : A) (o : Input) → p (at text 0) ≡ Ok (a, o) → o.left ≡ []) where
@@ -79,7 +79,7 @@ walk_length n m (j ∷ x) e = omega (arith, stepped (bracket_of j) n m x e (λ i
 -- no text is spelled by two values, where each number of brackets has its reader
 module _ {A : Type 0} (w : A → Pieces) (s : Lexeme → Bool) (p : ℕ → Reader A) (reads : (n : ℕ) → Reads n n w (p n)) (again : (n : ℕ) → Again w s (p n))
     (ends : (n : ℕ) (text : List Lexeme) (a : A) (o : Input) → p n (at text 0) ≡ Ok (a, o) → o.left ≡ []) (last : begins s [] ≡ false) where
-  same_value : (text : List Lexeme) (o : Outcome A) → Judges w (length text) text o → (a b : A) (d e : ℕ) → Agrees o a (at [] d) → Agrees o b (at [] e) → a ≡ b
+  same_value : (text : List Lexeme) (o : ReadResult A) → Judges w (length text) text o → (a b : A) (d e : ℕ) → Agrees o a (at [] d) → Agrees o b (at [] e) → a ≡ b
   same_value text (Ok q) h a b d e f g = sym f.0 ∙ g.0
   same_value text (Err (Unexpected l)) h a b d e f g = absurd f
   same_value text (Err (TooNested l)) h a b d e f g = absurd (omega (arith, walk_length (length text) 0 h.0 h.6, ap length h.3, length-append h.0 (h.1 ∷ h.2)))

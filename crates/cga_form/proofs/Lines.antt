@@ -9,7 +9,7 @@ use Rattle.cga_syntax.specs.Pieces.{Pieces}
 use Rattle.cga_syntax.specs.Spelling.{Spelled}
 use Rattle.cga_form.specs.Tells.{Tells}
 use Rattle.cga_form.specs.Cursor as cursor
-use Rattle.cga_form.specs.Reader.{Input, Outcome, Reader, at, and_then, ◌>>=◌, ◌>>◌, pure}
+use Rattle.cga_form.specs.Reader.{Input, ReadResult, Reader, at, and_then, ◌>>=◌, ◌>>◌, pure}
 use Rattle.cga_form.specs.Parts.{any, finish}
 use Rattle.cga_form.proofs.Forms.{Reads, next, done, either, refusing}
 use Rattle.cga_form.specs.Laws.{IsForm}
@@ -39,7 +39,7 @@ module _ {A : Type 0} {w : A → Pieces} {t : Lexeme → Bool} {p : Reader A} (a
   pub line_again : Again w any (p >>= λ a. finish >> pure a)
   line_again = record { all = λ a. plainly (after _ a again (misses_end impossible) (after {v = nowhere} _ tt finish_again (misses_end (λ l e. e)) ends)) }
 
-ok_left : {A : Type 0} {a b : A} {i o : Input} → ◌≡◌ {A = Outcome A} (Ok (a, i)) (Ok (b, o)) → o.left ≡ i.left
+ok_left : {A : Type 0} {a b : A} {i o : Input} → ◌≡◌ {A = ReadResult A} (Ok (a, i)) (Ok (b, o)) → o.left ≡ i.left
 ok_left {A} {a} {b} {i} {o} e = let q : ◌≡◌ {A = A × Input} (a, i) (b, o) = cc in ap (λ (z : A × Input). z.1.left) (sym q)
 
 finish_by : {A : Type 0} (r a : A) (ls : List Lexeme) (c : ℕ) (o : Input) → (finish >> pure r) (at ls c) ≡ Ok (a, o) → o.left ≡ []
@@ -47,7 +47,7 @@ unfolding finish
 finish_by r a [] c o h = ok_left h
 finish_by r a (l ∷ ls) c o h = absurd (cc)
 
-ends_by : {A : Type 0} (q : Outcome A) (a : A) (o : Input) → and_then q (λ r. finish >> pure r) ≡ Ok (a, o) → o.left ≡ []
+ends_by : {A : Type 0} (q : ReadResult A) (a : A) (o : Input) → and_then q (λ r. finish >> pure r) ≡ Ok (a, o) → o.left ≡ []
 ends_by (Ok q) a o h = finish_by q.0 a q.1.left q.1.count o h
 ends_by (Err f) a o h = absurd (cc)
 
@@ -64,7 +64,7 @@ module _ {A : Type 0} (w : A → Pieces) (p : ℕ → Reader A) (form : IsForm w
   complete_judged : (n : ℕ) (text : List Lexeme) → Judges w n text (complete n (at text 0))
   complete_judged n = judged w any n (complete n) (line_reads n (form.exact n)) (line_again (form.again n)) (complete_ends n)
 
-  judged_as : (n : ℕ) (text : List Lexeme) (o : Outcome A) → complete n (at text 0) ≡ o → Judges w n text o
+  judged_as : (n : ℕ) (text : List Lexeme) (o : ReadResult A) → complete n (at text 0) ≡ o → Judges w n text o
   judged_as n text o e = subst (λ q. Judges w n text q) e (complete_judged n text)
 
   -- no tokens spell two members

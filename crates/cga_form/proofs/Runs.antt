@@ -2,7 +2,7 @@
 use Rattle.std.proofs.Common.{◌≡◌, ℕ, zero, suc, ◌+◌, ◌-◌, Bool, true, false, List, [], ◌∷◌, ◌++◌, length, append_assoc, ◌≤◌, ◌<◌, length-append, refl, sym, ap, ◌∙◌, Option, Some, None, Ok, Err, if◌then◌else◌, cond, arith}
 use Rattle.cga_syntax.specs.declared.lexeme.Lexeme.{Lexeme}
 use Rattle.cga_form.specs.declared.fault.Fault.TheVariants.{Unexpected, TooNested}
-use Rattle.cga_form.specs.Reader.{Input, at, Outcome, Reader, and_then, ◌>>=◌, pure, refuse, first, decoded, taking, single, entering, enter, drawing, drawn_word, peeked, begins, many_from, many_after, many}
+use Rattle.cga_form.specs.Reader.{Input, at, ReadResult, Reader, and_then, ◌>>=◌, pure, refuse, first, decoded, taking, single, entering, enter, drawing, drawn_word, peeked, begins, many_from, many_after, many}
 pub use Rattle.cga_form.specs.Laws.{Language, Verdict, found, unexpected, nested, told, Means, Run, Exact, Some_text}
 use Rattle.cga_syntax.specs.Brackets.{walk, counted, walk_on, bracket_of, opens}
 
@@ -244,7 +244,7 @@ weaker_run n m h c text r = record { front = r.front; rest = r.rest; verdict = r
 renamed : {A : Type 0} {L : Language A} {p q : Reader A} (n m c : ℕ) (text : List Lexeme) → ((i : Input) → q i ≡ p i) → Run n m L p c text → Run n m L q c text
 renamed n m c text e r = record { front = r.front; rest = r.rest; verdict = r.verdict; split = r.split; same = λ b h. e (at (r.front ++ b) c) ∙ r.same b h; means = r.means }
 
-ok_input : {A : Type 0} {a b : A} {i o : Input} → ◌≡◌ {A = Outcome A} (Ok (a, i)) (Ok (b, o)) → i ≡ o
+ok_input : {A : Type 0} {a b : A} {i o : Input} → ◌≡◌ {A = ReadResult A} (Ok (a, i)) (Ok (b, o)) → i ≡ o
 ok_input {A} {a} {b} {i} {o} e = let q : ◌≡◌ {A = A × Input} (a, i) (b, o) = cc in ap (λ (z : A × Input). z.1) q
 
 module _ {A : Type 0} (L : Language A) (n : ℕ) (test : Lexeme → Bool) (p : Reader A) (p_runs : Exact n n L p) where
@@ -370,7 +370,7 @@ module _ {A : Type 0} (L : Language A) (n : ℕ) (test : Lexeme → Bool) (p : R
 
     enough_then : (j l : ℕ) (so_far : List A) (i : Input) → length i.left ≤ suc j → length i.left ≤ suc l →
         ((q : List A) (o : Input) → length o.left ≤ j → length o.left ≤ l → many_from test p j q o ≡ many_from test p l q o) →
-        (o : Outcome A) → p i ≡ o → and_then o (λ x. many_from test p j (so_far ++ x ∷ [])) ≡ and_then o (λ x. many_from test p l (so_far ++ x ∷ []))
+        (o : ReadResult A) → p i ≡ o → and_then o (λ x. many_from test p j (so_far ++ x ∷ [])) ≡ and_then o (λ x. many_from test p l (so_far ++ x ∷ []))
     enough_then j l so_far i a b h (Ok q) e = h (so_far ++ q.0 ∷ []) q.1 (omega (arith, shortens i q.0 q.1 e)) (omega (arith, shortens i q.0 q.1 e))
     enough_then j l so_far i a b h (Err f) e = refl
 
@@ -387,7 +387,7 @@ module _ {A : Type 0} (L : Language A) (n : ℕ) (test : Lexeme → Bool) (p : R
     unfolding many_from
     unroll_once j so_far i = refl
 
-    unroll_then : (so_far : List A) (i : Input) (o : Outcome A) → p i ≡ o → and_then o (λ x. many_from test p (length i.left) (so_far ++ x ∷ [])) ≡ and_then o (λ x. many_after test p (so_far ++ x ∷ []))
+    unroll_then : (so_far : List A) (i : Input) (o : ReadResult A) → p i ≡ o → and_then o (λ x. many_from test p (length i.left) (so_far ++ x ∷ [])) ≡ and_then o (λ x. many_after test p (so_far ++ x ∷ []))
     unroll_then so_far i (Ok q) e = enough (length i.left) (length q.1.left) (so_far ++ q.0 ∷ []) q.1 (omega (arith, shortens i q.0 q.1 e)) (omega arith)
     unroll_then so_far i (Err f) e = refl
 

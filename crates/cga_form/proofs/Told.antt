@@ -8,7 +8,7 @@ use Rattle.cga_syntax.proofs.Again.{walk_join}
 use Rattle.cga_form.specs.declared.fault.Fault.{Fault}
 use Rattle.cga_form.specs.declared.fault.Fault.TheVariants.{Unexpected, TooNested}
 use Rattle.cga_form.specs.Tells.{Tells}
-use Rattle.cga_form.specs.Reader.{Input, Outcome, Reader, at}
+use Rattle.cga_form.specs.Reader.{Input, ReadResult, Reader, at}
 use Rattle.cga_form.specs.Laws.{IsForm}
 use Rattle.cga_form.specs.Parts.{complete}
 use Rattle.cga_form.proofs.Lines.{form_unique, form_found, form_refused}
@@ -38,7 +38,7 @@ module _ {A : Type 0} (w : A → Pieces) where
   module _ (line : Reader A) (unique : (text : List Lexeme) (a b : A) → Spelled w text a → Spelled w text b → a ≡ b)
       (found : (text : List Lexeme) (a : A) (o : Input) → line (at text 0) ≡ Ok (a, o) → Tells w 32 text (Ok a))
       (refused : (text : List Lexeme) (f : Fault) → line (at text 0) ≡ Err f → Tells w 32 text (Err f)) where
-    told_as : (x : List Lexeme) (a : A) (m : ℕ) → Spelled w x a → walk 32 x ≡ Some m → (o : Outcome A) → line (at x 0) ≡ o → Tells w 32 x (Ok a)
+    told_as : (x : List Lexeme) (a : A) (m : ℕ) → Spelled w x a → walk 32 x ≡ Some m → (o : ReadResult A) → line (at x 0) ≡ o → Tells w 32 x (Ok a)
     told_as x a m s h (Ok q) e = let r = found x q.0 q.1 e in subst (λ z. Tells w 32 x (Ok z)) (unique x q.0 a r.0 s) r
     told_as x a m s h (Err f) e = absurd (not_refused x a m s h f (refused x f e))
 

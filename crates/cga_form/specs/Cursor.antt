@@ -8,7 +8,7 @@ use Rattle.cga_form.specs.declared.tokens.Tokens.{Tokens}
 use Rattle.cga_fraction.specs.declared.stop.Stop.{Stop}
 use Rattle.cga_fraction.specs.declared.stop.Stop.TheVariants as stop
 use Rattle.cga_form.specs.declared.fault.Fault.{Fault}
-use Rattle.cga_form.specs.Reader.{Input, at, Outcome}
+use Rattle.cga_form.specs.Reader.{Input, at, ReadResult}
 
 -- a token as the forms see it
 abbrev pub seen : Token → Lexeme
@@ -19,17 +19,17 @@ abbrev pub input_of : Tokens → Input
 input_of t = at (map seen t.rest.now) t.rands
 
 -- a stop is the reader's refusal, unless memory ran out
-abbrev pub Fails : {A : Type 0} → Stop Fault → Outcome A → Type 0
+abbrev pub Fails : {A : Type 0} → Stop Fault → ReadResult A → Type 0
 Fails stop.NoMemory o = Unit {0}
 Fails (stop.Fault f) o = o ≡ Err f
 
 -- unless memory runs out, a function that reads gives the reader's outcome
-abbrev pub Reads : {A : Type 0} → Outcome A → Result A (Stop Fault) → Input → Type 0
+abbrev pub Reads : {A : Type 0} → ReadResult A → Result A (Stop Fault) → Input → Type 0
 Reads o (Ok a) new = o ≡ Ok (a, new)
 Reads o (Err e) new = Fails e o
 
 -- a function that takes no memory gives the reader's outcome
-abbrev pub Finds : {A : Type 0} → Outcome A → Result A Fault → Input → Type 0
+abbrev pub Finds : {A : Type 0} → ReadResult A → Result A Fault → Input → Type 0
 Finds o (Ok a) new = o ≡ Ok (a, new)
 Finds o (Err f) new = o ≡ Err f
 

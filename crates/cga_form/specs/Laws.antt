@@ -4,7 +4,7 @@ use Rattle.cga_syntax.specs.declared.lexeme.Lexeme.{Lexeme}
 use Rattle.cga_syntax.specs.Pieces.{Pieces, Writes}
 use Rattle.cga_syntax.specs.Brackets.{walk, IsOpening}
 use Rattle.cga_form.specs.declared.fault.Fault.TheVariants.{Unexpected, TooNested}
-use Rattle.cga_form.specs.Reader.{Input, at, Outcome, Reader, first, begins}
+use Rattle.cga_form.specs.Reader.{Input, at, ReadResult, Reader, first, begins}
 
 -- what a reader may read: from a count on, a text as a value, up to a count
 abbrev pub Language : Type 0 → Type 1
@@ -17,7 +17,7 @@ pub data Verdict (A : Type 0) : Type 0 where
   nested : Verdict A
 
 -- the outcome of a verdict, where this is left
-abbrev pub told : {A : Type 0} → Verdict A → List Lexeme → Outcome A
+abbrev pub told : {A : Type 0} → Verdict A → List Lexeme → ReadResult A
 told (found a c) r = Ok (a, at r c)
 told unexpected r = Err (Unexpected (length r))
 told nested r = Err (TooNested (length r))
@@ -59,7 +59,7 @@ abbrev pub Reads : {A : Type 0} → ℕ → ℕ → (A → Pieces) → Reader A 
 Reads n m w p = Goes n m [] w p
 
 -- the outcome is this value and what is left, or that brackets nest too deep
-abbrev pub Agrees : {A : Type 0} → Outcome A → A → Input → Type 0
+abbrev pub Agrees : {A : Type 0} → ReadResult A → A → Input → Type 0
 Agrees (Ok q) a i = (q.0 ≡ a) × (q.1 ≡ i)
 Agrees (Err (Unexpected n)) a i = ⊥
 Agrees (Err (TooNested n)) a i = Unit {0}

@@ -14,15 +14,15 @@ abbrev pub at : List Lexeme → ℕ → Input
 at left count = record { left = left; count = count }
 
 -- what was read and what is left, or a fault
-abbrev pub Outcome : Type 0 → Type 0
-Outcome A = Result (A × Input) Fault
+abbrev pub ReadResult : Type 0 → Type 0
+ReadResult A = Result (A × Input) Fault
 
--- from what is left to an outcome
+-- from what is left to what was read
 abbrev pub Reader : Type 0 → Type 0
-Reader A = Input → Outcome A
+Reader A = Input → ReadResult A
 
 -- after what was read, the next reader
-abbrev pub and_then : {A B : Type 0} → Outcome A → (A → Reader B) → Outcome B
+abbrev pub and_then : {A B : Type 0} → ReadResult A → (A → Reader B) → ReadResult B
 and_then (Ok p) f = f p.0 p.1
 and_then (Err e) f = Err e
 

@@ -1,7 +1,7 @@
 -- What was read may be printed.
 use Rattle.std.proofs.Common.{◌≡◌, ℕ, ◌+◌, nat_lt, Bool, true, false, List, [], ◌∷◌, length, map, Option, Some, None, Result, Ok, Err, sym, subst}
 use Rattle.std.proofs.lemmas.List.Elements.{All-nil, All-cons}
-use Rattle.cga_lexer.specs.Line.{tokens_of, Outcome as Lexed}
+use Rattle.cga_lexer.specs.Line.{tokens_of, Lexed}
 use Rattle.cga_lexer.specs.declared.token.Token.{Token}
 use Rattle.cga_rule.specs.declared.grammar.Entry.{Entry}
 use Rattle.cga_rule.specs.declared.grammar.Grammar.{Grammar}

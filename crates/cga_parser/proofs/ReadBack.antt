@@ -1,7 +1,7 @@
 -- The text of a printed rule tells the rule.
 use Rattle.std.proofs.Common.{◌≡◌, ℕ, ◌+◌, ◌≤◌, nat_lt, false, List, length, map, Some, Ok, Err, arith, refl, sym, ◌∙◌, subst}
 use Rattle.std.proofs.lemmas.Bool.Decides.{nat_tests}
-use Rattle.cga_lexer.specs.Line.{tokens_of, Outcome as Lexed}
+use Rattle.cga_lexer.specs.Line.{tokens_of, Lexed}
 use Rattle.cga_syntax.specs.declared.lexeme.Lexeme.{Lexeme}
 use Rattle.cga_rule.specs.declared.rule.Rule.{Rule}
 use Rattle.cga_syntax.specs.Brackets.{walk}

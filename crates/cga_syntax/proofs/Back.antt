@@ -11,7 +11,7 @@ use Rattle.cga_fraction.specs.Texts.{literal_text_of}
 use Rattle.cga_fraction.proofs.Literals.{literal_is_shortest}
 use Rattle.cga_lexer.specs.Bytes.{begins}
 use Rattle.cga_lexer.specs.Front.{front}
-use Rattle.cga_lexer.specs.Line.{Outcome, lex, from_front, behind, tokens_of}
+use Rattle.cga_lexer.specs.Line.{Lexed, lex, from_front, behind, tokens_of}
 use Rattle.cga_lexer.specs.declared.sign.Sign.{Sign}
 use Rattle.cga_lexer.specs.declared.sign.Sign.TheVariants as s
 use Rattle.cga_lexer.specs.declared.token.Token.{Token}
@@ -226,7 +226,7 @@ some_bytes (b ∷ bs) rest place kind e h =
 taken : (bytes rest : List ℕ) (kind : TokenKind) → 0 < length bytes → Unit {0}
 taken bytes rest kind h = tt
 
-front_first : (t : Token) (o : Outcome) (l : Lexeme) (ls : List Lexeme) → lexeme_of t.kind ≡ l → AreRead o ls → AreRead (behind t o) (l ∷ ls)
+front_first : (t : Token) (o : Lexed) (l : Lexeme) (ls : List Lexeme) → lexeme_of t.kind ≡ l → AreRead o ls → AreRead (behind t o) (l ∷ ls)
 front_first t (Ok ts) l ls e h = ap (λ z. z ∷ seen_of ts) e ∙ ap (λ z. l ∷ z) h
 front_first t (Err f) l ls e h = absurd h
 
