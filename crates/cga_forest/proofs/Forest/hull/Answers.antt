@@ -1,0 +1,17 @@
+use Rattle.std.proofs.Common.{ap, ◌∙◌}
+use Rattle.std.specs.Prelude.{is_some}
+use Rattle.cga_forest.specs.View.{hulls_of, slot}
+use Rattle.cga_forest.specs.Tree.{ForestView, node_at}
+use Rattle.cga_forest.proofs.Right.{is_there, slot_there}
+use Rattle.cga_forest.proofs.Least.{least_all}
+use Rattle.cga_forest.proofs.Forest.hull.Goals as goal
+
+pub entry-requires : goal.entry-requires
+entry-requires c = record { here = slot_there (slot c.self.inside.store.slots c.args.id) (ap (λ (v : ForestView). is_some (node_at v c.args.id)) c.self.view_is ∙ c.requires.here) }
+
+pub returns : goal.returns
+returns c = rw (← c.self.view_is) (record {
+  least =
+      let e = is_there (node_at (record { slots = c.self.inside.store.slots; marking = c.self.inside.marking; roots = c.self.inside.roots.list; marked_roots = c.self.inside.roots.former }) c.args.id) (ap (λ (v : ForestView). is_some (node_at v c.args.id)) c.self.view_is ∙ c.requires.here) in
+      least_all (record { slots = c.self.inside.store.slots; marking = c.self.inside.marking; roots = c.self.inside.roots.list; marked_roots = c.self.inside.roots.former }) c.args.id e.0 c.entry.result.now.hulls c.self.invariant.present e.1 (ap hulls_of c.entry.ensures);
+})

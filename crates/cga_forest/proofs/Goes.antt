@@ -1,0 +1,348 @@
+-- The nodes that go with replaced children.
+use Rattle.std.proofs.Common.{◌≡◌, ◌≢◌, ℕ, zero, suc, ◌+◌, ◌-◌, ◌≤◌, ◌<◌, List, [], ◌∷◌, length, Bool, true, false, ◌||◌, ◌⊎◌, inl, inr, refl, ap, sym, ◌∙◌, arith}
+use Rattle.std.proofs.lemmas.Option.{slice_get_within}
+use Rattle.std.specs.Prelude.{Option, Some, None, not, slice_get, if◌then◌else◌}
+use Rattle.cga_forest.specs.declared.entry.Entry.{Entry}
+use Rattle.cga_forest.specs.declared.node.Node.{Node}
+use Rattle.cga_forest.specs.declared.node.State.{State}
+use Rattle.cga_forest.specs.Node.{with_state}
+use Rattle.cga_forest.specs.declared.hulls.Hulls.{Hulls}
+use Rattle.cga_forest.specs.Hull.{over, own_hulls}
+use Rattle.cga_forest.specs.View.{Seen, kids, flag_if, present_of, marked_of, hulls_of, marked_hulls_of, rewritten, IsNewEntry, seen, restored, former_hulls}
+use Rattle.cga_forest.specs.Tree.{IsTree, IsRight, AllRight, RightBut, under, goes, goes_at, stay_of, fits_at, IsPlaced, IsPlacedChild, IsReplaced, IsNewChild}
+use Rattle.cga_forest.proofs.Count.{bool_cases}
+use Rattle.cga_forest.proofs.Books.{nat_cases}
+use Rattle.cga_forest.proofs.Under.{stay_flag}
+use Rattle.cga_forest.proofs.Tree.{cut_some}
+use Rattle.cga_forest.proofs.Walk.{under_cases, under_none, under_into, under_onto, under_self}
+use Rattle.cga_forest.proofs.Right.{right_exact, present_some, kids_present, right_same, over_zero}
+use Rattle.cga_forest.proofs.Marks.{present_flag, marked_flag, hulls_flag, marked_hulls_flag}
+use Rattle.cga_forest.proofs.Replace.{old_or_new}
+
+at_find : (K : ℕ → List ℕ) (n : ℕ) (P : ℕ → Option Node → Bool) (o : Option ℕ) (w : Option Node) (c : ℕ) → goes_at K n P o w c ≡ true → (k : ℕ) × (o ≡ Some k) × (P k w ≡ false) × (under K n k c ≡ true)
+at_find K n P None w c h = absurd (cc)
+at_find K n P (Some k) w c h = elim (bool_cases (P k w)) [
+  | inl y ↦ (let z : false ≡ true = ap (λ b. if b then false else under K n k c) (sym y) ∙ h in absurd (cc))
+  | inr ne ↦ (k, refl, ne, ap (λ b. if b then false else under K n k c) (sym ne) ∙ h)
+]
+
+or_true : (b : Bool) → (b || true) ≡ true
+or_true true = refl
+or_true false = refl
+
+pub goes_find : (K : ℕ → List ℕ) (n : ℕ) (P : ℕ → Option Node → Bool) (olds : List ℕ) (news : List Node) (m c : ℕ) → goes K n P olds news m c ≡ true → (i : ℕ) × (k : ℕ) × (slice_get olds i ≡ Some k) × (P k (slice_get news i) ≡ false) × (under K n k c ≡ true)
+unfolding goes
+goes_find K n P olds news zero c h = absurd (cc)
+goes_find K n P olds news (suc m) c h = elim (bool_cases (goes K n P olds news m c)) [
+  | inl y ↦ goes_find K n P olds news m c y
+  | inr ne ↦ (let w = at_find K n P (slice_get olds m) (slice_get news m) c (sym (ap (λ b. b || goes_at K n P (slice_get olds m) (slice_get news m) c) ne) ∙ h) in (m, w.0, w.1, w.2, w.3))
+]
+
+goes_below : (K : ℕ → List ℕ) (n : ℕ) (P : ℕ → Option Node → Bool) (olds : List ℕ) (news : List Node) (m i k c : ℕ) → i < m → slice_get olds i ≡ Some k → P k (slice_get news i) ≡ false → under K n k c ≡ true → goes K n P olds news m c ≡ true
+unfolding goes
+goes_below K n P olds news zero i k c lt at unfit u = absurd (omega arith)
+goes_below K n P olds news (suc m) i k c lt at unfit u = elim (nat_cases i m) [
+  | inl q ↦ (
+      let e1 : goes_at K n P (slice_get olds m) (slice_get news m) c ≡ true =
+      ap (λ j. goes_at K n P (slice_get olds j) (slice_get news j) c) (sym q) ∙ ap (λ o. goes_at K n P o (slice_get news i) c) at ∙ ap (λ b. if b then false else under K n k c) unfit ∙ u in
+      ap (λ b. goes K n P olds news m c || b) e1 ∙ or_true (goes K n P olds news m c))
+  | inr ne ↦ (let lt2 : i < m = omega arith in ap (λ b. b || goes_at K n P (slice_get olds m) (slice_get news m) c) (goes_below K n P olds news m i k c lt2 at unfit u))
+]
+
+pub goes_here : (K : ℕ → List ℕ) (n : ℕ) (P : ℕ → Option Node → Bool) (olds : List ℕ) (news : List Node) (i k c : ℕ) → slice_get olds i ≡ Some k → P k (slice_get news i) ≡ false → under K n k c ≡ true → goes K n P olds news (length olds) c ≡ true
+goes_here K n P olds news i k c at unfit u = goes_below K n P olds news (length olds) i k c (slice_get_within olds i k at) at unfit u
+
+-- what is below a node of a tree is in it, and no higher
+pub under_deep : (K : ℕ → List ℕ) (T : ℕ → Option Seen) → IsTree T → ((c : ℕ) (d : Seen) → T c ≡ Some d → K c ≡ d.children)
+    → (n id c : ℕ) (e : Seen) → T id ≡ Some e → under K n id c ≡ true → (d : Seen) × (T c ≡ Some d) × (e.depth ≤ d.depth)
+under_deep K T tree same zero id c e t h = let z = under_none K id c in absurd (cc)
+under_deep K T tree same (suc n) id c e t h = elim (under_cases K n id c h) [
+  | inl q ↦ (e, ap T (sym q) ∙ t, omega arith)
+  | inr w ↦ (
+      let r = tree.down id w.0 w.1 e t (ap (λ xs. slice_get xs w.0) (sym (same id e t)) ∙ w.2) in
+      let u = under_deep K T tree same n w.1 c r.0 r.1 w.3 in
+      let a = r.3 in let b = u.2 in (u.0, u.1, omega arith))
+]
+
+same_seen : (T : ℕ → Option Seen) (a b : ℕ) (d e : Seen) → T a ≡ Some d → T b ≡ Some e → a ≡ b → d ≡ e
+same_seen T a b d e t u q = let z : Some d ≡ Some e = sym t ∙ ap T q ∙ u in (cc)
+
+pub stay_seen : (s : Option Entry) (d : Seen) (w : Option Node) → present_of s ≡ Some d → stay_of s w ≡ fits_at d.node w
+stay_seen s d w h = let r = present_some s d h in ap (λ o. stay_of o w) r.1 ∙ ap (λ (x : Seen). fits_at x.node w) r.2
+
+not_true : (b : Bool) → b ≡ true → false ≡ not b
+not_true b h = ap not (sym h)
+
+not_false : (b : Bool) → b ≡ false → true ≡ not b
+not_false b h = ap not (sym h)
+
+asked_some : (s : Option Entry) (w : Option Node) → stay_of s w ≡ true → (x : Node) × (w ≡ Some x)
+asked_some None w h = absurd (cc)
+asked_some (Some e) None h = absurd (cc)
+asked_some (Some e) (Some x) h = (x, refl)
+
+pub get_within : {X : Type 0} (xs : List X) (i : ℕ) (x : X) → slice_get xs i ≡ Some x → i < length xs
+get_within xs i x h = slice_get_within xs i x h
+
+pub get_there : (xs : List ℕ) (i : ℕ) → i < length xs → (k : ℕ) × (slice_get xs i ≡ Some k)
+get_there [] i h = absurd (omega arith)
+get_there (x ∷ xs) zero h = (x, refl)
+get_there (x ∷ xs) (suc i) h = get_there xs i (omega arith)
+
+module _ (s0 s1 s2 s3 : ℕ → Option Entry) (id depth n : ℕ) (marking : Bool) (made : List ℕ) (news : List Node) (state : State) (e : Seen)
+    (was : present_of (s0 id) ≡ Some e) (low : 0 < length news → e.depth < 256) (deep : depth ≡ e.depth + 1) (fuel : n ≡ 256 - e.depth)
+    (tree : IsTree (λ c. present_of (s0 c)))
+    (gone : ℕ → Bool) (goneis : (c : ℕ) → gone c ≡ goes (λ d. kids (s0 d)) n (λ k w. stay_of (s0 k) w) e.children news (length e.children) c)
+    (dropped : (c : ℕ) → s1 c ≡ flag_if (gone c) (s0 c))
+    (placed : IsPlaced s1 s2 id depth marking e.children news made) (sized : length made ≡ length news)
+    (others : (c : ℕ) → c ≢ id → s3 c ≡ s2 c) (changed : present_of (s3 id) ≡ rewritten state made (present_of (s2 id))) where
+  abbrev K : ℕ → List ℕ
+  K d = kids (s0 d)
+
+  abbrev S : ℕ → Option Seen
+  S c = present_of (s0 c)
+
+  K_same : (c : ℕ) (d : Seen) → present_of (s0 c) ≡ Some d → kids (s0 c) ≡ d.children
+  K_same c d t = kids_present (s0 c) d t
+
+  flag_some : (b : Bool) (s : Option Entry) (x : Entry) → s ≡ Some x → (y : Entry) × (flag_if b s ≡ Some y)
+  flag_some false s x h = (x, h)
+  flag_some true s x h = (record x { aside = true; touched = true }, ap (flag_if true) h)
+
+  flag_none : (b : Bool) (s : Option Entry) → s ≡ None → flag_if b s ≡ None
+  flag_none false s h = h
+  flag_none true s h = ap (flag_if true) h
+
+  -- an old slot is still there, flagged where it goes
+  old_slot : (c : ℕ) (x : Entry) → s0 c ≡ Some x → s2 c ≡ flag_if (gone c) (s0 c)
+  old_slot c x h = let y = flag_some (gone c) (s0 c) x h in placed.rest c y.0 (dropped c ∙ y.1) ∙ sym y.1
+
+  old_node : (c : ℕ) (d : Seen) → present_of (s0 c) ≡ Some d → s2 c ≡ flag_if (gone c) (s0 c)
+  old_node c d t = let w = present_some (s0 c) d t in old_slot c w.0 w.1
+
+  flagged_none : (b : Bool) (s : Option Entry) → flag_if b s ≡ None → s ≡ None
+  flagged_none false s h = h
+  flagged_none true None h = refl
+  flagged_none true (Some x) h = absurd (cc)
+
+  stay_before : (k : ℕ) (w : Option Node) → stay_of (s1 k) w ≡ stay_of (s0 k) w
+  stay_before k w = ap (λ s. stay_of s w) (dropped k) ∙ stay_flag (gone k) (s0 k) w
+
+  find : (c : ℕ) → gone c ≡ true → (i : ℕ) × (k : ℕ) × (slice_get e.children i ≡ Some k) × (stay_of (s0 k) (slice_get news i) ≡ false) × (under (λ d. kids (s0 d)) n k c ≡ true)
+  find c g = goes_find (λ d. kids (s0 d)) n (λ k w. stay_of (s0 k) w) e.children news (length e.children) c (sym (goneis c) ∙ g)
+
+  here : (i k c : ℕ) → slice_get e.children i ≡ Some k → stay_of (s0 k) (slice_get news i) ≡ false → under (λ d. kids (s0 d)) n k c ≡ true → gone c ≡ true
+  here i k c at unfit u = goneis c ∙ goes_here (λ d. kids (s0 d)) n (λ k w. stay_of (s0 k) w) e.children news i k c at unfit u
+
+  -- what goes is a node, deeper than id
+  gone_deep : (c : ℕ) → gone c ≡ true → (d : Seen) × (present_of (s0 c) ≡ Some d) × (e.depth < d.depth)
+  gone_deep c g =
+      let f = find c g in
+      let r = tree.down id f.0 f.1 e was f.2 in
+      let u = under_deep (λ d. kids (s0 d)) (λ d. present_of (s0 d)) tree K_same n f.1 c r.0 r.1 f.4 in
+      let a = r.3 in let b = u.2 in (u.0, u.1, omega arith)
+
+  stay : (c : ℕ) → (gone c ≡ true → ⊥) → gone c ≡ false
+  stay c h = elim (bool_cases (gone c)) [ inl y ↦ absurd (h y) | inr ne ↦ ne ]
+
+  self_stays : gone id ≡ false
+  self_stays = stay id (λ g. let w = gone_deep id g in let q = same_seen (λ d. present_of (s0 d)) id id w.0 e w.1 was refl in let z : w.0.depth ≡ e.depth = ap (λ (x : Seen). x.depth) q in let lt = w.2 in omega arith)
+
+  none_stays : (c : ℕ) → present_of (s0 c) ≡ None → gone c ≡ false
+  none_stays c t = stay c (λ g. let w = gone_deep c g in let z : None ≡ Some w.0 = sym t ∙ w.1 in absurd (cc))
+
+  pub is_now : present_of (s3 id) ≡ Some (record e { node = with_state state e.node; children = made })
+  is_now = changed ∙ ap (rewritten state made) (ap present_of (old_node id e was) ∙ ap (λ b. present_of (flag_if b (s0 id))) self_stays ∙ was)
+
+  -- an old child that fits doesn't go
+  fit_stays : (i c : ℕ) → slice_get e.children i ≡ Some c → stay_of (s0 c) (slice_get news i) ≡ true → gone c ≡ false
+  fit_stays i c o fit = stay c (λ g.
+      let f = find c g in
+      let r = tree.down id f.0 f.1 e was f.2 in
+      let s = tree.down id i c e was o in
+      elim (under_into (λ d. kids (s0 d)) (λ d. present_of (s0 d)) tree K_same n f.1 c id r.0 s.0 r.1 s.1 s.2 f.4) [
+        | inl q ↦ (
+            let w = same_seen (λ d. present_of (s0 d)) f.1 c r.0 s.0 r.1 s.1 q in
+            let ii : f.0 ≡ i = sym r.4 ∙ ap (λ (x : Seen). x.index) w ∙ s.4 in
+            let unfit : stay_of (s0 c) (slice_get news i) ≡ false = ap (λ k. stay_of (s0 k) (slice_get news i)) (sym q) ∙ ap (λ j. stay_of (s0 f.1) (slice_get news j)) (sym ii) ∙ f.3 in
+            let z : true ≡ false = sym fit ∙ unfit in (cc))
+        | inr u ↦ (
+            let d = under_deep (λ d. kids (s0 d)) (λ d. present_of (s0 d)) tree K_same n f.1 id r.0 r.1 u in
+            let w = same_seen (λ d. present_of (s0 d)) id id d.0 e d.1 was refl in
+            let z : d.0.depth ≡ e.depth = ap (λ (x : Seen). x.depth) w in let a = d.2 in let b = r.3 in omega arith)
+      ])
+
+  fuel_left : (i c : ℕ) → slice_get e.children i ≡ Some c → 0 < n
+  fuel_left i c o = let r = tree.down id i c e was o in let a = tree.shallow c r.0 r.1 in let b = r.3 in omega arith
+
+  fate_slot : (i c : ℕ) → slice_get e.children i ≡ Some c → gone c ≡ not (stay_of (s0 c) (slice_get news i))
+  fate_slot i c o = elim (bool_cases (stay_of (s0 c) (slice_get news i))) [
+    | inl y ↦ fit_stays i c o y ∙ not_true (stay_of (s0 c) (slice_get news i)) y
+    | inr ne ↦ here i c c o ne (under_self (λ d. kids (s0 d)) n c (fuel_left i c o)) ∙ not_false (stay_of (s0 c) (slice_get news i)) ne
+  ]
+
+  kept_fits : (i c : ℕ) → slice_get e.children i ≡ Some c → gone c ≡ false → stay_of (s0 c) (slice_get news i) ≡ true
+  kept_fits i c o g = elim (bool_cases (stay_of (s0 c) (slice_get news i))) [
+    | inl y ↦ y
+    | inr ne ↦ (let z : false ≡ true = sym g ∙ here i c c o ne (under_self (λ d. kids (s0 d)) n c (fuel_left i c o)) in absurd (cc))
+  ]
+
+  none_slot : (c : ℕ) → s1 c ≡ None → s0 c ≡ None
+  none_slot c h = flagged_none (gone c) (s0 c) (sym (dropped c) ∙ h)
+
+  not_id : (c : ℕ) → present_of (s0 c) ≡ None → c ≢ id
+  not_id c h q = let z : None ≡ Some e = sym h ∙ ap (λ x. present_of (s0 x)) q ∙ was in absurd (cc)
+
+  new_child : (i c : ℕ) (w : Node) → s1 c ≡ None → IsNewEntry (s2 c) (Some id) w depth i marking → IsNewChild (λ x. present_of (s3 x)) id e.depth i w c
+  new_child i c w h v = record {
+    seen = seen v.entry;
+    here = ap present_of (others c (not_id c (ap present_of (none_slot c h))) ∙ v.here) ∙ ap (λ b. if b then None else Some (seen v.entry)) v.shows;
+    node = v.node;
+    parent = v.parent;
+    index = v.index;
+    deeper = v.deep ∙ deep;
+    leaf = v.leaf;
+  }
+
+  if_none : (b : Bool) (o : Option Seen) → o ≡ None → (if b then None else o) ≡ None
+  if_none true o h = refl
+  if_none false o h = h
+
+  rest_of : (c : ℕ) (x : Entry) → c ≢ id → s0 c ≡ Some x → present_of (s3 c) ≡ (if gone c then None else present_of (s0 c))
+  rest_of c x ne h = ap present_of (others c ne ∙ old_slot c x h) ∙ present_flag (gone c) (s0 c)
+
+  came_none : (c : ℕ) (o : Option Entry) → s0 c ≡ o → present_of o ≡ None → (present_of (s3 c) ≡ None) ⊎ ((i : ℕ) × (slice_get made i ≡ Some c))
+  came_none c None q h = elim (placed.came c (dropped c ∙ flag_none (gone c) (s0 c) q)) [
+    | inl y ↦ inl (ap present_of (others c (not_id c (ap present_of q)) ∙ y))
+    | inr w ↦ inr w
+  ]
+  came_none c (Some x) q h = inl (rest_of c x (not_id c (ap present_of q ∙ h)) q ∙ if_none (gone c) (present_of (s0 c)) (ap present_of q ∙ h))
+
+  stays_at : (i c : ℕ) → slice_get e.children i ≡ Some c → gone c ≡ false → slice_get made i ≡ Some c
+  stays_at i c o g =
+      let fit = kept_fits i c o g in
+      let a = asked_some (s0 c) (slice_get news i) fit in
+      let within = get_within news i a.0 a.1 in
+      let m = get_there made i (omega arith) in
+      let p = placed.each i m.0 m.1 in
+      elim p.2 [
+        | inl old ↦ (let z : Some m.0 ≡ Some c = sym old.0 ∙ o in m.1 ∙ z)
+        | inr new ↦ (
+            let u : stay_of (s1 c) (Some p.0) ≡ false = new.2 c o in
+            let z : true ≡ false = sym fit ∙ ap (λ w. stay_of (s0 c) w) p.1 ∙ sym (stay_before c (Some p.0)) ∙ u in absurd (cc))
+      ]
+
+  -- a node that came stands where no entry was
+  vacant_at : (c : ℕ) (o : Option Entry) (d : Seen) → s0 c ≡ o → present_of o ≡ None → present_of (s3 c) ≡ Some d → s0 c ≡ None
+  vacant_at c None d q h t = q
+  vacant_at c (Some x) d q h t = let z : None ≡ Some d = sym (if_none (gone c) (present_of (s0 c)) (ap present_of q ∙ h)) ∙ sym (rest_of c x (not_id c (ap present_of q ∙ h)) q) ∙ t in absurd (cc)
+
+  pub vacant : (c : ℕ) (d : Seen) → present_of (s0 c) ≡ None → present_of (s3 c) ≡ Some d → s0 c ≡ None
+  vacant c d h t = vacant_at c (s0 c) d refl h t
+
+  pub replaced : IsReplaced (λ c. present_of (s0 c)) (λ c. present_of (s3 c)) id news e (record e { node = with_state state e.node; children = made }) gone
+  replaced = record {
+    was = was;
+    is = is_now;
+    depth = refl;
+    parent = refl;
+    index = refl;
+    low = low;
+    sized = sized;
+    each = λ i c m. let p = placed.each i c m in (
+      p.0,
+      p.1,
+      elim p.2 [
+        | inl o ↦ inl (o.0, fit_stays i c o.0 (ap (λ w. stay_of (s0 c) w) p.1 ∙ sym (stay_before c (Some p.0)) ∙ o.1))
+        | inr w ↦ inr (ap present_of (none_slot c w.0), new_child i c p.0 w.0 w.1)
+      ],
+    );
+    fate = λ i c d o t. fate_slot i c o ∙ ap not (stay_seen (s0 c) d (slice_get news i) t);
+    stays = stays_at;
+    tops = λ c d t top. stay c (λ g. let w = gone_deep c g in let q = same_seen (λ x. present_of (s0 x)) c c w.0 d w.1 t refl in let z : w.0.depth ≡ d.depth = ap (λ (x : Seen). x.depth) q in let lt = w.2 in let a = tree.at_root c d t top in omega arith);
+    into = λ c p d t par g ne.
+        let f = find c g in
+        let r = tree.down id f.0 f.1 e was f.2 in
+        elim (under_into (λ x. kids (s0 x)) (λ x. present_of (s0 x)) tree K_same n f.1 c p r.0 d r.1 t par f.4) [
+          | inl q ↦ (
+              let w = same_seen (λ x. present_of (s0 x)) f.1 c r.0 d r.1 t q in
+              let z : Some p ≡ Some id = sym par ∙ ap (λ (x : Seen). x.parent) (sym w) ∙ r.2 in absurd (ne (cc)))
+          | inr u ↦ here f.0 f.1 p f.2 f.3 u
+        ];
+    onto = λ c p d t par g.
+        let f = find p g in
+        let r = tree.down id f.0 f.1 e was f.2 in
+        let bound = tree.shallow c d t in let a = r.3 in
+        here f.0 f.1 c f.2 f.3 (under_onto (λ x. kids (s0 x)) (λ x. present_of (s0 x)) tree K_same n f.1 c p r.0 d r.1 t par (omega arith) f.4);
+    self = self_stays;
+    came = λ c h. came_none c (s0 c) refl h;
+    rest = λ c d ne t. let w = present_some (s0 c) d t in rest_of c w.0 ne w.1 ∙ ap (λ o. if gone c then None else o) t;
+  }
+
+  -- ---- the hulls: all but id's are right
+
+  module _ (right : AllRight (λ c. present_of (s0 c)) (λ c. hulls_of (s0 c))) (hulled : hulls_of (s3 id) ≡ hulls_of (s2 id)) where
+    hulls_kept : (c : ℕ) (d : Seen) → present_of (s0 c) ≡ Some d → hulls_of (s3 c) ≡ hulls_of (s0 c)
+    hulls_kept c d t = elim (nat_cases c id) [
+      | inl q ↦ ap (λ x. hulls_of (s3 x)) q ∙ hulled ∙ ap (λ x. hulls_of (s2 x)) (sym q) ∙ ap hulls_of (old_node c d t) ∙ hulls_flag (gone c) (s0 c)
+      | inr ne ↦ ap hulls_of (others c ne ∙ old_node c d t) ∙ hulls_flag (gone c) (s0 c)
+    ]
+
+    leaf_right : (c : ℕ) (d : Seen) (x : Entry) (w : Node) → hulls_of (s3 c) ≡ Some x.hulls → x.hulls ≡ own_hulls w → d.node ≡ w → d.children ≡ [] → IsRight (λ k. hulls_of (s3 k)) c d
+    leaf_right c d x w h o dn leaf = right_exact (λ k. hulls_of (s3 k)) c d (h ∙ ap (λ h. Some h) (o ∙ ap own_hulls (sym dn) ∙ sym (over_zero (λ k. hulls_of (s3 k)) (own_hulls d.node) d.children) ∙ ap (λ xs. over (λ k. hulls_of (s3 k)) (own_hulls d.node) d.children (length xs)) (sym leaf)))
+
+    new_right : (i c : ℕ) (d : Seen) (w : Node) → present_of (s3 c) ≡ Some d → s1 c ≡ None → IsNewEntry (s2 c) (Some id) w depth i marking → IsRight (λ k. hulls_of (s3 k)) c d
+    new_right i c d w t h v =
+        let k = new_child i c w h v in
+        let z : Some k.seen ≡ Some d = sym k.here ∙ t in
+        let q : k.seen ≡ d = (cc) in
+        leaf_right c d v.entry w (ap hulls_of (others c (not_id c (ap present_of (none_slot c h))) ∙ v.here)) v.hulls (ap (λ (x : Seen). x.node) (sym q) ∙ k.node) (ap (λ (x : Seen). x.children) (sym q) ∙ k.leaf)
+
+    old_same : (c : ℕ) (d u : Seen) → present_of (s0 c) ≡ Some u → present_of (s3 c) ≡ Some d → c ≢ id → (i : ℕ) → slice_get e.children i ≡ Some c → present_of (s0 c) ≡ Some d
+    old_same c d u t now ne i o = let w = present_some (s0 c) u t in let r = cut_some (gone c) (present_of (s0 c)) d (sym (rest_of c w.0 ne w.1) ∙ now) in r.1
+
+    pub right_but : RightBut (λ c. present_of (s3 c)) (λ c. hulls_of (s3 c)) id
+    right_but c d ne t = elim (old_or_new (λ x. present_of (s0 x)) (λ x. present_of (s3 x)) id news e (record e { node = with_state state e.node; children = made }) gone replaced tree c d t ne (present_of (s0 c)) refl) [
+      | inl o ↦ right_same (λ x. present_of (s0 x)) (λ x. hulls_of (s0 x)) (λ x. hulls_of (s3 x)) hulls_kept tree c d o.1 (right c d o.1)
+      | inr w ↦ (let p = placed.each w.0 c w.2 in elim p.2 [
+        | inl old ↦ (
+            let u = tree.down id w.0 c e was old.0 in
+            right_same (λ x. present_of (s0 x)) (λ x. hulls_of (s0 x)) (λ x. hulls_of (s3 x)) hulls_kept tree c d (old_same c d u.0 u.1 t ne w.0 old.0) (right c d (old_same c d u.0 u.1 t ne w.0 old.0)))
+        | inr new ↦ new_right w.0 c d p.0 t new.0 new.1
+      ])
+    ]
+
+  -- ---- the mark
+
+  module _ (on : marking ≡ true) (marked : marked_of (s3 id) ≡ marked_of (s2 id)) (marked_hulls : marked_hulls_of (s3 id) ≡ marked_hulls_of (s2 id)) where
+    came_apart : (i c : ℕ) (w : Node) → s0 c ≡ None → IsPlacedChild s1 s2 id depth marking e.children w i c → IsNewEntry (s2 c) (Some id) w depth i marking
+    came_apart i c w q p = elim p [
+      | inl o ↦ (let u = tree.down id i c e was o.0 in let z : None ≡ Some u.0 = ap present_of (sym q) ∙ u.1 in absurd (cc))
+      | inr v ↦ v.1
+    ]
+
+    placed_mark : (f : Option Entry → Option Seen) → ((b : Bool) (s : Option Entry) → f (flag_if b s) ≡ f s) → f None ≡ None → ((x : Entry) → x.came ≡ true → f (Some x) ≡ None) → (c : ℕ) (o : Option Entry) → s0 c ≡ o → f (s2 c) ≡ f (s0 c)
+    placed_mark f flag none new c (Some x) q = ap f (old_slot c x q) ∙ flag (gone c) (s0 c)
+    placed_mark f flag none new c None q = elim (placed.came c (dropped c ∙ flag_none (gone c) (s0 c) q)) [
+      | inl y ↦ ap f (y ∙ sym q)
+      | inr w ↦ (let p = placed.each w.0 c w.1 in let v = came_apart w.0 c p.0 q p.2 in ap f v.here ∙ new v.entry (v.comes ∙ on) ∙ sym (ap f q ∙ none))
+    ]
+
+    placed_hulls : (f : Option Entry → Option Hulls) → ((b : Bool) (s : Option Entry) → f (flag_if b s) ≡ f s) → f None ≡ None → ((x : Entry) → x.came ≡ true → f (Some x) ≡ None) → (c : ℕ) (o : Option Entry) → s0 c ≡ o → f (s2 c) ≡ f (s0 c)
+    placed_hulls f flag none new c (Some x) q = ap f (old_slot c x q) ∙ flag (gone c) (s0 c)
+    placed_hulls f flag none new c None q = elim (placed.came c (dropped c ∙ flag_none (gone c) (s0 c) q)) [
+      | inl y ↦ ap f (y ∙ sym q)
+      | inr w ↦ (let p = placed.each w.0 c w.1 in let v = came_apart w.0 c p.0 q p.2 in ap f v.here ∙ new v.entry (v.comes ∙ on) ∙ sym (ap f q ∙ none))
+    ]
+
+    pub mark_kept : (c : ℕ) → marked_of (s3 c) ≡ marked_of (s0 c)
+    mark_kept c = elim (nat_cases c id) [
+      | inl q ↦ ap (λ x. marked_of (s3 x)) q ∙ marked ∙ placed_mark marked_of marked_flag refl (λ x h. ap (λ b. if b then None else Some (seen (restored x x.former))) h) id (s0 id) refl ∙ sym (ap (λ x. marked_of (s0 x)) q)
+      | inr ne ↦ ap marked_of (others c ne) ∙ placed_mark marked_of marked_flag refl (λ x h. ap (λ b. if b then None else Some (seen (restored x x.former))) h) c (s0 c) refl
+    ]
+
+    pub mark_hulls_kept : (c : ℕ) → marked_hulls_of (s3 c) ≡ marked_hulls_of (s0 c)
+    mark_hulls_kept c = elim (nat_cases c id) [
+      | inl q ↦ ap (λ x. marked_hulls_of (s3 x)) q ∙ marked_hulls ∙ placed_hulls marked_hulls_of marked_hulls_flag refl (λ x h. ap (λ b. if b then None else Some (former_hulls x.hulls x.former_hulls)) h) id (s0 id) refl ∙ sym (ap (λ x. marked_hulls_of (s0 x)) q)
+      | inr ne ↦ ap marked_hulls_of (others c ne) ∙ placed_hulls marked_hulls_of marked_hulls_flag refl (λ x h. ap (λ b. if b then None else Some (former_hulls x.hulls x.former_hulls)) h) c (s0 c) refl
+    ]

@@ -1,0 +1,173 @@
+-- A forest keeps the laws of a tree of boxes.
+use Rattle.std.proofs.Common.{◌≡◌, ◌⊎◌, inl, inr, ℕ, suc, ◌+◌, List, [], ◌∷◌, length, true, false, refl, ap, sym, ◌∙◌, arith, subst}
+use Rattle.std.specs.Prelude.{Option, Some, None, is_some, not, slice_get}
+use Rattle.cga_frame.specs.Box.{Box, holds, is_box}
+use Rattle.cga_frame.specs.Box.{box_of}
+use Rattle.cga_frame.specs.Scope.{Scope, far_of}
+use Rattle.cga_frame.proofs.Boxes.{holds_itself, corners_box}
+use Rattle.cga_index.specs.Tree.{TreeView, Member, Apart, InTree, IsHullTree, LiesIn}
+use Rattle.cga_index.specs.Local.{IsLocalTree}
+use Rattle.cga_index.proofs.Local.{in_present, present_in}
+use Rattle.cga_forest.specs.declared.hulls.Hulls.{Hulls}
+use Rattle.cga_forest.specs.Hull.{over, own_hulls}
+use Rattle.cga_forest.specs.declared.entry.Entry.{Entry}
+use Rattle.cga_forest.specs.View.{Seen, seen, kids}
+use Rattle.cga_forest.proofs.Right.{is_there, present_some, kids_present}
+use Rattle.cga_forest.specs.Tree.{ForestView, IsForest, slot_at, node_at, hulls_at, children_at, children_of}
+use Rattle.cga_forest.specs.Walked.{forest_tree, AllBoxed, own_of, asks_of, depth_of, all_of, asking_of}
+use Rattle.cga_forest.proofs.Tops.{member_at, at_member}
+use Rattle.cga_forest.proofs.Alike.{Every, Asking, Nobody, Probe, probed, opt_holds, alike_probed, over_own, over_child, within}
+use Rattle.cga_forest.proofs.Least.{own_asks, own_none, none_is}
+
+apart_by_place : (xs : List ℕ) → ((i j c : ℕ) → slice_get xs i ≡ Some c → slice_get xs j ≡ Some c → i ≡ j) → Apart xs
+apart_by_place [] h = tt
+apart_by_place (x ∷ xs) h = (
+  (λ m. let w = at_member xs x m in let z : 0 ≡ suc w.0 = h 0 (suc w.0) x refl w.1 in absurd (omega arith)),
+  apart_by_place xs (λ i j c p q. let z : suc i ≡ suc j = h (suc i) (suc j) c p q in omega arith),
+)
+
+opt_two : {X : Type 0} (o : Option X) → (o ≡ None) ⊎ ((x : X) × (o ≡ Some x))
+opt_two None = inl refl
+opt_two (Some x) = inr (x, refl)
+
+module _ (v : ForestView) (f : IsForest v) where
+  abbrev There : ℕ → Type 0
+  There n = (d : Seen) × (node_at v n ≡ Some d)
+
+  abbrev t : TreeView
+  t = forest_tree v
+
+  kid_place : (n c : ℕ) (d : Seen) → node_at v n ≡ Some d → Member (children_at v n) c → (i : ℕ) × (slice_get d.children i ≡ Some c)
+  kid_place n c d h m = at_member d.children c (subst (λ (o : Option Seen). Member (children_of o) c) h m)
+
+  kid : (n c : ℕ) (d : Seen) → node_at v n ≡ Some d → Member (children_at v n) c → (e : Seen) × (node_at v c ≡ Some e) × (e.parent ≡ Some n) × (e.depth ≡ d.depth + 1)
+  kid n c d h m = let w = kid_place n c d h m in let r = f.present.tree.down n w.0 c d h w.1 in (r.0, r.1, r.2, r.3)
+
+  parent_cases : (n : ℕ) (d : Seen) → node_at v n ≡ Some d → (o : Option ℕ) → d.parent ≡ o → Member v.roots n ⊎ ((p : ℕ) × There p × Member (children_at v p) n)
+  parent_cases n d h None q = inl (f.tops.all n d h q)
+  parent_cases n d h (Some p) q = let u = f.present.tree.up n p d h q in inr (p, (u.0, u.1), subst (λ (o : Option Seen). Member (children_of o) n) (sym u.1) (member_at u.0.children d.index n u.2))
+
+  pub local : IsLocalTree (forest_tree v) There
+  local = record {
+    root_present = λ r m. let w = f.tops.each r m in (w.0, w.1);
+    child_present = λ n c p m. let w = kid n c p.0 p.1 m in (w.0, w.1);
+    placed = λ n p. parent_cases n p.0 p.1 p.0.parent refl;
+    at_root = λ r m. let w = f.tops.each r m in ap depth_of w.1 ∙ f.present.tree.at_root r w.0 w.1 w.2;
+    at_child = λ n c p m. let w = kid n c p.0 p.1 m in let a = ap depth_of w.1 in let b = ap depth_of p.1 in let e = w.3 in omega arith;
+    shallow = λ n p. let b = ap depth_of p.1 in let s = f.present.tree.shallow n p.0 p.1 in omega arith;
+  }
+
+  pub there : (n : ℕ) → InTree (forest_tree v) n → There n
+  there n m = in_present (forest_tree v) There local n m
+
+  pub inside : (n : ℕ) → There n → InTree (forest_tree v) n
+  inside n p = present_in (forest_tree v) There local n p
+
+  -- the node's hulls, from its own box and its children's
+  abbrev made : Seen → Hulls
+  made d = over (hulls_at v) (own_hulls d.node) d.children (length d.children)
+
+  abbrev got : (n : ℕ) (d : Seen) → node_at v n ≡ Some d → Hulls
+  got n d h = (f.present.right n d h).0
+
+  hulls_is : (n : ℕ) (d : Seen) (h : node_at v n ≡ Some d) → hulls_at v n ≡ Some (got n d h)
+  hulls_is n d h = (f.present.right n d h).1
+
+  -- a test of a node's hulls goes over to its own and to a child's
+  module _ (p : Probe) where
+    as_made : (n : ℕ) (d : Seen) (h : node_at v n ≡ Some d) → probed p (got n d h) ≡ true → probed p (made d) ≡ true
+    as_made n d h on = sym (alike_probed p (got n d h) (made d) (f.present.right n d h).2) ∙ on
+
+    to_own : (n : ℕ) (d : Seen) (h : node_at v n ≡ Some d) → probed p (got n d h) ≡ true → probed p (own_hulls d.node) ≡ true
+    to_own n d h on = over_own p (hulls_at v) (own_hulls d.node) d.children (length d.children) (as_made n d h on)
+
+    to_child : (n c : ℕ) (d e : Seen) (h : node_at v n ≡ Some d) → Member (children_at v n) c → (u : node_at v c ≡ Some e) → probed p (got n d h) ≡ true → probed p (got c e u) ≡ true
+    to_child n c d e h m u on = let w = kid_place n c d h m in over_child p (hulls_at v) (own_hulls d.node) d.children (length d.children) (as_made n d h on) w.0 c (got c e u) (within d.children w.0 c w.1) w.1 (hulls_is c e u)
+
+  own_holds : (n : ℕ) (d : Seen) → node_at v n ≡ Some d → holds (all_of (hulls_at v n)) (own_of (node_at v n)) ≡ true
+  own_holds n d h = rw (hulls_is n d h, h) (to_own (Every (got n d h).all) n d h (holds_itself (got n d h).all))
+
+  kid_holds : (n c : ℕ) (d e : Seen) → node_at v n ≡ Some d → Member (children_at v n) c → node_at v c ≡ Some e → holds (all_of (hulls_at v n)) (all_of (hulls_at v c)) ≡ true
+  kid_holds n c d e h m u = rw (hulls_is n d h, hulls_is c e u) (to_child (Every (got n d h).all) n c d e h m u (holds_itself (got n d h).all))
+
+  asks_at : (n : ℕ) (d : Seen) → node_at v n ≡ Some d → asks_of (node_at v n) ≡ true → LiesIn (asking_of (hulls_at v n)) (own_of (node_at v n))
+  asks_at n d h on = rw (hulls_is n d h, h) (elim (opt_two (got n d h).asking) [
+    | inl none ↦ (
+        let z : d.node.asks ≡ false = own_none d.node (to_own Nobody n d h (ap (λ o. not (is_some o)) none)) in
+        let y : d.node.asks ≡ true = ap asks_of (sym h) ∙ on in absurd (cc))
+    | inr a ↦ (a.0, a.1, own_asks a.0 d.node (to_own (Asking a.0) n d h (ap (opt_holds a.0) a.1 ∙ holds_itself a.0)) (ap asks_of (sym h) ∙ on))
+  ])
+
+  asks_under : (n c : ℕ) (d e : Seen) (b : Box) → node_at v n ≡ Some d → Member (children_at v n) c → node_at v c ≡ Some e → asking_of (hulls_at v c) ≡ Some b → LiesIn (asking_of (hulls_at v n)) b
+  asks_under n c d e b h m u q =
+      let qe : (got c e u).asking ≡ Some b = ap asking_of (sym (hulls_is c e u)) ∙ q in
+      rw (hulls_is n d h) (elim (opt_two (got n d h).asking) [
+        | inl none ↦ (
+            let z = none_is (got c e u).asking (to_child Nobody n c d e h m u (ap (λ o. not (is_some o)) none)) in
+            let y : None ≡ Some b = sym z ∙ qe in absurd (cc))
+        | inr a ↦ (a.0, a.1, ap (opt_holds a.0) (sym qe) ∙ to_child (Asking a.0) n c d e h m u (ap (opt_holds a.0) a.1 ∙ holds_itself a.0))
+      ])
+
+  kids_once : (n : ℕ) (d : Seen) → node_at v n ≡ Some d → Apart (children_at v n)
+  kids_once n d h = subst (λ (o : Option Seen). Apart (children_of o)) (sym h) (apart_by_place d.children (λ i j c p q.
+      let a = f.present.tree.down n i c d h p in
+      let b = f.present.tree.down n j c d h q in
+      let z : Some a.0 ≡ Some b.0 = sym a.1 ∙ b.1 in
+      let y : a.0 ≡ b.0 = (cc) in
+      sym a.4 ∙ ap (λ (x : Seen). x.index) y ∙ b.4))
+
+  same_parent : (a b c : ℕ) (d e : Seen) → node_at v a ≡ Some d → node_at v b ≡ Some e → Member (children_at v a) c → Member (children_at v b) c → a ≡ b
+  same_parent a b c d e h u m k =
+      let x = kid a c d h m in
+      let y = kid b c e u k in
+      let z : Some x.0 ≡ Some y.0 = sym x.1 ∙ y.1 in
+      let w : x.0 ≡ y.0 = (cc) in
+      let p : Some a ≡ Some b = sym x.2 ∙ ap (λ (s : Seen). s.parent) w ∙ y.2 in (cc)
+
+  pub keeps_laws : AllBoxed v → IsHullTree (forest_tree v)
+  keeps_laws boxed = record {
+    roots_once = f.tops.once;
+    children_once = λ n m. let p = there n m in kids_once n p.0 p.1;
+    one_parent = λ a b c ma mb ca cb. let p = there a ma in let q = there b mb in same_parent a b c p.0 q.0 p.1 q.1 ca cb;
+    at_root = local.at_root;
+    at_child = λ n c m k. local.at_child n c (there n m) k;
+    closed = λ n c m k. inside c (local.child_present n c (there n m) k);
+    shallow = λ n m. local.shallow n (there n m);
+    boxed = λ n m. let p = there n m in ap (λ o. is_box (own_of o)) p.1 ∙ boxed n p.0 p.1;
+    holds_own = λ n m. let p = there n m in own_holds n p.0 p.1;
+    holds_children = λ n c m k. let p = there n m in let w = kid n c p.0 p.1 k in kid_holds n c p.0 w.0 p.1 k w.1;
+    asks_own = λ n m on. let p = there n m in asks_at n p.0 p.1 on;
+    asks_below = λ n c b m k q. let p = there n m in let w = kid n c p.0 p.1 k in asks_under n c p.0 w.0 b p.1 k w.1 q;
+  }
+
+-- ---- at the forest's slots
+
+module _ (v w : ForestView) (same : v ≡ w) (f : IsForest v) (n k : ℕ) (id : k ≡ n) (m : InTree (forest_tree w) n) where
+  node_there : (d : Seen) × (node_at v k ≡ Some d)
+  node_there = let p = there v f n (subst (λ (x : ForestView). InTree (forest_tree x) n) (sym same) m) in (p.0, ap (node_at v) id ∙ p.1)
+
+  node_same : node_at v k ≡ node_at w n
+  node_same = ap (node_at v) id ∙ ap (λ (x : ForestView). node_at x n) same
+
+  pub slot_inside : is_some (slot_at v k) ≡ true
+  slot_inside = let x = present_some (slot_at v k) node_there.0 node_there.1 in ap is_some x.1
+
+  pub node_inside : (x : Entry) → slot_at v k ≡ Some x → node_at w n ≡ Some (seen x)
+  node_inside x h =
+      let y = present_some (slot_at v k) node_there.0 node_there.1 in
+      let z : Some x ≡ Some y.0 = sym h ∙ y.1 in
+      let q : x ≡ y.0 = (cc) in
+      sym node_same ∙ node_there.1 ∙ ap (λ d. Some d) (sym y.2) ∙ ap (λ (e : Entry). Some (seen e)) (sym q)
+
+  pub kids_inside : kids (slot_at v k) ≡ children_at w n
+  kids_inside = kids_present (slot_at v k) node_there.0 node_there.1 ∙ ap children_of (sym node_there.1 ∙ node_same)
+
+pub laws_inside : (v w : ForestView) → v ≡ w → IsForest v → AllBoxed w → IsHullTree (forest_tree w)
+laws_inside v w same f boxed = subst (λ (x : ForestView). IsHullTree (forest_tree x)) same (keeps_laws v f (subst (λ (x : ForestView). AllBoxed x) (sym same) boxed))
+
+pub in_inside : (v w : ForestView) → v ≡ w → IsForest v → (n : ℕ) → is_some (node_at w n) ≡ true → InTree (forest_tree w) n
+in_inside v w same f n h = subst (λ (x : ForestView). InTree (forest_tree x) n) same (inside v f n (is_there (node_at v n) (ap (λ (x : ForestView). is_some (node_at x n)) same ∙ h)))
+
+-- the world box of a scope is a box
+pub scope_boxed : (s : Scope) → is_box (box_of s) ≡ true
+scope_boxed s = corners_box s.at (far_of s)

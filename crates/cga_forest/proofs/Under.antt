@@ -1,0 +1,130 @@
+-- What is below a node, and flags.
+use Rattle.std.proofs.Common.{◌≡◌, ℕ, zero, suc, ◌+◌, ◌-◌, ◌≤◌, ◌<◌, List, [], ◌∷◌, length, Bool, true, false, ◌||◌, refl, ap, sym, ◌∙◌, arith, take, nat_eq}
+use Rattle.std.specs.List.{list_any}
+use Rattle.std.proofs.lemmas.List.Folds.{list_any_more}
+use Rattle.std.proofs.lemmas.List.{take_all}
+use Rattle.std.proofs.lemmas.Option.{get_or_from_slice_get, slice_get_cases}
+use Rattle.std.proofs.Common.{inl, inr}
+use Rattle.std.specs.Prelude.{slice_get, Option, Some, None}
+use Rattle.cga_forest.specs.declared.entry.Entry.{Entry}
+use Rattle.cga_forest.specs.declared.node.Node.{Node}
+use Rattle.cga_forest.specs.View.{kids, flag_if}
+use Rattle.cga_forest.specs.Tree.{under, goes, goes_at, stay_of}
+use Rattle.std.specs.Prelude.{if◌then◌else◌}
+
+pub any_ext : {X : Type 0} (p q : X → Bool) → ((x : X) → p x ≡ q x) → (xs : List X) → list_any p xs ≡ list_any q xs
+any_ext p q h [] = refl
+any_ext p q h (x ∷ xs) = rw (h x, any_ext p q h xs) refl
+
+pub under_ext : (a b : ℕ → List ℕ) → ((d : ℕ) → a d ≡ b d) → (n id c : ℕ) → under a n id c ≡ under b n id c
+unfolding under
+under_ext a b h zero id c = refl
+under_ext a b h (suc n) id c = rw (h id) (ap (λ t. nat_eq id c || t) (any_ext (λ k. under a n k c) (λ k. under b n k c) (λ k. under_ext a b h n k c) (b id)))
+
+pub under_zero : (a : ℕ → List ℕ) (n id c : ℕ) → n ≤ 0 → under a n id c ≡ false
+unfolding under
+under_zero a zero id c h = refl
+under_zero a (suc n) id c h = absurd (omega arith)
+
+pub under_step : (a : ℕ → List ℕ) (n id c : ℕ) → 0 < n → under a n id c ≡ (nat_eq id c || list_any (λ k. under a (n - 1) k c) (a id))
+unfolding under
+under_step a zero id c h = absurd (omega arith)
+under_step a (suc n) id c h = let e : suc n - 1 ≡ n = omega arith in rw e refl
+
+pub kids_flag : (b : Bool) (s : Option Entry) → kids (flag_if b s) ≡ kids s
+kids_flag false s = refl
+kids_flag true None = refl
+kids_flag true (Some e) = refl
+
+pub flag_flag : (a b : Bool) (s : Option Entry) → flag_if b (flag_if a s) ≡ flag_if (a || b) s
+flag_flag false b s = refl
+flag_flag true false s = refl
+flag_flag true true None = refl
+flag_flag true true (Some e) = refl
+
+pub any_take_all : {X : Type 0} (p : X → Bool) (xs : List X) (n : ℕ) → length xs ≤ n → list_any p (take n xs) ≡ list_any p xs
+any_take_all p xs n h = rw (take_all n xs h) refl
+
+slice_get_in : (xs : List ℕ) (i k : ℕ) → slice_get xs i ≡ Some k → i < length xs
+slice_get_in xs i k h = elim (slice_get_cases xs i).1 [ inl w ↦ w.1 | inr w ↦ (cc) ]
+
+slice_get_out : (xs : List ℕ) (i : ℕ) → slice_get xs i ≡ None → length xs ≤ i
+slice_get_out xs i h = elim (slice_get_cases xs i).1 [ inl w ↦ (cc) | inr w ↦ w.0 ]
+
+-- one more child in a walk over the children
+pub any_take_next : (p : ℕ → Bool) (xs : List ℕ) (i k : ℕ) → slice_get xs i ≡ Some k → list_any p (take (i + 1) xs) ≡ (list_any p (take i xs) || p k)
+any_take_next p xs i k h = list_any_more p xs i k (slice_get_in xs i k h) ∙ ap (λ y. list_any p (take i xs) || p y) (get_or_from_slice_get xs i k k h)
+
+pub any_take_none : (p : ℕ → Bool) (xs : List ℕ) (i : ℕ) → slice_get xs i ≡ None → list_any p (take (i + 1) xs) ≡ list_any p (take i xs)
+any_take_none p xs i h = let out : length xs ≤ i = slice_get_out xs i h in rw (take_all i xs out, take_all (i + 1) xs (omega arith)) refl
+
+pub or_assoc : (a b c : Bool) → ((a || b) || c) ≡ (a || (b || c))
+or_assoc false b c = refl
+or_assoc true b c = refl
+
+-- a step of the walk that sets aside: what the child's call flags, on top of what is flagged so far
+pub flags_next : (ch : ℕ → List ℕ) (old now new : ℕ → Option Entry) (n id i k : ℕ) → slice_get (ch id) i ≡ Some k
+    → ((d : ℕ) → kids (old d) ≡ ch d)
+    → ((c : ℕ) → now c ≡ flag_if (nat_eq id c || list_any (λ k. under ch n k c) (take i (ch id))) (old c))
+    → ((c : ℕ) → new c ≡ flag_if (under (λ d. kids (now d)) n k c) (now c))
+    → (c : ℕ) → new c ≡ flag_if (nat_eq id c || list_any (λ k. under ch n k c) (take (i + 1) (ch id))) (old c)
+flags_next ch old now new n id i k at same h called c =
+    let p = λ (j : ℕ). under ch n j c in
+    let done = nat_eq id c || list_any p (take i (ch id)) in
+    let e1 : under (λ d. kids (now d)) n k c ≡ under ch n k c = under_ext (λ d. kids (now d)) ch (λ d. ap kids (h d) ∙ kids_flag _ (old d) ∙ same d) n k c in
+    called c ∙ ap (λ b. flag_if b (now c)) e1 ∙ ap (flag_if (under ch n k c)) (h c) ∙ flag_flag done (under ch n k c) (old c) ∙ ap (λ b. flag_if b (old c)) (or_assoc (nat_eq id c) (list_any p (take i (ch id))) (under ch n k c) ∙ ap (λ b. nat_eq id c || b) (sym (any_take_next p (ch id) i k at)))
+
+pub flags_none : (ch : ℕ → List ℕ) (old now : ℕ → Option Entry) (n id i : ℕ) → slice_get (ch id) i ≡ None
+    → ((c : ℕ) → now c ≡ flag_if (nat_eq id c || list_any (λ k. under ch n k c) (take i (ch id))) (old c))
+    → (c : ℕ) → now c ≡ flag_if (nat_eq id c || list_any (λ k. under ch n k c) (take (i + 1) (ch id))) (old c)
+flags_none ch old now n id i at h c = h c ∙ ap (λ b. flag_if (nat_eq id c || b) (old c)) (sym (any_take_none (λ k. under ch n k c) (ch id) i at))
+
+pub goes_step : (K : ℕ → List ℕ) (n : ℕ) (P : ℕ → Option Node → Bool) (olds : List ℕ) (news : List Node) (i c : ℕ) → goes K n P olds news (i + 1) c ≡ (goes K n P olds news i c || goes_at K n P (slice_get olds i) (slice_get news i) c)
+unfolding goes
+goes_step K n P olds news i c = let e : i + 1 ≡ suc i = omega arith in rw e refl
+
+pub goes_zero : (K : ℕ → List ℕ) (n : ℕ) (P : ℕ → Option Node → Bool) (olds : List ℕ) (news : List Node) (c : ℕ) → goes K n P olds news 0 c ≡ false
+unfolding goes
+goes_zero K n P olds news c = refl
+
+pub or_false : (b : Bool) → (b || false) ≡ b
+or_false true = refl
+or_false false = refl
+
+pub stay_flag : (b : Bool) (s : Option Entry) (w : Option Node) → stay_of (flag_if b s) w ≡ stay_of s w
+stay_flag false s w = refl
+stay_flag true None w = refl
+stay_flag true (Some e) w = refl
+
+module _ (K : ℕ → List ℕ) (olds : List ℕ) (news : List Node) (old now : ℕ → Option Entry) (n i : ℕ) (same : (d : ℕ) → kids (old d) ≡ K d) (h : (c : ℕ) → now c ≡ flag_if (goes K n (λ k w. stay_of (old k) w) olds news i c) (old c)) where
+  abbrev pub P : ℕ → Option Node → Bool
+  P k w = stay_of (old k) w
+
+  still : (c : ℕ) → goes_at K n P (slice_get olds i) (slice_get news i) c ≡ false → now c ≡ flag_if (goes K n P olds news (i + 1) c) (old c)
+  still c off = h c ∙ ap (λ b. flag_if b (old c)) (sym (goes_step K n P olds news i c ∙ ap (λ b. goes K n P olds news i c || b) off ∙ or_false (goes K n P olds news i c)))
+
+  same_test : (k : ℕ) (w : Option Node) → stay_of (now k) w ≡ P k w
+  same_test k w = ap (λ s. stay_of s w) (h k) ∙ stay_flag _ (old k) w
+
+  pub goes_none : slice_get olds i ≡ None → (c : ℕ) → now c ≡ flag_if (goes K n P olds news (i + 1) c) (old c)
+  goes_none at c = still c (ap (λ o. goes_at K n P o (slice_get news i) c) at)
+
+  pub goes_kept : (k : ℕ) → slice_get olds i ≡ Some k → stay_of (now k) (slice_get news i) ≡ true → (c : ℕ) → now c ≡ flag_if (goes K n P olds news (i + 1) c) (old c)
+  goes_kept k at on c = still c (ap (λ o. goes_at K n P o (slice_get news i) c) at ∙ ap (λ b. if b then false else under K n k c) (sym (same_test k (slice_get news i)) ∙ on))
+
+  pub goes_next : (new : ℕ → Option Entry) (k : ℕ) → slice_get olds i ≡ Some k → stay_of (now k) (slice_get news i) ≡ false
+      → ((c : ℕ) → new c ≡ flag_if (under (λ d. kids (now d)) n k c) (now c))
+      → (c : ℕ) → new c ≡ flag_if (goes K n P olds news (i + 1) c) (old c)
+  goes_next new k at other called c =
+      let e1 : under (λ d. kids (now d)) n k c ≡ under K n k c = under_ext (λ d. kids (now d)) K (λ d. ap kids (h d) ∙ kids_flag _ (old d) ∙ same d) n k c in
+      called c ∙ ap (λ b. flag_if b (now c)) e1 ∙ ap (flag_if (under K n k c)) (h c) ∙ flag_flag (goes K n P olds news i c) (under K n k c) (old c)
+      ∙ ap (λ b. flag_if b (old c)) (sym (goes_step K n P olds news i c ∙ ap (λ b. goes K n P olds news i c || b) (ap (λ o. goes_at K n P o (slice_get news i) c) at ∙ ap (λ b. if b then false else under K n k c) (sym (same_test k (slice_get news i)) ∙ other))))
+
+pub goes_at_none : (K : ℕ → List ℕ) (n : ℕ) (P : ℕ → Option Node → Bool) (o : Option ℕ) (w : Option Node) (c : ℕ) → o ≡ None → goes_at K n P o w c ≡ false
+goes_at_none K n P o w c h = ap (λ x. goes_at K n P x w c) h
+
+pub goes_at_stays : (K : ℕ → List ℕ) (n : ℕ) (P : ℕ → Option Node → Bool) (o : Option ℕ) (k : ℕ) (w : Option Node) (c : ℕ) → o ≡ Some k → P k w ≡ true → goes_at K n P o w c ≡ false
+goes_at_stays K n P o k w c h t = ap (λ x. goes_at K n P x w c) h ∙ ap (λ b. if b then false else under K n k c) t
+
+pub goes_at_goes : (K : ℕ → List ℕ) (n : ℕ) (P : ℕ → Option Node → Bool) (o : Option ℕ) (k : ℕ) (w : Option Node) (c : ℕ) → o ≡ Some k → P k w ≡ false → goes_at K n P o w c ≡ under K n k c
+goes_at_goes K n P o k w c h t = ap (λ x. goes_at K n P x w c) h ∙ ap (λ b. if b then false else under K n k c) t

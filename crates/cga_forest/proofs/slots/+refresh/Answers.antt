@@ -1,0 +1,32 @@
+use Rattle.std.proofs.Common.{sym, arith, ◌∙◌}
+use Rattle.cga_forest.specs.View.{at}
+use Rattle.cga_forest.proofs.Right.{is_there, tree_now, step_up, step_top, step_due, step_kept, parent_there, climbs}
+use Rattle.cga_forest.proofs.slots.+refresh.Goals as goal
+
+pub refresh-requires : goal.refresh-requires
+refresh-requires t c =
+    let e = is_there _ c.requires.here in
+    let up = sym c.in-Some-parent_at.ensures in
+    let lower = climbs (λ k. at c.args.store.now k) c.args.id c.args.grown c.in-Some.old c.in-Some-next_hulls.new e.0 e.1 c.in-Some.ensures c.in-Some-next_hulls.ensures c.requires.tree c.requires.right c.requires.due (λ k. at c.set_hulls.new.self k) c.set_hulls.ensures.others c.set_hulls.ensures.present c.set_hulls.ensures.hulls c.in-Some-parent_at.parent up in (
+      omega arith,
+      (
+        tree_now (λ k. at c.args.store.now k) c.args.id c.args.grown c.in-Some.old c.in-Some-next_hulls.new e.0 e.1 c.in-Some.ensures c.in-Some-next_hulls.ensures c.requires.tree c.requires.right c.requires.due (λ k. at c.set_hulls.new.self k) c.set_hulls.ensures.others c.set_hulls.ensures.present c.set_hulls.ensures.hulls,
+        (
+          parent_there (λ k. at c.args.store.now k) c.args.id c.args.grown c.in-Some.old c.in-Some-next_hulls.new e.0 e.1 c.in-Some.ensures c.in-Some-next_hulls.ensures c.requires.tree c.requires.right c.requires.due (λ k. at c.set_hulls.new.self k) c.set_hulls.ensures.others c.set_hulls.ensures.present c.set_hulls.ensures.hulls c.in-Some-parent_at.parent up,
+          (
+            step_up (λ k. at c.args.store.now k) c.args.id c.args.grown c.in-Some.old c.in-Some-next_hulls.new e.0 e.1 c.in-Some.ensures c.in-Some-next_hulls.ensures c.requires.tree c.requires.right c.requires.due (λ k. at c.set_hulls.new.self k) c.set_hulls.ensures.others c.set_hulls.ensures.present c.set_hulls.ensures.hulls c.in-Some-parent_at.parent up,
+            step_due (λ k. at c.args.store.now k) c.args.id c.args.grown c.in-Some.old c.in-Some-next_hulls.new e.0 e.1 c.in-Some.ensures c.in-Some-next_hulls.ensures c.requires.tree c.requires.right c.requires.due (λ k. at c.set_hulls.new.self k) c.set_hulls.ensures.others c.set_hulls.ensures.present c.set_hulls.ensures.hulls c.in-Some-parent_at.parent up c.grown_from.result c.grown_from.ensures,
+          ),
+        ),
+      ),
+    )
+
+pub returns-in_default-parent_at-clause-right : goal.returns-in_default-parent_at-clause-right
+returns-in_default-parent_at-clause-right t c =
+    let e = is_there _ c.requires.here in
+    step_top (λ k. at c.args.store.now k) c.args.id c.args.grown c.in-Some.old c.in-Some-next_hulls.new e.0 e.1 c.in-Some.ensures c.in-Some-next_hulls.ensures c.requires.tree c.requires.right c.requires.due (λ k. at c.set_hulls.new.self k) c.set_hulls.ensures.others c.set_hulls.ensures.present c.set_hulls.ensures.hulls (sym c.in_default-parent_at.ensures)
+
+pub returns-else-not-is_like-clause-right : goal.returns-else-not-is_like-clause-right
+returns-else-not-is_like-clause-right t c =
+    let e = is_there _ c.requires.here in
+    step_kept (λ k. at c.args.store.now k) c.args.id c.args.grown c.in-Some.old c.in-Some-next_hulls.new e.0 e.1 c.in-Some.ensures c.in-Some-next_hulls.ensures c.requires.tree c.requires.right c.requires.due (sym c.is_like.ensures ∙ (let w = c.if-not-is_like in (cc)))

@@ -1,0 +1,13 @@
+use Rattle.std.proofs.Common.{refl, sym, ◌∙◌, ap}
+use Rattle.cga_forest.specs.View.{StoreView, at}
+use Rattle.cga_forest.proofs.Books.{IsStore-written, some_same, books_some, keeps_room, when_listed}
+use Rattle.cga_forest.proofs.store.Store.rewrite.Goals as goal
+
+pub rewrite_entry-requires : goal.rewrite_entry-requires
+rewrite_entry-requires c = record { touched = λ m e h. when_listed c.args.marking (at c.args.self.now c.args.id) e m (sym c.touch_for.ensures.here ∙ sym (ap (λ (v : StoreView). at v c.args.id) c.self.view_is) ∙ h) }
+
+pub invariant_of-self : goal.invariant_of-self
+invariant_of-self c = IsStore-written c.self.inside.entries.slots c.rewrite_entry.new.entries.slots c.self.inside.touched.items c.self.inside.touched.cap c.self.inside.aside c.args.id c.self.invariant c.rewrite_entry.ensures.others c.rewrite_entry.ensures.books
+
+pub returns-clause-room : goal.returns-clause-room
+returns-clause-room c more h = keeps_room _ _ _ _ _ _ _ c.self.view_is (some_same c.self.inside.entries.slots c.rewrite_entry.new.entries.slots c.self.inside.touched.items c.self.inside.touched.cap c.self.inside.aside c.args.id c.self.invariant c.rewrite_entry.ensures.others (books_some _ _ c.rewrite_entry.ensures.books)) c.rewrite_entry.ensures.capacity refl more (c.touch_for.ensures.room more h)

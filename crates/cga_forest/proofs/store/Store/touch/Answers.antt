@@ -1,0 +1,18 @@
+use Rattle.std.proofs.Common.{refl, sym, ◌∙◌, arith}
+use Rattle.cga_forest.proofs.Books.{touch_fits, touch_books, touch_still, touch_room, keeps_room}
+use Rattle.cga_forest.proofs.store.Store.touch.Goals as goal
+
+pub push_reserved-requires : goal.push_reserved-requires
+push_reserved-requires c = let f = touch_fits c.self.inside.entries.slots c.touch_entry.new.entries.slots c.self.inside.touched.items c.self.inside.touched.cap c.self.inside.aside c.args.id c.self.invariant c.touch_entry.ensures.others c.touch_entry.ensures.here (sym c.touch_entry.ensures.fresh ∙ c.if-touch_entry.true) in omega arith
+
+pub invariant_of-self : goal.invariant_of-self
+invariant_of-self c = rw (c.push_reserved.ensures.items, c.push_reserved.ensures.capacity) (touch_books c.self.inside.entries.slots c.touch_entry.new.entries.slots c.self.inside.touched.items c.self.inside.touched.cap c.self.inside.aside c.args.id c.self.invariant c.touch_entry.ensures.others c.touch_entry.ensures.here (sym c.touch_entry.ensures.fresh ∙ c.if-touch_entry.true))
+
+pub invariant_of-self-else-touch_entry : goal.invariant_of-self-else-touch_entry
+invariant_of-self-else-touch_entry c = touch_still c.self.inside.entries.slots c.touch_entry.new.entries.slots c.self.inside.touched.items c.self.inside.touched.cap c.self.inside.aside c.args.id c.self.invariant c.touch_entry.ensures.others c.touch_entry.ensures.here (sym c.touch_entry.ensures.fresh ∙ c.if-touch_entry.false)
+
+pub returns-then-touch_entry-clause-room : goal.returns-then-touch_entry-clause-room
+returns-then-touch_entry-clause-room c = keeps_room _ _ _ _ _ _ _ c.self.view_is (touch_room c.self.inside.entries.slots c.touch_entry.new.entries.slots c.self.inside.touched.items c.self.inside.touched.cap c.self.inside.aside c.args.id c.self.invariant c.touch_entry.ensures.others c.touch_entry.ensures.here) c.touch_entry.ensures.capacity c.push_reserved.ensures.capacity
+
+pub returns-else-touch_entry-clause-room : goal.returns-else-touch_entry-clause-room
+returns-else-touch_entry-clause-room c = keeps_room _ _ _ _ _ _ _ c.self.view_is (touch_room c.self.inside.entries.slots c.touch_entry.new.entries.slots c.self.inside.touched.items c.self.inside.touched.cap c.self.inside.aside c.args.id c.self.invariant c.touch_entry.ensures.others c.touch_entry.ensures.here) c.touch_entry.ensures.capacity refl

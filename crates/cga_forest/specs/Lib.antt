@@ -1,0 +1,7 @@
+pub mod Node
+pub mod Hull
+pub mod Count
+pub mod View
+pub mod Roots
+pub mod Tree
+pub mod Walked

@@ -1,0 +1,226 @@
+-- The nodes of a forest as a tree, and what each change makes of it.
+use Rattle.std.specs.Prelude.{◌≡◌, ◌≢◌, ◌⊎◌, ◌↔◌, ℕ, zero, suc, ◌+◌, ◌<◌, ◌≤◌, List, [], ◌∷◌, length, Option, Some, None, Bool, true, false, not, ◌||◌, nat_eq, slice_get, if◌then◌else◌}
+use Rattle.std.specs.List.{list_any}
+use Rattle.cga_frame.specs.Box.{Box, holds}
+use Rattle.cga_forest.specs.declared.entry.Entry.{Entry}
+use Rattle.cga_forest.specs.declared.node.Node.{Node}
+use Rattle.cga_forest.specs.declared.hulls.Hulls.{Hulls}
+use Rattle.cga_forest.specs.declared.node.State.{State}
+use Rattle.cga_forest.specs.Node.{bounds, fits, with_state}
+use Rattle.cga_forest.specs.Hull.{own_hulls, over, with_hulls, alike}
+use Rattle.cga_forest.specs.Roots.{HasRoots}
+use Rattle.cga_forest.specs.View.{Seen, IsPlain, IsNewEntry, slot, present_of, marked_of, hulls_of, marked_hulls_of}
+
+-- c is the node or, at most n levels in all, below it
+unfoldable pub under : (ℕ → List ℕ) → ℕ → ℕ → ℕ → Bool
+under children zero id c = false
+under children (suc n) id c = nat_eq id c || list_any (λ k. under children n k c) (children id)
+
+-- parents and children name each other
+pub record IsTree (T : ℕ → Option Seen) : Type 0 where
+  pub down : (id i c : ℕ) (e : Seen) → T id ≡ Some e → slice_get e.children i ≡ Some c → (d : Seen) × (T c ≡ Some d) × (d.parent ≡ Some id) × (d.depth ≡ e.depth + 1) × (d.index ≡ i)
+  pub up : (c p : ℕ) (d : Seen) → T c ≡ Some d → d.parent ≡ Some p → (e : Seen) × (T p ≡ Some e) × (slice_get e.children d.index ≡ Some c)
+  pub shallow : (id : ℕ) (e : Seen) → T id ≡ Some e → e.depth ≤ 256
+  pub at_root : (id : ℕ) (e : Seen) → T id ≡ Some e → e.parent ≡ None → e.depth ≡ 0
+
+-- the node's hulls are alike with those of its own box and of its children's hulls
+abbrev pub IsRight : (ℕ → Option Hulls) → ℕ → Seen → Type 0
+IsRight H c e = (h : Hulls) × (H c ≡ Some h) × (alike h (over H (own_hulls e.node) e.children (length e.children)) ≡ true)
+
+abbrev pub AllRight : (ℕ → Option Seen) → (ℕ → Option Hulls) → Type 0
+AllRight T H = (c : ℕ) (e : Seen) → T c ≡ Some e → IsRight H c e
+
+-- all but those of the one node
+abbrev pub RightBut : (ℕ → Option Seen) → (ℕ → Option Hulls) → ℕ → Type 0
+RightBut T H id = (c : ℕ) (e : Seen) → c ≢ id → T c ≡ Some e → IsRight H c e
+
+-- where a child grew to these hulls, they and the node's own old ones together are right
+abbrev pub IsDue : (ℕ → Option Seen) → (ℕ → Option Hulls) → ℕ → Option Hulls → Type 0
+IsDue T H id grown = (e : Seen) (old k : Hulls) → T id ≡ Some e → H id ≡ Some old → grown ≡ Some k → alike (with_hulls old (Some k)) (over H (own_hulls e.node) e.children (length e.children)) ≡ true
+
+pub record IsWhole (T : ℕ → Option Seen) (H : ℕ → Option Hulls) : Type 0 where
+  pub tree : IsTree T
+  pub right : AllRight T H
+
+pub record ForestView : Type 0 where
+  pub slots : List (Option Entry)
+  pub marking : Bool
+  pub roots : List ℕ
+  pub marked_roots : List ℕ
+
+abbrev pub slot_at : ForestView → ℕ → Option Entry
+slot_at v id = slot v.slots id
+
+abbrev pub node_at : ForestView → ℕ → Option Seen
+node_at v id = present_of (slot_at v id)
+
+abbrev pub marked_at : ForestView → ℕ → Option Seen
+marked_at v id = marked_of (slot_at v id)
+
+abbrev pub hulls_at : ForestView → ℕ → Option Hulls
+hulls_at v id = hulls_of (slot_at v id)
+
+abbrev pub marked_hulls_at : ForestView → ℕ → Option Hulls
+marked_hulls_at v id = marked_hulls_of (slot_at v id)
+
+pub record IsForest (v : ForestView) : Type 0 where
+  pub present : IsWhole (node_at v) (hulls_at v)
+  pub marked : v.marking ≡ true → IsWhole (marked_at v) (marked_hulls_at v)
+  pub tops : HasRoots (node_at v) v.roots
+  pub marked_tops : v.marking ≡ true → HasRoots (marked_at v) v.marked_roots
+  pub plain : v.marking ≡ false → (id : ℕ) (e : Entry) → slot_at v id ≡ Some e → IsPlain e
+
+-- the children of a node that is there
+abbrev pub children_of : Option Seen → List ℕ
+children_of None = []
+children_of (Some e) = e.children
+
+abbrev pub children_at : ForestView → ℕ → List ℕ
+children_at v id = children_of (node_at v id)
+
+-- the marked nodes are as before
+abbrev pub KeepsMark : ForestView → ForestView → Type 0
+KeepsMark old new = (new.marking ≡ old.marking) × (old.marking ≡ true → (c : ℕ) → marked_at new c ≡ marked_at old c)
+
+-- the box is the least that holds the boxes of the node and of all below it
+abbrev pub IsLeastHull : ForestView → ℕ → Box → Type 0
+IsLeastHull v id h = (b : Box) → (holds b h ≡ true) ↔ ((c : ℕ) (d : Seen) → under (children_at v) 257 id c ≡ true → node_at v c ≡ Some d → holds b (bounds d.node) ≡ true)
+
+-- none of those that ask is at or below the node
+abbrev pub NoneAsks : ForestView → ℕ → Type 0
+NoneAsks v id = (c : ℕ) (d : Seen) → under (children_at v) 257 id c ≡ true → node_at v c ≡ Some d → d.node.asks ≡ false
+
+abbrev pub IsLeastAsking : ForestView → ℕ → Box → Type 0
+IsLeastAsking v id h = (b : Box) → (holds b h ≡ true) ↔ ((c : ℕ) (d : Seen) → under (children_at v) 257 id c ≡ true → node_at v c ≡ Some d → d.node.asks ≡ true → holds b (bounds d.node) ≡ true)
+
+-- an old child stays where the new list has its content at its place
+abbrev pub fits_at : Node → Option Node → Bool
+fits_at old None = false
+fits_at old (Some new) = fits old new
+
+abbrev pub stay_of : Option Entry → Option Node → Bool
+stay_of None new = false
+stay_of (Some e) new = fits_at e.node new
+
+abbrev pub stay_child : (ℕ → Option Entry) → Option ℕ → Node → Option ℕ
+stay_child s None new = None
+stay_child s (Some k) new = if stay_of (s k) (Some new) then Some k else None
+
+-- c goes with the old child at a place, unless that stays
+abbrev pub goes_at : (ℕ → List ℕ) → ℕ → (ℕ → Option Node → Bool) → Option ℕ → Option Node → ℕ → Bool
+goes_at K n P None new c = false
+goes_at K n P (Some k) new c = if P k new then false else under K n k c
+
+-- c goes with one of the first so many old children
+unfoldable pub goes : (ℕ → List ℕ) → ℕ → (ℕ → Option Node → Bool) → List ℕ → List Node → ℕ → ℕ → Bool
+goes K n P olds news zero c = false
+goes K n P olds news (suc i) c = goes K n P olds news i c || goes_at K n P (slice_get olds i) (slice_get news i) c
+
+-- the child at a place of the new list is the old one there, which fits, or it came, where the old one doesn't fit
+abbrev pub IsPlacedChild : (ℕ → Option Entry) → (ℕ → Option Entry) → ℕ → ℕ → Bool → List ℕ → Node → ℕ → ℕ → Type 0
+IsPlacedChild old now id depth marking olds w i c =
+    ((slice_get olds i ≡ Some c) × (stay_of (old c) (Some w) ≡ true))
+    ⊎ ((old c ≡ None) × IsNewEntry (now c) (Some id) w depth i marking × ((k : ℕ) → slice_get olds i ≡ Some k → stay_of (old k) (Some w) ≡ false))
+
+-- the children so far are old ones at their places, or came, and nothing else changed
+pub record IsPlaced (old now : ℕ → Option Entry) (id depth : ℕ) (marking : Bool) (olds : List ℕ) (news : List Node) (made : List ℕ) : Type 0 where
+  pub each : (i c : ℕ) → slice_get made i ≡ Some c → (w : Node) × (slice_get news i ≡ Some w) × IsPlacedChild old now id depth marking olds w i c
+  pub rest : (c : ℕ) (e : Entry) → old c ≡ Some e → now c ≡ Some e
+  pub came : (c : ℕ) → old c ≡ None → (now c ≡ None) ⊎ ((i : ℕ) × (slice_get made i ≡ Some c))
+
+abbrev pub depth_at : Option Entry → ℕ
+depth_at None = 0
+depth_at (Some e) = e.depth
+
+-- a child that came
+pub record IsNewChild (T : ℕ → Option Seen) (id depth i : ℕ) (w : Node) (c : ℕ) : Type 0 where
+  pub seen : Seen
+  pub here : T c ≡ Some seen
+  pub node : seen.node ≡ w
+  pub parent : seen.parent ≡ Some id
+  pub index : seen.index ≡ i
+  pub deeper : seen.depth ≡ depth + 1
+  pub leaf : seen.children ≡ []
+
+-- the child at a place of the new list is the old one there, or it came
+abbrev pub IsChildNow : (ℕ → Option Seen) → (ℕ → Option Seen) → ℕ → Seen → (ℕ → Bool) → Node → ℕ → ℕ → Type 0
+IsChildNow S T id e gone w i c = ((slice_get e.children i ≡ Some c) × (gone c ≡ false)) ⊎ ((S c ≡ None) × IsNewChild T id e.depth i w c)
+
+-- what S became: the node e under id has these children now, the gone ones went, and the others are as they were
+pub record IsReplaced (S T : ℕ → Option Seen) (id : ℕ) (news : List Node) (e now : Seen) (gone : ℕ → Bool) : Type 0 where
+  pub was : S id ≡ Some e
+  pub is : T id ≡ Some now
+  pub depth : now.depth ≡ e.depth
+  pub parent : now.parent ≡ e.parent
+  pub index : now.index ≡ e.index
+  pub low : 0 < length news → e.depth < 256
+  -- as many children as were asked for, each the old one at its place or one of the content asked for
+  pub sized : length now.children ≡ length news
+  pub each : (i c : ℕ) → slice_get now.children i ≡ Some c → (w : Node) × (slice_get news i ≡ Some w) × IsChildNow S T id e gone w i c
+  -- an old child goes exactly where it hasn't the content asked for at its place
+  pub fate : (i c : ℕ) (d : Seen) → slice_get e.children i ≡ Some c → S c ≡ Some d → gone c ≡ not (fits_at d.node (slice_get news i))
+  pub stays : (i c : ℕ) → slice_get e.children i ≡ Some c → gone c ≡ false → slice_get now.children i ≡ Some c
+  -- no root goes; with a node goes all below it, and nothing else
+  pub tops : (c : ℕ) (d : Seen) → S c ≡ Some d → d.parent ≡ None → gone c ≡ false
+  pub into : (c p : ℕ) (d : Seen) → S c ≡ Some d → d.parent ≡ Some p → gone c ≡ true → p ≢ id → gone p ≡ true
+  pub onto : (c p : ℕ) (d : Seen) → S c ≡ Some d → d.parent ≡ Some p → gone p ≡ true → gone c ≡ true
+  pub self : gone id ≡ false
+  pub came : (c : ℕ) → S c ≡ None → (T c ≡ None) ⊎ ((i : ℕ) × (slice_get now.children i ≡ Some c))
+  pub rest : (c : ℕ) (d : Seen) → c ≢ id → S c ≡ Some d → T c ≡ (if gone c then None else Some d)
+
+-- there is a node, and it may have such children
+abbrev pub IsInner : Option Seen → List Node → Type 0
+IsInner slot news = (e : Seen) × (slot ≡ Some e) × (0 < length news → e.depth < 256)
+
+-- a node's content and children are replaced, and the nodes go that the test names
+abbrev pub ReplacedBy : (ℕ → Option Seen) → (ℕ → Option Seen) → ℕ → State → List Node → (ℕ → Bool) → Type 0
+ReplacedBy old new id state news gone = (e : Seen) × (children : List ℕ) × IsReplaced old new id news e (record e { node = with_state state e.node; children = children }) gone
+
+-- a node's content and children are replaced, and the subtrees of the children that go
+abbrev pub Replaces : (ℕ → Option Seen) → (ℕ → Option Seen) → ℕ → State → List Node → Type 0
+Replaces old new id state news = (e : Seen) × (children : List ℕ) × (gone : ℕ → Bool) × IsReplaced old new id news e (record e { node = with_state state e.node; children = children }) gone
+
+-- the hulls of a slot from its content and its children's hulls
+abbrev pub hulls_now : (ℕ → Option Hulls) → Option Entry → Option Hulls
+hulls_now H None = None
+hulls_now H (Some e) = Some (over H (own_hulls e.node) e.children.items (length e.children.items))
+
+-- the same, or the old hulls with those of a child that grew
+abbrev pub hulls_next : (ℕ → Option Hulls) → Option Entry → Option Hulls → Option Hulls
+hulls_next H s None = hulls_now H s
+hulls_next H None (Some k) = None
+hulls_next H (Some e) (Some k) = Some (with_hulls e.hulls (Some k))
+
+abbrev pub parent_of : Option Entry → Option ℕ
+parent_of None = None
+parent_of (Some e) = e.parent
+
+-- ---- the boxes of what a change touches
+
+abbrev pub Member : List Box → Box → Type 0
+Member [] b = ⊥
+Member (x ∷ xs) b = (x ≡ b) ⊎ Member xs b
+
+-- the new list has the boxes of the old one, and those that Q tells
+abbrev pub Gathers : List Box → List Box → (Box → Type 0) → Type 0
+Gathers old new Q = (b : Box) → Member new b ↔ (Member old b ⊎ Q b)
+
+-- a box of one of these entries
+abbrev pub IsBoxIn : (ℕ → Option Entry) → (ℕ → Bool) → Box → Type 0
+IsBoxIn s G b = (c : ℕ) × (e : Entry) × (s c ≡ Some e) × (G c ≡ true) × (bounds e.node ≡ b)
+
+-- the box of one of the first n new children that doesn't stand there
+abbrev pub IsComing : (ℕ → Option Entry) → List ℕ → List Node → ℕ → Box → Type 0
+IsComing s olds news n b = (i : ℕ) × (w : Node) × (i < n) × (slice_get news i ≡ Some w) × (stay_child s (slice_get olds i) w ≡ None) × (bounds w ≡ b)
+
+-- the list has the boxes of the nodes that went or came, and no other
+abbrev pub ListsChanged : (ℕ → Option Seen) → (ℕ → Option Seen) → List Box → Type 0
+ListsChanged S T list = (b : Box) → Member list b ↔ (((c : ℕ) × (d : Seen) × (S c ≡ Some d) × (T c ≡ None) × (bounds d.node ≡ b)) ⊎ ((c : ℕ) × (d : Seen) × (S c ≡ None) × (T c ≡ Some d) × (bounds d.node ≡ b)))
+
+abbrev pub content_of : Option Seen → Option Node
+content_of None = None
+content_of (Some d) = Some d.node
+
+abbrev pub above : Option Seen → Option ℕ
+above None = None
+above (Some d) = d.parent

@@ -1,0 +1,48 @@
+-- A forest as a tree of boxes.
+use Rattle.std.specs.Prelude.{◌≡◌, ℕ, Option, Some, None, Bool, true, false, cond, nat_eq, pos}
+use Rattle.cga_frame.specs.Box.{Box, is_box}
+use Rattle.cga_index.specs.declared.standing.Standing.TheVariants.{Hidden, Waiting}
+use Rattle.cga_index.specs.Tree.{TreeView}
+use Rattle.cga_forest.specs.declared.hulls.Hulls.{Hulls}
+use Rattle.cga_forest.specs.Node.{bounds}
+use Rattle.cga_forest.specs.View.{Seen}
+use Rattle.cga_forest.specs.Tree.{ForestView, node_at, hulls_at, children_at}
+
+abbrev pub empty_box : Box
+empty_box = record { low = record { x = record { num = pos 0; above = 0 }; y = record { num = pos 0; above = 0 }; z = record { num = pos 0; above = 0 } }; high = record { x = record { num = pos 0; above = 0 }; y = record { num = pos 0; above = 0 }; z = record { num = pos 0; above = 0 } } }
+
+abbrev pub own_of : Option Seen → Box
+own_of None = empty_box
+own_of (Some d) = bounds d.node
+
+abbrev pub asks_of : Option Seen → Bool
+asks_of None = false
+asks_of (Some d) = d.node.asks
+
+abbrev pub depth_of : Option Seen → ℕ
+depth_of None = 0
+depth_of (Some d) = d.depth
+
+abbrev pub all_of : Option Hulls → Box
+all_of None = empty_box
+all_of (Some h) = h.all
+
+abbrev pub asking_of : Option Hulls → Option Box
+asking_of None = None
+asking_of (Some h) = h.asking
+
+abbrev pub forest_tree : ForestView → TreeView
+forest_tree v = record {
+  roots = v.roots;
+  children = children_at v;
+  own = λ n. own_of (node_at v n);
+  hull = λ n. all_of (hulls_at v n);
+  depth = λ n. depth_of (node_at v n);
+  standing = λ n by. cond (nat_eq n by) Hidden Waiting;
+  asks = λ n. asks_of (node_at v n);
+  asking_hull = λ n. asking_of (hulls_at v n);
+}
+
+-- low at most high in each node's box
+abbrev pub AllBoxed : ForestView → Type 0
+AllBoxed v = (c : ℕ) (d : Seen) → node_at v c ≡ Some d → is_box (bounds d.node) ≡ true

@@ -1,0 +1,90 @@
+ghost use Rattle.std.specs.Prelude.{◌≡◌, true, Some, None, if◌then◌else◌};
+ghost use Rattle.cga_forest.specs.View.{settled, rolled, rewritten, present_of, marked_of, hulls_of, marked_hulls_of, KeepsBooks};
+
+use crate::hulls::Hulls;
+use crate::node::{Node, State};
+
+/// The state and the children of a node as they stood at the mark.
+#[derive(Drop, Debug)]
+pub struct Former {
+    pub state: State,
+    pub children: Vec<usize>,
+}
+
+#[derive(Drop, Debug)]
+pub struct Entry {
+    pub node: Node,
+    pub depth: usize,
+    pub parent: Option<usize>,
+    pub index: usize,
+    pub children: Vec<usize>,
+    pub hulls: Hulls,
+    pub aside: bool,
+    pub came: bool,
+    pub touched: bool,
+    pub former: Option<Former>,
+    pub former_hulls: Option<Hulls>,
+}
+
+impl Entry {
+    /// Drops what the entry keeps for the mark. False where the node was set aside.
+    pub fn settle(&mut self) -> bool
+        ensures { if result then Some self.new else None ≡ settled (Some self.old) }
+    {
+        self.came = false;
+        self.touched = false;
+        self.former = None;
+        self.former_hulls = None;
+        !self.aside
+    }
+
+    /// Puts the marked node back. False where the node came after the mark.
+    pub fn roll_back(&mut self) -> bool
+        ensures { if result then Some self.new else None ≡ rolled (Some self.old) }
+    {
+        let came = self.came;
+        self.aside = false;
+        self.came = false;
+        self.touched = false;
+        if let Some(former) = self.former.take() {
+            self.node.set_state(former.state);
+            self.children = former.children;
+        }
+        if let Some(hulls) = self.former_hulls.take() {
+            self.hulls = hulls;
+        }
+        !came
+    }
+
+    pub fn rewrite(&mut self, marking: bool, state: State, children: Vec<usize>)
+        requires touched { marking ≡ true → self.old.touched ≡ true }
+        ensures present { present_of (Some self.new) ≡ rewritten state children.items (present_of (Some self.old)) }
+        ensures marked { marking ≡ true → marked_of (Some self.new) ≡ marked_of (Some self.old) }
+        ensures hulls { hulls_of (Some self.new) ≡ hulls_of (Some self.old) }
+        ensures marked_hulls { marked_hulls_of (Some self.new) ≡ marked_hulls_of (Some self.old) }
+        ensures books { KeepsBooks self.old self.new }
+    {
+        let former = Former {
+            state: self.node.state(),
+            children: std::mem::replace(&mut self.children, children),
+        };
+        self.node.set_state(state);
+        if marking && self.former.is_none() {
+            self.former = Some(former);
+        }
+    }
+
+    pub fn set_hulls(&mut self, marking: bool, hulls: Hulls)
+        requires touched { marking ≡ true → self.old.touched ≡ true }
+        ensures present { present_of (Some self.new) ≡ present_of (Some self.old) }
+        ensures marked { marked_of (Some self.new) ≡ marked_of (Some self.old) }
+        ensures hulls { hulls_of (Some self.new) ≡ Some hulls }
+        ensures marked_hulls { marking ≡ true → marked_hulls_of (Some self.new) ≡ marked_hulls_of (Some self.old) }
+        ensures books { KeepsBooks self.old self.new }
+    {
+        if marking && self.former_hulls.is_none() {
+            self.former_hulls = Some(self.hulls);
+        }
+        self.hulls = hulls;
+    }
+}

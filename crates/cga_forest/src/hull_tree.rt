@@ -1,0 +1,70 @@
+ghost use Rattle.std.specs.Prelude.{◌≡◌, ◌≤◌, ◌+◌, IsSome};
+ghost use Rattle.cga_index.specs.Occlusion.{answer_of};
+ghost use Rattle.cga_index.specs.Tree.{asked, all_nodes, near};
+ghost use Rattle.cga_forest.specs.Tree.{node_at};
+ghost use Rattle.cga_forest.specs.Walked.{forest_tree, AllBoxed};
+
+use crate::Forest;
+use cga_fraction::Steps;
+use cga_frame::WorldBox;
+use cga_index::{HullTree, NodeId, Standing, answer};
+use cga_word::{Answer, Target};
+use std::sync::ledger::Ledger;
+
+impl HullTree for Forest {
+    ghost view = { λ f. forest_tree f };
+
+    fn roots(&self) -> usize {
+        self.roots.as_slice().len()
+    }
+
+    fn root(&self, place: usize) -> NodeId {
+        NodeId::new(self.roots.as_slice()[place] as u64)
+    }
+
+    fn children(&self, node: NodeId) -> usize {
+        self.store.child_count(node.number() as usize)
+    }
+
+    fn child(&self, node: NodeId, place: usize) -> NodeId {
+        NodeId::new(self.store.entry(node.number() as usize).children[place] as u64)
+    }
+
+    fn own_box<T: Ledger>(&self, node: NodeId, tests: &mut Steps<T>) -> WorldBox {
+        tests.tick();
+        self.store.entry(node.number() as usize).node.bounds()
+    }
+
+    fn hull(&self, node: NodeId) -> WorldBox {
+        self.store.entry(node.number() as usize).hulls.all
+    }
+
+    fn standing(&self, node: NodeId, by: NodeId) -> Standing {
+        if node.number() == by.number() {
+            Standing::Hidden
+        } else {
+            Standing::Waiting
+        }
+    }
+
+    fn asks(&self, node: NodeId) -> bool {
+        self.store.entry(node.number() as usize).node.asks
+    }
+
+    fn asking_hull(&self, node: NodeId) -> Option<WorldBox> {
+        self.store.entry(node.number() as usize).hulls.asking
+    }
+}
+
+impl Forest {
+    /// What a node is answered.
+    pub fn ask<T: Ledger>(&self, node: NodeId, target: Target, tests: &mut Steps<T>) -> Answer
+        requires here { IsSome (node_at self.now node) }
+        requires boxed { AllBoxed self.now }
+        ensures found { result ≡ answer_of ((forest_tree self.now).own node) (asked (forest_tree self.now) node target (all_nodes (forest_tree self.now))) }
+        ensures counted { tests.new ≤ tests.old + near (forest_tree self.now) node }
+    {
+        let _marking = self.marking;
+        answer(self, node, target, tests)
+    }
+}

@@ -1,0 +1,189 @@
+#![tactic(auto)]
+
+mod boxes;
+mod entry;
+mod hull_tree;
+mod hulls;
+mod node;
+mod roots;
+mod same;
+mod slots;
+mod store;
+
+ghost use Rattle.std.specs.Prelude.{◌≡◌, ◌≢◌, ℕ, true, false, [], Some, None, IfOk, IfSome, IsSome, is_some, option_copied, ◌↔◌, OnOk, OnErr, if◌then◌else◌};
+ghost use Rattle.cga_forest.specs.Count.{tally};
+ghost use Rattle.cga_forest.specs.View.{Seen, is_shown};
+ghost use Rattle.cga_forest.specs.Tree.{ForestView, IsInner, content_of, above, slot_at, ListsChanged, IsLeastHull, IsLeastAsking, NoneAsks, Replaces, node_at, marked_at, under, children_at, KeepsMark};
+
+use boxes::changed_boxes;
+use cga_fraction::NoMemory;
+use cga_frame::WorldBox;
+pub use node::{Node, State};
+use roots::Roots;
+use slots::{depth_of, parent_at, replace, set_aside};
+use std::alloc::Global;
+use std::marker::Model;
+use store::Store;
+
+/// Nodes under numbers, with a way back to a mark.
+#[derive(Drop)]
+pub struct Forest {
+    store: Store,
+    roots: Roots,
+    marking: bool,
+    alloc: Global,
+}
+
+impl Model for Forest {
+    ghost use Rattle.cga_forest.specs.Tree.{ForestView, IsForest};
+
+    ghost Value = { ForestView };
+
+    ghost view = { λ f. record { slots = f.store.slots; marking = f.marking; roots = f.roots.list; marked_roots = f.roots.former } };
+
+    ghost invariant = { λ f. IsForest (record { slots = f.store.slots; marking = f.marking; roots = f.roots.list; marked_roots = f.roots.former }) };
+}
+
+impl Forest {
+    pub fn new(alloc: Global) -> Forest
+        ensures { result ≡ record { slots = []; marking = false; roots = []; marked_roots = [] } }
+    {
+        Forest {
+            store: Store::new(alloc),
+            roots: Roots::new(alloc),
+            marking: false,
+            alloc,
+        }
+    }
+
+    /// How many nodes there are.
+    pub fn count(&self) -> usize
+        ensures { result ≡ tally is_shown self.now.slots }
+    {
+        self.store.shown()
+    }
+
+    pub fn node(&self, id: usize) -> Option<&Node>
+        ensures { option_copied result ≡ content_of (node_at self.now id) }
+    {
+        match self.store.get(id) {
+            Some(entry) => { if entry.aside { None } else { Some(&entry.node) } }
+            None => None,
+        }
+    }
+
+    pub fn parent(&self, id: usize) -> Option<usize>
+        requires here { (e : Seen) × (node_at self.now id ≡ Some e) }
+        ensures { result ≡ above (node_at self.now id) }
+    {
+        parent_at(&self.store, id)
+    }
+
+    /// The least box that holds the boxes of a node and of all below it.
+    pub fn hull(&self, id: usize) -> WorldBox
+        requires here { IsSome (node_at self.now id) }
+        ensures least { IsLeastHull self.now id result }
+    {
+        self.store.entry(id).hulls.all
+    }
+
+    /// The same for those of them that ask, if any does.
+    pub fn asking_hull(&self, id: usize) -> Option<WorldBox>
+        requires here { IsSome (node_at self.now id) }
+        ensures least { IfSome result (λ h. IsLeastAsking self.now id h) }
+        ensures none { (result ≡ None) ↔ NoneAsks self.now id }
+    {
+        self.store.entry(id).hulls.asking
+    }
+
+    pub fn add_root(&mut self, node: Node) -> Result<usize, NoMemory>
+        ensures fresh { IfOk result (λ id. node_at self.old id ≡ None) }
+        ensures unmarked { IfOk result (λ id. marked_at self.old id ≡ None) }
+        ensures node { IfOk result (λ id. node_at self.new id ≡ Some (record { node = node; depth = 0; parent = None; index = 0; children = [] })) }
+        ensures others { IfOk result (λ id. (other : ℕ) → other ≢ id → node_at self.new other ≡ node_at self.old other) }
+        ensures mark { KeepsMark self.old self.new }
+        ensures err { OnErr result (self.new ≡ self.old) }
+    {
+        self.store.reserve(1)?;
+        self.roots.reserve()?;
+        let id = self.store.add(self.alloc, self.marking, node, 0, None, 0);
+        self.roots.push(id);
+        Ok(id)
+    }
+
+    pub fn remove_root(&mut self, id: usize)
+        requires root { (e : Seen) × (node_at self.old id ≡ Some e) × (e.parent ≡ None) }
+        ensures gone { (c : ℕ) → node_at self.new c ≡ (if under (children_at self.old) 257 id c then None else node_at self.old c) }
+        ensures mark { KeepsMark self.old self.new }
+    {
+        set_aside(&mut self.store, id, 257);
+        self.roots.take_out(id);
+        if !self.marking {
+            self.store.settle();
+        }
+    }
+
+    /// Gives a node another state and these children: an old child stays with its subtree where the new one at its place
+    /// has its content. Answers the boxes of the nodes that went or came.
+    pub fn replace_children(
+        &mut self,
+        id: usize,
+        state: State,
+        news: Vec<Node>,
+    ) -> Result<Vec<WorldBox>, NoMemory>
+        requires here { IsInner (node_at self.old id) news.items }
+        ensures replaced { OnOk result (Replaces (node_at self.old) (node_at self.new) id state news.items) }
+        ensures unmarked { OnOk result ((c : ℕ) → node_at self.old c ≡ None → IsSome (node_at self.new c) → marked_at self.old c ≡ None) }
+        ensures boxes { IfOk result (λ list. ListsChanged (node_at self.old) (node_at self.new) list.items) }
+        ensures mark { KeepsMark self.old self.new }
+        ensures err { OnErr result (self.new ≡ self.old) }
+    {
+        self.store.reserve(news.len())?;
+        let made = Vec::with_capacity(self.alloc, news.len())?;
+        let left = 256 - depth_of(&self.store, id);
+        let boxes = changed_boxes(&self.store, self.alloc, id, left, news.as_slice())?;
+        replace(
+            &mut self.store,
+            self.alloc,
+            id,
+            self.marking,
+            state,
+            news,
+            made,
+        );
+        if !self.marking {
+            self.store.settle();
+        }
+        Ok(boxes)
+    }
+
+    pub fn begin(&mut self)
+        requires unmarked { self.old.marking ≡ false }
+        ensures marking { self.new.marking ≡ true }
+        ensures present { (c : ℕ) → node_at self.new c ≡ node_at self.old c }
+        ensures marked { (c : ℕ) → marked_at self.new c ≡ node_at self.old c }
+    {
+        self.roots.begin();
+        self.marking = true;
+    }
+
+    pub fn settle(&mut self)
+        requires marked { self.old.marking ≡ true }
+        ensures marking { self.new.marking ≡ false }
+        ensures present { (c : ℕ) → node_at self.new c ≡ node_at self.old c }
+        ensures dropped { (c : ℕ) → is_some (slot_at self.new c) ≡ is_some (node_at self.new c) }
+    {
+        self.store.settle();
+        self.marking = false;
+    }
+
+    pub fn roll_back(&mut self)
+        requires marked { self.old.marking ≡ true }
+        ensures marking { self.new.marking ≡ false }
+        ensures present { (c : ℕ) → node_at self.new c ≡ marked_at self.old c }
+    {
+        self.store.roll_back();
+        self.roots.roll_back();
+        self.marking = false;
+    }
+}

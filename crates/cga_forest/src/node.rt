@@ -1,0 +1,72 @@
+ghost use Rattle.std.specs.Prelude.{◌≡◌, ◌↔◌, IsTrue};
+ghost use Rattle.cga_forest.specs.Node.{AreAlike, bounds, fits, state_of, with_state};
+
+use crate::same::{same_shape, same_sort};
+use cga_fraction::List;
+use cga_frame::WorldBox;
+use cga_shape::{Answers, Kind, Shape};
+
+/// A shape that the forest keeps, and what is known of it.
+#[derive(Drop, Debug)]
+pub struct Node {
+    pub shape: Shape,
+    pub kind: Kind,
+    /// That of its symbol, or of an instance's, when it was placed.
+    pub priority: u16,
+    pub answers: Answers,
+    /// Whether its answers depend on what lies near.
+    pub asks: bool,
+    /// The priorities on the way from the root, its own the last.
+    pub line: List<u16>,
+}
+
+/// What of a node may change while it stays.
+#[derive(Clone, Copy, Debug)]
+pub struct State {
+    pub kind: Kind,
+    pub answers: Answers,
+    pub asks: bool,
+}
+
+impl Node {
+    #[tactic(auto, unfolding(crate::specs::Node::bounds))]
+    pub fn bounds(&self) -> WorldBox
+        ensures { result ≡ bounds self.now }
+    {
+        self.shape.scope.world_box()
+    }
+
+    pub fn state(&self) -> State
+        ensures { result ≡ state_of self.now }
+    {
+        State {
+            kind: self.kind,
+            answers: self.answers,
+            asks: self.asks,
+        }
+    }
+
+    pub fn set_state(&mut self, state: State)
+        ensures { self.new ≡ with_state state self.old }
+    {
+        self.kind = state.kind;
+        self.answers = state.answers;
+        self.asks = state.asks;
+    }
+
+    /// Whether an old child stays where this one is asked for.
+    pub fn fits(&self, new: &Node) -> bool
+        ensures value { result ≡ fits self.now new.now }
+        ensures exact { IsTrue result ↔ AreAlike self.now new.now }
+    {
+        are_alike(self, new)
+    }
+}
+
+#[tactic(auto, unfolding(crate::specs::Node::fits))]
+fn are_alike(old: &Node, new: &Node) -> bool
+    ensures { result ≡ fits old.now new.now }
+{
+    old.priority == new.priority
+        && (same_sort(old.kind, new.kind) && same_shape(&old.shape, &new.shape))
+}

@@ -1,0 +1,227 @@
+ghost use Rattle.std.specs.Prelude.{IfSome, IsSome, [], true, false, ◌≢◌, ◌≡◌, ◌<◌, ◌≤◌, ◌+◌, ◌-◌, ℕ, length, IfOk, OnOk, OnErr, slice_get, Some, None, option_copied};
+ghost use Rattle.cga_forest.specs.Hull.{at_hulls};
+ghost use Rattle.cga_forest.specs.View.{Seen, at, HasRoom, KeepsRoom, present_of, marked_of, hulls_of, marked_hulls_of, kids, flag_if};
+ghost use Rattle.cga_forest.specs.Tree.{IsTree, IsWhole, AllRight, RightBut, IsDue, IsInner, ReplacedBy, IsPlaced, depth_at, parent_of, under, goes, stay_of, stay_child, hulls_now, hulls_next};
+
+use crate::hulls::Hulls;
+use crate::node::{Node, State};
+use crate::store::Store;
+use std::alloc::Global;
+
+pub fn child_at(store: &Store, id: usize, place: usize) -> Option<usize>
+    ensures { result ≡ slice_get (kids (at store.now id)) place }
+{
+    match store.get(id) {
+        Some(entry) => match entry.children.get(place) {
+            Some(child) => Some(*child),
+            None => None,
+        },
+        None => None,
+    }
+}
+
+pub fn set_aside(store: &mut Store, id: usize, left: usize)
+    ensures pointwise { (c : ℕ) → at store.new c ≡ flag_if (under (λ d. kids (at store.old d)) left id c) (at store.old c) }
+    ensures room { KeepsRoom store.old store.new }
+{
+    if left > 0 {
+        let count = store.flag(id);
+        for place in 0..count {
+            if let Some(child) = child_at(store, id, place) {
+                set_aside(store, child, left - 1);
+            }
+        }
+    }
+}
+
+/// Whether a child stays where this content is asked for.
+pub fn fits_child(store: &Store, child: usize, new: &Node) -> bool
+    ensures { result ≡ stay_of (at store.now child) (Some new.now) }
+{
+    match store.get(child) {
+        Some(entry) => entry.node.fits(new),
+        None => false,
+    }
+}
+
+/// Whether a child stays, by what is asked for at its place.
+pub fn stays(store: &Store, child: usize, news: &[Node], place: usize) -> bool
+    ensures { result ≡ stay_of (at store.now child) (slice_get news.now place) }
+{
+    match news.get(place) {
+        Some(new) => fits_child(store, child, new),
+        None => false,
+    }
+}
+
+/// Sets aside the children of a node, with their subtrees, that don't stay.
+pub fn drop_children(store: &mut Store, id: usize, left: usize, news: &[Node])
+    ensures pointwise { (c : ℕ) → at store.new c ≡ flag_if (goes (λ d. kids (at store.old d)) left (λ k w. stay_of (at store.old k) w) (kids (at store.old id)) news.now (length (kids (at store.old id))) c) (at store.old c) }
+    ensures room { KeepsRoom store.old store.new }
+{
+    let count = store.child_count(id);
+    for place in 0..count {
+        if let Some(child) = child_at(store, id, place) {
+            if !stays(store, child, news, place) {
+                set_aside(store, child, left);
+            }
+        }
+    }
+}
+
+/// The child at a place, where it stays.
+pub fn staying(store: &Store, id: usize, place: usize, new: &Node) -> Option<usize>
+    ensures { result ≡ stay_child (λ k. at store.now k) (slice_get (kids (at store.now id)) place) new.now }
+{
+    let child = child_at(store, id, place)?;
+    if fits_child(store, child, new) {
+        Some(child)
+    } else {
+        None
+    }
+}
+
+/// Makes the list of a node's new children: an old child stays where it has the new one's content, and any other comes.
+pub fn place_children(
+    store: &mut Store,
+    alloc: Global,
+    id: usize,
+    depth: usize,
+    marking: bool,
+    news: Vec<Node>,
+    made: &mut Vec<usize>,
+)
+    requires room { HasRoom store.old (length news.items) }
+    requires empty { made.old.items ≡ [] }
+    requires space { length news.items ≤ made.old.cap }
+    requires here { IsSome (at store.old id) }
+    requires kids { (i k : ℕ) → slice_get (kids (at store.old id)) i ≡ Some k → IsSome (at store.old k) }
+    ensures placed { IsPlaced (λ c. at store.old c) (λ c. at store.new c) id depth marking (kids (at store.old id)) news.items made.new.items }
+    ensures length { length made.new.items ≡ length news.items }
+{
+    for new in news {
+        let place = made.len();
+        let child = match staying(store, id, place, &new) {
+            Some(child) => {
+                drop(new);
+                child
+            }
+            None => store.add(alloc, marking, new, depth, Some(id), place),
+        };
+        made.push_reserved(child);
+    }
+}
+
+pub fn depth_of(store: &Store, id: usize) -> usize
+    ensures { result ≡ depth_at (at store.now id) }
+{
+    match store.get(id) {
+        Some(entry) => entry.depth,
+        None => 0,
+    }
+}
+
+pub fn parent_at(store: &Store, id: usize) -> Option<usize>
+    ensures { result ≡ parent_of (at store.now id) }
+{
+    match store.get(id) {
+        Some(entry) => entry.parent,
+        None => None,
+    }
+}
+
+fn child_hulls(store: &Store, id: usize, place: usize) -> Option<Hulls>
+    ensures { result ≡ at_hulls (λ c. hulls_of (at store.now c)) (slice_get (kids (at store.now id)) place) }
+{
+    let child = child_at(store, id, place)?;
+    match store.get(child) {
+        Some(entry) => Some(entry.hulls),
+        None => None,
+    }
+}
+
+/// A node's hulls, from its content and its children's hulls.
+fn hulls_over(store: &Store, id: usize) -> Option<Hulls>
+    ensures { result ≡ hulls_now (λ c. hulls_of (at store.now c)) (at store.now id) }
+{
+    let mut hulls = Hulls::own(&store.get(id)?.node);
+    for place in 0..store.child_count(id) {
+        hulls = hulls.with(&child_hulls(store, id, place));
+    }
+    Some(hulls)
+}
+
+fn hulls_at(store: &Store, id: usize) -> Option<Hulls>
+    ensures { result ≡ hulls_of (at store.now id) }
+{
+    match store.get(id) {
+        Some(entry) => Some(entry.hulls),
+        None => None,
+    }
+}
+
+/// The hulls that a node gets: its old ones with those of the child that grew, or else from all its children.
+fn next_hulls(store: &Store, id: usize, grown: &Option<Hulls>) -> Option<Hulls>
+    ensures { result ≡ hulls_next (λ c. hulls_of (at store.now c)) (at store.now id) grown.now }
+{
+    match grown {
+        Some(_) => match store.get(id) {
+            Some(entry) => Some(entry.hulls.with(grown)),
+            None => None,
+        },
+        None => hulls_over(store, id),
+    }
+}
+
+/// Brings the hulls up to date from a node upwards, until they are as before, where all others are right.
+/// Where only one child's hulls changed, and they grew, they are given.
+pub fn refresh(store: &mut Store, id: usize, marking: bool, grown: Option<Hulls>)
+    requires tree { IsTree (λ c. present_of (at store.old c)) }
+    requires here { IsSome (present_of (at store.old id)) }
+    requires right { RightBut (λ c. present_of (at store.old c)) (λ c. hulls_of (at store.old c)) id }
+    requires due { IsDue (λ c. present_of (at store.old c)) (λ c. hulls_of (at store.old c)) id grown }
+    ensures present { (c : ℕ) → present_of (at store.new c) ≡ present_of (at store.old c) }
+    ensures marked { (c : ℕ) → marked_of (at store.new c) ≡ marked_of (at store.old c) }
+    ensures marked_hulls { marking ≡ true → (c : ℕ) → marked_hulls_of (at store.new c) ≡ marked_hulls_of (at store.old c) }
+    ensures right { AllRight (λ c. present_of (at store.new c)) (λ c. hulls_of (at store.new c)) }
+{
+    if let Some(old) = hulls_at(store, id) {
+        if let Some(new) = next_hulls(store, id, &grown) {
+            if !new.is_like(&old) {
+                store.set_hulls(id, marking, new);
+                if let Some(parent) = parent_at(store, id) {
+                    refresh(store, parent, marking, new.grown_from(&old));
+                }
+            }
+        }
+    }
+}
+
+/// Gives a node another state and these children. The room is there already.
+pub fn replace(
+    store: &mut Store,
+    alloc: Global,
+    id: usize,
+    marking: bool,
+    state: State,
+    news: Vec<Node>,
+    made: Vec<usize>,
+)
+    requires room { HasRoom store.old (length news.items) }
+    requires empty { made.items ≡ [] }
+    requires space { length news.items ≤ made.cap }
+    requires whole { IsWhole (λ c. present_of (at store.old c)) (λ c. hulls_of (at store.old c)) }
+    requires here { IsInner (present_of (at store.old id)) news.items }
+    ensures whole { IsWhole (λ c. present_of (at store.new c)) (λ c. hulls_of (at store.new c)) }
+    ensures replaced { ReplacedBy (λ c. present_of (at store.old c)) (λ c. present_of (at store.new c)) id state news.items (λ c. goes (λ d. kids (at store.old d)) (256 - depth_at (at store.old id)) (λ k w. stay_of (at store.old k) w) (kids (at store.old id)) news.items (length (kids (at store.old id))) c) }
+    ensures vacant { (c : ℕ) (d : Seen) → present_of (at store.old c) ≡ None → present_of (at store.new c) ≡ Some d → at store.old c ≡ None }
+    ensures marked { marking ≡ true → (c : ℕ) → marked_of (at store.new c) ≡ marked_of (at store.old c) }
+    ensures marked_hulls { marking ≡ true → (c : ℕ) → marked_hulls_of (at store.new c) ≡ marked_hulls_of (at store.old c) }
+{
+    let mut made = made;
+    let depth = depth_of(store, id);
+    drop_children(store, id, 256 - depth, news.as_slice());
+    place_children(store, alloc, id, depth + 1, marking, news, &mut made);
+    store.rewrite(id, marking, state, made);
+    refresh(store, id, marking, None);
+}
