@@ -6,7 +6,8 @@ use Rattle.cga_forest.specs.declared.node.Node.{Node}
 use Rattle.cga_forest.specs.declared.node.State.{State}
 use Rattle.cga_forest.specs.Node.{with_state}
 use Rattle.cga_forest.specs.View.{Seen, kids, flag_if, present_of, marked_of, hulls_of, marked_hulls_of, rewritten}
-use Rattle.cga_forest.specs.Tree.{IsTree, IsWhole, RightBut, goes, stay_of, IsPlaced, IsReplaced}
+use Rattle.cga_forest.proofs.Places.{InPlace-replaced}
+use Rattle.cga_forest.specs.Tree.{IsTree, InPlace, IsInner, IsWhole, RightBut, goes, stay_of, IsPlaced, IsReplaced}
 use Rattle.cga_forest.proofs.Under.{kids_flag}
 use Rattle.cga_forest.proofs.Right.{present_some, kids_present}
 use Rattle.cga_forest.proofs.Replace.{IsTree-replaced}
@@ -59,6 +60,9 @@ module _ (s0 s1 s2 s3 : ℕ → Option Entry) (id depth n : ℕ) (marking : Bool
 
   pub tree_after : IsTree (λ c. present_of (s3 c))
   tree_after = IsTree-replaced (λ c. present_of (s0 c)) (λ c. present_of (s3 c)) id news e (record e { node = with_state state e.node; children = made }) gone assembled whole.tree
+
+  pub places_after : IsInner e state news → InPlace (λ c. present_of (s3 c))
+  places_after inner = InPlace-replaced (λ c. present_of (s0 c)) (λ c. present_of (s3 c)) id state news made e gone assembled whole.tree tree_after whole.places inner
 
   pub here_after : is_some (present_of (s3 id)) ≡ true
   here_after = ap is_some assembled.is

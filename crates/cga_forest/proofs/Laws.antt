@@ -2,19 +2,20 @@
 use Rattle.std.proofs.Common.{◌≡◌, ◌⊎◌, inl, inr, ℕ, suc, ◌+◌, List, [], ◌∷◌, length, true, false, refl, ap, sym, ◌∙◌, arith, subst}
 use Rattle.std.specs.Prelude.{Option, Some, None, is_some, not, slice_get}
 use Rattle.cga_frame.specs.Box.{Box, holds, is_box}
-use Rattle.cga_frame.specs.Box.{box_of}
-use Rattle.cga_frame.specs.Scope.{Scope, far_of}
+use Rattle.cga_frame.specs.Scope.{far_of}
 use Rattle.cga_frame.proofs.Boxes.{holds_itself, corners_box}
 use Rattle.cga_index.specs.Tree.{TreeView, Member, Apart, InTree, IsHullTree, LiesIn}
 use Rattle.cga_index.specs.Local.{IsLocalTree}
 use Rattle.cga_index.proofs.Local.{in_present, present_in}
 use Rattle.cga_forest.specs.declared.hulls.Hulls.{Hulls}
+use Rattle.cga_forest.specs.declared.node.Node.{Node}
+use Rattle.cga_forest.specs.Node.{bounds}
 use Rattle.cga_forest.specs.Hull.{over, own_hulls}
 use Rattle.cga_forest.specs.declared.entry.Entry.{Entry}
 use Rattle.cga_forest.specs.View.{Seen, seen, kids}
 use Rattle.cga_forest.proofs.Right.{is_there, present_some, kids_present}
 use Rattle.cga_forest.specs.Tree.{ForestView, IsForest, slot_at, node_at, hulls_at, children_at, children_of}
-use Rattle.cga_forest.specs.Walked.{forest_tree, AllBoxed, own_of, asks_of, depth_of, all_of, asking_of}
+use Rattle.cga_forest.specs.Walked.{forest_tree, own_of, asks_of, depth_of, all_of, asking_of}
 use Rattle.cga_forest.proofs.Tops.{member_at, at_member}
 use Rattle.cga_forest.proofs.Alike.{Every, Asking, Nobody, Probe, probed, opt_holds, alike_probed, over_own, over_child, within}
 use Rattle.cga_forest.proofs.Least.{own_asks, own_none, none_is}
@@ -29,6 +30,11 @@ apart_by_place (x ∷ xs) h = (
 opt_two : {X : Type 0} (o : Option X) → (o ≡ None) ⊎ ((x : X) × (o ≡ Some x))
 opt_two None = inl refl
 opt_two (Some x) = inr (x, refl)
+
+-- low is at most high in a node's box
+node_boxed : (n : Node) → is_box (bounds n) ≡ true
+unfolding bounds
+node_boxed n = corners_box n.shape.scope.at (far_of n.shape.scope)
 
 module _ (v : ForestView) (f : IsForest v) where
   abbrev There : ℕ → Type 0
@@ -124,8 +130,8 @@ module _ (v : ForestView) (f : IsForest v) where
       let w : x.0 ≡ y.0 = (cc) in
       let p : Some a ≡ Some b = sym x.2 ∙ ap (λ (s : Seen). s.parent) w ∙ y.2 in (cc)
 
-  pub keeps_laws : AllBoxed v → IsHullTree (forest_tree v)
-  keeps_laws boxed = record {
+  pub keeps_laws : IsHullTree (forest_tree v)
+  keeps_laws = record {
     roots_once = f.tops.once;
     children_once = λ n m. let p = there n m in kids_once n p.0 p.1;
     one_parent = λ a b c ma mb ca cb. let p = there a ma in let q = there b mb in same_parent a b c p.0 q.0 p.1 q.1 ca cb;
@@ -133,7 +139,7 @@ module _ (v : ForestView) (f : IsForest v) where
     at_child = λ n c m k. local.at_child n c (there n m) k;
     closed = λ n c m k. inside c (local.child_present n c (there n m) k);
     shallow = λ n m. local.shallow n (there n m);
-    boxed = λ n m. let p = there n m in ap (λ o. is_box (own_of o)) p.1 ∙ boxed n p.0 p.1;
+    boxed = λ n m. let p = there n m in ap (λ o. is_box (own_of o)) p.1 ∙ node_boxed p.0.node;
     holds_own = λ n m. let p = there n m in own_holds n p.0 p.1;
     holds_children = λ n c m k. let p = there n m in let w = kid n c p.0 p.1 k in kid_holds n c p.0 w.0 p.1 k w.1;
     asks_own = λ n m on. let p = there n m in asks_at n p.0 p.1 on;
@@ -162,12 +168,8 @@ module _ (v w : ForestView) (same : v ≡ w) (f : IsForest v) (n k : ℕ) (id : 
   pub kids_inside : kids (slot_at v k) ≡ children_at w n
   kids_inside = kids_present (slot_at v k) node_there.0 node_there.1 ∙ ap children_of (sym node_there.1 ∙ node_same)
 
-pub laws_inside : (v w : ForestView) → v ≡ w → IsForest v → AllBoxed w → IsHullTree (forest_tree w)
-laws_inside v w same f boxed = subst (λ (x : ForestView). IsHullTree (forest_tree x)) same (keeps_laws v f (subst (λ (x : ForestView). AllBoxed x) (sym same) boxed))
+pub laws_inside : (v w : ForestView) → v ≡ w → IsForest v → IsHullTree (forest_tree w)
+laws_inside v w same f = subst (λ (x : ForestView). IsHullTree (forest_tree x)) same (keeps_laws v f)
 
 pub in_inside : (v w : ForestView) → v ≡ w → IsForest v → (n : ℕ) → is_some (node_at w n) ≡ true → InTree (forest_tree w) n
 in_inside v w same f n h = subst (λ (x : ForestView). InTree (forest_tree x) n) same (inside v f n (is_there (node_at v n) (ap (λ (x : ForestView). is_some (node_at x n)) same ∙ h)))
-
--- the world box of a scope is a box
-pub scope_boxed : (s : Scope) → is_box (box_of s) ≡ true
-scope_boxed s = corners_box s.at (far_of s)

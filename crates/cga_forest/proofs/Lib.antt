@@ -7,6 +7,7 @@ pub mod Tree
 pub mod Walk
 pub mod Place
 pub mod Replace
+pub mod Places
 pub mod Alike
 pub mod Right
 pub mod Marks
@@ -16,4 +17,5 @@ pub mod Through
 pub mod Least
 pub mod Gather
 pub mod Tops
+pub mod Above
 pub mod Laws

@@ -1,12 +1,14 @@
 -- A slot's present and marked node, under each change.
-use Rattle.std.proofs.Common.{◌≡◌, ◌≢◌, ℕ, [], ◌∷◌, ◌++◌, length, nat_eq, Bool, true, false, refl, ap, sym, ◌∙◌, rules, inl, inr, arith}
+use Rattle.std.proofs.Common.{◌≡◌, ◌≢◌, ℕ, [], ◌∷◌, ◌++◌, length, nat_eq, Bool, true, false, refl, ap, sym, subst, ◌∙◌, rules, inl, inr, arith}
 use Rattle.std.specs.Prelude.{Option, Some, None, not, if◌then◌else◌}
 use Rattle.cga_forest.specs.declared.entry.Entry.{Entry}
 use Rattle.cga_forest.specs.declared.hulls.Hulls.{Hulls}
 use Rattle.cga_forest.specs.declared.node.Node.{Node}
 use Rattle.cga_forest.specs.Hull.{over, own_hulls}
 use Rattle.cga_forest.specs.View.{Seen, IsPlain, IsNewEntry, kids, flag_if, present_of, marked_of, hulls_of, marked_hulls_of, settled, rolled, restored, former_hulls, seen}
-use Rattle.cga_forest.specs.Tree.{ForestView, IsForest, IsTree, IsWhole, IsRight, AllRight, slot_at, node_at, marked_at, hulls_at, marked_hulls_at, children_at, under}
+use Rattle.cga_forest.specs.Node.{IsTop}
+use Rattle.cga_forest.proofs.Places.{InPlace-same, InPlace-part, InPlace-root}
+use Rattle.cga_forest.specs.Tree.{ForestView, IsForest, IsTree, InPlace, IsWhole, IsRight, AllRight, slot_at, node_at, marked_at, hulls_at, marked_hulls_at, children_at, under}
 use Rattle.cga_forest.proofs.Count.{bool_cases}
 use Rattle.cga_forest.proofs.Books.{nat_cases}
 use Rattle.cga_forest.proofs.Tree.{IsTree-same, IsTree-cut, IsTree-root, cut_some}
@@ -76,6 +78,7 @@ marked_hulls_plain (Some e) h = let p = h e refl in let a = p.old in let b = p.h
 pub IsWhole-same : (S T : ℕ → Option Seen) (H J : ℕ → Option Hulls) → ((c : ℕ) → T c ≡ S c) → ((c : ℕ) (e : Seen) → S c ≡ Some e → J c ≡ H c) → IsWhole S H → IsWhole T J
 IsWhole-same S T H J t h w = record {
   tree = IsTree-same S T t w.tree;
+  places = InPlace-same S T t w.places;
   right = AllRight-part S T H J (λ c e x. sym (t c) ∙ x) h w.tree w.right;
 }
 
@@ -115,12 +118,12 @@ IsForest-marked old new f whole on still same hulls tops kept = record {
   plain = λ q. absurd (cc);
 }
 
-pub IsWhole-from : (S T : ℕ → Option Seen) (J : ℕ → Option Hulls) → ((c : ℕ) → T c ≡ S c) → AllRight T J → IsTree S → IsWhole T J
-IsWhole-from S T J t r s = record { tree = IsTree-same S T t s; right = r }
+pub IsWhole-from : (S T : ℕ → Option Seen) (J : ℕ → Option Hulls) → ((c : ℕ) → T c ≡ S c) → AllRight T J → InPlace S → IsTree S → IsWhole T J
+IsWhole-from S T J t r p s = record { tree = IsTree-same S T t s; places = InPlace-same S T t p; right = r }
 
 -- an entry for a new root comes
 module _ (old new : ForestView) (id : ℕ) (node : Node) (fresh : slot_at old id ≡ None) (made : IsNewEntry (slot_at new id) None node 0 0 old.marking) (others : (c : ℕ) → c ≢ id → slot_at new c ≡ slot_at old c)
-    (m : new.marking ≡ old.marking) (pushed : new.roots ≡ old.roots ++ id ∷ []) (kept : new.marked_roots ≡ old.marked_roots) (f : IsForest old) where
+    (top : IsTop node) (m : new.marking ≡ old.marking) (pushed : new.roots ≡ old.roots ++ id ∷ []) (kept : new.marked_roots ≡ old.marked_roots) (f : IsForest old) where
   pub added_here : node_at new id ≡ Some (seen made.entry)
   added_here = ap present_of made.here ∙ ap (λ b. if b then None else Some (seen made.entry)) made.shows
 
@@ -152,6 +155,7 @@ module _ (old new : ForestView) (id : ℕ) (node : Node) (fresh : slot_at old id
 
   pub added_whole : IsWhole (node_at new) (hulls_at new)
   added_whole = record {
+    places = InPlace-root (node_at old) (node_at new) id (seen made.entry) (ap present_of fresh) added_here made.parent (subst IsTop (sym made.node) top) (λ c n. ap present_of (others c n)) f.present.tree f.present.places;
     tree = IsTree-root (node_at old) (node_at new) id (seen made.entry) (ap present_of fresh) added_here made.parent made.deep made.leaf (λ c n. ap present_of (others c n)) f.present.tree;
     right = λ c d t. elim (nat_cases c id) [
       | inl q ↦ leaf_right c d q t
@@ -191,6 +195,7 @@ module _ (old new : ForestView) (id : ℕ) (root : Seen) (is : node_at old id �
         (λ c p d t g u. let low = f.present.tree.shallow c d t in
         under_onto (λ d. kids (slot_at old d)) (node_at old) f.present.tree (λ k e w. kids_present (slot_at old k) e w) 257 id c p root d is t g (omega arith) u)
         f.present.tree;
+    places = InPlace-part (node_at old) (node_at new) (λ c e t. (cut_some _ (node_at old c) e (sym (cut_present c) ∙ t)).1) f.present.places;
     right = AllRight-part (node_at old) (node_at new) (hulls_at old) (hulls_at new) (λ c e t. (cut_some _ (node_at old c) e (sym (cut_present c) ∙ t)).1) (λ c e t. ap hulls_of (h c) ∙ hulls_flag _ (slot_at old c)) f.present.tree f.present.right;
   }
 

@@ -4,4 +4,5 @@ pub mod Count
 pub mod View
 pub mod Roots
 pub mod Tree
+pub mod Standing
 pub mod Walked

@@ -30,8 +30,8 @@ abbrev pub with_state : State → Node → Node
 with_state s n = record n { kind = s.kind; answers = s.answers; asks = s.asks }
 
 -- its lot, its path and the kept priorities on it
-abbrev pub chain_of : Node → Chain
-chain_of n = record { lot = n.shape.lot; path = n.shape.path; priorities = n.line }
+abbrev pub chain_kept : Node → Chain
+chain_kept n = record { lot = n.shape.lot; path = n.shape.path; priorities = n.line }
 
 -- ---- equal shapes, as a test
 

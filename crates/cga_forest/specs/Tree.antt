@@ -6,8 +6,11 @@ use Rattle.cga_forest.specs.declared.entry.Entry.{Entry}
 use Rattle.cga_forest.specs.declared.node.Node.{Node}
 use Rattle.cga_forest.specs.declared.hulls.Hulls.{Hulls}
 use Rattle.cga_forest.specs.declared.node.State.{State}
-use Rattle.cga_forest.specs.Node.{bounds, fits, with_state}
+use Rattle.cga_forest.specs.Node.{bounds, chain_kept, fits, with_state, IsBelow, IsTop}
 use Rattle.cga_forest.specs.Hull.{own_hulls, over, with_hulls, alike}
+use Rattle.cga_word.specs.declared.mode.Mode.{Mode}
+use Rattle.cga_order.specs.Chain as order
+use Rattle.cga_order.specs.World.{is_instance}
 use Rattle.cga_forest.specs.Roots.{HasRoots}
 use Rattle.cga_forest.specs.View.{Seen, IsPlain, IsNewEntry, slot, present_of, marked_of, hulls_of, marked_hulls_of}
 
@@ -38,8 +41,15 @@ RightBut T H id = (c : ℕ) (e : Seen) → c ≢ id → T c ≡ Some e → IsRig
 abbrev pub IsDue : (ℕ → Option Seen) → (ℕ → Option Hulls) → ℕ → Option Hulls → Type 0
 IsDue T H id grown = (e : Seen) (old k : Hulls) → T id ≡ Some e → H id ≡ Some old → grown ≡ Some k → alike (with_hulls old (Some k)) (over H (own_hulls e.node) e.children (length e.children)) ≡ true
 
+-- the nodes stand where their shapes say
+pub record InPlace (T : ℕ → Option Seen) : Type 0 where
+  pub root : (c : ℕ) (d : Seen) → T c ≡ Some d → d.parent ≡ None → IsTop d.node
+  pub child : (c p : ℕ) (d e : Seen) → T c ≡ Some d → d.parent ≡ Some p → T p ≡ Some e → IsBelow e.node d.index d.node
+  pub chain : (c : ℕ) (d : Seen) → T c ≡ Some d → order.IsWhole (chain_kept d.node)
+
 pub record IsWhole (T : ℕ → Option Seen) (H : ℕ → Option Hulls) : Type 0 where
   pub tree : IsTree T
+  pub places : InPlace T
   pub right : AllRight T H
 
 pub record ForestView : Type 0 where
@@ -47,6 +57,7 @@ pub record ForestView : Type 0 where
   pub marking : Bool
   pub roots : List ℕ
   pub marked_roots : List ℕ
+  pub mode : Mode
 
 abbrev pub slot_at : ForestView → ℕ → Option Entry
 slot_at v id = slot v.slots id
@@ -168,9 +179,16 @@ pub record IsReplaced (S T : ℕ → Option Seen) (id : ℕ) (news : List Node) 
   pub came : (c : ℕ) → S c ≡ None → (T c ≡ None) ⊎ ((i : ℕ) × (slice_get now.children i ≡ Some c))
   pub rest : (c : ℕ) (d : Seen) → c ≢ id → S c ≡ Some d → T c ≡ (if gone c then None else Some d)
 
+-- the node isn't an instance, nor in that state, and these are children of it
+pub record IsInner (e : Seen) (state : State) (news : List Node) : Type 0 where
+  pub low : 0 < length news → e.depth < 256
+  pub was : is_instance e.node.kind ≡ false
+  pub is : is_instance state.kind ≡ false
+  pub children : (i : ℕ) (w : Node) → slice_get news i ≡ Some w → IsBelow (with_state state e.node) i w
+
 -- there is a node, and it may have such children
-abbrev pub IsInner : Option Seen → List Node → Type 0
-IsInner slot news = (e : Seen) × (slot ≡ Some e) × (0 < length news → e.depth < 256)
+abbrev pub HasInner : Option Seen → State → List Node → Type 0
+HasInner slot state news = (e : Seen) × (slot ≡ Some e) × IsInner e state news
 
 -- a node's content and children are replaced, and the nodes go that the test names
 abbrev pub ReplacedBy : (ℕ → Option Seen) → (ℕ → Option Seen) → ℕ → State → List Node → (ℕ → Bool) → Type 0

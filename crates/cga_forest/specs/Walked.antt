@@ -1,11 +1,11 @@
 -- A forest as a tree of boxes.
 use Rattle.std.specs.Prelude.{◌≡◌, ℕ, Option, Some, None, Bool, true, false, cond, nat_eq, pos}
 use Rattle.cga_frame.specs.Box.{Box, is_box}
-use Rattle.cga_index.specs.declared.standing.Standing.TheVariants.{Hidden, Waiting}
 use Rattle.cga_index.specs.Tree.{TreeView}
 use Rattle.cga_forest.specs.declared.hulls.Hulls.{Hulls}
 use Rattle.cga_forest.specs.Node.{bounds}
 use Rattle.cga_forest.specs.View.{Seen}
+use Rattle.cga_forest.specs.Standing.{standing_of}
 use Rattle.cga_forest.specs.Tree.{ForestView, node_at, hulls_at, children_at}
 
 abbrev pub empty_box : Box
@@ -38,11 +38,7 @@ forest_tree v = record {
   own = λ n. own_of (node_at v n);
   hull = λ n. all_of (hulls_at v n);
   depth = λ n. depth_of (node_at v n);
-  standing = λ n by. cond (nat_eq n by) Hidden Waiting;
+  standing = λ n by. standing_of v.mode (node_at v) n by (node_at v n) (node_at v by);
   asks = λ n. asks_of (node_at v n);
   asking_hull = λ n. asking_of (hulls_at v n);
 }
-
--- low at most high in each node's box
-abbrev pub AllBoxed : ForestView → Type 0
-AllBoxed v = (c : ℕ) (d : Seen) → node_at v c ≡ Some d → is_box (bounds d.node) ≡ true

@@ -2,9 +2,10 @@ ghost use Rattle.std.specs.Prelude.{◌≡◌, ◌≤◌, ◌+◌, IsSome};
 ghost use Rattle.cga_index.specs.Occlusion.{answer_of};
 ghost use Rattle.cga_index.specs.Tree.{asked, all_nodes, near};
 ghost use Rattle.cga_forest.specs.Tree.{node_at};
-ghost use Rattle.cga_forest.specs.Walked.{forest_tree, AllBoxed};
+ghost use Rattle.cga_forest.specs.Walked.{forest_tree};
 
 use crate::Forest;
+use crate::standing::standing_of;
 use cga_fraction::Steps;
 use cga_frame::WorldBox;
 use cga_index::{HullTree, NodeId, Standing, answer};
@@ -40,11 +41,12 @@ impl HullTree for Forest {
     }
 
     fn standing(&self, node: NodeId, by: NodeId) -> Standing {
-        if node.number() == by.number() {
-            Standing::Hidden
-        } else {
-            Standing::Waiting
-        }
+        standing_of(
+            &self.store,
+            self.mode,
+            node.number() as usize,
+            by.number() as usize,
+        )
     }
 
     fn asks(&self, node: NodeId) -> bool {
@@ -60,7 +62,6 @@ impl Forest {
     /// What a node is answered.
     pub fn ask<T: Ledger>(&self, node: NodeId, target: Target, tests: &mut Steps<T>) -> Answer
         requires here { IsSome (node_at self.now node) }
-        requires boxed { AllBoxed self.now }
         ensures found { result ≡ answer_of ((forest_tree self.now).own node) (asked (forest_tree self.now) node target (all_nodes (forest_tree self.now))) }
         ensures counted { tests.new ≤ tests.old + near (forest_tree self.now) node }
     {

@@ -8,16 +8,22 @@ mod node;
 mod roots;
 mod same;
 mod slots;
+mod standing;
 mod store;
 
 ghost use Rattle.std.specs.Prelude.{◌≡◌, ◌≢◌, ℕ, true, false, [], Some, None, IfOk, IfSome, IsSome, is_some, option_copied, ◌↔◌, OnOk, OnErr, if◌then◌else◌};
+ghost use Rattle.cga_order.specs.Chain as order;
+ghost use Rattle.cga_order.specs.Seen.{chain_of};
+ghost use Rattle.cga_forest.specs.Node.{chain_kept, IsTop};
 ghost use Rattle.cga_forest.specs.Count.{tally};
 ghost use Rattle.cga_forest.specs.View.{Seen, is_shown};
-ghost use Rattle.cga_forest.specs.Tree.{ForestView, IsInner, content_of, above, slot_at, ListsChanged, IsLeastHull, IsLeastAsking, NoneAsks, Replaces, node_at, marked_at, under, children_at, KeepsMark};
+ghost use Rattle.cga_forest.specs.Tree.{ForestView, HasInner, content_of, above, slot_at, ListsChanged, IsLeastHull, IsLeastAsking, NoneAsks, Replaces, node_at, marked_at, under, children_at, KeepsMark};
 
 use boxes::changed_boxes;
 use cga_fraction::NoMemory;
 use cga_frame::WorldBox;
+use cga_order::Chain;
+use cga_word::Mode;
 pub use node::{Node, State};
 use roots::Roots;
 use slots::{depth_of, parent_at, replace, set_aside};
@@ -31,6 +37,7 @@ pub struct Forest {
     store: Store,
     roots: Roots,
     marking: bool,
+    mode: Mode,
     alloc: Global,
 }
 
@@ -39,19 +46,20 @@ impl Model for Forest {
 
     ghost Value = { ForestView };
 
-    ghost view = { λ f. record { slots = f.store.slots; marking = f.marking; roots = f.roots.list; marked_roots = f.roots.former } };
+    ghost view = { λ f. record { slots = f.store.slots; marking = f.marking; roots = f.roots.list; marked_roots = f.roots.former; mode = f.mode } };
 
-    ghost invariant = { λ f. IsForest (record { slots = f.store.slots; marking = f.marking; roots = f.roots.list; marked_roots = f.roots.former }) };
+    ghost invariant = { λ f. IsForest (record { slots = f.store.slots; marking = f.marking; roots = f.roots.list; marked_roots = f.roots.former; mode = f.mode }) };
 }
 
 impl Forest {
-    pub fn new(alloc: Global) -> Forest
-        ensures { result ≡ record { slots = []; marking = false; roots = []; marked_roots = [] } }
+    pub fn new(alloc: Global, mode: Mode) -> Forest
+        ensures { result ≡ record { slots = []; marking = false; roots = []; marked_roots = []; mode = mode } }
     {
         Forest {
             store: Store::new(alloc),
             roots: Roots::new(alloc),
             marking: false,
+            mode,
             alloc,
         }
     }
@@ -70,6 +78,22 @@ impl Forest {
             Some(entry) => { if entry.aside { None } else { Some(&entry.node) } }
             None => None,
         }
+    }
+
+    /// The order in which its shapes were expanded.
+    pub fn mode(&self) -> Mode
+        ensures { result ≡ self.now.mode }
+    {
+        self.mode
+    }
+
+    /// Where a node stands, with the priorities kept on the way there.
+    pub fn chain(&self, id: usize) -> Chain<'_>
+        requires here { IsSome (node_at self.now id) }
+        ensures value { IfSome (node_at self.now id) (λ d. chain_of result ≡ chain_kept d.node) }
+        ensures whole { order.IsWhole (chain_of result) }
+    {
+        self.store.entry(id).node.chain()
     }
 
     pub fn parent(&self, id: usize) -> Option<usize>
@@ -97,6 +121,7 @@ impl Forest {
     }
 
     pub fn add_root(&mut self, node: Node) -> Result<usize, NoMemory>
+        requires top { IsTop node }
         ensures fresh { IfOk result (λ id. node_at self.old id ≡ None) }
         ensures unmarked { IfOk result (λ id. marked_at self.old id ≡ None) }
         ensures node { IfOk result (λ id. node_at self.new id ≡ Some (record { node = node; depth = 0; parent = None; index = 0; children = [] })) }
@@ -131,7 +156,7 @@ impl Forest {
         state: State,
         news: Vec<Node>,
     ) -> Result<Vec<WorldBox>, NoMemory>
-        requires here { IsInner (node_at self.old id) news.items }
+        requires here { HasInner (node_at self.old id) state news.items }
         ensures replaced { OnOk result (Replaces (node_at self.old) (node_at self.new) id state news.items) }
         ensures unmarked { OnOk result ((c : ℕ) → node_at self.old c ≡ None → IsSome (node_at self.new c) → marked_at self.old c ≡ None) }
         ensures boxes { IfOk result (λ list. ListsChanged (node_at self.old) (node_at self.new) list.items) }

@@ -1,9 +1,11 @@
 ghost use Rattle.std.specs.Prelude.{◌≡◌, ◌↔◌, IsTrue};
-ghost use Rattle.cga_forest.specs.Node.{AreAlike, bounds, fits, state_of, with_state};
+ghost use Rattle.cga_order.specs.Seen.{chain_of};
+ghost use Rattle.cga_forest.specs.Node.{AreAlike, bounds, chain_kept, fits, state_of, with_state};
 
 use crate::same::{same_shape, same_sort};
 use cga_fraction::List;
 use cga_frame::WorldBox;
+use cga_order::Chain;
 use cga_shape::{Answers, Kind, Shape};
 
 /// A shape that the forest keeps, and what is known of it.
@@ -34,6 +36,17 @@ impl Node {
         ensures { result ≡ bounds self.now }
     {
         self.shape.scope.world_box()
+    }
+
+    /// Where it stands, with the priorities kept on the way there.
+    pub fn chain(&self) -> Chain<'_>
+        ensures { chain_of result ≡ chain_kept self.now }
+    {
+        Chain {
+            lot: self.shape.lot,
+            path: self.shape.path.as_slice(),
+            priorities: self.line.as_slice(),
+        }
     }
 
     pub fn state(&self) -> State

@@ -1,7 +1,7 @@
 ghost use Rattle.std.specs.Prelude.{IfSome, IsSome, [], true, false, ◌≢◌, ◌≡◌, ◌<◌, ◌≤◌, ◌+◌, ◌-◌, ℕ, length, IfOk, OnOk, OnErr, slice_get, Some, None, option_copied};
 ghost use Rattle.cga_forest.specs.Hull.{at_hulls};
 ghost use Rattle.cga_forest.specs.View.{Seen, at, HasRoom, KeepsRoom, present_of, marked_of, hulls_of, marked_hulls_of, kids, flag_if};
-ghost use Rattle.cga_forest.specs.Tree.{IsTree, IsWhole, AllRight, RightBut, IsDue, IsInner, ReplacedBy, IsPlaced, depth_at, parent_of, under, goes, stay_of, stay_child, hulls_now, hulls_next};
+ghost use Rattle.cga_forest.specs.Tree.{IsTree, IsWhole, AllRight, RightBut, IsDue, HasInner, ReplacedBy, IsPlaced, depth_at, parent_of, under, goes, stay_of, stay_child, hulls_now, hulls_next};
 
 use crate::hulls::Hulls;
 use crate::node::{Node, State};
@@ -211,7 +211,7 @@ pub fn replace(
     requires empty { made.items ≡ [] }
     requires space { length news.items ≤ made.cap }
     requires whole { IsWhole (λ c. present_of (at store.old c)) (λ c. hulls_of (at store.old c)) }
-    requires here { IsInner (present_of (at store.old id)) news.items }
+    requires here { HasInner (present_of (at store.old id)) state news.items }
     ensures whole { IsWhole (λ c. present_of (at store.new c)) (λ c. hulls_of (at store.new c)) }
     ensures replaced { ReplacedBy (λ c. present_of (at store.old c)) (λ c. present_of (at store.new c)) id state news.items (λ c. goes (λ d. kids (at store.old d)) (256 - depth_at (at store.old id)) (λ k w. stay_of (at store.old k) w) (kids (at store.old id)) news.items (length (kids (at store.old id))) c) }
     ensures vacant { (c : ℕ) (d : Seen) → present_of (at store.old c) ≡ None → present_of (at store.new c) ≡ Some d → at store.old c ≡ None }

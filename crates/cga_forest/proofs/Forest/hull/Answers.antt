@@ -12,6 +12,6 @@ entry-requires c = record { here = slot_there (slot c.self.inside.store.slots c.
 pub returns : goal.returns
 returns c = rw (← c.self.view_is) (record {
   least =
-      let e = is_there (node_at (record { slots = c.self.inside.store.slots; marking = c.self.inside.marking; roots = c.self.inside.roots.list; marked_roots = c.self.inside.roots.former }) c.args.id) (ap (λ (v : ForestView). is_some (node_at v c.args.id)) c.self.view_is ∙ c.requires.here) in
-      least_all (record { slots = c.self.inside.store.slots; marking = c.self.inside.marking; roots = c.self.inside.roots.list; marked_roots = c.self.inside.roots.former }) c.args.id e.0 c.entry.result.now.hulls c.self.invariant.present e.1 (ap hulls_of c.entry.ensures);
+      let e = is_there (node_at (record { slots = c.self.inside.store.slots; marking = c.self.inside.marking; roots = c.self.inside.roots.list; marked_roots = c.self.inside.roots.former; mode = c.self.inside.mode }) c.args.id) (ap (λ (v : ForestView). is_some (node_at v c.args.id)) c.self.view_is ∙ c.requires.here) in
+      least_all (record { slots = c.self.inside.store.slots; marking = c.self.inside.marking; roots = c.self.inside.roots.list; marked_roots = c.self.inside.roots.former; mode = c.self.inside.mode }) c.args.id e.0 c.entry.result.now.hulls c.self.invariant.present e.1 (ap hulls_of c.entry.ensures);
 })

@@ -1,7 +1,7 @@
 use Rattle.std.proofs.Common.{refl, ◌≡◌, ◌∙◌, ap, ◌+◌, ◌-◌, sym}
 use Rattle.cga_forest.specs.View.{at, present_of}
 use Rattle.cga_forest.proofs.Right.{depth_present}
-use Rattle.cga_forest.proofs.Assemble.{kids_there, assembled_slots, vacant_after, tree_after, here_after, right_after, mark_after, mark_hulls_after}
+use Rattle.cga_forest.proofs.Assemble.{kids_there, assembled_slots, vacant_after, tree_after, places_after, here_after, right_after, mark_after, mark_hulls_after}
 use Rattle.cga_forest.proofs.Marks.{IsWhole-from}
 use Rattle.cga_forest.proofs.Through.{ReplacedBy-same}
 use Rattle.cga_forest.proofs.slots.replace.Goals as goal
@@ -17,7 +17,7 @@ refresh-requires-clause-tree c =
     let d : c.depth_of-depth.result ≡ c.requires.here.0.depth = c.depth_of-depth.ensures ∙ depth_present (at c.args.store.now c.args.id) c.requires.here.0 c.requires.here.1 in
     tree_after (λ k. at c.args.store.now k) (λ k. at c.drop_children.new.store k) (λ k. at c.place_children.new.store k) (λ k. at c.rewrite.new.self k)
     c.args.id (c.depth_of-depth.result + 1) (256 - c.depth_of-depth.result) c.args.marking c.place_children.new.made.items c.args.news.items c.args.state c.requires.here.0
-    c.requires.here.1 c.requires.here.2 (ap (λ x. x + 1) d) (ap (λ x. 256 - x) d) c.requires.whole
+    c.requires.here.1 c.requires.here.2.low (ap (λ x. x + 1) d) (ap (λ x. 256 - x) d) c.requires.whole
     (λ k. rw (← c.as_slice.ensures.value) (c.drop_children.ensures.pointwise k)) c.place_children.ensures.placed c.place_children.ensures.length c.rewrite.ensures.others c.rewrite.ensures.present
 
 pub refresh-requires-clause-here : goal.refresh-requires-clause-here
@@ -25,7 +25,7 @@ refresh-requires-clause-here c =
     let d : c.depth_of-depth.result ≡ c.requires.here.0.depth = c.depth_of-depth.ensures ∙ depth_present (at c.args.store.now c.args.id) c.requires.here.0 c.requires.here.1 in
     here_after (λ k. at c.args.store.now k) (λ k. at c.drop_children.new.store k) (λ k. at c.place_children.new.store k) (λ k. at c.rewrite.new.self k)
     c.args.id (c.depth_of-depth.result + 1) (256 - c.depth_of-depth.result) c.args.marking c.place_children.new.made.items c.args.news.items c.args.state c.requires.here.0
-    c.requires.here.1 c.requires.here.2 (ap (λ x. x + 1) d) (ap (λ x. 256 - x) d) c.requires.whole
+    c.requires.here.1 c.requires.here.2.low (ap (λ x. x + 1) d) (ap (λ x. 256 - x) d) c.requires.whole
     (λ k. rw (← c.as_slice.ensures.value) (c.drop_children.ensures.pointwise k)) c.place_children.ensures.placed c.place_children.ensures.length c.rewrite.ensures.others c.rewrite.ensures.present
 
 pub refresh-requires-clause-right : goal.refresh-requires-clause-right
@@ -33,15 +33,18 @@ refresh-requires-clause-right c =
     let d : c.depth_of-depth.result ≡ c.requires.here.0.depth = c.depth_of-depth.ensures ∙ depth_present (at c.args.store.now c.args.id) c.requires.here.0 c.requires.here.1 in
     right_after (λ k. at c.args.store.now k) (λ k. at c.drop_children.new.store k) (λ k. at c.place_children.new.store k) (λ k. at c.rewrite.new.self k)
     c.args.id (c.depth_of-depth.result + 1) (256 - c.depth_of-depth.result) c.args.marking c.place_children.new.made.items c.args.news.items c.args.state c.requires.here.0
-    c.requires.here.1 c.requires.here.2 (ap (λ x. x + 1) d) (ap (λ x. 256 - x) d) c.requires.whole
+    c.requires.here.1 c.requires.here.2.low (ap (λ x. x + 1) d) (ap (λ x. 256 - x) d) c.requires.whole
     (λ k. rw (← c.as_slice.ensures.value) (c.drop_children.ensures.pointwise k)) c.place_children.ensures.placed c.place_children.ensures.length c.rewrite.ensures.others c.rewrite.ensures.present c.rewrite.ensures.hulls
 
 pub returns-clause-whole : goal.returns-clause-whole
 returns-clause-whole c =
     let d : c.depth_of-depth.result ≡ c.requires.here.0.depth = c.depth_of-depth.ensures ∙ depth_present (at c.args.store.now c.args.id) c.requires.here.0 c.requires.here.1 in
-    IsWhole-from (λ k. present_of (at c.rewrite.new.self k)) _ _ c.refresh.ensures.present c.refresh.ensures.right (tree_after (λ k. at c.args.store.now k) (λ k. at c.drop_children.new.store k) (λ k. at c.place_children.new.store k) (λ k. at c.rewrite.new.self k)
+    IsWhole-from (λ k. present_of (at c.rewrite.new.self k)) _ _ c.refresh.ensures.present c.refresh.ensures.right (places_after (λ k. at c.args.store.now k) (λ k. at c.drop_children.new.store k) (λ k. at c.place_children.new.store k) (λ k. at c.rewrite.new.self k)
     c.args.id (c.depth_of-depth.result + 1) (256 - c.depth_of-depth.result) c.args.marking c.place_children.new.made.items c.args.news.items c.args.state c.requires.here.0
-    c.requires.here.1 c.requires.here.2 (ap (λ x. x + 1) d) (ap (λ x. 256 - x) d) c.requires.whole
+    c.requires.here.1 c.requires.here.2.low (ap (λ x. x + 1) d) (ap (λ x. 256 - x) d) c.requires.whole
+    (λ k. rw (← c.as_slice.ensures.value) (c.drop_children.ensures.pointwise k)) c.place_children.ensures.placed c.place_children.ensures.length c.rewrite.ensures.others c.rewrite.ensures.present c.requires.here.2) (tree_after (λ k. at c.args.store.now k) (λ k. at c.drop_children.new.store k) (λ k. at c.place_children.new.store k) (λ k. at c.rewrite.new.self k)
+    c.args.id (c.depth_of-depth.result + 1) (256 - c.depth_of-depth.result) c.args.marking c.place_children.new.made.items c.args.news.items c.args.state c.requires.here.0
+    c.requires.here.1 c.requires.here.2.low (ap (λ x. x + 1) d) (ap (λ x. 256 - x) d) c.requires.whole
     (λ k. rw (← c.as_slice.ensures.value) (c.drop_children.ensures.pointwise k)) c.place_children.ensures.placed c.place_children.ensures.length c.rewrite.ensures.others c.rewrite.ensures.present)
 
 pub returns-clause-replaced : goal.returns-clause-replaced
@@ -52,7 +55,7 @@ returns-clause-replaced c =
       c.place_children.new.made.items,
       rw (← c.depth_of-depth.ensures) (assembled_slots (λ k. at c.args.store.now k) (λ k. at c.drop_children.new.store k) (λ k. at c.place_children.new.store k) (λ k. at c.rewrite.new.self k)
           c.args.id (c.depth_of-depth.result + 1) (256 - c.depth_of-depth.result) c.args.marking c.place_children.new.made.items c.args.news.items c.args.state c.requires.here.0
-          c.requires.here.1 c.requires.here.2 (ap (λ x. x + 1) d) (ap (λ x. 256 - x) d) c.requires.whole
+          c.requires.here.1 c.requires.here.2.low (ap (λ x. x + 1) d) (ap (λ x. 256 - x) d) c.requires.whole
           (λ k. rw (← c.as_slice.ensures.value) (c.drop_children.ensures.pointwise k)) c.place_children.ensures.placed c.place_children.ensures.length c.rewrite.ensures.others c.rewrite.ensures.present),
     )
 
@@ -61,7 +64,7 @@ returns-clause-vacant c k x h t =
     let d : c.depth_of-depth.result ≡ c.requires.here.0.depth = c.depth_of-depth.ensures ∙ depth_present (at c.args.store.now c.args.id) c.requires.here.0 c.requires.here.1 in
     vacant_after (λ k. at c.args.store.now k) (λ k. at c.drop_children.new.store k) (λ k. at c.place_children.new.store k) (λ k. at c.rewrite.new.self k)
     c.args.id (c.depth_of-depth.result + 1) (256 - c.depth_of-depth.result) c.args.marking c.place_children.new.made.items c.args.news.items c.args.state c.requires.here.0
-    c.requires.here.1 c.requires.here.2 (ap (λ x. x + 1) d) (ap (λ x. 256 - x) d) c.requires.whole
+    c.requires.here.1 c.requires.here.2.low (ap (λ x. x + 1) d) (ap (λ x. 256 - x) d) c.requires.whole
     (λ k. rw (← c.as_slice.ensures.value) (c.drop_children.ensures.pointwise k)) c.place_children.ensures.placed c.place_children.ensures.length c.rewrite.ensures.others c.rewrite.ensures.present k x h (sym (c.refresh.ensures.present k) ∙ t)
 
 pub returns-clause-marked : goal.returns-clause-marked
@@ -69,7 +72,7 @@ returns-clause-marked c on k =
     let d : c.depth_of-depth.result ≡ c.requires.here.0.depth = c.depth_of-depth.ensures ∙ depth_present (at c.args.store.now c.args.id) c.requires.here.0 c.requires.here.1 in
     c.refresh.ensures.marked k ∙ mark_after (λ k. at c.args.store.now k) (λ k. at c.drop_children.new.store k) (λ k. at c.place_children.new.store k) (λ k. at c.rewrite.new.self k)
     c.args.id (c.depth_of-depth.result + 1) (256 - c.depth_of-depth.result) c.args.marking c.place_children.new.made.items c.args.news.items c.args.state c.requires.here.0
-    c.requires.here.1 c.requires.here.2 (ap (λ x. x + 1) d) (ap (λ x. 256 - x) d) c.requires.whole
+    c.requires.here.1 c.requires.here.2.low (ap (λ x. x + 1) d) (ap (λ x. 256 - x) d) c.requires.whole
     (λ k. rw (← c.as_slice.ensures.value) (c.drop_children.ensures.pointwise k)) c.place_children.ensures.placed c.place_children.ensures.length c.rewrite.ensures.others c.rewrite.ensures.present on (c.rewrite.ensures.marked on) c.rewrite.ensures.marked_hulls k
 
 pub returns-clause-marked_hulls : goal.returns-clause-marked_hulls
@@ -77,5 +80,5 @@ returns-clause-marked_hulls c on k =
     let d : c.depth_of-depth.result ≡ c.requires.here.0.depth = c.depth_of-depth.ensures ∙ depth_present (at c.args.store.now c.args.id) c.requires.here.0 c.requires.here.1 in
     c.refresh.ensures.marked_hulls on k ∙ mark_hulls_after (λ k. at c.args.store.now k) (λ k. at c.drop_children.new.store k) (λ k. at c.place_children.new.store k) (λ k. at c.rewrite.new.self k)
     c.args.id (c.depth_of-depth.result + 1) (256 - c.depth_of-depth.result) c.args.marking c.place_children.new.made.items c.args.news.items c.args.state c.requires.here.0
-    c.requires.here.1 c.requires.here.2 (ap (λ x. x + 1) d) (ap (λ x. 256 - x) d) c.requires.whole
+    c.requires.here.1 c.requires.here.2.low (ap (λ x. x + 1) d) (ap (λ x. 256 - x) d) c.requires.whole
     (λ k. rw (← c.as_slice.ensures.value) (c.drop_children.ensures.pointwise k)) c.place_children.ensures.placed c.place_children.ensures.length c.rewrite.ensures.others c.rewrite.ensures.present on (c.rewrite.ensures.marked on) c.rewrite.ensures.marked_hulls k
