@@ -1,0 +1,3 @@
+pub mod Firsts
+pub mod Layers
+pub mod Sifted
