@@ -1,3 +1,4 @@
 pub mod Firsts
 pub mod Layers
+pub mod Placed
 pub mod Sifted

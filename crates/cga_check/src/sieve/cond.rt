@@ -21,9 +21,17 @@ fn sift_conjs<S: Sieve>(conjs: &[Conj], sieve: &S) -> Result<(), Use>
     ensures { result ≡ sifted (S.is_caught sieve.now) (flat_map spec.conj_uses conjs.now) }
 {
     for conj in conjs {
-        sift_tests(conj.tests.as_slice(), sieve)?;
+        sift_conj(conj, sieve)?;
     }
     Ok(())
+}
+
+#[cycle(cond)]
+#[tactic(auto, using(crate::proofs::Layers::conds))]
+fn sift_conj<S: Sieve>(conj: &Conj, sieve: &S) -> Result<(), Use>
+    ensures { result ≡ sifted (S.is_caught sieve.now) (spec.conj_uses conj.now) }
+{
+    sift_tests(conj.tests.as_slice(), sieve)
 }
 
 #[cycle(cond)]

@@ -12,18 +12,26 @@ pub(super) fn sift_expr<S: Sieve>(expr: &Expr, sieve: &S) -> Result<(), Use>
     ensures { result ≡ sifted (S.is_caught sieve.now) (spec.expr_uses expr.now) }
 {
     sift_term(&expr.first, sieve)?;
-    sift_added(expr.rest.as_slice(), sieve)
+    sift_all_added(expr.rest.as_slice(), sieve)
 }
 
 #[cycle(expr)]
 #[tactic(auto, using(crate::proofs::Layers::exprs))]
-fn sift_added<S: Sieve>(rest: &[Added], sieve: &S) -> Result<(), Use>
+fn sift_all_added<S: Sieve>(rest: &[Added], sieve: &S) -> Result<(), Use>
     ensures { result ≡ sifted (S.is_caught sieve.now) (flat_map spec.added_uses rest.now) }
 {
     for added in rest {
-        sift_term(&added.term, sieve)?;
+        sift_added(added, sieve)?;
     }
     Ok(())
+}
+
+#[cycle(expr)]
+#[tactic(auto, using(crate::proofs::Layers::exprs))]
+fn sift_added<S: Sieve>(added: &Added, sieve: &S) -> Result<(), Use>
+    ensures { result ≡ sifted (S.is_caught sieve.now) (spec.added_uses added.now) }
+{
+    sift_term(&added.term, sieve)
 }
 
 #[cycle(expr)]
@@ -32,18 +40,26 @@ fn sift_term<S: Sieve>(term: &Term, sieve: &S) -> Result<(), Use>
     ensures { result ≡ sifted (S.is_caught sieve.now) (spec.term_uses term.now) }
 {
     sift_factor(&term.first, sieve)?;
-    sift_scaled(term.rest.as_slice(), sieve)
+    sift_all_scaled(term.rest.as_slice(), sieve)
 }
 
 #[cycle(expr)]
 #[tactic(auto, using(crate::proofs::Layers::exprs))]
-fn sift_scaled<S: Sieve>(rest: &[Scaled], sieve: &S) -> Result<(), Use>
+fn sift_all_scaled<S: Sieve>(rest: &[Scaled], sieve: &S) -> Result<(), Use>
     ensures { result ≡ sifted (S.is_caught sieve.now) (flat_map spec.scaled_uses rest.now) }
 {
     for scaled in rest {
-        sift_factor(&scaled.factor, sieve)?;
+        sift_scaled(scaled, sieve)?;
     }
     Ok(())
+}
+
+#[cycle(expr)]
+#[tactic(auto, using(crate::proofs::Layers::exprs))]
+fn sift_scaled<S: Sieve>(scaled: &Scaled, sieve: &S) -> Result<(), Use>
+    ensures { result ≡ sifted (S.is_caught sieve.now) (spec.scaled_uses scaled.now) }
+{
+    sift_factor(&scaled.factor, sieve)
 }
 
 #[cycle(expr)]

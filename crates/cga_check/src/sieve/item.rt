@@ -84,6 +84,13 @@ fn sift_parts<S: Sieve>(sizes: &[Size], bodies: usize, sieve: &S) -> Result<(), 
         bodies,
     };
     sift_one(parts, sieve)?;
+    sift_sizes(sizes, sieve)
+}
+
+#[tactic(auto, using(crate::proofs::Layers::items))]
+fn sift_sizes<S: Sieve>(sizes: &[Size], sieve: &S) -> Result<(), Use>
+    ensures { result ≡ sifted (S.is_caught sieve.now) (flat_map spec.size_uses sizes.now) }
+{
     for size in sizes {
         sift_size(size, sieve)?;
     }

@@ -32,7 +32,14 @@ fn sift_alternatives<S: Sieve>(alternatives: &[Alternative], sieve: &S) -> Resul
     ensures { result ≡ sifted (S.is_caught sieve.now) (flat_map spec.alternative_uses alternatives.now) }
 {
     for alternative in alternatives {
-        sift_items(alternative.items.as_slice(), sieve)?;
+        sift_alternative(alternative, sieve)?;
     }
     Ok(())
+}
+
+#[tactic(auto, using(crate::proofs::Layers::items))]
+fn sift_alternative<S: Sieve>(alternative: &Alternative, sieve: &S) -> Result<(), Use>
+    ensures { result ≡ sifted (S.is_caught sieve.now) (spec.alternative_uses alternative.now) }
+{
+    sift_items(alternative.items.as_slice(), sieve)
 }
