@@ -28,7 +28,6 @@ impl Sieve for Faulty<'_> {
     }
 }
 
-#[tactic(auto, using(crate::proofs::Firsts::first_of_uses))]
 pub(super) fn check_uses(grammar: &Grammar, rule: &Rule) -> Result<(), CheckFault>
     ensures { result ≡ spec.first (flat_map (spec.use_faults grammar.now rule.now) (rule_uses rule.now)) }
 {
