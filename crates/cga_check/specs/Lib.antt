@@ -3,3 +3,4 @@ pub mod Groups
 pub mod Probabilities
 pub mod Sifting
 pub mod Uses
+pub mod Validity

@@ -8,6 +8,7 @@
 
 mod checks;
 mod groups;
+pub mod laws;
 mod mentions;
 mod sieve;
 mod usage;
