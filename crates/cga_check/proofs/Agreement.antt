@@ -93,11 +93,11 @@ module _ (g : Grammar) (symbol : List ℕ) where
   agree_step f x before xs true is none found clean ih =
       let same : x ≡ f = cc in
       let at : find (is_of symbol) (before ++ x ∷ []) ≡ Some f =
-          find_append (is_of symbol) before (x ∷ []) ∙ ap (λ o. or_else o (find (is_of symbol) (x ∷ []))) none ∙ ap (λ (b : Bool). if b then Some x else None) (sym is) ∙ ap (λ (z : Entry). Some z) same in
+      find_append (is_of symbol) before (x ∷ []) ∙ ap (λ o. or_else o (find (is_of symbol) (x ∷ []))) none ∙ ap (λ (b : Bool). if b then Some x else None) (sym is) ∙ ap (λ (z : Entry). Some z) same in
       All-cons (λ (e : Entry). is_of symbol e ≡ true → Agrees f e) x xs (λ here. subst (λ (z : Entry). Agrees z x) same (itself x)) (agree_after f (before ++ x ∷ []) xs at clean)
   agree_step f x before xs false is none found clean ih =
       let at : find (is_of symbol) (before ++ x ∷ []) ≡ None =
-          find_append (is_of symbol) before (x ∷ []) ∙ ap (λ o. or_else o (find (is_of symbol) (x ∷ []))) none ∙ ap (λ (b : Bool). if b then Some x else None) (sym is) in
+      find_append (is_of symbol) before (x ∷ []) ∙ ap (λ o. or_else o (find (is_of symbol) (x ∷ []))) none ∙ ap (λ (b : Bool). if b then Some x else None) (sym is) in
       All-cons (λ (e : Entry). is_of symbol e ≡ true → Agrees f e) x xs (λ here. let no : false ≡ true = is ∙ here in cc) (ih at found)
 
   pub agree_all : (f : Entry) (before xs : List Entry) → find (is_of symbol) before ≡ None → find (is_of symbol) xs ≡ Some f → each_after (rule_faults g) before xs ≡ [] → All (λ (e : Entry). is_of symbol e ≡ true → Agrees f e) xs

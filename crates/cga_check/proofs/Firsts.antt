@@ -63,8 +63,6 @@ unfolding sifted
 first_of_uses g r [] = refl
 first_of_uses g r (u ∷ us) = first_append (use_faults g r u) (flat_map (use_faults g r) us) ∙ one_more g r u us (first (use_faults g r u)) refl (first_of_uses g r us)
 
-
-
 -- what the walk answers, as the fault of the use at which it stopped
 pub at_stop : (g : Grammar) (r : Rule) (us : Uses) (s : Result (Unit {0}) Use) → s ≡ sifted (is_faulty g r) us → at_use g r s ≡ first (flat_map (use_faults g r) us)
 at_stop g r us s e = ap (at_use g r) e ∙ sym (first_of_uses g r us)

@@ -85,6 +85,7 @@ all_true {A = A} p (x ∷ xs) e = All-cons (λ (y : A). IsTrue (p y)) x xs (both
     both_left : (a b : Bool) → (a && b) ≡ true → IsTrue a
     both_left true b e = refl
     both_left false b e = cc
+
     both_right : (a b : Bool) → (a && b) ≡ true → b ≡ true
     both_right true b e = e
     both_right false b e = cc

@@ -11,6 +11,8 @@ mod groups;
 pub mod laws;
 mod mentions;
 mod sieve;
+#[cfg(test)]
+mod tests;
 mod usage;
 
 pub use checks::{MOST_ATTRIBUTES, MOST_RULES, check};
