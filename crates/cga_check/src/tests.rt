@@ -17,132 +17,63 @@ fn fault(rt: &impl Abort, alloc: Global, rules: &[Given]) -> Result<Option<Check
 #[test]
 fn heads_are_looked_at_in_order(mut rt: HostRuntime) -> Result<(), Fail> {
     let (a, h, x) = (name(&rt, "a"), name(&rt, "h"), name(&rt, "x"));
+    let bad_probability = Some(CheckFault::BadProbability(3));
+    let double_name = Some(CheckFault::DoubleName(3, x));
+    let double_attribute = Some(CheckFault::DoubleName(3, h));
+    let split_priority = Some(CheckFault::SplitPriority(3, a));
+    let wrong_arity = Some(CheckFault::WrongArity(3, a));
+    let double_id = Some(CheckFault::DoubleId(1));
+    let third = rule(3, "c");
     let table = [
         // one fault each
-        (three(rule(1, "a"), rule(2, "b"), rule(3, "a")), None),
-        (
-            three(rule(1, "a"), rule(2, "b"), rule(1, "c")),
-            Some(CheckFault::DoubleId(1)),
-        ),
-        (
-            three(rule(1, "a"), rule(2, "b"), rule(3, "a").priority(2)),
-            Some(CheckFault::SplitPriority(3, a)),
-        ),
-        (
-            three(rule(1, "a"), rule(2, "b"), rule(3, "a").params(&["x"])),
-            Some(CheckFault::WrongArity(3, a)),
-        ),
-        (
-            three(
-                rule(1, "a"),
-                rule(2, "b"),
-                rule(3, "c").params(&["x", "y", "x"]),
-            ),
-            Some(CheckFault::DoubleName(3, x)),
-        ),
-        (
-            three(rule(1, "a"), rule(2, "b"), rule(3, "c").params(&["x", "h"])),
-            Some(CheckFault::DoubleName(3, h)),
-        ),
-        (
-            three(
-                rule(1, "a"),
-                rule(2, "b"),
-                rule(3, "c").probs(&["0.5", "0.4"]),
-            ),
-            Some(CheckFault::BadProbability(3)),
-        ),
-        (
-            three(rule(1, "a"), rule(2, "b"), rule(3, "c").probs(&["0", "1"])),
-            Some(CheckFault::BadProbability(3)),
-        ),
-        (
-            three(
-                rule(1, "a"),
-                rule(2, "b"),
-                rule(3, "c").probs(&["0.9999995", "0.0000005"]),
-            ),
-            Some(CheckFault::BadProbability(3)),
-        ),
-        (
-            three(
-                rule(1, "a"),
-                rule(2, "b"),
-                rule(3, "c").probs(&["0.999999", "0.000001"]),
-            ),
-            None,
-        ),
+        (rule(3, "a"), None),
+        (rule(1, "c"), double_id),
+        (rule(3, "a").priority(2), split_priority),
+        (rule(3, "a").params(&["x"]), wrong_arity),
+        (third.params(&["x", "y", "x"]), double_name),
+        (third.params(&["x", "h"]), double_attribute),
+        (third.probs(&["0.5", "0.4"]), bad_probability),
+        (third.probs(&["0", "1"]), bad_probability),
+        (third.probs(&["0.9999995", "0.0000005"]), bad_probability),
+        (third.probs(&["0.999999", "0.000001"]), None),
         // two in one rule
+        (rule(1, "a").priority(2), double_id),
+        (rule(3, "a").priority(2).params(&["x"]), split_priority),
+        (rule(3, "a").params(&["x", "x"]), wrong_arity),
+        (third.params(&["h", "x", "x"]), double_attribute),
+        (third.params(&["x", "x", "h"]), double_name),
+        (third.params(&["h"]).probs(&["0.5"]), double_attribute),
         (
-            three(rule(1, "a"), rule(2, "b"), rule(1, "a").priority(2)),
-            Some(CheckFault::DoubleId(1)),
-        ),
-        (
-            three(
-                rule(1, "a"),
-                rule(2, "b"),
-                rule(3, "a").priority(2).params(&["x"]),
-            ),
-            Some(CheckFault::SplitPriority(3, a)),
-        ),
-        (
-            three(rule(1, "a"), rule(2, "b"), rule(3, "a").params(&["x", "x"])),
-            Some(CheckFault::WrongArity(3, a)),
-        ),
-        (
-            three(
-                rule(1, "a"),
-                rule(2, "b"),
-                rule(3, "c").params(&["h", "x", "x"]),
-            ),
-            Some(CheckFault::DoubleName(3, h)),
-        ),
-        (
-            three(
-                rule(1, "a"),
-                rule(2, "b"),
-                rule(3, "c").params(&["x", "x", "h"]),
-            ),
-            Some(CheckFault::DoubleName(3, x)),
-        ),
-        (
-            three(
-                rule(1, "a"),
-                rule(2, "b"),
-                rule(3, "c").params(&["h"]).probs(&["0.5"]),
-            ),
-            Some(CheckFault::DoubleName(3, h)),
-        ),
-        (
-            three(
-                rule(1, "a"),
-                rule(2, "b"),
-                rule(3, "c").probs(&["0.5"]).steps(&[Step::Child("z", &[])]),
-            ),
-            Some(CheckFault::BadProbability(3)),
-        ),
-        // an earlier rule's last fault before a later one's first
-        (
-            three(rule(1, "a").probs(&["2"]), rule(2, "b"), rule(1, "a")),
-            Some(CheckFault::BadProbability(1)),
-        ),
-        (
-            three(
-                rule(1, "a").steps(&[Step::Repeat("x")]),
-                rule(1, "a"),
-                rule(1, "b"),
-            ),
-            Some(CheckFault::UnknownName(1, x)),
+            third.probs(&["0.5"]).steps(&[Step::Child("z", &[])]),
+            bad_probability,
         ),
     ];
-    for (rules, expected) in table {
-        assert_eq!(rt; fault(&rt, rt.alloc(), &rules)?, expected);
+    for (last, expected) in table {
+        assert_eq!(rt;
+            fault(&rt, rt.alloc(), &[rule(1, "a"), rule(2, "b"), last])?,
+            expected
+        );
     }
     Ok(())
 }
 
-fn three(first: Given, second: Given, third: Given) -> [Given; 3] {
-    [first, second, third]
+#[test]
+fn a_rule_is_looked_at_whole_before_the_next(mut rt: HostRuntime) -> Result<(), Fail> {
+    let alloc = rt.alloc();
+    let x = name(&rt, "x");
+    let rules = [rule(1, "a").probs(&["2"]), rule(1, "a")];
+    assert_eq!(rt;
+        fault(&rt, alloc, &rules)?,
+        Some(CheckFault::BadProbability(1))
+    );
+    let rules = [rule(7, "a").steps(&[Step::Repeat("x")]), rule(7, "a")];
+    assert_eq!(rt;
+        fault(&rt, alloc, &rules)?,
+        Some(CheckFault::UnknownName(7, x))
+    );
+    let rules = [rule(7, "a"), rule(7, "a").steps(&[Step::Repeat("x")])];
+    assert_eq!(rt; fault(&rt, alloc, &rules)?, Some(CheckFault::DoubleId(7)));
+    Ok(())
 }
 
 #[test]
