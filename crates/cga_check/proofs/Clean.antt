@@ -1,10 +1,8 @@
 -- A list of faults that is empty.
-use Rattle.std.proofs.Common.{◌≡◌, ℕ, List, [], ◌∷◌, ◌++◌, All, refl, ap, sym, ◌∙◌, Ok, Bool, true, false}
+use Rattle.std.proofs.Common.{◌≡◌, List, [], ◌∷◌, ◌++◌, All, refl, Ok, Bool, true, false}
 use Rattle.std.specs.Prelude.{flat_map}
 use Rattle.std.proofs.lemmas.List.Elements.{All-nil, All-cons}
 use Rattle.cga_rule.specs.declared.check_fault.CheckFault.{CheckFault}
-use Rattle.cga_rule.specs.declared.grammar.Attribute.{Attribute}
-use Rattle.cga_rule.specs.declared.grammar.Entry.{Entry}
 use Rattle.cga_rule.specs.declared.grammar.Grammar.{Grammar}
 use Rattle.cga_check.specs.Faults.{Faults, first, fault_if, each_after, faults, check_fault, rule_faults, attribute_faults, IsValid}
 

@@ -1,5 +1,5 @@
 -- One layer of the uses of a tree.
-use Rattle.std.proofs.Common.{◌≡◌, ℕ, List, [], ◌∷◌, ◌++◌, map, ap, sym, ◌∙◌, length, Bool}
+use Rattle.std.proofs.Common.{◌≡◌, ℕ, List, [], ◌++◌, map, ap, sym, ◌∙◌, length, Bool}
 use Rattle.std.specs.Prelude.{flat_map}
 use Rattle.std.proofs.lemmas.List.{length-map}
 use Rattle.cga_fraction.specs.Rat.{Rat}
@@ -15,13 +15,11 @@ use Rattle.cga_rule.specs.declared.expr.Term.{Term, out-Term}
 use Rattle.cga_rule.specs.declared.expr.Added.{Added, out-Added}
 use Rattle.cga_rule.specs.declared.expr.Scaled.{Scaled, out-Scaled}
 use Rattle.cga_rule.specs.declared.expr.Factor.{Factor, out-Factor}
-use Rattle.cga_rule.specs.declared.expr.Primary.{Primary}
 use Rattle.cga_rule.specs.declared.expr.Primary.TheFolds.{fold_out-Expr, fold_out-Term, fold_out-Added, fold_out-Scaled, fold_out-Factor, fold-roll-Primary}
 use Rattle.cga_rule.specs.declared.expr.Primary.TheVariants as p
 use Rattle.cga_rule.specs.declared.expr.Primary.TheOpen as primary
 use Rattle.cga_rule.specs.declared.cond.Cond.{Cond, out-Cond}
 use Rattle.cga_rule.specs.declared.cond.Conj.{Conj, out-Conj}
-use Rattle.cga_rule.specs.declared.cond.Test.{Test}
 use Rattle.cga_rule.specs.declared.cond.Test.TheFolds.{fold_out-Cond, fold_out-Conj, fold-roll-Test}
 use Rattle.cga_rule.specs.declared.cond.Test.TheVariants as t
 use Rattle.cga_rule.specs.declared.cond.Test.TheOpen as test

@@ -1,6 +1,6 @@
 -- What a valid grammar has.
-use Rattle.std.proofs.Common.{◌≡◌, ℕ, List, [], ◌∷◌, ◌++◌, All, refl, ap, sym, ◌∙◌, subst, arith, length, map, filter, Bool, true, false, not, ◌&&◌, nat_eq, if◌then◌else◌, Some, None}
-use Rattle.std.specs.Prelude.{Option, IsTrue, IsSome, flat_map, find}
+use Rattle.std.proofs.Common.{◌≡◌, ℕ, List, [], ◌∷◌, All, refl, sym, subst, arith, length, map, filter, Bool, true, false, not, ◌&&◌, nat_eq, if◌then◌else◌, Some, None}
+use Rattle.std.specs.Prelude.{Option, IsTrue, IsSome}
 use Rattle.std.specs.List.{list_all}
 use Rattle.std.proofs.lemmas.List.Elements.{All-nil, All-cons, All-head, All-tail, All-weaker, All-append, All-take, All-drop}
 use Rattle.std.proofs.lemmas.Bool.Decides.{nat_tests}
@@ -12,7 +12,7 @@ use Rattle.cga_check.specs.declared.usage.Use.{Use}
 use Rattle.cga_check.specs.declared.usage.Use.TheVariants.{Answer, Child, Parts, Named}
 use Rattle.cga_check.specs.Uses.{rule_uses}
 use Rattle.cga_check.specs.Groups.{is_of, first_entry, rules_of, placed, placed_all, by_id, place_of}
-use Rattle.cga_check.specs.Probabilities.{is_probability, total, are_probabilities}
+use Rattle.cga_check.specs.Probabilities.{is_probability, are_probabilities}
 use Rattle.cga_check.specs.Faults.{IsValid, each_after, rule_faults, head_faults, symbol_faults, param_faults, use_faults, child_faults}
 use Rattle.cga_check.specs.Validity.{SymbolsAgree, Agrees, Takes, IsMet, ChildrenHaveRules, AddUp, ProbabilitiesAddUp}
 use Rattle.cga_check.proofs.Clean.{none_left, none_right, if_none, valid_rules, each_clean, flat_clean}

@@ -1,5 +1,5 @@
 -- The first use that a test catches.
-use Rattle.std.specs.Prelude.{Bool, List, [], ◌∷◌, Result, Ok, Err, if◌then◌else◌}
+use Rattle.std.specs.Prelude.{Bool, [], ◌∷◌, Result, Ok, Err, if◌then◌else◌}
 use Rattle.cga_check.specs.Uses.{Uses}
 use Rattle.cga_check.specs.declared.usage.Use.{Use}
 

@@ -1,8 +1,7 @@
 -- What a rule uses, in reading order.
-use Rattle.std.specs.Prelude.{ℕ, List, [], ◌∷◌, ◌++◌, length, flat_map, Bool, false, not, ◌&&◌, nat_eq, Option, Some, None}
+use Rattle.std.specs.Prelude.{ℕ, List, [], ◌∷◌, ◌++◌, length, flat_map, Bool, nat_eq, Option, Some, None}
 use Rattle.std.specs.List.{list_any}
 use lib.Pointwise.{pointwise}
-use Rattle.cga_word.specs.declared.target.Target.{Target}
 use Rattle.cga_rule.specs.declared.expr.Expr.{Expr, Expr-F}
 use Rattle.cga_rule.specs.declared.expr.Term.{Term, Term-F}
 use Rattle.cga_rule.specs.declared.expr.Added.{Added, Added-F}
