@@ -1,5 +1,5 @@
 -- Each row of the table fits.
-use Rattle.std.proofs.Common.{◌≡◌, Bool, true, false, Option, None, ◌⊎◌, inl, inr, refl}
+use Rattle.std.proofs.Common.{Bool, inl, inr, refl}
 use Rattle.cga_word.specs.declared.axis.Axis.{Axis}
 use Rattle.cga_word.specs.declared.axis.Axis.TheVariants.{X, Y, Z}
 use Rattle.cga_word.specs.declared.side.Side.{Side}

@@ -1,6 +1,6 @@
 -- Which components a scope has.
 use Rattle.std.specs.Prelude.{ℕ, zero, suc, List, [], ◌∷◌, ◌++◌, Bool, not, ◌&&◌, ◌||◌, Option, Some, None, Result, Ok, Err, slice_get, if◌then◌else◌}
-use Rattle.cga_fraction.specs.Rat.{Rat, zero_rat}
+use Rattle.cga_fraction.specs.Rat.{zero_rat}
 use Rattle.cga_fraction.specs.Order.{rat_lt}
 use Rattle.cga_word.specs.declared.axis.Axis.{Axis}
 use Rattle.cga_word.specs.declared.axis.Axis.TheVariants.{X, Y, Z}

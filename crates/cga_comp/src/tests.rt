@@ -5,24 +5,12 @@ use cga_word::{Axis, Selector, Side, Turn};
 use std::process::Abort;
 use std::test::Fail;
 
-fn number(rt: &impl Abort, n: i64) -> Fraction {
-    Fraction::new(n, 1).expect(rt, "in range")
-}
-
-fn point(rt: &impl Abort, x: i64, y: i64, z: i64) -> Point {
-    Point {
-        x: number(rt, x),
-        y: number(rt, y),
-        z: number(rt, z),
-    }
-}
-
 fn scope(rt: &impl Abort, size: Point) -> Scope {
-    Scope::new(point(rt, 0, 0, 0), Frame::base(), size).expect(rt, "in range")
+    Scope::new(Point::whole(0, 0, 0), Frame::base(), size).expect(rt, "in range")
 }
 
 fn turned(rt: &impl Abort) -> Scope {
-    scope(rt, point(rt, 10, 6, 8))
+    scope(rt, Point::whole(10, 6, 8))
         .turn(Axis::Y, Turn::By90)
         .expect(rt, "in range")
 }
@@ -32,12 +20,12 @@ fn places_of_turned_faces(rt: HostRuntime) -> Result<(), Fail> {
     let made = components(rt.alloc(), &turned(&rt), Selector::Faces)?;
     let faces = made.expect(&rt, "a solid");
     let want = [
-        (point(&rt, 8, 0, 0), point(&rt, 10, 6, 0)),
-        (point(&rt, 8, 0, -10), point(&rt, 8, 6, 0)),
-        (point(&rt, 0, 0, -10), point(&rt, 10, 6, 0)),
-        (point(&rt, 0, 0, 0), point(&rt, 8, 6, 0)),
-        (point(&rt, 8, 6, 0), point(&rt, 10, 8, 0)),
-        (point(&rt, 0, 0, 0), point(&rt, 10, 8, 0)),
+        (Point::whole(8, 0, 0), Point::whole(10, 6, 0)),
+        (Point::whole(8, 0, -10), Point::whole(8, 6, 0)),
+        (Point::whole(0, 0, -10), Point::whole(10, 6, 0)),
+        (Point::whole(0, 0, 0), Point::whole(8, 6, 0)),
+        (Point::whole(8, 6, 0), Point::whole(10, 8, 0)),
+        (Point::whole(0, 0, 0), Point::whole(10, 8, 0)),
     ];
     assert_eq!(rt; faces.len(), want.len());
     for (face, (at, size)) in faces.as_slice().iter().zip(want.as_slice()) {
@@ -102,15 +90,15 @@ fn axes_of_turned_faces(rt: HostRuntime) -> Result<(), Fail> {
 
 #[test]
 fn flat_scope(rt: HostRuntime) -> Result<(), Fail> {
-    let lot = scope(&rt, point(&rt, 10, 0, 8));
+    let lot = scope(&rt, Point::whole(10, 0, 8));
     let faces = components(rt.alloc(), &lot, Selector::Sidefaces)?;
     assert_eq!(rt; faces.err(), Some(FlatScope));
     let edges = components(rt.alloc(), &lot, Selector::Edges)?.expect(&rt, "a sheet");
     let want = [(0, 0, 10), (0, 8, 10), (0, 0, 8), (10, 0, 8)];
     assert_eq!(rt; edges.len(), want.len());
     for (edge, (x, z, length)) in edges.as_slice().iter().zip(want.as_slice()) {
-        assert_eq!(rt; edge.at(), point(&rt, *x, 0, *z));
-        assert_eq!(rt; edge.size(), point(&rt, *length, 0, 0));
+        assert_eq!(rt; edge.at(), Point::whole(*x, 0, *z));
+        assert_eq!(rt; edge.size(), Point::whole(*length, 0, 0));
     }
     let fifth = components(rt.alloc(), &lot, Selector::Edge(5))?;
     assert_eq!(rt; fifth.err(), Some(FlatScope));
@@ -121,13 +109,13 @@ fn flat_scope(rt: HostRuntime) -> Result<(), Fail> {
 
 #[test]
 fn solid_scope(rt: HostRuntime) -> Result<(), Fail> {
-    let house = scope(&rt, point(&rt, 10, 6, 8));
+    let house = scope(&rt, Point::whole(10, 6, 8));
     let edges = components(rt.alloc(), &house, Selector::Edges)?.expect(&rt, "a solid");
     assert_eq!(rt; edges.len(), 12);
     let sixth = components(rt.alloc(), &house, Selector::Edge(6))?.expect(&rt, "a solid");
     for edge in sixth.as_slice() {
-        assert_eq!(rt; edge.at(), point(&rt, 0, 0, 8));
-        assert_eq!(rt; edge.size(), point(&rt, 6, 0, 0));
+        assert_eq!(rt; edge.at(), Point::whole(0, 0, 8));
+        assert_eq!(rt; edge.size(), Point::whole(6, 0, 0));
         assert_eq!(rt; edge.frame().axis(Axis::X), Direction::PlusY);
     }
     let vertices = components(rt.alloc(), &house, Selector::Vertices)?.expect(&rt, "a solid");

@@ -5,15 +5,17 @@ use Rattle.cga_syntax.specs.declared.lexeme.Lexeme.{Lexeme}
 use Rattle.cga_syntax.specs.declared.lexeme.Lexeme.TheVariants as lexeme
 use Rattle.cga_syntax.specs.declared.keyword.Keyword.TheVariants as k
 use Rattle.cga_syntax.specs.Lexemes.{is_reserved}
-use Rattle.cga_syntax.specs.Pieces.{Space, usual, token, drawn, never, plain, number, whole, named, word, Pieces, concat, Writes}
+use Rattle.cga_syntax.specs.declared.print.space.Space.{Space}
+use Rattle.cga_syntax.specs.declared.print.space.Space.TheVariants.{Usual}
+use Rattle.cga_syntax.specs.Pieces.{token, drawn, never, plain, number, whole, named, word, Pieces, concat, Writes}
 use Rattle.cga_form.specs.Tokens.{a_whole, when}
-use Rattle.cga_form.specs.Reader.{Input, Outcome, Reader, at, and_then, ◌>>=◌, pure, taking, single, entering, enter, drawing, drawn_word, peeked, begins, many_from, many_after, many}
+use Rattle.cga_form.specs.Reader.{Input, ReadResult, Reader, at, and_then, ◌>>=◌, pure, taking, single, entering, enter, drawing, drawn_word, peeked, begins, many_from, many_after, many}
 use Rattle.std.proofs.lemmas.Bool.Decides.{nat_tests}
 pub use Rattle.cga_form.specs.Laws.{Agrees, Leads, Again, nothing}
 use Rattle.cga_form.proofs.Forms.{few_pieces}
 use Rattle.cga_form.proofs.Written.{cut, head_of, end_of, nil_right}
 
-pub then_agrees : {A B : Type 0} (f : A → Reader B) (o : Outcome A) (a : A) (i : Input) (b : B) (j : Input) → Agrees o a i → Agrees (f a i) b j → Agrees (and_then o f) b j
+pub then_agrees : {A B : Type 0} (f : A → Reader B) (o : ReadResult A) (a : A) (i : Input) (b : B) (j : Input) → Agrees o a i → Agrees (f a i) b j → Agrees (and_then o f) b j
 then_agrees f (Ok q) a i b j h g = subst (λ x. Agrees (f x q.1) b j) (sym h.0) (subst (λ x. Agrees (f a x) b j) (sym h.1) g)
 then_agrees f (Err (Unexpected n)) a i b j h g = absurd h
 then_agrees f (Err (TooNested n)) a i b j h g = tt
@@ -139,8 +141,8 @@ named_leads s name qs p b false h c x d r w q = (h refl).leads c x d r w q
 pub by_name : {B : Type 0} {s : Lexeme → Bool} {qs : Pieces} {p : Reader B} {b : B} (name : List ℕ) → (is_reserved name ≡ false → Leads s (word name ∷ qs) p b) → Leads s (named name ∷ qs) p b
 by_name {s = s} {qs = qs} {p = p} {b = b} name h = record { leads = λ c x d r w q. named_leads s name qs p b (is_reserved name) h c x d r w q }
 
-whole_by : {B : Type 0} (s : Lexeme → Bool) (l : Lexeme) (qs : Pieces) (p : Reader B) (b : B) (t : Bool) → (t ≡ true → Leads s (token usual l ∷ qs) p b) → (c : ℕ) (x : List Lexeme) (d : ℕ) (r : List Lexeme) →
-    Writes c ((if t then token usual l else never) ∷ qs) x d → begins s r ≡ false → Agrees (p (at (x ++ r) c)) b (at r d)
+whole_by : {B : Type 0} (s : Lexeme → Bool) (l : Lexeme) (qs : Pieces) (p : Reader B) (b : B) (t : Bool) → (t ≡ true → Leads s (token Usual l ∷ qs) p b) → (c : ℕ) (x : List Lexeme) (d : ℕ) (r : List Lexeme) →
+    Writes c ((if t then token Usual l else never) ∷ qs) x d → begins s r ≡ false → Agrees (p (at (x ++ r) c)) b (at r d)
 whole_by s l qs p b true h c x d r w q = (h refl).leads c x d r w q
 whole_by s l qs p b false h c x d r w q = absurd (never_written c qs x d w)
 
@@ -210,7 +212,7 @@ written_as {s = s} {p = p} {b = b} e h = subst (λ z. Leads s z p b) (sym e) h
 pub going_on : {B : Type 0} {s t : Lexeme → Bool} {ps : Pieces} {p : Reader B} {b : B} → ((l : Lexeme) → s l ≡ false → t l ≡ false) → Leads t ps p b → Leads s ps p b
 going_on h g = record { leads = λ c x d r w e. g.leads c x d r w (less h r e) }
 
-then_twice : {A B C : Type 0} (g : A → Reader B) (f : B → Reader C) (o : Outcome A) (a : A) (i : Input) (b : C) (j : Input) → Agrees o a i → Agrees (and_then (g a i) f) b j → Agrees (and_then (and_then o g) f) b j
+then_twice : {A B C : Type 0} (g : A → Reader B) (f : B → Reader C) (o : ReadResult A) (a : A) (i : Input) (b : C) (j : Input) → Agrees o a i → Agrees (and_then (g a i) f) b j → Agrees (and_then (and_then o g) f) b j
 then_twice g f (Ok q) a i b j h k' = subst (λ x. Agrees (and_then (g x q.1) f) b j) (sym h.0) (subst (λ x. Agrees (and_then (g a x) f) b j) (sym h.1) k')
 then_twice g f (Err (Unexpected n)) a i b j h k' = absurd h
 then_twice g f (Err (TooNested n)) a i b j h k' = tt

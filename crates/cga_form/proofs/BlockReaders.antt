@@ -7,10 +7,11 @@ use Rattle.cga_syntax.specs.Spelling.{Spelled}
 use Rattle.cga_form.specs.declared.fault.Fault.{Fault}
 use Rattle.cga_form.specs.declared.block_fault.BlockFault.{BlockFault}
 use Rattle.cga_form.specs.declared.block_reader.BlockReader.{BlockReader}
-use Rattle.cga_form.specs.Answers.{Answers}
-use Rattle.cga_form.specs.Code.{seen}
-use Rattle.cga_form.specs.LineAnswers.{with_place}
-use Rattle.cga_form.specs.BlockAnswers.{Line, as_line, unless_blank, BlockAnswers, Say, line_number, IsFaulty, Keeps, StandsFor}
+use Rattle.cga_form.specs.Tells.{Tells}
+use Rattle.cga_form.specs.Cursor.{seen}
+use Rattle.cga_form.specs.LineTells.{with_place}
+use Rattle.cga_form.specs.Lines.{Line}
+use Rattle.cga_form.specs.BlockTells.{as_line, unless_blank, BlockTells, Say, line_number, IsFaulty, Keeps, StandsFor}
 use Rattle.cga_form.proofs.OnceBlocks.{good_or_faulty}
 
 counted : (lines : List Line) (l : Line) (n m : ℕ) → n ≡ line_number (length lines) → m ≡ min (n + 1) 4294967295 → m ≡ line_number (length (lines ++ l ∷ []))
@@ -18,11 +19,11 @@ counted lines l n m e f = let q = length-append lines (l ∷ []) in grind arith
 
 module _ {A : Type 0} (w : A → Pieces) where
   -- a line with tokens
-  pub not_blank : (end : ℕ) (ts : List Token) (found : Result A Fault) → (length ts == 0) ≡ false → Answers w 32 (map seen ts) found → unless_blank w end (Ok ts) (as_line (with_place end ts found))
+  pub not_blank : (end : ℕ) (ts : List Token) (found : Result A Fault) → (length ts == 0) ≡ false → Tells w 32 (map seen ts) found → unless_blank w end (Ok ts) (as_line (with_place end ts found))
   not_blank end [] found e h = absurd (let q : true ≡ false = e in cc)
   not_blank end (t ∷ ts) found e h = (with_place end (t ∷ ts) found, (found, h, refl), refl)
 
-  say_more : (lines : List Line) (all : List (Option A)) (l : Line) (said : Option A) → Say w lines all → BlockAnswers w l (Ok said) → Say w (lines ++ l ∷ []) (all ++ said ∷ [])
+  say_more : (lines : List Line) (all : List (Option A)) (l : Line) (said : Option A) → Say w lines all → BlockTells w l (Ok said) → Say w (lines ++ l ∷ []) (all ++ said ∷ [])
   unfolding Say
   say_more [] [] l said h a = (a, tt)
   say_more (x ∷ lines) (y ∷ all) l said h a = (h.0, say_more lines all l said h.1 a)
@@ -46,7 +47,7 @@ module _ {A : Type 0} (w : A → Pieces) where
     on_ok (Ok x) P Q f h = f h
     on_ok (Err x) P Q f h = h
 
-    module _ (new : G) (said : Option A) (h : BlockAnswers w l (Ok said)) where
+    module _ (new : G) (said : Option A) (h : BlockTells w l (Ok said)) where
       keeps_more : {T E : Type 0} (r : Result T E) → ((all : List (Option A)) → holds old.gathered all → OnOk r (holds new (all ++ said ∷ []))) → (lines : List Line) (o : Option BlockFault) → is_some o ≡ false → Keeps w holds old.gathered lines o → OnOk r (Keeps w holds new (lines ++ l ∷ []) o)
       keeps_more r add lines (Some f) q k = absurd (let g : true ≡ false = q in cc)
       keeps_more r add lines None q k = on_ok r _ _ (λ n. (k.0 ++ said ∷ [], say_more lines k.0 l said k.1 h, n)) (add k.0 k.2)
@@ -57,11 +58,11 @@ module _ {A : Type 0} (w : A → Pieces) where
       one_more r q add lines k = on_ok r _ _ (λ n. (counted lines l old.lines m k.0 e, n)) (keeps_more r add lines old.fault q k.1)
 
     -- the first faulty line
-    keeps_first : (lines : List Line) (f : BlockFault) → f.line ≡ m → BlockAnswers w l (Err f.fault) → old.lines ≡ line_number (length lines) → (o : Option BlockFault) → is_some o ≡ false → Keeps w holds old.gathered lines o → IsFaulty w (lines ++ l ∷ []) f
+    keeps_first : (lines : List Line) (f : BlockFault) → f.line ≡ m → BlockTells w l (Err f.fault) → old.lines ≡ line_number (length lines) → (o : Option BlockFault) → is_some o ≡ false → Keeps w holds old.gathered lines o → IsFaulty w (lines ++ l ∷ []) f
     keeps_first lines f q h n (Some g) p k = absurd (let g : true ≡ false = p in cc)
     keeps_first lines f q h n None p k = (lines, l, [], k.0, refl, k.1, h, q ∙ counted lines l old.lines m n e ∙ ap line_number (length-append lines (l ∷ []) ∙ (omega arith)))
 
-    pub first_faulty : (f : BlockFault) → f.line ≡ m → is_some old.fault ≡ false → BlockAnswers w l (Err f.fault) → (lines : List Line) → StandsFor w holds old lines →
+    pub first_faulty : (f : BlockFault) → f.line ≡ m → is_some old.fault ≡ false → BlockTells w l (Err f.fault) → (lines : List Line) → StandsFor w holds old lines →
         StandsFor w holds (record { alloc = old.alloc; lines = m; gathered = old.gathered; fault = Some f }) (lines ++ l ∷ [])
     first_faulty f q p h lines k = (counted lines l old.lines m k.0 e, keeps_first lines f q h k.0 old.fault p k.1)
 

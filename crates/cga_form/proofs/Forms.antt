@@ -3,7 +3,9 @@ use Rattle.std.proofs.Common.{◌≡◌, ℕ, zero, suc, ◌+◌, ◌-◌, List,
 use Rattle.cga_syntax.specs.declared.lexeme.Lexeme.{Lexeme}
 use Rattle.cga_syntax.specs.declared.lexeme.Lexeme.TheVariants as lexeme
 use Rattle.cga_syntax.specs.declared.keyword.Keyword.TheVariants as k
-use Rattle.cga_syntax.specs.Pieces.{Space, usual, token, never, drawn, Pieces, concat, Writes}
+use Rattle.cga_syntax.specs.declared.print.space.Space.{Space}
+use Rattle.cga_syntax.specs.declared.print.space.Space.TheVariants.{Usual}
+use Rattle.cga_syntax.specs.Pieces.{token, never, drawn, Pieces, concat, Writes}
 use Rattle.cga_syntax.specs.Brackets.{counted, bracket_of, opens}
 use Rattle.cga_form.specs.Reader.{Reader, ◌>>=◌, pure, refuse, single, enter, drawn_word, peeked, begins, many_from, many_after, many, Input}
 use Rattle.std.proofs.lemmas.Bool.Decides.{nat_tests}
@@ -86,12 +88,12 @@ one_some : {A : Type 0} (w : A → Pieces) (s : Space) (l : Lexeme) → Some_tex
 one_some w s l some c = let t = some c in (t.0, t.1, t.2, (token s l ∷ t.3.0, t.3.1, token_first c s l t.3.0 t.0 t.2 t.3.2))
 
 -- a form that begins with a bracket, where so many brackets may be opened
-pub bracketed : {A : Type 0} {w : A → Pieces} {decode : Lexeme → Option (Unit {0})} {q : Reader A} {l : Lexeme} (n : ℕ) → Opening (λ _. token usual l ∷ []) decode → ((i : Lexeme) → decode i ≡ Some tt → i ≡ l) →
-    Some_text (After (token usual l ∷ []) w) → ((m : ℕ) → n ≡ suc m → Goes m (suc m) (token usual l ∷ []) w q) → Reads n n w (enter decode n >>= λ _. q)
+pub bracketed : {A : Type 0} {w : A → Pieces} {decode : Lexeme → Option (Unit {0})} {q : Reader A} {l : Lexeme} (n : ℕ) → Opening (λ _. token Usual l ∷ []) decode → ((i : Lexeme) → decode i ≡ Some tt → i ≡ l) →
+    Some_text (After (token Usual l ∷ []) w) → ((m : ℕ) → n ≡ suc m → Goes m (suc m) (token Usual l ∷ []) w q) → Reads n n w (enter decode n >>= λ _. q)
 bracketed {w = w} {decode = decode} {q = q} {l = l} zero o is some h =
-    let all : Some_text (After [] w) = λ c. let t = one_some w usual l some c in (l ∷ t.0, t.1, t.2, t.3) in
+    let all : Some_text (After [] w) = λ c. let t = one_some w Usual l some c in (l ∷ t.0, t.1, t.2, t.3) in
     record {
-      runs = closed_runs (After [] w) 0 decode q all (λ i e. (λ c. subst (λ z. (x : List Lexeme) × (a : _) × (d : ℕ) × After [] w c (z ∷ x) a d) (sym (is i e)) (one_some w usual l some c), o.is i e));
+      runs = closed_runs (After [] w) 0 decode q all (λ i e. (λ c. subst (λ z. (x : List Lexeme) × (a : _) × (d : ℕ) × After [] w c (z ∷ x) a d) (sym (is i e)) (one_some w Usual l some c), o.is i e));
       some = all;
     }
 bracketed {w = w} {decode = decode} {q = q} {l = l} (suc m) o is some h = next (shifted m (one_bracket o (suc m))) (λ _. h m refl)

@@ -3,7 +3,7 @@ pub mod Written
 pub mod Forms
 pub mod Again
 pub mod Singles
-pub mod Whole
+pub mod Complete
 pub mod Lines
 pub mod Nexts
 pub mod Spans
@@ -12,7 +12,7 @@ pub mod ValuesAgain
 pub mod Quotients
 pub mod Once
 pub mod OnceLines
-pub mod Answered
+pub mod Told
 pub mod OnceBlocks
 pub mod BlockReaders
 pub mod Made

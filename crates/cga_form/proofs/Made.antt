@@ -1,7 +1,5 @@
 -- Forms made of forms.
-use Rattle.std.proofs.Common.{◌≡◌, ℕ, List, [], ◌∷◌, ◌++◌, Bool, false, Some, refl, subst, sym, ◌∙◌, ap}
-use Rattle.cga_syntax.specs.Lexemes.{is_reserved}
-use Rattle.cga_syntax.specs.declared.lexeme.Lexeme.{Lexeme}
+use Rattle.std.proofs.Common.{◌≡◌, ℕ, List, ◌++◌, Some, refl, subst, sym}
 use Rattle.cga_syntax.specs.declared.lexeme.Lexeme.TheVariants as lexeme
 use Rattle.cga_syntax.specs.Pieces.{Pieces, number}
 use Rattle.cga_form.specs.Reader.{Reader, ◌>>=◌, pure, single}

@@ -1,4 +1,4 @@
--- The tokens of a line have one answer.
+-- The tokens of a line tell one thing.
 use Rattle.std.proofs.Common.{◌≡◌, ℕ, suc, List, [], ◌∷◌, ◌++◌, length, append_assoc, Option, Some, None, inl, inr, ◌⊎◌, Result, Ok, Err, refl, ap, sym, ◌∙◌, subst}
 use Rattle.cga_syntax.specs.declared.lexeme.Lexeme.{Lexeme}
 use Rattle.cga_syntax.specs.Pieces.{Pieces}
@@ -6,7 +6,7 @@ use Rattle.cga_syntax.specs.Spelling.{Spelled, Begins, Stops}
 use Rattle.cga_syntax.specs.Brackets.{walk, walk_on, counted, bracket_of, Bracket, opens, IsOpening}
 use Rattle.cga_form.specs.declared.fault.Fault.{Fault}
 use Rattle.cga_form.specs.declared.fault.Fault.TheVariants.{Unexpected, TooNested}
-use Rattle.cga_form.specs.Answers.{Answers}
+use Rattle.cga_form.specs.Tells.{Tells}
 use Rattle.cga_form.proofs.Runs.{walk_append}
 use Rattle.cga_form.proofs.Written.{nil_right}
 
@@ -36,7 +36,7 @@ stuck : (j : Lexeme) (r : List Lexeme) → IsOpening j → walk 0 (j ∷ r) ≡ 
 unfolding walk
 stuck j r e = opened (bracket_of j) (λ m. walk m r) e
 
--- behind a bracket too many
+-- after a bracket too many
 blocked : (n : ℕ) (x : List Lexeme) (j : Lexeme) (r : List Lexeme) → walk n x ≡ Some 0 → IsOpening j → walk n (x ++ j ∷ r) ≡ None
 blocked n x j r e o = walk_append n x (j ∷ r) 0 e ∙ stuck j r o
 
@@ -71,24 +71,24 @@ module _ {A : Type 0} (w : A → Pieces) (n : ℕ) (unique : (text : List Lexeme
   nested_first x y j r s (k ∷ z) m b e o h f g q =
       open_none (walk n y) m (ap (λ t. walk n t) (g ∙ ap (λ t. x ++ t ∷ z) (sym (head_same j k r (z ++ s) q))) ∙ blocked n x j z e o) f
 
-  -- and behind it
+  -- and after it
   stop_first : (x y : List Lexeme) (j : Lexeme) (r s z : List Lexeme) → Begins w (x ++ j ∷ []) → Stops w y s → x ≡ y ++ z → s ≡ z ++ (j ∷ r) → ⊥
   stop_first x y j r s [] b h g q = subst (λ t. Stops w y t) q h (subst (λ t. Begins w (t ++ j ∷ [])) (g ∙ nil_right y) b)
   stop_first x y j r s (k ∷ z) b h g q =
       let e : (y ++ k ∷ z) ++ j ∷ [] ≡ y ++ k ∷ (z ++ j ∷ []) = append_assoc y (k ∷ z) (j ∷ []) in
       subst (λ t. Stops w y t) q h (shorter y (z ++ j ∷ []) k (subst (λ t. Begins w t) (ap (λ t. t ++ j ∷ []) g ∙ e) b))
 
-  found_nested : (text : List Lexeme) (l : ℕ) → walk n text ≡ Some n → Answers w n text (Err (TooNested l)) → ⊥
+  found_nested : (text : List Lexeme) (l : ℕ) → walk n text ≡ Some n → Tells w n text (Err (TooNested l)) → ⊥
   found_nested text l e h = open_none (walk n text) n (ap (λ t. walk n t) h.3 ∙ blocked n h.0 h.1 h.2 h.6 h.7) e
 
-  never_both : (text : List Lexeme) (k l : ℕ) → Answers w n text (Err (Unexpected k)) → Answers w n text (Err (TooNested l)) → ⊥
+  never_both : (text : List Lexeme) (k l : ℕ) → Tells w n text (Err (Unexpected k)) → Tells w n text (Err (TooNested l)) → ⊥
   never_both text k l g h =
       elim (compared h.0 g.0 (h.1 ∷ h.2) g.1 (sym h.3 ∙ g.3)) [
         | inl s ↦ nested_first h.0 g.0 h.1 h.2 g.1 s.0 g.2 h.5 h.6 h.7 g.6 g.7 s.1 s.2
         | inr s ↦ stop_first h.0 g.0 h.1 h.2 g.1 s.0 h.5 g.6 s.1 s.2
       ]
 
-  both_unexpected : (text : List Lexeme) (k l : ℕ) → Answers w n text (Err (Unexpected k)) → Answers w n text (Err (Unexpected l)) → k ≡ l
+  both_unexpected : (text : List Lexeme) (k l : ℕ) → Tells w n text (Err (Unexpected k)) → Tells w n text (Err (Unexpected l)) → k ≡ l
   both_unexpected text k l g h =
       let same : length g.1 ≡ length h.1 = elim (compared g.0 h.0 g.1 h.1 (sym g.3 ∙ h.3)) [
         | inl s ↦ same_stop g.0 h.0 g.1 h.1 s.0 h.5 g.6 s.1 s.2
@@ -96,7 +96,7 @@ module _ {A : Type 0} (w : A → Pieces) (n : ℕ) (unique : (text : List Lexeme
       ] in
       sym g.4 ∙ same ∙ h.4
 
-  both_nested : (text : List Lexeme) (k l : ℕ) → Answers w n text (Err (TooNested k)) → Answers w n text (Err (TooNested l)) → k ≡ l
+  both_nested : (text : List Lexeme) (k l : ℕ) → Tells w n text (Err (TooNested k)) → Tells w n text (Err (TooNested l)) → k ≡ l
   both_nested text k l g h =
       let same : length g.2 ≡ length h.2 = elim (compared g.0 h.0 (g.1 ∷ g.2) (h.1 ∷ h.2) (sym g.3 ∙ h.3)) [
         | inl s ↦ same_bracket g.0 h.0 g.1 h.1 g.2 h.2 s.0 g.6 g.7 h.6 s.1 s.2
@@ -104,13 +104,13 @@ module _ {A : Type 0} (w : A → Pieces) (n : ℕ) (unique : (text : List Lexeme
       ] in
       sym g.4 ∙ ap suc same ∙ h.4
 
-  pub one_answer : (text : List Lexeme) (f g : Result A Fault) → Answers w n text f → Answers w n text g → f ≡ g
-  one_answer text (Ok a) (Ok b) h k = ap Ok (unique text a b h.0 k.0)
-  one_answer text (Ok a) (Err (Unexpected l)) h k = absurd (not_stopped text a k.0 k.1 h.0 k.3 k.6)
-  one_answer text (Ok a) (Err (TooNested l)) h k = absurd (found_nested text l h.1 k)
-  one_answer text (Err (Unexpected l)) (Ok a) h k = absurd (not_stopped text a h.0 h.1 k.0 h.3 h.6)
-  one_answer text (Err (TooNested l)) (Ok a) h k = absurd (found_nested text l k.1 h)
-  one_answer text (Err (Unexpected i)) (Err (Unexpected l)) h k = ap (λ z. Err (Unexpected z)) (both_unexpected text i l h k)
-  one_answer text (Err (Unexpected i)) (Err (TooNested l)) h k = absurd (never_both text i l h k)
-  one_answer text (Err (TooNested i)) (Err (Unexpected l)) h k = absurd (never_both text l i k h)
-  one_answer text (Err (TooNested i)) (Err (TooNested l)) h k = ap (λ z. Err (TooNested z)) (both_nested text i l h k)
+  pub one_telling : (text : List Lexeme) (f g : Result A Fault) → Tells w n text f → Tells w n text g → f ≡ g
+  one_telling text (Ok a) (Ok b) h k = ap Ok (unique text a b h.0 k.0)
+  one_telling text (Ok a) (Err (Unexpected l)) h k = absurd (not_stopped text a k.0 k.1 h.0 k.3 k.6)
+  one_telling text (Ok a) (Err (TooNested l)) h k = absurd (found_nested text l h.1 k)
+  one_telling text (Err (Unexpected l)) (Ok a) h k = absurd (not_stopped text a h.0 h.1 k.0 h.3 h.6)
+  one_telling text (Err (TooNested l)) (Ok a) h k = absurd (found_nested text l k.1 h)
+  one_telling text (Err (Unexpected i)) (Err (Unexpected l)) h k = ap (λ z. Err (Unexpected z)) (both_unexpected text i l h k)
+  one_telling text (Err (Unexpected i)) (Err (TooNested l)) h k = absurd (never_both text i l h k)
+  one_telling text (Err (TooNested i)) (Err (Unexpected l)) h k = absurd (never_both text l i k h)
+  one_telling text (Err (TooNested i)) (Err (TooNested l)) h k = ap (λ z. Err (TooNested z)) (both_nested text i l h k)

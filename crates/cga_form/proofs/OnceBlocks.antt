@@ -1,4 +1,4 @@
--- The lines of a block have one answer.
+-- The lines of a block tell one thing.
 use Rattle.std.proofs.Common.{◌≡◌, ℕ, suc, ◌+◌, Bool, true, false, List, [], ◌∷◌, ◌++◌, length, Option, inl, inr, Result, Ok, Err, refl, ap, sym, ◌∙◌, subst}
 use Rattle.cga_lexer.specs.Line.{tokens_of}
 use Rattle.cga_lexer.specs.declared.token.Token.{Token}
@@ -8,7 +8,8 @@ use Rattle.cga_syntax.specs.Pieces.{Pieces}
 use Rattle.cga_syntax.specs.Spelling.{Spelled}
 use Rattle.cga_form.specs.declared.line_fault.LineFault.{LineFault}
 use Rattle.cga_form.specs.declared.block_fault.BlockFault.{BlockFault}
-use Rattle.cga_form.specs.BlockAnswers.{Line, is_long, Found, as_line, unless_blank, unless_long, BlockAnswers, Say, line_number, IsFaulty, AllAnswers}
+use Rattle.cga_form.specs.Lines.{Line, is_long}
+use Rattle.cga_form.specs.BlockTells.{Found, as_line, unless_blank, unless_long, BlockTells, Say, line_number, IsFaulty, AllTells}
 use Rattle.cga_form.proofs.Written.{nil_right}
 use Rattle.cga_form.proofs.Once.{compared}
 use Rattle.cga_form.proofs.OnceLines.{once_tokens}
@@ -23,7 +24,7 @@ module _ {A : Type 0} (w : A → Pieces) (unique : (text : List Lexeme) (a b : A
   once_short bytes true f g h k = h ∙ sym k
   once_short bytes false f g h k = once_said (length bytes + 1) (tokens_of bytes) f g h k
 
-  pub once_block : (l : Line) (f g : Found A) → BlockAnswers w l f → BlockAnswers w l g → f ≡ g
+  pub once_block : (l : Line) (f g : Found A) → BlockTells w l f → BlockTells w l g → f ≡ g
   once_block l f g h k = once_short l.bytes (is_long l) f g h k
 
   same_ok : (a b : Option A) → ◌≡◌ {A = Found A} (Ok a) (Ok b) → a ≡ b
@@ -47,18 +48,18 @@ module _ {A : Type 0} (w : A → Pieces) (unique : (text : List Lexeme) (a b : A
       ap (λ z. z ∷ all) p ∙ ap (λ z. y ∷ z) (once_say lines all more h.1 k.1)
 
   -- a faulty line says nothing
-  says_none : (before : List Line) (l : Line) (after : List Line) (all : List (Option A)) (f : LineFault) → Say w (before ++ l ∷ after) all → BlockAnswers w l (Err f) → ⊥
+  says_none : (before : List Line) (l : Line) (after : List Line) (all : List (Option A)) (f : LineFault) → Say w (before ++ l ∷ after) all → BlockTells w l (Err f) → ⊥
   unfolding Say
   says_none [] l after [] f h k = h
   says_none [] l after (x ∷ all) f h k = ok_err x f (once_block l (Ok x) (Err f) h.0 k)
   says_none (b ∷ before) l after [] f h k = h
   says_none (b ∷ before) l after (x ∷ all) f h k = says_none before l after all f h.1 k
 
-  first_fault : (before more : List Line) (l k : Line) (after rest z : List Line) (all : List (Option A)) (f g : LineFault) → BlockAnswers w l (Err f) → BlockAnswers w k (Err g) → Say w more all → more ≡ before ++ z → l ∷ after ≡ z ++ (k ∷ rest) →
+  first_fault : (before more : List Line) (l k : Line) (after rest z : List Line) (all : List (Option A)) (f g : LineFault) → BlockTells w l (Err f) → BlockTells w k (Err g) → Say w more all → more ≡ before ++ z → l ∷ after ≡ z ++ (k ∷ rest) →
       (length before ≡ length more) × (f ≡ g)
   first_fault before more l k after rest [] all f g h i s e q =
       let p : l ≡ k = cc in
-      (let r : before ++ [] ≡ more = sym e in ap length (sym (nil_right before)) ∙ ap length r, same_err f g (once_block k (Err f) (Err g) (subst (λ z. BlockAnswers w z (Err f)) p h) i))
+      (let r : before ++ [] ≡ more = sym e in ap length (sym (nil_right before)) ∙ ap length r, same_err f g (once_block k (Err f) (Err g) (subst (λ z. BlockTells w z (Err f)) p h) i))
   first_fault before more l k after rest (x ∷ z) all f g h i s e q =
       let p : l ≡ x = cc in
       absurd (says_none before l z all f (subst (λ t. Say w t all) (e ∙ ap (λ t. before ++ t ∷ z) (sym p)) s) h)
@@ -76,7 +77,7 @@ module _ {A : Type 0} (w : A → Pieces) (unique : (text : List Lexeme) (a b : A
   pub good_or_faulty : (lines : List Line) (all : List (Option A)) (f : BlockFault) → Say w lines all → IsFaulty w lines f → ⊥
   good_or_faulty lines all f h k = says_none k.0 k.1 k.2 all f.fault (subst (λ z. Say w z all) k.4 h) k.6
 
-  pub once_lines : {B : Type 0} (says : List (Option A) → B) (lines : List Line) (f g : Result B BlockFault) → AllAnswers w says lines f → AllAnswers w says lines g → f ≡ g
+  pub once_lines : {B : Type 0} (says : List (Option A) → B) (lines : List Line) (f g : Result B BlockFault) → AllTells w says lines f → AllTells w says lines g → f ≡ g
   once_lines says lines (Ok a) (Ok b) h k = ap Ok (h.2 ∙ ap says (once_say lines h.0 k.0 h.1 k.1) ∙ sym k.2)
   once_lines says lines (Ok a) (Err b) h k = absurd (good_or_faulty lines h.0 b h.1 k)
   once_lines says lines (Err a) (Ok b) h k = absurd (good_or_faulty lines k.0 a k.1 h)

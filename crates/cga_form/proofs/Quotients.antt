@@ -6,7 +6,9 @@ use Rattle.std.proofs.Math.IntN.{pos-*ℤ-pos}
 use Rattle.cga_fraction.specs.Rat.{Rat, den, of_int}
 use Rattle.cga_fraction.specs.Gcd.{gcd}
 use Rattle.cga_fraction.specs.Arithmetic.{reduced, times, divided}
-use Rattle.cga_fraction.specs.Refusals.{checked, with_fault, quotient_of}
+use Rattle.cga_fraction.specs.Refusals.{checked, quotient_of}
+use Rattle.cga_fraction.specs.Results.{or_err}
+use Rattle.cga_fraction.specs.declared.overflow.DivFault.TheVariants as fault
 use Rattle.cga_fraction.specs.declared.overflow.DivFault.{DivFault}
 use Rattle.cga_fraction.proofs.Lowest.{den-reduced, checked-in}
 
@@ -32,7 +34,7 @@ in_range n k a b =
 quotient_is : (n d : ℕ) → n ≤ 2 ^ 62 → 0 < d → d ≤ 2 ^ 62 → quotient_of (of_int (pos n)) (of_int (pos d)) ≡ Ok (divided (of_int (pos n)) (of_int (pos d)))
 unfolding quotient_of
 quotient_is n zero a p b = absurd (omega arith)
-quotient_is n (suc k) a p b = ap with_fault (in_range n k a b)
+quotient_is n (suc k) a p b = ap (or_err fault.Overflow) (in_range n k a b)
 
 module _ (n d : ℕ) (x y : ℤ) (a : n ≤ 2 ^ 62) (p : 0 < d) (b : d ≤ 2 ^ 62) (e : x ≡ pos n) (f : y ≡ pos d) (r : Result Rat DivFault) (h : r ≡ quotient_of (of_int x) (of_int y)) where
   found : r ≡ Ok (divided (of_int (pos n)) (of_int (pos d)))

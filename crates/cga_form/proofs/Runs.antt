@@ -1,9 +1,9 @@
--- What a reader does on a text: it takes a front of it, and answers the same however the text goes on behind the next token.
+-- What a reader does on a text: it takes a front of it, and gives the same however the text goes on after the next token.
 use Rattle.std.proofs.Common.{◌≡◌, ℕ, zero, suc, ◌+◌, ◌-◌, Bool, true, false, List, [], ◌∷◌, ◌++◌, length, append_assoc, ◌≤◌, ◌<◌, length-append, refl, sym, ap, ◌∙◌, Option, Some, None, Ok, Err, if◌then◌else◌, cond, arith}
 use Rattle.cga_syntax.specs.declared.lexeme.Lexeme.{Lexeme}
 use Rattle.cga_form.specs.declared.fault.Fault.TheVariants.{Unexpected, TooNested}
-use Rattle.cga_form.specs.Reader.{Input, at, Outcome, Reader, and_then, ◌>>=◌, pure, refuse, first, decoded, taking, single, entering, enter, drawing, drawn_word, peeked, begins, many_from, many_after, many}
-pub use Rattle.cga_form.specs.Laws.{Language, Verdict, found, unexpected, nested, answer, Means, Run, Exact, Some_text}
+use Rattle.cga_form.specs.Reader.{Input, at, ReadResult, Reader, and_then, ◌>>=◌, pure, refuse, first, decoded, taking, single, entering, enter, drawing, drawn_word, peeked, begins, many_from, many_after, many}
+pub use Rattle.cga_form.specs.Laws.{Language, Verdict, found, unexpected, nested, told, Means, Run, Exact, Some_text}
 use Rattle.cga_syntax.specs.Brackets.{walk, counted, walk_on, bracket_of, opens}
 
 pub first_same : (x r b : List Lexeme) → first b ≡ first r → first (x ++ b) ≡ first (x ++ r)
@@ -49,7 +49,7 @@ module _ {A B : Type 0} (L : Language A) (M : A → Language B) (n m l : ℕ) (p
   next_means c x y r a d h e unexpected w = (w.0, w.1, w.2, w.3, (x, y ++ w.0, a, d, append_assoc x y w.0, h, w.4), walk_append n x y m e ∙ w.5)
   next_means c x y r a d h e nested w = (w.0, w.1, w.2, w.3, (x, y ++ w.0 ∷ w.1, a, d, append_assoc x y (w.0 ∷ w.1), h, w.4), walk_append n x y m e ∙ w.5, w.6, w.7)
 
-  after : (c : ℕ) (text x r : List Lexeme) (v : Verdict A) → text ≡ x ++ r → ((b : List Lexeme) → first b ≡ first r → p (at (x ++ b) c) ≡ answer v b) → Means n m L c x r v → ((a : A) (d : ℕ) → L c x a d → Run m l (M a) (f a) d r) → Run n l (Seq L M) (p >>= f) c text
+  after : (c : ℕ) (text x r : List Lexeme) (v : Verdict A) → text ≡ x ++ r → ((b : List Lexeme) → first b ≡ first r → p (at (x ++ b) c) ≡ told v b) → Means n m L c x r v → ((a : A) (d : ℕ) → L c x a d → Run m l (M a) (f a) d r) → Run n l (Seq L M) (p >>= f) c text
   after c text x r (found a d) s same w second =
       let t = second a d w.0 in
       record {
@@ -244,7 +244,7 @@ weaker_run n m h c text r = record { front = r.front; rest = r.rest; verdict = r
 renamed : {A : Type 0} {L : Language A} {p q : Reader A} (n m c : ℕ) (text : List Lexeme) → ((i : Input) → q i ≡ p i) → Run n m L p c text → Run n m L q c text
 renamed n m c text e r = record { front = r.front; rest = r.rest; verdict = r.verdict; split = r.split; same = λ b h. e (at (r.front ++ b) c) ∙ r.same b h; means = r.means }
 
-ok_input : {A : Type 0} {a b : A} {i o : Input} → ◌≡◌ {A = Outcome A} (Ok (a, i)) (Ok (b, o)) → i ≡ o
+ok_input : {A : Type 0} {a b : A} {i o : Input} → ◌≡◌ {A = ReadResult A} (Ok (a, i)) (Ok (b, o)) → i ≡ o
 ok_input {A} {a} {b} {i} {o} e = let q : ◌≡◌ {A = A × Input} (a, i) (b, o) = cc in ap (λ (z : A × Input). z.1) q
 
 module _ {A : Type 0} (L : Language A) (n : ℕ) (test : Lexeme → Bool) (p : Reader A) (p_runs : Exact n n L p) where
@@ -286,7 +286,7 @@ module _ {A : Type 0} (L : Language A) (n : ℕ) (test : Lexeme → Bool) (p : R
   grown_text : (so_far : List A) → Some_text (Grown L so_far)
   grown_text so_far c = ([], so_far, c, ([], append_nil so_far, (refl, refl)))
 
-  -- in at most so many turns
+  -- at most so many
   pub many_from_runs : (turns : ℕ) (so_far : List A) → Exact n n (Grown L so_far) (many_from test p turns so_far)
   unfolding many_from
   many_from_runs zero so_far c text = pure_runs {L = Grown L so_far} n so_far (λ d. ([], append_nil so_far, (refl, refl))) c text
@@ -348,7 +348,7 @@ module _ {A : Type 0} (L : Language A) (n : ℕ) (test : Lexeme → Bool) (p : R
       (begins test text) refl
 
   module _ (long : (c : ℕ) (x : List Lexeme) (a : A) (d : ℕ) → L c x a d → 1 ≤ length x) where
-    is_found : (c : ℕ) (x r : List Lexeme) (v : Verdict A) (a : A) (o : Input) → Means n n L c x r v → answer v r ≡ Ok (a, o) → (1 ≤ length x) × (o.left ≡ r)
+    is_found : (c : ℕ) (x r : List Lexeme) (v : Verdict A) (a : A) (o : Input) → Means n n L c x r v → told v r ≡ Ok (a, o) → (1 ≤ length x) × (o.left ≡ r)
     is_found c x r (found b d) a o w e = (long c x b d w.0, let q : at r d ≡ o = ok_input e in sym (ap (λ (z : Input). z.left) q))
     is_found c x r unexpected a o w e = absurd (let q : Err (Unexpected (length r)) ≡ Ok (a, o) = e in cc)
     is_found c x r nested a o w e = absurd (let q : Err (TooNested (length r)) ≡ Ok (a, o) = e in cc)
@@ -370,7 +370,7 @@ module _ {A : Type 0} (L : Language A) (n : ℕ) (test : Lexeme → Bool) (p : R
 
     enough_then : (j l : ℕ) (so_far : List A) (i : Input) → length i.left ≤ suc j → length i.left ≤ suc l →
         ((q : List A) (o : Input) → length o.left ≤ j → length o.left ≤ l → many_from test p j q o ≡ many_from test p l q o) →
-        (o : Outcome A) → p i ≡ o → and_then o (λ x. many_from test p j (so_far ++ x ∷ [])) ≡ and_then o (λ x. many_from test p l (so_far ++ x ∷ []))
+        (o : ReadResult A) → p i ≡ o → and_then o (λ x. many_from test p j (so_far ++ x ∷ [])) ≡ and_then o (λ x. many_from test p l (so_far ++ x ∷ []))
     enough_then j l so_far i a b h (Ok q) e = h (so_far ++ q.0 ∷ []) q.1 (omega (arith, shortens i q.0 q.1 e)) (omega (arith, shortens i q.0 q.1 e))
     enough_then j l so_far i a b h (Err f) e = refl
 
@@ -387,7 +387,7 @@ module _ {A : Type 0} (L : Language A) (n : ℕ) (test : Lexeme → Bool) (p : R
     unfolding many_from
     unroll_once j so_far i = refl
 
-    unroll_then : (so_far : List A) (i : Input) (o : Outcome A) → p i ≡ o → and_then o (λ x. many_from test p (length i.left) (so_far ++ x ∷ [])) ≡ and_then o (λ x. many_after test p (so_far ++ x ∷ []))
+    unroll_then : (so_far : List A) (i : Input) (o : ReadResult A) → p i ≡ o → and_then o (λ x. many_from test p (length i.left) (so_far ++ x ∷ [])) ≡ and_then o (λ x. many_after test p (so_far ++ x ∷ []))
     unroll_then so_far i (Ok q) e = enough (length i.left) (length q.1.left) (so_far ++ q.0 ∷ []) q.1 (omega (arith, shortens i q.0 q.1 e)) (omega arith)
     unroll_then so_far i (Err f) e = refl
 

@@ -9,7 +9,9 @@ use Rattle.cga_syntax.specs.declared.keyword.Keyword.{Keyword}
 use Rattle.cga_syntax.specs.declared.keyword.Keyword.TheVariants as k
 use Rattle.cga_syntax.specs.declared.lexeme.Lexeme.{Lexeme}
 use Rattle.cga_syntax.specs.declared.lexeme.Lexeme.TheVariants as lexeme
-use Rattle.cga_syntax.specs.Pieces.{Space, usual, token, never, plain, Pieces, named, word, whole, number}
+use Rattle.cga_syntax.specs.declared.print.space.Space.{Space}
+use Rattle.cga_syntax.specs.declared.print.space.Space.TheVariants.{Usual}
+use Rattle.cga_syntax.specs.Pieces.{token, never, plain, Pieces, named, word, whole, number}
 use Rattle.cga_syntax.specs.Brackets.{counted, bracket_of, bracket_of_sign, opens}
 use Rattle.cga_form.specs.Tokens.{sign_number, keyword_number, is_sign, is_keyword, passing, a_sign, a_keyword, unless, when, a_name, whole_of, whole_parts, bounded, a_whole, a_number, is_word}
 use Rattle.cga_form.specs.Parts.{a_word}
@@ -141,16 +143,16 @@ sign_token sp x n m r h = record {
   some = (lexeme.Sign x, tt, r);
 }
 
-pub keyword_token : (x : Keyword) (n : ℕ) → a_keyword x (lexeme.Keyword x) ≡ Some tt → Token n n (as_token usual (lexeme.Keyword x)) (a_keyword x)
+pub keyword_token : (x : Keyword) (n : ℕ) → a_keyword x (lexeme.Keyword x) ≡ Some tt → Token n n (as_token Usual (lexeme.Keyword x)) (a_keyword x)
 keyword_token x n r = record {
-  means = λ l a e. (usual, ap (λ z. token usual z ∷ []) (sym (a_keyword_is x l a e)));
+  means = λ l a e. (Usual, ap (λ z. token Usual z ∷ []) (sym (a_keyword_is x l a e)));
   counts = λ l a e. ap (λ z. counted (bracket_of z) n) (a_keyword_is x l a e);
   some = (lexeme.Keyword x, tt, r);
 }
 
-pub opening : (x : Sign) → a_sign x (lexeme.Sign x) ≡ Some tt → bracket_of_sign x ≡ opens → Opening (as_token usual (lexeme.Sign x)) (a_sign x)
+pub opening : (x : Sign) → a_sign x (lexeme.Sign x) ≡ Some tt → bracket_of_sign x ≡ opens → Opening (as_token Usual (lexeme.Sign x)) (a_sign x)
 opening x r h = record {
-  means = λ l e. (usual, ap (λ z. token usual z ∷ []) (sym (a_sign_is x l tt e)));
+  means = λ l e. (Usual, ap (λ z. token Usual z ∷ []) (sym (a_sign_is x l tt e)));
   is = λ l e. ap bracket_of (a_sign_is x l tt e) ∙ h;
   some = (lexeme.Sign x, r);
 }
@@ -181,7 +183,7 @@ named_is name e = ap (λ b. if b then never else word name) e
 name_means : (l : Lexeme) (a : List ℕ) → a_name l ≡ Some a → (s : Space) × (named a ∷ [] ≡ token s l ∷ [])
 name_means (lexeme.Name name) a e =
     let t = unless_is (is_reserved name) name a e in
-    (usual, ap (λ z. named z ∷ []) (sym t.1) ∙ ap (λ z. z ∷ []) (named_is name t.0))
+    (Usual, ap (λ z. named z ∷ []) (sym t.1) ∙ ap (λ z. z ∷ []) (named_is name t.0))
 name_means _ a e = absurd (cc)
 
 name_counts : (n : ℕ) (l : Lexeme) (a : List ℕ) → a_name l ≡ Some a → counted (bracket_of l) n ≡ Some n
@@ -214,7 +216,7 @@ whole_is low high a e = ap (λ b. if b then plain (number a) else never) e
 whole_means : (low high : ℕ) (l : Lexeme) (a : ℕ) → a_whole low high l ≡ Some a → (s : Space) × (whole low high a ∷ [] ≡ token s l ∷ [])
 whole_means low high (lexeme.Number value) a e =
     let t = bounded_is low high a (whole_of value) e in
-    (usual, ap (λ z. z ∷ []) (whole_is low high a t.0) ∙ ap (λ z. plain (lexeme.Number z) ∷ []) (sym (whole_value value.num value.above a t.1)))
+    (Usual, ap (λ z. z ∷ []) (whole_is low high a t.0) ∙ ap (λ z. plain (lexeme.Number z) ∷ []) (sym (whole_value value.num value.above a t.1)))
 whole_means low high _ a e = absurd (cc)
 
 whole_counts : (low high n : ℕ) (l : Lexeme) (a : ℕ) → a_whole low high l ≡ Some a → counted (bracket_of l) n ≡ Some n
@@ -233,7 +235,7 @@ number_is (lexeme.Number value) a e = let q : value ≡ a = cc in ap lexeme.Numb
 number_is _ a e = absurd (cc)
 
 pub number_token : (n : ℕ) → Token n n (λ a. plain (lexeme.Number a) ∷ []) a_number
-number_token n = by_token usual lexeme.Number a_number n number_is (λ a. refl) (of_int (pos 1)) refl
+number_token n = by_token Usual lexeme.Number a_number n number_is (λ a. refl) (of_int (pos 1)) refl
 
 -- ---- words that forms name
 
@@ -276,7 +278,7 @@ word_pieces bytes _ = word bytes ∷ []
 -- a word that a form names
 pub word_token : (bytes : List ℕ) (n : ℕ) → a_word bytes (lexeme.Name bytes) ≡ Some tt → Token n n (word_pieces bytes) (a_word bytes)
 word_token bytes n r = record {
-  means = λ l a e. (usual, ap (λ z. token usual z ∷ []) (sym (a_word_is bytes l a e)));
+  means = λ l a e. (Usual, ap (λ z. token Usual z ∷ []) (sym (a_word_is bytes l a e)));
   counts = λ l a e. ap (λ z. counted (bracket_of z) n) (a_word_is bytes l a e);
   some = (lexeme.Name bytes, tt, r);
 }

@@ -6,7 +6,8 @@ use Rattle.cga_lexer.specs.declared.sign.Sign.TheVariants as s
 use Rattle.cga_syntax.specs.declared.lexeme.Lexeme.{Lexeme}
 use Rattle.cga_syntax.specs.declared.lexeme.Lexeme.TheVariants as lexeme
 use Rattle.cga_syntax.specs.Brackets.{counted, bracket_of}
-use Rattle.cga_syntax.specs.Pieces.{Pieces, usual, token, plain, number, valued, IsMagnitude, IsValue, Writes}
+use Rattle.cga_syntax.specs.declared.print.space.Space.TheVariants.{Usual}
+use Rattle.cga_syntax.specs.Pieces.{Pieces, token, plain, number, valued, IsMagnitude, IsValue, Writes}
 use Rattle.cga_form.specs.Reader.{◌>>=◌, pure, single}
 use Rattle.cga_form.specs.Tokens.{a_sign, is_sign, a_number, whole_of}
 use Rattle.cga_form.specs.Parts as b
@@ -15,7 +16,7 @@ use Rattle.cga_form.proofs.Written.{head_of, end_of, nil_right, piece_written}
 use Rattle.cga_form.proofs.Forms.{After, Reads, one_token}
 use Rattle.cga_form.proofs.Singles.{sign_token, number_token, as_token, whole_value}
 
--- ---- the number behind a slash
+-- ---- the number after a slash
 
 abbrev Divisor : Language ℕ
 Divisor c x a d = (x ≡ number a ∷ []) × (0 < a) × (c ≡ d)
@@ -35,21 +36,21 @@ one_divisor : Some_text Divisor
 one_divisor c = (number 1 ∷ [], 1, c, (refl, omega arith, refl))
 
 -- a slash and a number that isn't 0
-abbrev Behind : Language ℕ
-Behind c x a d = (x ≡ lexeme.Sign s.Slash ∷ number a ∷ []) × (0 < a) × (c ≡ d)
+abbrev Divided : Language ℕ
+Divided c x a d = (x ≡ lexeme.Sign s.Slash ∷ number a ∷ []) × (0 < a) × (c ≡ d)
 
 -- nothing more, with a value
 abbrev Same : {B : Type 0} → B → Language B
 Same v c x a d = (a ≡ v) × (x ≡ []) × (c ≡ d)
 
-one_of : {A : Type 0} (w : A → Pieces) (l : Lexeme) (c : ℕ) (x : List Lexeme) (a : A) (d : ℕ) → w a ≡ token usual l ∷ [] → After [] w c x a d → (x ≡ l ∷ []) × (c ≡ d)
+one_of : {A : Type 0} (w : A → Pieces) (l : Lexeme) (c : ℕ) (x : List Lexeme) (a : A) (d : ℕ) → w a ≡ token Usual l ∷ [] → After [] w c x a d → (x ≡ l ∷ []) × (c ≡ d)
 one_of w l c x a d e h =
-    let t = head_of c usual l [] x d (subst (λ ps. Writes c ps x d) (sym h.1 ∙ e) h.2) in
+    let t = head_of c Usual l [] x d (subst (λ ps. Writes c ps x d) (sym h.1 ∙ e) h.2) in
     let u = end_of c t.0 d t.2 in
     (t.1 ∙ ap (λ z. l ∷ z) u.0, u.1)
 
-slash : (n : ℕ) → Reads n n (as_token usual (lexeme.Sign s.Slash)) (single (a_sign s.Slash))
-slash n = one_token (sign_token usual s.Slash n n refl refl)
+slash : (n : ℕ) → Reads n n (as_token Usual (lexeme.Sign s.Slash)) (single (a_sign s.Slash))
+slash n = one_token (sign_token Usual s.Slash n n refl refl)
 
 exact_divisor : (n : ℕ) → Exact n n (Seq Divisor (λ a. Same a)) (single b.a_divisor >>= λ d. pure d)
 exact_divisor n =
@@ -59,31 +60,31 @@ exact_divisor n =
 divisor_text : Some_text (Seq Divisor (λ a. Same a))
 divisor_text c = (number 1 ∷ [], 1, c, (number 1 ∷ [], [], 1, c, refl, (refl, omega arith, refl), (refl, refl, refl)))
 
-as_behind : (c : ℕ) (x : List Lexeme) (a d : ℕ) → Seq (After [] (as_token usual (lexeme.Sign s.Slash))) (λ _. Seq Divisor (λ k. Same k)) c x a d → Behind c x a d
-as_behind c x a d h =
-    let t = one_of (as_token usual (lexeme.Sign s.Slash)) (lexeme.Sign s.Slash) c h.0 h.2 h.3 refl h.5 in
+as_after : (c : ℕ) (x : List Lexeme) (a d : ℕ) → Seq (After [] (as_token Usual (lexeme.Sign s.Slash))) (λ _. Seq Divisor (λ k. Same k)) c x a d → Divided c x a d
+as_after c x a d h =
+    let t = one_of (as_token Usual (lexeme.Sign s.Slash)) (lexeme.Sign s.Slash) c h.0 h.2 h.3 refl h.5 in
     let g = h.6 in
     let e : a ≡ g.2 = g.6.0 in
     (h.4 ∙ ap (λ z. z ++ h.1) t.0 ∙ ap (λ z. lexeme.Sign s.Slash ∷ z) (g.4 ∙ ap (λ z. g.0 ++ z) g.6.1 ∙ nil_right g.0 ∙ g.5.0 ∙ ap (λ z. number z ∷ []) (sym e)), subst (λ z. 0 < z) (sym e) g.5.1, t.1 ∙ g.5.2 ∙ g.6.2)
 
-divisor_runs : (n : ℕ) → Exact n n Behind b.divisor
+divisor_runs : (n : ℕ) → Exact n n Divided b.divisor
 unfolding b.divisor
 divisor_runs n =
-    weaker n n as_behind
-    (bind_runs (After [] (as_token usual (lexeme.Sign s.Slash))) (λ _. Seq Divisor (λ k. Same k)) n n n (single (a_sign s.Slash)) (λ _. single b.a_divisor >>= λ d. pure d) (λ _. divisor_text) (λ _. exact_divisor n) (slash n).runs)
+    weaker n n as_after
+    (bind_runs (After [] (as_token Usual (lexeme.Sign s.Slash))) (λ _. Seq Divisor (λ k. Same k)) n n n (single (a_sign s.Slash)) (λ _. single b.a_divisor >>= λ d. pure d) (λ _. divisor_text) (λ _. exact_divisor n) (slash n).runs)
 
-behind_text : Some_text Behind
-behind_text c = (lexeme.Sign s.Slash ∷ number 1 ∷ [], 1, c, (refl, omega arith, refl))
+after_text : Some_text Divided
+after_text c = (lexeme.Sign s.Slash ∷ number 1 ∷ [], 1, c, (refl, omega arith, refl))
 
 -- ---- magnitudes
 
 abbrev pub ratio : ℕ → ℕ → Rat
 ratio n d = divided (of_int (pos n)) (of_int (pos d))
 
--- what may stand behind a number, which is whole or isn't
+-- what may stand after a number, which is whole or isn't
 abbrev Rest : Bool → Rat → Option ℕ → Language Rat
 Rest minus v None c x a d = Same (b.with_minus minus v) c x a d
-Rest minus v (Some n) c x a d = Same (b.with_minus minus v) c x a d ⊎ Seq Behind (λ k. Same (b.with_minus minus (ratio n k))) c x a d
+Rest minus v (Some n) c x a d = Same (b.with_minus minus v) c x a d ⊎ Seq Divided (λ k. Same (b.with_minus minus (ratio n k))) c x a d
 
 rest_text : (minus : Bool) (v : Rat) (o : Option ℕ) → Some_text (Rest minus v o)
 rest_text minus v None c = ([], b.with_minus minus v, c, (refl, refl, refl))
@@ -93,8 +94,8 @@ rest_runs : (minus : Bool) (v : Rat) (o : Option ℕ) (n : ℕ) → Exact n n (R
 rest_runs minus v None n = pure_runs {L = Rest minus v None} n (b.with_minus minus v) (λ c. (refl, refl, refl))
 rest_runs minus v (Some k) n =
     peeked_runs (Rest minus v (Some k)) n n (is_sign s.Slash) (b.divisor >>= λ d. pure (b.with_minus minus (ratio k d))) (pure (b.with_minus minus v))
-    (weaker {L = Seq Behind (λ j. Same (b.with_minus minus (ratio k j)))} {M = Rest minus v (Some k)} n n (λ c x a d h. inr h)
-    (bind_runs Behind (λ j. Same (b.with_minus minus (ratio k j))) n n n b.divisor (λ d. pure (b.with_minus minus (ratio k d))) (λ j c. ([], b.with_minus minus (ratio k j), c, (refl, refl, refl)))
+    (weaker {L = Seq Divided (λ j. Same (b.with_minus minus (ratio k j)))} {M = Rest minus v (Some k)} n n (λ c x a d h. inr h)
+    (bind_runs Divided (λ j. Same (b.with_minus minus (ratio k j))) n n n b.divisor (λ d. pure (b.with_minus minus (ratio k d))) (λ j c. ([], b.with_minus minus (ratio k j), c, (refl, refl, refl)))
     (λ j. pure_runs {L = Same (b.with_minus minus (ratio k j))} n (b.with_minus minus (ratio k j)) (λ c. (refl, refl, refl))) (divisor_runs n)))
     (pure_runs {L = Rest minus v (Some k)} n (b.with_minus minus v) (λ c. inl (refl, refl, refl)))
 
@@ -139,9 +140,9 @@ written c x a d h e = (value_pieces a, refl, piece_written c (valued a) x d (h, 
 positive : (c : ℕ) (x : List Lexeme) (a : Rat) (d : ℕ) → Magnitude false c x a d → After [] value_pieces c x a d
 positive c x a d h = written c x a d (inl (subst (λ z. IsMagnitude z x) (sym h.2) h.1)) h.3
 
-negative : (c : ℕ) (x : List Lexeme) (a : Rat) (d : ℕ) → Seq (After [] (as_token usual (lexeme.Sign s.Minus))) (λ _. Magnitude true) c x a d → After [] value_pieces c x a d
+negative : (c : ℕ) (x : List Lexeme) (a : Rat) (d : ℕ) → Seq (After [] (as_token Usual (lexeme.Sign s.Minus))) (λ _. Magnitude true) c x a d → After [] value_pieces c x a d
 negative c x a d h =
-    let t = one_of (as_token usual (lexeme.Sign s.Minus)) (lexeme.Sign s.Minus) c h.0 h.2 h.3 refl h.5 in
+    let t = one_of (as_token Usual (lexeme.Sign s.Minus)) (lexeme.Sign s.Minus) c h.0 h.2 h.3 refl h.5 in
     written c x a d (inr (h.6.0, h.1, h.4 ∙ ap (λ z. z ++ h.1) t.0, h.6.1, h.6.2)) (t.1 ∙ h.6.3)
 
 pub value_reads : (n : ℕ) → Reads n n value_pieces b.value
@@ -149,8 +150,8 @@ unfolding b.value
 value_reads n = record {
   runs = peeked_runs (After [] value_pieces) n n (is_sign s.Minus) (single (a_sign s.Minus) >>= λ _. b.magnitude true) (b.magnitude false)
       (weaker n n negative
-      (bind_runs (After [] (as_token usual (lexeme.Sign s.Minus))) (λ _. Magnitude true) n n n (single (a_sign s.Minus)) (λ _. b.magnitude true) (λ _. magnitude_text true) (λ _. magnitude_runs true n)
-      (one_token (sign_token usual s.Minus n n refl refl)).runs))
+      (bind_runs (After [] (as_token Usual (lexeme.Sign s.Minus))) (λ _. Magnitude true) n n n (single (a_sign s.Minus)) (λ _. b.magnitude true) (λ _. magnitude_text true) (λ _. magnitude_runs true n)
+      (one_token (sign_token Usual s.Minus n n refl refl)).runs))
       (weaker n n positive (magnitude_runs false n));
   some = λ c. (number 1 ∷ [], of_int (pos 1), c, written c (number 1 ∷ []) (of_int (pos 1)) c (inl (inl refl)) refl);
 }

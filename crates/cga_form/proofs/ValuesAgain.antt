@@ -4,7 +4,8 @@ use Rattle.cga_fraction.specs.Rat.{Rat, of_int}
 use Rattle.cga_lexer.specs.declared.sign.Sign.TheVariants as s
 use Rattle.cga_syntax.specs.declared.lexeme.Lexeme.{Lexeme}
 use Rattle.cga_syntax.specs.declared.lexeme.Lexeme.TheVariants as lexeme
-use Rattle.cga_syntax.specs.Pieces.{Pieces, usual, token, sign, plain, number, valued, IsMagnitude, IsValue, never, Writes}
+use Rattle.cga_syntax.specs.declared.print.space.Space.TheVariants.{Usual}
+use Rattle.cga_syntax.specs.Pieces.{Pieces, token, sign, plain, number, valued, IsMagnitude, IsValue, never, Writes}
 use Rattle.cga_form.specs.Reader.{at, begins, ◌>>=◌, single}
 use Rattle.cga_form.specs.Tokens.{a_sign, is_sign, a_number, whole_of}
 use Rattle.cga_form.specs.Parts as b
@@ -27,11 +28,11 @@ rest_single : (minus : Bool) (m : Rat) (o : Option ℕ) → Leads a_slash [] (b.
 rest_single minus m None = ends
 rest_single minus m (Some n) = peek_no _ (misses_end (λ l e. e)) ends
 
-read_single : (minus : Bool) (m : Rat) → Leads a_slash (map (token usual) (single_text m)) (b.magnitude minus) (b.with_minus minus m)
+read_single : (minus : Bool) (m : Rat) → Leads a_slash (map (token Usual) (single_text m)) (b.magnitude minus) (b.with_minus minus m)
 unfolding b.magnitude
 read_single minus m = took a_number m refl (rest_single minus m (whole_of m))
 
--- a number that isn't 0 behind a slash
+-- a number that isn't 0 after a slash
 abbrev divisor_pieces : ℕ → Pieces
 divisor_pieces zero = sign s.Slash ∷ never ∷ []
 divisor_pieces (suc d) = sign s.Slash ∷ plain (number (suc d)) ∷ []
@@ -48,14 +49,14 @@ read_divisor : (minus : Bool) (n d : ℕ) → 0 < d → Leads a_slash (sign s.Sl
 read_divisor minus n zero h = absurd (omega arith)
 read_divisor minus n (suc d) h = peek_yes _ (starts_token refl) (plainly (after {v = divisor_pieces} _ (suc d) divisor_again misses_nothing ends))
 
-read_double : (minus : Bool) (n d : ℕ) → 0 < d → Leads a_slash (map (token usual) (double_text n d)) (b.magnitude minus) (b.with_minus minus (ratio n d))
+read_double : (minus : Bool) (n d : ℕ) → 0 < d → Leads a_slash (map (token Usual) (double_text n d)) (b.magnitude minus) (b.with_minus minus (ratio n d))
 unfolding b.magnitude
 read_double minus n d h = took a_number (of_int (pos n)) refl (read_divisor minus n d h)
 
 -- ---- magnitudes and values
 
-written_plainly : (c : ℕ) (x : List Lexeme) (d : ℕ) (ls : List Lexeme) → x ≡ ls → c ≡ d → Writes c (map (token usual) ls) x d
-written_plainly c x d ls e q = subst (λ z. Writes c (map (token usual) ls) z d) (sym e) (subst (λ m. Writes c (map (token usual) ls) ls m) q (plain_written c ls))
+written_plainly : (c : ℕ) (x : List Lexeme) (d : ℕ) (ls : List Lexeme) → x ≡ ls → c ≡ d → Writes c (map (token Usual) ls) x d
+written_plainly c x d ls e q = subst (λ z. Writes c (map (token Usual) ls) z d) (sym e) (subst (λ m. Writes c (map (token Usual) ls) ls m) q (plain_written c ls))
 
 magnitude_at : (minus : Bool) (m : Rat) (c : ℕ) (x : List Lexeme) (d : ℕ) (r : List Lexeme) → IsMagnitude m x → c ≡ d → begins a_slash r ≡ false → Agrees (b.magnitude minus (at (x ++ r) c)) (b.with_minus minus m) (at r d)
 magnitude_at minus m c x d r (inl h) q e = (read_single minus m).leads c x d r (written_plainly c x d (single_text m) h q) e

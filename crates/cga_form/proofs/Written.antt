@@ -1,7 +1,9 @@
 -- What pieces are written as, joined and cut.
 use Rattle.std.proofs.Common.{◌≡◌, ℕ, List, [], ◌∷◌, ◌++◌, map, length, ◌≤◌, arith, append_assoc, refl, ap, sym, ◌∙◌, subst}
 use Rattle.cga_syntax.specs.declared.lexeme.Lexeme.{Lexeme}
-use Rattle.cga_syntax.specs.Pieces.{Piece, Space, usual, token, Pieces, concat, IsWritten, Writes}
+use Rattle.cga_syntax.specs.declared.print.space.Space.{Space}
+use Rattle.cga_syntax.specs.declared.print.space.Space.TheVariants.{Usual}
+use Rattle.cga_syntax.specs.Pieces.{Piece, token, Pieces, concat, IsWritten, Writes}
 use Rattle.cga_form.proofs.Runs.{Language, Each}
 
 pub nil_right : {A : Type 0} (xs : List A) → xs ++ [] ≡ xs
@@ -67,6 +69,6 @@ pub long_of : (c : ℕ) (s : Space) (k : Lexeme) (ps : Pieces) (x : List Lexeme)
 long_of c s k ps x d w = let t = head_of c s k ps x d w in omega (arith, ap length t.1)
 
 -- tokens are written as themselves
-pub plain_written : (c : ℕ) (ls : List Lexeme) → Writes c (map (token usual) ls) ls c
+pub plain_written : (c : ℕ) (ls : List Lexeme) → Writes c (map (token Usual) ls) ls c
 plain_written c [] = nothing c
-plain_written c (l ∷ ls) = token_first c usual l (map (token usual) ls) ls c (plain_written c ls)
+plain_written c (l ∷ ls) = token_first c Usual l (map (token Usual) ls) ls c (plain_written c ls)

@@ -1,8 +1,11 @@
+pub mod Limits
+pub mod Lines
 pub mod Reader
 pub mod Tokens
 pub mod Parts
-pub mod Answers
-pub mod Code
-pub mod LineAnswers
+pub mod Tells
+pub mod Cursor
+pub mod LineTells
 pub mod Laws
-pub mod BlockAnswers
+pub mod BlockTells
+pub mod Words

@@ -56,21 +56,26 @@ keyword_number k.And = 14
 keyword_number k.Or = 15
 keyword_number k.Not = 16
 
+-- the token is this sign
 abbrev pub is_sign : Sign → Lexeme → Bool
 is_sign x (lexeme.Sign y) = sign_number x == sign_number y
 is_sign x _ = false
 
+-- the token is this reserved word
 abbrev pub is_keyword : Keyword → Lexeme → Bool
 is_keyword x (lexeme.Keyword y) = keyword_number x == keyword_number y
 is_keyword x _ = false
 
+-- nothing but that a test is passed
 abbrev pub passing : Bool → Option (Unit {0})
 passing true = Some tt
 passing false = None
 
+-- this sign
 abbrev pub a_sign : Sign → Lexeme → Option (Unit {0})
 a_sign x l = passing (is_sign x l)
 
+-- this reserved word
 abbrev pub a_keyword : Keyword → Lexeme → Option (Unit {0})
 a_keyword x l = passing (is_keyword x l)
 
@@ -81,10 +86,12 @@ is_word bytes _ = false
 
 -- ---- names and numbers
 
+-- a value where the test fails
 abbrev pub unless : {A : Type 0} → Bool → A → Option A
 unless true a = None
 unless false a = Some a
 
+-- a value where the test holds
 abbrev pub when : {A : Type 0} → Bool → A → Option A
 when true a = Some a
 when false a = None
@@ -94,6 +101,7 @@ abbrev pub a_name : Lexeme → Option (List ℕ)
 a_name (lexeme.Name name) = unless (is_reserved name) name
 a_name _ = None
 
+-- a whole number by its numerator, where the denominator is 1
 abbrev pub whole_parts : ℤ → ℕ → Option ℕ
 whole_parts (pos n) zero = Some n
 whole_parts (pos n) (suc d) = None
@@ -103,6 +111,7 @@ whole_parts (negsuc n) d = None
 abbrev pub whole_of : Rat → Option ℕ
 whole_of r = whole_parts r.num r.above
 
+-- a whole number that is within bounds
 abbrev pub bounded : ℕ → ℕ → Option ℕ → Option ℕ
 bounded low high None = None
 bounded low high (Some n) = when (nat_le low n && nat_le n high) n
@@ -112,6 +121,7 @@ abbrev pub a_whole : ℕ → ℕ → Lexeme → Option ℕ
 a_whole low high (lexeme.Number value) = bounded low high (whole_of value)
 a_whole low high _ = None
 
+-- a number
 abbrev pub a_number : Lexeme → Option Rat
 a_number (lexeme.Number value) = Some value
 a_number _ = None

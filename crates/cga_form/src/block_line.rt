@@ -1,8 +1,9 @@
 ghost use Rattle.std.specs.Prelude.{◌≤◌, length, IfOk, Ok};
-ghost use Rattle.cga_form.specs.BlockAnswers.{BlockAnswers, unless_blank};
+ghost use Rattle.cga_form.specs.BlockTells.{BlockTells, unless_blank};
 
 use crate::form::Form;
-use crate::line::{LINE, read_tokens};
+use crate::limits::LINE_LIMIT;
+use crate::line::read_tokens;
 use crate::line_fault::LineFault;
 use crate::place::{at_place, of_lexer};
 use cga_fraction::NoMemory;
@@ -17,9 +18,9 @@ pub fn read_block_line<F: Form>(
     line: &[u8],
     long: bool,
 ) -> Result<Result<Option<F::Member>, LineFault>, NoMemory>
-    ensures { IfOk result (λ found. BlockAnswers F.pieces (record { bytes = line.now; long = long }) found) }
+    ensures { IfOk result (λ found. BlockTells F.pieces (record { bytes = line.now; long = long }) found) }
 {
-    if long || line.len() > LINE {
+    if long || line.len() > LINE_LIMIT {
         return Ok(Err(LineFault::LineTooLong));
     }
     match tokens(alloc, line)? {

@@ -1,6 +1,7 @@
 ghost use Rattle.std.specs.Prelude.{◌≡◌, ◌++◌, ◌∷◌, [], List, OnOk, IsOk, Err};
 ghost use Rattle.cga_form.specs.declared.block_fault.BlockFault.{BlockFault};
-ghost use Rattle.cga_form.specs.BlockAnswers.{Line, AllAnswers, StandsFor, IsFaulty, line_number};
+ghost use Rattle.cga_form.specs.Lines.{Line};
+ghost use Rattle.cga_form.specs.BlockTells.{AllTells, StandsFor, IsFaulty, line_number};
 
 use crate::block_fault::BlockFault;
 use crate::block_line::read_block_line;
@@ -19,15 +20,14 @@ pub struct BlockReader<G> {
 
 impl<G: Gather + Drop> BlockReader<G> {
     /// A reader of no lines yet. Takes no memory.
-    #[tactic(auto, unfolding(crate::specs::BlockAnswers::Say))]
-    pub fn new(alloc: Global, empty: G) -> BlockReader<G>
-        requires { G.holds empty [] }
+    #[tactic(auto, unfolding(crate::specs::BlockTells::Say))]
+    pub fn new(alloc: Global) -> BlockReader<G>
         ensures { StandsFor G.pieces G.holds result [] }
     {
         BlockReader {
             alloc,
             lines: 0,
-            gathered: empty,
+            gathered: G::empty(alloc),
             fault: None,
         }
     }
@@ -58,7 +58,7 @@ impl<G: Gather + Drop> BlockReader<G> {
 
     /// What the lines say, or the first faulty one. Takes no memory.
     pub fn finish(self) -> Result<G::All, BlockFault>
-        ensures { (lines : List Line) → StandsFor G.pieces G.holds self lines → AllAnswers G.pieces G.says lines result }
+        ensures { (lines : List Line) → StandsFor G.pieces G.holds self lines → AllTells G.pieces G.says lines result }
     {
         let BlockReader {
             gathered,

@@ -1,7 +1,7 @@
 ghost use Rattle.std.specs.Prelude.{◌≡◌};
-ghost use Rattle.cga_form.specs.declared.fault.Stop.TheVariants as stop;
+ghost use Rattle.cga_fraction.specs.declared.stop.Stop.TheVariants as stop;
 
-use cga_fraction::NoMemory;
+use cga_fraction::Stop;
 
 /// Why tokens are no member of a form, with the number of tokens that were left.
 #[derive(Clone, Copy, Debug, PartialEq, Eq)]
@@ -10,25 +10,10 @@ pub enum Fault {
     TooNested(usize),
 }
 
-/// Why a form wasn't read.
-#[derive(Clone, Copy, Debug)]
-pub enum Stop {
-    Memory,
-    Fault(Fault),
-}
-
-impl From<NoMemory> for Stop {
-    ghost from_gives = { λ _ e. e ≡ stop.Memory };
-
-    fn from(_error: NoMemory) -> Stop {
-        Stop::Memory
-    }
-}
-
-impl From<Fault> for Stop {
+impl From<Fault> for Stop<Fault> {
     ghost from_gives = { λ f e. e ≡ stop.Fault f };
 
-    fn from(fault: Fault) -> Stop {
+    fn from(fault: Fault) -> Stop<Fault> {
         Stop::Fault(fault)
     }
 }

@@ -1,8 +1,9 @@
 //! Reading lines of any form: which tokens are a member, where the first fault is, and what the
 //! lines of a block say.
 //!
-//! A form is an `impl` of `Form`. Callers get the fault's place wrong: it is the first token with
-//! which no member could go on, or the end of the line, which comes behind blanks and a comment.
+//! A form is an `impl` of `Form`. It knows what single tokens stand for, and must not know which
+//! forms there are or what a member does. Callers get the fault's place wrong: it is the first token
+//! with which no member could go on, or the end of the line, which comes after blanks and a comment.
 #![tactic(auto)]
 
 pub mod block_fault;
@@ -11,12 +12,15 @@ pub mod block_reader;
 pub mod fault;
 pub mod form;
 pub mod gather;
+pub mod heads;
 pub mod laws;
+pub mod limits;
 pub mod line;
 pub mod line_fault;
 pub mod numbers;
 pub mod parts;
 pub mod place;
+pub mod texts;
 pub mod tokens;
 pub mod value;
 pub mod words;
@@ -26,6 +30,6 @@ pub use block_line::read_block_line;
 pub use block_reader::BlockReader;
 pub use form::Form;
 pub use gather::Gather;
-pub use laws::{answers_once, lines_answer_once, spells_one};
+pub use laws::{lines_tell_once, spells_one, tells_once};
 pub use line::read_line;
 pub use line_fault::LineFault;

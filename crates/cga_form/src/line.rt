@@ -1,26 +1,26 @@
 ghost use Rattle.std.specs.Prelude.{◌≡◌, ◌≤◌, length, map, IfOk};
-ghost use Rattle.cga_form.specs.Answers.{Answers};
-ghost use Rattle.cga_form.specs.Code.{input_of, Reads, seen};
-ghost use Rattle.cga_form.specs.LineAnswers.{LineAnswers};
-ghost use Rattle.cga_form.specs.Parts.{whole_line};
+ghost use Rattle.cga_form.specs.Tells.{Tells};
+ghost use Rattle.cga_form.specs.Cursor.{input_of, Reads, seen};
+ghost use Rattle.cga_form.specs.LineTells.{LineTells};
+ghost use Rattle.cga_form.specs.Parts.{complete};
+ghost use Rattle.cga_form.specs.Limits.{most_open};
 
-use crate::fault::{Fault, Stop};
+use crate::fault::Fault;
 use crate::form::Form;
+use crate::limits::{LINE_LIMIT, MOST_OPEN};
 use crate::line_fault::LineFault;
 use crate::parts::finish;
 use crate::place::{at_place, of_lexer};
 use crate::tokens::Tokens;
-use cga_fraction::NoMemory;
+use cga_fraction::{NoMemory, Stop, settled};
 use cga_lexer::{Token, tokens};
 use std::alloc::Global;
 
-/// The greatest number of bytes of a line.
-pub const LINE: usize = 4096;
-
-fn whole<F: Form>(alloc: Global, tokens: &mut Tokens<'_>) -> Result<F::Member, Stop>
-    ensures { Reads (whole_line (F.reader 32) (input_of tokens.old)) result (input_of tokens.new) }
+/// A member and then the end of the line.
+fn complete<F: Form>(alloc: Global, tokens: &mut Tokens<'_>) -> Result<F::Member, Stop<Fault>>
+    ensures { Reads (complete (F.reader most_open) (input_of tokens.old)) result (input_of tokens.new) }
 {
-    let member = F::read(alloc, tokens, 32)?;
+    let member = F::read(alloc, tokens, MOST_OPEN)?;
     finish(tokens)?;
     Ok(member)
 }
@@ -32,15 +32,11 @@ pub fn read_tokens<F: Form>(
     tokens: &[Token],
 ) -> Result<Result<F::Member, Fault>, NoMemory>
     requires { length tokens.now ≤ 65535 }
-    ensures { IfOk result (λ found. Answers F.pieces 32 (map seen tokens.now) found) }
+    ensures { IfOk result (λ found. Tells F.pieces most_open (map seen tokens.now) found) }
 {
     F::is_form();
     let mut left = Tokens::of(tokens);
-    match whole::<F>(alloc, &mut left) {
-        Ok(member) => Ok(Ok(member)),
-        Err(Stop::Fault(fault)) => Ok(Err(fault)),
-        Err(Stop::Memory) => Err(NoMemory),
-    }
+    settled(complete::<F>(alloc, &mut left))
 }
 
 /// The member that a line spells, or its first fault: that it is too long, then the first of its
@@ -50,9 +46,9 @@ pub fn read_line<F: Form>(
     alloc: Global,
     line: &[u8],
 ) -> Result<Result<F::Member, LineFault>, NoMemory>
-    ensures { IfOk result (λ found. LineAnswers F.pieces line.now found) }
+    ensures { IfOk result (λ found. LineTells F.pieces line.now found) }
 {
-    if line.len() > LINE {
+    if line.len() > LINE_LIMIT {
         return Ok(Err(LineFault::LineTooLong));
     }
     let found = match tokens(alloc, line)? {

@@ -1,4 +1,4 @@
-/// Why a line isn't of its form. Places count from 1; the end of a line is behind its last byte.
+/// Why a line isn't of its form. Places count from 1; the end of a line is after its last byte.
 #[derive(Clone, Copy, Debug, PartialEq, Eq)]
 pub enum LineFault {
     /// The line has more than 4,096 bytes.

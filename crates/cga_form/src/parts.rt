@@ -1,11 +1,12 @@
 //! Parts that the lines of several forms have.
 ghost use Rattle.std.specs.Prelude.{◌≡◌};
-ghost use Rattle.cga_form.specs.Code.{input_of, Finds};
+ghost use Rattle.cga_form.specs.Cursor.{input_of, Finds};
 ghost use Rattle.cga_form.specs.Parts as spec;
 
 use crate::fault::Fault;
 use crate::tokens::Tokens;
 use crate::{numbers, words};
+use cga_syntax::limits::LAST_ID;
 use cga_word::Name;
 
 /// A word that isn't reserved.
@@ -19,7 +20,14 @@ pub fn name(tokens: &mut Tokens<'_>) -> Result<Name, Fault>
 pub fn id(tokens: &mut Tokens<'_>) -> Result<u32, Fault>
     ensures { Finds (spec.id (input_of tokens.old)) result (input_of tokens.new) }
 {
-    tokens.take(numbers::whole(tokens.peek(), 1, 999_999))
+    tokens.take(numbers::whole(tokens.peek(), 1, LAST_ID))
+}
+
+/// The seed of a lot: a whole number.
+pub fn seed(tokens: &mut Tokens<'_>) -> Result<u64, Fault>
+    ensures { Finds (spec.seed (input_of tokens.old)) result (input_of tokens.new) }
+{
+    tokens.take(numbers::seed(tokens.peek()))
 }
 
 /// The priority of a symbol: a whole number, 0 to 65,535.

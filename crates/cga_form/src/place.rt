@@ -1,6 +1,6 @@
 //! Where the faults of a line are. Places count from 1.
 ghost use Rattle.std.specs.Prelude.{◌≡◌};
-ghost use Rattle.cga_form.specs.LineAnswers.{lexed, placed, place_of};
+ghost use Rattle.cga_form.specs.LineTells.{lexed, placed, place_of};
 
 use crate::fault::Fault;
 use crate::line_fault::LineFault;
@@ -18,7 +18,7 @@ pub fn of_lexer(fault: LexFault) -> LineFault
     }
 }
 
-/// A fault of the tokens of a line, at its place. `end` is the place behind the last byte.
+/// A fault of the tokens of a line, at its place. `end` is the place after the last byte.
 pub fn at_place(fault: Fault, end: u32, tokens: &[Token]) -> LineFault
     ensures { result ≡ placed end tokens.now fault }
 {

@@ -1,8 +1,10 @@
 ghost use Rattle.std.specs.Prelude.{◌≡◌, ◌+◌, ◌≤◌, ◌<◌, ℕ, length, map, IsTrue, ◌↔◌, OnOk};
+ghost use Rattle.cga_form.specs.Tokens as spec;
+ghost use Rattle.cga_syntax.specs.Lexemes.{lexeme_of};
 
 use crate::fault::Fault;
 use crate::words;
-use cga_lexer::{Sign, Token};
+use cga_lexer::{Sign, Token, TokenKind};
 use cga_syntax::{Keyword, Lexeme};
 
 /// The tokens that are left, and how many rands were read.
@@ -19,10 +21,19 @@ fn is_next(next: Option<Lexeme>, wanted: Lexeme) -> bool
     next == Some(wanted)
 }
 
+// Signs are asked for most, and a word needs no look at the reserved ones to be none.
+fn is_sign(kind: TokenKind, sign: Sign) -> bool
+    ensures { result ≡ spec.is_sign sign (lexeme_of kind) }
+{
+    match kind {
+        TokenKind::Sign(next) => next == sign,
+        _ => false,
+    }
+}
+
 impl<'a> Tokens<'a> {
-    ghost use Rattle.cga_form.specs.Code.{input_of, Finds, IsProper, seen};
+    ghost use Rattle.cga_form.specs.Cursor.{input_of, Finds, IsProper, seen};
     ghost use Rattle.cga_form.specs.Reader.{at, first, skipped, begins, taking, single, enter, drawn_word};
-    ghost use Rattle.cga_form.specs.Tokens as spec;
     ghost use Rattle.cga_form.specs.Parts.{a_word};
 
     /// All tokens of a line, of which none is read yet.
@@ -47,7 +58,7 @@ impl<'a> Tokens<'a> {
         }
     }
 
-    /// Goes on behind the next token, where there is one.
+    /// Goes on after the next token, where there is one.
     pub fn skip(&mut self)
         ensures { input_of self.new ≡ skipped (input_of self.old) }
     {
@@ -67,7 +78,10 @@ impl<'a> Tokens<'a> {
     pub fn at_sign(&self, sign: Sign) -> bool
         ensures { result ≡ begins (spec.is_sign sign) (input_of self.now).left }
     {
-        is_next(self.peek(), Lexeme::Sign(sign))
+        match self.rest {
+            [token, ..] => is_sign(token.kind, sign),
+            [] => false,
+        }
     }
 
     /// Whether the reserved word comes next.

@@ -1,7 +1,7 @@
 ghost use Rattle.std.specs.Prelude.{◌≡◌, ◌≤◌, ◌<◌, ◌^◌, pos, IfOk, Some};
 ghost use Rattle.cga_fraction.specs.Rat.{of_int};
 ghost use Rattle.cga_fraction.specs.Arithmetic.{divided};
-ghost use Rattle.cga_form.specs.Code.{input_of, Finds};
+ghost use Rattle.cga_form.specs.Cursor.{input_of, Finds};
 ghost use Rattle.cga_form.specs.Parts as spec;
 
 use crate::fault::Fault;
@@ -39,7 +39,7 @@ fn divisor(tokens: &mut Tokens<'_>) -> Result<u64, Fault>
     tokens.take(numbers::divisor(tokens.peek()))
 }
 
-/// What stands behind a whole number.
+/// What stands after a whole number.
 fn whole_rest(
     tokens: &mut Tokens<'_>,
     minus: bool,

@@ -11,6 +11,7 @@ pub mod Order
 pub mod Places
 pub mod Quotients
 pub mod Ratios
+pub mod Results
 pub mod Rounding
 pub mod Spelling
 pub mod Texts

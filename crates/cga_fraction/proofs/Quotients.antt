@@ -10,7 +10,9 @@ use Rattle.cga_fraction.specs.Gcd.{gcd}
 use Rattle.cga_fraction.specs.Rat.{Rat, den, of_int, IsReduced}
 use Rattle.cga_fraction.specs.Order.{positive_part, negative_part}
 use Rattle.cga_fraction.specs.Arithmetic.{plus, minus, times, negated, inverse, divided, reduced}
-use Rattle.cga_fraction.specs.Refusals.{checked, quotient_of, with_fault, is_zero}
+use Rattle.cga_fraction.specs.Refusals.{checked, quotient_of, is_zero}
+use Rattle.cga_fraction.specs.Results.{or_err}
+use Rattle.cga_fraction.specs.declared.overflow.DivFault.TheVariants as fault
 use Rattle.cga_fraction.specs.declared.overflow.Overflow.{Overflow}
 use Rattle.cga_fraction.specs.declared.overflow.DivFault.{DivFault}
 use Rattle.cga_fraction.specs.declared.overflow.DivFault.TheVariants.{ZeroDivide}
@@ -88,11 +90,11 @@ pub by_zero : (a b : Rat) → b.num ≡ pos 0 → quotient_of a b ≡ Err ZeroDi
 unfolding quotient_of
 by_zero a b e = rw e refl
 
-by_other : (a b : Rat) → (b.num ≡ pos 0 → ⊥) → quotient_of a b ≡ with_fault (checked (times a (inverse b)))
+by_other : (a b : Rat) → (b.num ≡ pos 0 → ⊥) → quotient_of a b ≡ or_err fault.Overflow (checked (times a (inverse b)))
 unfolding quotient_of divided
 by_other a b some = rw (not_zero b.num some) refl
 
-pub quotient_is : (a b i : Rat) (m : Result Rat Overflow) (r : Result Rat DivFault) → (b.num ≡ pos 0 → ⊥) → i ≡ inverse b → m ≡ checked (times a i) → r ≡ with_fault m → r ≡ quotient_of a b
+pub quotient_is : (a b i : Rat) (m : Result Rat Overflow) (r : Result Rat DivFault) → (b.num ≡ pos 0 → ⊥) → i ≡ inverse b → m ≡ checked (times a i) → r ≡ or_err fault.Overflow m → r ≡ quotient_of a b
 quotient_is a b i m r some e f g = g ∙ rw (f, e) (sym (by_other a b some))
 
 one-scaled : (n : ℤ) → n *ℤ pos (suc 0) ≡ n
@@ -103,20 +105,20 @@ minus_one-scaled (pos zero) = refl
 minus_one-scaled (pos (suc n)) = let e : suc n * suc 0 ≡ suc n = omega arith in ap (λ k. neg_ℤ (pos k)) e
 minus_one-scaled (negsuc n) = let e : suc n * suc 0 ≡ suc n = omega arith in ap pos e
 
-pub by_positive : (n : ℤ) (d : ℕ) (m : Result Rat Overflow) (r : Result Rat DivFault) → m ≡ checked (reduced n (suc d)) → r ≡ with_fault m → r ≡ quotient_of (of_int n) (of_int (pos (suc d)))
+pub by_positive : (n : ℤ) (d : ℕ) (m : Result Rat Overflow) (r : Result Rat DivFault) → m ≡ checked (reduced n (suc d)) → r ≡ or_err fault.Overflow m → r ≡ quotient_of (of_int n) (of_int (pos (suc d)))
 unfolding times
-by_positive n d m r f g = quotient_is (of_int n) (of_int (pos (suc d))) _ _ r (λ e. cc) refl refl (g ∙ rw f (rw (one-scaled n) (ap (λ k. with_fault (checked (reduced n k))) (omega arith))))
+by_positive n d m r f g = quotient_is (of_int n) (of_int (pos (suc d))) _ _ r (λ e. cc) refl refl (g ∙ rw f (rw (one-scaled n) (ap (λ k. or_err fault.Overflow (checked (reduced n k))) (omega arith))))
 
-pub by_negative : (n : ℤ) (d : ℕ) (m : Result Rat Overflow) (r : Result Rat DivFault) → m ≡ checked (reduced (neg_ℤ n) (suc d)) → r ≡ with_fault m → r ≡ quotient_of (of_int n) (of_int (negsuc d))
+pub by_negative : (n : ℤ) (d : ℕ) (m : Result Rat Overflow) (r : Result Rat DivFault) → m ≡ checked (reduced (neg_ℤ n) (suc d)) → r ≡ or_err fault.Overflow m → r ≡ quotient_of (of_int n) (of_int (negsuc d))
 unfolding times
-by_negative n d m r f g = quotient_is (of_int n) (of_int (negsuc d)) _ _ r (λ e. cc) refl refl (g ∙ rw f (rw (minus_one-scaled n) (ap (λ k. with_fault (checked (reduced (neg_ℤ n) k))) (omega arith))))
+by_negative n d m r f g = quotient_is (of_int n) (of_int (negsuc d)) _ _ r (λ e. cc) refl refl (g ∙ rw f (rw (minus_one-scaled n) (ap (λ k. or_err fault.Overflow (checked (reduced (neg_ℤ n) k))) (omega arith))))
 
-pub by_negative_int : (n d : ℤ) (m : Result Rat Overflow) (r : Result Rat DivFault) → d <ℤ pos 0 → m ≡ checked (reduced (neg_ℤ n) (unsigned_abs d)) → r ≡ with_fault m → r ≡ quotient_of (of_int n) (of_int d)
+pub by_negative_int : (n d : ℤ) (m : Result Rat Overflow) (r : Result Rat DivFault) → d <ℤ pos 0 → m ≡ checked (reduced (neg_ℤ n) (unsigned_abs d)) → r ≡ or_err fault.Overflow m → r ≡ quotient_of (of_int n) (of_int d)
 by_negative_int n (pos zero) m r h f g = absurd (omega (arith, ints))
 by_negative_int n (pos (suc d)) m r h f g = absurd (omega (arith, ints))
 by_negative_int n (negsuc d) m r h f g = by_negative n d m r f g
 
-pub by_positive_int : (n d : ℤ) (m : Result Rat Overflow) (r : Result Rat DivFault) → pos 0 <ℤ d → m ≡ checked (reduced n (unsigned_abs d)) → r ≡ with_fault m → r ≡ quotient_of (of_int n) (of_int d)
+pub by_positive_int : (n d : ℤ) (m : Result Rat Overflow) (r : Result Rat DivFault) → pos 0 <ℤ d → m ≡ checked (reduced n (unsigned_abs d)) → r ≡ or_err fault.Overflow m → r ≡ quotient_of (of_int n) (of_int d)
 by_positive_int n (pos zero) m r h f g = absurd (omega (arith, ints))
 by_positive_int n (pos (suc d)) m r h f g = by_positive n d m r f g
 by_positive_int n (negsuc d) m r h f g = absurd (omega (arith, ints))

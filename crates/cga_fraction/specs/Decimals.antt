@@ -16,9 +16,13 @@ is_numeral text = not (length text == 0) && list_all is_ascii_digit text
 abbrev pub value_of : List ℕ → List ℕ → Rat
 value_of whole places = reduced (pos (digits_value 10 (whole ++ places))) (10 ^ length places)
 
--- that number, where there are at most 18 digits
+-- the most digits of a number, on both sides of the point together
+abbrev pub most_digits : ℕ
+most_digits = 18
+
+-- that number, where there are not more
 abbrev pub limited : List ℕ → List ℕ → Result Rat DecimalFault
-limited whole places = if nat_le (length whole + length places) 18 then Ok (value_of whole places) else Err TooManyDigits
+limited whole places = if nat_le (length whole + length places) most_digits then Ok (value_of whole places) else Err TooManyDigits
 
 -- what stands before the point, and digits after it, read as a number
 abbrev pub read_of : List ℕ → List ℕ → Result Rat DecimalFault

@@ -28,7 +28,7 @@ impl Model for Fraction {
 
     ghost Value = { Rat };
 
-    ghost use Rattle.cga_fraction.specs.Back.{inverse_ok};
+    ghost use Rattle.cga_fraction.specs.FromValue.{inverse_ok};
 
     ghost view = { λ f. record { num = f.numerator; above = f.denominator - 1 } };
 
@@ -106,6 +106,21 @@ impl From<u32> for Fraction {
 
     #[tactic(auto, using(crate::proofs::Lowest::whole_is_reduced))]
     fn from(n: u32) -> Fraction {
+        Fraction {
+            numerator: n as i64,
+            denominator: 1,
+        }
+    }
+}
+
+impl From<i32> for Fraction {
+    ghost use Rattle.std.specs.Prelude.{◌≡◌};
+    ghost use Rattle.cga_fraction.specs.Rat.{of_int};
+
+    ghost from_gives = { λ n f. f ≡ of_int n };
+
+    #[tactic(auto, using(crate::proofs::Lowest::whole_is_reduced))]
+    fn from(n: i32) -> Fraction {
         Fraction {
             numerator: n as i64,
             denominator: 1,

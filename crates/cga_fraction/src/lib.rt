@@ -1,5 +1,5 @@
 // Exact fractions, and the small types that every crate above shares: lists and boxes that contracts see as
-// what they hold, the answers for want of memory and for an early stop, and counters of steps. It knows nothing of
+// what they hold, texts that grow, the answers for want of memory and for an early stop, and counters of steps. It knows nothing of
 // shapes or scopes.
 // The one thing that callers get wrong: a result that leaves the range is refused, and never rounded.
 #![tactic(auto)]
@@ -14,6 +14,7 @@ mod steps;
 mod stop;
 #[cfg(test)]
 mod tests;
+mod text;
 
 pub use boxed::Boxed;
 pub use fraction::{DecimalFault, Fraction};
@@ -21,4 +22,5 @@ pub use list::List;
 pub use memory::NoMemory;
 pub use overflow::{DivFault, Overflow};
 pub use steps::Steps;
-pub use stop::Stop;
+pub use stop::{Stop, settled};
+pub use text::Text;

@@ -10,7 +10,9 @@ use Rattle.cga_word.specs.declared.axis.Axis.TheVariants.{X, Y, Z}
 use Rattle.cga_frame.specs.declared.scope_fault.ScopeFault.TheVariants.{NegativeSize}
 use Rattle.cga_frame.specs.Axes.{Frame, same_axis}
 use Rattle.cga_frame.specs.Points.{checked_point, point_in_range, with_coordinate, InRange}
-use Rattle.cga_frame.specs.Scope.{Scope, place_of, joined, far_of, exists, existing, Exists, scope_of, has_negative, with_fault, stepped, step_of, translated, part_of}
+use Rattle.cga_fraction.specs.Results.{or_err}
+use Rattle.cga_frame.specs.declared.scope_fault.ScopeFault.TheVariants as fault
+use Rattle.cga_frame.specs.Scope.{Scope, place_of, joined, far_of, exists, existing, Exists, scope_of, has_negative, stepped, step_of, translated, part_of}
 use Rattle.cga_frame.specs.declared.point.Point.{Point}
 use Rattle.cga_frame.specs.declared.signed.Signed.{Signed}
 
@@ -109,7 +111,7 @@ pub negative_size : (at : Point) (frame : Frame) (size : Point) → has_negative
 unfolding scope_of
 negative_size at frame size e = rw e refl
 
-pub sized : (at : Point) (frame : Frame) (size : Point) (r : Result Scope Overflow) → has_negative size ≡ false → r ≡ existing (record { at = at; frame = frame; size = size }) → with_fault r ≡ scope_of at frame size
+pub sized : (at : Point) (frame : Frame) (size : Point) (r : Result Scope Overflow) → has_negative size ≡ false → r ≡ existing (record { at = at; frame = frame; size = size }) → or_err fault.Overflow r ≡ scope_of at frame size
 unfolding scope_of
 sized at frame size r e h = rw (e, h) refl
 

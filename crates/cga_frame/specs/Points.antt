@@ -1,12 +1,16 @@
 -- Points by their coordinates.
-use Rattle.std.specs.Prelude.{Bool, ◌&&◌, Result, Ok, Err, if◌then◌else◌}
-use Rattle.cga_fraction.specs.Rat.{Rat, IsFraction}
+use Rattle.std.specs.Prelude.{ℤ, Bool, ◌&&◌, Result, Ok, Err, if◌then◌else◌}
+use Rattle.cga_fraction.specs.Rat.{Rat, of_int, IsFraction}
 use Rattle.cga_fraction.specs.Order.{rat_min, rat_max}
 use Rattle.cga_fraction.specs.Refusals.{in_range}
 use Rattle.cga_fraction.specs.declared.overflow.Overflow.{Overflow}
 use Rattle.cga_word.specs.declared.axis.Axis.{Axis}
 use Rattle.cga_word.specs.declared.axis.Axis.TheVariants.{X, Y, Z}
 use Rattle.cga_frame.specs.declared.point.Point.{Point}
+
+-- the point of three whole numbers
+abbrev pub whole_point : ℤ → ℤ → ℤ → Point
+whole_point x y z = record { x = of_int x; y = of_int y; z = of_int z }
 
 -- the coordinate along an axis
 abbrev pub coordinate : Point → Axis → Rat

@@ -3,6 +3,7 @@ use Rattle.std.specs.Prelude.{Bool, ◌&&◌, ◌||◌, Result, Ok, Err, if◌th
 use Rattle.cga_fraction.specs.Rat.{Rat, zero_rat}
 use Rattle.cga_fraction.specs.Arithmetic.{plus, minus}
 use Rattle.cga_fraction.specs.Order.{rat_lt}
+use Rattle.cga_fraction.specs.Results.{or_err}
 use Rattle.cga_fraction.specs.declared.overflow.Overflow as Unit
 use Rattle.cga_word.specs.declared.axis.Axis.{Axis}
 use Rattle.cga_word.specs.declared.turn.Turn.{Turn}
@@ -56,13 +57,9 @@ existing s = if exists s then Ok s else Err (record {})
 abbrev pub has_negative : Point → Bool
 has_negative size = rat_lt size.x zero_rat || rat_lt size.y zero_rat || rat_lt size.z zero_rat
 
-abbrev pub with_fault : Result Scope Unit.Overflow → Result Scope ScopeFault
-with_fault (Ok s) = Ok s
-with_fault (Err e) = Err Overflow
-
 -- a scope, or the fault: first that a size is below 0
 unfoldable pub scope_of : Point → Frame → Point → Result Scope ScopeFault
-scope_of at frame size = if has_negative size then Err NegativeSize else with_fault (existing (record { at = at; frame = frame; size = size }))
+scope_of at frame size = if has_negative size then Err NegativeSize else or_err Overflow (existing (record { at = at; frame = frame; size = size }))
 
 -- moved along the scope's own axes
 abbrev pub translated : Scope → Point → Scope

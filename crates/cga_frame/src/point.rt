@@ -11,7 +11,17 @@ pub struct Point {
 
 impl Point {
     ghost use Rattle.std.specs.Prelude.{◌≡◌};
-    ghost use Rattle.cga_frame.specs.Points.{coordinate, point_max, point_min, with_coordinate};
+    ghost use Rattle.cga_frame.specs.Points.{coordinate, point_max, point_min, whole_point, with_coordinate};
+
+    pub fn whole(x: i32, y: i32, z: i32) -> Point
+        ensures { result ≡ whole_point x y z }
+    {
+        Point {
+            x: Fraction::from(x),
+            y: Fraction::from(y),
+            z: Fraction::from(z),
+        }
+    }
 
     /// The coordinate along an axis.
     pub fn along(self, axis: Axis) -> Fraction

@@ -7,14 +7,6 @@ fn number(rt: &impl Abort, n: i64, d: i64) -> Fraction {
     Fraction::new(n, d).expect(rt, "in range")
 }
 
-fn point(rt: &impl Abort, x: i64, y: i64, z: i64) -> Point {
-    Point {
-        x: number(rt, x, 1),
-        y: number(rt, y, 1),
-        z: number(rt, z, 1),
-    }
-}
-
 fn scope(rt: &impl Abort, at: Point, size: Point) -> Scope {
     Scope::new(at, Frame::base(), size).expect(rt, "in range")
 }
@@ -47,8 +39,8 @@ fn lot_out_of_range(rt: HostRuntime) {
 }
 
 // The box of a mass that is 10 wide and 6 high.
-fn mass(rt: &impl Abort, z: i64, depth: i64) -> WorldBox {
-    scope(rt, point(rt, 0, 0, z), point(rt, 10, 6, depth)).world_box()
+fn mass(rt: &impl Abort, z: i32, depth: i32) -> WorldBox {
+    scope(rt, Point::whole(0, 0, z), Point::whole(10, 6, depth)).world_box()
 }
 
 #[test]
@@ -66,14 +58,14 @@ fn masses_that_touch(rt: HostRuntime) {
 #[test]
 fn walls_in_one_plane(rt: HostRuntime) {
     let wall = mass(&rt, 8, 0);
-    let window = scope(&rt, point(&rt, 1, 1, 8), point(&rt, 2, 2, 0)).world_box();
+    let window = scope(&rt, Point::whole(1, 1, 8), Point::whole(2, 2, 0)).world_box();
     assert!(rt; wall.meets(&window));
     assert!(rt; wall.holds(&window));
     assert!(rt; !mass(&rt, 0, 8).meets(&wall));
 }
 
 fn turned(rt: &impl Abort) -> Scope {
-    scope(rt, point(rt, 0, 0, 0), point(rt, 10, 6, 8))
+    scope(rt, Point::whole(0, 0, 0), Point::whole(10, 6, 8))
         .turn(Axis::Y, Turn::By90)
         .expect(rt, "in range")
 }
@@ -85,10 +77,10 @@ fn turned_faces(rt: HostRuntime) {
     assert_eq!(rt; scope.frame().axis(Axis::Y), Direction::PlusY);
     assert_eq!(rt; scope.frame().axis(Axis::Z), Direction::PlusX);
     for (local, world) in [
-        (point(&rt, 0, 0, 8), point(&rt, 8, 0, 0)),
-        (point(&rt, 10, 0, 8), point(&rt, 8, 0, -10)),
-        (point(&rt, 10, 0, 0), point(&rt, 0, 0, -10)),
-        (point(&rt, 0, 6, 8), point(&rt, 8, 6, 0)),
+        (Point::whole(0, 0, 8), Point::whole(8, 0, 0)),
+        (Point::whole(10, 0, 8), Point::whole(8, 0, -10)),
+        (Point::whole(10, 0, 0), Point::whole(0, 0, -10)),
+        (Point::whole(0, 6, 8), Point::whole(8, 6, 0)),
     ] {
         assert_eq!(rt; scope.place(local), Ok(world));
     }
@@ -106,22 +98,27 @@ fn right_face(rt: HostRuntime) {
         height: Some(Axis::Y),
         depth: None,
     });
-    assert_eq!(rt; face.at(), point(&rt, 8, 0, -10));
-    assert_eq!(rt; face.size(), point(&rt, 8, 6, 0));
+    assert_eq!(rt; face.at(), Point::whole(8, 0, -10));
+    assert_eq!(rt; face.size(), Point::whole(8, 6, 0));
     assert_eq!(rt; face.frame().axis(Axis::X), Direction::MinusX);
     assert_eq!(rt; face.frame().axis(Axis::Y), Direction::PlusY);
     assert_eq!(rt; face.frame().axis(Axis::Z), Direction::MinusZ);
-    assert_eq!(rt; face.world_box().low, point(&rt, 0, 0, -10));
+    assert_eq!(rt; face.world_box().low, Point::whole(0, 0, -10));
 }
 
 #[test]
 fn moves_and_sizes(rt: HostRuntime) {
     let scope = turned(&rt);
-    let moved = scope.translate(point(&rt, 1, 2, 3)).expect(&rt, "in range");
-    assert_eq!(rt; moved.at(), point(&rt, 3, 2, -1));
+    let moved = scope
+        .translate(Point::whole(1, 2, 3))
+        .expect(&rt, "in range");
+    assert_eq!(rt; moved.at(), Point::whole(3, 2, -1));
     let part = scope.part(Axis::X, number(&rt, 2, 1), Fraction::zero());
-    assert_eq!(rt; part.expect(&rt, "in range").at(), point(&rt, 0, 0, -2));
-    let far = point(&rt, 0, 0, 4611686018427387904);
+    assert_eq!(rt; part.expect(&rt, "in range").at(), Point::whole(0, 0, -2));
+    let far = Point {
+        z: number(&rt, 1 << 62, 1),
+        ..Point::whole(0, 0, 0)
+    };
     assert_eq!(rt; scope.translate(far), Err(Overflow));
-    assert!(rt; scope.resize(point(&rt, 0, 0, 0)).is_ok());
+    assert!(rt; scope.resize(Point::whole(0, 0, 0)).is_ok());
 }

@@ -7,16 +7,16 @@ use Rattle.cga_lexer.specs.declared.fault.LexFault.TheVariants as fault
 use Rattle.cga_lexer.specs.declared.front.Front.{Front}
 use Rattle.cga_lexer.specs.declared.front.Front.TheVariants.{End, Blank, Token as Found, BadByte, BadNumber, LongName, OpenText}
 
-abbrev pub Outcome : Type 0
-Outcome = Result (List Token) LexFault
+abbrev pub Lexed : Type 0
+Lexed = Result (List Token) LexFault
 
 -- a token before the tokens or the fault that come after it
-abbrev pub behind : Token → Outcome → Outcome
+abbrev pub behind : Token → Lexed → Lexed
 behind t (Ok ts) = Ok (t ∷ ts)
 behind t (Err f) = Err f
 
 -- what the front at a place makes of the line, where the rest begins so many bytes behind the next
-abbrev pub from_front : Front → ℕ → (ℕ → Outcome) → Outcome
+abbrev pub from_front : Front → ℕ → (ℕ → Lexed) → Lexed
 from_front End place on = Ok []
 from_front Blank place on = on 0
 from_front (Found kind len) place on = behind (record { kind = kind; from = place; to = place + len }) (on (len - 1))
@@ -26,16 +26,16 @@ from_front (LongName n) place on = Err (fault.LongName (place + n))
 from_front OpenText place on = Err (fault.OpenText place)
 
 -- the tokens of the bytes from a place on, where the first so many of them belong to a token that was read
-unfoldable pub lex : ℕ → ℕ → List ℕ → Outcome
+unfoldable pub lex : ℕ → ℕ → List ℕ → Lexed
 lex n place [] = Ok []
 lex zero place (b ∷ bs) = from_front (front (b ∷ bs)) place (λ n. lex n (place + 1) bs)
 lex (suc n) place (b ∷ bs) = lex n (place + 1) bs
 
 -- the tokens of a line, or its first fault; places count from 1
-abbrev pub tokens_of : List ℕ → Outcome
+abbrev pub tokens_of : List ℕ → Lexed
 tokens_of line = lex 0 1 line
 
-abbrev pub with_found : List Token → Outcome → Outcome
+abbrev pub with_found : List Token → Lexed → Lexed
 with_found found (Ok ts) = Ok (found ++ ts)
 with_found found (Err f) = Err f
 

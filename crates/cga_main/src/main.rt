@@ -9,7 +9,8 @@ ghost use Rattle.std.specs.Io.KnownBytes.{Appends};
 ghost use Rattle.std.specs.Process.{exit_status};
 ghost use Rattle.cga_outside.specs.Causes.{Rose};
 ghost use Rattle.cga_top.specs.Output.{output_of};
-ghost use Rattle.cga_top.specs.Top.{Outside, StatusMeans, HoldsFew};
+ghost use Rattle.cga_top.specs.Outside.{outside_of};
+ghost use Rattle.cga_top.specs.Statuses.{StatusMeans, HoldsFew};
 ghost use Rattle.std.specs.Vec.Iter.{into_iter_items};
 ghost use Rattle.std.specs.IoError.{error_kind};
 ghost use Rattle.cga_main.specs.Exits.{refusal_of};
@@ -65,24 +66,8 @@ fn run<S: Source, K: Sink, E: Ledger, T: Ledger>(
         → IfSome (S.left script.old) (λ bytes. Appends (K.held out.old) (K.held out.new)
         (output_of bytes)) }
     ensures means { (expanded : ℕ) × StatusMeans result
-        (record {
-          left = S.left script.old;
-          ended = S.ended script.old;
-          reads_failed = S.faults script.old;
-          held = K.held out.old;
-          flushed = K.flushed out.old;
-          writes_failed = K.faults out.old;
-          expanded = 0;
-        })
-        (record {
-          left = S.left script.new;
-          ended = S.ended script.new;
-          reads_failed = S.faults script.new;
-          held = K.held out.new;
-          flushed = K.flushed out.new;
-          writes_failed = K.faults out.new;
-          expanded = expanded;
-        }) }
+        (outside_of S.Source K.Sink script.old out.old 0)
+        (outside_of S.Source K.Sink script.new out.new expanded) }
     ensures usage { (result ≡ Status.Usage) ↔ (1 < length words.now) }
     ensures complete { length words.now ≤ 1 → HoldsFew (S.left script.old)
         → (Rose (S.faults script.old) (S.faults script.new) → ⊥)

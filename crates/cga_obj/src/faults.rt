@@ -1,21 +1,20 @@
 ghost use Rattle.std.specs.Prelude.{◌≡◌, ◌++◌, IfOk, OnOk, flat_map};
 ghost use Rattle.cga_obj.specs.Faults.{fault_code, fault_line, fault_text_of, index_text, path_text};
 
-use crate::bytes::{push, push_whole};
-use cga_fraction::{List, NoMemory};
+use cga_fraction::{List, NoMemory, Text};
 use cga_shape::{FaultLine, ShapeFault};
 use std::alloc::Global;
 
 #[tactic(auto, unfolding(crate::specs::Faults::index_text))]
-fn push_index(text: &mut Vec<u8>, index: u16) -> Result<(), NoMemory>
-    ensures { OnOk result (text.new.items ≡ text.old.items ++ index_text index) }
+fn push_index(text: &mut Text, index: u16) -> Result<(), NoMemory>
+    ensures { OnOk result (text.new ≡ text.old ++ index_text index) }
 {
-    push(text, b"/")?;
-    push_whole(text, u128::from(index))
+    text.push(b"/")?;
+    text.push_whole(u128::from(index))
 }
 
-fn push_indices(text: &mut Vec<u8>, path: &[u16]) -> Result<(), NoMemory>
-    ensures { OnOk result (text.new.items ≡ text.old.items ++ flat_map index_text path.now) }
+fn push_indices(text: &mut Text, path: &[u16]) -> Result<(), NoMemory>
+    ensures { OnOk result (text.new ≡ text.old ++ flat_map index_text path.now) }
 {
     for index in path {
         push_index(text, *index)?;
@@ -24,11 +23,11 @@ fn push_indices(text: &mut Vec<u8>, path: &[u16]) -> Result<(), NoMemory>
 }
 
 #[tactic(auto, unfolding(crate::specs::Faults::path_text))]
-fn push_path(text: &mut Vec<u8>, path: &[u16]) -> Result<(), NoMemory>
-    ensures { OnOk result (text.new.items ≡ text.old.items ++ path_text path.now) }
+fn push_path(text: &mut Text, path: &[u16]) -> Result<(), NoMemory>
+    ensures { OnOk result (text.new ≡ text.old ++ path_text path.now) }
 {
     match path {
-        [] => push(text, b"/"),
+        [] => text.push(b"/"),
         _ => push_indices(text, path),
     }
 }
@@ -53,22 +52,22 @@ fn code(fault: ShapeFault) -> &'static [u8]
 }
 
 #[tactic(auto, unfolding(crate::specs::Faults::fault_line))]
-fn push_fault(text: &mut Vec<u8>, line: &FaultLine) -> Result<(), NoMemory>
-    ensures { OnOk result (text.new.items ≡ text.old.items ++ fault_line line.now) }
+fn push_fault(text: &mut Text, line: &FaultLine) -> Result<(), NoMemory>
+    ensures { OnOk result (text.new ≡ text.old ++ fault_line line.now) }
 {
-    push(text, b"# fault ")?;
-    push(text, line.lot.bytes())?;
-    push(text, b" ")?;
+    text.push(b"# fault ")?;
+    text.push(line.lot.bytes())?;
+    text.push(b" ")?;
     push_path(text, line.path.as_slice())?;
-    push(text, b" ")?;
-    push(text, line.symbol.bytes())?;
-    push(text, b" ")?;
-    push(text, code(line.fault))?;
-    push(text, b"\n")
+    text.push(b" ")?;
+    text.push(line.symbol.bytes())?;
+    text.push(b" ")?;
+    text.push(code(line.fault))?;
+    text.push(b"\n")
 }
 
-fn push_faults(text: &mut Vec<u8>, faults: &[FaultLine]) -> Result<(), NoMemory>
-    ensures { OnOk result (text.new.items ≡ text.old.items ++ flat_map fault_line faults.now) }
+fn push_faults(text: &mut Text, faults: &[FaultLine]) -> Result<(), NoMemory>
+    ensures { OnOk result (text.new ≡ text.old ++ flat_map fault_line faults.now) }
 {
     for line in faults {
         push_fault(text, line)?;
@@ -81,10 +80,10 @@ fn push_faults(text: &mut Vec<u8>, faults: &[FaultLine]) -> Result<(), NoMemory>
 pub fn fault_text(alloc: Global, faults: &[FaultLine]) -> Result<List<u8>, NoMemory>
     ensures { IfOk result (λ text. text ≡ fault_text_of faults.now) }
 {
-    let mut text = Vec::new(alloc);
-    push(&mut text, b"# faults ")?;
-    push_whole(&mut text, faults.len() as u128)?;
-    push(&mut text, b"\n")?;
+    let mut text = Text::new(alloc);
+    text.push(b"# faults ")?;
+    text.push_whole(faults.len() as u128)?;
+    text.push(b"\n")?;
     push_faults(&mut text, faults)?;
-    Ok(List::from_vec(text))
+    Ok(text.into_list())
 }

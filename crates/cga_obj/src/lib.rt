@@ -3,7 +3,6 @@
 //! lots; vertex numbers run over the whole text, so texts of single lots can't be joined.
 #![tactic(auto)]
 
-mod bytes;
 mod faults;
 mod mesh;
 mod obj;

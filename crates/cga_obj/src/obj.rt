@@ -4,9 +4,8 @@ ghost use Rattle.cga_solid.specs.Solids.{check_solid_of};
 ghost use Rattle.cga_obj.specs.Meshes.{mesh_drawn, vertex_count};
 ghost use Rattle.cga_obj.specs.Lots.{AreSolid, StandsBy, instance_text, instances_text, is_of, lot_text, lots_text, obj_text_of, vertices_in};
 
-use crate::bytes::push;
 use crate::mesh::push_mesh;
-use cga_fraction::{List, NoMemory};
+use cga_fraction::{List, NoMemory, Text};
 use cga_shape::Drawn;
 use cga_solid::{SolidMesh, mesh};
 use cga_word::Name;
@@ -24,20 +23,20 @@ fn mesh_of(alloc: Global, drawn: &Drawn) -> Result<SolidMesh, NoMemory>
 }
 
 // Adds a line of a word and a name.
-fn push_name(text: &mut Vec<u8>, word: &[u8], name: &Name) -> Result<(), NoMemory>
+fn push_name(text: &mut Text, word: &[u8], name: &Name) -> Result<(), NoMemory>
     ensures { OnOk result
-        (text.new.items ≡ text.old.items ++ (word.now ++ (name.now ++ codes "\n"))) }
+        (text.new ≡ text.old ++ (word.now ++ (name.now ++ codes "\n"))) }
 {
-    push(text, word)?;
-    push(text, name.bytes())?;
-    push(text, b"\n")
+    text.push(word)?;
+    text.push(name.bytes())?;
+    text.push(b"\n")
 }
 
 // Adds an instance, and gives the number of its vertices.
 #[tactic(auto, unfolding(crate::specs::Lots::instance_text))]
 fn push_instance(
     alloc: Global,
-    text: &mut Vec<u8>,
+    text: &mut Text,
     decimals: u8,
     before: u128,
     drawn: &Drawn,
@@ -46,7 +45,7 @@ fn push_instance(
     requires room { before + 2 ^ 64 ≤ 2 ^ 128 }
     requires solid { IsOk (check_solid_of drawn.now.primitive drawn.now.scope) }
     ensures text { OnOk result
-        (text.new.items ≡ text.old.items ++ instance_text decimals before drawn.now) }
+        (text.new ≡ text.old ++ instance_text decimals before drawn.now) }
     ensures count { IfOk result (λ count. count ≡ vertex_count drawn.now) }
 {
     push_name(text, b"g ", &drawn.symbol)?;
@@ -58,7 +57,7 @@ fn push_instance(
 // Adds these, and gives the number of vertices behind them.
 fn push_instances(
     alloc: Global,
-    text: &mut Vec<u8>,
+    text: &mut Text,
     decimals: u8,
     before: u128,
     drawn: &[Drawn],
@@ -67,7 +66,7 @@ fn push_instances(
     requires room { before + length drawn.now * 2 ^ 64 + 2 ^ 64 ≤ 2 ^ 128 }
     requires solid { AreSolid drawn.now }
     ensures text { OnOk result
-        (text.new.items ≡ text.old.items ++ instances_text decimals before drawn.now) }
+        (text.new ≡ text.old ++ instances_text decimals before drawn.now) }
     ensures count { IfOk result (λ after. after ≡ before + vertices_in drawn.now) }
     ensures room { IfOk result (λ after. after ≤ before + length drawn.now * 2 ^ 64) }
 {
@@ -81,7 +80,7 @@ fn push_instances(
 #[tactic(auto, unfolding(crate::specs::Lots::lot_text))]
 fn push_lot(
     alloc: Global,
-    text: &mut Vec<u8>,
+    text: &mut Text,
     decimals: u8,
     before: u128,
     lot: &Name,
@@ -91,7 +90,7 @@ fn push_lot(
     requires room { before + length drawn.now * 2 ^ 64 + 2 ^ 64 ≤ 2 ^ 128 }
     requires solid { AreSolid drawn.now }
     ensures text { OnOk result
-        (text.new.items ≡ text.old.items ++ lot_text decimals before lot.now drawn.now) }
+        (text.new ≡ text.old ++ lot_text decimals before lot.now drawn.now) }
     ensures count { IfOk result (λ after. after ≡ before + vertices_in drawn.now) }
     ensures room { IfOk result (λ after. after ≤ before + length drawn.now * 2 ^ 64) }
 {
@@ -111,7 +110,7 @@ fn own_count(lot: &Name, drawn: &[Drawn]) -> usize
 
 fn push_lots(
     alloc: Global,
-    text: &mut Vec<u8>,
+    text: &mut Text,
     decimals: u8,
     lots: &[Name],
     drawn: &[Drawn],
@@ -121,7 +120,7 @@ fn push_lots(
     requires distinct { IsDistinct bytes_eq lots.now }
     requires solid { AreSolid drawn.now }
     ensures { OnOk result
-        (text.new.items ≡ text.old.items ++ lots_text decimals drawn.now 0 lots.now) }
+        (text.new ≡ text.old ++ lots_text decimals drawn.now 0 lots.now) }
 {
     let mut rest = drawn;
     let mut before = 0;
@@ -149,8 +148,8 @@ pub fn obj_text(
     requires solid { AreSolid drawn.now }
     ensures { IfOk result (λ text. text ≡ obj_text_of lots.now drawn.now decimals) }
 {
-    let mut text = Vec::new(alloc);
-    push(&mut text, b"# cga_city obj\n")?;
+    let mut text = Text::new(alloc);
+    text.push(b"# cga_city obj\n")?;
     push_lots(alloc, &mut text, decimals, lots, drawn)?;
-    Ok(List::from_vec(text))
+    Ok(text.into_list())
 }

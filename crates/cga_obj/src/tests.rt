@@ -17,14 +17,6 @@ fn name(rt: &impl Abort, bytes: &[u8]) -> Name {
     Name::read(bytes).expect(rt, "a name")
 }
 
-fn point(x: u32, y: u32, z: u32) -> Point {
-    Point {
-        x: Fraction::from(x),
-        y: Fraction::from(y),
-        z: Fraction::from(z),
-    }
-}
-
 // A solid in a scope along the world's axes.
 #[derive(Clone, Copy)]
 struct Solid<'a> {
@@ -135,7 +127,12 @@ fn together(
 
 #[test]
 fn one_box(rt: HostRuntime) -> Result<(), Fail> {
-    let house = Solid::new(b"house", Primitive::Cube, point(0, 0, 0), point(10, 6, 8));
+    let house = Solid::new(
+        b"house",
+        Primitive::Cube,
+        Point::whole(0, 0, 0),
+        Point::whole(10, 6, 8),
+    );
     let lot = name(&rt, b"a");
     let drawn = all_drawn(&rt, rt.alloc(), lot, &[house])?;
     let text = alone(rt.alloc(), lot, drawn.as_slice(), 6)?;
@@ -178,16 +175,56 @@ fn every_solid(rt: HostRuntime) -> Result<(), Fail> {
     let gable = Primitive::Gable;
     let hip = Primitive::Hip;
     let north = [
-        Solid::new(b"cube", Primitive::Cube, point(0, 0, 0), point(2, 3, 4)),
-        Solid::new(b"quad", Primitive::Quad, point(10, 0, 1), point(2, 3, 0)),
-        Solid::new(b"shed", Primitive::Shed, point(20, 0, 0), point(2, 3, 4)),
-        Solid::new(b"long_gable", gable, point(30, 0, 0), point(4, 3, 2)),
+        Solid::new(
+            b"cube",
+            Primitive::Cube,
+            Point::whole(0, 0, 0),
+            Point::whole(2, 3, 4),
+        ),
+        Solid::new(
+            b"quad",
+            Primitive::Quad,
+            Point::whole(10, 0, 1),
+            Point::whole(2, 3, 0),
+        ),
+        Solid::new(
+            b"shed",
+            Primitive::Shed,
+            Point::whole(20, 0, 0),
+            Point::whole(2, 3, 4),
+        ),
+        Solid::new(
+            b"long_gable",
+            gable,
+            Point::whole(30, 0, 0),
+            Point::whole(4, 3, 2),
+        ),
     ];
     let east = [
-        Solid::new(b"deep_gable", gable, point(0, 0, 10), point(2, 3, 4)),
-        Solid::new(b"long_hip", hip, point(10, 0, 10), point(5, 3, 2)),
-        Solid::new(b"deep_hip", hip, point(20, 0, 10), point(2, 3, 5)),
-        Solid::new(b"square_hip", hip, point(30, 0, 10), point(3, 3, 3)),
+        Solid::new(
+            b"deep_gable",
+            gable,
+            Point::whole(0, 0, 10),
+            Point::whole(2, 3, 4),
+        ),
+        Solid::new(
+            b"long_hip",
+            hip,
+            Point::whole(10, 0, 10),
+            Point::whole(5, 3, 2),
+        ),
+        Solid::new(
+            b"deep_hip",
+            hip,
+            Point::whole(20, 0, 10),
+            Point::whole(2, 3, 5),
+        ),
+        Solid::new(
+            b"square_hip",
+            hip,
+            Point::whole(30, 0, 10),
+            Point::whole(3, 3, 3),
+        ),
     ];
     let of_north = all_drawn(&rt, rt.alloc(), lots.first, &north)?;
     let of_east = all_drawn(&rt, rt.alloc(), lots.second, &east)?;
@@ -240,7 +277,7 @@ fn no_decimals(rt: HostRuntime) -> Result<(), Fail> {
         y: ratio(&rt, 5, 2),
         z: Fraction::zero(),
     };
-    let halves = Solid::new(b"h", Primitive::Quad, corner, point(3, 1, 0));
+    let halves = Solid::new(b"h", Primitive::Quad, corner, Point::whole(3, 1, 0));
     let drawn = all_drawn(&rt, rt.alloc(), lot, &[halves])?;
     let text = alone(rt.alloc(), lot, drawn.as_slice(), 0)?;
     assert_eq!(rt;

@@ -29,9 +29,9 @@ module _ {N A F P : Type 0} (world : World N A F P) (laws : IsWorld world) where
 
   -- what is expanded has its outcome over the configuration, and each member is a root or was made
   pub record IsSettled (C : Members) : Type 0 where
-    pub each : (n : N) (k : Kind F P) → Has C n k → steps.IsExpanded world k → HasOutcome world C k (outcome_at world C n)
+    pub each : (n : N) (k : Kind F P) → Has C n k → steps.IsExpanded world k → HasOutcome C k (outcome_at world C n)
     pub only : (n : N) (k : Kind F P) → Has C n k → Among n world.roots ⊎ IsMade world C n
-    pub roots : (n : N) → Among n world.roots → Stands world C n Waiting
+    pub roots : (n : N) → Among n world.roots → Stands C n Waiting
 
   both_true : (a b : Bool) → (a && b) ≡ true → (a ≡ true) × (b ≡ true)
   both_true true b e = (refl, e)
@@ -132,8 +132,12 @@ module _ {N A F P : Type 0} (world : World N A F P) (laws : IsWorld world) where
           ]),
     )
 
+    -- what a shape with a smaller stamp is answered stays
+    pub same_answers : (n : N) → IsEarlier world (stamp_of world n) (stamp_of world s) → world.answers n (shapes_where (exists_at world n) C) (shapes_where (waits_at world n) C) ≡ world.answers n (shapes_where (exists_at world n) D) (shapes_where (waits_at world n) D)
+    same_answers n before = laws.local n _ _ _ _ (sees_existing n before) (sees_waiting n before)
+
     same_outcome : (n : N) → IsEarlier world (stamp_of world n) (stamp_of world s) → outcome_at world C n ≡ outcome_at world D n
-    same_outcome n before = ap (world.expand n) (laws.local n _ _ _ _ (sees_existing n before) (sees_waiting n before))
+    same_outcome n before = ap (world.expand n) (same_answers n before)
 
     -- what s saw is what it sees at its stamp
     saw_existing : SameSeen world s (shapes_where (λ n k. true) C) (shapes_where (exists_at world s) D)
@@ -170,10 +174,14 @@ module _ {N A F P : Type 0} (world : World N A F P) (laws : IsWorld world) where
           ]),
     )
 
-    saw : outcome world C s ≡ outcome_at world D s
-    saw = ap (world.expand s) (laws.local s _ _ _ _ saw_existing saw_waiting)
+    -- what s was answered is what it is answered at its stamp
+    pub saw_answers : world.answers s (shapes_where (λ n k. true) C) (shapes_where (λ n k. is_waiting k) C) ≡ world.answers s (shapes_where (exists_at world s) D) (shapes_where (waits_at world s) D)
+    saw_answers = laws.local s _ _ _ _ saw_existing saw_waiting
 
-    stands_on : (c : N) (k : Kind F P) → Stands world C c k → Stands world D c k
+    saw : outcome world C s ≡ outcome_at world D s
+    saw = ap (world.expand s) saw_answers
+
+    stands_on : (c : N) (k : Kind F P) → Stands C c k → Stands D c k
     stands_on c k (now, has, alike, same) =
         elim (still c now has) [
           | inl e ↦
@@ -183,7 +191,7 @@ module _ {N A F P : Type 0} (world : World N A F P) (laws : IsWorld world) where
           | inr d ↦ (now, d, alike, same)
         ]
 
-    outcome_on : (k : Kind F P) (r : Result Members F) → HasOutcome world C k r → HasOutcome world D k r
+    outcome_on : (k : Kind F P) (r : Result Members F) → HasOutcome C k r → HasOutcome D k r
     outcome_on k (Ok cs) h = (h.0, λ c j i. stands_on c j (h.1 c j i))
     outcome_on k (Err f) h = h
 
@@ -193,10 +201,10 @@ module _ {N A F P : Type 0} (world : World N A F P) (laws : IsWorld world) where
     made_on : (n : N) → IsMade world C n → IsMade world D n
     made_on n (e, cs, has, made, child) = (e, cs, kept_done e has, sym (same_outcome e (good.done e s Done has (inl refl) step.waits)) ∙ made, child)
 
-    own_outcome : HasOutcome world D kind (outcome world C s)
+    own_outcome : HasOutcome D kind (outcome world C s)
     own_outcome = by (outcome world C s) changes.came
       where
-        by : (r : Result Members F) → ((n : N) (k : Kind F P) → Has (steps.children_of world r) n k → Has D n k) → HasOutcome world D (steps.kind_after world r) r
+        by : (r : Result Members F) → ((n : N) (k : Kind F P) → Has (steps.children_of world r) n k → Has D n k) → HasOutcome D (steps.kind_after world r) r
         by (Ok cs) came = (refl, λ c j i. (j, came c j i, refl, λ e. refl))
         by (Err f) came = refl
 
@@ -210,9 +218,9 @@ module _ {N A F P : Type 0} (world : World N A F P) (laws : IsWorld world) where
     pub settled-next : IsSettled C → IsSettled D
     settled-next settled = record {
       each = λ n k h x. elim (changes.from n k h) [
-        | inl a ↦ subst (HasOutcome world D k) (same_outcome n (good.done n s k a.1 x step.waits)) (outcome_on k _ (settled.each n k a.1 x))
+        | inl a ↦ subst (HasOutcome D k) (same_outcome n (good.done n s k a.1 x step.waits)) (outcome_on k _ (settled.each n k a.1 x))
         | inr r ↦ elim r [
-          | inl e ↦ subst (λ m. HasOutcome world D k (outcome_at world D m)) (sym e.0) (subst (λ j. HasOutcome world D j (outcome_at world D s)) (sym e.1) (subst (HasOutcome world D kind) saw own_outcome))
+          | inl e ↦ subst (λ m. HasOutcome D k (outcome_at world D m)) (sym e.0) (subst (λ j. HasOutcome D j (outcome_at world D s)) (sym e.1) (subst (HasOutcome D kind) saw own_outcome))
           | inr c ↦ absurd ((steps.law world laws C D s good step n k c).2 x)
         ]
       ];

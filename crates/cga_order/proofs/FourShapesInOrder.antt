@@ -1,5 +1,5 @@
 -- The two small derivations, step by step.
-use Rattle.std.proofs.Common.{◌≡◌, ℕ, zero, suc, List, [], ◌∷◌, ◌++◌, true, false, refl, sym, ap, ◌∙◌, subst, ◌⊎◌, inl, inr, Result, Ok, Option, Some, None}
+use Rattle.std.proofs.Common.{◌≡◌, ℕ, zero, suc, List, [], ◌∷◌, ◌++◌, true, false, refl, sym, ap, subst, inl, inr, Result, Ok, Option, Some, None}
 use Rattle.std.specs.Prelude.{slice_get}
 use Rattle.std.specs.declared.cmp.Ordering.{Ordering}
 use Rattle.std.specs.declared.cmp.Ordering.TheVariants.{Less, Equal, Greater}
@@ -7,27 +7,29 @@ use Rattle.cga_word.specs.declared.mode.Mode.{Mode}
 use Rattle.cga_word.specs.declared.mode.Mode.TheVariants.{Breadth, Depth}
 use Rattle.cga_order.specs.Rank.{rank_cmp}
 use Rattle.cga_order.specs.Chain.{Chain, IsWhole, IsChild, rank}
-use Rattle.cga_order.specs.World.{World, IsWorld, Placed, Kind, Waiting, Done, Instance, Has}
+use Rattle.cga_order.specs.World.{World, IsWorld, Placed, Kind, Waiting, Done, Has, IsNew}
 use Rattle.cga_order.specs.Run.{IsStep}
 use Rattle.cga_order.specs.FourShapes.{Four, a, b, c, d, waiting, done, all_done, chain_under_b, chain_under_c, children_under_b, children_under_c, world_of, FourShapesInOrder, TwoModes}
-
-IsNew : Kind ℕ ℕ → Type 0
-IsNew k = (k ≡ Waiting) ⊎ ((p : ℕ) × (k ≡ Instance p))
 
 -- what makes a world of chains and children
 record IsFamily (chain : Four → Chain) (children : Four → List (Placed Four ℕ ℕ)) : Type 0 where
   whole : (n : Four) → IsWhole (chain n)
   root : (chain a).path ≡ []
-  child : (s : Four) (i : ℕ) (m : Placed Four ℕ ℕ) → slice_get (children s) i ≡ Some m → IsChild (chain s) i (chain m.shape) × ((m.kind ≡ Waiting) ⊎ ((p : ℕ) × (m.kind ≡ Instance p)))
+  child : (s : Four) (i : ℕ) (m : Placed Four ℕ ℕ) → slice_get (children s) i ≡ Some m → IsChild (chain s) i (chain m.shape) × IsNew m.kind
 
 ok_same : (x y : List (Placed Four ℕ ℕ)) → ◌≡◌ {A = Result (List (Placed Four ℕ ℕ)) ℕ} (Ok x) (Ok y) → x ≡ y
 ok_same x y e = cc
+
+one_index : (i j : ℕ) (n m : Four) → slice_get (a ∷ []) i ≡ Some n → slice_get (a ∷ []) j ≡ Some m → i ≡ j
+one_index zero zero n m h g = refl
+one_index zero (suc j) n m h g = let x : ◌≡◌ {A = Option Four} None (Some m) = g in cc
+one_index (suc i) j n m h g = let x : ◌≡◌ {A = Option Four} None (Some n) = h in cc
 
 is_world : (mode : Mode) (chain : Four → Chain) (children : Four → List (Placed Four ℕ ℕ)) → IsFamily chain children → IsWorld (world_of mode chain children)
 is_world mode chain children family = record {
   whole = family.whole;
   root = λ n h. elim h [ inl e ↦ subst (λ x. (chain x).path ≡ []) e family.root | inr r ↦ absurd r ];
-  roots_apart = λ n m h g e. elim h [ inl p ↦ elim g [ inl q ↦ sym p ∙ q | inr r ↦ absurd r ] | inr r ↦ absurd r ];
+  roots_apart = λ i j n m h g e. one_index i j n m h g;
   child = λ s answers cs e i m g. family.child s i m (subst (λ x. slice_get x i ≡ Some m) (sym (ok_same (children s) cs e)) g);
   unseen = λ n m e. let x : false ≡ true = e in cc;
   local = λ n e w e' w' h g. refl;
@@ -40,7 +42,7 @@ none_some : {X : Type 0} (m : Placed Four ℕ ℕ) → ◌≡◌ {A = Option (Pl
 none_some m e = cc
 
 -- a waiting child at its place
-child_is : (chain : Four → Chain) (s n : Four) (i : ℕ) (m : Placed Four ℕ ℕ) → IsChild (chain s) i (chain n) → Some (waiting n) ≡ Some m → IsChild (chain s) i (chain m.shape) × ((m.kind ≡ Waiting) ⊎ ((p : ℕ) × (m.kind ≡ Instance p)))
+child_is : (chain : Four → Chain) (s n : Four) (i : ℕ) (m : Placed Four ℕ ℕ) → IsChild (chain s) i (chain n) → Some (waiting n) ≡ Some m → IsChild (chain s) i (chain m.shape) × IsNew m.kind
 child_is chain s n i m h e =
     let is = some_same (waiting n) m e in
     (subst (λ x. IsChild (chain s) i (chain x)) (ap (λ x. x.shape) is) h, inl (sym (ap (λ x. x.kind) is)))
@@ -57,7 +59,7 @@ under_c = record { whole = whole; root = refl; child = child }
     whole c = refl
     whole d = refl
 
-    child : (s : Four) (i : ℕ) (m : Placed Four ℕ ℕ) → slice_get (children_under_c s) i ≡ Some m → IsChild (chain_under_c s) i (chain_under_c m.shape) × ((m.kind ≡ Waiting) ⊎ ((p : ℕ) × (m.kind ≡ Instance p)))
+    child : (s : Four) (i : ℕ) (m : Placed Four ℕ ℕ) → slice_get (children_under_c s) i ≡ Some m → IsChild (chain_under_c s) i (chain_under_c m.shape) × IsNew m.kind
     child a zero m e = child_is chain_under_c a b 0 m (below _ _ 0 3 refl refl refl) e
     child a (suc zero) m e = child_is chain_under_c a c 1 m (below _ _ 1 2 refl refl refl) e
     child a (suc (suc i)) m e = none_some m e
@@ -75,7 +77,7 @@ under_b = record { whole = whole; root = refl; child = child }
     whole c = refl
     whole d = refl
 
-    child : (s : Four) (i : ℕ) (m : Placed Four ℕ ℕ) → slice_get (children_under_b s) i ≡ Some m → IsChild (chain_under_b s) i (chain_under_b m.shape) × ((m.kind ≡ Waiting) ⊎ ((p : ℕ) × (m.kind ≡ Instance p)))
+    child : (s : Four) (i : ℕ) (m : Placed Four ℕ ℕ) → slice_get (children_under_b s) i ≡ Some m → IsChild (chain_under_b s) i (chain_under_b m.shape) × IsNew m.kind
     child a zero m e = child_is chain_under_b a b 0 m (below _ _ 0 1 refl refl refl) e
     child a (suc zero) m e = child_is chain_under_b a c 1 m (below _ _ 1 1 refl refl refl) e
     child a (suc (suc i)) m e = none_some m e

@@ -24,6 +24,14 @@ same_place-not a b e same =
     let both : same_place a b ≡ true = ap (λ x. x && pointwise nat_eq a.path b.path) lots ∙ paths in
     let x : false ≡ true = sym e ∙ both in cc
 
+-- a shape of a list has an index there
+pub Among-index : {N : Type 0} (ns : List N) (n : N) → Among n ns → (i : ℕ) × (slice_get ns i ≡ Some n)
+Among-index [] n h = absurd h
+Among-index (m ∷ ns) n h = elim h [
+  | inl e ↦ (0, ap (λ x. Some x) e)
+  | inr r ↦ let w = Among-index ns n r in (suc w.0, w.1)
+]
+
 module _ {N F P : Type 0} where
   pub Has-left : (xs ys : List (Placed N F P)) (n : N) (k : Kind F P) → Has xs n k → Has (xs ++ ys) n k
   Has-left [] ys n k h = absurd h

@@ -15,7 +15,7 @@ none_some x e = cc
 
 module _ {X : Type 0} where
   -- what stands in a list that is put together stands in its first part, or in its second
-  slice_get-append : (xs ys : List X) (i : ℕ) (x : X) → slice_get (xs ++ ys) i ≡ Some x → ((i < length xs) × (slice_get xs i ≡ Some x)) ⊎ ((k : ℕ) × (i ≡ length xs + k) × (slice_get ys k ≡ Some x))
+  pub slice_get-append : (xs ys : List X) (i : ℕ) (x : X) → slice_get (xs ++ ys) i ≡ Some x → ((i < length xs) × (slice_get xs i ≡ Some x)) ⊎ ((k : ℕ) × (i ≡ length xs + k) × (slice_get ys k ≡ Some x))
   slice_get-append [] ys i x e = inr (i, omega arith, e)
   slice_get-append (z ∷ xs) ys zero x e = inl (omega arith, e)
   slice_get-append (z ∷ xs) ys (suc i) x e = elim (slice_get-append xs ys i x e) [
@@ -23,12 +23,12 @@ module _ {X : Type 0} where
     | inr h ↦ inr (h.0, omega (arith, h.1), h.2)
   ]
 
-  slice_get-map : {Y : Type 0} (f : Y → X) (ys : List Y) (i : ℕ) (x : X) → slice_get (map f ys) i ≡ Some x → (y : Y) × (slice_get ys i ≡ Some y) × (f y ≡ x)
+  pub slice_get-map : {Y : Type 0} (f : Y → X) (ys : List Y) (i : ℕ) (x : X) → slice_get (map f ys) i ≡ Some x → (y : Y) × (slice_get ys i ≡ Some y) × (f y ≡ x)
   slice_get-map f [] i x e = none_some x e
   slice_get-map f (y ∷ ys) zero x e = (y, refl, some_same (f y) x e)
   slice_get-map f (y ∷ ys) (suc i) x e = slice_get-map f ys i x e
 
-  slice_get-within : (xs : List X) (i : ℕ) (x : X) → slice_get xs i ≡ Some x → i < length xs
+  pub slice_get-within : (xs : List X) (i : ℕ) (x : X) → slice_get xs i ≡ Some x → i < length xs
   slice_get-within [] i x e = none_some x e
   slice_get-within (y ∷ xs) zero x e = omega arith
   slice_get-within (y ∷ xs) (suc i) x e = omega (arith, slice_get-within xs i x e)
@@ -38,19 +38,19 @@ length-map f [] = refl
 length-map f (x ∷ xs) = let e = length-map f xs in omega (arith, e)
 
 module _ {N A F P : Type 0} (world : World N A F P) (laws : IsWorld world) where
-  abbrev Members : Type 0
+  abbrev pub Members : Type 0
   Members = List (Placed N F P)
 
   become-shape : (s : N) (k : Kind F P) (m : Placed N F P) → (become world s k m).shape ≡ m.shape
   become-shape s k m = elim (same_place (world.chain m.shape) (world.chain s)) as (λ b. (cond b (record { shape = m.shape; kind = k }) m).shape ≡ m.shape) [ true ↦ refl | false ↦ refl ]
 
-  slice_get-Has : (xs : Members) (i : ℕ) (m : Placed N F P) → slice_get xs i ≡ Some m → Has xs m.shape m.kind
+  pub slice_get-Has : (xs : Members) (i : ℕ) (m : Placed N F P) → slice_get xs i ≡ Some m → Has xs m.shape m.kind
   slice_get-Has [] i m e = none_some m e
   slice_get-Has (x ∷ xs) zero m e = let is = some_same x m e in inl (ap (λ y. y.shape) is, ap (λ y. y.kind) is)
   slice_get-Has (x ∷ xs) (suc i) m e = inr (slice_get-Has xs i m e)
 
   module _ (C D : Members) (s : N) (good : steps.IsOrdered world C) (step : IsStep world C D s) where
-    abbrev kind : Kind F P
+    abbrev pub kind : Kind F P
     kind = steps.kind_after world (outcome world C s)
 
     child_at : (k : ℕ) (m : Placed N F P) (r : Result Members F) → outcome world C s ≡ r → slice_get (steps.children_of world r) k ≡ Some m → IsChild (world.chain s) k (world.chain m.shape)
@@ -58,7 +58,7 @@ module _ {N A F P : Type 0} (world : World N A F P) (laws : IsWorld world) where
     child_at k m (Err f) e g = none_some m g
 
     -- a member of the new list was in the old at its place, or is a child
-    came_from : (i : ℕ) (m : Placed N F P) → slice_get D i ≡ Some m → ((i < length C) × ((o : Placed N F P) × (slice_get C i ≡ Some o) × (o.shape ≡ m.shape))) ⊎ ((k : ℕ) × (i ≡ length C + k) × IsChild (world.chain s) k (world.chain m.shape))
+    pub came_from : (i : ℕ) (m : Placed N F P) → slice_get D i ≡ Some m → ((i < length C) × ((o : Placed N F P) × (slice_get C i ≡ Some o) × (o.shape ≡ m.shape))) ⊎ ((k : ℕ) × (i ≡ length C + k) × IsChild (world.chain s) k (world.chain m.shape))
     came_from i m e =
         let size = length-map (become world s kind) C in
         elim (slice_get-append (map (become world s kind) C) (steps.children_of world (outcome world C s)) i m (subst (λ x. slice_get x i ≡ Some m) (step.told ∙ steps.told-is world C s (outcome world C s)) e)) [

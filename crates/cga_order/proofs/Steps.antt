@@ -11,7 +11,7 @@ use Rattle.cga_order.specs.World.{World, IsWorld, Placed, Kind, Waiting, Done, F
 use Rattle.cga_order.specs.Run.{become, told, outcome, start, IsStep, Reached, AllEarlier, Rises}
 use Rattle.cga_order.proofs.Order.{stamps_total}
 use Rattle.cga_order.proofs.Chains.{stamps-place, rank-before, root-before, birth-stamp, birth-child, stamp-child, snoc-same}
-use Rattle.cga_order.proofs.Members.{Has-left, Has-right, Has-append, Has-index, Has-start, Has-become, become-Has_elsewhere, become-Has_there}
+use Rattle.cga_order.proofs.Members.{Has-left, Has-right, Has-append, Has-index, Among-index, Has-start, Has-become, become-Has_elsewhere, become-Has_there}
 use Rattle.cga_order.proofs.Maxima as stamps
 
 module _ {N A F P : Type 0} (world : World N A F P) where
@@ -166,7 +166,7 @@ module _ {N A F P : Type 0} (world : World N A F P) where
       over a e w h = later a (stamp_of world s) (stamp_of world w) e (after w h)
 
       -- no child has the place of a member of C
-      fresh : (c m : N) (k j : Kind F P) → Has (children_of (outcome world C s)) c k → Has C m j → SamePlace c m → ⊥
+      pub fresh : (c m : N) (k j : Kind F P) → Has (children_of (outcome world C s)) c k → Has C m j → SamePlace c m → ⊥
       fresh c m k j h g same =
           let l = law c k h in
           let path : (world.chain m).path ≡ (world.chain s).path ++ l.1.0 ∷ [] = ap (λ p. p.1) (sym same) ∙ l.1.1.path in
@@ -237,12 +237,21 @@ module _ {N A F P : Type 0} (world : World N A F P) where
         ];
       }
 
+    -- two roots of one place are one
+    pub one_root : (n m : N) → Among n world.roots → Among m world.roots → place_of world n ≡ place_of world m → n ≡ m
+    one_root n m h g e =
+        let a = Among-index world.roots n h in
+        let b = Among-index world.roots m g in
+        let at = laws.roots_apart a.0 b.0 n m a.1 b.1 e in
+        let same : Some n ≡ Some m = sym a.1 ∙ (ap (slice_get world.roots) at ∙ b.1) in
+        cc
+
     in_order-start : IsOrdered (start world)
     in_order-start = record {
       distinct = λ n m k j h g e.
           let a = Has-start world world.roots n k h in
           let b = Has-start world world.roots m j g in
-          (laws.roots_apart n m a.0 b.0 e, a.1 ∙ sym b.1);
+          (one_root n m a.0 b.0 e, a.1 ∙ sym b.1);
       under = λ n k h. inl (laws.root n (Has-start world world.roots n k h).0);
       born = λ n w k h g. root-before world.mode (world.chain n) (world.chain w) (laws.root n (Has-start world world.roots n k h).0);
       done = λ e w k h y g. absurd (not_waiting k y (Has-start world world.roots e k h).1);

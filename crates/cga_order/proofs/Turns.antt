@@ -33,7 +33,7 @@ module _ {N A F P : Type 0} (world : World N A F P) (laws : IsWorld world) where
   order = stamps_total world.mode
 
   -- what n sees and exists at its stamp in the one list is in the other, an instance in both or in neither
-  abbrev SameAt : N → Nodes → Nodes → Type 0
+  abbrev pub SameAt : N → Nodes → Nodes → Type 0
   SameAt n xs ys = (m : N) (k : Kind F P) (a : A) → world.sees n m ≡ true → IsEarlier world (birth_of world m) (stamp_of world n) → Keeps xs m k a → (j : Kind F P) × (b : A) × Keeps ys m j b × (is_instance j ≡ is_instance k)
 
   existing-on : (n : N) (xs ys : Nodes) → SameAt n xs ys → (m : N) → world.sees n m ≡ true → Among m (shapes_where (exists_at world n) (members_of xs)) → Among m (shapes_where (exists_at world n) (members_of ys))
@@ -52,7 +52,7 @@ module _ {N A F P : Type 0} (world : World N A F P) (laws : IsWorld world) where
       Among-shapes_where (waits_at world n) (members_of ys) m u.0 (Has-Keeps ys m u.0 u.1 u.2) (derived.waits_at-true world laws n m u.0 p.0 (u.3 ∙ p.1) p.2)
 
   -- what n asks is the same where what it sees is
-  asks_same : (n : N) (xs ys : Nodes) → SameAt n xs ys → SameAt n ys xs → asked world xs n ≡ asked world ys n
+  pub asks_same : (n : N) (xs ys : Nodes) → SameAt n xs ys → SameAt n ys xs → asked world xs n ≡ asked world ys n
   asks_same n xs ys to from =
       laws.local n _ _ _ _
       (λ m v. (existing-on n xs ys to m v, existing-on n ys xs from m v))
@@ -63,13 +63,13 @@ module _ {N A F P : Type 0} (world : World N A F P) (laws : IsWorld world) where
     across : (m n : N) → (IsEarlier world (birth_of world m) (stamp_of world s) → ⊥) → IsEarlier world (birth_of world m) (stamp_of world n) → IsEarlier world (stamp_of world s) (stamp_of world n)
     across m n late e = stamps.past_left (stamps_cmp world.mode) order (stamp_of world s) (birth_of world m) (stamp_of world n) late e
 
-    came_late : (m : N) (k : Kind F P) → Came world s m k requeued → IsEarlier world (birth_of world m) (stamp_of world s) → ⊥
+    came_late : (m : N) (k : Kind F P) → Came world after s m k requeued → IsEarlier world (birth_of world m) (stamp_of world s) → ⊥
     came_late m k came e =
         let birth = birth-child world.mode (world.chain s) came.0.0 (world.chain m) (laws.whole s) came.0.1 in
         stamps.not_self (stamps_cmp world.mode) order (stamp_of world s) (subst (λ x. IsEarlier world x (stamp_of world s)) birth e)
 
     -- a node of the new list is s, or stayed, or came
-    where_from : (m : N) (k : Kind F P) (a : A) → Keeps after m k a → (m ≡ s) ⊎ ((place_of world m ≡ place_of world s → ⊥) × (Keeps before m k a ⊎ Came world s m k requeued))
+    where_from : (m : N) (k : Kind F P) (a : A) → Keeps after m k a → (m ≡ s) ⊎ ((place_of world m ≡ place_of world s → ⊥) × (Keeps before m k a ⊎ Came world after s m k requeued))
     where_from m k a h = elim (place_dec world m s) [
       | inl same ↦ inl (turn.alone m k a h same)
       | inr apart ↦ inr (apart, turn.from m k a h (λ e. apart (ap (place_of world) e)))
@@ -84,18 +84,18 @@ module _ {N A F P : Type 0} (world : World N A F P) (laws : IsWorld world) where
     remains m k (now, b, has, alike, same) = (now, b, has, alike)
 
     -- a node that isn't on the agenda sees the same before and after
-    same_to : (n : N) → requeued n ≡ false → SameAt n before after
-    same_to n off m k a v e h = elim (turn.to m k a h) [
+    same_to : (n : N) (j : Kind F P) (b : A) → Keeps after n j b → is_instance j ≡ false → requeued n ≡ false → SameAt n before after
+    same_to n j b there y off m k a v e h = elim (turn.to m k a h) [
       | inl r ↦ remains m k r
-      | inr went ↦ let x : true ≡ false = sym (went.seen n (across m n went.late e) v) ∙ off in cc
+      | inr went ↦ let x : true ≡ false = sym (went.seen n j b there y (across m n went.late e) v) ∙ off in cc
     ]
 
-    same_from : (n : N) → requeued n ≡ false → SameAt n after before
-    same_from n off m k a v e h = elim (where_from m k a h) [
+    same_from : (n : N) (j : Kind F P) (b : A) → Keeps after n j b → is_instance j ≡ false → requeued n ≡ false → SameAt n after before
+    same_from n j b there y off m k a v e h = elim (where_from m k a h) [
       | inl q ↦ self_before m k a q h
       | inr w ↦ elim w.1 [
         | inl g ↦ (k, a, g, refl)
-        | inr came ↦ let x : true ≡ false = sym (came.2 n (across m n (came_late m k came) e) v) ∙ off in cc
+        | inr came ↦ let x : true ≡ false = sym (came.2 n j b there y (across m n (came_late m k came) e) v) ∙ off in cc
       ]
     ]
 
@@ -128,7 +128,7 @@ module _ {N A F P : Type 0} (world : World N A F P) (laws : IsWorld world) where
             let lot : (world.chain m).lot ≡ (world.chain s).lot = sym u.lot ∙ v.lot in
             λ x. (lot x, path x)
 
-        stand : (c : N) (j : Kind F P) → Has children c j → Stands world (members_of before) c j → Stands world (members_of after) c j
+        stand : (c : N) (j : Kind F P) → Has children c j → Stands (members_of before) c j → Stands (members_of after) c j
         stand c j g (old, there, alike, same) =
             let w = Keeps-Has before c old there in
             elim (turn.to c old w.0 w.1) [
@@ -150,10 +150,10 @@ module _ {N A F P : Type 0} (world : World N A F P) (laws : IsWorld world) where
           inr (subst (λ x. IsRight world after x k a) (sym q) (now.1 ∙ asks_same s before after self_to self_from, now.2))
       | inr w ↦ elim w.1 [
         | inl old ↦ elim (all n k a old y) [
-          | inl z ↦ inl (turn.queued_still n k a h (λ e. w.0 (ap (place_of world) e)) z)
+          | inl z ↦ inl (turn.queued_still n k a h y (λ e. w.0 (ap (place_of world) e)) z)
           | inr z ↦ elim (either (requeued n)) [
             | inl t ↦ inl t
-            | inr f ↦ inr (z.0 ∙ asks_same n before after (same_to n f) (same_from n f), settled_stays n k a old h w.0 (world.expand n a) refl z.1)
+            | inr f ↦ inr (z.0 ∙ asks_same n before after (same_to n k a h y f) (same_from n k a h y f), settled_stays n k a old h w.0 (world.expand n a) refl z.1)
           ]
         ]
         | inr came ↦ inl (came.1 y)
@@ -161,11 +161,11 @@ module _ {N A F P : Type 0} (world : World N A F P) (laws : IsWorld world) where
     ]
 
   -- a list that is right as far as a limit is consistent that far
-  module _ (nodes : Nodes) (queued : N → Bool) (limit : Option (List Rank)) (tree : IsTree world nodes) (right : AllRight world nodes queued) (late : (n : N) → queued n ≡ true → IsBefore world limit (stamp_of world n) → ⊥) where
+  module _ (nodes : Nodes) (queued : N → Bool) (limit : Option (List Rank)) (tree : IsTree world nodes) (right : AllRight world nodes queued) (late : (n : N) (k : Kind F P) (a : A) → Keeps nodes n k a → queued n ≡ true → IsBefore world limit (stamp_of world n) → ⊥) where
     settled : (n : N) (k : Kind F P) (a : A) → Keeps nodes n k a → is_instance k ≡ false → IsBefore world limit (stamp_of world n) → IsRight world nodes n k a
-    settled n k a h i before = elim (right n k a h i) [ inl q ↦ absurd (late n q before) | inr r ↦ r ]
+    settled n k a h i before = elim (right n k a h i) [ inl q ↦ absurd (late n k a h q before) | inr r ↦ r ]
 
-    outcome_is : (k : Kind F P) (n : N) (r : Result (List (Placed N F P)) F) → IsSettled world nodes n k r → HasOutcome world (members_of nodes) k r
+    outcome_is : (k : Kind F P) (n : N) (r : Result (List (Placed N F P)) F) → IsSettled world nodes n k r → HasOutcome (members_of nodes) k r
     outcome_is k n (Ok children) h = (h.0, h.1.all)
     outcome_is k n (Err fault) h = h.0
 
@@ -184,7 +184,7 @@ module _ {N A F P : Type 0} (world : World N A F P) (laws : IsWorld world) where
       each = λ n k h i before.
           let w = Keeps-Has nodes n k h in
           let z = settled n k w.0 w.1 i before in
-          subst (HasOutcome world (members_of nodes) k) (ap (world.expand n) z.0) (outcome_is k n (world.expand n w.0) z.1);
+          subst (HasOutcome (members_of nodes) k) (ap (world.expand n) z.0) (outcome_is k n (world.expand n w.0) z.1);
       only = λ n k h before.
           let w = Keeps-Has nodes n k h in
           elim (tree.under n k w.0 w.1) [

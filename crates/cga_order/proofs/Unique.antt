@@ -24,7 +24,7 @@ module _ {N A F P : Type 0} (world : World N A F P) (laws : IsWorld world) (limi
 
   -- a configuration, beside the consistent list
   pub record Fits (C : Members) : Type 0 where
-    pub waiting : (n : N) → Has C n Waiting → Stands world L n Waiting
+    pub waiting : (n : N) → Has C n Waiting → Stands L n Waiting
     pub settled : (n : N) (k : Kind F P) → Has C n k → is_waiting k ≡ false → Has L n k
     pub roots_in : (n : N) → Among n world.roots → (k : Kind F P) × Has C n k
     pub closed : (e c : N) (j : Kind F P) (cs : Members) → Has C e Done → outcome_at world L e ≡ Ok cs → Has cs c j → (k : Kind F P) × Has C c k
@@ -160,16 +160,16 @@ module _ {N A F P : Type 0} (world : World N A F P) (laws : IsWorld world) (limi
       agree = ap (world.expand s) (laws.local s _ _ _ _ sees_existing sees_waiting)
 
       -- the list has s as its outcome has it, and its children
-      has_outcome : (k : Kind F P) → Has L s k → HasOutcome world L k (outcome world C s) → Has L s (steps.kind_after world (outcome world C s)) × ((c : N) (j : Kind F P) → Has (steps.children_of world (outcome world C s)) c j → Stands world L c j)
-      has_outcome k h o = elim (outcome world C s) as (λ r. HasOutcome world L k r → Has L s (steps.kind_after world r) × ((c : N) (j : Kind F P) → Has (steps.children_of world r) c j → Stands world L c j)) [
+      has_outcome : (k : Kind F P) → Has L s k → HasOutcome L k (outcome world C s) → Has L s (steps.kind_after world (outcome world C s)) × ((c : N) (j : Kind F P) → Has (steps.children_of world (outcome world C s)) c j → Stands L c j)
+      has_outcome k h o = elim (outcome world C s) as (λ r. HasOutcome L k r → Has L s (steps.kind_after world r) × ((c : N) (j : Kind F P) → Has (steps.children_of world r) c j → Stands L c j)) [
         | Ok cs ↦ λ g. (subst (Has L s) g.0 h, g.1)
         | Err f ↦ λ g. (subst (Has L s) g h, λ c j i. absurd i)
       ] o
 
-      in_list : Has L s (steps.kind_after world (outcome world C s)) × ((c : N) (j : Kind F P) → Has (steps.children_of world (outcome world C s)) c j → Stands world L c j)
+      in_list : Has L s (steps.kind_after world (outcome world C s)) × ((c : N) (j : Kind F P) → Has (steps.children_of world (outcome world C s)) c j → Stands L c j)
       in_list =
           let w = fits.waiting s step.waits in
-          has_outcome w.0 w.1 (subst (HasOutcome world L w.0) agree (con.each s w.0 w.1 w.2 before))
+          has_outcome w.0 w.1 (subst (HasOutcome L w.0) agree (con.each s w.0 w.1 w.2 before))
 
       still : (n : N) (k : Kind F P) → Has C n k → (j : Kind F P) × Has D n j
       still n k h = elim (place_dec world n s) [
@@ -228,7 +228,7 @@ module _ {N A F P : Type 0} (world : World N A F P) (laws : IsWorld world) (limi
   fits-reached [] C e b = subst Fits (sym e) fits-start
   fits-reached (s ∷ taken) D (C, reached, step) b = next C (steps.in_order world laws taken C reached) (fits-reached taken C reached b.1) D s step b.0
 
-  pub has_members : (taken : List N) (C : Members) → Reached world taken C → AllBefore world limit taken → HasMembers world L C
+  pub has_members : (taken : List N) (C : Members) → Reached world taken C → AllBefore world limit taken → HasMembers L C
   has_members taken C r b = listed C (steps.in_order world laws taken C r) (fits-reached taken C r b)
 
   pub has_made : (taken : List N) (C : Members) → Reached world taken C → AllBefore world limit taken → NothingWaits world limit C → HasMade world limit C L
@@ -242,7 +242,7 @@ module _ {N A F P : Type 0} (world : World N A F P) (laws : IsWorld world) (L : 
   all_before (s ∷ taken) = (tt, all_before taken)
 
   -- where nothing waits, the configuration has the members of the list
-  pub same_members : (taken : List N) (C : List (Placed N F P)) → Reached world taken C → NothingWaits world None C → SameMembers world L C
+  pub same_members : (taken : List N) (C : List (Placed N F P)) → Reached world taken C → NothingWaits world None C → SameMembers L C
   same_members taken C r quiet n k =
       let settled : (j : Kind F P) → Has C n j → is_waiting j ≡ false = λ j g. elim (either (is_waiting j)) [ inl y ↦ absurd (quiet n (waits C n j g y) tt) | inr y ↦ y ] in (
         (λ h.

@@ -33,7 +33,7 @@ module _ {N A F P : Type 0} (world : World N A F P) where
 
   -- the nodes right below n are these children
   pub record HasChildren (nodes : Nodes) (n : N) (children : List (Placed N F P)) : Type 0 where
-    pub all : (c : N) (k : Kind F P) → Has children c k → Stands world (members_of nodes) c k
+    pub all : (c : N) (k : Kind F P) → Has children c k → Stands (members_of nodes) c k
     pub only : (c : N) (k : Kind F P) (a : A) → Keeps nodes c k a → (i : ℕ) → IsChild (world.chain n) i (world.chain c)
         → (j : Kind F P) × Has children c j
 
@@ -53,18 +53,19 @@ module _ {N A F P : Type 0} (world : World N A F P) where
       (n : N) (k : Kind F P) (a : A) → Keeps nodes n k a → is_instance k ≡ false
       → (queued n ≡ true) ⊎ IsRight nodes n k a
 
-  -- each shape that comes after s and sees m is on the agenda
-  abbrev pub QueuesWhatSees : N → N → (N → Bool) → Type 0
-  QueuesWhatSees s m queued =
-      (n : N) → IsEarlier world (stamp_of world s) (stamp_of world n) → world.sees n m ≡ true
+  -- each non-instance that comes after s and sees m is on the agenda
+  abbrev pub QueuesWhatSees : Nodes → N → N → (N → Bool) → Type 0
+  QueuesWhatSees after s m queued =
+      (n : N) (k : Kind F P) (a : A) → Keeps after n k a → is_instance k ≡ false
+      → IsEarlier world (stamp_of world s) (stamp_of world n) → world.sees n m ≡ true
       → queued n ≡ true
 
   -- a node that came: a child of s, on the agenda unless it is an instance, as is what sees it
-  abbrev pub Came : N → N → Kind F P → (N → Bool) → Type 0
-  Came s m kind queued =
+  abbrev pub Came : Nodes → N → N → Kind F P → (N → Bool) → Type 0
+  Came after s m kind queued =
       ((i : ℕ) × IsChild (world.chain s) i (world.chain m))
       × (is_instance kind ≡ false → queued m ≡ true)
-      × QueuesWhatSees s m queued
+      × QueuesWhatSees after s m queued
 
   -- a node that went: made at the stamp of s or later, a child of s or of no node that stays, and
   -- what sees it is on the agenda
@@ -73,7 +74,7 @@ module _ {N A F P : Type 0} (world : World N A F P) where
     pub below : (p : N) (i : ℕ) → IsChild (world.chain p) i (world.chain m)
         → (place_of world p ≡ place_of world s)
         ⊎ ((k : Kind F P) (a : A) → Keeps before p k a → Keeps after p k a → ⊥)
-    pub seen : QueuesWhatSees s m queued
+    pub seen : QueuesWhatSees after s m queued
 
   -- a node that is still there: an instance as itself, and any other in some kind
   abbrev pub Remains : Nodes → N → Kind F P → Type 0
@@ -90,11 +91,11 @@ module _ {N A F P : Type 0} (world : World N A F P) where
         → place_of world n ≡ place_of world s → n ≡ s
     -- each other node stayed as it was, or came; and each that was there remains, or went
     pub from : (m : N) (k : Kind F P) (a : A) → Keeps after m k a → m ≢ s
-        → Keeps before m k a ⊎ Came s m k requeued
+        → Keeps before m k a ⊎ Came after s m k requeued
     pub to : (m : N) (k : Kind F P) (a : A) → Keeps before m k a
         → Remains after m k ⊎ Went s m before after requeued
     -- nothing but s leaves the agenda
-    pub queued_still : (m : N) (k : Kind F P) (a : A) → Keeps after m k a → m ≢ s
+    pub queued_still : (m : N) (k : Kind F P) (a : A) → Keeps after m k a → is_instance k ≡ false → m ≢ s
         → queued m ≡ true → requeued m ≡ true
 
   -- a node right below a node that is no instance

@@ -6,6 +6,30 @@ use Rattle.cga_order.specs.Rank.{Rank}
 use Rattle.cga_order.specs.Stamp.{stamps_cmp}
 use Rattle.cga_order.specs.World.{World, Placed, Kind, Waiting, Done, Faulted, Has, Among, shapes_where, is_waiting, is_instance, IsEarlier, stamp_of, birth_of, place_of}
 
+module _ {N F P : Type 0} where
+  -- a shape that was made of this kind is there: an instance as itself, and any other in some kind
+  abbrev pub Stands : List (Placed N F P) → N → Kind F P → Type 0
+  Stands list n kind =
+      (now : Kind F P) × Has list n now
+      × (is_instance now ≡ is_instance kind) × (is_instance kind ≡ true → now ≡ kind)
+
+  -- a member's kind is that of its outcome, and its children are there
+  abbrev pub HasOutcome : List (Placed N F P) → Kind F P → Result (List (Placed N F P)) F → Type 0
+  HasOutcome list kind (Ok children) =
+      (kind ≡ Done) × ((c : N) (k : Kind F P) → Has children c k → Stands list c k)
+  HasOutcome list kind (Err fault) = kind ≡ Faulted fault
+
+  -- both lists have the same members
+  abbrev pub SameMembers : List (Placed N F P) → List (Placed N F P) → Type 0
+  SameMembers list other =
+      (n : N) (k : Kind F P) → (Has list n k → Has other n k) × (Has other n k → Has list n k)
+
+  -- a list has the members of a configuration, with their kinds unless they wait
+  abbrev pub HasMembers : List (Placed N F P) → List (Placed N F P) → Type 0
+  HasMembers list reached =
+      (n : N) (k : Kind F P) → Has reached n k
+      → (j : Kind F P) × Has list n j × (is_waiting k ≡ false → j ≡ k)
+
 module _ {N A F P : Type 0} (world : World N A F P) where
   abbrev pub Members : Type 0
   Members = List (Placed N F P)
@@ -26,22 +50,10 @@ module _ {N A F P : Type 0} (world : World N A F P) where
       world.expand n
       (world.answers n (shapes_where (exists_at n) list) (shapes_where (waits_at n) list))
 
-  -- a shape that was made of this kind is there: an instance as itself, and any other in some kind
-  abbrev pub Stands : Members → N → Kind F P → Type 0
-  Stands list n kind =
-      (now : Kind F P) × Has list n now
-      × (is_instance now ≡ is_instance kind) × (is_instance kind ≡ true → now ≡ kind)
-
   -- before a limit of stamps, if there is one
   abbrev pub IsBefore : Option (List Rank) → List Rank → Type 0
   IsBefore None s = Unit {0}
   IsBefore (Some limit) s = IsEarlier world s limit
-
-  -- a member's kind is that of its outcome, and its children are there
-  abbrev pub HasOutcome : Members → Kind F P → Result Members F → Type 0
-  HasOutcome list kind (Ok children) =
-      (kind ≡ Done) × ((c : N) (k : Kind F P) → Has children c k → Stands list c k)
-  HasOutcome list kind (Err fault) = kind ≡ Faulted fault
 
   -- a member is a child that the outcome of a member has made
   abbrev pub IsMade : Members → N → Type 0
@@ -71,17 +83,6 @@ module _ {N A F P : Type 0} (world : World N A F P) where
   abbrev pub NothingWaits : Option (List Rank) → Members → Type 0
   NothingWaits limit list =
       (w : N) → Has list w Waiting → IsBefore limit (stamp_of world w) → ⊥
-
-  -- both lists have the same members
-  abbrev pub SameMembers : Members → Members → Type 0
-  SameMembers list other =
-      (n : N) (k : Kind F P) → (Has list n k → Has other n k) × (Has other n k → Has list n k)
-
-  -- a list has the members of a configuration, with their kinds unless they wait
-  abbrev pub HasMembers : Members → Members → Type 0
-  HasMembers list reached =
-      (n : N) (k : Kind F P) → Has reached n k
-      → (j : Kind F P) × Has list n j × (is_waiting k ≡ false → j ≡ k)
 
   -- a configuration has the members of a list that were made before the limit
   abbrev pub HasMade : Option (List Rank) → Members → Members → Type 0

@@ -9,7 +9,7 @@ use Rattle.cga_order.specs.Stamp.{stamp, birth, stamps_cmp, stamp_cmp}
 use Rattle.cga_order.specs.World.{World, IsWorld, Placed, Kind, Waiting, Has, IsEarlier, place_of, stamp_of}
 use Rattle.cga_order.specs.Run.{outcome, IsStep, Reached, Rises, StandsByBirth}
 use Rattle.cga_order.specs.Consistent.{exists_at, outcome_at, IsBefore, IsConsistent, AllBefore, NothingWaits, SameMembers, HasMembers, HasMade}
-use Rattle.cga_order.specs.Agenda.{Node, members_of, IsTurn, Worked, AllRight, IsTree}
+use Rattle.cga_order.specs.Agenda.{Node, members_of, Keeps, IsTurn, Worked, AllRight, IsTree}
 
 -- ranks and stamps are in total orders, in which equal ones are those of one lot and path
 pub record AreOrders : Type 0 where
@@ -90,7 +90,7 @@ module _ (N A F P : Type 0) where
       → (list : Members) → IsConsistent world None list
       → (taken : List N) (reached : Members) → Reached world taken reached
       → NothingWaits world None reached
-      → SameMembers world list reached
+      → SameMembers list reached
 
   -- a list that is consistent as far as a limit has the members of the derivation that far
   abbrev pub ConsistentSoFar : Type 0
@@ -99,7 +99,7 @@ module _ (N A F P : Type 0) where
       → (limit : Option (List Rank)) (list : Members) → IsConsistent world limit list
       → (taken : List N) (reached : Members) → Reached world taken reached
       → AllBefore world limit taken
-      → HasMembers world list reached
+      → HasMembers list reached
       × (NothingWaits world limit reached → HasMade world limit reached list)
 
   -- a turn of an agenda leaves each node right, or on the agenda
@@ -126,5 +126,6 @@ module _ (N A F P : Type 0) where
       (world : World N A F P) → IsWorld world
       → (nodes : List (Node N A F P)) (queued : N → Bool) (limit : Option (List Rank))
       → IsTree world nodes → AllRight world nodes queued
-      → ((n : N) → queued n ≡ true → IsBefore world limit (stamp_of world n) → ⊥)
+      → ((n : N) (k : Kind F P) (a : A) → Keeps nodes n k a → queued n ≡ true
+      → IsBefore world limit (stamp_of world n) → ⊥)
       → IsConsistent world limit (members_of nodes)

@@ -6,19 +6,9 @@ use Rattle.cga_word.specs.declared.mode.Mode.{Mode}
 use Rattle.cga_order.specs.Rank.{Rank}
 use Rattle.cga_order.specs.Chain.{Chain, IsWhole, IsChild}
 use Rattle.cga_order.specs.Stamp.{stamp, birth, stamps_cmp}
-
--- the state of a member: it waits for its expansion, is done or met a fault F, or is an instance
--- that draws P
-pub data Kind (F P : Type 0) : Type 0 where
-  Waiting : Kind F P
-  Done : Kind F P
-  Faulted : F → Kind F P
-  Instance : P → Kind F P
-
--- a member of a configuration
-pub record Placed (N F P : Type 0) : Type 0 where
-  pub shape : N
-  pub kind : Kind F P
+pub use Rattle.cga_order.specs.declared.placed.Kind.{Kind}
+pub use Rattle.cga_order.specs.declared.placed.Kind.TheVariants.{Waiting, Done, Faulted, Instance}
+pub use Rattle.cga_order.specs.declared.placed.Placed.{Placed}
 
 -- shapes N with their chains, answers A, faults F and solids P
 pub record World (N A F P : Type 0) : Type 0 where
@@ -43,6 +33,10 @@ is_instance Waiting = false
 is_instance Done = false
 is_instance (Faulted f) = false
 is_instance (Instance p) = true
+
+-- a child is new: it waits, or is an instance
+abbrev pub IsNew : {F P : Type 0} → Kind F P → Type 0
+IsNew {P = P} kind = (kind ≡ Waiting) ⊎ ((p : P) × (kind ≡ Instance p))
 
 -- the shape is a member of this kind
 abbrev pub Has : {N F P : Type 0} → List (Placed N F P) → N → Kind F P → Type 0
@@ -79,16 +73,12 @@ module _ {N A F P : Type 0} (world : World N A F P) where
   SameSeen n xs ys =
       (m : N) → world.sees n m ≡ true → (Among m xs → Among m ys) × (Among m ys → Among m xs)
 
-  -- a child waits, or is an instance
-  abbrev pub IsNew : Kind F P → Type 0
-  IsNew kind = (kind ≡ Waiting) ⊎ ((p : P) × (kind ≡ Instance p))
-
   pub record IsWorld : Type 0 where
     pub whole : (n : N) → IsWhole (world.chain n)
     pub root : (n : N) → Among n world.roots → (world.chain n).path ≡ []
-    -- no two roots have one place
-    pub roots_apart : (n m : N) → Among n world.roots → Among m world.roots
-        → place_of n ≡ place_of m → n ≡ m
+    -- roots at two indices of the list have two places
+    pub roots_apart : (i j : ℕ) (n m : N) → slice_get world.roots i ≡ Some n
+        → slice_get world.roots j ≡ Some m → place_of n ≡ place_of m → i ≡ j
     -- child i of a shape stands at i below it
     pub child : (s : N) (a : A) (children : List (Placed N F P)) → world.expand s a ≡ Ok children
         → (i : ℕ) (c : Placed N F P) → slice_get children i ≡ Some c

@@ -9,9 +9,11 @@ use cga_fraction::List;
 
 mod chain;
 pub mod laws;
+mod placed;
 mod walk;
 
 pub use chain::{Chain, cmp_rank};
+pub use placed::{Kind, Placed};
 pub use walk::cmp_stamp;
 
 /// The indices of the children on the way from a lot's root to a shape. A root's is empty.

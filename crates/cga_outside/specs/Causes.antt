@@ -1,5 +1,5 @@
 -- What a read, a write and a flush say beside the bytes that they move.
-use Rattle.std.specs.Prelude.{◌≡◌, ℕ, ◌+◌, ◌-◌, ◌^◌, ◌<◌, ◌≤◌, ◌↔◌, min, List, [], length, Bool, ◌&&◌, ◌||◌, nat_eq, nat_lt, OnErr, IfOk, ⊤, None, Some, Ok, Err}
+use Rattle.std.specs.Prelude.{◌≡◌, ℕ, ◌+◌, ◌-◌, ◌^◌, ◌<◌, ◌≤◌, ◌↔◌, min, List, [], length, Bool, ◌&&◌, ◌||◌, nat_eq, nat_lt, OnErr, OnOk, IfOk, ⊤, None, Some, Ok, Err}
 use Rattle.std.specs.declared.result.Result.{Result}
 use Rattle.std.specs.declared.option.Option.{Option}
 
@@ -7,10 +7,11 @@ use Rattle.std.specs.declared.option.Option.{Option}
 abbrev pub Rose : ℕ → ℕ → Type 0
 Rose before now = min (before + 1) (2 ^ 64 - 1) ≤ now
 
--- a count never falls, and a failure comes only where it rose
+-- a count never falls, a failure comes only where it rose, and any other answer leaves it
 pub record HasCause {T E : Type 0} (before now : ℕ) (result : Result T E) : Type 0 where
   pub later : before ≤ now
   pub failed : OnErr result (Rose before now)
+  pub calm : OnOk result (now ≡ before)
 
 -- a count one greater, which stays at its end
 abbrev pub risen : ℕ → ℕ

@@ -6,11 +6,12 @@ use Rattle.cga_syntax.specs.declared.lexeme.Lexeme.{Lexeme}
 use Rattle.cga_syntax.specs.declared.lexeme.Lexeme.TheVariants as lexeme
 use Rattle.cga_rule.specs.declared.grammar.Attribute.{Attribute}
 use Rattle.cga_rule.specs.declared.rule.Rule.{Rule}
-use Rattle.cga_syntax.specs.Pieces.{Pieces, token, usual, never, number, whole, rule_pieces, Writes}
+use Rattle.cga_syntax.specs.declared.print.space.Space.TheVariants.{Usual}
+use Rattle.cga_syntax.specs.Pieces.{Pieces, token, never, number, whole, rule_pieces, Writes}
 use Rattle.cga_parser.specs.declared.block_line.BlockLine.{BlockLine}
 use Rattle.cga_parser.specs.declared.block_line.BlockLine.TheVariants as line
 use Rattle.cga_form.specs.Reader.{begins}
-use Rattle.cga_parser.specs.Tokens.{a_sign, a_name, a_whole, unless}
+use Rattle.cga_form.specs.Tokens.{a_sign, a_name, a_whole, unless}
 use Rattle.cga_form.specs.Parts.{a_word}
 use Rattle.cga_parser.specs.Blocks as b
 use Rattle.cga_parser.proofs.ExprsAgain.{neither}
@@ -41,7 +42,7 @@ priority_again = record { all = priority_at }
 
 -- ---- what a rule begins with
 
-whole_begun_by : (test : Lexeme → Bool) (l : Lexeme) (qs : Pieces) → test l ≡ false → (t : Bool) → (c : ℕ) (x : List Lexeme) (d : ℕ) (r : List Lexeme) → Writes c ((if t then token usual l else never) ∷ qs) x d → begins test (x ++ r) ≡ false
+whole_begun_by : (test : Lexeme → Bool) (l : Lexeme) (qs : Pieces) → test l ≡ false → (t : Bool) → (c : ℕ) (x : List Lexeme) (d : ℕ) (r : List Lexeme) → Writes c ((if t then token Usual l else never) ∷ qs) x d → begins test (x ++ r) ≡ false
 whole_begun_by test l qs e true c x d r w = (begun_token e).begun c x d r w
 whole_begun_by test l qs e false c x d r w = absurd (never_written c qs x d w)
 

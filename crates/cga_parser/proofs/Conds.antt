@@ -24,13 +24,15 @@ use Rattle.cga_rule.specs.declared.cond.Test.TheFolds.{fold-roll-Cond, fold-roll
 use Rattle.cga_rule.specs.declared.cond.Test.TheOpen as layer
 use Rattle.cga_rule.specs.declared.cond.Relation.{Relation}
 use Rattle.cga_rule.specs.declared.cond.Relation.TheVariants as relation
-use Rattle.cga_syntax.specs.Pieces.{usual, token, sign, keyword, word, text, Pieces, concat, squared, size_word, target_text, state_text, relation_sign, equality_sign, expr_pieces, scaled_pieces, added_pieces, cond_pieces, conj_pieces, test_pieces, test_step, cond_step, conj_step}
+use Rattle.cga_syntax.specs.declared.print.space.Space.TheVariants.{Usual}
+use Rattle.cga_syntax.specs.Pieces.{token, sign, keyword, word, text, Pieces, concat, squared, size_word, target_text, state_text, relation_sign, equality_sign, expr_pieces, scaled_pieces, added_pieces, cond_pieces, conj_pieces, test_pieces, test_step, cond_step, conj_step}
 use Rattle.cga_syntax.specs.Brackets.{counted, bracket_of}
 use Rattle.cga_form.specs.Reader.{Reader, ◌>>=◌, ◌>>◌, pure, refuse, single}
-use Rattle.cga_parser.specs.Tokens.{is_sign, is_keyword, a_relation, relation_of, an_equality, equality_of, a_target, target_of, a_state, state_of, a_scope_word, scope_word_of}
+use Rattle.cga_form.specs.Tokens.{is_sign, is_keyword}
+use Rattle.cga_form.specs.Words.{a_relation, relation_of, an_equality, equality_of, a_target, target_of, a_state, state_of, a_scope_word, scope_word_of}
 use Rattle.cga_parser.specs.Grammar as g
-use Rattle.cga_parser.specs.declared.heads.ScopeWord.{ScopeWord}
-use Rattle.cga_parser.specs.declared.heads.ScopeWord.TheVariants as scope_word
+use Rattle.cga_form.specs.declared.heads.ScopeWord.{ScopeWord}
+use Rattle.cga_form.specs.declared.heads.ScopeWord.TheVariants as scope_word
 use Rattle.cga_form.proofs.Runs.{Some_text}
 use Rattle.cga_form.proofs.Written.{plain_written, long_of, nil_right}
 use Rattle.cga_form.proofs.Forms.{After, Goes, Reads, next, done, Token, one_token, bracketed, either, refusing, Long, listed}
@@ -94,7 +96,7 @@ relation_counts n relation.Greater = refl
 relation_counts n relation.AtLeast = refl
 
 relation_token : (n : ℕ) → Token n n (λ r. sign (relation_sign r) ∷ []) a_relation
-relation_token n = by_token usual (λ r. lexeme.Sign (relation_sign r)) a_relation n relation_is (relation_counts n) relation.Less refl
+relation_token n = by_token Usual (λ r. lexeme.Sign (relation_sign r)) a_relation n relation_is (relation_counts n) relation.Less refl
 
 equality_of_is : (x : Sign) (b : Bool) → equality_of x ≡ Some b → x ≡ equality_sign b
 equality_of_is s.Equal b e = let q : true ≡ b = cc in ap equality_sign q
@@ -110,7 +112,7 @@ equality_counts n true = refl
 equality_counts n false = refl
 
 equality_token : (n : ℕ) → Token n n (λ b. sign (equality_sign b) ∷ []) an_equality
-equality_token n = by_token usual (λ b. lexeme.Sign (equality_sign b)) an_equality n equality_is (equality_counts n) true refl
+equality_token n = by_token Usual (λ b. lexeme.Sign (equality_sign b)) an_equality n equality_is (equality_counts n) true refl
 
 target_of_is : (name : List ℕ) (a : Target) → target_of name ≡ Some a → name ≡ target_text a
 target_of_is name a = pick target_text name target.Noparent (is name (target_text target.Noparent)) _ a refl (pick target_text name target.Active (is name (target_text target.Active)) _ a refl (no_more target_text name a))
@@ -120,7 +122,7 @@ target_is (lexeme.Text name) a e = ap lexeme.Text (target_of_is name a e)
 target_is _ a e = absurd (cc)
 
 target_token : (n : ℕ) → Token n n (λ a. text (target_text a) ∷ []) a_target
-target_token n = by_token usual (λ a. lexeme.Text (target_text a)) a_target n target_is (λ a. refl) target.Active refl
+target_token n = by_token Usual (λ a. lexeme.Text (target_text a)) a_target n target_is (λ a. refl) target.Active refl
 
 state_of_is : (name : List ℕ) (a : Answer) → state_of name ≡ Some a → name ≡ state_text a
 state_of_is name a =
@@ -132,7 +134,7 @@ state_is (lexeme.Text name) a e = ap lexeme.Text (state_of_is name a e)
 state_is _ a e = absurd (cc)
 
 state_token : (n : ℕ) → Token n n (λ a. text (state_text a) ∷ []) a_state
-state_token n = by_token usual (λ a. lexeme.Text (state_text a)) a_state n state_is (λ a. refl) answer.Full refl
+state_token n = by_token Usual (λ a. lexeme.Text (state_text a)) a_state n state_is (λ a. refl) answer.Full refl
 
 scope_of_is : (name : List ℕ) (a : ScopeWord) → scope_word_of name ≡ Some a → name ≡ scope_bytes a
 scope_of_is name a =
@@ -145,7 +147,7 @@ scope_is (lexeme.Name name) a e = ap lexeme.Name (scope_of_is name a e)
 scope_is _ a e = absurd (cc)
 
 scope_token : (n : ℕ) → Token n n (λ a. word (scope_bytes a) ∷ []) a_scope_word
-scope_token n = by_token usual (λ a. lexeme.Name (scope_bytes a)) a_scope_word n scope_is (λ a. refl) scope_word.Occ refl
+scope_token n = by_token Usual (λ a. lexeme.Name (scope_bytes a)) a_scope_word n scope_is (λ a. refl) scope_word.Occ refl
 
 -- ---- forms
 
@@ -154,7 +156,7 @@ occ_text =
     lexeme.Keyword k.Scope ∷ lexeme.Sign s.Dot ∷ lexeme.Name (codes "occ") ∷ lexeme.Sign s.LeftRound ∷ lexeme.Text (codes "active") ∷ lexeme.Sign s.RightRound ∷ lexeme.Sign s.Equal ∷ lexeme.Text (codes "none") ∷ []
 
 test_some : Some_text (After [] test_pieces)
-test_some c = (occ_text, t.Occ target.Active true answer.Nothing, c, (map (token usual) occ_text, occ_layer target.Active true answer.Nothing, plain_written c occ_text))
+test_some c = (occ_text, t.Occ target.Active true answer.Nothing, c, (map (token Usual) occ_text, occ_layer target.Active true answer.Nothing, plain_written c occ_text))
 
 conj_some : Some_text (After [] conj_pieces)
 conj_some = some_as test_pieces conj_pieces (λ a. roll-Conj (record { tests = a ∷ [] })) (λ a. conj_layer a [] ∙ nil_right (test_pieces a)) test_some
@@ -168,8 +170,8 @@ IsInner n inner = (m : ℕ) → n ≡ suc m → Reads m m cond_pieces inner
 abbrev pub square_pieces : Cond → Pieces
 square_pieces c = squared (cond_pieces c)
 
-close_square : (n : ℕ) → Reads n (suc n) (as_token usual (lexeme.Sign s.RightSquare)) (g.sign s.RightSquare)
-close_square n = one_token (sign_token usual s.RightSquare n (suc n) refl refl)
+close_square : (n : ℕ) → Reads n (suc n) (as_token Usual (lexeme.Sign s.RightSquare)) (g.sign s.RightSquare)
+close_square n = one_token (sign_token Usual s.RightSquare n (suc n) refl refl)
 
 square_rest : (m : ℕ) (p : Reader Cond) → Reads m m cond_pieces p → Goes m (suc m) (sign s.LeftSquare ∷ []) square_pieces (p >>= λ c. g.sign s.RightSquare >> pure c)
 square_rest m p h = next h (λ c. next (close_square m) (λ _. done refl))
@@ -222,7 +224,7 @@ module _ (n : ℕ) (inner : Reader Cond) (h : IsInner n inner) where
       (next (expr_reads n) (λ left. compare_reads left _ refl))))
 
   pub further_test_long : Long further_test_pieces
-  further_test_long c x a d w = long_of c usual (lexeme.Keyword k.And) (test_pieces a) x d w
+  further_test_long c x a d w = long_of c Usual (lexeme.Keyword k.And) (test_pieces a) x d w
 
   pub further_test_reads : Reads n n further_test_pieces (g.further_test n inner)
   unfolding g.further_test
@@ -233,7 +235,7 @@ module _ (n : ℕ) (inner : Reader Cond) (h : IsInner n inner) where
   conj_reads = next test_reads (λ a. next (listed (is_keyword k.And) further_test_long further_test_reads) (λ more. done (conj_layer a more ∙ ap (λ z. test_pieces a ++ z) (nil_right (concat (map further_test_pieces more))))))
 
   pub further_conj_long : Long further_conj_pieces
-  further_conj_long c x a d w = long_of c usual (lexeme.Keyword k.Or) (conj_pieces a) x d w
+  further_conj_long c x a d w = long_of c Usual (lexeme.Keyword k.Or) (conj_pieces a) x d w
 
   pub further_conj_reads : Reads n n further_conj_pieces (g.further_conj n inner)
   unfolding g.further_conj

@@ -29,9 +29,10 @@ use Rattle.cga_rule.specs.declared.cond.Relation.{Relation}
 use Rattle.cga_rule.specs.declared.cond.Relation.TheVariants as relation
 use Rattle.cga_syntax.specs.Pieces.{never, sign, keyword, word, Pieces, concat, target_text, state_text, relation_sign, equality_sign, expr_pieces, scaled_pieces, added_pieces, factor_pieces, primary_pieces, cond_pieces, conj_pieces, test_pieces, test_step, cond_step, conj_step}
 use Rattle.cga_form.specs.Reader.{Reader, refuse}
-use Rattle.cga_parser.specs.Tokens.{a_sign, a_keyword, is_sign, is_keyword, a_relation, an_equality, a_target, a_state, a_scope_word}
+use Rattle.cga_form.specs.Tokens.{a_sign, a_keyword, is_sign, is_keyword}
+use Rattle.cga_form.specs.Words.{a_relation, an_equality, a_target, a_state, a_scope_word}
 use Rattle.cga_parser.specs.Grammar as g
-use Rattle.cga_parser.specs.declared.heads.ScopeWord.TheVariants as scope_word
+use Rattle.cga_form.specs.declared.heads.ScopeWord.TheVariants as scope_word
 use Rattle.cga_form.proofs.Forms.{turned}
 use Rattle.cga_parser.proofs.Layers.{expr_layer, term_layer, factor_layer, number_layer, named_layer, group_layer as bracket_layer, floor_layer, ceil_layer, rand_layer}
 use Rattle.cga_parser.proofs.Exprs.{inside_reads, scaled_long, scaled_reads, added_long, added_reads}

@@ -15,27 +15,30 @@ use Rattle.cga_rule.specs.declared.expr.Term.{Term, roll-Term}
 use Rattle.cga_rule.specs.declared.expr.Added.{out-Added, roll-out-Added}
 use Rattle.cga_rule.specs.declared.expr.Factor.{Factor}
 use Rattle.cga_rule.specs.declared.expr.Primary.TheVariants as v
-use Rattle.cga_syntax.specs.Pieces.{Space, usual, none_after, token, plain, sign, keyword, named, word, whole, Pieces, Writes, grouped, size_word, expr_pieces, term_pieces, added_pieces, scaled_pieces, factor_pieces, primary_pieces}
+use Rattle.cga_syntax.specs.declared.print.space.Space.{Space}
+use Rattle.cga_syntax.specs.declared.print.space.Space.TheVariants.{Usual, NoneAfter}
+use Rattle.cga_syntax.specs.Pieces.{token, plain, sign, keyword, named, word, whole, Pieces, Writes, grouped, size_word, expr_pieces, term_pieces, added_pieces, scaled_pieces, factor_pieces, primary_pieces}
 use Rattle.cga_syntax.specs.Brackets.{counted, bracket_of}
 use Rattle.cga_form.specs.Reader.{Reader, ◌>>=◌, ◌>>◌, pure, refuse, single, enter}
-use Rattle.cga_parser.specs.Tokens.{a_sign, a_whole, primary_head, primary_keyword, size_axis, size_axis_of, an_addition, add_sign, a_scaling, scale_sign, is_sign, is_keyword, unless}
+use Rattle.cga_form.specs.Tokens.{a_sign, a_whole, is_sign, is_keyword, unless}
+use Rattle.cga_form.specs.Words.{primary_head, primary_keyword, size_axis, size_axis_of, an_addition, add_sign, a_scaling, scale_sign}
 use Rattle.cga_parser.specs.Grammar as g
-use Rattle.cga_parser.specs.declared.heads.PrimaryHead.{PrimaryHead}
-use Rattle.cga_parser.specs.declared.heads.PrimaryHead.TheVariants as head
+use Rattle.cga_form.specs.declared.heads.PrimaryHead.{PrimaryHead}
+use Rattle.cga_form.specs.declared.heads.PrimaryHead.TheVariants as head
 use Rattle.cga_form.proofs.Runs.{Some_text}
 use Rattle.cga_form.proofs.Written.{nothing, token_first, long_of, nil_right}
 use Rattle.cga_form.proofs.Forms.{After, Goes, Reads, next, done, Token, one_token, bracketed, one_rand, either, refusing, Long, listed}
 use Rattle.cga_form.proofs.Singles.{sign_token, opening, a_sign_is, a_keyword_is, as_token, whole_token, by_token, named_is, pick, no_more}
 use Rattle.cga_parser.proofs.Layers.{expr_layer, term_layer, added_layer, scaled_layer, factor_layer, number_layer, named_layer, size_layer, group_layer, floor_layer, ceil_layer, rand_layer}
 
-pub comma : (n : ℕ) → Reads n n (as_token usual (lexeme.Sign s.Comma)) (g.sign s.Comma)
-comma n = one_token (sign_token usual s.Comma n n refl refl)
+pub comma : (n : ℕ) → Reads n n (as_token Usual (lexeme.Sign s.Comma)) (g.sign s.Comma)
+comma n = one_token (sign_token Usual s.Comma n n refl refl)
 
-pub dot : (n : ℕ) → Reads n n (as_token usual (lexeme.Sign s.Dot)) (g.sign s.Dot)
-dot n = one_token (sign_token usual s.Dot n n refl refl)
+pub dot : (n : ℕ) → Reads n n (as_token Usual (lexeme.Sign s.Dot)) (g.sign s.Dot)
+dot n = one_token (sign_token Usual s.Dot n n refl refl)
 
-pub close : (n : ℕ) → Reads n (suc n) (as_token usual (lexeme.Sign s.RightRound)) (g.sign s.RightRound)
-close n = one_token (sign_token usual s.RightRound n (suc n) refl refl)
+pub close : (n : ℕ) → Reads n (suc n) (as_token Usual (lexeme.Sign s.RightRound)) (g.sign s.RightRound)
+close n = one_token (sign_token Usual s.RightRound n (suc n) refl refl)
 
 abbrev pub round : Pieces
 round = sign s.LeftRound ∷ []
@@ -47,7 +50,7 @@ in_round n some h = bracketed n (opening s.LeftRound refl refl) (λ i e. a_sign_
 -- ---- the shortest texts
 
 number_some : Some_text (After [] primary_pieces)
-number_some c = (lexeme.Number (of_int (pos 1)) ∷ [], v.Number (of_int (pos 1)), c, (plain (lexeme.Number (of_int (pos 1))) ∷ [], number_layer (of_int (pos 1)), token_first c usual (lexeme.Number (of_int (pos 1))) [] [] c (nothing c)))
+number_some c = (lexeme.Number (of_int (pos 1)) ∷ [], v.Number (of_int (pos 1)), c, (plain (lexeme.Number (of_int (pos 1))) ∷ [], number_layer (of_int (pos 1)), token_first c Usual (lexeme.Number (of_int (pos 1))) [] [] c (nothing c)))
 
 pub some_as : {A B : Type 0} (v : A → Pieces) (w : B → Pieces) (f : A → B) → ((a : A) → w (f a) ≡ v a) → Some_text (After [] v) → Some_text (After [] w)
 some_as v w f e s c = let t = s c in (t.0, f t.1, t.2, (t.3.0, e t.1 ∙ t.3.1, t.3.2))
@@ -111,9 +114,9 @@ keyword_head k.Ceil a e = let q : head.Ceil ≡ a = cc in ap head_pieces (sym q)
 keyword_head _ a e = absurd (cc)
 
 head_means : (l : Lexeme) (a : PrimaryHead) → primary_head l ≡ Some a → (sp : Space) × (head_pieces a ≡ token sp l ∷ [])
-head_means (lexeme.Number value) a e = let q : head.Number value ≡ a = cc in (usual, ap head_pieces (sym q))
-head_means (lexeme.Name name) a e = let t = named_head (is_reserved name) name a e in (usual, ap head_pieces (sym t.1) ∙ ap (λ z. z ∷ []) (named_is name t.0))
-head_means (lexeme.Keyword x) a e = (usual, keyword_head x a e)
+head_means (lexeme.Number value) a e = let q : head.Number value ≡ a = cc in (Usual, ap head_pieces (sym q))
+head_means (lexeme.Name name) a e = let t = named_head (is_reserved name) name a e in (Usual, ap head_pieces (sym t.1) ∙ ap (λ z. z ∷ []) (named_is name t.0))
+head_means (lexeme.Keyword x) a e = (Usual, keyword_head x a e)
 head_means _ a e = absurd (cc)
 
 head_counts : (n : ℕ) (l : Lexeme) (a : PrimaryHead) → primary_head l ≡ Some a → counted (bracket_of l) n ≡ Some n
@@ -136,7 +139,7 @@ size_counts : (n : ℕ) (a : Axis) → counted (bracket_of (lexeme.Name (size_wo
 size_counts n a = refl
 
 pub size_token : (n : ℕ) → Token n n (λ a. word (size_word a) ∷ []) size_axis
-size_token n = by_token usual (λ a. lexeme.Name (size_word a)) size_axis n size_token_is (size_counts n) axis.X refl
+size_token n = by_token Usual (λ a. lexeme.Name (size_word a)) size_axis n size_token_is (size_counts n) axis.X refl
 
 -- ---- signs of operators
 
@@ -154,7 +157,7 @@ add_counts n true = refl
 add_counts n false = refl
 
 add_token : (n : ℕ) → Token n n (λ minus. sign (if minus then s.Minus else s.Plus) ∷ []) an_addition
-add_token n = by_token usual (λ minus. lexeme.Sign (if minus then s.Minus else s.Plus)) an_addition n add_is (add_counts n) true refl
+add_token n = by_token Usual (λ minus. lexeme.Sign (if minus then s.Minus else s.Plus)) an_addition n add_is (add_counts n) true refl
 
 scale_sign_is : (x : Sign) (divide : Bool) → scale_sign x ≡ Some divide → x ≡ (if divide then s.Slash else s.Star)
 scale_sign_is s.Star divide e = let q : false ≡ divide = cc in ap (λ b. if b then s.Slash else s.Star) q
@@ -170,16 +173,16 @@ scale_counts n true = refl
 scale_counts n false = refl
 
 scale_token : (n : ℕ) → Token n n (λ divide. sign (if divide then s.Slash else s.Star) ∷ []) a_scaling
-scale_token n = by_token usual (λ divide. lexeme.Sign (if divide then s.Slash else s.Star)) a_scaling n scale_is (scale_counts n) true refl
+scale_token n = by_token Usual (λ divide. lexeme.Sign (if divide then s.Slash else s.Star)) a_scaling n scale_is (scale_counts n) true refl
 
 -- ---- expressions
 
 pub scaled_long : Long scaled_pieces
-scaled_long c x f d w = long_of c usual (lexeme.Sign (if f.divide then s.Slash else s.Star)) (factor_pieces f.factor) x d (subst (λ ps. Writes c ps x d) (scaled_layer f.divide f.factor) w)
+scaled_long c x f d w = long_of c Usual (lexeme.Sign (if f.divide then s.Slash else s.Star)) (factor_pieces f.factor) x d (subst (λ ps. Writes c ps x d) (scaled_layer f.divide f.factor) w)
 
 pub added_long : Long added_pieces
 added_long c x a d w =
-    long_of c usual (lexeme.Sign (if (out-Added a).minus then s.Minus else s.Plus)) (term_pieces (out-Added a).term) x d
+    long_of c Usual (lexeme.Sign (if (out-Added a).minus then s.Minus else s.Plus)) (term_pieces (out-Added a).term) x d
     (subst (λ ps. Writes c ps x d) (ap added_pieces (sym (roll-out-Added a)) ∙ added_layer (out-Added a).minus (out-Added a).term) w)
 
 module _ (n : ℕ) (inside : Reader Expr) (h : IsInside n inside) where
@@ -200,7 +203,7 @@ module _ (n : ℕ) (inside : Reader Expr) (h : IsInside n inside) where
   pub factor_reads : Reads n n factor_pieces (g.factor n inside)
   unfolding g.factor
   factor_reads =
-      either (is_sign s.Minus) (next (one_token (sign_token none_after s.Minus n n refl refl)) (λ _. next primary_reads (λ p. done (factor_layer true p))))
+      either (is_sign s.Minus) (next (one_token (sign_token NoneAfter s.Minus n n refl refl)) (λ _. next primary_reads (λ p. done (factor_layer true p))))
       (next primary_reads (λ p. done (factor_layer false p)))
 
   pub scaled_reads : Reads n n scaled_pieces (g.scaled n inside)

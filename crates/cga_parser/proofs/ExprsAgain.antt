@@ -18,9 +18,10 @@ use Rattle.cga_rule.specs.declared.expr.Primary.TheVariants.{rolls-Number, rolls
 use Rattle.cga_rule.specs.declared.expr.Primary.TheOpen as layer
 use Rattle.cga_syntax.specs.Pieces.{concat, size_word, expr_pieces, term_pieces, added_pieces, scaled_pieces, factor_pieces, primary_pieces}
 use Rattle.cga_form.specs.Reader.{Reader, refuse}
-use Rattle.cga_parser.specs.Tokens.{a_sign, a_keyword, a_whole, primary_head, size_axis, an_addition, a_scaling, is_sign, unless}
+use Rattle.cga_form.specs.Tokens.{a_sign, a_keyword, a_whole, is_sign, unless}
+use Rattle.cga_form.specs.Words.{primary_head, size_axis, an_addition, a_scaling}
 use Rattle.cga_parser.specs.Grammar as g
-use Rattle.cga_parser.specs.declared.heads.PrimaryHead.TheVariants as head
+use Rattle.cga_form.specs.declared.heads.PrimaryHead.TheVariants as head
 use Rattle.cga_form.proofs.Written.{nil_right}
 use Rattle.cga_form.proofs.Forms.{turned}
 use Rattle.cga_parser.proofs.Exprs.{IsInside, group_pieces, rand_rest_pieces, scaled_long, scaled_reads, added_long, added_reads, expr_reads, no_inside, one_inside}

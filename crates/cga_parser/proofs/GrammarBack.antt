@@ -11,8 +11,9 @@ use Rattle.cga_rule.specs.declared.grammar.Grammar.{Grammar}
 use Rattle.cga_parser.specs.declared.block_line.BlockLine.{BlockLine}
 use Rattle.cga_parser.specs.declared.block_line.BlockLine.TheVariants as says
 use Rattle.cga_parser.specs.Blocks.{block_pieces}
-use Rattle.cga_form.specs.BlockAnswers.{Line, Say}
-use Rattle.cga_parser.specs.BlockAnswers.{BlockAnswers, attributes_of, entries_from, grammar_of, GrammarAnswers}
+use Rattle.cga_form.specs.Lines.{Line}
+use Rattle.cga_form.specs.BlockTells.{Say}
+use Rattle.cga_parser.specs.BlockTells.{BlockTells, attributes_of, entries_from, grammar_of, GrammarTells}
 use Rattle.cga_parser.specs.GrammarLines.{all_from, with_id, by_id, rule_of, section, said_of, line_text, given, IsSaid, IsSpelled, IsInside, AreShort, ReadsBack}
 use Rattle.cga_parser.proofs.GrammarLines.{whole_text, said_grammar}
 use Rattle.cga_parser.proofs.LinesBack.{attribute_back, attribute_inside, priority_back, priority_inside, rule_back, rule_inside, id_bound, priority_bound}
@@ -66,7 +67,7 @@ few_are p (l ∷ ls) (Some says.End ∷ all) b h = few_are p ls all b h.1
 said_spelled : (lines : List Line) (all : List (Option BlockLine)) → Say block_pieces lines all → IsSpelled (grammar_of all)
 said_spelled lines all h = record { attributes = attributes_are lines all h; rules = rules_are 1 lines all h; priorities = few_are 1 lines all (omega arith) h }
 
-pub spelled : (lines : List Line) (grammar : Grammar) → GrammarAnswers lines (Ok grammar) → IsSpelled grammar
+pub spelled : (lines : List Line) (grammar : Grammar) → GrammarTells lines (Ok grammar) → IsSpelled grammar
 spelled lines grammar h = subst IsSpelled (sym h.2) (said_spelled lines h.0 h.1)
 
 every_of : {A : Type 0} (P : A → Type 0) (xs : List A) → All P xs → Every P xs
@@ -104,15 +105,15 @@ module _ (P : BlockLine → Type 0) (attribute : (a : Attribute) → SaysAttribu
       every_join P (map says.Attribute g.attributes) (all_from (section g.rules) 0 (2 ^ 16)) (attributes_all g.attributes a)
       (every_from P (section g.rules) 0 (2 ^ 16) (λ p l. section_all g.rules p (has (priorities g.rules) p) (omega arith) r))
 
-abbrev IsAnswered : BlockLine → Type 0
-IsAnswered b = BlockAnswers (given b) (Ok (Some b))
+abbrev IsTold : BlockLine → Type 0
+IsTold b = BlockTells (given b) (Ok (Some b))
 
 abbrev IsShort : Entry → Type 0
 IsShort e = length (line_text (rule_of e)) ≤ 4096
 
-rules_answered : (es : List Entry) → Every SaysRule es → AreShort es → Every (λ e. IsAnswered (rule_of e)) es
-rules_answered [] h s = tt
-rules_answered (e ∷ es) h s = (rule_back e.rule h.0.0 h.0.1 (All-head IsShort e es s), rules_answered es h.1 (All-tail IsShort e es s))
+rules_told : (es : List Entry) → Every SaysRule es → AreShort es → Every (λ e. IsTold (rule_of e)) es
+rules_told [] h s = tt
+rules_told (e ∷ es) h s = (rule_back e.rule h.0.0 h.0.1 (All-head IsShort e es s), rules_told es h.1 (All-tail IsShort e es s))
 
 rules_inside : (es : List Entry) → Every SaysRule es → Every (λ e. IsInside (rule_of e)) es
 rules_inside [] h = tt
@@ -122,7 +123,7 @@ all_of : (P : BlockLine → Type 0) (bs : List BlockLine) → Every P bs → All
 all_of P [] h = All-nil P
 all_of P (b ∷ bs) h = All-cons P b bs h.0 (all_of P bs h.1)
 
-say : (bs : List BlockLine) → Every IsAnswered bs → Say block_pieces (map given bs) (map Some bs)
+say : (bs : List BlockLine) → Every IsTold bs → Say block_pieces (map given bs) (map Some bs)
 unfolding Say
 say [] h = tt
 say (b ∷ bs) h = (h.0, say bs h.1)
@@ -139,8 +140,8 @@ module _ (g : Grammar) (attributes : Every SaysAttribute g.attributes) (rules : 
   said_inside : All IsInside (said_of g)
   said_inside = all_of IsInside (said_of g) (said_all IsInside (λ a h. attribute_inside a h.0 h.1) priority_inside g attributes (rules_inside g.rules rules))
 
-  said_answered : AreShort g.rules → Every IsAnswered (said_of g)
-  said_answered s = said_all IsAnswered (λ a h. attribute_back a h.0 h.1) priority_back g attributes (rules_answered g.rules rules s)
+  said_told : AreShort g.rules → Every IsTold (said_of g)
+  said_told s = said_all IsTold (λ a h. attribute_back a h.0 h.1) priority_back g attributes (rules_told g.rules rules s)
 
 pub grammar_back : (grammar : Grammar) → IsSpelled grammar → ReadsBack grammar
 grammar_back g h =
@@ -150,6 +151,6 @@ grammar_back g h =
       printable = rules_print g.rules r;
       text = whole_text g;
       inside = said_inside g a r;
-      answered = λ s. (map Some (said_of g), say (said_of g) (said_answered g a r s), said_grammar g);
+      told = λ s. (map Some (said_of g), say (said_of g) (said_told g a r s), said_grammar g);
       same = ranked g.rules (bounded g.rules r (every_of HasFew g.rules h.priorities));
     }

@@ -7,7 +7,7 @@ use Rattle.cga_rule.specs.declared.grammar.Entry.{Entry}
 use Rattle.cga_rule.specs.declared.grammar.Grammar.{Grammar}
 use Rattle.cga_parser.specs.declared.block_line.BlockLine.{BlockLine}
 use Rattle.cga_parser.specs.declared.block_line.BlockLine.TheVariants as says
-use Rattle.cga_parser.specs.BlockAnswers.{attributes_of, entries_from, grammar_of}
+use Rattle.cga_parser.specs.BlockTells.{attributes_of, entries_from, grammar_of}
 use Rattle.cga_parser.specs.GrammarLines.{all_from, with_id, by_id, by_rank, rule_of, section, said_of, line_text, lines_text}
 use Rattle.cga_parser.proofs.Ranked.{Every, every_join, every_from, none_from}
 

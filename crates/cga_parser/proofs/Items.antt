@@ -26,20 +26,23 @@ use Rattle.cga_rule.specs.declared.item.Item.TheVariants as i
 use Rattle.cga_rule.specs.declared.item.Item.TheVariants.{rolls-Move, rolls-Resize, rolls-Rotate, rolls-Scoped, rolls-Solid, rolls-Subdiv, rolls-Repeat, rolls-Comp, rolls-Child}
 use Rattle.cga_rule.specs.declared.item.Item.TheFolds.{fold-roll-Body, fold-roll-Item}
 use Rattle.cga_rule.specs.declared.item.Item.TheOpen as layer
-use Rattle.cga_syntax.specs.Pieces.{Piece, Space, usual, token, turned, plain, number, never, sign, keyword, word, text, named, Pieces, concat, IsTurn, Writes, nonempty, separated, preceded, at_most, behind_each, arguments, three, body_of, in_curly, axis_text, turn_keyword, solid_text, side_text, selector_pieces, size_pieces, expr_pieces, item_pieces, body_pieces, item_step, body_step}
+use Rattle.cga_syntax.specs.declared.print.space.Space.{Space}
+use Rattle.cga_syntax.specs.declared.print.space.Space.TheVariants.{Usual}
+use Rattle.cga_syntax.specs.Pieces.{Piece, token, turned, plain, number, never, sign, keyword, word, text, named, Pieces, concat, IsTurn, Writes, nonempty, separated, preceded, at_most, after_each, arguments, three, body_of, in_curly, axis_text, turn_keyword, solid_text, side_text, selector_pieces, size_pieces, expr_pieces, item_pieces, body_pieces, item_step, body_step}
 use Rattle.cga_syntax.specs.Brackets.{counted, bracket_of}
 use Rattle.cga_form.specs.Reader.{Reader, ◌>>=◌, ◌>>◌, pure, refuse, single, enter, many, many_from}
-use Rattle.cga_parser.specs.Tokens.{passing, a_sign, is_sign, is_keyword, unless, whole_of, item_head, item_keyword, a_relative, is_relative, turn_of, turned_by, a_turn, ninety_by, a_ninety, axis_of, an_axis, solid_of, a_solid, side_of, a_side, selector_of, a_selector}
+use Rattle.cga_form.specs.Tokens.{passing, a_sign, is_sign, is_keyword, unless, whole_of}
+use Rattle.cga_form.specs.Words.{item_head, item_keyword, a_relative, is_relative, turn_of, turned_by, a_turn, ninety_by, a_ninety, axis_of, an_axis, solid_of, a_solid, side_of, a_side, selector_of, a_selector}
 use Rattle.cga_parser.specs.Grammar as g
-use Rattle.cga_parser.specs.declared.heads.ItemHead.{ItemHead}
-use Rattle.cga_parser.specs.declared.heads.ItemHead.TheVariants as head
-use Rattle.cga_parser.specs.declared.heads.SelectorHead.{SelectorHead}
-use Rattle.cga_parser.specs.declared.heads.SelectorHead.TheVariants as choice
+use Rattle.cga_form.specs.declared.heads.ItemHead.{ItemHead}
+use Rattle.cga_form.specs.declared.heads.ItemHead.TheVariants as head
+use Rattle.cga_form.specs.declared.heads.SelectorHead.{SelectorHead}
+use Rattle.cga_form.specs.declared.heads.SelectorHead.TheVariants as choice
 use Rattle.cga_form.proofs.Runs.{Some_text}
 use Rattle.cga_form.proofs.Written.{head_of, end_of, long_of, nil_right, plain_written, piece_written}
 use Rattle.cga_form.proofs.Forms.{After, Goes, Reads, next, done, Token, one_token, bracketed, either, refusing, Long, listed, limited, few_pieces, translated}
 use Rattle.cga_form.proofs.Singles.{sign_token, keyword_token, opening, a_sign_is, as_token, by_token, whole_token, whole_value, named_is, pick, no_more}
-use Rattle.cga_parser.proofs.Lists.{behind_map, separated_is, preceded_is}
+use Rattle.cga_parser.proofs.Lists.{after_map, separated_is, preceded_is}
 use Rattle.cga_form.proofs.Again.{never_written}
 use Rattle.cga_parser.proofs.Exprs.{comma, close, round, in_round, some_as, expr_some, refused_expr, IsInside, inside_reads}
 
@@ -96,7 +99,7 @@ relative_is (lexeme.Relative value) a e = let q : value ≡ a = cc in ap lexeme.
 relative_is _ a e = absurd (cc)
 
 relative_token : (n : ℕ) → Token n n (λ a. plain (lexeme.Relative a) ∷ []) a_relative
-relative_token n = by_token usual lexeme.Relative a_relative n relative_is (λ a. refl) (of_int (pos 1)) refl
+relative_token n = by_token Usual lexeme.Relative a_relative n relative_is (λ a. refl) (of_int (pos 1)) refl
 
 abbrev pub turn_number : Turn → ℕ
 turn_number turn.By0 = 0
@@ -124,7 +127,7 @@ turn_is (lexeme.Number value) a e = ap lexeme.Number (whole_value value.num valu
 turn_is _ a e = absurd (cc)
 
 turn_token : (n : ℕ) → Token n n (λ a. plain (number (turn_number a)) ∷ []) a_turn
-turn_token n = by_token usual (λ a. number (turn_number a)) a_turn n turn_is (λ a. refl) turn.By0 refl
+turn_token n = by_token Usual (λ a. number (turn_number a)) a_turn n turn_is (λ a. refl) turn.By0 refl
 
 ninety_test : (n : ℕ) (t : Bool) (u : Unit {0}) → (n == 90) ≡ t → passing t ≡ Some u → n ≡ 90
 ninety_test n true u e q = eqb-true n 90 e
@@ -139,7 +142,7 @@ ninety_is (lexeme.Number value) u e = ap lexeme.Number (whole_value value.num va
 ninety_is _ u e = absurd (cc)
 
 ninety_token : (n : ℕ) → Token n n (λ _. plain (number 90) ∷ []) a_ninety
-ninety_token n = by_token usual (λ _. number 90) a_ninety n ninety_is (λ a. refl) tt refl
+ninety_token n = by_token Usual (λ _. number 90) a_ninety n ninety_is (λ a. refl) tt refl
 
 axis_of_is : (name : List ℕ) (a : Axis) → axis_of name ≡ Some a → name ≡ axis_text a
 axis_of_is name a = pick axis_text name axis.X (is name (axis_text axis.X)) _ a refl (pick axis_text name axis.Y (is name (axis_text axis.Y)) _ a refl (pick axis_text name axis.Z (is name (axis_text axis.Z)) _ a refl (no_more axis_text name a)))
@@ -149,7 +152,7 @@ axis_is (lexeme.Text name) a e = ap lexeme.Text (axis_of_is name a e)
 axis_is _ a e = absurd (cc)
 
 axis_token : (n : ℕ) → Token n n (λ a. text (axis_text a) ∷ []) an_axis
-axis_token n = by_token usual (λ a. lexeme.Text (axis_text a)) an_axis n axis_is (λ a. refl) axis.X refl
+axis_token n = by_token Usual (λ a. lexeme.Text (axis_text a)) an_axis n axis_is (λ a. refl) axis.X refl
 
 solid_of_is : (name : List ℕ) (a : Primitive) → solid_of name ≡ Some a → name ≡ solid_text a
 solid_of_is name a =
@@ -161,7 +164,7 @@ solid_is (lexeme.Text name) a e = ap lexeme.Text (solid_of_is name a e)
 solid_is _ a e = absurd (cc)
 
 solid_token : (n : ℕ) → Token n n (λ a. text (solid_text a) ∷ []) a_solid
-solid_token n = by_token usual (λ a. lexeme.Text (solid_text a)) a_solid n solid_is (λ a. refl) solid.Cube refl
+solid_token n = by_token Usual (λ a. lexeme.Text (solid_text a)) a_solid n solid_is (λ a. refl) solid.Cube refl
 
 side_of_is : (name : List ℕ) (a : Side) → side_of name ≡ Some a → name ≡ side_text a
 side_of_is name a =
@@ -173,7 +176,7 @@ side_is (lexeme.Text name) a e = ap lexeme.Text (side_of_is name a e)
 side_is _ a e = absurd (cc)
 
 side_token : (n : ℕ) → Token n n (λ a. text (side_text a) ∷ []) a_side
-side_token n = by_token usual (λ a. lexeme.Text (side_text a)) a_side n side_is (λ a. refl) side.Top refl
+side_token n = by_token Usual (λ a. lexeme.Text (side_text a)) a_side n side_is (λ a. refl) side.Top refl
 
 abbrev pub choice_text : SelectorHead → List ℕ
 choice_text choice.Faces = codes "faces"
@@ -193,7 +196,7 @@ choice_is (lexeme.Text name) a e = ap lexeme.Text (choice_of_is name a e)
 choice_is _ a e = absurd (cc)
 
 choice_token : (n : ℕ) → Token n n (λ a. text (choice_text a) ∷ []) a_selector
-choice_token n = by_token usual (λ a. lexeme.Text (choice_text a)) a_selector n choice_is (λ a. refl) choice.Faces refl
+choice_token n = by_token Usual (λ a. lexeme.Text (choice_text a)) a_selector n choice_is (λ a. refl) choice.Faces refl
 
 abbrev head_pieces : ItemHead → Pieces
 head_pieces head.Move = keyword k.T ∷ []
@@ -222,8 +225,8 @@ keyword_head k.Comp a e = let q : head.Comp ≡ a = cc in ap head_pieces (sym q)
 keyword_head _ a e = absurd (cc)
 
 head_means : (l : Lexeme) (a : ItemHead) → item_head l ≡ Some a → (sp : Space) × (head_pieces a ≡ token sp l ∷ [])
-head_means (lexeme.Name name) a e = let t = named_head (is_reserved name) name a e in (usual, ap head_pieces (sym t.1) ∙ ap (λ z. z ∷ []) (named_is name t.0))
-head_means (lexeme.Keyword x) a e = (usual, keyword_head x a e)
+head_means (lexeme.Name name) a e = let t = named_head (is_reserved name) name a e in (Usual, ap head_pieces (sym t.1) ∙ ap (λ z. z ∷ []) (named_is name t.0))
+head_means (lexeme.Keyword x) a e = (Usual, keyword_head x a e)
 head_means _ a e = absurd (cc)
 
 head_counts : (n : ℕ) (l : Lexeme) (a : ItemHead) → item_head l ≡ Some a → counted (bracket_of l) n ≡ Some n
@@ -273,7 +276,7 @@ turn_pieces a = turned a ∷ []
 
 minus_reads : (n : ℕ) → Reads n n (λ (_ : Unit {0}). sign s.Minus ∷ plain (number 90) ∷ []) g.minus_ninety
 unfolding g.minus_ninety
-minus_reads n = next (one_token (sign_token usual s.Minus n n refl refl)) (λ _. next (one_token (ninety_token n)) (λ u. done refl))
+minus_reads n = next (one_token (sign_token Usual s.Minus n n refl refl)) (λ _. next (one_token (ninety_token n)) (λ u. done refl))
 
 turned_plainly : (a : Turn) → IsTurn a (number (turn_number a) ∷ [])
 turned_plainly turn.By0 = refl
@@ -284,14 +287,14 @@ turned_plainly turn.By270 = inl refl
 -- one token written as the piece
 as_turn : (c : ℕ) (x : List Lexeme) (a : Turn) (d : ℕ) → Writes c (plain (number (turn_number a)) ∷ []) x d → Writes c (turn_pieces a) x d
 as_turn c x a d w =
-    let t = head_of c usual (number (turn_number a)) [] x d w in
+    let t = head_of c Usual (number (turn_number a)) [] x d w in
     let u = end_of c t.0 d t.2 in
     piece_written c (turned a) x d (subst (λ z. IsTurn a z) (sym (t.1 ∙ ap (λ z. number (turn_number a) ∷ z) u.0)) (turned_plainly a), u.1)
 
 as_minus : (c : ℕ) (x : List Lexeme) (u : Unit {0}) (d : ℕ) → Writes c (sign s.Minus ∷ plain (number 90) ∷ []) x d → Writes c (turn_pieces turn.By270) x d
 as_minus c x u d w =
-    let t = head_of c usual (lexeme.Sign s.Minus) (plain (number 90) ∷ []) x d w in
-    let v = head_of c usual (number 90) [] t.0 d t.2 in
+    let t = head_of c Usual (lexeme.Sign s.Minus) (plain (number 90) ∷ []) x d w in
+    let v = head_of c Usual (number 90) [] t.0 d t.2 in
     let z = end_of c v.0 d v.2 in
     piece_written c (turned turn.By270) x d (inr (t.1 ∙ ap (λ y. lexeme.Sign s.Minus ∷ y) (v.1 ∙ ap (λ y. number 90 ∷ y) z.0)), z.1)
 
@@ -325,7 +328,7 @@ abbrev pub further_size_pieces : Size → Pieces
 further_size_pieces a = sign s.Comma ∷ size_pieces a
 
 pub further_size_long : Long further_size_pieces
-further_size_long c x a d w = long_of c usual (lexeme.Sign s.Comma) (size_pieces a) x d w
+further_size_long c x a d w = long_of c Usual (lexeme.Sign s.Comma) (size_pieces a) x d w
 
 pub further_size_reads : (n m : ℕ) (p : Reader Expr) → Reads m m expr_pieces p → Reads m m further_size_pieces (g.further_size n p)
 unfolding g.further_size
@@ -384,7 +387,7 @@ abbrev pub further_argument_pieces : Expr → Pieces
 further_argument_pieces a = sign s.Comma ∷ expr_pieces a
 
 pub further_argument_long : Long further_argument_pieces
-further_argument_long c x a d w = long_of c usual (lexeme.Sign s.Comma) (expr_pieces a) x d w
+further_argument_long c x a d w = long_of c Usual (lexeme.Sign s.Comma) (expr_pieces a) x d w
 
 pub further_argument_reads : (n m : ℕ) (p : Reader Expr) → Reads m m expr_pieces p → Reads m m further_argument_pieces (g.further_argument n p)
 unfolding g.further_argument
@@ -395,7 +398,7 @@ length_map w [] = refl
 length_map w (x ∷ xs) = ap suc (length_map w xs)
 
 pub at_most_is : {A : Type 0} (most : ℕ) (p : Piece) (w : A → Pieces) (xs : List A) → at_most most p (map w xs) ≡ few_pieces most (λ a. p ∷ w a) xs
-at_most_is most p w xs = ap (λ n. if nat_le n most then behind_each p (map w xs) else never ∷ []) (length_map w xs) ∙ ap (λ z. if nat_le (length xs) most then z else never ∷ []) (behind_map p w xs)
+at_most_is most p w xs = ap (λ n. if nat_le n most then after_each p (map w xs) else never ∷ []) (length_map w xs) ∙ ap (λ z. if nat_le (length xs) most then z else never ∷ []) (after_map p w xs)
 
 -- arguments, one and further ones
 pub arguments_is : {A : Type 0} (w : A → Pieces) (x : A) (more : List A) → arguments (map w (x ∷ more)) ≡ ((round ++ w x) ++ few_pieces 3 (λ a. sign s.Comma ∷ w a) more) ++ (sign s.RightRound ∷ [])
@@ -421,25 +424,25 @@ arguments_reads n inside h = either (is_sign s.LeftRound) (some_arguments_reads 
 solid_some : Some_text (After [] item_pieces)
 solid_some c =
     let ls : List Lexeme = lexeme.Keyword k.I ∷ lexeme.Sign s.LeftRound ∷ lexeme.Text (codes "cube") ∷ lexeme.Sign s.RightRound ∷ [] in
-    (ls, i.Solid solid.Cube, c, (map (token usual) ls, solid_layer solid.Cube, plain_written c ls))
+    (ls, i.Solid solid.Cube, c, (map (token Usual) ls, solid_layer solid.Cube, plain_written c ls))
 
 pub refused_item : (m : ℕ) → Reads m m item_pieces refuse
 refused_item m = refusing solid_some
 
 named_long : (t : Bool) (c : ℕ) (name : List ℕ) (qs : Pieces) (x : List Lexeme) (d : ℕ) → Writes c ((if t then never else word name) ∷ qs) x d → 1 ≤ length x
 named_long true c name qs x d w = absurd (never_written c qs x d w)
-named_long false c name qs x d w = long_of c usual (lexeme.Name name) qs x d w
+named_long false c name qs x d w = long_of c Usual (lexeme.Name name) qs x d w
 
 -- an item begins with a token
 item_long_by : (q : Item-F Item Body) (c : ℕ) (x : List Lexeme) (d : ℕ) → Writes c (item_pieces (roll-Item q)) x d → 1 ≤ length x
-item_long_by (layer.Move x y z) c t d w = long_of c usual _ _ t d (subst (λ ps. Writes c ps t d) (ap item_pieces (rolls-Move x y z) ∙ move_layer x y z) w)
-item_long_by (layer.Resize x y z) c t d w = long_of c usual _ _ t d (subst (λ ps. Writes c ps t d) (ap item_pieces (rolls-Resize x y z) ∙ resize_layer x y z) w)
-item_long_by (layer.Rotate a by) c t d w = long_of c usual _ _ t d (subst (λ ps. Writes c ps t d) (ap item_pieces (rolls-Rotate a by) ∙ rotate_layer a by) w)
-item_long_by (layer.Scoped items) c t d w = long_of c usual _ _ t d (subst (λ ps. Writes c ps t d) (ap item_pieces (rolls-Scoped items) ∙ scoped_layer items) w)
-item_long_by (layer.Solid p) c t d w = long_of c usual _ _ t d (subst (λ ps. Writes c ps t d) (ap item_pieces (rolls-Solid p) ∙ solid_layer p) w)
-item_long_by (layer.Subdiv a sizes bodies) c t d w = long_of c usual _ _ t d (subst (λ ps. Writes c ps t d) (ap item_pieces (rolls-Subdiv a sizes bodies) ∙ subdiv_layer a sizes bodies) w)
-item_long_by (layer.Repeat a e body) c t d w = long_of c usual _ _ t d (subst (λ ps. Writes c ps t d) (ap item_pieces (rolls-Repeat a e body) ∙ repeat_layer a e body) w)
-item_long_by (layer.Comp x body) c t d w = long_of c usual _ _ t d (subst (λ ps. Writes c ps t d) (ap item_pieces (rolls-Comp x body) ∙ comp_layer x body) w)
+item_long_by (layer.Move x y z) c t d w = long_of c Usual _ _ t d (subst (λ ps. Writes c ps t d) (ap item_pieces (rolls-Move x y z) ∙ move_layer x y z) w)
+item_long_by (layer.Resize x y z) c t d w = long_of c Usual _ _ t d (subst (λ ps. Writes c ps t d) (ap item_pieces (rolls-Resize x y z) ∙ resize_layer x y z) w)
+item_long_by (layer.Rotate a by) c t d w = long_of c Usual _ _ t d (subst (λ ps. Writes c ps t d) (ap item_pieces (rolls-Rotate a by) ∙ rotate_layer a by) w)
+item_long_by (layer.Scoped items) c t d w = long_of c Usual _ _ t d (subst (λ ps. Writes c ps t d) (ap item_pieces (rolls-Scoped items) ∙ scoped_layer items) w)
+item_long_by (layer.Solid p) c t d w = long_of c Usual _ _ t d (subst (λ ps. Writes c ps t d) (ap item_pieces (rolls-Solid p) ∙ solid_layer p) w)
+item_long_by (layer.Subdiv a sizes bodies) c t d w = long_of c Usual _ _ t d (subst (λ ps. Writes c ps t d) (ap item_pieces (rolls-Subdiv a sizes bodies) ∙ subdiv_layer a sizes bodies) w)
+item_long_by (layer.Repeat a e body) c t d w = long_of c Usual _ _ t d (subst (λ ps. Writes c ps t d) (ap item_pieces (rolls-Repeat a e body) ∙ repeat_layer a e body) w)
+item_long_by (layer.Comp x body) c t d w = long_of c Usual _ _ t d (subst (λ ps. Writes c ps t d) (ap item_pieces (rolls-Comp x body) ∙ comp_layer x body) w)
 item_long_by (layer.Child name args) c t d w = named_long (is_reserved name) c name (arguments (map expr_pieces args)) t d (subst (λ ps. Writes c ps t d) (ap item_pieces (rolls-Child name args) ∙ child_layer name args) w)
 
 pub item_long : Long item_pieces
@@ -468,11 +471,11 @@ pub scoped_is : (is : List Item) → scoped_pieces is ≡ ((sign s.LeftSquare �
 scoped_is [] = refl
 scoped_is (a ∷ more) = simp append_assoc
 
-close_square : (n : ℕ) → Reads n (suc n) (as_token usual (lexeme.Sign s.RightSquare)) (g.sign s.RightSquare)
-close_square n = one_token (sign_token usual s.RightSquare n (suc n) refl refl)
+close_square : (n : ℕ) → Reads n (suc n) (as_token Usual (lexeme.Sign s.RightSquare)) (g.sign s.RightSquare)
+close_square n = one_token (sign_token Usual s.RightSquare n (suc n) refl refl)
 
-close_curly : (n : ℕ) → Reads n (suc n) (as_token usual (lexeme.Sign s.RightCurly)) (g.sign s.RightCurly)
-close_curly n = one_token (sign_token usual s.RightCurly n (suc n) refl refl)
+close_curly : (n : ℕ) → Reads n (suc n) (as_token Usual (lexeme.Sign s.RightCurly)) (g.sign s.RightCurly)
+close_curly n = one_token (sign_token Usual s.RightCurly n (suc n) refl refl)
 
 scoped_rest : (m : ℕ) (p : Reader Item) → Reads m m item_pieces p → Goes m (suc m) (sign s.LeftSquare ∷ []) scoped_pieces (g.items_by p >>= λ is. g.sign s.RightSquare >> pure is)
 scoped_rest m p h = next (items_reads {w = some_pieces} m p some_is h) (λ is. next (close_square m) (λ _. done (scoped_is is)))
@@ -481,36 +484,36 @@ scoped_rest m p h = next (items_reads {w = some_pieces} m p some_is h) (λ is. n
 in_curly_brackets : {A : Type 0} {w : A → Pieces} {q : Reader A} (n : ℕ) → Some_text (After (sign s.LeftCurly ∷ []) w) → ((m : ℕ) → n ≡ suc m → Goes m (suc m) (sign s.LeftCurly ∷ []) w q) → Reads n n w (enter (a_sign s.LeftCurly) n >>= λ _. q)
 in_curly_brackets n some h = bracketed n (opening s.LeftCurly refl refl) (λ i e. a_sign_is s.LeftCurly i tt e) some h
 
-abbrev pub block_pieces : Body → Pieces
-block_pieces b = in_curly (body_pieces b)
+abbrev pub braced_body_pieces : Body → Pieces
+braced_body_pieces b = in_curly (body_pieces b)
 
-block_rest : (m : ℕ) (p : Reader Item) → Reads m m item_pieces p → Goes m (suc m) (sign s.LeftCurly ∷ []) block_pieces (g.body_by p >>= λ is. g.sign s.RightCurly >> pure (roll-Body (record { items = is })))
-block_rest m p h = next (body_reads m p h) (λ is. next (close_curly m) (λ _. done (ap in_curly (body_layer is))))
+braced_body_rest : (m : ℕ) (p : Reader Item) → Reads m m item_pieces p → Goes m (suc m) (sign s.LeftCurly ∷ []) braced_body_pieces (g.body_by p >>= λ is. g.sign s.RightCurly >> pure (roll-Body (record { items = is })))
+braced_body_rest m p h = next (body_reads m p h) (λ is. next (close_curly m) (λ _. done (ap in_curly (body_layer is))))
 
 abbrev pub further_body_pieces : Body → Pieces
 further_body_pieces b = sign s.Bar ∷ body_pieces b
 
 pub further_body_long : Long further_body_pieces
-further_body_long c x a d w = long_of c usual (lexeme.Sign s.Bar) (body_pieces a) x d w
+further_body_long c x a d w = long_of c Usual (lexeme.Sign s.Bar) (body_pieces a) x d w
 
 pub further_body_reads : (n m : ℕ) (inside : Reader Expr) (p : Reader Item) → Reads m m item_pieces p → Reads m m further_body_pieces (g.further_body n inside p)
 unfolding g.further_body
-further_body_reads n m inside p h = next (one_token (sign_token usual s.Bar m m refl refl)) (λ _. next (body_reads m p h) (λ is. done (ap (λ z. sign s.Bar ∷ z) (body_layer is))))
+further_body_reads n m inside p h = next (one_token (sign_token Usual s.Bar m m refl refl)) (λ _. next (body_reads m p h) (λ is. done (ap (λ z. sign s.Bar ∷ z) (body_layer is))))
 
-abbrev pub blocks_pieces : List Body → Pieces
-blocks_pieces bs = sign s.LeftCurly ∷ separated (sign s.Bar) (map body_pieces bs) (sign s.RightCurly ∷ [])
+abbrev pub braced_bodies_pieces : List Body → Pieces
+braced_bodies_pieces bs = sign s.LeftCurly ∷ separated (sign s.Bar) (map body_pieces bs) (sign s.RightCurly ∷ [])
 
-blocks_is : (is : List Item) (more : List Body) → blocks_pieces (roll-Body (record { items = is }) ∷ more) ≡ (((sign s.LeftCurly ∷ []) ++ list_pieces is) ++ concat (map further_body_pieces more)) ++ (sign s.RightCurly ∷ [])
-blocks_is is more =
+braced_bodies_is : (is : List Item) (more : List Body) → braced_bodies_pieces (roll-Body (record { items = is }) ∷ more) ≡ (((sign s.LeftCurly ∷ []) ++ list_pieces is) ++ concat (map further_body_pieces more)) ++ (sign s.RightCurly ∷ [])
+braced_bodies_is is more =
     ap (λ z. sign s.LeftCurly ∷ z) (separated_is (sign s.Bar) body_pieces (roll-Body (record { items = is })) more (sign s.RightCurly ∷ []))
     ∙ ap (λ z. sign s.LeftCurly ∷ (z ++ (concat (map further_body_pieces more) ++ (sign s.RightCurly ∷ [])))) (body_layer is) ∙ simp append_assoc
 
-blocks_rest : (n m : ℕ) (inside : Reader Expr) (p : Reader Item) → Reads m m item_pieces p →
-    Goes m (suc m) (sign s.LeftCurly ∷ []) blocks_pieces (g.body_by p >>= λ is. many (is_sign s.Bar) (g.further_body n inside p) >>= λ more. g.sign s.RightCurly >> pure (roll-Body (record { items = is }) ∷ more))
-blocks_rest n m inside p h =
-    next (body_reads m p h) (λ is. next (listed (is_sign s.Bar) further_body_long (further_body_reads n m inside p h)) (λ more. next (close_curly m) (λ _. done (blocks_is is more))))
+braced_bodies_rest : (n m : ℕ) (inside : Reader Expr) (p : Reader Item) → Reads m m item_pieces p →
+    Goes m (suc m) (sign s.LeftCurly ∷ []) braced_bodies_pieces (g.body_by p >>= λ is. many (is_sign s.Bar) (g.further_body n inside p) >>= λ more. g.sign s.RightCurly >> pure (roll-Body (record { items = is }) ∷ more))
+braced_bodies_rest n m inside p h =
+    next (body_reads m p h) (λ is. next (listed (is_sign s.Bar) further_body_long (further_body_reads n m inside p h)) (λ more. next (close_curly m) (λ _. done (braced_bodies_is is more))))
 
-pub subdiv_is : (a : Axis) (sizes : List Size) (bodies : List Body) → item_pieces (i.Subdiv a sizes bodies) ≡ (keyword k.Subdiv ∷ split_pieces (a, sizes)) ++ blocks_pieces bodies
+pub subdiv_is : (a : Axis) (sizes : List Size) (bodies : List Body) → item_pieces (i.Subdiv a sizes bodies) ≡ (keyword k.Subdiv ∷ split_pieces (a, sizes)) ++ braced_bodies_pieces bodies
 subdiv_is a [] bodies = subdiv_layer a [] bodies
 subdiv_is a (x ∷ more) bodies = subdiv_layer a (x ∷ more) bodies ∙ simp append_assoc
 
@@ -519,22 +522,22 @@ module _ (n : ℕ) (inside : Reader Expr) (inner : Reader Item) (h : IsInside n 
   unfolding g.scoped
   scoped_reads = bracketed n (opening s.LeftSquare refl refl) (λ i e. a_sign_is s.LeftSquare i tt e) (scoped_rest 0 refuse (refused_item 0)).some (λ m e. scoped_rest m inner (r m e))
 
-  block_reads : Reads n n block_pieces (g.block n inside inner)
-  unfolding g.block
-  block_reads = in_curly_brackets n (block_rest 0 refuse (refused_item 0)).some (λ m e. block_rest m inner (r m e))
+  braced_body_reads : Reads n n braced_body_pieces (g.braced_body n inside inner)
+  unfolding g.braced_body
+  braced_body_reads = in_curly_brackets n (braced_body_rest 0 refuse (refused_item 0)).some (λ m e. braced_body_rest m inner (r m e))
 
-  blocks_reads : Reads n n blocks_pieces (g.blocks n inside inner)
-  unfolding g.blocks
-  blocks_reads = in_curly_brackets n (blocks_rest n 0 inside refuse (refused_item 0)).some (λ m e. blocks_rest n m inside inner (r m e))
+  braced_bodies_reads : Reads n n braced_bodies_pieces (g.braced_bodies n inside inner)
+  unfolding g.braced_bodies
+  braced_bodies_reads = in_curly_brackets n (braced_bodies_rest n 0 inside refuse (refused_item 0)).some (λ m e. braced_bodies_rest n m inside inner (r m e))
 
   rest_reads : (x : ItemHead) → Goes n n (head_pieces x) item_pieces (g.item_rest n inside inner x)
   rest_reads head.Move = next (move_reads n inside h) (λ p. done (move_layer p.0 p.1 p.2))
   rest_reads head.Resize = next (resize_reads n inside h) (λ p. done (resize_layer p.0 p.1 p.2))
   rest_reads (head.Rotate a) = next (turn_reads n inside) (λ by. done (rotate_layer a by))
   rest_reads head.Solid = next (solid_reads n inside) (λ p. done (solid_layer p))
-  rest_reads head.Subdiv = next (split_reads n inside h) (λ p. next blocks_reads (λ bs. done (subdiv_is p.0 p.1 bs)))
-  rest_reads head.Repeat = next (repeat_reads n inside h) (λ p. next block_reads (λ b. done (repeat_layer p.0 p.1 b ∙ simp append_assoc)))
-  rest_reads head.Comp = next (selector_part_reads n inside) (λ x. next block_reads (λ b. done (comp_layer x b ∙ simp append_assoc)))
+  rest_reads head.Subdiv = next (split_reads n inside h) (λ p. next braced_bodies_reads (λ bs. done (subdiv_is p.0 p.1 bs)))
+  rest_reads head.Repeat = next (repeat_reads n inside h) (λ p. next braced_body_reads (λ b. done (repeat_layer p.0 p.1 b ∙ simp append_assoc)))
+  rest_reads head.Comp = next (selector_part_reads n inside) (λ x. next braced_body_reads (λ b. done (comp_layer x b ∙ simp append_assoc)))
   rest_reads (head.Child name) = next (arguments_reads n inside h) (λ es. done (child_layer name es))
 
   pub layer_reads : Reads n n item_pieces (g.item_layer n inside inner)

@@ -22,18 +22,20 @@ use Rattle.cga_rule.specs.declared.item.Item.{Item, Item-F, roll-Item, out-Item,
 use Rattle.cga_rule.specs.declared.item.Item.TheVariants as i
 use Rattle.cga_rule.specs.declared.item.Item.TheVariants.{rolls-Move, rolls-Resize, rolls-Rotate, rolls-Scoped, rolls-Solid, rolls-Subdiv, rolls-Repeat, rolls-Comp, rolls-Child}
 use Rattle.cga_rule.specs.declared.item.Item.TheOpen as layer
-use Rattle.cga_syntax.specs.Pieces.{usual, token, turned, plain, number, sign, keyword, text, Pieces, concat, IsTurn, Writes, axis_text, turn_keyword, solid_text, side_text, selector_pieces, size_pieces, expr_pieces, item_pieces, body_pieces}
+use Rattle.cga_syntax.specs.declared.print.space.Space.TheVariants.{Usual}
+use Rattle.cga_syntax.specs.Pieces.{token, turned, plain, number, sign, keyword, text, Pieces, concat, IsTurn, Writes, axis_text, turn_keyword, solid_text, side_text, selector_pieces, size_pieces, expr_pieces, item_pieces, body_pieces}
 use Rattle.cga_form.specs.Reader.{Reader, at, ◌>>=◌, ◌>>◌, pure, refuse, begins}
-use Rattle.cga_parser.specs.Tokens.{a_sign, a_keyword, is_sign, is_keyword, unless, a_whole, item_head, a_relative, is_relative, a_turn, a_ninety, an_axis, a_solid, a_side, a_selector}
+use Rattle.cga_form.specs.Tokens.{a_sign, a_keyword, is_sign, is_keyword, unless, a_whole}
+use Rattle.cga_form.specs.Words.{item_head, a_relative, is_relative, a_turn, a_ninety, an_axis, a_solid, a_side, a_selector}
 use Rattle.cga_parser.specs.Grammar as g
-use Rattle.cga_parser.specs.declared.heads.ItemHead.TheVariants as head
-use Rattle.cga_parser.specs.declared.heads.SelectorHead.TheVariants as choice
+use Rattle.cga_form.specs.declared.heads.ItemHead.TheVariants as head
+use Rattle.cga_form.specs.declared.heads.SelectorHead.TheVariants as choice
 use Rattle.cga_form.proofs.Written.{nil_right, piece_of, plain_written}
 use Rattle.cga_form.proofs.Forms.{Reads, turned as unrolled}
 use Rattle.cga_parser.proofs.Lists.{separated_is, preceded_is}
 use Rattle.cga_parser.proofs.Exprs.{IsInside, inside_reads}
 use Rattle.cga_parser.proofs.ExprsAgain.{goes_on, Spares, expr_begun, AgainInside, inside_again, neither}
-use Rattle.cga_parser.proofs.Items.{move_layer, resize_layer, rotate_layer, scoped_layer, solid_layer, subdiv_layer, repeat_layer, comp_layer, child_layer, list_pieces, body_layer, turn_number, size_relative, size_absolute, triple, turn_pieces, turn_part_pieces, solid_pieces, further_size_pieces, further_size_long, further_size_reads, split_pieces, repeat_pieces, selector_part_pieces, further_argument_pieces, at_most_is, arguments_pieces, item_long, some_pieces, IsInnerItem, scoped_pieces, scoped_is, block_pieces, further_body_pieces, further_body_long, further_body_reads, blocks_pieces, subdiv_is, no_inner_item, one_inner_item, item_reads}
+use Rattle.cga_parser.proofs.Items.{move_layer, resize_layer, rotate_layer, scoped_layer, solid_layer, subdiv_layer, repeat_layer, comp_layer, child_layer, list_pieces, body_layer, turn_number, size_relative, size_absolute, triple, turn_pieces, turn_part_pieces, solid_pieces, further_size_pieces, further_size_long, further_size_reads, split_pieces, repeat_pieces, selector_part_pieces, further_argument_pieces, at_most_is, arguments_pieces, item_long, some_pieces, IsInnerItem, scoped_pieces, scoped_is, braced_body_pieces, further_body_pieces, further_body_long, further_body_reads, braced_bodies_pieces, subdiv_is, no_inner_item, one_inner_item, item_reads}
 use Rattle.cga_form.proofs.Again.{Agrees, Leads, Again, Begun, Starts, begun_token, starts_token, begun_named, starts_named, begun_append, begun_as, starts_as, missed, misses_end, misses_each, few_misses, nothing, misses_nothing, never_leads, ends, took, by_name, whole_leads, entered, peek_yes, peek_no, after, plainly, written_as, all_of, few_of}
 
 relative_spares : Spares is_relative
@@ -150,8 +152,8 @@ unfolding g.quarter_turn
 turn_minus =
     peek_yes _ (starts_token refl) (plainly (after {v = λ (_ : Unit {0}). sign s.Minus ∷ plain (number 90) ∷ []} _ tt (record { all = λ u. minus_again }) misses_nothing ends))
 
-written_plainly : (c : ℕ) (x : List Lexeme) (d : ℕ) (ls : List Lexeme) → x ≡ ls → c ≡ d → Writes c (map (token usual) ls) x d
-written_plainly c x d ls e q = subst (λ z. Writes c (map (token usual) ls) z d) (sym e) (subst (λ m. Writes c (map (token usual) ls) ls m) q (plain_written c ls))
+written_plainly : (c : ℕ) (x : List Lexeme) (d : ℕ) (ls : List Lexeme) → x ≡ ls → c ≡ d → Writes c (map (token Usual) ls) x d
+written_plainly c x d ls e q = subst (λ z. Writes c (map (token Usual) ls) z d) (sym e) (subst (λ m. Writes c (map (token Usual) ls) ls m) q (plain_written c ls))
 
 turn_at : (a : Turn) (c : ℕ) (x : List Lexeme) (d : ℕ) (r : List Lexeme) → IsTurn a x → c ≡ d → begins nothing r ≡ false → Agrees (g.quarter_turn (at (x ++ r) c)) a (at r d)
 turn_at turn.By0 c x d r h q e = (turn_plainly turn.By0).leads c x d r (written_plainly c x d (number 0 ∷ []) h q) e
@@ -180,10 +182,10 @@ selector_again = record { all = selector_at }
 abbrev pub AgainInnerItem : ℕ → Reader Item → Type 0
 AgainInnerItem n inner = (m : ℕ) → n ≡ suc m → Again item_pieces with_bracket inner
 
-repeat_is : (a : Axis) (x : Expr) (body : Body) → item_pieces (i.Repeat a x body) ≡ keyword k.Repeat ∷ (repeat_pieces (a, x) ++ block_pieces body)
+repeat_is : (a : Axis) (x : Expr) (body : Body) → item_pieces (i.Repeat a x body) ≡ keyword k.Repeat ∷ (repeat_pieces (a, x) ++ braced_body_pieces body)
 repeat_is a x body = repeat_layer a x body ∙ simp append_assoc
 
-comp_is : (x : Selector) (body : Body) → item_pieces (i.Comp x body) ≡ keyword k.Comp ∷ (selector_part_pieces x ++ block_pieces body)
+comp_is : (x : Selector) (body : Body) → item_pieces (i.Comp x body) ≡ keyword k.Comp ∷ (selector_part_pieces x ++ braced_body_pieces body)
 comp_is x body = comp_layer x body ∙ simp append_assoc
 
 -- ---- lists of items
@@ -298,14 +300,14 @@ module _ (n : ℕ) (inside : Reader Expr) (h : AgainInside n inside) (r : IsInsi
     unfolding g.scoped
     scoped_again = record { all = λ is. written_as (scoped_is is) (entered (a_sign s.LeftSquare) n refl (λ m e. after _ is (items_again m inner (hi m e) (ri m e)) (missed (begun_token refl)) (took (a_sign s.RightSquare) tt refl ends))) }
 
-    block_at : (is : List Item) → Leads nothing (block_pieces (roll-Body (record { items = is }))) (g.block n inside inner) (roll-Body (record { items = is }))
-    unfolding g.block
-    block_at is =
+    braced_body_at : (is : List Item) → Leads nothing (braced_body_pieces (roll-Body (record { items = is }))) (g.braced_body n inside inner) (roll-Body (record { items = is }))
+    unfolding g.braced_body
+    braced_body_at is =
         written_as (ap (λ z. sign s.LeftCurly ∷ (z ++ (sign s.RightCurly ∷ []))) (body_layer is))
         (entered (a_sign s.LeftCurly) n refl (λ m e. after _ is (body_again m inner (hi m e) (ri m e)) (missed (begun_token refl)) (took (a_sign s.RightCurly) tt refl ends)))
 
-    block_again : Again block_pieces nothing (g.block n inside inner)
-    block_again = record { all = λ b. subst (λ z. Leads nothing (block_pieces z) (g.block n inside inner) z) (roll-out-Body b) (block_at (out-Body b).items) }
+    braced_body_again : Again braced_body_pieces nothing (g.braced_body n inside inner)
+    braced_body_again = record { all = λ b. subst (λ z. Leads nothing (braced_body_pieces z) (g.braced_body n inside inner) z) (roll-out-Body b) (braced_body_at (out-Body b).items) }
 
     further_body_at : (m : ℕ) → n ≡ suc m → (is : List Item) → Leads with_item (further_body_pieces (roll-Body (record { items = is }))) (g.further_body n inside inner) (roll-Body (record { items = is }))
     unfolding g.further_body
@@ -315,22 +317,22 @@ module _ (n : ℕ) (inside : Reader Expr) (h : AgainInside n inside) (r : IsInsi
     further_body_again : (m : ℕ) → n ≡ suc m → Again further_body_pieces with_item (g.further_body n inside inner)
     further_body_again m e = record { all = λ b. subst (λ z. Leads with_item (further_body_pieces z) (g.further_body n inside inner) z) (roll-out-Body b) (further_body_at m e (out-Body b).items) }
 
-    blocks_of : (is : List Item) (more : List Body) → Leads nothing (blocks_pieces (roll-Body (record { items = is }) ∷ more)) (g.blocks n inside inner) (roll-Body (record { items = is }) ∷ more)
-    unfolding g.blocks
-    blocks_of is more =
+    braced_bodies_of : (is : List Item) (more : List Body) → Leads nothing (braced_bodies_pieces (roll-Body (record { items = is }) ∷ more)) (g.braced_bodies n inside inner) (roll-Body (record { items = is }) ∷ more)
+    unfolding g.braced_bodies
+    braced_bodies_of is more =
         written_as (ap (λ z. sign s.LeftCurly ∷ z) (separated_is (sign s.Bar) body_pieces (roll-Body (record { items = is })) more (sign s.RightCurly ∷ [])) ∙ ap (λ z. sign s.LeftCurly ∷ (z ++ (concat (map further_body_pieces more) ++ (sign s.RightCurly ∷ [])))) (body_layer is))
         (entered (a_sign s.LeftCurly) n refl (λ m e. after _ is (body_again m inner (hi m e) (ri m e)) (misses_each more (λ z. begun_token refl) (missed (begun_token refl)))
         (all_of _ (is_sign s.Bar) more (further_body_again m e) (λ z. starts_token refl) (λ z. begun_token refl)
         (unrolled further_body_pieces m (is_sign s.Bar) (g.further_body n inside inner) further_body_long (further_body_reads n m inside inner (ri m e)))
         (missed (begun_token refl)) (missed (begun_token refl)) (took (a_sign s.RightCurly) tt refl ends))))
 
-    blocks_at : (bs : List Body) → Leads nothing (blocks_pieces bs) (g.blocks n inside inner) bs
-    unfolding g.blocks
-    blocks_at [] = entered (a_sign s.LeftCurly) n refl (λ m e. never_leads)
-    blocks_at (b ∷ more) = subst (λ z. Leads nothing (blocks_pieces (z ∷ more)) (g.blocks n inside inner) (z ∷ more)) (roll-out-Body b) (blocks_of (out-Body b).items more)
+    braced_bodies_at : (bs : List Body) → Leads nothing (braced_bodies_pieces bs) (g.braced_bodies n inside inner) bs
+    unfolding g.braced_bodies
+    braced_bodies_at [] = entered (a_sign s.LeftCurly) n refl (λ m e. never_leads)
+    braced_bodies_at (b ∷ more) = subst (λ z. Leads nothing (braced_bodies_pieces (z ∷ more)) (g.braced_bodies n inside inner) (z ∷ more)) (roll-out-Body b) (braced_bodies_of (out-Body b).items more)
 
-    blocks_again : Again blocks_pieces nothing (g.blocks n inside inner)
-    blocks_again = record { all = blocks_at }
+    braced_bodies_again : Again braced_bodies_pieces nothing (g.braced_bodies n inside inner)
+    braced_bodies_again = record { all = braced_bodies_at }
 
     abbrev At_item : Item → Type 0
     At_item a = Leads with_bracket (item_pieces a) (g.item_layer n inside inner) a
@@ -349,13 +351,13 @@ module _ (n : ℕ) (inside : Reader Expr) (h : AgainInside n inside) (r : IsInsi
     item_at (layer.Solid p) = subst At_item (sym (rolls-Solid p)) (written_as (solid_layer p) (peek_no _ (missed (begun_token refl)) (took item_head head.Solid refl (plainly (after {v = solid_pieces} _ p solid_again misses_nothing ends)))))
     item_at (layer.Subdiv a sizes bodies) =
         subst At_item (sym (rolls-Subdiv a sizes bodies)) (written_as (subdiv_is a sizes bodies) (peek_no _ (missed (begun_token refl)) (took item_head head.Subdiv refl
-        (after {v = split_pieces} _ (a, sizes) split_again misses_nothing (plainly (after {v = blocks_pieces} _ bodies blocks_again misses_nothing ends))))))
+        (after {v = split_pieces} _ (a, sizes) split_again misses_nothing (plainly (after {v = braced_bodies_pieces} _ bodies braced_bodies_again misses_nothing ends))))))
     item_at (layer.Repeat a x body) =
         subst At_item (sym (rolls-Repeat a x body)) (written_as (repeat_is a x body) (peek_no _ (missed (begun_token refl)) (took item_head head.Repeat refl
-        (after {v = repeat_pieces} _ (a, x) repeat_again misses_nothing (plainly (after {v = block_pieces} _ body block_again misses_nothing ends))))))
+        (after {v = repeat_pieces} _ (a, x) repeat_again misses_nothing (plainly (after {v = braced_body_pieces} _ body braced_body_again misses_nothing ends))))))
     item_at (layer.Comp x body) =
         subst At_item (sym (rolls-Comp x body)) (written_as (comp_is x body) (peek_no _ (missed (begun_token refl)) (took item_head head.Comp refl
-        (after {v = selector_part_pieces} _ x selector_part_again misses_nothing (plainly (after {v = block_pieces} _ body block_again misses_nothing ends))))))
+        (after {v = selector_part_pieces} _ x selector_part_again misses_nothing (plainly (after {v = braced_body_pieces} _ body braced_body_again misses_nothing ends))))))
     item_at (layer.Child name args) =
         subst At_item (sym (rolls-Child name args)) (written_as (child_layer name args) (peek_no _ (missed (begun_named name refl))
         (by_name name (λ e. took item_head (head.Child name) (ap (λ b. unless b (head.Child name)) e) (plainly (after {v = arguments_pieces} _ args arguments_again (misses_end (λ l q. q)) ends))))))

@@ -14,7 +14,8 @@ use Rattle.cga_rule.specs.declared.expr.Primary.{Primary}
 use Rattle.cga_rule.specs.declared.expr.Primary.TheVariants.{Number, rolls-Number, Named, rolls-Named, ScopeSize, rolls-ScopeSize, Group, rolls-Group, Floor, rolls-Floor, Ceil, rolls-Ceil, Rand, rolls-Rand}
 use Rattle.cga_rule.specs.declared.expr.Primary.TheFolds.{fold-roll-Expr, fold-roll-Term, fold-roll-Added, fold_out-Scaled, fold_out-Factor, fold-roll-Primary}
 use Rattle.cga_rule.specs.declared.expr.Primary.TheOpen as layer
-use Rattle.cga_syntax.specs.Pieces.{Pieces, plain, token, none_after, drawn, sign, keyword, word, named, whole, concat, grouped, size_word, expr_pieces, term_pieces, added_pieces, scaled_pieces, factor_pieces, primary_pieces, primary_step, added_step, expr_step, factor_step, scaled_step, term_step}
+use Rattle.cga_syntax.specs.declared.print.space.Space.TheVariants.{NoneAfter}
+use Rattle.cga_syntax.specs.Pieces.{Pieces, plain, token, drawn, sign, keyword, word, named, whole, concat, grouped, size_word, expr_pieces, term_pieces, added_pieces, scaled_pieces, factor_pieces, primary_pieces, primary_step, added_step, expr_step, factor_step, scaled_step, term_step}
 
 pub expr_layer : (t : Term) (rest : List Added) → expr_pieces (roll-Expr (record { first = t; rest = rest })) ≡ term_pieces t ++ concat (map added_pieces rest)
 unfolding expr_pieces term_pieces added_pieces
@@ -32,7 +33,7 @@ pub scaled_layer : (divide : Bool) (f : Factor) → scaled_pieces (record { divi
 unfolding scaled_pieces factor_pieces
 scaled_layer divide f = fold_out-Scaled Pieces Pieces Pieces Pieces Pieces Pieces primary_step added_step expr_step factor_step scaled_step term_step (record { divide = divide; factor = f })
 
-pub factor_layer : (minus : Bool) (p : Primary) → factor_pieces (record { minus = minus; primary = p }) ≡ (if minus then token none_after (lexeme.Sign s.Minus) ∷ primary_pieces p else primary_pieces p)
+pub factor_layer : (minus : Bool) (p : Primary) → factor_pieces (record { minus = minus; primary = p }) ≡ (if minus then token NoneAfter (lexeme.Sign s.Minus) ∷ primary_pieces p else primary_pieces p)
 unfolding factor_pieces primary_pieces
 factor_layer minus p = fold_out-Factor Pieces Pieces Pieces Pieces Pieces Pieces primary_step added_step expr_step factor_step scaled_step term_step (record { minus = minus; primary = p })
 

@@ -8,7 +8,7 @@ pub mod Items
 pub mod ItemsAgain
 pub mod Rules
 pub mod RulesAgain
-pub mod Turns
+pub mod Loops
 pub mod Listings
 pub mod RuleListings
 pub mod Blocks
@@ -20,5 +20,5 @@ pub mod LinesBack
 pub mod Ranked
 pub mod GrammarLines
 pub mod GrammarBack
-pub mod TheForms
-pub mod More
+pub mod AreForms
+pub mod Additions

@@ -1,7 +1,7 @@
--- The text of a printed rule is answered by the rule.
+-- The text of a printed rule tells the rule.
 use Rattle.std.proofs.Common.{◌≡◌, ℕ, ◌+◌, ◌≤◌, nat_lt, false, List, length, map, Some, Ok, Err, arith, refl, sym, ◌∙◌, subst}
 use Rattle.std.proofs.lemmas.Bool.Decides.{nat_tests}
-use Rattle.cga_lexer.specs.Line.{tokens_of, Outcome as Lexed}
+use Rattle.cga_lexer.specs.Line.{tokens_of, Lexed}
 use Rattle.cga_syntax.specs.declared.lexeme.Lexeme.{Lexeme}
 use Rattle.cga_rule.specs.declared.rule.Rule.{Rule}
 use Rattle.cga_syntax.specs.Brackets.{walk}
@@ -12,21 +12,21 @@ use Rattle.cga_syntax.specs.Spelling.{Spelled}
 use Rattle.cga_syntax.proofs.Again.{lexemes, again, have_texts}
 use Rattle.cga_syntax.proofs.Back.{text_read}
 use Rattle.cga_syntax.proofs.Tokens.{line_tokens}
-use Rattle.cga_form.specs.Answers.{Answers}
-use Rattle.cga_parser.specs.Back.{few_brackets, SpellsRule, IsReadBack}
-use Rattle.cga_form.specs.Code.{seen}
+use Rattle.cga_form.specs.Tells.{Tells}
+use Rattle.cga_parser.specs.PrintedRules.{few_brackets, SpellsRule, IsReadBack}
+use Rattle.cga_form.specs.Cursor.{seen}
 use Rattle.cga_parser.specs.Grammar.{rule}
-use Rattle.cga_form.specs.LineAnswers.{by_tokens, by_length}
-use Rattle.cga_form.proofs.Answered.{form_answered}
-use Rattle.cga_parser.proofs.TheForms.{rule_form}
+use Rattle.cga_form.specs.LineTells.{by_tokens, by_length}
+use Rattle.cga_form.proofs.Told.{form_told}
+use Rattle.cga_parser.proofs.AreForms.{rule_form}
 
--- a text that spells a rule, with few enough brackets, is answered by the rule
-rule_answered : (x : List Lexeme) (r : Rule) (m : ℕ) → Spelled rule_pieces x r → walk 32 x ≡ Some m → Answers rule_pieces 32 x (Ok r)
-rule_answered = form_answered rule_pieces rule rule_form
+-- a text that spells a rule, with few enough brackets, tells the rule
+rule_told : (x : List Lexeme) (r : Rule) (m : ℕ) → Spelled rule_pieces x r → walk 32 x ≡ Some m → Tells rule_pieces 32 x (Ok r)
+rule_told = form_told rule_pieces rule rule_form
 
 module _ (r : Rule) where
-  by_read : (o : Lexed) (ls : List Lexeme) (end : ℕ) → AreRead o ls → Answers rule_pieces 32 ls (Ok r) → by_tokens rule_pieces end o (Ok r)
-  by_read (Ok ts) ls end e a = (Ok r, subst (λ z. Answers rule_pieces 32 z (Ok r)) (sym e) a, refl)
+  by_read : (o : Lexed) (ls : List Lexeme) (end : ℕ) → AreRead o ls → Tells rule_pieces 32 ls (Ok r) → by_tokens rule_pieces end o (Ok r)
+  by_read (Ok ts) ls end e a = (Ok r, subst (λ z. Tells rule_pieces 32 z (Ok r)) (sym e) a, refl)
   by_read (Err f) ls end e a = absurd e
 
   short_enough : (text : List ℕ) → length text ≤ 4096 → nat_lt 4096 (length text) ≡ false
@@ -36,7 +36,7 @@ module _ (r : Rule) where
   read_back line (Ok ts) e h =
       let text : List ℕ = text_of (printed (rule_pieces r)) in
       let g = again 0 (rule_pieces r) (map seen ts) h.0.0 (line_tokens line ts e) h.0.1 in
-      let a = rule_answered (lexemes (printed (rule_pieces r))) r h.1.0 (h.0.0, g.written) (g.brackets 32 ∙ h.1.1) in (
+      let a = rule_told (lexemes (printed (rule_pieces r))) r h.1.0 (h.0.0, g.written) (g.brackets 32 ∙ h.1.1) in (
         have_texts (printed (rule_pieces r)) g.tokens,
         λ few.
             subst (λ t. by_length rule_pieces text t (Ok r)) (sym (short_enough text few))

@@ -6,9 +6,10 @@ use Rattle.cga_syntax.specs.declared.lexeme.Lexeme.{Lexeme}
 use Rattle.cga_syntax.specs.declared.lexeme.Lexeme.TheVariants as lexeme
 use Rattle.cga_rule.specs.declared.item.Item.{Item}
 use Rattle.cga_rule.specs.declared.rule.Rule.{Rule}
-use Rattle.cga_syntax.specs.Pieces.{usual, none_before, token, plain, sign, named, whole, Pieces, concat, probability, Writes, nonempty, arguments, condition_pieces, alternative_pieces, rule_pieces}
+use Rattle.cga_syntax.specs.declared.print.space.Space.TheVariants.{Usual, NoneBefore}
+use Rattle.cga_syntax.specs.Pieces.{token, plain, sign, named, whole, Pieces, concat, probability, Writes, nonempty, arguments, condition_pieces, alternative_pieces, rule_pieces}
 use Rattle.cga_form.specs.Reader.{◌>>=◌, ◌>>◌, pure, single, many_from}
-use Rattle.cga_parser.specs.Tokens.{is_sign, a_name}
+use Rattle.cga_form.specs.Tokens.{is_sign, a_name}
 use Rattle.cga_parser.specs.Grammar as g
 use Rattle.cga_form.proofs.Runs.{pure_runs}
 use Rattle.cga_form.proofs.Written.{head_of, end_of, long_of, nil_right, piece_written}
@@ -24,7 +25,7 @@ abbrev pub further_name_pieces : List ℕ → Pieces
 further_name_pieces a = sign s.Comma ∷ name_pieces a
 
 pub further_name_long : Long further_name_pieces
-further_name_long c x a d w = long_of c usual (lexeme.Sign s.Comma) (name_pieces a) x d w
+further_name_long c x a d w = long_of c Usual (lexeme.Sign s.Comma) (name_pieces a) x d w
 
 pub further_name_reads : (m : ℕ) → Reads m m further_name_pieces g.further_name
 unfolding g.further_name
@@ -46,8 +47,8 @@ parameters_reads n = either (is_sign s.LeftRound) (some_parameters_reads n) (don
 
 -- ---- conditions and probabilities
 
-colon : (n : ℕ) → Reads n n (as_token usual (lexeme.Sign s.Colon)) (g.sign s.Colon)
-colon n = one_token (sign_token usual s.Colon n n refl refl)
+colon : (n : ℕ) → Reads n n (as_token Usual (lexeme.Sign s.Colon)) (g.sign s.Colon)
+colon n = one_token (sign_token Usual s.Colon n n refl refl)
 
 pub condition_reads : (n : ℕ) → Reads n n condition_pieces (g.condition n)
 unfolding g.condition
@@ -65,8 +66,8 @@ probability_pieces p = probability p ∷ []
 
 as_probability : (c : ℕ) (x : List Lexeme) (p : Rat) (d : ℕ) → Writes c (given_pieces p) x d → Writes c (probability_pieces p) x d
 as_probability c x p d w =
-    let t = head_of c usual (lexeme.Sign s.Colon) (plain (lexeme.Number p) ∷ []) x d w in
-    let u = head_of c usual (lexeme.Number p) [] t.0 d t.2 in
+    let t = head_of c Usual (lexeme.Sign s.Colon) (plain (lexeme.Number p) ∷ []) x d w in
+    let u = head_of c Usual (lexeme.Number p) [] t.0 d t.2 in
     let z = end_of c u.0 d u.2 in
     piece_written c (probability p) x d (inl (t.1 ∙ ap (λ y. lexeme.Sign s.Colon ∷ y) (u.1 ∙ ap (λ y. lexeme.Number p ∷ y) z.0)), z.1)
 
@@ -88,18 +89,18 @@ alternative_is is p = refl
 
 pub alternative_reads : (n : ℕ) → Reads n n alternative_pieces (g.alternative n)
 unfolding g.alternative
-alternative_reads n = next (one_token (sign_token usual s.Arrow n n refl refl)) (λ _. next (body_reads n (g.item n) (item_reads n)) (λ is. next (probability_reads n) (λ p. done (alternative_is is p))))
+alternative_reads n = next (one_token (sign_token Usual s.Arrow n n refl refl)) (λ _. next (body_reads n (g.item n) (item_reads n)) (λ is. next (probability_reads n) (λ p. done (alternative_is is p))))
 
 pub alternative_long : Long alternative_pieces
-alternative_long c x a d w = long_of c usual (lexeme.Sign s.Arrow) (list_pieces a.items ++ (probability a.prob ∷ [])) x d (subst (λ ps. Writes c ps x d) (alternative_is a.items a.prob) w)
+alternative_long c x a d w = long_of c Usual (lexeme.Sign s.Arrow) (list_pieces a.items ++ (probability a.prob ∷ [])) x d (subst (λ ps. Writes c ps x d) (alternative_is a.items a.prob) w)
 
-pub rule_is : (r : Rule) → rule_pieces r ≡ whole 1 999999 r.id ∷ token none_before (lexeme.Sign s.Colon) ∷ named r.symbol ∷ (parameters_pieces r.params ++ (condition_pieces r.cond ++ nonempty (map alternative_pieces r.alternatives) []))
+pub rule_is : (r : Rule) → rule_pieces r ≡ whole 1 999999 r.id ∷ token NoneBefore (lexeme.Sign s.Colon) ∷ named r.symbol ∷ (parameters_pieces r.params ++ (condition_pieces r.cond ++ nonempty (map alternative_pieces r.alternatives) []))
 unfolding rule_pieces
 rule_is r = refl
 
 pub rule_reads : (n : ℕ) → Reads n n rule_pieces (g.rule n)
 unfolding g.rule
 rule_reads n =
-    next (one_token (whole_token 1 999999 n refl)) (λ id. next (one_token (sign_token none_before s.Colon n n refl refl)) (λ _. next (one_token (name_token n)) (λ name.
+    next (one_token (whole_token 1 999999 n refl)) (λ id. next (one_token (sign_token NoneBefore s.Colon n n refl refl)) (λ _. next (one_token (name_token n)) (λ name.
     next (parameters_reads n) (λ ps. next (condition_reads n) (λ c. next (alternative_reads n) (λ a. next (listed (is_sign s.Arrow) alternative_long (alternative_reads n)) (λ more.
-    done (rule_is _ ∙ ap (λ z. whole 1 999999 id ∷ token none_before (lexeme.Sign s.Colon) ∷ named name ∷ (parameters_pieces ps ++ (condition_pieces c ++ (alternative_pieces a ++ z)))) (nil_right (concat (map alternative_pieces more))) ∙ simp append_assoc))))))))
+    done (rule_is _ ∙ ap (λ z. whole 1 999999 id ∷ token NoneBefore (lexeme.Sign s.Colon) ∷ named name ∷ (parameters_pieces ps ++ (condition_pieces c ++ (alternative_pieces a ++ z)))) (nil_right (concat (map alternative_pieces more))) ∙ simp append_assoc))))))))

@@ -8,9 +8,10 @@ use Rattle.cga_syntax.specs.declared.lexeme.Lexeme.TheVariants as lexeme
 use Rattle.cga_rule.specs.declared.cond.Cond.{Cond}
 use Rattle.cga_rule.specs.declared.item.Item.{Item}
 use Rattle.cga_rule.specs.declared.rule.Alternative.{Alternative}
-use Rattle.cga_syntax.specs.Pieces.{usual, none_before, token, never, sign, named, whole, Pieces, probability, IsProbability, Writes, condition_pieces, alternative_pieces, rule_pieces}
+use Rattle.cga_syntax.specs.declared.print.space.Space.TheVariants.{Usual, NoneBefore}
+use Rattle.cga_syntax.specs.Pieces.{token, never, sign, named, whole, Pieces, probability, IsProbability, Writes, condition_pieces, alternative_pieces, rule_pieces}
 use Rattle.cga_form.specs.Reader.{at, begins}
-use Rattle.cga_parser.specs.Tokens.{a_sign, is_sign, a_name, a_whole, a_number, unless}
+use Rattle.cga_form.specs.Tokens.{a_sign, is_sign, a_name, a_whole, a_number, unless}
 use Rattle.cga_parser.specs.Grammar as g
 use Rattle.cga_form.proofs.Written.{cut, piece_of, plain_written}
 use Rattle.cga_form.proofs.Forms.{turned as unrolled}
@@ -77,8 +78,8 @@ one_by : Leads a_colon [] g.probability (of_int (pos 1))
 unfolding g.probability
 one_by = peek_no _ (misses_end (λ l e. e)) ends
 
-written_plainly : (c : ℕ) (x : List Lexeme) (d : ℕ) (ls : List Lexeme) → x ≡ ls → c ≡ d → Writes c (map (token usual) ls) x d
-written_plainly c x d ls e q = subst (λ z. Writes c (map (token usual) ls) z d) (sym e) (subst (λ m. Writes c (map (token usual) ls) ls m) q (plain_written c ls))
+written_plainly : (c : ℕ) (x : List Lexeme) (d : ℕ) (ls : List Lexeme) → x ≡ ls → c ≡ d → Writes c (map (token Usual) ls) x d
+written_plainly c x d ls e q = subst (λ z. Writes c (map (token Usual) ls) z d) (sym e) (subst (λ m. Writes c (map (token Usual) ls) ls m) q (plain_written c ls))
 
 probability_by : (p : Rat) (c : ℕ) (x : List Lexeme) (d : ℕ) (r : List Lexeme) → IsProbability p x → c ≡ d → begins a_colon r ≡ false → Agrees (g.probability (at (x ++ r) c)) p (at r d)
 probability_by p c x d r (inl h) q e = (given_by p).leads c x d r (written_plainly c x d (lexeme.Sign s.Colon ∷ lexeme.Number p ∷ []) h q) e
@@ -146,9 +147,9 @@ rule_of n id name ps c a more =
 -- a rule without one isn't written
 rule_none : (id : ℕ) (name : List ℕ) (ps : List (List ℕ)) (c : Option Cond) (n : ℕ) (x : List Lexeme) (d : ℕ) → Writes n (rule_pieces (record { id = id; symbol = name; params = ps; cond = c; alternatives = [] })) x d → ⊥
 rule_none id name ps c n x d w =
-    let front : Pieces = whole 1 999999 id ∷ token none_before (lexeme.Sign s.Colon) ∷ named name ∷ (parameters_pieces ps ++ condition_pieces c) in
+    let front : Pieces = whole 1 999999 id ∷ token NoneBefore (lexeme.Sign s.Colon) ∷ named name ∷ (parameters_pieces ps ++ condition_pieces c) in
     let e : rule_pieces (record { id = id; symbol = name; params = ps; cond = c; alternatives = [] }) ≡ front ++ (never ∷ []) =
-    rule_is _ ∙ ap (λ z. whole 1 999999 id ∷ token none_before (lexeme.Sign s.Colon) ∷ named name ∷ z) (sym (append_assoc (parameters_pieces ps) (condition_pieces c) (never ∷ []))) in
+    rule_is _ ∙ ap (λ z. whole 1 999999 id ∷ token NoneBefore (lexeme.Sign s.Colon) ∷ named name ∷ z) (sym (append_assoc (parameters_pieces ps) (condition_pieces c) (never ∷ []))) in
     let t = cut front (never ∷ []) x n d (subst (λ ps. Writes n ps x d) e w) in
     never_written t.2 [] t.1 d t.5
 

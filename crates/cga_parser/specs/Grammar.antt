@@ -17,8 +17,9 @@ use Rattle.cga_rule.specs.declared.cond.Test.TheVariants as t
 use Rattle.cga_word.specs.declared.axis.Axis.{Axis}
 use Rattle.cga_word.specs.declared.target.Target.{Target}
 use Rattle.cga_word.specs.declared.answer.Answer.{Answer}
-use Rattle.cga_parser.specs.declared.heads.ScopeWord.{ScopeWord}
-use Rattle.cga_parser.specs.declared.heads.ScopeWord.TheVariants as scope_word
+use Rattle.cga_syntax.specs.Limits.{last_id, last_edge, most_further, most_steps}
+use Rattle.cga_form.specs.declared.heads.ScopeWord.{ScopeWord}
+use Rattle.cga_form.specs.declared.heads.ScopeWord.TheVariants as scope_word
 use Rattle.std.specs.Prelude.{pos, ◌||◌}
 use Rattle.cga_fraction.specs.Rat.{Rat, of_int}
 use Rattle.cga_word.specs.declared.turn.Turn.{Turn}
@@ -33,14 +34,15 @@ use Rattle.cga_rule.specs.declared.item.Item.{Item}
 use Rattle.cga_rule.specs.declared.item.Item.TheVariants as i
 use Rattle.cga_rule.specs.declared.rule.Alternative.{Alternative}
 use Rattle.cga_rule.specs.declared.rule.Rule.{Rule}
-use Rattle.cga_parser.specs.declared.heads.ItemHead.{ItemHead}
-use Rattle.cga_parser.specs.declared.heads.ItemHead.TheVariants as item_head_of
-use Rattle.cga_parser.specs.declared.heads.SelectorHead.{SelectorHead}
-use Rattle.cga_parser.specs.declared.heads.SelectorHead.TheVariants as selector_head
+use Rattle.cga_form.specs.declared.heads.ItemHead.{ItemHead}
+use Rattle.cga_form.specs.declared.heads.ItemHead.TheVariants as item_head_of
+use Rattle.cga_form.specs.declared.heads.SelectorHead.{SelectorHead}
+use Rattle.cga_form.specs.declared.heads.SelectorHead.TheVariants as selector_head
 use Rattle.cga_form.specs.Reader.{Reader, ◌>>=◌, ◌>>◌, pure, refuse, single, enter, drawn_word, peeked, many, many_from}
-use Rattle.cga_parser.specs.Tokens.{is_sign, is_keyword, a_sign, a_keyword, a_name, a_whole, a_number, primary_head, size_axis, an_addition, a_scaling, a_relation, an_equality, a_target, a_state, a_scope_word, item_head, a_relative, is_relative, a_turn, a_ninety, an_axis, a_solid, a_side, a_selector}
-use Rattle.cga_parser.specs.declared.heads.PrimaryHead.{PrimaryHead}
-use Rattle.cga_parser.specs.declared.heads.PrimaryHead.TheVariants as head
+use Rattle.cga_form.specs.Tokens.{is_sign, is_keyword, a_sign, a_keyword, a_name, a_whole, a_number}
+use Rattle.cga_form.specs.Words.{primary_head, size_axis, an_addition, a_scaling, a_relation, an_equality, a_target, a_state, a_scope_word, item_head, a_relative, is_relative, a_turn, a_ninety, an_axis, a_solid, a_side, a_selector}
+use Rattle.cga_form.specs.declared.heads.PrimaryHead.{PrimaryHead}
+use Rattle.cga_form.specs.declared.heads.PrimaryHead.TheVariants as head
 pub use Rattle.cga_form.specs.Parts.{sign, any, finish}
 
 -- ---- expressions, where so many brackets may be opened and `inside` reads what stands in one
@@ -58,7 +60,7 @@ module _ (n : ℕ) (inside : Reader Expr) where
   unfoldable pub rand_parts : Reader (Expr × Expr × ℕ)
   rand_parts =
       enter (a_sign s.LeftRound) n
-      >> (inside >>= λ low. sign s.Comma >> (inside >>= λ high. sign s.Comma >> (single (a_whole 1 1000000) >>= λ steps. sign s.RightRound >> pure (low, high, steps))))
+      >> (inside >>= λ low. sign s.Comma >> (inside >>= λ high. sign s.Comma >> (single (a_whole 1 most_steps) >>= λ steps. sign s.RightRound >> pure (low, high, steps))))
 
   abbrev pub primary_rest : PrimaryHead → Reader Primary
   primary_rest (head.Number value) = pure (v.Number value)
@@ -124,7 +126,7 @@ module _ (n : ℕ) (inner : Reader Cond) where
   unfoldable pub occ_parts : Reader (Target × Bool × Answer)
   occ_parts = enter (a_sign s.LeftRound) n >> (single a_target >>= λ target. sign s.RightRound >> (single an_equality >>= λ equal. single a_state >>= λ state. pure (target, equal, state)))
 
-  -- behind `Scope.` and a word
+  -- after `Scope.` and a word
   abbrev pub scope_rest : ScopeWord → Reader Test
   scope_rest scope_word.Occ = occ_parts >>= λ p. pure (t.Occ p.0 p.1 p.2)
   scope_rest (scope_word.Size a) =
@@ -176,7 +178,7 @@ selector_rest selector_head.Faces = pure chosen.Faces
 selector_rest selector_head.Sidefaces = pure chosen.Sidefaces
 selector_rest selector_head.Face = sign s.Comma >> (single a_side >>= λ x. pure (chosen.Face x))
 selector_rest selector_head.Edges = pure chosen.Edges
-selector_rest selector_head.Edge = sign s.Comma >> (single (a_whole 1 12) >>= λ x. pure (chosen.Edge x))
+selector_rest selector_head.Edge = sign s.Comma >> (single (a_whole 1 last_edge) >>= λ x. pure (chosen.Edge x))
 selector_rest selector_head.Vertices = pure chosen.Vertices
 
 unfoldable pub selector : Reader Selector
@@ -223,7 +225,7 @@ module _ (n : ℕ) (inside : Reader Expr) where
 
   -- at most four
   unfoldable pub some_arguments : Reader (List Expr)
-  some_arguments = enter (a_sign s.LeftRound) n >> (inside >>= λ e. many_from (is_sign s.Comma) further_argument 3 [] >>= λ more. sign s.RightRound >> pure (e ∷ more))
+  some_arguments = enter (a_sign s.LeftRound) n >> (inside >>= λ e. many_from (is_sign s.Comma) further_argument most_further [] >>= λ more. sign s.RightRound >> pure (e ∷ more))
 
   unfoldable pub arguments : Reader (List Expr)
   arguments = peeked (is_sign s.LeftRound) some_arguments (pure [])
@@ -232,23 +234,23 @@ module _ (n : ℕ) (inside : Reader Expr) where
     unfoldable pub scoped : Reader (List Item)
     scoped = enter (a_sign s.LeftSquare) n >> (items_by inner >>= λ is. sign s.RightSquare >> pure is)
 
-    unfoldable pub block : Reader Body
-    block = enter (a_sign s.LeftCurly) n >> (body_by inner >>= λ is. sign s.RightCurly >> pure (roll-Body (record { items = is })))
+    unfoldable pub braced_body : Reader Body
+    braced_body = enter (a_sign s.LeftCurly) n >> (body_by inner >>= λ is. sign s.RightCurly >> pure (roll-Body (record { items = is })))
 
     unfoldable pub further_body : Reader Body
     further_body = sign s.Bar >> (body_by inner >>= λ is. pure (roll-Body (record { items = is })))
 
-    unfoldable pub blocks : Reader (List Body)
-    blocks = enter (a_sign s.LeftCurly) n >> (body_by inner >>= λ is. many (is_sign s.Bar) further_body >>= λ more. sign s.RightCurly >> pure (roll-Body (record { items = is }) ∷ more))
+    unfoldable pub braced_bodies : Reader (List Body)
+    braced_bodies = enter (a_sign s.LeftCurly) n >> (body_by inner >>= λ is. many (is_sign s.Bar) further_body >>= λ more. sign s.RightCurly >> pure (roll-Body (record { items = is }) ∷ more))
 
     abbrev pub item_rest : ItemHead → Reader Item
     item_rest item_head_of.Move = move_parts >>= λ p. pure (i.Move p.0 p.1 p.2)
     item_rest item_head_of.Resize = resize_parts >>= λ p. pure (i.Resize p.0 p.1 p.2)
     item_rest (item_head_of.Rotate a) = turn_part >>= λ t. pure (i.Rotate a t)
     item_rest item_head_of.Solid = solid_part >>= λ p. pure (i.Solid p)
-    item_rest item_head_of.Subdiv = split_parts >>= λ p. blocks >>= λ bs. pure (i.Subdiv p.0 p.1 bs)
-    item_rest item_head_of.Repeat = repeat_parts >>= λ p. block >>= λ b. pure (i.Repeat p.0 p.1 b)
-    item_rest item_head_of.Comp = selector_part >>= λ x. block >>= λ b. pure (i.Comp x b)
+    item_rest item_head_of.Subdiv = split_parts >>= λ p. braced_bodies >>= λ bs. pure (i.Subdiv p.0 p.1 bs)
+    item_rest item_head_of.Repeat = repeat_parts >>= λ p. braced_body >>= λ b. pure (i.Repeat p.0 p.1 b)
+    item_rest item_head_of.Comp = selector_part >>= λ x. braced_body >>= λ b. pure (i.Comp x b)
     item_rest (item_head_of.Child name) = arguments >>= λ es. pure (i.Child name es)
 
     unfoldable pub item_layer : Reader Item
@@ -269,7 +271,7 @@ unfoldable pub further_name : Reader (List ℕ)
 further_name = sign s.Comma >> (single a_name >>= λ x. pure x)
 
 unfoldable pub some_parameters : ℕ → Reader (List (List ℕ))
-some_parameters n = enter (a_sign s.LeftRound) n >> (single a_name >>= λ x. many_from (is_sign s.Comma) further_name 3 [] >>= λ more. sign s.RightRound >> pure (x ∷ more))
+some_parameters n = enter (a_sign s.LeftRound) n >> (single a_name >>= λ x. many_from (is_sign s.Comma) further_name most_further [] >>= λ more. sign s.RightRound >> pure (x ∷ more))
 
 unfoldable pub parameters : ℕ → Reader (List (List ℕ))
 parameters n = peeked (is_sign s.LeftRound) (some_parameters n) (pure [])
@@ -288,5 +290,5 @@ alternative n = sign s.Arrow >> (body_by (item n) >>= λ is. probability >>= λ 
 
 unfoldable pub rule : ℕ → Reader Rule
 rule n =
-    single (a_whole 1 999999) >>= λ id. sign s.Colon >> (single a_name >>= λ name. parameters n >>= λ ps. condition n >>= λ c.
+    single (a_whole 1 last_id) >>= λ id. sign s.Colon >> (single a_name >>= λ name. parameters n >>= λ ps. condition n >>= λ c.
     alternative n >>= λ a. many (is_sign s.Arrow) (alternative n) >>= λ more. pure (record { id = id; symbol = name; params = ps; cond = c; alternatives = a ∷ more }))

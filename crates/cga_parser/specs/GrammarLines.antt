@@ -3,14 +3,16 @@ use Rattle.std.specs.Prelude.{◌≡◌, ◌≤◌, ◌&&◌, ◌^◌, ◌+◌, 
 use Rattle.std.specs.List.{All}
 use Rattle.cga_fraction.specs.Texts.{exact_text_of}
 use Rattle.cga_syntax.specs.GrammarText.{line, has, priorities, grammar_text, ArePrintable}
+use Rattle.cga_syntax.specs.Limits.{last_priority}
 use Rattle.cga_syntax.specs.Pieces.{rule_pieces}
 use Rattle.cga_syntax.specs.Printing.{printed, text_of}
 use Rattle.cga_rule.specs.declared.grammar.Entry.{Entry}
 use Rattle.cga_rule.specs.declared.grammar.Grammar.{Grammar}
 use Rattle.cga_parser.specs.declared.block_line.BlockLine.{BlockLine}
 use Rattle.cga_parser.specs.declared.block_line.BlockLine.TheVariants as says
-use Rattle.cga_form.specs.BlockAnswers.{Line}
-use Rattle.cga_parser.specs.BlockAnswers.{BlockAnswers, EndsBlock, GrammarAnswers}
+use Rattle.cga_form.specs.Limits.{line_limit}
+use Rattle.cga_form.specs.Lines.{Line}
+use Rattle.cga_parser.specs.BlockTells.{BlockTells, EndsBlock, GrammarTells}
 
 -- ---- the entries in the order of the text
 
@@ -34,6 +36,7 @@ by_rank es = all_from (by_id es) 0 (2 ^ 16)
 
 -- ---- the lines
 
+-- the line of an entry
 abbrev pub rule_of : Entry → BlockLine
 rule_of e = says.Rule e.rule
 
@@ -52,10 +55,12 @@ line_text (says.Priority p) = codes "PRIORITY " ++ (decimal p ++ codes ":")
 line_text (says.Rule r) = text_of (printed (rule_pieces r))
 line_text says.End = codes "end"
 
+-- the text of lines
 abbrev pub lines_text : List BlockLine → List ℕ
 lines_text [] = []
 lines_text (b ∷ bs) = line (line_text b) ++ lines_text bs
 
+-- a line as it is given to a reader
 abbrev pub given : BlockLine → Line
 given b = record { bytes = line_text b; long = false }
 
@@ -63,13 +68,13 @@ given b = record { bytes = line_text b; long = false }
 
 -- some line says it
 abbrev pub IsSaid : BlockLine → Type 0
-IsSaid b = (l : Line) × BlockAnswers l (Ok (Some b))
+IsSaid b = (l : Line) × BlockTells l (Ok (Some b))
 
 -- each attribute and each rule is one that some line says, and each priority one that a line may have
 pub record IsSpelled (g : Grammar) : Type 0 where
   pub attributes : All (λ a. IsSaid (says.Attribute a)) g.attributes
   pub rules : All (λ e. IsSaid (rule_of e)) g.rules
-  pub priorities : All (λ (e : Entry). e.priority ≤ 65535) g.rules
+  pub priorities : All (λ (e : Entry). e.priority ≤ last_priority) g.rules
 
 -- the text is one line, without a control byte, and doesn't end a block
 abbrev pub IsInside : BlockLine → Type 0
@@ -77,13 +82,13 @@ IsInside b = All (λ byte. 32 ≤ byte) (line_text b) × (EndsBlock (given b) �
 
 -- no rule's text is too long for a line
 abbrev pub AreShort : List Entry → Type 0
-AreShort es = All (λ e. length (line_text (rule_of e)) ≤ 4096) es
+AreShort es = All (λ e. length (line_text (rule_of e)) ≤ line_limit) es
 
--- The grammar may be printed, and its text is these lines between `rules` and `end`. Where no rule is too long they are
--- answered by the grammar with its entries in the order of the text, which are the same entries.
+-- The grammar may be printed, and its text is these lines between `rules` and `end`. Where no rule is too long they tell
+-- the grammar with its entries in the order of the text, which are the same entries.
 pub record ReadsBack (g : Grammar) : Type 0 where
   pub printable : ArePrintable g.rules
   pub text : grammar_text g ≡ line (codes "rules") ++ (lines_text (said_of g) ++ line (codes "end"))
   pub inside : All IsInside (said_of g)
-  pub answered : AreShort g.rules → GrammarAnswers (map given (said_of g)) (Ok (record { attributes = g.attributes; rules = by_rank g.rules }))
+  pub told : AreShort g.rules → GrammarTells (map given (said_of g)) (Ok (record { attributes = g.attributes; rules = by_rank g.rules }))
   pub same : IsPermutation g.rules (by_rank g.rules)

@@ -1,6 +1,5 @@
-pub mod Tokens
 pub mod Grammar
 pub mod Blocks
-pub mod BlockAnswers
-pub mod Back
+pub mod BlockTells
+pub mod PrintedRules
 pub mod GrammarLines

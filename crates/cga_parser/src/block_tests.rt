@@ -1,6 +1,5 @@
 use crate::grammars::{BASE_AND_TOP, TOWN, WINDOW};
-use crate::{BlockLine, grammar_reader, read_block_line};
-use cga_form::{BlockFault, LineFault};
+use crate::{BlockLine, GrammarFault, GrammarReader, LineFault, read_block_line};
 use cga_fraction::Fraction;
 use cga_syntax::Grammar;
 use std::alloc::Global;
@@ -106,8 +105,8 @@ fn the_first_fault_of_a_line_is_told(mut rt: HostRuntime) -> Result<(), Fail> {
 }
 
 /// The lines without the last LF, one after the other. A line of stars is a long one.
-fn read(alloc: Global, text: &str) -> Result<Result<Grammar, BlockFault>, Fail> {
-    let mut reader = grammar_reader(alloc);
+fn read(alloc: Global, text: &str) -> Result<Result<Grammar, GrammarFault>, Fail> {
+    let mut reader = GrammarReader::new(alloc);
     for line in text.split('\n') {
         reader.line(line.as_bytes(), line == "***")?;
     }
@@ -148,7 +147,7 @@ fn the_first_faulty_line_is_told(mut rt: HostRuntime) -> Result<(), Fail> {
     for (text, line, fault) in table {
         match read(rt.alloc(), text)? {
             Ok(_) => assert!(rt; false, "{text}"),
-            Err(found) => assert_eq!(rt; found, BlockFault { line, fault }, "{text}"),
+            Err(found) => assert_eq!(rt; found, GrammarFault { line, fault }, "{text}"),
         }
     }
     Ok(())

@@ -1,16 +1,16 @@
 ghost use Rattle.std.specs.Prelude.{◌≡◌, ◌<◌};
-ghost use Rattle.cga_form.specs.Code.{input_of, Finds, Reads};
+ghost use Rattle.cga_form.specs.Cursor.{input_of, Finds, Reads};
 ghost use Rattle.cga_form.specs.Reader.{many};
 ghost use Rattle.cga_parser.specs.Grammar as spec;
-ghost use Rattle.cga_parser.specs.Tokens.{is_keyword};
+ghost use Rattle.cga_form.specs.Tokens.{is_keyword};
 
 use crate::expr::{all_added, all_scaled, expr};
 use crate::first::with_first;
-use crate::heads::ScopeWord;
-use crate::{texts, words};
-use cga_form::fault::{Fault, Stop};
+use cga_form::fault::Fault;
+use cga_form::heads::ScopeWord;
 use cga_form::tokens::Tokens;
-use cga_fraction::List;
+use cga_form::{texts, words};
+use cga_fraction::{List, Stop};
 use cga_lexer::Sign;
 use cga_syntax::{Cond, Conj, Expr, Factor, Keyword, Primary, Term, Test};
 use cga_word::{Answer, Axis, Target};
@@ -23,7 +23,7 @@ fn compare_after(
     tokens: &mut Tokens<'_>,
     depth: u8,
     left: Expr,
-) -> Result<Test, Stop>
+) -> Result<Test, Stop<Fault>>
     ensures { Reads (spec.compare_after depth (spec.inner_of depth) left (input_of tokens.old)) result (input_of tokens.new) }
 {
     let relation = tokens.take(words::relation(tokens.peek()))?;
@@ -48,7 +48,12 @@ fn occ_parts(tokens: &mut Tokens<'_>, depth: u8) -> Result<(Target, bool, Answer
 }
 
 /// A comparison that begins with a size of the scope.
-fn size_rest(alloc: Global, tokens: &mut Tokens<'_>, depth: u8, axis: Axis) -> Result<Test, Stop>
+fn size_rest(
+    alloc: Global,
+    tokens: &mut Tokens<'_>,
+    depth: u8,
+    axis: Axis,
+) -> Result<Test, Stop<Fault>>
     ensures { Reads (spec.scope_rest depth (spec.inner_of depth) (ScopeWord.Size axis) (input_of tokens.old)) result (input_of tokens.new) }
 {
     let factor = Factor {
@@ -63,13 +68,13 @@ fn size_rest(alloc: Global, tokens: &mut Tokens<'_>, depth: u8, axis: Axis) -> R
     compare_after(alloc, tokens, depth, Expr { first, rest })
 }
 
-/// What stands behind `Scope.` and a word.
+/// What stands after `Scope.` and a word.
 fn scope_rest(
     alloc: Global,
     tokens: &mut Tokens<'_>,
     depth: u8,
     word: ScopeWord,
-) -> Result<Test, Stop>
+) -> Result<Test, Stop<Fault>>
     ensures { Reads (spec.scope_rest depth (spec.inner_of depth) word (input_of tokens.old)) result (input_of tokens.new) }
 {
     match word {
@@ -87,7 +92,7 @@ fn scope_rest(
 
 /// A condition in one more bracket.
 #[cycle(cond)]
-fn inner(alloc: Global, tokens: &mut Tokens<'_>, depth: u8) -> Result<Cond, Stop>
+fn inner(alloc: Global, tokens: &mut Tokens<'_>, depth: u8) -> Result<Cond, Stop<Fault>>
     requires { 0 < depth }
     ensures { Reads (spec.inner_of depth (input_of tokens.old)) result (input_of tokens.new) }
 {
@@ -96,7 +101,7 @@ fn inner(alloc: Global, tokens: &mut Tokens<'_>, depth: u8) -> Result<Cond, Stop
 
 #[cycle(cond)]
 #[tactic(auto, unfolding(crate::specs::Grammar::square))]
-fn square(alloc: Global, tokens: &mut Tokens<'_>, depth: u8) -> Result<Cond, Stop>
+fn square(alloc: Global, tokens: &mut Tokens<'_>, depth: u8) -> Result<Cond, Stop<Fault>>
     ensures { Reads (spec.square depth (spec.inner_of depth) (input_of tokens.old)) result (input_of tokens.new) }
 {
     tokens.enter(Sign::LeftSquare, depth)?;
@@ -107,7 +112,7 @@ fn square(alloc: Global, tokens: &mut Tokens<'_>, depth: u8) -> Result<Cond, Sto
 
 #[cycle(cond)]
 #[tactic(auto, unfolding(crate::specs::Grammar::test))]
-fn test(alloc: Global, tokens: &mut Tokens<'_>, depth: u8) -> Result<Test, Stop>
+fn test(alloc: Global, tokens: &mut Tokens<'_>, depth: u8) -> Result<Test, Stop<Fault>>
     ensures { Reads (spec.test depth (spec.inner_of depth) (input_of tokens.old)) result (input_of tokens.new) }
 {
     if tokens.at_sign(Sign::LeftSquare) {
@@ -129,7 +134,7 @@ fn test(alloc: Global, tokens: &mut Tokens<'_>, depth: u8) -> Result<Test, Stop>
 
 #[cycle(cond)]
 #[tactic(auto, unfolding(crate::specs::Grammar::further_test))]
-fn further_test(alloc: Global, tokens: &mut Tokens<'_>, depth: u8) -> Result<Test, Stop>
+fn further_test(alloc: Global, tokens: &mut Tokens<'_>, depth: u8) -> Result<Test, Stop<Fault>>
     ensures { Reads (spec.further_test depth (spec.inner_of depth) (input_of tokens.old)) result (input_of tokens.new) }
 {
     tokens.keyword(Keyword::And)?;
@@ -137,7 +142,11 @@ fn further_test(alloc: Global, tokens: &mut Tokens<'_>, depth: u8) -> Result<Tes
 }
 
 #[cycle(cond)]
-fn further_tests(alloc: Global, tokens: &mut Tokens<'_>, depth: u8) -> Result<List<Test>, Stop>
+fn further_tests(
+    alloc: Global,
+    tokens: &mut Tokens<'_>,
+    depth: u8,
+) -> Result<List<Test>, Stop<Fault>>
     ensures { Reads (many (is_keyword Keyword.And) (spec.further_test depth (spec.inner_of depth)) (input_of tokens.old)) result (input_of tokens.new) }
 {
     let mut rest = List::new(alloc);
@@ -150,7 +159,7 @@ fn further_tests(alloc: Global, tokens: &mut Tokens<'_>, depth: u8) -> Result<Li
 
 #[cycle(cond)]
 #[tactic(auto, unfolding(crate::specs::Grammar::conj))]
-fn conj(alloc: Global, tokens: &mut Tokens<'_>, depth: u8) -> Result<Conj, Stop>
+fn conj(alloc: Global, tokens: &mut Tokens<'_>, depth: u8) -> Result<Conj, Stop<Fault>>
     ensures { Reads (spec.conj depth (spec.inner_of depth) (input_of tokens.old)) result (input_of tokens.new) }
 {
     let first = test(alloc, tokens, depth)?;
@@ -161,7 +170,7 @@ fn conj(alloc: Global, tokens: &mut Tokens<'_>, depth: u8) -> Result<Conj, Stop>
 
 #[cycle(cond)]
 #[tactic(auto, unfolding(crate::specs::Grammar::further_conj))]
-fn further_conj(alloc: Global, tokens: &mut Tokens<'_>, depth: u8) -> Result<Conj, Stop>
+fn further_conj(alloc: Global, tokens: &mut Tokens<'_>, depth: u8) -> Result<Conj, Stop<Fault>>
     ensures { Reads (spec.further_conj depth (spec.inner_of depth) (input_of tokens.old)) result (input_of tokens.new) }
 {
     tokens.keyword(Keyword::Or)?;
@@ -169,7 +178,11 @@ fn further_conj(alloc: Global, tokens: &mut Tokens<'_>, depth: u8) -> Result<Con
 }
 
 #[cycle(cond)]
-fn further_conjs(alloc: Global, tokens: &mut Tokens<'_>, depth: u8) -> Result<List<Conj>, Stop>
+fn further_conjs(
+    alloc: Global,
+    tokens: &mut Tokens<'_>,
+    depth: u8,
+) -> Result<List<Conj>, Stop<Fault>>
     ensures { Reads (many (is_keyword Keyword.Or) (spec.further_conj depth (spec.inner_of depth)) (input_of tokens.old)) result (input_of tokens.new) }
 {
     let mut rest = List::new(alloc);
@@ -183,7 +196,7 @@ fn further_conjs(alloc: Global, tokens: &mut Tokens<'_>, depth: u8) -> Result<Li
 /// A condition, where so many brackets may be opened.
 #[cycle(cond)]
 #[tactic(auto, unfolding(crate::specs::Grammar::cond, crate::specs::Grammar::cond_layer))]
-pub(crate) fn cond(alloc: Global, tokens: &mut Tokens<'_>, depth: u8) -> Result<Cond, Stop>
+pub(crate) fn cond(alloc: Global, tokens: &mut Tokens<'_>, depth: u8) -> Result<Cond, Stop<Fault>>
     ensures { Reads (spec.cond depth (input_of tokens.old)) result (input_of tokens.new) }
 {
     let first = conj(alloc, tokens, depth)?;

@@ -1,20 +1,21 @@
 ghost use Rattle.std.specs.Prelude.{◌≡◌, ◌<◌};
-ghost use Rattle.cga_form.specs.Code.{input_of, Reads};
+ghost use Rattle.cga_form.specs.Cursor.{input_of, Reads};
 ghost use Rattle.cga_form.specs.Reader.{begins, many};
 ghost use Rattle.cga_parser.specs.Grammar as spec;
 
-use crate::heads::PrimaryHead;
-use crate::{numbers, words};
-use cga_form::fault::Stop;
+use cga_form::fault::Fault;
+use cga_form::heads::PrimaryHead;
 use cga_form::tokens::Tokens;
-use cga_fraction::{Boxed, List};
+use cga_form::{numbers, words};
+use cga_fraction::{Boxed, List, Stop};
 use cga_lexer::Sign;
+use cga_syntax::limits::MOST_STEPS;
 use cga_syntax::{Added, Expr, Factor, Keyword, Primary, Scaled, Term};
 use std::alloc::Global;
 
 /// An expression in one more bracket.
 #[cycle(expr)]
-pub(crate) fn inside(alloc: Global, tokens: &mut Tokens<'_>, depth: u8) -> Result<Expr, Stop>
+pub(crate) fn inside(alloc: Global, tokens: &mut Tokens<'_>, depth: u8) -> Result<Expr, Stop<Fault>>
     requires { 0 < depth }
     ensures { Reads (spec.inside_of depth (input_of tokens.old)) result (input_of tokens.new) }
 {
@@ -23,7 +24,7 @@ pub(crate) fn inside(alloc: Global, tokens: &mut Tokens<'_>, depth: u8) -> Resul
 
 #[cycle(expr)]
 #[tactic(auto, unfolding(crate::specs::Grammar::group))]
-fn group(alloc: Global, tokens: &mut Tokens<'_>, depth: u8) -> Result<Expr, Stop>
+fn group(alloc: Global, tokens: &mut Tokens<'_>, depth: u8) -> Result<Expr, Stop<Fault>>
     ensures { Reads (spec.group depth (spec.inside_of depth) (input_of tokens.old)) result (input_of tokens.new) }
 {
     tokens.enter(Sign::LeftRound, depth)?;
@@ -39,7 +40,7 @@ fn rand_parts(
     alloc: Global,
     tokens: &mut Tokens<'_>,
     depth: u8,
-) -> Result<(Boxed<Expr>, Boxed<Expr>, u32), Stop>
+) -> Result<(Boxed<Expr>, Boxed<Expr>, u32), Stop<Fault>>
     ensures { Reads (spec.rand_parts depth (spec.inside_of depth) (input_of tokens.old)) result (input_of tokens.new) }
 {
     tokens.enter(Sign::LeftRound, depth)?;
@@ -47,14 +48,14 @@ fn rand_parts(
     tokens.sign(Sign::Comma)?;
     let high = Boxed::new(alloc, inside(alloc, tokens, depth)?)?;
     tokens.sign(Sign::Comma)?;
-    let steps = tokens.take(cga_form::numbers::whole(tokens.peek(), 1, 1_000_000))?;
+    let steps = tokens.take(numbers::whole(tokens.peek(), 1, MOST_STEPS))?;
     tokens.sign(Sign::RightRound)?;
     Ok((low, high, steps))
 }
 
 #[cycle(expr)]
 #[tactic(auto, unfolding(crate::specs::Grammar::primary))]
-fn primary(alloc: Global, tokens: &mut Tokens<'_>, depth: u8) -> Result<Primary, Stop>
+fn primary(alloc: Global, tokens: &mut Tokens<'_>, depth: u8) -> Result<Primary, Stop<Fault>>
     ensures { Reads (spec.primary depth (spec.inside_of depth) (input_of tokens.old)) result (input_of tokens.new) }
 {
     if tokens.at_sign(Sign::LeftRound) {
@@ -81,7 +82,7 @@ fn primary_rest(
     tokens: &mut Tokens<'_>,
     depth: u8,
     head: PrimaryHead,
-) -> Result<Primary, Stop>
+) -> Result<Primary, Stop<Fault>>
     ensures { Reads (spec.primary_rest depth (spec.inside_of depth) head (input_of tokens.old)) result (input_of tokens.new) }
 {
     match head {
@@ -104,7 +105,12 @@ fn primary_rest(
 }
 
 #[cycle(expr)]
-fn signed(alloc: Global, tokens: &mut Tokens<'_>, depth: u8, minus: bool) -> Result<Factor, Stop>
+fn signed(
+    alloc: Global,
+    tokens: &mut Tokens<'_>,
+    depth: u8,
+    minus: bool,
+) -> Result<Factor, Stop<Fault>>
     ensures { Reads (spec.signed depth (spec.inside_of depth) minus (input_of tokens.old)) result (input_of tokens.new) }
 {
     let primary = primary(alloc, tokens, depth)?;
@@ -113,7 +119,7 @@ fn signed(alloc: Global, tokens: &mut Tokens<'_>, depth: u8, minus: bool) -> Res
 
 #[cycle(expr)]
 #[tactic(auto, unfolding(crate::specs::Grammar::factor))]
-fn factor(alloc: Global, tokens: &mut Tokens<'_>, depth: u8) -> Result<Factor, Stop>
+fn factor(alloc: Global, tokens: &mut Tokens<'_>, depth: u8) -> Result<Factor, Stop<Fault>>
     ensures { Reads (spec.factor depth (spec.inside_of depth) (input_of tokens.old)) result (input_of tokens.new) }
 {
     if tokens.at_sign(Sign::Minus) {
@@ -137,7 +143,7 @@ fn begins_added(tokens: &Tokens<'_>) -> bool
 
 #[cycle(expr)]
 #[tactic(auto, unfolding(crate::specs::Grammar::scaled))]
-fn scaled(alloc: Global, tokens: &mut Tokens<'_>, depth: u8) -> Result<Scaled, Stop>
+fn scaled(alloc: Global, tokens: &mut Tokens<'_>, depth: u8) -> Result<Scaled, Stop<Fault>>
     ensures { Reads (spec.scaled depth (spec.inside_of depth) (input_of tokens.old)) result (input_of tokens.new) }
 {
     let divide = tokens.take(words::scaling(tokens.peek()))?;
@@ -150,7 +156,7 @@ pub(crate) fn all_scaled(
     alloc: Global,
     tokens: &mut Tokens<'_>,
     depth: u8,
-) -> Result<List<Scaled>, Stop>
+) -> Result<List<Scaled>, Stop<Fault>>
     ensures { Reads (many spec.is_scaling (spec.scaled depth (spec.inside_of depth)) (input_of tokens.old)) result (input_of tokens.new) }
 {
     let mut rest = List::new(alloc);
@@ -163,7 +169,7 @@ pub(crate) fn all_scaled(
 
 #[cycle(expr)]
 #[tactic(auto, unfolding(crate::specs::Grammar::term))]
-fn term(alloc: Global, tokens: &mut Tokens<'_>, depth: u8) -> Result<Term, Stop>
+fn term(alloc: Global, tokens: &mut Tokens<'_>, depth: u8) -> Result<Term, Stop<Fault>>
     ensures { Reads (spec.term depth (spec.inside_of depth) (input_of tokens.old)) result (input_of tokens.new) }
 {
     let first = factor(alloc, tokens, depth)?;
@@ -173,7 +179,7 @@ fn term(alloc: Global, tokens: &mut Tokens<'_>, depth: u8) -> Result<Term, Stop>
 
 #[cycle(expr)]
 #[tactic(auto, unfolding(crate::specs::Grammar::added))]
-fn added(alloc: Global, tokens: &mut Tokens<'_>, depth: u8) -> Result<Added, Stop>
+fn added(alloc: Global, tokens: &mut Tokens<'_>, depth: u8) -> Result<Added, Stop<Fault>>
     ensures { Reads (spec.added depth (spec.inside_of depth) (input_of tokens.old)) result (input_of tokens.new) }
 {
     let minus = tokens.take(words::addition(tokens.peek()))?;
@@ -186,7 +192,7 @@ pub(crate) fn all_added(
     alloc: Global,
     tokens: &mut Tokens<'_>,
     depth: u8,
-) -> Result<List<Added>, Stop>
+) -> Result<List<Added>, Stop<Fault>>
     ensures { Reads (many spec.is_addition (spec.added depth (spec.inside_of depth)) (input_of tokens.old)) result (input_of tokens.new) }
 {
     let mut rest = List::new(alloc);
@@ -200,7 +206,7 @@ pub(crate) fn all_added(
 /// An expression, where so many brackets may be opened.
 #[cycle(expr)]
 #[tactic(auto, unfolding(crate::specs::Grammar::expr, crate::specs::Grammar::expr_layer))]
-pub(crate) fn expr(alloc: Global, tokens: &mut Tokens<'_>, depth: u8) -> Result<Expr, Stop>
+pub(crate) fn expr(alloc: Global, tokens: &mut Tokens<'_>, depth: u8) -> Result<Expr, Stop<Fault>>
     ensures { Reads (spec.expr depth (input_of tokens.old)) result (input_of tokens.new) }
 {
     let first = term(alloc, tokens, depth)?;

@@ -1,17 +1,19 @@
 ghost use Rattle.std.specs.Prelude.{◌≡◌, ◌++◌, ◌∷◌, [], List, Option, IfOk, OnOk};
 ghost use Rattle.cga_parser.specs.declared.block_line.BlockLine.{BlockLine};
-ghost use Rattle.cga_form.specs.BlockAnswers.{StandsFor};
-ghost use Rattle.cga_parser.specs.BlockAnswers.{BlockAnswers, Adds, Holds, grammar_of};
+ghost use Rattle.cga_parser.specs.BlockTells.{BlockTells, Adds, Holds, grammar_of};
 ghost use Rattle.cga_parser.specs.Blocks as spec;
 
 use crate::block::block;
 use crate::block_line::BlockLine;
-use cga_form::fault::Stop;
+use cga_form::fault::Fault;
 use cga_form::tokens::Tokens;
-use cga_form::{BlockReader, Form, Gather, LineFault};
-use cga_fraction::{List, NoMemory};
+use cga_form::{BlockFault, BlockReader, Form, Gather, LineFault};
+use cga_fraction::{List, NoMemory, Stop};
 use cga_syntax::{Attribute, Entry, Grammar};
 use std::alloc::Global;
+
+/// The priority of a rule before the first line with a priority.
+const FIRST_PRIORITY: u16 = 1;
 
 /// The attributes and rules of the lines of a block so far, and the last priority.
 #[derive(Drop)]
@@ -22,7 +24,7 @@ pub struct Gathered {
 }
 
 impl Gathered {
-    #[tactic(auto, unfolding(crate::specs::BlockAnswers::attributes_of, crate::specs::BlockAnswers::entries_from, crate::specs::BlockAnswers::priority_after))]
+    #[tactic(auto, unfolding(crate::specs::BlockTells::attributes_of, crate::specs::BlockTells::entries_from, crate::specs::BlockTells::priority_after))]
     fn take(&mut self, said: Option<BlockLine>) -> Result<(), NoMemory>
         ensures { OnOk result (Adds self.old said self.new) }
     {
@@ -46,11 +48,11 @@ impl Form for Gathered {
 
     ghost reader = { spec.block };
 
-    fn read(alloc: Global, tokens: &mut Tokens<'_>, depth: u8) -> Result<BlockLine, Stop> {
+    fn read(alloc: Global, tokens: &mut Tokens<'_>, depth: u8) -> Result<BlockLine, Stop<Fault>> {
         block(alloc, tokens, depth)
     }
 
-    #[tactic(auto, using(crate::proofs::TheForms::block_form))]
+    #[tactic(auto, using(crate::proofs::AreForms::block_form))]
     fn is_form() {}
 }
 
@@ -61,7 +63,18 @@ impl Gather for Gathered {
 
     ghost says = { grammar_of };
 
-    #[tactic(auto, using(crate::proofs::More::holds_more))]
+    #[tactic(auto, unfolding(crate::specs::BlockTells::attributes_of, crate::specs::BlockTells::entries_from, crate::specs::BlockTells::priority_after))]
+    fn empty(alloc: Global) -> Gathered
+        ensures { Holds result [] }
+    {
+        Gathered {
+            priority: FIRST_PRIORITY,
+            attributes: List::new(alloc),
+            rules: List::new(alloc),
+        }
+    }
+
+    #[tactic(auto, using(crate::proofs::Additions::holds_more))]
     fn add(&mut self, said: Option<BlockLine>) -> Result<(), NoMemory>
         ensures { (all : List (Option BlockLine)) → Holds self.old all → OnOk result (Holds self.new (all ++ said ∷ [])) }
     {
@@ -78,18 +91,12 @@ impl Gather for Gathered {
     }
 }
 
-/// A reader of no lines yet. Takes no memory.
-#[tactic(auto, unfolding(crate::specs::BlockAnswers::attributes_of, crate::specs::BlockAnswers::entries_from, crate::specs::BlockAnswers::priority_after))]
-pub fn grammar_reader(alloc: Global) -> BlockReader<Gathered>
-    ensures { StandsFor spec.block_pieces Holds result [] }
-{
-    let empty = Gathered {
-        priority: 1,
-        attributes: List::new(alloc),
-        rules: List::new(alloc),
-    };
-    BlockReader::new(alloc, empty)
-}
+/// Reads the lines of a block of rules one after the other: `new` takes none yet, `line` the next
+/// one, and `finish` says which grammar they are, or which is the first faulty line.
+pub type GrammarReader = BlockReader<Gathered>;
+
+/// The first faulty line of a block of rules.
+pub type GrammarFault = BlockFault;
 
 /// What a line of a block says, or its first fault; None where it is blank. A line that is said to
 /// be long, or has more than 4,096 bytes, isn't looked at.
@@ -98,7 +105,7 @@ pub fn read_block_line(
     line: &[u8],
     long: bool,
 ) -> Result<Result<Option<BlockLine>, LineFault>, NoMemory>
-    ensures { IfOk result (λ found. BlockAnswers (record { bytes = line.now; long = long }) found) }
+    ensures { IfOk result (λ found. BlockTells (record { bytes = line.now; long = long }) found) }
 {
     cga_form::read_block_line::<Gathered>(alloc, line, long)
 }

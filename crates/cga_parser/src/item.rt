@@ -1,16 +1,17 @@
 ghost use Rattle.std.specs.Prelude.{◌≡◌, ◌<◌};
-ghost use Rattle.cga_form.specs.Code.{input_of, Reads};
+ghost use Rattle.cga_form.specs.Cursor.{input_of, Reads};
 ghost use Rattle.cga_form.specs.Reader.{begins, many};
 ghost use Rattle.cga_parser.specs.Grammar as spec;
-ghost use Rattle.cga_parser.specs.Tokens.{is_sign};
+ghost use Rattle.cga_form.specs.Tokens.{is_sign};
 ghost use Rattle.cga_lexer.specs.declared.sign.Sign.TheVariants as sign;
 
 use crate::first::with_first;
-use crate::heads::ItemHead;
-use crate::{parts, words};
-use cga_form::fault::Stop;
+use crate::parts;
+use cga_form::fault::Fault;
+use cga_form::heads::ItemHead;
 use cga_form::tokens::Tokens;
-use cga_fraction::List;
+use cga_form::words;
+use cga_fraction::{List, Stop};
 use cga_lexer::Sign;
 use cga_syntax::{Body, Item, Keyword};
 use std::alloc::Global;
@@ -23,7 +24,7 @@ fn begins_item(tokens: &Tokens<'_>) -> bool
 
 /// An item in one more bracket.
 #[cycle(item)]
-fn inner(alloc: Global, tokens: &mut Tokens<'_>, depth: u8) -> Result<Item, Stop>
+fn inner(alloc: Global, tokens: &mut Tokens<'_>, depth: u8) -> Result<Item, Stop<Fault>>
     requires { 0 < depth }
     ensures { Reads (spec.inner_item depth (input_of tokens.old)) result (input_of tokens.new) }
 {
@@ -31,7 +32,11 @@ fn inner(alloc: Global, tokens: &mut Tokens<'_>, depth: u8) -> Result<Item, Stop
 }
 
 #[cycle(item)]
-fn further_inner(alloc: Global, tokens: &mut Tokens<'_>, depth: u8) -> Result<List<Item>, Stop>
+fn further_inner(
+    alloc: Global,
+    tokens: &mut Tokens<'_>,
+    depth: u8,
+) -> Result<List<Item>, Stop<Fault>>
     requires { 0 < depth }
     ensures { Reads (many spec.begins_item (spec.inner_item depth) (input_of tokens.old)) result (input_of tokens.new) }
 {
@@ -44,7 +49,7 @@ fn further_inner(alloc: Global, tokens: &mut Tokens<'_>, depth: u8) -> Result<Li
 }
 
 #[cycle(item)]
-fn inner_items(alloc: Global, tokens: &mut Tokens<'_>, depth: u8) -> Result<List<Item>, Stop>
+fn inner_items(alloc: Global, tokens: &mut Tokens<'_>, depth: u8) -> Result<List<Item>, Stop<Fault>>
     requires { 0 < depth }
     ensures { Reads (spec.items_by (spec.inner_item depth) (input_of tokens.old)) result (input_of tokens.new) }
 {
@@ -55,7 +60,7 @@ fn inner_items(alloc: Global, tokens: &mut Tokens<'_>, depth: u8) -> Result<List
 }
 
 #[cycle(item)]
-fn inner_body(alloc: Global, tokens: &mut Tokens<'_>, depth: u8) -> Result<List<Item>, Stop>
+fn inner_body(alloc: Global, tokens: &mut Tokens<'_>, depth: u8) -> Result<List<Item>, Stop<Fault>>
     requires { 0 < depth }
     ensures { Reads (spec.body_by (spec.inner_item depth) (input_of tokens.old)) result (input_of tokens.new) }
 {
@@ -68,7 +73,7 @@ fn inner_body(alloc: Global, tokens: &mut Tokens<'_>, depth: u8) -> Result<List<
 
 #[cycle(item)]
 #[tactic(auto, unfolding(crate::specs::Grammar::scoped))]
-fn scoped(alloc: Global, tokens: &mut Tokens<'_>, depth: u8) -> Result<List<Item>, Stop>
+fn scoped(alloc: Global, tokens: &mut Tokens<'_>, depth: u8) -> Result<List<Item>, Stop<Fault>>
     ensures { Reads (spec.scoped depth (spec.inside_of depth) (spec.inner_item depth) (input_of tokens.old)) result (input_of tokens.new) }
 {
     tokens.enter(Sign::LeftSquare, depth)?;
@@ -78,9 +83,9 @@ fn scoped(alloc: Global, tokens: &mut Tokens<'_>, depth: u8) -> Result<List<Item
 }
 
 #[cycle(item)]
-#[tactic(auto, unfolding(crate::specs::Grammar::block))]
-fn block(alloc: Global, tokens: &mut Tokens<'_>, depth: u8) -> Result<Body, Stop>
-    ensures { Reads (spec.block depth (spec.inside_of depth) (spec.inner_item depth) (input_of tokens.old)) result (input_of tokens.new) }
+#[tactic(auto, unfolding(crate::specs::Grammar::braced_body))]
+fn braced_body(alloc: Global, tokens: &mut Tokens<'_>, depth: u8) -> Result<Body, Stop<Fault>>
+    ensures { Reads (spec.braced_body depth (spec.inside_of depth) (spec.inner_item depth) (input_of tokens.old)) result (input_of tokens.new) }
 {
     tokens.enter(Sign::LeftCurly, depth)?;
     let items = inner_body(alloc, tokens, depth)?;
@@ -90,7 +95,7 @@ fn block(alloc: Global, tokens: &mut Tokens<'_>, depth: u8) -> Result<Body, Stop
 
 #[cycle(item)]
 #[tactic(auto, unfolding(crate::specs::Grammar::further_body))]
-fn further_body(alloc: Global, tokens: &mut Tokens<'_>, depth: u8) -> Result<Body, Stop>
+fn further_body(alloc: Global, tokens: &mut Tokens<'_>, depth: u8) -> Result<Body, Stop<Fault>>
     requires { 0 < depth }
     ensures { Reads (spec.further_body depth (spec.inside_of depth) (spec.inner_item depth) (input_of tokens.old)) result (input_of tokens.new) }
 {
@@ -100,7 +105,11 @@ fn further_body(alloc: Global, tokens: &mut Tokens<'_>, depth: u8) -> Result<Bod
 }
 
 #[cycle(item)]
-fn further_bodies(alloc: Global, tokens: &mut Tokens<'_>, depth: u8) -> Result<List<Body>, Stop>
+fn further_bodies(
+    alloc: Global,
+    tokens: &mut Tokens<'_>,
+    depth: u8,
+) -> Result<List<Body>, Stop<Fault>>
     requires { 0 < depth }
     ensures { Reads (many (is_sign sign.Bar) (spec.further_body depth (spec.inside_of depth) (spec.inner_item depth)) (input_of tokens.old)) result (input_of tokens.new) }
 {
@@ -113,9 +122,13 @@ fn further_bodies(alloc: Global, tokens: &mut Tokens<'_>, depth: u8) -> Result<L
 }
 
 #[cycle(item)]
-#[tactic(auto, unfolding(crate::specs::Grammar::blocks))]
-fn blocks(alloc: Global, tokens: &mut Tokens<'_>, depth: u8) -> Result<List<Body>, Stop>
-    ensures { Reads (spec.blocks depth (spec.inside_of depth) (spec.inner_item depth) (input_of tokens.old)) result (input_of tokens.new) }
+#[tactic(auto, unfolding(crate::specs::Grammar::braced_bodies))]
+fn braced_bodies(
+    alloc: Global,
+    tokens: &mut Tokens<'_>,
+    depth: u8,
+) -> Result<List<Body>, Stop<Fault>>
+    ensures { Reads (spec.braced_bodies depth (spec.inside_of depth) (spec.inner_item depth) (input_of tokens.old)) result (input_of tokens.new) }
 {
     tokens.enter(Sign::LeftCurly, depth)?;
     let items = inner_body(alloc, tokens, depth)?;
@@ -125,14 +138,14 @@ fn blocks(alloc: Global, tokens: &mut Tokens<'_>, depth: u8) -> Result<List<Body
     Ok(bodies)
 }
 
-/// What stands behind the word of an item.
+/// What stands after the word of an item.
 #[cycle(item)]
 fn item_rest(
     alloc: Global,
     tokens: &mut Tokens<'_>,
     depth: u8,
     head: ItemHead,
-) -> Result<Item, Stop>
+) -> Result<Item, Stop<Fault>>
     ensures { Reads (spec.item_rest depth (spec.inside_of depth) (spec.inner_item depth) head (input_of tokens.old)) result (input_of tokens.new) }
 {
     match head {
@@ -151,7 +164,7 @@ fn item_rest(
         ItemHead::Solid => Ok(Item::Solid(parts::solid_part(tokens, depth)?)),
         ItemHead::Subdiv => {
             let (axis, sizes) = parts::split_parts(alloc, tokens, depth)?;
-            let bodies = blocks(alloc, tokens, depth)?;
+            let bodies = braced_bodies(alloc, tokens, depth)?;
             Ok(Item::Subdiv {
                 axis,
                 sizes,
@@ -160,12 +173,12 @@ fn item_rest(
         }
         ItemHead::Repeat => {
             let (axis, length) = parts::repeat_parts(alloc, tokens, depth)?;
-            let body = block(alloc, tokens, depth)?;
+            let body = braced_body(alloc, tokens, depth)?;
             Ok(Item::Repeat { axis, length, body })
         }
         ItemHead::Comp => {
             let selector = parts::selector_part(tokens, depth)?;
-            let body = block(alloc, tokens, depth)?;
+            let body = braced_body(alloc, tokens, depth)?;
             Ok(Item::Comp { selector, body })
         }
         ItemHead::Child(symbol) => {
@@ -178,7 +191,7 @@ fn item_rest(
 /// An item, where so many brackets may be opened.
 #[cycle(item)]
 #[tactic(auto, unfolding(crate::specs::Grammar::item, crate::specs::Grammar::item_layer))]
-fn item(alloc: Global, tokens: &mut Tokens<'_>, depth: u8) -> Result<Item, Stop>
+fn item(alloc: Global, tokens: &mut Tokens<'_>, depth: u8) -> Result<Item, Stop<Fault>>
     ensures { Reads (spec.item depth (input_of tokens.old)) result (input_of tokens.new) }
 {
     if tokens.at_sign(Sign::LeftSquare) {
@@ -188,7 +201,11 @@ fn item(alloc: Global, tokens: &mut Tokens<'_>, depth: u8) -> Result<Item, Stop>
     item_rest(alloc, tokens, depth, head)
 }
 
-fn further_items(alloc: Global, tokens: &mut Tokens<'_>, depth: u8) -> Result<List<Item>, Stop>
+fn further_items(
+    alloc: Global,
+    tokens: &mut Tokens<'_>,
+    depth: u8,
+) -> Result<List<Item>, Stop<Fault>>
     ensures { Reads (many spec.begins_item (spec.item depth) (input_of tokens.old)) result (input_of tokens.new) }
 {
     let mut rest = List::new(alloc);
@@ -199,7 +216,7 @@ fn further_items(alloc: Global, tokens: &mut Tokens<'_>, depth: u8) -> Result<Li
     Ok(rest)
 }
 
-fn items(alloc: Global, tokens: &mut Tokens<'_>, depth: u8) -> Result<List<Item>, Stop>
+fn items(alloc: Global, tokens: &mut Tokens<'_>, depth: u8) -> Result<List<Item>, Stop<Fault>>
     ensures { Reads (spec.items_by (spec.item depth) (input_of tokens.old)) result (input_of tokens.new) }
 {
     let first = item(alloc, tokens, depth)?;
@@ -209,7 +226,11 @@ fn items(alloc: Global, tokens: &mut Tokens<'_>, depth: u8) -> Result<List<Item>
 }
 
 /// Items, or `NIL`, where so many brackets may be opened.
-pub(crate) fn body(alloc: Global, tokens: &mut Tokens<'_>, depth: u8) -> Result<List<Item>, Stop>
+pub(crate) fn body(
+    alloc: Global,
+    tokens: &mut Tokens<'_>,
+    depth: u8,
+) -> Result<List<Item>, Stop<Fault>>
     ensures { Reads (spec.body_by (spec.item depth) (input_of tokens.old)) result (input_of tokens.new) }
 {
     if tokens.at_keyword(Keyword::Nil) {

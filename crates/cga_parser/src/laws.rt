@@ -1,8 +1,8 @@
 //! What the definitions say of themselves.
 ghost use Rattle.std.specs.Prelude.{◌≡◌, ◌↔◌, ℕ, List, Option, Result, Ok, Some};
-ghost use Rattle.cga_form.specs.LineAnswers.{LineAnswers};
-ghost use Rattle.cga_parser.specs.BlockAnswers.{BlockAnswers, EndsBlock, GrammarAnswers};
-ghost use Rattle.cga_form.specs.BlockAnswers.{Line};
+ghost use Rattle.cga_form.specs.LineTells.{LineTells};
+ghost use Rattle.cga_parser.specs.BlockTells.{BlockTells, EndsBlock, GrammarTells};
+ghost use Rattle.cga_form.specs.Lines.{Line};
 ghost use Rattle.cga_parser.specs.Blocks.{block_pieces};
 ghost use Rattle.cga_parser.specs.declared.block_line.BlockLine.{BlockLine};
 ghost use Rattle.cga_parser.specs.declared.block_line.BlockLine.TheVariants.{End};
@@ -24,14 +24,14 @@ pub fn spells_one_line()
     ensures { (text : List Lexeme) (a b : BlockLine) → Spelled block_pieces text a → Spelled block_pieces text b → a ≡ b }
 {}
 
-/// A line, and the lines of a block, have one answer, be it a value or a fault with its place.
-pub fn answers_once()
-    ensures rule { (line : List ℕ) (a b : Result Rule LineFault) → LineAnswers rule_pieces line a → LineAnswers rule_pieces line b → a ≡ b }
-    ensures line { (line : Line) (a b : Result (Option BlockLine) LineFault) → BlockAnswers line a → BlockAnswers line b → a ≡ b }
-    ensures lines { (lines : List Line) (a b : Result Grammar BlockFault) → GrammarAnswers lines a → GrammarAnswers lines b → a ≡ b }
+/// A line, and the lines of a block, tell one thing, be it a value or a fault with its place.
+pub fn tells_once()
+    ensures rule { (line : List ℕ) (a b : Result Rule LineFault) → LineTells rule_pieces line a → LineTells rule_pieces line b → a ≡ b }
+    ensures line { (line : Line) (a b : Result (Option BlockLine) LineFault) → BlockTells line a → BlockTells line b → a ≡ b }
+    ensures lines { (lines : List Line) (a b : Result Grammar BlockFault) → GrammarTells lines a → GrammarTells lines b → a ≡ b }
 {}
 
 /// A line says `end` exactly where it ends its block.
 pub fn says_end()
-    ensures { (line : Line) → EndsBlock line ↔ BlockAnswers line (Ok (Some End)) }
+    ensures { (line : Line) → EndsBlock line ↔ BlockTells line (Ok (Some End)) }
 {}

@@ -1,19 +1,22 @@
 //! What items have in round brackets.
 ghost use Rattle.std.specs.Prelude.{◌≡◌, ◌<◌, ◌&&◌, [], nat_lt};
-ghost use Rattle.cga_form.specs.Code.{input_of, Finds, Reads};
+ghost use Rattle.cga_form.specs.Cursor.{input_of, Finds, Reads};
 ghost use Rattle.cga_form.specs.Reader.{begins, many, many_from};
 ghost use Rattle.cga_parser.specs.Grammar as spec;
-ghost use Rattle.cga_parser.specs.Tokens.{is_sign, is_relative};
+ghost use Rattle.cga_syntax.specs.Limits.{most_further};
+ghost use Rattle.cga_form.specs.Tokens.{is_sign};
+ghost use Rattle.cga_form.specs.Words.{is_relative};
 ghost use Rattle.cga_lexer.specs.declared.sign.Sign.TheVariants as sign;
 
 use crate::expr::inside;
 use crate::first::with_first;
-use crate::heads::SelectorHead;
-use crate::{numbers, texts};
-use cga_form::fault::{Fault, Stop};
+use cga_form::fault::Fault;
+use cga_form::heads::SelectorHead;
 use cga_form::tokens::Tokens;
-use cga_fraction::List;
+use cga_form::{numbers, texts};
+use cga_fraction::{List, Stop};
 use cga_lexer::Sign;
+use cga_syntax::limits::MOST_FURTHER;
 use cga_syntax::{Expr, Size};
 use cga_word::{Axis, Primitive, Selector, Turn};
 use std::alloc::Global;
@@ -25,7 +28,7 @@ fn begins_relative(tokens: &Tokens<'_>) -> bool
 }
 
 #[tactic(auto, unfolding(crate::specs::Grammar::size))]
-fn size(alloc: Global, tokens: &mut Tokens<'_>, depth: u8) -> Result<Size, Stop>
+fn size(alloc: Global, tokens: &mut Tokens<'_>, depth: u8) -> Result<Size, Stop<Fault>>
     requires { 0 < depth }
     ensures { Reads (spec.size depth (spec.inside_of depth) (input_of tokens.old)) result (input_of tokens.new) }
 {
@@ -41,7 +44,7 @@ pub(crate) fn move_parts(
     alloc: Global,
     tokens: &mut Tokens<'_>,
     depth: u8,
-) -> Result<(Expr, Expr, Expr), Stop>
+) -> Result<(Expr, Expr, Expr), Stop<Fault>>
     ensures { Reads (spec.move_parts depth (spec.inside_of depth) (input_of tokens.old)) result (input_of tokens.new) }
 {
     tokens.enter(Sign::LeftRound, depth)?;
@@ -59,7 +62,7 @@ pub(crate) fn resize_parts(
     alloc: Global,
     tokens: &mut Tokens<'_>,
     depth: u8,
-) -> Result<(Size, Size, Size), Stop>
+) -> Result<(Size, Size, Size), Stop<Fault>>
     ensures { Reads (spec.resize_parts depth (spec.inside_of depth) (input_of tokens.old)) result (input_of tokens.new) }
 {
     tokens.enter(Sign::LeftRound, depth)?;
@@ -112,7 +115,7 @@ pub(crate) fn solid_part(tokens: &mut Tokens<'_>, depth: u8) -> Result<Primitive
 }
 
 #[tactic(auto, unfolding(crate::specs::Grammar::further_size))]
-fn further_size(alloc: Global, tokens: &mut Tokens<'_>, depth: u8) -> Result<Size, Stop>
+fn further_size(alloc: Global, tokens: &mut Tokens<'_>, depth: u8) -> Result<Size, Stop<Fault>>
     requires { 0 < depth }
     ensures { Reads (spec.further_size depth (spec.inside_of depth) (input_of tokens.old)) result (input_of tokens.new) }
 {
@@ -120,7 +123,11 @@ fn further_size(alloc: Global, tokens: &mut Tokens<'_>, depth: u8) -> Result<Siz
     size(alloc, tokens, depth)
 }
 
-fn further_sizes(alloc: Global, tokens: &mut Tokens<'_>, depth: u8) -> Result<List<Size>, Stop>
+fn further_sizes(
+    alloc: Global,
+    tokens: &mut Tokens<'_>,
+    depth: u8,
+) -> Result<List<Size>, Stop<Fault>>
     requires { 0 < depth }
     ensures { Reads (many (is_sign sign.Comma) (spec.further_size depth (spec.inside_of depth)) (input_of tokens.old)) result (input_of tokens.new) }
 {
@@ -137,7 +144,7 @@ pub(crate) fn split_parts(
     alloc: Global,
     tokens: &mut Tokens<'_>,
     depth: u8,
-) -> Result<(Axis, List<Size>), Stop>
+) -> Result<(Axis, List<Size>), Stop<Fault>>
     ensures { Reads (spec.split_parts depth (spec.inside_of depth) (input_of tokens.old)) result (input_of tokens.new) }
 {
     tokens.enter(Sign::LeftRound, depth)?;
@@ -154,7 +161,7 @@ pub(crate) fn repeat_parts(
     alloc: Global,
     tokens: &mut Tokens<'_>,
     depth: u8,
-) -> Result<(Axis, Expr), Stop>
+) -> Result<(Axis, Expr), Stop<Fault>>
     ensures { Reads (spec.repeat_parts depth (spec.inside_of depth) (input_of tokens.old)) result (input_of tokens.new) }
 {
     tokens.enter(Sign::LeftRound, depth)?;
@@ -205,7 +212,7 @@ pub(crate) fn selector_part(tokens: &mut Tokens<'_>, depth: u8) -> Result<Select
 }
 
 #[tactic(auto, unfolding(crate::specs::Grammar::further_argument))]
-fn further_argument(alloc: Global, tokens: &mut Tokens<'_>, depth: u8) -> Result<Expr, Stop>
+fn further_argument(alloc: Global, tokens: &mut Tokens<'_>, depth: u8) -> Result<Expr, Stop<Fault>>
     requires { 0 < depth }
     ensures { Reads (spec.further_argument depth (spec.inside_of depth) (input_of tokens.old)) result (input_of tokens.new) }
 {
@@ -215,15 +222,19 @@ fn further_argument(alloc: Global, tokens: &mut Tokens<'_>, depth: u8) -> Result
 
 /// Whether a further one of at most four comes, where so many came after the first.
 pub(crate) fn goes_on(tokens: &Tokens<'_>, taken: usize) -> bool
-    ensures { result ≡ (nat_lt taken 3 && begins (is_sign sign.Comma) (input_of tokens.now).left) }
+    ensures { result ≡ (nat_lt taken most_further && begins (is_sign sign.Comma) (input_of tokens.now).left) }
 {
-    taken < 3 && tokens.at_sign(Sign::Comma)
+    taken < MOST_FURTHER && tokens.at_sign(Sign::Comma)
 }
 
 /// At most three arguments after the first.
-fn further_arguments(alloc: Global, tokens: &mut Tokens<'_>, depth: u8) -> Result<List<Expr>, Stop>
+fn further_arguments(
+    alloc: Global,
+    tokens: &mut Tokens<'_>,
+    depth: u8,
+) -> Result<List<Expr>, Stop<Fault>>
     requires { 0 < depth }
-    ensures { Reads (many_from (is_sign sign.Comma) (spec.further_argument depth (spec.inside_of depth)) 3 [] (input_of tokens.old)) result (input_of tokens.new) }
+    ensures { Reads (many_from (is_sign sign.Comma) (spec.further_argument depth (spec.inside_of depth)) most_further [] (input_of tokens.old)) result (input_of tokens.new) }
 {
     let mut rest = List::new(alloc);
     'arguments: while goes_on(tokens, rest.len()) {
@@ -234,7 +245,11 @@ fn further_arguments(alloc: Global, tokens: &mut Tokens<'_>, depth: u8) -> Resul
 }
 
 #[tactic(auto, unfolding(crate::specs::Grammar::some_arguments))]
-fn some_arguments(alloc: Global, tokens: &mut Tokens<'_>, depth: u8) -> Result<List<Expr>, Stop>
+fn some_arguments(
+    alloc: Global,
+    tokens: &mut Tokens<'_>,
+    depth: u8,
+) -> Result<List<Expr>, Stop<Fault>>
     ensures { Reads (spec.some_arguments depth (spec.inside_of depth) (input_of tokens.old)) result (input_of tokens.new) }
 {
     tokens.enter(Sign::LeftRound, depth)?;
@@ -250,7 +265,7 @@ pub(crate) fn arguments(
     alloc: Global,
     tokens: &mut Tokens<'_>,
     depth: u8,
-) -> Result<List<Expr>, Stop>
+) -> Result<List<Expr>, Stop<Fault>>
     ensures { Reads (spec.arguments depth (spec.inside_of depth) (input_of tokens.old)) result (input_of tokens.new) }
 {
     if tokens.at_sign(Sign::LeftRound) {

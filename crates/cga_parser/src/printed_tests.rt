@@ -1,5 +1,5 @@
 use crate::grammars::{BASE_AND_TOP, TOWN, WINDOW};
-use crate::{grammar_reader, parse_rule};
+use crate::{GrammarReader, parse_rule};
 use cga_fraction::{List, NoMemory};
 use cga_syntax::{print_grammar, print_rule};
 use std::alloc::Global;
@@ -102,7 +102,7 @@ fn rules_of_the_example_grammars_are_printed_as_they_stand(
 
 // The text of the grammar that lines say; nothing where one is faulty.
 fn printed_grammar(alloc: Global, lines: &[&str]) -> Result<List<u8>, NoMemory> {
-    let mut reader = grammar_reader(alloc);
+    let mut reader = GrammarReader::new(alloc);
     for line in lines {
         reader.line(line.as_bytes(), false)?;
     }
@@ -143,8 +143,8 @@ fn printed_text(alloc: Global, text: &str) -> Result<List<u8>, NoMemory> {
 
 #[test]
 fn the_example_grammars_are_printed_and_read_again(mut rt: HostRuntime) -> Result<(), Fail> {
-    let (before, behind) = TOWN.split_once("2.5").expect(&rt, "a bay");
-    let town = format!(in rt.alloc(); "{before}5/2{behind}")?;
+    let (before, after) = TOWN.split_once("2.5").expect(&rt, "a bay");
+    let town = format!(in rt.alloc(); "{before}5/2{after}")?;
     let table: [(&str, &str); 4] = [
         (WINDOW, WINDOW),
         (BASE_AND_TOP, BASE_AND_TOP),

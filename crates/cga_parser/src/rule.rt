@@ -1,9 +1,10 @@
 ghost use Rattle.std.specs.Prelude.{◌≡◌, ◌≤◌, ◌∷◌, [], length, map, IfOk, List};
-ghost use Rattle.cga_form.specs.Code.{input_of, Finds, Reads, seen};
+ghost use Rattle.cga_form.specs.Cursor.{input_of, Finds, Reads, seen};
 ghost use Rattle.cga_form.specs.Reader.{many, many_from};
 ghost use Rattle.cga_parser.specs.Grammar as spec;
-ghost use Rattle.cga_form.specs.Answers.{Answers};
-ghost use Rattle.cga_parser.specs.Tokens.{is_sign};
+ghost use Rattle.cga_syntax.specs.Limits.{most_further};
+ghost use Rattle.cga_form.specs.Tells.{Tells};
+ghost use Rattle.cga_form.specs.Tokens.{is_sign};
 ghost use Rattle.cga_syntax.specs.Pieces.{rule_pieces};
 ghost use Rattle.cga_lexer.specs.declared.sign.Sign.TheVariants as sign;
 
@@ -11,11 +12,11 @@ use crate::cond::cond;
 use crate::first::with_first;
 use crate::item::body;
 use crate::parts::goes_on;
-use crate::{numbers, words};
-use cga_form::fault::{Fault, Stop};
+use cga_form::fault::Fault;
 use cga_form::parts::{finish, id, name};
 use cga_form::tokens::Tokens;
-use cga_fraction::{Fraction, List, NoMemory};
+use cga_form::{numbers, words};
+use cga_fraction::{Fraction, List, NoMemory, Stop};
 use cga_lexer::{Sign, Token};
 use cga_syntax::{Alternative, Cond, Rule};
 use cga_word::Name;
@@ -26,12 +27,12 @@ fn further_name(tokens: &mut Tokens<'_>) -> Result<Name, Fault>
     ensures { Finds (spec.further_name (input_of tokens.old)) result (input_of tokens.new) }
 {
     tokens.sign(Sign::Comma)?;
-    tokens.take(cga_form::words::name(tokens.peek()))
+    tokens.take(words::name(tokens.peek()))
 }
 
 /// At most three names after the first.
-fn further_names(alloc: Global, tokens: &mut Tokens<'_>) -> Result<List<Name>, Stop>
-    ensures { Reads (many_from (is_sign sign.Comma) spec.further_name 3 [] (input_of tokens.old)) result (input_of tokens.new) }
+fn further_names(alloc: Global, tokens: &mut Tokens<'_>) -> Result<List<Name>, Stop<Fault>>
+    ensures { Reads (many_from (is_sign sign.Comma) spec.further_name most_further [] (input_of tokens.old)) result (input_of tokens.new) }
 {
     let mut rest = List::new(alloc);
     'names: while goes_on(tokens, rest.len()) {
@@ -42,11 +43,15 @@ fn further_names(alloc: Global, tokens: &mut Tokens<'_>) -> Result<List<Name>, S
 }
 
 #[tactic(auto, unfolding(crate::specs::Grammar::some_parameters))]
-fn some_parameters(alloc: Global, tokens: &mut Tokens<'_>, depth: u8) -> Result<List<Name>, Stop>
+fn some_parameters(
+    alloc: Global,
+    tokens: &mut Tokens<'_>,
+    depth: u8,
+) -> Result<List<Name>, Stop<Fault>>
     ensures { Reads (spec.some_parameters depth (input_of tokens.old)) result (input_of tokens.new) }
 {
     tokens.enter(Sign::LeftRound, depth)?;
-    let first = tokens.take(cga_form::words::name(tokens.peek()))?;
+    let first = tokens.take(words::name(tokens.peek()))?;
     let rest = further_names(alloc, tokens)?;
     tokens.sign(Sign::RightRound)?;
     let names = with_first(first, rest)?;
@@ -54,7 +59,7 @@ fn some_parameters(alloc: Global, tokens: &mut Tokens<'_>, depth: u8) -> Result<
 }
 
 #[tactic(auto, unfolding(crate::specs::Grammar::parameters))]
-fn parameters(alloc: Global, tokens: &mut Tokens<'_>, depth: u8) -> Result<List<Name>, Stop>
+fn parameters(alloc: Global, tokens: &mut Tokens<'_>, depth: u8) -> Result<List<Name>, Stop<Fault>>
     ensures { Reads (spec.parameters depth (input_of tokens.old)) result (input_of tokens.new) }
 {
     if tokens.at_sign(Sign::LeftRound) {
@@ -64,7 +69,7 @@ fn parameters(alloc: Global, tokens: &mut Tokens<'_>, depth: u8) -> Result<List<
 }
 
 #[tactic(auto, unfolding(crate::specs::Grammar::condition))]
-fn condition(alloc: Global, tokens: &mut Tokens<'_>, depth: u8) -> Result<Option<Cond>, Stop>
+fn condition(alloc: Global, tokens: &mut Tokens<'_>, depth: u8) -> Result<Option<Cond>, Stop<Fault>>
     ensures { Reads (spec.condition depth (input_of tokens.old)) result (input_of tokens.new) }
 {
     if tokens.at_sign(Sign::Colon) {
@@ -79,7 +84,7 @@ fn given_probability(tokens: &mut Tokens<'_>) -> Result<Fraction, Fault>
     ensures { Finds (spec.given_probability (input_of tokens.old)) result (input_of tokens.new) }
 {
     tokens.sign(Sign::Colon)?;
-    tokens.take(cga_form::numbers::number(tokens.peek()))
+    tokens.take(numbers::number(tokens.peek()))
 }
 
 #[tactic(auto, unfolding(crate::specs::Grammar::probability))]
@@ -93,7 +98,11 @@ fn probability(tokens: &mut Tokens<'_>) -> Result<Fraction, Fault>
 }
 
 #[tactic(auto, unfolding(crate::specs::Grammar::alternative))]
-fn alternative(alloc: Global, tokens: &mut Tokens<'_>, depth: u8) -> Result<Alternative, Stop>
+fn alternative(
+    alloc: Global,
+    tokens: &mut Tokens<'_>,
+    depth: u8,
+) -> Result<Alternative, Stop<Fault>>
     ensures { Reads (spec.alternative depth (input_of tokens.old)) result (input_of tokens.new) }
 {
     tokens.sign(Sign::Arrow)?;
@@ -106,7 +115,7 @@ fn further_alternatives(
     alloc: Global,
     tokens: &mut Tokens<'_>,
     depth: u8,
-) -> Result<List<Alternative>, Stop>
+) -> Result<List<Alternative>, Stop<Fault>>
     ensures { Reads (many (is_sign sign.Arrow) (spec.alternative depth) (input_of tokens.old)) result (input_of tokens.new) }
 {
     let mut rest = List::new(alloc);
@@ -119,7 +128,7 @@ fn further_alternatives(
 
 /// A rule, where so many brackets may be opened.
 #[tactic(auto, unfolding(crate::specs::Grammar::rule))]
-pub fn rule(alloc: Global, tokens: &mut Tokens<'_>, depth: u8) -> Result<Rule, Stop>
+pub fn rule(alloc: Global, tokens: &mut Tokens<'_>, depth: u8) -> Result<Rule, Stop<Fault>>
     ensures { Reads (spec.rule depth (input_of tokens.old)) result (input_of tokens.new) }
 {
     let id = id(tokens)?;

@@ -1,5 +1,4 @@
-use crate::parse_rule;
-use cga_form::LineFault;
+use crate::{LineFault, parse_rule};
 use std::test::Fail;
 
 #[test]
@@ -82,5 +81,20 @@ fn the_first_fault_is_told_with_its_place(mut rt: HostRuntime) -> Result<(), Fai
         Ok(_) => assert!(rt; false, "a long line"),
         Err(found) => assert_eq!(rt; found, LineFault::LineTooLong),
     }
+    Ok(())
+}
+
+// As many brackets as may be open, and a line as long as it may be.
+#[test]
+fn limits_are_within(mut rt: HostRuntime) -> Result<(), Fail> {
+    let mut nested = Vec::from_slice(rt.alloc(), b"1: a : ")?;
+    nested.extend_from_slice(b"((((((((((((((((((((((((((((((((1")?;
+    nested.extend_from_slice(b")))))))))))))))))))))))))))))))) > 0 -> NIL")?;
+    assert!(rt; parse_rule(rt.alloc(), nested.as_slice())?.is_ok());
+    let mut long = Vec::from_slice(rt.alloc(), b"1: a -> NIL")?;
+    let blanks = vec![in rt.alloc(); b' '; 4085]?;
+    long.extend_from_slice(blanks.as_slice())?;
+    assert_eq!(rt; long.len(), 4096);
+    assert!(rt; parse_rule(rt.alloc(), long.as_slice())?.is_ok());
     Ok(())
 }

@@ -9,48 +9,48 @@ use Rattle.std.proofs.lemmas.List.{map-append}
 use Rattle.cga_script.specs.Lines.{Cut, cut, before_first, IsOneLine, Line, clipped, without_cr, lines_of}
 use Rattle.cga_script.specs.Pending.{kept_of}
 
-at_lf : (x : ℕ) (xs : List ℕ) → x ≡ 10 → cut (x ∷ xs) ≡ record { whole = [] ∷ (cut xs).whole; rest = (cut xs).rest }
+at_lf : (x : ℕ) (xs : List ℕ) → x ≡ 10 → cut (x ∷ xs) ≡ record { lines = [] ∷ (cut xs).lines; rest = (cut xs).rest }
 unfolding cut
 at_lf x xs e = rw e refl
 
-at_other : (x : ℕ) (xs : List ℕ) → x ≢ 10 → cut (x ∷ xs) ≡ before_first x (cut xs).whole (cut xs).rest
+at_other : (x : ℕ) (xs : List ℕ) → x ≢ 10 → cut (x ∷ xs) ≡ before_first x (cut xs).lines (cut xs).rest
 unfolding cut
 at_other x xs e = let no : nat_eq x 10 ≡ false = grind (arith, nat_tests) in rw no refl
 
 -- a cut after bytes with no LF
-abbrev pub by_whole : List (List ℕ) → List ℕ → List ℕ → Cut
-by_whole [] rest r = record { whole = []; rest = r ++ rest }
-by_whole (line ∷ lines) rest r = record { whole = (r ++ line) ∷ lines; rest = rest }
+abbrev pub after_part : List (List ℕ) → List ℕ → List ℕ → Cut
+after_part [] rest r = record { lines = []; rest = r ++ rest }
+after_part (line ∷ lines) rest r = record { lines = (r ++ line) ∷ lines; rest = rest }
 
-before_by_whole : (x : ℕ) (whole : List (List ℕ)) (rest r : List ℕ) → before_first x (by_whole whole rest r).whole (by_whole whole rest r).rest ≡ by_whole whole rest (x ∷ r)
-before_by_whole x [] rest r = refl
-before_by_whole x (line ∷ lines) rest r = refl
+before_after_part : (x : ℕ) (ended : List (List ℕ)) (rest r : List ℕ) → before_first x (after_part ended rest r).lines (after_part ended rest r).rest ≡ after_part ended rest (x ∷ r)
+before_after_part x [] rest r = refl
+before_after_part x (line ∷ lines) rest r = refl
 
-nothing_before : (whole : List (List ℕ)) (rest : List ℕ) → ◌≡◌ {A = Cut} (record { whole = whole; rest = rest }) (by_whole whole rest [])
+nothing_before : (ended : List (List ℕ)) (rest : List ℕ) → ◌≡◌ {A = Cut} (record { lines = ended; rest = rest }) (after_part ended rest [])
 nothing_before [] rest = refl
 nothing_before (line ∷ lines) rest = refl
 
-pub cut_after : (r ys : List ℕ) → IsOneLine r → cut (r ++ ys) ≡ by_whole (cut ys).whole (cut ys).rest r
-cut_after [] ys all = nothing_before (cut ys).whole (cut ys).rest
+pub cut_after : (r ys : List ℕ) → IsOneLine r → cut (r ++ ys) ≡ after_part (cut ys).lines (cut ys).rest r
+cut_after [] ys all = nothing_before (cut ys).lines (cut ys).rest
 cut_after (x ∷ xs) ys all =
     at_other x (xs ++ ys) (All-head (λ y. y ≢ 10) x xs all)
-    ∙ ap (λ (c : Cut). before_first x c.whole c.rest) (cut_after xs ys (All-tail (λ y. y ≢ 10) x xs all))
-    ∙ before_by_whole x (cut ys).whole (cut ys).rest xs
+    ∙ ap (λ (c : Cut). before_first x c.lines c.rest) (cut_after xs ys (All-tail (λ y. y ≢ 10) x xs all))
+    ∙ before_after_part x (cut ys).lines (cut ys).rest xs
 
 -- a line that an LF ends
-pub cut_line : (r ys : List ℕ) → IsOneLine r → cut (r ++ 10 ∷ ys) ≡ record { whole = r ∷ (cut ys).whole; rest = (cut ys).rest }
-cut_line r ys all = cut_after r (10 ∷ ys) all ∙ ap (λ (c : Cut). by_whole c.whole c.rest r) (at_lf 10 ys refl) ∙ ap (λ (l : List ℕ). record { whole = l ∷ (cut ys).whole; rest = (cut ys).rest }) (append-nil r)
+pub cut_line : (r ys : List ℕ) → IsOneLine r → cut (r ++ 10 ∷ ys) ≡ record { lines = r ∷ (cut ys).lines; rest = (cut ys).rest }
+cut_line r ys all = cut_after r (10 ∷ ys) all ∙ ap (λ (c : Cut). after_part c.lines c.rest r) (at_lf 10 ys refl) ∙ ap (λ (l : List ℕ). record { lines = l ∷ (cut ys).lines; rest = (cut ys).rest }) (append-nil r)
 
-pub cut_part : (r : List ℕ) → IsOneLine r → cut r ≡ record { whole = []; rest = r }
+pub cut_part : (r : List ℕ) → IsOneLine r → cut r ≡ record { lines = []; rest = r }
 unfolding cut
-cut_part r all = ap cut (sym (append-nil r)) ∙ cut_after r [] all ∙ ap (λ (l : List ℕ). record { whole = []; rest = l }) (append-nil r)
+cut_part r all = ap cut (sym (append-nil r)) ∙ cut_after r [] all ∙ ap (λ (l : List ℕ). record { lines = []; rest = l }) (append-nil r)
 
 -- a cut goes on from its rest
 abbrev goes_on : Cut → List ℕ → Cut
-goes_on c ys = record { whole = c.whole ++ (cut (c.rest ++ ys)).whole; rest = (cut (c.rest ++ ys)).rest }
+goes_on c ys = record { lines = c.lines ++ (cut (c.rest ++ ys)).lines; rest = (cut (c.rest ++ ys)).rest }
 
-before_goes_on : (x : ℕ) (whole : List (List ℕ)) (rest ys : List ℕ) → x ≢ 10
-    → before_first x (whole ++ (cut (rest ++ ys)).whole) (cut (rest ++ ys)).rest ≡ goes_on (before_first x whole rest) ys
+before_goes_on : (x : ℕ) (ended : List (List ℕ)) (rest ys : List ℕ) → x ≢ 10
+    → before_first x (ended ++ (cut (rest ++ ys)).lines) (cut (rest ++ ys)).rest ≡ goes_on (before_first x ended rest) ys
 before_goes_on x [] rest ys other = sym (at_other x (rest ++ ys) other)
 before_goes_on x (line ∷ lines) rest ys other = refl
 
@@ -64,12 +64,12 @@ start_goes_on ys = refl
 pub cut_append : (xs ys : List ℕ) → cut (xs ++ ys) ≡ goes_on (cut xs) ys
 cut_append [] ys = start_goes_on ys
 cut_append (x ∷ xs) ys = elim (lf_or_other x) [
-  | inl e ↦ at_lf x (xs ++ ys) e ∙ ap (λ (c : Cut). record { whole = [] ∷ c.whole; rest = c.rest }) (cut_append xs ys) ∙ sym (ap (λ (c : Cut). goes_on c ys) (at_lf x xs e))
-  | inr other ↦ at_other x (xs ++ ys) other ∙ ap (λ (c : Cut). before_first x c.whole c.rest) (cut_append xs ys) ∙ before_goes_on x (cut xs).whole (cut xs).rest ys other ∙ sym (ap (λ (c : Cut). goes_on c ys) (at_other x xs other))
+  | inl e ↦ at_lf x (xs ++ ys) e ∙ ap (λ (c : Cut). record { lines = [] ∷ c.lines; rest = c.rest }) (cut_append xs ys) ∙ sym (ap (λ (c : Cut). goes_on c ys) (at_lf x xs e))
+  | inr other ↦ at_other x (xs ++ ys) other ∙ ap (λ (c : Cut). before_first x c.lines c.rest) (cut_append xs ys) ∙ before_goes_on x (cut xs).lines (cut xs).rest ys other ∙ sym (ap (λ (c : Cut). goes_on c ys) (at_other x xs other))
 ]
 
 -- the rest is one line
-before_is_one : (x : ℕ) (whole : List (List ℕ)) (rest : List ℕ) → x ≢ 10 → IsOneLine rest → IsOneLine (before_first x whole rest).rest
+before_is_one : (x : ℕ) (ended : List (List ℕ)) (rest : List ℕ) → x ≢ 10 → IsOneLine rest → IsOneLine (before_first x ended rest).rest
 before_is_one x [] rest other all = All-cons (λ (b : ℕ). b ≢ 10) x rest other all
 before_is_one x (line ∷ lines) rest other all = all
 
@@ -81,7 +81,7 @@ pub rest_is_one : (xs : List ℕ) → IsOneLine (cut xs).rest
 rest_is_one [] = no_rest
 rest_is_one (x ∷ xs) = elim (lf_or_other x) [
   | inl e ↦ subst (λ (c : Cut). IsOneLine c.rest) (sym (at_lf x xs e)) (rest_is_one xs)
-  | inr other ↦ subst (λ (c : Cut). IsOneLine c.rest) (sym (at_other x xs other)) (before_is_one x (cut xs).whole (cut xs).rest other (rest_is_one xs))
+  | inr other ↦ subst (λ (c : Cut). IsOneLine c.rest) (sym (at_other x xs other)) (before_is_one x (cut xs).lines (cut xs).rest other (rest_is_one xs))
 ]
 
 pub le_or : (a b : ℕ) → (a ≤ b) ⊎ (b ≤ a)
@@ -133,27 +133,27 @@ last_kept x = elim (le_or 4098 (length x)) [
 
 -- the lines after a part that is kept are those after the part
 abbrev as_lines : List (List ℕ) → List Line
-as_lines whole = map (λ line. clipped (without_cr line)) whole
+as_lines ended = map (λ line. clipped (without_cr line)) ended
 
-by_whole_kept : (whole : List (List ℕ)) (rest r : List ℕ) → (as_lines (by_whole whole rest (kept_of r)).whole ≡ as_lines (by_whole whole rest r).whole)
-    × (kept_of (by_whole whole rest (kept_of r)).rest ≡ kept_of (by_whole whole rest r).rest)
-by_whole_kept [] rest r = (refl, kept_again 4098 r rest)
-by_whole_kept (line ∷ lines) rest r = (ap (λ (l : Line). l ∷ as_lines lines) (sym (line_kept (kept_of r ++ line)) ∙ ap (λ (t : List ℕ). clipped (without_cr t)) (kept_again 4098 r line) ∙ line_kept (r ++ line)), refl)
+after_part_kept : (ended : List (List ℕ)) (rest r : List ℕ) → (as_lines (after_part ended rest (kept_of r)).lines ≡ as_lines (after_part ended rest r).lines)
+    × (kept_of (after_part ended rest (kept_of r)).rest ≡ kept_of (after_part ended rest r).rest)
+after_part_kept [] rest r = (refl, kept_again 4098 r rest)
+after_part_kept (line ∷ lines) rest r = (ap (λ (l : Line). l ∷ as_lines lines) (sym (line_kept (kept_of r ++ line)) ∙ ap (λ (t : List ℕ). clipped (without_cr t)) (kept_again 4098 r line) ∙ line_kept (r ++ line)), refl)
 
 kept_is_one : (r : List ℕ) → IsOneLine r → IsOneLine (kept_of r)
 kept_is_one r all = All-take (λ (b : ℕ). b ≢ 10) 4098 r all
 
 pub lines_kept : (r ys : List ℕ) → IsOneLine r → lines_of (kept_of r ++ ys) ≡ lines_of (r ++ ys)
-lines_kept r ys all = ap (λ (c : Cut). as_lines c.whole) (cut_after (kept_of r) ys (kept_is_one r all)) ∙ (by_whole_kept (cut ys).whole (cut ys).rest r).0 ∙ ap (λ (c : Cut). as_lines c.whole) (sym (cut_after r ys all))
+lines_kept r ys all = ap (λ (c : Cut). as_lines c.lines) (cut_after (kept_of r) ys (kept_is_one r all)) ∙ (after_part_kept (cut ys).lines (cut ys).rest r).0 ∙ ap (λ (c : Cut). as_lines c.lines) (sym (cut_after r ys all))
 
 pub rest_kept : (r ys : List ℕ) → IsOneLine r → kept_of (cut (kept_of r ++ ys)).rest ≡ kept_of (cut (r ++ ys)).rest
-rest_kept r ys all = ap (λ (c : Cut). kept_of c.rest) (cut_after (kept_of r) ys (kept_is_one r all)) ∙ (by_whole_kept (cut ys).whole (cut ys).rest r).1 ∙ ap (λ (c : Cut). kept_of c.rest) (sym (cut_after r ys all))
+rest_kept r ys all = ap (λ (c : Cut). kept_of c.rest) (cut_after (kept_of r) ys (kept_is_one r all)) ∙ (after_part_kept (cut ys).lines (cut ys).rest r).1 ∙ ap (λ (c : Cut). kept_of c.rest) (sym (cut_after r ys all))
 
 -- one more piece: the lines so far, then those that it ends
 pub lines_append : (read piece : List ℕ) → lines_of (read ++ piece) ≡ lines_of read ++ lines_of (kept_of (cut read).rest ++ piece)
 lines_append read piece =
-    ap (λ (c : Cut). as_lines c.whole) (cut_append read piece)
-    ∙ map-append (λ line. clipped (without_cr line)) (cut read).whole (cut ((cut read).rest ++ piece)).whole
+    ap (λ (c : Cut). as_lines c.lines) (cut_append read piece)
+    ∙ map-append (λ line. clipped (without_cr line)) (cut read).lines (cut ((cut read).rest ++ piece)).lines
     ∙ ap (λ (ls : List Line). lines_of read ++ ls) (sym (lines_kept (cut read).rest piece (rest_is_one read)))
 
 pub kept_append : (read piece : List ℕ) → kept_of (cut (kept_of (cut read).rest ++ piece)).rest ≡ kept_of (cut (read ++ piece)).rest

@@ -29,13 +29,13 @@ takes_line kept rest more n p one some most lf part others is =
     let split : kept ++ rest ≡ line ++ 10 ∷ more = ap (λ (r : List ℕ). kept ++ r) (split_lf rest n some most lf) ∙ sym (append_assoc kept (take (n - 1) rest) (10 ∷ drop n rest)) ∙ ap (λ (d : List ℕ). line ++ 10 ∷ d) (sym others) in
     let cut_is = ap cut split ∙ cut_line line more (All-append IsByte kept (take (n - 1) rest) one part) in
     record {
-      lines = ap (λ (c : Cut). map (λ (l : List ℕ). clipped (without_cr l)) c.whole) cut_is ∙ ap (λ (l : Line). l ∷ lines_of more) (sym (line_kept line) ∙ sym (ap ready_line is));
+      lines = ap (λ (c : Cut). map (λ (l : List ℕ). clipped (without_cr l)) c.lines) cut_is ∙ ap (λ (l : Line). l ∷ lines_of more) (sym (line_kept line) ∙ sym (ap ready_line is));
       left = ap (λ (c : Cut). c.rest) cut_is;
     }
 
 -- a piece with no LF
 pub no_lines : (part : List ℕ) → IsOneLine part → lines_of part ≡ []
-no_lines part one = ap (λ (c : Cut). map (λ (l : List ℕ). clipped (without_cr l)) c.whole) (cut_part part one)
+no_lines part one = ap (λ (c : Cut). map (λ (l : List ℕ). clipped (without_cr l)) c.lines) (cut_part part one)
 
 pub rest_of_part : (part : List ℕ) → IsOneLine part → (cut part).rest ≡ part
 rest_of_part part one = ap (λ (c : Cut). c.rest) (cut_part part one)

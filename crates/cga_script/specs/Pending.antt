@@ -11,16 +11,21 @@ pub record Pending : Type 0 where
   pub kept : List ℕ
   pub ending : Ending
 
--- as many bytes are kept: one more than a line with its CR may have
-abbrev pub kept_of : List ℕ → List ℕ
-kept_of bytes = take 4098 bytes
+-- the most bytes of a line that are kept: one more than the longest line with its CR has
+abbrev pub kept_limit : ℕ
+kept_limit = 4098
 
--- the line that is ready: an LF takes one CR before it away
+-- what is kept of these bytes of a line
+abbrev pub kept_of : List ℕ → List ℕ
+kept_of bytes = take kept_limit bytes
+
+-- what is kept, without what its ending takes away: an LF takes one CR before it
 abbrev pub ended_by : Ending → List ℕ → List ℕ
 ended_by Lf kept = without_cr kept
 ended_by Open kept = kept
 ended_by End kept = kept
 
+-- the line that is ready, as it is read
 abbrev pub ready_line : Pending → Line
 ready_line p = clipped (ended_by p.ending p.kept)
 

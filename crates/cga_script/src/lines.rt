@@ -1,18 +1,18 @@
 ghost use Rattle.std.specs.Prelude.{◌≡◌, ◌↔◌, List, ℕ, ◌<◌, ◌≤◌, ◌-◌, ◌+◌, ◌++◌, ◌∷◌, [], length, take, slice_index, IfOk, IsTrue, IsFalse, MatchOption, nat_lt, vec_len, vec_capacity};
+ghost use Rattle.cga_form.specs.Limits.{line_limit};
 ghost use Rattle.cga_script.specs.Lines.{IsOneLine, without_cr, clipped};
-ghost use Rattle.cga_script.specs.Pending.{Pending, kept_of, ready_line, IsPart, CutsLine};
+ghost use Rattle.cga_script.specs.Pending.{Pending, kept_of, kept_limit, ready_line, IsPart, CutsLine};
 
 use crate::ending::Ending;
 use crate::fed::Fed;
+use cga_form::limits::LINE_LIMIT;
 use cga_fraction::NoMemory;
 use std::alloc::Global;
 use std::marker::Model;
 
-// The most bytes of a line that are given.
-const MOST: usize = 4096;
-
-// One more than a line of that length with its CR has: enough to tell whether it is long.
-const ROOM: usize = 4098;
+// The most bytes of a line that are kept: one more than a line of that length with its CR has, enough to tell
+// whether it is long.
+const KEPT_LIMIT: usize = 4098;
 
 /// Cuts the pieces of a script into its lines. Of each line it keeps the first 4,098 bytes, so that its size
 /// doesn't grow with the script.
@@ -24,13 +24,13 @@ pub struct Lines {
 
 impl Model for Lines {
     ghost use Rattle.std.specs.Prelude.{◌≤◌, vec_len, vec_capacity};
-    ghost use Rattle.cga_script.specs.Pending.{Pending};
+    ghost use Rattle.cga_script.specs.Pending.{Pending, kept_limit};
 
     ghost Value = { Pending };
 
     ghost view = { λ l. record { kept = l.kept.items; ending = l.ending } };
 
-    ghost invariant = { λ l. (4098 ≤ vec_capacity l.kept) × (vec_len l.kept ≤ 4098) };
+    ghost invariant = { λ l. (kept_limit ≤ vec_capacity l.kept) × (vec_len l.kept ≤ kept_limit) };
 }
 
 fn first(bytes: &[u8], most: usize) -> &[u8]
@@ -62,13 +62,13 @@ fn without_return(bytes: &[u8]) -> &[u8]
 // Adds the bytes, as many as there is room for.
 #[tactic(auto, using(crate::proofs::Kept::take_room))]
 fn extend_kept(kept: &mut Vec<u8>, bytes: &[u8])
-    requires capacity { 4098 ≤ vec_capacity kept.old }
-    requires len { vec_len kept.old ≤ 4098 }
+    requires capacity { kept_limit ≤ vec_capacity kept.old }
+    requires len { vec_len kept.old ≤ kept_limit }
     ensures items { kept.new.items ≡ kept_of (kept.old.items ++ bytes.now) }
-    ensures room { 4098 ≤ vec_capacity kept.new }
-    ensures most { vec_len kept.new ≤ 4098 }
+    ensures room { kept_limit ≤ vec_capacity kept.new }
+    ensures most { vec_len kept.new ≤ kept_limit }
 {
-    let free = ROOM - kept.len();
+    let free = KEPT_LIMIT - kept.len();
     let part = first(bytes, free);
     match kept.extend_from_slice(part) {
         Ok(()) => {}
@@ -81,7 +81,7 @@ impl Lines {
     pub fn new(alloc: Global) -> Result<Lines, NoMemory>
         ensures { IfOk result (λ l. l ≡ record { kept = []; ending = Ending.Open }) }
     {
-        let kept = Vec::with_capacity(alloc, ROOM)?;
+        let kept = Vec::with_capacity(alloc, KEPT_LIMIT)?;
         Ok(Lines {
             kept,
             ending: Ending::Open,
@@ -140,20 +140,21 @@ impl Lines {
     pub fn line(&self) -> &[u8]
         ensures { result.now ≡ (ready_line self.now).bytes }
     {
-        first(self.whole(), MOST)
+        first(self.unclipped(), LINE_LIMIT)
     }
 
     /// Whether the line that is ready has more bytes than that.
     pub fn is_long(&self) -> bool
         ensures { result ≡ (ready_line self.now).long }
     {
-        MOST < self.whole().len()
+        LINE_LIMIT < self.unclipped().len()
     }
 
-    fn whole(&self) -> &[u8]
+    // The line that is ready, as far as it is kept.
+    fn unclipped(&self) -> &[u8]
         ensures { (ready_line self.now) ≡ record {
-          bytes = take 4096 result.now;
-          long = nat_lt 4096 (length result.now);
+          bytes = take line_limit result.now;
+          long = nat_lt line_limit (length result.now);
         } }
     {
         match self.ending {

@@ -1,3 +1,5 @@
+use cga_fraction::Stop;
+
 /// Why a shape has no children.
 #[derive(Clone, Copy, Debug, PartialEq, Eq)]
 pub enum ShapeFault {
@@ -23,4 +25,15 @@ pub enum ShapeFault {
     TooManyParts,
     /// There are more children than a shape may have.
     TooManyChildren,
+}
+
+impl From<ShapeFault> for Stop<ShapeFault> {
+    ghost use Rattle.std.specs.Prelude.{◌≡◌};
+    ghost use Rattle.cga_fraction.specs.declared.stop.Stop.TheVariants as stop;
+
+    ghost from_gives = { λ f s. s ≡ stop.Fault f };
+
+    fn from(fault: ShapeFault) -> Stop<ShapeFault> {
+        Stop::Fault(fault)
+    }
 }

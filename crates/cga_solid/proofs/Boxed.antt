@@ -1,7 +1,10 @@
 -- What is local to a scope is placed in its box, and meshes are closed.
 use Rattle.std.proofs.Common.{◌≡◌, ◌≢◌, List, [], ◌∷◌, Bool, true, false, refl, subst, arith, Ok, Err, Result, All}
 use Rattle.std.proofs.lemmas.List.Elements.{All-nil, All-cons}
-use Rattle.std.specs.Prelude.{IsTrue, if◌then◌else◌}
+use Rattle.std.specs.Prelude.{IsTrue, IfOk, OnOk, if◌then◌else◌}
+use Rattle.cga_fraction.specs.Stops.{Makes, settled_of}
+use Rattle.cga_fraction.specs.declared.stop.Stop.{Stop}
+use Rattle.cga_fraction.specs.declared.stop.Stop.TheVariants.{Fault, NoMemory}
 use Rattle.cga_fraction.specs.Rat.{Rat, zero_rat}
 use Rattle.cga_fraction.specs.Order.{rat_le, rat_lt, rat_min, rat_max}
 use Rattle.cga_fraction.specs.Arithmetic.{plus, minus}
@@ -18,8 +21,10 @@ use Rattle.cga_frame.specs.Points.{coordinate, checked_point, point_in_range}
 use Rattle.cga_frame.specs.Scope.{Scope, has_negative, moved, moved_along, place_of}
 use Rattle.cga_frame.specs.declared.point.Point.{Point}
 use Rattle.cga_frame.specs.declared.signed.Signed.{Signed}
-use Rattle.cga_fraction.specs.Chains.{refused_if}
-use Rattle.cga_solid.specs.Chains.{as_fault}
+use Rattle.cga_fraction.specs.Results.{err_if, or_err}
+use Rattle.cga_fraction.proofs.Results.{and_then-ok}
+use Rattle.cga_fraction.specs.declared.overflow.Overflow as Unit
+use Rattle.cga_solid.specs.declared.solid_fault.SolidFault.TheVariants as fault
 use Rattle.cga_solid.specs.Corners.{corners_of}
 use Rattle.cga_solid.specs.Faces.{IsClosed}
 use Rattle.cga_solid.specs.Solids.{all_placed, form_of, lacks_size, mesh_in, mesh_of, placed, vertices_of}
@@ -29,7 +34,7 @@ use Rattle.cga_solid.specs.declared.solid_fault.SolidFault.{SolidFault}
 use Rattle.cga_solid.specs.declared.solid_mesh.SolidMesh.{SolidMesh}
 use Rattle.cga_solid.proofs.Closed.{all_close}
 use Rattle.cga_solid.proofs.Halves.{IsWithin}
-use Rattle.cga_solid.proofs.Local.{AllLocal, IsLocal, corners_local, same_ok, sizes, then_ok}
+use Rattle.cga_solid.proofs.Local.{AllLocal, IsLocal, corners_local, same_ok, sizes}
 
 -- ---- along one axis
 
@@ -67,7 +72,7 @@ in_box s c l = record {
   z = one_axis s.frame.z s.at.z c s.size l;
 }
 
-point_is : (p v : Point) (b : Bool) → ◌≡◌ {A = Result Point SolidFault} (as_fault (if b then Ok p else Err (record {}))) (Ok v) → p ≡ v
+point_is : (p v : Point) (b : Bool) → ◌≡◌ {A = Result Point SolidFault} (or_err {E = Unit.Overflow} fault.Overflow (if b then Ok p else Err (record {}))) (Ok v) → p ≡ v
 point_is p v true h = same_ok p v h
 point_is p v false h = absurd (cc)
 
@@ -78,15 +83,15 @@ placed_is s c v h = point_is (place_of s.at s.frame c) v (point_in_range (place_
 all_in : (s : Scope) (cs vs : List Point) → AllLocal s.size cs → all_placed s cs ≡ Ok vs → All (λ v. IsIn v (box_of s)) vs
 all_in s [] vs l h = subst (λ (ws : List Point). All (λ v. IsIn v (box_of s)) ws) (same_ok [] vs h) (All-nil (λ v. IsIn v (box_of s)))
 all_in s (c ∷ cs) vs l h =
-    let a = then_ok (placed s c) _ vs h in
-    let b = then_ok (all_placed s cs) _ vs a.2 in
+    let a = and_then-ok (placed s c) _ vs h in
+    let b = and_then-ok (all_placed s cs) _ vs a.2 in
     let first : IsIn a.0 (box_of s) = subst (λ (v : Point). IsIn v (box_of s)) (placed_is s c a.0 a.1) (in_box s c l.0) in
     let more : All (λ v. IsIn v (box_of s)) b.0 = all_in s cs b.0 l.1 b.1 in
     subst (λ (ws : List Point). All (λ v. IsIn v (box_of s)) ws) (same_ok (a.0 ∷ b.0) vs b.2) (All-cons (λ v. IsIn v (box_of s)) a.0 b.0 first more)
 
 -- ---- of meshes
 
-not_refused : {A F : Type 0} (test : Bool) (fault : F) (more : Result A F) (y : A) → refused_if test fault more ≡ Ok y → more ≡ Ok y
+not_refused : {A F : Type 0} (test : Bool) (fault : F) (more : Result A F) (y : A) → err_if test fault more ≡ Ok y → more ≡ Ok y
 not_refused true fault more y h = absurd (cc)
 not_refused false fault more y h = h
 
@@ -94,7 +99,7 @@ not_refused false fault more y h = h
 mesh_is : (kind : Primitive) (s : Scope) (m : SolidMesh) → mesh_of kind s ≡ Ok m → (vs : List Point) × (vertices_of (form_of kind s.size) s ≡ Ok vs) × (mesh_in (form_of kind s.size) vs ≡ m)
 unfolding mesh_of
 mesh_is kind s m h =
-    let a = then_ok (vertices_of (form_of kind s.size) s) _ m (not_refused (lacks_size kind s.size) _ _ m h) in (a.0, a.1, same_ok _ m a.2)
+    let a = and_then-ok (vertices_of (form_of kind s.size) s) _ m (not_refused (lacks_size kind s.size) _ _ m h) in (a.0, a.1, same_ok _ m a.2)
 
 gable_solid : (b : Bool) → ◌≡◌ {A = Form} (if b then form.GableAlongX else form.GableAlongZ) form.Quad → ⊥
 gable_solid true h = cc
@@ -120,5 +125,17 @@ mesh_closed kind s m h n =
 pub mesh_inside : (kind : Primitive) (s : Scope) (m : SolidMesh) → has_negative s.size ≡ false → mesh_of kind s ≡ Ok m → All (λ v. IsIn v (box_of s)) m.vertices
 mesh_inside kind s m size h =
     let a = mesh_is kind s m h in
-    let b = then_ok (corners_of (form_of kind s.size) s.size) _ a.0 a.1 in
+    let b = and_then-ok (corners_of (form_of kind s.size) s.size) _ a.0 a.1 in
     subst (λ (k : SolidMesh). All (λ v. IsIn v (box_of s)) k.vertices) a.2 (all_in s b.0 a.0 (corners_local kind s.size b.0 (sizes s.size size) b.1) b.2)
+
+-- what is answered is closed, and stands inside
+pub closed_settled : (kind : Primitive) (s : Scope) (made : Result SolidMesh (Stop SolidFault)) → Makes (mesh_of kind s) made → IfOk (settled_of made) (λ given. kind ≢ primitive.Quad → IfOk given (λ m. IsClosed m.faces))
+closed_settled kind s (Ok m) h = λ n. mesh_closed kind s m h n
+closed_settled kind s (Err (Fault f)) h = λ n. tt
+closed_settled kind s (Err NoMemory) h = tt
+
+pub inside_settled : (kind : Primitive) (s : Scope) (made : Result SolidMesh (Stop SolidFault)) → OnOk made (has_negative s.size ≡ false) → Makes (mesh_of kind s) made
+    → IfOk (settled_of made) (λ given. IfOk given (λ m. All (λ v. IsIn v (box_of s)) m.vertices))
+inside_settled kind s (Ok m) size h = mesh_inside kind s m size h
+inside_settled kind s (Err (Fault f)) size h = tt
+inside_settled kind s (Err NoMemory) size h = tt

@@ -5,44 +5,34 @@ use Rattle.std.proofs.Math.Nat.{mul-pos, mul-le-mul_right}
 use Rattle.cga_fraction.specs.Rat.{Rat, den, zero_rat}
 use Rattle.cga_fraction.specs.Order.{rat_le}
 use Rattle.cga_fraction.specs.Arithmetic.{minus, divided}
-use Rattle.cga_fraction.specs.Refusals.{checked, quotient_of, with_fault}
-use Rattle.cga_fraction.specs.declared.overflow.Overflow as Unit
+use Rattle.cga_fraction.specs.Refusals.{checked, quotient_of}
+use Rattle.cga_fraction.specs.Results.{or_err}
+use Rattle.cga_fraction.proofs.Results.{or_err-ok, or_err-ok_as, or_err-err_as}
+use Rattle.cga_fraction.specs.declared.overflow.DivFault.TheVariants as div
 use Rattle.cga_fraction.specs.declared.overflow.DivFault.{DivFault}
 use Rattle.cga_fraction.proofs.Laws.{checked_is}
 use Rattle.cga_fraction.proofs.Ratios.{IsRatio, like, divided_ratio, minus_ratio, le_ratio, ratio_le, shown_ratio, whole_ratio, zero_ratio}
-use Rattle.cga_solid.specs.Chains.{as_fault, within}
+use Rattle.cga_solid.specs.Faults.{within}
 use Rattle.cga_solid.specs.Corners.{half_of, two}
 use Rattle.cga_solid.specs.declared.solid_fault.SolidFault.{SolidFault}
 use Rattle.cga_solid.specs.declared.solid_fault.SolidFault.TheVariants.{Overflow}
 
 -- ---- what the code's quotient says
 
-by_two : (a b : Rat) → b ≡ two → quotient_of a b ≡ with_fault (checked (divided a two))
+by_two : (a b : Rat) → b ≡ two → quotient_of a b ≡ or_err div.Overflow (checked (divided a two))
 unfolding quotient_of
 by_two a b e = rw e refl
 
-as_ok : (r : Result Rat Unit.Overflow) (m : Rat) → with_fault r ≡ Ok m → as_fault r ≡ Ok m
-as_ok (Ok a) m h = cc
-as_ok (Err e) m h = absurd (cc)
-
-as_err : (r : Result Rat Unit.Overflow) (e : DivFault) → with_fault r ≡ Err e → ◌≡◌ {A = Result Rat SolidFault} (as_fault r) (Err Overflow)
-as_err (Ok a) e h = absurd (cc)
-as_err (Err f) e h = refl
-
 pub half_ok : (a b m : Rat) → b ≡ two → quotient_of a b ≡ Ok m → half_of a ≡ Ok m
-half_ok a b m e h = as_ok (checked (divided a two)) m (sym (by_two a b e) ∙ h)
+half_ok a b m e h = or_err-ok_as div.Overflow Overflow (checked (divided a two)) m (sym (by_two a b e) ∙ h)
 
 pub half_err : (a b : Rat) (f : DivFault) → b ≡ two → quotient_of a b ≡ Err f → ◌≡◌ {A = Result Rat SolidFault} (half_of a) (Err Overflow)
-half_err a b f e h = as_err (checked (divided a two)) f (sym (by_two a b e) ∙ h)
+half_err a b f e h = or_err-err_as div.Overflow f Overflow (checked (divided a two)) (sym (by_two a b e) ∙ h)
 
 -- ---- what is in range is the number
 
-as_fault_ok : (r : Result Rat Unit.Overflow) (q : Rat) → as_fault r ≡ Ok q → r ≡ Ok q
-as_fault_ok (Ok a) q h = cc
-as_fault_ok (Err e) q h = absurd (cc)
-
 pub within_is : (a q : Rat) → within a ≡ Ok q → a ≡ q
-within_is a q h = checked_is a q (as_fault_ok (checked a) q h)
+within_is a q h = checked_is a q (or_err-ok Overflow (checked a) q h)
 
 -- ---- halves lie within sizes
 

@@ -1,5 +1,5 @@
 -- The corners of a solid lie between 0 and the scope's size.
-use Rattle.std.proofs.Common.{◌≡◌, List, [], ◌∷◌, Bool, true, false, refl, ap, ◌∙◌, subst, Ok, Err, Result}
+use Rattle.std.proofs.Common.{◌≡◌, List, [], ◌∷◌, Bool, true, false, refl, ap, ◌∙◌, subst, Ok, Result}
 use Rattle.std.specs.Prelude.{IsTrue, not, ◌||◌, if◌then◌else◌}
 use Rattle.cga_fraction.specs.Rat.{Rat, zero_rat}
 use Rattle.cga_fraction.specs.Order.{rat_le, rat_lt}
@@ -9,18 +9,13 @@ use Rattle.cga_frame.specs.Scope.{has_negative}
 use Rattle.cga_frame.specs.declared.point.Point.{Point}
 use Rattle.cga_word.specs.declared.primitive.Primitive.{Primitive}
 use Rattle.cga_word.specs.declared.primitive.Primitive.TheVariants as primitive
-use Rattle.cga_fraction.specs.Chains.{then_}
-use Rattle.cga_solid.specs.Chains.{within}
+use Rattle.cga_fraction.proofs.Results.{and_then-ok}
+use Rattle.cga_solid.specs.Faults.{within}
 use Rattle.cga_solid.specs.Corners.{corners_of, half_of, over_base, point, two}
 use Rattle.cga_solid.specs.Solids.{form_of}
 use Rattle.cga_solid.specs.declared.form.Form.TheVariants.{Cube, Shed, GableAlongX, GableAlongZ, HipAlongX, HipAlongZ, Pyramid, Quad}
 use Rattle.cga_solid.specs.declared.solid_fault.SolidFault.{SolidFault}
 use Rattle.cga_solid.proofs.Halves.{IsWithin, half_within, rest_within, within_is}
-
--- what a chain that succeeds went through
-pub then_ok : {A B F : Type 0} (r : Result A F) (f : A → Result B F) (y : B) → then_ r f ≡ Ok y → (x : A) × (r ≡ Ok x) × (f x ≡ Ok y)
-then_ok (Ok x) f y h = (x, refl, h)
-then_ok (Err e) f y h = absurd (cc)
 
 pub same_ok : {A F : Type 0} (a b : A) → ◌≡◌ {A = Result A F} (Ok a) (Ok b) → a ≡ b
 same_ok a b h = cc
@@ -116,7 +111,7 @@ quad_local s cs p h =
 gable_x_local : (s : Point) (cs : List Point) → IsSize s → corners_of GableAlongX s ≡ Ok cs → AllLocal s cs
 unfolding corners_of
 gable_x_local s cs p h =
-    let a = then_ok (half_of s.z) _ cs h in
+    let a = and_then-ok (half_of s.z) _ cs h in
     let m = half_is s.z s.z a.0 a.1 p.z p.z (le_refl s.z) in
     let y = own s.y p.y in
     given s _ cs (ridge_local s _ _ p (at s zero_rat s.y a.0 (low s.x p.x) y m) (at s s.x s.y a.0 (own s.x p.x) y m)) a.2
@@ -124,7 +119,7 @@ gable_x_local s cs p h =
 gable_z_local : (s : Point) (cs : List Point) → IsSize s → corners_of GableAlongZ s ≡ Ok cs → AllLocal s cs
 unfolding corners_of
 gable_z_local s cs p h =
-    let a = then_ok (half_of s.x) _ cs h in
+    let a = and_then-ok (half_of s.x) _ cs h in
     let m = half_is s.x s.x a.0 a.1 p.x p.x (le_refl s.x) in
     let y = own s.y p.y in
     given s _ cs (ridge_local s _ _ p (at s a.0 s.y zero_rat m y (low s.z p.z)) (at s a.0 s.y s.z m y (own s.z p.z))) a.2
@@ -132,8 +127,8 @@ gable_z_local s cs p h =
 hip_x_local : (s : Point) (cs : List Point) → IsSize s → IsTrue (rat_le s.z s.x) → corners_of HipAlongX s ≡ Ok cs → AllLocal s cs
 unfolding corners_of
 hip_x_local s cs p l h =
-    let a = then_ok (half_of s.z) _ cs h in
-    let b = then_ok (within (minus s.x a.0)) _ cs a.2 in
+    let a = and_then-ok (half_of s.z) _ cs h in
+    let b = and_then-ok (within (minus s.x a.0)) _ cs a.2 in
     let mx = half_is s.z s.x a.0 a.1 p.z p.x l in
     let mz = half_is s.z s.z a.0 a.1 p.z p.z (le_refl s.z) in
     let r = rest_is s.z s.x a.0 b.0 a.1 b.1 p.z p.x l in
@@ -143,8 +138,8 @@ hip_x_local s cs p l h =
 hip_z_local : (s : Point) (cs : List Point) → IsSize s → IsTrue (rat_le s.x s.z) → corners_of HipAlongZ s ≡ Ok cs → AllLocal s cs
 unfolding corners_of
 hip_z_local s cs p l h =
-    let a = then_ok (half_of s.x) _ cs h in
-    let b = then_ok (within (minus s.z a.0)) _ cs a.2 in
+    let a = and_then-ok (half_of s.x) _ cs h in
+    let b = and_then-ok (within (minus s.z a.0)) _ cs a.2 in
     let mz = half_is s.x s.z a.0 a.1 p.x p.z l in
     let mx = half_is s.x s.x a.0 a.1 p.x p.x (le_refl s.x) in
     let r = rest_is s.x s.z a.0 b.0 a.1 b.1 p.x p.z l in
@@ -154,7 +149,7 @@ hip_z_local s cs p l h =
 pyramid_local : (s : Point) (cs : List Point) → IsSize s → IsTrue (rat_le s.x s.z) → corners_of Pyramid s ≡ Ok cs → AllLocal s cs
 unfolding corners_of
 pyramid_local s cs p l h =
-    let a = then_ok (half_of s.x) _ cs h in
+    let a = and_then-ok (half_of s.x) _ cs h in
     let mz = half_is s.x s.z a.0 a.1 p.x p.z l in
     let mx = half_is s.x s.x a.0 a.1 p.x p.x (le_refl s.x) in
     given s _ cs (base_local s (point a.0 s.y a.0 ∷ []) p (at s a.0 s.y a.0 mx (own s.y p.y) mz, tt)) a.2

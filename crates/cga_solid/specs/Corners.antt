@@ -3,8 +3,8 @@ use Rattle.std.specs.Prelude.{List, [], ◌∷◌, Result, Ok, pos}
 use Rattle.cga_fraction.specs.Rat.{Rat, of_int, zero_rat}
 use Rattle.cga_fraction.specs.Arithmetic.{minus, divided}
 use Rattle.cga_frame.specs.declared.point.Point.{Point}
-use Rattle.cga_fraction.specs.Chains.{then_}
-use Rattle.cga_solid.specs.Chains.{within}
+use Rattle.cga_fraction.specs.Results.{and_then}
+use Rattle.cga_solid.specs.Faults.{within}
 use Rattle.cga_solid.specs.declared.form.Form.{Form}
 use Rattle.cga_solid.specs.declared.form.Form.TheVariants.{Cube, Shed, GableAlongX, GableAlongZ, HipAlongX, HipAlongZ, Pyramid, Quad}
 use Rattle.cga_solid.specs.declared.solid_fault.SolidFault.{SolidFault}
@@ -27,9 +27,9 @@ over_base s more = point zero_rat zero_rat zero_rat ∷ point s.x zero_rat zero_
 unfoldable pub corners_of : Form → Point → Result (List Point) SolidFault
 corners_of Cube s = Ok (over_base s (point zero_rat s.y zero_rat ∷ point s.x s.y zero_rat ∷ point s.x s.y s.z ∷ point zero_rat s.y s.z ∷ []))
 corners_of Shed s = Ok (over_base s (point s.x s.y s.z ∷ point zero_rat s.y s.z ∷ []))
-corners_of GableAlongX s = then_ (half_of s.z) (λ m. Ok (over_base s (point zero_rat s.y m ∷ point s.x s.y m ∷ [])))
-corners_of GableAlongZ s = then_ (half_of s.x) (λ m. Ok (over_base s (point m s.y zero_rat ∷ point m s.y s.z ∷ [])))
-corners_of HipAlongX s = then_ (half_of s.z) (λ m. then_ (within (minus s.x m)) (λ r. Ok (over_base s (point m s.y m ∷ point r s.y m ∷ []))))
-corners_of HipAlongZ s = then_ (half_of s.x) (λ m. then_ (within (minus s.z m)) (λ r. Ok (over_base s (point m s.y m ∷ point m s.y r ∷ []))))
-corners_of Pyramid s = then_ (half_of s.x) (λ m. Ok (over_base s (point m s.y m ∷ [])))
+corners_of GableAlongX s = and_then (half_of s.z) (λ m. Ok (over_base s (point zero_rat s.y m ∷ point s.x s.y m ∷ [])))
+corners_of GableAlongZ s = and_then (half_of s.x) (λ m. Ok (over_base s (point m s.y zero_rat ∷ point m s.y s.z ∷ [])))
+corners_of HipAlongX s = and_then (half_of s.z) (λ m. and_then (within (minus s.x m)) (λ r. Ok (over_base s (point m s.y m ∷ point r s.y m ∷ []))))
+corners_of HipAlongZ s = and_then (half_of s.x) (λ m. and_then (within (minus s.z m)) (λ r. Ok (over_base s (point m s.y m ∷ point m s.y r ∷ []))))
+corners_of Pyramid s = and_then (half_of s.x) (λ m. Ok (over_base s (point m s.y m ∷ [])))
 corners_of Quad s = Ok (point zero_rat zero_rat zero_rat ∷ point s.x zero_rat zero_rat ∷ point s.x s.y zero_rat ∷ point zero_rat s.y zero_rat ∷ [])

@@ -1,4 +1,4 @@
-pub mod Chains
+pub mod Faults
 pub mod Corners
 pub mod Faces
 pub mod Listed

@@ -7,14 +7,13 @@ use Rattle.cga_frame.specs.Scope.{Scope, place_of}
 use Rattle.cga_frame.specs.declared.point.Point.{Point}
 use Rattle.cga_word.specs.declared.primitive.Primitive.{Primitive}
 use Rattle.cga_word.specs.declared.primitive.Primitive.TheVariants as primitive
-use Rattle.cga_fraction.specs.Chains.{then_, refused_if}
-use Rattle.cga_solid.specs.Chains.{as_fault}
+use Rattle.cga_fraction.specs.Results.{and_then, err_if, or_err}
 use Rattle.cga_solid.specs.Corners.{corners_of}
 use Rattle.cga_solid.specs.Faces.{faces_of}
 use Rattle.cga_solid.specs.declared.form.Form.{Form}
 use Rattle.cga_solid.specs.declared.form.Form.TheVariants.{Cube, Shed, GableAlongX, GableAlongZ, HipAlongX, HipAlongZ, Pyramid, Quad}
 use Rattle.cga_solid.specs.declared.solid_fault.SolidFault.{SolidFault}
-use Rattle.cga_solid.specs.declared.solid_fault.SolidFault.TheVariants.{FlatScope}
+use Rattle.cga_solid.specs.declared.solid_fault.SolidFault.TheVariants.{FlatScope, Overflow}
 use Rattle.cga_solid.specs.declared.solid_mesh.SolidMesh.{SolidMesh}
 
 -- the ridge of a gable lies along the longer side, and along X where both are as long
@@ -47,27 +46,27 @@ lacks_size primitive.Hip s = is_flat s.x || is_flat s.y || is_flat s.z
 
 -- the world point of local coordinates, where it is in range
 abbrev pub placed : Scope → Point → Result Point SolidFault
-placed s local = as_fault (checked_point (place_of s.at s.frame local))
+placed s local = or_err Overflow (checked_point (place_of s.at s.frame local))
 
 -- each point placed, or the first refusal
 abbrev pub all_placed : Scope → List Point → Result (List Point) SolidFault
 all_placed s [] = Ok []
-all_placed s (p ∷ ps) = then_ (placed s p) (λ v. then_ (all_placed s ps) (λ vs. Ok (v ∷ vs)))
+all_placed s (p ∷ ps) = and_then (placed s p) (λ v. and_then (all_placed s ps) (λ vs. Ok (v ∷ vs)))
 
 -- the vertices of a form, in order
 abbrev pub vertices_of : Form → Scope → Result (List Point) SolidFault
-vertices_of form s = then_ (corners_of form s.size) (λ corners. all_placed s corners)
+vertices_of form s = and_then (corners_of form s.size) (λ corners. all_placed s corners)
 
 abbrev pub mesh_in : Form → List Point → SolidMesh
 mesh_in form vertices = record { vertices = vertices; faces = faces_of form }
 
 -- the mesh of a solid in a scope, or the fault
 unfoldable pub mesh_of : Primitive → Scope → Result SolidMesh SolidFault
-mesh_of p s = refused_if (lacks_size p s.size) FlatScope (then_ (vertices_of (form_of p s.size) s) (λ vertices. Ok (mesh_in (form_of p s.size) vertices)))
+mesh_of p s = err_if (lacks_size p s.size) FlatScope (and_then (vertices_of (form_of p s.size) s) (λ vertices. Ok (mesh_in (form_of p s.size) vertices)))
 
 -- the fault of a result alone
 abbrev pub fault_of : {A F : Type 0} → Result A F → Result (Unit {0}) F
-fault_of r = then_ r (λ x. Ok tt)
+fault_of r = and_then r (λ x. Ok tt)
 
 -- whether the mesh is refused, and why
 abbrev pub check_solid_of : Primitive → Scope → Result (Unit {0}) SolidFault

@@ -1,6 +1,6 @@
 ghost use Rattle.std.specs.Prelude.{◌≡◌, ◌∷◌, [], Ok};
 ghost use Rattle.cga_fraction.specs.Arithmetic.{minus};
-ghost use Rattle.cga_solid.specs.Chains.{within};
+ghost use Rattle.cga_solid.specs.Faults.{within};
 ghost use Rattle.cga_solid.specs.Corners.{corners_of, half_of, over_base, point};
 ghost use Rattle.cga_solid.specs.Listed.{listed, Lists};
 ghost use Rattle.cga_solid.specs.declared.form.Form.TheVariants as form;

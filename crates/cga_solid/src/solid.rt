@@ -2,7 +2,7 @@ ghost use Rattle.std.specs.Prelude.{◌≡◌, ◌≢◌, IfOk, OnOk, All, false
 ghost use Rattle.cga_frame.specs.Box.{box_of};
 ghost use Rattle.cga_frame.specs.Meeting.{IsIn};
 ghost use Rattle.cga_frame.specs.Scope.{has_negative};
-ghost use Rattle.cga_fraction.specs.Chains.{then_};
+ghost use Rattle.cga_fraction.specs.Results.{and_then};
 ghost use Rattle.cga_solid.specs.Corners.{corners_of};
 ghost use Rattle.cga_solid.specs.Faces.{IsClosed};
 ghost use Rattle.cga_solid.specs.Solids.{all_placed, check_solid_of, fault_of, form_of, is_flat, lacks_size, mesh_of, placed, vertices_of};
@@ -14,7 +14,7 @@ use crate::faces::faces;
 use crate::form::Form;
 use crate::solid_fault::SolidFault;
 use crate::solid_mesh::SolidMesh;
-use cga_fraction::{Fraction, List, NoMemory, Stop};
+use cga_fraction::{Fraction, List, NoMemory, Stop, settled};
 use cga_frame::{Point, Scope};
 use cga_word::Primitive;
 use std::alloc::Global;
@@ -124,9 +124,5 @@ pub fn mesh(
     ensures inside { IfOk result (λ mesh. IfOk mesh (λ mesh.
         All (λ vertex. IsIn vertex (box_of scope.now)) mesh.vertices)) }
 {
-    match made(alloc, primitive, scope) {
-        Ok(mesh) => Ok(Ok(mesh)),
-        Err(Stop::Fault(fault)) => Ok(Err(fault)),
-        Err(Stop::NoMemory) => Err(NoMemory),
-    }
+    settled(made(alloc, primitive, scope))
 }

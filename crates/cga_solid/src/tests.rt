@@ -5,28 +5,20 @@ use cga_word::Primitive;
 use std::process::Abort;
 use std::test::Fail;
 
-fn point(x: u32, y: u32, z: u32) -> Point {
-    Point {
-        x: Fraction::from(x),
-        y: Fraction::from(y),
-        z: Fraction::from(z),
-    }
-}
-
 fn scope(rt: &impl Abort, size: Point) -> Scope {
-    Scope::new(point(0, 0, 0), Frame::base(), size).expect(rt, "in range")
+    Scope::new(Point::whole(0, 0, 0), Frame::base(), size).expect(rt, "in range")
 }
 
 #[test]
 fn long_hip(rt: HostRuntime) -> Result<(), Fail> {
-    let long = scope(&rt, point(12, 3, 8));
+    let long = scope(&rt, Point::whole(12, 3, 8));
     let vertices = [
-        point(0, 0, 0),
-        point(12, 0, 0),
-        point(12, 0, 8),
-        point(0, 0, 8),
-        point(4, 3, 4),
-        point(8, 3, 4),
+        Point::whole(0, 0, 0),
+        Point::whole(12, 0, 0),
+        Point::whole(12, 0, 8),
+        Point::whole(0, 0, 8),
+        Point::whole(4, 3, 4),
+        Point::whole(8, 3, 4),
     ];
     let hip = mesh(rt.alloc(), Primitive::Hip, &long)?.expect(&rt, "a hip");
     assert_eq!(rt; hip.vertices.as_slice(), vertices.as_slice());
@@ -36,12 +28,12 @@ fn long_hip(rt: HostRuntime) -> Result<(), Fail> {
 
 #[test]
 fn square_hip(rt: HostRuntime) -> Result<(), Fail> {
-    let square = scope(&rt, point(8, 3, 8));
+    let square = scope(&rt, Point::whole(8, 3, 8));
     let hip = mesh(rt.alloc(), Primitive::Hip, &square)?.expect(&rt, "a hip");
     assert_eq!(rt; hip.vertices.len(), 5);
     assert_eq!(rt;
         hip.vertices.as_slice().last().copied(),
-        Some(point(4, 3, 4))
+        Some(Point::whole(4, 3, 4))
     );
     assert_eq!(rt; hip.faces.len(), 5);
     assert_eq!(rt; check_solid(Primitive::Hip, &square), Ok(()));
@@ -50,7 +42,7 @@ fn square_hip(rt: HostRuntime) -> Result<(), Fail> {
 
 #[test]
 fn flat_hip(rt: HostRuntime) -> Result<(), Fail> {
-    let lot = scope(&rt, point(10, 0, 8));
+    let lot = scope(&rt, Point::whole(10, 0, 8));
     let fault = mesh(rt.alloc(), Primitive::Hip, &lot)?.expect_err(&rt, "flat");
     assert_eq!(rt; fault, SolidFault::FlatScope);
     assert_eq!(rt;
@@ -62,16 +54,16 @@ fn flat_hip(rt: HostRuntime) -> Result<(), Fail> {
 
 #[test]
 fn one_box(rt: HostRuntime) -> Result<(), Fail> {
-    let house = scope(&rt, point(10, 6, 8));
+    let house = scope(&rt, Point::whole(10, 6, 8));
     let vertices = [
-        point(0, 0, 0),
-        point(10, 0, 0),
-        point(10, 0, 8),
-        point(0, 0, 8),
-        point(0, 6, 0),
-        point(10, 6, 0),
-        point(10, 6, 8),
-        point(0, 6, 8),
+        Point::whole(0, 0, 0),
+        Point::whole(10, 0, 0),
+        Point::whole(10, 0, 8),
+        Point::whole(0, 0, 8),
+        Point::whole(0, 6, 0),
+        Point::whole(10, 6, 0),
+        Point::whole(10, 6, 8),
+        Point::whole(0, 6, 8),
     ];
     let faces: [[u32; 4]; 6] = [
         [4, 3, 7, 8],

@@ -64,7 +64,7 @@ alone x c (d ∷ ds) r (suc i) (suc j) p q e f a b = ap suc (alone x d ds r.1 i 
 pub covers : (c d : Rat) (ds : List Rat) (size : Rat) → IsTrue (rat_le c zero_rat) → IsTrue (rat_le zero_rat c) → Rises c (d ∷ ds) → IsTrue (rat_le (last_of d ds) size) → IsTrue (rat_le size (last_of d ds)) → Cover (c ∷ d ∷ ds) size
 unfolding Found
 covers c d ds size h k r m n = record {
-  whole = λ x. (
+  everywhere = λ x. (
     (λ w. find_in x c d ds r (le_trans c zero_rat x h w.0) (le_trans x size (last_of d ds) w.1 n)),
     (λ f. let w = within x c (d ∷ ds) r f.0 f.1 f.2 f.3 in (le_trans zero_rat c x k w.0, le_trans x (last_of d ds) size w.1 m)),
   );

@@ -4,27 +4,19 @@ use Rattle.std.specs.Prelude.{Result}
 use Rattle.cga_fraction.specs.Rat.{Rat}
 use Rattle.cga_fraction.specs.Arithmetic.{plus, minus, times, divided}
 use Rattle.cga_fraction.specs.Refusals.{checked}
-use Rattle.cga_fraction.specs.declared.overflow.Overflow.{Overflow}
+use Rattle.cga_fraction.proofs.Results.{and_then-ok, or_err-ok}
+use Rattle.cga_split.specs.declared.split_fault.SplitFault.TheVariants as fault
 use Rattle.cga_fraction.proofs.Laws.{IsLowest, minus-plus_left, checked_is}
-use Rattle.cga_fraction.specs.Chains.{then_, onto}
-use Rattle.cga_split.specs.Chains.{as_fault, within}
+use Rattle.cga_fraction.specs.Results.{and_then, onto}
+use Rattle.cga_split.specs.Faults.{within}
 use Rattle.cga_split.specs.Cuts.{parts_of}
 use Rattle.cga_split.specs.declared.split_fault.SplitFault.{SplitFault}
 use Rattle.cga_split.specs.declared.part_size.PartSize.{PartSize}
 use Rattle.cga_split.specs.declared.part_size.PartSize.TheVariants.{Absolute, Relative}
 use Rattle.cga_split.specs.Subdiv.{length_of, cuts_after, checked_length, parts_from, absolute_sum, absolute_total, relative_sum, relative_total}
 
--- what a chain that succeeds went through
-pub then_ok : {A B F : Type 0} (r : Result A F) (f : A → Result B F) (y : B) → then_ r f ≡ Ok y → (x : A) × (r ≡ Ok x) × (f x ≡ Ok y)
-then_ok (Ok x) f y h = (x, refl, h)
-then_ok (Err e) f y h = absurd (cc)
-
-as_fault_ok : (r : Result Rat Overflow) (q : Rat) → as_fault r ≡ Ok q → r ≡ Ok q
-as_fault_ok (Ok a) q h = cc
-as_fault_ok (Err e) q h = absurd (cc)
-
 pub within_is : (a q : Rat) → within a ≡ Ok q → a ≡ q
-within_is a q h = checked_is a q (as_fault_ok (checked a) q h)
+within_is a q h = checked_is a q (or_err-ok fault.Overflow (checked a) q h)
 
 ok_same : {F : Type 0} (a b : Rat) → ◌≡◌ {A = Result Rat F} (Ok a) (Ok b) → a ≡ b
 ok_same a b h = cc
@@ -37,7 +29,7 @@ AllLengthsLowest rest total (s ∷ ss) = IsLowest (length_of rest total s) × Al
 pub length_is : (rest total : Rat) (s : PartSize) (len : Rat) → checked_length rest total s ≡ Ok len → length_of rest total s ≡ len
 length_is rest total (Absolute x) len h = ok_same x len h
 length_is rest total (Relative r) len h =
-    let w = then_ok (within (times rest r)) (λ m. within (divided m total)) len h in
+    let w = and_then-ok (within (times rest r)) (λ m. within (divided m total)) len h in
     ap (λ m. divided m total) (within_is (times rest r) w.0 w.1) ∙ within_is (divided w.0 total) len w.2
 
 pub joined : {P F : Type 0} (p : P) (qs ps : List P) (q : P) (rs : List P) → ◌≡◌ {A = Result (List P) F} (Ok (p ∷ qs)) (Ok ps) → p ≡ q → qs ≡ rs → ps ≡ q ∷ rs
@@ -48,10 +40,10 @@ pub parts_are : {P : Type 0} (part : Rat → Rat → Result P SplitFault) (place
     → (rest total at : Rat) (ss : List PartSize) (ps : List P) → AllLengthsLowest rest total ss → parts_from part rest total at ss ≡ Ok ps → ps ≡ parts_of place (at ∷ cuts_after rest total at ss)
 parts_are part place exact rest total at [] ps l h = cc
 parts_are part place exact rest total at (s ∷ ss) ps l h =
-    let a = then_ok (checked_length rest total s) _ ps h in
-    let b = then_ok (part at a.0) _ ps a.2 in
-    let c = then_ok (within (plus at a.0)) _ ps b.2 in
-    let d = then_ok (parts_from part rest total c.0 ss) _ ps c.2 in
+    let a = and_then-ok (checked_length rest total s) _ ps h in
+    let b = and_then-ok (part at a.0) _ ps a.2 in
+    let c = and_then-ok (within (plus at a.0)) _ ps b.2 in
+    let d = and_then-ok (parts_from part rest total c.0 ss) _ ps c.2 in
     let len : length_of rest total s ≡ a.0 = length_is rest total s a.0 a.1 in
     let next : plus at a.0 ≡ c.0 = within_is (plus at a.0) c.0 c.1 in
     let next' : plus at (length_of rest total s) ≡ c.0 = ap (plus at) len ∙ next in
@@ -64,7 +56,7 @@ parts_are part place exact rest total at (s ∷ ss) ps l h =
 pub absolute_is : (a : Rat) (sizes : List PartSize) (t : Rat) → absolute_total a sizes ≡ Ok t → absolute_sum a sizes ≡ t
 absolute_is a [] t h = ok_same a t h
 absolute_is a (Absolute x ∷ sizes) t h =
-    let w = then_ok (within (plus a x)) (λ b. absolute_total b sizes) t h in
+    let w = and_then-ok (within (plus a x)) (λ b. absolute_total b sizes) t h in
     ap (λ b. absolute_sum b sizes) (within_is (plus a x) w.0 w.1) ∙ absolute_is w.0 sizes t w.2
 absolute_is a (Relative r ∷ sizes) t h = absolute_is a sizes t h
 
@@ -72,10 +64,10 @@ pub relative_is : (a : Rat) (sizes : List PartSize) (t : Rat) → relative_total
 relative_is a [] t h = ok_same a t h
 relative_is a (Absolute x ∷ sizes) t h = relative_is a sizes t h
 relative_is a (Relative r ∷ sizes) t h =
-    let w = then_ok (within (plus a r)) (λ b. relative_total b sizes) t h in
+    let w = and_then-ok (within (plus a r)) (λ b. relative_total b sizes) t h in
     ap (λ b. relative_sum b sizes) (within_is (plus a r) w.0 w.1) ∙ relative_is w.0 sizes t w.2
 
-onto_more : {P F : Type 0} (made : List P) (p : P) (r : Result (List P) F) → onto made (then_ r (λ ps. Ok (p ∷ ps))) ≡ onto (made ++ p ∷ []) r
+onto_more : {P F : Type 0} (made : List P) (p : P) (r : Result (List P) F) → onto made (and_then r (λ ps. Ok (p ∷ ps))) ≡ onto (made ++ p ∷ []) r
 onto_more made p (Ok ps) = ap Ok (sym (append_assoc made (p ∷ []) ps))
 onto_more made p (Err e) = refl
 
@@ -86,5 +78,5 @@ pub one_more : {P : Type 0} (part : Rat → Rat → Result P SplitFault) (rest t
 one_more part rest total from length next made longer p s ss target h a b c e =
     rw e (sym (onto_more made p (parts_from part rest total next ss)) ∙ step ∙ h)
   where
-    step : onto made (then_ (parts_from part rest total next ss) (λ ps. Ok (p ∷ ps))) ≡ onto made (parts_from part rest total from (s ∷ ss))
+    step : onto made (and_then (parts_from part rest total next ss) (λ ps. Ok (p ∷ ps))) ≡ onto made (parts_from part rest total from (s ∷ ss))
     step = rw (← a) (rw (← b) (rw (← c) refl))

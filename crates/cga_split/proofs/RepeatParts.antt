@@ -11,13 +11,14 @@ use Rattle.cga_fraction.proofs.Laws.{IsLowest, minus_lowest, times_lowest, same_
 use Rattle.cga_fraction.proofs.Diffs.{minus_of, times_diff, itself}
 use Rattle.cga_fraction.proofs.Ratios.{IsRatio, like, times_ratio, divided_ratio, le_ratio, zero_ratio}
 use Rattle.cga_fraction.proofs.Rounding.{is_ceil}
-use Rattle.cga_fraction.specs.Chains.{then_, onto}
-use Rattle.cga_split.specs.Chains.{within}
+use Rattle.cga_fraction.specs.Results.{and_then, onto}
+use Rattle.cga_split.specs.Faults.{within}
 use Rattle.cga_split.specs.Cuts.{Cover, IsCut, parts_of}
 use Rattle.cga_split.specs.Repeat.{whole, multiples, repeat_cuts, count_of, repeats_from, counted, repeated}
 use Rattle.cga_split.specs.declared.split_fault.SplitFault.{SplitFault}
 use Rattle.cga_split.proofs.Covers.{Rises, last_of, covers}
-use Rattle.cga_split.proofs.Parts.{then_ok, within_is, joined}
+use Rattle.cga_fraction.proofs.Results.{and_then-ok}
+use Rattle.cga_split.proofs.Parts.{within_is, joined}
 use Rattle.cga_split.proofs.Subdivs.{positive, not_refused, not_true}
 
 -- ---- the multiples of a part
@@ -60,9 +61,9 @@ repeats_are : {P : Type 0} (part : Rat → Rat → Result P SplitFault) (place :
     → (step : Rat) → IsLowest step → (i n : ℕ) (ps : List P) → repeats_from part step i n ≡ Ok ps → ps ≡ parts_of place (times step (whole i) ∷ multiples step (i + 1) n)
 repeats_are part place exact step low i zero ps h = cc
 repeats_are part place exact step low i (suc n) ps h =
-    let a = then_ok (within (times step (whole i))) _ ps h in
-    let b = then_ok (part a.0 step) _ ps a.2 in
-    let c = then_ok (repeats_from part step (i + 1) n) _ ps b.2 in
+    let a = and_then-ok (within (times step (whole i))) _ ps h in
+    let b = and_then-ok (part a.0 step) _ ps a.2 in
+    let c = and_then-ok (repeats_from part step (i + 1) n) _ ps b.2 in
     let at : times step (whole i) ≡ a.0 = within_is (times step (whole i)) a.0 a.1 in
     let head : b.0 ≡ place (times step (whole i)) (minus (times step (whole (i + 1))) (times step (whole i))) =
     exact a.0 step b.0 b.1 ∙ ap (λ (x : Rat). place x step) (sym at) ∙ ap (place (times step (whole i))) (sym (step_is step i low)) in
@@ -121,7 +122,7 @@ counted_is : {P : Type 0} (part : Rat → Rat → Result P SplitFault) (place : 
 unfolding repeat_cuts
 counted_is part place exact size n ps h =
     let few = not_refused (nat_lt 10000 n) _ _ ps h in
-    let a = then_ok (within (divided size (whole n))) _ ps few.1 in
+    let a = and_then-ok (within (divided size (whole n))) _ ps few.1 in
     let step : divided size (whole n) ≡ a.0 = within_is (divided size (whole n)) a.0 a.1 in
     let low : IsLowest a.0 = subst IsLowest step (divided_lowest size (whole n)) in
     repeats_are part place exact a.0 low 0 n ps a.2 ∙ ap (λ (x : Rat). parts_of place (times x (whole 0) ∷ multiples x (0 + 1) n)) (sym step)
@@ -133,7 +134,7 @@ unfolding repeated
 repeated_is part place exact size length ps h =
     let flat = not_refused (not (rat_lt zero_rat size)) _ _ ps h in
     let short = not_refused (not (rat_lt zero_rat length)) _ _ ps flat.1 in
-    let q = then_ok (within (divided size length)) _ ps short.1 in
+    let q = and_then-ok (within (divided size length)) _ ps short.1 in
     let l = positive size (not_true _ flat.0) in
     let s = positive length (not_true _ short.0) in
     let quotient : divided size length ≡ q.0 = within_is (divided size length) q.0 q.1 in
@@ -145,7 +146,7 @@ repeated_is part place exact size length ps h =
 
 -- ---- one part more
 
-onto_more : {P F : Type 0} (made : List P) (p : P) (r : Result (List P) F) → onto made (then_ r (λ ps. Ok (p ∷ ps))) ≡ onto (made ++ p ∷ []) r
+onto_more : {P F : Type 0} (made : List P) (p : P) (r : Result (List P) F) → onto made (and_then r (λ ps. Ok (p ∷ ps))) ≡ onto (made ++ p ∷ []) r
 onto_more made p (Ok ps) = ap Ok (sym (append_assoc made (p ∷ []) ps))
 onto_more made p (Err e) = refl
 
@@ -161,7 +162,7 @@ module _ {P : Type 0} (part : Rat → Rat → Result P SplitFault) (step : Rat) 
       → onto longer (repeats_from part step (i + 1) (left - 1)) ≡ target
   one_repeat from longer p a b e = rw e (sym (onto_more made p (repeats_from part step (i + 1) (left - 1))) ∙ back ∙ here)
     where
-      back : onto made (then_ (repeats_from part step (i + 1) (left - 1)) (λ ps. Ok (p ∷ ps))) ≡ onto made (repeats_from part step i (suc (left - 1)))
+      back : onto made (and_then (repeats_from part step (i + 1) (left - 1)) (λ ps. Ok (p ∷ ps))) ≡ onto made (repeats_from part step i (suc (left - 1)))
       back = rw (← a) (rw (← b) refl)
 
   pub place_fault : (fault : SplitFault) → ◌≡◌ {A = Result Rat SplitFault} (Err fault) (within (times step (whole i))) → target ≡ Err fault

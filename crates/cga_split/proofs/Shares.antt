@@ -4,13 +4,14 @@ use Rattle.std.specs.Prelude.{IsTrue, not}
 use Rattle.cga_fraction.specs.Rat.{Rat, den, zero_rat}
 use Rattle.cga_fraction.specs.Order.{rat_le, rat_lt, positive_part, negative_part}
 use Rattle.cga_fraction.specs.Arithmetic.{minus, times, divided}
-use Rattle.cga_fraction.specs.Refusals.{checked, quotient_of, with_fault, is_zero}
-use Rattle.cga_fraction.specs.declared.overflow.Overflow as Unit
+use Rattle.cga_fraction.specs.Refusals.{checked, quotient_of, is_zero}
 use Rattle.cga_fraction.specs.declared.overflow.DivFault.{DivFault}
 use Rattle.cga_fraction.proofs.Order.{lt_test, lt_not_le}
 use Rattle.cga_fraction.proofs.Ratios.{IsRatio, times_ratio, minus_ratio, divided_ratio, le_ratio, zero_ratio}
-use Rattle.cga_fraction.specs.Chains.{then_}
-use Rattle.cga_split.specs.Chains.{as_fault, within}
+use Rattle.cga_fraction.specs.Results.{and_then, or_err}
+use Rattle.cga_fraction.proofs.Results.{or_err-ok_as, or_err-err_as}
+use Rattle.cga_fraction.specs.declared.overflow.DivFault.TheVariants as div
+use Rattle.cga_split.specs.Faults.{within}
 use Rattle.cga_split.specs.Subdiv.{checked_length, is_off, is_positive, is_relative, absolute_sum, absolute_total, relative_sum, relative_total}
 use Rattle.cga_split.specs.declared.part_size.PartSize.{PartSize}
 use Rattle.std.specs.List.{list_all, list_any}
@@ -29,31 +30,23 @@ not_zero : (z : ℤ) (n : ℕ) → z ≡ pos (suc n) → is_zero z ≡ false
 not_zero z n e = rw e refl
 
 -- by a number above 0 the quotient is the exact one
-quotient_is : (m total : Rat) (n : ℕ) → total.num ≡ pos (suc n) → quotient_of m total ≡ with_fault (checked (divided m total))
+quotient_is : (m total : Rat) (n : ℕ) → total.num ≡ pos (suc n) → quotient_of m total ≡ or_err div.Overflow (checked (divided m total))
 unfolding quotient_of
 quotient_is m total n e = rw (not_zero total.num n e) refl
 
-as_ok : (r : Result Rat Unit.Overflow) (m : Rat) → with_fault r ≡ Ok m → as_fault r ≡ Ok m
-as_ok (Ok a) m h = cc
-as_ok (Err e) m h = absurd (cc)
-
-as_err : (r : Result Rat Unit.Overflow) (e : DivFault) → with_fault r ≡ Err e → ◌≡◌ {A = Result Rat SplitFault} (as_fault r) (Err Overflow)
-as_err (Ok a) e h = absurd (cc)
-as_err (Err f) e h = refl
-
 module _ (rest r total m : Rat) (product : checked (times rest r) ≡ Ok m) (some : IsTrue (rat_lt zero_rat total)) where
   first : within (times rest r) ≡ Ok m
-  first = ap as_fault product
+  first = ap (or_err Overflow) product
 
   pub share_ok : (len : Rat) → quotient_of m total ≡ Ok len → checked_length rest total (Relative r) ≡ Ok len
   share_ok len h =
       let t = positive_top total some in
-      ap (λ (x : Result Rat SplitFault). then_ x (λ k. within (divided k total))) first ∙ as_ok (checked (divided m total)) len (sym (quotient_is m total t.0 t.1) ∙ h)
+      ap (λ (x : Result Rat SplitFault). and_then x (λ k. within (divided k total))) first ∙ or_err-ok_as div.Overflow Overflow (checked (divided m total)) len (sym (quotient_is m total t.0 t.1) ∙ h)
 
   pub share_err : (e : DivFault) → quotient_of m total ≡ Err e → ◌≡◌ {A = Result Rat SplitFault} (checked_length rest total (Relative r)) (Err Overflow)
   share_err e h =
       let t = positive_top total some in
-      ap (λ (x : Result Rat SplitFault). then_ x (λ k. within (divided k total))) first ∙ as_err (checked (divided m total)) e (sym (quotient_is m total t.0 t.1) ∙ h)
+      ap (λ (x : Result Rat SplitFault). and_then x (λ k. within (divided k total))) first ∙ or_err-err_as div.Overflow e Overflow (checked (divided m total)) (sym (quotient_is m total t.0 t.1) ∙ h)
 
 -- a number that isn't below 0 is a ratio
 not_below : (z : ℤ) (d : ℕ) → (positive_part z * 1 + 0 * d < 0 * d + negative_part z * 1 → ⊥) → (n : ℕ) × (z ≡ pos n)
@@ -106,10 +99,10 @@ total_sign total sizes all sum one =
 
 -- what a division by a number above 0 answers
 pub quotient_ok : (m total len : Rat) → IsTrue (rat_lt zero_rat total) → quotient_of m total ≡ Ok len → within (divided m total) ≡ Ok len
-quotient_ok m total len some h = let t = positive_top total some in as_ok (checked (divided m total)) len (sym (quotient_is m total t.0 t.1) ∙ h)
+quotient_ok m total len some h = let t = positive_top total some in or_err-ok_as div.Overflow Overflow (checked (divided m total)) len (sym (quotient_is m total t.0 t.1) ∙ h)
 
 pub quotient_err : (m total : Rat) (e : DivFault) → IsTrue (rat_lt zero_rat total) → quotient_of m total ≡ Err e → ◌≡◌ {A = Result Rat SplitFault} (within (divided m total)) (Err Overflow)
-quotient_err m total e some h = let t = positive_top total some in as_err (checked (divided m total)) e (sym (quotient_is m total t.0 t.1) ∙ h)
+quotient_err m total e some h = let t = positive_top total some in or_err-err_as div.Overflow e Overflow (checked (divided m total)) (sym (quotient_is m total t.0 t.1) ∙ h)
 
 -- ---- the count and the step of Repeat
 

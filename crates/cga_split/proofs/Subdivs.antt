@@ -9,8 +9,8 @@ use Rattle.cga_fraction.specs.Arithmetic.{plus, minus, times, divided}
 use Rattle.cga_fraction.proofs.Order.{le_refl, le_total, lt_fact, lt_le, not_le_lt}
 use Rattle.cga_fraction.proofs.Laws.{IsLowest, fraction_lowest, times_lowest}
 use Rattle.cga_fraction.proofs.Ratios.{IsRatio, plus_ratio, minus_ratio, le_ratio, zero_ratio}
-use Rattle.cga_fraction.specs.Chains.{refused_if}
-use Rattle.cga_split.specs.Chains.{within}
+use Rattle.cga_fraction.specs.Results.{err_if}
+use Rattle.cga_split.specs.Faults.{within}
 use Rattle.cga_split.specs.Cuts.{Cover, IsCut, parts_of}
 use Rattle.cga_split.specs.declared.split_fault.SplitFault.{SplitFault}
 use Rattle.cga_split.specs.declared.part_size.PartSize.{PartSize}
@@ -18,7 +18,8 @@ use Rattle.cga_split.specs.declared.part_size.PartSize.TheVariants.{Absolute, Re
 use Rattle.cga_split.specs.Subdiv.{AllFractions, is_positive, is_relative, is_off, length_of, cuts_after, subdiv_cuts, absolute_sum, absolute_total, relative_sum, relative_total, subdivided}
 use Rattle.cga_split.proofs.Covers.{Rises, last_of, covers}
 use Rattle.cga_split.proofs.Sums.{AreRatios, Shares, shares_of, absolute_ratio, last_ratio, rises}
-use Rattle.cga_split.proofs.Parts.{AllLengthsLowest, then_ok, within_is, parts_are, absolute_is, relative_is}
+use Rattle.cga_fraction.proofs.Results.{and_then-ok}
+use Rattle.cga_split.proofs.Parts.{AllLengthsLowest, within_is, parts_are, absolute_is, relative_is}
 
 -- a number above 0 is a ratio of numbers above 0
 pub record IsPositive (x : Rat) : Type 0 where
@@ -53,7 +54,7 @@ not_true true h = refl
 not_true false h = cc
 
 -- what is not refused
-pub not_refused : {A F : Type 0} (test : Bool) (fault : F) (more : Result A F) (y : A) → refused_if test fault more ≡ Ok y → (test ≡ false) × (more ≡ Ok y)
+pub not_refused : {A F : Type 0} (test : Bool) (fault : F) (more : Result A F) (y : A) → err_if test fault more ≡ Ok y → (test ≡ false) × (more ≡ Ok y)
 not_refused true fault more y h = absurd (cc)
 not_refused false fault more y h = (refl, h)
 
@@ -160,10 +161,10 @@ unfolding subdivided
 subdivided_is part place exact size s ss ps low h =
     let flat = not_refused (not (rat_lt zero_rat size)) _ _ ps h in
     let few = not_refused (not (list_all is_positive (s ∷ ss))) _ _ ps flat.1 in
-    let a = then_ok (absolute_total zero_rat (s ∷ ss)) _ ps few.1 in
-    let r = then_ok (relative_total zero_rat (s ∷ ss)) _ ps a.2 in
+    let a = and_then-ok (absolute_total zero_rat (s ∷ ss)) _ ps few.1 in
+    let r = and_then-ok (relative_total zero_rat (s ∷ ss)) _ ps a.2 in
     let off = not_refused (is_off size a.0 (s ∷ ss)) _ _ ps r.2 in
-    let rest = then_ok (within (minus size a.0)) _ ps off.1 in
+    let rest = and_then-ok (within (minus size a.0)) _ ps off.1 in
     let sum : absolute_sum zero_rat (s ∷ ss) ≡ a.0 = absolute_is zero_rat (s ∷ ss) a.0 a.1 in
     let factors : relative_sum zero_rat (s ∷ ss) ≡ r.0 = relative_is zero_rat (s ∷ ss) r.0 r.1 in
     let left : minus size (absolute_sum zero_rat (s ∷ ss)) ≡ rest.0 = ap (minus size) sum ∙ within_is (minus size a.0) rest.0 rest.1 in

@@ -1,4 +1,4 @@
-pub mod Chains
+pub mod Faults
 pub mod Cuts
 pub mod Subdiv
 pub mod Repeat

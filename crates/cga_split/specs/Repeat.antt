@@ -4,10 +4,14 @@ use Rattle.cga_fraction.specs.Rat.{Rat, of_int, zero_rat}
 use Rattle.cga_fraction.specs.Order.{rat_lt}
 use Rattle.cga_fraction.specs.Arithmetic.{times, divided}
 use Rattle.cga_fraction.specs.Rounding.{ceil_of}
-use Rattle.cga_fraction.specs.Chains.{then_, refused_if}
-use Rattle.cga_split.specs.Chains.{within}
+use Rattle.cga_fraction.specs.Results.{and_then, err_if}
+use Rattle.cga_split.specs.Faults.{within}
 use Rattle.cga_split.specs.declared.split_fault.SplitFault.{SplitFault}
 use Rattle.cga_split.specs.declared.split_fault.SplitFault.TheVariants.{FlatScope, PartNotPositive, RepeatCount}
+
+-- the most parts of one Repeat
+abbrev pub most_parts : ℕ
+most_parts = 10000
 
 abbrev pub whole : ℕ → Rat
 whole n = of_int (pos n)
@@ -29,16 +33,16 @@ count_of quotient = unsigned_abs (ceil_of quotient)
 abbrev pub repeats_from : {P : Type 0} → (Rat → Rat → Result P SplitFault) → Rat → ℕ → ℕ → Result (List P) SplitFault
 repeats_from part step i zero = Ok []
 repeats_from part step i (suc n) =
-    then_ (within (times step (whole i))) (λ at. then_ (part at step) (λ p. then_ (repeats_from part step (i + 1) n) (λ ps. Ok (p ∷ ps))))
+    and_then (within (times step (whole i))) (λ at. and_then (part at step) (λ p. and_then (repeats_from part step (i + 1) n) (λ ps. Ok (p ∷ ps))))
 
 -- the parts of an axis of this size, so many of one size, or the first fault
 abbrev pub counted : {P : Type 0} → (Rat → Rat → Result P SplitFault) → Rat → ℕ → Result (List P) SplitFault
 counted part size n =
-    refused_if (nat_lt 10000 n) RepeatCount (then_ (within (divided size (whole n))) (λ step. repeats_from part step 0 n))
+    err_if (nat_lt most_parts n) RepeatCount (and_then (within (divided size (whole n))) (λ step. repeats_from part step 0 n))
 
 -- the parts of an axis of this size, about so long, or the first fault
 unfoldable pub repeated : {P : Type 0} → (Rat → Rat → Result P SplitFault) → Rat → Rat → Result (List P) SplitFault
 repeated part size length =
-    refused_if (not (rat_lt zero_rat size)) FlatScope
-    (refused_if (not (rat_lt zero_rat length)) PartNotPositive
-    (then_ (within (divided size length)) (λ quotient. counted part size (count_of quotient))))
+    err_if (not (rat_lt zero_rat size)) FlatScope
+    (err_if (not (rat_lt zero_rat length)) PartNotPositive
+    (and_then (within (divided size length)) (λ quotient. counted part size (count_of quotient))))

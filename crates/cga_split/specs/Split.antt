@@ -4,15 +4,16 @@ use Rattle.cga_fraction.specs.Rat.{Rat}
 use Rattle.cga_word.specs.declared.axis.Axis.{Axis}
 use Rattle.cga_frame.specs.Points.{coordinate}
 use Rattle.cga_frame.specs.Scope.{Scope, existing, part_of}
-use Rattle.cga_split.specs.Chains.{as_fault}
+use Rattle.cga_fraction.specs.Results.{or_err}
 use Rattle.cga_split.specs.Subdiv.{subdivided}
 use Rattle.cga_split.specs.Repeat.{repeated}
 use Rattle.cga_split.specs.declared.part_size.PartSize.{PartSize}
 use Rattle.cga_split.specs.declared.split_fault.SplitFault.{SplitFault}
+use Rattle.cga_split.specs.declared.split_fault.SplitFault.TheVariants.{Overflow}
 
 -- the part from a place on, where it exists
 abbrev pub part_at : Scope → Axis → Rat → Rat → Result Scope SplitFault
-part_at s axis from length = as_fault (existing (part_of s axis from length))
+part_at s axis from length = or_err Overflow (existing (part_of s axis from length))
 
 -- the parts of Subdiv, or the first fault
 abbrev pub subdiv_of : Scope → Axis → List PartSize → Result (List Scope) SplitFault

@@ -4,8 +4,8 @@ use Rattle.std.specs.List.{list_all, list_any}
 use Rattle.cga_fraction.specs.Rat.{Rat, zero_rat, IsFraction}
 use Rattle.cga_fraction.specs.Arithmetic.{plus, minus, times, divided}
 use Rattle.cga_fraction.specs.Order.{rat_le, rat_lt}
-use Rattle.cga_fraction.specs.Chains.{then_, refused_if}
-use Rattle.cga_split.specs.Chains.{within}
+use Rattle.cga_fraction.specs.Results.{and_then, err_if}
+use Rattle.cga_split.specs.Faults.{within}
 use Rattle.cga_split.specs.declared.split_fault.SplitFault.{SplitFault}
 use Rattle.cga_split.specs.declared.split_fault.SplitFault.TheVariants.{FlatScope, PartNotPositive, SubdivSum}
 use Rattle.cga_split.specs.declared.part_size.PartSize.{PartSize}
@@ -49,14 +49,14 @@ is_relative (Relative r) = true
 -- the sum of the absolute sizes, each step in range
 abbrev pub absolute_total : Rat → List PartSize → Result Rat SplitFault
 absolute_total a [] = Ok a
-absolute_total a (Absolute x ∷ sizes) = then_ (within (plus a x)) (λ b. absolute_total b sizes)
+absolute_total a (Absolute x ∷ sizes) = and_then (within (plus a x)) (λ b. absolute_total b sizes)
 absolute_total a (Relative r ∷ sizes) = absolute_total a sizes
 
 -- the sum of the relative factors, likewise
 abbrev pub relative_total : Rat → List PartSize → Result Rat SplitFault
 relative_total a [] = Ok a
 relative_total a (Absolute x ∷ sizes) = relative_total a sizes
-relative_total a (Relative r ∷ sizes) = then_ (within (plus a r)) (λ b. relative_total b sizes)
+relative_total a (Relative r ∷ sizes) = and_then (within (plus a r)) (λ b. relative_total b sizes)
 
 -- the absolute sizes add up to more than the size, or to all of it beside a relative size, or to less with none
 abbrev pub is_off : Rat → Rat → List PartSize → Bool
@@ -65,23 +65,23 @@ is_off size a sizes = if list_any is_relative sizes then rat_le size a else (rat
 -- a relative size has the rest times its factor, divided by the sum of the factors
 abbrev pub checked_length : Rat → Rat → PartSize → Result Rat SplitFault
 checked_length rest total (Absolute x) = Ok x
-checked_length rest total (Relative r) = then_ (within (times rest r)) (λ m. within (divided m total))
+checked_length rest total (Relative r) = and_then (within (times rest r)) (λ m. within (divided m total))
 
 -- for each part in order: its length, the part, and the place of the next
 abbrev pub parts_from : {P : Type 0} → (Rat → Rat → Result P SplitFault) → Rat → Rat → Rat → List PartSize → Result (List P) SplitFault
 parts_from part rest total at [] = Ok []
 parts_from part rest total at (size ∷ sizes) =
-    then_ (checked_length rest total size) (λ length. then_ (part at length) (λ p. then_ (within (plus at length)) (λ next.
-    then_ (parts_from part rest total next sizes) (λ ps. Ok (p ∷ ps)))))
+    and_then (checked_length rest total size) (λ length. and_then (part at length) (λ p. and_then (within (plus at length)) (λ next.
+    and_then (parts_from part rest total next sizes) (λ ps. Ok (p ∷ ps)))))
 
 -- the parts of an axis of this size, or the first fault
 unfoldable pub subdivided : {P : Type 0} → (Rat → Rat → Result P SplitFault) → Rat → List PartSize → Result (List P) SplitFault
 subdivided part size sizes =
-    refused_if (not (rat_lt zero_rat size)) FlatScope
-    (refused_if (not (list_all is_positive sizes)) PartNotPositive
-    (then_ (absolute_total zero_rat sizes) (λ a. then_ (relative_total zero_rat sizes) (λ r.
-    refused_if (is_off size a sizes) SubdivSum
-    (then_ (within (minus size a)) (λ rest. parts_from part rest r zero_rat sizes))))))
+    err_if (not (rat_lt zero_rat size)) FlatScope
+    (err_if (not (list_all is_positive sizes)) PartNotPositive
+    (and_then (absolute_total zero_rat sizes) (λ a. and_then (relative_total zero_rat sizes) (λ r.
+    err_if (is_off size a sizes) SubdivSum
+    (and_then (within (minus size a)) (λ rest. parts_from part rest r zero_rat sizes))))))
 
 -- the number of a size
 abbrev pub number_of : PartSize → Rat

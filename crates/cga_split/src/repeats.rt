@@ -5,7 +5,7 @@ ghost use Rattle.cga_fraction.specs.Arithmetic.{times, divided};
 ghost use Rattle.cga_fraction.specs.Rounding.{IsCeil};
 ghost use Rattle.cga_frame.specs.Points.{coordinate};
 ghost use Rattle.cga_frame.specs.Scope.{part_of};
-ghost use Rattle.cga_split.specs.Chains.{within};
+ghost use Rattle.cga_split.specs.Faults.{within};
 ghost use Rattle.cga_split.specs.Cuts.{IsCut};
 ghost use Rattle.cga_split.specs.Repeat.{whole, count_of, counted, repeats_from, repeat_cuts};
 ghost use Rattle.cga_split.specs.Split.{part_at, repeat_of};
@@ -13,13 +13,13 @@ ghost use Rattle.cga_fraction.specs.Stops.{Makes};
 
 use crate::split_fault::SplitFault;
 use crate::subdivide::part;
-use cga_fraction::{Fraction, List, NoMemory, Stop};
+use cga_fraction::{Fraction, List, NoMemory, Stop, settled};
 use cga_frame::Scope;
 use cga_word::Axis;
 use std::alloc::Global;
 
-// The most parts of one split.
-const MOST: u64 = 10_000;
+// The most parts of one Repeat.
+const MOST_PARTS: u64 = 10_000;
 
 fn product(step: Fraction, number: u32) -> Result<Fraction, SplitFault>
     ensures { result ≡ within (times step (whole number)) }
@@ -82,7 +82,7 @@ fn counted(
     requires count { 0 < count }
     ensures { Makes (counted (part_at scope.now axis) length count) result }
 {
-    if count > MOST {
+    if count > MOST_PARTS {
         return Err(Stop::Fault(SplitFault::RepeatCount));
     }
     let count = count as u32;
@@ -128,9 +128,5 @@ pub fn repeat(
         × IsCut (part_of scope.now axis) (repeat_cuts (coordinate scope.now.size axis) n)
         (coordinate scope.now.size axis) parts)) }
 {
-    match repeated(alloc, scope, axis, length) {
-        Ok(parts) => Ok(Ok(parts)),
-        Err(Stop::Fault(fault)) => Ok(Err(fault)),
-        Err(Stop::NoMemory) => Err(NoMemory),
-    }
+    settled(repeated(alloc, scope, axis, length))
 }

@@ -5,7 +5,7 @@ ghost use Rattle.cga_fraction.specs.Order.{rat_lt};
 ghost use Rattle.cga_fraction.specs.Arithmetic.{plus, minus};
 ghost use Rattle.cga_frame.specs.Points.{coordinate};
 ghost use Rattle.cga_frame.specs.Scope.{part_of};
-ghost use Rattle.cga_split.specs.Chains.{within};
+ghost use Rattle.cga_split.specs.Faults.{within};
 ghost use Rattle.cga_split.specs.Cuts.{IsCut};
 ghost use Rattle.cga_split.specs.Subdiv.{number_of, AllFractions, is_positive, is_relative, is_off, absolute_total, relative_total, checked_length, parts_from, subdiv_cuts};
 ghost use Rattle.cga_split.specs.Split.{part_at, subdiv_of};
@@ -13,7 +13,7 @@ ghost use Rattle.cga_fraction.specs.Stops.{Makes};
 
 use crate::part_size::PartSize;
 use crate::split_fault::SplitFault;
-use cga_fraction::{Fraction, List, NoMemory, Stop};
+use cga_fraction::{Fraction, List, NoMemory, Stop, settled};
 use cga_frame::Scope;
 use cga_word::Axis;
 use std::alloc::Global;
@@ -202,22 +202,18 @@ fn divide(
 }
 
 /// The parts of a scope along one of its axes, in order, by their sizes: an absolute size has its own length, and
-/// the relative ones share what those leave by their factors (Subdiv of the SIGGRAPH paper). Takes memory.
+/// the relative ones share what those leave by their factors (Subdiv of the SIGGRAPH paper). No sizes at all are too
+/// little. Takes memory.
 pub fn subdiv(
     alloc: Global,
     scope: &Scope,
     axis: Axis,
     sizes: &[PartSize],
 ) -> Result<Result<List<Scope>, SplitFault>, NoMemory>
-    requires { 0 < length sizes.now }
     ensures value { IfOk result (λ made. made ≡ subdiv_of scope.now axis sizes.now) }
     ensures cut { IfOk result (λ made. IfOk made
         (IsCut (part_of scope.now axis) (subdiv_cuts (coordinate scope.now.size axis) sizes.now)
         (coordinate scope.now.size axis))) }
 {
-    match divide(alloc, scope, axis, sizes) {
-        Ok(parts) => Ok(Ok(parts)),
-        Err(Stop::Fault(fault)) => Ok(Err(fault)),
-        Err(Stop::NoMemory) => Err(NoMemory),
-    }
+    settled(divide(alloc, scope, axis, sizes))
 }

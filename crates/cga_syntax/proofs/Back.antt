@@ -11,7 +11,7 @@ use Rattle.cga_fraction.specs.Texts.{literal_text_of}
 use Rattle.cga_fraction.proofs.Literals.{literal_is_shortest}
 use Rattle.cga_lexer.specs.Bytes.{begins}
 use Rattle.cga_lexer.specs.Front.{front}
-use Rattle.cga_lexer.specs.Line.{Outcome, lex, from_front, behind, tokens_of}
+use Rattle.cga_lexer.specs.Line.{Lexed, lex, from_front, behind, tokens_of}
 use Rattle.cga_lexer.specs.declared.sign.Sign.{Sign}
 use Rattle.cga_lexer.specs.declared.sign.Sign.TheVariants as s
 use Rattle.cga_lexer.specs.declared.token.Token.{Token}
@@ -19,7 +19,7 @@ use Rattle.cga_lexer.specs.declared.token.TokenKind.{TokenKind}
 use Rattle.cga_lexer.specs.declared.front.Front.TheVariants.{Token as Found}
 use Rattle.cga_lexer.proofs.Lexing.{lex_skip, lex_head}
 use Rattle.cga_syntax.specs.Lexemes.{lexeme_of, keyword_bytes}
-use Rattle.cga_syntax.specs.Printing.{sign_bytes, lexeme_bytes, opens_up, ends_up, is_left, is_right, is_word, is_prefix, is_minus, is_colon, is_label, begins_primary, is_none_after, is_none_before, closes_up, space_before, text_behind, text_of}
+use Rattle.cga_syntax.specs.Printing.{sign_bytes, lexeme_bytes, opens_up, ends_up, is_left, is_right, is_word, is_prefix, is_minus, is_colon, is_label, begins_primary, is_none_after, is_none_before, closes_up, space_before, text_after, text_of}
 use Rattle.cga_syntax.specs.Reading.{IsToken, AreTokens, AreRead, seen_of}
 use Rattle.cga_syntax.specs.declared.keyword.Keyword.{Keyword}
 use Rattle.cga_syntax.specs.declared.keyword.Keyword.TheVariants as k
@@ -180,11 +180,11 @@ module _ (a b : Mark) (rest : List ℕ) (t : IsToken b.lexeme) where
   by_prefix : (is_prefix a && begins_primary b.lexeme) ≡ true → Ends a.lexeme over
   by_prefix h =
       let p = both (is_prefix a) (begins_primary b.lexeme) h in
-      let m = both (is_minus a.lexeme) (is_none_after a.gap) p.0 in
+      let m = both (is_minus a.lexeme) (is_none_after a.space) p.0 in
       minus_ends a.lexeme over m.0 (primary_apart b.lexeme rest t p.1)
 
   by_label : is_label b ≡ true → Ends a.lexeme over
-  by_label h = closed_ends a.lexeme over (colon_closes b.lexeme rest (both (is_colon b.lexeme) (is_none_before b.gap) h).0)
+  by_label h = closed_ends a.lexeme over (colon_closes b.lexeme rest (both (is_colon b.lexeme) (is_none_before b.space) h).0)
 
   by_right : is_right b.lexeme ≡ true → Ends a.lexeme over
   by_right h = closed_ends a.lexeme over (right_closes b.lexeme rest h)
@@ -204,9 +204,9 @@ module _ (a b : Mark) (rest : List ℕ) (t : IsToken b.lexeme) where
   spaced false h = closed_ends a.lexeme (32 ∷ over) (record { word = refl; point = refl; sign = refl })
 
 -- what is printed behind a token doesn't go on with it
-followed_by : (m : Mark) (ms : List Mark) → AreTokens (map (λ n. n.lexeme) ms) → Ends m.lexeme (text_behind (Some m) ms)
+followed_by : (m : Mark) (ms : List Mark) → AreTokens (map (λ n. n.lexeme) ms) → Ends m.lexeme (text_after (Some m) ms)
 followed_by m [] t = closed_ends m.lexeme [] (record { word = refl; point = refl; sign = refl })
-followed_by m (n ∷ ns) t = spaced m n (text_behind (Some n) ns) t.0 (closes_up m n) refl
+followed_by m (n ∷ ns) t = spaced m n (text_after (Some n) ns) t.0 (closes_up m n) refl
 
 -- ---- the text is lexed
 
@@ -226,7 +226,7 @@ some_bytes (b ∷ bs) rest place kind e h =
 taken : (bytes rest : List ℕ) (kind : TokenKind) → 0 < length bytes → Unit {0}
 taken bytes rest kind h = tt
 
-front_first : (t : Token) (o : Outcome) (l : Lexeme) (ls : List Lexeme) → lexeme_of t.kind ≡ l → AreRead o ls → AreRead (behind t o) (l ∷ ls)
+front_first : (t : Token) (o : Lexed) (l : Lexeme) (ls : List Lexeme) → lexeme_of t.kind ≡ l → AreRead o ls → AreRead (behind t o) (l ∷ ls)
 front_first t (Ok ts) l ls e h = ap (λ z. z ∷ seen_of ts) e ∙ ap (λ z. l ∷ z) h
 front_first t (Err f) l ls e h = absurd h
 
@@ -310,11 +310,11 @@ before_read : (last : Option Mark) (m : Mark) (text : List ℕ) (place : ℕ) (l
 before_read None m text place ls h = h place
 before_read (Some b) m text place ls h = space_read (closes_up b m) text place ls h
 
-marks_read : (last : Option Mark) (ms : List Mark) (place : ℕ) → AreTokens (map (λ m. m.lexeme) ms) → AreRead (lex 0 place (text_behind last ms)) (map (λ m. m.lexeme) ms)
+marks_read : (last : Option Mark) (ms : List Mark) (place : ℕ) → AreTokens (map (λ m. m.lexeme) ms) → AreRead (lex 0 place (text_after last ms)) (map (λ m. m.lexeme) ms)
 marks_read last [] place t = subst (λ o. AreRead o []) (sym (lex_nil place)) refl
 marks_read last (m ∷ ms) place t =
-    before_read last m (lexeme_bytes m.lexeme ++ text_behind (Some m) ms) place (m.lexeme ∷ map (λ n. n.lexeme) ms)
-    (λ p. token_read m.lexeme (text_behind (Some m) ms) p (map (λ n. n.lexeme) ms) t.0 (followed_by m ms t.1) (λ q. marks_read (Some m) ms q t.1))
+    before_read last m (lexeme_bytes m.lexeme ++ text_after (Some m) ms) place (m.lexeme ∷ map (λ n. n.lexeme) ms)
+    (λ p. token_read m.lexeme (text_after (Some m) ms) p (map (λ n. n.lexeme) ms) t.0 (followed_by m ms t.1) (λ q. marks_read (Some m) ms q t.1))
 
 pub text_read : (ms : List Mark) → AreTokens (map (λ m. m.lexeme) ms) → AreRead (tokens_of (text_of ms)) (map (λ m. m.lexeme) ms)
 text_read ms t = marks_read None ms 1 t

@@ -45,7 +45,7 @@ drop_over (x ∷ xs) rest = drop_over xs rest
 
 -- ---- the form of a text that is read as a number
 
--- a point and the digits behind it, where there are some
+-- a point and the digits after it, where there are some
 abbrev pub dotted : List ℕ → List ℕ
 dotted [] = []
 dotted (p ∷ ps) = 46 ∷ p ∷ ps

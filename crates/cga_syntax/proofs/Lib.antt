@@ -13,3 +13,4 @@ pub mod Tokens
 pub mod Exact
 pub mod Again
 pub mod Spelled
+pub mod Keywords

@@ -5,7 +5,7 @@ use Rattle.std.proofs.lemmas.List.{length-map, take_all}
 use Rattle.cga_lexer.specs.declared.sign.Sign.TheVariants as s
 use Rattle.cga_syntax.specs.declared.keyword.Keyword.TheVariants as k
 use Rattle.std.proofs.lemmas.List.{at_drop_more}
-use Rattle.cga_syntax.specs.Pieces.{Piece, Pieces, never, sign, keyword, concat, behind_each, separated, preceded, nonempty, arguments, at_most, body_of}
+use Rattle.cga_syntax.specs.Pieces.{Piece, Pieces, never, sign, keyword, concat, after_each, separated, preceded, nonempty, arguments, at_most, body_of}
 use Rattle.cga_syntax.specs.Printing.{printed_piece, printed, printed_on}
 use Rattle.cga_syntax.specs.declared.print.mark.Mark.{Mark}
 
@@ -31,15 +31,15 @@ each_on w ms xs i x now out lt is before e =
     ∙ sym (at_drop_more (λ r. printed_on ms (concat (map w r))) xs i x lt)
     ∙ before
 
--- the same where each stands behind a token
-pub behind_on : {A : Type 0} (p : Piece) (w : A → Pieces) (ms : List Mark) (xs : List A) (i : ℕ) (x : A) (middle now out : List Mark) → i < length xs → x ≡ get_or xs i x →
-    printed_on ms (behind_each p (map w (drop i xs))) ≡ out → middle ≡ ms ++ printed_piece p → now ≡ printed_on middle (w x) →
-    printed_on now (behind_each p (map w (drop (i + 1) xs))) ≡ out
-behind_on p w ms xs i x middle now out lt is before m e =
-    ap (λ z. printed_on z (behind_each p (map w (drop (i + 1) xs)))) (e ∙ ap (λ z. printed_on z (w x)) m)
-    ∙ sym (on_join (ms ++ printed_piece p) (w x) (behind_each p (map w (drop (i + 1) xs))))
-    ∙ ap (λ y. printed_on ms (p ∷ (w y ++ behind_each p (map w (drop (i + 1) xs))))) is
-    ∙ sym (at_drop_more (λ r. printed_on ms (behind_each p (map w r))) xs i x lt)
+-- the same where each stands after a token
+pub after_on : {A : Type 0} (p : Piece) (w : A → Pieces) (ms : List Mark) (xs : List A) (i : ℕ) (x : A) (middle now out : List Mark) → i < length xs → x ≡ get_or xs i x →
+    printed_on ms (after_each p (map w (drop i xs))) ≡ out → middle ≡ ms ++ printed_piece p → now ≡ printed_on middle (w x) →
+    printed_on now (after_each p (map w (drop (i + 1) xs))) ≡ out
+after_on p w ms xs i x middle now out lt is before m e =
+    ap (λ z. printed_on z (after_each p (map w (drop (i + 1) xs)))) (e ∙ ap (λ z. printed_on z (w x)) m)
+    ∙ sym (on_join (ms ++ printed_piece p) (w x) (after_each p (map w (drop (i + 1) xs))))
+    ∙ ap (λ y. printed_on ms (p ∷ (w y ++ after_each p (map w (drop (i + 1) xs))))) is
+    ∙ sym (at_drop_more (λ r. printed_on ms (after_each p (map w r))) xs i x lt)
     ∙ before
 
 -- ---- lists with tokens between
@@ -47,23 +47,23 @@ behind_on p w ms xs i x middle now out lt is before m e =
 -- what is left of a list whose members have a token between them, where some came before or none did
 abbrev pub spread : Piece → Bool → List Pieces → Pieces
 spread p some [] = []
-spread p true (ps ∷ pss) = p ∷ (ps ++ behind_each p pss)
-spread p false (ps ∷ pss) = ps ++ behind_each p pss
+spread p true (ps ∷ pss) = p ∷ (ps ++ after_each p pss)
+spread p false (ps ∷ pss) = ps ++ after_each p pss
 
 pub spread_first : (p : Piece) (ms : List Mark) (pss : List Pieces) → printed_on ms (spread p false pss) ≡ printed_on ms (separated p pss [])
 spread_first p ms [] = sym (nil_right ms)
-spread_first p ms (ps ∷ pss) = ap (λ z. printed_on ms (ps ++ z)) (sym (nil_right (behind_each p pss)))
+spread_first p ms (ps ∷ pss) = ap (λ z. printed_on ms (ps ++ z)) (sym (nil_right (after_each p pss)))
 
-spread_later : (p : Piece) (pss : List Pieces) → spread p true pss ≡ behind_each p pss
+spread_later : (p : Piece) (pss : List Pieces) → spread p true pss ≡ after_each p pss
 spread_later p [] = refl
 spread_later p (ps ∷ pss) = refl
 
 spread_step : (p : Piece) (some : Bool) (ms middle now : List Mark) (ps : Pieces) (pss : List Pieces) → middle ≡ (if some then ms ++ printed_piece p else ms) → now ≡ printed_on middle ps →
     printed_on now (spread p true pss) ≡ printed_on ms (spread p some (ps ∷ pss))
 spread_step p true ms middle now ps pss m e =
-    ap (printed_on now) (spread_later p pss) ∙ ap (λ z. printed_on z (behind_each p pss)) (e ∙ ap (λ z. printed_on z ps) m) ∙ sym (on_join (ms ++ printed_piece p) ps (behind_each p pss))
+    ap (printed_on now) (spread_later p pss) ∙ ap (λ z. printed_on z (after_each p pss)) (e ∙ ap (λ z. printed_on z ps) m) ∙ sym (on_join (ms ++ printed_piece p) ps (after_each p pss))
 spread_step p false ms middle now ps pss m e =
-    ap (printed_on now) (spread_later p pss) ∙ ap (λ z. printed_on z (behind_each p pss)) (e ∙ ap (λ z. printed_on z ps) m) ∙ sym (on_join ms ps (behind_each p pss))
+    ap (printed_on now) (spread_later p pss) ∙ ap (λ z. printed_on z (after_each p pss)) (e ∙ ap (λ z. printed_on z ps) m) ∙ sym (on_join ms ps (after_each p pss))
 
 pub spread_on : {A : Type 0} (p : Piece) (w : A → Pieces) (some : Bool) (ms : List Mark) (xs : List A) (i : ℕ) (x : A) (middle now out : List Mark) → i < length xs → x ≡ get_or xs i x →
     printed_on ms (spread p some (map w (drop i xs))) ≡ out → middle ≡ (if some then ms ++ printed_piece p else ms) → now ≡ printed_on middle (w x) →
@@ -77,14 +77,14 @@ spread_on p w some ms xs i x middle now out lt is before m e =
 pub separated_cut : (p : Piece) (ms : List Mark) (pss : List Pieces) (end : Pieces) → printed_on ms (separated p pss end) ≡ printed_on (printed_on ms (separated p pss [])) end
 separated_cut p ms [] end = on_join ms (never ∷ []) end
 separated_cut p ms (ps ∷ pss) end =
-    on_join ms ps (behind_each p pss ++ end) ∙ on_join (printed_on ms ps) (behind_each p pss) end
-    ∙ sym (ap (λ z. printed_on z end) (on_join ms ps (behind_each p pss ++ []) ∙ ap (printed_on (printed_on ms ps)) (nil_right (behind_each p pss))))
+    on_join ms ps (after_each p pss ++ end) ∙ on_join (printed_on ms ps) (after_each p pss) end
+    ∙ sym (ap (λ z. printed_on z end) (on_join ms ps (after_each p pss ++ []) ∙ ap (printed_on (printed_on ms ps)) (nil_right (after_each p pss))))
 
-pub preceded_cut : (p : Piece) (ms : List Mark) (pss : List Pieces) (end : Pieces) → printed_on ms (preceded p pss end) ≡ printed_on (printed_on ms (behind_each p pss)) end
+pub preceded_cut : (p : Piece) (ms : List Mark) (pss : List Pieces) (end : Pieces) → printed_on ms (preceded p pss end) ≡ printed_on (printed_on ms (after_each p pss)) end
 preceded_cut p ms [] end = ap (λ z. printed_on z end) (nil_right ms)
 preceded_cut p ms (ps ∷ pss) end =
-    on_join (ms ++ printed_piece p) ps (behind_each p pss ++ end) ∙ on_join (printed_on (ms ++ printed_piece p) ps) (behind_each p pss) end
-    ∙ sym (ap (λ z. printed_on z end) (on_join (ms ++ printed_piece p) ps (behind_each p pss)))
+    on_join (ms ++ printed_piece p) ps (after_each p pss ++ end) ∙ on_join (printed_on (ms ++ printed_piece p) ps) (after_each p pss) end
+    ∙ sym (ap (λ z. printed_on z end) (on_join (ms ++ printed_piece p) ps (after_each p pss)))
 
 pub nonempty_cut : (ms : List Mark) (pss : List Pieces) (end : Pieces) → printed_on ms (nonempty pss end) ≡ printed_on (printed_on ms (concat pss)) end
 nonempty_cut ms [] end = ap (λ z. printed_on z end) (nil_right ms)
@@ -111,11 +111,11 @@ arguments_on w ms m1 m2 m3 (y ∷ xs) x le is e f g =
     ∙ ap (λ z. printed_on z (w x ++ (rest ++ end))) e
     ∙ ap (λ z. printed_on ms (sign s.LeftRound ∷ (w z ++ (rest ++ end)))) q
 
-pub at_most_few : {A : Type 0} (p : Piece) (w : A → Pieces) (n : ℕ) (xs : List A) → length xs ≤ n → at_most n p (map w xs) ≡ behind_each p (map w xs)
-at_most_few p w n xs h = ap (λ b. if b then behind_each p (map w xs) else never ∷ []) (let e : nat_le (length (map w xs)) n ≡ true = grind (arith, nat_tests, length-map xs w) in e)
+pub at_most_few : {A : Type 0} (p : Piece) (w : A → Pieces) (n : ℕ) (xs : List A) → length xs ≤ n → at_most n p (map w xs) ≡ after_each p (map w xs)
+at_most_few p w n xs h = ap (λ b. if b then after_each p (map w xs) else never ∷ []) (let e : nat_le (length (map w xs)) n ≡ true = grind (arith, nat_tests, length-map xs w) in e)
 
 pub at_most_many : {A : Type 0} (p : Piece) (w : A → Pieces) (n : ℕ) (ms : List Mark) (xs : List A) → n < length xs → printed_on ms (at_most n p (map w xs)) ≡ ms
-at_most_many p w n ms xs h = ap (λ b. printed_on ms (if b then behind_each p (map w xs) else never ∷ [])) (let e : nat_le (length (map w xs)) n ≡ false = grind (arith, nat_tests, length-map xs w) in e) ∙ nil_right ms
+at_most_many p w n ms xs h = ap (λ b. printed_on ms (if b then after_each p (map w xs) else never ∷ [])) (let e : nat_le (length (map w xs)) n ≡ false = grind (arith, nat_tests, length-map xs w) in e) ∙ nil_right ms
 
 -- ---- bodies
 

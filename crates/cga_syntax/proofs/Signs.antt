@@ -59,9 +59,9 @@ not_greater c e = grind (arith, nat_tests)
 not_equal : (c : ℕ) → second c ≡ false → (c == 61) ≡ false
 not_equal c e = grind (arith, nat_tests)
 
-behind_it : (sign : Sign) (rest : List ℕ) → opens_up sign ≡ false → Alone sign rest → begins second rest ≡ false
-behind_it sign rest e (inl h) = absurd (let q : true ≡ false = sym h ∙ e in cc)
-behind_it sign rest e (inr h) = h
+after_it : (sign : Sign) (rest : List ℕ) → opens_up sign ≡ false → Alone sign rest → begins second rest ≡ false
+after_it sign rest e (inl h) = absurd (let q : true ≡ false = sym h ∙ e in cc)
+after_it sign rest e (inr h) = h
 
 sign_front : (sign : Sign) (rest : List ℕ) → Alone sign rest → front (sign_bytes sign ++ rest) ≡ Token (kind.Sign sign) (length (sign_bytes sign))
 unfolding front sign_of
@@ -75,17 +75,17 @@ sign_front s.Comma rest h = lone 44 rest (λ c. refl)
 sign_front s.Colon rest h = lone 58 rest (λ c. refl)
 sign_front s.Bar rest h = lone 124 rest (λ c. refl)
 sign_front s.Plus rest h = lone 43 rest (λ c. refl)
-sign_front s.Minus rest h = apart 45 rest (behind_it s.Minus rest refl h) (λ c e. ap (λ t. if t then Some s.Arrow else None) (not_greater c e))
+sign_front s.Minus rest h = apart 45 rest (after_it s.Minus rest refl h) (λ c e. ap (λ t. if t then Some s.Arrow else None) (not_greater c e))
 sign_front s.Star rest h = lone 42 rest (λ c. refl)
 sign_front s.Slash rest h = lone 47 rest (λ c. refl)
 sign_front s.Dot rest h = lone 46 rest (λ c. refl)
-sign_front s.Assign rest h = apart 61 rest (behind_it s.Assign rest refl h) (λ c e. ap (λ t. if t then Some s.Equal else None) (not_equal c e))
+sign_front s.Assign rest h = apart 61 rest (after_it s.Assign rest refl h) (λ c e. ap (λ t. if t then Some s.Equal else None) (not_equal c e))
 sign_front s.Arrow rest h = refl
 sign_front s.Equal rest h = refl
 sign_front s.Unequal rest h = refl
-sign_front s.Less rest h = apart 60 rest (behind_it s.Less rest refl h) (λ c e. ap (λ t. if t then Some s.AtMost else None) (not_equal c e))
+sign_front s.Less rest h = apart 60 rest (after_it s.Less rest refl h) (λ c e. ap (λ t. if t then Some s.AtMost else None) (not_equal c e))
 sign_front s.AtMost rest h = refl
-sign_front s.Greater rest h = apart 62 rest (behind_it s.Greater rest refl h) (λ c e. ap (λ t. if t then Some s.AtLeast else None) (not_equal c e))
+sign_front s.Greater rest h = apart 62 rest (after_it s.Greater rest refl h) (λ c e. ap (λ t. if t then Some s.AtLeast else None) (not_equal c e))
 sign_front s.AtLeast rest h = refl
 
 -- ---- words

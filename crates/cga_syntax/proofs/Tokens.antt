@@ -10,7 +10,7 @@ use Rattle.cga_fraction.specs.Decimals.{decimal_of}
 use Rattle.cga_fraction.specs.declared.fraction.decimal.DecimalFault.{DecimalFault}
 use Rattle.cga_lexer.specs.Bytes.{run, begins}
 use Rattle.cga_lexer.specs.Front.{front, number, word, quoted, closed, enclosed, valued, number_len, digit_count, is_mark, sign_of, short, long_or, pair, single}
-use Rattle.cga_lexer.specs.Line.{Outcome, lex, from_front, behind, tokens_of}
+use Rattle.cga_lexer.specs.Line.{Lexed, lex, from_front, behind, tokens_of}
 use Rattle.cga_lexer.specs.declared.sign.Sign.{Sign}
 use Rattle.cga_lexer.specs.declared.token.Token.{Token as Read}
 use Rattle.cga_lexer.specs.declared.token.TokenKind.{TokenKind}
@@ -139,14 +139,14 @@ front_is b bs k n h = front_by b bs k n (b == 35) (b == 32 || b == 9) (b == 34) 
 
 -- ---- the line
 
-same_list : (us ts : List Read) → ◌≡◌ {A = Outcome} (Ok us) (Ok ts) → us ≡ ts
+same_list : (us ts : List Read) → ◌≡◌ {A = Lexed} (Ok us) (Ok ts) → us ≡ ts
 same_list us ts h = cc
 
-behind_is : (t : Read) (o : Outcome) (ts : List Read) → behind t o ≡ Ok ts → IsToken (lexeme_of t.kind) → ((us : List Read) → o ≡ Ok us → AreTokens (seen_of us)) → AreTokens (seen_of ts)
+behind_is : (t : Read) (o : Lexed) (ts : List Read) → behind t o ≡ Ok ts → IsToken (lexeme_of t.kind) → ((us : List Read) → o ≡ Ok us → AreTokens (seen_of us)) → AreTokens (seen_of ts)
 behind_is t (Ok us) ts h i more = subst (λ z. AreTokens (seen_of z)) (same_list (t ∷ us) ts h) (i, more us refl)
 behind_is t (Err f) ts h i more = absurd (cc)
 
-from_front_is : (f : Front) (place : ℕ) (on : ℕ → Outcome) (ts : List Read) → from_front f place on ≡ Ok ts → ((k : TokenKind) (n : ℕ) → f ≡ Token k n → IsRead k) →
+from_front_is : (f : Front) (place : ℕ) (on : ℕ → Lexed) (ts : List Read) → from_front f place on ≡ Ok ts → ((k : TokenKind) (n : ℕ) → f ≡ Token k n → IsRead k) →
     ((m : ℕ) (us : List Read) → on m ≡ Ok us → AreTokens (seen_of us)) → AreTokens (seen_of ts)
 from_front_is End place on ts h i more = subst (λ z. AreTokens (seen_of z)) (same_list [] ts h) tt
 from_front_is Blank place on ts h i more = more 0 ts h

@@ -15,7 +15,7 @@ use Rattle.cga_lexer.specs.declared.sign.Sign.{Sign}
 use Rattle.cga_lexer.specs.declared.sign.Sign.TheVariants as s
 use Rattle.cga_syntax.specs.Lexemes.{keyword_bytes}
 use Rattle.cga_syntax.specs.Pieces.{number}
-use Rattle.cga_syntax.specs.Printing.{sign_bytes, lexeme_bytes, closes_up, space_before, text_behind, text_of, exactly, magnitude}
+use Rattle.cga_syntax.specs.Printing.{sign_bytes, lexeme_bytes, closes_up, space_before, text_after, text_of, exactly, magnitude}
 use Rattle.cga_syntax.specs.Reading.{IsToken, AreTokens}
 use Rattle.cga_rule.specs.declared.grammar.Attribute.{Attribute}
 use Rattle.cga_syntax.specs.declared.lexeme.Lexeme.{Lexeme}
@@ -98,19 +98,19 @@ token_visible (lexeme.Name name) t = name_visible name t.0
 token_visible (lexeme.Text name) t = join name (codes "\"") (name_visible name t) refl
 token_visible (lexeme.Sign sign) t = sign_visible sign
 
-gap_visible : (c : Bool) → IsVisible (if c then [] else codes " ")
-gap_visible true = refl
-gap_visible false = refl
+blank_visible : (c : Bool) → IsVisible (if c then [] else codes " ")
+blank_visible true = refl
+blank_visible false = refl
 
 space_visible : (last : Option Mark) (m : Mark) → IsVisible (space_before last m)
 space_visible None m = refl
-space_visible (Some b) m = gap_visible (closes_up b m)
+space_visible (Some b) m = blank_visible (closes_up b m)
 
-behind_visible : (last : Option Mark) (ms : List Mark) → AreTokens (lexemes ms) → IsVisible (text_behind last ms)
-behind_visible last [] t = refl
-behind_visible last (m ∷ ms) t =
-    join (space_before last m) (lexeme_bytes m.lexeme ++ text_behind (Some m) ms) (space_visible last m)
-    (join (lexeme_bytes m.lexeme) (text_behind (Some m) ms) (token_visible m.lexeme t.0) (behind_visible (Some m) ms t.1))
+after_visible : (last : Option Mark) (ms : List Mark) → AreTokens (lexemes ms) → IsVisible (text_after last ms)
+after_visible last [] t = refl
+after_visible last (m ∷ ms) t =
+    join (space_before last m) (lexeme_bytes m.lexeme ++ text_after (Some m) ms) (space_visible last m)
+    (join (lexeme_bytes m.lexeme) (text_after (Some m) ms) (token_visible m.lexeme t.0) (after_visible (Some m) ms t.1))
 
 -- ---- attributes and priorities
 
@@ -139,7 +139,7 @@ all_seen [] h = All-nil (λ c. 32 ≤ c)
 all_seen (c ∷ text) h = let b = both (visible c) (list_all visible text) h in All-cons (λ i. 32 ≤ i) c text (seen_in c b.0) (all_seen text b.1)
 
 pub text_visible : (ms : List Mark) → AreTokens (lexemes ms) → All (λ c. 32 ≤ c) (text_of ms)
-text_visible ms t = all_seen (text_of ms) (behind_visible None ms t)
+text_visible ms t = all_seen (text_of ms) (after_visible None ms t)
 
 pub attribute_visible : (a : Attribute) → AreTokens (attribute_tokens a) → All (λ c. 32 ≤ c) (codes "attr " ++ (a.name ++ (codes " = " ++ exact_text_of a.value)))
 attribute_visible a t =

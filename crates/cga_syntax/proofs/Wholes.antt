@@ -2,7 +2,9 @@
 use Rattle.std.proofs.Common.{◌≡◌, ℕ, ◌*◌, ◌/◌, ◌<◌, ◌^◌, pos, arith, ap, sym, ◌∙◌, Result, Ok}
 use Rattle.cga_fraction.specs.Rat.{Rat, of_int}
 use Rattle.cga_fraction.specs.Arithmetic.{reduced, times, divided}
-use Rattle.cga_fraction.specs.Refusals.{quotient_of, with_fault, checked}
+use Rattle.cga_fraction.specs.Refusals.{quotient_of, checked}
+use Rattle.cga_fraction.specs.Results.{or_err}
+use Rattle.cga_fraction.specs.declared.overflow.DivFault.TheVariants as fault
 use Rattle.cga_fraction.specs.declared.overflow.DivFault.{DivFault}
 use Rattle.cga_fraction.proofs.Gcds.{gcd-one}
 use Rattle.cga_fraction.proofs.Lowest.{checked-in, reduced-parts}
@@ -16,4 +18,4 @@ whole_divided n = ap (λ m. reduced (pos m) 1) (let e : n * 1 ≡ n = omega arit
 
 pub whole_is : (n : ℕ) → n < 2 ^ 32 → ◌≡◌ {A = Result Rat DivFault} (quotient_of (of_int (pos n)) (of_int (pos 1))) (Ok (of_int (pos n)))
 unfolding quotient_of
-whole_is n h = ap (λ q. with_fault (checked q)) (whole_divided n) ∙ ap with_fault (checked-in (of_int (pos n)) (omega arith) (omega arith))
+whole_is n h = ap (λ q. or_err fault.Overflow (checked q)) (whole_divided n) ∙ ap (or_err fault.Overflow) (checked-in (of_int (pos n)) (omega arith) (omega arith))

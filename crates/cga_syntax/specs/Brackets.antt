@@ -35,7 +35,7 @@ abbrev pub walk_on : (ℕ → Option ℕ) → Option ℕ → Option ℕ
 walk_on f None = None
 walk_on f (Some n) = f n
 
--- how many brackets may still be opened behind the text, or None where one too many was opened
+-- how many brackets may still be opened after the text, or None where one too many was opened
 unfoldable pub walk : ℕ → List Lexeme → Option ℕ
 walk n [] = Some n
 walk n (l ∷ ls) = walk_on (λ m. walk m ls) (counted (bracket_of l) n)

@@ -7,7 +7,9 @@ use Rattle.cga_word.specs.declared.answer.Answer.{Answer}
 use Rattle.cga_word.specs.declared.primitive.Primitive.{Primitive}
 use Rattle.cga_word.specs.declared.selector.Selector.{Selector}
 use Rattle.cga_word.specs.declared.turn.Turn.{Turn}
-use Rattle.cga_syntax.specs.Pieces.{none_before, Pieces, keyword, sign, word, text, named, whole, nonempty, preceded, separated, turn_keyword, solid_text, axis_text, selector_pieces, size_word, target_text, equality_sign, relation_sign, state_text, token, turned}
+use Rattle.cga_syntax.specs.Limits.{last_id}
+use Rattle.cga_syntax.specs.declared.print.space.Space.TheVariants.{NoneBefore}
+use Rattle.cga_syntax.specs.Pieces.{Pieces, keyword, sign, word, text, named, whole, nonempty, preceded, separated, turn_keyword, solid_text, axis_text, selector_pieces, size_word, target_text, equality_sign, relation_sign, state_text, token, turned}
 use Rattle.cga_syntax.specs.declared.keyword.Keyword.TheVariants as k
 use Rattle.cga_syntax.specs.declared.lexeme.Lexeme.TheVariants as lexeme
 use Rattle.cga_rule.specs.declared.cond.Relation.{Relation}
@@ -19,7 +21,7 @@ abbrev pub name_pieces : List ℕ → Pieces
 name_pieces name = named name ∷ []
 
 abbrev pub head_of : ℕ → List ℕ → Pieces
-head_of id symbol = whole 1 999999 id ∷ token none_before (lexeme.Sign s.Colon) ∷ named symbol ∷ []
+head_of id symbol = whole 1 last_id id ∷ token NoneBefore (lexeme.Sign s.Colon) ∷ named symbol ∷ []
 
 abbrev pub rotated : Axis → Turn → Pieces
 rotated a by = keyword (turn_keyword a) ∷ sign s.LeftRound ∷ turned by ∷ sign s.RightRound ∷ []

@@ -38,6 +38,25 @@ keyword_of word =
     else if is word (codes "Comp") then Some keyword.Comp
     else other_keyword_of word
 
+-- the reserved words of so many bytes
+abbrev pub one_byte_keyword : List ℕ → Option Keyword
+one_byte_keyword word = if is word (codes "T") then Some keyword.T else (if is word (codes "S") then Some keyword.S else (if is word (codes "I") then Some keyword.I else None))
+
+abbrev pub two_byte_keyword : List ℕ → Option Keyword
+two_byte_keyword word = if is word (codes "Rx") then Some keyword.Rx else (if is word (codes "Ry") then Some keyword.Ry else (if is word (codes "Rz") then Some keyword.Rz else (if is word (codes "or") then Some keyword.Or else None)))
+
+abbrev pub three_byte_keyword : List ℕ → Option Keyword
+three_byte_keyword word = if is word (codes "NIL") then Some keyword.Nil else (if is word (codes "and") then Some keyword.And else (if is word (codes "not") then Some keyword.Not else None))
+
+abbrev pub four_byte_keyword : List ℕ → Option Keyword
+four_byte_keyword word = if is word (codes "Comp") then Some keyword.Comp else (if is word (codes "rand") then Some keyword.Rand else (if is word (codes "ceil") then Some keyword.Ceil else None))
+
+abbrev pub five_byte_keyword : List ℕ → Option Keyword
+five_byte_keyword word = if is word (codes "Scope") then Some keyword.Scope else (if is word (codes "floor") then Some keyword.Floor else None)
+
+abbrev pub six_byte_keyword : List ℕ → Option Keyword
+six_byte_keyword word = if is word (codes "Subdiv") then Some keyword.Subdiv else (if is word (codes "Repeat") then Some keyword.Repeat else None)
+
 -- the bytes of a reserved word
 abbrev pub keyword_bytes : Keyword → List ℕ
 keyword_bytes keyword.T = codes "T"

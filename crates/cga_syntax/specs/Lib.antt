@@ -1,3 +1,4 @@
+pub mod Limits
 pub mod Lexemes
 pub mod Pieces
 pub mod Spelling

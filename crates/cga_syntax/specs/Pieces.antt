@@ -18,7 +18,10 @@ use Rattle.cga_word.specs.declared.target.Target.{Target}
 use Rattle.cga_word.specs.declared.target.Target.TheVariants as target
 use Rattle.cga_word.specs.declared.answer.Answer.{Answer}
 use Rattle.cga_word.specs.declared.answer.Answer.TheVariants as answer
+use Rattle.cga_syntax.specs.declared.print.space.Space.{Space}
+use Rattle.cga_syntax.specs.declared.print.space.Space.TheVariants.{Usual, NoneBefore, NoneAfter}
 use Rattle.cga_syntax.specs.Lexemes.{is_reserved}
+use Rattle.cga_syntax.specs.Limits.{last_id, last_edge, most_steps, most_further}
 use Rattle.cga_syntax.specs.declared.keyword.Keyword.{Keyword}
 use Rattle.cga_syntax.specs.declared.keyword.Keyword.TheVariants as k
 use Rattle.cga_syntax.specs.declared.lexeme.Lexeme.{Lexeme}
@@ -46,12 +49,6 @@ use Rattle.cga_rule.specs.declared.item.Item.TheFolds.{fold-Body, fold-Item}
 use Rattle.cga_rule.specs.declared.item.Item.TheOpen as item
 use Rattle.cga_rule.specs.declared.rule.Alternative.{Alternative}
 use Rattle.cga_rule.specs.declared.rule.Rule.{Rule}
-
--- Where a token has no space beside it, apart from what signs have by themselves.
-pub data Space : Type 0 where
-  usual : Space
-  none_before : Space
-  none_after : Space
 
 -- A part of a text: a token, or what may be written in several ways.
 pub data Piece : Type 0 where
@@ -83,7 +80,7 @@ IsMagnitude v text =
     (text ≡ lexeme.Number v ∷ [])
     ⊎ ((n : ℕ) × (d : ℕ) × (text ≡ number n ∷ lexeme.Sign s.Slash ∷ number d ∷ []) × (0 < d) × (v ≡ divided (of_int (pos n)) (of_int (pos d))))
 
--- that, or the negative of what stands behind a minus
+-- that, or the negative of what stands after a minus
 abbrev pub IsValue : Rat → List Lexeme → Type 0
 IsValue v text = IsMagnitude v text ⊎ ((m : Rat) × (rest : List Lexeme) × (text ≡ lexeme.Sign s.Minus ∷ rest) × IsMagnitude m rest × (v ≡ negated m))
 
@@ -107,7 +104,7 @@ abbrev pub Pieces : Type 0
 Pieces = List Piece
 
 abbrev pub plain : Lexeme → Piece
-plain l = token usual l
+plain l = token Usual l
 
 abbrev pub sign : Sign → Piece
 sign x = plain (lexeme.Sign x)
@@ -134,10 +131,10 @@ abbrev pub concat : List Pieces → Pieces
 concat [] = []
 concat (p ∷ ps) = p ++ concat ps
 
--- each behind a token
-abbrev pub behind_each : Piece → List Pieces → Pieces
-behind_each p [] = []
-behind_each p (ps ∷ pss) = p ∷ (ps ++ behind_each p pss)
+-- each after a token
+abbrev pub after_each : Piece → List Pieces → Pieces
+after_each p [] = []
+after_each p (ps ∷ pss) = p ∷ (ps ++ after_each p pss)
 
 -- one or more, one after the other, and what follows them
 abbrev pub nonempty : List Pieces → Pieces → Pieces
@@ -147,21 +144,21 @@ nonempty (p ∷ ps) end = p ++ (concat ps ++ end)
 -- one or more, with a token between them, and what follows them
 abbrev pub separated : Piece → List Pieces → Pieces → Pieces
 separated p [] end = never ∷ end
-separated p (ps ∷ pss) end = ps ++ (behind_each p pss ++ end)
+separated p (ps ∷ pss) end = ps ++ (after_each p pss ++ end)
 
--- one or more, each behind a token, and what follows them
+-- one or more, each after a token, and what follows them
 abbrev pub preceded : Piece → List Pieces → Pieces → Pieces
 preceded p [] end = never ∷ end
-preceded p (ps ∷ pss) end = p ∷ (ps ++ (behind_each p pss ++ end))
+preceded p (ps ∷ pss) end = p ∷ (ps ++ (after_each p pss ++ end))
 
--- at most so many, each behind a token
+-- at most so many, each after a token
 abbrev pub at_most : ℕ → Piece → List Pieces → Pieces
-at_most most p pss = if nat_le (length pss) most then behind_each p pss else never ∷ []
+at_most most p pss = if nat_le (length pss) most then after_each p pss else never ∷ []
 
 -- at most four in brackets; nothing where there is none
 abbrev pub arguments : List Pieces → Pieces
 arguments [] = []
-arguments (a ∷ more) = sign s.LeftRound ∷ (a ++ (at_most 3 (sign s.Comma) more ++ (sign s.RightRound ∷ [])))
+arguments (a ∷ more) = sign s.LeftRound ∷ (a ++ (at_most most_further (sign s.Comma) more ++ (sign s.RightRound ∷ [])))
 
 -- ---- expressions
 
@@ -180,7 +177,7 @@ primary_step (primary.ScopeSize a) = keyword k.Scope ∷ sign s.Dot ∷ word (si
 primary_step (primary.Group e) = grouped e
 primary_step (primary.Floor e) = keyword k.Floor ∷ grouped e
 primary_step (primary.Ceil e) = keyword k.Ceil ∷ grouped e
-primary_step (primary.Rand j low high steps) = drawn j ∷ sign s.LeftRound ∷ (low ++ (sign s.Comma ∷ (high ++ (sign s.Comma ∷ whole 1 1000000 steps ∷ sign s.RightRound ∷ []))))
+primary_step (primary.Rand j low high steps) = drawn j ∷ sign s.LeftRound ∷ (low ++ (sign s.Comma ∷ (high ++ (sign s.Comma ∷ whole 1 most_steps steps ∷ sign s.RightRound ∷ []))))
 
 abbrev pub added_step : Added-F Pieces Pieces Pieces Pieces Pieces Pieces → Pieces
 added_step a = sign (if a.minus then s.Minus else s.Plus) ∷ a.term
@@ -188,9 +185,9 @@ added_step a = sign (if a.minus then s.Minus else s.Plus) ∷ a.term
 abbrev pub expr_step : Expr-F Pieces Pieces Pieces Pieces Pieces Pieces → Pieces
 expr_step e = e.first ++ concat e.rest
 
--- a minus that begins a factor has no space behind it
+-- a minus that begins a factor has no space after it
 abbrev pub factor_step : Factor-F Pieces Pieces Pieces Pieces Pieces Pieces → Pieces
-factor_step f = if f.minus then token none_after (lexeme.Sign s.Minus) ∷ f.primary else f.primary
+factor_step f = if f.minus then token NoneAfter (lexeme.Sign s.Minus) ∷ f.primary else f.primary
 
 abbrev pub scaled_step : Scaled-F Pieces Pieces Pieces Pieces Pieces Pieces → Pieces
 scaled_step f = sign (if f.divide then s.Slash else s.Star) ∷ f.factor
@@ -295,7 +292,7 @@ selector_pieces selector.Faces = text (codes "faces") ∷ []
 selector_pieces selector.Sidefaces = text (codes "sidefaces") ∷ []
 selector_pieces (selector.Face s') = text (codes "face") ∷ sign s.Comma ∷ text (side_text s') ∷ []
 selector_pieces selector.Edges = text (codes "edges") ∷ []
-selector_pieces (selector.Edge n) = text (codes "edge") ∷ sign s.Comma ∷ whole 1 12 n ∷ []
+selector_pieces (selector.Edge n) = text (codes "edge") ∷ sign s.Comma ∷ whole 1 last_edge n ∷ []
 selector_pieces selector.Vertices = text (codes "vertices") ∷ []
 
 unfoldable pub size_pieces : Size → Pieces
@@ -345,8 +342,8 @@ abbrev pub condition_pieces : Option Cond → Pieces
 condition_pieces None = []
 condition_pieces (Some c) = sign s.Colon ∷ cond_pieces c
 
--- the colon behind the id has no space before it
+-- the colon after the id has no space before it
 unfoldable pub rule_pieces : Rule → Pieces
 rule_pieces r =
-    whole 1 999999 r.id ∷ token none_before (lexeme.Sign s.Colon) ∷ named r.symbol
+    whole 1 last_id r.id ∷ token NoneBefore (lexeme.Sign s.Colon) ∷ named r.symbol
     ∷ (arguments (map (λ p. named p ∷ []) r.params) ++ (condition_pieces r.cond ++ nonempty (map alternative_pieces r.alternatives) []))

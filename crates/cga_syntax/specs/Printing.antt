@@ -9,26 +9,21 @@ use Rattle.cga_lexer.specs.declared.sign.Sign.TheVariants as s
 use Rattle.cga_word.specs.declared.turn.Turn.{Turn}
 use Rattle.cga_word.specs.declared.turn.Turn.TheVariants as turn
 use Rattle.cga_syntax.specs.Lexemes.{keyword_bytes}
-use Rattle.cga_syntax.specs.Pieces.{Space, usual, none_before, none_after, Piece, sign, word, token, drawn, turned, probability, valued, never, number}
+use Rattle.cga_syntax.specs.Pieces.{Piece, sign, word, token, drawn, turned, probability, valued, never, number}
 use Rattle.cga_syntax.specs.declared.keyword.Keyword.TheVariants as k
 use Rattle.cga_syntax.specs.declared.lexeme.Lexeme.{Lexeme}
 use Rattle.cga_syntax.specs.declared.lexeme.Lexeme.TheVariants as lexeme
-use Rattle.cga_syntax.specs.declared.print.gap.Gap.{Gap}
-use Rattle.cga_syntax.specs.declared.print.gap.Gap.TheVariants as gap
+use Rattle.cga_syntax.specs.declared.print.space.Space.{Space}
+use Rattle.cga_syntax.specs.declared.print.space.Space.TheVariants as space
 use Rattle.cga_syntax.specs.declared.print.mark.Mark.{Mark}
 
 -- ---- tokens
 
-abbrev pub gap_of : Space → Gap
-gap_of usual = gap.Usual
-gap_of none_before = gap.NoneBefore
-gap_of none_after = gap.NoneAfter
-
-abbrev pub marked : Gap → Lexeme → Mark
-marked g l = record { lexeme = l; gap = g }
+abbrev pub marked : Space → Lexeme → Mark
+marked beside l = record { lexeme = l; space = beside }
 
 abbrev pub usually : Lexeme → Mark
-usually l = marked gap.Usual l
+usually l = marked space.Usual l
 
 abbrev pub degrees : Turn → ℕ
 degrees turn.By0 = 0
@@ -50,11 +45,11 @@ magnitude n (suc above) = usually (number n) ∷ usually (lexeme.Sign s.Slash) �
 
 abbrev pub exactly : ℤ → ℕ → List Mark
 exactly (pos n) above = magnitude n above
-exactly (negsuc n) above = marked gap.NoneAfter (lexeme.Sign s.Minus) ∷ magnitude (suc n) above
+exactly (negsuc n) above = marked space.NoneAfter (lexeme.Sign s.Minus) ∷ magnitude (suc n) above
 
 -- the tokens that a piece is printed as: a turn is its degrees, and a probability of 1 is left out
 abbrev pub printed_piece : Piece → List Mark
-printed_piece (token space l) = marked (gap_of space) l ∷ []
+printed_piece (token beside l) = marked beside l ∷ []
 printed_piece (drawn j) = usually (lexeme.Keyword k.Rand) ∷ []
 printed_piece (turned t) = usually (number (degrees t)) ∷ []
 printed_piece (probability p) = if is_one p then [] else usually (lexeme.Sign s.Colon) ∷ usually (lexeme.Number p) ∷ []
@@ -65,7 +60,7 @@ abbrev pub printed : List Piece → List Mark
 printed [] = []
 printed (p ∷ ps) = printed_piece p ++ printed ps
 
--- the same behind tokens that come before
+-- the same after tokens that come before
 abbrev pub printed_on : List Mark → List Piece → List Mark
 printed_on ms [] = ms
 printed_on ms (p ∷ ps) = printed_on (ms ++ printed_piece p) ps
@@ -159,24 +154,24 @@ abbrev pub is_colon : Lexeme → Bool
 is_colon (lexeme.Sign s.Colon) = true
 is_colon _ = false
 
-abbrev pub is_none_after : Gap → Bool
-is_none_after gap.NoneAfter = true
+abbrev pub is_none_after : Space → Bool
+is_none_after space.NoneAfter = true
 is_none_after _ = false
 
-abbrev pub is_none_before : Gap → Bool
-is_none_before gap.NoneBefore = true
+abbrev pub is_none_before : Space → Bool
+is_none_before space.NoneBefore = true
 is_none_before _ = false
 
 -- a - that begins a factor
 abbrev pub is_prefix : Mark → Bool
-is_prefix m = is_minus m.lexeme && is_none_after m.gap
+is_prefix m = is_minus m.lexeme && is_none_after m.space
 
--- the : behind the id
+-- the : after the id
 abbrev pub is_label : Mark → Bool
-is_label m = is_colon m.lexeme && is_none_before m.gap
+is_label m = is_colon m.lexeme && is_none_before m.space
 
--- no space stands between two neighbours: behind a ( or a . ; before a ) or a , ; before a ( or a . that directly
--- follows a word ; behind a - that begins a factor, before what begins a primary ; before the : behind the id
+-- no space stands between two neighbours: after a ( or a . ; before a ) or a , ; before a ( or a . that directly
+-- follows a word ; after a - that begins a factor, before what begins a primary ; before the : after the id
 abbrev pub closes_up : Mark → Mark → Bool
 closes_up a b =
     is_left a.lexeme || is_right b.lexeme || (is_word a.lexeme && is_left b.lexeme)
@@ -187,10 +182,10 @@ abbrev pub space_before : Option Mark → Mark → List ℕ
 space_before None m = []
 space_before (Some before) m = if closes_up before m then [] else codes " "
 
--- the text of tokens behind one that comes before
-abbrev pub text_behind : Option Mark → List Mark → List ℕ
-text_behind last [] = []
-text_behind last (m ∷ ms) = space_before last m ++ (lexeme_bytes m.lexeme ++ text_behind (Some m) ms)
+-- the text of tokens after one that comes before
+abbrev pub text_after : Option Mark → List Mark → List ℕ
+text_after last [] = []
+text_after last (m ∷ ms) = space_before last m ++ (lexeme_bytes m.lexeme ++ text_after (Some m) ms)
 
 abbrev pub text_of : List Mark → List ℕ
-text_of ms = text_behind None ms
+text_of ms = text_after None ms

@@ -2,7 +2,7 @@
 use Rattle.std.specs.Prelude.{◌≡◌, ℕ, true, false, List, [], ◌∷◌, map, Ok, Err}
 use Rattle.cga_fraction.specs.Decimals.{IsLiteral}
 use Rattle.cga_word.specs.Name.{is_name}
-use Rattle.cga_lexer.specs.Line.{Outcome, tokens_of}
+use Rattle.cga_lexer.specs.Line.{Lexed, tokens_of}
 use Rattle.cga_lexer.specs.declared.token.Token.{Token}
 use Rattle.cga_syntax.specs.Lexemes.{lexeme_of, is_reserved}
 use Rattle.cga_syntax.specs.Pieces.{Pieces}
@@ -29,17 +29,17 @@ abbrev pub seen_of : List Token → List Lexeme
 seen_of ts = map (λ t. lexeme_of t.kind) ts
 
 -- a line's tokens are these
-abbrev pub AreRead : Outcome → List Lexeme → Type 0
+abbrev pub AreRead : Lexed → List Lexeme → Type 0
 AreRead (Ok ts) ls = seen_of ts ≡ ls
 AreRead (Err f) ls = ⊥
 
-abbrev pub outcome_spells : {A : Type 0} → (A → Pieces) → Outcome → A → Type 0
-outcome_spells w (Ok ts) a = Spelled w (seen_of ts) a
-outcome_spells w (Err f) a = ⊥
+abbrev pub lexed_spells : {A : Type 0} → (A → Pieces) → Lexed → A → Type 0
+lexed_spells w (Ok ts) a = Spelled w (seen_of ts) a
+lexed_spells w (Err f) a = ⊥
 
 -- the line's tokens are written as the value's pieces
 abbrev pub LineSpells : {A : Type 0} → (A → Pieces) → List ℕ → A → Type 0
-LineSpells w line a = outcome_spells w (tokens_of line) a
+LineSpells w line a = lexed_spells w (tokens_of line) a
 
 -- each number of what is printed has a text, and the text spells the value
 abbrev pub IsPrintedWell : {A : Type 0} → (A → Pieces) → A → Type 0

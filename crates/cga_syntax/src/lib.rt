@@ -8,12 +8,15 @@
 
 mod keyword;
 mod lexeme;
+pub mod limits;
 mod print;
 #[cfg(test)]
 mod tests;
 
-pub use cga_rule::{Added, Alternative, Attribute, Body, CheckFault, Cond, Conj, Entry, Expr};
-pub use cga_rule::{Factor, Grammar, Group, Item, Primary, Relation, Rule, Scaled, Size, Term, Test};
+pub use cga_rule::{
+    Added, Alternative, Attribute, Body, CheckFault, Cond, Conj, Entry, Expr, Factor, Grammar,
+    Group, Item, Primary, Relation, Rule, Scaled, Size, Term, Test,
+};
 pub use keyword::Keyword;
 pub use lexeme::Lexeme;
-pub use print::{lexes_back, print_grammar, print_rule, spells_back};
+pub use print::{Space, lexes_back, print_grammar, print_rule, spells_back};

@@ -7,7 +7,6 @@ ghost use Rattle.cga_syntax.specs.Printing.{printed, text_of, HaveTexts};
 pub(crate) mod back;
 pub(crate) mod cond;
 pub(crate) mod expr;
-pub(crate) mod gap;
 pub(crate) mod grammar;
 pub(crate) mod item;
 pub(crate) mod least;
@@ -15,17 +14,18 @@ pub(crate) mod list;
 pub(crate) mod mark;
 pub(crate) mod parts;
 pub(crate) mod rule;
+pub(crate) mod space;
 pub(crate) mod text;
 pub(crate) mod token;
 pub(crate) mod words;
 
-use cga_rule::Grammar;
 pub use crate::print::back::{lexes_back, spells_back};
 use crate::print::grammar::{push_attributes, push_sections};
 use crate::print::rule::push_rule;
+pub use crate::print::space::Space;
 use crate::print::text::push_marks;
-use cga_rule::Rule;
-use cga_fraction::{List, NoMemory};
+use cga_fraction::{List, NoMemory, Text};
+use cga_rule::{Grammar, Rule};
 use std::alloc::Global;
 
 /// The text of a rule, without the end of its line. Every rule that some line spells may be
@@ -35,9 +35,9 @@ pub fn print_rule(alloc: Global, rule: &Rule) -> Result<List<u8>, NoMemory>
     requires { HaveTexts (printed (rule_pieces rule.now)) }
     ensures { IfOk result (λ text. text ≡ text_of (printed (rule_pieces rule.now))) }
 {
-    let mut text = Vec::new(alloc);
+    let mut text = Text::new(alloc);
     push_text_of(alloc, &mut text, rule)?;
-    Ok(List::from_vec(text))
+    Ok(text.into_list())
 }
 
 /// The text of a grammar, as the command `grammar` writes it: each line ends with one LF. Takes
@@ -47,19 +47,19 @@ pub fn print_grammar(alloc: Global, grammar: &Grammar) -> Result<List<u8>, NoMem
     requires { ArePrintable grammar.now.rules }
     ensures { IfOk result (λ text. text ≡ grammar_text grammar.now) }
 {
-    let mut text = Vec::new(alloc);
-    text.extend_from_slice(b"rules\n")?;
-    push_attributes(alloc, &mut text, grammar.attributes.as_slice())?;
+    let mut text = Text::new(alloc);
+    text.push(b"rules\n")?;
+    push_attributes(&mut text, grammar.attributes.as_slice())?;
     push_sections(alloc, &mut text, grammar.rules.as_slice())?;
-    text.extend_from_slice(b"end\n")?;
-    Ok(List::from_vec(text))
+    text.push(b"end\n")?;
+    Ok(text.into_list())
 }
 
 /// Appends the text of a rule.
 #[tactic(auto, using(crate::proofs::Printed::on_is))]
-pub(crate) fn push_text_of(alloc: Global, text: &mut Vec<u8>, rule: &Rule) -> Result<(), NoMemory>
+pub(crate) fn push_text_of(alloc: Global, text: &mut Text, rule: &Rule) -> Result<(), NoMemory>
     requires { HaveTexts (printed (rule_pieces rule.now)) }
-    ensures { OnOk result (text.new.items ≡ text.old.items ++ text_of (printed (rule_pieces rule.now))) }
+    ensures { OnOk result (text.new ≡ text.old ++ text_of (printed (rule_pieces rule.now))) }
 {
     let mut marks = List::new(alloc);
     push_rule(&mut marks, rule)?;

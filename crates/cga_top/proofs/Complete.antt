@@ -7,7 +7,8 @@ use Rattle.cga_outside.specs.Causes.{Rose}
 use Rattle.cga_top.specs.declared.status.Status.{Status}
 use Rattle.cga_top.specs.declared.status.Status.TheVariants.{Done, Usage, ReadFault, WriteFault, TooLong, NoMemory}
 use Rattle.cga_top.specs.Reads.{limit}
-use Rattle.cga_top.specs.Top.{Outside, StatusMeans, HoldsFew, WritesAll}
+use Rattle.cga_top.specs.Outside.{Outside}
+use Rattle.cga_top.specs.Statuses.{StatusMeans, HoldsFew, WritesAll}
 
 not_so_long : (bytes read : List ℕ) (left : Option (List ℕ)) → Consumes (Some bytes) left read → limit < length read → length bytes ≤ limit → ⊥
 not_so_long bytes read None p h few = p
@@ -15,7 +16,7 @@ not_so_long bytes read (Some rest) p h few = omega (arith, ap length p, length-a
 
 told : (script : Option (List ℕ)) (old new : Outside) → old.left ≡ script → HoldsFew script → StatusMeans TooLong old new → ⊥
 told None old new e few m = few
-told (Some bytes) old new e few m = let t = rw e at m.1 in not_so_long bytes t.0 new.left t.2.taken t.1 few
+told (Some bytes) old new e few m = let t = rw e at m.2 in not_so_long bytes t.0 new.left t.3.taken t.1 few
 
 pub complete_of : (status : Status) (old new : Outside) → StatusMeans status old new → HoldsFew old.left → (Rose old.reads_failed new.reads_failed → ⊥) → (Rose old.writes_failed new.writes_failed → ⊥) → status ≢ Usage → (status ≡ Done) ⊎ (status ≡ NoMemory)
 complete_of Done old new m few calm silent used = inl refl
@@ -31,7 +32,7 @@ output_written (Some bytes) old new all = all.output
 
 -- where all was done, all of the output was written
 pub headline_of : (status : Status) (old new : Outside) → StatusMeans status old new → status ≡ Done → IfSome old.left (λ bytes. Appends old.held new.held (output_of bytes))
-headline_of status old new means done = let all = subst (λ (s : Status). StatusMeans s old new) done means in output_written old.left old new all.2
+headline_of status old new means done = let all = subst (λ (s : Status). StatusMeans s old new) done means in output_written old.left old new all.3
 
 -- a status that a flush may turn into a write fault is no usage
 pub not_used : (r status : Status) → (r ≡ status) ⊎ (r ≡ WriteFault) → status ≢ Usage → r ≢ Usage

@@ -3,9 +3,10 @@ pub mod BlockLines
 pub mod Shapes
 pub mod Numerals
 pub mod Cubes
-pub mod Turns
+pub mod OpenBlocks
 pub mod Known
-pub mod Runs
+pub mod Faults
+pub mod Effects
 pub mod Pieces
 pub mod Reading
 pub mod Ends

@@ -9,43 +9,47 @@ use Rattle.cga_script.specs.declared.ending.Ending.{Ending}
 use Rattle.cga_script.specs.declared.ending.Ending.TheVariants.{Open}
 use Rattle.cga_script.proofs.Feeds.{kept_one, kept_twice, no_lines, rest_of_part}
 use Rattle.cga_top.specs.declared.session.Session.{Session}
-use Rattle.cga_top.specs.Output.{State, Turn, turn, then_turn, silent, run_from}
-use Rattle.cga_top.specs.Session.{Stands}
-use Rattle.cga_top.specs.Wrote.{Wrote, IsKeptPart}
-use Rattle.cga_top.specs.Writes.{AppendsSome}
+use Rattle.cga_top.specs.State.{State}
+use Rattle.cga_top.specs.Effect.{Effect, followed_by, silent}
+use Rattle.cga_top.specs.Replies.{effect}
+use Rattle.cga_top.specs.Output.{effect_of_all}
+use Rattle.cga_top.specs.Session.{IsAt}
+use Rattle.cga_top.specs.Wrote.{Wrote}
+use Rattle.cga_top.specs.KeptPart.{IsKeptPart}
+use Rattle.cga_top.specs.Prefixes.{AppendsSome}
 use Rattle.cga_top.specs.Progress.{Progress}
-use Rattle.cga_top.proofs.Runs.{then_assoc, then_silent, silent_then, run_none, run_more, wrote_more, wrote_nothing, some_after, some_more}
+use Rattle.cga_top.proofs.Effects.{followed_assoc, followed_silent, silent_followed, all_none, all_more, wrote_more, wrote_nothing, some_after, some_more}
 
-pub progress_start : (s : State) (all : List ℕ) (session : Session) (a : Option (List ℕ)) (i : ℕ) → Stands s session → Progress s all all session a a i i
-progress_start s all session a i st = record { done = silent s; wrote = wrote_nothing s session a i st; left = silent_then s (run_from s (lines_of all)) }
+pub progress_start : (s : State) (all : List ℕ) (session : Session) (a : Option (List ℕ)) (i : ℕ) → IsAt s session → Progress s all all session a a i i
+progress_start s all session a i st = record { done = silent s; wrote = wrote_nothing s session a i st; left = silent_followed s (effect_of_all s (lines_of all)) }
 
 pub progress_same : (s : State) (all now more : List ℕ) (session : Session) (a b : Option (List ℕ)) (i j : ℕ) → lines_of now ≡ lines_of more → Progress s all now session a b i j → Progress s all more session a b i j
-progress_same s all now more session a b i j e p = record { done = p.done; wrote = p.wrote; left = ap (λ (ls : List Line). then_turn p.done (run_from p.done.state ls)) (sym e) ∙ p.left }
+progress_same s all now more session a b i j e p = record { done = p.done; wrote = p.wrote; left = ap (λ (ls : List Line). followed_by p.done (effect_of_all p.done.state ls)) (sym e) ∙ p.left }
 
 pub progress_line : (s : State) (all now more : List ℕ) (line : Line) (session new : Session) (a b c : Option (List ℕ)) (i j k : ℕ) → lines_of now ≡ line ∷ lines_of more
-    → Progress s all now session a b i j → ((t : State) → Stands t session → Wrote (turn t line) new b c j k) → Progress s all more new a c i k
+    → Progress s all now session a b i j → ((t : State) → IsAt t session → Wrote (effect t line) new b c j k) → Progress s all more new a c i k
 progress_line s all now more line session new a b c i j k e p each =
-    let d = p.done in let u = turn d.state line in
+    let d = p.done in let u = effect d.state line in
     record {
-      done = then_turn d u;
-      wrote = wrote_more d u session new a b c i j k p.wrote (each d.state p.wrote.stands);
-      left = then_assoc d u (run_from u.state (lines_of more)) ∙ ap (then_turn d) (sym (run_more d.state line (lines_of more)) ∙ ap (run_from d.state) (sym e)) ∙ p.left;
+      done = followed_by d u;
+      wrote = wrote_more d u session new a b c i j k p.wrote (each d.state p.wrote.is_at);
+      left = followed_assoc d u (effect_of_all u.state (lines_of more)) ∙ ap (followed_by d) (sym (all_more d.state line (lines_of more)) ∙ ap (effect_of_all d.state) (sym e)) ∙ p.left;
     }
 
 -- no line is left
-pub progress_end : (s : State) (all now : List ℕ) (session : Session) (a b : Option (List ℕ)) (i j : ℕ) → lines_of now ≡ [] → Progress s all now session a b i j → Wrote (run_from s (lines_of all)) session a b i j
+pub progress_end : (s : State) (all now : List ℕ) (session : Session) (a b : Option (List ℕ)) (i j : ℕ) → lines_of now ≡ [] → Progress s all now session a b i j → Wrote (effect_of_all s (lines_of all)) session a b i j
 progress_end s all now session a b i j e p =
-    let same : p.done ≡ run_from s (lines_of all) = sym (then_silent p.done) ∙ ap (then_turn p.done) (sym (run_none p.done.state) ∙ ap (run_from p.done.state) (sym e)) ∙ p.left in
-    subst (λ (t : Turn). Wrote t session a b i j) same p.wrote
+    let same : p.done ≡ effect_of_all s (lines_of all) = sym (followed_silent p.done) ∙ ap (followed_by p.done) (sym (all_none p.done.state) ∙ ap (effect_of_all p.done.state) (sym e)) ∙ p.left in
+    subst (λ (t : Effect). Wrote t session a b i j) same p.wrote
 
 -- a line failed: some of the replies were written
 pub progress_err : (s : State) (all now more : List ℕ) (line : Line) (session : Session) (a b c : Option (List ℕ)) (i j : ℕ) → lines_of now ≡ line ∷ lines_of more
-    → Progress s all now session a b i j → ((t : State) → Stands t session → AppendsSome b c (turn t line).reply) → AppendsSome a c (run_from s (lines_of all)).reply
+    → Progress s all now session a b i j → ((t : State) → IsAt t session → AppendsSome b c (effect t line).reply) → AppendsSome a c (effect_of_all s (lines_of all)).reply
 progress_err s all now more line session a b c i j e p each =
-    let d = p.done in let u = turn d.state line in let v = run_from u.state (lines_of more) in
-    let some = some_more a c (then_turn d u).reply v.reply (some_after a b c d.reply u.reply p.wrote.written (each d.state p.wrote.stands)) in
-    let same : then_turn (then_turn d u) v ≡ run_from s (lines_of all) = then_assoc d u v ∙ ap (then_turn d) (sym (run_more d.state line (lines_of more)) ∙ ap (run_from d.state) (sym e)) ∙ p.left in
-    subst (λ (t : Turn). AppendsSome a c t.reply) same some
+    let d = p.done in let u = effect d.state line in let v = effect_of_all u.state (lines_of more) in
+    let some = some_more a c (followed_by d u).reply v.reply (some_after a b c d.reply u.reply p.wrote.written (each d.state p.wrote.is_at)) in
+    let same : followed_by (followed_by d u) v ≡ effect_of_all s (lines_of all) = followed_assoc d u v ∙ ap (followed_by d) (sym (all_more d.state line (lines_of more)) ∙ ap (effect_of_all d.state) (sym e)) ∙ p.left in
+    subst (λ (t : Effect). AppendsSome a c t.reply) same some
 
 -- the line that is read is empty again
 pub part_cleared : (p : Pending) → p ≡ record { kept = []; ending = Open } → IsKeptPart p

@@ -1,10 +1,10 @@
 -- One more read.
 use Rattle.std.proofs.Common.{◌≡◌, ◌≢◌, ℕ, ◌-◌, ◌≤◌, List, [], ◌++◌, length, take, Option, Bool, refl, sym, ap, subst, ◌∙◌}
+use Rattle.std.specs.Prelude.{IsTrue}
 use Rattle.std.proofs.Math.Seq.{take-nil}
-use Rattle.std.proofs.lemmas.List.{take_all}
+use Rattle.std.proofs.lemmas.List.{take_all, append-nil}
 use Rattle.std.proofs.lemmas.List.Elements.{All-nil}
 use Rattle.std.specs.Io.KnownBytes.{Consumes}
-use Rattle.cga_outside.specs.Causes.{Rose}
 use Rattle.cga_script.specs.Lines.{IsOneLine, cut, lines_of}
 use Rattle.cga_script.specs.Pending.{Pending, kept_of}
 use Rattle.cga_script.specs.declared.ending.Ending.TheVariants.{Open}
@@ -12,29 +12,32 @@ use Rattle.cga_script.proofs.Cuts.{lines_append, kept_append, rest_is_one}
 use Rattle.cga_script.proofs.Feeds.{no_lines}
 use Rattle.cga_script.proofs.Kept.{take_room}
 use Rattle.cga_top.specs.declared.session.Session.{Session}
-use Rattle.cga_top.specs.declared.stop.Stop.{Stop}
-use Rattle.cga_top.specs.declared.stop.Stop.TheVariants.{WriteFault, NoMemory}
-use Rattle.cga_top.specs.declared.read_end.ReadEnd.TheVariants.{Stopped}
-use Rattle.cga_top.specs.Output.{State, Turn, start, silent, then_turn, run_from, whole_lines, replies_of}
-use Rattle.cga_top.specs.Session.{Stands}
-use Rattle.cga_top.specs.Wrote.{Wrote, IsKeptPart}
-use Rattle.cga_top.specs.Writes.{AppendsSome}
-use Rattle.cga_top.specs.Reads.{limit, pending_after, IsRead, IsStopped, ReadsTo}
+use Rattle.cga_top.specs.State.{State, start}
+use Rattle.cga_top.specs.Effect.{Effect, silent, followed_by}
+use Rattle.cga_top.specs.Output.{effect_of_all, effect_of_lines, replies_of}
+use Rattle.cga_top.specs.Session.{IsAt}
+use Rattle.cga_top.specs.Wrote.{Wrote}
+use Rattle.cga_top.specs.KeptPart.{IsKeptPart}
+use Rattle.cga_top.specs.Prefixes.{AppendsSome}
+use Rattle.cga_top.specs.Outside.{Outside}
+use Rattle.cga_top.specs.Reads.{limit, pending_after, IsRead, IsHalted}
 use Rattle.cga_top.proofs.Known.{consumes_nothing, consumes_more}
-use Rattle.cga_top.proofs.Runs.{run_none, run_append, wrote_nothing, wrote_more, some_after}
+use Rattle.cga_top.proofs.Effects.{all_none, all_append, wrote_nothing, wrote_more, some_after}
 use Rattle.cga_top.proofs.Pieces.{part_kept}
 
 nothing : IsOneLine []
 nothing = All-nil (λ (b : ℕ). b ≢ 10)
 
-pub reads_start : (session : Session) (lines : Pending) (a o : Option (List ℕ)) (i : ℕ) → Stands start session → lines ≡ pending_after [] → IsRead [] a a session lines o o i i
-reads_start session lines a o i st e =
+pub reads_start : (session : Session) (lines : Pending) (o : Outside) → IsAt start session → lines ≡ pending_after [] → IsRead [] o o session lines
+reads_start session lines o at_it e =
     let none : take limit [] ≡ [] = take-nil limit in
-    let still : whole_lines (take limit []) ≡ silent start = ap whole_lines none ∙ ap (run_from start) (no_lines [] nothing) ∙ run_none start in
+    let still : effect_of_lines (take limit []) ≡ silent start = ap effect_of_lines none ∙ ap (effect_of_all start) (no_lines [] nothing) ∙ all_none start in
     record {
-      taken = consumes_nothing a;
-      wrote = subst (λ (t : Turn). Wrote t session o o i i) (sym still) (wrote_nothing start session o i st);
+      taken = consumes_nothing o.left;
+      wrote = subst (λ (t : Effect). Wrote t session o.held o.held o.expanded o.expanded) (sym still) (wrote_nothing start session o.held o.expanded at_it);
       lines_are = e ∙ ap pending_after (sym none);
+      flushed = λ some. absurd (some refl);
+      calm = refl;
     }
 
 pub is_part : (read : List ℕ) (p : Pending) → p ≡ pending_after read → IsKeptPart p
@@ -52,41 +55,53 @@ module _ (read chunk piece : List ℕ) (lines : Pending) (few : length read ≤ 
   kept_is = ap (λ (p : Pending). p.kept) are ∙ ap (λ (r : List ℕ). kept_of (cut r).rest) all_read
 
   so_far : State
-  so_far = (whole_lines (take limit read)).state
+  so_far = (effect_of_lines (take limit read)).state
 
-  pub turns_are : whole_lines (take limit (read ++ chunk)) ≡ then_turn (whole_lines (take limit read)) (run_from (whole_lines (take limit read)).state (lines_of (lines.kept ++ piece)))
-  turns_are =
-      ap whole_lines more_read ∙ ap (run_from start) (lines_append read piece) ∙ run_append start (lines_of read) (lines_of (kept_of (cut read).rest ++ piece))
-      ∙ ap (λ (k : List ℕ). then_turn (whole_lines read) (run_from (whole_lines read).state (lines_of (k ++ piece)))) (sym kept_is)
-      ∙ ap (λ (r : List ℕ). then_turn (whole_lines r) (run_from (whole_lines r).state (lines_of (lines.kept ++ piece)))) (sym all_read)
+  pub effects_are : effect_of_lines (take limit (read ++ chunk)) ≡ followed_by (effect_of_lines (take limit read)) (effect_of_all (effect_of_lines (take limit read)).state (lines_of (lines.kept ++ piece)))
+  effects_are =
+      ap effect_of_lines more_read ∙ ap (effect_of_all start) (lines_append read piece) ∙ all_append start (lines_of read) (lines_of (kept_of (cut read).rest ++ piece))
+      ∙ ap (λ (k : List ℕ). followed_by (effect_of_lines read) (effect_of_all (effect_of_lines read).state (lines_of (k ++ piece)))) (sym kept_is)
+      ∙ ap (λ (r : List ℕ). followed_by (effect_of_lines r) (effect_of_all (effect_of_lines r).state (lines_of (lines.kept ++ piece)))) (sym all_read)
 
   pub pending_is : record { kept = kept_of (cut (lines.kept ++ piece)).rest; ending = Open } ≡ pending_after (take limit (read ++ chunk))
   pending_is =
       ap (λ (k : List ℕ). record { kept = kept_of (cut (k ++ piece)).rest; ending = Open }) kept_is
       ∙ ap (λ (k : List ℕ). record { kept = k; ending = Open }) (kept_append read piece) ∙ ap pending_after (sym more_read)
 
-pub reads_more : (read chunk piece : List ℕ) (a b c o n p : Option (List ℕ)) (session next : Session) (lines after : Pending) (i j k : ℕ) → length read ≤ limit → piece ≡ take (limit - length read) chunk
-    → IsRead read a b session lines o n i j → Consumes b c chunk
-    → ((s : State) → Stands s session → Wrote (run_from s (lines_of (lines.kept ++ piece))) next n p j k)
+pub reads_more : (read chunk piece : List ℕ) (old mid new : Outside) (session next : Session) (lines after : Pending) → length read ≤ limit → piece ≡ take (limit - length read) chunk
+    → IsRead read old mid session lines → Consumes mid.left new.left chunk
+    → ((s : State) → IsAt s session → Wrote (effect_of_all s (lines_of (lines.kept ++ piece))) next mid.held new.held mid.expanded new.expanded)
     → after ≡ record { kept = kept_of (cut (lines.kept ++ piece)).rest; ending = Open }
-    → IsRead (read ++ chunk) a c next after o p i k
-reads_more read chunk piece a b c o n p session next lines after i j k few first r more each e = record {
-  taken = consumes_more a b c read chunk r.taken more;
-  wrote = subst (λ (t : Turn). Wrote t next o p i k) (sym (turns_are read chunk piece lines few first r.lines_are)) (wrote_more _ _ session next o n p i j k r.wrote (each _ r.wrote.stands));
+    → IsTrue new.flushed → new.writes_failed ≡ mid.writes_failed
+    → IsRead (read ++ chunk) old new next after
+reads_more read chunk piece old mid new session next lines after few first r more each e flushed calm = record {
+  taken = consumes_more old.left mid.left new.left read chunk r.taken more;
+  wrote = subst (λ (t : Effect). Wrote t next old.held new.held old.expanded new.expanded) (sym (effects_are read chunk piece lines few first r.lines_are))
+      (wrote_more _ _ session next old.held mid.held new.held old.expanded mid.expanded new.expanded r.wrote (each _ r.wrote.is_at));
   lines_are = e ∙ pending_is read chunk piece lines few first r.lines_are;
+  flushed = λ some. flushed;
+  calm = calm ∙ r.calm;
 }
 
-pub reads_stop : (read chunk piece : List ℕ) (a b c o n p : Option (List ℕ)) (session : Session) (lines : Pending) (i j : ℕ) → length read ≤ limit → piece ≡ take (limit - length read) chunk
-    → IsRead read a b session lines o n i j → Consumes b c chunk
-    → ((s : State) → Stands s session → AppendsSome n p (run_from s (lines_of (lines.kept ++ piece))).reply)
-    → IsStopped (read ++ chunk) a c o p
+-- a read that took nothing
+pub reads_none : (read : List ℕ) (old mid : Outside) (session : Session) (lines : Pending) (left : Option (List ℕ)) (ended : Bool) (failed : ℕ) → IsRead read old mid session lines → Consumes mid.left left []
+    → IsRead read old (record mid { left = left; ended = ended; reads_failed = failed }) session lines
+reads_none read old mid session lines left ended failed r none = record {
+  taken = subst (Consumes old.left left) (append-nil read) (consumes_more old.left mid.left left read [] r.taken none);
+  wrote = r.wrote;
+  lines_are = r.lines_are;
+  flushed = r.flushed;
+  calm = r.calm;
+}
+
+pub reads_halt : (read chunk piece : List ℕ) (old mid new : Outside) (session : Session) (lines : Pending) → length read ≤ limit → piece ≡ take (limit - length read) chunk
+    → IsRead read old mid session lines → Consumes mid.left new.left chunk
+    → ((s : State) → IsAt s session → AppendsSome mid.held new.held (effect_of_all s (lines_of (lines.kept ++ piece))).reply)
+    → new.reads_failed ≡ old.reads_failed → IsHalted (read ++ chunk) old new
 unfolding replies_of
-reads_stop read chunk piece a b c o n p session lines i j few first r more each = record {
-  taken = consumes_more a b c read chunk r.taken more;
-  wrote = subst (λ (t : Turn). AppendsSome o p t.reply) (sym (turns_are read chunk piece lines few first r.lines_are)) (some_after o n p _ _ r.wrote.written (each _ r.wrote.stands));
+reads_halt read chunk piece old mid new session lines few first r more each calm = record {
+  taken = consumes_more old.left mid.left new.left read chunk r.taken more;
+  wrote = subst (λ (t : Effect). AppendsSome old.held new.held t.reply) (sym (effects_are read chunk piece lines few first r.lines_are))
+      (some_after old.held mid.held new.held _ _ r.wrote.written (each _ r.wrote.is_at));
+  calm = calm;
 }
-
-pub stopped_to : (stop : Stop) (read : List ℕ) (a c o p : Option (List ℕ)) (ended : Bool) (sf st kf kt i j : ℕ) (session : Session) (lines : Pending) → IsStopped read a c o p → (stop ≡ WriteFault → Rose kf kt)
-    → ReadsTo (Stopped stop) a c ended sf st session lines o p i j kf kt
-stopped_to WriteFault read a c o p ended sf st kf kt i j session lines s rose = (read, s, rose refl)
-stopped_to NoMemory read a c o p ended sf st kf kt i j session lines s rose = (read, s)

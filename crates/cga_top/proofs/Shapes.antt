@@ -3,7 +3,7 @@ use Rattle.std.proofs.Common.{◌≡◌, ℕ, ◌<◌, ◌≤◌, List, [], ◌�
 use Rattle.std.specs.Prelude.{bytes_eq, codes}
 use Rattle.cga_top.specs.Numbers.{number_of, above_zero}
 use Rattle.cga_top.specs.Symbols.{symbol_of}
-use Rattle.cga_top.specs.Forms.{lot_of, whole_lot, rule_of, whole_rule, is_template, marked_number, before_mark}
+use Rattle.cga_top.specs.Forms.{lot_of, lot_from, rule_of, rule_from, is_template, marked_number, before_mark}
 
 pub lot_of-few : (words : List (List ℕ)) → length words < 8 → lot_of words ≡ None
 unfolding lot_of
@@ -38,7 +38,7 @@ lot_of-others words kind name seed x z width depth symbol e other = rw (e, other
 
 pub lot_of-words : (words : List (List ℕ)) (kind name seed x z width depth symbol : List ℕ) → words ≡ kind ∷ name ∷ seed ∷ x ∷ z ∷ width ∷ depth ∷ symbol ∷ []
     → bytes_eq kind (codes "lot") ≡ true
-    → lot_of words ≡ whole_lot (symbol_of name) (number_of 18 seed) (number_of 6 x) (number_of 6 z) (above_zero (number_of 6 width)) (above_zero (number_of 6 depth)) (symbol_of symbol)
+    → lot_of words ≡ lot_from (symbol_of name) (number_of 18 seed) (number_of 6 x) (number_of 6 z) (above_zero (number_of 6 width)) (above_zero (number_of 6 depth)) (symbol_of symbol)
 unfolding lot_of
 lot_of-words words kind name seed x z width depth symbol e is = rw (e, is) refl
 
@@ -72,7 +72,7 @@ unfolding rule_of
 rule_of-others words id symbol arrow width height depth solid e other = rw (e, other) refl
 
 pub rule_of-words : (words : List (List ℕ)) (id symbol arrow width height depth solid : List ℕ) → words ≡ id ∷ symbol ∷ arrow ∷ width ∷ height ∷ depth ∷ solid ∷ []
-    → is_template arrow width depth solid ≡ true → rule_of words ≡ whole_rule (marked_number (before_mark 58 id)) (symbol_of symbol) (marked_number (before_mark 44 height))
+    → is_template arrow width depth solid ≡ true → rule_of words ≡ rule_from (marked_number (before_mark 58 id)) (symbol_of symbol) (marked_number (before_mark 44 height))
 unfolding rule_of
 rule_of-words words id symbol arrow width height depth solid e is = rw (e, is) refl
 

@@ -11,16 +11,16 @@ use Rattle.cga_top.specs.declared.form.Form.{Form}
 use Rattle.cga_top.specs.declared.form.Form.TheVariants.{Blank, Rules, Print, SetLot, Other}
 
 -- a lot, where each of its words is in form
-abbrev pub whole_lot : Option (List ℕ) → Option ℕ → Option ℕ → Option ℕ → Option ℕ → Option ℕ → Option (List ℕ) → Option Lot
-whole_lot (Some name) (Some seed) (Some x) (Some z) (Some width) (Some depth) (Some symbol) =
+abbrev pub lot_from : Option (List ℕ) → Option ℕ → Option ℕ → Option ℕ → Option ℕ → Option ℕ → Option (List ℕ) → Option Lot
+lot_from (Some name) (Some seed) (Some x) (Some z) (Some width) (Some depth) (Some symbol) =
     Some (record { name = name; seed = seed; x = x; z = z; width = width; depth = depth; symbol = symbol })
-whole_lot _ _ _ _ _ _ _ = None
+lot_from _ _ _ _ _ _ _ = None
 
 -- the words `lot NAME SEED X Z W D SYMBOL`
 unfoldable pub lot_of : List (List ℕ) → Option Lot
 lot_of (kind ∷ name ∷ seed ∷ x ∷ z ∷ width ∷ depth ∷ symbol ∷ []) =
     if bytes_eq kind (codes "lot") then
-    whole_lot (symbol_of name) (number_of 18 seed) (number_of 6 x) (number_of 6 z) (above_zero (number_of 6 width)) (above_zero (number_of 6 depth)) (symbol_of symbol)
+    lot_from (symbol_of name) (number_of 18 seed) (number_of 6 x) (number_of 6 z) (above_zero (number_of 6 width)) (above_zero (number_of 6 depth)) (symbol_of symbol)
     else None
 lot_of _ = None
 
@@ -34,9 +34,9 @@ marked_number None = None
 marked_number (Some digits) = above_zero (number_of 6 digits)
 
 -- a rule, where each of its words is in form
-abbrev pub whole_rule : Option ℕ → Option (List ℕ) → Option ℕ → Option BoxRule
-whole_rule (Some id) (Some symbol) (Some height) = Some (record { id = id; symbol = symbol; height = height })
-whole_rule _ _ _ = None
+abbrev pub rule_from : Option ℕ → Option (List ℕ) → Option ℕ → Option BoxRule
+rule_from (Some id) (Some symbol) (Some height) = Some (record { id = id; symbol = symbol; height = height })
+rule_from _ _ _ = None
 
 -- the words of a rule that say nothing of their own
 abbrev pub is_template : List ℕ → List ℕ → List ℕ → List ℕ → Bool
@@ -46,7 +46,7 @@ is_template arrow width depth solid =
 -- the words `ID: NAME -> S(1r, H, 1r) I("cube")`
 unfoldable pub rule_of : List (List ℕ) → Option BoxRule
 rule_of (id ∷ symbol ∷ arrow ∷ width ∷ height ∷ depth ∷ solid ∷ []) =
-    if is_template arrow width depth solid then whole_rule (marked_number (before_mark 58 id)) (symbol_of symbol) (marked_number (before_mark 44 height)) else None
+    if is_template arrow width depth solid then rule_from (marked_number (before_mark 58 id)) (symbol_of symbol) (marked_number (before_mark 44 height)) else None
 rule_of _ = None
 
 -- what a line that isn't long asks for

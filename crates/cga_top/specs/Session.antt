@@ -2,7 +2,8 @@
 use Rattle.std.specs.Prelude.{◌≡◌, ℕ, ◌+◌, ◌≤◌, List, Option, Some, None}
 use Rattle.cga_script.specs.Lines.{Line}
 use Rattle.cga_top.specs.Blocks.{gathered}
-use Rattle.cga_top.specs.Output.{State, Turn}
+use Rattle.cga_top.specs.State.{State}
+use Rattle.cga_top.specs.Effect.{Effect}
 use Rattle.cga_top.specs.declared.block.Block.{Block}
 use Rattle.cga_top.specs.declared.session.Session.{Session}
 
@@ -13,13 +14,14 @@ IsOpen (Some lines) (Some block) = block ≡ gathered lines
 IsOpen None (Some block) = ⊥
 IsOpen (Some lines) None = ⊥
 
-pub record Stands (s : State) (session : Session) : Type 0 where
+-- the session has come to the state
+pub record IsAt (s : State) (session : Session) : Type 0 where
   pub sources : session.sources ≡ s.sources
   pub block : IsOpen s.block session.block
 
--- a turn was done: the session has come to its state, this was the reply, and so much was expanded
-pub record Did (t : Turn) (session : Session) (text : List ℕ) (before after : ℕ) : Type 0 where
-  pub stands : Stands t.state session
-  pub reply : text ≡ t.reply
-  pub least : before + t.least ≤ after
-  pub most : after ≤ before + t.most
+-- a line was done: the session has come to its state, this was the reply, and so much was expanded
+pub record Did (e : Effect) (session : Session) (text : List ℕ) (before after : ℕ) : Type 0 where
+  pub is_at : IsAt e.state session
+  pub reply : text ≡ e.reply
+  pub least : before + e.least ≤ after
+  pub most : after ≤ before + e.most

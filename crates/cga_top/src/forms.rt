@@ -1,7 +1,7 @@
 ghost use Rattle.std.specs.Prelude.{◌≡◌, bytes_eq, codes};
 ghost use Rattle.std.specs.Option.{option_copied};
 ghost use Rattle.cga_top.specs.Words.{words_of};
-ghost use Rattle.cga_top.specs.Forms.{lot_of, rule_of, whole_lot, whole_rule, marked_number, before_mark, is_template, short_form, form_of, rule_in};
+ghost use Rattle.cga_top.specs.Forms.{lot_of, rule_of, lot_from, rule_from, marked_number, before_mark, is_template, short_form, form_of, rule_in};
 ghost use Rattle.cga_top.specs.Numbers.{number_of, above_zero};
 ghost use Rattle.cga_top.specs.Symbols.{symbol_of};
 
@@ -25,8 +25,8 @@ struct LotWords<'a> {
     symbol: &'a [u8],
 }
 
-fn whole_lot(words: &LotWords) -> Option<Lot>
-    ensures { result ≡ whole_lot (symbol_of words.now.name.now) (number_of 18 words.now.seed.now)
+fn lot_from(words: &LotWords) -> Option<Lot>
+    ensures { result ≡ lot_from (symbol_of words.now.name.now) (number_of 18 words.now.seed.now)
         (number_of 6 words.now.x.now) (number_of 6 words.now.z.now)
         (above_zero (number_of 6 words.now.width.now)) (above_zero
         (number_of 6 words.now.depth.now)) (symbol_of words.now.symbol.now) }
@@ -58,7 +58,7 @@ fn lot_form(line: &[u8]) -> Option<Lot>
     if !begins_lot(kind) {
         return None;
     }
-    whole_lot(&LotWords {
+    lot_from(&LotWords {
         name,
         seed,
         x,
@@ -93,8 +93,8 @@ fn is_template(arrow: &[u8], width: &[u8], depth: &[u8], solid: &[u8]) -> bool
         && solid == b"I(\"cube\")".as_slice()
 }
 
-fn whole_rule(id: &[u8], name: &[u8], height: &[u8]) -> Option<BoxRule>
-    ensures { result ≡ whole_rule (marked_number (before_mark 58 id.now)) (symbol_of name.now)
+fn rule_from(id: &[u8], name: &[u8], height: &[u8]) -> Option<BoxRule>
+    ensures { result ≡ rule_from (marked_number (before_mark 58 id.now)) (symbol_of name.now)
         (marked_number (before_mark 44 height.now)) }
 {
     Some(BoxRule {
@@ -113,7 +113,7 @@ fn rule_form(line: &[u8]) -> Option<BoxRule>
     if !is_template(arrow, width, depth, solid) {
         return None;
     }
-    whole_rule(id, name, height)
+    rule_from(id, name, height)
 }
 
 /// What a line outside a block asks for.

@@ -1,16 +1,20 @@
-ghost use Rattle.std.specs.Prelude.{◌≡◌, ◌++◌, ◌≤◌, OnOk, OnErr, Err, []};
-ghost use Rattle.std.specs.Io.KnownBytes.{Appends};
-ghost use Rattle.cga_outside.specs.Causes.{Rose};
+ghost use Rattle.std.specs.Prelude.{◌≡◌, ◌++◌, OnOk, OnErr, IsTrue, []};
+ghost use Rattle.std.specs.Io.KnownBytes.{Appends, Keeps};
+ghost use Rattle.cga_outside.specs.Causes.{HasCause};
 ghost use Rattle.cga_script.specs.Lines.{cut, lines_of};
 ghost use Rattle.cga_script.specs.Pending.{kept_of, ready_line};
 ghost use Rattle.cga_script.specs.declared.ending.Ending.TheVariants as ending;
-ghost use Rattle.cga_top.specs.Output.{State, turn, run_from};
-ghost use Rattle.cga_top.specs.Session.{Stands};
-ghost use Rattle.cga_top.specs.Wrote.{Wrote, IsKeptPart};
-ghost use Rattle.cga_top.specs.Writes.{AppendsSome};
+ghost use Rattle.cga_top.specs.State.{State};
+ghost use Rattle.cga_top.specs.Replies.{effect};
+ghost use Rattle.cga_top.specs.Output.{effect_of_all};
+ghost use Rattle.cga_top.specs.Session.{IsAt};
+ghost use Rattle.cga_top.specs.Wrote.{Wrote};
+ghost use Rattle.cga_top.specs.KeptPart.{IsKeptPart};
+ghost use Rattle.cga_top.specs.Prefixes.{AppendsSome};
+ghost use Rattle.cga_top.specs.Faults.{FaultsBy};
 
-use crate::session::{Session, take_turn};
-use crate::stop::Stop;
+use crate::halt::Halt;
+use crate::session::{Session, do_line};
 use cga_fraction::{NoMemory, Steps};
 use cga_outside::{Failed, Sink};
 use cga_script::Lines;
@@ -18,10 +22,9 @@ use std::sync::ledger::Ledger;
 
 /// Writes all of the bytes.
 pub(crate) fn write_all<K: Sink>(out: &mut K, bytes: &[u8]) -> Result<(), Failed>
-    ensures count { K.faults out.old ≤ K.faults out.new }
     ensures ok { OnOk result (Appends (K.held out.old) (K.held out.new) bytes.now) }
     ensures err { OnErr result (AppendsSome (K.held out.old) (K.held out.new) bytes.now) }
-    ensures cause { OnErr result (Rose (K.faults out.old) (K.faults out.new)) }
+    ensures cause { HasCause (K.faults out.old) (K.faults out.new) result }
 {
     let mut rest = bytes;
     while !rest.is_empty() {
@@ -40,27 +43,26 @@ pub(crate) fn take_line<K: Sink, E: Ledger, T: Ledger>(
     out: &mut K,
     expansions: &mut Steps<E>,
     tests: &mut Steps<T>,
-) -> Result<(), Stop>
-    ensures ok { (s : State) → Stands s session.old
-        → OnOk result (Wrote (turn s (ready_line lines.old)) session.new (K.held out.old)
+) -> Result<(), Halt>
+    ensures ok { (s : State) → IsAt s session.old
+        → OnOk result (Wrote (effect s (ready_line lines.old)) session.new (K.held out.old)
         (K.held out.new) expansions.old expansions.new) }
-    ensures err { (s : State) → Stands s session.old
-        → OnErr result (AppendsSome (K.held out.old) (K.held out.new) (turn s
+    ensures err { (s : State) → IsAt s session.old
+        → OnErr result (AppendsSome (K.held out.old) (K.held out.new) (effect s
         (ready_line lines.old)).reply) }
-    ensures cause { result ≡ Err Stop.WriteFault → Rose (K.faults out.old) (K.faults out.new) }
-    ensures count { K.faults out.old ≤ K.faults out.new }
+    ensures faults { FaultsBy result (K.faults out.old) (K.faults out.new) }
     ensures lines { OnOk result (lines.new ≡ record { kept = []; ending = ending.Open }) }
 {
-    let reply = match take_turn(session, lines.line(), lines.is_long(), expansions, tests) {
+    let reply = match do_line(session, lines.line(), lines.is_long(), expansions, tests) {
         Ok(reply) => reply,
-        Err(NoMemory) => return Err(Stop::NoMemory),
+        Err(NoMemory) => return Err(Halt::NoMemory),
     };
     match write_all(out, reply.as_slice()) {
         Ok(()) => {
             lines.clear();
             Ok(())
         }
-        Err(Failed) => Err(Stop::WriteFault),
+        Err(Failed) => Err(Halt::WriteFault),
     }
 }
 
@@ -72,16 +74,15 @@ pub(crate) fn take_piece<K: Sink, E: Ledger, T: Ledger>(
     out: &mut K,
     expansions: &mut Steps<E>,
     tests: &mut Steps<T>,
-) -> Result<(), Stop>
+) -> Result<(), Halt>
     requires { IsKeptPart lines.old }
-    ensures ok { (s : State) → Stands s session.old
-        → OnOk result (Wrote (run_from s (lines_of (lines.old.kept ++ piece.now))) session.new
+    ensures ok { (s : State) → IsAt s session.old
+        → OnOk result (Wrote (effect_of_all s (lines_of (lines.old.kept ++ piece.now))) session.new
         (K.held out.old) (K.held out.new) expansions.old expansions.new) }
-    ensures err { (s : State) → Stands s session.old
-        → OnErr result (AppendsSome (K.held out.old) (K.held out.new) (run_from s (lines_of
+    ensures err { (s : State) → IsAt s session.old
+        → OnErr result (AppendsSome (K.held out.old) (K.held out.new) (effect_of_all s (lines_of
         (lines.old.kept ++ piece.now))).reply) }
-    ensures cause { result ≡ Err Stop.WriteFault → Rose (K.faults out.old) (K.faults out.new) }
-    ensures count { K.faults out.old ≤ K.faults out.new }
+    ensures faults { FaultsBy result (K.faults out.old) (K.faults out.new) }
     ensures lines { OnOk result (lines.new ≡ record {
       kept = kept_of (cut
           (lines.old.kept ++ piece.now)).rest;
@@ -95,11 +96,23 @@ pub(crate) fn take_piece<K: Sink, E: Ledger, T: Ledger>(
         if fed.ready {
             match take_line(session, lines, out, expansions, tests) {
                 Ok(()) => {}
-                Err(stop) => return Err(stop),
+                Err(halt) => return Err(halt),
             }
         }
     }
     Ok(())
+}
+
+// Sends the replies on.
+fn send_on<K: Sink>(out: &mut K) -> Result<(), Halt>
+    ensures flushed { OnOk result (IsTrue (K.flushed out.new)) }
+    ensures faults { FaultsBy result (K.faults out.old) (K.faults out.new) }
+    ensures bytes { Keeps (K.held out.old) (K.held out.new) }
+{
+    match out.flush() {
+        Ok(()) => Ok(()),
+        Err(Failed) => Err(Halt::WriteFault),
+    }
 }
 
 /// Replies to the lines that a piece ends, and sends the replies on.
@@ -110,16 +123,16 @@ pub(crate) fn reply_to<K: Sink, E: Ledger, T: Ledger>(
     out: &mut K,
     expansions: &mut Steps<E>,
     tests: &mut Steps<T>,
-) -> Result<(), Stop>
+) -> Result<(), Halt>
     requires { IsKeptPart lines.old }
-    ensures ok { (s : State) → Stands s session.old
-        → OnOk result (Wrote (run_from s (lines_of (lines.old.kept ++ piece.now))) session.new
+    ensures ok { (s : State) → IsAt s session.old
+        → OnOk result (Wrote (effect_of_all s (lines_of (lines.old.kept ++ piece.now))) session.new
         (K.held out.old) (K.held out.new) expansions.old expansions.new) }
-    ensures err { (s : State) → Stands s session.old
-        → OnErr result (AppendsSome (K.held out.old) (K.held out.new) (run_from s (lines_of
+    ensures err { (s : State) → IsAt s session.old
+        → OnErr result (AppendsSome (K.held out.old) (K.held out.new) (effect_of_all s (lines_of
         (lines.old.kept ++ piece.now))).reply) }
-    ensures cause { result ≡ Err Stop.WriteFault → Rose (K.faults out.old) (K.faults out.new) }
-    ensures count { K.faults out.old ≤ K.faults out.new }
+    ensures flushed { OnOk result (IsTrue (K.flushed out.new)) }
+    ensures faults { FaultsBy result (K.faults out.old) (K.faults out.new) }
     ensures lines { OnOk result (lines.new ≡ record {
       kept = kept_of (cut
           (lines.old.kept ++ piece.now)).rest;
@@ -128,10 +141,10 @@ pub(crate) fn reply_to<K: Sink, E: Ledger, T: Ledger>(
 {
     match take_piece(session, lines, piece, out, expansions, tests) {
         Ok(()) => {}
-        Err(stop) => return Err(stop),
+        Err(halt) => return Err(halt),
     }
-    match out.flush() {
+    match send_on(out) {
         Ok(()) => Ok(()),
-        Err(Failed) => Err(Stop::WriteFault),
+        Err(halt) => Err(halt),
     }
 }

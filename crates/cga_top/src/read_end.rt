@@ -1,4 +1,4 @@
-use crate::stop::Stop;
+use crate::halt::Halt;
 
 /// How reading a script ended.
 #[derive(Clone, Copy, Debug, PartialEq, Eq)]
@@ -9,5 +9,5 @@ pub(crate) enum ReadEnd {
     Failed,
     /// The script has more than 67,108,864 bytes.
     TooLong,
-    Stopped(Stop),
+    Halted(Halt),
 }

@@ -1,6 +1,7 @@
-ghost use Rattle.std.specs.Prelude.{◌≡◌, ◌≤◌, [], take};
-ghost use Rattle.cga_top.specs.Output.{start};
-ghost use Rattle.cga_top.specs.Session.{Stands};
+ghost use Rattle.std.specs.Prelude.{◌≡◌, [], take};
+ghost use Rattle.cga_top.specs.State.{start};
+ghost use Rattle.cga_top.specs.Outside.{outside_of};
+ghost use Rattle.cga_top.specs.Session.{IsAt};
 ghost use Rattle.cga_top.specs.Reads.{ReadsTo, pending_after};
 
 use crate::pump::reply_to;
@@ -14,6 +15,9 @@ use std::sync::ledger::Ledger;
 // The most bytes of a script.
 const LIMIT: usize = 67_108_864;
 
+// The most bytes of one read.
+const READ_LIMIT: usize = 4096;
+
 fn first(bytes: &[u8], most: usize) -> &[u8]
     ensures { result.now ≡ take most bytes.now }
 {
@@ -24,7 +28,8 @@ fn first(bytes: &[u8], most: usize) -> &[u8]
     }
 }
 
-/// Replies to the lines of a script while it is read, up to the limit.
+/// Replies to the lines of a script while it is read, up to the limit. What a read completes is replied to and
+/// flushed before the next read.
 pub(crate) fn read_lines<S: Source, K: Sink, E: Ledger, T: Ledger>(
     session: &mut Session,
     lines: &mut Lines,
@@ -33,15 +38,13 @@ pub(crate) fn read_lines<S: Source, K: Sink, E: Ledger, T: Ledger>(
     expansions: &mut Steps<E>,
     tests: &mut Steps<T>,
 ) -> ReadEnd
-    requires session { Stands start session.old }
+    requires session { IsAt start session.old }
     requires lines { lines.old ≡ pending_after [] }
-    ensures end { ReadsTo result (S.left script.old) (S.left script.new) (S.ended script.new)
-        (S.faults script.old) (S.faults script.new) session.new lines.new (K.held out.old)
-        (K.held out.new) expansions.old expansions.new (K.faults out.old) (K.faults out.new) }
-    ensures source { S.faults script.old ≤ S.faults script.new }
-    ensures sink { K.faults out.old ≤ K.faults out.new }
+    ensures end { ReadsTo result
+        (outside_of S.Source K.Sink script.old out.old expansions.old)
+        (outside_of S.Source K.Sink script.new out.new expansions.new) session.new lines.new }
 {
-    let mut buffer = [0u8; 4096];
+    let mut buffer = [0u8; READ_LIMIT];
     let mut total: usize = 0;
     while total <= LIMIT {
         match script.read(&mut buffer) {
@@ -52,7 +55,7 @@ pub(crate) fn read_lines<S: Source, K: Sink, E: Ledger, T: Ledger>(
                 let piece = first(chunk, LIMIT - total);
                 match reply_to(session, lines, piece, out, expansions, tests) {
                     Ok(()) => {}
-                    Err(stop) => return ReadEnd::Stopped(stop),
+                    Err(halt) => return ReadEnd::Halted(halt),
                 }
                 total += count;
             }

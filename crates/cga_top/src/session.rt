@@ -1,6 +1,7 @@
 ghost use Rattle.std.specs.Prelude.{◌≡◌, IfOk, List, ℕ};
-ghost use Rattle.cga_top.specs.Output.{State, start, edited, asked, closed, turn, with_lot, with_rule, is_other_lot, has_symbol};
-ghost use Rattle.cga_top.specs.Session.{Stands, Did};
+ghost use Rattle.cga_top.specs.State.{State, start};
+ghost use Rattle.cga_top.specs.Replies.{edited, asked, closed, effect, with_lot, with_rule, is_other_lot, has_symbol};
+ghost use Rattle.cga_top.specs.Session.{IsAt, Did};
 
 use crate::block::{Block, ends_block};
 use crate::box_rule::BoxRule;
@@ -25,7 +26,7 @@ pub(crate) struct Session {
 
 /// A session that no line has come to.
 pub(crate) fn new_session(alloc: Global) -> Session
-    ensures { Stands start result }
+    ensures { IsAt start result }
 {
     Session {
         alloc,
@@ -83,11 +84,11 @@ fn with_rule(there: Option<Lot>, rule: BoxRule) -> Result<Sources, Refused>
 }
 
 // Does an edit, or refuses it and changes nothing.
-fn edit(session: &mut Session, outcome: Result<Sources, Refused>) -> Result<Vec<u8>, NoMemory>
-    ensures { (s : State) (n : ℕ) → Stands s session.old
-        → IfOk result (λ reply. Did (edited s outcome) session.new reply.items n n) }
+fn edit(session: &mut Session, changed: Result<Sources, Refused>) -> Result<Vec<u8>, NoMemory>
+    ensures { (s : State) (n : ℕ) → IsAt s session.old
+        → IfOk result (λ reply. Did (edited s changed) session.new reply.items n n) }
 {
-    match outcome {
+    match changed {
         Ok(sources) => {
             session.sources = sources;
             accepted_text(session.alloc)
@@ -98,7 +99,7 @@ fn edit(session: &mut Session, outcome: Result<Sources, Refused>) -> Result<Vec<
 
 // Does what a line outside a block asks for.
 fn answer(session: &mut Session, wanted: Form) -> Result<Vec<u8>, NoMemory>
-    ensures { (s : State) (n : ℕ) → Stands s session.old
+    ensures { (s : State) (n : ℕ) → IsAt s session.old
         → IfOk result (λ reply. Did (asked s wanted) session.new reply.items n n) }
 {
     match wanted {
@@ -115,7 +116,7 @@ fn answer(session: &mut Session, wanted: Form) -> Result<Vec<u8>, NoMemory>
 
 // Ends a block.
 fn close(session: &mut Session, found: Option<BoxRule>) -> Result<Vec<u8>, NoMemory>
-    ensures { (s : State) (n : ℕ) → Stands s session.old
+    ensures { (s : State) (n : ℕ) → IsAt s session.old
         → IfOk result (λ reply. Did (closed s found) session.new reply.items n n) }
 {
     match found {
@@ -125,15 +126,15 @@ fn close(session: &mut Session, found: Option<BoxRule>) -> Result<Vec<u8>, NoMem
 }
 
 /// Does what a line asks for, and gives the reply.
-pub(crate) fn take_turn<E: Ledger, T: Ledger>(
+pub(crate) fn do_line<E: Ledger, T: Ledger>(
     session: &mut Session,
     line: &[u8],
     long: bool,
     _expansions: &mut Steps<E>,
     _tests: &mut Steps<T>,
 ) -> Result<Vec<u8>, NoMemory>
-    ensures { (s : State) → Stands s session.old
-        → IfOk result (λ reply. Did (turn s (record {
+    ensures { (s : State) → IsAt s session.old
+        → IfOk result (λ reply. Did (effect s (record {
           bytes = line.now;
           long = long;
         })) session.new reply.items _expansions.old _expansions.new) }

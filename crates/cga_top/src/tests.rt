@@ -1,12 +1,11 @@
 // Rows worked out by hand: a script, how it is read and where the sink fails, and the bytes and the status.
-ghost use Rattle.std.specs.Prelude.{◌≡◌, ◌<◌};
+mod line_by_line;
+mod runs;
 
-use crate::{Status, run_city};
-use cga_fraction::{List, NoMemory, Steps};
-use cga_outside::{MemorySink, MemorySource};
-use std::alloc::Global;
-use std::marker::Brand;
-use std::sync::ledger::{Blank, Ledger};
+use crate::Status;
+use line_by_line::{FlushCount, LineByLine};
+use runs::{Outside, calm, run_of, run_on, run_with};
+use std::cell::Cell;
 use std::test::Fail;
 
 const ONE_BOX: &[u8] =
@@ -18,80 +17,6 @@ v 10.000000 0.000000 8.000000\nv 0.000000 0.000000 8.000000\n\
 v 0.000000 6.000000 0.000000\nv 10.000000 6.000000 0.000000\n\
 v 10.000000 6.000000 8.000000\nv 0.000000 6.000000 8.000000\n\
 f 4 3 7 8\nf 3 2 6 7\nf 2 1 5 6\nf 1 4 8 5\nf 8 7 6 5\nf 1 2 3 4\n";
-
-// How a script is read and what the sink takes.
-#[derive(Clone, Copy)]
-struct Outside<'a> {
-    script: &'a [u8],
-    most: usize,
-    failed_reads: &'a [u64],
-    room: usize,
-    failed_writes: &'a [u64],
-}
-
-// A script that is read in one piece, and a sink that takes all.
-fn calm(script: &[u8]) -> Outside<'_> {
-    Outside {
-        script,
-        most: 4096,
-        failed_reads: &[],
-        room: 4096,
-        failed_writes: &[],
-    }
-}
-
-#[derive(Drop)]
-struct Run {
-    status: Status,
-    held: Vec<u8>,
-}
-
-fn counted<E: Ledger, T: Ledger>(
-    rt: &mut HostRuntime,
-    words: &[String],
-    outside: Outside,
-    expansions: Blank,
-    tests: Blank,
-) -> Result<Run, NoMemory>
-    requires expansions_name { expansions.name ≡ E.name }
-    requires expansions_parts { expansions.parts ≡ E.parts }
-    requires expansions_some { 0 < expansions.parts }
-    requires tests_name { tests.name ≡ T.name }
-    requires tests_parts { tests.parts ≡ T.parts }
-    requires tests_some { 0 < tests.parts }
-{
-    let mut expansions = Steps::<E>::new(rt, expansions);
-    let mut tests = Steps::<T>::new(rt, tests);
-    let alloc = rt.alloc();
-    let mut script = MemorySource::new(
-        List::from_vec(Vec::from_slice(alloc, outside.script)?),
-        outside.most.max(1),
-        List::from_vec(Vec::from_slice(alloc, outside.failed_reads)?),
-    );
-    let failed_writes = List::from_vec(Vec::from_slice(alloc, outside.failed_writes)?);
-    let mut out = MemorySink::new(alloc, outside.room, failed_writes)?;
-    let status = run_city(
-        alloc,
-        words,
-        &mut script,
-        &mut out,
-        &mut expansions,
-        &mut tests,
-    );
-    Ok(Run {
-        status,
-        held: Vec::from_slice(alloc, out.held())?,
-    })
-}
-
-fn counted_run(rt: &mut HostRuntime, words: &[String], outside: Outside) -> Result<Run, NoMemory> {
-    counted::<Brand, Brand>(rt, words, outside, Blank::new(1), Blank::new(1))
-}
-
-fn run_of(rt: &mut HostRuntime, outside: Outside) -> Result<Run, NoMemory> {
-    let words = Vec::new(rt.alloc());
-    counted_run(rt, words.as_slice(), outside)
-}
 
 #[test]
 fn replies_to_scripts(mut rt: HostRuntime) -> Result<(), Fail> {
@@ -230,28 +155,34 @@ fn ends_at_a_failed_read(mut rt: HostRuntime) -> Result<(), Fail> {
     Ok(())
 }
 
+// A script of five lines gets three replies, each written in one call; each read is followed by a flush, and so is
+// the end.
 #[test]
-fn ends_at_a_failed_write(mut rt: HostRuntime) -> Result<(), Fail> {
-    let mut last = 0;
-    for call in 0..100 {
-        let failed_writes = [call];
+fn ends_at_each_failed_write_and_flush(mut rt: HostRuntime) -> Result<(), Fail> {
+    for (most, calls) in [(4096, 3 + 1 + 1), (16, 3 + 5 + 1)] {
+        for call in 0..calls {
+            let run = run_of(
+                &mut rt,
+                Outside {
+                    most,
+                    failed_writes: &[call],
+                    ..calm(ONE_BOX)
+                },
+            )?;
+            assert_eq!(rt; run.status, Status::WriteFault);
+            assert!(rt; REPLIES.starts_with(run.held.as_slice()));
+        }
         let run = run_of(
             &mut rt,
             Outside {
-                failed_writes: failed_writes.as_slice(),
+                most,
+                failed_writes: &[calls],
                 ..calm(ONE_BOX)
             },
         )?;
-        if run.status == Status::Done {
-            assert_eq!(rt; run.held.as_slice(), REPLIES);
-            break;
-        }
-        last = call;
-        assert_eq!(rt; run.status, Status::WriteFault);
-        assert!(rt; REPLIES.starts_with(run.held.as_slice()));
-        assert!(rt; call > 0 || run.held.is_empty());
+        assert_eq!(rt; run.status, Status::Done);
+        assert_eq!(rt; run.held.as_slice(), REPLIES);
     }
-    assert!(rt; last >= 2);
     let little = run_of(
         &mut rt,
         Outside {
@@ -264,14 +195,27 @@ fn ends_at_a_failed_write(mut rt: HostRuntime) -> Result<(), Fail> {
     Ok(())
 }
 
+// No clause ties the reads of a source to the flushes of a sink.
+#[test]
+fn replies_to_a_line_before_the_next_is_read(mut rt: HostRuntime) -> Result<(), Fail> {
+    let flushed = Cell::new(0);
+    let mut script = LineByLine::new(b"print\n\nprint\nprint", &flushed);
+    let mut out = FlushCount::new(&flushed);
+    let status = run_on(&mut rt, &[], &mut script, &mut out);
+    assert_eq!(rt; status, Status::Done);
+    assert_eq!(rt; script.flushed_before, [0, 15, 15, 30, 30]);
+    assert_eq!(rt; flushed.get(), 45);
+    Ok(())
+}
+
 #[test]
 fn takes_no_words(mut rt: HostRuntime) -> Result<(), Fail> {
     let mut words = Vec::new(rt.alloc());
     words.push(String::from_str(rt.alloc(), "cga_city")?)?;
-    let run = counted_run(&mut rt, words.as_slice(), calm(ONE_BOX))?;
+    let run = run_with(&mut rt, words.as_slice(), calm(ONE_BOX))?;
     assert_eq!(rt; run.status, Status::Done);
     words.push(String::from_str(rt.alloc(), "x")?)?;
-    let run = counted_run(&mut rt, words.as_slice(), calm(ONE_BOX))?;
+    let run = run_with(&mut rt, words.as_slice(), calm(ONE_BOX))?;
     assert_eq!(rt; run.status, Status::Usage);
     assert!(rt; run.held.is_empty());
     Ok(())

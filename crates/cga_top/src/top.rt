@@ -1,22 +1,26 @@
-ghost use Rattle.std.specs.Prelude.{◌≡◌, ◌≢◌, ◌≤◌, ◌<◌, ◌⊎◌, ◌↔◌, List, ℕ, [], length, OnOk, OnErr, IfSome, IsTrue, IsFalse, Err};
+ghost use Rattle.std.specs.Prelude.{◌≡◌, ◌≢◌, ◌≤◌, ◌<◌, ◌⊎◌, ◌↔◌, List, ℕ, [], length, OnOk, OnErr, IfSome, IsTrue, IsFalse};
 ghost use Rattle.std.specs.Io.KnownBytes.{Keeps, Appends};
 ghost use Rattle.cga_outside.specs.Causes.{Rose};
 ghost use Rattle.cga_script.specs.Pending.{kept_of};
 ghost use Rattle.cga_script.specs.declared.ending.Ending.TheVariants as ending;
-ghost use Rattle.cga_top.specs.Output.{State, last_line, last_turn, at_end, output_of};
-ghost use Rattle.cga_top.specs.Session.{Stands};
+ghost use Rattle.cga_top.specs.State.{State};
+ghost use Rattle.cga_top.specs.Replies.{at_end};
+ghost use Rattle.cga_top.specs.Output.{last_line, last_effect, output_of};
+ghost use Rattle.cga_top.specs.Outside.{outside_of};
+ghost use Rattle.cga_top.specs.Faults.{FaultsBy};
+ghost use Rattle.cga_top.specs.Session.{IsAt};
 ghost use Rattle.cga_top.specs.Wrote.{Wrote};
-ghost use Rattle.cga_top.specs.Writes.{AppendsSome};
+ghost use Rattle.cga_top.specs.Prefixes.{AppendsSome};
 ghost use Rattle.cga_top.specs.Reads.{ReadsTo, pending_after};
-ghost use Rattle.cga_top.specs.Top.{Outside, StatusMeans, HoldsFew};
+ghost use Rattle.cga_top.specs.Statuses.{StatusMeans, HoldsFew};
 
+use crate::halt::Halt;
 use crate::pump::{take_line, write_all};
 use crate::read_end::ReadEnd;
 use crate::reads::read_lines;
 use crate::refused::Refused;
 use crate::session::{Session, new_session};
 use crate::status::Status;
-use crate::stop::Stop;
 use crate::texts::refusal_text;
 use cga_fraction::{NoMemory, Steps};
 use cga_outside::{Failed, Sink, Source};
@@ -24,14 +28,14 @@ use cga_script::Lines;
 use std::alloc::Global;
 use std::sync::ledger::Ledger;
 
-fn status_of(stop: Stop) -> Status
-    ensures write { stop ≡ Stop.WriteFault → result ≡ Status.WriteFault }
-    ensures memory { stop ≡ Stop.NoMemory → result ≡ Status.NoMemory }
+fn status_of(halt: Halt) -> Status
+    ensures write { halt ≡ Halt.WriteFault → result ≡ Status.WriteFault }
+    ensures memory { halt ≡ Halt.NoMemory → result ≡ Status.NoMemory }
     ensures used { result ≢ Status.Usage }
 {
-    match stop {
-        Stop::WriteFault => Status::WriteFault,
-        Stop::NoMemory => Status::NoMemory,
+    match halt {
+        Halt::WriteFault => Status::WriteFault,
+        Halt::NoMemory => Status::NoMemory,
     }
 }
 
@@ -40,8 +44,8 @@ fn flushed<K: Sink>(out: &mut K, status: Status) -> Status
     ensures answers { (result ≡ status) ⊎ (result ≡ Status.WriteFault) }
     ensures done { result ≢ Status.WriteFault → IsTrue (K.flushed out.new) }
     ensures fault { result ≢ status → Rose (K.faults out.old) (K.faults out.new) }
+    ensures calm { result ≢ Status.WriteFault → K.faults out.new ≡ K.faults out.old }
     ensures bytes { Keeps (K.held out.old) (K.held out.new) }
-    ensures count { K.faults out.old ≤ K.faults out.new }
 {
     match out.flush() {
         Ok(()) => status,
@@ -56,44 +60,42 @@ fn end_line<K: Sink, E: Ledger, T: Ledger>(
     out: &mut K,
     expansions: &mut Steps<E>,
     tests: &mut Steps<T>,
-) -> Result<(), Stop>
+) -> Result<(), Halt>
     requires { lines.old.ending ≡ ending.Open }
-    ensures ok { (s : State) (rest : List ℕ) → Stands s session.old
+    ensures ok { (s : State) (rest : List ℕ) → IsAt s session.old
         → lines.old.kept ≡ kept_of rest
         → OnOk result (Wrote (last_line s rest) session.new (K.held out.old)
         (K.held out.new) expansions.old expansions.new) }
-    ensures err { (s : State) (rest : List ℕ) → Stands s session.old
+    ensures err { (s : State) (rest : List ℕ) → IsAt s session.old
         → lines.old.kept ≡ kept_of rest
         → OnErr result (AppendsSome (K.held out.old) (K.held out.new) (last_line s rest).reply) }
-    ensures cause { result ≡ Err Stop.WriteFault → Rose (K.faults out.old) (K.faults out.new) }
-    ensures count { K.faults out.old ≤ K.faults out.new }
+    ensures faults { FaultsBy result (K.faults out.old) (K.faults out.new) }
 {
     if lines.finish() {
         match take_line(session, lines, out, expansions, tests) {
             Ok(()) => {}
-            Err(stop) => return Err(stop),
+            Err(halt) => return Err(halt),
         }
     }
     Ok(())
 }
 
 // A block that is still open.
-fn end_block<K: Sink>(session: &Session, out: &mut K) -> Result<(), Stop>
-    ensures ok { (s : State) → Stands s session.now
+fn end_block<K: Sink>(session: &Session, out: &mut K) -> Result<(), Halt>
+    ensures ok { (s : State) → IsAt s session.now
         → OnOk result (Appends (K.held out.old) (K.held out.new) (at_end s).reply) }
-    ensures err { (s : State) → Stands s session.now
+    ensures err { (s : State) → IsAt s session.now
         → OnErr result (AppendsSome (K.held out.old) (K.held out.new) (at_end s).reply) }
-    ensures cause { result ≡ Err Stop.WriteFault → Rose (K.faults out.old) (K.faults out.new) }
-    ensures count { K.faults out.old ≤ K.faults out.new }
+    ensures faults { FaultsBy result (K.faults out.old) (K.faults out.new) }
 {
     if session.block.is_some() {
         let text = match refusal_text(session.alloc, &Refused::OpenBlock) {
             Ok(text) => text,
-            Err(NoMemory) => return Err(Stop::NoMemory),
+            Err(NoMemory) => return Err(Halt::NoMemory),
         };
         match write_all(out, text.as_slice()) {
             Ok(()) => {}
-            Err(Failed) => return Err(Stop::WriteFault),
+            Err(Failed) => return Err(Halt::WriteFault),
         }
     }
     Ok(())
@@ -106,25 +108,24 @@ fn end_script<K: Sink, E: Ledger, T: Ledger>(
     out: &mut K,
     expansions: &mut Steps<E>,
     tests: &mut Steps<T>,
-) -> Result<(), Stop>
+) -> Result<(), Halt>
     requires { lines.old.ending ≡ ending.Open }
-    ensures ok { (s : State) (rest : List ℕ) → Stands s session.old
+    ensures ok { (s : State) (rest : List ℕ) → IsAt s session.old
         → lines.old.kept ≡ kept_of rest
-        → OnOk result (Wrote (last_turn s rest) session.new (K.held out.old)
+        → OnOk result (Wrote (last_effect s rest) session.new (K.held out.old)
         (K.held out.new) expansions.old expansions.new) }
-    ensures err { (s : State) (rest : List ℕ) → Stands s session.old
+    ensures err { (s : State) (rest : List ℕ) → IsAt s session.old
         → lines.old.kept ≡ kept_of rest
-        → OnErr result (AppendsSome (K.held out.old) (K.held out.new) (last_turn s rest).reply) }
-    ensures cause { result ≡ Err Stop.WriteFault → Rose (K.faults out.old) (K.faults out.new) }
-    ensures count { K.faults out.old ≤ K.faults out.new }
+        → OnErr result (AppendsSome (K.held out.old) (K.held out.new) (last_effect s rest).reply) }
+    ensures faults { FaultsBy result (K.faults out.old) (K.faults out.new) }
 {
     match end_line(session, lines, out, expansions, tests) {
         Ok(()) => {}
-        Err(stop) => return Err(stop),
+        Err(halt) => return Err(halt),
     }
     match end_block(session, out) {
         Ok(()) => Ok(()),
-        Err(stop) => Err(stop),
+        Err(halt) => Err(halt),
     }
 }
 
@@ -138,24 +139,8 @@ fn run_script<S: Source, K: Sink, E: Ledger, T: Ledger>(
 ) -> Status
     requires { IsFalse (S.ended script.old) }
     ensures means { StatusMeans result
-        (record {
-          left = S.left script.old;
-          ended = S.ended script.old;
-          reads_failed = S.faults script.old;
-          held = K.held out.old;
-          flushed = K.flushed out.old;
-          writes_failed = K.faults out.old;
-          expanded = expansions.old;
-        })
-        (record {
-          left = S.left script.new;
-          ended = S.ended script.new;
-          reads_failed = S.faults script.new;
-          held = K.held out.new;
-          flushed = K.flushed out.new;
-          writes_failed = K.faults out.new;
-          expanded = expansions.new;
-        }) }
+        (outside_of S.Source K.Sink script.old out.old expansions.old)
+        (outside_of S.Source K.Sink script.new out.new expansions.new) }
     ensures used { result ≢ Status.Usage }
     ensures complete { HoldsFew (S.left script.old)
         → (Rose (S.faults script.old) (S.faults script.new) → ⊥)
@@ -170,17 +155,20 @@ fn run_script<S: Source, K: Sink, E: Ledger, T: Ledger>(
     match read_lines(&mut session, &mut lines, script, out, expansions, tests) {
         ReadEnd::Ended => match end_script(&mut session, &mut lines, out, expansions, tests) {
             Ok(()) => flushed(out, Status::Done),
-            Err(stop) => status_of(stop),
+            Err(halt) => status_of(halt),
         },
         ReadEnd::Failed => flushed(out, Status::ReadFault),
         ReadEnd::TooLong => flushed(out, Status::TooLong),
-        ReadEnd::Stopped(stop) => status_of(stop),
+        ReadEnd::Halted(halt) => status_of(halt),
     }
 }
 
 /// Replies to a script, each line as it is complete. The words are the whole command line, the program's name
 /// first; it takes no other. The source is read in pieces of at most 4,096 bytes, and no more than 67,108,864
 /// bytes of it are replied to. The memory that is taken doesn't grow with the script.
+///
+/// What a read completes is replied to, and the replies are flushed, before the next read. That is tested: no
+/// clause ties the reads of the source to the flushes of the sink.
 ///
 /// The reply to a script is `output_of` its bytes: that of each line, by the rules and lots that stand then.
 pub fn run_city<S: Source, K: Sink, E: Ledger, T: Ledger>(
@@ -200,24 +188,8 @@ pub fn run_city<S: Source, K: Sink, E: Ledger, T: Ledger>(
 
     // When each status comes, and what was read and written then.
     ensures means { StatusMeans result
-        (record {
-          left = S.left script.old;
-          ended = S.ended script.old;
-          reads_failed = S.faults script.old;
-          held = K.held out.old;
-          flushed = K.flushed out.old;
-          writes_failed = K.faults out.old;
-          expanded = expansions.old;
-        })
-        (record {
-          left = S.left script.new;
-          ended = S.ended script.new;
-          reads_failed = S.faults script.new;
-          held = K.held out.new;
-          flushed = K.flushed out.new;
-          writes_failed = K.faults out.new;
-          expanded = expansions.new;
-        }) }
+        (outside_of S.Source K.Sink script.old out.old expansions.old)
+        (outside_of S.Source K.Sink script.new out.new expansions.new) }
     ensures usage { (result ≡ Status.Usage) ↔ (1 < length words.now) }
 
     // Nothing but a fault, a script that is too long and want of memory keeps a script from being done.

@@ -20,7 +20,7 @@ impl Model for Name {
     ghost Value = { List ℕ };
 
     ghost use Rattle.cga_word.specs.Name.{IsPadded, padded_of};
-    ghost use Rattle.cga_word.specs.Back.{inverse-view};
+    ghost use Rattle.cga_word.specs.FromValue.{inverse-view};
 
     ghost view = { λ n. take n.size n.bytes };
 

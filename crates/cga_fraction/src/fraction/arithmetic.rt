@@ -1,5 +1,5 @@
 ghost use Rattle.std.specs.Prelude.{◌≡◌, ◌≢◌, ◌≤◌, ◌^◌, ◌+ℤ◌, ◌*ℤ◌, neg_ℤ, pos, unsigned_abs};
-ghost use Rattle.cga_fraction.specs.Refusals.{with_fault};
+ghost use Rattle.cga_fraction.specs.Results.{or_err};
 
 use super::{Fraction, product};
 use crate::overflow::{DivFault, Overflow};
@@ -96,7 +96,7 @@ impl Fraction {
 }
 
 fn as_quotient(outcome: Result<Fraction, Overflow>) -> Result<Fraction, DivFault>
-    ensures { result ≡ with_fault outcome }
+    ensures { result ≡ or_err DivFault.Overflow outcome }
 {
     match outcome {
         Ok(quotient) => Ok(quotient),

@@ -25,10 +25,8 @@ impl Fraction {
         Ok(List::from_vec(text))
     }
 
-    /// Appends the decimal text, so that a long text is written without memory of its own for each number in it.
-    /// Takes memory as the text grows.
     #[tactic(auto, unfolding(crate::specs::Texts::decimal_text_of))]
-    pub fn push_decimal(self, text: &mut Vec<u8>, places: u8) -> Result<(), NoMemory>
+    pub(crate) fn push_decimal(self, text: &mut Vec<u8>, places: u8) -> Result<(), NoMemory>
         requires { places ≤ 9 }
         ensures { OnOk result (text.new.items ≡ text.old.items ++ decimal_text_of self places) }
     {
@@ -38,17 +36,24 @@ impl Fraction {
     }
 
     /// `n` where the denominator is 1, otherwise `n/d`. Takes memory.
-    #[tactic(auto, unfolding(crate::specs::Texts::exact_text_of))]
     pub fn exact_text(self, alloc: Global) -> Result<List<u8>, NoMemory>
         ensures { IfOk result (λ text. text ≡ exact_text_of self) }
     {
-        let mut out = Vec::new(alloc);
-        out.extend_from_slice(Buffer::new().format(self.numerator).as_bytes())?;
+        let mut text = Vec::new(alloc);
+        self.push_exact(&mut text)?;
+        Ok(List::from_vec(text))
+    }
+
+    #[tactic(auto, unfolding(crate::specs::Texts::exact_text_of))]
+    pub(crate) fn push_exact(self, text: &mut Vec<u8>) -> Result<(), NoMemory>
+        ensures { OnOk result (text.new.items ≡ text.old.items ++ exact_text_of self) }
+    {
+        text.extend_from_slice(Buffer::new().format(self.numerator).as_bytes())?;
         if self.denominator != 1 {
-            out.push(b'/')?;
-            out.extend_from_slice(Buffer::new().format(self.denominator).as_bytes())?;
+            text.push(b'/')?;
+            text.extend_from_slice(Buffer::new().format(self.denominator).as_bytes())?;
         }
-        Ok(List::from_vec(out))
+        Ok(())
     }
 
     /// The shortest text that `of_decimal` reads as this number. Takes memory.
@@ -62,9 +67,7 @@ impl Fraction {
         Ok(List::from_vec(text))
     }
 
-    /// Appends that text, so that a long text is written without memory of its own for each number in it. Takes
-    /// memory as the text grows.
-    pub fn push_literal(self, text: &mut Vec<u8>) -> Result<(), NoMemory>
+    pub(crate) fn push_literal(self, text: &mut Vec<u8>) -> Result<(), NoMemory>
         requires { IsLiteral self }
         ensures { OnOk result (text.new.items ≡ text.old.items ++ literal_text_of self) }
     {

@@ -4,8 +4,6 @@ ghost use Rattle.cga_syntax.specs.Pieces as spec;
 ghost use Rattle.cga_syntax.specs.Forms.{occ_pieces, compared};
 ghost use Rattle.cga_syntax.specs.Printing.{printed_on};
 
-use cga_rule::{Cond, Conj, Relation, Test};
-use cga_rule::Expr;
 use crate::keyword::Keyword;
 use crate::lexeme::Lexeme;
 use crate::print::expr::push_expr;
@@ -14,6 +12,7 @@ use crate::print::token::{push_between, push_keyword, push_sign, push_text, push
 use crate::print::words::{known, state_text, target_text};
 use cga_fraction::{List, NoMemory};
 use cga_lexer::Sign;
+use cga_rule::{Cond, Conj, Expr, Relation, Test};
 use cga_word::{Answer, Target};
 
 #[cycle(print)]

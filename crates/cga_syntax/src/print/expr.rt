@@ -2,19 +2,21 @@
 ghost use Rattle.std.specs.Prelude.{◌≡◌, OnOk, map, [], ◌∷◌};
 ghost use Rattle.cga_syntax.specs.Pieces as spec;
 ghost use Rattle.cga_syntax.specs.Forms.{scope_size};
+ghost use Rattle.cga_syntax.specs.Limits.{most_steps};
 ghost use Rattle.cga_syntax.specs.Printing.{printed_on};
 
-use cga_rule::{Added, Expr, Factor, Primary, Scaled, Term};
 use crate::keyword::Keyword;
 use crate::lexeme::Lexeme;
-use crate::print::gap::Gap;
+use crate::limits::MOST_STEPS;
 use crate::print::mark::Mark;
+use crate::print::space::Space;
 use crate::print::token::{
     push_close, push_keyword, push_lexeme, push_named, push_sign, push_whole, push_word,
 };
 use crate::print::words::size_word;
 use cga_fraction::{List, NoMemory};
 use cga_lexer::Sign;
+use cga_rule::{Added, Expr, Factor, Primary, Scaled, Term};
 use cga_word::Axis;
 
 #[cycle(print)]
@@ -79,7 +81,7 @@ fn push_factor(marks: &mut List<Mark>, factor: &Factor) -> Result<(), NoMemory>
     ensures { OnOk result (marks.new ≡ printed_on marks.old (spec.factor_pieces factor.now)) }
 {
     if factor.minus {
-        push_close(marks, Gap::NoneAfter, Sign::Minus)?;
+        push_close(marks, Space::NoneAfter, Sign::Minus)?;
     }
     push_primary(marks, &factor.primary)
 }
@@ -127,7 +129,7 @@ fn push_primary(marks: &mut List<Mark>, primary: &Primary) -> Result<(), NoMemor
     }
 }
 
-/// A bound of a rand with the comma behind it.
+/// A bound of a rand with the comma after it.
 #[cycle(print)]
 #[tactic(auto, using(crate::proofs::Printed::on_join))]
 fn push_bound(marks: &mut List<Mark>, bound: &Expr) -> Result<(), NoMemory>
@@ -138,9 +140,9 @@ fn push_bound(marks: &mut List<Mark>, bound: &Expr) -> Result<(), NoMemory>
 }
 
 fn push_steps(marks: &mut List<Mark>, steps: u32) -> Result<(), NoMemory>
-    ensures { OnOk result (marks.new ≡ printed_on marks.old (spec.whole 1 1000000 steps ∷ spec.sign Sign.RightRound ∷ [])) }
+    ensures { OnOk result (marks.new ≡ printed_on marks.old (spec.whole 1 most_steps steps ∷ spec.sign Sign.RightRound ∷ [])) }
 {
-    push_whole(marks, 1, 1_000_000, steps)?;
+    push_whole(marks, 1, MOST_STEPS, steps)?;
     push_sign(marks, Sign::RightRound)
 }
 

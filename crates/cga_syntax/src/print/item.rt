@@ -4,8 +4,6 @@ ghost use Rattle.cga_syntax.specs.Pieces as spec;
 ghost use Rattle.cga_syntax.specs.Forms as forms;
 ghost use Rattle.cga_syntax.specs.Printing.{printed_on};
 
-use cga_rule::Expr;
-use cga_rule::{Body, Item};
 use crate::keyword::Keyword;
 use crate::lexeme::Lexeme;
 use crate::print::list::push_arguments;
@@ -16,6 +14,7 @@ use crate::print::parts::{
 use crate::print::token::{push_between, push_keyword, push_named, push_sign};
 use cga_fraction::{List, NoMemory};
 use cga_lexer::Sign;
+use cga_rule::{Body, Expr, Item};
 use cga_word::Name;
 
 #[cycle(print)]

@@ -1,11 +1,11 @@
 use crate::lexeme::Lexeme;
-use crate::print::gap::Gap;
+use crate::print::space::Space;
 
 /// A token that is to be printed.
 #[derive(Clone, Copy, Debug)]
 pub struct Mark {
     pub lexeme: Lexeme,
-    pub gap: Gap,
+    pub space: Space,
 }
 
 impl Mark {
@@ -18,7 +18,7 @@ impl Mark {
     {
         Mark {
             lexeme,
-            gap: Gap::Usual,
+            space: Space::Usual,
         }
     }
 }

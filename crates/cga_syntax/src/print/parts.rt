@@ -4,16 +4,16 @@ ghost use Rattle.cga_syntax.specs.Pieces as spec;
 ghost use Rattle.cga_syntax.specs.Forms as forms;
 ghost use Rattle.cga_syntax.specs.Printing.{printed_on};
 
-use cga_rule::Expr;
-use cga_rule::Size;
 use crate::keyword::Keyword;
 use crate::lexeme::Lexeme;
+use crate::limits::LAST_EDGE;
 use crate::print::expr::push_expr;
 use crate::print::mark::Mark;
 use crate::print::token::{push_keyword, push_lexeme, push_sign, push_text, push_turn, push_whole};
 use crate::print::words::{axis_text, known, side_text, solid_text, turn_keyword};
 use cga_fraction::{List, NoMemory};
 use cga_lexer::Sign;
+use cga_rule::{Expr, Size};
 use cga_word::{Axis, Primitive, Selector, Turn};
 
 #[tactic(auto, using(crate::proofs::Printed::on_join))]
@@ -32,13 +32,13 @@ pub(crate) fn push_move(
     push_value(marks, z, Sign::RightRound)
 }
 
-/// A value with the sign behind it.
+/// A value with the sign after it.
 #[tactic(auto, using(crate::proofs::Printed::on_join))]
-fn push_value(marks: &mut List<Mark>, value: &Expr, behind: Sign) -> Result<(), NoMemory>
-    ensures { OnOk result (marks.new ≡ printed_on (printed_on marks.old (spec.expr_pieces value.now)) (spec.sign behind ∷ [])) }
+fn push_value(marks: &mut List<Mark>, value: &Expr, after: Sign) -> Result<(), NoMemory>
+    ensures { OnOk result (marks.new ≡ printed_on (printed_on marks.old (spec.expr_pieces value.now)) (spec.sign after ∷ [])) }
 {
     push_expr(marks, value)?;
-    push_sign(marks, behind)
+    push_sign(marks, after)
 }
 
 #[tactic(auto, using(crate::proofs::Printed::on_join))]
@@ -57,13 +57,13 @@ pub(crate) fn push_resize(
     push_extent(marks, z, Sign::RightRound)
 }
 
-/// A size with the sign behind it.
+/// A size with the sign after it.
 #[tactic(auto, using(crate::proofs::Printed::on_join))]
-fn push_extent(marks: &mut List<Mark>, size: &Size, behind: Sign) -> Result<(), NoMemory>
-    ensures { OnOk result (marks.new ≡ printed_on (printed_on marks.old (spec.size_pieces size.now)) (spec.sign behind ∷ [])) }
+fn push_extent(marks: &mut List<Mark>, size: &Size, after: Sign) -> Result<(), NoMemory>
+    ensures { OnOk result (marks.new ≡ printed_on (printed_on marks.old (spec.size_pieces size.now)) (spec.sign after ∷ [])) }
 {
     push_size(marks, size)?;
-    push_sign(marks, behind)
+    push_sign(marks, after)
 }
 
 #[tactic(auto, unfolding(crate::specs::Pieces::size_pieces))]
@@ -110,9 +110,9 @@ pub(crate) fn push_subdiv(
     push_sign(marks, Sign::RightRound)
 }
 
-/// Sizes, each behind a comma.
+/// Sizes, each after a comma.
 fn push_sizes(marks: &mut List<Mark>, sizes: &[Size]) -> Result<(), NoMemory>
-    ensures { OnOk result (marks.new ≡ printed_on marks.old (spec.behind_each (spec.sign Sign.Comma) (map spec.size_pieces sizes.now))) }
+    ensures { OnOk result (marks.new ≡ printed_on marks.old (spec.after_each (spec.sign Sign.Comma) (map spec.size_pieces sizes.now))) }
 {
     for size in sizes {
         push_sign(marks, Sign::Comma)?;
@@ -159,7 +159,7 @@ fn push_selector(marks: &mut List<Mark>, selector: Selector) -> Result<(), NoMem
         Selector::Edge(n) => {
             push_text(marks, known(b"edge"))?;
             push_sign(marks, Sign::Comma)?;
-            push_whole(marks, 1, 12, u32::from(n))
+            push_whole(marks, 1, LAST_EDGE, u32::from(n))
         }
         Selector::Vertices => push_text(marks, known(b"vertices")),
     }

@@ -4,20 +4,17 @@ ghost use Rattle.cga_syntax.specs.Pieces as spec;
 ghost use Rattle.cga_syntax.specs.Forms as forms;
 ghost use Rattle.cga_syntax.specs.Printing.{printed_on};
 
-use cga_rule::Cond;
+use crate::limits::LAST_ID;
 use crate::print::cond::push_cond;
-use crate::print::gap::Gap;
 use crate::print::item::push_body_items;
 use crate::print::list::push_params;
 use crate::print::mark::Mark;
+use crate::print::space::Space;
 use crate::print::token::{push_close, push_named, push_probability, push_sign, push_whole};
-use cga_rule::{Alternative, Rule};
 use cga_fraction::{List, NoMemory};
 use cga_lexer::Sign;
+use cga_rule::{Alternative, Cond, Rule};
 use cga_word::Name;
-
-/// The greatest id.
-const LAST_ID: u32 = 999_999;
 
 #[tactic(auto, using(crate::proofs::Printed::on_join, crate::proofs::Printed::nonempty_cut), unfolding(crate::specs::Pieces::rule_pieces))]
 pub(crate) fn push_rule(marks: &mut List<Mark>, rule: &Rule) -> Result<(), NoMemory>
@@ -33,7 +30,7 @@ fn push_head(marks: &mut List<Mark>, id: u32, symbol: Name) -> Result<(), NoMemo
     ensures { OnOk result (marks.new ≡ printed_on marks.old (forms.head_of id symbol)) }
 {
     push_whole(marks, 1, LAST_ID, id)?;
-    push_close(marks, Gap::NoneBefore, Sign::Colon)?;
+    push_close(marks, Space::NoneBefore, Sign::Colon)?;
     push_named(marks, symbol)
 }
 

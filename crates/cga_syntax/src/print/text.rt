@@ -5,15 +5,15 @@ ghost use Rattle.cga_syntax.specs.Printing as spec;
 
 use crate::keyword::Keyword;
 use crate::lexeme::Lexeme;
-use crate::print::gap::Gap;
 use crate::print::mark::Mark;
-use cga_fraction::NoMemory;
+use crate::print::space::Space;
+use cga_fraction::{NoMemory, Text};
 use cga_lexer::Sign;
 
 /// Appends the text of the tokens.
-pub(crate) fn push_marks(text: &mut Vec<u8>, marks: &[Mark]) -> Result<(), NoMemory>
+pub(crate) fn push_marks(text: &mut Text, marks: &[Mark]) -> Result<(), NoMemory>
     requires { spec.HaveTexts marks.now }
-    ensures { OnOk result (text.new.items ≡ text.old.items ++ spec.text_of marks.now) }
+    ensures { OnOk result (text.new ≡ text.old ++ spec.text_of marks.now) }
 {
     let mut last = None;
     for mark in marks {
@@ -24,36 +24,33 @@ pub(crate) fn push_marks(text: &mut Vec<u8>, marks: &[Mark]) -> Result<(), NoMem
     Ok(())
 }
 
-fn push_space(text: &mut Vec<u8>, last: Option<Mark>, next: Mark) -> Result<(), NoMemory>
-    ensures { OnOk result (text.new.items ≡ text.old.items ++ spec.space_before last next) }
+fn push_space(text: &mut Text, last: Option<Mark>, next: Mark) -> Result<(), NoMemory>
+    ensures { OnOk result (text.new ≡ text.old ++ spec.space_before last next) }
 {
     match last {
-        Some(last) if !closes_up(last, next) => {
-            text.push(b' ')?;
-            Ok(())
-        }
+        Some(last) if !closes_up(last, next) => { text.push(b" ") }
         _ => Ok(()),
     }
 }
 
-fn push_bytes(text: &mut Vec<u8>, lexeme: Lexeme) -> Result<(), NoMemory>
+fn push_bytes(text: &mut Text, lexeme: Lexeme) -> Result<(), NoMemory>
     requires { spec.HasText lexeme }
-    ensures { OnOk result (text.new.items ≡ text.old.items ++ spec.lexeme_bytes lexeme) }
+    ensures { OnOk result (text.new ≡ text.old ++ spec.lexeme_bytes lexeme) }
 {
     match lexeme {
-        Lexeme::Number(value) => value.push_literal(text)?,
+        Lexeme::Number(value) => text.push_literal(value)?,
         Lexeme::Relative(value) => {
-            value.push_literal(text)?;
-            text.push(b'r')?;
+            text.push_literal(value)?;
+            text.push(b"r")?;
         }
-        Lexeme::Keyword(keyword) => text.extend_from_slice(keyword_bytes(keyword))?,
-        Lexeme::Name(name) => text.extend_from_slice(name.bytes())?,
+        Lexeme::Keyword(keyword) => text.push(keyword_bytes(keyword))?,
+        Lexeme::Name(name) => text.push(name.bytes())?,
         Lexeme::Text(name) => {
-            text.push(b'"')?;
-            text.extend_from_slice(name.bytes())?;
-            text.push(b'"')?;
+            text.push(b"\"")?;
+            text.push(name.bytes())?;
+            text.push(b"\"")?;
         }
-        Lexeme::Sign(sign) => text.extend_from_slice(sign_bytes(sign))?,
+        Lexeme::Sign(sign) => text.push(sign_bytes(sign))?,
     }
     Ok(())
 }
@@ -91,7 +88,7 @@ fn is_word(lexeme: Lexeme) -> bool
 fn is_prefix(mark: Mark) -> bool
     ensures { result ≡ spec.is_prefix mark }
 {
-    matches!(mark.lexeme, Lexeme::Sign(Sign::Minus)) && mark.gap == Gap::NoneAfter
+    matches!(mark.lexeme, Lexeme::Sign(Sign::Minus)) && mark.space == Space::NoneAfter
 }
 
 fn begins_primary(lexeme: Lexeme) -> bool
@@ -103,11 +100,11 @@ fn begins_primary(lexeme: Lexeme) -> bool
     )
 }
 
-/// The colon behind the id.
+/// The colon after the id.
 fn is_label(mark: Mark) -> bool
     ensures { result ≡ spec.is_label mark }
 {
-    matches!(mark.lexeme, Lexeme::Sign(Sign::Colon)) && mark.gap == Gap::NoneBefore
+    matches!(mark.lexeme, Lexeme::Sign(Sign::Colon)) && mark.space == Space::NoneBefore
 }
 
 fn keyword_bytes(keyword: Keyword) -> &'static [u8]

@@ -7,8 +7,8 @@ ghost use Rattle.cga_syntax.specs.Printing.{usually, printed_piece, marked, degr
 
 use crate::keyword::{Keyword, keyword_of};
 use crate::lexeme::Lexeme;
-use crate::print::gap::Gap;
 use crate::print::mark::Mark;
+use crate::print::space::Space;
 use cga_fraction::{Fraction, List, NoMemory};
 use cga_lexer::Sign;
 use cga_word::{Name, Turn};
@@ -41,12 +41,12 @@ pub(crate) fn push_between(
 }
 
 /// A sign with no space on one side.
-pub(crate) fn push_close(marks: &mut List<Mark>, gap: Gap, sign: Sign) -> Result<(), NoMemory>
-    ensures { OnOk result (marks.new ≡ marks.old ++ marked gap (Lexeme.Sign sign) ∷ []) }
+pub(crate) fn push_close(marks: &mut List<Mark>, space: Space, sign: Sign) -> Result<(), NoMemory>
+    ensures { OnOk result (marks.new ≡ marks.old ++ marked space (Lexeme.Sign sign) ∷ []) }
 {
     marks.push(Mark {
         lexeme: Lexeme::Sign(sign),
-        gap,
+        space,
     })
 }
 

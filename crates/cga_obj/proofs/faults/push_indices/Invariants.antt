@@ -4,4 +4,4 @@ use Rattle.cga_obj.specs.Faults.{index_text}
 use Rattle.cga_obj.proofs.faults.push_indices.Given as goal
 
 abbrev pub invariant-loop-index : goal.invariant-loop-index
-invariant-loop-index l = l.text.items ≡ l.fn.text.items ++ flat_map index_text (take l.index-index l.path)
+invariant-loop-index l = l.text ≡ l.fn.text ++ flat_map index_text (take l.index-index l.path)

@@ -5,7 +5,7 @@ use Rattle.cga_obj.proofs.obj.push_instances.Given as goal
 -- the text so far, then that of what is left
 abbrev pub invariant-loop-instance : goal.invariant-loop-instance
 invariant-loop-instance l = record {
-  text : l.text.items ++ instances_text l.decimals l.after (drop l.instance-index l.drawn) ≡ l.fn.text.items ++ instances_text l.decimals l.before l.drawn;
+  text : l.text ++ instances_text l.decimals l.after (drop l.instance-index l.drawn) ≡ l.fn.text ++ instances_text l.decimals l.before l.drawn;
   count : l.after ≡ l.before + vertices_in (take l.instance-index l.drawn);
   room : l.after ≤ l.before + l.instance-index * 2 ^ 64;
 }

@@ -1,12 +1,12 @@
 use Rattle.std.proofs.Common.{sym, ap, ◌∙◌}
 use Rattle.std.proofs.lemmas.Result.{err_from_is_err_and}
 use Rattle.cga_syntax.specs.declared.keyword.Keyword.TheVariants as k
-use Rattle.cga_form.specs.Code.{input_of}
+use Rattle.cga_form.specs.Cursor.{input_of}
 use Rattle.cga_parser.specs.Grammar.{inner_of, further_test, further_conj}
-use Rattle.cga_parser.specs.Tokens.{is_keyword}
+use Rattle.cga_form.specs.Tokens.{is_keyword}
 use Rattle.cga_form.specs.Reader.{many_after, many}
 use Rattle.cga_parser.proofs.Listings.{test_listing, conj_listing}
-use Rattle.cga_parser.proofs.Turns.{many_is, on, off, fails, shortens}
+use Rattle.cga_parser.proofs.Loops.{many_is, on, off, fails, shortens}
 use Rattle.cga_parser.proofs.cond.+cond.Goals as goal
 
 pub further_tests-tests-init : goal.further_tests-tests-init

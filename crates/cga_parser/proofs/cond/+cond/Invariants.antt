@@ -1,8 +1,8 @@
 use Rattle.std.proofs.Common.{◌≡◌, ◌+◌, ◌*◌, length}
 use Rattle.cga_syntax.specs.declared.keyword.Keyword.TheVariants as k
-use Rattle.cga_form.specs.Code.{input_of}
+use Rattle.cga_form.specs.Cursor.{input_of}
 use Rattle.cga_parser.specs.Grammar.{inner_of, further_test, further_conj}
-use Rattle.cga_parser.specs.Tokens.{is_keyword}
+use Rattle.cga_form.specs.Tokens.{is_keyword}
 use Rattle.cga_form.specs.Reader.{many_after, many}
 use Rattle.cga_parser.proofs.cond.+cond.Given as goal
 

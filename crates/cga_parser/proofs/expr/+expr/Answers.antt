@@ -1,10 +1,10 @@
 use Rattle.std.proofs.Common.{sym, ap, ◌∙◌}
 use Rattle.std.proofs.lemmas.Result.{err_from_is_err_and}
-use Rattle.cga_form.specs.Code.{input_of}
+use Rattle.cga_form.specs.Cursor.{input_of}
 use Rattle.cga_parser.specs.Grammar.{inside_of, is_scaling, is_addition, scaled, added}
 use Rattle.cga_form.specs.Reader.{many_after, many}
 use Rattle.cga_parser.proofs.Listings.{scaled_listing, added_listing}
-use Rattle.cga_parser.proofs.Turns.{many_is, on, off, fails, shortens}
+use Rattle.cga_parser.proofs.Loops.{many_is, on, off, fails, shortens}
 use Rattle.cga_parser.proofs.expr.+expr.Goals as goal
 
 pub all_scaled-scaled-init : goal.all_scaled-scaled-init

@@ -1,8 +1,8 @@
 use Rattle.std.proofs.Common.{◌≡◌, ◌+◌, ◌*◌, length}
 use Rattle.cga_lexer.specs.declared.sign.Sign.TheVariants as s
-use Rattle.cga_form.specs.Code.{input_of}
+use Rattle.cga_form.specs.Cursor.{input_of}
 use Rattle.cga_parser.specs.Grammar.{inside_of, inner_item, begins_item, further_body}
-use Rattle.cga_parser.specs.Tokens.{is_sign}
+use Rattle.cga_form.specs.Tokens.{is_sign}
 use Rattle.cga_form.specs.Reader.{many_after, many}
 use Rattle.cga_parser.proofs.item.+item.Given as goal
 
@@ -21,8 +21,8 @@ decreases-inner_body l = 10 * l.depth + 3
 abbrev pub decreases-scoped : goal.decreases-scoped
 decreases-scoped l = 10 * l.depth + 4
 
-abbrev pub decreases-block : goal.decreases-block
-decreases-block l = 10 * l.depth + 4
+abbrev pub decreases-braced_body : goal.decreases-braced_body
+decreases-braced_body l = 10 * l.depth + 4
 
 abbrev pub decreases-further_body : goal.decreases-further_body
 decreases-further_body l = 10 * l.depth + 4
@@ -30,8 +30,8 @@ decreases-further_body l = 10 * l.depth + 4
 abbrev pub decreases-further_bodies : goal.decreases-further_bodies
 decreases-further_bodies l = 10 * l.depth + 5
 
-abbrev pub decreases-blocks : goal.decreases-blocks
-decreases-blocks l = 10 * l.depth + 6
+abbrev pub decreases-braced_bodies : goal.decreases-braced_bodies
+decreases-braced_bodies l = 10 * l.depth + 6
 
 abbrev pub decreases-item_rest : goal.decreases-item_rest
 decreases-item_rest l = 10 * l.depth + 7

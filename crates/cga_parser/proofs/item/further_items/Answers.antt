@@ -1,10 +1,10 @@
 use Rattle.std.proofs.Common.{sym, ap, ◌∙◌}
 use Rattle.std.proofs.lemmas.Result.{err_from_is_err_and}
-use Rattle.cga_form.specs.Code.{input_of}
+use Rattle.cga_form.specs.Cursor.{input_of}
 use Rattle.cga_parser.specs.Grammar.{item, begins_item}
 use Rattle.cga_form.specs.Reader.{many_after, many}
 use Rattle.cga_parser.proofs.RuleListings.{item_listing}
-use Rattle.cga_parser.proofs.Turns.{many_is, on, off, fails, shortens}
+use Rattle.cga_parser.proofs.Loops.{many_is, on, off, fails, shortens}
 use Rattle.cga_parser.proofs.item.further_items.Goals as goal
 
 pub items-init : goal.items-init

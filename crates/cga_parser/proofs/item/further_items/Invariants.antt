@@ -1,5 +1,5 @@
 use Rattle.std.proofs.Common.{◌≡◌, length}
-use Rattle.cga_form.specs.Code.{input_of}
+use Rattle.cga_form.specs.Cursor.{input_of}
 use Rattle.cga_parser.specs.Grammar.{item, begins_item}
 use Rattle.cga_form.specs.Reader.{many_after, many}
 use Rattle.cga_parser.proofs.item.further_items.Given as goal

@@ -1,4 +1,4 @@
-use Rattle.cga_parser.proofs.TheForms.{rule_unique}
+use Rattle.cga_parser.proofs.AreForms.{rule_unique}
 use Rattle.cga_parser.proofs.laws.spells_one.Goals as goal
 
 pub returns : goal.returns

@@ -1,4 +1,4 @@
-use Rattle.cga_parser.proofs.TheForms.{block_unique}
+use Rattle.cga_parser.proofs.AreForms.{block_unique}
 use Rattle.cga_parser.proofs.laws.spells_one_line.Goals as goal
 
 pub returns : goal.returns

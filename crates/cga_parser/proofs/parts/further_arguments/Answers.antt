@@ -1,12 +1,12 @@
 use Rattle.std.proofs.Common.{sym, ap, ◌∙◌, [], length, ◌-◌, ◌&&◌, nat_lt}
 use Rattle.std.proofs.lemmas.Result.{err_from_is_err_and}
 use Rattle.cga_lexer.specs.declared.sign.Sign.TheVariants as s
-use Rattle.cga_form.specs.Code.{input_of}
+use Rattle.cga_form.specs.Cursor.{input_of}
 use Rattle.cga_parser.specs.Grammar.{inside_of, further_argument}
-use Rattle.cga_parser.specs.Tokens.{is_sign}
+use Rattle.cga_form.specs.Tokens.{is_sign}
 use Rattle.cga_form.specs.Reader.{begins, many_from}
 use Rattle.cga_parser.proofs.Listings.{argument_listing}
-use Rattle.cga_parser.proofs.Turns.{shortens, few_on, few_off, few_fails}
+use Rattle.cga_parser.proofs.Loops.{shortens, few_on, few_off, few_fails}
 use Rattle.cga_parser.proofs.parts.further_arguments.Goals as goal
 
 pub arguments-init : goal.arguments-init

@@ -1,12 +1,12 @@
 use Rattle.std.proofs.Common.{sym, ap, ◌∙◌}
 use Rattle.std.proofs.lemmas.Result.{err_from_is_err_and}
 use Rattle.cga_lexer.specs.declared.sign.Sign.TheVariants as s
-use Rattle.cga_form.specs.Code.{input_of}
+use Rattle.cga_form.specs.Cursor.{input_of}
 use Rattle.cga_parser.specs.Grammar.{inside_of, further_size}
-use Rattle.cga_parser.specs.Tokens.{is_sign}
+use Rattle.cga_form.specs.Tokens.{is_sign}
 use Rattle.cga_form.specs.Reader.{many_after, many}
 use Rattle.cga_parser.proofs.Listings.{size_listing}
-use Rattle.cga_parser.proofs.Turns.{many_is, on, off, fails, shortens}
+use Rattle.cga_parser.proofs.Loops.{many_is, on, off, fails, shortens}
 use Rattle.cga_parser.proofs.parts.further_sizes.Goals as goal
 
 pub sizes-init : goal.sizes-init

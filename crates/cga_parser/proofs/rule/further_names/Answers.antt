@@ -1,13 +1,13 @@
 use Rattle.std.proofs.Common.{sym, ap, ◌∙◌, [], length, ◌-◌, ◌&&◌, nat_lt}
 use Rattle.std.proofs.lemmas.Result.{err_from_is_err_and}
 use Rattle.cga_lexer.specs.declared.sign.Sign.TheVariants as s
-use Rattle.cga_form.specs.declared.fault.Stop.TheVariants as stop
-use Rattle.cga_form.specs.Code.{input_of}
+use Rattle.cga_fraction.specs.declared.stop.Stop.TheVariants as stop
+use Rattle.cga_form.specs.Cursor.{input_of}
 use Rattle.cga_parser.specs.Grammar.{further_name}
-use Rattle.cga_parser.specs.Tokens.{is_sign}
+use Rattle.cga_form.specs.Tokens.{is_sign}
 use Rattle.cga_form.specs.Reader.{begins, many_from}
 use Rattle.cga_parser.proofs.RuleListings.{name_listing}
-use Rattle.cga_parser.proofs.Turns.{shortens, few_on, few_off, few_fails}
+use Rattle.cga_parser.proofs.Loops.{shortens, few_on, few_off, few_fails}
 use Rattle.cga_parser.proofs.rule.further_names.Goals as goal
 
 pub names-init : goal.names-init

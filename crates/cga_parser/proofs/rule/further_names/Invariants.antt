@@ -1,8 +1,8 @@
 use Rattle.std.proofs.Common.{◌≡◌, ◌-◌, [], length}
 use Rattle.cga_lexer.specs.declared.sign.Sign.TheVariants as s
-use Rattle.cga_form.specs.Code.{input_of}
+use Rattle.cga_form.specs.Cursor.{input_of}
 use Rattle.cga_parser.specs.Grammar.{further_name}
-use Rattle.cga_parser.specs.Tokens.{is_sign}
+use Rattle.cga_form.specs.Tokens.{is_sign}
 use Rattle.cga_form.specs.Reader.{many_from}
 use Rattle.cga_parser.proofs.rule.further_names.Given as goal
 

@@ -1,5 +1,5 @@
 use Rattle.std.proofs.Common.{◌≡◌, drop}
-use Rattle.cga_fraction.specs.Chains.{onto}
+use Rattle.cga_fraction.specs.Results.{onto}
 use Rattle.cga_solid.specs.Solids.{all_placed}
 use Rattle.cga_solid.proofs.solid.place_corners.Given as goal
 

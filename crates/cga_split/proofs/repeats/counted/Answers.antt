@@ -3,7 +3,7 @@ use Rattle.std.specs.Prelude.{IsTrue}
 use Rattle.cga_fraction.specs.Rat.{Rat, zero_rat}
 use Rattle.cga_fraction.specs.Order.{rat_lt}
 use Rattle.cga_fraction.specs.Arithmetic.{divided}
-use Rattle.cga_split.specs.Chains.{within}
+use Rattle.cga_split.specs.Faults.{within}
 use Rattle.cga_split.proofs.Shares.{whole_positive, step_sign}
 use Rattle.cga_split.proofs.repeats.counted.Goals as goal
 

@@ -1,5 +1,5 @@
 use Rattle.std.proofs.Common.{◌≡◌, ◌-◌}
-use Rattle.cga_fraction.specs.Chains.{onto}
+use Rattle.cga_fraction.specs.Results.{onto}
 use Rattle.cga_split.specs.Repeat.{repeats_from}
 use Rattle.cga_split.specs.Split.{part_at}
 use Rattle.cga_split.proofs.repeats.parts.Given as goal

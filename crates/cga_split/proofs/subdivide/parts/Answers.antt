@@ -1,5 +1,5 @@
 use Rattle.std.proofs.Common.{◌≡◌, List, ◌∷◌, ◌+◌, drop, ap, sym, ◌∙◌, suc, add-one, drop-cons}
-use Rattle.cga_fraction.specs.Chains.{onto}
+use Rattle.cga_fraction.specs.Results.{onto}
 use Rattle.cga_split.specs.Split.{part_at}
 use Rattle.cga_split.specs.Subdiv.{parts_from}
 use Rattle.cga_split.specs.declared.part_size.PartSize.{PartSize}

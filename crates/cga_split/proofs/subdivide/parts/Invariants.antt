@@ -3,7 +3,7 @@ use Rattle.std.specs.Prelude.{IsTrue}
 use Rattle.std.specs.List.{list_all, list_any}
 use Rattle.cga_fraction.specs.Rat.{zero_rat}
 use Rattle.cga_fraction.specs.Order.{rat_lt}
-use Rattle.cga_fraction.specs.Chains.{onto}
+use Rattle.cga_fraction.specs.Results.{onto}
 use Rattle.cga_split.specs.Subdiv.{is_positive, is_relative, parts_from}
 use Rattle.cga_split.specs.Split.{part_at}
 use Rattle.cga_split.proofs.subdivide.parts.Given as goal

@@ -1,7 +1,6 @@
-use Rattle.cga_split.proofs.Scopes.{subdiv_is}
+use Rattle.cga_split.proofs.Scopes.{subdiv_settled}
 use Rattle.cga_split.proofs.subdivide.subdiv.Goals as goal
 
-pub returns-in-Ok-clause-cut : goal.returns-in-Ok-clause-cut
-returns-in-Ok-clause-cut c =
-    let done = c.in-Ok.ensures {u = tt} in
-    subdiv_is c.args.scope.now c.args.axis c.args.sizes.now c.in-Ok.parts c.requires done.fractions done.value
+pub returns-clause-cut : goal.returns-clause-cut
+returns-clause-cut c =
+    rw c.settled.ensures.exact (subdiv_settled c.args.scope.now c.args.axis c.args.sizes.now c.divide.result c.divide.ensures.fractions c.divide.ensures.value)

@@ -26,4 +26,4 @@ returns-then-not-begins_lot c =
 pub returns : goal.returns
 returns c =
     let words = eight_words _ _ _ _ _ _ _ _ _ _ _ _ (c.in_ok-kind.ensures {u = tt}) (c.in_ok-x.ensures {u = tt}) (c.in_ok-depth.ensures {u = tt}) (c.in_ok-symbol.ensures {u = tt}) in
-    c.whole_lot.ensures ∙ sym (lot_of-words _ _ _ _ _ _ _ _ _ words (sym (c.if-not-begins_lot.ensures {u = tt})))
+    c.lot_from.ensures ∙ sym (lot_of-words _ _ _ _ _ _ _ _ _ words (sym (c.if-not-begins_lot.ensures {u = tt})))

@@ -20,4 +20,4 @@ returns-then-not-is_template c =
 pub returns : goal.returns
 returns c =
     let words = seven_words _ _ _ _ _ _ _ _ _ _ (c.in_ok-id.ensures {u = tt}) (c.in_ok-width.ensures {u = tt}) (c.in_ok-solid.ensures {u = tt}) in
-    c.whole_rule.ensures ∙ sym (rule_of-words _ _ _ _ _ _ _ _ words (sym (c.if-not-is_template.ensures {u = tt})))
+    c.rule_from.ensures ∙ sym (rule_of-words _ _ _ _ _ _ _ _ words (sym (c.if-not-is_template.ensures {u = tt})))

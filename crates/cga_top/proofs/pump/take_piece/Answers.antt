@@ -1,15 +1,16 @@
-use Rattle.std.proofs.Common.{◌≡◌, ◌++◌, [], refl, sym, subst, ◌∙◌, arith, rules}
+use Rattle.std.proofs.Common.{◌≡◌, ◌++◌, [], refl, sym, subst, ◌∙◌, rules}
 use Rattle.std.proofs.lemmas.List.{nil_from_length}
 use Rattle.cga_script.specs.Pending.{Pending}
 use Rattle.cga_script.proofs.Feeds.{takes_line, one_more}
 use Rattle.cga_top.specs.Progress.{Progress}
 use Rattle.cga_top.proofs.Pieces.{progress_start, progress_same, progress_line, progress_end, progress_err, part_cleared, part_kept, left_cleared, left_kept, lines_kept_none, nothing_left, no_more_lines, no_more_left}
+use Rattle.cga_top.proofs.Faults.{faults_since}
 use Rattle.cga_top.proofs.pump.take_piece.Goals as goal
 
 pub loop-rest-init : goal.loop-rest-init
 loop-rest-init g c = record {
   part = c.requires;
-  count = omega arith;
+  calm = refl;
   each = λ s st. progress_start s _ _ _ _ st;
   kept = refl;
 }
@@ -22,7 +23,7 @@ loop-rest-preserved-in-Ok g c =
     let done = c.in-Ok.ensures in
     record {
       part = part_cleared _ done.lines;
-      count = omega (arith, inv.count, done.count);
+      calm = done.faults ∙ inv.calm;
       each = λ s st. subst (λ (q : Pending). Progress s (c.args.lines.now.kept ++ c.args.piece.now) (q.kept ++ c.split_at.result.1.now) c.take_line.new.session (g.K.Sink.held c.args.out.now) (g.K.Sink.held c.take_line.new.out) c.args.expansions.now c.take_line.new.expansions)
           (sym done.lines) (progress_line s _ _ _ _ _ _ _ _ _ _ _ _ t.lines (inv.each s st) (λ u su. done.ok u su));
       kept = left_cleared _ _ _ done.lines t.left ∙ inv.kept;
@@ -36,7 +37,7 @@ loop-rest-preserved g c =
     let none = nothing_left _ _ _ f.1 c.split_at.ensures.back in
     record {
       part = part_kept _ _ f.2 one;
-      count = inv.count;
+      calm = inv.calm;
       each = λ s st. progress_same s _ _ _ _ _ _ _ _ (lines_kept_none _ _ _ f.2 none one) (inv.each s st);
       kept = left_kept _ _ _ f.2 none one ∙ inv.kept;
     }
@@ -47,6 +48,9 @@ returns-in-Err-clause-err g c = λ s st.
     let f = c.feed-fed.ensures.some c.if-fed.true in
     let t = takes_line c.loop-rest.lines.kept c.loop-rest.rest.now c.split_at.result.1.now c.feed-fed.result.taken c.feed-fed.new.self inv.part.one f.0 f.1 f.2 f.3 c.split_at.ensures.back f.4 in
     progress_err s _ _ _ _ _ _ _ _ _ _ t.lines (inv.each s st) (λ u su. c.in-Err.ensures.err u su)
+
+pub returns-in-Err-clause-faults : goal.returns-in-Err-clause-faults
+returns-in-Err-clause-faults g c = faults_since c.in-Err.halt _ _ _ c.loop-rest.invariant.calm c.in-Err.ensures.faults
 
 pub returns-clause-ok : goal.returns-clause-ok
 returns-clause-ok g c = λ s st.

@@ -1,4 +1,4 @@
-use Rattle.std.proofs.Common.{arith}
+use Rattle.std.proofs.Common.{◌∙◌}
 use Rattle.cga_top.proofs.Known.{appends_so_far, appends_piece}
 use Rattle.cga_top.proofs.pump.write_all.Goals as goal
 
@@ -6,7 +6,7 @@ pub loop-rest-preserved : goal.loop-rest-preserved
 loop-rest-preserved g c =
     let inv = c.loop-rest.invariant in let w = c.in-Ok.ensures in
     record {
-      count = omega (arith, inv.count, w.cause.later);
+      calm = w.cause.calm ∙ inv.calm;
       bytes = appends_piece _ _ _ _ _ _ _ _ inv.bytes.1 inv.bytes.2 w.bytes c.split_at.ensures.back;
     }
 

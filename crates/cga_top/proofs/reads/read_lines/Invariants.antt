@@ -1,13 +1,13 @@
 use Rattle.std.proofs.Common.{◌≡◌, ◌≤◌, ◌+◌, ◌-◌, List, ℕ, length}
-use Rattle.cga_top.specs.Reads.{IsRead}
+use Rattle.cga_top.specs.Outside.{outside_of}
+use Rattle.cga_top.specs.Reads.{limit, read_limit, IsRead}
 use Rattle.cga_top.proofs.reads.read_lines.Given as goal
 
 abbrev pub invariant-loop-total : goal.invariant-loop-total
 invariant-loop-total g l = record {
-  most : l.total ≤ 67108864 + 4096;
-  source : g.S.Source.faults l.initial.script ≤ g.S.Source.faults l.script;
-  sink : g.K.Sink.faults l.initial.out ≤ g.K.Sink.faults l.out;
-  so_far : (read : List ℕ) × IsRead read (g.S.Source.left l.initial.script) (g.S.Source.left l.script) l.session l.lines (g.K.Sink.held l.initial.out) (g.K.Sink.held l.out) l.initial.expansions l.expansions × (length read ≡ l.total);
+  most : l.total ≤ limit + read_limit;
+  calm : g.S.Source.faults l.script ≡ g.S.Source.faults l.initial.script;
+  so_far : (read : List ℕ) × IsRead read (outside_of g.S.Source g.K.Sink l.initial.script l.initial.out l.initial.expansions) (outside_of g.S.Source g.K.Sink l.script l.out l.expansions) l.session l.lines × (length read ≡ l.total);
 }
 
 abbrev pub decreases-loop-total : goal.decreases-loop-total

@@ -1,5 +1,5 @@
 use Rattle.std.proofs.Common.{◌∙◌, sym, subst}
-use Rattle.cga_form.specs.BlockAnswers.{BlockAnswers}
+use Rattle.cga_form.specs.BlockTells.{BlockTells}
 use Rattle.cga_form.proofs.Lines.{form_unique}
 use Rattle.cga_form.proofs.BlockReaders.{passed_over, one_more, never_good}
 use Rattle.cga_form.proofs.block_reader.BlockReader.line.Goals as goal
@@ -15,7 +15,7 @@ returns-in_err-said-clause-free g c = λ lines f k h.
 pub returns-in-Ok-clause-taken : goal.returns-in-Ok-clause-taken
 returns-in-Ok-clause-taken g c =
     one_more g.G.Form.pieces g.G.Gather.holds c.args.self.now c.saturating_add-self.result (record { bytes = c.args.bytes.now; long = c.args.long }) c.saturating_add-self.ensures c.add.new.self c.in-Ok.said
-    (subst (λ z. BlockAnswers g.G.Form.pieces (record { bytes = c.args.bytes.now; long = c.args.long }) z) c.in-Ok.is c.in_ok-said.ensures) c.add.result (sym c.is_some.ensures ∙ c.if-is_some.false) c.add.ensures
+    (subst (λ z. BlockTells g.G.Form.pieces (record { bytes = c.args.bytes.now; long = c.args.long }) z) c.in-Ok.is c.in_ok-said.ensures) c.add.result (sym c.is_some.ensures ∙ c.if-is_some.false) c.add.ensures
 
 pub returns-in-Ok-clause-free : goal.returns-in-Ok-clause-free
 returns-in-Ok-clause-free g c = λ lines f k h.

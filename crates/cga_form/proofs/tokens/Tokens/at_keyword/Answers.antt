@@ -1,7 +1,7 @@
 use Rattle.std.proofs.Common.{◌≡◌, ◌↔◌, IsTrue, Option, Some, subst}
 use Rattle.cga_syntax.specs.declared.lexeme.Lexeme.{Lexeme}
 use Rattle.cga_syntax.specs.declared.lexeme.Lexeme.TheVariants as lexeme
-use Rattle.cga_form.specs.Code.{input_of}
+use Rattle.cga_form.specs.Cursor.{input_of}
 use Rattle.cga_form.proofs.Nexts.{keyword_next}
 use Rattle.cga_form.proofs.tokens.Tokens.at_keyword.Goals as goal
 

@@ -1,0 +1,17 @@
+pub mod Lists
+pub mod Working
+pub mod Turning
+pub mod Begin
+pub mod Exact
+pub mod Record
+pub mod Made
+pub mod Budget
+pub mod OverBudget
+pub mod Update
+pub mod Prefixes
+pub mod Loop
+pub mod Late
+pub mod Own
+pub mod ExampleNodes
+pub mod Example
+pub mod OneLot

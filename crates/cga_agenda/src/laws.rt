@@ -1,0 +1,66 @@
+//! What is proved of the work of an edit. Each function here does nothing: its contract is the law,
+//! which a caller's proof can cite.
+
+ghost use Rattle.cga_agenda.specs.Example.{ExampleWorks};
+ghost use Rattle.cga_agenda.specs.OneLot.{ALotComes};
+ghost use Rattle.cga_agenda.specs.Laws.{WorkBegins, TurnsKeepWorking, WorkIsExact};
+ghost use Rattle.cga_agenda.specs.Laws.{RecordBegins, TurnsKeepRecord, RecordIsExact};
+ghost use Rattle.cga_agenda.specs.Laws.{KnownGrows, OverBudgetIsExact, BelowIsLate};
+
+/// The roots that went and came, and the first agenda, begin the work.
+pub fn work_begins<N, A, B, F, P>()
+    ensures { WorkBegins N A B F P }
+{}
+
+/// A turn keeps what holds between turns.
+pub fn turns_keep_working<N, A, B, F, P>()
+    ensures { TurnsKeepWorking N A B F P }
+{}
+
+/// At an empty agenda the shapes that were expanded are those touched, each once.
+pub fn work_is_exact<N, A, B, F, P>()
+    ensures { WorkIsExact N A B F P }
+{}
+
+/// The record begins with what went with the old roots.
+pub fn record_begins<N, A, B, F, P>()
+    ensures { RecordBegins N A B F P }
+{}
+
+/// A turn adds to the record what went and came.
+pub fn turns_keep_record<N, A, B, F, P>()
+    ensures { TurnsKeepRecord N A B F P }
+{}
+
+/// At an empty agenda the record names what it must.
+pub fn record_is_exact<N, A, B, F, P>()
+    ensures { RecordIsExact N A B F P }
+{}
+
+/// What is known begins with the roots, and grows by the children of what is expanded.
+pub fn known_grows<N, A, B, F, P>()
+    ensures { KnownGrows N A B F P }
+{}
+
+/// Where more is known, or had its turn, than the budget allows, the new derivation is over it; at
+/// an empty agenda it is so exactly where there are more nodes.
+pub fn over_budget_is_exact<N, A, B, F, P>()
+    ensures { OverBudgetIsExact N A B F P }
+{}
+
+/// What the loop wants of a worker can be met: a lot comes where there was none, and its root is
+/// expanded.
+pub fn a_lot_comes()
+    ensures { ALotComes }
+{}
+
+/// The premises can be met: where the priority of one child's symbol changes, its parent's turn
+/// places it anew, and its own turn expands it.
+pub fn example_works()
+    ensures { ExampleWorks }
+{}
+
+/// What stands below a shape was made at its stamp or later.
+pub fn below_is_late<N, A, B, F, P>()
+    ensures { BelowIsLate N A B F P }
+{}

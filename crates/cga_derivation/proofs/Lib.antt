@@ -1,0 +1,16 @@
+pub mod Lists
+pub mod Sites
+pub mod Along
+pub mod Least
+pub mod Apart
+pub mod Budget
+pub mod Counts
+pub mod Keys
+pub mod Turn
+pub mod Ends
+pub mod Stamps
+pub mod Derive
+pub mod One
+pub mod Inherited
+pub mod Unique
+pub mod Derived

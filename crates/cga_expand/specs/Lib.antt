@@ -1,0 +1,6 @@
+pub mod Faults
+pub mod Collect
+pub mod Scopes
+pub mod Walk
+pub mod Stops
+pub mod Rules

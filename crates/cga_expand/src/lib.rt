@@ -1,0 +1,18 @@
+//! One expansion: what a shape becomes by the rules of its symbol, or the first fault in reading
+//! order.
+//!
+//! It must not know other shapes: what they are to a shape is in its answers. Callers get the order
+//! wrong: a fault comes where it stands in the text, and nothing is emitted then.
+#![tactic(auto)]
+
+mod emit;
+mod faults;
+pub mod limits;
+mod parts;
+mod rules;
+mod scopes;
+mod state;
+mod walk;
+
+pub use rules::expansion;
+pub use state::State;

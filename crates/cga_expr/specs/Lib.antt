@@ -1,0 +1,4 @@
+pub mod Names
+pub mod Arithmetic
+pub mod Value
+pub mod Holds

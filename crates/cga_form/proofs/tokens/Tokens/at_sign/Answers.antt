@@ -1,9 +1,0 @@
-use Rattle.std.proofs.Common.{◌≡◌, ◌↔◌, IsTrue, Option, Some, subst}
-use Rattle.cga_syntax.specs.declared.lexeme.Lexeme.{Lexeme}
-use Rattle.cga_syntax.specs.declared.lexeme.Lexeme.TheVariants as lexeme
-use Rattle.cga_form.specs.Code.{input_of}
-use Rattle.cga_form.proofs.Nexts.{sign_next}
-use Rattle.cga_form.proofs.tokens.Tokens.at_sign.Goals as goal
-
-pub returns : goal.returns
-returns c = sign_next c.args.sign c.is_next.result (input_of c.args.self.now).left (subst (λ (o : Option Lexeme). IsTrue c.is_next.result ↔ (o ≡ Some (lexeme.Sign c.args.sign))) c.peek.ensures.value c.is_next.ensures)

@@ -1,0 +1,33 @@
+-- Steps that may be refused.
+use Rattle.std.proofs.Common.{◌≡◌, refl, Ok, Err, Result}
+use Rattle.std.specs.Prelude.{IfOk}
+use Rattle.cga_fraction.specs.Results.{and_then, or_err}
+use Rattle.cga_fraction.specs.Stops.{settled_of}
+use Rattle.cga_fraction.specs.declared.stop.Stop.{Stop}
+use Rattle.cga_fraction.specs.declared.stop.Stop.TheVariants.{Fault, NoMemory}
+
+-- what two steps that succeed went through
+pub and_then-ok : {A B F : Type 0} (r : Result A F) (f : A → Result B F) (y : B) → and_then r f ≡ Ok y → (x : A) × (r ≡ Ok x) × (f x ≡ Ok y)
+and_then-ok (Ok x) f y h = (x, refl, h)
+and_then-ok (Err e) f y h = absurd (cc)
+
+-- another cause changes no success
+pub or_err-ok : {A E F : Type 0} (f : F) (r : Result A E) (x : A) → or_err f r ≡ Ok x → r ≡ Ok x
+or_err-ok f (Ok a) x h = cc
+or_err-ok f (Err e) x h = absurd (cc)
+
+-- nor does a third one
+pub or_err-ok_as : {A E F G : Type 0} (f : F) (g : G) (r : Result A E) (x : A) → or_err f r ≡ Ok x → or_err g r ≡ Ok x
+or_err-ok_as f g (Ok a) x h = cc
+or_err-ok_as f g (Err e) x h = absurd (cc)
+
+-- what is refused for one cause is refused for any
+pub or_err-err_as : {A E F G : Type 0} (f e : F) (g : G) (r : Result A E) → or_err f r ≡ Err e → or_err g r ≡ Err g
+or_err-err_as f e g (Ok a) h = absurd (cc)
+or_err-err_as f e g (Err x) h = refl
+
+-- what holds of whatever was made holds of what is answered
+pub settled_of-each : {A F : Type 0} (P : A → Type 0) (made : Result A (Stop F)) → ((x : A) → made ≡ Ok x → P x) → IfOk (settled_of made) (λ given. IfOk given P)
+settled_of-each P (Ok x) each = each x refl
+settled_of-each P (Err (Fault f)) each = tt
+settled_of-each P (Err NoMemory) each = tt

@@ -1,0 +1,5 @@
+pub mod Askers
+pub mod Local
+pub mod Over
+pub mod Levels
+pub mod TwoRoots

@@ -1,0 +1,31 @@
+use Rattle.std.proofs.Common.{◌∙◌, arith}
+use Rattle.cga_index.specs.Tree.{reads}
+use Rattle.cga_index.proofs.Levels.{visit_found, visit_counted, none_seen, step_found, step_counted, end_found}
+use Rattle.cga_index.proofs.walk.+visit.Goals as goal
+
+pub visit-returns-clause-found : goal.visit-returns-clause-found
+visit-returns-clause-found g t c =
+    let low = c.requires.laws.shallow c.args.node c.requires.node in
+    c.joined.ensures ∙ visit_found (g.H.HullTree.view c.args.tree.now) c.args.by c.args.target c.args.left c.args.node _ _ (omega (arith, low, c.requires.left)) c.look-first.ensures.found c.visit_children-rest.ensures.found
+
+pub visit-returns-clause-counted : goal.visit-returns-clause-counted
+visit-returns-clause-counted g t c =
+    let low = c.requires.laws.shallow c.args.node c.requires.node in
+    visit_counted (g.H.HullTree.view c.args.tree.now) c.args.by c.args.left c.args.node _ _ _ c.args.area.now (omega (arith, low, c.requires.left)) c.requires.area c.look-first.ensures.counted c.visit_children-rest.ensures.counted
+
+pub visit_children-returns-then-not-touches-clause-found : goal.visit_children-returns-then-not-touches-clause-found
+visit_children-returns-then-not-touches-clause-found g t c =
+    none_seen (g.H.HullTree.view c.args.tree.now) c.requires.laws c.args.by c.args.target c.args.left c.args.node c.hull.result c.args.area.now c.touches.result c.requires.node c.hull.ensures c.requires.area c.touches.ensures.value c.if-not-touches.true
+
+pub visit_children-loop-place-preserved : goal.visit_children-loop-place-preserved
+visit_children-loop-place-preserved g t c =
+    let v = g.H.HullTree.view c.args.tree.now in
+    let inv = c.loop-place.invariant in (
+      rw c.joined-found.ensures (step_found v c.args.by c.args.target c.args.left (v.children c.args.node) c.loop-place.place c.child_of-child.result c.loop-place.found c.visit-inner.result _ c.child_of-child.ensures.at c.visit-inner.ensures.found inv.0),
+      step_counted (reads v c.args.by c.args.left) (v.children c.args.node) c.loop-place.place c.child_of-child.result c.loop-place.tests _ _ c.child_of-child.ensures.at c.visit-inner.ensures.counted inv.1,
+    )
+
+pub visit_children-returns-clause-found : goal.visit_children-returns-clause-found
+visit_children-returns-clause-found g t c =
+    let v = g.H.HullTree.view c.args.tree.now in
+    end_found v c.args.by c.args.target c.args.left (v.children c.args.node) c.loop-place.place c.loop-place.found _ (omega (arith, c.loop-place-test.false, c.children-place-end.ensures)) c.loop-place.invariant.0

@@ -1,0 +1,4 @@
+pub mod Local
+pub mod Occlusion
+pub mod Tree
+pub mod TwoRoots

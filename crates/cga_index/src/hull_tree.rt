@@ -1,0 +1,54 @@
+ghost use Rattle.std.specs.Prelude.{◌≡◌, ◌+◌, ◌<◌, length, slice_get, Some};
+ghost use Rattle.cga_index.specs.Tree.{TreeView, InTree};
+
+use crate::node_id::NodeId;
+use crate::standing::Standing;
+use cga_fraction::Steps;
+use cga_frame::WorldBox;
+use std::sync::ledger::Ledger;
+
+/// A tree of nodes with boxes. What callers need of it beside these clauses is `IsHullTree` of its view.
+pub trait HullTree {
+    ghost view: { Self → TreeView };
+
+    fn roots(&self) -> usize
+        ensures { result ≡ length (view self.now).roots };
+
+    fn root(&self, place: usize) -> NodeId
+        requires { place < length (view self.now).roots }
+        ensures { slice_get (view self.now).roots place ≡ Some result };
+
+    fn children(&self, node: NodeId) -> usize
+        requires { InTree (view self.now) node }
+        ensures { result ≡ length ((view self.now).children node) };
+
+    fn child(&self, node: NodeId, place: usize) -> NodeId
+        requires node { InTree (view self.now) node }
+        requires place { place < length ((view self.now).children node) }
+        ensures { slice_get ((view self.now).children node) place ≡ Some result };
+
+    /// The node's own box. It is the one call that counts as a test.
+    fn own_box<T: Ledger>(&self, node: NodeId, tests: &mut Steps<T>) -> WorldBox
+        requires node { InTree (view self.now) node }
+        ensures value { result ≡ (view self.now).own node }
+        ensures ticks { tests.new ≡ tests.old + 1 };
+
+    /// A box that holds the own boxes of the node and of all below it.
+    fn hull(&self, node: NodeId) -> WorldBox
+        requires { InTree (view self.now) node }
+        ensures { result ≡ (view self.now).hull node };
+
+    /// The same of those that ask among the node and all below it, where there is one.
+    fn asking_hull(&self, node: NodeId) -> Option<WorldBox>
+        requires { InTree (view self.now) node }
+        ensures { result ≡ (view self.now).asking_hull node };
+
+    fn asks(&self, node: NodeId) -> bool
+        requires { InTree (view self.now) node }
+        ensures { result ≡ (view self.now).asks node };
+
+    fn standing(&self, node: NodeId, by: NodeId) -> Standing
+        requires node { InTree (view self.now) node }
+        requires by { InTree (view self.now) by }
+        ensures { result ≡ (view self.now).standing node by };
+}

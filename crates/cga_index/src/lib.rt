@@ -1,0 +1,20 @@
+//! What lies near a shape: occlusion answers, and who asks there, over any tree of nodes whose hulls hold what is below
+//! them. Only nodes whose parent's hull touches the box are looked at. It must not know shapes, symbols or how a tree is
+//! kept. The one thing that callers get wrong: a node is compared by its standing towards the asker, which a tree has to
+//! give for every pair; who asks is not who is answered.
+#![tactic(auto)]
+
+mod hull_tree;
+mod listing;
+mod node_id;
+mod standing;
+mod steps;
+#[cfg(test)]
+mod tests;
+mod walk;
+
+pub use hull_tree::HullTree;
+pub use listing::queriers_meeting;
+pub use node_id::NodeId;
+pub use standing::Standing;
+pub use walk::answer;

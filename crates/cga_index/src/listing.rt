@@ -1,0 +1,109 @@
+ghost use Rattle.std.specs.Prelude.{◌≡◌, ◌+◌, ◌++◌, [], ◌∷◌, false, IfOk, OnOk};
+ghost use Rattle.std.specs.List.{flat_map};
+ghost use Rattle.cga_index.specs.Tree.{IsHullTree, InTree, below, askers, ListsAskers};
+
+use crate::hull_tree::HullTree;
+use crate::node_id::NodeId;
+use crate::steps::{child_of, root_of};
+use cga_fraction::{List, NoMemory, Steps};
+use cga_frame::WorldBox;
+use std::alloc::Global;
+use std::sync::ledger::Ledger;
+
+/// Appends the node, where it asks and its box meets the area.
+#[tactic(auto, using(crate::proofs::Askers::askers_one))]
+fn list_one<H: HullTree, T: Ledger>(
+    tree: &H,
+    node: NodeId,
+    area: &WorldBox,
+    tests: &mut Steps<T>,
+    out: &mut Vec<NodeId>,
+) -> Result<(), NoMemory>
+    requires node { InTree (H.view tree.now) node }
+    ensures { OnOk result (out.new.items ≡ out.old.items ++ askers (H.view tree.now) area.now (node ∷ [])) }
+{
+    if !tree.asks(node) {
+        return Ok(());
+    }
+    let own = tree.own_box(node, tests);
+    if own.meets(area) {
+        out.push(node)?;
+    }
+    Ok(())
+}
+
+/// Whether an asking node from this one on can meet the area.
+#[tactic(auto, using(crate::proofs::Askers::nobody))]
+fn may_ask<H: HullTree>(tree: &H, node: NodeId, left: usize, area: &WorldBox) -> bool
+    requires laws { IsHullTree (H.view tree.now) }
+    requires node { InTree (H.view tree.now) node }
+    ensures { result ≡ false → askers (H.view tree.now) area.now (below (H.view tree.now) left node) ≡ [] }
+{
+    match tree.asking_hull(node) {
+        None => false,
+        Some(hull) => hull.touches(area),
+    }
+}
+
+/// Appends those that ask and meet the area, from a node on.
+#[cycle(listing)]
+fn list_from<H: HullTree, T: Ledger>(
+    tree: &H,
+    node: NodeId,
+    left: usize,
+    area: &WorldBox,
+    tests: &mut Steps<T>,
+    out: &mut Vec<NodeId>,
+) -> Result<(), NoMemory>
+    requires laws { IsHullTree (H.view tree.now) }
+    requires node { InTree (H.view tree.now) node }
+    requires left { left + (H.view tree.now).depth node ≡ 257 }
+    ensures { OnOk result (out.new.items ≡ out.old.items ++ askers (H.view tree.now) area.now (below (H.view tree.now) left node)) }
+{
+    if !may_ask(tree, node, left, area) {
+        return Ok(());
+    }
+    list_one(tree, node, area, tests, out)?;
+    list_children(tree, node, left - 1, area, tests, out)?;
+    Ok(())
+}
+
+/// Appends those below a node.
+#[cycle(listing)]
+fn list_children<H: HullTree, T: Ledger>(
+    tree: &H,
+    node: NodeId,
+    left: usize,
+    area: &WorldBox,
+    tests: &mut Steps<T>,
+    out: &mut Vec<NodeId>,
+) -> Result<(), NoMemory>
+    requires laws { IsHullTree (H.view tree.now) }
+    requires node { InTree (H.view tree.now) node }
+    requires left { left + (H.view tree.now).depth node ≡ 256 }
+    ensures { OnOk result (out.new.items ≡ out.old.items ++ askers (H.view tree.now) area.now (flat_map (below (H.view tree.now) left) ((H.view tree.now).children node))) }
+{
+    for place in 0..tree.children(node) {
+        let child = child_of(tree, node, place);
+        list_from(tree, child, left, area, tests, out)?;
+    }
+    Ok(())
+}
+
+/// The nodes that ask and whose box meets the area.
+pub fn queriers_meeting<H: HullTree, T: Ledger>(
+    alloc: Global,
+    tree: &H,
+    area: &WorldBox,
+    tests: &mut Steps<T>,
+) -> Result<List<NodeId>, NoMemory>
+    requires laws { IsHullTree (H.view tree.now) }
+    ensures { IfOk result (λ list. ListsAskers (H.view tree.now) area.now list) }
+{
+    let mut out = Vec::new(alloc);
+    for place in 0..tree.roots() {
+        let root = root_of(tree, place);
+        list_from(tree, root, 257, area, tests, &mut out)?;
+    }
+    Ok(List::from_vec(out))
+}

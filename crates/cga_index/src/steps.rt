@@ -1,0 +1,31 @@
+//! From a node of the tree to the next.
+ghost use Rattle.std.specs.Prelude.{◌≡◌, ◌<◌, ◌+◌, length, slice_get, Some};
+ghost use Rattle.cga_index.specs.Tree.{IsHullTree, InTree};
+
+use crate::hull_tree::HullTree;
+use crate::node_id::NodeId;
+
+/// A root of the tree.
+#[tactic(auto, using(crate::proofs::Levels::root_inside, crate::proofs::Levels::root_depth))]
+pub(crate) fn root_of<H: HullTree>(tree: &H, place: usize) -> NodeId
+    requires laws { IsHullTree (H.view tree.now) }
+    requires place { place < length (H.view tree.now).roots }
+    ensures at { slice_get (H.view tree.now).roots place ≡ Some result }
+    ensures inside { InTree (H.view tree.now) result }
+    ensures depth { (H.view tree.now).depth result ≡ 0 }
+{
+    tree.root(place)
+}
+
+/// A child of a node of the tree.
+#[tactic(auto, using(crate::proofs::Levels::child_in, crate::proofs::Levels::child_depth))]
+pub(crate) fn child_of<H: HullTree>(tree: &H, node: NodeId, place: usize) -> NodeId
+    requires laws { IsHullTree (H.view tree.now) }
+    requires node { InTree (H.view tree.now) node }
+    requires place { place < length ((H.view tree.now).children node) }
+    ensures at { slice_get ((H.view tree.now).children node) place ≡ Some result }
+    ensures inside { InTree (H.view tree.now) result }
+    ensures depth { (H.view tree.now).depth result ≡ (H.view tree.now).depth node + 1 }
+{
+    tree.child(node, place)
+}

@@ -1,0 +1,165 @@
+ghost use Rattle.std.specs.Prelude.{◌≡◌, ◌≤◌, ◌+◌, [], ◌∷◌, length, cond, nat_eq};
+ghost use Rattle.std.specs.List.{flat_map};
+ghost use Rattle.cga_frame.specs.Box.{touches};
+ghost use Rattle.cga_index.specs.Occlusion.{answer_of, join};
+ghost use Rattle.cga_index.specs.Tree.{IsHullTree, InTree, below, all_nodes, near, counts_for, asked, answer_over, reads, total};
+
+use crate::hull_tree::HullTree;
+use crate::node_id::NodeId;
+use crate::standing::Standing;
+use crate::steps::{child_of, root_of};
+use cga_fraction::Steps;
+use cga_frame::WorldBox;
+use cga_word::{Answer, Target};
+use std::sync::ledger::Ledger;
+
+// Of two answers the stronger one.
+fn joined(first: Answer, second: Answer) -> Answer
+    ensures { result ≡ join first second }
+{
+    match first {
+        Answer::Full => Answer::Full,
+        Answer::Part => match second {
+            Answer::Full => Answer::Full,
+            Answer::Part | Answer::Nothing => Answer::Part,
+        },
+        Answer::Nothing => second,
+    }
+}
+
+/// Whether a node of this standing is asked about.
+fn counts_for(target: Target, standing: Standing) -> bool
+    ensures { result ≡ counts_for target standing }
+{
+    match target {
+        Target::Noparent => match standing {
+            Standing::Hidden => false,
+            Standing::Waiting => true,
+            Standing::Finished => true,
+        },
+        Target::Active => match standing {
+            Standing::Hidden => false,
+            Standing::Waiting => true,
+            Standing::Finished => false,
+        },
+    }
+}
+
+/// What one box answers for another.
+#[tactic(auto, unfolding(crate::specs::Occlusion::answer_of))]
+fn compare(own: &WorldBox, area: &WorldBox) -> Answer
+    ensures { result ≡ answer_of area.now (own.now ∷ []) }
+{
+    if own.meets(area) {
+        if own.holds(area) {
+            Answer::Full
+        } else {
+            Answer::Part
+        }
+    } else {
+        Answer::Nothing
+    }
+}
+
+/// What one node answers. The asking node's box is at hand, and isn't read again.
+#[tactic(auto, using(crate::proofs::Over::over_one))]
+fn look<H: HullTree, T: Ledger>(
+    tree: &H,
+    node: NodeId,
+    by: NodeId,
+    target: Target,
+    area: &WorldBox,
+    tests: &mut Steps<T>,
+) -> Answer
+    requires node { InTree (H.view tree.now) node }
+    requires by { InTree (H.view tree.now) by }
+    requires area { area.now ≡ (H.view tree.now).own by }
+    ensures found { result ≡ answer_over (H.view tree.now) by target (node ∷ []) }
+    ensures counted { tests.new ≤ tests.old + cond (nat_eq node by) 0 1 }
+{
+    if !counts_for(target, tree.standing(node, by)) {
+        return Answer::Nothing;
+    }
+    if node.same(by) {
+        return compare(area, area);
+    }
+    let own = tree.own_box(node, tests);
+    compare(&own, area)
+}
+
+/// What a node and those below it answer. `left` bounds the levels from the node on.
+#[cycle(visit)]
+fn visit<H: HullTree, T: Ledger>(
+    tree: &H,
+    node: NodeId,
+    left: usize,
+    by: NodeId,
+    target: Target,
+    area: &WorldBox,
+    tests: &mut Steps<T>,
+) -> Answer
+    requires laws { IsHullTree (H.view tree.now) }
+    requires node { InTree (H.view tree.now) node }
+    requires by { InTree (H.view tree.now) by }
+    requires area { area.now ≡ (H.view tree.now).own by }
+    requires left { left + (H.view tree.now).depth node ≡ 257 }
+    ensures found { result ≡ answer_over (H.view tree.now) by target (below (H.view tree.now) left node) }
+    ensures counted { tests.new ≤ tests.old + reads (H.view tree.now) by left node }
+{
+    let first = look(tree, node, by, target, area, tests);
+    let rest = visit_children(tree, node, left - 1, by, target, area, tests);
+    joined(first, rest)
+}
+
+/// What those below a node answer. `left` bounds their levels.
+#[cycle(visit)]
+fn visit_children<H: HullTree, T: Ledger>(
+    tree: &H,
+    node: NodeId,
+    left: usize,
+    by: NodeId,
+    target: Target,
+    area: &WorldBox,
+    tests: &mut Steps<T>,
+) -> Answer
+    requires laws { IsHullTree (H.view tree.now) }
+    requires node { InTree (H.view tree.now) node }
+    requires by { InTree (H.view tree.now) by }
+    requires area { area.now ≡ (H.view tree.now).own by }
+    requires left { left + (H.view tree.now).depth node ≡ 256 }
+    ensures found { result ≡ answer_over (H.view tree.now) by target (flat_map (below (H.view tree.now) left) ((H.view tree.now).children node)) }
+    ensures counted { tests.new ≤ tests.old + cond (touches ((H.view tree.now).hull node) area.now) (total (reads (H.view tree.now) by left) ((H.view tree.now).children node)) 0 }
+{
+    if !tree.hull(node).touches(area) {
+        return Answer::Nothing;
+    }
+    let mut found = Answer::Nothing;
+    for place in 0..tree.children(node) {
+        let child = child_of(tree, node, place);
+        let inner = visit(tree, child, left, by, target, area, tests);
+        found = joined(found, inner);
+    }
+    found
+}
+
+/// The answer for a node.
+pub fn answer<H: HullTree, T: Ledger>(
+    tree: &H,
+    node: NodeId,
+    target: Target,
+    tests: &mut Steps<T>,
+) -> Answer
+    requires laws { IsHullTree (H.view tree.now) }
+    requires node { InTree (H.view tree.now) node }
+    ensures found { result ≡ answer_of ((H.view tree.now).own node) (asked (H.view tree.now) node target (all_nodes (H.view tree.now))) }
+    ensures counted { tests.new ≤ tests.old + near (H.view tree.now) node }
+{
+    let area = tree.own_box(node, tests);
+    let mut found = Answer::Nothing;
+    for place in 0..tree.roots() {
+        let root = root_of(tree, place);
+        let inner = visit(tree, root, 257, node, target, &area, tests);
+        found = joined(found, inner);
+    }
+    found
+}

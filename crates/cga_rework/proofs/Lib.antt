@@ -1,0 +1,13 @@
+pub mod Lists
+pub mod Worlds
+pub mod Runs
+pub mod Kept
+pub mod OwnStep
+pub mod Touched
+pub mod Budget
+pub mod End
+pub mod More
+pub mod Loop
+pub mod Again
+pub mod Example
+pub mod Stands

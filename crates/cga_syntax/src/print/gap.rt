@@ -1,7 +1,0 @@
-/// Where no space stands beside a printed token, apart from what signs have by themselves.
-#[derive(Clone, Copy, Debug, PartialEq, Eq)]
-pub enum Gap {
-    Usual,
-    NoneBefore,
-    NoneAfter,
-}

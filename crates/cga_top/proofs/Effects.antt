@@ -1,0 +1,73 @@
+-- Lines one after another.
+use Rattle.std.proofs.Common.{◌≡◌, ℕ, ◌+◌, min, List, [], ◌∷◌, ◌++◌, length, take, Option, Some, None, refl, sym, ap, subst, ◌∙◌, arith, append_assoc}
+use Rattle.std.proofs.lemmas.Grind.{common_steps}
+use Rattle.std.proofs.lemmas.List.{append-nil}
+use Rattle.std.proofs.Math.Seq.{take-append-add}
+use Rattle.std.specs.Io.KnownBytes.{Appends}
+use Rattle.cga_script.specs.Lines.{Line}
+use Rattle.cga_top.specs.declared.session.Session.{Session}
+use Rattle.cga_top.specs.State.{State}
+use Rattle.cga_top.specs.Effect.{Effect, followed_by, silent}
+use Rattle.cga_top.specs.Replies.{effect}
+use Rattle.cga_top.specs.Output.{effect_of_all}
+use Rattle.cga_top.specs.Session.{IsAt, Did}
+use Rattle.cga_top.specs.Wrote.{Wrote}
+use Rattle.cga_top.specs.Prefixes.{AppendsSome}
+use Rattle.cga_top.proofs.Known.{appends_nothing, appends_more}
+
+abbrev made : State → List ℕ → ℕ → ℕ → Effect
+made s text least most = record { state = s; reply = text; least = least; most = most }
+
+-- equal parts make equal effects
+same_effect : (s : State) (a b : List ℕ) (l m k n : ℕ) → a ≡ b → l ≡ m → k ≡ n → made s a l k ≡ made s b m n
+same_effect s a b l m k n p q r = ap (λ (x : List ℕ). made s x l k) p ∙ ap (λ (x : ℕ). made s b x k) q ∙ ap (λ (x : ℕ). made s b m x) r
+
+pub followed_assoc : (t u v : Effect) → followed_by (followed_by t u) v ≡ followed_by t (followed_by u v)
+followed_assoc t u v = same_effect v.state _ _ _ _ _ _ (append_assoc t.reply u.reply v.reply) (omega arith) (omega arith)
+
+pub followed_silent : (t : Effect) → followed_by t (silent t.state) ≡ t
+followed_silent t = same_effect t.state _ _ _ _ _ _ (append-nil t.reply) (omega arith) (omega arith)
+
+pub silent_followed : (s : State) (t : Effect) → followed_by (silent s) t ≡ t
+silent_followed s t = same_effect t.state _ _ _ _ _ _ refl (omega arith) (omega arith)
+
+pub all_none : (s : State) → effect_of_all s [] ≡ silent s
+unfolding effect_of_all
+all_none s = refl
+
+pub all_more : (s : State) (line : Line) (lines : List Line) → effect_of_all s (line ∷ lines) ≡ followed_by (effect s line) (effect_of_all (effect s line).state lines)
+unfolding effect_of_all
+all_more s line lines = refl
+
+pub all_append : (s : State) (xs ys : List Line) → effect_of_all s (xs ++ ys) ≡ followed_by (effect_of_all s xs) (effect_of_all (effect_of_all s xs).state ys)
+all_append s [] ys = sym (rw (all_none s) (silent_followed s (effect_of_all s ys)))
+all_append s (x ∷ xs) ys =
+    all_more s x (xs ++ ys) ∙ ap (followed_by (effect s x)) (all_append (effect s x).state xs ys)
+    ∙ sym (followed_assoc (effect s x) (effect_of_all (effect s x).state xs) _)
+    ∙ ap (λ (t : Effect). followed_by t (effect_of_all t.state ys)) (sym (all_more s x xs))
+
+-- what was done, and then more
+pub wrote_more : (t u : Effect) (old mid : Session) (a b c : Option (List ℕ)) (i j k : ℕ) → Wrote t old a b i j → Wrote u mid b c j k → Wrote (followed_by t u) mid a c i k
+wrote_more t u old mid a b c i j k x y = record {
+  is_at = y.is_at;
+  written = appends_more a b c t.reply u.reply x.written y.written;
+  least = omega (arith, x.least, y.least);
+  most = omega (arith, x.most, y.most);
+}
+
+pub wrote_nothing : (s : State) (session : Session) (a : Option (List ℕ)) (i : ℕ) → IsAt s session → Wrote (silent s) session a a i i
+wrote_nothing s session a i st = record { is_at = st; written = appends_nothing a; least = omega arith; most = omega arith }
+
+-- a reply that was written
+pub wrote_reply : (t : Effect) (session : Session) (text : List ℕ) (a b : Option (List ℕ)) (i j : ℕ) → Did t session text i j → Appends a b text → Wrote t session a b i j
+wrote_reply t session text a b i j did w = record { is_at = did.is_at; written = subst (Appends a b) did.reply w; least = did.least; most = did.most }
+
+pub some_nothing : (a : Option (List ℕ)) (text : List ℕ) → AppendsSome a a text
+some_nothing None text = (0, tt)
+some_nothing (Some xs) text = (0, sym (append-nil xs))
+
+pub some_after : (a b c : Option (List ℕ)) (xs ys : List ℕ) → Appends a b xs → AppendsSome b c ys → AppendsSome a c (xs ++ ys)
+some_after a b c xs ys p s = (length xs + s.0, rw (take-append-add xs ys s.0) (appends_more a b c xs (take s.0 ys) p s.1))
+
+pub some_more : (a c : Option (List ℕ)) (xs ys : List ℕ) → AppendsSome a c xs → AppendsSome a c (xs ++ ys)
+some_more a c xs ys s = (min s.0 (length xs), let e : take (min s.0 (length xs)) (xs ++ ys) ≡ take s.0 xs = grind (arith, common_steps) in rw e s.1)
