@@ -1,0 +1,7 @@
+pub mod Agreement
+pub mod Clean
+pub mod Firsts
+pub mod Layers
+pub mod Placed
+pub mod Sifted
+pub mod Valid

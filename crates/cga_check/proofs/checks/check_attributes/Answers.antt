@@ -1,0 +1,16 @@
+use Rattle.std.proofs.lemmas.Result.{err_from_is_err_and}
+use Rattle.cga_check.specs.Faults.{attribute_faults}
+use Rattle.cga_check.proofs.Firsts.{after_on, after_stop, after_end}
+use Rattle.cga_check.proofs.checks.check_attributes.Goals as goal
+
+pub loop-i-preserved : goal.loop-i-preserved
+loop-i-preserved c =
+    after_on attribute_faults _ _ c.index-attributes-i.result c.loop-i-test.true c.index-attributes-i.is _ _ (c.in_ok-check_attribute.ensures {u = tt}) c.loop-i.invariant
+
+pub returns-in_err-check_attribute : goal.returns-in_err-check_attribute
+returns-in_err-check_attribute c =
+    let p = err_from_is_err_and c.from_residual.result c.from_residual.ensures.1 in
+    rw (p.1, p.2) (after_stop attribute_faults _ _ c.index-attributes-i.result c.loop-i-test.true c.index-attributes-i.is _ _ (c.in_err-check_attribute.ensures {u = tt}) c.loop-i.invariant)
+
+pub returns : goal.returns
+returns c = after_end attribute_faults _ _ _ _ c.loop-i-test.false c.loop-i.invariant

@@ -1,0 +1,20 @@
+//! Whether a grammar is valid, the rules of a symbol, and what these rules mention.
+//!
+//! It looks at trees and computes nothing: it must not know what a rule does to a shape, nor how a
+//! rule is written. Callers get the order wrong: a grammar is checked as its rules stand in the
+//! list, and the rule that a fault names is the one that comes too late, not the one with the
+//! greater id.
+#![tactic(auto)]
+
+mod checks;
+mod groups;
+pub mod laws;
+mod mentions;
+mod sieve;
+#[cfg(test)]
+mod tests;
+mod usage;
+
+pub use checks::{MOST_ATTRIBUTES, MOST_RULES, check};
+pub use groups::group_of;
+pub use mentions::{mentions_attribute, mentions_target};
