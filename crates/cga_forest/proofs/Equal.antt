@@ -1,7 +1,6 @@
 -- Equal shapes, by the test of each field.
-use Rattle.std.proofs.Common.{◌≡◌, ℕ, ℤ, Bool, true, false, ◌&&◌, ◌+◌, refl, sym, ap, subst, ◌∙◌, nat_eq, pos, List, arith, true≢false, eqb-true, eq-eqb, IsTrue, ◌↔◌}
+use Rattle.std.proofs.Common.{◌≡◌, ℤ, Bool, true, false, ◌&&◌, ◌+◌, refl, sym, ap, subst, ◌∙◌, nat_eq, arith, true≢false, eqb-true, eq-eqb, IsTrue, ◌↔◌}
 use Rattle.std.specs.Ordering.{int_eq}
-use Rattle.std.specs.Bool.{Decides}
 use Rattle.std.proofs.lemmas.Bool.Decides.{Decides-int_eq}
 use lib.Pointwise.{pointwise, pointwise_decides, bytes_decides}
 use denote.Enum.Bare.{sameb}

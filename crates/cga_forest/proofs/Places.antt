@@ -1,8 +1,7 @@
 -- The nodes stand where their shapes say, after each change.
-use Rattle.std.proofs.Common.{◌≡◌, ◌≢◌, ℕ, ◌+◌, List, [], ◌∷◌, ◌++◌, length, Bool, true, false, ◌⊎◌, inl, inr, refl, ap, sym, subst, ◌∙◌, arith, length-append}
-use Rattle.std.specs.Prelude.{Option, Some, None, slice_get, if◌then◌else◌}
+use Rattle.std.proofs.Common.{◌≡◌, ◌≢◌, ℕ, ◌+◌, List, [], ◌∷◌, length, Bool, inl, inr, refl, ap, sym, subst, ◌∙◌, arith, length-append}
+use Rattle.std.specs.Prelude.{Option, Some, None}
 use Rattle.cga_order.specs.Chain as order
-use Rattle.cga_order.specs.World.{is_instance}
 use Rattle.cga_forest.specs.declared.node.Node.{Node}
 use Rattle.cga_forest.specs.declared.node.State.{State}
 use Rattle.cga_forest.specs.Node.{with_state, chain_kept, IsTop, IsBelow}

@@ -2,15 +2,13 @@
 use Rattle.std.proofs.Common.{◌≡◌, ◌≢◌, ◌⊎◌, inl, inr, ℕ, zero, suc, List, [], ◌∷◌, ◌++◌, Bool, true, false, refl, ap, sym, ◌∙◌, nat_eq, eq-eqb}
 use Rattle.std.proofs.lemmas.Bool.{eqb-true}
 use Rattle.std.specs.List.{filter}
-use Rattle.std.specs.Prelude.{Option, Some, None, IfSome, not, slice_get, if◌then◌else◌}
+use Rattle.std.specs.Prelude.{Option, Some, None, not, slice_get, if◌then◌else◌}
 use Rattle.cga_index.specs.Tree.{Member, Apart}
 use Rattle.cga_index.proofs.Askers.{caller_in, caller_out, apart_filter}
 use Rattle.cga_forest.specs.declared.node.Node.{Node}
 use Rattle.cga_forest.specs.View.{Seen}
 use Rattle.cga_forest.specs.Roots.{HasRoots}
-use Rattle.cga_forest.specs.declared.entry.Entry.{Entry}
-use Rattle.cga_forest.specs.Tree.{ForestView, node_at, slot_at, IsTree, IsReplaced, under}
-use Rattle.cga_forest.proofs.Right.{present_some}
+use Rattle.cga_forest.specs.Tree.{IsTree, IsReplaced, under}
 use Rattle.cga_forest.proofs.Count.{bool_cases}
 use Rattle.cga_forest.proofs.Books.{nat_cases}
 use Rattle.cga_forest.proofs.Tree.{cut_some}

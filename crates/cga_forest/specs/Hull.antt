@@ -1,5 +1,5 @@
 -- The hulls of a node: of all at and below it, and of those that ask.
-use Rattle.std.specs.Prelude.{ℕ, zero, suc, List, Option, Some, None, Bool, true, false, ◌&&◌, nat_eq, slice_get, if◌then◌else◌}
+use Rattle.std.specs.Prelude.{ℕ, zero, suc, List, Option, Some, None, Bool, true, false, ◌&&◌, slice_get, if◌then◌else◌}
 use Rattle.cga_frame.specs.Box.{Box, hull, holds}
 use Rattle.cga_forest.specs.declared.node.Node.{Node}
 use Rattle.cga_forest.specs.Node.{bounds}

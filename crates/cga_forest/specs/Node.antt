@@ -1,5 +1,5 @@
 -- Nodes: where they lie, what of them may change, and when an old child stays in the place of a new one.
-use Rattle.std.specs.Prelude.{◌≡◌, ℕ, List, [], ◌∷◌, ◌++◌, Bool, true, false, ◌&&◌, nat_eq, pos}
+use Rattle.std.specs.Prelude.{◌≡◌, ℕ, [], ◌∷◌, ◌++◌, Bool, true, false, ◌&&◌, nat_eq}
 use Rattle.std.specs.Ordering.{int_eq}
 use lib.Pointwise.{pointwise}
 use Rattle.cga_fraction.specs.Rat.{Rat, den}
@@ -8,10 +8,10 @@ use Rattle.cga_frame.specs.Box.{Box, box_of}
 use Rattle.cga_frame.specs.Scope.{Scope}
 use Rattle.cga_frame.specs.declared.point.Point.{Point}
 use Rattle.cga_frame.specs.declared.signed.Signed.{Signed}
-use Rattle.cga_order.specs.Chain.{Chain, IsWhole}
+use Rattle.cga_order.specs.Chain.{Chain}
 use Rattle.cga_order.specs.World.{is_instance}
 use Rattle.cga_order.specs.declared.placed.Kind.{Kind}
-use Rattle.cga_order.specs.declared.placed.Kind.TheVariants.{Waiting, Done, Faulted, Instance}
+use Rattle.cga_order.specs.declared.placed.Kind.TheVariants.{Instance}
 use Rattle.cga_shape.specs.declared.shape.Shape.{Shape}
 use Rattle.cga_shape.specs.declared.shape_fault.ShapeFault.{ShapeFault}
 use Rattle.cga_word.specs.declared.primitive.Primitive.{Primitive}

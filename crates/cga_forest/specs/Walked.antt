@@ -1,6 +1,6 @@
 -- A forest as a tree of boxes.
-use Rattle.std.specs.Prelude.{◌≡◌, ℕ, Option, Some, None, Bool, true, false, cond, nat_eq, pos}
-use Rattle.cga_frame.specs.Box.{Box, is_box}
+use Rattle.std.specs.Prelude.{ℕ, Option, Some, None, Bool, false, pos}
+use Rattle.cga_frame.specs.Box.{Box}
 use Rattle.cga_index.specs.Tree.{TreeView}
 use Rattle.cga_forest.specs.declared.hulls.Hulls.{Hulls}
 use Rattle.cga_forest.specs.Node.{bounds}

@@ -1,4 +1,4 @@
-use Rattle.std.proofs.Common.{◌≡◌, ℕ, length, List, sym, subst, ap, ◌∙◌}
+use Rattle.std.proofs.Common.{◌≡◌, sym, subst, ap, ◌∙◌}
 use Rattle.std.specs.Prelude.{is_some, Some}
 use Rattle.cga_order.specs.Chain as order
 use Rattle.cga_forest.specs.declared.entry.Entry.{Entry}

@@ -1,5 +1,5 @@
 use Rattle.std.proofs.Common.{◌≡◌, ℕ, sym, ap, ◌∙◌, subst, length, arith}
-use Rattle.std.specs.Prelude.{Some, None, not, slice_get, slice_index_or}
+use Rattle.std.specs.Prelude.{Some, None, not, slice_get}
 use Rattle.cga_forest.specs.View.{at, kids}
 use Rattle.cga_forest.specs.Tree.{stay_child, Gathers, IsComing}
 use Rattle.cga_forest.proofs.Gather.{coming_start, coming_more, coming_same, got_at, none_from, some_from}

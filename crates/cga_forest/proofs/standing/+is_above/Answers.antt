@@ -1,6 +1,5 @@
-use Rattle.std.proofs.Common.{◌≡◌, ◌∙◌, ap, sym, refl, arith, rules, ◌||◌, nat_eq, true, false}
+use Rattle.std.proofs.Common.{◌∙◌, sym, arith}
 use Rattle.cga_forest.specs.View.{at, present_of}
-use Rattle.cga_forest.specs.Standing.{is_above, at_parent}
 use Rattle.cga_forest.proofs.Above.{is_above_zero, above_own, above_up, above_none}
 use Rattle.cga_forest.proofs.standing.+is_above.Goals as goal
 

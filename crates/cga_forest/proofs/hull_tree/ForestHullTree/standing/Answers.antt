@@ -1,4 +1,4 @@
-use Rattle.std.proofs.Common.{◌≡◌, ◌∙◌, ap, ℕ}
+use Rattle.std.proofs.Common.{◌∙◌, ap, ℕ}
 use Rattle.cga_forest.specs.Standing.{standing_of}
 use Rattle.cga_forest.specs.Tree.{ForestView, node_at}
 use Rattle.cga_forest.proofs.hull_tree.ForestHullTree.standing.Goals as goal
