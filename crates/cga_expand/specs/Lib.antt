@@ -4,3 +4,5 @@ pub mod Scopes
 pub mod Walk
 pub mod Stops
 pub mod Rules
+pub mod Choices
+pub mod Expand

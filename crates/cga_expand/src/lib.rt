@@ -5,6 +5,8 @@
 //! wrong: a fault comes where it stands in the text, and nothing is emitted then.
 #![tactic(auto)]
 
+mod choice;
+mod choose;
 mod emit;
 mod faults;
 pub mod limits;
@@ -14,5 +16,5 @@ mod scopes;
 mod state;
 mod walk;
 
-pub use rules::expansion;
+pub use rules::expand;
 pub use state::State;
