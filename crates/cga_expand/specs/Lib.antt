@@ -6,3 +6,7 @@ pub mod Stops
 pub mod Rules
 pub mod Choices
 pub mod Expand
+pub mod Asked
+pub mod Children
+pub mod Derivation
+pub mod Validity

@@ -7,6 +7,7 @@
 
 mod choice;
 mod choose;
+pub mod derivations;
 mod emit;
 mod faults;
 pub mod limits;
