@@ -4,3 +4,8 @@ pub mod Scopes
 pub mod Walk
 pub mod Stops
 pub mod Rules
+pub mod Expand
+pub mod Asked
+pub mod Children
+pub mod Derivation
+pub mod Validity

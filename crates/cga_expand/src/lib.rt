@@ -5,6 +5,7 @@
 //! wrong: a fault comes where it stands in the text, and nothing is emitted then.
 #![tactic(auto)]
 
+pub mod derivations;
 mod emit;
 mod faults;
 pub mod limits;
