@@ -1,0 +1,12 @@
+//! Former sources of a city, to go back to and to go on to again.
+//!
+//! It must not know what an edit is, nor whether sources are valid. What callers get wrong: an undo isn't noted, since
+//! it moves the current sources to the future itself.
+#![tactic(auto)]
+
+mod history;
+pub mod limits;
+#[cfg(test)]
+mod tests;
+
+pub use history::History;
