@@ -1,0 +1,4 @@
+mod Groups
+mod Names
+mod Places
+mod Removed

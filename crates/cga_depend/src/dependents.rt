@@ -1,0 +1,144 @@
+ghost use Rattle.std.specs.Prelude.{◌≡◌, ℕ, List, [], ◌∷◌, true, false, None, nat_eq, OnOk, OnErr, if◌then◌else◌};
+ghost use Rattle.std.specs.List.{list_any, IsDistinct};
+ghost use Rattle.std.specs.List.Sorted.{IsPermutation};
+ghost use Rattle.std.specs.Map.{lookup};
+ghost use Rattle.cga_check.specs.Uses.{same_name};
+ghost use Rattle.cga_depend.specs.Mentions.{mentioning};
+ghost use Rattle.cga_depend.specs.Pairs.{nodes_in, symbols_in, under, with_node};
+
+use crate::mentions::mentions_of;
+use crate::nodes::Nodes;
+use cga_fraction::{List, NoMemory};
+use cga_index::NodeId;
+use cga_rule::Grammar;
+use cga_word::Name;
+use indexmap::IndexMap;
+use std::alloc::Global;
+use std::marker::Model;
+
+/// Pairs of a symbol and a node of it, and for each attribute the symbols that mention it.
+#[derive(Drop)]
+pub struct Dependents {
+    nodes: IndexMap<Name, Nodes>,
+    mentions: IndexMap<Name, List<Name>>,
+    alloc: Global,
+}
+
+impl Model for Dependents {
+    ghost use Rattle.cga_depend.specs.Pairs.{DependentsView};
+
+    ghost Value = { DependentsView };
+
+    ghost view = { λ d. record { nodes = d.nodes.entries; mentions = d.mentions.entries } };
+}
+
+impl Dependents {
+    /// Takes no memory.
+    pub fn new(alloc: Global) -> Dependents
+        ensures { result ≡ record { nodes = []; mentions = [] } }
+    {
+        Dependents {
+            nodes: IndexMap::new(alloc),
+            mentions: IndexMap::new(alloc),
+            alloc,
+        }
+    }
+
+    /// Adds a pair, where it isn't there. Takes memory.
+    pub fn add(&mut self, symbol: Name, node: NodeId) -> Result<(), NoMemory>
+        ensures nodes { OnOk result ((s : List ℕ) → nodes_in self.new s ≡ (if same_name symbol s then with_node (nodes_in self.old s) node else nodes_in self.old s)) }
+        ensures mentions { self.new.mentions ≡ self.old.mentions }
+        ensures err { OnErr result (self.new ≡ self.old) }
+    {
+        add_pair(self.alloc, &mut self.nodes, symbol, node)
+    }
+
+    /// Takes a pair out. False, and unchanged, where it isn't there.
+    pub fn remove(&mut self, symbol: Name, node: NodeId) -> bool
+        ensures found { result ≡ list_any (nat_eq node) (nodes_in self.old symbol) }
+        ensures gone { result ≡ true → IsPermutation (nodes_in self.old symbol) (node ∷ nodes_in self.new symbol) }
+        ensures others { (s : List ℕ) → same_name symbol s ≡ false → nodes_in self.new s ≡ nodes_in self.old s }
+        ensures same { result ≡ false → self.new ≡ self.old }
+        ensures mentions { self.new.mentions ≡ self.old.mentions }
+    {
+        take_out(&mut self.nodes, symbol, node)
+    }
+
+    /// Makes the mentions those of a grammar. Takes memory; the time goes by the rules times the attributes, and by the
+    /// square of the rules.
+    pub fn set_mentions(&mut self, grammar: &Grammar) -> Result<(), NoMemory>
+        ensures mentions { OnOk result ((a : List ℕ) → symbols_in self.new a ≡ mentioning grammar.now a) }
+        ensures nodes { self.new.nodes ≡ self.old.nodes }
+        ensures err { OnErr result (self.new ≡ self.old) }
+    {
+        self.mentions = mentions_of(self.alloc, grammar)?;
+        Ok(())
+    }
+
+    /// The nodes of a symbol, each once, in any order.
+    pub fn nodes_of(&self, symbol: Name) -> &[NodeId]
+        ensures nodes { result.now ≡ nodes_in self.now symbol }
+        ensures once { IsDistinct nat_eq result.now }
+    {
+        match self.nodes.get(&symbol) {
+            Some(nodes) => nodes.as_slice(),
+            None => &[],
+        }
+    }
+
+    /// The symbols whose groups mention an attribute, in the order of their first rules.
+    pub fn symbols_of(&self, attribute: Name) -> &[Name]
+        ensures { result.now ≡ symbols_in self.now attribute }
+    {
+        match self.mentions.get(&attribute) {
+            Some(symbols) => symbols.as_slice(),
+            None => &[],
+        }
+    }
+}
+
+/// Adds a node to those of its symbol.
+fn add_pair(
+    alloc: Global,
+    nodes: &mut IndexMap<Name, Nodes>,
+    symbol: Name,
+    node: NodeId,
+) -> Result<(), NoMemory>
+    ensures nodes { OnOk result ((s : List ℕ) → under nodes.new.entries s ≡ (if same_name symbol s then with_node (under nodes.old.entries s) node else under nodes.old.entries s)) }
+    ensures err { OnErr result (nodes.new.entries ≡ nodes.old.entries) }
+{
+    match nodes.get_mut(&symbol) {
+        Some(known) => known.add(node),
+        None => add_first(alloc, nodes, symbol, node),
+    }
+}
+
+/// Adds the first node of a symbol.
+fn add_first(
+    alloc: Global,
+    nodes: &mut IndexMap<Name, Nodes>,
+    symbol: Name,
+    node: NodeId,
+) -> Result<(), NoMemory>
+    requires absent { lookup (same_name symbol) nodes.old.entries ≡ None }
+    ensures nodes { OnOk result ((s : List ℕ) → under nodes.new.entries s ≡ (if same_name symbol s then node ∷ [] else under nodes.old.entries s)) }
+    ensures err { OnErr result (nodes.new.entries ≡ nodes.old.entries) }
+{
+    let mut first = Nodes::new(alloc);
+    first.add(node)?;
+    nodes.insert(symbol, first)?;
+    Ok(())
+}
+
+/// Takes a node out of those of its symbol.
+fn take_out(nodes: &mut IndexMap<Name, Nodes>, symbol: Name, node: NodeId) -> bool
+    ensures found { result ≡ list_any (nat_eq node) (under nodes.old.entries symbol) }
+    ensures gone { result ≡ true → IsPermutation (under nodes.old.entries symbol) (node ∷ under nodes.new.entries symbol) }
+    ensures others { (s : List ℕ) → same_name symbol s ≡ false → under nodes.new.entries s ≡ under nodes.old.entries s }
+    ensures same { result ≡ false → nodes.new.entries ≡ nodes.old.entries }
+{
+    match nodes.get_mut(&symbol) {
+        Some(known) => known.remove(node),
+        None => false,
+    }
+}
