@@ -1,0 +1,5 @@
+pub mod Bare
+pub mod Numbers
+pub mod Digits
+pub mod Plain
+pub mod Says
