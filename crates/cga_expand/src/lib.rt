@@ -15,6 +15,8 @@ mod parts;
 mod rules;
 mod scopes;
 mod state;
+#[cfg(test)]
+mod tests;
 mod walk;
 
 pub use rules::expand;
