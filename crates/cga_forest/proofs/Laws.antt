@@ -16,6 +16,8 @@ use Rattle.cga_forest.specs.View.{Seen, seen, kids}
 use Rattle.cga_forest.proofs.Right.{is_there, present_some, kids_present}
 use Rattle.cga_forest.specs.Tree.{ForestView, IsForest, slot_at, node_at, hulls_at, children_at, children_of}
 use Rattle.cga_forest.specs.Walked.{forest_tree, own_of, asks_of, depth_of, all_of, asking_of}
+use Rattle.cga_forest.specs.Roots.{ids}
+use Rattle.cga_forest.proofs.Names.{at_contains, contains_at, id_named, named_id, ids_once}
 use Rattle.cga_forest.proofs.Tops.{member_at, at_member}
 use Rattle.cga_forest.proofs.Alike.{Every, Asking, Nobody, Probe, probed, opt_holds, alike_probed, over_own, over_child, within}
 use Rattle.cga_forest.proofs.Least.{own_asks, own_none, none_is}
@@ -49,16 +51,29 @@ module _ (v : ForestView) (f : IsForest v) where
   kid : (n c : ℕ) (d : Seen) → node_at v n ≡ Some d → Member (children_at v n) c → (e : Seen) × (node_at v c ≡ Some e) × (e.parent ≡ Some n) × (e.depth ≡ d.depth + 1)
   kid n c d h m = let w = kid_place n c d h m in let r = f.present.tree.down n w.0 c d h w.1 in (r.0, r.1, r.2, r.3)
 
-  parent_cases : (n : ℕ) (d : Seen) → node_at v n ≡ Some d → (o : Option ℕ) → d.parent ≡ o → Member v.roots n ⊎ ((p : ℕ) × There p × Member (children_at v p) n)
-  parent_cases n d h None q = inl (f.tops.all n d h q)
+  parent_cases : (n : ℕ) (d : Seen) → node_at v n ≡ Some d → (o : Option ℕ) → d.parent ≡ o → Member (ids v.roots) n ⊎ ((p : ℕ) × There p × Member (children_at v p) n)
+  parent_cases n d h None q = let w = at_contains v.roots (d.node.shape.lot, n) (f.tops.all n d h q) in inl (named_id v.roots w.0 d.node.shape.lot n w.1)
   parent_cases n d h (Some p) q = let u = f.present.tree.up n p d h q in inr (p, (u.0, u.1), subst (λ (o : Option Seen). Member (children_of o) n) (sym u.1) (member_at u.0.children d.index n u.2))
+
+  root_there : (r : ℕ) → Member (ids v.roots) r → (d : Seen) × (node_at v r ≡ Some d) × (d.parent ≡ None)
+  root_there r m =
+      let k = id_named v.roots r m in
+      let w = f.tops.each k.1 r (contains_at v.roots k.0 (k.1, r) k.2) in (w.0, w.1, w.2)
+
+  named_once : (n m : List ℕ) (c i j : ℕ) → slice_get v.roots i ≡ Some (n, c) → slice_get v.roots j ≡ Some (m, c) → n ≡ m
+  named_once n m c i j p q =
+      let a = f.tops.each n c (contains_at v.roots i (n, c) p) in
+      let b = f.tops.each m c (contains_at v.roots j (m, c) q) in
+      let z : Some a.0 ≡ Some b.0 = sym a.1 ∙ b.1 in
+      let y : a.0 ≡ b.0 = (cc) in
+      sym a.3 ∙ ap (λ (x : Seen). x.node.shape.lot) y ∙ b.3
 
   pub local : IsLocalTree (forest_tree v) There
   local = record {
-    root_present = λ r m. let w = f.tops.each r m in (w.0, w.1);
+    root_present = λ r m. let w = root_there r m in (w.0, w.1);
     child_present = λ n c p m. let w = kid n c p.0 p.1 m in (w.0, w.1);
     placed = λ n p. parent_cases n p.0 p.1 p.0.parent refl;
-    at_root = λ r m. let w = f.tops.each r m in ap depth_of w.1 ∙ f.present.tree.at_root r w.0 w.1 w.2;
+    at_root = λ r m. let w = root_there r m in ap depth_of w.1 ∙ f.present.tree.at_root r w.0 w.1 w.2;
     at_child = λ n c p m. let w = kid n c p.0 p.1 m in let a = ap depth_of w.1 in let b = ap depth_of p.1 in let e = w.3 in omega arith;
     shallow = λ n p. let b = ap depth_of p.1 in let s = f.present.tree.shallow n p.0 p.1 in omega arith;
   }
@@ -132,7 +147,7 @@ module _ (v : ForestView) (f : IsForest v) where
 
   pub keeps_laws : IsHullTree (forest_tree v)
   keeps_laws = record {
-    roots_once = f.tops.once;
+    roots_once = ids_once v.roots f.tops.apart named_once;
     children_once = λ n m. let p = there n m in kids_once n p.0 p.1;
     one_parent = λ a b c ma mb ca cb. let p = there a ma in let q = there b mb in same_parent a b c p.0 q.0 p.1 q.1 ca cb;
     at_root = local.at_root;

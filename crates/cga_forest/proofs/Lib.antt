@@ -19,3 +19,7 @@ pub mod Gather
 pub mod Tops
 pub mod Above
 pub mod Laws
+mod Swaps
+mod Names
+mod Shelf
+mod Lots

@@ -1,5 +1,5 @@
 -- A slot's present and marked node, under each change.
-use Rattle.std.proofs.Common.{◌≡◌, ◌≢◌, ℕ, [], ◌∷◌, ◌++◌, length, nat_eq, Bool, true, false, refl, ap, sym, subst, ◌∙◌, rules, inl, inr, arith}
+use Rattle.std.proofs.Common.{◌≡◌, ◌≢◌, ℕ, List, [], ◌∷◌, ◌++◌, length, nat_eq, Bool, true, false, refl, ap, sym, subst, ◌∙◌, rules, inl, inr, arith}
 use Rattle.std.specs.Prelude.{Option, Some, None, not, if◌then◌else◌}
 use Rattle.cga_forest.specs.declared.entry.Entry.{Entry}
 use Rattle.cga_forest.specs.declared.hulls.Hulls.{Hulls}
@@ -14,8 +14,8 @@ use Rattle.cga_forest.proofs.Books.{nat_cases}
 use Rattle.cga_forest.proofs.Tree.{IsTree-same, IsTree-cut, IsTree-root, cut_some}
 use Rattle.cga_forest.proofs.Walk.{under_into, under_onto, under_same, under_self}
 use Rattle.cga_forest.proofs.Tops.{HasRoots-same, HasRoots-added, HasRoots-cut, under_parent}
-use Rattle.cga_forest.specs.Roots.{HasRoots}
-use Rattle.std.specs.List.{filter}
+use Rattle.cga_forest.specs.Roots.{HasRoots, Named, AreApart}
+use Rattle.std.specs.List.Sorted.{IsPermutation}
 use Rattle.cga_forest.proofs.Right.{AllRight-part, right_exact, right_same, over_zero, kids_present}
 
 pub present_flag : (b : Bool) (s : Option Entry) → present_of (flag_if b s) ≡ (if b then None else present_of s)
@@ -82,8 +82,9 @@ IsWhole-same S T H J t h w = record {
   right = AllRight-part S T H J (λ c e x. sym (t c) ∙ x) h w.tree w.right;
 }
 
-pub IsForest-settled : (old new : ForestView) → ((c : ℕ) → slot_at new c ≡ settled (slot_at old c)) → new.marking ≡ false → IsWhole (node_at old) (hulls_at old) → HasRoots (node_at old) new.roots → IsForest new
-IsForest-settled old new h off whole tops = record {
+pub IsForest-settled : (old new : ForestView) → ((c : ℕ) → slot_at new c ≡ settled (slot_at old c)) → new.marking ≡ false → IsWhole (node_at old) (hulls_at old) → HasRoots (node_at old) new.roots → new.marked_roots ≡ new.roots → IsForest new
+IsForest-settled old new h off whole tops same = record {
+  unmarked = λ _. same;
   tops = HasRoots-same (node_at old) (node_at new) new.roots (λ c. ap present_of (h c) ∙ present_settled (slot_at old c)) tops;
   marked_tops = λ q. absurd (cc);
   present = IsWhole-same (node_at old) (node_at new) (hulls_at old) (hulls_at new) (λ c. ap present_of (h c) ∙ present_settled (slot_at old c)) (λ c e t. ap hulls_of (h c) ∙ hulls_settled (slot_at old c) e t) whole;
@@ -91,8 +92,9 @@ IsForest-settled old new h off whole tops = record {
   plain = λ _ id e t. settled_plain (slot_at old id) e (sym (h id) ∙ t);
 }
 
-pub IsForest-rolled : (old new : ForestView) → ((c : ℕ) → slot_at new c ≡ rolled (slot_at old c)) → new.marking ≡ false → IsWhole (marked_at old) (marked_hulls_at old) → HasRoots (marked_at old) new.roots → IsForest new
-IsForest-rolled old new h off whole tops = record {
+pub IsForest-rolled : (old new : ForestView) → ((c : ℕ) → slot_at new c ≡ rolled (slot_at old c)) → new.marking ≡ false → IsWhole (marked_at old) (marked_hulls_at old) → HasRoots (marked_at old) new.roots → new.marked_roots ≡ new.roots → IsForest new
+IsForest-rolled old new h off whole tops same = record {
+  unmarked = λ _. same;
   tops = HasRoots-same (marked_at old) (node_at new) new.roots (λ c. ap present_of (h c) ∙ present_rolled (slot_at old c)) tops;
   marked_tops = λ q. absurd (cc);
   present = IsWhole-same (marked_at old) (node_at new) (marked_hulls_at old) (hulls_at new) (λ c. ap present_of (h c) ∙ present_rolled (slot_at old c)) (λ c e t. ap hulls_of (h c) ∙ hulls_rolled (slot_at old c)) whole;
@@ -100,17 +102,19 @@ IsForest-rolled old new h off whole tops = record {
   plain = λ _ id e t. rolled_plain (slot_at old id) e (sym (h id) ∙ t);
 }
 
-pub IsForest-begun : (v : ForestView) → v.marking ≡ false → IsForest v → IsForest (record v { marking = true; marked_roots = v.roots })
+pub IsForest-begun : (v : ForestView) → v.marking ≡ false → IsForest v → IsForest (record v { marking = true })
 IsForest-begun v off f = record {
+  unmarked = λ q. absurd (cc);
   present = f.present;
   marked = λ q. IsWhole-same (node_at v) (marked_at v) (hulls_at v) (marked_hulls_at v) (λ c. marked_plain (slot_at v c) (f.plain off c)) (λ c e t. marked_hulls_plain (slot_at v c) (f.plain off c)) f.present;
   tops = f.tops;
-  marked_tops = λ q. HasRoots-same (node_at v) (marked_at v) v.roots (λ c. marked_plain (slot_at v c) (f.plain off c)) f.tops;
+  marked_tops = λ q. HasRoots-same (node_at v) (marked_at v) v.marked_roots (λ c. marked_plain (slot_at v c) (f.plain off c)) (subst (HasRoots (node_at v)) (sym (f.unmarked off)) f.tops);
   plain = λ q. absurd (cc);
 }
 
 pub IsForest-marked : (old new : ForestView) → IsForest old → IsWhole (node_at new) (hulls_at new) → old.marking ≡ true → new.marking ≡ true → ((c : ℕ) → marked_at new c ≡ marked_at old c) → ((c : ℕ) → marked_hulls_at new c ≡ marked_hulls_at old c) → HasRoots (node_at new) new.roots → new.marked_roots ≡ old.marked_roots → IsForest new
 IsForest-marked old new f whole on still same hulls tops kept = record {
+  unmarked = λ q. let z : true ≡ false = sym still ∙ q in absurd (cc);
   tops = tops;
   marked_tops = λ q. rw kept (HasRoots-same (marked_at old) (marked_at new) old.marked_roots same (f.marked_tops on));
   present = whole;
@@ -123,7 +127,7 @@ IsWhole-from S T J t r p s = record { tree = IsTree-same S T t s; places = InPla
 
 -- an entry for a new root comes
 module _ (old new : ForestView) (id : ℕ) (node : Node) (fresh : slot_at old id ≡ None) (made : IsNewEntry (slot_at new id) None node 0 0 old.marking) (others : (c : ℕ) → c ≢ id → slot_at new c ≡ slot_at old c)
-    (top : IsTop node) (m : new.marking ≡ old.marking) (pushed : new.roots ≡ old.roots ++ id ∷ []) (kept : new.marked_roots ≡ old.marked_roots) (f : IsForest old) where
+    (top : IsTop node) (m : new.marking ≡ old.marking) (pushed : new.roots ≡ old.roots ++ (node.shape.lot, id) ∷ []) (one_each : AreApart new.roots) (kept : new.marked_roots ≡ (if old.marking then old.marked_roots else new.roots)) (f : IsForest old) where
   pub added_here : node_at new id ≡ Some (seen made.entry)
   added_here = ap present_of made.here ∙ ap (λ b. if b then None else Some (seen made.entry)) made.shows
 
@@ -166,8 +170,9 @@ module _ (old new : ForestView) (id : ℕ) (node : Node) (fresh : slot_at old id
   pub IsForest-added : IsForest new
   IsForest-added = record {
     present = added_whole;
-    tops = rw pushed (HasRoots-added (node_at old) (node_at new) old.roots f.tops id (seen made.entry) (ap present_of fresh) added_here made.parent (λ c n. ap present_of (others c n)));
-    marked_tops = λ q. let on : old.marking ≡ true = sym m ∙ q in rw kept (HasRoots-same (marked_at old) (marked_at new) old.marked_roots (added_mark on) (f.marked_tops on));
+    tops = subst (HasRoots (node_at new)) (sym pushed) (HasRoots-added (node_at old) (node_at new) old.roots f.tops id node.shape.lot (seen made.entry) (ap present_of fresh) added_here made.parent (ap (λ (n : Node). n.shape.lot) made.node) (λ c n. ap present_of (others c n)) (subst AreApart pushed one_each));
+    unmarked = λ q. kept ∙ ap (λ b. if b then old.marked_roots else new.roots) (sym m ∙ q);
+    marked_tops = λ q. let on : old.marking ≡ true = sym m ∙ q in subst (HasRoots (marked_at new)) (sym (kept ∙ ap (λ b. if b then old.marked_roots else new.roots) on)) (HasRoots-same (marked_at old) (marked_at new) old.marked_roots (added_mark on) (f.marked_tops on));
     marked = λ q. let on : old.marking ≡ true = sym m ∙ q in IsWhole-same (marked_at old) (marked_at new) (marked_hulls_at old) (marked_hulls_at new) (added_mark on) (λ c e t. added_mark_hulls on c) (f.marked on);
     plain = λ q k x t. let off : old.marking ≡ false = sym m ∙ q in elim (nat_cases k id) [
       | inl y ↦ (let z : Some made.entry ≡ Some x = sym made.here ∙ ap (slot_at new) (sym y) ∙ t in let w : made.entry ≡ x = (cc) in
@@ -202,9 +207,9 @@ module _ (old new : ForestView) (id : ℕ) (root : Seen) (is : node_at old id �
   pub marks_kept : (c : ℕ) → marked_at new c ≡ marked_at old c
   marks_kept c = ap marked_of (h c) ∙ marked_flag _ (slot_at old c)
 
-  pub tops_left : HasRoots (node_at new) (filter (λ c. not (nat_eq c id)) old.roots)
-  tops_left = HasRoots-cut (node_at old) (node_at new) old.roots f.tops id (under (λ d. kids (slot_at old d)) 257 id) cut_present (under_self (λ d. kids (slot_at old d)) 257 id (omega arith))
+  pub tops_left : (name : List ℕ) (left : Named) → IsPermutation old.roots ((name, id) ∷ left) → AreApart left → HasRoots (node_at new) left
+  tops_left name left out apart = HasRoots-cut (node_at old) (node_at new) old.roots f.tops id name left out apart (under (λ d. kids (slot_at old d)) 257 id) cut_present (under_self (λ d. kids (slot_at old d)) 257 id (omega arith))
       (λ c d t up g. under_parent (λ d. kids (slot_at old d)) (node_at old) f.present.tree (λ k e w. kids_present (slot_at old k) e w) 257 id c root d is t up g)
 
-  pub IsForest-without_root : old.marking ≡ true → new.marking ≡ true → new.roots ≡ filter (λ c. not (nat_eq c id)) old.roots → new.marked_roots ≡ old.marked_roots → IsForest new
-  IsForest-without_root on still out kept = IsForest-marked old new f without_root on still marks_kept (λ c. ap marked_hulls_of (h c) ∙ marked_hulls_flag _ (slot_at old c)) (rw out tops_left) kept
+  pub IsForest-without_root : old.marking ≡ true → new.marking ≡ true → HasRoots (node_at new) new.roots → new.marked_roots ≡ old.marked_roots → IsForest new
+  IsForest-without_root on still tops kept = IsForest-marked old new f without_root on still marks_kept (λ c. ap marked_hulls_of (h c) ∙ marked_hulls_flag _ (slot_at old c)) tops kept

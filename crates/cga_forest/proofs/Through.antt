@@ -1,11 +1,11 @@
 -- A replacement of nodes that are seen through other slots.
-use Rattle.std.proofs.Common.{◌≡◌, ℕ, Bool, List}
+use Rattle.std.proofs.Common.{refl, ◌≡◌, ℕ, Bool, List}
 use Rattle.std.specs.Prelude.{Option}
 use Rattle.cga_forest.specs.declared.node.Node.{Node}
 use Rattle.cga_forest.specs.declared.node.State.{State}
 use Rattle.cga_forest.specs.View.{Seen}
 use Rattle.cga_forest.specs.Tree.{IsTree, Replaces, ReplacedBy, ListsChanged}
-use Rattle.cga_forest.specs.Roots.{HasRoots}
+use Rattle.cga_forest.specs.Roots.{HasRoots, Named}
 use Rattle.cga_forest.proofs.Tops.{HasRoots-replaced}
 use Rattle.cga_frame.specs.Box.{Box}
 
@@ -30,5 +30,5 @@ ListsChanged-same a b s t list p q r =
     let x : s ≡ a = same_functions s a p in
     let y : t ≡ b = same_functions t b q in rw (x, y) r
 
-pub tops_replaced : (S T : ℕ → Option Seen) (roots : List ℕ) (id : ℕ) (state : State) (news : List Node) (gone : ℕ → Bool) → ReplacedBy S T id state news gone → IsTree S → HasRoots S roots → HasRoots T roots
-tops_replaced S T roots id state news gone r tree tops = HasRoots-replaced S T roots tops id news r.0 _ gone r.2 tree
+pub tops_replaced : (S T : ℕ → Option Seen) (roots : Named) (id : ℕ) (state : State) (news : List Node) (gone : ℕ → Bool) → ReplacedBy S T id state news gone → IsTree S → HasRoots S roots → HasRoots T roots
+tops_replaced S T roots id state news gone r tree tops = HasRoots-replaced S T roots tops id news r.0 _ gone r.2 refl tree

@@ -1,26 +1,91 @@
--- The roots of a forest, as a list.
-use Rattle.std.specs.Prelude.{◌≡◌, ℕ, ◌<◌, ◌≤◌, List, length, Option, Some, None}
-use Rattle.cga_index.specs.Tree.{Member, Apart}
+-- The roots of a forest by the names of their lots, and those at the mark.
+use Rattle.std.specs.Prelude.{◌≡◌, ℕ, ◌<◌, ◌≤◌, ◌+◌, ◌-◌, List, [], ◌∷◌, length, take, map, Option, Some, None}
+use Rattle.std.specs.Bool.{⊤}
+use Rattle.std.specs.List.{swap, IsDistinct, Contains}
+use Rattle.std.specs.Map.{lookup}
+use Rattle.indexmap.specs.IndexMap.{set_value_at}
+use lib.Pointwise.{pointwise}
+use Rattle.std.specs.Prelude.{Bool, nat_eq}
+use Rattle.cga_forest.specs.declared.step.Step.{Step}
+use Rattle.cga_forest.specs.declared.step.Step.TheVariants.{Came, Went}
 use Rattle.cga_forest.specs.View.{Seen}
 
-pub record RootsView : Type 0 where
-  pub list : List ℕ
-  pub former : List ℕ
-  pub cap : ℕ
-  pub former_cap : ℕ
+abbrev pub same_name : List ℕ → List ℕ → Bool
+same_name = pointwise nat_eq
 
--- each list could hold the other
-pub record IsRoots (list former : List ℕ) (cap former_cap : ℕ) : Type 0 where
-  pub room : length list ≤ former_cap
-  pub back : length former ≤ cap
+-- names with their roots
+abbrev pub Named : Type 0
+Named = List (List ℕ × ℕ)
+
+abbrev pub names : Named → List (List ℕ)
+names roots = map (λ p. p.0) roots
+
+abbrev pub ids : Named → List ℕ
+ids roots = map (λ p. p.1) roots
+
+abbrev pub AreApart : Named → Type 0
+AreApart roots = IsDistinct same_name (names roots)
+
+-- the root under a name
+abbrev pub root_under : Named → List ℕ → Option ℕ
+root_under roots name = lookup (same_name name) roots
+
+-- ---- how they are kept: those that are there, and then those that went since the mark
+
+pub record Shelf : Type 0 where
+  pub entries : Named
+  pub shown : ℕ
+
+abbrev pub listed : Shelf → Named
+listed s = take s.shown s.entries
+
+-- a name's former root, or its entry dropped, which is the last one
+abbrev pub put_back : Option ℕ → ℕ → Named → Named
+put_back None place entries = take (length entries - 1) entries
+put_back (Some id) place entries = set_value_at entries place id
+
+-- a step taken back
+abbrev pub undo : Step → Shelf → Shelf
+undo (Came place former) s = record { entries = put_back former place (swap s.entries (s.shown - 1) place); shown = s.shown - 1 }
+undo (Went place) s = record { entries = swap s.entries place s.shown; shown = s.shown + 1 }
+
+-- all taken back, the last one first
+unfoldable pub undone : List Step → Shelf → Shelf
+undone [] s = s
+undone (x ∷ xs) s = undo x (undone xs s)
+
+-- the step can be taken back
+abbrev pub IsUndoable : Step → Shelf → Type 0
+IsUndoable (Came place former) s = (0 < s.shown) × (s.shown ≤ place + 1) × (place < length s.entries) × (former ≡ None → place + 1 ≡ length s.entries)
+IsUndoable (Went place) s = (place ≤ s.shown) × (s.shown < length s.entries)
+
+-- one after the other
+unfoldable pub AreUndoable : List Step → Shelf → Type 0
+AreUndoable [] s = ⊤
+AreUndoable (x ∷ xs) s = IsUndoable x (undone xs s) × AreUndoable xs s
+
+pub record IsRoots (s : Shelf) (steps : List Step) (cap : ℕ) : Type 0 where
+  pub within : s.shown ≤ length s.entries
+  pub ready : AreUndoable steps s
+  -- each root that is there may go with no allocation
+  pub room : s.shown + length steps ≤ cap
+
+pub record RootsView : Type 0 where
+  pub list : Named
+  pub former : Named
+  pub spare : ℕ
+  pub noted : ℕ
+  pub cap : ℕ
 
 -- one more root fits with no allocation
 pub record HasSpace (v : RootsView) : Type 0 where
-  pub here : length v.list < v.cap
-  pub there : length v.list < v.former_cap
+  pub entry : 0 < v.spare
+  pub step : length v.list + v.noted + 2 ≤ v.cap
 
--- the list has each root once
-pub record HasRoots (T : ℕ → Option Seen) (roots : List ℕ) : Type 0 where
-  pub once : Apart roots
-  pub each : (c : ℕ) → Member roots c → (d : Seen) × (T c ≡ Some d) × (d.parent ≡ None)
-  pub all : (c : ℕ) (d : Seen) → T c ≡ Some d → d.parent ≡ None → Member roots c
+-- ---- what a forest has of them
+
+-- the list has each root once, under its lot's name
+pub record HasRoots (T : ℕ → Option Seen) (roots : Named) : Type 0 where
+  pub apart : AreApart roots
+  pub each : (name : List ℕ) (c : ℕ) → Contains roots (name, c) → (d : Seen) × (T c ≡ Some d) × (d.parent ≡ None) × (d.node.shape.lot ≡ name)
+  pub all : (c : ℕ) (d : Seen) → T c ≡ Some d → d.parent ≡ None → Contains roots (d.node.shape.lot, c)

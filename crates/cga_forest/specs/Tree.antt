@@ -11,7 +11,7 @@ use Rattle.cga_forest.specs.Hull.{own_hulls, over, with_hulls, alike}
 use Rattle.cga_word.specs.declared.mode.Mode.{Mode}
 use Rattle.cga_order.specs.Chain as order
 use Rattle.cga_order.specs.World.{is_instance}
-use Rattle.cga_forest.specs.Roots.{HasRoots}
+use Rattle.cga_forest.specs.Roots.{HasRoots, Named}
 use Rattle.cga_forest.specs.View.{Seen, IsPlain, IsNewEntry, slot, present_of, marked_of, hulls_of, marked_hulls_of}
 
 -- c is the node or, at most n levels in all, below it
@@ -55,8 +55,8 @@ pub record IsWhole (T : ℕ → Option Seen) (H : ℕ → Option Hulls) : Type 0
 pub record ForestView : Type 0 where
   pub slots : List (Option Entry)
   pub marking : Bool
-  pub roots : List ℕ
-  pub marked_roots : List ℕ
+  pub roots : Named
+  pub marked_roots : Named
   pub mode : Mode
 
 abbrev pub slot_at : ForestView → ℕ → Option Entry
@@ -79,6 +79,7 @@ pub record IsForest (v : ForestView) : Type 0 where
   pub marked : v.marking ≡ true → IsWhole (marked_at v) (marked_hulls_at v)
   pub tops : HasRoots (node_at v) v.roots
   pub marked_tops : v.marking ≡ true → HasRoots (marked_at v) v.marked_roots
+  pub unmarked : v.marking ≡ false → v.marked_roots ≡ v.roots
   pub plain : v.marking ≡ false → (id : ℕ) (e : Entry) → slot_at v id ≡ Some e → IsPlain e
 
 -- the children of a node that is there
@@ -242,3 +243,15 @@ content_of (Some d) = Some d.node
 abbrev pub above : Option Seen → Option ℕ
 above None = None
 above (Some d) = d.parent
+
+-- the node is the root of the lot of that name
+abbrev pub IsRootOf : (ℕ → Option Seen) → List ℕ → ℕ → Type 0
+IsRootOf T name c = (d : Seen) × (T c ≡ Some d) × (d.parent ≡ None) × (d.node.shape.lot ≡ name)
+
+-- no lot of that name is there
+abbrev pub HasNoLot : ForestView → List ℕ → Type 0
+HasNoLot v name = (c : ℕ) → IsRootOf (node_at v) name c → ⊥
+
+-- a root and all below it are gone, and all else is as before
+abbrev pub IsWithout : ForestView → ForestView → ℕ → Type 0
+IsWithout old new root = (c : ℕ) → node_at new c ≡ (if under (children_at old) 257 root c then None else node_at old c)

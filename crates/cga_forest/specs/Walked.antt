@@ -4,6 +4,7 @@ use Rattle.cga_frame.specs.Box.{Box}
 use Rattle.cga_index.specs.Tree.{TreeView}
 use Rattle.cga_forest.specs.declared.hulls.Hulls.{Hulls}
 use Rattle.cga_forest.specs.Node.{bounds}
+use Rattle.cga_forest.specs.Roots.{ids}
 use Rattle.cga_forest.specs.View.{Seen}
 use Rattle.cga_forest.specs.Standing.{standing_of}
 use Rattle.cga_forest.specs.Tree.{ForestView, node_at, hulls_at, children_at}
@@ -33,7 +34,7 @@ asking_of (Some h) = h.asking
 
 abbrev pub forest_tree : ForestView → TreeView
 forest_tree v = record {
-  roots = v.roots;
+  roots = ids v.roots;
   children = children_at v;
   own = λ n. own_of (node_at v n);
   hull = λ n. all_of (hulls_at v n);

@@ -16,11 +16,11 @@ impl HullTree for Forest {
     ghost view = { λ f. forest_tree f };
 
     fn roots(&self) -> usize {
-        self.roots.as_slice().len()
+        self.roots.len()
     }
 
     fn root(&self, place: usize) -> NodeId {
-        NodeId::new(self.roots.as_slice()[place] as u64)
+        NodeId::new(self.roots.id(place) as u64)
     }
 
     fn children(&self, node: NodeId) -> usize {

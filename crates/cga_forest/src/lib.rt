@@ -13,6 +13,7 @@ mod roots;
 mod same;
 mod slots;
 mod standing;
+mod step;
 mod store;
 
 ghost use Rattle.std.specs.Prelude.{◌≡◌, ◌≢◌, ℕ, true, false, [], Some, None, IfOk, IfSome, IsSome, is_some, option_copied, ◌↔◌, OnOk, OnErr, if◌then◌else◌};
@@ -20,14 +21,15 @@ ghost use Rattle.cga_order.specs.Chain as order;
 ghost use Rattle.cga_order.specs.Seen.{chain_of};
 ghost use Rattle.cga_forest.specs.Node.{chain_kept, IsTop};
 ghost use Rattle.cga_forest.specs.Count.{tally};
-ghost use Rattle.cga_forest.specs.View.{Seen, is_shown};
-ghost use Rattle.cga_forest.specs.Tree.{ForestView, HasInner, content_of, above, slot_at, ListsChanged, IsLeastHull, IsLeastAsking, NoneAsks, Replaces, node_at, marked_at, under, children_at, KeepsMark};
+ghost use Rattle.cga_forest.specs.View.{is_shown};
+ghost use Rattle.cga_forest.specs.Tree.{ForestView, HasInner, HasNoLot, IsRootOf, IsWithout, content_of, above, slot_at, ListsChanged, IsLeastHull, IsLeastAsking, NoneAsks, Replaces, node_at, marked_at, KeepsMark};
 
 use boxes::changed_boxes;
 use cga_fraction::NoMemory;
 use cga_frame::WorldBox;
+use cga_index::NodeId;
 use cga_order::Chain;
-use cga_word::Mode;
+use cga_word::{Mode, Name};
 pub use node::{Node, State};
 use roots::Roots;
 use slots::{depth_of, parent_at, replace, set_aside};
@@ -75,10 +77,11 @@ impl Forest {
         self.store.shown()
     }
 
-    pub fn node(&self, id: usize) -> Option<&Node>
+    /// None exactly where there is none.
+    pub fn node(&self, id: NodeId) -> Option<&Node>
         ensures { option_copied result ≡ content_of (node_at self.now id) }
     {
-        match self.store.get(id) {
+        match self.store.get(slot_of(id)) {
             Some(entry) => { if entry.aside { None } else { Some(&entry.node) } }
             None => None,
         }
@@ -92,63 +95,91 @@ impl Forest {
     }
 
     /// Where a node stands, with the priorities kept on the way there.
-    pub fn chain(&self, id: usize) -> Chain<'_>
+    pub fn chain(&self, id: NodeId) -> Chain<'_>
         requires here { IsSome (node_at self.now id) }
         ensures value { IfSome (node_at self.now id) (λ d. chain_of result ≡ chain_kept d.node) }
         ensures whole { order.IsWhole (chain_of result) }
     {
-        self.store.entry(id).node.chain()
+        self.store.entry(slot_of(id)).node.chain()
     }
 
-    pub fn parent(&self, id: usize) -> Option<usize>
-        requires here { (e : Seen) × (node_at self.now id ≡ Some e) }
+    /// None exactly for a root.
+    pub fn parent(&self, id: NodeId) -> Option<NodeId>
+        requires here { IsSome (node_at self.now id) }
         ensures { result ≡ above (node_at self.now id) }
     {
-        parent_at(&self.store, id)
+        match parent_at(&self.store, slot_of(id)) {
+            Some(parent) => Some(NodeId::new(parent as u64)),
+            None => None,
+        }
+    }
+
+    /// The root of the lot of that name. None exactly where no such lot is there. It is found without a walk.
+    pub fn root_of(&self, name: Name) -> Option<NodeId>
+        ensures { (c : ℕ) → (result ≡ Some c) ↔ IsRootOf (node_at self.now) name c }
+    {
+        match self.roots.find(name) {
+            Some(root) => Some(NodeId::new(root as u64)),
+            None => None,
+        }
     }
 
     /// The least box that holds the boxes of a node and of all below it.
-    pub fn hull(&self, id: usize) -> WorldBox
+    pub fn hull(&self, id: NodeId) -> WorldBox
         requires here { IsSome (node_at self.now id) }
         ensures least { IsLeastHull self.now id result }
     {
-        self.store.entry(id).hulls.all
+        self.store.entry(slot_of(id)).hulls.all
     }
 
     /// The same for those of them that ask, if any does.
-    pub fn asking_hull(&self, id: usize) -> Option<WorldBox>
+    pub fn asking_hull(&self, id: NodeId) -> Option<WorldBox>
         requires here { IsSome (node_at self.now id) }
         ensures least { IfSome result (λ h. IsLeastAsking self.now id h) }
         ensures none { (result ≡ None) ↔ NoneAsks self.now id }
     {
-        self.store.entry(id).hulls.asking
+        self.store.entry(slot_of(id)).hulls.asking
     }
 
-    pub fn add_root(&mut self, node: Node) -> Result<usize, NoMemory>
+    /// Adds a root, of a lot that isn't there.
+    fn add_root(&mut self, node: Node) -> Result<usize, NoMemory>
         requires top { IsTop node }
+        requires new { HasNoLot self.old node.shape.lot }
         ensures fresh { IfOk result (λ id. node_at self.old id ≡ None) }
         ensures unmarked { IfOk result (λ id. marked_at self.old id ≡ None) }
         ensures node { IfOk result (λ id. node_at self.new id ≡ Some (record { node = node; depth = 0; parent = None; index = 0; children = [] })) }
         ensures others { IfOk result (λ id. (other : ℕ) → other ≢ id → node_at self.new other ≡ node_at self.old other) }
         ensures mark { KeepsMark self.old self.new }
+        ensures mode { self.new.mode ≡ self.old.mode }
         ensures err { OnErr result (self.new ≡ self.old) }
     {
+        let (alloc, marking, name) = (self.alloc, self.marking, node.lot());
         self.store.reserve(1)?;
         self.roots.reserve()?;
-        let id = self.store.add(self.alloc, self.marking, node, 0, None, 0);
-        self.roots.push(id);
+        let id = self.store.add(alloc, marking, node, 0, None, 0);
+        self.roots.push(name, id);
+        self.roots.settle_unless(marking);
         Ok(id)
     }
 
-    pub fn remove_root(&mut self, id: usize)
-        requires root { (e : Seen) × (node_at self.old id ≡ Some e) × (e.parent ≡ None) }
-        ensures gone { (c : ℕ) → node_at self.new c ≡ (if under (children_at self.old) 257 id c then None else node_at self.old c) }
+    /// Takes the nodes of the lot of that name away. False exactly where no such lot is there.
+    pub fn remove_lot(&mut self, name: Name) -> bool
+        ensures absent { result ≡ false → HasNoLot self.old name }
+        ensures same { result ≡ false → self.new ≡ self.old }
+        ensures there { result ≡ true → (root : ℕ) × IsRootOf (node_at self.old) name root × IsWithout self.old self.new root }
         ensures mark { KeepsMark self.old self.new }
+        ensures mode { self.new.mode ≡ self.old.mode }
     {
-        set_aside(&mut self.store, id, 257);
-        self.roots.take_out(id);
-        if !self.marking {
-            self.store.settle();
+        match self.roots.take_out(name) {
+            Some(root) => {
+                self.roots.settle_unless(self.marking);
+                set_aside(&mut self.store, root, 257);
+                if !self.marking {
+                    self.store.settle();
+                }
+                true
+            }
+            None => false,
         }
     }
 
@@ -192,7 +223,6 @@ impl Forest {
         ensures present { (c : ℕ) → node_at self.new c ≡ node_at self.old c }
         ensures marked { (c : ℕ) → marked_at self.new c ≡ node_at self.old c }
     {
-        self.roots.begin();
         self.marking = true;
     }
 
@@ -203,6 +233,7 @@ impl Forest {
         ensures dropped { (c : ℕ) → is_some (slot_at self.new c) ≡ is_some (node_at self.new c) }
     {
         self.store.settle();
+        self.roots.settle();
         self.marking = false;
     }
 
@@ -215,4 +246,11 @@ impl Forest {
         self.roots.roll_back();
         self.marking = false;
     }
+}
+
+/// The slot that an id names.
+fn slot_of(id: NodeId) -> usize
+    ensures { result ≡ id }
+{
+    id.number() as usize
 }

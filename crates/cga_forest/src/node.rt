@@ -7,6 +7,7 @@ use cga_fraction::List;
 use cga_frame::WorldBox;
 use cga_order::Chain;
 use cga_shape::{Answers, Kind, Shape};
+use cga_word::Name;
 
 /// A shape that the forest keeps, and what is known of it.
 #[derive(Drop, Debug)]
@@ -31,6 +32,12 @@ pub struct State {
 }
 
 impl Node {
+    pub fn lot(&self) -> Name
+        ensures { result ≡ self.now.shape.lot }
+    {
+        self.shape.lot
+    }
+
     #[tactic(auto, unfolding(crate::specs::Node::bounds))]
     pub fn bounds(&self) -> WorldBox
         ensures { result ≡ bounds self.now }

@@ -1,27 +1,34 @@
-ghost use Rattle.std.specs.Prelude.{◌≡◌, ◌<◌, ◌+◌, ◌≤◌, ◌++◌, length, [], ◌∷◌, OnOk, not, nat_eq};
-ghost use Rattle.std.specs.List.{filter};
-ghost use Rattle.cga_forest.specs.Roots.{RootsView, HasSpace};
+ghost use Rattle.std.specs.Prelude.{◌≡◌, ◌<◌, ◌+◌, ◌++◌, [], ◌∷◌, length, slice_get, None, Some, OnOk, IfSome, IfNone, if◌then◌else◌};
+ghost use Rattle.std.specs.Option.{option_map};
+ghost use Rattle.std.specs.List.Sorted.{IsPermutation};
+ghost use Rattle.cga_forest.specs.Roots.{RootsView, HasSpace, AreApart, AreUndoable, IsUndoable, ids, put_back, root_under, undo, undone};
 
+use crate::step::Step;
 use cga_fraction::NoMemory;
+use cga_word::Name;
+use indexmap::IndexMap;
 use std::alloc::Global;
 use std::marker::Model;
 
-/// The roots, and those at the mark.
+/// The roots by the names of their lots. Those that went since the mark stand behind those that are there, and the steps
+/// since then are noted, so that the way back takes no memory and only as long as these steps.
 #[derive(Drop)]
 pub struct Roots {
-    list: Vec<usize>,
-    former: Vec<usize>,
+    map: IndexMap<Name, usize>,
+    shown: usize,
+    steps: Vec<Step>,
 }
 
 impl Model for Roots {
-    ghost use Rattle.std.specs.Prelude.{◌≤◌, length};
-    ghost use Rattle.cga_forest.specs.Roots.{RootsView, IsRoots};
+    ghost use Rattle.std.specs.Prelude.{length};
+    ghost use Rattle.indexmap.specs.IndexMap.{spare};
+    ghost use Rattle.cga_forest.specs.Roots.{RootsView, IsRoots, listed, undone};
 
     ghost Value = { RootsView };
 
-    ghost view = { λ r. record { list = r.list.items; former = r.former.items; cap = r.list.cap; former_cap = r.former.cap } };
+    ghost view = { λ r. record { list = listed (record { entries = r.map.entries; shown = r.shown }); former = listed (undone r.steps.items (record { entries = r.map.entries; shown = r.shown })); spare = spare r.map; noted = length r.steps.items; cap = r.steps.cap } };
 
-    ghost invariant = { λ r. IsRoots r.list.items r.former.items r.list.cap r.former.cap };
+    ghost invariant = { λ r. IsRoots (record { entries = r.map.entries; shown = r.shown }) r.steps.items r.steps.cap };
 }
 
 impl Roots {
@@ -30,15 +37,48 @@ impl Roots {
         ensures former { result.former ≡ [] }
     {
         Roots {
-            list: Vec::new(alloc),
-            former: Vec::new(alloc),
+            map: IndexMap::new(alloc),
+            shown: 0,
+            steps: Vec::new(alloc),
         }
     }
 
-    pub fn as_slice(&self) -> &[usize]
-        ensures { result.now ≡ self.now.list }
+    pub fn len(&self) -> usize
+        ensures { result ≡ length self.now.list }
     {
-        self.list.as_slice()
+        self.shown
+    }
+
+    pub fn id(&self, place: usize) -> usize
+        requires { place < length self.now.list }
+        ensures { slice_get (ids self.now.list) place ≡ Some result }
+    {
+        self.map[place]
+    }
+
+    /// The place of a name's root, and that root.
+    fn place_of(&self, name: Name) -> Option<(usize, usize)>
+        ensures root { option_map (λ p. p.1) result ≡ root_under self.now.list name }
+        ensures place { IfSome result (λ p. slice_get self.now.list p.0 ≡ Some (name, p.1)) }
+    {
+        let _entries = self.map.len();
+        match self.map.get_full(&name) {
+            Some((place, _, id)) => {
+                if place < self.shown {
+                    Some((place, *id))
+                } else {
+                    None
+                }
+            }
+            None => None,
+        }
+    }
+
+    pub fn find(&self, name: Name) -> Option<usize>
+        ensures { result ≡ root_under self.now.list name }
+    {
+        let (_, id) = self.place_of(name)?;
+        Some(id)
     }
 
     /// Makes room for one more root.
@@ -47,48 +87,134 @@ impl Roots {
         ensures former { self.new.former ≡ self.old.former }
         ensures space { OnOk result (HasSpace self.new) }
     {
-        self.list.reserve(1)?;
-        let wanted = (self.list.len() + 1).saturating_sub(self.former.len());
-        self.former.reserve(wanted)?;
+        self.map.reserve(1)?;
+        self.steps.reserve(self.shown + 2)?;
         Ok(())
     }
 
-    pub fn push(&mut self, id: usize)
+    pub fn push(&mut self, name: Name, id: usize)
         requires space { HasSpace self.old }
-        ensures list { self.new.list ≡ self.old.list ++ id ∷ [] }
+        requires absent { root_under self.old.list name ≡ None }
+        ensures list { self.new.list ≡ self.old.list ++ (name, id) ∷ [] }
         ensures former { self.new.former ≡ self.old.former }
+        ensures apart { AreApart self.new.list }
     {
-        self.list.push_reserved(id);
+        let _entries = self.map.len();
+        let (place, former) = self.map.insert_full(name, id).unwrap();
+        self.map.swap_indices(self.shown, place);
+        self.shown += 1;
+        self.steps.push_reserved(Step::Came { place, former });
     }
 
-    pub fn take_out(&mut self, id: usize)
-        ensures list { self.new.list ≡ filter (λ r. not (nat_eq r id)) self.old.list }
+    /// Takes a name's root out, and answers it.
+    pub fn take_out(&mut self, name: Name) -> Option<usize>
+        ensures root { result ≡ root_under self.old.list name }
+        ensures gone { IfSome result (λ c. IsPermutation self.old.list ((name, c) ∷ self.new.list)) }
+        ensures same { IfNone result (self.new ≡ self.old) }
         ensures former { self.new.former ≡ self.old.former }
+        ensures apart { AreApart self.new.list }
     {
-        self.list.retain(|root| *root != id);
+        let _entries = self.map.len();
+        match self.place_of(name) {
+            Some((place, id)) => {
+                self.shown -= 1;
+                self.map.swap_indices(place, self.shown);
+                self.steps.push_reserved(Step::Went { place });
+                Some(id)
+            }
+            None => None,
+        }
     }
 
-    pub fn begin(&mut self)
+    /// Drops those that went, and the way back.
+    pub fn settle(&mut self)
         ensures list { self.new.list ≡ self.old.list }
         ensures former { self.new.former ≡ self.old.list }
     {
-        copy_list(self.list.as_slice(), &mut self.former);
+        self.map.truncate(self.shown);
+        self.steps.clear();
     }
 
+    /// The same where no mark stands.
+    pub fn settle_unless(&mut self, marking: bool)
+        ensures list { self.new.list ≡ self.old.list }
+        ensures former { self.new.former ≡ (if marking then self.old.former else self.old.list) }
+    {
+        if !marking {
+            self.settle();
+        }
+    }
+
+    /// Goes back to the mark.
     pub fn roll_back(&mut self)
         ensures list { self.new.list ≡ self.old.former }
         ensures former { self.new.former ≡ self.old.former }
+        ensures apart { AreApart self.new.list }
     {
-        copy_list(self.former.as_slice(), &mut self.list);
+        self.shown = take_back_all(&mut self.map, self.shown, &mut self.steps);
+        let _entries = self.map.len();
     }
 }
 
-/// Makes a list another one's copy. The room is there.
-fn copy_list(from: &[usize], to: &mut Vec<usize>)
-    requires room { length from.now ≤ to.old.cap }
-    ensures items { to.new.items ≡ from.now }
-    ensures capacity { to.old.cap ≤ to.new.cap }
+/// Takes a step back. Answers how many roots are there then.
+fn take_back(map: &mut IndexMap<Name, usize>, shown: usize, step: Step) -> usize
+    requires { IsUndoable step (record { entries = map.old.entries; shown = shown }) }
+    ensures { undo step (record { entries = map.old.entries; shown = shown }) ≡ record { entries = map.new.entries; shown = result } }
 {
-    to.clear();
-    let _copied = to.extend_from_slice(from);
+    let _entries = map.len();
+    match step {
+        Step::Came { place, former } => {
+            map.swap_indices(shown - 1, place);
+            put_back(map, place, former);
+            shown - 1
+        }
+        Step::Went { place } => {
+            map.swap_indices(place, shown);
+            shown + 1
+        }
+    }
+}
+
+/// Puts a name's former root back, or drops its entry, which is the last one.
+fn put_back(map: &mut IndexMap<Name, usize>, place: usize, former: Option<usize>)
+    requires { place < length map.old.entries }
+    ensures { map.new.entries ≡ put_back former place map.old.entries }
+{
+    match former {
+        Some(id) => {
+            map[place] = id;
+        }
+        None => {
+            map.pop();
+        }
+    }
+}
+
+/// Takes the last step back. Answers how many roots are there then.
+fn take_last_back(map: &mut IndexMap<Name, usize>, shown: usize, steps: &mut Vec<Step>) -> usize
+    requires some { 0 < length steps.old.items }
+    requires ready { AreUndoable steps.old.items (record { entries = map.old.entries; shown = shown }) }
+    ensures shelf { undone steps.new.items (record { entries = map.new.entries; shown = result }) ≡ undone steps.old.items (record { entries = map.old.entries; shown = shown }) }
+    ensures ready { AreUndoable steps.new.items (record { entries = map.new.entries; shown = result }) }
+    ensures fewer { length steps.new.items + 1 ≡ length steps.old.items }
+    ensures cap { steps.new.cap ≡ steps.old.cap }
+{
+    match steps.pop() {
+        Some(step) => take_back(map, shown, step),
+        None => shown,
+    }
+}
+
+/// Takes all steps back, the last one first. Answers how many roots are there then.
+fn take_back_all(map: &mut IndexMap<Name, usize>, shown: usize, steps: &mut Vec<Step>) -> usize
+    requires { AreUndoable steps.old.items (record { entries = map.old.entries; shown = shown }) }
+    ensures shelf { undone steps.old.items (record { entries = map.old.entries; shown = shown }) ≡ record { entries = map.new.entries; shown = result } }
+    ensures steps { steps.new.items ≡ [] }
+    ensures cap { steps.new.cap ≡ steps.old.cap }
+{
+    let mut shown = shown;
+    for _ in 0..steps.len() {
+        shown = take_last_back(map, shown, steps);
+    }
+    shown
 }

@@ -19,7 +19,7 @@ pub invariant_of-self-then-not-self : goal.invariant_of-self-then-not-self
 invariant_of-self-then-not-self c = IsForest-settled (record { slots = c.replace.new.store.slots; marking = c.self.inside.marking; roots = c.self.inside.roots.list; marked_roots = c.self.inside.roots.former; mode = c.self.inside.mode }) _ (λ k. c.settle.ensures k) c.if-not-self.true c.replace.ensures.whole
     (tops_replaced (λ k. present_of (at c.reserve.new.self k)) (λ k. present_of (at c.replace.new.store k)) c.self.inside.roots.list c.args.id c.args.state c.args.news.items _ c.replace.ensures.replaced
     (IsTree-same (node_at (record { slots = c.self.inside.store.slots; marking = c.self.inside.marking; roots = c.self.inside.roots.list; marked_roots = c.self.inside.roots.former; mode = c.self.inside.mode })) (λ k. present_of (at c.reserve.new.self k)) (λ k. ap (λ (s : List (Option Entry)). present_of (slot s k)) c.in_ok-reserve.ensures.slots) c.self.invariant.present.tree)
-    (HasRoots-same (node_at (record { slots = c.self.inside.store.slots; marking = c.self.inside.marking; roots = c.self.inside.roots.list; marked_roots = c.self.inside.roots.former; mode = c.self.inside.mode })) (λ k. present_of (at c.reserve.new.self k)) c.self.inside.roots.list (λ k. ap (λ (s : List (Option Entry)). present_of (slot s k)) c.in_ok-reserve.ensures.slots) c.self.invariant.tops))
+    (HasRoots-same (node_at (record { slots = c.self.inside.store.slots; marking = c.self.inside.marking; roots = c.self.inside.roots.list; marked_roots = c.self.inside.roots.former; mode = c.self.inside.mode })) (λ k. present_of (at c.reserve.new.self k)) c.self.inside.roots.list (λ k. ap (λ (s : List (Option Entry)). present_of (slot s k)) c.in_ok-reserve.ensures.slots) c.self.invariant.tops)) (c.self.invariant.unmarked c.if-not-self.true)
 
 pub invariant_of-self-else-not-self : goal.invariant_of-self-else-not-self
 invariant_of-self-else-not-self c = IsForest-marked (record { slots = c.self.inside.store.slots; marking = c.self.inside.marking; roots = c.self.inside.roots.list; marked_roots = c.self.inside.roots.former; mode = c.self.inside.mode }) _ c.self.invariant c.replace.ensures.whole c.if-not-self.false c.if-not-self.false
