@@ -36,6 +36,7 @@ pub fn derive<E: Ledger, T: Ledger>(
         RisesIn (derivation_of sources.now) list (expanded (derivation_of sources.now) budget))) }
     ensures expansions { IfOk result (λ answer. IfOk answer (λ list.
         expansions.new ≡ expansions.old + expanded_count list)) }
+    ensures counted { expansions.old ≤ expansions.new }
     ensures most { expansions.new ≤ expansions.old + budget }
     ensures tests { tests.new ≡ tests.old }
 {

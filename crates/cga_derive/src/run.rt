@@ -122,6 +122,7 @@ impl Run {
             → IsAfter sources.now (suc n) self.new.list.items self.new.waiting.entries) }
         ensures read { OnOk result (IsRead sources.now.grammar self.new.symbols.read) }
         ensures ticks { OnOk result (expansions.new ≡ expansions.old + 1) }
+        ensures counted { expansions.old ≤ expansions.new }
         ensures most { expansions.new ≤ expansions.old + 1 }
     {
         let own = self.list[place].shape.symbol;

@@ -74,3 +74,6 @@ returns-clause-order g c = stands c.args.sources.now c.requires.names c.args.bud
 
 pub returns-clause-rises : goal.returns-clause-rises
 returns-clause-rises g c = rises_to c.args.sources.now c.requires.names c.args.budget c.into_list-2.result (returns-clause-value g c)
+
+pub returns-in_err-turn-clause-counted : goal.returns-in_err-turn-clause-counted
+returns-in_err-turn-clause-counted g c = omega (arith, c.turns.invariant.count, c.in_err-turn.ensures.counted)
