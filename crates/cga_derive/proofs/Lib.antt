@@ -5,4 +5,3 @@ pub mod Placing
 pub mod PlaceAll
 pub mod Working
 pub mod Starting
-pub mod TwoLots
