@@ -4,6 +4,7 @@ pub mod Scopes
 pub mod Walk
 pub mod Stops
 pub mod Rules
+pub mod Choices
 pub mod Expand
 pub mod Asked
 pub mod Children

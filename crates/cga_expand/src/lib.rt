@@ -5,6 +5,8 @@
 //! wrong: a fault comes where it stands in the text, and nothing is emitted then.
 #![tactic(auto)]
 
+mod choice;
+mod choose;
 pub mod derivations;
 mod emit;
 mod faults;
@@ -15,5 +17,5 @@ mod scopes;
 mod state;
 mod walk;
 
-pub use rules::expansion;
+pub use rules::expand;
 pub use state::State;
