@@ -76,7 +76,7 @@ fn place_in(fault: LineFault) -> Option<u32>
 }
 
 // A place, where there is one, behind some bytes.
-fn push_line(text: &mut Text, fault: LineFault) -> Result<(), NoMemory>
+pub(crate) fn push_line(text: &mut Text, fault: LineFault) -> Result<(), NoMemory>
     ensures { OnOk result (text.new ≡ text.old ++ spec.line_text fault) }
 {
     text.push(line_code(fault))?;
