@@ -10,6 +10,7 @@ mod choose;
 pub mod derivations;
 mod emit;
 mod faults;
+pub mod laws;
 pub mod limits;
 mod parts;
 mod rules;
