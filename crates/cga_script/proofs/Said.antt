@@ -70,3 +70,37 @@ rule_lines (l ∷ lines) (Some (line.Block b) ∷ all) h = let r = rule_lines li
 rule_lines (l ∷ lines) (Some (line.Order m) ∷ all) h = let r = rule_lines lines all h.1 in (blank ∷ r.0, (blank_says, r.1))
 rule_lines (l ∷ lines) (Some (line.Lot x) ∷ all) h = let r = rule_lines lines all h.1 in (blank ∷ r.0, (blank_says, r.1))
 rule_lines (l ∷ lines) (None ∷ all) h = let r = rule_lines lines all h.1 in (blank ∷ r.0, (blank_says, r.1))
+
+-- ---- the tokens of a line that says a member
+
+module _ {A : Type 0} (v : A → Pieces) (a : A) where
+  by_lexed : (bytes : List ℕ) (o : Lexed) → tokens_of bytes ≡ o → unless_blank v (length bytes + 1) o (Ok (Some a)) → (ts : List Token) × (tokens_of bytes ≡ Ok ts) × Tells v 32 (map seen ts) (Ok a)
+  by_lexed bytes (Err f) e h = absurd (cc)
+  by_lexed bytes (Ok []) e h = absurd (let q : Some a ≡ None = cc in cc)
+  by_lexed bytes (Ok (t ∷ ts)) e h = (t ∷ ts, e, line_tells v a (length bytes + 1) (t ∷ ts) h.0 h.1 h.2)
+
+  by_long : (bytes : List ℕ) (long : Bool) → unless_long v bytes long (Ok (Some a)) → (ts : List Token) × (tokens_of bytes ≡ Ok ts) × Tells v 32 (map seen ts) (Ok a)
+  by_long bytes true h = absurd (cc)
+  by_long bytes false h = by_lexed bytes (tokens_of bytes) refl h
+
+  pub line_says : (l : Line) → BlockTells v l (Ok (Some a)) → (ts : List Token) × (tokens_of l.bytes ≡ Ok ts) × Tells v 32 (map seen ts) (Ok a)
+  line_says l h = by_long l.bytes (is_long l) h
+
+-- ---- blank lines
+
+module _ {A B : Type 0} (v : A → Pieces) (w : B → Pieces) where
+  no_member : (found : Result A LineFault) → ◌≡◌ {A = Found A} (Ok None) (as_line found) → ⊥
+  no_member (Ok said) e = absurd (cc)
+  no_member (Err f) e = absurd (cc)
+
+  blank_by : (end : ℕ) (o : Lexed) → unless_blank v end o (Ok None) → unless_blank w end o (Ok None)
+  blank_by end (Err f) h = absurd (cc)
+  blank_by end (Ok []) h = refl
+  blank_by end (Ok (t ∷ ts)) h = absurd (no_member h.0 h.2)
+
+  blank_long : (bytes : List ℕ) (long : Bool) → unless_long v bytes long (Ok None) → unless_long w bytes long (Ok None)
+  blank_long bytes true h = absurd (cc)
+  blank_long bytes false h = blank_by (length bytes + 1) (tokens_of bytes) h
+
+  pub blank_alike : (l : Line) → BlockTells v l (Ok None) → BlockTells w l (Ok None)
+  blank_alike l h = blank_long l.bytes (is_long l) h

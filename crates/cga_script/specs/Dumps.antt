@@ -1,5 +1,6 @@
 -- The text of a dump, and where there is none.
 use Rattle.std.specs.Prelude.{ℕ, ◌^◌, ◌∷◌, List, [], ◌++◌, length, nat_lt, flat_map, Option, Some, None, Result, Ok, Err, codes, decimal, if◌then◌else◌}
+use Rattle.cga_fraction.specs.Rat.{Rat}
 use Rattle.cga_fraction.specs.Texts.{exact_text_of}
 use Rattle.cga_rule.specs.declared.grammar.Entry.{Entry}
 use Rattle.cga_rule.specs.declared.grammar.Grammar.{Grammar}
@@ -24,11 +25,19 @@ rule_text r = text_of (printed (rule_pieces r))
 abbrev pub order_text : Mode → List ℕ
 order_text m = codes "order " ++ mode_word m
 
--- name, seed, the four values exactly, and the symbol
+-- a value, exactly
+abbrev pub value_text : Rat → List ℕ
+value_text v = codes " " ++ exact_text_of v
+
+abbrev pub lot_head : Lot → List ℕ
+lot_head l = codes "lot " ++ (l.name ++ (codes " " ++ decimal l.seed))
+
+abbrev pub ground_text : Lot → List ℕ
+ground_text l = value_text l.x ++ (value_text l.z ++ (value_text l.width ++ value_text l.depth))
+
+-- name, seed, the four values and the symbol
 abbrev pub lot_text : Lot → List ℕ
-lot_text l =
-    codes "lot " ++ l.name ++ codes " " ++ decimal l.seed ++ codes " " ++ exact_text_of l.x ++ codes " " ++ exact_text_of l.z ++ codes " " ++ exact_text_of l.width
-    ++ codes " " ++ exact_text_of l.depth ++ codes " " ++ l.symbol
+lot_text l = lot_head l ++ (ground_text l ++ (codes " " ++ l.symbol))
 
 unfoldable pub lot_line : Lot → List ℕ
 lot_line l = line (lot_text l)
@@ -39,7 +48,7 @@ grammar_lines g = attribute_lines g.attributes ++ each_from (section_at g.rules)
 
 unfoldable pub dump_text_of : Sources → List ℕ
 dump_text_of s =
-    codes "version 2\ncity\n" ++ line (order_text s.mode) ++ grammar_lines s.grammar ++ flat_map lot_line s.lots ++ codes "end\n"
+    codes "version 2\ncity\n" ++ (line (order_text s.mode) ++ (grammar_lines s.grammar ++ (flat_map lot_line s.lots ++ codes "end\n")))
 
 -- ---- rules that are too long for a line
 

@@ -1,7 +1,6 @@
 //! The sources as a script of version 2.
 ghost use Rattle.std.specs.Prelude.{◌≡◌, ◌≤◌, ◌++◌, List, ℕ, IfOk, OnOk, codes, flat_map, length, nat_lt};
 ghost use Rattle.cga_form.specs.Limits.{line_limit};
-ghost use Rattle.cga_fraction.specs.Texts.{exact_text_of};
 ghost use Rattle.cga_script.specs.Dumps as spec;
 ghost use Rattle.cga_script.specs.Orders.{mode_word};
 ghost use Rattle.cga_syntax.specs.GrammarText.{ArePrintable, line};
@@ -51,24 +50,36 @@ fn push_grammar(alloc: Global, text: &mut Text, grammar: &Grammar) -> Result<(),
 }
 
 fn push_value(text: &mut Text, value: Fraction) -> Result<(), NoMemory>
-    ensures { OnOk result (text.new ≡ text.old ++ (codes " " ++ exact_text_of value)) }
+    ensures { OnOk result (text.new ≡ text.old ++ spec.value_text value) }
 {
     text.push(b" ")?;
     text.push_exact(value)
+}
+
+fn push_lot_head(text: &mut Text, lot: &Lot) -> Result<(), NoMemory>
+    ensures { OnOk result (text.new ≡ text.old ++ spec.lot_head lot.now) }
+{
+    text.push(b"lot ")?;
+    text.push(lot.name.bytes())?;
+    text.push(b" ")?;
+    text.push_whole(u128::from(lot.seed))
+}
+
+fn push_ground(text: &mut Text, lot: &Lot) -> Result<(), NoMemory>
+    ensures { OnOk result (text.new ≡ text.old ++ spec.ground_text lot.now) }
+{
+    push_value(text, lot.x)?;
+    push_value(text, lot.z)?;
+    push_value(text, lot.width)?;
+    push_value(text, lot.depth)
 }
 
 #[tactic(auto, unfolding(crate::specs::Dumps::lot_line))]
 fn push_lot(text: &mut Text, lot: &Lot) -> Result<(), NoMemory>
     ensures { OnOk result (text.new ≡ text.old ++ spec.lot_line lot.now) }
 {
-    text.push(b"lot ")?;
-    text.push(lot.name.bytes())?;
-    text.push(b" ")?;
-    text.push_whole(u128::from(lot.seed))?;
-    push_value(text, lot.x)?;
-    push_value(text, lot.z)?;
-    push_value(text, lot.width)?;
-    push_value(text, lot.depth)?;
+    push_lot_head(text, lot)?;
+    push_ground(text, lot)?;
     text.push(b" ")?;
     text.push(lot.symbol.bytes())?;
     text.push(b"\n")

@@ -5,6 +5,7 @@ ghost use Rattle.cga_form.specs.declared.line_fault.LineFault.{LineFault};
 ghost use Rattle.cga_rule.specs.declared.rule.Rule.{Rule};
 ghost use Rattle.cga_script.specs.CityLines.{CityTells};
 ghost use Rattle.cga_script.specs.Commands.{CommandTells};
+ghost use Rattle.cga_script.specs.DumpLines.{IsSpelledCity, IsReadBack};
 ghost use Rattle.cga_script.specs.declared.script_command.ScriptCommand.{ScriptCommand};
 ghost use Rattle.cga_script.specs.declared.script_command.ScriptCommand.TheVariants as command;
 ghost use Rattle.cga_script.specs.declared.version.Version.{Version};
@@ -23,4 +24,11 @@ pub fn tells_one_command()
 pub fn may_be_printed()
     ensures put { (v : Version) (line : Line) (priority : ℕ) (rule : Rule) → CommandTells v line (Ok (command.Change (edit.Put priority rule))) → HaveTexts (printed (rule_pieces rule)) }
     ensures city { (lines : List Line) (sources : Sources) → CityTells lines (Ok sources) → ArePrintable sources.grammar.rules }
+{}
+
+/// The lines between `city` and `end` of a dump tell the same mode, attributes, lots and entries, with
+/// the entries by rising priority and id, where lines say each attribute, each rule and each lot, and
+/// lot names differ.
+pub fn dump_reads_back()
+    ensures { (sources : Sources) → IsSpelledCity sources → IsReadBack sources }
 {}
