@@ -23,3 +23,4 @@ mod Swaps
 mod Names
 mod Shelf
 mod Lots
+mod Grown

@@ -5,4 +5,5 @@ pub mod View
 pub mod Roots
 pub mod Tree
 pub mod Standing
+pub mod Placing
 pub mod Walked

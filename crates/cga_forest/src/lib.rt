@@ -9,29 +9,37 @@ mod entry;
 mod hull_tree;
 mod hulls;
 mod node;
+mod placing;
 mod roots;
 mod same;
+mod setting;
 mod slots;
 mod standing;
 mod step;
 mod store;
 
-ghost use Rattle.std.specs.Prelude.{◌≡◌, ◌≢◌, ℕ, true, false, [], Some, None, IfOk, IfSome, IsSome, is_some, option_copied, ◌↔◌, OnOk, OnErr, if◌then◌else◌};
+ghost use Rattle.std.specs.Prelude.{◌≡◌, ◌≢◌, ℕ, true, false, [], Some, None, IfOk, IfSome, IsOk, IsSome, is_some, option_copied, ◌↔◌, OnOk, OnErr, if◌then◌else◌};
 ghost use Rattle.cga_order.specs.Chain as order;
 ghost use Rattle.cga_order.specs.Seen.{chain_of};
 ghost use Rattle.cga_forest.specs.Node.{chain_kept, IsTop};
 ghost use Rattle.cga_forest.specs.Count.{tally};
-ghost use Rattle.cga_forest.specs.View.{is_shown};
+ghost use Rattle.cga_forest.specs.View.{Seen, is_shown};
+ghost use Rattle.cga_forest.specs.Placing.{IsRootNode, MayGrow, children_after, state_after};
+ghost use Rattle.cga_shape.specs.Root.{root_scope};
 ghost use Rattle.cga_forest.specs.Tree.{ForestView, HasInner, HasNoLot, IsRootOf, IsWithout, content_of, above, slot_at, ListsChanged, IsLeastHull, IsLeastAsking, NoneAsks, Replaces, node_at, marked_at, KeepsMark};
 
 use boxes::changed_boxes;
-use cga_fraction::NoMemory;
+use cga_fraction::{List, NoMemory};
 use cga_frame::WorldBox;
 use cga_index::NodeId;
 use cga_order::Chain;
+use cga_rule::Grammar;
+use cga_shape::{Answers, Emitted, Lot, ShapeFault};
 use cga_word::{Mode, Name};
 pub use node::{Node, State};
+use placing::{children_after, kind_after, root_node};
 use roots::Roots;
+use setting::setting_of;
 use slots::{depth_of, parent_at, replace, set_aside};
 use std::alloc::Global;
 use std::marker::Model;
@@ -162,6 +170,23 @@ impl Forest {
         Ok(id)
     }
 
+    /// Adds the waiting root of a lot. Takes memory.
+    pub fn add_lot(&mut self, lot: &Lot, grammar: &Grammar) -> Result<NodeId, NoMemory>
+        requires new { HasNoLot self.old lot.now.name }
+        requires scope { IsOk (root_scope lot.now) }
+        ensures fresh { IfOk result (λ id. node_at self.old id ≡ None) }
+        ensures unmarked { IfOk result (λ id. marked_at self.old id ≡ None) }
+        ensures root { IfOk result (λ id. (n : Node) × IsRootNode grammar.now lot.now n × (node_at self.new id ≡ Some (record { node = n; depth = 0; parent = None; index = 0; children = [] }))) }
+        ensures others { IfOk result (λ id. (other : ℕ) → other ≢ id → node_at self.new other ≡ node_at self.old other) }
+        ensures mark { KeepsMark self.old self.new }
+        ensures mode { self.new.mode ≡ self.old.mode }
+        ensures err { OnErr result (self.new ≡ self.old) }
+    {
+        let node = root_node(self.alloc, lot, grammar)?;
+        let root = self.add_root(node)?;
+        Ok(NodeId::new(root as u64))
+    }
+
     /// Takes the nodes of the lot of that name away. False exactly where no such lot is there.
     pub fn remove_lot(&mut self, name: Name) -> bool
         ensures absent { result ≡ false → HasNoLot self.old name }
@@ -183,9 +208,39 @@ impl Forest {
         }
     }
 
-    /// Gives a node another state and these children: an old child stays with its subtree where the new one at its place
-    /// has its content. Answers the boxes of the nodes that went or came.
+    /// Gives a node the outcome of its expansion and the answers that it was asked with. An old child stays with its
+    /// subtree where the new one at its index has its shape, its priority and its sort; all others go. Answers the boxes
+    /// of the nodes that went or came. Takes memory.
     pub fn replace_children(
+        &mut self,
+        node: NodeId,
+        answers: Answers,
+        outcome: &Result<List<Emitted>, ShapeFault>,
+        grammar: &Grammar,
+    ) -> Result<List<WorldBox>, NoMemory>
+        requires here { (e : Seen) × (node_at self.old node ≡ Some e) × MayGrow e outcome.now }
+        ensures replaced { OnOk result ((e : Seen) → node_at self.old node ≡ Some e → Replaces (node_at self.old) (node_at self.new) node (state_after grammar.now e.node answers outcome.now) (children_after grammar.now e.node outcome.now)) }
+        ensures unmarked { OnOk result ((c : ℕ) → node_at self.old c ≡ None → IsSome (node_at self.new c) → marked_at self.old c ≡ None) }
+        ensures boxes { IfOk result (λ list. ListsChanged (node_at self.old) (node_at self.new) list) }
+        ensures mark { KeepsMark self.old self.new }
+        ensures mode { self.new.mode ≡ self.old.mode }
+        ensures err { OnErr result (self.new ≡ self.old) }
+    {
+        let id = slot_of(node);
+        let parent = &self.store.entry(id).node;
+        let setting = setting_of(self.alloc, grammar, parent.shape.symbol)?;
+        let news = children_after(self.alloc, parent, outcome, grammar)?;
+        let state = State {
+            kind: kind_after(outcome),
+            answers,
+            asks: setting.asks,
+        };
+        let boxes = self.replace_with(id, state, news)?;
+        Ok(List::from_vec(boxes))
+    }
+
+    /// Gives a node another state and these children.
+    fn replace_with(
         &mut self,
         id: usize,
         state: State,
@@ -196,6 +251,7 @@ impl Forest {
         ensures unmarked { OnOk result ((c : ℕ) → node_at self.old c ≡ None → IsSome (node_at self.new c) → marked_at self.old c ≡ None) }
         ensures boxes { IfOk result (λ list. ListsChanged (node_at self.old) (node_at self.new) list.items) }
         ensures mark { KeepsMark self.old self.new }
+        ensures mode { self.new.mode ≡ self.old.mode }
         ensures err { OnErr result (self.new ≡ self.old) }
     {
         self.store.reserve(news.len())?;

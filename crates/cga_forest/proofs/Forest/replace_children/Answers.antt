@@ -1,62 +1,28 @@
-use Rattle.std.proofs.Common.{refl, ◌≡◌, ℕ, List, sym, ◌∙◌, ap}
-use Rattle.std.specs.Prelude.{Option, is_some}
-use Rattle.cga_forest.proofs.Right.{is_there}
-use Rattle.cga_forest.specs.declared.entry.Entry.{Entry}
-use Rattle.cga_forest.specs.View.{at, slot, present_of, marked_of, hulls_of, marked_hulls_of}
-use Rattle.cga_forest.specs.Tree.{ForestView, IsWhole, node_at, hulls_at, marked_at}
-use Rattle.cga_forest.proofs.Marks.{IsWhole-same, IsForest-settled, IsForest-marked, present_settled}
-use Rattle.cga_forest.proofs.Through.{tops_replaced, ReplacedBy-same, Replaces-from, ListsChanged-same}
-use Rattle.cga_forest.proofs.Gather.{lists_changed}
-use Rattle.cga_forest.proofs.Tree.{IsTree-same}
-use Rattle.cga_forest.proofs.Tops.{HasRoots-same}
+use Rattle.std.proofs.Common.{◌≡◌, ◌∙◌, List, ℕ, Some, sym, ap, subst}
+use Rattle.cga_frame.specs.Box.{Box}
+use Rattle.cga_forest.specs.declared.node.Node.{Node}
+use Rattle.cga_forest.specs.declared.node.State.{State}
+use Rattle.cga_forest.specs.declared.setting.Setting.{Setting}
+use Rattle.cga_forest.specs.View.{at, present_of}
+use Rattle.cga_forest.specs.Tree.{ForestView, IsInner, ListsChanged, node_at}
+use Rattle.cga_forest.specs.Placing.{children_after, setting, state_after}
+use Rattle.cga_forest.proofs.Grown.{entry_node, may_grow}
 use Rattle.cga_forest.proofs.Forest.replace_children.Goals as goal
-use Rattle.cga_forest.proofs.Forest.replace_children.Goals.{then-not-self, else-not-self}
 
-pub replace-requires-clause-whole : goal.replace-requires-clause-whole
-replace-requires-clause-whole c = IsWhole-same (node_at (record { slots = c.self.inside.store.slots; marking = c.self.inside.marking; roots = c.self.inside.roots.list; marked_roots = c.self.inside.roots.former; mode = c.self.inside.mode })) _ (hulls_at (record { slots = c.self.inside.store.slots; marking = c.self.inside.marking; roots = c.self.inside.roots.list; marked_roots = c.self.inside.roots.former; mode = c.self.inside.mode })) _ (λ k. ap (λ (s : List (Option Entry)). present_of (slot s k)) c.in_ok-reserve.ensures.slots) (λ k e t. ap (λ (s : List (Option Entry)). hulls_of (slot s k)) c.in_ok-reserve.ensures.slots) c.self.invariant.present
-
-pub invariant_of-self-then-not-self : goal.invariant_of-self-then-not-self
-invariant_of-self-then-not-self c = IsForest-settled (record { slots = c.replace.new.store.slots; marking = c.self.inside.marking; roots = c.self.inside.roots.list; marked_roots = c.self.inside.roots.former; mode = c.self.inside.mode }) _ (λ k. c.settle.ensures k) c.if-not-self.true c.replace.ensures.whole
-    (tops_replaced (λ k. present_of (at c.reserve.new.self k)) (λ k. present_of (at c.replace.new.store k)) c.self.inside.roots.list c.args.id c.args.state c.args.news.items _ c.replace.ensures.replaced
-    (IsTree-same (node_at (record { slots = c.self.inside.store.slots; marking = c.self.inside.marking; roots = c.self.inside.roots.list; marked_roots = c.self.inside.roots.former; mode = c.self.inside.mode })) (λ k. present_of (at c.reserve.new.self k)) (λ k. ap (λ (s : List (Option Entry)). present_of (slot s k)) c.in_ok-reserve.ensures.slots) c.self.invariant.present.tree)
-    (HasRoots-same (node_at (record { slots = c.self.inside.store.slots; marking = c.self.inside.marking; roots = c.self.inside.roots.list; marked_roots = c.self.inside.roots.former; mode = c.self.inside.mode })) (λ k. present_of (at c.reserve.new.self k)) c.self.inside.roots.list (λ k. ap (λ (s : List (Option Entry)). present_of (slot s k)) c.in_ok-reserve.ensures.slots) c.self.invariant.tops)) (c.self.invariant.unmarked c.if-not-self.true)
-
-pub invariant_of-self-else-not-self : goal.invariant_of-self-else-not-self
-invariant_of-self-else-not-self c = IsForest-marked (record { slots = c.self.inside.store.slots; marking = c.self.inside.marking; roots = c.self.inside.roots.list; marked_roots = c.self.inside.roots.former; mode = c.self.inside.mode }) _ c.self.invariant c.replace.ensures.whole c.if-not-self.false c.if-not-self.false
-    (λ k. c.replace.ensures.marked c.if-not-self.false k ∙ ap (λ (s : List (Option Entry)). marked_of (slot s k)) c.in_ok-reserve.ensures.slots)
-    (λ k. c.replace.ensures.marked_hulls c.if-not-self.false k ∙ ap (λ (s : List (Option Entry)). marked_hulls_of (slot s k)) c.in_ok-reserve.ensures.slots)
-    (tops_replaced (λ k. present_of (at c.reserve.new.self k)) (λ k. present_of (at c.replace.new.store k)) c.self.inside.roots.list c.args.id c.args.state c.args.news.items _ c.replace.ensures.replaced
-    (IsTree-same (node_at (record { slots = c.self.inside.store.slots; marking = c.self.inside.marking; roots = c.self.inside.roots.list; marked_roots = c.self.inside.roots.former; mode = c.self.inside.mode })) (λ k. present_of (at c.reserve.new.self k)) (λ k. ap (λ (s : List (Option Entry)). present_of (slot s k)) c.in_ok-reserve.ensures.slots) c.self.invariant.present.tree)
-    (HasRoots-same (node_at (record { slots = c.self.inside.store.slots; marking = c.self.inside.marking; roots = c.self.inside.roots.list; marked_roots = c.self.inside.roots.former; mode = c.self.inside.mode })) (λ k. present_of (at c.reserve.new.self k)) c.self.inside.roots.list (λ k. ap (λ (s : List (Option Entry)). present_of (slot s k)) c.in_ok-reserve.ensures.slots) c.self.invariant.tops)) refl
-
-pub returns-clause-replaced : goal.returns-clause-replaced
-returns-clause-replaced c =
-    let now : (k : ℕ) → node_at c.if-not-self.self k ≡ present_of (at c.replace.new.store k) = elim c.if-not-self.branch [
-      | then-not-self w ↦ λ k. rw w.self-is (ap present_of (w.settle.ensures k) ∙ present_settled (at c.replace.new.store k))
-      | else-not-self w ↦ λ k. rw w.self-is refl
-    ] in
-    Replaces-from _ _ _ _ _ _ (ReplacedBy-same (λ k. present_of (at c.reserve.new.self k)) (λ k. present_of (at c.replace.new.store k)) _ _ c.args.id c.args.state c.args.news.items _
-    (λ k. ap (λ (v : ForestView). node_at v k) (sym c.self.view_is) ∙ ap (λ (s : List (Option Entry)). present_of (slot s k)) (sym c.in_ok-reserve.ensures.slots))
-    now c.replace.ensures.replaced)
+pub replace_with-requires : goal.replace_with-requires
+replace_with-requires c =
+    let e = c.requires.here.0 in
+    let g = c.args.grammar.now in
+    let o = c.args.outcome.now in
+    let there : node_at c.args.self.now c.slot_of-id.result ≡ Some e = rw c.slot_of-id.ensures c.requires.here.1 in
+    let seen : present_of (at c.self.inside.store c.slot_of-id.result) ≡ Some e = ap (λ (v : ForestView). node_at v c.slot_of-id.result) c.self.view_is ∙ there in
+    let n : e.node ≡ c.entry.result.now.node = entry_node (at c.self.inside.store c.slot_of-id.result) c.entry.result.now e c.entry.ensures seen in
+    let asks = ap (λ (s : Setting). s.asks) c.in_ok-setting.ensures ∙ ap (λ (m : Node). (setting g m.shape.symbol).asks) (sym n) in
+    let state : record { kind = c.kind_after.result; answers = c.args.answers; asks = c.in_ok-setting.setting.asks } ≡ state_after g e.node c.args.answers o = λ i. record { kind = c.kind_after.ensures i; answers = c.args.answers; asks = asks i } in
+    let news : c.in_ok-news.news.items ≡ children_after g e.node o = c.in_ok-news.ensures ∙ ap (λ (m : Node). children_after g m o) (sym n) in
+    record {
+      here = (e, there, subst (λ (s : State). IsInner e s c.in_ok-news.news.items) (sym state) (subst (λ (l : List Node). IsInner e (state_after g e.node c.args.answers o) l) (sym news) (may_grow g e c.args.answers o c.requires.here.2)));
+    }
 
 pub returns-clause-boxes : goal.returns-clause-boxes
-returns-clause-boxes c =
-    let now : (k : ℕ) → node_at c.if-not-self.self k ≡ present_of (at c.replace.new.store k) = elim c.if-not-self.branch [
-      | then-not-self w ↦ λ k. rw w.self-is (ap present_of (w.settle.ensures k) ∙ present_settled (at c.replace.new.store k))
-      | else-not-self w ↦ λ k. rw w.self-is refl
-    ] in
-    let whole : IsWhole (λ k. present_of (at c.reserve.new.self k)) (λ k. hulls_of (at c.reserve.new.self k)) = IsWhole-same (node_at (record { slots = c.self.inside.store.slots; marking = c.self.inside.marking; roots = c.self.inside.roots.list; marked_roots = c.self.inside.roots.former; mode = c.self.inside.mode })) _ (hulls_at (record { slots = c.self.inside.store.slots; marking = c.self.inside.marking; roots = c.self.inside.roots.list; marked_roots = c.self.inside.roots.former; mode = c.self.inside.mode })) _ (λ k. ap (λ (s : List (Option Entry)). present_of (slot s k)) c.in_ok-reserve.ensures.slots) (λ k e t. ap (λ (s : List (Option Entry)). hulls_of (slot s k)) c.in_ok-reserve.ensures.slots) c.self.invariant.present in
-    ListsChanged-same (λ k. present_of (at c.reserve.new.self k)) (λ k. present_of (at c.replace.new.store k)) _ _ _
-    (λ k. ap (λ (v : ForestView). node_at v k) (sym c.self.view_is) ∙ ap (λ (s : List (Option Entry)). present_of (slot s k)) (sym c.in_ok-reserve.ensures.slots))
-    now (lists_changed (λ k. at c.reserve.new.self k) (λ k. present_of (at c.replace.new.store k)) c.args.id _ c.args.news.items c.replace.ensures.replaced.0 _ whole.tree c.replace.ensures.replaced.2 _
-    (rw (← c.as_slice.ensures.value, ← c.depth_of-left.ensures) c.in_ok-boxes.ensures))
-
-pub returns-clause-unmarked : goal.returns-clause-unmarked
-returns-clause-unmarked c k h t =
-    let now : (k : ℕ) → node_at c.if-not-self.self k ≡ present_of (at c.replace.new.store k) = elim c.if-not-self.branch [
-      | then-not-self w ↦ λ k. rw w.self-is (ap present_of (w.settle.ensures k) ∙ present_settled (at c.replace.new.store k))
-      | else-not-self w ↦ λ k. rw w.self-is refl
-    ] in
-    let same : node_at c.args.self.now k ≡ present_of (at c.reserve.new.self k) = ap (λ (v : ForestView). node_at v k) (sym c.self.view_is) ∙ ap (λ (s : List (Option Entry)). present_of (slot s k)) (sym c.in_ok-reserve.ensures.slots) in
-    let x = is_there (present_of (at c.replace.new.store k)) (ap is_some (sym (now k)) ∙ t) in
-    ap (λ (v : ForestView). marked_at v k) (sym c.self.view_is) ∙ ap (λ (s : List (Option Entry)). marked_of (slot s k)) (sym c.in_ok-reserve.ensures.slots) ∙ ap marked_of (c.replace.ensures.vacant k x.0 (sym same ∙ h) x.1)
+returns-clause-boxes c = subst (λ (l : List Box). ListsChanged (node_at c.args.self.now) (node_at c.replace_with.new.self) l) (sym c.from_vec.ensures) c.in_ok-boxes.ensures.boxes

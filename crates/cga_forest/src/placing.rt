@@ -1,0 +1,169 @@
+//! The nodes that a grammar places: the root of a lot, and the children of an expansion.
+ghost use Rattle.std.specs.Prelude.{◌≡◌, ◌≤◌, ◌++◌, [], ◌∷◌, length, IfOk, IsOk};
+ghost use Rattle.cga_shape.specs.Root.{root_scope};
+ghost use Rattle.cga_forest.specs.Placing.{IsRootNode, child_asks, child_kind, child_node, child_shape, children_after, children_from, emitted, kind_after, unasked};
+
+use crate::node::Node;
+use crate::setting::{Setting, setting_of};
+use cga_fraction::{Fraction, List, NoMemory};
+use cga_rule::Grammar;
+use cga_shape::{Answers, Emitted, Kind, Lot, Shape, ShapeFault, root_shape};
+use std::alloc::Global;
+
+fn unasked() -> Answers
+    ensures { result ≡ unasked }
+{
+    Answers {
+        noparent: None,
+        active: None,
+    }
+}
+
+/// The waiting root of a lot. Takes memory.
+pub fn root_node(alloc: Global, lot: &Lot, grammar: &Grammar) -> Result<Node, NoMemory>
+    requires scope { IsOk (root_scope lot.now) }
+    ensures { IfOk result (λ made. IsRootNode grammar.now lot.now made) }
+{
+    let setting = setting_of(alloc, grammar, lot.symbol)?;
+    let line = extended(alloc, &[], setting.priority)?;
+    Ok(Node {
+        shape: root_shape(alloc, lot),
+        kind: Kind::Waiting,
+        priority: setting.priority,
+        answers: unasked(),
+        asks: setting.asks,
+        line,
+    })
+}
+
+/// A list with one more number at its end. Takes memory.
+fn extended(alloc: Global, numbers: &[u16], last: u16) -> Result<List<u16>, NoMemory>
+    ensures { IfOk result (λ made. made ≡ numbers.now ++ last ∷ []) }
+{
+    let mut all = Vec::from_slice(alloc, numbers)?;
+    all.push(last)?;
+    Ok(List::from_vec(all))
+}
+
+/// What becomes of a node that had this outcome.
+pub fn kind_after(outcome: &Result<List<Emitted>, ShapeFault>) -> Kind
+    ensures { result ≡ kind_after outcome.now }
+{
+    match outcome {
+        Ok(_) => Kind::Done,
+        Err(fault) => Kind::Faulted(*fault),
+    }
+}
+
+/// The children of a node that had this outcome. Takes memory.
+pub fn children_after(
+    alloc: Global,
+    parent: &Node,
+    outcome: &Result<List<Emitted>, ShapeFault>,
+    grammar: &Grammar,
+) -> Result<Vec<Node>, NoMemory>
+    requires few { length (emitted outcome.now) ≤ 4096 }
+    ensures { IfOk result (λ made. made.items ≡ children_after grammar.now parent.now outcome.now) }
+{
+    match outcome {
+        Ok(emitted) => children(alloc, parent, emitted.as_slice(), grammar),
+        Err(_) => Ok(Vec::new(alloc)),
+    }
+}
+
+fn children(
+    alloc: Global,
+    parent: &Node,
+    emitted: &[Emitted],
+    grammar: &Grammar,
+) -> Result<Vec<Node>, NoMemory>
+    requires few { length emitted.now ≤ 4096 }
+    ensures { IfOk result (λ made. made.items ≡ children_from grammar.now parent.now 0 emitted.now) }
+{
+    let mut made = Vec::new(alloc);
+    for index in 0..emitted.len() {
+        made.push(child(alloc, parent, index as u16, &emitted[index], grammar)?)?;
+    }
+    Ok(made)
+}
+
+fn child(
+    alloc: Global,
+    parent: &Node,
+    index: u16,
+    emitted: &Emitted,
+    grammar: &Grammar,
+) -> Result<Node, NoMemory>
+    ensures { IfOk result (λ made. made ≡ child_node grammar.now parent.now index emitted.now) }
+{
+    let shape = child_shape(alloc, parent, index, emitted)?;
+    let setting = setting_of(alloc, grammar, shape.symbol)?;
+    let line = extended(alloc, parent.line.as_slice(), setting.priority)?;
+    Ok(Node {
+        shape,
+        kind: child_kind(emitted),
+        priority: setting.priority,
+        answers: unasked(),
+        asks: child_asks(&setting, emitted),
+        line,
+    })
+}
+
+fn child_shape(
+    alloc: Global,
+    parent: &Node,
+    index: u16,
+    emitted: &Emitted,
+) -> Result<Shape, NoMemory>
+    ensures { IfOk result (λ made. made ≡ child_shape parent.now index emitted.now) }
+{
+    let lot = parent.shape.lot;
+    let path = extended(alloc, parent.shape.path.as_slice(), index)?;
+    match emitted {
+        Emitted::Child {
+            symbol,
+            args,
+            scope,
+            seed,
+        } => Ok(Shape {
+            lot,
+            path,
+            symbol: *symbol,
+            args: copied(alloc, args.as_slice())?,
+            scope: *scope,
+            seed: *seed,
+        }),
+        Emitted::Solid { scope, seed, .. } => Ok(Shape {
+            lot,
+            path,
+            symbol: parent.shape.symbol,
+            args: List::new(alloc),
+            scope: *scope,
+            seed: *seed,
+        }),
+    }
+}
+
+fn copied(alloc: Global, args: &[Fraction]) -> Result<List<Fraction>, NoMemory>
+    ensures { IfOk result (λ made. made ≡ args.now) }
+{
+    Ok(List::from_vec(Vec::from_slice(alloc, args)?))
+}
+
+fn child_kind(emitted: &Emitted) -> Kind
+    ensures { result ≡ child_kind emitted.now }
+{
+    match emitted {
+        Emitted::Child { .. } => Kind::Waiting,
+        Emitted::Solid { primitive, .. } => Kind::Instance(*primitive),
+    }
+}
+
+fn child_asks(setting: &Setting, emitted: &Emitted) -> bool
+    ensures { result ≡ child_asks setting.now emitted.now }
+{
+    match emitted {
+        Emitted::Child { .. } => setting.asks,
+        Emitted::Solid { .. } => false,
+    }
+}
