@@ -7,9 +7,9 @@ use Rattle.cga_order.specs.declared.placed.Kind.{Kind}
 use Rattle.cga_shape.specs.declared.shape.Shape.{Shape}
 use Rattle.cga_shape.specs.declared.shape_fault.ShapeFault.{ShapeFault}
 use Rattle.cga_shape.specs.declared.sources.Sources.{Sources}
-use Rattle.cga_derivation.specs.Derivation.{asked, next_of, reached}
+use Rattle.cga_derivation.specs.Derivation.{asked, next_of, reached, IsDerived}
 use Rattle.cga_expand.specs.Children.{Member}
-use Rattle.cga_expand.specs.Derivation.{derivation_of, priority_of}
+use Rattle.cga_expand.specs.Derivation.{derivation_of, priority_of, NamesDiffer}
 use Rattle.cga_expand.specs.Settings.{setting_of}
 
 -- the shape is a member that is no instance
@@ -48,3 +48,9 @@ module _ (old new : Sources) where
   Touched before after s =
       NonInstance after s
       × ((Kept before after s → ⊥) ⊎ (Kept before after s × (SameInputs s → ⊥)))
+
+-- between equal sources nothing is touched
+abbrev pub NothingIsTouched : Type 0
+NothingIsTouched =
+    (sources : Sources) → NamesDiffer sources.lots → (list : List Member) → IsDerived (derivation_of sources) list
+    → (s : Shape) → Touched sources sources list list s → ⊥

@@ -2,6 +2,7 @@
 //! caller's proof can cite.
 ghost use Rattle.cga_expand.specs.Laws.{AlternativesCover};
 ghost use Rattle.cga_expand.specs.Settings.{SettingsDecide};
+ghost use Rattle.cga_expand.specs.Touched.{NothingIsTouched};
 
 /// In a valid grammar a rule that is taken has an alternative for each number, so that a shape is
 /// unmatched only where no condition of its rules holds.
@@ -13,4 +14,9 @@ pub fn alternatives_cover()
 /// are answered alike, and become the same by equal answers.
 pub fn settings_decide()
     ensures { SettingsDecide }
+{}
+
+/// Between equal sources nothing is touched.
+pub fn nothing_is_touched()
+    ensures { NothingIsTouched }
 {}

@@ -1,8 +1,9 @@
 //! One expansion: what a shape becomes by the rules of its symbol, or the first fault in reading
-//! order.
+//! order. On it stand the definitions of all above: the derivation of sources, its run, and which
+//! shapes an edit touches.
 //!
-//! It must not know other shapes: what they are to a shape is in its answers. Callers get the order
-//! wrong: a fault comes where it stands in the text, and nothing is emitted then.
+//! Its code must not know other shapes: what they are to a shape is in its answers. Callers get the
+//! order wrong: a fault comes where it stands in the text, and nothing is emitted then.
 #![tactic(auto)]
 
 mod choice;
