@@ -10,3 +10,7 @@ pub mod Asked
 pub mod Children
 pub mod Derivation
 pub mod Validity
+pub mod Settings
+pub mod Touched
+pub mod Run
+pub mod Laws

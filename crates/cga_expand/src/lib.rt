@@ -10,11 +10,14 @@ mod choose;
 pub mod derivations;
 mod emit;
 mod faults;
+pub mod laws;
 pub mod limits;
 mod parts;
 mod rules;
 mod scopes;
 mod state;
+#[cfg(test)]
+mod tests;
 mod walk;
 
 pub use rules::expand;
