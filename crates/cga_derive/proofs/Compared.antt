@@ -14,7 +14,7 @@ use Rattle.cga_shape.specs.declared.sources.Sources.{Sources}
 use Rattle.cga_expand.specs.Asked.{on_path, boxes_beside, answers_of}
 use Rattle.cga_expand.specs.Children.{Member}
 use Rattle.cga_expand.specs.Derivation.{derivation_of}
-use Rattle.cga_derive.specs.declared.symbols.Symbol.{Symbol}
+use Rattle.cga_derive.specs.declared.symbol.Symbol.{Symbol}
 use Rattle.cga_derive.specs.Compared.{counts, meets_own, holds_own, some_meets, some_fills, compared, targeted, answers_with}
 use Rattle.cga_derive.specs.Symbols.{symbol_of}
 

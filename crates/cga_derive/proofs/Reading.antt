@@ -13,7 +13,7 @@ use Rattle.cga_rule.specs.declared.grammar.Group.{Group}
 use Rattle.cga_check.specs.Groups as groups
 use Rattle.cga_expand.specs.Asked.{group_asks, asks_for}
 use Rattle.cga_expand.specs.Derivation.{priority_of}
-use Rattle.cga_derive.specs.declared.symbols.Symbol.{Symbol}
+use Rattle.cga_derive.specs.declared.symbol.Symbol.{Symbol}
 use Rattle.cga_derive.specs.Symbols.{symbol_by, symbol_of, IsRead}
 use Rattle.cga_derivation.proofs.Lists.{some_same}
 

@@ -29,7 +29,7 @@ use Rattle.cga_derive.specs.Key.{chain_of_key, key_cmp}
 use Rattle.cga_derive.specs.Run.{Sites, HasKeys, KeepsKeys, sited_children, IsAfter, IsInTurnOf}
 use Rattle.cga_expand.proofs.Instance.{sources_are_derivations}
 use Rattle.cga_derivation.proofs.Lists.{some_same, none_some}
-use Rattle.cga_derive.specs.declared.symbols.Symbol.{Symbol}
+use Rattle.cga_derive.specs.declared.symbol.Symbol.{Symbol}
 use Rattle.cga_derive.specs.Compared.{answers_with}
 use Rattle.cga_derive.specs.Symbols.{symbol_of}
 use Rattle.cga_derive.proofs.Compared.{answers-are}

@@ -11,7 +11,7 @@ use Rattle.cga_order.specs.World.{is_waiting, shapes_where}
 use Rattle.cga_shape.specs.declared.shape.Shape.{Shape}
 use Rattle.cga_expand.specs.Asked.{on_path, answer_if}
 use Rattle.cga_expand.specs.Children.{Member}
-use Rattle.cga_derive.specs.declared.symbols.Symbol.{Symbol}
+use Rattle.cga_derive.specs.declared.symbol.Symbol.{Symbol}
 
 -- the target is about members of this kind
 abbrev pub is_about : Target → Member → Bool

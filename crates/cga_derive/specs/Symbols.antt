@@ -9,7 +9,7 @@ use Rattle.cga_rule.specs.declared.grammar.Group.{Group}
 use Rattle.cga_check.specs.Groups.{mentions_target}
 use Rattle.cga_expand.specs.Asked.{asks_for}
 use Rattle.cga_expand.specs.Derivation.{priority_of}
-use Rattle.cga_derive.specs.declared.symbols.Symbol.{Symbol}
+use Rattle.cga_derive.specs.declared.symbol.Symbol.{Symbol}
 
 unfoldable pub symbol_of : Grammar → List ℕ → Symbol
 symbol_of grammar name = record { priority = priority_of grammar name; noparent = asks_for grammar name Noparent; active = asks_for grammar name Active }

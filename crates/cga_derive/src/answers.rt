@@ -5,7 +5,7 @@ ghost use Rattle.cga_order.specs.World.{is_waiting};
 ghost use Rattle.cga_expand.specs.Asked.{answer_if, on_path};
 ghost use Rattle.cga_derive.specs.Compared.{answers_with, compared, is_about, targeted};
 
-use crate::symbols::Symbol;
+use crate::symbol::Symbol;
 use cga_frame::WorldBox;
 use cga_shape::{Answers, Kind, Placed, Shape};
 use cga_word::{Answer, Target};

@@ -13,6 +13,7 @@ pub mod laws;
 mod members;
 mod over_budget;
 mod run;
+mod symbol;
 mod symbols;
 #[cfg(test)]
 mod tests;

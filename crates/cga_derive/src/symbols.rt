@@ -1,20 +1,13 @@
 ghost use Rattle.std.specs.Prelude.{◌≡◌, IfOk};
 ghost use Rattle.cga_derive.specs.Symbols.{symbol_by, symbol_of};
 
+use crate::symbol::Symbol;
 use cga_check::{group_of, mentions_target};
 use cga_fraction::NoMemory;
 use cga_rule::{Grammar, Group};
 use cga_word::{Name, Target};
 use std::alloc::Global;
 use std::collections::BTreeMap;
-
-/// What a derivation reads of the rules of a symbol: its priority, and which targets they mention.
-#[derive(Clone, Copy, Debug)]
-pub struct Symbol {
-    pub priority: u16,
-    pub noparent: bool,
-    pub active: bool,
-}
 
 /// The symbols of a grammar that were read so far: a group is copied once for each.
 #[derive(Drop)]

@@ -1,5 +1,5 @@
 use Rattle.std.proofs.Common.{◌≡◌, ◌<◌, ◌≤◌, length, get_or, ap, ◌∙◌, subst}
-use Rattle.cga_derive.specs.declared.symbols.Symbol.{Symbol}
+use Rattle.cga_derive.specs.declared.symbol.Symbol.{Symbol}
 use Rattle.cga_derive.specs.Run.{IsRootKey}
 use Rattle.cga_derive.specs.Symbols.{symbol_of}
 use Rattle.cga_derive.proofs.Starting.{roots-more, keys-more, started}
