@@ -1,7 +1,7 @@
 -- Children placed one after the other.
 use Rattle.std.proofs.Common.{◌≡◌, ℕ, zero, suc, ◌+◌, ◌<◌, ◌≤◌, List, [], ◌∷◌, ◌++◌, length, drop, get_or, refl, sym, ap, subst, ◌∙◌, arith, Option, Some, None, slice_get, false, true, true≢false}
 use Rattle.std.specs.Prelude.{Result, Ok, Err, IsOk}
-use Rattle.std.proofs.lemmas.List.{append_assoc, append-nil, at_drop_more, at_drop_all}
+use Rattle.std.proofs.lemmas.List.{append_assoc, append-nil, length_push, at_drop_more, at_drop_all}
 use Rattle.cga_rule.specs.declared.grammar.Grammar.{Grammar}
 use Rattle.cga_word.specs.declared.answers.Answers.{Answers}
 use Rattle.cga_order.specs.World.{is_instance}
@@ -17,7 +17,7 @@ use Rattle.cga_forest.specs.Node.{IsBelow, IsTop, with_state}
 use Rattle.cga_forest.specs.declared.entry.Entry.{Entry}
 use Rattle.cga_forest.specs.View.{Seen, present_of}
 use Rattle.cga_forest.proofs.Right.{present_some}
-use Rattle.cga_forest.specs.Tree.{HasInner, IsInner}
+use Rattle.cga_forest.specs.Tree.{IsInner, IsTree, InPlace}
 use Rattle.cga_forest.specs.Placing.{IsRootNode, MayGrow, Outcome, child_node, children_after, children_from, emitted, kind_after, state_after}
 
 module _ (g : Grammar) (n : Node) where
@@ -57,9 +57,9 @@ no_instance (Ok es) = refl
 no_instance (Err f) = refl
 
 -- what the core asks of new children
-pub may_grow : (g : Grammar) (e : Seen) (answers : Answers) (o : Outcome) → MayGrow e o → IsInner e (state_after g e.node answers o) (children_after g e.node o)
-may_grow g e answers o m = record {
-  low = λ h. m.low (let n = children_long g e.node (emitted o) 0 in omega (arith, h, n));
+pub may_grow : (g : Grammar) (e : Seen) (answers : Answers) (o : Outcome) → e.depth ≡ length e.node.shape.path → MayGrow e o → IsInner e (state_after g e.node answers o) (children_after g e.node o)
+may_grow g e answers o deep m = record {
+  low = λ h. let l = m.low (let n = children_long g e.node (emitted o) 0 in omega (arith, h, n)) in omega (arith, l, deep);
   was = m.inner;
   is = no_instance o;
   children = λ i w h.
@@ -89,3 +89,27 @@ entry_node s x e h t =
     let z : Some x ≡ Some y.0 = sym h ∙ y.1 in
     let q : x ≡ y.0 = (cc) in
     ap (λ (d : Seen). d.node) (sym y.2) ∙ ap (λ (k : Entry). k.node) (sym q)
+
+-- ---- a node's depth is the length of its path
+
+module _ (T : ℕ → Option Seen) (tree : IsTree T) (places : InPlace T) where
+  at_depth : (n c : ℕ) (d : Seen) → T c ≡ Some d → d.depth ≡ n → (o : Option ℕ) → d.parent ≡ o → length d.node.shape.path ≡ n
+  at_depth n c d h e None q = ap length (places.root c d h q).path ∙ sym (tree.at_root c d h q) ∙ e
+  at_depth zero c d h e (Some p) q =
+      let u = tree.up c p d h q in
+      let w = tree.down p d.index c u.0 u.1 u.2 in
+      let same : Some d ≡ Some w.0 = sym h ∙ w.1 in
+      let y : d ≡ w.0 = (cc) in
+      let z = ap (λ (x : Seen). x.depth) y ∙ w.3 in absurd (omega (arith, z, e))
+  at_depth (suc n) c d h e (Some p) q =
+      let u = tree.up c p d h q in
+      let w = tree.down p d.index c u.0 u.1 u.2 in
+      let same : Some d ≡ Some w.0 = sym h ∙ w.1 in
+      let y : d ≡ w.0 = (cc) in
+      let z = ap (λ (x : Seen). x.depth) y ∙ w.3 in
+      let above = at_depth n p u.0 u.1 (omega (arith, z, e)) u.0.parent refl in
+      let more = ap length (places.child c p d u.0 h q u.1).path ∙ length_push u.0.node.shape.path d.index in
+      omega (arith, above, more)
+
+  pub path_deep : (c : ℕ) (d : Seen) → T c ≡ Some d → d.depth ≡ length d.node.shape.path
+  path_deep c d h = sym (at_depth d.depth c d h refl d.parent refl)

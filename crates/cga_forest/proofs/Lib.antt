@@ -22,5 +22,5 @@ pub mod Laws
 mod Swaps
 mod Names
 mod Shelf
-mod Lots
+mod ByName
 mod Grown

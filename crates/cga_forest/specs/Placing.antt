@@ -100,5 +100,5 @@ children_after g n outcome = children_from g n 0 (emitted outcome)
 -- the node isn't an instance, and may have so many children
 pub record MayGrow (e : Seen) (outcome : Outcome) : Type 0 where
   pub inner : is_instance e.node.kind ≡ false
-  pub low : 0 < length (emitted outcome) → e.depth < 256
+  pub low : 0 < length (emitted outcome) → length e.node.shape.path < 256
   pub few : length (emitted outcome) ≤ 4096

@@ -8,6 +8,7 @@ mod boxes;
 mod entry;
 mod hull_tree;
 mod hulls;
+mod lots;
 mod node;
 mod placing;
 mod roots;
@@ -18,15 +19,14 @@ mod standing;
 mod step;
 mod store;
 
-ghost use Rattle.std.specs.Prelude.{◌≡◌, ◌≢◌, ℕ, true, false, [], Some, None, IfOk, IfSome, IsOk, IsSome, is_some, option_copied, ◌↔◌, OnOk, OnErr, if◌then◌else◌};
+ghost use Rattle.std.specs.Prelude.{◌≡◌, ◌≢◌, ℕ, true, false, [], Some, None, IfOk, IfSome, IsSome, is_some, option_copied, ◌↔◌, OnOk, OnErr};
 ghost use Rattle.cga_order.specs.Chain as order;
 ghost use Rattle.cga_order.specs.Seen.{chain_of};
-ghost use Rattle.cga_forest.specs.Node.{chain_kept, IsTop};
+ghost use Rattle.cga_forest.specs.Node.{chain_kept};
 ghost use Rattle.cga_forest.specs.Count.{tally};
 ghost use Rattle.cga_forest.specs.View.{Seen, is_shown};
-ghost use Rattle.cga_forest.specs.Placing.{IsRootNode, MayGrow, children_after, state_after};
-ghost use Rattle.cga_shape.specs.Root.{root_scope};
-ghost use Rattle.cga_forest.specs.Tree.{ForestView, HasInner, HasNoLot, IsRootOf, IsWithout, content_of, above, slot_at, ListsChanged, IsLeastHull, IsLeastAsking, NoneAsks, Replaces, node_at, marked_at, KeepsMark};
+ghost use Rattle.cga_forest.specs.Placing.{MayGrow, children_after, state_after};
+ghost use Rattle.cga_forest.specs.Tree.{ForestView, HasInner, content_of, above, slot_at, ListsChanged, IsLeastHull, IsLeastAsking, NoneAsks, Replaces, node_at, marked_at, KeepsMark};
 
 use boxes::changed_boxes;
 use cga_fraction::{List, NoMemory};
@@ -34,13 +34,13 @@ use cga_frame::WorldBox;
 use cga_index::NodeId;
 use cga_order::Chain;
 use cga_rule::Grammar;
-use cga_shape::{Answers, Emitted, Lot, ShapeFault};
-use cga_word::{Mode, Name};
+use cga_shape::{Answers, Emitted, ShapeFault};
+use cga_word::Mode;
 pub use node::{Node, State};
-use placing::{children_after, kind_after, root_node};
+use placing::{children_after, kind_after};
 use roots::Roots;
 use setting::setting_of;
-use slots::{depth_of, parent_at, replace, set_aside};
+use slots::{depth_of, parent_at, replace};
 use std::alloc::Global;
 use std::marker::Model;
 use store::Store;
@@ -122,16 +122,6 @@ impl Forest {
         }
     }
 
-    /// The root of the lot of that name. None exactly where no such lot is there. It is found without a walk.
-    pub fn root_of(&self, name: Name) -> Option<NodeId>
-        ensures { (c : ℕ) → (result ≡ Some c) ↔ IsRootOf (node_at self.now) name c }
-    {
-        match self.roots.find(name) {
-            Some(root) => Some(NodeId::new(root as u64)),
-            None => None,
-        }
-    }
-
     /// The least box that holds the boxes of a node and of all below it.
     pub fn hull(&self, id: NodeId) -> WorldBox
         requires here { IsSome (node_at self.now id) }
@@ -147,65 +137,6 @@ impl Forest {
         ensures none { (result ≡ None) ↔ NoneAsks self.now id }
     {
         self.store.entry(slot_of(id)).hulls.asking
-    }
-
-    /// Adds a root, of a lot that isn't there.
-    fn add_root(&mut self, node: Node) -> Result<usize, NoMemory>
-        requires top { IsTop node }
-        requires new { HasNoLot self.old node.shape.lot }
-        ensures fresh { IfOk result (λ id. node_at self.old id ≡ None) }
-        ensures unmarked { IfOk result (λ id. marked_at self.old id ≡ None) }
-        ensures node { IfOk result (λ id. node_at self.new id ≡ Some (record { node = node; depth = 0; parent = None; index = 0; children = [] })) }
-        ensures others { IfOk result (λ id. (other : ℕ) → other ≢ id → node_at self.new other ≡ node_at self.old other) }
-        ensures mark { KeepsMark self.old self.new }
-        ensures mode { self.new.mode ≡ self.old.mode }
-        ensures err { OnErr result (self.new ≡ self.old) }
-    {
-        let (alloc, marking, name) = (self.alloc, self.marking, node.lot());
-        self.store.reserve(1)?;
-        self.roots.reserve()?;
-        let id = self.store.add(alloc, marking, node, 0, None, 0);
-        self.roots.push(name, id);
-        self.roots.settle_unless(marking);
-        Ok(id)
-    }
-
-    /// Adds the waiting root of a lot. Takes memory.
-    pub fn add_lot(&mut self, lot: &Lot, grammar: &Grammar) -> Result<NodeId, NoMemory>
-        requires new { HasNoLot self.old lot.now.name }
-        requires scope { IsOk (root_scope lot.now) }
-        ensures fresh { IfOk result (λ id. node_at self.old id ≡ None) }
-        ensures unmarked { IfOk result (λ id. marked_at self.old id ≡ None) }
-        ensures root { IfOk result (λ id. (n : Node) × IsRootNode grammar.now lot.now n × (node_at self.new id ≡ Some (record { node = n; depth = 0; parent = None; index = 0; children = [] }))) }
-        ensures others { IfOk result (λ id. (other : ℕ) → other ≢ id → node_at self.new other ≡ node_at self.old other) }
-        ensures mark { KeepsMark self.old self.new }
-        ensures mode { self.new.mode ≡ self.old.mode }
-        ensures err { OnErr result (self.new ≡ self.old) }
-    {
-        let node = root_node(self.alloc, lot, grammar)?;
-        let root = self.add_root(node)?;
-        Ok(NodeId::new(root as u64))
-    }
-
-    /// Takes the nodes of the lot of that name away. False exactly where no such lot is there.
-    pub fn remove_lot(&mut self, name: Name) -> bool
-        ensures absent { result ≡ false → HasNoLot self.old name }
-        ensures same { result ≡ false → self.new ≡ self.old }
-        ensures there { result ≡ true → (root : ℕ) × IsRootOf (node_at self.old) name root × IsWithout self.old self.new root }
-        ensures mark { KeepsMark self.old self.new }
-        ensures mode { self.new.mode ≡ self.old.mode }
-    {
-        match self.roots.take_out(name) {
-            Some(root) => {
-                self.roots.settle_unless(self.marking);
-                set_aside(&mut self.store, root, 257);
-                if !self.marking {
-                    self.store.settle();
-                }
-                true
-            }
-            None => false,
-        }
     }
 
     /// Gives a node the outcome of its expansion and the answers that it was asked with. An old child stays with its
@@ -273,6 +204,14 @@ impl Forest {
         Ok(boxes)
     }
 
+    /// Whether a mark stands.
+    pub fn is_marked(&self) -> bool
+        ensures { result ≡ self.now.marking }
+    {
+        self.marking
+    }
+
+    /// Makes the mark the nodes as they stand.
     pub fn begin(&mut self)
         requires unmarked { self.old.marking ≡ false }
         ensures marking { self.new.marking ≡ true }
@@ -282,6 +221,7 @@ impl Forest {
         self.marking = true;
     }
 
+    /// Drops the mark, and what was set aside since. The time goes by what went or came since the mark.
     pub fn settle(&mut self)
         requires marked { self.old.marking ≡ true }
         ensures marking { self.new.marking ≡ false }
@@ -293,6 +233,7 @@ impl Forest {
         self.marking = false;
     }
 
+    /// Makes the nodes those of the mark again, with their ids, and drops it. The time goes by what changed since the mark.
     pub fn roll_back(&mut self)
         requires marked { self.old.marking ≡ true }
         ensures marking { self.new.marking ≡ false }

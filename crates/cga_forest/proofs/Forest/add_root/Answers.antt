@@ -3,7 +3,7 @@ use Rattle.std.specs.Prelude.{Option, if◌then◌else◌}
 use Rattle.cga_forest.specs.declared.entry.Entry.{Entry}
 use Rattle.cga_forest.specs.Roots.{AreApart}
 use Rattle.cga_forest.specs.Tree.{IsForest}
-use Rattle.cga_forest.proofs.Lots.{no_root}
+use Rattle.cga_forest.proofs.ByName.{no_root}
 use Rattle.cga_forest.proofs.Marks.{IsForest-added}
 use Rattle.cga_forest.proofs.Forest.add_root.Goals as goal
 

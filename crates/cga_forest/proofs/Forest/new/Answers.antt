@@ -1,4 +1,4 @@
-use Rattle.cga_forest.proofs.Lots.{none_forest}
+use Rattle.cga_forest.proofs.ByName.{none_forest}
 use Rattle.cga_forest.proofs.Forest.new.Goals as goal
 
 pub invariant_of-result : goal.invariant_of-result

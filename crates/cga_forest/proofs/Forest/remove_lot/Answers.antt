@@ -2,7 +2,7 @@ use Rattle.std.proofs.Common.{◌∙◌, sym, ap, subst}
 use Rattle.std.specs.Prelude.{if◌then◌else◌}
 use Rattle.cga_forest.specs.View.{present_of, slot}
 use Rattle.cga_forest.specs.Tree.{ForestView, IsRootOf, node_at}
-use Rattle.cga_forest.proofs.Lots.{no_lot, root_from}
+use Rattle.cga_forest.proofs.ByName.{no_lot, root_from}
 use Rattle.cga_forest.proofs.Marks.{IsForest-settled, IsForest-without_root, without_root, tops_left, cut_seen, present_settled}
 use Rattle.cga_forest.proofs.Forest.remove_lot.Goals as goal
 

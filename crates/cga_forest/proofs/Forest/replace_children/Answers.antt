@@ -6,7 +6,7 @@ use Rattle.cga_forest.specs.declared.setting.Setting.{Setting}
 use Rattle.cga_forest.specs.View.{at, present_of}
 use Rattle.cga_forest.specs.Tree.{ForestView, IsInner, ListsChanged, node_at}
 use Rattle.cga_forest.specs.Placing.{children_after, setting, state_after}
-use Rattle.cga_forest.proofs.Grown.{entry_node, may_grow}
+use Rattle.cga_forest.proofs.Grown.{entry_node, may_grow, path_deep}
 use Rattle.cga_forest.proofs.Forest.replace_children.Goals as goal
 
 pub replace_with-requires : goal.replace_with-requires
@@ -20,8 +20,9 @@ replace_with-requires c =
     let asks = ap (λ (s : Setting). s.asks) c.in_ok-setting.ensures ∙ ap (λ (m : Node). (setting g m.shape.symbol).asks) (sym n) in
     let state : record { kind = c.kind_after.result; answers = c.args.answers; asks = c.in_ok-setting.setting.asks } ≡ state_after g e.node c.args.answers o = λ i. record { kind = c.kind_after.ensures i; answers = c.args.answers; asks = asks i } in
     let news : c.in_ok-news.news.items ≡ children_after g e.node o = c.in_ok-news.ensures ∙ ap (λ (m : Node). children_after g m o) (sym n) in
+    let deep = path_deep (λ k. present_of (at c.self.inside.store k)) c.self.invariant.present.tree c.self.invariant.present.places c.slot_of-id.result e seen in
     record {
-      here = (e, there, subst (λ (s : State). IsInner e s c.in_ok-news.news.items) (sym state) (subst (λ (l : List Node). IsInner e (state_after g e.node c.args.answers o) l) (sym news) (may_grow g e c.args.answers o c.requires.here.2)));
+      here = (e, there, subst (λ (s : State). IsInner e s c.in_ok-news.news.items) (sym state) (subst (λ (l : List Node). IsInner e (state_after g e.node c.args.answers o) l) (sym news) (may_grow g e c.args.answers o deep c.requires.here.2)));
     }
 
 pub returns-clause-boxes : goal.returns-clause-boxes

@@ -1,6 +1,6 @@
 use Rattle.std.proofs.Common.{◌≡◌, ◌∙◌, ℕ, Option, None, Some, sym, ap}
 use Rattle.cga_forest.specs.Roots.{root_under}
-use Rattle.cga_forest.proofs.Lots.{root_exact}
+use Rattle.cga_forest.proofs.ByName.{root_exact}
 use Rattle.cga_forest.proofs.Forest.root_of.Goals as goal
 
 pub returns-in-Some : goal.returns-in-Some
