@@ -34,11 +34,11 @@ fn ruled(alloc: Global, sources: &Sources, grammar: Grammar) -> Result<Sources, 
     with_grammar(alloc, sources, grammar)
 }
 
-fn rules(alloc: Global, sources: &Sources, grammar: Grammar) -> Result<Sources, EditRefused>
-    ensures { ChangeGives sources.now (Edit.Rules grammar) result }
+fn rules(alloc: Global, sources: &Sources, given: Grammar) -> Result<Sources, EditRefused>
+    ensures { ChangeGives sources.now (Edit.Rules given) result }
 {
-    checked(&grammar)?;
-    let grammar = ranked(alloc, &grammar)?;
+    checked(&given)?;
+    let grammar = ranked(alloc, &given)?;
     with_grammar(alloc, sources, grammar)
 }
 
