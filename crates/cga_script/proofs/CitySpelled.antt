@@ -1,9 +1,8 @@
 -- What the lines of a city say may be dumped, and is read back.
-use Rattle.std.proofs.Common.{◌≡◌, Bool, true, false, List, [], ◌∷◌, map, Option, Some, None, Ok, refl, ap, sym, subst, if◌then◌else◌}
+use Rattle.std.proofs.Common.{◌≡◌, Bool, true, false, List, [], ◌∷◌, map, Option, Some, None, Ok, refl, sym, subst, if◌then◌else◌}
 use Rattle.std.specs.List.{All}
 use Rattle.std.proofs.lemmas.List.Elements.{All-head, All-tail, All-cons, All-nil}
 use Rattle.cga_syntax.specs.Lexemes.{is}
-use Rattle.cga_syntax.specs.declared.lexeme.Lexeme.{Lexeme}
 use Rattle.cga_syntax.specs.declared.lexeme.Lexeme.TheVariants as lexeme
 use Rattle.cga_form.specs.BlockTells.{Say}
 use Rattle.cga_form.specs.Lines.{Line}
@@ -14,7 +13,7 @@ use Rattle.cga_shape.specs.declared.lot.Lot.{Lot}
 use Rattle.cga_shape.specs.declared.sources.Sources.{Sources}
 use Rattle.cga_script.specs.declared.city_line.CityLine.{CityLine}
 use Rattle.cga_script.specs.declared.city_line.CityLine.TheVariants as line
-use Rattle.cga_script.specs.CityLines.{city_pieces, rules_part, with_lot, lots_after, sources_of, CityTells}
+use Rattle.cga_script.specs.CityLines.{city_pieces, rules_part, with_lot, lots_after, CityTells}
 use Rattle.cga_script.specs.DumpLines.{IsSaidLot, Differ, IsSpelledCity}
 use Rattle.cga_script.proofs.Said.{rule_lines}
 
