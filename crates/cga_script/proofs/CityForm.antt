@@ -1,5 +1,5 @@
 -- The lines of a block of a whole city are a form.
-use Rattle.std.proofs.Common.{◌≡◌, ℕ, ◌&&◌, Bool, true, false, List, [], ◌∷◌, ◌++◌, Some, refl, codes, nat_le, if◌then◌else◌}
+use Rattle.std.proofs.Common.{◌≡◌, ℕ, ◌&&◌, Bool, true, false, List, ◌∷◌, ◌++◌, refl, codes, nat_le, if◌then◌else◌}
 use Rattle.cga_syntax.specs.declared.lexeme.Lexeme.{Lexeme}
 use Rattle.cga_syntax.specs.declared.print.space.Space.TheVariants.{Usual}
 use Rattle.cga_syntax.specs.Pieces.{Pieces, token, never, number, whole, rule_pieces, Writes}

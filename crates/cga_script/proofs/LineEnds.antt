@@ -1,5 +1,5 @@
 -- How the end of a block is looked for.
-use Rattle.std.proofs.Common.{◌≡◌, ℕ, suc, ◌+◌, ◌-◌, ◌<◌, ◌≤◌, ◌&&◌, ◌↔◌, Bool, true, false, not, IsTrue, List, [], ◌∷◌, ◌++◌, length, length-drop, drop, arith, ap, sym, ◌∙◌, refl, Result, Ok, Err, codes}
+use Rattle.std.proofs.Common.{◌≡◌, ℕ, ◌+◌, ◌-◌, ◌<◌, ◌≤◌, ◌&&◌, ◌↔◌, Bool, true, false, not, IsTrue, List, [], ◌∷◌, length, length-drop, drop, arith, ap, sym, ◌∙◌, refl, Ok, Err, codes}
 use Rattle.std.proofs.lemmas.List.{drop-drop}
 use Rattle.cga_lexer.specs.declared.token.Token.{Token}
 use Rattle.cga_lexer.specs.declared.token.TokenKind.{TokenKind}
@@ -16,7 +16,7 @@ use Rattle.cga_form.specs.Lines.{Line, is_long}
 use Rattle.cga_form.specs.Tokens.{is_word}
 use Rattle.cga_form.proofs.Singles.{word_is}
 use Rattle.cga_parser.specs.BlockTells.{EndsBlock}
-use Rattle.cga_script.specs.Ends.{are_end, are_none, ends_after, is_end_line}
+use Rattle.cga_script.specs.Ends.{are_end, ends_after, is_end_line}
 
 -- ---- a turn of the loop
 

@@ -1,5 +1,5 @@
 -- A lot that some line says is told by its text.
-use Rattle.std.proofs.Common.{◌≡◌, ℕ, zero, suc, ◌+◌, ◌≤◌, ◌<◌, nat_le, nat_lt, ◌&&◌, Bool, true, false, List, [], ◌∷◌, ◌++◌, append_assoc, length, length-append, map, ℤ, pos, negsuc, Option, Some, Ok, Err, arith, ap, sym, ◌∙◌, refl, subst, codes, decimal, if◌then◌else◌}
+use Rattle.std.proofs.Common.{◌≡◌, ℕ, zero, suc, ◌+◌, ◌≤◌, nat_le, nat_lt, ◌&&◌, Bool, true, false, List, [], ◌∷◌, ◌++◌, length, length-append, map, ℤ, pos, negsuc, Some, Ok, Err, arith, ap, sym, ◌∙◌, refl, subst, codes, decimal, if◌then◌else◌}
 use Rattle.std.specs.Fmt.{signed_decimal}
 use Rattle.std.specs.List.{All}
 use Rattle.std.proofs.lemmas.Bool.Decides.{nat_tests}
@@ -11,7 +11,6 @@ use Rattle.cga_fraction.specs.Texts.{exact_text_of}
 use Rattle.cga_lexer.specs.Line.{Lexed, tokens_of}
 use Rattle.cga_lexer.specs.declared.token.Token.{Token}
 use Rattle.cga_rule.specs.declared.grammar.Attribute.{Attribute}
-use Rattle.cga_syntax.specs.Brackets.{walk}
 use Rattle.cga_syntax.specs.Lexemes.{keyword_of, is_reserved}
 use Rattle.cga_syntax.specs.Pieces.{Pieces, token, never, number, word, whole, named, valued, Writes}
 use Rattle.cga_syntax.specs.Printing.{printed, exactly, magnitude}
@@ -22,12 +21,11 @@ use Rattle.cga_syntax.specs.declared.print.space.Space.TheVariants.{Usual}
 use Rattle.cga_syntax.proofs.Again.{lexemes, again}
 use Rattle.cga_syntax.proofs.Exact.{whole_small}
 use Rattle.cga_syntax.proofs.Fronts.{named_of}
-use Rattle.cga_syntax.proofs.LineTexts.{below, below_more, attribute_tokens}
+use Rattle.cga_syntax.proofs.LineTexts.{below, below_more}
 use Rattle.cga_syntax.proofs.Tokens.{line_tokens}
 use Rattle.cga_syntax.proofs.Visible.{attribute_visible}
 use Rattle.cga_form.specs.BlockTells.{unless_blank, unless_long, BlockTells}
 use Rattle.cga_form.specs.Cursor.{seen}
-use Rattle.cga_form.specs.Lines.{Line}
 use Rattle.cga_form.specs.Tells.{Tells}
 use Rattle.cga_form.proofs.Again.{never_written}
 use Rattle.cga_form.proofs.Written.{head_of}

@@ -1,9 +1,8 @@
 -- The text of a lot is lexed as its tokens.
-use Rattle.std.proofs.Common.{◌≡◌, ℕ, zero, suc, ◌+◌, ◌≤◌, ◌<◌, ◌==◌, false, List, [], ◌∷◌, ◌++◌, append_assoc, length, length-append, ℤ, pos, negsuc, arith, ap, sym, ◌∙◌, refl, subst, inr, codes, decimal, if◌then◌else◌}
+use Rattle.std.proofs.Common.{◌≡◌, ℕ, zero, suc, ◌+◌, false, List, [], ◌∷◌, ◌++◌, append_assoc, ℤ, pos, negsuc, ap, sym, ◌∙◌, refl, subst, inr, codes, decimal}
 use Rattle.std.specs.Fmt.{signed_decimal}
-use Rattle.std.proofs.lemmas.Fmt.{length-decimal-le}
-use Rattle.cga_fraction.specs.Rat.{Rat, of_int}
-use Rattle.cga_fraction.specs.Texts.{literal_text_of, exact_text_of}
+use Rattle.cga_fraction.specs.Rat.{Rat}
+use Rattle.cga_fraction.specs.Texts.{exact_text_of}
 use Rattle.cga_lexer.specs.Bytes.{begins}
 use Rattle.cga_lexer.specs.Line.{lex, tokens_of}
 use Rattle.cga_lexer.specs.declared.sign.Sign.TheVariants as s

@@ -1,5 +1,5 @@
 -- The order of derivation is read as it is written.
-use Rattle.std.proofs.Common.{◌≡◌, ℕ, List, [], ◌∷◌, Option, Some, None, refl, ap, codes}
+use Rattle.std.proofs.Common.{◌≡◌, ℕ, List, [], ◌∷◌, Some, refl, ap, codes}
 use Rattle.cga_syntax.specs.Lexemes.{is}
 use Rattle.cga_syntax.specs.declared.lexeme.Lexeme.{Lexeme}
 use Rattle.cga_syntax.specs.declared.lexeme.Lexeme.TheVariants as lexeme

@@ -1,5 +1,5 @@
 -- What was read may be printed.
-use Rattle.std.proofs.Common.{◌≡◌, ℕ, ◌+◌, ◌&&◌, nat_le, Bool, true, false, List, [], ◌∷◌, ◌++◌, length, map, Option, Some, Result, Ok, Err, refl, ap, sym, subst, codes, if◌then◌else◌}
+use Rattle.std.proofs.Common.{◌≡◌, ℕ, ◌+◌, ◌&&◌, nat_le, Bool, true, false, List, ◌∷◌, length, map, Ok, Err, refl, ap, subst, codes, if◌then◌else◌}
 use Rattle.cga_lexer.specs.Line.{Lexed, tokens_of}
 use Rattle.cga_rule.specs.declared.rule.Rule.{Rule}
 use Rattle.cga_syntax.specs.GrammarText.{ArePrintable}
@@ -23,7 +23,7 @@ use Rattle.cga_script.specs.declared.script_command.ScriptCommand.{ScriptCommand
 use Rattle.cga_script.specs.declared.script_command.ScriptCommand.TheVariants as c
 use Rattle.cga_script.specs.declared.version.Version.{Version}
 use Rattle.cga_script.specs.Commands.{command_pieces, CommandTells}
-use Rattle.cga_script.specs.CityLines.{rules_part, sources_of, CityTells}
+use Rattle.cga_script.specs.CityLines.{rules_part, CityTells}
 use Rattle.cga_script.proofs.Said.{rule_lines, tokens_tell}
 
 -- ---- a rule that is put

@@ -1,5 +1,5 @@
 -- What a line says as a line of one kind of block, it says as one of another where both are written alike.
-use Rattle.std.proofs.Common.{◌≡◌, ℕ, ◌+◌, Bool, true, false, List, [], ◌∷◌, length, map, Option, Some, None, Result, Ok, Err, refl, sym, subst}
+use Rattle.std.proofs.Common.{◌≡◌, ℕ, ◌+◌, Bool, true, false, List, [], ◌∷◌, length, map, Option, Some, None, Result, Ok, Err, refl, subst}
 use Rattle.cga_lexer.specs.Line.{Lexed, lex, tokens_of}
 use Rattle.cga_lexer.specs.declared.token.Token.{Token}
 use Rattle.cga_syntax.specs.declared.lexeme.Lexeme.{Lexeme}
@@ -12,7 +12,6 @@ use Rattle.cga_form.specs.LineTells.{with_place, by_tokens}
 use Rattle.cga_form.specs.Lines.{Line, is_long}
 use Rattle.cga_form.specs.Tells.{Tells}
 use Rattle.cga_parser.specs.Blocks.{block_pieces}
-use Rattle.cga_parser.specs.declared.block_line.BlockLine.{BlockLine}
 use Rattle.cga_script.specs.declared.city_line.CityLine.{CityLine}
 use Rattle.cga_script.specs.declared.city_line.CityLine.TheVariants as line
 use Rattle.cga_script.specs.CityLines.{city_pieces, rules_part}

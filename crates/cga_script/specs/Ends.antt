@@ -1,5 +1,5 @@
 -- Lines that are told by one or two words: the end of a block, and the first line of a script of version 2.
-use Rattle.std.specs.Prelude.{ℕ, ◌&&◌, Bool, true, false, not, List, [], ◌∷◌, Ok, is_some, codes}
+use Rattle.std.specs.Prelude.{◌&&◌, Bool, true, false, not, [], ◌∷◌, Ok, is_some, codes}
 use Rattle.cga_lexer.specs.Line.{Lexed, tokens_of}
 use Rattle.cga_syntax.specs.declared.lexeme.Lexeme.{Lexeme}
 use Rattle.cga_form.specs.Cursor.{seen}

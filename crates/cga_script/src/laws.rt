@@ -28,7 +28,8 @@ pub fn may_be_printed()
 
 /// The lines between `city` and `end` of a dump tell the same mode, attributes, lots and entries, with
 /// the entries by rising priority and id, where lines say each attribute, each rule and each lot, and
-/// lot names differ.
+/// lot names differ. Of sources that were read they do.
 pub fn dump_reads_back()
-    ensures { (sources : Sources) → IsSpelledCity sources → IsReadBack sources }
+    ensures spelled { (lines : List Line) (sources : Sources) → CityTells lines (Ok sources) → IsSpelledCity sources }
+    ensures back { (sources : Sources) → IsSpelledCity sources → IsReadBack sources }
 {}
