@@ -18,6 +18,8 @@ mod slots;
 mod standing;
 mod step;
 mod store;
+#[cfg(test)]
+mod tests;
 
 ghost use Rattle.std.specs.Prelude.{◌≡◌, ◌≢◌, ℕ, true, false, [], Some, None, IfOk, IfSome, IsSome, is_some, option_copied, ◌↔◌, OnOk, OnErr};
 ghost use Rattle.cga_order.specs.Chain as order;
