@@ -4,3 +4,13 @@ pub mod Scopes
 pub mod Walk
 pub mod Stops
 pub mod Rules
+pub mod Choices
+pub mod Expand
+pub mod Asked
+pub mod Children
+pub mod Derivation
+pub mod Validity
+pub mod Settings
+pub mod Touched
+pub mod Run
+pub mod Laws

@@ -5,14 +5,20 @@
 //! wrong: a fault comes where it stands in the text, and nothing is emitted then.
 #![tactic(auto)]
 
+mod choice;
+mod choose;
+pub mod derivations;
 mod emit;
 mod faults;
+pub mod laws;
 pub mod limits;
 mod parts;
 mod rules;
 mod scopes;
 mod state;
+#[cfg(test)]
+mod tests;
 mod walk;
 
-pub use rules::expansion;
+pub use rules::expand;
 pub use state::State;

@@ -1,58 +1,19 @@
-//! Which rule and which alternative a shape takes, and what it becomes.
-ghost use Rattle.std.specs.Prelude.{◌≡◌, IfOk, MatchResult};
+//! Which alternative a shape takes, and what it becomes.
+ghost use Rattle.std.specs.Prelude.{◌≡◌, ◌+◌, ◌≤◌, IfOk, length};
 ghost use Rattle.std.specs.Option.{option_copied};
-ghost use Rattle.cga_expr.specs.Names.{seen};
-ghost use Rattle.cga_expand.specs.Rules.{chosen, drawn_number, expansion, known_to, millionths, optional_holds, picked};
+ghost use Rattle.cga_expand.specs.Expand.{expand_of};
+ghost use Rattle.cga_expand.specs.Rules.{drawn_number, millionths, picked};
 
-use crate::faults::or_expr;
-use crate::limits::{MILLIONTHS, MOST_DEPTH};
+use crate::choose::{chosen_rule, names_of};
+use crate::limits::{MILLIONTHS, MOST_CHILDREN, MOST_DEPTH};
 use crate::state::State;
 use crate::walk::walk_items;
-use cga_expr::{Names, holds};
-use cga_fraction::{Fraction, List, NoMemory, Stop};
-use cga_rule::{Alternative, Attribute, Cond, Item, Rule};
+use cga_fraction::{Fraction, List, NoMemory, Steps, Stop};
+use cga_rule::{Alternative, Grammar, Item};
 use cga_shape::{Answers, Emitted, Shape, ShapeFault};
 use cga_word::word;
 use std::alloc::Global;
-
-fn names_of<'a>(attributes: &'a [Attribute], shape: &'a Shape, rule: &'a Rule) -> Names<'a>
-    ensures { seen result ≡ known_to attributes.now shape.now rule.now }
-{
-    Names {
-        params: rule.params.as_slice(),
-        args: shape.args.as_slice(),
-        attributes,
-        size: shape.scope.size(),
-        seed: shape.seed,
-    }
-}
-
-fn optional_holds(cond: &Option<Cond>, names: &Names, answers: &Answers) -> Result<bool, ShapeFault>
-    ensures { result ≡ optional_holds cond.now (seen names.now) answers.now }
-{
-    match cond {
-        None => Ok(true),
-        Some(cond) => or_expr(holds(cond, names, answers)),
-    }
-}
-
-fn chosen_rule<'a>(
-    attributes: &[Attribute],
-    rules: &'a [Rule],
-    shape: &Shape,
-    answers: &Answers,
-) -> Result<&'a Rule, ShapeFault>
-    ensures { MatchResult result
-        (λ rule. chosen attributes.now shape.now answers.now rules.now ≡ Ok rule.now)
-        (λ fault. chosen attributes.now shape.now answers.now rules.now ≡ Err fault) }
-{
-    for rule in rules {
-        if optional_holds(&rule.cond, &names_of(attributes, shape, rule), answers)? {
-            return Ok(rule);
-        }
-    }
-    Err(ShapeFault::Unmatched)
-}
+use std::sync::ledger::Ledger;
 
 fn drawn_number(shape: &Shape) -> u64
     ensures { result ≡ drawn_number shape.now }
@@ -82,21 +43,19 @@ fn picked_items(alternatives: &[Alternative], number: u64) -> Option<&List<Item>
     None
 }
 
-/// What a shape becomes by the rules of its symbol, which are tried in this order. Takes memory.
-#[tactic(auto, unfolding(crate::specs::Rules::expansion))]
-pub fn expansion(
+#[tactic(auto, unfolding(crate::specs::Rules::expansion, crate::specs::Expand::expand_of))]
+fn expansion(
     alloc: Global,
-    attributes: &[Attribute],
-    rules: &[Rule],
+    grammar: &Grammar,
     shape: &Shape,
     answers: &Answers,
 ) -> Result<Result<List<Emitted>, ShapeFault>, NoMemory>
-    ensures { IfOk result (λ made. made ≡ expansion attributes.now rules.now shape.now answers.now) }
+    ensures { IfOk result (λ made. made ≡ expand_of grammar.now shape.now answers.now) }
 {
     if shape.path.len() == MOST_DEPTH {
         return Ok(Err(ShapeFault::TooDeep));
     }
-    let rule = match chosen_rule(attributes, rules, shape, answers) {
+    let rule = match chosen_rule(grammar, shape, answers) {
         Ok(rule) => rule,
         Err(fault) => return Ok(Err(fault)),
     };
@@ -108,7 +67,7 @@ pub fn expansion(
         children: List::new(alloc),
         parts: 0,
     };
-    let names = names_of(attributes, shape, rule);
+    let names = names_of(grammar.attributes.as_slice(), shape, rule);
     match walk_items(alloc, items.as_slice(), &names, &mut state) {
         Ok(()) => {
             let State { children, .. } = state;
@@ -117,4 +76,22 @@ pub fn expansion(
         Err(Stop::Fault(fault)) => Ok(Err(fault)),
         Err(Stop::NoMemory) => Err(NoMemory),
     }
+}
+
+/// What a shape becomes by the rules of its symbol: its children in order of emission, at most
+/// `MOST_CHILDREN`, or its first fault. No rule of the grammar is copied, and those of the symbol are
+/// found in time linear in the number of rules. Takes memory.
+pub fn expand<E: Ledger>(
+    alloc: Global,
+    grammar: &Grammar,
+    shape: &Shape,
+    answers: &Answers,
+    expansions: &mut Steps<E>,
+) -> Result<Result<List<Emitted>, ShapeFault>, NoMemory>
+    ensures value { IfOk result (λ made. made ≡ expand_of grammar.now shape.now answers.now) }
+    ensures few { IfOk result (λ made. IfOk made (λ children. length children ≤ MOST_CHILDREN)) }
+    ensures ticked { expansions.new ≡ expansions.old + 1 }
+{
+    expansions.tick();
+    expansion(alloc, grammar, shape, answers)
 }

@@ -1,5 +1,5 @@
 ghost use Rattle.std.specs.Prelude.{◌≡◌, position, slice_get};
-ghost use Rattle.cga_expr.specs.Names.{argument_of, attribute_of, number_of, same_name, seen};
+ghost use Rattle.cga_expr.specs.Names.{attribute_of, number_of, same_name, seen, value_at};
 
 use cga_fraction::Fraction;
 use cga_frame::Point;
@@ -18,24 +18,21 @@ pub struct Names<'a> {
 }
 
 impl Names<'_> {
-    // A parameter hides an attribute of its name.
     #[tactic(auto, unfolding(crate::specs::Names::number_of))]
     pub(crate) fn number(&self, name: Name) -> Fraction
         ensures { result ≡ number_of (seen self.now) name }
     {
-        if let Some(argument) = argument(self.params, self.args, name) {
-            return argument;
-        }
-        attribute(self.attributes, name).unwrap_or(Fraction::zero())
+        self.value(name).unwrap_or(Fraction::zero())
     }
-}
 
-fn argument(params: &[Name], args: &[Fraction], name: Name) -> Option<Fraction>
-    ensures { result ≡ argument_of params.now args.now name }
-{
-    match place(params, name) {
-        Some(place) => argument_at(args, place),
-        None => None,
+    // A parameter hides an attribute of its name, also where it has no argument.
+    fn value(&self, name: Name) -> Option<Fraction>
+        ensures { result ≡ value_at (seen self.now) name (position (λ param. same_name param name) self.now.params.now) }
+    {
+        match place(self.params, name) {
+            Some(place) => argument_at(self.args, place),
+            None => attribute(self.attributes, name),
+        }
     }
 }
 

@@ -1,0 +1,52 @@
+-- What is read of a group is what the definitions say of its symbol.
+use Rattle.std.proofs.Common.{◌≡◌, ℕ, List, Bool, true, false, cond, refl, sym, ap, ◌∙◌, Option, Some, None}
+use Rattle.std.specs.declared.cmp.Ordering.{Ordering}
+use Rattle.std.specs.declared.cmp.Ordering.TheVariants.{Less, Equal, Greater}
+use Rattle.std.specs.Ordering.{nat_cmp, is_eq}
+use Rattle.std.specs.Cmp.Lexicographic.{slice_cmp}
+use Rattle.std.specs.FinMap.{nat_cmp-IsAntisymmetric, slice_cmp-IsAntisymmetric}
+use Rattle.std.specs.BTreeMap.{BTreeMap, get, Updates}
+use Rattle.cga_word.specs.declared.target.Target.TheVariants.{Noparent, Active}
+use Rattle.cga_rule.specs.declared.grammar.Entry.{Entry}
+use Rattle.cga_rule.specs.declared.grammar.Grammar.{Grammar}
+use Rattle.cga_rule.specs.declared.grammar.Group.{Group}
+use Rattle.cga_check.specs.Groups as groups
+use Rattle.cga_expand.specs.Asked.{group_asks, asks_for}
+use Rattle.cga_expand.specs.Derivation.{priority_of}
+use Rattle.cga_derive.specs.declared.symbol.Symbol.{Symbol}
+use Rattle.cga_derive.specs.Symbols.{symbol_by, symbol_of, IsRead}
+use Rattle.cga_derivation.proofs.Lists.{some_same}
+
+abbrev symbol_in : Option Group → Symbol
+symbol_in None = record { priority = 0; noparent = group_asks None Noparent; active = group_asks None Active }
+symbol_in (Some group) = symbol_by group
+
+read_first : (grammar : Grammar) (name : List ℕ) (o : Option Entry) → groups.first_entry grammar.rules name ≡ o → symbol_of grammar name ≡ symbol_in (groups.group_with grammar.rules name o)
+unfolding symbol_of priority_of asks_for groups.group groups.priority_of
+read_first grammar name None is = rw is refl
+read_first grammar name (Some e) is = rw is refl
+
+pub read_is : (grammar : Grammar) (name : List ℕ) → symbol_of grammar name ≡ symbol_in (groups.group grammar name)
+unfolding groups.group
+read_is grammar name = read_first grammar name (groups.first_entry grammar.rules name) refl
+
+pub read_some : (grammar : Grammar) (name : List ℕ) (group : Group) → Some group ≡ groups.group grammar name → symbol_by group ≡ symbol_of grammar name
+read_some grammar name group is = ap symbol_in is ∙ sym (read_is grammar name)
+
+pub read_none : (grammar : Grammar) (name : List ℕ) → None ≡ groups.group grammar name → symbol_in None ≡ symbol_of grammar name
+read_none grammar name is = ap symbol_in is ∙ sym (read_is grammar name)
+
+equal_here : (o : Ordering) → is_eq o ≡ true → o ≡ Equal
+equal_here Less e = let x : false ≡ true = e in cc
+equal_here Equal e = refl
+equal_here Greater e = let x : false ≡ true = e in cc
+
+-- what was read is right, and so is the rest
+pub still_read : (grammar : Grammar) (old new : BTreeMap (List ℕ) Symbol) (symbol : List ℕ) (read : Symbol) → read ≡ symbol_of grammar symbol → IsRead grammar old → Updates (slice_cmp nat_cmp) old new symbol (Some read) → IsRead grammar new
+still_read grammar old new symbol read is before updates = λ name found e. at name found e (is_eq (slice_cmp nat_cmp symbol name)) refl (updates.0 name)
+  where
+    at : (name : List ℕ) (found : Symbol) → get (slice_cmp nat_cmp) new name ≡ Some found → (b : Bool) → is_eq (slice_cmp nat_cmp symbol name) ≡ b → get (slice_cmp nat_cmp) new name ≡ cond b (Some read) (get (slice_cmp nat_cmp) old name) → found ≡ symbol_of grammar name
+    at name found e true here q =
+        let same : symbol ≡ name = slice_cmp-IsAntisymmetric nat_cmp-IsAntisymmetric symbol name (equal_here _ here) in
+        sym (some_same read found (sym q ∙ e)) ∙ (is ∙ ap (symbol_of grammar) same)
+    at name found e false here q = before name found (sym q ∙ e)

@@ -1,0 +1,31 @@
+use Rattle.std.proofs.Common.{◌<◌, ◌++◌, length, ap, ◌∙◌, subst, arith}
+use Rattle.std.specs.Prelude.{slice_set}
+use Rattle.cga_order.specs.declared.placed.Kind.TheVariants.{Done}
+use Rattle.cga_expand.specs.Children.{Member, placed_from}
+use Rattle.cga_derive.specs.Run.{KeepsKeys, sited_children}
+use Rattle.cga_derive.proofs.Working.{asks-are, working-fault, working-done, same_read}
+use Rattle.cga_derive.proofs.run.Run.turn.Goals as goal
+
+pub returns-in_ok-place_all-in-Ok-clause-turn : goal.returns-in_ok-place_all-in-Ok-clause-turn
+returns-in_ok-place_all-in-Ok-clause-turn g c = λ n turn.
+    let sources = c.args.sources.now in
+    let key = c.args.key.now in
+    let list = c.args.self.now.list.items in
+    let old = c.args.self.now.waiting.entries in
+    let new = c.place_all.new.self.waiting.entries in
+    let within : c.args.place < length list = omega (arith, c.requires.within, c.args.self.now.list.ok.0) in
+    let same = same_read list c.args.place c.index.result.now c.index-2.result.now within c.index.ensures c.index-2.ensures in
+    let asks = asks-are sources list c.as_slice.result.now c.index.result.now c.index-2.result.now c.in_ok-symbol.symbol c.asked-answers.result same c.in_ok-symbol.ensures.value c.as_slice.ensures.value c.asked-answers.ensures in
+    let done = slice_set list c.args.place (record { shape = c.index_mut.result.now.shape; kind = Done }) in
+    let came = c.in_ok-place_all-in-Ok.ensures.list ∙ ap (λ (m : Member). done ++ placed_from key.lot key.path m.shape.symbol 0 c.in-Ok.emitted) same in
+    let keys = subst (λ (m : Member). KeepsKeys sources key (sited_children key m.shape.symbol 0 c.in-Ok.emitted) done old new) same c.in_ok-place_all-in-Ok.ensures.keys in
+    working-done sources c.requires.names n key c.args.place list old turn c.index_mut.result.now c.index-2.result.now c.asked-answers.result c.in_ok-emitted.field-0 c.in-Ok.emitted c.place_all.new.self.list.items new c.index_mut.ensures.value c.index-2.ensures asks c.in_ok-emitted.ensures.value c.in-Ok.is came keys
+
+pub returns-in-Err-clause-turn : goal.returns-in-Err-clause-turn
+returns-in-Err-clause-turn g c = λ n turn.
+    let sources = c.args.sources.now in
+    let list = c.args.self.now.list.items in
+    let within : c.args.place < length list = omega (arith, c.requires.within, c.args.self.now.list.ok.0) in
+    let same = same_read list c.args.place c.index.result.now c.index-2.result.now within c.index.ensures c.index-2.ensures in
+    let asks = asks-are sources list c.as_slice.result.now c.index.result.now c.index-2.result.now c.in_ok-symbol.symbol c.asked-answers.result same c.in_ok-symbol.ensures.value c.as_slice.ensures.value c.asked-answers.ensures in
+    working-fault sources c.requires.names n c.args.key.now c.args.place list c.args.self.now.waiting.entries turn c.index_mut-in-Err.result.now c.index-2.result.now c.asked-answers.result c.in_ok-emitted.field-0 c.in-Err.fault c.index_mut-in-Err.ensures.value c.index-2.ensures asks c.in_ok-emitted.ensures.value c.in-Err.is

@@ -1,0 +1,7 @@
+pub mod Key
+pub mod KeyLaws
+pub mod Symbols
+pub mod Compared
+pub mod Run
+pub mod Derives
+pub mod Laws

@@ -1,0 +1,3 @@
+/// The derivation comes to more shapes than the budget.
+#[derive(Clone, Copy, Debug, PartialEq, Eq)]
+pub struct OverBudget;

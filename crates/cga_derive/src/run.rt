@@ -1,0 +1,181 @@
+ghost use Rattle.std.specs.Prelude.{◌≡◌, ◌+◌, ◌<◌, ◌≤◌, ℕ, ◌++◌, ◌∷◌, [], OnOk, IfOk, length, vec_len, suc};
+ghost use Rattle.cga_derivation.specs.Sites.{sited};
+ghost use Rattle.cga_expand.specs.Children.{placed_at, placed_from};
+ghost use Rattle.cga_expand.specs.Derivation.{NamesDiffer, priority_of};
+ghost use Rattle.cga_expand.specs.Validity.{RootsExist};
+ghost use Rattle.cga_expand.specs.declared.limits.TheConstants.{MOST_CHILDREN};
+ghost use Rattle.cga_derive.specs.Run.{AddsKey, IsAfter, IsInTurnOf, KeepsKeys, sited_children};
+ghost use Rattle.cga_derive.specs.Symbols.{IsRead};
+
+use crate::answers::asked;
+use crate::key::StampKey;
+use crate::keys::{child_key, child_path, root_key};
+use crate::members::{member_of, waiting_symbol};
+use crate::symbols::Symbols;
+use cga_expand::expand;
+use cga_fraction::{List, NoMemory, Steps};
+use cga_rule::Grammar;
+use cga_shape::{Emitted, Kind, Placed, Sources, root_shape};
+use cga_word::Name;
+use std::alloc::Global;
+use std::collections::BTreeMap;
+use std::sync::ledger::Ledger;
+
+/// The list so far, and the place in it of each waiting member, by stamp.
+#[derive(Drop)]
+pub struct Run {
+    pub list: Vec<Placed>,
+    pub waiting: BTreeMap<StampKey, usize>,
+    pub symbols: Symbols,
+}
+
+impl Run {
+    /// The key of child `index` of the shape of a key, for the place behind the list.
+    fn wait(
+        &mut self,
+        alloc: Global,
+        grammar: &Grammar,
+        parent: &StampKey,
+        index: u16,
+        symbol: Name,
+    ) -> Result<(), NoMemory>
+        requires { IsRead grammar.now self.old.symbols.read }
+        ensures key { OnOk result (AddsKey parent.now index (priority_of grammar.now symbol)
+            (length self.old.list.items) self.old.waiting.entries self.new.waiting.entries) }
+        ensures list { self.new.list ≡ self.old.list }
+        ensures read { OnOk result (IsRead grammar.now self.new.symbols.read) }
+    {
+        let found = self.symbols.of(alloc, grammar, symbol)?;
+        let key = child_key(alloc, parent, index, found.priority)?;
+        let place = self.list.len();
+        self.waiting.insert(key, place)?;
+        Ok(())
+    }
+
+    /// One emitted child is placed behind the list.
+    fn place(
+        &mut self,
+        alloc: Global,
+        sources: &Sources,
+        parent: &StampKey,
+        own: Name,
+        index: u16,
+        emitted: Emitted,
+    ) -> Result<(), NoMemory>
+        requires { IsRead sources.now.grammar self.old.symbols.read }
+        ensures list { OnOk result (self.new.list.items ≡ self.old.list.items
+            ++ placed_at parent.now.lot parent.now.path own index emitted ∷ []) }
+        ensures keys { OnOk result (KeepsKeys sources.now parent.now
+            (sited parent.now.priorities (placed_at parent.now.lot parent.now.path own index emitted) ∷ [])
+            self.old.list.items self.old.waiting.entries self.new.waiting.entries) }
+        ensures read { OnOk result (IsRead sources.now.grammar self.new.symbols.read) }
+    {
+        let path = child_path(alloc, &parent.path, index)?;
+        if let Some(symbol) = waiting_symbol(&emitted) {
+            self.wait(alloc, &sources.grammar, parent, index, symbol)?;
+        }
+        self.list
+            .push(member_of(alloc, parent, path, own, index, emitted))?;
+        Ok(())
+    }
+
+    /// The emitted children of the shape of a key are placed behind the list.
+    fn place_all(
+        &mut self,
+        alloc: Global,
+        sources: &Sources,
+        parent: &StampKey,
+        own: Name,
+        emitted: List<Emitted>,
+    ) -> Result<(), NoMemory>
+        requires few { length emitted ≤ MOST_CHILDREN }
+        requires read { IsRead sources.now.grammar self.old.symbols.read }
+        ensures list { OnOk result (self.new.list.items ≡ self.old.list.items
+            ++ placed_from parent.now.lot parent.now.path own 0 emitted) }
+        ensures keys { OnOk result (KeepsKeys sources.now parent.now
+            (sited_children parent.now own 0 emitted)
+            self.old.list.items self.old.waiting.entries self.new.waiting.entries) }
+        ensures read { OnOk result (IsRead sources.now.grammar self.new.symbols.read) }
+    {
+        let mut index: u16 = 0;
+        for child in emitted.into_vec() {
+            self.place(alloc, sources, parent, own, index, child)?;
+            index += 1;
+        }
+        Ok(())
+    }
+
+    /// The shape of the least key is expanded.
+    pub fn turn<E: Ledger>(
+        &mut self,
+        alloc: Global,
+        sources: &Sources,
+        key: &StampKey,
+        place: usize,
+        expansions: &mut Steps<E>,
+    ) -> Result<(), NoMemory>
+        requires names { NamesDiffer sources.now.lots }
+        requires within { place < vec_len self.old.list }
+        requires read { IsRead sources.now.grammar self.old.symbols.read }
+        ensures turn { OnOk result ((n : ℕ)
+            → IsInTurnOf sources.now n key.now place self.old.list.items self.old.waiting.entries
+            → IsAfter sources.now (suc n) self.new.list.items self.new.waiting.entries) }
+        ensures read { OnOk result (IsRead sources.now.grammar self.new.symbols.read) }
+        ensures ticks { OnOk result (expansions.new ≡ expansions.old + 1) }
+        ensures most { expansions.new ≤ expansions.old + 1 }
+    {
+        let own = self.list[place].shape.symbol;
+        let symbol = self.symbols.of(alloc, &sources.grammar, own)?;
+        let shape = &self.list[place].shape;
+        let answers = asked(symbol, self.list.as_slice(), shape);
+        match expand(alloc, &sources.grammar, shape, &answers, expansions)? {
+            Ok(emitted) => {
+                self.list[place].kind = Kind::Done;
+                self.place_all(alloc, sources, key, own, emitted)?;
+                Ok(())
+            }
+            Err(fault) => {
+                self.list[place].kind = Kind::Faulted(fault);
+                Ok(())
+            }
+        }
+    }
+
+    /// The roots, all waiting.
+    pub fn start(alloc: Global, sources: &Sources) -> Result<Run, NoMemory>
+        requires names { NamesDiffer sources.now.lots }
+        requires roots { RootsExist sources.now.lots }
+        ensures after { IfOk result (λ run. IsAfter sources.now 0 run.list.items run.waiting.entries) }
+        ensures read { IfOk result (λ run. IsRead sources.now.grammar run.symbols.read) }
+    {
+        let mut list = Vec::new(alloc);
+        let mut waiting = BTreeMap::new(alloc);
+        let mut symbols = Symbols::new(alloc);
+        for lot in sources.lots.as_slice() {
+            let found = symbols.of(alloc, &sources.grammar, lot.symbol)?;
+            let key = root_key(alloc, sources.mode, lot.name, found.priority)?;
+            let place = list.len();
+            waiting.insert(key, place)?;
+            list.push(Placed {
+                shape: root_shape(alloc, lot),
+                kind: Kind::Waiting,
+            })?;
+        }
+        Ok(Run {
+            list,
+            waiting,
+            symbols,
+        })
+    }
+
+    pub fn into_list(self) -> List<Placed>
+        ensures { result ≡ self.list.items }
+    {
+        let Run {
+            list,
+            waiting: _,
+            symbols: _,
+        } = self;
+        List::from_vec(list)
+    }
+}
