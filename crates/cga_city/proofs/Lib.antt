@@ -1,0 +1,11 @@
+pub mod Sorting
+pub mod Placing
+pub mod Loops
+pub mod Reporting
+pub mod Names
+pub mod Plain
+pub mod Sound
+pub mod Deriving
+pub mod Standing
+pub mod Keeping
+pub mod Drawable

@@ -1,0 +1,9 @@
+pub mod Grammars
+pub mod Lots
+pub mod Derived
+pub mod Apply
+pub mod Order
+pub mod Places
+pub mod Reports
+pub mod City
+pub mod Inside

@@ -1,0 +1,18 @@
+//! A city: sources that edits change, and what they come to.
+//!
+//! It must not know how shapes come about, nor how scripts and reports are written: its contract speaks of sources,
+//! edits and their derivation alone. What callers get wrong: an edit that is refused leaves the city as it was, but one
+//! that finds no memory may leave it cold, and then no report may be asked for.
+#![tactic(auto)]
+
+mod city;
+mod edits;
+mod grammars;
+pub mod limits;
+mod lots;
+mod no_lot;
+mod order;
+mod reports;
+
+pub use city::City;
+pub use no_lot::NoLot;

@@ -1,0 +1,79 @@
+//! Lots as edits change them.
+ghost use Rattle.std.specs.Prelude.{◌≡◌, IfOk};
+ghost use Rattle.cga_city.specs.Lots as spec;
+
+use crate::grammars::is_plain;
+use crate::limits::MOST_LOTS;
+use cga_fraction::{List, NoMemory};
+use cga_rule::Grammar;
+use cga_shape::{EditRefused, Lot};
+use cga_word::Name;
+use std::alloc::Global;
+
+pub(crate) fn lot_place(lots: &[Lot], name: Name) -> Option<usize>
+    ensures { result ≡ spec.lot_place name lots.now }
+{
+    lots.iter().position(|lot| lot.name == name)
+}
+
+pub(crate) fn is_bad(lot: &Lot) -> bool
+    ensures { result ≡ spec.is_bad lot.now }
+{
+    !lot.width.is_positive() || !lot.depth.is_positive() || lot.root_scope().is_err()
+}
+
+/// Whether it would be one lot too many.
+pub(crate) fn finds_no_room(lot: &Lot, lots: &[Lot]) -> bool
+    ensures { result ≡ spec.finds_no_room lot.now lots.now }
+{
+    lot_place(lots, lot.name).is_none() && lots.len() >= MOST_LOTS
+}
+
+pub(crate) fn copied(alloc: Global, lots: &List<Lot>) -> Result<Vec<Lot>, NoMemory>
+    ensures { IfOk result (λ copy. copy.items ≡ lots.now) }
+{
+    Ok(Vec::from_slice(alloc, lots.as_slice())?)
+}
+
+/// A lot in the place of the one of its name, or behind all others.
+pub(crate) fn put_lot(lots: Vec<Lot>, lot: Lot) -> Result<List<Lot>, NoMemory>
+    ensures { IfOk result (λ new. new ≡ spec.with_lot lot lots.items) }
+{
+    let mut members = lots;
+    match lot_place(members.as_slice(), lot.name) {
+        Some(place) => {
+            members[place] = lot;
+        }
+        None => {
+            members.push(lot)?;
+        }
+    }
+    Ok(List::from_vec(members))
+}
+
+/// The first lot whose symbol has no rules without parameters.
+pub(crate) fn rooted(grammar: &Grammar, lots: &[Lot]) -> Result<(), EditRefused>
+    ensures { result ≡ spec.rooted grammar.now lots.now }
+{
+    for lot in lots {
+        if !is_plain(grammar, lot.symbol) {
+            return Err(EditRefused::NoSymbol(lot.symbol));
+        }
+    }
+    Ok(())
+}
+
+/// The first lot that would be refused, and why.
+pub(crate) fn accepted(grammar: &Grammar, lots: &[Lot]) -> Result<(), EditRefused>
+    ensures { result ≡ spec.accepted grammar.now lots.now }
+{
+    for lot in lots {
+        if !is_plain(grammar, lot.symbol) {
+            return Err(EditRefused::NoSymbol(lot.symbol));
+        }
+        if is_bad(lot) {
+            return Err(EditRefused::BadLot(lot.name));
+        }
+    }
+    Ok(())
+}

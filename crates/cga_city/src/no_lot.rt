@@ -1,0 +1,3 @@
+/// No lot has the name.
+#[derive(Clone, Copy, Debug, PartialEq, Eq)]
+pub struct NoLot;
