@@ -1,18 +1,51 @@
-// The script's text: for now the cutting of any pieces into lines, and the line of a lot. It knows nothing of
-// where the pieces come from; of cutting, only `Lines::new` takes memory.
-// The one thing that callers get wrong: a line that is ready has to be cleared before more is fed.
+//! The script's text: the cutting of any pieces into lines, and what each line asks for.
+//!
+//! It knows nothing of where the pieces come from, and does nothing that a line asks for. Callers get
+//! one thing wrong: a line that is ready has to be cleared before more is fed.
 #![tactic(auto)]
 
+#[cfg(test)]
+mod block_tests;
+pub mod city_gathered;
+mod city_line;
+pub mod command_form;
+#[cfg(test)]
+mod command_tests;
+mod dump;
 mod ending;
 mod fed;
+pub mod heads;
+mod laws;
 mod lines;
+mod long_dump;
 pub mod lot_form;
 #[cfg(test)]
 mod lot_tests;
 #[cfg(test)]
+mod refusal_tests;
+mod refusals;
+mod refused;
+mod script_command;
+#[cfg(test)]
+mod shown;
+mod telling_lines;
+#[cfg(test)]
 mod tests;
+mod version;
+mod words;
 
+pub use city_gathered::{CityGathered, CityReader};
+pub use city_line::CityLine;
+pub use command_form::{VersionOneForm, VersionTwoForm, command};
+pub use dump::dump_text;
 pub use ending::Ending;
 pub use fed::Fed;
+pub use laws::{dump_reads_back, may_be_printed, tells_one_command};
 pub use lines::Lines;
+pub use long_dump::LongDump;
 pub use lot_form::LotForm;
+pub use refusals::refusal_text;
+pub use refused::Refused;
+pub use script_command::ScriptCommand;
+pub use telling_lines::{ends_block, version_line};
+pub use version::Version;

@@ -1,0 +1,68 @@
+-- The lines of a block of a whole city are a form.
+use Rattle.std.proofs.Common.{◌≡◌, ℕ, ◌&&◌, Bool, true, false, List, ◌∷◌, ◌++◌, refl, codes, nat_le, if◌then◌else◌}
+use Rattle.cga_syntax.specs.declared.lexeme.Lexeme.{Lexeme}
+use Rattle.cga_syntax.specs.declared.print.space.Space.TheVariants.{Usual}
+use Rattle.cga_syntax.specs.Pieces.{Pieces, token, never, number, whole, rule_pieces, Writes}
+use Rattle.cga_rule.specs.declared.rule.Rule.{Rule}
+use Rattle.cga_form.specs.Laws.{IsForm, Leads}
+use Rattle.cga_form.specs.Parts.{any}
+use Rattle.cga_form.specs.Reader.{begins}
+use Rattle.cga_form.specs.Tokens.{is_word}
+use Rattle.cga_form.proofs.Again.{Begun, begun_token, begun_as, starts_token, missed, misses_end, never_written, ends, peek_yes, peek_no, after, plainly}
+use Rattle.cga_form.proofs.Forms.{Reads, next, done, either}
+use Rattle.cga_parser.specs.Blocks.{block_pieces}
+use Rattle.cga_parser.specs.declared.block_line.BlockLine.{BlockLine}
+use Rattle.cga_parser.specs.declared.block_line.BlockLine.TheVariants as said
+use Rattle.cga_parser.proofs.AreForms.{block_form}
+use Rattle.cga_parser.proofs.Rules.{rule_is}
+use Rattle.cga_script.specs.declared.city_line.CityLine.{CityLine}
+use Rattle.cga_script.specs.declared.city_line.CityLine.TheVariants as line
+use Rattle.cga_script.specs.CityLines.{city_pieces, city}
+use Rattle.cga_script.specs.Lots.{lot_pieces}
+use Rattle.cga_script.specs.Orders.{order_pieces}
+use Rattle.cga_script.proofs.Commands.{no_more}
+use Rattle.cga_script.proofs.Lots.{lot_form}
+use Rattle.cga_script.proofs.Orders.{order_form}
+
+city_reads : (n : ℕ) → Reads n n city_pieces (city n)
+unfolding city
+city_reads n =
+    either (is_word (codes "lot")) (next (lot_form.exact n) (λ l. done refl))
+    (either (is_word (codes "order")) (next (order_form.exact n) (λ m. done refl)) (next (block_form.exact n) (λ b. done refl)))
+
+-- ---- a line of a block of rules is no lot and no order
+
+id_begun_by : (test : Lexeme → Bool) (l : Lexeme) (qs : Pieces) → test l ≡ false → (t : Bool) → (c : ℕ) (x : List Lexeme) (d : ℕ) (r : List Lexeme) → Writes c ((if t then token Usual l else never) ∷ qs) x d → begins test (x ++ r) ≡ false
+id_begun_by test l qs e true c x d r w = (begun_token e).begun c x d r w
+id_begun_by test l qs e false c x d r w = absurd (never_written c qs x d w)
+
+id_begun : {test : Lexeme → Bool} {qs : Pieces} (low high n : ℕ) → test (number n) ≡ false → Begun test (whole low high n ∷ qs)
+id_begun {test = test} {qs = qs} low high n e = record { begun = λ c x d r w. id_begun_by test (number n) qs e (nat_le low n && nat_le n high) c x d r w }
+
+rule_begun : {test : Lexeme → Bool} (r : Rule) → test (number r.id) ≡ false → Begun test (rule_pieces r)
+rule_begun r e = begun_as (rule_is r) (id_begun 1 999999 r.id e)
+
+no_lot : (b : BlockLine) → Begun (is_word (codes "lot")) (block_pieces b)
+no_lot (said.Attribute a) = begun_token refl
+no_lot (said.Priority p) = begun_token refl
+no_lot (said.Rule r) = rule_begun r refl
+no_lot said.End = begun_token refl
+
+no_order : (b : BlockLine) → Begun (is_word (codes "order")) (block_pieces b)
+no_order (said.Attribute a) = begun_token refl
+no_order (said.Priority p) = begun_token refl
+no_order (said.Rule r) = rule_begun r refl
+no_order said.End = begun_token refl
+
+city_at : (n : ℕ) (a : CityLine) → Leads any (city_pieces a) (city n) a
+unfolding city
+city_at n (line.Lot l) = peek_yes (is_word (codes "lot")) (starts_token refl) (plainly (after {v = lot_pieces} _ l (lot_form.again n) (misses_end (no_more _)) ends))
+city_at n (line.Order m) =
+    peek_no (is_word (codes "lot")) (missed (begun_token refl))
+    (peek_yes (is_word (codes "order")) (starts_token refl) (plainly (after {v = order_pieces} _ m (order_form.again n) (misses_end (no_more _)) ends)))
+city_at n (line.Block b) =
+    peek_no (is_word (codes "lot")) (missed (no_lot b))
+    (peek_no (is_word (codes "order")) (missed (no_order b)) (plainly (after {v = block_pieces} _ b (block_form.again n) (misses_end (no_more _)) ends)))
+
+pub city_form : IsForm city_pieces city
+city_form = record { follows = any; exact = city_reads; again = λ n. record { all = city_at n } }

@@ -1,0 +1,128 @@
+ghost use Rattle.std.specs.Prelude.{◌≡◌, ◌++◌, ◌∷◌, [], List, ◌<◌, length, Option, IfSome, OnOk};
+ghost use Rattle.cga_form.specs.Cursor.{input_of, Reads};
+ghost use Rattle.cga_script.specs.CityLines as spec;
+ghost use Rattle.cga_script.specs.CityLines.{Adds, Holds, place_of, with_lot, sources_of};
+ghost use Rattle.cga_script.specs.declared.city_line.CityLine.{CityLine};
+
+use crate::city_line::CityLine;
+use crate::command_form::order;
+use crate::lot_form::lot;
+use cga_form::fault::Fault;
+use cga_form::tokens::Tokens;
+use cga_form::{BlockReader, Form, Gather};
+use cga_fraction::{List, NoMemory, Stop};
+use cga_parser::Gathered;
+use cga_parser::block::block;
+use cga_shape::{Lot, Sources};
+use cga_word::{Mode, Name};
+use std::alloc::Global;
+
+/// What the lines of a block of a whole city said so far.
+#[derive(Drop)]
+pub struct CityGathered {
+    rules: Gathered,
+    lots: Vec<Lot>,
+    mode: Mode,
+}
+
+// Where the lot of a name stands.
+#[tactic(auto, unfolding(crate::specs::CityLines::place_of))]
+fn place_of(lots: &[Lot], name: Name) -> Option<usize>
+    ensures value { result ≡ place_of name lots.now }
+    ensures within { IfSome result (λ place. place < length lots.now) }
+{
+    for (place, lot) in lots.iter().enumerate() {
+        if lot.name == name {
+            return Some(place);
+        }
+    }
+    None
+}
+
+fn set_lot(lots: &mut Vec<Lot>, lot: Lot) -> Result<(), NoMemory>
+    ensures { OnOk result (lots.new.items ≡ with_lot lot lots.old.items) }
+{
+    match place_of(lots.as_slice(), lot.name) {
+        Some(place) => lots[place] = lot,
+        None => lots.push(lot)?,
+    }
+    Ok(())
+}
+
+impl CityGathered {
+    #[tactic(auto, unfolding(crate::specs::CityLines::lots_after, crate::specs::CityLines::mode_after))]
+    fn take(&mut self, said: Option<CityLine>) -> Result<(), NoMemory>
+        ensures { OnOk result (Adds self.old said self.new) }
+    {
+        match said {
+            Some(CityLine::Block(line)) => return self.rules.add(Some(line)),
+            Some(CityLine::Order(mode)) => self.mode = mode,
+            Some(CityLine::Lot(lot)) => set_lot(&mut self.lots, lot)?,
+            None => {}
+        }
+        self.rules.add(None)
+    }
+}
+
+impl Form for CityGathered {
+    type Member = CityLine;
+
+    ghost pieces = { spec.city_pieces };
+
+    ghost reader = { spec.city };
+
+    #[tactic(auto, unfolding(crate::specs::CityLines::city))]
+    fn read(alloc: Global, tokens: &mut Tokens<'_>, depth: u8) -> Result<CityLine, Stop<Fault>> {
+        if tokens.at_word(b"lot") {
+            return Ok(CityLine::Lot(lot(tokens)?));
+        }
+        if tokens.at_word(b"order") {
+            return Ok(CityLine::Order(order(tokens)?));
+        }
+        Ok(CityLine::Block(block(alloc, tokens, depth)?))
+    }
+
+    #[tactic(auto, using(crate::proofs::CityForm::city_form))]
+    fn is_form() {}
+}
+
+impl Gather for CityGathered {
+    type All = Sources;
+
+    ghost holds = { Holds };
+
+    ghost says = { sources_of };
+
+    #[tactic(auto, unfolding(crate::specs::CityLines::lots_after, crate::specs::CityLines::mode_after))]
+    fn empty(alloc: Global) -> CityGathered
+        ensures { Holds result [] }
+    {
+        CityGathered {
+            rules: Gathered::empty(alloc),
+            lots: Vec::new(alloc),
+            mode: Mode::Breadth,
+        }
+    }
+
+    #[tactic(auto, using(crate::proofs::CityAdditions::holds_more))]
+    fn add(&mut self, said: Option<CityLine>) -> Result<(), NoMemory>
+        ensures { (all : List (Option CityLine)) → Holds self.old all → OnOk result (Holds self.new (all ++ said ∷ [])) }
+    {
+        self.take(said)
+    }
+
+    fn finish(self) -> Sources
+        ensures { (all : List (Option CityLine)) → Holds self all → result ≡ sources_of all }
+    {
+        Sources {
+            grammar: self.rules.finish(),
+            lots: List::from_vec(self.lots),
+            mode: self.mode,
+        }
+    }
+}
+
+/// Reads the lines of a block of a whole city one after the other: `new` takes none yet, `line` the
+/// next one, and `finish` says which sources they are, or which is the first faulty line. A lot whose
+/// name came before takes its place; the last order counts, and breadth where there is none.
+pub type CityReader = BlockReader<CityGathered>;

@@ -1,0 +1,6 @@
+/// The version of a script, which its first line that isn't blank decides.
+#[derive(Clone, Copy, Debug, PartialEq, Eq)]
+pub enum Version {
+    One,
+    Two,
+}
