@@ -63,7 +63,7 @@ unfolding apply
 apply_over s new e budget h over = ap (within budget) h ∙ rw over refl
 
 is_refused : (old : CityState) (e : Edit) (n : ℕ) (refused : EditRefused) → changed old.sources e ≡ Err refused → IsRefused old e refused old n n
-is_refused old e n refused h = record { cause = apply_err _ _ _ _ h; same = refl; most = omega arith; unspent = λ other. refl }
+is_refused old e n refused h = record { cause = apply_err _ _ _ _ h; same = refl; later = omega arith; most = omega arith; unspent = λ other. refl }
 
 -- a refusal that comes before the budget is the edit's
 pub refused_gives : (old : CityState) (e : Edit) (n : ℕ) (refused : EditRefused) → Changes (changed old.sources e) (Err refused) → EditGives old e (Err refused) old n n

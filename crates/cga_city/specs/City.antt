@@ -49,6 +49,7 @@ pub record IsDone (old : CityState) (e : Edit) (new : CityState) (before after :
 pub record IsRefused (old : CityState) (e : Edit) (refused : EditRefused) (new : CityState) (before after : ℕ) : Type 0 where
   pub cause : apply old.sources e old.budget ≡ Err refused
   pub same : new ≡ old
+  pub later : before ≤ after
   pub most : after ≤ before + old.budget
   pub unspent : refused ≢ OverBudget → after ≡ before
 

@@ -37,6 +37,7 @@ pub fn derive<E: Ledger, T: Ledger>(
     ensures expansions { IfOk result (λ answer. IfOk answer (λ list.
         expansions.new ≡ expansions.old + expanded_count list)) }
     ensures most { expansions.new ≤ expansions.old + budget }
+    ensures later { IfOk result (λ answer. expansions.old ≤ expansions.new) }
     ensures tests { tests.new ≡ tests.old }
 {
     let mut run = Run::start(alloc, sources)?;

@@ -42,6 +42,7 @@ returns-in-Ok-Err g c =
     rw (← c.self.view_is) (record {
       cause = apply_over c.self.inside.sources c.in-Ok.new c.args.edit c.self.inside.budget c.in-Ok.ensures (is_derived c.self.inside.budget c.in-Ok.new _ v);
       same = refl;
+      later = c.in-Ok-Err.ensures.later;
       most = c.in-Ok-Err.ensures.most;
       unspent = λ other. absurd (other refl);
     })
