@@ -40,27 +40,27 @@ no_line_at_end s [] kept k none = refl
 no_line_at_end s (byte ∷ bytes) kept k none = absurd (nothing_kept byte bytes (sym k ∙ none))
 
 -- the replies to a part begin the output of the whole
-output_more : (read more : List ℕ) → (rest : List ℕ) × (output_of (read ++ more) ≡ replies_of read ++ rest)
+output_more : (d : ℕ) (read more : List ℕ) → (rest : List ℕ) × (output_of d (read ++ more) ≡ replies_of d read ++ rest)
 unfolding replies_of output_of
-output_more read more =
-    let later = effect_of_all (effect_of_lines read).state (lines_of (kept_of (cut read).rest ++ more)) in
-    let same : effect_of_lines (read ++ more) ≡ followed_by (effect_of_lines read) later = ap (effect_of_all start) (lines_append read more) ∙ all_append start (lines_of read) (lines_of (kept_of (cut read).rest ++ more)) in
-    let last = last_effect (effect_of_lines (read ++ more)).state (cut (read ++ more)).rest in
-    (later.reply ++ last.reply, ap (λ (t : Effect). t.reply ++ last.reply) same ∙ append_assoc (effect_of_lines read).reply later.reply last.reply)
+output_more d read more =
+    let later = effect_of_all (effect_of_lines d read).state (lines_of (kept_of (cut read).rest ++ more)) in
+    let same : effect_of_lines d (read ++ more) ≡ followed_by (effect_of_lines d read) later = ap (effect_of_all (start d)) (lines_append read more) ∙ all_append (start d) (lines_of read) (lines_of (kept_of (cut read).rest ++ more)) in
+    let last = last_effect (effect_of_lines d (read ++ more)).state (cut (read ++ more)).rest in
+    (later.reply ++ last.reply, ap (λ (t : Effect). t.reply ++ last.reply) same ∙ append_assoc (effect_of_lines d read).reply later.reply last.reply)
 
 -- some replies to a part are some of the output
-pub some_output : (bytes read more : List ℕ) (a c : Option (List ℕ)) → bytes ≡ read ++ more → AppendsSome a c (replies_of read) → AppendsSome a c (output_of bytes)
-some_output bytes read more a c e s = let o = output_more read more in
-    subst (λ (t : List ℕ). AppendsSome a c t) (sym (ap output_of e ∙ o.1)) (some_more a c (replies_of read) o.0 s)
+pub some_output : (d : ℕ) (bytes read more : List ℕ) (a c : Option (List ℕ)) → bytes ≡ read ++ more → AppendsSome a c (replies_of d read) → AppendsSome a c (output_of d bytes)
+some_output d bytes read more a c e s = let o = output_more d read more in
+    subst (λ (t : List ℕ). AppendsSome a c t) (sym (ap (output_of d) e ∙ o.1)) (some_more a c (replies_of d read) o.0 s)
 
 -- so that whatever was read, a prefix was written
-pub prefix_of : (script left a c : Option (List ℕ)) (read : List ℕ) (n : ℕ) → Consumes script left read → AppendsSome a c (replies_of (take n read)) → IfSome script (λ bytes. AppendsSome a c (output_of bytes))
-prefix_of None left a c read n p s = tt
-prefix_of (Some bytes) None a c read n p s = absurd p
-prefix_of (Some bytes) (Some rest) a c read n p s =
-    some_output bytes (take n read) (drop n read ++ rest) a c (p ∙ ap (λ (r : List ℕ). r ++ rest) (sym (take-append-drop n read)) ∙ append_assoc (take n read) (drop n read) rest) s
+pub prefix_of : (d : ℕ) (script left a c : Option (List ℕ)) (read : List ℕ) (n : ℕ) → Consumes script left read → AppendsSome a c (replies_of d (take n read)) → IfSome script (λ bytes. AppendsSome a c (output_of d bytes))
+prefix_of d None left a c read n p s = tt
+prefix_of d (Some bytes) None a c read n p s = absurd p
+prefix_of d (Some bytes) (Some rest) a c read n p s =
+    some_output d bytes (take n read) (drop n read ++ rest) a c (p ∙ ap (λ (r : List ℕ). r ++ rest) (sym (take-append-drop n read)) ∙ append_assoc (take n read) (drop n read) rest) s
 
-all_of_it : (a b c : Option (List ℕ)) (text : List ℕ) → Appends a b text → Keeps b c → Appends a c text
+pub all_of_it : (a b c : Option (List ℕ)) (text : List ℕ) → Appends a b text → Keeps b c → Appends a c text
 all_of_it None b c text p q = tt
 all_of_it (Some xs) None c text p q = absurd p
 all_of_it (Some xs) (Some ys) None text p q = absurd q
@@ -91,20 +91,20 @@ pub record IsFlushed (status wanted : Status) (old new : Outside) : Type 0 where
   pub calm : status ≢ WriteFault → new.writes_failed ≡ old.writes_failed
 
 -- the status after a flush is the wanted one with what it means, or a write fault with what that means
-flushed_means : (status wanted : Status) (old mid new : Outside) → wanted ≢ WriteFault → IsFlushed status wanted mid new → mid.writes_failed ≡ old.writes_failed
-    → (IsTrue new.flushed → new.writes_failed ≡ old.writes_failed → StatusMeans wanted old new) → WritesPrefix old new → StatusMeans status old new
-flushed_means status wanted old mid new other f calm means prefix = elim f.answers [
+flushed_means : (d : ℕ) (status wanted : Status) (old mid new : Outside) → wanted ≢ WriteFault → IsFlushed status wanted mid new → mid.writes_failed ≡ old.writes_failed
+    → (IsTrue new.flushed → new.writes_failed ≡ old.writes_failed → StatusMeans d wanted old new) → WritesPrefix d old new → StatusMeans d status old new
+flushed_means d status wanted old mid new other f calm means prefix = elim f.answers [
   | inl is ↦ let fine : status ≢ WriteFault = λ e. other (sym is ∙ e) in
-      subst (λ (s : Status). StatusMeans s old new) (sym is) (means (f.done fine) (f.calm fine ∙ calm))
+      subst (λ (s : Status). StatusMeans d s old new) (sym is) (means (f.done fine) (f.calm fine ∙ calm))
   | inr is ↦ let unwanted : status ≢ wanted = λ e. other (sym e ∙ is) in
-      subst (λ (s : Status). StatusMeans s old new) (sym is) (subst (λ (n : ℕ). Rose n new.writes_failed) calm (f.fault unwanted), prefix)
+      subst (λ (s : Status). StatusMeans d s old new) (sym is) (subst (λ (n : ℕ). Rose n new.writes_failed) calm (f.fault unwanted), prefix)
 ]
 
 -- what was replied when reading failed or went too far
-replies_written : (read bytes : List ℕ) (old mid new : Outside) (session : Session) (lines : Pending) → old.left ≡ Some bytes
-    → IsRead read old mid session lines → SameSource mid new → new.expanded ≡ mid.expanded → Keeps mid.held new.held → WritesReplies read bytes old new
+replies_written : (d : ℕ) (read bytes : List ℕ) (old mid new : Outside) (session : Session) (lines : Pending) → old.left ≡ Some bytes
+    → IsRead d read old mid session lines → SameSource mid new → new.expanded ≡ mid.expanded → Keeps mid.held new.held → WritesReplies d read bytes old new
 unfolding replies_of
-replies_written read bytes old mid new session lines told r source expanded keeps =
+replies_written d read bytes old mid new session lines told r source expanded keeps =
     let taken : Consumes old.left new.left read = subst (λ (left : Option (List ℕ)). Consumes old.left left read) (sym source.left) r.taken in
     record {
       taken = subst (λ (left : Option (List ℕ)). Consumes left new.left read) told taken;
@@ -112,56 +112,56 @@ replies_written read bytes old mid new session lines told r source expanded keep
       spent = record { least = rw expanded r.wrote.least; most = rw expanded r.wrote.most };
     }
 
-read_prefix : (read : List ℕ) (old mid new : Outside) (session : Session) (lines : Pending) → IsRead read old mid session lines → Keeps mid.held new.held → WritesPrefix old new
+read_prefix : (d : ℕ) (read : List ℕ) (old mid new : Outside) (session : Session) (lines : Pending) → IsRead d read old mid session lines → Keeps mid.held new.held → WritesPrefix d old new
 unfolding replies_of
-read_prefix read old mid new session lines r keeps = prefix_of old.left mid.left old.held new.held read limit r.taken (some_kept old.held mid.held new.held _ r.wrote.written keeps)
+read_prefix d read old mid new session lines r keeps = prefix_of d old.left mid.left old.held new.held read limit r.taken (some_kept old.held mid.held new.held _ r.wrote.written keeps)
 
-pub failed_means : (status : Status) (old mid new : Outside) (session : Session) (lines : Pending) (read : List ℕ)
-    → IsRead read old mid session lines → length read ≤ limit → Rose old.reads_failed mid.reads_failed → IsFlushed status ReadFault mid new → StatusMeans status old new
-failed_means status old mid new session lines read r few rose f =
+pub failed_means : (d : ℕ) (status : Status) (old mid new : Outside) (session : Session) (lines : Pending) (read : List ℕ)
+    → IsRead d read old mid session lines → length read ≤ limit → Rose old.reads_failed mid.reads_failed → IsFlushed status ReadFault mid new → StatusMeans d status old new
+failed_means d status old mid new session lines read r few rose f =
     let other : ReadFault ≢ WriteFault = λ e. cc in
-    flushed_means status ReadFault old mid new other f r.calm
+    flushed_means d status ReadFault old mid new other f r.calm
     (λ flushed calm. (
       subst (Rose old.reads_failed) (sym f.source.reads) rose,
       flushed,
       calm,
-      by_bytes (λ bytes. (x : List ℕ) × (length x ≤ limit) × WritesReplies x bytes old new) old.left
-          (λ bytes told. (read, few, replies_written read bytes old mid new session lines told r f.source f.expanded f.held)),
+      by_bytes (λ bytes. (x : List ℕ) × (length x ≤ limit) × WritesReplies d x bytes old new) old.left
+          (λ bytes told. (read, few, replies_written d read bytes old mid new session lines told r f.source f.expanded f.held)),
     ))
-    (read_prefix read old mid new session lines r f.held)
+    (read_prefix d read old mid new session lines r f.held)
 
-pub too_long_means : (status : Status) (old mid new : Outside) (session : Session) (lines : Pending) (read : List ℕ)
-    → IsRead read old mid session lines → limit < length read → length read ≤ limit + read_limit → mid.reads_failed ≡ old.reads_failed → IsFlushed status TooLong mid new → StatusMeans status old new
-too_long_means status old mid new session lines read r many most reads f =
+pub too_long_means : (d : ℕ) (status : Status) (old mid new : Outside) (session : Session) (lines : Pending) (read : List ℕ)
+    → IsRead d read old mid session lines → limit < length read → length read ≤ limit + read_limit → mid.reads_failed ≡ old.reads_failed → IsFlushed status TooLong mid new → StatusMeans d status old new
+too_long_means d status old mid new session lines read r many most reads f =
     let other : TooLong ≢ WriteFault = λ e. cc in
-    flushed_means status TooLong old mid new other f r.calm
+    flushed_means d status TooLong old mid new other f r.calm
     (λ flushed calm. (
       flushed,
       record { reads = f.source.reads ∙ reads; writes = calm },
-      by_bytes (λ bytes. (x : List ℕ) × (limit < length x) × (length x ≤ limit + read_limit) × WritesReplies x bytes old new) old.left
-          (λ bytes told. (read, many, most, replies_written read bytes old mid new session lines told r f.source f.expanded f.held)),
+      by_bytes (λ bytes. (x : List ℕ) × (limit < length x) × (length x ≤ limit + read_limit) × WritesReplies d x bytes old new) old.left
+          (λ bytes told. (read, many, most, replies_written d read bytes old mid new session lines told r f.source f.expanded f.held)),
     ))
-    (read_prefix read old mid new session lines r f.held)
+    (read_prefix d read old mid new session lines r f.held)
 
 -- the whole script was read
 all_taken : (read bytes : List ℕ) (left : Option (List ℕ)) → Consumes (Some bytes) left read → IsAtEnd left → read ≡ bytes
 all_taken read bytes None taken at_end = absurd taken
 all_taken read bytes (Some rest) taken at_end = sym (taken ∙ ap (λ (x : List ℕ). read ++ x) at_end ∙ append-nil read)
 
-pub ended_bytes : (read bytes : List ℕ) (old mid : Outside) (session : Session) (lines : Pending) → old.left ≡ Some bytes → IsRead read old mid session lines → IsAtEnd mid.left → read ≡ bytes
-ended_bytes read bytes old mid session lines told r at_end = all_taken read bytes mid.left (subst (λ (left : Option (List ℕ)). Consumes left mid.left read) told r.taken) at_end
+pub ended_bytes : (d : ℕ) (read bytes : List ℕ) (old mid : Outside) (session : Session) (lines : Pending) → old.left ≡ Some bytes → IsRead d read old mid session lines → IsAtEnd mid.left → read ≡ bytes
+ended_bytes d read bytes old mid session lines told r at_end = all_taken read bytes mid.left (subst (λ (left : Option (List ℕ)). Consumes left mid.left read) told r.taken) at_end
 
-all_written : (read bytes : List ℕ) (old mid last new : Outside) (session next : Session) (lines : Pending) → read ≡ bytes
-    → IsRead read old mid session lines → length read ≤ limit
-    → Wrote (last_effect (effect_of_lines (take limit read)).state (cut (take limit read)).rest) next mid.held last.held mid.expanded last.expanded
-    → new.expanded ≡ last.expanded → Keeps last.held new.held → WritesAll bytes old new
+all_written : (d : ℕ) (read bytes : List ℕ) (old mid last new : Outside) (session next : Session) (lines : Pending) → read ≡ bytes
+    → IsRead d read old mid session lines → length read ≤ limit
+    → Wrote (last_effect (effect_of_lines d (take limit read)).state (cut (take limit read)).rest) next mid.held last.held mid.expanded last.expanded
+    → new.expanded ≡ last.expanded → Keeps last.held new.held → WritesAll d bytes old new
 unfolding output_of
-all_written read bytes old mid last new session next lines is r few w expanded keeps =
+all_written d read bytes old mid last new session next lines is r few w expanded keeps =
     let same : take limit read ≡ bytes = take_all limit read few ∙ is in
-    let both : Wrote (effect_of_script (take limit read)) next old.held last.held old.expanded last.expanded =
-    wrote_more (effect_of_lines (take limit read)) (last_effect (effect_of_lines (take limit read)).state (cut (take limit read)).rest) session next
+    let both : Wrote (effect_of_script d (take limit read)) next old.held last.held old.expanded last.expanded =
+    wrote_more (effect_of_lines d (take limit read)) (last_effect (effect_of_lines d (take limit read)).state (cut (take limit read)).rest) session next
     old.held mid.held last.held old.expanded mid.expanded last.expanded r.wrote w in
-    let all : Wrote (effect_of_script bytes) next old.held last.held old.expanded last.expanded = subst (λ (x : List ℕ). Wrote (effect_of_script x) next old.held last.held old.expanded last.expanded) same both in
+    let all : Wrote (effect_of_script d bytes) next old.held last.held old.expanded last.expanded = subst (λ (x : List ℕ). Wrote (effect_of_script d x) next old.held last.held old.expanded last.expanded) same both in
     record {
       few = subst (λ (x : List ℕ). length x ≤ limit) is few;
       output = all_of_it old.held last.held new.held _ all.written keeps;
@@ -169,44 +169,44 @@ all_written read bytes old mid last new session next lines is r few w expanded k
     }
 
 -- all was replied to, or some of it
-end_some : (read bytes : List ℕ) (old mid new : Outside) (session : Session) (lines : Pending) → read ≡ bytes → IsRead read old mid session lines → length read ≤ limit
-    → AppendsSome mid.held new.held (last_effect (effect_of_lines (take limit read)).state (cut (take limit read)).rest).reply → AppendsSome old.held new.held (output_of bytes)
+end_some : (d : ℕ) (read bytes : List ℕ) (old mid new : Outside) (session : Session) (lines : Pending) → read ≡ bytes → IsRead d read old mid session lines → length read ≤ limit
+    → AppendsSome mid.held new.held (last_effect (effect_of_lines d (take limit read)).state (cut (take limit read)).rest).reply → AppendsSome old.held new.held (output_of d bytes)
 unfolding output_of
-end_some read bytes old mid new session lines is r few s =
+end_some d read bytes old mid new session lines is r few s =
     let same : take limit read ≡ bytes = take_all limit read few ∙ is in
-    subst (λ (x : List ℕ). AppendsSome old.held new.held (effect_of_script x).reply) same (some_after old.held mid.held new.held _ _ r.wrote.written s)
+    subst (λ (x : List ℕ). AppendsSome old.held new.held (effect_of_script d x).reply) same (some_after old.held mid.held new.held _ _ r.wrote.written s)
 
-pub end_prefix : (read : List ℕ) (old mid new : Outside) (session : Session) (lines : Pending) → IsRead read old mid session lines → length read ≤ limit → IsAtEnd mid.left
-    → AppendsSome mid.held new.held (last_effect (effect_of_lines (take limit read)).state (cut (take limit read)).rest).reply → WritesPrefix old new
-end_prefix read old mid new session lines r few at_end s =
-    by_bytes (λ bytes. AppendsSome old.held new.held (output_of bytes)) old.left
-    (λ bytes told. end_some read bytes old mid new session lines (ended_bytes read bytes old mid session lines told r at_end) r few s)
+pub end_prefix : (d : ℕ) (read : List ℕ) (old mid new : Outside) (session : Session) (lines : Pending) → IsRead d read old mid session lines → length read ≤ limit → IsAtEnd mid.left
+    → AppendsSome mid.held new.held (last_effect (effect_of_lines d (take limit read)).state (cut (take limit read)).rest).reply → WritesPrefix d old new
+end_prefix d read old mid new session lines r few at_end s =
+    by_bytes (λ bytes. AppendsSome old.held new.held (output_of d bytes)) old.left
+    (λ bytes told. end_some d read bytes old mid new session lines (ended_bytes d read bytes old mid session lines told r at_end) r few s)
 
-pub done_means : (status : Status) (old mid last new : Outside) (session next : Session) (lines : Pending) (read : List ℕ)
-    → IsRead read old mid session lines → length read ≤ limit → IsAtEnd mid.left → IsTrue mid.ended → mid.reads_failed ≡ old.reads_failed
-    → Wrote (last_effect (effect_of_lines (take limit read)).state (cut (take limit read)).rest) next mid.held last.held mid.expanded last.expanded
-    → SameSource mid last → last.writes_failed ≡ mid.writes_failed → IsFlushed status Done last new → StatusMeans status old new
-done_means status old mid last new session next lines read r few at_end ended reads w source writes f =
+pub done_means : (d : ℕ) (status : Status) (old mid last new : Outside) (session next : Session) (lines : Pending) (read : List ℕ)
+    → IsRead d read old mid session lines → length read ≤ limit → IsAtEnd mid.left → IsTrue mid.ended → mid.reads_failed ≡ old.reads_failed
+    → Wrote (last_effect (effect_of_lines d (take limit read)).state (cut (take limit read)).rest) next mid.held last.held mid.expanded last.expanded
+    → SameSource mid last → last.writes_failed ≡ mid.writes_failed → IsFlushed status Done last new → StatusMeans d status old new
+done_means d status old mid last new session next lines read r few at_end ended reads w source writes f =
     let other : Done ≢ WriteFault = λ e. cc in
     let over : IsTrue new.ended = rw (f.source.ended ∙ source.ended) ended in
-    flushed_means status Done old last new other f (writes ∙ r.calm)
+    flushed_means d status Done old last new other f (writes ∙ r.calm)
     (λ flushed calm. (
       over,
       flushed,
       record { reads = f.source.reads ∙ source.reads ∙ reads; writes = calm },
-      by_bytes (λ bytes. WritesAll bytes old new) old.left
-          (λ bytes told. all_written read bytes old mid last new session next lines (ended_bytes read bytes old mid session lines told r at_end) r few w f.expanded f.held),
+      by_bytes (λ bytes. WritesAll d bytes old new) old.left
+          (λ bytes told. all_written d read bytes old mid last new session next lines (ended_bytes d read bytes old mid session lines told r at_end) r few w f.expanded f.held),
     ))
-    (end_prefix read old mid new session lines r few at_end (some_kept mid.held last.held new.held _ w.written f.held))
+    (end_prefix d read old mid new session lines r few at_end (some_kept mid.held last.held new.held _ w.written f.held))
 
-pub halted_means : (halt : Halt) (status : Status) (old new : Outside)
+pub halted_means : (d : ℕ) (halt : Halt) (status : Status) (old new : Outside)
     → (halt ≡ cause.WriteFault → status ≡ WriteFault) → (halt ≡ cause.NoMemory → status ≡ NoMemory)
-    → FaultsAt halt old.writes_failed new.writes_failed → new.reads_failed ≡ old.reads_failed → WritesPrefix old new → StatusMeans status old new
-halted_means cause.WriteFault status old new write memory faults reads prefix = subst (λ (s : Status). StatusMeans s old new) (sym (write refl)) (faults, prefix)
-halted_means cause.NoMemory status old new write memory faults reads prefix = subst (λ (s : Status). StatusMeans s old new) (sym (memory refl)) (record { reads = reads; writes = faults }, prefix)
+    → FaultsAt halt old.writes_failed new.writes_failed → new.reads_failed ≡ old.reads_failed → WritesPrefix d old new → StatusMeans d status old new
+halted_means d cause.WriteFault status old new write memory faults reads prefix = subst (λ (s : Status). StatusMeans d s old new) (sym (write refl)) (faults, prefix)
+halted_means d cause.NoMemory status old new write memory faults reads prefix = subst (λ (s : Status). StatusMeans d s old new) (sym (memory refl)) (record { reads = reads; writes = faults }, prefix)
 
-pub halted_prefix : (read : List ℕ) (old new : Outside) → IsHalted read old new → WritesPrefix old new
-halted_prefix read old new h = prefix_of old.left new.left old.held new.held read limit h.taken h.wrote
+pub halted_prefix : (d : ℕ) (read : List ℕ) (old new : Outside) → IsHalted d read old new → WritesPrefix d old new
+halted_prefix d read old new h = prefix_of d old.left new.left old.held new.held read limit h.taken h.wrote
 
 pub start_pending : (p : Pending) → p ≡ record { kept = []; ending = Open } → p ≡ pending_after []
 start_pending p e = e ∙ ap (λ (k : List ℕ). record { kept = kept_of k; ending = Open }) (sym (rest_of_part [] (All-nil (λ (b : ℕ). b ≢ 10))))

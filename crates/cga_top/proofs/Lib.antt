@@ -1,9 +1,10 @@
-pub mod Blanks
-pub mod BlockLines
-pub mod Shapes
-pub mod Numerals
-pub mod Cubes
-pub mod OpenBlocks
+pub mod Told
+pub mod Apart
+pub mod Asks
+pub mod Prints
+pub mod Histories
+pub mod Steps
+pub mod Outsides
 pub mod Known
 pub mod Faults
 pub mod Effects
@@ -11,3 +12,4 @@ pub mod Pieces
 pub mod Reading
 pub mod Ends
 pub mod Complete
+pub mod Given

@@ -28,13 +28,13 @@ use Rattle.cga_top.proofs.Pieces.{part_kept}
 nothing : IsOneLine []
 nothing = All-nil (λ (b : ℕ). b ≢ 10)
 
-pub reads_start : (session : Session) (lines : Pending) (o : Outside) → IsAt start session → lines ≡ pending_after [] → IsRead [] o o session lines
-reads_start session lines o at_it e =
+pub reads_start : (d : ℕ) (session : Session) (lines : Pending) (o : Outside) → IsAt (start d) session → lines ≡ pending_after [] → IsRead d [] o o session lines
+reads_start d session lines o at_it e =
     let none : take limit [] ≡ [] = take-nil limit in
-    let still : effect_of_lines (take limit []) ≡ silent start = ap effect_of_lines none ∙ ap (effect_of_all start) (no_lines [] nothing) ∙ all_none start in
+    let still : effect_of_lines d (take limit []) ≡ silent (start d) = ap (effect_of_lines d) none ∙ ap (effect_of_all (start d)) (no_lines [] nothing) ∙ all_none (start d) in
     record {
       taken = consumes_nothing o.left;
-      wrote = subst (λ (t : Effect). Wrote t session o.held o.held o.expanded o.expanded) (sym still) (wrote_nothing start session o.held o.expanded at_it);
+      wrote = subst (λ (t : Effect). Wrote t session o.held o.held o.expanded o.expanded) (sym still) (wrote_nothing (start d) session o.held o.expanded at_it);
       lines_are = e ∙ ap pending_after (sym none);
       flushed = λ some. absurd (some refl);
       calm = refl;
@@ -44,7 +44,7 @@ pub is_part : (read : List ℕ) (p : Pending) → p ≡ pending_after read → I
 is_part read p e = part_kept p (cut read).rest e (rest_is_one read)
 
 -- what is looked at of one more chunk
-module _ (read chunk piece : List ℕ) (lines : Pending) (few : length read ≤ limit) (first : piece ≡ take (limit - length read) chunk) (are : lines ≡ pending_after (take limit read)) where
+module _ (d : ℕ) (read chunk piece : List ℕ) (lines : Pending) (few : length read ≤ limit) (first : piece ≡ take (limit - length read) chunk) (are : lines ≡ pending_after (take limit read)) where
   all_read : take limit read ≡ read
   all_read = take_all limit read few
 
@@ -55,38 +55,38 @@ module _ (read chunk piece : List ℕ) (lines : Pending) (few : length read ≤ 
   kept_is = ap (λ (p : Pending). p.kept) are ∙ ap (λ (r : List ℕ). kept_of (cut r).rest) all_read
 
   so_far : State
-  so_far = (effect_of_lines (take limit read)).state
+  so_far = (effect_of_lines d (take limit read)).state
 
-  pub effects_are : effect_of_lines (take limit (read ++ chunk)) ≡ followed_by (effect_of_lines (take limit read)) (effect_of_all (effect_of_lines (take limit read)).state (lines_of (lines.kept ++ piece)))
+  pub effects_are : effect_of_lines d (take limit (read ++ chunk)) ≡ followed_by (effect_of_lines d (take limit read)) (effect_of_all (effect_of_lines d (take limit read)).state (lines_of (lines.kept ++ piece)))
   effects_are =
-      ap effect_of_lines more_read ∙ ap (effect_of_all start) (lines_append read piece) ∙ all_append start (lines_of read) (lines_of (kept_of (cut read).rest ++ piece))
-      ∙ ap (λ (k : List ℕ). followed_by (effect_of_lines read) (effect_of_all (effect_of_lines read).state (lines_of (k ++ piece)))) (sym kept_is)
-      ∙ ap (λ (r : List ℕ). followed_by (effect_of_lines r) (effect_of_all (effect_of_lines r).state (lines_of (lines.kept ++ piece)))) (sym all_read)
+      ap (effect_of_lines d) more_read ∙ ap (effect_of_all (start d)) (lines_append read piece) ∙ all_append (start d) (lines_of read) (lines_of (kept_of (cut read).rest ++ piece))
+      ∙ ap (λ (k : List ℕ). followed_by (effect_of_lines d read) (effect_of_all (effect_of_lines d read).state (lines_of (k ++ piece)))) (sym kept_is)
+      ∙ ap (λ (r : List ℕ). followed_by (effect_of_lines d r) (effect_of_all (effect_of_lines d r).state (lines_of (lines.kept ++ piece)))) (sym all_read)
 
   pub pending_is : record { kept = kept_of (cut (lines.kept ++ piece)).rest; ending = Open } ≡ pending_after (take limit (read ++ chunk))
   pending_is =
       ap (λ (k : List ℕ). record { kept = kept_of (cut (k ++ piece)).rest; ending = Open }) kept_is
       ∙ ap (λ (k : List ℕ). record { kept = k; ending = Open }) (kept_append read piece) ∙ ap pending_after (sym more_read)
 
-pub reads_more : (read chunk piece : List ℕ) (old mid new : Outside) (session next : Session) (lines after : Pending) → length read ≤ limit → piece ≡ take (limit - length read) chunk
-    → IsRead read old mid session lines → Consumes mid.left new.left chunk
+pub reads_more : (d : ℕ) (read chunk piece : List ℕ) (old mid new : Outside) (session next : Session) (lines after : Pending) → length read ≤ limit → piece ≡ take (limit - length read) chunk
+    → IsRead d read old mid session lines → Consumes mid.left new.left chunk
     → ((s : State) → IsAt s session → Wrote (effect_of_all s (lines_of (lines.kept ++ piece))) next mid.held new.held mid.expanded new.expanded)
     → after ≡ record { kept = kept_of (cut (lines.kept ++ piece)).rest; ending = Open }
     → IsTrue new.flushed → new.writes_failed ≡ mid.writes_failed
-    → IsRead (read ++ chunk) old new next after
-reads_more read chunk piece old mid new session next lines after few first r more each e flushed calm = record {
+    → IsRead d (read ++ chunk) old new next after
+reads_more d read chunk piece old mid new session next lines after few first r more each e flushed calm = record {
   taken = consumes_more old.left mid.left new.left read chunk r.taken more;
-  wrote = subst (λ (t : Effect). Wrote t next old.held new.held old.expanded new.expanded) (sym (effects_are read chunk piece lines few first r.lines_are))
+  wrote = subst (λ (t : Effect). Wrote t next old.held new.held old.expanded new.expanded) (sym (effects_are d read chunk piece lines few first r.lines_are))
       (wrote_more _ _ session next old.held mid.held new.held old.expanded mid.expanded new.expanded r.wrote (each _ r.wrote.is_at));
-  lines_are = e ∙ pending_is read chunk piece lines few first r.lines_are;
+  lines_are = e ∙ pending_is d read chunk piece lines few first r.lines_are;
   flushed = λ some. flushed;
   calm = calm ∙ r.calm;
 }
 
 -- a read that took nothing
-pub reads_none : (read : List ℕ) (old mid : Outside) (session : Session) (lines : Pending) (left : Option (List ℕ)) (ended : Bool) (failed : ℕ) → IsRead read old mid session lines → Consumes mid.left left []
-    → IsRead read old (record mid { left = left; ended = ended; reads_failed = failed }) session lines
-reads_none read old mid session lines left ended failed r none = record {
+pub reads_none : (d : ℕ) (read : List ℕ) (old mid : Outside) (session : Session) (lines : Pending) (left : Option (List ℕ)) (ended : Bool) (failed : ℕ) → IsRead d read old mid session lines → Consumes mid.left left []
+    → IsRead d read old (record mid { left = left; ended = ended; reads_failed = failed }) session lines
+reads_none d read old mid session lines left ended failed r none = record {
   taken = subst (Consumes old.left left) (append-nil read) (consumes_more old.left mid.left left read [] r.taken none);
   wrote = r.wrote;
   lines_are = r.lines_are;
@@ -94,14 +94,14 @@ reads_none read old mid session lines left ended failed r none = record {
   calm = r.calm;
 }
 
-pub reads_halt : (read chunk piece : List ℕ) (old mid new : Outside) (session : Session) (lines : Pending) → length read ≤ limit → piece ≡ take (limit - length read) chunk
-    → IsRead read old mid session lines → Consumes mid.left new.left chunk
+pub reads_halt : (d : ℕ) (read chunk piece : List ℕ) (old mid new : Outside) (session : Session) (lines : Pending) → length read ≤ limit → piece ≡ take (limit - length read) chunk
+    → IsRead d read old mid session lines → Consumes mid.left new.left chunk
     → ((s : State) → IsAt s session → AppendsSome mid.held new.held (effect_of_all s (lines_of (lines.kept ++ piece))).reply)
-    → new.reads_failed ≡ old.reads_failed → IsHalted (read ++ chunk) old new
+    → new.reads_failed ≡ old.reads_failed → IsHalted d (read ++ chunk) old new
 unfolding replies_of
-reads_halt read chunk piece old mid new session lines few first r more each calm = record {
+reads_halt d read chunk piece old mid new session lines few first r more each calm = record {
   taken = consumes_more old.left mid.left new.left read chunk r.taken more;
-  wrote = subst (λ (t : Effect). AppendsSome old.held new.held t.reply) (sym (effects_are read chunk piece lines few first r.lines_are))
+  wrote = subst (λ (t : Effect). AppendsSome old.held new.held t.reply) (sym (effects_are d read chunk piece lines few first r.lines_are))
       (some_after old.held mid.held new.held _ _ r.wrote.written (each _ r.wrote.is_at));
   calm = calm;
 }

@@ -1,15 +1,12 @@
-pub mod Words
-pub mod Numbers
-pub mod Symbols
-pub mod Forms
-pub mod Blocks
-pub mod Texts
-pub mod Drawing
+pub mod Told
 pub mod State
 pub mod Effect
 pub mod Replies
 pub mod Output
+pub mod Written
+pub mod Blocks
 pub mod Session
+pub mod Ready
 pub mod Prefixes
 pub mod Wrote
 pub mod KeptPart
@@ -18,3 +15,4 @@ pub mod Outside
 pub mod Faults
 pub mod Reads
 pub mod Statuses
+pub mod Runs

@@ -19,18 +19,19 @@ last_line s (byte ∷ bytes) = effect s (clipped (byte ∷ bytes))
 abbrev pub last_effect : State → List ℕ → Effect
 last_effect s rest = followed_by (last_line s rest) (at_end (last_line s rest).state)
 
--- the lines that an LF ends
-abbrev pub effect_of_lines : List ℕ → Effect
-effect_of_lines bytes = effect_of_all start (lines_of bytes)
+-- the lines that an LF ends, where coordinates are printed with so many decimals
+abbrev pub effect_of_lines : ℕ → List ℕ → Effect
+effect_of_lines decimals bytes = effect_of_all (start decimals) (lines_of bytes)
 
 -- all lines, and the end
-abbrev pub effect_of_script : List ℕ → Effect
-effect_of_script bytes = followed_by (effect_of_lines bytes) (last_effect (effect_of_lines bytes).state (cut bytes).rest)
+abbrev pub effect_of_script : ℕ → List ℕ → Effect
+effect_of_script decimals bytes =
+    followed_by (effect_of_lines decimals bytes) (last_effect (effect_of_lines decimals bytes).state (cut bytes).rest)
 
 -- the replies to the lines that an LF ends
-unfoldable pub replies_of : List ℕ → List ℕ
-replies_of bytes = (effect_of_lines bytes).reply
+unfoldable pub replies_of : ℕ → List ℕ → List ℕ
+replies_of decimals bytes = (effect_of_lines decimals bytes).reply
 
 -- all that a script is replied to
-unfoldable pub output_of : List ℕ → List ℕ
-output_of bytes = (effect_of_script bytes).reply
+unfoldable pub output_of : ℕ → List ℕ → List ℕ
+output_of decimals bytes = (effect_of_script decimals bytes).reply

@@ -27,25 +27,25 @@ abbrev pub pending_after : List ℕ → Pending
 pending_after read = record { kept = kept_of (cut read).rest; ending = Open }
 
 -- what was read so far was replied to, up to the limit, and flushed; no write and no flush failed
-pub record IsRead (read : List ℕ) (old new : Outside) (session : Session) (lines : Pending) : Type 0 where
+pub record IsRead (decimals : ℕ) (read : List ℕ) (old new : Outside) (session : Session) (lines : Pending) : Type 0 where
   pub taken : Consumes old.left new.left read
-  pub wrote : Wrote (effect_of_lines (take limit read)) session old.held new.held old.expanded new.expanded
+  pub wrote : Wrote (effect_of_lines decimals (take limit read)) session old.held new.held old.expanded new.expanded
   pub lines_are : lines ≡ pending_after (take limit read)
   pub flushed : read ≢ [] → IsTrue new.flushed
   pub calm : new.writes_failed ≡ old.writes_failed
 
 -- some of the replies to what was read were written, and no read failed
-pub record IsHalted (read : List ℕ) (old new : Outside) : Type 0 where
+pub record IsHalted (decimals : ℕ) (read : List ℕ) (old new : Outside) : Type 0 where
   pub taken : Consumes old.left new.left read
-  pub wrote : AppendsSome old.held new.held (replies_of (take limit read))
+  pub wrote : AppendsSome old.held new.held (replies_of decimals (take limit read))
   pub calm : new.reads_failed ≡ old.reads_failed
 
 -- by the end: all within the limit, up to a failed read, more than the limit, or stopped by the sink or by memory
-abbrev pub ReadsTo : ReadEnd → Outside → Outside → Session → Pending → Type 0
-ReadsTo Ended old new session lines = (read : List ℕ) × IsRead read old new session lines × (length read ≤ limit)
+abbrev pub ReadsTo : ℕ → ReadEnd → Outside → Outside → Session → Pending → Type 0
+ReadsTo decimals Ended old new session lines = (read : List ℕ) × IsRead decimals read old new session lines × (length read ≤ limit)
     × IsAtEnd new.left × IsTrue new.ended × (new.reads_failed ≡ old.reads_failed)
-ReadsTo Failed old new session lines = (read : List ℕ) × IsRead read old new session lines × (length read ≤ limit)
+ReadsTo decimals Failed old new session lines = (read : List ℕ) × IsRead decimals read old new session lines × (length read ≤ limit)
     × Rose old.reads_failed new.reads_failed
-ReadsTo TooLong old new session lines = (read : List ℕ) × IsRead read old new session lines × (limit < length read)
+ReadsTo decimals TooLong old new session lines = (read : List ℕ) × IsRead decimals read old new session lines × (limit < length read)
     × (length read ≤ limit + read_limit) × (new.reads_failed ≡ old.reads_failed)
-ReadsTo (Halted halt) old new session lines = (read : List ℕ) × IsHalted read old new × FaultsAt halt old.writes_failed new.writes_failed
+ReadsTo decimals (Halted halt) old new session lines = (read : List ℕ) × IsHalted decimals read old new × FaultsAt halt old.writes_failed new.writes_failed

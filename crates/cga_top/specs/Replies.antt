@@ -1,79 +1,199 @@
--- What a line is replied to.
-use Rattle.std.specs.Prelude.{ℕ, List, [], ◌∷◌, ◌++◌, Bool, not, Option, Some, None, Result, Ok, Err, false, bytes_eq, if◌then◌else◌}
-use Rattle.cga_script.specs.Lines.{Line}
-use Rattle.cga_top.specs.declared.lot.Lot.{Lot}
-use Rattle.cga_top.specs.declared.box_rule.BoxRule.{BoxRule}
-use Rattle.cga_top.specs.declared.sources.Sources.{Sources}
-use Rattle.cga_top.specs.declared.form.Form.{Form}
-use Rattle.cga_top.specs.declared.form.Form.TheVariants as form
-use Rattle.cga_top.specs.declared.refused.Refused.{Refused}
-use Rattle.cga_top.specs.declared.refused.Refused.TheVariants.{NotBuilt, NoSymbol, OpenBlock}
-use Rattle.cga_top.specs.Forms.{form_of}
-use Rattle.cga_top.specs.Blocks.{ends_block, block_of}
-use Rattle.cga_top.specs.Texts.{ok_text, refusal}
-use Rattle.cga_top.specs.Drawing.{obj_text}
-use Rattle.cga_top.specs.State.{State}
+-- What a line does, and what it is replied to.
+use Rattle.std.specs.Prelude.{ℕ, List, [], ◌∷◌, ◌++◌, Bool, true, false, ◌&&◌, Option, Some, None, Result, Ok, Err, is_some, codes, if◌then◌else◌}
+use Rattle.cga_form.specs.declared.block_fault.BlockFault.{BlockFault}
+use Rattle.cga_form.specs.declared.line_fault.LineFault.{LineFault}
+use Rattle.cga_form.specs.Lines.{Line}
+use Rattle.cga_shape.specs.declared.edit.Edit.{Edit}
+use Rattle.cga_shape.specs.declared.edit.Edit.TheVariants as edit
+use Rattle.cga_shape.specs.declared.edit_refused.EditRefused.{EditRefused}
+use Rattle.cga_shape.specs.declared.edit_refused.EditRefused.TheVariants as cause
+use Rattle.cga_shape.specs.declared.sources.Sources.{Sources}
+use Rattle.cga_obj.specs.Faults.{fault_text_of}
+use Rattle.cga_obj.specs.Lots.{obj_text_of}
+use Rattle.cga_syntax.specs.GrammarText.{grammar_text}
+use Rattle.cga_city.specs.Apply.{apply}
+use Rattle.cga_city.specs.Derived.{members}
+use Rattle.cga_city.specs.Lots.{lot_place}
+use Rattle.cga_city.specs.Reports.{drawn_in, faults_of}
+use Rattle.cga_city.specs.Lots.{names_of}
+use Rattle.cga_city.specs.declared.limits.TheConstants.{BUDGET, BUDGET_TWO}
+use Rattle.cga_derive.specs.Derives.{expanded_count}
+use Rattle.cga_expand.specs.Children.{Member}
+use Rattle.cga_undo.specs.History.{Kept, Step, noted, undone, redone}
+use Rattle.cga_script.specs.declared.long_dump.LongDump.{LongDump}
+use Rattle.cga_script.specs.declared.refused.Refused.{Refused}
+use Rattle.cga_script.specs.declared.refused.Refused.TheVariants as refused
+use Rattle.cga_script.specs.declared.script_command.ScriptCommand.{ScriptCommand}
+use Rattle.cga_script.specs.declared.script_command.ScriptCommand.TheVariants.{Blank, Rules, Change, Print, Faults, Grammar, Stats, Quiet, CityBlock, Dump, AssetBlock, Dress, Undress, Model, Bill, Undo, Redo, Trace, JudgeBlock}
+use Rattle.cga_script.specs.declared.version.Version.{Version}
+use Rattle.cga_script.specs.declared.version.Version.TheVariants.{One, Two}
+use Rattle.cga_script.specs.Dumps.{dump_of}
+use Rattle.cga_script.specs.Ends.{is_end_line, is_version_line}
+use Rattle.cga_script.specs.Refusals.{refusal_text_of}
+use Rattle.cga_top.specs.State.{Block, of_rules, of_city, of_other, State, start}
 use Rattle.cga_top.specs.Effect.{Effect, says, silent}
+use Rattle.cga_top.specs.Told.{command_of, grammar_told, sources_told}
 
--- another lot than this one is there
-abbrev pub is_other_lot : Option Lot → List ℕ → Bool
-is_other_lot None name = false
-is_other_lot (Some lot) name = not (bytes_eq lot.name name)
+-- ---- texts
 
--- the rule has this symbol
-abbrev pub has_symbol : Option BoxRule → List ℕ → Bool
-has_symbol None symbol = false
-has_symbol (Some rule) symbol = bytes_eq rule.symbol symbol
+-- `# ok`, but not after `quiet`
+abbrev pub ok_reply : Bool → List ℕ
+ok_reply quiet = if quiet then [] else codes "# ok\n"
 
--- the lot is added, or takes the place of the one of its name
-abbrev pub with_lot : Sources → Lot → Result Sources Refused
-with_lot sources lot =
-    if is_other_lot sources.lot lot.name then Err NotBuilt
-    else if has_symbol sources.rule lot.symbol then Ok (record sources { lot = Some lot })
-    else Err (NoSymbol lot.symbol)
+-- the reply to what isn't built yet
+abbrev pub not_built : List ℕ
+not_built = codes "# refused NotBuilt\n"
 
--- the rule takes the place of the one that was there
-abbrev pub with_rule : Option Lot → BoxRule → Result Sources Refused
-with_rule None rule = Ok (record { rule = Some rule; lot = None })
-with_rule (Some lot) rule = if bytes_eq rule.symbol lot.symbol then Ok (record { rule = Some rule; lot = Some lot }) else Err (NoSymbol lot.symbol)
+-- a refusal changes nothing
+abbrev pub refuses : State → Refused → Effect
+refuses s r = says s (refusal_text_of r)
 
--- an edit goes through with the sources that it leaves, or is refused and changes nothing
-abbrev pub edited : State → Result Sources Refused → Effect
-edited s (Ok sources) = says (record s { sources = sources }) ok_text
-edited s (Err refused) = says s (refusal refused)
+-- ---- edits
 
--- what a line outside a block does
-abbrev pub asked : State → Form → Effect
-asked s form.Blank = silent s
-asked s form.Rules = silent (record s { block = Some [] })
-asked s form.Print = says s (obj_text s.sources)
-asked s (form.SetLot lot) = edited s (with_lot s.sources lot)
-asked s form.Other = says s (refusal NotBuilt)
+-- the most shapes that a city of a script has
+abbrev pub budget_of : Version → ℕ
+budget_of One = BUDGET
+budget_of Two = BUDGET_TWO
 
--- the block's end
-abbrev pub closed : State → Option BoxRule → Effect
-closed s (Some rule) = edited s (with_rule s.sources.lot rule)
-closed s None = says s (refusal NotBuilt)
+-- the most expansions of a refused edit
+abbrev pub most_of : EditRefused → ℕ → ℕ
+most_of cause.OverBudget budget = budget
+most_of _ budget = 0
 
--- what a line inside a block does: it ends the block, or is one more of its lines
-abbrev pub in_block : State → List Line → Line → Effect
-in_block s lines line =
-    if ends_block line then closed (record s { block = None }) (block_of lines)
-    else silent (record s { block = Some (lines ++ line ∷ []) })
+-- the members of the derivation of the current sources
+abbrev pub derived : State → List Member
+derived s = members (budget_of s.version) s.sources
+
+-- how many shapes the derivation of these sources expands
+abbrev pub cost : State → Sources → ℕ
+cost s new = expanded_count (members (budget_of s.version) new)
+
+-- an edit goes through, with what the history then keeps, or is refused and changes nothing
+abbrev pub changed : State → Kept → Result Sources EditRefused → Effect
+changed s kept (Ok new) = record {
+  state = record s { sources = new; kept = kept };
+  reply = ok_reply s.quiet;
+  least = cost s new;
+  most = cost s new;
+}
+changed s kept (Err e) = record { state = s; reply = refusal_text_of (refused.Edit e); least = 0; most = most_of e (budget_of s.version) }
+
+-- what an edit makes of the current sources
+abbrev pub applied : State → Edit → Result Sources EditRefused
+applied s e = apply s.sources e (budget_of s.version)
+
+-- an edit; the sources before it are noted
+abbrev pub edited : State → Edit → Effect
+edited s e = changed s (noted s.kept s.sources) (applied s e)
+
+-- back to former sources, or on to later ones: the edit that sets them whole; none are there
+abbrev pub stepped : State → Refused → Option Step → Effect
+stepped s none None = refuses s none
+stepped s none (Some step) = changed s step.left (applied s (edit.Whole step.taken))
+
+-- ---- reports
+
+-- the OBJ text of lots
+abbrev pub text_of : State → List (List ℕ) → List ℕ
+text_of s names = obj_text_of names (drawn_in names (derived s)) s.decimals
+
+-- of the city, or of one lot
+abbrev pub printed : State → Option (List ℕ) → Effect
+printed s None = says s (text_of s (names_of s.sources.lots))
+printed s (Some name) =
+    if is_some (lot_place name s.sources.lots) then says s (text_of s (name ∷ []))
+    else refuses s (refused.Edit (cause.NoLot name))
+
+abbrev pub dumped : State → Result (List ℕ) LongDump → Effect
+dumped s (Ok text) = says s text
+dumped s (Err long) = refuses s (refused.LongDump long.id)
+
+-- ---- lines outside a block
+
+-- a block is opened
+abbrev pub opened : State → Block → Effect
+opened s block = silent (record s { block = Some block })
+
+-- what a command asks for
+abbrev pub done_by : State → ScriptCommand → Effect
+done_by s Blank = silent s
+done_by s Rules = opened s (of_rules [])
+done_by s (Change e) = edited s e
+done_by s (Print name) = printed s name
+done_by s Faults = says s (fault_text_of (faults_of s.sources.lots (derived s)))
+done_by s Grammar = says s (grammar_text s.sources.grammar)
+done_by s Stats = says s not_built
+done_by s Quiet = silent (record s { quiet = true })
+done_by s CityBlock = opened s (of_city [])
+done_by s Dump = dumped s (dump_of s.sources)
+done_by s (AssetBlock name) = opened s of_other
+done_by s (Dress symbol name) = says s not_built
+done_by s (Undress symbol) = says s not_built
+done_by s (Model name) = says s not_built
+done_by s Bill = says s not_built
+done_by s Undo = stepped s refused.NoUndo (undone s.kept s.sources)
+done_by s Redo = stepped s refused.NoRedo (redone s.kept s.sources)
+done_by s Trace = says s not_built
+done_by s JudgeBlock = opened s of_other
+
+abbrev pub is_blank : ScriptCommand → Bool
+is_blank Blank = true
+is_blank _ = false
+
+-- it isn't the first line any more
+abbrev pub begun : State → State
+begun s = record s { fresh = false }
+
+-- what a line asks for: a blank one for nothing, any other may no longer be followed by `version 2`
+abbrev pub asked : State → Result ScriptCommand LineFault → Effect
+asked s (Ok command) = if is_blank command then silent s else done_by (begun s) command
+asked s (Err fault) = refuses (begun s) (refused.Line fault)
+
+-- the line that makes the version 2 comes first, so that nothing is there yet
+abbrev pub second : State → Effect
+second s = says (record (start s.decimals) { fresh = false; version = Two }) (codes "# ok\n")
+
+abbrev pub outside : State → Line → Effect
+outside s line = if s.fresh && is_version_line line then second s else asked s (command_of s.version line)
+
+-- ---- lines of a block
+
+-- a block has ended: the edit that it makes, or its first faulty line
+abbrev pub closed : State → Result Edit BlockFault → Effect
+closed s (Ok e) = edited s e
+closed s (Err fault) = refuses s (refused.Block fault)
+
+-- what the end of a block does
+abbrev pub ended : State → Block → Effect
+ended s (of_rules lines) = closed s (grammar_told lines)
+ended s (of_city lines) = closed s (sources_told lines)
+ended s of_other = says s not_built
+
+-- one more line of a block
+abbrev pub with_line : Block → Line → Block
+with_line (of_rules lines) line = of_rules (lines ++ line ∷ [])
+with_line (of_city lines) line = of_city (lines ++ line ∷ [])
+with_line of_other line = of_other
+
+-- a line ends the block, or is one more of its lines
+abbrev pub in_block : State → Block → Line → Effect
+in_block s block line = if is_end_line line then ended (record s { block = None }) block else opened s (with_line block line)
 
 -- by the block that is open, or none
-abbrev pub effect_by : Option (List Line) → State → Line → Effect
-effect_by (Some lines) s line = in_block s lines line
-effect_by None s line = asked s (form_of line)
+abbrev pub effect_by : Option Block → State → Line → Effect
+effect_by (Some block) s line = in_block s block line
+effect_by None s line = outside s line
 
 -- what one line does
 unfoldable pub effect : State → Line → Effect
 effect s line = effect_by s.block s line
 
+-- ---- the end
+
 -- a block that the script's end leaves open
-abbrev pub open_reply : Option (List Line) → List ℕ
+abbrev pub open_reply : Option Block → List ℕ
 open_reply None = []
-open_reply (Some lines) = refusal OpenBlock
+open_reply (Some block) = refusal_text_of refused.OpenBlock
 
 -- the end of a script
 abbrev pub at_end : State → Effect

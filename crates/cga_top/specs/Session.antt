@@ -1,23 +1,41 @@
 -- When a session has come to a state.
-use Rattle.std.specs.Prelude.{◌≡◌, ℕ, ◌+◌, ◌≤◌, List, Option, Some, None}
-use Rattle.cga_script.specs.Lines.{Line}
-use Rattle.cga_top.specs.Blocks.{gathered}
-use Rattle.cga_top.specs.State.{State}
-use Rattle.cga_top.specs.Effect.{Effect}
-use Rattle.cga_top.specs.declared.block.Block.{Block}
+use Rattle.std.specs.Prelude.{◌≡◌, ℕ, ◌+◌, ◌≤◌, List, true, Option, Some, None}
+use Rattle.cga_city.specs.City.{CityState}
+use Rattle.cga_top.specs.Blocks.{RulesRead, SourcesRead}
+use Rattle.cga_top.specs.State.{Block, of_rules, of_city, of_other, State}
+use Rattle.cga_top.specs.Effect.{Effect, says}
+use Rattle.cga_top.specs.Replies.{budget_of}
+use Rattle.cga_top.specs.declared.open_block.OpenBlock.{OpenBlock}
+use Rattle.cga_top.specs.declared.open_block.OpenBlock.TheVariants as opened
 use Rattle.cga_top.specs.declared.session.Session.{Session}
 
--- a block is open exactly where one is, and has come to what its lines come to
-abbrev pub IsOpen : Option (List Line) → Option Block → Type 0
+-- it is of that kind, and has read its lines
+abbrev pub IsOpenAs : Block → OpenBlock → Type 0
+IsOpenAs (of_rules lines) (opened.Rules reader) = RulesRead reader lines
+IsOpenAs (of_city lines) (opened.City reader) = SourcesRead reader lines
+IsOpenAs of_other opened.Other = Unit {0}
+IsOpenAs _ _ = ⊥
+
+-- a block is open exactly where one is
+abbrev pub IsOpen : Option Block → Option OpenBlock → Type 0
 IsOpen None None = Unit {0}
-IsOpen (Some lines) (Some block) = block ≡ gathered lines
-IsOpen None (Some block) = ⊥
-IsOpen (Some lines) None = ⊥
+IsOpen (Some block) (Some reader) = IsOpenAs block reader
+IsOpen None (Some reader) = ⊥
+IsOpen (Some block) None = ⊥
+
+-- the warm city of a state
+abbrev pub city_of : State → CityState
+city_of s = record { sources = s.sources; budget = budget_of s.version; warm = true }
 
 -- the session has come to the state
 pub record IsAt (s : State) (session : Session) : Type 0 where
-  pub sources : session.sources ≡ s.sources
+  pub decimals : session.decimals ≡ s.decimals
+  pub fresh : session.fresh ≡ s.fresh
+  pub version : session.version ≡ s.version
+  pub city : session.city ≡ city_of s
+  pub kept : session.history ≡ s.kept
   pub block : IsOpen s.block session.block
+  pub quiet : session.quiet ≡ s.quiet
 
 -- a line was done: the session has come to its state, this was the reply, and so much was expanded
 pub record Did (e : Effect) (session : Session) (text : List ℕ) (before after : ℕ) : Type 0 where
@@ -25,3 +43,7 @@ pub record Did (e : Effect) (session : Session) (text : List ℕ) (before after 
   pub reply : text ≡ e.reply
   pub least : before + e.least ≤ after
   pub most : after ≤ before + e.most
+
+-- only a reply was given: it is that of the effect, which changes nothing
+abbrev pub Says : Effect → List ℕ → Type 0
+Says e text = e ≡ says e.state text

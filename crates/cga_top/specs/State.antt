@@ -1,17 +1,40 @@
 -- What a script has come to.
-use Rattle.std.specs.Prelude.{List, Option, None}
-use Rattle.cga_script.specs.Lines.{Line}
-use Rattle.cga_top.specs.declared.sources.Sources.{Sources}
+use Rattle.std.specs.Prelude.{ℕ, List, Bool, true, false, Option, None}
+use Rattle.cga_form.specs.Lines.{Line}
+use Rattle.cga_shape.specs.declared.sources.Sources.{Sources}
+use Rattle.cga_city.specs.City.{empty_sources}
+use Rattle.cga_script.specs.declared.version.Version.{Version}
+use Rattle.cga_script.specs.declared.version.Version.TheVariants.{One}
+use Rattle.cga_undo.specs.History.{Kept, nothing}
 
--- what its edits have left, and the lines of a block that is open
+-- a block that is open: its kind, and the lines that it has so far
+pub data Block : Type 0 where
+  of_rules : List Line → Block
+  of_city : List Line → Block
+  -- one of a command that isn't built yet; what its lines are is the same to all
+  of_other : Block
+
 pub record State : Type 0 where
+  -- the decimals of what is printed, which the words give and no line changes
+  pub decimals : ℕ
+  -- only blank lines came
+  pub fresh : Bool
+  pub version : Version
   pub sources : Sources
-  pub block : Option (List Line)
-
--- no rule and no lot
-abbrev pub empty_sources : Sources
-empty_sources = record { rule = None; lot = None }
+  pub block : Option Block
+  -- `quiet` was given
+  pub quiet : Bool
+  -- the past and the future
+  pub kept : Kept
 
 -- before the first line
-abbrev pub start : State
-start = record { sources = empty_sources; block = None }
+abbrev pub start : ℕ → State
+start decimals = record {
+  decimals = decimals;
+  fresh = true;
+  version = One;
+  sources = empty_sources;
+  block = None;
+  quiet = false;
+  kept = nothing;
+}

@@ -16,32 +16,32 @@ pub record Spent (e : Effect) (old new : Outside) : Type 0 where
   pub most : new.expanded ≤ old.expanded + e.most
 
 -- the script is within the limit, and all of the output was written
-pub record WritesAll (bytes : List ℕ) (old new : Outside) : Type 0 where
+pub record WritesAll (decimals : ℕ) (bytes : List ℕ) (old new : Outside) : Type 0 where
   pub few : length bytes ≤ limit
-  pub output : Appends old.held new.held (output_of bytes)
-  pub spent : Spent (effect_of_script bytes) old new
+  pub output : Appends old.held new.held (output_of decimals bytes)
+  pub spent : Spent (effect_of_script decimals bytes) old new
 
 -- of the script so much was read, and the replies to the lines within the limit were written
-pub record WritesReplies (read : List ℕ) (bytes : List ℕ) (old new : Outside) : Type 0 where
+pub record WritesReplies (decimals : ℕ) (read : List ℕ) (bytes : List ℕ) (old new : Outside) : Type 0 where
   pub taken : Consumes (Some bytes) new.left read
-  pub replies : Appends old.held new.held (replies_of (take limit read))
-  pub spent : Spent (effect_of_lines (take limit read)) old new
+  pub replies : Appends old.held new.held (replies_of decimals (take limit read))
+  pub spent : Spent (effect_of_lines decimals (take limit read)) old new
 
 -- what was written begins the output
-abbrev pub WritesPrefix : Outside → Outside → Type 0
-WritesPrefix old new = IfSome old.left (λ bytes. AppendsSome old.held new.held (output_of bytes))
+abbrev pub WritesPrefix : ℕ → Outside → Outside → Type 0
+WritesPrefix decimals old new = IfSome old.left (λ bytes. AppendsSome old.held new.held (output_of decimals bytes))
 
 -- one row for each status; what is said of bytes holds where the source tells what is left
 -- and the sink what it holds
-abbrev pub StatusMeans : Status → Outside → Outside → Type 0
-StatusMeans Done old new = IsTrue new.ended × IsTrue new.flushed × IsCalm old new × IfSome old.left (λ bytes. WritesAll bytes old new)
-StatusMeans ReadFault old new = Rose old.reads_failed new.reads_failed × IsTrue new.flushed × (new.writes_failed ≡ old.writes_failed)
-    × IfSome old.left (λ bytes. (read : List ℕ) × (length read ≤ limit) × WritesReplies read bytes old new)
-StatusMeans WriteFault old new = Rose old.writes_failed new.writes_failed × WritesPrefix old new
-StatusMeans TooLong old new = IsTrue new.flushed × IsCalm old new
-    × IfSome old.left (λ bytes. (read : List ℕ) × (limit < length read) × (length read ≤ limit + read_limit) × WritesReplies read bytes old new)
-StatusMeans NoMemory old new = IsCalm old new × WritesPrefix old new
-StatusMeans Usage old new = new ≡ old
+abbrev pub StatusMeans : ℕ → Status → Outside → Outside → Type 0
+StatusMeans decimals Done old new = IsTrue new.ended × IsTrue new.flushed × IsCalm old new × IfSome old.left (λ bytes. WritesAll decimals bytes old new)
+StatusMeans decimals ReadFault old new = Rose old.reads_failed new.reads_failed × IsTrue new.flushed × (new.writes_failed ≡ old.writes_failed)
+    × IfSome old.left (λ bytes. (read : List ℕ) × (length read ≤ limit) × WritesReplies decimals read bytes old new)
+StatusMeans decimals WriteFault old new = Rose old.writes_failed new.writes_failed × WritesPrefix decimals old new
+StatusMeans decimals TooLong old new = IsTrue new.flushed × IsCalm old new
+    × IfSome old.left (λ bytes. (read : List ℕ) × (limit < length read) × (length read ≤ limit + read_limit) × WritesReplies decimals read bytes old new)
+StatusMeans decimals NoMemory old new = IsCalm old new × WritesPrefix decimals old new
+StatusMeans decimals Usage old new = new ≡ old
 
 -- it is told what the source holds, and that is within the limit
 abbrev pub HoldsFew : Option (List ℕ) → Type 0

@@ -5,29 +5,23 @@
 // sink holds some of the output, and may hold a reply in part.
 #![tactic(auto)]
 
-mod block;
-mod box_rule;
-mod drawing;
-mod form;
-mod forms;
+mod commands;
+mod decimals;
+mod edits;
 mod halt;
-mod lot;
-mod number;
-mod positive;
+mod laws;
+mod not_built;
+mod open_block;
 mod pump;
 mod read_end;
 mod reads;
-mod refused;
+mod reports;
 mod session;
-mod sources;
 mod status;
-mod symbol;
-mod texts;
 mod top;
-mod words;
+mod turns;
 
+pub use cga_words::town_script;
+pub use laws::{blocks_are_told, commands_are_told};
 pub use status::Status;
 pub use top::run_city;
-
-#[cfg(test)]
-mod tests;

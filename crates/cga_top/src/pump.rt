@@ -8,13 +8,15 @@ ghost use Rattle.cga_top.specs.State.{State};
 ghost use Rattle.cga_top.specs.Replies.{effect};
 ghost use Rattle.cga_top.specs.Output.{effect_of_all};
 ghost use Rattle.cga_top.specs.Session.{IsAt};
+ghost use Rattle.cga_top.specs.Ready.{IsReady};
 ghost use Rattle.cga_top.specs.Wrote.{Wrote};
 ghost use Rattle.cga_top.specs.KeptPart.{IsKeptPart};
 ghost use Rattle.cga_top.specs.Prefixes.{AppendsSome};
 ghost use Rattle.cga_top.specs.Faults.{FaultsBy};
 
 use crate::halt::Halt;
-use crate::session::{Session, do_line};
+use crate::session::Session;
+use crate::turns::do_line;
 use cga_fraction::{NoMemory, Steps};
 use cga_outside::{Failed, Sink};
 use cga_script::Lines;
@@ -44,6 +46,7 @@ pub(crate) fn take_line<K: Sink, E: Ledger, T: Ledger>(
     expansions: &mut Steps<E>,
     tests: &mut Steps<T>,
 ) -> Result<(), Halt>
+    requires { IsReady session.old }
     ensures ok { (s : State) → IsAt s session.old
         → OnOk result (Wrote (effect s (ready_line lines.old)) session.new (K.held out.old)
         (K.held out.new) expansions.old expansions.new) }
@@ -51,6 +54,7 @@ pub(crate) fn take_line<K: Sink, E: Ledger, T: Ledger>(
         → OnErr result (AppendsSome (K.held out.old) (K.held out.new) (effect s
         (ready_line lines.old)).reply) }
     ensures faults { FaultsBy result (K.faults out.old) (K.faults out.new) }
+    ensures ready { OnOk result (IsReady session.new) }
     ensures lines { OnOk result (lines.new ≡ record { kept = []; ending = ending.Open }) }
 {
     let reply = match do_line(session, lines.line(), lines.is_long(), expansions, tests) {
@@ -75,7 +79,8 @@ pub(crate) fn take_piece<K: Sink, E: Ledger, T: Ledger>(
     expansions: &mut Steps<E>,
     tests: &mut Steps<T>,
 ) -> Result<(), Halt>
-    requires { IsKeptPart lines.old }
+    requires part { IsKeptPart lines.old }
+    requires ready { IsReady session.old }
     ensures ok { (s : State) → IsAt s session.old
         → OnOk result (Wrote (effect_of_all s (lines_of (lines.old.kept ++ piece.now))) session.new
         (K.held out.old) (K.held out.new) expansions.old expansions.new) }
@@ -83,6 +88,7 @@ pub(crate) fn take_piece<K: Sink, E: Ledger, T: Ledger>(
         → OnErr result (AppendsSome (K.held out.old) (K.held out.new) (effect_of_all s (lines_of
         (lines.old.kept ++ piece.now))).reply) }
     ensures faults { FaultsBy result (K.faults out.old) (K.faults out.new) }
+    ensures ready { OnOk result (IsReady session.new) }
     ensures lines { OnOk result (lines.new ≡ record {
       kept = kept_of (cut
           (lines.old.kept ++ piece.now)).rest;
@@ -124,7 +130,8 @@ pub(crate) fn reply_to<K: Sink, E: Ledger, T: Ledger>(
     expansions: &mut Steps<E>,
     tests: &mut Steps<T>,
 ) -> Result<(), Halt>
-    requires { IsKeptPart lines.old }
+    requires part { IsKeptPart lines.old }
+    requires ready { IsReady session.old }
     ensures ok { (s : State) → IsAt s session.old
         → OnOk result (Wrote (effect_of_all s (lines_of (lines.old.kept ++ piece.now))) session.new
         (K.held out.old) (K.held out.new) expansions.old expansions.new) }
@@ -133,6 +140,7 @@ pub(crate) fn reply_to<K: Sink, E: Ledger, T: Ledger>(
         (lines.old.kept ++ piece.now))).reply) }
     ensures flushed { OnOk result (IsTrue (K.flushed out.new)) }
     ensures faults { FaultsBy result (K.faults out.old) (K.faults out.new) }
+    ensures ready { OnOk result (IsReady session.new) }
     ensures lines { OnOk result (lines.new ≡ record {
       kept = kept_of (cut
           (lines.old.kept ++ piece.now)).rest;

@@ -2,6 +2,7 @@ ghost use Rattle.std.specs.Prelude.{◌≡◌, [], take};
 ghost use Rattle.cga_top.specs.State.{start};
 ghost use Rattle.cga_top.specs.Outside.{outside_of};
 ghost use Rattle.cga_top.specs.Session.{IsAt};
+ghost use Rattle.cga_top.specs.Ready.{IsReady};
 ghost use Rattle.cga_top.specs.Reads.{ReadsTo, pending_after};
 
 use crate::pump::reply_to;
@@ -38,9 +39,11 @@ pub(crate) fn read_lines<S: Source, K: Sink, E: Ledger, T: Ledger>(
     expansions: &mut Steps<E>,
     tests: &mut Steps<T>,
 ) -> ReadEnd
-    requires session { IsAt start session.old }
+    requires session { IsAt (start session.old.decimals) session.old }
+    requires ready { IsReady session.old }
     requires lines { lines.old ≡ pending_after [] }
-    ensures end { ReadsTo result
+    ensures ready { result ≡ ReadEnd.Ended → IsReady session.new }
+    ensures end { ReadsTo session.old.decimals result
         (outside_of S.Source K.Sink script.old out.old expansions.old)
         (outside_of S.Source K.Sink script.new out.new expansions.new) session.new lines.new }
 {

@@ -1,30 +1,36 @@
-ghost use Rattle.std.specs.Prelude.{◌≡◌, ◌≢◌, ◌≤◌, ◌<◌, ◌⊎◌, ◌↔◌, List, ℕ, [], length, OnOk, OnErr, IfSome, IsTrue, IsFalse};
+ghost use Rattle.std.specs.Prelude.{◌≡◌, ◌≢◌, ◌⊎◌, List, ℕ, Bool, Option, [], map, string_bytes, unwrap_or, OnOk, OnErr, IfSome, IsTrue, IsFalse};
 ghost use Rattle.std.specs.Io.KnownBytes.{Keeps, Appends};
 ghost use Rattle.cga_outside.specs.Causes.{Rose};
 ghost use Rattle.cga_script.specs.Pending.{kept_of};
 ghost use Rattle.cga_script.specs.declared.ending.Ending.TheVariants as ending;
-ghost use Rattle.cga_top.specs.State.{State};
+ghost use Rattle.clap.specs.Words.{fault_of};
+ghost use Rattle.cga_words.specs.Plain.{IsPlain, plain_words};
+ghost use Rattle.cga_words.specs.Town.{town_text};
+ghost use Rattle.cga_words.specs.Words.{command_app, decimals_of, town_of, IsTown};
+ghost use Rattle.cga_top.specs.State.{State, start};
 ghost use Rattle.cga_top.specs.Replies.{at_end};
-ghost use Rattle.cga_top.specs.Output.{last_line, last_effect, output_of};
+ghost use Rattle.cga_top.specs.Output.{last_line, last_effect, effect_of_script, output_of};
 ghost use Rattle.cga_top.specs.Outside.{outside_of};
 ghost use Rattle.cga_top.specs.Faults.{FaultsBy};
 ghost use Rattle.cga_top.specs.Session.{IsAt};
+ghost use Rattle.cga_top.specs.Ready.{IsReady};
 ghost use Rattle.cga_top.specs.Wrote.{Wrote};
 ghost use Rattle.cga_top.specs.Prefixes.{AppendsSome};
 ghost use Rattle.cga_top.specs.Reads.{ReadsTo, pending_after};
 ghost use Rattle.cga_top.specs.Statuses.{StatusMeans, HoldsFew};
+ghost use Rattle.cga_top.specs.Runs.{GivenMeans, RunMeans, HoldsFewOr, script_of, sunk_in};
 
+use crate::decimals::Decimals;
 use crate::halt::Halt;
-use crate::pump::{take_line, write_all};
+use crate::pump::{take_line, take_piece, write_all};
 use crate::read_end::ReadEnd;
 use crate::reads::read_lines;
-use crate::refused::Refused;
 use crate::session::{Session, new_session};
 use crate::status::Status;
-use crate::texts::refusal_text;
 use cga_fraction::{NoMemory, Steps};
 use cga_outside::{Failed, Sink, Source};
-use cga_script::Lines;
+use cga_script::{Lines, Refused, refusal_text};
+use cga_words::{WordsFault, read_words, town_script};
 use std::alloc::Global;
 use std::sync::ledger::Ledger;
 
@@ -61,7 +67,8 @@ fn end_line<K: Sink, E: Ledger, T: Ledger>(
     expansions: &mut Steps<E>,
     tests: &mut Steps<T>,
 ) -> Result<(), Halt>
-    requires { lines.old.ending ≡ ending.Open }
+    requires goes_on { lines.old.ending ≡ ending.Open }
+    requires ready { IsReady session.old }
     ensures ok { (s : State) (rest : List ℕ) → IsAt s session.old
         → lines.old.kept ≡ kept_of rest
         → OnOk result (Wrote (last_line s rest) session.new (K.held out.old)
@@ -109,7 +116,8 @@ fn end_script<K: Sink, E: Ledger, T: Ledger>(
     expansions: &mut Steps<E>,
     tests: &mut Steps<T>,
 ) -> Result<(), Halt>
-    requires { lines.old.ending ≡ ending.Open }
+    requires goes_on { lines.old.ending ≡ ending.Open }
+    requires ready { IsReady session.old }
     ensures ok { (s : State) (rest : List ℕ) → IsAt s session.old
         → lines.old.kept ≡ kept_of rest
         → OnOk result (Wrote (last_effect s rest) session.new (K.held out.old)
@@ -132,13 +140,14 @@ fn end_script<K: Sink, E: Ledger, T: Ledger>(
 // Replies to a script while it is read.
 fn run_script<S: Source, K: Sink, E: Ledger, T: Ledger>(
     alloc: Global,
+    decimals: Decimals,
     script: &mut S,
     out: &mut K,
     expansions: &mut Steps<E>,
     tests: &mut Steps<T>,
 ) -> Status
     requires { IsFalse (S.ended script.old) }
-    ensures means { StatusMeans result
+    ensures means { StatusMeans decimals result
         (outside_of S.Source K.Sink script.old out.old expansions.old)
         (outside_of S.Source K.Sink script.new out.new expansions.new) }
     ensures used { result ≢ Status.Usage }
@@ -151,7 +160,10 @@ fn run_script<S: Source, K: Sink, E: Ledger, T: Ledger>(
         Ok(lines) => lines,
         Err(NoMemory) => return Status::NoMemory,
     };
-    let mut session = new_session(alloc);
+    let mut session = match new_session(alloc, decimals) {
+        Ok(session) => session,
+        Err(NoMemory) => return Status::NoMemory,
+    };
     match read_lines(&mut session, &mut lines, script, out, expansions, tests) {
         ReadEnd::Ended => match end_script(&mut session, &mut lines, out, expansions, tests) {
             Ok(()) => flushed(out, Status::Done),
@@ -163,14 +175,90 @@ fn run_script<S: Source, K: Sink, E: Ledger, T: Ledger>(
     }
 }
 
+// Replies to lines that are all there, up to the end of their script.
+fn take_all<K: Sink, E: Ledger, T: Ledger>(
+    session: &mut Session,
+    lines: &mut Lines,
+    script: &[u8],
+    out: &mut K,
+    expansions: &mut Steps<E>,
+    tests: &mut Steps<T>,
+) -> Result<(), Halt>
+    requires session { IsAt (start session.old.decimals) session.old }
+    requires ready { IsReady session.old }
+    requires lines { lines.old ≡ pending_after [] }
+    ensures ok { OnOk result (Wrote (effect_of_script session.old.decimals script.now) session.new
+        (K.held out.old) (K.held out.new) expansions.old expansions.new) }
+    ensures err { OnErr result (AppendsSome (K.held out.old) (K.held out.new)
+        (output_of session.old.decimals script.now)) }
+    ensures faults { FaultsBy result (K.faults out.old) (K.faults out.new) }
+{
+    match take_piece(session, lines, script, out, expansions, tests) {
+        Ok(()) => {}
+        Err(halt) => return Err(halt),
+    }
+    match end_script(session, lines, out, expansions, tests) {
+        Ok(()) => Ok(()),
+        Err(halt) => Err(halt),
+    }
+}
+
+// Replies to a script that is there as a whole.
+fn run_given<K: Sink, E: Ledger, T: Ledger>(
+    alloc: Global,
+    decimals: Decimals,
+    script: &[u8],
+    out: &mut K,
+    expansions: &mut Steps<E>,
+    tests: &mut Steps<T>,
+) -> Status
+    ensures means { GivenMeans decimals script.now result
+        (sunk_in K.Sink out.old expansions.old) (sunk_in K.Sink out.new expansions.new) }
+    ensures used { result ≢ Status.Usage }
+{
+    let mut lines = match Lines::new(alloc) {
+        Ok(lines) => lines,
+        Err(NoMemory) => return Status::NoMemory,
+    };
+    let mut session = match new_session(alloc, decimals) {
+        Ok(session) => session,
+        Err(NoMemory) => return Status::NoMemory,
+    };
+    match take_all(&mut session, &mut lines, script, out, expansions, tests) {
+        Ok(()) => flushed(out, Status::Done),
+        Err(halt) => status_of(halt),
+    }
+}
+
+// Replies to the script of a town.
+fn run_town<K: Sink, E: Ledger, T: Ledger>(
+    alloc: Global,
+    decimals: Decimals,
+    lots: u32,
+    out: &mut K,
+    expansions: &mut Steps<E>,
+    tests: &mut Steps<T>,
+) -> Status
+    requires { IsTown lots }
+    ensures means { GivenMeans decimals (town_text lots) result
+        (sunk_in K.Sink out.old expansions.old) (sunk_in K.Sink out.new expansions.new) }
+    ensures used { result ≢ Status.Usage }
+{
+    match town_script(alloc, lots) {
+        Ok(script) => run_given(alloc, decimals, script.as_slice(), out, expansions, tests),
+        Err(NoMemory) => Status::NoMemory,
+    }
+}
+
 /// Replies to a script, each line as it is complete. The words are the whole command line, the program's name
-/// first; it takes no other. The source is read in pieces of at most 4,096 bytes, and no more than 67,108,864
-/// bytes of it are replied to. The memory that is taken doesn't grow with the script.
+/// first: `--decimals N`, 0 to 9, and `--town N`, 1 to 200, with which the script is that of the town and the source
+/// isn't read. The source is read in pieces of at most 4,096 bytes, and no more than 67,108,864 bytes of it are
+/// replied to. The memory that is taken grows with the city and with the longest reply, and not with the script.
 ///
 /// What a read completes is replied to, and the replies are flushed, before the next read. That is tested: no
 /// clause ties the reads of the source to the flushes of the sink.
 ///
-/// The reply to a script is `output_of` its bytes: that of each line, by the rules and lots that stand then.
+/// The reply to a script is `output_of` its bytes: line by line, that of deriving the sources of then from nothing.
 pub fn run_city<S: Source, K: Sink, E: Ledger, T: Ledger>(
     alloc: Global,
     words: &[String],
@@ -182,24 +270,44 @@ pub fn run_city<S: Source, K: Sink, E: Ledger, T: Ledger>(
     requires { IsFalse (S.ended script.old) }
 
     // Where all was done, what the sink holds is what it held and the output.
-    ensures headline { result ≡ Status.Done
-        → IfSome (S.left script.old) (λ bytes. Appends (K.held out.old) (K.held out.new)
-        (output_of bytes)) }
+    ensures headline { let texts = map string_bytes words.now in result ≡ Status.Done
+        → IfSome (script_of (town_of texts) (S.left script.old)) (λ bytes.
+        Appends (K.held out.old) (K.held out.new) (output_of (decimals_of texts) bytes)) }
 
     // When each status comes, and what was read and written then.
-    ensures means { StatusMeans result
+    ensures means { let texts = map string_bytes words.now in
+        RunMeans (decimals_of texts) (town_of texts) result
         (outside_of S.Source K.Sink script.old out.old expansions.old)
         (outside_of S.Source K.Sink script.new out.new expansions.new) }
-    ensures usage { (result ≡ Status.Usage) ↔ (1 < length words.now) }
+
+    // Usage comes where `clap` refuses the words, and then nothing else does, but for memory.
+    ensures usage { result ≡ Status.Usage → fault_of command_app (map string_bytes words.now) ≢ [] }
+    ensures refused { fault_of command_app (map string_bytes words.now) ≢ []
+        → (result ≡ Status.Usage) ⊎ (result ≡ Status.NoMemory) }
+
+    // Words that are written plainly aren't refused, and say what they seem to.
+    ensures plain { (name : List ℕ) (first : Bool) (decimals town : Option ℕ)
+        → IsPlain decimals town
+        → map string_bytes words.now ≡ plain_words name first decimals town
+        → (result ≢ Status.Usage)
+        × (decimals_of (map string_bytes words.now) ≡ unwrap_or decimals 6)
+        × (town_of (map string_bytes words.now) ≡ town) }
 
     // Nothing but a fault, a script that is too long and want of memory keeps a script from being done.
-    ensures complete { length words.now ≤ 1 → HoldsFew (S.left script.old)
+    ensures complete { let texts = map string_bytes words.now in fault_of command_app texts ≡ []
+        → HoldsFewOr (town_of texts) (S.left script.old)
         → (Rose (S.faults script.old) (S.faults script.new) → ⊥)
         → (Rose (K.faults out.old) (K.faults out.new) → ⊥)
         → (result ≡ Status.Done) ⊎ (result ≡ Status.NoMemory) }
 {
-    if words.len() > 1 {
-        return Status::Usage;
+    let wanted = match read_words(alloc, words) {
+        Ok(wanted) => wanted,
+        Err(WordsFault::Usage) => return Status::Usage,
+        Err(WordsFault::NoMemory) => return Status::NoMemory,
+    };
+    let decimals = Decimals::new(wanted.decimals);
+    match wanted.town {
+        Some(lots) => run_town(alloc, decimals, lots, out, expansions, tests),
+        None => run_script(alloc, decimals, script, out, expansions, tests),
     }
-    run_script(alloc, script, out, expansions, tests)
 }

@@ -9,7 +9,8 @@ use Rattle.cga_top.proofs.pump.take_piece.Goals as goal
 
 pub loop-rest-init : goal.loop-rest-init
 loop-rest-init g c = record {
-  part = c.requires;
+  part = c.requires.part;
+  ready = c.requires.ready;
   calm = refl;
   each = λ s st. progress_start s _ _ _ _ st;
   kept = refl;
@@ -23,6 +24,7 @@ loop-rest-preserved-in-Ok g c =
     let done = c.in-Ok.ensures in
     record {
       part = part_cleared _ done.lines;
+      ready = done.ready;
       calm = done.faults ∙ inv.calm;
       each = λ s st. subst (λ (q : Pending). Progress s (c.args.lines.now.kept ++ c.args.piece.now) (q.kept ++ c.split_at.result.1.now) c.take_line.new.session (g.K.Sink.held c.args.out.now) (g.K.Sink.held c.take_line.new.out) c.args.expansions.now c.take_line.new.expansions)
           (sym done.lines) (progress_line s _ _ _ _ _ _ _ _ _ _ _ _ t.lines (inv.each s st) (λ u su. done.ok u su));
@@ -37,6 +39,7 @@ loop-rest-preserved g c =
     let none = nothing_left _ _ _ f.1 c.split_at.ensures.back in
     record {
       part = part_kept _ _ f.2 one;
+      ready = inv.ready;
       calm = inv.calm;
       each = λ s st. progress_same s _ _ _ _ _ _ _ _ (lines_kept_none _ _ _ f.2 none one) (inv.each s st);
       kept = left_kept _ _ _ f.2 none one ∙ inv.kept;

@@ -8,43 +8,38 @@ use Rattle.cga_top.proofs.reads.read_lines.Goals as goal
 pub loop-total-init : goal.loop-total-init
 loop-total-init g c = record {
   most = omega arith;
+  ready = c.requires.ready;
   calm = refl;
-  so_far = ([], reads_start _ _ _ c.requires.session c.requires.lines, refl);
+  so_far = ([], reads_start _ _ _ _ c.requires.session c.requires.lines, refl);
 }
 
-pub reply_to-requires : goal.reply_to-requires
-reply_to-requires g c = is_part _ _ c.loop-total.invariant.so_far.1.lines_are
+pub reply_to-requires-clause-part : goal.reply_to-requires-clause-part
+reply_to-requires-clause-part g c = is_part _ _ c.loop-total.invariant.so_far.1.lines_are
 
-pub returns-in-Err-reply_to : goal.returns-in-Err-reply_to
-returns-in-Err-reply_to g c =
+pub returns-in-Err-reply_to-clause-end : goal.returns-in-Err-reply_to-clause-end
+returns-in-Err-reply_to-clause-end g c =
     let inv = c.loop-total.invariant in
     let read = inv.so_far.0 in
     let few : length read ≤ 67108864 = omega (arith, inv.so_far.2, c.loop-total-test.true) in
     let first = c.first-piece.ensures ∙ ap (λ (n : ℕ). take (67108864 - n) (take c.in-Ok.count c.read.new.buf)) (sym inv.so_far.2) in
-    let halt = c.in-Err-reply_to.ensures in
-    record {
-      end = (
-        read ++ take c.in-Ok.count c.read.new.buf,
-        reads_halt read _ _ _ _ _ _ _ few first inv.so_far.1 c.in-Ok.ensures.bytes.0 halt.err (c.in-Ok.ensures.cause.calm ∙ inv.calm),
-        faults_since c.in-Err-reply_to.halt _ _ _ inv.so_far.1.calm halt.faults,
-      );
-    }
+    let halt = c.in-Err-reply_to.ensures in (
+      read ++ take c.in-Ok.count c.read.new.buf,
+      reads_halt _ read _ _ _ _ _ _ _ few first inv.so_far.1 c.in-Ok.ensures.bytes.0 halt.err (c.in-Ok.ensures.cause.calm ∙ inv.calm),
+      faults_since c.in-Err-reply_to.halt _ _ _ inv.so_far.1.calm halt.faults,
+    )
 
-pub returns-in-Ok-eq0 : goal.returns-in-Ok-eq0
-returns-in-Ok-eq0 g c =
+pub returns-in-Ok-eq0-clause-end : goal.returns-in-Ok-eq0-clause-end
+returns-in-Ok-eq0-clause-end g c =
     let inv = c.loop-total.invariant in
     let got = c.in-Ok-eq0.ensures {u = tt} in
-    let none = subst (λ (n : ℕ). Consumes (g.S.Source.left c.loop-total.script) (g.S.Source.left c.read.new.self) (take n c.read.new.buf)) c.in-Ok-eq0.field-0-test got.bytes.0 in
-    record {
-      end = (
-        inv.so_far.0,
-        reads_none inv.so_far.0 _ _ _ _ _ _ _ inv.so_far.1 none,
-        omega (arith, inv.so_far.2, c.loop-total-test.true),
-        search rules,
-        search rules,
-        got.cause.calm ∙ inv.calm,
-      );
-    }
+    let none = subst (λ (n : ℕ). Consumes (g.S.Source.left c.loop-total.script) (g.S.Source.left c.read.new.self) (take n c.read.new.buf)) c.in-Ok-eq0.field-0-test got.bytes.0 in (
+      inv.so_far.0,
+      reads_none _ inv.so_far.0 _ _ _ _ _ _ _ inv.so_far.1 none,
+      omega (arith, inv.so_far.2, c.loop-total-test.true),
+      search rules,
+      search rules,
+      got.cause.calm ∙ inv.calm,
+    )
 
 pub loop-total-preserved : goal.loop-total-preserved
 loop-total-preserved g c =
@@ -55,10 +50,11 @@ loop-total-preserved g c =
     let done = c.in-Ok-reply_to.ensures in
     record {
       most = omega (arith, c.in-Ok.ensures.bound, c.loop-total-test.true);
+      ready = done.ready;
       calm = c.in-Ok.ensures.cause.calm ∙ inv.calm;
       so_far = (
         read ++ take c.in-Ok.count c.read.new.buf,
-        reads_more read _ _ _ _ _ _ _ _ _ few first inv.so_far.1 c.in-Ok.ensures.bytes.0 done.ok done.lines done.flushed done.faults,
+        reads_more _ read _ _ _ _ _ _ _ _ _ few first inv.so_far.1 c.in-Ok.ensures.bytes.0 done.ok done.lines done.flushed done.faults,
         omega (arith, length-append read (take c.in-Ok.count c.read.new.buf), length-take-le c.in-Ok.count c.read.new.buf c.in-Ok.ensures.bound.0, inv.so_far.2),
       );
     }

@@ -1,0 +1,19 @@
+//! What the definition of the output says of lines is what they tell.
+ghost use Rattle.std.specs.Prelude.{List, Ok, IfOk};
+ghost use Rattle.cga_form.specs.Lines.{Line};
+ghost use Rattle.cga_parser.specs.BlockTells.{GrammarTells};
+ghost use Rattle.cga_script.specs.CityLines.{CityTells};
+ghost use Rattle.cga_script.specs.Commands.{CommandTells};
+ghost use Rattle.cga_script.specs.declared.version.Version.{Version};
+ghost use Rattle.cga_top.specs.Told.{command_of, rules_of, city_of};
+
+/// What a line outside a block is taken for is the one thing that it tells. Does nothing: its contract is the law.
+pub fn commands_are_told()
+    ensures { (version : Version) (line : Line) → CommandTells version line (command_of version line) }
+{}
+
+/// The same of the lines of a block, of rules and of a whole city.
+pub fn blocks_are_told()
+    ensures rules { (lines : List Line) → GrammarTells lines (rules_of lines) }
+    ensures city { (lines : List Line) → CityTells lines (city_of lines) }
+{}

@@ -1,0 +1,72 @@
+ghost use Rattle.std.specs.Prelude.{◌≡◌, List, IfOk};
+ghost use Rattle.cga_form.specs.Lines.{Line};
+ghost use Rattle.cga_top.specs.Blocks.{RulesRead, SourcesRead};
+ghost use Rattle.cga_top.specs.State.{Block};
+ghost use Rattle.cga_top.specs.Replies.{with_line};
+ghost use Rattle.cga_top.specs.Session.{IsOpenAs};
+ghost use Rattle.cga_top.specs.Ready.{HasRead};
+ghost use Rattle.cga_top.specs.Told.{grammar_told, sources_told};
+ghost use Rattle.cga_top.specs.Written.{IsWritten};
+
+use cga_form::BlockFault;
+use cga_fraction::NoMemory;
+use cga_parser::GrammarReader;
+use cga_script::CityReader;
+use cga_shape::Edit;
+
+/// A block that is open.
+#[derive(Drop)]
+pub(crate) enum OpenBlock {
+    Rules(GrammarReader),
+    City(CityReader),
+    /// Of a command that isn't built yet: its lines are passed over.
+    Other,
+}
+
+impl OpenBlock {
+    /// The block with one more line. Takes memory.
+    pub(crate) fn line(self, line: &[u8], long: bool) -> Result<OpenBlock, NoMemory>
+        requires { HasRead self }
+        ensures open { (b : Block) → IsOpenAs b self
+            → IfOk result (IsOpenAs (with_line b (record { bytes = line.now; long = long }))) }
+        ensures read { IfOk result HasRead }
+    {
+        match self {
+            OpenBlock::Rules(reader) => {
+                let mut reader = reader;
+                reader.line(line, long)?;
+                Ok(OpenBlock::Rules(reader))
+            }
+            OpenBlock::City(reader) => {
+                let mut reader = reader;
+                reader.line(line, long)?;
+                Ok(OpenBlock::City(reader))
+            }
+            OpenBlock::Other => Ok(OpenBlock::Other),
+        }
+    }
+}
+
+/// The edit that a block of rules makes, or its first faulty line.
+pub(crate) fn rules_edit(reader: GrammarReader) -> Result<Edit, BlockFault>
+    requires { (lines : List Line) × RulesRead reader lines }
+    ensures told { (lines : List Line) → RulesRead reader lines → result ≡ grammar_told lines }
+    ensures written { IfOk result IsWritten }
+{
+    match reader.finish() {
+        Ok(grammar) => Ok(Edit::Rules(grammar)),
+        Err(fault) => Err(fault),
+    }
+}
+
+/// The edit that a block of a whole city makes, or its first faulty line.
+pub(crate) fn city_edit(reader: CityReader) -> Result<Edit, BlockFault>
+    requires { (lines : List Line) × SourcesRead reader lines }
+    ensures told { (lines : List Line) → SourcesRead reader lines → result ≡ sources_told lines }
+    ensures written { IfOk result IsWritten }
+{
+    match reader.finish() {
+        Ok(sources) => Ok(Edit::Whole(sources)),
+        Err(fault) => Err(fault),
+    }
+}

@@ -1,0 +1,94 @@
+ghost use Rattle.std.specs.Prelude.{◌≡◌, IfOk, None, Some};
+ghost use Rattle.cga_obj.specs.Faults.{fault_text_of};
+ghost use Rattle.cga_city.specs.Reports.{faults_of};
+ghost use Rattle.cga_city.specs.Lots.{names_of};
+ghost use Rattle.cga_script.specs.Dumps.{dump_of};
+ghost use Rattle.cga_syntax.specs.GrammarText.{grammar_text};
+ghost use Rattle.cga_top.specs.State.{State};
+ghost use Rattle.cga_top.specs.Replies.{printed, dumped, derived};
+ghost use Rattle.cga_top.specs.Session.{IsAt, Says};
+ghost use Rattle.cga_top.specs.Ready.{IsReady};
+
+use crate::session::Session;
+use cga_city::NoLot;
+use cga_fraction::{List, NoMemory};
+use cga_obj::{fault_text, obj_text};
+use cga_script::{Refused, dump_text, refusal_text};
+use cga_shape::{EditRefused, Lot};
+use cga_syntax::print_grammar;
+use cga_word::Name;
+use std::alloc::Global;
+
+// The names of lots, in their order.
+fn names(alloc: Global, lots: &[Lot]) -> Result<List<Name>, NoMemory>
+    ensures { IfOk result (λ names. names ≡ names_of lots.now) }
+{
+    let mut names = List::new(alloc);
+    for lot in lots {
+        names.push(lot.name)?;
+    }
+    Ok(names)
+}
+
+/// The OBJ text of the city. Takes memory.
+pub(crate) fn print_city(session: &Session) -> Result<List<u8>, NoMemory>
+    requires { IsReady session.now }
+    ensures { (s : State) → IsAt s session.now → IfOk result (Says (printed s None)) }
+{
+    let names = names(session.alloc, session.city.lots())?;
+    match session.city.instances(None)? {
+        Ok(drawn) => obj_text(
+            session.alloc,
+            names.as_slice(),
+            drawn.as_slice(),
+            session.decimals.get(),
+        ),
+        Err(NoLot) => unreachable!(),
+    }
+}
+
+/// The OBJ text of one lot, where it is there. Takes memory.
+pub(crate) fn print_lot(session: &Session, lot: Name) -> Result<List<u8>, NoMemory>
+    requires { IsReady session.now }
+    ensures { (s : State) → IsAt s session.now → IfOk result (Says (printed s (Some lot))) }
+{
+    match session.city.instances(Some(lot))? {
+        Ok(drawn) => obj_text(
+            session.alloc,
+            &[lot],
+            drawn.as_slice(),
+            session.decimals.get(),
+        ),
+        Err(NoLot) => refusal_text(session.alloc, &Refused::Edit(EditRefused::NoLot(lot))),
+    }
+}
+
+/// The list of faults. Takes memory.
+pub(crate) fn faults(session: &Session) -> Result<List<u8>, NoMemory>
+    requires { IsReady session.now }
+    ensures { (s : State) → IsAt s session.now
+        → IfOk result (λ text. text ≡ fault_text_of (faults_of s.sources.lots (derived s))) }
+{
+    let faults = session.city.faults()?;
+    fault_text(session.alloc, faults.as_slice())
+}
+
+/// The text of the rules. Takes memory.
+pub(crate) fn grammar(session: &Session) -> Result<List<u8>, NoMemory>
+    requires { IsReady session.now }
+    ensures { (s : State) → IsAt s session.now
+        → IfOk result (λ text. text ≡ grammar_text s.sources.grammar) }
+{
+    print_grammar(session.alloc, session.city.grammar())
+}
+
+/// The text of the sources, or its refusal. Takes memory.
+pub(crate) fn dump(session: &Session) -> Result<List<u8>, NoMemory>
+    requires { IsReady session.now }
+    ensures { (s : State) → IsAt s session.now → IfOk result (Says (dumped s (dump_of s.sources))) }
+{
+    match dump_text(session.alloc, session.city.sources())? {
+        Ok(text) => Ok(text),
+        Err(long) => refusal_text(session.alloc, &Refused::LongDump(long.id)),
+    }
+}

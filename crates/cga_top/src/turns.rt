@@ -1,0 +1,166 @@
+ghost use Rattle.std.specs.Prelude.{◌≡◌, ◌&&◌, IfOk, OnOk, ℕ};
+ghost use Rattle.cga_script.specs.Ends.{is_version_line};
+ghost use Rattle.cga_top.specs.State.{State, Block};
+ghost use Rattle.cga_top.specs.Replies.{effect, outside, asked, is_blank, closed, ended, second};
+ghost use Rattle.cga_top.specs.Session.{IsAt, IsOpenAs, Did};
+ghost use Rattle.cga_top.specs.Ready.{IsReady, HasRead};
+ghost use Rattle.cga_top.specs.Written.{IsWritten, AsksWritten};
+
+use crate::commands::do_command;
+use crate::edits::change;
+use crate::not_built::NotBuilt;
+use crate::open_block::{OpenBlock, city_edit, rules_edit};
+use crate::session::{Session, accepted};
+use cga_city::City;
+use cga_city::limits::BUDGET_TWO;
+use cga_form::{BlockFault, LineFault};
+use cga_fraction::{List, NoMemory, Steps};
+use cga_script::{
+    Refused, ScriptCommand, Version, command, ends_block, refusal_text, version_line,
+};
+use cga_shape::Edit;
+use cga_undo::History;
+use std::sync::ledger::Ledger;
+
+// The line that makes the version 2 has come.
+fn begin_second(session: &mut Session) -> Result<List<u8>, NoMemory>
+    requires { IsReady session.old }
+    ensures did { (s : State) (n : ℕ) → IsAt s session.old
+        → IfOk result (λ reply. Did (second s) session.new reply n n) }
+    ensures ready { OnOk result (IsReady session.new) }
+{
+    session.history = History::new(session.alloc)?;
+    session.city = City::new(session.alloc, BUDGET_TWO);
+    session.fresh = false;
+    session.version = Version::Two;
+    session.block = None;
+    session.quiet = false;
+    accepted(session.alloc, false)
+}
+
+// Whether the line makes the version 2.
+fn is_second(session: &Session, line: &[u8], long: bool) -> Result<bool, NoMemory>
+    ensures { (s : State) → IsAt s session.now
+        → IfOk result (λ told. told ≡ (s.fresh && is_version_line (record { bytes = line.now; long = long }))) }
+{
+    if !session.fresh {
+        return Ok(false);
+    }
+    version_line(session.alloc, line, long)
+}
+
+fn is_blank(command: &ScriptCommand) -> bool
+    ensures { result ≡ is_blank command.now }
+{
+    matches!(command, ScriptCommand::Blank)
+}
+
+// Does what a line is taken for.
+fn do_asked<E: Ledger, T: Ledger>(
+    session: &mut Session,
+    told: Result<ScriptCommand, LineFault>,
+    expansions: &mut Steps<E>,
+    tests: &mut Steps<T>,
+) -> Result<List<u8>, NoMemory>
+    requires ready { IsReady session.old }
+    requires written { IfOk told AsksWritten }
+    ensures did { (s : State) → IsAt s session.old
+        → IfOk result (λ reply. Did (asked s told) session.new reply expansions.old expansions.new) }
+    ensures ready { OnOk result (IsReady session.new) }
+{
+    match told {
+        Ok(command) => {
+            if is_blank(&command) {
+                return Ok(List::new(session.alloc));
+            }
+            session.fresh = false;
+            do_command(session, command, expansions, tests)
+        }
+        Err(fault) => {
+            session.fresh = false;
+            refusal_text(session.alloc, &Refused::Line(fault))
+        }
+    }
+}
+
+// Does what a line outside a block asks for.
+fn do_outside<E: Ledger, T: Ledger>(
+    session: &mut Session,
+    line: &[u8],
+    long: bool,
+    expansions: &mut Steps<E>,
+    tests: &mut Steps<T>,
+) -> Result<List<u8>, NoMemory>
+    requires { IsReady session.old }
+    ensures did { (s : State) → IsAt s session.old
+        → IfOk result (λ reply. Did (outside s (record { bytes = line.now; long = long })) session.new reply expansions.old expansions.new) }
+    ensures ready { OnOk result (IsReady session.new) }
+{
+    if is_second(session, line, long)? {
+        return begin_second(session);
+    }
+    let told = command(session.alloc, line, long, session.version)?;
+    do_asked(session, told, expansions, tests)
+}
+
+// Does the edit that a block makes, or refuses it by its first faulty line.
+fn close<E: Ledger, T: Ledger>(
+    session: &mut Session,
+    made: Result<Edit, BlockFault>,
+    expansions: &mut Steps<E>,
+    tests: &mut Steps<T>,
+) -> Result<List<u8>, NoMemory>
+    requires ready { IsReady session.old }
+    requires written { IfOk made IsWritten }
+    ensures did { (s : State) → IsAt s session.old
+        → IfOk result (λ reply. Did (closed s made) session.new reply expansions.old expansions.new) }
+    ensures ready { OnOk result (IsReady session.new) }
+{
+    match made {
+        Ok(edit) => change(session, edit, expansions, tests),
+        Err(fault) => refusal_text(session.alloc, &Refused::Block(fault)),
+    }
+}
+
+// The reply to a block that has ended.
+fn do_end<E: Ledger, T: Ledger>(
+    session: &mut Session,
+    block: OpenBlock,
+    expansions: &mut Steps<E>,
+    tests: &mut Steps<T>,
+) -> Result<List<u8>, NoMemory>
+    requires ready { IsReady session.old }
+    requires read { HasRead block }
+    ensures did { (s : State) (b : Block) → IsAt s session.old → IsOpenAs b block
+        → IfOk result (λ reply. Did (ended s b) session.new reply expansions.old expansions.new) }
+    ensures ready { OnOk result (IsReady session.new) }
+{
+    match block {
+        OpenBlock::Rules(reader) => close(session, rules_edit(reader), expansions, tests),
+        OpenBlock::City(reader) => close(session, city_edit(reader), expansions, tests),
+        OpenBlock::Other => NotBuilt.text(session.alloc),
+    }
+}
+
+/// Does what a line asks for, and gives the reply.
+pub(crate) fn do_line<E: Ledger, T: Ledger>(
+    session: &mut Session,
+    line: &[u8],
+    long: bool,
+    expansions: &mut Steps<E>,
+    tests: &mut Steps<T>,
+) -> Result<List<u8>, NoMemory>
+    requires { IsReady session.old }
+    ensures did { (s : State) → IsAt s session.old
+        → IfOk result (λ reply. Did (effect s (record { bytes = line.now; long = long })) session.new reply expansions.old expansions.new) }
+    ensures ready { OnOk result (IsReady session.new) }
+{
+    match session.block.take() {
+        None => do_outside(session, line, long, expansions, tests),
+        Some(block) if ends_block(line, long) => do_end(session, block, expansions, tests),
+        Some(block) => {
+            session.block = Some(block.line(line, long)?);
+            Ok(List::new(session.alloc))
+        }
+    }
+}
