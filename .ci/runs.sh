@@ -1,5 +1,6 @@
 #!/usr/bin/env bash
-# Runs of the built program that no test shows: the examples, the exit statuses, and scripts of 64 MiB.
+# Runs of the built program that no test shows: the examples, the scripts of the documents, the exit statuses, and
+# scripts of 64 MiB.
 set -uo pipefail
 cd "$(dirname "${BASH_SOURCE[0]}")/.."
 ./cga_city </dev/null || exit 1
@@ -23,8 +24,24 @@ for script in examples/*.cga; do
   expect "$script" 0 "${script%.cga}.out" ""
 done
 
+# the scripts of docs/LANGUAGE.md: with the replies that stand behind one, else none is refused
+awk -v work="$work" '
+  /^```script$/ { file = sprintf("%s/doc%02d.cga", work, ++n); next }
+  /^```replies$/ { file = sprintf("%s/doc%02d.want", work, n); next }
+  /^```/ { file = ""; next }
+  file != "" { print > file }' docs/LANGUAGE.md
+for script in "$work"/doc*.cga; do
+  ./cga_city <"$script" >"$work/out" 2>"$work/err"; status=$?
+  want=${script%.cga}.want
+  [ -e "$want" ] || grep -v '^# refused' "$work/out" >"$want"
+  expect "the $(basename "$script" .cga | sed 's/doc0*/script /') of docs/LANGUAGE.md" 0 "$want" ""
+done
+
 ./cga_city x </dev/null >"$work/out" 2>"$work/err"; status=$?
 expect "a word too many" 2 "$work/nothing" "usage: cga_city [--decimals N] [--town N]"
+./cga_city --decimals 2 <examples/first_box.cga >"$work/out" 2>"$work/err"; status=$?
+sed '/^v/s/\([0-9]\.[0-9][0-9]\)0000/\1/g' examples/first_box.out >"$work/short"
+expect "two decimals" 0 "$work/short" ""
 ./cga_city <. >"$work/out" 2>"$work/err"; status=$?
 expect "a folder as the script" 3 "$work/nothing" "cga_city: cannot read"
 ./cga_city <examples/first_box.cga 2>"$work/err" >/dev/full; status=$?
@@ -34,7 +51,7 @@ expect "a full disk" 4 "$work/nothing" "cga_city: cannot write"
 expect "words that are no text" 7 "$work/nothing" "cga_city: cannot read the command line"
 
 # one line of 64 MiB with its line feed, and the same with one byte more
-echo "# refused NotBuilt" >"$work/refused"
+echo "# refused LineTooLong" >"$work/refused"
 head -c 67108863 /dev/zero | tr '\0' x >"$work/long"
 echo >>"$work/long"
 ./cga_city <"$work/long" >"$work/out" 2>"$work/err"; status=$?

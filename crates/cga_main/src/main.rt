@@ -4,13 +4,15 @@
 // The one thing to get wrong: `main` alone has no contract, so it only hands on what the other functions answer.
 #![tactic(auto)]
 
-ghost use Rattle.std.specs.Prelude.{◌≡◌, ◌<◌, ◌≤◌, ◌↔◌, ◌⊎◌, ℕ, length, IfSome, IsFalse, IfOk, IfErr, IsErrAnd, MatchResult};
+ghost use Rattle.std.specs.Prelude.{◌≡◌, ◌≢◌, ◌<◌, ◌⊎◌, [], ℕ, map, string_bytes, IfSome, IsFalse, IfOk, IfErr, IsErrAnd, MatchResult};
 ghost use Rattle.std.specs.Io.KnownBytes.{Appends};
 ghost use Rattle.std.specs.Process.{exit_status};
 ghost use Rattle.cga_outside.specs.Causes.{Rose};
 ghost use Rattle.cga_top.specs.Output.{output_of};
 ghost use Rattle.cga_top.specs.Outside.{outside_of};
-ghost use Rattle.cga_top.specs.Statuses.{StatusMeans, HoldsFew};
+ghost use Rattle.cga_top.specs.Runs.{HoldsFewOr, RunMeans, script_of};
+ghost use Rattle.cga_words.specs.Words.{command_app, decimals_of, town_of};
+ghost use Rattle.clap.specs.Words.{fault_of};
 ghost use Rattle.std.specs.Vec.Iter.{into_iter_items};
 ghost use Rattle.std.specs.IoError.{error_kind};
 ghost use Rattle.cga_main.specs.Exits.{refusal_of};
@@ -62,14 +64,18 @@ fn run<S: Source, K: Sink, E: Ledger, T: Ledger>(
     requires tests_name { tests.name ≡ T.name }
     requires tests_parts { tests.parts ≡ T.parts }
     requires tests_some { 0 < tests.parts }
-    ensures headline { result ≡ Status.Done
-        → IfSome (S.left script.old) (λ bytes. Appends (K.held out.old) (K.held out.new)
-        (output_of bytes)) }
-    ensures means { (expanded : ℕ) × StatusMeans result
+    ensures headline { let texts = map string_bytes words.now in result ≡ Status.Done
+        → IfSome (script_of (town_of texts) (S.left script.old)) (λ bytes.
+        Appends (K.held out.old) (K.held out.new) (output_of (decimals_of texts) bytes)) }
+    ensures means { let texts = map string_bytes words.now in
+        (expanded : ℕ) × RunMeans (decimals_of texts) (town_of texts) result
         (outside_of S.Source K.Sink script.old out.old 0)
         (outside_of S.Source K.Sink script.new out.new expanded) }
-    ensures usage { (result ≡ Status.Usage) ↔ (1 < length words.now) }
-    ensures complete { length words.now ≤ 1 → HoldsFew (S.left script.old)
+    ensures usage { result ≡ Status.Usage → fault_of command_app (map string_bytes words.now) ≢ [] }
+    ensures refused { fault_of command_app (map string_bytes words.now) ≢ []
+        → (result ≡ Status.Usage) ⊎ (result ≡ Status.NoMemory) }
+    ensures complete { let texts = map string_bytes words.now in fault_of command_app texts ≡ []
+        → HoldsFewOr (town_of texts) (S.left script.old)
         → (Rose (S.faults script.old) (S.faults script.new) → ⊥)
         → (Rose (K.faults out.old) (K.faults out.new) → ⊥)
         → (result ≡ Status.Done) ⊎ (result ≡ Status.NoMemory) }

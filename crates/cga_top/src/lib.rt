@@ -18,6 +18,8 @@ mod reads;
 mod reports;
 mod session;
 mod status;
+#[cfg(test)]
+mod tests;
 mod top;
 mod turns;
 
