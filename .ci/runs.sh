@@ -60,6 +60,33 @@ printf y >>"$work/long"
 ./cga_city <"$work/long" >"$work/out" 2>"$work/err"; status=$?
 expect "64 MiB and a byte" 5 "$work/refused" "cga_city: script too long"
 
+# try NAME SCRIPT WANTED-OUTPUT: a script and what it is replied to, both with \n for their line feeds
+try() {
+  printf "$2" >"$work/script"
+  printf "$3" >"$work/wanted"
+  ./cga_city <"$work/script" >"$work/out" 2>"$work/err"; status=$?
+  expect "$1" 0 "$work/wanted" ""
+}
+
+# hostile scripts: no end, too many shapes, and a depth of 256
+try "a rule that doubles without end" 'rules\n1: a -> a a\nend\nlot p 1 0 0 1 1 a\nprint\n' \
+  '# ok\n# refused OverBudget\n# cga_city obj\n'
+zeros=$(printf '/0%.0s' $(seq 256))
+try "a chain to the depth limit" 'rules\n1: a -> a\nend\nlot p 1 0 0 1 1 a\nfaults\n' \
+  "# ok\n# ok\n# faults 1\n# fault p $zeros a TooDeep\n"
+try "two chains" 'rules\n1: a -> Repeat("X", 1) { a }\nend\nlot p 1 0 0 2 1 a\nfaults\n' \
+  "# ok\n# ok\n# faults 2\n# fault p $zeros a TooDeep\n# fault p /1${zeros%/0} a TooDeep\n"
+try "a block of 600 faulty lines" "rules\n$(printf 'x y\\n%.0s' $(seq 600))end\n" '# refused Unexpected at 1:1\n'
+cells='rules\n1: block -> Repeat("X", 1) { row }\n2: row -> Repeat("Z", 1) { cell }\n3: cell -> NIL\nend\n'
+try "sixty thousand cells, twice" "${cells}lot a 1 0 0 300 199 block\nlot a 2 0 0 300 199 block\nfaults\n" \
+  '# ok\n# ok\n# ok\n# faults 0\n'
+try "as many as the second version allows" "version 2\n${cells}lot a 1 0 0 600 400 block\nfaults\n" \
+  '# ok\n# ok\n# ok\n# faults 0\n'
+try "as many as the first version doesn't" "${cells}lot a 1 0 0 600 400 block\n" '# ok\n# refused OverBudget\n'
+deep="put 1 1: a : $(printf '(%.0s' $(seq 32))1$(printf ')%.0s' $(seq 32)) > 0 -> NIL"
+try "32 open brackets in a line of 4,096 bytes" "$(printf '%-4096s' "$deep")\n" '# ok\n'
+try "one byte more" "$(printf '%-4097s' "$deep")\n" '# refused LineTooLong\n'
+
 # memory doesn't grow with the script
 (ulimit -v 65536; exec ./cga_city <"$work/long") >"$work/out" 2>"$work/err"; status=$?
 expect "64 MiB of script in 64 MiB of memory" 5 "$work/refused" "cga_city: script too long"
