@@ -4,10 +4,12 @@ use Rattle.std.specs.Prelude.{Option, Some, None, is_some, slice_get}
 use Rattle.cga_forest.specs.declared.entry.Entry.{Entry}
 use Rattle.cga_forest.specs.declared.node.Node.{Node}
 use Rattle.cga_forest.specs.declared.node.State.{State}
-use Rattle.cga_forest.specs.Node.{with_state}
+use Rattle.cga_forest.specs.Node.{fits, with_state}
 use Rattle.cga_forest.specs.View.{Seen, kids, flag_if, present_of, marked_of, hulls_of, marked_hulls_of, rewritten}
 use Rattle.cga_forest.proofs.Places.{InPlace-replaced}
-use Rattle.cga_forest.specs.Tree.{IsTree, InPlace, IsInner, IsWhole, RightBut, goes, stay_of, IsPlaced, IsReplaced}
+use Rattle.cga_forest.specs.Tree.{InPlace, IsInner, IsWhole, RightBut, goes, stay_of, IsPlaced}
+use Rattle.cga_tree.specs.Tree.{IsTree}
+use Rattle.cga_tree.specs.Replaced.{IsReplaced}
 use Rattle.cga_forest.proofs.Under.{kids_flag}
 use Rattle.cga_forest.proofs.Right.{present_some, kids_present}
 use Rattle.cga_forest.proofs.Replace.{IsTree-replaced}
@@ -46,14 +48,14 @@ module _ (s0 s1 s2 s3 : ℕ → Option Entry) (id depth n : ℕ) (marking : Bool
   placed_seen : IsPlaced s1 s2 id depth marking e.children news made
   placed_seen = subst (λ (xs : List ℕ). IsPlaced s1 s2 id depth marking xs news made) (dropped_kids s0 s1 id e was whole.tree gone dropped_seen) placed
 
-  pub assembled : IsReplaced (λ c. present_of (s0 c)) (λ c. present_of (s3 c)) id news e (record e { node = with_state state e.node; children = made }) gone
+  pub assembled : IsReplaced fits (λ c. present_of (s0 c)) (λ c. present_of (s3 c)) id news e (record e { node = with_state state e.node; children = made }) gone
   assembled = replaced s0 s1 s2 s3 id depth n marking made news state e was low deep fuel whole.tree gone (λ c. refl) dropped_seen placed_seen sized others changed
 
   abbrev pub gone_slots : ℕ → Bool
   gone_slots c = goes (λ d. kids (s0 d)) n (λ k w. stay_of (s0 k) w) (kids (s0 id)) news (length (kids (s0 id))) c
 
-  pub assembled_slots : IsReplaced (λ c. present_of (s0 c)) (λ c. present_of (s3 c)) id news e (record e { node = with_state state e.node; children = made }) gone_slots
-  assembled_slots = subst (λ (xs : List ℕ). IsReplaced (λ c. present_of (s0 c)) (λ c. present_of (s3 c)) id news e (record e { node = with_state state e.node; children = made }) (λ c. goes (λ d. kids (s0 d)) n (λ k w. stay_of (s0 k) w) xs news (length xs) c)) (sym (kids_present (s0 id) e was)) assembled
+  pub assembled_slots : IsReplaced fits (λ c. present_of (s0 c)) (λ c. present_of (s3 c)) id news e (record e { node = with_state state e.node; children = made }) gone_slots
+  assembled_slots = subst (λ (xs : List ℕ). IsReplaced fits (λ c. present_of (s0 c)) (λ c. present_of (s3 c)) id news e (record e { node = with_state state e.node; children = made }) (λ c. goes (λ d. kids (s0 d)) n (λ k w. stay_of (s0 k) w) xs news (length xs) c)) (sym (kids_present (s0 id) e was)) assembled
 
   pub vacant_after : (c : ℕ) (d : Seen) → present_of (s0 c) ≡ None → present_of (s3 c) ≡ Some d → s0 c ≡ None
   vacant_after c d h t = vacant s0 s1 s2 s3 id depth n marking made news state e was low deep fuel whole.tree gone (λ c. refl) dropped_seen placed_seen sized others changed c d h t

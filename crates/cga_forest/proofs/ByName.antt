@@ -1,10 +1,9 @@
 -- Lots by their names.
-use Rattle.std.proofs.Common.{◌≡◌, ◌⊎◌, ◌↔◌, inl, inr, ℕ, ◌<◌, List, [], length, refl, sym, ap, subst, ◌∙◌, arith, Option, Some, None, false, true}
+use Rattle.std.proofs.Common.{◌≡◌, ◌⊎◌, ◌↔◌, inl, inr, ℕ, ◌<◌, List, [], refl, sym, subst, ◌∙◌, arith, Option, Some, None, false}
 use Rattle.std.specs.List.{Contains, IsDistinct}
 use Rattle.cga_word.specs.declared.mode.Mode.{Mode}
-use Rattle.cga_forest.specs.View.{Seen}
-use Rattle.cga_forest.specs.Roots.{HasRoots, AreApart, root_under}
-use Rattle.cga_forest.specs.Tree.{ForestView, IsForest, IsRootOf, HasNoLot, node_at, IsTree, InPlace, IsWhole, hulls_at, AllRight}
+use Rattle.cga_forest.specs.Roots.{AreApart, root_under}
+use Rattle.cga_forest.specs.Tree.{ForestView, IsForest, IsRootOf, HasNoLot, node_at}
 use Rattle.cga_forest.proofs.Names.{at_contains, contains_at, contains_under, under_contains}
 
 module _ (v : ForestView) (f : IsForest v) (name : List ℕ) where

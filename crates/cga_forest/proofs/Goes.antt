@@ -5,11 +5,13 @@ use Rattle.std.specs.Prelude.{Option, Some, None, not, slice_get, if◌then◌el
 use Rattle.cga_forest.specs.declared.entry.Entry.{Entry}
 use Rattle.cga_forest.specs.declared.node.Node.{Node}
 use Rattle.cga_forest.specs.declared.node.State.{State}
-use Rattle.cga_forest.specs.Node.{with_state}
+use Rattle.cga_forest.specs.Node.{fits, with_state}
 use Rattle.cga_forest.specs.declared.hulls.Hulls.{Hulls}
 use Rattle.cga_forest.specs.Hull.{over, own_hulls}
 use Rattle.cga_forest.specs.View.{Seen, kids, flag_if, present_of, marked_of, hulls_of, marked_hulls_of, rewritten, IsNewEntry, seen, restored, former_hulls}
-use Rattle.cga_forest.specs.Tree.{IsTree, IsRight, AllRight, RightBut, under, goes, goes_at, stay_of, fits_at, IsPlaced, IsPlacedChild, IsReplaced, IsNewChild}
+use Rattle.cga_forest.specs.Tree.{IsRight, AllRight, RightBut, under, goes, goes_at, stay_of, IsPlaced, IsPlacedChild}
+use Rattle.cga_tree.specs.Tree.{IsTree}
+use Rattle.cga_tree.specs.Replaced.{fits_at, IsReplaced, IsNewChild}
 use Rattle.cga_forest.proofs.Count.{bool_cases}
 use Rattle.cga_forest.proofs.Books.{nat_cases}
 use Rattle.cga_forest.proofs.Under.{stay_flag}
@@ -67,8 +69,8 @@ under_deep K T tree same (suc n) id c e t h = elim (under_cases K n id c h) [
 same_seen : (T : ℕ → Option Seen) (a b : ℕ) (d e : Seen) → T a ≡ Some d → T b ≡ Some e → a ≡ b → d ≡ e
 same_seen T a b d e t u q = let z : Some d ≡ Some e = sym t ∙ ap T q ∙ u in (cc)
 
-pub stay_seen : (s : Option Entry) (d : Seen) (w : Option Node) → present_of s ≡ Some d → stay_of s w ≡ fits_at d.node w
-stay_seen s d w h = let r = present_some s d h in ap (λ o. stay_of o w) r.1 ∙ ap (λ (x : Seen). fits_at x.node w) r.2
+pub stay_seen : (s : Option Entry) (d : Seen) (w : Option Node) → present_of s ≡ Some d → stay_of s w ≡ fits_at fits d.node w
+stay_seen s d w h = let r = present_some s d h in ap (λ o. stay_of o w) r.1 ∙ ap (λ (x : Seen). fits_at fits x.node w) r.2
 
 not_true : (b : Bool) → b ≡ true → false ≡ not b
 not_true b h = ap not (sym h)
@@ -240,7 +242,7 @@ module _ (s0 s1 s2 s3 : ℕ → Option Entry) (id depth n : ℕ) (marking : Bool
   pub vacant : (c : ℕ) (d : Seen) → present_of (s0 c) ≡ None → present_of (s3 c) ≡ Some d → s0 c ≡ None
   vacant c d h t = vacant_at c (s0 c) d refl h t
 
-  pub replaced : IsReplaced (λ c. present_of (s0 c)) (λ c. present_of (s3 c)) id news e (record e { node = with_state state e.node; children = made }) gone
+  pub replaced : IsReplaced fits (λ c. present_of (s0 c)) (λ c. present_of (s3 c)) id news e (record e { node = with_state state e.node; children = made }) gone
   replaced = record {
     was = was;
     is = is_now;

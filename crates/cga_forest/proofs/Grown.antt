@@ -1,5 +1,5 @@
 -- Children placed one after the other.
-use Rattle.std.proofs.Common.{◌≡◌, ℕ, zero, suc, ◌+◌, ◌<◌, ◌≤◌, List, [], ◌∷◌, ◌++◌, length, drop, get_or, refl, sym, ap, subst, ◌∙◌, arith, Option, Some, None, slice_get, false, true, true≢false}
+use Rattle.std.proofs.Common.{◌≡◌, ℕ, zero, suc, ◌+◌, ◌<◌, ◌≤◌, List, [], ◌∷◌, ◌++◌, length, drop, get_or, refl, sym, ap, subst, ◌∙◌, arith, Option, Some, None, slice_get, false, true≢false}
 use Rattle.std.specs.Prelude.{Result, Ok, Err, IsOk}
 use Rattle.std.proofs.lemmas.List.{append_assoc, append-nil, length_push, at_drop_more, at_drop_all}
 use Rattle.cga_rule.specs.declared.grammar.Grammar.{Grammar}
@@ -13,12 +13,13 @@ use Rattle.cga_shape.specs.declared.emitted.Emitted.{Emitted}
 use Rattle.cga_shape.specs.declared.emitted.Emitted.TheVariants.{Child, Solid}
 use Rattle.cga_forest.specs.declared.node.Node.{Node}
 use Rattle.cga_forest.specs.declared.node.State.{State}
-use Rattle.cga_forest.specs.Node.{IsBelow, IsTop, with_state}
+use Rattle.cga_forest.specs.Node.{IsBelow, with_state}
 use Rattle.cga_forest.specs.declared.entry.Entry.{Entry}
 use Rattle.cga_forest.specs.View.{Seen, present_of}
 use Rattle.cga_forest.proofs.Right.{present_some}
-use Rattle.cga_forest.specs.Tree.{IsInner, IsTree, InPlace}
-use Rattle.cga_forest.specs.Placing.{IsRootNode, MayGrow, Outcome, child_node, children_after, children_from, emitted, kind_after, state_after}
+use Rattle.cga_forest.specs.Tree.{IsInner, InPlace}
+use Rattle.cga_tree.specs.Tree.{IsTree}
+use Rattle.cga_forest.specs.Placing.{MayGrow, Outcome, child_node, children_after, children_from, emitted, kind_after, state_after}
 
 module _ (g : Grammar) (n : Node) where
   -- a step of the loop that makes them

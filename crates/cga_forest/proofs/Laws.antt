@@ -1,5 +1,5 @@
 -- A forest keeps the laws of a tree of boxes.
-use Rattle.std.proofs.Common.{◌≡◌, ◌⊎◌, inl, inr, ℕ, suc, ◌+◌, List, [], ◌∷◌, length, true, false, refl, ap, sym, ◌∙◌, arith, subst}
+use Rattle.std.proofs.Common.{◌≡◌, ◌⊎◌, inl, inr, ℕ, ◌+◌, List, length, true, false, refl, ap, sym, ◌∙◌, arith, subst}
 use Rattle.std.specs.Prelude.{Option, Some, None, is_some, not, slice_get}
 use Rattle.cga_frame.specs.Box.{Box, holds, is_box}
 use Rattle.cga_frame.specs.Scope.{far_of}
@@ -21,13 +21,7 @@ use Rattle.cga_forest.proofs.Names.{at_contains, contains_at, id_named, named_id
 use Rattle.cga_forest.proofs.Tops.{member_at, at_member}
 use Rattle.cga_forest.proofs.Alike.{Every, Asking, Nobody, Probe, probed, opt_holds, alike_probed, over_own, over_child, within}
 use Rattle.cga_forest.proofs.Least.{own_asks, own_none, none_is}
-
-apart_by_place : (xs : List ℕ) → ((i j c : ℕ) → slice_get xs i ≡ Some c → slice_get xs j ≡ Some c → i ≡ j) → Apart xs
-apart_by_place [] h = tt
-apart_by_place (x ∷ xs) h = (
-  (λ m. let w = at_member xs x m in let z : 0 ≡ suc w.0 = h 0 (suc w.0) x refl w.1 in absurd (omega arith)),
-  apart_by_place xs (λ i j c p q. let z : suc i ≡ suc j = h (suc i) (suc j) c p q in omega arith),
-)
+use Rattle.cga_forest.proofs.Moves.{apart_by_place}
 
 opt_two : {X : Type 0} (o : Option X) → (o ≡ None) ⊎ ((x : X) × (o ≡ Some x))
 opt_two None = inl refl

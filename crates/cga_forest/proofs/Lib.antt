@@ -15,12 +15,14 @@ pub mod Goes
 pub mod Assemble
 pub mod Through
 pub mod Least
-pub mod Gather
 pub mod Tops
+pub mod Listed
+pub mod Moves
+pub mod WentCame
 pub mod Above
 pub mod Laws
+pub mod Names
+pub mod ByName
 mod Swaps
-mod Names
 mod Shelf
-mod ByName
 mod Grown

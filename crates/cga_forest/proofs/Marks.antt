@@ -1,6 +1,6 @@
 -- A slot's present and marked node, under each change.
-use Rattle.std.proofs.Common.{◌≡◌, ◌≢◌, ℕ, List, [], ◌∷◌, ◌++◌, length, nat_eq, Bool, true, false, refl, ap, sym, subst, ◌∙◌, rules, inl, inr, arith}
-use Rattle.std.specs.Prelude.{Option, Some, None, not, if◌then◌else◌}
+use Rattle.std.proofs.Common.{◌≡◌, ◌≢◌, ℕ, List, [], ◌∷◌, ◌++◌, length, Bool, true, false, refl, ap, sym, subst, ◌∙◌, rules, inl, inr, arith}
+use Rattle.std.specs.Prelude.{Option, Some, None, if◌then◌else◌}
 use Rattle.cga_forest.specs.declared.entry.Entry.{Entry}
 use Rattle.cga_forest.specs.declared.hulls.Hulls.{Hulls}
 use Rattle.cga_forest.specs.declared.node.Node.{Node}
@@ -8,7 +8,8 @@ use Rattle.cga_forest.specs.Hull.{over, own_hulls}
 use Rattle.cga_forest.specs.View.{Seen, IsPlain, IsNewEntry, kids, flag_if, present_of, marked_of, hulls_of, marked_hulls_of, settled, rolled, restored, former_hulls, seen}
 use Rattle.cga_forest.specs.Node.{IsTop}
 use Rattle.cga_forest.proofs.Places.{InPlace-same, InPlace-part, InPlace-root}
-use Rattle.cga_forest.specs.Tree.{ForestView, IsForest, IsTree, InPlace, IsWhole, IsRight, AllRight, slot_at, node_at, marked_at, hulls_at, marked_hulls_at, children_at, under}
+use Rattle.cga_forest.specs.Tree.{ForestView, IsForest, InPlace, IsWhole, IsRight, AllRight, slot_at, node_at, marked_at, hulls_at, marked_hulls_at, children_at, under}
+use Rattle.cga_tree.specs.Tree.{IsTree}
 use Rattle.cga_forest.proofs.Count.{bool_cases}
 use Rattle.cga_forest.proofs.Books.{nat_cases}
 use Rattle.cga_forest.proofs.Tree.{IsTree-same, IsTree-cut, IsTree-root, cut_some}

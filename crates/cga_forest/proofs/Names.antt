@@ -1,5 +1,5 @@
 -- Names, and what stands under them.
-use Rattle.std.proofs.Common.{◌≡◌, ◌⊎◌, ℕ, zero, suc, ◌+◌, ◌-◌, ◌<◌, ◌≤◌, List, [], ◌∷◌, ◌++◌, length, take, Bool, true, false, cond, not, refl, sym, ap, subst, ◌∙◌, arith, inl, inr, true≢false, Option, Some, None, slice_get}
+use Rattle.std.proofs.Common.{◌≡◌, ◌⊎◌, ℕ, zero, suc, ◌+◌, ◌-◌, ◌<◌, ◌≤◌, List, [], ◌∷◌, length, take, Bool, true, false, cond, refl, sym, ap, subst, ◌∙◌, arith, inl, inr, true≢false, Option, Some, None, slice_get}
 use Rattle.std.specs.List.{position_or_len, IsDistinct, AllByRecursion, Contains}
 use Rattle.std.specs.Map.{lookup, lookup_key}
 use Rattle.std.specs.List.Sorted.{IsPermutation}
@@ -9,9 +9,9 @@ use Rattle.std.proofs.lemmas.Map.Keys.{IsDistinct-head, IsDistinct-IsPermutation
 use Rattle.std.proofs.lemmas.Map.Made.{Contains-tail, lookup_key_passes}
 use Rattle.std.proofs.lemmas.Option.{slice_get_within, slice_get-get_or, get_or_from_slice_get}
 use Rattle.cga_index.specs.Tree.{Member, Apart}
-use Rattle.indexmap.specs.IndexMap.{insert_entry, set_value_at}
+use Rattle.indexmap.specs.IndexMap.{insert_entry}
 use lib.Pointwise.{bytes_decides}
-use Rattle.cga_forest.specs.Roots.{Named, same_name, names, ids, AreApart, root_under, put_back}
+use Rattle.cga_forest.specs.Roots.{Named, same_name, names, ids, AreApart, put_back}
 
 pub name_sound : (a b : List ℕ) → same_name a b ≡ true → a ≡ b
 name_sound a b h = (bytes_decides a b).0 h

@@ -4,9 +4,11 @@ use Rattle.std.specs.Prelude.{Option, Some, None}
 use Rattle.cga_order.specs.Chain as order
 use Rattle.cga_forest.specs.declared.node.Node.{Node}
 use Rattle.cga_forest.specs.declared.node.State.{State}
-use Rattle.cga_forest.specs.Node.{with_state, chain_kept, IsTop, IsBelow}
+use Rattle.cga_forest.specs.Node.{fits, with_state, chain_kept, IsTop, IsBelow}
 use Rattle.cga_forest.specs.View.{Seen}
-use Rattle.cga_forest.specs.Tree.{IsTree, InPlace, IsInner, IsReplaced}
+use Rattle.cga_forest.specs.Tree.{InPlace, IsInner}
+use Rattle.cga_tree.specs.Tree.{IsTree}
+use Rattle.cga_tree.specs.Replaced.{IsReplaced}
 use Rattle.cga_forest.proofs.Books.{nat_cases}
 use Rattle.cga_forest.proofs.Replace.{old_or_new}
 use Rattle.cga_forest.proofs.Tree.{cut_some}
@@ -63,7 +65,7 @@ InPlace-root S T id e fresh here root top others tree s =
 
 -- one node's children are replaced, and its state
 module _ (S T : ℕ → Option Seen) (id : ℕ) (state : State) (news : List Node) (made : List ℕ) (e : Seen) (gone : ℕ → Bool)
-    (r : IsReplaced S T id news e (record e { node = with_state state e.node; children = made }) gone) (tree : IsTree S) (after : IsTree T) (s : InPlace S) (inner : IsInner e state news) where
+    (r : IsReplaced fits S T id news e (record e { node = with_state state e.node; children = made }) gone) (tree : IsTree S) (after : IsTree T) (s : InPlace S) (inner : IsInner e state news) where
   abbrev now : Seen
   now = record e { node = with_state state e.node; children = made }
 

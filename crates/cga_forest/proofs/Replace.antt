@@ -3,7 +3,9 @@ use Rattle.std.proofs.Common.{◌≡◌, ◌≢◌, ℕ, ◌+◌, ◌<◌, List,
 use Rattle.std.specs.Prelude.{Option, Some, None, slice_get, if◌then◌else◌}
 use Rattle.cga_forest.specs.declared.node.Node.{Node}
 use Rattle.cga_forest.specs.View.{Seen}
-use Rattle.cga_forest.specs.Tree.{IsTree, IsReplaced, IsNewChild}
+use Rattle.cga_forest.specs.Node.{fits}
+use Rattle.cga_tree.specs.Tree.{IsTree}
+use Rattle.cga_tree.specs.Replaced.{IsReplaced, IsNewChild}
 use Rattle.cga_forest.proofs.Count.{bool_cases}
 use Rattle.cga_forest.proofs.Books.{nat_cases}
 use Rattle.cga_forest.proofs.Tree.{cut_some}
@@ -15,7 +17,7 @@ some_within : (news : List Node) (i : ℕ) (w : Node) → slice_get news i ≡ S
 some_within [] i w h = absurd (cc)
 some_within (x ∷ xs) i w h = omega arith
 
-module _ (S T : ℕ → Option Seen) (id : ℕ) (news : List Node) (e now : Seen) (gone : ℕ → Bool) (r : IsReplaced S T id news e now gone) (tree : IsTree S) where
+module _ (S T : ℕ → Option Seen) (id : ℕ) (news : List Node) (e now : Seen) (gone : ℕ → Bool) (r : IsReplaced fits S T id news e now gone) (tree : IsTree S) where
   -- an old node that isn't the changed one and stays
   kept : (c : ℕ) (d : Seen) → c ≢ id → S c ≡ Some d → gone c ≡ false → T c ≡ Some d
   kept c d n t g = r.rest c d n t ∙ ap (λ b. if b then None else Some d) g

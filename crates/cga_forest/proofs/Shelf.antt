@@ -1,17 +1,17 @@
 -- Roots that come and go, and the steps back.
-use Rattle.std.proofs.Common.{◌≡◌, ℕ, zero, suc, ◌+◌, ◌-◌, ◌<◌, ◌≤◌, List, [], ◌∷◌, ◌++◌, length, get_or, take, swap, refl, sym, ap, subst, ◌∙◌, arith, Option, Some, None, slice_get}
+use Rattle.std.proofs.Common.{◌≡◌, ℕ, zero, suc, ◌+◌, ◌-◌, ◌<◌, ◌≤◌, List, [], ◌∷◌, ◌++◌, length, take, swap, refl, sym, ap, subst, ◌∙◌, arith, Option, Some, None, slice_get}
 use Rattle.std.specs.List.{position_or_len}
 use Rattle.std.specs.List.Sorted.{IsPermutation}
 use Rattle.std.specs.Prelude.{Result, Ok, IfOk, OnOk}
 use Rattle.std.specs.Map.{lookup}
 use Rattle.std.proofs.lemmas.List.{take-take, length-take-le}
 use Rattle.std.proofs.lemmas.List.Edits.{length-swap}
-use Rattle.std.proofs.lemmas.Option.{get_or_from_slice_get, slice_get_within}
+use Rattle.std.proofs.lemmas.Option.{get_or_from_slice_get}
 use Rattle.indexmap.specs.IndexMap.{insert_entry}
 use Rattle.indexmap.specs.Layout.{length-set_value_at}
 use Rattle.cga_forest.specs.declared.step.Step.{Step}
 use Rattle.cga_forest.specs.declared.step.Step.TheVariants.{Came, Went}
-use Rattle.cga_forest.specs.Roots.{Named, Shelf, IsRoots, IsUndoable, AreUndoable, listed, names, ids, put_back, same_name, undo, undone}
+use Rattle.cga_forest.specs.Roots.{Named, Shelf, IsUndoable, AreUndoable, listed, names, ids, put_back, same_name, undo, undone}
 use Rattle.cga_forest.proofs.Swaps.{swap_twice, take_brought, brought_out}
 use Rattle.cga_forest.proofs.Names.{IsPut, is_put, place_after, at_front}
 

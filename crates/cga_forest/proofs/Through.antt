@@ -4,10 +4,12 @@ use Rattle.std.specs.Prelude.{Option}
 use Rattle.cga_forest.specs.declared.node.Node.{Node}
 use Rattle.cga_forest.specs.declared.node.State.{State}
 use Rattle.cga_forest.specs.View.{Seen}
-use Rattle.cga_forest.specs.Tree.{IsTree, Replaces, ReplacedBy, ListsChanged}
+use Rattle.cga_forest.specs.Tree.{Replaces, ReplacedBy}
+use Rattle.cga_tree.specs.Tree.{IsTree}
 use Rattle.cga_forest.specs.Roots.{HasRoots, Named}
 use Rattle.cga_forest.proofs.Tops.{HasRoots-replaced}
-use Rattle.cga_frame.specs.Box.{Box}
+use Rattle.cga_forest.specs.declared.moved.Moved.{Moved}
+use Rattle.cga_forest.specs.Moved.{ListsMoved}
 
 pub same_functions : (f g : ℕ → Option Seen) → ((c : ℕ) → f c ≡ g c) → f ≡ g
 same_functions f g h = λ i. λ c. h c i
@@ -25,8 +27,8 @@ ReplacedBy-same a b s t id state news gone p q r =
 pub Replaces-from : (old new : ℕ → Option Seen) (id : ℕ) (state : State) (news : List Node) (gone : ℕ → Bool) → ReplacedBy old new id state news gone → Replaces old new id state news
 Replaces-from old new id state news gone r = (r.0, r.1, gone, r.2)
 
-pub ListsChanged-same : (a b s t : ℕ → Option Seen) (list : List Box) → ((c : ℕ) → s c ≡ a c) → ((c : ℕ) → t c ≡ b c) → ListsChanged a b list → ListsChanged s t list
-ListsChanged-same a b s t list p q r =
+pub ListsMoved-same : (a b s t : ℕ → Option Seen) (list : List Moved) → ((c : ℕ) → s c ≡ a c) → ((c : ℕ) → t c ≡ b c) → ListsMoved a b list → ListsMoved s t list
+ListsMoved-same a b s t list p q r =
     let x : s ≡ a = same_functions s a p in
     let y : t ≡ b = same_functions t b q in rw (x, y) r
 

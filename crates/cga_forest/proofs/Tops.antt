@@ -1,5 +1,5 @@
 -- The list of roots, under each change.
-use Rattle.std.proofs.Common.{◌≡◌, ◌≢◌, ◌⊎◌, inl, inr, ℕ, zero, suc, List, [], ◌∷◌, ◌++◌, Bool, true, false, refl, ap, sym, subst, arith, ◌∙◌}
+use Rattle.std.proofs.Common.{◌≡◌, ◌≢◌, inl, inr, ℕ, zero, suc, List, [], ◌∷◌, ◌++◌, Bool, true, false, refl, ap, sym, subst, arith, ◌∙◌}
 use Rattle.std.specs.List.{Contains}
 use Rattle.std.specs.List.Sorted.{IsPermutation}
 use Rattle.std.proofs.lemmas.List.Sorted.{Contains-permutation, IsPermutation-sym}
@@ -10,7 +10,10 @@ use Rattle.cga_forest.specs.declared.node.Node.{Node}
 use Rattle.cga_forest.specs.View.{Seen}
 use Rattle.cga_forest.specs.Roots.{HasRoots, Named, AreApart}
 use Rattle.cga_forest.proofs.Names.{apart_out, out_still, out_left, none_among}
-use Rattle.cga_forest.specs.Tree.{IsTree, IsReplaced, under}
+use Rattle.cga_forest.specs.Tree.{under}
+use Rattle.cga_forest.specs.Node.{fits}
+use Rattle.cga_tree.specs.Tree.{IsTree}
+use Rattle.cga_tree.specs.Replaced.{IsReplaced}
 use Rattle.cga_forest.proofs.Count.{bool_cases}
 use Rattle.cga_forest.proofs.Books.{nat_cases}
 use Rattle.cga_forest.proofs.Tree.{cut_some}
@@ -81,7 +84,7 @@ module _ (S T : ℕ → Option Seen) (roots : Named) (r : HasRoots S roots) wher
     }
 
   -- a node's children are replaced
-  pub HasRoots-replaced : (id : ℕ) (news : List Node) (e now : Seen) (gone : ℕ → Bool) → IsReplaced S T id news e now gone → now.node.shape.lot ≡ e.node.shape.lot → IsTree S → HasRoots T roots
+  pub HasRoots-replaced : (id : ℕ) (news : List Node) (e now : Seen) (gone : ℕ → Bool) → IsReplaced fits S T id news e now gone → now.node.shape.lot ≡ e.node.shape.lot → IsTree S → HasRoots T roots
   HasRoots-replaced id news e now gone p lot tree = record {
     apart = r.apart;
     each = λ name c m. let w = r.each name c m in elim (nat_cases c id) [

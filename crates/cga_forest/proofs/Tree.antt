@@ -2,7 +2,7 @@
 use Rattle.std.proofs.Common.{◌≡◌, ◌≢◌, ℕ, [], Bool, true, false, ◌⊎◌, inl, inr, refl, ap, sym, ◌∙◌, arith}
 use Rattle.std.specs.Prelude.{Option, Some, None, slice_get, if◌then◌else◌}
 use Rattle.cga_forest.specs.View.{Seen}
-use Rattle.cga_forest.specs.Tree.{IsTree}
+use Rattle.cga_tree.specs.Tree.{IsTree}
 use Rattle.cga_forest.proofs.Count.{bool_cases}
 use Rattle.cga_forest.proofs.Books.{nat_cases}
 

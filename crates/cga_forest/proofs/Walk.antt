@@ -4,7 +4,8 @@ use Rattle.std.proofs.lemmas.Bool.{eqb-true}
 use Rattle.std.specs.Prelude.{Option, Some, None, slice_get}
 use Rattle.std.specs.List.{list_any}
 use Rattle.cga_forest.specs.View.{Seen}
-use Rattle.cga_forest.specs.Tree.{IsTree, under, children_of}
+use Rattle.cga_forest.specs.Tree.{under, children_of}
+use Rattle.cga_tree.specs.Tree.{IsTree}
 use Rattle.cga_forest.proofs.Count.{bool_cases}
 
 pub any_find : (p : ℕ → Bool) (xs : List ℕ) → list_any p xs ≡ true → (i : ℕ) × (k : ℕ) × (slice_get xs i ≡ Some k) × (p k ≡ true)
@@ -75,6 +76,22 @@ module _ (K : ℕ → List ℕ) (T : ℕ → Option Seen) (tree : IsTree T) (kid
         let r = tree.down id w.0 w.1 e te (ap (λ xs. slice_get xs w.0) (sym (kids id e te)) ∙ w.2) in
         let dd = r.3 in
         under_child K n id w.0 w.1 c w.2 (under_onto n w.1 c p r.0 d r.1 td pd (omega arith) w.3))
+  ]
+
+  -- a node but a root is at or below a root exactly where its parent is
+  pub under_along : (id c p : ℕ) (e d : Seen) → T id ≡ Some e → e.parent ≡ None → T c ≡ Some d → d.parent ≡ Some p → under K 257 id c ≡ under K 257 id p
+  under_along id c p e d te top td pd = elim (bool_cases (under K 257 id c)) [
+    | inl y ↦ elim (under_into 257 id c p e d te td pd y) [
+      | inl q ↦ (
+          let z : Some e ≡ Some d = sym te ∙ ap T q ∙ td in
+          let v : e ≡ d = (cc) in
+          let u : None ≡ Some p = sym top ∙ ap (λ (x : Seen). x.parent) v ∙ pd in absurd (cc))
+      | inr u ↦ y ∙ sym u
+    ]
+    | inr n ↦ elim (bool_cases (under K 257 id p)) [
+      | inl y ↦ (let s = tree.shallow c d td in let z : true ≡ false = sym (under_onto 257 id c p e d te td pd (omega arith) y) ∙ n in absurd (cc))
+      | inr f ↦ n ∙ sym f
+    ]
   ]
 
 any_same : (p q : ℕ → Bool) (xs : List ℕ) → ((i k : ℕ) → slice_get xs i ≡ Some k → p k ≡ q k) → list_any p xs ≡ list_any q xs

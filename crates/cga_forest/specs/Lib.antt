@@ -7,3 +7,5 @@ pub mod Tree
 pub mod Standing
 pub mod Placing
 pub mod Walked
+pub mod Moved
+pub mod Gathered

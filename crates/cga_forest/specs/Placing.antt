@@ -1,5 +1,5 @@
 -- What a node is when a grammar places it: the root of a lot, and the children of an expansion.
-use Rattle.std.specs.Prelude.{◌≡◌, ◌≤◌, ◌<◌, ◌+◌, ℕ, List, [], ◌∷◌, ◌++◌, length, Bool, true, false, ◌||◌, Option, None, Some, Result, Ok, Err}
+use Rattle.std.specs.Prelude.{◌≡◌, ◌≤◌, ◌<◌, ◌+◌, ℕ, List, [], ◌∷◌, ◌++◌, length, Bool, false, ◌||◌, Option, None, Some, Result, Ok, Err}
 use Rattle.cga_rule.specs.declared.grammar.Grammar.{Grammar}
 use Rattle.cga_rule.specs.declared.grammar.Group.{Group}
 use Rattle.cga_check.specs.Groups.{group, mentions_target}

@@ -1,5 +1,5 @@
 -- The nodes of a forest as a tree, and what each change makes of it.
-use Rattle.std.specs.Prelude.{◌≡◌, ◌≢◌, ◌⊎◌, ◌↔◌, ℕ, zero, suc, ◌+◌, ◌<◌, ◌≤◌, List, [], ◌∷◌, length, Option, Some, None, Bool, true, false, not, ◌||◌, nat_eq, slice_get, if◌then◌else◌}
+use Rattle.std.specs.Prelude.{◌≡◌, ◌≢◌, ◌⊎◌, ◌↔◌, ℕ, zero, suc, ◌<◌, List, [], length, Option, Some, None, Bool, true, false, ◌||◌, nat_eq, slice_get, if◌then◌else◌}
 use Rattle.std.specs.List.{list_any}
 use Rattle.cga_frame.specs.Box.{Box, holds}
 use Rattle.cga_forest.specs.declared.entry.Entry.{Entry}
@@ -12,19 +12,14 @@ use Rattle.cga_word.specs.declared.mode.Mode.{Mode}
 use Rattle.cga_order.specs.Chain as order
 use Rattle.cga_order.specs.World.{is_instance}
 use Rattle.cga_forest.specs.Roots.{HasRoots, Named}
+use Rattle.cga_tree.specs.Tree.{IsTree}
+use Rattle.cga_tree.specs.Replaced.{fits_at, IsReplaced}
 use Rattle.cga_forest.specs.View.{Seen, IsPlain, IsNewEntry, slot, present_of, marked_of, hulls_of, marked_hulls_of}
 
 -- c is the node or, at most n levels in all, below it
 unfoldable pub under : (ℕ → List ℕ) → ℕ → ℕ → ℕ → Bool
 under children zero id c = false
 under children (suc n) id c = nat_eq id c || list_any (λ k. under children n k c) (children id)
-
--- parents and children name each other
-pub record IsTree (T : ℕ → Option Seen) : Type 0 where
-  pub down : (id i c : ℕ) (e : Seen) → T id ≡ Some e → slice_get e.children i ≡ Some c → (d : Seen) × (T c ≡ Some d) × (d.parent ≡ Some id) × (d.depth ≡ e.depth + 1) × (d.index ≡ i)
-  pub up : (c p : ℕ) (d : Seen) → T c ≡ Some d → d.parent ≡ Some p → (e : Seen) × (T p ≡ Some e) × (slice_get e.children d.index ≡ Some c)
-  pub shallow : (id : ℕ) (e : Seen) → T id ≡ Some e → e.depth ≤ 256
-  pub at_root : (id : ℕ) (e : Seen) → T id ≡ Some e → e.parent ≡ None → e.depth ≡ 0
 
 -- the node's hulls are alike with those of its own box and of its children's hulls
 abbrev pub IsRight : (ℕ → Option Hulls) → ℕ → Seen → Type 0
@@ -105,14 +100,9 @@ NoneAsks v id = (c : ℕ) (d : Seen) → under (children_at v) 257 id c ≡ true
 abbrev pub IsLeastAsking : ForestView → ℕ → Box → Type 0
 IsLeastAsking v id h = (b : Box) → (holds b h ≡ true) ↔ ((c : ℕ) (d : Seen) → under (children_at v) 257 id c ≡ true → node_at v c ≡ Some d → d.node.asks ≡ true → holds b (bounds d.node) ≡ true)
 
--- an old child stays where the new list has its content at its place
-abbrev pub fits_at : Node → Option Node → Bool
-fits_at old None = false
-fits_at old (Some new) = fits old new
-
 abbrev pub stay_of : Option Entry → Option Node → Bool
 stay_of None new = false
-stay_of (Some e) new = fits_at e.node new
+stay_of (Some e) new = fits_at fits e.node new
 
 abbrev pub stay_child : (ℕ → Option Entry) → Option ℕ → Node → Option ℕ
 stay_child s None new = None
@@ -144,42 +134,6 @@ abbrev pub depth_at : Option Entry → ℕ
 depth_at None = 0
 depth_at (Some e) = e.depth
 
--- a child that came
-pub record IsNewChild (T : ℕ → Option Seen) (id depth i : ℕ) (w : Node) (c : ℕ) : Type 0 where
-  pub seen : Seen
-  pub here : T c ≡ Some seen
-  pub node : seen.node ≡ w
-  pub parent : seen.parent ≡ Some id
-  pub index : seen.index ≡ i
-  pub deeper : seen.depth ≡ depth + 1
-  pub leaf : seen.children ≡ []
-
--- the child at a place of the new list is the old one there, or it came
-abbrev pub IsChildNow : (ℕ → Option Seen) → (ℕ → Option Seen) → ℕ → Seen → (ℕ → Bool) → Node → ℕ → ℕ → Type 0
-IsChildNow S T id e gone w i c = ((slice_get e.children i ≡ Some c) × (gone c ≡ false)) ⊎ ((S c ≡ None) × IsNewChild T id e.depth i w c)
-
--- what S became: the node e under id has these children now, the gone ones went, and the others are as they were
-pub record IsReplaced (S T : ℕ → Option Seen) (id : ℕ) (news : List Node) (e now : Seen) (gone : ℕ → Bool) : Type 0 where
-  pub was : S id ≡ Some e
-  pub is : T id ≡ Some now
-  pub depth : now.depth ≡ e.depth
-  pub parent : now.parent ≡ e.parent
-  pub index : now.index ≡ e.index
-  pub low : 0 < length news → e.depth < 256
-  -- as many children as were asked for, each the old one at its place or one of the content asked for
-  pub sized : length now.children ≡ length news
-  pub each : (i c : ℕ) → slice_get now.children i ≡ Some c → (w : Node) × (slice_get news i ≡ Some w) × IsChildNow S T id e gone w i c
-  -- an old child goes exactly where it hasn't the content asked for at its place
-  pub fate : (i c : ℕ) (d : Seen) → slice_get e.children i ≡ Some c → S c ≡ Some d → gone c ≡ not (fits_at d.node (slice_get news i))
-  pub stays : (i c : ℕ) → slice_get e.children i ≡ Some c → gone c ≡ false → slice_get now.children i ≡ Some c
-  -- no root goes; with a node goes all below it, and nothing else
-  pub tops : (c : ℕ) (d : Seen) → S c ≡ Some d → d.parent ≡ None → gone c ≡ false
-  pub into : (c p : ℕ) (d : Seen) → S c ≡ Some d → d.parent ≡ Some p → gone c ≡ true → p ≢ id → gone p ≡ true
-  pub onto : (c p : ℕ) (d : Seen) → S c ≡ Some d → d.parent ≡ Some p → gone p ≡ true → gone c ≡ true
-  pub self : gone id ≡ false
-  pub came : (c : ℕ) → S c ≡ None → (T c ≡ None) ⊎ ((i : ℕ) × (slice_get now.children i ≡ Some c))
-  pub rest : (c : ℕ) (d : Seen) → c ≢ id → S c ≡ Some d → T c ≡ (if gone c then None else Some d)
-
 -- the node isn't an instance, nor in that state, and these are children of it
 pub record IsInner (e : Seen) (state : State) (news : List Node) : Type 0 where
   pub low : 0 < length news → e.depth < 256
@@ -193,11 +147,11 @@ HasInner slot state news = (e : Seen) × (slot ≡ Some e) × IsInner e state ne
 
 -- a node's content and children are replaced, and the nodes go that the test names
 abbrev pub ReplacedBy : (ℕ → Option Seen) → (ℕ → Option Seen) → ℕ → State → List Node → (ℕ → Bool) → Type 0
-ReplacedBy old new id state news gone = (e : Seen) × (children : List ℕ) × IsReplaced old new id news e (record e { node = with_state state e.node; children = children }) gone
+ReplacedBy old new id state news gone = (e : Seen) × (children : List ℕ) × IsReplaced fits old new id news e (record e { node = with_state state e.node; children = children }) gone
 
 -- a node's content and children are replaced, and the subtrees of the children that go
 abbrev pub Replaces : (ℕ → Option Seen) → (ℕ → Option Seen) → ℕ → State → List Node → Type 0
-Replaces old new id state news = (e : Seen) × (children : List ℕ) × (gone : ℕ → Bool) × IsReplaced old new id news e (record e { node = with_state state e.node; children = children }) gone
+Replaces old new id state news = (e : Seen) × (children : List ℕ) × (gone : ℕ → Bool) × IsReplaced fits old new id news e (record e { node = with_state state e.node; children = children }) gone
 
 -- the hulls of a slot from its content and its children's hulls
 abbrev pub hulls_now : (ℕ → Option Hulls) → Option Entry → Option Hulls
@@ -213,28 +167,6 @@ hulls_next H (Some e) (Some k) = Some (with_hulls e.hulls (Some k))
 abbrev pub parent_of : Option Entry → Option ℕ
 parent_of None = None
 parent_of (Some e) = e.parent
-
--- ---- the boxes of what a change touches
-
-abbrev pub Member : List Box → Box → Type 0
-Member [] b = ⊥
-Member (x ∷ xs) b = (x ≡ b) ⊎ Member xs b
-
--- the new list has the boxes of the old one, and those that Q tells
-abbrev pub Gathers : List Box → List Box → (Box → Type 0) → Type 0
-Gathers old new Q = (b : Box) → Member new b ↔ (Member old b ⊎ Q b)
-
--- a box of one of these entries
-abbrev pub IsBoxIn : (ℕ → Option Entry) → (ℕ → Bool) → Box → Type 0
-IsBoxIn s G b = (c : ℕ) × (e : Entry) × (s c ≡ Some e) × (G c ≡ true) × (bounds e.node ≡ b)
-
--- the box of one of the first n new children that doesn't stand there
-abbrev pub IsComing : (ℕ → Option Entry) → List ℕ → List Node → ℕ → Box → Type 0
-IsComing s olds news n b = (i : ℕ) × (w : Node) × (i < n) × (slice_get news i ≡ Some w) × (stay_child s (slice_get olds i) w ≡ None) × (bounds w ≡ b)
-
--- the list has the boxes of the nodes that went or came, and no other
-abbrev pub ListsChanged : (ℕ → Option Seen) → (ℕ → Option Seen) → List Box → Type 0
-ListsChanged S T list = (b : Box) → Member list b ↔ (((c : ℕ) × (d : Seen) × (S c ≡ Some d) × (T c ≡ None) × (bounds d.node ≡ b)) ⊎ ((c : ℕ) × (d : Seen) × (S c ≡ None) × (T c ≡ Some d) × (bounds d.node ≡ b)))
 
 abbrev pub content_of : Option Seen → Option Node
 content_of None = None

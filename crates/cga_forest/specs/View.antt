@@ -1,5 +1,6 @@
 use Rattle.std.specs.Prelude.{◌≡◌, ◌⊎◌, ℕ, ◌+◌, ◌<◌, ◌≤◌, List, [], length, Option, Some, None, is_some, Bool, true, false, not, slice_get, slice_index_or, if◌then◌else◌}
 use Rattle.std.specs.Bool.{⊤}
+use Rattle.cga_tree.specs.Tree as tree
 use Rattle.cga_forest.specs.declared.entry.Entry.{Entry}
 use Rattle.cga_forest.specs.declared.entry.Former.{Former}
 use Rattle.cga_forest.specs.declared.node.Node.{Node}
@@ -110,12 +111,9 @@ flag_if true (Some e) = Some (record e { aside = true; touched = true })
 
 -- ---- what a contract sees of a node
 
-pub record Seen : Type 0 where
-  pub node : Node
-  pub depth : ℕ
-  pub parent : Option ℕ
-  pub index : ℕ
-  pub children : List ℕ
+-- a node of the tree
+abbrev pub Seen : Type 0
+Seen = tree.Seen Node
 
 -- the fields that the mark can change, put back
 abbrev pub restored : Entry → Option Former → Entry

@@ -4,13 +4,18 @@
 //! a shape is told by its lot and path.
 #![tactic(auto)]
 
-mod boxes;
+mod below;
+mod change;
 mod entry;
+mod holds;
 mod hull_tree;
 mod hulls;
+mod listing;
 mod lots;
+mod moved;
 mod node;
 mod placing;
+mod plan;
 mod roots;
 mod same;
 mod setting;
@@ -27,10 +32,10 @@ ghost use Rattle.cga_order.specs.Seen.{chain_of};
 ghost use Rattle.cga_forest.specs.Node.{chain_kept};
 ghost use Rattle.cga_forest.specs.Count.{tally};
 ghost use Rattle.cga_forest.specs.View.{Seen, is_shown};
+ghost use Rattle.cga_forest.specs.Moved.{ListsMoved};
 ghost use Rattle.cga_forest.specs.Placing.{MayGrow, children_after, state_after};
-ghost use Rattle.cga_forest.specs.Tree.{ForestView, HasInner, content_of, above, slot_at, ListsChanged, IsLeastHull, IsLeastAsking, NoneAsks, Replaces, node_at, marked_at, KeepsMark};
+ghost use Rattle.cga_forest.specs.Tree.{ForestView, HasInner, content_of, above, slot_at, IsLeastHull, IsLeastAsking, NoneAsks, Replaces, node_at, marked_at, KeepsMark};
 
-use boxes::changed_boxes;
 use cga_fraction::{List, NoMemory};
 use cga_frame::WorldBox;
 use cga_index::NodeId;
@@ -38,8 +43,12 @@ use cga_order::Chain;
 use cga_rule::Grammar;
 use cga_shape::{Answers, Emitted, ShapeFault};
 use cga_word::Mode;
+pub use change::Change;
+use listing::list_children;
+pub use moved::Moved;
 pub use node::{Node, State};
 use placing::{children_after, kind_after};
+use plan::Plan;
 use roots::Roots;
 use setting::setting_of;
 use slots::{depth_of, parent_at, replace};
@@ -142,19 +151,20 @@ impl Forest {
     }
 
     /// Gives a node the outcome of its expansion and the answers that it was asked with. An old child stays with its
-    /// subtree where the new one at its index has its shape, its priority and its sort; all others go. Answers the boxes
-    /// of the nodes that went or came. Takes memory.
+    /// subtree where the new one at its index has its shape, its priority and its sort; all others go. Answers the nodes
+    /// that went and those that came, each once. Takes memory.
     pub fn replace_children(
         &mut self,
         node: NodeId,
         answers: Answers,
         outcome: &Result<List<Emitted>, ShapeFault>,
         grammar: &Grammar,
-    ) -> Result<List<WorldBox>, NoMemory>
+    ) -> Result<Change, NoMemory>
         requires here { (e : Seen) × (node_at self.old node ≡ Some e) × MayGrow e outcome.now }
         ensures replaced { OnOk result ((e : Seen) → node_at self.old node ≡ Some e → Replaces (node_at self.old) (node_at self.new) node (state_after grammar.now e.node answers outcome.now) (children_after grammar.now e.node outcome.now)) }
         ensures unmarked { OnOk result ((c : ℕ) → node_at self.old c ≡ None → IsSome (node_at self.new c) → marked_at self.old c ≡ None) }
-        ensures boxes { IfOk result (λ list. ListsChanged (node_at self.old) (node_at self.new) list) }
+        ensures went { IfOk result (λ change. ListsMoved (node_at self.old) (node_at self.new) change.went) }
+        ensures came { IfOk result (λ change. ListsMoved (node_at self.new) (node_at self.old) change.came) }
         ensures mark { KeepsMark self.old self.new }
         ensures mode { self.new.mode ≡ self.old.mode }
         ensures err { OnErr result (self.new ≡ self.old) }
@@ -168,21 +178,16 @@ impl Forest {
             answers,
             asks: setting.asks,
         };
-        let boxes = self.replace_with(id, state, news)?;
-        Ok(List::from_vec(boxes))
+        self.replace_with(id, state, news)
     }
 
     /// Gives a node another state and these children.
-    fn replace_with(
-        &mut self,
-        id: usize,
-        state: State,
-        news: Vec<Node>,
-    ) -> Result<Vec<WorldBox>, NoMemory>
+    fn replace_with(&mut self, id: usize, state: State, news: Vec<Node>) -> Result<Change, NoMemory>
         requires here { HasInner (node_at self.old id) state news.items }
         ensures replaced { OnOk result (Replaces (node_at self.old) (node_at self.new) id state news.items) }
         ensures unmarked { OnOk result ((c : ℕ) → node_at self.old c ≡ None → IsSome (node_at self.new c) → marked_at self.old c ≡ None) }
-        ensures boxes { IfOk result (λ list. ListsChanged (node_at self.old) (node_at self.new) list.items) }
+        ensures went { IfOk result (λ change. ListsMoved (node_at self.old) (node_at self.new) change.went) }
+        ensures came { IfOk result (λ change. ListsMoved (node_at self.new) (node_at self.old) change.came) }
         ensures mark { KeepsMark self.old self.new }
         ensures mode { self.new.mode ≡ self.old.mode }
         ensures err { OnErr result (self.new ≡ self.old) }
@@ -190,7 +195,11 @@ impl Forest {
         self.store.reserve(news.len())?;
         let made = Vec::with_capacity(self.alloc, news.len())?;
         let left = 256 - depth_of(&self.store, id);
-        let boxes = changed_boxes(&self.store, self.alloc, id, left, news.as_slice())?;
+        let Plan {
+            went,
+            places,
+            mut came,
+        } = Plan::of(&self.store, self.alloc, id, left, news.as_slice())?;
         replace(
             &mut self.store,
             self.alloc,
@@ -200,10 +209,14 @@ impl Forest {
             news,
             made,
         );
+        list_children(&self.store, id, places.as_slice(), &mut came);
         if !self.marking {
             self.store.settle();
         }
-        Ok(boxes)
+        Ok(Change {
+            went: List::from_vec(went),
+            came: List::from_vec(came),
+        })
     }
 
     /// Whether a mark stands.
@@ -219,6 +232,7 @@ impl Forest {
         ensures marking { self.new.marking ≡ true }
         ensures present { (c : ℕ) → node_at self.new c ≡ node_at self.old c }
         ensures marked { (c : ℕ) → marked_at self.new c ≡ node_at self.old c }
+        ensures mode { self.new.mode ≡ self.old.mode }
     {
         self.marking = true;
     }
@@ -229,6 +243,7 @@ impl Forest {
         ensures marking { self.new.marking ≡ false }
         ensures present { (c : ℕ) → node_at self.new c ≡ node_at self.old c }
         ensures dropped { (c : ℕ) → is_some (slot_at self.new c) ≡ is_some (node_at self.new c) }
+        ensures mode { self.new.mode ≡ self.old.mode }
     {
         self.store.settle();
         self.roots.settle();
@@ -240,6 +255,7 @@ impl Forest {
         requires marked { self.old.marking ≡ true }
         ensures marking { self.new.marking ≡ false }
         ensures present { (c : ℕ) → node_at self.new c ≡ marked_at self.old c }
+        ensures mode { self.new.mode ≡ self.old.mode }
     {
         self.store.roll_back();
         self.roots.roll_back();

@@ -1,7 +1,8 @@
 ghost use Rattle.std.specs.Prelude.{IfSome, IsSome, [], true, false, ◌≢◌, ◌≡◌, ◌<◌, ◌≤◌, ◌+◌, ◌-◌, ℕ, length, IfOk, OnOk, OnErr, slice_get, Some, None, option_copied};
 ghost use Rattle.cga_forest.specs.Hull.{at_hulls};
 ghost use Rattle.cga_forest.specs.View.{Seen, at, HasRoom, KeepsRoom, present_of, marked_of, hulls_of, marked_hulls_of, kids, flag_if};
-ghost use Rattle.cga_forest.specs.Tree.{IsTree, IsWhole, AllRight, RightBut, IsDue, HasInner, ReplacedBy, IsPlaced, depth_at, parent_of, under, goes, stay_of, stay_child, hulls_now, hulls_next};
+ghost use Rattle.cga_forest.specs.Tree.{IsWhole, AllRight, RightBut, IsDue, HasInner, ReplacedBy, IsPlaced, depth_at, parent_of, under, goes, stay_of, stay_child, hulls_now, hulls_next};
+ghost use Rattle.cga_tree.specs.Tree.{IsTree};
 
 use crate::hulls::Hulls;
 use crate::node::{Node, State};

@@ -5,7 +5,7 @@ ghost use Rattle.cga_forest.specs.Placing.{MayGrow};
 ghost use Rattle.cga_forest.specs.Tree.{HasNoLot, node_at};
 ghost use Rattle.cga_forest.specs.View.{Seen};
 
-use crate::Forest;
+use crate::{Change, Forest};
 use cga_fraction::{Fraction, List, NoMemory};
 use cga_frame::Scope;
 use cga_index::NodeId;
@@ -104,14 +104,14 @@ fn outcome(
     Ok(Ok(list))
 }
 
-// Gives a node these children, where it may grow. How many boxes went or came.
+// Gives a node these children, where it may grow. Which nodes went and came.
 fn grow(
     alloc: Global,
     forest: &mut Forest,
     id: NodeId,
     asked: Asked,
     grammar: &Grammar,
-) -> Result<Option<usize>, NoMemory> {
+) -> Result<Option<Change>, NoMemory> {
     let made = match forest.node(id) {
         Some(node) => outcome(alloc, asked, node.shape.symbol, node.shape.scope)?,
         None => return Ok(None),
@@ -147,7 +147,7 @@ fn replaced(
     id: NodeId,
     outcome: &Result<List<Emitted>, ShapeFault>,
     grammar: &Grammar,
-) -> Result<Option<usize>, NoMemory> {
+) -> Result<Option<Change>, NoMemory> {
     if !may_grow(forest, id, outcome) {
         return Ok(None);
     }
@@ -155,11 +155,15 @@ fn replaced(
         noparent: None,
         active: None,
     };
-    Ok(Some(
-        forest
-            .replace_children(id, answers, outcome, grammar)?
-            .len(),
-    ))
+    Ok(Some(forest.replace_children(id, answers, outcome, grammar)?))
+}
+
+// How many nodes a node and those below it are.
+fn below(forest: &Forest, id: NodeId) -> Result<Option<usize>, NoMemory> {
+    match forest.node(id) {
+        Some(_) => Ok(Some(forest.below(id)?.len())),
+        None => Ok(None),
+    }
 }
 
 // A forest of two lots, a and b, and the root of a.
@@ -176,27 +180,29 @@ fn children_stay_where_they_fit(mut rt: HostRuntime) -> Result<(), Fail> {
     let grammar = grammar(&rt, alloc)?;
     let (mut forest, root) = town(&rt, alloc, &grammar)?;
     let cube = Some((1, Primitive::Cube));
-    // each outcome after the one above it, with the boxes that go or come and the nodes that are there then
+    // each outcome after the one above it, with how many nodes go and come, and how many the lot and the town have then
     let table = [
-        (Some(1), cube, 2, 4),
-        (Some(1), cube, 0, 4),
-        (Some(2), cube, 2, 4),
-        (Some(2), Some((1, Primitive::Quad)), 2, 4),
-        (Some(2), Some((2, Primitive::Quad)), 2, 4),
-        (Some(2), None, 1, 3),
-        (None, cube, 2, 3),
-        (None, None, 1, 2),
+        (Some(1), cube, 0, 2, 3, 4),
+        (Some(1), cube, 0, 0, 3, 4),
+        (Some(2), cube, 1, 1, 3, 4),
+        (Some(2), Some((1, Primitive::Quad)), 1, 1, 3, 4),
+        (Some(2), Some((2, Primitive::Quad)), 1, 1, 3, 4),
+        (Some(2), None, 1, 0, 2, 3),
+        (None, cube, 1, 1, 2, 3),
+        (None, None, 1, 0, 1, 2),
     ];
-    for (shape, solid, boxes, count) in table {
+    for (shape, solid, went, came, own, all) in table {
         let asked = Asked { shape, solid };
-        assert_eq!(rt;
-            grow(alloc, &mut forest, root, asked, &grammar)?,
-            Some(boxes)
-        );
-        assert_eq!(rt; forest.count(), count);
+        let change = grow(alloc, &mut forest, root, asked, &grammar)?.expect(&rt, "a change");
+        assert_eq!(rt; change.went.len(), went);
+        assert_eq!(rt; change.came.len(), came);
+        assert_eq!(rt; below(&forest, root)?, Some(own));
+        assert_eq!(rt; forest.count(), all);
     }
     let fault = Err(ShapeFault::Unmatched);
-    assert_eq!(rt; replaced(&mut forest, root, &fault, &grammar)?, Some(0));
+    let change = replaced(&mut forest, root, &fault, &grammar)?.expect(&rt, "a change");
+    assert_eq!(rt; change.went.len(), 0);
+    assert_eq!(rt; change.came.len(), 0);
     let kind = forest.node(root).expect(&rt, "a root").kind;
     assert_eq!(rt; kind, Kind::Faulted(ShapeFault::Unmatched));
     Ok(())

@@ -1,4 +1,4 @@
-use Rattle.std.proofs.Common.{refl, sym, ◌∙◌, ap, subst, List, ℕ, ◌++◌, ◌∷◌, []}
+use Rattle.std.proofs.Common.{refl, sym, ◌∙◌, subst, List, ◌++◌, ◌∷◌, []}
 use Rattle.std.specs.Prelude.{Option, if◌then◌else◌}
 use Rattle.cga_forest.specs.declared.entry.Entry.{Entry}
 use Rattle.cga_forest.specs.Roots.{AreApart}

@@ -1,10 +1,9 @@
-use Rattle.std.proofs.Common.{◌≡◌, ◌∙◌, List, ℕ, Some, sym, ap, subst}
-use Rattle.cga_frame.specs.Box.{Box}
+use Rattle.std.proofs.Common.{◌≡◌, ◌∙◌, List, Some, sym, ap, subst}
 use Rattle.cga_forest.specs.declared.node.Node.{Node}
 use Rattle.cga_forest.specs.declared.node.State.{State}
 use Rattle.cga_forest.specs.declared.setting.Setting.{Setting}
 use Rattle.cga_forest.specs.View.{at, present_of}
-use Rattle.cga_forest.specs.Tree.{ForestView, IsInner, ListsChanged, node_at}
+use Rattle.cga_forest.specs.Tree.{ForestView, IsInner, node_at}
 use Rattle.cga_forest.specs.Placing.{children_after, setting, state_after}
 use Rattle.cga_forest.proofs.Grown.{entry_node, may_grow, path_deep}
 use Rattle.cga_forest.proofs.Forest.replace_children.Goals as goal
@@ -24,6 +23,3 @@ replace_with-requires c =
     record {
       here = (e, there, subst (λ (s : State). IsInner e s c.in_ok-news.news.items) (sym state) (subst (λ (l : List Node). IsInner e (state_after g e.node c.args.answers o) l) (sym news) (may_grow g e c.args.answers o deep c.requires.here.2)));
     }
-
-pub returns-clause-boxes : goal.returns-clause-boxes
-returns-clause-boxes c = subst (λ (l : List Box). ListsChanged (node_at c.args.self.now) (node_at c.replace_with.new.self) l) (sym c.from_vec.ensures) c.in_ok-boxes.ensures.boxes

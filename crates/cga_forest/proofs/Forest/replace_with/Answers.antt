@@ -1,12 +1,15 @@
-use Rattle.std.proofs.Common.{refl, ◌≡◌, ℕ, List, sym, ◌∙◌, ap}
+use Rattle.std.proofs.Common.{refl, ◌≡◌, ◌++◌, ◌-◌, ℕ, List, length, sym, ◌∙◌, ap, subst, arith}
 use Rattle.std.specs.Prelude.{Option, is_some}
 use Rattle.cga_forest.proofs.Right.{is_there}
 use Rattle.cga_forest.specs.declared.entry.Entry.{Entry}
-use Rattle.cga_forest.specs.View.{at, slot, present_of, marked_of, hulls_of, marked_hulls_of}
-use Rattle.cga_forest.specs.Tree.{ForestView, IsWhole, node_at, hulls_at, marked_at}
+use Rattle.cga_forest.specs.Gathered.{chosen, coming, found, going}
+use Rattle.cga_forest.specs.View.{at, kids, slot, present_of, marked_of, hulls_of, marked_hulls_of}
+use Rattle.cga_forest.specs.Tree.{ForestView, IsWhole, depth_at, stay_of, node_at, hulls_at, marked_at}
 use Rattle.cga_forest.proofs.Marks.{IsWhole-same, IsForest-settled, IsForest-marked, present_settled}
-use Rattle.cga_forest.proofs.Through.{tops_replaced, ReplacedBy-same, Replaces-from, ListsChanged-same}
-use Rattle.cga_forest.proofs.Gather.{lists_changed}
+use Rattle.cga_forest.proofs.Through.{tops_replaced, ReplacedBy-same, Replaces-from, ListsMoved-same}
+use Rattle.cga_forest.specs.declared.moved.Moved.{Moved}
+use Rattle.cga_forest.specs.Moved.{ListsMoved}
+use Rattle.cga_forest.proofs.WentCame.{lists_went, lists_came}
 use Rattle.cga_forest.proofs.Tree.{IsTree-same}
 use Rattle.cga_forest.proofs.Tops.{HasRoots-same}
 use Rattle.cga_forest.proofs.Forest.replace_with.Goals as goal
@@ -39,17 +42,41 @@ returns-clause-replaced c =
     (λ k. ap (λ (v : ForestView). node_at v k) (sym c.self.view_is) ∙ ap (λ (s : List (Option Entry)). present_of (slot s k)) (sym c.in_ok-reserve.ensures.slots))
     now c.replace.ensures.replaced)
 
-pub returns-clause-boxes : goal.returns-clause-boxes
-returns-clause-boxes c =
+pub list_children-requires : goal.list_children-requires
+list_children-requires c = record {
+  room = (let a = ap length c.in_ok-went.ensures.empty in let b = ap length c.as_slice-2.ensures.value in let r = c.in_ok-went.ensures.room in omega arith);
+}
+
+pub returns-clause-went : goal.returns-clause-went
+returns-clause-went c =
     let now : (k : ℕ) → node_at c.if-not-self.self k ≡ present_of (at c.replace.new.store k) = elim c.if-not-self.branch [
       | then-not-self w ↦ λ k. rw w.self-is (ap present_of (w.settle.ensures k) ∙ present_settled (at c.replace.new.store k))
       | else-not-self w ↦ λ k. rw w.self-is refl
     ] in
+    let old : (k : ℕ) → node_at c.args.self.now k ≡ present_of (at c.reserve.new.self k) = (λ k. ap (λ (v : ForestView). node_at v k) (sym c.self.view_is) ∙ ap (λ (s : List (Option Entry)). present_of (slot s k)) (sym c.in_ok-reserve.ensures.slots)) in
     let whole : IsWhole (λ k. present_of (at c.reserve.new.self k)) (λ k. hulls_of (at c.reserve.new.self k)) = IsWhole-same (node_at (record { slots = c.self.inside.store.slots; marking = c.self.inside.marking; roots = c.self.inside.roots.list; marked_roots = c.self.inside.roots.former; mode = c.self.inside.mode })) _ (hulls_at (record { slots = c.self.inside.store.slots; marking = c.self.inside.marking; roots = c.self.inside.roots.list; marked_roots = c.self.inside.roots.former; mode = c.self.inside.mode })) _ (λ k. ap (λ (s : List (Option Entry)). present_of (slot s k)) c.in_ok-reserve.ensures.slots) (λ k e t. ap (λ (s : List (Option Entry)). hulls_of (slot s k)) c.in_ok-reserve.ensures.slots) c.self.invariant.present in
-    ListsChanged-same (λ k. present_of (at c.reserve.new.self k)) (λ k. present_of (at c.replace.new.store k)) _ _ _
-    (λ k. ap (λ (v : ForestView). node_at v k) (sym c.self.view_is) ∙ ap (λ (s : List (Option Entry)). present_of (slot s k)) (sym c.in_ok-reserve.ensures.slots))
-    now (lists_changed (λ k. at c.reserve.new.self k) (λ k. present_of (at c.replace.new.store k)) c.args.id _ c.args.news.items c.replace.ensures.replaced.0 _ whole.tree c.replace.ensures.replaced.2 _
-    (rw (← c.as_slice.ensures.value, ← c.depth_of-left.ensures) c.in_ok-boxes.ensures))
+    let gathered : c.in_ok-went.field-0.went.items ≡ found (λ k. at c.reserve.new.self k) (going (λ d. kids (at c.reserve.new.self d)) (256 - depth_at (at c.reserve.new.self c.args.id)) (λ k w. stay_of (at c.reserve.new.self k) w) (kids (at c.reserve.new.self c.args.id)) c.args.news.items (length (kids (at c.reserve.new.self c.args.id)))) =
+    rw (← c.as_slice.ensures.value, ← c.depth_of-left.ensures) c.in_ok-went.ensures.went in
+    ListsMoved-same (λ k. present_of (at c.reserve.new.self k)) (λ k. present_of (at c.replace.new.store k)) _ _ _ old now
+    (subst (λ (l : List Moved). ListsMoved (λ k. present_of (at c.reserve.new.self k)) (λ k. present_of (at c.replace.new.store k)) l) (sym (c.from_vec.ensures ∙ gathered))
+    (lists_went (λ k. at c.reserve.new.self k) (λ k. present_of (at c.replace.new.store k)) c.args.id _ c.args.news.items c.replace.ensures.replaced.0 _ whole.tree c.replace.ensures.replaced.2))
+
+pub returns-clause-came : goal.returns-clause-came
+returns-clause-came c =
+    let now : (k : ℕ) → node_at c.if-not-self.self k ≡ present_of (at c.replace.new.store k) = elim c.if-not-self.branch [
+      | then-not-self w ↦ λ k. rw w.self-is (ap present_of (w.settle.ensures k) ∙ present_settled (at c.replace.new.store k))
+      | else-not-self w ↦ λ k. rw w.self-is refl
+    ] in
+    let old : (k : ℕ) → node_at c.args.self.now k ≡ present_of (at c.reserve.new.self k) = (λ k. ap (λ (v : ForestView). node_at v k) (sym c.self.view_is) ∙ ap (λ (s : List (Option Entry)). present_of (slot s k)) (sym c.in_ok-reserve.ensures.slots)) in
+    let whole : IsWhole (λ k. present_of (at c.reserve.new.self k)) (λ k. hulls_of (at c.reserve.new.self k)) = IsWhole-same (node_at (record { slots = c.self.inside.store.slots; marking = c.self.inside.marking; roots = c.self.inside.roots.list; marked_roots = c.self.inside.roots.former; mode = c.self.inside.mode })) _ (hulls_at (record { slots = c.self.inside.store.slots; marking = c.self.inside.marking; roots = c.self.inside.roots.list; marked_roots = c.self.inside.roots.former; mode = c.self.inside.mode })) _ (λ k. ap (λ (s : List (Option Entry)). present_of (slot s k)) c.in_ok-reserve.ensures.slots) (λ k e t. ap (λ (s : List (Option Entry)). hulls_of (slot s k)) c.in_ok-reserve.ensures.slots) c.self.invariant.present in
+    let t = λ (k : ℕ). at c.replace.new.store k in
+    let places : c.in_ok-went.field-0.places.items ≡ coming (λ k. at c.reserve.new.self k) (kids (at c.reserve.new.self c.args.id)) c.args.news.items (length c.args.news.items) =
+    rw (← c.as_slice.ensures.value) c.in_ok-went.ensures.places in
+    let gathered : c.list_children.new.list.items ≡ found t (chosen (kids (t c.args.id)) (coming (λ k. at c.reserve.new.self k) (kids (at c.reserve.new.self c.args.id)) c.args.news.items (length c.args.news.items))) =
+    c.list_children.ensures ∙ ap (λ (l : List Moved). l ++ found t (chosen (kids (t c.args.id)) c.as_slice-2.result.now)) c.in_ok-went.ensures.empty ∙ ap (λ p. found t (chosen (kids (t c.args.id)) p)) (c.as_slice-2.ensures.value ∙ places) in
+    ListsMoved-same (λ k. present_of (at c.replace.new.store k)) (λ k. present_of (at c.reserve.new.self k)) _ _ _ now old
+    (subst (λ (l : List Moved). ListsMoved (λ k. present_of (at c.replace.new.store k)) (λ k. present_of (at c.reserve.new.self k)) l) (sym (c.from_vec-2.ensures ∙ gathered))
+    (lists_came (λ k. at c.reserve.new.self k) (λ k. present_of (at c.replace.new.store k)) c.args.id _ c.args.news.items c.replace.ensures.replaced.0 _ whole.tree c.replace.ensures.replaced.2 (λ k. at c.replace.new.store k) (λ k. refl)))
 
 pub returns-clause-unmarked : goal.returns-clause-unmarked
 returns-clause-unmarked c k h t =

@@ -1,4 +1,4 @@
-use Rattle.std.proofs.Common.{◌≡◌, ◌<◌, ◌∙◌, length, sym, ap, subst, arith, slice_get, Some}
+use Rattle.std.proofs.Common.{◌<◌, ◌∙◌, length, sym, ap, arith, slice_get}
 use Rattle.std.proofs.lemmas.List.{length-take-le}
 use Rattle.cga_forest.specs.Roots.{RootsView, ids}
 use Rattle.cga_forest.proofs.Shelf.{ids_front}

@@ -1,5 +1,4 @@
-use Rattle.std.proofs.Common.{◌≡◌, ◌≤◌, [], length, take, sym, ap, subst, refl, arith}
-use Rattle.cga_forest.specs.Roots.{AreUndoable, undone}
+use Rattle.std.proofs.Common.{length, ap, arith}
 use Rattle.cga_forest.proofs.Shelf.{no_steps_ready, no_steps_listed}
 use Rattle.cga_forest.proofs.roots.Roots.new.Goals as goal
 

@@ -1,5 +1,5 @@
-use Rattle.std.proofs.Common.{◌≡◌, ◌≤◌, ◌∙◌, length, sym, ap, subst, arith}
-use Rattle.cga_forest.specs.Roots.{RootsView, Shelf, listed, undone}
+use Rattle.std.proofs.Common.{◌≤◌, ◌∙◌, length, sym, ap, subst, arith}
+use Rattle.cga_forest.specs.Roots.{RootsView, Shelf, listed}
 use Rattle.cga_forest.proofs.Names.{apart_front}
 use Rattle.cga_forest.proofs.Shelf.{no_steps_listed, no_steps_ready, undone_room, undone_within}
 use Rattle.cga_forest.proofs.roots.Roots.roll_back.Goals as goal

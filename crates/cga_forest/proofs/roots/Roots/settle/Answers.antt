@@ -1,4 +1,4 @@
-use Rattle.std.proofs.Common.{◌∙◌, length, take, sym, ap, arith}
+use Rattle.std.proofs.Common.{◌∙◌, length, take, ap, arith}
 use Rattle.std.proofs.lemmas.List.{length-take-le}
 use Rattle.cga_forest.specs.Roots.{RootsView}
 use Rattle.cga_forest.proofs.Shelf.{no_steps_ready, no_steps_listed, settled_listed}

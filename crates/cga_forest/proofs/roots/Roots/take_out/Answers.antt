@@ -1,7 +1,7 @@
 use Rattle.std.proofs.Common.{◌∙◌, ◌∷◌, ◌-◌, length, ap, subst, slice_get, arith}
 use Rattle.std.specs.List.Sorted.{IsPermutation}
 use Rattle.std.proofs.lemmas.List.{length_push}
-use Rattle.cga_forest.specs.Roots.{AreApart, RootsView, Shelf, listed}
+use Rattle.cga_forest.specs.Roots.{AreApart, RootsView, listed}
 use Rattle.cga_forest.proofs.Names.{apart_front, at_front}
 use Rattle.cga_forest.proofs.Shelf.{taken_out}
 use Rattle.cga_forest.proofs.roots.Roots.take_out.Goals as goal

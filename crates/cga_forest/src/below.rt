@@ -1,0 +1,21 @@
+ghost use Rattle.std.specs.Prelude.{IfOk, IsSome};
+ghost use Rattle.cga_forest.specs.Moved.{ListsBelow};
+ghost use Rattle.cga_forest.specs.Tree.{node_at};
+
+use crate::listing::list_below;
+use crate::moved::Moved;
+use crate::{Forest, slot_of};
+use cga_fraction::{List, NoMemory};
+use cga_index::NodeId;
+
+impl Forest {
+    /// A node and all below it, each once. The time goes by their number. Takes memory.
+    pub fn below(&self, id: NodeId) -> Result<List<Moved>, NoMemory>
+        requires here { IsSome (node_at self.now id) }
+        ensures { IfOk result (λ list. ListsBelow self.now id list) }
+    {
+        let mut list = Vec::new(self.alloc);
+        list_below(&self.store, slot_of(id), 257, &mut list)?;
+        Ok(List::from_vec(list))
+    }
+}
