@@ -1,5 +1,5 @@
 -- The example of a lot that comes: its premises, and its one turn.
-use Rattle.std.proofs.Common.{◌≡◌, ℕ, zero, suc, ◌+◌, List, [], ◌∷◌, true, false, refl, sym, ap, ◌∙◌, inl, inr, Result, Ok, Option, Some, None, arith, length, length-append}
+use Rattle.std.proofs.Common.{◌≡◌, ℕ, zero, suc, ◌+◌, List, [], ◌∷◌, Bool, true, false, refl, sym, ap, subst, ◌∙◌, inl, inr, Result, Ok, Option, Some, None, arith, length, length-append}
 use Rattle.std.specs.Prelude.{slice_get}
 use Rattle.cga_order.specs.Chain.{IsChild}
 use Rattle.cga_order.specs.World.{is_instance}
@@ -8,10 +8,10 @@ use Rattle.cga_order.specs.declared.placed.Kind.{Kind}
 use Rattle.cga_order.specs.declared.placed.Kind.TheVariants.{Waiting, Done}
 use Rattle.cga_order.specs.Agenda.{Node, Keeps, IsTree}
 use Rattle.cga_agenda.specs.Edit.{IsEdit, new_world}
-use Rattle.cga_agenda.specs.Work.{IsStart, IsBegun, Expands}
+use Rattle.cga_agenda.specs.Work.{StandOnce, IsStart, IsBegun, Expands}
 use Rattle.cga_agenda.specs.Record.{IsChange}
-use Rattle.cga_agenda.specs.Loop.{Turns, IsReady}
-use Rattle.cga_agenda.specs.OneLot.{one_lot, state_when, ALotComes}
+use Rattle.cga_agenda.specs.Loop.{State, Turns, IsIdle, TellsEach, Counts, IsReady}
+use Rattle.cga_agenda.specs.OneLot.{one_lot, state_when, means_one_lot, ALotComes}
 
 abbrev K : Type 0
 K = Kind ℕ ℕ
@@ -131,8 +131,8 @@ expands = record {
       );
 }
 
-pub turn : Turns one_lot (state_when false) (state_when true) 0
-turn = (
+pub turn_from : (calls : ℕ) → Turns one_lot (state_when false) (state_when true) calls (calls + 1) 0
+turn_from calls = (
   0,
   true,
   record {
@@ -152,4 +152,20 @@ turn = (
 )
 
 pub comes : ALotComes
-comes = record { ready = ready; turn = turn; idle = (refl, λ n k a h. refl) }
+comes = record { ready = ready; turn = turn_from 0; idle = record { same = refl; none_queued = λ n k a h. refl; no_call = refl } }
+
+-- what a worker tells of its one turn, and then
+pub turn_tells : (calls : ℕ) → TellsEach (means_one_lot false) (means_one_lot true) calls (calls + 1) (Some 0)
+turn_tells calls edit before (e, b) =
+    (state_when true, (e, refl), subst (λ x. Turns x before (state_when true) calls (calls + 1) 0) (sym e) (subst (λ x. Turns one_lot x (state_when true) calls (calls + 1) 0) (sym b) (turn_from calls)))
+
+pub idle_tells : (calls : ℕ) → TellsEach (means_one_lot true) (means_one_lot true) calls calls None
+idle_tells calls edit before (e, b) =
+    (before, (e, b), subst (λ x. IsIdle x before before calls calls) (sym e) (subst (λ x. IsIdle one_lot x x calls calls) (sym b) (record { same = refl; none_queued = λ n k a h. refl; no_call = refl })))
+
+pub one_stands : (done : Bool) → Counts (means_one_lot done) 1
+one_stands done edit state (e, b) = subst (λ (x : State ℕ ℕ ℕ ℕ). (1 ≡ length x.nodes) × StandOnce x.nodes) (sym b) (size done)
+  where
+    size : (done : Bool) → (1 ≡ length (state_when done).nodes) × StandOnce (state_when done).nodes
+    size false = (refl, (λ i. i, tt))
+    size true = (refl, (λ i. i, tt))

@@ -127,15 +127,15 @@ module _ {N A B F P : Type 0} (edit : Edit N A B F P) where
     pub root_no_child : (r p : N) (i : ℕ) → Among r edit.new.roots → IsChild (edit.chain p) i (edit.chain r) → ⊥
     root_no_child r p i root child = path_not_empty (edit.chain p).path i (sym child.path ∙ laws.new.root r root)
 
-    pub first_kind_is : (k j : Kind F P) → IsNew j → is_instance k ≡ is_instance j → (is_instance j ≡ true → k ≡ j) → first_kind edit k ≡ j
+    pub first_kind_is : (k j : Kind F P) → IsNew j → is_instance k ≡ is_instance j → (is_instance j ≡ true → k ≡ j) → first_kind k ≡ j
     first_kind_is k j new alike same = elim new [
       | inl e ↦ waits k (alike ∙ ap is_instance e) ∙ sym e
       | inr p ↦
           let is : k ≡ j = same (ap is_instance p.1) in
-          ap (first_kind edit) (is ∙ p.1) ∙ sym p.1
+          ap first_kind (is ∙ p.1) ∙ sym p.1
     ]
       where
-        waits : (l : Kind F P) → is_instance l ≡ false → first_kind edit l ≡ Waiting
+        waits : (l : Kind F P) → is_instance l ≡ false → first_kind l ≡ Waiting
         waits Waiting e = refl
         waits Done e = refl
         waits (Faulted f) e = refl
@@ -146,7 +146,7 @@ module _ {N A B F P : Type 0} (edit : Edit N A B F P) where
     placed before after s k a tree new h = by (edit.old.expand s a) refl h
       where
         -- a child as it was made is one of the outcome
-        made : (cs : List (Placed N F P)) → edit.old.expand s a ≡ Ok cs → HasChildren (old_world edit) before s cs → (c : N) (j : Kind F P) → Has cs c j → (l : Kind F P) → Has (members_of before) c l → ((i : ℕ) × IsChild (edit.chain s) i (edit.chain c)) × (first_kind edit l ≡ j)
+        made : (cs : List (Placed N F P)) → edit.old.expand s a ≡ Ok cs → HasChildren (old_world edit) before s cs → (c : N) (j : Kind F P) → Has cs c j → (l : Kind F P) → Has (members_of before) c l → ((i : ℕ) × IsChild (edit.chain s) i (edit.chain c)) × (first_kind l ≡ j)
         made cs e g c j i l there =
             let u = steps.child_of (old_world edit) laws.old s a cs e c j i in
             let v = g.all c j i in
@@ -162,14 +162,14 @@ module _ {N A B F P : Type 0} (edit : Edit N A B F P) where
                 let v = g.1.all m.0.shape m.0.kind m.1 in
                 let t = Keeps-Has before m.0.shape v.0 v.1 in
                 let u = made cs e g.1 m.0.shape m.0.kind m.1 v.0 v.1 in
-                let is : edit.renew (record { shape = m.0.shape; kind = first_kind edit v.0 }) ≡ edit.renew m.0 = ap (λ x. edit.renew (record { shape = m.0.shape; kind = x })) u.1 in
+                let is : edit.renew (record { shape = m.0.shape; kind = first_kind v.0 }) ≡ edit.renew m.0 = ap (λ x. edit.renew (record { shape = m.0.shape; kind = x })) u.1 in
                 let st = new.all m.0.shape v.0 t.0 u.0.0 t.1 u.0.1 in
                 subst (Stands (members_of after) c) m.3 (subst (λ x. Stands (members_of after) x (edit.renew m.0).kind) m.2 (subst (λ x. Stands (members_of after) x.shape x.kind) is st));
             only = λ c j b there i child.
                 let m = new.only c j b i there child in
                 let o = g.1.only m.0 m.1 m.2 m.4 m.3 m.5 in
                 let u = made cs e g.1 m.0 o.0 o.1 m.1 (Has-Keeps before m.0 m.1 m.2 m.4) in
-                let has = map-Has edit.renew cs (record { shape = m.0; kind = first_kind edit m.1 }) (subst (Has cs m.0) (sym u.1) o.1) in
+                let has = map-Has edit.renew cs (record { shape = m.0; kind = first_kind m.1 }) (subst (Has cs m.0) (sym u.1) o.1) in
                 ((renewed_child edit m.0 m.1).kind, subst (λ x. Has (map edit.renew cs) x (renewed_child edit m.0 m.1).kind) m.6 has);
           },
         )

@@ -1,20 +1,38 @@
 -- The loop over an agenda: what one turn does to the state that it works on, and how it ends.
-use Rattle.std.specs.Prelude.{◌≡◌, ℕ, ◌+◌, ◌≤◌, List, [], ◌++◌, Bool, true, false, length}
+use Rattle.std.specs.Prelude.{◌≡◌, ℕ, ◌+◌, List, [], ◌++◌, Bool, true, false, length, Option, Some, None}
 use Rattle.cga_order.specs.Agenda.{Node, asked}
 use Rattle.cga_agenda.specs.declared.ended.Ended.{Ended}
 use Rattle.cga_agenda.specs.declared.ended.Ended.TheVariants.{Within, OverBudget}
+use Rattle.cga_agenda.specs.declared.turned.Turned.{Turned}
 use Rattle.cga_agenda.specs.Edit.{Edit, IsEdit, new_world}
 use Rattle.cga_agenda.specs.Work.{StandOnce, NoneQueued, IsStart, IsBegun, IsTurnOf, IsWorking}
 use Rattle.cga_agenda.specs.Record.{Drawn, IsChange, IsRecord}
 use Rattle.cga_agenda.specs.Known.{made_by, IsOverBudget, IsKnown}
 
--- the nodes, which of them are on the agenda, the record so far, and how often expand was called
+-- the nodes, which of them are on the agenda, and the record so far
 pub record State (N A F P : Type 0) : Type 0 where
   pub nodes : List (Node N A F P)
   pub queued : N → Bool
   pub gone : List (Drawn N P)
   pub come : List (Drawn N P)
-  pub calls : ℕ
+
+-- the number of calls of expand in a turn
+abbrev pub calls_of : Bool → ℕ
+calls_of true = 1
+calls_of false = 0
+
+abbrev pub calls_told : Option Turned → ℕ
+calls_told None = 0
+calls_told (Some turned) = calls_of turned.expanded
+
+abbrev pub children_told : Option Turned → Option ℕ
+children_told None = None
+children_told (Some turned) = Some turned.children
+
+-- the number of calls that the end tells, where there were so many before and after it
+abbrev pub HasCalled : ℕ → ℕ → Ended → Type 0
+HasCalled calls since (Within n) = since ≡ calls + n
+HasCalled calls since OverBudget = Unit {0}
 
 module _ {N A B F P : Type 0} (edit : Edit N A B F P) where
   -- the children that the turn of s gives by a call of expand, and the number of calls: none where
@@ -23,10 +41,6 @@ module _ {N A B F P : Type 0} (edit : Edit N A B F P) where
   children_of before s true = length (made_by (edit.new.expand s (asked (new_world edit) before s)))
   children_of before s false = 0
 
-  abbrev pub calls_of : Bool → ℕ
-  calls_of true = 1
-  calls_of false = 0
-
   -- what went and came in a turn stands behind the record so far
   abbrev pub Records : State N A F P → State N A F P → Type 0
   Records before after =
@@ -34,18 +48,25 @@ module _ {N A B F P : Type 0} (edit : Edit N A B F P) where
       × IsChange before.nodes after.nodes went came
       × (after.gone ≡ before.gone ++ went) × (after.come ≡ before.come ++ came)
 
-  -- a turn, of which so many children came by a call of expand
-  abbrev pub Turns : State N A F P → State N A F P → ℕ → Type 0
-  Turns before after children =
+  -- a turn, of which so many children came by a call of expand, with so many calls before and after it
+  abbrev pub Turns : State N A F P → State N A F P → ℕ → ℕ → ℕ → Type 0
+  Turns before after calls since children =
       (s : N) × (expanded : Bool)
       × IsTurnOf edit before.nodes after.nodes s before.queued after.queued expanded
       × Records before after
       × (children ≡ children_of before.nodes s expanded)
-      × (after.calls ≡ before.calls + calls_of expanded)
+      × (since ≡ calls + calls_of expanded)
 
   -- nothing is on the agenda, and nothing is done
-  abbrev pub IsIdle : State N A F P → State N A F P → Type 0
-  IsIdle before after = (after ≡ before) × NoneQueued edit before.nodes before.queued
+  pub record IsIdle (before after : State N A F P) (calls since : ℕ) : Type 0 where
+    pub same : after ≡ before
+    pub none_queued : NoneQueued edit before.nodes before.queued
+    pub no_call : since ≡ calls
+
+  -- what a turn tells: how many children came, and nothing where there was no turn to do
+  abbrev pub Tells : State N A F P → State N A F P → ℕ → ℕ → Option ℕ → Type 0
+  Tells before after calls since None = IsIdle before after calls since
+  Tells before after calls since (Some children) = Turns before after calls since children
 
   -- before the first turn of an edit that starts from these nodes: the roots that went and came are
   -- told, and so many of them there are now
@@ -58,7 +79,7 @@ module _ {N A B F P : Type 0} (edit : Edit N A B F P) where
     pub roots : number ≡ length edit.new.roots
 
   -- what the loop keeps: so many turns after the first state, where so many members are known
-  pub record Knows (start : List (Node N A F P)) (first now : State N A F P) (turns known : ℕ) : Type 0 where
+  pub record Knows (start : List (Node N A F P)) (first now : State N A F P) (turns known calls since : ℕ) : Type 0 where
     pub turned : List N
     pub worked : List N
     pub learnt : List N
@@ -67,16 +88,11 @@ module _ {N A B F P : Type 0} (edit : Edit N A B F P) where
     pub knows : IsKnown edit now.nodes worked learnt
     pub turns_are : turns ≡ length turned
     pub known_are : known ≡ length learnt
-    pub calls_are : now.calls ≡ first.calls + length worked
-
-  -- the new derivation is over the budget, which was found by at most one call more than that
-  pub record IsOver (first last : State N A F P) (budget : ℕ) : Type 0 where
-    pub over : IsOverBudget (new_world edit) budget
-    pub calls : last.calls ≤ first.calls + (budget + 1)
+    pub calls_are : since ≡ calls + length worked
 
   -- the new derivation is within the budget, and the work is done: of the shapes that had their turn
   -- these were expanded, each by one call
-  pub record IsDone (start : List (Node N A F P)) (first last : State N A F P) (budget : ℕ) : Type 0 where
+  pub record IsDone (start : List (Node N A F P)) (last : State N A F P) (budget calls since : ℕ) : Type 0 where
     pub within : IsOverBudget (new_world edit) budget → ⊥
     pub turned : List N
     pub worked : List N
@@ -84,15 +100,34 @@ module _ {N A B F P : Type 0} (edit : Edit N A B F P) where
     pub recorded : IsRecord edit start last.nodes worked last.gone last.come
     pub none_queued : NoneQueued edit last.nodes last.queued
     pub once : StandOnce last.nodes
-    pub calls : last.calls ≡ first.calls + length worked
+    pub calls_are : since ≡ calls + length worked
 
-  -- how the loop ends
-  abbrev pub IsEnded : List (Node N A F P) → State N A F P → State N A F P → ℕ → Ended → Type 0
-  IsEnded start first last budget Within = IsDone start first last budget
-  IsEnded start first last budget OverBudget = IsOver first last budget
+  -- how the loop ends, with so many calls before and after it
+  abbrev pub IsEnded : List (Node N A F P) → State N A F P → ℕ → ℕ → ℕ → Ended → Type 0
+  IsEnded start last budget calls since (Within n) = IsDone start last budget calls since
+  IsEnded start last budget calls since OverBudget = IsOverBudget (new_world edit) budget
 
-  -- from whatever nodes the edit started, if they and the first state are ready for it
-  abbrev pub Ends : State N A F P → State N A F P → ℕ → ℕ → Ended → Type 0
-  Ends first last roots budget ended =
-      (start : List (Node N A F P)) → IsReady start first roots
-      → IsEnded start first last budget ended
+-- what a turn tells is so of each state that the worker means, and it means the state after the turn
+abbrev pub TellsEach : {N A B F P : Type 0} → (Edit N A B F P → State N A F P → Type 0) → (Edit N A B F P → State N A F P → Type 0) → ℕ → ℕ → Option ℕ → Type 0
+TellsEach {N} {A} {B} {F} {P} was is calls since turned =
+    (edit : Edit N A B F P) (before : State N A F P) → was edit before
+    → (after : State N A F P) × is edit after × Tells edit before after calls since turned
+
+-- from whatever edit and first state the worker means, and whatever nodes the edit started from, if these are ready
+abbrev pub Ends : {N A B F P : Type 0} → (Edit N A B F P → State N A F P → Type 0) → (Edit N A B F P → State N A F P → Type 0) → ℕ → ℕ → ℕ → ℕ → Ended → Type 0
+Ends {N} {A} {B} {F} {P} was is roots budget calls since ended =
+    (edit : Edit N A B F P) (first : State N A F P) → was edit first
+    → (start : List (Node N A F P)) → IsReady edit start first roots
+    → (last : State N A F P) × is edit last × IsEnded edit start last budget calls since ended
+
+-- what the loop keeps of each edit and first state that the worker meant
+abbrev pub KnowsEach : {N A B F P : Type 0} → (Edit N A B F P → State N A F P → Type 0) → (Edit N A B F P → State N A F P → Type 0) → ℕ → ℕ → ℕ → ℕ → ℕ → Type 0
+KnowsEach {N} {A} {B} {F} {P} was now roots turns known calls since =
+    (edit : Edit N A B F P) (first : State N A F P) → was edit first
+    → (start : List (Node N A F P)) → IsReady edit start first roots
+    → (state : State N A F P) × now edit state × Knows edit start first state turns known calls since
+
+-- so many nodes there are in each state that the worker means, and each stands once
+abbrev pub Counts : {N A B F P : Type 0} → (Edit N A B F P → State N A F P → Type 0) → ℕ → Type 0
+Counts {N} {A} {B} {F} {P} now number =
+    (edit : Edit N A B F P) (state : State N A F P) → now edit state → (number ≡ length state.nodes) × StandOnce state.nodes

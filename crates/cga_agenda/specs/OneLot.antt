@@ -1,5 +1,5 @@
 -- An example for the loop: a lot comes where there was none, and its root has no children.
-use Rattle.std.specs.Prelude.{ℕ, List, [], ◌∷◌, Bool, true, false, Ok}
+use Rattle.std.specs.Prelude.{◌≡◌, ℕ, List, [], ◌∷◌, Bool, true, false, Ok}
 use Rattle.cga_word.specs.declared.mode.Mode.TheVariants.{Breadth}
 use Rattle.cga_order.specs.declared.placed.Kind.TheVariants.{Waiting, Done}
 use Rattle.cga_agenda.specs.Edit.{Side, Edit}
@@ -32,18 +32,20 @@ state_when false = record {
   queued = λ n. true;
   gone = [];
   come = [];
-  calls = 0;
 }
 state_when true = record {
   nodes = record { shape = 0; kind = Done; answers = 0 } ∷ [];
   queued = λ n. false;
   gone = [];
   come = [];
-  calls = 1;
 }
+
+-- what a worker on it means, once it is done or before
+abbrev pub means_one_lot : Bool → Edit ℕ ℕ ℕ ℕ ℕ → State ℕ ℕ ℕ ℕ → Type 0
+means_one_lot done edit state = (edit ≡ one_lot) × (state ≡ state_when done)
 
 -- the loop may begin, has one turn, and is idle then
 pub record ALotComes : Type 0 where
   pub ready : IsReady one_lot [] (state_when false) 1
-  pub turn : Turns one_lot (state_when false) (state_when true) 0
-  pub idle : IsIdle one_lot (state_when true) (state_when true)
+  pub turn : Turns one_lot (state_when false) (state_when true) 0 1 0
+  pub idle : IsIdle one_lot (state_when true) (state_when true) 1 1

@@ -24,6 +24,13 @@ next_worked s false worked = worked
 abbrev pub StandOnce : {N A F P : Type 0} → List (Node N A F P) → Type 0
 StandOnce nodes = Once (map (λ m. m.shape) (members_of nodes))
 
+-- the kind that a node had when it was made
+abbrev pub first_kind : {F P : Type 0} → Kind F P → Kind F P
+first_kind Waiting = Waiting
+first_kind Done = Waiting
+first_kind (Faulted f) = Waiting
+first_kind (Instance p) = Instance p
+
 module _ {N A B F P : Type 0} (edit : Edit N A B F P) where
   abbrev pub Nodes : Type 0
   Nodes = List (Node N A F P)
@@ -79,13 +86,6 @@ module _ {N A B F P : Type 0} (edit : Edit N A B F P) where
     pub now : (j : Kind F P) (b : A) → Keeps after s j b
         → (is_instance j ≡ false) × (b ≡ asked (new_world edit) before s)
         × IsSettled (new_world edit) after s j (edit.new.expand s b)
-
-  -- the kind that a node had when it was made
-  abbrev pub first_kind : Kind F P → Kind F P
-  first_kind Waiting = Waiting
-  first_kind Done = Waiting
-  first_kind (Faulted f) = Waiting
-  first_kind (Instance p) = Instance p
 
   -- a child, as its parent made it, with its new priority
   abbrev pub renewed_child : N → Kind F P → Placed N F P

@@ -11,10 +11,12 @@
 mod agenda;
 mod ended;
 pub mod laws;
+mod turned;
 mod worker;
 
 pub use agenda::work;
 pub use ended::Ended;
+pub use turned::Turned;
 pub use worker::Worker;
 
 #[cfg(test)]

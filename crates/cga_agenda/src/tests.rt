@@ -1,8 +1,11 @@
-ghost use Rattle.cga_agenda.specs.OneLot.{one_lot, state_when};
+ghost use Rattle.std.specs.Prelude.{◌≡◌, ◌<◌, ℕ};
+ghost use Rattle.cga_agenda.specs.OneLot.{means_one_lot};
 
-use crate::{Ended, Worker, work};
-use cga_fraction::NoMemory;
-use std::process::Abort;
+use crate::{Ended, Turned, Worker, work};
+use cga_fraction::{NoMemory, Steps};
+use std::marker::Brand;
+use std::sync::ledger::{Blank, Ledger};
+use std::test::Fail;
 
 // One root, which is on the agenda until it is done.
 #[derive(Drop)]
@@ -10,27 +13,67 @@ struct OneLot {
     done: bool,
 }
 
-impl Worker<u8, u8, u8, u8, u8> for OneLot {
-    ghost edit = { one_lot };
+impl Worker for OneLot {
+    ghost Shape = { ℕ };
 
-    ghost state = { λ w. state_when w.done };
+    ghost Answers = { ℕ };
 
-    fn turn(&mut self) -> Result<Option<u16>, NoMemory> {
+    ghost Setting = { ℕ };
+
+    ghost Fault = { ℕ };
+
+    ghost Solid = { ℕ };
+
+    ghost means = { λ w. means_one_lot w.done };
+
+    ghost keeps = { λ v w. Unit {0} };
+
+    fn turn<E: Ledger, T: Ledger>(
+        &mut self,
+        expansions: &mut Steps<E>,
+        _tests: &mut Steps<T>,
+    ) -> Result<Option<Turned>, NoMemory> {
         if self.done {
             return Ok(None);
         }
         self.done = true;
-        Ok(Some(0))
+        expansions.tick();
+        Ok(Some(Turned {
+            children: 0,
+            expanded: true,
+        }))
     }
 
     fn count(&self) -> usize {
         1
     }
+
+    ghost keeps_itself = { λ w. tt };
+
+    ghost keeps_on = { λ u v w k l. tt };
+}
+
+fn worked<E: Ledger, T: Ledger>(
+    rt: &mut HostRuntime,
+    expansions: Blank,
+    tests: Blank,
+) -> Result<Ended, NoMemory>
+    requires expansions_name { expansions.name ≡ E.name }
+    requires expansions_parts { expansions.parts ≡ E.parts }
+    requires expansions_some { 0 < expansions.parts }
+    requires tests_name { tests.name ≡ T.name }
+    requires tests_parts { tests.parts ≡ T.parts }
+    requires tests_some { 0 < tests.parts }
+{
+    let mut expansions = Steps::<E>::new(rt, expansions);
+    let mut tests = Steps::<T>::new(rt, tests);
+    let mut worker = OneLot { done: false };
+    work(&mut worker, 1, 1, &mut expansions, &mut tests)
 }
 
 #[test]
-fn a_lot_comes(rt: HostRuntime) {
-    let mut worker = OneLot { done: false };
-    let ended = work(&mut worker, 1, 1).expect(&rt, "memory");
-    assert_eq!(rt; ended, Ended::Within);
+fn a_lot_comes(mut rt: HostRuntime) -> Result<(), Fail> {
+    let ended = worked::<Brand, Brand>(&mut rt, Blank::new(1), Blank::new(1))?;
+    assert_eq!(rt; ended, Ended::Within(1));
+    Ok(())
 }

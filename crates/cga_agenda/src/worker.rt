@@ -1,26 +1,50 @@
-ghost use Rattle.std.specs.Prelude.{◌≡◌, IfOk, MatchOption, length};
+ghost use Rattle.std.specs.Prelude.{◌≡◌, ◌+◌, ◌≤◌, IfOk};
 ghost use Rattle.cga_agenda.specs.Edit.{Edit};
-ghost use Rattle.cga_agenda.specs.Loop.{State, Turns, IsIdle};
-ghost use Rattle.cga_agenda.specs.Work.{StandOnce};
+ghost use Rattle.cga_agenda.specs.Loop.{State, TellsEach, Counts, children_told, calls_told};
 
-use cga_fraction::NoMemory;
+use crate::turned::Turned;
+use cga_fraction::{NoMemory, Steps};
+use std::sync::ledger::Ledger;
 
 /// What does the turns of an agenda. It keeps the nodes of a derivation, of which some are on the
 /// agenda, and the record of what went and came.
-pub trait Worker<N, A, B, F, P> {
-    ghost edit: { Edit N A B F P };
+pub trait Worker {
+    // of what shapes, answers, settings, faults and solids the derivations are
+    ghost Shape: { Type 0 };
 
-    ghost state: { Self → State N A F P };
+    ghost Answers: { Type 0 };
 
-    /// One turn of the least stamp on the agenda: how many children it got by a call of expand, and
-    /// none where nothing is on the agenda.
-    fn turn(&mut self) -> Result<Option<u16>, NoMemory>
-        ensures { IfOk result (λ turned. MatchOption turned
-            (IsIdle edit (state self.old) (state self.new))
-            (λ children. Turns edit (state self.old) (state self.new) children)) };
+    ghost Setting: { Type 0 };
+
+    ghost Fault: { Type 0 };
+
+    ghost Solid: { Type 0 };
+
+    // for what edit it works, and where its work stands
+    ghost means: { Self → Edit Shape Answers Setting Fault Solid → State Shape Answers Fault Solid → Type 0 };
+
+    // what of it the second leaves as it was in the first
+    ghost keeps: { Self → Self → Type 0 };
+
+    /// One turn of the least stamp on the agenda, and none where nothing is on the agenda. Each call of
+    /// expand ticks `expansions`.
+    fn turn<E: Ledger, T: Ledger>(
+        &mut self,
+        expansions: &mut Steps<E>,
+        tests: &mut Steps<T>,
+    ) -> Result<Option<Turned>, NoMemory>
+        ensures turned { IfOk result (λ turned.
+            TellsEach (means self.old) (means self.new) expansions.old expansions.new (children_told turned)) }
+        ensures called { IfOk result (λ turned. expansions.new ≡ expansions.old + calls_told turned) }
+        ensures kept { keeps self.old self.new }
+        ensures counted { expansions.old ≤ expansions.new }
+        ensures once { expansions.new ≤ expansions.old + 1 };
 
     /// The number of nodes.
     fn count(&self) -> usize
-        ensures number { result ≡ length (state self.now).nodes }
-        ensures once { StandOnce (state self.now).nodes };
+        ensures { Counts (means self.now) result };
+
+    ghost keeps_itself: { (w : Self) → keeps w w };
+
+    ghost keeps_on: { (u v w : Self) → keeps u v → keeps v w → keeps u w };
 }

@@ -19,7 +19,7 @@ with_last_from-snoc : (last own p : ℕ) (ps : List ℕ) → with_last_from last
 with_last_from-snoc last own p [] = refl
 with_last_from-snoc last own p (q ∷ ps) = ap (λ qs. p ∷ qs) (with_last_from-snoc last own q ps)
 
-with_last-snoc : (last own : ℕ) (ps : List ℕ) → with_last last (ps ++ own ∷ []) ≡ ps ++ last ∷ []
+pub with_last-snoc : (last own : ℕ) (ps : List ℕ) → with_last last (ps ++ own ∷ []) ≡ ps ++ last ∷ []
 with_last-snoc last own [] = refl
 with_last-snoc last own (p ∷ ps) = with_last_from-snoc last own p ps
 

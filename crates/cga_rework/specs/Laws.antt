@@ -5,11 +5,11 @@ use Rattle.cga_order.specs.declared.placed.Placed.{Placed}
 use Rattle.cga_order.specs.declared.placed.Kind.{Kind}
 use Rattle.cga_order.specs.Agenda.{Node}
 use Rattle.cga_derivation.specs.Derivation.{Derivation, IsDerivation, IsDerived, derive}
-use Rattle.cga_agenda.specs.Edit.{IsEdit, NonInstance, renewed}
+use Rattle.cga_agenda.specs.Edit.{IsEdit, NonInstance, new_world, renewed}
 use Rattle.cga_agenda.specs.Work.{StandOnce, NoneQueued, IsStart, IsWorking}
 use Rattle.cga_agenda.specs.Record.{Drawn, IsRecord}
 use Rattle.cga_agenda.specs.Known.{IsKnown, IsOverBudget}
-use Rattle.cga_agenda.specs.Loop.{State, IsOver, IsDone}
+use Rattle.cga_agenda.specs.Loop.{State, IsDone}
 use Rattle.cga_rework.specs.Rules.{Shapes, Rules, IsRulesEdit, derivation_of, shapes_from, rules_from, no_lots, Readings, IsReadBy}
 use Rattle.cga_rework.specs.Ranked.{Ranked, edit_of, ranked_world}
 use Rattle.cga_rework.specs.Touched.{Touched}
@@ -85,19 +85,18 @@ module _ (S A B F P : Type 0) where
   pub record LoopIsExact : Type 0 where
     -- over the budget, so is the new derivation
     pub over : (shapes : Shapes S) (old new : Rules S A B F P) → IsRulesEdit shapes old new
-        → (first last : State (Ranked S) A F P) (budget : ℕ)
-        → IsOver (edit_of shapes old new) first last budget
+        → (budget : ℕ) → IsOverBudget (new_world (edit_of shapes old new)) budget
         → derive (derivation_of shapes new) budget ≡ None
     -- within it, the rework is exact, and there was a call of expand for each shape that was expanded
     pub done : (shapes : Shapes S) (old new : Rules S A B F P) → IsRulesEdit shapes old new
         → (start : List (Node (Ranked S) A F P)) → IsStart (edit_of shapes old new) start → StandOnce start
-        → (first last : State (Ranked S) A F P) (budget : ℕ)
-        → IsDone (edit_of shapes old new) start first last budget
+        → (last : State (Ranked S) A F P) (budget calls since : ℕ)
+        → IsDone (edit_of shapes old new) start last budget calls since
         → (before : List (Placed S F P)) → IsDerived (derivation_of shapes old) before
         → (after : List (Placed S F P)) × (derive (derivation_of shapes new) budget ≡ Some after)
         × ((worked : List (Ranked S))
         × IsExactRework shapes old new last.nodes worked last.gone last.come before after
-        × (last.calls ≡ first.calls + length worked))
+        × (since ≡ calls + length worked))
 
   -- rules that read no more of their sources than the settings meet what an edit's rules have to
   abbrev pub ReadingsMakeEdits : Type 0

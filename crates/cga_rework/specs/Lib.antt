@@ -4,3 +4,12 @@ pub mod Touched
 pub mod Exact
 pub mod Laws
 pub mod Example
+pub mod Nodes
+pub mod City
+pub mod Agenda
+pub mod Turn
+pub mod Begin
+pub mod Changes
+pub mod Views
+pub mod TreeLaws
+pub mod TreeExample

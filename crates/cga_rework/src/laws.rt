@@ -4,6 +4,10 @@
 ghost use Rattle.cga_rework.specs.Example.{PriorityTouchesTheChild};
 ghost use Rattle.cga_rework.specs.Laws.{RulesMakeEdits, ReadingsMakeEdits, DerivationsAreRules};
 ghost use Rattle.cga_rework.specs.Laws.{ReworkIsExact, KnownIsOver, OverIsNone, LoopIsExact};
+ghost use Rattle.cga_rework.specs.TreeExample.{TreeTurns};
+ghost use Rattle.cga_rework.specs.TreeLaws.{NodeTurns, QuietTurns, TakenIsPriced, AgendaIsQueued, EmptyIsNone, EntriesNumber};
+ghost use Rattle.cga_rework.specs.TreeLaws.{RootsBegin, RerootedIsCity, RootsAddUp, ListsAreChanges};
+ghost use Rattle.cga_rework.specs.TreeLaws.{WalkAsks, ListsAreViews, StandsAgain};
 ghost use Rattle.cga_rework.specs.Laws.{StartStands, WorkStartsAgain, FromNothing, UnchangedChildren};
 
 /// Old and new rules make the edit of an agenda, over shapes with the priorities on their paths.
@@ -66,4 +70,75 @@ pub fn unchanged_children<S, A, B, F, P>()
 /// Where the priority of a child's symbol changes, the child is touched, and its parent isn't.
 pub fn priority_touches_the_child()
     ensures { PriorityTouchesTheChild }
+{}
+
+/// A turn of a kept tree is a turn of the work of an edit.
+pub fn node_turns<X, S, A, B, F, P>()
+    ensures { NodeTurns X S A B F P }
+{}
+
+/// So is one that changes nothing but the agenda.
+pub fn quiet_turns<X, S, A, B, F, P>()
+    ensures { QuietTurns X S A B F P }
+{}
+
+/// At its turn a node has the new priority of its symbol.
+pub fn taken_is_priced<X, S, A, B, F, P>()
+    ensures { TakenIsPriced X S A B F P }
+{}
+
+/// What an agenda of numbers says can be told of ranked shapes.
+pub fn agenda_is_queued<X, S, A, B, F, P>()
+    ensures { AgendaIsQueued X S A B F P }
+{}
+
+/// Where no node is on the agenda, nothing is queued.
+pub fn empty_is_none<X, S, A, B, F, P>()
+    ensures { EmptyIsNone X S A B F P }
+{}
+
+/// The entries of a map name the numbers that are on the agenda.
+pub fn entries_number<K>()
+    ensures { EntriesNumber K }
+{}
+
+/// The roots that went and came, and the first agenda, begin the work.
+pub fn roots_begin<X, S, A, B, F, P>()
+    ensures { RootsBegin X S A B F P }
+{}
+
+/// After them the nodes stand at their places.
+pub fn rerooted_is_city<X, S, A, B, F, P>()
+    ensures { RerootedIsCity X S A B F P }
+{}
+
+/// Removals and additions of roots add up.
+pub fn roots_add_up<X, S, A, F, P>()
+    ensures { RootsAddUp X S A F P }
+{}
+
+/// The instances that went and came, each once, are a change.
+pub fn lists_are_changes<X, S, A, B, F, P>()
+    ensures { ListsAreChanges X S A B F P }
+{}
+
+/// What a node asks, over the shapes that a walk counts.
+pub fn walk_asks<X, S, A, B, F, P>()
+    ensures { WalkAsks X S A B F P }
+{}
+
+/// The list of a view is as long as the view has nodes, and each stands in it once.
+pub fn lists_are_views<X, S, A, B, F, P>()
+    ensures { ListsAreViews X S A B F P }
+{}
+
+/// What an edit leaves stands for the new rules, and so does what is put back for the old.
+pub fn stands_again<X, S, A, B, F, P>()
+    ensures { StandsAgain X S A B F P }
+{}
+
+/// The premises of a turn can be met: where the priority of a child's symbol changed, its parent's turn
+/// places it anew.
+pub fn tree_turns()
+    ensures { TreeTurns }
 {}

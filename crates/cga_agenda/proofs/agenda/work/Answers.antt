@@ -1,45 +1,75 @@
-use Rattle.std.proofs.Common.{◌+◌, ◌<◌, ◌⊎◌, inl, inr, arith}
-use Rattle.cga_agenda.proofs.Loop.{knows_first, knows_next, over_early, moved, idle, ends_over, ends_done}
+use Rattle.std.proofs.Common.{◌+◌, ◌<◌, ◌≤◌, ◌⊎◌, inl, inr, Bool, true, false, Some, None, ap, arith}
+use Rattle.cga_agenda.specs.Loop.{calls_of, calls_told, children_told}
+use Rattle.cga_agenda.proofs.Loop.{first_each, next_each, ends_over, ends_done, ends_early, told}
 use Rattle.cga_agenda.proofs.agenda.work.Goals as goal
 
-pub returns-then-known-from : goal.returns-then-known-from
-returns-then-known-from g c = λ start ready.
-    let first = g.W.Worker.state c.args.worker.now in
-    let knows = knows_first g.W.Worker.edit start first c.args.roots ready c.from-known.result c.from-known.ensures in
-    over_early g.W.Worker.edit start first c.args.roots ready first 0 c.from-known.result knows c.args.budget (inl (omega (arith, c.if-known-from.true, c.from.ensures))) (omega arith)
+calls_most : (b : Bool) → calls_of b ≤ 1
+calls_most true = omega arith
+calls_most false = omega arith
 
-pub loop-children-init : goal.loop-children-init
-loop-children-init g c = (
-  (λ start ready. knows_first g.W.Worker.edit start (g.W.Worker.state c.args.worker.now) c.args.roots ready c.from-known.result c.from-known.ensures),
+pub loop-turned-init : goal.loop-turned-init
+loop-turned-init g c = (
+  first_each (g.W.Worker.means c.args.worker.now) (g.W.Worker.means c.args.worker.now) (g.W.Worker.means c.args.worker.now) c.args.roots c.args.expansions.now c.from-known.result c.from-known.ensures,
   omega (arith, c.if-known-from.false, c.from.ensures),
+  omega arith,
+  g.met.W.Worker.keeps_itself c.args.worker.now,
+  omega arith,
+  omega arith,
+  omega arith,
   omega arith,
 )
 
-pub returns-then-known-from-2 : goal.returns-then-known-from-2
-returns-then-known-from-2 g c = λ start ready.
-    let first = g.W.Worker.state c.args.worker.now in
-    let turn = moved g.W.Worker.edit (g.W.Worker.state c.loop-children.worker) (g.W.Worker.state c.turn.new.self) c.in_ok-children.field-0 c.in-Some.children c.in-Some.is c.in_ok-children.ensures in
-    let next = knows_next g.W.Worker.edit start first c.args.roots ready (g.W.Worker.state c.loop-children.worker) c.loop-children.turns c.loop-children.known (c.loop-children.invariant.0 start ready) (g.W.Worker.state c.turn.new.self) c.in-Some.children c.from-known-in-Some.result c.from-known-in-Some.ensures turn in
-    let more : (c.args.budget < c.loop-children.known + c.from-known-in-Some.result) ⊎ (c.args.budget < c.loop-children.turns + 1) = elim c.then-known-from-2.either [
+pub returns-then-known-from-clause-ended : goal.returns-then-known-from-clause-ended
+returns-then-known-from-clause-ended g c =
+    let was = g.W.Worker.means c.args.worker.now in
+    ends_early was was was c.args.roots c.args.expansions.now 0 c.from-known.result c.args.expansions.now c.args.budget
+    (inl (omega (arith, c.if-known-from.true, c.from.ensures)))
+    (first_each was was was c.args.roots c.args.expansions.now c.from-known.result c.from-known.ensures)
+
+pub returns-then-known-from-2-clause-ended : goal.returns-then-known-from-2-clause-ended
+returns-then-known-from-2-clause-ended g c =
+    let was = g.W.Worker.means c.args.worker.now in
+    let now = g.W.Worker.means c.loop-turned.worker in
+    let after = g.W.Worker.means c.turn.new.self in
+    let turn = told was now after c.args.roots c.args.expansions.now c.loop-turned.expansions c.turn.new.expansions (children_told c.in_ok-turned.field-0) (Some c.in-Some.turned.children) (ap children_told c.in-Some.is) c.in_ok-turned.ensures.turned in
+    let next = next_each was now after c.args.roots c.args.expansions.now c.loop-turned.turns c.loop-turned.known c.loop-turned.expansions c.turn.new.expansions c.loop-turned.invariant.0 c.in-Some.turned.children c.from-known-in-Some.result c.from-known-in-Some.ensures turn in
+    let more : (c.args.budget < c.loop-turned.known + c.from-known-in-Some.result) ⊎ (c.args.budget < c.loop-turned.turns + 1) = elim c.then-known-from-2.either [
       | inl lt ↦ inl (omega (arith, lt, c.from-in-Some.ensures))
       | inr h ↦ inr (omega (arith, h.1))
     ] in
-    over_early g.W.Worker.edit start first c.args.roots ready (g.W.Worker.state c.turn.new.self) (c.loop-children.turns + 1) (c.loop-children.known + c.from-known-in-Some.result) next c.args.budget more (omega (arith, c.loop-children.invariant.2))
+    ends_early was after after c.args.roots c.args.expansions.now (c.loop-turned.turns + 1) (c.loop-turned.known + c.from-known-in-Some.result) c.turn.new.expansions c.args.budget more next
 
-pub loop-children-preserved : goal.loop-children-preserved
-loop-children-preserved g c =
-    let turn = moved g.W.Worker.edit (g.W.Worker.state c.loop-children.worker) (g.W.Worker.state c.turn.new.self) c.in_ok-children.field-0 c.in-Some.children c.in-Some.is c.in_ok-children.ensures in (
-      (λ start ready. knows_next g.W.Worker.edit start (g.W.Worker.state c.args.worker.now) c.args.roots ready (g.W.Worker.state c.loop-children.worker) c.loop-children.turns c.loop-children.known (c.loop-children.invariant.0 start ready) (g.W.Worker.state c.turn.new.self) c.in-Some.children c.from-known-in-Some.result c.from-known-in-Some.ensures turn),
+pub loop-turned-preserved : goal.loop-turned-preserved
+loop-turned-preserved g c =
+    let was = g.W.Worker.means c.args.worker.now in
+    let now = g.W.Worker.means c.loop-turned.worker in
+    let after = g.W.Worker.means c.turn.new.self in
+    let turn = told was now after c.args.roots c.args.expansions.now c.loop-turned.expansions c.turn.new.expansions (children_told c.in_ok-turned.field-0) (Some c.in-Some.turned.children) (ap children_told c.in-Some.is) c.in_ok-turned.ensures.turned in (
+      next_each was now after c.args.roots c.args.expansions.now c.loop-turned.turns c.loop-turned.known c.loop-turned.expansions c.turn.new.expansions c.loop-turned.invariant.0 c.in-Some.turned.children c.from-known-in-Some.result c.from-known-in-Some.ensures turn,
       omega (arith, c.if-known-from-2.false, c.from-in-Some.ensures),
-      omega (arith, c.loop-children.invariant.2, c.if-turns-budget.false),
+      omega (arith, c.loop-turned.invariant.2, c.if-turns-budget.false),
+      g.met.W.Worker.keeps_on c.args.worker.now c.loop-turned.worker c.turn.new.self c.loop-turned.invariant.3 c.turn.ensures.kept,
+      omega (arith, c.loop-turned.invariant.4, c.turn.ensures.counted),
+      omega (arith, c.loop-turned.invariant.5, c.turn.ensures.once),
+      omega (arith, c.loop-turned.invariant.6, c.calls-calls.ensures, ap calls_told c.in-Some.is, c.in_ok-turned.ensures.called),
+      omega (arith, c.loop-turned.invariant.7, c.calls-calls.ensures, calls_most c.in-Some.turned.expanded),
     )
 
-pub returns-then-count-budget : goal.returns-then-count-budget
-returns-then-count-budget g c = λ start ready.
-    let still = idle g.W.Worker.edit (g.W.Worker.state c.loop-children.worker) (g.W.Worker.state c.turn.new.self) c.in_ok-children.field-0 c.in_default.is c.in_ok-children.ensures in
-    ends_over g.W.Worker.edit start (g.W.Worker.state c.args.worker.now) (g.W.Worker.state c.loop-children.worker) (g.W.Worker.state c.turn.new.self) c.args.roots c.loop-children.turns c.loop-children.known c.args.budget ready (c.loop-children.invariant.0 start ready) still c.count.ensures.once (omega (arith, c.if-count-budget.true, c.count.ensures.number)) c.loop-children.invariant.2
+pub returns-then-count-budget-clause-ended : goal.returns-then-count-budget-clause-ended
+returns-then-count-budget-clause-ended g c =
+    let was = g.W.Worker.means c.args.worker.now in
+    let now = g.W.Worker.means c.loop-turned.worker in
+    let after = g.W.Worker.means c.turn.new.self in
+    let idle = told was now after c.args.roots c.args.expansions.now c.loop-turned.expansions c.turn.new.expansions (children_told c.in_ok-turned.field-0) None (ap children_told c.in_default.is) c.in_ok-turned.ensures.turned in
+    ends_over was now after c.args.roots c.args.expansions.now c.loop-turned.turns c.loop-turned.known c.loop-turned.expansions c.turn.new.expansions c.loop-turned.invariant.0 c.args.budget c.count.result idle c.count.ensures c.if-count-budget.true
 
-pub returns : goal.returns
-returns g c = λ start ready.
-    let still = idle g.W.Worker.edit (g.W.Worker.state c.loop-children.worker) (g.W.Worker.state c.turn.new.self) c.in_ok-children.field-0 c.in_default.is c.in_ok-children.ensures in
-    ends_done g.W.Worker.edit start (g.W.Worker.state c.args.worker.now) (g.W.Worker.state c.loop-children.worker) (g.W.Worker.state c.turn.new.self) c.args.roots c.loop-children.turns c.loop-children.known c.args.budget ready (c.loop-children.invariant.0 start ready) still c.count.ensures.once (omega (arith, c.if-count-budget.false, c.count.ensures.number))
+pub returns-clause-ended : goal.returns-clause-ended
+returns-clause-ended g c =
+    let was = g.W.Worker.means c.args.worker.now in
+    let now = g.W.Worker.means c.loop-turned.worker in
+    let after = g.W.Worker.means c.turn.new.self in
+    let idle = told was now after c.args.roots c.args.expansions.now c.loop-turned.expansions c.turn.new.expansions (children_told c.in_ok-turned.field-0) None (ap children_told c.in_default.is) c.in_ok-turned.ensures.turned in
+    ends_done was now after c.args.roots c.args.expansions.now c.loop-turned.turns c.loop-turned.known c.loop-turned.expansions c.turn.new.expansions c.loop-turned.invariant.0 c.args.budget c.count.result idle c.count.ensures c.loop-turned.calls (omega (arith, c.if-count-budget.false))
+
+pub returns-clause-called : goal.returns-clause-called
+returns-clause-called g c = omega (arith, c.loop-turned.invariant.6, ap calls_told c.in_default.is, c.in_ok-turned.ensures.called)

@@ -1,12 +1,14 @@
-use Rattle.std.proofs.Common.{List, ◌-◌, ◌≤◌}
-use Rattle.cga_order.specs.Agenda.{Node}
-use Rattle.cga_agenda.specs.Loop.{IsReady, Knows}
+use Rattle.std.proofs.Common.{◌≡◌, ◌+◌, ◌-◌, ◌≤◌}
+use Rattle.cga_agenda.specs.Loop.{KnowsEach}
 use Rattle.cga_agenda.proofs.agenda.work.Given as goal
 
-abbrev pub invariant-loop-children : goal.invariant-loop-children
-invariant-loop-children g l =
-    ((start : List (Node g.row.N.Denot g.row.A.Denot g.row.F.Denot g.row.P.Denot)) → IsReady g.W.Worker.edit start (g.W.Worker.state l.fn.worker) l.roots → Knows g.W.Worker.edit start (g.W.Worker.state l.fn.worker) (g.W.Worker.state l.worker) l.turns l.known)
+abbrev pub invariant-loop-turned : goal.invariant-loop-turned
+invariant-loop-turned g l =
+    KnowsEach (g.W.Worker.means l.fn.worker) (g.W.Worker.means l.worker) l.roots l.turns l.known l.fn.expansions l.expansions
     × (l.known ≤ l.budget) × (l.turns ≤ l.budget)
+    × g.W.Worker.keeps l.fn.worker l.worker
+    × (l.fn.expansions ≤ l.expansions) × (l.expansions ≤ l.fn.expansions + l.turns)
+    × (l.expansions ≡ l.fn.expansions + l.calls) × (l.calls ≤ l.turns)
 
-abbrev pub decreases-loop-children : goal.decreases-loop-children
-decreases-loop-children g l = l.budget - l.turns
+abbrev pub decreases-loop-turned : goal.decreases-loop-turned
+decreases-loop-turned g l = l.budget - l.turns
