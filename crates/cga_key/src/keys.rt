@@ -1,0 +1,50 @@
+ghost use Rattle.std.specs.Prelude.{◌≡◌, IfOk, ◌++◌, ◌∷◌, []};
+ghost use Rattle.cga_key.specs.Children.{IsChildKey, IsRootKey};
+
+use crate::stamp_key::StampKey;
+use cga_fraction::{List, NoMemory};
+use cga_order::Path;
+use cga_word::{Mode, Name};
+use std::alloc::Global;
+
+/// The key of a lot's root, whose symbol has this priority. Takes memory.
+pub fn root_key(alloc: Global, mode: Mode, lot: Name, priority: u16) -> Result<StampKey, NoMemory>
+    ensures { IfOk result (λ key. IsRootKey mode lot priority key) }
+{
+    let mut priorities = List::new(alloc);
+    priorities.push(priority)?;
+    Ok(StampKey {
+        mode,
+        lot,
+        path: List::new(alloc),
+        priorities,
+    })
+}
+
+/// The key of a child of a shape, whose symbol has this priority. Takes memory for both lists.
+pub fn child_key(
+    alloc: Global,
+    parent: &StampKey,
+    index: u16,
+    priority: u16,
+) -> Result<StampKey, NoMemory>
+    ensures { IfOk result (λ key. IsChildKey parent.now index priority key) }
+{
+    let path = child_path(alloc, &parent.path, index)?;
+    let priorities = child_path(alloc, &parent.priorities, priority)?;
+    Ok(StampKey {
+        mode: parent.mode,
+        lot: parent.lot,
+        path,
+        priorities,
+    })
+}
+
+/// A list with one more number behind it. Takes memory for all of it.
+pub fn child_path(alloc: Global, parent: &Path, index: u16) -> Result<Path, NoMemory>
+    ensures { IfOk result (λ path. path ≡ parent.now ++ index ∷ []) }
+{
+    let mut path = Vec::from_slice(alloc, parent.as_slice())?;
+    path.push(index)?;
+    Ok(List::from_vec(path))
+}

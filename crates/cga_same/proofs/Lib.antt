@@ -1,0 +1,5 @@
+pub mod Lists
+pub mod ById
+pub mod Values
+pub mod Groups
+pub mod Trees
