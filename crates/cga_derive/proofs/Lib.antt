@@ -1,7 +1,7 @@
 pub mod Compared
 pub mod Reading
-pub mod KeyAgrees
 pub mod Placing
 pub mod PlaceAll
 pub mod Working
 pub mod Starting
+pub mod Boxes

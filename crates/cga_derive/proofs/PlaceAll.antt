@@ -6,7 +6,7 @@ use Rattle.cga_derivation.specs.Sites.{SitesApart}
 use Rattle.cga_derivation.proofs.Along.{length-map, map-append}
 use Rattle.cga_derivation.proofs.Ends.{apart-left, append_assoc_one}
 use Rattle.cga_shape.specs.declared.sources.Sources.{Sources}
-use Rattle.cga_derive.specs.declared.key.StampKey.{StampKey}
+use Rattle.cga_key.specs.declared.stamp_key.StampKey.{StampKey}
 use Rattle.cga_shape.specs.declared.emitted.Emitted.{Emitted}
 use Rattle.cga_expand.specs.Children.{Member, placed_at, placed_from}
 use Rattle.cga_expand.specs.Derivation.{derivation_of}

@@ -10,7 +10,7 @@ use Rattle.cga_derivation.specs.Sites.{sited, chain_of}
 use Rattle.cga_derivation.proofs.Sites.{fitted-same}
 use Rattle.cga_derivation.proofs.Keys.{key-push, key-skip}
 use Rattle.cga_shape.specs.declared.sources.Sources.{Sources}
-use Rattle.cga_derive.specs.declared.key.StampKey.{StampKey}
+use Rattle.cga_key.specs.declared.stamp_key.StampKey.{StampKey}
 use Rattle.cga_derivation.proofs.Lists.{some_same, none_some}
 use Rattle.cga_shape.specs.declared.emitted.Emitted.{Emitted}
 use Rattle.cga_shape.specs.declared.emitted.Emitted.TheVariants.{Child, Solid}
@@ -18,9 +18,10 @@ use Rattle.cga_shape.specs.declared.shape_fault.ShapeFault.{ShapeFault}
 use Rattle.cga_expand.specs.Derivation.{priority_of}
 use Rattle.cga_expand.specs.Children.{Member, placed_at}
 use Rattle.cga_expand.specs.Derivation.{derivation_of}
-use Rattle.cga_derive.specs.Key.{chain_of_key, key_cmp}
-use Rattle.cga_derive.specs.Run.{AddsKey, IsChildKey, KeepsKeys, HasKeys, waiting_symbol}
-use Rattle.cga_derive.proofs.KeyAgrees.{agrees}
+use Rattle.cga_key.specs.Key.{chain_of_key, key_cmp}
+use Rattle.cga_derive.specs.Run.{AddsKey, KeepsKeys, HasKeys, waiting_symbol}
+use Rattle.cga_key.specs.Children.{IsChildKey}
+use Rattle.cga_key.proofs.KeyAgrees.{agrees}
 
 module _ (sources : Sources) (parent : StampKey) (own : List ℕ) (index : ℕ) (list : List Member) (old new : List (StampKey × ℕ)) where
   pub child-keys : (symbol : List ℕ) (args : List Rat) (scope : Scope) (seed : ℕ) (key : StampKey) (place : ℕ) → IsChildKey parent index (priority_of sources.grammar symbol) key → place ≡ length list → new ≡ insert_entry key_cmp old key place → KeepsKeys sources parent (sited parent.priorities (placed_at parent.lot parent.path own index (Child symbol args scope seed)) ∷ []) list old new

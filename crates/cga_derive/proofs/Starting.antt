@@ -7,16 +7,17 @@ use Rattle.cga_derivation.specs.Sites.{chain_of}
 use Rattle.cga_derivation.proofs.Ends as ends
 use Rattle.cga_shape.specs.declared.lot.Lot.{Lot}
 use Rattle.cga_shape.specs.declared.sources.Sources.{Sources}
-use Rattle.cga_derive.specs.declared.key.StampKey.{StampKey}
+use Rattle.cga_key.specs.declared.stamp_key.StampKey.{StampKey}
 use Rattle.cga_expand.specs.Derivation.{priority_of}
 use Rattle.cga_expand.specs.Children.{Member}
 use Rattle.cga_shape.specs.Root.{root_of}
 use Rattle.cga_shape.specs.declared.shape.Shape.{Shape}
 use Rattle.cga_expand.specs.Derivation.{made, roots_of, derivation_of, NamesDiffer}
-use Rattle.cga_derive.specs.Key.{chain_of_key, key_cmp}
-use Rattle.cga_derive.specs.Run.{Sites, HasKeys, IsAfter, IsRootKey}
+use Rattle.cga_key.specs.Key.{chain_of_key, key_cmp}
+use Rattle.cga_derive.specs.Run.{Sites, HasKeys, IsAfter}
 use Rattle.cga_expand.proofs.Instance.{sources_are_derivations, root_is}
-use Rattle.cga_derive.proofs.KeyAgrees.{agrees}
+use Rattle.cga_key.specs.Children.{IsRootKey}
+use Rattle.cga_key.proofs.KeyAgrees.{agrees}
 
 -- the roots of so many lots, all waiting, and the same as sites
 abbrev pub roots_up : List Lot → ℕ → List Member

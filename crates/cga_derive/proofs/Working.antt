@@ -19,13 +19,13 @@ use Rattle.cga_derivation.proofs.Stamps.{rises, in_order}
 use Rattle.cga_derivation.proofs.Turn as turns
 use Rattle.cga_derivation.proofs.Ends as ends
 use Rattle.cga_shape.specs.declared.sources.Sources.{Sources}
-use Rattle.cga_derive.specs.declared.key.StampKey.{StampKey}
+use Rattle.cga_key.specs.declared.stamp_key.StampKey.{StampKey}
 use Rattle.cga_shape.specs.declared.shape_fault.ShapeFault.{ShapeFault}
 use Rattle.cga_shape.specs.declared.emitted.Emitted.{Emitted}
 use Rattle.cga_expand.specs.Expand.{expand_of}
 use Rattle.cga_expand.specs.Children.{Member, placed_from, placed_by}
 use Rattle.cga_expand.specs.Derivation.{children_of, derivation_of, NamesDiffer}
-use Rattle.cga_derive.specs.Key.{chain_of_key, key_cmp}
+use Rattle.cga_key.specs.Key.{chain_of_key, key_cmp}
 use Rattle.cga_derive.specs.Run.{Sites, HasKeys, KeepsKeys, sited_children, IsAfter, IsInTurnOf}
 use Rattle.cga_expand.proofs.Instance.{sources_are_derivations}
 use Rattle.cga_derivation.proofs.Lists.{some_same, none_some}
@@ -33,7 +33,7 @@ use Rattle.cga_derive.specs.declared.symbol.Symbol.{Symbol}
 use Rattle.cga_derive.specs.Compared.{answers_with}
 use Rattle.cga_derive.specs.Symbols.{symbol_of}
 use Rattle.cga_derive.proofs.Compared.{answers-are}
-use Rattle.cga_derive.proofs.KeyAgrees.{agrees}
+use Rattle.cga_key.proofs.KeyAgrees.{agrees}
 
 read : {X : Type 0} (xs : List X) (i : ℕ) (m d : X) → slice_get xs i ≡ Some m → get_or xs i d ≡ m
 read [] i m d e = none_some m e

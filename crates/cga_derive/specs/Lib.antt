@@ -1,5 +1,3 @@
-pub mod Key
-pub mod KeyLaws
 pub mod Symbols
 pub mod Compared
 pub mod Run

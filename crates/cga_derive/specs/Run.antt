@@ -1,7 +1,6 @@
 -- What a run keeps from turn to turn.
-use Rattle.std.specs.Prelude.{◌≡◌, ℕ, List, [], ◌∷◌, ◌++◌, length, map, Option, Some, None}
+use Rattle.std.specs.Prelude.{◌≡◌, ℕ, List, ◌++◌, length, map, Option, Some, None}
 use Rattle.std.specs.BTreeMap.{insert_entry}
-use Rattle.cga_word.specs.declared.mode.Mode.{Mode}
 use Rattle.cga_derivation.specs.Sites.{Site, sited}
 use Rattle.cga_derivation.specs.Turns.{HasWaiting, IsAt, IsInTurn}
 use Rattle.cga_derivation.specs.Sites.{SitesApart}
@@ -10,12 +9,13 @@ use Rattle.cga_word.specs.declared.primitive.Primitive.{Primitive}
 use Rattle.cga_shape.specs.declared.sources.Sources.{Sources}
 use Rattle.cga_shape.specs.declared.shape.Shape.{Shape}
 use Rattle.cga_shape.specs.declared.shape_fault.ShapeFault.{ShapeFault}
-use Rattle.cga_derive.specs.declared.key.StampKey.{StampKey}
+use Rattle.cga_key.specs.declared.stamp_key.StampKey.{StampKey}
 use Rattle.cga_shape.specs.declared.emitted.Emitted.{Emitted}
 use Rattle.cga_shape.specs.declared.emitted.Emitted.TheVariants.{Child, Solid}
 use Rattle.cga_expand.specs.Children.{Member, placed_from}
 use Rattle.cga_expand.specs.Derivation.{derivation_of}
-use Rattle.cga_derive.specs.Key.{chain_of_key, key_cmp}
+use Rattle.cga_key.specs.Key.{chain_of_key, key_cmp}
+use Rattle.cga_key.specs.Children.{IsChildKey}
 
 abbrev pub Sites : Type 0
 Sites = List (Placed (Site Shape) ShapeFault Primitive)
@@ -32,19 +32,6 @@ IsAfter sources n list entries = IsAt (derivation_of sources) (λ k. k.mode) cha
 abbrev pub IsInTurnOf : Sources → ℕ → StampKey → ℕ → List Member → List (StampKey × ℕ) → Type 0
 IsInTurnOf sources n key at list entries =
     IsInTurn (derivation_of sources) (λ k. k.mode) chain_of_key key_cmp n key at list entries
-
--- the key of child i of a shape, whose symbol has this priority
-pub record IsChildKey (parent : StampKey) (i priority : ℕ) (key : StampKey) : Type 0 where
-  pub mode : key.mode ≡ parent.mode
-  pub lot : key.lot ≡ parent.lot
-  pub path : key.path ≡ parent.path ++ i ∷ []
-  pub priorities : key.priorities ≡ parent.priorities ++ priority ∷ []
-
-pub record IsRootKey (of : Mode) (name : List ℕ) (priority : ℕ) (key : StampKey) : Type 0 where
-  pub mode : key.mode ≡ of
-  pub lot : key.lot ≡ name
-  pub path : key.path ≡ []
-  pub priorities : key.priorities ≡ priority ∷ []
 
 -- the key of such a child comes to the entries, with the child's place in the list
 abbrev pub AddsKey : StampKey → ℕ → ℕ → ℕ → List (StampKey × ℕ) → List (StampKey × ℕ) → Type 0

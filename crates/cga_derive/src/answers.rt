@@ -3,28 +3,36 @@ ghost use Rattle.std.specs.Prelude.{◌≡◌};
 ghost use Rattle.cga_frame.specs.Box.{box_of};
 ghost use Rattle.cga_order.specs.World.{is_waiting};
 ghost use Rattle.cga_expand.specs.Asked.{answer_if, on_path};
-ghost use Rattle.cga_derive.specs.Compared.{answers_with, compared, is_about, targeted};
+ghost use Rattle.cga_derive.specs.Compared.{IsBoxed, answers_with, compared, is_about, targeted};
 
 use crate::symbol::Symbol;
 use cga_frame::WorldBox;
 use cga_shape::{Answers, Kind, Placed, Shape};
 use cga_word::{Answer, Target};
 
-/// The answers of a shape of this symbol.
-pub fn asked(symbol: Symbol, list: &[Placed], shape: &Shape) -> Answers
+/// The answers of a shape of this symbol. The boxes are those of the members.
+pub fn asked(symbol: Symbol, list: &[Placed], boxes: &[WorldBox], shape: &Shape) -> Answers
+    requires { IsBoxed list.now boxes.now }
     ensures { result ≡ answers_with symbol list.now shape.now }
 {
     Answers {
-        noparent: answer(symbol.noparent, list, shape, Target::Noparent),
-        active: answer(symbol.active, list, shape, Target::Active),
+        noparent: answer(symbol.noparent, list, boxes, shape, Target::Noparent),
+        active: answer(symbol.active, list, boxes, shape, Target::Active),
     }
 }
 
-fn answer(mentioned: bool, list: &[Placed], shape: &Shape, target: Target) -> Option<Answer>
+fn answer(
+    mentioned: bool,
+    list: &[Placed],
+    boxes: &[WorldBox],
+    shape: &Shape,
+    target: Target,
+) -> Option<Answer>
+    requires { IsBoxed list.now boxes.now }
     ensures { result ≡ answer_if mentioned shape.now (targeted target list.now) }
 {
     if mentioned {
-        Some(compared(list, shape, &shape.scope.world_box(), target))
+        Some(compared(list, boxes, shape, &shape.scope.world_box(), target))
     } else {
         None
     }
@@ -32,14 +40,22 @@ fn answer(mentioned: bool, list: &[Placed], shape: &Shape, target: Target) -> Op
 
 // One walk, which stops at the first member that fills the box. Most members don't meet it, so that is
 // looked at before their paths.
-fn compared(list: &[Placed], shape: &Shape, own: &WorldBox, target: Target) -> Answer
-    requires { own.now ≡ box_of shape.now.scope }
+fn compared(
+    list: &[Placed],
+    boxes: &[WorldBox],
+    shape: &Shape,
+    own: &WorldBox,
+    target: Target,
+) -> Answer
+    requires boxed { IsBoxed list.now boxes.now }
+    requires own { own.now ≡ box_of shape.now.scope }
     ensures { result ≡ compared target shape.now list.now }
 {
     let mut meets = false;
-    for member in list {
+    for at in 0..list.len() {
+        let member = &list[at];
         if is_about(target, member) {
-            let other = member.shape.scope.world_box();
+            let other = &boxes[at];
             if other.meets(own) {
                 if !is_on_path(&member.shape, shape) {
                     if other.holds(own) {

@@ -7,8 +7,6 @@
 
 mod answers;
 mod derivation;
-mod key;
-mod keys;
 pub mod laws;
 mod members;
 mod over_budget;

@@ -2,8 +2,8 @@ ghost use Rattle.std.specs.Prelude.{◌≡◌, ◌++◌, ◌∷◌, []};
 ghost use Rattle.cga_expand.specs.Children.{placed_at};
 ghost use Rattle.cga_derive.specs.Run.{waiting_symbol};
 
-use crate::key::StampKey;
 use cga_fraction::List;
+use cga_key::StampKey;
 use cga_order::Path;
 use cga_shape::{Emitted, Kind, Placed, Shape};
 use cga_word::Name;

@@ -4,16 +4,17 @@ ghost use Rattle.cga_expand.specs.Children.{placed_at, placed_from};
 ghost use Rattle.cga_expand.specs.Derivation.{NamesDiffer, priority_of};
 ghost use Rattle.cga_expand.specs.Validity.{RootsExist};
 ghost use Rattle.cga_expand.specs.declared.limits.TheConstants.{MOST_CHILDREN};
+ghost use Rattle.cga_derive.specs.Compared.{IsBoxed};
 ghost use Rattle.cga_derive.specs.Run.{AddsKey, IsAfter, IsInTurnOf, KeepsKeys, sited_children};
 ghost use Rattle.cga_derive.specs.Symbols.{IsRead};
 
 use crate::answers::asked;
-use crate::key::StampKey;
-use crate::keys::{child_key, child_path, root_key};
 use crate::members::{member_of, waiting_symbol};
 use crate::symbols::Symbols;
 use cga_expand::expand;
 use cga_fraction::{List, NoMemory, Steps};
+use cga_frame::WorldBox;
+use cga_key::{StampKey, child_key, child_path, root_key};
 use cga_rule::Grammar;
 use cga_shape::{Emitted, Kind, Placed, Sources, root_shape};
 use cga_word::Name;
@@ -21,10 +22,11 @@ use std::alloc::Global;
 use std::collections::BTreeMap;
 use std::sync::ledger::Ledger;
 
-/// The list so far, and the place in it of each waiting member, by stamp.
+/// The list so far with the box of each member, and the place in it of each waiting member, by stamp.
 #[derive(Drop)]
 pub struct Run {
     pub list: Vec<Placed>,
+    pub boxes: Vec<WorldBox>,
     pub waiting: BTreeMap<StampKey, usize>,
     pub symbols: Symbols,
 }
@@ -43,6 +45,7 @@ impl Run {
         ensures key { OnOk result (AddsKey parent.now index (priority_of grammar.now symbol)
             (length self.old.list.items) self.old.waiting.entries self.new.waiting.entries) }
         ensures list { self.new.list ≡ self.old.list }
+        ensures boxes { self.new.boxes ≡ self.old.boxes }
         ensures read { OnOk result (IsRead grammar.now self.new.symbols.read) }
     {
         let found = self.symbols.of(alloc, grammar, symbol)?;
@@ -62,20 +65,24 @@ impl Run {
         index: u16,
         emitted: Emitted,
     ) -> Result<(), NoMemory>
-        requires { IsRead sources.now.grammar self.old.symbols.read }
+        requires read { IsRead sources.now.grammar self.old.symbols.read }
+        requires boxed { IsBoxed self.old.list.items self.old.boxes.items }
         ensures list { OnOk result (self.new.list.items ≡ self.old.list.items
             ++ placed_at parent.now.lot parent.now.path own index emitted ∷ []) }
         ensures keys { OnOk result (KeepsKeys sources.now parent.now
             (sited parent.now.priorities (placed_at parent.now.lot parent.now.path own index emitted) ∷ [])
             self.old.list.items self.old.waiting.entries self.new.waiting.entries) }
         ensures read { OnOk result (IsRead sources.now.grammar self.new.symbols.read) }
+        ensures boxed { OnOk result (IsBoxed self.new.list.items self.new.boxes.items) }
     {
         let path = child_path(alloc, &parent.path, index)?;
         if let Some(symbol) = waiting_symbol(&emitted) {
             self.wait(alloc, &sources.grammar, parent, index, symbol)?;
         }
-        self.list
-            .push(member_of(alloc, parent, path, own, index, emitted))?;
+        let member = member_of(alloc, parent, path, own, index, emitted);
+        let bounds = member.shape.scope.world_box();
+        self.list.push(member)?;
+        self.boxes.push(bounds)?;
         Ok(())
     }
 
@@ -90,12 +97,14 @@ impl Run {
     ) -> Result<(), NoMemory>
         requires few { length emitted ≤ MOST_CHILDREN }
         requires read { IsRead sources.now.grammar self.old.symbols.read }
+        requires boxed { IsBoxed self.old.list.items self.old.boxes.items }
         ensures list { OnOk result (self.new.list.items ≡ self.old.list.items
             ++ placed_from parent.now.lot parent.now.path own 0 emitted) }
         ensures keys { OnOk result (KeepsKeys sources.now parent.now
             (sited_children parent.now own 0 emitted)
             self.old.list.items self.old.waiting.entries self.new.waiting.entries) }
         ensures read { OnOk result (IsRead sources.now.grammar self.new.symbols.read) }
+        ensures boxed { OnOk result (IsBoxed self.new.list.items self.new.boxes.items) }
     {
         let mut index: u16 = 0;
         for child in emitted.into_vec() {
@@ -117,10 +126,12 @@ impl Run {
         requires names { NamesDiffer sources.now.lots }
         requires within { place < vec_len self.old.list }
         requires read { IsRead sources.now.grammar self.old.symbols.read }
+        requires boxed { IsBoxed self.old.list.items self.old.boxes.items }
         ensures turn { OnOk result ((n : ℕ)
             → IsInTurnOf sources.now n key.now place self.old.list.items self.old.waiting.entries
             → IsAfter sources.now (suc n) self.new.list.items self.new.waiting.entries) }
         ensures read { OnOk result (IsRead sources.now.grammar self.new.symbols.read) }
+        ensures boxed { OnOk result (IsBoxed self.new.list.items self.new.boxes.items) }
         ensures ticks { OnOk result (expansions.new ≡ expansions.old + 1) }
         ensures counted { expansions.old ≤ expansions.new }
         ensures most { expansions.new ≤ expansions.old + 1 }
@@ -128,7 +139,7 @@ impl Run {
         let own = self.list[place].shape.symbol;
         let symbol = self.symbols.of(alloc, &sources.grammar, own)?;
         let shape = &self.list[place].shape;
-        let answers = asked(symbol, self.list.as_slice(), shape);
+        let answers = asked(symbol, self.list.as_slice(), self.boxes.as_slice(), shape);
         match expand(alloc, &sources.grammar, shape, &answers, expansions)? {
             Ok(emitted) => {
                 self.list[place].kind = Kind::Done;
@@ -148,8 +159,10 @@ impl Run {
         requires roots { RootsExist sources.now.lots }
         ensures after { IfOk result (λ run. IsAfter sources.now 0 run.list.items run.waiting.entries) }
         ensures read { IfOk result (λ run. IsRead sources.now.grammar run.symbols.read) }
+        ensures boxed { IfOk result (λ run. IsBoxed run.list.items run.boxes.items) }
     {
         let mut list = Vec::new(alloc);
+        let mut boxes = Vec::new(alloc);
         let mut waiting = BTreeMap::new(alloc);
         let mut symbols = Symbols::new(alloc);
         for lot in sources.lots.as_slice() {
@@ -157,13 +170,17 @@ impl Run {
             let key = root_key(alloc, sources.mode, lot.name, found.priority)?;
             let place = list.len();
             waiting.insert(key, place)?;
+            let shape = root_shape(alloc, lot);
+            let bounds = shape.scope.world_box();
             list.push(Placed {
-                shape: root_shape(alloc, lot),
+                shape,
                 kind: Kind::Waiting,
             })?;
+            boxes.push(bounds)?;
         }
         Ok(Run {
             list,
+            boxes,
             waiting,
             symbols,
         })
@@ -174,6 +191,7 @@ impl Run {
     {
         let Run {
             list,
+            boxes: _,
             waiting: _,
             symbols: _,
         } = self;

@@ -40,6 +40,7 @@ turns-preserved g c =
     let one : suc c.turns.done ≡ c.turns.done + 1 = omega arith in record {
       after = subst (λ n. IsAfter c.args.sources.now n c.turn.new.self.list.items c.turn.new.self.waiting.entries) one (c.in_ok-turn.ensures.turn c.turns.done turn);
       read = c.in_ok-turn.ensures.read;
+      boxed = c.in_ok-turn.ensures.boxed;
       count = omega (arith, c.turns.invariant.count, c.in_ok-turn.ensures.ticks);
     }
 

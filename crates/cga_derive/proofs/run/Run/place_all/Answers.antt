@@ -12,6 +12,7 @@ loop-child-preserved c =
       index = ap (λ n. n + 1) i ∙ sym (length-append c.loop-child.yielded (c.in-Some.child ∷ []));
       list = list-more c.args.sources.now c.args.parent.now c.args.own c.loop-child.yielded c.in-Some.child c.args.self.now.list.items c.loop-child.self.list.items c.place.new.self.list.items c.loop-child.index i l c.in_ok-place.ensures.list;
       read = c.in_ok-place.ensures.read;
+      boxed = c.in_ok-place.ensures.boxed;
       keys = keys-more c.args.sources.now c.args.parent.now c.args.own c.loop-child.yielded c.in-Some.child c.args.self.now.list.items c.loop-child.self.list.items c.args.self.now.waiting.entries c.loop-child.self.waiting.entries c.place.new.self.waiting.entries c.loop-child.index i l c.loop-child.invariant.keys c.in_ok-place.ensures.keys;
     }
 

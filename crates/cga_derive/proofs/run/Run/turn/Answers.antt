@@ -1,8 +1,9 @@
 use Rattle.std.proofs.Common.{◌<◌, ◌++◌, length, ap, ◌∙◌, subst, arith}
 use Rattle.std.specs.Prelude.{slice_set}
-use Rattle.cga_order.specs.declared.placed.Kind.TheVariants.{Done}
+use Rattle.cga_order.specs.declared.placed.Kind.TheVariants.{Done, Faulted}
 use Rattle.cga_expand.specs.Children.{Member, placed_from}
 use Rattle.cga_derive.specs.Run.{KeepsKeys, sited_children}
+use Rattle.cga_derive.proofs.Boxes.{boxed_set, boxed_still}
 use Rattle.cga_derive.proofs.Working.{asks-are, working-fault, working-done, same_read}
 use Rattle.cga_derive.proofs.run.Run.turn.Goals as goal
 
@@ -29,3 +30,15 @@ returns-in-Err-clause-turn g c = λ n turn.
     let same = same_read list c.args.place c.index.result.now c.index-2.result.now within c.index.ensures c.index-2.ensures in
     let asks = asks-are sources list c.as_slice.result.now c.index.result.now c.index-2.result.now c.in_ok-symbol.symbol c.asked-answers.result same c.in_ok-symbol.ensures.value c.as_slice.ensures.value c.asked-answers.ensures in
     working-fault sources c.requires.names n c.args.key.now c.args.place list c.args.self.now.waiting.entries turn c.index_mut-in-Err.result.now c.index-2.result.now c.asked-answers.result c.in_ok-emitted.field-0 c.in-Err.fault c.index_mut-in-Err.ensures.value c.index-2.ensures asks c.in_ok-emitted.ensures.value c.in-Err.is
+
+pub asked-answers-requires : goal.asked-answers-requires
+asked-answers-requires g c =
+    boxed_still c.args.self.now.list.items c.as_slice.result.now c.args.self.now.boxes.items c.as_slice-2.result.now c.requires.boxed c.as_slice.ensures.value c.as_slice-2.ensures.value
+
+pub place_all-requires-clause-boxed : goal.place_all-requires-clause-boxed
+place_all-requires-clause-boxed g c =
+    boxed_set c.args.self.now.list.items c.args.self.now.boxes.items c.args.place c.index_mut.result.now Done c.index_mut.ensures.value c.requires.boxed
+
+pub returns-in-Err-clause-boxed : goal.returns-in-Err-clause-boxed
+returns-in-Err-clause-boxed g c =
+    boxed_set c.args.self.now.list.items c.args.self.now.boxes.items c.args.place c.index_mut-in-Err.result.now (Faulted c.in-Err.fault) c.index_mut-in-Err.ensures.value c.requires.boxed

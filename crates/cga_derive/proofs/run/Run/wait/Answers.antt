@@ -1,8 +1,8 @@
 use Rattle.std.proofs.Common.{ap, subst, ◌∙◌}
 use Rattle.std.specs.BTreeMap.{insert_entry}
 use Rattle.cga_derive.specs.declared.symbol.Symbol.{Symbol}
-use Rattle.cga_derive.specs.Key.{key_cmp}
-use Rattle.cga_derive.specs.Run.{IsChildKey}
+use Rattle.cga_key.specs.Key.{key_cmp}
+use Rattle.cga_key.specs.Children.{IsChildKey}
 use Rattle.cga_derive.specs.Symbols.{symbol_of}
 use Rattle.cga_derive.proofs.run.Run.wait.Goals as goal
 
