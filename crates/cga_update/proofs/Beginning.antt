@@ -1,0 +1,299 @@
+-- The roots that went and came, and the first agenda, are the beginning of the work.
+use Rattle.std.proofs.Common.{◌≡◌, ◌⊎◌, inl, inr, ℕ, List, [], ◌∷◌, ◌++◌, map, length, Bool, true, false, not, ◌||◌, refl, sym, ap, ◌∙◌, subst, ◌&&◌, Option, Some, None, arith}
+use Rattle.std.specs.Prelude.{is_some, nat_eq, if◌then◌else◌}
+use Rattle.std.specs.List.{list_any}
+use Rattle.std.proofs.lemmas.Option.{slice_get_within}
+use lib.Pointwise.{bytes_decides}
+use Rattle.cga_word.specs.declared.mode.Mode.{Mode}
+use Rattle.cga_word.specs.declared.answers.Answers.{Answers}
+use Rattle.cga_word.specs.declared.primitive.Primitive.{Primitive}
+use Rattle.cga_word.specs.declared.target.Target.{Target}
+use Rattle.cga_word.specs.declared.target.Target.TheVariants.{Noparent, Active}
+use Rattle.cga_rule.specs.declared.grammar.Grammar.{Grammar}
+use Rattle.cga_check.specs.Uses.{same_name}
+use Rattle.cga_index.specs.Tree.{Member}
+use Rattle.cga_order.specs.World.{Among, is_instance}
+use Rattle.cga_agenda.specs.Loop.{IsReady, State}
+use Rattle.cga_agenda.specs.Record.{Drawn}
+use Rattle.cga_agenda.specs.Work.{IsBegun}
+use Rattle.cga_depend.specs.Pairs.{DependentsView, nodes_in}
+use Rattle.cga_derivation.proofs.Lists.{none_some, ok_same}
+use Rattle.cga_expand.proofs.Instance.{root_is}
+use Rattle.cga_expand.specs.Asked.{asks_for, group_asks}
+use Rattle.cga_expand.specs.Derivation.{priority_of}
+use Rattle.cga_expand.specs.Settings.{Setting, setting_of}
+use Rattle.cga_rework.specs.Agenda.{AreQueued}
+use Rattle.cga_rework.specs.Begin as theory
+use Rattle.cga_rework.specs.Changes.{ListsLost}
+use Rattle.cga_rework.specs.City as tree
+use Rattle.cga_rework.specs.Ranked.{Ranked}
+use Rattle.cga_rework.specs.Rules.{Shapes}
+use Rattle.cga_rework.proofs.Begun.{rerooted_is_city, roots_begin}
+use Rattle.cga_rework.proofs.Changes.{lists_are_changes}
+use Rattle.cga_rework.proofs.StandsAgain.{stands_again}
+use Rattle.cga_frame.specs.declared.scope_fault.ScopeFault.{ScopeFault}
+use Rattle.cga_shape.specs.Root.{root_of}
+use Rattle.cga_shape.specs.declared.drawn.Drawn as reported
+use Rattle.cga_shape.specs.declared.shape.Shape.{Shape}
+use Rattle.cga_shape.specs.declared.shape_fault.ShapeFault.{ShapeFault}
+use Rattle.cga_shape.specs.declared.sources.Sources.{Sources}
+use Rattle.cga_forest.specs.declared.moved.Moved.{Moved}
+use Rattle.cga_forest.specs.Moved.{ListsMoved, moved_of, primitive_of}
+use Rattle.cga_forest.specs.View.{Seen}
+use Rattle.cga_forest.specs.Tree.{ForestView, IsForest, marked_at, node_at}
+use Rattle.cga_update.specs.declared.log.Pairing.{Pairing}
+use Rattle.cga_update.specs.Agenda.{AgendaView}
+use Rattle.cga_update.specs.Begun.{IsFirst, StandsMarked}
+use Rattle.cga_update.specs.Edit.{asks_by, content, kept_nodes, meets_box, rules_of, shapes_of, the_edit}
+use Rattle.cga_update.specs.Log.{came_of, drawn_before, drawn_of, is_of, IsLogged, noted_all, StayAlike, went_of}
+use Rattle.cga_update.specs.Means.{told_ranked}
+use Rattle.cga_update.specs.Plain.{IsPlain}
+use Rattle.cga_update.specs.Queue.{on_of}
+use Rattle.cga_update.specs.Roots.{AllWanted, AreThere, Gains, HasLost, HasOldLots, IsRerooted, Loses}
+use Rattle.cga_update.proofs.Adding.{none_came}
+use Rattle.cga_update.proofs.RootShapes.{among_root, root_among}
+use Rattle.cga_update.proofs.Rooting.{rerooted as roots_changed, still}
+use Rattle.cga_update.proofs.Drawing.{lists_lost}
+use Rattle.cga_update.proofs.Edits.{is_edit, is_rules_edit}
+use Rattle.cga_update.proofs.Logged.{logged_more}
+use Rattle.cga_update.proofs.Lots.{root_name, same_lot}
+use Rattle.cga_update.proofs.Meeting.{sees_what_meets}
+use Rattle.cga_update.proofs.Nodes.{kept_bound}
+use Rattle.cga_update.proofs.Places.{same_node}
+
+same_number : (a b : ℕ) → nat_eq a b ≡ true → a ≡ b
+same_number a b e = grind (arith, e)
+
+-- ---- what of the grammars is the same
+
+asks_same : (old new : Grammar) (symbol : List ℕ) (target : Target) → setting_of old symbol ≡ setting_of new symbol → asks_for old symbol target ≡ asks_for new symbol target
+unfolding asks_for setting_of
+asks_same old new symbol target e = ap (λ (s : Setting). group_asks s.group target) e
+
+asks_by_same : (old new : Grammar) (s : Shape) → setting_of old s.symbol ≡ setting_of new s.symbol → asks_by old s ≡ asks_by new s
+asks_by_same old new s e =
+    ap (λ b. b || asks_for old s.symbol Active) (asks_same old new s.symbol Noparent e)
+    ∙ ap (λ b. asks_for new s.symbol Noparent || b) (asks_same old new s.symbol Active e)
+
+shapes_same : (old new : Sources) → old.mode ≡ new.mode → shapes_of old ≡ shapes_of new
+shapes_same old new e = ap (λ (m : Mode). record { mode = m; lot = λ (s : Shape). s.lot; path = λ (s : Shape). s.path }) e
+
+member_first : (x : ℕ) (xs : List ℕ) (c : ℕ) → (list_any (nat_eq c) xs ≡ true → Member xs c) → (b : Bool) → nat_eq c x ≡ b → list_any (nat_eq c) (x ∷ xs) ≡ true → Member (x ∷ xs) c
+member_first x xs c more true is h = inl (sym (same_number c x is))
+member_first x xs c more false is h = inr (more (ap (λ b. b || list_any (nat_eq c) xs) (sym is) ∙ h))
+
+member_of : (xs : List ℕ) (c : ℕ) → list_any (nat_eq c) xs ≡ true → Member xs c
+member_of [] c h = let z : false ≡ true = h in absurd (cc)
+member_of (x ∷ xs) c h = member_first x xs c (member_of xs c) (nat_eq c x) refl h
+
+logged_none : (V : ℕ → Option Seen) → IsLogged V V []
+unfolding noted_all
+logged_none V s c = refl
+
+drawn_none : (ms : List Moved) → ((m : Moved) → Among m ms → m.primitive ≡ None) → drawn_of ms ≡ []
+unfolding drawn_of
+drawn_none [] none = refl
+drawn_none (m ∷ ms) none = ap (λ o. drawn_before m o (drawn_of ms)) (none m (inl refl)) ∙ drawn_none ms (λ x h. none x (inr h))
+
+module _ (old new : Sources) (first v : ForestView) (d : DependentsView) (went came : List Moved) (a : AgendaView)
+    (stands : StandsMarked old new first d) (r : IsRerooted (node_at first) v went) (listed : ListsMoved (node_at v) (node_at first) came)
+    (wanted : AllWanted new v) (there : AreThere new v (length new.lots)) (first_laws : IsForest first) (laws : IsForest v) (agenda : IsFirst old new v d went came a) where
+  abbrev V : ℕ → Option Seen
+  V = node_at first
+
+  abbrev T : ℕ → Option Seen
+  T = node_at v
+
+  abbrev gone : ℕ → Bool
+  gone c = not (is_some (T c))
+
+  city : tree.Stands (shapes_of new) content (rules_of old) (asks_by old.grammar) V
+  city = subst (λ (s : Shapes Shape). tree.Stands s content (rules_of old) (asks_by old.grammar) V) (shapes_same old new stands.old_mode) stands.nodes
+
+  rerooted : theory.IsRerooted content V T gone
+  rerooted = record {
+    rest = λ c x vc. elim (r.rest c x vc) [
+      | inl t ↦ t ∙ sym (ap (λ o. if not (is_some o) then None else Some x) t)
+      | inr t ↦ t ∙ sym (ap (λ o. if not (is_some o) then None else Some x) t)
+    ];
+    along = λ c p x vc up. ap not (r.along c p x vc up);
+    top = λ c x none at. (r.came c x none at).top;
+    leaf = λ c x none at. (r.came c x none at).leaf;
+    waits = λ c x none at. (r.came c x none at).waits;
+    other = λ c b x y none at vb top shape priority. (r.came c x none at).other b y vb top shape priority;
+  }
+
+  -- a node that was there is as it was
+  was_there : (c : ℕ) (x : Seen) → T c ≡ Some x → (o : Option Seen) → V c ≡ o → (V c ≡ None) ⊎ (V c ≡ Some x)
+  was_there c x at None is = inl is
+  was_there c x at (Some y) is = elim (r.rest c y is) [
+    | inl t ↦ inr (is ∙ (sym t ∙ at))
+    | inr t ↦ none_some x (sym t ∙ at)
+  ]
+
+  came_on : (c : ℕ) (x : Seen) → V c ≡ None → T c ≡ Some x → on_of v a c ≡ true
+  came_on c x none at =
+      agenda.roots (moved_of c x) ((listed.each (moved_of c x)).1 (c, x, at, none, refl)) c x refl (at, ap is_instance (r.came c x none at).waits)
+
+  listed_under : (c : ℕ) (x : Seen) → V c ≡ Some x → is_instance x.node.kind ≡ false → Member (nodes_in d x.node.shape.symbol) c
+  listed_under c x vc inner = member_of (nodes_in d x.node.shape.symbol) c
+      (stands.dependents x.node.shape.symbol c
+      ∙ (ap (λ o. is_of o x.node.shape.symbol) vc
+      ∙ (ap (λ b. not b && same_name x.node.shape.symbol x.node.shape.symbol) inner ∙ (bytes_decides x.node.shape.symbol x.node.shape.symbol).1 refl)))
+
+  changed_on : (c : ℕ) (x : Seen) → T c ≡ Some x → is_instance x.node.kind ≡ false → (on_of v a c ≡ true) ⊎ (setting_of old.grammar x.node.shape.symbol ≡ setting_of new.grammar x.node.shape.symbol)
+  changed_on c x at inner = elim (was_there c x at (V c) refl) [
+    | inl none ↦ inl (came_on c x none at)
+    | inr vc ↦ elim (agenda.changed x.node.shape.symbol) [
+      | inl these ↦ inl (these c x (listed_under c x vc inner) (at, inner))
+      | inr same ↦ inr same
+    ]
+  ]
+
+  is_first : theory.IsFirstAgenda (shapes_of new) content (rules_of old) (rules_of new) (asks_by new.grammar) meets_box V T (on_of v a)
+  is_first = record {
+    came = came_on;
+    went = λ b c x y vb tb tc inner asks meet. agenda.near_went (moved_of b x) ((r.went.each (moved_of b x)).1 (b, x, vb, tb, refl)) c y (tc, inner) asks meet;
+    arrived = λ b c x y vb tb tc inner asks meet. agenda.near_came (moved_of b x) ((listed.each (moved_of b x)).1 (b, x, tb, vb, refl)) c y (tc, inner) asks meet;
+    changed = changed_on;
+    priced = λ c p x e tc up te inner. elim (was_there c x tc (V c) refl) [
+      | inl none ↦ none_some p (sym (r.came c x none tc).top ∙ up)
+      | inr vc ↦ elim (agenda.priced x.node.shape.symbol) [
+        | inl parents ↦ inl (parents c p x e (listed_under c x vc inner) tc up (te, (laws.present.places.child c p x e tc up te).inner))
+        | inr same ↦ inr (city.priced c x vc inner ∙ same)
+      ]
+    ];
+    asking = λ c x tc inner. elim (was_there c x tc (V c) refl) [
+      | inl none ↦ inl (came_on c x none tc)
+      | inr vc ↦ elim (changed_on c x tc inner) [
+        | inl on ↦ inl on
+        | inr same ↦ inr (city.asking c x vc inner ∙ asks_by_same old.grammar new.grammar x.node.shape same)
+      ]
+    ];
+  }
+
+  has_tops : tree.HasTops (shapes_of new) content (rules_of new) T
+  has_tops = record {
+    top = λ c x tc up.
+        let w = wanted c x tc up in
+        let z = root_is w.lot x.node.shape w.root.shape in (
+          root_among new.lots w.place w.lot x.node.shape w.listed w.root.shape,
+          w.root.priority ∙ ap (priority_of new.grammar) (ap (λ (s : Shape). s.symbol) z.1),
+        );
+    tops = λ s among.
+        let q = among_root new.lots s among in
+        let within = slice_get_within new.lots q.0 q.1 q.2 in
+        let t = there q.0 q.1 within q.2 in
+        let w = wanted t.0 t.1 t.2.0 t.2.1 in
+        let same : w.lot ≡ q.1 = same_lot new.lots stands.names w.place q.0 w.lot q.1 w.listed q.2 (sym (root_name w.lot t.1.node.shape w.root.shape) ∙ t.2.2) in
+        (t.0, t.1, t.2.0, t.2.1, ok_same {F = ScopeFault} t.1.node.shape s (sym w.root.shape ∙ (ap root_of same ∙ q.3)));
+    one_top = λ c b x y tc tb up up' lots.
+        (same_node v laws c b x y tc tb (lots, (laws.present.places.root c x tc up).path ∙ sym (laws.present.places.root b y tb up').path)).0;
+  }
+
+  new_city : tree.IsCity (shapes_of new) content (rules_of new) T
+  new_city = rerooted_is_city (shapes_of new) content (rules_of old) (rules_of new) V T gone city.city laws.present.tree rerooted
+      (λ c x none at. let z = laws.present.places.root c x at (r.came c x none at).top in record { inner = z.inner; path = z.path; line = z.line })
+      has_tops
+
+  pub begins : tree.IsUnderway (shapes_of new) content (rules_of new) (asks_by new.grammar) T (on_of v a)
+      × ((queued : Ranked Shape → Bool) × AreQueued (shapes_of new) content T (on_of v a) queued × IsBegun (the_edit old new) (kept_nodes first) (kept_nodes v) queued)
+  begins = roots_begin (shapes_of new) content (rules_of old) (rules_of new) (is_rules_edit old new stands.old_names stands.names) (asks_by old.grammar) (asks_by new.grammar) meets_box (sees_what_meets new)
+      V T (length first.slots) (length v.slots) gone (on_of v a) (kept_bound first) (kept_bound v) city new_city rerooted is_first
+
+  pub lost : (list : List (Drawn (Ranked Shape) Primitive)) × ListsLost content V T list × (map told_ranked list ≡ drawn_of went)
+  lost = lists_lost V T (λ c b x y at of same. (same_node first first_laws c b x y at of (ap (λ (s : Shape). s.lot) same, ap (λ (s : Shape). s.path) same)).0) went r.went
+
+  abbrev pub first_state : State (Ranked Shape) Answers ShapeFault Primitive
+  first_state = record { nodes = kept_nodes v; queued = begins.1.0; gone = lost.0; come = [] }
+
+  pub is_ready : IsReady (the_edit old new) (kept_nodes first) first_state (length (the_edit old new).new.roots)
+  is_ready = record {
+    laws = is_edit old new stands.old_names stands.names;
+    started = stands_again.start (shapes_of new) content (rules_of old) (rules_of new) (asks_by old.grammar) V (length first.slots) (kept_bound first) city;
+    begun = begins.1.2;
+    gone = lists_are_changes.roots (shapes_of new) content (rules_of old) (rules_of new) V T (length first.slots) (length v.slots) gone (kept_bound first) (kept_bound v) city.city new_city rerooted lost.0 lost.1;
+    come = refl;
+    roots = refl;
+  }
+
+  pub silent_now : (c : ℕ) (x : Seen) → T c ≡ Some x → is_instance x.node.kind ≡ true → x.node.asks ≡ false
+  silent_now c x at drawn = elim (was_there c x at (V c) refl) [
+    | inl none ↦ (let z : false ≡ true = sym (ap is_instance (r.came c x none at).waits) ∙ drawn in absurd (cc))
+    | inr vc ↦ stands.silent c x vc drawn
+  ]
+
+  pub plain_now : (c : ℕ) (x : Seen) → T c ≡ Some x → IsPlain x
+  plain_now c x at = elim (was_there c x at (V c) refl) [
+    | inl none ↦ (
+        let n = r.came c x none at in record {
+          bare = λ drawn. (let z : false ≡ true = sym (ap is_instance n.waits) ∙ drawn in absurd (cc));
+          childless = inr n.leaf;
+        })
+    | inr vc ↦ stands.plain c x vc
+  ]
+
+  pub came_drawn : drawn_of came ≡ []
+  came_drawn = drawn_none came (λ m h. let w = (listed.each m).0 h in
+      ap (λ (x : Moved). x.primitive) w.4 ∙ ap primitive_of (r.came w.0 w.1 w.3 w.2).waits)
+
+  pub logged : IsLogged (marked_at v) T (([] ++ went_of went) ++ came_of came)
+  logged s c =
+      logged_more V V T [] went came (logged_none V) r.went listed alike s c
+      ∙ ap (λ o. noted_all (([] ++ went_of went) ++ came_of came) s c (is_of o s)) (sym (r.marked c))
+    where
+      alike : StayAlike V T
+      alike k x y t vc tc = elim (was_there k y tc (V k) refl) [
+        | inl none ↦ none_some x (sym none ∙ vc)
+        | inr same ↦ ap (λ o. is_of o t) (sym same ∙ vc)
+      ]
+
+-- ---- before any root goes
+
+-- each root is of an old lot
+pub has_old_lots : (old new : Sources) (first : ForestView) (d : DependentsView) → StandsMarked old new first d → HasOldLots old.lots first
+has_old_lots old new first d stands c x at up =
+    let w = among_root old.lots x.node.shape (stands.nodes.city.tops.top c x at up).0 in
+    (w.0, w.1, w.2, sym (root_name w.1 x.node.shape w.3))
+
+pub parent_there : (first : ForestView) → IsForest first → (c p : ℕ) (x : Seen) → node_at first c ≡ Some x → x.parent ≡ Some p → (e : Seen) × (node_at first p ≡ Some e)
+parent_there first laws c p x at up = let w = laws.present.tree.up c p x at up in (w.0, w.1)
+
+pub nothing_lost : (old new : Sources) (first : ForestView) (d : DependentsView) (none : List Moved) → none ≡ [] → StandsMarked old new first d → IsForest first → HasLost (node_at first) first none
+nothing_lost old new first d none is stands laws = subst (λ (list : List Moved). HasLost (node_at first) first list) (sym is) (record {
+  marking = stands.marking;
+  marked = stands.marked;
+  rest = λ c x at. inl at;
+  none = λ c at. at;
+  along = λ c p x at up. let e = parent_there first laws c p x at up in ap is_some at ∙ sym (ap is_some e.1);
+  went = none_came (node_at first);
+})
+
+pub now_rerooted : (old new : Sources) (first before after : ForestView) (d : DependentsView) (went : List Moved) → StandsMarked old new first d → IsForest first
+    → HasLost (node_at first) before went → Loses new first before → Gains new before after → IsRerooted (node_at first) after went
+now_rerooted old new first before after d went stands laws lost loses gains =
+    roots_changed new (node_at first) first before after went (λ c. refl) (parent_there first laws) lost loses gains
+
+-- what came since the roots went is what wasn't at the mark
+pub came_since : (V : ℕ → Option Seen) (before after : ForestView) (went came : List Moved) → HasLost V before went → ((c : ℕ) (x : Seen) → V c ≡ Some x → node_at after c ≡ node_at before c) → ListsMoved (node_at after) (node_at before) came → ListsMoved (node_at after) V came
+came_since V before after went came lost still lists = record {
+  once = lists.once;
+  each = λ m. (
+    (λ h. let w = (lists.each m).0 h in (w.0, w.1, w.2, unmarked w.0 w.1 w.2 w.3 (V w.0) refl, w.4)),
+    (λ w. (lists.each m).1 (w.0, w.1, w.2, lost.none w.0 w.3, w.4)),
+  );
+}
+  where
+    unmarked : (c : ℕ) (x : Seen) → node_at after c ≡ Some x → node_at before c ≡ None → (o : Option Seen) → V c ≡ o → V c ≡ None
+    unmarked c x at none None is = is
+    unmarked c x at none (Some y) is = none_some x (sym none ∙ (sym (still c y is) ∙ at))
+
+-- ---- what was noted
+
+pub drawn_from : (now before : List reported.Drawn) (lent moved : List Moved) → now ≡ before ++ drawn_of lent → before ≡ [] → lent ≡ moved → now ≡ drawn_of moved
+drawn_from now before lent moved is none same = is ∙ (ap (λ xs. xs ++ drawn_of lent) none ∙ ap drawn_of same)
+
+pub log_from : (now mid before : List Pairing) (gone new went came : List Moved) → now ≡ mid ++ came_of new → mid ≡ before ++ went_of gone → before ≡ [] → gone ≡ went → new ≡ came
+    → now ≡ ([] ++ went_of went) ++ came_of came
+log_from now mid before gone new went came is was none same same' =
+    is ∙ (ap (λ xs. xs ++ came_of new) (was ∙ (ap (λ xs. xs ++ went_of gone) none ∙ ap (λ xs. [] ++ went_of xs) same)) ∙ ap (λ xs. ([] ++ went_of went) ++ came_of xs) same')

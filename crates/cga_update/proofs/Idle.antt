@@ -1,0 +1,61 @@
+-- A turn where no node is on the agenda.
+use Rattle.std.proofs.Common.{ℕ, refl, sym, ◌∙◌, subst, inl, inr}
+use Rattle.cga_agenda.specs.Edit.{Edit}
+use Rattle.cga_agenda.specs.Loop.{IsIdle, State}
+use Rattle.cga_agenda.specs.Work.{NoneQueued}
+use Rattle.cga_word.specs.declared.answers.Answers.{Answers}
+use Rattle.cga_word.specs.declared.primitive.Primitive.{Primitive}
+use Rattle.cga_shape.specs.declared.shape.Shape.{Shape}
+use Rattle.cga_shape.specs.declared.shape_fault.ShapeFault.{ShapeFault}
+use Rattle.cga_expand.specs.Settings.{Setting}
+use Rattle.cga_forest.specs.Tree.{node_at}
+use Rattle.cga_rework.specs.Ranked.{Ranked}
+use Rattle.cga_rework.proofs.Whole.{empty_is_none}
+use Rattle.cga_update.specs.declared.work.Work.{Work}
+use Rattle.cga_update.specs.Agenda.{AgendaView, NoneOn, SameOn}
+use Rattle.cga_update.specs.Edit.{content, kept_nodes, rules_of, shapes_of, the_edit}
+use Rattle.cga_update.specs.Means.{Means}
+use Rattle.cga_update.specs.Queue.{chains_of, on_of}
+use Rattle.cga_update.proofs.Cases.{is_false}
+use Rattle.cga_update.proofs.Nodes.{kept_bound}
+
+abbrev TheEdit : Type 0
+TheEdit = Edit (Ranked Shape) Answers Setting ShapeFault Primitive
+
+abbrev TheState : Type 0
+TheState = State (Ranked Shape) Answers ShapeFault Primitive
+
+module _ (was : Work) (rest : AgendaView) (edit : TheEdit) (s : TheState) (means : Means was edit s) (same : SameOn (chains_of was.forest) was.agenda rest) where
+  abbrev passed : Work
+  passed = record was { agenda = rest }
+
+  still_means : Means passed edit s
+  still_means = record {
+    edit_is = means.edit_is;
+    old_names = means.old_names;
+    names = means.names;
+    mode = means.mode;
+    agenda_mode = same.mode ∙ means.agenda_mode;
+    nodes = means.nodes;
+    underway = record {
+      city = means.underway.city;
+      priced = λ c b d y t u k solid. elim (means.underway.priced c b d y t u k solid) [ inl q ↦ inl (same.there b q) | inr r ↦ inr r ];
+      asking = λ c d t solid. elim (means.underway.asking c d t solid) [ inl q ↦ inl (same.there c q) | inr r ↦ inr r ];
+    };
+    queued = λ c d t. (λ q. same.there c ((means.queued c d t).0 q), λ q. (means.queued c d t).1 (same.back c q));
+    silent = means.silent;
+    plain = means.plain;
+    gone = means.gone;
+    come = means.come;
+    known = means.known;
+    marked = means.marked;
+    logged = means.logged;
+  }
+
+  none_queued : NoneOn (chains_of was.forest) was.agenda → NoneQueued edit s.nodes s.queued
+  none_queued none =
+      let first : NoneQueued (the_edit was.old.now was.new.now) (kept_nodes was.forest) s.queued = empty_is_none (shapes_of was.new.now) content (rules_of was.old.now) (rules_of was.new.now) (node_at was.forest) _ (on_of was.forest was.agenda) s.queued (kept_bound was.forest) means.queued (λ c d t. is_false (on_of was.forest was.agenda c) (none c)) in
+      subst (λ (ed : TheEdit). NoneQueued ed s.nodes s.queued) (sym means.edit_is) (subst (λ n. NoneQueued (the_edit was.old.now was.new.now) n s.queued) (sym means.nodes) first)
+
+  pub turn_idle : NoneOn (chains_of was.forest) was.agenda → (calls : ℕ) → (last : TheState) × Means passed edit last × IsIdle edit s last calls calls
+  turn_idle none calls = (s, still_means, record { same = refl; none_queued = none_queued none; no_call = refl })

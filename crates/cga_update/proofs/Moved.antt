@@ -1,0 +1,100 @@
+-- The agenda after a turn, in the words of the theory: what was on it and stays, what came, and who meets what changed.
+use Rattle.std.proofs.Common.{◌≡◌, ℕ, List, refl, sym, ap, ◌∙◌, subst, inl, inr, Some, None, Bool, true, false}
+use Rattle.std.specs.Prelude.{IsSome, if◌then◌else◌}
+use Rattle.std.specs.declared.cmp.Ordering.TheVariants.{Less, Equal, Greater}
+use Rattle.std.specs.declared.cmp.Ordering.{Ordering}
+use Rattle.std.specs.Ordering.{is_lt}
+use Rattle.cga_frame.specs.Box.{Box, box_of, meets}
+use Rattle.cga_order.specs.Stamp.{stamp_cmp}
+use Rattle.cga_order.specs.World.{is_instance}
+use Rattle.cga_shape.specs.declared.sources.Sources.{Sources}
+use Rattle.cga_tree.specs.Replaced.{IsReplaced}
+use Rattle.cga_forest.specs.declared.change.Change.{Change}
+use Rattle.cga_forest.specs.declared.moved.Moved as moved
+use Rattle.cga_forest.specs.declared.node.Node.{Node}
+use Rattle.cga_forest.specs.Moved.{ListsMoved, moved_of}
+use Rattle.cga_forest.specs.Node.{bounds, chain_kept, fits}
+use Rattle.cga_forest.specs.View.{Seen}
+use Rattle.cga_forest.specs.Tree.{ForestView, node_at}
+use Rattle.cga_rework.specs.Agenda.{IsMoved}
+use Rattle.cga_update.specs.Agenda.{AgendaView, is_later}
+use Rattle.cga_update.specs.Due.{ComesAfter, HasAskers}
+use Rattle.cga_update.specs.Edit.{content, meets_box, shapes_of}
+use Rattle.cga_update.specs.Follow.{IsComer, IsFollowed}
+use Rattle.cga_update.specs.Queue.{chains_of, due_chain, on_of}
+use Rattle.cga_update.proofs.Cases.{option_cases}
+use Rattle.cga_update.proofs.DueNodes.{due_is, due_of}
+use Rattle.cga_update.proofs.Moves.{some_one}
+use Rattle.cga_update.proofs.OnIt.{on_from, on_to}
+use Rattle.cga_forest.proofs.Books.{nat_cases}
+
+lt_is : (o : Ordering) → is_lt o ≡ true → o ≡ Less
+lt_is Less e = refl
+lt_is Equal e = let x : false ≡ true = e in cc
+lt_is Greater e = let x : false ≡ true = e in cc
+
+-- S and T are two forests, before and after the children of a node were replaced
+module _ (v w : ForestView) (new : Sources) (id : ℕ) (news : List Node) (e now : Seen) (gone : ℕ → Bool) (replaced : IsReplaced fits (node_at v) (node_at w) id news e now gone) (inner : is_instance e.node.kind ≡ false) (still : is_instance now.node.kind ≡ false) (chain : chain_kept now.node ≡ chain_kept e.node) where
+  -- a node that is there before and after stands where it stood
+  same_due : (c : ℕ) (x d : Seen) → node_at v c ≡ Some x → node_at w c ≡ Some d → chains_of w c ≡ chains_of v c
+  same_due c x d a b = elim (nat_cases c id) [
+    | inl s ↦
+        let here : node_at v c ≡ Some e = ap (node_at v) s ∙ replaced.was in
+        let there : node_at w c ≡ Some now = ap (node_at w) s ∙ replaced.is in
+        due_is (node_at w c) now there still ∙ ap Some chain ∙ sym (due_is (node_at v c) e here inner)
+    | inr other ↦ kept_due (gone c) refl (replaced.rest c x other a)
+  ]
+    where
+      kept_due : (g : Bool) → gone c ≡ g → node_at w c ≡ (if gone c then None else Some x) → chains_of w c ≡ chains_of v c
+      kept_due true f r = let z : None ≡ Some d = sym (r ∙ ap (λ h. if h then None else Some x) f) ∙ b in cc
+      kept_due false f r = ap due_chain (r ∙ ap (λ h. if h then None else Some x) f ∙ sym a)
+
+  module _ (was after : AgendaView) (mode : was.mode ≡ new.mode) (change : Change) (went : ListsMoved (node_at v) (node_at w) change.went) (came : ListsMoved (node_at w) (node_at v) change.came) (followed : IsFollowed w id change was after) where
+    later_in : (c : ℕ) (d : Seen) → node_at w c ≡ Some d → is_instance d.node.kind ≡ false → stamp_cmp new.mode (chain_kept e.node) (chain_kept d.node) ≡ Less → ComesAfter w was.mode id c
+    later_in c d here solid less =
+        (λ i. is_later (mode i) (due_is (node_at w id) now replaced.is still i) (due_is (node_at w c) d here solid i)) ∙ ap (λ y. is_lt (stamp_cmp new.mode y (chain_kept d.node))) chain ∙ ap is_lt less
+
+    later_out : (c : ℕ) (d : Seen) → node_at w c ≡ Some d → is_instance d.node.kind ≡ false → ComesAfter w was.mode id c → stamp_cmp new.mode (chain_kept e.node) (chain_kept d.node) ≡ Less
+    later_out c d here solid late =
+        lt_is (stamp_cmp new.mode (chain_kept e.node) (chain_kept d.node)) (sym (ap (λ y. is_lt (stamp_cmp new.mode y (chain_kept d.node))) chain) ∙ sym (λ i. is_later (mode i) (due_is (node_at w id) now replaced.is still i) (due_is (node_at w c) d here solid i)) ∙ late)
+
+    -- who asks and meets the box of one of the moved is on the agenda
+    seen_by : (b : Box) → HasAskers w was.mode id b after → (c : ℕ) (d : Seen) → node_at w c ≡ Some d → is_instance d.node.kind ≡ false → d.node.asks ≡ true → meets (box_of d.node.shape.scope) b ≡ true → stamp_cmp new.mode (chain_kept e.node) (chain_kept d.node) ≡ Less → on_of w after c ≡ true
+    unfolding bounds
+    seen_by b has c d here solid asks meet less = has c d here asks meet (later_in c d here solid less)
+
+    still_on : (a : AgendaView) (c : ℕ) (x d : Seen) → node_at v c ≡ Some x → node_at w c ≡ Some d → on_of v a c ≡ true → on_of w a c ≡ true
+    still_on a c x d p q h = let z = on_from (chains_of v) a c h in on_to (chains_of w) a c z.0 (same_due c x d p q ∙ z.1) z.2
+
+    was_on : (a : AgendaView) (c : ℕ) (x d : Seen) → node_at v c ≡ Some x → node_at w c ≡ Some d → on_of w a c ≡ true → on_of v a c ≡ true
+    was_on a c x d p q h = let z = on_from (chains_of w) a c h in on_to (chains_of v) a c z.0 (sym (same_due c x d p q) ∙ z.1) z.2
+
+    pub is_moved : IsMoved (shapes_of new) content meets_box (node_at v) (node_at w) e.node (on_of v was) (on_of w after)
+    is_moved = record {
+      kept = λ c x d p q h. followed.kept c (still_on was c x d p q h);
+      came = λ c d none here solid.
+          followed.came (moved_of c d) ((came.each (moved_of c d)).1 (c, d, here, none, refl)) (subst IsSome (sym (due_is (node_at w c) d here solid)) refl);
+      went = λ b c x d there none here solid asks meet less.
+          seen_by (box_of x.node.shape.scope) (followed.met_went (moved_of b x) ((went.each (moved_of b x)).1 (b, x, there, none, refl))) c d here solid asks meet less;
+      arrived = λ b c x d none there here solid asks meet less.
+          seen_by (box_of x.node.shape.scope) (followed.met_came (moved_of b x) ((came.each (moved_of b x)).1 (b, x, there, none, refl))) c d here solid asks meet less;
+      only = λ c d here h. elim (option_cases (node_at v c)) [
+        | inl none ↦ inr (inl none)
+        | inr p ↦ elim (followed.only c h) [
+          | inl y ↦ inl (p.0, p.1, was_on was c p.0 d p.1 here y)
+          | inr r ↦ elim r [
+            | inl m ↦ inr (inl (came_none c m))
+            | inr late ↦ inr (inr (later_out c d here (solid_at c d here h) late))
+          ]
+        ]
+      ];
+    }
+      where
+        came_none : (c : ℕ) → IsComer change c → node_at v c ≡ None
+        came_none c m = let z = (came.each m.0).0 m.1 in ap (node_at v) (sym m.2 ∙ ap (λ (x : moved.Moved). x.id) z.4) ∙ z.3
+
+        solid_at : (c : ℕ) (d : Seen) → node_at w c ≡ Some d → on_of w after c ≡ true → is_instance d.node.kind ≡ false
+        solid_at c d here h =
+            let z = on_from (chains_of w) after c h in
+            let y = due_of (node_at w c) z.0 z.1 in
+            ap (λ (k : Seen). is_instance k.node.kind) (some_one (node_at w c) d y.0 here y.1) ∙ y.2

@@ -1,0 +1,55 @@
+-- What a turn takes off the agenda and puts on it, in the words of the theory.
+use Rattle.std.proofs.Common.{◌≡◌, ℕ, sym, ap, ◌∙◌, subst, inl, inr, Option, Some, true, false}
+use Rattle.std.specs.declared.cmp.Ordering.TheVariants.{Less, Equal}
+use Rattle.std.proofs.lemmas.Cmp.{tied_itself}
+use Rattle.cga_order.specs.Chain.{Chain}
+use Rattle.cga_order.specs.Stamp.{stamp_cmp}
+use Rattle.cga_order.specs.World.{is_instance}
+use Rattle.cga_order.proofs.Order.{stamp_total}
+use Rattle.cga_shape.specs.declared.sources.Sources.{Sources}
+use Rattle.cga_forest.specs.Node.{chain_kept}
+use Rattle.cga_forest.specs.View.{Seen}
+use Rattle.cga_forest.specs.Tree.{ForestView, node_at}
+use Rattle.cga_rework.specs.Agenda.{IsTaken}
+use Rattle.cga_update.specs.Agenda.{AgendaView, IsLeast}
+use Rattle.cga_update.specs.Edit.{content, shapes_of}
+use Rattle.cga_update.specs.Queue.{chains_of, on_of}
+use Rattle.cga_update.proofs.DueNodes.{due_is, due_of}
+use Rattle.cga_update.proofs.OnIt.{on_from}
+
+pub some_one : {X : Type 0} (o : Option X) (x y : X) → o ≡ Some x → o ≡ Some y → x ≡ y
+some_one o x y e f = let z : Some x ≡ Some y = sym e ∙ f in cc
+
+-- a node on the agenda is there and is no instance
+pub on_node : (v : ForestView) (a : AgendaView) (c : ℕ) → on_of v a c ≡ true → (d : Seen) × (node_at v c ≡ Some d) × (is_instance d.node.kind ≡ false)
+on_node v a c h =
+    let z = on_from (chains_of v) a c h in
+    let d = due_of (node_at v c) z.0 z.1 in
+    (d.0, d.1, d.2)
+
+-- its chain is the one that it is found by
+pub chain_at : (v : ForestView) (a : AgendaView) (c : ℕ) (d : Seen) → node_at v c ≡ Some d → on_of v a c ≡ true → chains_of v c ≡ Some (chain_kept d.node)
+chain_at v a c d here h =
+    let z = on_node v a c h in
+    due_is (node_at v c) d here (ap (λ (x : Seen). is_instance x.node.kind) (some_one (node_at v c) d z.0 here z.1) ∙ z.2)
+
+not_itself : (x : Chain) (new : Sources) → stamp_cmp new.mode x x ≡ Less → ⊥
+not_itself x new e = let z : Equal ≡ Less = sym (tied_itself (stamp_total new.mode) x) ∙ e in cc
+
+pub is_taken : (v : ForestView) (new : Sources) (old rest : AgendaView) (id : ℕ) (x : Chain) → old.mode ≡ new.mode → IsLeast (chains_of v) old rest id x → (e : Seen) × (is_instance e.node.kind ≡ false) × IsTaken (shapes_of new) content (node_at v) id e (on_of v old) (on_of v rest)
+is_taken v new old rest id x mode least =
+    let e = due_of (node_at v id) x least.here in
+    let later = λ (c : ℕ) (d : Seen) (here : node_at v c ≡ Some d) (h : on_of v rest c ≡ true). subst (λ m. stamp_cmp m (chain_kept e.0.node) (chain_kept d.node) ≡ Less) mode (subst (λ y. stamp_cmp old.mode y (chain_kept d.node) ≡ Less) (sym e.3) (least.later c (chain_kept d.node) (chain_at v rest c d here h) h)) in (
+      e.0,
+      e.2,
+      record {
+        here = e.1;
+        there = least.there;
+        left = λ c d here h. (
+          λ same. not_itself (chain_kept e.0.node) new (subst (λ (y : Seen). stamp_cmp new.mode (chain_kept e.0.node) (chain_kept y.node) ≡ Less) (some_one (node_at v c) d e.0 here (ap (node_at v) same ∙ e.1)) (later c d here h)),
+          least.left c h,
+          later c d here h,
+        );
+        stay = λ c d here h other. elim (least.stay c h) [ inl s ↦ absurd (other s) | inr y ↦ y ];
+      },
+    )

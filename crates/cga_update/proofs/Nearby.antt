@@ -1,0 +1,106 @@
+-- Nodes that are put on the agenda, whatever their stamps.
+use Rattle.std.proofs.Common.{◌≡◌, ◌⊎◌, inl, inr, ℕ, ◌+◌, ◌<◌, ◌≤◌, List, length, true, false, refl, sym, ap, ◌∙◌, subst, Some, None, arith}
+use Rattle.std.specs.Prelude.{is_some, slice_get}
+use Rattle.std.proofs.lemmas.Option.{slice_get_within}
+use Rattle.cga_frame.specs.Box.{Box, box_of, meets}
+use Rattle.cga_index.specs.Tree.{ListsAskers, Member}
+use Rattle.cga_order.specs.World.{Among}
+use Rattle.cga_derivation.proofs.Lists.{some_same, none_some}
+use Rattle.cga_forest.specs.Node.{bounds}
+use Rattle.cga_forest.specs.View.{Seen}
+use Rattle.cga_forest.specs.declared.moved.Moved.{Moved}
+use Rattle.cga_forest.specs.Tree.{ForestView, IsForest, above, node_at}
+use Rattle.cga_forest.specs.Walked.{asks_of, forest_tree, own_of}
+use Rattle.cga_forest.proofs.Laws.{in_inside}
+use Rattle.cga_update.specs.Agenda.{AgendaView}
+use Rattle.cga_update.specs.Near.{HasNear, HasParents, HasThese, KeepsOn}
+use Rattle.cga_update.specs.Queue.{chains_of, on_of}
+use Rattle.cga_update.proofs.DueNodes.{due_is}
+use Rattle.cga_update.proofs.Members.{among_at, member_at}
+
+-- a node that asks, and whose box meets the area, is listed
+pub asker_listed : (v : ForestView) → IsForest v → (area : Box) (list : List ℕ) → ListsAskers (forest_tree v) area list → (c : ℕ) (d : Seen) → node_at v c ≡ Some d
+    → d.node.asks ≡ true → meets (box_of d.node.shape.scope) area ≡ true → Member list c
+unfolding bounds
+asker_listed v laws area list lists c d at asks near =
+    lists.all c (in_inside v v refl laws c (ap is_some at)) (ap asks_of at ∙ asks) (ap (λ o. meets (own_of o) area) at ∙ near)
+
+pub keeps_itself : (v : ForestView) (a : AgendaView) → KeepsOn v a a
+keeps_itself v a = record { mode = refl; on = λ c h. h }
+
+pub keeps_on : (v : ForestView) (a b z : AgendaView) → KeepsOn v a b → KeepsOn v b z → KeepsOn v a z
+keeps_on v a b z one two = record { mode = two.mode ∙ one.mode; on = λ c h. two.on c (one.on c h) }
+
+-- where no node may be put on it, none is there that isn't an instance
+pub none_worked : (v : ForestView) (id : ℕ) (a : AgendaView) → is_some (chains_of v id) ≡ false → HasThese v (λ c. c ≡ id) a
+none_worked v id a none c d same w =
+    let z : true ≡ false = sym (ap is_some (due_is (node_at v c) d w.0 w.1)) ∙ (ap (λ k. is_some (chains_of v k)) same ∙ none) in absurd (cc)
+
+pub these_on : (v : ForestView) (id : ℕ) (a : AgendaView) → on_of v a id ≡ true → HasThese v (λ c. c ≡ id) a
+these_on v id a on c d same w = subst (λ k. on_of v a k ≡ true) (sym same) on
+
+-- of the numbers of a list the first n
+abbrev pub First : List ℕ → ℕ → ℕ → Type 0
+First ids n c = (j : ℕ) × (j < n) × (slice_get ids j ≡ Some c)
+
+at_or_below : (i n : ℕ) → i < n + 1 → (i < n) ⊎ (i ≡ n)
+at_or_below i n le = grind (arith, le)
+
+first_cases : (ids : List ℕ) (n id c : ℕ) → slice_get ids n ≡ Some id → First ids (n + 1) c → First ids n c ⊎ (c ≡ id)
+first_cases ids n id c at f = elim (at_or_below f.0 n f.1) [
+  | inl lower ↦ inl (f.0, lower, f.2)
+  | inr same ↦ inr (some_same c id (sym f.2 ∙ (ap (slice_get ids) same ∙ at)))
+]
+
+pub these_more : (v : ForestView) (ids : List ℕ) (n id : ℕ) (a b : AgendaView) → slice_get ids n ≡ Some id → KeepsOn v a b → HasThese v (λ c. c ≡ id) b → HasThese v (First ids n) a → HasThese v (First ids (n + 1)) b
+these_more v ids n id a b at kept here first c d f w = elim (first_cases ids n id c at f) [
+  | inl lower ↦ kept.on c (first c d lower w)
+  | inr same ↦ here c d same w
+]
+
+pub parents_more : (v : ForestView) (ids : List ℕ) (n id : ℕ) (a b : AgendaView) → slice_get ids n ≡ Some id → KeepsOn v a b → HasParents v (λ c. c ≡ id) b → HasParents v (First ids n) a → HasParents v (First ids (n + 1)) b
+parents_more v ids n id a b at kept here first c p d e f was up w = elim (first_cases ids n id c at f) [
+  | inl lower ↦ kept.on p (first c p d e lower was up w)
+  | inr same ↦ here c p d e same was up w
+]
+
+-- ---- at a loop's end
+
+pub these_end : (v : ForestView) (ids : List ℕ) (n : ℕ) (a : AgendaView) → length ids ≤ n → HasThese v (First ids n) a → HasThese v (λ c. Member ids c) a
+these_end v ids n a le first c d h w = let x = member_at ids c h in let z = slice_get_within ids x.0 c x.1 in first c d (x.0, omega (arith, z, le), x.1) w
+
+pub parents_end : (v : ForestView) (ids : List ℕ) (n : ℕ) (a : AgendaView) → length ids ≤ n → HasParents v (First ids n) a → HasParents v (λ c. Member ids c) a
+parents_end v ids n a le first c p d e h was up w = let x = member_at ids c h in let z = slice_get_within ids x.0 c x.1 in first c p d e (x.0, omega (arith, z, le), x.1) was up w
+
+-- of nodes that moved the first n have what P tells
+abbrev pub FirstHave : (Moved → Type 0) → List Moved → ℕ → Type 0
+FirstHave P moved n = (i : ℕ) (m : Moved) → i < n → slice_get moved i ≡ Some m → P m
+
+pub have_more : (P Q : Moved → Type 0) (moved : List Moved) (n : ℕ) (x : Moved) → slice_get moved n ≡ Some x → ((m : Moved) → P m → Q m) → Q x → FirstHave P moved n → FirstHave Q moved (n + 1)
+have_more P Q moved n x at kept here first i m lt is = elim (at_or_below i n lt) [
+  | inl lower ↦ kept m (first i m lower is)
+  | inr same ↦ subst Q (some_same x m (sym at ∙ (ap (slice_get moved) (sym same) ∙ is))) here
+]
+
+pub have_end : (P : Moved → Type 0) (moved : List Moved) (n : ℕ) → length moved ≤ n → FirstHave P moved n → (m : Moved) → Among m moved → P m
+have_end P moved n le first m h = let x = among_at moved m h in let z = slice_get_within moved x.0 m x.1 in first x.0 m (omega (arith, z, le)) x.1
+
+pub near_kept : (v : ForestView) (a b : AgendaView) → KeepsOn v a b → (area : Box) → HasNear v area a → HasNear v area b
+near_kept v a b kept area near c d w asks meet = kept.on c (near c d w asks meet)
+
+pub these_kept : (v : ForestView) (a b : AgendaView) → KeepsOn v a b → (These : ℕ → Type 0) → HasThese v These a → HasThese v These b
+these_kept v a b kept These these c d h w = kept.on c (these c d h w)
+
+-- the parent of a node, where it has one
+pub parent_on : (v : ForestView) (id p : ℕ) (a : AgendaView) → above (node_at v id) ≡ Some p → HasThese v (λ c. c ≡ p) a → HasParents v (λ c. c ≡ id) a
+parent_on v id p a is these c q d e same was up w =
+    let x : Some q ≡ Some p = sym up ∙ (ap above (sym was ∙ ap (node_at v) same) ∙ is) in these q e (some_same q p x) w
+
+pub no_parent : (v : ForestView) (id : ℕ) (a : AgendaView) → above (node_at v id) ≡ None → HasParents v (λ c. c ≡ id) a
+no_parent v id a is c q d e same was up w = none_some q (sym is ∙ (ap above (ap (node_at v) (sym same) ∙ was) ∙ up))
+
+pub no_node : (v : ForestView) (id : ℕ) (a : AgendaView) → node_at v id ≡ None → HasParents v (λ c. c ≡ id) a
+no_node v id a is c q d e same was up w = none_some d (sym is ∙ (ap (node_at v) (sym same) ∙ was))
+
+pub parents_kept : (v : ForestView) (a b : AgendaView) → KeepsOn v a b → (These : ℕ → Type 0) → HasParents v These a → HasParents v These b
+parents_kept v a b kept These these c p d e h was up w = kept.on p (these c p d e h was up w)

@@ -1,0 +1,106 @@
+-- Roots went, and then roots came.
+use Rattle.std.proofs.Common.{◌≡◌, ◌⊎◌, inl, inr, ℕ, ◌+◌, ◌<◌, ◌≤◌, length, arith, slice_get, refl, sym, ap, ◌∙◌, subst, Option, Some, None, Ok}
+use Rattle.std.specs.Prelude.{is_some}
+use Rattle.std.proofs.lemmas.Option.{slice_get_within}
+use Rattle.cga_shape.specs.declared.lot.Lot.{Lot}
+use Rattle.cga_derivation.proofs.Lists.{some_same, none_some}
+use Rattle.cga_forest.specs.declared.moved.Moved.{Moved}
+use Rattle.cga_forest.specs.declared.node.Node.{Node}
+use Rattle.cga_forest.specs.View.{Seen}
+use Rattle.cga_forest.specs.Tree.{ForestView, node_at}
+use Rattle.cga_shape.specs.declared.shape.Shape.{Shape}
+use Rattle.cga_shape.specs.declared.sources.Sources.{Sources}
+use Rattle.std.proofs.Common.{List}
+use Rattle.cga_update.specs.Roots.{View, AllWanted, Gains, HasLost, HasOldLots, IsNewRoot, IsRerooted, IsRootNamed, IsWanted, Loses}
+
+-- a node of an equal shape and priority is wanted too
+pub wanted_alike : (new : Sources) (n m : Node) → m.shape ≡ n.shape → m.priority ≡ n.priority → IsWanted new n → IsWanted new m
+wanted_alike new n m shape priority w = record {
+  place = w.place;
+  lot = w.lot;
+  listed = w.listed;
+  root = record { shape = w.root.shape ∙ ap Ok (sym shape); priority = priority ∙ w.root.priority };
+}
+
+pub wanted_after : (new : Sources) (before after : ForestView) → AllWanted new before → Gains new before after → AllWanted new after
+wanted_after new before after wanted gains c d at up = by_slot (node_at before c) refl
+  where
+    by_slot : (s : Option Seen) → node_at before c ≡ s → IsWanted new d.node
+    by_slot None is = (gains.new c d is at).wanted
+    by_slot (Some e) is =
+        let same : e ≡ d = some_same e d (sym (gains.more c e is) ∙ at) in
+        subst (λ (x : Seen). IsWanted new x.node) same (wanted c e is (ap (λ (x : Seen). x.parent) same ∙ up))
+
+pub loses_more : (new : Sources) (first before after : ForestView) → Loses new first before → Loses new before after → Loses new first after
+loses_more new first before after one two = record {
+  less = λ c d at. one.less c d (two.less c d at);
+  wanted = λ c d at up w. two.wanted c d (one.wanted c d at up w) up w;
+}
+
+-- the roots of the first n lots are wanted
+abbrev pub FirstWanted : Sources → List Lot → ForestView → ℕ → Type 0
+FirstWanted new lots f n =
+    (i : ℕ) (lot : Lot) → i < n → slice_get lots i ≡ Some lot → (c : ℕ) (d : Seen) → IsRootNamed (node_at f) lot.name c d → IsWanted new d.node
+
+at_or_below : (i n : ℕ) → i < n + 1 → (i < n) ⊎ (i ≡ n)
+at_or_below i n le = grind (arith, le)
+
+pub wanted_more : (new : Sources) (lots : List Lot) (before after : ForestView) (n : ℕ) (x : Lot) → slice_get lots n ≡ Some x → Loses new before after
+    → ((c : ℕ) (d : Seen) → IsRootNamed (node_at after) x.name c d → IsWanted new d.node) → FirstWanted new lots before n → FirstWanted new lots after (n + 1)
+wanted_more new lots before after n x at loses here first i lot lt is c d w = elim (at_or_below i n lt) [
+  | inl lower ↦ first i lot lower is c d (loses.less c d w.0, w.1, w.2)
+  | inr same ↦ (
+      let z : x ≡ lot = some_same x lot (sym at ∙ (ap (slice_get lots) (sym same) ∙ is)) in
+      here c d (w.0, w.1, w.2 ∙ ap (λ (l : Lot). l.name) (sym z)))
+]
+
+pub all_wanted : (new : Sources) (lots lent : List Lot) (first f : ForestView) (n : ℕ) → lent ≡ lots → length lent ≤ n → HasOldLots lots first → Loses new first f → FirstWanted new lots f n → AllWanted new f
+all_wanted new lots lent first f n same le has loses wanted c d at up =
+    let w = has c d (loses.less c d at) up in
+    let z = slice_get_within lots w.0 w.1 w.2 in
+    let y = ap length same in
+    wanted w.0 w.1 (omega (arith, z, y, le)) w.2 c d (at, up, sym w.3)
+
+module _ (new : Sources) (V : View) (first before after : ForestView) (went : List Moved)
+    (is : (c : ℕ) → node_at first c ≡ V c) (up : (c p : ℕ) (d : Seen) → V c ≡ Some d → d.parent ≡ Some p → (e : Seen) × (V p ≡ Some e))
+    (lost : HasLost V before went) (loses : Loses new first before) (gains : Gains new before after) where
+  -- under a number of the mark no root came
+  pub still : (c : ℕ) (d : Seen) → V c ≡ Some d → node_at after c ≡ node_at before c
+  still c d v = by_slots (node_at before c) (node_at after c) refl refl
+    where
+      by_slots : (s t : Option Seen) → node_at before c ≡ s → node_at after c ≡ t → node_at after c ≡ node_at before c
+      by_slots (Some e) t was now = gains.more c e was ∙ sym was
+      by_slots None None was now = now ∙ sym was
+      by_slots None (Some e) was now = none_some d (sym ((gains.new c e was now).unmarked lost.marking) ∙ (lost.marked c ∙ v))
+
+  new_root : (c : ℕ) (d : Seen) → V c ≡ None → node_at after c ≡ Some d → IsNewRoot V d
+  new_root c d v at =
+      let g = gains.new c d (lost.none c v) at in record {
+        top = g.top;
+        leaf = g.leaf;
+        waits = g.waits;
+        other = λ b x vb top shape priority.
+            let w = wanted_alike new d.node x.node shape priority g.wanted in
+            g.first b x (loses.wanted b x (is b ∙ vb) top w, top, ap (λ (s : Shape). s.lot) shape);
+      }
+
+  pub rerooted : IsRerooted V after went
+  rerooted = record {
+    marking = gains.marking ∙ lost.marking;
+    marked = λ c. gains.marked lost.marking c ∙ lost.marked c;
+    rest = λ c d v. elim (lost.rest c d v) [
+      | inl t ↦ inl (gains.more c d t)
+      | inr t ↦ inr (still c d v ∙ t)
+    ];
+    came = new_root;
+    along = λ c p d v top.
+        let e = up c p d v top in
+        ap is_some (still c d v) ∙ (lost.along c p d v top ∙ sym (ap is_some (still p e.0 e.1)));
+    went = record {
+      once = lost.went.once;
+      each = λ m. (
+        (λ h. let w = (lost.went.each m).0 h in (w.0, w.1, w.2, still w.0 w.1 w.2 ∙ w.3, w.4)),
+        (λ w. (lost.went.each m).1 (w.0, w.1, w.2, sym (still w.0 w.1 w.2) ∙ w.3, w.4)),
+      );
+    };
+  }

@@ -1,0 +1,254 @@
+-- A turn in code is a turn of the work of the theory.
+use Rattle.std.proofs.Common.{◌≡◌, ℕ, List, [], ◌∷◌, ◌++◌, ◌+◌, length, map, refl, sym, ap, ◌∙◌, subst, ◌⊎◌, inl, inr, Option, Some, None, Bool, true, false, not, Bor}
+use Rattle.std.specs.Prelude.{◌&&◌, if◌then◌else◌}
+use Rattle.cga_word.specs.declared.answers.Answers.{Answers}
+use Rattle.cga_word.specs.declared.primitive.Primitive.{Primitive}
+use Rattle.cga_order.specs.Chain.{Chain}
+use Rattle.cga_order.specs.World.{is_instance}
+use Rattle.cga_order.specs.Agenda.{asked}
+use Rattle.cga_agenda.specs.declared.turned.Turned.{Turned}
+use Rattle.cga_agenda.specs.Edit.{Edit, new_world}
+use Rattle.cga_agenda.specs.Loop.{State, Turns, calls_of, children_of}
+use Rattle.cga_agenda.specs.Record.{Drawn, IsChange}
+use Rattle.cga_agenda.specs.Known.{made_by}
+use Rattle.cga_agenda.specs.Work.{IsTurnOf}
+use Rattle.cga_shape.specs.declared.shape.Shape.{Shape}
+use Rattle.cga_shape.specs.declared.shape_fault.ShapeFault.{ShapeFault}
+use Rattle.cga_shape.specs.declared.sources.Sources.{Sources}
+use Rattle.cga_tree.specs.Replaced.{IsReplaced}
+use Rattle.cga_expand.specs.Derivation as expansion
+use Rattle.cga_expand.specs.Derivation.{NamesDiffer}
+use Rattle.cga_expand.specs.Settings.{Setting}
+use Rattle.cga_forest.specs.Node.{fits, with_state}
+use Rattle.cga_forest.specs.Placing.{children_after, emitted, state_after}
+use Rattle.cga_forest.specs.View.{Seen}
+use Rattle.cga_forest.specs.Tree.{ForestView, IsForest, Replaces, marked_at, node_at}
+use Rattle.cga_forest.specs.declared.node.Node.{Node}
+use Rattle.cga_forest.proofs.Books.{nat_cases}
+use Rattle.cga_forest.proofs.Equal.{fits_sound, fits_whole}
+use Rattle.cga_rework.specs.Agenda.{AreQueued, IsTaken}
+use Rattle.cga_rework.specs.City.{IsUnderway}
+use Rattle.cga_rework.specs.Ranked.{Ranked}
+use Rattle.cga_rework.specs.Turn.{IsFit, IsNodeTurn}
+use Rattle.cga_rework.specs.TreeLaws.{GoesBySymbol}
+use Rattle.cga_rework.specs.Changes.{ListsLost}
+use Rattle.cga_rework.specs.Turn as theory
+use Rattle.cga_rework.proofs.Changes.{lists_are_changes}
+use Rattle.cga_rework.proofs.Whole.{node_turns}
+use Rattle.cga_update.specs.declared.work.Work.{Work}
+use Rattle.cga_update.specs.Agenda.{AgendaView, IsLeast}
+use Rattle.cga_update.specs.Changed.{AreKnown}
+use Rattle.cga_update.specs.Edit.{asks_by, content, kept_nodes, meets_box, ranked, rules_of, shapes_of, the_edit}
+use Rattle.cga_check.specs.Uses.{same_name}
+use Rattle.cga_rule.specs.declared.grammar.Grammar.{Grammar}
+use Rattle.cga_expand.specs.Expand.{expand_of}
+use Rattle.cga_update.specs.Log.{IsLogged, StayAlike, came_of, drawn_of, is_of, noted_all, went_of}
+use Rattle.cga_update.specs.Means.{Means, told_ranked}
+use Rattle.cga_update.specs.Queue.{chains_of, on_of}
+use Rattle.cga_update.specs.Turned.{IsTurned, MayTurn}
+use Rattle.cga_update.proofs.Children.{are_news, is_outcome, keeps_self, setting_asks}
+use Rattle.cga_update.proofs.Edits.{is_rules_edit}
+use Rattle.cga_update.proofs.Moved.{is_moved}
+use Rattle.cga_update.proofs.Moves.{is_taken, some_one}
+use Rattle.cga_update.proofs.Nodes.{kept_bound}
+use Rattle.cga_update.proofs.Drawing.{lists_lost}
+use Rattle.cga_update.proofs.Logged.{logged_more}
+use Rattle.cga_update.proofs.Meeting.{sees_what_meets}
+use Rattle.cga_update.proofs.Places.{same_node}
+use Rattle.cga_update.proofs.Renewing.{are_again, count_made, still_plain, still_silent}
+
+abbrev TheEdit : Type 0
+TheEdit = Edit (Ranked Shape) Answers Setting ShapeFault Primitive
+
+abbrev TheState : Type 0
+TheState = State (Ranked Shape) Answers ShapeFault Primitive
+
+pub may_turn : (w : Work) (rest : AgendaView) (edit : TheEdit) (s : TheState) → Means w edit s → MayTurn (record w { agenda = rest })
+may_turn w rest edit s means = record { mode = means.mode; known = means.known; plain = means.plain }
+
+map_both : {X Y : Type 0} (h : X → Y) (xs ys : List X) → map h (xs ++ ys) ≡ map h xs ++ map h ys
+map_both h [] ys = refl
+map_both h (x ∷ xs) ys = ap (λ l. h x ∷ l) (map_both h xs ys)
+
+-- an expansion makes as many children as were emitted
+expansion_count : (old new : Sources) (n : Ranked Shape) (a : Answers) → length (made_by ((the_edit old new).new.expand n a)) ≡ length (emitted (expand_of new.grammar n.shape a))
+unfolding expansion.children_of
+expansion_count old new n a = count_made _ _ n.shape (expand_of new.grammar n.shape a)
+
+is_fit : IsFit content fits
+is_fit = record {
+  sound = λ x y h. (let a = fits_sound x y h in record { shape = a.shape; priority = a.priority; instances = a.instances; solid = a.primitive });
+  whole = λ x y a. fits_whole x y (record { shape = a.shape; priority = a.priority; instances = a.instances; primitive = a.solid });
+}
+
+-- one turn: was and now are the work before and after it
+module _ (was now : Work) (rest : AgendaView) (id : ℕ) (x : Chain) (turned : Turned) (edit : TheEdit) (s : TheState) (means : Means was edit s) (before : IsForest was.forest) (least : IsLeast (chains_of was.forest) was.agenda rest id x) (turn : IsTurned (record was { agenda = rest }) now id turned) where
+  abbrev new : Sources
+  new = was.new.now
+
+  abbrev V : ℕ → Option Seen
+  V = node_at was.forest
+
+  abbrev T : ℕ → Option Seen
+  T = node_at now.forest
+
+  abbrev e : Seen
+  e = turn.node
+
+  abbrev g : Grammar
+  g = was.new.now.grammar
+
+  abbrev news : List Node
+  news = children_after g e.node turn.outcome
+
+  taken : (d : Seen) × (is_instance d.node.kind ≡ false) × IsTaken (shapes_of new) content V id d (on_of was.forest was.agenda) (on_of was.forest rest)
+  taken = is_taken was.forest new was.agenda rest id x means.agenda_mode least
+
+  is_e : taken.0 ≡ e
+  is_e = some_one (V id) taken.0 e taken.2.here turn.here
+
+  inner : is_instance e.node.kind ≡ false
+  inner = ap (λ (d : Seen). is_instance d.node.kind) (sym is_e) ∙ taken.1
+
+  taken_e : IsTaken (shapes_of new) content V id e (on_of was.forest was.agenda) (on_of was.forest rest)
+  taken_e = subst (λ d. IsTaken (shapes_of new) content V id d (on_of was.forest was.agenda) (on_of was.forest rest)) is_e taken.2
+
+  replaces : Replaces V T id (state_after g e.node turn.answers turn.outcome) news
+  replaces = turn.placed.1.replaced e turn.here
+
+  abbrev gone : ℕ → Bool
+  gone = replaces.2
+
+  abbrev after_e : Seen
+  after_e = record e { node = with_state (state_after g e.node turn.answers turn.outcome) e.node; children = replaces.1 }
+
+  replaced : IsReplaced fits V T id news e after_e gone
+  replaced = subst (λ (d : Seen). IsReplaced fits V T id news d (record d { node = with_state (state_after g e.node turn.answers turn.outcome) d.node; children = replaces.1 }) gone) (some_one (V id) replaces.0 e replaces.3.was turn.here) replaces.3
+
+  still : is_instance after_e.node.kind ≡ false
+  still = (keeps_self new e.node turn.answers turn.outcome inner).is
+
+  symbols : (c b : ℕ) (d y : Seen) → V c ≡ Some d → d.parent ≡ Some b → V b ≡ Some y → is_instance d.node.kind ≡ true → d.node.shape.symbol ≡ y.node.shape.symbol
+  symbols c b d y t u k solid = (means.underway.city.child c b d y t u k).symbol solid
+
+  told : ((turned.expanded ≡ true) × theory.IsExpanded (shapes_of new) content (rules_of was.old.now) (rules_of new) V (length was.forest.slots) e.node after_e.node news)
+      ⊎ ((turned.expanded ≡ false) × theory.IsRepriced (shapes_of new) content (rules_of was.old.now) (rules_of new) V (length was.forest.slots) e after_e.node news)
+  told = elim turn.told [
+    | inl h ↦ inl (
+      h.0,
+      record {
+        must = elim h.1.must [ inl w ↦ inl w | inr f ↦ inr (λ y. f (y.0, y.1 ∙ sym turn.asked)) ];
+        answered = turn.asked;
+        outcome = is_outcome new e.node turn.answers turn.answers turn.outcome h.1.value;
+      },
+    )
+    | inr h ↦ inr (
+      h.0,
+      record {
+        done = h.1.done;
+        same = (h.1.same.0, h.1.same.1 ∙ turn.asked);
+        kind = h.1.again.0;
+        answers = sym h.1.same.1;
+        again = are_again was.forest before g id e turn.here turn.outcome h.1.again symbols means.plain;
+      },
+    )
+  ]
+
+  node_turn : IsNodeTurn (shapes_of new) content (rules_of was.old.now) (rules_of new) fits (asks_by g) meets_box V T (length was.forest.slots) id news e after_e gone (on_of was.forest was.agenda) (on_of was.forest rest) (on_of now.forest now.agenda) turned.expanded
+  node_turn = record {
+    taken = taken_e;
+    replaced = replaced;
+    tree = turn.placed.1.forest.present.tree;
+    self = keeps_self new e.node turn.answers turn.outcome inner;
+    self_asks = setting_asks g e.node.shape;
+    are = are_news new e.node turn.outcome inner;
+    outcome = told;
+    moved = is_moved was.forest now.forest new id news e after_e gone replaced inner still refl rest now.agenda (least.mode ∙ means.agenda_mode) turn.placed.0 turn.placed.1.went turn.placed.1.came turn.placed.1.followed;
+  }
+
+  by_symbol : GoesBySymbol content (rules_of new)
+  by_symbol a b h = ap (expansion.priority_of new.grammar) h
+
+  abbrev Result : Type 0
+  Result =
+      IsUnderway (shapes_of new) content (rules_of new) (asks_by g) T (on_of now.forest now.agenda)
+      × ((requeued : Ranked Shape → Bool) × AreQueued (shapes_of new) content T (on_of now.forest now.agenda) requeued
+      × IsTurnOf (the_edit was.old.now new) (kept_nodes was.forest) (kept_nodes now.forest) (ranked e.node) s.queued requeued turned.expanded)
+
+  result : Result
+  result = node_turns (shapes_of new) content (rules_of was.old.now) (rules_of new) (is_rules_edit was.old.now new means.old_names means.names) by_symbol fits (asks_by g) meets_box is_fit (sees_what_meets new) V T (length was.forest.slots) (length now.forest.slots) id news e after_e gone (on_of was.forest was.agenda) (on_of was.forest rest) (on_of now.forest now.agenda) turned.expanded (kept_bound was.forest) (kept_bound now.forest) means.underway node_turn s.queued means.queued
+
+  -- ---- the record
+
+  one_node : (v : ForestView) → IsForest v → (c b : ℕ) (d y : Seen) → node_at v c ≡ Some d → node_at v b ≡ Some y → d.node.shape ≡ y.node.shape → c ≡ b
+  one_node v f c b d y t u same = (same_node v f c b d y t u (ap (λ (q : Shape). q.lot) same, ap (λ (q : Shape). q.path) same)).0
+
+  went : (list : List (Drawn (Ranked Shape) Primitive)) × ListsLost content V T list × (map told_ranked list ≡ drawn_of turn.placed.0.went)
+  went = lists_lost V T (one_node was.forest before) turn.placed.0.went turn.placed.1.went
+
+  came : (list : List (Drawn (Ranked Shape) Primitive)) × ListsLost content T V list × (map told_ranked list ≡ drawn_of turn.placed.0.came)
+  came = lists_lost T V (one_node now.forest turn.placed.1.forest) turn.placed.0.came turn.placed.1.came
+
+  change : IsChange (kept_nodes was.forest) (kept_nodes now.forest) went.0 came.0
+  change = lists_are_changes.turn (shapes_of new) content (rules_of was.old.now) (rules_of new) (is_rules_edit was.old.now new means.old_names means.names) by_symbol fits (asks_by g) meets_box is_fit V T (length was.forest.slots) (length now.forest.slots) id news e after_e gone (on_of was.forest was.agenda) (on_of was.forest rest) (on_of now.forest now.agenda) turned.expanded (kept_bound was.forest) (kept_bound now.forest) means.underway node_turn went.0 came.0 went.1 came.1
+
+  abbrev after : TheState
+  after = record { nodes = kept_nodes now.forest; queued = result.1.0; gone = s.gone ++ went.0; come = s.come ++ came.0 }
+
+  children_is : turned.children ≡ children_of (the_edit was.old.now new) (kept_nodes was.forest) (ranked e.node) turned.expanded
+  children_is = elim turn.told [
+    | inl h ↦ h.1.count ∙ ap (λ o. length (emitted o)) (h.1.value ∙ ap (expand_of g e.node.shape) turn.asked) ∙ sym (expansion_count was.old.now new (ranked e.node) (asked (new_world (the_edit was.old.now new)) (kept_nodes was.forest) (ranked e.node))) ∙ ap (children_of (the_edit was.old.now new) (kept_nodes was.forest) (ranked e.node)) (sym h.0)
+    | inr h ↦ h.1.count ∙ ap (children_of (the_edit was.old.now new) (kept_nodes was.forest) (ranked e.node)) (sym h.0)
+  ]
+
+  turns : (calls since : ℕ) → since ≡ calls + calls_of turned.expanded → Turns edit s after calls since turned.children
+  turns calls since ticks =
+      let first : Turns (the_edit was.old.now new) (record { nodes = kept_nodes was.forest; queued = s.queued; gone = s.gone; come = s.come }) after calls since turned.children = (ranked e.node, turned.expanded, result.1.2, (went.0, came.0, change, refl, refl), children_is, ticks) in
+      let here : Turns (the_edit was.old.now new) s after calls since turned.children = subst (λ (st : TheState). Turns (the_edit was.old.now new) st after calls since turned.children) (λ i. record { nodes = sym means.nodes i; queued = s.queued; gone = s.gone; come = s.come }) first in
+      subst (λ (ed : TheEdit). Turns ed s after calls since turned.children) (sym means.edit_is) here
+
+  -- ---- what it means then
+
+  alike : StayAlike V T
+  alike c d y name t u = elim (nat_cases c id) [
+    | inl same ↦
+        let was_e : d ≡ e = some_one (V id) d e (ap V (sym same) ∙ t) turn.here in
+        let is_e : y ≡ after_e = some_one (T id) y after_e (ap T (sym same) ∙ u) replaced.is in
+        ap (λ (q : Seen). is_of (Some q) name) is_e ∙ ap (λ b. not b && same_name e.node.shape.symbol name) (still ∙ sym inner) ∙ ap (λ (q : Seen). is_of (Some q) name) (sym was_e)
+    | inr other ↦ ap (λ (q : Seen). is_of (Some q) name) (kept_one (gone c) refl (replaced.rest c d other t))
+  ]
+    where
+      kept_one : (b : Bool) → gone c ≡ b → T c ≡ (if gone c then None else Some d) → y ≡ d
+      kept_one true q r = let z : None ≡ Some y = sym (r ∙ ap (λ h. if h then None else Some d) q) ∙ u in cc
+      kept_one false q r = let z : Some y ≡ Some d = sym u ∙ (r ∙ ap (λ h. if h then None else Some d) q) in cc
+
+  log_is : IsLogged (marked_at was.forest) T ((was.log.items ++ went_of turn.placed.0.went) ++ came_of turn.placed.0.came)
+  log_is = logged_more (marked_at was.forest) V T was.log.items turn.placed.0.went turn.placed.0.came means.logged turn.placed.1.went turn.placed.1.came alike
+
+  to_new : (P : Bor Sources → Type 0) → P was.new → P now.new
+  to_new P h = subst P (sym turn.placed.1.bounds.new) h
+
+  to_old : (P : Bor Sources → Type 0) → P was.old → P now.old
+  to_old P h = subst P (sym turn.placed.1.bounds.old) h
+
+  means_now : Means now edit after
+  means_now = record {
+    edit_is = to_new (λ b. edit ≡ the_edit now.old.now b.now) (to_old (λ b. edit ≡ the_edit b.now new) means.edit_is);
+    old_names = to_old (λ b. NamesDiffer b.now.lots) means.old_names;
+    names = to_new (λ b. NamesDiffer b.now.lots) means.names;
+    mode = to_new (λ b. now.forest.mode ≡ b.now.mode) (turn.placed.1.bounds.mode ∙ means.mode);
+    agenda_mode = to_new (λ b. now.agenda.mode ≡ b.now.mode) (turn.placed.1.followed.mode ∙ least.mode ∙ means.agenda_mode);
+    nodes = refl;
+    underway = to_new (λ b. IsUnderway (shapes_of b.now) content (rules_of b.now) (asks_by b.now.grammar) T (on_of now.forest now.agenda)) result.0;
+    queued = to_new (λ b. AreQueued (shapes_of b.now) content T (on_of now.forest now.agenda) result.1.0) result.1.1;
+    silent = still_silent was.forest now.forest before g id turn.outcome e after_e gone replaced refl means.silent;
+    plain = still_plain was.forest now.forest before g id turn.outcome e after_e gone replaced refl means.plain;
+    gone = turn.placed.1.gone ∙ (λ i. means.gone i ++ sym went.2 i) ∙ sym (map_both told_ranked s.gone went.0);
+    come = turn.placed.1.come ∙ (λ i. means.come i ++ sym came.2 i) ∙ sym (map_both told_ranked s.come came.0);
+    known = to_new (λ b. AreKnown now.old.now.grammar b.now.grammar now.symbols.known) (to_old (λ b. AreKnown b.now.grammar new.grammar now.symbols.known) turn.known);
+    marked = turn.placed.1.bounds.mark.0 ∙ means.marked;
+    logged = λ name c. log_is name c ∙ (λ i. noted_all (sym turn.placed.1.log i) name c (is_of (sym (turn.placed.1.bounds.mark.1 means.marked c) i) name));
+  }
+
+  pub turn_means : (calls since : ℕ) → since ≡ calls + calls_of turned.expanded → (last : TheState) × Means now edit last × Turns edit s last calls since turned.children
+  turn_means calls since ticks = (after, means_now, turns calls since ticks)

@@ -1,0 +1,78 @@
+use Rattle.std.proofs.Common.{◌∙◌, refl, sym, ap, subst, List}
+use Rattle.cga_forest.specs.declared.moved.Moved.{Moved}
+use Rattle.cga_forest.specs.Tree.{marked_at, node_at}
+use Rattle.cga_update.specs.declared.log.Pairing.{Pairing}
+use Rattle.cga_update.specs.Agenda.{AgendaView}
+use Rattle.cga_update.specs.Begun.{IsFirst}
+use Rattle.cga_update.specs.Log.{IsLogged}
+use Rattle.cga_update.specs.Roots.{HasLost}
+use Rattle.cga_update.proofs.Beginning as proof
+use Rattle.cga_update.proofs.Rooting.{still, wanted_after}
+use Rattle.cga_update.proofs.begin.begun.Goals as goal
+
+pub remove_roots-requires : goal.remove_roots-requires
+remove_roots-requires g c = record {
+  known = c.new-symbols.ensures c.args.old.now.grammar c.args.new.now.grammar;
+  names = c.requires.stands.names;
+  scopes = c.requires.stands.scopes;
+  lots = proof.has_old_lots c.args.old.now c.args.new.now c.args.forest c.args.dependents.now c.requires.stands;
+}
+
+pub returns-clause-begun : goal.returns-clause-begun
+returns-clause-begun g c =
+    let old = c.args.old.now in
+    let new = c.args.new.now in
+    let first = c.args.forest in
+    let d = c.args.dependents.now in
+    let stands = c.requires.stands in
+    let before = c.remove_roots.new.forest in
+    let v = c.add_roots.new.forest in
+    let a = c.first_agenda.new.agenda in
+    let went = c.remove_roots.new.went.items in
+    let came = c.in_ok-came.came.items in
+    let first_laws = c.laws.ensures in
+    let laws = c.laws-2.ensures in
+    let lost : HasLost (node_at first) before went = c.in_ok-remove_roots.ensures.lost (node_at first) (proof.nothing_lost old new first d c.new-went.result.items c.new-went.ensures.items stands first_laws) in
+    let gains = c.in_ok-came.ensures.gains in
+    let loses = c.in_ok-remove_roots.ensures.loses in
+    let r = proof.now_rerooted old new first before v d went stands first_laws lost loses gains in
+    let keeps = still new (node_at first) first before v went (λ k. refl) (proof.parent_there first first_laws) lost loses gains in
+    let listed = proof.came_since (node_at first) before v went came lost keeps c.in_ok-came.ensures.came in
+    let wanted = wanted_after new before v c.in_ok-remove_roots.ensures.wanted gains in
+    let there = c.in_ok-came.ensures.there in
+    let agenda : IsFirst old new v d went came a =
+    subst (λ (list : List Moved). IsFirst old new v d list came a) c.as_slice-went_nodes.ensures.value
+    (subst (λ (list : List Moved). IsFirst old new v d c.as_slice-went_nodes.result.now list a) c.as_slice-came_nodes.ensures.value c.in_ok-first_agenda.ensures.first) in
+    let begins = proof.begins old new first v d went came a stands r listed wanted there first_laws laws agenda in
+    let lost_list = proof.lost old new first v d went came a stands r listed wanted there first_laws laws agenda in (
+      proof.first_state old new first v d went came a stands r listed wanted there first_laws laws agenda,
+      record {
+        edit_is = refl;
+        old_names = stands.old_names;
+        names = stands.names;
+        mode = c.in_ok-came.ensures.mode ∙ (c.in_ok-remove_roots.ensures.mode ∙ stands.mode);
+        agenda_mode = c.in_ok-first_agenda.ensures.mode ∙ ap (λ (x : AgendaView). x.mode) c.new-agenda.ensures;
+        nodes = refl;
+        underway = begins.0;
+        queued = begins.1.1;
+        silent = proof.silent_now old new first v d went came a stands r listed wanted there first_laws laws agenda;
+        plain = proof.plain_now old new first v d went came a stands r listed wanted there first_laws laws agenda;
+        gone = proof.drawn_from c.note_went.new.gone.items c.new-gone.result.items c.as_slice-went_nodes.result.now went c.in_ok-note_went.ensures.gone c.new-gone.ensures.items c.as_slice-went_nodes.ensures.value ∙ sym lost_list.2;
+        come = proof.drawn_from c.note_came.new.come.items c.new-come.result.items c.as_slice-came_nodes.result.now came c.in_ok-note_came.ensures.come c.new-come.ensures.items c.as_slice-came_nodes.ensures.value
+            ∙ proof.came_drawn old new first v d went came a stands r listed wanted there first_laws laws agenda;
+        known = c.in_ok-first_agenda.ensures.known;
+        marked = r.marking;
+        logged = subst (λ (log : List Pairing). IsLogged (marked_at v) (node_at v) log)
+            (sym (proof.log_from c.note_came.new.log.items c.note_went.new.log.items c.new-log.result.items c.as_slice-went_nodes.result.now c.as_slice-came_nodes.result.now went came
+            c.in_ok-note_came.ensures.log c.in_ok-note_went.ensures.log c.new-log.ensures.items c.as_slice-went_nodes.ensures.value c.as_slice-came_nodes.ensures.value))
+            (proof.logged old new first v d went came a stands r listed wanted there first_laws laws agenda);
+      },
+      proof.is_ready old new first v d went came a stands r listed wanted there first_laws laws agenda,
+    )
+
+pub returns-clause-mark : goal.returns-clause-mark
+returns-clause-mark g c =
+    let first = c.args.forest in
+    let lost : HasLost (node_at first) c.remove_roots.new.forest c.remove_roots.new.went.items =
+    c.in_ok-remove_roots.ensures.lost (node_at first) (proof.nothing_lost c.args.old.now c.args.new.now first c.args.dependents.now c.new-went.result.items c.new-went.ensures.items c.requires.stands c.laws.ensures) in
+    λ k. c.in_ok-came.ensures.gains.marked lost.marking k ∙ lost.marked k

@@ -1,0 +1,44 @@
+use Rattle.std.proofs.Common.{refl, arith, sym, subst, List, ℕ}
+use Rattle.cga_depend.specs.Pairs.{nodes_in}
+use Rattle.cga_index.specs.Tree.{Member}
+use Rattle.cga_update.specs.Changed.{IsNoted}
+use Rattle.cga_update.specs.Near.{HasThese, IsPricedFor}
+use Rattle.cga_update.proofs.InLoops.{item_at}
+use Rattle.cga_update.proofs.Nearby.{keeps_itself, keeps_on, these_kept}
+use Rattle.cga_update.proofs.Changing.{names_more, names_end, priced_kept, all_changed, all_priced}
+use Rattle.cga_update.proofs.queue.queue_changed.Goals as goal
+
+pub loop-symbol-init : goal.loop-symbol-init
+loop-symbol-init c = record {
+  known = c.in_ok-changed.ensures.known;
+  kept = keeps_itself c.args.forest.now c.args.agenda.now;
+  there = λ i s le. absurd (omega (arith, le));
+  parents = λ i s le. absurd (omega (arith, le));
+}
+
+pub loop-symbol-preserved : goal.loop-symbol-preserved
+loop-symbol-preserved c =
+    let v = c.args.forest.now in
+    let d = c.args.dependents.now in
+    let names = c.as_slice-symbol-items.result.now in
+    let before = c.loop-symbol.agenda in
+    let after = c.queue_symbol.new.agenda in
+    let one = c.in_ok-queue_symbol.ensures in
+    let item = item_at names names refl c.loop-symbol.symbol-index c.symbol-item.result c.loop-symbol-test.true c.symbol-item.is in record {
+      known = one.known;
+      kept = keeps_on v c.args.agenda.now before after c.loop-symbol.invariant.kept one.kept;
+      there = names_more (λ s. HasThese v (λ k. Member (nodes_in d s) k) before) (λ s. HasThese v (λ k. Member (nodes_in d s) k) after) names c.loop-symbol.symbol-index c.symbol-item.result item
+          (λ s. these_kept v before after one.kept (λ k. Member (nodes_in d s) k))
+          (subst (λ xs. HasThese v (λ k. Member xs k) after) c.nodes_of-nodes.ensures.nodes one.there) c.loop-symbol.invariant.there;
+      parents = names_more (λ s. IsPricedFor v c.args.old.now c.args.new.now (λ k. Member (nodes_in d s) k) s before) (λ s. IsPricedFor v c.args.old.now c.args.new.now (λ k. Member (nodes_in d s) k) s after) names c.loop-symbol.symbol-index c.symbol-item.result item
+          (λ s. priced_kept v c.args.old.now c.args.new.now (λ k. Member (nodes_in d s) k) s before after one.kept)
+          (subst (λ xs. IsPricedFor v c.args.old.now c.args.new.now (λ k. Member xs k) c.symbol-item.result after) c.nodes_of-nodes.ensures.nodes one.parents) c.loop-symbol.invariant.parents;
+    }
+
+pub returns-clause-there : goal.returns-clause-there
+returns-clause-there c = λ s. all_changed c.args.forest.now c.args.old.now c.args.new.now c.args.dependents.now c.as_slice-symbol-items.result.now c.loop-symbol.agenda
+    (names_end (λ t. HasThese c.args.forest.now (λ k. Member (nodes_in c.args.dependents.now t) k) c.loop-symbol.agenda) c.as_slice-symbol-items.result.now c.as_slice-symbol-items.result.now c.loop-symbol.symbol-index refl c.loop-symbol-test.false c.loop-symbol.invariant.there) s (subst (λ (xs : List (List ℕ)). IsNoted c.args.old.now c.args.new.now xs s) (sym c.as_slice-symbol-items.ensures.value) (c.in_ok-changed.ensures.listed s))
+
+pub returns-clause-parents : goal.returns-clause-parents
+returns-clause-parents c = λ s. all_priced c.args.forest.now c.args.old.now c.args.new.now c.args.dependents.now c.as_slice-symbol-items.result.now c.loop-symbol.agenda
+    (names_end (λ t. IsPricedFor c.args.forest.now c.args.old.now c.args.new.now (λ k. Member (nodes_in c.args.dependents.now t) k) t c.loop-symbol.agenda) c.as_slice-symbol-items.result.now c.as_slice-symbol-items.result.now c.loop-symbol.symbol-index refl c.loop-symbol-test.false c.loop-symbol.invariant.parents) s (subst (λ (xs : List (List ℕ)). IsNoted c.args.old.now c.args.new.now xs s) (sym c.as_slice-symbol-items.ensures.value) (c.in_ok-changed.ensures.listed s))

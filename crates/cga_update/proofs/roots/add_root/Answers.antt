@@ -1,0 +1,20 @@
+use Rattle.std.proofs.Common.{sym, ◌∙◌}
+use Rattle.cga_update.proofs.DueNodes.{on_ok}
+use Rattle.cga_update.proofs.Adding.{root_there, no_root_there, gains_at, came_at}
+use Rattle.cga_update.proofs.roots.add_root.Goals as goal
+
+pub returns-then-is_some-clause-there : goal.returns-then-is_some-clause-there
+returns-then-is_some-clause-there c = root_there c.args.forest.now c.args.lot.now.name c.root_of.result c.root_of.ensures (sym c.is_some.ensures ∙ c.if-is_some.true)
+
+pub add_lot-requires-clause-new : goal.add_lot-requires-clause-new
+add_lot-requires-clause-new c = no_root_there c.args.forest.now c.args.lot.now.name c.root_of.result c.root_of.ensures (sym c.is_some.ensures ∙ c.if-is_some.false)
+
+pub returns-clause-gains : goal.returns-clause-gains
+returns-clause-gains c = on_ok c.list_node.result (λ listed. gains_at c.args.new.now c.args.forest.now c.add_lot.new.self c.args.lot.now c.requires.listed
+    (no_root_there c.args.forest.now c.args.lot.now.name c.root_of.result c.root_of.ensures (sym c.is_some.ensures ∙ c.if-is_some.false))
+    c.in_ok-root.root c.in_ok-root.ensures.root c.in_ok-root.ensures.fresh c.in_ok-root.ensures.unmarked c.in_ok-root.ensures.others c.in_ok-root.ensures.mark) c.list_node.ensures
+
+pub returns-clause-came : goal.returns-clause-came
+returns-clause-came c = on_ok c.list_node.result (λ listed W within lists. came_at c.args.new.now c.args.forest.now c.add_lot.new.self c.args.lot.now c.requires.listed
+    (no_root_there c.args.forest.now c.args.lot.now.name c.root_of.result c.root_of.ensures (sym c.is_some.ensures ∙ c.if-is_some.false))
+    c.in_ok-root.root c.in_ok-root.ensures.root c.in_ok-root.ensures.fresh c.in_ok-root.ensures.unmarked c.in_ok-root.ensures.others W c.args.came.now.items c.list_node.new.list.items within lists listed) c.list_node.ensures

@@ -1,0 +1,58 @@
+-- What an update begins with, and where it stands then.
+use Rattle.std.specs.Prelude.{◌≡◌, ℕ, List, length, Some, true, false}
+use Rattle.cga_frame.specs.Box.{box_of}
+use Rattle.cga_index.specs.Tree.{Member}
+use Rattle.cga_order.specs.World.{Among, is_instance}
+use Rattle.cga_agenda.specs.Loop.{IsReady, State}
+use Rattle.cga_word.specs.declared.answers.Answers.{Answers}
+use Rattle.cga_word.specs.declared.primitive.Primitive.{Primitive}
+use Rattle.cga_depend.specs.Pairs.{DependentsView, nodes_in}
+use Rattle.cga_expand.specs.Derivation.{NamesDiffer}
+use Rattle.cga_expand.specs.Validity.{RootsExist}
+use Rattle.cga_rework.specs.City as tree
+use Rattle.cga_rework.specs.Ranked.{Ranked}
+use Rattle.cga_shape.specs.declared.shape.Shape.{Shape}
+use Rattle.cga_shape.specs.declared.shape_fault.ShapeFault.{ShapeFault}
+use Rattle.cga_shape.specs.declared.sources.Sources.{Sources}
+use Rattle.cga_forest.specs.declared.moved.Moved.{Moved}
+use Rattle.cga_forest.specs.View.{Seen}
+use Rattle.cga_forest.specs.Tree.{ForestView, marked_at, node_at}
+use Rattle.cga_update.specs.declared.work.Work.{Work}
+use Rattle.cga_update.specs.Agenda.{AgendaView}
+use Rattle.cga_update.specs.Applied.{ListsView}
+use Rattle.cga_update.specs.Edit.{asks_by, content, kept_nodes, rules_of, shapes_of, the_edit}
+use Rattle.cga_update.specs.Means.{Means}
+use Rattle.cga_update.specs.Plain.{IsPlain}
+use Rattle.cga_update.specs.Near.{HasNear, HasThese, IsChangedFor, IsPricedFor}
+
+-- the forest stands for the old sources, and is marked as it stands; so do the dependents
+pub record StandsMarked (old new : Sources) (v : ForestView) (d : DependentsView) : Type 0 where
+  pub old_names : NamesDiffer old.lots
+  pub names : NamesDiffer new.lots
+  pub scopes : RootsExist new.lots
+  pub old_mode : old.mode ≡ new.mode
+  pub mode : v.mode ≡ new.mode
+  pub marking : v.marking ≡ true
+  pub marked : (c : ℕ) → marked_at v c ≡ node_at v c
+  pub nodes : tree.Stands (shapes_of old) content (rules_of old) (asks_by old.grammar) (node_at v)
+  pub silent : (c : ℕ) (x : Seen) → node_at v c ≡ Some x → is_instance x.node.kind ≡ true → x.node.asks ≡ false
+  pub plain : (c : ℕ) (x : Seen) → node_at v c ≡ Some x → IsPlain x
+  pub dependents : ListsView d (node_at v)
+
+-- the first agenda: the roots that came, those that ask near what went or came, and the nodes of changed symbols
+pub record IsFirst (old new : Sources) (v : ForestView) (d : DependentsView) (went came : List Moved) (a : AgendaView) : Type 0 where
+  pub roots : (m : Moved) → Among m came → HasThese v (λ c. c ≡ m.id) a
+  pub near_went : (m : Moved) → Among m went → HasNear v (box_of m.scope) a
+  pub near_came : (m : Moved) → Among m came → HasNear v (box_of m.scope) a
+  pub changed : (symbol : List ℕ) → IsChangedFor v old.grammar new.grammar (λ c. Member (nodes_in d symbol) c) symbol a
+  pub priced : (symbol : List ℕ) → IsPricedFor v old.grammar new.grammar (λ c. Member (nodes_in d symbol) c) symbol a
+
+-- the work is ready for its first turn, from the nodes of the mark
+abbrev pub HasBegun : Sources → Sources → ForestView → Work → Type 0
+HasBegun old new v w =
+    (s : State (Ranked Shape) Answers ShapeFault Primitive) × Means w (the_edit old new) s
+    × IsReady (the_edit old new) (kept_nodes v) s (length (the_edit old new).new.roots)
+
+-- the work is from these sources to those
+abbrev pub IsBetween : Sources → Sources → Work → Type 0
+IsBetween old new w = (w.old.now ≡ old) × (w.new.now ≡ new)

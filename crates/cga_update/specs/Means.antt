@@ -1,0 +1,56 @@
+-- What an update under way means: the edit of the theory for which it works, and where that work stands.
+use Rattle.std.specs.Prelude.{◌≡◌, ℕ, map, Some, true, false}
+use Rattle.cga_word.specs.declared.answers.Answers.{Answers}
+use Rattle.cga_word.specs.declared.primitive.Primitive.{Primitive}
+use Rattle.cga_shape.specs.declared.drawn.Drawn as reported
+use Rattle.cga_shape.specs.declared.shape.Shape.{Shape}
+use Rattle.cga_shape.specs.declared.shape_fault.ShapeFault.{ShapeFault}
+use Rattle.cga_order.specs.World.{is_instance}
+use Rattle.cga_agenda.specs.Edit.{Edit}
+use Rattle.cga_agenda.specs.Loop.{State}
+use Rattle.cga_agenda.specs.Record.{Drawn}
+use Rattle.cga_rework.specs.Agenda.{AreQueued}
+use Rattle.cga_rework.specs.City.{IsUnderway}
+use Rattle.cga_rework.specs.Ranked.{Ranked, unranked_drawn}
+use Rattle.cga_expand.specs.Derivation.{NamesDiffer}
+use Rattle.cga_expand.specs.Settings.{Setting}
+use Rattle.cga_forest.specs.View.{Seen}
+use Rattle.cga_forest.specs.Tree.{KeepsMark, marked_at, node_at}
+use Rattle.cga_update.specs.declared.work.Work.{Work}
+use Rattle.cga_update.specs.Changed.{AreKnown}
+use Rattle.cga_update.specs.Edit.{asks_by, content, kept_nodes, rules_of, shapes_of, the_edit}
+use Rattle.cga_update.specs.Log.{IsLogged}
+use Rattle.cga_update.specs.Plain.{IsPlain}
+use Rattle.cga_update.specs.Queue.{on_of}
+use Rattle.cga_update.specs.Updates.{told}
+
+-- a ranked instance as it is reported
+abbrev pub told_ranked : Drawn (Ranked Shape) Primitive → reported.Drawn
+told_ranked d = told (unranked_drawn d)
+
+pub record Means (w : Work) (edit : Edit (Ranked Shape) Answers Setting ShapeFault Primitive) (s : State (Ranked Shape) Answers ShapeFault Primitive) : Type 0 where
+  pub edit_is : edit ≡ the_edit w.old.now w.new.now
+  pub old_names : NamesDiffer w.old.now.lots
+  pub names : NamesDiffer w.new.now.lots
+  pub mode : w.forest.mode ≡ w.new.now.mode
+  pub agenda_mode : w.agenda.mode ≡ w.new.now.mode
+  pub nodes : s.nodes ≡ kept_nodes w.forest
+  -- the nodes are a city of the new roots, and what isn't right by priority or by asking is on the agenda
+  pub underway : IsUnderway (shapes_of w.new.now) content (rules_of w.new.now) (asks_by w.new.now.grammar) (node_at w.forest) (on_of w.forest w.agenda)
+  pub queued : AreQueued (shapes_of w.new.now) content (node_at w.forest) (on_of w.forest w.agenda) s.queued
+  -- an instance doesn't ask
+  pub silent : (c : ℕ) (d : Seen) → node_at w.forest c ≡ Some d → is_instance d.node.kind ≡ true → d.node.asks ≡ false
+  pub plain : (c : ℕ) (d : Seen) → node_at w.forest c ≡ Some d → IsPlain d
+  pub gone : w.gone.items ≡ map told_ranked s.gone
+  pub come : w.come.items ≡ map told_ranked s.come
+  pub known : AreKnown w.old.now.grammar w.new.now.grammar w.symbols.known
+  -- the log makes the nodes of each symbol of those at the mark
+  pub marked : w.forest.marking ≡ true
+  pub logged : IsLogged (marked_at w.forest) (node_at w.forest) w.log.items
+
+-- the sources, the mode and the mark are as they were
+pub record KeepsBounds (was now : Work) : Type 0 where
+  pub old : now.old ≡ was.old
+  pub new : now.new ≡ was.new
+  pub mode : now.forest.mode ≡ was.forest.mode
+  pub mark : KeepsMark was.forest now.forest

@@ -1,0 +1,107 @@
+-- What the turn of a node does to the work.
+use Rattle.std.specs.Prelude.{◌≡◌, ◌⊎◌, ℕ, List, ◌++◌, length, Option, None, Some, true, false, slice_get}
+use Rattle.cga_word.specs.declared.answers.Answers.{Answers}
+use Rattle.cga_word.specs.declared.primitive.Primitive.{Primitive}
+use Rattle.cga_order.specs.World.{is_waiting}
+use Rattle.cga_order.specs.declared.placed.Kind.{Kind}
+use Rattle.cga_order.specs.declared.placed.Kind.TheVariants.{Waiting, Done, Faulted, Instance}
+use Rattle.cga_order.specs.Agenda as kept
+use Rattle.cga_agenda.specs.Edit.{new_world}
+use Rattle.cga_agenda.specs.declared.turned.Turned.{Turned}
+use Rattle.cga_shape.specs.declared.emitted.Emitted.{Emitted}
+use Rattle.cga_shape.specs.declared.emitted.Emitted.TheVariants.{Child, Solid}
+use Rattle.cga_shape.specs.declared.shape.Shape.{Shape}
+use Rattle.cga_shape.specs.declared.shape_fault.ShapeFault.{ShapeFault}
+use Rattle.cga_expand.specs.Expand.{expand_of}
+use Rattle.cga_expand.specs.Settings.{setting_of}
+use Rattle.cga_forest.specs.declared.change.Change.{Change}
+use Rattle.cga_forest.specs.declared.node.Node.{Node}
+use Rattle.cga_forest.specs.Moved.{ListsMoved}
+use Rattle.cga_forest.specs.Placing.{Outcome, children_after, emitted, kind_after, state_after}
+use Rattle.cga_forest.specs.View.{Seen}
+use Rattle.cga_forest.specs.Tree.{ForestView, IsForest, Replaces, node_at}
+use Rattle.cga_update.specs.declared.work.Work.{Work}
+use Rattle.cga_update.specs.Changed.{AreKnown}
+use Rattle.cga_update.specs.Edit.{kept_nodes, ranked, the_edit}
+use Rattle.cga_update.specs.Follow.{IsFollowed}
+use Rattle.cga_update.specs.Log.{came_of, drawn_of, went_of}
+use Rattle.cga_update.specs.Means.{KeepsBounds}
+use Rattle.cga_update.specs.Plain.{IsPlain}
+
+-- the node has the outcome and these answers now, and what went and came is noted and followed
+pub record IsPlaced (was now : Work) (id : ℕ) (answers : Answers) (outcome : Outcome) (change : Change) : Type 0 where
+  pub replaced : (e : Seen) → node_at was.forest id ≡ Some e → Replaces (node_at was.forest) (node_at now.forest) id (state_after was.new.now.grammar e.node answers outcome) (children_after was.new.now.grammar e.node outcome)
+  pub went : ListsMoved (node_at was.forest) (node_at now.forest) change.went
+  pub came : ListsMoved (node_at now.forest) (node_at was.forest) change.came
+  pub followed : IsFollowed now.forest id change was.agenda now.agenda
+  pub log : now.log.items ≡ (was.log.items ++ went_of change.went) ++ came_of change.came
+  pub gone : now.gone.items ≡ was.gone.items ++ drawn_of change.went
+  pub come : now.come.items ≡ was.come.items ++ drawn_of change.came
+  pub bounds : KeepsBounds was now
+  pub forest : IsForest now.forest
+
+-- some change has placed it
+abbrev pub HasPlaced : Work → Work → ℕ → Answers → Outcome → Type 0
+HasPlaced was now id answers outcome = (change : Change) × IsPlaced was now id answers outcome change
+
+-- what was emitted for a node of this kind and shape
+abbrev pub emitted_as : Kind ShapeFault Primitive → Shape → Emitted
+emitted_as Waiting s = Child s.symbol s.args s.scope s.seed
+emitted_as Done s = Child s.symbol s.args s.scope s.seed
+emitted_as (Faulted f) s = Child s.symbol s.args s.scope s.seed
+emitted_as (Instance p) s = Solid p s.scope s.seed
+
+abbrev pub emitted_of : Node → Emitted
+emitted_of n = emitted_as n.kind n.shape
+
+abbrev pub fault_in : Kind ShapeFault Primitive → Option ShapeFault
+fault_in Waiting = None
+fault_in Done = None
+fault_in (Faulted f) = Some f
+fault_in (Instance p) = None
+
+-- what was emitted for the first so many children of a node
+pub record AreEmitted (v : ForestView) (e : Seen) (n : ℕ) (made : List Emitted) : Type 0 where
+  pub sized : length made ≡ n
+  pub each : (i b : ℕ) (y : Emitted) (x : Seen) → slice_get made i ≡ Some y → slice_get e.children i ≡ Some b → node_at v b ≡ Some x
+      → y ≡ emitted_of x.node
+
+-- the outcome that a node had, if it isn't waiting
+abbrev pub IsAgain : ForestView → Seen → Outcome → Type 0
+IsAgain v e outcome = (kind_after outcome ≡ e.node.kind) × AreEmitted v e (length e.children) (emitted outcome)
+
+-- setting and answers are the old ones
+abbrev pub SameAsked : Work → Seen → Answers → Type 0
+SameAsked w e answers =
+    (setting_of w.old.now.grammar e.node.shape.symbol ≡ setting_of w.new.now.grammar e.node.shape.symbol) × (e.node.answers ≡ answers)
+
+-- it waits or is asked otherwise, and has what it is expanded to
+pub record IsExpanded (was : Work) (e : Seen) (answers : Answers) (outcome : Outcome) (children : ℕ) : Type 0 where
+  pub must : (e.node.kind ≡ Waiting) ⊎ (SameAsked was e answers → ⊥)
+  pub value : outcome ≡ expand_of was.new.now.grammar e.node.shape answers
+  pub count : children ≡ length (emitted outcome)
+
+-- it is asked as before, and has what it had
+pub record IsPlacedAgain (was : Work) (e : Seen) (answers : Answers) (outcome : Outcome) (children : ℕ) : Type 0 where
+  pub count : children ≡ 0
+  pub done : is_waiting e.node.kind ≡ false
+  pub same : SameAsked was e answers
+  pub again : IsAgain was.forest e outcome
+
+-- the turn of a node
+pub record IsTurned (was now : Work) (id : ℕ) (turned : Turned) : Type 0 where
+  pub node : Seen
+  pub here : node_at was.forest id ≡ Some node
+  pub answers : Answers
+  pub asked : answers ≡ kept.asked (new_world (the_edit was.old.now was.new.now)) (kept_nodes was.forest) (ranked node.node)
+  pub outcome : Outcome
+  pub placed : HasPlaced was now id answers outcome
+  pub known : AreKnown was.old.now.grammar was.new.now.grammar now.symbols.known
+  pub told : ((turned.expanded ≡ true) × IsExpanded was node answers outcome turned.children)
+      ⊎ ((turned.expanded ≡ false) × IsPlacedAgain was node answers outcome turned.children)
+
+-- what a turn rests on
+pub record MayTurn (w : Work) : Type 0 where
+  pub mode : w.forest.mode ≡ w.new.now.mode
+  pub known : AreKnown w.old.now.grammar w.new.now.grammar w.symbols.known
+  pub plain : (c : ℕ) (d : Seen) → node_at w.forest c ≡ Some d → IsPlain d

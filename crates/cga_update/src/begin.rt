@@ -1,0 +1,107 @@
+//! The beginning of an update: the roots that go and come, and the first agenda.
+ghost use Rattle.std.specs.Prelude.{◌≡◌, ℕ, IfOk, OnOk};
+ghost use Rattle.cga_forest.specs.Tree.{marked_at, node_at};
+ghost use Rattle.cga_update.specs.Begun.{HasBegun, IsBetween, IsFirst, StandsMarked};
+ghost use Rattle.cga_update.specs.Changed.{AreKnown};
+ghost use Rattle.cga_update.specs.Near.{KeepsOn};
+
+use crate::agenda::Agenda;
+use crate::changed::Symbols;
+use crate::log::{note_came, note_went};
+use crate::queue::{queue_changed, queue_moved, queue_near};
+use crate::roots::{add_roots, remove_roots};
+use crate::work::Work;
+use cga_depend::Dependents;
+use cga_forest::{Forest, Moved};
+use cga_fraction::{NoMemory, Steps};
+use cga_shape::Sources;
+use std::alloc::Global;
+use std::sync::ledger::Ledger;
+
+/// Puts on an agenda all that is to be looked at when roots went and came. Takes memory.
+fn first_agenda<T: Ledger>(
+    agenda: &mut Agenda,
+    alloc: Global,
+    forest: &Forest,
+    symbols: &mut Symbols,
+    old: &Sources,
+    new: &Sources,
+    dependents: &Dependents,
+    went: &[Moved],
+    came: &[Moved],
+    tests: &mut Steps<T>,
+) -> Result<(), NoMemory>
+    requires { AreKnown old.now.grammar new.now.grammar symbols.old.known }
+    ensures known { OnOk result (AreKnown old.now.grammar new.now.grammar symbols.new.known) }
+    ensures first { OnOk result (IsFirst old.now new.now forest.now dependents.now went.now came.now agenda.new) }
+    ensures mode { OnOk result (agenda.new.mode ≡ agenda.old.mode) }
+{
+    queue_moved(agenda, alloc, forest, came)?;
+    queue_near(agenda, alloc, forest, went, tests)?;
+    queue_near(agenda, alloc, forest, came, tests)?;
+    queue_changed(
+        agenda,
+        alloc,
+        forest,
+        symbols,
+        &old.grammar,
+        &new.grammar,
+        dependents,
+    )?;
+    Ok(())
+}
+
+/// An update under way, before its first turn: the roots that went are gone, those that came are there, and the agenda has
+/// what the change may reach. The forest is marked, and the mark stays. Takes memory.
+pub fn begun<'a, T: Ledger>(
+    alloc: Global,
+    forest: Forest,
+    dependents: &Dependents,
+    old: &'a Sources,
+    new: &'a Sources,
+    tests: &mut Steps<T>,
+) -> Result<Work<'a>, NoMemory>
+    requires stands { StandsMarked old.now new.now forest dependents.now }
+    ensures begun { IfOk result (λ work. HasBegun old.now new.now forest work) }
+    ensures mark { IfOk result (λ work. (c : ℕ) → marked_at work.forest c ≡ node_at forest c) }
+    ensures sources { IfOk result (λ work. IsBetween old.now new.now work) }
+{
+    let mut forest = forest;
+    let mut symbols = Symbols::new(alloc);
+    let mut agenda = Agenda::new(alloc, new.mode);
+    let mut went = Vec::new(alloc);
+    let mut log = Vec::new(alloc);
+    let mut gone = Vec::new(alloc);
+    let mut come = Vec::new(alloc);
+    forest.laws();
+    remove_roots(alloc, &mut forest, &mut symbols, old, new, &mut went)?;
+    let came = add_roots(alloc, &mut forest, new)?;
+    let went_nodes = went.as_slice();
+    let came_nodes = came.as_slice();
+    note_went(went_nodes, &mut log, &mut gone)?;
+    note_came(came_nodes, &mut log, &mut come)?;
+    first_agenda(
+        &mut agenda,
+        alloc,
+        &forest,
+        &mut symbols,
+        old,
+        new,
+        dependents,
+        went_nodes,
+        came_nodes,
+        tests,
+    )?;
+    forest.laws();
+    Ok(Work {
+        alloc,
+        forest,
+        agenda,
+        symbols,
+        log,
+        gone,
+        come,
+        old,
+        new,
+    })
+}

@@ -1,0 +1,142 @@
+//! The nodes of a forest on the agenda.
+ghost use Rattle.std.specs.Prelude.{◌≡◌, true, IfSome, IfNone, IsSome, is_some, OnOk};
+ghost use Rattle.cga_order.specs.World as world;
+ghost use Rattle.cga_order.specs.Chain.{Chain};
+ghost use Rattle.cga_forest.specs.Tree.{node_at};
+ghost use Rattle.cga_update.specs.Agenda.{Grows, IsLeast, NoneOn, OneEach, SameOn, is_due, is_later};
+ghost use Rattle.cga_update.specs.Due.{ComesAfter, HasAskers, HasLater};
+ghost use Rattle.cga_update.specs.Queue.{chains_of, on_of};
+
+use crate::agenda::Agenda;
+use cga_forest::{Forest, Node};
+use cga_fraction::{NoMemory, Steps};
+use cga_frame::WorldBox;
+use cga_index::{NodeId, queriers_meeting};
+use cga_key::StampKey;
+use cga_order::cmp_stamp;
+use cga_shape::Kind;
+use cga_word::Mode;
+use std::alloc::Global;
+use std::cmp::Ordering;
+use std::sync::ledger::Ledger;
+
+fn is_instance(node: &Node) -> bool
+    ensures { result ≡ world.is_instance node.now.kind }
+{
+    matches!(node.kind, Kind::Instance(_))
+}
+
+/// Whether a node is there and is no instance.
+pub fn is_worked(forest: &Forest, id: NodeId) -> bool
+    ensures { result ≡ is_some (chains_of forest.now id) }
+{
+    match forest.node(id) {
+        None => false,
+        Some(node) => !is_instance(node),
+    }
+}
+
+/// Whether it stands at the stamp of a key.
+fn is_due(mode: Mode, key: &StampKey, forest: &Forest, id: NodeId) -> bool
+    ensures { result ≡ is_due mode key.now (chains_of forest.now id) }
+{
+    if !is_worked(forest, id) {
+        return false;
+    }
+    matches!(
+        cmp_stamp(mode, &key.chain(), &forest.chain(id)),
+        Ordering::Equal
+    )
+}
+
+/// Whether it comes later than another.
+fn is_later(mode: Mode, forest: &Forest, of: NodeId, id: NodeId) -> bool
+    ensures { result ≡ is_later mode (chains_of forest.now of) (chains_of forest.now id) }
+{
+    if !is_worked(forest, of) || !is_worked(forest, id) {
+        return false;
+    }
+    matches!(
+        cmp_stamp(mode, &forest.chain(of), &forest.chain(id)),
+        Ordering::Less
+    )
+}
+
+/// Takes the node of least stamp off it. None where no node is on it.
+pub fn take(agenda: &mut Agenda, forest: &Forest) -> Option<NodeId>
+    ensures taken { IfSome result (λ id. (x : Chain) × IsLeast (chains_of forest.now) agenda.old agenda.new id x) }
+    ensures passed { IfNone result (SameOn (chains_of forest.now) agenda.old agenda.new) }
+    ensures none { IfNone result (NoneOn (chains_of forest.now) agenda.old) }
+{
+    let mode = agenda.mode();
+    while let Some((key, id)) = agenda.pop() {
+        if is_due(mode, &key, forest, id) {
+            return Some(id);
+        }
+    }
+    None
+}
+
+/// Puts a node on it. Takes memory.
+pub fn add(agenda: &mut Agenda, alloc: Global, forest: &Forest, id: NodeId) -> Result<(), NoMemory>
+    requires here { IsSome (chains_of forest.now id) }
+    requires one { OneEach (chains_of forest.now) }
+    ensures grows { OnOk result (Grows (chains_of forest.now) (λ c. c ≡ id) agenda.old agenda.new) }
+    ensures there { OnOk result (on_of forest.now agenda.new id ≡ true) }
+{
+    agenda.put(alloc, &forest.chain(id), id)
+}
+
+/// Puts a node on it, if it comes later than another. Takes memory.
+fn add_later(
+    agenda: &mut Agenda,
+    alloc: Global,
+    forest: &Forest,
+    of: NodeId,
+    id: NodeId,
+) -> Result<(), NoMemory>
+    requires one { OneEach (chains_of forest.now) }
+    ensures grows { OnOk result (Grows (chains_of forest.now) (ComesAfter forest.now agenda.old.mode of) agenda.old agenda.new) }
+    ensures there { OnOk result (ComesAfter forest.now agenda.old.mode of id → on_of forest.now agenda.new id ≡ true) }
+{
+    if is_later(agenda.mode(), forest, of, id) {
+        add(agenda, alloc, forest, id)?;
+    }
+    Ok(())
+}
+
+/// Puts those of the nodes on it that come later than another. Takes memory.
+fn add_each(
+    agenda: &mut Agenda,
+    alloc: Global,
+    forest: &Forest,
+    of: NodeId,
+    ids: &[NodeId],
+) -> Result<(), NoMemory>
+    requires one { OneEach (chains_of forest.now) }
+    ensures grows { OnOk result (Grows (chains_of forest.now) (ComesAfter forest.now agenda.old.mode of) agenda.old agenda.new) }
+    ensures there { OnOk result (HasLater forest.now agenda.old.mode of ids.now agenda.new) }
+{
+    for id in ids {
+        add_later(agenda, alloc, forest, of, *id)?;
+    }
+    Ok(())
+}
+
+/// Puts the nodes on it that ask, meet a box and come later than another. Takes memory.
+pub fn add_askers<T: Ledger>(
+    agenda: &mut Agenda,
+    alloc: Global,
+    forest: &Forest,
+    of: NodeId,
+    area: &WorldBox,
+    tests: &mut Steps<T>,
+) -> Result<(), NoMemory>
+    requires one { OneEach (chains_of forest.now) }
+    ensures grows { OnOk result (Grows (chains_of forest.now) (ComesAfter forest.now agenda.old.mode of) agenda.old agenda.new) }
+    ensures there { OnOk result (HasAskers forest.now agenda.old.mode of area.now agenda.new) }
+{
+    forest.laws();
+    let askers = queriers_meeting(alloc, forest, area, tests)?;
+    add_each(agenda, alloc, forest, of, askers.as_slice())
+}

@@ -1,0 +1,118 @@
+//! The end of an update within the budget: what the log says is made of the dependents.
+ghost use Rattle.std.specs.Prelude.{◌≡◌, ℕ, List, OnOk, if◌then◌else◌, true, false};
+ghost use Rattle.cga_depend.specs.Mentions.{mentioning};
+ghost use Rattle.cga_depend.specs.Pairs.{symbols_in};
+ghost use Rattle.cga_forest.specs.Tree.{marked_at, node_at};
+ghost use Rattle.cga_update.specs.Applied.{IsApplied, ListsView, lists};
+ghost use Rattle.cga_update.specs.Log.{IsLogged, is_pair, noted};
+
+use crate::log::Pairing;
+use crate::work::Work;
+use cga_depend::Dependents;
+use cga_forest::Forest;
+use cga_fraction::{List, NoMemory};
+use cga_index::NodeId;
+use cga_shape::Changes;
+use cga_word::Name;
+
+/// Makes the nodes of each symbol what a log says. Takes memory.
+pub fn apply(dependents: &mut Dependents, log: &[Pairing]) -> Result<(), NoMemory>
+    ensures applied { OnOk result (IsApplied log.now dependents.old dependents.new) }
+    ensures mentions { dependents.new.mentions ≡ dependents.old.mentions }
+{
+    for entry in log {
+        apply_one(dependents, *entry)?;
+    }
+    Ok(())
+}
+
+fn apply_one(dependents: &mut Dependents, entry: Pairing) -> Result<(), NoMemory>
+    ensures noted { OnOk result ((s : List ℕ) (c : ℕ) → lists dependents.new s c ≡ noted entry s c (lists dependents.old s c)) }
+    ensures mentions { dependents.new.mentions ≡ dependents.old.mentions }
+{
+    match entry {
+        Pairing::Came(symbol, node) => add(dependents, symbol, node),
+        Pairing::Went(symbol, node) => {
+            take_out(dependents, symbol, node);
+            Ok(())
+        }
+    }
+}
+
+fn add(dependents: &mut Dependents, symbol: Name, node: NodeId) -> Result<(), NoMemory>
+    ensures noted { OnOk result ((s : List ℕ) (c : ℕ) → lists dependents.new s c ≡ (if is_pair symbol node s c then true else lists dependents.old s c)) }
+    ensures mentions { dependents.new.mentions ≡ dependents.old.mentions }
+{
+    dependents.add(symbol, node)?;
+    Ok(())
+}
+
+/// Takes a node out of those of a symbol, where it is one.
+fn take_out(dependents: &mut Dependents, symbol: Name, node: NodeId)
+    ensures noted { (s : List ℕ) (c : ℕ) → lists dependents.new s c ≡ (if is_pair symbol node s c then false else lists dependents.old s c) }
+    ensures mentions { dependents.new.mentions ≡ dependents.old.mentions }
+{
+    let _nodes = dependents.nodes_of(symbol);
+    dependents.remove(symbol, node);
+}
+
+/// Puts a worked forest and what it means for the dependents in place, and its record into the changes. Takes memory.
+pub fn done(
+    work: Work,
+    forest: &mut Forest,
+    dependents: &mut Dependents,
+    changes: &mut Changes,
+) -> Result<(), NoMemory>
+    requires marked { work.forest.marking ≡ true }
+    requires logged { IsLogged (marked_at work.forest) (node_at work.forest) work.log.items }
+    requires listed { ListsView dependents.old (marked_at work.forest) }
+    ensures nodes { OnOk result ((c : ℕ) → node_at forest.new c ≡ node_at work.entry.forest c) }
+    ensures unmarked { OnOk result (forest.new.marking ≡ false) }
+    ensures mode { OnOk result (forest.new.mode ≡ work.entry.forest.mode) }
+    ensures listed { OnOk result (ListsView dependents.new (node_at work.entry.forest)) }
+    ensures mentions { OnOk result ((a : List ℕ) → symbols_in dependents.new a ≡ mentioning work.entry.new.now.grammar a) }
+    ensures changes { OnOk result (changes.new ≡ record { gone = work.entry.gone.items; come = work.entry.come.items }) }
+{
+    let Work {
+        alloc: _,
+        forest: mut worked,
+        agenda: _,
+        symbols: _,
+        log,
+        gone,
+        come,
+        old: _,
+        new,
+    } = work;
+    apply(dependents, log.as_slice())?;
+    dependents.set_mentions(&new.grammar)?;
+    worked.settle();
+    *forest = worked;
+    *changes = Changes {
+        gone: List::from_vec(gone),
+        come: List::from_vec(come),
+    };
+    Ok(())
+}
+
+/// The forest as it was at the mark. The time goes by what changed since.
+pub fn undone(work: Work) -> Forest
+    requires marked { work.forest.marking ≡ true }
+    ensures nodes { (c : ℕ) → node_at result c ≡ marked_at work.entry.forest c }
+    ensures unmarked { result.marking ≡ false }
+    ensures mode { result.mode ≡ work.entry.forest.mode }
+{
+    let Work {
+        alloc: _,
+        mut forest,
+        agenda: _,
+        symbols: _,
+        log: _,
+        gone: _,
+        come: _,
+        old: _,
+        new: _,
+    } = work;
+    forest.roll_back();
+    forest
+}

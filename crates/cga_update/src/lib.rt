@@ -1,0 +1,29 @@
+//! From one derivation to the next: a kept forest that stands for old sources is made to stand for new
+//! ones, expanding just the shapes that the edit touched.
+//!
+//! It must not know what an edit is, nor how a report is written: it is given old and new sources. What
+//! callers get wrong: after want of memory the forest, the dependents and the record are given up, and
+//! only new ones stand again.
+#![tactic(auto)]
+
+mod again;
+mod agenda;
+mod asked;
+mod begin;
+mod changed;
+mod due;
+mod end;
+mod follow;
+pub mod laws;
+mod log;
+mod queue;
+mod rework;
+mod roots;
+mod turn;
+mod update_refused;
+mod updating;
+mod work;
+mod worker;
+
+pub use update_refused::UpdateRefused;
+pub use updating::update;

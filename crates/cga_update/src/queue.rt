@@ -1,0 +1,190 @@
+//! Nodes are put on the agenda, whatever their stamps.
+ghost use Rattle.std.specs.Prelude.{◌≡◌, ℕ, List, OnOk};
+ghost use Rattle.cga_frame.specs.Box.{box_of};
+ghost use Rattle.cga_forest.specs.declared.moved.Moved.{Moved};
+ghost use Rattle.cga_index.specs.Tree.{Member};
+ghost use Rattle.cga_order.specs.World.{Among};
+ghost use Rattle.cga_update.specs.Changed.{AreKnown};
+ghost use Rattle.cga_update.specs.Near.{HasNear, HasParents, HasThese, IsChangedFor, IsPricedFor, KeepsOn};
+ghost use Rattle.cga_depend.specs.Pairs.{nodes_in};
+
+use crate::agenda::Agenda;
+use crate::changed::Symbols;
+use crate::due::{add, is_worked};
+use cga_depend::Dependents;
+use cga_forest::{Forest, Moved};
+use cga_fraction::{NoMemory, Steps};
+use cga_frame::WorldBox;
+use cga_index::{NodeId, queriers_meeting};
+use cga_rule::Grammar;
+use cga_word::Name;
+use std::alloc::Global;
+use std::sync::ledger::Ledger;
+
+/// Puts a node on it, where it is there and is no instance. Takes memory.
+pub fn queue(
+    agenda: &mut Agenda,
+    alloc: Global,
+    forest: &Forest,
+    id: NodeId,
+) -> Result<(), NoMemory>
+    ensures kept { OnOk result (KeepsOn forest.now agenda.old agenda.new) }
+    ensures there { OnOk result (HasThese forest.now (λ c. c ≡ id) agenda.new) }
+{
+    forest.laws();
+    if !is_worked(forest, id) {
+        return Ok(());
+    }
+    add(agenda, alloc, forest, id)
+}
+
+/// Puts nodes on it, those that are there and are no instances. Takes memory.
+pub fn queue_all(
+    agenda: &mut Agenda,
+    alloc: Global,
+    forest: &Forest,
+    ids: &[NodeId],
+) -> Result<(), NoMemory>
+    ensures kept { OnOk result (KeepsOn forest.now agenda.old agenda.new) }
+    ensures there { OnOk result (HasThese forest.now (λ c. Member ids.now c) agenda.new) }
+{
+    for id in ids {
+        queue(agenda, alloc, forest, *id)?;
+    }
+    Ok(())
+}
+
+/// Puts the nodes on it that ask and whose boxes meet an area. Takes memory.
+pub fn queue_askers<T: Ledger>(
+    agenda: &mut Agenda,
+    alloc: Global,
+    forest: &Forest,
+    area: &WorldBox,
+    tests: &mut Steps<T>,
+) -> Result<(), NoMemory>
+    ensures kept { OnOk result (KeepsOn forest.now agenda.old agenda.new) }
+    ensures there { OnOk result (HasNear forest.now area.now agenda.new) }
+{
+    forest.laws();
+    let askers = queriers_meeting(alloc, forest, area, tests)?;
+    queue_all(agenda, alloc, forest, askers.as_slice())
+}
+
+/// Puts the nodes on it that ask and whose boxes meet that of one of these. Takes memory.
+pub fn queue_near<T: Ledger>(
+    agenda: &mut Agenda,
+    alloc: Global,
+    forest: &Forest,
+    moved: &[Moved],
+    tests: &mut Steps<T>,
+) -> Result<(), NoMemory>
+    ensures kept { OnOk result (KeepsOn forest.now agenda.old agenda.new) }
+    ensures there { OnOk result ((m : Moved) → Among m moved.now → HasNear forest.now (box_of m.scope) agenda.new) }
+{
+    for node in moved {
+        queue_askers(agenda, alloc, forest, &node.bounds(), tests)?;
+    }
+    Ok(())
+}
+
+/// Puts these nodes on it, where they are there and are no instances. Takes memory.
+pub fn queue_moved(
+    agenda: &mut Agenda,
+    alloc: Global,
+    forest: &Forest,
+    moved: &[Moved],
+) -> Result<(), NoMemory>
+    ensures kept { OnOk result (KeepsOn forest.now agenda.old agenda.new) }
+    ensures there { OnOk result ((m : Moved) → Among m moved.now → HasThese forest.now (λ c. c ≡ m.id) agenda.new) }
+{
+    for node in moved {
+        queue(agenda, alloc, forest, node.id)?;
+    }
+    Ok(())
+}
+
+/// Puts the parent of a node on it, where there is one. Takes memory.
+fn queue_parent(
+    agenda: &mut Agenda,
+    alloc: Global,
+    forest: &Forest,
+    id: NodeId,
+) -> Result<(), NoMemory>
+    ensures kept { OnOk result (KeepsOn forest.now agenda.old agenda.new) }
+    ensures there { OnOk result (HasParents forest.now (λ c. c ≡ id) agenda.new) }
+{
+    if forest.node(id).is_none() {
+        return Ok(());
+    }
+    match forest.parent(id) {
+        Some(parent) => queue(agenda, alloc, forest, parent),
+        None => Ok(()),
+    }
+}
+
+/// Puts the parents of nodes on it, where there are any. Takes memory.
+pub fn queue_parents(
+    agenda: &mut Agenda,
+    alloc: Global,
+    forest: &Forest,
+    ids: &[NodeId],
+) -> Result<(), NoMemory>
+    ensures kept { OnOk result (KeepsOn forest.now agenda.old agenda.new) }
+    ensures there { OnOk result (HasParents forest.now (λ c. Member ids.now c) agenda.new) }
+{
+    for id in ids {
+        queue_parent(agenda, alloc, forest, *id)?;
+    }
+    Ok(())
+}
+
+/// Puts the nodes of a symbol on it, and their parents where the symbol has another priority. Takes memory.
+fn queue_symbol(
+    agenda: &mut Agenda,
+    alloc: Global,
+    forest: &Forest,
+    symbols: &mut Symbols,
+    old: &Grammar,
+    new: &Grammar,
+    nodes: &[NodeId],
+    symbol: Name,
+) -> Result<(), NoMemory>
+    requires { AreKnown old.now new.now symbols.old.known }
+    ensures known { OnOk result (AreKnown old.now new.now symbols.new.known) }
+    ensures kept { OnOk result (KeepsOn forest.now agenda.old agenda.new) }
+    ensures there { OnOk result (HasThese forest.now (λ c. Member nodes.now c) agenda.new) }
+    ensures parents { OnOk result (IsPricedFor forest.now old.now new.now (λ c. Member nodes.now c) symbol agenda.new) }
+{
+    let facts = symbols.of(alloc, old, new, symbol)?;
+    queue_all(agenda, alloc, forest, nodes)?;
+    if facts.same_priority {
+        return Ok(());
+    }
+    queue_parents(agenda, alloc, forest, nodes)?;
+    Ok(())
+}
+
+/// Puts the nodes of each symbol whose setting changed on it, and their parents where the symbol has another priority.
+/// Takes memory.
+pub fn queue_changed(
+    agenda: &mut Agenda,
+    alloc: Global,
+    forest: &Forest,
+    symbols: &mut Symbols,
+    old: &Grammar,
+    new: &Grammar,
+    dependents: &Dependents,
+) -> Result<(), NoMemory>
+    requires { AreKnown old.now new.now symbols.old.known }
+    ensures known { OnOk result (AreKnown old.now new.now symbols.new.known) }
+    ensures kept { OnOk result (KeepsOn forest.now agenda.old agenda.new) }
+    ensures there { OnOk result ((symbol : List ℕ) → IsChangedFor forest.now old.now new.now (λ c. Member (nodes_in dependents.now symbol) c) symbol agenda.new) }
+    ensures parents { OnOk result ((symbol : List ℕ) → IsPricedFor forest.now old.now new.now (λ c. Member (nodes_in dependents.now symbol) c) symbol agenda.new) }
+{
+    let changed = symbols.changed(alloc, old, new)?;
+    for symbol in changed.as_slice() {
+        let nodes = dependents.nodes_of(*symbol);
+        queue_symbol(agenda, alloc, forest, symbols, old, new, nodes, *symbol)?;
+    }
+    Ok(())
+}

@@ -1,0 +1,210 @@
+//! The roots that go and come when an edit begins.
+ghost use Rattle.std.specs.Prelude.{◌≡◌, ℕ, ◌∷◌, ◌++◌, [], slice_get, Some, None, true, false, IfOk, OnOk, IsOk, length};
+ghost use Rattle.cga_expand.specs.Derivation.{priority_of, NamesDiffer};
+ghost use Rattle.cga_expand.specs.Validity.{RootsExist};
+ghost use Rattle.cga_forest.specs.Moved.{ListsMoved, moved_of};
+ghost use Rattle.cga_forest.specs.View.{Seen};
+ghost use Rattle.cga_forest.specs.Tree.{node_at};
+ghost use Rattle.cga_order.specs.World.{is_instance};
+ghost use Rattle.cga_shape.specs.Root.{root_scope};
+ghost use Rattle.cga_update.specs.Changed.{AreKnown};
+ghost use Rattle.cga_update.specs.Roots.{AllWanted, AreByName, AreThere, AreWithin, Gains, HasLost, HasOldLots, IsRootFor, IsRootNamed, IsWanted, Loses, View};
+
+use crate::changed::Symbols;
+use cga_forest::{Forest, Moved, Node};
+use cga_fraction::{List, NoMemory};
+use cga_index::NodeId;
+use cga_shape::{Answers, Kind, Lot, Sources, root_shape};
+use cga_word::Name;
+use indexmap::IndexMap;
+use std::alloc::Global;
+
+/// Lots by their names. Takes memory.
+pub fn lots_by_name(alloc: Global, lots: &[Lot]) -> Result<IndexMap<Name, Lot>, NoMemory>
+    ensures { IfOk result (λ named. AreByName lots.now (length lots.now) named.entries) }
+{
+    let mut named = IndexMap::new(alloc);
+    for lot in lots {
+        named.insert(lot.name, *lot)?;
+    }
+    Ok(named)
+}
+
+/// Whether a root is that of a lot, with this priority. Takes no memory.
+pub fn is_root_for(alloc: Global, root: &Node, lot: &Lot, priority: u16) -> bool
+    requires scope { IsOk (root_scope lot.now) }
+    ensures sound { result ≡ true → IsRootFor lot.now priority root.now }
+    ensures whole { is_instance root.now.kind ≡ false → IsRootFor lot.now priority root.now → result ≡ true }
+{
+    let wanted = Node {
+        shape: root_shape(alloc, lot),
+        kind: Kind::Waiting,
+        priority,
+        answers: Answers {
+            noparent: None,
+            active: None,
+        },
+        asks: false,
+        line: List::new(alloc),
+    };
+    root.fits(&wanted)
+}
+
+/// Whether the root of that name is still wanted. Takes memory.
+fn is_wanted(
+    alloc: Global,
+    forest: &Forest,
+    lots: &IndexMap<Name, Lot>,
+    symbols: &mut Symbols,
+    old: &Sources,
+    new: &Sources,
+    name: Name,
+) -> Result<bool, NoMemory>
+    requires known { AreKnown old.now.grammar new.now.grammar symbols.old.known }
+    requires lots { AreByName new.now.lots (length new.now.lots) lots.now.entries }
+    requires names { NamesDiffer new.now.lots }
+    requires scopes { RootsExist new.now.lots }
+    ensures known { OnOk result (AreKnown old.now.grammar new.now.grammar symbols.new.known) }
+    ensures wanted { IfOk result (λ is. is ≡ true → (c : ℕ) (d : Seen) → IsRootNamed (node_at forest.now) name c d → IsWanted new.now d.node) }
+    ensures unwanted { IfOk result (λ is. is ≡ false → (c : ℕ) (d : Seen) → IsRootNamed (node_at forest.now) name c d → IsWanted new.now d.node → ⊥) }
+{
+    forest.laws();
+    let Some(lot) = lots.get(&name) else {
+        return Ok(false);
+    };
+    let facts = symbols.of(alloc, &old.grammar, &new.grammar, lot.symbol)?;
+    match forest.root_of(name) {
+        Some(root) => Ok(is_root_at(alloc, forest, root, lot, facts.priority)),
+        None => Ok(true),
+    }
+}
+
+/// Whether the node under a number is the root of a lot, with this priority. Takes no memory.
+fn is_root_at(alloc: Global, forest: &Forest, id: NodeId, lot: &Lot, priority: u16) -> bool
+    requires scope { IsOk (root_scope lot.now) }
+    ensures sound { result ≡ true → (d : Seen) → node_at forest.now id ≡ Some d → IsRootFor lot.now priority d.node }
+    ensures whole { (d : Seen) → node_at forest.now id ≡ Some d → is_instance d.node.kind ≡ false → IsRootFor lot.now priority d.node → result ≡ true }
+{
+    match forest.node(id) {
+        Some(node) => is_root_for(alloc, node, lot, priority),
+        None => false,
+    }
+}
+
+/// Removes the root of that name with all below it, and lists them. Takes memory.
+fn remove_root(forest: &mut Forest, name: Name, went: &mut Vec<Moved>) -> Result<(), NoMemory>
+    ensures lost { OnOk result ((V : View) → HasLost V forest.old went.old.items → HasLost V forest.new went.new.items) }
+    ensures gone { OnOk result ((c : ℕ) (d : Seen) → IsRootNamed (node_at forest.new) name c d → ⊥) }
+    ensures less { OnOk result ((c : ℕ) (d : Seen) → node_at forest.new c ≡ Some d → node_at forest.old c ≡ Some d) }
+    ensures others { OnOk result ((c : ℕ) (d : Seen) → node_at forest.old c ≡ Some d → d.parent ≡ None → (d.node.shape.lot ≡ name → ⊥) → node_at forest.new c ≡ Some d) }
+    ensures mode { forest.new.mode ≡ forest.old.mode }
+{
+    forest.laws();
+    let Some(root) = forest.root_of(name) else {
+        return Ok(());
+    };
+    let below = forest.below(root)?;
+    went.extend_from_slice(below.as_slice())?;
+    forest.remove_lot(name);
+    Ok(())
+}
+
+/// Removes the root of that name with all below it, where it isn't wanted any more, and lists them. Takes memory.
+fn clear_root(
+    alloc: Global,
+    forest: &mut Forest,
+    lots: &IndexMap<Name, Lot>,
+    symbols: &mut Symbols,
+    old: &Sources,
+    new: &Sources,
+    name: Name,
+    went: &mut Vec<Moved>,
+) -> Result<(), NoMemory>
+    requires known { AreKnown old.now.grammar new.now.grammar symbols.old.known }
+    requires lots { AreByName new.now.lots (length new.now.lots) lots.now.entries }
+    requires names { NamesDiffer new.now.lots }
+    requires scopes { RootsExist new.now.lots }
+    ensures known { OnOk result (AreKnown old.now.grammar new.now.grammar symbols.new.known) }
+    ensures lost { OnOk result ((V : View) → HasLost V forest.old went.old.items → HasLost V forest.new went.new.items) }
+    ensures wanted { OnOk result ((c : ℕ) (d : Seen) → IsRootNamed (node_at forest.new) name c d → IsWanted new.now d.node) }
+    ensures loses { OnOk result (Loses new.now forest.old forest.new) }
+    ensures mode { forest.new.mode ≡ forest.old.mode }
+{
+    if is_wanted(alloc, forest, lots, symbols, old, new, name)? {
+        return Ok(());
+    }
+    remove_root(forest, name, went)?;
+    Ok(())
+}
+
+/// Removes the roots that aren't wanted any more, with all below them, and lists these. Takes memory.
+pub fn remove_roots(
+    alloc: Global,
+    forest: &mut Forest,
+    symbols: &mut Symbols,
+    old: &Sources,
+    new: &Sources,
+    went: &mut Vec<Moved>,
+) -> Result<(), NoMemory>
+    requires known { AreKnown old.now.grammar new.now.grammar symbols.old.known }
+    requires names { NamesDiffer new.now.lots }
+    requires scopes { RootsExist new.now.lots }
+    requires lots { HasOldLots old.now.lots forest.old }
+    ensures known { OnOk result (AreKnown old.now.grammar new.now.grammar symbols.new.known) }
+    ensures lost { OnOk result ((V : View) → HasLost V forest.old went.old.items → HasLost V forest.new went.new.items) }
+    ensures wanted { OnOk result (AllWanted new.now forest.new) }
+    ensures loses { OnOk result (Loses new.now forest.old forest.new) }
+    ensures mode { forest.new.mode ≡ forest.old.mode }
+{
+    let lots = lots_by_name(alloc, new.lots.as_slice())?;
+    for lot in old.lots.as_slice() {
+        clear_root(alloc, forest, &lots, symbols, old, new, lot.name, went)?;
+    }
+    Ok(())
+}
+
+/// Adds the root of a lot, where it has none, and lists it. Takes memory.
+fn add_root(
+    forest: &mut Forest,
+    new: &Sources,
+    lot: &Lot,
+    came: &mut Vec<Moved>,
+) -> Result<(), NoMemory>
+    requires listed { (i : ℕ) × (slice_get new.now.lots i ≡ Some lot.now) }
+    requires scope { IsOk (root_scope lot.now) }
+    ensures gains { OnOk result (Gains new.now forest.old forest.new) }
+    ensures there { OnOk result ((c : ℕ) × (d : Seen) × IsRootNamed (node_at forest.new) lot.now.name c d) }
+    ensures came { OnOk result ((W : View) → AreWithin W (node_at forest.old) → ListsMoved (node_at forest.old) W came.old.items → ListsMoved (node_at forest.new) W came.new.items) }
+    ensures mode { forest.new.mode ≡ forest.old.mode }
+{
+    if forest.root_of(lot.name).is_some() {
+        return Ok(());
+    }
+    let root = forest.add_lot(lot, &new.grammar)?;
+    list_node(forest, root, came)
+}
+
+/// Lists a node. Takes memory.
+fn list_node(forest: &Forest, id: NodeId, list: &mut Vec<Moved>) -> Result<(), NoMemory>
+    ensures { OnOk result ((d : Seen) → node_at forest.now id ≡ Some d → list.new.items ≡ list.old.items ++ moved_of id d ∷ []) }
+{
+    if let Some(node) = forest.node(id) {
+        list.push(Moved::of(id.number() as usize, node))?;
+    }
+    Ok(())
+}
+
+/// Adds the roots of lots that have none, and answers them. Takes memory.
+pub fn add_roots(alloc: Global, forest: &mut Forest, new: &Sources) -> Result<Vec<Moved>, NoMemory>
+    requires scopes { RootsExist new.now.lots }
+    ensures gains { OnOk result (Gains new.now forest.old forest.new) }
+    ensures there { OnOk result (AreThere new.now forest.new (length new.now.lots)) }
+    ensures came { IfOk result (λ came. ListsMoved (node_at forest.new) (node_at forest.old) came.items) }
+    ensures mode { forest.new.mode ≡ forest.old.mode }
+{
+    let mut came = Vec::new(alloc);
+    for lot in new.lots.as_slice() {
+        add_root(forest, new, lot, &mut came)?;
+    }
+    Ok(came)
+}

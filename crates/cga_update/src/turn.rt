@@ -1,0 +1,224 @@
+//! One turn of the agenda.
+ghost use Rattle.std.specs.Prelude.{◌≡◌, ◌+◌, ◌≤◌, ◌⊎◌, length, true, false, Some, IfOk, IsSome, OnOk};
+ghost use Rattle.cga_order.specs.World as world;
+ghost use Rattle.cga_order.specs.declared.placed.Kind.TheVariants.{Waiting};
+ghost use Rattle.cga_agenda.specs.Loop.{TellsEach, calls_of, calls_told, children_told};
+ghost use Rattle.cga_expand.specs.Expand.{expand_of};
+ghost use Rattle.cga_expand.specs.declared.limits.TheConstants.{MOST_CHILDREN};
+ghost use Rattle.cga_forest.specs.Placing.{MayGrow, Outcome, emitted};
+ghost use Rattle.cga_forest.specs.View.{Seen};
+ghost use Rattle.cga_forest.specs.Tree.{node_at};
+ghost use Rattle.cga_update.specs.Changed.{AreFacts, AreKnown};
+ghost use Rattle.cga_update.specs.Means.{KeepsBounds, Means};
+ghost use Rattle.cga_update.specs.Plain.{IsPlain};
+ghost use Rattle.cga_update.specs.Turned.{HasPlaced, IsAgain, IsTurned, MayTurn};
+
+use crate::again::outcome_again;
+use crate::asked::asked;
+use crate::changed::Facts;
+use crate::due::take;
+use crate::follow::follow;
+use crate::log::{note_came, note_went};
+use crate::work::Work;
+use cga_agenda::Turned;
+use cga_expand::expand;
+use cga_forest::{Forest, Node};
+use cga_fraction::{List, NoMemory, Steps};
+use cga_index::NodeId;
+use cga_shape::{Answers, Emitted, Kind, ShapeFault};
+use std::sync::ledger::Ledger;
+
+/// Gives a node its outcome, notes what went and came, and follows it on the agenda. Takes memory.
+fn place<T: Ledger>(
+    work: &mut Work,
+    id: NodeId,
+    answers: Answers,
+    outcome: &Result<List<Emitted>, ShapeFault>,
+    tests: &mut Steps<T>,
+) -> Result<(), NoMemory>
+    requires here { (e : Seen) × (node_at work.now.forest id ≡ Some e) × MayGrow e outcome.now }
+    ensures placed { OnOk result (HasPlaced work.entry.now work.exit.now id answers outcome.now) }
+    ensures bounds { KeepsBounds work.entry.now work.exit.now }
+    ensures symbols { work.exit.now.symbols ≡ work.entry.now.symbols }
+{
+    let grammar = &work.new.grammar;
+    let change = work.forest.replace_children(id, answers, outcome, grammar)?;
+    work.forest.laws();
+    note_went(change.went.as_slice(), &mut work.log, &mut work.gone)?;
+    note_came(change.came.as_slice(), &mut work.log, &mut work.come)?;
+    follow(
+        &mut work.agenda,
+        work.alloc,
+        &work.forest,
+        id,
+        &change,
+        tests,
+    )
+}
+
+/// What both grammars say of a node's symbol. Takes memory where the symbol comes for the first time.
+fn facts_at(work: &mut Work, id: NodeId) -> Result<Facts, NoMemory>
+    requires here { IsSome (node_at work.now.forest id) }
+    ensures facts { IfOk result (λ facts. (d : Seen) → node_at work.entry.now.forest id ≡ Some d
+        → AreKnown work.entry.now.old.now.grammar work.entry.now.new.now.grammar work.entry.now.symbols.known
+        → AreFacts work.entry.now.old.now.grammar work.entry.now.new.now.grammar d.node.shape.symbol facts) }
+    ensures known { OnOk result (AreKnown work.entry.now.old.now.grammar work.entry.now.new.now.grammar work.entry.now.symbols.known
+        → AreKnown work.entry.now.old.now.grammar work.entry.now.new.now.grammar work.exit.now.symbols.known) }
+    ensures rest { work.exit.now ≡ record work.entry.now { symbols = work.exit.now.symbols } }
+{
+    let symbol = match work.forest.node(id) {
+        Some(node) => node.shape.symbol,
+        None => unreachable!(),
+    };
+    work.symbols
+        .of(work.alloc, &work.old.grammar, &work.new.grammar, symbol)
+}
+
+/// Whether a node waits, or its inputs differ.
+fn is_changed(node: &Node, same_setting: bool, answers: &Answers) -> bool
+    ensures changed { result ≡ true → (node.now.kind ≡ Waiting) ⊎ ((same_setting ≡ true) × (node.now.answers ≡ answers.now) → ⊥) }
+    ensures same { result ≡ false → (world.is_waiting node.now.kind ≡ false) × (same_setting ≡ true) × (node.now.answers ≡ answers.now) }
+{
+    if matches!(node.kind, Kind::Waiting) {
+        return true;
+    }
+    !same_setting || node.answers != *answers
+}
+
+/// The same of the node of an id.
+fn must_expand(forest: &Forest, id: NodeId, same_setting: bool, answers: &Answers) -> bool
+    requires here { IsSome (node_at forest.now id) }
+    ensures changed { (d : Seen) → node_at forest.now id ≡ Some d → result ≡ true → (d.node.kind ≡ Waiting) ⊎ ((same_setting ≡ true) × (d.node.answers ≡ answers.now) → ⊥) }
+    ensures same { (d : Seen) → node_at forest.now id ≡ Some d → result ≡ false → (world.is_waiting d.node.kind ≡ false) × (same_setting ≡ true) × (d.node.answers ≡ answers.now) }
+{
+    match forest.node(id) {
+        Some(node) => is_changed(node, same_setting, answers),
+        None => unreachable!(),
+    }
+}
+
+fn child_count(outcome: &Result<List<Emitted>, ShapeFault>) -> u16
+    requires few { length (emitted outcome.now) ≤ MOST_CHILDREN }
+    ensures { result ≡ length (emitted outcome.now) }
+{
+    match outcome {
+        Ok(children) => children.len() as u16,
+        Err(_) => 0,
+    }
+}
+
+/// What a node is expanded to with these answers. Takes memory.
+fn outcome_of<E: Ledger>(
+    work: &Work,
+    id: NodeId,
+    answers: &Answers,
+    expansions: &mut Steps<E>,
+) -> Result<Result<List<Emitted>, ShapeFault>, NoMemory>
+    requires here { IsSome (node_at work.now.forest id) }
+    ensures value { IfOk result (λ made. (d : Seen) → node_at work.now.forest id ≡ Some d
+        → made ≡ expand_of work.now.new.now.grammar d.node.shape answers.now) }
+    ensures few { IfOk result (λ made. length (emitted made) ≤ MOST_CHILDREN) }
+    ensures ticked { expansions.new ≡ expansions.old + 1 }
+{
+    match work.forest.node(id) {
+        Some(node) => expand(
+            work.alloc,
+            &work.new.grammar,
+            &node.shape,
+            answers,
+            expansions,
+        ),
+        None => unreachable!(),
+    }
+}
+
+/// A node is expanded. Takes memory.
+fn expand_at<E: Ledger, T: Ledger>(
+    work: &mut Work,
+    id: NodeId,
+    answers: Answers,
+    expansions: &mut Steps<E>,
+    tests: &mut Steps<T>,
+) -> Result<Turned, NoMemory>
+    requires here { (e : Seen) × (node_at work.now.forest id ≡ Some e) × (world.is_instance e.node.kind ≡ false) }
+    ensures placed { IfOk result (λ turned. (outcome : Outcome) × HasPlaced work.entry.now work.exit.now id answers outcome
+        × ((d : Seen) → node_at work.entry.now.forest id ≡ Some d → outcome ≡ expand_of work.entry.now.new.now.grammar d.node.shape answers)
+        × (turned.expanded ≡ true) × (turned.children ≡ length (emitted outcome))) }
+    ensures ticked { expansions.new ≡ expansions.old + 1 }
+    ensures bounds { KeepsBounds work.entry.now work.exit.now }
+    ensures symbols { work.exit.now.symbols ≡ work.entry.now.symbols }
+{
+    let outcome = outcome_of(work, id, &answers, expansions)?;
+    let children = child_count(&outcome);
+    work.forest.laws();
+    place(work, id, answers, &outcome, tests)?;
+    Ok(Turned {
+        children,
+        expanded: true,
+    })
+}
+
+/// A node's children are placed anew. Takes memory.
+fn place_again<T: Ledger>(
+    work: &mut Work,
+    id: NodeId,
+    answers: Answers,
+    tests: &mut Steps<T>,
+) -> Result<Turned, NoMemory>
+    requires here { (e : Seen) × (node_at work.now.forest id ≡ Some e) × (world.is_instance e.node.kind ≡ false) }
+    ensures placed { IfOk result (λ turned. (outcome : Outcome) × HasPlaced work.entry.now work.exit.now id answers outcome
+        × ((d : Seen) → node_at work.entry.now.forest id ≡ Some d → world.is_waiting d.node.kind ≡ false → IsPlain d → IsAgain work.entry.now.forest d outcome)
+        × (turned.expanded ≡ false) × (turned.children ≡ 0)) }
+    ensures bounds { KeepsBounds work.entry.now work.exit.now }
+    ensures symbols { work.exit.now.symbols ≡ work.entry.now.symbols }
+{
+    let outcome = outcome_again(work.alloc, &work.forest, id)?;
+    work.forest.laws();
+    place(work, id, answers, &outcome, tests)?;
+    Ok(Turned {
+        children: 0,
+        expanded: false,
+    })
+}
+
+/// The turn of a node. Takes memory.
+fn turn_of<E: Ledger, T: Ledger>(
+    work: &mut Work,
+    id: NodeId,
+    expansions: &mut Steps<E>,
+    tests: &mut Steps<T>,
+) -> Result<Turned, NoMemory>
+    requires here { (e : Seen) × (node_at work.now.forest id ≡ Some e) × (world.is_instance e.node.kind ≡ false) }
+    ensures turned { IfOk result (λ turned. MayTurn work.entry.now → IsTurned work.entry.now work.exit.now id turned) }
+    ensures called { IfOk result (λ turned. expansions.new ≡ expansions.old + calls_of turned.expanded) }
+    ensures kept { KeepsBounds work.entry.now work.exit.now }
+    ensures counted { expansions.old ≤ expansions.new }
+    ensures once { expansions.new ≤ expansions.old + 1 }
+{
+    let facts = facts_at(work, id)?;
+    let answers = asked(&work.forest, id, facts.noparent, facts.active, tests);
+    if must_expand(&work.forest, id, facts.same_setting, &answers) {
+        expand_at(work, id, answers, expansions, tests)
+    } else {
+        place_again(work, id, answers, tests)
+    }
+}
+
+/// One turn of the least stamp on the agenda, and none where no node is on it. Takes memory.
+pub fn turn<E: Ledger, T: Ledger>(
+    work: &mut Work,
+    expansions: &mut Steps<E>,
+    tests: &mut Steps<T>,
+) -> Result<Option<Turned>, NoMemory>
+    ensures turned { IfOk result (λ turned. TellsEach (Means work.entry.now) (Means work.exit.now) expansions.old expansions.new (children_told turned)) }
+    ensures called { IfOk result (λ turned. expansions.new ≡ expansions.old + calls_told turned) }
+    ensures kept { KeepsBounds work.entry.now work.exit.now }
+    ensures counted { expansions.old ≤ expansions.new }
+    ensures once { expansions.new ≤ expansions.old + 1 }
+{
+    work.forest.laws();
+    match take(&mut work.agenda, &work.forest) {
+        None => Ok(None),
+        Some(id) => Ok(Some(turn_of(work, id, expansions, tests)?)),
+    }
+}

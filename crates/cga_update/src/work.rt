@@ -1,0 +1,22 @@
+use crate::agenda::Agenda;
+use crate::changed::Symbols;
+use crate::log::Pairing;
+use cga_forest::Forest;
+use cga_shape::{Drawn, Sources};
+use std::alloc::Global;
+
+/// An update under way.
+#[derive(Drop)]
+pub struct Work<'a> {
+    pub(crate) alloc: Global,
+    /// Marked: the marked nodes are those with which the update began.
+    pub(crate) forest: Forest,
+    pub(crate) agenda: Agenda,
+    pub(crate) symbols: Symbols,
+    /// What came and went that is no instance, for the dependents.
+    pub(crate) log: Vec<Pairing>,
+    pub(crate) gone: Vec<Drawn>,
+    pub(crate) come: Vec<Drawn>,
+    pub(crate) old: &'a Sources,
+    pub(crate) new: &'a Sources,
+}
