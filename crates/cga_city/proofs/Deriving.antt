@@ -11,8 +11,6 @@ use Rattle.cga_expand.specs.Derivation.{derivation_of}
 use Rattle.cga_city.specs.Apply.{apply, changed, within}
 use Rattle.cga_city.specs.Derived.{derived, members}
 use Rattle.cga_city.specs.City.{CityState, Changes, EditGives, IsRefused, empty_sources}
-use Rattle.std.specs.List.{IsDistinct}
-use Rattle.cga_city.specs.Inside.{IsCity}
 use Rattle.cga_city.proofs.Sorting.{decide}
 
 -- ---- without lots
@@ -67,7 +65,7 @@ is_refused old e n refused h = record { cause = apply_err _ _ _ _ h; same = refl
 
 -- a refusal that comes before the budget is the edit's
 pub refused_gives : (old : CityState) (e : Edit) (n : ℕ) (refused : EditRefused) → Changes (changed old.sources e) (Err refused) → EditGives old e (Err refused) old n n
-refused_gives old e n NoMemory h = record { sources_stay = refl; budget_stays = refl }
+refused_gives old e n NoMemory h = record { sources_stay = refl; budget_stays = refl; expanded_stays = refl; changes_stay = refl }
 refused_gives old e n (NoRule x) h = is_refused old e n _ h
 refused_gives old e n (NoAttribute x) h = is_refused old e n _ h
 refused_gives old e n (NoSymbol x) h = is_refused old e n _ h
@@ -76,12 +74,3 @@ refused_gives old e n (BadLot x) h = is_refused old e n _ h
 refused_gives old e n TooManyLots h = is_refused old e n _ h
 refused_gives old e n (Check x) h = is_refused old e n _ h
 refused_gives old e n OverBudget h = is_refused old e n _ h
-
--- ---- the first city
-
-pub empty_city_is : (budget : ℕ) → IsCity empty_sources budget []
-unfolding IsDistinct
-empty_city_is budget = record {
-  sound = record { few = omega arith; names = tt; roots = λ k d h. absurd (omega arith); plain = λ k d h. absurd (omega arith) };
-  is_derived = empty_derived budget;
-}

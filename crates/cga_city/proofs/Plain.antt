@@ -3,14 +3,13 @@ use Rattle.std.proofs.Common.{◌≡◌, ℕ, List, [], ◌∷◌, Bool, true, f
 use Rattle.std.specs.Prelude.{All, IsOk, is_err}
 use Rattle.std.specs.List.{list_any}
 use Rattle.std.specs.Option.{option_map_or}
-use Rattle.std.proofs.lemmas.List.Elements.{All-nil, All-cons}
+use Rattle.std.proofs.lemmas.List.Elements.{All-nil, All-cons, All-head, All-tail}
 use Rattle.cga_fraction.specs.Results.{and_then, err_if}
 use Rattle.cga_check.specs.Groups.{is_of}
 use Rattle.cga_rule.specs.declared.grammar.Entry.{Entry}
 use Rattle.cga_rule.specs.declared.grammar.Grammar.{Grammar}
 use Rattle.cga_shape.specs.declared.lot.Lot.{Lot}
 use Rattle.cga_shape.specs.Root.{root_scope}
-use Rattle.cga_expand.specs.Validity.{RootsExist}
 use Rattle.cga_city.specs.Grammars.{has_rule, has_parameters, is_plain, with_priority, prioritized}
 use Rattle.cga_city.specs.Lots.{is_bad, rooted, accepted}
 use Rattle.cga_city.proofs.Sorting.{decide}
@@ -63,13 +62,23 @@ good_root lot h = elim (decide (is_err (root_scope lot))) [
   | inr f ↦ ok_if (root_scope lot) f
 ]
 
-pub accepted_good : (g : Grammar) (lots : List Lot) (u : Unit {0}) → accepted g lots ≡ Ok u → ArePlain g lots × RootsExist lots
-accepted_good g [] u h = (All-nil (λ (l : Lot). is_plain g l.symbol ≡ true), All-nil (λ (l : Lot). IsOk (root_scope l)))
+abbrev pub AreFit : List Lot → Type 0
+AreFit lots = All (λ (lot : Lot). is_bad lot ≡ false) lots
+
+pub accepted_good : (g : Grammar) (lots : List Lot) (u : Unit {0}) → accepted g lots ≡ Ok u → ArePlain g lots × AreFit lots
+accepted_good g [] u h = (All-nil (λ (l : Lot). is_plain g l.symbol ≡ true), All-nil (λ (l : Lot). is_bad l ≡ false))
 accepted_good g (lot ∷ lots) u h =
     let k = err_if_ok (not (is_plain g lot.symbol)) _ _ u h in
     let l = err_if_ok (is_bad lot) _ (accepted g lots) u k.1 in
     let more = accepted_good g lots u l.1 in
-    (All-cons (λ (l : Lot). is_plain g l.symbol ≡ true) lot lots (not_false (is_plain g lot.symbol) k.0) more.0, All-cons (λ (l : Lot). IsOk (root_scope l)) lot lots (good_root lot l.0) more.1)
+    (All-cons (λ (l : Lot). is_plain g l.symbol ≡ true) lot lots (not_false (is_plain g lot.symbol) k.0) more.0, All-cons (λ (l : Lot). is_bad l ≡ false) lot lots l.0 more.1)
+
+-- and the other way round
+pub good_accepted : (g : Grammar) (lots : List Lot) → ArePlain g lots → AreFit lots → accepted g lots ≡ Ok tt
+good_accepted g [] plain fit = refl
+good_accepted g (lot ∷ lots) plain fit =
+    rw (All-head (λ (l : Lot). is_plain g l.symbol ≡ true) lot lots plain, All-head (λ (l : Lot). is_bad l ≡ false) lot lots fit)
+    (good_accepted g lots (All-tail (λ (l : Lot). is_plain g l.symbol ≡ true) lot lots plain) (All-tail (λ (l : Lot). is_bad l ≡ false) lot lots fit))
 
 -- ---- priorities
 

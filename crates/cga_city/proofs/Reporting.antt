@@ -7,7 +7,9 @@ use Rattle.cga_shape.specs.declared.drawn.Drawn.{Drawn}
 use Rattle.cga_shape.specs.declared.fault_line.FaultLine.{FaultLine}
 use Rattle.cga_expand.specs.Children.{Member}
 use Rattle.cga_city.specs.Order.{members_of}
-use Rattle.cga_city.specs.Places.{given_at}
+use Rattle.cga_forest.specs.Tree.{ForestView, IsForest}
+use Rattle.cga_city.specs.Nodes.{AreOfLot, ForItsMembers, given_of}
+use Rattle.cga_city.proofs.Nodes.{given_in}
 use Rattle.cga_city.specs.Reports.{drawn_of, fault_of, drawn_in, faults_in}
 use Rattle.cga_city.specs.Lots.{names_of}
 
@@ -40,6 +42,7 @@ pub one_drawn : (lot : List ℕ) (list : List Member) → drawn_in (lot ∷ []) 
 unfolding drawn_in
 one_drawn lot list = append-nil (flat_map drawn_of (members_of lot list))
 
--- no member, nothing given
-pub none_given : {A : Type 0} (give : Member → List A) (list : List Member) (place : ℕ) (old : List A) → slice_get list place ≡ None → old ≡ old ++ given_at give list place
-none_given give list place old none = rw none (sym (append-nil old))
+-- what was added for a lot's nodes is what the members of each list of the nodes give
+pub pushed_in : {A : Type 0} (give : Member → List A) (v : ForestView) → IsForest v → (lot : List ℕ) (nodes : List ℕ) → AreOfLot v lot nodes → (old new : List A)
+    → new ≡ old ++ flat_map (given_of give v) nodes → ForItsMembers v (λ list. new ≡ old ++ flat_map give (members_of lot list))
+pushed_in give v f lot nodes of old new made list has = made ∙ ap (λ ys. old ++ ys) (given_in give v f list has lot nodes of)

@@ -2,21 +2,25 @@
 use Rattle.std.specs.Prelude.{◌≡◌, ◌≢◌, ℕ, ◌+◌, ◌≤◌, [], Bool, true, bytes_eq, Result, Ok, Err}
 use Rattle.std.specs.List.{IsDistinct}
 use Rattle.cga_word.specs.declared.mode.Mode.TheVariants.{Breadth}
+use Rattle.cga_shape.specs.declared.changes.Changes as record_of
 use Rattle.cga_shape.specs.declared.edit.Edit.{Edit}
 use Rattle.cga_shape.specs.declared.edit.Edit.TheVariants as edit
 use Rattle.cga_shape.specs.declared.edit_refused.EditRefused.{EditRefused}
 use Rattle.cga_shape.specs.declared.edit_refused.EditRefused.TheVariants.{OverBudget, NoMemory}
 use Rattle.cga_shape.specs.declared.sources.Sources.{Sources}
-use Rattle.cga_derive.specs.Derives.{expanded_count}
+use Rattle.cga_update.specs.Updates.{CountsTouched, IsChange}
 use Rattle.cga_city.specs.Lots.{names_of}
 use Rattle.cga_city.specs.Apply.{apply, changed}
 use Rattle.cga_city.specs.Derived.{members}
 
--- its sources, the most shapes that they may come to, and whether reports may be asked for
+-- its sources, the most shapes that they may come to, and whether reports may be asked for; and of the last accepted
+-- edit how many shapes it touched, and which instances went and came by it
 pub record CityState : Type 0 where
   pub sources : Sources
   pub budget : ℕ
   pub warm : Bool
+  pub expanded : ℕ
+  pub changes : record_of.Changes
 
 -- no attributes, rules or lots
 abbrev pub empty_sources : Sources
@@ -24,7 +28,7 @@ empty_sources = record { grammar = record { attributes = []; rules = [] }; lots 
 
 -- a city without lots
 abbrev pub empty_city : ℕ → CityState
-empty_city budget = record { sources = empty_sources; budget = budget; warm = true }
+empty_city budget = record { sources = empty_sources; budget = budget; warm = true; expanded = 0; changes = record { gone = []; come = [] } }
 
 -- whole sources have lots of different names
 abbrev pub HasDistinctLots : Edit → Type 0
@@ -43,20 +47,25 @@ pub record IsDone (old : CityState) (e : Edit) (new : CityState) (before after :
   pub applied : apply old.sources e old.budget ≡ Ok new.sources
   pub budget_stays : new.budget ≡ old.budget
   pub warm_then : new.warm ≡ true
-  pub spent : after ≡ before + expanded_count (members old.budget new.sources)
+  -- the touched shapes were counted, and each was expanded once
+  pub touched : CountsTouched old.sources new.sources (members old.budget old.sources) (members old.budget new.sources) new.expanded
+  pub spent : after ≡ before + new.expanded
+  pub changed : IsChange old.sources new.sources (members old.budget old.sources) (members old.budget new.sources) new.changes
 
 -- it was refused for this cause, and nothing changed
 pub record IsRefused (old : CityState) (e : Edit) (refused : EditRefused) (new : CityState) (before after : ℕ) : Type 0 where
   pub cause : apply old.sources e old.budget ≡ Err refused
   pub same : new ≡ old
   pub later : before ≤ after
-  pub most : after ≤ before + old.budget
+  pub most : after ≤ before + (old.budget + 1)
   pub unspent : refused ≢ OverBudget → after ≡ before
 
 -- memory was wanting: the city may be cold
 pub record IsGivenUp (old new : CityState) : Type 0 where
   pub sources_stay : new.sources ≡ old.sources
   pub budget_stays : new.budget ≡ old.budget
+  pub expanded_stays : new.expanded ≡ old.expanded
+  pub changes_stay : new.changes ≡ old.changes
 
 -- by what the edit answers
 abbrev pub EditGives : CityState → Edit → Result (Unit {0}) EditRefused → CityState → ℕ → ℕ → Type 0

@@ -3,7 +3,9 @@ pub mod Lots
 pub mod Derived
 pub mod Apply
 pub mod Order
-pub mod Places
 pub mod Reports
 pub mod City
 pub mod Inside
+pub mod Nodes
+pub mod Tally
+pub mod Kept

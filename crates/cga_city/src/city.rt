@@ -1,5 +1,5 @@
 //! The city.
-ghost use Rattle.std.specs.Prelude.{◌≡◌, IfOk, OnErr, OnOk, IsTrue, bytes_eq, length, true};
+ghost use Rattle.std.specs.Prelude.{◌≡◌, ◌≤◌, [], IfOk, OnErr, OnOk, IsTrue, bytes_eq, length, true};
 ghost use Rattle.std.specs.List.{IsDistinct};
 ghost use Rattle.cga_obj.specs.Lots.{AreSolid, StandsBy};
 ghost use Rattle.cga_city.specs.City.{EditGives, HasDistinctLots, empty_city};
@@ -10,23 +10,30 @@ ghost use Rattle.cga_city.specs.Reports as spec;
 
 use crate::edits::changed_sources;
 use crate::no_lot::NoLot;
-use crate::reports::{all_faults, fault_count, instance_count, told};
-use cga_derive::{OverBudget, derive};
+use crate::reports::{all_faults, told};
+use crate::tally::tally_all;
+use cga_depend::Dependents;
+use cga_forest::Forest;
 use cga_fraction::{List, NoMemory, Steps};
 use cga_rule::Grammar;
-use cga_shape::{Counts, Drawn, Edit, EditRefused, FaultLine, Lot, Placed, Sources};
+use cga_shape::{Changes, Counts, Drawn, Edit, EditRefused, FaultLine, Lot, Sources};
+use cga_update::{UpdateRefused, update};
 use cga_word::{Mode, Name};
 use std::alloc::Global;
 use std::marker::Model;
 use std::sync::ledger::Ledger;
 
-/// Sources, and the shapes that are derived from them.
+/// Sources, and the forest of the shapes that are derived from them.
 #[derive(Drop)]
 pub struct City {
     alloc: Global,
     sources: Sources,
     budget: u32,
-    members: List<Placed>,
+    forest: Forest,
+    dependents: Dependents,
+    changes: Changes,
+    expanded: u64,
+    warm: bool,
 }
 
 impl Model for City {
@@ -34,17 +41,42 @@ impl Model for City {
     ghost use Rattle.std.specs.Coded.{code_by, coded_bool, coded_ℕ, coded×};
     ghost use Rattle.cga_shape.specs.declared.sources.Sources.{Sources};
     ghost use Rattle.cga_shape.specs.contracts.sources.Sources as of_sources;
+    ghost use Rattle.cga_shape.specs.declared.changes.Changes.{Changes};
+    ghost use Rattle.cga_shape.specs.contracts.changes.Changes as of_changes;
     ghost use Rattle.cga_city.specs.City.{CityState};
 
     ghost Value = { CityState };
 
-    ghost coded = { code_by (Sources × (ℕ × Bool)) (coded× of_sources.the_row.coded (coded× coded_ℕ coded_bool)) (λ c. (c.sources, (c.budget, c.warm))) (λ p. record { sources = p.0; budget = p.1.0; warm = p.1.1 }) (λ _. refl) };
+    ghost coded = { code_by (Sources × (ℕ × (Bool × (ℕ × Changes)))) (coded× of_sources.the_row.coded (coded× coded_ℕ (coded× coded_bool (coded× coded_ℕ of_changes.the_row.coded)))) (λ c. (c.sources, (c.budget, (c.warm, (c.expanded, c.changes))))) (λ p. record { sources = p.0; budget = p.1.0; warm = p.1.1.0; expanded = p.1.1.1.0; changes = p.1.1.1.1 }) (λ _. refl) };
 
-    ghost use Rattle.cga_city.specs.Inside.{IsCity};
+    ghost use Rattle.cga_city.specs.Kept.{IsCity};
 
-    ghost view = { λ c. record { sources = c.sources; budget = c.budget; warm = true } };
+    ghost view = { λ c. record { sources = c.sources; budget = c.budget; warm = c.warm; expanded = c.expanded; changes = c.changes } };
 
-    ghost invariant = { λ c. IsCity c.sources c.budget c.members };
+    ghost invariant = { λ c. IsCity c.sources c.budget c.warm c.forest c.dependents };
+}
+
+// Sources without attributes, rules and lots. Takes no memory.
+fn empty_sources(alloc: Global, mode: Mode) -> Sources
+    ensures { result ≡ record { grammar = record { attributes = []; rules = [] }; lots = []; mode = mode } }
+{
+    Sources {
+        grammar: Grammar {
+            attributes: List::new(alloc),
+            rules: List::new(alloc),
+        },
+        lots: List::new(alloc),
+        mode,
+    }
+}
+
+fn no_changes(alloc: Global) -> Changes
+    ensures { result ≡ record { gone = []; come = [] } }
+{
+    Changes {
+        gone: List::new(alloc),
+        come: List::new(alloc),
+    }
 }
 
 impl City {
@@ -54,21 +86,18 @@ impl City {
     {
         City {
             alloc,
-            sources: Sources {
-                grammar: Grammar {
-                    attributes: List::new(alloc),
-                    rules: List::new(alloc),
-                },
-                lots: List::new(alloc),
-                mode: Mode::Breadth,
-            },
+            sources: empty_sources(alloc, Mode::Breadth),
             budget,
-            members: List::new(alloc),
+            forest: Forest::new(alloc, Mode::Breadth),
+            dependents: Dependents::new(alloc),
+            changes: no_changes(alloc),
+            expanded: 0,
+            warm: true,
         }
     }
 
     /// Does an edit: the sources are the new ones exactly where it answers Ok. Each expansion of a shape ticks
-    /// `expansions`. Takes memory; the time goes by that of a derivation.
+    /// `expansions`, and just the touched shapes are expanded. After want of memory the city may be cold. Takes memory.
     pub fn edit<E: Ledger, T: Ledger>(
         &mut self,
         edit: Edit,
@@ -83,14 +112,30 @@ impl City {
             Ok(new) => new,
             Err(refused) => return Err(refused),
         };
-        match derive(self.alloc, &new, self.budget, expansions, tests) {
-            Ok(Ok(members)) => {
+        let budget = self.budget;
+        let mut changes = no_changes(self.alloc);
+        match update(
+            self.alloc,
+            &mut self.forest,
+            &mut self.dependents,
+            &self.sources,
+            &new,
+            budget,
+            &mut changes,
+            expansions,
+            tests,
+        ) {
+            Ok(count) => {
                 self.sources = new;
-                self.members = members;
+                self.changes = changes;
+                self.expanded = count;
                 Ok(())
             }
-            Ok(Err(OverBudget)) => Err(EditRefused::OverBudget),
-            Err(NoMemory) => Err(EditRefused::NoMemory),
+            Err(UpdateRefused::OverBudget) => Err(EditRefused::OverBudget),
+            Err(UpdateRefused::NoMemory) => {
+                self.warm = false;
+                Err(EditRefused::NoMemory)
+            }
         }
     }
 
@@ -98,21 +143,47 @@ impl City {
     pub fn is_warm(&self) -> bool
         ensures { result ≡ self.now.warm }
     {
-        let _ = &self.budget;
-        true
+        self.warm
     }
 
-    /// Makes the city warm again.
+    /// Makes a cold city warm again, by a derivation from no lots. Takes memory.
     pub fn rewarm<E: Ledger, T: Ledger>(
         &mut self,
-        _expansions: &mut Steps<E>,
-        _tests: &mut Steps<T>,
+        expansions: &mut Steps<E>,
+        tests: &mut Steps<T>,
     ) -> Result<(), NoMemory>
         ensures ok { OnOk result (self.new ≡ record self.old { warm = true }) }
         ensures err { OnErr result (self.new ≡ self.old) }
+        ensures later { expansions.old ≤ expansions.new }
     {
-        let _ = &self.budget;
-        Ok(())
+        if self.warm {
+            return Ok(());
+        }
+        let (alloc, mode) = (self.alloc, self.sources.mode);
+        let empty = empty_sources(alloc, mode);
+        let mut forest = Forest::new(alloc, mode);
+        let mut dependents = Dependents::new(alloc);
+        let mut changes = no_changes(alloc);
+        match update(
+            alloc,
+            &mut forest,
+            &mut dependents,
+            &empty,
+            &self.sources,
+            self.budget,
+            &mut changes,
+            expansions,
+            tests,
+        ) {
+            Ok(_) => {
+                self.forest = forest;
+                self.dependents = dependents;
+                self.warm = true;
+                Ok(())
+            }
+            // Not for the budget, which the sources are within.
+            Err(_) => Err(NoMemory),
+        }
     }
 
     /// What is drawn, of all lots or of the one that is named, by the order of the lots and in a lot by paths. Takes
@@ -123,12 +194,7 @@ impl City {
         ensures order { IfOk result (λ told. IfOk told (λ drawn. IfOk (spec.chosen self.now.sources.lots lot) (λ lots. StandsBy lots drawn))) }
         ensures solid { IfOk result (λ told. IfOk told AreSolid) }
     {
-        told(
-            self.alloc,
-            self.sources.lots.as_slice(),
-            lot,
-            self.members.as_slice(),
-        )
+        told(self.alloc, self.sources.lots.as_slice(), lot, &self.forest)
     }
 
     /// The shapes that have no children, and why, in the same order. Takes memory.
@@ -136,30 +202,36 @@ impl City {
         requires { IsTrue self.now.warm }
         ensures { IfOk result (λ faults. faults ≡ spec.faults_of self.now.sources.lots (members self.now.budget self.now.sources)) }
     {
-        all_faults(
-            self.alloc,
-            self.sources.lots.as_slice(),
-            self.members.as_slice(),
-        )
+        all_faults(self.alloc, self.sources.lots.as_slice(), &self.forest)
     }
 
-    /// How many there are of each. `expanded` isn't told yet. Takes no memory.
+    /// How many there are of each, and how many shapes the last accepted edit touched. Takes no memory; the time goes by
+    /// the shapes.
     pub fn counts(&self) -> Counts
         requires { IsTrue self.now.warm }
         ensures lots { result.lots ≡ length self.now.sources.lots }
         ensures shapes { result.shapes ≡ length (members self.now.budget self.now.sources) }
         ensures instances { result.instances ≡ spec.instance_count (members self.now.budget self.now.sources) }
         ensures faults { result.faults ≡ spec.fault_count (members self.now.budget self.now.sources) }
+        ensures expanded { result.expanded ≡ self.now.expanded }
     {
         let _most = self.budget;
-        let list = self.members.as_slice();
+        self.forest.laws();
+        let tally = tally_all(&self.forest);
         Counts {
             lots: self.sources.lots.len() as u32,
-            shapes: list.len() as u32,
-            instances: instance_count(list) as u32,
-            faults: fault_count(list) as u32,
-            expanded: 0,
+            shapes: tally.shapes as u32,
+            instances: tally.instances as u32,
+            faults: tally.faults as u32,
+            expanded: self.expanded,
         }
+    }
+
+    /// What the last accepted edit took from the instances, and what it added.
+    pub fn changes(&self) -> &Changes
+        ensures { result.now ≡ self.now.changes }
+    {
+        &self.changes
     }
 
     pub fn grammar(&self) -> &Grammar

@@ -11,8 +11,9 @@ mod grammars;
 pub mod limits;
 mod lots;
 mod no_lot;
-mod order;
 mod reports;
+mod tally;
+mod walk;
 
 pub use city::City;
 pub use no_lot::NoLot;

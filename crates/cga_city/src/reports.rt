@@ -1,147 +1,143 @@
-//! What is reported of the members of a derivation.
-ghost use Rattle.std.specs.Prelude.{◌≡◌, ◌<◌, ◌+◌, ◌^◌, ◌++◌, ◌∷◌, [], IfOk, OnOk, flat_map, if◌then◌else◌, slice_get};
-ghost use Rattle.std.specs.Option.{option_copied};
-ghost use Rattle.cga_order.specs.World.{is_instance};
+//! What is reported of a forest.
+ghost use Rattle.std.specs.Prelude.{◌≡◌, ◌++◌, ◌∷◌, [], IfOk, OnOk, flat_map};
+ghost use Rattle.cga_forest.specs.Tree.{node_at};
 ghost use Rattle.cga_city.specs.Lots.{names_of};
+ghost use Rattle.cga_city.specs.Nodes.{ForItsMembers, given_of, member_of};
 ghost use Rattle.cga_city.specs.Order.{members_of};
-ghost use Rattle.cga_city.specs.Places.{given_at};
 ghost use Rattle.cga_city.specs.Reports as spec;
 
 use crate::lots::lot_place;
 use crate::no_lot::NoLot;
-use crate::order::lot_places;
+use crate::walk::nodes_of_lot;
+use cga_forest::{Forest, Node};
 use cga_fraction::{List, NoMemory};
-use cga_shape::{Drawn, FaultLine, Kind, Lot, Placed};
+use cga_index::NodeId;
+use cga_shape::{Drawn, FaultLine, Kind, Lot};
 use cga_word::Name;
 use std::alloc::Global;
 
-fn push_drawn(drawn: &mut List<Drawn>, member: &Placed) -> Result<(), NoMemory>
-    ensures { OnOk result (drawn.new ≡ drawn.old ++ spec.drawn_of member.now) }
+fn push_drawn(drawn: &mut List<Drawn>, node: &Node) -> Result<(), NoMemory>
+    ensures { OnOk result (drawn.new ≡ drawn.old ++ spec.drawn_of (member_of node.now)) }
 {
-    if let Kind::Instance(primitive) = member.kind {
+    if let Kind::Instance(primitive) = node.kind {
         drawn.push(Drawn {
-            lot: member.shape.lot,
-            symbol: member.shape.symbol,
+            lot: node.shape.lot,
+            symbol: node.shape.symbol,
             primitive,
-            scope: member.shape.scope,
+            scope: node.shape.scope,
         })?;
     }
     Ok(())
 }
 
-fn push_fault(alloc: Global, faults: &mut List<FaultLine>, member: &Placed) -> Result<(), NoMemory>
-    ensures { OnOk result (faults.new ≡ faults.old ++ spec.fault_of member.now) }
+fn push_fault(alloc: Global, faults: &mut List<FaultLine>, node: &Node) -> Result<(), NoMemory>
+    ensures { OnOk result (faults.new ≡ faults.old ++ spec.fault_of (member_of node.now)) }
 {
-    if let Kind::Faulted(fault) = member.kind {
-        let path = Vec::from_slice(alloc, member.shape.path.as_slice())?;
+    if let Kind::Faulted(fault) = node.kind {
+        let path = Vec::from_slice(alloc, node.shape.path.as_slice())?;
         faults.push(FaultLine {
-            lot: member.shape.lot,
+            lot: node.shape.lot,
             path: List::from_vec(path),
-            symbol: member.shape.symbol,
+            symbol: node.shape.symbol,
             fault,
         })?;
     }
     Ok(())
 }
 
-fn member_at(list: &[Placed], place: usize) -> Option<&Placed>
-    ensures { option_copied result ≡ slice_get list.now place }
+fn push_drawn_at(drawn: &mut List<Drawn>, forest: &Forest, node: NodeId) -> Result<(), NoMemory>
+    ensures { OnOk result (drawn.new ≡ drawn.old ++ given_of spec.drawn_of forest.now node) }
 {
-    list.get(place)
-}
-
-fn push_place_drawn(drawn: &mut List<Drawn>, list: &[Placed], place: usize) -> Result<(), NoMemory>
-    ensures { OnOk result (drawn.new ≡ drawn.old ++ given_at spec.drawn_of list.now place) }
-{
-    match member_at(list, place) {
-        Some(member) => push_drawn(drawn, member),
+    match forest.node(node) {
+        Some(node) => push_drawn(drawn, node),
         None => Ok(()),
     }
 }
 
-fn push_drawn_at(drawn: &mut List<Drawn>, list: &[Placed], places: &[usize]) -> Result<(), NoMemory>
-    ensures { OnOk result (drawn.new ≡ drawn.old ++ flat_map (given_at spec.drawn_of list.now) places.now) }
+fn push_fault_at(
+    alloc: Global,
+    faults: &mut List<FaultLine>,
+    forest: &Forest,
+    node: NodeId,
+) -> Result<(), NoMemory>
+    ensures { OnOk result (faults.new ≡ faults.old ++ given_of spec.fault_of forest.now node) }
 {
-    for place in places {
-        push_place_drawn(drawn, list, *place)?;
+    match forest.node(node) {
+        Some(node) => push_fault(alloc, faults, node),
+        None => Ok(()),
+    }
+}
+
+fn push_drawn_of(drawn: &mut List<Drawn>, forest: &Forest, nodes: &[NodeId]) -> Result<(), NoMemory>
+    ensures { OnOk result (drawn.new ≡ drawn.old ++ flat_map (given_of spec.drawn_of forest.now) nodes.now) }
+{
+    for node in nodes {
+        push_drawn_at(drawn, forest, *node)?;
     }
     Ok(())
 }
 
-fn push_place_fault(
+fn push_faults_of(
     alloc: Global,
     faults: &mut List<FaultLine>,
-    list: &[Placed],
-    place: usize,
+    forest: &Forest,
+    nodes: &[NodeId],
 ) -> Result<(), NoMemory>
-    ensures { OnOk result (faults.new ≡ faults.old ++ given_at spec.fault_of list.now place) }
+    ensures { OnOk result (faults.new ≡ faults.old ++ flat_map (given_of spec.fault_of forest.now) nodes.now) }
 {
-    match member_at(list, place) {
-        Some(member) => push_fault(alloc, faults, member),
-        None => Ok(()),
-    }
-}
-
-fn push_faults_at(
-    alloc: Global,
-    faults: &mut List<FaultLine>,
-    list: &[Placed],
-    places: &[usize],
-) -> Result<(), NoMemory>
-    ensures { OnOk result (faults.new ≡ faults.old ++ flat_map (given_at spec.fault_of list.now) places.now) }
-{
-    for place in places {
-        push_place_fault(alloc, faults, list, *place)?;
+    for node in nodes {
+        push_fault_at(alloc, faults, forest, *node)?;
     }
     Ok(())
 }
 
 // Adds what is drawn in a lot.
-#[tactic(auto, using(crate::proofs::Placing::given_in))]
 fn push_drawn_in(
     alloc: Global,
     drawn: &mut List<Drawn>,
-    list: &[Placed],
+    forest: &Forest,
     lot: Name,
 ) -> Result<(), NoMemory>
-    ensures { OnOk result (drawn.new ≡ drawn.old ++ flat_map spec.drawn_of (members_of lot list.now)) }
+    ensures { OnOk result (ForItsMembers forest.now (λ list. drawn.new ≡ drawn.old ++ flat_map spec.drawn_of (members_of lot list))) }
 {
-    let places = lot_places(alloc, list, lot)?;
-    push_drawn_at(drawn, list, places.as_slice())
+    forest.laws();
+    let nodes = nodes_of_lot(alloc, forest, lot)?;
+    push_drawn_of(drawn, forest, nodes.as_slice())?;
+    Ok(())
 }
 
 // Adds the faults of a lot.
-#[tactic(auto, using(crate::proofs::Placing::given_in))]
 fn push_faults_in(
     alloc: Global,
     faults: &mut List<FaultLine>,
-    list: &[Placed],
+    forest: &Forest,
     lot: Name,
 ) -> Result<(), NoMemory>
-    ensures { OnOk result (faults.new ≡ faults.old ++ flat_map spec.fault_of (members_of lot list.now)) }
+    ensures { OnOk result (ForItsMembers forest.now (λ list. faults.new ≡ faults.old ++ flat_map spec.fault_of (members_of lot list))) }
 {
-    let places = lot_places(alloc, list, lot)?;
-    push_faults_at(alloc, faults, list, places.as_slice())
+    forest.laws();
+    let nodes = nodes_of_lot(alloc, forest, lot)?;
+    push_faults_of(alloc, faults, forest, nodes.as_slice())?;
+    Ok(())
 }
 
-/// The instances of all lots. The time goes by the number of members for each lot, and by n log n.
-fn all_drawn(alloc: Global, lots: &[Lot], list: &[Placed]) -> Result<List<Drawn>, NoMemory>
-    ensures { IfOk result (λ drawn. drawn ≡ spec.drawn_in (names_of lots.now) list.now) }
+/// The instances of all lots, with no walk but over the nodes of these lots.
+fn all_drawn(alloc: Global, lots: &[Lot], forest: &Forest) -> Result<List<Drawn>, NoMemory>
+    ensures { IfOk result (λ drawn. ForItsMembers forest.now (λ list. drawn ≡ spec.drawn_in (names_of lots.now) list)) }
 {
     let mut drawn = List::new(alloc);
     for lot in lots {
-        push_drawn_in(alloc, &mut drawn, list, lot.name)?;
+        push_drawn_in(alloc, &mut drawn, forest, lot.name)?;
     }
     Ok(drawn)
 }
 
 /// The instances of a lot.
-#[tactic(auto, using(crate::proofs::Reporting::one_drawn))]
-fn lot_drawn(alloc: Global, lot: Name, list: &[Placed]) -> Result<List<Drawn>, NoMemory>
-    ensures { IfOk result (λ drawn. drawn ≡ spec.drawn_in (lot ∷ []) list.now) }
+fn lot_drawn(alloc: Global, lot: Name, forest: &Forest) -> Result<List<Drawn>, NoMemory>
+    ensures { IfOk result (λ drawn. ForItsMembers forest.now (λ list. drawn ≡ spec.drawn_in (lot ∷ []) list)) }
 {
     let mut drawn = List::new(alloc);
-    push_drawn_in(alloc, &mut drawn, list, lot)?;
+    push_drawn_in(alloc, &mut drawn, forest, lot)?;
     Ok(drawn)
 }
 
@@ -150,17 +146,17 @@ pub(crate) fn told(
     alloc: Global,
     lots: &[Lot],
     name: Option<Name>,
-    list: &[Placed],
+    forest: &Forest,
 ) -> Result<Result<List<Drawn>, NoLot>, NoMemory>
-    ensures { IfOk result (λ told. told ≡ spec.instances_of lots.now name list.now) }
+    ensures { IfOk result (λ told. ForItsMembers forest.now (λ list. told ≡ spec.instances_of lots.now name list)) }
 {
     match name {
-        None => Ok(Ok(all_drawn(alloc, lots, list)?)),
+        None => Ok(Ok(all_drawn(alloc, lots, forest)?)),
         Some(name) => {
             if lot_place(lots, name).is_none() {
                 return Ok(Err(NoLot));
             }
-            Ok(Ok(lot_drawn(alloc, name, list)?))
+            Ok(Ok(lot_drawn(alloc, name, forest)?))
         }
     }
 }
@@ -169,52 +165,13 @@ pub(crate) fn told(
 pub(crate) fn all_faults(
     alloc: Global,
     lots: &[Lot],
-    list: &[Placed],
+    forest: &Forest,
 ) -> Result<List<FaultLine>, NoMemory>
-    ensures { IfOk result (λ faults. faults ≡ spec.faults_of lots.now list.now) }
+    ensures { IfOk result (λ faults. ForItsMembers forest.now (λ list. faults ≡ spec.faults_of lots.now list)) }
 {
     let mut faults = List::new(alloc);
     for lot in lots {
-        push_faults_in(alloc, &mut faults, list, lot.name)?;
+        push_faults_in(alloc, &mut faults, forest, lot.name)?;
     }
     Ok(faults)
-}
-
-fn is_instance(member: &Placed) -> bool
-    ensures { result ≡ is_instance member.now.kind }
-{
-    matches!(member.kind, Kind::Instance(_))
-}
-
-fn is_faulted(member: &Placed) -> bool
-    ensures { result ≡ spec.is_faulted member.now.kind }
-{
-    matches!(member.kind, Kind::Faulted(_))
-}
-
-fn one_more(count: usize, counts: bool) -> usize
-    requires { count + 1 < 2 ^ 64 }
-    ensures { result ≡ (if counts then count + 1 else count) }
-{
-    if counts { count + 1 } else { count }
-}
-
-pub(crate) fn instance_count(list: &[Placed]) -> usize
-    ensures { result ≡ spec.instance_count list.now }
-{
-    let mut count = 0;
-    for member in list {
-        count = one_more(count, is_instance(member));
-    }
-    count
-}
-
-pub(crate) fn fault_count(list: &[Placed]) -> usize
-    ensures { result ≡ spec.fault_count list.now }
-{
-    let mut count = 0;
-    for member in list {
-        count = one_more(count, is_faulted(member));
-    }
-    count
 }

@@ -1,10 +1,12 @@
-use Rattle.std.proofs.Common.{◌≡◌, refl, ap, subst, Err, Some}
+use Rattle.std.proofs.Common.{◌≡◌, ◌∙◌, ap, Err, Ok, subst}
 use Rattle.cga_shape.specs.declared.sources.Sources.{Sources}
 use Rattle.cga_city.specs.Apply.{changed}
-use Rattle.cga_city.specs.City.{CityState, Changes}
+use Rattle.cga_city.specs.City.{Changes, CityState}
 use Rattle.cga_city.proofs.Names.{names_differ}
 use Rattle.cga_city.proofs.Sound.{changed_sound}
-use Rattle.cga_city.proofs.Deriving.{apply_ok, apply_over, refused_gives, is_derived, members_are}
+use Rattle.cga_city.proofs.Valid.{sound_valid}
+use Rattle.cga_city.proofs.Deriving.{refused_gives}
+use Rattle.cga_city.proofs.Kept.{done_gives, over_gives, now_within, warm_inside}
 use Rattle.cga_city.proofs.city.City.edit.Goals as goal
 
 pub returns-in-Err : goal.returns-in-Err
@@ -12,37 +14,29 @@ returns-in-Err g c =
     let sources_are : c.self.inside.sources ≡ c.args.self.now.sources = ap (λ (v : CityState). v.sources) c.self.view_is in
     refused_gives c.args.self.now c.args.edit c.args.expansions.now c.in-Err.refused (subst (λ (s : Sources). Changes (changed s c.args.edit) (Err c.in-Err.refused)) sources_are c.in-Err.ensures)
 
-pub derive-requires-clause-names : goal.derive-requires-clause-names
-derive-requires-clause-names g c = names_differ c.in-Ok.new.lots (changed_sound c.self.inside.sources c.in-Ok.new c.args.edit c.self.invariant.sound c.requires.lots c.in-Ok.ensures).names
+pub update-requires-clause-old_names : goal.update-requires-clause-old_names
+update-requires-clause-old_names g c = names_differ c.self.inside.sources.lots c.self.invariant.sound.names
 
-pub derive-requires-clause-roots : goal.derive-requires-clause-roots
-derive-requires-clause-roots g c = (changed_sound c.self.inside.sources c.in-Ok.new c.args.edit c.self.invariant.sound c.requires.lots c.in-Ok.ensures).roots
+pub update-requires-clause-names : goal.update-requires-clause-names
+update-requires-clause-names g c = names_differ c.in-Ok.new.lots (changed_sound c.self.inside.sources c.in-Ok.new c.args.edit c.self.invariant.sound c.requires.lots c.in-Ok.ensures).names
+
+pub update-requires-clause-roots : goal.update-requires-clause-roots
+update-requires-clause-roots g c = (sound_valid c.in-Ok.new (changed_sound c.self.inside.sources c.in-Ok.new c.args.edit c.self.invariant.sound c.requires.lots c.in-Ok.ensures)).roots
 
 pub invariant_of-self : goal.invariant_of-self
-invariant_of-self g c = let v = rw c.in-Ok-Ok.field-0-is at c.in-Ok-Ok.ensures.value in record {
+invariant_of-self g c = record {
   sound = changed_sound c.self.inside.sources c.in-Ok.new c.args.edit c.self.invariant.sound c.requires.lots c.in-Ok.ensures;
-  is_derived = is_derived c.self.inside.budget c.in-Ok.new (Some c.in-Ok-Ok.members) v;
+  within = now_within c.self.inside.sources c.in-Ok.new c.self.inside.budget c.in-Ok-update.count _ c.in-Ok-update.ensures.exact;
+  stands = λ on. c.in-Ok-update.ensures.stands;
 }
 
-pub returns-in-Ok-Ok : goal.returns-in-Ok-Ok
-returns-in-Ok-Ok g c =
-    let v = rw c.in-Ok-Ok.field-0-is at c.in-Ok-Ok.ensures.value in
-    let d = is_derived c.self.inside.budget c.in-Ok.new (Some c.in-Ok-Ok.members) v in
-    let spent = rw c.in-Ok-Ok.field-0-is at c.in-Ok-Ok.ensures.expansions in
-    rw (← c.self.view_is) (record {
-      applied = apply_ok c.self.inside.sources c.in-Ok.new c.args.edit c.self.inside.budget c.in-Ok-Ok.members c.in-Ok.ensures d;
-      budget_stays = refl;
-      warm_then = refl;
-      spent = rw (members_are c.self.inside.budget c.in-Ok.new c.in-Ok-Ok.members d) spent;
-    })
+pub returns-in-Ok-update : goal.returns-in-Ok-update
+returns-in-Ok-update g c =
+    rw (← c.self.view_is) (done_gives c.self.inside.sources c.in-Ok.new c.args.edit c.self.inside.budget c.in-Ok-update.count _ _ c.self.inside.expanded c.self.inside.warm c.self.invariant.within.0 c.self.inside.changes _
+    c.self.invariant.sound c.self.invariant.within.1 c.in-Ok.ensures c.in-Ok-update.ensures.exact c.in-Ok-update.ensures.spent (warm_inside _ c.args.self.now c.self.view_is c.requires.warm))
 
-pub returns-in-Ok-Err : goal.returns-in-Ok-Err
-returns-in-Ok-Err g c =
-    let v = rw c.in-Ok-Err.field-0-is at c.in-Ok-Err.ensures.value in
-    rw (← c.self.view_is) (record {
-      cause = apply_over c.self.inside.sources c.in-Ok.new c.args.edit c.self.inside.budget c.in-Ok.ensures (is_derived c.self.inside.budget c.in-Ok.new _ v);
-      same = refl;
-      later = c.in-Ok-Err.ensures.counted;
-      most = c.in-Ok-Err.ensures.most;
-      unspent = λ other. absurd (other refl);
-    })
+pub returns-in-Err-OverBudget : goal.returns-in-Err-OverBudget
+returns-in-Err-OverBudget g c =
+    let over = rw c.in-Err-OverBudget.field-0-is at c.in-Err-OverBudget.ensures.over in
+    let most = rw c.in-Err-OverBudget.field-0-is at c.in-Err-OverBudget.ensures.most in
+    rw (← c.self.view_is) (over_gives c.self.inside.sources c.in-Ok.new c.args.edit c.self.inside.budget _ _ c.self.inside.expanded c.self.inside.warm c.self.inside.changes c.in-Ok.ensures over c.in-Err-OverBudget.ensures.counted most)

@@ -1,0 +1,13 @@
+use Rattle.cga_city.proofs.Kept.{nothing_stands}
+use Rattle.cga_city.proofs.Names.{names_differ}
+use Rattle.cga_city.proofs.Valid.{sound_valid}
+use Rattle.cga_city.proofs.city.City.rewarm.Goals as goal
+
+pub update-requires-clause-names : goal.update-requires-clause-names
+update-requires-clause-names g c = names_differ c.self.inside.sources.lots c.self.invariant.sound.names
+
+pub update-requires-clause-roots : goal.update-requires-clause-roots
+update-requires-clause-roots g c = (sound_valid c.self.inside.sources c.self.invariant.sound).roots
+
+pub update-requires-clause-stands : goal.update-requires-clause-stands
+update-requires-clause-stands g c = rw (c.empty_sources-empty.ensures, c.new-forest.ensures, c.new-dependents.ensures) (nothing_stands c.self.inside.sources.mode)

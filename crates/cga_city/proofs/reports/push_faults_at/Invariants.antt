@@ -1,8 +1,0 @@
-use Rattle.std.proofs.Common.{◌≡◌, ◌++◌, take}
-use Rattle.std.specs.List.{flat_map}
-use Rattle.cga_city.specs.Places.{given_at}
-use Rattle.cga_city.specs.Reports as spec
-use Rattle.cga_city.proofs.reports.push_faults_at.Given as goal
-
-abbrev pub invariant-loop-place : goal.invariant-loop-place
-invariant-loop-place l = l.faults ≡ l.fn.faults ++ flat_map (given_at spec.fault_of l.list) (take l.place-index l.places)

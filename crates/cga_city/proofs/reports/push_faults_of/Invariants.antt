@@ -1,0 +1,8 @@
+use Rattle.std.proofs.Common.{◌≡◌, ◌++◌, take}
+use Rattle.std.specs.List.{flat_map}
+use Rattle.cga_city.specs.Nodes.{given_of}
+use Rattle.cga_city.specs.Reports as spec
+use Rattle.cga_city.proofs.reports.push_faults_of.Given as goal
+
+abbrev pub invariant-loop-node : goal.invariant-loop-node
+invariant-loop-node l = l.faults ≡ l.fn.faults ++ flat_map (given_of spec.fault_of l.forest) (take l.node-index l.nodes)

@@ -1,6 +1,0 @@
-use Rattle.std.proofs.Common.{sym}
-use Rattle.cga_city.proofs.Reporting.{none_given}
-use Rattle.cga_city.proofs.reports.push_place_fault.Goals as goal
-
-pub returns-in-None : goal.returns-in-None
-returns-in-None c = none_given _ c.args.list.now c.args.place c.args.faults.now (sym c.in-None.ensures)
