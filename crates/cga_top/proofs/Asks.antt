@@ -1,9 +1,8 @@
 -- What lines tell is what the definition of the output takes them for, and is such as lines write.
-use Rattle.std.proofs.Common.{◌≡◌, ◌≢◌, ◌∙◌, ap, ap₂, refl, sym, subst, ℕ, zero, suc, ◌+◌, List, [], ◌∷◌, ◌++◌, map, length, Bool, true, false, Option, Some, None, Result, Ok, Err, ◌⊎◌, inl, inr}
+use Rattle.std.proofs.Common.{◌≡◌, refl, sym, subst, ℕ, ◌+◌, List, [], ◌∷◌, map, length, Bool, true, false, Result, Ok, Err}
 use Rattle.std.specs.Prelude.{bytes_eq}
 use Rattle.cga_lexer.specs.Line.{Lexed, tokens_of}
 use Rattle.cga_syntax.specs.Pieces.{Pieces, never, Writes}
-use Rattle.cga_syntax.specs.Spelling.{Spelled}
 use Rattle.cga_syntax.specs.declared.lexeme.Lexeme.{Lexeme}
 use Rattle.cga_form.specs.declared.block_fault.BlockFault.{BlockFault}
 use Rattle.cga_form.specs.declared.line_fault.LineFault.{LineFault}
@@ -20,7 +19,6 @@ use Rattle.cga_parser.proofs.Printable.{grammar_prints}
 use Rattle.cga_rule.specs.declared.grammar.Grammar.{Grammar}
 use Rattle.cga_shape.specs.declared.edit.Edit.{Edit}
 use Rattle.cga_shape.specs.declared.edit.Edit.TheVariants as edit
-use Rattle.cga_shape.specs.declared.lot.Lot.{Lot}
 use Rattle.cga_shape.specs.declared.sources.Sources.{Sources}
 use Rattle.std.specs.List.{IsDistinct}
 use Rattle.cga_city.specs.Lots.{names_of}
@@ -35,7 +33,7 @@ use Rattle.cga_script.proofs.OneCommand.{one_command}
 use Rattle.cga_script.proofs.Printable.{put_prints, city_prints}
 use Rattle.cga_script.proofs.Said.{tokens_tell}
 use Rattle.cga_top.specs.Told.{command_of, rules_of, city_of}
-use Rattle.cga_top.specs.Written.{AreWritten, IsWritten, AsksWritten}
+use Rattle.cga_top.specs.Written.{IsWritten, AsksWritten}
 use Rattle.cga_top.proofs.Told.{line_tells, block_tells}
 use Rattle.cga_top.proofs.Apart.{lots_differ}
 

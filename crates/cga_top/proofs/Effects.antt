@@ -7,7 +7,7 @@ use Rattle.std.specs.Io.KnownBytes.{Appends}
 use Rattle.cga_script.specs.Lines.{Line}
 use Rattle.cga_top.specs.declared.session.Session.{Session}
 use Rattle.cga_top.specs.State.{State}
-use Rattle.cga_top.specs.Effect.{Effect, followed_by, silent}
+use Rattle.cga_top.specs.Effect.{Effect, HasSpent, SpentOn, Tried, followed_by, silent}
 use Rattle.cga_top.specs.Replies.{effect}
 use Rattle.cga_top.specs.Output.{effect_of_all}
 use Rattle.cga_top.specs.Session.{IsAt, Did}
@@ -15,21 +15,28 @@ use Rattle.cga_top.specs.Wrote.{Wrote}
 use Rattle.cga_top.specs.Prefixes.{AppendsSome}
 use Rattle.cga_top.proofs.Known.{appends_nothing, appends_more}
 
-abbrev made : State → List ℕ → ℕ → ℕ → Effect
-made s text least most = record { state = s; reply = text; least = least; most = most }
+abbrev made : State → List ℕ → List Tried → Effect
+made s text edits = record { state = s; reply = text; edits = edits }
 
 -- equal parts make equal effects
-same_effect : (s : State) (a b : List ℕ) (l m k n : ℕ) → a ≡ b → l ≡ m → k ≡ n → made s a l k ≡ made s b m n
-same_effect s a b l m k n p q r = ap (λ (x : List ℕ). made s x l k) p ∙ ap (λ (x : ℕ). made s b x k) q ∙ ap (λ (x : ℕ). made s b m x) r
+same_effect : (s : State) (a b : List ℕ) (l m : List Tried) → a ≡ b → l ≡ m → made s a l ≡ made s b m
+same_effect s a b l m p q = ap (λ (x : List ℕ). made s x l) p ∙ ap (λ (x : List Tried). made s b x) q
 
 pub followed_assoc : (t u v : Effect) → followed_by (followed_by t u) v ≡ followed_by t (followed_by u v)
-followed_assoc t u v = same_effect v.state _ _ _ _ _ _ (append_assoc t.reply u.reply v.reply) (omega arith) (omega arith)
+followed_assoc t u v = same_effect v.state _ _ _ _ (append_assoc t.reply u.reply v.reply) (append_assoc t.edits u.edits v.edits)
 
 pub followed_silent : (t : Effect) → followed_by t (silent t.state) ≡ t
-followed_silent t = same_effect t.state _ _ _ _ _ _ (append-nil t.reply) (omega arith) (omega arith)
+followed_silent t = same_effect t.state _ _ _ _ (append-nil t.reply) (append-nil t.edits)
 
 pub silent_followed : (s : State) (t : Effect) → followed_by (silent s) t ≡ t
-silent_followed s t = same_effect t.state _ _ _ _ _ _ refl (omega arith) (omega arith)
+silent_followed s t = refl
+
+-- edits after edits
+pub spent_more : (xs ys : List Tried) (i j k : ℕ) → HasSpent xs i j → HasSpent ys j k → HasSpent (xs ++ ys) i k
+spent_more [] ys i j k h g = subst (λ n. HasSpent ys n k) h g
+spent_more (t ∷ []) [] i j k h g = subst (λ n. SpentOn t i n) (sym g) h
+spent_more (t ∷ []) (u ∷ us) i j k h g = (j, h, g)
+spent_more (t ∷ u ∷ ts) ys i j k h g = (h.0, h.1, spent_more (u ∷ ts) ys h.0 j k h.2 g)
 
 pub all_none : (s : State) → effect_of_all s [] ≡ silent s
 unfolding effect_of_all
@@ -46,21 +53,24 @@ all_append s (x ∷ xs) ys =
     ∙ sym (followed_assoc (effect s x) (effect_of_all (effect s x).state xs) _)
     ∙ ap (λ (t : Effect). followed_by t (effect_of_all t.state ys)) (sym (all_more s x xs))
 
+-- and nothing was expanded behind them
+pub spent_then : (ts : List Tried) (i j k : ℕ) → k ≡ j → HasSpent ts i j → HasSpent ts i k
+spent_then ts i j k e h = subst (λ n. HasSpent ts i n) (sym e) h
+
 -- what was done, and then more
 pub wrote_more : (t u : Effect) (old mid : Session) (a b c : Option (List ℕ)) (i j k : ℕ) → Wrote t old a b i j → Wrote u mid b c j k → Wrote (followed_by t u) mid a c i k
 wrote_more t u old mid a b c i j k x y = record {
   is_at = y.is_at;
   written = appends_more a b c t.reply u.reply x.written y.written;
-  least = omega (arith, x.least, y.least);
-  most = omega (arith, x.most, y.most);
+  spent = spent_more t.edits u.edits i j k x.spent y.spent;
 }
 
 pub wrote_nothing : (s : State) (session : Session) (a : Option (List ℕ)) (i : ℕ) → IsAt s session → Wrote (silent s) session a a i i
-wrote_nothing s session a i st = record { is_at = st; written = appends_nothing a; least = omega arith; most = omega arith }
+wrote_nothing s session a i st = record { is_at = st; written = appends_nothing a; spent = refl }
 
 -- a reply that was written
 pub wrote_reply : (t : Effect) (session : Session) (text : List ℕ) (a b : Option (List ℕ)) (i j : ℕ) → Did t session text i j → Appends a b text → Wrote t session a b i j
-wrote_reply t session text a b i j did w = record { is_at = did.is_at; written = subst (Appends a b) did.reply w; least = did.least; most = did.most }
+wrote_reply t session text a b i j did w = record { is_at = did.is_at; written = subst (Appends a b) did.reply w; spent = did.spent }
 
 pub some_nothing : (a : Option (List ℕ)) (text : List ℕ) → AppendsSome a a text
 some_nothing None text = (0, tt)

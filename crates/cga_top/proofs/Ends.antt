@@ -26,7 +26,7 @@ use Rattle.cga_top.specs.Outside.{Outside}
 use Rattle.cga_top.specs.Faults.{FaultsAt}
 use Rattle.cga_top.specs.Reads.{limit, read_limit, pending_after, IsRead, IsHalted}
 use Rattle.cga_top.specs.Statuses.{WritesAll, WritesReplies, WritesPrefix, StatusMeans}
-use Rattle.cga_top.proofs.Effects.{all_append, some_more, some_after, wrote_more}
+use Rattle.cga_top.proofs.Effects.{spent_then, all_append, some_more, some_after, wrote_more}
 
 nothing_kept : (x : ℕ) (xs : List ℕ) → take 4098 (x ∷ xs) ≡ [] → ⊥
 nothing_kept x xs e = let bad : x ∷ take 4097 xs ≡ [] = e in cc
@@ -109,7 +109,7 @@ replies_written d read bytes old mid new session lines told r source expanded ke
     record {
       taken = subst (λ (left : Option (List ℕ)). Consumes left new.left read) told taken;
       replies = all_of_it old.held mid.held new.held _ r.wrote.written keeps;
-      spent = record { least = rw expanded r.wrote.least; most = rw expanded r.wrote.most };
+      spent = record { by = spent_then (effect_of_lines d (take limit read)).edits old.expanded mid.expanded new.expanded expanded r.wrote.spent };
     }
 
 read_prefix : (d : ℕ) (read : List ℕ) (old mid new : Outside) (session : Session) (lines : Pending) → IsRead d read old mid session lines → Keeps mid.held new.held → WritesPrefix d old new
@@ -165,7 +165,7 @@ all_written d read bytes old mid last new session next lines is r few w expanded
     record {
       few = subst (λ (x : List ℕ). length x ≤ limit) is few;
       output = all_of_it old.held last.held new.held _ all.written keeps;
-      spent = record { least = rw expanded all.least; most = rw expanded all.most };
+      spent = record { by = spent_then (effect_of_script d bytes).edits old.expanded last.expanded new.expanded expanded all.spent };
     }
 
 -- all was replied to, or some of it
@@ -212,4 +212,4 @@ pub start_pending : (p : Pending) → p ≡ record { kept = []; ending = Open } 
 start_pending p e = e ∙ ap (λ (k : List ℕ). record { kept = kept_of k; ending = Open }) (sym (rest_of_part [] (All-nil (λ (b : ℕ). b ≢ 10))))
 
 pub ended_line : (t : Effect) (s1 : Session) (a b c : Option (List ℕ)) (i j : ℕ) → Wrote t s1 a b i j → Appends b c (at_end t.state).reply → Wrote (followed_by t (at_end t.state)) s1 a c i j
-ended_line t s1 a b c i j w e = wrote_more t (at_end t.state) s1 s1 a b c i j j w (record { is_at = w.is_at; written = e; least = omega arith; most = omega arith })
+ended_line t s1 a b c i j w e = wrote_more t (at_end t.state) s1 s1 a b c i j j w (record { is_at = w.is_at; written = e; spent = refl })

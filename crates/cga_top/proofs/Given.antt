@@ -1,11 +1,10 @@
 -- What a script that is there as a whole comes to.
-use Rattle.std.proofs.Common.{◌≡◌, ◌≢◌, ◌∙◌, ◌⊎◌, inl, inr, ℕ, ◌++◌, List, [], length, take, Option, None, Some, refl, sym, ap, subst}
+use Rattle.std.proofs.Common.{◌≡◌, ◌≢◌, ◌∙◌, ◌⊎◌, inl, inr, ℕ, ◌++◌, List, [], Option, None, Some, refl, sym, ap, subst}
 use Rattle.std.proofs.Math.Seq.{take-nil}
-use Rattle.std.specs.Prelude.{IfSome, IsTrue}
+use Rattle.std.specs.Prelude.{IfSome}
 use Rattle.std.proofs.lemmas.List.Elements.{All-nil}
 use Rattle.std.specs.Io.KnownBytes.{Appends}
 use Rattle.cga_outside.specs.Causes.{Rose}
-use Rattle.clap.specs.Words.{fault_of}
 use Rattle.cga_script.specs.Lines.{cut, lines_of}
 use Rattle.cga_script.specs.Pending.{Pending, kept_of}
 use Rattle.cga_script.proofs.Feeds.{rest_of_part}
@@ -16,17 +15,15 @@ use Rattle.cga_top.specs.declared.session.Session.{Session}
 use Rattle.cga_top.specs.declared.status.Status.{Status}
 use Rattle.cga_top.specs.declared.status.Status.TheVariants.{Done, Usage, ReadFault, WriteFault, TooLong, NoMemory}
 use Rattle.cga_top.specs.State.{start}
-use Rattle.cga_top.specs.Effect.{Effect}
 use Rattle.cga_top.specs.Output.{effect_of_all, effect_of_lines, effect_of_script, last_effect, output_of}
 use Rattle.cga_top.specs.Outside.{Outside}
 use Rattle.cga_top.specs.Faults.{FaultsAt}
 use Rattle.cga_top.specs.Prefixes.{AppendsSome}
 use Rattle.cga_top.specs.Reads.{pending_after}
-use Rattle.cga_top.specs.Runs.{GivenMeans, RunMeans, IsUnread, HoldsFewOr, script_of}
-use Rattle.cga_top.specs.Statuses.{StatusMeans, HoldsFew}
+use Rattle.cga_top.specs.Runs.{GivenMeans, RunMeans, HoldsFewOr, script_of}
 use Rattle.cga_top.specs.Wrote.{Wrote}
 use Rattle.cga_top.proofs.Complete.{complete_of, headline_of}
-use Rattle.cga_top.proofs.Effects.{wrote_more, some_after, some_more, some_nothing}
+use Rattle.cga_top.proofs.Effects.{spent_then, some_after, some_more, some_nothing}
 use Rattle.cga_top.proofs.Ends.{IsFlushed, all_of_it, some_kept}
 
 pub none_kept : (p : Pending) → p ≡ pending_after [] → p.kept ≡ []
@@ -62,7 +59,7 @@ given_done d bytes status old mid new session w calm f =
             f.done fine,
             f.calm fine ∙ calm,
             all_of_it old.held mid.held new.held (output_of d bytes) all f.held,
-            record { least = rw f.expanded w.least; most = rw f.expanded w.most },
+            record { by = spent_then (effect_of_script d bytes).edits old.expanded mid.expanded new.expanded f.expanded w.spent },
           )
       | inr is ↦ let unwanted : status ≢ Done = λ e. other (sym e ∙ is) in
           subst (λ (s : Status). GivenMeans d bytes s old new) (sym is) (subst (λ (n : ℕ). Rose n new.writes_failed) calm (f.fault unwanted), some_kept old.held mid.held new.held (output_of d bytes) all f.held)

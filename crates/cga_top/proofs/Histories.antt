@@ -1,9 +1,9 @@
 -- Former sources that lines write.
-use Rattle.std.proofs.Common.{◌≡◌, ◌∙◌, ℕ, zero, suc, ◌-◌, List, [], ◌∷◌, ◌++◌, length, take, drop, Bool, true, false, Option, Some, None, Result, Ok, Err, refl, sym, ap, subst}
+use Rattle.std.proofs.Common.{◌≡◌, ◌∙◌, ℕ, zero, suc, ◌-◌, List, [], ◌∷◌, ◌++◌, length, take, drop, Bool, true, false, Option, Some, None, Result, ap, subst}
 use Rattle.std.specs.Prelude.{All, slice_get, nat_lt, if◌then◌else◌}
 use Rattle.std.proofs.lemmas.List.Elements.{All-nil, All-cons, All-append, All-take, All-drop, All-head, All-tail}
 use Rattle.cga_shape.specs.declared.sources.Sources.{Sources}
-use Rattle.cga_undo.specs.History.{Kept, Step, latest, noted, undone, redone, turned, turned_step, back_to, StepGives}
+use Rattle.cga_undo.specs.History.{Kept, Step, latest, undone, redone, turned, turned_step, back_to, StepGives}
 use Rattle.cga_top.specs.Written.{AreWritten}
 
 one : (s : Sources) → AreWritten s → All AreWritten (s ∷ [])

@@ -13,3 +13,4 @@ pub mod Reading
 pub mod Ends
 pub mod Complete
 pub mod Given
+pub mod Undoing

@@ -62,7 +62,9 @@ closed_at s old mid at e = record {
   decimals = at.decimals;
   fresh = at.fresh;
   version = at.version;
-  city = at.city;
+  sources = at.sources;
+  budget = at.budget;
+  warm = at.warm;
   kept = at.kept;
   block = subst (IsOpen None) (sym e) tt;
   quiet = at.quiet;
@@ -76,8 +78,7 @@ pub line_did : (s : State) (old : Session) (x : Block) (line : Line) (new : Open
 line_did s old x line new reply n at b e is none =
     subst (λ (t : Effect). Did t (record old { block = Some new }) reply n n) (sym (effect_line s x line b e))
     (record {
-      is_at = record { decimals = at.decimals; fresh = at.fresh; version = at.version; city = at.city; kept = at.kept; block = is; quiet = at.quiet };
+      is_at = record { decimals = at.decimals; fresh = at.fresh; version = at.version; sources = at.sources; budget = at.budget; warm = at.warm; kept = at.kept; block = is; quiet = at.quiet };
       reply = none;
-      least = omega arith;
-      most = omega arith;
+      spent = refl;
     })

@@ -1,9 +1,8 @@
 -- What edits leave of the rules can be printed.
-use Rattle.std.proofs.Common.{◌≡◌, ℕ, suc, List, [], ◌∷◌, ◌++◌, Bool, true, false, not, Option, Some, None, Result, Ok, Err, refl, ap, sym, subst, take, drop, map}
-use Rattle.std.specs.Prelude.{All, if◌then◌else◌, insert, remove, slice_set, is_none, ◌&&◌, nat_lt, length}
+use Rattle.std.proofs.Common.{◌≡◌, ℕ, suc, List, [], ◌∷◌, Bool, true, false, not, Option, Some, None, Result, Ok, Err, subst, take, drop}
+use Rattle.std.specs.Prelude.{All, if◌then◌else◌, insert, remove, slice_set, nat_lt, length}
 use Rattle.std.specs.Option.{option_map_or}
 use Rattle.std.proofs.lemmas.List.Elements.{All-nil, All-cons, All-head, All-tail, All-set, All-append, All-take, All-drop}
-use Rattle.cga_fraction.specs.Rat.{Rat}
 use Rattle.cga_fraction.specs.Results.{and_then, err_if}
 use Rattle.cga_rule.specs.declared.grammar.Entry.{Entry}
 use Rattle.cga_rule.specs.declared.grammar.Grammar.{Grammar}
@@ -19,7 +18,7 @@ use Rattle.cga_check.specs.Groups.{is_of}
 use Rattle.cga_city.specs.Grammars.{with_rule, with_rules, rule_place, new_place, ranked, with_priority, prioritized, attribute_place, has_rule, is_plain}
 use Rattle.cga_city.specs.Lots.{lot_place, rooted, accepted, with_lot, is_bad, finds_no_room}
 use Rattle.cga_city.specs.Derived.{is_within}
-use Rattle.cga_city.specs.Apply.{Changed, apply, changed, within, checked, with_grammar, with_checked, ruled, valued, repriced}
+use Rattle.cga_city.specs.Apply.{Changed, apply, changed, within, checked, with_grammar, ruled, valued, repriced}
 use Rattle.cga_top.specs.Written.{IsWritten}
 
 -- ---- entries

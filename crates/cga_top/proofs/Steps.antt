@@ -1,5 +1,5 @@
 -- What an undo and a redo do.
-use Rattle.std.proofs.Common.{◌≡◌, ◌∙◌, ℕ, ◌+◌, ◌-◌, ◌≤◌, List, length, Bool, true, Option, Some, None, Result, Ok, Err, refl, sym, ap, subst, IfOk, OnOk, arith}
+use Rattle.std.proofs.Common.{◌≡◌, ◌∙◌, ℕ, ◌+◌, ◌-◌, List, length, Bool, true, Option, Some, None, Result, Ok, Err, refl, sym, ap, subst, IfOk, OnOk, arith}
 use Rattle.std.specs.Prelude.{slice_get}
 use Rattle.cga_fraction.specs.declared.memory.NoMemory.{NoMemory}
 use Rattle.cga_shape.specs.declared.edit.Edit.{Edit}
@@ -8,14 +8,14 @@ use Rattle.cga_shape.specs.declared.edit_refused.EditRefused.{EditRefused}
 use Rattle.cga_shape.specs.declared.sources.Sources.{Sources}
 use Rattle.cga_city.specs.Apply.{apply}
 use Rattle.cga_city.specs.City.{CityState, IsDone}
-use Rattle.cga_derive.specs.Derives.{expanded_count}
+use Rattle.cga_update.specs.Updates.{CountsTouched}
 use Rattle.cga_city.specs.Derived.{members}
-use Rattle.cga_undo.specs.History.{Kept, Step, undone, redone, turned}
+use Rattle.cga_undo.specs.History.{Kept, Step, noted, undone, redone, turned}
 use Rattle.cga_script.specs.declared.refused.Refused.{Refused}
 use Rattle.cga_top.specs.State.{State}
 use Rattle.cga_top.specs.Effect.{Effect}
-use Rattle.cga_top.specs.Replies.{changed, applied, stepped, refuses, ok_reply, budget_of, cost}
-use Rattle.cga_top.specs.Session.{IsAt, Did, city_of}
+use Rattle.cga_top.specs.Replies.{changed, applied, edited, stepped, refuses, ok_reply, budget_of}
+use Rattle.cga_top.specs.Session.{IsAt, Did}
 use Rattle.cga_top.specs.declared.session.Session.{Session}
 use Rattle.cga_top.proofs.Histories.{left_by, undone_some, undone_none, redone_some, redone_none}
 
@@ -43,30 +43,38 @@ pub redone_nowhere : (s : State) (history : Kept) → history ≡ s.kept → sli
 redone_nowhere s history k e = ap (λ (h : Kept). redone h s.sources) (sym k) ∙ redone_none history s.sources e
 
 -- an edit that was done
-same_city : (new : CityState) (budget : ℕ) → new.budget ≡ budget → new.warm ≡ true → new ≡ record { sources = new.sources; budget = budget; warm = true }
-same_city new budget b w = ap (λ (n : ℕ). record { sources = new.sources; budget = n; warm = new.warm }) b ∙ ap (λ (t : Bool). record { sources = new.sources; budget = budget; warm = t }) w
-
 pub changed_did : (s : State) (old : Session) (city : CityState) (history : Kept) (e : Edit) (reply : List ℕ) (i j : ℕ) → IsAt s old → IsDone old.city e city i j → reply ≡ ok_reply old.quiet
     → Did (changed s history (applied s e)) (record old { city = city; history = history }) reply i j
 changed_did s old city history e reply i j at done r =
-    let is : applied s e ≡ Ok city.sources = subst (λ (k : CityState). apply k.sources e k.budget ≡ Ok city.sources) at.city done.applied in
-    let budget : old.city.budget ≡ budget_of s.version = ap (λ (k : CityState). k.budget) at.city in
-    let spent : j ≡ i + cost s city.sources = subst (λ (b : ℕ). j ≡ i + expanded_count (members b city.sources)) budget done.spent in
+    let is : applied s e ≡ Ok city.sources = sym (ap (λ (x : Sources). apply x e old.city.budget) at.sources ∙ ap (λ (b : ℕ). apply s.sources e b) at.budget) ∙ done.applied in
+    let touched = subst (λ (b : ℕ). CountsTouched s.sources city.sources (members b s.sources) (members b city.sources) city.expanded) at.budget
+    (subst (λ (x : Sources). CountsTouched x city.sources (members old.city.budget x) (members old.city.budget city.sources) city.expanded) at.sources done.touched) in
+    let spent = done.spent in
+    let count : city.expanded ≡ j - i = omega arith in
     subst (λ (t : Result Sources EditRefused). Did (changed s history t) (record old { city = city; history = history }) reply i j) (sym is)
     (record {
       is_at = record {
         decimals = at.decimals;
         fresh = at.fresh;
         version = at.version;
-        city = same_city city (budget_of s.version) (done.budget_stays ∙ budget) done.warm_then;
+        sources = refl;
+        budget = done.budget_stays ∙ at.budget;
+        warm = done.warm_then;
         kept = refl;
         block = at.block;
         quiet = at.quiet;
       };
       reply = r ∙ ap ok_reply at.quiet;
-      least = omega (arith, spent);
-      most = omega (arith, spent);
+      spent = (omega arith, subst (CountsTouched s.sources city.sources (members (budget_of s.version) s.sources) (members (budget_of s.version) city.sources)) count touched);
     })
+
+-- the sources before an edit that was done are noted
+pub change_did : (s : State) (old : Session) (city : CityState) (history : Kept) (e : Edit) (text : Result (List ℕ) NoMemory) (i j : ℕ)
+    → IsAt s old → history ≡ noted s.kept s.sources → IsDone old.city e city i j → IfOk text (λ t. t ≡ ok_reply old.quiet)
+    → IfOk text (λ reply. Did (edited s e) (record old { city = city; history = history }) reply i j)
+change_did s old city history e (Err none) i j at h done r = tt
+change_did s old city history e (Ok reply) i j at h done r =
+    subst (λ (k : Kept). Did (changed s k (applied s e)) (record old { city = city; history = history }) reply i j) h (changed_did s old city history e reply i j at done r)
 
 pub step_did : (s : State) (old : Session) (city : CityState) (history : Kept) (none : Refused) (step : Option Step) (some : Step) (taken : Sources) (text : Result (List ℕ) NoMemory) (i j : ℕ)
     → IsAt s old → step ≡ Some some → taken ≡ some.taken → history ≡ some.left → IsDone old.city (edit.Whole taken) city i j → IfOk text (λ t. t ≡ ok_reply old.quiet)

@@ -1,15 +1,13 @@
 -- What lines are read as is what they tell.
-use Rattle.std.proofs.Common.{◌≡◌, ℕ, suc, ◌+◌, List, [], ◌∷◌, ◌++◌, length, map, Bool, true, false, Option, Some, None, Result, Ok, Err, refl, ap, sym, subst, ◌∙◌, arith}
+use Rattle.std.proofs.Common.{◌≡◌, ℕ, suc, ◌+◌, List, [], ◌∷◌, ◌++◌, length, map, Bool, true, false, Option, Result, Ok, Err, refl, ap, subst, ◌∙◌, arith}
 use Rattle.cga_fraction.specs.Results.{and_then}
 use Rattle.cga_lexer.specs.Line.{tokens_of}
 use Rattle.cga_lexer.specs.declared.token.Token.{Token}
 use Rattle.cga_lexer.specs.declared.fault.LexFault.{LexFault}
 use Rattle.cga_syntax.specs.Pieces.{Pieces}
 use Rattle.cga_syntax.specs.declared.lexeme.Lexeme.{Lexeme}
-use Rattle.cga_form.specs.declared.fault.Fault.{Fault}
-use Rattle.cga_form.specs.declared.line_fault.LineFault.{LineFault}
 use Rattle.cga_form.specs.declared.block_fault.BlockFault.{BlockFault}
-use Rattle.cga_form.specs.BlockTells.{Found, BlockTells, unless_blank, unless_long, Say, IsFaulty, AllTells, line_number}
+use Rattle.cga_form.specs.BlockTells.{Found, BlockTells, unless_blank, unless_long, Say, AllTells, line_number}
 use Rattle.cga_form.specs.Cursor.{seen}
 use Rattle.cga_form.specs.Laws.{IsForm}
 use Rattle.cga_form.specs.Lines.{Line, is_long}
@@ -18,7 +16,7 @@ use Rattle.cga_form.specs.Parts.{complete}
 use Rattle.cga_form.specs.Reader.{Reader, ReadResult, at}
 use Rattle.cga_form.specs.Tells.{Tells}
 use Rattle.cga_form.proofs.Lines.{form_found, form_refused}
-use Rattle.cga_top.specs.Told.{read_of, told_of, line_told, found_of, line_found, at_line, lines_found, block_told}
+use Rattle.cga_top.specs.Told.{read_of, told_of, line_told, found_of, line_found, lines_found, block_told}
 
 module _ {A : Type 0} (w : A → Pieces) (p : ℕ → Reader A) (form : IsForm w p) where
   read_tells : (text : List Lexeme) (o : ReadResult A) → complete (p 32) (at text 0) ≡ o → Tells w 32 text (read_of o)

@@ -1,5 +1,5 @@
 -- Which lines of a block were read.
-use Rattle.std.specs.Prelude.{List, ◌∷◌, [], ◌++◌, Option, Some, None}
+use Rattle.std.specs.Prelude.{List}
 use Rattle.cga_form.specs.BlockTells.{StandsFor}
 use Rattle.cga_form.specs.Lines.{Line}
 use Rattle.cga_form.specs.declared.block_reader.BlockReader.{BlockReader}

@@ -3,6 +3,7 @@ pub mod State
 pub mod Effect
 pub mod Replies
 pub mod Output
+pub mod Undos
 pub mod Written
 pub mod Blocks
 pub mod Session

@@ -17,7 +17,6 @@ use Rattle.cga_city.specs.Lots.{lot_place}
 use Rattle.cga_city.specs.Reports.{drawn_in, faults_of}
 use Rattle.cga_city.specs.Lots.{names_of}
 use Rattle.cga_city.specs.declared.limits.TheConstants.{BUDGET, BUDGET_TWO}
-use Rattle.cga_derive.specs.Derives.{expanded_count}
 use Rattle.cga_expand.specs.Children.{Member}
 use Rattle.cga_undo.specs.History.{Kept, Step, noted, undone, redone}
 use Rattle.cga_script.specs.declared.long_dump.LongDump.{LongDump}
@@ -55,28 +54,22 @@ abbrev pub budget_of : Version → ℕ
 budget_of One = BUDGET
 budget_of Two = BUDGET_TWO
 
--- the most expansions of a refused edit
-abbrev pub most_of : EditRefused → ℕ → ℕ
-most_of cause.OverBudget budget = budget
-most_of _ budget = 0
-
 -- the members of the derivation of the current sources
 abbrev pub derived : State → List Member
 derived s = members (budget_of s.version) s.sources
-
--- how many shapes the derivation of these sources expands
-abbrev pub cost : State → Sources → ℕ
-cost s new = expanded_count (members (budget_of s.version) new)
 
 -- an edit goes through, with what the history then keeps, or is refused and changes nothing
 abbrev pub changed : State → Kept → Result Sources EditRefused → Effect
 changed s kept (Ok new) = record {
   state = record s { sources = new; kept = kept };
   reply = ok_reply s.quiet;
-  least = cost s new;
-  most = cost s new;
+  edits = record { from = s.sources; budget = budget_of s.version; gave = Ok new } ∷ [];
 }
-changed s kept (Err e) = record { state = s; reply = refusal_text_of (refused.Edit e); least = 0; most = most_of e (budget_of s.version) }
+changed s kept (Err e) = record {
+  state = s;
+  reply = refusal_text_of (refused.Edit e);
+  edits = record { from = s.sources; budget = budget_of s.version; gave = Err e } ∷ [];
+}
 
 -- what an edit makes of the current sources
 abbrev pub applied : State → Edit → Result Sources EditRefused

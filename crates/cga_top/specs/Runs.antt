@@ -1,5 +1,5 @@
 -- What the statuses of a run mean, by the words of the command line.
-use Rattle.std.specs.Prelude.{◌≡◌, ℕ, List, Bool, false, Option, Some, None, IsTrue}
+use Rattle.std.specs.Prelude.{◌≡◌, ℕ, List, false, Option, Some, None, IsTrue}
 use Rattle.std.specs.Io.KnownBytes.{Appends}
 use Rattle.cga_outside.specs.Causes.{Rose}
 use Rattle.cga_outside.specs.declared.sink.Sink as sink

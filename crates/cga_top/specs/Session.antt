@@ -1,9 +1,8 @@
 -- When a session has come to a state.
 use Rattle.std.specs.Prelude.{◌≡◌, ℕ, ◌+◌, ◌≤◌, List, true, Option, Some, None}
-use Rattle.cga_city.specs.City.{CityState}
 use Rattle.cga_top.specs.Blocks.{RulesRead, SourcesRead}
 use Rattle.cga_top.specs.State.{Block, of_rules, of_city, of_other, State}
-use Rattle.cga_top.specs.Effect.{Effect, says}
+use Rattle.cga_top.specs.Effect.{Effect, HasSpent, says}
 use Rattle.cga_top.specs.Replies.{budget_of}
 use Rattle.cga_top.specs.declared.open_block.OpenBlock.{OpenBlock}
 use Rattle.cga_top.specs.declared.open_block.OpenBlock.TheVariants as opened
@@ -23,26 +22,23 @@ IsOpen (Some block) (Some reader) = IsOpenAs block reader
 IsOpen None (Some reader) = ⊥
 IsOpen (Some block) None = ⊥
 
--- the warm city of a state
-abbrev pub city_of : State → CityState
-city_of s = record { sources = s.sources; budget = budget_of s.version; warm = true }
-
 -- the session has come to the state
 pub record IsAt (s : State) (session : Session) : Type 0 where
   pub decimals : session.decimals ≡ s.decimals
   pub fresh : session.fresh ≡ s.fresh
   pub version : session.version ≡ s.version
-  pub city : session.city ≡ city_of s
+  pub sources : session.city.sources ≡ s.sources
+  pub budget : session.city.budget ≡ budget_of s.version
+  pub warm : session.city.warm ≡ true
   pub kept : session.history ≡ s.kept
   pub block : IsOpen s.block session.block
   pub quiet : session.quiet ≡ s.quiet
 
--- a line was done: the session has come to its state, this was the reply, and so much was expanded
+-- a line was done: the session has come to its state, this was the reply, and its edits expanded so much
 pub record Did (e : Effect) (session : Session) (text : List ℕ) (before after : ℕ) : Type 0 where
   pub is_at : IsAt e.state session
   pub reply : text ≡ e.reply
-  pub least : before + e.least ≤ after
-  pub most : after ≤ before + e.most
+  pub spent : HasSpent e.edits before after
 
 -- only a reply was given: it is that of the effect, which changes nothing
 abbrev pub Says : Effect → List ℕ → Type 0

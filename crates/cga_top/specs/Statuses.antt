@@ -4,16 +4,15 @@ use Rattle.std.specs.Io.KnownBytes.{Appends, Consumes}
 use Rattle.cga_outside.specs.Causes.{Rose}
 use Rattle.cga_top.specs.declared.status.Status.{Status}
 use Rattle.cga_top.specs.declared.status.Status.TheVariants.{Done, Usage, ReadFault, WriteFault, TooLong, NoMemory}
-use Rattle.cga_top.specs.Effect.{Effect}
+use Rattle.cga_top.specs.Effect.{Effect, HasSpent}
 use Rattle.cga_top.specs.Output.{effect_of_lines, effect_of_script, replies_of, output_of}
 use Rattle.cga_top.specs.Outside.{Outside, IsCalm}
 use Rattle.cga_top.specs.Reads.{limit, read_limit}
 use Rattle.cga_top.specs.Prefixes.{AppendsSome}
 
--- the expansions are at least and at most those that the lines stand for
+-- the expansions are those of the edits that the lines asked for
 pub record Spent (e : Effect) (old new : Outside) : Type 0 where
-  pub least : old.expanded + e.least ≤ new.expanded
-  pub most : new.expanded ≤ old.expanded + e.most
+  pub by : HasSpent e.edits old.expanded new.expanded
 
 -- the script is within the limit, and all of the output was written
 pub record WritesAll (decimals : ℕ) (bytes : List ℕ) (old new : Outside) : Type 0 where

@@ -1,5 +1,5 @@
 -- What lines tell, by how their forms are read.
-use Rattle.std.specs.Prelude.{ℕ, suc, ◌+◌, List, [], ◌∷◌, length, map, Option, Some, None, Result, Ok, Err, if◌then◌else◌}
+use Rattle.std.specs.Prelude.{ℕ, suc, ◌+◌, List, [], ◌∷◌, length, map, Option, None, Result, Ok, Err, if◌then◌else◌}
 use Rattle.cga_fraction.specs.Results.{and_then}
 use Rattle.cga_lexer.specs.Line.{tokens_of}
 use Rattle.cga_lexer.specs.declared.token.Token.{Token}

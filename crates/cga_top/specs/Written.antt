@@ -1,6 +1,5 @@
 -- Sources, edits and commands that lines write.
 use Rattle.std.specs.Prelude.{bytes_eq}
-use Rattle.cga_rule.specs.declared.rule.Rule.{Rule}
 use Rattle.cga_shape.specs.declared.edit.Edit.{Edit}
 use Rattle.cga_shape.specs.declared.edit.Edit.TheVariants.{Rules, Put, Drop, SetAttribute, SetPriority, SetLot, Unlot, SetOrder, Whole}
 use Rattle.cga_shape.specs.declared.sources.Sources.{Sources}

@@ -6,6 +6,7 @@ ghost use Rattle.cga_script.specs.CityLines.{CityTells};
 ghost use Rattle.cga_script.specs.Commands.{CommandTells};
 ghost use Rattle.cga_script.specs.declared.version.Version.{Version};
 ghost use Rattle.cga_top.specs.Told.{command_of, rules_of, city_of};
+ghost use Rattle.cga_top.specs.Undos.{UndosGoThrough, RedosGoThrough};
 
 /// What a line outside a block is taken for is the one thing that it tells. Does nothing: its contract is the law.
 pub fn commands_are_told()
@@ -16,4 +17,11 @@ pub fn commands_are_told()
 pub fn blocks_are_told()
     ensures rules { (lines : List Line) → GrammarTells lines (rules_of lines) }
     ensures city { (lines : List Line) → CityTells lines (city_of lines) }
+{}
+
+/// Whatever lines came, an undo, where there is a past, is an edit that goes through and leaves just the sources that it
+/// takes; likewise a redo. So only memory can be wanting.
+pub fn undo_is_never_refused()
+    ensures undo { UndosGoThrough }
+    ensures redo { RedosGoThrough }
 {}

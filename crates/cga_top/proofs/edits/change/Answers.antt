@@ -1,14 +1,20 @@
-use Rattle.std.proofs.Common.{sym, subst, rules}
+use Rattle.std.proofs.Common.{◌≡◌, ◌∙◌, ap, sym, subst}
 use Rattle.std.specs.Prelude.{All}
 use Rattle.std.proofs.lemmas.List.Elements.{All-nil}
 use Rattle.cga_shape.specs.declared.sources.Sources.{Sources}
 use Rattle.cga_syntax.specs.GrammarText.{ArePrintable}
-use Rattle.cga_undo.specs.History.{Kept}
+use Rattle.cga_undo.specs.History.{Kept, noted}
 use Rattle.cga_top.specs.Written.{AreWritten}
 use Rattle.cga_top.proofs.Histories.{noted_written}
 use Rattle.cga_top.proofs.Prints.{applied_prints}
-use Rattle.cga_top.proofs.Steps.{on_ok}
+use Rattle.cga_top.proofs.Steps.{on_ok, change_did}
 use Rattle.cga_top.proofs.edits.change.Goals as goal
+
+pub returns-in-Ok-clause-did : goal.returns-in-Ok-clause-did
+returns-in-Ok-clause-did g c = λ s st.
+    let before_is : c.in_ok-before.before ≡ s.sources = c.in_ok-before.ensures {u = tt} ∙ c.sources.ensures.value ∙ st.sources in
+    change_did s c.args.session.now c.edit.new.self c.note.new.self c.args.edit c.accepted.result _ _ st
+    (c.note.ensures ∙ ap (λ (k : Kept). noted k c.in_ok-before.before) st.kept ∙ ap (noted s.kept) before_is) (c.in-Ok.ensures {u = tt}) c.accepted.ensures
 
 pub returns-in-Ok-clause-ready : goal.returns-in-Ok-clause-ready
 returns-in-Ok-clause-ready g c =

@@ -1,6 +1,5 @@
-use Rattle.std.proofs.Common.{◌≡◌, ◌∙◌, ◌-◌, List, length, Option, Some, None, ap, sym, subst, rules, IfOk}
+use Rattle.std.proofs.Common.{◌≡◌, ◌∙◌, ◌-◌, List, length, Some, None, ap, sym, subst, rules, IfOk}
 use Rattle.std.specs.Prelude.{All, slice_get}
-use Rattle.cga_shape.specs.declared.edit.Edit.TheVariants as edit
 use Rattle.cga_shape.specs.declared.sources.Sources.{Sources}
 use Rattle.cga_script.specs.declared.refused.Refused.TheVariants as refused
 use Rattle.cga_syntax.specs.GrammarText.{ArePrintable}
@@ -24,7 +23,7 @@ pub returns-in-Ok-clause-did : goal.returns-in-Ok-clause-did
 returns-in-Ok-clause-did g c = λ s st.
     let future = c.args.session.now.history.future in
     let last : slice_get future (length future - 1) ≡ Some c.in-Some.last.now = subst (λ (p : List Sources). slice_get p (length p - 1) ≡ Some c.in-Some.last.now) c.future.ensures.value (sym (c.in-Some.ensures {u = tt}).value) in
-    let now_is : c.in_ok-now.now ≡ s.sources = c.in_ok-now.ensures {u = tt} ∙ c.sources.ensures.value ∙ ap (λ k. k.sources) st.city in
+    let now_is : c.in_ok-now.now ≡ s.sources = c.in_ok-now.ensures {u = tt} ∙ c.sources.ensures.value ∙ st.sources in
     let kept = kept_after _ _ _ _ _ _ (redone_some c.args.session.now.history c.in_ok-now.now c.in-Some.last.now last) c.redo.ensures in
     step_did s c.args.session.now c.edit.new.self c.redo.new.self refused.NoRedo (redone s.kept s.sources) _ c.in_ok-taken.taken c.accepted.result _ _ st
     (redone_there s c.args.session.now.history c.in-Some.last.now st.kept last) (c.in_ok-taken.ensures {u = tt})

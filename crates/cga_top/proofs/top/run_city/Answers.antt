@@ -1,4 +1,4 @@
-use Rattle.std.proofs.Common.{◌≡◌, ◌∙◌, ap, map, string_bytes, Result, Err}
+use Rattle.std.proofs.Common.{◌∙◌, ap, Result, Err}
 use Rattle.clap.specs.Words.{fault_of}
 use Rattle.cga_words.specs.Words.{command_app, decimals_of, town_of}
 use Rattle.cga_words.specs.declared.wanted.Wanted.{Wanted}

@@ -1,7 +1,5 @@
 use Rattle.std.proofs.Common.{ℕ, refl, subst}
 use Rattle.cga_top.specs.Runs.{GivenMeans, sunk_in}
-use Rattle.cga_top.proofs.Complete.{not_used, done_not_used}
-use Rattle.cga_top.proofs.Effects.{some_nothing}
 use Rattle.cga_top.proofs.Ends.{start_pending}
 use Rattle.cga_top.proofs.Given.{given_done, given_halted}
 use Rattle.cga_top.proofs.top.run_given.Goals as goal

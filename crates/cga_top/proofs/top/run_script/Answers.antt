@@ -67,3 +67,9 @@ returns-clause-complete g c = λ few calm silent. complete_of _ _ _ _ (returns-c
 
 pub returns-in-TooLong-clause-used : goal.returns-in-TooLong-clause-used
 returns-in-TooLong-clause-used g c = not_used _ _ c.flushed-in-TooLong.ensures.answers long_not_used
+
+pub returns-in-Ok-end_script-clause-used : goal.returns-in-Ok-end_script-clause-used
+returns-in-Ok-end_script-clause-used g c = not_used _ _ c.flushed.ensures.answers done_not_used
+
+pub returns-in-Failed-clause-used : goal.returns-in-Failed-clause-used
+returns-in-Failed-clause-used g c = not_used _ _ c.flushed-in-Failed.ensures.answers read_not_used

@@ -1,4 +1,4 @@
-use Rattle.std.proofs.Common.{[], ap, sym, subst}
+use Rattle.std.proofs.Common.{[], ap, subst}
 use Rattle.cga_script.specs.Pending.{Pending}
 use Rattle.cga_top.specs.Effect.{Effect}
 use Rattle.cga_script.specs.Lines.{cut}
