@@ -1,7 +1,7 @@
-// The words of the command line, and the script of the town, which the words may ask for. It knows nothing of what a
-// script says.
-// The one thing that callers get wrong: words that leave an option out still say its value, so an absent number of
-// decimals is 6, and only an absent town is None.
+//! The words of the command line, and the script of the town, which the words may ask for. It knows nothing of what a
+//! script says.
+//! The one thing that callers get wrong: words that leave an option out still say its value, so an absent number of
+//! decimals is 6, and only an absent town is None.
 #![tactic(auto)]
 
 mod read;
