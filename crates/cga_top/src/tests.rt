@@ -1,5 +1,4 @@
 // Rows worked out by hand: a script, how it is read and where the sink fails, and the bytes and the status.
-mod cities;
 mod line_by_line;
 mod runs;
 mod scripts;
@@ -39,7 +38,7 @@ fn replies_to_scripts(mut rt: HostRuntime) -> Result<(), Fail> {
 }
 
 // The lines of a city whose windows see their neighbours.
-pub(super) const STREET: &str = "version 2
+const STREET: &str = "version 2
 rules
 PRIORITY 1:
 1: early -> S(1r, 6, 1r) mass
