@@ -85,13 +85,11 @@ reach v laws (suc m) r n h w = elim w [
       (q.0, holds_trans (v.hull r) (v.hull p.0) (v.own n) (laws.holds_children r p.0 h p.1) q.1)
 ]
 
--- nothing below a node whose hull doesn't touch the box meets it
-pub none_below : (v : TreeView) → IsHullTree v → (by : ℕ) (target : Target) (m r : ℕ) → InTree v r → touches (v.hull r) (v.own by) ≡ false → answer_over v by target (flat_map (below v m) (v.children r)) ≡ Nothing
-none_below v laws by target m r h f = over_apart v by target (flat_map (below v m) (v.children r)) (λ n w t.
-    let p = in_some (below v m) (v.children r) n w in
-    let q = reach v laws m p.0 n (laws.closed r p.0 h p.1) p.2 in
-    let up = holds_trans (v.hull r) (v.hull p.0) (v.own n) (laws.holds_children r p.0 h p.1) q.1 in
-    let yes = touches_up (v.own n) (v.hull r) (v.own by) up (meets_touches (v.own n) (v.own by) (laws.boxed n q.0) t) in
+-- neither a node whose hull doesn't touch the box nor what is below it meets the box
+pub none_below : (v : TreeView) → IsHullTree v → (by : ℕ) (target : Target) (m r : ℕ) → InTree v r → touches (v.hull r) (v.own by) ≡ false → answer_over v by target (below v m r) ≡ Nothing
+none_below v laws by target m r h f = over_apart v by target (below v m r) (λ n w t.
+    let q = reach v laws m r n h w in
+    let yes = touches_up (v.own n) (v.hull r) (v.own by) q.1 (meets_touches (v.own n) (v.own by) (laws.boxed n q.0) t) in
     let x : true ≡ false = sym yes ∙ f in
     cc)
 
@@ -117,10 +115,14 @@ visit_found v by target left node first rest h p q =
     ∙ sym (over_append v by target (node ∷ []) (flat_map (below v (left - 1)) (v.children node)))
     ∙ ap (answer_over v by target) (sym (below_more v left node h))
 
-pub visit_counted : (v : TreeView) (by left node a b c : ℕ) (area : Box) → 0 < left → area ≡ v.own by → b ≤ a + cond (nat_eq node by) 0 1 → c ≤ b + cond (touches (v.hull node) area) (total (reads v by (left - 1)) (v.children node)) 0 → c ≤ a + reads v by left node
-visit_counted v by left node a b c area h e p q =
-    let q2 : c ≤ b + cond (touches (v.hull node) (v.own by)) (total (reads v by (left - 1)) (v.children node)) 0 = subst (λ t. c ≤ b + cond (touches (v.hull node) t) (total (reads v by (left - 1)) (v.children node)) 0) e q in
-    omega (arith, p, q2, reads_more v by left node h)
+touched : (v : TreeView) (by r : ℕ) (hull area : Box) (t seen : Bool) → hull ≡ v.hull r → area ≡ v.own by → t ≡ touches hull area → t ≡ seen → touches (v.hull r) (v.own by) ≡ seen
+touched v by r hull area t seen p q e f = ap (λ s. touches s (v.own by)) (sym p) ∙ ap (touches hull) (sym q) ∙ sym e ∙ f
+
+pub visit_counted : (v : TreeView) (by left node a b c : ℕ) (hull area : Box) (t : Bool) → 0 < left → hull ≡ v.hull node → area ≡ v.own by → t ≡ touches hull area → t ≡ true → b ≤ a + cond (nat_eq node by) 0 1 → c ≤ b + total (reads v by (left - 1)) (v.children node) → c ≤ a + reads v by left node
+visit_counted v by left node a b c hull area t h eh ea et f p q =
+    let all = total (reads v by (left - 1)) (v.children node) in
+    let s : ◌≡◌ {A = ℕ} (cond (touches (v.hull node) (v.own by)) all 0) all = ap (λ x. cond x all 0) (touched v by node hull area t true eh ea et f) in
+    omega (arith, p, q, s, reads_more v by left node h)
 
 pub step_found : (v : TreeView) (by : ℕ) (target : Target) (m : ℕ) (cs : List ℕ) (k c : ℕ) (found one whole : Answer) → slice_get cs k ≡ Some c → one ≡ answer_over v by target (below v m c) → whole ≡ join found (answer_over v by target (flat_map (below v m) (drop k cs))) → whole ≡ join (join found one) (answer_over v by target (flat_map (below v m) (drop (k + 1) cs)))
 step_found v by target m cs k c found one whole e p q =
@@ -239,7 +241,5 @@ root_depth v laws k r e = laws.at_root r (in_at v.roots k r e)
 pub reads_within : (v : TreeView) → IsHullTree v → (by a b k : ℕ) → InTree v by → length v.roots ≤ k → b + total (reads v by 257) (drop k v.roots) ≤ a + 1 + total (reads v by 257) v.roots → b ≤ a + near v by
 reads_within v laws by a b k h e q = omega (arith, q, reads_near v laws by h)
 
-pub none_seen : (v : TreeView) → IsHullTree v → (by : ℕ) (target : Target) (m r : ℕ) (hull area : Box) (t : Bool) → InTree v r → hull ≡ v.hull r → area ≡ v.own by → t ≡ touches hull area → t ≡ false → Nothing ≡ answer_over v by target (flat_map (below v m) (v.children r))
-none_seen v laws by target m r hull area t h p q e f =
-    let x : touches (v.hull r) (v.own by) ≡ false = ap (λ s. touches s (v.own by)) (sym p) ∙ ap (touches hull) (sym q) ∙ sym e ∙ f in
-    sym (none_below v laws by target m r h x)
+pub none_seen : (v : TreeView) → IsHullTree v → (by : ℕ) (target : Target) (m r : ℕ) (hull area : Box) (t : Bool) → InTree v r → hull ≡ v.hull r → area ≡ v.own by → t ≡ touches hull area → t ≡ false → Nothing ≡ answer_over v by target (below v m r)
+none_seen v laws by target m r hull area t h p q e f = sym (none_below v laws by target m r h (touched v by r hull area t false p q e f))

@@ -1,6 +1,5 @@
 ghost use Rattle.std.specs.Prelude.{◌≡◌, ◌≤◌, ◌+◌, [], ◌∷◌, length, cond, nat_eq};
 ghost use Rattle.std.specs.List.{flat_map};
-ghost use Rattle.cga_frame.specs.Box.{touches};
 ghost use Rattle.cga_index.specs.Occlusion.{answer_of, join};
 ghost use Rattle.cga_index.specs.Tree.{IsHullTree, InTree, below, all_nodes, near, counts_for, asked, answer_over, reads, total};
 
@@ -87,7 +86,8 @@ fn look<H: HullTree, T: Ledger>(
     compare(&own, area)
 }
 
-/// What a node and those below it answer. `left` bounds the levels from the node on.
+/// What a node and those below it answer: nothing where its hull is apart, before the node itself is looked at. `left`
+/// bounds the levels from the node on.
 #[cycle(visit)]
 fn visit<H: HullTree, T: Ledger>(
     tree: &H,
@@ -106,6 +106,9 @@ fn visit<H: HullTree, T: Ledger>(
     ensures found { result ≡ answer_over (H.view tree.now) by target (below (H.view tree.now) left node) }
     ensures counted { tests.new ≤ tests.old + reads (H.view tree.now) by left node }
 {
+    if !tree.hull(node).touches(area) {
+        return Answer::Nothing;
+    }
     let first = look(tree, node, by, target, area, tests);
     let rest = visit_children(tree, node, left - 1, by, target, area, tests);
     joined(first, rest)
@@ -128,11 +131,8 @@ fn visit_children<H: HullTree, T: Ledger>(
     requires area { area.now ≡ (H.view tree.now).own by }
     requires left { left + (H.view tree.now).depth node ≡ 256 }
     ensures found { result ≡ answer_over (H.view tree.now) by target (flat_map (below (H.view tree.now) left) ((H.view tree.now).children node)) }
-    ensures counted { tests.new ≤ tests.old + cond (touches ((H.view tree.now).hull node) area.now) (total (reads (H.view tree.now) by left) ((H.view tree.now).children node)) 0 }
+    ensures counted { tests.new ≤ tests.old + total (reads (H.view tree.now) by left) ((H.view tree.now).children node) }
 {
-    if !tree.hull(node).touches(area) {
-        return Answer::Nothing;
-    }
     let mut found = Answer::Nothing;
     for place in 0..tree.children(node) {
         let child = child_of(tree, node, place);

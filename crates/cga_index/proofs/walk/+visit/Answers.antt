@@ -11,10 +11,10 @@ visit-returns-clause-found g t c =
 pub visit-returns-clause-counted : goal.visit-returns-clause-counted
 visit-returns-clause-counted g t c =
     let low = c.requires.laws.shallow c.args.node c.requires.node in
-    visit_counted (g.H.HullTree.view c.args.tree.now) c.args.by c.args.left c.args.node _ _ _ c.args.area.now (omega (arith, low, c.requires.left)) c.requires.area c.look-first.ensures.counted c.visit_children-rest.ensures.counted
+    visit_counted (g.H.HullTree.view c.args.tree.now) c.args.by c.args.left c.args.node _ _ _ c.hull.result c.args.area.now c.touches.result (omega (arith, low, c.requires.left)) c.hull.ensures c.requires.area c.touches.ensures.value c.if-not-touches.false c.look-first.ensures.counted c.visit_children-rest.ensures.counted
 
-pub visit_children-returns-then-not-touches-clause-found : goal.visit_children-returns-then-not-touches-clause-found
-visit_children-returns-then-not-touches-clause-found g t c =
+pub visit-returns-then-not-touches-clause-found : goal.visit-returns-then-not-touches-clause-found
+visit-returns-then-not-touches-clause-found g t c =
     none_seen (g.H.HullTree.view c.args.tree.now) c.requires.laws c.args.by c.args.target c.args.left c.args.node c.hull.result c.args.area.now c.touches.result c.requires.node c.hull.ensures c.requires.area c.touches.ensures.value c.if-not-touches.true
 
 pub visit_children-loop-place-preserved : goal.visit_children-loop-place-preserved
