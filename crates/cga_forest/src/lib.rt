@@ -6,6 +6,7 @@
 
 mod below;
 mod change;
+mod entries;
 mod entry;
 mod holds;
 mod hull_tree;

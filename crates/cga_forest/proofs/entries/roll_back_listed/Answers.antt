@@ -1,7 +1,7 @@
 use Rattle.std.proofs.Common.{refl, ◌∙◌}
 use Rattle.cga_forest.specs.View.{rolled}
 use Rattle.cga_forest.proofs.Sweep.{get_at, swept_start, swept_next, swept_end, rolled_twice, rolled_calm}
-use Rattle.cga_forest.proofs.store.roll_back_listed.Goals as goal
+use Rattle.cga_forest.proofs.entries.roll_back_listed.Goals as goal
 
 pub loop-id-init : goal.loop-id-init
 loop-id-init c = record { swept = swept_start rolled rolled_twice c.args.entries.now.slots c.args.entries.now.slots c.args.entries.now.slots c.args.list.now; capacity = refl }

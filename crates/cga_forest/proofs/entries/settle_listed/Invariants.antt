@@ -1,6 +1,6 @@
 use Rattle.std.proofs.Common.{◌≡◌}
 use Rattle.cga_forest.specs.View.{IsSwept, settled}
-use Rattle.cga_forest.proofs.store.settle_listed.Given as goal
+use Rattle.cga_forest.proofs.entries.settle_listed.Given as goal
 
 abbrev pub invariant-loop-id : goal.invariant-loop-id
 invariant-loop-id l = record {

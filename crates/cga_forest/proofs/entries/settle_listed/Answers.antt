@@ -1,7 +1,7 @@
 use Rattle.std.proofs.Common.{refl, ◌∙◌}
 use Rattle.cga_forest.specs.View.{settled}
 use Rattle.cga_forest.proofs.Sweep.{get_at, swept_start, swept_next, swept_end, settled_twice, settled_calm}
-use Rattle.cga_forest.proofs.store.settle_listed.Goals as goal
+use Rattle.cga_forest.proofs.entries.settle_listed.Goals as goal
 
 pub loop-id-init : goal.loop-id-init
 loop-id-init c = record { swept = swept_start settled settled_twice c.args.entries.now.slots c.args.entries.now.slots c.args.entries.now.slots c.args.list.now; capacity = refl }
