@@ -1,6 +1,6 @@
 -- The work of an edit by an agenda: what it starts from, how it begins, one turn, and what holds
 -- between turns.
-use Rattle.std.specs.Prelude.{◌≡◌, ◌≢◌, ℕ, List, map, [], ◌∷◌, Bool, true, false, ◌⊎◌}
+use Rattle.std.specs.Prelude.{◌≡◌, ◌≢◌, ◌↔◌, ℕ, List, length, map, [], ◌∷◌, Bool, true, false, ◌⊎◌}
 use Rattle.cga_order.specs.Chain.{IsChild}
 use Rattle.cga_order.specs.World.{Among, is_waiting, is_instance, IsNew, IsEarlier, stamp_of}
 use Rattle.cga_order.specs.declared.placed.Placed.{Placed}
@@ -14,6 +14,11 @@ use Rattle.cga_agenda.specs.Edit.{Edit, old_world, new_world, renewed, Kept}
 abbrev pub Once : {X : Type 0} → List X → Type 0
 Once [] = Unit {0}
 Once (x ∷ xs) = (Among x xs → ⊥) × Once xs
+
+-- of so many P holds: as many as a list has that names just these, each once
+module _ {X : Type 0} where
+  abbrev pub AreSoMany : (X → Type 0) → ℕ → Type 0
+  AreSoMany P n = (list : List X) × Once list × ((x : X) → Among x list ↔ P x) × (n ≡ length list)
 
 -- the shapes that were expanded, after a turn that tells so
 abbrev pub next_worked : {N : Type 0} → N → Bool → List N → List N

@@ -1,5 +1,5 @@
 -- What an update comes to.
-use Rattle.std.specs.Prelude.{◌≡◌, ◌↔◌, ℕ, ◌+◌, List, ◌++◌, ◌∷◌, [], map, length, count_by, Bool, Some, Result, Ok, Err}
+use Rattle.std.specs.Prelude.{◌≡◌, ℕ, ◌+◌, List, ◌++◌, ◌∷◌, [], map, count_by, Bool, Some, Result, Ok, Err}
 use Rattle.cga_word.specs.declared.primitive.Primitive.{Primitive}
 use Rattle.cga_shape.specs.declared.changes.Changes.{Changes}
 use Rattle.cga_shape.specs.declared.drawn.Drawn as reported
@@ -9,7 +9,7 @@ use Rattle.cga_order.specs.World.{Has, Among}
 use Rattle.cga_order.specs.declared.placed.Kind.TheVariants.{Instance}
 use Rattle.cga_derivation.specs.Derivation.{IsDerived, derive}
 use Rattle.cga_agenda.specs.Record.{Drawn, drawn}
-use Rattle.cga_agenda.specs.Work.{Once}
+use Rattle.cga_agenda.specs.Work.{AreSoMany, Once}
 use Rattle.cga_depend.specs.Pairs.{DependentsView}
 use Rattle.cga_expand.specs.Children.{Member}
 use Rattle.cga_expand.specs.Derivation.{derivation_of}
@@ -32,11 +32,9 @@ abbrev pub IsBelow : Shape → ℕ → Shape → Type 0
 IsBelow parent i s = (s.lot ≡ parent.lot) × (s.path ≡ parent.path ++ i ∷ [])
 
 module _ (old new : Sources) (before after : List Member) where
-  -- so many shapes are touched: as many as a list has that names just these, each once
+  -- so many shapes are touched
   abbrev pub CountsTouched : ℕ → Type 0
-  CountsTouched n =
-      (list : List Shape) × Once list × ((s : Shape) → Among s list ↔ Touched old new before after s)
-      × (n ≡ length list)
+  CountsTouched n = AreSoMany (Touched old new before after) n
 
   -- the instances that went and that came, each named once
   pub record IsRecord (gone come : List (Drawn Shape Primitive)) : Type 0 where
