@@ -1,21 +1,17 @@
 -- The nodes of a forest that may be on the agenda: one at each stamp; and what puts them on it and takes them off it.
 use Rattle.std.proofs.Common.{◌≡◌, ◌<◌, ◌≤◌, ◌+◌, ℕ, zero, suc, List, [], ◌∷◌, length, get_or, refl, sym, ap, ◌∙◌, subst, ◌⊎◌, inl, inr, Option, Some, None, Bool, true, false, arith}
 use Rattle.std.specs.Prelude.{IsSome, IfSome, OnOk, Result, Ok, Err, slice_get, if◌then◌else◌}
-use Rattle.cga_frame.specs.Box.{Box, meets}
 use Rattle.cga_word.specs.declared.mode.Mode.{Mode}
 use Rattle.cga_order.specs.Chain.{Chain}
 use Rattle.cga_order.specs.World.{is_instance}
 use Rattle.cga_order.proofs.Chains.{stamps-place}
 use Rattle.cga_key.specs.declared.stamp_key.StampKey.{StampKey}
 use Rattle.cga_key.specs.Key.{chain_of_key}
-use Rattle.cga_index.specs.Tree.{Member, ListsAskers}
 use Rattle.cga_forest.specs.Node.{chain_kept}
 use Rattle.cga_forest.specs.View.{Seen}
 use Rattle.cga_forest.specs.Tree.{ForestView, IsForest, node_at}
-use Rattle.cga_forest.specs.Walked.{forest_tree, own_of, asks_of}
-use Rattle.cga_forest.proofs.Laws.{inside}
 use Rattle.cga_update.specs.Agenda.{AgendaView, Chains, Grows, IsLeast, IsPopped, IsPut, OneEach, SameOn, is_due, is_later}
-use Rattle.cga_update.specs.Due.{ComesAfter, HasAskers, HasLater}
+use Rattle.cga_update.specs.Due.{ComesAfter, HasLater}
 use Rattle.cga_update.specs.Queue.{chains_of, due_chain, on_of}
 use Rattle.cga_update.proofs.OnIt.{due_from, grows_on, is_least, least_after, passed_over, put_grows, same_on}
 use Rattle.cga_update.proofs.Places.{same_node}
@@ -115,16 +111,6 @@ module _ (v : ForestView) where
 
   pub all_later : (mode : Mode) (of : ℕ) (ids : List ℕ) (n : ℕ) (a : AgendaView) → length ids ≤ n → HasFirst mode of ids n a → HasLater v mode of ids a
   all_later mode of ids n a whole has j c e late = let w = within ids j c e in has j c (omega (arith, w, whole)) e late
-
-  member_at : (xs : List ℕ) (n : ℕ) → Member xs n → (j : ℕ) × (slice_get xs j ≡ Some n)
-  member_at [] n h = absurd h
-  member_at (x ∷ xs) n h = elim h [ inl e ↦ (0, ap Some e) | inr r ↦ let z = member_at xs n r in (suc z.0, z.1) ]
-
-  pub has_askers : (mode : Mode) (of : ℕ) (area : Box) (list lent : List ℕ) (a : AgendaView) → IsForest v → lent ≡ list → ListsAskers (forest_tree v) area list → HasLater v mode of lent a → HasAskers v mode of area a
-  has_askers mode of area list lent a f same lists has c d here asks meet late =
-      let m : Member list c = lists.all c (inside v f c (d, here)) (ap asks_of here ∙ asks) (ap (λ o. meets (own_of o) area) here ∙ meet) in
-      let z = member_at list c m in
-      has z.0 c (ap (λ l. slice_get l z.0) same ∙ z.1) late
 
   later_some : (mode : Mode) (x y : Option Chain) → is_later mode x y ≡ true → IsSome y
   later_some mode None y e = let z : false ≡ true = e in cc

@@ -90,16 +90,3 @@ module _ (v : ForestView) where
       followed of change a b d e (subst (λ l. Grows D (λ c. (m : Moved) × Among m l × (m.id ≡ c)) a b) one came) (subst (λ l. (m : Moved) → Among m l → IsSome (D m.id) → on_of v b m.id ≡ true) one there)
       went (subst (λ l. (m : Moved) → Among m l → HasAskers v b.mode of (box_of m.scope) d) two met)
       come (subst (λ l. (m : Moved) → Among m l → HasAskers v d.mode of (box_of m.scope) e) three seen)
-
-  -- one node more that was met
-  pub met_more : (first a b : AgendaView) (of : ℕ) (moved : List Moved) (n : ℕ) (y : Moved) (box : Box) → slice_get moved n ≡ Some y → box ≡ box_of y.scope
-      → Grows D (ComesAfter v first.mode of) first a → ((j : ℕ) (m : Moved) → j < n → slice_get moved j ≡ Some m → HasAskers v first.mode of (box_of m.scope) a)
-      → Grows D (ComesAfter v a.mode of) a b → HasAskers v a.mode of box b
-      → Grows D (ComesAfter v first.mode of) first b × ((j : ℕ) (m : Moved) → j < n + 1 → slice_get moved j ≡ Some m → HasAskers v first.mode of (box_of m.scope) b)
-  met_more first a b of moved n y box at is g has h own =
-      let next = grows_mode a.mode first.mode of a b g.mode h in (
-        grows_on D (ComesAfter v first.mode of) first a b g next,
-        at_more (λ (m : Moved). HasAskers v first.mode of (box_of m.scope) a) (λ (m : Moved). HasAskers v first.mode of (box_of m.scope) b) moved n y at
-            (λ m x. askers_stay (ComesAfter v first.mode of) first.mode of (box_of m.scope) a b next x)
-            (subst (λ k. HasAskers v first.mode of k b) is (askers_mode a.mode first.mode of box b g.mode own)) has,
-      )

@@ -42,3 +42,5 @@ pub mod TurnOf
 pub mod Renewing
 pub mod Turning
 pub mod Idle
+pub mod Widening
+pub mod NearAskers

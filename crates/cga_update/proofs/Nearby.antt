@@ -2,28 +2,17 @@
 use Rattle.std.proofs.Common.{◌≡◌, ◌⊎◌, inl, inr, ℕ, ◌+◌, ◌<◌, ◌≤◌, List, length, true, false, refl, sym, ap, ◌∙◌, subst, Some, None, arith}
 use Rattle.std.specs.Prelude.{is_some, slice_get}
 use Rattle.std.proofs.lemmas.Option.{slice_get_within}
-use Rattle.cga_frame.specs.Box.{Box, box_of, meets}
-use Rattle.cga_index.specs.Tree.{ListsAskers, Member}
+use Rattle.cga_frame.specs.Box.{Box}
+use Rattle.cga_index.specs.Tree.{Member}
 use Rattle.cga_order.specs.World.{Among}
 use Rattle.cga_derivation.proofs.Lists.{some_same, none_some}
-use Rattle.cga_forest.specs.Node.{bounds}
-use Rattle.cga_forest.specs.View.{Seen}
 use Rattle.cga_forest.specs.declared.moved.Moved.{Moved}
-use Rattle.cga_forest.specs.Tree.{ForestView, IsForest, above, node_at}
-use Rattle.cga_forest.specs.Walked.{asks_of, forest_tree, own_of}
-use Rattle.cga_forest.proofs.Laws.{in_inside}
+use Rattle.cga_forest.specs.Tree.{ForestView, above, node_at}
 use Rattle.cga_update.specs.Agenda.{AgendaView}
 use Rattle.cga_update.specs.Near.{HasNear, HasParents, HasThese, KeepsOn}
 use Rattle.cga_update.specs.Queue.{chains_of, on_of}
 use Rattle.cga_update.proofs.DueNodes.{due_is}
 use Rattle.cga_update.proofs.Members.{among_at, member_at}
-
--- a node that asks, and whose box meets the area, is listed
-pub asker_listed : (v : ForestView) → IsForest v → (area : Box) (list : List ℕ) → ListsAskers (forest_tree v) area list → (c : ℕ) (d : Seen) → node_at v c ≡ Some d
-    → d.node.asks ≡ true → meets (box_of d.node.shape.scope) area ≡ true → Member list c
-unfolding bounds
-asker_listed v laws area list lists c d at asks near =
-    lists.all c (in_inside v v refl laws c (ap is_some at)) (ap asks_of at ∙ asks) (ap (λ o. meets (own_of o) area) at ∙ near)
 
 pub keeps_itself : (v : ForestView) (a : AgendaView) → KeepsOn v a a
 keeps_itself v a = record { mode = refl; on = λ c h. h }
@@ -43,10 +32,10 @@ these_on v id a on c d same w = subst (λ k. on_of v a k ≡ true) (sym same) on
 abbrev pub First : List ℕ → ℕ → ℕ → Type 0
 First ids n c = (j : ℕ) × (j < n) × (slice_get ids j ≡ Some c)
 
-at_or_below : (i n : ℕ) → i < n + 1 → (i < n) ⊎ (i ≡ n)
+pub at_or_below : (i n : ℕ) → i < n + 1 → (i < n) ⊎ (i ≡ n)
 at_or_below i n le = grind (arith, le)
 
-first_cases : (ids : List ℕ) (n id c : ℕ) → slice_get ids n ≡ Some id → First ids (n + 1) c → First ids n c ⊎ (c ≡ id)
+pub first_cases : (ids : List ℕ) (n id c : ℕ) → slice_get ids n ≡ Some id → First ids (n + 1) c → First ids n c ⊎ (c ≡ id)
 first_cases ids n id c at f = elim (at_or_below f.0 n f.1) [
   | inl lower ↦ inl (f.0, lower, f.2)
   | inr same ↦ inr (some_same c id (sym f.2 ∙ (ap (slice_get ids) same ∙ at)))

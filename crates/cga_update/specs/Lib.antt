@@ -18,3 +18,5 @@ pub mod Turned
 pub mod MeansLaws
 pub mod Begun
 pub mod Reworked
+pub mod Around
+pub mod Askers

@@ -4,21 +4,19 @@ ghost use Rattle.cga_order.specs.World as world;
 ghost use Rattle.cga_order.specs.Chain.{Chain};
 ghost use Rattle.cga_forest.specs.Tree.{node_at};
 ghost use Rattle.cga_update.specs.Agenda.{Grows, IsLeast, NoneOn, OneEach, SameOn, is_due, is_later};
-ghost use Rattle.cga_update.specs.Due.{ComesAfter, HasAskers, HasLater};
+ghost use Rattle.cga_update.specs.Due.{ComesAfter, HasLater};
 ghost use Rattle.cga_update.specs.Queue.{chains_of, on_of};
 
 use crate::agenda::Agenda;
 use cga_forest::{Forest, Node};
-use cga_fraction::{NoMemory, Steps};
-use cga_frame::WorldBox;
-use cga_index::{NodeId, queriers_meeting};
+use cga_fraction::NoMemory;
+use cga_index::NodeId;
 use cga_key::StampKey;
 use cga_order::cmp_stamp;
 use cga_shape::Kind;
 use cga_word::Mode;
 use std::alloc::Global;
 use std::cmp::Ordering;
-use std::sync::ledger::Ledger;
 
 fn is_instance(node: &Node) -> bool
     ensures { result ≡ world.is_instance node.now.kind }
@@ -106,7 +104,7 @@ fn add_later(
 }
 
 /// Puts those of the nodes on it that come later than another. Takes memory.
-fn add_each(
+pub fn add_each(
     agenda: &mut Agenda,
     alloc: Global,
     forest: &Forest,
@@ -121,22 +119,4 @@ fn add_each(
         add_later(agenda, alloc, forest, of, *id)?;
     }
     Ok(())
-}
-
-/// Puts the nodes on it that ask, meet a box and come later than another. Takes memory.
-pub fn add_askers<T: Ledger>(
-    agenda: &mut Agenda,
-    alloc: Global,
-    forest: &Forest,
-    of: NodeId,
-    area: &WorldBox,
-    tests: &mut Steps<T>,
-) -> Result<(), NoMemory>
-    requires one { OneEach (chains_of forest.now) }
-    ensures grows { OnOk result (Grows (chains_of forest.now) (ComesAfter forest.now agenda.old.mode of) agenda.old agenda.new) }
-    ensures there { OnOk result (HasAskers forest.now agenda.old.mode of area.now agenda.new) }
-{
-    forest.laws();
-    let askers = queriers_meeting(alloc, forest, area, tests)?;
-    add_each(agenda, alloc, forest, of, askers.as_slice())
 }

@@ -9,7 +9,8 @@ ghost use Rattle.cga_update.specs.Follow.{IsFollowed};
 ghost use Rattle.cga_update.specs.Queue.{chains_of, on_of};
 
 use crate::agenda::Agenda;
-use crate::due::{add, add_askers, is_worked};
+use crate::askers::askers_near;
+use crate::due::{add, add_each, is_worked};
 use cga_forest::{Change, Forest, Moved};
 use cga_fraction::{NoMemory, Steps};
 use cga_index::NodeId;
@@ -63,10 +64,8 @@ fn add_met<T: Ledger>(
     ensures grows { OnOk result (Grows (chains_of forest.now) (ComesAfter forest.now agenda.old.mode of) agenda.old agenda.new) }
     ensures there { OnOk result ((m : Mover) → Among m moved.now → HasAskers forest.now agenda.old.mode of (box_of m.scope) agenda.new) }
 {
-    for node in moved {
-        add_askers(agenda, alloc, forest, of, &node.bounds(), tests)?;
-    }
-    Ok(())
+    let askers = askers_near(alloc, forest, moved, tests)?;
+    add_each(agenda, alloc, forest, of, askers.as_slice())
 }
 
 /// Puts on the agenda what came, and who meets what went or came and comes later than the node whose children were

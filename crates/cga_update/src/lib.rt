@@ -8,7 +8,9 @@
 
 mod again;
 mod agenda;
+mod around;
 mod asked;
+mod askers;
 mod begin;
 mod changed;
 mod due;

@@ -9,13 +9,13 @@ ghost use Rattle.cga_update.specs.Near.{HasNear, HasParents, HasThese, IsChanged
 ghost use Rattle.cga_depend.specs.Pairs.{nodes_in};
 
 use crate::agenda::Agenda;
+use crate::askers::askers_near;
 use crate::changed::Symbols;
 use crate::due::{add, is_worked};
 use cga_depend::Dependents;
 use cga_forest::{Forest, Moved};
 use cga_fraction::{NoMemory, Steps};
-use cga_frame::WorldBox;
-use cga_index::{NodeId, queriers_meeting};
+use cga_index::NodeId;
 use cga_rule::Grammar;
 use cga_word::Name;
 use std::alloc::Global;
@@ -54,22 +54,6 @@ pub fn queue_all(
     Ok(())
 }
 
-/// Puts the nodes on it that ask and whose boxes meet an area. Takes memory.
-pub fn queue_askers<T: Ledger>(
-    agenda: &mut Agenda,
-    alloc: Global,
-    forest: &Forest,
-    area: &WorldBox,
-    tests: &mut Steps<T>,
-) -> Result<(), NoMemory>
-    ensures kept { OnOk result (KeepsOn forest.now agenda.old agenda.new) }
-    ensures there { OnOk result (HasNear forest.now area.now agenda.new) }
-{
-    forest.laws();
-    let askers = queriers_meeting(alloc, forest, area, tests)?;
-    queue_all(agenda, alloc, forest, askers.as_slice())
-}
-
 /// Puts the nodes on it that ask and whose boxes meet that of one of these. Takes memory.
 pub fn queue_near<T: Ledger>(
     agenda: &mut Agenda,
@@ -81,10 +65,8 @@ pub fn queue_near<T: Ledger>(
     ensures kept { OnOk result (KeepsOn forest.now agenda.old agenda.new) }
     ensures there { OnOk result ((m : Moved) → Among m moved.now → HasNear forest.now (box_of m.scope) agenda.new) }
 {
-    for node in moved {
-        queue_askers(agenda, alloc, forest, &node.bounds(), tests)?;
-    }
-    Ok(())
+    let askers = askers_near(alloc, forest, moved, tests)?;
+    queue_all(agenda, alloc, forest, askers.as_slice())
 }
 
 /// Puts these nodes on it, where they are there and are no instances. Takes memory.
