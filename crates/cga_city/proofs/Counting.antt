@@ -1,5 +1,5 @@
 -- How many members of each sort a list has that has the nodes of a forest.
-use Rattle.std.proofs.Common.{◌≡◌, ℕ, zero, suc, ◌+◌, ◌<◌, ◌≤◌, List, [], ◌∷◌, ◌++◌, length, map, Bool, true, false, cond, refl, sym, ap, ◌∙◌, subst, arith, length-append, slice_get, Option, Some, None, inl, inr}
+use Rattle.std.proofs.Common.{◌≡◌, ℕ, zero, suc, ◌+◌, List, [], ◌∷◌, ◌++◌, length, Bool, true, false, cond, refl, sym, ap, ◌∙◌, subst, arith, slice_get, Option, Some, None, inl, inr}
 use Rattle.std.specs.Prelude.{count_by}
 use Rattle.std.specs.List.{AllByRecursion, IsDistinct, Contains, flat_map}
 use Rattle.std.proofs.lemmas.List.Sums.{sum_by-cons}
@@ -17,12 +17,12 @@ use Rattle.cga_forest.specs.Roots.{Named, names, same_name}
 use Rattle.cga_forest.specs.Tree.{ForestView, IsForest, IsRootOf, node_at}
 use Rattle.cga_forest.specs.Walked.{forest_tree}
 use Rattle.cga_forest.proofs.Laws.{inside, there, keeps_laws}
-use Rattle.cga_city.specs.Nodes.{member_of, members_at, members_among, AreApart, HasNodes}
+use Rattle.cga_city.specs.Nodes.{member_of, members_at, members_among, HasNodes}
 use Rattle.cga_city.specs.Order.{comes_before}
 use Rattle.cga_city.specs.Reports.{is_faulted, instance_count, fault_count}
-use Rattle.cga_city.specs.Tally.{none, tallied, with_kind, with_seen}
+use Rattle.cga_city.specs.Tally.{none, tallied, with_seen}
 use Rattle.cga_city.specs.declared.tally.Tally.{Tally}
-use Rattle.cga_city.proofs.Sorting.{IsStrict, Rises, all_at}
+use Rattle.cga_city.proofs.Sorting.{Rises, all_at}
 use Rattle.cga_city.proofs.Nodes.{among_to, among_from, among_both, among_has, has_among, root_own, nodes_below, nodes_rise, Below, nodes_from, before_strict}
 
 -- ---- one root a lot

@@ -2,6 +2,8 @@
 use Rattle.std.proofs.Common.{◌≡◌, ℕ, suc, zero, ◌≤◌, List, [], length, false, Some, None, Option, Ok, Err, refl, ap, ◌∙◌, arith, nat_lt, inl, inr}
 use Rattle.std.proofs.lemmas.Bool.Decides.{nat_tests}
 use Rattle.cga_derivation.specs.Derivation.{derive, reached, step}
+use Rattle.cga_rule.specs.declared.grammar.Grammar.{Grammar}
+use Rattle.cga_word.specs.declared.mode.Mode.{Mode}
 use Rattle.cga_shape.specs.declared.sources.Sources.{Sources}
 use Rattle.cga_shape.specs.declared.edit.Edit.{Edit}
 use Rattle.cga_shape.specs.declared.edit_refused.EditRefused.{EditRefused}
@@ -15,17 +17,23 @@ use Rattle.cga_city.proofs.Sorting.{decide}
 
 -- ---- without lots
 
-empty_reached : (n : ℕ) → reached (derivation_of empty_sources) n ≡ []
+abbrev bare : Grammar → Mode → Sources
+bare g mode = record { grammar = g; lots = []; mode = mode }
+
+pub bare_reached : (g : Grammar) (mode : Mode) (n : ℕ) → reached (derivation_of (bare g mode)) n ≡ []
 unfolding reached step
-empty_reached zero = refl
-empty_reached (suc n) = rw (empty_reached n) refl
+bare_reached g mode zero = refl
+bare_reached g mode (suc n) = rw (bare_reached g mode n) refl
 
 none_below : (n : ℕ) → nat_lt n 0 ≡ false
 none_below n = grind (arith, nat_tests)
 
-pub empty_derived : (budget : ℕ) → derived budget empty_sources ≡ Some []
+pub bare_derived : (g : Grammar) (mode : Mode) (budget : ℕ) → derived budget (bare g mode) ≡ Some []
 unfolding derived derive
-empty_derived budget = rw (empty_reached budget, none_below budget) refl
+bare_derived g mode budget = rw (bare_reached g mode budget, none_below budget) refl
+
+pub empty_derived : (budget : ℕ) → derived budget empty_sources ≡ Some []
+empty_derived budget = bare_derived empty_sources.grammar empty_sources.mode budget
 
 -- ---- within the budget
 

@@ -1,5 +1,5 @@
 -- What a city keeps: its forest has the members of its derivation, before and after an edit.
-use Rattle.std.proofs.Common.{◌≡◌, ℕ, ◌+◌, ◌<◌, ◌≤◌, List, [], length, Bool, true, false, Some, None, Option, Ok, Err, refl, sym, ap, ◌∙◌, subst, arith}
+use Rattle.std.proofs.Common.{◌≡◌, ℕ, ◌+◌, ◌≤◌, List, [], length, Bool, true, false, Some, None, Ok, refl, sym, ap, ◌∙◌, subst, arith}
 use Rattle.std.specs.List.{IsDistinct}
 use Rattle.cga_check.specs.Faults.{check_fault, each_after}
 use Rattle.cga_word.specs.declared.mode.Mode.TheVariants.{Breadth}
@@ -7,7 +7,7 @@ use Rattle.cga_shape.specs.declared.changes.Changes.{Changes}
 use Rattle.cga_shape.specs.declared.edit.Edit.{Edit}
 use Rattle.cga_shape.specs.declared.edit_refused.EditRefused.TheVariants.{OverBudget}
 use Rattle.cga_shape.specs.declared.sources.Sources.{Sources}
-use Rattle.cga_derivation.specs.Derivation.{derive, reached, AllApart, IsDerived, NothingWaits}
+use Rattle.cga_derivation.specs.Derivation.{derive, AllApart, IsDerived, NothingWaits}
 use Rattle.cga_derivation.proofs.One.{one, within}
 use Rattle.cga_derivation.proofs.Derived.{derived_consistent}
 use Rattle.cga_depend.specs.Pairs.{DependentsView}

@@ -17,3 +17,4 @@ pub mod Nodes
 pub mod Tallies
 pub mod Counting
 pub mod Kept
+pub mod Warming

@@ -9,8 +9,7 @@ use Rattle.std.specs.Cmp.{nat_cmp_is}
 use Rattle.std.specs.Cmp.Lexicographic.{slice_cmp}
 use Rattle.std.specs.FinMap.{nat_cmp-IsAntisymmetric, slice_cmp-IsAntisymmetric}
 use Rattle.std.specs.Ordering.{is_lt, nat_cmp, ordering_then}
-use Rattle.std.specs.declared.cmp.Ordering.{Ordering}
-use Rattle.std.specs.declared.cmp.Ordering.TheVariants.{Less, Equal, Greater}
+use Rattle.std.specs.declared.cmp.Ordering.TheVariants.{Less, Equal}
 use Rattle.cga_check.specs.Uses.{same_name}
 use Rattle.cga_word.specs.declared.primitive.Primitive.{Primitive}
 use Rattle.cga_order.specs.World.{Among, Has}
@@ -27,7 +26,7 @@ use Rattle.cga_forest.specs.View.{Seen}
 use Rattle.cga_forest.specs.Tree.{ForestView, IsForest, IsRootOf, children_of, node_at}
 use Rattle.cga_forest.specs.Walked.{forest_tree, depth_of}
 use Rattle.cga_forest.proofs.Laws.{inside, there, local}
-use Rattle.cga_city.specs.Order.{sorted, comes_before, members_of}
+use Rattle.cga_city.specs.Order.{comes_before, members_of}
 use Rattle.cga_city.specs.Nodes.{member_of, members_at, members_among, from_root, given_of, AreOfLot, AreApart, HasNodes}
 use Rattle.cga_city.proofs.Sorting.{IsStrict, Rises, Differs, Differ, strict_by, all_at, all_from, all_both, all_weaker, rises_both, sorted_is}
 

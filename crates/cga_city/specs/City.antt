@@ -8,10 +8,11 @@ use Rattle.cga_shape.specs.declared.edit.Edit.TheVariants as edit
 use Rattle.cga_shape.specs.declared.edit_refused.EditRefused.{EditRefused}
 use Rattle.cga_shape.specs.declared.edit_refused.EditRefused.TheVariants.{OverBudget, NoMemory}
 use Rattle.cga_shape.specs.declared.sources.Sources.{Sources}
-use Rattle.cga_update.specs.Updates.{CountsTouched, IsChange}
+use Rattle.cga_update.specs.Updates.{CountsTouched, IsChange, with_no_lots}
 use Rattle.cga_city.specs.Lots.{names_of}
 use Rattle.cga_city.specs.Apply.{apply, changed}
 use Rattle.cga_city.specs.Derived.{members}
+use Rattle.cga_city.specs.Reports.{expanded_count}
 
 -- its sources, the most shapes that they may come to, and whether reports may be asked for; and of the last accepted
 -- edit how many shapes it touched, and which instances went and came by it
@@ -66,6 +67,12 @@ pub record IsGivenUp (old new : CityState) : Type 0 where
   pub budget_stays : new.budget ≡ old.budget
   pub expanded_stays : new.expanded ≡ old.expanded
   pub changes_stay : new.changes ≡ old.changes
+
+-- a cold city was made warm: each member that is no instance was expanded once, and they are what is touched where all
+-- its lots come
+pub record IsWarmed (old : CityState) (before after : ℕ) : Type 0 where
+  pub spent : after ≡ before + expanded_count (members old.budget old.sources)
+  pub touched : CountsTouched (with_no_lots old.sources) old.sources (members old.budget (with_no_lots old.sources)) (members old.budget old.sources) (expanded_count (members old.budget old.sources))
 
 -- by what the edit answers
 abbrev pub EditGives : CityState → Edit → Result (Unit {0}) EditRefused → CityState → ℕ → ℕ → Type 0

@@ -1,5 +1,5 @@
 -- What is reported of the members of a derivation.
-use Rattle.std.specs.Prelude.{ℕ, List, [], ◌∷◌, flat_map, Bool, true, false, Option, Some, None, Result, Ok, Err, is_some, count_by, if◌then◌else◌}
+use Rattle.std.specs.Prelude.{ℕ, List, [], ◌∷◌, flat_map, Bool, true, false, not, Option, Some, None, Result, Ok, Err, is_some, count_by, if◌then◌else◌}
 use Rattle.cga_order.specs.World.{is_instance}
 use Rattle.cga_word.specs.declared.primitive.Primitive.{Primitive}
 use Rattle.cga_order.specs.declared.placed.Kind.{Kind}
@@ -67,6 +67,10 @@ faults_of lots list = faults_in (names_of lots) list
 -- how many members are instances
 abbrev pub instance_count : List Member → ℕ
 instance_count list = count_by (λ m. is_instance m.kind) list
+
+-- how many aren't, each of which is expanded once
+abbrev pub expanded_count : List Member → ℕ
+expanded_count list = count_by (λ m. not (is_instance m.kind)) list
 
 abbrev pub fault_count : List Member → ℕ
 fault_count list = count_by (λ m. is_faulted m.kind) list

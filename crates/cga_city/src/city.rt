@@ -1,9 +1,9 @@
 //! The city.
-ghost use Rattle.std.specs.Prelude.{◌≡◌, ◌≤◌, [], IfOk, OnErr, OnOk, IsTrue, bytes_eq, length, true};
+ghost use Rattle.std.specs.Prelude.{◌≡◌, ◌≤◌, [], IfOk, IsOk, OnErr, OnOk, IsFalse, IsTrue, Some, bytes_eq, length, true};
 ghost use Rattle.std.specs.List.{IsDistinct};
 ghost use Rattle.cga_obj.specs.Lots.{AreSolid, StandsBy};
-ghost use Rattle.cga_city.specs.City.{EditGives, HasDistinctLots, empty_city};
-ghost use Rattle.cga_city.specs.Derived.{members};
+ghost use Rattle.cga_city.specs.City.{EditGives, HasDistinctLots, IsWarmed, empty_city};
+ghost use Rattle.cga_city.specs.Derived.{derived, members};
 ghost use Rattle.cga_city.specs.Inside.{AreSound};
 ghost use Rattle.cga_city.specs.Lots.{names_of};
 ghost use Rattle.cga_city.specs.Reports as spec;
@@ -146,7 +146,8 @@ impl City {
         self.warm
     }
 
-    /// Makes a cold city warm again, by a derivation from no lots. Takes memory.
+    /// Makes a cold city warm again, by a derivation from no lots: each expansion of a shape ticks `expansions`. What is
+    /// told of the last accepted edit stays. Takes memory where the city is cold.
     pub fn rewarm<E: Ledger, T: Ledger>(
         &mut self,
         expansions: &mut Steps<E>,
@@ -154,6 +155,9 @@ impl City {
     ) -> Result<(), NoMemory>
         ensures ok { OnOk result (self.new ≡ record self.old { warm = true }) }
         ensures err { OnErr result (self.new ≡ self.old) }
+        ensures warm { IsTrue self.old.warm → IsOk result }
+        ensures unspent { IsTrue self.old.warm → expansions.new ≡ expansions.old }
+        ensures spent { IsFalse self.old.warm → OnOk result (IsWarmed self.old expansions.old expansions.new) }
         ensures later { expansions.old ≤ expansions.new }
     {
         if self.warm {
@@ -250,6 +254,7 @@ impl City {
     pub fn sources(&self) -> &Sources
         ensures value { result.now ≡ self.now.sources }
         ensures sound { AreSound result.now }
+        ensures within { derived self.now.budget result.now ≡ Some (members self.now.budget result.now) }
     {
         &self.sources
     }

@@ -1,5 +1,4 @@
-use Rattle.std.proofs.Common.{arith, refl}
-use Rattle.cga_index.specs.Tree.{all_nodes}
+use Rattle.std.proofs.Common.{arith}
 use Rattle.cga_forest.specs.Walked.{forest_tree}
 use Rattle.cga_forest.proofs.Laws.{keeps_laws}
 use Rattle.cga_city.proofs.Tallies.{counting_all, room_next, counting_next, counting_end}

@@ -1,4 +1,4 @@
-use Rattle.std.proofs.Common.{◌≡◌, ◌∙◌, ap, Err, Ok, subst}
+use Rattle.std.proofs.Common.{◌≡◌, ap, Err, subst}
 use Rattle.cga_shape.specs.declared.sources.Sources.{Sources}
 use Rattle.cga_city.specs.Apply.{changed}
 use Rattle.cga_city.specs.City.{Changes, CityState}

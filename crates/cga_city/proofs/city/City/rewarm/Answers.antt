@@ -1,6 +1,7 @@
 use Rattle.cga_city.proofs.Kept.{nothing_stands}
 use Rattle.cga_city.proofs.Names.{names_differ}
 use Rattle.cga_city.proofs.Valid.{sound_valid}
+use Rattle.cga_city.proofs.Warming.{warmed}
 use Rattle.cga_city.proofs.city.City.rewarm.Goals as goal
 
 pub update-requires-clause-names : goal.update-requires-clause-names
@@ -11,3 +12,8 @@ update-requires-clause-roots g c = (sound_valid c.self.inside.sources c.self.inv
 
 pub update-requires-clause-stands : goal.update-requires-clause-stands
 update-requires-clause-stands g c = rw (c.empty_sources-empty.ensures, c.new-forest.ensures, c.new-dependents.ensures) (nothing_stands c.self.inside.sources.mode)
+
+pub returns-in-Ok-clause-spent : goal.returns-in-Ok-clause-spent
+returns-in-Ok-clause-spent g c = λ cold.
+    let exact = rw c.empty_sources-empty.ensures at c.in-Ok.ensures.exact in
+    rw (← c.self.view_is) (warmed c.self.inside.sources c.self.inside.budget c.in-Ok.field-0 _ _ c.self.inside.expanded c.self.inside.warm c.self.inside.changes _ c.self.invariant.sound exact c.in-Ok.ensures.spent)
