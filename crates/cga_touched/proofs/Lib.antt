@@ -1,0 +1,12 @@
+pub mod Words
+pub mod Exprs
+pub mod Conds
+pub mod Items
+pub mod Settings
+pub mod Lists
+pub mod Turns
+pub mod Count
+pub mod Law
+pub mod Example
+pub mod Named
+pub mod Heights

@@ -1,0 +1,9 @@
+pub mod Words
+pub mod Exprs
+pub mod Conds
+pub mod Items
+pub mod Settings
+pub mod Count
+pub mod Laws
+pub mod Example
+pub mod Heights
