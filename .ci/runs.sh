@@ -69,20 +69,32 @@ try() {
 }
 
 # hostile scripts: no end, too many shapes, and a depth of 256
-try "a rule that doubles without end" 'rules\n1: a -> a a\nend\nlot p 1 0 0 1 1 a\nprint\n' \
-  '# ok\n# refused OverBudget\n# cga_city obj\n'
+# stats L S I F E: the line of `stats`
+stats() { printf '# stats lots %s shapes %s instances %s faults %s expanded %s\\n' "$@"; }
+
+try "a rule that doubles without end" 'rules\n1: a -> a a\nend\nlot p 1 0 0 1 1 a\nprint\nstats\n' \
+  "# ok\n# refused OverBudget\n# cga_city obj\n$(stats 0 0 0 0 0)"
 zeros=$(printf '/0%.0s' $(seq 256))
-try "a chain to the depth limit" 'rules\n1: a -> a\nend\nlot p 1 0 0 1 1 a\nfaults\n' \
-  "# ok\n# ok\n# faults 1\n# fault p $zeros a TooDeep\n"
-try "two chains" 'rules\n1: a -> Repeat("X", 1) { a }\nend\nlot p 1 0 0 2 1 a\nfaults\n' \
-  "# ok\n# ok\n# faults 2\n# fault p $zeros a TooDeep\n# fault p /1${zeros%/0} a TooDeep\n"
+try "a chain to the depth limit" 'rules\n1: a -> a\nend\nlot p 1 0 0 1 1 a\nfaults\nstats\n' \
+  "# ok\n# ok\n# faults 1\n# fault p $zeros a TooDeep\n$(stats 1 257 0 1 257)"
+try "two chains" 'rules\n1: a -> Repeat("X", 1) { a }\nend\nlot p 1 0 0 2 1 a\nfaults\nstats\n' \
+  "# ok\n# ok\n# faults 2\n# fault p $zeros a TooDeep\n# fault p /1${zeros%/0} a TooDeep\n$(stats 1 513 0 2 513)"
 try "a block of 600 faulty lines" "rules\n$(printf 'x y\\n%.0s' $(seq 600))end\n" '# refused Unexpected at 1:1\n'
 cells='rules\n1: block -> Repeat("X", 1) { row }\n2: row -> Repeat("Z", 1) { cell }\n3: cell -> NIL\nend\n'
-try "sixty thousand cells, twice" "${cells}lot a 1 0 0 300 199 block\nlot a 2 0 0 300 199 block\nfaults\n" \
-  '# ok\n# ok\n# ok\n# faults 0\n'
-try "as many as the second version allows" "version 2\n${cells}lot a 1 0 0 600 400 block\nfaults\n" \
-  '# ok\n# ok\n# ok\n# faults 0\n'
+try "sixty thousand cells, twice" "${cells}lot a 1 0 0 300 199 block\nstats\nlot a 2 0 0 300 199 block\nstats\nfaults\n" \
+  "# ok\n# ok\n$(stats 1 60001 0 0 60001)# ok\n$(stats 1 60001 0 0 60001)# faults 0\n"
+try "as many as the second version allows" "version 2\n${cells}lot a 1 0 0 600 400 block\nstats\nfaults\n" \
+  "# ok\n# ok\n# ok\n$(stats 1 240601 0 0 240601)# faults 0\n"
 try "as many as the first version doesn't" "${cells}lot a 1 0 0 600 400 block\n" '# ok\n# refused OverBudget\n'
+house='rules\n1: house -> S(1r, 6, 1r) I("cube")\nend\nlot a 1 0 0 10 8 house\n'
+try "a house that doubles without end" "${house}put 1 1: house -> house house\nstats\n" \
+  "# ok\n# ok\n# refused OverBudget\n$(stats 1 2 1 0 1)"
+row=$(for k in $(seq 0 11); do printf 'lot t%s %s %s 0 10 8 lot\\n' "$k" $((1000 + k)) $((14 * k)); done)
+try "twelve lots in a row" "quiet\n$(sed -n '/^rules$/,/^end$/p' examples/town.cga | sed 's/%/%%/g; s/$/\\n/' | tr -d '\n')${row}stats\n" \
+  "$(stats 12 4272 1740 0 211)"
+./cga_city --town 2 >"$work/out" 2>"$work/err"; status=$?
+printf "$(stats 2 754 308 0 235)$(stats 2 754 308 0 102)$(stats 2 796 326 0 235)# faults 0\n" >"$work/wanted"
+expect "a town of two" 0 "$work/wanted" ""
 deep="put 1 1: a : $(printf '(%.0s' $(seq 32))1$(printf ')%.0s' $(seq 32)) > 0 -> NIL"
 try "32 open brackets in a line of 4,096 bytes" "$(printf '%-4096s' "$deep")\n" '# ok\n'
 try "one byte more" "$(printf '%-4097s' "$deep")\n" '# refused LineTooLong\n'

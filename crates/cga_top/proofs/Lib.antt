@@ -2,6 +2,8 @@ pub mod Told
 pub mod Apart
 pub mod Asks
 pub mod Prints
+pub mod Numbers
+pub mod Numbered
 pub mod Histories
 pub mod Steps
 pub mod Outsides

@@ -17,6 +17,7 @@ use Rattle.cga_top.specs.Effect.{Effect}
 use Rattle.cga_top.specs.Replies.{changed, applied, edited, stepped, refuses, ok_reply, budget_of}
 use Rattle.cga_top.specs.Session.{IsAt, Did}
 use Rattle.cga_top.specs.declared.session.Session.{Session}
+use Rattle.cga_top.proofs.Numbers.{CanBeLeft, left_at, number_of}
 use Rattle.cga_top.proofs.Histories.{left_by, undone_some, undone_none, redone_some, redone_none}
 
 pub on_ok : {T E : Type 0} (r : Result T E) (P : Type 0) → P → OnOk r P
@@ -43,13 +44,14 @@ pub redone_nowhere : (s : State) (history : Kept) → history ≡ s.kept → sli
 redone_nowhere s history k e = ap (λ (h : Kept). redone h s.sources) (sym k) ∙ redone_none history s.sources e
 
 -- an edit that was done
-pub changed_did : (s : State) (old : Session) (city : CityState) (history : Kept) (e : Edit) (reply : List ℕ) (i j : ℕ) → IsAt s old → IsDone old.city e city i j → reply ≡ ok_reply old.quiet
+pub changed_did : (s : State) (old : Session) (city : CityState) (history : Kept) (e : Edit) (reply : List ℕ) (i j : ℕ) → IsAt s old → CanBeLeft old.city.budget old.city.sources e → IsDone old.city e city i j → reply ≡ ok_reply old.quiet
     → Did (changed s history (applied s e)) (record old { city = city; history = history }) reply i j
-changed_did s old city history e reply i j at done r =
+changed_did s old city history e reply i j at can done r =
     let is : applied s e ≡ Ok city.sources = sym (ap (λ (x : Sources). apply x e old.city.budget) at.sources ∙ ap (λ (b : ℕ). apply s.sources e b) at.budget) ∙ done.applied in
     let touched = subst (λ (b : ℕ). CountsTouched s.sources city.sources (members b s.sources) (members b city.sources) city.expanded) at.budget
     (subst (λ (x : Sources). CountsTouched x city.sources (members old.city.budget x) (members old.city.budget city.sources) city.expanded) at.sources done.touched) in
     let spent = done.spent in
+    let number = number_of s.sources city.sources e (budget_of s.version) city.expanded (left_at s old e at can) is touched in
     let count : city.expanded ≡ j - i = omega arith in
     subst (λ (t : Result Sources EditRefused). Did (changed s history t) (record old { city = city; history = history }) reply i j) (sym is)
     (record {
@@ -61,6 +63,7 @@ changed_did s old city history e reply i j at done r =
         budget = done.budget_stays ∙ at.budget;
         warm = done.warm_then;
         kept = refl;
+        number = number;
         block = at.block;
         quiet = at.quiet;
       };
@@ -70,17 +73,18 @@ changed_did s old city history e reply i j at done r =
 
 -- the sources before an edit that was done are noted
 pub change_did : (s : State) (old : Session) (city : CityState) (history : Kept) (e : Edit) (text : Result (List ℕ) NoMemory) (i j : ℕ)
-    → IsAt s old → history ≡ noted s.kept s.sources → IsDone old.city e city i j → IfOk text (λ t. t ≡ ok_reply old.quiet)
+    → IsAt s old → CanBeLeft old.city.budget old.city.sources e → history ≡ noted s.kept s.sources → IsDone old.city e city i j → IfOk text (λ t. t ≡ ok_reply old.quiet)
     → IfOk text (λ reply. Did (edited s e) (record old { city = city; history = history }) reply i j)
-change_did s old city history e (Err none) i j at h done r = tt
-change_did s old city history e (Ok reply) i j at h done r =
-    subst (λ (k : Kept). Did (changed s k (applied s e)) (record old { city = city; history = history }) reply i j) h (changed_did s old city history e reply i j at done r)
+change_did s old city history e (Err none) i j at can h done r = tt
+change_did s old city history e (Ok reply) i j at can h done r =
+    subst (λ (k : Kept). Did (changed s k (applied s e)) (record old { city = city; history = history }) reply i j) h (changed_did s old city history e reply i j at can done r)
 
 pub step_did : (s : State) (old : Session) (city : CityState) (history : Kept) (none : Refused) (step : Option Step) (some : Step) (taken : Sources) (text : Result (List ℕ) NoMemory) (i j : ℕ)
-    → IsAt s old → step ≡ Some some → taken ≡ some.taken → history ≡ some.left → IsDone old.city (edit.Whole taken) city i j → IfOk text (λ t. t ≡ ok_reply old.quiet)
+    → IsAt s old → CanBeLeft old.city.budget old.city.sources (edit.Whole taken) → step ≡ Some some → taken ≡ some.taken → history ≡ some.left → IsDone old.city (edit.Whole taken) city i j → IfOk text (λ t. t ≡ ok_reply old.quiet)
     → IfOk text (λ reply. Did (stepped s none step) (record old { city = city; history = history }) reply i j)
-step_did s old city history none step some taken (Err e) i j at is t h done r = tt
-step_did s old city history none step some taken (Ok reply) i j at is t h done r =
+step_did s old city history none step some taken (Err e) i j at can is t h done r = tt
+step_did s old city history none step some taken (Ok reply) i j at can is t h done r =
+    let can' : CanBeLeft old.city.budget old.city.sources (edit.Whole some.taken) = subst (λ (x : Sources). CanBeLeft old.city.budget old.city.sources (edit.Whole x)) t can in
     let done' : IsDone old.city (edit.Whole some.taken) city i j = subst (λ (x : Sources). IsDone old.city (edit.Whole x) city i j) t done in
-    let did : Did (changed s history (applied s (edit.Whole some.taken))) (record old { city = city; history = history }) reply i j = changed_did s old city history (edit.Whole some.taken) reply i j at done' r in
+    let did : Did (changed s history (applied s (edit.Whole some.taken))) (record old { city = city; history = history }) reply i j = changed_did s old city history (edit.Whole some.taken) reply i j at can' done' r in
     subst (λ (e : Effect). Did e (record old { city = city; history = history }) reply i j) (ap (λ (k : Kept). changed s k (applied s (edit.Whole some.taken))) h ∙ sym (some_step s none step some is)) did

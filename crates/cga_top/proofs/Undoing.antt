@@ -36,6 +36,7 @@ use Rattle.cga_top.specs.Written.{IsWritten, AsksWritten}
 use Rattle.cga_top.specs.Replies.{budget_of, changed, applied, edited, stepped, dumped, done_by, is_blank, begun, asked, outside, closed, ended, effect_by, effect}
 use Rattle.cga_top.specs.Output.{effect_of_all}
 use Rattle.cga_top.specs.Undos.{GoesThrough, UndosGoThrough, RedosGoThrough}
+use Rattle.cga_top.proofs.Numbers.{distinct}
 use Rattle.cga_top.proofs.Asks.{command_told, asks_written, city_told, city_written}
 
 -- ---- sources that go through
@@ -56,17 +57,6 @@ start_settled : (decimals : ℕ) → IsSettled (start decimals)
 start_settled decimals = record { now = empty_can _; past = All-nil _; future = All-nil _ }
 
 -- ---- edits
-
-distinct : (e : Edit) → IsWritten e → HasDistinctLots e
-distinct (edit.Rules g) w = tt
-distinct (edit.Put priority rule) w = tt
-distinct (edit.Drop id) w = tt
-distinct (edit.SetAttribute name value) w = tt
-distinct (edit.SetPriority symbol priority) w = tt
-distinct (edit.SetLot lot) w = tt
-distinct (edit.Unlot name) w = tt
-distinct (edit.SetOrder mode) w = tt
-distinct (edit.Whole sources) w = w.names
 
 module _ (s : State) (is : IsSettled s) where
   abbrev Can : Sources → Type 0

@@ -1,6 +1,7 @@
 pub mod Told
 pub mod State
 pub mod Effect
+pub mod Stats
 pub mod Replies
 pub mod Output
 pub mod Undos

@@ -1,5 +1,5 @@
 -- What a line does, and what it is replied to.
-use Rattle.std.specs.Prelude.{ℕ, List, [], ◌∷◌, ◌++◌, Bool, true, false, ◌&&◌, Option, Some, None, Result, Ok, Err, is_some, codes, if◌then◌else◌}
+use Rattle.std.specs.Prelude.{ℕ, List, [], ◌∷◌, ◌++◌, length, Bool, true, false, ◌&&◌, Option, Some, None, Result, Ok, Err, is_some, codes, if◌then◌else◌}
 use Rattle.cga_form.specs.declared.block_fault.BlockFault.{BlockFault}
 use Rattle.cga_form.specs.declared.line_fault.LineFault.{LineFault}
 use Rattle.cga_form.specs.Lines.{Line}
@@ -8,16 +8,18 @@ use Rattle.cga_shape.specs.declared.edit.Edit.TheVariants as edit
 use Rattle.cga_shape.specs.declared.edit_refused.EditRefused.{EditRefused}
 use Rattle.cga_shape.specs.declared.edit_refused.EditRefused.TheVariants as cause
 use Rattle.cga_shape.specs.declared.sources.Sources.{Sources}
+use Rattle.cga_shape.specs.declared.counts.Counts.{Counts}
 use Rattle.cga_obj.specs.Faults.{fault_text_of}
 use Rattle.cga_obj.specs.Lots.{obj_text_of}
 use Rattle.cga_syntax.specs.GrammarText.{grammar_text}
 use Rattle.cga_city.specs.Apply.{apply}
 use Rattle.cga_city.specs.Derived.{members}
 use Rattle.cga_city.specs.Lots.{lot_place}
-use Rattle.cga_city.specs.Reports.{drawn_in, faults_of}
+use Rattle.cga_city.specs.Reports.{drawn_in, faults_of, instance_count, fault_count}
 use Rattle.cga_city.specs.Lots.{names_of}
 use Rattle.cga_city.specs.declared.limits.TheConstants.{BUDGET, BUDGET_TWO}
 use Rattle.cga_expand.specs.Children.{Member}
+use Rattle.cga_touched.specs.Count.{touched_count}
 use Rattle.cga_undo.specs.History.{Kept, Step, noted, undone, redone}
 use Rattle.cga_script.specs.declared.long_dump.LongDump.{LongDump}
 use Rattle.cga_script.specs.declared.refused.Refused.{Refused}
@@ -31,6 +33,7 @@ use Rattle.cga_script.specs.Ends.{is_end_line, is_version_line}
 use Rattle.cga_script.specs.Refusals.{refusal_text_of}
 use Rattle.cga_top.specs.State.{Block, of_rules, of_city, of_other, State, start}
 use Rattle.cga_top.specs.Effect.{Effect, says, silent}
+use Rattle.cga_top.specs.Stats.{stats_text_of}
 use Rattle.cga_top.specs.Told.{command_of, grammar_told, sources_told}
 
 -- ---- texts
@@ -58,10 +61,15 @@ budget_of Two = BUDGET_TWO
 abbrev pub derived : State → List Member
 derived s = members (budget_of s.version) s.sources
 
+-- how many of the shapes of these sources an edit that leads to them touches
+abbrev pub touched_by : State → Sources → ℕ
+touched_by s new =
+    touched_count (budget_of s.version) s.sources new (members (budget_of s.version) s.sources) (members (budget_of s.version) new)
+
 -- an edit goes through, with what the history then keeps, or is refused and changes nothing
 abbrev pub changed : State → Kept → Result Sources EditRefused → Effect
 changed s kept (Ok new) = record {
-  state = record s { sources = new; kept = kept };
+  state = record s { sources = new; kept = kept; number = touched_by s new };
   reply = ok_reply s.quiet;
   edits = record { from = s.sources; budget = budget_of s.version; gave = Ok new } ∷ [];
 }
@@ -97,6 +105,16 @@ printed s (Some name) =
     if is_some (lot_place name s.sources.lots) then says s (text_of s (name ∷ []))
     else refuses s (refused.Edit (cause.NoLot name))
 
+-- how many there are of each in the derivation of the current sources
+abbrev pub counts_of : State → Counts
+counts_of s = record {
+  lots = length s.sources.lots;
+  shapes = length (derived s);
+  instances = instance_count (derived s);
+  faults = fault_count (derived s);
+  expanded = s.number;
+}
+
 abbrev pub dumped : State → Result (List ℕ) LongDump → Effect
 dumped s (Ok text) = says s text
 dumped s (Err long) = refuses s (refused.LongDump long.id)
@@ -115,7 +133,7 @@ done_by s (Change e) = edited s e
 done_by s (Print name) = printed s name
 done_by s Faults = says s (fault_text_of (faults_of s.sources.lots (derived s)))
 done_by s Grammar = says s (grammar_text s.sources.grammar)
-done_by s Stats = says s not_built
+done_by s Stats = says s (stats_text_of (counts_of s))
 done_by s Quiet = silent (record s { quiet = true })
 done_by s CityBlock = opened s (of_city [])
 done_by s Dump = dumped s (dump_of s.sources)

@@ -31,6 +31,7 @@ pub record IsAt (s : State) (session : Session) : Type 0 where
   pub budget : session.city.budget ≡ budget_of s.version
   pub warm : session.city.warm ≡ true
   pub kept : session.history ≡ s.kept
+  pub number : session.city.expanded ≡ s.number
   pub block : IsOpen s.block session.block
   pub quiet : session.quiet ≡ s.quiet
 

@@ -26,6 +26,8 @@ pub record State : Type 0 where
   pub quiet : Bool
   -- the past and the future
   pub kept : Kept
+  -- how many shapes the last accepted edit touched
+  pub number : ℕ
 
 -- before the first line
 abbrev pub start : ℕ → State
@@ -37,4 +39,5 @@ start decimals = record {
   block = None;
   quiet = false;
   kept = nothing;
+  number = 0;
 }

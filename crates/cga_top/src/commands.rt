@@ -8,7 +8,7 @@ ghost use Rattle.cga_top.specs.Ready.{IsReady, HasRead};
 use crate::edits::{change, redo, undo};
 use crate::not_built::NotBuilt;
 use crate::open_block::OpenBlock;
-use crate::reports::{dump, faults, grammar, print_city, print_lot};
+use crate::reports::{dump, faults, grammar, print_city, print_lot, stats};
 use crate::session::Session;
 use cga_fraction::{List, NoMemory, Steps};
 use cga_parser::GrammarReader;
@@ -58,8 +58,8 @@ pub(crate) fn do_command<E: Ledger, T: Ledger>(
             session.quiet = true;
             Ok(List::new(alloc))
         }
-        ScriptCommand::Stats
-        | ScriptCommand::Dress(_, _)
+        ScriptCommand::Stats => stats(session),
+        ScriptCommand::Dress(_, _)
         | ScriptCommand::Undress(_)
         | ScriptCommand::Model(_)
         | ScriptCommand::Bill

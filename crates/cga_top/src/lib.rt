@@ -16,7 +16,9 @@ mod pump;
 mod read_end;
 mod reads;
 mod reports;
+mod script_end;
 mod session;
+mod stats;
 mod status;
 #[cfg(test)]
 mod tests;
@@ -24,6 +26,6 @@ mod top;
 mod turns;
 
 pub use cga_words::town_script;
-pub use laws::{blocks_are_told, commands_are_told};
+pub use laws::{blocks_are_told, commands_are_told, undo_is_never_refused};
 pub use status::Status;
 pub use top::run_city;

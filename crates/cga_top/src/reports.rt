@@ -5,11 +5,13 @@ ghost use Rattle.cga_city.specs.Lots.{names_of};
 ghost use Rattle.cga_script.specs.Dumps.{dump_of};
 ghost use Rattle.cga_syntax.specs.GrammarText.{grammar_text};
 ghost use Rattle.cga_top.specs.State.{State};
-ghost use Rattle.cga_top.specs.Replies.{printed, dumped, derived};
+ghost use Rattle.cga_top.specs.Stats.{stats_text_of};
+ghost use Rattle.cga_top.specs.Replies.{printed, dumped, derived, counts_of};
 ghost use Rattle.cga_top.specs.Session.{IsAt, Says};
 ghost use Rattle.cga_top.specs.Ready.{IsReady};
 
 use crate::session::Session;
+use crate::stats::stats_text;
 use cga_city::NoLot;
 use cga_fraction::{List, NoMemory};
 use cga_obj::{fault_text, obj_text};
@@ -71,6 +73,15 @@ pub(crate) fn faults(session: &Session) -> Result<List<u8>, NoMemory>
 {
     let faults = session.city.faults()?;
     fault_text(session.alloc, faults.as_slice())
+}
+
+/// How many there are of each, and how many shapes the last accepted edit touched. Takes memory.
+pub(crate) fn stats(session: &Session) -> Result<List<u8>, NoMemory>
+    requires { IsReady session.now }
+    ensures { (s : State) → IsAt s session.now
+        → IfOk result (λ text. text ≡ stats_text_of (counts_of s)) }
+{
+    stats_text(session.alloc, session.city.counts())
 }
 
 /// The text of the rules. Takes memory.

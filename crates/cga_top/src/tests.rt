@@ -248,7 +248,7 @@ fn takes_the_words(mut rt: HostRuntime) -> Result<(), Fail> {
             "--town",
             "1",
             Status::Done,
-            b"# refused NotBuilt\n# refused NotBuilt\n# refused NotBuilt\n# faults 0\n",
+            b"# stats lots 1 shapes 356 instances 145 faults 0 expanded 211\n# stats lots 1 shapes 356 instances 145 faults 0 expanded 48\n# stats lots 1 shapes 398 instances 163 faults 0 expanded 235\n# faults 0\n",
         ),
     ];
     for (option, number, status, held) in rows {

@@ -1,35 +1,33 @@
 ghost use Rattle.std.specs.Prelude.{◌≡◌, ◌≢◌, ◌⊎◌, List, ℕ, Bool, Option, [], map, string_bytes, unwrap_or, OnOk, OnErr, IfSome, IsTrue, IsFalse};
 ghost use Rattle.std.specs.Io.KnownBytes.{Keeps, Appends};
 ghost use Rattle.cga_outside.specs.Causes.{Rose};
-ghost use Rattle.cga_script.specs.Pending.{kept_of};
-ghost use Rattle.cga_script.specs.declared.ending.Ending.TheVariants as ending;
 ghost use Rattle.clap.specs.Words.{fault_of};
 ghost use Rattle.cga_words.specs.Plain.{IsPlain, plain_words};
 ghost use Rattle.cga_words.specs.Town.{town_text};
 ghost use Rattle.cga_words.specs.Words.{command_app, decimals_of, town_of, IsTown};
-ghost use Rattle.cga_top.specs.State.{State, start};
-ghost use Rattle.cga_top.specs.Replies.{at_end};
-ghost use Rattle.cga_top.specs.Output.{last_line, last_effect, effect_of_script, output_of};
+ghost use Rattle.cga_top.specs.State.{start};
+ghost use Rattle.cga_top.specs.Output.{effect_of_script, output_of};
 ghost use Rattle.cga_top.specs.Outside.{outside_of};
 ghost use Rattle.cga_top.specs.Faults.{FaultsBy};
 ghost use Rattle.cga_top.specs.Session.{IsAt};
 ghost use Rattle.cga_top.specs.Ready.{IsReady};
 ghost use Rattle.cga_top.specs.Wrote.{Wrote};
 ghost use Rattle.cga_top.specs.Prefixes.{AppendsSome};
-ghost use Rattle.cga_top.specs.Reads.{ReadsTo, pending_after};
+ghost use Rattle.cga_top.specs.Reads.{pending_after};
 ghost use Rattle.cga_top.specs.Statuses.{StatusMeans, HoldsFew};
 ghost use Rattle.cga_top.specs.Runs.{GivenMeans, RunMeans, HoldsFewOr, script_of, sunk_in};
 
 use crate::decimals::Decimals;
 use crate::halt::Halt;
-use crate::pump::{take_line, take_piece, write_all};
+use crate::pump::take_piece;
 use crate::read_end::ReadEnd;
 use crate::reads::read_lines;
+use crate::script_end::end_script;
 use crate::session::{Session, new_session};
 use crate::status::Status;
 use cga_fraction::{NoMemory, Steps};
 use cga_outside::{Failed, Sink, Source};
-use cga_script::{Lines, Refused, refusal_text};
+use cga_script::Lines;
 use cga_words::{WordsFault, read_words, town_script};
 use std::alloc::Global;
 use std::sync::ledger::Ledger;
@@ -56,84 +54,6 @@ fn flushed<K: Sink>(out: &mut K, status: Status) -> Status
     match out.flush() {
         Ok(()) => status,
         Err(Failed) => Status::WriteFault,
-    }
-}
-
-// The line after the last LF, if there is one.
-fn end_line<K: Sink, E: Ledger, T: Ledger>(
-    session: &mut Session,
-    lines: &mut Lines,
-    out: &mut K,
-    expansions: &mut Steps<E>,
-    tests: &mut Steps<T>,
-) -> Result<(), Halt>
-    requires goes_on { lines.old.ending ≡ ending.Open }
-    requires ready { IsReady session.old }
-    ensures ok { (s : State) (rest : List ℕ) → IsAt s session.old
-        → lines.old.kept ≡ kept_of rest
-        → OnOk result (Wrote (last_line s rest) session.new (K.held out.old)
-        (K.held out.new) expansions.old expansions.new) }
-    ensures err { (s : State) (rest : List ℕ) → IsAt s session.old
-        → lines.old.kept ≡ kept_of rest
-        → OnErr result (AppendsSome (K.held out.old) (K.held out.new) (last_line s rest).reply) }
-    ensures faults { FaultsBy result (K.faults out.old) (K.faults out.new) }
-{
-    if lines.finish() {
-        match take_line(session, lines, out, expansions, tests) {
-            Ok(()) => {}
-            Err(halt) => return Err(halt),
-        }
-    }
-    Ok(())
-}
-
-// A block that is still open.
-fn end_block<K: Sink>(session: &Session, out: &mut K) -> Result<(), Halt>
-    ensures ok { (s : State) → IsAt s session.now
-        → OnOk result (Appends (K.held out.old) (K.held out.new) (at_end s).reply) }
-    ensures err { (s : State) → IsAt s session.now
-        → OnErr result (AppendsSome (K.held out.old) (K.held out.new) (at_end s).reply) }
-    ensures faults { FaultsBy result (K.faults out.old) (K.faults out.new) }
-{
-    if session.block.is_some() {
-        let text = match refusal_text(session.alloc, &Refused::OpenBlock) {
-            Ok(text) => text,
-            Err(NoMemory) => return Err(Halt::NoMemory),
-        };
-        match write_all(out, text.as_slice()) {
-            Ok(()) => {}
-            Err(Failed) => return Err(Halt::WriteFault),
-        }
-    }
-    Ok(())
-}
-
-// What comes after the last line that an LF ends.
-fn end_script<K: Sink, E: Ledger, T: Ledger>(
-    session: &mut Session,
-    lines: &mut Lines,
-    out: &mut K,
-    expansions: &mut Steps<E>,
-    tests: &mut Steps<T>,
-) -> Result<(), Halt>
-    requires goes_on { lines.old.ending ≡ ending.Open }
-    requires ready { IsReady session.old }
-    ensures ok { (s : State) (rest : List ℕ) → IsAt s session.old
-        → lines.old.kept ≡ kept_of rest
-        → OnOk result (Wrote (last_effect s rest) session.new (K.held out.old)
-        (K.held out.new) expansions.old expansions.new) }
-    ensures err { (s : State) (rest : List ℕ) → IsAt s session.old
-        → lines.old.kept ≡ kept_of rest
-        → OnErr result (AppendsSome (K.held out.old) (K.held out.new) (last_effect s rest).reply) }
-    ensures faults { FaultsBy result (K.faults out.old) (K.faults out.new) }
-{
-    match end_line(session, lines, out, expansions, tests) {
-        Ok(()) => {}
-        Err(halt) => return Err(halt),
-    }
-    match end_block(session, out) {
-        Ok(()) => Ok(()),
-        Err(halt) => Err(halt),
     }
 }
 

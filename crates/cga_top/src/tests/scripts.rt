@@ -186,7 +186,7 @@ end
 ~stats
 version 2
 =>
-# refused NotBuilt
+# stats lots 0 shapes 0 instances 0 faults 0 expanded 0
 # refused Unexpected at 1
 ~version 2
 asset t
@@ -200,10 +200,8 @@ bill
 model
 dress a b
 undress a
-stats
 =>
 # ok
-# refused NotBuilt
 # refused NotBuilt
 # refused NotBuilt
 # refused NotBuilt

@@ -1,5 +1,6 @@
 use Rattle.std.proofs.Common.{◌≡◌, ◌∙◌, ◌-◌, List, length, Some, None, ap, sym, subst, rules, IfOk}
 use Rattle.std.specs.Prelude.{All, slice_get}
+use Rattle.cga_shape.specs.declared.edit.Edit.TheVariants as edit
 use Rattle.cga_shape.specs.declared.sources.Sources.{Sources}
 use Rattle.cga_script.specs.declared.refused.Refused.TheVariants as refused
 use Rattle.cga_syntax.specs.GrammarText.{ArePrintable}
@@ -7,6 +8,7 @@ use Rattle.cga_undo.specs.History.{Kept, redone, turned}
 use Rattle.cga_top.specs.Effect.{Effect}
 use Rattle.cga_top.specs.Session.{Did}
 use Rattle.cga_top.specs.Written.{AreWritten}
+use Rattle.cga_top.proofs.Numbers.{can_be_left}
 use Rattle.cga_top.proofs.Histories.{left_by, redone_some, kept_after, more_written, fewer_written, one_written}
 use Rattle.cga_top.proofs.Prints.{applied_prints}
 use Rattle.cga_top.proofs.Steps.{on_ok, no_step, some_step, redone_there, redone_nowhere, step_did}
@@ -25,7 +27,9 @@ returns-in-Ok-clause-did g c = λ s st.
     let last : slice_get future (length future - 1) ≡ Some c.in-Some.last.now = subst (λ (p : List Sources). slice_get p (length p - 1) ≡ Some c.in-Some.last.now) c.future.ensures.value (sym (c.in-Some.ensures {u = tt}).value) in
     let now_is : c.in_ok-now.now ≡ s.sources = c.in_ok-now.ensures {u = tt} ∙ c.sources.ensures.value ∙ st.sources in
     let kept = kept_after _ _ _ _ _ _ (redone_some c.args.session.now.history c.in_ok-now.now c.in-Some.last.now last) c.redo.ensures in
-    step_did s c.args.session.now c.edit.new.self c.redo.new.self refused.NoRedo (redone s.kept s.sources) _ c.in_ok-taken.taken c.accepted.result _ _ st
+    let taken : AreWritten c.in_ok-taken.taken = subst AreWritten (sym (c.in_ok-taken.ensures {u = tt})) (one_written future _ c.in-Some.last.now last c.requires.future) in
+    let can = can_be_left c.args.session.now.city c.sources.result.now (edit.Whole c.in_ok-taken.taken) c.sources.ensures.value c.sources.ensures.sound c.sources.ensures.within taken.names in
+    step_did s c.args.session.now c.edit.new.self c.redo.new.self refused.NoRedo (redone s.kept s.sources) _ c.in_ok-taken.taken c.accepted.result _ _ st can
     (redone_there s c.args.session.now.history c.in-Some.last.now st.kept last) (c.in_ok-taken.ensures {u = tt})
     (kept ∙ ap (λ (n : Sources). turned (left_by (turned c.args.session.now.history) n)) now_is) (c.in-Ok.ensures {u = tt}) c.accepted.ensures
 

@@ -1,7 +1,7 @@
 use Rattle.cga_top.specs.Output.{last_line}
 use Rattle.cga_top.proofs.Ends.{ended_line}
 use Rattle.cga_top.proofs.Effects.{some_more, some_after}
-use Rattle.cga_top.proofs.top.end_script.Goals as goal
+use Rattle.cga_top.proofs.script_end.end_script.Goals as goal
 
 pub returns-in-Err-clause-err : goal.returns-in-Err-clause-err
 returns-in-Err-clause-err g c = λ s rest st k. some_more _ _ (last_line s rest).reply _ (c.in-Err.ensures.err s rest st k)

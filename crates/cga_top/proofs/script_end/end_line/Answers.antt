@@ -4,7 +4,7 @@ use Rattle.cga_top.specs.Wrote.{Wrote}
 use Rattle.cga_top.specs.Prefixes.{AppendsSome}
 use Rattle.cga_top.proofs.Ends.{line_at_end, no_line_at_end}
 use Rattle.cga_top.proofs.Effects.{wrote_nothing}
-use Rattle.cga_top.proofs.top.end_line.Goals as goal
+use Rattle.cga_top.proofs.script_end.end_line.Goals as goal
 
 pub returns-in-Err-clause-err : goal.returns-in-Err-clause-err
 returns-in-Err-clause-err g c = λ s rest st k.
