@@ -18,6 +18,20 @@ impl<T> Model for Boxed<T> {
     ghost view = { λ b. b.inner.value };
 }
 
+impl<T: PartialEq> PartialEq for Boxed<T> {
+    ghost eq = { T.eq };
+
+    ghost laws = { T.laws };
+
+    fn eq(&self, other: &Self) -> bool {
+        *self.inner == *other.inner
+    }
+}
+
+impl<T: Eq> Eq for Boxed<T> {
+    ghost laws = { T.Eq.laws };
+}
+
 impl<T> Boxed<T> {
     pub fn get(&self) -> &T
         ensures { result.now ≡ self.now }

@@ -22,6 +22,25 @@ impl<T> Model for List<T> {
     ghost view = { λ l. l.items.items };
 }
 
+impl<T: PartialEq> PartialEq for List<T> {
+    ghost use lib.Pointwise.{pointwise};
+    ghost use Rattle.std.specs.Cmp.Lexicographic.{lists_per};
+
+    ghost eq = { pointwise T.eq };
+
+    ghost laws = { lists_per T.laws };
+
+    fn eq(&self, other: &Self) -> bool {
+        self.items.as_slice() == other.items.as_slice()
+    }
+}
+
+impl<T: Eq> Eq for List<T> {
+    ghost use Rattle.std.specs.Cmp.Lexicographic.{lists_equiv};
+
+    ghost laws = { lists_equiv T.Eq.laws };
+}
+
 impl<T> List<T> {
     /// Takes no memory.
     pub fn new(alloc: Global) -> List<T>

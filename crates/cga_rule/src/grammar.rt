@@ -5,28 +5,28 @@ use cga_word::Name;
 use std::alloc::Global;
 
 /// A named number that rules may use.
-#[derive(Clone, Copy, Debug)]
+#[derive(Clone, Copy, Debug, PartialEq, Eq)]
 pub struct Attribute {
     pub name: Name,
     pub value: Fraction,
 }
 
 /// A rule with the priority that its symbol has by it. Smaller is taken first.
-#[derive(Debug, Drop)]
+#[derive(Debug, Drop, PartialEq, Eq)]
 pub struct Entry {
     pub priority: u16,
     pub rule: Rule,
 }
 
 /// Attributes and rules, in the order of their lines. Nothing says that they are valid.
-#[derive(Debug, Drop)]
+#[derive(Debug, Drop, PartialEq, Eq)]
 pub struct Grammar {
     pub attributes: List<Attribute>,
     pub rules: List<Entry>,
 }
 
 /// The rules of one symbol by rising id, with its priority.
-#[derive(Debug, Drop)]
+#[derive(Debug, Drop, PartialEq, Eq)]
 pub struct Group {
     pub symbol: Name,
     pub priority: u16,

@@ -12,13 +12,13 @@ mod copy;
 mod expr;
 mod grammar;
 mod item;
+mod laws;
 mod rule;
-#[cfg(test)]
-mod tests;
 
 pub use check_fault::CheckFault;
 pub use cond::{Cond, Conj, Relation, Test};
 pub use expr::{Added, Expr, Factor, Primary, Scaled, Term};
 pub use grammar::{Attribute, Entry, Grammar, Group};
 pub use item::{Body, Item, Size};
+pub use laws::equal_exactly;
 pub use rule::{Alternative, Rule};

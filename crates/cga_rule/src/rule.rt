@@ -6,7 +6,7 @@ use cga_word::Name;
 use std::alloc::Global;
 
 /// A rule: the shapes of a symbol, where the condition holds, are replaced by an alternative.
-#[derive(Debug, Drop)]
+#[derive(Debug, Drop, PartialEq, Eq)]
 pub struct Rule {
     pub id: u32,
     pub symbol: Name,
@@ -17,6 +17,7 @@ pub struct Rule {
 
 /// A successor with its probability. It is `NIL` where it has no items.
 #[derive(Debug, Drop)]
+#[derive_where(PartialEq, Eq)]
 pub struct Alternative {
     pub items: List<Item>,
     pub prob: Fraction,

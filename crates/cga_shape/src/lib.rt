@@ -13,13 +13,12 @@ mod edit;
 mod edit_refused;
 mod emitted;
 mod fault_line;
+mod laws;
 mod lot;
 mod placed;
 mod shape;
 mod shape_fault;
 mod sources;
-#[cfg(test)]
-mod tests;
 mod trace_step;
 
 pub use cga_order::Path;
@@ -31,6 +30,7 @@ pub use edit::Edit;
 pub use edit_refused::EditRefused;
 pub use emitted::Emitted;
 pub use fault_line::FaultLine;
+pub use laws::equal_exactly;
 pub use lot::Lot;
 pub use placed::{Kind, Placed};
 pub use shape::{Shape, root_shape};

@@ -10,7 +10,7 @@ use std::alloc::Global;
 
 /// A shape, by all that its expansion reads of it. An instance has the symbol of the shape that
 /// emitted it, and no arguments.
-#[derive(Debug, Drop)]
+#[derive(Debug, Drop, PartialEq, Eq)]
 pub struct Shape {
     pub lot: Name,
     pub path: Path,
