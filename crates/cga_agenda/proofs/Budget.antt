@@ -13,10 +13,12 @@ use Rattle.cga_order.proofs.Steps as steps
 use Rattle.cga_order.proofs.Turns.{Has-Keeps, Keeps-Has, right_consistent}
 use Rattle.cga_order.proofs.Unique.{same_members}
 use Rattle.cga_agenda.specs.Edit.{Edit, IsEdit, new_world}
-use Rattle.cga_agenda.specs.Work.{Once, next_worked, IsBegun, Expands, IsTurnOf, IsWorking, NoneQueued, IsStart}
+use Rattle.cga_order.specs.Once.{Once}
+use Rattle.cga_agenda.specs.Work.{next_worked, IsBegun, Expands, IsTurnOf, IsWorking, NoneQueued, IsStart}
 use Rattle.cga_agenda.specs.Record.{IsMade}
 use Rattle.cga_agenda.specs.Known.{shapes_of, made_by, next_known, IsKnown}
-use Rattle.cga_agenda.proofs.Lists.{Among-append, Once-append, length-once, Has-Among, Among-Has}
+use Rattle.cga_order.proofs.Once.{Among-append, Once-append, length-once}
+use Rattle.cga_agenda.proofs.Lists.{Has-Among, Among-Has}
 use Rattle.cga_agenda.proofs.Working.{parents_same, root_no_child}
 use Rattle.cga_agenda.proofs.Turning.{not_worked}
 use Rattle.cga_agenda.proofs.Record.{made_stays, made_on}

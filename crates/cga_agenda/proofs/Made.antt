@@ -20,9 +20,10 @@ use Rattle.cga_order.proofs.Maxima.{either}
 use Rattle.cga_order.proofs.Maxima as stamps
 use Rattle.cga_order.proofs.Steps as steps
 use Rattle.cga_order.proofs.Unique.{has_made}
-use Rattle.cga_agenda.specs.Work.{Once}
+use Rattle.cga_order.specs.Once.{Once}
 use Rattle.cga_agenda.specs.Known.{shapes_of}
-use Rattle.cga_agenda.proofs.Lists.{Once-append, Once-index, Has-Among, Among-Has}
+use Rattle.cga_order.proofs.Once.{Once-append, Once-index}
+use Rattle.cga_agenda.proofs.Lists.{Has-Among, Among-Has}
 
 pub length-map : {X Y : Type 0} (f : X → Y) (xs : List X) → length (map f xs) ≡ length xs
 length-map f [] = refl

@@ -20,9 +20,11 @@ use Rattle.cga_order.proofs.Counts.{length-taken}
 use Rattle.cga_order.proofs.Turns.{right_consistent}
 use Rattle.cga_order.proofs.Unique.{has_members}
 use Rattle.cga_agenda.specs.Edit.{Edit, IsEdit, new_world}
-use Rattle.cga_agenda.specs.Work.{Once, IsWorking, IsStart}
+use Rattle.cga_order.specs.Once.{Once}
+use Rattle.cga_agenda.specs.Work.{IsWorking, IsStart}
 use Rattle.cga_agenda.specs.Known.{shapes_of, IsOverBudget, IsKnown}
-use Rattle.cga_agenda.proofs.Lists.{length-once, Has-Among, Among-Has}
+use Rattle.cga_order.proofs.Once.{length-once}
+use Rattle.cga_agenda.proofs.Lists.{Has-Among, Among-Has}
 use Rattle.cga_agenda.proofs.Made.{length-map, once-reached}
 use Rattle.cga_agenda.proofs.Budget.{known_derived, turned_derived, all_derived}
 

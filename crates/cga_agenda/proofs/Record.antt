@@ -15,7 +15,8 @@ use Rattle.cga_agenda.specs.Edit.{Edit, IsEdit, old_world, new_world, renewed, K
 use Rattle.cga_agenda.specs.Work.{next_worked, IsBegun, Places, IsTurnOf, IsWorking, IsStart}
 use Rattle.cga_agenda.specs.Record.{Drawn, Draws, IsChange, IsMade, IsRecord}
 use Rattle.cga_agenda.specs.Exact.{IsExact, IsExactRecord}
-use Rattle.cga_agenda.proofs.Lists.{Among-append, Once-append, Has-map, map-Has}
+use Rattle.cga_order.proofs.Once.{Among-append, Once-append}
+use Rattle.cga_agenda.proofs.Lists.{Has-map, map-Has}
 use Rattle.cga_agenda.proofs.Working.{NonInstance-Keeps, kept_new, one_kind, placed}
 use Rattle.cga_agenda.proofs.Turning.{turned_before, remains_early, alone, where_from, as_it_was, s_settled, kept_back, is_turn, still_worked}
 use Rattle.cga_agenda.proofs.Exact.{exact}

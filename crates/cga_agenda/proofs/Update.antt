@@ -13,11 +13,13 @@ use Rattle.cga_order.proofs.Members.{Among-shapes_where, Has-from_shapes_where}
 use Rattle.cga_order.proofs.Turns.{Has-Keeps, right_consistent}
 use Rattle.cga_order.proofs.Unique.{same_members}
 use Rattle.cga_agenda.specs.Edit.{Edit, IsEdit, old_world, new_world, answers_at, NonInstance, KeptAt, Kept, SameInputs, Touched}
-use Rattle.cga_agenda.specs.Work.{Once, IsWorking, IsStart}
+use Rattle.cga_order.specs.Once.{Once}
+use Rattle.cga_agenda.specs.Work.{IsWorking, IsStart}
 use Rattle.cga_agenda.specs.Record.{Drawn, drawn, IsRecord, Balances}
 use Rattle.cga_agenda.specs.Known.{shapes_of}
 use Rattle.cga_agenda.specs.Exact.{IsExact, IsExactRecord}
-use Rattle.cga_agenda.proofs.Lists.{length-once, count-once, Has-Among}
+use Rattle.cga_order.proofs.Once.{length-once, count-once}
+use Rattle.cga_agenda.proofs.Lists.{Has-Among}
 use Rattle.cga_agenda.proofs.Exact.{exact}
 use Rattle.cga_agenda.proofs.Record.{record_exact}
 use Rattle.cga_agenda.proofs.Made.{once-reached}

@@ -6,7 +6,7 @@ use Rattle.cga_order.specs.World.{Among}
 use Rattle.cga_order.specs.Consistent.{IsConsistent}
 use Rattle.cga_order.specs.Agenda.{Node, members_of}
 use Rattle.cga_agenda.specs.Edit.{Edit, new_world, Kept, SameInputs, Touched}
-use Rattle.cga_agenda.specs.Work.{Once}
+use Rattle.cga_order.specs.Once.{Once}
 use Rattle.cga_agenda.specs.Record.{Drawn, Draws, Balances}
 
 module _ {N A B F P : Type 0} (edit : Edit N A B F P) (start now : List (Node N A F P)) where

@@ -6,7 +6,7 @@ use Rattle.cga_order.specs.declared.placed.Kind.{Kind}
 use Rattle.cga_order.specs.Run.{Reached}
 use Rattle.cga_order.specs.Agenda.{Node, Keeps, asked}
 use Rattle.cga_agenda.specs.Edit.{Edit, new_world}
-use Rattle.cga_agenda.specs.Work.{Once}
+use Rattle.cga_order.specs.Once.{Once}
 use Rattle.cga_agenda.specs.Record.{IsMade}
 
 -- the shapes of the members

@@ -7,7 +7,7 @@ use Rattle.cga_order.specs.declared.placed.Kind.{Kind}
 use Rattle.cga_order.specs.declared.placed.Kind.TheVariants.{Waiting, Done, Faulted, Instance}
 use Rattle.cga_order.specs.Agenda.{Node, members_of, Keeps}
 use Rattle.cga_agenda.specs.Edit.{Edit, Kept}
-use Rattle.cga_agenda.specs.Work.{Once}
+use Rattle.cga_order.specs.Once.{Once}
 
 -- an instance: its shape and what it draws
 pub record Drawn (N P : Type 0) : Type 0 where

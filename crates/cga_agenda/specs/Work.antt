@@ -2,6 +2,7 @@
 -- between turns.
 use Rattle.std.specs.Prelude.{◌≡◌, ◌≢◌, ◌↔◌, ℕ, List, length, map, [], ◌∷◌, Bool, true, false, ◌⊎◌}
 use Rattle.cga_order.specs.Chain.{IsChild}
+use Rattle.cga_order.specs.Once.{Once}
 use Rattle.cga_order.specs.World.{Among, is_waiting, is_instance, IsNew, IsEarlier, stamp_of}
 use Rattle.cga_order.specs.declared.placed.Placed.{Placed}
 use Rattle.cga_order.specs.declared.placed.Kind.{Kind}
@@ -9,11 +10,6 @@ use Rattle.cga_order.specs.declared.placed.Kind.TheVariants.{Waiting, Done, Faul
 use Rattle.cga_order.specs.Consistent.{Stands}
 use Rattle.cga_order.specs.Agenda.{Node, members_of, Keeps, asked, IsSettled, AllRight, Came, Remains, Went, IsTree, IsNext, QueuesOnly}
 use Rattle.cga_agenda.specs.Edit.{Edit, old_world, new_world, renewed, Kept}
-
--- each shape stands once in the list
-abbrev pub Once : {X : Type 0} → List X → Type 0
-Once [] = Unit {0}
-Once (x ∷ xs) = (Among x xs → ⊥) × Once xs
 
 -- of so many P holds: as many as a list has that names just these, each once
 module _ {X : Type 0} where

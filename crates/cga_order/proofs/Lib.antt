@@ -12,3 +12,4 @@ pub mod Unique
 pub mod Derived
 pub mod Turns
 pub mod FourShapesInOrder
+pub mod Once

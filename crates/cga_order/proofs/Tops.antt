@@ -12,7 +12,7 @@ use Rattle.cga_word.specs.declared.mode.Mode.TheVariants.{Breadth, Depth}
 use Rattle.cga_order.specs.Rank.{Rank, rank_cmp}
 use Rattle.cga_order.specs.Chain.{Chain, IsWhole, rank_at, ranks_down, ranks}
 use Rattle.cga_order.specs.Stamp.{maxima, stamps_cmp, stamp_cmp}
-use Rattle.cga_order.specs.Walk.{ranks_run, ranks_from, IsTop, tops_cmp}
+use Rattle.cga_order.specs.Walk.{ranks_run, ranks_from, IsTop, IsWithin, tops_cmp}
 use Rattle.cga_order.proofs.Prefixes.{nat_cmp-less, slice_cmp-within}
 use Rattle.cga_order.proofs.Order.{rank_total, rank_exact}
 use Rattle.cga_order.proofs.Heads as heads
@@ -159,3 +159,22 @@ order_from-end mode a b depth past_a past_b = ap2 (λ xs ys. stamps_cmp mode (ma
 
 pub order_from-all : (mode : Mode) (a b : Chain) → IsWhole a → IsWhole b → order_from mode a b 0 ≡ stamp_cmp mode a b
 order_from-all mode a b whole_a whole_b = ap2 (λ xs ys. stamps_cmp mode (maxima (rank_cmp mode) xs) (maxima (rank_cmp mode) ys)) (ranks_from-all a whole_a) (ranks_from-all b whole_b)
+
+pub IsTop-pred : (mode : Mode) (chain : Chain) (depth : ℕ) (top : Option ℕ) → 0 < depth → IsTop mode chain depth top → IsTop mode chain ((depth - 1) + 1) top
+IsTop-pred mode chain depth top h t =
+    let e : depth ≡ (depth - 1) + 1 = omega arith in
+    subst (λ d. IsTop mode chain d top) e t
+
+pub IsWithin-from_IsTop : (mode : Mode) (chain : Chain) (depth : ℕ) (top : Option ℕ) → IsTop mode chain depth top → IsWithin chain top
+IsWithin-from_IsTop mode chain depth None t = tt
+IsWithin-from_IsTop mode chain depth (Some top) t = t.1
+
+-- where the greatest ranks differ, they decide
+pub order_from-decided : (mode : Mode) (a b : Chain) (left right : Option ℕ) → IsWhole a → IsWhole b → IsTop mode a 0 left → IsTop mode b 0 right → (tops_cmp mode a left b right ≡ Equal → ⊥) → tops_cmp mode a left b right ≡ stamp_cmp mode a b
+order_from-decided mode a b left right whole_a whole_b h k differ =
+    sym (kept _ _ differ) ∙ sym (stamps_cmp-step mode a b 0 left right whole_a whole_b h k) ∙ order_from-all mode a b whole_a whole_b
+  where
+    kept : (x y : Ordering) → (x ≡ Equal → ⊥) → ordering_then x y ≡ x
+    kept Less y h = refl
+    kept Equal y h = absurd (h refl)
+    kept Greater y h = refl

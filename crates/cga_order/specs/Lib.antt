@@ -9,3 +9,4 @@ pub mod Consistent
 pub mod Agenda
 pub mod Laws
 pub mod FourShapes
+pub mod Once

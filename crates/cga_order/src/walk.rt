@@ -20,8 +20,64 @@ struct Parting {
     common: usize,
 }
 
-/// The order of the stamps of two shapes. It takes time linear in the two paths, and no memory.
+/// The order of the stamps of two shapes. It takes time linear in the two paths, and no memory. Their
+/// heads, which are their greatest ranks, decide it unless they are one rank; only then both chains
+/// are walked.
 pub fn cmp_stamp(mode: Mode, a: &Chain, b: &Chain) -> Ordering
+    requires left { IsWhole (chain_of a.now) }
+    requires right { IsWhole (chain_of b.now) }
+    ensures { result ≡ stamp_cmp mode (chain_of a.now) (chain_of b.now) }
+{
+    match (head(a), head(b)) {
+        (Some(i), Some(j)) => match cmp_heads(mode, a, i, b, j) {
+            Ordering::Equal => cmp_by_walk(mode, a, b),
+            decided => decided,
+        },
+        _ => cmp_by_walk(mode, a, b),
+    }
+}
+
+/// Depths count in the mode Breadth alone.
+fn cmp_depths(mode: Mode, i: usize, j: usize) -> Ordering
+    ensures { (mode ≡ Mode.Breadth → result ≡ nat_cmp i j) × (mode ≡ Mode.Depth → result ≡ Ordering.Equal) }
+{
+    match mode {
+        Mode::Breadth => i.cmp(&j),
+        Mode::Depth => Ordering::Equal,
+    }
+}
+
+/// The ranks at two depths, where places are looked at only if all before them ties.
+fn cmp_heads(mode: Mode, a: &Chain, i: usize, b: &Chain, j: usize) -> Ordering
+    requires whole_left { IsWhole (chain_of a.now) }
+    requires whole_right { IsWhole (chain_of b.now) }
+    requires left { i < length a.now.priorities.now }
+    requires right { j < length b.now.priorities.now }
+    ensures { result ≡ rank_cmp mode (rank_at (chain_of a.now) i) (rank_at (chain_of b.now) j) }
+{
+    let priorities = a.priorities[i].cmp(&b.priorities[j]);
+    match priorities.then(cmp_depths(mode, i, j)) {
+        Ordering::Equal => a.lot.cmp(&b.lot).then(a.path[..i].cmp(&b.path[..j])),
+        decided => decided,
+    }
+}
+
+/// At which depth the greatest rank of a chain stands.
+fn head(chain: &Chain) -> Option<usize>
+    requires { IsWhole (chain_of chain.now) }
+    ensures { (mode : Mode) → IsTop mode (chain_of chain.now) 0 result }
+{
+    let mut head = None;
+    let mut depth = chain.priorities.len();
+    while depth > 0 {
+        depth -= 1;
+        head = top(chain, depth, head);
+    }
+    head
+}
+
+/// The same by all ranks, from the deepest up.
+fn cmp_by_walk(mode: Mode, a: &Chain, b: &Chain) -> Ordering
     requires left { IsWhole (chain_of a.now) }
     requires right { IsWhole (chain_of b.now) }
     ensures { result ≡ stamp_cmp mode (chain_of a.now) (chain_of b.now) }
@@ -107,13 +163,9 @@ fn cmp_ranks_at(mode: Mode, parting: Parting, a: &Chain, i: usize, b: &Chain, j:
     requires right { j < length b.now.priorities.now }
     ensures { result ≡ rank_cmp mode (rank_at (chain_of a.now) i) (rank_at (chain_of b.now) j) }
 {
-    let depth = match mode {
-        Mode::Breadth => i.cmp(&j),
-        Mode::Depth => Ordering::Equal,
-    };
     a.priorities[i]
         .cmp(&b.priorities[j])
-        .then(depth)
+        .then(cmp_depths(mode, i, j))
         .then(parting.lots)
         .then(cmp_prefixes(a.path, i, b.path, j, parting.common))
 }

@@ -2,7 +2,7 @@ use Rattle.std.proofs.Common.{◌≡◌}
 use Rattle.cga_order.specs.Seen.{chain_of}
 use Rattle.cga_order.specs.Walk.{IsTop}
 use Rattle.cga_order.proofs.Tops.{order_from}
-use Rattle.cga_order.proofs.walk.cmp_stamp.Given as goal
+use Rattle.cga_order.proofs.walk.cmp_by_walk.Given as goal
 
 -- the stamps are compared from the depth on, and the tops there are known
 abbrev pub invariant-loop-depth : goal.invariant-loop-depth
