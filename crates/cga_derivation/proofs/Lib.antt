@@ -14,3 +14,4 @@ pub mod One
 pub mod Inherited
 pub mod Unique
 pub mod Derived
+pub mod Within

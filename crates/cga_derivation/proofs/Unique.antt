@@ -42,16 +42,16 @@ module _ {N F P : Type 0} (ps : List ℕ) where
   Has-sited (c ∷ cs) n k h = elim h [ inl e ↦ inl (ap (λ (x : N). record { shape = x; above = ps }) e.0, e.1) | inr r ↦ inr (Has-sited cs n k r) ]
 
 module _ {N A F P : Type 0} (derivation : Derivation N A F P) (laws : IsDerivation derivation) (list : List (Placed N F P)) (good : IsConsistent derivation list) where
-  abbrev W : World (Site N) A F P
+  abbrev pub W : World (Site N) A F P
   W = world_of derivation
 
-  abbrev down : List ℕ → List ℕ → ℕ → List ℕ
+  abbrev pub down : List ℕ → List ℕ → ℕ → List ℕ
   down = priorities_down derivation list
 
-  abbrev site : N → Site N
+  abbrev pub site : N → Site N
   site n = record { shape = n; above = down (derivation.lot n) (derivation.path n) (length (derivation.path n)) }
 
-  abbrev lifts : List (Placed N F P) → List (Placed (Site N) F P)
+  abbrev pub lifts : List (Placed N F P) → List (Placed (Site N) F P)
   lifts xs = map (λ m. record { shape = site m.shape; kind = m.kind }) xs
 
   one_place : (n m : N) (k j : Kind F P) → Has list n k → Has list m j → place_of derivation n ≡ place_of derivation m → (n ≡ m) × (k ≡ j)
@@ -91,7 +91,7 @@ module _ {N A F P : Type 0} (derivation : Derivation N A F P) (laws : IsDerivati
       let own : derivation.priority n ≡ priority_at derivation list (derivation.lot n) (take (length (derivation.path n)) (derivation.path n)) = sym (ap (priority_at derivation list (derivation.lot n)) (take-length (derivation.path n)) ∙ priority-here n k h) in
       λ t. record { lot = derivation.lot n; path = derivation.path n; priorities = above t ++ own t ∷ [] }
 
-  lifts-Has : (xs : List (Placed N F P)) (s : Site N) (k : Kind F P) → Has (lifts xs) s k → Has xs s.shape k × (s ≡ site s.shape)
+  pub lifts-Has : (xs : List (Placed N F P)) (s : Site N) (k : Kind F P) → Has (lifts xs) s k → Has xs s.shape k × (s ≡ site s.shape)
   lifts-Has [] s k h = absurd h
   lifts-Has (x ∷ xs) s k h = elim h [
     | inl e ↦ (inl (ap (λ (y : Site N). y.shape) e.0, e.1), sym e.0 ∙ ap (λ (y : Site N). site y.shape) e.0)
@@ -148,7 +148,7 @@ module _ {N A F P : Type 0} (derivation : Derivation N A F P) (laws : IsDerivati
   )
   has-outcome n k h (Err f) e p = p
 
-  consistent : order.IsConsistent W None (lifts list)
+  pub consistent : order.IsConsistent W None (lifts list)
   consistent = record {
     distinct = λ s t k j h g same.
         let a = lifts-Has list s k h in

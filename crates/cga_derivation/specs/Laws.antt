@@ -1,5 +1,5 @@
 -- What is proved of derivations.
-use Rattle.std.specs.Prelude.{◌≡◌, ℕ, List, length, ◌<◌, ◌≤◌, Some, MatchOption}
+use Rattle.std.specs.Prelude.{◌≡◌, ℕ, List, length, ◌<◌, ◌≤◌, Some, None, MatchOption, nat_lt, if◌then◌else◌}
 use Rattle.cga_order.specs.declared.placed.Placed.{Placed}
 use Rattle.cga_order.specs.World.{IsWorld}
 use Rattle.cga_order.specs.Run.{Reached}
@@ -66,3 +66,19 @@ module _ (N A F P : Type 0) where
       (derivation : Derivation N A F P) → IsDerivation derivation
       → (n : ℕ) → NothingWaits derivation (reached derivation n)
       → IsConsistent derivation (reached derivation n)
+
+  -- within a budget that a consistent list keeps, the derivation ends, with the same members and as many
+  abbrev pub ConsistentIsWithin : Type 0
+  ConsistentIsWithin =
+      (derivation : Derivation N A F P) → IsDerivation derivation
+      → (list : List (Placed N F P)) → IsConsistent derivation list
+      → (budget : ℕ) → length list ≤ budget
+      → (derived : List (Placed N F P)) × (derive derivation budget ≡ Some derived)
+      × SameMembers list derived × (length list ≡ length derived)
+
+  -- what a derivation ends with is its answer for exactly the budgets that are no less than its length
+  abbrev pub BudgetIsLength : Type 0
+  BudgetIsLength =
+      (derivation : Derivation N A F P) → IsDerivation derivation
+      → (list : List (Placed N F P)) → IsDerived derivation list → (budget : ℕ)
+      → derive derivation budget ≡ (if nat_lt budget (length list) then None else Some list)

@@ -2,7 +2,8 @@
 //! caller's proof can cite.
 
 ghost use Rattle.cga_derivation.specs.Laws.{SitesAreWorlds, SitesRunAlong, StampsRise, MembersStandInOrder};
-ghost use Rattle.cga_derivation.specs.Laws.{DeriveSays, DerivationIsOne, ConsistentIsDerived, DerivedIsConsistent};
+ghost use Rattle.cga_derivation.specs.Laws.{DeriveSays, DerivationIsOne};
+ghost use Rattle.cga_derivation.specs.Laws.{BudgetIsLength, ConsistentIsDerived, ConsistentIsWithin, DerivedIsConsistent};
 
 /// Where shapes know their ancestors' priorities, each derivation is that of a world. So the laws of
 /// the order of derivation speak of it.
@@ -44,4 +45,14 @@ pub fn consistent_is_derived<N, A, F, P>()
 /// What a derivation ends with is a consistent list.
 pub fn derived_is_consistent<N, A, F, P>()
     ensures { DerivedIsConsistent N A F P }
+{}
+
+/// Where a consistent list is within a budget, so is the derivation, and it has the list's members.
+pub fn consistent_is_within<N, A, F, P>()
+    ensures { ConsistentIsWithin N A F P }
+{}
+
+/// A derivation is within exactly the budgets that are no less than the number of its members.
+pub fn budget_is_length<N, A, F, P>()
+    ensures { BudgetIsLength N A F P }
 {}

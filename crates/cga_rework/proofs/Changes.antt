@@ -6,10 +6,10 @@ use Rattle.cga_order.specs.World.{Among, is_instance}
 use Rattle.cga_order.specs.declared.placed.Kind.TheVariants.{Instance}
 use Rattle.cga_order.specs.Agenda.{Node, members_of}
 use Rattle.cga_order.proofs.Turns.{Has-Keeps, Keeps-Has}
-use Rattle.cga_agenda.specs.Work.{Once}
+use Rattle.cga_order.specs.Once.{Once}
 use Rattle.cga_agenda.specs.Known.{shapes_of}
 use Rattle.cga_agenda.specs.Record.{Drawn, drawn, Draws, IsChange}
-use Rattle.cga_agenda.proofs.Lists.{Among-append, Once-append, count-once}
+use Rattle.cga_order.proofs.Once.{Among-append, Once-append, count-once}
 use Rattle.cga_agenda.proofs.Record.{count_append}
 use Rattle.cga_agenda.proofs.Update.{drawn-Has, Has-drawn, once-drawn}
 use Rattle.cga_rework.specs.Rules.{Shapes, Rules, IsRulesEdit}

@@ -10,13 +10,14 @@ use Rattle.cga_order.specs.Agenda.{Node, members_of, Keeps}
 use Rattle.cga_order.proofs.Chains.{snoc-same}
 use Rattle.cga_agenda.specs.Edit.{Edit, IsEdit, new_world, NonInstance}
 use Rattle.cga_rework.specs.Ranked.{Ranked, ranked_world, edit_of, unranked, unranked_drawn}
-use Rattle.cga_agenda.specs.Work.{Once, IsWorking, IsStart}
+use Rattle.cga_order.specs.Once.{Once}
+use Rattle.cga_agenda.specs.Work.{IsWorking, IsStart}
 use Rattle.cga_agenda.specs.Record.{Drawn, drawn, IsRecord}
 use Rattle.cga_agenda.specs.Known.{shapes_of, IsKnown}
 use Rattle.cga_agenda.proofs.Update.{IsUpdate}
 use Rattle.cga_rework.proofs.Lists.{Among-map, map-Among, Once-map, count-map, drawn-unranked}
 use Rattle.cga_order.proofs.Places.{slice_get-map}
-use Rattle.cga_agenda.proofs.Lists.{length-once, Once-index}
+use Rattle.cga_order.proofs.Once.{length-once, Once-index}
 use Rattle.cga_agenda.proofs.Working.{path_not_empty}
 use Rattle.cga_agenda.proofs.Made.{length-map}
 use Rattle.cga_agenda.proofs.Budget.{known_derived, turned_derived, all_derived}

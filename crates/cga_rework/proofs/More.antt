@@ -11,7 +11,8 @@ use Rattle.cga_order.proofs.Unique.{has_members}
 use Rattle.cga_agenda.specs.Edit.{NonInstance, renewed}
 use Rattle.cga_rework.specs.Ranked.{Ranked, placed_as, placed, all_placed, chain_of, edit_of, ranked_world, unranked}
 use Rattle.cga_agenda.specs.Known.{shapes_of, IsOverBudget}
-use Rattle.cga_agenda.proofs.Lists.{length-once, Has-Among, Among-Has}
+use Rattle.cga_order.proofs.Once.{length-once}
+use Rattle.cga_agenda.proofs.Lists.{Has-Among, Among-Has}
 use Rattle.cga_agenda.proofs.Made.{length-map, once-reached}
 use Rattle.cga_derivation.specs.Derivation.{Derivation, IsDerivation, reached, derive, NothingWaits, IsDerived}
 use Rattle.cga_derivation.proofs.Derive.{says}

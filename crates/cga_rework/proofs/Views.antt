@@ -11,7 +11,7 @@ use Rattle.cga_order.specs.Agenda.{Node, Keeps, members_of}
 use Rattle.cga_order.proofs.Chains.{birth-child, root-before}
 use Rattle.cga_order.proofs.Members.{Among-shapes_where, Has-from_shapes_where}
 use Rattle.cga_order.proofs.Turns.{Has-Keeps, Keeps-Has}
-use Rattle.cga_agenda.specs.Work.{Once}
+use Rattle.cga_order.specs.Once.{Once}
 use Rattle.cga_agenda.specs.Known.{shapes_of}
 use Rattle.cga_derivation.proofs.Sites.{length-fitted}
 use Rattle.cga_rework.specs.Rules.{Shapes, Rules}

@@ -3,7 +3,7 @@ use Rattle.std.specs.Prelude.{◌≡◌, ◌↔◌, ℕ, List, Some, None}
 use Rattle.cga_tree.specs.Tree.{Seen, View}
 use Rattle.cga_order.specs.World.{Among}
 use Rattle.cga_order.specs.declared.placed.Kind.TheVariants.{Instance}
-use Rattle.cga_agenda.specs.Work.{Once}
+use Rattle.cga_order.specs.Once.{Once}
 use Rattle.cga_agenda.specs.Record.{Drawn}
 use Rattle.cga_rework.specs.Ranked.{Ranked}
 use Rattle.cga_rework.specs.Nodes.{Content, ranked_of}

@@ -8,7 +8,7 @@ use Rattle.cga_order.specs.Consistent.{SameMembers}
 use Rattle.cga_order.specs.Agenda.{Node, members_of, Keeps}
 use Rattle.cga_derivation.specs.Derivation.{derive}
 use Rattle.cga_agenda.specs.Edit.{NonInstance}
-use Rattle.cga_agenda.specs.Work.{Once}
+use Rattle.cga_order.specs.Once.{Once}
 use Rattle.cga_agenda.specs.Record.{Drawn, drawn}
 use Rattle.cga_rework.specs.Rules.{Shapes, Rules, derivation_of}
 use Rattle.cga_rework.specs.Ranked.{Ranked, unranked, unranked_drawn}
