@@ -1,4 +1,5 @@
 pub mod Agreement
+pub mod Asked
 pub mod Clean
 pub mod Firsts
 pub mod Layers

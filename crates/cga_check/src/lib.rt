@@ -11,10 +11,8 @@ mod groups;
 pub mod laws;
 mod mentions;
 mod sieve;
-#[cfg(test)]
-mod tests;
 mod usage;
 
 pub use checks::{MOST_ATTRIBUTES, MOST_RULES, check};
-pub use groups::group_of;
-pub use mentions::{mentions_attribute, mentions_target};
+pub use groups::{group_of, symbol_priority};
+pub use mentions::{mentions_attribute, mentions_target, symbol_asks, symbol_names};

@@ -1,10 +1,12 @@
 //! What the rules of a group mention.
 ghost use Rattle.std.specs.Prelude.{◌≡◌};
+ghost use Rattle.std.specs.Prelude.{◌&&◌};
+ghost use Rattle.std.specs.List.{list_any};
 ghost use Rattle.cga_check.specs.Groups as spec;
 
 use crate::sieve::{Sieve, sift_rule};
 use crate::usage::Use;
-use cga_rule::{Group, Rule};
+use cga_rule::{Entry, Grammar, Group, Rule};
 use cga_word::{Name, Target};
 
 /// Whether an expression of the group names the attribute. A parameter of that name hides it in its
@@ -22,6 +24,34 @@ pub fn mentions_target(group: &Group, target: Target) -> bool
     ensures { result ≡ spec.mentions_target group.now target }
 {
     group.rules.as_slice().iter().any(|rule| asks(rule, target))
+}
+
+/// Whether a condition of a rule of the symbol asks for the answer of the target. No rule is copied and no memory is
+/// taken; the time goes by the rules.
+pub fn symbol_asks(grammar: &Grammar, symbol: Name, target: Target) -> bool
+    ensures { result ≡ spec.group_asks (spec.group grammar.now symbol) target }
+{
+    entries_ask(grammar.rules.as_slice(), symbol, target)
+}
+
+fn entries_ask(entries: &[Entry], symbol: Name, target: Target) -> bool
+    ensures { result ≡ list_any (λ e. spec.is_of symbol e && spec.asks target e.rule) entries.now }
+{
+    entries.iter().any(|entry| entry.rule.symbol == symbol && asks(&entry.rule, target))
+}
+
+/// Whether an expression of a rule of the symbol names the attribute, and no parameter of its rule hides it. No rule is
+/// copied and no memory is taken; the time goes by the rules.
+pub fn symbol_names(grammar: &Grammar, symbol: Name, name: Name) -> bool
+    ensures { result ≡ spec.group_names (spec.group grammar.now symbol) name }
+{
+    entries_name(grammar.rules.as_slice(), symbol, name)
+}
+
+fn entries_name(entries: &[Entry], symbol: Name, name: Name) -> bool
+    ensures { result ≡ list_any (λ e. spec.is_of symbol e && spec.names name e.rule) entries.now }
+{
+    entries.iter().any(|entry| entry.rule.symbol == symbol && names(&entry.rule, name))
 }
 
 #[tactic(auto, using(crate::proofs::Sifted::sifted_any))]
