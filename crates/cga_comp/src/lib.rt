@@ -6,8 +6,6 @@
 mod flat_scope;
 mod rows;
 mod select;
-#[cfg(test)]
-mod tests;
 
 pub use flat_scope::FlatScope;
 pub use select::components;

@@ -17,8 +17,6 @@ mod parts;
 mod rules;
 mod scopes;
 mod state;
-#[cfg(test)]
-mod tests;
 mod walk;
 
 pub use rules::expand;

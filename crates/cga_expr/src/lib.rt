@@ -11,8 +11,6 @@ mod cond;
 mod expr;
 mod expr_fault;
 mod names;
-#[cfg(test)]
-mod tests;
 
 pub use cond::holds;
 pub use expr::value;

@@ -10,8 +10,6 @@ mod point;
 mod scope;
 mod scope_fault;
 mod signed;
-#[cfg(test)]
-mod tests;
 mod world_box;
 
 pub use component::Component;

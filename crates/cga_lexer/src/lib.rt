@@ -13,8 +13,6 @@ pub mod front;
 mod laws;
 mod number;
 pub mod sign;
-#[cfg(test)]
-mod tests;
 pub mod token;
 
 use cga_fraction::{List, NoMemory};

@@ -26,12 +26,3 @@ pub use forms::{RuleForm, parse_rule};
 pub use gathered::{Gathered, GrammarFault, GrammarReader, read_block_line};
 pub use laws::{says_end, spells_one, spells_one_line, tells_once};
 pub use printed::{grammar_reads_back, may_be_printed, reads_back};
-
-#[cfg(test)]
-mod block_tests;
-#[cfg(test)]
-mod grammars;
-#[cfg(test)]
-mod printed_tests;
-#[cfg(test)]
-mod tests;

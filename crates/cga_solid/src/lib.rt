@@ -9,8 +9,6 @@ mod form;
 mod solid;
 mod solid_fault;
 mod solid_mesh;
-#[cfg(test)]
-mod tests;
 
 pub use solid::{check_solid, mesh};
 pub use solid_fault::SolidFault;

@@ -7,8 +7,6 @@ mod part_size;
 mod repeats;
 mod split_fault;
 mod subdivide;
-#[cfg(test)]
-mod tests;
 
 pub use part_size::PartSize;
 pub use repeats::repeat;

@@ -10,8 +10,6 @@ mod keyword;
 mod lexeme;
 pub mod limits;
 mod print;
-#[cfg(test)]
-mod tests;
 
 pub use cga_rule::{
     Added, Alternative, Attribute, Body, CheckFault, Cond, Conj, Entry, Expr, Factor, Grammar,

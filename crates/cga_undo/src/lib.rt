@@ -6,7 +6,5 @@
 
 mod history;
 pub mod limits;
-#[cfg(test)]
-mod tests;
 
 pub use history::History;

@@ -5,8 +5,6 @@
 #![tactic(auto)]
 
 mod read;
-#[cfg(test)]
-mod tests;
 mod town;
 mod wanted;
 mod words_fault;
