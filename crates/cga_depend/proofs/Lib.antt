@@ -1,4 +1,4 @@
-mod Groups
+mod Mentioned
 mod Names
 mod Places
 mod Removed

@@ -1,6 +1,6 @@
 -- Names, compared byte by byte.
-use Rattle.std.proofs.Common.{◌≡◌, ℕ, List, Bool, true, false, refl, sym, subst, ◌∙◌, nat_eq, true≢false}
-use lib.Pointwise.{pointwise, bytes_decides}
+use Rattle.std.proofs.Common.{◌≡◌, ℕ, List, Bool, true, false, refl, sym, subst}
+use lib.Pointwise.{bytes_decides}
 use Rattle.cga_check.specs.Uses.{same_name}
 
 pub same_sound : (a b : List ℕ) → same_name a b ≡ true → a ≡ b

@@ -1,5 +1,5 @@
 -- A list without one of its members.
-use Rattle.std.proofs.Common.{◌≡◌, ℕ, ◌<◌, List, [], ◌∷◌, length, get_or, sym, ap, subst, ◌∙◌, nat_eq, Some, eqb-true}
+use Rattle.std.proofs.Common.{◌≡◌, ℕ, List, ◌∷◌, get_or, sym, subst, ◌∙◌, nat_eq, Some, eqb-true}
 use Rattle.std.specs.List as holes
 use Rattle.std.specs.List.{position}
 use Rattle.std.specs.List.Sorted.{IsPermutation}

@@ -1,12 +1,11 @@
 -- Which symbols of a grammar mention an attribute.
-use Rattle.std.specs.Prelude.{ℕ, List, [], ◌∷◌, ◌++◌, map, filter, Bool, false, Option, Some, None, if◌then◌else◌}
+use Rattle.std.specs.Prelude.{ℕ, List, [], ◌∷◌, ◌++◌, filter, Bool, if◌then◌else◌}
 use Rattle.std.specs.List.{list_any, fold}
 use Rattle.cga_rule.specs.declared.grammar.Attribute.{Attribute}
 use Rattle.cga_rule.specs.declared.grammar.Entry.{Entry}
 use Rattle.cga_rule.specs.declared.grammar.Grammar.{Grammar}
-use Rattle.cga_rule.specs.declared.grammar.Group.{Group}
 use Rattle.cga_check.specs.Uses.{same_name}
-use Rattle.cga_check.specs.Groups.{group, mentions_attribute}
+use Rattle.cga_check.specs.Groups.{group, group_names}
 
 -- the grammar declares the attribute
 abbrev pub declares : List Attribute → List ℕ → Bool
@@ -20,10 +19,6 @@ with_symbol symbols symbol = if list_any (same_name symbol) symbols then symbols
 unfoldable pub symbols_of : List Entry → List (List ℕ)
 symbols_of entries = fold (λ symbols (e : Entry). with_symbol symbols e.rule.symbol) [] entries
 
-abbrev pub group_mentions : Option Group → List ℕ → Bool
-group_mentions None attribute = false
-group_mentions (Some g) attribute = mentions_attribute g attribute
-
 -- the symbols whose groups mention the attribute
 unfoldable pub mentioning : Grammar → List ℕ → List (List ℕ)
-mentioning g attribute = if declares g.attributes attribute then filter (λ s. group_mentions (group g s) attribute) (symbols_of g.rules) else []
+mentioning g attribute = if declares g.attributes attribute then filter (λ s. group_names (group g s) attribute) (symbols_of g.rules) else []

@@ -64,8 +64,8 @@ impl Dependents {
         take_out(&mut self.nodes, symbol, node)
     }
 
-    /// Makes the mentions those of a grammar. Takes memory; the time goes by the rules times the attributes, and by the
-    /// square of the rules.
+    /// Makes the mentions those of a grammar. Takes memory; the time goes by the attributes times the symbols times the
+    /// rules.
     pub fn set_mentions(&mut self, grammar: &Grammar) -> Result<(), NoMemory>
         ensures mentions { OnOk result ((a : List ℕ) → symbols_in self.new a ≡ mentioning grammar.now a) }
         ensures nodes { self.new.nodes ≡ self.old.nodes }

@@ -6,7 +6,5 @@
 mod dependents;
 mod mentions;
 mod nodes;
-#[cfg(test)]
-mod tests;
 
 pub use dependents::Dependents;

@@ -26,3 +26,4 @@ pub mod ByName
 mod Swaps
 mod Shelf
 mod Grown
+pub mod Said

@@ -18,14 +18,11 @@ mod node;
 mod placing;
 mod plan;
 mod roots;
-mod same;
 mod setting;
 mod slots;
 mod standing;
 mod step;
 mod store;
-#[cfg(test)]
-mod tests;
 
 ghost use Rattle.std.specs.Prelude.{◌≡◌, ◌≢◌, ℕ, true, false, [], Some, None, IfOk, IfSome, IsSome, is_some, option_copied, ◌↔◌, OnOk, OnErr};
 ghost use Rattle.cga_order.specs.Chain as order;
@@ -172,7 +169,7 @@ impl Forest {
     {
         let id = slot_of(node);
         let parent = &self.store.entry(id).node;
-        let setting = setting_of(self.alloc, grammar, parent.shape.symbol)?;
+        let setting = setting_of(grammar, parent.shape.symbol);
         let news = children_after(self.alloc, parent, outcome, grammar)?;
         let state = State {
             kind: kind_after(outcome),

@@ -1,8 +1,7 @@
 ghost use Rattle.std.specs.Prelude.{◌≡◌, ◌↔◌, IsTrue};
 ghost use Rattle.cga_order.specs.Seen.{chain_of};
-ghost use Rattle.cga_forest.specs.Node.{AreAlike, bounds, chain_kept, fits, state_of, with_state};
+ghost use Rattle.cga_forest.specs.Node.{AreAlike, bounds, chain_kept, fits, same_sort, state_of, with_state};
 
-use crate::same::{same_shape, same_sort};
 use cga_fraction::List;
 use cga_frame::WorldBox;
 use cga_order::Chain;
@@ -87,6 +86,16 @@ impl Node {
 fn are_alike(old: &Node, new: &Node) -> bool
     ensures { result ≡ fits old.now new.now }
 {
-    old.priority == new.priority
-        && (same_sort(old.kind, new.kind) && same_shape(&old.shape, &new.shape))
+    old.priority == new.priority && (same_sort(old.kind, new.kind) && old.shape == new.shape)
+}
+
+/// Neither is an instance, or both are instances of one primitive.
+fn same_sort(a: Kind, b: Kind) -> bool
+    ensures { result ≡ same_sort a b }
+{
+    match (a, b) {
+        (Kind::Instance(a), Kind::Instance(b)) => a == b,
+        (Kind::Instance(_), _) | (_, Kind::Instance(_)) => false,
+        _ => true,
+    }
 }

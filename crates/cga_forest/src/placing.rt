@@ -24,7 +24,7 @@ pub fn root_node(alloc: Global, lot: &Lot, grammar: &Grammar) -> Result<Node, No
     requires scope { IsOk (root_scope lot.now) }
     ensures { IfOk result (λ made. IsRootNode grammar.now lot.now made) }
 {
-    let setting = setting_of(alloc, grammar, lot.symbol)?;
+    let setting = setting_of(grammar, lot.symbol);
     let line = extended(alloc, &[], setting.priority)?;
     Ok(Node {
         shape: root_shape(alloc, lot),
@@ -97,7 +97,7 @@ fn child(
     ensures { IfOk result (λ made. made ≡ child_node grammar.now parent.now index emitted.now) }
 {
     let shape = child_shape(alloc, parent, index, emitted)?;
-    let setting = setting_of(alloc, grammar, shape.symbol)?;
+    let setting = setting_of(grammar, shape.symbol);
     let line = extended(alloc, parent.line.as_slice(), setting.priority)?;
     Ok(Node {
         shape,

@@ -1,11 +1,11 @@
-ghost use Rattle.std.specs.Prelude.{◌≡◌, IfOk};
-ghost use Rattle.cga_forest.specs.Placing.{group_setting, setting};
+ghost use Rattle.std.specs.Prelude.{◌≡◌, ◌||◌, unwrap_or};
+ghost use Rattle.cga_check.specs.Groups.{group, group_asks, priority_of};
+ghost use Rattle.cga_forest.specs.Placing.{setting};
+ghost use Rattle.cga_word.specs.declared.target.Target.TheVariants.{Noparent, Active};
 
-use cga_check::{group_of, mentions_target};
-use cga_fraction::NoMemory;
-use cga_rule::{Grammar, Group};
+use cga_check::{symbol_asks, symbol_priority};
+use cga_rule::Grammar;
 use cga_word::{Name, Target};
-use std::alloc::Global;
 
 /// What the rules of a symbol say of its nodes.
 #[derive(Clone, Copy, Debug)]
@@ -15,25 +15,25 @@ pub struct Setting {
     pub asks: bool,
 }
 
-/// Takes memory, since the symbol's rules are copied for it.
-#[tactic(auto, unfolding(crate::specs::Placing::setting))]
-pub fn setting_of(alloc: Global, grammar: &Grammar, symbol: Name) -> Result<Setting, NoMemory>
-    ensures { IfOk result (λ made. made ≡ setting grammar.now symbol) }
+/// Takes no memory; the time goes by the rules.
+#[tactic(auto, using(crate::proofs::Said::setting_said))]
+pub fn setting_of(grammar: &Grammar, symbol: Name) -> Setting
+    ensures { result ≡ setting grammar.now symbol }
 {
-    match group_of(alloc, grammar, symbol)? {
-        Some(group) => Ok(setting_in(&group)),
-        None => Ok(Setting {
-            priority: 0,
-            asks: false,
-        }),
+    Setting {
+        priority: priority_of(grammar, symbol),
+        asks: asks_any(grammar, symbol),
     }
 }
 
-fn setting_in(group: &Group) -> Setting
-    ensures { result ≡ group_setting group.now }
+fn priority_of(grammar: &Grammar, symbol: Name) -> u16
+    ensures { result ≡ unwrap_or (priority_of grammar.now symbol) 0 }
 {
-    Setting {
-        priority: group.priority,
-        asks: mentions_target(group, Target::Noparent) || mentions_target(group, Target::Active),
-    }
+    symbol_priority(grammar, symbol).unwrap_or(0)
+}
+
+fn asks_any(grammar: &Grammar, symbol: Name) -> bool
+    ensures { result ≡ (group_asks (group grammar.now symbol) Noparent || group_asks (group grammar.now symbol) Active) }
+{
+    symbol_asks(grammar, symbol, Target::Noparent) || symbol_asks(grammar, symbol, Target::Active)
 }

@@ -2,4 +2,3 @@ pub mod Lists
 pub mod ById
 pub mod Values
 pub mod Groups
-pub mod Trees

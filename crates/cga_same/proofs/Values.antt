@@ -6,9 +6,10 @@ use Rattle.std.specs.Option.{option_map}
 use Rattle.std.proofs.lemmas.List.Elements.{All-nil, All-cons, All-head, All-tail}
 use Rattle.cga_fraction.specs.Rat.{Rat}
 use Rattle.cga_rule.specs.declared.grammar.Attribute.{Attribute}
+use Rattle.cga_rule.specs.declared.grammar.Grammar.{Grammar}
 use Rattle.cga_rule.specs.declared.grammar.Group.{Group}
 use Rattle.cga_expr.specs.Names.{attribute_of, same_name}
-use Rattle.cga_same.specs.Agreement.{SameValue}
+use Rattle.cga_same.specs.Agreement.{SameValue, SameValues}
 
 value_step : (P : List ℕ → Type 0) (a : Attribute) (name : List ℕ) (rest : Option Attribute) (b : Bool) → (b ≡ true → P name)
     → (option_map (λ (x : Attribute). x.value) rest ≡ None) ⊎ P name → (option_map (λ (x : Attribute). x.value) (cond b (Some a) rest) ≡ None) ⊎ P name
@@ -28,19 +29,20 @@ both P a b (inl e) (inl d) h = h (e ∙ sym d)
 both P a b (inl e) (inr p) h = p
 both P a b (inr p) d h = p
 
-module _ (rules : Group) (old new : List Attribute) where
-  pub all_values : All (λ (a : Attribute). SameValue rules old new a.name) old → All (λ (a : Attribute). SameValue rules old new a.name) new → (name : List ℕ) → SameValue rules old new name
+module _ (rules : Option Group) (old new : Grammar) where
+  abbrev Same : Attribute → Type 0
+  Same a = SameValue rules old new a.name
+
+  all_values : All Same old.attributes → All Same new.attributes → SameValues rules old new
   all_values h k name =
-      both (SameValue rules old new name) (attribute_of old name) (attribute_of new name)
-      (with_value (SameValue rules old new) name old h) (with_value (SameValue rules old new) name new k) (λ e yes. e)
+      both (SameValue rules old new name) (attribute_of old.attributes name) (attribute_of new.attributes name)
+      (with_value (SameValue rules old new) name old.attributes h) (with_value (SameValue rules old new) name new.attributes k) (λ e yes. e)
 
-  pub values_of : ((name : List ℕ) → SameValue rules old new name) → (more : List Attribute) → All (λ (a : Attribute). SameValue rules old new a.name) more
-  values_of h [] = All-nil (λ (a : Attribute). SameValue rules old new a.name)
-  values_of h (a ∷ more) = All-cons (λ (x : Attribute). SameValue rules old new x.name) a more (h a.name) (values_of h more)
+  pub values_of : SameValues rules old new → (more : List Attribute) → All Same more
+  values_of h [] = All-nil Same
+  values_of h (a ∷ more) = All-cons Same a more (h a.name) (values_of h more)
 
--- lists that are lent as slices
-pub values_decided : (rules : Group) (g h s t : List Attribute) (r : Bool) → s ≡ g → t ≡ h → All (λ (a : Attribute). SameValue rules s t a.name) s → (IsTrue r ↔ All (λ (a : Attribute). SameValue rules s t a.name) t) → IsTrue r ↔ ((name : List ℕ) → SameValue rules g h name)
-values_decided rules g h s t r is was first second =
-    subst (λ l. IsTrue r ↔ ((name : List ℕ) → SameValue rules l h name)) is
-    (subst (λ l. IsTrue r ↔ ((name : List ℕ) → SameValue rules s l name)) was
-    (λ p. all_values rules s t first (second.0 p), λ v. second.1 (values_of rules s t v t)))
+  -- lists that are lent as slices
+  pub values_decided : (s t : List Attribute) (r : Bool) → s ≡ old.attributes → t ≡ new.attributes → All Same s → (IsTrue r ↔ All Same t) → IsTrue r ↔ SameValues rules old new
+  values_decided s t r is was first second =
+      (λ p. all_values (subst (All Same) is first) (subst (All Same) was (second.0 p)), λ v. second.1 (values_of v t))

@@ -1,11 +1,10 @@
 -- Where two grammars agree about a symbol.
-use Rattle.std.specs.Prelude.{◌≡◌, ℕ, List, map, filter, Bool, true, ◌&&◌, nat_eq, Option, Some, None}
+use Rattle.std.specs.Prelude.{◌≡◌, ℕ, List, map, filter, Bool, true, ◌&&◌, nat_eq, Option}
 use Rattle.cga_rule.specs.declared.rule.Rule.{Rule}
-use Rattle.cga_rule.specs.declared.grammar.Attribute.{Attribute}
 use Rattle.cga_rule.specs.declared.grammar.Entry.{Entry}
 use Rattle.cga_rule.specs.declared.grammar.Grammar.{Grammar}
 use Rattle.cga_rule.specs.declared.grammar.Group.{Group}
-use Rattle.cga_check.specs.Groups.{is_of, group, mentions_attribute}
+use Rattle.cga_check.specs.Groups.{is_of, group, group_names}
 use Rattle.cga_expr.specs.Names.{attribute_of}
 
 -- the entry's rule is one of the symbol, with this id
@@ -21,13 +20,12 @@ abbrev pub AgreesAt : List ℕ → List Entry → List Entry → Entry → Type 
 AgreesAt symbol old new e = is_of symbol e ≡ true → rules_with symbol e.rule.id old ≡ rules_with symbol e.rule.id new
 
 -- the name has the same value in both, if the group mentions it
-abbrev pub SameValue : Group → List Attribute → List Attribute → List ℕ → Type 0
-SameValue rules old new name = mentions_attribute rules name ≡ true → attribute_of old name ≡ attribute_of new name
+abbrev pub SameValue : Option Group → Grammar → Grammar → List ℕ → Type 0
+SameValue rules old new name = group_names rules name ≡ true → attribute_of old.attributes name ≡ attribute_of new.attributes name
 
--- both have the same values of the attributes that the group mentions, if there is one
+-- both have the same values of the attributes that the group mentions
 abbrev pub SameValues : Option Group → Grammar → Grammar → Type 0
-SameValues None old new = Unit {0}
-SameValues (Some rules) old new = (name : List ℕ) → SameValue rules old.attributes new.attributes name
+SameValues rules old new = (name : List ℕ) → SameValue rules old new name
 
 -- the group of the symbol and the values of the attributes that it mentions are the same
 pub record IsSameSetting (old new : Grammar) (symbol : List ℕ) : Type 0 where

@@ -1,9 +1,9 @@
 //! Whether the rules of a symbol are the same in two grammars.
 ghost use Rattle.std.specs.Prelude.{◌≡◌, ◌↔◌, IsTrue, All, position};
-ghost use Rattle.cga_check.specs.Groups.{by_id, group, priority_of, rules_of};
+ghost use Rattle.cga_check.specs.Groups.{by_id, group, rules_of};
 ghost use Rattle.cga_same.specs.Agreement.{AgreesAt, is_one, rules_with};
 
-use crate::rule::same_rule;
+use cga_check::symbol_priority;
 use cga_rule::{Entry, Grammar};
 use cga_word::Name;
 
@@ -13,20 +13,8 @@ use cga_word::Name;
 pub fn same_group(old: &Grammar, new: &Grammar, symbol: Name) -> bool
     ensures { IsTrue result ↔ (group old.now symbol ≡ group new.now symbol) }
 {
-    same_priority(priority_of(old, symbol), priority_of(new, symbol))
+    same_priority(symbol_priority(old, symbol), symbol_priority(new, symbol))
         && same_rules(old.rules.as_slice(), new.rules.as_slice(), symbol)
-}
-
-#[tactic(auto, unfolding(cga_check::specs::Groups::priority_of, cga_check::specs::Groups::first_entry))]
-fn priority_of(grammar: &Grammar, symbol: Name) -> Option<u16>
-    ensures { result ≡ priority_of grammar.now symbol }
-{
-    grammar
-        .rules
-        .as_slice()
-        .iter()
-        .find(|entry| entry.rule.symbol == symbol)
-        .map(|entry| entry.priority)
 }
 
 fn same_priority(a: Option<u16>, b: Option<u16>) -> bool
@@ -60,7 +48,7 @@ fn agree(old: &[Entry], new: &[Entry], symbol: Name, id: u32) -> bool
     match (place(old, symbol, id), place(new, symbol, id)) {
         (None, None) => true,
         (Some(i), Some(j)) => {
-            same_rule(&old[i].rule, &new[j].rule) && agree(&old[i + 1..], &new[j + 1..], symbol, id)
+            old[i].rule == new[j].rule && agree(&old[i + 1..], &new[j + 1..], symbol, id)
         }
         _ => false,
     }

@@ -33,7 +33,7 @@ use Rattle.cga_expand.specs.Rules.{expansion}
 use Rattle.cga_expand.specs.Settings.{setting_of}
 use Rattle.cga_expand.proofs.Layers.{item_Child, item_Resize}
 use Rattle.cga_touched.specs.Words.{same_option, same_rat, same_shape, same_scope}
-use Rattle.cga_touched.specs.Settings.{same_rule, same_group, same_setting}
+use Rattle.cga_touched.specs.Settings.{same_setting}
 use Rattle.cga_touched.specs.Count.{Turn, with_turn, is_answered_alike, turns_of, is_kept, has_same_inputs, touched_shapes, touched_count}
 use Rattle.cga_touched.specs.Example.{a, b, c, d, one, members}
 use Rattle.cga_touched.specs.Heights.{height, whole, high, yard_and_wall, of_height, farm, HeightIsTouched}
@@ -176,7 +176,7 @@ unfolding has_same_inputs
 root_inputs = and_left _ _ root_setting
 
 yard_setting : same_setting (of_height one) (of_height two) d ≡ true
-unfolding same_setting same_group same_rule setting_of group first_entry rules_of placed by_id mentions_attribute rule_uses
+unfolding same_setting setting_of group first_entry rules_of placed by_id mentions_attribute rule_uses
 yard_setting = refl
 
 yard_alike : is_answered_alike (turns_of (farm one) 4) (turns_of (farm two) 4) yard ≡ true

@@ -4,8 +4,9 @@ use Rattle.cga_order.specs.World.{Has, shapes_where}
 use Rattle.cga_order.specs.declared.placed.Placed.{Placed}
 use Rattle.cga_order.specs.declared.placed.Kind.{Kind}
 use Rattle.cga_order.proofs.Members.{Has-from_shapes_where, Has-index}
-use Rattle.cga_agenda.specs.Work.{AreSoMany, Once}
-use Rattle.cga_agenda.proofs.Lists.{length-once}
+use Rattle.cga_order.specs.Once.{Once}
+use Rattle.cga_agenda.specs.Work.{AreSoMany}
+use Rattle.cga_order.proofs.Once.{length-once}
 use Rattle.cga_shape.specs.declared.sources.Sources.{Sources}
 use Rattle.cga_derivation.specs.Derivation.{Derivation, place_of, reached, derive, AllApart, NothingWaits}
 use Rattle.cga_derivation.proofs.Apart.{apart-reached}

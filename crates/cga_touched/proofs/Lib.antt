@@ -1,7 +1,4 @@
 pub mod Words
-pub mod Exprs
-pub mod Conds
-pub mod Items
 pub mod Settings
 pub mod Lists
 pub mod Turns

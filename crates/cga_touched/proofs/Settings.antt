@@ -1,73 +1,25 @@
--- The tests of rules, groups and settings tell equality.
-use Rattle.std.proofs.Common.{◌≡◌, ℕ, List, [], ◌∷◌, ◌++◌, Bool, true, false, ◌&&◌, cond, refl, sym, ◌∙◌, subst, nat_eq, ◌⊎◌, inl, inr, Some, None}
+-- The test of settings tells equality.
+use Rattle.std.proofs.Common.{◌≡◌, ℕ, List, [], ◌∷◌, ◌++◌, Bool, true, false, ◌&&◌, cond, refl, sym, ◌∙◌, subst, ◌⊎◌, inl, inr, Some, None}
 use Rattle.std.specs.Prelude.{Option, find}
 use Rattle.std.specs.List.{list_all}
 use Rattle.std.specs.Option.{option_map}
-use lib.Pointwise.{pointwise, bytes_decides}
+use lib.Pointwise.{bytes_decides}
 use Rattle.cga_fraction.specs.Rat.{Rat}
 use Rattle.cga_rule.specs.declared.grammar.Attribute.{Attribute}
 use Rattle.cga_rule.specs.declared.grammar.Grammar.{Grammar}
 use Rattle.cga_rule.specs.declared.grammar.Group.{Group}
-use Rattle.cga_rule.specs.declared.rule.Alternative.{Alternative}
-use Rattle.cga_rule.specs.declared.rule.Rule.{Rule}
+use Rattle.cga_rule.specs.Equal.{same_group}
+use Rattle.cga_rule.proofs.Equal.{group_equal}
 use Rattle.cga_check.specs.Groups.{group}
 use Rattle.cga_check.specs.Uses.{same_name}
 use Rattle.cga_expr.specs.Names.{attribute_of}
 use Rattle.cga_expand.specs.Settings.{Setting, mentions, setting_of}
 use Rattle.cga_touched.specs.Words.{same_option, same_rat}
-use Rattle.cga_touched.specs.Conds.{same_cond}
-use Rattle.cga_touched.specs.Items.{same_item}
-use Rattle.cga_touched.specs.Settings.{same_alternative, same_rule, same_group, same_value, same_setting}
-use Rattle.cga_touched.proofs.Words.{Tells, both, pair, list_tells, option_tells, name_tells, nat_tells, rat_tells}
-use Rattle.cga_touched.proofs.Conds.{cond_tells}
-use Rattle.cga_touched.proofs.Items.{item_tells}
-
-alternative_tells : (a : Alternative) → Tells same_alternative a
-alternative_tells a = (sound, pair (pointwise same_item a.items a.items) (same_rat a.prob a.prob) (list_tells same_item item_tells a.items).1 (rat_tells a.prob).1)
-  where
-    sound : (b : Alternative) → same_alternative a b ≡ true → a ≡ b
-    sound b h =
-        let w = both (pointwise same_item a.items b.items) (same_rat a.prob b.prob) h in
-        λ i. record { items = (list_tells same_item item_tells a.items).0 b.items w.0 i; prob = (rat_tells a.prob).0 b.prob w.1 i }
-
-rule_sound : (a b : Rule) → same_rule a b ≡ true → a ≡ b
-unfolding same_rule
-rule_sound a b h =
-    let id = both (nat_eq a.id b.id) _ h in
-    let symbol = both (same_name a.symbol b.symbol) _ id.1 in
-    let params = both (pointwise same_name a.params b.params) _ symbol.1 in
-    let parts = both (same_option same_cond a.cond b.cond) (pointwise same_alternative a.alternatives b.alternatives) params.1 in
-    λ i. record {
-      id = (nat_tells a.id).0 b.id id.0 i;
-      symbol = (name_tells a.symbol).0 b.symbol symbol.0 i;
-      params = (list_tells same_name name_tells a.params).0 b.params params.0 i;
-      cond = (option_tells same_cond cond_tells a.cond).0 b.cond parts.0 i;
-      alternatives = (list_tells same_alternative alternative_tells a.alternatives).0 b.alternatives parts.1 i;
-    }
-
-rule_own : (a : Rule) → same_rule a a ≡ true
-unfolding same_rule
-rule_own a =
-    pair (nat_eq a.id a.id) _ (nat_tells a.id).1
-    (pair (same_name a.symbol a.symbol) _ (name_tells a.symbol).1
-    (pair (pointwise same_name a.params a.params) _ (list_tells same_name name_tells a.params).1
-    (pair (same_option same_cond a.cond a.cond) (pointwise same_alternative a.alternatives a.alternatives)
-    (option_tells same_cond cond_tells a.cond).1 (list_tells same_alternative alternative_tells a.alternatives).1)))
-
-rule_tells : (a : Rule) → Tells same_rule a
-rule_tells a = (rule_sound a, rule_own a)
+use Rattle.cga_touched.specs.Settings.{same_value, same_setting}
+use Rattle.cga_touched.proofs.Words.{Tells, both, pair, option_tells, rat_tells}
 
 group_tells : (a : Group) → Tells same_group a
-unfolding same_group
-group_tells a = (sound, pair (same_name a.symbol a.symbol) _ (name_tells a.symbol).1 (pair (nat_eq a.priority a.priority) (pointwise same_rule a.rules a.rules) (nat_tells a.priority).1 (list_tells same_rule rule_tells a.rules).1))
-  where
-    sound : (b : Group) → same_group a b ≡ true → a ≡ b
-    sound b h =
-        let u = both (same_name a.symbol b.symbol) _ h in
-        let v = both (nat_eq a.priority b.priority) (pointwise same_rule a.rules b.rules) u.1 in
-        λ i. record { symbol = (name_tells a.symbol).0 b.symbol u.0 i; priority = (nat_tells a.priority).0 b.priority v.0 i; rules = (list_tells same_rule rule_tells a.rules).0 b.rules v.1 i }
-
--- ---- settings
+group_tells a = ((λ b h. (group_equal a b).0 h), (group_equal a a).1 refl)
 
 number_tells : (a : Option Rat) → Tells (same_option same_rat) a
 number_tells = option_tells same_rat rat_tells

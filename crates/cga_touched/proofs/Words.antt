@@ -14,24 +14,13 @@ use Rattle.cga_word.specs.declared.axis.Axis.{Axis}
 use Rattle.cga_word.specs.declared.axis.Axis.TheVariants.{X, Y, Z}
 use Rattle.cga_word.specs.declared.mode.Mode.{Mode}
 use Rattle.cga_word.specs.declared.mode.Mode.TheVariants.{Breadth, Depth}
-use Rattle.cga_word.specs.declared.primitive.Primitive.{Primitive}
-use Rattle.cga_word.specs.declared.primitive.Primitive.TheVariants.{Cube, Quad, Shed, Gable, Hip}
-use Rattle.cga_word.specs.declared.selector.Selector.{Selector}
-use Rattle.cga_word.specs.declared.selector.Selector.TheVariants.{Faces, Sidefaces, Face, Edges, Edge, Vertices}
-use Rattle.cga_word.specs.declared.side.Side.{Side}
-use Rattle.cga_word.specs.declared.side.Side.TheVariants as side
-use Rattle.cga_word.specs.declared.target.Target.{Target}
-use Rattle.cga_word.specs.declared.target.Target.TheVariants.{Noparent, Active}
-use Rattle.cga_word.specs.declared.turn.Turn.{Turn}
-use Rattle.cga_word.specs.declared.turn.Turn.TheVariants.{By0, By90, By180, By270}
 use Rattle.cga_frame.specs.Axes.{Frame, same_axis}
 use Rattle.cga_frame.specs.Scope.{Scope}
 use Rattle.cga_frame.specs.declared.point.Point.{Point}
 use Rattle.cga_frame.specs.declared.signed.Signed.{Signed}
 use Rattle.cga_check.specs.Uses.{same_name}
-use Rattle.cga_check.specs.Groups.{same_target}
 use Rattle.cga_shape.specs.declared.shape.Shape.{Shape}
-use Rattle.cga_touched.specs.Words.{same_option, same_mode, same_turn, same_primitive, same_side, same_selector, same_answer, same_answers, same_rat, same_point, same_signed, same_frame, same_scope, same_path, same_shape}
+use Rattle.cga_touched.specs.Words.{same_option, same_mode, same_answer, same_answers, same_rat, same_point, same_signed, same_frame, same_scope, same_path, same_shape}
 
 pub not_so : {P : Type 0} → false ≡ true → P
 not_so h = absurd (true≢false (sym h))
@@ -104,92 +93,6 @@ mode_tells a = (sound a, own a)
     own : (a : Mode) → same_mode a a ≡ true
     own Breadth = refl
     own Depth = refl
-
-pub turn_tells : (a : Turn) → Tells same_turn a
-turn_tells a = (sound a, own a)
-  where
-    sound : (a b : Turn) → same_turn a b ≡ true → a ≡ b
-    sound By0 By0 h = refl
-    sound By90 By90 h = refl
-    sound By180 By180 h = refl
-    sound By270 By270 h = refl
-    sound a b h = not_so h
-
-    own : (a : Turn) → same_turn a a ≡ true
-    own By0 = refl
-    own By90 = refl
-    own By180 = refl
-    own By270 = refl
-
-pub primitive_tells : (a : Primitive) → Tells same_primitive a
-primitive_tells a = (sound a, own a)
-  where
-    sound : (a b : Primitive) → same_primitive a b ≡ true → a ≡ b
-    sound Cube Cube h = refl
-    sound Quad Quad h = refl
-    sound Shed Shed h = refl
-    sound Gable Gable h = refl
-    sound Hip Hip h = refl
-    sound a b h = not_so h
-
-    own : (a : Primitive) → same_primitive a a ≡ true
-    own Cube = refl
-    own Quad = refl
-    own Shed = refl
-    own Gable = refl
-    own Hip = refl
-
-pub side_tells : (a : Side) → Tells same_side a
-side_tells a = (sound a, own a)
-  where
-    sound : (a b : Side) → same_side a b ≡ true → a ≡ b
-    sound side.Front side.Front h = refl
-    sound side.Right side.Right h = refl
-    sound side.Back side.Back h = refl
-    sound side.Left side.Left h = refl
-    sound side.Top side.Top h = refl
-    sound side.Bottom side.Bottom h = refl
-    sound a b h = not_so h
-
-    own : (a : Side) → same_side a a ≡ true
-    own side.Front = refl
-    own side.Right = refl
-    own side.Back = refl
-    own side.Left = refl
-    own side.Top = refl
-    own side.Bottom = refl
-
-pub selector_tells : (a : Selector) → Tells same_selector a
-selector_tells a = (sound a, own a)
-  where
-    sound : (a b : Selector) → same_selector a b ≡ true → a ≡ b
-    sound Faces Faces h = refl
-    sound Sidefaces Sidefaces h = refl
-    sound (Face a) (Face b) h = ap Face ((side_tells a).0 b h)
-    sound Edges Edges h = refl
-    sound (Edge n) (Edge m) h = ap Edge ((nat_tells n).0 m h)
-    sound Vertices Vertices h = refl
-    sound a b h = not_so h
-
-    own : (a : Selector) → same_selector a a ≡ true
-    own Faces = refl
-    own Sidefaces = refl
-    own (Face a) = (side_tells a).1
-    own Edges = refl
-    own (Edge n) = (nat_tells n).1
-    own Vertices = refl
-
-pub target_tells : (a : Target) → Tells same_target a
-target_tells a = (sound a, own a)
-  where
-    sound : (a b : Target) → same_target a b ≡ true → a ≡ b
-    sound Noparent Noparent h = refl
-    sound Active Active h = refl
-    sound a b h = not_so h
-
-    own : (a : Target) → same_target a a ≡ true
-    own Noparent = refl
-    own Active = refl
 
 pub answer_tells : (a : Answer) → Tells same_answer a
 answer_tells a = (sound a, own a)

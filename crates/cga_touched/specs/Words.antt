@@ -9,14 +9,6 @@ use Rattle.cga_word.specs.declared.answer.Answer.TheVariants.{Nothing, Part, Ful
 use Rattle.cga_word.specs.declared.answers.Answers.{Answers}
 use Rattle.cga_word.specs.declared.mode.Mode.{Mode}
 use Rattle.cga_word.specs.declared.mode.Mode.TheVariants.{Breadth, Depth}
-use Rattle.cga_word.specs.declared.primitive.Primitive.{Primitive}
-use Rattle.cga_word.specs.declared.primitive.Primitive.TheVariants.{Cube, Quad, Shed, Gable, Hip}
-use Rattle.cga_word.specs.declared.selector.Selector.{Selector}
-use Rattle.cga_word.specs.declared.selector.Selector.TheVariants.{Faces, Sidefaces, Face, Edges, Edge, Vertices}
-use Rattle.cga_word.specs.declared.side.Side.{Side}
-use Rattle.cga_word.specs.declared.side.Side.TheVariants as side
-use Rattle.cga_word.specs.declared.turn.Turn.{Turn}
-use Rattle.cga_word.specs.declared.turn.Turn.TheVariants.{By0, By90, By180, By270}
 use Rattle.cga_frame.specs.Axes.{Frame, same_axis}
 use Rattle.cga_frame.specs.Scope.{Scope}
 use Rattle.cga_frame.specs.declared.point.Point.{Point}
@@ -36,39 +28,6 @@ abbrev pub same_mode : Mode → Mode → Bool
 same_mode Breadth Breadth = true
 same_mode Depth Depth = true
 same_mode a b = false
-
-abbrev pub same_turn : Turn → Turn → Bool
-same_turn By0 By0 = true
-same_turn By90 By90 = true
-same_turn By180 By180 = true
-same_turn By270 By270 = true
-same_turn a b = false
-
-abbrev pub same_primitive : Primitive → Primitive → Bool
-same_primitive Cube Cube = true
-same_primitive Quad Quad = true
-same_primitive Shed Shed = true
-same_primitive Gable Gable = true
-same_primitive Hip Hip = true
-same_primitive a b = false
-
-abbrev pub same_side : Side → Side → Bool
-same_side side.Front side.Front = true
-same_side side.Right side.Right = true
-same_side side.Back side.Back = true
-same_side side.Left side.Left = true
-same_side side.Top side.Top = true
-same_side side.Bottom side.Bottom = true
-same_side a b = false
-
-abbrev pub same_selector : Selector → Selector → Bool
-same_selector Faces Faces = true
-same_selector Sidefaces Sidefaces = true
-same_selector (Face a) (Face b) = same_side a b
-same_selector Edges Edges = true
-same_selector (Edge n) (Edge m) = nat_eq n m
-same_selector Vertices Vertices = true
-same_selector a b = false
 
 abbrev pub same_answer : Answer → Answer → Bool
 same_answer Nothing Nothing = true

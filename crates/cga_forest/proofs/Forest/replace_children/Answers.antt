@@ -16,8 +16,8 @@ replace_with-requires c =
     let there : node_at c.args.self.now c.slot_of-id.result ≡ Some e = rw c.slot_of-id.ensures c.requires.here.1 in
     let seen : present_of (at c.self.inside.store c.slot_of-id.result) ≡ Some e = ap (λ (v : ForestView). node_at v c.slot_of-id.result) c.self.view_is ∙ there in
     let n : e.node ≡ c.entry.result.now.node = entry_node (at c.self.inside.store c.slot_of-id.result) c.entry.result.now e c.entry.ensures seen in
-    let asks = ap (λ (s : Setting). s.asks) c.in_ok-setting.ensures ∙ ap (λ (m : Node). (setting g m.shape.symbol).asks) (sym n) in
-    let state : record { kind = c.kind_after.result; answers = c.args.answers; asks = c.in_ok-setting.setting.asks } ≡ state_after g e.node c.args.answers o = λ i. record { kind = c.kind_after.ensures i; answers = c.args.answers; asks = asks i } in
+    let asks = ap (λ (s : Setting). s.asks) c.setting_of-setting.ensures ∙ ap (λ (m : Node). (setting g m.shape.symbol).asks) (sym n) in
+    let state : record { kind = c.kind_after.result; answers = c.args.answers; asks = c.setting_of-setting.result.asks } ≡ state_after g e.node c.args.answers o = λ i. record { kind = c.kind_after.ensures i; answers = c.args.answers; asks = asks i } in
     let news : c.in_ok-news.news.items ≡ children_after g e.node o = c.in_ok-news.ensures ∙ ap (λ (m : Node). children_after g m o) (sym n) in
     let deep = path_deep (λ k. present_of (at c.self.inside.store k)) c.self.invariant.present.tree c.self.invariant.present.places c.slot_of-id.result e seen in
     record {

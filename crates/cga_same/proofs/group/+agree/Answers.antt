@@ -1,4 +1,5 @@
 use Rattle.std.proofs.Common.{◌+◌, get_or, sym, ◌∙◌, refl}
+use Rattle.cga_rule.proofs.Equal.{rule_told}
 use Rattle.cga_same.specs.Agreement.{rules_with}
 use Rattle.cga_same.proofs.Lists.{behind}
 use Rattle.cga_same.proofs.ById.{with_none, with_first, with_some, firsts_same, firsts_differ}
@@ -8,8 +9,8 @@ pub returns-in-None-None : goal.returns-in-None-None
 returns-in-None-None t c =
     (λ h. with_none c.args.symbol c.args.id c.args.old.now c.place.result c.place.ensures c.in-None-None.is-0 ∙ sym (with_none c.args.symbol c.args.id c.args.new.now c.place-2.result c.place-2.ensures c.in-None-None.is-1), λ e. refl)
 
-pub returns-then-same_rule : goal.returns-then-same_rule
-returns-then-same_rule t c =
+pub returns-then-eq : goal.returns-then-eq
+returns-then-eq t c =
     let s = c.args.symbol in
     let n = c.args.id in
     let i = c.in-Some-Some.i in
@@ -17,18 +18,18 @@ returns-then-same_rule t c =
     firsts_same (rules_with s n c.args.old.now) (rules_with s n c.args.new.now) (rules_with s n (behind (i + 1) c.args.old.now)) (rules_with s n (behind (j + 1) c.args.new.now)) (get_or c.args.old.now i c.index-old-i.result).rule (get_or c.args.new.now j c.index-new-j.result).rule c.agree.result
     (with_first s n c.args.old.now c.place.result i c.index-old-i.result c.place.ensures c.in-Some-Some.is-0 c.index-old-i.is)
     (with_first s n c.args.new.now c.place-2.result j c.index-new-j.result c.place-2.ensures c.in-Some-Some.is-1 c.index-new-j.is)
-    (c.same_rule.ensures.0 c.if-same_rule.true) c.agree.ensures
+    ((rule_told (get_or c.args.old.now i c.index-old-i.result).rule (get_or c.args.new.now j c.index-new-j.result).rule c.eq.result c.eq.ensures).0 c.if-eq.true) c.agree.ensures
 
-pub returns-else-same_rule : goal.returns-else-same_rule
-returns-else-same_rule t c =
+pub returns-else-eq : goal.returns-else-eq
+returns-else-eq t c =
     let s = c.args.symbol in
     let n = c.args.id in
     let i = c.in-Some-Some.i in
     let j = c.in-Some-Some.j in
-    firsts_differ (rules_with s n c.args.old.now) (rules_with s n c.args.new.now) (rules_with s n (behind (i + 1) c.args.old.now)) (rules_with s n (behind (j + 1) c.args.new.now)) (get_or c.args.old.now i c.index-old-i.result).rule (get_or c.args.new.now j c.index-new-j.result).rule c.same_rule.result
+    firsts_differ (rules_with s n c.args.old.now) (rules_with s n c.args.new.now) (rules_with s n (behind (i + 1) c.args.old.now)) (rules_with s n (behind (j + 1) c.args.new.now)) (get_or c.args.old.now i c.index-old-i.result).rule (get_or c.args.new.now j c.index-new-j.result).rule c.eq.result
     (with_first s n c.args.old.now c.place.result i c.index-old-i.result c.place.ensures c.in-Some-Some.is-0 c.index-old-i.is)
     (with_first s n c.args.new.now c.place-2.result j c.index-new-j.result c.place-2.ensures c.in-Some-Some.is-1 c.index-new-j.is)
-    c.same_rule.ensures c.if-same_rule.false
+    (rule_told (get_or c.args.old.now i c.index-old-i.result).rule (get_or c.args.new.now j c.index-new-j.result).rule c.eq.result c.eq.ensures) c.if-eq.false
 
 pub returns-in_default : goal.returns-in_default
 returns-in_default t c =
