@@ -5,3 +5,4 @@ pub mod PlaceAll
 pub mod Working
 pub mod Starting
 pub mod Boxes
+pub mod Stepping

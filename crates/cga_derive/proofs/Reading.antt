@@ -1,4 +1,5 @@
 -- What is read of a group is what the definitions say of its symbol.
+use Rattle.std.specs.Prelude.{unwrap_or}
 use Rattle.std.proofs.Common.{◌≡◌, ℕ, List, Bool, true, false, cond, refl, sym, ap, ◌∙◌, Option, Some, None}
 use Rattle.std.specs.declared.cmp.Ordering.{Ordering}
 use Rattle.std.specs.declared.cmp.Ordering.TheVariants.{Less, Equal, Greater}
@@ -6,35 +7,31 @@ use Rattle.std.specs.Ordering.{nat_cmp, is_eq}
 use Rattle.std.specs.Cmp.Lexicographic.{slice_cmp}
 use Rattle.std.specs.FinMap.{nat_cmp-IsAntisymmetric, slice_cmp-IsAntisymmetric}
 use Rattle.std.specs.BTreeMap.{BTreeMap, get, Updates}
+use Rattle.cga_word.specs.declared.target.Target.{Target}
 use Rattle.cga_word.specs.declared.target.Target.TheVariants.{Noparent, Active}
-use Rattle.cga_rule.specs.declared.grammar.Entry.{Entry}
 use Rattle.cga_rule.specs.declared.grammar.Grammar.{Grammar}
 use Rattle.cga_rule.specs.declared.grammar.Group.{Group}
 use Rattle.cga_check.specs.Groups as groups
 use Rattle.cga_expand.specs.Asked.{group_asks, asks_for}
 use Rattle.cga_expand.specs.Derivation.{priority_of}
 use Rattle.cga_derive.specs.declared.symbol.Symbol.{Symbol}
-use Rattle.cga_derive.specs.Symbols.{symbol_by, symbol_of, IsRead}
+use Rattle.cga_derive.specs.Symbols.{symbol_of, IsRead}
 use Rattle.cga_derivation.proofs.Lists.{some_same}
 
-abbrev symbol_in : Option Group → Symbol
-symbol_in None = record { priority = 0; noparent = group_asks None Noparent; active = group_asks None Active }
-symbol_in (Some group) = symbol_by group
+-- both definitions of what a group asks for say the same
+same_asks : (o : Option Group) (target : Target) → groups.group_asks o target ≡ group_asks o target
+same_asks None target = refl
+same_asks (Some group) target = refl
 
-read_first : (grammar : Grammar) (name : List ℕ) (o : Option Entry) → groups.first_entry grammar.rules name ≡ o → symbol_of grammar name ≡ symbol_in (groups.group_with grammar.rules name o)
-unfolding symbol_of priority_of asks_for groups.group groups.priority_of
-read_first grammar name None is = rw is refl
-read_first grammar name (Some e) is = rw is refl
-
-pub read_is : (grammar : Grammar) (name : List ℕ) → symbol_of grammar name ≡ symbol_in (groups.group grammar name)
-unfolding groups.group
-read_is grammar name = read_first grammar name (groups.first_entry grammar.rules name) refl
-
-pub read_some : (grammar : Grammar) (name : List ℕ) (group : Group) → Some group ≡ groups.group grammar name → symbol_by group ≡ symbol_of grammar name
-read_some grammar name group is = ap symbol_in is ∙ sym (read_is grammar name)
-
-pub read_none : (grammar : Grammar) (name : List ℕ) → None ≡ groups.group grammar name → symbol_in None ≡ symbol_of grammar name
-read_none grammar name is = ap symbol_in is ∙ sym (read_is grammar name)
+-- what is read of a symbol
+pub read_is : (grammar : Grammar) (name : List ℕ) (priority : ℕ) (noparent active : Bool) → priority ≡ unwrap_or (groups.priority_of grammar name) 0 → noparent ≡ groups.group_asks (groups.group grammar name) Noparent → active ≡ groups.group_asks (groups.group grammar name) Active → record { priority = priority; noparent = noparent; active = active } ≡ symbol_of grammar name
+unfolding symbol_of priority_of asks_for
+read_is grammar name priority noparent active p n a =
+    let group = groups.group grammar name in λ i. record {
+      priority = p i;
+      noparent = (n ∙ same_asks group Noparent) i;
+      active = (a ∙ same_asks group Active) i;
+    }
 
 equal_here : (o : Ordering) → is_eq o ≡ true → o ≡ Equal
 equal_here Less e = let x : false ≡ true = e in cc

@@ -45,7 +45,7 @@ within [] i m e = none_some m e
 within (x ∷ xs) zero m e = omega arith
 within (x ∷ xs) (suc i) m e = omega (arith, within xs i m e)
 
-none-left : {X : Type 0} (xs : List X) → (0 < length xs → ⊥) → xs ≡ []
+pub none-left : {X : Type 0} (xs : List X) → (0 < length xs → ⊥) → xs ≡ []
 none-left [] h = refl
 none-left (x ∷ xs) h = absurd (h (omega arith))
 
@@ -75,13 +75,13 @@ in-turn sources n key place list old new at removal above = record {
 
 module _ (sources : Sources) (differ : NamesDiffer sources.lots) where
   module _ (n : ℕ) (key : StampKey) (place : ℕ) (list : List Member) (es : List (StampKey × ℕ)) (turn : IsInTurnOf sources n key place list es) where
-    there : (x : Member) × (slice_get list place ≡ Some x) × (x.kind ≡ Waiting) × (key.lot ≡ x.shape.lot) × (key.path ≡ x.shape.path)
+    pub there : (x : Member) × (slice_get list place ≡ Some x) × (x.kind ≡ Waiting) × (key.lot ≡ x.shape.lot) × (key.path ≡ x.shape.path)
     there = turns.member (derivation_of sources) (sources_are_derivations sources differ) (λ k. k.mode) chain_of_key key_cmp (agrees sources.mode) n key place list es turn
 
     pub place_within : place < length list
     place_within = within list place there.0 there.1
 
-    result : (y : Member) (answers : Answers) (r : Result (List Emitted) ShapeFault) → y ≡ get_or list place y → answers ≡ asked (derivation_of sources) list y.shape → r ≡ expand_of sources.grammar y.shape answers → children_of sources.grammar there.0.shape (asked (derivation_of sources) list there.0.shape) ≡ placed_by there.0.shape r
+    pub result : (y : Member) (answers : Answers) (r : Result (List Emitted) ShapeFault) → y ≡ get_or list place y → answers ≡ asked (derivation_of sources) list y.shape → r ≡ expand_of sources.grammar y.shape answers → children_of sources.grammar there.0.shape (asked (derivation_of sources) list there.0.shape) ≡ placed_by there.0.shape r
     unfolding children_of
     result y answers r is asks gives =
         let same : y ≡ there.0 = is ∙ read list place there.0 y there.1 in
@@ -117,9 +117,6 @@ module _ (sources : Sources) (differ : NamesDiffer sources.lots) where
   module _ (budget n : ℕ) (list : List Member) (es : List (StampKey × ℕ)) (at : IsAfter sources n list es) where
     pub over : n ≤ budget → budget < length list → derive (derivation_of sources) budget ≡ None
     over turned big = ends.ends-over (derivation_of sources) (sources_are_derivations sources differ) (λ k. k.mode) chain_of_key key_cmp (agrees sources.mode) budget n list es at turned big
-
-    pub ended-empty : (0 < length es → ⊥) → n ≤ budget → length list ≤ budget → (derive (derivation_of sources) budget ≡ Some list) × (expanded_in list ≡ count_by (λ m. not (is_instance m.kind)) list)
-    ended-empty none turned fits = ends.ends-empty (derivation_of sources) (sources_are_derivations sources differ) (λ k. k.mode) chain_of_key key_cmp (agrees sources.mode) budget n list (subst (λ e. IsAfter sources n list e) (none-left es none) at) turned fits
 
     pub ended-full : n ≡ budget → length list ≤ budget → (derive (derivation_of sources) budget ≡ Some list) × (expanded_in list ≡ count_by (λ m. not (is_instance m.kind)) list)
     ended-full same fits = ends.ends-full (derivation_of sources) (sources_are_derivations sources differ) (λ k. k.mode) chain_of_key key_cmp (agrees sources.mode) budget list es (subst (λ k. IsAfter sources k list es) same at) fits

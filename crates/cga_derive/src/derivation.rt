@@ -46,10 +46,9 @@ pub fn derive<E: Ledger, T: Ledger>(
         if run.list.len() > most {
             return Ok(Err(OverBudget));
         }
-        let Some((key, place)) = run.waiting.pop_first() else {
+        if run.next(alloc, sources, expansions)?.is_none() {
             return Ok(Ok(run.into_list()));
-        };
-        run.turn(alloc, sources, &key, place, expansions)?;
+        }
     }
     if run.list.len() > most {
         return Ok(Err(OverBudget));

@@ -13,8 +13,7 @@ mod over_budget;
 mod run;
 mod symbol;
 mod symbols;
-#[cfg(test)]
-mod tests;
 
 pub use derivation::derive;
 pub use over_budget::OverBudget;
+pub use run::Run;

@@ -1,11 +1,14 @@
-ghost use Rattle.std.specs.Prelude.{◌≡◌, ◌+◌, ◌<◌, ◌≤◌, ℕ, ◌++◌, ◌∷◌, [], OnOk, IfOk, length, vec_len, suc};
+ghost use Rattle.std.specs.Prelude.{◌≡◌, ◌+◌, ◌<◌, ◌≤◌, ℕ, ◌++◌, ◌∷◌, [], ◌↔◌, IsTrue, OnOk, IfOk, length, vec_len, suc};
+ghost use Rattle.cga_derivation.specs.Derivation.{reached, NothingWaits};
 ghost use Rattle.cga_derivation.specs.Sites.{sited};
+ghost use Rattle.cga_shape.specs.declared.sources.Sources.{Sources};
 ghost use Rattle.cga_expand.specs.Children.{placed_at, placed_from};
-ghost use Rattle.cga_expand.specs.Derivation.{NamesDiffer, priority_of};
+ghost use Rattle.cga_expand.specs.Derivation.{derivation_of, NamesDiffer, priority_of};
 ghost use Rattle.cga_expand.specs.Validity.{RootsExist};
 ghost use Rattle.cga_expand.specs.declared.limits.TheConstants.{MOST_CHILDREN};
 ghost use Rattle.cga_derive.specs.Compared.{IsBoxed};
 ghost use Rattle.cga_derive.specs.Run.{AddsKey, IsAfter, IsInTurnOf, KeepsKeys, sited_children};
+ghost use Rattle.cga_derive.specs.Underway.{IsNext, IsStepAfter, IsUnderway, turned};
 ghost use Rattle.cga_derive.specs.Symbols.{IsRead};
 
 use crate::answers::asked;
@@ -16,13 +19,14 @@ use cga_fraction::{List, NoMemory, Steps};
 use cga_frame::WorldBox;
 use cga_key::{StampKey, child_key, child_path, root_key};
 use cga_rule::Grammar;
-use cga_shape::{Emitted, Kind, Placed, Sources, root_shape};
+use cga_shape::{Answers, Emitted, Kind, Outcome, Placed, Sources, TraceStep, root_shape};
 use cga_word::Name;
 use std::alloc::Global;
 use std::collections::BTreeMap;
 use std::sync::ledger::Ledger;
 
-/// The list so far with the box of each member, and the place in it of each waiting member, by stamp.
+/// A derivation under way: the list so far with the box of each member, and the place in it of each
+/// waiting member, by stamp.
 #[derive(Drop)]
 pub struct Run {
     pub list: Vec<Placed>,
@@ -48,7 +52,7 @@ impl Run {
         ensures boxes { self.new.boxes ≡ self.old.boxes }
         ensures read { OnOk result (IsRead grammar.now self.new.symbols.read) }
     {
-        let found = self.symbols.of(alloc, grammar, symbol)?;
+        let found = self.symbols.of(grammar, symbol)?;
         let key = child_key(alloc, parent, index, found.priority)?;
         let place = self.list.len();
         self.waiting.insert(key, place)?;
@@ -114,22 +118,25 @@ impl Run {
         Ok(())
     }
 
-    /// The shape of the least key is expanded.
-    pub fn turn<E: Ledger>(
+    /// The shape of the least key, which was taken off, is expanded.
+    fn turn<E: Ledger>(
         &mut self,
         alloc: Global,
         sources: &Sources,
-        key: &StampKey,
+        key: StampKey,
         place: usize,
         expansions: &mut Steps<E>,
-    ) -> Result<(), NoMemory>
+    ) -> Result<TraceStep, NoMemory>
         requires names { NamesDiffer sources.now.lots }
         requires within { place < vec_len self.old.list }
         requires read { IsRead sources.now.grammar self.old.symbols.read }
         requires boxed { IsBoxed self.old.list.items self.old.boxes.items }
         ensures turn { OnOk result ((n : ℕ)
-            → IsInTurnOf sources.now n key.now place self.old.list.items self.old.waiting.entries
+            → IsInTurnOf sources.now n key place self.old.list.items self.old.waiting.entries
             → IsAfter sources.now (suc n) self.new.list.items self.new.waiting.entries) }
+        ensures told { IfOk result (λ step. (n : ℕ)
+            → IsInTurnOf sources.now n key place self.old.list.items self.old.waiting.entries
+            → IsStepAfter sources.now n step) }
         ensures read { OnOk result (IsRead sources.now.grammar self.new.symbols.read) }
         ensures boxed { OnOk result (IsBoxed self.new.list.items self.new.boxes.items) }
         ensures ticks { OnOk result (expansions.new ≡ expansions.old + 1) }
@@ -137,36 +144,68 @@ impl Run {
         ensures most { expansions.new ≤ expansions.old + 1 }
     {
         let own = self.list[place].shape.symbol;
-        let symbol = self.symbols.of(alloc, &sources.grammar, own)?;
+        let symbol = self.symbols.of(&sources.grammar, own)?;
         let shape = &self.list[place].shape;
         let answers = asked(symbol, self.list.as_slice(), self.boxes.as_slice(), shape);
         match expand(alloc, &sources.grammar, shape, &answers, expansions)? {
             Ok(emitted) => {
+                let grown = Outcome::Grew(emitted.len() as u16);
                 self.list[place].kind = Kind::Done;
-                self.place_all(alloc, sources, key, own, emitted)?;
-                Ok(())
+                self.place_all(alloc, sources, &key, own, emitted)?;
+                Ok(told(key, own, answers, grown))
             }
             Err(fault) => {
                 self.list[place].kind = Kind::Faulted(fault);
-                Ok(())
+                Ok(told(key, own, answers, Outcome::Faulted(fault)))
             }
         }
+    }
+
+    /// The waiting shape of least rank is expanded, and what that told is answered; None where nothing
+    /// waits. Takes memory.
+    pub fn next<E: Ledger>(
+        &mut self,
+        alloc: Global,
+        sources: &Sources,
+        expansions: &mut Steps<E>,
+    ) -> Result<Option<TraceStep>, NoMemory>
+        requires names { NamesDiffer sources.now.lots }
+        requires underway { (n : ℕ) × IsUnderway sources.now n self.old }
+        ensures step { IfOk result (λ step. (n : ℕ) → IsUnderway sources.now n self.old
+            → IsNext sources.now n step) }
+        ensures underway { IfOk result (λ step. (n : ℕ) → IsUnderway sources.now n self.old
+            → IsUnderway sources.now (turned n step) self.new) }
+        ensures ticks { IfOk result (λ step. expansions.new ≡ turned expansions.old step) }
+        ensures counted { expansions.old ≤ expansions.new }
+        ensures most { expansions.new ≤ expansions.old + 1 }
+    {
+        let Some((key, place)) = self.waiting.pop_first() else {
+            return Ok(None);
+        };
+        let step = self.turn(alloc, sources, key, place, expansions)?;
+        Ok(Some(step))
+    }
+
+    /// Whether nothing waits. Takes no memory.
+    pub fn is_over(&self) -> bool
+        ensures { (sources : Sources) (n : ℕ) → IsUnderway sources n self.now
+            → (IsTrue result ↔ NothingWaits (derivation_of sources) (reached (derivation_of sources) n)) }
+    {
+        self.waiting.is_empty()
     }
 
     /// The roots, all waiting.
     pub fn start(alloc: Global, sources: &Sources) -> Result<Run, NoMemory>
         requires names { NamesDiffer sources.now.lots }
         requires roots { RootsExist sources.now.lots }
-        ensures after { IfOk result (λ run. IsAfter sources.now 0 run.list.items run.waiting.entries) }
-        ensures read { IfOk result (λ run. IsRead sources.now.grammar run.symbols.read) }
-        ensures boxed { IfOk result (λ run. IsBoxed run.list.items run.boxes.items) }
+        ensures { IfOk result (λ run. IsUnderway sources.now 0 run) }
     {
         let mut list = Vec::new(alloc);
         let mut boxes = Vec::new(alloc);
         let mut waiting = BTreeMap::new(alloc);
         let mut symbols = Symbols::new(alloc);
         for lot in sources.lots.as_slice() {
-            let found = symbols.of(alloc, &sources.grammar, lot.symbol)?;
+            let found = symbols.of(&sources.grammar, lot.symbol)?;
             let key = root_key(alloc, sources.mode, lot.name, found.priority)?;
             let place = list.len();
             waiting.insert(key, place)?;
@@ -196,5 +235,24 @@ impl Run {
             symbols: _,
         } = self;
         List::from_vec(list)
+    }
+}
+
+/// What the expansion of the shape of a key told, whose symbol is `own`.
+fn told(key: StampKey, own: Name, answers: Answers, outcome: Outcome) -> TraceStep
+    ensures { result ≡ record { lot = key.lot; path = key.path; symbol = own; answers = answers; outcome = outcome } }
+{
+    let StampKey {
+        mode: _,
+        lot,
+        path,
+        priorities: _,
+    } = key;
+    TraceStep {
+        lot,
+        path,
+        symbol: own,
+        answers,
+        outcome,
     }
 }

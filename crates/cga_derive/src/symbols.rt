@@ -1,15 +1,15 @@
-ghost use Rattle.std.specs.Prelude.{◌≡◌, IfOk};
-ghost use Rattle.cga_derive.specs.Symbols.{symbol_by, symbol_of};
+ghost use Rattle.std.specs.Prelude.{◌≡◌};
+ghost use Rattle.cga_derive.specs.Symbols.{symbol_of};
 
 use crate::symbol::Symbol;
-use cga_check::{group_of, mentions_target};
+use cga_check::{symbol_asks, symbol_priority};
 use cga_fraction::NoMemory;
-use cga_rule::{Grammar, Group};
+use cga_rule::Grammar;
 use cga_word::{Name, Target};
 use std::alloc::Global;
 use std::collections::BTreeMap;
 
-/// The symbols of a grammar that were read so far: a group is copied once for each.
+/// The symbols of a grammar that were read so far: the rules are gone through once for each.
 #[derive(Drop)]
 pub struct Symbols {
     pub read: BTreeMap<Name, Symbol>,
@@ -30,7 +30,7 @@ impl Symbols {
     }
 
     /// Takes memory where the symbol comes for the first time.
-    pub fn of(&mut self, alloc: Global, grammar: &Grammar, symbol: Name) -> Result<Symbol, NoMemory>
+    pub fn of(&mut self, grammar: &Grammar, symbol: Name) -> Result<Symbol, NoMemory>
         requires { IsRead grammar.now self.old.read }
         ensures value { IfOk result (λ found. found ≡ symbol_of grammar.now symbol) }
         ensures read { OnOk result (IsRead grammar.now self.new.read) }
@@ -38,31 +38,18 @@ impl Symbols {
         if let Some(found) = self.read.get(&symbol) {
             return Ok(*found);
         }
-        let found = read_symbol(alloc, grammar, symbol)?;
+        let found = read_symbol(grammar, symbol);
         self.read.insert(symbol, found)?;
         Ok(found)
     }
 }
 
-fn read_symbol(alloc: Global, grammar: &Grammar, symbol: Name) -> Result<Symbol, NoMemory>
-    ensures { IfOk result (λ found. found ≡ symbol_of grammar.now symbol) }
-{
-    match group_of(alloc, grammar, symbol)? {
-        Some(group) => Ok(symbol_by(&group)),
-        None => Ok(Symbol {
-            priority: 0,
-            noparent: false,
-            active: false,
-        }),
-    }
-}
-
-fn symbol_by(group: &Group) -> Symbol
-    ensures { result ≡ symbol_by group.now }
+fn read_symbol(grammar: &Grammar, symbol: Name) -> Symbol
+    ensures { result ≡ symbol_of grammar.now symbol }
 {
     Symbol {
-        priority: group.priority,
-        noparent: mentions_target(group, Target::Noparent),
-        active: mentions_target(group, Target::Active),
+        priority: symbol_priority(grammar, symbol).unwrap_or(0),
+        noparent: symbol_asks(grammar, symbol, Target::Noparent),
+        active: symbol_asks(grammar, symbol, Target::Active),
     }
 }

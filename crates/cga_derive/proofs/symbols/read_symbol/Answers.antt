@@ -1,9 +1,7 @@
-use Rattle.std.proofs.Common.{sym, ◌∙◌}
-use Rattle.cga_derive.proofs.Reading.{read_some, read_none}
+use Rattle.std.proofs.Common.{◌∙◌, ap}
+use Rattle.std.specs.Prelude.{unwrap_or}
+use Rattle.cga_derive.proofs.Reading.{read_is}
 use Rattle.cga_derive.proofs.symbols.read_symbol.Goals as goal
 
-pub returns-in-Some : goal.returns-in-Some
-returns-in-Some c = c.symbol_by.ensures ∙ read_some c.args.grammar.now c.args.symbol c.in-Some.group (sym c.in-Some.is ∙ c.in_ok-group.ensures)
-
-pub returns-in-None : goal.returns-in-None
-returns-in-None c = read_none c.args.grammar.now c.args.symbol (sym c.in-None.is ∙ c.in_ok-group.ensures)
+pub returns : goal.returns
+returns c = read_is c.args.grammar.now c.args.symbol c.unwrap_or.result c.symbol_asks.result c.symbol_asks-2.result (c.unwrap_or.ensures ∙ ap (λ o. unwrap_or o 0) c.symbol_priority.ensures) c.symbol_asks.ensures c.symbol_asks-2.ensures

@@ -22,8 +22,11 @@ loop-lot-preserved c =
       boxed = boxed_came c.loop-lot.list.items c.push.new.self.items c.loop-lot.boxes.items c.push-in-loop-lot.new.self.items _ c.world_box-bounds.result c.loop-lot.invariant.boxed c.in_ok-push.ensures.items c.in_ok-push-2.ensures.items c.world_box-bounds.ensures.value;
     }
 
-pub returns-clause-after : goal.returns-clause-after
-returns-clause-after c =
+pub returns : goal.returns
+returns c =
     let sources = c.args.sources.now in
-    let end : length sources.lots ≤ c.loop-lot.lot-index = subst (λ l. length l ≤ c.loop-lot.lot-index) c.as_slice-lot-items.ensures c.loop-lot-test.false in
-    started sources c.requires.names c.loop-lot.lot-index c.loop-lot.list.items c.loop-lot.waiting.entries end c.loop-lot.invariant.list c.loop-lot.invariant.keys
+    let end : length sources.lots ≤ c.loop-lot.lot-index = subst (λ l. length l ≤ c.loop-lot.lot-index) c.as_slice-lot-items.ensures c.loop-lot-test.false in record {
+      after = started sources c.requires.names c.loop-lot.lot-index c.loop-lot.list.items c.loop-lot.waiting.entries end c.loop-lot.invariant.list c.loop-lot.invariant.keys;
+      read = c.loop-lot.invariant.read;
+      boxed = c.loop-lot.invariant.boxed;
+    }
