@@ -6,7 +6,7 @@ use Rattle.cga_order.specs.World.{Among}
 use Rattle.cga_order.specs.declared.placed.Kind.{Kind}
 use Rattle.cga_order.specs.declared.placed.Kind.TheVariants.{Waiting, Done, Faulted, Instance}
 use Rattle.cga_agenda.specs.Record.{Drawn}
-use Rattle.cga_agenda.specs.Work.{Once}
+use Rattle.cga_order.specs.Once.{Once}
 use Rattle.cga_rework.specs.Changes.{ListsLost}
 use Rattle.cga_rework.specs.Ranked.{Ranked}
 use Rattle.cga_shape.specs.declared.drawn.Drawn as reported

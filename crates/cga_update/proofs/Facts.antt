@@ -19,6 +19,7 @@ use Rattle.cga_expand.specs.Settings.{mentions, setting_of}
 use Rattle.cga_rule.specs.declared.grammar.Grammar.{Grammar}
 use Rattle.cga_rule.specs.declared.grammar.Group.{Group}
 use Rattle.cga_word.specs.declared.target.Target.{Target}
+use Rattle.cga_check.specs.Groups as groups
 use Rattle.cga_check.specs.Groups.{first_entry, group, group_with, is_of}
 use Rattle.cga_expand.specs.Asked.{group_asks, asks_for}
 use Rattle.cga_update.specs.declared.changed.Facts.{Facts}
@@ -41,9 +42,14 @@ still_known old new before after symbol facts are known updates = λ name found 
         subst (λ (x : Facts). AreFacts old new name x) is (subst (λ (s : List ℕ). AreFacts old new s facts) same are)
     at name found e false here q = known name found (sym q ∙ e)
 
-pub asked_in : (grammar : Grammar) (symbol : List ℕ) (found : Option Group) (target : Target) → found ≡ group grammar symbol → group_asks found target ≡ asks_for grammar symbol target
+-- a symbol's group asks by the one name and by the other
+pub asked_is : (grammar : Grammar) (symbol : List ℕ) (target : Target) → groups.group_asks (group grammar symbol) target ≡ asks_for grammar symbol target
 unfolding asks_for
-asked_in grammar symbol found target is = ap (λ (o : Option Group). group_asks o target) is
+asked_is grammar symbol target = by (group grammar symbol)
+  where
+    by : (found : Option Group) → groups.group_asks found target ≡ group_asks found target
+    by None = refl
+    by (Some g) = refl
 
 -- ---- which symbols changed
 

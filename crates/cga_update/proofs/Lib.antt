@@ -12,6 +12,7 @@ pub mod Nodes
 pub mod Places
 pub mod DueNodes
 pub mod Following
+pub mod Grammars
 pub mod Moves
 pub mod Moved
 pub mod Children

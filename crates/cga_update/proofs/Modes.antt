@@ -1,5 +1,5 @@
 -- From one mode to another: what comes of no lots, and what goes to none.
-use Rattle.std.proofs.Common.{◌≡◌, ◌≢◌, inl, ℕ, ◌+◌, List, [], ◌∷◌, map, length, Bool, Some, refl, ap, sym, ◌∙◌, subst, arith}
+use Rattle.std.proofs.Common.{◌≡◌, ◌≢◌, inl, ℕ, ◌+◌, List, [], ◌∷◌, map, length, Bool, Some, None, refl, ap, sym, ◌∙◌, subst, arith}
 use Rattle.std.specs.Prelude.{count_by, Err}
 use Rattle.cga_shape.specs.declared.changes.Changes.{Changes}
 use Rattle.cga_shape.specs.declared.drawn.Drawn as reported
@@ -22,6 +22,11 @@ use Rattle.cga_update.specs.Updates.{told, instances, CountsTouched, IsChange, I
 no_lots_derive : (sources : Sources) → derive (derivation_of (with_no_lots sources)) 0 ≡ Some []
 unfolding derive reached
 no_lots_derive sources = refl
+
+pub never_over : (sources nothing : Sources) → nothing ≡ with_no_lots sources → derive (derivation_of nothing) 0 ≡ None → ⊥
+never_over sources nothing is h =
+    let z : Some [] ≡ None = sym (no_lots_derive sources) ∙ (ap (λ (x : Sources). derive (derivation_of x) 0) (sym is) ∙ h) in
+    none_some [] (sym z)
 
 no_names : (sources : Sources) → NamesDiffer (with_no_lots sources).lots
 no_names sources i j a b p q same = none_some {X = Lot} a p

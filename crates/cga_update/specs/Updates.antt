@@ -9,7 +9,8 @@ use Rattle.cga_order.specs.World.{Has, Among}
 use Rattle.cga_order.specs.declared.placed.Kind.TheVariants.{Instance}
 use Rattle.cga_derivation.specs.Derivation.{IsDerived, derive}
 use Rattle.cga_agenda.specs.Record.{Drawn, drawn}
-use Rattle.cga_agenda.specs.Work.{AreSoMany, Once}
+use Rattle.cga_order.specs.Once.{Once}
+use Rattle.cga_agenda.specs.Work.{AreSoMany}
 use Rattle.cga_depend.specs.Pairs.{DependentsView}
 use Rattle.cga_expand.specs.Children.{Member}
 use Rattle.cga_expand.specs.Derivation.{derivation_of}

@@ -1,17 +1,15 @@
 //! What the two grammars of an edit say of a symbol, and for which symbols they differ.
-ghost use Rattle.std.specs.Prelude.{◌≡◌, ◌↔◌, IfOk, IsTrue};
+ghost use Rattle.std.specs.Prelude.{◌≡◌, ◌↔◌, IsTrue};
 ghost use Rattle.std.specs.List.{list_any};
 ghost use Rattle.cga_check.specs.Uses.{same_name};
-ghost use Rattle.cga_check.specs.Groups.{mentions_target};
 ghost use Rattle.cga_expand.specs.Asked.{asks_for};
-ghost use Rattle.cga_word.specs.declared.target.Target.TheVariants.{Noparent, Active};
 ghost use Rattle.cga_expand.specs.Derivation.{priority_of};
 ghost use Rattle.cga_expand.specs.Settings.{setting_of};
 ghost use Rattle.cga_update.specs.Changed.{AreFacts};
 
-use cga_check::{group_of, mentions_target};
+use cga_check::{symbol_asks, symbol_priority};
 use cga_fraction::NoMemory;
-use cga_rule::{Entry, Grammar, Group};
+use cga_rule::{Entry, Grammar};
 use cga_same::same_setting;
 use cga_word::{Name, Target};
 use std::alloc::Global;
@@ -52,25 +50,20 @@ impl Symbols {
     }
 
     /// Takes memory where the symbol comes for the first time; the time goes then by the rules of both grammars.
-    pub fn of(
-        &mut self,
-        alloc: Global,
-        old: &Grammar,
-        new: &Grammar,
-        symbol: Name,
-    ) -> Result<Facts, NoMemory>
+    pub fn of(&mut self, old: &Grammar, new: &Grammar, symbol: Name) -> Result<Facts, NoMemory>
         ensures facts { IfOk result (λ facts. AreKnown old.now new.now self.old.known → AreFacts old.now new.now symbol facts) }
         ensures known { OnOk result (AreKnown old.now new.now self.old.known → AreKnown old.now new.now self.new.known) }
     {
         if let Some(facts) = self.known.get(&symbol) {
             return Ok(*facts);
         }
-        let facts = facts_of(alloc, old, new, symbol)?;
+        let facts = facts_of(old, new, symbol);
         self.known.insert(symbol, facts)?;
         Ok(facts)
     }
 
-    /// The symbols whose setting changed, each once. Takes memory; the time goes by the square of the rules.
+    /// The symbols whose setting changed, each once: none where the grammar is the same. Takes memory; the time goes by
+    /// the square of the rules.
     pub fn changed(
         &mut self,
         alloc: Global,
@@ -81,16 +74,18 @@ impl Symbols {
         ensures listed { IfOk result (λ list. (symbol : List ℕ) → IsNoted old.now new.now list.items symbol) }
         ensures known { OnOk result (AreKnown old.now new.now self.new.known) }
     {
+        if *old == *new {
+            return Ok(Vec::new(alloc));
+        }
         let mut list = Vec::new(alloc);
-        self.note_all(alloc, old, new, old.rules.as_slice(), &mut list)?;
-        self.note_all(alloc, old, new, new.rules.as_slice(), &mut list)?;
+        self.note_all(old, new, old.rules.as_slice(), &mut list)?;
+        self.note_all(old, new, new.rules.as_slice(), &mut list)?;
         Ok(list)
     }
 
     /// Lists the symbols of rules whose setting changed.
     fn note_all(
         &mut self,
-        alloc: Global,
         old: &Grammar,
         new: &Grammar,
         entries: &[Entry],
@@ -102,7 +97,7 @@ impl Symbols {
         ensures known { OnOk result (AreKnown old.now new.now self.new.known) }
     {
         for entry in entries {
-            self.note(alloc, old, new, entry.rule.symbol, list)?;
+            self.note(old, new, entry.rule.symbol, list)?;
         }
         Ok(())
     }
@@ -110,7 +105,6 @@ impl Symbols {
     /// Lists a symbol, where its setting changed and it isn't there.
     fn note(
         &mut self,
-        alloc: Global,
         old: &Grammar,
         new: &Grammar,
         symbol: Name,
@@ -121,7 +115,7 @@ impl Symbols {
         ensures kept { OnOk result (KeepsNoted old.now new.now list.old.items list.new.items) }
         ensures known { OnOk result (AreKnown old.now new.now self.new.known) }
     {
-        let facts = self.of(alloc, old, new, symbol)?;
+        let facts = self.of(old, new, symbol)?;
         if facts.same_setting {
             return Ok(());
         }
@@ -139,68 +133,40 @@ fn has_name(names: &[Name], name: Name) -> bool
     names.iter().any(|other| name == *other)
 }
 
-fn facts_of(alloc: Global, old: &Grammar, new: &Grammar, symbol: Name) -> Result<Facts, NoMemory>
-    ensures { IfOk result (λ facts. AreFacts old.now new.now symbol facts) }
+fn facts_of(old: &Grammar, new: &Grammar, symbol: Name) -> Facts
+    ensures { AreFacts old.now new.now symbol result }
 {
-    let (noparent, active) = targets_of(alloc, new, symbol)?;
-    let same_setting = has_same_setting(alloc, old, new, symbol)?;
+    let same_setting = has_same_setting(old, new, symbol);
     let priority = priority_in(new, symbol);
     let old_priority = priority_in(old, symbol);
-    Ok(Facts {
-        noparent,
-        active,
+    Facts {
+        noparent: asks(new, symbol, Target::Noparent),
+        active: asks(new, symbol, Target::Active),
         priority,
         same_setting,
         same_priority: old_priority == priority,
-    })
-}
-
-/// Whether the symbol's group mentions noparent, and active.
-fn targets_of(alloc: Global, grammar: &Grammar, symbol: Name) -> Result<(bool, bool), NoMemory>
-    ensures noparent { IfOk result (λ found. found.0 ≡ asks_for grammar.now symbol Noparent) }
-    ensures active { IfOk result (λ found. found.1 ≡ asks_for grammar.now symbol Active) }
-{
-    match group_of(alloc, grammar, symbol)? {
-        Some(group) => Ok(targets_in(&group)),
-        None => Ok((false, false)),
     }
 }
 
-fn targets_in(group: &Group) -> (bool, bool)
-    ensures noparent { result.0 ≡ mentions_target group.now Noparent }
-    ensures active { result.1 ≡ mentions_target group.now Active }
+/// Whether the symbol's group mentions the target.
+#[tactic(auto, using(crate::proofs::Facts::asked_is))]
+fn asks(grammar: &Grammar, symbol: Name, target: Target) -> bool
+    ensures { result ≡ asks_for grammar.now symbol target }
 {
-    (
-        mentions_target(group, Target::Noparent),
-        mentions_target(group, Target::Active),
-    )
+    symbol_asks(grammar, symbol, target)
 }
 
 /// The symbol's priority, 0 where it has no rule.
-#[tactic(auto, unfolding(cga_expand::specs::Derivation::priority_of, cga_check::specs::Groups::priority_of, cga_check::specs::Groups::first_entry))]
+#[tactic(auto, unfolding(cga_expand::specs::Derivation::priority_of))]
 fn priority_in(grammar: &Grammar, symbol: Name) -> u16
     ensures { result ≡ priority_of grammar.now symbol }
 {
-    match grammar
-        .rules
-        .as_slice()
-        .iter()
-        .find(|entry| entry.rule.symbol == symbol)
-    {
-        Some(entry) => entry.priority,
-        None => 0,
-    }
+    symbol_priority(grammar, symbol).unwrap_or(0)
 }
 
 /// Whether the symbol's group and the values of the attributes that it mentions are the old ones.
-fn has_same_setting(
-    alloc: Global,
-    old: &Grammar,
-    new: &Grammar,
-    symbol: Name,
-) -> Result<bool, NoMemory>
-    ensures { IfOk result (λ same. IsTrue same ↔ (setting_of old.now symbol ≡ setting_of new.now symbol)) }
+fn has_same_setting(old: &Grammar, new: &Grammar, symbol: Name) -> bool
+    ensures { IsTrue result ↔ (setting_of old.now symbol ≡ setting_of new.now symbol) }
 {
-    let same = same_setting(alloc, old, new, symbol)?;
-    Ok(same)
+    same_setting(old, new, symbol)
 }

@@ -12,6 +12,7 @@ use cga_depend::Dependents;
 use cga_forest::Forest;
 use cga_fraction::{List, NoMemory};
 use cga_index::NodeId;
+use cga_rule::Grammar;
 use cga_shape::Changes;
 use cga_word::Name;
 
@@ -66,6 +67,7 @@ pub fn done(
     requires marked { work.forest.marking ≡ true }
     requires logged { IsLogged (marked_at work.forest) (node_at work.forest) work.log.items }
     requires listed { ListsView dependents.old (marked_at work.forest) }
+    requires mentions { (a : List ℕ) → symbols_in dependents.old a ≡ mentioning work.old.now.grammar a }
     ensures nodes { OnOk result ((c : ℕ) → node_at forest.new c ≡ node_at work.entry.forest c) }
     ensures unmarked { OnOk result (forest.new.marking ≡ false) }
     ensures mode { OnOk result (forest.new.mode ≡ work.entry.forest.mode) }
@@ -81,11 +83,11 @@ pub fn done(
         log,
         gone,
         come,
-        old: _,
+        old,
         new,
     } = work;
     apply(dependents, log.as_slice())?;
-    dependents.set_mentions(&new.grammar)?;
+    renew_mentions(dependents, &old.grammar, &new.grammar)?;
     worked.settle();
     *forest = worked;
     *changes = Changes {
@@ -93,6 +95,18 @@ pub fn done(
         come: List::from_vec(come),
     };
     Ok(())
+}
+
+/// Makes the mentions those of the new grammar, which most edits leave as it is. Takes memory.
+fn renew_mentions(dependents: &mut Dependents, old: &Grammar, new: &Grammar) -> Result<(), NoMemory>
+    requires mentions { (a : List ℕ) → symbols_in dependents.old a ≡ mentioning old.now a }
+    ensures mentions { OnOk result ((a : List ℕ) → symbols_in dependents.new a ≡ mentioning new.now a) }
+    ensures nodes { dependents.new.nodes ≡ dependents.old.nodes }
+{
+    if *old == *new {
+        return Ok(());
+    }
+    dependents.set_mentions(new)
 }
 
 /// The forest as it was at the mark. The time goes by what changed since.

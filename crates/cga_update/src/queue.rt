@@ -137,7 +137,7 @@ fn queue_symbol(
     ensures there { OnOk result (HasThese forest.now (λ c. Member nodes.now c) agenda.new) }
     ensures parents { OnOk result (IsPricedFor forest.now old.now new.now (λ c. Member nodes.now c) symbol agenda.new) }
 {
-    let facts = symbols.of(alloc, old, new, symbol)?;
+    let facts = symbols.of(old, new, symbol)?;
     queue_all(agenda, alloc, forest, nodes)?;
     if facts.same_priority {
         return Ok(());

@@ -72,7 +72,7 @@ fn is_wanted(
     let Some(lot) = lots.get(&name) else {
         return Ok(false);
     };
-    let facts = symbols.of(alloc, &old.grammar, &new.grammar, lot.symbol)?;
+    let facts = symbols.of(&old.grammar, &new.grammar, lot.symbol)?;
     match forest.root_of(name) {
         Some(root) => Ok(is_root_at(alloc, forest, root, lot, facts.priority)),
         None => Ok(true),

@@ -71,7 +71,7 @@ fn facts_at(work: &mut Work, id: NodeId) -> Result<Facts, NoMemory>
         None => unreachable!(),
     };
     work.symbols
-        .of(work.alloc, &work.old.grammar, &work.new.grammar, symbol)
+        .of(&work.old.grammar, &work.new.grammar, symbol)
 }
 
 /// Whether a node waits, or its inputs differ.

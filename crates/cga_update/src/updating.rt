@@ -187,7 +187,9 @@ fn empty<E: Ledger, T: Ledger>(
         alloc, forest, dependents, old, &nothing, 0, changes, expansions, tests,
     ) {
         Ok(_touched) => Ok(()),
-        Err(_refused) => Err(NoMemory),
+        Err(UpdateRefused::NoMemory) => Err(NoMemory),
+        // No lots derive to no shapes.
+        Err(UpdateRefused::OverBudget) => unreachable!(),
     }
 }
 

@@ -3,6 +3,6 @@ use Rattle.cga_update.proofs.changed.has_same_setting.Goals as goal
 
 pub returns : goal.returns
 returns c = (
-  (λ same. setting_is_same c.args.old.now c.args.new.now c.args.symbol (c.in_ok-same.ensures.0 same)),
-  (λ equal. c.in_ok-same.ensures.1 (same_is_setting c.args.old.now c.args.new.now c.args.symbol equal)),
+  (λ same. setting_is_same c.args.old.now c.args.new.now c.args.symbol (c.same_setting.ensures.0 same)),
+  (λ equal. c.same_setting.ensures.1 (same_is_setting c.args.old.now c.args.new.now c.args.symbol equal)),
 )

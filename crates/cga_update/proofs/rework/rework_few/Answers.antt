@@ -1,4 +1,6 @@
-use Rattle.std.proofs.Common.{sym, subst}
+use Rattle.std.proofs.Common.{◌≡◌, ◌∙◌, ap, sym, subst, Bor}
+use Rattle.cga_depend.specs.Mentions.{mentioning}
+use Rattle.cga_shape.specs.declared.sources.Sources.{Sources}
 use Rattle.cga_agenda.specs.Loop.{HasCalled}
 use Rattle.cga_update.specs.Reworked.{HasEnded}
 use Rattle.cga_update.specs.Updates.{IsExact}
@@ -14,6 +16,11 @@ done-requires-clause-listed g c =
     let e = c.in_ok-touched.ensures.ended c.args.old.now c.args.new.now c.args.forest.now c.requires.roots c.in_ok-under_way.ensures.sources c.in_ok-under_way.ensures.begun in
     proof.listed c.args.old.now c.args.new.now c.requires.mode c.requires.old_names c.requires.names c.args.forest.now c.args.dependents.now c.requires.stands
     c.in_ok-under_way.under_way c.work_off.new.under_way c.args.budget c.args.expansions.now c.work_off.new.expansions c.in_ok-under_way.ensures.sources c.work_off.ensures.bounds c.in_ok-under_way.ensures.mark _ e
+
+pub done-requires-clause-mentions : goal.done-requires-clause-mentions
+done-requires-clause-mentions g c =
+    let same : c.work_off.new.under_way.old.now ≡ c.args.old.now = ap (λ (s : Bor Sources). s.now) c.work_off.ensures.bounds.old ∙ c.in_ok-under_way.ensures.sources.0 in
+    λ a. c.requires.stands.dependents.mentions a ∙ ap (λ (s : Sources). mentioning s.grammar a) (sym same)
 
 pub returns-in_ok-done-in-Within-clause-stands : goal.returns-in_ok-done-in-Within-clause-stands
 returns-in_ok-done-in-Within-clause-stands g c =

@@ -1,5 +1,10 @@
-use Rattle.std.proofs.Common.{arith}
-use Rattle.cga_update.proofs.Modes.{empties}
+use Rattle.std.proofs.Common.{◌≡◌, ℕ, None, arith, subst}
+use Rattle.std.specs.Prelude.{Err}
+use Rattle.cga_derivation.specs.Derivation.{derive}
+use Rattle.cga_expand.specs.Derivation.{derivation_of}
+use Rattle.cga_update.specs.declared.update_refused.UpdateRefused.{UpdateRefused}
+use Rattle.cga_update.specs.Updates.{WhereOver}
+use Rattle.cga_update.proofs.Modes.{empties, never_over}
 use Rattle.cga_update.proofs.updating.empty.Goals as goal
 
 pub returns-in-Ok-clause-exact : goal.returns-in-Ok-clause-exact
@@ -10,3 +15,8 @@ returns-in-Ok-clause-spent g c =
     let none = (empties c.args.old.now c.in_ok-nothing.nothing c.in_ok-nothing.ensures c.in-Ok._touched c.rework.new.changes c.in-Ok.ensures.exact).0 in
     let spent = c.in-Ok.ensures.spent in
     omega (arith, none, spent)
+
+pub unreachable-requires : goal.unreachable-requires
+unreachable-requires g c =
+    never_over c.args.old.now c.in_ok-nothing.nothing c.in_ok-nothing.ensures
+    (subst (λ (e : UpdateRefused). WhereOver {A = ℕ} (Err e) (derive (derivation_of c.in_ok-nothing.nothing) 0 ≡ None)) c.in-Err-OverBudget.field-0-is c.in-Err-OverBudget.ensures.over)

@@ -1,5 +1,12 @@
+use Rattle.std.proofs.Common.{inr, ap}
+use Rattle.cga_rule.specs.declared.grammar.Grammar.{Grammar}
+use Rattle.cga_expand.specs.Settings.{setting_of}
+use Rattle.cga_update.proofs.Grammars.{grammar_told}
 use Rattle.cga_update.proofs.Facts.{all_noted, noted_in}
 use Rattle.cga_update.proofs.changed.Symbols.changed.Goals as goal
+
+pub returns-then-eq-clause-listed : goal.returns-then-eq-clause-listed
+returns-then-eq-clause-listed c = λ symbol. inr (ap (λ (g : Grammar). setting_of g symbol) (grammar_told c.args.old.now c.args.new.now c.eq.result c.eq.ensures c.if-eq.true))
 
 pub returns-clause-listed : goal.returns-clause-listed
 returns-clause-listed c = all_noted c.args.old.now c.args.new.now c.note_all-2.new.list.items

@@ -1,0 +1,33 @@
+-- Grammars that pass `==` are equal.
+use Rattle.std.proofs.Common.{◌≡◌, Bool, true, sym, ◌∙◌, eqb-true, nat_eq}
+use Rattle.std.specs.Cmp.{first_so, second_so}
+use lib.Pointwise.{pointwise, bytes_decides}
+use Rattle.cga_rule.specs.declared.grammar.Attribute.{Attribute}
+use Rattle.cga_rule.specs.declared.grammar.Entry.{Entry}
+use Rattle.cga_rule.specs.declared.grammar.Grammar.{Grammar}
+use Rattle.cga_rule.specs.contracts.grammar.AttributePartialEq.TheImpl as attribute
+use Rattle.cga_rule.specs.contracts.grammar.EntryPartialEq.TheImpl as entry
+use Rattle.cga_rule.specs.contracts.grammar.GrammarPartialEq.TheImpl as grammar
+use Rattle.cga_rule.proofs.Told.{Sound, fraction_sound, list_sound}
+use Rattle.cga_rule.proofs.Equal.{rule_equal}
+
+attribute_sound : (a : Attribute) → Sound (attribute.ghosts).eq a
+attribute_sound a b h =
+    let name = (bytes_decides a.name b.name).0 (first_so (pointwise nat_eq a.name b.name) _ h) in
+    let value = fraction_sound a.value b.value (second_so (pointwise nat_eq a.name b.name) _ h) in
+    λ i. record { name = name i; value = value i }
+
+entry_sound : (a : Entry) → Sound (entry.ghosts).eq a
+entry_sound a b h =
+    let priority = eqb-true a.priority b.priority (first_so (nat_eq a.priority b.priority) _ h) in
+    let rule = (rule_equal a.rule b.rule).0 (second_so (nat_eq a.priority b.priority) _ h) in
+    λ i. record { priority = priority i; rule = rule i }
+
+grammar_sound : (a : Grammar) → Sound (grammar.ghosts).eq a
+grammar_sound a b h =
+    let attributes = list_sound (attribute.ghosts).eq attribute_sound a.attributes b.attributes (first_so (pointwise (attribute.ghosts).eq a.attributes b.attributes) _ h) in
+    let rules = list_sound (entry.ghosts).eq entry_sound a.rules b.rules (second_so (pointwise (attribute.ghosts).eq a.attributes b.attributes) _ h) in
+    λ i. record { attributes = attributes i; rules = rules i }
+
+pub grammar_told : (a b : Grammar) (r : Bool) → r ≡ (grammar.ghosts).eq a b → r ≡ true → a ≡ b
+grammar_told a b r is told = grammar_sound a b (sym is ∙ told)
