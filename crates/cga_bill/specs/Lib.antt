@@ -1,0 +1,5 @@
+pub mod Measures
+pub mod Amounts
+pub mod Bill
+pub mod Lines
+pub mod Texts
