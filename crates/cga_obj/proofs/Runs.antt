@@ -6,7 +6,7 @@ use Rattle.std.proofs.lemmas.List.Elements.{filter-append, recursion_from_All}
 use Rattle.std.proofs.lemmas.Slice.Eq.{bytes_eq-Decides}
 use Rattle.std.specs.Prelude.{bytes_eq}
 use Rattle.cga_shape.specs.declared.drawn.Drawn.{Drawn}
-use Rattle.cga_obj.specs.Lots.{StandsBy, drawn_of, is_of, lot_text, lots_text, vertices_in}
+use Rattle.cga_obj.specs.Lots.{Shown, StandsBy, drawn_of, is_of, lot_text, lots_text, vertices_in}
 
 not_true : (r : Bool) → (r ≡ true → ⊥) → r ≡ false
 not_true true h = absurd (h refl)
@@ -58,18 +58,18 @@ others_same lot [] own rest a h = tt
 others_same lot (l ∷ ls) own rest a h =
     (filter-append (is_of l) own rest ∙ ap (λ (t : List Drawn). t ++ drawn_of l rest) (filter_none (is_of l) own (others_fail l lot own (apart lot l a.0) h)), others_same lot ls own rest a.1 h)
 
-texts_same : (decimals before : ℕ) (lots : List (List ℕ)) (xs ys : List Drawn) → AllByRecursion (λ l. drawn_of l xs ≡ drawn_of l ys) lots → lots_text decimals xs before lots ≡ lots_text decimals ys before lots
+texts_same : (mesh : Shown) (decimals before : ℕ) (lots : List (List ℕ)) (xs ys : List Drawn) → AllByRecursion (λ l. drawn_of l xs ≡ drawn_of l ys) lots → lots_text mesh decimals xs before lots ≡ lots_text mesh decimals ys before lots
 unfolding lots_text
-texts_same decimals before [] xs ys h = refl
-texts_same decimals before (l ∷ ls) xs ys h =
-    rw h.0 (ap (λ (t : List ℕ). lot_text decimals before l (drawn_of l ys) ++ t) (texts_same decimals (before + vertices_in (drawn_of l ys)) ls xs ys h.1))
+texts_same mesh decimals before [] xs ys h = refl
+texts_same mesh decimals before (l ∷ ls) xs ys h =
+    rw h.0 (ap (λ (t : List ℕ). lot_text mesh decimals before l (drawn_of l ys) ++ t) (texts_same mesh decimals (before + vertices_in mesh (drawn_of l ys)) ls xs ys h.1))
 
 -- the first n are those of the first lot, and the others stand by the order of the other lots
 pub record FirstRun (lot : List ℕ) (lots : List (List ℕ)) (drawn : List Drawn) (n : ℕ) : Type 0 where
   pub own : take n drawn ≡ drawn_of lot drawn
   pub order : StandsBy lots (drop n drawn)
   pub distinct : IsDistinct bytes_eq lots
-  pub texts : (decimals before : ℕ) → lots_text decimals drawn before lots ≡ lots_text decimals (drop n drawn) before lots
+  pub texts : (mesh : Shown) (decimals before : ℕ) → lots_text mesh decimals drawn before lots ≡ lots_text mesh decimals (drop n drawn) before lots
 
 run_at : (lot : List ℕ) (lots : List (List ℕ)) (own rest : List Drawn) → AllByRecursion (λ y. bytes_eq lot y ≡ false) lots → IsDistinct bytes_eq lots
     → AllByRecursion (λ d. d.lot ≡ lot) own → StandsBy lots rest → FirstRun lot lots (own ++ rest) (length own)
@@ -81,7 +81,7 @@ run_at lot lots own rest a distinct h stands =
       own = take_at own rest (length own) refl ∙ sym passed;
       order = rw left stands;
       distinct = distinct;
-      texts = λ decimals before. rw left (texts_same decimals before lots (own ++ rest) rest (others_same lot lots own rest a h));
+      texts = λ mesh decimals before. rw left (texts_same mesh decimals before lots (own ++ rest) rest (others_same lot lots own rest a h));
     }
 
 pub first_run : (lot : List ℕ) (lots : List (List ℕ)) (drawn : List Drawn) (n : ℕ) → IsDistinct bytes_eq (lot ∷ lots) → StandsBy (lot ∷ lots) drawn → n ≡ prefix_len (is_of lot) drawn → FirstRun lot lots drawn n
@@ -101,29 +101,29 @@ run_from lots i lot rest n h at distinct stands k =
     let e : drop i lots ≡ lot ∷ drop (i + 1) lots = drop_first lots i lot h at in
     first_run lot (drop (i + 1) lots) rest n (subst (IsDistinct bytes_eq) e distinct) (subst (λ (l : List (List ℕ)). StandsBy l rest) e stands) k
 
-lots_cons : (decimals before : ℕ) (drawn : List Drawn) (lot : List ℕ) (lots : List (List ℕ))
-    → lots_text decimals drawn before (lot ∷ lots) ≡ lot_text decimals before lot (drawn_of lot drawn) ++ lots_text decimals drawn (before + vertices_in (drawn_of lot drawn)) lots
+lots_cons : (mesh : Shown) (decimals before : ℕ) (drawn : List Drawn) (lot : List ℕ) (lots : List (List ℕ))
+    → lots_text mesh decimals drawn before (lot ∷ lots) ≡ lot_text mesh decimals before lot (drawn_of lot drawn) ++ lots_text mesh decimals drawn (before + vertices_in mesh (drawn_of lot drawn)) lots
 unfolding lots_text
-lots_cons decimals before drawn lot lots = refl
+lots_cons mesh decimals before drawn lot lots = refl
 
-lots_none : (decimals before : ℕ) (drawn : List Drawn) → lots_text decimals drawn before [] ≡ []
+lots_none : (mesh : Shown) (decimals before : ℕ) (drawn : List Drawn) → lots_text mesh decimals drawn before [] ≡ []
 unfolding lots_text
-lots_none decimals before drawn = refl
+lots_none mesh decimals before drawn = refl
 
 -- one lot more, then those that are left
-pub one_lot : (decimals before after : ℕ) (lots : List (List ℕ)) (i : ℕ) (lot : List ℕ) (rest own left : List Drawn) (n : ℕ) (old new all : List ℕ) → i < length lots → get_or lots i lot ≡ lot
-    → FirstRun lot (drop (i + 1) lots) rest n → own ≡ take n rest → left ≡ drop n rest → after ≡ before + vertices_in own → new ≡ old ++ lot_text decimals before lot own
-    → old ++ lots_text decimals rest before (drop i lots) ≡ all → new ++ lots_text decimals left after (drop (i + 1) lots) ≡ all
-one_lot decimals before after lots i lot rest own left n old new all h at run o l a e f =
+pub one_lot : (mesh : Shown) (decimals before after : ℕ) (lots : List (List ℕ)) (i : ℕ) (lot : List ℕ) (rest own left : List Drawn) (n : ℕ) (old new all : List ℕ) → i < length lots → get_or lots i lot ≡ lot
+    → FirstRun lot (drop (i + 1) lots) rest n → own ≡ take n rest → left ≡ drop n rest → after ≡ before + vertices_in mesh own → new ≡ old ++ lot_text mesh decimals before lot own
+    → old ++ lots_text mesh decimals rest before (drop i lots) ≡ all → new ++ lots_text mesh decimals left after (drop (i + 1) lots) ≡ all
+one_lot mesh decimals before after lots i lot rest own left n old new all h at run o l a e f =
     let mine : own ≡ drawn_of lot rest = o ∙ run.own in
     let more : List (List ℕ) = drop (i + 1) lots in
-    let text : old ++ lots_text decimals rest before (drop i lots) ≡ old ++ (lot_text decimals before lot (drawn_of lot rest) ++ lots_text decimals rest (before + vertices_in (drawn_of lot rest)) more) =
-    ap (λ (t : List (List ℕ)). old ++ lots_text decimals rest before t) (drop_first lots i lot h at) ∙ ap (λ (t : List ℕ). old ++ t) (lots_cons decimals before rest lot more) in
-    rw (e, a, mine, l) (append_assoc old (lot_text decimals before lot (drawn_of lot rest)) (lots_text decimals (drop n rest) (before + vertices_in (drawn_of lot rest)) more)
-    ∙ ap (λ (t : List ℕ). old ++ (lot_text decimals before lot (drawn_of lot rest) ++ t)) (sym (run.texts decimals (before + vertices_in (drawn_of lot rest)))) ∙ sym text ∙ f)
+    let text : old ++ lots_text mesh decimals rest before (drop i lots) ≡ old ++ (lot_text mesh decimals before lot (drawn_of lot rest) ++ lots_text mesh decimals rest (before + vertices_in mesh (drawn_of lot rest)) more) =
+    ap (λ (t : List (List ℕ)). old ++ lots_text mesh decimals rest before t) (drop_first lots i lot h at) ∙ ap (λ (t : List ℕ). old ++ t) (lots_cons mesh decimals before rest lot more) in
+    rw (e, a, mine, l) (append_assoc old (lot_text mesh decimals before lot (drawn_of lot rest)) (lots_text mesh decimals (drop n rest) (before + vertices_in mesh (drawn_of lot rest)) more)
+    ∙ ap (λ (t : List ℕ). old ++ (lot_text mesh decimals before lot (drawn_of lot rest) ++ t)) (sym (run.texts mesh decimals (before + vertices_in mesh (drawn_of lot rest)))) ∙ sym text ∙ f)
 
 -- no lot is left
-pub no_lot : (decimals before : ℕ) (lots : List (List ℕ)) (i : ℕ) (rest : List Drawn) (old all : List ℕ) → length lots ≤ i → old ++ lots_text decimals rest before (drop i lots) ≡ all → old ≡ all
-no_lot decimals before lots i rest old all h f =
-    sym (append-nil old) ∙ ap (λ (t : List ℕ). old ++ t) (sym (lots_none decimals before rest))
-    ∙ sym (at_drop_all (λ (r : List (List ℕ)). old ++ lots_text decimals rest before r) lots i h) ∙ f
+pub no_lot : (mesh : Shown) (decimals before : ℕ) (lots : List (List ℕ)) (i : ℕ) (rest : List Drawn) (old all : List ℕ) → length lots ≤ i → old ++ lots_text mesh decimals rest before (drop i lots) ≡ all → old ≡ all
+no_lot mesh decimals before lots i rest old all h f =
+    sym (append-nil old) ∙ ap (λ (t : List ℕ). old ++ t) (sym (lots_none mesh decimals before rest))
+    ∙ sym (at_drop_all (λ (r : List (List ℕ)). old ++ lots_text mesh decimals rest before r) lots i h) ∙ f

@@ -1,5 +1,5 @@
 -- The lines of a solid.
-use Rattle.std.specs.Prelude.{ℕ, ◌+◌, List, [], ◌++◌, Result, Ok, Err, codes, decimal, flat_map, length}
+use Rattle.std.specs.Prelude.{ℕ, ◌+◌, List, [], ◌++◌, Result, Ok, Err, codes, decimal, flat_map}
 use Rattle.cga_fraction.specs.Texts.{decimal_text_of}
 use Rattle.cga_frame.specs.declared.point.Point.{Point}
 use Rattle.cga_shape.specs.declared.drawn.Drawn.{Drawn}
@@ -31,7 +31,3 @@ mesh_or_none (Err e) = record { vertices = []; faces = [] }
 
 abbrev pub mesh_drawn : Drawn → SolidMesh
 mesh_drawn d = mesh_or_none (mesh_of d.primitive d.scope)
-
--- how many vertices a solid has
-abbrev pub vertex_count : Drawn → ℕ
-vertex_count d = length (mesh_drawn d).vertices

@@ -1,5 +1,6 @@
 ghost use Rattle.std.specs.Prelude.{◌≡◌, ◌++◌, IfOk, OnOk, flat_map};
-ghost use Rattle.cga_obj.specs.Faults.{fault_code, fault_line, fault_text_of, index_text, path_text};
+ghost use Rattle.cga_obj.specs.Faults as spec;
+ghost use Rattle.cga_obj.specs.Faults.{fault_line, fault_text_of, index_text, path_text};
 
 use cga_fraction::{List, NoMemory, Text};
 use cga_shape::{FaultLine, ShapeFault};
@@ -22,8 +23,9 @@ fn push_indices(text: &mut Text, path: &[u16]) -> Result<(), NoMemory>
     Ok(())
 }
 
+/// Adds a path: a stroke for a root, and otherwise one before each index.
 #[tactic(auto, unfolding(crate::specs::Faults::path_text))]
-fn push_path(text: &mut Text, path: &[u16]) -> Result<(), NoMemory>
+pub fn push_path(text: &mut Text, path: &[u16]) -> Result<(), NoMemory>
     ensures { OnOk result (text.new ≡ text.old ++ path_text path.now) }
 {
     match path {
@@ -32,9 +34,10 @@ fn push_path(text: &mut Text, path: &[u16]) -> Result<(), NoMemory>
     }
 }
 
+/// The name of a fault, as it is printed.
 #[tactic(auto, unfolding(crate::specs::Faults::fault_code))]
-fn code(fault: ShapeFault) -> &'static [u8]
-    ensures { result.now ≡ fault_code fault }
+pub fn fault_code(fault: ShapeFault) -> &'static [u8]
+    ensures { result.now ≡ spec.fault_code fault }
 {
     match fault {
         ShapeFault::TooDeep => b"TooDeep",
@@ -62,7 +65,7 @@ fn push_fault(text: &mut Text, line: &FaultLine) -> Result<(), NoMemory>
     text.push(b" ")?;
     text.push(line.symbol.bytes())?;
     text.push(b" ")?;
-    text.push(code(line.fault))?;
+    text.push(fault_code(line.fault))?;
     text.push(b"\n")
 }
 

@@ -5,10 +5,9 @@
 
 mod faults;
 mod mesh;
+mod meshes;
 mod obj;
 
-pub use faults::fault_text;
-pub use obj::obj_text;
-
-#[cfg(test)]
-mod tests;
+pub use faults::{fault_code, fault_text, push_path};
+pub use meshes::{Meshes, Solids};
+pub use obj::{obj_text, text_by};

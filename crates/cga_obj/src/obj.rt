@@ -1,26 +1,14 @@
 ghost use Rattle.std.specs.Prelude.{◌≡◌, ◌≤◌, ◌^◌, ◌+◌, ◌*◌, ◌++◌, IfOk, IsOk, OnOk, bytes_eq, codes, length};
 ghost use Rattle.std.specs.List.{IsDistinct, prefix_len};
 ghost use Rattle.cga_solid.specs.Solids.{check_solid_of};
-ghost use Rattle.cga_obj.specs.Meshes.{mesh_drawn, vertex_count};
-ghost use Rattle.cga_obj.specs.Lots.{AreSolid, StandsBy, instance_text, instances_text, is_of, lot_text, lots_text, obj_text_of, vertices_in};
+ghost use Rattle.cga_obj.specs.Lots.{AreSolid, StandsBy, instance_text, instances_text, is_of, lot_text, lots_text, obj_text_of, text_by, vertex_count, vertices_in};
 
 use crate::mesh::push_mesh;
+use crate::meshes::{Meshes, Solids};
 use cga_fraction::{List, NoMemory, Text};
 use cga_shape::Drawn;
-use cga_solid::{SolidMesh, mesh};
 use cga_word::Name;
 use std::alloc::Global;
-
-// The mesh of what is drawn.
-fn mesh_of(alloc: Global, drawn: &Drawn) -> Result<SolidMesh, NoMemory>
-    requires { IsOk (check_solid_of drawn.now.primitive drawn.now.scope) }
-    ensures { IfOk result (λ mesh. mesh ≡ mesh_drawn drawn.now) }
-{
-    match mesh(alloc, drawn.primitive, &drawn.scope)? {
-        Ok(mesh) => Ok(mesh),
-        Err(_) => unreachable!(),
-    }
-}
 
 // Adds a line of a word and a name.
 fn push_name(text: &mut Text, word: &[u8], name: &Name) -> Result<(), NoMemory>
@@ -34,8 +22,9 @@ fn push_name(text: &mut Text, word: &[u8], name: &Name) -> Result<(), NoMemory>
 
 // Adds an instance, and gives the number of its vertices.
 #[tactic(auto, unfolding(crate::specs::Lots::instance_text))]
-fn push_instance(
+fn push_instance<M: Meshes>(
     alloc: Global,
+    meshes: &M,
     text: &mut Text,
     decimals: u8,
     before: u128,
@@ -45,18 +34,19 @@ fn push_instance(
     requires room { before + 2 ^ 64 ≤ 2 ^ 128 }
     requires solid { IsOk (check_solid_of drawn.now.primitive drawn.now.scope) }
     ensures text { OnOk result
-        (text.new ≡ text.old ++ instance_text decimals before drawn.now) }
-    ensures count { IfOk result (λ count. count ≡ vertex_count drawn.now) }
+        (text.new ≡ text.old ++ instance_text (M.mesh_of meshes.now) decimals before drawn.now) }
+    ensures count { IfOk result (λ count. count ≡ vertex_count (M.mesh_of meshes.now) drawn.now) }
 {
     push_name(text, b"g ", &drawn.symbol)?;
-    let mesh = mesh_of(alloc, drawn)?;
+    let mesh = meshes.mesh(alloc, drawn)?;
     push_mesh(text, decimals, before, &mesh)?;
     Ok(mesh.vertices.len())
 }
 
 // Adds these, and gives the number of vertices behind them.
-fn push_instances(
+fn push_instances<M: Meshes>(
     alloc: Global,
+    meshes: &M,
     text: &mut Text,
     decimals: u8,
     before: u128,
@@ -66,20 +56,21 @@ fn push_instances(
     requires room { before + length drawn.now * 2 ^ 64 + 2 ^ 64 ≤ 2 ^ 128 }
     requires solid { AreSolid drawn.now }
     ensures text { OnOk result
-        (text.new ≡ text.old ++ instances_text decimals before drawn.now) }
-    ensures count { IfOk result (λ after. after ≡ before + vertices_in drawn.now) }
+        (text.new ≡ text.old ++ instances_text (M.mesh_of meshes.now) decimals before drawn.now) }
+    ensures count { IfOk result (λ after. after ≡ before + vertices_in (M.mesh_of meshes.now) drawn.now) }
     ensures room { IfOk result (λ after. after ≤ before + length drawn.now * 2 ^ 64) }
 {
     let mut after = before;
     for instance in drawn {
-        after += push_instance(alloc, text, decimals, after, instance)? as u128;
+        after += push_instance(alloc, meshes, text, decimals, after, instance)? as u128;
     }
     Ok(after)
 }
 
 #[tactic(auto, unfolding(crate::specs::Lots::lot_text))]
-fn push_lot(
+fn push_lot<M: Meshes>(
     alloc: Global,
+    meshes: &M,
     text: &mut Text,
     decimals: u8,
     before: u128,
@@ -90,12 +81,12 @@ fn push_lot(
     requires room { before + length drawn.now * 2 ^ 64 + 2 ^ 64 ≤ 2 ^ 128 }
     requires solid { AreSolid drawn.now }
     ensures text { OnOk result
-        (text.new ≡ text.old ++ lot_text decimals before lot.now drawn.now) }
-    ensures count { IfOk result (λ after. after ≡ before + vertices_in drawn.now) }
+        (text.new ≡ text.old ++ lot_text (M.mesh_of meshes.now) decimals before lot.now drawn.now) }
+    ensures count { IfOk result (λ after. after ≡ before + vertices_in (M.mesh_of meshes.now) drawn.now) }
     ensures room { IfOk result (λ after. after ≤ before + length drawn.now * 2 ^ 64) }
 {
     push_name(text, b"o ", lot)?;
-    push_instances(alloc, text, decimals, before, drawn)
+    push_instances(alloc, meshes, text, decimals, before, drawn)
 }
 
 // How many at the front are the lot's.
@@ -108,8 +99,9 @@ fn own_count(lot: &Name, drawn: &[Drawn]) -> usize
         .count()
 }
 
-fn push_lots(
+fn push_lots<M: Meshes>(
     alloc: Global,
+    meshes: &M,
     text: &mut Text,
     decimals: u8,
     lots: &[Name],
@@ -120,21 +112,42 @@ fn push_lots(
     requires distinct { IsDistinct bytes_eq lots.now }
     requires solid { AreSolid drawn.now }
     ensures { OnOk result
-        (text.new ≡ text.old ++ lots_text decimals drawn.now 0 lots.now) }
+        (text.new ≡ text.old ++ lots_text (M.mesh_of meshes.now) decimals drawn.now 0 lots.now) }
 {
     let mut rest = drawn;
     let mut before = 0;
     for lot in lots {
         let (own, others) = rest.split_at(own_count(lot, rest));
-        before = push_lot(alloc, text, decimals, before, lot, own)?;
+        before = push_lot(alloc, meshes, text, decimals, before, lot, own)?;
         rest = others;
     }
     Ok(())
 }
 
-/// The text of lots and of what is drawn in them: `o NAME` for each lot, then for each of its instances `g SYMBOL`,
-/// lines `v X Y Z` with so many decimals, and lines `f I J K ..`. Takes memory, for one mesh at a time beside the
-/// text.
+/// The text of lots and of what is drawn in them, where these meshes stand for it: `o NAME` for each lot, then for each of
+/// its instances `g SYMBOL`, lines `v X Y Z` with so many decimals, and lines `f I J K ..`. Takes memory, for one mesh at a
+/// time beside the text.
+#[tactic(auto, unfolding(crate::specs::Lots::text_by))]
+pub fn text_by<M: Meshes>(
+    alloc: Global,
+    meshes: &M,
+    lots: &[Name],
+    drawn: &[Drawn],
+    decimals: u8,
+) -> Result<List<u8>, NoMemory>
+    requires few { decimals ≤ 9 }
+    requires order { StandsBy lots.now drawn.now }
+    requires distinct { IsDistinct bytes_eq lots.now }
+    requires solid { AreSolid drawn.now }
+    ensures { IfOk result (λ text. text ≡ text_by (M.mesh_of meshes.now) lots.now drawn.now decimals) }
+{
+    let mut text = Text::new(alloc);
+    text.push(b"# cga_city obj\n")?;
+    push_lots(alloc, meshes, &mut text, decimals, lots, drawn)?;
+    Ok(text.into_list())
+}
+
+/// The same with the solids that are drawn.
 #[tactic(auto, unfolding(crate::specs::Lots::obj_text_of))]
 pub fn obj_text(
     alloc: Global,
@@ -148,8 +161,5 @@ pub fn obj_text(
     requires solid { AreSolid drawn.now }
     ensures { IfOk result (λ text. text ≡ obj_text_of lots.now drawn.now decimals) }
 {
-    let mut text = Text::new(alloc);
-    text.push(b"# cga_city obj\n")?;
-    push_lots(alloc, &mut text, decimals, lots, drawn)?;
-    Ok(text.into_list())
+    text_by(alloc, &Solids, lots, drawn, decimals)
 }

@@ -9,13 +9,13 @@ use Rattle.cga_obj.proofs.Runs.{no_lot, one_lot, run_from}
 use Rattle.cga_obj.proofs.obj.push_lots.Goals as goal
 
 pub split_at-requires : goal.split_at-requires
-split_at-requires c = subst (λ (n : ℕ). n ≤ length c.loop-lot.rest.now) (sym c.own_count.ensures) (prefix_len-le-length (is_of c.lot-item.result) c.loop-lot.rest.now)
+split_at-requires g c = subst (λ (n : ℕ). n ≤ length c.loop-lot.rest.now) (sym c.own_count.ensures) (prefix_len-le-length (is_of c.lot-item.result) c.loop-lot.rest.now)
 
 pub loop-lot-preserved : goal.loop-lot-preserved
-loop-lot-preserved c =
+loop-lot-preserved g c =
     let run = run_from c.args.lots.now c.loop-lot.lot-index c.lot-item.result c.loop-lot.rest.now c.own_count.result c.loop-lot-test.true (sym c.lot-item.is) c.loop-lot.invariant.distinct c.loop-lot.invariant.order c.own_count.ensures in
     record {
-      text = one_lot _ _ _ c.args.lots.now _ _ c.loop-lot.rest.now _ _ _ _ _ _ c.loop-lot-test.true (sym c.lot-item.is) run c.split_at.ensures.front c.split_at.ensures.back c.in_ok-before.ensures.count c.in_ok-before.ensures.text c.loop-lot.invariant.text;
+      text = one_lot (g.M.Meshes.mesh_of c.args.meshes.now) _ _ _ c.args.lots.now _ _ c.loop-lot.rest.now _ _ _ _ _ _ c.loop-lot-test.true (sym c.lot-item.is) run c.split_at.ensures.front c.split_at.ensures.back c.in_ok-before.ensures.count c.in_ok-before.ensures.text c.loop-lot.invariant.text;
       order = subst (StandsBy _) (sym c.split_at.ensures.back) run.order;
       distinct = run.distinct;
       solid = subst AreSolid (sym c.split_at.ensures.back) (All-drop (λ (d : Drawn). IsOk (check_solid_of d.primitive d.scope)) c.own_count.result c.loop-lot.rest.now c.loop-lot.invariant.solid);
@@ -23,4 +23,4 @@ loop-lot-preserved c =
     }
 
 pub returns : goal.returns
-returns c = no_lot _ _ c.args.lots.now _ c.loop-lot.rest.now _ _ c.loop-lot-test.false c.loop-lot.invariant.text
+returns g c = no_lot (g.M.Meshes.mesh_of c.args.meshes.now) _ _ c.args.lots.now _ c.loop-lot.rest.now _ _ c.loop-lot-test.false c.loop-lot.invariant.text

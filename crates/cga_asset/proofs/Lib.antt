@@ -1,0 +1,5 @@
+pub mod Corners
+pub mod Digits
+pub mod Faces
+pub mod Reading
+pub mod Large
