@@ -1,0 +1,13 @@
+pub mod Again
+pub mod Cutting
+pub mod Parts
+pub mod LineWords
+pub mod Sorted
+pub mod Kept
+pub mod Places
+pub mod Listing
+pub mod Entries
+pub mod Turning
+pub mod Tells
+pub mod TraceLines
+pub mod Judging

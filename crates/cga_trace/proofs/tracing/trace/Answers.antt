@@ -1,0 +1,22 @@
+use Rattle.std.proofs.Common.{length, sym, ◌∙◌, subst}
+use Rattle.cga_expand.specs.Run.{IsRun}
+use Rattle.cga_trace.proofs.Turning.{are_inside, begins, turn, ends, none_left}
+use Rattle.cga_trace.proofs.tracing.trace.Goals as goal
+
+pub order_of-requires : goal.order_of-requires
+order_of-requires c = record {
+  inside = are_inside c.args.forest.now c.laws.ensures c.as_slice.result.now (c.as_slice.ensures.value ∙ c.in_ok-nodes.ensures);
+}
+
+pub loop-key-init : goal.loop-key-init
+loop-key-init c = λ sources end known.
+    begins sources end c.args.forest.now known c.laws.ensures c.as_slice.result.now (c.as_slice.ensures.value ∙ c.in_ok-nodes.ensures) c.in_ok-order.order.entries c.in_ok-order.ensures c.new-steps.result.items c.new-steps.ensures.items
+
+pub loop-key-preserved : goal.loop-key-preserved
+loop-key-preserved c = λ sources end known.
+    turn sources end c.args.forest.now known c.in-Some._key c.in-Some.step c.loop-key.order.entries c.pop_first.new.self.entries c.in-Some.ensures.removal c.in-Some.ensures.all_above c.loop-key.steps.items c.push.new.self.items c.in_ok-push.ensures.items (c.loop-key.invariant sources end known)
+
+pub returns : goal.returns
+returns c = λ sources end known.
+    let none = none_left c.pop_first.result (length c.loop-key.order.entries) c.in_default.is c.pop_first.ensures.variant in
+    subst (IsRun sources) (sym c.from_vec.ensures) (ends sources end c.args.forest.now known c.loop-key.steps.items c.loop-key.order.entries none (c.loop-key.invariant sources end known))

@@ -1,0 +1,9 @@
+pub mod Words
+pub mod Text
+pub mod Cut
+pub mod Sorted
+pub mod Kept
+pub mod Order
+pub mod Laws
+pub mod Judged
+pub mod JudgeLines

@@ -1,0 +1,25 @@
+//! The run of a derivation: told from the forest that is kept, written as text, and read again; with
+//! the walk over the forest that it goes by, which reports go by too.
+//!
+//! It must not know how a derivation goes, nor what is judged. What callers get wrong: a line is read
+//! as it is, so that one with a further blank, a comment or a leading zero is the text of no step.
+#![tactic(auto)]
+
+mod cuts;
+mod fields;
+mod judge_reader;
+pub mod laws;
+pub mod limits;
+mod reading;
+mod step_words;
+mod text;
+mod tracing;
+mod walk;
+mod words;
+
+pub use fields::are_steps;
+pub use judge_reader::JudgeReader;
+pub use reading::read_step;
+pub use text::{judged_text, trace_text};
+pub use tracing::trace;
+pub use walk::{child_of, list_from, root_of};
