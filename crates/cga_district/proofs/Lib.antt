@@ -1,0 +1,3 @@
+pub mod Districts
+pub mod Towns
+pub mod Parts

@@ -1,0 +1,5 @@
+use Rattle.cga_district.proofs.Districts.{districts}
+use Rattle.cga_district.proofs.laws.districts_are_apart.Goals as goal
+
+pub returns : goal.returns
+returns g c = districts
