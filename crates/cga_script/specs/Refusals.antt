@@ -1,5 +1,9 @@
 -- The texts of refusals.
 use Rattle.std.specs.Prelude.{ℕ, List, [], ◌++◌, Option, Some, None, codes, decimal}
+use Rattle.cga_asset.specs.declared.fault.AssetFault.{AssetFault}
+use Rattle.cga_asset.specs.declared.fault.AssetFault.TheVariants as asset
+use Rattle.cga_asset.specs.declared.wardrobe_fault.WardrobeFault.{WardrobeFault}
+use Rattle.cga_asset.specs.declared.wardrobe_fault.WardrobeFault.TheVariants as wardrobe
 use Rattle.cga_rule.specs.declared.check_fault.CheckFault.{CheckFault}
 use Rattle.cga_rule.specs.declared.check_fault.CheckFault.TheVariants as check
 use Rattle.cga_form.specs.declared.line_fault.LineFault.{LineFault}
@@ -107,6 +111,28 @@ edit_text (edit.Check f) = check_text f
 edit_text edit.OverBudget = codes "OverBudget"
 edit_text edit.NoMemory = []
 
+-- ---- assets
+
+-- in a line of a block
+abbrev pub code_at : List ℕ → ℕ → List ℕ
+code_at code line = code ++ codes " at " ++ decimal line
+
+unfoldable pub asset_text : AssetFault → List ℕ
+asset_text (asset.LineTooLong line) = code_at (codes "LineTooLong") line
+asset_text (asset.UnknownLine line) = code_at (codes "UnknownLine") line
+asset_text (asset.BadVertex line) = code_at (codes "BadVertex") line
+asset_text (asset.BadFace line) = code_at (codes "BadFace") line
+asset_text (asset.TooManyVertices line) = code_at (codes "TooManyVertices") line
+asset_text (asset.TooManyFaces line) = code_at (codes "TooManyFaces") line
+asset_text asset.NoFace = codes "NoFace"
+
+-- want of memory has no text
+unfoldable pub wardrobe_text : WardrobeFault → List ℕ
+wardrobe_text wardrobe.TooManyAssets = codes "TooManyAssets"
+wardrobe_text (wardrobe.NoAsset name) = with_name (codes "NoAsset") name
+wardrobe_text wardrobe.TooManyDresses = codes "TooManyDresses"
+wardrobe_text wardrobe.NoMemory = []
+
 -- ---- all refusals
 
 unfoldable pub cause_text : Refused → List ℕ
@@ -115,6 +141,8 @@ cause_text (r.Block f) = block_text f.line f.fault
 cause_text r.OpenBlock = codes "OpenBlock"
 cause_text (r.Edit e) = edit_text e
 cause_text (r.LongDump id) = with_id (codes "LongDump") id
+cause_text (r.Asset f) = asset_text f
+cause_text (r.Wardrobe f) = wardrobe_text f
 cause_text (r.NoDress name) = with_name (codes "NoDress") name
 cause_text r.ModelTooLarge = codes "ModelTooLarge"
 cause_text r.NoUndo = codes "NoUndo"

@@ -4,13 +4,9 @@
 //! one thing wrong: a line that is ready has to be cleared before more is fed.
 #![tactic(auto)]
 
-#[cfg(test)]
-mod block_tests;
 pub mod city_gathered;
 mod city_line;
 pub mod command_form;
-#[cfg(test)]
-mod command_tests;
 mod dump;
 mod ending;
 mod fed;
@@ -19,18 +15,10 @@ mod laws;
 mod lines;
 mod long_dump;
 pub mod lot_form;
-#[cfg(test)]
-mod lot_tests;
-#[cfg(test)]
-mod refusal_tests;
 mod refusals;
 mod refused;
 mod script_command;
-#[cfg(test)]
-mod shown;
 mod telling_lines;
-#[cfg(test)]
-mod tests;
 mod version;
 mod words;
 

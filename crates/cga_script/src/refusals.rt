@@ -1,9 +1,11 @@
 //! The replies to what is refused.
 ghost use Rattle.std.specs.Prelude.{◌≡◌, ◌≢◌, ◌++◌, IfOk, OnOk};
+ghost use Rattle.cga_asset.specs.declared.wardrobe_fault.WardrobeFault.TheVariants as wardrobe;
 ghost use Rattle.cga_script.specs.Refusals as spec;
 ghost use Rattle.cga_shape.specs.declared.edit_refused.EditRefused.TheVariants as edit;
 
 use crate::refused::Refused;
+use cga_asset::{AssetFault, WardrobeFault};
 use cga_form::{BlockFault, LineFault};
 use cga_fraction::{List, NoMemory, Text};
 use cga_shape::EditRefused;
@@ -165,9 +167,46 @@ fn push_edit(text: &mut Text, refused: &EditRefused) -> Result<(), NoMemory>
     }
 }
 
+fn push_at(text: &mut Text, code: &[u8], line: u32) -> Result<(), NoMemory>
+    ensures { OnOk result (text.new ≡ text.old ++ spec.code_at code.now line) }
+{
+    text.push(code)?;
+    text.push(b" at ")?;
+    text.push_whole(u128::from(line))
+}
+
+#[tactic(auto, unfolding(crate::specs::Refusals::asset_text))]
+fn push_asset(text: &mut Text, fault: AssetFault) -> Result<(), NoMemory>
+    ensures { OnOk result (text.new ≡ text.old ++ spec.asset_text fault) }
+{
+    match fault {
+        AssetFault::LineTooLong(line) => push_at(text, b"LineTooLong", line),
+        AssetFault::UnknownLine(line) => push_at(text, b"UnknownLine", line),
+        AssetFault::BadVertex(line) => push_at(text, b"BadVertex", line),
+        AssetFault::BadFace(line) => push_at(text, b"BadFace", line),
+        AssetFault::TooManyVertices(line) => push_at(text, b"TooManyVertices", line),
+        AssetFault::TooManyFaces(line) => push_at(text, b"TooManyFaces", line),
+        AssetFault::NoFace => text.push(b"NoFace"),
+    }
+}
+
+#[tactic(auto, unfolding(crate::specs::Refusals::wardrobe_text))]
+fn push_wardrobe(text: &mut Text, fault: WardrobeFault) -> Result<(), NoMemory>
+    requires { fault ≢ wardrobe.NoMemory }
+    ensures { OnOk result (text.new ≡ text.old ++ spec.wardrobe_text fault) }
+{
+    match fault {
+        WardrobeFault::TooManyAssets => text.push(b"TooManyAssets"),
+        WardrobeFault::NoAsset(name) => push_with_name(text, b"NoAsset", name),
+        WardrobeFault::TooManyDresses => text.push(b"TooManyDresses"),
+        WardrobeFault::NoMemory => unreachable!(),
+    }
+}
+
 #[tactic(auto, unfolding(crate::specs::Refusals::cause_text))]
 fn push_cause(text: &mut Text, refused: &Refused) -> Result<(), NoMemory>
-    requires { refused.now ≢ Refused.Edit edit.NoMemory }
+    requires edit { refused.now ≢ Refused.Edit edit.NoMemory }
+    requires wardrobe { refused.now ≢ Refused.Wardrobe wardrobe.NoMemory }
     ensures { OnOk result (text.new ≡ text.old ++ spec.cause_text refused.now) }
 {
     match refused {
@@ -176,6 +215,8 @@ fn push_cause(text: &mut Text, refused: &Refused) -> Result<(), NoMemory>
         Refused::OpenBlock => text.push(b"OpenBlock"),
         Refused::Edit(refused) => push_edit(text, refused),
         Refused::LongDump(id) => push_with_id(text, b"LongDump", *id),
+        Refused::Asset(fault) => push_asset(text, *fault),
+        Refused::Wardrobe(fault) => push_wardrobe(text, *fault),
         Refused::NoDress(name) => push_with_name(text, b"NoDress", *name),
         Refused::ModelTooLarge => text.push(b"ModelTooLarge"),
         Refused::NoUndo => text.push(b"NoUndo"),
@@ -187,7 +228,8 @@ fn push_cause(text: &mut Text, refused: &Refused) -> Result<(), NoMemory>
 /// and numbers of lines count from 1. Takes memory.
 #[tactic(auto, unfolding(crate::specs::Refusals::refusal_text_of))]
 pub fn refusal_text(alloc: Global, refused: &Refused) -> Result<List<u8>, NoMemory>
-    requires { refused.now ≢ Refused.Edit edit.NoMemory }
+    requires edit { refused.now ≢ Refused.Edit edit.NoMemory }
+    requires wardrobe { refused.now ≢ Refused.Wardrobe wardrobe.NoMemory }
     ensures { IfOk result (λ text. text ≡ spec.refusal_text_of refused.now) }
 {
     let mut text = Text::new(alloc);

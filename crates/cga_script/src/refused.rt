@@ -1,3 +1,4 @@
+use cga_asset::{AssetFault, WardrobeFault};
 use cga_form::{BlockFault, LineFault};
 use cga_shape::EditRefused;
 use cga_word::Name;
@@ -13,6 +14,8 @@ pub enum Refused {
     Edit(EditRefused),
     /// The rule of this id is too long for a line.
     LongDump(u32),
+    Asset(AssetFault),
+    Wardrobe(WardrobeFault),
     /// The symbol has no dress.
     NoDress(Name),
     ModelTooLarge,
