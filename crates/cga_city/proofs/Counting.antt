@@ -6,8 +6,8 @@ use Rattle.std.proofs.lemmas.List.Sums.{sum_by-cons}
 use Rattle.std.proofs.lemmas.Option.{slice_get-get_or}
 use Rattle.std.proofs.lemmas.Slice.Eq.{bytes_eq-Decides}
 use Rattle.cga_order.specs.World.{Among, is_instance}
-use Rattle.cga_agenda.specs.Work.{Once}
-use Rattle.cga_agenda.proofs.Lists.{Once-append, Once-index, count-once, length-once}
+use Rattle.cga_order.specs.Once.{Once}
+use Rattle.cga_order.proofs.Once.{Once-append, Once-index, count-once, length-once}
 use Rattle.cga_expand.specs.Children.{Member}
 use Rattle.cga_index.specs.Tree as trees
 use Rattle.cga_index.specs.Tree.{below, all_nodes}

@@ -17,4 +17,6 @@ pub mod Nodes
 pub mod Tallies
 pub mod Counting
 pub mod Kept
+pub mod Tracing
 pub mod Warming
+pub mod Accounts

@@ -21,7 +21,7 @@ use Rattle.cga_shape.specs.declared.shape_fault.ShapeFault.{ShapeFault}
 use Rattle.cga_expand.specs.Children.{Member}
 use Rattle.cga_index.specs.Tree as trees
 use Rattle.cga_index.specs.Tree.{below, all_nodes, InTree}
-use Rattle.cga_index.proofs.Levels.{in_some, root_in, below_more, drop_at, drop_all}
+use Rattle.cga_index.proofs.Levels.{in_some, root_in}
 use Rattle.cga_forest.specs.View.{Seen}
 use Rattle.cga_forest.specs.Tree.{ForestView, IsForest, IsRootOf, children_of, node_at}
 use Rattle.cga_forest.specs.Walked.{forest_tree, depth_of}
@@ -300,19 +300,3 @@ given_all give v (n ∷ ns) = ap (λ ys. given_of give v n ++ ys) (given_all giv
 -- what the members of a lot give, by their paths
 pub given_in : {A : Type 0} (give : Member → List A) (v : ForestView) → IsForest v → (list : List Member) → HasNodes v list → (lot : List ℕ) (nodes : List ℕ) → AreOfLot v lot nodes → flat_map (given_of give v) nodes ≡ flat_map give (members_of lot list)
 given_in give v f list has lot nodes of = given_all give v nodes ∙ ap (flat_map give) (sym (lot_members v f list has lot nodes of))
-
--- ---- the steps of the listing
-
-module _ (t : trees.TreeView) where
-  pub list_from_end : (left node : ℕ) (a b c : List ℕ) → 0 < left → b ≡ a ++ node ∷ [] → c ≡ b ++ flat_map (below t (left - 1)) (t.children node) → c ≡ a ++ below t left node
-  list_from_end left node a b c h p q =
-      let kids = flat_map (below t (left - 1)) (t.children node) in
-      q ∙ ap (λ xs. xs ++ kids) p ∙ append_assoc a (node ∷ []) kids ∙ ap (λ xs. a ++ xs) (sym (below_more t left node h))
-
-  pub list_step : (left : ℕ) (cs : List ℕ) (k c : ℕ) (a b whole : List ℕ) → slice_get cs k ≡ Some c → b ≡ a ++ below t left c → a ++ flat_map (below t left) (drop k cs) ≡ whole → b ++ flat_map (below t left) (drop (k + 1) cs) ≡ whole
-  list_step left cs k c a b whole at p q =
-      let rest = flat_map (below t left) (drop (k + 1) cs) in
-      ap (λ xs. xs ++ rest) p ∙ append_assoc a (below t left c) rest ∙ ap (λ xs. a ++ flat_map (below t left) xs) (sym (drop_at cs k c at)) ∙ q
-
-  pub list_end : (left : ℕ) (cs : List ℕ) (k : ℕ) (a whole : List ℕ) → length cs ≤ k → a ++ flat_map (below t left) (drop k cs) ≡ whole → a ≡ whole
-  list_end left cs k a whole h q = sym (ap (λ xs. a ++ flat_map (below t left) xs) (drop_all cs k h) ∙ append-nil a) ∙ q

@@ -11,8 +11,9 @@ use Rattle.cga_shape.specs.declared.sources.Sources.{Sources}
 use Rattle.cga_derivation.specs.Derivation.{place_of, reached}
 use Rattle.cga_derivation.proofs.Apart.{apart-reached}
 use Rattle.cga_agenda.specs.Known.{shapes_of}
-use Rattle.cga_agenda.specs.Work.{Once}
-use Rattle.cga_agenda.proofs.Lists.{Has-Among, Once-index, length-once}
+use Rattle.cga_order.specs.Once.{Once}
+use Rattle.cga_order.proofs.Once.{Once-index, length-once}
+use Rattle.cga_agenda.proofs.Lists.{Has-Among}
 use Rattle.cga_expand.specs.Children.{Member}
 use Rattle.cga_expand.specs.Derivation.{derivation_of}
 use Rattle.cga_expand.specs.Touched.{Kept, NonInstance, Touched}

@@ -1,6 +1,7 @@
 //! The city.
 ghost use Rattle.std.specs.Prelude.{◌≡◌, ◌≤◌, [], IfOk, IsOk, OnErr, OnOk, IsFalse, IsTrue, Some, bytes_eq, length, true};
 ghost use Rattle.std.specs.List.{IsDistinct};
+ghost use Rattle.cga_expand.specs.Run.{IsRun};
 ghost use Rattle.cga_obj.specs.Lots.{AreSolid, StandsBy};
 ghost use Rattle.cga_city.specs.City.{EditGives, HasDistinctLots, IsWarmed, empty_city};
 ghost use Rattle.cga_city.specs.Derived.{derived, members};
@@ -16,7 +17,8 @@ use cga_depend::Dependents;
 use cga_forest::Forest;
 use cga_fraction::{List, NoMemory, Steps};
 use cga_rule::Grammar;
-use cga_shape::{Changes, Counts, Drawn, Edit, EditRefused, FaultLine, Lot, Sources};
+use cga_shape::{Changes, Counts, Drawn, Edit, EditRefused, FaultLine, Lot, Sources, TraceStep};
+use cga_trace::trace;
 use cga_update::{UpdateRefused, update};
 use cga_word::{Mode, Name};
 use std::alloc::Global;
@@ -207,6 +209,14 @@ impl City {
         ensures { IfOk result (λ faults. faults ≡ spec.faults_of self.now.sources.lots (members self.now.budget self.now.sources)) }
     {
         all_faults(self.alloc, self.sources.lots.as_slice(), &self.forest)
+    }
+
+    /// The run of the sources: what the expansion of each shape told, in order. Takes memory.
+    pub fn trace(&self) -> Result<List<TraceStep>, NoMemory>
+        requires { IsTrue self.now.warm }
+        ensures { IfOk result (IsRun self.now.sources) }
+    {
+        trace(self.alloc, &self.forest)
     }
 
     /// How many there are of each, and how many shapes the last accepted edit touched. Takes no memory; the time goes by

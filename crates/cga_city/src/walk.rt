@@ -1,76 +1,13 @@
 //! The nodes of a lot in the order of their paths.
-ghost use Rattle.std.specs.Prelude.{◌≡◌, ◌+◌, ◌<◌, ◌++◌, length, slice_get, Some, IfOk, OnOk};
-ghost use Rattle.std.specs.List.{flat_map};
-ghost use Rattle.cga_index.specs.Tree.{IsHullTree, InTree, below};
-ghost use Rattle.cga_forest.specs.Walked.{forest_tree};
+ghost use Rattle.std.specs.Prelude.{IfOk};
 ghost use Rattle.cga_city.specs.Nodes.{AreOfLot};
 
 use cga_forest::Forest;
 use cga_fraction::NoMemory;
-use cga_index::{HullTree, NodeId};
+use cga_index::NodeId;
+use cga_trace::list_from;
 use cga_word::Name;
 use std::alloc::Global;
-
-/// A child of a node that is there.
-pub(crate) fn child_of(forest: &Forest, node: NodeId, place: usize) -> NodeId
-    requires laws { IsHullTree (forest_tree forest.now) }
-    requires node { InTree (forest_tree forest.now) node }
-    requires place { place < length ((forest_tree forest.now).children node) }
-    ensures at { slice_get ((forest_tree forest.now).children node) place ≡ Some result }
-    ensures inside { InTree (forest_tree forest.now) result }
-    ensures depth { (forest_tree forest.now).depth result ≡ (forest_tree forest.now).depth node + 1 }
-{
-    forest.child(node, place)
-}
-
-/// A root of the forest.
-pub(crate) fn root_of(forest: &Forest, place: usize) -> NodeId
-    requires laws { IsHullTree (forest_tree forest.now) }
-    requires place { place < length (forest_tree forest.now).roots }
-    ensures at { slice_get (forest_tree forest.now).roots place ≡ Some result }
-    ensures inside { InTree (forest_tree forest.now) result }
-    ensures depth { (forest_tree forest.now).depth result ≡ 0 }
-{
-    forest.root(place)
-}
-
-/// Appends a node and all below it.
-#[cycle(listing)]
-fn list_from(
-    forest: &Forest,
-    node: NodeId,
-    left: usize,
-    out: &mut Vec<NodeId>,
-) -> Result<(), NoMemory>
-    requires laws { IsHullTree (forest_tree forest.now) }
-    requires node { InTree (forest_tree forest.now) node }
-    requires left { left + (forest_tree forest.now).depth node ≡ 257 }
-    ensures { OnOk result (out.new.items ≡ out.old.items ++ below (forest_tree forest.now) left node) }
-{
-    out.push(node)?;
-    list_children(forest, node, left - 1, out)?;
-    Ok(())
-}
-
-/// Appends all below a node.
-#[cycle(listing)]
-fn list_children(
-    forest: &Forest,
-    node: NodeId,
-    left: usize,
-    out: &mut Vec<NodeId>,
-) -> Result<(), NoMemory>
-    requires laws { IsHullTree (forest_tree forest.now) }
-    requires node { InTree (forest_tree forest.now) node }
-    requires left { left + (forest_tree forest.now).depth node ≡ 256 }
-    ensures { OnOk result (out.new.items ≡ out.old.items ++ flat_map (below (forest_tree forest.now) left) ((forest_tree forest.now).children node)) }
-{
-    for place in 0..forest.children(node) {
-        let child = child_of(forest, node, place);
-        list_from(forest, child, left, out)?;
-    }
-    Ok(())
-}
 
 /// The nodes of a lot, by their paths: no walk over other lots. Takes memory.
 pub(crate) fn nodes_of_lot(
