@@ -1,5 +1,5 @@
 -- The words of the command line, and the exit statuses.
-use Rattle.std.specs.Prelude.{ℕ}
+use Rattle.std.specs.Prelude.{ℕ, List, [], codes}
 use Rattle.std.specs.declared.io.ErrorKind.{ErrorKind}
 use Rattle.std.specs.declared.io.ErrorKind.TheVariants as kind
 use Rattle.cga_top.specs.declared.status.Status.{Status}
@@ -14,7 +14,21 @@ number_of WriteFault = 4
 number_of TooLong = 5
 number_of NoMemory = 6
 
+-- the line on standard error at each end, which is none where all is well
+abbrev pub line_of : Status → List ℕ
+line_of Done = []
+line_of Usage = codes "usage: cga_city [--decimals N] [--town N]"
+line_of ReadFault = codes "cga_city: cannot read"
+line_of WriteFault = codes "cga_city: cannot write"
+line_of TooLong = codes "cga_city: script too long"
+line_of NoMemory = codes "cga_city: out of memory"
+
 -- the exit status where the system doesn't give the words: it finds no memory, or they aren't text
 abbrev pub refusal_of : ErrorKind → ℕ
 refusal_of kind.OutOfMemory = 6
 refusal_of _ = 7
+
+-- and its line
+abbrev pub refusal_line : ErrorKind → List ℕ
+refusal_line kind.OutOfMemory = line_of NoMemory
+refusal_line _ = codes "cga_city: cannot read the command line"

@@ -1,5 +1,5 @@
 ghost use Rattle.std.specs.Prelude.{◌≡◌};
-ghost use Rattle.cga_main.specs.Exits.{number_of};
+ghost use Rattle.cga_main.specs.Exits.{line_of, number_of};
 
 use cga_top::Status;
 
@@ -22,7 +22,8 @@ pub(crate) const UNREADABLE: Exit = Exit {
 };
 
 pub(crate) fn exit_of(status: Status) -> Exit
-    ensures { result.status ≡ number_of status }
+    ensures status { result.status ≡ number_of status }
+    ensures line { result.line.now ≡ line_of status }
 {
     let (status, line) = match status {
         Status::Done => (0, ""),

@@ -15,7 +15,8 @@ ghost use Rattle.cga_words.specs.Words.{command_app, decimals_of, town_of};
 ghost use Rattle.clap.specs.Words.{fault_of};
 ghost use Rattle.std.specs.Vec.Iter.{into_iter_items};
 ghost use Rattle.std.specs.IoError.{error_kind};
-ghost use Rattle.cga_main.specs.Exits.{refusal_of};
+ghost use Rattle.cga_top.specs.declared.status.Status.TheVariants.{NoMemory};
+ghost use Rattle.cga_main.specs.Exits.{line_of, refusal_line, refusal_of};
 
 mod exit;
 
@@ -34,9 +35,10 @@ use std::{env, io};
 // The words of the command line, the program's name first.
 fn words(alloc: Global, found: io::Result<Args>) -> Result<Vec<String>, Exit>
     ensures given { IfOk found (λ given.
-        MatchResult result (λ words. words.items ≡ into_iter_items given) (λ exit. exit.status ≡ 6)) }
-    ensures refused { IfErr found (λ error.
-        IsErrAnd result (λ exit. exit.status ≡ refusal_of (error_kind error))) }
+        MatchResult result (λ words. words.items ≡ into_iter_items given)
+        (λ exit. (exit.status ≡ 6) × (exit.line.now ≡ line_of NoMemory))) }
+    ensures refused { IfErr found (λ error. IsErrAnd result (λ exit.
+        (exit.status ≡ refusal_of (error_kind error)) × (exit.line.now ≡ refusal_line (error_kind error)))) }
 {
     match found {
         Ok(words) => match words.collect(alloc) {

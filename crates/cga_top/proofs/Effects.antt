@@ -7,7 +7,7 @@ use Rattle.std.specs.Io.KnownBytes.{Appends}
 use Rattle.cga_script.specs.Lines.{Line}
 use Rattle.cga_top.specs.declared.session.Session.{Session}
 use Rattle.cga_top.specs.State.{State}
-use Rattle.cga_top.specs.Effect.{Effect, HasSpent, SpentOn, Tried, followed_by, silent}
+use Rattle.cga_top.specs.Effect.{Effect, HasSpent, SpentOn, Work, followed_by, silent}
 use Rattle.cga_top.specs.Replies.{effect}
 use Rattle.cga_top.specs.Output.{effect_of_all}
 use Rattle.cga_top.specs.Session.{IsAt, Did}
@@ -15,24 +15,24 @@ use Rattle.cga_top.specs.Wrote.{Wrote}
 use Rattle.cga_top.specs.Prefixes.{AppendsSome}
 use Rattle.cga_top.proofs.Known.{appends_nothing, appends_more}
 
-abbrev made : State → List ℕ → List Tried → Effect
-made s text edits = record { state = s; reply = text; edits = edits }
+abbrev made : State → List ℕ → List Work → Effect
+made s text works = record { state = s; reply = text; works = works }
 
 -- equal parts make equal effects
-same_effect : (s : State) (a b : List ℕ) (l m : List Tried) → a ≡ b → l ≡ m → made s a l ≡ made s b m
-same_effect s a b l m p q = ap (λ (x : List ℕ). made s x l) p ∙ ap (λ (x : List Tried). made s b x) q
+same_effect : (s : State) (a b : List ℕ) (l m : List Work) → a ≡ b → l ≡ m → made s a l ≡ made s b m
+same_effect s a b l m p q = ap (λ (x : List ℕ). made s x l) p ∙ ap (λ (x : List Work). made s b x) q
 
 pub followed_assoc : (t u v : Effect) → followed_by (followed_by t u) v ≡ followed_by t (followed_by u v)
-followed_assoc t u v = same_effect v.state _ _ _ _ (append_assoc t.reply u.reply v.reply) (append_assoc t.edits u.edits v.edits)
+followed_assoc t u v = same_effect v.state _ _ _ _ (append_assoc t.reply u.reply v.reply) (append_assoc t.works u.works v.works)
 
 pub followed_silent : (t : Effect) → followed_by t (silent t.state) ≡ t
-followed_silent t = same_effect t.state _ _ _ _ (append-nil t.reply) (append-nil t.edits)
+followed_silent t = same_effect t.state _ _ _ _ (append-nil t.reply) (append-nil t.works)
 
 pub silent_followed : (s : State) (t : Effect) → followed_by (silent s) t ≡ t
 silent_followed s t = refl
 
 -- edits after edits
-pub spent_more : (xs ys : List Tried) (i j k : ℕ) → HasSpent xs i j → HasSpent ys j k → HasSpent (xs ++ ys) i k
+pub spent_more : (xs ys : List Work) (i j k : ℕ) → HasSpent xs i j → HasSpent ys j k → HasSpent (xs ++ ys) i k
 spent_more [] ys i j k h g = subst (λ n. HasSpent ys n k) h g
 spent_more (t ∷ []) [] i j k h g = subst (λ n. SpentOn t i n) (sym g) h
 spent_more (t ∷ []) (u ∷ us) i j k h g = (j, h, g)
@@ -54,7 +54,7 @@ all_append s (x ∷ xs) ys =
     ∙ ap (λ (t : Effect). followed_by t (effect_of_all t.state ys)) (sym (all_more s x xs))
 
 -- and nothing was expanded behind them
-pub spent_then : (ts : List Tried) (i j k : ℕ) → k ≡ j → HasSpent ts i j → HasSpent ts i k
+pub spent_then : (ts : List Work) (i j k : ℕ) → k ≡ j → HasSpent ts i j → HasSpent ts i k
 spent_then ts i j k e h = subst (λ n. HasSpent ts i n) (sym e) h
 
 -- what was done, and then more
@@ -62,7 +62,7 @@ pub wrote_more : (t u : Effect) (old mid : Session) (a b c : Option (List ℕ)) 
 wrote_more t u old mid a b c i j k x y = record {
   is_at = y.is_at;
   written = appends_more a b c t.reply u.reply x.written y.written;
-  spent = spent_more t.edits u.edits i j k x.spent y.spent;
+  spent = spent_more t.works u.works i j k x.spent y.spent;
 }
 
 pub wrote_nothing : (s : State) (session : Session) (a : Option (List ℕ)) (i : ℕ) → IsAt s session → Wrote (silent s) session a a i i

@@ -109,7 +109,7 @@ replies_written d read bytes old mid new session lines told r source expanded ke
     record {
       taken = subst (λ (left : Option (List ℕ)). Consumes left new.left read) told taken;
       replies = all_of_it old.held mid.held new.held _ r.wrote.written keeps;
-      spent = record { by = spent_then (effect_of_lines d (take limit read)).edits old.expanded mid.expanded new.expanded expanded r.wrote.spent };
+      spent = record { by = spent_then (effect_of_lines d (take limit read)).works old.expanded mid.expanded new.expanded expanded r.wrote.spent };
     }
 
 read_prefix : (d : ℕ) (read : List ℕ) (old mid new : Outside) (session : Session) (lines : Pending) → IsRead d read old mid session lines → Keeps mid.held new.held → WritesPrefix d old new
@@ -165,7 +165,7 @@ all_written d read bytes old mid last new session next lines is r few w expanded
     record {
       few = subst (λ (x : List ℕ). length x ≤ limit) is few;
       output = all_of_it old.held last.held new.held _ all.written keeps;
-      spent = record { by = spent_then (effect_of_script d bytes).edits old.expanded last.expanded new.expanded expanded all.spent };
+      spent = record { by = spent_then (effect_of_script d bytes).works old.expanded last.expanded new.expanded expanded all.spent };
     }
 
 -- all was replied to, or some of it

@@ -59,7 +59,7 @@ given_done d bytes status old mid new session w calm f =
             f.done fine,
             f.calm fine ∙ calm,
             all_of_it old.held mid.held new.held (output_of d bytes) all f.held,
-            record { by = spent_then (effect_of_script d bytes).edits old.expanded mid.expanded new.expanded f.expanded w.spent },
+            record { by = spent_then (effect_of_script d bytes).works old.expanded mid.expanded new.expanded f.expanded w.spent },
           )
       | inr is ↦ let unwanted : status ≢ Done = λ e. other (sym e ∙ is) in
           subst (λ (s : Status). GivenMeans d bytes s old new) (sym is) (subst (λ (n : ℕ). Rose n new.writes_failed) calm (f.fault unwanted), some_kept old.held mid.held new.held (output_of d bytes) all f.held)

@@ -5,7 +5,9 @@ pub mod Prints
 pub mod Numbers
 pub mod Numbered
 pub mod Histories
+pub mod Bills
 pub mod Steps
+pub mod Clothes
 pub mod Outsides
 pub mod Known
 pub mod Faults
@@ -16,3 +18,4 @@ pub mod Ends
 pub mod Complete
 pub mod Given
 pub mod Undoing
+pub mod CityRuns

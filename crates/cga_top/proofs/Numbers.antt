@@ -46,7 +46,7 @@ pub left_at : (s : State) (old : Session) (e : Edit) → IsAt s old → CanBeLef
 left_at s old e at can =
     subst (λ (b : ℕ). CanBeLeft b s.sources e) at.budget (subst (λ (x : Sources). CanBeLeft old.city.budget x e) at.sources can)
 
-there : (r : Option (List Member)) → is_some r ≡ true → r ≡ Some (unwrap_or r [])
+pub there : (r : Option (List Member)) → is_some r ≡ true → r ≡ Some (unwrap_or r [])
 there (Some list) h = refl
 there None h = absurd (let bad : false ≡ true = h in cc)
 

@@ -69,6 +69,7 @@ closed_at s old mid at e = record {
   number = at.number;
   block = subst (IsOpen None) (sym e) tt;
   quiet = at.quiet;
+  wardrobe = at.wardrobe;
 }
 
 pub none_at : (s : State) (old : Session) (mid : Option OpenBlock) → IsAt s old → s.block ≡ None → mid ≡ None → IsAt s (record old { block = mid })
@@ -79,7 +80,7 @@ pub line_did : (s : State) (old : Session) (x : Block) (line : Line) (new : Open
 line_did s old x line new reply n at b e is none =
     subst (λ (t : Effect). Did t (record old { block = Some new }) reply n n) (sym (effect_line s x line b e))
     (record {
-      is_at = record { decimals = at.decimals; fresh = at.fresh; version = at.version; sources = at.sources; budget = at.budget; warm = at.warm; kept = at.kept; number = at.number; block = is; quiet = at.quiet };
+      is_at = record { decimals = at.decimals; fresh = at.fresh; version = at.version; sources = at.sources; budget = at.budget; warm = at.warm; kept = at.kept; number = at.number; block = is; quiet = at.quiet; wardrobe = at.wardrobe };
       reply = none;
       spent = refl;
     })

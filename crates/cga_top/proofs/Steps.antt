@@ -1,24 +1,31 @@
--- What an undo and a redo do.
-use Rattle.std.proofs.Common.{◌≡◌, ◌∙◌, ℕ, ◌+◌, ◌-◌, List, length, Bool, true, Option, Some, None, Result, Ok, Err, refl, sym, ap, subst, IfOk, OnOk, arith}
-use Rattle.std.specs.Prelude.{slice_get}
+-- What an edit, an undo and a redo do.
+use Rattle.std.proofs.Common.{◌≡◌, ◌≢◌, ◌∙◌, ℕ, ◌+◌, ◌-◌, ◌≤◌, List, length, Option, Some, None, Result, Ok, Err, refl, sym, ap, subst, IfOk, OnOk, arith}
+use Rattle.std.specs.Prelude.{All, slice_get}
 use Rattle.cga_fraction.specs.declared.memory.NoMemory.{NoMemory}
 use Rattle.cga_shape.specs.declared.edit.Edit.{Edit}
 use Rattle.cga_shape.specs.declared.edit.Edit.TheVariants as edit
 use Rattle.cga_shape.specs.declared.edit_refused.EditRefused.{EditRefused}
+use Rattle.cga_shape.specs.declared.edit_refused.EditRefused.TheVariants as cause
 use Rattle.cga_shape.specs.declared.sources.Sources.{Sources}
 use Rattle.cga_city.specs.Apply.{apply}
-use Rattle.cga_city.specs.City.{CityState, IsDone}
-use Rattle.cga_update.specs.Updates.{CountsTouched}
+use Rattle.cga_city.specs.City.{HasDistinctLots}
 use Rattle.cga_city.specs.Derived.{members}
+use Rattle.cga_city.specs.declared.limits.TheConstants.{BUDGET_TWO}
+use Rattle.cga_update.specs.Updates.{CountsTouched}
 use Rattle.cga_undo.specs.History.{Kept, Step, noted, undone, redone, turned}
+use Rattle.cga_script.specs.Refusals.{refusal_text_of}
 use Rattle.cga_script.specs.declared.refused.Refused.{Refused}
+use Rattle.cga_script.specs.declared.refused.Refused.TheVariants as told
 use Rattle.cga_top.specs.State.{State}
-use Rattle.cga_top.specs.Effect.{Effect}
+use Rattle.cga_top.specs.Effect.{Effect, SpentBy}
+use Rattle.cga_top.specs.Ready.{Accepts, IsReady, MayHaveRead, Refuses, Tells}
 use Rattle.cga_top.specs.Replies.{changed, applied, edited, stepped, refuses, ok_reply, budget_of}
-use Rattle.cga_top.specs.Session.{IsAt, Did}
+use Rattle.cga_top.specs.Session.{IsAt, IsOpen, Did}
+use Rattle.cga_top.specs.Written.{AreWritten, IsWritten}
 use Rattle.cga_top.specs.declared.session.Session.{Session}
 use Rattle.cga_top.proofs.Numbers.{CanBeLeft, left_at, number_of}
 use Rattle.cga_top.proofs.Histories.{left_by, undone_some, undone_none, redone_some, redone_none}
+use Rattle.cga_top.proofs.Prints.{applied_prints}
 
 pub on_ok : {T E : Type 0} (r : Result T E) (P : Type 0) → P → OnOk r P
 on_ok (Ok x) P p = p
@@ -44,47 +51,119 @@ pub redone_nowhere : (s : State) (history : Kept) → history ≡ s.kept → sli
 redone_nowhere s history k e = ap (λ (h : Kept). redone h s.sources) (sym k) ∙ redone_none history s.sources e
 
 -- an edit that was done
-pub changed_did : (s : State) (old : Session) (city : CityState) (history : Kept) (e : Edit) (reply : List ℕ) (i j : ℕ) → IsAt s old → CanBeLeft old.city.budget old.city.sources e → IsDone old.city e city i j → reply ≡ ok_reply old.quiet
-    → Did (changed s history (applied s e)) (record old { city = city; history = history }) reply i j
-changed_did s old city history e reply i j at can done r =
+pub changed_did : (s : State) (old new : Session) (history : Kept) (e : Edit) (before : Sources) (reply : List ℕ) (i j : ℕ) → IsAt s old → HasDistinctLots e → Accepts old e before new i j → reply ≡ ok_reply new.quiet
+    → Did (changed s history (applied s e)) (record new { history = history }) reply i j
+changed_did s old new history e before reply i j at apart a r =
+    let done = a.done in
+    let city = new.city in
+    let others = a.others in
+    let can : CanBeLeft old.city.budget old.city.sources e = record { sound = a.sound; fits = a.fits; apart = apart } in
     let is : applied s e ≡ Ok city.sources = sym (ap (λ (x : Sources). apply x e old.city.budget) at.sources ∙ ap (λ (b : ℕ). apply s.sources e b) at.budget) ∙ done.applied in
     let touched = subst (λ (b : ℕ). CountsTouched s.sources city.sources (members b s.sources) (members b city.sources) city.expanded) at.budget
     (subst (λ (x : Sources). CountsTouched x city.sources (members old.city.budget x) (members old.city.budget city.sources) city.expanded) at.sources done.touched) in
     let spent = done.spent in
     let number = number_of s.sources city.sources e (budget_of s.version) city.expanded (left_at s old e at can) is touched in
     let count : city.expanded ≡ j - i = omega arith in
-    subst (λ (t : Result Sources EditRefused). Did (changed s history t) (record old { city = city; history = history }) reply i j) (sym is)
+    subst (λ (t : Result Sources EditRefused). Did (changed s history t) (record new { history = history }) reply i j) (sym is)
     (record {
       is_at = record {
-        decimals = at.decimals;
-        fresh = at.fresh;
-        version = at.version;
+        decimals = ap (λ (x : Session). x.decimals) others ∙ at.decimals;
+        fresh = ap (λ (x : Session). x.fresh) others ∙ at.fresh;
+        version = ap (λ (x : Session). x.version) others ∙ at.version;
         sources = refl;
         budget = done.budget_stays ∙ at.budget;
         warm = done.warm_then;
         kept = refl;
         number = number;
-        block = at.block;
-        quiet = at.quiet;
+        block = subst (IsOpen s.block) (sym (ap (λ (x : Session). x.block) others)) at.block;
+        quiet = ap (λ (x : Session). x.quiet) others ∙ at.quiet;
+        wardrobe = ap (λ (x : Session). x.wardrobe) others ∙ at.wardrobe;
       };
-      reply = r ∙ ap ok_reply at.quiet;
+      reply = r ∙ ap ok_reply (ap (λ (x : Session). x.quiet) others ∙ at.quiet);
       spent = (omega arith, subst (CountsTouched s.sources city.sources (members (budget_of s.version) s.sources) (members (budget_of s.version) city.sources)) count touched);
     })
 
 -- the sources before an edit that was done are noted
-pub change_did : (s : State) (old : Session) (city : CityState) (history : Kept) (e : Edit) (text : Result (List ℕ) NoMemory) (i j : ℕ)
-    → IsAt s old → CanBeLeft old.city.budget old.city.sources e → history ≡ noted s.kept s.sources → IsDone old.city e city i j → IfOk text (λ t. t ≡ ok_reply old.quiet)
-    → IfOk text (λ reply. Did (edited s e) (record old { city = city; history = history }) reply i j)
-change_did s old city history e (Err none) i j at can h done r = tt
-change_did s old city history e (Ok reply) i j at can h done r =
-    subst (λ (k : Kept). Did (changed s k (applied s e)) (record old { city = city; history = history }) reply i j) h (changed_did s old city history e reply i j at can done r)
+pub change_did : (s : State) (old new : Session) (history : Kept) (e : Edit) (before : Sources) (text : Result (List ℕ) NoMemory) (i j : ℕ)
+    → IsAt s old → HasDistinctLots e → Accepts old e before new i j → history ≡ noted new.history before → IfOk text (λ t. t ≡ ok_reply new.quiet)
+    → IfOk text (λ reply. Did (edited s e) (record new { history = history }) reply i j)
+change_did s old new history e before (Err none) i j at apart a h r = tt
+change_did s old new history e before (Ok reply) i j at apart a h r =
+    let k : history ≡ noted s.kept s.sources =
+    h ∙ ap (λ (k : Kept). noted k before) (ap (λ (x : Session). x.history) a.others ∙ at.kept) ∙ ap (noted s.kept) (a.before_is ∙ at.sources) in
+    subst (λ (k : Kept). Did (changed s k (applied s e)) (record new { history = history }) reply i j) k (changed_did s old new history e before reply i j at apart a r)
 
-pub step_did : (s : State) (old : Session) (city : CityState) (history : Kept) (none : Refused) (step : Option Step) (some : Step) (taken : Sources) (text : Result (List ℕ) NoMemory) (i j : ℕ)
-    → IsAt s old → CanBeLeft old.city.budget old.city.sources (edit.Whole taken) → step ≡ Some some → taken ≡ some.taken → history ≡ some.left → IsDone old.city (edit.Whole taken) city i j → IfOk text (λ t. t ≡ ok_reply old.quiet)
-    → IfOk text (λ reply. Did (stepped s none step) (record old { city = city; history = history }) reply i j)
-step_did s old city history none step some taken (Err e) i j at can is t h done r = tt
-step_did s old city history none step some taken (Ok reply) i j at can is t h done r =
-    let can' : CanBeLeft old.city.budget old.city.sources (edit.Whole some.taken) = subst (λ (x : Sources). CanBeLeft old.city.budget old.city.sources (edit.Whole x)) t can in
-    let done' : IsDone old.city (edit.Whole some.taken) city i j = subst (λ (x : Sources). IsDone old.city (edit.Whole x) city i j) t done in
-    let did : Did (changed s history (applied s (edit.Whole some.taken))) (record old { city = city; history = history }) reply i j = changed_did s old city history (edit.Whole some.taken) reply i j at can' done' r in
-    subst (λ (e : Effect). Did e (record old { city = city; history = history }) reply i j) (ap (λ (k : Kept). changed s k (applied s (edit.Whole some.taken))) h ∙ sym (some_step s none step some is)) did
+pub step_did : (s : State) (old new : Session) (history : Kept) (none : Refused) (step : Option Step) (some : Step) (taken before : Sources) (text : Result (List ℕ) NoMemory) (i j : ℕ)
+    → IsAt s old → HasDistinctLots (edit.Whole taken) → step ≡ Some some → taken ≡ some.taken → Accepts old (edit.Whole taken) before new i j → history ≡ some.left → IfOk text (λ t. t ≡ ok_reply new.quiet)
+    → IfOk text (λ reply. Did (stepped s none step) (record new { history = history }) reply i j)
+step_did s old new history none step some taken before (Err e) i j at apart is t a h r = tt
+step_did s old new history none step some taken before (Ok reply) i j at apart is t a h r =
+    let did : Did (changed s history (applied s (edit.Whole taken))) (record new { history = history }) reply i j = changed_did s old new history (edit.Whole taken) before reply i j at apart a r in
+    subst (λ (e : Effect). Did e (record new { history = history }) reply i j)
+    (ap (λ (x : Sources). changed s history (applied s (edit.Whole x))) t ∙ ap (λ (k : Kept). changed s k (applied s (edit.Whole some.taken))) h ∙ sym (some_step s none step some is)) did
+
+-- ---- what an edit answered
+
+pub accepts_of : (old new : Session) (e : Edit) (answer : Result Sources EditRefused) (before : Sources) (i j : ℕ) → answer ≡ Ok before → Tells old e answer new i j → Accepts old e before new i j
+accepts_of old new e answer before i j is h = subst (λ (r : Result Sources EditRefused). Tells old e r new i j) is h
+
+pub refuses_of : (old new : Session) (e : Edit) (answer : Result Sources EditRefused) (refused : EditRefused) (i j : ℕ) → answer ≡ Err refused → Tells old e answer new i j → Refuses old e refused new i j
+refuses_of old new e answer refused i j is h = subst (λ (r : Result Sources EditRefused). Tells old e r new i j) is h
+
+-- ---- refused
+
+spent_refused : (old : Sources) (refused : EditRefused) (budget i j : ℕ) → i ≤ j → j ≤ i + (budget + 1) → (refused ≢ cause.OverBudget → j ≡ i) → SpentBy old budget (Err refused) i j
+spent_refused old (cause.NoRule id) budget i j later most free = let n = free (λ e. cc) in (later, omega arith)
+spent_refused old (cause.NoAttribute name) budget i j later most free = let n = free (λ e. cc) in (later, omega arith)
+spent_refused old (cause.NoSymbol name) budget i j later most free = let n = free (λ e. cc) in (later, omega arith)
+spent_refused old (cause.NoLot name) budget i j later most free = let n = free (λ e. cc) in (later, omega arith)
+spent_refused old (cause.BadLot name) budget i j later most free = let n = free (λ e. cc) in (later, omega arith)
+spent_refused old cause.TooManyLots budget i j later most free = let n = free (λ e. cc) in (later, omega arith)
+spent_refused old (cause.Check fault) budget i j later most free = let n = free (λ e. cc) in (later, omega arith)
+spent_refused old cause.OverBudget budget i j later most free = (later, most)
+spent_refused old cause.NoMemory budget i j later most free = let n = free (λ e. cc) in (later, omega arith)
+
+-- an edit that was refused
+pub refused_did : (s : State) (old new : Session) (kept : Kept) (e : Edit) (refused : EditRefused) (text : Result (List ℕ) NoMemory) (i j : ℕ)
+    → IsAt s old → Refuses old e refused new i j → IfOk text (λ t. t ≡ refusal_text_of (told.Edit refused)) → IfOk text (λ reply. Did (changed s kept (applied s e)) new reply i j)
+refused_did s old new kept e refused (Err none) i j at h is = tt
+refused_did s old new kept e refused (Ok reply) i j at h is =
+    let why = h.why in
+    let cause : applied s e ≡ Err refused = sym (ap (λ (x : Sources). apply x e old.city.budget) at.sources ∙ ap (λ (b : ℕ). apply s.sources e b) at.budget) ∙ why.cause in
+    subst (λ (t : Result Sources EditRefused). Did (changed s kept t) new reply i j) (sym cause)
+    (record {
+      is_at = subst (IsAt s) (sym h.same) at;
+      reply = is;
+      spent = subst (λ (b : ℕ). SpentBy s.sources b (Err refused) i j) at.budget (spent_refused s.sources refused old.city.budget i j why.later why.most why.unspent);
+    })
+
+pub step_refused : (s : State) (old new : Session) (none : Refused) (step : Option Step) (some : Step) (taken : Sources) (refused : EditRefused) (text : Result (List ℕ) NoMemory) (i j : ℕ)
+    → IsAt s old → step ≡ Some some → taken ≡ some.taken → Refuses old (edit.Whole taken) refused new i j → IfOk text (λ t. t ≡ refusal_text_of (told.Edit refused))
+    → IfOk text (λ reply. Did (stepped s none step) new reply i j)
+step_refused s old new none step some taken refused text i j at is t h says =
+    subst (λ (e : Effect). IfOk text (λ reply. Did e new reply i j))
+    (ap (λ (x : Sources). changed s some.left (applied s (edit.Whole x))) t ∙ sym (some_step s none step some is))
+    (refused_did s old new some.left (edit.Whole taken) refused text i j at h says)
+
+-- ---- the next line
+
+-- an edit of the city leaves the history
+pub history_same : (old new : Session) (e : Edit) (before : Sources) (i j : ℕ) → Accepts old e before new i j → new.history ≡ old.history
+history_same old new e before i j a = ap (λ (x : Session). x.history) a.others
+
+pub accepted_ready : (old new : Session) (history : Kept) (e : Edit) (before : Sources) (i j : ℕ) → IsReady old → IsWritten e → Accepts old e before new i j
+    → All AreWritten history.past → All AreWritten history.future → IsReady (record new { history = history })
+accepted_ready old new history e before i j ready written a past future = record {
+  warm = a.done.warm_then;
+  bill = a.bill;
+  few = subst (λ (b : ℕ). b ≤ BUDGET_TWO) (sym a.done.budget_stays) ready.few;
+  rules = applied_prints _ _ _ _ a.done.applied ready.rules written;
+  past = past;
+  future = future;
+  block = subst MayHaveRead (sym (ap (λ (x : Session). x.block) a.others)) ready.block;
+}
+
+-- the sources before an edit are such as lines write
+pub before_written : (old new : Session) (e : Edit) (before : Sources) (i j : ℕ) → IsReady old → Accepts old e before new i j → AreWritten before
+before_written old new e before i j ready a =
+    subst AreWritten (sym a.before_is) (record { printable = ready.rules; names = a.sound.names })

@@ -2,6 +2,11 @@
 use Rattle.std.proofs.Common.{◌≡◌, ℕ, zero, suc, ◌-◌, List, [], ◌∷◌, ◌++◌, length, Bool, true, false, ◌&&◌, Option, Some, None, Result, Ok, Err, refl, ap, subst}
 use Rattle.std.specs.Prelude.{All, slice_get, drop, nat_lt, is_some, if◌then◌else◌}
 use Rattle.std.proofs.lemmas.List.Elements.{All-nil, All-cons, All-append, All-take, All-drop, All-head, All-tail}
+use Rattle.cga_asset.specs.Lines.{asset_of}
+use Rattle.cga_asset.specs.Wardrobe.{WardrobeView, dressed, has, with_asset}
+use Rattle.cga_asset.specs.declared.fault.AssetFault.{AssetFault}
+use Rattle.cga_asset.specs.declared.too_large.ModelTooLarge.{ModelTooLarge}
+use Rattle.cga_asset.specs.declared.wardrobe_fault.WardrobeFault.{WardrobeFault}
 use Rattle.cga_form.specs.declared.block_fault.BlockFault.{BlockFault}
 use Rattle.cga_form.specs.declared.line_fault.LineFault.{LineFault}
 use Rattle.cga_form.specs.Lines.{Line}
@@ -11,10 +16,11 @@ use Rattle.cga_shape.specs.declared.edit.Edit.{Edit}
 use Rattle.cga_shape.specs.declared.edit.Edit.TheVariants as edit
 use Rattle.cga_shape.specs.declared.edit_refused.EditRefused.{EditRefused}
 use Rattle.cga_shape.specs.declared.sources.Sources.{Sources}
+use Rattle.cga_solid.specs.declared.solid_mesh.SolidMesh.{SolidMesh}
 use Rattle.cga_city.specs.City.{HasDistinctLots, empty_sources}
 use Rattle.cga_city.specs.Derived.{is_within}
 use Rattle.cga_city.specs.Inside.{AreSound}
-use Rattle.cga_city.specs.Lots.{lot_place}
+use Rattle.cga_city.specs.Lots.{lot_place, names_of}
 use Rattle.cga_city.proofs.Again.{whole_applied, applied_sound}
 use Rattle.cga_city.proofs.Deriving.{empty_derived}
 use Rattle.cga_city.proofs.Kept.{empty_sound}
@@ -29,13 +35,13 @@ use Rattle.cga_script.specs.Commands.{CommandTells}
 use Rattle.cga_script.specs.CityLines.{CityTells}
 use Rattle.cga_script.specs.declared.version.Version.TheVariants.{Two}
 use Rattle.cga_script.specs.Ends.{is_end_line, is_version_line}
-use Rattle.cga_top.specs.State.{Block, of_rules, of_city, of_other, State, start}
+use Rattle.cga_top.specs.State.{Block, of_rules, of_city, of_asset, of_judge, State, start}
 use Rattle.cga_top.specs.Effect.{Effect}
 use Rattle.cga_top.specs.Told.{command_of, rules_of, city_of, grammar_told, sources_told}
 use Rattle.cga_top.specs.Written.{IsWritten, AsksWritten}
-use Rattle.cga_top.specs.Replies.{budget_of, changed, applied, edited, stepped, dumped, done_by, is_blank, begun, asked, outside, closed, ended, effect_by, effect}
+use Rattle.cga_top.specs.Replies.{budget_of, changed, applied, edited, stepped, dumped, modelled, shown, model_of, clothed, stripped, given, done_by, is_blank, begun, asked, outside, closed, ended, effect_by, effect}
 use Rattle.cga_top.specs.Output.{effect_of_all}
-use Rattle.cga_top.specs.Undos.{GoesThrough, UndosGoThrough, RedosGoThrough}
+use Rattle.cga_top.specs.Undos.{GoesThrough, StatesAreWithin, UndosGoThrough, RedosGoThrough}
 use Rattle.cga_top.proofs.Numbers.{distinct}
 use Rattle.cga_top.proofs.Asks.{command_told, asks_written, city_told, city_written}
 
@@ -136,6 +142,22 @@ module _ (s : State) (is : IsSettled s) where
   dumped_settled (Ok text) = is
   dumped_settled (Err long) = is
 
+  modelled_settled : (r : Result (List ℕ) ModelTooLarge) → IsSettled (modelled s r).state
+  modelled_settled (Ok text) = is
+  modelled_settled (Err large) = is
+
+  shown_settled : (name : Option (List ℕ)) → IsSettled (shown s name).state
+  shown_settled None = modelled_settled (model_of s (names_of s.sources.lots))
+  shown_settled (Some name) = printed_settled (is_some (lot_place name s.sources.lots)) _ _ (modelled_settled (model_of s (name ∷ []))) is
+
+  clothed_settled : (r : Result WardrobeView WardrobeFault) → IsSettled (clothed s r).state
+  clothed_settled (Ok wardrobe) = record { now = is.now; past = is.past; future = is.future }
+  clothed_settled (Err fault) = is
+
+  given_settled : (name : List ℕ) (r : Result SolidMesh AssetFault) → IsSettled (given s name r).state
+  given_settled name (Ok asset) = clothed_settled (with_asset s.wardrobe name asset)
+  given_settled name (Err fault) = is
+
   command_settled : (command : ScriptCommand) → AsksWritten command → IsSettled (done_by s command).state
   command_settled c.Blank w = is
   command_settled c.Rules w = record { now = is.now; past = is.past; future = is.future }
@@ -149,9 +171,9 @@ module _ (s : State) (is : IsSettled s) where
   command_settled c.CityBlock w = record { now = is.now; past = is.past; future = is.future }
   command_settled c.Dump w = dumped_settled (dump_of s.sources)
   command_settled (c.AssetBlock name) w = record { now = is.now; past = is.past; future = is.future }
-  command_settled (c.Dress symbol name) w = is
-  command_settled (c.Undress symbol) w = is
-  command_settled (c.Model name) w = is
+  command_settled (c.Dress symbol name) w = clothed_settled (dressed s.wardrobe symbol name)
+  command_settled (c.Undress symbol) w = printed_settled (has symbol s.wardrobe.dresses) _ _ (record { now = is.now; past = is.past; future = is.future }) is
+  command_settled (c.Model name) w = shown_settled name
   command_settled c.Bill w = is
   command_settled c.Undo w = stepped_settled refused.NoUndo (undone s.kept s.sources) (undo_fine s.kept is.past is.future)
   command_settled c.Redo w = stepped_settled refused.NoRedo (redone s.kept s.sources) redo_fine
@@ -190,7 +212,8 @@ city_apart lines (Err fault) tells e h = absurd (cc)
 ended_settled : (s : State) (block : Block) → IsSettled s → IsSettled (ended s block).state
 ended_settled s (of_rules lines) is = closed_settled s (grammar_told lines) (rules_apart (rules_of lines)) is
 ended_settled s (of_city lines) is = closed_settled s (sources_told lines) (city_apart lines (city_of lines) (city_told lines)) is
-ended_settled s of_other is = is
+ended_settled s (of_asset name lines) is = given_settled s is name (asset_of lines)
+ended_settled s (of_judge lines) is = is
 
 effect_settled : (s : State) (o : Option Block) (line : Line) → IsSettled s → IsSettled (effect_by o s line).state
 effect_settled s None line is = outside_settled s line is
@@ -202,6 +225,9 @@ lines_settled : (s : State) (lines : List Line) → IsSettled s → IsSettled (e
 unfolding effect_of_all effect
 lines_settled s [] is = is
 lines_settled s (line ∷ lines) is = lines_settled (effect s line).state lines (effect_settled s s.block line is)
+
+pub states_are_within : StatesAreWithin
+states_are_within decimals lines = let is = lines_settled (start decimals) lines (start_settled decimals) in (is.now.sound, is.now.fits)
 
 pub undos_go_through : UndosGoThrough
 undos_go_through decimals lines = undo_passes _ (lines_settled (start decimals) lines (start_settled decimals))

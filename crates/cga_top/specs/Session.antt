@@ -1,7 +1,7 @@
 -- When a session has come to a state.
 use Rattle.std.specs.Prelude.{◌≡◌, ℕ, ◌+◌, ◌≤◌, List, true, Option, Some, None}
-use Rattle.cga_top.specs.Blocks.{RulesRead, SourcesRead}
-use Rattle.cga_top.specs.State.{Block, of_rules, of_city, of_other, State}
+use Rattle.cga_top.specs.Blocks.{AssetRead, RulesRead, SourcesRead, TraceRead}
+use Rattle.cga_top.specs.State.{Block, of_rules, of_city, of_asset, of_judge, State}
 use Rattle.cga_top.specs.Effect.{Effect, HasSpent, says}
 use Rattle.cga_top.specs.Replies.{budget_of}
 use Rattle.cga_top.specs.declared.open_block.OpenBlock.{OpenBlock}
@@ -12,7 +12,8 @@ use Rattle.cga_top.specs.declared.session.Session.{Session}
 abbrev pub IsOpenAs : Block → OpenBlock → Type 0
 IsOpenAs (of_rules lines) (opened.Rules reader) = RulesRead reader lines
 IsOpenAs (of_city lines) (opened.City reader) = SourcesRead reader lines
-IsOpenAs of_other opened.Other = Unit {0}
+IsOpenAs (of_asset name lines) (opened.Asset own reader) = (own ≡ name) × AssetRead reader lines
+IsOpenAs (of_judge lines) (opened.Judge reader) = TraceRead reader lines
 IsOpenAs _ _ = ⊥
 
 -- a block is open exactly where one is
@@ -34,12 +35,13 @@ pub record IsAt (s : State) (session : Session) : Type 0 where
   pub number : session.city.expanded ≡ s.number
   pub block : IsOpen s.block session.block
   pub quiet : session.quiet ≡ s.quiet
+  pub wardrobe : session.wardrobe ≡ s.wardrobe
 
--- a line was done: the session has come to its state, this was the reply, and its edits expanded so much
+-- a line was done: the session has come to its state, this was the reply, and its works expanded so much
 pub record Did (e : Effect) (session : Session) (text : List ℕ) (before after : ℕ) : Type 0 where
   pub is_at : IsAt e.state session
   pub reply : text ≡ e.reply
-  pub spent : HasSpent e.edits before after
+  pub spent : HasSpent e.works before after
 
 -- only a reply was given: it is that of the effect, which changes nothing
 abbrev pub Says : Effect → List ℕ → Type 0

@@ -1,5 +1,6 @@
 -- What a script has come to.
 use Rattle.std.specs.Prelude.{ℕ, List, Bool, true, false, Option, None}
+use Rattle.cga_asset.specs.Wardrobe.{WardrobeView, empty}
 use Rattle.cga_form.specs.Lines.{Line}
 use Rattle.cga_shape.specs.declared.sources.Sources.{Sources}
 use Rattle.cga_city.specs.City.{empty_sources}
@@ -11,8 +12,10 @@ use Rattle.cga_undo.specs.History.{Kept, nothing}
 pub data Block : Type 0 where
   of_rules : List Line → Block
   of_city : List Line → Block
-  -- one of a command that isn't built yet; what its lines are is the same to all
-  of_other : Block
+  -- of this name
+  of_asset : List ℕ → List Line → Block
+  -- of a trace that is to be judged
+  of_judge : List Line → Block
 
 pub record State : Type 0 where
   -- the decimals of what is printed, which the words give and no line changes
@@ -24,6 +27,8 @@ pub record State : Type 0 where
   pub block : Option Block
   -- `quiet` was given
   pub quiet : Bool
+  -- assets, and the symbols that they dress
+  pub wardrobe : WardrobeView
   -- the past and the future
   pub kept : Kept
   -- how many shapes the last accepted edit touched
@@ -38,6 +43,7 @@ start decimals = record {
   sources = empty_sources;
   block = None;
   quiet = false;
+  wardrobe = empty;
   kept = nothing;
   number = 0;
 }

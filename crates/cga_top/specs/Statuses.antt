@@ -10,9 +10,9 @@ use Rattle.cga_top.specs.Outside.{Outside, IsCalm}
 use Rattle.cga_top.specs.Reads.{limit, read_limit}
 use Rattle.cga_top.specs.Prefixes.{AppendsSome}
 
--- the expansions are those of the edits that the lines asked for
+-- the expansions are those of the works that the lines asked for
 pub record Spent (e : Effect) (old new : Outside) : Type 0 where
-  pub by : HasSpent e.edits old.expanded new.expanded
+  pub by : HasSpent e.works old.expanded new.expanded
 
 -- the script is within the limit, and all of the output was written
 pub record WritesAll (decimals : ℕ) (bytes : List ℕ) (old new : Outside) : Type 0 where

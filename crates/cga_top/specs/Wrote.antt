@@ -5,8 +5,8 @@ use Rattle.cga_top.specs.declared.session.Session.{Session}
 use Rattle.cga_top.specs.Effect.{Effect, HasSpent}
 use Rattle.cga_top.specs.Session.{IsAt}
 
--- the session has come to their state, their replies were written, and their edits expanded so much
+-- the session has come to their state, their replies were written, and their works expanded so much
 pub record Wrote (e : Effect) (session : Session) (old new : Option (List ℕ)) (before after : ℕ) : Type 0 where
   pub is_at : IsAt e.state session
   pub written : Appends old new e.reply
-  pub spent : HasSpent e.edits before after
+  pub spent : HasSpent e.works before after

@@ -1,16 +1,40 @@
 ghost use Rattle.std.specs.Prelude.{IfOk, OnOk};
+ghost use Rattle.cga_city.specs.City.{HasDistinctLots};
 ghost use Rattle.cga_undo.specs.History.{undone, redone};
 ghost use Rattle.cga_top.specs.State.{State};
 ghost use Rattle.cga_top.specs.Written.{IsWritten};
 ghost use Rattle.cga_top.specs.Replies.{edited, stepped};
 ghost use Rattle.cga_top.specs.Session.{IsAt, Did};
-ghost use Rattle.cga_top.specs.Ready.{IsReady};
+ghost use Rattle.cga_top.specs.Ready.{IsReady, Tells};
 
 use crate::session::{Session, accepted};
 use cga_fraction::{List, NoMemory, Steps};
 use cga_script::{Refused, refusal_text};
-use cga_shape::{Edit, EditRefused};
+use cga_shape::{Edit, EditRefused, Sources};
 use std::sync::ledger::Ledger;
+
+// Does an edit of the city, brings the bill up to it, and gives the sources before it. After want of memory the bill may be
+// behind the city.
+fn do_edit<E: Ledger, T: Ledger>(
+    session: &mut Session,
+    edit: Edit,
+    expansions: &mut Steps<E>,
+    tests: &mut Steps<T>,
+) -> Result<Result<Sources, EditRefused>, NoMemory>
+    requires ready { IsReady session.old }
+    requires lots { HasDistinctLots edit }
+    ensures { IfOk result (λ told. Tells session.old edit told session.new expansions.old expansions.new) }
+{
+    let before = session.city.sources().copy(session.alloc)?;
+    match session.city.edit(edit, expansions, tests) {
+        Ok(()) => {
+            session.bill.apply(session.city.changes())?;
+            Ok(Ok(before))
+        }
+        Err(EditRefused::NoMemory) => Err(NoMemory),
+        Err(refused) => Ok(Err(refused)),
+    }
+}
 
 /// Does an edit, and notes the sources before it.
 pub(crate) fn change<E: Ledger, T: Ledger>(
@@ -25,13 +49,12 @@ pub(crate) fn change<E: Ledger, T: Ledger>(
         → IfOk result (λ reply. Did (edited s edit) session.new reply expansions.old expansions.new) }
     ensures ready { OnOk result (IsReady session.new) }
 {
-    let before = session.city.sources().copy(session.alloc)?;
-    match session.city.edit(edit, expansions, tests) {
-        Ok(()) => {
+    let told = do_edit(session, edit, expansions, tests)?;
+    match told {
+        Ok(before) => {
             session.history.note(before);
             accepted(session.alloc, session.quiet)
         }
-        Err(EditRefused::NoMemory) => Err(NoMemory),
         Err(refused) => refusal_text(session.alloc, &Refused::Edit(refused)),
     }
 }
@@ -51,13 +74,12 @@ pub(crate) fn undo<E: Ledger, T: Ledger>(
         return refusal_text(session.alloc, &Refused::NoUndo);
     };
     let taken = last.copy(session.alloc)?;
-    let now = session.city.sources().copy(session.alloc)?;
-    match session.city.edit(Edit::Whole(taken), expansions, tests) {
-        Ok(()) => {
-            let _ = session.history.undo(now);
+    let told = do_edit(session, Edit::Whole(taken), expansions, tests)?;
+    match told {
+        Ok(before) => {
+            let _ = session.history.undo(before);
             accepted(session.alloc, session.quiet)
         }
-        Err(EditRefused::NoMemory) => Err(NoMemory),
         Err(refused) => refusal_text(session.alloc, &Refused::Edit(refused)),
     }
 }
@@ -77,13 +99,12 @@ pub(crate) fn redo<E: Ledger, T: Ledger>(
         return refusal_text(session.alloc, &Refused::NoRedo);
     };
     let taken = last.copy(session.alloc)?;
-    let now = session.city.sources().copy(session.alloc)?;
-    match session.city.edit(Edit::Whole(taken), expansions, tests) {
-        Ok(()) => {
-            let _ = session.history.redo(now);
+    let told = do_edit(session, Edit::Whole(taken), expansions, tests)?;
+    match told {
+        Ok(before) => {
+            let _ = session.history.redo(before);
             accepted(session.alloc, session.quiet)
         }
-        Err(EditRefused::NoMemory) => Err(NoMemory),
         Err(refused) => refusal_text(session.alloc, &Refused::Edit(refused)),
     }
 }

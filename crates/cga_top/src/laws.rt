@@ -6,7 +6,7 @@ ghost use Rattle.cga_script.specs.CityLines.{CityTells};
 ghost use Rattle.cga_script.specs.Commands.{CommandTells};
 ghost use Rattle.cga_script.specs.declared.version.Version.{Version};
 ghost use Rattle.cga_top.specs.Told.{command_of, rules_of, city_of};
-ghost use Rattle.cga_top.specs.Undos.{UndosGoThrough, RedosGoThrough};
+ghost use Rattle.cga_top.specs.Undos.{StatesAreWithin, UndosGoThrough, RedosGoThrough};
 
 /// What a line outside a block is taken for is the one thing that it tells. Does nothing: its contract is the law.
 pub fn commands_are_told()
@@ -17,6 +17,11 @@ pub fn commands_are_told()
 pub fn blocks_are_told()
     ensures rules { (lines : List Line) → GrammarTells lines (rules_of lines) }
     ensures city { (lines : List Line) → CityTells lines (city_of lines) }
+{}
+
+/// Whatever lines came, the sources are sound, and come to no more shapes than the version allows.
+pub fn states_are_within_the_budget()
+    ensures { StatesAreWithin }
 {}
 
 /// Whatever lines came, an undo, where there is a past, is an edit that goes through and leaves just the sources that it

@@ -7,10 +7,11 @@
 
 mod commands;
 mod decimals;
+mod dresses;
 mod edits;
 mod halt;
 mod laws;
-mod not_built;
+mod models;
 mod open_block;
 mod pump;
 mod read_end;
@@ -20,12 +21,13 @@ mod script_end;
 mod session;
 mod stats;
 mod status;
-#[cfg(test)]
-mod tests;
 mod top;
+mod traces;
 mod turns;
 
 pub use cga_words::town_script;
-pub use laws::{blocks_are_told, commands_are_told, undo_is_never_refused};
+pub use laws::{
+    blocks_are_told, commands_are_told, states_are_within_the_budget, undo_is_never_refused,
+};
 pub use status::Status;
 pub use top::run_city;

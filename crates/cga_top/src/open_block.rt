@@ -8,19 +8,24 @@ ghost use Rattle.cga_top.specs.Ready.{HasRead};
 ghost use Rattle.cga_top.specs.Told.{grammar_told, sources_told};
 ghost use Rattle.cga_top.specs.Written.{IsWritten};
 
+use cga_asset::AssetReader;
 use cga_form::BlockFault;
 use cga_fraction::NoMemory;
 use cga_parser::GrammarReader;
 use cga_script::CityReader;
 use cga_shape::Edit;
+use cga_trace::JudgeReader;
+use cga_word::Name;
 
 /// A block that is open.
 #[derive(Drop)]
 pub(crate) enum OpenBlock {
     Rules(GrammarReader),
     City(CityReader),
-    /// Of a command that isn't built yet: its lines are passed over.
-    Other,
+    /// An asset of this name.
+    Asset(Name, AssetReader),
+    /// A trace that is to be judged.
+    Judge(JudgeReader),
 }
 
 impl OpenBlock {
@@ -42,7 +47,16 @@ impl OpenBlock {
                 reader.line(line, long)?;
                 Ok(OpenBlock::City(reader))
             }
-            OpenBlock::Other => Ok(OpenBlock::Other),
+            OpenBlock::Asset(name, reader) => {
+                let mut reader = reader;
+                reader.line(line, long)?;
+                Ok(OpenBlock::Asset(name, reader))
+            }
+            OpenBlock::Judge(reader) => {
+                let mut reader = reader;
+                reader.line(line, long)?;
+                Ok(OpenBlock::Judge(reader))
+            }
         }
     }
 }

@@ -1,4 +1,6 @@
 ghost use Rattle.std.specs.Prelude.{◌≡◌, IfOk, None, Some};
+ghost use Rattle.cga_bill.specs.Bill.{bill_of};
+ghost use Rattle.cga_bill.specs.Texts.{bill_text_of};
 ghost use Rattle.cga_obj.specs.Faults.{fault_text_of};
 ghost use Rattle.cga_city.specs.Reports.{faults_of};
 ghost use Rattle.cga_city.specs.Lots.{names_of};
@@ -6,7 +8,7 @@ ghost use Rattle.cga_script.specs.Dumps.{dump_of};
 ghost use Rattle.cga_syntax.specs.GrammarText.{grammar_text};
 ghost use Rattle.cga_top.specs.State.{State};
 ghost use Rattle.cga_top.specs.Stats.{stats_text_of};
-ghost use Rattle.cga_top.specs.Replies.{printed, dumped, derived, counts_of};
+ghost use Rattle.cga_top.specs.Replies.{printed, dumped, derived, counts_of, drawn_by};
 ghost use Rattle.cga_top.specs.Session.{IsAt, Says};
 ghost use Rattle.cga_top.specs.Ready.{IsReady};
 
@@ -21,8 +23,8 @@ use cga_syntax::print_grammar;
 use cga_word::Name;
 use std::alloc::Global;
 
-// The names of lots, in their order.
-fn names(alloc: Global, lots: &[Lot]) -> Result<List<Name>, NoMemory>
+/// The names of lots, in their order.
+pub(crate) fn names(alloc: Global, lots: &[Lot]) -> Result<List<Name>, NoMemory>
     ensures { IfOk result (λ names. names ≡ names_of lots.now) }
 {
     let mut names = List::new(alloc);
@@ -82,6 +84,15 @@ pub(crate) fn stats(session: &Session) -> Result<List<u8>, NoMemory>
         → IfOk result (λ text. text ≡ stats_text_of (counts_of s)) }
 {
     stats_text(session.alloc, session.city.counts())
+}
+
+/// The bill of all that is drawn. Takes memory.
+pub(crate) fn bill(session: &Session) -> Result<List<u8>, NoMemory>
+    requires { IsReady session.now }
+    ensures { (s : State) → IsAt s session.now
+        → IfOk result (λ text. text ≡ bill_text_of (bill_of (drawn_by s (names_of s.sources.lots)))) }
+{
+    session.bill.bill_text()
 }
 
 /// The text of the rules. Takes memory.

@@ -6,6 +6,8 @@ ghost use Rattle.cga_top.specs.Ready.{IsReady};
 
 use crate::decimals::Decimals;
 use crate::open_block::OpenBlock;
+use cga_asset::Wardrobe;
+use cga_bill::Bill;
 use cga_city::City;
 use cga_city::limits::BUDGET;
 use cga_fraction::{List, NoMemory, Text};
@@ -22,7 +24,10 @@ pub(crate) struct Session {
     pub(crate) fresh: bool,
     pub(crate) version: Version,
     pub(crate) city: City,
+    /// Of all that the city draws.
+    pub(crate) bill: Bill,
     pub(crate) history: History,
+    pub(crate) wardrobe: Wardrobe,
     pub(crate) block: Option<OpenBlock>,
     pub(crate) quiet: bool,
 }
@@ -38,7 +43,9 @@ pub(crate) fn new_session(alloc: Global, decimals: Decimals) -> Result<Session, 
         fresh: true,
         version: Version::One,
         city: City::new(alloc, BUDGET),
+        bill: Bill::new(alloc),
         history: History::new(alloc)?,
+        wardrobe: Wardrobe::new(alloc),
         block: None,
         quiet: false,
     })

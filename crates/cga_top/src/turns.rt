@@ -7,10 +7,13 @@ ghost use Rattle.cga_top.specs.Ready.{IsReady, HasRead};
 ghost use Rattle.cga_top.specs.Written.{IsWritten, AsksWritten};
 
 use crate::commands::do_command;
+use crate::dresses::keep_asset;
 use crate::edits::change;
-use crate::not_built::NotBuilt;
 use crate::open_block::{OpenBlock, city_edit, rules_edit};
 use crate::session::{Session, accepted};
+use crate::traces::judge_lines;
+use cga_asset::Wardrobe;
+use cga_bill::Bill;
 use cga_city::City;
 use cga_city::limits::BUDGET_TWO;
 use cga_form::{BlockFault, LineFault};
@@ -31,6 +34,8 @@ fn begin_second(session: &mut Session) -> Result<List<u8>, NoMemory>
 {
     session.history = History::new(session.alloc)?;
     session.city = City::new(session.alloc, BUDGET_TWO);
+    session.bill = Bill::new(session.alloc);
+    session.wardrobe = Wardrobe::new(session.alloc);
     session.fresh = false;
     session.version = Version::Two;
     session.block = None;
@@ -138,7 +143,8 @@ fn do_end<E: Ledger, T: Ledger>(
     match block {
         OpenBlock::Rules(reader) => close(session, rules_edit(reader), expansions, tests),
         OpenBlock::City(reader) => close(session, city_edit(reader), expansions, tests),
-        OpenBlock::Other => NotBuilt.text(session.alloc),
+        OpenBlock::Asset(name, reader) => keep_asset(session, name, reader.finish()),
+        OpenBlock::Judge(reader) => judge_lines(session, &reader, expansions, tests),
     }
 }
 
