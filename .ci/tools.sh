@@ -1,0 +1,13 @@
+#!/usr/bin/env bash
+# The tools with stored replies and a stand-in for the program, the words of the editors, and, where the proved program
+# is there, a pass with it: stored and random scripts, regions in jobs.
+set -euo pipefail
+cd "$(dirname "${BASH_SOURCE[0]}")/.."
+export PYTHONDONTWRITEBYTECODE=1
+python3 -m unittest discover -s tools/tests
+if ./cga_city --proved; then
+  tools/tests/with_program.py
+  tools/tests/regions_with_program.py
+else
+  echo "the pass with the program waits for a proved one: ./cga_city --prove"
+fi
