@@ -1,0 +1,1 @@
+autocmd BufNewFile,BufRead *.cga setfiletype cga_city

@@ -1,0 +1,24 @@
+"""The program that replies to scripts: the launcher beside the tools, or another."""
+import subprocess
+from pathlib import Path
+
+LAUNCHER = Path(__file__).resolve().parent.parent.parent / "cga_city"
+
+
+def take_program(words):
+    """The program that the words name by `--program PATH`, else the launcher, and the other words."""
+    if "--program" in words[:-1]:
+        at = words.index("--program")
+        return words[at + 1], words[:at] + words[at + 2:]
+    return str(LAUNCHER), words
+
+
+def is_proved(program):
+    """Whether a call replies line by line and at once; any other program than the launcher is taken to."""
+    return program != str(LAUNCHER) or subprocess.run([program, "--proved"]).returncode == 0
+
+
+def run(program, script):
+    """The status of a run of the script, and its replies' lines."""
+    done = subprocess.run([program], input=script, stdout=subprocess.PIPE)
+    return done.returncode, done.stdout.decode("latin-1").split("\n")[:-1]

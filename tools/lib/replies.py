@@ -1,0 +1,30 @@
+"""What a run printed, cut into one reply for each command."""
+import re
+from itertools import islice
+
+
+def until_end(lines):
+    for line in lines:
+        yield line
+        if line == "end":
+            return
+
+
+def replies(lines):
+    """Each reply as its lines; where more may come, an OBJ text is handed out at the line behind it."""
+    lines = iter(lines)
+    line = next(lines, None)
+    while line is not None:
+        reply, following = [line], None
+        if line.startswith("# cga_city obj"):
+            for following in lines:
+                if following[:2] not in ("o ", "g ", "v ", "f "):
+                    break
+                reply.append(following)
+                following = None
+        elif line in ("rules", "version 2"):
+            reply += until_end(lines)
+        elif counted := re.fullmatch(r"# (?:faults|bill|trace) (\d+)", line):
+            reply += islice(lines, int(counted.group(1)))
+        yield reply
+        line = next(lines, None) if following is None else following
