@@ -1,7 +1,7 @@
 #!/usr/bin/env python3
 """edits.py: looks at the planted bugs before any proof. Each edit can be applied and changes something, no two of a
 crate plant the same, and each crate that computes something has some. A crate of definitions and laws alone, or of
-tests alone, needs none. Each fault has a line, and then the status is 1.
+tests alone, needs none. No attribute looks as if a crate without tests had some. Each fault has a line, and then the status is 1.
 """
 import pathlib
 import re
@@ -9,6 +9,8 @@ import sys
 
 TOP = pathlib.Path(__file__).resolve().parent.parent
 NAME = re.compile(r"[a-z0-9_]+\.edit")
+# by this the toolchain takes a crate for one with tests, and then it wants some
+SIGN = re.compile(r"#\s*\[[^]]*\btest\b")
 TESTED = re.compile(r"#\[cfg\(test\)\]\n(?:pub )?mod (\w+);")
 # as rt fmt lays it out, the body of a function that does something begins in one of these two ways; a law's is {}
 BODY = re.compile(r"^\s*(?:(?:pub(?:\(\w+\))? )?(?:const )?fn .*\{|\{)$", re.M)
@@ -64,6 +66,9 @@ def faults_of(crate):
             yield f"BAD EDIT {crate.name}/{edit.name}: {why}"
     if not edits and computes(crate):
         yield f"{crate.name} computes something and has no planted bug"
+    sources = [file.read_text() for file in crate.glob("src/**/*.rt")]
+    if any(map(SIGN.search, sources)) and not any("#[test]" in source for source in sources):
+        yield f"{crate.name} has no test, but an attribute with the word test"
 
 
 def main():

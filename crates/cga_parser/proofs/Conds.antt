@@ -215,8 +215,8 @@ module _ (n : ℕ) (inner : Reader Cond) (h : IsInner n inner) where
       next (listed g.is_addition added_long (added_reads n (g.inside_of n) (inside_reads n))) (λ ts.
       compare_reads (g.sum_of (g.size_factor a) fs ts) _ (sum_layer a fs ts)))
 
-  pub test_reads : Reads n n test_pieces (g.test n inner)
-  unfolding g.test
+  pub test_reads : Reads n n test_pieces (g.one_test n inner)
+  unfolding g.one_test
   test_reads =
       either (is_sign s.LeftSquare) (next (square_reads n inner h) (λ c. done (group_layer c)))
       (either (is_keyword k.Not) (next (one_token (keyword_token k.Not n refl)) (λ _. next (square_reads n inner h) (λ c. done (not_layer c))))

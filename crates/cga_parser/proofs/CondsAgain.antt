@@ -119,25 +119,25 @@ module _ (n : ℕ) (inner : Reader Cond) (h : AgainInner n inner) (r : IsInner n
   compare_again left o right = took a_relation o (relation_read o) (plainly (after _ right (expr_again n) (misses_end (λ l e. e)) ends))
 
   abbrev At_test : Test → Type 0
-  At_test a = Leads goes_on (test_pieces a) (g.test n inner) a
+  At_test a = Leads goes_on (test_pieces a) (g.one_test n inner) a
 
   group_again : (c : Cond) → At_test (t.Group c)
-  unfolding g.test
+  unfolding g.one_test
   group_again c = written_as (group_layer c) (peek_yes _ (starts_token refl) (plainly (after _ c square_again misses_nothing ends)))
 
   not_again : (c : Cond) → At_test (t.Not c)
-  unfolding g.test
+  unfolding g.one_test
   not_again c = written_as (not_layer c) (peek_no _ (missed (begun_token refl)) (peek_yes _ (starts_token refl) (took (a_keyword k.Not) tt refl (plainly (after _ c square_again misses_nothing ends)))))
 
   asked_again : (a : Target) (equal : Bool) (state : Answer) → At_test (t.Occ a equal state)
-  unfolding g.test
+  unfolding g.one_test
   asked_again a equal state =
       written_as (occ_layer a equal state) (peek_no _ (missed (begun_token refl)) (peek_no _ (missed (begun_token refl)) (peek_yes _ (starts_token refl)
       (took (a_keyword k.Scope) tt refl (took (a_sign s.Dot) tt refl (took a_scope_word scope_word.Occ refl (plainly (after _ (a, equal, state) occ_again misses_nothing ends))))))))
 
   -- a comparison that begins with a size of the scope
   sum_again : (a : Axis) (fs : List Scaled) (ts : List Added) (o : Relation) (right : Expr) → At_test (t.Compare (g.sum_of (g.size_factor a) fs ts) o right)
-  unfolding g.test
+  unfolding g.one_test
   sum_again a fs ts o right =
       let left : Expr = g.sum_of (g.size_factor a) fs ts in
       let end : Pieces = sign (relation_sign o) ∷ expr_pieces right in
@@ -154,7 +154,7 @@ module _ (n : ℕ) (inner : Reader Cond) (h : AgainInner n inner) (r : IsInner n
 
   -- one that doesn't
   other_again : (left : Expr) (o : Relation) (right : Expr) → Begun (is_keyword k.Scope) (expr_pieces left) → At_test (t.Compare left o right)
-  unfolding g.test
+  unfolding g.one_test
   other_again left o right b =
       let end : Pieces = sign (relation_sign o) ∷ expr_pieces right in
       written_as (compare_layer left o right) (peek_no _ (missed (begun_append end (expr_begun square_spares refl left))) (peek_no _ (missed (begun_append end (expr_begun not_spares refl left)))
@@ -186,7 +186,7 @@ module _ (n : ℕ) (inner : Reader Cond) (h : AgainInner n inner) (r : IsInner n
   test_at (test.Occ a equal state) = subst At_test (sym (rolls-Occ a equal state)) (asked_again a equal state)
   test_at (test.Compare left o right) = subst At_test (sym (rolls-Compare left o right)) (compared_again left o right)
 
-  test_again : Again test_pieces goes_on (g.test n inner)
+  test_again : Again test_pieces goes_on (g.one_test n inner)
   test_again = record { all = λ a. subst At_test (roll-out-Test a) (test_at (out-Test a)) }
 
   further_test_again : Again further_test_pieces goes_on (g.further_test n inner)

@@ -132,17 +132,17 @@ module _ (n : ℕ) (inner : Reader Cond) where
   scope_rest (scope_word.Size a) =
       many is_scaling (scaled n (inside_of n)) >>= λ fs. many is_addition (added n (inside_of n)) >>= λ ts. compare_after (sum_of (size_factor a) fs ts)
 
-  unfoldable pub test : Reader Test
-  test =
+  unfoldable pub one_test : Reader Test
+  one_test =
       peeked (is_sign s.LeftSquare) (square >>= λ c. pure (t.Group c))
       (peeked (is_keyword k.Not) (single (a_keyword k.Not) >> (square >>= λ c. pure (t.Not c)))
       (peeked (is_keyword k.Scope) (single (a_keyword k.Scope) >> (sign s.Dot >> (single a_scope_word >>= scope_rest))) (expr n >>= compare_after)))
 
   unfoldable pub further_test : Reader Test
-  further_test = single (a_keyword k.And) >> (test >>= λ a. pure a)
+  further_test = single (a_keyword k.And) >> (one_test >>= λ a. pure a)
 
   unfoldable pub conj : Reader Conj
-  conj = test >>= λ a. many (is_keyword k.And) further_test >>= λ more. pure (roll-Conj (record { tests = a ∷ more }))
+  conj = one_test >>= λ a. many (is_keyword k.And) further_test >>= λ more. pure (roll-Conj (record { tests = a ∷ more }))
 
   unfoldable pub further_conj : Reader Conj
   further_conj = single (a_keyword k.Or) >> (conj >>= λ a. pure a)

@@ -111,9 +111,9 @@ fn square(alloc: Global, tokens: &mut Tokens<'_>, depth: u8) -> Result<Cond, Sto
 }
 
 #[cycle(cond)]
-#[tactic(auto, unfolding(crate::specs::Grammar::test))]
+#[tactic(auto, unfolding(crate::specs::Grammar::one_test))]
 fn test(alloc: Global, tokens: &mut Tokens<'_>, depth: u8) -> Result<Test, Stop<Fault>>
-    ensures { Reads (spec.test depth (spec.inner_of depth) (input_of tokens.old)) result (input_of tokens.new) }
+    ensures { Reads (spec.one_test depth (spec.inner_of depth) (input_of tokens.old)) result (input_of tokens.new) }
 {
     if tokens.at_sign(Sign::LeftSquare) {
         return Ok(Test::Group(square(alloc, tokens, depth)?));
