@@ -9,3 +9,4 @@ pub mod Placing
 pub mod Walked
 pub mod Moved
 pub mod Gathered
+pub mod Laws

@@ -59,7 +59,7 @@ impl HullTree for Forest {
 }
 
 impl Forest {
-    /// What a node is answered.
+    /// What a node is answered: as by all boxes, since a forest keeps the laws of `HullTree` (`forests_are_hull_trees`).
     pub fn ask<T: Ledger>(&self, node: NodeId, target: Target, tests: &mut Steps<T>) -> Answer
         requires here { IsSome (node_at self.now node) }
         ensures found { result ≡ answer_of ((forest_tree self.now).own node) (asked (forest_tree self.now) node target (all_nodes (forest_tree self.now))) }

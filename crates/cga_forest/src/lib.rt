@@ -23,6 +23,7 @@ mod slots;
 mod standing;
 mod step;
 mod store;
+mod tree_law;
 
 ghost use Rattle.std.specs.Prelude.{◌≡◌, ◌≢◌, ℕ, true, false, [], Some, None, IfOk, IfSome, IsSome, is_some, option_copied, ◌↔◌, OnOk, OnErr};
 ghost use Rattle.cga_order.specs.Chain as order;
@@ -53,6 +54,7 @@ use slots::{depth_of, parent_at, replace};
 use std::alloc::Global;
 use std::marker::Model;
 use store::Store;
+pub use tree_law::forests_are_hull_trees;
 
 /// Nodes under numbers, with a way back to a mark.
 #[derive(Drop)]

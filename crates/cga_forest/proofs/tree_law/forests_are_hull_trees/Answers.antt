@@ -1,0 +1,12 @@
+use Rattle.std.proofs.Common.{ap}
+use Rattle.std.specs.Prelude.{is_some}
+use Rattle.cga_forest.specs.Tree.{node_at}
+use Rattle.cga_forest.proofs.Right.{is_there}
+use Rattle.cga_forest.proofs.Laws.{keeps_laws, there, inside}
+use Rattle.cga_forest.proofs.tree_law.forests_are_hull_trees.Goals as goal
+
+pub returns-clause-laws : goal.returns-clause-laws
+returns-clause-laws c = keeps_laws
+
+pub returns-clause-nodes : goal.returns-clause-nodes
+returns-clause-nodes c = λ v f n. (λ m. ap is_some (there v f n m).1, λ h. inside v f n (is_there (node_at v n) h))

@@ -1,0 +1,9 @@
+//! What is proved of a forest as a tree of boxes. The function here does nothing: its contract is the law, which a
+//! caller's proof can cite.
+ghost use Rattle.cga_forest.specs.Laws.{ForestsAreHullTrees, TreesHaveNodes};
+
+/// What holds of each forest (`Forest::laws`) gives the laws of `HullTree`, over the nodes that are there.
+pub fn forests_are_hull_trees()
+    ensures laws { ForestsAreHullTrees }
+    ensures nodes { TreesHaveNodes }
+{}
