@@ -152,7 +152,8 @@ impl Forest {
 
     /// Gives a node the outcome of its expansion and the answers that it was asked with. An old child stays with its
     /// subtree where the new one at its index has its shape, its priority and its sort; all others go. Answers the nodes
-    /// that went and those that came, each once. Takes memory.
+    /// that went and those that came, each once. While a mark stands, the number of a node that went isn't given out
+    /// again, also where the node came after the mark. Takes memory.
     pub fn replace_children(
         &mut self,
         node: NodeId,
@@ -237,7 +238,8 @@ impl Forest {
         self.marking = true;
     }
 
-    /// Drops the mark, and what was set aside since. The time goes by what went or came since the mark.
+    /// Drops the mark, and what was set aside since: from now on the numbers of those nodes may be given out again. The
+    /// time goes by what went or came since the mark.
     pub fn settle(&mut self)
         requires marked { self.old.marking ≡ true }
         ensures marking { self.new.marking ≡ false }
@@ -250,7 +252,8 @@ impl Forest {
         self.marking = false;
     }
 
-    /// Makes the nodes those of the mark again, with their ids, and drops it. The time goes by what changed since the mark.
+    /// Makes the nodes those of the mark again, with their ids, and drops it: from now on the numbers of those that came
+    /// since may be given out again. The time goes by what changed since the mark.
     pub fn roll_back(&mut self)
         requires marked { self.old.marking ≡ true }
         ensures marking { self.new.marking ≡ false }

@@ -48,7 +48,7 @@ impl Forest {
         Ok(id)
     }
 
-    /// Adds the waiting root of a lot. Takes memory.
+    /// Adds the waiting root of a lot. Its number is none of a node that went since the mark, if one stands. Takes memory.
     pub fn add_lot(&mut self, lot: &Lot, grammar: &Grammar) -> Result<NodeId, NoMemory>
         requires new { HasNoLot self.old lot.now.name }
         requires scope { IsOk (root_scope lot.now) }
@@ -65,7 +65,8 @@ impl Forest {
         Ok(NodeId::new(root as u64))
     }
 
-    /// Takes the nodes of the lot of that name away. False exactly where no such lot is there.
+    /// Takes the nodes of the lot of that name away. False exactly where no such lot is there. While a mark stands, their
+    /// numbers aren't given out again, also those of nodes that came after the mark.
     pub fn remove_lot(&mut self, name: Name) -> bool
         ensures absent { result ≡ false → HasNoLot self.old name }
         ensures same { result ≡ false → self.new ≡ self.old }
