@@ -27,3 +27,4 @@ mod Swaps
 mod Shelf
 mod Grown
 pub mod Said
+pub mod Numbers

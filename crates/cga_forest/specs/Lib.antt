@@ -10,3 +10,4 @@ pub mod Walked
 pub mod Moved
 pub mod Gathered
 pub mod Laws
+pub mod Numbers

@@ -32,6 +32,7 @@ ghost use Rattle.cga_forest.specs.Node.{chain_kept};
 ghost use Rattle.cga_forest.specs.Count.{tally};
 ghost use Rattle.cga_forest.specs.View.{Seen, is_shown};
 ghost use Rattle.cga_forest.specs.Moved.{ListsMoved};
+ghost use Rattle.cga_forest.specs.Numbers.{KeepsNumbers};
 ghost use Rattle.cga_forest.specs.Placing.{MayGrow, children_after, state_after};
 ghost use Rattle.cga_forest.specs.Tree.{ForestView, HasInner, content_of, above, slot_at, IsLeastHull, IsLeastAsking, NoneAsks, Replaces, node_at, marked_at, KeepsMark};
 
@@ -167,6 +168,7 @@ impl Forest {
         ensures went { IfOk result (λ change. ListsMoved (node_at self.old) (node_at self.new) change.went) }
         ensures came { IfOk result (λ change. ListsMoved (node_at self.new) (node_at self.old) change.came) }
         ensures mark { KeepsMark self.old self.new }
+        ensures numbers { KeepsNumbers self.old self.new }
         ensures mode { self.new.mode ≡ self.old.mode }
         ensures err { OnErr result (self.new ≡ self.old) }
     {
@@ -190,6 +192,7 @@ impl Forest {
         ensures went { IfOk result (λ change. ListsMoved (node_at self.old) (node_at self.new) change.went) }
         ensures came { IfOk result (λ change. ListsMoved (node_at self.new) (node_at self.old) change.came) }
         ensures mark { KeepsMark self.old self.new }
+        ensures numbers { KeepsNumbers self.old self.new }
         ensures mode { self.new.mode ≡ self.old.mode }
         ensures err { OnErr result (self.new ≡ self.old) }
     {

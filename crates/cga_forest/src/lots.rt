@@ -3,6 +3,7 @@ ghost use Rattle.std.specs.Prelude.{◌≡◌, ◌≢◌, ◌↔◌, ℕ, [], No
 ghost use Rattle.cga_shape.specs.Root.{root_scope};
 ghost use Rattle.cga_forest.specs.declared.node.Node.{Node};
 ghost use Rattle.cga_forest.specs.Node.{IsTop};
+ghost use Rattle.cga_forest.specs.Numbers.{KeepsNumbers};
 ghost use Rattle.cga_forest.specs.Placing.{IsRootNode};
 ghost use Rattle.cga_forest.specs.Tree.{HasNoLot, IsRootOf, IsWithout, KeepsMark, marked_at, node_at};
 
@@ -36,6 +37,7 @@ impl Forest {
         ensures node { IfOk result (λ id. node_at self.new id ≡ Some (record { node = node; depth = 0; parent = None; index = 0; children = [] })) }
         ensures others { IfOk result (λ id. (other : ℕ) → other ≢ id → node_at self.new other ≡ node_at self.old other) }
         ensures mark { KeepsMark self.old self.new }
+        ensures numbers { KeepsNumbers self.old self.new }
         ensures mode { self.new.mode ≡ self.old.mode }
         ensures err { OnErr result (self.new ≡ self.old) }
     {
@@ -57,6 +59,7 @@ impl Forest {
         ensures root { IfOk result (λ id. (n : Node) × IsRootNode grammar.now lot.now n × (node_at self.new id ≡ Some (record { node = n; depth = 0; parent = None; index = 0; children = [] }))) }
         ensures others { IfOk result (λ id. (other : ℕ) → other ≢ id → node_at self.new other ≡ node_at self.old other) }
         ensures mark { KeepsMark self.old self.new }
+        ensures numbers { KeepsNumbers self.old self.new }
         ensures mode { self.new.mode ≡ self.old.mode }
         ensures err { OnErr result (self.new ≡ self.old) }
     {
@@ -72,6 +75,7 @@ impl Forest {
         ensures same { result ≡ false → self.new ≡ self.old }
         ensures there { result ≡ true → (root : ℕ) × IsRootOf (node_at self.old) name root × IsWithout self.old self.new root }
         ensures mark { KeepsMark self.old self.new }
+        ensures numbers { KeepsNumbers self.old self.new }
         ensures mode { self.new.mode ≡ self.old.mode }
     {
         match self.roots.take_out(name) {

@@ -1,10 +1,13 @@
-use Rattle.std.proofs.Common.{◌∙◌, sym, ap, subst}
-use Rattle.std.specs.Prelude.{if◌then◌else◌}
+use Rattle.std.proofs.Common.{◌≡◌, ◌∙◌, true, sym, ap, subst}
+use Rattle.std.specs.Prelude.{Option, if◌then◌else◌}
+use Rattle.cga_forest.specs.declared.entry.Entry.{Entry}
+use Rattle.cga_forest.specs.Numbers.{StaysTaken}
 use Rattle.cga_forest.specs.View.{present_of, slot}
 use Rattle.cga_forest.specs.Tree.{ForestView, IsRootOf, node_at}
 use Rattle.cga_forest.proofs.ByName.{no_lot, root_from}
 use Rattle.cga_forest.proofs.Marks.{IsForest-settled, IsForest-without_root, without_root, tops_left, cut_seen, present_settled}
 use Rattle.cga_forest.proofs.Forest.remove_lot.Goals as goal
+use Rattle.cga_forest.proofs.Numbers.{taken_cut}
 
 pub invariant_of-self : goal.invariant_of-self
 invariant_of-self c =
@@ -41,3 +44,11 @@ returns-else-not-self-clause-there c = λ _.
 
 pub returns-in-None-clause-absent : goal.returns-in-None-clause-absent
 returns-in-None-clause-absent c = λ _. no_lot (record { slots = c.self.inside.store.slots; marking = c.self.inside.marking; roots = c.self.inside.roots.list; marked_roots = c.self.inside.roots.former; mode = c.self.inside.mode }) c.args.self.now c.self.view_is c.self.invariant c.args.name c.in-None.ensures.root
+
+pub returns-else-not-self-clause-numbers : goal.returns-else-not-self-clause-numbers
+returns-else-not-self-clause-numbers c on k =
+    rw (← c.self.view_is) (subst (λ (s : Option Entry). StaysTaken (slot c.self.inside.store.slots k) s) (sym (c.set_aside.ensures.pointwise k)) (taken_cut _ (slot c.self.inside.store.slots k)))
+
+pub returns-then-not-self-clause-numbers : goal.returns-then-not-self-clause-numbers
+returns-then-not-self-clause-numbers c on k =
+    absurd (let yes : c.self.inside.marking ≡ true = ap (λ (v : ForestView). v.marking) c.self.view_is ∙ on in let no = c.if-not-self.true in cc)

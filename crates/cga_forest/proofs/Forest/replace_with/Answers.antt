@@ -1,10 +1,10 @@
-use Rattle.std.proofs.Common.{refl, ◌≡◌, ◌++◌, ◌-◌, ℕ, List, length, sym, ◌∙◌, ap, subst, arith}
+use Rattle.std.proofs.Common.{refl, true, ◌≡◌, ◌++◌, ◌-◌, ℕ, List, length, sym, ◌∙◌, ap, subst, arith}
 use Rattle.std.specs.Prelude.{Option, is_some}
 use Rattle.cga_forest.proofs.Right.{is_there}
 use Rattle.cga_forest.specs.declared.entry.Entry.{Entry}
 use Rattle.cga_forest.specs.Gathered.{chosen, coming, found, going}
 use Rattle.cga_forest.specs.View.{at, kids, slot, present_of, marked_of, hulls_of, marked_hulls_of}
-use Rattle.cga_forest.specs.Tree.{ForestView, IsWhole, depth_at, stay_of, node_at, hulls_at, marked_at}
+use Rattle.cga_forest.specs.Tree.{ForestView, IsWhole, depth_at, stay_of, slot_at, node_at, hulls_at, marked_at}
 use Rattle.cga_forest.proofs.Marks.{IsWhole-same, IsForest-settled, IsForest-marked, present_settled}
 use Rattle.cga_forest.proofs.Through.{tops_replaced, ReplacedBy-same, Replaces-from, ListsMoved-same}
 use Rattle.cga_forest.specs.declared.moved.Moved.{Moved}
@@ -14,6 +14,7 @@ use Rattle.cga_forest.proofs.Tree.{IsTree-same}
 use Rattle.cga_forest.proofs.Tops.{HasRoots-same}
 use Rattle.cga_forest.proofs.Forest.replace_with.Goals as goal
 use Rattle.cga_forest.proofs.Forest.replace_with.Goals.{then-not-self, else-not-self}
+use Rattle.cga_forest.specs.Numbers.{StaysTaken}
 
 pub replace-requires-clause-whole : goal.replace-requires-clause-whole
 replace-requires-clause-whole c = IsWhole-same (node_at (record { slots = c.self.inside.store.slots; marking = c.self.inside.marking; roots = c.self.inside.roots.list; marked_roots = c.self.inside.roots.former; mode = c.self.inside.mode })) _ (hulls_at (record { slots = c.self.inside.store.slots; marking = c.self.inside.marking; roots = c.self.inside.roots.list; marked_roots = c.self.inside.roots.former; mode = c.self.inside.mode })) _ (λ k. ap (λ (s : List (Option Entry)). present_of (slot s k)) c.in_ok-reserve.ensures.slots) (λ k e t. ap (λ (s : List (Option Entry)). hulls_of (slot s k)) c.in_ok-reserve.ensures.slots) c.self.invariant.present
@@ -87,3 +88,13 @@ returns-clause-unmarked c k h t =
     let same : node_at c.args.self.now k ≡ present_of (at c.reserve.new.self k) = ap (λ (v : ForestView). node_at v k) (sym c.self.view_is) ∙ ap (λ (s : List (Option Entry)). present_of (slot s k)) (sym c.in_ok-reserve.ensures.slots) in
     let x = is_there (present_of (at c.replace.new.store k)) (ap is_some (sym (now k)) ∙ t) in
     ap (λ (v : ForestView). marked_at v k) (sym c.self.view_is) ∙ ap (λ (s : List (Option Entry)). marked_of (slot s k)) (sym c.in_ok-reserve.ensures.slots) ∙ ap marked_of (c.replace.ensures.vacant k x.0 (sym same ∙ h) x.1)
+
+pub returns-clause-numbers : goal.returns-clause-numbers
+returns-clause-numbers c on k =
+    let yes : c.self.inside.marking ≡ true = ap (λ (v : ForestView). v.marking) c.self.view_is ∙ on in
+    let now : slot_at c.if-not-self.self k ≡ at c.replace.new.store k = elim c.if-not-self.branch [
+      | then-not-self w ↦ absurd (let no = w.if-not-self.true in cc)
+      | else-not-self w ↦ rw w.self-is refl
+    ] in
+    let old : slot_at c.args.self.now k ≡ at c.reserve.new.self k = ap (λ (v : ForestView). slot_at v k) (sym c.self.view_is) ∙ ap (λ (s : List (Option Entry)). slot s k) (sym c.in_ok-reserve.ensures.slots) in
+    subst (λ (s : Option Entry). StaysTaken s (slot_at c.if-not-self.self k)) (sym old) (subst (λ (s : Option Entry). StaysTaken (at c.reserve.new.self k) s) (sym now) (c.replace.ensures.taken k))

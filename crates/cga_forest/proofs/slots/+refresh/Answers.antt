@@ -2,6 +2,7 @@ use Rattle.std.proofs.Common.{sym, arith, ◌∙◌}
 use Rattle.cga_forest.specs.View.{at}
 use Rattle.cga_forest.proofs.Right.{is_there, tree_now, step_up, step_top, step_due, step_kept, parent_there, climbs}
 use Rattle.cga_forest.proofs.slots.+refresh.Goals as goal
+use Rattle.cga_forest.proofs.Numbers.{rehulled_there, there_but}
 
 pub refresh-requires : goal.refresh-requires
 refresh-requires t c =
@@ -30,3 +31,7 @@ pub returns-else-not-is_like-clause-right : goal.returns-else-not-is_like-clause
 returns-else-not-is_like-clause-right t c =
     let e = is_there _ c.requires.here in
     step_kept (λ k. at c.args.store.now k) c.args.id c.args.grown c.in-Some.old c.in-Some-next_hulls.new e.0 e.1 c.in-Some.ensures c.in-Some-next_hulls.ensures c.requires.tree c.requires.right c.requires.due (sym c.is_like.ensures ∙ (let w = c.if-not-is_like in (cc)))
+
+pub returns-in_default-parent_at-clause-taken : goal.returns-in_default-parent_at-clause-taken
+returns-in_default-parent_at-clause-taken t c k =
+    there_but (λ n. at c.args.store.now n) (λ n. at c.set_hulls.new.self n) c.args.id c.set_hulls.ensures.others (rehulled_there (at c.args.store.now c.args.id) (at c.set_hulls.new.self c.args.id) _ c.set_hulls.ensures.hulls) k

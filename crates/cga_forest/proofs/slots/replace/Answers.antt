@@ -5,6 +5,7 @@ use Rattle.cga_forest.proofs.Assemble.{kids_there, assembled_slots, vacant_after
 use Rattle.cga_forest.proofs.Marks.{IsWhole-from}
 use Rattle.cga_forest.proofs.Through.{ReplacedBy-same}
 use Rattle.cga_forest.proofs.slots.replace.Goals as goal
+use Rattle.cga_forest.proofs.Numbers.{kept_taken, taken_replaced}
 
 pub place_children-requires-clause-room : goal.place_children-requires-clause-room
 place_children-requires-clause-room c = c.drop_children.ensures.room _ c.requires.room
@@ -82,3 +83,10 @@ returns-clause-marked_hulls c on k =
     c.args.id (c.depth_of-depth.result + 1) (256 - c.depth_of-depth.result) c.args.marking c.place_children.new.made.items c.args.news.items c.args.state c.requires.here.0
     c.requires.here.1 c.requires.here.2.low (ap (λ x. x + 1) d) (ap (λ x. 256 - x) d) c.requires.whole
     (λ k. rw (← c.as_slice.ensures.value) (c.drop_children.ensures.pointwise k)) c.place_children.ensures.placed c.place_children.ensures.length c.rewrite.ensures.others c.rewrite.ensures.present on (c.rewrite.ensures.marked on) c.rewrite.ensures.marked_hulls k
+
+pub returns-clause-taken : goal.returns-clause-taken
+returns-clause-taken c =
+    taken_replaced (λ k. at c.args.store.now k) (λ k. at c.refresh.new.store k)
+    (kept_taken (λ k. at c.args.store.now k) (λ k. at c.drop_children.new.store k) (λ k. at c.place_children.new.store k) (λ k. at c.rewrite.new.self k) (λ k. at c.refresh.new.store k)
+    c.args.id _ c.args.marking _ c.args.news.items c.place_children.new.made.items _ c.drop_children.ensures.pointwise c.place_children.ensures.placed c.rewrite.ensures.others c.rewrite.ensures.hulls c.refresh.ensures.taken)
+    (returns-clause-vacant c)
