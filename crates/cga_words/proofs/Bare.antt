@@ -20,6 +20,11 @@ pub kinds_of_err : {T : Type 0} (some kinds : Kinds) (r : Result T Error) → so
 kinds_of_err {T} some kinds (Ok x) same h = tt
 kinds_of_err {T} some kinds (Err e) same h = subst (λ (k : Kinds). HasKind k e) same h
 
+-- what holds of what is found gives more of it
+pub if_ok : {T E : Type 0} {P Q : T → Type 0} (r : Result T E) → IfOk r P → ((m : T) → P m → Q m) → IfOk r Q
+if_ok (Ok m) h f = f m h
+if_ok (Err e) h f = tt
+
 -- where there is none, there is no kind, and the matches are those of the words
 pub matches_of_ok : (a b : App) (words texts : List Text) (r : Result ArgMatches Error) → a ≡ b → words ≡ texts → is_simple b ≡ true → FailsBy (fault_of a words) r → IfOk r (λ m. HasMatchesOf a words m)
     → IfOk r (λ m. (fault_of b texts ≡ []) × (rows_of (found_of m) ≡ matches_of b texts))

@@ -3,3 +3,4 @@ pub mod Numbers
 pub mod Digits
 pub mod Plain
 pub mod Says
+pub mod Within

@@ -1,7 +1,8 @@
-ghost use Rattle.std.specs.Prelude.{◌≡◌, ◌≢◌, ◌⊎◌, ◌≤◌, IfOk, IfErr, IfSome, Err, Ok, [], map, string_bytes, unwrap_or, min, max, List, ℕ, Option, Bool};
+ghost use Rattle.std.specs.Prelude.{◌≡◌, ◌≢◌, ◌⊎◌, ◌≤◌, IfOk, IfErr, IfSome, Err, Ok, [], map, string_bytes, codes, unwrap_or, List, ℕ, Option, Bool};
 ghost use Rattle.clap.specs.Words.{fault_of, matches_of, rows_of, found_of, HasKind, Text};
 ghost use Rattle.cga_words.specs.Words.{command_app, decimals_of, town_of, IsTown};
 ghost use Rattle.cga_words.specs.Plain.{IsPlain, plain_words};
+ghost use Rattle.cga_words.specs.Within.{IsFoundIn};
 
 use crate::wanted::Wanted;
 use crate::words_fault::WordsFault;
@@ -14,6 +15,8 @@ fn matches<'a>(alloc: Global, words: &'a [String]) -> Result<ArgMatches<'a>, Err
     ensures ok { IfOk result (λ m. (fault_of command_app (map string_bytes words.now) ≡ [])
         × (rows_of (found_of m) ≡ matches_of command_app (map string_bytes words.now))) }
     ensures err { IfErr result (λ e. HasKind (fault_of command_app (map string_bytes words.now)) e) }
+    ensures decimals { IfOk result (λ m. IsFoundIn (codes "decimals") 0 9 (found_of m)) }
+    ensures town { IfOk result (λ m. IsFoundIn (codes "town") 1 200 (found_of m)) }
 {
     let decimals = Arg::new(alloc, "decimals")
         .long("decimals")
@@ -35,31 +38,22 @@ fn matches<'a>(alloc: Global, words: &'a [String]) -> Result<ArgMatches<'a>, Err
 
 // The decimals that were found.
 fn decimals_in(matches: &ArgMatches) -> u8
+    requires { IsFoundIn (codes "decimals") 0 9 (found_of matches.now) }
     ensures value { (words : List Text) → rows_of (found_of matches.now) ≡ matches_of command_app words
         → result ≡ decimals_of words }
     ensures few { result ≤ 9 }
 {
-    matches.get_one::<u8>("decimals").unwrap_or(6).min(9)
-}
-
-fn lots(number: u32) -> u32
-    ensures value { result ≡ min (max number 1) 200 }
-    ensures some { 1 ≤ result }
-    ensures few { result ≤ 200 }
-{
-    number.max(1).min(200)
+    matches.get_one::<u8>("decimals").unwrap_or(6)
 }
 
 // The lots of the town, where they were found.
 fn town_in(matches: &ArgMatches) -> Option<u32>
+    requires { IsFoundIn (codes "town") 1 200 (found_of matches.now) }
     ensures value { (words : List Text) → rows_of (found_of matches.now) ≡ matches_of command_app words
         → result ≡ town_of words }
     ensures within { IfSome result IsTown }
 {
-    match matches.get_one::<u32>("town") {
-        Some(number) => Some(lots(number)),
-        None => None,
-    }
+    matches.get_one::<u32>("town")
 }
 
 /// Reads the words of the whole command line, the program's name first: `--decimals N`, 0 to 9, and `--town N`, 1 to

@@ -4,7 +4,10 @@ use Rattle.clap.specs.Words.{App, app_of, rule_of, with_rule, fault_of, is_simpl
 use Rattle.clap.specs.declared.builder.value_parser.ValueParser.{ValueParser}
 use Rattle.clap.specs.declared.builder.value_parser.ValueParser.TheVariants as parser
 use Rattle.cga_words.specs.Words.{bare_app, command_app, decimals_rule, town_rule}
-use Rattle.cga_words.proofs.Bare.{bare_of, kinds_of_err, matches_of_ok}
+use Rattle.clap.specs.Words.{IsParsedFrom}
+use Rattle.clap.specs.declared.parser.matches.ArgMatches.{ArgMatches}
+use Rattle.cga_words.proofs.Bare.{bare_of, if_ok, kinds_of_err, matches_of_ok}
+use Rattle.cga_words.proofs.Within.{found_within}
 use Rattle.cga_words.proofs.read.matches.Goals as goal
 
 pub returns : goal.returns
@@ -23,7 +26,11 @@ returns c =
     let parse = c.try_get_matches_from-parse in
     let fails = parse.ensures.kinds (ap is_simple_and_free app_is) in
     let texts = map string_bytes c.args.words.now in
+    let within = λ (m : ArgMatches) (p : IsParsedFrom c.in_ok-command.command m). found_within c.disable_version_flag.result _ c.in_ok-command.command c.default_value-decimals.result c.value_parser-town.result m c.in_ok-arg.ensures c.in_ok-command.ensures (search rules) (search rules) (search rules) (search rules) (search rules)
+    (search rules) (search rules) (search rules) (search rules) (search rules) (search rules) p in
     record {
       ok = matches_of_ok (app_of c.in_ok-command.command) command_app texts texts parse.result app_is refl refl fails parse.ensures.matches;
+      decimals = if_ok parse.result parse.ensures.parsed (λ m p. (within m p).0);
+      town = if_ok parse.result parse.ensures.parsed (λ m p. (within m p).1);
       err = kinds_of_err _ (fault_of command_app texts) parse.result (ap (λ (a : App). fault_of a texts) app_is) fails;
     }
