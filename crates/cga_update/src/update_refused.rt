@@ -1,11 +1,14 @@
 use cga_fraction::NoMemory;
+use thiserror::Error;
 
 /// Why an update isn't done.
-#[derive(Clone, Copy, Debug, PartialEq, Eq)]
+#[derive(Clone, Copy, Debug, PartialEq, Eq, Error)]
 pub enum UpdateRefused {
     /// The new derivation comes to more shapes than the budget. All stands as before.
+    #[error("the new sources come to too many shapes")]
     OverBudget,
     /// The forest, the dependents and the changes are given up.
+    #[error("memory is wanting")]
     NoMemory,
 }
 
