@@ -50,6 +50,7 @@ pub fn rework<E: Ledger, T: Ledger>(
     ensures dependents { WhereOver result (dependents.new ≡ dependents.old) }
     ensures changes { WhereOver result (changes.new ≡ changes.old) }
     ensures most { WhereOver result (expansions.new ≤ expansions.old + (budget + 1)) }
+    ensures bounded { expansions.new ≤ expansions.old + (budget + 1) }
     ensures counted { expansions.old ≤ expansions.new }
 {
     if new.lots.len() > budget as usize {
@@ -86,6 +87,7 @@ fn rework_few<E: Ledger, T: Ledger>(
     ensures dependents { WhereOver result (dependents.new ≡ dependents.old) }
     ensures changes { WhereOver result (changes.new ≡ changes.old) }
     ensures most { WhereOver result (expansions.new ≤ expansions.old + (budget + 1)) }
+    ensures bounded { expansions.new ≤ expansions.old + (budget + 1) }
     ensures counted { expansions.old ≤ expansions.new }
 {
     let mut under_way = begin_work(alloc, forest, dependents, old, new, tests)?;

@@ -19,7 +19,8 @@ use std::sync::ledger::Ledger;
 /// many shapes were touched: so often it expands. `changes` becomes the record of what went and came.
 ///
 /// `OverBudget` comes exactly where the new derivation has more shapes than the budget; then all is as
-/// before. After `NoMemory` the forest, the dependents and the changes are given up. Takes memory.
+/// before. After `NoMemory` the forest, the dependents and the changes are given up; how often was expanded by then
+/// has a bound, too. Takes memory.
 pub fn update<E: Ledger, T: Ledger>(
     alloc: Global,
     forest: &mut Forest,
@@ -43,6 +44,9 @@ pub fn update<E: Ledger, T: Ledger>(
     ensures dependents { WhereOver result (dependents.new ≡ dependents.old) }
     ensures changes { WhereOver result (changes.new ≡ changes.old) }
     ensures most { WhereOver result (expansions.new ≤ expansions.old + (budget + 1)) }
+    // A change of mode works two updates, of which the second is to no lots.
+    ensures bounded { expansions.new ≤ expansions.old + (budget + 2) }
+    ensures bounded_within { old.now.mode ≡ new.now.mode → expansions.new ≤ expansions.old + (budget + 1) }
     ensures counted { expansions.old ≤ expansions.new }
 {
     if old.mode == new.mode {
@@ -81,6 +85,7 @@ fn change_mode<E: Ledger, T: Ledger>(
     ensures dependents { WhereOver result (dependents.new ≡ dependents.old) }
     ensures changes { WhereOver result (changes.new ≡ changes.old) }
     ensures most { WhereOver result (expansions.new ≤ expansions.old + (budget + 1)) }
+    ensures bounded { expansions.new ≤ expansions.old + (budget + 2) }
     ensures counted { expansions.old ≤ expansions.new }
 {
     match derived_anew(alloc, new, budget, expansions, tests) {
@@ -137,6 +142,7 @@ fn derived_anew<E: Ledger, T: Ledger>(
     ensures spent { IfOk result (λ made. expansions.new ≡ expansions.old + made.touched) }
     ensures over { WhereOver result (derive (derivation_of new.now) budget ≡ None) }
     ensures most { WhereOver result (expansions.new ≤ expansions.old + (budget + 1)) }
+    ensures bounded { expansions.new ≤ expansions.old + (budget + 1) }
     ensures counted { expansions.old ≤ expansions.new }
 {
     let nothing = without_lots(alloc, new)?;
@@ -180,6 +186,7 @@ fn empty<E: Ledger, T: Ledger>(
     requires stands { Stands old.now forest.old dependents.old }
     ensures exact { OnOk result (IsExact old.now (with_no_lots old.now) 0 0 changes.new) }
     ensures spent { OnOk result (expansions.new ≡ expansions.old) }
+    ensures bounded { expansions.new ≤ expansions.old + 1 }
     ensures counted { expansions.old ≤ expansions.new }
 {
     let nothing = without_lots(alloc, old)?;
