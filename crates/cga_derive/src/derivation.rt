@@ -1,7 +1,7 @@
-ghost use Rattle.std.specs.Prelude.{◌≡◌, ◌+◌, ◌≤◌, IfOk};
+ghost use Rattle.std.specs.Prelude.{◌≡◌, ◌+◌, ◌<◌, ◌≤◌, length, IfOk};
 ghost use Rattle.cga_derivation.specs.Derivation.{expanded};
 ghost use Rattle.cga_derivation.specs.Stamps.{RisesIn, StandsInOrder};
-ghost use Rattle.cga_expand.specs.Derivation.{derivation_of, NamesDiffer};
+ghost use Rattle.cga_expand.specs.Derivation.{derivation_of, roots_of, NamesDiffer};
 ghost use Rattle.cga_expand.specs.Validity.{RootsExist};
 ghost use Rattle.cga_derive.specs.Derives.{IsDerived, expanded_count};
 
@@ -38,20 +38,22 @@ pub fn derive<E: Ledger, T: Ledger>(
         expansions.new ≡ expansions.old + expanded_count list)) }
     ensures counted { expansions.old ≤ expansions.new }
     ensures most { expansions.new ≤ expansions.old + budget }
+    // Where the roots alone are over the budget, nothing is expanded.
+    ensures unspent { budget < length (roots_of sources.now.lots) → expansions.new ≡ expansions.old }
     ensures tests { tests.new ≡ tests.old }
 {
     let mut run = Run::start(alloc, sources)?;
     let most = budget as usize;
+    if run.list.len() > most {
+        return Ok(Err(OverBudget));
+    }
     'turns: for done in 0..budget {
-        if run.list.len() > most {
-            return Ok(Err(OverBudget));
-        }
         if run.next(alloc, sources, expansions)?.is_none() {
             return Ok(Ok(run.into_list()));
         }
-    }
-    if run.list.len() > most {
-        return Ok(Err(OverBudget));
+        if run.list.len() > most {
+            return Ok(Err(OverBudget));
+        }
     }
     Ok(Ok(run.into_list()))
 }
