@@ -12,8 +12,6 @@ mod memory;
 mod overflow;
 mod steps;
 mod stop;
-#[cfg(test)]
-mod tests;
 mod text;
 
 pub use boxed::Boxed;

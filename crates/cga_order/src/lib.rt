@@ -18,6 +18,3 @@ pub use walk::cmp_stamp;
 
 /// The indices of the children on the way from a lot's root to a shape. A root's is empty.
 pub type Path = List<u16>;
-
-#[cfg(test)]
-mod tests;

@@ -1,155 +1,101 @@
-//! Worked rows by `derive`, and by what a city counts: edits of a new city, the numbers that it counts then, and how
-//! many members, solids and faults the list of its sources has.
-ghost use Rattle.std.specs.Prelude.{◌≡◌, ◌<◌};
+//! Worked rows by `derive` alone, over the sources that the lines of a block of a city say: how many shapes, solids
+//! and faults the list has, where it is within a budget.
+ghost use Rattle.std.specs.Prelude.{◌≡◌, ◌<◌, IsTrue};
+ghost use Rattle.cga_expand.specs.Derivation.{NamesDiffer};
+ghost use Rattle.cga_expand.specs.Validity.{RootsExist};
 
-use crate::driven::{Counters, counted, is_changed};
-use crate::edits::grammar_of;
-use crate::grammars::{BASE_AND_TOP, DOUBLED, FOUR, HOUSE, WINDOWS};
-use cga_city::City;
 use cga_derive::derive;
-use cga_fraction::{List, NoMemory, Steps};
-use cga_rule::Grammar;
-use cga_shape::{Kind, Placed};
+use cga_fraction::{NoMemory, Steps};
+use cga_script::CityReader;
+use cga_shape::{Kind, Lot, Placed, Sources};
 use std::alloc::Global;
 use std::marker::Brand;
-use std::process::Abort;
 use std::sync::ledger::{Blank, Ledger};
 use std::test::Fail;
 
-/// Edits, and then the lots, shapes, solids and faults, and the shapes that the last edit touched.
-type Row = (&'static [&'static str], [u64; 5]);
+/// The lines of a city, a budget, and the three numbers.
+type Row = (&'static str, u32, Option<[usize; 3]>);
+
+const FOUR: &str = "PRIORITY 1:
+1: a -> b c
+4: d -> NIL
+PRIORITY 2:
+3: c -> d
+PRIORITY 3:
+2: b -> NIL
+lot p 1 0 0 1 1 a";
+
+const WINDOW_AND_NEIGHBOUR: &str = "PRIORITY 1:
+1: early -> S(1r, 6, 1r) mass
+PRIORITY 2:
+2: mass -> Comp(\"face\", \"front\") { facade }
+PRIORITY 3:
+3: facade -> Subdiv(\"X\", 1r, 2, 1r) { NIL | window | NIL }
+PRIORITY 4:
+4: window : Scope.occ(\"noparent\") == \"none\" -> I(\"quad\")
+5: window : Scope.occ(\"noparent\") == \"full\" -> NIL
+6: window -> S(1r, 1r, 0.5) I(\"cube\")
+lot a 1 0 0 10 8 early
+lot b 1 0 6 10 8 early";
+
+const HOUSE: &str = "1: house -> S(1r, 6, 1r) I(\"cube\")
+lot a 1 0 0 10 8 house";
+
+const DOUBLED: &str = "1: house -> house house
+lot a 1 0 0 10 8 house";
 
 const ROWS: &[Row] = &[
-    (&[FOUR, "lot p 1 0 0 1 1 a"], [1, 4, 0, 0, 4]),
-    (
-        &[WINDOWS, "lot a 1 0 0 10 8 early", "lot b 1 0 8 10 8 early"],
-        [2, 10, 2, 0, 4],
-    ),
-    (
-        &[WINDOWS, "lot a 1 0 0 10 8 early", "lot b 1 5 6 10 8 early"],
-        [2, 10, 2, 0, 5],
-    ),
-    (
-        &[WINDOWS, "lot a 1 0 0 10 8 early", "lot b 1 0 6 10 8 early"],
-        [2, 9, 1, 0, 5],
-    ),
-    (
-        &[WINDOWS, "lot a 1 0 0 10 8 early", "lot b 1 0 6 10 8 late"],
-        [2, 10, 2, 0, 4],
-    ),
-    (
-        &[
-            WINDOWS,
-            "lot a 1 0 0 10 8 early",
-            "lot b 1 0 20 10 8 early",
-            "lot b 1 0 6 10 8 early",
-        ],
-        [2, 9, 1, 0, 5],
-    ),
-    (
-        &[
-            BASE_AND_TOP,
-            "lot a 1 0 0 10 10 la",
-            "lot b 1 5 0 10 10 lb",
-            "attr h = 2.5",
-        ],
-        [2, 8, 2, 0, 5],
-    ),
-    (&[HOUSE, "lot a 1 0 0 10 8 house"], [1, 2, 1, 0, 1]),
+    (FOUR, 1000, Some([4, 0, 0])),
+    (WINDOW_AND_NEIGHBOUR, 1000, Some([9, 1, 0])),
+    (HOUSE, 1, None),
+    (HOUSE, 2, Some([2, 1, 0])),
+    (DOUBLED, 1000, None),
 ];
 
-fn numbers(list: &[Placed]) -> [u64; 3] {
+fn sources_of(alloc: Global, lines: &str) -> Result<Option<Sources>, NoMemory> {
+    let mut reader = CityReader::new(alloc);
+    for line in lines.split('\n') {
+        reader.line(line.as_bytes(), false)?;
+    }
+    Ok(reader.finish().ok())
+}
+
+// One lot, or two of two names, whose roots exist.
+fn may_be_derived(lots: &[Lot]) -> bool
+    ensures names { IsTrue result → NamesDiffer lots.now }
+    ensures roots { IsTrue result → RootsExist lots.now }
+{
+    match lots {
+        [lot] => lot.root_scope().is_ok(),
+        [lot, other] => {
+            if lot.name == other.name {
+                return false;
+            }
+            lot.root_scope().is_ok() && other.root_scope().is_ok()
+        }
+        _ => false,
+    }
+}
+
+fn numbers(list: &[Placed]) -> [usize; 3] {
     let solids = list
         .iter()
         .filter(|one| matches!(one.kind, Kind::Instance(_)));
     let faults = list
         .iter()
         .filter(|one| matches!(one.kind, Kind::Faulted(_)));
-    [
-        list.len() as u64,
-        solids.count() as u64,
-        faults.count() as u64,
-    ]
+    [list.len(), solids.count(), faults.count()]
 }
 
-/// The list of the sources of a city under another grammar, where it is within the budget.
-fn derived<E: Ledger, T: Ledger>(
-    alloc: Global,
-    city: &City,
-    grammar: Grammar,
+fn counted<E: Ledger, T: Ledger>(
+    rt: &mut HostRuntime,
+    sources: &Sources,
     budget: u32,
-    counters: &mut Counters<E, T>,
-) -> Result<Option<List<Placed>>, NoMemory> {
-    let mut sources = city.sources().copy(alloc)?;
-    sources.grammar = grammar;
-    let list = derive(
-        alloc,
-        &sources,
-        budget,
-        &mut counters.expansions,
-        &mut counters.tests,
-    )?;
-    Ok(list.ok())
-}
-
-fn edited<E: Ledger, T: Ledger>(
-    rt: &impl Abort,
-    alloc: Global,
-    edits: &[&str],
-    counters: &mut Counters<E, T>,
-) -> Result<City, NoMemory> {
-    let mut city = City::new(alloc, 1000);
-    for text in edits {
-        let before = counted(rt, &city)[2];
-        let done = is_changed(rt, alloc, &mut city, text, counters)?;
-        assert!(rt; done, "{text}");
-        let changes = city.changes();
-        let (gone, come) = (changes.gone.len() as u64, changes.come.len() as u64);
-        let after = counted(rt, &city)[2];
-        assert_eq!(rt; before.saturating_add(come), after.saturating_add(gone));
-    }
-    city.rewarm(&mut counters.expansions, &mut counters.tests)?;
-    Ok(city)
-}
-
-fn walk<E: Ledger, T: Ledger>(
-    rt: &impl Abort,
-    alloc: Global,
-    row: &Row,
-    counters: &mut Counters<E, T>,
-) -> Result<(), NoMemory> {
-    let (edits, counts) = *row;
-    let city = edited(rt, alloc, edits, counters)?;
-    assert_eq!(rt; counted(rt, &city), counts);
-    let grammar = city.grammar().copy(alloc)?;
-    let list = derived(alloc, &city, grammar, 1000, counters)?.expect(rt, "within");
-    assert_eq!(rt; numbers(list.as_slice()), [counts[1], counts[2], counts[3]]);
-    Ok(())
-}
-
-// Row *Doubled house, derived*, and a budget that is just enough.
-fn budgets<E: Ledger, T: Ledger>(
-    rt: &impl Abort,
-    alloc: Global,
-    counters: &mut Counters<E, T>,
-) -> Result<(), NoMemory> {
-    let city = edited(rt, alloc, &[HOUSE, "lot a 1 0 0 10 8 house"], counters)?;
-    let doubled = grammar_of(alloc, DOUBLED)?.expect(rt, "a grammar");
-    assert!(rt; derived(alloc, &city, doubled, 1000, counters)?.is_none());
-    for (budget, is_within) in [(1, false), (2, true)] {
-        let grammar = city.grammar().copy(alloc)?;
-        let list = derived(alloc, &city, grammar, budget, counters)?;
-        assert_eq!(rt; list.is_some(), is_within);
-    }
-    Ok(())
-}
-
-fn run<E: Ledger, T: Ledger>(
-    rt: &impl Abort,
-    host: &mut HostRuntime,
     expansions: Blank,
     tests: Blank,
-) -> Result<(), NoMemory>
+) -> Result<Option<[usize; 3]>, NoMemory>
+    requires names { NamesDiffer sources.now.lots }
+    requires roots { RootsExist sources.now.lots }
     requires expansions_name { expansions.name ≡ E.name }
     requires expansions_parts { expansions.parts ≡ E.parts }
     requires expansions_some { 0 < expansions.parts }
@@ -157,23 +103,31 @@ fn run<E: Ledger, T: Ledger>(
     requires tests_parts { tests.parts ≡ T.parts }
     requires tests_some { 0 < tests.parts }
 {
-    let mut counters = Counters {
-        expansions: Steps::<E>::new(host, expansions),
-        tests: Steps::<T>::new(host, tests),
-    };
-    for row in ROWS {
-        walk(rt, host.alloc(), row, &mut counters)?;
+    let mut expansions = Steps::<E>::new(rt, expansions);
+    let mut tests = Steps::<T>::new(rt, tests);
+    match derive(rt.alloc(), sources, budget, &mut expansions, &mut tests)? {
+        Ok(list) => Ok(Some(numbers(list.as_slice()))),
+        Err(_) => Ok(None),
     }
-    budgets(rt, host.alloc(), &mut counters)
 }
 
-fn run_all(rt: &impl Abort, host: &mut HostRuntime) -> Result<(), NoMemory> {
-    run::<Brand, Brand>(rt, host, Blank::new(1), Blank::new(1))
+fn derived(
+    rt: &mut HostRuntime,
+    sources: &Sources,
+    budget: u32,
+) -> Result<Option<[usize; 3]>, NoMemory>
+    requires names { NamesDiffer sources.now.lots }
+    requires roots { RootsExist sources.now.lots }
+{
+    counted::<Brand, Brand>(rt, sources, budget, Blank::new(1), Blank::new(1))
 }
 
 #[test]
 fn rows_are_derived(mut rt: HostRuntime) -> Result<(), Fail> {
-    let handle = rt.clone()?;
-    run_all(&handle, &mut rt)?;
+    for (lines, budget, wanted) in ROWS {
+        let sources = sources_of(rt.alloc(), lines)?.expect(&rt, lines);
+        assert!(rt; may_be_derived(sources.lots.as_slice()), "{lines}");
+        assert_eq!(rt; derived(&mut rt, &sources, *budget)?, *wanted);
+    }
     Ok(())
 }

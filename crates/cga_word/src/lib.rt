@@ -27,6 +27,3 @@ pub use selector::Selector;
 pub use side::Side;
 pub use target::Target;
 pub use turn::Turn;
-
-#[cfg(test)]
-mod tests;

@@ -1,6 +1,5 @@
-// What no clause says of the adapters: each call is one call of the reader or the writer, and its error is told.
-
-use crate::{Failed, Sink, Source, StdSink, StdSource};
+//! What no clause says of the adapters: each call is one call of the reader or the writer, and its error is told.
+use cga_outside::{Failed, Sink, Source, StdSink, StdSource};
 use std::io;
 use std::io::{ErrorKind, Read, Write};
 

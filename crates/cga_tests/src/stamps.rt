@@ -1,5 +1,5 @@
-use crate::chain::{Chain, cmp_rank};
-use crate::walk::cmp_stamp;
+//! Ranks and stamps.
+use cga_order::{Chain, cmp_rank, cmp_stamp};
 use cga_word::{Mode, Name};
 use std::cmp::Ordering;
 use std::process::Abort;

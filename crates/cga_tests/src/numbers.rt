@@ -1,6 +1,7 @@
+//! Fractions and their texts, lists, boxes and counters.
 ghost use Rattle.std.specs.Prelude.{◌≡◌, ◌<◌};
 
-use crate::{Boxed, DecimalFault, DivFault, Fraction, List, NoMemory, Overflow, Steps};
+use cga_fraction::{Boxed, DecimalFault, DivFault, Fraction, List, NoMemory, Overflow, Steps};
 use std::alloc::Global;
 use std::marker::Brand;
 use std::process::Abort;

@@ -1,4 +1,5 @@
-use crate::{Name, child_seed, word};
+//! Names, seeds and words.
+use cga_word::{Name, child_seed, word};
 use std::collections::HashMap;
 use std::process::Abort;
 use std::test::Fail;
