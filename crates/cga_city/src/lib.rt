@@ -15,5 +15,6 @@ mod reports;
 mod tally;
 mod walk;
 
+pub use cga_shape::{Counts, Edit, EditRefused};
 pub use city::City;
 pub use no_lot::NoLot;
