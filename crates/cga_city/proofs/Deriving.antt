@@ -73,7 +73,7 @@ is_refused old e n refused h = record { cause = apply_err _ _ _ _ h; same = refl
 
 -- a refusal that comes before the budget is the edit's
 pub refused_gives : (old : CityState) (e : Edit) (n : ℕ) (refused : EditRefused) → Changes (changed old.sources e) (Err refused) → EditGives old e (Err refused) old n n
-refused_gives old e n NoMemory h = record { sources_stay = refl; budget_stays = refl; expanded_stays = refl; changes_stay = refl }
+refused_gives old e n NoMemory h = record { sources_stay = refl; budget_stays = refl; expanded_stays = refl; changes_stay = refl; later = omega arith; most = omega arith }
 refused_gives old e n (NoRule x) h = is_refused old e n _ h
 refused_gives old e n (NoAttribute x) h = is_refused old e n _ h
 refused_gives old e n (NoSymbol x) h = is_refused old e n _ h

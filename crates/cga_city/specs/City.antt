@@ -48,7 +48,7 @@ pub record IsDone (old : CityState) (e : Edit) (new : CityState) (before after :
   pub applied : apply old.sources e old.budget ≡ Ok new.sources
   pub budget_stays : new.budget ≡ old.budget
   pub warm_then : new.warm ≡ true
-  -- the touched shapes were counted, and each was expanded once
+  -- the touched shapes were counted, and there were as many expansions
   pub touched : CountsTouched old.sources new.sources (members old.budget old.sources) (members old.budget new.sources) new.expanded
   pub spent : after ≡ before + new.expanded
   pub changed : IsChange old.sources new.sources (members old.budget old.sources) (members old.budget new.sources) new.changes
@@ -61,12 +61,14 @@ pub record IsRefused (old : CityState) (e : Edit) (refused : EditRefused) (new :
   pub most : after ≤ before + (old.budget + 1)
   pub unspent : refused ≢ OverBudget → after ≡ before
 
--- memory was wanting: the city may be cold
-pub record IsGivenUp (old new : CityState) : Type 0 where
+-- memory was wanting: the city may be cold. Two more expansions than the budget, since a change of mode is two updates
+pub record IsGivenUp (old new : CityState) (before after : ℕ) : Type 0 where
   pub sources_stay : new.sources ≡ old.sources
   pub budget_stays : new.budget ≡ old.budget
   pub expanded_stays : new.expanded ≡ old.expanded
   pub changes_stay : new.changes ≡ old.changes
+  pub later : before ≤ after
+  pub most : after ≤ before + (old.budget + 2)
 
 -- a cold city was made warm: each member that is no instance was expanded once, and they are what is touched where all
 -- its lots come
@@ -77,7 +79,7 @@ pub record IsWarmed (old : CityState) (before after : ℕ) : Type 0 where
 -- by what the edit answers
 abbrev pub EditGives : CityState → Edit → Result (Unit {0}) EditRefused → CityState → ℕ → ℕ → Type 0
 EditGives old e (Ok u) new before after = IsDone old e new before after
-EditGives old e (Err NoMemory) new before after = IsGivenUp old new
+EditGives old e (Err NoMemory) new before after = IsGivenUp old new before after
 EditGives old e (Err refused) new before after = IsRefused old e refused new before after
 
 -- the new sources, or the first refusal, or want of memory

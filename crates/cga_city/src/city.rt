@@ -1,5 +1,5 @@
 //! The city.
-ghost use Rattle.std.specs.Prelude.{◌≡◌, ◌≤◌, [], IfOk, IsOk, OnErr, OnOk, IsFalse, IsTrue, Some, bytes_eq, length, true};
+ghost use Rattle.std.specs.Prelude.{◌≡◌, ◌+◌, ◌≤◌, [], IfOk, IsOk, OnErr, OnOk, IsFalse, IsTrue, Some, bytes_eq, length, true};
 ghost use Rattle.std.specs.List.{IsDistinct};
 ghost use Rattle.cga_expand.specs.Run.{IsRun};
 ghost use Rattle.cga_obj.specs.Lots.{AreSolid, StandsBy};
@@ -99,7 +99,7 @@ impl City {
     }
 
     /// Does an edit: the sources are the new ones exactly where it answers Ok. Each expansion of a shape ticks
-    /// `expansions`, and just the touched shapes are expanded. After want of memory the city may be cold. Takes memory.
+    /// `expansions`, as often as shapes are touched. After want of memory the city may be cold. Takes memory.
     pub fn edit<E: Ledger, T: Ledger>(
         &mut self,
         edit: Edit,
@@ -161,6 +161,7 @@ impl City {
         ensures unspent { IsTrue self.old.warm → expansions.new ≡ expansions.old }
         ensures spent { IsFalse self.old.warm → OnOk result (IsWarmed self.old expansions.old expansions.new) }
         ensures later { expansions.old ≤ expansions.new }
+        ensures bounded { expansions.new ≤ expansions.old + (self.old.budget + 1) }
     {
         if self.warm {
             return Ok(());
