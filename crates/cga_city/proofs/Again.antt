@@ -14,7 +14,7 @@ use Rattle.cga_city.proofs.Plain.{good_accepted, err_if_ok, plain_if}
 use Rattle.cga_city.proofs.Rising.{ranked_same}
 use Rattle.cga_city.proofs.Sound.{changed_sound}
 
-fits : (n : ℕ) → n ≤ MOST_LOTS → nat_lt MOST_LOTS n ≡ false
+pub fits : (n : ℕ) → n ≤ MOST_LOTS → nat_lt MOST_LOTS n ≡ false
 fits n h = grind (arith, nat_tests)
 
 whole_changed : (s t : Sources) → AreSound t → changed s (edit.Whole t) ≡ Ok t

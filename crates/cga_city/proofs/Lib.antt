@@ -20,3 +20,4 @@ pub mod Kept
 pub mod Tracing
 pub mod Warming
 pub mod Accounts
+pub mod Reordered

@@ -119,11 +119,11 @@ module _ (e : Entry) (rules : List Entry) (apart : AllByRecursion (Apart e) rule
 -- ---- all rules
 
 -- what rules keep that are put among others
-record Keeps (rules more new : List Entry) : Type 1 where
-  differ : Differ new
-  each : (P : Entry → Type 0) → AllByRecursion P rules → AllByRecursion P more → AllByRecursion P new
-  any : (p : Entry → Bool) → (list_any p rules || list_any p more) ≡ true → list_any p new ≡ true
-  many : length new ≡ length rules + length more
+pub record Keeps (rules more new : List Entry) : Type 1 where
+  pub differ : Differ new
+  pub each : (P : Entry → Type 0) → AllByRecursion P rules → AllByRecursion P more → AllByRecursion P new
+  pub any : (p : Entry → Bool) → (list_any p rules || list_any p more) ≡ true → list_any p new ≡ true
+  pub many : length new ≡ length rules + length more
 
 or_nothing : (a : Bool) → (a || false) ≡ true → a ≡ true
 or_nothing true h = refl
@@ -135,7 +135,7 @@ or_both true false c h = refl
 or_both false true c h = refl
 or_both false false c h = h
 
-among : (rules more : List Entry) → Differ rules → Differ more → DifferFrom rules more → Keeps rules more (with_rules rules more)
+pub among : (rules more : List Entry) → Differ rules → Differ more → DifferFrom rules more → Keeps rules more (with_rules rules more)
 among rules [] d m from = record { differ = d; each = λ P h k. h; any = λ p h. or_nothing (list_any p rules) h; many = omega arith }
 among rules (e ∷ more) d m from =
     let rest = among (with_rule e rules) more (one_differ e rules from.0 d) m.1
@@ -159,7 +159,7 @@ any_found p [] f h = cc
 any_found p (x ∷ xs) f h = elim (decide (p x)) [ inl t ↦ rw t refl | inr f ↦ rw f (any_found p xs _ (rw f at h)) ]
 
 -- the first of a symbol stays where all members stay
-first_kept : (g : Grammar) (new : List Entry) → IsValid g → ((P : Entry → Type 0) → AllByRecursion P g.rules → AllByRecursion P new)
+pub first_kept : (g : Grammar) (new : List Entry) → IsValid g → ((P : Entry → Type 0) → AllByRecursion P g.rules → AllByRecursion P new)
     → ((p : Entry → Bool) → list_any p g.rules ≡ true → list_any p new ≡ true) → KeepsFirst g.rules new
 unfolding first_entry
 first_kept g new valid each any symbol f at =
@@ -168,11 +168,11 @@ first_kept g new valid each any symbol f at =
     let (k, found, passes, agrees) = found_in (is_of symbol) (λ (e : Entry). is_of symbol e ≡ true → Agrees f e) new (any (is_of symbol) (any_found (is_of symbol) g.rules f at)) (each _ agree) in
     (k, found, (agrees passes).arity)
 
-all_none : (rules : List Entry) → DifferFrom [] rules
+pub all_none : (rules : List Entry) → DifferFrom [] rules
 all_none [] = tt
 all_none (x ∷ xs) = (tt, all_none xs)
 
-fine_all : (attributes : List Attribute) (rules new xs : List Entry) → KeepsFirst rules new → AllByRecursion (IsFine (of attributes rules)) xs → AllByRecursion (IsFine (of attributes new)) xs
+pub fine_all : (attributes : List Attribute) (rules new xs : List Entry) → KeepsFirst rules new → AllByRecursion (IsFine (of attributes rules)) xs → AllByRecursion (IsFine (of attributes new)) xs
 fine_all attributes rules new xs keeps h = weaker (IsFine (of attributes rules)) (IsFine (of attributes new)) (λ e k. fine_kept attributes rules new keeps e e refl k) xs h
 
 -- rules by rising id have no fault that they hadn't

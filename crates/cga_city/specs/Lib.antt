@@ -9,3 +9,4 @@ pub mod Inside
 pub mod Nodes
 pub mod Tally
 pub mod Kept
+pub mod Laws

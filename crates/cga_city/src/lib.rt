@@ -8,6 +8,7 @@
 mod city;
 mod edits;
 mod grammars;
+pub mod laws;
 pub mod limits;
 mod lots;
 mod no_lot;
