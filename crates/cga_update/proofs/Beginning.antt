@@ -131,7 +131,7 @@ module _ (old new : Sources) (first v : ForestView) (d : DependentsView) (went c
     | inr t ↦ none_some x (sym t ∙ at)
   ]
 
-  came_on : (c : ℕ) (x : Seen) → V c ≡ None → T c ≡ Some x → on_of v a c ≡ true
+  pub came_on : (c : ℕ) (x : Seen) → V c ≡ None → T c ≡ Some x → on_of v a c ≡ true
   came_on c x none at =
       agenda.roots (moved_of c x) ((listed.each (moved_of c x)).1 (c, x, at, none, refl)) c x refl (at, ap is_instance (r.came c x none at).waits)
 

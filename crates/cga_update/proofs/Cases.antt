@@ -6,6 +6,10 @@ pub option_cases : {X : Type 0} (o : Option X) → (o ≡ None) ⊎ ((x : X) × 
 option_cases None = inl refl
 option_cases (Some x) = inr (x, refl)
 
+pub bool_cases : (b : Bool) → (b ≡ true) ⊎ (b ≡ false)
+bool_cases true = inl refl
+bool_cases false = inr refl
+
 pub bool_same : (a b : Bool) → (a ≡ true → b ≡ true) → (b ≡ true → a ≡ true) → a ≡ b
 bool_same true b f g = sym (f refl)
 bool_same false true f g = g refl

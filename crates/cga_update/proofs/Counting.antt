@@ -28,6 +28,20 @@ shown_is (Some e) = by_flag e.aside
     by_flag true = refl
     by_flag false = refl
 
+hidden : (e : Option Entry) (n : ℕ) → cond (is_shown e) 1 0 + n ≡ 0 → present_of e ≡ None
+hidden None n h = refl
+hidden (Some e) n h = by_flag e.aside h
+  where
+    by_flag : (b : Bool) → cond (not b) 1 0 + n ≡ 0 → (if b then None else Some (seen e)) ≡ None
+    by_flag true h = refl
+    by_flag false h = absurd (omega (arith, h))
+
+-- where the count is 0 there is none
+pub none_shown : (slots : List (Option Entry)) → tally is_shown slots ≡ 0 → (c : ℕ) → present_of (slot slots c) ≡ None
+none_shown [] h c = refl
+none_shown (x ∷ xs) h zero = hidden x (tally is_shown xs) h
+none_shown (x ∷ xs) h (suc c) = none_shown xs (omega (arith, h)) c
+
 pub count_is : (slots : List (Option Entry)) → count_of (λ c. present_of (slot slots c)) (length slots) ≡ tally is_shown slots
 count_is [] = refl
 count_is (x ∷ xs) = from_front (λ c. present_of (slot (x ∷ xs) c)) (length xs) ∙ (λ i. shown_is x i + count_is xs i)

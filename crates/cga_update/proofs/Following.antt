@@ -1,5 +1,5 @@
 -- What the agenda becomes where one node after the other is followed.
-use Rattle.std.proofs.Common.{◌≡◌, ◌<◌, ◌≤◌, ◌+◌, ℕ, zero, suc, List, [], ◌∷◌, length, sym, ap, ◌∙◌, subst, ◌⊎◌, inl, inr, Some, None, true, arith}
+use Rattle.std.proofs.Common.{◌≡◌, ◌<◌, ◌≤◌, ◌+◌, ℕ, zero, suc, List, [], ◌∷◌, length, sym, ap, ◌∙◌, subst, ◌⊎◌, inl, inr, Some, None, Bool, true, false, arith}
 use Rattle.std.specs.Prelude.{IsSome, slice_get}
 use Rattle.cga_frame.specs.Box.{Box, box_of}
 use Rattle.cga_order.specs.World.{Among}
@@ -58,11 +58,11 @@ module _ (v : ForestView) where
   pub came_more : (first a b : AgendaView) (came : List Moved) (n : ℕ) (y : Moved) → slice_get came n ≡ Some y → Grows D (λ c. (m : Moved) × Among m came × (m.id ≡ c)) first a → Grows D (λ c. y.id ≡ c) a b → Grows D (λ c. (m : Moved) × Among m came × (m.id ≡ c)) first b
   came_more first a b came n y at g h = grows_on D (λ c. (m : Moved) × Among m came × (m.id ≡ c)) first a b g (grows_by D (λ c. y.id ≡ c) (λ c. (m : Moved) × Among m came × (m.id ≡ c)) a b (λ c e. (y, at_among came n y at, e)) h)
 
-  pub followed : (of : ℕ) (change : Change) (a b d e : AgendaView) → Grows D (IsComer change) a b → ((m : Moved) → Among m change.came → IsSome (D m.id) → on_of v b m.id ≡ true)
+  pub followed : (of : ℕ) (change : Change) (due : Bool) (a b d e : AgendaView) → Grows D (IsComer change) a b → ((m : Moved) → Among m change.came → IsSome (D m.id) → on_of v b m.id ≡ true)
       → Grows D (ComesAfter v b.mode of) b d → ((m : Moved) → Among m change.went → HasAskers v b.mode of (box_of m.scope) d)
       → Grows D (ComesAfter v d.mode of) d e → ((m : Moved) → Among m change.came → HasAskers v d.mode of (box_of m.scope) e)
-      → IsFollowed v of change a e
-  followed of change a b d e came there went met come seen =
+      → IsFollowed v of change due a e
+  followed of change due a b d e came there went met come seen =
       let second : d.mode ≡ a.mode = went.mode ∙ came.mode in
       let more = grows_mode b.mode a.mode of b d came.mode went in
       let last = grows_mode d.mode a.mode of d e second come in
@@ -70,8 +70,8 @@ module _ (v : ForestView) where
         mode = come.mode ∙ second;
         kept = λ c h. come.kept c (went.kept c (came.kept c h));
         came = λ m h s. come.kept m.id (went.kept m.id (there m h s));
-        met_went = λ m h. askers_stay (ComesAfter v a.mode of) a.mode of (box_of m.scope) d e last (askers_mode b.mode a.mode of (box_of m.scope) d came.mode (met m h));
-        met_came = λ m h. askers_mode d.mode a.mode of (box_of m.scope) e second (seen m h);
+        met_went = λ not m h. askers_stay (ComesAfter v a.mode of) a.mode of (box_of m.scope) d e last (askers_mode b.mode a.mode of (box_of m.scope) d came.mode (met m h));
+        met_came = λ not m h. askers_mode d.mode a.mode of (box_of m.scope) e second (seen m h);
         only = λ c h. elim (last.only c h) [
           | inl x ↦ elim (more.only c x) [
             | inl y ↦ elim (came.only c y) [ inl z ↦ inl z | inr z ↦ inr (inl z) ]
@@ -81,12 +81,28 @@ module _ (v : ForestView) where
         ];
       }
 
-  pub followed_by : (of : ℕ) (change : Change) (first second third : List Moved) (a b d e : AgendaView) → first ≡ change.came → second ≡ change.went → third ≡ change.came
+  pub followed_by : (of : ℕ) (change : Change) (due : Bool) (first second third : List Moved) (a b d e : AgendaView) → first ≡ change.came → second ≡ change.went → third ≡ change.came
       → Grows D (λ c. (m : Moved) × Among m first × (m.id ≡ c)) a b → ((m : Moved) → Among m first → IsSome (D m.id) → on_of v b m.id ≡ true)
       → Grows D (ComesAfter v b.mode of) b d → ((m : Moved) → Among m second → HasAskers v b.mode of (box_of m.scope) d)
       → Grows D (ComesAfter v d.mode of) d e → ((m : Moved) → Among m third → HasAskers v d.mode of (box_of m.scope) e)
-      → IsFollowed v of change a e
-  followed_by of change first second third a b d e one two three came there went met come seen =
-      followed of change a b d e (subst (λ l. Grows D (λ c. (m : Moved) × Among m l × (m.id ≡ c)) a b) one came) (subst (λ l. (m : Moved) → Among m l → IsSome (D m.id) → on_of v b m.id ≡ true) one there)
+      → IsFollowed v of change due a e
+  followed_by of change due first second third a b d e one two three came there went met come seen =
+      followed of change due a b d e (subst (λ l. Grows D (λ c. (m : Moved) × Among m l × (m.id ≡ c)) a b) one came) (subst (λ l. (m : Moved) → Among m l → IsSome (D m.id) → on_of v b m.id ≡ true) one there)
       went (subst (λ l. (m : Moved) → Among m l → HasAskers v b.mode of (box_of m.scope) d) two met)
       come (subst (λ l. (m : Moved) → Among m l → HasAskers v d.mode of (box_of m.scope) e) three seen)
+
+  -- where the askers are due anyway, only what came is added
+  pub followed_due : (of : ℕ) (change : Change) (first : List Moved) (due : Bool) (a b : AgendaView) → first ≡ change.came → due ≡ true
+      → Grows D (λ c. (m : Moved) × Among m first × (m.id ≡ c)) a b → ((m : Moved) → Among m first → IsSome (D m.id) → on_of v b m.id ≡ true)
+      → IsFollowed v of change due a b
+  followed_due of change first due a b same is came there = record {
+    mode = came.mode;
+    kept = came.kept;
+    came = subst (λ l. (m : Moved) → Among m l → IsSome (D m.id) → on_of v b m.id ≡ true) same there;
+    met_went = λ not. (let z : true ≡ false = sym is ∙ not in absurd (cc));
+    met_came = λ not. (let z : true ≡ false = sym is ∙ not in absurd (cc));
+    only = λ c h. elim (came.only c h) [
+      | inl x ↦ inl x
+      | inr x ↦ inr (inl (subst (λ l. (m : Moved) × Among m l × (m.id ≡ c)) same x))
+    ];
+  }

@@ -43,6 +43,7 @@ module _ (was : Work) (rest : AgendaView) (edit : TheEdit) (s : TheState) (means
       asking = λ c d t solid. elim (means.underway.asking c d t solid) [ inl q ↦ inl (same.there c q) | inr r ↦ inr r ];
     };
     queued = λ c d t. (λ q. same.there c ((means.queued c d t).0 q), λ q. (means.queued c d t).1 (same.back c q));
+    due = λ is b c x d there on here asks less. same.there c (means.due is b c x d there (same.back b on) here asks less);
     silent = means.silent;
     plain = means.plain;
     gone = means.gone;

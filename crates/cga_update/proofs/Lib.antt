@@ -36,6 +36,7 @@ pub mod Drawing
 pub mod Meeting
 pub mod RootShapes
 pub mod Beginning
+pub mod Unkept
 pub mod Reworking
 pub mod Emitted
 pub mod Growing

@@ -5,6 +5,7 @@ use Rattle.std.specs.declared.cmp.Ordering.TheVariants.{Less, Equal, Greater}
 use Rattle.std.specs.declared.cmp.Ordering.{Ordering}
 use Rattle.std.specs.Ordering.{is_lt}
 use Rattle.cga_frame.specs.Box.{Box, box_of, meets}
+use Rattle.cga_order.proofs.Order.{stamp_total}
 use Rattle.cga_order.specs.Stamp.{stamp_cmp}
 use Rattle.cga_order.specs.World.{is_instance}
 use Rattle.cga_shape.specs.declared.sources.Sources.{Sources}
@@ -18,13 +19,13 @@ use Rattle.cga_forest.specs.View.{Seen}
 use Rattle.cga_forest.specs.Tree.{ForestView, node_at}
 use Rattle.cga_rework.specs.Agenda.{IsMoved}
 use Rattle.cga_update.specs.Agenda.{AgendaView, is_later}
-use Rattle.cga_update.specs.Due.{ComesAfter, HasAskers}
+use Rattle.cga_update.specs.Due.{AskersAreDue, ComesAfter, HasAskers}
 use Rattle.cga_update.specs.Edit.{content, meets_box, shapes_of}
 use Rattle.cga_update.specs.Follow.{IsComer, IsFollowed}
 use Rattle.cga_update.specs.Queue.{chains_of, due_chain, on_of}
-use Rattle.cga_update.proofs.Cases.{option_cases}
+use Rattle.cga_update.proofs.Cases.{bool_cases, is_false, option_cases}
 use Rattle.cga_update.proofs.DueNodes.{due_is, due_of}
-use Rattle.cga_update.proofs.Moves.{some_one}
+use Rattle.cga_update.proofs.Moves.{chain_at, not_itself, some_one}
 use Rattle.cga_update.proofs.OnIt.{on_from, on_to}
 use Rattle.cga_forest.proofs.Books.{nat_cases}
 
@@ -49,7 +50,25 @@ module _ (v w : ForestView) (new : Sources) (id : ℕ) (news : List Node) (e now
       kept_due true f r = let z : None ≡ Some d = sym (r ∙ ap (λ h. if h then None else Some x) f) ∙ b in cc
       kept_due false f r = ap due_chain (r ∙ ap (λ h. if h then None else Some x) f ∙ sym a)
 
-  module _ (was after : AgendaView) (mode : was.mode ≡ new.mode) (change : Change) (went : ListsMoved (node_at v) (node_at w) change.went) (came : ListsMoved (node_at w) (node_at v) change.came) (followed : IsFollowed w id change was after) where
+  abbrev IsAfter : Seen → Type 0
+  IsAfter d = stamp_cmp new.mode (chain_kept e.node) (chain_kept d.node) ≡ Less
+
+  -- a later node that is there before and after is the same
+  same_later : (c : ℕ) (x d : Seen) → node_at v c ≡ Some x → node_at w c ≡ Some d → IsAfter d → x ≡ d
+  same_later c x d a b less = elim (nat_cases c id) [
+    | inl s ↦
+        let d_now : d ≡ now = some_one (node_at w c) d now b (ap (node_at w) s ∙ replaced.is) in
+        absurd (not_itself (chain_kept e.node) new (subst (λ k. stamp_cmp new.mode (chain_kept e.node) k ≡ Less) (ap (λ (k : Seen). chain_kept k.node) d_now ∙ chain) less))
+    | inr other ↦ kept_same (gone c) refl (replaced.rest c x other a)
+  ]
+    where
+      kept_same : (g : Bool) → gone c ≡ g → node_at w c ≡ (if gone c then None else Some x) → x ≡ d
+      kept_same true f r = let z : None ≡ Some d = sym (r ∙ ap (λ h. if h then None else Some x) f) ∙ b in cc
+      kept_same false f r = some_one (node_at w c) x d (r ∙ ap (λ h. if h then None else Some x) f) b
+
+  -- due: whether each later node that asks is on the agenda before
+  module _ (was after : AgendaView) (mode : was.mode ≡ new.mode) (change : Change) (went : ListsMoved (node_at v) (node_at w) change.went) (came : ListsMoved (node_at w) (node_at v) change.came) (due : Bool) (followed : IsFollowed w id change due was after)
+      (spared : due ≡ true → (c : ℕ) (d : Seen) → node_at v c ≡ Some d → d.node.asks ≡ true → IsAfter d → on_of v was c ≡ true) where
     later_in : (c : ℕ) (d : Seen) → node_at w c ≡ Some d → is_instance d.node.kind ≡ false → stamp_cmp new.mode (chain_kept e.node) (chain_kept d.node) ≡ Less → ComesAfter w was.mode id c
     later_in c d here solid less =
         (λ i. is_later (mode i) (due_is (node_at w id) now replaced.is still i) (due_is (node_at w c) d here solid i)) ∙ ap (λ y. is_lt (stamp_cmp new.mode y (chain_kept d.node))) chain ∙ ap is_lt less
@@ -58,13 +77,28 @@ module _ (v w : ForestView) (new : Sources) (id : ℕ) (news : List Node) (e now
     later_out c d here solid late =
         lt_is (stamp_cmp new.mode (chain_kept e.node) (chain_kept d.node)) (sym (ap (λ y. is_lt (stamp_cmp new.mode y (chain_kept d.node))) chain) ∙ sym (λ i. is_later (mode i) (due_is (node_at w id) now replaced.is still i) (due_is (node_at w c) d here solid i)) ∙ late)
 
-    -- who asks and meets the box of one of the moved is on the agenda
-    seen_by : (b : Box) → HasAskers w was.mode id b after → (c : ℕ) (d : Seen) → node_at w c ≡ Some d → is_instance d.node.kind ≡ false → d.node.asks ≡ true → meets (box_of d.node.shape.scope) b ≡ true → stamp_cmp new.mode (chain_kept e.node) (chain_kept d.node) ≡ Less → on_of w after c ≡ true
-    unfolding bounds
-    seen_by b has c d here solid asks meet less = has c d here asks meet (later_in c d here solid less)
-
     still_on : (a : AgendaView) (c : ℕ) (x d : Seen) → node_at v c ≡ Some x → node_at w c ≡ Some d → on_of v a c ≡ true → on_of w a c ≡ true
     still_on a c x d p q h = let z = on_from (chains_of v) a c h in on_to (chains_of w) a c z.0 (same_due c x d p q ∙ z.1) z.2
+
+    came_on : (c : ℕ) (d : Seen) → node_at v c ≡ None → node_at w c ≡ Some d → is_instance d.node.kind ≡ false → on_of w after c ≡ true
+    came_on c d none here solid = followed.came (moved_of c d) ((came.each (moved_of c d)).1 (c, d, here, none, refl)) (subst IsSome (sym (due_is (node_at w c) d here solid)) refl)
+
+    -- then it is there after, too
+    still_later : due ≡ true → (c : ℕ) (d : Seen) → node_at w c ≡ Some d → is_instance d.node.kind ≡ false → d.node.asks ≡ true → IsAfter d → on_of w after c ≡ true
+    still_later is c d here solid asks less = elim (option_cases (node_at v c)) [
+      | inl none ↦ came_on c d none here solid
+      | inr p ↦
+          let there : node_at v c ≡ Some d = p.1 ∙ ap Some (same_later c p.0 d p.1 here less) in
+          followed.kept c (still_on was c d d there here (spared is c d there asks less))
+    ]
+
+    -- who asks and meets the box of one of the moved is on the agenda
+    seen_by : (b : Box) → (due ≡ false → HasAskers w was.mode id b after) → (c : ℕ) (d : Seen) → node_at w c ≡ Some d → is_instance d.node.kind ≡ false → d.node.asks ≡ true → meets (box_of d.node.shape.scope) b ≡ true → stamp_cmp new.mode (chain_kept e.node) (chain_kept d.node) ≡ Less → on_of w after c ≡ true
+    unfolding bounds
+    seen_by b has c d here solid asks meet less = elim (bool_cases due) [
+      | inl is ↦ still_later is c d here solid asks less
+      | inr not ↦ has not c d here asks meet (later_in c d here solid less)
+    ]
 
     was_on : (a : AgendaView) (c : ℕ) (x d : Seen) → node_at v c ≡ Some x → node_at w c ≡ Some d → on_of w a c ≡ true → on_of v a c ≡ true
     was_on a c x d p q h = let z = on_from (chains_of w) a c h in on_to (chains_of v) a c z.0 (sym (same_due c x d p q) ∙ z.1) z.2
@@ -72,12 +106,11 @@ module _ (v w : ForestView) (new : Sources) (id : ℕ) (news : List Node) (e now
     pub is_moved : IsMoved (shapes_of new) content meets_box (node_at v) (node_at w) e.node (on_of v was) (on_of w after)
     is_moved = record {
       kept = λ c x d p q h. followed.kept c (still_on was c x d p q h);
-      came = λ c d none here solid.
-          followed.came (moved_of c d) ((came.each (moved_of c d)).1 (c, d, here, none, refl)) (subst IsSome (sym (due_is (node_at w c) d here solid)) refl);
+      came = came_on;
       went = λ b c x d there none here solid asks meet less.
-          seen_by (box_of x.node.shape.scope) (followed.met_went (moved_of b x) ((went.each (moved_of b x)).1 (b, x, there, none, refl))) c d here solid asks meet less;
+          seen_by (box_of x.node.shape.scope) (λ not. followed.met_went not (moved_of b x) ((went.each (moved_of b x)).1 (b, x, there, none, refl))) c d here solid asks meet less;
       arrived = λ b c x d none there here solid asks meet less.
-          seen_by (box_of x.node.shape.scope) (followed.met_came (moved_of b x) ((came.each (moved_of b x)).1 (b, x, there, none, refl))) c d here solid asks meet less;
+          seen_by (box_of x.node.shape.scope) (λ not. followed.met_came not (moved_of b x) ((came.each (moved_of b x)).1 (b, x, there, none, refl))) c d here solid asks meet less;
       only = λ c d here h. elim (option_cases (node_at v c)) [
         | inl none ↦ inr (inl none)
         | inr p ↦ elim (followed.only c h) [
@@ -98,3 +131,19 @@ module _ (v w : ForestView) (new : Sources) (id : ℕ) (news : List Node) (e now
             let z = on_from (chains_of w) after c h in
             let y = due_of (node_at w c) z.0 z.1 in
             ap (λ (k : Seen). is_instance k.node.kind) (some_one (node_at w c) d y.0 here y.1) ∙ y.2
+
+    -- what is on the agenda after comes later than the node
+    all_after : ((c : ℕ) (d : Seen) → node_at v c ≡ None → node_at w c ≡ Some d → IsAfter d) → ((c : ℕ) (x : Seen) → node_at v c ≡ Some x → on_of v was c ≡ true → IsAfter x) → (c : ℕ) (d : Seen) → node_at w c ≡ Some d → on_of w after c ≡ true → IsAfter d
+    all_after born left c d here h = elim (is_moved.only c d here h) [
+      | inl p ↦
+          let same : Some (chain_kept p.0.node) ≡ Some (chain_kept d.node) = sym (chain_at v was c p.0 p.1 p.2) ∙ sym (same_due c p.0 d p.1 here) ∙ chain_at w after c d here h in
+          subst (λ k. stamp_cmp new.mode (chain_kept e.node) k ≡ Less) (let z : chain_kept p.0.node ≡ chain_kept d.node = some_one (Some (chain_kept p.0.node)) (chain_kept p.0.node) (chain_kept d.node) refl same in z) (left c p.0 p.1 p.2)
+      | inr r ↦ elim r [ inl none ↦ born c d none here | inr less ↦ less ]
+    ]
+
+    -- so the askers are due after, too
+    pub still_due : ((c : ℕ) (d : Seen) → node_at v c ≡ None → node_at w c ≡ Some d → IsAfter d) → ((c : ℕ) (x : Seen) → node_at v c ≡ Some x → on_of v was c ≡ true → IsAfter x)
+        → ((c : ℕ) (d : Seen) → node_at w c ≡ Some d → is_instance d.node.kind ≡ true → d.node.asks ≡ false) → due ≡ true → AskersAreDue new.mode w after
+    still_due born left silent is b c y d there on here asks less =
+        still_later is c d here (is_false (is_instance d.node.kind) (λ drawn. let z : false ≡ true = sym (silent c d here drawn) ∙ asks in cc)) asks
+        ((stamp_total new.mode).trans (chain_kept e.node) (chain_kept y.node) (chain_kept d.node) (all_after born left b y there on) less)

@@ -33,7 +33,7 @@ chain_at v a c d here h =
     let z = on_node v a c h in
     due_is (node_at v c) d here (ap (λ (x : Seen). is_instance x.node.kind) (some_one (node_at v c) d z.0 here z.1) ∙ z.2)
 
-not_itself : (x : Chain) (new : Sources) → stamp_cmp new.mode x x ≡ Less → ⊥
+pub not_itself : (x : Chain) (new : Sources) → stamp_cmp new.mode x x ≡ Less → ⊥
 not_itself x new e = let z : Equal ≡ Less = sym (tied_itself (stamp_total new.mode) x) ∙ e in cc
 
 pub is_taken : (v : ForestView) (new : Sources) (old rest : AgendaView) (id : ℕ) (x : Chain) → old.mode ≡ new.mode → IsLeast (chains_of v) old rest id x → (e : Seen) × (is_instance e.node.kind ≡ false) × IsTaken (shapes_of new) content (node_at v) id e (on_of v old) (on_of v rest)

@@ -68,7 +68,7 @@ module _ (was : Work) (symbols : Symbols) where
       log = p.log;
       gone = p.gone;
       come = p.come;
-      bounds = record { old = p.bounds.old; new = p.bounds.new; mode = p.bounds.mode; mark = p.bounds.mark };
+      bounds = record { old = p.bounds.old; new = p.bounds.new; mode = p.bounds.mode; mark = p.bounds.mark; due = p.bounds.due };
       forest = p.forest;
     },
   )

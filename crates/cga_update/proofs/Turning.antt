@@ -3,7 +3,10 @@ use Rattle.std.proofs.Common.{◌≡◌, ℕ, List, [], ◌∷◌, ◌++◌, ◌
 use Rattle.std.specs.Prelude.{◌&&◌, if◌then◌else◌}
 use Rattle.cga_word.specs.declared.answers.Answers.{Answers}
 use Rattle.cga_word.specs.declared.primitive.Primitive.{Primitive}
+use Rattle.std.specs.declared.cmp.Ordering.TheVariants.{Less}
+use Rattle.cga_order.proofs.Chains.{stamp-child}
 use Rattle.cga_order.specs.Chain.{Chain}
+use Rattle.cga_order.specs.Stamp.{stamp_cmp}
 use Rattle.cga_order.specs.World.{is_instance}
 use Rattle.cga_order.specs.Agenda.{asked}
 use Rattle.cga_agenda.specs.declared.turned.Turned.{Turned}
@@ -19,7 +22,8 @@ use Rattle.cga_tree.specs.Replaced.{IsReplaced}
 use Rattle.cga_expand.specs.Derivation as expansion
 use Rattle.cga_expand.specs.Derivation.{NamesDiffer}
 use Rattle.cga_expand.specs.Settings.{Setting}
-use Rattle.cga_forest.specs.Node.{fits, with_state}
+use Rattle.cga_derivation.proofs.Lists.{none_some}
+use Rattle.cga_forest.specs.Node.{chain_kept, fits, with_state}
 use Rattle.cga_forest.specs.Placing.{children_after, emitted, state_after}
 use Rattle.cga_forest.specs.View.{Seen}
 use Rattle.cga_forest.specs.Tree.{ForestView, IsForest, Replaces, marked_at, node_at}
@@ -38,6 +42,7 @@ use Rattle.cga_rework.proofs.Whole.{node_turns}
 use Rattle.cga_update.specs.declared.work.Work.{Work}
 use Rattle.cga_update.specs.Agenda.{AgendaView, IsLeast}
 use Rattle.cga_update.specs.Changed.{AreKnown}
+use Rattle.cga_update.specs.Due.{AskersAreDue}
 use Rattle.cga_update.specs.Edit.{asks_by, content, kept_nodes, meets_box, ranked, rules_of, shapes_of, the_edit}
 use Rattle.cga_check.specs.Uses.{same_name}
 use Rattle.cga_rule.specs.declared.grammar.Grammar.{Grammar}
@@ -48,8 +53,8 @@ use Rattle.cga_update.specs.Queue.{chains_of, on_of}
 use Rattle.cga_update.specs.Turned.{IsTurned, MayTurn}
 use Rattle.cga_update.proofs.Children.{are_news, is_outcome, keeps_self, setting_asks}
 use Rattle.cga_update.proofs.Edits.{is_rules_edit}
-use Rattle.cga_update.proofs.Moved.{is_moved}
-use Rattle.cga_update.proofs.Moves.{is_taken, some_one}
+use Rattle.cga_update.proofs.Moved.{is_moved, still_due}
+use Rattle.cga_update.proofs.Moves.{is_taken, not_itself, some_one}
 use Rattle.cga_update.proofs.Nodes.{kept_bound}
 use Rattle.cga_update.proofs.Drawing.{lists_lost}
 use Rattle.cga_update.proofs.Logged.{logged_more}
@@ -128,6 +133,28 @@ module _ (was now : Work) (rest : AgendaView) (id : ℕ) (x : Chain) (turned : T
   still : is_instance after_e.node.kind ≡ false
   still = (keeps_self new e.node turn.answers turn.outcome inner).is
 
+  abbrev IsAfter : Seen → Type 0
+  IsAfter d = stamp_cmp new.mode (chain_kept e.node) (chain_kept d.node) ≡ Less
+
+  -- where the askers are due, those later than the node stay on the agenda when it is taken
+  spared : was.askers_due ≡ true → (c : ℕ) (d : Seen) → V c ≡ Some d → d.node.asks ≡ true → IsAfter d → on_of was.forest rest c ≡ true
+  spared is c d here asks less = elim (least.stay c (means.due is id c e d turn.here least.there here asks less)) [
+    | inl same ↦ absurd (not_itself (chain_kept e.node) new (subst (λ (y : Seen). stamp_cmp new.mode (chain_kept e.node) (chain_kept y.node) ≡ Less) (some_one (V c) d e here (ap V same ∙ turn.here)) less))
+    | inr on ↦ on
+  ]
+
+  -- what came is a child of the node, and so comes later
+  born_later : (c : ℕ) (d : Seen) → V c ≡ None → T c ≡ Some d → IsAfter d
+  born_later c d none here = elim (replaced.came c none) [
+    | inl gone ↦ none_some d (sym gone ∙ here)
+    | inr at ↦
+        let w = turn.placed.1.forest.present.tree.down id at.0 c after_e replaced.is at.1 in
+        let is_w : w.0 ≡ d = some_one (T c) w.0 d w.1 here in
+        let up : d.parent ≡ Some id = ap (λ (q : Seen). q.parent) (sym is_w) ∙ w.2 in
+        let b = turn.placed.1.forest.present.places.child c id d after_e here up replaced.is in
+        stamp-child new.mode (chain_kept after_e.node) d.index (chain_kept d.node) (turn.placed.1.forest.present.places.chain id after_e replaced.is) (record { lot = b.lot; path = b.path; priorities = (d.node.priority, b.line) })
+  ]
+
   symbols : (c b : ℕ) (d y : Seen) → V c ≡ Some d → d.parent ≡ Some b → V b ≡ Some y → is_instance d.node.kind ≡ true → d.node.shape.symbol ≡ y.node.shape.symbol
   symbols c b d y t u k solid = (means.underway.city.child c b d y t u k).symbol solid
 
@@ -163,7 +190,7 @@ module _ (was now : Work) (rest : AgendaView) (id : ℕ) (x : Chain) (turned : T
     self_asks = setting_asks g e.node.shape;
     are = are_news new e.node turn.outcome inner;
     outcome = told;
-    moved = is_moved was.forest now.forest new id news e after_e gone replaced inner still refl rest now.agenda (least.mode ∙ means.agenda_mode) turn.placed.0 turn.placed.1.went turn.placed.1.came turn.placed.1.followed;
+    moved = is_moved was.forest now.forest new id news e after_e gone replaced inner still refl rest now.agenda (least.mode ∙ means.agenda_mode) turn.placed.0 turn.placed.1.went turn.placed.1.came was.askers_due turn.placed.1.followed spared;
   }
 
   by_symbol : GoesBySymbol content (rules_of new)
@@ -231,6 +258,11 @@ module _ (was now : Work) (rest : AgendaView) (id : ℕ) (x : Chain) (turned : T
   to_old : (P : Bor Sources → Type 0) → P was.old → P now.old
   to_old P h = subst P (sym turn.placed.1.bounds.old) h
 
+  due_now : was.askers_due ≡ true → AskersAreDue new.mode now.forest now.agenda
+  due_now =
+      still_due was.forest now.forest new id news e after_e gone replaced inner still refl rest now.agenda (least.mode ∙ means.agenda_mode) turn.placed.0 turn.placed.1.went turn.placed.1.came was.askers_due turn.placed.1.followed spared
+      born_later (λ c x there on. (taken_e.left c x there on).2) (still_silent was.forest now.forest before g id turn.outcome e after_e gone replaced refl means.silent)
+
   means_now : Means now edit after
   means_now = record {
     edit_is = to_new (λ b. edit ≡ the_edit now.old.now b.now) (to_old (λ b. edit ≡ the_edit b.now new) means.edit_is);
@@ -241,6 +273,7 @@ module _ (was now : Work) (rest : AgendaView) (id : ℕ) (x : Chain) (turned : T
     nodes = refl;
     underway = to_new (λ b. IsUnderway (shapes_of b.now) content (rules_of b.now) (asks_by b.now.grammar) T (on_of now.forest now.agenda)) result.0;
     queued = to_new (λ b. AreQueued (shapes_of b.now) content T (on_of now.forest now.agenda) result.1.0) result.1.1;
+    due = λ is. to_new (λ b. AskersAreDue b.now.mode now.forest now.agenda) (due_now (sym turn.placed.1.bounds.due ∙ is));
     silent = still_silent was.forest now.forest before g id turn.outcome e after_e gone replaced refl means.silent;
     plain = still_plain was.forest now.forest before g id turn.outcome e after_e gone replaced refl means.plain;
     gone = turn.placed.1.gone ∙ (λ i. means.gone i ++ sym went.2 i) ∙ sym (map_both told_ranked s.gone went.0);

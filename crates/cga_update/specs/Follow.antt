@@ -1,5 +1,5 @@
 -- What the agenda becomes after the turn of a node whose children were replaced.
-use Rattle.std.specs.Prelude.{◌≡◌, ◌⊎◌, ℕ, true, IsSome}
+use Rattle.std.specs.Prelude.{◌≡◌, ◌⊎◌, ℕ, Bool, true, false, IsSome}
 use Rattle.cga_frame.specs.Box.{box_of}
 use Rattle.cga_order.specs.World.{Among}
 use Rattle.cga_forest.specs.declared.change.Change.{Change}
@@ -13,12 +13,12 @@ use Rattle.cga_update.specs.Queue.{chains_of, on_of}
 abbrev pub IsComer : Change → ℕ → Type 0
 IsComer change c = (m : Moved) × Among m change.came × (m.id ≡ c)
 
--- all that was on it is; what came is, unless it is an instance; and so is each later node that asks and meets what went
--- or came; and nothing else
-pub record IsFollowed (v : ForestView) (of : ℕ) (change : Change) (old new : AgendaView) : Type 0 where
+-- all that was on it is; what came is, unless it is an instance; and so is, where the askers aren't due anyway, each later
+-- node that asks and meets what went or came; and nothing else
+pub record IsFollowed (v : ForestView) (of : ℕ) (change : Change) (due : Bool) (old new : AgendaView) : Type 0 where
   pub mode : new.mode ≡ old.mode
   pub kept : (c : ℕ) → on_of v old c ≡ true → on_of v new c ≡ true
   pub came : (m : Moved) → Among m change.came → IsSome (chains_of v m.id) → on_of v new m.id ≡ true
-  pub met_went : (m : Moved) → Among m change.went → HasAskers v old.mode of (box_of m.scope) new
-  pub met_came : (m : Moved) → Among m change.came → HasAskers v old.mode of (box_of m.scope) new
+  pub met_went : due ≡ false → (m : Moved) → Among m change.went → HasAskers v old.mode of (box_of m.scope) new
+  pub met_came : due ≡ false → (m : Moved) → Among m change.came → HasAskers v old.mode of (box_of m.scope) new
   pub only : (c : ℕ) → on_of v new c ≡ true → (on_of v old c ≡ true) ⊎ (IsComer change c ⊎ ComesAfter v old.mode of c)

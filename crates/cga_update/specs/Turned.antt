@@ -33,7 +33,7 @@ pub record IsPlaced (was now : Work) (id : ℕ) (answers : Answers) (outcome : O
   pub replaced : (e : Seen) → node_at was.forest id ≡ Some e → Replaces (node_at was.forest) (node_at now.forest) id (state_after was.new.now.grammar e.node answers outcome) (children_after was.new.now.grammar e.node outcome)
   pub went : ListsMoved (node_at was.forest) (node_at now.forest) change.went
   pub came : ListsMoved (node_at now.forest) (node_at was.forest) change.came
-  pub followed : IsFollowed now.forest id change was.agenda now.agenda
+  pub followed : IsFollowed now.forest id change was.askers_due was.agenda now.agenda
   pub log : now.log.items ≡ (was.log.items ++ went_of change.went) ++ came_of change.came
   pub gone : now.gone.items ≡ was.gone.items ++ drawn_of change.went
   pub come : now.come.items ≡ was.come.items ++ drawn_of change.came

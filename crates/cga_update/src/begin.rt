@@ -75,6 +75,8 @@ pub fn begun<'a, T: Ledger>(
     let mut come = Vec::new(alloc);
     forest.laws();
     remove_roots(alloc, &mut forest, &mut symbols, old, new, &mut went)?;
+    // Of a forest that has no node all nodes are roots that come, and these wait on the agenda.
+    let askers_due = forest.count() == 0;
     let came = add_roots(alloc, &mut forest, new)?;
     let went_nodes = went.as_slice();
     let came_nodes = came.as_slice();
@@ -97,6 +99,7 @@ pub fn begun<'a, T: Ledger>(
         alloc,
         forest,
         agenda,
+        askers_due,
         symbols,
         log,
         gone,

@@ -16,7 +16,7 @@ use std::alloc::Global;
 use std::collections::BTreeMap;
 
 /// What the new grammar says of the shapes of a symbol, and whether the old one says the same.
-#[derive(Clone, Copy, Debug)]
+#[derive(Clone, Copy)]
 pub struct Facts {
     /// Whether the group mentions the target.
     pub noparent: bool,

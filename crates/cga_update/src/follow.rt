@@ -69,19 +69,23 @@ fn add_met<T: Ledger>(
 }
 
 /// Puts on the agenda what came, and who meets what went or came and comes later than the node whose children were
-/// replaced. Takes memory.
+/// replaced; but where the askers are due anyway, nobody is looked for. Takes memory.
 pub fn follow<T: Ledger>(
     agenda: &mut Agenda,
     alloc: Global,
     forest: &Forest,
     of: NodeId,
     change: &Change,
+    askers_due: bool,
     tests: &mut Steps<T>,
 ) -> Result<(), NoMemory>
     requires one { OneEach (chains_of forest.now) }
-    ensures { OnOk result (IsFollowed forest.now of change.now agenda.old agenda.new) }
+    ensures { OnOk result (IsFollowed forest.now of change.now askers_due agenda.old agenda.new) }
 {
     add_came(agenda, alloc, forest, change.came.as_slice())?;
+    if askers_due {
+        return Ok(());
+    }
     add_met(agenda, alloc, forest, of, change.went.as_slice(), tests)?;
     add_met(agenda, alloc, forest, of, change.came.as_slice(), tests)
 }

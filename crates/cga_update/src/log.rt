@@ -10,7 +10,7 @@ use cga_shape::Drawn;
 use cga_word::{Name, Primitive};
 
 /// A node that isn't an instance came, or went: its symbol and its id.
-#[derive(Clone, Copy, Debug)]
+#[derive(Clone, Copy)]
 pub enum Pairing {
     Came(Name, NodeId),
     Went(Name, NodeId),

@@ -52,6 +52,7 @@ fn place<T: Ledger>(
         &work.forest,
         id,
         &change,
+        work.askers_due,
         tests,
     )
 }

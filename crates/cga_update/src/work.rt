@@ -12,6 +12,8 @@ pub struct Work<'a> {
     /// Marked: the marked nodes are those with which the update began.
     pub(crate) forest: Forest,
     pub(crate) agenda: Agenda,
+    /// Whether each node that asks and comes later than one on the agenda is on it, too: then nobody has to be found.
+    pub(crate) askers_due: bool,
     pub(crate) symbols: Symbols,
     /// What came and went that is no instance, for the dependents.
     pub(crate) log: Vec<Pairing>,

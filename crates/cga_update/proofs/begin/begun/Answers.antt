@@ -8,6 +8,7 @@ use Rattle.cga_update.specs.Log.{IsLogged}
 use Rattle.cga_update.specs.Roots.{HasLost}
 use Rattle.cga_update.proofs.Beginning as proof
 use Rattle.cga_update.proofs.Rooting.{still, wanted_after}
+use Rattle.cga_update.proofs.Unkept.{all_came, first_due, is_zero}
 use Rattle.cga_update.proofs.begin.begun.Goals as goal
 
 pub remove_roots-requires : goal.remove_roots-requires
@@ -55,6 +56,7 @@ returns-clause-begun g c =
         nodes = refl;
         underway = begins.0;
         queued = begins.1.1;
+        due = λ is. first_due old new first v d went came a stands r listed wanted there first_laws laws agenda (all_came (node_at first) before v keeps (is_zero c.count-askers_due.result _ c.count-askers_due.ensures is)) new.mode;
         silent = proof.silent_now old new first v d went came a stands r listed wanted there first_laws laws agenda;
         plain = proof.plain_now old new first v d went came a stands r listed wanted there first_laws laws agenda;
         gone = proof.drawn_from c.note_went.new.gone.items c.new-gone.result.items c.as_slice-went_nodes.result.now went c.in_ok-note_went.ensures.gone c.new-gone.ensures.items c.as_slice-went_nodes.ensures.value ∙ sym lost_list.2;
