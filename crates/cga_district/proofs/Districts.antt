@@ -1,6 +1,5 @@
 -- Districts that don't see one another are derived apart.
-use Rattle.std.proofs.Common.{◌≡◌, ℕ, zero, suc, ◌+◌, ◌≤◌, ◌<◌, List, [], ◌∷◌, ◌++◌, length, map, Bool, true, false, refl, sym, ap, ◌∙◌, subst, ◌⊎◌, inl, inr, Result, Ok, Err, Option, Some, None, arith, length-append}
-use Rattle.std.specs.Prelude.{slice_get}
+use Rattle.std.proofs.Common.{◌≡◌, ℕ, ◌+◌, ◌≤◌, List, [], ◌∷◌, ◌++◌, length, Bool, true, false, refl, sym, ap, ◌∙◌, subst, ◌⊎◌, inl, inr, Result, Ok, Err, None, arith, length-append}
 use Rattle.cga_order.specs.declared.placed.Placed.{Placed}
 use Rattle.cga_order.specs.declared.placed.Kind.{Kind}
 use Rattle.cga_order.specs.declared.placed.Kind.TheVariants.{Waiting, Done}
@@ -11,11 +10,11 @@ use Rattle.cga_order.specs.Consistent.{Stands, HasOutcome, SameMembers}
 use Rattle.cga_order.proofs.Members.{Has-left, Has-right, Has-append, Has-index, Among-shapes_where, Has-from_shapes_where}
 use Rattle.cga_order.proofs.Derived as derived
 use Rattle.cga_order.proofs.Unique.{same_members, has_members}
-use Rattle.cga_derivation.specs.Derivation.{Derivation, IsDerivation, AllApart, place_of, reached, derive, NothingWaits, IsDerived}
+use Rattle.cga_derivation.specs.Derivation.{Derivation, IsDerivation, place_of, reached, NothingWaits, IsDerived}
 use Rattle.cga_derivation.specs.Sites.{Site, world_of, sites, taken}
 use Rattle.cga_district.specs.Districts.{district, AreParts, SeesNone}
 use Rattle.cga_derivation.proofs.Sites.{world, Among-rooted}
-use Rattle.cga_derivation.proofs.Along.{Has-erase, erase-sites, reached-sites, length-map, map-append}
+use Rattle.cga_derivation.proofs.Along.{Has-erase, erase-sites, reached-sites, map-append}
 use Rattle.cga_derivation.proofs.Apart.{apart-reached}
 use Rattle.cga_derivation.proofs.Within.{places, Has-places, places-Has, places_once, length-places, no_longer, ends_within}
 use Rattle.cga_order.specs.Once.{Once}

@@ -1,3 +1,4 @@
 pub mod Districts
 pub mod Towns
 pub mod Parts
+pub mod Hulls

@@ -1,19 +1,15 @@
 -- Any number of districts of a town are derived apart: by two at a time.
-use Rattle.std.proofs.Common.{◌≡◌, ℕ, ◌+◌, List, [], ◌∷◌, ◌++◌, length, refl, sym, ap, ◌∙◌, subst, ◌⊎◌, inl, inr, ◌↔◌, arith}
-use Rattle.cga_word.specs.declared.primitive.Primitive.{Primitive}
-use Rattle.cga_order.specs.declared.placed.Kind.{Kind}
-use Rattle.cga_order.specs.World.{Has, Among}
+use Rattle.std.proofs.Common.{◌≡◌, List, [], ◌∷◌, ◌++◌, length, refl, sym, subst, ◌⊎◌, inl, inr, arith}
+use Rattle.cga_order.specs.World.{Among}
 use Rattle.cga_order.specs.Consistent.{SameMembers}
 use Rattle.cga_order.proofs.Members.{Has-left, Has-right, Has-append}
 use Rattle.cga_order.proofs.Once.{Among-append}
 use Rattle.cga_rule.specs.declared.grammar.Grammar.{Grammar}
 use Rattle.cga_shape.specs.declared.lot.Lot.{Lot}
-use Rattle.cga_shape.specs.declared.shape.Shape.{Shape}
-use Rattle.cga_shape.specs.declared.shape_fault.ShapeFault.{ShapeFault}
 use Rattle.cga_shape.specs.declared.sources.Sources.{Sources}
 use Rattle.cga_derivation.specs.Derivation.{IsDerived, reached}
 use Rattle.cga_expand.specs.Children.{Member}
-use Rattle.cga_expand.specs.Derivation.{derivation_of, NamesDiffer}
+use Rattle.cga_expand.specs.Derivation.{derivation_of}
 use Rattle.cga_district.specs.Towns.{with_lots, AreLots, NoneAsks, MeetsNone}
 use Rattle.cga_district.specs.Parts.{joined, total, ArePartsOf, AreDerived, MeetsNoOther, AllMeetNone, PartsAreApart}
 use Rattle.cga_district.proofs.Towns.{differ_right, towns}

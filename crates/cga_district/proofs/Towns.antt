@@ -1,22 +1,18 @@
 -- Districts of a town are derived apart.
-use Rattle.std.proofs.Common.{◌≡◌, ℕ, zero, suc, ◌+◌, ◌<◌, List, [], ◌∷◌, ◌++◌, length, Bool, true, false, refl, sym, ap, ◌∙◌, subst, ◌⊎◌, inl, inr, Result, Ok, Err, Some, arith, not, ◌&&◌, ◌||◌}
+use Rattle.std.proofs.Common.{◌≡◌, ℕ, zero, suc, ◌+◌, List, [], ◌∷◌, ◌++◌, length, Bool, true, false, refl, sym, ap, ◌∙◌, subst, ◌⊎◌, inl, inr, Result, Ok, Err, Some, arith, not, ◌&&◌, ◌||◌}
 use Rattle.std.specs.Prelude.{slice_get}
 use Rattle.cga_word.specs.declared.target.Target.{Target}
 use Rattle.cga_word.specs.declared.target.Target.TheVariants.{Noparent, Active}
-use Rattle.cga_word.specs.declared.primitive.Primitive.{Primitive}
 use Rattle.cga_frame.specs.Box.{box_of, meets}
 use Rattle.cga_frame.specs.declared.scope_fault.ScopeFault.{ScopeFault}
-use Rattle.cga_order.specs.declared.placed.Kind.{Kind}
-use Rattle.cga_order.specs.World.{Has, Among, is_instance}
+use Rattle.cga_order.specs.World.{Among}
 use Rattle.cga_order.proofs.Members.{Among-index}
 use Rattle.cga_order.proofs.Places.{slice_get-within}
 use Rattle.cga_rule.specs.declared.grammar.Grammar.{Grammar}
 use Rattle.cga_shape.specs.declared.lot.Lot.{Lot}
 use Rattle.cga_shape.specs.declared.shape.Shape.{Shape}
-use Rattle.cga_shape.specs.declared.shape_fault.ShapeFault.{ShapeFault}
 use Rattle.cga_shape.specs.declared.sources.Sources.{Sources}
 use Rattle.cga_shape.specs.Root.{root_of}
-use Rattle.cga_derivation.specs.Derivation.{IsDerived}
 use Rattle.cga_expand.specs.Asked.{asks_for, on_path, sees}
 use Rattle.cga_expand.specs.Children.{Member}
 use Rattle.cga_expand.specs.Derivation.{derivation_of, NamesDiffer, roots_of, made}
@@ -34,7 +30,7 @@ from_first x lots (Ok s) is n more h = elim h [
 ]
 from_first x lots (Err f) is n more h = let w = more n h in (w.0, inr w.1, w.2)
 
-lot_of_root : (lots : List Lot) (n : Shape) → Among n (roots_of lots) → (y : Lot) × Among y lots × (root_of y ≡ Ok n)
+pub lot_of_root : (lots : List Lot) (n : Shape) → Among n (roots_of lots) → (y : Lot) × Among y lots × (root_of y ≡ Ok n)
 lot_of_root [] n h = absurd h
 lot_of_root (x ∷ lots) n h = from_first x lots (root_of x) refl n (lot_of_root lots) h
 
@@ -61,7 +57,7 @@ get-right [] ys i j y e q = let same : i ≡ j = omega (arith, q) in ap (slice_g
 get-right (z ∷ xs) ys zero j y e q = absurd (omega (arith, q))
 get-right (z ∷ xs) ys (suc i) j y e q = get-right xs ys i j y e (omega (arith, q))
 
-differ_left : (xs ys : List Lot) → NamesDiffer (xs ++ ys) → NamesDiffer xs
+pub differ_left : (xs ys : List Lot) → NamesDiffer (xs ++ ys) → NamesDiffer xs
 differ_left xs ys differ i j a b e f = differ i j a b (get-left xs ys i a e) (get-left xs ys j b f)
 
 pub differ_right : (xs ys : List Lot) → NamesDiffer (xs ++ ys) → NamesDiffer ys
@@ -77,7 +73,7 @@ two_names xs ys differ x y h g same =
     let at = differ i.0 (length xs + j.0) x y (get-left xs ys i.0 x i.1) (get-right xs ys _ j.0 y j.1 refl) same in
     omega (arith, below, at)
 
-name_of : (x : Lot) (n : Shape) → root_of x ≡ Ok n → n.lot ≡ x.name
+pub name_of : (x : Lot) (n : Shape) → root_of x ≡ Ok n → n.lot ≡ x.name
 name_of x n e = ap (λ (s : Shape). s.lot) (sym (root_is x n e).1)
 
 -- ---- what is seen

@@ -1,6 +1,7 @@
 //! What is proved of districts. Each function here does nothing: its contract is the law, which a caller's proof can
 //! cite.
 ghost use Rattle.cga_district.specs.Districts.{DistrictsAreApart};
+ghost use Rattle.cga_district.specs.Hulls.{HullsTellApart};
 ghost use Rattle.cga_district.specs.Parts.{PartsAreApart};
 ghost use Rattle.cga_district.specs.Towns.{LotsAreApart};
 
@@ -18,4 +19,10 @@ pub fn lots_are_apart()
 /// And so is any number of parts.
 pub fn parts_are_apart()
     ensures { PartsAreApart }
+{}
+
+/// Parts are apart where no box of a lot of one touches that of a lot of another, and the box of each lot holds those
+/// of all its shapes.
+pub fn hulls_tell_apart()
+    ensures { HullsTellApart }
 {}

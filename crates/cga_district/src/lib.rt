@@ -7,4 +7,4 @@
 
 mod laws;
 
-pub use laws::{districts_are_apart, lots_are_apart, parts_are_apart};
+pub use laws::{districts_are_apart, hulls_tell_apart, lots_are_apart, parts_are_apart};
