@@ -2,6 +2,7 @@
 from collections import defaultdict
 from itertools import takewhile
 
+from .apart import hull
 from .call import Refused
 from .replies import replies
 
@@ -51,18 +52,29 @@ class Printed:
     def counts(self):
         """What `stats` counted, which stands behind the last object, but for the expanded shapes, which aren't a sum."""
         words = self.line.split()
-        if words[:2] != ["#", "stats"] or not self.line.endswith("\n") or next(self.file, ""):
+        if words[:2] != ["#", "stats"] or not self.line.endswith("\n"):
             raise self.broken()
         return {word: int(number) for word, number in zip(words[2::2], words[3::2]) if word != "expanded"}
 
+    def hulls(self):
+        """The box of each lot, behind the counts, where the program tells of them."""
+        try:
+            return {line.split()[2]: hull(line.split()) for line in self.file if self.is_hull(line)}
+        except (ValueError, ZeroDivisionError):
+            raise self.broken() from None
+
+    def is_hull(self, line):
+        if not (line.startswith("# hull ") and line.endswith("\n")):
+            raise self.broken()
+        return True
+
 
 def check_grammars(jobs):
-    """Refused unless each job replied by one grammar, in which no rule asks."""
+    """Whether a rule asks. Refused unless each job replied by one grammar."""
     for job in jobs:
         if job.grammar != jobs[0].grammar:
             raise Refused(f"{job.path} and {jobs[0].path} are of two grammars: cut the script again and run all jobs")
-        if asking(job.grammar):
-            raise Refused(f"{job.path}: rule {', '.join(asking(job.grammar))} asks by Scope.occ, so its jobs aren't joined")
+    return bool(asking(jobs[0].grammar))
 
 
 def moved(face, by):

@@ -1,4 +1,9 @@
 """A script as a region: the lines that each job has, and the lots, of which each job has some."""
+import heapq
+from collections import Counter
+from fractions import Fraction
+
+from .apart import Districts, ground, touching
 from .call import Refused
 from .printed import asking
 from .program import run
@@ -24,7 +29,8 @@ class Region:
 
     def __init__(self, path):
         with open(path, "rb") as file:
-            self.path, self.lines = path, lines_of(file.read())
+            self.path, self.data = path, file.read()
+        self.lines = lines_of(self.data)
         self.head, self.lots = [], {}
         first, *others = commands(self.lines) or [None]
         if first is None or not is_version(first.words):
@@ -67,7 +73,7 @@ class Region:
         self.lots[name] = self.lines[at]
 
     def check(self, program):
-        """Refused where the program refuses a line of the head, or prints a rule that asks."""
+        """The rules that ask, by what the program prints. Refused where it refuses a line of the head."""
         lines = [self.lines[at] for at in self.head] + ["grammar"]
         status, out = run(program, text_of(["version 2"] + lines))
         answers = list(replies(out))[1:]
@@ -77,15 +83,30 @@ class Region:
         for command, answer in zip(found, answers):
             if answer[0].startswith("# refused "):
                 raise self.refused(self.head[command.first - 1], f"{answer[0][2:]}; tools/lint says what is wrong")
-        asks = asking(answers[-1])
-        if asks:
-            raise Refused(f"{self.path}: rule {', '.join(asks)} asks by Scope.occ, so a lot may hang on any other, and nothing "
-                          "that is printed tells on which ones: this script isn't cut (docs/DISTRICTS.md)")
+        return asking(answers[-1])
 
-    def jobs(self, number):
-        """The names of each job's lots, dealt round."""
-        names = list(self.lots)
-        return [names[at::number] for at in range(min(number, len(names)))]
+    def districts(self, reach):
+        """Each lot with the district that it stands in: lots whose grounds touch, grown by the reach, stand in one."""
+        found = Districts((name, name) for name in self.lots)
+        try:
+            boxes = {name: ground(words_of(line), Fraction(reach)) for name, line in self.lots.items()}
+        except ValueError:
+            raise Refused(f"{self.path}: a lot has no ground, or the reach is no number; tools/lint says what is wrong") from None
+        for name, other in touching(boxes):
+            found.join(name, other)
+        return {name: found.of(name) for name in self.lots}
+
+    def jobs(self, number, districts=None):
+        """The job of each lot: they are dealt round, or each district whole, the largest first, to the job with the fewest lots."""
+        if districts is None:
+            return {name: at % number + 1 for at, name in enumerate(self.lots)}
+        sizes = Counter(districts.values())
+        loads = [(0, job) for job in range(1, min(number, len(sizes)) + 1)]
+        job_of = {}
+        for district, size in sizes.most_common():
+            load, job_of[district] = heapq.heappop(loads)
+            heapq.heappush(loads, (load + size, job_of[district]))
+        return {name: job_of[district] for name, district in districts.items()}
 
     def script(self, names):
         lines = [self.lines[at] for at in self.head] + [self.lots[name] for name in names]

@@ -54,7 +54,7 @@ class Districts(unittest.TestCase):
     def assert_whole(self, lines):
         """What is joined is what one run prints, byte by byte."""
         _, out = run(STAND_IN, "\n".join([line for line in lines if line != "print"] + ["print", "faults", ""]).encode())
-        *_, town, faults = replies(out)
+        *_, town, faults = replies([line for line in out if not line.startswith("# hull ")])
         self.assertEqual((self.folder / "town.obj").read_text(encoding="latin-1").split("\n")[:-1], town)
         self.assertEqual((self.folder / "town.faults").read_text(encoding="latin-1").split("\n")[:-1], faults)
 
@@ -95,19 +95,57 @@ class Districts(unittest.TestCase):
                 ([*REGION, LOTS[1]], ":18: the lot `flat` stands here twice"), ([*REGION, "lot"], ":18: the lot has no name"),
                 ([*RULES, "city", *LOTS[:1], *LOTS[:1], "end"], ":8: the lot `a` stands here twice"),
                 ([*REGION, "nonsense"], ":18: tools/lint says"), ([*REGION, "#" + "x" * 5000], ":18: tools/lint says"),
-                ([*REGION[:6], "drop 1", *LOTS], ":7: refused Unexpected at 1"), ([*RULES, "rules", *LOTS], ":6: no line `end` ends"),
-                ([*RULES[:3], ASKING, *RULES[3:], *LOTS], "rule 7 asks by Scope.occ")):
+                ([*REGION[:6], "drop 1", *LOTS], ":7: refused Unexpected at 1"), ([*RULES, "rules", *LOTS], ":6: no line `end` ends")):
             with self.subTest(told):
                 self.script.write_text("\n".join(lines) + "\n", encoding="latin-1")
                 with self.assertRaises(Refused) as refusal:
                     Region(self.script).check(STAND_IN)
                 self.assertIn(told, str(refusal.exception))
 
-    def test_where_a_rule_asks_nothing_is_cut(self):
-        for script, rule in (("far_shape_of_a_ghost", 4), ("row_of_shops", 3)):
-            answer = self.call("--program", STAND_IN, "cut", TESTS / "districts" / f"{script}.cga", self.folder, "2")
-            self.assert_refused(answer, f"rule {rule} asks by Scope.occ")
-            self.assertFalse(self.folder.exists())
+    def asking(self, *more):
+        return [*RULES[:3], ASKING, *RULES[3:], *more]
+
+    def test_where_a_rule_asks_lots_that_touch_stand_in_one_job(self):
+        near, far = [f"lot n{k} 0 {k * 4} 0 4 4 wall" for k in range(3)], [f"lot f{k} 0 {k * 40} 90 4 4 wall" for k in range(3)]
+        self.assertEqual(self.cut(self.asking(*near, *far), 2), (0, f"{self.folder}: 6 lots in 2 jobs; 4 districts, since a rule asks\n", ""))
+        self.assertEqual((self.folder / "lots").read_text().split("\n")[:4], ["n0 1 n0", "n1 1 n0", "n2 1 n0", "f0 2 f0"])
+        self.run_jobs()
+        self.assertEqual(self.join(), (0, f"{self.folder}/town.obj: lots 6\n", ""))
+        self.assert_whole(self.asking(*near, *far))
+        self.script.write_text("\n".join([*self.asking(*far), ""]), encoding="latin-1")
+        said = self.call("--program", STAND_IN, "cut", self.script, self.folder, "9", "18")[1]
+        self.assertEqual(said, f"{self.folder}: 3 lots in 1 jobs; 1 districts, since a rule asks\n")
+
+    def test_districts_whose_boxes_touch_are_put_together(self):
+        lots = [f"lot {name} {seed} {x} 0 4 4 wall" for name, seed, x in (("a", 6, 0), ("b", 1, 10), ("c", 1, 20), ("d", 5, 30), ("e", 0, 36))]
+        self.cut(self.asking(*lots), 4)
+        self.run_jobs()
+        self.assertEqual(self.join(), (3, "", "3 districts touch: job-1, job-2, job-4 cut anew; run them, and join again\n"))
+        self.assertEqual((self.folder / "lots").read_text().split(), "a 1 a b 1 a c 3 c d 4 d e 4 d".split())
+        self.assertEqual(self.made("out"), ["job-3.out"])
+        self.assertFalse((self.folder / "town.obj").exists())
+        self.run_jobs()
+        self.assertEqual(self.join(), (0, f"{self.folder}/town.obj: lots 5\n", ""))
+        self.assert_whole(self.asking(*lots))
+
+    def test_jobs_that_do_not_tell_their_boxes(self):
+        self.cut(self.asking(*LOTS))
+        self.run_jobs()
+        job = self.folder / "job-1.out"
+        whole = job.read_text()
+        at = whole.index("# hull")
+        for text, told in ((whole[:at], "tell the box of each lot"), (whole[:-2], "isn't what"), (whole + "# hull x 1 1 1 0 1 1\n", "isn't what"),
+                           (whole + "# hull x 1 1 1 1 1/0 1\n", "isn't what"), (whole + "# hulls\n", "isn't what")):
+            job.write_text(text)
+            self.assert_refused(self.join(), told)
+            self.assertFalse((self.folder / "town.obj").exists())
+
+    def test_without_the_program_that_tells_boxes(self):
+        cut = runpy.run_path(str(TOP / "tools" / "districts"))
+        with self.assertRaises(Refused) as refusal:
+            cut["hulls_program"].__globals__["HULLS"] = self.top / "nowhere"
+            cut["hulls_program"](cut["hulls_program"].__globals__["LAUNCHER"].__str__(), ["7"])
+        self.assertIn("rule 7 asks by Scope.occ, so the jobs need the program cga_hulls", str(refusal.exception))
 
     def test_a_comment_that_names_it_asks_nothing(self):
         self.assertEqual(self.cut([*RULES[:3], f"# {ASKING}", *RULES[3:], *LOTS])[0], 0)
@@ -129,9 +167,10 @@ class Districts(unittest.TestCase):
                     join(self.folder)
                 self.assertIn(told, str(refusal.exception))
                 self.assertFalse((self.folder / "town.obj").exists())
+        job.write_text(whole)
         for job in self.folder.glob("*.out"):
             job.write_text(job.read_text().replace(RULES[2], ASKING))
-        self.assert_refused(self.join(), "rule 7 asks by Scope.occ")
+        self.assert_refused(self.join(), "a rule asks by Scope.occ, and the jobs don't tell")
 
     def test_a_job_past_the_budget(self):
         self.cut([*REGION, "lot huge 1 0 0 1 1 wall"])

@@ -21,3 +21,4 @@ pub mod Tracing
 pub mod Warming
 pub mod Accounts
 pub mod Reordered
+pub mod Hulls

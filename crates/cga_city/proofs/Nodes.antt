@@ -204,16 +204,20 @@ module _ (v : ForestView) (f : IsForest v) (lot : List ℕ) where
   pub lot_to : (nodes : List ℕ) → AreOfLot v lot nodes → (m : Member) → Among m (members_among v nodes) → (c : ℕ) × (d : Seen) × (node_at v c ≡ Some d) × (member_of d.node ≡ m) × (m.shape.lot ≡ lot)
   lot_to nodes of m h = some_to of.0 of.1 m (subst (λ ns. Among m (members_among v ns)) of.2 h)
 
-  pub lot_from : (nodes : List ℕ) → AreOfLot v lot nodes → (c : ℕ) (d : Seen) → node_at v c ≡ Some d → d.node.shape.lot ≡ lot → Among (member_of d.node) (members_among v nodes)
+  -- each node of the lot is listed
+  pub lot_listed : (nodes : List ℕ) → AreOfLot v lot nodes → (c : ℕ) (d : Seen) → node_at v c ≡ Some d → d.node.shape.lot ≡ lot → trees.Member nodes c
   unfolding all_nodes
-  lot_from nodes of c d h own =
+  lot_listed nodes of c d h own =
       let p = in_some (below (forest_tree v) 257) (forest_tree v).roots c (inside v f c (d, h)) in
       let w = root_own v f p.0 p.1 in
       let i = among_from v (below (forest_tree v) 257 p.0) c d p.2 h in
       let b = all_at (Below v f w.0.node.shape) (nodes_from v f 257 p.0) (member_of d.node) (nodes_below v f 257 p.0 w.0 w.2) i in
       let root : IsRootOf (node_at v) lot p.0 = subst (λ (l : List ℕ). IsRootOf (node_at v) l p.0) (sym b.2 ∙ own) w.1 in
       let e : nodes ≡ below (forest_tree v) 257 p.0 = of.2 ∙ ap (from_root v) ((of.1 p.0).1 root) in
-      subst (λ ns. Among (member_of d.node) (members_among v ns)) (sym e) i
+      subst (λ ns. trees.Member ns c) (sym e) p.2
+
+  pub lot_from : (nodes : List ℕ) → AreOfLot v lot nodes → (c : ℕ) (d : Seen) → node_at v c ≡ Some d → d.node.shape.lot ≡ lot → Among (member_of d.node) (members_among v nodes)
+  lot_from nodes of c d h own = among_from v nodes c d (lot_listed nodes of c d h own) h
 
 -- ---- lists that have the nodes
 
@@ -222,14 +226,14 @@ module _ {X : Type 0} (test : X → Bool) where
   cases true = inl refl
   cases false = inr refl
 
-  filter_to : (xs : List X) (x : X) → Among x (filter test xs) → Among x xs × (test x ≡ true)
+  pub filter_to : (xs : List X) (x : X) → Among x (filter test xs) → Among x xs × (test x ≡ true)
   filter_to [] x h = absurd h
   filter_to (y ∷ ys) x h = elim (cases (test y)) [
     | inl t ↦ (let k = rw t at h in elim k [ inl e ↦ (inl e, ap test (sym e) ∙ t) | inr r ↦ let w = filter_to ys x r in (inr w.0, w.1) ])
     | inr f ↦ (let k = rw f at h in let w = filter_to ys x k in (inr w.0, w.1))
   ]
 
-  filter_from : (xs : List X) (x : X) → Among x xs → test x ≡ true → Among x (filter test xs)
+  pub filter_from : (xs : List X) (x : X) → Among x xs → test x ≡ true → Among x (filter test xs)
   filter_from [] x h t = absurd h
   filter_from (y ∷ ys) x h t = elim h [
     | inl e ↦ (let u : test y ≡ true = ap test e ∙ t in rw u (inl e))
@@ -252,7 +256,7 @@ has_among (x ∷ xs) s k h = elim h [
 ]
 
 module _ (lot : List ℕ) where
-  abbrev is_of : Member → Bool
+  abbrev pub is_of : Member → Bool
   is_of m = same_name m.shape.lot lot
 
   paths_differ : (m n : Member) → (m.shape.path ≡ n.shape.path → ⊥) → Differs comes_before m n
@@ -261,7 +265,7 @@ module _ (lot : List ℕ) where
     | inr r ↦ elim r [ inl e ↦ absurd (h (slice_cmp-IsAntisymmetric nat_cmp-IsAntisymmetric m.shape.path n.shape.path e)) | inr g ↦ inr (ap is_lt g) ]
   ]
 
-  lot_differs : (list : List Member) → AreApart list → Differ comes_before (filter is_of list)
+  pub lot_differs : (list : List Member) → AreApart list → Differ comes_before (filter is_of list)
   lot_differs [] apart = tt
   lot_differs (m ∷ ms) apart =
       let rest = lot_differs ms (λ i j x y a b e. let q = apart (suc i) (suc j) x y a b e in omega (arith, q)) in

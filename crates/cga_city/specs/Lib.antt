@@ -10,3 +10,4 @@ pub mod Nodes
 pub mod Tally
 pub mod Kept
 pub mod Laws
+pub mod Hulls

@@ -1,10 +1,11 @@
 //! The city.
-ghost use Rattle.std.specs.Prelude.{◌≡◌, ◌+◌, ◌≤◌, [], IfOk, IsOk, OnErr, OnOk, IsFalse, IsTrue, Some, bytes_eq, length, true};
+ghost use Rattle.std.specs.Prelude.{◌≡◌, ◌+◌, ◌<◌, ◌≤◌, [], IfOk, IfSome, IsOk, OnErr, OnOk, IsFalse, IsTrue, Some, bytes_eq, length, slice_get, true};
 ghost use Rattle.std.specs.List.{IsDistinct};
 ghost use Rattle.cga_expand.specs.Run.{IsRun};
 ghost use Rattle.cga_obj.specs.Lots.{AreSolid, StandsBy};
 ghost use Rattle.cga_city.specs.City.{EditGives, HasDistinctLots, IsWarmed, empty_city};
 ghost use Rattle.cga_city.specs.Derived.{derived, members};
+ghost use Rattle.cga_city.specs.Hulls.{IsHullOf};
 ghost use Rattle.cga_city.specs.Inside.{AreSound};
 ghost use Rattle.cga_city.specs.Lots.{names_of};
 ghost use Rattle.cga_city.specs.Reports as spec;
@@ -16,6 +17,7 @@ use crate::tally::tally_all;
 use cga_depend::Dependents;
 use cga_forest::Forest;
 use cga_fraction::{List, NoMemory, Steps};
+use cga_frame::WorldBox;
 use cga_rule::Grammar;
 use cga_shape::{Changes, Counts, Drawn, Edit, EditRefused, FaultLine, Lot, Sources, TraceStep};
 use cga_trace::trace;
@@ -218,6 +220,20 @@ impl City {
         ensures { IfOk result (IsRun self.now.sources) }
     {
         trace(self.alloc, &self.forest)
+    }
+
+    /// The least box that holds the boxes of all shapes of the lot at this place, drawn or not. Takes no memory.
+    pub fn hull(&self, place: usize) -> WorldBox
+        requires warm { IsTrue self.now.warm }
+        requires place { place < length self.now.sources.lots }
+        ensures { IfSome (slice_get self.now.sources.lots place) (λ lot. IsHullOf lot.name (members self.now.budget self.now.sources) result) }
+    {
+        self.forest.laws();
+        let lot = self.sources.lots.as_slice()[place].name;
+        match self.forest.root_of(lot) {
+            Some(root) => self.forest.hull(root),
+            None => unreachable!(),
+        }
     }
 
     /// How many there are of each, and how many shapes the last accepted edit touched. Takes no memory; the time goes by

@@ -46,7 +46,7 @@ module _ (h g : Box) (s t : Scope) (in_h : holds h (box_of s) ≡ true) (in_g : 
 -- ---- two parts
 
 -- a member's lot is one of its part
-lot_among : (sources : Sources) (lots : List Lot) → NamesDiffer lots → (list : List Member) → IsDerived (derivation_of (with_lots sources lots)) list
+pub lot_among : (sources : Sources) (lots : List Lot) → NamesDiffer lots → (list : List Member) → IsDerived (derivation_of (with_lots sources lots)) list
     → (n : Shape) (k : Kind ShapeFault Primitive) → Has list n k → (x : Lot) × Among x lots × (n.lot ≡ x.name)
 lot_among sources lots differ list ends n k h =
     let laws = sources_are_derivations (with_lots sources lots) differ in

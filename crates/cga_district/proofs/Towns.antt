@@ -65,7 +65,7 @@ differ_right xs ys differ i j a b e f same =
     let h = differ (length xs + i) (length xs + j) a b (get-right xs ys _ i a e refl) (get-right xs ys _ j b f refl) same in
     omega (arith, h)
 
-two_names : (xs ys : List Lot) → NamesDiffer (xs ++ ys) → (x y : Lot) → Among x xs → Among y ys → x.name ≡ y.name → ⊥
+pub two_names : (xs ys : List Lot) → NamesDiffer (xs ++ ys) → (x y : Lot) → Among x xs → Among y ys → x.name ≡ y.name → ⊥
 two_names xs ys differ x y h g same =
     let i = Among-index xs x h in
     let j = Among-index ys y g in

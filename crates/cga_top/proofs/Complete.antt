@@ -46,3 +46,13 @@ read_not_used e = cc
 
 pub long_not_used : TooLong ≢ Usage
 long_not_used e = cc
+
+-- and none but Done is done
+pub not_done : (r status : Status) → (r ≡ status) ⊎ (r ≡ WriteFault) → status ≢ Done → r ≢ Done
+not_done r status or other = elim or [ inl is ↦ λ e. other (sym is ∙ e) | inr is ↦ λ e. let bad : WriteFault ≡ Done = sym is ∙ e in cc ]
+
+pub read_not_done : ReadFault ≢ Done
+read_not_done e = cc
+
+pub long_not_done : TooLong ≢ Done
+long_not_done e = cc

@@ -25,6 +25,7 @@ use Rattle.cga_top.specs.declared.status.Status.TheVariants.{Done, ReadFault, Wr
 use Rattle.cga_top.specs.Outside.{Outside}
 use Rattle.cga_top.specs.Faults.{FaultsAt}
 use Rattle.cga_top.specs.Reads.{limit, read_limit, pending_after, IsRead, IsHalted}
+use Rattle.cga_top.specs.Session.{IsAt}
 use Rattle.cga_top.specs.Statuses.{WritesAll, WritesReplies, WritesPrefix, StatusMeans}
 use Rattle.cga_top.proofs.Effects.{spent_then, all_append, some_more, some_after, wrote_more}
 
@@ -198,6 +199,13 @@ done_means d status old mid last new session next lines read r few at_end ended 
           (λ bytes told. all_written d read bytes old mid last new session next lines (ended_bytes d read bytes old mid session lines told r at_end) r few w f.expanded f.held),
     ))
     (end_prefix d read old mid new session lines r few at_end (some_kept mid.held last.held new.held _ w.written f.held))
+
+-- and so the session has come to the state of the whole script
+pub left_at : (d : ℕ) (read : List ℕ) (old mid : Outside) (session next : Session) (lines : Pending) → IsRead d read old mid session lines → length read ≤ limit → IsAtEnd mid.left
+    → IsAt (last_effect (effect_of_lines d (take limit read)).state (cut (take limit read)).rest).state next → IfSome old.left (λ bytes. IsAt (effect_of_script d bytes).state next)
+left_at d read old mid session next lines r few at_end is =
+    by_bytes (λ bytes. IsAt (effect_of_script d bytes).state next) old.left
+    (λ bytes told. subst (λ (x : List ℕ). IsAt (effect_of_script d x).state next) (take_all limit read few ∙ ended_bytes d read bytes old mid session lines told r at_end) is)
 
 pub halted_means : (d : ℕ) (halt : Halt) (status : Status) (old new : Outside)
     → (halt ≡ cause.WriteFault → status ≡ WriteFault) → (halt ≡ cause.NoMemory → status ≡ NoMemory)

@@ -18,3 +18,4 @@ pub mod Faults
 pub mod Reads
 pub mod Statuses
 pub mod Runs
+pub mod Left

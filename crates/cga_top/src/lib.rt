@@ -5,6 +5,7 @@
 //! sink holds some of the output, and may hold a reply in part.
 #![tactic(auto)]
 
+mod after;
 mod commands;
 mod decimals;
 mod dresses;
@@ -25,9 +26,11 @@ mod top;
 mod traces;
 mod turns;
 
+pub use after::city_after;
 pub use cga_words::town_script;
 pub use laws::{
     blocks_are_told, commands_are_told, states_are_within_the_budget, undo_is_never_refused,
 };
+pub use pump::write_all;
 pub use status::Status;
 pub use top::run_city;

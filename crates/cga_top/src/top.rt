@@ -36,6 +36,7 @@ fn status_of(halt: Halt) -> Status
     ensures write { halt ≡ Halt.WriteFault → result ≡ Status.WriteFault }
     ensures memory { halt ≡ Halt.NoMemory → result ≡ Status.NoMemory }
     ensures used { result ≢ Status.Usage }
+    ensures done { result ≢ Status.Done }
 {
     match halt {
         Halt::WriteFault => Status::WriteFault,
@@ -57,7 +58,43 @@ fn flushed<K: Sink>(out: &mut K, status: Status) -> Status
     }
 }
 
-// Replies to a script while it is read.
+/// Replies to a script while it is read.
+pub(crate) fn run_in<S: Source, K: Sink, E: Ledger, T: Ledger>(
+    session: &mut Session,
+    script: &mut S,
+    out: &mut K,
+    expansions: &mut Steps<E>,
+    tests: &mut Steps<T>,
+) -> Status
+    requires session { IsAt (start session.old.decimals) session.old }
+    requires ready { IsReady session.old }
+    ensures means { StatusMeans session.old.decimals result
+        (outside_of S.Source K.Sink script.old out.old expansions.old)
+        (outside_of S.Source K.Sink script.new out.new expansions.new) }
+    ensures used { result ≢ Status.Usage }
+    ensures complete { HoldsFew (S.left script.old)
+        → (Rose (S.faults script.old) (S.faults script.new) → ⊥)
+        → (Rose (K.faults out.old) (K.faults out.new) → ⊥)
+        → (result ≡ Status.Done) ⊎ (result ≡ Status.NoMemory) }
+    ensures left { result ≡ Status.Done → IfSome (S.left script.old) (λ bytes.
+        IsAt (effect_of_script session.old.decimals bytes).state session.new) }
+{
+    let mut lines = match Lines::new(session.alloc) {
+        Ok(lines) => lines,
+        Err(NoMemory) => return Status::NoMemory,
+    };
+    match read_lines(session, &mut lines, script, out, expansions, tests) {
+        ReadEnd::Ended => match end_script(session, &mut lines, out, expansions, tests) {
+            Ok(()) => flushed(out, Status::Done),
+            Err(halt) => status_of(halt),
+        },
+        ReadEnd::Failed => flushed(out, Status::ReadFault),
+        ReadEnd::TooLong => flushed(out, Status::TooLong),
+        ReadEnd::Halted(halt) => status_of(halt),
+    }
+}
+
+// The same with a session of its own.
 fn run_script<S: Source, K: Sink, E: Ledger, T: Ledger>(
     alloc: Global,
     decimals: Decimals,
@@ -66,7 +103,6 @@ fn run_script<S: Source, K: Sink, E: Ledger, T: Ledger>(
     expansions: &mut Steps<E>,
     tests: &mut Steps<T>,
 ) -> Status
-    requires { IsFalse (S.ended script.old) }
     ensures means { StatusMeans decimals result
         (outside_of S.Source K.Sink script.old out.old expansions.old)
         (outside_of S.Source K.Sink script.new out.new expansions.new) }
@@ -76,23 +112,11 @@ fn run_script<S: Source, K: Sink, E: Ledger, T: Ledger>(
         → (Rose (K.faults out.old) (K.faults out.new) → ⊥)
         → (result ≡ Status.Done) ⊎ (result ≡ Status.NoMemory) }
 {
-    let mut lines = match Lines::new(alloc) {
-        Ok(lines) => lines,
-        Err(NoMemory) => return Status::NoMemory,
-    };
     let mut session = match new_session(alloc, decimals) {
         Ok(session) => session,
         Err(NoMemory) => return Status::NoMemory,
     };
-    match read_lines(&mut session, &mut lines, script, out, expansions, tests) {
-        ReadEnd::Ended => match end_script(&mut session, &mut lines, out, expansions, tests) {
-            Ok(()) => flushed(out, Status::Done),
-            Err(halt) => status_of(halt),
-        },
-        ReadEnd::Failed => flushed(out, Status::ReadFault),
-        ReadEnd::TooLong => flushed(out, Status::TooLong),
-        ReadEnd::Halted(halt) => status_of(halt),
-    }
+    run_in(&mut session, script, out, expansions, tests)
 }
 
 // Replies to lines that are all there, up to the end of their script.

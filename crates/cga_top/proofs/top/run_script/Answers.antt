@@ -1,75 +1,9 @@
-use Rattle.std.proofs.Common.{ℕ, ap, refl, subst}
+use Rattle.std.proofs.Common.{ℕ, subst}
 use Rattle.cga_top.specs.Statuses.{StatusMeans}
 use Rattle.cga_top.specs.Outside.{outside_of}
-use Rattle.cga_top.proofs.Ends.{start_pending, done_means, failed_means, too_long_means, halted_means, halted_prefix, end_prefix}
-use Rattle.cga_top.proofs.Faults.{faults_since}
-use Rattle.cga_top.proofs.Complete.{complete_of, not_used, done_not_used, read_not_used, long_not_used}
 use Rattle.cga_top.proofs.top.run_script.Goals as goal
-
-pub read_lines-requires-clause-lines : goal.read_lines-requires-clause-lines
-read_lines-requires-clause-lines g c = start_pending _ c.in-Ok.ensures
-
-pub returns-in-Ok-end_script-clause-means : goal.returns-in-Ok-end_script-clause-means
-returns-in-Ok-end_script-clause-means g c =
-    let r = (c.in-Ended.ensures.end) in
-    let w = c.in-Ok-end_script.ensures.ok _ _ r.1.wrote.is_at (ap (λ p. p.kept) r.1.lines_are) in
-    let f = c.flushed.ensures in
-    let last = outside_of g.S.Source g.K.Sink c.read_lines.new.script c.end_script.new.out c.end_script.new.expansions in
-    subst (λ (d : ℕ). StatusMeans d c.flushed.result (outside_of g.S.Source g.K.Sink c.args.script.now c.args.out.now c.args.expansions.now) (outside_of g.S.Source g.K.Sink c.read_lines.new.script c.flushed.new.out c.end_script.new.expansions)) c.in-Ok-new_session.ensures.start.decimals (
-    done_means _ _ _ _ last _ _ _ _ r.0 r.1 r.2 r.3 r.4 r.5 w (record { left = refl; ended = refl; reads = refl }) c.in-Ok-end_script.ensures.faults
-    (record { source = record { left = refl; ended = refl; reads = refl }; expanded = refl; held = f.bytes; answers = f.answers; done = f.done; fault = f.fault; calm = f.calm }))
-
-pub returns-in-Ended-clause-means : goal.returns-in-Ended-clause-means
-returns-in-Ended-clause-means g c =
-    let r = (c.in-Ended.ensures.end) in
-    let s = c.in-Err-end_script.ensures.err _ _ r.1.wrote.is_at (ap (λ p. p.kept) r.1.lines_are) in
-    subst (λ (d : ℕ). StatusMeans d c.status_of.result (outside_of g.S.Source g.K.Sink c.args.script.now c.args.out.now c.args.expansions.now) (outside_of g.S.Source g.K.Sink c.read_lines.new.script c.end_script.new.out c.end_script.new.expansions)) c.in-Ok-new_session.ensures.start.decimals (
-    halted_means _ c.in-Err-end_script.halt _ _ _ c.status_of.ensures.write c.status_of.ensures.memory
-    (faults_since c.in-Err-end_script.halt _ _ _ r.1.calm c.in-Err-end_script.ensures.faults) r.5
-    (end_prefix _ r.0 _ _ (outside_of g.S.Source g.K.Sink c.read_lines.new.script c.end_script.new.out c.end_script.new.expansions) _ _ r.1 r.2 r.3 s))
-
-pub returns-in-Failed-clause-means : goal.returns-in-Failed-clause-means
-returns-in-Failed-clause-means g c =
-    let r = c.in-Failed.ensures.end in
-    let f = c.flushed-in-Failed.ensures in
-    subst (λ (d : ℕ). StatusMeans d c.flushed-in-Failed.result (outside_of g.S.Source g.K.Sink c.args.script.now c.args.out.now c.args.expansions.now) (outside_of g.S.Source g.K.Sink c.read_lines.new.script c.flushed-in-Failed.new.out c.read_lines.new.expansions)) c.in-Ok-new_session.ensures.start.decimals (
-    failed_means _ _ _ _ _ _ _ r.0 r.1 r.2 r.3
-    (record { source = record { left = refl; ended = refl; reads = refl }; expanded = refl; held = f.bytes; answers = f.answers; done = f.done; fault = f.fault; calm = f.calm }))
-
-pub returns-in-TooLong-clause-means : goal.returns-in-TooLong-clause-means
-returns-in-TooLong-clause-means g c =
-    let r = c.in-TooLong.ensures.end in
-    let f = c.flushed-in-TooLong.ensures in
-    subst (λ (d : ℕ). StatusMeans d c.flushed-in-TooLong.result (outside_of g.S.Source g.K.Sink c.args.script.now c.args.out.now c.args.expansions.now) (outside_of g.S.Source g.K.Sink c.read_lines.new.script c.flushed-in-TooLong.new.out c.read_lines.new.expansions)) c.in-Ok-new_session.ensures.start.decimals (
-    too_long_means _ _ _ _ _ _ _ r.0 r.1 r.2 r.3 r.4
-    (record { source = record { left = refl; ended = refl; reads = refl }; expanded = refl; held = f.bytes; answers = f.answers; done = f.done; fault = f.fault; calm = f.calm }))
 
 pub returns-clause-means : goal.returns-clause-means
 returns-clause-means g c =
-    let r = c.in-Halted.ensures.end in
-    subst (λ (d : ℕ). StatusMeans d c.status_of-in-Halted.result (outside_of g.S.Source g.K.Sink c.args.script.now c.args.out.now c.args.expansions.now) (outside_of g.S.Source g.K.Sink c.read_lines.new.script c.read_lines.new.out c.read_lines.new.expansions)) c.in-Ok-new_session.ensures.start.decimals (
-    halted_means _ c.in-Halted.halt _ _ _ c.status_of-in-Halted.ensures.write c.status_of-in-Halted.ensures.memory r.2 r.1.calm (halted_prefix _ r.0 _ _ r.1))
-
-pub returns-in-Ok-end_script-clause-complete : goal.returns-in-Ok-end_script-clause-complete
-returns-in-Ok-end_script-clause-complete g c = λ few calm silent. complete_of _ _ _ _ (returns-in-Ok-end_script-clause-means g c) few calm silent (not_used _ _ c.flushed.ensures.answers done_not_used)
-
-pub returns-in-Ended-clause-complete : goal.returns-in-Ended-clause-complete
-returns-in-Ended-clause-complete g c = λ few calm silent. complete_of _ _ _ _ (returns-in-Ended-clause-means g c) few calm silent c.status_of.ensures.used
-
-pub returns-in-Failed-clause-complete : goal.returns-in-Failed-clause-complete
-returns-in-Failed-clause-complete g c = λ few calm silent. complete_of _ _ _ _ (returns-in-Failed-clause-means g c) few calm silent (not_used _ _ c.flushed-in-Failed.ensures.answers read_not_used)
-
-pub returns-in-TooLong-clause-complete : goal.returns-in-TooLong-clause-complete
-returns-in-TooLong-clause-complete g c = λ few calm silent. complete_of _ _ _ _ (returns-in-TooLong-clause-means g c) few calm silent (not_used _ _ c.flushed-in-TooLong.ensures.answers long_not_used)
-
-pub returns-clause-complete : goal.returns-clause-complete
-returns-clause-complete g c = λ few calm silent. complete_of _ _ _ _ (returns-clause-means g c) few calm silent c.status_of-in-Halted.ensures.used
-
-pub returns-in-TooLong-clause-used : goal.returns-in-TooLong-clause-used
-returns-in-TooLong-clause-used g c = not_used _ _ c.flushed-in-TooLong.ensures.answers long_not_used
-
-pub returns-in-Ok-end_script-clause-used : goal.returns-in-Ok-end_script-clause-used
-returns-in-Ok-end_script-clause-used g c = not_used _ _ c.flushed.ensures.answers done_not_used
-
-pub returns-in-Failed-clause-used : goal.returns-in-Failed-clause-used
-returns-in-Failed-clause-used g c = not_used _ _ c.flushed-in-Failed.ensures.answers read_not_used
+    subst (λ (d : ℕ). StatusMeans d c.run_in.result (outside_of g.S.Source g.K.Sink c.args.script.now c.args.out.now c.args.expansions.now) (outside_of g.S.Source g.K.Sink c.run_in.new.script c.run_in.new.out c.run_in.new.expansions))
+    c.in-Ok.ensures.start.decimals c.run_in.ensures.means

@@ -1,0 +1,8 @@
+//! What is proved of lots in districts. A function here does nothing: its contract is the law, which a caller's proof
+//! can cite.
+ghost use Rattle.cga_region.specs.Lots.{LotsAreTheirDistricts};
+
+/// Where two parts of a town are apart, the instances and the faults of a lot, and so its bill, are those of its part.
+pub fn lots_are_their_districts()
+    ensures { LotsAreTheirDistricts }
+{}
