@@ -148,6 +148,30 @@ fn take_all<K: Sink, E: Ledger, T: Ledger>(
 }
 
 // Replies to a script that is there as a whole.
+fn given_in<K: Sink, E: Ledger, T: Ledger>(
+    session: &mut Session,
+    script: &[u8],
+    out: &mut K,
+    expansions: &mut Steps<E>,
+    tests: &mut Steps<T>,
+) -> Status
+    requires session { IsAt (start session.old.decimals) session.old }
+    requires ready { IsReady session.old }
+    ensures means { GivenMeans session.old.decimals script.now result
+        (sunk_in K.Sink out.old expansions.old) (sunk_in K.Sink out.new expansions.new) }
+    ensures used { result ≢ Status.Usage }
+{
+    let mut lines = match Lines::new(session.alloc) {
+        Ok(lines) => lines,
+        Err(NoMemory) => return Status::NoMemory,
+    };
+    match take_all(session, &mut lines, script, out, expansions, tests) {
+        Ok(()) => flushed(out, Status::Done),
+        Err(halt) => status_of(halt),
+    }
+}
+
+// The same with a session of its own.
 fn run_given<K: Sink, E: Ledger, T: Ledger>(
     alloc: Global,
     decimals: Decimals,
@@ -160,18 +184,11 @@ fn run_given<K: Sink, E: Ledger, T: Ledger>(
         (sunk_in K.Sink out.old expansions.old) (sunk_in K.Sink out.new expansions.new) }
     ensures used { result ≢ Status.Usage }
 {
-    let mut lines = match Lines::new(alloc) {
-        Ok(lines) => lines,
-        Err(NoMemory) => return Status::NoMemory,
-    };
     let mut session = match new_session(alloc, decimals) {
         Ok(session) => session,
         Err(NoMemory) => return Status::NoMemory,
     };
-    match take_all(&mut session, &mut lines, script, out, expansions, tests) {
-        Ok(()) => flushed(out, Status::Done),
-        Err(halt) => status_of(halt),
-    }
+    given_in(&mut session, script, out, expansions, tests)
 }
 
 // Replies to the script of a town.
