@@ -19,3 +19,4 @@ pub mod Reads
 pub mod Statuses
 pub mod Runs
 pub mod Left
+pub mod Dumped

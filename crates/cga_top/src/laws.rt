@@ -5,8 +5,12 @@ ghost use Rattle.cga_parser.specs.BlockTells.{GrammarTells};
 ghost use Rattle.cga_script.specs.CityLines.{CityTells};
 ghost use Rattle.cga_script.specs.Commands.{CommandTells};
 ghost use Rattle.cga_script.specs.declared.version.Version.{Version};
+ghost use Rattle.cga_top.specs.Dumped.{DumpsAreSetBack};
 ghost use Rattle.cga_top.specs.Told.{command_of, rules_of, city_of};
 ghost use Rattle.cga_top.specs.Undos.{StatesAreWithin, UndosGoThrough, RedosGoThrough};
+
+use cga_city::laws::whole_sets_them;
+use cga_script::dump_reads_back;
 
 /// What a line outside a block is taken for is the one thing that it tells. Does nothing: its contract is the law.
 pub fn commands_are_told()
@@ -30,3 +34,12 @@ pub fn undo_is_never_refused()
     ensures undo { UndosGoThrough }
     ensures redo { RedosGoThrough }
 {}
+
+/// What is read of the dump of a city's sources, set as a whole in any city of the same budget, gives just these sources
+/// again, the rules by rising id, unless memory is wanting. Of sources that a block said each line is one that is said.
+pub fn dumps_are_set_back()
+    ensures { DumpsAreSetBack }
+{
+    dump_reads_back();
+    whole_sets_them();
+}

@@ -29,7 +29,8 @@ mod turns;
 pub use after::city_after;
 pub use cga_words::town_script;
 pub use laws::{
-    blocks_are_told, commands_are_told, states_are_within_the_budget, undo_is_never_refused,
+    blocks_are_told, commands_are_told, dumps_are_set_back, states_are_within_the_budget,
+    undo_is_never_refused,
 };
 pub use pump::write_all;
 pub use status::Status;
