@@ -1,22 +1,17 @@
 // A program beside `cga_city`: it replies to a script in the same way, and then says of each lot the least box that
 // holds all of its shapes, drawn or not. By these boxes it is known whether two districts are apart. It knows the
-// system's input and output, and nothing of rules or of how shapes are kept.
+// system's input and output, and nothing of lots or of boxes.
 // The one thing that callers get wrong: without the exit status 0 not all of the boxes are there.
 #![tactic(auto)]
 
 ghost use Rattle.std.specs.Prelude.{◌≡◌, ◌<◌, ◌++◌, List, ℕ, IfSome};
 ghost use Rattle.std.specs.Io.KnownBytes.{Appends};
-ghost use Rattle.cga_top.specs.Left.{usual};
+ghost use Rattle.cga_top.specs.Hulls.{IsToldOf, usual};
 ghost use Rattle.cga_top.specs.Output.{output_of};
-ghost use Rattle.cga_hulls.specs.Hulls.{IsToldOf};
-
-mod ending;
-mod hulls;
 
 use cga_fraction::Steps;
 use cga_outside::{Sink, Source, StdSink, StdSource};
-use cga_top::{Status, city_after};
-use ending::tell;
+use cga_top::{Status, run_with_hulls};
 use std::io::BufWriter;
 use std::marker::Brand;
 use std::process::ExitCode;
@@ -36,15 +31,12 @@ fn run<S: Source, K: Sink, E: Ledger, T: Ledger>(
     requires tests_name { tests.name ≡ T.name }
     requires tests_parts { tests.parts ≡ T.parts }
     requires tests_some { 0 < tests.parts }
-    ensures { result ≡ Status.Done → IfSome (S.left script.old) (λ bytes. (text : List ℕ) × IsToldOf bytes text
+    ensures { result ≡ Status.Done → IfSome (S.left script.old) (λ bytes. (text : List ℕ) × IsToldOf usual bytes text
         × Appends (K.held out.old) (K.held out.new) (output_of usual bytes ++ text)) }
 {
     let mut expansions = Steps::<E>::new(rt, expansions);
     let mut tests = Steps::<T>::new(rt, tests);
-    match city_after(rt.alloc(), script, out, &mut expansions, &mut tests) {
-        Ok(city) => tell(rt.alloc(), &city, out),
-        Err(status) => status,
-    }
+    run_with_hulls(rt.alloc(), script, out, &mut expansions, &mut tests)
 }
 
 fn end(rt: &HostRuntime, status: Status) -> ExitCode {

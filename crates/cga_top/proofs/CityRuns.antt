@@ -1,5 +1,5 @@
 -- The run of a city's sources, and what is said of lines beside it.
-use Rattle.std.proofs.Common.{◌≡◌, ℕ, ◌+◌, ◌≤◌, List, [], ◌∷◌, length, map, true, false, cond, refl, sym, ap, ◌∙◌, subst, Option, Some, None, arith}
+use Rattle.std.proofs.Common.{◌≡◌, ℕ, ◌+◌, ◌≤◌, List, [], ◌∷◌, length, map, false, cond, refl, sym, ap, ◌∙◌, subst, Option, Some, None, arith}
 use Rattle.std.specs.Prelude.{IsSome}
 use Rattle.cga_form.specs.Lines.{Line}
 use Rattle.cga_shape.specs.declared.sources.Sources.{Sources}

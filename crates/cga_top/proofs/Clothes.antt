@@ -1,17 +1,15 @@
 -- What commands do to the wardrobe.
-use Rattle.std.proofs.Common.{◌≡◌, ◌∙◌, ℕ, List, Bool, true, false, Result, Ok, Err, refl, sym, ap, subst, IfOk, OnOk}
+use Rattle.std.proofs.Common.{◌≡◌, ◌∙◌, ℕ, List, Bool, true, false, Result, Ok, Err, refl, sym, ap, subst, IfOk}
 use Rattle.std.specs.Prelude.{if◌then◌else◌}
-use Rattle.cga_asset.specs.Wardrobe.{Gives, WardrobeView, has, undressed, with_asset}
-use Rattle.cga_asset.specs.declared.fault.AssetFault.{AssetFault}
+use Rattle.cga_asset.specs.Wardrobe.{Gives, WardrobeView, has, undressed}
 use Rattle.cga_asset.specs.declared.wardrobe_fault.WardrobeFault.{WardrobeFault}
 use Rattle.cga_asset.specs.declared.wardrobe_fault.WardrobeFault.TheVariants.{TooManyAssets, NoAsset, TooManyDresses, NoMemory}
 use Rattle.cga_fraction.specs.declared.memory.NoMemory as memory
 use Rattle.cga_script.specs.Refusals.{refusal_text_of}
 use Rattle.cga_script.specs.declared.refused.Refused.TheVariants as refused
-use Rattle.cga_solid.specs.declared.solid_mesh.SolidMesh.{SolidMesh}
 use Rattle.cga_top.specs.State.{State}
-use Rattle.cga_top.specs.Effect.{Effect, says}
-use Rattle.cga_top.specs.Replies.{WardrobeReplies, clothed, given, ok_reply, refuses, stripped}
+use Rattle.cga_top.specs.Effect.{Effect}
+use Rattle.cga_top.specs.Replies.{WardrobeReplies, clothed, ok_reply, refuses, stripped}
 use Rattle.cga_top.specs.Session.{IsAt, Did}
 use Rattle.cga_top.specs.declared.session.Session.{Session}
 

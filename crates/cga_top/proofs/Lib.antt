@@ -19,3 +19,4 @@ pub mod Complete
 pub mod Given
 pub mod Undoing
 pub mod CityRuns
+pub mod LotByLot

@@ -1,5 +1,5 @@
 -- The line of numbers, piece after piece.
-use Rattle.std.proofs.Common.{◌≡◌, ◌∙◌, ℕ, List, [], ◌∷◌, ◌++◌, ap}
+use Rattle.std.proofs.Common.{◌≡◌, ◌∙◌, ℕ, List, [], ◌++◌, ap}
 use Rattle.std.specs.Prelude.{codes}
 use Rattle.cga_shape.specs.declared.counts.Counts.{Counts}
 use Rattle.cga_top.specs.Stats.{counted, stats_text_of}

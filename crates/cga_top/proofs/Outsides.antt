@@ -1,5 +1,5 @@
 -- What a line outside a block does.
-use Rattle.std.proofs.Common.{◌≡◌, ◌∙◌, ap, sym, subst, Bool, true, false, ◌&&◌, Result, Ok, Err, refl, Option, Some, None, ℕ, List, [], arith}
+use Rattle.std.proofs.Common.{◌≡◌, ◌∙◌, ap, sym, subst, Bool, true, false, ◌&&◌, Result, Ok, Err, refl, Option, Some, None, ℕ, List, []}
 use Rattle.std.specs.Prelude.{if◌then◌else◌, IfOk}
 use Rattle.cga_form.specs.Lines.{Line}
 use Rattle.cga_form.specs.declared.line_fault.LineFault.{LineFault}

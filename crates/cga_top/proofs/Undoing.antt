@@ -38,8 +38,8 @@ use Rattle.cga_script.specs.Ends.{is_end_line, is_version_line}
 use Rattle.cga_top.specs.State.{Block, of_rules, of_city, of_asset, of_judge, State, start}
 use Rattle.cga_top.specs.Effect.{Effect}
 use Rattle.cga_top.specs.Told.{command_of, rules_of, city_of, grammar_told, sources_told}
-use Rattle.cga_top.specs.Written.{IsWritten, AsksWritten}
-use Rattle.cga_top.specs.Replies.{budget_of, changed, applied, edited, stepped, dumped, modelled, shown, model_of, clothed, stripped, given, done_by, is_blank, begun, asked, outside, closed, ended, effect_by, effect}
+use Rattle.cga_top.specs.Written.{AsksWritten}
+use Rattle.cga_top.specs.Replies.{budget_of, changed, applied, edited, stepped, dumped, modelled, shown, model_of, clothed, given, done_by, is_blank, begun, asked, outside, closed, ended, effect_by, effect}
 use Rattle.cga_top.specs.Output.{effect_of_all}
 use Rattle.cga_top.specs.Undos.{GoesThrough, StatesAreWithin, UndosGoThrough, RedosGoThrough}
 use Rattle.cga_top.proofs.Numbers.{distinct}

@@ -18,5 +18,5 @@ pub mod Faults
 pub mod Reads
 pub mod Statuses
 pub mod Runs
-pub mod Left
+pub mod Hulls
 pub mod Dumped

@@ -1,5 +1,5 @@
 -- When a session has come to a state.
-use Rattle.std.specs.Prelude.{◌≡◌, ℕ, ◌+◌, ◌≤◌, List, true, Option, Some, None}
+use Rattle.std.specs.Prelude.{◌≡◌, ℕ, List, true, Option, Some, None}
 use Rattle.cga_top.specs.Blocks.{AssetRead, RulesRead, SourcesRead, TraceRead}
 use Rattle.cga_top.specs.State.{Block, of_rules, of_city, of_asset, of_judge, State}
 use Rattle.cga_top.specs.Effect.{Effect, HasSpent, says}

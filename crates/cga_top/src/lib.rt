@@ -5,12 +5,12 @@
 //! sink holds some of the output, and may hold a reply in part.
 #![tactic(auto)]
 
-mod after;
 mod commands;
 mod decimals;
 mod dresses;
 mod edits;
 mod halt;
+mod hulls;
 mod laws;
 mod models;
 mod open_block;
@@ -22,16 +22,16 @@ mod script_end;
 mod session;
 mod stats;
 mod status;
+mod telling;
 mod top;
 mod traces;
 mod turns;
 
-pub use after::city_after;
 pub use cga_words::town_script;
 pub use laws::{
     blocks_are_told, commands_are_told, dumps_are_set_back, states_are_within_the_budget,
     undo_is_never_refused,
 };
-pub use pump::write_all;
 pub use status::Status;
+pub use telling::run_with_hulls;
 pub use top::run_city;

@@ -23,7 +23,7 @@ use cga_script::Lines;
 use std::sync::ledger::Ledger;
 
 /// Writes all of the bytes.
-pub fn write_all<K: Sink>(out: &mut K, bytes: &[u8]) -> Result<(), Failed>
+pub(crate) fn write_all<K: Sink>(out: &mut K, bytes: &[u8]) -> Result<(), Failed>
     ensures ok { OnOk result (Appends (K.held out.old) (K.held out.new) bytes.now) }
     ensures err { OnErr result (AppendsSome (K.held out.old) (K.held out.new) bytes.now) }
     ensures cause { HasCause (K.faults out.old) (K.faults out.new) result }

@@ -45,7 +45,7 @@ fn status_of(halt: Halt) -> Status
 }
 
 // Flushes, and gives the status where that is done.
-fn flushed<K: Sink>(out: &mut K, status: Status) -> Status
+pub(crate) fn flushed<K: Sink>(out: &mut K, status: Status) -> Status
     ensures answers { (result ≡ status) ⊎ (result ≡ Status.WriteFault) }
     ensures done { result ≢ Status.WriteFault → IsTrue (K.flushed out.new) }
     ensures fault { result ≢ status → Rose (K.faults out.old) (K.faults out.new) }
@@ -76,6 +76,7 @@ pub(crate) fn run_in<S: Source, K: Sink, E: Ledger, T: Ledger>(
         → (Rose (S.faults script.old) (S.faults script.new) → ⊥)
         → (Rose (K.faults out.old) (K.faults out.new) → ⊥)
         → (result ≡ Status.Done) ⊎ (result ≡ Status.NoMemory) }
+    ensures warm { result ≡ Status.Done → IsTrue session.new.city.warm }
     ensures left { result ≡ Status.Done → IfSome (S.left script.old) (λ bytes.
         IsAt (effect_of_script session.old.decimals bytes).state session.new) }
 {

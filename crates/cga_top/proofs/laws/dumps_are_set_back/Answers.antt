@@ -4,7 +4,7 @@ use Rattle.cga_shape.specs.declared.edit.Edit.TheVariants.{Whole}
 use Rattle.cga_shape.specs.declared.edit_refused.EditRefused.{EditRefused}
 use Rattle.cga_shape.specs.declared.edit_refused.EditRefused.TheVariants.{NoMemory}
 use Rattle.cga_shape.specs.declared.sources.Sources.{Sources}
-use Rattle.cga_script.specs.DumpLines.{city_said, given, in_order}
+use Rattle.cga_script.specs.DumpLines.{in_order}
 use Rattle.cga_script.specs.Dumps.{least_long, unless_long, dump_text_of}
 use Rattle.cga_city.specs.Apply.{apply}
 use Rattle.cga_city.specs.City.{CityState, EditGives}

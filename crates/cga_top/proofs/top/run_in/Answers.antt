@@ -85,3 +85,21 @@ returns-in-TooLong-clause-left g c = λ done. absurd (not_done _ _ c.flushed-in-
 
 pub returns-clause-left : goal.returns-clause-left
 returns-clause-left g c = λ done. absurd (c.status_of-in-Halted.ensures.done done)
+
+pub returns-in-Ok-end_script-clause-warm : goal.returns-in-Ok-end_script-clause-warm
+returns-in-Ok-end_script-clause-warm g c =
+    let r = (c.in-Ended.ensures.end) in
+    let w = c.in-Ok-end_script.ensures.ok _ _ r.1.wrote.is_at (ap (λ p. p.kept) r.1.lines_are) in
+    λ done. w.is_at.warm
+
+pub returns-in-Ended-clause-warm : goal.returns-in-Ended-clause-warm
+returns-in-Ended-clause-warm g c = λ done. absurd (c.status_of.ensures.done done)
+
+pub returns-in-Failed-clause-warm : goal.returns-in-Failed-clause-warm
+returns-in-Failed-clause-warm g c = λ done. absurd (not_done _ _ c.flushed-in-Failed.ensures.answers read_not_done done)
+
+pub returns-in-TooLong-clause-warm : goal.returns-in-TooLong-clause-warm
+returns-in-TooLong-clause-warm g c = λ done. absurd (not_done _ _ c.flushed-in-TooLong.ensures.answers long_not_done done)
+
+pub returns-clause-warm : goal.returns-clause-warm
+returns-clause-warm g c = λ done. absurd (c.status_of-in-Halted.ensures.done done)

@@ -1,5 +1,4 @@
-use Rattle.std.proofs.Common.{◌≡◌, ◌+◌, ◌≤◌, ◌<◌, true, length, Some, None, sym, ap, ◌∙◌, subst, refl, arith}
-use Rattle.cga_expand.specs.Run.{IsRun}
+use Rattle.std.proofs.Common.{◌≡◌, ◌+◌, ◌≤◌, true, length, Some, sym, ap, ◌∙◌, subst, arith}
 use Rattle.cga_city.specs.Derived.{derived}
 use Rattle.cga_city.proofs.Valid.{sound_valid}
 use Rattle.cga_judge.specs.Judged.{IsJudged}
@@ -7,10 +6,9 @@ use Rattle.cga_judge.specs.declared.limits.TheConstants.{MOST_SHAPES}
 use Rattle.cga_trace.specs.Judged.{is_headed}
 use Rattle.cga_trace.specs.JudgeLines.{AgreeBefore}
 use Rattle.cga_trace.specs.Text.{AreSteps}
-use Rattle.cga_trace.specs.declared.limits.TheConstants.{MOST_STEPS}
 use Rattle.cga_trace.proofs.Judging.{wrong_there}
 use Rattle.cga_top.specs.Replies.{run_of}
-use Rattle.cga_top.proofs.CityRuns.{other_head, read_few, spent_accepted, spent_there, state_few, state_run_of, most_fit}
+use Rattle.cga_top.proofs.CityRuns.{read_few, spent_accepted, spent_there, state_few, state_run_of, most_fit}
 use Rattle.cga_top.proofs.traces.place.Goals as goal
 
 pub judge-requires : goal.judge-requires

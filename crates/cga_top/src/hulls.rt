@@ -1,6 +1,6 @@
 ghost use Rattle.std.specs.Prelude.{◌≡◌, ◌++◌, IfOk, IsTrue, OnOk};
 ghost use Rattle.cga_city.specs.Derived.{members};
-ghost use Rattle.cga_hulls.specs.Hulls.{corner, hull_line, IsHullText};
+ghost use Rattle.cga_top.specs.Hulls.{corner, hull_line, IsHullText};
 
 use cga_city::City;
 use cga_fraction::{List, NoMemory, Text};
@@ -8,16 +8,19 @@ use cga_frame::{Point, WorldBox};
 use cga_word::Name;
 use std::alloc::Global;
 
+#[tactic(auto, unfolding(crate::specs::Hulls::corner))]
 fn push_corner(text: &mut Text, point: Point) -> Result<(), NoMemory>
     ensures { OnOk result (text.new ≡ text.old ++ corner point) }
 {
-    for coordinate in [point.x, point.y, point.z] {
-        text.push(b" ")?;
-        text.push_exact(coordinate)?;
-    }
-    Ok(())
+    text.push(b" ")?;
+    text.push_exact(point.x)?;
+    text.push(b" ")?;
+    text.push_exact(point.y)?;
+    text.push(b" ")?;
+    text.push_exact(point.z)
 }
 
+#[tactic(auto, unfolding(crate::specs::Hulls::hull_line))]
 fn push_hull(text: &mut Text, lot: Name, hull: WorldBox) -> Result<(), NoMemory>
     ensures { OnOk result (text.new ≡ text.old ++ hull_line lot hull) }
 {

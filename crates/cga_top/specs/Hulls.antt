@@ -1,6 +1,5 @@
 -- What is told of the lots of a script: a line for each, of the least box that holds all of its shapes.
 use Rattle.std.specs.Prelude.{◌≡◌, ℕ, List, [], ◌∷◌, ◌++◌, codes}
-use Rattle.cga_fraction.specs.Rat.{Rat}
 use Rattle.cga_fraction.specs.Texts.{exact_text_of}
 use Rattle.cga_frame.specs.Box.{Box}
 use Rattle.cga_frame.specs.declared.point.Point.{Point}
@@ -8,17 +7,13 @@ use Rattle.cga_shape.specs.declared.lot.Lot.{Lot}
 use Rattle.cga_expand.specs.Children.{Member}
 use Rattle.cga_city.specs.Derived.{members}
 use Rattle.cga_city.specs.Hulls.{IsHullOf}
-use Rattle.cga_top.specs.Left.{usual}
 use Rattle.cga_top.specs.Output.{effect_of_script}
 use Rattle.cga_top.specs.Replies.{budget_of}
 use Rattle.cga_top.specs.State.{State}
 
--- a number behind a blank
-abbrev pub number : Rat → List ℕ
-number r = codes " " ++ exact_text_of r
-
+-- its three numbers, a blank before each
 unfoldable pub corner : Point → List ℕ
-corner p = number p.x ++ number p.y ++ number p.z
+corner p = codes " " ++ exact_text_of p.x ++ codes " " ++ exact_text_of p.y ++ codes " " ++ exact_text_of p.z
 
 -- the lot's name, the corner of its box that is least on each axis, and the one that is greatest
 unfoldable pub hull_line : List ℕ → Box → List ℕ
@@ -33,6 +28,10 @@ IsHullText list (lot ∷ lots) text =
 abbrev pub IsToldIn : State → List ℕ → Type 0
 IsToldIn s text = IsHullText (members (budget_of s.version) s.sources) s.sources.lots text
 
--- it is told of the sources that the script comes to
-abbrev pub IsToldOf : List ℕ → List ℕ → Type 0
-IsToldOf bytes text = IsToldIn (effect_of_script usual bytes).state text
+-- it is told of the sources that the script comes to, where coordinates are printed with so many decimals
+abbrev pub IsToldOf : ℕ → List ℕ → List ℕ → Type 0
+IsToldOf decimals bytes text = IsToldIn (effect_of_script decimals bytes).state text
+
+-- so many decimals are printed where no words say how many
+abbrev pub usual : ℕ
+usual = 6
