@@ -1,5 +1,5 @@
 //! From one derivation to the next: a kept forest that stands for old sources is made to stand for new
-//! ones, expanding just the shapes that the edit touched.
+//! ones, expanding as many shapes as the edit touched.
 //!
 //! It must not know what an edit is, nor how a report is written: it is given old and new sources. What
 //! callers get wrong: after want of memory the forest, the dependents and the record are given up, and
