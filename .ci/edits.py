@@ -1,7 +1,7 @@
 #!/usr/bin/env python3
 """edits.py: looks at the planted bugs before any proof. Each edit can be applied and changes something, no two of a
 crate plant the same, and each crate that computes something has some. A crate of definitions and laws alone, or of
-tests alone, needs none. No attribute looks as if a crate without tests had some. Each fault has a line, and then the status is 1.
+tests alone, needs none; nor does a program that is its root file alone, which hands on what crates below answer. No attribute looks as if a crate without tests had some. Each fault has a line, and then the status is 1.
 """
 import pathlib
 import re
@@ -48,7 +48,7 @@ def tested_alone(crate):
 
 def computes(crate):
     files = set(crate.glob("src/**/*.rt")) - tested_alone(crate)
-    return any(BODY.search(file.read_text()) for file in files)
+    return files != {crate / "src/main.rt"} and any(BODY.search(file.read_text()) for file in files)
 
 
 def faults_of(crate):
