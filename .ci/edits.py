@@ -1,7 +1,8 @@
 #!/usr/bin/env python3
 """edits.py: looks at the planted bugs before any proof. Each edit can be applied and changes something, no two of a
 crate plant the same, and each crate that computes something has some. A crate of definitions and laws alone, or of
-tests alone, needs none; nor does a program that is its root file alone, which hands on what crates below answer. No attribute looks as if a crate without tests had some. Each fault has a line, and then the status is 1.
+tests alone, needs none; nor does a program that is its root file alone, which hands on what crates below answer.
+No attribute looks as if a crate without tests had some. Each fault has a line, and then the status is 1.
 """
 import pathlib
 import re
