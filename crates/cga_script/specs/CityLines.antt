@@ -1,5 +1,5 @@
 -- The lines of a block of a whole city: what each is written as, how it is read, and what they tell together.
-use Rattle.std.specs.Prelude.{◌≡◌, ℕ, ◌+◌, List, [], ◌∷◌, ◌++◌, map, Option, Some, None, Result, codes, if◌then◌else◌}
+use Rattle.std.specs.Prelude.{◌≡◌, ℕ, List, [], ◌∷◌, ◌++◌, map, Option, Some, None, Result, codes, if◌then◌else◌}
 use Rattle.cga_syntax.specs.Lexemes.{is}
 use Rattle.cga_syntax.specs.Pieces.{Pieces}
 use Rattle.cga_form.specs.declared.block_fault.BlockFault.{BlockFault}
@@ -69,22 +69,12 @@ CityTells lines told = form.AllTells city_pieces sources_of lines told
 
 -- ---- the reader
 
--- one further
-abbrev pub further_by : ℕ → Option ℕ → Option ℕ
-further_by n None = None
-further_by n (Some place) = Some (n + place)
-
--- where the lot of a name stands
-unfoldable pub place_of : List ℕ → List Lot → Option ℕ
-place_of name [] = None
-place_of name (l ∷ ls) = if is l.name name then Some 0 else further_by 1 (place_of name ls)
-
 -- what is kept of lines of which none is faulty
 abbrev pub Holds : CityGathered → List (Option CityLine) → Type 0
-Holds g all = rule_lines.Holds g.rules (map rules_part all) × (g.lots.items ≡ lots_after [] all) × (g.mode ≡ mode_after Breadth all)
+Holds g all = rule_lines.Holds g.rules (map rules_part all) × (g.lots ≡ lots_after [] all) × (g.mode ≡ mode_after Breadth all)
 
 -- what a line adds
 pub record Adds (old : CityGathered) (said : Option CityLine) (new : CityGathered) : Type 0 where
   pub rules : (all : List (Option BlockLine)) → rule_lines.Holds old.rules all → rule_lines.Holds new.rules (all ++ rules_part said ∷ [])
-  pub lots : new.lots.items ≡ lots_after old.lots.items (said ∷ [])
+  pub lots : new.lots ≡ lots_after old.lots (said ∷ [])
   pub mode : new.mode ≡ mode_after old.mode (said ∷ [])

@@ -1,52 +1,29 @@
-ghost use Rattle.std.specs.Prelude.{◌≡◌, ◌++◌, ◌∷◌, [], List, ◌<◌, length, Option, IfSome, OnOk};
+ghost use Rattle.std.specs.Prelude.{◌≡◌, ◌++◌, ◌∷◌, [], List, Option, OnOk};
 ghost use Rattle.cga_form.specs.Cursor.{input_of, Reads};
 ghost use Rattle.cga_script.specs.CityLines as spec;
-ghost use Rattle.cga_script.specs.CityLines.{Adds, Holds, place_of, with_lot, sources_of};
+ghost use Rattle.cga_script.specs.CityLines.{Adds, Holds, sources_of};
 ghost use Rattle.cga_script.specs.declared.city_line.CityLine.{CityLine};
 
 use crate::city_line::CityLine;
 use crate::command_form::order;
 use crate::lot_form::lot;
+use crate::named_lots::NamedLots;
 use cga_form::fault::Fault;
 use cga_form::tokens::Tokens;
 use cga_form::{BlockReader, Form, Gather};
-use cga_fraction::{List, NoMemory, Stop};
+use cga_fraction::{NoMemory, Stop};
 use cga_parser::Gathered;
 use cga_parser::block::block;
-use cga_shape::{Lot, Sources};
-use cga_word::{Mode, Name};
+use cga_shape::Sources;
+use cga_word::Mode;
 use std::alloc::Global;
 
 /// What the lines of a block of a whole city said so far.
 #[derive(Drop)]
 pub struct CityGathered {
     rules: Gathered,
-    lots: Vec<Lot>,
+    lots: NamedLots,
     mode: Mode,
-}
-
-// Where the lot of a name stands.
-#[tactic(auto, unfolding(crate::specs::CityLines::place_of))]
-fn place_of(lots: &[Lot], name: Name) -> Option<usize>
-    ensures value { result ≡ place_of name lots.now }
-    ensures within { IfSome result (λ place. place < length lots.now) }
-{
-    for (place, lot) in lots.iter().enumerate() {
-        if lot.name == name {
-            return Some(place);
-        }
-    }
-    None
-}
-
-fn set_lot(lots: &mut Vec<Lot>, lot: Lot) -> Result<(), NoMemory>
-    ensures { OnOk result (lots.new.items ≡ with_lot lot lots.old.items) }
-{
-    match place_of(lots.as_slice(), lot.name) {
-        Some(place) => lots[place] = lot,
-        None => lots.push(lot)?,
-    }
-    Ok(())
 }
 
 impl CityGathered {
@@ -57,7 +34,7 @@ impl CityGathered {
         match said {
             Some(CityLine::Block(line)) => return self.rules.add(Some(line)),
             Some(CityLine::Order(mode)) => self.mode = mode,
-            Some(CityLine::Lot(lot)) => set_lot(&mut self.lots, lot)?,
+            Some(CityLine::Lot(lot)) => self.lots.set(lot)?,
             None => {}
         }
         self.rules.add(None)
@@ -99,7 +76,7 @@ impl Gather for CityGathered {
     {
         CityGathered {
             rules: Gathered::empty(alloc),
-            lots: Vec::new(alloc),
+            lots: NamedLots::new(alloc),
             mode: Mode::Breadth,
         }
     }
@@ -116,7 +93,7 @@ impl Gather for CityGathered {
     {
         Sources {
             grammar: self.rules.finish(),
-            lots: List::from_vec(self.lots),
+            lots: self.lots.into_list(),
             mode: self.mode,
         }
     }

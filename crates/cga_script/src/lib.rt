@@ -15,6 +15,7 @@ mod laws;
 mod lines;
 mod long_dump;
 pub mod lot_form;
+mod named_lots;
 mod refusals;
 mod refused;
 mod script_command;

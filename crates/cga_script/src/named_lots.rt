@@ -1,0 +1,72 @@
+ghost use Rattle.std.specs.Prelude.{◌≡◌, [], OnOk};
+ghost use Rattle.cga_script.specs.CityLines.{with_lot};
+ghost use Rattle.cga_script.specs.Places.{ArePlaces};
+
+use cga_fraction::{List, NoMemory};
+use cga_shape::Lot;
+use cga_word::Name;
+use std::alloc::Global;
+use std::collections::BTreeMap;
+use std::marker::Model;
+
+/// Lots in the order in which their names came. The one of a name is found with no walk over the others.
+#[derive(Drop)]
+pub struct NamedLots {
+    lots: Vec<Lot>,
+    places: BTreeMap<Name, usize>,
+}
+
+impl Model for NamedLots {
+    ghost use Rattle.std.specs.Prelude.{List};
+    ghost use Rattle.cga_shape.specs.declared.lot.Lot.{Lot};
+    ghost use Rattle.cga_script.specs.Places.{ArePlaces};
+
+    ghost Value = { List Lot };
+
+    ghost view = { λ n. n.lots.items };
+
+    ghost invariant = { λ n. ArePlaces n.places n.lots.items };
+}
+
+fn put(lots: &mut Vec<Lot>, places: &mut BTreeMap<Name, usize>, lot: Lot) -> Result<(), NoMemory>
+    requires { ArePlaces places.old lots.old.items }
+    ensures lots { OnOk result (lots.new.items ≡ with_lot lot lots.old.items) }
+    ensures places { ArePlaces places.new lots.new.items }
+{
+    match places.get(&lot.name).copied() {
+        Some(place) => lots[place] = lot,
+        None => {
+            lots.reserve(1)?;
+            places.insert(lot.name, lots.len())?;
+            lots.push_reserved(lot);
+        }
+    }
+    Ok(())
+}
+
+impl NamedLots {
+    /// Takes no memory.
+    pub fn new(alloc: Global) -> NamedLots
+        ensures { result ≡ [] }
+    {
+        NamedLots {
+            lots: Vec::new(alloc),
+            places: BTreeMap::new(alloc),
+        }
+    }
+
+    /// Puts a lot in the place of the one of its name, or behind all others. Takes memory.
+    pub fn set(&mut self, lot: Lot) -> Result<(), NoMemory>
+        ensures { OnOk result (self.new ≡ with_lot lot self.old) }
+    {
+        put(&mut self.lots, &mut self.places, lot)
+    }
+
+    /// Takes no memory.
+    pub fn into_list(self) -> List<Lot>
+        ensures { result ≡ self }
+    {
+        let NamedLots { lots, places: _ } = self;
+        List::from_vec(lots)
+    }
+}
