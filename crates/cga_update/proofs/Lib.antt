@@ -4,8 +4,10 @@ pub mod Agreeing
 pub mod InLoops
 pub mod Logged
 pub mod Entries
-pub mod Stamped
 pub mod OnIt
+pub mod TwoLines
+pub mod LinesTold
+pub mod Stamped
 pub mod Cases
 pub mod Edits
 pub mod Nodes

@@ -17,13 +17,13 @@ use Rattle.cga_key.specs.Key.{chain_of_key}
 use Rattle.cga_update.specs.Agenda.{AgendaView, Names, IsPut, IsPopped, NamesNone, NoneOn, Chains, is_due, on, OneEach, Grows, IsLeast, SameOn}
 use Rattle.cga_update.proofs.Cases.{and_left, and_right, and_both, or_either}
 
-is_eq_is : (o : Ordering) → is_eq o ≡ true → o ≡ Equal
+pub is_eq_is : (o : Ordering) → is_eq o ≡ true → o ≡ Equal
 is_eq_is Less e = let x : false ≡ true = e in cc
 is_eq_is Equal e = refl
 is_eq_is Greater e = let x : false ≡ true = e in cc
 
 module _ {E : Type 0} (p : E → Bool) where
-  any_from : (es : List E) → list_any p es ≡ true → (e : E) × Among e es × (p e ≡ true)
+  pub any_from : (es : List E) → list_any p es ≡ true → (e : E) × Among e es × (p e ≡ true)
   any_from [] h = let x : false ≡ true = h in cc
   any_from (x ∷ es) h = elim (or_either (p x) (list_any p es) h) [
     | inl a ↦ (x, inl refl, a)
@@ -34,7 +34,7 @@ module _ {E : Type 0} (p : E → Bool) where
   or_after true b e = refl
   or_after false b e = e
 
-  any_to : (es : List E) (e : E) → Among e es → p e ≡ true → list_any p es ≡ true
+  pub any_to : (es : List E) (e : E) → Among e es → p e ≡ true → list_any p es ≡ true
   any_to [] e h t = absurd h
   any_to (x ∷ es) e h t = elim h [
     | inl a ↦ ap (λ b. b || list_any p es) (ap p a ∙ t)

@@ -1,16 +1,17 @@
-ghost use Rattle.std.specs.Prelude.{◌≡◌, ◌∷◌, [], IfSome, IfNone, OnOk};
+ghost use Rattle.std.specs.Prelude.{◌≡◌, [], suc, length, IfSome, IfNone, OnOk};
 ghost use Rattle.cga_order.specs.Chain.{IsWhole};
 ghost use Rattle.cga_order.specs.Seen.{chain_of};
 ghost use Rattle.cga_key.specs.Key.{chain_of_key};
 ghost use Rattle.cga_update.specs.Agenda.{IsPopped, IsPut, NamesNone};
 
+use crate::lines::{put_in, take_out};
 use cga_fraction::NoMemory;
 use cga_index::NodeId;
 use cga_key::StampKey;
 use cga_order::Chain;
 use cga_word::Mode;
 use std::alloc::Global;
-use std::collections::BTreeMap;
+use std::collections::{BTreeMap, VecDeque};
 use std::marker::Model;
 
 /// Numbers of nodes by the stamps at which they are to be looked at.
@@ -18,16 +19,20 @@ use std::marker::Model;
 pub struct Agenda {
     mode: Mode,
     entries: BTreeMap<StampKey, NodeId>,
+    /// What came behind all that was there, as nearly everything does in the mode Breadth.
+    late: VecDeque<(StampKey, NodeId)>,
 }
 
 impl Model for Agenda {
+    ghost use Rattle.cga_key.specs.Key.{key_cmp};
     ghost use Rattle.cga_update.specs.Agenda.{AgendaView, OfOneMode};
+    ghost use Rattle.cga_update.specs.Lines.{Rises, counted};
 
     ghost Value = { AgendaView };
 
-    ghost view = { λ a. record { mode = a.mode; entries = a.entries.entries } };
+    ghost view = { λ a. record { mode = a.mode; entries = counted key_cmp a.entries.entries a.late.items } };
 
-    ghost invariant = { λ a. OfOneMode a.mode a.entries.entries };
+    ghost invariant = { λ a. OfOneMode a.mode a.entries.entries × OfOneMode a.mode a.late.items × Rises key_cmp a.late.items };
 }
 
 impl Agenda {
@@ -38,6 +43,7 @@ impl Agenda {
         Agenda {
             mode,
             entries: BTreeMap::new(alloc),
+            late: VecDeque::new(alloc),
         }
     }
 
@@ -53,8 +59,7 @@ impl Agenda {
         ensures put { OnOk result (IsPut self.old self.new (chain_of chain.now) id) }
     {
         let key = StampKey::of(alloc, self.mode, chain)?;
-        self.entries.insert(key, id)?;
-        Ok(())
+        put_in(&mut self.entries, &mut self.late, key, id)
     }
 
     /// Takes the number of least stamp off it. None where there is none.
@@ -62,8 +67,8 @@ impl Agenda {
         ensures popped { IfSome result (λ p. IsPopped self.old self.new (chain_of_key p.0) p.1) }
         ensures none { IfNone result (NamesNone self.old) }
         ensures same { IfNone result (self.new ≡ self.old) }
-        ensures rest { IfSome result (λ p. self.old.entries ≡ p ∷ self.new.entries) }
+        ensures shorter { IfSome result (λ p. length self.old.entries ≡ suc (length self.new.entries)) }
     {
-        self.entries.pop_first()
+        take_out(&mut self.entries, &mut self.late)
     }
 }

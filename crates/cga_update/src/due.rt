@@ -1,7 +1,10 @@
 //! The nodes of a forest on the agenda.
 ghost use Rattle.std.specs.Prelude.{◌≡◌, true, IfSome, IfNone, IsSome, is_some, OnOk};
 ghost use Rattle.cga_order.specs.World as world;
-ghost use Rattle.cga_order.specs.Chain.{Chain};
+ghost use Rattle.std.specs.Ordering.{is_eq};
+ghost use Rattle.cga_order.specs.Chain.{Chain as Along, IsWhole};
+ghost use Rattle.cga_order.specs.Seen.{chain_of};
+ghost use Rattle.cga_order.specs.Stamp.{stamp_cmp};
 ghost use Rattle.cga_forest.specs.Tree.{node_at};
 ghost use Rattle.cga_update.specs.Agenda.{Grows, IsLeast, NoneOn, OneEach, SameOn, is_due, is_later};
 ghost use Rattle.cga_update.specs.Due.{ComesAfter, HasLater};
@@ -12,7 +15,7 @@ use cga_forest::{Forest, Node};
 use cga_fraction::NoMemory;
 use cga_index::NodeId;
 use cga_key::StampKey;
-use cga_order::cmp_stamp;
+use cga_order::{Chain, cmp_stamp};
 use cga_shape::Kind;
 use cga_word::Mode;
 use std::alloc::Global;
@@ -34,6 +37,22 @@ pub fn is_worked(forest: &Forest, id: NodeId) -> bool
     }
 }
 
+/// Whether two chains are written alike.
+fn is_alike(a: &Chain, b: &Chain) -> bool
+    ensures { result ≡ true → chain_of a.now ≡ chain_of b.now }
+{
+    a.lot == b.lot && a.path == b.path && a.priorities == b.priorities
+}
+
+/// Whether they have one stamp. Nearly always they are written alike, and then no ranks are compared.
+fn has_stamp(mode: Mode, a: &Chain, b: &Chain) -> bool
+    requires left { IsWhole (chain_of a.now) }
+    requires right { IsWhole (chain_of b.now) }
+    ensures { result ≡ is_eq (stamp_cmp mode (chain_of a.now) (chain_of b.now)) }
+{
+    is_alike(a, b) || matches!(cmp_stamp(mode, a, b), Ordering::Equal)
+}
+
 /// Whether it stands at the stamp of a key.
 fn is_due(mode: Mode, key: &StampKey, forest: &Forest, id: NodeId) -> bool
     ensures { result ≡ is_due mode key.now (chains_of forest.now id) }
@@ -41,10 +60,7 @@ fn is_due(mode: Mode, key: &StampKey, forest: &Forest, id: NodeId) -> bool
     if !is_worked(forest, id) {
         return false;
     }
-    matches!(
-        cmp_stamp(mode, &key.chain(), &forest.chain(id)),
-        Ordering::Equal
-    )
+    has_stamp(mode, &key.chain(), &forest.chain(id))
 }
 
 /// Whether it comes later than another.
@@ -62,7 +78,7 @@ fn is_later(mode: Mode, forest: &Forest, of: NodeId, id: NodeId) -> bool
 
 /// Takes the node of least stamp off it. None where no node is on it.
 pub fn take(agenda: &mut Agenda, forest: &Forest) -> Option<NodeId>
-    ensures taken { IfSome result (λ id. (x : Chain) × IsLeast (chains_of forest.now) agenda.old agenda.new id x) }
+    ensures taken { IfSome result (λ id. (x : Along) × IsLeast (chains_of forest.now) agenda.old agenda.new id x) }
     ensures passed { IfNone result (SameOn (chains_of forest.now) agenda.old agenda.new) }
     ensures none { IfNone result (NoneOn (chains_of forest.now) agenda.old) }
 {

@@ -17,6 +17,7 @@ mod due;
 mod end;
 mod follow;
 pub mod laws;
+mod lines;
 mod log;
 mod queue;
 mod rework;
