@@ -89,7 +89,7 @@ opt_from x None f g = refl
 opt_from None (Some y) f g = let z = g refl in absurd (cc)
 opt_from (Some x) (Some y) f g = f x (holds_itself x)
 
-holds_from : (h k : Hulls) → ((p : Probe) → probed p h ≡ true → probed p k ≡ true) → holds_hulls h k ≡ true
+pub holds_from : (h k : Hulls) → ((p : Probe) → probed p h ≡ true → probed p k ≡ true) → holds_hulls h k ≡ true
 holds_from h k f = pair _ _ (f (Every h.all) (holds_itself h.all)) (opt_from h.asking k.asking (λ b. f (Asking b)) (f Nobody))
 
 -- hulls are alike where the same tests pass

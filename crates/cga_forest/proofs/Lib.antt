@@ -28,3 +28,5 @@ mod Shelf
 mod Grown
 pub mod Said
 pub mod Numbers
+pub mod Covered
+pub mod Heads

@@ -149,6 +149,15 @@ opt_cases : (o : Option ℕ) → (o ≡ None) ⊎ ((c : ℕ) × (o ≡ Some c))
 opt_cases None = inl refl
 opt_cases (Some c) = inr (c, refl)
 
+places_apart : (i j : ℕ) → (i ≡ j) ⊎ ((i < j) ⊎ (j < i))
+places_apart zero zero = inl refl
+places_apart zero (suc j) = inr (inl (omega arith))
+places_apart (suc i) zero = inr (inr (omega arith))
+places_apart (suc i) (suc j) = elim (places_apart i j) [
+  | inl q ↦ inl (ap (λ k. suc k) q)
+  | inr w ↦ elim w [ inl lt ↦ inr (inl (omega (arith, lt))) | inr gt ↦ inr (inr (omega (arith, gt))) ]
+]
+
 -- no two entries have one name
 twice : (es : Named) (i j : ℕ) (name : List ℕ) (b c : ℕ) → AreApart es → slice_get es i ≡ Some (name, b) → slice_get es j ≡ Some (name, c) → i < j → ⊥
 unfolding IsDistinct
@@ -160,6 +169,13 @@ twice (e ∷ es) zero (suc j) name b c a g h lt =
     none_later es name j c (subst (λ k. AllByRecursion (λ y. same_name k y ≡ false) (names es)) (ap (λ (p : List ℕ × ℕ). p.0) y) a.0) h
 twice (e ∷ es) (suc i) zero name b c a g h lt = absurd (omega (arith, lt))
 twice (e ∷ es) (suc i) (suc j) name b c a g h lt = twice es i j name b c a.1 g h (omega (arith, lt))
+
+-- a name stands at one place
+pub place_once : (es : Named) (i j : ℕ) (name : List ℕ) (b c : ℕ) → AreApart es → slice_get es i ≡ Some (name, b) → slice_get es j ≡ Some (name, c) → i ≡ j
+place_once es i j name b c a g h = elim (places_apart i j) [
+  | inl q ↦ q
+  | inr w ↦ absurd (elim w [ inl lt ↦ twice es i j name b c a g h lt | inr gt ↦ twice es j i name c b a h g gt ])
+]
 
 -- an entry behind the first so many is under none of their names
 pub none_in_front : (es : Named) (n i : ℕ) (name : List ℕ) (c : ℕ) → AreApart es → n ≤ i → slice_get es i ≡ Some (name, c) → lookup (same_name name) (take n es) ≡ None

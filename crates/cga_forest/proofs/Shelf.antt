@@ -5,15 +5,15 @@ use Rattle.std.specs.List.Sorted.{IsPermutation}
 use Rattle.std.specs.Prelude.{Result, Ok, IfOk, OnOk}
 use Rattle.std.specs.Map.{lookup}
 use Rattle.std.proofs.lemmas.List.{take-take, length-take-le}
-use Rattle.std.proofs.lemmas.List.Edits.{length-swap}
-use Rattle.std.proofs.lemmas.Option.{get_or_from_slice_get}
+use Rattle.std.proofs.lemmas.List.Edits.{length-swap, swapped_from_swap}
+use Rattle.std.proofs.lemmas.Option.{get_or_from_slice_get, slice_get-get_or}
 use Rattle.indexmap.specs.IndexMap.{insert_entry}
 use Rattle.indexmap.specs.Layout.{length-set_value_at}
 use Rattle.cga_forest.specs.declared.step.Step.{Step}
 use Rattle.cga_forest.specs.declared.step.Step.TheVariants.{Came, Went}
-use Rattle.cga_forest.specs.Roots.{Named, Shelf, IsUndoable, AreUndoable, listed, names, ids, put_back, same_name, undo, undone}
+use Rattle.cga_forest.specs.Roots.{KeepsPlaces, Named, Shelf, IsUndoable, AreUndoable, listed, names, ids, put_back, same_name, undo, undone}
 use Rattle.cga_forest.proofs.Swaps.{swap_twice, take_brought, brought_out}
-use Rattle.cga_forest.proofs.Names.{IsPut, is_put, place_after, at_front}
+use Rattle.cga_forest.proofs.Names.{IsPut, is_put, place_after, at_front, front_at}
 
 -- ---- steps
 
@@ -99,6 +99,14 @@ module _ (es : Named) (shown i : ℕ) (name : List ℕ) (c : ℕ) (lt : i < show
   out_listed = subst (λ n. IsPermutation (take n es) ((name, c) ∷ take (shown - 1) left)) more
       (brought_out es i (shown - 1) (name, c) (omega (arith, lt)) (omega (arith, lt, within)) (sym (get_or_from_slice_get es i (name, c) (name, c) at)))
 
+  pub out_kept : KeepsPlaces i (take shown es) (take (shown - 1) left)
+  out_kept k e n g =
+      let f = at_front left (shown - 1) k e g in
+      let low = f.0 in
+      let moved = swapped_from_swap es left i (shown - 1) e (omega (arith, lt, within)) (omega (arith, lt, within)) refl in
+      let same = moved.2 k n (λ q. absurd (omega (arith, low, q))) in
+      front_at es shown k e (omega (arith, low)) (slice_get-get_or es k e (omega (arith, low, within)) ∙ ap (λ x. Some x) (sym same ∙ get_or_from_slice_get left k e e f.1))
+
   pub out_undone : undo (Went i) (record { entries = left; shown = shown - 1 }) ≡ record { entries = es; shown = shown }
   out_undone =
       let same = swap_twice es i (shown - 1) (omega (arith, lt, within)) (omega (arith, lt, within)) in
@@ -171,7 +179,7 @@ pushed es put new shown name id place former steps more e i o within free moved 
 
 pub taken_out : (es new : Named) (shown i : ℕ) (name : List ℕ) (c : ℕ) (steps more : List Step)
     → shown ≤ length es → slice_get (take shown es) i ≡ Some (name, c) → new ≡ swap es i (shown - 1) → AreUndoable steps (record { entries = es; shown = shown }) → more ≡ steps ++ Went i ∷ []
-    → IsNoted (record { entries = es; shown = shown }) (record { entries = new; shown = shown - 1 }) steps more × IsPermutation (take shown es) ((name, c) ∷ take (shown - 1) new)
+    → IsNoted (record { entries = es; shown = shown }) (record { entries = new; shown = shown - 1 }) steps more × IsPermutation (take shown es) ((name, c) ∷ take (shown - 1) new) × KeepsPlaces i (take shown es) (take (shown - 1) new)
 taken_out es new shown i name c steps more within at moved ready noting =
     let f = at_front es shown i (name, c) at in
     let back = out_undone es shown i name c f.0 within f.1 in
@@ -183,6 +191,7 @@ taken_out es new shown i name c steps more within at moved ready noting =
         former = noted steps (Went i) (record { entries = es; shown = shown }) (record { entries = swap es i (shown - 1); shown = shown - 1 }) back;
       },
       out_listed es shown i name c f.0 within f.1,
+      out_kept es shown i name c f.0 within f.1,
     )
 
 -- each step back brings at most one root

@@ -11,3 +11,4 @@ pub mod Moved
 pub mod Gathered
 pub mod Laws
 pub mod Numbers
+pub mod Blocks

@@ -1,5 +1,5 @@
 -- The roots of a forest by the names of their lots, and those at the mark.
-use Rattle.std.specs.Prelude.{◌≡◌, ℕ, ◌<◌, ◌≤◌, ◌+◌, ◌-◌, List, [], ◌∷◌, length, take, map, Option, Some, None}
+use Rattle.std.specs.Prelude.{◌≡◌, ◌≢◌, ℕ, ◌<◌, ◌≤◌, ◌+◌, ◌-◌, List, [], ◌∷◌, length, take, map, Option, Some, None, slice_get}
 use Rattle.std.specs.Bool.{⊤}
 use Rattle.std.specs.List.{swap, IsDistinct, Contains}
 use Rattle.std.specs.Map.{lookup}
@@ -29,6 +29,10 @@ AreApart roots = IsDistinct same_name (names roots)
 -- the root under a name
 abbrev pub root_under : Named → List ℕ → Option ℕ
 root_under roots name = lookup (same_name name) roots
+
+-- each root stands where it stood, but for that one place
+abbrev pub KeepsPlaces : ℕ → Named → Named → Type 0
+KeepsPlaces place old new = (i : ℕ) (e : List ℕ × ℕ) → i ≢ place → slice_get new i ≡ Some e → slice_get old i ≡ Some e
 
 -- ---- how they are kept: those that are there, and then those that went since the mark
 

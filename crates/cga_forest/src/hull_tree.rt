@@ -23,6 +23,14 @@ impl HullTree for Forest {
         NodeId::new(self.roots.id(place) as u64)
     }
 
+    fn block_touches(&self, block: usize, area: &WorldBox) -> bool {
+        self.blocks.touch(block, area)
+    }
+
+    fn block_asks(&self, block: usize, area: &WorldBox) -> bool {
+        self.blocks.ask(block, area)
+    }
+
     fn children(&self, node: NodeId) -> usize {
         self.store.child_count(node.number() as usize)
     }

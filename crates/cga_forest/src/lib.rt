@@ -5,7 +5,9 @@
 #![tactic(auto)]
 
 mod below;
+mod blocks;
 mod change;
+mod covering;
 mod entries;
 mod entry;
 mod holds;
@@ -36,6 +38,7 @@ ghost use Rattle.cga_forest.specs.Numbers.{KeepsNumbers};
 ghost use Rattle.cga_forest.specs.Placing.{MayGrow, children_after, state_after};
 ghost use Rattle.cga_forest.specs.Tree.{ForestView, HasInner, content_of, above, slot_at, IsLeastHull, IsLeastAsking, NoneAsks, Replaces, node_at, marked_at, KeepsMark};
 
+use blocks::Blocks;
 use cga_fraction::{List, NoMemory};
 use cga_frame::WorldBox;
 use cga_index::NodeId;
@@ -44,6 +47,7 @@ use cga_rule::Grammar;
 use cga_shape::{Answers, Emitted, ShapeFault};
 use cga_word::Mode;
 pub use change::Change;
+use covering::{cover_all, cover_root};
 use listing::list_children;
 pub use moved::Moved;
 pub use node::{Node, State};
@@ -62,19 +66,21 @@ pub use tree_law::forests_are_hull_trees;
 pub struct Forest {
     store: Store,
     roots: Roots,
+    blocks: Blocks,
     marking: bool,
     mode: Mode,
     alloc: Global,
 }
 
 impl Model for Forest {
-    ghost use Rattle.cga_forest.specs.Tree.{ForestView, IsForest};
+    ghost use Rattle.cga_forest.specs.Tree.{ForestView};
+    ghost use Rattle.cga_forest.specs.Blocks.{IsWithBlocks};
 
     ghost Value = { ForestView };
 
     ghost view = { λ f. record { slots = f.store.slots; marking = f.marking; roots = f.roots.list; marked_roots = f.roots.former; mode = f.mode } };
 
-    ghost invariant = { λ f. IsForest (record { slots = f.store.slots; marking = f.marking; roots = f.roots.list; marked_roots = f.roots.former; mode = f.mode }) };
+    ghost invariant = { λ f. IsWithBlocks (record { slots = f.store.slots; marking = f.marking; roots = f.roots.list; marked_roots = f.roots.former; mode = f.mode }) f.blocks.hulls.items };
 }
 
 impl Forest {
@@ -84,6 +90,7 @@ impl Forest {
         Forest {
             store: Store::new(alloc),
             roots: Roots::new(alloc),
+            blocks: Blocks::new(alloc),
             marking: false,
             mode,
             alloc,
@@ -204,7 +211,7 @@ impl Forest {
             places,
             mut came,
         } = Plan::of(&self.store, self.alloc, id, left, news.as_slice())?;
-        replace(
+        let changed = replace(
             &mut self.store,
             self.alloc,
             id,
@@ -213,6 +220,7 @@ impl Forest {
             news,
             made,
         );
+        cover_root(&mut self.blocks, &self.store, &self.roots, changed);
         list_children(&self.store, id, places.as_slice(), &mut came);
         if !self.marking {
             self.store.settle();
@@ -265,6 +273,7 @@ impl Forest {
     {
         self.store.roll_back();
         self.roots.roll_back();
+        cover_all(&mut self.blocks, &self.store, &self.roots);
         self.marking = false;
     }
 }

@@ -8,6 +8,8 @@ ghost use Rattle.cga_forest.specs.Placing.{IsRootNode};
 ghost use Rattle.cga_forest.specs.Tree.{HasNoLot, IsRootOf, IsWithout, KeepsMark, marked_at, node_at};
 
 use crate::Forest;
+use crate::covering::cover_place;
+use crate::hulls::Hulls;
 use crate::node::Node;
 use crate::placing::root_node;
 use crate::slots::set_aside;
@@ -42,11 +44,14 @@ impl Forest {
         ensures err { OnErr result (self.new ≡ self.old) }
     {
         let (alloc, marking, name) = (self.alloc, self.marking, node.lot());
+        let place = self.roots.len();
+        self.blocks.make_room(place, &Hulls::own(&node))?;
         self.store.reserve(1)?;
         self.roots.reserve()?;
         let id = self.store.add(alloc, marking, node, 0, None, 0);
         self.roots.push(name, id);
         self.roots.settle_unless(marking);
+        cover_place(&mut self.blocks, &self.store, &self.roots, place);
         Ok(id)
     }
 
@@ -79,8 +84,9 @@ impl Forest {
         ensures mode { self.new.mode ≡ self.old.mode }
     {
         match self.roots.take_out(name) {
-            Some(root) => {
+            Some((place, root)) => {
                 self.roots.settle_unless(self.marking);
+                cover_place(&mut self.blocks, &self.store, &self.roots, place);
                 set_aside(&mut self.store, root, 257);
                 if !self.marking {
                     self.store.settle();

@@ -1,7 +1,7 @@
 ghost use Rattle.std.specs.Prelude.{◌≡◌, ◌<◌, ◌+◌, ◌++◌, [], ◌∷◌, length, slice_get, None, Some, OnOk, IfSome, IfNone, if◌then◌else◌};
 ghost use Rattle.std.specs.Option.{option_map};
 ghost use Rattle.std.specs.List.Sorted.{IsPermutation};
-ghost use Rattle.cga_forest.specs.Roots.{RootsView, HasSpace, AreApart, AreUndoable, IsUndoable, ids, put_back, root_under, undo, undone};
+ghost use Rattle.cga_forest.specs.Roots.{RootsView, HasSpace, KeepsPlaces, AreApart, AreUndoable, IsUndoable, ids, put_back, root_under, undo, undone};
 
 use crate::step::Step;
 use cga_fraction::NoMemory;
@@ -57,7 +57,7 @@ impl Roots {
     }
 
     /// The place of a name's root, and that root.
-    fn place_of(&self, name: Name) -> Option<(usize, usize)>
+    pub fn place_of(&self, name: Name) -> Option<(usize, usize)>
         ensures root { option_map (λ p. p.1) result ≡ root_under self.now.list name }
         ensures place { IfSome result (λ p. slice_get self.now.list p.0 ≡ Some (name, p.1)) }
     {
@@ -106,10 +106,11 @@ impl Roots {
         self.steps.push_reserved(Step::Came { place, former });
     }
 
-    /// Takes a name's root out, and answers it.
-    pub fn take_out(&mut self, name: Name) -> Option<usize>
-        ensures root { result ≡ root_under self.old.list name }
-        ensures gone { IfSome result (λ c. IsPermutation self.old.list ((name, c) ∷ self.new.list)) }
+    /// Takes a name's root out, and answers the place where it stood, to which the last root comes, and it.
+    pub fn take_out(&mut self, name: Name) -> Option<(usize, usize)>
+        ensures root { option_map (λ p. p.1) result ≡ root_under self.old.list name }
+        ensures gone { IfSome result (λ p. IsPermutation self.old.list ((name, p.1) ∷ self.new.list)) }
+        ensures kept { IfSome result (λ p. KeepsPlaces p.0 self.old.list self.new.list) }
         ensures same { IfNone result (self.new ≡ self.old) }
         ensures former { self.new.former ≡ self.old.former }
         ensures apart { AreApart self.new.list }
@@ -120,7 +121,7 @@ impl Roots {
                 self.shown -= 1;
                 self.map.swap_indices(place, self.shown);
                 self.steps.push_reserved(Step::Went { place });
-                Some(id)
+                Some((place, id))
             }
             None => None,
         }

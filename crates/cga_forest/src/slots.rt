@@ -1,7 +1,7 @@
 ghost use Rattle.std.specs.Prelude.{IfSome, IsSome, [], true, false, ◌≢◌, ◌≡◌, ◌<◌, ◌≤◌, ◌+◌, ◌-◌, ℕ, length, IfOk, OnOk, OnErr, slice_get, Some, None, is_some, option_copied};
 ghost use Rattle.cga_forest.specs.Hull.{at_hulls};
 ghost use Rattle.cga_forest.specs.View.{Seen, at, HasRoom, KeepsRoom, present_of, marked_of, hulls_of, marked_hulls_of, kids, flag_if};
-ghost use Rattle.cga_forest.specs.Tree.{IsWhole, AllRight, RightBut, IsDue, HasInner, ReplacedBy, IsPlaced, depth_at, parent_of, under, goes, stay_of, stay_child, hulls_now, hulls_next};
+ghost use Rattle.cga_forest.specs.Tree.{IsWhole, AllRight, RightBut, IsDue, HasInner, ReplacedBy, IsPlaced, depth_at, parent_of, under, goes, stay_of, stay_child, hulls_now, hulls_next, above};
 ghost use Rattle.cga_forest.specs.Numbers.{StaysTaken};
 ghost use Rattle.cga_tree.specs.Tree.{IsTree};
 
@@ -176,8 +176,8 @@ fn next_hulls(store: &Store, id: usize, grown: &Option<Hulls>) -> Option<Hulls>
 }
 
 /// Brings the hulls up to date from a node upwards, until they are as before, where all others are right.
-/// Where only one child's hulls changed, and they grew, they are given.
-pub fn refresh(store: &mut Store, id: usize, marking: bool, grown: Option<Hulls>)
+/// Where only one child's hulls changed, and they grew, they are given. Answers the root, where its hulls changed.
+pub fn refresh(store: &mut Store, id: usize, marking: bool, grown: Option<Hulls>) -> Option<usize>
     requires tree { IsTree (λ c. present_of (at store.old c)) }
     requires here { IsSome (present_of (at store.old id)) }
     requires right { RightBut (λ c. present_of (at store.old c)) (λ c. hulls_of (at store.old c)) id }
@@ -187,20 +187,23 @@ pub fn refresh(store: &mut Store, id: usize, marking: bool, grown: Option<Hulls>
     ensures marked_hulls { marking ≡ true → (c : ℕ) → marked_hulls_of (at store.new c) ≡ marked_hulls_of (at store.old c) }
     ensures taken { (c : ℕ) → is_some (at store.new c) ≡ is_some (at store.old c) }
     ensures right { AllRight (λ c. present_of (at store.new c)) (λ c. hulls_of (at store.new c)) }
+    ensures others { (c : ℕ) → above (present_of (at store.old c)) ≡ None → result ≢ Some c → hulls_of (at store.new c) ≡ hulls_of (at store.old c) }
 {
     if let Some(old) = hulls_at(store, id) {
         if let Some(new) = next_hulls(store, id, &grown) {
             if !new.is_like(&old) {
                 store.set_hulls(id, marking, new);
                 if let Some(parent) = parent_at(store, id) {
-                    refresh(store, parent, marking, new.grown_from(&old));
+                    return refresh(store, parent, marking, new.grown_from(&old));
                 }
+                return Some(id);
             }
         }
     }
+    None
 }
 
-/// Gives a node another state and these children. The room is there already.
+/// Gives a node another state and these children. The room is there already. Answers the root, where its hulls changed.
 pub fn replace(
     store: &mut Store,
     alloc: Global,
@@ -209,7 +212,7 @@ pub fn replace(
     state: State,
     news: Vec<Node>,
     made: Vec<usize>,
-)
+) -> Option<usize>
     requires room { HasRoom store.old (length news.items) }
     requires empty { made.items ≡ [] }
     requires space { length news.items ≤ made.cap }
@@ -221,11 +224,12 @@ pub fn replace(
     ensures taken { (c : ℕ) → StaysTaken (at store.old c) (at store.new c) }
     ensures marked { marking ≡ true → (c : ℕ) → marked_of (at store.new c) ≡ marked_of (at store.old c) }
     ensures marked_hulls { marking ≡ true → (c : ℕ) → marked_hulls_of (at store.new c) ≡ marked_hulls_of (at store.old c) }
+    ensures others { (c : ℕ) (d : Seen) → present_of (at store.old c) ≡ Some d → d.parent ≡ None → result ≢ Some c → hulls_of (at store.new c) ≡ hulls_of (at store.old c) }
 {
     let mut made = made;
     let depth = depth_of(store, id);
     drop_children(store, id, 256 - depth, news.as_slice());
     place_children(store, alloc, id, depth + 1, marking, news, &mut made);
     store.rewrite(id, marking, state, made);
-    refresh(store, id, marking, None);
+    refresh(store, id, marking, None)
 }

@@ -1,5 +1,5 @@
-ghost use Rattle.std.specs.Prelude.{◌≡◌, ◌+◌, ◌<◌, length, slice_get, Some};
-ghost use Rattle.cga_index.specs.Tree.{TreeView, InTree};
+ghost use Rattle.std.specs.Prelude.{◌≡◌, ◌+◌, ◌<◌, length, slice_get, Some, false};
+ghost use Rattle.cga_index.specs.Tree.{TreeView, InTree, IsFarBlock, IsQuietBlock};
 
 use crate::node_id::NodeId;
 use crate::standing::Standing;
@@ -17,6 +17,15 @@ pub trait HullTree {
     fn root(&self, place: usize) -> NodeId
         requires { place < length (view self.now).roots }
         ensures { slice_get (view self.now).roots place ≡ Some result };
+
+    /// Whether the hull of a root of this block may touch the area. A block is sixteen places of the roots in a row. Where
+    /// this is false a walk passes by them all; it may be true of each block.
+    fn block_touches(&self, block: usize, area: &WorldBox) -> bool
+        ensures { result ≡ false → IsFarBlock (view self.now) block area.now };
+
+    /// The same of the hulls of those that ask.
+    fn block_asks(&self, block: usize, area: &WorldBox) -> bool
+        ensures { result ≡ false → IsQuietBlock (view self.now) block area.now };
 
     fn children(&self, node: NodeId) -> usize
         requires { InTree (view self.now) node }

@@ -1,10 +1,10 @@
-ghost use Rattle.std.specs.Prelude.{◌≡◌, ◌+◌, ◌++◌, [], ◌∷◌, false, IfOk, OnOk};
+ghost use Rattle.std.specs.Prelude.{◌≡◌, ◌≤◌, ◌+◌, ◌*◌, ◌++◌, [], ◌∷◌, length, drop, false, IfOk, OnOk};
 ghost use Rattle.std.specs.List.{flat_map};
 ghost use Rattle.cga_index.specs.Tree.{IsHullTree, InTree, below, askers, ListsAskers};
 
 use crate::hull_tree::HullTree;
 use crate::node_id::NodeId;
-use crate::steps::{child_of, root_of};
+use crate::steps::{block_end, child_of, root_of};
 use cga_fraction::{List, NoMemory, Steps};
 use cga_frame::WorldBox;
 use std::alloc::Global;
@@ -90,6 +90,30 @@ fn list_children<H: HullTree, T: Ledger>(
     Ok(())
 }
 
+/// Appends those of a block's roots and of those below them.
+fn list_block<H: HullTree, T: Ledger>(
+    tree: &H,
+    block: usize,
+    area: &WorldBox,
+    tests: &mut Steps<T>,
+    out: &mut Vec<NodeId>,
+) -> Result<(), NoMemory>
+    requires laws { IsHullTree (H.view tree.now) }
+    requires block { 16 * block ≤ length (H.view tree.now).roots }
+    ensures { OnOk result (out.new.items ++ askers (H.view tree.now) area.now (flat_map (below (H.view tree.now) 257) (drop (16 * (block + 1)) (H.view tree.now).roots)) ≡ out.old.items ++ askers (H.view tree.now) area.now (flat_map (below (H.view tree.now) 257) (drop (16 * block) (H.view tree.now).roots))) }
+{
+    if !tree.block_asks(block, area) {
+        return Ok(());
+    }
+    let roots = tree.roots();
+    let from = 16 * block;
+    for place in from..block_end(from, roots) {
+        let root = root_of(tree, place);
+        list_from(tree, root, 257, area, tests, out)?;
+    }
+    Ok(())
+}
+
 /// The nodes that ask and whose box meets the area.
 pub fn queriers_meeting<H: HullTree, T: Ledger>(
     alloc: Global,
@@ -101,9 +125,8 @@ pub fn queriers_meeting<H: HullTree, T: Ledger>(
     ensures { IfOk result (λ list. ListsAskers (H.view tree.now) area.now list) }
 {
     let mut out = Vec::new(alloc);
-    for place in 0..tree.roots() {
-        let root = root_of(tree, place);
-        list_from(tree, root, 257, area, tests, &mut out)?;
+    for block in 0..tree.roots() / 16 + 1 {
+        list_block(tree, block, area, tests, &mut out)?;
     }
     Ok(List::from_vec(out))
 }

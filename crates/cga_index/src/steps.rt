@@ -1,9 +1,20 @@
 //! From a node of the tree to the next.
-ghost use Rattle.std.specs.Prelude.{◌≡◌, ◌<◌, ◌+◌, length, slice_get, Some};
+ghost use Rattle.std.specs.Prelude.{◌≡◌, ◌<◌, ◌≤◌, ◌+◌, length, slice_get, Some};
 ghost use Rattle.cga_index.specs.Tree.{IsHullTree, InTree};
 
 use crate::hull_tree::HullTree;
 use crate::node_id::NodeId;
+
+/// Where the block that begins at this place ends, with so many roots.
+pub(crate) fn block_end(from: usize, roots: usize) -> usize
+    requires { from ≤ roots }
+    ensures begun { from ≤ result }
+    ensures within { result ≤ roots }
+    ensures most { result ≤ from + 16 }
+    ensures whole { result < roots → result ≡ from + 16 }
+{
+    if roots - from < 16 { roots } else { from + 16 }
+}
 
 /// A root of the tree.
 #[tactic(auto, using(crate::proofs::Levels::root_inside, crate::proofs::Levels::root_depth))]

@@ -1,4 +1,4 @@
-ghost use Rattle.std.specs.Prelude.{◌≡◌, ◌≤◌, ◌+◌, [], ◌∷◌, length, cond, nat_eq};
+ghost use Rattle.std.specs.Prelude.{◌≡◌, ◌≤◌, ◌+◌, ◌*◌, [], ◌∷◌, length, drop, cond, nat_eq};
 ghost use Rattle.std.specs.List.{flat_map};
 ghost use Rattle.cga_index.specs.Occlusion.{answer_of, join};
 ghost use Rattle.cga_index.specs.Tree.{IsHullTree, InTree, below, all_nodes, near, counts_for, asked, answer_over, reads, total};
@@ -6,7 +6,7 @@ ghost use Rattle.cga_index.specs.Tree.{IsHullTree, InTree, below, all_nodes, nea
 use crate::hull_tree::HullTree;
 use crate::node_id::NodeId;
 use crate::standing::Standing;
-use crate::steps::{child_of, root_of};
+use crate::steps::{block_end, child_of, root_of};
 use cga_fraction::Steps;
 use cga_frame::WorldBox;
 use cga_word::{Answer, Target};
@@ -142,6 +142,37 @@ fn visit_children<H: HullTree, T: Ledger>(
     found
 }
 
+/// What is found once the roots of a block and those below them are asked too.
+fn visit_block<H: HullTree, T: Ledger>(
+    tree: &H,
+    block: usize,
+    before: Answer,
+    by: NodeId,
+    target: Target,
+    area: &WorldBox,
+    tests: &mut Steps<T>,
+) -> Answer
+    requires laws { IsHullTree (H.view tree.now) }
+    requires block { 16 * block ≤ length (H.view tree.now).roots }
+    requires by { InTree (H.view tree.now) by }
+    requires area { area.now ≡ (H.view tree.now).own by }
+    ensures found { join before (answer_over (H.view tree.now) by target (flat_map (below (H.view tree.now) 257) (drop (16 * block) (H.view tree.now).roots))) ≡ join result (answer_over (H.view tree.now) by target (flat_map (below (H.view tree.now) 257) (drop (16 * (block + 1)) (H.view tree.now).roots))) }
+    ensures counted { tests.new + total (reads (H.view tree.now) by 257) (drop (16 * (block + 1)) (H.view tree.now).roots) ≤ tests.old + total (reads (H.view tree.now) by 257) (drop (16 * block) (H.view tree.now).roots) }
+{
+    if !tree.block_touches(block, area) {
+        return before;
+    }
+    let roots = tree.roots();
+    let from = 16 * block;
+    let mut found = before;
+    for place in from..block_end(from, roots) {
+        let root = root_of(tree, place);
+        let inner = visit(tree, root, 257, by, target, area, tests);
+        found = joined(found, inner);
+    }
+    found
+}
+
 /// The answer for a node.
 pub fn answer<H: HullTree, T: Ledger>(
     tree: &H,
@@ -156,10 +187,8 @@ pub fn answer<H: HullTree, T: Ledger>(
 {
     let area = tree.own_box(node, tests);
     let mut found = Answer::Nothing;
-    for place in 0..tree.roots() {
-        let root = root_of(tree, place);
-        let inner = visit(tree, root, 257, node, target, &area, tests);
-        found = joined(found, inner);
+    for block in 0..tree.roots() / 16 + 1 {
+        found = visit_block(tree, block, found, node, target, &area, tests);
     }
     found
 }

@@ -15,7 +15,7 @@ returns c =
     let s = λ (k : ℕ). at c.self.inside.store k in
     let K = λ (d : ℕ). kids (at c.self.inside.store d) in
     let e = is_there (node_at v c.args.id) (ap (λ (w : ForestView). is_some (node_at w c.args.id)) c.self.view_is ∙ c.requires.here) in
-    let lists : ListsBelow v c.args.id (found s (below K 257 c.args.id)) = lists_below s c.self.invariant.present.tree c.args.id e.0 e.1 in
+    let lists : ListsBelow v c.args.id (found s (below K 257 c.args.id)) = lists_below s c.self.invariant.forest.present.tree c.args.id e.0 e.1 in
     let gathered : c.list_below.new.list.items ≡ found s (below K 257 c.args.id) =
     c.in_ok-list_below.ensures ∙ ap (λ (l : List Moved). l ++ found s (below K 257 c.slot_of.result)) c.new-list.ensures.items ∙ ap (λ k. found s (below K 257 k)) c.slot_of.ensures in
     subst (λ (w : ForestView). ListsBelow w c.args.id c.from_vec.result) c.self.view_is

@@ -13,5 +13,5 @@ pub returns : goal.returns
 returns c = rw (← c.self.view_is) (record {
   least =
       let e = is_there (node_at (record { slots = c.self.inside.store.slots; marking = c.self.inside.marking; roots = c.self.inside.roots.list; marked_roots = c.self.inside.roots.former; mode = c.self.inside.mode }) c.args.id) (ap (λ (v : ForestView). is_some (node_at v c.args.id)) c.self.view_is ∙ c.requires.here) in
-      least_all (record { slots = c.self.inside.store.slots; marking = c.self.inside.marking; roots = c.self.inside.roots.list; marked_roots = c.self.inside.roots.former; mode = c.self.inside.mode }) c.args.id e.0 c.entry.result.now.hulls c.self.invariant.present e.1 (rw (← c.slot_of.ensures) (ap hulls_of c.entry.ensures));
+      least_all (record { slots = c.self.inside.store.slots; marking = c.self.inside.marking; roots = c.self.inside.roots.list; marked_roots = c.self.inside.roots.former; mode = c.self.inside.mode }) c.args.id e.0 c.entry.result.now.hulls c.self.invariant.forest.present e.1 (rw (← c.slot_of.ensures) (ap hulls_of c.entry.ensures));
 })

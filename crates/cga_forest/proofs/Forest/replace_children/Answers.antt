@@ -19,7 +19,7 @@ replace_with-requires c =
     let asks = ap (λ (s : Setting). s.asks) c.setting_of-setting.ensures ∙ ap (λ (m : Node). (setting g m.shape.symbol).asks) (sym n) in
     let state : record { kind = c.kind_after.result; answers = c.args.answers; asks = c.setting_of-setting.result.asks } ≡ state_after g e.node c.args.answers o = λ i. record { kind = c.kind_after.ensures i; answers = c.args.answers; asks = asks i } in
     let news : c.in_ok-news.news.items ≡ children_after g e.node o = c.in_ok-news.ensures ∙ ap (λ (m : Node). children_after g m o) (sym n) in
-    let deep = path_deep (λ k. present_of (at c.self.inside.store k)) c.self.invariant.present.tree c.self.invariant.present.places c.slot_of-id.result e seen in
+    let deep = path_deep (λ k. present_of (at c.self.inside.store k)) c.self.invariant.forest.present.tree c.self.invariant.forest.present.places c.slot_of-id.result e seen in
     record {
       here = (e, there, subst (λ (s : State). IsInner e s c.in_ok-news.news.items) (sym state) (subst (λ (l : List Node). IsInner e (state_after g e.node c.args.answers o) l) (sym news) (may_grow g e c.args.answers o deep c.requires.here.2)));
     }

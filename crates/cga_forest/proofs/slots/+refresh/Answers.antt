@@ -2,6 +2,7 @@ use Rattle.std.proofs.Common.{sym, arith, ◌∙◌}
 use Rattle.cga_forest.specs.View.{at}
 use Rattle.cga_forest.proofs.Right.{is_there, tree_now, step_up, step_top, step_due, step_kept, parent_there, climbs}
 use Rattle.cga_forest.proofs.slots.+refresh.Goals as goal
+use Rattle.cga_forest.proofs.Heads.{written_above, written_here}
 use Rattle.cga_forest.proofs.Numbers.{rehulled_there, there_but}
 
 pub refresh-requires : goal.refresh-requires
@@ -22,8 +23,8 @@ refresh-requires t c =
       ),
     )
 
-pub returns-in_default-parent_at-clause-right : goal.returns-in_default-parent_at-clause-right
-returns-in_default-parent_at-clause-right t c =
+pub returns-then-not-is_like-clause-right : goal.returns-then-not-is_like-clause-right
+returns-then-not-is_like-clause-right t c =
     let e = is_there _ c.requires.here in
     step_top (λ k. at c.args.store.now k) c.args.id c.args.grown c.in-Some.old c.in-Some-next_hulls.new e.0 e.1 c.in-Some.ensures c.in-Some-next_hulls.ensures c.requires.tree c.requires.right c.requires.due (λ k. at c.set_hulls.new.self k) c.set_hulls.ensures.others c.set_hulls.ensures.present c.set_hulls.ensures.hulls (sym c.in_default-parent_at.ensures)
 
@@ -32,6 +33,18 @@ returns-else-not-is_like-clause-right t c =
     let e = is_there _ c.requires.here in
     step_kept (λ k. at c.args.store.now k) c.args.id c.args.grown c.in-Some.old c.in-Some-next_hulls.new e.0 e.1 c.in-Some.ensures c.in-Some-next_hulls.ensures c.requires.tree c.requires.right c.requires.due (sym c.is_like.ensures ∙ (let w = c.if-not-is_like in (cc)))
 
-pub returns-in_default-parent_at-clause-taken : goal.returns-in_default-parent_at-clause-taken
-returns-in_default-parent_at-clause-taken t c k =
+pub returns-in-Some-parent_at-clause-taken : goal.returns-in-Some-parent_at-clause-taken
+returns-in-Some-parent_at-clause-taken t c k =
+    c.refresh.ensures.taken k ∙ there_but (λ n. at c.args.store.now n) (λ n. at c.set_hulls.new.self n) c.args.id c.set_hulls.ensures.others (rehulled_there (at c.args.store.now c.args.id) (at c.set_hulls.new.self c.args.id) _ c.set_hulls.ensures.hulls) k
+
+pub returns-then-not-is_like-clause-taken : goal.returns-then-not-is_like-clause-taken
+returns-then-not-is_like-clause-taken t c k =
     there_but (λ n. at c.args.store.now n) (λ n. at c.set_hulls.new.self n) c.args.id c.set_hulls.ensures.others (rehulled_there (at c.args.store.now c.args.id) (at c.set_hulls.new.self c.args.id) _ c.set_hulls.ensures.hulls) k
+
+pub returns-in-Some-parent_at-clause-others : goal.returns-in-Some-parent_at-clause-others
+returns-in-Some-parent_at-clause-others t c =
+    let e = is_there _ c.requires.here in
+    written_above (λ n. at c.args.store.now n) (λ n. at c.set_hulls.new.self n) c.args.id c.set_hulls.ensures.others (λ n. at c.refresh.new.store n) c.in-Some-parent_at.parent e.0 c.refresh.result e.1 c.set_hulls.ensures.present (sym c.in-Some-parent_at.ensures) c.refresh.ensures.others
+
+pub returns-then-not-is_like-clause-others : goal.returns-then-not-is_like-clause-others
+returns-then-not-is_like-clause-others t c k top n = written_here (λ i. at c.args.store.now i) (λ i. at c.set_hulls.new.self i) c.args.id c.set_hulls.ensures.others k n

@@ -5,6 +5,7 @@ use Rattle.cga_forest.proofs.Assemble.{kids_there, assembled_slots, vacant_after
 use Rattle.cga_forest.proofs.Marks.{IsWhole-from}
 use Rattle.cga_forest.proofs.Through.{ReplacedBy-same}
 use Rattle.cga_forest.proofs.slots.replace.Goals as goal
+use Rattle.cga_forest.proofs.Heads.{top_hulls, top_written}
 use Rattle.cga_forest.proofs.Numbers.{kept_taken, taken_replaced}
 
 pub place_children-requires-clause-room : goal.place_children-requires-clause-room
@@ -90,3 +91,10 @@ returns-clause-taken c =
     (kept_taken (λ k. at c.args.store.now k) (λ k. at c.drop_children.new.store k) (λ k. at c.place_children.new.store k) (λ k. at c.rewrite.new.self k) (λ k. at c.refresh.new.store k)
     c.args.id _ c.args.marking _ c.args.news.items c.place_children.new.made.items _ c.drop_children.ensures.pointwise c.place_children.ensures.placed c.rewrite.ensures.others c.rewrite.ensures.hulls c.refresh.ensures.taken)
     (returns-clause-vacant c)
+
+pub returns-clause-others : goal.returns-clause-others
+returns-clause-others c k d t top n =
+    c.refresh.ensures.others k (top_written (λ i. at c.args.store.now i) (λ i. at c.drop_children.new.store i) (λ i. at c.place_children.new.store i) (λ i. at c.rewrite.new.self i)
+    c.args.id _ c.args.marking _ c.args.news.items c.place_children.new.made.items c.args.state _ c.drop_children.ensures.pointwise c.place_children.ensures.placed c.rewrite.ensures.others c.rewrite.ensures.present c.rewrite.ensures.hulls k d t top) n
+    ∙ top_hulls (λ i. at c.args.store.now i) (λ i. at c.drop_children.new.store i) (λ i. at c.place_children.new.store i) (λ i. at c.rewrite.new.self i)
+    c.args.id _ c.args.marking _ c.args.news.items c.place_children.new.made.items c.args.state _ c.drop_children.ensures.pointwise c.place_children.ensures.placed c.rewrite.ensures.others c.rewrite.ensures.present c.rewrite.ensures.hulls k d t

@@ -4,7 +4,7 @@ use Rattle.cga_forest.proofs.Laws.{slot_inside, node_inside}
 use Rattle.cga_forest.proofs.hull_tree.ForestHullTree.asks.Goals as goal
 
 pub entry-requires : goal.entry-requires
-entry-requires c = record { here = slot_inside (record { slots = c.self.inside.store.slots; marking = c.self.inside.marking; roots = c.self.inside.roots.list; marked_roots = c.self.inside.roots.former; mode = c.self.inside.mode }) c.args.self.now c.self.view_is c.self.invariant c.args.node c.number.result c.number.ensures c.requires }
+entry-requires c = record { here = slot_inside (record { slots = c.self.inside.store.slots; marking = c.self.inside.marking; roots = c.self.inside.roots.list; marked_roots = c.self.inside.roots.former; mode = c.self.inside.mode }) c.args.self.now c.self.view_is c.self.invariant.forest c.args.node c.number.result c.number.ensures c.requires }
 
 pub returns : goal.returns
-returns c = sym (ap asks_of (node_inside (record { slots = c.self.inside.store.slots; marking = c.self.inside.marking; roots = c.self.inside.roots.list; marked_roots = c.self.inside.roots.former; mode = c.self.inside.mode }) c.args.self.now c.self.view_is c.self.invariant c.args.node c.number.result c.number.ensures c.requires c.entry.result.now c.entry.ensures))
+returns c = sym (ap asks_of (node_inside (record { slots = c.self.inside.store.slots; marking = c.self.inside.marking; roots = c.self.inside.roots.list; marked_roots = c.self.inside.roots.former; mode = c.self.inside.mode }) c.args.self.now c.self.view_is c.self.invariant.forest c.args.node c.number.result c.number.ensures c.requires c.entry.result.now c.entry.ensures))

@@ -1,7 +1,7 @@
 use Rattle.std.proofs.Common.{◌∙◌, ◌∷◌, ◌-◌, length, ap, subst, slice_get, arith}
 use Rattle.std.specs.List.Sorted.{IsPermutation}
 use Rattle.std.proofs.lemmas.List.{length_push}
-use Rattle.cga_forest.specs.Roots.{AreApart, RootsView, listed}
+use Rattle.cga_forest.specs.Roots.{AreApart, KeepsPlaces, RootsView, listed}
 use Rattle.cga_forest.proofs.Names.{apart_front, at_front}
 use Rattle.cga_forest.proofs.Shelf.{taken_out}
 use Rattle.cga_forest.proofs.roots.Roots.take_out.Goals as goal
@@ -28,6 +28,13 @@ returns-in-Some-clause-gone c =
     let p = taken_out es c.swap_indices.new.self.entries c.self.inside.shown c.in-Some.place c.args.name c.in-Some.id c.self.inside.steps.items c.push_reserved.new.self.items
     c.self.invariant.within (ap (λ (v : RootsView). slice_get v.list c.in-Some.place) c.self.view_is ∙ c.in-Some.ensures.place) c.swap_indices.ensures.entries c.self.invariant.ready c.push_reserved.ensures.items in
     subst (λ (v : RootsView). IsPermutation v.list ((c.args.name, c.in-Some.id) ∷ listed (record { entries = c.swap_indices.new.self.entries; shown = c.self.inside.shown - 1 }))) c.self.view_is p.1
+
+pub returns-in-Some-clause-kept : goal.returns-in-Some-clause-kept
+returns-in-Some-clause-kept c =
+    let es = c.self.inside.map.entries in
+    let p = taken_out es c.swap_indices.new.self.entries c.self.inside.shown c.in-Some.place c.args.name c.in-Some.id c.self.inside.steps.items c.push_reserved.new.self.items
+    c.self.invariant.within (ap (λ (v : RootsView). slice_get v.list c.in-Some.place) c.self.view_is ∙ c.in-Some.ensures.place) c.swap_indices.ensures.entries c.self.invariant.ready c.push_reserved.ensures.items in
+    subst (λ (v : RootsView). KeepsPlaces c.in-Some.place v.list (listed (record { entries = c.swap_indices.new.self.entries; shown = c.self.inside.shown - 1 }))) c.self.view_is p.2
 
 pub returns-in-Some-clause-former : goal.returns-in-Some-clause-former
 returns-in-Some-clause-former c =

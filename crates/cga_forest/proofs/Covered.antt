@@ -1,0 +1,229 @@
+-- Blocks that hold the hulls of the roots.
+use Rattle.std.proofs.Common.{◌≡◌, ◌≢◌, ◌⊎◌, inl, inr, ℕ, zero, suc, ◌+◌, ◌*◌, ◌/◌, ◌%◌, ◌<◌, ◌≤◌, List, [], ◌∷◌, ◌++◌, length, set, Bool, true, false, refl, ap, sym, subst, ◌∙◌, arith}
+use Rattle.std.specs.Prelude.{Option, Some, None, slice_get}
+use Rattle.std.proofs.lemmas.Option.{slice_get_within}
+use Rattle.cga_frame.specs.Box.{Box, touches}
+use Rattle.cga_frame.proofs.Boxes.{touches_up}
+use Rattle.cga_frame.proofs.Flags.{both}
+use Rattle.cga_index.specs.Tree.{IsFarBlock, IsQuietBlock}
+use Rattle.cga_forest.specs.declared.entry.Entry.{Entry}
+use Rattle.cga_forest.specs.declared.hulls.Hulls.{Hulls}
+use Rattle.cga_forest.specs.Blocks.{Blocks, AreCovered, AreCoveredBut, IsCovered, IsHeld, IsWithBlocks, StaysHeld, block_asks, block_holds, block_touches, opt_touches}
+use Rattle.cga_forest.specs.Hull.{with_hulls, opt_within, holds_hulls}
+use Rattle.cga_forest.specs.Roots.{HasRoots, KeepsPlaces, Named, ids, root_under}
+use Rattle.cga_forest.specs.Tree.{ForestView, hulls_at}
+use Rattle.cga_forest.specs.View.{Seen, present_of}
+use Rattle.cga_forest.specs.Walked.{all_of, asking_of, forest_tree}
+use Rattle.cga_forest.proofs.Alike.{holds_from, probed_apart, probed_chain}
+use Rattle.cga_forest.proofs.Books.{nat_cases}
+use Rattle.cga_forest.proofs.Count.{bool_cases}
+use Rattle.cga_forest.proofs.Names.{contains_at, contains_under, place_once}
+use Rattle.cga_forest.proofs.Right.{present_some}
+
+-- ---- lists
+
+module _ {X : Type 0} where
+  get_set : (xs : List X) (i : ℕ) (y : X) → i < length xs → slice_get (set xs i y) i ≡ Some y
+  get_set [] i y h = absurd (omega (arith, h))
+  get_set (x ∷ xs) zero y h = refl
+  get_set (x ∷ xs) (suc i) y h = get_set xs i y (omega (arith, h))
+
+  get_other : (xs : List X) (i j : ℕ) (y : X) → j ≢ i → slice_get (set xs i y) j ≡ slice_get xs j
+  get_other [] i j y n = refl
+  get_other (x ∷ xs) zero zero y n = absurd (n refl)
+  get_other (x ∷ xs) zero (suc j) y n = refl
+  get_other (x ∷ xs) (suc i) zero y n = refl
+  get_other (x ∷ xs) (suc i) (suc j) y n = get_other xs i j y (λ e. n (ap (λ k. suc k) e))
+
+  get_left : (xs ys : List X) (i : ℕ) → i < length xs → slice_get (xs ++ ys) i ≡ slice_get xs i
+  get_left [] ys i h = absurd (omega (arith, h))
+  get_left (x ∷ xs) ys zero h = refl
+  get_left (x ∷ xs) ys (suc i) h = get_left xs ys i (omega (arith, h))
+
+-- the roots' ids by their places
+pub ids_within : (es : Named) (i c : ℕ) → slice_get (ids es) i ≡ Some c → i < length es
+ids_within [] i c h = let x : None ≡ Some c = h in absurd (cc)
+ids_within (e ∷ es) zero c h = omega arith
+ids_within (e ∷ es) (suc i) c h = let w = ids_within es i c h in omega (arith, w)
+
+pub ids_at : (es : Named) (i c : ℕ) → slice_get (ids es) i ≡ Some c → (n : List ℕ) × (slice_get es i ≡ Some (n, c))
+ids_at [] i c h = let x : None ≡ Some c = h in absurd (cc)
+ids_at (e ∷ es) zero c h = let x : Some e.1 ≡ Some c = h in let q : e.1 ≡ c = (cc) in (e.0, λ i. Some (e.0, q i))
+ids_at (e ∷ es) (suc i) c h = ids_at es i c h
+
+pub at_ids : (es : Named) (i c : ℕ) (n : List ℕ) → slice_get es i ≡ Some (n, c) → slice_get (ids es) i ≡ Some c
+at_ids [] i c n h = let x : None ≡ Some (n, c) = h in absurd (cc)
+at_ids (e ∷ es) zero c n h = let x : Some e ≡ Some (n, c) = h in let q : e ≡ (n, c) = (cc) in ap (λ (p : List ℕ × ℕ). Some p.1) q
+at_ids (e ∷ es) (suc i) c n h = at_ids es i c n h
+
+pushed_ids : (es : Named) (n : List ℕ) (id i c : ℕ) → slice_get (ids (es ++ (n, id) ∷ [])) i ≡ Some c → (slice_get (ids es) i ≡ Some c) ⊎ (i ≡ length es)
+pushed_ids [] n id zero c h = inr refl
+pushed_ids [] n id (suc i) c h = let x : None ≡ Some c = h in absurd (cc)
+pushed_ids (e ∷ es) n id zero c h = inl h
+pushed_ids (e ∷ es) n id (suc i) c h = elim (pushed_ids es n id i c h) [ inl w ↦ inl w | inr q ↦ inr (omega (arith, q)) ]
+
+-- ---- what a block holds
+
+with_self : (h : Hulls) (o : Option Hulls) → holds_hulls (with_hulls h o) h ≡ true
+with_self h None = holds_from h h (λ p t. t)
+with_self h (Some k) = holds_from (with_hulls h (Some k)) h (λ p t. (probed_apart p h k t).0)
+
+with_other : (h k x : Hulls) → holds_hulls k x ≡ true → holds_hulls (with_hulls h (Some k)) x ≡ true
+with_other h k x e = holds_from (with_hulls h (Some k)) x (λ p t. probed_chain p k x e (probed_apart p h k t).1)
+
+still_one : (o : Option Hulls) (h x : Hulls) → block_holds (Some o) x ≡ true → block_holds (Some (Some (with_hulls h o))) x ≡ true
+still_one None h x e = let z : false ≡ true = e in absurd (cc)
+still_one (Some k) h x e = with_other h k x e
+
+pub held_here : (xs : Blocks) (place : ℕ) (o : Option Hulls) (h : Hulls) → place / 16 < length xs → IsHeld (set xs (place / 16) (Some (with_hulls h o))) place h
+held_here xs place o h lt = ap (λ b. block_holds b h) (get_set xs (place / 16) (Some (with_hulls h o)) lt) ∙ with_self h o
+
+pub held_still : (xs : Blocks) (i : ℕ) (o : Option Hulls) (h : Hulls) → slice_get xs i ≡ Some o → StaysHeld xs (set xs i (Some (with_hulls h o)))
+held_still xs i o h at place x e = elim (nat_cases (place / 16) i) [
+  | inl q ↦ (
+      let was : block_holds (Some o) x ≡ true = ap (λ b. block_holds b x) (sym (ap (slice_get xs) q ∙ at)) ∙ e in
+      ap (λ b. block_holds b x) (ap (slice_get (set xs i (Some (with_hulls h o)))) q ∙ get_set xs i (Some (with_hulls h o)) (slice_get_within xs i o at)) ∙ still_one o h x was)
+  | inr n ↦ ap (λ b. block_holds b x) (get_other xs i (place / 16) (Some (with_hulls h o)) n) ∙ e
+]
+
+at_or_past : (xs : Blocks) (i : ℕ) → ((o : Option Hulls) × (slice_get xs i ≡ Some o)) ⊎ (slice_get xs i ≡ None)
+at_or_past [] i = inr refl
+at_or_past (x ∷ xs) zero = inl (x, refl)
+at_or_past (x ∷ xs) (suc i) = at_or_past xs i
+
+-- of a block that isn't there anything holds
+pub held_absent : (xs : Blocks) (place : ℕ) (h : Hulls) → length xs ≤ place / 16 → IsHeld xs place h
+held_absent xs place h past = elim (at_or_past xs (place / 16)) [
+  | inl w ↦ absurd (let l = slice_get_within xs (place / 16) w.0 w.1 in omega (arith, l, past))
+  | inr e ↦ ap (λ b. block_holds b h) e
+]
+
+-- a block more, behind all roots
+pub room_made : (xs : Blocks) (o : Option Hulls) (roots place : ℕ) (h : Hulls) → roots % 16 ≡ 0 → roots / 16 ≡ length xs → place < roots → IsHeld xs place h → IsHeld (xs ++ o ∷ []) place h
+room_made xs o roots place h whole full lt e = ap (λ b. block_holds b h) (get_left xs (o ∷ []) (place / 16) (omega (arith, whole, full, lt))) ∙ e
+
+-- ---- the roots' hulls are held
+
+-- other nodes, whose hulls are the same where they have some
+pub covered_part : (xs : Blocks) (roots left : Named) (H J : ℕ → Option Hulls) → left ≡ roots → ((c : ℕ) (h : Hulls) → J c ≡ Some h → H c ≡ Some h) → AreCovered xs roots H → AreCovered xs left J
+covered_part xs roots left H J same part a place c h at e = a place c h (subst (λ (l : Named). slice_get (ids l) place ≡ Some c) same at) (part c h e)
+
+pub none_covered : (xs : Blocks) (roots : Named) (H : ℕ → Option Hulls) → roots ≡ [] → AreCovered xs roots H
+none_covered xs roots H none place c h at e = let l = ids_within roots place c at in let z = ap length none in absurd (omega (arith, l, z))
+
+-- more blocks, behind all roots
+pub covered_made : (xs ys : Blocks) (roots : Named) (H : ℕ → Option Hulls) (count : ℕ) → count ≡ length roots → ((place : ℕ) (h : Hulls) → place < count → IsHeld xs place h → IsHeld ys place h) → AreCovered xs roots H → AreCovered ys roots H
+covered_made xs ys roots H count n made a place c h at e = let lt = ids_within roots place c at in made place h (omega (arith, lt, n)) (a place c h at e)
+
+pub covered_added : (S : ℕ → Option Seen) (roots left : Named) (H J : ℕ → Option Hulls) (xs ys zs : Blocks) (n : List ℕ) (id : ℕ) → HasRoots S roots → S id ≡ None → ((c : ℕ) → c ≢ id → J c ≡ H c)
+    → ((place : ℕ) (h : Hulls) → place < length roots → IsHeld xs place h → IsHeld ys place h) → StaysHeld ys zs → left ≡ roots ++ (n, id) ∷ [] → IsCovered zs left J (length roots) → AreCovered xs roots H → AreCovered zs left J
+covered_added S roots left H J xs ys zs n id r fresh others made kept pushed here a place c h at e = elim (pushed_ids roots n id place c (subst (λ (l : Named). slice_get (ids l) place ≡ Some c) pushed at)) [
+  | inl w ↦ (
+      let m = ids_at roots place c w in
+      let d = r.each m.0 c (contains_at roots place (m.0, c) m.1) in
+      let apart : c ≢ id = (λ q. let z : None ≡ Some d.0 = sym fresh ∙ ap S (sym q) ∙ d.1 in (cc)) in
+      kept place h (made place h (ids_within roots place c w) (a place c h w (sym (others c apart) ∙ e))))
+  | inr q ↦ subst (λ i. IsHeld zs i h) (sym q) (here c h (subst (λ i. slice_get (ids left) i ≡ Some c) q at) e)
+]
+
+pub covered_out : (xs ys : Blocks) (roots left : Named) (H : ℕ → Option Hulls) (place : ℕ) → KeepsPlaces place roots left → StaysHeld xs ys → IsCovered ys left H place → AreCovered xs roots H → AreCovered ys left H
+covered_out xs ys roots left H place keeps kept here a i c h at e = elim (nat_cases i place) [
+  | inl q ↦ subst (λ k. IsHeld ys k h) (sym q) (here c h (subst (λ k. slice_get (ids left) k ≡ Some c) q at) e)
+  | inr n ↦ (
+      let m = ids_at left i c at in
+      kept i h (a i c h (at_ids roots i c m.0 (keeps i (m.0, c) n m.1)) e))
+]
+
+-- a place more
+pub covered_next : (xs ys : Blocks) (roots : Named) (H : ℕ → Option Hulls) (from to : ℕ) → ((p : ℕ) → from ≤ p → p < to → IsCovered xs roots H p) → StaysHeld xs ys → IsCovered ys roots H to → (p : ℕ) → from ≤ p → p < to + 1 → IsCovered ys roots H p
+covered_next xs ys roots H from to a kept here p low lt c h at e = elim (nat_cases p to) [
+  | inl q ↦ subst (λ i. IsHeld ys i h) (sym q) (here c h (subst (λ i. slice_get (ids roots) i ≡ Some c) q at) e)
+  | inr n ↦ kept p h (a p low (omega (arith, lt, n)) c h at e)
+]
+
+-- ---- one root's hulls change
+
+pub covered_but : (S : ℕ → Option Seen) (roots : Named) (H J : ℕ → Option Hulls) (xs : Blocks) (changed : Option ℕ) → HasRoots S roots → ((c : ℕ) (d : Seen) → S c ≡ Some d → d.parent ≡ None → changed ≢ Some c → J c ≡ H c) → AreCovered xs roots H → AreCoveredBut changed xs roots J
+covered_but S roots H J xs changed r same a place c h n at e =
+    let m = ids_at roots place c at in
+    let d = r.each m.0 c (contains_at roots place (m.0, c) m.1) in
+    a place c h at (sym (same c d.0 d.1 d.2 n) ∙ e)
+
+pub covered_root : (xs ys : Blocks) (roots : Named) (H : ℕ → Option Hulls) (root place : ℕ) → AreCoveredBut (Some root) xs roots H → StaysHeld xs ys → IsCovered ys roots H place → ((p : ℕ) → slice_get (ids roots) p ≡ Some root → place ≡ p) → AreCovered ys roots H
+covered_root xs ys roots H root place a kept here stands p c h at e = elim (nat_cases c root) [
+  | inl q ↦ (
+      let same : place ≡ p = stands p (at ∙ ap (λ k. Some k) q) in
+      subst (λ i. IsHeld ys i h) same (here c h (subst (λ i. slice_get (ids roots) i ≡ Some c) (sym same) at) e))
+  | inr n ↦ kept p h (a p c h (λ q. let z : root ≡ c = (cc) in n (sym z)) at e)
+]
+
+-- none of them is a root of the list
+pub covered_none : (xs : Blocks) (roots : Named) (H : ℕ → Option Hulls) (changed : Option ℕ) → AreCoveredBut changed xs roots H → ((p c : ℕ) → changed ≡ Some c → slice_get (ids roots) p ≡ Some c → ⊥) → AreCovered xs roots H
+covered_none xs roots H changed a none p c h at e = a p c h (λ q. absurd (none p c q at)) at e
+
+-- the slot of a root, and its name
+pub root_at : (s : ℕ → Option Entry) (roots : Named) → HasRoots (λ c. present_of (s c)) roots → (root p : ℕ) → slice_get (ids roots) p ≡ Some root → (n : List ℕ) × (slice_get roots p ≡ Some (n, root)) × ((x : Entry) → s root ≡ Some x → x.node.shape.lot ≡ n) × (s root ≡ None → ⊥)
+root_at s roots r root p at =
+    let m = ids_at roots p root at in
+    let d = r.each m.0 root (contains_at roots p (m.0, root) m.1) in
+    let w = present_some (s root) d.0 d.1 in (
+      m.0,
+      m.1,
+      (λ x e. let z : Some x ≡ Some w.0 = sym e ∙ w.1 in let y : x ≡ w.0 = (cc) in ap (λ (k : Entry). k.node.shape.lot) y ∙ ap (λ (k : Seen). k.node.shape.lot) w.2 ∙ d.3),
+      (λ e. let z : None ≡ Some w.0 = sym e ∙ w.1 in absurd (cc)),
+    )
+
+pub place_is : (s : ℕ → Option Entry) (roots : Named) → HasRoots (λ c. present_of (s c)) roots → (root place id p : ℕ) (x : Entry) (name : List ℕ) → s root ≡ Some x → name ≡ x.node.shape.lot → slice_get roots place ≡ Some (name, id) → slice_get (ids roots) p ≡ Some root → place ≡ p
+place_is s roots r root place id p x name here named there at =
+    let w = root_at s roots r root p at in
+    let same : name ≡ w.0 = named ∙ w.2 x here in
+    place_once roots place p w.0 id root r.apart (there ∙ ap (λ (n : List ℕ). Some (n, id)) same) w.1
+
+pub place_there : (s : ℕ → Option Entry) (roots : Named) → HasRoots (λ c. present_of (s c)) roots → (root p : ℕ) (x : Entry) (name : List ℕ) → s root ≡ Some x → name ≡ x.node.shape.lot → None ≡ root_under roots name → slice_get (ids roots) p ≡ Some root → ⊥
+place_there s roots r root p x name here named none at =
+    let w = root_at s roots r root p at in
+    let same : name ≡ w.0 = named ∙ w.2 x here in
+    let z : None ≡ Some root = none ∙ ap (root_under roots) same ∙ contains_under roots w.0 p root r.apart w.1 in absurd (cc)
+
+-- ---- a block that doesn't touch
+
+held_far : (o : Option (Option Hulls)) (h : Hulls) (area : Box) → block_holds o h ≡ true → block_touches o area ≡ false → touches h.all area ≡ false
+held_far None h area e f = let z : true ≡ false = f in absurd (cc)
+held_far (Some None) h area e f = let z : false ≡ true = e in absurd (cc)
+held_far (Some (Some k)) h area e f = elim (bool_cases (touches h.all area)) [
+  | inl y ↦ absurd (let z : true ≡ false = sym (touches_up h.all k.all area (both _ _ e).0 y) ∙ f in (cc))
+  | inr n ↦ n
+]
+
+opt_far : (a : Option Box) (b area : Box) → opt_within a (Some b) ≡ true → opt_touches a area ≡ false → touches b area ≡ false
+opt_far None b area e f = let z : false ≡ true = e in absurd (cc)
+opt_far (Some a) b area e f = elim (bool_cases (touches b area)) [
+  | inl y ↦ absurd (let z : true ≡ false = sym (touches_up b a area e y) ∙ f in (cc))
+  | inr n ↦ n
+]
+
+held_quiet : (o : Option (Option Hulls)) (h : Hulls) (b area : Box) → block_holds o h ≡ true → block_asks o area ≡ false → h.asking ≡ Some b → touches b area ≡ false
+held_quiet None h b area e f s = let z : true ≡ false = f in absurd (cc)
+held_quiet (Some None) h b area e f s = let z : false ≡ true = e in absurd (cc)
+held_quiet (Some (Some k)) h b area e f s = opt_far k.asking b area (ap (opt_within k.asking) (sym s) ∙ (both _ _ e).1) f
+
+in_block : (block place : ℕ) → 16 * block ≤ place → place < 16 * (block + 1) → place / 16 ≡ block
+in_block block place from to = omega (arith, from, to)
+
+module _ (v : ForestView) (xs : Blocks) (w : IsWithBlocks v xs) (block : ℕ) (area : Box) where
+  root_held : (place c : ℕ) → 16 * block ≤ place → place < 16 * (block + 1) → slice_get (ids v.roots) place ≡ Some c → (h : Hulls) × (hulls_at v c ≡ Some h) × (block_holds (slice_get xs block) h ≡ true)
+  root_held place c from to at =
+      let m = ids_at v.roots place c at in
+      let d = w.forest.tops.each m.0 c (contains_at v.roots place (m.0, c) m.1) in
+      let r = w.forest.present.right c d.0 d.1 in
+      (r.0, r.1, ap (λ i. block_holds (slice_get xs i) r.0) (sym (in_block block place from to)) ∙ w.covered place c r.0 at r.1)
+
+  pub far_block : block_touches (slice_get xs block) area ≡ false → IsFarBlock (forest_tree v) block area
+  far_block off place c within at =
+      let r = root_held place c within.0 within.1 at in
+      ap (λ o. touches (all_of o) area) r.1 ∙ held_far (slice_get xs block) r.0 area r.2 off
+
+  pub quiet_block : block_asks (slice_get xs block) area ≡ false → IsQuietBlock (forest_tree v) block area
+  quiet_block off place c b within at asks =
+      let r = root_held place c within.0 within.1 at in
+      held_quiet (slice_get xs block) r.0 b area r.2 off (sym (ap asking_of r.1) ∙ asks)

@@ -1,0 +1,62 @@
+-- Hulls over blocks of roots: sixteen places of their list in a row.
+use Rattle.std.specs.Prelude.{◌≡◌, ◌≢◌, ℕ, ◌/◌, List, Option, Some, None, Bool, true, false, slice_get}
+use Rattle.cga_frame.specs.Box.{Box, touches}
+use Rattle.cga_forest.specs.declared.hulls.Hulls.{Hulls}
+use Rattle.cga_forest.specs.Hull.{holds_hulls}
+use Rattle.cga_forest.specs.Roots.{Named, ids}
+use Rattle.cga_forest.specs.Tree.{ForestView, IsForest, hulls_at}
+
+-- for each block hulls that hold those of its roots, where it has some
+abbrev pub Blocks : Type 0
+Blocks = List (Option Hulls)
+
+-- a block holds these hulls; one that isn't there may have any
+abbrev pub block_holds : Option (Option Hulls) → Hulls → Bool
+block_holds None h = true
+block_holds (Some None) h = false
+block_holds (Some (Some k)) h = holds_hulls k h
+
+abbrev pub known_touches : Option Hulls → Box → Bool
+known_touches None area = false
+known_touches (Some k) area = touches k.all area
+
+abbrev pub opt_touches : Option Box → Box → Bool
+opt_touches None area = false
+opt_touches (Some b) area = touches b area
+
+abbrev pub known_asks : Option Hulls → Box → Bool
+known_asks None area = false
+known_asks (Some k) area = opt_touches k.asking area
+
+-- whether the hulls of a block touch the area, and whether those of who asks do
+abbrev pub block_touches : Option (Option Hulls) → Box → Bool
+block_touches None area = true
+block_touches (Some known) area = known_touches known area
+
+abbrev pub block_asks : Option (Option Hulls) → Box → Bool
+block_asks None area = true
+block_asks (Some known) area = known_asks known area
+
+-- the block of the place holds these hulls
+abbrev pub IsHeld : Blocks → ℕ → Hulls → Type 0
+IsHeld blocks place h = block_holds (slice_get blocks (place / 16)) h ≡ true
+
+-- all that was held is
+abbrev pub StaysHeld : Blocks → Blocks → Type 0
+StaysHeld old new = (place : ℕ) (h : Hulls) → IsHeld old place h → IsHeld new place h
+
+-- the hulls of the root at the place, if one is there, are held
+abbrev pub IsCovered : Blocks → Named → (ℕ → Option Hulls) → ℕ → Type 0
+IsCovered blocks roots H place = (c : ℕ) (h : Hulls) → slice_get (ids roots) place ≡ Some c → H c ≡ Some h → IsHeld blocks place h
+
+abbrev pub AreCovered : Blocks → Named → (ℕ → Option Hulls) → Type 0
+AreCovered blocks roots H = (place : ℕ) → IsCovered blocks roots H place
+
+-- all but those of the one root
+abbrev pub AreCoveredBut : Option ℕ → Blocks → Named → (ℕ → Option Hulls) → Type 0
+AreCoveredBut root blocks roots H = (place c : ℕ) (h : Hulls) → root ≢ Some c → slice_get (ids roots) place ≡ Some c → H c ≡ Some h → IsHeld blocks place h
+
+-- a forest, with blocks over its roots
+pub record IsWithBlocks (v : ForestView) (blocks : Blocks) : Type 0 where
+  pub forest : IsForest v
+  pub covered : AreCovered blocks v.roots (hulls_at v)

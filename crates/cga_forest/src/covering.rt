@@ -1,0 +1,62 @@
+//! How the blocks are kept up with the roots.
+ghost use Rattle.std.specs.Prelude.{◌≡◌, ◌≤◌, ◌<◌, ℕ, Some, slice_get};
+ghost use Rattle.cga_forest.specs.Blocks.{AreCovered, AreCoveredBut, IsCovered, StaysHeld};
+ghost use Rattle.cga_forest.specs.Roots.{HasRoots, ids};
+ghost use Rattle.cga_forest.specs.View.{at, hulls_of, present_of};
+
+use crate::blocks::Blocks;
+use crate::roots::Roots;
+use crate::store::Store;
+
+/// Takes the hulls of the root at a place into its block.
+pub fn cover_place(blocks: &mut Blocks, store: &Store, roots: &Roots, place: usize)
+    ensures here { IsCovered blocks.new.hulls.items roots.now.list (λ c. hulls_of (at store.now c)) place }
+    ensures kept { StaysHeld blocks.old.hulls.items blocks.new.hulls.items }
+{
+    if place < roots.len() {
+        if let Some(entry) = store.get(roots.id(place)) {
+            blocks.join(place, &entry.hulls);
+        }
+    }
+}
+
+/// The same for places in a row.
+fn cover_places(blocks: &mut Blocks, store: &Store, roots: &Roots, from: usize, to: usize)
+    ensures here { (place : ℕ) → from ≤ place → place < to → IsCovered blocks.new.hulls.items roots.now.list (λ c. hulls_of (at store.now c)) place }
+    ensures kept { StaysHeld blocks.old.hulls.items blocks.new.hulls.items }
+{
+    for place in from..to {
+        cover_place(blocks, store, roots, place);
+    }
+}
+
+/// Makes all blocks anew.
+pub fn cover_all(blocks: &mut Blocks, store: &Store, roots: &Roots)
+    ensures { AreCovered blocks.new.hulls.items roots.now.list (λ c. hulls_of (at store.now c)) }
+{
+    blocks.clear();
+    cover_places(blocks, store, roots, 0, roots.len());
+}
+
+/// The place of a root.
+fn place_of(store: &Store, roots: &Roots, root: usize) -> Option<usize>
+    requires tops { HasRoots (λ c. present_of (at store.now c)) roots.now.list }
+    ensures { (place : ℕ) → slice_get (ids roots.now.list) place ≡ Some root → result ≡ Some place }
+{
+    let entry = store.get(root)?;
+    let (place, _) = roots.place_of(entry.node.lot())?;
+    Some(place)
+}
+
+/// Takes the hulls of a root into its block, where they changed.
+pub fn cover_root(blocks: &mut Blocks, store: &Store, roots: &Roots, changed: Option<usize>)
+    requires tops { HasRoots (λ c. present_of (at store.now c)) roots.now.list }
+    requires others { AreCoveredBut changed blocks.old.hulls.items roots.now.list (λ c. hulls_of (at store.now c)) }
+    ensures { AreCovered blocks.new.hulls.items roots.now.list (λ c. hulls_of (at store.now c)) }
+{
+    if let Some(root) = changed {
+        if let Some(place) = place_of(store, roots, root) {
+            cover_place(blocks, store, roots, place);
+        }
+    }
+}
