@@ -1,6 +1,7 @@
 -- Blocks that hold the hulls of the roots.
-use Rattle.std.proofs.Common.{◌≡◌, ◌≢◌, ◌⊎◌, inl, inr, ℕ, zero, suc, ◌+◌, ◌*◌, ◌/◌, ◌%◌, ◌<◌, ◌≤◌, List, [], ◌∷◌, ◌++◌, length, set, Bool, true, false, refl, ap, sym, subst, ◌∙◌, arith}
+use Rattle.std.proofs.Common.{◌≡◌, ◌≢◌, ◌⊎◌, inl, inr, ℕ, zero, suc, ◌+◌, ◌*◌, ◌/◌, ◌%◌, ◌<◌, ◌≤◌, List, [], ◌∷◌, ◌++◌, length, set, swap, Bool, true, false, refl, ap, sym, subst, ◌∙◌, arith}
 use Rattle.std.specs.Prelude.{Option, Some, None, slice_get}
+use Rattle.std.proofs.lemmas.List.{length_push}
 use Rattle.std.proofs.lemmas.Option.{slice_get_within}
 use Rattle.cga_frame.specs.Box.{Box, touches}
 use Rattle.cga_frame.proofs.Boxes.{touches_up}
@@ -19,6 +20,7 @@ use Rattle.cga_forest.proofs.Books.{nat_cases}
 use Rattle.cga_forest.proofs.Count.{bool_cases}
 use Rattle.cga_forest.proofs.Names.{contains_at, contains_under, place_once}
 use Rattle.cga_forest.proofs.Right.{present_some}
+use Rattle.cga_forest.proofs.Swaps.{swap_kept}
 
 -- ---- lists
 
@@ -115,15 +117,26 @@ none_covered xs roots H none place c h at e = let l = ids_within roots place c a
 pub covered_made : (xs ys : Blocks) (roots : Named) (H : ℕ → Option Hulls) (count : ℕ) → count ≡ length roots → ((place : ℕ) (h : Hulls) → place < count → IsHeld xs place h → IsHeld ys place h) → AreCovered xs roots H → AreCovered ys roots H
 covered_made xs ys roots H count n made a place c h at e = let lt = ids_within roots place c at in made place h (omega (arith, lt, n)) (a place c h at e)
 
-pub covered_added : (S : ℕ → Option Seen) (roots left : Named) (H J : ℕ → Option Hulls) (xs ys zs : Blocks) (n : List ℕ) (id : ℕ) → HasRoots S roots → S id ≡ None → ((c : ℕ) → c ≢ id → J c ≡ H c)
-    → ((place : ℕ) (h : Hulls) → place < length roots → IsHeld xs place h → IsHeld ys place h) → StaysHeld ys zs → left ≡ roots ++ (n, id) ∷ [] → IsCovered zs left J (length roots) → AreCovered xs roots H → AreCovered zs left J
-covered_added S roots left H J xs ys zs n id r fresh others made kept pushed here a place c h at e = elim (pushed_ids roots n id place c (subst (λ (l : Named). slice_get (ids l) place ≡ Some c) pushed at)) [
-  | inl w ↦ (
-      let m = ids_at roots place c w in
-      let d = r.each m.0 c (contains_at roots place (m.0, c) m.1) in
-      let apart : c ≢ id = (λ q. let z : None ≡ Some d.0 = sym fresh ∙ ap S (sym q) ∙ d.1 in (cc)) in
-      kept place h (made place h (ids_within roots place c w) (a place c h w (sym (others c apart) ∙ e))))
-  | inr q ↦ subst (λ i. IsHeld zs i h) (sym q) (here c h (subst (λ i. slice_get (ids left) i ≡ Some c) q at) e)
+pub covered_added : (S : ℕ → Option Seen) (roots left : Named) (H J : ℕ → Option Hulls) (us vs xs ys : Blocks) (n : List ℕ) (id gap : ℕ) → HasRoots S roots → S id ≡ None → ((c : ℕ) → c ≢ id → J c ≡ H c)
+    → ((place : ℕ) (h : Hulls) → place < length roots → IsHeld us place h → IsHeld vs place h) → StaysHeld vs xs → StaysHeld xs ys → gap ≤ length roots → left ≡ swap (roots ++ (n, id) ∷ []) gap (length roots)
+    → IsCovered xs left J gap → IsCovered ys left J (length roots) → AreCovered us roots H → AreCovered ys left J
+covered_added S roots left H J us vs xs ys n id gap r fresh others made kept more low pushed here there a place c h at e = elim (nat_cases place gap) [
+  | inl q ↦ more place h (subst (λ i. IsHeld xs i h) (sym q) (here c h (subst (λ i. slice_get (ids left) i ≡ Some c) q at) e))
+  | inr ng ↦ elim (nat_cases place (length roots)) [
+    | inl q ↦ subst (λ i. IsHeld ys i h) (sym q) (there c h (subst (λ i. slice_get (ids left) i ≡ Some c) q at) e)
+    | inr nl ↦ (
+        let k = ids_at left place c at in
+        let long = length_push roots (n, id) in
+        let still = swap_kept (roots ++ (n, id) ∷ []) gap (length roots) place (k.0, c) (omega (arith, low, long)) (omega (arith, long)) ng nl (subst (λ (l : Named). slice_get l place ≡ Some (k.0, c)) pushed k.1) in
+        elim (pushed_ids roots n id place c (at_ids (roots ++ (n, id) ∷ []) place c k.0 still)) [
+          | inl w ↦ (
+              let m = ids_at roots place c w in
+              let d = r.each m.0 c (contains_at roots place (m.0, c) m.1) in
+              let apart : c ≢ id = (λ q. let z : None ≡ Some d.0 = sym fresh ∙ ap S (sym q) ∙ d.1 in (cc)) in
+              more place h (kept place h (made place h (ids_within roots place c w) (a place c h w (sym (others c apart) ∙ e)))))
+          | inr q ↦ absurd (nl q)
+        ])
+  ]
 ]
 
 pub covered_out : (xs ys : Blocks) (roots left : Named) (H : ℕ → Option Hulls) (place : ℕ) → KeepsPlaces place roots left → StaysHeld xs ys → IsCovered ys left H place → AreCovered xs roots H → AreCovered ys left H
@@ -140,6 +153,16 @@ covered_next xs ys roots H from to a kept here p low lt c h at e = elim (nat_cas
   | inl q ↦ subst (λ i. IsHeld ys i h) (sym q) (here c h (subst (λ i. slice_get (ids roots) i ≡ Some c) q at) e)
   | inr n ↦ kept p h (a p low (omega (arith, lt, n)) c h at e)
 ]
+
+-- a block is emptied, and its places are gone over
+pub covered_anew : (xs ys zs : Blocks) (roots : Named) (H : ℕ → Option Hulls) (block from to count : ℕ) → count ≡ length roots → from ≡ 16 * block → ((p : ℕ) → p < count → p < from + 16 → p < to)
+    → ((place : ℕ) (h : Hulls) → place / 16 ≢ block → IsHeld xs place h → IsHeld ys place h) → StaysHeld ys zs → ((p : ℕ) → from ≤ p → p < to → IsCovered zs roots H p) → AreCovered xs roots H → AreCovered zs roots H
+covered_anew xs ys zs roots H block from to count n f reach others kept here a place c h at e =
+    let lt = ids_within roots place c at in
+    elim (nat_cases (place / 16) block) [
+      | inl q ↦ here place (omega (arith, f, q)) (reach place (omega (arith, n, lt)) (omega (arith, f, q))) c h at e
+      | inr ne ↦ kept place h (others place h ne (a place c h at e))
+    ]
 
 -- ---- one root's hulls change
 

@@ -23,7 +23,7 @@ pub mod Above
 pub mod Laws
 pub mod Names
 pub mod ByName
-mod Swaps
+pub mod Swaps
 mod Shelf
 mod Grown
 pub mod Said

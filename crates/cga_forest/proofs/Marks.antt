@@ -14,7 +14,8 @@ use Rattle.cga_forest.proofs.Count.{bool_cases}
 use Rattle.cga_forest.proofs.Books.{nat_cases}
 use Rattle.cga_forest.proofs.Tree.{IsTree-same, IsTree-cut, IsTree-root, cut_some}
 use Rattle.cga_forest.proofs.Walk.{under_into, under_onto, under_same, under_self}
-use Rattle.cga_forest.proofs.Tops.{HasRoots-same, HasRoots-added, HasRoots-cut, under_parent}
+use Rattle.cga_forest.proofs.Names.{apart_moved}
+use Rattle.cga_forest.proofs.Tops.{HasRoots-same, HasRoots-added, HasRoots-cut, HasRoots-moved, under_parent}
 use Rattle.cga_forest.specs.Roots.{HasRoots, Named, AreApart}
 use Rattle.std.specs.List.Sorted.{IsPermutation}
 use Rattle.cga_forest.proofs.Right.{AllRight-part, right_exact, right_same, over_zero, kids_present}
@@ -128,7 +129,7 @@ IsWhole-from S T J t r p s = record { tree = IsTree-same S T t s; places = InPla
 
 -- an entry for a new root comes
 module _ (old new : ForestView) (id : ℕ) (node : Node) (fresh : slot_at old id ≡ None) (made : IsNewEntry (slot_at new id) None node 0 0 old.marking) (others : (c : ℕ) → c ≢ id → slot_at new c ≡ slot_at old c)
-    (top : IsTop node) (m : new.marking ≡ old.marking) (pushed : new.roots ≡ old.roots ++ (node.shape.lot, id) ∷ []) (one_each : AreApart new.roots) (kept : new.marked_roots ≡ (if old.marking then old.marked_roots else new.roots)) (f : IsForest old) where
+    (top : IsTop node) (m : new.marking ≡ old.marking) (pushed : IsPermutation (old.roots ++ (node.shape.lot, id) ∷ []) new.roots) (one_each : AreApart new.roots) (kept : new.marked_roots ≡ (if old.marking then old.marked_roots else new.roots)) (f : IsForest old) where
   pub added_here : node_at new id ≡ Some (seen made.entry)
   added_here = ap present_of made.here ∙ ap (λ b. if b then None else Some (seen made.entry)) made.shows
 
@@ -171,7 +172,7 @@ module _ (old new : ForestView) (id : ℕ) (node : Node) (fresh : slot_at old id
   pub IsForest-added : IsForest new
   IsForest-added = record {
     present = added_whole;
-    tops = subst (HasRoots (node_at new)) (sym pushed) (HasRoots-added (node_at old) (node_at new) old.roots f.tops id node.shape.lot (seen made.entry) (ap present_of fresh) added_here made.parent (ap (λ (n : Node). n.shape.lot) made.node) (λ c n. ap present_of (others c n)) (subst AreApart pushed one_each));
+    tops = HasRoots-moved (node_at new) _ new.roots pushed one_each (HasRoots-added (node_at old) (node_at new) old.roots f.tops id node.shape.lot (seen made.entry) (ap present_of fresh) added_here made.parent (ap (λ (n : Node). n.shape.lot) made.node) (λ c n. ap present_of (others c n)) (apart_moved _ new.roots one_each pushed));
     unmarked = λ q. kept ∙ ap (λ b. if b then old.marked_roots else new.roots) (sym m ∙ q);
     marked_tops = λ q. let on : old.marking ≡ true = sym m ∙ q in subst (HasRoots (marked_at new)) (sym (kept ∙ ap (λ b. if b then old.marked_roots else new.roots) on)) (HasRoots-same (marked_at old) (marked_at new) old.marked_roots (added_mark on) (f.marked_tops on));
     marked = λ q. let on : old.marking ≡ true = sym m ∙ q in IsWhole-same (marked_at old) (marked_at new) (marked_hulls_at old) (marked_hulls_at new) (added_mark on) (λ c e t. added_mark_hulls on c) (f.marked on);

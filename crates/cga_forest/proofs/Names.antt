@@ -244,6 +244,9 @@ ids_once (e ∷ es) a same = (
 
 -- ---- a member more, or less
 
+pub apart_moved : (es rest : Named) → AreApart rest → IsPermutation es rest → AreApart es
+apart_moved es rest a p = IsDistinct-IsPermutation same_name name_order (names rest) (names es) (IsPermutation-map (λ (e : List ℕ × ℕ). e.0) rest es (IsPermutation-sym es rest p)) a
+
 -- a name that isn't there
 pub apart_out : (es rest : Named) (name : List ℕ) (c : ℕ) → AreApart es → IsPermutation es ((name, c) ∷ rest) → AllByRecursion (λ y. same_name name y ≡ false) (names rest)
 apart_out es rest name c a p = IsDistinct-head same_name name (names rest) (IsDistinct-IsPermutation same_name name_order (names es) (names ((name, c) ∷ rest)) (IsPermutation-map (λ (e : List ℕ × ℕ). e.0) es ((name, c) ∷ rest) p) a)

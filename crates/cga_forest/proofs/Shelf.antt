@@ -5,14 +5,14 @@ use Rattle.std.specs.List.Sorted.{IsPermutation}
 use Rattle.std.specs.Prelude.{Result, Ok, IfOk, OnOk}
 use Rattle.std.specs.Map.{lookup}
 use Rattle.std.proofs.lemmas.List.{take-take, length-take-le}
-use Rattle.std.proofs.lemmas.List.Edits.{length-swap, swapped_from_swap}
-use Rattle.std.proofs.lemmas.Option.{get_or_from_slice_get, slice_get-get_or}
+use Rattle.std.proofs.lemmas.List.Edits.{length-swap}
+use Rattle.std.proofs.lemmas.Option.{get_or_from_slice_get}
 use Rattle.indexmap.specs.IndexMap.{insert_entry}
 use Rattle.indexmap.specs.Layout.{length-set_value_at}
 use Rattle.cga_forest.specs.declared.step.Step.{Step}
 use Rattle.cga_forest.specs.declared.step.Step.TheVariants.{Came, Went}
 use Rattle.cga_forest.specs.Roots.{KeepsPlaces, Named, Shelf, IsUndoable, AreUndoable, listed, names, ids, put_back, same_name, undo, undone}
-use Rattle.cga_forest.proofs.Swaps.{swap_twice, take_brought, brought_out}
+use Rattle.cga_forest.proofs.Swaps.{swap_kept, swap_twice, take_brought, take_swap, brought_out}
 use Rattle.cga_forest.proofs.Names.{IsPut, is_put, place_after, at_front, front_at}
 
 -- ---- steps
@@ -41,14 +41,16 @@ noted_ready xs x old new h can ready = undoable_push xs x new (subst (AreUndoabl
 
 -- the roots that are there lie within the entries, also once a step is taken back
 undo_within : (x : Step) (s : Shelf) → IsUndoable x s → (undo x s).shown ≤ length (undo x s).entries
-undo_within (Came place None) s h =
-    let n = length-swap s.entries (s.shown - 1) place in
-    let l = length-take-le (length (swap s.entries (s.shown - 1) place) - 1) (swap s.entries (s.shown - 1) place) (omega arith) in
-    let a = h.1 in let b = h.2 in omega (arith, n, l, a, b)
-undo_within (Came place (Some id)) s h =
-    let n = length-swap s.entries (s.shown - 1) place in
-    let l = length-set_value_at (swap s.entries (s.shown - 1) place) place id in
-    let a = h.1 in let b = h.2 in omega (arith, n, l, a, b)
+undo_within (Came place None gap) s h =
+    let m = length-swap s.entries gap (s.shown - 1) in
+    let n = length-swap (swap s.entries gap (s.shown - 1)) (s.shown - 1) place in
+    let l = length-take-le (length (swap (swap s.entries gap (s.shown - 1)) (s.shown - 1) place) - 1) (swap (swap s.entries gap (s.shown - 1)) (s.shown - 1) place) (omega arith) in
+    let a = h.1 in let b = h.2 in omega (arith, m, n, l, a, b)
+undo_within (Came place (Some id) gap) s h =
+    let m = length-swap s.entries gap (s.shown - 1) in
+    let n = length-swap (swap s.entries gap (s.shown - 1)) (s.shown - 1) place in
+    let l = length-set_value_at (swap (swap s.entries gap (s.shown - 1)) (s.shown - 1) place) place id in
+    let a = h.1 in let b = h.2 in omega (arith, m, n, l, a, b)
 undo_within (Went place) s h =
     let n = length-swap s.entries place s.shown in
     let b = h.1 in omega (arith, n, b)
@@ -63,28 +65,36 @@ undone_within (x ∷ xs) s w a = undo_within x (undone xs s) a.0
 pub put_at : (es new : Named) (name : List ℕ) (id place : ℕ) (former : Option ℕ) → new ≡ insert_entry same_name es name id → place ≡ position_or_len (same_name name) (names es) → former ≡ lookup (same_name name) es → IsPut es new name id place former
 put_at es new name id place former e i o = rw (e, i, o) (is_put es name id)
 
-module _ (es put : Named) (shown : ℕ) (name : List ℕ) (id place : ℕ) (former : Option ℕ) (p : IsPut es put name id place former) (within : shown ≤ length es) (after : shown ≤ place) where
+module _ (es put : Named) (shown : ℕ) (name : List ℕ) (id place : ℕ) (former : Option ℕ) (p : IsPut es put name id place former) (within : shown ≤ length es) (after : shown ≤ place) (gap : ℕ) (low : gap ≤ shown) where
   abbrev brought : Named
   brought = swap put shown place
 
-  pub push_listed : take (shown + 1) brought ≡ take shown es ++ (name, id) ∷ []
-  push_listed =
-      take_brought put shown place (name, id) after p.within (sym (get_or_from_slice_get put place (name, id) (name, id) p.here))
-      ∙ ap (λ l. l ++ (name, id) ∷ []) (p.front shown after)
+  abbrev filled : Named
+  filled = swap brought gap shown
 
-  pub push_undone : undo (Came place former) (record { entries = brought; shown = shown + 1 }) ≡ record { entries = es; shown = shown }
+  long : shown < length brought
+  long = let n = length-swap put shown place in let w = p.within in omega (arith, n, w, after)
+
+  pub push_listed : take (shown + 1) filled ≡ swap (take shown es ++ (name, id) ∷ []) gap shown
+  push_listed =
+      take_swap brought (shown + 1) gap shown (name, id) (omega (arith, low)) (omega arith) (omega (arith, long))
+      ∙ ap (λ l. swap l gap shown) (take_brought put shown place (name, id) after p.within (sym (get_or_from_slice_get put place (name, id) (name, id) p.here)) ∙ ap (λ l. l ++ (name, id) ∷ []) (p.front shown after))
+
+  pub push_undone : undo (Came place former gap) (record { entries = filled; shown = shown + 1 }) ≡ record { entries = es; shown = shown }
   push_undone =
       let less : shown + 1 - 1 ≡ shown = omega arith in
       let w = p.within in
-      let same : put_back former place (swap brought (shown + 1 - 1) place) ≡ es =
-      ap (λ k. put_back former place (swap brought k place)) less ∙ ap (put_back former place) (swap_twice put shown place (omega (arith, w, after)) w) ∙ p.back in
+      let same : put_back former place (swap (swap filled gap (shown + 1 - 1)) (shown + 1 - 1) place) ≡ es =
+      ap (λ k. put_back former place (swap (swap filled gap k) k place)) less ∙ ap (λ l. put_back former place (swap l shown place)) (swap_twice brought gap shown (omega (arith, low, long)) long)
+      ∙ ap (put_back former place) (swap_twice put shown place (omega (arith, w, after)) w) ∙ p.back in
       λ i. record { entries = same i; shown = less i }
 
-  pub push_undoable : IsUndoable (Came place former) (record { entries = brought; shown = shown + 1 })
+  pub push_undoable : IsUndoable (Came place former gap) (record { entries = filled; shown = shown + 1 })
   push_undoable =
       let n = length-swap put shown place in
+      let m = length-swap brought gap shown in
       let w = p.within in
-      (omega arith, omega (arith, after), omega (arith, n, w), λ none. p.last none ∙ sym n)
+      (omega (arith, low), omega (arith, after), omega (arith, n, m, w), λ none. p.last none ∙ sym n ∙ sym m)
 
 -- ---- a root goes
 
@@ -103,9 +113,7 @@ module _ (es : Named) (shown i : ℕ) (name : List ℕ) (c : ℕ) (lt : i < show
   out_kept k e n g =
       let f = at_front left (shown - 1) k e g in
       let low = f.0 in
-      let moved = swapped_from_swap es left i (shown - 1) e (omega (arith, lt, within)) (omega (arith, lt, within)) refl in
-      let same = moved.2 k n (λ q. absurd (omega (arith, low, q))) in
-      front_at es shown k e (omega (arith, low)) (slice_get-get_or es k e (omega (arith, low, within)) ∙ ap (λ x. Some x) (sym same ∙ get_or_from_slice_get left k e e f.1))
+      front_at es shown k e (omega (arith, low)) (swap_kept es i (shown - 1) k e (omega (arith, lt, within)) (omega (arith, lt, within)) n (λ q. absurd (omega (arith, low, q))) f.1)
 
   pub out_undone : undo (Went i) (record { entries = left; shown = shown - 1 }) ≡ record { entries = es; shown = shown }
   out_undone =
@@ -158,23 +166,24 @@ pub record IsNoted (old new : Shelf) (steps more : List Step) : Type 0 where
   pub ready : AreUndoable more new
   pub former : undone more new ≡ undone steps old
 
-pub pushed : (es put new : Named) (shown : ℕ) (name : List ℕ) (id place : ℕ) (former : Option ℕ) (steps more : List Step)
+pub pushed : (es put new : Named) (shown : ℕ) (name : List ℕ) (id place : ℕ) (former : Option ℕ) (gap : ℕ) (steps more : List Step)
     → put ≡ insert_entry same_name es name id → place ≡ position_or_len (same_name name) (names es) → former ≡ lookup (same_name name) es
-    → shown ≤ length es → lookup (same_name name) (take shown es) ≡ None → new ≡ swap put shown place → AreUndoable steps (record { entries = es; shown = shown }) → more ≡ steps ++ Came place former ∷ []
-    → IsNoted (record { entries = es; shown = shown }) (record { entries = new; shown = shown + 1 }) steps more × (take (shown + 1) new ≡ take shown es ++ (name, id) ∷ [])
-pushed es put new shown name id place former steps more e i o within free moved ready noting =
+    → shown ≤ length es → lookup (same_name name) (take shown es) ≡ None → gap ≤ shown → new ≡ swap (swap put shown place) gap shown → AreUndoable steps (record { entries = es; shown = shown }) → more ≡ steps ++ Came place former gap ∷ []
+    → IsNoted (record { entries = es; shown = shown }) (record { entries = new; shown = shown + 1 }) steps more × (take (shown + 1) new ≡ swap (take shown es ++ (name, id) ∷ []) gap shown)
+pushed es put new shown name id place former gap steps more e i o within free low moved ready noting =
     let p = put_at es put name id place former e i o in
     let after : shown ≤ place = subst (λ k. shown ≤ k) (sym i) (place_after es name shown within free) in
-    let back = push_undone es put shown name id place former p within after in
+    let back = push_undone es put shown name id place former p within after gap low in
     let n = length-swap put shown place in
+    let m = length-swap (swap put shown place) gap shown in
     let w = p.within in
     rw (moved, noting) (
       record {
-        within = omega (arith, n, w, after);
-        ready = noted_ready steps (Came place former) (record { entries = es; shown = shown }) (record { entries = swap put shown place; shown = shown + 1 }) back (push_undoable es put shown name id place former p within after) ready;
-        former = noted steps (Came place former) (record { entries = es; shown = shown }) (record { entries = swap put shown place; shown = shown + 1 }) back;
+        within = omega (arith, n, m, w, after);
+        ready = noted_ready steps (Came place former gap) (record { entries = es; shown = shown }) (record { entries = swap (swap put shown place) gap shown; shown = shown + 1 }) back (push_undoable es put shown name id place former p within after gap low) ready;
+        former = noted steps (Came place former gap) (record { entries = es; shown = shown }) (record { entries = swap (swap put shown place) gap shown; shown = shown + 1 }) back;
       },
-      push_listed es put shown name id place former p within after,
+      push_listed es put shown name id place former p within after gap low,
     )
 
 pub taken_out : (es new : Named) (shown i : ℕ) (name : List ℕ) (c : ℕ) (steps more : List Step)
@@ -196,7 +205,7 @@ taken_out es new shown i name c steps more within at moved ready noting =
 
 -- each step back brings at most one root
 undo_room : (x : Step) (s : Shelf) → (undo x s).shown ≤ s.shown + 1
-undo_room (Came place former) s = omega arith
+undo_room (Came place former gap) s = omega arith
 undo_room (Went place) s = omega arith
 
 pub undone_room : (xs : List Step) (s : Shelf) → (undone xs s).shown ≤ s.shown + length xs

@@ -1,10 +1,12 @@
 -- Two places of a list exchanged.
-use Rattle.std.proofs.Common.{◌≡◌, ℕ, ◌+◌, ◌-◌, ◌<◌, ◌≤◌, List, [], ◌∷◌, ◌++◌, length, get_or, set, take, swap, refl, sym, ap, subst, ◌∙◌, arith}
+use Rattle.std.proofs.Common.{◌≡◌, ◌≢◌, ℕ, ◌+◌, ◌-◌, ◌<◌, ◌≤◌, List, [], ◌∷◌, ◌++◌, length, get_or, set, take, swap, refl, sym, ap, subst, ◌∙◌, arith}
 use Rattle.std.specs.List.{swap_remove}
 use Rattle.std.specs.List.Sorted.{IsPermutation}
 use Rattle.std.proofs.lemmas.List.{same_lists, take-set-le, take-take, take_more, length-take-le, get_or-take}
 use Rattle.std.proofs.Math.Seq.{take-set-lt}
 use Rattle.std.proofs.lemmas.List.Edits.{length-swap, swap_is, swapped_from_swap}
+use Rattle.std.proofs.lemmas.Option.{get_or_from_slice_get, slice_get-get_or, slice_get_within}
+use Rattle.std.specs.Prelude.{Some, slice_get}
 use Rattle.std.proofs.lemmas.List.Sorted.{IsPermutation-swap_remove}
 use Rattle.indexmap.proofs.ReorderLemmas.{exchange, exchange-twice, get_or-swap}
 
@@ -17,6 +19,17 @@ module _ {X : Type 0} (xs : List X) where
       get_or-swap (swap xs a b) a b d (omega (arith, p, n)) (omega (arith, q, n)) k
       ∙ get_or-swap xs a b d p q (exchange a b k)
       ∙ ap (λ i. get_or xs i d) (exchange-twice a b k))
+
+  -- two of the first n
+  pub take_swap : (n a b : ℕ) (d : X) → a < n → b < n → n ≤ length xs → take n (swap xs a b) ≡ swap (take n xs) a b
+  take_swap n a b d la lb le =
+      let m : length (take n xs) ≡ n = length-take-le n xs le in
+      ap (take n) (sym (swap_is xs a b d (omega (arith, la, le)) (omega (arith, lb, le))))
+      ∙ take-set-lt n (set xs a (get_or xs b d)) b (get_or xs a d) lb
+      ∙ ap (λ l. set l b (get_or xs a d)) (take-set-lt n xs a (get_or xs b d) la)
+      ∙ ap (λ x. set (set (take n xs) a x) b (get_or xs a d)) (sym (get_or-take n xs b d lb))
+      ∙ ap (λ x. set (set (take n xs) a (get_or (take n xs) b d)) b x) (sym (get_or-take n xs a d la))
+      ∙ swap_is (take n xs) a b d (omega (arith, la, m)) (omega (arith, lb, m))
 
   -- what stands before both stays
   pub take_before : (n a b : ℕ) (d : X) → n ≤ a → n ≤ b → a < length xs → b < length xs → take n (swap xs a b) ≡ take n xs
@@ -57,3 +70,11 @@ module _ {X : Type 0} (xs : List X) where
       let n : length (take (j + 1) xs) ≡ j + 1 = length-take-le (j + 1) xs (omega (arith, q)) in
       let there : x ≡ get_or (take (j + 1) xs) i x = at ∙ sym (get_or-take (j + 1) xs i x (omega (arith, h))) in
       subst (λ l. IsPermutation (take (j + 1) xs) (x ∷ l)) (sym (swapped_out i j x h q)) (IsPermutation-swap_remove (take (j + 1) xs) i x (omega (arith, n, h)) there)
+
+  -- a member at neither place stays
+  pub swap_kept : (a b k : ℕ) (x : X) → a < length xs → b < length xs → k ≢ a → k ≢ b → slice_get (swap xs a b) k ≡ Some x → slice_get xs k ≡ Some x
+  swap_kept a b k x p q na nb at =
+      let moved = swapped_from_swap xs (swap xs a b) a b x p q refl in
+      let low = slice_get_within (swap xs a b) k x at in
+      let n = length-swap xs a b in
+      slice_get-get_or xs k x (omega (arith, low, n)) ∙ ap (λ y. Some y) (sym (moved.2 k na nb) ∙ get_or_from_slice_get (swap xs a b) k x x at)

@@ -27,6 +27,14 @@ HasRoots-same S T roots h r = record {
   all = λ c d t top. r.all c d (sym (h c) ∙ t) top;
 }
 
+-- another order
+pub HasRoots-moved : (T : ℕ → Option Seen) (roots left : Named) → IsPermutation roots left → AreApart left → HasRoots T roots → HasRoots T left
+HasRoots-moved T roots left moved apart r = record {
+  apart = apart;
+  each = λ name c m. r.each name c (Contains-permutation left roots (name, c) (IsPermutation-sym roots left moved) m);
+  all = λ c d t top. Contains-permutation roots left (d.node.shape.lot, c) moved (r.all c d t top);
+}
+
 module _ (S T : ℕ → Option Seen) (roots : Named) (r : HasRoots S roots) where
   -- a root comes, under a name that isn't there
   module _ (id : ℕ) (name : List ℕ) (e : Seen) (fresh : S id ≡ None) (here : T id ≡ Some e) (top : e.parent ≡ None) (named : e.node.shape.lot ≡ name) (others : (c : ℕ) → c ≢ id → T c ≡ S c) (apart : AreApart (roots ++ (name, id) ∷ [])) where

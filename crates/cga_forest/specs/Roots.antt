@@ -50,7 +50,7 @@ put_back (Some id) place entries = set_value_at entries place id
 
 -- a step taken back
 abbrev pub undo : Step → Shelf → Shelf
-undo (Came place former) s = record { entries = put_back former place (swap s.entries (s.shown - 1) place); shown = s.shown - 1 }
+undo (Came place former gap) s = record { entries = put_back former place (swap (swap s.entries gap (s.shown - 1)) (s.shown - 1) place); shown = s.shown - 1 }
 undo (Went place) s = record { entries = swap s.entries place s.shown; shown = s.shown + 1 }
 
 -- all taken back, the last one first
@@ -60,7 +60,7 @@ undone (x ∷ xs) s = undo x (undone xs s)
 
 -- the step can be taken back
 abbrev pub IsUndoable : Step → Shelf → Type 0
-IsUndoable (Came place former) s = (0 < s.shown) × (s.shown ≤ place + 1) × (place < length s.entries) × (former ≡ None → place + 1 ≡ length s.entries)
+IsUndoable (Came place former gap) s = (gap < s.shown) × (s.shown ≤ place + 1) × (place < length s.entries) × (former ≡ None → place + 1 ≡ length s.entries)
 IsUndoable (Went place) s = (place ≤ s.shown) × (s.shown < length s.entries)
 
 -- one after the other

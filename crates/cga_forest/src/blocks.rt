@@ -1,4 +1,4 @@
-ghost use Rattle.std.specs.Prelude.{◌≡◌, ◌<◌, ℕ, [], slice_get};
+ghost use Rattle.std.specs.Prelude.{◌≡◌, ◌≢◌, ◌<◌, ◌/◌, ℕ, slice_get};
 ghost use Rattle.cga_forest.specs.declared.hulls.Hulls.{Hulls};
 ghost use Rattle.cga_forest.specs.Blocks.{IsHeld, StaysHeld, block_asks, block_touches, known_asks, known_touches};
 
@@ -12,12 +12,17 @@ use std::alloc::Global;
 #[derive(Drop)]
 pub struct Blocks {
     hulls: Vec<Option<Hulls>>,
+    /// Which blocks took hulls in since they were last made anew.
+    from: usize,
+    to: usize,
 }
 
 impl Blocks {
     pub fn new(alloc: Global) -> Blocks {
         Blocks {
             hulls: Vec::new(alloc),
+            from: usize::MAX,
+            to: 0,
         }
     }
 
@@ -41,7 +46,31 @@ impl Blocks {
         if block < self.hulls.len() {
             let wider = hulls.with(&self.hulls[block]);
             self.hulls[block] = Some(wider);
+            self.from = self.from.min(block);
+            self.to = self.to.max(block + 1);
         }
+    }
+
+    /// Empties a block, if it is there.
+    pub fn empty(&mut self, block: usize)
+        ensures { (place : ℕ) (h : Hulls) → place / 16 ≢ block → IsHeld self.old.hulls.items place h → IsHeld self.new.hulls.items place h }
+    {
+        if block < self.hulls.len() {
+            self.hulls[block] = None;
+        }
+    }
+
+    /// The first of the blocks that took hulls in, and where they end.
+    pub fn loose(&self) -> (usize, usize) {
+        (self.from, self.to)
+    }
+
+    /// Forgets which they are.
+    pub fn rest(&mut self)
+        ensures { self.new.hulls.items ≡ self.old.hulls.items }
+    {
+        self.from = usize::MAX;
+        self.to = 0;
     }
 
     /// Empties the blocks.

@@ -38,6 +38,32 @@ pub fn cover_all(blocks: &mut Blocks, store: &Store, roots: &Roots)
     cover_places(blocks, store, roots, 0, roots.len());
 }
 
+/// Makes a block anew.
+fn renew(blocks: &mut Blocks, store: &Store, roots: &Roots, block: usize)
+    requires { AreCovered blocks.old.hulls.items roots.now.list (λ c. hulls_of (at store.now c)) }
+    ensures { AreCovered blocks.new.hulls.items roots.now.list (λ c. hulls_of (at store.now c)) }
+{
+    let count = roots.len();
+    if block <= count / 16 {
+        blocks.empty(block);
+        let from = 16 * block;
+        let to = if count - from < 16 { count } else { from + 16 };
+        cover_places(blocks, store, roots, from, to);
+    }
+}
+
+/// Makes the blocks anew that took hulls in, so that they hold no more than they have to.
+pub fn tighten(blocks: &mut Blocks, store: &Store, roots: &Roots)
+    requires { AreCovered blocks.old.hulls.items roots.now.list (λ c. hulls_of (at store.now c)) }
+    ensures { AreCovered blocks.new.hulls.items roots.now.list (λ c. hulls_of (at store.now c)) }
+{
+    let (from, to) = blocks.loose();
+    for block in from..to {
+        renew(blocks, store, roots, block);
+    }
+    blocks.rest();
+}
+
 /// The place of a root.
 fn place_of(store: &Store, roots: &Roots, root: usize) -> Option<usize>
     requires tops { HasRoots (λ c. present_of (at store.now c)) roots.now.list }

@@ -47,7 +47,7 @@ use cga_rule::Grammar;
 use cga_shape::{Answers, Emitted, ShapeFault};
 use cga_word::Mode;
 pub use change::Change;
-use covering::{cover_all, cover_root};
+use covering::{cover_all, cover_root, tighten};
 use listing::list_children;
 pub use moved::Moved;
 pub use node::{Node, State};
@@ -260,6 +260,7 @@ impl Forest {
     {
         self.store.settle();
         self.roots.settle();
+        tighten(&mut self.blocks, &self.store, &self.roots);
         self.marking = false;
     }
 

@@ -44,14 +44,15 @@ impl Forest {
         ensures err { OnErr result (self.new ≡ self.old) }
     {
         let (alloc, marking, name) = (self.alloc, self.marking, node.lot());
-        let place = self.roots.len();
-        self.blocks.make_room(place, &Hulls::own(&node))?;
+        let last = self.roots.len();
+        self.blocks.make_room(last, &Hulls::own(&node))?;
         self.store.reserve(1)?;
         self.roots.reserve()?;
         let id = self.store.add(alloc, marking, node, 0, None, 0);
-        self.roots.push(name, id);
+        let place = self.roots.push(name, id);
         self.roots.settle_unless(marking);
         cover_place(&mut self.blocks, &self.store, &self.roots, place);
+        cover_place(&mut self.blocks, &self.store, &self.roots, last);
         Ok(id)
     }
 

@@ -1,5 +1,6 @@
-ghost use Rattle.std.specs.Prelude.{◌≡◌, ◌<◌, ◌+◌, ◌++◌, [], ◌∷◌, length, slice_get, None, Some, OnOk, IfSome, IfNone, if◌then◌else◌};
+ghost use Rattle.std.specs.Prelude.{◌≡◌, ◌<◌, ◌≤◌, ◌+◌, ◌++◌, [], ◌∷◌, length, slice_get, None, Some, OnOk, IfSome, IfNone, if◌then◌else◌};
 ghost use Rattle.std.specs.Option.{option_map};
+ghost use Rattle.std.specs.List.{swap};
 ghost use Rattle.std.specs.List.Sorted.{IsPermutation};
 ghost use Rattle.cga_forest.specs.Roots.{RootsView, HasSpace, KeepsPlaces, AreApart, AreUndoable, IsUndoable, ids, put_back, root_under, undo, undone};
 
@@ -92,18 +93,24 @@ impl Roots {
         Ok(())
     }
 
-    pub fn push(&mut self, name: Name, id: usize)
+    /// Adds a root, and answers its place. What stood there stands behind all others then, so that a root that goes and
+    /// comes again stands where it stood, and so do all others.
+    pub fn push(&mut self, name: Name, id: usize) -> usize
         requires space { HasSpace self.old }
         requires absent { root_under self.old.list name ≡ None }
-        ensures list { self.new.list ≡ self.old.list ++ (name, id) ∷ [] }
+        ensures place { result ≤ length self.old.list }
+        ensures list { self.new.list ≡ swap (self.old.list ++ (name, id) ∷ []) result (length self.old.list) }
         ensures former { self.new.former ≡ self.old.former }
         ensures apart { AreApart self.new.list }
     {
         let _entries = self.map.len();
+        let gap = gap_of(self.steps.as_slice(), self.shown);
         let (place, former) = self.map.insert_full(name, id).unwrap();
         self.map.swap_indices(self.shown, place);
+        self.map.swap_indices(gap, self.shown);
         self.shown += 1;
-        self.steps.push_reserved(Step::Came { place, former });
+        self.steps.push_reserved(Step::Came { place, former, gap });
+        gap
     }
 
     /// Takes a name's root out, and answers the place where it stood, to which the last root comes, and it.
@@ -157,6 +164,16 @@ impl Roots {
     }
 }
 
+/// Where the root stood that went last, if none came since, and else behind them all.
+fn gap_of(steps: &[Step], end: usize) -> usize
+    ensures { result ≤ end }
+{
+    match steps.last() {
+        Some(Step::Went { place }) => { if *place < end { *place } else { end } }
+        _ => end,
+    }
+}
+
 /// Takes a step back. Answers how many roots are there then.
 fn take_back(map: &mut IndexMap<Name, usize>, shown: usize, step: Step) -> usize
     requires { IsUndoable step (record { entries = map.old.entries; shown = shown }) }
@@ -164,7 +181,8 @@ fn take_back(map: &mut IndexMap<Name, usize>, shown: usize, step: Step) -> usize
 {
     let _entries = map.len();
     match step {
-        Step::Came { place, former } => {
+        Step::Came { place, former, gap } => {
+            map.swap_indices(gap, shown - 1);
             map.swap_indices(shown - 1, place);
             put_back(map, place, former);
             shown - 1

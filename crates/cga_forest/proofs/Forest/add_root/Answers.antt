@@ -1,7 +1,9 @@
-use Rattle.std.proofs.Common.{refl, sym, ap, arith, ◌∙◌, subst, List, ◌++◌, ◌∷◌, []}
+use Rattle.std.proofs.Common.{◌≡◌, ◌≤◌, length, swap, refl, sym, ap, arith, ◌∙◌, subst, List, ◌++◌, ◌∷◌, []}
 use Rattle.std.specs.Prelude.{Option, if◌then◌else◌}
 use Rattle.cga_forest.specs.declared.entry.Entry.{Entry}
-use Rattle.cga_forest.specs.Roots.{AreApart}
+use Rattle.std.proofs.lemmas.List.{length_push}
+use Rattle.std.proofs.lemmas.List.Sorted.{IsPermutation-swap}
+use Rattle.cga_forest.specs.Roots.{AreApart, Named}
 use Rattle.cga_forest.specs.Tree.{IsForest}
 use Rattle.cga_forest.proofs.ByName.{no_root}
 use Rattle.cga_forest.proofs.Marks.{IsForest-added}
@@ -12,33 +14,37 @@ use Rattle.cga_forest.specs.Numbers.{StaysTaken}
 use Rattle.cga_forest.specs.Tree.{ForestView, slot_at, node_at, hulls_at}
 use Rattle.cga_forest.proofs.Numbers.{taken_added}
 
-pub push-requires-clause-absent : goal.push-requires-clause-absent
-push-requires-clause-absent c = rw (c.in_ok-reserve-2.ensures.list, c.lot-name.ensures) (no_root (record { slots = c.self.inside.store.slots; marking = c.self.inside.marking; roots = c.self.inside.roots.list; marked_roots = c.self.inside.roots.former; mode = c.self.inside.mode }) c.args.self.now c.self.view_is c.self.invariant.forest c.args.node.shape.lot c.requires.new)
+pub push-place-requires-clause-absent : goal.push-place-requires-clause-absent
+push-place-requires-clause-absent c = rw (c.in_ok-reserve-2.ensures.list, c.lot-name.ensures) (no_root (record { slots = c.self.inside.store.slots; marking = c.self.inside.marking; roots = c.self.inside.roots.list; marked_roots = c.self.inside.roots.former; mode = c.self.inside.mode }) c.args.self.now c.self.view_is c.self.invariant.forest c.args.node.shape.lot c.requires.new)
 
 pub invariant_of-self : goal.invariant_of-self
-invariant_of-self c = record { forest = c.self.invariant.forest; covered = covered_made c.self.inside.blocks.hulls.items c.make_room.new.self.hulls.items c.self.inside.roots.list (hulls_at (record { slots = c.self.inside.store.slots; marking = c.self.inside.marking; roots = c.self.inside.roots.list; marked_roots = c.self.inside.roots.former; mode = c.self.inside.mode })) c.len-place.result c.len-place.ensures c.make_room.ensures c.self.invariant.covered }
+invariant_of-self c = record { forest = c.self.invariant.forest; covered = covered_made c.self.inside.blocks.hulls.items c.make_room.new.self.hulls.items c.self.inside.roots.list (hulls_at (record { slots = c.self.inside.store.slots; marking = c.self.inside.marking; roots = c.self.inside.roots.list; marked_roots = c.self.inside.roots.former; mode = c.self.inside.mode })) c.len-last.result c.len-last.ensures c.make_room.ensures c.self.invariant.covered }
 
 pub invariant_of-self-in_err-reserve : goal.invariant_of-self-in_err-reserve
-invariant_of-self-in_err-reserve c = rw c.in_err-reserve.ensures.slots (record { forest = c.self.invariant.forest; covered = covered_made c.self.inside.blocks.hulls.items c.make_room.new.self.hulls.items c.self.inside.roots.list (hulls_at (record { slots = c.self.inside.store.slots; marking = c.self.inside.marking; roots = c.self.inside.roots.list; marked_roots = c.self.inside.roots.former; mode = c.self.inside.mode })) c.len-place.result c.len-place.ensures c.make_room.ensures c.self.invariant.covered })
+invariant_of-self-in_err-reserve c = rw c.in_err-reserve.ensures.slots (record { forest = c.self.invariant.forest; covered = covered_made c.self.inside.blocks.hulls.items c.make_room.new.self.hulls.items c.self.inside.roots.list (hulls_at (record { slots = c.self.inside.store.slots; marking = c.self.inside.marking; roots = c.self.inside.roots.list; marked_roots = c.self.inside.roots.former; mode = c.self.inside.mode })) c.len-last.result c.len-last.ensures c.make_room.ensures c.self.invariant.covered })
 
 pub invariant_of-self-in_err-reserve-2 : goal.invariant_of-self-in_err-reserve-2
-invariant_of-self-in_err-reserve-2 c = rw (c.in_ok-reserve.ensures.slots, c.in_err-reserve-2.ensures.list, c.in_err-reserve-2.ensures.former) (record { forest = c.self.invariant.forest; covered = covered_made c.self.inside.blocks.hulls.items c.make_room.new.self.hulls.items c.self.inside.roots.list (hulls_at (record { slots = c.self.inside.store.slots; marking = c.self.inside.marking; roots = c.self.inside.roots.list; marked_roots = c.self.inside.roots.former; mode = c.self.inside.mode })) c.len-place.result c.len-place.ensures c.make_room.ensures c.self.invariant.covered })
+invariant_of-self-in_err-reserve-2 c = rw (c.in_ok-reserve.ensures.slots, c.in_err-reserve-2.ensures.list, c.in_err-reserve-2.ensures.former) (record { forest = c.self.invariant.forest; covered = covered_made c.self.inside.blocks.hulls.items c.make_room.new.self.hulls.items c.self.inside.roots.list (hulls_at (record { slots = c.self.inside.store.slots; marking = c.self.inside.marking; roots = c.self.inside.roots.list; marked_roots = c.self.inside.roots.former; mode = c.self.inside.mode })) c.len-last.result c.len-last.ensures c.make_room.ensures c.self.invariant.covered })
 
 pub invariant_of-self-2 : goal.invariant_of-self-2
-invariant_of-self-2 c = record {
-  forest = IsForest-added (record { slots = c.reserve.new.self.slots; marking = c.self.inside.marking; roots = c.self.inside.roots.list; marked_roots = c.self.inside.roots.former; mode = c.self.inside.mode }) _ c.add-id.result c.args.node c.add-id.ensures.vacant c.add-id.ensures.here (λ k n. c.add-id.ensures.others k n) c.requires.top refl
-      (c.settle_unless.ensures.list ∙ c.push.ensures.list ∙ (λ i. c.in_ok-reserve-2.ensures.list i ++ (c.lot-name.ensures i, c.add-id.result) ∷ []))
-      (subst AreApart (sym c.settle_unless.ensures.list) c.push.ensures.apart)
-      (c.settle_unless.ensures.former ∙ (λ i. if c.self.inside.marking then (c.push.ensures.former ∙ c.in_ok-reserve-2.ensures.former) i else sym c.settle_unless.ensures.list i))
-      (subst (λ (xs : List (Option Entry)). IsForest (record { slots = xs; marking = c.self.inside.marking; roots = c.self.inside.roots.list; marked_roots = c.self.inside.roots.former; mode = c.self.inside.mode })) (sym c.in_ok-reserve.ensures.slots) c.self.invariant.forest);
-  covered =
-      covered_added (node_at (record { slots = c.self.inside.store.slots; marking = c.self.inside.marking; roots = c.self.inside.roots.list; marked_roots = c.self.inside.roots.former; mode = c.self.inside.mode })) c.self.inside.roots.list _ (hulls_at (record { slots = c.self.inside.store.slots; marking = c.self.inside.marking; roots = c.self.inside.roots.list; marked_roots = c.self.inside.roots.former; mode = c.self.inside.mode })) _ c.self.inside.blocks.hulls.items c.make_room.new.self.hulls.items c.cover_place.new.blocks.hulls.items c.args.node.shape.lot c.add-id.result
-      c.self.invariant.forest.tops (ap (λ (xs : List (Option Entry)). present_of (slot xs c.add-id.result)) (sym c.in_ok-reserve.ensures.slots) ∙ ap present_of c.add-id.ensures.vacant)
-      (λ k n. ap hulls_of (c.add-id.ensures.others k n) ∙ ap (λ (xs : List (Option Entry)). hulls_of (slot xs k)) c.in_ok-reserve.ensures.slots)
-      (λ i h lt e. c.make_room.ensures i h (let n = c.len-place.ensures in omega (arith, lt, n)) e) c.cover_place.ensures.kept
-      (c.settle_unless.ensures.list ∙ c.push.ensures.list ∙ (λ i. c.in_ok-reserve-2.ensures.list i ++ (c.lot-name.ensures i, c.add-id.result) ∷ []))
-      (rw (← c.len-place.ensures) c.cover_place.ensures.here) c.self.invariant.covered;
-}
+invariant_of-self-2 c =
+    let low : c.push-place.result ≤ length c.self.inside.roots.list = subst (λ (l : Named). c.push-place.result ≤ length l) c.in_ok-reserve-2.ensures.list c.push-place.ensures.place in
+    let long = length_push c.self.inside.roots.list (c.args.node.shape.lot, c.add-id.result) in
+    let is : c.settle_unless.new.self.list ≡ swap (c.self.inside.roots.list ++ (c.args.node.shape.lot, c.add-id.result) ∷ []) c.push-place.result (length c.self.inside.roots.list) =
+    c.settle_unless.ensures.list ∙ c.push-place.ensures.list ∙ (λ i. swap (c.in_ok-reserve-2.ensures.list i ++ (c.lot-name.ensures i, c.add-id.result) ∷ []) c.push-place.result (length (c.in_ok-reserve-2.ensures.list i))) in
+    record {
+      forest = IsForest-added (record { slots = c.reserve.new.self.slots; marking = c.self.inside.marking; roots = c.self.inside.roots.list; marked_roots = c.self.inside.roots.former; mode = c.self.inside.mode }) _ c.add-id.result c.args.node c.add-id.ensures.vacant c.add-id.ensures.here (λ k n. c.add-id.ensures.others k n) c.requires.top refl
+          (IsPermutation-swap _ _ c.push-place.result (length c.self.inside.roots.list) (omega (arith, low, long)) (omega (arith, long)) is)
+          (subst AreApart (sym c.settle_unless.ensures.list) c.push-place.ensures.apart)
+          (c.settle_unless.ensures.former ∙ (λ i. if c.self.inside.marking then (c.push-place.ensures.former ∙ c.in_ok-reserve-2.ensures.former) i else sym c.settle_unless.ensures.list i))
+          (subst (λ (xs : List (Option Entry)). IsForest (record { slots = xs; marking = c.self.inside.marking; roots = c.self.inside.roots.list; marked_roots = c.self.inside.roots.former; mode = c.self.inside.mode })) (sym c.in_ok-reserve.ensures.slots) c.self.invariant.forest);
+      covered =
+          covered_added (node_at (record { slots = c.self.inside.store.slots; marking = c.self.inside.marking; roots = c.self.inside.roots.list; marked_roots = c.self.inside.roots.former; mode = c.self.inside.mode })) c.self.inside.roots.list _ (hulls_at (record { slots = c.self.inside.store.slots; marking = c.self.inside.marking; roots = c.self.inside.roots.list; marked_roots = c.self.inside.roots.former; mode = c.self.inside.mode })) _ c.self.inside.blocks.hulls.items c.make_room.new.self.hulls.items c.cover_place.new.blocks.hulls.items c.cover_place-2.new.blocks.hulls.items c.args.node.shape.lot c.add-id.result c.push-place.result
+          c.self.invariant.forest.tops (ap (λ (xs : List (Option Entry)). present_of (slot xs c.add-id.result)) (sym c.in_ok-reserve.ensures.slots) ∙ ap present_of c.add-id.ensures.vacant)
+          (λ k n. ap hulls_of (c.add-id.ensures.others k n) ∙ ap (λ (xs : List (Option Entry)). hulls_of (slot xs k)) c.in_ok-reserve.ensures.slots)
+          (λ i h lt e. c.make_room.ensures i h (let n = c.len-last.ensures in omega (arith, lt, n)) e) c.cover_place.ensures.kept c.cover_place-2.ensures.kept low is
+          c.cover_place.ensures.here (rw (← c.len-last.ensures) c.cover_place-2.ensures.here) c.self.invariant.covered;
+    }
 
 pub returns-clause-numbers : goal.returns-clause-numbers
 returns-clause-numbers c on k =
