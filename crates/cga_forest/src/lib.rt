@@ -250,7 +250,7 @@ impl Forest {
     }
 
     /// Drops the mark, and what was set aside since: from now on the numbers of those nodes may be given out again. The
-    /// time goes by what went or came since the mark.
+    /// time goes by what went or came since the mark, and by the roots between those whose hulls changed.
     pub fn settle(&mut self)
         requires marked { self.old.marking ≡ true }
         ensures marking { self.new.marking ≡ false }
@@ -265,7 +265,7 @@ impl Forest {
     }
 
     /// Makes the nodes those of the mark again, with their ids, and drops it: from now on the numbers of those that came
-    /// since may be given out again. The time goes by what changed since the mark.
+    /// since may be given out again. The time goes by what changed since the mark, and by the roots.
     pub fn roll_back(&mut self)
         requires marked { self.old.marking ≡ true }
         ensures marking { self.new.marking ≡ false }
