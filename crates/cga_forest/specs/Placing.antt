@@ -15,6 +15,7 @@ use Rattle.cga_shape.specs.declared.emitted.Emitted.{Emitted}
 use Rattle.cga_shape.specs.declared.emitted.Emitted.TheVariants.{Child, Solid}
 use Rattle.cga_shape.specs.declared.shape.Shape.{Shape}
 use Rattle.cga_shape.specs.declared.shape_fault.ShapeFault.{ShapeFault}
+use Rattle.cga_forest.specs.declared.last_setting.LastSetting.{LastSetting}
 use Rattle.cga_forest.specs.declared.node.Node.{Node}
 use Rattle.cga_forest.specs.declared.node.State.{State}
 use Rattle.cga_forest.specs.declared.setting.Setting.{Setting}
@@ -31,6 +32,10 @@ setting_for (Some g) = group_setting g
 -- those of a symbol's group
 unfoldable pub setting : Grammar → List ℕ → Setting
 setting g symbol = setting_for (group g symbol)
+
+-- what is kept of a symbol is what the grammar says
+abbrev pub IsSaid : Grammar → LastSetting → Type 0
+IsSaid g last = last.setting ≡ setting g last.symbol
 
 abbrev pub unasked : Answers
 unasked = record { noparent = None; active = None }

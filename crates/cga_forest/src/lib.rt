@@ -13,6 +13,7 @@ mod entry;
 mod holds;
 mod hull_tree;
 mod hulls;
+mod last_setting;
 mod listing;
 mod lots;
 mod moved;

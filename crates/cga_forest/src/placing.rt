@@ -1,8 +1,9 @@
 //! The nodes that a grammar places: the root of a lot, and the children of an expansion.
 ghost use Rattle.std.specs.Prelude.{◌≡◌, ◌≤◌, ◌++◌, [], ◌∷◌, length, IfOk, IsOk};
 ghost use Rattle.cga_shape.specs.Root.{root_scope};
-ghost use Rattle.cga_forest.specs.Placing.{IsRootNode, child_asks, child_kind, child_node, child_shape, children_after, children_from, emitted, kind_after, unasked};
+ghost use Rattle.cga_forest.specs.Placing.{IsRootNode, IsSaid, child_asks, child_kind, child_node, child_shape, children_after, children_from, emitted, kind_after, unasked};
 
+use crate::last_setting::LastSetting;
 use crate::node::Node;
 use crate::setting::{Setting, setting_of};
 use cga_fraction::{Fraction, List, NoMemory};
@@ -40,7 +41,8 @@ pub fn root_node(alloc: Global, lot: &Lot, grammar: &Grammar) -> Result<Node, No
 fn extended(alloc: Global, numbers: &[u16], last: u16) -> Result<List<u16>, NoMemory>
     ensures { IfOk result (λ made. made ≡ numbers.now ++ last ∷ []) }
 {
-    let mut all = Vec::from_slice(alloc, numbers)?;
+    let mut all = Vec::with_capacity(alloc, numbers.len() + 1)?;
+    all.extend_from_slice(numbers)?;
     all.push(last)?;
     Ok(List::from_vec(all))
 }
@@ -80,9 +82,18 @@ fn children(
     requires few { length emitted.now ≤ 4096 }
     ensures { IfOk result (λ made. made.items ≡ children_from grammar.now parent.now 0 emitted.now) }
 {
-    let mut made = Vec::new(alloc);
+    let mut made = Vec::with_capacity(alloc, emitted.len())?;
+    let mut last = LastSetting::of(grammar, parent.shape.symbol);
     for index in 0..emitted.len() {
-        made.push(child(alloc, parent, index as u16, &emitted[index], grammar)?)?;
+        let new = child(
+            alloc,
+            parent,
+            index as u16,
+            &emitted[index],
+            grammar,
+            &mut last,
+        )?;
+        made.push(new)?;
     }
     Ok(made)
 }
@@ -93,11 +104,14 @@ fn child(
     index: u16,
     emitted: &Emitted,
     grammar: &Grammar,
+    last: &mut LastSetting,
 ) -> Result<Node, NoMemory>
-    ensures { IfOk result (λ made. made ≡ child_node grammar.now parent.now index emitted.now) }
+    requires { IsSaid grammar.now last.old }
+    ensures made { IfOk result (λ made. made ≡ child_node grammar.now parent.now index emitted.now) }
+    ensures said { IsSaid grammar.now last.new }
 {
     let shape = child_shape(alloc, parent, index, emitted)?;
-    let setting = setting_of(grammar, shape.symbol);
+    let setting = last.next(grammar, shape.symbol);
     let line = extended(alloc, parent.line.as_slice(), setting.priority)?;
     Ok(Node {
         shape,
