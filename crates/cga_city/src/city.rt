@@ -170,13 +170,13 @@ impl City {
         }
         let (alloc, mode) = (self.alloc, self.sources.mode);
         let empty = empty_sources(alloc, mode);
-        let mut forest = Forest::new(alloc, mode);
-        let mut dependents = Dependents::new(alloc);
         let mut changes = no_changes(alloc);
+        self.forest = Forest::new(alloc, mode);
+        self.dependents = Dependents::new(alloc);
         match update(
             alloc,
-            &mut forest,
-            &mut dependents,
+            &mut self.forest,
+            &mut self.dependents,
             &empty,
             &self.sources,
             self.budget,
@@ -185,8 +185,6 @@ impl City {
             tests,
         ) {
             Ok(_) => {
-                self.forest = forest;
-                self.dependents = dependents;
                 self.warm = true;
                 Ok(())
             }
