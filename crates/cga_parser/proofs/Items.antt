@@ -34,6 +34,7 @@ use Rattle.cga_form.specs.Reader.{Reader, ◌>>=◌, ◌>>◌, pure, refuse, sin
 use Rattle.cga_form.specs.Tokens.{passing, a_sign, is_sign, is_keyword, unless, whole_of}
 use Rattle.cga_form.specs.Words.{item_head, item_keyword, a_relative, is_relative, turn_of, turned_by, a_turn, ninety_by, a_ninety, axis_of, an_axis, solid_of, a_solid, side_of, a_side, selector_of, a_selector}
 use Rattle.cga_parser.specs.Grammar as g
+use Rattle.cga_parser.proofs.Threes.{threes_are}
 use Rattle.cga_form.specs.declared.heads.ItemHead.{ItemHead}
 use Rattle.cga_form.specs.declared.heads.ItemHead.TheVariants as head
 use Rattle.cga_form.specs.declared.heads.SelectorHead.{SelectorHead}
@@ -258,8 +259,10 @@ abbrev pub triple : {A : Type 0} → (A → Pieces) → A × A × A → Pieces
 triple w p = three (w p.0) (w p.1) (w p.2)
 
 triple_rest : {A : Type 0} {w : A → Pieces} (m : ℕ) (p : Reader A) → Reads m m w p →
-    Goes m (suc m) round (triple w) (p >>= λ x. g.sign s.Comma >> (p >>= λ y. g.sign s.Comma >> (p >>= λ z. g.sign s.RightRound >> pure (x, y, z))))
-triple_rest m p h = next h (λ x. next (comma m) (λ _. next h (λ y. next (comma m) (λ _. next h (λ z. next (close m) (λ _. done (simp append_assoc)))))))
+    Goes m (suc m) round (triple w) (g.in_threes p)
+triple_rest {w = w} m p h =
+    subst (Goes m (suc m) round (triple w)) (threes_are p)
+    (next h (λ x. next (comma m) (λ _. next h (λ y. next (comma m) (λ _. next h (λ z. next (close m) (λ _. done (simp append_assoc))))))))
 
 pub move_reads : (n : ℕ) (inside : Reader Expr) → IsInside n inside → Reads n n (triple expr_pieces) (g.move_parts n inside)
 unfolding g.move_parts

@@ -28,6 +28,7 @@ use Rattle.cga_form.specs.Reader.{Reader, at, ◌>>=◌, ◌>>◌, pure, refuse,
 use Rattle.cga_form.specs.Tokens.{a_sign, a_keyword, is_sign, is_keyword, unless, a_whole}
 use Rattle.cga_form.specs.Words.{item_head, a_relative, is_relative, a_turn, a_ninety, an_axis, a_solid, a_side, a_selector}
 use Rattle.cga_parser.specs.Grammar as g
+use Rattle.cga_parser.proofs.Threes.{threes_are}
 use Rattle.cga_form.specs.declared.heads.ItemHead.TheVariants as head
 use Rattle.cga_form.specs.declared.heads.SelectorHead.TheVariants as choice
 use Rattle.cga_form.proofs.Written.{nil_right, piece_of, plain_written}
@@ -229,10 +230,11 @@ module _ (n : ℕ) (inside : Reader Expr) (h : AgainInside n inside) (r : IsInsi
   size_again m e = record { all = λ a. size_at a m e }
 
   triple_again : {A : Type 0} {w : A → Pieces} (p : Reader A) (again : Again w goes_on p) (t : A × A × A) →
-      Leads nothing (w t.0 ++ (sign s.Comma ∷ (w t.1 ++ (sign s.Comma ∷ (w t.2 ++ (sign s.RightRound ∷ [])))))) (p >>= λ x. g.sign s.Comma >> (p >>= λ y. g.sign s.Comma >> (p >>= λ z. g.sign s.RightRound >> pure (x, y, z)))) t
-  triple_again p again t =
-      after _ t.0 again (missed (begun_token refl)) (took (a_sign s.Comma) tt refl (after _ t.1 again (missed (begun_token refl)) (took (a_sign s.Comma) tt refl
-      (after _ t.2 again (missed (begun_token refl)) (took (a_sign s.RightRound) tt refl ends)))))
+      Leads nothing (w t.0 ++ (sign s.Comma ∷ (w t.1 ++ (sign s.Comma ∷ (w t.2 ++ (sign s.RightRound ∷ [])))))) (g.in_threes p) t
+  triple_again {w = w} p again t =
+      subst (λ r. Leads nothing (w t.0 ++ (sign s.Comma ∷ (w t.1 ++ (sign s.Comma ∷ (w t.2 ++ (sign s.RightRound ∷ [])))))) r t) (threes_are p)
+      (after _ t.0 again (missed (begun_token refl)) (took (a_sign s.Comma) tt refl (after _ t.1 again (missed (begun_token refl)) (took (a_sign s.Comma) tt refl
+      (after _ t.2 again (missed (begun_token refl)) (took (a_sign s.RightRound) tt refl ends))))))
 
   move_again : Again (triple expr_pieces) nothing (g.move_parts n inside)
   unfolding g.move_parts

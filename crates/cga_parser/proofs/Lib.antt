@@ -4,6 +4,7 @@ pub mod ExprsAgain
 pub mod Lists
 pub mod Conds
 pub mod CondsAgain
+pub mod Threes
 pub mod Items
 pub mod ItemsAgain
 pub mod Rules

@@ -173,6 +173,18 @@ items_by p = p >>= λ a. many begins_item p >>= λ more. pure (a ∷ more)
 abbrev pub body_by : Reader Item → Reader (List Item)
 body_by p = peeked (is_keyword k.Nil) (single (a_keyword k.Nil) >> pure []) (items_by p)
 
+-- the last of three, and the bracket behind it
+unfoldable pub last_of : {A : Type 0} → Reader A → Reader A
+last_of p = sign s.Comma >> (p >>= λ z. sign s.RightRound >> pure z)
+
+-- the last two of three
+unfoldable pub last_two : {A : Type 0} → Reader A → Reader (A × A)
+last_two p = sign s.Comma >> (p >>= λ y. last_of p >>= λ z. pure (y, z))
+
+-- three with commas between them, and the bracket behind them
+abbrev pub in_threes : {A : Type 0} → Reader A → Reader (A × A × A)
+in_threes p = p >>= λ x. last_two p >>= λ rest. pure (x, rest.0, rest.1)
+
 abbrev pub selector_rest : SelectorHead → Reader Selector
 selector_rest selector_head.Faces = pure chosen.Faces
 selector_rest selector_head.Sidefaces = pure chosen.Sidefaces
@@ -196,10 +208,10 @@ module _ (n : ℕ) (inside : Reader Expr) where
   size = peeked is_relative (single a_relative >>= λ r. pure (size_of.Relative r)) (inside >>= λ e. pure (size_of.Absolute e))
 
   unfoldable pub move_parts : Reader (Expr × Expr × Expr)
-  move_parts = enter (a_sign s.LeftRound) n >> (inside >>= λ x. sign s.Comma >> (inside >>= λ y. sign s.Comma >> (inside >>= λ z. sign s.RightRound >> pure (x, y, z))))
+  move_parts = enter (a_sign s.LeftRound) n >> in_threes inside
 
   unfoldable pub resize_parts : Reader (Size × Size × Size)
-  resize_parts = enter (a_sign s.LeftRound) n >> (size >>= λ x. sign s.Comma >> (size >>= λ y. sign s.Comma >> (size >>= λ z. sign s.RightRound >> pure (x, y, z))))
+  resize_parts = enter (a_sign s.LeftRound) n >> in_threes size
 
   unfoldable pub turn_part : Reader Turn
   turn_part = enter (a_sign s.LeftRound) n >> (quarter_turn >>= λ a. sign s.RightRound >> pure a)

@@ -39,6 +39,32 @@ fn size(alloc: Global, tokens: &mut Tokens<'_>, depth: u8) -> Result<Size, Stop<
     Ok(Size::Absolute(inside(alloc, tokens, depth)?))
 }
 
+#[tactic(auto, unfolding(crate::specs::Grammar::last_of))]
+fn last_expr(alloc: Global, tokens: &mut Tokens<'_>, depth: u8) -> Result<Expr, Stop<Fault>>
+    requires { 0 < depth }
+    ensures { Reads (spec.last_of (spec.inside_of depth) (input_of tokens.old)) result (input_of tokens.new) }
+{
+    tokens.sign(Sign::Comma)?;
+    let last = inside(alloc, tokens, depth)?;
+    tokens.sign(Sign::RightRound)?;
+    Ok(last)
+}
+
+#[tactic(auto, unfolding(crate::specs::Grammar::last_two))]
+fn last_exprs(
+    alloc: Global,
+    tokens: &mut Tokens<'_>,
+    depth: u8,
+) -> Result<(Expr, Expr), Stop<Fault>>
+    requires { 0 < depth }
+    ensures { Reads (spec.last_two (spec.inside_of depth) (input_of tokens.old)) result (input_of tokens.new) }
+{
+    tokens.sign(Sign::Comma)?;
+    let second = inside(alloc, tokens, depth)?;
+    let last = last_expr(alloc, tokens, depth)?;
+    Ok((second, last))
+}
+
 #[tactic(auto, unfolding(crate::specs::Grammar::move_parts))]
 pub(crate) fn move_parts(
     alloc: Global,
@@ -49,12 +75,34 @@ pub(crate) fn move_parts(
 {
     tokens.enter(Sign::LeftRound, depth)?;
     let x = inside(alloc, tokens, depth)?;
-    tokens.sign(Sign::Comma)?;
-    let y = inside(alloc, tokens, depth)?;
-    tokens.sign(Sign::Comma)?;
-    let z = inside(alloc, tokens, depth)?;
-    tokens.sign(Sign::RightRound)?;
+    let (y, z) = last_exprs(alloc, tokens, depth)?;
     Ok((x, y, z))
+}
+
+#[tactic(auto, unfolding(crate::specs::Grammar::last_of))]
+fn last_size(alloc: Global, tokens: &mut Tokens<'_>, depth: u8) -> Result<Size, Stop<Fault>>
+    requires { 0 < depth }
+    ensures { Reads (spec.last_of (spec.size depth (spec.inside_of depth)) (input_of tokens.old)) result (input_of tokens.new) }
+{
+    tokens.sign(Sign::Comma)?;
+    let last = size(alloc, tokens, depth)?;
+    tokens.sign(Sign::RightRound)?;
+    Ok(last)
+}
+
+#[tactic(auto, unfolding(crate::specs::Grammar::last_two))]
+fn last_sizes(
+    alloc: Global,
+    tokens: &mut Tokens<'_>,
+    depth: u8,
+) -> Result<(Size, Size), Stop<Fault>>
+    requires { 0 < depth }
+    ensures { Reads (spec.last_two (spec.size depth (spec.inside_of depth)) (input_of tokens.old)) result (input_of tokens.new) }
+{
+    tokens.sign(Sign::Comma)?;
+    let second = size(alloc, tokens, depth)?;
+    let last = last_size(alloc, tokens, depth)?;
+    Ok((second, last))
 }
 
 #[tactic(auto, unfolding(crate::specs::Grammar::resize_parts))]
@@ -67,11 +115,7 @@ pub(crate) fn resize_parts(
 {
     tokens.enter(Sign::LeftRound, depth)?;
     let x = size(alloc, tokens, depth)?;
-    tokens.sign(Sign::Comma)?;
-    let y = size(alloc, tokens, depth)?;
-    tokens.sign(Sign::Comma)?;
-    let z = size(alloc, tokens, depth)?;
-    tokens.sign(Sign::RightRound)?;
+    let (y, z) = last_sizes(alloc, tokens, depth)?;
     Ok((x, y, z))
 }
 
