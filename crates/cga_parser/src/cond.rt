@@ -5,7 +5,7 @@ ghost use Rattle.cga_parser.specs.Grammar as spec;
 ghost use Rattle.cga_form.specs.Tokens.{is_keyword};
 
 use crate::expr::{all_added, all_scaled, expr};
-use crate::first::with_first;
+use crate::first::{fitted, with_first};
 use cga_form::fault::Fault;
 use cga_form::heads::ScopeWord;
 use cga_form::tokens::Tokens;
@@ -62,9 +62,9 @@ fn size_rest(
     };
     let first = Term {
         first: factor,
-        rest: all_scaled(alloc, tokens, depth)?,
+        rest: fitted(all_scaled(alloc, tokens, depth)?),
     };
-    let rest = all_added(alloc, tokens, depth)?;
+    let rest = fitted(all_added(alloc, tokens, depth)?);
     compare_after(alloc, tokens, depth, Expr { first, rest })
 }
 

@@ -3,6 +3,7 @@ ghost use Rattle.cga_form.specs.Cursor.{input_of, Reads};
 ghost use Rattle.cga_form.specs.Reader.{begins, many};
 ghost use Rattle.cga_parser.specs.Grammar as spec;
 
+use crate::first::fitted;
 use cga_form::fault::Fault;
 use cga_form::heads::PrimaryHead;
 use cga_form::tokens::Tokens;
@@ -173,7 +174,7 @@ fn term(alloc: Global, tokens: &mut Tokens<'_>, depth: u8) -> Result<Term, Stop<
     ensures { Reads (spec.term depth (spec.inside_of depth) (input_of tokens.old)) result (input_of tokens.new) }
 {
     let first = factor(alloc, tokens, depth)?;
-    let rest = all_scaled(alloc, tokens, depth)?;
+    let rest = fitted(all_scaled(alloc, tokens, depth)?);
     Ok(Term { first, rest })
 }
 
@@ -210,6 +211,6 @@ pub(crate) fn expr(alloc: Global, tokens: &mut Tokens<'_>, depth: u8) -> Result<
     ensures { Reads (spec.expr depth (input_of tokens.old)) result (input_of tokens.new) }
 {
     let first = term(alloc, tokens, depth)?;
-    let rest = all_added(alloc, tokens, depth)?;
+    let rest = fitted(all_added(alloc, tokens, depth)?);
     Ok(Expr { first, rest })
 }

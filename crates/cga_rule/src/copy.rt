@@ -2,4 +2,5 @@
 pub(crate) mod cond;
 pub(crate) mod expr;
 pub(crate) mod item;
+mod room;
 pub(crate) mod rule;

@@ -2,14 +2,15 @@ ghost use Rattle.std.specs.Prelude.{◌≡◌, IfOk};
 
 use crate::cond::{Cond, Conj, Test};
 use crate::copy::expr::copy_expr;
-use cga_fraction::{List, NoMemory};
+use crate::copy::room::with_room;
+use cga_fraction::NoMemory;
 use std::alloc::Global;
 
 #[cycle(copy)]
 pub(crate) fn copy_cond(alloc: Global, cond: &Cond) -> Result<Cond, NoMemory>
     ensures { IfOk result (λ copy. copy ≡ cond.now) }
 {
-    let mut conjs = List::new(alloc);
+    let mut conjs = with_room(alloc, cond.conjs.len())?;
     for conj in cond.conjs.as_slice() {
         conjs.push(copy_conj(alloc, conj)?)?;
     }
@@ -20,7 +21,7 @@ pub(crate) fn copy_cond(alloc: Global, cond: &Cond) -> Result<Cond, NoMemory>
 fn copy_conj(alloc: Global, conj: &Conj) -> Result<Conj, NoMemory>
     ensures { IfOk result (λ copy. copy ≡ conj.now) }
 {
-    let mut tests = List::new(alloc);
+    let mut tests = with_room(alloc, conj.tests.len())?;
     for test in conj.tests.as_slice() {
         tests.push(copy_test(alloc, test)?)?;
     }

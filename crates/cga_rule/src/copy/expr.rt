@@ -1,7 +1,8 @@
 ghost use Rattle.std.specs.Prelude.{◌≡◌, IfOk};
 
+use crate::copy::room::with_room;
 use crate::expr::{Added, Expr, Factor, Primary, Scaled, Term};
-use cga_fraction::{Boxed, List, NoMemory};
+use cga_fraction::{Boxed, NoMemory};
 use std::alloc::Global;
 
 #[cycle(copy)]
@@ -9,7 +10,7 @@ pub(crate) fn copy_expr(alloc: Global, expr: &Expr) -> Result<Expr, NoMemory>
     ensures { IfOk result (λ copy. copy ≡ expr.now) }
 {
     let first = copy_term(alloc, &expr.first)?;
-    let mut rest = List::new(alloc);
+    let mut rest = with_room(alloc, expr.rest.len())?;
     for more in expr.rest.as_slice() {
         let term = copy_term(alloc, &more.term)?;
         rest.push(Added {
@@ -25,7 +26,7 @@ fn copy_term(alloc: Global, term: &Term) -> Result<Term, NoMemory>
     ensures { IfOk result (λ copy. copy ≡ term.now) }
 {
     let first = copy_factor(alloc, &term.first)?;
-    let mut rest = List::new(alloc);
+    let mut rest = with_room(alloc, term.rest.len())?;
     for more in term.rest.as_slice() {
         let factor = copy_factor(alloc, &more.factor)?;
         rest.push(Scaled {

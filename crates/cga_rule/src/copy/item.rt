@@ -1,6 +1,7 @@
 ghost use Rattle.std.specs.Prelude.{◌≡◌, IfOk};
 
 use crate::copy::expr::copy_expr;
+use crate::copy::room::with_room;
 use crate::expr::Expr;
 use crate::item::{Body, Item, Size};
 use cga_fraction::{List, NoMemory};
@@ -10,7 +11,7 @@ use std::alloc::Global;
 pub(crate) fn copy_items(alloc: Global, items: &[Item]) -> Result<List<Item>, NoMemory>
     ensures { IfOk result (λ copy. copy ≡ items.now) }
 {
-    let mut copy = List::new(alloc);
+    let mut copy = with_room(alloc, items.len())?;
     for item in items {
         copy.push(copy_item(alloc, item)?)?;
     }
@@ -21,7 +22,7 @@ pub(crate) fn copy_items(alloc: Global, items: &[Item]) -> Result<List<Item>, No
 fn copy_bodies(alloc: Global, bodies: &[Body]) -> Result<List<Body>, NoMemory>
     ensures { IfOk result (λ copy. copy ≡ bodies.now) }
 {
-    let mut copy = List::new(alloc);
+    let mut copy = with_room(alloc, bodies.len())?;
     for body in bodies {
         copy.push(copy_body(alloc, body)?)?;
     }
@@ -118,7 +119,7 @@ fn copy_size(alloc: Global, size: &Size) -> Result<Size, NoMemory>
 fn copy_sizes(alloc: Global, sizes: &[Size]) -> Result<List<Size>, NoMemory>
     ensures { IfOk result (λ copy. copy ≡ sizes.now) }
 {
-    let mut copy = List::new(alloc);
+    let mut copy = with_room(alloc, sizes.len())?;
     for size in sizes {
         copy.push(copy_size(alloc, size)?)?;
     }
@@ -128,7 +129,7 @@ fn copy_sizes(alloc: Global, sizes: &[Size]) -> Result<List<Size>, NoMemory>
 fn copy_exprs(alloc: Global, exprs: &[Expr]) -> Result<List<Expr>, NoMemory>
     ensures { IfOk result (λ copy. copy ≡ exprs.now) }
 {
-    let mut copy = List::new(alloc);
+    let mut copy = with_room(alloc, exprs.len())?;
     for expr in exprs {
         copy.push(copy_expr(alloc, expr)?)?;
     }

@@ -3,6 +3,7 @@ ghost use Rattle.std.specs.Prelude.{◌≡◌, IfOk};
 use crate::cond::Cond;
 use crate::copy::cond::copy_cond;
 use crate::copy::item::copy_items;
+use crate::copy::room::with_room;
 use crate::grammar::Entry;
 use crate::rule::{Alternative, Rule};
 use cga_fraction::{List, NoMemory};
@@ -38,7 +39,7 @@ fn copy_alternatives(
 ) -> Result<List<Alternative>, NoMemory>
     ensures { IfOk result (λ copy. copy ≡ alternatives.now) }
 {
-    let mut copy = List::new(alloc);
+    let mut copy = with_room(alloc, alternatives.len())?;
     for alternative in alternatives {
         let items = copy_items(alloc, alternative.items.as_slice())?;
         copy.push(Alternative {
@@ -52,7 +53,7 @@ fn copy_alternatives(
 pub(crate) fn copy_entries(alloc: Global, entries: &[Entry]) -> Result<List<Entry>, NoMemory>
     ensures { IfOk result (λ copy. copy ≡ entries.now) }
 {
-    let mut copy = List::new(alloc);
+    let mut copy = with_room(alloc, entries.len())?;
     for entry in entries {
         let rule = copy_rule(alloc, &entry.rule)?;
         copy.push(Entry {
