@@ -133,8 +133,8 @@ fn braced_bodies(
     tokens.enter(Sign::LeftCurly, depth)?;
     let items = inner_body(alloc, tokens, depth)?;
     let rest = further_bodies(alloc, tokens, depth)?;
-    tokens.sign(Sign::RightCurly)?;
     let bodies = with_first(Body { items }, rest)?;
+    tokens.sign(Sign::RightCurly)?;
     Ok(bodies)
 }
 

@@ -195,8 +195,8 @@ pub(crate) fn split_parts(
     let axis = tokens.take(texts::axis(tokens.peek()))?;
     let first = further_size(alloc, tokens, depth)?;
     let rest = further_sizes(alloc, tokens, depth)?;
-    tokens.sign(Sign::RightRound)?;
     let sizes = with_first(first, rest)?;
+    tokens.sign(Sign::RightRound)?;
     Ok((axis, sizes))
 }
 
@@ -299,8 +299,8 @@ fn some_arguments(
     tokens.enter(Sign::LeftRound, depth)?;
     let first = inside(alloc, tokens, depth)?;
     let rest = further_arguments(alloc, tokens, depth)?;
-    tokens.sign(Sign::RightRound)?;
     let arguments = with_first(first, rest)?;
+    tokens.sign(Sign::RightRound)?;
     Ok(arguments)
 }
 

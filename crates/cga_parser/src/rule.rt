@@ -53,8 +53,8 @@ fn some_parameters(
     tokens.enter(Sign::LeftRound, depth)?;
     let first = tokens.take(words::name(tokens.peek()))?;
     let rest = further_names(alloc, tokens)?;
-    tokens.sign(Sign::RightRound)?;
     let names = with_first(first, rest)?;
+    tokens.sign(Sign::RightRound)?;
     Ok(names)
 }
 
