@@ -57,6 +57,27 @@ fn run_and_tell<S: Source, K: Sink, E: Ledger, T: Ledger>(
     }
 }
 
+// The same with a session of its own.
+fn told_of<S: Source, K: Sink, E: Ledger, T: Ledger>(
+    alloc: Global,
+    decimals: Decimals,
+    script: &mut S,
+    out: &mut K,
+    expansions: &mut Steps<E>,
+    tests: &mut Steps<T>,
+) -> Status
+    ensures told { result ≡ Status.Done → IfSome (S.left script.old) (λ bytes. (text : List ℕ)
+        × IsToldOf decimals bytes text
+        × Appends (K.held out.old) (K.held out.new) (output_of decimals bytes ++ text)) }
+    ensures used { result ≢ Status.Usage }
+{
+    let mut session = match new_session(alloc, decimals) {
+        Ok(session) => session,
+        Err(NoMemory) => return Status::NoMemory,
+    };
+    run_and_tell(&mut session, script, out, expansions, tests)
+}
+
 /// Replies to a script as `run_city` does without words, and behind all replies writes for each lot the least box that
 /// holds the boxes of all its shapes, drawn or not, as exact numbers. Only Done says that all was written. Takes memory.
 pub fn run_with_hulls<S: Source, K: Sink, E: Ledger, T: Ledger>(
@@ -71,9 +92,5 @@ pub fn run_with_hulls<S: Source, K: Sink, E: Ledger, T: Ledger>(
         × Appends (K.held out.old) (K.held out.new) (output_of usual bytes ++ text)) }
     ensures used { result ≢ Status.Usage }
 {
-    let mut session = match new_session(alloc, Decimals::new(6)) {
-        Ok(session) => session,
-        Err(NoMemory) => return Status::NoMemory,
-    };
-    run_and_tell(&mut session, script, out, expansions, tests)
+    told_of(alloc, Decimals::new(6), script, out, expansions, tests)
 }
