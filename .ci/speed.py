@@ -1,6 +1,7 @@
 #!/usr/bin/env python3
 """Times programs on scripts of one kind of work each: the least user time of three runs, and the most memory.
-A program reads a script on standard input. Of work that is repeated in one script, the time of one is told.
+A program reads a script on standard input. Of work that is repeated in one script, the time of one is told. Memory of
+less than some 24 MB is told as that, which this script itself takes.
 usage: .ci/speed.py PROGRAM [PROGRAM ..]"""
 import os
 import subprocess
