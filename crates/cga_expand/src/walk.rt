@@ -159,11 +159,11 @@ fn walk_item(
     let before = state.scope;
     match item {
         Item::Move(x, y, z) => {
-            state.scope = moved(x, y, z, names, &before)?;
+            state.scope = moved(x.get(), y.get(), z.get(), names, &before)?;
             Ok(())
         }
         Item::Resize(x, y, z) => {
-            state.scope = resized(x, y, z, names, &before)?;
+            state.scope = resized(x.get(), y.get(), z.get(), names, &before)?;
             Ok(())
         }
         Item::Rotate { axis, by } => {
@@ -182,7 +182,12 @@ fn walk_item(
             bodies,
         } => walk_subdiv(alloc, bodies, *axis, sizes, names, state),
         Item::Repeat { axis, length, body } => walk_repeat(
-            alloc, body, *axis, length, names, state,
+            alloc,
+            body,
+            *axis,
+            length.get(),
+            names,
+            state,
         ),
         Item::Comp { selector, body } => walk_comp(alloc, body, *selector, names, state),
         Item::Child { symbol, args } => grow(alloc, state, *symbol, args, names),

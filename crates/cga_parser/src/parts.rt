@@ -14,7 +14,7 @@ use cga_form::fault::Fault;
 use cga_form::heads::SelectorHead;
 use cga_form::tokens::Tokens;
 use cga_form::{numbers, texts};
-use cga_fraction::{List, Stop};
+use cga_fraction::{Boxed, List, Stop};
 use cga_lexer::Sign;
 use cga_syntax::limits::MOST_FURTHER;
 use cga_syntax::{Expr, Size};
@@ -40,12 +40,12 @@ fn size(alloc: Global, tokens: &mut Tokens<'_>, depth: u8) -> Result<Size, Stop<
 }
 
 #[tactic(auto, unfolding(crate::specs::Grammar::last_of))]
-fn last_expr(alloc: Global, tokens: &mut Tokens<'_>, depth: u8) -> Result<Expr, Stop<Fault>>
+fn last_expr(alloc: Global, tokens: &mut Tokens<'_>, depth: u8) -> Result<Boxed<Expr>, Stop<Fault>>
     requires { 0 < depth }
     ensures { Reads (spec.last_of (spec.inside_of depth) (input_of tokens.old)) result (input_of tokens.new) }
 {
     tokens.sign(Sign::Comma)?;
-    let last = inside(alloc, tokens, depth)?;
+    let last = Boxed::new(alloc, inside(alloc, tokens, depth)?)?;
     tokens.sign(Sign::RightRound)?;
     Ok(last)
 }
@@ -55,12 +55,12 @@ fn last_exprs(
     alloc: Global,
     tokens: &mut Tokens<'_>,
     depth: u8,
-) -> Result<(Expr, Expr), Stop<Fault>>
+) -> Result<(Boxed<Expr>, Boxed<Expr>), Stop<Fault>>
     requires { 0 < depth }
     ensures { Reads (spec.last_two (spec.inside_of depth) (input_of tokens.old)) result (input_of tokens.new) }
 {
     tokens.sign(Sign::Comma)?;
-    let second = inside(alloc, tokens, depth)?;
+    let second = Boxed::new(alloc, inside(alloc, tokens, depth)?)?;
     let last = last_expr(alloc, tokens, depth)?;
     Ok((second, last))
 }
@@ -70,22 +70,22 @@ pub(crate) fn move_parts(
     alloc: Global,
     tokens: &mut Tokens<'_>,
     depth: u8,
-) -> Result<(Expr, Expr, Expr), Stop<Fault>>
+) -> Result<(Boxed<Expr>, Boxed<Expr>, Boxed<Expr>), Stop<Fault>>
     ensures { Reads (spec.move_parts depth (spec.inside_of depth) (input_of tokens.old)) result (input_of tokens.new) }
 {
     tokens.enter(Sign::LeftRound, depth)?;
-    let x = inside(alloc, tokens, depth)?;
+    let x = Boxed::new(alloc, inside(alloc, tokens, depth)?)?;
     let (y, z) = last_exprs(alloc, tokens, depth)?;
     Ok((x, y, z))
 }
 
 #[tactic(auto, unfolding(crate::specs::Grammar::last_of))]
-fn last_size(alloc: Global, tokens: &mut Tokens<'_>, depth: u8) -> Result<Size, Stop<Fault>>
+fn last_size(alloc: Global, tokens: &mut Tokens<'_>, depth: u8) -> Result<Boxed<Size>, Stop<Fault>>
     requires { 0 < depth }
     ensures { Reads (spec.last_of (spec.size depth (spec.inside_of depth)) (input_of tokens.old)) result (input_of tokens.new) }
 {
     tokens.sign(Sign::Comma)?;
-    let last = size(alloc, tokens, depth)?;
+    let last = Boxed::new(alloc, size(alloc, tokens, depth)?)?;
     tokens.sign(Sign::RightRound)?;
     Ok(last)
 }
@@ -95,12 +95,12 @@ fn last_sizes(
     alloc: Global,
     tokens: &mut Tokens<'_>,
     depth: u8,
-) -> Result<(Size, Size), Stop<Fault>>
+) -> Result<(Boxed<Size>, Boxed<Size>), Stop<Fault>>
     requires { 0 < depth }
     ensures { Reads (spec.last_two (spec.size depth (spec.inside_of depth)) (input_of tokens.old)) result (input_of tokens.new) }
 {
     tokens.sign(Sign::Comma)?;
-    let second = size(alloc, tokens, depth)?;
+    let second = Boxed::new(alloc, size(alloc, tokens, depth)?)?;
     let last = last_size(alloc, tokens, depth)?;
     Ok((second, last))
 }
@@ -110,11 +110,11 @@ pub(crate) fn resize_parts(
     alloc: Global,
     tokens: &mut Tokens<'_>,
     depth: u8,
-) -> Result<(Size, Size, Size), Stop<Fault>>
+) -> Result<(Boxed<Size>, Boxed<Size>, Boxed<Size>), Stop<Fault>>
     ensures { Reads (spec.resize_parts depth (spec.inside_of depth) (input_of tokens.old)) result (input_of tokens.new) }
 {
     tokens.enter(Sign::LeftRound, depth)?;
-    let x = size(alloc, tokens, depth)?;
+    let x = Boxed::new(alloc, size(alloc, tokens, depth)?)?;
     let (y, z) = last_sizes(alloc, tokens, depth)?;
     Ok((x, y, z))
 }
@@ -205,13 +205,13 @@ pub(crate) fn repeat_parts(
     alloc: Global,
     tokens: &mut Tokens<'_>,
     depth: u8,
-) -> Result<(Axis, Expr), Stop<Fault>>
+) -> Result<(Axis, Boxed<Expr>), Stop<Fault>>
     ensures { Reads (spec.repeat_parts depth (spec.inside_of depth) (input_of tokens.old)) result (input_of tokens.new) }
 {
     tokens.enter(Sign::LeftRound, depth)?;
     let axis = tokens.take(texts::axis(tokens.peek()))?;
     tokens.sign(Sign::Comma)?;
-    let length = inside(alloc, tokens, depth)?;
+    let length = Boxed::new(alloc, inside(alloc, tokens, depth)?)?;
     tokens.sign(Sign::RightRound)?;
     Ok((axis, length))
 }

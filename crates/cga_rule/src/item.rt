@@ -1,5 +1,5 @@
 use crate::expr::Expr;
-use cga_fraction::{Fraction, List};
+use cga_fraction::{Boxed, Fraction, List};
 use cga_word::{Axis, Name, Primitive, Selector, Turn};
 
 /// What a split makes of one of its parts. It is `NIL` where it has no items.
@@ -14,8 +14,8 @@ pub struct Body {
 #[cycle(item)]
 #[derive(Debug, Drop, PartialEq, Eq)]
 pub enum Item {
-    Move(Expr, Expr, Expr),
-    Resize(Size, Size, Size),
+    Move(Boxed<Expr>, Boxed<Expr>, Boxed<Expr>),
+    Resize(Boxed<Size>, Boxed<Size>, Boxed<Size>),
     Rotate {
         axis: Axis,
         by: Turn,
@@ -29,7 +29,7 @@ pub enum Item {
     },
     Repeat {
         axis: Axis,
-        length: Expr,
+        length: Boxed<Expr>,
         body: Body,
     },
     Comp {

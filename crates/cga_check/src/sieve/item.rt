@@ -44,14 +44,14 @@ fn sift_item<S: Sieve>(item: &Item, sieve: &S) -> Result<(), Use>
 {
     match item {
         Item::Move(x, y, z) => {
-            sift_expr(x, sieve)?;
-            sift_expr(y, sieve)?;
-            sift_expr(z, sieve)
+            sift_expr(x.get(), sieve)?;
+            sift_expr(y.get(), sieve)?;
+            sift_expr(z.get(), sieve)
         }
         Item::Resize(x, y, z) => {
-            sift_size(x, sieve)?;
-            sift_size(y, sieve)?;
-            sift_size(z, sieve)
+            sift_size(x.get(), sieve)?;
+            sift_size(y.get(), sieve)?;
+            sift_size(z.get(), sieve)
         }
         Item::Rotate { .. } | Item::Solid(_) => Ok(()),
         Item::Scoped(items) => sift_items(items.as_slice(), sieve),
@@ -60,7 +60,7 @@ fn sift_item<S: Sieve>(item: &Item, sieve: &S) -> Result<(), Use>
             sift_bodies(bodies.as_slice(), sieve)
         }
         Item::Repeat { length, body, .. } => {
-            sift_expr(length, sieve)?;
+            sift_expr(length.get(), sieve)?;
             sift_body(body, sieve)
         }
         Item::Comp { body, .. } => sift_body(body, sieve),

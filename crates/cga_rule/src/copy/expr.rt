@@ -49,7 +49,7 @@ fn copy_factor(alloc: Global, factor: &Factor) -> Result<Factor, NoMemory>
 }
 
 #[cycle(copy)]
-fn copy_boxed(alloc: Global, expr: &Expr) -> Result<Boxed<Expr>, NoMemory>
+pub(crate) fn copy_boxed(alloc: Global, expr: &Expr) -> Result<Boxed<Expr>, NoMemory>
     ensures { IfOk result (λ copy. copy ≡ expr.now) }
 {
     let copy = copy_expr(alloc, expr)?;

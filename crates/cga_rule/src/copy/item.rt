@@ -1,10 +1,10 @@
 ghost use Rattle.std.specs.Prelude.{◌≡◌, IfOk};
 
-use crate::copy::expr::copy_expr;
+use crate::copy::expr::{copy_boxed, copy_expr};
 use crate::copy::room::with_room;
 use crate::expr::Expr;
 use crate::item::{Body, Item, Size};
-use cga_fraction::{List, NoMemory};
+use cga_fraction::{Boxed, List, NoMemory};
 use std::alloc::Global;
 
 #[cycle(copy)]
@@ -42,8 +42,8 @@ fn copy_item(alloc: Global, item: &Item) -> Result<Item, NoMemory>
     ensures { IfOk result (λ copy. copy ≡ item.now) }
 {
     match item {
-        Item::Move(x, y, z) => copy_move(alloc, x, y, z),
-        Item::Resize(x, y, z) => copy_resize(alloc, x, y, z),
+        Item::Move(x, y, z) => copy_move(alloc, x.get(), y.get(), z.get()),
+        Item::Resize(x, y, z) => copy_resize(alloc, x.get(), y.get(), z.get()),
         Item::Rotate { axis, by } => Ok(Item::Rotate {
             axis: *axis,
             by: *by,
@@ -64,7 +64,7 @@ fn copy_item(alloc: Global, item: &Item) -> Result<Item, NoMemory>
             })
         }
         Item::Repeat { axis, length, body } => {
-            let length = copy_expr(alloc, length)?;
+            let length = copy_boxed(alloc, length.get())?;
             let body = copy_body(alloc, body)?;
             Ok(Item::Repeat {
                 axis: *axis,
@@ -92,19 +92,26 @@ fn copy_item(alloc: Global, item: &Item) -> Result<Item, NoMemory>
 fn copy_move(alloc: Global, x: &Expr, y: &Expr, z: &Expr) -> Result<Item, NoMemory>
     ensures { IfOk result (λ copy. copy ≡ Item.Move x.now y.now z.now) }
 {
-    let x = copy_expr(alloc, x)?;
-    let y = copy_expr(alloc, y)?;
-    let z = copy_expr(alloc, z)?;
+    let x = copy_boxed(alloc, x)?;
+    let y = copy_boxed(alloc, y)?;
+    let z = copy_boxed(alloc, z)?;
     Ok(Item::Move(x, y, z))
 }
 
 fn copy_resize(alloc: Global, x: &Size, y: &Size, z: &Size) -> Result<Item, NoMemory>
     ensures { IfOk result (λ copy. copy ≡ Item.Resize x.now y.now z.now) }
 {
-    let x = copy_size(alloc, x)?;
-    let y = copy_size(alloc, y)?;
-    let z = copy_size(alloc, z)?;
+    let x = copy_extent(alloc, x)?;
+    let y = copy_extent(alloc, y)?;
+    let z = copy_extent(alloc, z)?;
     Ok(Item::Resize(x, y, z))
+}
+
+fn copy_extent(alloc: Global, size: &Size) -> Result<Boxed<Size>, NoMemory>
+    ensures { IfOk result (λ copy. copy ≡ size.now) }
+{
+    let copy = copy_size(alloc, size)?;
+    Boxed::new(alloc, copy)
 }
 
 fn copy_size(alloc: Global, size: &Size) -> Result<Size, NoMemory>

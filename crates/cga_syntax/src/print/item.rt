@@ -23,8 +23,8 @@ fn push_item(marks: &mut List<Mark>, item: &Item) -> Result<(), NoMemory>
     ensures { OnOk result (marks.new ≡ printed_on marks.old (spec.item_pieces item.now)) }
 {
     match item {
-        Item::Move(x, y, z) => push_move(marks, x, y, z),
-        Item::Resize(x, y, z) => push_resize(marks, x, y, z),
+        Item::Move(x, y, z) => push_move(marks, x.get(), y.get(), z.get()),
+        Item::Resize(x, y, z) => push_resize(marks, x.get(), y.get(), z.get()),
         Item::Rotate { axis, by } => push_rotate(marks, *axis, *by),
         Item::Scoped(items) => push_scoped(marks, items.as_slice()),
         Item::Solid(solid) => push_solid(marks, *solid),
@@ -37,7 +37,7 @@ fn push_item(marks: &mut List<Mark>, item: &Item) -> Result<(), NoMemory>
             push_bodies(marks, bodies.as_slice())
         }
         Item::Repeat { axis, length, body } => {
-            push_repeat(marks, *axis, length)?;
+            push_repeat(marks, *axis, length.get())?;
             push_in_curly(marks, body)
         }
         Item::Comp { selector, body } => {

@@ -27,7 +27,7 @@ pub walk_item-returns-in-Subdiv : goal.walk_item-returns-in-Subdiv
 walk_item-returns-in-Subdiv t c = gives_at _ _ _ _ (at_item c.in-Subdiv.is _ _ ∙ at_state (item_Subdiv c.in-Subdiv.axis c.in-Subdiv.sizes c.in-Subdiv.bodies) _ _) c.walk_subdiv.ensures
 
 pub walk_item-returns-in-Repeat : goal.walk_item-returns-in-Repeat
-walk_item-returns-in-Repeat t c = gives_at _ _ _ _ (at_item c.in-Repeat.is _ _ ∙ at_state (item_Repeat c.in-Repeat.axis c.in-Repeat.length c.in-Repeat.body) _ _) c.walk_repeat.ensures
+walk_item-returns-in-Repeat t c = gives_at _ _ _ _ (at_item c.in-Repeat.is _ _ ∙ at_state (item_Repeat c.in-Repeat.axis c.in-Repeat.length c.in-Repeat.body) _ _) (rw c.get-in-Repeat.ensures at c.walk_repeat.ensures)
 
 pub walk_item-returns-in-Comp : goal.walk_item-returns-in-Comp
 walk_item-returns-in-Comp t c = gives_at _ _ _ _ (at_item c.in-Comp.is _ _ ∙ at_state (item_Comp c.in-Comp.selector c.in-Comp.body) _ _) c.walk_comp.ensures

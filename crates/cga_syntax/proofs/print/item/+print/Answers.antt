@@ -25,5 +25,5 @@ push_item-returns-in_ok-push_subdiv-in-Subdiv t c =
 pub push_item-returns-in_ok-push_repeat-in-Repeat : goal.push_item-returns-in_ok-push_repeat-in-Repeat
 push_item-returns-in_ok-push_repeat-in-Repeat t c =
     subst (λ (z : List Mark). OnOk c.push_in_curly.result (c.push_in_curly.new.marks ≡ z))
-    (repeat_on c.args.item.now c.args.marks.now _ c.in-Repeat.axis c.in-Repeat.length c.in-Repeat.body c.in-Repeat.is c.in_ok-push_repeat-in-Repeat.ensures)
+    (repeat_on c.args.item.now c.args.marks.now _ c.in-Repeat.axis c.in-Repeat.length c.in-Repeat.body c.in-Repeat.is (rw c.get-in-Repeat.ensures at c.in_ok-push_repeat-in-Repeat.ensures))
     c.push_in_curly.ensures
