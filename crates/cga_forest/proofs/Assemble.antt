@@ -7,11 +7,11 @@ use Rattle.cga_forest.specs.declared.node.State.{State}
 use Rattle.cga_forest.specs.Node.{fits, with_state}
 use Rattle.cga_forest.specs.View.{Seen, kids, flag_if, present_of, marked_of, hulls_of, marked_hulls_of, rewritten}
 use Rattle.cga_forest.proofs.Places.{InPlace-replaced}
-use Rattle.cga_forest.specs.Tree.{InPlace, IsInner, IsWhole, RightBut, goes, stay_of, IsPlaced}
+use Rattle.cga_forest.specs.Tree.{InPlace, IsInner, IsWhole, RightBut, depth_at, goes, stay_of, IsPlaced}
 use Rattle.cga_tree.specs.Tree.{IsTree}
 use Rattle.cga_tree.specs.Replaced.{IsReplaced}
 use Rattle.cga_forest.proofs.Under.{kids_flag}
-use Rattle.cga_forest.proofs.Right.{present_some, kids_present}
+use Rattle.cga_forest.proofs.Right.{present_some, kids_present, depth_present}
 use Rattle.cga_forest.proofs.Replace.{IsTree-replaced}
 use Rattle.cga_forest.proofs.Goes.{vacant, replaced, right_but, mark_kept, mark_hulls_kept}
 
@@ -68,6 +68,9 @@ module _ (s0 s1 s2 s3 : ℕ → Option Entry) (id depth n : ℕ) (marking : Bool
 
   pub here_after : is_some (present_of (s3 id)) ≡ true
   here_after = ap is_some assembled.is
+
+  pub depth_after : depth_at (s3 id) ≡ depth_at (s0 id)
+  depth_after = depth_present (s3 id) (record e { node = with_state state e.node; children = made }) assembled.is ∙ sym (depth_present (s0 id) e was)
 
   pub right_after : hulls_of (s3 id) ≡ hulls_of (s2 id) → RightBut (λ c. present_of (s3 c)) (λ c. hulls_of (s3 c)) id
   right_after h = right_but s0 s1 s2 s3 id depth n marking made news state e was low deep fuel whole.tree gone (λ c. refl) dropped_seen placed_seen sized others changed whole.right h

@@ -7,7 +7,8 @@ use Rattle.cga_forest.specs.declared.node.Node.{Node}
 use Rattle.cga_forest.specs.declared.node.State.{State}
 use Rattle.cga_forest.specs.Node.{fits, with_state}
 use Rattle.cga_forest.specs.declared.hulls.Hulls.{Hulls}
-use Rattle.cga_forest.specs.Hull.{over, own_hulls}
+use Rattle.cga_forest.specs.Hull.{over, own_hulls, hulls_known}
+use Rattle.cga_forest.proofs.Known.{known_own}
 use Rattle.cga_forest.specs.View.{Seen, kids, flag_if, present_of, marked_of, hulls_of, marked_hulls_of, rewritten, IsNewEntry, seen, restored, former_hulls}
 use Rattle.cga_forest.specs.Tree.{IsRight, AllRight, RightBut, under, goes, goes_at, stay_of, IsPlaced, IsPlacedChild}
 use Rattle.cga_tree.specs.Tree.{IsTree}
@@ -290,7 +291,7 @@ module _ (s0 s1 s2 s3 : ℕ → Option Entry) (id depth n : ℕ) (marking : Bool
       | inr ne ↦ ap hulls_of (others c ne ∙ old_node c d t) ∙ hulls_flag (gone c) (s0 c)
     ]
 
-    leaf_right : (c : ℕ) (d : Seen) (x : Entry) (w : Node) → hulls_of (s3 c) ≡ Some x.hulls → x.hulls ≡ own_hulls w → d.node ≡ w → d.children ≡ [] → IsRight (λ k. hulls_of (s3 k)) c d
+    leaf_right : (c : ℕ) (d : Seen) (x : Entry) (w : Node) → hulls_of (s3 c) ≡ Some (hulls_known x.node x.hulls) → hulls_known x.node x.hulls ≡ own_hulls w → d.node ≡ w → d.children ≡ [] → IsRight (λ k. hulls_of (s3 k)) c d
     leaf_right c d x w h o dn leaf = right_exact (λ k. hulls_of (s3 k)) c d (h ∙ ap (λ h. Some h) (o ∙ ap own_hulls (sym dn) ∙ sym (over_zero (λ k. hulls_of (s3 k)) (own_hulls d.node) d.children) ∙ ap (λ xs. over (λ k. hulls_of (s3 k)) (own_hulls d.node) d.children (length xs)) (sym leaf)))
 
     new_right : (i c : ℕ) (d : Seen) (w : Node) → present_of (s3 c) ≡ Some d → s1 c ≡ None → IsNewEntry (s2 c) (Some id) w depth i marking → IsRight (λ k. hulls_of (s3 k)) c d
@@ -298,7 +299,7 @@ module _ (s0 s1 s2 s3 : ℕ → Option Entry) (id depth n : ℕ) (marking : Bool
         let k = new_child i c w h v in
         let z : Some k.seen ≡ Some d = sym k.here ∙ t in
         let q : k.seen ≡ d = (cc) in
-        leaf_right c d v.entry w (ap hulls_of (others c (not_id c (ap present_of (none_slot c h))) ∙ v.here)) v.hulls (ap (λ (x : Seen). x.node) (sym q) ∙ k.node) (ap (λ (x : Seen). x.children) (sym q) ∙ k.leaf)
+        leaf_right c d v.entry w (ap hulls_of (others c (not_id c (ap present_of (none_slot c h))) ∙ v.here)) (known_own v.entry w v.node v.hulls) (ap (λ (x : Seen). x.node) (sym q) ∙ k.node) (ap (λ (x : Seen). x.children) (sym q) ∙ k.leaf)
 
     old_same : (c : ℕ) (d u : Seen) → present_of (s0 c) ≡ Some u → present_of (s3 c) ≡ Some d → c ≢ id → (i : ℕ) → slice_get e.children i ≡ Some c → present_of (s0 c) ≡ Some d
     old_same c d u t now ne i o = let w = present_some (s0 c) u t in let r = cut_some (gone c) (present_of (s0 c)) d (sym (rest_of c w.0 ne w.1) ∙ now) in r.1
@@ -345,6 +346,6 @@ module _ (s0 s1 s2 s3 : ℕ → Option Entry) (id depth n : ℕ) (marking : Bool
 
     pub mark_hulls_kept : (c : ℕ) → marked_hulls_of (s3 c) ≡ marked_hulls_of (s0 c)
     mark_hulls_kept c = elim (nat_cases c id) [
-      | inl q ↦ ap (λ x. marked_hulls_of (s3 x)) q ∙ marked_hulls ∙ placed_hulls marked_hulls_of marked_hulls_flag refl (λ x h. ap (λ b. if b then None else Some (former_hulls x.hulls x.former_hulls)) h) id (s0 id) refl ∙ sym (ap (λ x. marked_hulls_of (s0 x)) q)
-      | inr ne ↦ ap marked_hulls_of (others c ne) ∙ placed_hulls marked_hulls_of marked_hulls_flag refl (λ x h. ap (λ b. if b then None else Some (former_hulls x.hulls x.former_hulls)) h) c (s0 c) refl
+      | inl q ↦ ap (λ x. marked_hulls_of (s3 x)) q ∙ marked_hulls ∙ placed_hulls marked_hulls_of marked_hulls_flag refl (λ x h. ap (λ b. if b then None else Some (hulls_known x.node (former_hulls x.hulls x.former_hulls))) h) id (s0 id) refl ∙ sym (ap (λ x. marked_hulls_of (s0 x)) q)
+      | inr ne ↦ ap marked_hulls_of (others c ne) ∙ placed_hulls marked_hulls_of marked_hulls_flag refl (λ x h. ap (λ b. if b then None else Some (hulls_known x.node (former_hulls x.hulls x.former_hulls))) h) c (s0 c) refl
     ]

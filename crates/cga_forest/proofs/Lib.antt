@@ -14,6 +14,7 @@ pub mod Marks
 pub mod Goes
 pub mod Assemble
 pub mod Through
+pub mod Known
 pub mod Least
 pub mod Tops
 pub mod Listed

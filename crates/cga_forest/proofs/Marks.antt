@@ -4,7 +4,8 @@ use Rattle.std.specs.Prelude.{Option, Some, None, if◌then◌else◌}
 use Rattle.cga_forest.specs.declared.entry.Entry.{Entry}
 use Rattle.cga_forest.specs.declared.hulls.Hulls.{Hulls}
 use Rattle.cga_forest.specs.declared.node.Node.{Node}
-use Rattle.cga_forest.specs.Hull.{over, own_hulls}
+use Rattle.cga_forest.specs.Hull.{over, own_hulls, hulls_known}
+use Rattle.cga_forest.proofs.Known.{known_own, known_restored}
 use Rattle.cga_forest.specs.View.{Seen, IsPlain, IsNewEntry, kids, flag_if, present_of, marked_of, hulls_of, marked_hulls_of, settled, rolled, restored, former_hulls, seen}
 use Rattle.cga_forest.specs.Node.{IsTop}
 use Rattle.cga_forest.proofs.Places.{InPlace-same, InPlace-part, InPlace-root}
@@ -70,7 +71,7 @@ hulls_settled (Some e) d h = elim (bool_cases e.aside) [
 
 pub hulls_rolled : (s : Option Entry) → hulls_of (rolled s) ≡ marked_hulls_of s
 hulls_rolled None = refl
-hulls_rolled (Some e) = elim e.came as (λ b. hulls_of (if b then None else Some (record (restored e e.former) { hulls = former_hulls e.hulls e.former_hulls; aside = false; came = false; touched = false; former = None; former_hulls = None })) ≡ (if b then None else Some (former_hulls e.hulls e.former_hulls))) [ true ↦ refl | false ↦ refl ]
+hulls_rolled (Some e) = elim e.came as (λ b. hulls_of (if b then None else Some (record (restored e e.former) { hulls = former_hulls e.hulls e.former_hulls; aside = false; came = false; touched = false; former = None; former_hulls = None })) ≡ (if b then None else Some (hulls_known e.node (former_hulls e.hulls e.former_hulls)))) [ true ↦ refl | false ↦ ap (λ h. Some h) (known_restored e e.former (former_hulls e.hulls e.former_hulls)) ]
 
 pub marked_hulls_plain : (s : Option Entry) → ((e : Entry) → s ≡ Some e → IsPlain e) → marked_hulls_of s ≡ hulls_of s
 marked_hulls_plain None h = refl
@@ -144,7 +145,7 @@ module _ (old new : ForestView) (id : ℕ) (node : Node) (fresh : slot_at old id
 
   added_mark_hulls : old.marking ≡ true → (c : ℕ) → marked_hulls_at new c ≡ marked_hulls_at old c
   added_mark_hulls on c = elim (nat_cases c id) [
-    | inl q ↦ ap (marked_hulls_at new) q ∙ ap marked_hulls_of made.here ∙ ap (λ b. if b then None else Some (former_hulls made.entry.hulls made.entry.former_hulls)) (made.comes ∙ on) ∙ sym (ap (marked_hulls_at old) q ∙ ap marked_hulls_of fresh)
+    | inl q ↦ ap (marked_hulls_at new) q ∙ ap marked_hulls_of made.here ∙ ap (λ b. if b then None else Some (hulls_known made.entry.node (former_hulls made.entry.hulls made.entry.former_hulls))) (made.comes ∙ on) ∙ sym (ap (marked_hulls_at old) q ∙ ap marked_hulls_of fresh)
     | inr n ↦ ap marked_hulls_of (others c n)
   ]
 
@@ -157,7 +158,7 @@ module _ (old new : ForestView) (id : ℕ) (node : Node) (fresh : slot_at old id
       let w : seen made.entry ≡ d = (cc) in
       let n : d.node ≡ node = ap (λ (x : Seen). x.node) (sym w) ∙ made.node in
       let l : d.children ≡ [] = ap (λ (x : Seen). x.children) (sym w) ∙ made.leaf in
-      right_exact (hulls_at new) c d (ap (hulls_at new) q ∙ ap hulls_of made.here ∙ ap (λ h. Some h) (made.hulls ∙ ap own_hulls (sym n) ∙ sym (over_zero (hulls_at new) (own_hulls d.node) d.children) ∙ ap (λ xs. over (hulls_at new) (own_hulls d.node) d.children (length xs)) (sym l)))
+      right_exact (hulls_at new) c d (ap (hulls_at new) q ∙ ap hulls_of made.here ∙ ap (λ h. Some h) (known_own made.entry node made.node made.hulls ∙ ap own_hulls (sym n) ∙ sym (over_zero (hulls_at new) (own_hulls d.node) d.children) ∙ ap (λ xs. over (hulls_at new) (own_hulls d.node) d.children (length xs)) (sym l)))
 
   pub added_whole : IsWhole (node_at new) (hulls_at new)
   added_whole = record {

@@ -3,7 +3,7 @@ use Rattle.std.proofs.Common.{◌≡◌, ◌≢◌, inl, inr, ℕ, zero, suc, �
 use Rattle.std.specs.Prelude.{Option, Some, None, is_some, slice_get, if◌then◌else◌}
 use Rattle.cga_forest.specs.declared.entry.Entry.{Entry}
 use Rattle.cga_forest.specs.declared.hulls.Hulls.{Hulls}
-use Rattle.cga_forest.specs.Hull.{over, own_hulls, with_hulls, at_hulls, holds_hulls, alike, grown_from}
+use Rattle.cga_forest.specs.Hull.{over, own_hulls, hulls_known, with_hulls, at_hulls, holds_hulls, alike, grown_from}
 use Rattle.cga_forest.specs.View.{Seen, seen, hulls_of, present_of, rehulled, kids}
 use Rattle.cga_forest.specs.Tree.{IsRight, AllRight, RightBut, IsDue, hulls_now, hulls_next, parent_of, depth_at}
 use Rattle.cga_tree.specs.Tree.{IsTree}
@@ -163,8 +163,8 @@ next_made H s d None h p is due =
     ap (λ x. alike x (over H (own_hulls d.node) d.children (length d.children))) y ∙ alike_itself _
 next_made H None d (Some k) h p is due = absurd (cc)
 next_made H (Some x) d (Some k) h p is due =
-    let y : h ≡ with_hulls x.hulls (Some k) = (cc) in
-    ap (λ u. alike u (over H (own_hulls d.node) d.children (length d.children))) y ∙ due x.hulls k refl refl
+    let y : h ≡ with_hulls (hulls_known x.node x.hulls) (Some k) = (cc) in
+    ap (λ u. alike u (over H (own_hulls d.node) d.children (length d.children))) y ∙ due (hulls_known x.node x.hulls) k refl refl
 
 module _ (s : ℕ → Option Entry) (id : ℕ) (g : Option Hulls) (old new : Hulls) (e : Seen) (here : present_of (s id) ≡ Some e)
     (was : Some old ≡ hulls_of (s id)) (is : Some new ≡ hulls_next (λ c. hulls_of (s c)) (s id) g)

@@ -4,9 +4,20 @@ use Rattle.cga_frame.specs.Box.{Box, hull, holds}
 use Rattle.cga_forest.specs.declared.node.Node.{Node}
 use Rattle.cga_forest.specs.Node.{bounds}
 use Rattle.cga_forest.specs.declared.hulls.Hulls.{Hulls}
+use Rattle.cga_forest.specs.declared.kept_hulls.KeptHulls.{KeptHulls}
+use Rattle.cga_forest.specs.declared.kept_hulls.KeptHulls.TheVariants.{Own, Other}
+
+-- those of one box, which asks or not
+abbrev pub hulls_alone : Box → Bool → Hulls
+hulls_alone b asks = record { all = b; asking = if asks then Some b else None }
 
 abbrev pub own_hulls : Node → Hulls
-own_hulls n = record { all = bounds n; asking = if n.asks then Some (bounds n) else None }
+own_hulls n = hulls_alone (bounds n) n.asks
+
+-- the hulls of a node, by what is kept of them
+abbrev pub hulls_known : Node → KeptHulls → Hulls
+hulls_known n (Own asks) = hulls_alone (bounds n) asks
+hulls_known n (Other h) = h
 
 abbrev pub joined : Option Box → Option Box → Option Box
 joined None b = b

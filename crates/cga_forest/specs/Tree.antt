@@ -7,7 +7,7 @@ use Rattle.cga_forest.specs.declared.node.Node.{Node}
 use Rattle.cga_forest.specs.declared.hulls.Hulls.{Hulls}
 use Rattle.cga_forest.specs.declared.node.State.{State}
 use Rattle.cga_forest.specs.Node.{bounds, chain_kept, fits, with_state, IsBelow, IsTop}
-use Rattle.cga_forest.specs.Hull.{own_hulls, over, with_hulls, alike}
+use Rattle.cga_forest.specs.Hull.{own_hulls, hulls_known, over, with_hulls, alike}
 use Rattle.cga_word.specs.declared.mode.Mode.{Mode}
 use Rattle.cga_order.specs.Chain as order
 use Rattle.cga_order.specs.World.{is_instance}
@@ -162,7 +162,7 @@ hulls_now H (Some e) = Some (over H (own_hulls e.node) e.children.items (length 
 abbrev pub hulls_next : (ℕ → Option Hulls) → Option Entry → Option Hulls → Option Hulls
 hulls_next H s None = hulls_now H s
 hulls_next H None (Some k) = None
-hulls_next H (Some e) (Some k) = Some (with_hulls e.hulls (Some k))
+hulls_next H (Some e) (Some k) = Some (with_hulls (hulls_known e.node e.hulls) (Some k))
 
 abbrev pub parent_of : Option Entry → Option ℕ
 parent_of None = None

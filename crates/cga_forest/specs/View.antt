@@ -7,7 +7,9 @@ use Rattle.cga_forest.specs.declared.node.Node.{Node}
 use Rattle.cga_forest.specs.declared.hulls.Hulls.{Hulls}
 use Rattle.cga_forest.specs.declared.node.State.{State}
 use Rattle.cga_forest.specs.Node.{with_state}
-use Rattle.cga_forest.specs.Hull.{own_hulls}
+use Rattle.cga_forest.specs.declared.kept_hulls.KeptHulls.{KeptHulls}
+use Rattle.cga_forest.specs.declared.kept_hulls.KeptHulls.TheVariants.{Own}
+use Rattle.cga_forest.specs.Hull.{hulls_known}
 use Rattle.cga_forest.specs.Count.{tally}
 
 abbrev pub slot : List (Option Entry) → ℕ → Option Entry
@@ -120,7 +122,7 @@ abbrev pub restored : Entry → Option Former → Entry
 restored e None = e
 restored e (Some f) = record e { node = with_state f.state e.node; children = f.children }
 
-abbrev pub former_hulls : Hulls → Option Hulls → Hulls
+abbrev pub former_hulls : KeptHulls → Option KeptHulls → KeptHulls
 former_hulls h None = h
 former_hulls h (Some k) = k
 
@@ -139,11 +141,11 @@ marked_of (Some e) = if e.came then None else Some (seen (restored e e.former))
 -- their hulls
 abbrev pub hulls_of : Option Entry → Option Hulls
 hulls_of None = None
-hulls_of (Some e) = Some e.hulls
+hulls_of (Some e) = Some (hulls_known e.node e.hulls)
 
 abbrev pub marked_hulls_of : Option Entry → Option Hulls
 marked_hulls_of None = None
-marked_hulls_of (Some e) = if e.came then None else Some (former_hulls e.hulls e.former_hulls)
+marked_hulls_of (Some e) = if e.came then None else Some (hulls_known e.node (former_hulls e.hulls e.former_hulls))
 
 -- a slot once the mark is dropped, and once the marked node is put back
 abbrev pub settled : Option Entry → Option Entry
@@ -173,7 +175,7 @@ pub record IsNewEntry (slot : Option Entry) (above : Option ℕ) (content : Node
   pub index : entry.index ≡ place
   pub deep : entry.depth ≡ depth
   pub leaf : entry.children.items ≡ []
-  pub hulls : entry.hulls ≡ own_hulls content
+  pub hulls : entry.hulls ≡ Own content.asks
   pub shows : entry.aside ≡ false
   pub comes : entry.came ≡ marking
   pub nothing : entry.former ≡ None

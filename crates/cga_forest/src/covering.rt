@@ -15,7 +15,7 @@ pub fn cover_place(blocks: &mut Blocks, store: &Store, roots: &Roots, place: usi
 {
     if place < roots.len() {
         if let Some(entry) = store.get(roots.id(place)) {
-            blocks.join(place, &entry.hulls);
+            blocks.join(place, &entry.known_hulls());
         }
     }
 }

@@ -4,6 +4,7 @@ ghost use Rattle.cga_forest.specs.View.{Listed, is_fresh, is_shown, SameBooks, t
 
 use crate::entry::Entry;
 use crate::hulls::Hulls;
+use crate::hulls_box::HullsBox;
 use crate::node::State;
 use slab::Slab;
 
@@ -65,7 +66,13 @@ pub fn rewrite_entry(
 }
 
 /// Gives a touched entry other hulls.
-pub fn set_hulls_entry(entries: &mut Slab<Entry>, id: usize, marking: bool, hulls: Hulls)
+pub fn set_hulls_entry(
+    entries: &mut Slab<Entry>,
+    id: usize,
+    marking: bool,
+    hulls: Hulls,
+    spare: HullsBox,
+)
     requires touched { marking ≡ true → (e : Entry) → get entries.old id ≡ Some e → e.touched ≡ true }
     ensures others { (c : ℕ) → c ≢ id → get entries.new c ≡ get entries.old c }
     ensures present { present_of (get entries.new id) ≡ present_of (get entries.old id) }
@@ -76,7 +83,7 @@ pub fn set_hulls_entry(entries: &mut Slab<Entry>, id: usize, marking: bool, hull
     ensures capacity { entries.new.capacity ≡ entries.old.capacity }
 {
     if let Some(entry) = entries.get_mut(id) {
-        entry.set_hulls(marking, hulls);
+        entry.set_hulls(marking, hulls, spare);
     }
 }
 

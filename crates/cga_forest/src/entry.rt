@@ -1,8 +1,12 @@
 ghost use Rattle.std.specs.Prelude.{◌≡◌, true, Some, None, if◌then◌else◌};
+ghost use Rattle.cga_forest.specs.Hull.{hulls_known};
 ghost use Rattle.cga_forest.specs.View.{settled, rolled, rewritten, present_of, marked_of, hulls_of, marked_hulls_of, KeepsBooks};
 
 use crate::hulls::Hulls;
+use crate::hulls_box::HullsBox;
+use crate::kept_hulls::KeptHulls;
 use crate::node::{Node, State};
+use cga_frame::WorldBox;
 
 /// The state and the children of a node as they stood at the mark.
 #[derive(Drop, Debug)]
@@ -18,15 +22,33 @@ pub struct Entry {
     pub parent: Option<usize>,
     pub index: usize,
     pub children: Vec<usize>,
-    pub hulls: Hulls,
+    pub hulls: KeptHulls,
     pub aside: bool,
     pub came: bool,
     pub touched: bool,
     pub former: Option<Former>,
-    pub former_hulls: Option<Hulls>,
+    pub former_hulls: Option<KeptHulls>,
 }
 
 impl Entry {
+    pub fn known_hulls(&self) -> Hulls
+        ensures { result ≡ hulls_known self.now.node self.now.hulls }
+    {
+        self.hulls.of(&self.node)
+    }
+
+    pub fn hull(&self) -> WorldBox
+        ensures { result ≡ (hulls_known self.now.node self.now.hulls).all }
+    {
+        self.hulls.all(&self.node)
+    }
+
+    pub fn asking_hull(&self) -> Option<WorldBox>
+        ensures { result ≡ (hulls_known self.now.node self.now.hulls).asking }
+    {
+        self.hulls.asking(&self.node)
+    }
+
     /// Drops what the entry keeps for the mark. False where the node was set aside.
     pub fn settle(&mut self) -> bool
         ensures { if result then Some self.new else None ≡ settled (Some self.old) }
@@ -74,7 +96,8 @@ impl Entry {
         }
     }
 
-    pub fn set_hulls(&mut self, marking: bool, hulls: Hulls)
+    /// Takes no memory but the spare box.
+    pub fn set_hulls(&mut self, marking: bool, hulls: Hulls, spare: HullsBox)
         requires touched { marking ≡ true → self.old.touched ≡ true }
         ensures present { present_of (Some self.new) ≡ present_of (Some self.old) }
         ensures marked { marked_of (Some self.new) ≡ marked_of (Some self.old) }
@@ -82,9 +105,10 @@ impl Entry {
         ensures marked_hulls { marking ≡ true → marked_hulls_of (Some self.new) ≡ marked_hulls_of (Some self.old) }
         ensures books { KeepsBooks self.old self.new }
     {
+        let kept = KeptHulls::Other(spare.filled(hulls));
+        let former = std::mem::replace(&mut self.hulls, kept);
         if marking && self.former_hulls.is_none() {
-            self.former_hulls = Some(self.hulls);
+            self.former_hulls = Some(former);
         }
-        self.hulls = hulls;
     }
 }

@@ -45,7 +45,7 @@ impl HullTree for Forest {
     }
 
     fn hull(&self, node: NodeId) -> WorldBox {
-        self.store.entry(node.number() as usize).hulls.all
+        self.store.entry(node.number() as usize).hull()
     }
 
     fn standing(&self, node: NodeId, by: NodeId) -> Standing {
@@ -62,7 +62,7 @@ impl HullTree for Forest {
     }
 
     fn asking_hull(&self, node: NodeId) -> Option<WorldBox> {
-        self.store.entry(node.number() as usize).hulls.asking
+        self.store.entry(node.number() as usize).asking_hull()
     }
 }
 

@@ -1,5 +1,5 @@
 ghost use Rattle.std.specs.Prelude.{◌≡◌};
-ghost use Rattle.cga_forest.specs.Hull.{own_hulls, joined, with_hulls, opt_within, holds_hulls, alike, grown_from};
+ghost use Rattle.cga_forest.specs.Hull.{hulls_alone, own_hulls, joined, with_hulls, opt_within, holds_hulls, alike, grown_from};
 
 use crate::node::Node;
 use cga_frame::WorldBox;
@@ -16,10 +16,16 @@ impl Hulls {
     pub fn own(node: &Node) -> Hulls
         ensures { result ≡ own_hulls node.now }
     {
-        let bounds = node.bounds();
+        Hulls::alone(node.bounds(), node.asks)
+    }
+
+    /// Those of one box, which asks or not.
+    pub fn alone(bounds: WorldBox, asks: bool) -> Hulls
+        ensures { result ≡ hulls_alone bounds asks }
+    {
         Hulls {
             all: bounds,
-            asking: if node.asks { Some(bounds) } else { None },
+            asking: if asks { Some(bounds) } else { None },
         }
     }
 

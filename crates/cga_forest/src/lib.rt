@@ -13,6 +13,8 @@ mod entry;
 mod holds;
 mod hull_tree;
 mod hulls;
+mod hulls_box;
+mod kept_hulls;
 mod last_setting;
 mod listing;
 mod lots;
@@ -23,6 +25,7 @@ mod plan;
 mod roots;
 mod setting;
 mod slots;
+mod spares;
 mod standing;
 mod step;
 mod store;
@@ -57,6 +60,7 @@ use plan::Plan;
 use roots::Roots;
 use setting::setting_of;
 use slots::{depth_of, parent_at, replace};
+use spares::Spares;
 use std::alloc::Global;
 use std::marker::Model;
 use store::Store;
@@ -68,6 +72,7 @@ pub struct Forest {
     store: Store,
     roots: Roots,
     blocks: Blocks,
+    spares: Spares,
     marking: bool,
     mode: Mode,
     alloc: Global,
@@ -92,6 +97,7 @@ impl Forest {
             store: Store::new(alloc),
             roots: Roots::new(alloc),
             blocks: Blocks::new(alloc),
+            spares: Spares::new(alloc),
             marking: false,
             mode,
             alloc,
@@ -147,7 +153,7 @@ impl Forest {
         requires here { IsSome (node_at self.now id) }
         ensures least { IsLeastHull self.now id result }
     {
-        self.store.entry(slot_of(id)).hulls.all
+        self.store.entry(slot_of(id)).hull()
     }
 
     /// The same for those of them that ask, if any does.
@@ -156,7 +162,7 @@ impl Forest {
         ensures least { IfSome result (λ h. IsLeastAsking self.now id h) }
         ensures none { (result ≡ None) ↔ NoneAsks self.now id }
     {
-        self.store.entry(slot_of(id)).hulls.asking
+        self.store.entry(slot_of(id)).asking_hull()
     }
 
     /// Gives a node the outcome of its expansion and the answers that it was asked with. An old child stays with its
@@ -205,8 +211,11 @@ impl Forest {
         ensures err { OnErr result (self.new ≡ self.old) }
     {
         self.store.reserve(news.len())?;
+        let depth = depth_of(&self.store, id);
+        let hulls = self.store.entry(id).known_hulls();
+        self.spares.provide(self.alloc, depth + 1, &hulls)?;
         let made = Vec::with_capacity(self.alloc, news.len())?;
-        let left = 256 - depth_of(&self.store, id);
+        let left = 256 - depth;
         let Plan {
             went,
             places,
@@ -214,6 +223,7 @@ impl Forest {
         } = Plan::of(&self.store, self.alloc, id, left, news.as_slice())?;
         let changed = replace(
             &mut self.store,
+            &mut self.spares,
             self.alloc,
             id,
             self.marking,

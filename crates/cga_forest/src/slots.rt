@@ -7,6 +7,7 @@ ghost use Rattle.cga_tree.specs.Tree.{IsTree};
 
 use crate::hulls::Hulls;
 use crate::node::{Node, State};
+use crate::spares::Spares;
 use crate::store::Store;
 use std::alloc::Global;
 
@@ -135,11 +136,7 @@ pub fn parent_at(store: &Store, id: usize) -> Option<usize>
 fn child_hulls(store: &Store, id: usize, place: usize) -> Option<Hulls>
     ensures { result ≡ at_hulls (λ c. hulls_of (at store.now c)) (slice_get (kids (at store.now id)) place) }
 {
-    let child = child_at(store, id, place)?;
-    match store.get(child) {
-        Some(entry) => Some(entry.hulls),
-        None => None,
-    }
+    hulls_at(store, child_at(store, id, place)?)
 }
 
 /// A node's hulls, from its content and its children's hulls.
@@ -157,7 +154,7 @@ fn hulls_at(store: &Store, id: usize) -> Option<Hulls>
     ensures { result ≡ hulls_of (at store.now id) }
 {
     match store.get(id) {
-        Some(entry) => Some(entry.hulls),
+        Some(entry) => Some(entry.known_hulls()),
         None => None,
     }
 }
@@ -168,7 +165,7 @@ fn next_hulls(store: &Store, id: usize, grown: &Option<Hulls>) -> Option<Hulls>
 {
     match grown {
         Some(_) => match store.get(id) {
-            Some(entry) => Some(entry.hulls.with(grown)),
+            Some(entry) => Some(entry.known_hulls().with(grown)),
             None => None,
         },
         None => hulls_over(store, id),
@@ -177,11 +174,18 @@ fn next_hulls(store: &Store, id: usize, grown: &Option<Hulls>) -> Option<Hulls>
 
 /// Brings the hulls up to date from a node upwards, until they are as before, where all others are right.
 /// Where only one child's hulls changed, and they grew, they are given. Answers the root, where its hulls changed.
-pub fn refresh(store: &mut Store, id: usize, marking: bool, grown: Option<Hulls>) -> Option<usize>
+pub fn refresh(
+    store: &mut Store,
+    spares: &mut Spares,
+    id: usize,
+    marking: bool,
+    grown: Option<Hulls>,
+) -> Option<usize>
     requires tree { IsTree (λ c. present_of (at store.old c)) }
     requires here { IsSome (present_of (at store.old id)) }
     requires right { RightBut (λ c. present_of (at store.old c)) (λ c. hulls_of (at store.old c)) id }
     requires due { IsDue (λ c. present_of (at store.old c)) (λ c. hulls_of (at store.old c)) id grown }
+    requires spares { depth_at (at store.old id) < length spares.old.boxes.items }
     ensures present { (c : ℕ) → present_of (at store.new c) ≡ present_of (at store.old c) }
     ensures marked { (c : ℕ) → marked_of (at store.new c) ≡ marked_of (at store.old c) }
     ensures marked_hulls { marking ≡ true → (c : ℕ) → marked_hulls_of (at store.new c) ≡ marked_hulls_of (at store.old c) }
@@ -192,9 +196,9 @@ pub fn refresh(store: &mut Store, id: usize, marking: bool, grown: Option<Hulls>
     if let Some(old) = hulls_at(store, id) {
         if let Some(new) = next_hulls(store, id, &grown) {
             if !new.is_like(&old) {
-                store.set_hulls(id, marking, new);
+                store.set_hulls(id, marking, new, spares.take());
                 if let Some(parent) = parent_at(store, id) {
-                    return refresh(store, parent, marking, new.grown_from(&old));
+                    return refresh(store, spares, parent, marking, new.grown_from(&old));
                 }
                 return Some(id);
             }
@@ -206,6 +210,7 @@ pub fn refresh(store: &mut Store, id: usize, marking: bool, grown: Option<Hulls>
 /// Gives a node another state and these children. The room is there already. Answers the root, where its hulls changed.
 pub fn replace(
     store: &mut Store,
+    spares: &mut Spares,
     alloc: Global,
     id: usize,
     marking: bool,
@@ -218,6 +223,7 @@ pub fn replace(
     requires space { length news.items ≤ made.cap }
     requires whole { IsWhole (λ c. present_of (at store.old c)) (λ c. hulls_of (at store.old c)) }
     requires here { HasInner (present_of (at store.old id)) state news.items }
+    requires spares { depth_at (at store.old id) < length spares.old.boxes.items }
     ensures whole { IsWhole (λ c. present_of (at store.new c)) (λ c. hulls_of (at store.new c)) }
     ensures replaced { ReplacedBy (λ c. present_of (at store.old c)) (λ c. present_of (at store.new c)) id state news.items (λ c. goes (λ d. kids (at store.old d)) (256 - depth_at (at store.old id)) (λ k w. stay_of (at store.old k) w) (kids (at store.old id)) news.items (length (kids (at store.old id))) c) }
     ensures vacant { (c : ℕ) (d : Seen) → present_of (at store.old c) ≡ None → present_of (at store.new c) ≡ Some d → at store.old c ≡ None }
@@ -231,5 +237,5 @@ pub fn replace(
     drop_children(store, id, 256 - depth, news.as_slice());
     place_children(store, alloc, id, depth + 1, marking, news, &mut made);
     store.rewrite(id, marking, state, made);
-    refresh(store, id, marking, None)
+    refresh(store, spares, id, marking, None)
 }

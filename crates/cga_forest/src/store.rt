@@ -8,6 +8,8 @@ use crate::entries::{
 };
 use crate::entry::Entry;
 use crate::hulls::Hulls;
+use crate::hulls_box::HullsBox;
+use crate::kept_hulls::KeptHulls;
 use crate::node::{Node, State};
 use cga_fraction::NoMemory;
 use slab::Slab;
@@ -89,7 +91,7 @@ impl Store {
         ensures others { (c : ℕ) → c ≢ result → at self.new c ≡ at self.old c }
         ensures room { (more : ℕ) → HasRoom self.old (more + 1) → HasRoom self.new more }
     {
-        let hulls = Hulls::own(&node);
+        let hulls = KeptHulls::Own(node.asks);
         let id = self.entries.insert_reserved(Entry {
             node,
             depth,
@@ -168,7 +170,7 @@ impl Store {
         rewrite_entry(&mut self.entries, id, marking, state, children);
     }
 
-    pub fn set_hulls(&mut self, id: usize, marking: bool, hulls: Hulls)
+    pub fn set_hulls(&mut self, id: usize, marking: bool, hulls: Hulls, spare: HullsBox)
         ensures others { (c : ℕ) → c ≢ id → at self.new c ≡ at self.old c }
         ensures present { present_of (at self.new id) ≡ present_of (at self.old id) }
         ensures marked { marked_of (at self.new id) ≡ marked_of (at self.old id) }
@@ -177,7 +179,7 @@ impl Store {
         ensures room { KeepsRoom self.old self.new }
     {
         self.touch_for(id, marking);
-        set_hulls_entry(&mut self.entries, id, marking, hulls);
+        set_hulls_entry(&mut self.entries, id, marking, hulls, spare);
     }
 
     /// Drops what is set aside, and what is kept for the mark.

@@ -11,7 +11,7 @@ use Rattle.cga_forest.proofs.Forest.add_root.Goals as goal
 use Rattle.cga_forest.specs.View.{hulls_of, present_of, slot}
 use Rattle.cga_forest.proofs.Covered.{covered_added, covered_made}
 use Rattle.cga_forest.specs.Numbers.{StaysTaken}
-use Rattle.cga_forest.specs.Tree.{ForestView, slot_at, node_at, hulls_at}
+use Rattle.cga_forest.specs.Tree.{node_at, hulls_at}
 use Rattle.cga_forest.proofs.Numbers.{taken_added}
 
 pub push-place-requires-clause-absent : goal.push-place-requires-clause-absent

@@ -1,5 +1,6 @@
-use Rattle.std.proofs.Common.{ap, ◌∙◌, refl}
+use Rattle.std.proofs.Common.{ap, ◌∙◌, sym}
 use Rattle.std.specs.Prelude.{is_some}
+use Rattle.cga_forest.specs.Hull.{hulls_known}
 use Rattle.cga_forest.specs.View.{hulls_of, slot}
 use Rattle.cga_forest.specs.Tree.{ForestView, node_at}
 use Rattle.cga_forest.proofs.Right.{is_there, slot_there}
@@ -12,9 +13,9 @@ entry-requires c = record { here = rw c.slot_of.ensures (slot_there (slot c.self
 pub returns-clause-least : goal.returns-clause-least
 returns-clause-least c = rw (← c.self.view_is) (
     let e = is_there (node_at (record { slots = c.self.inside.store.slots; marking = c.self.inside.marking; roots = c.self.inside.roots.list; marked_roots = c.self.inside.roots.former; mode = c.self.inside.mode }) c.args.id) (ap (λ (v : ForestView). is_some (node_at v c.args.id)) c.self.view_is ∙ c.requires.here) in
-    least_asking_if (record { slots = c.self.inside.store.slots; marking = c.self.inside.marking; roots = c.self.inside.roots.list; marked_roots = c.self.inside.roots.former; mode = c.self.inside.mode }) c.args.id e.0 c.entry.result.now.hulls c.self.invariant.forest.present e.1 (rw (← c.slot_of.ensures) (ap hulls_of c.entry.ensures)) c.entry.result.now.hulls.asking refl)
+    least_asking_if (record { slots = c.self.inside.store.slots; marking = c.self.inside.marking; roots = c.self.inside.roots.list; marked_roots = c.self.inside.roots.former; mode = c.self.inside.mode }) c.args.id e.0 (hulls_known c.entry.result.now.node c.entry.result.now.hulls) c.self.invariant.forest.present e.1 (rw (← c.slot_of.ensures) (ap hulls_of c.entry.ensures)) c.asking_hull.result (sym c.asking_hull.ensures))
 
 pub returns-clause-none : goal.returns-clause-none
-returns-clause-none c = rw (← c.self.view_is) (
+returns-clause-none c = rw (← c.self.view_is, c.asking_hull.ensures) (
     let e = is_there (node_at (record { slots = c.self.inside.store.slots; marking = c.self.inside.marking; roots = c.self.inside.roots.list; marked_roots = c.self.inside.roots.former; mode = c.self.inside.mode }) c.args.id) (ap (λ (v : ForestView). is_some (node_at v c.args.id)) c.self.view_is ∙ c.requires.here) in
-    none_asking (record { slots = c.self.inside.store.slots; marking = c.self.inside.marking; roots = c.self.inside.roots.list; marked_roots = c.self.inside.roots.former; mode = c.self.inside.mode }) c.args.id e.0 c.entry.result.now.hulls c.self.invariant.forest.present e.1 (rw (← c.slot_of.ensures) (ap hulls_of c.entry.ensures)))
+    none_asking (record { slots = c.self.inside.store.slots; marking = c.self.inside.marking; roots = c.self.inside.roots.list; marked_roots = c.self.inside.roots.former; mode = c.self.inside.mode }) c.args.id e.0 (hulls_known c.entry.result.now.node c.entry.result.now.hulls) c.self.invariant.forest.present e.1 (rw (← c.slot_of.ensures) (ap hulls_of c.entry.ensures)))

@@ -1,6 +1,6 @@
-use Rattle.std.proofs.Common.{refl, true, ◌≡◌, ◌++◌, ◌-◌, ℕ, List, length, sym, ◌∙◌, ap, subst, arith}
+use Rattle.std.proofs.Common.{refl, true, Some, ◌≡◌, ◌++◌, ◌-◌, ℕ, List, length, sym, ◌∙◌, ap, subst, arith}
 use Rattle.std.specs.Prelude.{Option, is_some}
-use Rattle.cga_forest.proofs.Right.{is_there}
+use Rattle.cga_forest.proofs.Right.{is_there, slot_there, depth_present}
 use Rattle.cga_forest.specs.declared.entry.Entry.{Entry}
 use Rattle.cga_forest.specs.Gathered.{chosen, coming, found, going}
 use Rattle.cga_forest.specs.View.{at, kids, slot, present_of, marked_of, hulls_of, marked_hulls_of}
@@ -17,6 +17,19 @@ use Rattle.cga_forest.proofs.Tops.{HasRoots-same}
 use Rattle.cga_forest.proofs.Forest.replace_with.Goals as goal
 use Rattle.cga_forest.proofs.Forest.replace_with.Goals.{then-not-self, else-not-self}
 use Rattle.cga_forest.specs.Numbers.{StaysTaken}
+
+pub entry-requires : goal.entry-requires
+entry-requires c = record { here = rw c.in_ok-reserve.ensures.slots (slot_there (slot c.self.inside.store.slots c.args.id) (ap (λ (v : ForestView). is_some (node_at v c.args.id)) c.self.view_is ∙ ap is_some c.requires.here.1)) }
+
+pub overflow_sub-left : goal.overflow_sub-left
+overflow_sub-left c =
+    let there : node_at (record { slots = c.self.inside.store.slots; marking = c.self.inside.marking; roots = c.self.inside.roots.list; marked_roots = c.self.inside.roots.former; mode = c.self.inside.mode }) c.args.id ≡ Some c.requires.here.0 = ap (λ (v : ForestView). node_at v c.args.id) c.self.view_is ∙ c.requires.here.1 in
+    let shallow = c.self.invariant.forest.present.tree.shallow c.args.id c.requires.here.0 there in
+    let is : c.depth_of-depth.result ≡ c.requires.here.0.depth = c.depth_of-depth.ensures ∙ ap (λ (xs : List (Option Entry)). depth_at (slot xs c.args.id)) c.in_ok-reserve.ensures.slots ∙ depth_present (slot c.self.inside.store.slots c.args.id) c.requires.here.0 there in
+    omega arith
+
+pub replace-changed-requires-clause-spares : goal.replace-changed-requires-clause-spares
+replace-changed-requires-clause-spares c = let is = c.depth_of-depth.ensures in let many = c.in_ok-provide.ensures in omega arith
 
 pub replace-changed-requires-clause-whole : goal.replace-changed-requires-clause-whole
 replace-changed-requires-clause-whole c = IsWhole-same (node_at (record { slots = c.self.inside.store.slots; marking = c.self.inside.marking; roots = c.self.inside.roots.list; marked_roots = c.self.inside.roots.former; mode = c.self.inside.mode })) _ (hulls_at (record { slots = c.self.inside.store.slots; marking = c.self.inside.marking; roots = c.self.inside.roots.list; marked_roots = c.self.inside.roots.former; mode = c.self.inside.mode })) _ (λ k. ap (λ (s : List (Option Entry)). present_of (slot s k)) c.in_ok-reserve.ensures.slots) (λ k e t. ap (λ (s : List (Option Entry)). hulls_of (slot s k)) c.in_ok-reserve.ensures.slots) c.self.invariant.forest.present
@@ -76,7 +89,7 @@ returns-clause-went c =
     let old : (k : ℕ) → node_at c.args.self.now k ≡ present_of (at c.reserve.new.self k) = (λ k. ap (λ (v : ForestView). node_at v k) (sym c.self.view_is) ∙ ap (λ (s : List (Option Entry)). present_of (slot s k)) (sym c.in_ok-reserve.ensures.slots)) in
     let whole : IsWhole (λ k. present_of (at c.reserve.new.self k)) (λ k. hulls_of (at c.reserve.new.self k)) = IsWhole-same (node_at (record { slots = c.self.inside.store.slots; marking = c.self.inside.marking; roots = c.self.inside.roots.list; marked_roots = c.self.inside.roots.former; mode = c.self.inside.mode })) _ (hulls_at (record { slots = c.self.inside.store.slots; marking = c.self.inside.marking; roots = c.self.inside.roots.list; marked_roots = c.self.inside.roots.former; mode = c.self.inside.mode })) _ (λ k. ap (λ (s : List (Option Entry)). present_of (slot s k)) c.in_ok-reserve.ensures.slots) (λ k e t. ap (λ (s : List (Option Entry)). hulls_of (slot s k)) c.in_ok-reserve.ensures.slots) c.self.invariant.forest.present in
     let gathered : c.in_ok-went.field-0.went.items ≡ found (λ k. at c.reserve.new.self k) (going (λ d. kids (at c.reserve.new.self d)) (256 - depth_at (at c.reserve.new.self c.args.id)) (λ k w. stay_of (at c.reserve.new.self k) w) (kids (at c.reserve.new.self c.args.id)) c.args.news.items (length (kids (at c.reserve.new.self c.args.id)))) =
-    rw (← c.as_slice.ensures.value, ← c.depth_of-left.ensures) c.in_ok-went.ensures.went in
+    rw (← c.as_slice.ensures.value, ← c.depth_of-depth.ensures) c.in_ok-went.ensures.went in
     ListsMoved-same (λ k. present_of (at c.reserve.new.self k)) (λ k. present_of (at c.replace-changed.new.store k)) _ _ _ old now
     (subst (λ (l : List Moved). ListsMoved (λ k. present_of (at c.reserve.new.self k)) (λ k. present_of (at c.replace-changed.new.store k)) l) (sym (c.from_vec.ensures ∙ gathered))
     (lists_went (λ k. at c.reserve.new.self k) (λ k. present_of (at c.replace-changed.new.store k)) c.args.id _ c.args.news.items c.replace-changed.ensures.replaced.0 _ whole.tree c.replace-changed.ensures.replaced.2))

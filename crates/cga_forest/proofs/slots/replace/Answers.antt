@@ -1,7 +1,7 @@
 use Rattle.std.proofs.Common.{refl, ◌≡◌, ◌∙◌, ap, ◌+◌, ◌-◌, sym}
 use Rattle.cga_forest.specs.View.{at, present_of}
 use Rattle.cga_forest.proofs.Right.{depth_present}
-use Rattle.cga_forest.proofs.Assemble.{kids_there, assembled_slots, vacant_after, tree_after, places_after, here_after, right_after, mark_after, mark_hulls_after}
+use Rattle.cga_forest.proofs.Assemble.{kids_there, assembled_slots, vacant_after, tree_after, places_after, here_after, depth_after, right_after, mark_after, mark_hulls_after}
 use Rattle.cga_forest.proofs.Marks.{IsWhole-from}
 use Rattle.cga_forest.proofs.Through.{ReplacedBy-same}
 use Rattle.cga_forest.proofs.slots.replace.Goals as goal
@@ -37,6 +37,14 @@ refresh-requires-clause-right c =
     c.args.id (c.depth_of-depth.result + 1) (256 - c.depth_of-depth.result) c.args.marking c.place_children.new.made.items c.args.news.items c.args.state c.requires.here.0
     c.requires.here.1 c.requires.here.2.low (ap (λ x. x + 1) d) (ap (λ x. 256 - x) d) c.requires.whole
     (λ k. rw (← c.as_slice.ensures.value) (c.drop_children.ensures.pointwise k)) c.place_children.ensures.placed c.place_children.ensures.length c.rewrite.ensures.others c.rewrite.ensures.present c.rewrite.ensures.hulls
+
+pub refresh-requires-clause-spares : goal.refresh-requires-clause-spares
+refresh-requires-clause-spares c =
+    let d : c.depth_of-depth.result ≡ c.requires.here.0.depth = c.depth_of-depth.ensures ∙ depth_present (at c.args.store.now c.args.id) c.requires.here.0 c.requires.here.1 in
+    rw (depth_after (λ k. at c.args.store.now k) (λ k. at c.drop_children.new.store k) (λ k. at c.place_children.new.store k) (λ k. at c.rewrite.new.self k)
+    c.args.id (c.depth_of-depth.result + 1) (256 - c.depth_of-depth.result) c.args.marking c.place_children.new.made.items c.args.news.items c.args.state c.requires.here.0
+    c.requires.here.1 c.requires.here.2.low (ap (λ x. x + 1) d) (ap (λ x. 256 - x) d) c.requires.whole
+    (λ k. rw (← c.as_slice.ensures.value) (c.drop_children.ensures.pointwise k)) c.place_children.ensures.placed c.place_children.ensures.length c.rewrite.ensures.others c.rewrite.ensures.present) c.requires.spares
 
 pub returns-clause-whole : goal.returns-clause-whole
 returns-clause-whole c =
