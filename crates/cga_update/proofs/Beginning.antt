@@ -33,7 +33,6 @@ use Rattle.cga_rework.proofs.Changes.{lists_are_changes}
 use Rattle.cga_rework.proofs.StandsAgain.{stands_again}
 use Rattle.cga_frame.specs.declared.scope_fault.ScopeFault.{ScopeFault}
 use Rattle.cga_shape.specs.Root.{root_of}
-use Rattle.cga_shape.specs.declared.drawn.Drawn as reported
 use Rattle.cga_shape.specs.declared.shape.Shape.{Shape}
 use Rattle.cga_shape.specs.declared.shape_fault.ShapeFault.{ShapeFault}
 use Rattle.cga_shape.specs.declared.sources.Sources.{Sources}
@@ -41,12 +40,12 @@ use Rattle.cga_forest.specs.declared.moved.Moved.{Moved}
 use Rattle.cga_forest.specs.Moved.{ListsMoved, moved_of, primitive_of}
 use Rattle.cga_forest.specs.View.{Seen}
 use Rattle.cga_forest.specs.Tree.{ForestView, IsForest, marked_at, node_at}
-use Rattle.cga_update.specs.declared.log.Pairing.{Pairing}
 use Rattle.cga_update.specs.Agenda.{AgendaView}
 use Rattle.cga_update.specs.Begun.{IsFirst, StandsMarked}
 use Rattle.cga_update.specs.Edit.{asks_by, content, kept_nodes, meets_box, rules_of, shapes_of, the_edit}
 use Rattle.cga_update.specs.Log.{came_of, drawn_before, drawn_of, is_of, IsLogged, noted_all, StayAlike, went_of}
-use Rattle.cga_update.specs.Means.{told_ranked}
+use Rattle.cga_update.specs.Means.{ArePriced, told_ranked}
+use Rattle.cga_update.specs.Near.{KeepsPriorities}
 use Rattle.cga_update.specs.Plain.{IsPlain}
 use Rattle.cga_update.specs.Queue.{on_of}
 use Rattle.cga_update.specs.Roots.{AllWanted, AreThere, Gains, HasLost, HasOldLots, IsRerooted, Loses}
@@ -223,6 +222,12 @@ module _ (old new : Sources) (first v : ForestView) (d : DependentsView) (went c
     | inr vc ↦ stands.silent c x vc drawn
   ]
 
+  pub priced_now : KeepsPriorities old.grammar new.grammar d → ArePriced new.grammar v
+  priced_now same c x at inner = elim (was_there c x at (V c) refl) [
+    | inl none ↦ (has_tops.top c x at (r.came c x none at).top).1
+    | inr vc ↦ city.priced c x vc inner ∙ same x.node.shape.symbol c (listed_under c x vc inner)
+  ]
+
   pub plain_now : (c : ℕ) (x : Seen) → T c ≡ Some x → IsPlain x
   plain_now c x at = elim (was_there c x at (V c) refl) [
     | inl none ↦ (
@@ -287,13 +292,3 @@ came_since V before after went came lost still lists = record {
     unmarked : (c : ℕ) (x : Seen) → node_at after c ≡ Some x → node_at before c ≡ None → (o : Option Seen) → V c ≡ o → V c ≡ None
     unmarked c x at none None is = is
     unmarked c x at none (Some y) is = none_some x (sym none ∙ (sym (still c y is) ∙ at))
-
--- ---- what was noted
-
-pub drawn_from : (now before : List reported.Drawn) (lent moved : List Moved) → now ≡ before ++ drawn_of lent → before ≡ [] → lent ≡ moved → now ≡ drawn_of moved
-drawn_from now before lent moved is none same = is ∙ (ap (λ xs. xs ++ drawn_of lent) none ∙ ap drawn_of same)
-
-pub log_from : (now mid before : List Pairing) (gone new went came : List Moved) → now ≡ mid ++ came_of new → mid ≡ before ++ went_of gone → before ≡ [] → gone ≡ went → new ≡ came
-    → now ≡ ([] ++ went_of went) ++ came_of came
-log_from now mid before gone new went came is was none same same' =
-    is ∙ (ap (λ xs. xs ++ came_of new) (was ∙ (ap (λ xs. xs ++ went_of gone) none ∙ ap (λ xs. [] ++ went_of xs) same)) ∙ ap (λ xs. ([] ++ went_of went) ++ came_of xs) same')

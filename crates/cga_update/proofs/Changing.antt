@@ -14,7 +14,7 @@ use Rattle.cga_expand.specs.Settings.{Setting, setting_of}
 use Rattle.cga_forest.specs.Tree.{ForestView}
 use Rattle.cga_update.specs.Agenda.{AgendaView}
 use Rattle.cga_update.specs.Changed.{IsNoted}
-use Rattle.cga_update.specs.Near.{HasThese, IsChangedFor, IsPricedFor, KeepsOn}
+use Rattle.cga_update.specs.Near.{HasThese, IsChangedFor, IsPricedFor, KeepsOn, KeepsPriority}
 use Rattle.cga_update.proofs.Members.{among_at}
 use Rattle.cga_update.proofs.Nearby.{parents_kept}
 
@@ -60,3 +60,7 @@ all_changed v old new d names a each s noted = elim noted [ inl h ↦ inl (each 
 pub all_priced : (v : ForestView) (old new : Grammar) (d : DependentsView) (names : List (List ℕ)) (a : AgendaView) → ((s : List ℕ) → Among s names → IsPricedFor v old new (λ c. Member (nodes_in d s) c) s a)
     → (s : List ℕ) → IsNoted old new names s → IsPricedFor v old new (λ c. Member (nodes_in d s) c) s a
 all_priced v old new d names a each s noted = elim noted [ inl h ↦ each s h | inr e ↦ inr (priority_same old new s e) ]
+
+pub all_kept : (old new : Grammar) (d : DependentsView) (names : List (List ℕ)) → ((s : List ℕ) → Among s names → KeepsPriority old new (nodes_in d s) s)
+    → (s : List ℕ) → IsNoted old new names s → KeepsPriority old new (nodes_in d s) s
+all_kept old new d names each s noted = elim noted [ inl h ↦ each s h | inr e ↦ λ c h. priority_same old new s e ]

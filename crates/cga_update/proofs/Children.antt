@@ -85,7 +85,7 @@ module _ (g : Grammar) (n : Node) where
     symbol = λ h. refl;
   }
 
-  priced_is : (i : ℕ) (e : Emitted) → (child_node g n i e).priority ≡ priority_of g (child_node g n i e).shape.symbol
+  pub priced_is : (i : ℕ) (e : Emitted) → (child_node g n i e).priority ≡ priority_of g (child_node g n i e).shape.symbol
   priced_is i (Child symbol args scope seed) = setting_priority g symbol
   priced_is i (Solid primitive scope seed) = setting_priority g n.shape.symbol
 

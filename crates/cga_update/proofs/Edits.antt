@@ -1,13 +1,15 @@
 -- Old and new sources make an edit of the theory.
+use Rattle.std.proofs.Common.{ap}
 use Rattle.cga_shape.specs.declared.sources.Sources.{Sources}
 use Rattle.cga_derivation.specs.Derivation.{IsDerivation}
 use Rattle.cga_agenda.specs.Edit.{IsEdit}
 use Rattle.cga_rework.specs.Rules.{IsRulesEdit, derivation_of}
 use Rattle.cga_rework.proofs.Worlds.{make}
-use Rattle.cga_expand.specs.Derivation.{NamesDiffer}
+use Rattle.cga_rework.specs.TreeLaws.{GoesBySymbol}
+use Rattle.cga_expand.specs.Derivation.{NamesDiffer, priority_of}
 use Rattle.cga_expand.proofs.Instance.{sources_are_derivations}
 use Rattle.cga_expand.proofs.ReadsRules.{settings_decide}
-use Rattle.cga_update.specs.Edit.{shapes_of, rules_of, the_edit}
+use Rattle.cga_update.specs.Edit.{content, shapes_of, rules_of, the_edit}
 
 -- the rules of sources make a derivation in any mode
 pub is_derivation : (sources new : Sources) → NamesDiffer sources.lots → IsDerivation (derivation_of (shapes_of new) (rules_of sources))
@@ -25,3 +27,6 @@ is_rules_edit old new olds news = record {
 
 pub is_edit : (old new : Sources) → NamesDiffer old.lots → NamesDiffer new.lots → IsEdit (the_edit old new)
 is_edit old new olds news = make (shapes_of new) (rules_of old) (rules_of new) (is_rules_edit old new olds news)
+
+pub by_symbol : (new : Sources) → GoesBySymbol content (rules_of new)
+by_symbol new a b h = ap (priority_of new.grammar) h

@@ -19,10 +19,10 @@ use Rattle.cga_update.specs.Queue.{chains_of, on_of}
 use Rattle.cga_update.proofs.Cases.{is_false}
 use Rattle.cga_update.proofs.Nodes.{kept_bound}
 
-abbrev TheEdit : Type 0
+abbrev pub TheEdit : Type 0
 TheEdit = Edit (Ranked Shape) Answers Setting ShapeFault Primitive
 
-abbrev TheState : Type 0
+abbrev pub TheState : Type 0
 TheState = State (Ranked Shape) Answers ShapeFault Primitive
 
 module _ (was : Work) (rest : AgendaView) (edit : TheEdit) (s : TheState) (means : Means was edit s) (same : SameOn (chains_of was.forest) was.agenda rest) where
@@ -44,6 +44,7 @@ module _ (was : Work) (rest : AgendaView) (edit : TheEdit) (s : TheState) (means
     };
     queued = λ c d t. (λ q. same.there c ((means.queued c d t).0 q), λ q. (means.queued c d t).1 (same.back c q));
     due = λ is b c x d there on here asks less. same.there c (means.due is b c x d there (same.back b on) here asks less);
+    priced = means.priced;
     silent = means.silent;
     plain = means.plain;
     gone = means.gone;

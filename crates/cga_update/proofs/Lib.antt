@@ -45,6 +45,7 @@ pub mod Growing
 pub mod TurnOf
 pub mod Renewing
 pub mod Turning
+pub mod Quiet
 pub mod Idle
 pub mod Widening
 pub mod NearAskers

@@ -232,3 +232,13 @@ logged_more V S T log went came logged w k alike s c =
     let first = noted_more (log ++ went_of went) (came_of came) s c (is_of (V c) s) in
     let second = noted_more log (went_of went) s c (is_of (V c) s) in
     sym (first ∙ (ap (noted_all (came_of came) s c) (second ∙ ap (noted_all (went_of went) s c) (sym (logged s c))) ∙ then_made S T went came w k alike s c (S c) (T c) refl refl))
+
+-- ---- what is noted when an update begins
+
+pub drawn_from : (now before : List Drawn) (lent moved : List Moved) → now ≡ before ++ drawn_of lent → before ≡ [] → lent ≡ moved → now ≡ drawn_of moved
+drawn_from now before lent moved is none same = is ∙ (ap (λ xs. xs ++ drawn_of lent) none ∙ ap drawn_of same)
+
+pub log_from : (now mid before : List Pairing) (gone new went came : List Moved) → now ≡ mid ++ came_of new → mid ≡ before ++ went_of gone → before ≡ [] → gone ≡ went → new ≡ came
+    → now ≡ ([] ++ went_of went) ++ came_of came
+log_from now mid before gone new went came is was none same same' =
+    is ∙ (ap (λ xs. xs ++ came_of new) (was ∙ (ap (λ xs. xs ++ went_of gone) none ∙ ap (λ xs. [] ++ went_of xs) same)) ∙ ap (λ xs. ([] ++ went_of went) ++ came_of xs) same')

@@ -12,6 +12,7 @@ use Rattle.cga_forest.specs.View.{Seen}
 use Rattle.cga_forest.specs.Tree.{ForestView, node_at}
 use Rattle.cga_rework.specs.Agenda.{IsTaken}
 use Rattle.cga_update.specs.Agenda.{AgendaView, IsLeast}
+use Rattle.cga_update.specs.Due.{AskersAreDue}
 use Rattle.cga_update.specs.Edit.{content, shapes_of}
 use Rattle.cga_update.specs.Queue.{chains_of, on_of}
 use Rattle.cga_update.proofs.DueNodes.{due_is, due_of}
@@ -53,3 +54,17 @@ is_taken v new old rest id x mode least =
         stay = λ c d here h other. elim (least.stay c h) [ inl s ↦ absurd (other s) | inr y ↦ y ];
       },
     )
+
+-- the same of the node that is found under the number
+pub taken_at : (v : ForestView) (new : Sources) (old rest : AgendaView) (id : ℕ) (x : Chain) (e : Seen) → old.mode ≡ new.mode → IsLeast (chains_of v) old rest id x → node_at v id ≡ Some e → (is_instance e.node.kind ≡ false) × IsTaken (shapes_of new) content (node_at v) id e (on_of v old) (on_of v rest)
+taken_at v new old rest id x e mode least here =
+    let z = is_taken v new old rest id x mode least in
+    subst (λ (d : Seen). (is_instance d.node.kind ≡ false) × IsTaken (shapes_of new) content (node_at v) id d (on_of v old) (on_of v rest)) (some_one (node_at v id) z.0 e z.2.here here) (z.1, z.2)
+
+-- where the askers are due, those later than the node stay on the agenda when it is taken
+pub spared : (v : ForestView) (new : Sources) (old rest : AgendaView) (id : ℕ) (x : Chain) (e : Seen) → IsLeast (chains_of v) old rest id x → node_at v id ≡ Some e → AskersAreDue new.mode v old
+    → (c : ℕ) (d : Seen) → node_at v c ≡ Some d → d.node.asks ≡ true → stamp_cmp new.mode (chain_kept e.node) (chain_kept d.node) ≡ Less → on_of v rest c ≡ true
+spared v new old rest id x e least at due c d here asks less = elim (least.stay c (due id c e d at least.there here asks less)) [
+  | inl same ↦ absurd (not_itself (chain_kept e.node) new (subst (λ (y : Seen). stamp_cmp new.mode (chain_kept e.node) (chain_kept y.node) ≡ Less) (some_one (node_at v c) d e here (ap (node_at v) same ∙ at)) less))
+  | inr on ↦ on
+]

@@ -14,6 +14,7 @@ use Rattle.cga_shape.specs.declared.shape.Shape.{Shape}
 use Rattle.cga_shape.specs.declared.shape_fault.ShapeFault.{ShapeFault}
 use Rattle.cga_tree.specs.Replaced.{IsChildNow, IsNewChild, IsReplaced}
 use Rattle.cga_expand.specs.Children.{placed_by, placed_from}
+use Rattle.cga_expand.specs.Derivation.{priority_of}
 use Rattle.cga_forest.specs.declared.node.Node.{Node}
 use Rattle.cga_forest.specs.Node.{IsBelow, fits}
 use Rattle.cga_forest.specs.Placing.{Outcome, child_kind, child_node, child_shape, children_after, children_from, emitted, kind_after}
@@ -23,10 +24,11 @@ use Rattle.cga_forest.proofs.Books.{nat_cases}
 use Rattle.cga_rework.specs.Ranked.{all_placed}
 use Rattle.cga_rework.specs.Turn.{AreAgain}
 use Rattle.cga_update.specs.Edit.{content}
+use Rattle.cga_update.specs.Means.{ArePriced}
 use Rattle.cga_update.specs.Plain.{IsPlain}
 use Rattle.cga_update.specs.Turned.{IsAgain, emitted_as, emitted_of}
 use Rattle.cga_update.proofs.Cases.{option_cases}
-use Rattle.cga_update.proofs.Children.{child_at}
+use Rattle.cga_update.proofs.Children.{child_at, priced_is}
 
 length_from : (g : Grammar) (n : Node) (k : ℕ) (es : List Emitted) → length (children_from g n k es) ≡ length es
 length_from g n k [] = refl
@@ -141,6 +143,17 @@ module _ (v w : ForestView) (f : IsForest v) (g : Grammar) (id : ℕ) (outcome :
           let y = child_at g e.node 0 (emitted outcome) new.0 new.1 new.2 in
           let is = new.3 ∙ y.2 in
           ap (λ (q : Node). q.asks) is ∙ silent_child g e.node (0 + new.0) y.0 (ap (λ (q : Node). is_instance q.kind) (sym is) ∙ solid)
+    ]
+  ]
+
+  pub still_priced : node_at v id ≡ Some e → now.node.shape ≡ e.node.shape → now.node.priority ≡ e.node.priority → is_instance e.node.kind ≡ false → ArePriced g v → ArePriced g w
+  still_priced here shape priority inner before c d t solid = elim (now_or_was v w f id (children_after g e.node outcome) e now gone replaced c d t) [
+    | inl same ↦ ap (λ (q : Seen). q.node.priority) same ∙ priority ∙ before id e here inner ∙ ap (λ (s : Shape). priority_of g s.symbol) (sym shape ∙ ap (λ (q : Seen). q.node.shape) (sym same))
+    | inr r ↦ elim r [
+      | inl was ↦ before c d was solid
+      | inr new ↦
+          let y = child_at g e.node 0 (emitted outcome) new.0 new.1 new.2 in
+          subst (λ (n : Node). n.priority ≡ priority_of g n.shape.symbol) (sym (new.3 ∙ y.2)) (priced_is g e.node (0 + new.0) y.0)
     ]
   ]
 

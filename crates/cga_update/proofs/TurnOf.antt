@@ -1,6 +1,6 @@
 -- The turn of a node, from what each of its steps tells.
-use Rattle.std.proofs.Common.{◌≡◌, ℕ, length, sym, subst, ◌⊎◌, inl, inr, Bool, true, false, Result, Ok, Err}
-use Rattle.std.specs.Prelude.{IfOk, Some}
+use Rattle.std.proofs.Common.{◌≡◌, ℕ, length, refl, sym, ap, ◌∙◌, subst, ◌⊎◌, inl, inr, Bool, true, false, Result, Ok, Err}
+use Rattle.std.specs.Prelude.{◌||◌, IfOk, Some}
 use Rattle.cga_fraction.specs.declared.memory.NoMemory.{NoMemory}
 use Rattle.cga_word.specs.declared.answers.Answers.{Answers}
 use Rattle.cga_word.specs.declared.target.Target.TheVariants.{Noparent, Active}
@@ -40,6 +40,9 @@ ChangedOf w id facts answers must = (d : Seen) → node_at w.forest id ≡ Some 
 abbrev SameOf : Work → ℕ → Facts → Answers → Bool → Type 0
 SameOf w id facts answers must = (d : Seen) → node_at w.forest id ≡ Some d → must ≡ false → (is_waiting d.node.kind ≡ false) × (facts.same_setting ≡ true) × (d.node.answers ≡ answers)
 
+abbrev RightOf : Work → ℕ → Facts → Bool → Type 0
+RightOf w id facts right = (d : Seen) → node_at w.forest id ≡ Some d → right ≡ true → d.node.asks ≡ (facts.noparent || facts.active)
+
 abbrev ExpandsAt : Work → Work → ℕ → Answers → Turned → Type 0
 ExpandsAt w now id answers turned = (outcome : Outcome) × HasPlaced w now id answers outcome
     × ((d : Seen) → node_at w.forest id ≡ Some d → outcome ≡ expand_of w.new.now.grammar d.node.shape answers)
@@ -68,7 +71,7 @@ module _ (was : Work) (symbols : Symbols) where
       log = p.log;
       gone = p.gone;
       come = p.come;
-      bounds = record { old = p.bounds.old; new = p.bounds.new; mode = p.bounds.mode; mark = p.bounds.mark; due = p.bounds.due };
+      bounds = record { old = p.bounds.old; new = p.bounds.new; mode = p.bounds.mode; mark = p.bounds.mark; due = p.bounds.due; priced = p.bounds.priced };
       forest = p.forest;
     },
   )
@@ -84,7 +87,7 @@ module _ (was : Work) (symbols : Symbols) where
     known_now = subst (λ s. Knows was s) (sym same_symbols) (known may.known)
 
     expanded_is : ChangedOf mid id facts answers must → must ≡ true → ExpandsAt mid now id answers turned → IsTurned was now id turned
-    expanded_is changed so p = record {
+    expanded_is changed so p = inl (record {
       node = here.0;
       here = here.1;
       answers = answers;
@@ -100,10 +103,10 @@ module _ (was : Work) (symbols : Symbols) where
           count = p.4;
         },
       );
-    }
+    })
 
     placed_is : SameOf mid id facts answers must → must ≡ false → PlacesAt mid now id answers turned → IsTurned was now id turned
-    placed_is same so p = record {
+    placed_is same so p = inl (record {
       node = here.0;
       here = here.1;
       answers = answers;
@@ -120,7 +123,20 @@ module _ (was : Work) (symbols : Symbols) where
           again = p.2 here.0 here.1 (same here.0 here.1 so).0 (may.plain id here.0 here.1);
         },
       );
-    }
+    })
+
+    quiet_is : SameOf mid id facts answers must → must ≡ false → was.priced ≡ true → here.0.node.asks ≡ (facts.noparent || facts.active) → now ≡ mid → turned ≡ record { children = 0; expanded = false } → IsTurned was now id turned
+    quiet_is same so priced right stays told = inr (record {
+      node = here.0;
+      here = here.1;
+      done = (same here.0 here.1 so).0;
+      same = (are.setting.0 (same here.0 here.1 so).1, (same here.0 here.1 so).2 ∙ asked_is);
+      asks = right ∙ (λ i. are.noparent i || are.active i);
+      priced = priced;
+      stays = stays ∙ ap (λ s. record was { symbols = s }) (sym same_symbols);
+      known = known_now;
+      told = told;
+    })
 
 module _ (was between now : Work) (id : ℕ) (facts : Facts) (answers : Answers) (must : Bool) (r : Result Turned NoMemory) (here : IsHere was id) (rest : between ≡ record was { symbols = between.symbols }) (facts_are : HasFacts was id facts) (known : Knows was was.symbols → Knows was between.symbols) (asks : AsksOf between id facts answers) (same_symbols : now.symbols ≡ between.symbols) where
   pub expanded_turn : ChangedOf between id facts answers must → must ≡ true → IfOk r (λ turned. ExpandsAt between now id answers turned) → IfOk r (λ turned. MayTurn was → IsTurned was now id turned)
@@ -136,3 +152,10 @@ module _ (was between now : Work) (id : ℕ) (facts : Facts) (answers : Answers)
       at : (o : Result Turned NoMemory) → IfOk o (λ turned. PlacesAt between now id answers turned) → IfOk o (λ turned. MayTurn was → IsTurned was now id turned)
       at (Ok turned) q = λ may. placed_is was between.symbols now id facts answers must turned here facts_are known (subst (λ w. AsksOf w id facts answers) rest asks) same_symbols may (subst (λ w. SameOf w id facts answers must) rest same) so (subst (λ w. PlacesAt w now id answers turned) rest q)
       at (Err f) q = q
+
+-- where all stays
+pub quiet_turn : (was between : Work) (id : ℕ) (facts : Facts) (answers : Answers) (must right : Bool) → IsHere was id → between ≡ record was { symbols = between.symbols } → HasFacts was id facts → (Knows was was.symbols → Knows was between.symbols) → AsksOf between id facts answers
+    → SameOf between id facts answers must → must ≡ false → between.priced ≡ true → RightOf between id facts right → right ≡ true → MayTurn was → IsTurned was between id (record { children = 0; expanded = false })
+quiet_turn was between id facts answers must right here rest facts_are known asks same so priced asking is may =
+    quiet_is was between.symbols between id facts answers must (record { children = 0; expanded = false }) here facts_are known (subst (λ w. AsksOf w id facts answers) rest asks) refl may
+    (subst (λ w. SameOf w id facts answers must) rest same) so (sym (ap (λ w. w.priced) rest) ∙ priced) (subst (λ w. RightOf w id facts right) rest asking here.0 here.1 is) rest refl

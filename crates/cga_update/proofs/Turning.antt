@@ -34,7 +34,6 @@ use Rattle.cga_rework.specs.Agenda.{AreQueued, IsTaken}
 use Rattle.cga_rework.specs.City.{IsUnderway}
 use Rattle.cga_rework.specs.Ranked.{Ranked}
 use Rattle.cga_rework.specs.Turn.{IsFit, IsNodeTurn}
-use Rattle.cga_rework.specs.TreeLaws.{GoesBySymbol}
 use Rattle.cga_rework.specs.Changes.{ListsLost}
 use Rattle.cga_rework.specs.Turn as theory
 use Rattle.cga_rework.proofs.Changes.{lists_are_changes}
@@ -48,25 +47,20 @@ use Rattle.cga_check.specs.Uses.{same_name}
 use Rattle.cga_rule.specs.declared.grammar.Grammar.{Grammar}
 use Rattle.cga_expand.specs.Expand.{expand_of}
 use Rattle.cga_update.specs.Log.{IsLogged, StayAlike, came_of, drawn_of, is_of, noted_all, went_of}
-use Rattle.cga_update.specs.Means.{Means, told_ranked}
+use Rattle.cga_update.specs.Means.{ArePriced, Means, told_ranked}
 use Rattle.cga_update.specs.Queue.{chains_of, on_of}
-use Rattle.cga_update.specs.Turned.{IsTurned, MayTurn}
+use Rattle.cga_update.specs.Turned.{IsPlacing, MayTurn}
 use Rattle.cga_update.proofs.Children.{are_news, is_outcome, keeps_self, setting_asks}
-use Rattle.cga_update.proofs.Edits.{is_rules_edit}
+use Rattle.cga_update.proofs.Edits.{by_symbol, is_rules_edit}
+use Rattle.cga_update.proofs.Idle.{TheEdit, TheState}
 use Rattle.cga_update.proofs.Moved.{is_moved, still_due}
-use Rattle.cga_update.proofs.Moves.{is_taken, not_itself, some_one}
+use Rattle.cga_update.proofs.Moves.{some_one, spared, taken_at}
 use Rattle.cga_update.proofs.Nodes.{kept_bound}
 use Rattle.cga_update.proofs.Drawing.{lists_lost}
 use Rattle.cga_update.proofs.Logged.{logged_more}
 use Rattle.cga_update.proofs.Meeting.{sees_what_meets}
 use Rattle.cga_update.proofs.Places.{same_node}
-use Rattle.cga_update.proofs.Renewing.{are_again, count_made, still_plain, still_silent}
-
-abbrev TheEdit : Type 0
-TheEdit = Edit (Ranked Shape) Answers Setting ShapeFault Primitive
-
-abbrev TheState : Type 0
-TheState = State (Ranked Shape) Answers ShapeFault Primitive
+use Rattle.cga_update.proofs.Renewing.{are_again, count_made, still_plain, still_priced, still_silent}
 
 pub may_turn : (w : Work) (rest : AgendaView) (edit : TheEdit) (s : TheState) → Means w edit s → MayTurn (record w { agenda = rest })
 may_turn w rest edit s means = record { mode = means.mode; known = means.known; plain = means.plain }
@@ -87,7 +81,7 @@ is_fit = record {
 }
 
 -- one turn: was and now are the work before and after it
-module _ (was now : Work) (rest : AgendaView) (id : ℕ) (x : Chain) (turned : Turned) (edit : TheEdit) (s : TheState) (means : Means was edit s) (before : IsForest was.forest) (least : IsLeast (chains_of was.forest) was.agenda rest id x) (turn : IsTurned (record was { agenda = rest }) now id turned) where
+module _ (was now : Work) (rest : AgendaView) (id : ℕ) (x : Chain) (turned : Turned) (edit : TheEdit) (s : TheState) (means : Means was edit s) (before : IsForest was.forest) (least : IsLeast (chains_of was.forest) was.agenda rest id x) (turn : IsPlacing (record was { agenda = rest }) now id turned) where
   abbrev new : Sources
   new = was.new.now
 
@@ -106,17 +100,11 @@ module _ (was now : Work) (rest : AgendaView) (id : ℕ) (x : Chain) (turned : T
   abbrev news : List Node
   news = children_after g e.node turn.outcome
 
-  taken : (d : Seen) × (is_instance d.node.kind ≡ false) × IsTaken (shapes_of new) content V id d (on_of was.forest was.agenda) (on_of was.forest rest)
-  taken = is_taken was.forest new was.agenda rest id x means.agenda_mode least
-
-  is_e : taken.0 ≡ e
-  is_e = some_one (V id) taken.0 e taken.2.here turn.here
+  taken : (is_instance e.node.kind ≡ false) × IsTaken (shapes_of new) content V id e (on_of was.forest was.agenda) (on_of was.forest rest)
+  taken = taken_at was.forest new was.agenda rest id x e means.agenda_mode least turn.here
 
   inner : is_instance e.node.kind ≡ false
-  inner = ap (λ (d : Seen). is_instance d.node.kind) (sym is_e) ∙ taken.1
-
-  taken_e : IsTaken (shapes_of new) content V id e (on_of was.forest was.agenda) (on_of was.forest rest)
-  taken_e = subst (λ d. IsTaken (shapes_of new) content V id d (on_of was.forest was.agenda) (on_of was.forest rest)) is_e taken.2
+  inner = taken.0
 
   replaces : Replaces V T id (state_after g e.node turn.answers turn.outcome) news
   replaces = turn.placed.1.replaced e turn.here
@@ -136,12 +124,8 @@ module _ (was now : Work) (rest : AgendaView) (id : ℕ) (x : Chain) (turned : T
   abbrev IsAfter : Seen → Type 0
   IsAfter d = stamp_cmp new.mode (chain_kept e.node) (chain_kept d.node) ≡ Less
 
-  -- where the askers are due, those later than the node stay on the agenda when it is taken
-  spared : was.askers_due ≡ true → (c : ℕ) (d : Seen) → V c ≡ Some d → d.node.asks ≡ true → IsAfter d → on_of was.forest rest c ≡ true
-  spared is c d here asks less = elim (least.stay c (means.due is id c e d turn.here least.there here asks less)) [
-    | inl same ↦ absurd (not_itself (chain_kept e.node) new (subst (λ (y : Seen). stamp_cmp new.mode (chain_kept e.node) (chain_kept y.node) ≡ Less) (some_one (V c) d e here (ap V same ∙ turn.here)) less))
-    | inr on ↦ on
-  ]
+  askers : was.askers_due ≡ true → (c : ℕ) (d : Seen) → V c ≡ Some d → d.node.asks ≡ true → IsAfter d → on_of was.forest rest c ≡ true
+  askers is = spared was.forest new was.agenda rest id x e least turn.here (means.due is)
 
   -- what came is a child of the node, and so comes later
   born_later : (c : ℕ) (d : Seen) → V c ≡ None → T c ≡ Some d → IsAfter d
@@ -183,18 +167,15 @@ module _ (was now : Work) (rest : AgendaView) (id : ℕ) (x : Chain) (turned : T
 
   node_turn : IsNodeTurn (shapes_of new) content (rules_of was.old.now) (rules_of new) fits (asks_by g) meets_box V T (length was.forest.slots) id news e after_e gone (on_of was.forest was.agenda) (on_of was.forest rest) (on_of now.forest now.agenda) turned.expanded
   node_turn = record {
-    taken = taken_e;
+    taken = taken.1;
     replaced = replaced;
     tree = turn.placed.1.forest.present.tree;
     self = keeps_self new e.node turn.answers turn.outcome inner;
     self_asks = setting_asks g e.node.shape;
     are = are_news new e.node turn.outcome inner;
     outcome = told;
-    moved = is_moved was.forest now.forest new id news e after_e gone replaced inner still refl rest now.agenda (least.mode ∙ means.agenda_mode) turn.placed.0 turn.placed.1.went turn.placed.1.came was.askers_due turn.placed.1.followed spared;
+    moved = is_moved was.forest now.forest new id news e after_e gone replaced inner still refl rest now.agenda (least.mode ∙ means.agenda_mode) turn.placed.0 turn.placed.1.went turn.placed.1.came was.askers_due turn.placed.1.followed askers;
   }
-
-  by_symbol : GoesBySymbol content (rules_of new)
-  by_symbol a b h = ap (expansion.priority_of new.grammar) h
 
   abbrev Result : Type 0
   Result =
@@ -203,7 +184,7 @@ module _ (was now : Work) (rest : AgendaView) (id : ℕ) (x : Chain) (turned : T
       × IsTurnOf (the_edit was.old.now new) (kept_nodes was.forest) (kept_nodes now.forest) (ranked e.node) s.queued requeued turned.expanded)
 
   result : Result
-  result = node_turns (shapes_of new) content (rules_of was.old.now) (rules_of new) (is_rules_edit was.old.now new means.old_names means.names) by_symbol fits (asks_by g) meets_box is_fit (sees_what_meets new) V T (length was.forest.slots) (length now.forest.slots) id news e after_e gone (on_of was.forest was.agenda) (on_of was.forest rest) (on_of now.forest now.agenda) turned.expanded (kept_bound was.forest) (kept_bound now.forest) means.underway node_turn s.queued means.queued
+  result = node_turns (shapes_of new) content (rules_of was.old.now) (rules_of new) (is_rules_edit was.old.now new means.old_names means.names) (by_symbol new) fits (asks_by g) meets_box is_fit (sees_what_meets new) V T (length was.forest.slots) (length now.forest.slots) id news e after_e gone (on_of was.forest was.agenda) (on_of was.forest rest) (on_of now.forest now.agenda) turned.expanded (kept_bound was.forest) (kept_bound now.forest) means.underway node_turn s.queued means.queued
 
   -- ---- the record
 
@@ -217,7 +198,7 @@ module _ (was now : Work) (rest : AgendaView) (id : ℕ) (x : Chain) (turned : T
   came = lists_lost T V (one_node now.forest turn.placed.1.forest) turn.placed.0.came turn.placed.1.came
 
   change : IsChange (kept_nodes was.forest) (kept_nodes now.forest) went.0 came.0
-  change = lists_are_changes.turn (shapes_of new) content (rules_of was.old.now) (rules_of new) (is_rules_edit was.old.now new means.old_names means.names) by_symbol fits (asks_by g) meets_box is_fit V T (length was.forest.slots) (length now.forest.slots) id news e after_e gone (on_of was.forest was.agenda) (on_of was.forest rest) (on_of now.forest now.agenda) turned.expanded (kept_bound was.forest) (kept_bound now.forest) means.underway node_turn went.0 came.0 went.1 came.1
+  change = lists_are_changes.turn (shapes_of new) content (rules_of was.old.now) (rules_of new) (is_rules_edit was.old.now new means.old_names means.names) (by_symbol new) fits (asks_by g) meets_box is_fit V T (length was.forest.slots) (length now.forest.slots) id news e after_e gone (on_of was.forest was.agenda) (on_of was.forest rest) (on_of now.forest now.agenda) turned.expanded (kept_bound was.forest) (kept_bound now.forest) means.underway node_turn went.0 came.0 went.1 came.1
 
   abbrev after : TheState
   after = record { nodes = kept_nodes now.forest; queued = result.1.0; gone = s.gone ++ went.0; come = s.come ++ came.0 }
@@ -260,8 +241,8 @@ module _ (was now : Work) (rest : AgendaView) (id : ℕ) (x : Chain) (turned : T
 
   due_now : was.askers_due ≡ true → AskersAreDue new.mode now.forest now.agenda
   due_now =
-      still_due was.forest now.forest new id news e after_e gone replaced inner still refl rest now.agenda (least.mode ∙ means.agenda_mode) turn.placed.0 turn.placed.1.went turn.placed.1.came was.askers_due turn.placed.1.followed spared
-      born_later (λ c x there on. (taken_e.left c x there on).2) (still_silent was.forest now.forest before g id turn.outcome e after_e gone replaced refl means.silent)
+      still_due was.forest now.forest new id news e after_e gone replaced inner still refl rest now.agenda (least.mode ∙ means.agenda_mode) turn.placed.0 turn.placed.1.went turn.placed.1.came was.askers_due turn.placed.1.followed askers
+      born_later (λ c x there on. (taken.1.left c x there on).2) (still_silent was.forest now.forest before g id turn.outcome e after_e gone replaced refl means.silent)
 
   means_now : Means now edit after
   means_now = record {
@@ -274,6 +255,7 @@ module _ (was now : Work) (rest : AgendaView) (id : ℕ) (x : Chain) (turned : T
     underway = to_new (λ b. IsUnderway (shapes_of b.now) content (rules_of b.now) (asks_by b.now.grammar) T (on_of now.forest now.agenda)) result.0;
     queued = to_new (λ b. AreQueued (shapes_of b.now) content T (on_of now.forest now.agenda) result.1.0) result.1.1;
     due = λ is. to_new (λ b. AskersAreDue b.now.mode now.forest now.agenda) (due_now (sym turn.placed.1.bounds.due ∙ is));
+    priced = λ is. to_new (λ b. ArePriced b.now.grammar now.forest) (still_priced was.forest now.forest before g id turn.outcome e after_e gone replaced refl turn.here refl refl inner (means.priced (sym turn.placed.1.bounds.priced ∙ is)));
     silent = still_silent was.forest now.forest before g id turn.outcome e after_e gone replaced refl means.silent;
     plain = still_plain was.forest now.forest before g id turn.outcome e after_e gone replaced refl means.plain;
     gone = turn.placed.1.gone ∙ (λ i. means.gone i ++ sym went.2 i) ∙ sym (map_both told_ranked s.gone went.0);

@@ -12,10 +12,11 @@ use Rattle.cga_agenda.specs.Record.{Drawn}
 use Rattle.cga_rework.specs.Agenda.{AreQueued}
 use Rattle.cga_rework.specs.City.{IsUnderway}
 use Rattle.cga_rework.specs.Ranked.{Ranked, unranked_drawn}
-use Rattle.cga_expand.specs.Derivation.{NamesDiffer}
+use Rattle.cga_rule.specs.declared.grammar.Grammar.{Grammar}
+use Rattle.cga_expand.specs.Derivation.{NamesDiffer, priority_of}
 use Rattle.cga_expand.specs.Settings.{Setting}
 use Rattle.cga_forest.specs.View.{Seen}
-use Rattle.cga_forest.specs.Tree.{KeepsMark, marked_at, node_at}
+use Rattle.cga_forest.specs.Tree.{ForestView, KeepsMark, marked_at, node_at}
 use Rattle.cga_update.specs.declared.work.Work.{Work}
 use Rattle.cga_update.specs.Changed.{AreKnown}
 use Rattle.cga_update.specs.Due.{AskersAreDue}
@@ -29,6 +30,11 @@ use Rattle.cga_update.specs.Updates.{told}
 abbrev pub told_ranked : Drawn (Ranked Shape) Primitive → reported.Drawn
 told_ranked d = told (unranked_drawn d)
 
+-- each node that is no instance has the priority that its symbol has in the grammar
+abbrev pub ArePriced : Grammar → ForestView → Type 0
+ArePriced g v =
+    (c : ℕ) (d : Seen) → node_at v c ≡ Some d → is_instance d.node.kind ≡ false → d.node.priority ≡ priority_of g d.node.shape.symbol
+
 pub record Means (w : Work) (edit : Edit (Ranked Shape) Answers Setting ShapeFault Primitive) (s : State (Ranked Shape) Answers ShapeFault Primitive) : Type 0 where
   pub edit_is : edit ≡ the_edit w.old.now w.new.now
   pub old_names : NamesDiffer w.old.now.lots
@@ -40,6 +46,7 @@ pub record Means (w : Work) (edit : Edit (Ranked Shape) Answers Setting ShapeFau
   pub underway : IsUnderway (shapes_of w.new.now) content (rules_of w.new.now) (asks_by w.new.now.grammar) (node_at w.forest) (on_of w.forest w.agenda)
   pub queued : AreQueued (shapes_of w.new.now) content (node_at w.forest) (on_of w.forest w.agenda) s.queued
   pub due : w.askers_due ≡ true → AskersAreDue w.new.now.mode w.forest w.agenda
+  pub priced : w.priced ≡ true → ArePriced w.new.now.grammar w.forest
   -- an instance doesn't ask
   pub silent : (c : ℕ) (d : Seen) → node_at w.forest c ≡ Some d → is_instance d.node.kind ≡ true → d.node.asks ≡ false
   pub plain : (c : ℕ) (d : Seen) → node_at w.forest c ≡ Some d → IsPlain d
@@ -50,10 +57,11 @@ pub record Means (w : Work) (edit : Edit (Ranked Shape) Answers Setting ShapeFau
   pub marked : w.forest.marking ≡ true
   pub logged : IsLogged (marked_at w.forest) (node_at w.forest) w.log.items
 
--- the sources, the mode and the mark are as they were, and so is whether the askers are due
+-- the sources, the mode and the mark are as they were, and so is whether the askers are due and the nodes priced
 pub record KeepsBounds (was now : Work) : Type 0 where
   pub old : now.old ≡ was.old
   pub new : now.new ≡ was.new
   pub mode : now.forest.mode ≡ was.forest.mode
   pub mark : KeepsMark was.forest now.forest
   pub due : now.askers_due ≡ was.askers_due
+  pub priced : now.priced ≡ was.priced

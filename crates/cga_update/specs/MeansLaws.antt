@@ -5,7 +5,7 @@ use Rattle.cga_update.specs.declared.work.Work.{Work}
 use Rattle.cga_update.specs.Means.{KeepsBounds}
 
 pub keeps_itself : (w : Work) → KeepsBounds w w
-keeps_itself w = record { old = refl; new = refl; mode = refl; mark = (refl, λ m c. refl); due = refl }
+keeps_itself w = record { old = refl; new = refl; mode = refl; mark = (refl, λ m c. refl); due = refl; priced = refl }
 
 pub keeps_on : (u v w : Work) → KeepsBounds u v → KeepsBounds v w → KeepsBounds u w
 keeps_on u v w a b = record {
@@ -14,4 +14,5 @@ keeps_on u v w a b = record {
   mode = b.mode ∙ a.mode;
   mark = (b.mark.0 ∙ a.mark.0, λ m c. b.mark.1 (a.mark.0 ∙ m) c ∙ a.mark.1 m c);
   due = b.due ∙ a.due;
+  priced = b.priced ∙ a.priced;
 }

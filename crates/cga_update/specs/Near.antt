@@ -1,7 +1,9 @@
 -- What is on the agenda when an update begins.
 use Rattle.std.specs.Prelude.{◌≡◌, ◌⊎◌, ℕ, List, Some, true, false}
 use Rattle.cga_frame.specs.Box.{Box, box_of, meets}
+use Rattle.cga_index.specs.Tree.{Member}
 use Rattle.cga_rule.specs.declared.grammar.Grammar.{Grammar}
+use Rattle.cga_depend.specs.Pairs.{DependentsView, nodes_in}
 use Rattle.cga_expand.specs.Derivation.{priority_of}
 use Rattle.cga_expand.specs.Settings.{setting_of}
 use Rattle.cga_order.specs.World.{is_instance}
@@ -9,6 +11,14 @@ use Rattle.cga_forest.specs.View.{Seen}
 use Rattle.cga_forest.specs.Tree.{ForestView, node_at}
 use Rattle.cga_update.specs.Agenda.{AgendaView}
 use Rattle.cga_update.specs.Queue.{on_of}
+
+-- where one of the nodes is of the symbol, its priority is the old one
+abbrev pub KeepsPriority : Grammar → Grammar → List ℕ → List ℕ → Type 0
+KeepsPriority old new nodes symbol = (c : ℕ) → Member nodes c → priority_of old symbol ≡ priority_of new symbol
+
+-- each symbol that has a node has its old priority
+abbrev pub KeepsPriorities : Grammar → Grammar → DependentsView → Type 0
+KeepsPriorities old new d = (symbol : List ℕ) → KeepsPriority old new (nodes_in d symbol) symbol
 
 module _ (v : ForestView) where
   -- the node is there, and is no instance

@@ -22,7 +22,7 @@ use Rattle.cga_forest.specs.View.{Seen}
 use Rattle.cga_forest.specs.Tree.{ForestView, IsForest, Replaces, node_at}
 use Rattle.cga_update.specs.declared.work.Work.{Work}
 use Rattle.cga_update.specs.Changed.{AreKnown}
-use Rattle.cga_update.specs.Edit.{kept_nodes, ranked, the_edit}
+use Rattle.cga_update.specs.Edit.{asks_by, kept_nodes, ranked, the_edit}
 use Rattle.cga_update.specs.Follow.{IsFollowed}
 use Rattle.cga_update.specs.Log.{came_of, drawn_of, went_of}
 use Rattle.cga_update.specs.Means.{KeepsBounds}
@@ -88,8 +88,8 @@ pub record IsPlacedAgain (was : Work) (e : Seen) (answers : Answers) (outcome : 
   pub same : SameAsked was e answers
   pub again : IsAgain was.forest e outcome
 
--- the turn of a node
-pub record IsTurned (was now : Work) (id : ℕ) (turned : Turned) : Type 0 where
+-- the turn of a node whose children are placed
+pub record IsPlacing (was now : Work) (id : ℕ) (turned : Turned) : Type 0 where
   pub node : Seen
   pub here : node_at was.forest id ≡ Some node
   pub answers : Answers
@@ -99,6 +99,22 @@ pub record IsTurned (was now : Work) (id : ℕ) (turned : Turned) : Type 0 where
   pub known : AreKnown was.old.now.grammar was.new.now.grammar now.symbols.known
   pub told : ((turned.expanded ≡ true) × IsExpanded was node answers outcome turned.children)
       ⊎ ((turned.expanded ≡ false) × IsPlacedAgain was node answers outcome turned.children)
+
+-- the turn of a node that is asked as before and asks what it should, where each node has its symbol's priority: all stays
+pub record IsQuiet (was now : Work) (id : ℕ) (turned : Turned) : Type 0 where
+  pub node : Seen
+  pub here : node_at was.forest id ≡ Some node
+  pub done : is_waiting node.node.kind ≡ false
+  pub same : SameAsked was node (kept.asked (new_world (the_edit was.old.now was.new.now)) (kept_nodes was.forest) (ranked node.node))
+  pub asks : node.node.asks ≡ asks_by was.new.now.grammar node.node.shape
+  pub priced : was.priced ≡ true
+  pub stays : now ≡ record was { symbols = now.symbols }
+  pub known : AreKnown was.old.now.grammar was.new.now.grammar now.symbols.known
+  pub told : turned ≡ record { children = 0; expanded = false }
+
+-- the turn of a node
+abbrev pub IsTurned : Work → Work → ℕ → Turned → Type 0
+IsTurned was now id turned = IsPlacing was now id turned ⊎ IsQuiet was now id turned
 
 -- what a turn rests on
 pub record MayTurn (w : Work) : Type 0 where

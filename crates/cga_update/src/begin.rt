@@ -1,9 +1,9 @@
 //! The beginning of an update: the roots that go and come, and the first agenda.
-ghost use Rattle.std.specs.Prelude.{◌≡◌, ℕ, IfOk, OnOk};
+ghost use Rattle.std.specs.Prelude.{◌≡◌, ℕ, true, IfOk, OnOk};
 ghost use Rattle.cga_forest.specs.Tree.{marked_at, node_at};
 ghost use Rattle.cga_update.specs.Begun.{HasBegun, IsBetween, IsFirst, StandsMarked};
 ghost use Rattle.cga_update.specs.Changed.{AreKnown};
-ghost use Rattle.cga_update.specs.Near.{KeepsOn};
+ghost use Rattle.cga_update.specs.Near.{KeepsPriorities};
 
 use crate::agenda::Agenda;
 use crate::changed::Symbols;
@@ -18,7 +18,8 @@ use cga_shape::Sources;
 use std::alloc::Global;
 use std::sync::ledger::Ledger;
 
-/// Puts on an agenda all that is to be looked at when roots went and came. Takes memory.
+/// Puts on an agenda all that is to be looked at when roots went and came, and answers whether each node has the
+/// priority that its symbol has today. Takes memory.
 fn first_agenda<T: Ledger>(
     agenda: &mut Agenda,
     alloc: Global,
@@ -30,16 +31,17 @@ fn first_agenda<T: Ledger>(
     went: &[Moved],
     came: &[Moved],
     tests: &mut Steps<T>,
-) -> Result<(), NoMemory>
+) -> Result<bool, NoMemory>
     requires { AreKnown old.now.grammar new.now.grammar symbols.old.known }
     ensures known { OnOk result (AreKnown old.now.grammar new.now.grammar symbols.new.known) }
     ensures first { OnOk result (IsFirst old.now new.now forest.now dependents.now went.now came.now agenda.new) }
     ensures mode { OnOk result (agenda.new.mode ≡ agenda.old.mode) }
+    ensures priced { IfOk result (λ kept. kept ≡ true → KeepsPriorities old.now.grammar new.now.grammar dependents.now) }
 {
     queue_moved(agenda, alloc, forest, came)?;
     queue_near(agenda, alloc, forest, went, tests)?;
     queue_near(agenda, alloc, forest, came, tests)?;
-    queue_changed(
+    let priced = queue_changed(
         agenda,
         alloc,
         forest,
@@ -48,7 +50,7 @@ fn first_agenda<T: Ledger>(
         &new.grammar,
         dependents,
     )?;
-    Ok(())
+    Ok(priced)
 }
 
 /// An update under way, before its first turn: the roots that went are gone, those that came are there, and the agenda has
@@ -82,7 +84,7 @@ pub fn begun<'a, T: Ledger>(
     let came_nodes = came.as_slice();
     note_went(went_nodes, &mut log, &mut gone)?;
     note_came(came_nodes, &mut log, &mut come)?;
-    first_agenda(
+    let priced = first_agenda(
         &mut agenda,
         alloc,
         &forest,
@@ -100,6 +102,7 @@ pub fn begun<'a, T: Ledger>(
         forest,
         agenda,
         askers_due,
+        priced,
         symbols,
         log,
         gone,

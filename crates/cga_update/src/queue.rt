@@ -1,11 +1,11 @@
 //! Nodes are put on the agenda, whatever their stamps.
-ghost use Rattle.std.specs.Prelude.{◌≡◌, ℕ, List, OnOk};
+ghost use Rattle.std.specs.Prelude.{◌≡◌, ℕ, List, true, IfOk, OnOk};
 ghost use Rattle.cga_frame.specs.Box.{box_of};
 ghost use Rattle.cga_forest.specs.declared.moved.Moved.{Moved};
 ghost use Rattle.cga_index.specs.Tree.{Member};
 ghost use Rattle.cga_order.specs.World.{Among};
 ghost use Rattle.cga_update.specs.Changed.{AreKnown};
-ghost use Rattle.cga_update.specs.Near.{HasNear, HasParents, HasThese, IsChangedFor, IsPricedFor, KeepsOn};
+ghost use Rattle.cga_update.specs.Near.{HasNear, HasParents, HasThese, IsChangedFor, IsPricedFor, KeepsOn, KeepsPriorities, KeepsPriority};
 ghost use Rattle.cga_depend.specs.Pairs.{nodes_in};
 
 use crate::agenda::Agenda;
@@ -120,7 +120,8 @@ pub fn queue_parents(
     Ok(())
 }
 
-/// Puts the nodes of a symbol on it, and their parents where the symbol has another priority. Takes memory.
+/// Puts the nodes of a symbol on it, and their parents where the symbol has another priority. Answers whether each of
+/// them has its symbol's priority. Takes memory.
 fn queue_symbol(
     agenda: &mut Agenda,
     alloc: Global,
@@ -130,24 +131,25 @@ fn queue_symbol(
     new: &Grammar,
     nodes: &[NodeId],
     symbol: Name,
-) -> Result<(), NoMemory>
+) -> Result<bool, NoMemory>
     requires { AreKnown old.now new.now symbols.old.known }
     ensures known { OnOk result (AreKnown old.now new.now symbols.new.known) }
     ensures kept { OnOk result (KeepsOn forest.now agenda.old agenda.new) }
     ensures there { OnOk result (HasThese forest.now (λ c. Member nodes.now c) agenda.new) }
     ensures parents { OnOk result (IsPricedFor forest.now old.now new.now (λ c. Member nodes.now c) symbol agenda.new) }
+    ensures priced { IfOk result (λ kept. kept ≡ true → KeepsPriority old.now new.now nodes.now symbol) }
 {
     let facts = symbols.of(old, new, symbol)?;
     queue_all(agenda, alloc, forest, nodes)?;
     if facts.same_priority {
-        return Ok(());
+        return Ok(true);
     }
     queue_parents(agenda, alloc, forest, nodes)?;
-    Ok(())
+    Ok(nodes.is_empty())
 }
 
 /// Puts the nodes of each symbol whose setting changed on it, and their parents where the symbol has another priority.
-/// Takes memory.
+/// Answers whether each node has its symbol's priority. Takes memory.
 pub fn queue_changed(
     agenda: &mut Agenda,
     alloc: Global,
@@ -156,17 +158,20 @@ pub fn queue_changed(
     old: &Grammar,
     new: &Grammar,
     dependents: &Dependents,
-) -> Result<(), NoMemory>
+) -> Result<bool, NoMemory>
     requires { AreKnown old.now new.now symbols.old.known }
     ensures known { OnOk result (AreKnown old.now new.now symbols.new.known) }
     ensures kept { OnOk result (KeepsOn forest.now agenda.old agenda.new) }
     ensures there { OnOk result ((symbol : List ℕ) → IsChangedFor forest.now old.now new.now (λ c. Member (nodes_in dependents.now symbol) c) symbol agenda.new) }
     ensures parents { OnOk result ((symbol : List ℕ) → IsPricedFor forest.now old.now new.now (λ c. Member (nodes_in dependents.now symbol) c) symbol agenda.new) }
+    ensures priced { IfOk result (λ kept. kept ≡ true → KeepsPriorities old.now new.now dependents.now) }
 {
     let changed = symbols.changed(alloc, old, new)?;
+    let mut priced = true;
     for symbol in changed.as_slice() {
         let nodes = dependents.nodes_of(*symbol);
-        queue_symbol(agenda, alloc, forest, symbols, old, new, nodes, *symbol)?;
+        let kept = queue_symbol(agenda, alloc, forest, symbols, old, new, nodes, *symbol)?;
+        priced = priced && kept;
     }
-    Ok(())
+    Ok(priced)
 }

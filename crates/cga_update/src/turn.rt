@@ -1,5 +1,5 @@
 //! One turn of the agenda.
-ghost use Rattle.std.specs.Prelude.{◌≡◌, ◌+◌, ◌≤◌, ◌⊎◌, length, true, false, Some, IfOk, IsSome, OnOk};
+ghost use Rattle.std.specs.Prelude.{◌≡◌, ◌+◌, ◌≤◌, ◌⊎◌, ◌||◌, length, true, false, Some, IfOk, IsSome, OnOk};
 ghost use Rattle.cga_order.specs.World as world;
 ghost use Rattle.cga_order.specs.declared.placed.Kind.TheVariants.{Waiting};
 ghost use Rattle.cga_agenda.specs.Loop.{TellsEach, calls_of, calls_told, children_told};
@@ -27,6 +27,12 @@ use cga_fraction::{List, NoMemory, Steps};
 use cga_index::NodeId;
 use cga_shape::{Answers, Emitted, Kind, ShapeFault};
 use std::sync::ledger::Ledger;
+
+/// What a turn comes to where nothing is expanded.
+const NOT_EXPANDED: Turned = Turned {
+    children: 0,
+    expanded: false,
+};
 
 /// Gives a node its outcome, notes what went and came, and follows it on the agenda. Takes memory.
 fn place<T: Ledger>(
@@ -108,6 +114,17 @@ fn child_count(outcome: &Result<List<Emitted>, ShapeFault>) -> u16
     }
 }
 
+/// Whether a node asks what its symbol asks for today.
+fn asks_right(forest: &Forest, id: NodeId, facts: Facts) -> bool
+    requires here { IsSome (node_at forest.now id) }
+    ensures { (d : Seen) → node_at forest.now id ≡ Some d → result ≡ true → d.node.asks ≡ (facts.noparent || facts.active) }
+{
+    match forest.node(id) {
+        Some(node) => node.asks == (facts.noparent || facts.active),
+        None => unreachable!(),
+    }
+}
+
 /// What a node is expanded to with these answers. Takes memory.
 fn outcome_of<E: Ledger>(
     work: &Work,
@@ -176,10 +193,7 @@ fn place_again<T: Ledger>(
     let outcome = outcome_again(work.alloc, &work.forest, id)?;
     work.forest.laws();
     place(work, id, answers, &outcome, tests)?;
-    Ok(Turned {
-        children: 0,
-        expanded: false,
-    })
+    Ok(NOT_EXPANDED)
 }
 
 /// The turn of a node. Takes memory.
@@ -199,10 +213,13 @@ fn turn_of<E: Ledger, T: Ledger>(
     let facts = facts_at(work, id)?;
     let answers = asked(&work.forest, id, facts.noparent, facts.active, tests);
     if must_expand(&work.forest, id, facts.same_setting, &answers) {
-        expand_at(work, id, answers, expansions, tests)
-    } else {
-        place_again(work, id, answers, tests)
+        return expand_at(work, id, answers, expansions, tests);
     }
+    // Its children would all stay.
+    if work.priced && asks_right(&work.forest, id, facts) {
+        return Ok(NOT_EXPANDED);
+    }
+    place_again(work, id, answers, tests)
 }
 
 /// One turn of the least stamp on the agenda, and none where no node is on it. Takes memory.

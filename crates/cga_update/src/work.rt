@@ -14,6 +14,8 @@ pub struct Work<'a> {
     pub(crate) agenda: Agenda,
     /// Whether each node that asks and comes later than one on the agenda is on it, too: then nobody has to be found.
     pub(crate) askers_due: bool,
+    /// Whether each node has the priority that its symbol has today: then one that is asked as before is done.
+    pub(crate) priced: bool,
     pub(crate) symbols: Symbols,
     /// What came and went that is no instance, for the dependents.
     pub(crate) log: Vec<Pairing>,

@@ -7,6 +7,7 @@ use Rattle.cga_update.specs.Begun.{IsFirst}
 use Rattle.cga_update.specs.Log.{IsLogged}
 use Rattle.cga_update.specs.Roots.{HasLost}
 use Rattle.cga_update.proofs.Beginning as proof
+use Rattle.cga_update.proofs.Logged.{drawn_from, log_from}
 use Rattle.cga_update.proofs.Rooting.{still, wanted_after}
 use Rattle.cga_update.proofs.Unkept.{all_came, first_due, is_zero}
 use Rattle.cga_update.proofs.begin.begun.Goals as goal
@@ -43,7 +44,7 @@ returns-clause-begun g c =
     let there = c.in_ok-came.ensures.there in
     let agenda : IsFirst old new v d went came a =
     subst (λ (list : List Moved). IsFirst old new v d list came a) c.as_slice-went_nodes.ensures.value
-    (subst (λ (list : List Moved). IsFirst old new v d c.as_slice-went_nodes.result.now list a) c.as_slice-came_nodes.ensures.value c.in_ok-first_agenda.ensures.first) in
+    (subst (λ (list : List Moved). IsFirst old new v d c.as_slice-went_nodes.result.now list a) c.as_slice-came_nodes.ensures.value c.in_ok-priced.ensures.first) in
     let begins = proof.begins old new first v d went came a stands r listed wanted there first_laws laws agenda in
     let lost_list = proof.lost old new first v d went came a stands r listed wanted there first_laws laws agenda in (
       proof.first_state old new first v d went came a stands r listed wanted there first_laws laws agenda,
@@ -52,20 +53,21 @@ returns-clause-begun g c =
         old_names = stands.old_names;
         names = stands.names;
         mode = c.in_ok-came.ensures.mode ∙ (c.in_ok-remove_roots.ensures.mode ∙ stands.mode);
-        agenda_mode = c.in_ok-first_agenda.ensures.mode ∙ ap (λ (x : AgendaView). x.mode) c.new-agenda.ensures;
+        agenda_mode = c.in_ok-priced.ensures.mode ∙ ap (λ (x : AgendaView). x.mode) c.new-agenda.ensures;
         nodes = refl;
         underway = begins.0;
         queued = begins.1.1;
         due = λ is. first_due old new first v d went came a stands r listed wanted there first_laws laws agenda (all_came (node_at first) before v keeps (is_zero c.count-askers_due.result _ c.count-askers_due.ensures is)) new.mode;
+        priced = λ is. proof.priced_now old new first v d went came a stands r listed wanted there first_laws laws agenda (c.in_ok-priced.ensures.priced is);
         silent = proof.silent_now old new first v d went came a stands r listed wanted there first_laws laws agenda;
         plain = proof.plain_now old new first v d went came a stands r listed wanted there first_laws laws agenda;
-        gone = proof.drawn_from c.note_went.new.gone.items c.new-gone.result.items c.as_slice-went_nodes.result.now went c.in_ok-note_went.ensures.gone c.new-gone.ensures.items c.as_slice-went_nodes.ensures.value ∙ sym lost_list.2;
-        come = proof.drawn_from c.note_came.new.come.items c.new-come.result.items c.as_slice-came_nodes.result.now came c.in_ok-note_came.ensures.come c.new-come.ensures.items c.as_slice-came_nodes.ensures.value
+        gone = drawn_from c.note_went.new.gone.items c.new-gone.result.items c.as_slice-went_nodes.result.now went c.in_ok-note_went.ensures.gone c.new-gone.ensures.items c.as_slice-went_nodes.ensures.value ∙ sym lost_list.2;
+        come = drawn_from c.note_came.new.come.items c.new-come.result.items c.as_slice-came_nodes.result.now came c.in_ok-note_came.ensures.come c.new-come.ensures.items c.as_slice-came_nodes.ensures.value
             ∙ proof.came_drawn old new first v d went came a stands r listed wanted there first_laws laws agenda;
-        known = c.in_ok-first_agenda.ensures.known;
+        known = c.in_ok-priced.ensures.known;
         marked = r.marking;
         logged = subst (λ (log : List Pairing). IsLogged (marked_at v) (node_at v) log)
-            (sym (proof.log_from c.note_came.new.log.items c.note_went.new.log.items c.new-log.result.items c.as_slice-went_nodes.result.now c.as_slice-came_nodes.result.now went came
+            (sym (log_from c.note_came.new.log.items c.note_went.new.log.items c.new-log.result.items c.as_slice-went_nodes.result.now c.as_slice-came_nodes.result.now went came
             c.in_ok-note_came.ensures.log c.in_ok-note_went.ensures.log c.new-log.ensures.items c.as_slice-went_nodes.ensures.value c.as_slice-came_nodes.ensures.value))
             (proof.logged old new first v d went came a stands r listed wanted there first_laws laws agenda);
       },

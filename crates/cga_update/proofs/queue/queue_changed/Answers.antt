@@ -1,12 +1,13 @@
-use Rattle.std.proofs.Common.{refl, arith, sym, subst, List, ℕ}
+use Rattle.std.proofs.Common.{◌≡◌, ◌∙◌, true, refl, arith, sym, subst, List, ℕ}
 use Rattle.cga_depend.specs.Pairs.{nodes_in}
 use Rattle.cga_index.specs.Tree.{Member}
 use Rattle.cga_update.specs.Changed.{IsNoted}
-use Rattle.cga_update.specs.Near.{HasThese, IsPricedFor}
+use Rattle.cga_update.specs.Near.{HasThese, IsPricedFor, KeepsPriority}
 use Rattle.cga_update.proofs.InLoops.{item_at}
 use Rattle.cga_update.proofs.Nearby.{keeps_itself, keeps_on, these_kept}
-use Rattle.cga_update.proofs.Changing.{names_more, names_end, priced_kept, all_changed, all_priced}
+use Rattle.cga_update.proofs.Changing.{names_more, names_end, priced_kept, all_changed, all_kept, all_priced}
 use Rattle.cga_update.proofs.queue.queue_changed.Goals as goal
+use Rattle.cga_update.proofs.queue.queue_changed.Goals.{then-priced, else-priced}
 
 pub loop-symbol-init : goal.loop-symbol-init
 loop-symbol-init c = record {
@@ -14,6 +15,7 @@ loop-symbol-init c = record {
   kept = keeps_itself c.args.forest.now c.args.agenda.now;
   there = λ i s le. absurd (omega (arith, le));
   parents = λ i s le. absurd (omega (arith, le));
+  prices = λ i s le. absurd (omega (arith, le));
 }
 
 pub loop-symbol-preserved : goal.loop-symbol-preserved
@@ -23,7 +25,11 @@ loop-symbol-preserved c =
     let names = c.as_slice-symbol-items.result.now in
     let before = c.loop-symbol.agenda in
     let after = c.queue_symbol.new.agenda in
-    let one = c.in_ok-queue_symbol.ensures in
+    let one = c.in_ok-kept.ensures in
+    let both : c.if-priced.priced ≡ true → (c.loop-symbol.priced ≡ true) × (c.in_ok-kept.kept ≡ true) = λ is. elim c.if-priced.branch [
+      | then-priced w ↦ (w.if-priced.true, sym w.priced-is ∙ is)
+      | else-priced w ↦ absurd (cc)
+    ] in
     let item = item_at names names refl c.loop-symbol.symbol-index c.symbol-item.result c.loop-symbol-test.true c.symbol-item.is in record {
       known = one.known;
       kept = keeps_on v c.args.agenda.now before after c.loop-symbol.invariant.kept one.kept;
@@ -33,6 +39,9 @@ loop-symbol-preserved c =
       parents = names_more (λ s. IsPricedFor v c.args.old.now c.args.new.now (λ k. Member (nodes_in d s) k) s before) (λ s. IsPricedFor v c.args.old.now c.args.new.now (λ k. Member (nodes_in d s) k) s after) names c.loop-symbol.symbol-index c.symbol-item.result item
           (λ s. priced_kept v c.args.old.now c.args.new.now (λ k. Member (nodes_in d s) k) s before after one.kept)
           (subst (λ xs. IsPricedFor v c.args.old.now c.args.new.now (λ k. Member xs k) c.symbol-item.result after) c.nodes_of-nodes.ensures.nodes one.parents) c.loop-symbol.invariant.parents;
+      prices = names_more (λ s. c.loop-symbol.priced ≡ true → KeepsPriority c.args.old.now c.args.new.now (nodes_in d s) s) (λ s. c.if-priced.priced ≡ true → KeepsPriority c.args.old.now c.args.new.now (nodes_in d s) s) names c.loop-symbol.symbol-index c.symbol-item.result item
+          (λ s before_is is. before_is (both is).0)
+          (λ is. subst (λ xs. KeepsPriority c.args.old.now c.args.new.now xs c.symbol-item.result) c.nodes_of-nodes.ensures.nodes (one.priced (both is).1)) c.loop-symbol.invariant.prices;
     }
 
 pub returns-clause-there : goal.returns-clause-there
@@ -42,3 +51,8 @@ returns-clause-there c = λ s. all_changed c.args.forest.now c.args.old.now c.ar
 pub returns-clause-parents : goal.returns-clause-parents
 returns-clause-parents c = λ s. all_priced c.args.forest.now c.args.old.now c.args.new.now c.args.dependents.now c.as_slice-symbol-items.result.now c.loop-symbol.agenda
     (names_end (λ t. IsPricedFor c.args.forest.now c.args.old.now c.args.new.now (λ k. Member (nodes_in c.args.dependents.now t) k) t c.loop-symbol.agenda) c.as_slice-symbol-items.result.now c.as_slice-symbol-items.result.now c.loop-symbol.symbol-index refl c.loop-symbol-test.false c.loop-symbol.invariant.parents) s (subst (λ (xs : List (List ℕ)). IsNoted c.args.old.now c.args.new.now xs s) (sym c.as_slice-symbol-items.ensures.value) (c.in_ok-changed.ensures.listed s))
+
+pub returns-clause-priced : goal.returns-clause-priced
+returns-clause-priced c = λ is s. all_kept c.args.old.now c.args.new.now c.args.dependents.now c.as_slice-symbol-items.result.now
+    (λ t among. names_end (λ t. c.loop-symbol.priced ≡ true → KeepsPriority c.args.old.now c.args.new.now (nodes_in c.args.dependents.now t) t) c.as_slice-symbol-items.result.now c.as_slice-symbol-items.result.now c.loop-symbol.symbol-index refl c.loop-symbol-test.false c.loop-symbol.invariant.prices t among is)
+    s (subst (λ (xs : List (List ℕ)). IsNoted c.args.old.now c.args.new.now xs s) (sym c.as_slice-symbol-items.ensures.value) (c.in_ok-changed.ensures.listed s))

@@ -1,8 +1,8 @@
-use Rattle.std.proofs.Common.{◌≡◌, ℕ, ◌<◌, List, Some, slice_get}
+use Rattle.std.proofs.Common.{◌≡◌, ℕ, ◌<◌, List, Some, true, slice_get}
 use Rattle.cga_depend.specs.Pairs.{nodes_in}
 use Rattle.cga_index.specs.Tree.{Member}
 use Rattle.cga_update.specs.Changed.{AreKnown}
-use Rattle.cga_update.specs.Near.{HasThese, IsPricedFor, KeepsOn}
+use Rattle.cga_update.specs.Near.{HasThese, IsPricedFor, KeepsOn, KeepsPriority}
 use Rattle.cga_update.proofs.queue.queue_changed.Given as goal
 
 abbrev pub invariant-loop-symbol : goal.invariant-loop-symbol
@@ -11,4 +11,5 @@ invariant-loop-symbol l = record {
   kept : KeepsOn l.forest l.fn.agenda l.agenda;
   there : (i : ℕ) (s : List ℕ) → i < l.symbol-index → slice_get l.symbol-items i ≡ Some s → HasThese l.forest (λ c. Member (nodes_in l.dependents s) c) l.agenda;
   parents : (i : ℕ) (s : List ℕ) → i < l.symbol-index → slice_get l.symbol-items i ≡ Some s → IsPricedFor l.forest l.old l.new (λ c. Member (nodes_in l.dependents s) c) s l.agenda;
+  prices : (i : ℕ) (s : List ℕ) → i < l.symbol-index → slice_get l.symbol-items i ≡ Some s → l.priced ≡ true → KeepsPriority l.old l.new (nodes_in l.dependents s) s;
 }

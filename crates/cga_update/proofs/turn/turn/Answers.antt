@@ -1,5 +1,7 @@
+use Rattle.std.proofs.Common.{inl, inr}
 use Rattle.cga_update.proofs.Idle.{turn_idle}
 use Rattle.cga_update.proofs.Turning.{may_turn, turn_means}
+use Rattle.cga_update.proofs.Quiet.{quiet_means}
 use Rattle.cga_update.proofs.turn.turn.Goals as goal
 
 pub returns-in-None-clause-turned : goal.returns-in-None-clause-turned
@@ -7,6 +9,12 @@ returns-in-None-clause-turned g c = λ edit s means. turn_idle c.args.work.now c
 
 pub returns-in_ok-turn_of-in-Some-clause-turned : goal.returns-in_ok-turn_of-in-Some-clause-turned
 returns-in_ok-turn_of-in-Some-clause-turned g c = λ edit s means.
-    turn_means c.args.work.now c.turn_of.new.work c.take.new.agenda c.in-Some.id c.in-Some.ensures.taken.0 c.in_ok-turn_of-in-Some.field-0 edit s means c.laws.ensures c.in-Some.ensures.taken.1
-    (c.in_ok-turn_of-in-Some.ensures.turned (may_turn c.args.work.now c.take.new.agenda edit s means))
-    c.args.expansions.now c.turn_of.new.expansions c.in_ok-turn_of-in-Some.ensures.called
+    let was = c.args.work.now in
+    let rest = c.take.new.agenda in
+    let least = c.in-Some.ensures.taken in
+    let turned = c.in_ok-turn_of-in-Some.field-0 in
+    let done = c.in_ok-turn_of-in-Some.ensures in
+    elim (done.turned (may_turn was rest edit s means)) [
+      | inl placing ↦ turn_means was c.turn_of.new.work rest c.in-Some.id least.0 turned edit s means c.laws.ensures least.1 placing c.args.expansions.now c.turn_of.new.expansions done.called
+      | inr quiet ↦ quiet_means was c.turn_of.new.work rest c.in-Some.id least.0 edit s means least.1 turned quiet c.args.expansions.now c.turn_of.new.expansions done.called
+    ]
