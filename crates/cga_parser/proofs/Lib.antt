@@ -23,3 +23,4 @@ pub mod GrammarLines
 pub mod GrammarBack
 pub mod AreForms
 pub mod Additions
+pub mod Kept

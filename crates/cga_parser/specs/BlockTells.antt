@@ -1,5 +1,5 @@
 -- What the lines of a block of rules tell.
-use Rattle.std.specs.Prelude.{◌≡◌, ℕ, false, List, [], ◌∷◌, ◌++◌, Option, Some, Result, Ok, codes}
+use Rattle.std.specs.Prelude.{◌≡◌, ℕ, false, List, [], ◌∷◌, take, Option, Some, Result, Ok, codes}
 use Rattle.cga_lexer.specs.Line.{tokens_of}
 use Rattle.cga_lexer.specs.declared.token.Token.{Token}
 use Rattle.cga_syntax.specs.declared.lexeme.Lexeme.TheVariants as lexeme
@@ -14,7 +14,9 @@ use Rattle.cga_form.specs.Cursor.{seen}
 use Rattle.cga_parser.specs.declared.block_line.BlockLine.{BlockLine}
 use Rattle.cga_parser.specs.declared.block_line.BlockLine.TheVariants as line
 use Rattle.cga_parser.specs.declared.gathered.Gathered.{Gathered}
+use Rattle.cga_parser.specs.declared.limits.TheConstants.{KEPT_RULES, KEPT_ATTRIBUTES}
 use Rattle.cga_parser.specs.Blocks.{block_pieces}
+use Rattle.cga_parser.specs.Kept.{kept, with_room}
 
 -- what a line of a block of rules tells
 abbrev pub BlockTells : Line → Found BlockLine → Type 0
@@ -55,12 +57,23 @@ grammar_of all = record { attributes = attributes_of all; rules = entries_from f
 abbrev pub GrammarTells : List Line → Result Grammar BlockFault → Type 0
 GrammarTells lines told = form.AllTells block_pieces grammar_of lines told
 
+-- ---- the reader
+
+-- as much of it as a reader keeps
+abbrev pub kept_of : List (Option BlockLine) → Grammar
+kept_of all = kept (grammar_of all)
+
+-- the grammar that a reader gives of the lines of a block, or the first faulty line
+abbrev pub GrammarKept : List Line → Result Grammar BlockFault → Type 0
+GrammarKept lines given = form.AllTells block_pieces kept_of lines given
+
 -- what is kept of lines of which none is faulty
 abbrev pub Holds : Gathered → List (Option BlockLine) → Type 0
-Holds g all = (g.attributes ≡ attributes_of all) × (g.rules ≡ entries_from first_priority all) × (g.priority ≡ priority_after first_priority all)
+Holds g all =
+    (g.attributes ≡ take KEPT_ATTRIBUTES (attributes_of all)) × (g.rules ≡ take KEPT_RULES (entries_from first_priority all)) × (g.priority ≡ priority_after first_priority all)
 
--- what a line adds
+-- what a line adds, where there is room
 pub record Adds (old : Gathered) (said : Option BlockLine) (new : Gathered) : Type 0 where
-  pub attributes : new.attributes ≡ old.attributes ++ attributes_of (said ∷ [])
-  pub rules : new.rules ≡ old.rules ++ entries_from old.priority (said ∷ [])
+  pub attributes : new.attributes ≡ with_room KEPT_ATTRIBUTES old.attributes (attributes_of (said ∷ []))
+  pub rules : new.rules ≡ with_room KEPT_RULES old.rules (entries_from old.priority (said ∷ []))
   pub priority : new.priority ≡ priority_after old.priority (said ∷ [])

@@ -1,10 +1,12 @@
 ghost use Rattle.std.specs.Prelude.{◌≡◌, ◌++◌, ◌∷◌, [], List, Option, IfOk, OnOk};
 ghost use Rattle.cga_parser.specs.declared.block_line.BlockLine.{BlockLine};
-ghost use Rattle.cga_parser.specs.BlockTells.{BlockTells, Adds, Holds, grammar_of};
+ghost use Rattle.cga_parser.specs.BlockTells.{BlockTells, Adds, Holds, kept_of};
 ghost use Rattle.cga_parser.specs.Blocks as spec;
 
 use crate::block::block;
 use crate::block_line::BlockLine;
+use crate::keep::keep;
+use crate::limits::{KEPT_ATTRIBUTES, KEPT_RULES};
 use cga_form::fault::Fault;
 use cga_form::tokens::Tokens;
 use cga_form::{BlockFault, BlockReader, Form, Gather, LineFault};
@@ -15,7 +17,7 @@ use std::alloc::Global;
 /// The priority of a rule before the first line with a priority.
 const FIRST_PRIORITY: u16 = 1;
 
-/// The attributes and rules of the lines of a block so far, and the last priority.
+/// The attributes and rules of the lines of a block so far, as many as are kept, and the last priority.
 #[derive(Drop)]
 pub struct Gathered {
     priority: u16,
@@ -29,11 +31,13 @@ impl Gathered {
         ensures { OnOk result (Adds self.old said self.new) }
     {
         match said {
-            Some(BlockLine::Attribute(attribute)) => self.attributes.push(attribute)?,
+            Some(BlockLine::Attribute(attribute)) => {
+                keep(&mut self.attributes, KEPT_ATTRIBUTES, attribute)?
+            }
             Some(BlockLine::Priority(priority)) => self.priority = priority,
             Some(BlockLine::Rule(rule)) => {
                 let priority = self.priority;
-                self.rules.push(Entry { priority, rule })?;
+                keep(&mut self.rules, KEPT_RULES, Entry { priority, rule })?;
             }
             Some(BlockLine::End) | None => {}
         }
@@ -61,7 +65,7 @@ impl Gather for Gathered {
 
     ghost holds = { Holds };
 
-    ghost says = { grammar_of };
+    ghost says = { kept_of };
 
     #[tactic(auto, unfolding(crate::specs::BlockTells::attributes_of, crate::specs::BlockTells::entries_from, crate::specs::BlockTells::priority_after))]
     fn empty(alloc: Global) -> Gathered
@@ -82,7 +86,7 @@ impl Gather for Gathered {
     }
 
     fn finish(self) -> Grammar
-        ensures { (all : List (Option BlockLine)) → Holds self all → result ≡ grammar_of all }
+        ensures { (all : List (Option BlockLine)) → Holds self all → result ≡ kept_of all }
     {
         Grammar {
             attributes: self.attributes,
@@ -92,7 +96,8 @@ impl Gather for Gathered {
 }
 
 /// Reads the lines of a block of rules one after the other: `new` takes none yet, `line` the next
-/// one, and `finish` says which grammar they are, or which is the first faulty line.
+/// one, and `finish` says which grammar they are, cut behind the first rule and the first attribute
+/// that are too many, or which is the first faulty line.
 pub type GrammarReader = BlockReader<Gathered>;
 
 /// The first faulty line of a block of rules.

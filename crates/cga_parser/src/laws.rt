@@ -1,9 +1,11 @@
 //! What the definitions say of themselves.
-ghost use Rattle.std.specs.Prelude.{◌≡◌, ◌↔◌, ℕ, List, Option, Result, Ok, Some};
+ghost use Rattle.std.specs.Prelude.{◌≡◌, ◌≤◌, ◌↔◌, ℕ, List, length, Option, Result, Ok, Some};
 ghost use Rattle.cga_form.specs.LineTells.{LineTells};
-ghost use Rattle.cga_parser.specs.BlockTells.{BlockTells, EndsBlock, GrammarTells};
+ghost use Rattle.cga_parser.specs.BlockTells.{BlockTells, EndsBlock, GrammarTells, GrammarKept};
 ghost use Rattle.cga_form.specs.Lines.{Line};
 ghost use Rattle.cga_parser.specs.Blocks.{block_pieces};
+ghost use Rattle.cga_parser.specs.Kept.{kept};
+ghost use Rattle.cga_parser.specs.declared.limits.TheConstants.{KEPT_RULES, KEPT_ATTRIBUTES};
 ghost use Rattle.cga_parser.specs.declared.block_line.BlockLine.{BlockLine};
 ghost use Rattle.cga_parser.specs.declared.block_line.BlockLine.TheVariants.{End};
 ghost use Rattle.cga_form.specs.declared.line_fault.LineFault.{LineFault};
@@ -34,4 +36,12 @@ pub fn tells_once()
 /// A line says `end` exactly where it ends its block.
 pub fn says_end()
     ensures { (line : Line) → EndsBlock line ↔ BlockTells line (Ok (Some End)) }
+{}
+
+/// What a reader gives of lines is the grammar that they tell, cut behind the first rule and the first attribute that are
+/// too many. One without such is left as it is.
+pub fn too_many_are_cut()
+    ensures told { (lines : List Line) (given : Grammar) → GrammarKept lines (Ok given)
+        → (whole : Grammar) × GrammarTells lines (Ok whole) × (given ≡ kept whole) }
+    ensures few { (g : Grammar) → length g.rules ≤ KEPT_RULES → length g.attributes ≤ KEPT_ATTRIBUTES → kept g ≡ g }
 {}

@@ -4,7 +4,8 @@
 //! It knows the forms of the language, and neither what a rule does nor whether a grammar is valid.
 //! What is told of a line, of whatever form, is `cga_form`'s. Callers get the fault's place wrong:
 //! it is the first token with which no rule could go on, or the end of the line, which comes after
-//! blanks and a comment.
+//! blanks and a comment. And a block with more rules or attributes than a grammar may have is not
+//! read whole: the reader gives one too many of them.
 #![tactic(auto)]
 
 pub mod block;
@@ -15,7 +16,9 @@ mod first;
 pub mod forms;
 pub mod gathered;
 mod item;
+mod keep;
 mod laws;
+pub mod limits;
 mod parts;
 mod printed;
 pub mod rule;
@@ -24,5 +27,5 @@ pub use block_line::BlockLine;
 pub use cga_form::LineFault;
 pub use forms::{RuleForm, parse_rule};
 pub use gathered::{Gathered, GrammarFault, GrammarReader, read_block_line};
-pub use laws::{says_end, spells_one, spells_one_line, tells_once};
+pub use laws::{says_end, spells_one, spells_one_line, tells_once, too_many_are_cut};
 pub use printed::{grammar_reads_back, may_be_printed, reads_back};

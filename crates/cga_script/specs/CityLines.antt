@@ -1,5 +1,5 @@
 -- The lines of a block of a whole city: what each is written as, how it is read, and what they tell together.
-use Rattle.std.specs.Prelude.{◌≡◌, ℕ, List, [], ◌∷◌, ◌++◌, map, Option, Some, None, Result, codes, if◌then◌else◌}
+use Rattle.std.specs.Prelude.{◌≡◌, ℕ, List, [], ◌∷◌, ◌++◌, map, take, Option, Some, None, Result, codes, if◌then◌else◌}
 use Rattle.cga_syntax.specs.Lexemes.{is}
 use Rattle.cga_syntax.specs.Pieces.{Pieces}
 use Rattle.cga_form.specs.declared.block_fault.BlockFault.{BlockFault}
@@ -10,6 +10,7 @@ use Rattle.cga_form.specs.Tokens.{is_word}
 use Rattle.cga_parser.specs.Blocks.{block_pieces, block}
 use Rattle.cga_parser.specs.BlockTells.{grammar_of}
 use Rattle.cga_parser.specs.BlockTells as rule_lines
+use Rattle.cga_parser.specs.Kept.{kept}
 use Rattle.cga_parser.specs.declared.block_line.BlockLine.{BlockLine}
 use Rattle.cga_shape.specs.declared.lot.Lot.{Lot}
 use Rattle.cga_shape.specs.declared.sources.Sources.{Sources}
@@ -18,6 +19,7 @@ use Rattle.cga_word.specs.declared.mode.Mode.TheVariants.{Breadth}
 use Rattle.cga_script.specs.declared.city_line.CityLine.{CityLine}
 use Rattle.cga_script.specs.declared.city_line.CityLine.TheVariants as line
 use Rattle.cga_script.specs.declared.city_gathered.CityGathered.{CityGathered}
+use Rattle.cga_script.specs.declared.named_lots.TheConstants.{KEPT_LOTS}
 use Rattle.cga_script.specs.Lots.{lot_pieces, lot}
 use Rattle.cga_script.specs.Orders.{order_pieces, order}
 
@@ -69,12 +71,29 @@ CityTells lines told = form.AllTells city_pieces sources_of lines told
 
 -- ---- the reader
 
+-- sources, cut behind the first rule, the first attribute and the first lot that are too many
+abbrev pub kept_sources : Sources → Sources
+kept_sources s = record { grammar = kept s.grammar; lots = take KEPT_LOTS s.lots; mode = s.mode }
+
+-- as much of what lines say as a reader keeps
+abbrev pub kept_of : List (Option CityLine) → Sources
+kept_of all = kept_sources (sources_of all)
+
+-- the sources that a reader gives of the lines of a block, or the first faulty line
+abbrev pub CityKept : List Line → Result Sources BlockFault → Type 0
+CityKept lines given = form.AllTells city_pieces kept_of lines given
+
 -- what is kept of lines of which none is faulty
 abbrev pub Holds : CityGathered → List (Option CityLine) → Type 0
-Holds g all = rule_lines.Holds g.rules (map rules_part all) × (g.lots ≡ lots_after [] all) × (g.mode ≡ mode_after Breadth all)
+Holds g all = rule_lines.Holds g.rules (map rules_part all) × (g.lots ≡ take KEPT_LOTS (lots_after [] all)) × (g.mode ≡ mode_after Breadth all)
+
+-- the lots that are kept after one more line
+abbrev pub kept_with : List Lot → Option CityLine → List Lot
+kept_with lots (Some (line.Lot l)) = take KEPT_LOTS (with_lot l lots)
+kept_with lots _ = lots
 
 -- what a line adds
 pub record Adds (old : CityGathered) (said : Option CityLine) (new : CityGathered) : Type 0 where
   pub rules : (all : List (Option BlockLine)) → rule_lines.Holds old.rules all → rule_lines.Holds new.rules (all ++ rules_part said ∷ [])
-  pub lots : new.lots ≡ lots_after old.lots (said ∷ [])
+  pub lots : new.lots ≡ kept_with old.lots said
   pub mode : new.mode ≡ mode_after old.mode (said ∷ [])

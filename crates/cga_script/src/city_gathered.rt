@@ -1,7 +1,7 @@
 ghost use Rattle.std.specs.Prelude.{◌≡◌, ◌++◌, ◌∷◌, [], List, Option, OnOk};
 ghost use Rattle.cga_form.specs.Cursor.{input_of, Reads};
 ghost use Rattle.cga_script.specs.CityLines as spec;
-ghost use Rattle.cga_script.specs.CityLines.{Adds, Holds, sources_of};
+ghost use Rattle.cga_script.specs.CityLines.{Adds, Holds, kept_of};
 ghost use Rattle.cga_script.specs.declared.city_line.CityLine.{CityLine};
 
 use crate::city_line::CityLine;
@@ -18,7 +18,7 @@ use cga_shape::Sources;
 use cga_word::Mode;
 use std::alloc::Global;
 
-/// What the lines of a block of a whole city said so far.
+/// What the lines of a block of a whole city said so far, as much as is kept.
 #[derive(Drop)]
 pub struct CityGathered {
     rules: Gathered,
@@ -68,7 +68,7 @@ impl Gather for CityGathered {
 
     ghost holds = { Holds };
 
-    ghost says = { sources_of };
+    ghost says = { kept_of };
 
     #[tactic(auto, unfolding(crate::specs::CityLines::lots_after, crate::specs::CityLines::mode_after))]
     fn empty(alloc: Global) -> CityGathered
@@ -89,7 +89,7 @@ impl Gather for CityGathered {
     }
 
     fn finish(self) -> Sources
-        ensures { (all : List (Option CityLine)) → Holds self all → result ≡ sources_of all }
+        ensures { (all : List (Option CityLine)) → Holds self all → result ≡ kept_of all }
     {
         Sources {
             grammar: self.rules.finish(),
@@ -100,6 +100,7 @@ impl Gather for CityGathered {
 }
 
 /// Reads the lines of a block of a whole city one after the other: `new` takes none yet, `line` the
-/// next one, and `finish` says which sources they are, or which is the first faulty line. A lot whose
-/// name came before takes its place; the last order counts, and breadth where there is none.
+/// next one, and `finish` says which sources they are, cut behind the first rule, the first attribute and
+/// the first lot that are too many, or which is the first faulty line. A lot whose name came before takes
+/// its place; the last order counts, and breadth where there is none.
 pub type CityReader = BlockReader<CityGathered>;

@@ -1,11 +1,13 @@
 //! What the definitions say of themselves.
-ghost use Rattle.std.specs.Prelude.{◌≡◌, ℕ, List, Result, Ok};
+ghost use Rattle.std.specs.Prelude.{◌≡◌, ◌≤◌, ℕ, List, length, Result, Ok};
 ghost use Rattle.cga_form.specs.Lines.{Line};
 ghost use Rattle.cga_form.specs.declared.line_fault.LineFault.{LineFault};
+ghost use Rattle.cga_parser.specs.declared.limits.TheConstants.{KEPT_RULES, KEPT_ATTRIBUTES};
 ghost use Rattle.cga_rule.specs.declared.rule.Rule.{Rule};
-ghost use Rattle.cga_script.specs.CityLines.{CityTells};
+ghost use Rattle.cga_script.specs.CityLines.{CityTells, CityKept, kept_sources};
 ghost use Rattle.cga_script.specs.Commands.{CommandTells};
 ghost use Rattle.cga_script.specs.DumpLines.{IsSpelledCity, IsReadBack};
+ghost use Rattle.cga_script.specs.declared.named_lots.TheConstants.{KEPT_LOTS};
 ghost use Rattle.cga_script.specs.declared.script_command.ScriptCommand.{ScriptCommand};
 ghost use Rattle.cga_script.specs.declared.script_command.ScriptCommand.TheVariants as command;
 ghost use Rattle.cga_script.specs.declared.version.Version.{Version};
@@ -33,3 +35,14 @@ pub fn dump_reads_back()
     ensures spelled { (lines : List Line) (sources : Sources) → CityTells lines (Ok sources) → IsSpelledCity sources }
     ensures back { (sources : Sources) → IsSpelledCity sources → IsReadBack sources }
 {}
+
+/// What a reader gives of the lines of a city are the sources that they tell, cut behind the first rule, the first attribute
+/// and the first lot that are too many. Sources without such are left as they are.
+pub fn too_many_are_cut()
+    ensures told { (lines : List Line) (given : Sources) → CityKept lines (Ok given)
+        → (whole : Sources) × CityTells lines (Ok whole) × (given ≡ kept_sources whole) }
+    ensures few { (s : Sources) → length s.grammar.rules ≤ KEPT_RULES → length s.grammar.attributes ≤ KEPT_ATTRIBUTES
+        → length s.lots ≤ KEPT_LOTS → kept_sources s ≡ s }
+{
+    cga_parser::too_many_are_cut();
+}

@@ -29,7 +29,7 @@ pub use command_form::{VersionOneForm, VersionTwoForm, command};
 pub use dump::dump_text;
 pub use ending::Ending;
 pub use fed::Fed;
-pub use laws::{dump_reads_back, may_be_printed, tells_one_command};
+pub use laws::{dump_reads_back, may_be_printed, tells_one_command, too_many_are_cut};
 pub use lines::Lines;
 pub use long_dump::LongDump;
 pub use lot_form::LotForm;

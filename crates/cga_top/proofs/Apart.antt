@@ -1,5 +1,5 @@
 -- The lots of a block of a whole city differ in their names.
-use Rattle.std.proofs.Common.{◌≡◌, ◌≢◌, ◌∙◌, ap, refl, sym, subst, ℕ, List, [], ◌∷◌, Bool, true, false, ◌&&◌, Option, Some, None, arith}
+use Rattle.std.proofs.Common.{◌≡◌, ◌≢◌, ◌∙◌, ap, refl, sym, subst, ℕ, zero, suc, take, List, [], ◌∷◌, Bool, true, false, ◌&&◌, Option, Some, None, arith}
 use Rattle.std.specs.Prelude.{if◌then◌else◌, nat_eq, bytes_eq}
 use Rattle.std.proofs.lemmas.Bool.Decides.{nat_tests}
 use Rattle.cga_syntax.specs.Lexemes.{is}
@@ -79,6 +79,18 @@ distinct : (ls : List Lot) → Apart ls → IsDistinct bytes_eq (names_of ls)
 unfolding IsDistinct
 distinct [] h = tt
 distinct (l ∷ ls) h = (none_same l.name ls h.0, distinct ls h.1)
+
+others_kept : (P : List ℕ → Type 0) (n : ℕ) (ls : List Lot) → AllByRecursion P (names_of ls) → AllByRecursion P (names_of (take n ls))
+others_kept P zero ls h = tt
+others_kept P (suc n) [] h = tt
+others_kept P (suc n) (l ∷ ls) h = (h.0, others_kept P n ls h.1)
+
+-- lots whose names differ still do where some are left out
+pub kept_differ : (n : ℕ) (ls : List Lot) → IsDistinct bytes_eq (names_of ls) → IsDistinct bytes_eq (names_of (take n ls))
+unfolding IsDistinct
+kept_differ zero ls h = tt
+kept_differ (suc n) [] h = tt
+kept_differ (suc n) (l ∷ ls) h = (others_kept (λ other. bytes_eq l.name other ≡ false) n ls h.0, kept_differ n ls h.1)
 
 pub lots_differ : (all : List (Option CityLine)) → IsDistinct bytes_eq (names_of (lots_after [] all))
 lots_differ all = distinct (lots_after [] all) (after_apart [] all tt)

@@ -1,6 +1,8 @@
 pub mod Told
 pub mod Apart
 pub mod Asks
+pub mod TooMany
+pub mod Closing
 pub mod Prints
 pub mod Numbers
 pub mod Numbered

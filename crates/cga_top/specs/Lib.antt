@@ -3,6 +3,7 @@ pub mod State
 pub mod Effect
 pub mod Stats
 pub mod Replies
+pub mod TooMany
 pub mod Output
 pub mod Undos
 pub mod Written

@@ -1,15 +1,19 @@
 //! What the definition of the output says of lines is what they tell.
-ghost use Rattle.std.specs.Prelude.{List, Ok, IfOk};
+ghost use Rattle.std.specs.Prelude.{ℕ, List, Ok, IfOk};
 ghost use Rattle.cga_form.specs.Lines.{Line};
 ghost use Rattle.cga_parser.specs.BlockTells.{GrammarTells};
+ghost use Rattle.cga_rule.specs.declared.grammar.Grammar.{Grammar};
 ghost use Rattle.cga_script.specs.CityLines.{CityTells};
 ghost use Rattle.cga_script.specs.Commands.{CommandTells};
 ghost use Rattle.cga_script.specs.declared.version.Version.{Version};
+ghost use Rattle.cga_shape.specs.declared.sources.Sources.{Sources};
 ghost use Rattle.cga_top.specs.Dumped.{DumpsAreSetBack};
 ghost use Rattle.cga_top.specs.Told.{command_of, rules_of, city_of};
+ghost use Rattle.cga_top.specs.TooMany.{FaultIsSame, RulesGiveSame, CityGivesSame};
 ghost use Rattle.cga_top.specs.Undos.{StatesAreWithin, UndosGoThrough, RedosGoThrough};
 
 use cga_city::laws::whole_sets_them;
+use cga_parser::too_many_are_cut;
 use cga_script::dump_reads_back;
 
 /// What a line outside a block is taken for is the one thing that it tells. Does nothing: its contract is the law.
@@ -22,6 +26,15 @@ pub fn blocks_are_told()
     ensures rules { (lines : List Line) → GrammarTells lines (rules_of lines) }
     ensures city { (lines : List Line) → CityTells lines (city_of lines) }
 {}
+
+/// One too many of the rules, attributes or lots of a block is refused as all of them are. So no more need be kept.
+pub fn one_too_many_is_refused_as_all()
+    ensures fault { (g : Grammar) → FaultIsSame g }
+    ensures rules { (s : Sources) (budget : ℕ) (g : Grammar) → RulesGiveSame s budget g }
+    ensures city { (s : Sources) (budget : ℕ) (other : Sources) → CityGivesSame s budget other }
+{
+    too_many_are_cut();
+}
 
 /// Whatever lines came, the sources are sound, and come to no more shapes than the version allows.
 pub fn states_are_within_the_budget()

@@ -1,4 +1,4 @@
-ghost use Rattle.std.specs.Prelude.{◌≡◌, List, IfOk};
+ghost use Rattle.std.specs.Prelude.{List, IfOk};
 ghost use Rattle.cga_form.specs.Lines.{Line};
 ghost use Rattle.cga_top.specs.Blocks.{RulesRead, SourcesRead};
 ghost use Rattle.cga_top.specs.State.{Block};
@@ -6,8 +6,10 @@ ghost use Rattle.cga_top.specs.Replies.{with_line};
 ghost use Rattle.cga_top.specs.Session.{IsOpenAs};
 ghost use Rattle.cga_top.specs.Ready.{HasRead};
 ghost use Rattle.cga_top.specs.Told.{grammar_told, sources_told};
+ghost use Rattle.cga_top.specs.TooMany.{DoesAs};
 ghost use Rattle.cga_top.specs.Written.{IsWritten};
 
+use crate::laws::one_too_many_is_refused_as_all;
 use cga_asset::AssetReader;
 use cga_form::BlockFault;
 use cga_fraction::NoMemory;
@@ -61,24 +63,26 @@ impl OpenBlock {
     }
 }
 
-/// The edit that a block of rules makes, or its first faulty line.
+/// An edit that does what the one of a block of rules does, or its first faulty line.
 pub(crate) fn rules_edit(reader: GrammarReader) -> Result<Edit, BlockFault>
     requires { (lines : List Line) × RulesRead reader lines }
-    ensures told { (lines : List Line) → RulesRead reader lines → result ≡ grammar_told lines }
+    ensures told { (lines : List Line) → RulesRead reader lines → DoesAs (grammar_told lines) result }
     ensures written { IfOk result IsWritten }
 {
+    one_too_many_is_refused_as_all();
     match reader.finish() {
         Ok(grammar) => Ok(Edit::Rules(grammar)),
         Err(fault) => Err(fault),
     }
 }
 
-/// The edit that a block of a whole city makes, or its first faulty line.
+/// An edit that does what the one of a block of a whole city does, or its first faulty line.
 pub(crate) fn city_edit(reader: CityReader) -> Result<Edit, BlockFault>
     requires { (lines : List Line) × SourcesRead reader lines }
-    ensures told { (lines : List Line) → SourcesRead reader lines → result ≡ sources_told lines }
+    ensures told { (lines : List Line) → SourcesRead reader lines → DoesAs (sources_told lines) result }
     ensures written { IfOk result IsWritten }
 {
+    one_too_many_is_refused_as_all();
     match reader.finish() {
         Ok(sources) => Ok(Edit::Whole(sources)),
         Err(fault) => Err(fault),
