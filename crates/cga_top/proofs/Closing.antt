@@ -84,13 +84,13 @@ city_printed lines given h =
 -- ---- the end of a block
 
 pub rules_ended : (s : State) (b : Block) (reader : BlockReader Gathered) (made : Result Edit BlockFault) → IsOpenAs b (opened.Rules reader) → ((lines : List Line) → RulesRead reader lines → DoesAs (grammar_told lines) made) → closed s made ≡ ended s b
-rules_ended s (of_rules lines) reader made open does = does lines open s
-rules_ended s (of_city lines) reader made open does = absurd open
-rules_ended s (of_asset name lines) reader made open does = absurd open
-rules_ended s (of_judge lines) reader made open does = absurd open
+rules_ended s (of_rules lines) reader made is does = does lines is s
+rules_ended s (of_city lines) reader made is does = absurd is
+rules_ended s (of_asset name lines) reader made is does = absurd is
+rules_ended s (of_judge lines) reader made is does = absurd is
 
 pub city_ended : (s : State) (b : Block) (reader : BlockReader CityGathered) (made : Result Edit BlockFault) → IsOpenAs b (opened.City reader) → ((lines : List Line) → SourcesRead reader lines → DoesAs (sources_told lines) made) → closed s made ≡ ended s b
-city_ended s (of_rules lines) reader made open does = absurd open
-city_ended s (of_city lines) reader made open does = does lines open s
-city_ended s (of_asset name lines) reader made open does = absurd open
-city_ended s (of_judge lines) reader made open does = absurd open
+city_ended s (of_rules lines) reader made is does = absurd is
+city_ended s (of_city lines) reader made is does = does lines is s
+city_ended s (of_asset name lines) reader made is does = absurd is
+city_ended s (of_judge lines) reader made is does = absurd is

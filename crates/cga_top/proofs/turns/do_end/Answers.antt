@@ -1,0 +1,18 @@
+use Rattle.std.proofs.Common.{subst}
+use Rattle.std.specs.Prelude.{IfOk}
+use Rattle.cga_top.specs.Effect.{Effect}
+use Rattle.cga_top.specs.Session.{IsOpenAs, Did}
+use Rattle.cga_top.proofs.Closing.{rules_ended, city_ended}
+use Rattle.cga_top.proofs.turns.do_end.Goals as goal
+
+pub returns-in-Rules-clause-did : goal.returns-in-Rules-clause-did
+returns-in-Rules-clause-did g c = λ s b at as_read.
+    subst (λ (e : Effect). IfOk c.close.result (λ reply. Did e c.close.new.session reply c.args.expansions.now c.close.new.expansions))
+    (rules_ended s b c.in-Rules.reader c.rules_edit.result (subst (IsOpenAs b) c.in-Rules.is as_read) c.rules_edit.ensures.told)
+    (c.close.ensures.did s at)
+
+pub returns-in-City-clause-did : goal.returns-in-City-clause-did
+returns-in-City-clause-did g c = λ s b at as_read.
+    subst (λ (e : Effect). IfOk c.close.result (λ reply. Did e c.close.new.session reply c.args.expansions.now c.close.new.expansions))
+    (city_ended s b c.in-City.reader c.city_edit.result (subst (IsOpenAs b) c.in-City.is as_read) c.city_edit.ensures.told)
+    (c.close.ensures.did s at)
