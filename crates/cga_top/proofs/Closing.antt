@@ -17,7 +17,7 @@ use Rattle.cga_form.specs.declared.block_reader.BlockReader.{BlockReader}
 use Rattle.cga_parser.specs.declared.gathered.Gathered.{Gathered}
 use Rattle.cga_script.specs.declared.city_gathered.CityGathered.{CityGathered}
 use Rattle.cga_top.specs.Blocks.{RulesRead, SourcesRead}
-use Rattle.cga_top.specs.Replies.{applied, budget_of, changed, closed, edited, ended}
+use Rattle.cga_top.specs.Replies.{applied, budget_of, changed, closed, edited, ended, noted_by}
 use Rattle.cga_top.specs.Session.{IsOpenAs}
 use Rattle.cga_top.specs.State.{Block, of_rules, of_city, of_asset, of_judge, State}
 use Rattle.cga_top.specs.declared.open_block.OpenBlock.TheVariants as opened
@@ -26,14 +26,13 @@ use Rattle.cga_top.specs.TooMany.{DoesAs, RulesGiveSame, CityGivesSame}
 use Rattle.cga_top.specs.Written.{IsWritten}
 use Rattle.cga_top.proofs.Apart.{kept_differ}
 use Rattle.cga_top.proofs.Asks.{rules_is, rules_written, city_is, city_written}
-use Rattle.cga_undo.specs.History.{noted}
 
 abbrev Prints : Entry → Type 0
 Prints e = HaveTexts (printed (rule_pieces e.rule))
 
 -- edits that give the same do the same
 same_done : (s : State) (a b : Edit) → applied s a ≡ applied s b → edited s a ≡ edited s b
-same_done s a b e = ap (changed s (noted s.kept s.sources)) e
+same_done s a b e = ap (changed s (noted_by s.version s.kept s.sources)) e
 
 -- ---- a block of rules
 

@@ -15,11 +15,13 @@ use Rattle.cga_update.specs.Updates.{CountsTouched}
 use Rattle.cga_undo.specs.History.{Kept, Step, noted, undone, redone, turned}
 use Rattle.cga_script.specs.Refusals.{refusal_text_of}
 use Rattle.cga_script.specs.declared.refused.Refused.{Refused}
+use Rattle.cga_script.specs.declared.version.Version.{Version}
+use Rattle.cga_script.specs.declared.version.Version.TheVariants.{One, Two}
 use Rattle.cga_script.specs.declared.refused.Refused.TheVariants as told
 use Rattle.cga_top.specs.State.{State}
 use Rattle.cga_top.specs.Effect.{Effect, SpentBy}
-use Rattle.cga_top.specs.Ready.{Accepts, IsReady, MayHaveRead, Refuses, Tells}
-use Rattle.cga_top.specs.Replies.{changed, applied, edited, stepped, refuses, ok_reply, budget_of}
+use Rattle.cga_top.specs.Ready.{Accepts, IsReady, MayHaveRead, Refuses, Tells, Works}
+use Rattle.cga_top.specs.Replies.{changed, applied, edited, noted_by, stepped, refuses, ok_reply, budget_of}
 use Rattle.cga_top.specs.Session.{IsAt, IsOpen, Did}
 use Rattle.cga_top.specs.Written.{AreWritten, IsWritten}
 use Rattle.cga_top.specs.declared.session.Session.{Session}
@@ -83,15 +85,28 @@ changed_did s old new history e before reply i j at apart a r =
       spent = (omega arith, subst (CountsTouched s.sources city.sources (members (budget_of s.version) s.sources) (members (budget_of s.version) city.sources)) count touched);
     })
 
+-- what is noted is known by the version
+noted_in : (s : State) (old : Session) (v : Version) → IsAt s old → old.version ≡ v → noted_by v s.kept s.sources ≡ noted_by s.version s.kept s.sources
+noted_in s old v at is = ap (λ (w : Version). noted_by w s.kept s.sources) (sym is ∙ at.version)
+
 -- the sources before an edit that was done are noted
 pub change_did : (s : State) (old new : Session) (history : Kept) (e : Edit) (before : Sources) (text : Result (List ℕ) NoMemory) (i j : ℕ)
-    → IsAt s old → HasDistinctLots e → Accepts old e before new i j → history ≡ noted new.history before → IfOk text (λ t. t ≡ ok_reply new.quiet)
+    → IsAt s old → old.version ≡ Two → HasDistinctLots e → Accepts old e before new i j → history ≡ noted new.history before → IfOk text (λ t. t ≡ ok_reply new.quiet)
     → IfOk text (λ reply. Did (edited s e) (record new { history = history }) reply i j)
-change_did s old new history e before (Err none) i j at apart a h r = tt
-change_did s old new history e before (Ok reply) i j at apart a h r =
+change_did s old new history e before (Err none) i j at two apart a h r = tt
+change_did s old new history e before (Ok reply) i j at two apart a h r =
     let k : history ≡ noted s.kept s.sources =
     h ∙ ap (λ (k : Kept). noted k before) (ap (λ (x : Session). x.history) a.others ∙ at.kept) ∙ ap (noted s.kept) (a.before_is ∙ at.sources) in
-    subst (λ (k : Kept). Did (changed s k (applied s e)) (record new { history = history }) reply i j) k (changed_did s old new history e before reply i j at apart a r)
+    subst (λ (k : Kept). Did (changed s k (applied s e)) (record new { history = history }) reply i j) (k ∙ noted_in s old Two at two) (changed_did s old new history e before reply i j at apart a r)
+
+-- and in version 1 they aren't
+pub alone_did : (s : State) (old new : Session) (e : Edit) (text : Result (List ℕ) NoMemory) (i j : ℕ)
+    → IsAt s old → old.version ≡ One → HasDistinctLots e → Accepts old e old.city.sources new i j → IfOk text (λ t. t ≡ ok_reply new.quiet)
+    → IfOk text (λ reply. Did (edited s e) new reply i j)
+alone_did s old new e (Err none) i j at one apart a r = tt
+alone_did s old new e (Ok reply) i j at one apart a r =
+    let k : new.history ≡ s.kept = ap (λ (x : Session). x.history) a.others ∙ at.kept in
+    subst (λ (k : Kept). Did (changed s k (applied s e)) new reply i j) (k ∙ noted_in s old One at one) (changed_did s old new new.history e old.city.sources reply i j at apart a r)
 
 pub step_did : (s : State) (old new : Session) (history : Kept) (none : Refused) (step : Option Step) (some : Step) (taken before : Sources) (text : Result (List ℕ) NoMemory) (i j : ℕ)
     → IsAt s old → HasDistinctLots (edit.Whole taken) → step ≡ Some some → taken ≡ some.taken → Accepts old (edit.Whole taken) before new i j → history ≡ some.left → IfOk text (λ t. t ≡ ok_reply new.quiet)
@@ -109,6 +124,12 @@ accepts_of old new e answer before i j is h = subst (λ (r : Result Sources Edit
 
 pub refuses_of : (old new : Session) (e : Edit) (answer : Result Sources EditRefused) (refused : EditRefused) (i j : ℕ) → answer ≡ Err refused → Tells old e answer new i j → Refuses old e refused new i j
 refuses_of old new e answer refused i j is h = subst (λ (r : Result Sources EditRefused). Tells old e r new i j) is h
+
+pub works_of : (old new : Session) (e : Edit) (answer : Result (Unit {0}) EditRefused) (i j : ℕ) → answer ≡ Ok tt → Works old e answer new i j → Accepts old e old.city.sources new i j
+works_of old new e answer i j is h = subst (λ (r : Result (Unit {0}) EditRefused). Works old e r new i j) is h
+
+pub works_refused : (old new : Session) (e : Edit) (answer : Result (Unit {0}) EditRefused) (refused : EditRefused) (i j : ℕ) → answer ≡ Err refused → Works old e answer new i j → Refuses old e refused new i j
+works_refused old new e answer refused i j is h = subst (λ (r : Result (Unit {0}) EditRefused). Works old e r new i j) is h
 
 -- ---- refused
 
@@ -162,6 +183,13 @@ accepted_ready old new history e before i j ready written a past future = record
   future = future;
   block = subst MayHaveRead (sym (ap (λ (x : Session). x.block) a.others)) ready.block;
 }
+
+-- where nothing is noted
+pub alone_ready : (old new : Session) (e : Edit) (i j : ℕ) → IsReady old → IsWritten e → Accepts old e old.city.sources new i j → IsReady new
+alone_ready old new e i j ready written a =
+    let same = history_same old new e old.city.sources i j a in
+    accepted_ready old new new.history e old.city.sources i j ready written a
+    (subst (λ (k : Kept). All AreWritten k.past) (sym same) ready.past) (subst (λ (k : Kept). All AreWritten k.future) (sym same) ready.future)
 
 -- the sources before an edit are such as lines write
 pub before_written : (old new : Session) (e : Edit) (before : Sources) (i j : ℕ) → IsReady old → Accepts old e before new i j → AreWritten before

@@ -33,13 +33,14 @@ use Rattle.cga_script.specs.declared.script_command.ScriptCommand.TheVariants as
 use Rattle.cga_script.specs.Dumps.{dump_of}
 use Rattle.cga_script.specs.Commands.{CommandTells}
 use Rattle.cga_script.specs.CityLines.{CityTells}
-use Rattle.cga_script.specs.declared.version.Version.TheVariants.{Two}
+use Rattle.cga_script.specs.declared.version.Version.{Version}
+use Rattle.cga_script.specs.declared.version.Version.TheVariants.{One, Two}
 use Rattle.cga_script.specs.Ends.{is_end_line, is_version_line}
 use Rattle.cga_top.specs.State.{Block, of_rules, of_city, of_asset, of_judge, State, start}
 use Rattle.cga_top.specs.Effect.{Effect}
 use Rattle.cga_top.specs.Told.{command_of, rules_of, city_of, grammar_told, sources_told}
 use Rattle.cga_top.specs.Written.{AsksWritten}
-use Rattle.cga_top.specs.Replies.{budget_of, changed, applied, edited, stepped, dumped, modelled, shown, model_of, clothed, given, done_by, is_blank, begun, asked, outside, closed, ended, effect_by, effect}
+use Rattle.cga_top.specs.Replies.{budget_of, changed, applied, edited, noted_by, stepped, dumped, modelled, shown, model_of, clothed, given, done_by, is_blank, begun, asked, outside, closed, ended, effect_by, effect}
 use Rattle.cga_top.specs.Output.{effect_of_all}
 use Rattle.cga_top.specs.Undos.{GoesThrough, StatesAreWithin, UndosGoThrough, RedosGoThrough}
 use Rattle.cga_top.proofs.Numbers.{distinct}
@@ -81,10 +82,16 @@ module _ (s : State) (is : IsSettled s) where
   pushed : (list : List Sources) → All Can list → All Can (list ++ s.sources ∷ [])
   pushed list h = All-append Can list (s.sources ∷ []) h (All-cons Can s.sources [] is.now (All-nil Can))
 
+  past_noted : (v : Version) → All Can (noted_by v s.kept s.sources).past
+  past_noted One = is.past
+  past_noted Two = trimmed (nat_lt 16 (length (s.kept.past ++ s.sources ∷ []))) (s.kept.past ++ s.sources ∷ []) (pushed s.kept.past is.past)
+
+  future_noted : (v : Version) → All Can (noted_by v s.kept s.sources).future
+  future_noted One = is.future
+  future_noted Two = All-nil Can
+
   edited_settled : (e : Edit) → HasDistinctLots e → IsSettled (edited s e).state
-  edited_settled e apart =
-      changed_settled e (noted s.kept s.sources) (applied s e) refl apart
-      (trimmed (nat_lt 16 (length (s.kept.past ++ s.sources ∷ []))) (s.kept.past ++ s.sources ∷ []) (pushed s.kept.past is.past)) (All-nil Can)
+  edited_settled e apart = changed_settled e (noted_by s.version s.kept s.sources) (applied s e) refl apart (past_noted s.version) (future_noted s.version)
 
   -- ---- steps
 

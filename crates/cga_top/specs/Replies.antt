@@ -94,9 +94,14 @@ changed s kept (Err e) = record {
 abbrev pub applied : State → Edit → Result Sources EditRefused
 applied s e = apply s.sources e (budget_of s.version)
 
--- an edit; the sources before it are noted
+-- what is kept after an accepted edit of these sources: version 1 has no undo, and keeps nothing
+abbrev pub noted_by : Version → Kept → Sources → Kept
+noted_by One kept before = kept
+noted_by Two kept before = noted kept before
+
+-- an edit; in version 2 the sources before it are noted
 abbrev pub edited : State → Edit → Effect
-edited s e = changed s (noted s.kept s.sources) (applied s e)
+edited s e = changed s (noted_by s.version s.kept s.sources) (applied s e)
 
 -- back to former sources, or on to later ones: the edit that sets them whole; none are there
 abbrev pub stepped : State → Refused → Option Step → Effect

@@ -1,20 +1,43 @@
-ghost use Rattle.std.specs.Prelude.{IfOk, OnOk};
+ghost use Rattle.std.specs.Prelude.{◌≡◌, IfOk, OnOk};
 ghost use Rattle.cga_city.specs.City.{HasDistinctLots};
 ghost use Rattle.cga_undo.specs.History.{undone, redone};
+ghost use Rattle.cga_script.specs.declared.version.Version.TheVariants.{One, Two};
 ghost use Rattle.cga_top.specs.State.{State};
 ghost use Rattle.cga_top.specs.Written.{IsWritten};
 ghost use Rattle.cga_top.specs.Replies.{edited, stepped};
 ghost use Rattle.cga_top.specs.Session.{IsAt, Did};
-ghost use Rattle.cga_top.specs.Ready.{IsReady, Tells};
+ghost use Rattle.cga_top.specs.Ready.{IsReady, Tells, Works};
 
 use crate::session::{Session, accepted};
 use cga_fraction::{List, NoMemory, Steps};
-use cga_script::{Refused, refusal_text};
+use cga_script::{Refused, Version, refusal_text};
 use cga_shape::{Edit, EditRefused, Sources};
 use std::sync::ledger::Ledger;
 
-// Does an edit of the city, brings the bill up to it, and gives the sources before it. After want of memory the bill may be
-// behind the city.
+// Does an edit of the city, and brings the bill up to it. After want of memory the bill may be behind the city.
+fn work_edit<E: Ledger, T: Ledger>(
+    session: &mut Session,
+    edit: Edit,
+    expansions: &mut Steps<E>,
+    tests: &mut Steps<T>,
+) -> Result<Result<(), EditRefused>, NoMemory>
+    requires ready { IsReady session.old }
+    requires lots { HasDistinctLots edit }
+    ensures { IfOk result (λ told. Works session.old edit told session.new expansions.old expansions.new) }
+{
+    // They are sound and within the budget.
+    let _before = session.city.sources();
+    match session.city.edit(edit, expansions, tests) {
+        Ok(()) => {
+            session.bill.apply(session.city.changes())?;
+            Ok(Ok(()))
+        }
+        Err(EditRefused::NoMemory) => Err(NoMemory),
+        Err(refused) => Ok(Err(refused)),
+    }
+}
+
+// The same, and gives the sources before it.
 fn do_edit<E: Ledger, T: Ledger>(
     session: &mut Session,
     edit: Edit,
@@ -26,17 +49,13 @@ fn do_edit<E: Ledger, T: Ledger>(
     ensures { IfOk result (λ told. Tells session.old edit told session.new expansions.old expansions.new) }
 {
     let before = session.city.sources().copy(session.alloc)?;
-    match session.city.edit(edit, expansions, tests) {
-        Ok(()) => {
-            session.bill.apply(session.city.changes())?;
-            Ok(Ok(before))
-        }
-        Err(EditRefused::NoMemory) => Err(NoMemory),
+    match work_edit(session, edit, expansions, tests)? {
+        Ok(()) => Ok(Ok(before)),
         Err(refused) => Ok(Err(refused)),
     }
 }
 
-/// Does an edit, and notes the sources before it.
+/// Does an edit. Version 2 notes the sources before it; version 1 has no undo, and keeps no former ones.
 pub(crate) fn change<E: Ledger, T: Ledger>(
     session: &mut Session,
     edit: Edit,
@@ -45,6 +64,45 @@ pub(crate) fn change<E: Ledger, T: Ledger>(
 ) -> Result<List<u8>, NoMemory>
     requires ready { IsReady session.old }
     requires written { IsWritten edit }
+    ensures did { (s : State) → IsAt s session.old
+        → IfOk result (λ reply. Did (edited s edit) session.new reply expansions.old expansions.new) }
+    ensures ready { OnOk result (IsReady session.new) }
+{
+    match session.version {
+        Version::One => change_alone(session, edit, expansions, tests),
+        Version::Two => change_and_note(session, edit, expansions, tests),
+    }
+}
+
+fn change_alone<E: Ledger, T: Ledger>(
+    session: &mut Session,
+    edit: Edit,
+    expansions: &mut Steps<E>,
+    tests: &mut Steps<T>,
+) -> Result<List<u8>, NoMemory>
+    requires ready { IsReady session.old }
+    requires written { IsWritten edit }
+    requires one { session.old.version ≡ One }
+    ensures did { (s : State) → IsAt s session.old
+        → IfOk result (λ reply. Did (edited s edit) session.new reply expansions.old expansions.new) }
+    ensures ready { OnOk result (IsReady session.new) }
+{
+    let told = work_edit(session, edit, expansions, tests)?;
+    match told {
+        Ok(()) => accepted(session.alloc, session.quiet),
+        Err(refused) => refusal_text(session.alloc, &Refused::Edit(refused)),
+    }
+}
+
+fn change_and_note<E: Ledger, T: Ledger>(
+    session: &mut Session,
+    edit: Edit,
+    expansions: &mut Steps<E>,
+    tests: &mut Steps<T>,
+) -> Result<List<u8>, NoMemory>
+    requires ready { IsReady session.old }
+    requires written { IsWritten edit }
+    requires two { session.old.version ≡ Two }
     ensures did { (s : State) → IsAt s session.old
         → IfOk result (λ reply. Did (edited s edit) session.new reply expansions.old expansions.new) }
     ensures ready { OnOk result (IsReady session.new) }

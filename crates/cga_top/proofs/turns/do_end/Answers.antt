@@ -13,6 +13,6 @@ returns-in-Rules-clause-did g c = λ s b at as_read.
 
 pub returns-in-City-clause-did : goal.returns-in-City-clause-did
 returns-in-City-clause-did g c = λ s b at as_read.
-    subst (λ (e : Effect). IfOk c.close.result (λ reply. Did e c.close.new.session reply c.args.expansions.now c.close.new.expansions))
+    subst (λ (e : Effect). IfOk c.close-in-City.result (λ reply. Did e c.close-in-City.new.session reply c.args.expansions.now c.close-in-City.new.expansions))
     (city_ended s b c.in-City.reader c.city_edit.result (subst (IsOpenAs b) c.in-City.is as_read) c.city_edit.ensures.told)
-    (c.close.ensures.did s at)
+    (c.close-in-City.ensures.did s at)

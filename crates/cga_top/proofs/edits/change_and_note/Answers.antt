@@ -2,18 +2,19 @@ use Rattle.std.specs.Prelude.{All}
 use Rattle.std.proofs.Common.{◌≡◌, ◌∙◌, ap, sym, subst}
 use Rattle.std.proofs.lemmas.List.Elements.{All-nil}
 use Rattle.cga_undo.specs.History.{Kept, noted}
+use Rattle.cga_top.specs.Replies.{noted_by}
 use Rattle.cga_top.specs.Written.{AreWritten}
 use Rattle.cga_top.proofs.Numbers.{distinct}
 use Rattle.cga_top.proofs.Histories.{noted_written}
 use Rattle.cga_top.proofs.Steps.{accepted_ready, accepts_of, before_written, change_did, history_same, on_ok, refused_did, refuses_of}
-use Rattle.cga_top.proofs.edits.change.Goals as goal
+use Rattle.cga_top.proofs.edits.change_and_note.Goals as goal
 
 pub do_edit-requires-clause-lots : goal.do_edit-requires-clause-lots
 do_edit-requires-clause-lots g c = distinct c.args.edit c.requires.written
 
 pub returns-in-Ok-clause-did : goal.returns-in-Ok-clause-did
 returns-in-Ok-clause-did g c = λ s st.
-    change_did s c.args.session.now c.do_edit.new.session c.note.new.self c.args.edit c.in-Ok.before c.accepted.result _ _ st (distinct c.args.edit c.requires.written)
+    change_did s c.args.session.now c.do_edit.new.session c.note.new.self c.args.edit c.in-Ok.before c.accepted.result _ _ st c.requires.two (distinct c.args.edit c.requires.written)
     (accepts_of _ _ _ _ _ _ _ c.in-Ok.is (c.in_ok-told.ensures {u = tt})) c.note.ensures c.accepted.ensures
 
 pub returns-in-Ok-clause-ready : goal.returns-in-Ok-clause-ready
@@ -27,4 +28,4 @@ returns-in-Ok-clause-ready g c =
 
 pub returns-in-Err-clause-did : goal.returns-in-Err-clause-did
 returns-in-Err-clause-did g c = λ s st.
-    refused_did s c.args.session.now c.do_edit.new.session (noted s.kept s.sources) c.args.edit c.in-Err.refused c.refusal_text.result _ _ st (refuses_of _ _ _ _ _ _ _ c.in-Err.is (c.in_ok-told.ensures {u = tt})) c.refusal_text.ensures
+    refused_did s c.args.session.now c.do_edit.new.session (noted_by s.version s.kept s.sources) c.args.edit c.in-Err.refused c.refusal_text.result _ _ st (refuses_of _ _ _ _ _ _ _ c.in-Err.is (c.in_ok-told.ensures {u = tt})) c.refusal_text.ensures
