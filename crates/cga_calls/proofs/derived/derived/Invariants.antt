@@ -1,4 +1,4 @@
-use Rattle.cga_tests.proofs.derived.derived.Given as goal
+use Rattle.cga_calls.proofs.derived.derived.Given as goal
 
 abbrev pub ghosts-counted-E-Ledger : goal.ghosts-counted-E-Ledger
 ghosts-counted-E-Ledger a = record { name = a.expansions.name; parts = a.expansions.parts }

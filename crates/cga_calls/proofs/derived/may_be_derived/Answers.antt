@@ -1,7 +1,7 @@
 use Rattle.std.proofs.Common.{arith}
 use lib.Pointwise.{bytes_decides}
-use Rattle.cga_tests.proofs.Lots.{two_differ}
-use Rattle.cga_tests.proofs.derived.may_be_derived.Goals as goal
+use Rattle.cga_calls.proofs.Lots.{two_differ}
+use Rattle.cga_calls.proofs.derived.may_be_derived.Goals as goal
 
 pub returns-then-is_ok-clause-names : goal.returns-then-is_ok-clause-names
 returns-then-is_ok-clause-names c = λ is.
