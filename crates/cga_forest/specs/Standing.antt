@@ -1,5 +1,5 @@
 -- What a node is to one that asks, by the stamps of the kept priorities.
-use Rattle.std.specs.Prelude.{ℕ, zero, suc, Option, Some, None, Bool, true, false, not, ◌&&◌, ◌||◌, nat_eq}
+use Rattle.std.specs.Prelude.{◌≡◌, ℕ, zero, suc, Option, Some, None, Bool, true, false, not, ◌&&◌, ◌||◌, nat_eq}
 use Rattle.std.specs.Ordering.{is_lt}
 use Rattle.cga_word.specs.declared.mode.Mode.{Mode}
 use Rattle.cga_order.specs.Chain.{Chain}
@@ -19,6 +19,10 @@ at_parent test (Some p) = test p
 unfoldable pub is_above : (ℕ → Option Seen) → ℕ → ℕ → ℕ → Bool
 is_above T zero x c = false
 is_above T (suc n) x c = nat_eq x c || at_parent (is_above T n x) (above (T c))
+
+-- the node is there, under so many others
+abbrev pub IsAtDepth : (ℕ → Option Seen) → ℕ → ℕ → Type 0
+IsAtDepth T x depth = (d : Seen) × (T x ≡ Some d) × (d.depth ≡ depth)
 
 -- the node's stamp comes before that of the chain
 abbrev pub is_before : Mode → Option Seen → Chain → Bool

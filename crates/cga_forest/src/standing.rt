@@ -3,9 +3,9 @@ ghost use Rattle.std.specs.Prelude.{◌≡◌, ℕ, None, Some, MatchOption};
 ghost use Rattle.cga_order.specs.Chain as order;
 ghost use Rattle.cga_order.specs.Seen.{chain_of};
 ghost use Rattle.cga_forest.specs.Node.{chain_kept};
-ghost use Rattle.cga_forest.specs.Standing.{is_above, is_before, exists_at, waits_at, standing_by, standing_of};
-ghost use Rattle.cga_forest.specs.Tree.{above};
+ghost use Rattle.cga_forest.specs.Standing.{IsAtDepth, is_above, is_before, exists_at, waits_at, standing_by, standing_of};
 ghost use Rattle.cga_forest.specs.View.{Seen, at, present_of, seen};
+ghost use Rattle.cga_tree.specs.Tree.{IsTree};
 
 use crate::entry::Entry;
 use crate::store::Store;
@@ -23,17 +23,11 @@ pub fn present(store: &Store, id: usize) -> Option<&Entry>
     }
 }
 
-fn parent_of(store: &Store, id: usize) -> Option<usize>
-    ensures { result ≡ above (present_of (at store.now id)) }
-{
-    match present(store, id) {
-        Some(entry) => entry.parent,
-        None => None,
-    }
-}
-
-/// Whether a node is another one or an ancestor of it. `left` bounds the levels.
-fn is_above(store: &Store, left: usize, node: usize, other: usize) -> bool
+/// Whether a node, which stands at this depth, is another one or an ancestor of it: all ancestors of a node stand above
+/// it, so the search ends where it is as high as the node. `left` bounds the levels.
+fn is_above(store: &Store, left: usize, node: usize, depth: usize, other: usize) -> bool
+    requires tree { IsTree (λ c. present_of (at store.now c)) }
+    requires node { IsAtDepth (λ c. present_of (at store.now c)) node depth }
     ensures { result ≡ is_above (λ c. present_of (at store.now c)) left node other }
 {
     if left == 0 {
@@ -42,8 +36,16 @@ fn is_above(store: &Store, left: usize, node: usize, other: usize) -> bool
     if node == other {
         return true;
     }
-    match parent_of(store, other) {
-        Some(parent) => is_above(store, left - 1, node, parent),
+    match present(store, other) {
+        Some(entry) => {
+            if entry.depth <= depth {
+                return false;
+            }
+            match entry.parent {
+                Some(parent) => is_above(store, left - 1, node, depth, parent),
+                None => false,
+            }
+        }
         None => false,
     }
 }
@@ -100,13 +102,14 @@ fn standing_by(hidden: bool, waits: bool) -> Standing
 
 /// What a node is to another one.
 pub fn standing_of(store: &Store, mode: Mode, node: usize, by: usize) -> Standing
+    requires tree { IsTree (λ c. present_of (at store.now c)) }
     requires chains { (c : ℕ) (d : Seen) → present_of (at store.now c) ≡ Some d → order.IsWhole (chain_kept d.node) }
     ensures { result ≡ standing_of mode (λ c. present_of (at store.now c)) node by (present_of (at store.now node)) (present_of (at store.now by)) }
 {
     match (present(store, node), present(store, by)) {
         (Some(entry), Some(asker)) => {
             let chain = asker.node.chain();
-            let above = is_above(store, 257, node, by);
+            let above = is_above(store, 257, node, entry.depth, by);
             let there = exists_at(store, mode, entry.parent, &chain);
             let waits = waits_at(mode, entry, &chain);
             standing_by(above || !there, waits)

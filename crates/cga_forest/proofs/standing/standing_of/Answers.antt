@@ -8,3 +8,6 @@ exists_at-there-requires-clause-by c = subst order.IsWhole (sym c.chain-chain.en
 
 pub waits_at-waits-requires-clause-by : goal.waits_at-waits-requires-clause-by
 waits_at-waits-requires-clause-by c = subst order.IsWhole (sym c.chain-chain.ensures) (c.requires.chains c.args.by (seen c.in-Some-Some.asker.now) c.in-Some-Some.ensures')
+
+pub waits_at-waits-requires-clause-own : goal.waits_at-waits-requires-clause-own
+waits_at-waits-requires-clause-own c = c.requires.chains c.args.node (seen c.in-Some-Some.entry.now) c.in-Some-Some.ensures
