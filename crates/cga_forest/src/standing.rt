@@ -1,5 +1,5 @@
 //! What a node is to one that asks, told by the stamps of the kept priorities.
-ghost use Rattle.std.specs.Prelude.{◌≡◌, ℕ, None, Some, MatchOption};
+ghost use Rattle.std.specs.Prelude.{◌≡◌, ℕ, None, Some, MatchOption, false};
 ghost use Rattle.cga_order.specs.Chain as order;
 ghost use Rattle.cga_order.specs.Seen.{chain_of};
 ghost use Rattle.cga_forest.specs.Node.{chain_kept};
@@ -88,12 +88,11 @@ fn waits_at(mode: Mode, entry: &Entry, by: &Chain) -> bool
     }
 }
 
-fn standing_by(hidden: bool, waits: bool) -> Standing
-    ensures { result ≡ standing_by hidden waits }
+/// What a node is that isn't hidden.
+fn standing_by(waits: bool) -> Standing
+    ensures { result ≡ standing_by false waits }
 {
-    if hidden {
-        Standing::Hidden
-    } else if waits {
+    if waits {
         Standing::Waiting
     } else {
         Standing::Finished
@@ -109,10 +108,14 @@ pub fn standing_of(store: &Store, mode: Mode, node: usize, by: usize) -> Standin
     match (present(store, node), present(store, by)) {
         (Some(entry), Some(asker)) => {
             let chain = asker.node.chain();
-            let above = is_above(store, 257, node, entry.depth, by);
-            let there = exists_at(store, mode, entry.parent, &chain);
+            if is_above(store, 257, node, entry.depth, by) {
+                return Standing::Hidden;
+            }
+            if !exists_at(store, mode, entry.parent, &chain) {
+                return Standing::Hidden;
+            }
             let waits = waits_at(mode, entry, &chain);
-            standing_by(above || !there, waits)
+            standing_by(waits)
         }
         _ => Standing::Hidden,
     }

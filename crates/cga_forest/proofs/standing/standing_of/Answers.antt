@@ -3,8 +3,8 @@ use Rattle.cga_order.specs.Chain as order
 use Rattle.cga_forest.specs.View.{seen}
 use Rattle.cga_forest.proofs.standing.standing_of.Goals as goal
 
-pub exists_at-there-requires-clause-by : goal.exists_at-there-requires-clause-by
-exists_at-there-requires-clause-by c = subst order.IsWhole (sym c.chain-chain.ensures) (c.requires.chains c.args.by (seen c.in-Some-Some.asker.now) c.in-Some-Some.ensures')
+pub exists_at-requires-clause-by : goal.exists_at-requires-clause-by
+exists_at-requires-clause-by c = subst order.IsWhole (sym c.chain-chain.ensures) (c.requires.chains c.args.by (seen c.in-Some-Some.asker.now) c.in-Some-Some.ensures')
 
 pub waits_at-waits-requires-clause-by : goal.waits_at-waits-requires-clause-by
 waits_at-waits-requires-clause-by c = subst order.IsWhole (sym c.chain-chain.ensures) (c.requires.chains c.args.by (seen c.in-Some-Some.asker.now) c.in-Some-Some.ensures')
