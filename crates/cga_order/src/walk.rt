@@ -1,4 +1,4 @@
-ghost use Rattle.std.specs.Prelude.{◌≡◌, ℕ, ◌<◌, ◌≤◌, ◌+◌, length, take};
+ghost use Rattle.std.specs.Prelude.{◌≡◌, ℕ, ◌<◌, ◌≤◌, ◌+◌, Some, length, take};
 ghost use Rattle.std.specs.Ordering.{nat_cmp};
 ghost use Rattle.std.specs.Cmp.Lexicographic.{slice_cmp};
 ghost use Rattle.cga_word.specs.declared.mode.Mode.{Mode};
@@ -28,12 +28,9 @@ pub fn cmp_stamp(mode: Mode, a: &Chain, b: &Chain) -> Ordering
     requires right { IsWhole (chain_of b.now) }
     ensures { result ≡ stamp_cmp mode (chain_of a.now) (chain_of b.now) }
 {
-    match (head(a), head(b)) {
-        (Some(i), Some(j)) => match cmp_heads(mode, a, i, b, j) {
-            Ordering::Equal => cmp_by_walk(mode, a, b),
-            decided => decided,
-        },
-        _ => cmp_by_walk(mode, a, b),
+    match cmp_heads(mode, a, head(a), b, head(b)) {
+        Ordering::Equal => cmp_by_walk(mode, a, b),
+        decided => decided,
     }
 }
 
@@ -62,16 +59,22 @@ fn cmp_heads(mode: Mode, a: &Chain, i: usize, b: &Chain, j: usize) -> Ordering
     }
 }
 
-/// At which depth the greatest rank of a chain stands.
-fn head(chain: &Chain) -> Option<usize>
+/// At which depth the greatest rank of a chain stands: the deepest that has the greatest priority.
+fn head(chain: &Chain) -> usize
     requires { IsWhole (chain_of chain.now) }
-    ensures { (mode : Mode) → IsTop mode (chain_of chain.now) 0 result }
+    ensures { (mode : Mode) → IsTop mode (chain_of chain.now) 0 (Some result) }
 {
-    let mut head = None;
-    let mut depth = chain.priorities.len();
+    let priorities = chain.priorities;
+    let mut depth = chain.path.len();
+    let mut head = depth;
+    let mut greatest = priorities[head];
     while depth > 0 {
         depth -= 1;
-        head = top(chain, depth, head);
+        let priority = priorities[depth];
+        if priority > greatest {
+            head = depth;
+            greatest = priority;
+        }
     }
     head
 }
