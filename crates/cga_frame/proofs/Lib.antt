@@ -4,4 +4,5 @@ pub mod Flags
 pub mod Frames
 pub mod Inside
 pub mod Intervals
+pub mod Spans
 pub mod Standing

@@ -10,7 +10,7 @@ use crate::frame::Frame;
 use crate::point::Point;
 use crate::scope_fault::ScopeFault;
 use crate::signed::Signed;
-use crate::world_box::WorldBox;
+use crate::world_box::{WorldBox, span_touches};
 use cga_fraction::{Fraction, Overflow};
 use cga_word::{Axis, Turn};
 use std::marker::Model;
@@ -48,7 +48,7 @@ impl Scope {
     ghost use Rattle.cga_fraction.specs.Order.{rat_lt};
     ghost use Rattle.cga_frame.specs.Points.{checked_point};
     ghost use Rattle.cga_frame.specs.Scope.{existing, part_of, scope_of, step_of, translated, turned_scope, Exists};
-    ghost use Rattle.cga_frame.specs.Box.{box_of, is_box};
+    ghost use Rattle.cga_frame.specs.Box.{box_of, is_box, touches};
     ghost use Rattle.cga_frame.specs.Component.{component_of, IsFitting};
 
     /// The scope with its corner of all zero coordinates there.
@@ -97,6 +97,16 @@ impl Scope {
             low: self.at.min(self.far),
             high: self.at.max(self.far),
         }
+    }
+
+    /// Whether that box touches another one, by the two corners: the box isn't made.
+    #[tactic(auto, unfolding(crate::specs::Box::touches))]
+    pub fn touches(&self, area: &WorldBox) -> bool
+        ensures { result ≡ touches (box_of self.now) area.now }
+    {
+        span_touches(self.at.x, self.far.x, area.low.x, area.high.x)
+            && span_touches(self.at.y, self.far.y, area.low.y, area.high.y)
+            && span_touches(self.at.z, self.far.z, area.low.z, area.high.z)
     }
 
     /// The scope of a component, which begins at one corner of this one and is flat or of its size along each

@@ -1,4 +1,5 @@
 ghost use Rattle.std.specs.Prelude.{◌≡◌, true};
+ghost use Rattle.cga_fraction.specs.Order.{rat_max, rat_min};
 ghost use Rattle.cga_frame.specs.Box.{along_holds, along_meets, along_touches, holds, is_box, meets, touches};
 
 use crate::point::Point;
@@ -121,4 +122,13 @@ fn along_touches(low: Fraction, high: Fraction, lower: Fraction, upper: Fraction
     ensures { result ≡ along_touches low high lower upper }
 {
     low.is_at_most(upper) && lower.is_at_most(high)
+}
+
+/// Whether the interval between two numbers shares a point with the one from low to high.
+#[tactic(auto, using(crate::proofs::Spans::span_touches))]
+pub(crate) fn span_touches(one: Fraction, other: Fraction, low: Fraction, high: Fraction) -> bool
+    ensures { result ≡ along_touches (rat_min one other) (rat_max one other) low high }
+{
+    (one.is_at_most(high) || other.is_at_most(high))
+        && (low.is_at_most(one) || low.is_at_most(other))
 }
