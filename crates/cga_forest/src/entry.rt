@@ -1,6 +1,6 @@
-ghost use Rattle.std.specs.Prelude.{◌≡◌, true, Some, None, if◌then◌else◌};
+ghost use Rattle.std.specs.Prelude.{◌≡◌, true, Some};
 ghost use Rattle.cga_forest.specs.Hull.{hulls_known};
-ghost use Rattle.cga_forest.specs.View.{settled, rolled, rewritten, present_of, marked_of, hulls_of, marked_hulls_of, KeepsBooks};
+ghost use Rattle.cga_forest.specs.View.{rewritten, present_of, marked_of, hulls_of, marked_hulls_of, KeepsBooks};
 
 use crate::hulls::Hulls;
 use crate::hulls_box::HullsBox;
@@ -47,35 +47,6 @@ impl Entry {
         ensures { result ≡ (hulls_known self.now.node self.now.hulls).asking }
     {
         self.hulls.asking(&self.node)
-    }
-
-    /// Drops what the entry keeps for the mark. False where the node was set aside.
-    pub fn settle(&mut self) -> bool
-        ensures { if result then Some self.new else None ≡ settled (Some self.old) }
-    {
-        self.came = false;
-        self.touched = false;
-        self.former = None;
-        self.former_hulls = None;
-        !self.aside
-    }
-
-    /// Puts the marked node back. False where the node came after the mark.
-    pub fn roll_back(&mut self) -> bool
-        ensures { if result then Some self.new else None ≡ rolled (Some self.old) }
-    {
-        let came = self.came;
-        self.aside = false;
-        self.came = false;
-        self.touched = false;
-        if let Some(former) = self.former.take() {
-            self.node.set_state(former.state);
-            self.children = former.children;
-        }
-        if let Some(hulls) = self.former_hulls.take() {
-            self.hulls = hulls;
-        }
-        !came
     }
 
     pub fn rewrite(&mut self, marking: bool, state: State, children: Vec<usize>)
