@@ -1,4 +1,6 @@
 ghost use Rattle.std.specs.Prelude.{◌≡◌, true, Some};
+ghost use Rattle.cga_frame.specs.Box.{touches};
+ghost use Rattle.cga_index.specs.Tree.{touches_some};
 ghost use Rattle.cga_forest.specs.Hull.{hulls_known};
 ghost use Rattle.cga_forest.specs.View.{rewritten, present_of, marked_of, hulls_of, marked_hulls_of, KeepsBooks};
 
@@ -47,6 +49,20 @@ impl Entry {
         ensures { result ≡ (hulls_known self.now.node self.now.hulls).asking }
     {
         self.hulls.asking(&self.node)
+    }
+
+    /// Whether the box round all touches an area.
+    pub fn touches(&self, area: &WorldBox) -> bool
+        ensures { result ≡ touches (hulls_known self.now.node self.now.hulls).all area.now }
+    {
+        self.hulls.touches(&self.node, area)
+    }
+
+    /// Whether the box round those that ask does, where there is one.
+    pub fn asks_near(&self, area: &WorldBox) -> bool
+        ensures { result ≡ touches_some (hulls_known self.now.node self.now.hulls).asking area.now }
+    {
+        self.hulls.ask_near(&self.node, area)
     }
 
     pub fn rewrite(&mut self, marking: bool, state: State, children: Vec<usize>)

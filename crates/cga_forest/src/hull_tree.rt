@@ -49,6 +49,16 @@ impl HullTree for Forest {
         self.store.entry(node.number() as usize).hull()
     }
 
+    fn touches(&self, node: NodeId, area: &WorldBox) -> bool {
+        self.store.entry(node.number() as usize).touches(area)
+    }
+
+    fn asks_near(&self, node: NodeId, area: &WorldBox) -> bool {
+        self.store
+            .entry(node.number() as usize)
+            .asks_near(area)
+    }
+
     fn standing(&self, node: NodeId, by: NodeId) -> Standing {
         standing_of(
             &self.store,
