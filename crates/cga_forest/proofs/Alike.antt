@@ -6,7 +6,7 @@ use Rattle.cga_frame.proofs.Boxes.{is_hull, holds_trans, holds_itself}
 use Rattle.cga_frame.proofs.Flags.{both, pair}
 use Rattle.cga_forest.specs.declared.hulls.Hulls.{Hulls}
 use Rattle.cga_forest.specs.Hull.{over, with_hulls, at_hulls, joined, opt_within, holds_hulls, alike}
-use Rattle.cga_forest.proofs.Books.{nat_cases}
+use Rattle.cga_marked.proofs.Slots.{nat_cases}
 
 all_apart : (b : Box) (h k : Hulls) → holds b (with_hulls h (Some k)).all ≡ true → (holds b h.all ≡ true) × (holds b k.all ≡ true)
 all_apart b h k t = let r = is_hull h.all k.all in (holds_trans b (hull h.all k.all) h.all t r.first, holds_trans b (hull h.all k.all) k.all t r.second)

@@ -16,8 +16,8 @@ use Rattle.cga_forest.specs.Tree.{ForestView, hulls_at}
 use Rattle.cga_forest.specs.View.{Seen, present_of}
 use Rattle.cga_forest.specs.Walked.{all_of, asking_of, forest_tree}
 use Rattle.cga_forest.proofs.Alike.{holds_from, probed_apart, probed_chain}
-use Rattle.cga_forest.proofs.Books.{nat_cases}
-use Rattle.cga_forest.proofs.Count.{bool_cases}
+use Rattle.cga_marked.proofs.Slots.{nat_cases}
+use Rattle.cga_marked.proofs.Count.{bool_cases}
 use Rattle.cga_forest.proofs.Names.{contains_at, contains_under, place_once}
 use Rattle.cga_forest.proofs.Right.{present_some}
 use Rattle.cga_forest.proofs.Swaps.{swap_kept}

@@ -13,8 +13,8 @@ use Rattle.cga_forest.specs.View.{Seen, kids, flag_if, present_of, marked_of, hu
 use Rattle.cga_forest.specs.Tree.{IsRight, AllRight, RightBut, under, goes, goes_at, stay_of, IsPlaced, IsPlacedChild}
 use Rattle.cga_tree.specs.Tree.{IsTree}
 use Rattle.cga_tree.specs.Replaced.{fits_at, IsReplaced, IsNewChild}
-use Rattle.cga_forest.proofs.Count.{bool_cases}
-use Rattle.cga_forest.proofs.Books.{nat_cases}
+use Rattle.cga_marked.proofs.Count.{bool_cases}
+use Rattle.cga_marked.proofs.Slots.{nat_cases}
 use Rattle.cga_forest.proofs.Under.{stay_flag}
 use Rattle.cga_forest.proofs.Tree.{cut_some}
 use Rattle.cga_forest.proofs.Walk.{under_cases, under_none, under_into, under_onto, under_self}

@@ -7,8 +7,8 @@ use Rattle.cga_forest.specs.declared.node.Node.{Node}
 use Rattle.cga_forest.specs.declared.node.State.{State}
 use Rattle.cga_forest.specs.Tree.{IsPlaced, above, parent_of}
 use Rattle.cga_forest.specs.View.{Seen, flag_if, hulls_of, present_of, rewritten, settled}
-use Rattle.cga_forest.proofs.Books.{nat_cases}
-use Rattle.cga_forest.proofs.Count.{bool_cases}
+use Rattle.cga_marked.proofs.Slots.{nat_cases}
+use Rattle.cga_marked.proofs.Count.{bool_cases}
 use Rattle.cga_forest.proofs.Marks.{hulls_flag, present_flag}
 use Rattle.cga_forest.proofs.Right.{parent_present, present_some}
 

@@ -1,8 +1,6 @@
 -- Hulls by what is kept of them.
 use Rattle.std.proofs.Common.{◌≡◌, ◌≢◌, ◌∙◌, inl, inr, ℕ, refl, ap, sym}
-use Rattle.std.specs.Prelude.{Option, Some, None, is_some}
-use Rattle.slab.specs.Slab.{Slab, get, with_value}
-use Rattle.slab.proofs.SlabLemmas.{Updates-with_value}
+use Rattle.std.specs.Prelude.{Option, Some, None}
 use Rattle.cga_forest.specs.declared.entry.Entry.{Entry}
 use Rattle.cga_forest.specs.declared.entry.Former.{Former}
 use Rattle.cga_forest.specs.declared.kept_hulls.KeptHulls.{KeptHulls}
@@ -12,7 +10,7 @@ use Rattle.cga_forest.specs.declared.node.State.{State}
 use Rattle.cga_forest.specs.Hull.{hulls_alone, hulls_known, own_hulls}
 use Rattle.cga_forest.specs.Node.{bounds, with_state}
 use Rattle.cga_forest.specs.View.{restored}
-use Rattle.cga_forest.proofs.Books.{nat_cases}
+use Rattle.cga_marked.proofs.Slots.{nat_cases}
 
 state_bounds : (s : State) (n : Node) → bounds (with_state s n) ≡ bounds n
 unfolding bounds
@@ -30,10 +28,6 @@ known_restored e (Some f) k = known_state f.state e.node k
 -- those of a node that came
 pub known_own : (e : Entry) (w : Node) → e.node ≡ w → e.hulls ≡ Own w.asks → hulls_known e.node e.hulls ≡ own_hulls w
 known_own e w n h = λ i. hulls_known (n i) (h i)
-
--- what was written is there
-pub written : (s : Slab Entry) (id : ℕ) (x y : Entry) → get s id ≡ Some x → get (with_value s id y) id ≡ Some y
-written s id x y h = (Updates-with_value s id y (ap is_some h)).changed
 
 -- what is the same of one slot is of all, where no other changes
 pub same_but : {X : Type 0} (f : Option Entry → X) (old new : ℕ → Option Entry) (id : ℕ) → ((c : ℕ) → c ≢ id → new c ≡ old c) → f (new id) ≡ f (old id) → (c : ℕ) → f (new c) ≡ f (old c)

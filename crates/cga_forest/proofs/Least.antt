@@ -8,7 +8,7 @@ use Rattle.cga_forest.specs.Node.{bounds}
 use Rattle.cga_forest.specs.Hull.{over, own_hulls}
 use Rattle.cga_forest.specs.View.{Seen}
 use Rattle.cga_forest.specs.Tree.{ForestView, IsWhole, under, children_of, node_at, hulls_at, IsLeastHull, IsLeastAsking, NoneAsks}
-use Rattle.cga_forest.proofs.Count.{bool_cases}
+use Rattle.cga_marked.proofs.Count.{bool_cases}
 use Rattle.cga_forest.proofs.Alike.{Every, Asking, Nobody, Probe, probed, opt_holds, alike_probed, over_own, over_child, over_all, within}
 use Rattle.cga_forest.proofs.Walk.{under_cases, under_none, under_self, under_child}
 

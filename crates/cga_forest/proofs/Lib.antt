@@ -1,7 +1,6 @@
 pub mod Equal
-pub mod Count
 pub mod Books
-pub mod Sweep
+pub mod Changed
 pub mod Under
 pub mod Tree
 pub mod Walk

@@ -11,8 +11,8 @@ use Rattle.cga_forest.specs.Node.{IsTop}
 use Rattle.cga_forest.proofs.Places.{InPlace-same, InPlace-part, InPlace-root}
 use Rattle.cga_forest.specs.Tree.{ForestView, IsForest, InPlace, IsWhole, IsRight, AllRight, slot_at, node_at, marked_at, hulls_at, marked_hulls_at, children_at, under}
 use Rattle.cga_tree.specs.Tree.{IsTree}
-use Rattle.cga_forest.proofs.Count.{bool_cases}
-use Rattle.cga_forest.proofs.Books.{nat_cases}
+use Rattle.cga_marked.proofs.Count.{bool_cases}
+use Rattle.cga_marked.proofs.Slots.{nat_cases}
 use Rattle.cga_forest.proofs.Tree.{IsTree-same, IsTree-cut, IsTree-root, cut_some}
 use Rattle.cga_forest.proofs.Walk.{under_into, under_onto, under_same, under_self}
 use Rattle.cga_forest.proofs.Names.{apart_moved}

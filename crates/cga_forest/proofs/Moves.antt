@@ -13,8 +13,8 @@ use Rattle.cga_forest.specs.View.{Seen, kids, present_of}
 use Rattle.cga_forest.specs.Moved.{moved_node, moved_of, Lists}
 use Rattle.cga_forest.specs.Gathered.{found, below, going, going_at}
 use Rattle.cga_forest.specs.Tree.{children_of, under}
-use Rattle.cga_forest.proofs.Count.{bool_cases}
-use Rattle.cga_forest.proofs.Books.{nat_cases}
+use Rattle.cga_marked.proofs.Count.{bool_cases}
+use Rattle.cga_marked.proofs.Slots.{nat_cases}
 use Rattle.cga_forest.proofs.Right.{present_some, kids_present}
 use Rattle.cga_forest.proofs.Goes.{under_deep}
 use Rattle.cga_forest.proofs.Walk.{under_cases, under_child, under_self, under_none, under_same}

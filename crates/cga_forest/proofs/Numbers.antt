@@ -7,7 +7,7 @@ use Rattle.cga_forest.specs.declared.node.Node.{Node}
 use Rattle.cga_forest.specs.Numbers.{StaysTaken}
 use Rattle.cga_forest.specs.View.{Seen, present_of, hulls_of, rehulled, flag_if}
 use Rattle.cga_forest.specs.Tree.{IsPlaced}
-use Rattle.cga_forest.proofs.Books.{nat_cases}
+use Rattle.cga_marked.proofs.Slots.{nat_cases}
 
 -- ---- what keeps slots taken
 

@@ -5,8 +5,8 @@ use Rattle.cga_forest.specs.declared.entry.Entry.{Entry}
 use Rattle.cga_forest.specs.declared.node.Node.{Node}
 use Rattle.cga_forest.specs.View.{IsNewEntry, kids}
 use Rattle.cga_forest.specs.Tree.{IsPlaced, stay_of, stay_child}
-use Rattle.cga_forest.proofs.Count.{bool_cases}
-use Rattle.cga_forest.proofs.Books.{nat_cases, get_kept, get_last}
+use Rattle.cga_marked.proofs.Count.{bool_cases}
+use Rattle.cga_marked.proofs.Slots.{nat_cases, get_kept, get_last}
 
 pub get_more : (xs : List ℕ) (k i c : ℕ) → slice_get (xs ++ k ∷ []) i ≡ Some c → (slice_get xs i ≡ Some c) ⊎ ((i ≡ length xs) × (c ≡ k))
 get_more [] k zero c h = inr (refl, (cc))

@@ -9,7 +9,7 @@ use Rattle.cga_forest.specs.View.{Seen}
 use Rattle.cga_forest.specs.Tree.{InPlace, IsInner}
 use Rattle.cga_tree.specs.Tree.{IsTree}
 use Rattle.cga_tree.specs.Replaced.{IsReplaced}
-use Rattle.cga_forest.proofs.Books.{nat_cases}
+use Rattle.cga_marked.proofs.Slots.{nat_cases}
 use Rattle.cga_forest.proofs.Replace.{old_or_new}
 use Rattle.cga_forest.proofs.Tree.{cut_some}
 

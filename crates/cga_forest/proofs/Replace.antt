@@ -6,8 +6,8 @@ use Rattle.cga_forest.specs.View.{Seen}
 use Rattle.cga_forest.specs.Node.{fits}
 use Rattle.cga_tree.specs.Tree.{IsTree}
 use Rattle.cga_tree.specs.Replaced.{IsReplaced, IsNewChild}
-use Rattle.cga_forest.proofs.Count.{bool_cases}
-use Rattle.cga_forest.proofs.Books.{nat_cases}
+use Rattle.cga_marked.proofs.Count.{bool_cases}
+use Rattle.cga_marked.proofs.Slots.{nat_cases}
 use Rattle.cga_forest.proofs.Tree.{cut_some}
 
 none_some : (d : Seen) → None ≡ Some d → ⊥

@@ -7,8 +7,8 @@ use Rattle.cga_forest.specs.Hull.{over, own_hulls, hulls_known, with_hulls, at_h
 use Rattle.cga_forest.specs.View.{Seen, seen, hulls_of, present_of, rehulled, kids}
 use Rattle.cga_forest.specs.Tree.{IsRight, AllRight, RightBut, IsDue, hulls_now, hulls_next, parent_of, depth_at}
 use Rattle.cga_tree.specs.Tree.{IsTree}
-use Rattle.cga_forest.proofs.Count.{bool_cases}
-use Rattle.cga_forest.proofs.Books.{nat_cases}
+use Rattle.cga_marked.proofs.Count.{bool_cases}
+use Rattle.cga_marked.proofs.Slots.{nat_cases}
 use Rattle.cga_forest.proofs.Alike.{alike_itself, alike_turned, grown_alike}
 use Rattle.cga_forest.proofs.Tree.{IsTree-same}
 

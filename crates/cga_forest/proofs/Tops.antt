@@ -14,8 +14,8 @@ use Rattle.cga_forest.specs.Tree.{under}
 use Rattle.cga_forest.specs.Node.{fits}
 use Rattle.cga_tree.specs.Tree.{IsTree}
 use Rattle.cga_tree.specs.Replaced.{IsReplaced}
-use Rattle.cga_forest.proofs.Count.{bool_cases}
-use Rattle.cga_forest.proofs.Books.{nat_cases}
+use Rattle.cga_marked.proofs.Count.{bool_cases}
+use Rattle.cga_marked.proofs.Slots.{nat_cases}
 use Rattle.cga_forest.proofs.Tree.{cut_some}
 use Rattle.cga_forest.proofs.Walk.{under_cases, under_none}
 use Rattle.cga_forest.proofs.Replace.{old_or_new}

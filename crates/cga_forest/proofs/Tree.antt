@@ -3,8 +3,8 @@ use Rattle.std.proofs.Common.{◌≡◌, ◌≢◌, ℕ, [], Bool, true, false, 
 use Rattle.std.specs.Prelude.{Option, Some, None, slice_get, if◌then◌else◌}
 use Rattle.cga_forest.specs.View.{Seen}
 use Rattle.cga_tree.specs.Tree.{IsTree}
-use Rattle.cga_forest.proofs.Count.{bool_cases}
-use Rattle.cga_forest.proofs.Books.{nat_cases}
+use Rattle.cga_marked.proofs.Count.{bool_cases}
+use Rattle.cga_marked.proofs.Slots.{nat_cases}
 
 -- the same nodes
 pub IsTree-same : (S T : ℕ → Option Seen) → ((c : ℕ) → T c ≡ S c) → IsTree S → IsTree T

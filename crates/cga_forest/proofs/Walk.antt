@@ -6,7 +6,7 @@ use Rattle.std.specs.List.{list_any}
 use Rattle.cga_forest.specs.View.{Seen}
 use Rattle.cga_forest.specs.Tree.{under, children_of}
 use Rattle.cga_tree.specs.Tree.{IsTree}
-use Rattle.cga_forest.proofs.Count.{bool_cases}
+use Rattle.cga_marked.proofs.Count.{bool_cases}
 
 pub any_find : (p : ℕ → Bool) (xs : List ℕ) → list_any p xs ≡ true → (i : ℕ) × (k : ℕ) × (slice_get xs i ≡ Some k) × (p k ≡ true)
 any_find p [] h = absurd (cc)

@@ -14,8 +14,8 @@ use Rattle.cga_forest.specs.View.{Seen, kids, present_of}
 use Rattle.cga_forest.specs.Moved.{moved_node, moved_of, ListsMoved}
 use Rattle.cga_forest.specs.Gathered.{found, going, coming, coming_at, listed, chosen}
 use Rattle.cga_forest.specs.Tree.{goes, stay_of, stay_child}
-use Rattle.cga_forest.proofs.Count.{bool_cases}
-use Rattle.cga_forest.proofs.Books.{nat_cases}
+use Rattle.cga_marked.proofs.Count.{bool_cases}
+use Rattle.cga_marked.proofs.Slots.{nat_cases}
 use Rattle.cga_forest.proofs.Right.{present_some, kids_present}
 use Rattle.cga_forest.proofs.Place.{stay_some}
 use Rattle.cga_forest.proofs.Goes.{goes_find, goes_here, under_deep, stay_seen, get_within}

@@ -2,6 +2,7 @@ pub mod Node
 pub mod Hull
 pub mod Count
 pub mod View
+pub mod Marks
 pub mod Roots
 pub mod Tree
 pub mod Standing

@@ -1,6 +1,8 @@
-ghost use Rattle.std.specs.Prelude.{◌≡◌, true, Some, None, if◌then◌else◌};
+ghost use Rattle.std.specs.Prelude.{◌≡◌, true, Some};
+ghost use Rattle.cga_frame.specs.Box.{touches};
+ghost use Rattle.cga_index.specs.Tree.{touches_some};
 ghost use Rattle.cga_forest.specs.Hull.{hulls_known};
-ghost use Rattle.cga_forest.specs.View.{settled, rolled, rewritten, present_of, marked_of, hulls_of, marked_hulls_of, KeepsBooks};
+ghost use Rattle.cga_forest.specs.View.{rewritten, present_of, marked_of, hulls_of, marked_hulls_of, KeepsBooks};
 
 use crate::hulls::Hulls;
 use crate::hulls_box::HullsBox;
@@ -49,33 +51,18 @@ impl Entry {
         self.hulls.asking(&self.node)
     }
 
-    /// Drops what the entry keeps for the mark. False where the node was set aside.
-    pub fn settle(&mut self) -> bool
-        ensures { if result then Some self.new else None ≡ settled (Some self.old) }
+    /// Whether the box round all touches an area.
+    pub fn touches(&self, area: &WorldBox) -> bool
+        ensures { result ≡ touches (hulls_known self.now.node self.now.hulls).all area.now }
     {
-        self.came = false;
-        self.touched = false;
-        self.former = None;
-        self.former_hulls = None;
-        !self.aside
+        self.hulls.touches(&self.node, area)
     }
 
-    /// Puts the marked node back. False where the node came after the mark.
-    pub fn roll_back(&mut self) -> bool
-        ensures { if result then Some self.new else None ≡ rolled (Some self.old) }
+    /// Whether the box round those that ask does, where there is one.
+    pub fn asks_near(&self, area: &WorldBox) -> bool
+        ensures { result ≡ touches_some (hulls_known self.now.node self.now.hulls).asking area.now }
     {
-        let came = self.came;
-        self.aside = false;
-        self.came = false;
-        self.touched = false;
-        if let Some(former) = self.former.take() {
-            self.node.set_state(former.state);
-            self.children = former.children;
-        }
-        if let Some(hulls) = self.former_hulls.take() {
-            self.hulls = hulls;
-        }
-        !came
+        self.hulls.ask_near(&self.node, area)
     }
 
     pub fn rewrite(&mut self, marking: bool, state: State, children: Vec<usize>)

@@ -6,6 +6,7 @@ ghost use Rattle.cga_forest.specs.Walked.{forest_tree};
 
 use crate::Forest;
 use crate::standing::standing_of;
+use crate::store::child_count;
 use cga_fraction::Steps;
 use cga_frame::WorldBox;
 use cga_index::{HullTree, NodeId, Standing, answer};
@@ -32,7 +33,7 @@ impl HullTree for Forest {
     }
 
     fn children(&self, node: NodeId) -> usize {
-        self.store.child_count(node.number() as usize)
+        child_count(&self.store, node.number() as usize)
     }
 
     fn child(&self, node: NodeId, place: usize) -> NodeId {
@@ -46,6 +47,16 @@ impl HullTree for Forest {
 
     fn hull(&self, node: NodeId) -> WorldBox {
         self.store.entry(node.number() as usize).hull()
+    }
+
+    fn touches(&self, node: NodeId, area: &WorldBox) -> bool {
+        self.store.entry(node.number() as usize).touches(area)
+    }
+
+    fn asks_near(&self, node: NodeId, area: &WorldBox) -> bool {
+        self.store
+            .entry(node.number() as usize)
+            .asks_near(area)
     }
 
     fn standing(&self, node: NodeId, by: NodeId) -> Standing {

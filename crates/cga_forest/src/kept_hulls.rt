@@ -1,4 +1,6 @@
 ghost use Rattle.std.specs.Prelude.{◌≡◌};
+ghost use Rattle.cga_frame.specs.Box.{touches};
+ghost use Rattle.cga_index.specs.Tree.{touches_some};
 ghost use Rattle.cga_forest.specs.Hull.{hulls_known};
 
 use crate::hulls::Hulls;
@@ -41,6 +43,29 @@ impl KeptHulls {
         match self {
             KeptHulls::Own(asks) => { if *asks { Some(node.bounds()) } else { None } }
             KeptHulls::Other(kept) => kept.get().asking,
+        }
+    }
+
+    /// Whether their box round all touches an area. No box is copied.
+    pub fn touches(&self, node: &Node, area: &WorldBox) -> bool
+        ensures { result ≡ touches (hulls_known node.now self.now).all area.now }
+    {
+        match self {
+            KeptHulls::Own(_) => node.bounds().touches(area),
+            KeptHulls::Other(kept) => kept.get().all.touches(area),
+        }
+    }
+
+    /// Whether their box round those that ask does, where there is one.
+    pub fn ask_near(&self, node: &Node, area: &WorldBox) -> bool
+        ensures { result ≡ touches_some (hulls_known node.now self.now).asking area.now }
+    {
+        match self {
+            KeptHulls::Own(asks) => *asks && node.bounds().touches(area),
+            KeptHulls::Other(kept) => match &kept.get().asking {
+                Some(hull) => hull.touches(area),
+                None => false,
+            },
         }
     }
 }

@@ -7,7 +7,7 @@ ghost use Rattle.cga_forest.specs.Gathered.{below, chosen, coming, found, going,
 use crate::moved::Moved;
 use crate::node::Node;
 use crate::slots::{child_at, staying, stays};
-use crate::store::Store;
+use crate::store::{Store, child_count};
 use cga_fraction::NoMemory;
 
 fn list_one(store: &Store, id: usize, list: &mut Vec<Moved>) -> Result<(), NoMemory>
@@ -30,7 +30,7 @@ pub fn list_below(
 {
     if left > 0 {
         list_one(store, id, list)?;
-        for place in 0..store.child_count(id) {
+        for place in 0..child_count(store, id) {
             if let Some(child) = child_at(store, id, place) {
                 list_below(store, child, left - 1, list)?;
             }
@@ -49,7 +49,7 @@ pub fn list_going(
 ) -> Result<(), NoMemory>
     ensures { OnOk result (list.new.items ≡ list.old.items ++ found (λ c. at store.now c) (going (λ d. kids (at store.now d)) left (λ k w. stay_of (at store.now k) w) (kids (at store.now id)) news.now (length (kids (at store.now id))))) }
 {
-    for place in 0..store.child_count(id) {
+    for place in 0..child_count(store, id) {
         if let Some(child) = child_at(store, id, place) {
             if !stays(store, child, news, place) {
                 list_below(store, child, left, list)?;

@@ -13,6 +13,7 @@ use crate::hulls::Hulls;
 use crate::node::Node;
 use crate::placing::root_node;
 use crate::slots::set_aside;
+use crate::store::add_node;
 use cga_fraction::NoMemory;
 use cga_index::NodeId;
 use cga_rule::Grammar;
@@ -48,7 +49,7 @@ impl Forest {
         self.blocks.make_room(last, &Hulls::own(&node))?;
         self.store.reserve(1)?;
         self.roots.reserve()?;
-        let id = self.store.add(alloc, marking, node, 0, None, 0);
+        let id = add_node(&mut self.store, alloc, marking, node, 0, None, 0);
         let place = self.roots.push(name, id);
         self.roots.settle_unless(marking);
         cover_place(&mut self.blocks, &self.store, &self.roots, place);

@@ -8,7 +8,7 @@ ghost use Rattle.cga_tree.specs.Tree.{IsTree};
 use crate::hulls::Hulls;
 use crate::node::{Node, State};
 use crate::spares::Spares;
-use crate::store::Store;
+use crate::store::{Store, add_node, child_count, flag, rewrite, set_hulls};
 use std::alloc::Global;
 
 pub fn child_at(store: &Store, id: usize, place: usize) -> Option<usize>
@@ -28,7 +28,7 @@ pub fn set_aside(store: &mut Store, id: usize, left: usize)
     ensures room { KeepsRoom store.old store.new }
 {
     if left > 0 {
-        let count = store.flag(id);
+        let count = flag(store, id);
         for place in 0..count {
             if let Some(child) = child_at(store, id, place) {
                 set_aside(store, child, left - 1);
@@ -62,7 +62,7 @@ pub fn drop_children(store: &mut Store, id: usize, left: usize, news: &[Node])
     ensures pointwise { (c : ℕ) → at store.new c ≡ flag_if (goes (λ d. kids (at store.old d)) left (λ k w. stay_of (at store.old k) w) (kids (at store.old id)) news.now (length (kids (at store.old id))) c) (at store.old c) }
     ensures room { KeepsRoom store.old store.new }
 {
-    let count = store.child_count(id);
+    let count = child_count(store, id);
     for place in 0..count {
         if let Some(child) = child_at(store, id, place) {
             if !stays(store, child, news, place) {
@@ -109,7 +109,7 @@ pub fn place_children(
                 drop(new);
                 child
             }
-            None => store.add(alloc, marking, new, depth, Some(id), place),
+            None => add_node(store, alloc, marking, new, depth, Some(id), place),
         };
         made.push_reserved(child);
     }
@@ -144,7 +144,7 @@ fn hulls_over(store: &Store, id: usize) -> Option<Hulls>
     ensures { result ≡ hulls_now (λ c. hulls_of (at store.now c)) (at store.now id) }
 {
     let mut hulls = Hulls::own(&store.get(id)?.node);
-    for place in 0..store.child_count(id) {
+    for place in 0..child_count(store, id) {
         hulls = hulls.with(&child_hulls(store, id, place));
     }
     Some(hulls)
@@ -196,7 +196,7 @@ pub fn refresh(
     if let Some(old) = hulls_at(store, id) {
         if let Some(new) = next_hulls(store, id, &grown) {
             if !new.is_like(&old) {
-                store.set_hulls(id, marking, new, spares.take());
+                set_hulls(store, id, marking, new, spares.take());
                 if let Some(parent) = parent_at(store, id) {
                     return refresh(store, spares, parent, marking, new.grown_from(&old));
                 }
@@ -236,6 +236,6 @@ pub fn replace(
     let depth = depth_of(store, id);
     drop_children(store, id, 256 - depth, news.as_slice());
     place_children(store, alloc, id, depth + 1, marking, news, &mut made);
-    store.rewrite(id, marking, state, made);
+    rewrite(store, id, marking, state, made);
     refresh(store, spares, id, marking, None)
 }

@@ -6,7 +6,7 @@ use Rattle.std.proofs.lemmas.List.{append_assoc, append-nil}
 use Rattle.std.proofs.lemmas.List.Elements.{filter-append}
 use Rattle.cga_frame.specs.Box.{Box}
 use Rattle.cga_frame.specs.Box.{touches, meets}
-use Rattle.cga_index.specs.Tree.{TreeView, Member, Apart, LiesIn, below, all_nodes, InTree, IsHullTree, is_asker, askers, ListsAskers}
+use Rattle.cga_index.specs.Tree.{TreeView, Member, Apart, LiesIn, below, all_nodes, InTree, IsHullTree, is_asker, askers, touches_some, ListsAskers}
 use Rattle.cga_frame.proofs.Boxes.{touches_up, meets_touches, holds_trans}
 use Rattle.cga_index.proofs.Levels.{in_split, in_some, drop_at, drop_all, below_more, root_in}
 
@@ -94,13 +94,10 @@ nobody_far v laws area m r h far = no_member (filter (is_asker v area) (below v 
     let x : true ≡ false = sym yes ∙ far l.0 l.1 in
     cc)
 
-pub nobody_none : (v : TreeView) → IsHullTree v → (area : Box) (m r : ℕ) → InTree v r → v.asking_hull r ≡ None → askers v area (below v m r) ≡ []
-nobody_none v laws area m r h e = nobody_far v laws area m r h (λ g t. let x : None ≡ Some g = sym e ∙ t in cc)
+pub nobody_near : (v : TreeView) → IsHullTree v → (area : Box) (m r : ℕ) → InTree v r → touches_some (v.asking_hull r) area ≡ false → askers v area (below v m r) ≡ []
+nobody_near v laws area m r h far = nobody_far v laws area m r h (λ hull here. sym (ap (λ o. touches_some o area) here) ∙ far)
 
-pub nobody_touched : (v : TreeView) → IsHullTree v → (area hull : Box) (m r : ℕ) → InTree v r → v.asking_hull r ≡ Some hull → touches hull area ≡ false → askers v area (below v m r) ≡ []
-nobody_touched v laws area hull m r h e f = nobody_far v laws area m r h (λ g t. let x : Some hull ≡ Some g = sym e ∙ t in let y : hull ≡ g = cc in subst (λ s. touches s area ≡ false) y f)
-
-pub ruleset nobody = (nobody_none, nobody_touched)
+pub ruleset nobody = (nobody_near)
 
 -- each node stands once
 

@@ -1,5 +1,5 @@
 -- A tree of boxes as contracts see it.
-use Rattle.std.specs.Prelude.{◌≡◌, ℕ, zero, suc, ◌+◌, ◌*◌, ◌≤◌, ◌<◌, ◌⊎◌, List, [], ◌∷◌, length, map, Bool, true, false, cond, nat_eq, ◌&&◌, Option, Some, slice_get}
+use Rattle.std.specs.Prelude.{◌≡◌, ℕ, zero, suc, ◌+◌, ◌*◌, ◌≤◌, ◌<◌, ◌⊎◌, List, [], ◌∷◌, length, map, Bool, true, false, cond, nat_eq, ◌&&◌, Option, Some, None, slice_get}
 use Rattle.std.specs.Bool.{⊤}
 use Rattle.std.specs.List.{flat_map, filter}
 use Rattle.cga_frame.specs.Box.{Box, touches, meets, holds, is_box}
@@ -32,6 +32,11 @@ Apart (x ∷ xs) = (Member xs x → ⊥) × Apart xs
 -- the box lies in the hull, which there is
 abbrev pub LiesIn : Option Box → Box → Type 0
 LiesIn hull box = (h : Box) × (hull ≡ Some h) × (holds h box ≡ true)
+
+-- whether a hull touches the box, where there is one
+abbrev pub touches_some : Option Box → Box → Bool
+touches_some None box = false
+touches_some (Some hull) box = touches hull box
 
 -- a node and all below it, at most so many levels
 unfoldable pub below : TreeView → ℕ → ℕ → List ℕ

@@ -1,5 +1,6 @@
 ghost use Rattle.std.specs.Prelude.{◌≡◌, ◌+◌, ◌<◌, length, slice_get, Some, false};
-ghost use Rattle.cga_index.specs.Tree.{TreeView, InTree, IsFarBlock, IsQuietBlock};
+ghost use Rattle.cga_frame.specs.Box.{touches};
+ghost use Rattle.cga_index.specs.Tree.{TreeView, InTree, IsFarBlock, IsQuietBlock, touches_some};
 
 use crate::node_id::NodeId;
 use crate::standing::Standing;
@@ -51,6 +52,25 @@ pub trait HullTree {
     fn asking_hull(&self, node: NodeId) -> Option<WorldBox>
         requires { InTree (view self.now) node }
         ensures { result ≡ (view self.now).asking_hull node };
+
+    /// Whether that hull touches the area: a tree may tell it without the box.
+    fn touches(&self, node: NodeId, area: &WorldBox) -> bool
+        requires { InTree (view self.now) node }
+        ensures { result ≡ touches ((view self.now).hull node) area.now }
+    {
+        self.hull(node).touches(area)
+    }
+
+    /// The same of the hull of those that ask, where there is one.
+    fn asks_near(&self, node: NodeId, area: &WorldBox) -> bool
+        requires { InTree (view self.now) node }
+        ensures { result ≡ touches_some ((view self.now).asking_hull node) area.now }
+    {
+        match self.asking_hull(node) {
+            Some(hull) => hull.touches(area),
+            None => false,
+        }
+    }
 
     fn asks(&self, node: NodeId) -> bool
         requires { InTree (view self.now) node }

@@ -39,10 +39,7 @@ fn may_ask<H: HullTree>(tree: &H, node: NodeId, left: usize, area: &WorldBox) ->
     requires node { InTree (H.view tree.now) node }
     ensures { result ≡ false → askers (H.view tree.now) area.now (below (H.view tree.now) left node) ≡ [] }
 {
-    match tree.asking_hull(node) {
-        None => false,
-        Some(hull) => hull.touches(area),
-    }
+    tree.asks_near(node, area)
 }
 
 /// Appends those that ask and meet the area, from a node on.

@@ -106,7 +106,7 @@ fn visit<H: HullTree, T: Ledger>(
     ensures found { result ≡ answer_over (H.view tree.now) by target (below (H.view tree.now) left node) }
     ensures counted { tests.new ≤ tests.old + reads (H.view tree.now) by left node }
 {
-    if !tree.hull(node).touches(area) {
+    if !tree.touches(node, area) {
         return Answer::Nothing;
     }
     let first = look(tree, node, by, target, area, tests);

@@ -29,19 +29,19 @@ invariant_of-self-in_err-reserve-2 c = rw (c.in_ok-reserve.ensures.slots, c.in_e
 pub invariant_of-self-2 : goal.invariant_of-self-2
 invariant_of-self-2 c =
     let low : c.push-place.result ≤ length c.self.inside.roots.list = subst (λ (l : Named). c.push-place.result ≤ length l) c.in_ok-reserve-2.ensures.list c.push-place.ensures.place in
-    let long = length_push c.self.inside.roots.list (c.args.node.shape.lot, c.add-id.result) in
-    let is : c.settle_unless.new.self.list ≡ swap (c.self.inside.roots.list ++ (c.args.node.shape.lot, c.add-id.result) ∷ []) c.push-place.result (length c.self.inside.roots.list) =
-    c.settle_unless.ensures.list ∙ c.push-place.ensures.list ∙ (λ i. swap (c.in_ok-reserve-2.ensures.list i ++ (c.lot-name.ensures i, c.add-id.result) ∷ []) c.push-place.result (length (c.in_ok-reserve-2.ensures.list i))) in
+    let long = length_push c.self.inside.roots.list (c.args.node.shape.lot, c.add_node-id.result) in
+    let is : c.settle_unless.new.self.list ≡ swap (c.self.inside.roots.list ++ (c.args.node.shape.lot, c.add_node-id.result) ∷ []) c.push-place.result (length c.self.inside.roots.list) =
+    c.settle_unless.ensures.list ∙ c.push-place.ensures.list ∙ (λ i. swap (c.in_ok-reserve-2.ensures.list i ++ (c.lot-name.ensures i, c.add_node-id.result) ∷ []) c.push-place.result (length (c.in_ok-reserve-2.ensures.list i))) in
     record {
-      forest = IsForest-added (record { slots = c.reserve.new.self.slots; marking = c.self.inside.marking; roots = c.self.inside.roots.list; marked_roots = c.self.inside.roots.former; mode = c.self.inside.mode }) _ c.add-id.result c.args.node c.add-id.ensures.vacant c.add-id.ensures.here (λ k n. c.add-id.ensures.others k n) c.requires.top refl
+      forest = IsForest-added (record { slots = c.reserve.new.self.slots; marking = c.self.inside.marking; roots = c.self.inside.roots.list; marked_roots = c.self.inside.roots.former; mode = c.self.inside.mode }) _ c.add_node-id.result c.args.node c.add_node-id.ensures.vacant c.add_node-id.ensures.here (λ k n. c.add_node-id.ensures.others k n) c.requires.top refl
           (IsPermutation-swap _ _ c.push-place.result (length c.self.inside.roots.list) (omega (arith, low, long)) (omega (arith, long)) is)
           (subst AreApart (sym c.settle_unless.ensures.list) c.push-place.ensures.apart)
           (c.settle_unless.ensures.former ∙ (λ i. if c.self.inside.marking then (c.push-place.ensures.former ∙ c.in_ok-reserve-2.ensures.former) i else sym c.settle_unless.ensures.list i))
           (subst (λ (xs : List (Option Entry)). IsForest (record { slots = xs; marking = c.self.inside.marking; roots = c.self.inside.roots.list; marked_roots = c.self.inside.roots.former; mode = c.self.inside.mode })) (sym c.in_ok-reserve.ensures.slots) c.self.invariant.forest);
       covered =
-          covered_added (node_at (record { slots = c.self.inside.store.slots; marking = c.self.inside.marking; roots = c.self.inside.roots.list; marked_roots = c.self.inside.roots.former; mode = c.self.inside.mode })) c.self.inside.roots.list _ (hulls_at (record { slots = c.self.inside.store.slots; marking = c.self.inside.marking; roots = c.self.inside.roots.list; marked_roots = c.self.inside.roots.former; mode = c.self.inside.mode })) _ c.self.inside.blocks.hulls.items c.make_room.new.self.hulls.items c.cover_place.new.blocks.hulls.items c.cover_place-2.new.blocks.hulls.items c.args.node.shape.lot c.add-id.result c.push-place.result
-          c.self.invariant.forest.tops (ap (λ (xs : List (Option Entry)). present_of (slot xs c.add-id.result)) (sym c.in_ok-reserve.ensures.slots) ∙ ap present_of c.add-id.ensures.vacant)
-          (λ k n. ap hulls_of (c.add-id.ensures.others k n) ∙ ap (λ (xs : List (Option Entry)). hulls_of (slot xs k)) c.in_ok-reserve.ensures.slots)
+          covered_added (node_at (record { slots = c.self.inside.store.slots; marking = c.self.inside.marking; roots = c.self.inside.roots.list; marked_roots = c.self.inside.roots.former; mode = c.self.inside.mode })) c.self.inside.roots.list _ (hulls_at (record { slots = c.self.inside.store.slots; marking = c.self.inside.marking; roots = c.self.inside.roots.list; marked_roots = c.self.inside.roots.former; mode = c.self.inside.mode })) _ c.self.inside.blocks.hulls.items c.make_room.new.self.hulls.items c.cover_place.new.blocks.hulls.items c.cover_place-2.new.blocks.hulls.items c.args.node.shape.lot c.add_node-id.result c.push-place.result
+          c.self.invariant.forest.tops (ap (λ (xs : List (Option Entry)). present_of (slot xs c.add_node-id.result)) (sym c.in_ok-reserve.ensures.slots) ∙ ap present_of c.add_node-id.ensures.vacant)
+          (λ k n. ap hulls_of (c.add_node-id.ensures.others k n) ∙ ap (λ (xs : List (Option Entry)). hulls_of (slot xs k)) c.in_ok-reserve.ensures.slots)
           (λ i h lt e. c.make_room.ensures i h (let n = c.len-last.ensures in omega (arith, lt, n)) e) c.cover_place.ensures.kept c.cover_place-2.ensures.kept low is
           c.cover_place.ensures.here (rw (← c.len-last.ensures) c.cover_place-2.ensures.here) c.self.invariant.covered;
     }
@@ -49,5 +49,5 @@ invariant_of-self-2 c =
 pub returns-clause-numbers : goal.returns-clause-numbers
 returns-clause-numbers c on k =
     rw (← c.self.view_is)
-    (subst (λ (xs : List (Option Entry)). StaysTaken (slot xs k) (slot c.add-id.new.self.slots k)) c.in_ok-reserve.ensures.slots
-    (taken_added (λ n. slot c.reserve.new.self.slots n) (λ n. slot c.add-id.new.self.slots n) c.add-id.result c.add-id.ensures.vacant c.add-id.ensures.others k))
+    (subst (λ (xs : List (Option Entry)). StaysTaken (slot xs k) (slot c.add_node-id.new.store.slots k)) c.in_ok-reserve.ensures.slots
+    (taken_added (λ n. slot c.reserve.new.self.slots n) (λ n. slot c.add_node-id.new.store.slots n) c.add_node-id.result c.add_node-id.ensures.vacant c.add_node-id.ensures.others k))

@@ -17,8 +17,8 @@ loop-new-init c = record {
   space = c.requires.space;
 }
 
-pub add-child-requires : goal.add-child-requires
-add-child-requires c = let steps = c.in-Some.ensures.steps.0 in let r = c.loop-new.invariant.room in let a = r.entries in let b = r.listed in let l = ap length steps in
+pub add_node-child-requires : goal.add_node-child-requires
+add_node-child-requires c = let steps = c.in-Some.ensures.steps.0 in let r = c.loop-new.invariant.room in let a = r.entries in let b = r.listed in let l = ap length steps in
     record { room = record { entries = omega arith; listed = omega arith } }
 
 pub push_reserved-requires : goal.push_reserved-requires
@@ -49,8 +49,8 @@ loop-new-preserved c =
             let o : slice_get olds (length made) ≡ Some w.in-Some-staying.child = sym reads ∙ t.0 in
             IsPlaced-stays old now c.args.id c.args.depth c.args.marking olds news made p x asked w.in-Some-staying.child o (same_stay old now p.rest w.in-Some-staying.child (Some x) (c.requires.kids (length made) w.in-Some-staying.child o) ∙ t.1))
         | in-None-staying w ↦ rw (w.store-is, w.child-is) (
-            IsPlaced-comes old now c.args.id c.args.depth c.args.marking olds news made p x asked (λ d. at w.add-child.new.self d) w.add-child.result w.add-child.ensures.vacant w.add-child.ensures.others
-            (subst (λ j. IsNewEntry (at w.add-child.new.self w.add-child.result) (Some c.args.id) x c.args.depth j c.args.marking) place w.add-child.ensures.here)
+            IsPlaced-comes old now c.args.id c.args.depth c.args.marking olds news made p x asked (λ d. at w.add_node-child.new.store d) w.add_node-child.result w.add_node-child.ensures.vacant w.add_node-child.ensures.others
+            (subst (λ j. IsNewEntry (at w.add_node-child.new.store w.add_node-child.result) (Some c.args.id) x c.args.depth j c.args.marking) place w.add_node-child.ensures.here)
             (λ j o. same_stay old now p.rest j (Some x) (c.requires.kids (length made) j o) ∙ stay_none now (slice_get (kids (now c.args.id)) c.len-place.result) x (sym w.in-None-staying.ensures) j (reads ∙ o)))
       ]);
       front = append_assoc yielded (x ∷ []) rest ∙ split;
@@ -58,7 +58,7 @@ loop-new-preserved c =
       counted = rw c.push_reserved.ensures.items (omega (arith, length-append made (c.match-staying.child ∷ []), length-append yielded (x ∷ []), counted));
       room = elim c.match-staying.branch [
         | in-Some-staying w ↦ rw w.store-is (let r = c.loop-new.invariant.room in let a = r.entries in let b = r.listed in let l = ap length steps in record { entries = omega arith; listed = omega arith })
-        | in-None-staying w ↦ rw w.store-is (w.add-child.ensures.room (length rest) (let r = c.loop-new.invariant.room in let a = r.entries in let b = r.listed in let l = ap length steps in record { entries = omega arith; listed = omega arith }))
+        | in-None-staying w ↦ rw w.store-is (w.add_node-child.ensures.room (length rest) (let r = c.loop-new.invariant.room in let a = r.entries in let b = r.listed in let l = ap length steps in record { entries = omega arith; listed = omega arith }))
       ];
       space = (let s = c.loop-new.invariant.space in let e = c.push_reserved.ensures.capacity in omega arith);
     }

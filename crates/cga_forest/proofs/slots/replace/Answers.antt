@@ -17,7 +17,7 @@ place_children-requires-clause-kids c = kids_there (λ k. at c.args.store.now k)
 pub refresh-requires-clause-tree : goal.refresh-requires-clause-tree
 refresh-requires-clause-tree c =
     let d : c.depth_of-depth.result ≡ c.requires.here.0.depth = c.depth_of-depth.ensures ∙ depth_present (at c.args.store.now c.args.id) c.requires.here.0 c.requires.here.1 in
-    tree_after (λ k. at c.args.store.now k) (λ k. at c.drop_children.new.store k) (λ k. at c.place_children.new.store k) (λ k. at c.rewrite.new.self k)
+    tree_after (λ k. at c.args.store.now k) (λ k. at c.drop_children.new.store k) (λ k. at c.place_children.new.store k) (λ k. at c.rewrite.new.store k)
     c.args.id (c.depth_of-depth.result + 1) (256 - c.depth_of-depth.result) c.args.marking c.place_children.new.made.items c.args.news.items c.args.state c.requires.here.0
     c.requires.here.1 c.requires.here.2.low (ap (λ x. x + 1) d) (ap (λ x. 256 - x) d) c.requires.whole
     (λ k. rw (← c.as_slice.ensures.value) (c.drop_children.ensures.pointwise k)) c.place_children.ensures.placed c.place_children.ensures.length c.rewrite.ensures.others c.rewrite.ensures.present
@@ -25,7 +25,7 @@ refresh-requires-clause-tree c =
 pub refresh-requires-clause-here : goal.refresh-requires-clause-here
 refresh-requires-clause-here c =
     let d : c.depth_of-depth.result ≡ c.requires.here.0.depth = c.depth_of-depth.ensures ∙ depth_present (at c.args.store.now c.args.id) c.requires.here.0 c.requires.here.1 in
-    here_after (λ k. at c.args.store.now k) (λ k. at c.drop_children.new.store k) (λ k. at c.place_children.new.store k) (λ k. at c.rewrite.new.self k)
+    here_after (λ k. at c.args.store.now k) (λ k. at c.drop_children.new.store k) (λ k. at c.place_children.new.store k) (λ k. at c.rewrite.new.store k)
     c.args.id (c.depth_of-depth.result + 1) (256 - c.depth_of-depth.result) c.args.marking c.place_children.new.made.items c.args.news.items c.args.state c.requires.here.0
     c.requires.here.1 c.requires.here.2.low (ap (λ x. x + 1) d) (ap (λ x. 256 - x) d) c.requires.whole
     (λ k. rw (← c.as_slice.ensures.value) (c.drop_children.ensures.pointwise k)) c.place_children.ensures.placed c.place_children.ensures.length c.rewrite.ensures.others c.rewrite.ensures.present
@@ -33,7 +33,7 @@ refresh-requires-clause-here c =
 pub refresh-requires-clause-right : goal.refresh-requires-clause-right
 refresh-requires-clause-right c =
     let d : c.depth_of-depth.result ≡ c.requires.here.0.depth = c.depth_of-depth.ensures ∙ depth_present (at c.args.store.now c.args.id) c.requires.here.0 c.requires.here.1 in
-    right_after (λ k. at c.args.store.now k) (λ k. at c.drop_children.new.store k) (λ k. at c.place_children.new.store k) (λ k. at c.rewrite.new.self k)
+    right_after (λ k. at c.args.store.now k) (λ k. at c.drop_children.new.store k) (λ k. at c.place_children.new.store k) (λ k. at c.rewrite.new.store k)
     c.args.id (c.depth_of-depth.result + 1) (256 - c.depth_of-depth.result) c.args.marking c.place_children.new.made.items c.args.news.items c.args.state c.requires.here.0
     c.requires.here.1 c.requires.here.2.low (ap (λ x. x + 1) d) (ap (λ x. 256 - x) d) c.requires.whole
     (λ k. rw (← c.as_slice.ensures.value) (c.drop_children.ensures.pointwise k)) c.place_children.ensures.placed c.place_children.ensures.length c.rewrite.ensures.others c.rewrite.ensures.present c.rewrite.ensures.hulls
@@ -41,7 +41,7 @@ refresh-requires-clause-right c =
 pub refresh-requires-clause-spares : goal.refresh-requires-clause-spares
 refresh-requires-clause-spares c =
     let d : c.depth_of-depth.result ≡ c.requires.here.0.depth = c.depth_of-depth.ensures ∙ depth_present (at c.args.store.now c.args.id) c.requires.here.0 c.requires.here.1 in
-    rw (depth_after (λ k. at c.args.store.now k) (λ k. at c.drop_children.new.store k) (λ k. at c.place_children.new.store k) (λ k. at c.rewrite.new.self k)
+    rw (depth_after (λ k. at c.args.store.now k) (λ k. at c.drop_children.new.store k) (λ k. at c.place_children.new.store k) (λ k. at c.rewrite.new.store k)
     c.args.id (c.depth_of-depth.result + 1) (256 - c.depth_of-depth.result) c.args.marking c.place_children.new.made.items c.args.news.items c.args.state c.requires.here.0
     c.requires.here.1 c.requires.here.2.low (ap (λ x. x + 1) d) (ap (λ x. 256 - x) d) c.requires.whole
     (λ k. rw (← c.as_slice.ensures.value) (c.drop_children.ensures.pointwise k)) c.place_children.ensures.placed c.place_children.ensures.length c.rewrite.ensures.others c.rewrite.ensures.present) c.requires.spares
@@ -49,10 +49,10 @@ refresh-requires-clause-spares c =
 pub returns-clause-whole : goal.returns-clause-whole
 returns-clause-whole c =
     let d : c.depth_of-depth.result ≡ c.requires.here.0.depth = c.depth_of-depth.ensures ∙ depth_present (at c.args.store.now c.args.id) c.requires.here.0 c.requires.here.1 in
-    IsWhole-from (λ k. present_of (at c.rewrite.new.self k)) _ _ c.refresh.ensures.present c.refresh.ensures.right (places_after (λ k. at c.args.store.now k) (λ k. at c.drop_children.new.store k) (λ k. at c.place_children.new.store k) (λ k. at c.rewrite.new.self k)
+    IsWhole-from (λ k. present_of (at c.rewrite.new.store k)) _ _ c.refresh.ensures.present c.refresh.ensures.right (places_after (λ k. at c.args.store.now k) (λ k. at c.drop_children.new.store k) (λ k. at c.place_children.new.store k) (λ k. at c.rewrite.new.store k)
     c.args.id (c.depth_of-depth.result + 1) (256 - c.depth_of-depth.result) c.args.marking c.place_children.new.made.items c.args.news.items c.args.state c.requires.here.0
     c.requires.here.1 c.requires.here.2.low (ap (λ x. x + 1) d) (ap (λ x. 256 - x) d) c.requires.whole
-    (λ k. rw (← c.as_slice.ensures.value) (c.drop_children.ensures.pointwise k)) c.place_children.ensures.placed c.place_children.ensures.length c.rewrite.ensures.others c.rewrite.ensures.present c.requires.here.2) (tree_after (λ k. at c.args.store.now k) (λ k. at c.drop_children.new.store k) (λ k. at c.place_children.new.store k) (λ k. at c.rewrite.new.self k)
+    (λ k. rw (← c.as_slice.ensures.value) (c.drop_children.ensures.pointwise k)) c.place_children.ensures.placed c.place_children.ensures.length c.rewrite.ensures.others c.rewrite.ensures.present c.requires.here.2) (tree_after (λ k. at c.args.store.now k) (λ k. at c.drop_children.new.store k) (λ k. at c.place_children.new.store k) (λ k. at c.rewrite.new.store k)
     c.args.id (c.depth_of-depth.result + 1) (256 - c.depth_of-depth.result) c.args.marking c.place_children.new.made.items c.args.news.items c.args.state c.requires.here.0
     c.requires.here.1 c.requires.here.2.low (ap (λ x. x + 1) d) (ap (λ x. 256 - x) d) c.requires.whole
     (λ k. rw (← c.as_slice.ensures.value) (c.drop_children.ensures.pointwise k)) c.place_children.ensures.placed c.place_children.ensures.length c.rewrite.ensures.others c.rewrite.ensures.present)
@@ -60,10 +60,10 @@ returns-clause-whole c =
 pub returns-clause-replaced : goal.returns-clause-replaced
 returns-clause-replaced c =
     let d : c.depth_of-depth.result ≡ c.requires.here.0.depth = c.depth_of-depth.ensures ∙ depth_present (at c.args.store.now c.args.id) c.requires.here.0 c.requires.here.1 in
-    ReplacedBy-same (λ k. present_of (at c.args.store.now k)) (λ k. present_of (at c.rewrite.new.self k)) _ _ c.args.id c.args.state c.args.news.items _ (λ k. refl) c.refresh.ensures.present (
+    ReplacedBy-same (λ k. present_of (at c.args.store.now k)) (λ k. present_of (at c.rewrite.new.store k)) _ _ c.args.id c.args.state c.args.news.items _ (λ k. refl) c.refresh.ensures.present (
       c.requires.here.0,
       c.place_children.new.made.items,
-      rw (← c.depth_of-depth.ensures) (assembled_slots (λ k. at c.args.store.now k) (λ k. at c.drop_children.new.store k) (λ k. at c.place_children.new.store k) (λ k. at c.rewrite.new.self k)
+      rw (← c.depth_of-depth.ensures) (assembled_slots (λ k. at c.args.store.now k) (λ k. at c.drop_children.new.store k) (λ k. at c.place_children.new.store k) (λ k. at c.rewrite.new.store k)
           c.args.id (c.depth_of-depth.result + 1) (256 - c.depth_of-depth.result) c.args.marking c.place_children.new.made.items c.args.news.items c.args.state c.requires.here.0
           c.requires.here.1 c.requires.here.2.low (ap (λ x. x + 1) d) (ap (λ x. 256 - x) d) c.requires.whole
           (λ k. rw (← c.as_slice.ensures.value) (c.drop_children.ensures.pointwise k)) c.place_children.ensures.placed c.place_children.ensures.length c.rewrite.ensures.others c.rewrite.ensures.present),
@@ -72,7 +72,7 @@ returns-clause-replaced c =
 pub returns-clause-vacant : goal.returns-clause-vacant
 returns-clause-vacant c k x h t =
     let d : c.depth_of-depth.result ≡ c.requires.here.0.depth = c.depth_of-depth.ensures ∙ depth_present (at c.args.store.now c.args.id) c.requires.here.0 c.requires.here.1 in
-    vacant_after (λ k. at c.args.store.now k) (λ k. at c.drop_children.new.store k) (λ k. at c.place_children.new.store k) (λ k. at c.rewrite.new.self k)
+    vacant_after (λ k. at c.args.store.now k) (λ k. at c.drop_children.new.store k) (λ k. at c.place_children.new.store k) (λ k. at c.rewrite.new.store k)
     c.args.id (c.depth_of-depth.result + 1) (256 - c.depth_of-depth.result) c.args.marking c.place_children.new.made.items c.args.news.items c.args.state c.requires.here.0
     c.requires.here.1 c.requires.here.2.low (ap (λ x. x + 1) d) (ap (λ x. 256 - x) d) c.requires.whole
     (λ k. rw (← c.as_slice.ensures.value) (c.drop_children.ensures.pointwise k)) c.place_children.ensures.placed c.place_children.ensures.length c.rewrite.ensures.others c.rewrite.ensures.present k x h (sym (c.refresh.ensures.present k) ∙ t)
@@ -80,7 +80,7 @@ returns-clause-vacant c k x h t =
 pub returns-clause-marked : goal.returns-clause-marked
 returns-clause-marked c on k =
     let d : c.depth_of-depth.result ≡ c.requires.here.0.depth = c.depth_of-depth.ensures ∙ depth_present (at c.args.store.now c.args.id) c.requires.here.0 c.requires.here.1 in
-    c.refresh.ensures.marked k ∙ mark_after (λ k. at c.args.store.now k) (λ k. at c.drop_children.new.store k) (λ k. at c.place_children.new.store k) (λ k. at c.rewrite.new.self k)
+    c.refresh.ensures.marked k ∙ mark_after (λ k. at c.args.store.now k) (λ k. at c.drop_children.new.store k) (λ k. at c.place_children.new.store k) (λ k. at c.rewrite.new.store k)
     c.args.id (c.depth_of-depth.result + 1) (256 - c.depth_of-depth.result) c.args.marking c.place_children.new.made.items c.args.news.items c.args.state c.requires.here.0
     c.requires.here.1 c.requires.here.2.low (ap (λ x. x + 1) d) (ap (λ x. 256 - x) d) c.requires.whole
     (λ k. rw (← c.as_slice.ensures.value) (c.drop_children.ensures.pointwise k)) c.place_children.ensures.placed c.place_children.ensures.length c.rewrite.ensures.others c.rewrite.ensures.present on (c.rewrite.ensures.marked on) c.rewrite.ensures.marked_hulls k
@@ -88,7 +88,7 @@ returns-clause-marked c on k =
 pub returns-clause-marked_hulls : goal.returns-clause-marked_hulls
 returns-clause-marked_hulls c on k =
     let d : c.depth_of-depth.result ≡ c.requires.here.0.depth = c.depth_of-depth.ensures ∙ depth_present (at c.args.store.now c.args.id) c.requires.here.0 c.requires.here.1 in
-    c.refresh.ensures.marked_hulls on k ∙ mark_hulls_after (λ k. at c.args.store.now k) (λ k. at c.drop_children.new.store k) (λ k. at c.place_children.new.store k) (λ k. at c.rewrite.new.self k)
+    c.refresh.ensures.marked_hulls on k ∙ mark_hulls_after (λ k. at c.args.store.now k) (λ k. at c.drop_children.new.store k) (λ k. at c.place_children.new.store k) (λ k. at c.rewrite.new.store k)
     c.args.id (c.depth_of-depth.result + 1) (256 - c.depth_of-depth.result) c.args.marking c.place_children.new.made.items c.args.news.items c.args.state c.requires.here.0
     c.requires.here.1 c.requires.here.2.low (ap (λ x. x + 1) d) (ap (λ x. 256 - x) d) c.requires.whole
     (λ k. rw (← c.as_slice.ensures.value) (c.drop_children.ensures.pointwise k)) c.place_children.ensures.placed c.place_children.ensures.length c.rewrite.ensures.others c.rewrite.ensures.present on (c.rewrite.ensures.marked on) c.rewrite.ensures.marked_hulls k
@@ -96,13 +96,13 @@ returns-clause-marked_hulls c on k =
 pub returns-clause-taken : goal.returns-clause-taken
 returns-clause-taken c =
     taken_replaced (λ k. at c.args.store.now k) (λ k. at c.refresh.new.store k)
-    (kept_taken (λ k. at c.args.store.now k) (λ k. at c.drop_children.new.store k) (λ k. at c.place_children.new.store k) (λ k. at c.rewrite.new.self k) (λ k. at c.refresh.new.store k)
+    (kept_taken (λ k. at c.args.store.now k) (λ k. at c.drop_children.new.store k) (λ k. at c.place_children.new.store k) (λ k. at c.rewrite.new.store k) (λ k. at c.refresh.new.store k)
     c.args.id _ c.args.marking _ c.args.news.items c.place_children.new.made.items _ c.drop_children.ensures.pointwise c.place_children.ensures.placed c.rewrite.ensures.others c.rewrite.ensures.hulls c.refresh.ensures.taken)
     (returns-clause-vacant c)
 
 pub returns-clause-others : goal.returns-clause-others
 returns-clause-others c k d t top n =
-    c.refresh.ensures.others k (top_written (λ i. at c.args.store.now i) (λ i. at c.drop_children.new.store i) (λ i. at c.place_children.new.store i) (λ i. at c.rewrite.new.self i)
+    c.refresh.ensures.others k (top_written (λ i. at c.args.store.now i) (λ i. at c.drop_children.new.store i) (λ i. at c.place_children.new.store i) (λ i. at c.rewrite.new.store i)
     c.args.id _ c.args.marking _ c.args.news.items c.place_children.new.made.items c.args.state _ c.drop_children.ensures.pointwise c.place_children.ensures.placed c.rewrite.ensures.others c.rewrite.ensures.present c.rewrite.ensures.hulls k d t top) n
-    ∙ top_hulls (λ i. at c.args.store.now i) (λ i. at c.drop_children.new.store i) (λ i. at c.place_children.new.store i) (λ i. at c.rewrite.new.self i)
+    ∙ top_hulls (λ i. at c.args.store.now i) (λ i. at c.drop_children.new.store i) (λ i. at c.place_children.new.store i) (λ i. at c.rewrite.new.store i)
     c.args.id _ c.args.marking _ c.args.news.items c.place_children.new.made.items c.args.state _ c.drop_children.ensures.pointwise c.place_children.ensures.placed c.rewrite.ensures.others c.rewrite.ensures.present c.rewrite.ensures.hulls k d t

@@ -1,4 +1,4 @@
-use Rattle.std.proofs.Common.{◌∙◌, arith}
+use Rattle.std.proofs.Common.{◌∙◌, arith, refl}
 use Rattle.cga_index.specs.Tree.{reads}
 use Rattle.cga_index.proofs.Levels.{visit_found, visit_counted, none_seen, step_found, step_counted, end_found}
 use Rattle.cga_index.proofs.walk.+visit.Goals as goal
@@ -11,11 +11,11 @@ visit-returns-clause-found g t c =
 pub visit-returns-clause-counted : goal.visit-returns-clause-counted
 visit-returns-clause-counted g t c =
     let low = c.requires.laws.shallow c.args.node c.requires.node in
-    visit_counted (g.H.HullTree.view c.args.tree.now) c.args.by c.args.left c.args.node _ _ _ c.hull.result c.args.area.now c.touches.result (omega (arith, low, c.requires.left)) c.hull.ensures c.requires.area c.touches.ensures.value c.if-not-touches.false c.look-first.ensures.counted c.visit_children-rest.ensures.counted
+    visit_counted (g.H.HullTree.view c.args.tree.now) c.args.by c.args.left c.args.node _ _ _ _ c.args.area.now c.touches.result (omega (arith, low, c.requires.left)) refl c.requires.area c.touches.ensures c.if-not-touches.false c.look-first.ensures.counted c.visit_children-rest.ensures.counted
 
 pub visit-returns-then-not-touches-clause-found : goal.visit-returns-then-not-touches-clause-found
 visit-returns-then-not-touches-clause-found g t c =
-    none_seen (g.H.HullTree.view c.args.tree.now) c.requires.laws c.args.by c.args.target c.args.left c.args.node c.hull.result c.args.area.now c.touches.result c.requires.node c.hull.ensures c.requires.area c.touches.ensures.value c.if-not-touches.true
+    none_seen (g.H.HullTree.view c.args.tree.now) c.requires.laws c.args.by c.args.target c.args.left c.args.node _ c.args.area.now c.touches.result c.requires.node refl c.requires.area c.touches.ensures c.if-not-touches.true
 
 pub visit_children-loop-place-preserved : goal.visit_children-loop-place-preserved
 visit_children-loop-place-preserved g t c =

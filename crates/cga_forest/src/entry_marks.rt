@@ -1,0 +1,61 @@
+//! What an entry keeps for the mark.
+use crate::entry::Entry;
+use cga_marked::Marked;
+
+impl Marked for Entry {
+    ghost use Rattle.cga_forest.specs.View.{IsPlain, aside_of, touched_of, touched_entry, hidden_entry, settled_entry, rolled_entry};
+    ghost use Rattle.cga_forest.specs.Marks as entry;
+
+    ghost touched = { touched_of };
+
+    ghost aside = { aside_of };
+
+    ghost plain = { IsPlain };
+
+    ghost touching = { touched_entry };
+
+    ghost hiding = { hidden_entry };
+
+    ghost settled = { settled_entry };
+
+    ghost rolled = { rolled_entry };
+
+    fn touch(&mut self) -> bool {
+        let fresh = !self.touched;
+        self.touched = true;
+        fresh
+    }
+
+    fn set_aside(&mut self) -> bool {
+        let fresh = !self.aside;
+        self.aside = true;
+        fresh
+    }
+
+    /// False where the node was set aside.
+    fn settle(&mut self) -> bool {
+        self.came = false;
+        self.touched = false;
+        self.former = None;
+        self.former_hulls = None;
+        !self.aside
+    }
+
+    /// False where the node came after the mark.
+    fn roll_back(&mut self) -> bool {
+        let came = self.came;
+        self.aside = false;
+        self.came = false;
+        self.touched = false;
+        if let Some(former) = self.former.take() {
+            self.node.set_state(former.state);
+            self.children = former.children;
+        }
+        if let Some(hulls) = self.former_hulls.take() {
+            self.hulls = hulls;
+        }
+        !came
+    }
+
+    ghost marks = { entry.marks };
+}

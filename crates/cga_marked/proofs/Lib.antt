@@ -1,0 +1,5 @@
+pub mod Count
+pub mod Slots
+pub mod Books
+pub mod Room
+pub mod Sweep
