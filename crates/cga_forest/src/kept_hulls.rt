@@ -51,7 +51,7 @@ impl KeptHulls {
         ensures { result ≡ touches (hulls_known node.now self.now).all area.now }
     {
         match self {
-            KeptHulls::Own(_) => node.bounds().touches(area),
+            KeptHulls::Own(_) => node.touches(area),
             KeptHulls::Other(kept) => kept.get().all.touches(area),
         }
     }
@@ -61,7 +61,7 @@ impl KeptHulls {
         ensures { result ≡ touches_some (hulls_known node.now self.now).asking area.now }
     {
         match self {
-            KeptHulls::Own(asks) => *asks && node.bounds().touches(area),
+            KeptHulls::Own(asks) => *asks && node.touches(area),
             KeptHulls::Other(kept) => match &kept.get().asking {
                 Some(hull) => hull.touches(area),
                 None => false,

@@ -1,4 +1,5 @@
 ghost use Rattle.std.specs.Prelude.{◌≡◌, ◌↔◌, IsTrue};
+ghost use Rattle.cga_frame.specs.Box.{touches};
 ghost use Rattle.cga_order.specs.Seen.{chain_of};
 ghost use Rattle.cga_forest.specs.Node.{AreAlike, bounds, chain_kept, fits, same_sort, state_of, with_state};
 
@@ -42,6 +43,14 @@ impl Node {
         ensures { result ≡ bounds self.now }
     {
         self.shape.scope.world_box()
+    }
+
+    /// Whether that box touches another one. The box isn't made.
+    #[tactic(auto, unfolding(crate::specs::Node::bounds))]
+    pub fn touches(&self, area: &WorldBox) -> bool
+        ensures { result ≡ touches (bounds self.now) area.now }
+    {
+        self.shape.scope.touches(area)
     }
 
     /// Where it stands, with the priorities kept on the way there.
