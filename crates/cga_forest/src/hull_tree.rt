@@ -54,9 +54,7 @@ impl HullTree for Forest {
     }
 
     fn asks_near(&self, node: NodeId, area: &WorldBox) -> bool {
-        self.store
-            .entry(node.number() as usize)
-            .asks_near(area)
+        self.store.entry(node.number() as usize).asks_near(area)
     }
 
     fn standing(&self, node: NodeId, by: NodeId) -> Standing {
