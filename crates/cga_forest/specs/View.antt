@@ -4,7 +4,7 @@ use Rattle.cga_marked.specs.Slab.{SlabView, passes}
 pub use Rattle.cga_marked.specs.Slab.{HasRoom, KeepsRoom}
 use Rattle.cga_tree.specs.Tree as tree
 use Rattle.cga_forest.specs.declared.entry.Entry.{Entry}
-use Rattle.cga_forest.specs.declared.entry.Former.{Former}
+use Rattle.cga_forest.specs.declared.former.Former.{Former}
 use Rattle.cga_forest.specs.declared.node.Node.{Node}
 use Rattle.cga_forest.specs.declared.hulls.Hulls.{Hulls}
 use Rattle.cga_forest.specs.declared.node.State.{State}

@@ -5,6 +5,7 @@ ghost use Rattle.cga_forest.specs.Tree.{IsWhole, AllRight, RightBut, IsDue, HasI
 ghost use Rattle.cga_forest.specs.Numbers.{StaysTaken};
 ghost use Rattle.cga_tree.specs.Tree.{IsTree};
 
+use crate::former_box::FormerBox;
 use crate::hulls::Hulls;
 use crate::node::{Node, State};
 use crate::spares::Spares;
@@ -217,6 +218,7 @@ pub fn replace(
     state: State,
     news: Vec<Node>,
     made: Vec<usize>,
+    spare: FormerBox,
 ) -> Option<usize>
     requires room { HasRoom store.old (length news.items) }
     requires empty { made.items ≡ [] }
@@ -236,6 +238,6 @@ pub fn replace(
     let depth = depth_of(store, id);
     drop_children(store, id, 256 - depth, news.as_slice());
     place_children(store, alloc, id, depth + 1, marking, news, &mut made);
-    rewrite(store, id, marking, state, made);
+    rewrite(store, id, marking, state, made, spare);
     refresh(store, spares, id, marking, None)
 }

@@ -2,6 +2,7 @@ ghost use Rattle.std.specs.Prelude.{true, ◌≢◌, ◌≡◌, ◌+◌, ℕ, le
 ghost use Rattle.cga_forest.specs.View.{at, HasRoom, KeepsRoom, IsNewEntry, flag_if, kids, rewritten, rehulled, present_of, marked_of, hulls_of, marked_hulls_of};
 
 use crate::entry::Entry;
+use crate::former_box::FormerBox;
 use crate::hulls::Hulls;
 use crate::hulls_box::HullsBox;
 use crate::kept_hulls::KeptHulls;
@@ -69,7 +70,14 @@ pub fn child_count(store: &Store, id: usize) -> usize
 }
 
 /// Gives a node another state and other children. Under a mark the first such call keeps the former ones.
-pub fn rewrite(store: &mut Store, id: usize, marking: bool, state: State, children: Vec<usize>)
+pub fn rewrite(
+    store: &mut Store,
+    id: usize,
+    marking: bool,
+    state: State,
+    children: Vec<usize>,
+    spare: FormerBox,
+)
     ensures others { (c : ℕ) → c ≢ id → at store.new c ≡ at store.old c }
     ensures present { present_of (at store.new id) ≡ rewritten state children.items (present_of (at store.old id)) }
     ensures marked { marking ≡ true → marked_of (at store.new id) ≡ marked_of (at store.old id) }
@@ -77,7 +85,15 @@ pub fn rewrite(store: &mut Store, id: usize, marking: bool, state: State, childr
     ensures marked_hulls { marked_hulls_of (at store.new id) ≡ marked_hulls_of (at store.old id) }
     ensures room { KeepsRoom store.old store.new }
 {
-    store.change(id, marking, NewContent { state, children });
+    store.change(
+        id,
+        marking,
+        NewContent {
+            state,
+            children,
+            spare,
+        },
+    );
 }
 
 pub fn set_hulls(store: &mut Store, id: usize, marking: bool, hulls: Hulls, spare: HullsBox)
