@@ -13,9 +13,7 @@ use cga_frame::WorldBox;
 #[derive(Drop, Debug)]
 pub struct Entry {
     pub node: Node,
-    pub depth: usize,
     pub parent: Option<usize>,
-    pub index: usize,
     pub children: Vec<usize>,
     pub hulls: KeptHulls,
     pub aside: bool,

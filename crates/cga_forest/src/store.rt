@@ -1,5 +1,5 @@
 ghost use Rattle.std.specs.Prelude.{true, ◌≢◌, ◌≡◌, ◌+◌, ℕ, length, None};
-ghost use Rattle.cga_forest.specs.View.{at, HasRoom, KeepsRoom, IsNewEntry, flag_if, kids, rewritten, rehulled, present_of, marked_of, hulls_of, marked_hulls_of};
+ghost use Rattle.cga_forest.specs.View.{at, HasRoom, KeepsRoom, IsNewEntry, last_from, flag_if, kids, rewritten, rehulled, present_of, marked_of, hulls_of, marked_hulls_of};
 
 use crate::entry::Entry;
 use crate::former_box::FormerBox;
@@ -21,22 +21,18 @@ pub fn add_node(
     alloc: Global,
     marking: bool,
     node: Node,
-    depth: usize,
     parent: Option<usize>,
-    index: usize,
 ) -> usize
     requires room { HasRoom store.old 1 }
     ensures vacant { at store.old result ≡ None }
-    ensures here { IsNewEntry (at store.new result) parent node depth index marking }
+    ensures here { IsNewEntry (at store.new result) parent node (length node.shape.path) (last_from 0 node.shape.path) marking }
     ensures others { (c : ℕ) → c ≢ result → at store.new c ≡ at store.old c }
     ensures room { (more : ℕ) → HasRoom store.old (more + 1) → HasRoom store.new more }
 {
     let hulls = KeptHulls::Own(node.asks);
     let entry = Entry {
         node,
-        depth,
         parent,
-        index,
         children: Vec::new(alloc),
         hulls,
         aside: false,
