@@ -2,7 +2,7 @@
 use Rattle.std.proofs.Common.{◌≡◌, ◌≢◌, ◌∙◌, inl, inr, ℕ, refl, ap, sym}
 use Rattle.std.specs.Prelude.{Option, Some, None}
 use Rattle.cga_forest.specs.declared.entry.Entry.{Entry}
-use Rattle.cga_forest.specs.declared.entry.Former.{Former}
+use Rattle.cga_forest.specs.declared.former.Former.{Former}
 use Rattle.cga_forest.specs.declared.kept_hulls.KeptHulls.{KeptHulls}
 use Rattle.cga_forest.specs.declared.kept_hulls.KeptHulls.TheVariants.{Own, Other}
 use Rattle.cga_forest.specs.declared.node.Node.{Node}

@@ -6,7 +6,7 @@ use Rattle.cga_forest.specs.declared.hulls.Hulls.{Hulls}
 use Rattle.cga_forest.specs.declared.node.Node.{Node}
 use Rattle.cga_forest.specs.Hull.{over, own_hulls, hulls_known}
 use Rattle.cga_forest.proofs.Known.{known_own, known_restored}
-use Rattle.cga_forest.specs.View.{Seen, IsPlain, IsNewEntry, kids, flag_if, present_of, marked_of, hulls_of, marked_hulls_of, settled, rolled, restored, former_hulls, seen}
+use Rattle.cga_forest.specs.View.{Seen, IsPlain, IsNewEntry, last_from, kids, flag_if, present_of, marked_of, hulls_of, marked_hulls_of, settled, rolled, restored, former_hulls, seen}
 use Rattle.cga_forest.specs.Node.{IsTop}
 use Rattle.cga_forest.proofs.Places.{InPlace-same, InPlace-part, InPlace-root}
 use Rattle.cga_forest.specs.Tree.{ForestView, IsForest, InPlace, IsWhole, IsRight, AllRight, slot_at, node_at, marked_at, hulls_at, marked_hulls_at, children_at, under}
@@ -128,6 +128,9 @@ IsForest-marked old new f whole on still same hulls tops kept = record {
 pub IsWhole-from : (S T : ℕ → Option Seen) (J : ℕ → Option Hulls) → ((c : ℕ) → T c ≡ S c) → AllRight T J → InPlace S → IsTree S → IsWhole T J
 IsWhole-from S T J t r p s = record { tree = IsTree-same S T t s; places = InPlace-same S T t p; right = r }
 
+pub new_root : (s : Option Entry) (node : Node) (marking : Bool) → IsTop node → IsNewEntry s None node (length node.shape.path) (last_from 0 node.shape.path) marking → IsNewEntry s None node 0 0 marking
+new_root s node marking top made = subst (λ (p : List ℕ). IsNewEntry s None node (length p) (last_from 0 p) marking) top.path made
+
 -- an entry for a new root comes
 module _ (old new : ForestView) (id : ℕ) (node : Node) (fresh : slot_at old id ≡ None) (made : IsNewEntry (slot_at new id) None node 0 0 old.marking) (others : (c : ℕ) → c ≢ id → slot_at new c ≡ slot_at old c)
     (top : IsTop node) (m : new.marking ≡ old.marking) (pushed : IsPermutation (old.roots ++ (node.shape.lot, id) ∷ []) new.roots) (one_each : AreApart new.roots) (kept : new.marked_roots ≡ (if old.marking then old.marked_roots else new.roots)) (f : IsForest old) where
@@ -135,7 +138,7 @@ module _ (old new : ForestView) (id : ℕ) (node : Node) (fresh : slot_at old id
   added_here = ap present_of made.here ∙ ap (λ b. if b then None else Some (seen made.entry)) made.shows
 
   pub added_node : node_at new id ≡ Some (record { node = node; depth = 0; parent = None; index = 0; children = [] })
-  added_node = added_here ∙ (let a = made.node in let b = made.deep in let c = made.parent in let d = made.index in let l = made.leaf in search (rules, a, b, c, d, l))
+  added_node = added_here ∙ (λ i. Some (record { node = made.node i; depth = made.deep i; parent = made.parent i; index = made.index i; children = made.leaf i }))
 
   pub added_mark : old.marking ≡ true → (c : ℕ) → marked_at new c ≡ marked_at old c
   added_mark on c = elim (nat_cases c id) [

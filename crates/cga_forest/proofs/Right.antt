@@ -1,10 +1,10 @@
 -- Hulls, right at a node by its children's hulls.
-use Rattle.std.proofs.Common.{◌≡◌, ◌≢◌, inl, inr, ℕ, zero, suc, ◌+◌, ◌<◌, List, length, true, refl, ap, sym, ◌∙◌, arith}
+use Rattle.std.proofs.Common.{◌≡◌, ◌≢◌, inl, inr, ℕ, zero, suc, ◌+◌, ◌<◌, List, [], ◌∷◌, ◌++◌, length, Bool, true, false, refl, ap, sym, ◌∙◌, arith}
 use Rattle.std.specs.Prelude.{Option, Some, None, is_some, slice_get, if◌then◌else◌}
 use Rattle.cga_forest.specs.declared.entry.Entry.{Entry}
 use Rattle.cga_forest.specs.declared.hulls.Hulls.{Hulls}
 use Rattle.cga_forest.specs.Hull.{over, own_hulls, hulls_known, with_hulls, at_hulls, holds_hulls, alike, grown_from}
-use Rattle.cga_forest.specs.View.{Seen, seen, hulls_of, present_of, rehulled, kids}
+use Rattle.cga_forest.specs.View.{Seen, seen, last_from, flag_if, hulls_of, present_of, rehulled, kids}
 use Rattle.cga_forest.specs.Tree.{IsRight, AllRight, RightBut, IsDue, hulls_now, hulls_next, parent_of, depth_at}
 use Rattle.cga_tree.specs.Tree.{IsTree}
 use Rattle.cga_marked.proofs.Count.{bool_cases}
@@ -144,6 +144,18 @@ parent_present s d h = let w = present_some s d h in ap parent_of w.1 ∙ ap (λ
 
 pub kids_present : (s : Option Entry) (d : Seen) → present_of s ≡ Some d → kids s ≡ d.children
 kids_present s d h = let w = present_some s d h in ap kids w.1 ∙ ap (λ (x : Seen). x.children) w.2
+
+pub path_present : (s : Option Entry) (d : Seen) → present_of s ≡ Some d → depth_at s ≡ length d.node.shape.path
+path_present s d h = let w = present_some s d h in ap depth_at w.1 ∙ ap (λ (x : Seen). length x.node.shape.path) w.2
+
+pub depth_flag : (b : Bool) (s : Option Entry) → depth_at (flag_if b s) ≡ depth_at s
+depth_flag false s = refl
+depth_flag true None = refl
+depth_flag true (Some e) = refl
+
+pub last_push : (d : ℕ) (xs : List ℕ) (i : ℕ) → last_from d (xs ++ i ∷ []) ≡ i
+last_push d [] i = refl
+last_push d (x ∷ xs) i = last_push x xs i
 
 pub depth_present : (s : Option Entry) (d : Seen) → present_of s ≡ Some d → depth_at s ≡ d.depth
 depth_present s d h = let w = present_some s d h in ap depth_at w.1 ∙ ap (λ (x : Seen). x.depth) w.2

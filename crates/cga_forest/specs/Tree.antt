@@ -14,7 +14,7 @@ use Rattle.cga_order.specs.World.{is_instance}
 use Rattle.cga_forest.specs.Roots.{HasRoots, Named}
 use Rattle.cga_tree.specs.Tree.{IsTree}
 use Rattle.cga_tree.specs.Replaced.{fits_at, IsReplaced}
-use Rattle.cga_forest.specs.View.{Seen, IsPlain, IsNewEntry, slot, present_of, marked_of, hulls_of, marked_hulls_of}
+use Rattle.cga_forest.specs.View.{Seen, IsPlain, IsNewEntry, last_from, slot, present_of, marked_of, hulls_of, marked_hulls_of}
 
 -- c is the node or, at most n levels in all, below it
 unfoldable pub under : (ℕ → List ℕ) → ℕ → ℕ → ℕ → Bool
@@ -124,6 +124,10 @@ IsPlacedChild old now id depth marking olds w i c =
     ((slice_get olds i ≡ Some c) × (stay_of (old c) (Some w) ≡ true))
     ⊎ ((old c ≡ None) × IsNewEntry (now c) (Some id) w depth i marking × ((k : ℕ) → slice_get olds i ≡ Some k → stay_of (old k) (Some w) ≡ false))
 
+-- the node has the path of child i at that depth
+abbrev pub IsAt : ℕ → ℕ → Node → Type 0
+IsAt depth i w = (length w.shape.path ≡ depth) × (last_from 0 w.shape.path ≡ i)
+
 -- the children so far are old ones at their places, or came, and nothing else changed
 pub record IsPlaced (old now : ℕ → Option Entry) (id depth : ℕ) (marking : Bool) (olds : List ℕ) (news : List Node) (made : List ℕ) : Type 0 where
   pub each : (i c : ℕ) → slice_get made i ≡ Some c → (w : Node) × (slice_get news i ≡ Some w) × IsPlacedChild old now id depth marking olds w i c
@@ -132,7 +136,7 @@ pub record IsPlaced (old now : ℕ → Option Entry) (id depth : ℕ) (marking :
 
 abbrev pub depth_at : Option Entry → ℕ
 depth_at None = 0
-depth_at (Some e) = e.depth
+depth_at (Some e) = length e.node.shape.path
 
 -- the node isn't an instance, nor in that state, and these are children of it
 pub record IsInner (e : Seen) (state : State) (news : List Node) : Type 0 where

@@ -1,10 +1,10 @@
-use Rattle.std.specs.Prelude.{◌≡◌, ℕ, List, [], Option, Some, None, option_map, option_and_then, Bool, true, false, not, slice_index_or, if◌then◌else◌}
+use Rattle.std.specs.Prelude.{◌≡◌, ℕ, List, [], ◌∷◌, length, Option, Some, None, option_map, option_and_then, Bool, true, false, not, slice_index_or, if◌then◌else◌}
 use Rattle.cga_marked.specs.Marked as marked
 use Rattle.cga_marked.specs.Slab.{SlabView, passes}
 pub use Rattle.cga_marked.specs.Slab.{HasRoom, KeepsRoom}
 use Rattle.cga_tree.specs.Tree as tree
 use Rattle.cga_forest.specs.declared.entry.Entry.{Entry}
-use Rattle.cga_forest.specs.declared.entry.Former.{Former}
+use Rattle.cga_forest.specs.declared.former.Former.{Former}
 use Rattle.cga_forest.specs.declared.node.Node.{Node}
 use Rattle.cga_forest.specs.declared.hulls.Hulls.{Hulls}
 use Rattle.cga_forest.specs.declared.node.State.{State}
@@ -76,8 +76,14 @@ abbrev pub former_hulls : KeptHulls → Option KeptHulls → KeptHulls
 former_hulls h None = h
 former_hulls h (Some k) = k
 
+-- the last, where there is one
+abbrev pub last_from : ℕ → List ℕ → ℕ
+last_from d [] = d
+last_from d (x ∷ xs) = last_from x xs
+
+-- its depth and its place among its siblings are told by its path
 abbrev pub seen : Entry → Seen
-seen e = record { node = e.node; depth = e.depth; parent = e.parent; index = e.index; children = e.children.items }
+seen e = record { node = e.node; depth = length e.node.shape.path; parent = e.parent; index = last_from 0 e.node.shape.path; children = e.children.items }
 
 -- the present node of a slot, and the marked one
 abbrev pub present_of : Option Entry → Option Seen
@@ -143,8 +149,8 @@ pub record IsNewEntry (slot : Option Entry) (above : Option ℕ) (content : Node
   pub here : slot ≡ Some entry
   pub node : entry.node ≡ content
   pub parent : entry.parent ≡ above
-  pub index : entry.index ≡ place
-  pub deep : entry.depth ≡ depth
+  pub index : last_from 0 entry.node.shape.path ≡ place
+  pub deep : length entry.node.shape.path ≡ depth
   pub leaf : entry.children.items ≡ []
   pub hulls : entry.hulls ≡ Own content.asks
   pub shows : entry.aside ≡ false

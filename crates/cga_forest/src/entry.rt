@@ -4,31 +4,24 @@ ghost use Rattle.cga_index.specs.Tree.{touches_some};
 ghost use Rattle.cga_forest.specs.Hull.{hulls_known};
 ghost use Rattle.cga_forest.specs.View.{rewritten, present_of, marked_of, hulls_of, marked_hulls_of, KeepsBooks};
 
+use crate::former::Former;
+use crate::former_box::FormerBox;
 use crate::hulls::Hulls;
 use crate::hulls_box::HullsBox;
 use crate::kept_hulls::KeptHulls;
 use crate::node::{Node, State};
 use cga_frame::WorldBox;
 
-/// The state and the children of a node as they stood at the mark.
-#[derive(Drop, Debug)]
-pub struct Former {
-    pub state: State,
-    pub children: Vec<usize>,
-}
-
 #[derive(Drop, Debug)]
 pub struct Entry {
     pub node: Node,
-    pub depth: usize,
     pub parent: Option<usize>,
-    pub index: usize,
     pub children: Vec<usize>,
     pub hulls: KeptHulls,
     pub aside: bool,
     pub came: bool,
     pub touched: bool,
-    pub former: Option<Former>,
+    pub former: Option<FormerBox>,
     pub former_hulls: Option<KeptHulls>,
 }
 
@@ -65,7 +58,8 @@ impl Entry {
         self.hulls.ask_near(&self.node, area)
     }
 
-    pub fn rewrite(&mut self, marking: bool, state: State, children: Vec<usize>)
+    /// Takes no memory but the spare box.
+    pub fn rewrite(&mut self, marking: bool, state: State, children: Vec<usize>, spare: FormerBox)
         requires touched { marking ≡ true → self.old.touched ≡ true }
         ensures present { present_of (Some self.new) ≡ rewritten state children.items (present_of (Some self.old)) }
         ensures marked { marking ≡ true → marked_of (Some self.new) ≡ marked_of (Some self.old) }
@@ -79,7 +73,7 @@ impl Entry {
         };
         self.node.set_state(state);
         if marking && self.former.is_none() {
-            self.former = Some(former);
+            self.former = Some(spare.filled(former));
         }
     }
 

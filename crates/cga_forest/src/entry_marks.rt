@@ -48,6 +48,7 @@ impl Marked for Entry {
         self.came = false;
         self.touched = false;
         if let Some(former) = self.former.take() {
+            let former = former.into_inner();
             self.node.set_state(former.state);
             self.children = former.children;
         }

@@ -10,6 +10,8 @@ mod change;
 mod covering;
 mod entry;
 mod entry_marks;
+mod former;
+mod former_box;
 mod holds;
 mod hull_tree;
 mod hulls;
@@ -54,6 +56,7 @@ use cga_shape::{Answers, Emitted, ShapeFault};
 use cga_word::Mode;
 pub use change::Change;
 use covering::{cover_all, cover_root, tighten};
+use former_box::FormerBox;
 use listing::list_children;
 pub use moved::Moved;
 pub use node::{Node, State};
@@ -212,6 +215,7 @@ impl Forest {
         ensures mode { self.new.mode ≡ self.old.mode }
         ensures err { OnErr result (self.new ≡ self.old) }
     {
+        let spare = FormerBox::new(self.alloc, state)?;
         self.store.reserve(news.len())?;
         let depth = depth_of(&self.store, id);
         let hulls = self.store.entry(id).known_hulls();
@@ -232,6 +236,7 @@ impl Forest {
             state,
             news,
             made,
+            spare,
         );
         cover_root(&mut self.blocks, &self.store, &self.roots, changed);
         list_children(&self.store, id, places.as_slice(), &mut came);

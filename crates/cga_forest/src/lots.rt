@@ -49,7 +49,7 @@ impl Forest {
         self.blocks.make_room(last, &Hulls::own(&node))?;
         self.store.reserve(1)?;
         self.roots.reserve()?;
-        let id = add_node(&mut self.store, alloc, marking, node, 0, None, 0);
+        let id = add_node(&mut self.store, alloc, marking, node, None);
         let place = self.roots.push(name, id);
         self.roots.settle_unless(marking);
         cover_place(&mut self.blocks, &self.store, &self.roots, place);

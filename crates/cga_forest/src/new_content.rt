@@ -1,12 +1,14 @@
 use crate::entry::Entry;
+use crate::former_box::FormerBox;
 use crate::node::State;
 use cga_marked::Change;
 
-/// Another state and other children for a node. Under a mark the first such change keeps the former ones.
+/// Another state and other children for a node, with a box for the former ones. Under a mark the first such change keeps them.
 #[derive(Drop)]
 pub struct NewContent {
     pub state: State,
     pub children: Vec<usize>,
+    pub spare: FormerBox,
 }
 
 impl Change<Entry> for NewContent {
@@ -15,6 +17,6 @@ impl Change<Entry> for NewContent {
     ghost changes = { λ marking change x y. IsRewritten marking change.state change.children.items x y };
 
     fn apply(self, marking: bool, entry: &mut Entry) {
-        entry.rewrite(marking, self.state, self.children);
+        entry.rewrite(marking, self.state, self.children, self.spare);
     }
 }

@@ -1,10 +1,12 @@
 ghost use Rattle.std.specs.Prelude.{IfSome, IsSome, [], true, false, ◌≢◌, ◌≡◌, ◌<◌, ◌≤◌, ◌+◌, ◌-◌, ℕ, length, IfOk, OnOk, OnErr, slice_get, Some, None, is_some, option_copied};
 ghost use Rattle.cga_forest.specs.Hull.{at_hulls};
 ghost use Rattle.cga_forest.specs.View.{Seen, at, HasRoom, KeepsRoom, present_of, marked_of, hulls_of, marked_hulls_of, kids, flag_if};
-ghost use Rattle.cga_forest.specs.Tree.{IsWhole, AllRight, RightBut, IsDue, HasInner, ReplacedBy, IsPlaced, depth_at, parent_of, under, goes, stay_of, stay_child, hulls_now, hulls_next, above};
+ghost use Rattle.cga_forest.specs.Tree.{IsWhole, AllRight, RightBut, IsDue, HasInner, ReplacedBy, IsAt, IsPlaced, depth_at, parent_of, under, goes, stay_of, stay_child, hulls_now, hulls_next, above};
+ghost use Rattle.cga_forest.specs.declared.node.Node.{Node};
 ghost use Rattle.cga_forest.specs.Numbers.{StaysTaken};
 ghost use Rattle.cga_tree.specs.Tree.{IsTree};
 
+use crate::former_box::FormerBox;
 use crate::hulls::Hulls;
 use crate::node::{Node, State};
 use crate::spares::Spares;
@@ -89,7 +91,6 @@ pub fn place_children(
     store: &mut Store,
     alloc: Global,
     id: usize,
-    depth: usize,
     marking: bool,
     news: Vec<Node>,
     made: &mut Vec<usize>,
@@ -99,7 +100,8 @@ pub fn place_children(
     requires space { length news.items ≤ made.old.cap }
     requires here { IsSome (at store.old id) }
     requires kids { (i k : ℕ) → slice_get (kids (at store.old id)) i ≡ Some k → IsSome (at store.old k) }
-    ensures placed { IsPlaced (λ c. at store.old c) (λ c. at store.new c) id depth marking (kids (at store.old id)) news.items made.new.items }
+    requires paths { (i : ℕ) (w : Node) → slice_get news.items i ≡ Some w → IsAt (depth_at (at store.old id) + 1) i w }
+    ensures placed { IsPlaced (λ c. at store.old c) (λ c. at store.new c) id (depth_at (at store.old id) + 1) marking (kids (at store.old id)) news.items made.new.items }
     ensures length { length made.new.items ≡ length news.items }
 {
     for new in news {
@@ -109,7 +111,7 @@ pub fn place_children(
                 drop(new);
                 child
             }
-            None => add_node(store, alloc, marking, new, depth, Some(id), place),
+            None => add_node(store, alloc, marking, new, Some(id)),
         };
         made.push_reserved(child);
     }
@@ -119,7 +121,7 @@ pub fn depth_of(store: &Store, id: usize) -> usize
     ensures { result ≡ depth_at (at store.now id) }
 {
     match store.get(id) {
-        Some(entry) => entry.depth,
+        Some(entry) => entry.node.shape.path.len(),
         None => 0,
     }
 }
@@ -217,6 +219,7 @@ pub fn replace(
     state: State,
     news: Vec<Node>,
     made: Vec<usize>,
+    spare: FormerBox,
 ) -> Option<usize>
     requires room { HasRoom store.old (length news.items) }
     requires empty { made.items ≡ [] }
@@ -235,7 +238,7 @@ pub fn replace(
     let mut made = made;
     let depth = depth_of(store, id);
     drop_children(store, id, 256 - depth, news.as_slice());
-    place_children(store, alloc, id, depth + 1, marking, news, &mut made);
-    rewrite(store, id, marking, state, made);
+    place_children(store, alloc, id, marking, news, &mut made);
+    rewrite(store, id, marking, state, made, spare);
     refresh(store, spares, id, marking, None)
 }

@@ -38,7 +38,7 @@ fn is_above(store: &Store, left: usize, node: usize, depth: usize, other: usize)
     }
     match present(store, other) {
         Some(entry) => {
-            if entry.depth <= depth {
+            if entry.node.shape.path.len() <= depth {
                 return false;
             }
             match entry.parent {
@@ -108,7 +108,7 @@ pub fn standing_of(store: &Store, mode: Mode, node: usize, by: usize) -> Standin
     match (present(store, node), present(store, by)) {
         (Some(entry), Some(asker)) => {
             let chain = asker.node.chain();
-            if is_above(store, 257, node, entry.depth, by) {
+            if is_above(store, 257, node, entry.node.shape.path.len(), by) {
                 return Standing::Hidden;
             }
             if !exists_at(store, mode, entry.parent, &chain) {

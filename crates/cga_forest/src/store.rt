@@ -1,7 +1,8 @@
 ghost use Rattle.std.specs.Prelude.{true, ◌≢◌, ◌≡◌, ◌+◌, ℕ, length, None};
-ghost use Rattle.cga_forest.specs.View.{at, HasRoom, KeepsRoom, IsNewEntry, flag_if, kids, rewritten, rehulled, present_of, marked_of, hulls_of, marked_hulls_of};
+ghost use Rattle.cga_forest.specs.View.{at, HasRoom, KeepsRoom, IsNewEntry, last_from, flag_if, kids, rewritten, rehulled, present_of, marked_of, hulls_of, marked_hulls_of};
 
 use crate::entry::Entry;
+use crate::former_box::FormerBox;
 use crate::hulls::Hulls;
 use crate::hulls_box::HullsBox;
 use crate::kept_hulls::KeptHulls;
@@ -20,22 +21,18 @@ pub fn add_node(
     alloc: Global,
     marking: bool,
     node: Node,
-    depth: usize,
     parent: Option<usize>,
-    index: usize,
 ) -> usize
     requires room { HasRoom store.old 1 }
     ensures vacant { at store.old result ≡ None }
-    ensures here { IsNewEntry (at store.new result) parent node depth index marking }
+    ensures here { IsNewEntry (at store.new result) parent node (length node.shape.path) (last_from 0 node.shape.path) marking }
     ensures others { (c : ℕ) → c ≢ result → at store.new c ≡ at store.old c }
     ensures room { (more : ℕ) → HasRoom store.old (more + 1) → HasRoom store.new more }
 {
     let hulls = KeptHulls::Own(node.asks);
     let entry = Entry {
         node,
-        depth,
         parent,
-        index,
         children: Vec::new(alloc),
         hulls,
         aside: false,
@@ -69,7 +66,14 @@ pub fn child_count(store: &Store, id: usize) -> usize
 }
 
 /// Gives a node another state and other children. Under a mark the first such call keeps the former ones.
-pub fn rewrite(store: &mut Store, id: usize, marking: bool, state: State, children: Vec<usize>)
+pub fn rewrite(
+    store: &mut Store,
+    id: usize,
+    marking: bool,
+    state: State,
+    children: Vec<usize>,
+    spare: FormerBox,
+)
     ensures others { (c : ℕ) → c ≢ id → at store.new c ≡ at store.old c }
     ensures present { present_of (at store.new id) ≡ rewritten state children.items (present_of (at store.old id)) }
     ensures marked { marking ≡ true → marked_of (at store.new id) ≡ marked_of (at store.old id) }
@@ -77,7 +81,15 @@ pub fn rewrite(store: &mut Store, id: usize, marking: bool, state: State, childr
     ensures marked_hulls { marked_hulls_of (at store.new id) ≡ marked_hulls_of (at store.old id) }
     ensures room { KeepsRoom store.old store.new }
 {
-    store.change(id, marking, NewContent { state, children });
+    store.change(
+        id,
+        marking,
+        NewContent {
+            state,
+            children,
+            spare,
+        },
+    );
 }
 
 pub fn set_hulls(store: &mut Store, id: usize, marking: bool, hulls: Hulls, spare: HullsBox)

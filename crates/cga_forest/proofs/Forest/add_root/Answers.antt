@@ -6,7 +6,7 @@ use Rattle.std.proofs.lemmas.List.Sorted.{IsPermutation-swap}
 use Rattle.cga_forest.specs.Roots.{AreApart, Named}
 use Rattle.cga_forest.specs.Tree.{IsForest}
 use Rattle.cga_forest.proofs.ByName.{no_root}
-use Rattle.cga_forest.proofs.Marks.{IsForest-added}
+use Rattle.cga_forest.proofs.Marks.{IsForest-added, new_root}
 use Rattle.cga_forest.proofs.Forest.add_root.Goals as goal
 use Rattle.cga_forest.specs.View.{hulls_of, present_of, slot}
 use Rattle.cga_forest.proofs.Covered.{covered_added, covered_made}
@@ -33,7 +33,7 @@ invariant_of-self-2 c =
     let is : c.settle_unless.new.self.list ≡ swap (c.self.inside.roots.list ++ (c.args.node.shape.lot, c.add_node-id.result) ∷ []) c.push-place.result (length c.self.inside.roots.list) =
     c.settle_unless.ensures.list ∙ c.push-place.ensures.list ∙ (λ i. swap (c.in_ok-reserve-2.ensures.list i ++ (c.lot-name.ensures i, c.add_node-id.result) ∷ []) c.push-place.result (length (c.in_ok-reserve-2.ensures.list i))) in
     record {
-      forest = IsForest-added (record { slots = c.reserve.new.self.slots; marking = c.self.inside.marking; roots = c.self.inside.roots.list; marked_roots = c.self.inside.roots.former; mode = c.self.inside.mode }) _ c.add_node-id.result c.args.node c.add_node-id.ensures.vacant c.add_node-id.ensures.here (λ k n. c.add_node-id.ensures.others k n) c.requires.top refl
+      forest = IsForest-added (record { slots = c.reserve.new.self.slots; marking = c.self.inside.marking; roots = c.self.inside.roots.list; marked_roots = c.self.inside.roots.former; mode = c.self.inside.mode }) _ c.add_node-id.result c.args.node c.add_node-id.ensures.vacant (new_root (slot c.add_node-id.new.store.slots c.add_node-id.result) c.args.node c.self.inside.marking c.requires.top c.add_node-id.ensures.here) (λ k n. c.add_node-id.ensures.others k n) c.requires.top refl
           (IsPermutation-swap _ _ c.push-place.result (length c.self.inside.roots.list) (omega (arith, low, long)) (omega (arith, long)) is)
           (subst AreApart (sym c.settle_unless.ensures.list) c.push-place.ensures.apart)
           (c.settle_unless.ensures.former ∙ (λ i. if c.self.inside.marking then (c.push-place.ensures.former ∙ c.in_ok-reserve-2.ensures.former) i else sym c.settle_unless.ensures.list i))

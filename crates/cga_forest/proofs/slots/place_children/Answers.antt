@@ -1,8 +1,9 @@
-use Rattle.std.proofs.Common.{◌≡◌, ℕ, length, ap, sym, ◌∙◌, arith, ◌∷◌, [], ◌++◌, length-append, append_assoc, append-nil, List, subst}
+use Rattle.std.proofs.Common.{◌≡◌, ◌+◌, ℕ, length, ap, sym, ◌∙◌, arith, ◌∷◌, [], ◌++◌, length-append, append_assoc, append-nil, List, subst}
 use Rattle.std.specs.Vec.Iter.{into_iter_items}
 use Rattle.std.specs.Prelude.{slice_get, Some}
 use Rattle.cga_forest.specs.declared.node.Node.{Node}
-use Rattle.cga_forest.specs.View.{at, kids, HasRoom, IsNewEntry}
+use Rattle.cga_forest.specs.View.{at, kids, last_from, HasRoom, IsNewEntry}
+use Rattle.cga_forest.specs.Tree.{depth_at}
 use Rattle.cga_forest.proofs.Place.{IsPlaced-stays, IsPlaced-comes, same_kids, get_mid, nothing_left, stay_some, stay_none, same_stay, placed_start, placed_is}
 use Rattle.cga_forest.proofs.slots.place_children.Goals as goal
 use Rattle.cga_forest.proofs.slots.place_children.Goals.{in-Some-staying, in-None-staying}
@@ -33,6 +34,7 @@ loop-new-preserved c =
     let news = c.args.news.items in
     let made = c.loop-new.made.items in
     let p = c.loop-new.invariant.placed in
+    let depth = depth_at (at c.args.store.now c.args.id) + 1 in
     let x = c.in-Some.new in
     let rest = into_iter_items c.next.new.self in
     let yielded = c.loop-new.yielded in
@@ -41,16 +43,18 @@ loop-new-preserved c =
     let counted : length made ≡ length yielded = c.loop-new.invariant.counted in
     let place : c.len-place.result ≡ length made = omega (arith, c.len-place.ensures) in
     let asked : slice_get news (length made) ≡ Some x = ap (slice_get news) counted ∙ ap (λ ys. slice_get ys (length yielded)) (sym split) ∙ get_mid yielded x rest in
-    let same : kids (now c.args.id) ≡ olds = same_kids old now c.args.id c.args.depth c.args.marking olds news made p c.requires.here in
+    let same : kids (now c.args.id) ≡ olds = same_kids old now c.args.id depth c.args.marking olds news made p c.requires.here in
     let reads : slice_get (kids (now c.args.id)) c.len-place.result ≡ slice_get olds (length made) = ap (slice_get (kids (now c.args.id))) place ∙ ap (λ xs. slice_get xs (length made)) same in record {
       placed = rw c.push_reserved.ensures.items (elim c.match-staying.branch [
         | in-Some-staying w ↦ rw (w.store-is, w.child-is) (
             let t = stay_some now (slice_get (kids (now c.args.id)) c.len-place.result) x w.in-Some-staying.child (sym w.in-Some-staying.ensures) in
             let o : slice_get olds (length made) ≡ Some w.in-Some-staying.child = sym reads ∙ t.0 in
-            IsPlaced-stays old now c.args.id c.args.depth c.args.marking olds news made p x asked w.in-Some-staying.child o (same_stay old now p.rest w.in-Some-staying.child (Some x) (c.requires.kids (length made) w.in-Some-staying.child o) ∙ t.1))
+            IsPlaced-stays old now c.args.id depth c.args.marking olds news made p x asked w.in-Some-staying.child o (same_stay old now p.rest w.in-Some-staying.child (Some x) (c.requires.kids (length made) w.in-Some-staying.child o) ∙ t.1))
         | in-None-staying w ↦ rw (w.store-is, w.child-is) (
-            IsPlaced-comes old now c.args.id c.args.depth c.args.marking olds news made p x asked (λ d. at w.add_node-child.new.store d) w.add_node-child.result w.add_node-child.ensures.vacant w.add_node-child.ensures.others
-            (subst (λ j. IsNewEntry (at w.add_node-child.new.store w.add_node-child.result) (Some c.args.id) x c.args.depth j c.args.marking) place w.add_node-child.ensures.here)
+            IsPlaced-comes old now c.args.id depth c.args.marking olds news made p x asked (λ d. at w.add_node-child.new.store d) w.add_node-child.result w.add_node-child.ensures.vacant w.add_node-child.ensures.others
+            (let t = c.requires.paths (length made) x asked in
+            subst (λ j. IsNewEntry (at w.add_node-child.new.store w.add_node-child.result) (Some c.args.id) x depth j c.args.marking) t.1
+            (subst (λ d. IsNewEntry (at w.add_node-child.new.store w.add_node-child.result) (Some c.args.id) x d (last_from 0 x.shape.path) c.args.marking) t.0 w.add_node-child.ensures.here))
             (λ j o. same_stay old now p.rest j (Some x) (c.requires.kids (length made) j o) ∙ stay_none now (slice_get (kids (now c.args.id)) c.len-place.result) x (sym w.in-None-staying.ensures) j (reads ∙ o)))
       ]);
       front = append_assoc yielded (x ∷ []) rest ∙ split;

@@ -1,4 +1,4 @@
-use Rattle.std.proofs.Common.{◌∙◌, ◌≤◌, ℕ, ap, sym, subst, arith}
+use Rattle.std.proofs.Common.{◌∙◌, ◌≤◌, ℕ, ap, sym, subst, arith, length}
 use Rattle.cga_forest.specs.Tree.{above}
 use Rattle.cga_forest.specs.View.{at, present_of, seen}
 use Rattle.cga_forest.proofs.Above.{is_above_zero, above_own, above_up, above_none, above_higher}
@@ -13,7 +13,7 @@ returns-then-node-other t c = sym (above_own (λ k. present_of (at c.args.store.
 pub returns-then-entry-depth : goal.returns-then-entry-depth
 returns-then-entry-depth t c =
     let T = λ (k : ℕ). present_of (at c.args.store.now k) in
-    let high = subst (λ (n : ℕ). c.in-Some.entry.now.depth ≤ n) (sym c.requires.node.2) c.if-entry-depth.true in
+    let high = subst (λ (n : ℕ). length c.in-Some.entry.now.node.shape.path ≤ n) (sym c.requires.node.2) c.if-entry-depth.true in
     sym (above_higher T c.requires.tree c.args.left c.args.node c.args.other c.requires.node.0 (seen c.in-Some.entry.now) c.requires.node.1 c.in-Some.ensures c.if-node-other.false high)
 
 pub returns-in-Some-parent : goal.returns-in-Some-parent

@@ -1,0 +1,8 @@
+use crate::node::State;
+
+/// The state and the children of a node as they stood at the mark.
+#[derive(Drop, Debug)]
+pub struct Former {
+    pub state: State,
+    pub children: Vec<usize>,
+}
