@@ -38,7 +38,8 @@ fn is_above(store: &Store, left: usize, node: usize, depth: usize, other: usize)
     }
     match present(store, other) {
         Some(entry) => {
-            if entry.node.shape.path.len() <= depth {
+            let reached = entry.node.shape.path.len();
+            if reached <= depth {
                 return false;
             }
             match entry.parent {

@@ -10,10 +10,10 @@ returns-then-left-eq0 t c = sym (is_above_zero (λ k. present_of (at c.args.stor
 pub returns-then-node-other : goal.returns-then-node-other
 returns-then-node-other t c = sym (above_own (λ k. present_of (at c.args.store.now k)) c.args.left c.args.node c.args.other (omega arith) c.if-node-other.true)
 
-pub returns-then-entry-depth : goal.returns-then-entry-depth
-returns-then-entry-depth t c =
+pub returns-then-reached-depth : goal.returns-then-reached-depth
+returns-then-reached-depth t c =
     let T = λ (k : ℕ). present_of (at c.args.store.now k) in
-    let high = subst (λ (n : ℕ). length c.in-Some.entry.now.node.shape.path ≤ n) (sym c.requires.node.2) c.if-entry-depth.true in
+    let high = subst (λ (n : ℕ). length c.in-Some.entry.now.node.shape.path ≤ n) (sym c.requires.node.2) (subst (λ (m : ℕ). m ≤ c.args.depth) c.len-reached.ensures c.if-reached-depth.true) in
     sym (above_higher T c.requires.tree c.args.left c.args.node c.args.other c.requires.node.0 (seen c.in-Some.entry.now) c.requires.node.1 c.in-Some.ensures c.if-node-other.false high)
 
 pub returns-in-Some-parent : goal.returns-in-Some-parent
