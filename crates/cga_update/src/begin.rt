@@ -9,6 +9,7 @@ use crate::agenda::Agenda;
 use crate::changed::Symbols;
 use crate::log::{note_came, note_went};
 use crate::queue::{queue_changed, queue_moved, queue_near};
+use crate::renewal::Renewal;
 use crate::roots::{add_roots, remove_roots};
 use crate::work::Work;
 use cga_depend::Dependents;
@@ -59,15 +60,19 @@ pub fn begun<'a, T: Ledger>(
     alloc: Global,
     forest: Forest,
     dependents: &Dependents,
-    old: &'a Sources,
-    new: &'a Sources,
+    renewal: Renewal<'a>,
     tests: &mut Steps<T>,
 ) -> Result<Work<'a>, NoMemory>
-    requires stands { StandsMarked old.now new.now forest dependents.now }
-    ensures begun { IfOk result (λ work. HasBegun old.now new.now forest work) }
+    requires stands { StandsMarked renewal.old.now renewal.new.now forest dependents.now }
+    ensures begun { IfOk result (λ work. HasBegun renewal.entry.old.now renewal.entry.new.now forest work) }
     ensures mark { IfOk result (λ work. (c : ℕ) → marked_at work.forest c ≡ node_at forest c) }
-    ensures sources { IfOk result (λ work. IsBetween old.now new.now work) }
+    ensures sources { IfOk result (λ work. IsBetween renewal.entry.old.now renewal.entry.new.now work) }
 {
+    let Renewal {
+        old,
+        new,
+        budget: _,
+    } = renewal;
     let mut forest = forest;
     let mut symbols = Symbols::new(alloc);
     let mut agenda = Agenda::new(alloc, new.mode);

@@ -14,16 +14,16 @@ use Rattle.cga_update.proofs.begin.begun.Goals as goal
 
 pub remove_roots-requires : goal.remove_roots-requires
 remove_roots-requires g c = record {
-  known = c.new-symbols.ensures c.args.old.now.grammar c.args.new.now.grammar;
+  known = c.new-symbols.ensures c.args.renewal.old.now.grammar c.args.renewal.new.now.grammar;
   names = c.requires.stands.names;
   scopes = c.requires.stands.scopes;
-  lots = proof.has_old_lots c.args.old.now c.args.new.now c.args.forest c.args.dependents.now c.requires.stands;
+  lots = proof.has_old_lots c.args.renewal.old.now c.args.renewal.new.now c.args.forest c.args.dependents.now c.requires.stands;
 }
 
 pub returns-clause-begun : goal.returns-clause-begun
 returns-clause-begun g c =
-    let old = c.args.old.now in
-    let new = c.args.new.now in
+    let old = c.args.renewal.old.now in
+    let new = c.args.renewal.new.now in
     let first = c.args.forest in
     let d = c.args.dependents.now in
     let stands = c.requires.stands in
@@ -78,5 +78,5 @@ pub returns-clause-mark : goal.returns-clause-mark
 returns-clause-mark g c =
     let first = c.args.forest in
     let lost : HasLost (node_at first) c.remove_roots.new.forest c.remove_roots.new.went.items =
-    c.in_ok-remove_roots.ensures.lost (node_at first) (proof.nothing_lost c.args.old.now c.args.new.now first c.args.dependents.now c.new-went.result.items c.new-went.ensures.items c.requires.stands c.laws.ensures) in
+    c.in_ok-remove_roots.ensures.lost (node_at first) (proof.nothing_lost c.args.renewal.old.now c.args.renewal.new.now first c.args.dependents.now c.new-went.result.items c.new-went.ensures.items c.requires.stands c.laws.ensures) in
     λ k. c.in_ok-came.ensures.gains.marked lost.marking k ∙ lost.marked k
