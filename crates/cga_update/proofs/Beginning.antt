@@ -132,7 +132,7 @@ module _ (old new : Sources) (first v : ForestView) (d : DependentsView) (went c
 
   pub came_on : (c : ℕ) (x : Seen) → V c ≡ None → T c ≡ Some x → on_of v a c ≡ true
   came_on c x none at =
-      agenda.roots (moved_of c x) ((listed.each (moved_of c x)).1 (c, x, at, none, refl)) c x refl (at, ap is_instance (r.came c x none at).waits)
+      agenda.moved.roots (moved_of c x) ((listed.each (moved_of c x)).1 (c, x, at, none, refl)) c x refl (at, ap is_instance (r.came c x none at).waits)
 
   listed_under : (c : ℕ) (x : Seen) → V c ≡ Some x → is_instance x.node.kind ≡ false → Member (nodes_in d x.node.shape.symbol) c
   listed_under c x vc inner = member_of (nodes_in d x.node.shape.symbol) c
@@ -152,8 +152,8 @@ module _ (old new : Sources) (first v : ForestView) (d : DependentsView) (went c
   is_first : theory.IsFirstAgenda (shapes_of new) content (rules_of old) (rules_of new) (asks_by new.grammar) meets_box V T (on_of v a)
   is_first = record {
     came = came_on;
-    went = λ b c x y vb tb tc inner asks meet. agenda.near_went (moved_of b x) ((r.went.each (moved_of b x)).1 (b, x, vb, tb, refl)) c y (tc, inner) asks meet;
-    arrived = λ b c x y vb tb tc inner asks meet. agenda.near_came (moved_of b x) ((listed.each (moved_of b x)).1 (b, x, tb, vb, refl)) c y (tc, inner) asks meet;
+    went = λ b c x y vb tb tc inner asks meet. agenda.moved.near_went (moved_of b x) ((r.went.each (moved_of b x)).1 (b, x, vb, tb, refl)) c y (tc, inner) asks meet;
+    arrived = λ b c x y vb tb tc inner asks meet. agenda.moved.near_came (moved_of b x) ((listed.each (moved_of b x)).1 (b, x, tb, vb, refl)) c y (tc, inner) asks meet;
     changed = changed_on;
     priced = λ c p x e tc up te inner. elim (was_there c x tc (V c) refl) [
       | inl none ↦ none_some p (sym (r.came c x none tc).top ∙ up)

@@ -2,13 +2,14 @@
 use Rattle.std.proofs.Common.{◌≡◌, ◌⊎◌, inl, inr, ℕ, ◌+◌, ◌<◌, ◌≤◌, List, length, true, false, refl, sym, ap, ◌∙◌, subst, Some, None, arith}
 use Rattle.std.specs.Prelude.{is_some, slice_get}
 use Rattle.std.proofs.lemmas.Option.{slice_get_within}
-use Rattle.cga_frame.specs.Box.{Box}
+use Rattle.cga_frame.specs.Box.{Box, box_of}
 use Rattle.cga_index.specs.Tree.{Member}
 use Rattle.cga_order.specs.World.{Among}
 use Rattle.cga_derivation.proofs.Lists.{some_same, none_some}
 use Rattle.cga_forest.specs.declared.moved.Moved.{Moved}
 use Rattle.cga_forest.specs.Tree.{ForestView, above, node_at}
 use Rattle.cga_update.specs.Agenda.{AgendaView}
+use Rattle.cga_update.specs.Begun.{HasMoved}
 use Rattle.cga_update.specs.Near.{HasNear, HasParents, HasThese, KeepsOn}
 use Rattle.cga_update.specs.Queue.{chains_of, on_of}
 use Rattle.cga_update.proofs.DueNodes.{due_is}
@@ -93,3 +94,11 @@ no_node v id a is c q d e same was up w = none_some d (sym is ∙ (ap (node_at v
 
 pub parents_kept : (v : ForestView) (a b : AgendaView) → KeepsOn v a b → (These : ℕ → Type 0) → HasParents v These a → HasParents v These b
 parents_kept v a b kept These these c p d e h was up w = kept.on p (these c p d e h was up w)
+
+-- what is on the agenda of what moved stays on it
+pub moved_kept : (v : ForestView) (a b : AgendaView) → KeepsOn v a b → (went came : List Moved) → HasMoved v went came a → HasMoved v went came b
+moved_kept v a b keeps went came h = record {
+  roots = λ m among. these_kept v a b keeps (λ c. c ≡ m.id) (h.roots m among);
+  near_went = λ m among. near_kept v a b keeps (box_of m.scope) (h.near_went m among);
+  near_came = λ m among. near_kept v a b keeps (box_of m.scope) (h.near_came m among);
+}

@@ -18,7 +18,6 @@ use cga_key::StampKey;
 use cga_order::{Chain, cmp_stamp};
 use cga_shape::Kind;
 use cga_word::Mode;
-use std::alloc::Global;
 use std::cmp::Ordering;
 
 fn is_instance(node: &Node) -> bool
@@ -92,29 +91,23 @@ pub fn take(agenda: &mut Agenda, forest: &Forest) -> Option<NodeId>
 }
 
 /// Puts a node on it. Takes memory.
-pub fn add(agenda: &mut Agenda, alloc: Global, forest: &Forest, id: NodeId) -> Result<(), NoMemory>
+pub fn add(agenda: &mut Agenda, forest: &Forest, id: NodeId) -> Result<(), NoMemory>
     requires here { IsSome (chains_of forest.now id) }
     requires one { OneEach (chains_of forest.now) }
     ensures grows { OnOk result (Grows (chains_of forest.now) (λ c. c ≡ id) agenda.old agenda.new) }
     ensures there { OnOk result (on_of forest.now agenda.new id ≡ true) }
 {
-    agenda.put(alloc, &forest.chain(id), id)
+    agenda.put(&forest.chain(id), id)
 }
 
 /// Puts a node on it, if it comes later than another. Takes memory.
-fn add_later(
-    agenda: &mut Agenda,
-    alloc: Global,
-    forest: &Forest,
-    of: NodeId,
-    id: NodeId,
-) -> Result<(), NoMemory>
+fn add_later(agenda: &mut Agenda, forest: &Forest, of: NodeId, id: NodeId) -> Result<(), NoMemory>
     requires one { OneEach (chains_of forest.now) }
     ensures grows { OnOk result (Grows (chains_of forest.now) (ComesAfter forest.now agenda.old.mode of) agenda.old agenda.new) }
     ensures there { OnOk result (ComesAfter forest.now agenda.old.mode of id → on_of forest.now agenda.new id ≡ true) }
 {
     if is_later(agenda.mode(), forest, of, id) {
-        add(agenda, alloc, forest, id)?;
+        add(agenda, forest, id)?;
     }
     Ok(())
 }
@@ -122,7 +115,6 @@ fn add_later(
 /// Puts those of the nodes on it that come later than another. Takes memory.
 pub fn add_each(
     agenda: &mut Agenda,
-    alloc: Global,
     forest: &Forest,
     of: NodeId,
     ids: &[NodeId],
@@ -132,7 +124,7 @@ pub fn add_each(
     ensures there { OnOk result (HasLater forest.now agenda.old.mode of ids.now agenda.new) }
 {
     for id in ids {
-        add_later(agenda, alloc, forest, of, *id)?;
+        add_later(agenda, forest, of, *id)?;
     }
     Ok(())
 }

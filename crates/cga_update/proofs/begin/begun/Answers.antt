@@ -3,11 +3,12 @@ use Rattle.cga_forest.specs.declared.moved.Moved.{Moved}
 use Rattle.cga_forest.specs.Tree.{marked_at, node_at}
 use Rattle.cga_update.specs.declared.log.Pairing.{Pairing}
 use Rattle.cga_update.specs.Agenda.{AgendaView}
-use Rattle.cga_update.specs.Begun.{IsFirst}
+use Rattle.cga_update.specs.Begun.{HasMoved, IsFirst}
 use Rattle.cga_update.specs.Log.{IsLogged}
 use Rattle.cga_update.specs.Roots.{HasLost}
 use Rattle.cga_update.proofs.Beginning as proof
 use Rattle.cga_update.proofs.Logged.{drawn_from, log_from}
+use Rattle.cga_update.proofs.Nearby.{moved_kept}
 use Rattle.cga_update.proofs.Rooting.{still, wanted_after}
 use Rattle.cga_update.proofs.Unkept.{all_came, first_due, is_zero}
 use Rattle.cga_update.proofs.begin.begun.Goals as goal
@@ -29,7 +30,7 @@ returns-clause-begun g c =
     let stands = c.requires.stands in
     let before = c.remove_roots.new.forest in
     let v = c.add_roots.new.forest in
-    let a = c.first_agenda.new.agenda in
+    let a = c.queue_changed.new.agenda in
     let went = c.remove_roots.new.went.items in
     let came = c.in_ok-came.came.items in
     let first_laws = c.laws.ensures in
@@ -42,9 +43,11 @@ returns-clause-begun g c =
     let listed = proof.came_since (node_at first) before v went came lost keeps c.in_ok-came.ensures.came in
     let wanted = wanted_after new before v c.in_ok-remove_roots.ensures.wanted gains in
     let there = c.in_ok-came.ensures.there in
-    let agenda : IsFirst old new v d went came a =
-    subst (λ (list : List Moved). IsFirst old new v d list came a) c.as_slice-went_nodes.ensures.value
-    (subst (λ (list : List Moved). IsFirst old new v d c.as_slice-went_nodes.result.now list a) c.as_slice-came_nodes.ensures.value c.in_ok-priced.ensures.first) in
+    let moved : HasMoved v went came a =
+    moved_kept v c.queue_rooted.new.agenda a c.in_ok-priced.ensures.kept went came
+    (subst (λ (list : List Moved). HasMoved v list came c.queue_rooted.new.agenda) c.as_slice-went_nodes.ensures.value
+    (subst (λ (list : List Moved). HasMoved v c.as_slice-went_nodes.result.now list c.queue_rooted.new.agenda) c.as_slice-came_nodes.ensures.value c.in_ok-queue_rooted.ensures.moved)) in
+    let agenda : IsFirst old new v d went came a = record { moved = moved; changed = c.in_ok-priced.ensures.there; priced = c.in_ok-priced.ensures.parents } in
     let begins = proof.begins old new first v d went came a stands r listed wanted there first_laws laws agenda in
     let lost_list = proof.lost old new first v d went came a stands r listed wanted there first_laws laws agenda in (
       proof.first_state old new first v d went came a stands r listed wanted there first_laws laws agenda,
@@ -53,7 +56,7 @@ returns-clause-begun g c =
         old_names = stands.old_names;
         names = stands.names;
         mode = c.in_ok-came.ensures.mode ∙ (c.in_ok-remove_roots.ensures.mode ∙ stands.mode);
-        agenda_mode = c.in_ok-priced.ensures.mode ∙ ap (λ (x : AgendaView). x.mode) c.new-agenda.ensures;
+        agenda_mode = c.in_ok-priced.ensures.kept.mode ∙ c.in_ok-queue_rooted.ensures.mode ∙ ap (λ (x : AgendaView). x.mode) c.new-agenda.ensures;
         nodes = refl;
         underway = begins.0;
         queued = begins.1.1;
