@@ -5,8 +5,9 @@ ghost use Rattle.cga_update.specs.Begun.{HasBegun, HasMoved, IsBetween, StandsMa
 
 use crate::agenda::Agenda;
 use crate::changed::Symbols;
+use crate::due::add_moved;
 use crate::log::{note_came, note_went};
-use crate::queue::{queue_changed, queue_moved, queue_near};
+use crate::queue::{queue_changed, queue_near};
 use crate::renewal::Renewal;
 use crate::roots::{add_roots, remove_roots};
 use crate::work::Work;
@@ -27,7 +28,8 @@ fn queue_rooted<T: Ledger>(
     ensures moved { OnOk result (HasMoved forest.now went.now came.now agenda.new) }
     ensures mode { OnOk result (agenda.new.mode ≡ agenda.old.mode) }
 {
-    queue_moved(agenda, forest, came)?;
+    forest.laws();
+    add_moved(agenda, forest, came)?;
     queue_near(agenda, forest, went, tests)?;
     queue_near(agenda, forest, came, tests)?;
     Ok(())

@@ -2,6 +2,8 @@
 ghost use Rattle.std.specs.Prelude.{◌≡◌, true, IfSome, IfNone, IsSome, is_some, OnOk};
 ghost use Rattle.cga_order.specs.World as world;
 ghost use Rattle.std.specs.Ordering.{is_eq};
+ghost use Rattle.cga_order.specs.World.{Among};
+ghost use Rattle.cga_forest.specs.declared.moved.Moved.{Moved as Mover};
 ghost use Rattle.cga_order.specs.Chain.{Chain as Along, IsWhole};
 ghost use Rattle.cga_order.specs.Seen.{chain_of};
 ghost use Rattle.cga_order.specs.Stamp.{stamp_cmp};
@@ -11,7 +13,7 @@ ghost use Rattle.cga_update.specs.Due.{ComesAfter, HasLater};
 ghost use Rattle.cga_update.specs.Queue.{chains_of, on_of};
 
 use crate::agenda::Agenda;
-use cga_forest::{Forest, Node};
+use cga_forest::{Forest, Moved, Node};
 use cga_fraction::NoMemory;
 use cga_index::NodeId;
 use cga_key::StampKey;
@@ -98,6 +100,30 @@ pub fn add(agenda: &mut Agenda, forest: &Forest, id: NodeId) -> Result<(), NoMem
     ensures there { OnOk result (on_of forest.now agenda.new id ≡ true) }
 {
     agenda.put(&forest.chain(id), id)
+}
+
+/// Puts a node on it, where it is there and is no instance. Takes memory.
+pub fn add_worked(agenda: &mut Agenda, forest: &Forest, id: NodeId) -> Result<(), NoMemory>
+    requires one { OneEach (chains_of forest.now) }
+    ensures grows { OnOk result (Grows (chains_of forest.now) (λ c. id ≡ c) agenda.old agenda.new) }
+    ensures there { OnOk result (IsSome (chains_of forest.now id) → on_of forest.now agenda.new id ≡ true) }
+{
+    if is_worked(forest, id) {
+        add(agenda, forest, id)?;
+    }
+    Ok(())
+}
+
+/// Puts these nodes on it, where they are there and are no instances. Takes memory.
+pub fn add_moved(agenda: &mut Agenda, forest: &Forest, moved: &[Moved]) -> Result<(), NoMemory>
+    requires one { OneEach (chains_of forest.now) }
+    ensures grows { OnOk result (Grows (chains_of forest.now) (λ c. (m : Mover) × Among m moved.now × (m.id ≡ c)) agenda.old agenda.new) }
+    ensures there { OnOk result ((m : Mover) → Among m moved.now → IsSome (chains_of forest.now m.id) → on_of forest.now agenda.new m.id ≡ true) }
+{
+    for node in moved {
+        add_worked(agenda, forest, node.id)?;
+    }
+    Ok(())
 }
 
 /// Puts a node on it, if it comes later than another. Takes memory.

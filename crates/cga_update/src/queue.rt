@@ -11,7 +11,7 @@ ghost use Rattle.cga_depend.specs.Pairs.{nodes_in};
 use crate::agenda::Agenda;
 use crate::askers::askers_near;
 use crate::changed::Symbols;
-use crate::due::{add, is_worked};
+use crate::due::add_worked;
 use crate::renewal::Renewal;
 use cga_depend::Dependents;
 use cga_forest::{Forest, Moved};
@@ -26,10 +26,7 @@ pub fn queue(agenda: &mut Agenda, forest: &Forest, id: NodeId) -> Result<(), NoM
     ensures there { OnOk result (HasThese forest.now (λ c. c ≡ id) agenda.new) }
 {
     forest.laws();
-    if !is_worked(forest, id) {
-        return Ok(());
-    }
-    add(agenda, forest, id)
+    add_worked(agenda, forest, id)
 }
 
 /// Puts nodes on it, those that are there and are no instances. Takes memory.
@@ -55,17 +52,6 @@ pub fn queue_near<T: Ledger>(
 {
     let askers = askers_near(agenda.alloc(), forest, moved, tests)?;
     queue_all(agenda, forest, askers.as_slice())
-}
-
-/// Puts these nodes on it, where they are there and are no instances. Takes memory.
-pub fn queue_moved(agenda: &mut Agenda, forest: &Forest, moved: &[Moved]) -> Result<(), NoMemory>
-    ensures kept { OnOk result (KeepsOn forest.now agenda.old agenda.new) }
-    ensures there { OnOk result ((m : Moved) → Among m moved.now → HasThese forest.now (λ c. c ≡ m.id) agenda.new) }
-{
-    for node in moved {
-        queue(agenda, forest, node.id)?;
-    }
-    Ok(())
 }
 
 /// Puts the parent of a node on it, where there is one. Takes memory.
