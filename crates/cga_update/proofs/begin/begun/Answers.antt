@@ -9,7 +9,7 @@ use Rattle.cga_update.specs.Roots.{HasLost}
 use Rattle.cga_update.proofs.Beginning as proof
 use Rattle.cga_update.proofs.Logged.{drawn_from, log_from}
 use Rattle.cga_update.proofs.Nearby.{moved_kept}
-use Rattle.cga_update.proofs.Rooting.{still, wanted_after}
+use Rattle.cga_update.proofs.Rooting.{IsRooted, still, wanted_after}
 use Rattle.cga_update.proofs.Unkept.{all_came, first_due, is_zero}
 use Rattle.cga_update.proofs.begin.begun.Goals as goal
 
@@ -48,9 +48,19 @@ returns-clause-begun g c =
     (subst (λ (list : List Moved). HasMoved v list came c.queue_rooted.new.agenda) c.as_slice-went_nodes.ensures.value
     (subst (λ (list : List Moved). HasMoved v c.as_slice-went_nodes.result.now list c.queue_rooted.new.agenda) c.as_slice-came_nodes.ensures.value c.in_ok-queue_rooted.ensures.moved)) in
     let agenda : IsFirst old new v d went came a = record { moved = moved; changed = c.in_ok-priced.ensures.there; priced = c.in_ok-priced.ensures.parents } in
-    let begins = proof.begins old new first v d went came a stands r listed wanted there first_laws laws agenda in
-    let lost_list = proof.lost old new first v d went came a stands r listed wanted there first_laws laws agenda in (
-      proof.first_state old new first v d went came a stands r listed wanted there first_laws laws agenda,
+    let start : IsRooted old new first v d went came a = record {
+      stands = stands;
+      roots = r;
+      listed = listed;
+      wanted = wanted;
+      there = there;
+      first_laws = first_laws;
+      laws = laws;
+      agenda = agenda;
+    } in
+    let begins = proof.begins start in
+    let lost_list = proof.lost start in (
+      proof.first_state start,
       record {
         edit_is = refl;
         old_names = stands.old_names;
@@ -60,21 +70,21 @@ returns-clause-begun g c =
         nodes = refl;
         underway = begins.0;
         queued = begins.1.1;
-        due = λ is. first_due old new first v d went came a stands r listed wanted there first_laws laws agenda (all_came (node_at first) before v keeps (is_zero c.count-askers_due.result _ c.count-askers_due.ensures is)) new.mode;
-        priced = λ is. proof.priced_now old new first v d went came a stands r listed wanted there first_laws laws agenda (c.in_ok-priced.ensures.priced is);
-        silent = proof.silent_now old new first v d went came a stands r listed wanted there first_laws laws agenda;
-        plain = proof.plain_now old new first v d went came a stands r listed wanted there first_laws laws agenda;
+        due = λ is. first_due start (all_came (node_at first) before v keeps (is_zero c.count-askers_due.result _ c.count-askers_due.ensures is)) new.mode;
+        priced = λ is. proof.priced_now start (c.in_ok-priced.ensures.priced is);
+        silent = proof.silent_now start;
+        plain = proof.plain_now start;
         gone = drawn_from c.note_went.new.gone.items c.new-gone.result.items c.as_slice-went_nodes.result.now went c.in_ok-note_went.ensures.gone c.new-gone.ensures.items c.as_slice-went_nodes.ensures.value ∙ sym lost_list.2;
         come = drawn_from c.note_came.new.come.items c.new-come.result.items c.as_slice-came_nodes.result.now came c.in_ok-note_came.ensures.come c.new-come.ensures.items c.as_slice-came_nodes.ensures.value
-            ∙ proof.came_drawn old new first v d went came a stands r listed wanted there first_laws laws agenda;
+            ∙ proof.came_drawn start;
         known = c.in_ok-priced.ensures.known;
         marked = r.marking;
         logged = subst (λ (log : List Pairing). IsLogged (marked_at v) (node_at v) log)
             (sym (log_from c.note_came.new.log.items c.note_went.new.log.items c.new-log.result.items c.as_slice-went_nodes.result.now c.as_slice-came_nodes.result.now went came
             c.in_ok-note_came.ensures.log c.in_ok-note_went.ensures.log c.new-log.ensures.items c.as_slice-went_nodes.ensures.value c.as_slice-came_nodes.ensures.value))
-            (proof.logged old new first v d went came a stands r listed wanted there first_laws laws agenda);
+            (proof.logged start);
       },
-      proof.is_ready old new first v d went came a stands r listed wanted there first_laws laws agenda,
+      proof.is_ready start,
     )
 
 pub returns-clause-mark : goal.returns-clause-mark
