@@ -1,5 +1,5 @@
 -- A root's hull is the least box that holds the boxes of all members of its lot, and each lot has a root.
-use Rattle.std.proofs.Common.{◌≡◌, ◌↔◌, ℕ, zero, suc, List, [], ◌∷◌, ◌++◌, true, false, inl, inr, refl, sym, ap, ◌∙◌, subst, Option, Some, None, Result, Ok, Err, slice_get, ◌<◌, length, arith}
+use Rattle.std.proofs.Common.{◌≡◌, ◌↔◌, ℕ, zero, suc, List, [], ◌∷◌, ◌++◌, true, false, inl, inr, refl, sym, ap, ◌∙◌, subst, Some, Result, Ok, Err, slice_get, ◌<◌, length, arith}
 use Rattle.std.specs.Prelude.{IsOk, slice_index_or}
 use Rattle.std.proofs.lemmas.Option.{slice_get-get_or}
 use Rattle.std.specs.List.{AllByRecursion}
@@ -12,18 +12,17 @@ use Rattle.cga_shape.specs.declared.lot.Lot.{Lot}
 use Rattle.cga_shape.specs.declared.shape.Shape.{Shape}
 use Rattle.cga_shape.specs.declared.sources.Sources.{Sources}
 use Rattle.cga_shape.specs.Root.{root_in, root_of, root_scope}
-use Rattle.cga_depend.specs.Pairs.{DependentsView}
 use Rattle.cga_expand.specs.Children.{Member}
 use Rattle.cga_expand.specs.Derivation.{made, roots_of}
 use Rattle.cga_index.specs.Tree as trees
 use Rattle.cga_index.specs.Tree.{below}
 use Rattle.cga_index.proofs.Levels.{in_at, in_flat, in_some}
 use Rattle.cga_forest.specs.Node.{bounds}
-use Rattle.cga_forest.specs.View.{Seen}
 use Rattle.cga_forest.specs.Tree.{ForestView, IsForest, IsLeastHull, IsRootOf, children_at, node_at, under}
 use Rattle.cga_forest.specs.Walked.{forest_tree}
 use Rattle.cga_forest.proofs.Tops.{at_member}
 use Rattle.cga_forest.proofs.Walk.{under_cases, under_child, under_none, under_self}
+use Rattle.cga_update.specs.declared.kept.Kept.{Kept}
 use Rattle.cga_update.specs.Stands.{Stands}
 use Rattle.cga_city.specs.City.{CityState}
 use Rattle.cga_city.specs.Hulls.{IsHullOf}
@@ -93,8 +92,8 @@ good_at [] good i lot at = cc
 good_at (x ∷ lots) good zero lot at = let same : x ≡ lot = cc in subst (λ (l : Lot). is_bad l ≡ false) same good.0
 good_at (x ∷ lots) good (suc i) lot at = good_at lots good.1 i lot at
 
-pub has_root : (s : Sources) → AreSound s → (v : ForestView) (d : DependentsView) → Stands s v d → (i : ℕ) (lot : Lot) → slice_get s.lots i ≡ Some lot → (c : ℕ) × IsRootOf (node_at v) lot.name c
-has_root s sound v d stands i lot at =
+pub has_root : (s : Sources) → AreSound s → (kept : Kept) → Stands s kept → (i : ℕ) (lot : Lot) → slice_get s.lots i ≡ Some lot → (c : ℕ) × IsRootOf (node_at kept.forest) lot.name c
+has_root s sound kept stands i lot at =
     let good = good_at s.lots (recursion_from_All (λ (l : Lot). is_bad l ≡ false) s.lots sound.good) i lot at in
     let root = root_by lot (root_scope lot) refl (good_root lot good) in
     let top = stands.forest.nodes.city.tops.tops root.0 (root_among s.lots i lot root.0 at root.1) in

@@ -1,8 +1,7 @@
 -- What a city keeps: its forest has the members of its derivation, before and after an edit.
-use Rattle.std.proofs.Common.{◌≡◌, ℕ, ◌+◌, ◌≤◌, List, [], length, Bool, true, false, Some, None, Ok, refl, sym, ap, ◌∙◌, subst, arith}
+use Rattle.std.proofs.Common.{◌≡◌, ℕ, ◌+◌, ◌≤◌, List, [], length, Bool, true, Some, None, Ok, refl, sym, ap, ◌∙◌, subst, arith}
 use Rattle.std.specs.List.{IsDistinct}
 use Rattle.cga_check.specs.Faults.{check_fault, each_after}
-use Rattle.cga_word.specs.declared.mode.Mode.TheVariants.{Breadth}
 use Rattle.cga_shape.specs.declared.changes.Changes.{Changes}
 use Rattle.cga_shape.specs.declared.edit.Edit.{Edit}
 use Rattle.cga_shape.specs.declared.edit_refused.EditRefused.TheVariants.{OverBudget}
@@ -10,11 +9,10 @@ use Rattle.cga_shape.specs.declared.sources.Sources.{Sources}
 use Rattle.cga_derivation.specs.Derivation.{derive, AllApart, IsDerived, NothingWaits}
 use Rattle.cga_derivation.proofs.One.{one, within}
 use Rattle.cga_derivation.proofs.Derived.{derived_consistent}
-use Rattle.cga_depend.specs.Pairs.{DependentsView}
 use Rattle.cga_expand.specs.Children.{Member}
 use Rattle.cga_expand.specs.Derivation.{derivation_of}
 use Rattle.cga_expand.proofs.Instance.{sources_are_derivations}
-use Rattle.cga_forest.specs.Tree.{ForestView}
+use Rattle.cga_update.specs.declared.kept.Kept.{Kept}
 use Rattle.cga_update.specs.Stands.{Stands}
 use Rattle.cga_update.specs.Updates.{IsExact}
 use Rattle.cga_update.proofs.Standing.{standing_is_derived}
@@ -22,7 +20,7 @@ use Rattle.cga_update.proofs.Fresh.{fresh_stands, no_nodes}
 use Rattle.cga_depend.specs.Mentions.{mentioning}
 use Rattle.cga_word.specs.declared.mode.Mode.{Mode}
 use Rattle.cga_city.specs.Apply.{changed}
-use Rattle.cga_city.specs.City.{CityState, IsDone, IsRefused, empty_sources}
+use Rattle.cga_city.specs.City.{CityState, IsDone, IsRefused, empty_in, empty_sources}
 use Rattle.cga_city.specs.Derived.{derived, members}
 use Rattle.cga_city.specs.Inside.{AreSound}
 use Rattle.cga_city.specs.Kept.{IsCity}
@@ -39,11 +37,11 @@ pub derived_is : (s : Sources) → AreSound s → (budget : ℕ) (list : List Me
 derived_is s sound budget list h = within (derivation_of s) (sources_are_derivations s (names_differ s.lots sound.names)) budget list (the_list budget s list h)
 
 -- the forest has the members of the derivation
-pub has_nodes : (s : Sources) (budget : ℕ) (list : List Member) (v : ForestView) (d : DependentsView) → AreSound s → derived budget s ≡ Some list → Stands s v d → HasNodes v list
-has_nodes s budget list v d sound h stands =
+pub has_nodes : (s : Sources) (budget : ℕ) (list : List Member) (kept : Kept) → AreSound s → derived budget s ≡ Some list → Stands s kept → HasNodes kept.forest list
+has_nodes s budget list kept sound h stands =
     let names = names_differ s.lots sound.names in
     let is = derived_is s sound budget list h in
-    let same = standing_is_derived s v names stands.forest list is in
+    let same = standing_is_derived s kept.forest names stands.forest list is in
     let quiet = subst (NothingWaits (derivation_of s)) is.1 is.2 in
     let apart = subst (AllApart (derivation_of s)) (sym is.1) (derived_consistent (derivation_of s) (sources_are_derivations s names) is.0 quiet).apart in
     record {
@@ -53,29 +51,26 @@ has_nodes s budget list v d sound h stands =
     }
 
 -- and in the words of a city's members
-pub has_members : (s : Sources) (budget : ℕ) (warm : Bool) (v : ForestView) (d : DependentsView) → IsCity s budget warm v d → warm ≡ true → HasNodes v (members budget s)
-has_members s budget warm v d city on =
-    subst (HasNodes v) (sym (members_are budget s city.within.0 city.within.1)) (has_nodes s budget city.within.0 v d city.sound city.within.1 (city.stands on))
+pub has_members : (s : Sources) (budget : ℕ) (warm : Bool) (kept : Kept) → IsCity s budget warm kept → warm ≡ true → HasNodes kept.forest (members budget s)
+has_members s budget warm kept city on =
+    subst (HasNodes kept.forest) (sym (members_are budget s city.within.0 city.within.1)) (has_nodes s budget city.within.0 kept city.sound city.within.1 (city.stands on))
 
 -- ---- the first city
 
-abbrev pub nothing : Mode → Sources
-nothing mode = record { grammar = record { attributes = []; rules = [] }; lots = []; mode = mode }
-
-no_mention : (mode : Mode) (a : List ℕ) → [] ≡ mentioning (nothing mode).grammar a
+no_mention : (mode : Mode) (a : List ℕ) → [] ≡ mentioning (empty_in mode).grammar a
 unfolding mentioning
 no_mention mode a = refl
 
--- a new forest and new dependents stand for sources without lots and rules
-pub nothing_stands : (mode : Mode) → Stands (nothing mode) (no_nodes mode) (record { nodes = []; mentions = [] })
-nothing_stands mode = fresh_stands (nothing mode) (nothing mode) refl (no_nodes mode) refl (record { nodes = []; mentions = [] }) refl (no_mention mode)
+-- a new forest and new dependents stand for sources without attributes, rules and lots
+pub nothing_stands : (mode : Mode) → Stands (empty_in mode) (record { forest = no_nodes mode; dependents = record { nodes = []; mentions = [] } })
+nothing_stands mode = fresh_stands (empty_in mode) (no_nodes mode) refl (record { nodes = []; mentions = [] }) refl (no_mention mode)
 
 pub empty_sound : AreSound empty_sources
 unfolding IsDistinct check_fault each_after
 empty_sound = record { grammar = refl; rising = tt; few = omega arith; names = tt; good = λ k d h. absurd (omega arith); plain = λ k d h. absurd (omega arith) }
 
-pub empty_city_is : (budget : ℕ) → IsCity empty_sources budget true (record { slots = []; marking = false; roots = []; marked_roots = []; mode = Breadth }) (record { nodes = []; mentions = [] })
-empty_city_is budget = record { sound = empty_sound; within = ([], empty_derived budget); stands = λ on. nothing_stands Breadth }
+pub empty_city_is : (budget : ℕ) (kept : Kept) → Stands empty_sources kept → IsCity empty_sources budget true kept
+empty_city_is budget kept stands = record { sound = empty_sound; within = ([], empty_derived budget); stands = λ on. stands }
 
 -- ---- edits
 
@@ -116,8 +111,8 @@ over_gives s new e budget x y k warm old made over later most = record {
 pub warm_inside : (old now : CityState) → old ≡ now → now.warm ≡ true → old.warm ≡ true
 warm_inside old now same on = ap (λ (v : CityState). v.warm) same ∙ on
 
-pub few_there : (s : Sources) (budget : ℕ) (warm : Bool) (v : ForestView) (d : DependentsView) → IsCity s budget warm v d → length (members budget s) ≤ budget
-few_there s budget warm v d city = subst (λ (l : List Member). length l ≤ budget) (sym (members_are budget s city.within.0 city.within.1)) (few_members budget s city.within.0 city.within.1)
+pub few_there : (s : Sources) (budget : ℕ) (warm : Bool) (kept : Kept) → IsCity s budget warm kept → length (members budget s) ≤ budget
+few_there s budget warm kept city = subst (λ (l : List Member). length l ≤ budget) (sym (members_are budget s city.within.0 city.within.1)) (few_members budget s city.within.0 city.within.1)
 
-pub members_sound : (s : Sources) (budget : ℕ) (warm : Bool) (v : ForestView) (d : DependentsView) → IsCity s budget warm v d → AllSound (members budget s)
-members_sound s budget warm v d city = subst AllSound (sym (members_are budget s city.within.0 city.within.1)) (derived_sound budget s city.within.0 city.within.1)
+pub members_sound : (s : Sources) (budget : ℕ) (warm : Bool) (kept : Kept) → IsCity s budget warm kept → AllSound (members budget s)
+members_sound s budget warm kept city = subst AllSound (sym (members_are budget s city.within.0 city.within.1)) (derived_sound budget s city.within.0 city.within.1)

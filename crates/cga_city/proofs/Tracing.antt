@@ -1,13 +1,12 @@
 -- A warm city's forest tells the run of its sources.
 use Rattle.std.proofs.Common.{◌≡◌, ℕ, Bool, true, List, Some, subst}
-use Rattle.cga_derivation.specs.Derivation.{derive, reached, NothingWaits}
+use Rattle.cga_derivation.specs.Derivation.{derive, NothingWaits}
 use Rattle.cga_derivation.proofs.One.{within}
 use Rattle.cga_shape.specs.declared.sources.Sources.{Sources}
-use Rattle.cga_depend.specs.Pairs.{DependentsView}
 use Rattle.cga_expand.specs.Children.{Member}
 use Rattle.cga_expand.specs.Derivation.{derivation_of}
 use Rattle.cga_expand.proofs.Instance.{sources_are_derivations}
-use Rattle.cga_forest.specs.Tree.{ForestView}
+use Rattle.cga_update.specs.declared.kept.Kept.{Kept}
 use Rattle.cga_trace.specs.Order.{IsKnown}
 use Rattle.cga_city.specs.Derived.{derived}
 use Rattle.cga_city.specs.Kept.{IsCity}
@@ -17,8 +16,8 @@ was_derived : (budget : ℕ) (s : Sources) (list : List Member) → derived budg
 unfolding derived
 was_derived budget s list h = h
 
-pub known : (s : Sources) (budget : ℕ) (warm : Bool) (v : ForestView) (d : DependentsView) → IsCity s budget warm v d → warm ≡ true → (n : ℕ) × IsKnown s n v
-known s budget warm v d city on =
+pub known : (s : Sources) (budget : ℕ) (warm : Bool) (kept : Kept) → IsCity s budget warm kept → warm ≡ true → (n : ℕ) × IsKnown s n kept.forest
+known s budget warm kept city on =
     let names = names_differ s.lots city.sound.names in
     let is = within (derivation_of s) (sources_are_derivations s names) budget city.within.0 (was_derived budget s city.within.0 city.within.1) in
     let stands = (city.stands on).forest in (

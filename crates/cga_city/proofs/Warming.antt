@@ -19,12 +19,12 @@ use Rattle.cga_expand.specs.Derivation.{derivation_of}
 use Rattle.cga_expand.specs.Touched.{Kept, NonInstance, Touched}
 use Rattle.cga_expand.proofs.Instance.{sources_are_derivations}
 use Rattle.cga_update.specs.Updates.{CountsTouched, IsExact, with_no_lots}
-use Rattle.cga_city.specs.City.{IsWarmed}
+use Rattle.cga_city.specs.City.{IsWarmed, empty_in}
 use Rattle.cga_city.specs.Derived.{members}
 use Rattle.cga_city.specs.Inside.{AreSound}
 use Rattle.cga_city.specs.Reports.{expanded_count}
 use Rattle.cga_city.proofs.Deriving.{bare_derived, bare_reached, is_derived, members_are}
-use Rattle.cga_city.proofs.Kept.{derived_is, nothing}
+use Rattle.cga_city.proofs.Kept.{derived_is}
 use Rattle.cga_city.proofs.Names.{names_differ}
 
 -- ---- the shapes that expand
@@ -88,17 +88,17 @@ counts_expanding old s after n once c =
 -- ---- a city
 
 -- what an update from nothing counted is what the city expands
-pub warmed : (s : Sources) (budget n x y k : ℕ) (warm : Bool) (old changes : Changes) → AreSound s → IsExact (nothing s.mode) s budget n changes → y ≡ x + n
+pub warmed : (s : Sources) (budget n x y k : ℕ) (warm : Bool) (old changes : Changes) → AreSound s → IsExact (empty_in s.mode) s budget n changes → y ≡ x + n
     → IsWarmed (record { sources = s; budget = budget; warm = warm; expanded = k; changes = old }) x y
 warmed s budget n x y k warm old changes sound exact spent =
     let fits = is_derived budget s (Some exact.1) exact.3 in
     let is = derived_is s sound budget exact.1 fits in
     let bare : exact.0 ≡ [] = exact.2.1 ∙ bare_reached _ s.mode exact.2.0 in
-    let counted = subst (λ (before : List Member). CountsTouched (nothing s.mode) s before exact.1 n) bare exact.4 in
+    let counted = subst (λ (before : List Member). CountsTouched (empty_in s.mode) s before exact.1 n) bare exact.4 in
     let once = subst (λ (list : List Member). Once (shapes_of list)) (sym is.1) (reached_once s sound is.0) in
     let all = members_are budget s exact.1 fits in
-    let number : n ≡ expanded_count (members budget s) = counts_expanding (nothing s.mode) s exact.1 n once counted ∙ ap expanded_count (sym all) in
-    let touched = counts_from (nothing s.mode) (with_no_lots s) s exact.1 n counted in
+    let number : n ≡ expanded_count (members budget s) = counts_expanding (empty_in s.mode) s exact.1 n once counted ∙ ap expanded_count (sym all) in
+    let touched = counts_from (empty_in s.mode) (with_no_lots s) s exact.1 n counted in
     record {
       spent = spent ∙ ap (λ c. x + c) number;
       touched = rw (← number, members_are budget (with_no_lots s) [] (bare_derived s.grammar s.mode budget), all) touched;

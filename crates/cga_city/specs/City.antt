@@ -1,6 +1,7 @@
 -- A city as contracts see it, and what an edit gives.
 use Rattle.std.specs.Prelude.{◌≡◌, ◌≢◌, ℕ, ◌+◌, ◌≤◌, [], Bool, true, bytes_eq, Result, Ok, Err}
 use Rattle.std.specs.List.{IsDistinct}
+use Rattle.cga_word.specs.declared.mode.Mode.{Mode}
 use Rattle.cga_word.specs.declared.mode.Mode.TheVariants.{Breadth}
 use Rattle.cga_shape.specs.declared.changes.Changes as record_of
 use Rattle.cga_shape.specs.declared.edit.Edit.{Edit}
@@ -24,8 +25,11 @@ pub record CityState : Type 0 where
   pub changes : record_of.Changes
 
 -- no attributes, rules or lots
+abbrev pub empty_in : Mode → Sources
+empty_in mode = record { grammar = record { attributes = []; rules = [] }; lots = []; mode = mode }
+
 abbrev pub empty_sources : Sources
-empty_sources = record { grammar = record { attributes = []; rules = [] }; lots = []; mode = Breadth }
+empty_sources = empty_in Breadth
 
 -- a city without lots
 abbrev pub empty_city : ℕ → CityState

@@ -11,17 +11,16 @@ ghost use Rattle.cga_city.specs.Lots.{names_of};
 ghost use Rattle.cga_city.specs.Reports as spec;
 
 use crate::edits::changed_sources;
+use crate::empty::{empty_sources, no_changes, no_shapes};
 use crate::no_lot::NoLot;
 use crate::reports::{all_faults, told};
 use crate::tally::tally_all;
-use cga_depend::Dependents;
-use cga_forest::Forest;
 use cga_fraction::{List, NoMemory, Steps};
 use cga_frame::WorldBox;
 use cga_rule::Grammar;
 use cga_shape::{Changes, Counts, Drawn, Edit, EditRefused, FaultLine, Lot, Sources, TraceStep};
 use cga_trace::trace;
-use cga_update::{UpdateRefused, update};
+use cga_update::{Kept, Renewal, UpdateRefused, update};
 use cga_word::{Mode, Name};
 use std::alloc::Global;
 use std::marker::Model;
@@ -33,8 +32,7 @@ pub struct City {
     alloc: Global,
     sources: Sources,
     budget: u32,
-    forest: Forest,
-    dependents: Dependents,
+    kept: Kept,
     changes: Changes,
     expanded: u64,
     warm: bool,
@@ -57,30 +55,7 @@ impl Model for City {
 
     ghost view = { λ c. record { sources = c.sources; budget = c.budget; warm = c.warm; expanded = c.expanded; changes = c.changes } };
 
-    ghost invariant = { λ c. IsCity c.sources c.budget c.warm c.forest c.dependents };
-}
-
-// Sources without attributes, rules and lots. Takes no memory.
-fn empty_sources(alloc: Global, mode: Mode) -> Sources
-    ensures { result ≡ record { grammar = record { attributes = []; rules = [] }; lots = []; mode = mode } }
-{
-    Sources {
-        grammar: Grammar {
-            attributes: List::new(alloc),
-            rules: List::new(alloc),
-        },
-        lots: List::new(alloc),
-        mode,
-    }
-}
-
-fn no_changes(alloc: Global) -> Changes
-    ensures { result ≡ record { gone = []; come = [] } }
-{
-    Changes {
-        gone: List::new(alloc),
-        come: List::new(alloc),
-    }
+    ghost invariant = { λ c. IsCity c.sources c.budget c.warm c.kept };
 }
 
 impl City {
@@ -92,8 +67,7 @@ impl City {
             alloc,
             sources: empty_sources(alloc, Mode::Breadth),
             budget,
-            forest: Forest::new(alloc, Mode::Breadth),
-            dependents: Dependents::new(alloc),
+            kept: no_shapes(alloc, Mode::Breadth),
             changes: no_changes(alloc),
             expanded: 0,
             warm: true,
@@ -116,15 +90,16 @@ impl City {
             Ok(new) => new,
             Err(refused) => return Err(refused),
         };
-        let budget = self.budget;
+        let renewal = Renewal {
+            old: &self.sources,
+            new: &new,
+            budget: self.budget,
+        };
         let mut changes = no_changes(self.alloc);
         match update(
             self.alloc,
-            &mut self.forest,
-            &mut self.dependents,
-            &self.sources,
-            &new,
-            budget,
+            &mut self.kept,
+            renewal,
             &mut changes,
             expansions,
             tests,
@@ -170,16 +145,17 @@ impl City {
         }
         let (alloc, mode) = (self.alloc, self.sources.mode);
         let empty = empty_sources(alloc, mode);
+        let renewal = Renewal {
+            old: &empty,
+            new: &self.sources,
+            budget: self.budget,
+        };
         let mut changes = no_changes(alloc);
-        self.forest = Forest::new(alloc, mode);
-        self.dependents = Dependents::new(alloc);
+        self.kept = no_shapes(alloc, mode);
         match update(
             alloc,
-            &mut self.forest,
-            &mut self.dependents,
-            &empty,
-            &self.sources,
-            self.budget,
+            &mut self.kept,
+            renewal,
             &mut changes,
             expansions,
             tests,
@@ -201,7 +177,12 @@ impl City {
         ensures order { IfOk result (λ told. IfOk told (λ drawn. IfOk (spec.chosen self.now.sources.lots lot) (λ lots. StandsBy lots drawn))) }
         ensures solid { IfOk result (λ told. IfOk told AreSolid) }
     {
-        told(self.alloc, self.sources.lots.as_slice(), lot, &self.forest)
+        told(
+            self.alloc,
+            self.sources.lots.as_slice(),
+            lot,
+            &self.kept.forest,
+        )
     }
 
     /// The shapes that have no children, and why, in the same order. Takes memory.
@@ -209,7 +190,7 @@ impl City {
         requires { IsTrue self.now.warm }
         ensures { IfOk result (λ faults. faults ≡ spec.faults_of self.now.sources.lots (members self.now.budget self.now.sources)) }
     {
-        all_faults(self.alloc, self.sources.lots.as_slice(), &self.forest)
+        all_faults(self.alloc, self.sources.lots.as_slice(), &self.kept.forest)
     }
 
     /// The run of the sources: what the expansion of each shape told, in order. Takes memory.
@@ -217,7 +198,7 @@ impl City {
         requires { IsTrue self.now.warm }
         ensures { IfOk result (IsRun self.now.sources) }
     {
-        trace(self.alloc, &self.forest)
+        trace(self.alloc, &self.kept.forest)
     }
 
     /// The least box that holds the boxes of all shapes of the lot at this place, drawn or not. Takes no memory.
@@ -226,10 +207,10 @@ impl City {
         requires place { place < length self.now.sources.lots }
         ensures { IfSome (slice_get self.now.sources.lots place) (λ lot. IsHullOf lot.name (members self.now.budget self.now.sources) result) }
     {
-        self.forest.laws();
+        self.kept.forest.laws();
         let lot = self.sources.lots.as_slice()[place].name;
-        match self.forest.root_of(lot) {
-            Some(root) => self.forest.hull(root),
+        match self.kept.forest.root_of(lot) {
+            Some(root) => self.kept.forest.hull(root),
             None => unreachable!(),
         }
     }
@@ -245,8 +226,8 @@ impl City {
         ensures expanded { result.expanded ≡ self.now.expanded }
     {
         let _most = self.budget;
-        self.forest.laws();
-        let tally = tally_all(&self.forest);
+        self.kept.forest.laws();
+        let tally = tally_all(&self.kept.forest);
         Counts {
             lots: self.sources.lots.len() as u32,
             shapes: tally.shapes as u32,

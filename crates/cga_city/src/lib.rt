@@ -7,6 +7,7 @@
 
 mod city;
 mod edits;
+mod empty;
 mod grammars;
 pub mod laws;
 pub mod limits;

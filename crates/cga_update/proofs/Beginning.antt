@@ -41,17 +41,17 @@ use Rattle.cga_forest.specs.Moved.{ListsMoved, moved_of, primitive_of}
 use Rattle.cga_forest.specs.View.{Seen}
 use Rattle.cga_forest.specs.Tree.{ForestView, IsForest, marked_at, node_at}
 use Rattle.cga_update.specs.Agenda.{AgendaView}
-use Rattle.cga_update.specs.Begun.{IsFirst, StandsMarked}
+use Rattle.cga_update.specs.Begun.{StandsMarked}
 use Rattle.cga_update.specs.Edit.{asks_by, content, kept_nodes, meets_box, rules_of, shapes_of, the_edit}
 use Rattle.cga_update.specs.Log.{came_of, drawn_before, drawn_of, is_of, IsLogged, noted_all, StayAlike, went_of}
 use Rattle.cga_update.specs.Means.{ArePriced, told_ranked}
 use Rattle.cga_update.specs.Near.{KeepsPriorities}
 use Rattle.cga_update.specs.Plain.{IsPlain}
 use Rattle.cga_update.specs.Queue.{on_of}
-use Rattle.cga_update.specs.Roots.{AllWanted, AreThere, Gains, HasLost, HasOldLots, IsRerooted, Loses}
+use Rattle.cga_update.specs.Roots.{Gains, HasLost, HasOldLots, IsRerooted, Loses}
 use Rattle.cga_update.proofs.Adding.{none_came}
 use Rattle.cga_update.proofs.RootShapes.{among_root, root_among}
-use Rattle.cga_update.proofs.Rooting.{rerooted as roots_changed, still}
+use Rattle.cga_update.proofs.Rooting.{IsRooted, rerooted as roots_changed, still}
 use Rattle.cga_update.proofs.Drawing.{lists_lost}
 use Rattle.cga_update.proofs.Edits.{is_edit, is_rules_edit}
 use Rattle.cga_update.proofs.Logged.{logged_more}
@@ -94,9 +94,7 @@ unfolding drawn_of
 drawn_none [] none = refl
 drawn_none (m ∷ ms) none = ap (λ o. drawn_before m o (drawn_of ms)) (none m (inl refl)) ∙ drawn_none ms (λ x h. none x (inr h))
 
-module _ (old new : Sources) (first v : ForestView) (d : DependentsView) (went came : List Moved) (a : AgendaView)
-    (stands : StandsMarked old new first d) (r : IsRerooted (node_at first) v went) (listed : ListsMoved (node_at v) (node_at first) came)
-    (wanted : AllWanted new v) (there : AreThere new v (length new.lots)) (first_laws : IsForest first) (laws : IsForest v) (agenda : IsFirst old new v d went came a) where
+module _ {old new : Sources} {first v : ForestView} {d : DependentsView} {went came : List Moved} {a : AgendaView} (start : IsRooted old new first v d went came a) where
   abbrev V : ℕ → Option Seen
   V = node_at first
 
@@ -107,43 +105,43 @@ module _ (old new : Sources) (first v : ForestView) (d : DependentsView) (went c
   gone c = not (is_some (T c))
 
   city : tree.Stands (shapes_of new) content (rules_of old) (asks_by old.grammar) V
-  city = subst (λ (s : Shapes Shape). tree.Stands s content (rules_of old) (asks_by old.grammar) V) (shapes_same old new stands.old_mode) stands.nodes
+  city = subst (λ (s : Shapes Shape). tree.Stands s content (rules_of old) (asks_by old.grammar) V) (shapes_same old new start.stands.old_mode) start.stands.nodes
 
   rerooted : theory.IsRerooted content V T gone
   rerooted = record {
-    rest = λ c x vc. elim (r.rest c x vc) [
+    rest = λ c x vc. elim (start.roots.rest c x vc) [
       | inl t ↦ t ∙ sym (ap (λ o. if not (is_some o) then None else Some x) t)
       | inr t ↦ t ∙ sym (ap (λ o. if not (is_some o) then None else Some x) t)
     ];
-    along = λ c p x vc up. ap not (r.along c p x vc up);
-    top = λ c x none at. (r.came c x none at).top;
-    leaf = λ c x none at. (r.came c x none at).leaf;
-    waits = λ c x none at. (r.came c x none at).waits;
-    other = λ c b x y none at vb top shape priority. (r.came c x none at).other b y vb top shape priority;
+    along = λ c p x vc up. ap not (start.roots.along c p x vc up);
+    top = λ c x none at. (start.roots.came c x none at).top;
+    leaf = λ c x none at. (start.roots.came c x none at).leaf;
+    waits = λ c x none at. (start.roots.came c x none at).waits;
+    other = λ c b x y none at vb top shape priority. (start.roots.came c x none at).other b y vb top shape priority;
   }
 
   -- a node that was there is as it was
   was_there : (c : ℕ) (x : Seen) → T c ≡ Some x → (o : Option Seen) → V c ≡ o → (V c ≡ None) ⊎ (V c ≡ Some x)
   was_there c x at None is = inl is
-  was_there c x at (Some y) is = elim (r.rest c y is) [
+  was_there c x at (Some y) is = elim (start.roots.rest c y is) [
     | inl t ↦ inr (is ∙ (sym t ∙ at))
     | inr t ↦ none_some x (sym t ∙ at)
   ]
 
   pub came_on : (c : ℕ) (x : Seen) → V c ≡ None → T c ≡ Some x → on_of v a c ≡ true
   came_on c x none at =
-      agenda.roots (moved_of c x) ((listed.each (moved_of c x)).1 (c, x, at, none, refl)) c x refl (at, ap is_instance (r.came c x none at).waits)
+      start.agenda.moved.roots (moved_of c x) ((start.listed.each (moved_of c x)).1 (c, x, at, none, refl)) c x refl (at, ap is_instance (start.roots.came c x none at).waits)
 
   listed_under : (c : ℕ) (x : Seen) → V c ≡ Some x → is_instance x.node.kind ≡ false → Member (nodes_in d x.node.shape.symbol) c
   listed_under c x vc inner = member_of (nodes_in d x.node.shape.symbol) c
-      (stands.dependents x.node.shape.symbol c
+      (start.stands.dependents x.node.shape.symbol c
       ∙ (ap (λ o. is_of o x.node.shape.symbol) vc
       ∙ (ap (λ b. not b && same_name x.node.shape.symbol x.node.shape.symbol) inner ∙ (bytes_decides x.node.shape.symbol x.node.shape.symbol).1 refl)))
 
   changed_on : (c : ℕ) (x : Seen) → T c ≡ Some x → is_instance x.node.kind ≡ false → (on_of v a c ≡ true) ⊎ (setting_of old.grammar x.node.shape.symbol ≡ setting_of new.grammar x.node.shape.symbol)
   changed_on c x at inner = elim (was_there c x at (V c) refl) [
     | inl none ↦ inl (came_on c x none at)
-    | inr vc ↦ elim (agenda.changed x.node.shape.symbol) [
+    | inr vc ↦ elim (start.agenda.changed x.node.shape.symbol) [
       | inl these ↦ inl (these c x (listed_under c x vc inner) (at, inner))
       | inr same ↦ inr same
     ]
@@ -152,13 +150,13 @@ module _ (old new : Sources) (first v : ForestView) (d : DependentsView) (went c
   is_first : theory.IsFirstAgenda (shapes_of new) content (rules_of old) (rules_of new) (asks_by new.grammar) meets_box V T (on_of v a)
   is_first = record {
     came = came_on;
-    went = λ b c x y vb tb tc inner asks meet. agenda.near_went (moved_of b x) ((r.went.each (moved_of b x)).1 (b, x, vb, tb, refl)) c y (tc, inner) asks meet;
-    arrived = λ b c x y vb tb tc inner asks meet. agenda.near_came (moved_of b x) ((listed.each (moved_of b x)).1 (b, x, tb, vb, refl)) c y (tc, inner) asks meet;
+    went = λ b c x y vb tb tc inner asks meet. start.agenda.moved.near_went (moved_of b x) ((start.roots.went.each (moved_of b x)).1 (b, x, vb, tb, refl)) c y (tc, inner) asks meet;
+    arrived = λ b c x y vb tb tc inner asks meet. start.agenda.moved.near_came (moved_of b x) ((start.listed.each (moved_of b x)).1 (b, x, tb, vb, refl)) c y (tc, inner) asks meet;
     changed = changed_on;
     priced = λ c p x e tc up te inner. elim (was_there c x tc (V c) refl) [
-      | inl none ↦ none_some p (sym (r.came c x none tc).top ∙ up)
-      | inr vc ↦ elim (agenda.priced x.node.shape.symbol) [
-        | inl parents ↦ inl (parents c p x e (listed_under c x vc inner) tc up (te, (laws.present.places.child c p x e tc up te).inner))
+      | inl none ↦ none_some p (sym (start.roots.came c x none tc).top ∙ up)
+      | inr vc ↦ elim (start.agenda.priced x.node.shape.symbol) [
+        | inl parents ↦ inl (parents c p x e (listed_under c x vc inner) tc up (te, (start.laws.present.places.child c p x e tc up te).inner))
         | inr same ↦ inr (city.priced c x vc inner ∙ same)
       ]
     ];
@@ -174,7 +172,7 @@ module _ (old new : Sources) (first v : ForestView) (d : DependentsView) (went c
   has_tops : tree.HasTops (shapes_of new) content (rules_of new) T
   has_tops = record {
     top = λ c x tc up.
-        let w = wanted c x tc up in
+        let w = start.wanted c x tc up in
         let z = root_is w.lot x.node.shape w.root.shape in (
           root_among new.lots w.place w.lot x.node.shape w.listed w.root.shape,
           w.root.priority ∙ ap (priority_of new.grammar) (ap (λ (s : Shape). s.symbol) z.1),
@@ -182,33 +180,33 @@ module _ (old new : Sources) (first v : ForestView) (d : DependentsView) (went c
     tops = λ s among.
         let q = among_root new.lots s among in
         let within = slice_get_within new.lots q.0 q.1 q.2 in
-        let t = there q.0 q.1 within q.2 in
-        let w = wanted t.0 t.1 t.2.0 t.2.1 in
-        let same : w.lot ≡ q.1 = same_lot new.lots stands.names w.place q.0 w.lot q.1 w.listed q.2 (sym (root_name w.lot t.1.node.shape w.root.shape) ∙ t.2.2) in
+        let t = start.there q.0 q.1 within q.2 in
+        let w = start.wanted t.0 t.1 t.2.0 t.2.1 in
+        let same : w.lot ≡ q.1 = same_lot new.lots start.stands.names w.place q.0 w.lot q.1 w.listed q.2 (sym (root_name w.lot t.1.node.shape w.root.shape) ∙ t.2.2) in
         (t.0, t.1, t.2.0, t.2.1, ok_same {F = ScopeFault} t.1.node.shape s (sym w.root.shape ∙ (ap root_of same ∙ q.3)));
     one_top = λ c b x y tc tb up up' lots.
-        (same_node v laws c b x y tc tb (lots, (laws.present.places.root c x tc up).path ∙ sym (laws.present.places.root b y tb up').path)).0;
+        (same_node v start.laws c b x y tc tb (lots, (start.laws.present.places.root c x tc up).path ∙ sym (start.laws.present.places.root b y tb up').path)).0;
   }
 
   new_city : tree.IsCity (shapes_of new) content (rules_of new) T
-  new_city = rerooted_is_city (shapes_of new) content (rules_of old) (rules_of new) V T gone city.city laws.present.tree rerooted
-      (λ c x none at. let z = laws.present.places.root c x at (r.came c x none at).top in record { inner = z.inner; path = z.path; line = z.line })
+  new_city = rerooted_is_city (shapes_of new) content (rules_of old) (rules_of new) V T gone city.city start.laws.present.tree rerooted
+      (λ c x none at. let z = start.laws.present.places.root c x at (start.roots.came c x none at).top in record { inner = z.inner; path = z.path; line = z.line })
       has_tops
 
   pub begins : tree.IsUnderway (shapes_of new) content (rules_of new) (asks_by new.grammar) T (on_of v a)
       × ((queued : Ranked Shape → Bool) × AreQueued (shapes_of new) content T (on_of v a) queued × IsBegun (the_edit old new) (kept_nodes first) (kept_nodes v) queued)
-  begins = roots_begin (shapes_of new) content (rules_of old) (rules_of new) (is_rules_edit old new stands.old_names stands.names) (asks_by old.grammar) (asks_by new.grammar) meets_box (sees_what_meets new)
+  begins = roots_begin (shapes_of new) content (rules_of old) (rules_of new) (is_rules_edit old new start.stands.old_names start.stands.names) (asks_by old.grammar) (asks_by new.grammar) meets_box (sees_what_meets new)
       V T (length first.slots) (length v.slots) gone (on_of v a) (kept_bound first) (kept_bound v) city new_city rerooted is_first
 
   pub lost : (list : List (Drawn (Ranked Shape) Primitive)) × ListsLost content V T list × (map told_ranked list ≡ drawn_of went)
-  lost = lists_lost V T (λ c b x y at of same. (same_node first first_laws c b x y at of (ap (λ (s : Shape). s.lot) same, ap (λ (s : Shape). s.path) same)).0) went r.went
+  lost = lists_lost V T (λ c b x y at of same. (same_node first start.first_laws c b x y at of (ap (λ (s : Shape). s.lot) same, ap (λ (s : Shape). s.path) same)).0) went start.roots.went
 
   abbrev pub first_state : State (Ranked Shape) Answers ShapeFault Primitive
   first_state = record { nodes = kept_nodes v; queued = begins.1.0; gone = lost.0; come = [] }
 
   pub is_ready : IsReady (the_edit old new) (kept_nodes first) first_state (length (the_edit old new).new.roots)
   is_ready = record {
-    laws = is_edit old new stands.old_names stands.names;
+    laws = is_edit old new start.stands.old_names start.stands.names;
     started = stands_again.start (shapes_of new) content (rules_of old) (rules_of new) (asks_by old.grammar) V (length first.slots) (kept_bound first) city;
     begun = begins.1.2;
     gone = lists_are_changes.roots (shapes_of new) content (rules_of old) (rules_of new) V T (length first.slots) (length v.slots) gone (kept_bound first) (kept_bound v) city.city new_city rerooted lost.0 lost.1;
@@ -218,34 +216,34 @@ module _ (old new : Sources) (first v : ForestView) (d : DependentsView) (went c
 
   pub silent_now : (c : ℕ) (x : Seen) → T c ≡ Some x → is_instance x.node.kind ≡ true → x.node.asks ≡ false
   silent_now c x at drawn = elim (was_there c x at (V c) refl) [
-    | inl none ↦ (let z : false ≡ true = sym (ap is_instance (r.came c x none at).waits) ∙ drawn in absurd (cc))
-    | inr vc ↦ stands.silent c x vc drawn
+    | inl none ↦ (let z : false ≡ true = sym (ap is_instance (start.roots.came c x none at).waits) ∙ drawn in absurd (cc))
+    | inr vc ↦ start.stands.silent c x vc drawn
   ]
 
   pub priced_now : KeepsPriorities old.grammar new.grammar d → ArePriced new.grammar v
   priced_now same c x at inner = elim (was_there c x at (V c) refl) [
-    | inl none ↦ (has_tops.top c x at (r.came c x none at).top).1
+    | inl none ↦ (has_tops.top c x at (start.roots.came c x none at).top).1
     | inr vc ↦ city.priced c x vc inner ∙ same x.node.shape.symbol c (listed_under c x vc inner)
   ]
 
   pub plain_now : (c : ℕ) (x : Seen) → T c ≡ Some x → IsPlain x
   plain_now c x at = elim (was_there c x at (V c) refl) [
     | inl none ↦ (
-        let n = r.came c x none at in record {
+        let n = start.roots.came c x none at in record {
           bare = λ drawn. (let z : false ≡ true = sym (ap is_instance n.waits) ∙ drawn in absurd (cc));
           childless = inr n.leaf;
         })
-    | inr vc ↦ stands.plain c x vc
+    | inr vc ↦ start.stands.plain c x vc
   ]
 
   pub came_drawn : drawn_of came ≡ []
-  came_drawn = drawn_none came (λ m h. let w = (listed.each m).0 h in
-      ap (λ (x : Moved). x.primitive) w.4 ∙ ap primitive_of (r.came w.0 w.1 w.3 w.2).waits)
+  came_drawn = drawn_none came (λ m h. let w = (start.listed.each m).0 h in
+      ap (λ (x : Moved). x.primitive) w.4 ∙ ap primitive_of (start.roots.came w.0 w.1 w.3 w.2).waits)
 
   pub logged : IsLogged (marked_at v) T (([] ++ went_of went) ++ came_of came)
   logged s c =
-      logged_more V V T [] went came (logged_none V) r.went listed alike s c
-      ∙ ap (λ o. noted_all (([] ++ went_of went) ++ came_of came) s c (is_of o s)) (sym (r.marked c))
+      logged_more V V T [] went came (logged_none V) start.roots.went start.listed alike s c
+      ∙ ap (λ o. noted_all (([] ++ went_of went) ++ came_of came) s c (is_of o s)) (sym (start.roots.marked c))
     where
       alike : StayAlike V T
       alike k x y t vc tc = elim (was_there k y tc (V k) refl) [

@@ -25,6 +25,7 @@ use Rattle.cga_expand.specs.Settings.{Setting}
 use Rattle.cga_forest.specs.declared.node.Node.{Node}
 use Rattle.cga_forest.specs.View.{Seen}
 use Rattle.cga_forest.specs.Tree.{ForestView, node_at}
+use Rattle.cga_update.specs.declared.kept.Kept.{Kept}
 use Rattle.cga_update.specs.declared.work.Work.{Work}
 use Rattle.cga_update.specs.Applied.{ListsView, lists}
 use Rattle.cga_update.specs.Edit.{asks_by, content, kept_nodes, rules_of, shapes_of, the_edit}
@@ -133,7 +134,7 @@ module _ (w : Work) (edit : Edit (Ranked Shape) Answers Setting ShapeFault Primi
   pub stands_done : (start : Nodes) (budget calls since : ℕ) → IsDone edit start s budget calls since
       → (v : ForestView) (d : DependentsView) → ((c : ℕ) → node_at v c ≡ node_at w.forest c) → v.marking ≡ false → v.mode ≡ w.forest.mode
       → ListsView d (node_at w.forest) → ((a : List ℕ) → symbols_in d a ≡ mentioning w.new.now.grammar a)
-      → Stands w.new.now v d
+      → Stands w.new.now (record { forest = v; dependents = d })
   stands_done start budget calls since is_done v d same unmarked mode listed mentions = record {
     forest = record {
       mode = mode ∙ means.mode;
@@ -146,18 +147,20 @@ module _ (w : Work) (edit : Edit (Ranked Shape) Answers Setting ShapeFault Primi
   }
 
 -- put back, a forest stands as it did
-pub stands_back : (sources : Sources) (v t : ForestView) (d : DependentsView) → Stands sources v d
-    → ((c : ℕ) → node_at t c ≡ node_at v c) → t.marking ≡ false → t.mode ≡ v.mode → StandAsBefore sources v t d
-stands_back sources v t d stood same unmarked mode = record {
+pub stands_back : (sources : Sources) (was : Kept) (t : ForestView) → Stands sources was
+    → ((c : ℕ) → node_at t c ≡ node_at was.forest c) → t.marking ≡ false → t.mode ≡ was.forest.mode
+    → StandAsBefore sources was (record was { forest = t })
+stands_back sources was t stood same unmarked mode = record {
   stands = record {
     forest = record {
       mode = mode ∙ stood.forest.mode;
       unmarked = unmarked;
-      nodes = same_stands sources v t same stood.forest.nodes;
+      nodes = same_stands sources was.forest t same stood.forest.nodes;
       silent = λ c x at. stood.forest.silent c x (sym (same c) ∙ at);
       plain = λ c x at. stood.forest.plain c x (sym (same c) ∙ at);
     };
-    dependents = dependents_stand sources t d (node_at v) same (listed_at_mark sources v d (node_at v) stood.dependents (λ c. refl)) stood.dependents.mentions;
+    dependents = dependents_stand sources t was.dependents (node_at was.forest) same
+        (listed_at_mark sources was.forest was.dependents (node_at was.forest) stood.dependents (λ c. refl)) stood.dependents.mentions;
   };
   nodes = same;
 }

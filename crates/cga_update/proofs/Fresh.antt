@@ -41,8 +41,9 @@ fresh_pairs sources d none mentions = record {
   mentions = mentions;
 }
 
-pub fresh_stands : (sources nothing : Sources) → nothing ≡ with_no_lots sources → (v : ForestView) → v ≡ no_nodes sources.mode
-    → (d : DependentsView) → d.nodes ≡ [] → ((a : List ℕ) → symbols_in d a ≡ mentioning sources.grammar a) → Stands nothing v d
-fresh_stands sources nothing is v new d none mentions =
-    subst (λ (x : Sources). Stands x v d) (sym is) (subst (λ (y : ForestView). Stands (with_no_lots sources) y d) (sym new)
-    (record { forest = fresh_forest sources; dependents = fresh_pairs sources d none mentions }))
+pub fresh_stands : (sources : Sources) (v : ForestView) → v ≡ no_nodes sources.mode
+    → (d : DependentsView) → d.nodes ≡ [] → ((a : List ℕ) → symbols_in d a ≡ mentioning sources.grammar a)
+    → Stands (with_no_lots sources) (record { forest = v; dependents = d })
+fresh_stands sources v new d none mentions =
+    subst (λ (y : ForestView). Stands (with_no_lots sources) (record { forest = y; dependents = d })) (sym new)
+    (record { forest = fresh_forest sources; dependents = fresh_pairs sources d none mentions })

@@ -25,6 +25,7 @@ pub mod Standing
 pub mod Exact
 pub mod Exists
 pub mod Modes
+pub mod Results
 pub mod Fresh
 pub mod Applying
 pub mod Ending

@@ -1,18 +1,18 @@
 -- Nodes that are put on the agenda, whatever their stamps.
-use Rattle.std.proofs.Common.{◌≡◌, ◌⊎◌, inl, inr, ℕ, ◌+◌, ◌<◌, ◌≤◌, List, length, true, false, refl, sym, ap, ◌∙◌, subst, Some, None, arith}
-use Rattle.std.specs.Prelude.{is_some, slice_get}
+use Rattle.std.proofs.Common.{◌≡◌, ◌⊎◌, inl, inr, ℕ, ◌+◌, ◌<◌, ◌≤◌, List, length, true, refl, sym, ap, ◌∙◌, subst, Some, None, arith}
+use Rattle.std.specs.Prelude.{IsSome, slice_get}
 use Rattle.std.proofs.lemmas.Option.{slice_get_within}
-use Rattle.cga_frame.specs.Box.{Box}
+use Rattle.cga_frame.specs.Box.{Box, box_of}
 use Rattle.cga_index.specs.Tree.{Member}
-use Rattle.cga_order.specs.World.{Among}
 use Rattle.cga_derivation.proofs.Lists.{some_same, none_some}
 use Rattle.cga_forest.specs.declared.moved.Moved.{Moved}
 use Rattle.cga_forest.specs.Tree.{ForestView, above, node_at}
-use Rattle.cga_update.specs.Agenda.{AgendaView}
+use Rattle.cga_update.specs.Agenda.{AgendaView, Grows}
+use Rattle.cga_update.specs.Begun.{HasMoved}
 use Rattle.cga_update.specs.Near.{HasNear, HasParents, HasThese, KeepsOn}
 use Rattle.cga_update.specs.Queue.{chains_of, on_of}
 use Rattle.cga_update.proofs.DueNodes.{due_is}
-use Rattle.cga_update.proofs.Members.{among_at, member_at}
+use Rattle.cga_update.proofs.Members.{member_at}
 
 pub keeps_itself : (v : ForestView) (a : AgendaView) → KeepsOn v a a
 keeps_itself v a = record { mode = refl; on = λ c h. h }
@@ -20,13 +20,15 @@ keeps_itself v a = record { mode = refl; on = λ c h. h }
 pub keeps_on : (v : ForestView) (a b z : AgendaView) → KeepsOn v a b → KeepsOn v b z → KeepsOn v a z
 keeps_on v a b z one two = record { mode = two.mode ∙ one.mode; on = λ c h. two.on c (one.on c h) }
 
--- where no node may be put on it, none is there that isn't an instance
-pub none_worked : (v : ForestView) (id : ℕ) (a : AgendaView) → is_some (chains_of v id) ≡ false → HasThese v (λ c. c ≡ id) a
-none_worked v id a none c d same w =
-    let z : true ≡ false = sym (ap is_some (due_is (node_at v c) d w.0 w.1)) ∙ (ap (λ k. is_some (chains_of v k)) same ∙ none) in absurd (cc)
+-- what grew keeps what it had
+pub kept_on : (v : ForestView) (P : ℕ → Type 0) (a b : AgendaView) → Grows (chains_of v) P a b → KeepsOn v a b
+kept_on v P a b g = record { mode = g.mode; on = g.kept }
 
-pub these_on : (v : ForestView) (id : ℕ) (a : AgendaView) → on_of v a id ≡ true → HasThese v (λ c. c ≡ id) a
-these_on v id a on c d same w = subst (λ k. on_of v a k ≡ true) (sym same) on
+-- a node is on it that is there and is no instance
+pub these_on : (v : ForestView) (id : ℕ) (a : AgendaView) → (IsSome (chains_of v id) → on_of v a id ≡ true) → HasThese v (λ c. c ≡ id) a
+these_on v id a on c d same w =
+    let here : IsSome (chains_of v c) = subst IsSome (sym (due_is (node_at v c) d w.0 w.1)) refl in
+    subst (λ k. on_of v a k ≡ true) (sym same) (on (subst (λ k. IsSome (chains_of v k)) same here))
 
 -- of the numbers of a list the first n
 abbrev pub First : List ℕ → ℕ → ℕ → Type 0
@@ -61,19 +63,6 @@ these_end v ids n a le first c d h w = let x = member_at ids c h in let z = slic
 pub parents_end : (v : ForestView) (ids : List ℕ) (n : ℕ) (a : AgendaView) → length ids ≤ n → HasParents v (First ids n) a → HasParents v (λ c. Member ids c) a
 parents_end v ids n a le first c p d e h was up w = let x = member_at ids c h in let z = slice_get_within ids x.0 c x.1 in first c p d e (x.0, omega (arith, z, le), x.1) was up w
 
--- of nodes that moved the first n have what P tells
-abbrev pub FirstHave : (Moved → Type 0) → List Moved → ℕ → Type 0
-FirstHave P moved n = (i : ℕ) (m : Moved) → i < n → slice_get moved i ≡ Some m → P m
-
-pub have_more : (P Q : Moved → Type 0) (moved : List Moved) (n : ℕ) (x : Moved) → slice_get moved n ≡ Some x → ((m : Moved) → P m → Q m) → Q x → FirstHave P moved n → FirstHave Q moved (n + 1)
-have_more P Q moved n x at kept here first i m lt is = elim (at_or_below i n lt) [
-  | inl lower ↦ kept m (first i m lower is)
-  | inr same ↦ subst Q (some_same x m (sym at ∙ (ap (slice_get moved) (sym same) ∙ is))) here
-]
-
-pub have_end : (P : Moved → Type 0) (moved : List Moved) (n : ℕ) → length moved ≤ n → FirstHave P moved n → (m : Moved) → Among m moved → P m
-have_end P moved n le first m h = let x = among_at moved m h in let z = slice_get_within moved x.0 m x.1 in first x.0 m (omega (arith, z, le)) x.1
-
 pub near_kept : (v : ForestView) (a b : AgendaView) → KeepsOn v a b → (area : Box) → HasNear v area a → HasNear v area b
 near_kept v a b kept area near c d w asks meet = kept.on c (near c d w asks meet)
 
@@ -93,3 +82,11 @@ no_node v id a is c q d e same was up w = none_some d (sym is ∙ (ap (node_at v
 
 pub parents_kept : (v : ForestView) (a b : AgendaView) → KeepsOn v a b → (These : ℕ → Type 0) → HasParents v These a → HasParents v These b
 parents_kept v a b kept These these c p d e h was up w = kept.on p (these c p d e h was up w)
+
+-- what is on the agenda of what moved stays on it
+pub moved_kept : (v : ForestView) (a b : AgendaView) → KeepsOn v a b → (went came : List Moved) → HasMoved v went came a → HasMoved v went came b
+moved_kept v a b keeps went came h = record {
+  roots = λ m among. these_kept v a b keeps (λ c. c ≡ m.id) (h.roots m among);
+  near_went = λ m among. near_kept v a b keeps (box_of m.scope) (h.near_went m among);
+  near_came = λ m among. near_kept v a b keeps (box_of m.scope) (h.near_came m among);
+}

@@ -1,14 +1,11 @@
 -- A turn that changes nothing but the agenda is a turn of the work of the theory.
-use Rattle.std.proofs.Common.{◌≡◌, ◌+◌, ℕ, [], length, refl, sym, ap, ◌∙◌, subst, Bool, true, false}
+use Rattle.std.proofs.Common.{◌≡◌, ◌+◌, ℕ, [], length, refl, sym, ap, ◌∙◌, subst, Bool, false}
 use Rattle.std.proofs.lemmas.List.{append-nil}
-use Rattle.cga_word.specs.declared.answers.Answers.{Answers}
-use Rattle.cga_word.specs.declared.primitive.Primitive.{Primitive}
 use Rattle.cga_order.proofs.Order.{stamp_total}
 use Rattle.cga_order.specs.Chain.{Chain}
 use Rattle.cga_order.specs.World.{is_instance}
 use Rattle.cga_agenda.specs.declared.turned.Turned.{Turned}
-use Rattle.cga_agenda.specs.Edit.{Edit}
-use Rattle.cga_agenda.specs.Loop.{State, Turns, calls_of, children_of}
+use Rattle.cga_agenda.specs.Loop.{Turns, calls_of, children_of}
 use Rattle.cga_agenda.specs.Work.{IsTurnOf}
 use Rattle.cga_rework.specs.Agenda.{AreQueued, IsTaken}
 use Rattle.cga_rework.specs.City.{IsUnderway}
@@ -17,7 +14,6 @@ use Rattle.cga_rework.specs.Turn.{IsQuietTurn}
 use Rattle.cga_rework.proofs.Changes.{lists_are_changes}
 use Rattle.cga_rework.proofs.Whole.{quiet_turns}
 use Rattle.cga_shape.specs.declared.shape.Shape.{Shape}
-use Rattle.cga_shape.specs.declared.shape_fault.ShapeFault.{ShapeFault}
 use Rattle.cga_shape.specs.declared.sources.Sources.{Sources}
 use Rattle.cga_expand.specs.Settings.{Setting}
 use Rattle.cga_forest.specs.Node.{chain_kept}

@@ -35,6 +35,7 @@ use Rattle.cga_expand.specs.Validity.{RootsExist}
 use Rattle.cga_expand.specs.Settings.{Setting}
 use Rattle.cga_forest.specs.declared.node.Node.{Node}
 use Rattle.cga_forest.specs.Tree.{ForestView, marked_at, node_at}
+use Rattle.cga_update.specs.declared.kept.Kept.{Kept}
 use Rattle.cga_update.specs.declared.work.Work.{Work}
 use Rattle.cga_update.specs.Applied.{ListsView}
 use Rattle.cga_update.specs.Begun.{HasBegun, IsBetween, StandsMarked}
@@ -100,74 +101,76 @@ told_twice : (list : List (Drawn (Ranked Shape) Primitive)) → map told_ranked 
 told_twice [] = refl
 told_twice (d ∷ list) = ap (λ rest. told_ranked d ∷ rest) (told_twice list)
 
-module _ (old new : Sources) (mode : old.mode ≡ new.mode) (olds : NamesDiffer old.lots) (names : NamesDiffer new.lots) (v : ForestView) (d : DependentsView) (stood : Stands old v d) where
+module _ (old new : Sources) (mode : old.mode ≡ new.mode) (olds : NamesDiffer old.lots) (names : NamesDiffer new.lots) (kept : Kept) (stood : Stands old kept) where
   -- marked, the forest stands as it did
-  pub marked_stands : RootsExist new.lots → (m : ForestView) → m.marking ≡ true → ((c : ℕ) → node_at m c ≡ node_at v c)
-      → ((c : ℕ) → marked_at m c ≡ node_at v c) → m.mode ≡ v.mode → StandsMarked old new m d
-  marked_stands exist m marking present marked kept = record {
+  pub marked_stands : RootsExist new.lots → (m : ForestView) → m.marking ≡ true → ((c : ℕ) → node_at m c ≡ node_at kept.forest c)
+      → ((c : ℕ) → marked_at m c ≡ node_at kept.forest c) → m.mode ≡ kept.forest.mode → StandsMarked old new m kept.dependents
+  marked_stands exist m marking present marked moded = record {
     old_names = olds;
     names = names;
     scopes = exist;
     old_mode = mode;
-    mode = kept ∙ (stood.forest.mode ∙ mode);
+    mode = moded ∙ (stood.forest.mode ∙ mode);
     marking = marking;
     marked = λ c. marked c ∙ sym (present c);
-    nodes = stands_again.back (shapes_of old) content (rules_of old) (asks_by old.grammar) (node_at v) (node_at m) present stood.forest.nodes;
+    nodes = stands_again.back (shapes_of old) content (rules_of old) (asks_by old.grammar) (node_at kept.forest) (node_at m) present stood.forest.nodes;
     silent = λ c x at. stood.forest.silent c x (sym (present c) ∙ at);
     plain = λ c x at. stood.forest.plain c x (sym (present c) ∙ at);
-    dependents = listed_at_mark old v d (node_at m) stood.dependents present;
+    dependents = listed_at_mark old kept.forest kept.dependents (node_at m) stood.dependents present;
   }
 
   -- so the work begins from its nodes
-  pub begun_before : (m : ForestView) → ((c : ℕ) → node_at m c ≡ node_at v c) → (w : Work) → HasBegun old new m w → HasBegun old new v w
+  pub begun_before : (m : ForestView) → ((c : ℕ) → node_at m c ≡ node_at kept.forest c) → (w : Work) → HasBegun old new m w → HasBegun old new kept.forest w
   begun_before m present w begun =
       let views : ListsAreViews Node Shape Answers Setting ShapeFault Primitive = lists_are_views in
-      let same : kept_nodes m ≡ kept_nodes v = views.same content (node_at v) (node_at m) (length v.slots) (length m.slots) present (kept_bound v) (λ c x at. kept_bound m c x (present c ∙ at)) in
+      let same : kept_nodes m ≡ kept_nodes kept.forest = views.same content (node_at kept.forest) (node_at m) (length kept.forest.slots) (length m.slots) present (kept_bound kept.forest) (λ c x at. kept_bound m c x (present c ∙ at)) in
       (begun.0, begun.1, subst (λ nodes. IsReady (the_edit old new) nodes begun.0 (length (the_edit old new).new.roots)) same begun.2)
 
-  module _ (was w : Work) (budget calls since : ℕ) (between : IsBetween old new was) (bounds : KeepsBounds was w) (at_first : (c : ℕ) → marked_at was.forest c ≡ node_at v c) where
+  module _ (was w : Work) (budget calls since : ℕ) (between : IsBetween old new was) (bounds : KeepsBounds was w) (at_first : (c : ℕ) → marked_at was.forest c ≡ node_at kept.forest c) where
     still_old : w.old.now ≡ old
     still_old = ap (λ r. r.now) bounds.old ∙ between.0
 
     still_new : w.new.now ≡ new
     still_new = ap (λ r. r.now) bounds.new ∙ between.1
 
-    module _ (e : Ended) (ended : HasEnded old new v w budget calls since e) where
+    module _ (e : Ended) (ended : HasEnded old new kept.forest w budget calls since e) where
       pub marking : w.forest.marking ≡ true
       marking = ended.1.marked
 
       -- the mark is as it was
-      pub mark : (c : ℕ) → marked_at w.forest c ≡ node_at v c
+      pub mark : (c : ℕ) → marked_at w.forest c ≡ node_at kept.forest c
       mark c = bounds.mark.1 (sym bounds.mark.0 ∙ marking) c ∙ at_first c
 
-      pub listed : ListsView d (marked_at w.forest)
-      listed = listed_at_mark old v d (marked_at w.forest) stood.dependents mark
+      pub listed : (f : DependentsView) → f ≡ kept.dependents → ListsView f (marked_at w.forest)
+      listed f same = subst (λ x. ListsView x (marked_at w.forest)) (sym same) (listed_at_mark old kept.forest kept.dependents (marked_at w.forest) stood.dependents mark)
 
-      pub same_mode : w.forest.mode ≡ v.mode
+      pub same_mode : w.forest.mode ≡ kept.forest.mode
       same_mode = ended.1.mode ∙ (ap (λ (s : Sources). s.mode) still_new ∙ sym (stood.forest.mode ∙ mode))
 
       -- put back, all stands as before
-      pub put_back : (t : ForestView) → ((c : ℕ) → node_at t c ≡ marked_at w.forest c) → t.marking ≡ false → t.mode ≡ w.forest.mode
-          → StandAsBefore old v t d
-      put_back t nodes unmarked kept = stands_back old v t d stood (λ c. nodes c ∙ mark c) unmarked (kept ∙ same_mode)
+      pub put_back : (t : ForestView) (f : DependentsView) → f ≡ kept.dependents → ((c : ℕ) → node_at t c ≡ marked_at w.forest c) → t.marking ≡ false → t.mode ≡ w.forest.mode
+          → StandAsBefore old kept (record { forest = t; dependents = f })
+      put_back t f same nodes unmarked moded =
+          subst (λ (x : DependentsView). StandAsBefore old kept (record { forest = t; dependents = x })) (sym same)
+          (stands_back old kept t stood (λ c. nodes c ∙ mark c) unmarked (moded ∙ same_mode))
 
-    pub over : HasEnded old new v w budget calls since OverBudget → derive (derivation_of new) budget ≡ None
+    pub over : HasEnded old new kept.forest w budget calls since OverBudget → derive (derivation_of new) budget ≡ None
     over ended = over_none (shapes_of new) (rules_of new) (is_derivation new new names) budget ended.2
 
-    module _ (k : ℕ) (ended : HasEnded old new v w budget calls since (Within k)) where
+    module _ (k : ℕ) (ended : HasEnded old new kept.forest w budget calls since (Within k)) where
       -- settled, all stands for the new sources
       pub settled : (t : ForestView) (f : DependentsView) → ((c : ℕ) → node_at t c ≡ node_at w.forest c) → t.marking ≡ false → t.mode ≡ w.forest.mode
-          → ListsView f (node_at w.forest) → ((a : List ℕ) → symbols_in f a ≡ mentioning w.new.now.grammar a) → Stands new t f
-      settled t f nodes unmarked kept lists mentions =
-          subst (λ (s : Sources). Stands s t f) still_new
-          (stands_done w (the_edit old new) ended.0 ended.1 (kept_nodes v) budget calls since ended.2 t f nodes unmarked kept lists mentions)
+          → ListsView f (node_at w.forest) → ((a : List ℕ) → symbols_in f a ≡ mentioning w.new.now.grammar a) → Stands new (record { forest = t; dependents = f })
+      settled t f nodes unmarked moded lists mentions =
+          subst (λ (s : Sources). Stands s (record { forest = t; dependents = f })) still_new
+          (stands_done w (the_edit old new) ended.0 ended.1 (kept_nodes kept.forest) budget calls since ended.2 t f nodes unmarked moded lists mentions)
 
-      pub exact : HasBegun old new v was → since ≡ calls + k → (changes : Changes)
+      pub exact : HasBegun old new kept.forest was → since ≡ calls + k → (changes : Changes)
           → changes ≡ record { gone = w.gone.items; come = w.come.items } → IsExact old new budget k changes
       exact begun called changes is =
-          let before = stands_derived old olds v stood.forest in
+          let before = stands_derived old olds kept.forest stood.forest in
           let derived : IsDerived (rules.derivation_of (shapes_of new) (rules_of old)) before.0 = subst (λ D. IsDerived D before.0) (sym (same_derivation old new mode before.0 before.0)) before.1 in
-          let end = loop_done (shapes_of new) (rules_of old) (rules_of new) (is_rules_edit old new olds names) (kept_nodes v) begun.2.started (once old olds v stood.forest) ended.0 budget calls since ended.2 before.0 derived in
+          let end = loop_done (shapes_of new) (rules_of old) (rules_of new) (is_rules_edit old new olds names) (kept_nodes kept.forest) begun.2.started (once old olds kept.forest stood.forest) ended.0 budget calls since ended.2 before.0 derived in
           let worked = end.2.0 in
           let count = end.2.2 in
           let number : k ≡ length worked = omega (arith, called, count) in

@@ -6,12 +6,27 @@ use Rattle.cga_shape.specs.declared.lot.Lot.{Lot}
 use Rattle.cga_derivation.proofs.Lists.{some_same, none_some}
 use Rattle.cga_forest.specs.declared.moved.Moved.{Moved}
 use Rattle.cga_forest.specs.declared.node.Node.{Node}
+use Rattle.cga_depend.specs.Pairs.{DependentsView}
+use Rattle.cga_forest.specs.Moved.{ListsMoved}
 use Rattle.cga_forest.specs.View.{Seen}
-use Rattle.cga_forest.specs.Tree.{ForestView, node_at}
+use Rattle.cga_forest.specs.Tree.{ForestView, IsForest, node_at}
 use Rattle.cga_shape.specs.declared.shape.Shape.{Shape}
 use Rattle.cga_shape.specs.declared.sources.Sources.{Sources}
 use Rattle.std.proofs.Common.{List}
-use Rattle.cga_update.specs.Roots.{View, AllWanted, Gains, HasLost, HasOldLots, IsNewRoot, IsRerooted, IsRootNamed, IsWanted, Loses}
+use Rattle.cga_update.specs.Agenda.{AgendaView}
+use Rattle.cga_update.specs.Begun.{IsFirst, StandsMarked}
+use Rattle.cga_update.specs.Roots.{View, AllWanted, AreThere, Gains, HasLost, HasOldLots, IsNewRoot, IsRerooted, IsRootNamed, IsWanted, Loses}
+
+-- an update at its beginning: how its roots were changed, and what is on its agenda
+pub record IsRooted (old new : Sources) (first v : ForestView) (d : DependentsView) (went came : List Moved) (a : AgendaView) : Type 0 where
+  pub stands : StandsMarked old new first d
+  pub roots : IsRerooted (node_at first) v went
+  pub listed : ListsMoved (node_at v) (node_at first) came
+  pub wanted : AllWanted new v
+  pub there : AreThere new v (length new.lots)
+  pub first_laws : IsForest first
+  pub laws : IsForest v
+  pub agenda : IsFirst old new v d went came a
 
 -- a node of an equal shape and priority is wanted too
 pub wanted_alike : (new : Sources) (n m : Node) → m.shape ≡ n.shape → m.priority ≡ n.priority → IsWanted new n → IsWanted new m

@@ -10,18 +10,16 @@ use Rattle.cga_order.specs.Stamp.{stamp_cmp}
 use Rattle.cga_order.specs.World.{is_instance}
 use Rattle.cga_order.specs.Agenda.{asked}
 use Rattle.cga_agenda.specs.declared.turned.Turned.{Turned}
-use Rattle.cga_agenda.specs.Edit.{Edit, new_world}
-use Rattle.cga_agenda.specs.Loop.{State, Turns, calls_of, children_of}
+use Rattle.cga_agenda.specs.Edit.{new_world}
+use Rattle.cga_agenda.specs.Loop.{Turns, calls_of, children_of}
 use Rattle.cga_agenda.specs.Record.{Drawn, IsChange}
 use Rattle.cga_agenda.specs.Known.{made_by}
 use Rattle.cga_agenda.specs.Work.{IsTurnOf}
 use Rattle.cga_shape.specs.declared.shape.Shape.{Shape}
-use Rattle.cga_shape.specs.declared.shape_fault.ShapeFault.{ShapeFault}
 use Rattle.cga_shape.specs.declared.sources.Sources.{Sources}
 use Rattle.cga_tree.specs.Replaced.{IsReplaced}
 use Rattle.cga_expand.specs.Derivation as expansion
 use Rattle.cga_expand.specs.Derivation.{NamesDiffer}
-use Rattle.cga_expand.specs.Settings.{Setting}
 use Rattle.cga_derivation.proofs.Lists.{none_some}
 use Rattle.cga_forest.specs.Node.{chain_kept, fits, with_state}
 use Rattle.cga_forest.specs.Placing.{children_after, emitted, state_after}

@@ -1,5 +1,5 @@
 -- Where no node was kept, all that asks is on the agenda when the work begins.
-use Rattle.std.proofs.Common.{◌≡◌, inl, inr, ℕ, List, length, sym, ◌∙◌, Option, Some, None, true}
+use Rattle.std.proofs.Common.{◌≡◌, inl, inr, ℕ, List, sym, ◌∙◌, Option, Some, None, true}
 use Rattle.std.specs.Prelude.{nat_eq}
 use borrow.Author.Tests.{eqb-true}
 use Rattle.cga_derivation.proofs.Lists.{none_some}
@@ -8,16 +8,14 @@ use Rattle.cga_shape.specs.declared.sources.Sources.{Sources}
 use Rattle.cga_depend.specs.Pairs.{DependentsView}
 use Rattle.cga_forest.specs.declared.moved.Moved.{Moved}
 use Rattle.cga_forest.specs.Count.{tally}
-use Rattle.cga_forest.specs.Moved.{ListsMoved}
 use Rattle.cga_forest.specs.View.{Seen, is_shown}
-use Rattle.cga_forest.specs.Tree.{ForestView, IsForest, node_at}
+use Rattle.cga_forest.specs.Tree.{ForestView, node_at}
 use Rattle.cga_update.specs.Agenda.{AgendaView}
-use Rattle.cga_update.specs.Begun.{IsFirst, StandsMarked}
 use Rattle.cga_update.specs.Due.{AskersAreDue}
-use Rattle.cga_update.specs.Roots.{AllWanted, AreThere, IsRerooted}
 use Rattle.cga_update.proofs.Beginning.{came_on}
 use Rattle.cga_update.proofs.Cases.{option_cases}
 use Rattle.cga_update.proofs.Counting.{none_shown}
+use Rattle.cga_update.proofs.Rooting.{IsRooted}
 
 pub is_zero : (count nodes : ℕ) → count ≡ nodes → nat_eq count 0 ≡ true → nodes ≡ 0
 is_zero count nodes e f = sym e ∙ eqb-true count 0 f
@@ -30,8 +28,6 @@ all_came V before after still none c d here = elim (option_cases (V c)) [
 ]
 
 -- what came is on the agenda
-pub first_due : (old new : Sources) (first v : ForestView) (d : DependentsView) (went came : List Moved) (a : AgendaView)
-    → (stands : StandsMarked old new first d) (r : IsRerooted (node_at first) v went) (listed : ListsMoved (node_at v) (node_at first) came)
-    (wanted : AllWanted new v) (there : AreThere new v (length new.lots)) (first_laws : IsForest first) (laws : IsForest v) (agenda : IsFirst old new v d went came a)
+pub first_due : {old new : Sources} {first v : ForestView} {d : DependentsView} {went came : List Moved} {a : AgendaView} → IsRooted old new first v d went came a
     → ((c : ℕ) (x : Seen) → node_at v c ≡ Some x → node_at first c ≡ None) → (mode : Mode) → AskersAreDue mode v a
-first_due old new first v d went came a stands r listed wanted there first_laws laws agenda all mode b c e x at on here asks less = came_on old new first v d went came a stands r listed wanted there first_laws laws agenda c x (all c x here) here
+first_due start all mode b c e x at on here asks less = came_on start c x (all c x here) here

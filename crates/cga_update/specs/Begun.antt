@@ -39,11 +39,15 @@ pub record StandsMarked (old new : Sources) (v : ForestView) (d : DependentsView
   pub plain : (c : ℕ) (x : Seen) → node_at v c ≡ Some x → IsPlain x
   pub dependents : ListsView d (node_at v)
 
--- the first agenda: the roots that came, those that ask near what went or came, and the nodes of changed symbols
-pub record IsFirst (old new : Sources) (v : ForestView) (d : DependentsView) (went came : List Moved) (a : AgendaView) : Type 0 where
+-- the roots that came are on the agenda, and those that ask near what went or came
+pub record HasMoved (v : ForestView) (went came : List Moved) (a : AgendaView) : Type 0 where
   pub roots : (m : Moved) → Among m came → HasThese v (λ c. c ≡ m.id) a
   pub near_went : (m : Moved) → Among m went → HasNear v (box_of m.scope) a
   pub near_came : (m : Moved) → Among m came → HasNear v (box_of m.scope) a
+
+-- the first agenda: these, and the nodes of changed symbols
+pub record IsFirst (old new : Sources) (v : ForestView) (d : DependentsView) (went came : List Moved) (a : AgendaView) : Type 0 where
+  pub moved : HasMoved v went came a
   pub changed : (symbol : List ℕ) → IsChangedFor v old.grammar new.grammar (λ c. Member (nodes_in d symbol) c) symbol a
   pub priced : (symbol : List ℕ) → IsPricedFor v old.grammar new.grammar (λ c. Member (nodes_in d symbol) c) symbol a
 

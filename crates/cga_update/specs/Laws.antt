@@ -13,7 +13,7 @@ use Rattle.cga_expand.specs.Derivation.{derivation_of, NamesDiffer}
 use Rattle.cga_forest.specs.View.{Seen}
 use Rattle.cga_forest.specs.Tree.{ForestView, node_at}
 use Rattle.cga_update.specs.Edit.{the_edit}
-use Rattle.cga_depend.specs.Pairs.{DependentsView}
+use Rattle.cga_update.specs.declared.kept.Kept.{Kept}
 use Rattle.cga_update.specs.Stands.{ForestStands, Stands}
 use Rattle.cga_update.specs.Updates.{StandAsBefore}
 
@@ -34,6 +34,6 @@ StandingIsDerived =
 -- put back as it was, a forest stands as it did
 abbrev pub PutBackStands : Type 0
 PutBackStands =
-    (sources : Sources) (v t : ForestView) (d : DependentsView) → Stands sources v d
-    → ((c : ℕ) → node_at t c ≡ node_at v c) → t.marking ≡ false → t.mode ≡ v.mode
-    → StandAsBefore sources v t d
+    (sources : Sources) (kept : Kept) (t : ForestView) → Stands sources kept
+    → ((c : ℕ) → node_at t c ≡ node_at kept.forest c) → t.marking ≡ false → t.mode ≡ kept.forest.mode
+    → StandAsBefore sources kept (record kept { forest = t })

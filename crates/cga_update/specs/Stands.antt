@@ -8,6 +8,7 @@ use Rattle.cga_depend.specs.Mentions.{mentioning}
 use Rattle.cga_depend.specs.Pairs.{DependentsView, nodes_in, symbols_in}
 use Rattle.cga_forest.specs.View.{Seen}
 use Rattle.cga_forest.specs.Tree.{ForestView, node_at}
+use Rattle.cga_update.specs.declared.kept.Kept.{Kept}
 use Rattle.cga_update.specs.Edit.{shapes_of, rules_of, asks_by, content}
 use Rattle.cga_update.specs.Plain.{IsPlain}
 
@@ -34,6 +35,6 @@ pub record DependentsStand (sources : Sources) (v : ForestView) (d : DependentsV
   pub mentions : (attribute : List ℕ) → symbols_in d attribute ≡ mentioning sources.grammar attribute
 
 -- both are
-pub record Stands (sources : Sources) (v : ForestView) (d : DependentsView) : Type 0 where
-  pub forest : ForestStands sources v
-  pub dependents : DependentsStand sources v d
+pub record Stands (sources : Sources) (kept : Kept) : Type 0 where
+  pub forest : ForestStands sources kept.forest
+  pub dependents : DependentsStand sources kept.forest kept.dependents

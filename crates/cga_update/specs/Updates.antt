@@ -1,5 +1,5 @@
 -- What an update comes to.
-use Rattle.std.specs.Prelude.{◌≡◌, ℕ, ◌+◌, List, ◌++◌, ◌∷◌, [], map, count_by, Bool, Some, Result, Ok, Err}
+use Rattle.std.specs.Prelude.{◌≡◌, ◌≤◌, ℕ, ◌+◌, List, ◌++◌, ◌∷◌, [], map, count_by, Bool, Some, None, Result, Ok, Err, IfOk, OnOk}
 use Rattle.cga_word.specs.declared.primitive.Primitive.{Primitive}
 use Rattle.cga_shape.specs.declared.changes.Changes.{Changes}
 use Rattle.cga_shape.specs.declared.drawn.Drawn as reported
@@ -11,11 +11,12 @@ use Rattle.cga_derivation.specs.Derivation.{IsDerived, derive}
 use Rattle.cga_agenda.specs.Record.{Drawn, drawn}
 use Rattle.cga_order.specs.Once.{Once}
 use Rattle.cga_agenda.specs.Work.{AreSoMany}
-use Rattle.cga_depend.specs.Pairs.{DependentsView}
 use Rattle.cga_expand.specs.Children.{Member}
 use Rattle.cga_expand.specs.Derivation.{derivation_of}
-use Rattle.cga_expand.specs.Touched.{NonInstance, Kept, SameInputs, Touched}
-use Rattle.cga_forest.specs.Tree.{ForestView, node_at}
+use Rattle.cga_expand.specs.Touched.{NonInstance, Kept as IsKept, SameInputs, Touched}
+use Rattle.cga_forest.specs.Tree.{node_at}
+use Rattle.cga_update.specs.declared.kept.Kept.{Kept}
+use Rattle.cga_update.specs.declared.renewal.Renewal.{Renewal}
 use Rattle.cga_update.specs.declared.update_refused.UpdateRefused.{UpdateRefused}
 use Rattle.cga_update.specs.declared.update_refused.UpdateRefused.TheVariants.{OverBudget, NoMemory}
 use Rattle.cga_update.specs.Stands.{Stands}
@@ -49,7 +50,7 @@ module _ (old new : Sources) (before after : List Member) where
     pub each_gone : (d : Drawn Shape Primitive) → Among d gone
         → Has before d.shape (Instance d.solid)
         × ((parent : Shape) (i : ℕ) → NonInstance after parent → IsBelow parent i d.shape
-        → Kept old new before after parent → SameInputs old new parent → ⊥)
+        → IsKept old new before after parent → SameInputs old new parent → ⊥)
 
   -- the changes name such instances, and account for those before and after, each as often
   pub record IsChange (changes : Changes) : Type 0 where
@@ -75,11 +76,26 @@ WhereOver (Ok n) P = Unit {0}
 WhereOver (Err OverBudget) P = P
 WhereOver (Err NoMemory) P = Unit {0}
 
--- both stand for the old sources as before, each node under its number
-pub record StandAsBefore (sources : Sources) (before after : ForestView) (d : DependentsView) : Type 0 where
-  pub stands : Stands sources after d
-  pub nodes : (c : ℕ) → node_at after c ≡ node_at before c
+-- it stands for the old sources as before, each node under its number
+pub record StandAsBefore (sources : Sources) (before after : Kept) : Type 0 where
+  pub stands : Stands sources after
+  pub nodes : (c : ℕ) → node_at after.forest c ≡ node_at before.forest c
 
 -- the same sources without lots
 abbrev pub with_no_lots : Sources → Sources
 with_no_lots sources = record { grammar = sources.grammar; lots = []; mode = sources.mode }
+
+-- what an update is, by what it answers: what was kept before and after it, the changes, and how often shapes were expanded
+pub record IsUpdate (r : Renewal) (before after : Kept) (was now : Changes) (calls since : ℕ) (result : Result ℕ UpdateRefused) : Type 0 where
+  pub stands : OnOk result (Stands r.new.now after)
+  pub exact : IfOk result (λ n. IsExact r.old.now r.new.now r.budget n now)
+  pub spent : IfOk result (λ n. since ≡ calls + n)
+  pub over : WhereOver result (derive (derivation_of r.new.now) r.budget ≡ None)
+  pub kept : WhereOver result (StandAsBefore r.old.now before after)
+  pub dependents : WhereOver result (after.dependents ≡ before.dependents)
+  pub changes : WhereOver result (now ≡ was)
+  pub most : WhereOver result (since ≤ calls + (r.budget + 1))
+  -- a change of mode works two updates, of which the second is to no lots
+  pub bounded : since ≤ calls + (r.budget + 2)
+  pub bounded_within : r.old.now.mode ≡ r.new.now.mode → since ≤ calls + (r.budget + 1)
+  pub counted : calls ≤ since

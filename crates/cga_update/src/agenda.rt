@@ -17,6 +17,7 @@ use std::marker::Model;
 /// Numbers of nodes by the stamps at which they are to be looked at.
 #[derive(Drop)]
 pub struct Agenda {
+    alloc: Global,
     mode: Mode,
     entries: BTreeMap<StampKey, NodeId>,
     /// What came behind all that was there, as nearly everything does in the mode Breadth.
@@ -41,6 +42,7 @@ impl Agenda {
         ensures { result ≡ record { mode = mode; entries = [] } }
     {
         Agenda {
+            alloc,
             mode,
             entries: BTreeMap::new(alloc),
             late: VecDeque::new(alloc),
@@ -53,12 +55,16 @@ impl Agenda {
         self.mode
     }
 
+    pub fn alloc(&self) -> Global {
+        self.alloc
+    }
+
     /// Puts a number on it, at the stamp of a chain. Takes memory for the key.
-    pub fn put(&mut self, alloc: Global, chain: &Chain, id: NodeId) -> Result<(), NoMemory>
+    pub fn put(&mut self, chain: &Chain, id: NodeId) -> Result<(), NoMemory>
         requires whole { IsWhole (chain_of chain.now) }
         ensures put { OnOk result (IsPut self.old self.new (chain_of chain.now) id) }
     {
-        let key = StampKey::of(alloc, self.mode, chain)?;
+        let key = StampKey::of(self.alloc, self.mode, chain)?;
         put_in(&mut self.entries, &mut self.late, key, id)
     }
 

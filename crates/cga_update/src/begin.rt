@@ -1,56 +1,38 @@
 //! The beginning of an update: the roots that go and come, and the first agenda.
-ghost use Rattle.std.specs.Prelude.{◌≡◌, ℕ, true, IfOk, OnOk};
+ghost use Rattle.std.specs.Prelude.{◌≡◌, ℕ, IfOk, OnOk};
 ghost use Rattle.cga_forest.specs.Tree.{marked_at, node_at};
-ghost use Rattle.cga_update.specs.Begun.{HasBegun, IsBetween, IsFirst, StandsMarked};
-ghost use Rattle.cga_update.specs.Changed.{AreKnown};
-ghost use Rattle.cga_update.specs.Near.{KeepsPriorities};
+ghost use Rattle.cga_update.specs.Begun.{HasBegun, HasMoved, IsBetween, StandsMarked};
 
 use crate::agenda::Agenda;
 use crate::changed::Symbols;
+use crate::due::add_moved;
 use crate::log::{note_came, note_went};
-use crate::queue::{queue_changed, queue_moved, queue_near};
+use crate::queue::{queue_changed, queue_near};
+use crate::renewal::Renewal;
 use crate::roots::{add_roots, remove_roots};
 use crate::work::Work;
 use cga_depend::Dependents;
 use cga_forest::{Forest, Moved};
 use cga_fraction::{NoMemory, Steps};
-use cga_shape::Sources;
 use std::alloc::Global;
 use std::sync::ledger::Ledger;
 
-/// Puts on an agenda all that is to be looked at when roots went and came, and answers whether each node has the
-/// priority that its symbol has today. Takes memory.
-fn first_agenda<T: Ledger>(
+/// Puts on an agenda the roots that came, and who asks near what went or came. Takes memory.
+fn queue_rooted<T: Ledger>(
     agenda: &mut Agenda,
-    alloc: Global,
     forest: &Forest,
-    symbols: &mut Symbols,
-    old: &Sources,
-    new: &Sources,
-    dependents: &Dependents,
     went: &[Moved],
     came: &[Moved],
     tests: &mut Steps<T>,
-) -> Result<bool, NoMemory>
-    requires { AreKnown old.now.grammar new.now.grammar symbols.old.known }
-    ensures known { OnOk result (AreKnown old.now.grammar new.now.grammar symbols.new.known) }
-    ensures first { OnOk result (IsFirst old.now new.now forest.now dependents.now went.now came.now agenda.new) }
+) -> Result<(), NoMemory>
+    ensures moved { OnOk result (HasMoved forest.now went.now came.now agenda.new) }
     ensures mode { OnOk result (agenda.new.mode ≡ agenda.old.mode) }
-    ensures priced { IfOk result (λ kept. kept ≡ true → KeepsPriorities old.now.grammar new.now.grammar dependents.now) }
 {
-    queue_moved(agenda, alloc, forest, came)?;
-    queue_near(agenda, alloc, forest, went, tests)?;
-    queue_near(agenda, alloc, forest, came, tests)?;
-    let priced = queue_changed(
-        agenda,
-        alloc,
-        forest,
-        symbols,
-        &old.grammar,
-        &new.grammar,
-        dependents,
-    )?;
-    Ok(priced)
+    forest.laws();
+    add_moved(agenda, forest, came)?;
+    queue_near(agenda, forest, went, tests)?;
+    queue_near(agenda, forest, came, tests)?;
+    Ok(())
 }
 
 /// An update under way, before its first turn: the roots that went are gone, those that came are there, and the agenda has
@@ -59,43 +41,32 @@ pub fn begun<'a, T: Ledger>(
     alloc: Global,
     forest: Forest,
     dependents: &Dependents,
-    old: &'a Sources,
-    new: &'a Sources,
+    renewal: Renewal<'a>,
     tests: &mut Steps<T>,
 ) -> Result<Work<'a>, NoMemory>
-    requires stands { StandsMarked old.now new.now forest dependents.now }
-    ensures begun { IfOk result (λ work. HasBegun old.now new.now forest work) }
+    requires stands { StandsMarked renewal.old.now renewal.new.now forest dependents.now }
+    ensures begun { IfOk result (λ work. HasBegun renewal.entry.old.now renewal.entry.new.now forest work) }
     ensures mark { IfOk result (λ work. (c : ℕ) → marked_at work.forest c ≡ node_at forest c) }
-    ensures sources { IfOk result (λ work. IsBetween old.now new.now work) }
+    ensures sources { IfOk result (λ work. IsBetween renewal.entry.old.now renewal.entry.new.now work) }
 {
     let mut forest = forest;
     let mut symbols = Symbols::new(alloc);
-    let mut agenda = Agenda::new(alloc, new.mode);
+    let mut agenda = Agenda::new(alloc, renewal.new.mode);
     let mut went = Vec::new(alloc);
     let mut log = Vec::new(alloc);
     let mut gone = Vec::new(alloc);
     let mut come = Vec::new(alloc);
     forest.laws();
-    remove_roots(alloc, &mut forest, &mut symbols, old, new, &mut went)?;
+    remove_roots(alloc, &mut forest, &mut symbols, renewal, &mut went)?;
     // Of a forest that has no node all nodes are roots that come, and these wait on the agenda.
     let askers_due = forest.count() == 0;
-    let came = add_roots(alloc, &mut forest, new)?;
+    let came = add_roots(alloc, &mut forest, renewal.new)?;
     let went_nodes = went.as_slice();
     let came_nodes = came.as_slice();
     note_went(went_nodes, &mut log, &mut gone)?;
     note_came(came_nodes, &mut log, &mut come)?;
-    let priced = first_agenda(
-        &mut agenda,
-        alloc,
-        &forest,
-        &mut symbols,
-        old,
-        new,
-        dependents,
-        went_nodes,
-        came_nodes,
-        tests,
-    )?;
+    queue_rooted(&mut agenda, &forest, went_nodes, came_nodes, tests)?;
+    let priced = queue_changed(&mut agenda, &forest, &mut symbols, renewal, dependents)?;
     forest.laws();
     Ok(Work {
         alloc,
@@ -107,7 +78,7 @@ pub fn begun<'a, T: Ledger>(
         log,
         gone,
         come,
-        old,
-        new,
+        old: renewal.old,
+        new: renewal.new,
     })
 }

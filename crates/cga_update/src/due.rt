@@ -2,6 +2,8 @@
 ghost use Rattle.std.specs.Prelude.{◌≡◌, true, IfSome, IfNone, IsSome, is_some, OnOk};
 ghost use Rattle.cga_order.specs.World as world;
 ghost use Rattle.std.specs.Ordering.{is_eq};
+ghost use Rattle.cga_order.specs.World.{Among};
+ghost use Rattle.cga_forest.specs.declared.moved.Moved.{Moved as Mover};
 ghost use Rattle.cga_order.specs.Chain.{Chain as Along, IsWhole};
 ghost use Rattle.cga_order.specs.Seen.{chain_of};
 ghost use Rattle.cga_order.specs.Stamp.{stamp_cmp};
@@ -11,14 +13,13 @@ ghost use Rattle.cga_update.specs.Due.{ComesAfter, HasLater};
 ghost use Rattle.cga_update.specs.Queue.{chains_of, on_of};
 
 use crate::agenda::Agenda;
-use cga_forest::{Forest, Node};
+use cga_forest::{Forest, Moved, Node};
 use cga_fraction::NoMemory;
 use cga_index::NodeId;
 use cga_key::StampKey;
 use cga_order::{Chain, cmp_stamp};
 use cga_shape::Kind;
 use cga_word::Mode;
-use std::alloc::Global;
 use std::cmp::Ordering;
 
 fn is_instance(node: &Node) -> bool
@@ -92,29 +93,47 @@ pub fn take(agenda: &mut Agenda, forest: &Forest) -> Option<NodeId>
 }
 
 /// Puts a node on it. Takes memory.
-pub fn add(agenda: &mut Agenda, alloc: Global, forest: &Forest, id: NodeId) -> Result<(), NoMemory>
+pub fn add(agenda: &mut Agenda, forest: &Forest, id: NodeId) -> Result<(), NoMemory>
     requires here { IsSome (chains_of forest.now id) }
     requires one { OneEach (chains_of forest.now) }
     ensures grows { OnOk result (Grows (chains_of forest.now) (λ c. c ≡ id) agenda.old agenda.new) }
     ensures there { OnOk result (on_of forest.now agenda.new id ≡ true) }
 {
-    agenda.put(alloc, &forest.chain(id), id)
+    agenda.put(&forest.chain(id), id)
+}
+
+/// Puts a node on it, where it is there and is no instance. Takes memory.
+pub fn add_worked(agenda: &mut Agenda, forest: &Forest, id: NodeId) -> Result<(), NoMemory>
+    requires one { OneEach (chains_of forest.now) }
+    ensures grows { OnOk result (Grows (chains_of forest.now) (λ c. id ≡ c) agenda.old agenda.new) }
+    ensures there { OnOk result (IsSome (chains_of forest.now id) → on_of forest.now agenda.new id ≡ true) }
+{
+    if is_worked(forest, id) {
+        add(agenda, forest, id)?;
+    }
+    Ok(())
+}
+
+/// Puts these nodes on it, where they are there and are no instances. Takes memory.
+pub fn add_moved(agenda: &mut Agenda, forest: &Forest, moved: &[Moved]) -> Result<(), NoMemory>
+    requires one { OneEach (chains_of forest.now) }
+    ensures grows { OnOk result (Grows (chains_of forest.now) (λ c. (m : Mover) × Among m moved.now × (m.id ≡ c)) agenda.old agenda.new) }
+    ensures there { OnOk result ((m : Mover) → Among m moved.now → IsSome (chains_of forest.now m.id) → on_of forest.now agenda.new m.id ≡ true) }
+{
+    for node in moved {
+        add_worked(agenda, forest, node.id)?;
+    }
+    Ok(())
 }
 
 /// Puts a node on it, if it comes later than another. Takes memory.
-fn add_later(
-    agenda: &mut Agenda,
-    alloc: Global,
-    forest: &Forest,
-    of: NodeId,
-    id: NodeId,
-) -> Result<(), NoMemory>
+fn add_later(agenda: &mut Agenda, forest: &Forest, of: NodeId, id: NodeId) -> Result<(), NoMemory>
     requires one { OneEach (chains_of forest.now) }
     ensures grows { OnOk result (Grows (chains_of forest.now) (ComesAfter forest.now agenda.old.mode of) agenda.old agenda.new) }
     ensures there { OnOk result (ComesAfter forest.now agenda.old.mode of id → on_of forest.now agenda.new id ≡ true) }
 {
     if is_later(agenda.mode(), forest, of, id) {
-        add(agenda, alloc, forest, id)?;
+        add(agenda, forest, id)?;
     }
     Ok(())
 }
@@ -122,7 +141,6 @@ fn add_later(
 /// Puts those of the nodes on it that come later than another. Takes memory.
 pub fn add_each(
     agenda: &mut Agenda,
-    alloc: Global,
     forest: &Forest,
     of: NodeId,
     ids: &[NodeId],
@@ -132,7 +150,7 @@ pub fn add_each(
     ensures there { OnOk result (HasLater forest.now agenda.old.mode of ids.now agenda.new) }
 {
     for id in ids {
-        add_later(agenda, alloc, forest, of, *id)?;
+        add_later(agenda, forest, of, *id)?;
     }
     Ok(())
 }

@@ -6,6 +6,7 @@ ghost use Rattle.cga_forest.specs.Tree.{marked_at, node_at};
 ghost use Rattle.cga_update.specs.Applied.{IsApplied, ListsView, lists};
 ghost use Rattle.cga_update.specs.Log.{IsLogged, is_pair, noted};
 
+use crate::kept::Kept;
 use crate::log::Pairing;
 use crate::work::Work;
 use cga_depend::Dependents;
@@ -57,22 +58,17 @@ fn take_out(dependents: &mut Dependents, symbol: Name, node: NodeId)
     dependents.remove(symbol, node);
 }
 
-/// Puts a worked forest and what it means for the dependents in place, and its record into the changes. Takes memory.
-pub fn done(
-    work: Work,
-    forest: &mut Forest,
-    dependents: &mut Dependents,
-    changes: &mut Changes,
-) -> Result<(), NoMemory>
+/// Keeps a worked forest and what it means for the dependents, and puts its record into the changes. Takes memory.
+pub fn done(work: Work, kept: &mut Kept, changes: &mut Changes) -> Result<(), NoMemory>
     requires marked { work.forest.marking ≡ true }
     requires logged { IsLogged (marked_at work.forest) (node_at work.forest) work.log.items }
-    requires listed { ListsView dependents.old (marked_at work.forest) }
-    requires mentions { (a : List ℕ) → symbols_in dependents.old a ≡ mentioning work.old.now.grammar a }
-    ensures nodes { OnOk result ((c : ℕ) → node_at forest.new c ≡ node_at work.entry.forest c) }
-    ensures unmarked { OnOk result (forest.new.marking ≡ false) }
-    ensures mode { OnOk result (forest.new.mode ≡ work.entry.forest.mode) }
-    ensures listed { OnOk result (ListsView dependents.new (node_at work.entry.forest)) }
-    ensures mentions { OnOk result ((a : List ℕ) → symbols_in dependents.new a ≡ mentioning work.entry.new.now.grammar a) }
+    requires listed { ListsView kept.old.dependents (marked_at work.forest) }
+    requires mentions { (a : List ℕ) → symbols_in kept.old.dependents a ≡ mentioning work.old.now.grammar a }
+    ensures nodes { OnOk result ((c : ℕ) → node_at kept.new.forest c ≡ node_at work.entry.forest c) }
+    ensures unmarked { OnOk result (kept.new.forest.marking ≡ false) }
+    ensures mode { OnOk result (kept.new.forest.mode ≡ work.entry.forest.mode) }
+    ensures listed { OnOk result (ListsView kept.new.dependents (node_at work.entry.forest)) }
+    ensures mentions { OnOk result ((a : List ℕ) → symbols_in kept.new.dependents a ≡ mentioning work.entry.new.now.grammar a) }
     ensures changes { OnOk result (changes.new ≡ record { gone = work.entry.gone.items; come = work.entry.come.items }) }
 {
     let Work {
@@ -88,10 +84,10 @@ pub fn done(
         old,
         new,
     } = work;
-    apply(dependents, log.as_slice())?;
-    renew_mentions(dependents, &old.grammar, &new.grammar)?;
+    apply(&mut kept.dependents, log.as_slice())?;
+    renew_mentions(&mut kept.dependents, &old.grammar, &new.grammar)?;
     worked.settle();
-    *forest = worked;
+    kept.forest = worked;
     *changes = Changes {
         gone: List::from_vec(gone),
         come: List::from_vec(come),

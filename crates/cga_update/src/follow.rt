@@ -1,60 +1,24 @@
 //! What the agenda becomes after the turn of a node.
-ghost use Rattle.std.specs.Prelude.{◌≡◌, true, IsSome, OnOk};
+ghost use Rattle.std.specs.Prelude.{OnOk};
 ghost use Rattle.cga_frame.specs.Box.{box_of};
 ghost use Rattle.cga_order.specs.World.{Among};
 ghost use Rattle.cga_forest.specs.declared.moved.Moved.{Moved as Mover};
 ghost use Rattle.cga_update.specs.Agenda.{Grows, OneEach};
 ghost use Rattle.cga_update.specs.Due.{ComesAfter, HasAskers};
 ghost use Rattle.cga_update.specs.Follow.{IsFollowed};
-ghost use Rattle.cga_update.specs.Queue.{chains_of, on_of};
+ghost use Rattle.cga_update.specs.Queue.{chains_of};
 
 use crate::agenda::Agenda;
 use crate::askers::askers_near;
-use crate::due::{add, add_each, is_worked};
+use crate::due::{add_each, add_moved};
 use cga_forest::{Change, Forest, Moved};
 use cga_fraction::{NoMemory, Steps};
 use cga_index::NodeId;
-use std::alloc::Global;
 use std::sync::ledger::Ledger;
-
-/// Puts a node on it, unless it is an instance. Takes memory.
-fn add_worked(
-    agenda: &mut Agenda,
-    alloc: Global,
-    forest: &Forest,
-    id: NodeId,
-) -> Result<(), NoMemory>
-    requires one { OneEach (chains_of forest.now) }
-    ensures grows { OnOk result (Grows (chains_of forest.now) (λ c. id ≡ c) agenda.old agenda.new) }
-    ensures there { OnOk result (IsSome (chains_of forest.now id) → on_of forest.now agenda.new id ≡ true) }
-{
-    if is_worked(forest, id) {
-        add(agenda, alloc, forest, id)?;
-    }
-    Ok(())
-}
-
-/// Puts those of the nodes on it that are no instances. Takes memory.
-fn add_came(
-    agenda: &mut Agenda,
-    alloc: Global,
-    forest: &Forest,
-    came: &[Moved],
-) -> Result<(), NoMemory>
-    requires one { OneEach (chains_of forest.now) }
-    ensures grows { OnOk result (Grows (chains_of forest.now) (λ c. (m : Mover) × Among m came.now × (m.id ≡ c)) agenda.old agenda.new) }
-    ensures there { OnOk result ((m : Mover) → Among m came.now → IsSome (chains_of forest.now m.id) → on_of forest.now agenda.new m.id ≡ true) }
-{
-    for node in came {
-        add_worked(agenda, alloc, forest, node.id)?;
-    }
-    Ok(())
-}
 
 /// Puts the nodes on it that ask, meet one of the moved and come later than another. Takes memory.
 fn add_met<T: Ledger>(
     agenda: &mut Agenda,
-    alloc: Global,
     forest: &Forest,
     of: NodeId,
     moved: &[Moved],
@@ -64,15 +28,14 @@ fn add_met<T: Ledger>(
     ensures grows { OnOk result (Grows (chains_of forest.now) (ComesAfter forest.now agenda.old.mode of) agenda.old agenda.new) }
     ensures there { OnOk result ((m : Mover) → Among m moved.now → HasAskers forest.now agenda.old.mode of (box_of m.scope) agenda.new) }
 {
-    let askers = askers_near(alloc, forest, moved, tests)?;
-    add_each(agenda, alloc, forest, of, askers.as_slice())
+    let askers = askers_near(agenda.alloc(), forest, moved, tests)?;
+    add_each(agenda, forest, of, askers.as_slice())
 }
 
 /// Puts on the agenda what came, and who meets what went or came and comes later than the node whose children were
 /// replaced; but where the askers are due anyway, nobody is looked for. Takes memory.
 pub fn follow<T: Ledger>(
     agenda: &mut Agenda,
-    alloc: Global,
     forest: &Forest,
     of: NodeId,
     change: &Change,
@@ -82,10 +45,10 @@ pub fn follow<T: Ledger>(
     requires one { OneEach (chains_of forest.now) }
     ensures { OnOk result (IsFollowed forest.now of change.now askers_due agenda.old agenda.new) }
 {
-    add_came(agenda, alloc, forest, change.came.as_slice())?;
+    add_moved(agenda, forest, change.came.as_slice())?;
     if askers_due {
         return Ok(());
     }
-    add_met(agenda, alloc, forest, of, change.went.as_slice(), tests)?;
-    add_met(agenda, alloc, forest, of, change.came.as_slice(), tests)
+    add_met(agenda, forest, of, change.went.as_slice(), tests)?;
+    add_met(agenda, forest, of, change.came.as_slice(), tests)
 }

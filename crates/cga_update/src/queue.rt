@@ -11,45 +11,31 @@ ghost use Rattle.cga_depend.specs.Pairs.{nodes_in};
 use crate::agenda::Agenda;
 use crate::askers::askers_near;
 use crate::changed::Symbols;
-use crate::due::{add, is_worked};
+use crate::due::add_worked;
+use crate::renewal::Renewal;
 use cga_depend::Dependents;
 use cga_forest::{Forest, Moved};
 use cga_fraction::{NoMemory, Steps};
 use cga_index::NodeId;
-use cga_rule::Grammar;
 use cga_word::Name;
-use std::alloc::Global;
 use std::sync::ledger::Ledger;
 
 /// Puts a node on it, where it is there and is no instance. Takes memory.
-pub fn queue(
-    agenda: &mut Agenda,
-    alloc: Global,
-    forest: &Forest,
-    id: NodeId,
-) -> Result<(), NoMemory>
+pub fn queue(agenda: &mut Agenda, forest: &Forest, id: NodeId) -> Result<(), NoMemory>
     ensures kept { OnOk result (KeepsOn forest.now agenda.old agenda.new) }
     ensures there { OnOk result (HasThese forest.now (λ c. c ≡ id) agenda.new) }
 {
     forest.laws();
-    if !is_worked(forest, id) {
-        return Ok(());
-    }
-    add(agenda, alloc, forest, id)
+    add_worked(agenda, forest, id)
 }
 
 /// Puts nodes on it, those that are there and are no instances. Takes memory.
-pub fn queue_all(
-    agenda: &mut Agenda,
-    alloc: Global,
-    forest: &Forest,
-    ids: &[NodeId],
-) -> Result<(), NoMemory>
+pub fn queue_all(agenda: &mut Agenda, forest: &Forest, ids: &[NodeId]) -> Result<(), NoMemory>
     ensures kept { OnOk result (KeepsOn forest.now agenda.old agenda.new) }
     ensures there { OnOk result (HasThese forest.now (λ c. Member ids.now c) agenda.new) }
 {
     for id in ids {
-        queue(agenda, alloc, forest, *id)?;
+        queue(agenda, forest, *id)?;
     }
     Ok(())
 }
@@ -57,7 +43,6 @@ pub fn queue_all(
 /// Puts the nodes on it that ask and whose boxes meet that of one of these. Takes memory.
 pub fn queue_near<T: Ledger>(
     agenda: &mut Agenda,
-    alloc: Global,
     forest: &Forest,
     moved: &[Moved],
     tests: &mut Steps<T>,
@@ -65,33 +50,12 @@ pub fn queue_near<T: Ledger>(
     ensures kept { OnOk result (KeepsOn forest.now agenda.old agenda.new) }
     ensures there { OnOk result ((m : Moved) → Among m moved.now → HasNear forest.now (box_of m.scope) agenda.new) }
 {
-    let askers = askers_near(alloc, forest, moved, tests)?;
-    queue_all(agenda, alloc, forest, askers.as_slice())
-}
-
-/// Puts these nodes on it, where they are there and are no instances. Takes memory.
-pub fn queue_moved(
-    agenda: &mut Agenda,
-    alloc: Global,
-    forest: &Forest,
-    moved: &[Moved],
-) -> Result<(), NoMemory>
-    ensures kept { OnOk result (KeepsOn forest.now agenda.old agenda.new) }
-    ensures there { OnOk result ((m : Moved) → Among m moved.now → HasThese forest.now (λ c. c ≡ m.id) agenda.new) }
-{
-    for node in moved {
-        queue(agenda, alloc, forest, node.id)?;
-    }
-    Ok(())
+    let askers = askers_near(agenda.alloc(), forest, moved, tests)?;
+    queue_all(agenda, forest, askers.as_slice())
 }
 
 /// Puts the parent of a node on it, where there is one. Takes memory.
-fn queue_parent(
-    agenda: &mut Agenda,
-    alloc: Global,
-    forest: &Forest,
-    id: NodeId,
-) -> Result<(), NoMemory>
+fn queue_parent(agenda: &mut Agenda, forest: &Forest, id: NodeId) -> Result<(), NoMemory>
     ensures kept { OnOk result (KeepsOn forest.now agenda.old agenda.new) }
     ensures there { OnOk result (HasParents forest.now (λ c. c ≡ id) agenda.new) }
 {
@@ -99,23 +63,18 @@ fn queue_parent(
         return Ok(());
     }
     match forest.parent(id) {
-        Some(parent) => queue(agenda, alloc, forest, parent),
+        Some(parent) => queue(agenda, forest, parent),
         None => Ok(()),
     }
 }
 
 /// Puts the parents of nodes on it, where there are any. Takes memory.
-pub fn queue_parents(
-    agenda: &mut Agenda,
-    alloc: Global,
-    forest: &Forest,
-    ids: &[NodeId],
-) -> Result<(), NoMemory>
+pub fn queue_parents(agenda: &mut Agenda, forest: &Forest, ids: &[NodeId]) -> Result<(), NoMemory>
     ensures kept { OnOk result (KeepsOn forest.now agenda.old agenda.new) }
     ensures there { OnOk result (HasParents forest.now (λ c. Member ids.now c) agenda.new) }
 {
     for id in ids {
-        queue_parent(agenda, alloc, forest, *id)?;
+        queue_parent(agenda, forest, *id)?;
     }
     Ok(())
 }
@@ -124,27 +83,25 @@ pub fn queue_parents(
 /// them has its symbol's priority. Takes memory.
 fn queue_symbol(
     agenda: &mut Agenda,
-    alloc: Global,
     forest: &Forest,
     symbols: &mut Symbols,
-    old: &Grammar,
-    new: &Grammar,
+    renewal: Renewal,
     nodes: &[NodeId],
     symbol: Name,
 ) -> Result<bool, NoMemory>
-    requires { AreKnown old.now new.now symbols.old.known }
-    ensures known { OnOk result (AreKnown old.now new.now symbols.new.known) }
+    requires { AreKnown renewal.old.now.grammar renewal.new.now.grammar symbols.old.known }
+    ensures known { OnOk result (AreKnown renewal.entry.old.now.grammar renewal.entry.new.now.grammar symbols.new.known) }
     ensures kept { OnOk result (KeepsOn forest.now agenda.old agenda.new) }
     ensures there { OnOk result (HasThese forest.now (λ c. Member nodes.now c) agenda.new) }
-    ensures parents { OnOk result (IsPricedFor forest.now old.now new.now (λ c. Member nodes.now c) symbol agenda.new) }
-    ensures priced { IfOk result (λ kept. kept ≡ true → KeepsPriority old.now new.now nodes.now symbol) }
+    ensures parents { OnOk result (IsPricedFor forest.now renewal.entry.old.now.grammar renewal.entry.new.now.grammar (λ c. Member nodes.now c) symbol agenda.new) }
+    ensures priced { IfOk result (λ kept. kept ≡ true → KeepsPriority renewal.entry.old.now.grammar renewal.entry.new.now.grammar nodes.now symbol) }
 {
-    let facts = symbols.of(old, new, symbol)?;
-    queue_all(agenda, alloc, forest, nodes)?;
+    let facts = symbols.of(&renewal.old.grammar, &renewal.new.grammar, symbol)?;
+    queue_all(agenda, forest, nodes)?;
     if facts.same_priority {
         return Ok(true);
     }
-    queue_parents(agenda, alloc, forest, nodes)?;
+    queue_parents(agenda, forest, nodes)?;
     Ok(nodes.is_empty())
 }
 
@@ -152,25 +109,23 @@ fn queue_symbol(
 /// Answers whether each node has its symbol's priority. Takes memory.
 pub fn queue_changed(
     agenda: &mut Agenda,
-    alloc: Global,
     forest: &Forest,
     symbols: &mut Symbols,
-    old: &Grammar,
-    new: &Grammar,
+    renewal: Renewal,
     dependents: &Dependents,
 ) -> Result<bool, NoMemory>
-    requires { AreKnown old.now new.now symbols.old.known }
-    ensures known { OnOk result (AreKnown old.now new.now symbols.new.known) }
+    requires { AreKnown renewal.old.now.grammar renewal.new.now.grammar symbols.old.known }
+    ensures known { OnOk result (AreKnown renewal.entry.old.now.grammar renewal.entry.new.now.grammar symbols.new.known) }
     ensures kept { OnOk result (KeepsOn forest.now agenda.old agenda.new) }
-    ensures there { OnOk result ((symbol : List ℕ) → IsChangedFor forest.now old.now new.now (λ c. Member (nodes_in dependents.now symbol) c) symbol agenda.new) }
-    ensures parents { OnOk result ((symbol : List ℕ) → IsPricedFor forest.now old.now new.now (λ c. Member (nodes_in dependents.now symbol) c) symbol agenda.new) }
-    ensures priced { IfOk result (λ kept. kept ≡ true → KeepsPriorities old.now new.now dependents.now) }
+    ensures there { OnOk result ((symbol : List ℕ) → IsChangedFor forest.now renewal.entry.old.now.grammar renewal.entry.new.now.grammar (λ c. Member (nodes_in dependents.now symbol) c) symbol agenda.new) }
+    ensures parents { OnOk result ((symbol : List ℕ) → IsPricedFor forest.now renewal.entry.old.now.grammar renewal.entry.new.now.grammar (λ c. Member (nodes_in dependents.now symbol) c) symbol agenda.new) }
+    ensures priced { IfOk result (λ kept. kept ≡ true → KeepsPriorities renewal.entry.old.now.grammar renewal.entry.new.now.grammar dependents.now) }
 {
-    let changed = symbols.changed(alloc, old, new)?;
+    let changed = symbols.changed(agenda.alloc(), &renewal.old.grammar, &renewal.new.grammar)?;
     let mut priced = true;
     for symbol in changed.as_slice() {
         let nodes = dependents.nodes_of(*symbol);
-        let kept = queue_symbol(agenda, alloc, forest, symbols, old, new, nodes, *symbol)?;
+        let kept = queue_symbol(agenda, forest, symbols, renewal, nodes, *symbol)?;
         priced = priced && kept;
     }
     Ok(priced)

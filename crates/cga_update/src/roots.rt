@@ -11,6 +11,7 @@ ghost use Rattle.cga_update.specs.Changed.{AreKnown};
 ghost use Rattle.cga_update.specs.Roots.{AllWanted, AreByName, AreThere, AreWithin, Gains, HasLost, HasOldLots, IsRootFor, IsRootNamed, IsWanted, Loses, View};
 
 use crate::changed::Symbols;
+use crate::renewal::Renewal;
 use cga_forest::{Forest, Moved, Node};
 use cga_fraction::{List, NoMemory};
 use cga_index::NodeId;
@@ -56,23 +57,22 @@ fn is_wanted(
     forest: &Forest,
     lots: &IndexMap<Name, Lot>,
     symbols: &mut Symbols,
-    old: &Sources,
-    new: &Sources,
+    renewal: Renewal,
     name: Name,
 ) -> Result<bool, NoMemory>
-    requires known { AreKnown old.now.grammar new.now.grammar symbols.old.known }
-    requires lots { AreByName new.now.lots (length new.now.lots) lots.now.entries }
-    requires names { NamesDiffer new.now.lots }
-    requires scopes { RootsExist new.now.lots }
-    ensures known { OnOk result (AreKnown old.now.grammar new.now.grammar symbols.new.known) }
-    ensures wanted { IfOk result (λ is. is ≡ true → (c : ℕ) (d : Seen) → IsRootNamed (node_at forest.now) name c d → IsWanted new.now d.node) }
-    ensures unwanted { IfOk result (λ is. is ≡ false → (c : ℕ) (d : Seen) → IsRootNamed (node_at forest.now) name c d → IsWanted new.now d.node → ⊥) }
+    requires known { AreKnown renewal.old.now.grammar renewal.new.now.grammar symbols.old.known }
+    requires lots { AreByName renewal.new.now.lots (length renewal.new.now.lots) lots.now.entries }
+    requires names { NamesDiffer renewal.new.now.lots }
+    requires scopes { RootsExist renewal.new.now.lots }
+    ensures known { OnOk result (AreKnown renewal.entry.old.now.grammar renewal.entry.new.now.grammar symbols.new.known) }
+    ensures wanted { IfOk result (λ is. is ≡ true → (c : ℕ) (d : Seen) → IsRootNamed (node_at forest.now) name c d → IsWanted renewal.entry.new.now d.node) }
+    ensures unwanted { IfOk result (λ is. is ≡ false → (c : ℕ) (d : Seen) → IsRootNamed (node_at forest.now) name c d → IsWanted renewal.entry.new.now d.node → ⊥) }
 {
     forest.laws();
     let Some(lot) = lots.get(&name) else {
         return Ok(false);
     };
-    let facts = symbols.of(&old.grammar, &new.grammar, lot.symbol)?;
+    let facts = symbols.of(&renewal.old.grammar, &renewal.new.grammar, lot.symbol)?;
     match forest.root_of(name) {
         Some(root) => Ok(is_root_at(alloc, forest, root, lot, facts.priority)),
         None => Ok(true),
@@ -115,22 +115,21 @@ fn clear_root(
     forest: &mut Forest,
     lots: &IndexMap<Name, Lot>,
     symbols: &mut Symbols,
-    old: &Sources,
-    new: &Sources,
+    renewal: Renewal,
     name: Name,
     went: &mut Vec<Moved>,
 ) -> Result<(), NoMemory>
-    requires known { AreKnown old.now.grammar new.now.grammar symbols.old.known }
-    requires lots { AreByName new.now.lots (length new.now.lots) lots.now.entries }
-    requires names { NamesDiffer new.now.lots }
-    requires scopes { RootsExist new.now.lots }
-    ensures known { OnOk result (AreKnown old.now.grammar new.now.grammar symbols.new.known) }
+    requires known { AreKnown renewal.old.now.grammar renewal.new.now.grammar symbols.old.known }
+    requires lots { AreByName renewal.new.now.lots (length renewal.new.now.lots) lots.now.entries }
+    requires names { NamesDiffer renewal.new.now.lots }
+    requires scopes { RootsExist renewal.new.now.lots }
+    ensures known { OnOk result (AreKnown renewal.entry.old.now.grammar renewal.entry.new.now.grammar symbols.new.known) }
     ensures lost { OnOk result ((V : View) → HasLost V forest.old went.old.items → HasLost V forest.new went.new.items) }
-    ensures wanted { OnOk result ((c : ℕ) (d : Seen) → IsRootNamed (node_at forest.new) name c d → IsWanted new.now d.node) }
-    ensures loses { OnOk result (Loses new.now forest.old forest.new) }
+    ensures wanted { OnOk result ((c : ℕ) (d : Seen) → IsRootNamed (node_at forest.new) name c d → IsWanted renewal.entry.new.now d.node) }
+    ensures loses { OnOk result (Loses renewal.entry.new.now forest.old forest.new) }
     ensures mode { forest.new.mode ≡ forest.old.mode }
 {
-    if is_wanted(alloc, forest, lots, symbols, old, new, name)? {
+    if is_wanted(alloc, forest, lots, symbols, renewal, name)? {
         return Ok(());
     }
     remove_root(forest, name, went)?;
@@ -142,23 +141,22 @@ pub fn remove_roots(
     alloc: Global,
     forest: &mut Forest,
     symbols: &mut Symbols,
-    old: &Sources,
-    new: &Sources,
+    renewal: Renewal,
     went: &mut Vec<Moved>,
 ) -> Result<(), NoMemory>
-    requires known { AreKnown old.now.grammar new.now.grammar symbols.old.known }
-    requires names { NamesDiffer new.now.lots }
-    requires scopes { RootsExist new.now.lots }
-    requires lots { HasOldLots old.now.lots forest.old }
-    ensures known { OnOk result (AreKnown old.now.grammar new.now.grammar symbols.new.known) }
+    requires known { AreKnown renewal.old.now.grammar renewal.new.now.grammar symbols.old.known }
+    requires names { NamesDiffer renewal.new.now.lots }
+    requires scopes { RootsExist renewal.new.now.lots }
+    requires lots { HasOldLots renewal.old.now.lots forest.old }
+    ensures known { OnOk result (AreKnown renewal.entry.old.now.grammar renewal.entry.new.now.grammar symbols.new.known) }
     ensures lost { OnOk result ((V : View) → HasLost V forest.old went.old.items → HasLost V forest.new went.new.items) }
-    ensures wanted { OnOk result (AllWanted new.now forest.new) }
-    ensures loses { OnOk result (Loses new.now forest.old forest.new) }
+    ensures wanted { OnOk result (AllWanted renewal.entry.new.now forest.new) }
+    ensures loses { OnOk result (Loses renewal.entry.new.now forest.old forest.new) }
     ensures mode { forest.new.mode ≡ forest.old.mode }
 {
-    let lots = lots_by_name(alloc, new.lots.as_slice())?;
-    for lot in old.lots.as_slice() {
-        clear_root(alloc, forest, &lots, symbols, old, new, lot.name, went)?;
+    let lots = lots_by_name(alloc, renewal.new.lots.as_slice())?;
+    for lot in renewal.old.lots.as_slice() {
+        clear_root(alloc, forest, &lots, symbols, renewal, lot.name, went)?;
     }
     Ok(())
 }

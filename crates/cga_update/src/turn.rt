@@ -54,7 +54,6 @@ fn place<T: Ledger>(
     note_came(change.came.as_slice(), &mut work.log, &mut work.come)?;
     follow(
         &mut work.agenda,
-        work.alloc,
         &work.forest,
         id,
         &change,

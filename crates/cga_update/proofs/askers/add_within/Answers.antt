@@ -1,4 +1,4 @@
-use Rattle.std.proofs.Common.{refl, sym, ap, subst, ◌∙◌, ◌+◌}
+use Rattle.std.proofs.Common.{refl, sym, ap, subst, ◌∙◌, ◌+◌, ◌++◌, ◌∷◌, []}
 use Rattle.std.specs.List.{list_any}
 use Rattle.cga_frame.specs.Box.{meets}
 use Rattle.cga_forest.proofs.Laws.{keeps_laws}
@@ -26,7 +26,7 @@ loop-id-preserved g c =
     elim c.if-meets_one.branch [
       | then-meets_one+in_ok-push w ↦
           pushed v areas ids c.loop-id.id-index c.id-item.result c.args.near.now.items c.loop-id.near.items c.if-meets_one.near.items at (sym told ∙ w.if-meets_one.true)
-          (ap (λ n. n.items) w.near-is ∙ w.in_ok-push.ensures.items) c.loop-id.invariant
+          (◌∙◌ {c = c.loop-id.near.items ++ c.id-item.result ∷ []} (ap (λ n. n.items) w.near-is) w.in_ok-push.ensures.items) c.loop-id.invariant
       | else-meets_one w ↦
           subst (λ n. AddsThese (NearFirst v areas ids (c.loop-id.id-index + 1)) c.args.near.now.items n.items) (sym w.near-is)
           (passed v areas ids c.loop-id.id-index c.id-item.result c.args.near.now.items c.loop-id.near.items at (sym told ∙ w.if-meets_one.false) c.loop-id.invariant)

@@ -36,23 +36,23 @@ loop-symbol-preserved c =
       there = names_more (λ s. HasThese v (λ k. Member (nodes_in d s) k) before) (λ s. HasThese v (λ k. Member (nodes_in d s) k) after) names c.loop-symbol.symbol-index c.symbol-item.result item
           (λ s. these_kept v before after one.kept (λ k. Member (nodes_in d s) k))
           (subst (λ xs. HasThese v (λ k. Member xs k) after) c.nodes_of-nodes.ensures.nodes one.there) c.loop-symbol.invariant.there;
-      parents = names_more (λ s. IsPricedFor v c.args.old.now c.args.new.now (λ k. Member (nodes_in d s) k) s before) (λ s. IsPricedFor v c.args.old.now c.args.new.now (λ k. Member (nodes_in d s) k) s after) names c.loop-symbol.symbol-index c.symbol-item.result item
-          (λ s. priced_kept v c.args.old.now c.args.new.now (λ k. Member (nodes_in d s) k) s before after one.kept)
-          (subst (λ xs. IsPricedFor v c.args.old.now c.args.new.now (λ k. Member xs k) c.symbol-item.result after) c.nodes_of-nodes.ensures.nodes one.parents) c.loop-symbol.invariant.parents;
-      prices = names_more (λ s. c.loop-symbol.priced ≡ true → KeepsPriority c.args.old.now c.args.new.now (nodes_in d s) s) (λ s. c.if-priced.priced ≡ true → KeepsPriority c.args.old.now c.args.new.now (nodes_in d s) s) names c.loop-symbol.symbol-index c.symbol-item.result item
+      parents = names_more (λ s. IsPricedFor v c.args.renewal.old.now.grammar c.args.renewal.new.now.grammar (λ k. Member (nodes_in d s) k) s before) (λ s. IsPricedFor v c.args.renewal.old.now.grammar c.args.renewal.new.now.grammar (λ k. Member (nodes_in d s) k) s after) names c.loop-symbol.symbol-index c.symbol-item.result item
+          (λ s. priced_kept v c.args.renewal.old.now.grammar c.args.renewal.new.now.grammar (λ k. Member (nodes_in d s) k) s before after one.kept)
+          (subst (λ xs. IsPricedFor v c.args.renewal.old.now.grammar c.args.renewal.new.now.grammar (λ k. Member xs k) c.symbol-item.result after) c.nodes_of-nodes.ensures.nodes one.parents) c.loop-symbol.invariant.parents;
+      prices = names_more (λ s. c.loop-symbol.priced ≡ true → KeepsPriority c.args.renewal.old.now.grammar c.args.renewal.new.now.grammar (nodes_in d s) s) (λ s. c.if-priced.priced ≡ true → KeepsPriority c.args.renewal.old.now.grammar c.args.renewal.new.now.grammar (nodes_in d s) s) names c.loop-symbol.symbol-index c.symbol-item.result item
           (λ s before_is is. before_is (both is).0)
-          (λ is. subst (λ xs. KeepsPriority c.args.old.now c.args.new.now xs c.symbol-item.result) c.nodes_of-nodes.ensures.nodes (one.priced (both is).1)) c.loop-symbol.invariant.prices;
+          (λ is. subst (λ xs. KeepsPriority c.args.renewal.old.now.grammar c.args.renewal.new.now.grammar xs c.symbol-item.result) c.nodes_of-nodes.ensures.nodes (one.priced (both is).1)) c.loop-symbol.invariant.prices;
     }
 
 pub returns-clause-there : goal.returns-clause-there
-returns-clause-there c = λ s. all_changed c.args.forest.now c.args.old.now c.args.new.now c.args.dependents.now c.as_slice-symbol-items.result.now c.loop-symbol.agenda
-    (names_end (λ t. HasThese c.args.forest.now (λ k. Member (nodes_in c.args.dependents.now t) k) c.loop-symbol.agenda) c.as_slice-symbol-items.result.now c.as_slice-symbol-items.result.now c.loop-symbol.symbol-index refl c.loop-symbol-test.false c.loop-symbol.invariant.there) s (subst (λ (xs : List (List ℕ)). IsNoted c.args.old.now c.args.new.now xs s) (sym c.as_slice-symbol-items.ensures.value) (c.in_ok-changed.ensures.listed s))
+returns-clause-there c = λ s. all_changed c.args.forest.now c.args.renewal.old.now.grammar c.args.renewal.new.now.grammar c.args.dependents.now c.as_slice-symbol-items.result.now c.loop-symbol.agenda
+    (names_end (λ t. HasThese c.args.forest.now (λ k. Member (nodes_in c.args.dependents.now t) k) c.loop-symbol.agenda) c.as_slice-symbol-items.result.now c.as_slice-symbol-items.result.now c.loop-symbol.symbol-index refl c.loop-symbol-test.false c.loop-symbol.invariant.there) s (subst (λ (xs : List (List ℕ)). IsNoted c.args.renewal.old.now.grammar c.args.renewal.new.now.grammar xs s) (sym c.as_slice-symbol-items.ensures.value) (c.in_ok-changed.ensures.listed s))
 
 pub returns-clause-parents : goal.returns-clause-parents
-returns-clause-parents c = λ s. all_priced c.args.forest.now c.args.old.now c.args.new.now c.args.dependents.now c.as_slice-symbol-items.result.now c.loop-symbol.agenda
-    (names_end (λ t. IsPricedFor c.args.forest.now c.args.old.now c.args.new.now (λ k. Member (nodes_in c.args.dependents.now t) k) t c.loop-symbol.agenda) c.as_slice-symbol-items.result.now c.as_slice-symbol-items.result.now c.loop-symbol.symbol-index refl c.loop-symbol-test.false c.loop-symbol.invariant.parents) s (subst (λ (xs : List (List ℕ)). IsNoted c.args.old.now c.args.new.now xs s) (sym c.as_slice-symbol-items.ensures.value) (c.in_ok-changed.ensures.listed s))
+returns-clause-parents c = λ s. all_priced c.args.forest.now c.args.renewal.old.now.grammar c.args.renewal.new.now.grammar c.args.dependents.now c.as_slice-symbol-items.result.now c.loop-symbol.agenda
+    (names_end (λ t. IsPricedFor c.args.forest.now c.args.renewal.old.now.grammar c.args.renewal.new.now.grammar (λ k. Member (nodes_in c.args.dependents.now t) k) t c.loop-symbol.agenda) c.as_slice-symbol-items.result.now c.as_slice-symbol-items.result.now c.loop-symbol.symbol-index refl c.loop-symbol-test.false c.loop-symbol.invariant.parents) s (subst (λ (xs : List (List ℕ)). IsNoted c.args.renewal.old.now.grammar c.args.renewal.new.now.grammar xs s) (sym c.as_slice-symbol-items.ensures.value) (c.in_ok-changed.ensures.listed s))
 
 pub returns-clause-priced : goal.returns-clause-priced
-returns-clause-priced c = λ is s. all_kept c.args.old.now c.args.new.now c.args.dependents.now c.as_slice-symbol-items.result.now
-    (λ t among. names_end (λ t. c.loop-symbol.priced ≡ true → KeepsPriority c.args.old.now c.args.new.now (nodes_in c.args.dependents.now t) t) c.as_slice-symbol-items.result.now c.as_slice-symbol-items.result.now c.loop-symbol.symbol-index refl c.loop-symbol-test.false c.loop-symbol.invariant.prices t among is)
-    s (subst (λ (xs : List (List ℕ)). IsNoted c.args.old.now c.args.new.now xs s) (sym c.as_slice-symbol-items.ensures.value) (c.in_ok-changed.ensures.listed s))
+returns-clause-priced c = λ is s. all_kept c.args.renewal.old.now.grammar c.args.renewal.new.now.grammar c.args.dependents.now c.as_slice-symbol-items.result.now
+    (λ t among. names_end (λ t. c.loop-symbol.priced ≡ true → KeepsPriority c.args.renewal.old.now.grammar c.args.renewal.new.now.grammar (nodes_in c.args.dependents.now t) t) c.as_slice-symbol-items.result.now c.as_slice-symbol-items.result.now c.loop-symbol.symbol-index refl c.loop-symbol-test.false c.loop-symbol.invariant.prices t among is)
+    s (subst (λ (xs : List (List ℕ)). IsNoted c.args.renewal.old.now.grammar c.args.renewal.new.now.grammar xs s) (sym c.as_slice-symbol-items.ensures.value) (c.in_ok-changed.ensures.listed s))

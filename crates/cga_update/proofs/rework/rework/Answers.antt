@@ -1,8 +1,63 @@
-use Rattle.std.proofs.Common.{◌<◌, length, arith}
-use Rattle.cga_update.proofs.Reworking.{lots_over}
+use Rattle.std.proofs.Common.{◌≡◌, ◌∙◌, ◌<◌, length, refl, ap, sym, subst, arith, Bor}
+use Rattle.cga_depend.specs.Mentions.{mentioning}
+use Rattle.cga_depend.specs.Pairs.{DependentsView, symbols_in}
+use Rattle.cga_shape.specs.declared.sources.Sources.{Sources}
+use Rattle.cga_agenda.specs.Loop.{HasCalled}
+use Rattle.cga_update.specs.Reworked.{HasEnded}
+use Rattle.cga_update.specs.Updates.{IsExact}
+use Rattle.cga_update.proofs.Reworking as proof
+use Rattle.cga_update.proofs.Results.{done, given_up_within, refused}
 use Rattle.cga_update.proofs.rework.rework.Goals as goal
 
-pub returns-then-len-budget-clause-over : goal.returns-then-len-budget-clause-over
-returns-then-len-budget-clause-over g c =
-    let more : c.args.budget < length c.args.new.now.lots = omega (arith, c.if-len-budget.true, c.len.ensures) in
-    lots_over c.args.new.now c.requires.names c.requires.roots c.args.budget more
+pub returns-then-len-renewal : goal.returns-then-len-renewal
+returns-then-len-renewal g c =
+    let more : c.args.renewal.budget < length c.args.renewal.new.now.lots = omega (arith, c.if-len-renewal.true, c.len.ensures) in
+    refused c.args.renewal c.args.kept.now c.args.kept.now c.args.changes.now c.args.changes.now c.args.expansions.now c.args.expansions.now (omega arith) (omega arith)
+    (proof.lots_over c.args.renewal.new.now c.requires.names c.requires.roots c.args.renewal.budget more) (record { stands = c.requires.stands; nodes = λ k. refl }) refl refl
+
+pub done-requires-clause-logged : goal.done-requires-clause-logged
+done-requires-clause-logged g c =
+    (c.in_ok-touched.ensures.ended c.args.renewal.old.now c.args.renewal.new.now c.args.kept.now.forest c.requires.roots c.in_ok-under_way.ensures.sources c.in_ok-under_way.ensures.begun).1.logged
+
+pub done-requires-clause-listed : goal.done-requires-clause-listed
+done-requires-clause-listed g c =
+    let e = c.in_ok-touched.ensures.ended c.args.renewal.old.now c.args.renewal.new.now c.args.kept.now.forest c.requires.roots c.in_ok-under_way.ensures.sources c.in_ok-under_way.ensures.begun in
+    proof.listed c.args.renewal.old.now c.args.renewal.new.now c.requires.mode c.requires.old_names c.requires.names c.args.kept.now c.requires.stands
+    c.in_ok-under_way.under_way c.work_off.new.under_way c.args.renewal.budget c.args.expansions.now c.work_off.new.expansions c.in_ok-under_way.ensures.sources c.work_off.ensures.bounds c.in_ok-under_way.ensures.mark _ e
+    c.begin_work.new.kept.dependents c.begin_work.ensures.dependents
+
+pub done-requires-clause-mentions : goal.done-requires-clause-mentions
+done-requires-clause-mentions g c =
+    let same : c.work_off.new.under_way.old.now ≡ c.args.renewal.old.now = ap (λ (s : Bor Sources). s.now) c.work_off.ensures.bounds.old ∙ c.in_ok-under_way.ensures.sources.0 in
+    λ a. ap (λ (d : DependentsView). symbols_in d a) c.begin_work.ensures.dependents ∙ c.requires.stands.dependents.mentions a ∙ ap (λ (s : Sources). mentioning s.grammar a) (sym same)
+
+pub returns-in_err-touched : goal.returns-in_err-touched
+returns-in_err-touched g c =
+    given_up_within c.args.renewal c.args.kept.now c.begin_work.new.kept c.args.changes.now c.args.changes.now c.args.expansions.now c.work_off.new.expansions c.work_off.ensures.counted c.work_off.ensures.most _ c.from_residual-in_err-touched.ensures.1
+
+pub returns-in_ok-done-in-Within : goal.returns-in_ok-done-in-Within
+returns-in_ok-done-in-Within g c =
+    let e = c.in_ok-touched.ensures.ended c.args.renewal.old.now c.args.renewal.new.now c.args.kept.now.forest c.requires.roots c.in_ok-under_way.ensures.sources c.in_ok-under_way.ensures.begun in
+    let ended = subst (λ x. HasEnded c.args.renewal.old.now c.args.renewal.new.now c.args.kept.now.forest c.work_off.new.under_way c.args.renewal.budget c.args.expansions.now c.work_off.new.expansions x) c.in-Within.is e in
+    let called = subst (λ x. HasCalled c.args.expansions.now c.work_off.new.expansions x) c.in-Within.is c.in_ok-touched.ensures.called in
+    done c.args.renewal c.args.kept.now c.done.new.kept c.args.changes.now c.done.new.changes c.args.expansions.now c.work_off.new.expansions c.work_off.ensures.counted c.work_off.ensures.most _
+    (proof.settled c.args.renewal.old.now c.args.renewal.new.now c.requires.mode c.requires.old_names c.requires.names c.args.kept.now c.requires.stands
+    c.in_ok-under_way.under_way c.work_off.new.under_way c.args.renewal.budget c.args.expansions.now c.work_off.new.expansions c.in_ok-under_way.ensures.sources c.work_off.ensures.bounds c.in_ok-under_way.ensures.mark c.in-Within.touched ended
+    c.done.new.kept.forest c.done.new.kept.dependents c.in_ok-done-in-Within.ensures.nodes c.in_ok-done-in-Within.ensures.unmarked c.in_ok-done-in-Within.ensures.mode c.in_ok-done-in-Within.ensures.listed c.in_ok-done-in-Within.ensures.mentions)
+    (subst (λ n. IsExact c.args.renewal.old.now c.args.renewal.new.now c.args.renewal.budget n c.done.new.changes) (sym c.from.ensures)
+    (proof.exact c.args.renewal.old.now c.args.renewal.new.now c.requires.mode c.requires.old_names c.requires.names c.args.kept.now c.requires.stands
+    c.in_ok-under_way.under_way c.work_off.new.under_way c.args.renewal.budget c.args.expansions.now c.work_off.new.expansions c.in_ok-under_way.ensures.sources c.work_off.ensures.bounds c.in_ok-under_way.ensures.mark c.in-Within.touched ended
+    c.in_ok-under_way.ensures.begun called c.done.new.changes c.in_ok-done-in-Within.ensures.changes))
+    (omega (arith, called, c.from.ensures))
+
+pub returns-in-OverBudget : goal.returns-in-OverBudget
+returns-in-OverBudget g c =
+    let e = c.in_ok-touched.ensures.ended c.args.renewal.old.now c.args.renewal.new.now c.args.kept.now.forest c.requires.roots c.in_ok-under_way.ensures.sources c.in_ok-under_way.ensures.begun in
+    let ended = subst (λ x. HasEnded c.args.renewal.old.now c.args.renewal.new.now c.args.kept.now.forest c.work_off.new.under_way c.args.renewal.budget c.args.expansions.now c.work_off.new.expansions x) c.in-OverBudget.is e in
+    refused c.args.renewal c.args.kept.now (record { forest = c.undone.result; dependents = c.begin_work.new.kept.dependents }) c.args.changes.now c.args.changes.now c.args.expansions.now c.work_off.new.expansions c.work_off.ensures.counted c.work_off.ensures.most
+    (proof.over c.args.renewal.old.now c.args.renewal.new.now c.requires.mode c.requires.old_names c.requires.names c.args.kept.now c.requires.stands
+    c.in_ok-under_way.under_way c.work_off.new.under_way c.args.renewal.budget c.args.expansions.now c.work_off.new.expansions c.in_ok-under_way.ensures.sources c.work_off.ensures.bounds c.in_ok-under_way.ensures.mark ended)
+    (proof.put_back c.args.renewal.old.now c.args.renewal.new.now c.requires.mode c.requires.old_names c.requires.names c.args.kept.now c.requires.stands
+    c.in_ok-under_way.under_way c.work_off.new.under_way c.args.renewal.budget c.args.expansions.now c.work_off.new.expansions c.in_ok-under_way.ensures.sources c.work_off.ensures.bounds c.in_ok-under_way.ensures.mark _ e
+    c.undone.result c.begin_work.new.kept.dependents c.begin_work.ensures.dependents c.undone.ensures.nodes c.undone.ensures.unmarked c.undone.ensures.mode)
+    c.begin_work.ensures.dependents refl

@@ -1,26 +1,30 @@
-use Rattle.std.proofs.Common.{ℕ, refl, subst, sym}
-use Rattle.cga_update.proofs.Modes.{changes_mode, over_again, where_over}
-use Rattle.cga_update.specs.declared.updating.Anew.{Anew}
+use Rattle.std.proofs.Common.{ap, arith, refl, subst}
+use Rattle.cga_shape.specs.declared.sources.Sources.{Sources}
 use Rattle.cga_update.specs.Updates.{IsExact}
+use Rattle.cga_update.proofs.Modes.{changes_mode}
+use Rattle.cga_update.proofs.Results.{done, given_up, refused_anew}
 use Rattle.cga_update.proofs.updating.change_mode.Goals as goal
 
-pub returns-in-Err-clause-over : goal.returns-in-Err-clause-over
-returns-in-Err-clause-over g c = over_again Anew ℕ c.in-Err.refused _ c.in-Err.ensures.over
+pub returns-in_err-touched : goal.returns-in_err-touched
+returns-in_err-touched g c =
+    refused_anew c.args.renewal _ (ap (λ (s : Sources). s.mode) c.in_ok-nothing.ensures) c.args.kept.now c.requires.stands c.args.changes.now c.args.expansions.now c.rework.new.expansions
+    _ _ _ _ c.in_err-touched.field-0.0 c.in_err-touched.ensures c.from_residual-in_err-touched.result c.from_residual-in_err-touched.ensures.1
 
-pub returns-in-Err-clause-most : goal.returns-in-Err-clause-most
-returns-in-Err-clause-most g c = over_again Anew ℕ c.in-Err.refused _ c.in-Err.ensures.most
+pub returns-in_err-empty : goal.returns-in_err-empty
+returns-in_err-empty g c =
+    let more = c.in_ok-touched.ensures.bounded_within (ap (λ (s : Sources). s.mode) c.in_ok-nothing.ensures) in
+    let few = c.empty.ensures.bounded in
+    let least = c.empty.ensures.counted in
+    given_up c.args.renewal c.args.kept.now c.empty.new.kept c.args.changes.now c.empty.new.changes c.args.expansions.now c.empty.new.expansions
+    (omega (arith, c.in_ok-touched.ensures.counted, least)) _ c.from_residual-in_err-empty.ensures.1 (omega (arith, more, few)) (λ same. absurd (c.requires.mode same))
 
-pub returns-in-Err-clause-kept : goal.returns-in-Err-clause-kept
-returns-in-Err-clause-kept g c = where_over ℕ c.in-Err.refused _ (record { stands = c.requires.stands; nodes = λ k. refl })
-
-pub returns-in-Err-clause-dependents : goal.returns-in-Err-clause-dependents
-returns-in-Err-clause-dependents g c = where_over ℕ c.in-Err.refused _ refl
-
-pub returns-in-Err-clause-changes : goal.returns-in-Err-clause-changes
-returns-in-Err-clause-changes g c = where_over ℕ c.in-Err.refused _ refl
-
-pub returns-in_ok-empty-in-Ok-clause-exact : goal.returns-in_ok-empty-in-Ok-clause-exact
-returns-in_ok-empty-in-Ok-clause-exact g c =
-    subst (λ (n : ℕ). IsExact c.args.old.now c.args.new.now c.args.budget n c.put.new.changes) (sym c.put.ensures.touched)
-    (changes_mode c.args.old.now c.args.new.now c.requires.mode c.args.budget c.in-Ok.made.touched c.in-Ok.made.changes c.empty.new.changes c.put.new.changes
-    c.in-Ok.ensures.exact c.in_ok-empty-in-Ok.ensures.exact c.put.ensures.gone c.put.ensures.come)
+pub returns : goal.returns
+returns g c =
+    let from = subst (λ (x : Sources). IsExact x c.args.renewal.new.now c.args.renewal.budget c.in_ok-touched.touched c.rework.new.changes) c.in_ok-nothing.ensures c.in_ok-touched.ensures.exact in
+    let more = c.in_ok-touched.ensures.bounded_within (ap (λ (s : Sources). s.mode) c.in_ok-nothing.ensures) in
+    let none = c.in_ok-empty.ensures.spent in
+    done c.args.renewal c.args.kept.now c.rework.new.kept c.args.changes.now (record c.empty.new.changes { come = c.rework.new.changes.come }) c.args.expansions.now c.empty.new.expansions
+    (omega (arith, c.in_ok-touched.ensures.counted, none)) (omega (arith, more, none)) c.in_ok-touched.touched c.in_ok-touched.ensures.stands
+    (changes_mode c.args.renewal.old.now c.args.renewal.new.now c.requires.mode c.args.renewal.budget c.in_ok-touched.touched c.rework.new.changes c.empty.new.changes _
+    from c.in_ok-empty.ensures.exact refl refl)
+    (omega (arith, c.in_ok-touched.ensures.spent, none))

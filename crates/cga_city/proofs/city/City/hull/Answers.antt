@@ -1,4 +1,4 @@
-use Rattle.std.proofs.Common.{Some, refl, sym, subst}
+use Rattle.std.proofs.Common.{refl, sym, subst}
 use Rattle.std.specs.Prelude.{IfSome, IsSome, slice_index_or}
 use Rattle.cga_shape.specs.declared.lot.Lot.{Lot}
 use Rattle.cga_city.specs.Derived.{members}
@@ -15,7 +15,7 @@ unreachable-requires c =
     let warm = warm_inside _ c.args.self.now c.self.view_is c.requires.warm in
     let lot = slice_index_or c.as_slice.result.now c.args.place c.index-as_slice-place.result in
     let there = lot_there _ c.args.self.now c.self.view_is c.as_slice.result.now c.args.place c.index-as_slice-place.result c.as_slice.ensures c.requires.place in
-    let root = has_root c.self.inside.sources c.self.invariant.sound c.self.inside.forest c.self.inside.dependents (c.self.invariant.stands warm) c.args.place lot there in
+    let root = has_root c.self.inside.sources c.self.invariant.sound c.self.inside.kept (c.self.invariant.stands warm) c.args.place lot there in
     let none = (c.in-None.ensures root.0).1 root.1 in
     absurd (cc)
 
@@ -24,6 +24,6 @@ returns c =
     let warm = warm_inside _ c.args.self.now c.self.view_is c.requires.warm in
     let lot = slice_index_or c.as_slice.result.now c.args.place c.index-as_slice-place.result in
     let there = lot_there _ c.args.self.now c.self.view_is c.as_slice.result.now c.args.place c.index-as_slice-place.result c.as_slice.ensures c.requires.place in
-    let has = has_members c.self.inside.sources c.self.inside.budget c.self.inside.warm c.self.inside.forest c.self.inside.dependents c.self.invariant warm in
-    let hull = least_is_hull c.self.inside.forest c.laws.ensures (members c.self.inside.budget c.self.inside.sources) has lot.name c.in-Some.root (c.in-Some.ensures {u = tt}) c.hull.result c.hull.ensures.least in
+    let has = has_members c.self.inside.sources c.self.inside.budget c.self.inside.warm c.self.inside.kept c.self.invariant warm in
+    let hull = least_is_hull c.self.inside.kept.forest c.laws.ensures (members c.self.inside.budget c.self.inside.sources) has lot.name c.in-Some.root (c.in-Some.ensures {u = tt}) c.hull.result c.hull.ensures.least in
     rw (← c.self.view_is) (subst (λ o. IfSome o (λ (l : Lot). IsHullOf l.name (members c.self.inside.budget c.self.inside.sources) c.hull.result)) (sym there) hull)

@@ -1,4 +1,3 @@
-use Rattle.cga_city.proofs.Kept.{nothing_stands}
 use Rattle.cga_city.proofs.Names.{names_differ}
 use Rattle.cga_city.proofs.Valid.{sound_valid}
 use Rattle.cga_city.proofs.Warming.{warmed}
@@ -11,7 +10,7 @@ pub update-requires-clause-roots : goal.update-requires-clause-roots
 update-requires-clause-roots g c = (sound_valid c.self.inside.sources c.self.invariant.sound).roots
 
 pub update-requires-clause-stands : goal.update-requires-clause-stands
-update-requires-clause-stands g c = rw (c.empty_sources-empty.ensures, c.new.ensures, c.new-2.ensures) (nothing_stands c.self.inside.sources.mode)
+update-requires-clause-stands g c = rw c.empty_sources-empty.ensures c.no_shapes.ensures
 
 pub returns-in-Ok-clause-spent : goal.returns-in-Ok-clause-spent
 returns-in-Ok-clause-spent g c = λ cold.

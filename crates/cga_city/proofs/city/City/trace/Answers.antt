@@ -5,5 +5,5 @@ use Rattle.cga_city.proofs.city.City.trace.Goals as goal
 
 pub returns : goal.returns
 returns c =
-    let k = known c.self.inside.sources c.self.inside.budget c.self.inside.warm c.self.inside.forest c.self.inside.dependents c.self.invariant (warm_inside _ c.args.self.now c.self.view_is c.requires) in
+    let k = known c.self.inside.sources c.self.inside.budget c.self.inside.warm c.self.inside.kept c.self.invariant (warm_inside _ c.args.self.now c.self.view_is c.requires) in
     rw (← c.self.view_is) (IfOk-weaker c.trace.result _ _ (λ t h. h c.self.inside.sources k.0 k.1) c.trace.ensures)
