@@ -7,6 +7,7 @@ ghost use Rattle.cga_lexer.specs.declared.sign.Sign.TheVariants as sign;
 
 use crate::first::with_first;
 use crate::parts;
+use crate::triples::{move_rest, resize_rest};
 use cga_form::fault::Fault;
 use cga_form::heads::ItemHead;
 use cga_form::tokens::Tokens;
@@ -138,6 +139,40 @@ fn braced_bodies(
     Ok(bodies)
 }
 
+/// What stands after the word of a split.
+#[cycle(item)]
+fn subdiv_rest(alloc: Global, tokens: &mut Tokens<'_>, depth: u8) -> Result<Item, Stop<Fault>>
+    ensures { Reads (spec.item_rest depth (spec.inside_of depth) (spec.inner_item depth) ItemHead.Subdiv (input_of tokens.old)) result (input_of tokens.new) }
+{
+    let (axis, sizes) = parts::split_parts(alloc, tokens, depth)?;
+    let bodies = braced_bodies(alloc, tokens, depth)?;
+    Ok(Item::Subdiv {
+        axis,
+        sizes,
+        bodies,
+    })
+}
+
+/// What stands after the word of a repeat.
+#[cycle(item)]
+fn repeat_rest(alloc: Global, tokens: &mut Tokens<'_>, depth: u8) -> Result<Item, Stop<Fault>>
+    ensures { Reads (spec.item_rest depth (spec.inside_of depth) (spec.inner_item depth) ItemHead.Repeat (input_of tokens.old)) result (input_of tokens.new) }
+{
+    let (axis, length) = parts::repeat_parts(alloc, tokens, depth)?;
+    let body = braced_body(alloc, tokens, depth)?;
+    Ok(Item::Repeat { axis, length, body })
+}
+
+/// What stands after the word of a component.
+#[cycle(item)]
+fn comp_rest(alloc: Global, tokens: &mut Tokens<'_>, depth: u8) -> Result<Item, Stop<Fault>>
+    ensures { Reads (spec.item_rest depth (spec.inside_of depth) (spec.inner_item depth) ItemHead.Comp (input_of tokens.old)) result (input_of tokens.new) }
+{
+    let selector = parts::selector_part(tokens, depth)?;
+    let body = braced_body(alloc, tokens, depth)?;
+    Ok(Item::Comp { selector, body })
+}
+
 /// What stands after the word of an item.
 #[cycle(item)]
 fn item_rest(
@@ -149,38 +184,16 @@ fn item_rest(
     ensures { Reads (spec.item_rest depth (spec.inside_of depth) (spec.inner_item depth) head (input_of tokens.old)) result (input_of tokens.new) }
 {
     match head {
-        ItemHead::Move => {
-            let (x, y, z) = parts::move_parts(alloc, tokens, depth)?;
-            Ok(Item::Move(x, y, z))
-        }
-        ItemHead::Resize => {
-            let (x, y, z) = parts::resize_parts(alloc, tokens, depth)?;
-            Ok(Item::Resize(x, y, z))
-        }
+        ItemHead::Move => move_rest(alloc, tokens, depth),
+        ItemHead::Resize => resize_rest(alloc, tokens, depth),
         ItemHead::Rotate(axis) => {
             let by = parts::turn_part(tokens, depth)?;
             Ok(Item::Rotate { axis, by })
         }
         ItemHead::Solid => Ok(Item::Solid(parts::solid_part(tokens, depth)?)),
-        ItemHead::Subdiv => {
-            let (axis, sizes) = parts::split_parts(alloc, tokens, depth)?;
-            let bodies = braced_bodies(alloc, tokens, depth)?;
-            Ok(Item::Subdiv {
-                axis,
-                sizes,
-                bodies,
-            })
-        }
-        ItemHead::Repeat => {
-            let (axis, length) = parts::repeat_parts(alloc, tokens, depth)?;
-            let body = braced_body(alloc, tokens, depth)?;
-            Ok(Item::Repeat { axis, length, body })
-        }
-        ItemHead::Comp => {
-            let selector = parts::selector_part(tokens, depth)?;
-            let body = braced_body(alloc, tokens, depth)?;
-            Ok(Item::Comp { selector, body })
-        }
+        ItemHead::Subdiv => subdiv_rest(alloc, tokens, depth),
+        ItemHead::Repeat => repeat_rest(alloc, tokens, depth),
+        ItemHead::Comp => comp_rest(alloc, tokens, depth),
         ItemHead::Child(symbol) => {
             let args = parts::arguments(alloc, tokens, depth)?;
             Ok(Item::Child { symbol, args })

@@ -33,11 +33,20 @@ decreases-further_bodies l = 10 * l.depth + 5
 abbrev pub decreases-braced_bodies : goal.decreases-braced_bodies
 decreases-braced_bodies l = 10 * l.depth + 6
 
+abbrev pub decreases-subdiv_rest : goal.decreases-subdiv_rest
+decreases-subdiv_rest l = 10 * l.depth + 7
+
+abbrev pub decreases-repeat_rest : goal.decreases-repeat_rest
+decreases-repeat_rest l = 10 * l.depth + 7
+
+abbrev pub decreases-comp_rest : goal.decreases-comp_rest
+decreases-comp_rest l = 10 * l.depth + 7
+
 abbrev pub decreases-item_rest : goal.decreases-item_rest
-decreases-item_rest l = 10 * l.depth + 7
+decreases-item_rest l = 10 * l.depth + 8
 
 abbrev pub decreases-item : goal.decreases-item
-decreases-item l = 10 * l.depth + 8
+decreases-item l = 10 * l.depth + 9
 
 abbrev pub invariant-further_inner-items : goal.invariant-further_inner-items
 invariant-further_inner-items l = many begins_item (inner_item l.depth) (input_of l.initial.tokens) ≡ many_after begins_item (inner_item l.depth) l.rest (input_of l.tokens)
