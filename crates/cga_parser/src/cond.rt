@@ -5,7 +5,7 @@ ghost use Rattle.cga_parser.specs.Grammar as spec;
 ghost use Rattle.cga_form.specs.Tokens.{is_keyword};
 
 use crate::expr::{all_added, all_scaled, expr};
-use crate::first::{fitted, with_first};
+use crate::first::{fitted, push_read, with_first};
 use cga_form::fault::Fault;
 use cga_form::heads::ScopeWord;
 use cga_form::tokens::Tokens;
@@ -151,8 +151,7 @@ fn further_tests(
 {
     let mut rest = List::new(alloc);
     'tests: while tokens.at_keyword(Keyword::And) {
-        let more = further_test(alloc, tokens, depth)?;
-        rest.push(more)?;
+        push_read(&mut rest, further_test(alloc, tokens, depth))?;
     }
     Ok(rest)
 }
@@ -187,8 +186,7 @@ fn further_conjs(
 {
     let mut rest = List::new(alloc);
     'conjs: while tokens.at_keyword(Keyword::Or) {
-        let more = further_conj(alloc, tokens, depth)?;
-        rest.push(more)?;
+        push_read(&mut rest, further_conj(alloc, tokens, depth))?;
     }
     Ok(rest)
 }

@@ -3,7 +3,7 @@ ghost use Rattle.cga_form.specs.Cursor.{input_of, Reads};
 ghost use Rattle.cga_form.specs.Reader.{begins, many};
 ghost use Rattle.cga_parser.specs.Grammar as spec;
 
-use crate::first::fitted;
+use crate::first::{fitted, push_read};
 use cga_form::fault::Fault;
 use cga_form::heads::PrimaryHead;
 use cga_form::tokens::Tokens;
@@ -169,8 +169,7 @@ pub(crate) fn all_scaled(
 {
     let mut rest = List::new(alloc);
     'scaled: while begins_scaled(tokens) {
-        let more = scaled(alloc, tokens, depth)?;
-        rest.push(more)?;
+        push_read(&mut rest, scaled(alloc, tokens, depth))?;
     }
     Ok(rest)
 }
@@ -205,8 +204,7 @@ pub(crate) fn all_added(
 {
     let mut rest = List::new(alloc);
     'added: while begins_added(tokens) {
-        let more = added(alloc, tokens, depth)?;
-        rest.push(more)?;
+        push_read(&mut rest, added(alloc, tokens, depth))?;
     }
     Ok(rest)
 }

@@ -5,7 +5,7 @@ ghost use Rattle.cga_parser.specs.Grammar as spec;
 ghost use Rattle.cga_form.specs.Tokens.{is_sign};
 ghost use Rattle.cga_lexer.specs.declared.sign.Sign.TheVariants as sign;
 
-use crate::first::with_first;
+use crate::first::{closed, push_read, with_first};
 use crate::parts;
 use crate::triples::{move_rest, resize_rest};
 use cga_form::fault::Fault;
@@ -43,8 +43,7 @@ fn further_inner(
 {
     let mut rest = List::new(alloc);
     'items: while begins_item(tokens) {
-        let more = inner(alloc, tokens, depth)?;
-        rest.push(more)?;
+        push_read(&mut rest, inner(alloc, tokens, depth))?;
     }
     Ok(rest)
 }
@@ -116,8 +115,7 @@ fn further_bodies(
 {
     let mut rest = List::new(alloc);
     'bodies: while tokens.at_sign(Sign::Bar) {
-        let more = further_body(alloc, tokens, depth)?;
-        rest.push(more)?;
+        push_read(&mut rest, further_body(alloc, tokens, depth))?;
     }
     Ok(rest)
 }
@@ -134,9 +132,7 @@ fn braced_bodies(
     tokens.enter(Sign::LeftCurly, depth)?;
     let items = inner_body(alloc, tokens, depth)?;
     let rest = further_bodies(alloc, tokens, depth)?;
-    let bodies = with_first(Body { items }, rest)?;
-    tokens.sign(Sign::RightCurly)?;
-    Ok(bodies)
+    closed(tokens, Sign::RightCurly, Body { items }, rest)
 }
 
 /// What stands after the word of a split.
@@ -223,8 +219,7 @@ fn further_items(
 {
     let mut rest = List::new(alloc);
     'items: while begins_item(tokens) {
-        let more = item(alloc, tokens, depth)?;
-        rest.push(more)?;
+        push_read(&mut rest, item(alloc, tokens, depth))?;
     }
     Ok(rest)
 }

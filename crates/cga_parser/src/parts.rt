@@ -9,7 +9,7 @@ ghost use Rattle.cga_form.specs.Words.{is_relative};
 ghost use Rattle.cga_lexer.specs.declared.sign.Sign.TheVariants as sign;
 
 use crate::expr::{inside, inside_boxed};
-use crate::first::with_first;
+use crate::first::{closed, push_read, with_first};
 use cga_form::fault::Fault;
 use cga_form::heads::SelectorHead;
 use cga_form::tokens::Tokens;
@@ -97,8 +97,7 @@ fn further_sizes(
 {
     let mut rest = List::new(alloc);
     'sizes: while tokens.at_sign(Sign::Comma) {
-        let more = further_size(alloc, tokens, depth)?;
-        rest.push(more)?;
+        push_read(&mut rest, further_size(alloc, tokens, depth))?;
     }
     Ok(rest)
 }
@@ -202,8 +201,7 @@ fn further_arguments(
 {
     let mut rest = List::new(alloc);
     'arguments: while goes_on(tokens, rest.len()) {
-        let more = further_argument(alloc, tokens, depth)?;
-        rest.push(more)?;
+        push_read(&mut rest, further_argument(alloc, tokens, depth))?;
     }
     Ok(rest)
 }
@@ -219,9 +217,7 @@ fn some_arguments(
     tokens.enter(Sign::LeftRound, depth)?;
     let first = inside(alloc, tokens, depth)?;
     let rest = further_arguments(alloc, tokens, depth)?;
-    let arguments = with_first(first, rest)?;
-    tokens.sign(Sign::RightRound)?;
-    Ok(arguments)
+    closed(tokens, Sign::RightRound, first, rest)
 }
 
 #[tactic(auto, unfolding(crate::specs::Grammar::arguments))]
