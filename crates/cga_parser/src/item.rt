@@ -5,7 +5,7 @@ ghost use Rattle.cga_parser.specs.Grammar as spec;
 ghost use Rattle.cga_form.specs.Tokens.{is_sign};
 ghost use Rattle.cga_lexer.specs.declared.sign.Sign.TheVariants as sign;
 
-use crate::first::{closed, push_read, with_first};
+use crate::first::{closed, fitted, push_read};
 use crate::parts;
 use crate::triples::{move_rest, resize_rest};
 use cga_form::fault::Fault;
@@ -33,30 +33,16 @@ fn inner(alloc: Global, tokens: &mut Tokens<'_>, depth: u8) -> Result<Item, Stop
 }
 
 #[cycle(item)]
-fn further_inner(
-    alloc: Global,
-    tokens: &mut Tokens<'_>,
-    depth: u8,
-) -> Result<List<Item>, Stop<Fault>>
-    requires { 0 < depth }
-    ensures { Reads (many spec.begins_item (spec.inner_item depth) (input_of tokens.old)) result (input_of tokens.new) }
-{
-    let mut rest = List::new(alloc);
-    'items: while begins_item(tokens) {
-        push_read(&mut rest, inner(alloc, tokens, depth))?;
-    }
-    Ok(rest)
-}
-
-#[cycle(item)]
 fn inner_items(alloc: Global, tokens: &mut Tokens<'_>, depth: u8) -> Result<List<Item>, Stop<Fault>>
     requires { 0 < depth }
     ensures { Reads (spec.items_by (spec.inner_item depth) (input_of tokens.old)) result (input_of tokens.new) }
 {
-    let first = inner(alloc, tokens, depth)?;
-    let rest = further_inner(alloc, tokens, depth)?;
-    let items = with_first(first, rest)?;
-    Ok(items)
+    let mut items = List::new(alloc);
+    push_read(&mut items, inner(alloc, tokens, depth))?;
+    'items: while begins_item(tokens) {
+        push_read(&mut items, inner(alloc, tokens, depth))?;
+    }
+    Ok(fitted(items))
 }
 
 #[cycle(item)]
@@ -210,27 +196,15 @@ fn item(alloc: Global, tokens: &mut Tokens<'_>, depth: u8) -> Result<Item, Stop<
     item_rest(alloc, tokens, depth, head)
 }
 
-fn further_items(
-    alloc: Global,
-    tokens: &mut Tokens<'_>,
-    depth: u8,
-) -> Result<List<Item>, Stop<Fault>>
-    ensures { Reads (many spec.begins_item (spec.item depth) (input_of tokens.old)) result (input_of tokens.new) }
-{
-    let mut rest = List::new(alloc);
-    'items: while begins_item(tokens) {
-        push_read(&mut rest, item(alloc, tokens, depth))?;
-    }
-    Ok(rest)
-}
-
 fn items(alloc: Global, tokens: &mut Tokens<'_>, depth: u8) -> Result<List<Item>, Stop<Fault>>
     ensures { Reads (spec.items_by (spec.item depth) (input_of tokens.old)) result (input_of tokens.new) }
 {
-    let first = item(alloc, tokens, depth)?;
-    let rest = further_items(alloc, tokens, depth)?;
-    let items = with_first(first, rest)?;
-    Ok(items)
+    let mut items = List::new(alloc);
+    push_read(&mut items, item(alloc, tokens, depth))?;
+    'items: while begins_item(tokens) {
+        push_read(&mut items, item(alloc, tokens, depth))?;
+    }
+    Ok(fitted(items))
 }
 
 /// Items, or `NIL`, where so many brackets may be opened.
