@@ -10,6 +10,7 @@ pub mod ItemsAgain
 pub mod Rules
 pub mod RulesAgain
 pub mod Loops
+pub mod Gained
 pub mod Listings
 pub mod RuleListings
 pub mod Blocks

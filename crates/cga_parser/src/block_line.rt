@@ -1,7 +1,7 @@
 use cga_syntax::{Attribute, Rule};
 
 /// What a line of a block says.
-#[derive(Debug, Drop)]
+#[derive(Drop)]
 pub enum BlockLine {
     Attribute(Attribute),
     /// The priority of the rules that follow.

@@ -1,11 +1,9 @@
 ghost use Rattle.std.specs.Prelude.{◌≡◌, ◌<◌};
 ghost use Rattle.cga_form.specs.Cursor.{input_of, Finds, Reads};
-ghost use Rattle.cga_form.specs.Reader.{many};
 ghost use Rattle.cga_parser.specs.Grammar as spec;
-ghost use Rattle.cga_form.specs.Tokens.{is_keyword};
 
 use crate::expr::{all_added, all_scaled, expr};
-use crate::first::{fitted, with_first};
+use crate::first::{fitted, push_read};
 use cga_form::fault::Fault;
 use cga_form::heads::ScopeWord;
 use cga_form::tokens::Tokens;
@@ -142,30 +140,18 @@ fn further_test(alloc: Global, tokens: &mut Tokens<'_>, depth: u8) -> Result<Tes
 }
 
 #[cycle(cond)]
-fn further_tests(
-    alloc: Global,
-    tokens: &mut Tokens<'_>,
-    depth: u8,
-) -> Result<List<Test>, Stop<Fault>>
-    ensures { Reads (many (is_keyword Keyword.And) (spec.further_test depth (spec.inner_of depth)) (input_of tokens.old)) result (input_of tokens.new) }
-{
-    let mut rest = List::new(alloc);
-    'tests: while tokens.at_keyword(Keyword::And) {
-        let more = further_test(alloc, tokens, depth)?;
-        rest.push(more)?;
-    }
-    Ok(rest)
-}
-
-#[cycle(cond)]
 #[tactic(auto, unfolding(crate::specs::Grammar::conj))]
 fn conj(alloc: Global, tokens: &mut Tokens<'_>, depth: u8) -> Result<Conj, Stop<Fault>>
     ensures { Reads (spec.conj depth (spec.inner_of depth) (input_of tokens.old)) result (input_of tokens.new) }
 {
-    let first = test(alloc, tokens, depth)?;
-    let rest = further_tests(alloc, tokens, depth)?;
-    let tests = with_first(first, rest)?;
-    Ok(Conj { tests })
+    let mut tests = List::new(alloc);
+    push_read(&mut tests, test(alloc, tokens, depth))?;
+    'tests: while tokens.at_keyword(Keyword::And) {
+        push_read(&mut tests, further_test(alloc, tokens, depth))?;
+    }
+    Ok(Conj {
+        tests: fitted(tests),
+    })
 }
 
 #[cycle(cond)]
@@ -177,30 +163,18 @@ fn further_conj(alloc: Global, tokens: &mut Tokens<'_>, depth: u8) -> Result<Con
     conj(alloc, tokens, depth)
 }
 
-#[cycle(cond)]
-fn further_conjs(
-    alloc: Global,
-    tokens: &mut Tokens<'_>,
-    depth: u8,
-) -> Result<List<Conj>, Stop<Fault>>
-    ensures { Reads (many (is_keyword Keyword.Or) (spec.further_conj depth (spec.inner_of depth)) (input_of tokens.old)) result (input_of tokens.new) }
-{
-    let mut rest = List::new(alloc);
-    'conjs: while tokens.at_keyword(Keyword::Or) {
-        let more = further_conj(alloc, tokens, depth)?;
-        rest.push(more)?;
-    }
-    Ok(rest)
-}
-
 /// A condition, where so many brackets may be opened.
 #[cycle(cond)]
 #[tactic(auto, unfolding(crate::specs::Grammar::cond, crate::specs::Grammar::cond_layer))]
 pub(crate) fn cond(alloc: Global, tokens: &mut Tokens<'_>, depth: u8) -> Result<Cond, Stop<Fault>>
     ensures { Reads (spec.cond depth (input_of tokens.old)) result (input_of tokens.new) }
 {
-    let first = conj(alloc, tokens, depth)?;
-    let rest = further_conjs(alloc, tokens, depth)?;
-    let conjs = with_first(first, rest)?;
-    Ok(Cond { conjs })
+    let mut conjs = List::new(alloc);
+    push_read(&mut conjs, conj(alloc, tokens, depth))?;
+    'conjs: while tokens.at_keyword(Keyword::Or) {
+        push_read(&mut conjs, further_conj(alloc, tokens, depth))?;
+    }
+    Ok(Cond {
+        conjs: fitted(conjs),
+    })
 }

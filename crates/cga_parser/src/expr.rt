@@ -3,7 +3,7 @@ ghost use Rattle.cga_form.specs.Cursor.{input_of, Reads};
 ghost use Rattle.cga_form.specs.Reader.{begins, many};
 ghost use Rattle.cga_parser.specs.Grammar as spec;
 
-use crate::first::fitted;
+use crate::first::{fitted, push_read};
 use cga_form::fault::Fault;
 use cga_form::heads::PrimaryHead;
 use cga_form::tokens::Tokens;
@@ -23,13 +23,27 @@ pub(crate) fn inside(alloc: Global, tokens: &mut Tokens<'_>, depth: u8) -> Resul
     expr(alloc, tokens, depth - 1)
 }
 
+/// An expression in one more bracket, in a box.
+#[cycle(expr)]
+pub(crate) fn inside_boxed(
+    alloc: Global,
+    tokens: &mut Tokens<'_>,
+    depth: u8,
+) -> Result<Boxed<Expr>, Stop<Fault>>
+    requires { 0 < depth }
+    ensures { Reads (spec.inside_of depth (input_of tokens.old)) result (input_of tokens.new) }
+{
+    let expr = inside(alloc, tokens, depth)?;
+    Ok(Boxed::new(alloc, expr)?)
+}
+
 #[cycle(expr)]
 #[tactic(auto, unfolding(crate::specs::Grammar::group))]
-fn group(alloc: Global, tokens: &mut Tokens<'_>, depth: u8) -> Result<Expr, Stop<Fault>>
+fn group(alloc: Global, tokens: &mut Tokens<'_>, depth: u8) -> Result<Boxed<Expr>, Stop<Fault>>
     ensures { Reads (spec.group depth (spec.inside_of depth) (input_of tokens.old)) result (input_of tokens.new) }
 {
     tokens.enter(Sign::LeftRound, depth)?;
-    let expr = inside(alloc, tokens, depth)?;
+    let expr = inside_boxed(alloc, tokens, depth)?;
     tokens.sign(Sign::RightRound)?;
     Ok(expr)
 }
@@ -45,9 +59,9 @@ fn rand_parts(
     ensures { Reads (spec.rand_parts depth (spec.inside_of depth) (input_of tokens.old)) result (input_of tokens.new) }
 {
     tokens.enter(Sign::LeftRound, depth)?;
-    let low = Boxed::new(alloc, inside(alloc, tokens, depth)?)?;
+    let low = inside_boxed(alloc, tokens, depth)?;
     tokens.sign(Sign::Comma)?;
-    let high = Boxed::new(alloc, inside(alloc, tokens, depth)?)?;
+    let high = inside_boxed(alloc, tokens, depth)?;
     tokens.sign(Sign::Comma)?;
     let steps = tokens.take(numbers::whole(tokens.peek(), 1, MOST_STEPS))?;
     tokens.sign(Sign::RightRound)?;
@@ -60,8 +74,7 @@ fn primary(alloc: Global, tokens: &mut Tokens<'_>, depth: u8) -> Result<Primary,
     ensures { Reads (spec.primary depth (spec.inside_of depth) (input_of tokens.old)) result (input_of tokens.new) }
 {
     if tokens.at_sign(Sign::LeftRound) {
-        let expr = group(alloc, tokens, depth)?;
-        return Ok(Primary::Group(Boxed::new(alloc, expr)?));
+        return Ok(Primary::Group(group(alloc, tokens, depth)?));
     }
     if tokens.at_keyword(Keyword::Rand) {
         let number = tokens.rand()?;
@@ -94,14 +107,8 @@ fn primary_rest(
             let axis = tokens.take(words::size_axis(tokens.peek()))?;
             Ok(Primary::ScopeSize(axis))
         }
-        PrimaryHead::Floor => {
-            let expr = group(alloc, tokens, depth)?;
-            Ok(Primary::Floor(Boxed::new(alloc, expr)?))
-        }
-        PrimaryHead::Ceil => {
-            let expr = group(alloc, tokens, depth)?;
-            Ok(Primary::Ceil(Boxed::new(alloc, expr)?))
-        }
+        PrimaryHead::Floor => Ok(Primary::Floor(group(alloc, tokens, depth)?)),
+        PrimaryHead::Ceil => Ok(Primary::Ceil(group(alloc, tokens, depth)?)),
     }
 }
 
@@ -162,8 +169,7 @@ pub(crate) fn all_scaled(
 {
     let mut rest = List::new(alloc);
     'scaled: while begins_scaled(tokens) {
-        let more = scaled(alloc, tokens, depth)?;
-        rest.push(more)?;
+        push_read(&mut rest, scaled(alloc, tokens, depth))?;
     }
     Ok(rest)
 }
@@ -198,8 +204,7 @@ pub(crate) fn all_added(
 {
     let mut rest = List::new(alloc);
     'added: while begins_added(tokens) {
-        let more = added(alloc, tokens, depth)?;
-        rest.push(more)?;
+        push_read(&mut rest, added(alloc, tokens, depth))?;
     }
     Ok(rest)
 }

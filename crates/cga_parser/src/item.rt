@@ -5,8 +5,9 @@ ghost use Rattle.cga_parser.specs.Grammar as spec;
 ghost use Rattle.cga_form.specs.Tokens.{is_sign};
 ghost use Rattle.cga_lexer.specs.declared.sign.Sign.TheVariants as sign;
 
-use crate::first::with_first;
+use crate::first::{closed, fitted, push_read};
 use crate::parts;
+use crate::triples::{move_rest, resize_rest};
 use cga_form::fault::Fault;
 use cga_form::heads::ItemHead;
 use cga_form::tokens::Tokens;
@@ -32,31 +33,16 @@ fn inner(alloc: Global, tokens: &mut Tokens<'_>, depth: u8) -> Result<Item, Stop
 }
 
 #[cycle(item)]
-fn further_inner(
-    alloc: Global,
-    tokens: &mut Tokens<'_>,
-    depth: u8,
-) -> Result<List<Item>, Stop<Fault>>
-    requires { 0 < depth }
-    ensures { Reads (many spec.begins_item (spec.inner_item depth) (input_of tokens.old)) result (input_of tokens.new) }
-{
-    let mut rest = List::new(alloc);
-    'items: while begins_item(tokens) {
-        let more = inner(alloc, tokens, depth)?;
-        rest.push(more)?;
-    }
-    Ok(rest)
-}
-
-#[cycle(item)]
 fn inner_items(alloc: Global, tokens: &mut Tokens<'_>, depth: u8) -> Result<List<Item>, Stop<Fault>>
     requires { 0 < depth }
     ensures { Reads (spec.items_by (spec.inner_item depth) (input_of tokens.old)) result (input_of tokens.new) }
 {
-    let first = inner(alloc, tokens, depth)?;
-    let rest = further_inner(alloc, tokens, depth)?;
-    let items = with_first(first, rest)?;
-    Ok(items)
+    let mut items = List::new(alloc);
+    push_read(&mut items, inner(alloc, tokens, depth))?;
+    'items: while begins_item(tokens) {
+        push_read(&mut items, inner(alloc, tokens, depth))?;
+    }
+    Ok(fitted(items))
 }
 
 #[cycle(item)]
@@ -115,8 +101,7 @@ fn further_bodies(
 {
     let mut rest = List::new(alloc);
     'bodies: while tokens.at_sign(Sign::Bar) {
-        let more = further_body(alloc, tokens, depth)?;
-        rest.push(more)?;
+        push_read(&mut rest, further_body(alloc, tokens, depth))?;
     }
     Ok(rest)
 }
@@ -133,9 +118,41 @@ fn braced_bodies(
     tokens.enter(Sign::LeftCurly, depth)?;
     let items = inner_body(alloc, tokens, depth)?;
     let rest = further_bodies(alloc, tokens, depth)?;
-    let bodies = with_first(Body { items }, rest)?;
-    tokens.sign(Sign::RightCurly)?;
-    Ok(bodies)
+    closed(tokens, Sign::RightCurly, Body { items }, rest)
+}
+
+/// What stands after the word of a split.
+#[cycle(item)]
+fn subdiv_rest(alloc: Global, tokens: &mut Tokens<'_>, depth: u8) -> Result<Item, Stop<Fault>>
+    ensures { Reads (spec.item_rest depth (spec.inside_of depth) (spec.inner_item depth) ItemHead.Subdiv (input_of tokens.old)) result (input_of tokens.new) }
+{
+    let (axis, sizes) = parts::split_parts(alloc, tokens, depth)?;
+    let bodies = braced_bodies(alloc, tokens, depth)?;
+    Ok(Item::Subdiv {
+        axis,
+        sizes,
+        bodies,
+    })
+}
+
+/// What stands after the word of a repeat.
+#[cycle(item)]
+fn repeat_rest(alloc: Global, tokens: &mut Tokens<'_>, depth: u8) -> Result<Item, Stop<Fault>>
+    ensures { Reads (spec.item_rest depth (spec.inside_of depth) (spec.inner_item depth) ItemHead.Repeat (input_of tokens.old)) result (input_of tokens.new) }
+{
+    let (axis, length) = parts::repeat_parts(alloc, tokens, depth)?;
+    let body = braced_body(alloc, tokens, depth)?;
+    Ok(Item::Repeat { axis, length, body })
+}
+
+/// What stands after the word of a component.
+#[cycle(item)]
+fn comp_rest(alloc: Global, tokens: &mut Tokens<'_>, depth: u8) -> Result<Item, Stop<Fault>>
+    ensures { Reads (spec.item_rest depth (spec.inside_of depth) (spec.inner_item depth) ItemHead.Comp (input_of tokens.old)) result (input_of tokens.new) }
+{
+    let selector = parts::selector_part(tokens, depth)?;
+    let body = braced_body(alloc, tokens, depth)?;
+    Ok(Item::Comp { selector, body })
 }
 
 /// What stands after the word of an item.
@@ -149,38 +166,16 @@ fn item_rest(
     ensures { Reads (spec.item_rest depth (spec.inside_of depth) (spec.inner_item depth) head (input_of tokens.old)) result (input_of tokens.new) }
 {
     match head {
-        ItemHead::Move => {
-            let (x, y, z) = parts::move_parts(alloc, tokens, depth)?;
-            Ok(Item::Move(x, y, z))
-        }
-        ItemHead::Resize => {
-            let (x, y, z) = parts::resize_parts(alloc, tokens, depth)?;
-            Ok(Item::Resize(x, y, z))
-        }
+        ItemHead::Move => move_rest(alloc, tokens, depth),
+        ItemHead::Resize => resize_rest(alloc, tokens, depth),
         ItemHead::Rotate(axis) => {
             let by = parts::turn_part(tokens, depth)?;
             Ok(Item::Rotate { axis, by })
         }
         ItemHead::Solid => Ok(Item::Solid(parts::solid_part(tokens, depth)?)),
-        ItemHead::Subdiv => {
-            let (axis, sizes) = parts::split_parts(alloc, tokens, depth)?;
-            let bodies = braced_bodies(alloc, tokens, depth)?;
-            Ok(Item::Subdiv {
-                axis,
-                sizes,
-                bodies,
-            })
-        }
-        ItemHead::Repeat => {
-            let (axis, length) = parts::repeat_parts(alloc, tokens, depth)?;
-            let body = braced_body(alloc, tokens, depth)?;
-            Ok(Item::Repeat { axis, length, body })
-        }
-        ItemHead::Comp => {
-            let selector = parts::selector_part(tokens, depth)?;
-            let body = braced_body(alloc, tokens, depth)?;
-            Ok(Item::Comp { selector, body })
-        }
+        ItemHead::Subdiv => subdiv_rest(alloc, tokens, depth),
+        ItemHead::Repeat => repeat_rest(alloc, tokens, depth),
+        ItemHead::Comp => comp_rest(alloc, tokens, depth),
         ItemHead::Child(symbol) => {
             let args = parts::arguments(alloc, tokens, depth)?;
             Ok(Item::Child { symbol, args })
@@ -201,28 +196,15 @@ fn item(alloc: Global, tokens: &mut Tokens<'_>, depth: u8) -> Result<Item, Stop<
     item_rest(alloc, tokens, depth, head)
 }
 
-fn further_items(
-    alloc: Global,
-    tokens: &mut Tokens<'_>,
-    depth: u8,
-) -> Result<List<Item>, Stop<Fault>>
-    ensures { Reads (many spec.begins_item (spec.item depth) (input_of tokens.old)) result (input_of tokens.new) }
-{
-    let mut rest = List::new(alloc);
-    'items: while begins_item(tokens) {
-        let more = item(alloc, tokens, depth)?;
-        rest.push(more)?;
-    }
-    Ok(rest)
-}
-
 fn items(alloc: Global, tokens: &mut Tokens<'_>, depth: u8) -> Result<List<Item>, Stop<Fault>>
     ensures { Reads (spec.items_by (spec.item depth) (input_of tokens.old)) result (input_of tokens.new) }
 {
-    let first = item(alloc, tokens, depth)?;
-    let rest = further_items(alloc, tokens, depth)?;
-    let items = with_first(first, rest)?;
-    Ok(items)
+    let mut items = List::new(alloc);
+    push_read(&mut items, item(alloc, tokens, depth))?;
+    'items: while begins_item(tokens) {
+        push_read(&mut items, item(alloc, tokens, depth))?;
+    }
+    Ok(fitted(items))
 }
 
 /// Items, or `NIL`, where so many brackets may be opened.

@@ -22,6 +22,7 @@ pub mod limits;
 mod parts;
 mod printed;
 pub mod rule;
+mod triples;
 
 pub use block_line::BlockLine;
 pub use cga_form::LineFault;

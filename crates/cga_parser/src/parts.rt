@@ -8,8 +8,8 @@ ghost use Rattle.cga_form.specs.Tokens.{is_sign};
 ghost use Rattle.cga_form.specs.Words.{is_relative};
 ghost use Rattle.cga_lexer.specs.declared.sign.Sign.TheVariants as sign;
 
-use crate::expr::inside;
-use crate::first::with_first;
+use crate::expr::{inside, inside_boxed};
+use crate::first::{closed, push_read, with_first};
 use cga_form::fault::Fault;
 use cga_form::heads::SelectorHead;
 use cga_form::tokens::Tokens;
@@ -28,7 +28,7 @@ fn begins_relative(tokens: &Tokens<'_>) -> bool
 }
 
 #[tactic(auto, unfolding(crate::specs::Grammar::size))]
-fn size(alloc: Global, tokens: &mut Tokens<'_>, depth: u8) -> Result<Size, Stop<Fault>>
+pub(crate) fn size(alloc: Global, tokens: &mut Tokens<'_>, depth: u8) -> Result<Size, Stop<Fault>>
     requires { 0 < depth }
     ensures { Reads (spec.size depth (spec.inside_of depth) (input_of tokens.old)) result (input_of tokens.new) }
 {
@@ -37,86 +37,6 @@ fn size(alloc: Global, tokens: &mut Tokens<'_>, depth: u8) -> Result<Size, Stop<
         return Ok(Size::Relative(factor));
     }
     Ok(Size::Absolute(inside(alloc, tokens, depth)?))
-}
-
-#[tactic(auto, unfolding(crate::specs::Grammar::last_of))]
-fn last_expr(alloc: Global, tokens: &mut Tokens<'_>, depth: u8) -> Result<Boxed<Expr>, Stop<Fault>>
-    requires { 0 < depth }
-    ensures { Reads (spec.last_of (spec.inside_of depth) (input_of tokens.old)) result (input_of tokens.new) }
-{
-    tokens.sign(Sign::Comma)?;
-    let last = Boxed::new(alloc, inside(alloc, tokens, depth)?)?;
-    tokens.sign(Sign::RightRound)?;
-    Ok(last)
-}
-
-#[tactic(auto, unfolding(crate::specs::Grammar::last_two))]
-fn last_exprs(
-    alloc: Global,
-    tokens: &mut Tokens<'_>,
-    depth: u8,
-) -> Result<(Boxed<Expr>, Boxed<Expr>), Stop<Fault>>
-    requires { 0 < depth }
-    ensures { Reads (spec.last_two (spec.inside_of depth) (input_of tokens.old)) result (input_of tokens.new) }
-{
-    tokens.sign(Sign::Comma)?;
-    let second = Boxed::new(alloc, inside(alloc, tokens, depth)?)?;
-    let last = last_expr(alloc, tokens, depth)?;
-    Ok((second, last))
-}
-
-#[tactic(auto, unfolding(crate::specs::Grammar::move_parts))]
-pub(crate) fn move_parts(
-    alloc: Global,
-    tokens: &mut Tokens<'_>,
-    depth: u8,
-) -> Result<(Boxed<Expr>, Boxed<Expr>, Boxed<Expr>), Stop<Fault>>
-    ensures { Reads (spec.move_parts depth (spec.inside_of depth) (input_of tokens.old)) result (input_of tokens.new) }
-{
-    tokens.enter(Sign::LeftRound, depth)?;
-    let x = Boxed::new(alloc, inside(alloc, tokens, depth)?)?;
-    let (y, z) = last_exprs(alloc, tokens, depth)?;
-    Ok((x, y, z))
-}
-
-#[tactic(auto, unfolding(crate::specs::Grammar::last_of))]
-fn last_size(alloc: Global, tokens: &mut Tokens<'_>, depth: u8) -> Result<Boxed<Size>, Stop<Fault>>
-    requires { 0 < depth }
-    ensures { Reads (spec.last_of (spec.size depth (spec.inside_of depth)) (input_of tokens.old)) result (input_of tokens.new) }
-{
-    tokens.sign(Sign::Comma)?;
-    let last = Boxed::new(alloc, size(alloc, tokens, depth)?)?;
-    tokens.sign(Sign::RightRound)?;
-    Ok(last)
-}
-
-#[tactic(auto, unfolding(crate::specs::Grammar::last_two))]
-fn last_sizes(
-    alloc: Global,
-    tokens: &mut Tokens<'_>,
-    depth: u8,
-) -> Result<(Boxed<Size>, Boxed<Size>), Stop<Fault>>
-    requires { 0 < depth }
-    ensures { Reads (spec.last_two (spec.size depth (spec.inside_of depth)) (input_of tokens.old)) result (input_of tokens.new) }
-{
-    tokens.sign(Sign::Comma)?;
-    let second = Boxed::new(alloc, size(alloc, tokens, depth)?)?;
-    let last = last_size(alloc, tokens, depth)?;
-    Ok((second, last))
-}
-
-#[tactic(auto, unfolding(crate::specs::Grammar::resize_parts))]
-pub(crate) fn resize_parts(
-    alloc: Global,
-    tokens: &mut Tokens<'_>,
-    depth: u8,
-) -> Result<(Boxed<Size>, Boxed<Size>, Boxed<Size>), Stop<Fault>>
-    ensures { Reads (spec.resize_parts depth (spec.inside_of depth) (input_of tokens.old)) result (input_of tokens.new) }
-{
-    tokens.enter(Sign::LeftRound, depth)?;
-    let x = Boxed::new(alloc, size(alloc, tokens, depth)?)?;
-    let (y, z) = last_sizes(alloc, tokens, depth)?;
-    Ok((x, y, z))
 }
 
 #[tactic(auto, unfolding(crate::specs::Grammar::minus_ninety))]
@@ -177,8 +97,7 @@ fn further_sizes(
 {
     let mut rest = List::new(alloc);
     'sizes: while tokens.at_sign(Sign::Comma) {
-        let more = further_size(alloc, tokens, depth)?;
-        rest.push(more)?;
+        push_read(&mut rest, further_size(alloc, tokens, depth))?;
     }
     Ok(rest)
 }
@@ -211,7 +130,7 @@ pub(crate) fn repeat_parts(
     tokens.enter(Sign::LeftRound, depth)?;
     let axis = tokens.take(texts::axis(tokens.peek()))?;
     tokens.sign(Sign::Comma)?;
-    let length = Boxed::new(alloc, inside(alloc, tokens, depth)?)?;
+    let length = inside_boxed(alloc, tokens, depth)?;
     tokens.sign(Sign::RightRound)?;
     Ok((axis, length))
 }
@@ -282,8 +201,7 @@ fn further_arguments(
 {
     let mut rest = List::new(alloc);
     'arguments: while goes_on(tokens, rest.len()) {
-        let more = further_argument(alloc, tokens, depth)?;
-        rest.push(more)?;
+        push_read(&mut rest, further_argument(alloc, tokens, depth))?;
     }
     Ok(rest)
 }
@@ -299,9 +217,7 @@ fn some_arguments(
     tokens.enter(Sign::LeftRound, depth)?;
     let first = inside(alloc, tokens, depth)?;
     let rest = further_arguments(alloc, tokens, depth)?;
-    let arguments = with_first(first, rest)?;
-    tokens.sign(Sign::RightRound)?;
-    Ok(arguments)
+    closed(tokens, Sign::RightRound, first, rest)
 }
 
 #[tactic(auto, unfolding(crate::specs::Grammar::arguments))]

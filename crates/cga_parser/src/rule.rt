@@ -9,7 +9,7 @@ ghost use Rattle.cga_syntax.specs.Pieces.{rule_pieces};
 ghost use Rattle.cga_lexer.specs.declared.sign.Sign.TheVariants as sign;
 
 use crate::cond::cond;
-use crate::first::with_first;
+use crate::first::{closed, push_read, with_first};
 use crate::item::body;
 use crate::parts::goes_on;
 use cga_form::fault::Fault;
@@ -53,9 +53,7 @@ fn some_parameters(
     tokens.enter(Sign::LeftRound, depth)?;
     let first = tokens.take(words::name(tokens.peek()))?;
     let rest = further_names(alloc, tokens)?;
-    let names = with_first(first, rest)?;
-    tokens.sign(Sign::RightRound)?;
-    Ok(names)
+    closed(tokens, Sign::RightRound, first, rest)
 }
 
 #[tactic(auto, unfolding(crate::specs::Grammar::parameters))]
@@ -120,8 +118,7 @@ fn further_alternatives(
 {
     let mut rest = List::new(alloc);
     'alternatives: while tokens.at_sign(Sign::Arrow) {
-        let more = alternative(alloc, tokens, depth)?;
-        rest.push(more)?;
+        push_read(&mut rest, alternative(alloc, tokens, depth))?;
     }
     Ok(rest)
 }

@@ -1,48 +1,47 @@
-use Rattle.std.proofs.Common.{sym, ap, ◌∙◌}
+use Rattle.std.proofs.Common.{List, Ok, sym, ap, ◌∙◌}
 use Rattle.std.proofs.lemmas.Result.{err_from_is_err_and}
 use Rattle.cga_lexer.specs.declared.sign.Sign.TheVariants as s
+use Rattle.cga_rule.specs.declared.item.Item.{Item}
 use Rattle.cga_form.specs.Cursor.{input_of}
-use Rattle.cga_parser.specs.Grammar.{inside_of, inner_item, begins_item, further_body}
+use Rattle.cga_parser.specs.Grammar.{inside_of, inner_item, begins_item, items_by, further_body}
 use Rattle.cga_form.specs.Tokens.{is_sign}
-use Rattle.cga_form.specs.Reader.{many_after, many}
+use Rattle.cga_form.specs.Reader.{pure, many_after, many}
 use Rattle.cga_parser.proofs.Listings.{inner_listing, body_listing}
-use Rattle.cga_parser.proofs.Loops.{many_is, on, off, fails, shortens}
+use Rattle.cga_parser.proofs.Loops.{many_is, off}
+use Rattle.cga_parser.proofs.Gained.{gains_shortens, gains_on, gains_fails, begun, further, further_fails, ended}
 use Rattle.cga_parser.proofs.item.+item.Goals as goal
 
-pub further_inner-items-init : goal.further_inner-items-init
-further_inner-items-init t c = many_is begins_item (inner_item c.args.depth) (input_of c.args.tokens.now) ∙ ap (λ r. many_after begins_item (inner_item c.args.depth) r (input_of c.args.tokens.now)) (sym c.new-rest.ensures)
+pub inner_items-items-init : goal.inner_items-items-init
+inner_items-items-init t c = begun begins_item (inner_item c.args.depth) (pure {A = List Item}) (inner_item c.args.depth) (input_of c.args.tokens.now) c.inner.result c.new-items.result c.push_read.new.list (input_of c.inner.new.tokens) c.new-items.ensures c.inner.ensures c.in_ok-push_read.ensures
 
-pub further_inner-items-smaller : goal.further_inner-items-smaller
-further_inner-items-smaller t c = shortens (inner_listing c.args.depth c.requires) (input_of c.items.tokens) c.in_ok-more.more (input_of c.inner.new.tokens) c.in_ok-more.ensures
+pub inner_items-items-smaller : goal.inner_items-items-smaller
+inner_items-items-smaller t c = gains_shortens (inner_listing c.args.depth c.requires) (input_of c.items.tokens) c.inner-in-items.result c.items.items c.push_read-in-items.new.list (input_of c.inner-in-items.new.tokens) c.inner-in-items.ensures c.in_ok-push_read-2.ensures
 
-pub further_inner-items-preserved : goal.further_inner-items-preserved
-further_inner-items-preserved t c =
-    on begins_item (inner_listing c.args.depth c.requires) c.items.rest (input_of c.items.tokens) (many begins_item (inner_item c.args.depth) (input_of c.args.tokens.now)) c.in_ok-more.more (input_of c.inner.new.tokens) (sym c.begins_item.ensures ∙ c.items-test.true) c.in_ok-more.ensures c.items.invariant
-    ∙ ap (λ r. many_after begins_item (inner_item c.args.depth) r (input_of c.inner.new.tokens)) (sym c.in_ok-push.ensures.ok)
+pub inner_items-items-preserved : goal.inner_items-items-preserved
+inner_items-items-preserved t c = further begins_item (inner_listing c.args.depth c.requires) (pure {A = List Item}) c.items.items (input_of c.items.tokens) (items_by (inner_item c.args.depth) (input_of c.args.tokens.now)) c.inner-in-items.result c.push_read-in-items.new.list (input_of c.inner-in-items.new.tokens) (sym c.begins_item.ensures ∙ c.items-test.true) c.inner-in-items.ensures c.in_ok-push_read-2.ensures c.items.invariant
 
-pub further_inner-returns : goal.further_inner-returns
-further_inner-returns t c = off begins_item (inner_listing c.args.depth c.requires) c.items.rest (input_of c.items.tokens) (many begins_item (inner_item c.args.depth) (input_of c.args.tokens.now)) (sym c.begins_item.ensures ∙ c.items-test.false) c.items.invariant
+pub inner_items-returns : goal.inner_items-returns
+inner_items-returns t c = ended begins_item (inner_listing c.args.depth c.requires) (pure {A = List Item}) c.items.items (input_of c.items.tokens) (items_by (inner_item c.args.depth) (input_of c.args.tokens.now)) (sym c.begins_item.ensures ∙ c.items-test.false) c.items.invariant ∙ ap (λ l. Ok (l, input_of c.items.tokens)) (sym c.fitted.ensures)
 
-pub further_inner-returns-in_err-more : goal.further_inner-returns-in_err-more
-further_inner-returns-in_err-more t c =
-    let p = err_from_is_err_and c.from_residual.result c.from_residual.ensures.1 in
-    rw (p.1, p.2) (fails begins_item (inner_listing c.args.depth c.requires) c.items.rest (input_of c.items.tokens) (many begins_item (inner_item c.args.depth) (input_of c.args.tokens.now)) c.in_err-more.field-0.0 (sym c.begins_item.ensures ∙ c.items-test.true) c.in_err-more.ensures c.items.invariant)
+pub inner_items-returns-in_err-push_read-2 : goal.inner_items-returns-in_err-push_read-2
+inner_items-returns-in_err-push_read-2 t c =
+    let p = err_from_is_err_and c.from_residual-in_err-push_read-2.result c.from_residual-in_err-push_read-2.ensures.1 in
+    rw (p.1, p.2) (further_fails begins_item (inner_listing c.args.depth c.requires) (pure {A = List Item}) c.items.items (input_of c.items.tokens) (items_by (inner_item c.args.depth) (input_of c.args.tokens.now)) c.inner-in-items.result c.in_err-push_read-2.field-0.0 c.push_read-in-items.new.list (input_of c.inner-in-items.new.tokens) (sym c.begins_item.ensures ∙ c.items-test.true) c.inner-in-items.ensures c.in_err-push_read-2.ensures c.items.invariant)
 
 pub further_bodies-bodies-init : goal.further_bodies-bodies-init
 further_bodies-bodies-init t c = many_is (is_sign s.Bar) (further_body c.args.depth (inside_of c.args.depth) (inner_item c.args.depth)) (input_of c.args.tokens.now) ∙ ap (λ r. many_after (is_sign s.Bar) (further_body c.args.depth (inside_of c.args.depth) (inner_item c.args.depth)) r (input_of c.args.tokens.now)) (sym c.new-rest.ensures)
 
 pub further_bodies-bodies-smaller : goal.further_bodies-bodies-smaller
-further_bodies-bodies-smaller t c = shortens (body_listing c.args.depth c.requires) (input_of c.bodies.tokens) c.in_ok-more.more (input_of c.further_body.new.tokens) c.in_ok-more.ensures
+further_bodies-bodies-smaller t c = gains_shortens (body_listing c.args.depth c.requires) (input_of c.bodies.tokens) c.further_body.result c.bodies.rest c.push_read.new.list (input_of c.further_body.new.tokens) c.further_body.ensures c.in_ok-push_read.ensures
 
 pub further_bodies-bodies-preserved : goal.further_bodies-bodies-preserved
 further_bodies-bodies-preserved t c =
-    on (is_sign s.Bar) (body_listing c.args.depth c.requires) c.bodies.rest (input_of c.bodies.tokens) (many (is_sign s.Bar) (further_body c.args.depth (inside_of c.args.depth) (inner_item c.args.depth)) (input_of c.args.tokens.now)) c.in_ok-more.more (input_of c.further_body.new.tokens) (sym c.at_sign.ensures ∙ c.bodies-test.true) c.in_ok-more.ensures c.bodies.invariant
-    ∙ ap (λ r. many_after (is_sign s.Bar) (further_body c.args.depth (inside_of c.args.depth) (inner_item c.args.depth)) r (input_of c.further_body.new.tokens)) (sym c.in_ok-push.ensures.ok)
+    gains_on (is_sign s.Bar) (body_listing c.args.depth c.requires) c.bodies.rest (input_of c.bodies.tokens) (many (is_sign s.Bar) (further_body c.args.depth (inside_of c.args.depth) (inner_item c.args.depth)) (input_of c.args.tokens.now)) c.further_body.result c.push_read.new.list (input_of c.further_body.new.tokens) (sym c.at_sign.ensures ∙ c.bodies-test.true) c.further_body.ensures c.in_ok-push_read.ensures c.bodies.invariant
 
 pub further_bodies-returns : goal.further_bodies-returns
 further_bodies-returns t c = off (is_sign s.Bar) (body_listing c.args.depth c.requires) c.bodies.rest (input_of c.bodies.tokens) (many (is_sign s.Bar) (further_body c.args.depth (inside_of c.args.depth) (inner_item c.args.depth)) (input_of c.args.tokens.now)) (sym c.at_sign.ensures ∙ c.bodies-test.false) c.bodies.invariant
 
-pub further_bodies-returns-in_err-more : goal.further_bodies-returns-in_err-more
-further_bodies-returns-in_err-more t c =
+pub further_bodies-returns-in_err-push_read : goal.further_bodies-returns-in_err-push_read
+further_bodies-returns-in_err-push_read t c =
     let p = err_from_is_err_and c.from_residual.result c.from_residual.ensures.1 in
-    rw (p.1, p.2) (fails (is_sign s.Bar) (body_listing c.args.depth c.requires) c.bodies.rest (input_of c.bodies.tokens) (many (is_sign s.Bar) (further_body c.args.depth (inside_of c.args.depth) (inner_item c.args.depth)) (input_of c.args.tokens.now)) c.in_err-more.field-0.0 (sym c.at_sign.ensures ∙ c.bodies-test.true) c.in_err-more.ensures c.bodies.invariant)
+    rw (p.1, p.2) (gains_fails (is_sign s.Bar) (body_listing c.args.depth c.requires) c.bodies.rest (input_of c.bodies.tokens) (many (is_sign s.Bar) (further_body c.args.depth (inside_of c.args.depth) (inner_item c.args.depth)) (input_of c.args.tokens.now)) c.further_body.result c.in_err-push_read.field-0.0 c.push_read.new.list (input_of c.further_body.new.tokens) (sym c.at_sign.ensures ∙ c.bodies-test.true) c.further_body.ensures c.in_err-push_read.ensures c.bodies.invariant)
