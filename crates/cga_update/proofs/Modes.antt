@@ -1,6 +1,6 @@
 -- From one mode to another: what comes of no lots, and what goes to none.
 use Rattle.std.proofs.Common.{◌≡◌, ◌≢◌, inl, ℕ, ◌+◌, List, [], ◌∷◌, map, length, Bool, Some, None, refl, ap, sym, ◌∙◌, subst, arith}
-use Rattle.std.specs.Prelude.{count_by, Err}
+use Rattle.std.specs.Prelude.{count_by}
 use Rattle.cga_shape.specs.declared.changes.Changes.{Changes}
 use Rattle.cga_shape.specs.declared.drawn.Drawn as reported
 use Rattle.cga_shape.specs.declared.shape.Shape.{Shape}
@@ -14,9 +14,7 @@ use Rattle.cga_shape.specs.declared.lot.Lot.{Lot}
 use Rattle.cga_expand.specs.Derivation.{derivation_of, NamesDiffer}
 use Rattle.cga_expand.proofs.Instance.{sources_are_derivations}
 use Rattle.cga_expand.specs.Touched.{Touched}
-use Rattle.cga_update.specs.declared.update_refused.UpdateRefused.{UpdateRefused}
-use Rattle.cga_update.specs.declared.update_refused.UpdateRefused.TheVariants.{OverBudget, NoMemory}
-use Rattle.cga_update.specs.Updates.{told, instances, CountsTouched, IsChange, IsExact, WhereOver, with_no_lots}
+use Rattle.cga_update.specs.Updates.{told, instances, CountsTouched, IsChange, IsExact, with_no_lots}
 
 -- no lots derive to nothing, in no step
 no_lots_derive : (sources : Sources) → derive (derivation_of (with_no_lots sources)) 0 ≡ Some []
@@ -121,13 +119,3 @@ changes_mode old new differ budget n come gone both made left gone_is come_is =
           (subst (λ (l : List Member). IsChange (with_no_lots new) new l made.1 come) none made.5)
           gone_is come_is,
     )
-
--- ---- a refusal
-
-pub where_over : (A : Type 0) (e : UpdateRefused) (P : Type 0) → P → WhereOver {A = A} (Err e) P
-where_over A OverBudget P h = h
-where_over A NoMemory P h = tt
-
-pub over_again : (A B : Type 0) (e : UpdateRefused) (P : Type 0) → WhereOver {A = A} (Err e) P → WhereOver {A = B} (Err e) P
-over_again A B OverBudget P h = h
-over_again A B NoMemory P h = tt
