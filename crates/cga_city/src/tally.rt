@@ -8,9 +8,8 @@ ghost use Rattle.cga_forest.specs.Walked.{forest_tree};
 ghost use Rattle.cga_city.specs.Tally.{HasRoom, none, tallied, with_kind, with_seen};
 
 use cga_forest::Forest;
-use cga_index::{HullTree, NodeId};
+use cga_index::{HullTree, NodeId, child_of, root_of};
 use cga_shape::Kind;
-use cga_trace::{child_of, root_of};
 
 /// How many nodes were counted, and how many of these are instances, and faulted.
 #[derive(Clone, Copy, Debug)]

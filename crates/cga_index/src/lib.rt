@@ -18,4 +18,5 @@ pub use hull_tree::HullTree;
 pub use listing::queriers_meeting;
 pub use node_id::NodeId;
 pub use standing::Standing;
+pub use steps::{child_of, root_of};
 pub use walk::answer;

@@ -16,9 +16,9 @@ pub(crate) fn block_end(from: usize, roots: usize) -> usize
     if roots - from < 16 { roots } else { from + 16 }
 }
 
-/// A root of the tree.
+/// A root of the tree, which stands highest.
 #[tactic(auto, using(crate::proofs::Levels::root_inside, crate::proofs::Levels::root_depth))]
-pub(crate) fn root_of<H: HullTree>(tree: &H, place: usize) -> NodeId
+pub fn root_of<H: HullTree>(tree: &H, place: usize) -> NodeId
     requires laws { IsHullTree (H.view tree.now) }
     requires place { place < length (H.view tree.now).roots }
     ensures at { slice_get (H.view tree.now).roots place ≡ Some result }
@@ -28,9 +28,9 @@ pub(crate) fn root_of<H: HullTree>(tree: &H, place: usize) -> NodeId
     tree.root(place)
 }
 
-/// A child of a node of the tree.
+/// A child of a node of the tree, which stands one level below it.
 #[tactic(auto, using(crate::proofs::Levels::child_in, crate::proofs::Levels::child_depth))]
-pub(crate) fn child_of<H: HullTree>(tree: &H, node: NodeId, place: usize) -> NodeId
+pub fn child_of<H: HullTree>(tree: &H, node: NodeId, place: usize) -> NodeId
     requires laws { IsHullTree (H.view tree.now) }
     requires node { InTree (H.view tree.now) node }
     requires place { place < length ((H.view tree.now).children node) }

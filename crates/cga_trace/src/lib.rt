@@ -22,4 +22,4 @@ pub use judge_reader::JudgeReader;
 pub use reading::read_step;
 pub use text::{judged_text, trace_text};
 pub use tracing::trace;
-pub use walk::{child_of, list_from, root_of};
+pub use walk::list_from;

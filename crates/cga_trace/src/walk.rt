@@ -1,36 +1,13 @@
 //! The nodes of a forest, each before what is below it.
-ghost use Rattle.std.specs.Prelude.{◌≡◌, ◌+◌, ◌<◌, ◌++◌, length, slice_get, Some, IfOk, OnOk};
+ghost use Rattle.std.specs.Prelude.{◌≡◌, ◌+◌, ◌++◌, IfOk, OnOk};
 ghost use Rattle.std.specs.List.{flat_map};
 ghost use Rattle.cga_index.specs.Tree.{IsHullTree, InTree, all_nodes, below};
 ghost use Rattle.cga_forest.specs.Walked.{forest_tree};
 
 use cga_forest::Forest;
 use cga_fraction::NoMemory;
-use cga_index::{HullTree, NodeId};
+use cga_index::{HullTree, NodeId, child_of, root_of};
 use std::alloc::Global;
-
-/// A child of a node that is there.
-pub fn child_of(forest: &Forest, node: NodeId, place: usize) -> NodeId
-    requires laws { IsHullTree (forest_tree forest.now) }
-    requires node { InTree (forest_tree forest.now) node }
-    requires place { place < length ((forest_tree forest.now).children node) }
-    ensures at { slice_get ((forest_tree forest.now).children node) place ≡ Some result }
-    ensures inside { InTree (forest_tree forest.now) result }
-    ensures depth { (forest_tree forest.now).depth result ≡ (forest_tree forest.now).depth node + 1 }
-{
-    forest.child(node, place)
-}
-
-/// A root of the forest.
-pub fn root_of(forest: &Forest, place: usize) -> NodeId
-    requires laws { IsHullTree (forest_tree forest.now) }
-    requires place { place < length (forest_tree forest.now).roots }
-    ensures at { slice_get (forest_tree forest.now).roots place ≡ Some result }
-    ensures inside { InTree (forest_tree forest.now) result }
-    ensures depth { (forest_tree forest.now).depth result ≡ 0 }
-{
-    forest.root(place)
-}
 
 /// Appends a node and all below it.
 #[cycle(listing)]
