@@ -3,7 +3,7 @@ use cga_shape::Lot;
 use cga_word::Mode;
 
 /// What a line of a block of a whole city says.
-#[derive(Debug, Drop)]
+#[derive(Drop)]
 pub enum CityLine {
     /// What it would say in a block of rules.
     Block(BlockLine),

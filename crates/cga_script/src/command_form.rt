@@ -56,13 +56,29 @@ fn maybe_name(tokens: &mut Tokens<'_>) -> Result<Option<Name>, Fault>
     Ok(None)
 }
 
-fn attribute(tokens: &mut Tokens<'_>) -> Result<ScriptCommand, Fault>
-    ensures { Finds (spec.command_rest 0 CommandHead.Attribute (input_of tokens.old)) result (input_of tokens.new) }
+fn attribute(tokens: &mut Tokens<'_>) -> Result<ScriptCommand, Stop<Fault>>
+    ensures { Reads (spec.command_rest 0 CommandHead.Attribute (input_of tokens.old)) result (input_of tokens.new) }
 {
     let name = name(tokens)?;
     tokens.sign(Sign::Assign)?;
     let value = value(tokens)?;
     Ok(ScriptCommand::Change(Edit::SetAttribute(name, value)))
+}
+
+fn put(alloc: Global, tokens: &mut Tokens<'_>, depth: u8) -> Result<ScriptCommand, Stop<Fault>>
+    ensures { Reads (spec.command_rest depth CommandHead.Put (input_of tokens.old)) result (input_of tokens.new) }
+{
+    let priority = prio(tokens)?;
+    let rule = rule(alloc, tokens, depth)?;
+    Ok(ScriptCommand::Change(Edit::Put(priority, rule)))
+}
+
+fn priority(tokens: &mut Tokens<'_>) -> Result<ScriptCommand, Stop<Fault>>
+    ensures { Reads (spec.command_rest 0 CommandHead.Priority (input_of tokens.old)) result (input_of tokens.new) }
+{
+    let symbol = name(tokens)?;
+    let priority = prio(tokens)?;
+    Ok(ScriptCommand::Change(Edit::SetPriority(symbol, priority)))
 }
 
 fn command_rest(
@@ -75,18 +91,10 @@ fn command_rest(
 {
     match head {
         CommandHead::Rules => Ok(ScriptCommand::Rules),
-        CommandHead::Put => {
-            let priority = prio(tokens)?;
-            let rule = rule(alloc, tokens, depth)?;
-            Ok(ScriptCommand::Change(Edit::Put(priority, rule)))
-        }
+        CommandHead::Put => put(alloc, tokens, depth),
         CommandHead::Drop => Ok(ScriptCommand::Change(Edit::Drop(id(tokens)?))),
-        CommandHead::Attribute => Ok(attribute(tokens)?),
-        CommandHead::Priority => {
-            let symbol = name(tokens)?;
-            let priority = prio(tokens)?;
-            Ok(ScriptCommand::Change(Edit::SetPriority(symbol, priority)))
-        }
+        CommandHead::Attribute => attribute(tokens),
+        CommandHead::Priority => priority(tokens),
         CommandHead::Unlot => Ok(ScriptCommand::Change(Edit::Unlot(name(tokens)?))),
         CommandHead::Print => Ok(ScriptCommand::Print(maybe_name(tokens)?)),
         CommandHead::Faults => Ok(ScriptCommand::Faults),
@@ -96,8 +104,8 @@ fn command_rest(
     }
 }
 
-fn further_rest(tokens: &mut Tokens<'_>, head: FurtherHead) -> Result<ScriptCommand, Fault>
-    ensures { Finds (spec.further_rest head (input_of tokens.old)) result (input_of tokens.new) }
+fn further_rest(tokens: &mut Tokens<'_>, head: FurtherHead) -> Result<ScriptCommand, Stop<Fault>>
+    ensures { Reads (spec.further_rest head (input_of tokens.old)) result (input_of tokens.new) }
 {
     match head {
         FurtherHead::City => Ok(ScriptCommand::CityBlock),
@@ -146,7 +154,7 @@ fn second_command(
     }
     if at_further(tokens) {
         let head = tokens.take(words::further(tokens.peek()))?;
-        return Ok(further_rest(tokens, head)?);
+        return further_rest(tokens, head);
     }
     first_command(alloc, tokens, depth)
 }

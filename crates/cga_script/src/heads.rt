@@ -1,7 +1,7 @@
 //! What the first word of a command says of the rest. A lot and an order are told apart before.
 
 /// The first words of both versions.
-#[derive(Clone, Copy, Debug)]
+#[derive(Clone, Copy)]
 pub enum CommandHead {
     Rules,
     Put,
@@ -17,7 +17,7 @@ pub enum CommandHead {
 }
 
 /// The first words of version 2 alone.
-#[derive(Clone, Copy, Debug)]
+#[derive(Clone, Copy)]
 pub enum FurtherHead {
     City,
     Dump,

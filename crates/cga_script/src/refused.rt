@@ -4,7 +4,7 @@ use cga_shape::EditRefused;
 use cga_word::Name;
 
 /// Why a line, a block or a command is refused.
-#[derive(Debug, Drop)]
+#[derive(Drop)]
 pub enum Refused {
     Line(LineFault),
     /// The first faulty line of a block of rules, or of a city.

@@ -3,7 +3,7 @@ use cga_word::Name;
 
 /// What a line outside a block asks for. Those from `CityBlock` on, and the edit of the order, are
 /// commands of version 2 alone.
-#[derive(Debug, Drop)]
+#[derive(Drop)]
 pub enum ScriptCommand {
     /// A line without tokens asks for nothing.
     Blank,

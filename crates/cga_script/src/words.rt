@@ -3,10 +3,17 @@ ghost use Rattle.std.specs.Prelude.{◌≡◌};
 ghost use Rattle.cga_form.specs.Reader.{decoded};
 ghost use Rattle.cga_script.specs.Heads as heads;
 ghost use Rattle.cga_script.specs.Orders as orders;
+ghost use Rattle.cga_syntax.specs.Lexemes.{is};
 
 use crate::heads::{CommandHead, FurtherHead};
 use cga_syntax::Lexeme;
 use cga_word::{Mode, Name};
+
+fn is(word: &[u8], bytes: &[u8]) -> bool
+    ensures { result ≡ is word.now bytes.now }
+{
+    word == bytes
+}
 
 pub(crate) fn head(next: Option<Lexeme>) -> Option<CommandHead>
     ensures { result ≡ decoded heads.a_head next }
@@ -21,27 +28,27 @@ fn head_of(name: Name) -> Option<CommandHead>
     ensures { result ≡ heads.head_of name }
 {
     let name = name.bytes();
-    if name == b"rules".as_slice() {
+    if is(name, b"rules") {
         Some(CommandHead::Rules)
-    } else if name == b"put".as_slice() {
+    } else if is(name, b"put") {
         Some(CommandHead::Put)
-    } else if name == b"drop".as_slice() {
+    } else if is(name, b"drop") {
         Some(CommandHead::Drop)
-    } else if name == b"attr".as_slice() {
+    } else if is(name, b"attr") {
         Some(CommandHead::Attribute)
-    } else if name == b"priority".as_slice() {
+    } else if is(name, b"priority") {
         Some(CommandHead::Priority)
-    } else if name == b"unlot".as_slice() {
+    } else if is(name, b"unlot") {
         Some(CommandHead::Unlot)
-    } else if name == b"print".as_slice() {
+    } else if is(name, b"print") {
         Some(CommandHead::Print)
-    } else if name == b"faults".as_slice() {
+    } else if is(name, b"faults") {
         Some(CommandHead::Faults)
-    } else if name == b"grammar".as_slice() {
+    } else if is(name, b"grammar") {
         Some(CommandHead::Grammar)
-    } else if name == b"stats".as_slice() {
+    } else if is(name, b"stats") {
         Some(CommandHead::Stats)
-    } else if name == b"quiet".as_slice() {
+    } else if is(name, b"quiet") {
         Some(CommandHead::Quiet)
     } else {
         None
@@ -61,27 +68,27 @@ fn further_of(name: Name) -> Option<FurtherHead>
     ensures { result ≡ heads.further_of name }
 {
     let name = name.bytes();
-    if name == b"city".as_slice() {
+    if is(name, b"city") {
         Some(FurtherHead::City)
-    } else if name == b"dump".as_slice() {
+    } else if is(name, b"dump") {
         Some(FurtherHead::Dump)
-    } else if name == b"asset".as_slice() {
+    } else if is(name, b"asset") {
         Some(FurtherHead::Asset)
-    } else if name == b"dress".as_slice() {
+    } else if is(name, b"dress") {
         Some(FurtherHead::Dress)
-    } else if name == b"undress".as_slice() {
+    } else if is(name, b"undress") {
         Some(FurtherHead::Undress)
-    } else if name == b"model".as_slice() {
+    } else if is(name, b"model") {
         Some(FurtherHead::Model)
-    } else if name == b"bill".as_slice() {
+    } else if is(name, b"bill") {
         Some(FurtherHead::Bill)
-    } else if name == b"undo".as_slice() {
+    } else if is(name, b"undo") {
         Some(FurtherHead::Undo)
-    } else if name == b"redo".as_slice() {
+    } else if is(name, b"redo") {
         Some(FurtherHead::Redo)
-    } else if name == b"trace".as_slice() {
+    } else if is(name, b"trace") {
         Some(FurtherHead::Trace)
-    } else if name == b"judge".as_slice() {
+    } else if is(name, b"judge") {
         Some(FurtherHead::Judge)
     } else {
         None
@@ -101,9 +108,9 @@ fn mode_of(name: Name) -> Option<Mode>
     ensures { result ≡ orders.mode_of name }
 {
     let name = name.bytes();
-    if name == b"breadth".as_slice() {
+    if is(name, b"breadth") {
         Some(Mode::Breadth)
-    } else if name == b"depth".as_slice() {
+    } else if is(name, b"depth") {
         Some(Mode::Depth)
     } else {
         None
