@@ -4,7 +4,7 @@ ghost use Rattle.cga_syntax.specs.Lexemes as spec;
 use cga_word::Name;
 
 /// A reserved word: it is no name of a symbol, a parameter, an attribute, a lot or an asset.
-#[derive(Clone, Copy, Debug, PartialEq, Eq)]
+#[derive(Clone, Copy, PartialEq, Eq)]
 pub enum Keyword {
     T,
     S,
@@ -23,6 +23,12 @@ pub enum Keyword {
     And,
     Or,
     Not,
+}
+
+fn is(word: &[u8], bytes: &[u8]) -> bool
+    ensures { result ≡ spec.is word.now bytes.now }
+{
+    word == bytes
 }
 
 /// The reserved word that is spelled so: of its length there are at most four.
@@ -45,11 +51,11 @@ pub(crate) fn keyword_of(word: Name) -> Option<Keyword>
 fn one_byte_keyword(word: &[u8]) -> Option<Keyword>
     ensures { result ≡ spec.one_byte_keyword word.now }
 {
-    if word == b"T".as_slice() {
+    if is(word, b"T") {
         Some(Keyword::T)
-    } else if word == b"S".as_slice() {
+    } else if is(word, b"S") {
         Some(Keyword::S)
-    } else if word == b"I".as_slice() {
+    } else if is(word, b"I") {
         Some(Keyword::I)
     } else {
         None
@@ -59,13 +65,13 @@ fn one_byte_keyword(word: &[u8]) -> Option<Keyword>
 fn two_byte_keyword(word: &[u8]) -> Option<Keyword>
     ensures { result ≡ spec.two_byte_keyword word.now }
 {
-    if word == b"Rx".as_slice() {
+    if is(word, b"Rx") {
         Some(Keyword::Rx)
-    } else if word == b"Ry".as_slice() {
+    } else if is(word, b"Ry") {
         Some(Keyword::Ry)
-    } else if word == b"Rz".as_slice() {
+    } else if is(word, b"Rz") {
         Some(Keyword::Rz)
-    } else if word == b"or".as_slice() {
+    } else if is(word, b"or") {
         Some(Keyword::Or)
     } else {
         None
@@ -75,11 +81,11 @@ fn two_byte_keyword(word: &[u8]) -> Option<Keyword>
 fn three_byte_keyword(word: &[u8]) -> Option<Keyword>
     ensures { result ≡ spec.three_byte_keyword word.now }
 {
-    if word == b"NIL".as_slice() {
+    if is(word, b"NIL") {
         Some(Keyword::Nil)
-    } else if word == b"and".as_slice() {
+    } else if is(word, b"and") {
         Some(Keyword::And)
-    } else if word == b"not".as_slice() {
+    } else if is(word, b"not") {
         Some(Keyword::Not)
     } else {
         None
@@ -89,11 +95,11 @@ fn three_byte_keyword(word: &[u8]) -> Option<Keyword>
 fn four_byte_keyword(word: &[u8]) -> Option<Keyword>
     ensures { result ≡ spec.four_byte_keyword word.now }
 {
-    if word == b"Comp".as_slice() {
+    if is(word, b"Comp") {
         Some(Keyword::Comp)
-    } else if word == b"rand".as_slice() {
+    } else if is(word, b"rand") {
         Some(Keyword::Rand)
-    } else if word == b"ceil".as_slice() {
+    } else if is(word, b"ceil") {
         Some(Keyword::Ceil)
     } else {
         None
@@ -103,9 +109,9 @@ fn four_byte_keyword(word: &[u8]) -> Option<Keyword>
 fn five_byte_keyword(word: &[u8]) -> Option<Keyword>
     ensures { result ≡ spec.five_byte_keyword word.now }
 {
-    if word == b"Scope".as_slice() {
+    if is(word, b"Scope") {
         Some(Keyword::Scope)
-    } else if word == b"floor".as_slice() {
+    } else if is(word, b"floor") {
         Some(Keyword::Floor)
     } else {
         None
@@ -115,9 +121,9 @@ fn five_byte_keyword(word: &[u8]) -> Option<Keyword>
 fn six_byte_keyword(word: &[u8]) -> Option<Keyword>
     ensures { result ≡ spec.six_byte_keyword word.now }
 {
-    if word == b"Subdiv".as_slice() {
+    if is(word, b"Subdiv") {
         Some(Keyword::Subdiv)
-    } else if word == b"Repeat".as_slice() {
+    } else if is(word, b"Repeat") {
         Some(Keyword::Repeat)
     } else {
         None

@@ -8,7 +8,7 @@ use cga_word::Name;
 
 /// A token as the forms of the language see it: a word is a keyword where it is reserved, and a
 /// name where it isn't. The other words that forms name, as `sx`, are names here.
-#[derive(Clone, Copy, Debug, PartialEq, Eq)]
+#[derive(Clone, Copy, PartialEq, Eq)]
 pub enum Lexeme {
     Number(Fraction),
     Relative(Fraction),

@@ -2,7 +2,7 @@ use crate::lexeme::Lexeme;
 use crate::print::space::Space;
 
 /// A token that is to be printed.
-#[derive(Clone, Copy, Debug)]
+#[derive(Clone, Copy)]
 pub struct Mark {
     pub lexeme: Lexeme,
     pub space: Space,

@@ -1,5 +1,5 @@
 /// Where no space stands beside a printed token, apart from what signs have by themselves.
-#[derive(Clone, Copy, Debug, PartialEq, Eq)]
+#[derive(Clone, Copy, PartialEq, Eq)]
 pub enum Space {
     Usual,
     NoneBefore,
