@@ -72,7 +72,7 @@ impl Entry {
             children: std::mem::replace(&mut self.children, children),
         };
         self.node.set_state(state);
-        if marking && self.former.is_none() {
+        if marking && !self.came && self.former.is_none() {
             self.former = Some(spare.filled(former));
         }
     }
@@ -88,7 +88,7 @@ impl Entry {
     {
         let kept = KeptHulls::Other(spare.filled(hulls));
         let former = std::mem::replace(&mut self.hulls, kept);
-        if marking && self.former_hulls.is_none() {
+        if marking && !self.came && self.former_hulls.is_none() {
             self.former_hulls = Some(former);
         }
     }
