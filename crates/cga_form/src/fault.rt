@@ -4,7 +4,7 @@ ghost use Rattle.cga_fraction.specs.declared.stop.Stop.TheVariants as stop;
 use cga_fraction::Stop;
 
 /// Why tokens are no member of a form, with the number of tokens that were left.
-#[derive(Clone, Copy, Debug, PartialEq, Eq)]
+#[derive(Clone, Copy, PartialEq, Eq)]
 pub enum Fault {
     Unexpected(usize),
     TooNested(usize),

@@ -2,7 +2,7 @@
 use cga_fraction::Fraction;
 use cga_word::{Axis, Name};
 
-#[derive(Clone, Copy, Debug)]
+#[derive(Clone, Copy)]
 pub enum PrimaryHead {
     Number(Fraction),
     Named(Name),
@@ -11,13 +11,13 @@ pub enum PrimaryHead {
     Ceil,
 }
 
-#[derive(Clone, Copy, Debug)]
+#[derive(Clone, Copy)]
 pub enum ScopeWord {
     Occ,
     Size(Axis),
 }
 
-#[derive(Clone, Copy, Debug)]
+#[derive(Clone, Copy)]
 pub enum ItemHead {
     Move,
     Resize,
@@ -29,7 +29,7 @@ pub enum ItemHead {
     Child(Name),
 }
 
-#[derive(Clone, Copy, Debug)]
+#[derive(Clone, Copy)]
 pub enum SelectorHead {
     Faces,
     Sidefaces,

@@ -1,5 +1,5 @@
 /// Why a line isn't of its form. Places count from 1; the end of a line is after its last byte.
-#[derive(Clone, Copy, Debug, PartialEq, Eq)]
+#[derive(Clone, Copy, PartialEq, Eq)]
 pub enum LineFault {
     /// The line has more than 4,096 bytes.
     LineTooLong,

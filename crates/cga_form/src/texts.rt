@@ -4,6 +4,7 @@ ghost use Rattle.cga_form.specs.Reader.{decoded};
 ghost use Rattle.cga_form.specs.Words as spec;
 
 use crate::heads::SelectorHead;
+use crate::words::is;
 use cga_syntax::Lexeme;
 use cga_word::{Answer, Axis, Name, Primitive, Side, Target};
 
@@ -19,10 +20,9 @@ pub fn target(next: Option<Lexeme>) -> Option<Target>
 fn target_of(text: Name) -> Option<Target>
     ensures { result ≡ spec.target_of text }
 {
-    let text = text.bytes();
-    if text == b"noparent".as_slice() {
+    if is(text, b"noparent") {
         Some(Target::Noparent)
-    } else if text == b"active".as_slice() {
+    } else if is(text, b"active") {
         Some(Target::Active)
     } else {
         None
@@ -41,12 +41,11 @@ pub fn state(next: Option<Lexeme>) -> Option<Answer>
 fn state_of(text: Name) -> Option<Answer>
     ensures { result ≡ spec.state_of text }
 {
-    let text = text.bytes();
-    if text == b"none".as_slice() {
+    if is(text, b"none") {
         Some(Answer::Nothing)
-    } else if text == b"part".as_slice() {
+    } else if is(text, b"part") {
         Some(Answer::Part)
-    } else if text == b"full".as_slice() {
+    } else if is(text, b"full") {
         Some(Answer::Full)
     } else {
         None
@@ -65,12 +64,11 @@ pub fn axis(next: Option<Lexeme>) -> Option<Axis>
 fn axis_of(text: Name) -> Option<Axis>
     ensures { result ≡ spec.axis_of text }
 {
-    let text = text.bytes();
-    if text == b"X".as_slice() {
+    if is(text, b"X") {
         Some(Axis::X)
-    } else if text == b"Y".as_slice() {
+    } else if is(text, b"Y") {
         Some(Axis::Y)
-    } else if text == b"Z".as_slice() {
+    } else if is(text, b"Z") {
         Some(Axis::Z)
     } else {
         None
@@ -89,16 +87,15 @@ pub fn solid(next: Option<Lexeme>) -> Option<Primitive>
 fn solid_of(text: Name) -> Option<Primitive>
     ensures { result ≡ spec.solid_of text }
 {
-    let text = text.bytes();
-    if text == b"cube".as_slice() {
+    if is(text, b"cube") {
         Some(Primitive::Cube)
-    } else if text == b"quad".as_slice() {
+    } else if is(text, b"quad") {
         Some(Primitive::Quad)
-    } else if text == b"shed".as_slice() {
+    } else if is(text, b"shed") {
         Some(Primitive::Shed)
-    } else if text == b"gable".as_slice() {
+    } else if is(text, b"gable") {
         Some(Primitive::Gable)
-    } else if text == b"hip".as_slice() {
+    } else if is(text, b"hip") {
         Some(Primitive::Hip)
     } else {
         None
@@ -117,18 +114,17 @@ pub fn side(next: Option<Lexeme>) -> Option<Side>
 fn side_of(text: Name) -> Option<Side>
     ensures { result ≡ spec.side_of text }
 {
-    let text = text.bytes();
-    if text == b"front".as_slice() {
+    if is(text, b"front") {
         Some(Side::Front)
-    } else if text == b"right".as_slice() {
+    } else if is(text, b"right") {
         Some(Side::Right)
-    } else if text == b"back".as_slice() {
+    } else if is(text, b"back") {
         Some(Side::Back)
-    } else if text == b"left".as_slice() {
+    } else if is(text, b"left") {
         Some(Side::Left)
-    } else if text == b"top".as_slice() {
+    } else if is(text, b"top") {
         Some(Side::Top)
-    } else if text == b"bottom".as_slice() {
+    } else if is(text, b"bottom") {
         Some(Side::Bottom)
     } else {
         None
@@ -147,18 +143,17 @@ pub fn selector(next: Option<Lexeme>) -> Option<SelectorHead>
 fn selector_of(text: Name) -> Option<SelectorHead>
     ensures { result ≡ spec.selector_of text }
 {
-    let text = text.bytes();
-    if text == b"faces".as_slice() {
+    if is(text, b"faces") {
         Some(SelectorHead::Faces)
-    } else if text == b"sidefaces".as_slice() {
+    } else if is(text, b"sidefaces") {
         Some(SelectorHead::Sidefaces)
-    } else if text == b"face".as_slice() {
+    } else if is(text, b"face") {
         Some(SelectorHead::Face)
-    } else if text == b"edges".as_slice() {
+    } else if is(text, b"edges") {
         Some(SelectorHead::Edges)
-    } else if text == b"edge".as_slice() {
+    } else if is(text, b"edge") {
         Some(SelectorHead::Edge)
-    } else if text == b"vertices".as_slice() {
+    } else if is(text, b"vertices") {
         Some(SelectorHead::Vertices)
     } else {
         None

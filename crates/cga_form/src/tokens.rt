@@ -8,7 +8,7 @@ use cga_lexer::{Sign, Token, TokenKind};
 use cga_syntax::{Keyword, Lexeme};
 
 /// The tokens that are left, and how many rands were read.
-#[derive(Clone, Copy, Debug)]
+#[derive(Clone, Copy)]
 pub struct Tokens<'a> {
     pub rest: &'a [Token],
     pub rands: u16,

@@ -35,11 +35,14 @@ pub fn word(next: Option<Lexeme>, bytes: &[u8]) -> Option<()>
 fn same(name: Name, bytes: &[u8]) -> Option<()>
     ensures { result ≡ spec.passing (is name bytes.now) }
 {
-    if name.bytes() == bytes {
-        Some(())
-    } else {
-        None
-    }
+    if is(name, bytes) { Some(()) } else { None }
+}
+
+/// Whether a word or a text is spelled so.
+pub(crate) fn is(word: Name, bytes: &[u8]) -> bool
+    ensures { result ≡ is word bytes.now }
+{
+    word.bytes() == bytes
 }
 
 pub fn primary_head(next: Option<Lexeme>) -> Option<PrimaryHead>
@@ -97,12 +100,11 @@ pub fn size_axis(next: Option<Lexeme>) -> Option<Axis>
 fn size_axis_of(name: Name) -> Option<Axis>
     ensures { result ≡ words.size_axis_of name }
 {
-    let name = name.bytes();
-    if name == b"sx".as_slice() {
+    if is(name, b"sx") {
         Some(Axis::X)
-    } else if name == b"sy".as_slice() {
+    } else if is(name, b"sy") {
         Some(Axis::Y)
-    } else if name == b"sz".as_slice() {
+    } else if is(name, b"sz") {
         Some(Axis::Z)
     } else {
         None
@@ -154,14 +156,13 @@ pub fn scope_word(next: Option<Lexeme>) -> Option<ScopeWord>
 fn scope_word_of(name: Name) -> Option<ScopeWord>
     ensures { result ≡ words.scope_word_of name }
 {
-    let name = name.bytes();
-    if name == b"occ".as_slice() {
+    if is(name, b"occ") {
         Some(ScopeWord::Occ)
-    } else if name == b"sx".as_slice() {
+    } else if is(name, b"sx") {
         Some(ScopeWord::Size(Axis::X))
-    } else if name == b"sy".as_slice() {
+    } else if is(name, b"sy") {
         Some(ScopeWord::Size(Axis::Y))
-    } else if name == b"sz".as_slice() {
+    } else if is(name, b"sz") {
         Some(ScopeWord::Size(Axis::Z))
     } else {
         None

@@ -24,7 +24,7 @@ use Rattle.cga_rule.specs.declared.item.Item.TheVariants.{rolls-Move, rolls-Resi
 use Rattle.cga_rule.specs.declared.item.Item.TheOpen as layer
 use Rattle.cga_syntax.specs.declared.print.space.Space.TheVariants.{Usual}
 use Rattle.cga_syntax.specs.Pieces.{token, turned, plain, number, sign, keyword, text, Pieces, concat, IsTurn, Writes, axis_text, turn_keyword, solid_text, side_text, selector_pieces, size_pieces, expr_pieces, item_pieces, body_pieces}
-use Rattle.cga_form.specs.Reader.{Reader, at, ◌>>=◌, ◌>>◌, pure, refuse, begins}
+use Rattle.cga_form.specs.Reader.{Reader, at, refuse, begins}
 use Rattle.cga_form.specs.Tokens.{a_sign, a_keyword, is_sign, is_keyword, unless, a_whole}
 use Rattle.cga_form.specs.Words.{item_head, a_relative, is_relative, a_turn, a_ninety, an_axis, a_solid, a_side, a_selector}
 use Rattle.cga_parser.specs.Grammar as g

@@ -9,6 +9,9 @@ pub mod Items
 pub mod ItemsAgain
 pub mod Rules
 pub mod RulesAgain
+pub mod Factors
+pub mod RandSteps
+pub mod OneByOne
 pub mod Loops
 pub mod Gained
 pub mod Listings

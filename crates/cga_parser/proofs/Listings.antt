@@ -8,7 +8,7 @@ use Rattle.cga_form.specs.Tokens.{is_keyword}
 use Rattle.cga_syntax.specs.Pieces.{scaled_pieces, added_pieces}
 use Rattle.cga_parser.specs.Grammar as g
 use Rattle.cga_syntax.specs.Pieces.{item_pieces}
-use Rattle.cga_parser.proofs.Items.{further_size_pieces, further_size_long, further_size_reads, further_argument_pieces, further_argument_long, further_argument_reads, item_long, inner_item_reads, further_body_pieces, further_body_long, further_body_reads}
+use Rattle.cga_parser.proofs.Items.{further_size_pieces, further_size_long, further_size_reads, further_argument_pieces, further_argument_long, further_argument_reads, item_long, item_reads, inner_item_reads, further_body_pieces, further_body_long, further_body_reads}
 use Rattle.cga_parser.proofs.Loops.{Listing}
 use Rattle.cga_parser.proofs.Conds.{inner_reads, further_test_pieces, further_test_long, further_test_reads, further_conj_pieces, further_conj_long, further_conj_reads}
 use Rattle.cga_parser.proofs.Exprs.{inside_reads, scaled_long, scaled_reads, added_long, added_reads}
@@ -35,8 +35,8 @@ size_listing n h = record { long = further_size_long; reads = further_size_reads
 pub argument_listing : (n : ℕ) → 0 < n → Listing (n - 1) further_argument_pieces (g.further_argument n (g.inside_of n))
 argument_listing n h = record { long = further_argument_long; reads = further_argument_reads n (n - 1) (g.inside_of n) (inside_reads n (n - 1) (before n h)) }
 
-pub inner_listing : (n : ℕ) → 0 < n → Listing (n - 1) item_pieces (g.inner_item n)
-inner_listing n h = record { long = item_long; reads = inner_item_reads n (n - 1) (before n h) }
+pub item_listing : (n : ℕ) → Listing n item_pieces (g.item n)
+item_listing n = record { long = item_long; reads = item_reads n }
 
 pub body_listing : (n : ℕ) → 0 < n → Listing (n - 1) further_body_pieces (g.further_body n (g.inside_of n) (g.inner_item n))
 body_listing n h = record { long = further_body_long; reads = further_body_reads n (n - 1) (g.inside_of n) (g.inner_item n) (inner_item_reads n (n - 1) (before n h)) }

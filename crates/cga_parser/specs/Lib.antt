@@ -1,4 +1,5 @@
 pub mod Grammar
+pub mod Portions
 pub mod Blocks
 pub mod Kept
 pub mod Gained

@@ -1,18 +1,32 @@
 ghost use Rattle.std.specs.Prelude.{◌≡◌, ◌<◌};
 ghost use Rattle.cga_form.specs.Cursor.{input_of, Finds, Reads};
 ghost use Rattle.cga_parser.specs.Grammar as spec;
+ghost use Rattle.cga_parser.specs.Portions as portions;
 
 use crate::expr::{all_added, all_scaled, expr};
-use crate::first::{fitted, push_read};
+use crate::first::{both, ended, fitted, push_read};
 use cga_form::fault::Fault;
 use cga_form::heads::ScopeWord;
 use cga_form::tokens::Tokens;
 use cga_form::{texts, words};
 use cga_fraction::{List, Stop};
 use cga_lexer::Sign;
-use cga_syntax::{Cond, Conj, Expr, Factor, Keyword, Primary, Term, Test};
+use cga_syntax::{Cond, Conj, Expr, Factor, Keyword, Primary, Relation, Term, Test};
 use cga_word::{Answer, Axis, Target};
 use std::alloc::Global;
+
+/// A relation and what stands after it.
+fn compared(
+    alloc: Global,
+    tokens: &mut Tokens<'_>,
+    depth: u8,
+) -> Result<(Relation, Expr), Stop<Fault>>
+    ensures { Reads (portions.compared depth (spec.inner_of depth) (input_of tokens.old)) result (input_of tokens.new) }
+{
+    let relation = tokens.take(words::relation(tokens.peek()))?;
+    let right = expr(alloc, tokens, depth)?;
+    Ok((relation, right))
+}
 
 /// What a comparison goes on with.
 #[tactic(auto, unfolding(crate::specs::Grammar::compare_after))]
@@ -24,8 +38,7 @@ fn compare_after(
 ) -> Result<Test, Stop<Fault>>
     ensures { Reads (spec.compare_after depth (spec.inner_of depth) left (input_of tokens.old)) result (input_of tokens.new) }
 {
-    let relation = tokens.take(words::relation(tokens.peek()))?;
-    let right = expr(alloc, tokens, depth)?;
+    let (left, (relation, right)) = both(left, compared(alloc, tokens, depth))?;
     Ok(Test::Compare {
         left,
         relation,
@@ -54,15 +67,17 @@ fn size_rest(
 ) -> Result<Test, Stop<Fault>>
     ensures { Reads (spec.scope_rest depth (spec.inner_of depth) (ScopeWord.Size axis) (input_of tokens.old)) result (input_of tokens.new) }
 {
+    let factors = all_scaled(alloc, tokens, depth)?;
+    let (factors, terms) = both(factors, all_added(alloc, tokens, depth))?;
     let factor = Factor {
         minus: false,
         primary: Primary::ScopeSize(axis),
     };
     let first = Term {
         first: factor,
-        rest: fitted(all_scaled(alloc, tokens, depth)?),
+        rest: fitted(factors),
     };
-    let rest = fitted(all_added(alloc, tokens, depth)?);
+    let rest = fitted(terms);
     compare_after(alloc, tokens, depth, Expr { first, rest })
 }
 
@@ -88,6 +103,23 @@ fn scope_rest(
     }
 }
 
+/// A test that begins with the word `Scope`.
+fn scope_test(alloc: Global, tokens: &mut Tokens<'_>, depth: u8) -> Result<Test, Stop<Fault>>
+    ensures { Reads (portions.scope_test depth (spec.inner_of depth) (input_of tokens.old)) result (input_of tokens.new) }
+{
+    tokens.keyword(Keyword::Scope)?;
+    tokens.sign(Sign::Dot)?;
+    let word = tokens.take(words::scope_word(tokens.peek()))?;
+    scope_rest(alloc, tokens, depth, word)
+}
+
+fn comparison(alloc: Global, tokens: &mut Tokens<'_>, depth: u8) -> Result<Test, Stop<Fault>>
+    ensures { Reads (portions.comparison depth (spec.inner_of depth) (input_of tokens.old)) result (input_of tokens.new) }
+{
+    let left = expr(alloc, tokens, depth)?;
+    compare_after(alloc, tokens, depth, left)
+}
+
 /// A condition in one more bracket.
 #[cycle(cond)]
 fn inner(alloc: Global, tokens: &mut Tokens<'_>, depth: u8) -> Result<Cond, Stop<Fault>>
@@ -103,9 +135,8 @@ fn square(alloc: Global, tokens: &mut Tokens<'_>, depth: u8) -> Result<Cond, Sto
     ensures { Reads (spec.square depth (spec.inner_of depth) (input_of tokens.old)) result (input_of tokens.new) }
 {
     tokens.enter(Sign::LeftSquare, depth)?;
-    let cond = inner(alloc, tokens, depth)?;
-    tokens.sign(Sign::RightSquare)?;
-    Ok(cond)
+    let cond = inner(alloc, tokens, depth);
+    ended(tokens, cond, Sign::RightSquare)
 }
 
 #[cycle(cond)]
@@ -121,13 +152,9 @@ fn test(alloc: Global, tokens: &mut Tokens<'_>, depth: u8) -> Result<Test, Stop<
         return Ok(Test::Not(square(alloc, tokens, depth)?));
     }
     if tokens.at_keyword(Keyword::Scope) {
-        tokens.keyword(Keyword::Scope)?;
-        tokens.sign(Sign::Dot)?;
-        let word = tokens.take(words::scope_word(tokens.peek()))?;
-        return scope_rest(alloc, tokens, depth, word);
+        return scope_test(alloc, tokens, depth);
     }
-    let left = expr(alloc, tokens, depth)?;
-    compare_after(alloc, tokens, depth, left)
+    comparison(alloc, tokens, depth)
 }
 
 #[cycle(cond)]

@@ -1,9 +1,11 @@
 ghost use Rattle.std.specs.Prelude.{◌≡◌, ◌<◌};
 ghost use Rattle.cga_form.specs.Cursor.{input_of, Reads};
 ghost use Rattle.cga_form.specs.Reader.{begins, many};
+ghost use Rattle.cga_parser.specs.Gained.{TakesMinus};
 ghost use Rattle.cga_parser.specs.Grammar as spec;
+ghost use Rattle.cga_parser.specs.Portions as portions;
 
-use crate::first::{fitted, push_read};
+use crate::first::{both, boxed, ended, fitted, push_read};
 use cga_form::fault::Fault;
 use cga_form::heads::PrimaryHead;
 use cga_form::tokens::Tokens;
@@ -33,8 +35,7 @@ pub(crate) fn inside_boxed(
     requires { 0 < depth }
     ensures { Reads (spec.inside_of depth (input_of tokens.old)) result (input_of tokens.new) }
 {
-    let expr = inside(alloc, tokens, depth)?;
-    Ok(Boxed::new(alloc, expr)?)
+    boxed(alloc, inside(alloc, tokens, depth))
 }
 
 #[cycle(expr)]
@@ -43,14 +44,23 @@ fn group(alloc: Global, tokens: &mut Tokens<'_>, depth: u8) -> Result<Boxed<Expr
     ensures { Reads (spec.group depth (spec.inside_of depth) (input_of tokens.old)) result (input_of tokens.new) }
 {
     tokens.enter(Sign::LeftRound, depth)?;
-    let expr = inside_boxed(alloc, tokens, depth)?;
+    let expr = inside_boxed(alloc, tokens, depth);
+    ended(tokens, expr, Sign::RightRound)
+}
+
+/// The number of steps of a rand, and the bracket behind it.
+fn rand_steps(tokens: &mut Tokens<'_>) -> Result<u32, Stop<Fault>>
+    ensures { Reads (portions.rand_steps (input_of tokens.old)) result (input_of tokens.new) }
+{
+    tokens.sign(Sign::Comma)?;
+    let steps = tokens.take(numbers::whole(tokens.peek(), 1, MOST_STEPS))?;
     tokens.sign(Sign::RightRound)?;
-    Ok(expr)
+    Ok(steps)
 }
 
 /// The ends and the number of steps of a rand.
 #[cycle(expr)]
-#[tactic(auto, unfolding(crate::specs::Grammar::rand_parts))]
+#[tactic(auto, unfolding(crate::specs::Grammar::rand_parts), using(crate::proofs::RandSteps::rand_fails))]
 fn rand_parts(
     alloc: Global,
     tokens: &mut Tokens<'_>,
@@ -61,10 +71,8 @@ fn rand_parts(
     tokens.enter(Sign::LeftRound, depth)?;
     let low = inside_boxed(alloc, tokens, depth)?;
     tokens.sign(Sign::Comma)?;
-    let high = inside_boxed(alloc, tokens, depth)?;
-    tokens.sign(Sign::Comma)?;
-    let steps = tokens.take(numbers::whole(tokens.peek(), 1, MOST_STEPS))?;
-    tokens.sign(Sign::RightRound)?;
+    let (low, high) = both(low, inside_boxed(alloc, tokens, depth))?;
+    let ((low, high), steps) = both((low, high), rand_steps(tokens))?;
     Ok((low, high, steps))
 }
 
@@ -90,6 +98,15 @@ fn primary(alloc: Global, tokens: &mut Tokens<'_>, depth: u8) -> Result<Primary,
     primary_rest(alloc, tokens, depth, head)
 }
 
+/// A size of the scope, after the word.
+fn scope_size(tokens: &mut Tokens<'_>) -> Result<Primary, Stop<Fault>>
+    ensures { Reads (portions.scope_size (input_of tokens.old)) result (input_of tokens.new) }
+{
+    tokens.sign(Sign::Dot)?;
+    let axis = tokens.take(words::size_axis(tokens.peek()))?;
+    Ok(Primary::ScopeSize(axis))
+}
+
 #[cycle(expr)]
 fn primary_rest(
     alloc: Global,
@@ -102,39 +119,30 @@ fn primary_rest(
     match head {
         PrimaryHead::Number(value) => Ok(Primary::Number(value)),
         PrimaryHead::Named(name) => Ok(Primary::Named(name)),
-        PrimaryHead::Scope => {
-            tokens.sign(Sign::Dot)?;
-            let axis = tokens.take(words::size_axis(tokens.peek()))?;
-            Ok(Primary::ScopeSize(axis))
-        }
+        PrimaryHead::Scope => scope_size(tokens),
         PrimaryHead::Floor => Ok(Primary::Floor(group(alloc, tokens, depth)?)),
         PrimaryHead::Ceil => Ok(Primary::Ceil(group(alloc, tokens, depth)?)),
     }
 }
 
-#[cycle(expr)]
-fn signed(
-    alloc: Global,
-    tokens: &mut Tokens<'_>,
-    depth: u8,
-    minus: bool,
-) -> Result<Factor, Stop<Fault>>
-    ensures { Reads (spec.signed depth (spec.inside_of depth) minus (input_of tokens.old)) result (input_of tokens.new) }
+/// Takes a minus, where one comes next.
+fn minus(tokens: &mut Tokens<'_>) -> bool
+    ensures { TakesMinus (input_of tokens.old) result (input_of tokens.new) }
 {
-    let primary = primary(alloc, tokens, depth)?;
-    Ok(Factor { minus, primary })
+    let minus = tokens.at_sign(Sign::Minus);
+    if minus {
+        tokens.skip();
+    }
+    minus
 }
 
 #[cycle(expr)]
-#[tactic(auto, unfolding(crate::specs::Grammar::factor))]
 fn factor(alloc: Global, tokens: &mut Tokens<'_>, depth: u8) -> Result<Factor, Stop<Fault>>
     ensures { Reads (spec.factor depth (spec.inside_of depth) (input_of tokens.old)) result (input_of tokens.new) }
 {
-    if tokens.at_sign(Sign::Minus) {
-        tokens.sign(Sign::Minus)?;
-        return signed(alloc, tokens, depth, true);
-    }
-    signed(alloc, tokens, depth, false)
+    let minus = minus(tokens);
+    let primary = primary(alloc, tokens, depth)?;
+    Ok(Factor { minus, primary })
 }
 
 fn begins_scaled(tokens: &Tokens<'_>) -> bool
@@ -180,8 +188,11 @@ fn term(alloc: Global, tokens: &mut Tokens<'_>, depth: u8) -> Result<Term, Stop<
     ensures { Reads (spec.term depth (spec.inside_of depth) (input_of tokens.old)) result (input_of tokens.new) }
 {
     let first = factor(alloc, tokens, depth)?;
-    let rest = fitted(all_scaled(alloc, tokens, depth)?);
-    Ok(Term { first, rest })
+    let (first, rest) = both(first, all_scaled(alloc, tokens, depth))?;
+    Ok(Term {
+        first,
+        rest: fitted(rest),
+    })
 }
 
 #[cycle(expr)]
@@ -216,6 +227,9 @@ pub(crate) fn expr(alloc: Global, tokens: &mut Tokens<'_>, depth: u8) -> Result<
     ensures { Reads (spec.expr depth (input_of tokens.old)) result (input_of tokens.new) }
 {
     let first = term(alloc, tokens, depth)?;
-    let rest = fitted(all_added(alloc, tokens, depth)?);
-    Ok(Expr { first, rest })
+    let (first, rest) = both(first, all_added(alloc, tokens, depth))?;
+    Ok(Expr {
+        first,
+        rest: fitted(rest),
+    })
 }

@@ -1,16 +1,17 @@
-ghost use Rattle.std.specs.Prelude.{◌≡◌, ◌∷◌, IfOk};
+ghost use Rattle.std.specs.Prelude.{◌≡◌, ◌∷◌, List, IfOk};
 ghost use Rattle.cga_form.specs.Cursor.{input_of, Reads};
-ghost use Rattle.cga_form.specs.Reader.{and_then, pure};
-ghost use Rattle.cga_parser.specs.Gained.{Gains};
+ghost use Rattle.cga_form.specs.Reader.{Input, ReadResult, and_then, pure};
+ghost use Rattle.cga_parser.specs.Gained.{Gains, ReadsBoth};
 ghost use Rattle.cga_parser.specs.Grammar as spec;
 
 use cga_form::fault::Fault;
 use cga_form::tokens::Tokens;
-use cga_fraction::{List, NoMemory, Stop};
+use cga_fraction::{Boxed, List, NoMemory, Stop};
 use cga_lexer::Sign;
+use std::alloc::Global;
 
 /// The list with a member before the others, in no more room than it takes.
-pub(crate) fn with_first<T: Drop>(first: T, rest: List<T>) -> Result<List<T>, NoMemory>
+fn with_first<T: Drop>(first: T, rest: List<T>) -> Result<List<T>, NoMemory>
     ensures { IfOk result (λ all. all ≡ first ∷ rest) }
 {
     let mut all = rest.into_vec();
@@ -20,16 +21,16 @@ pub(crate) fn with_first<T: Drop>(first: T, rest: List<T>) -> Result<List<T>, No
     Ok(List::from_vec(all))
 }
 
-/// The same, once the sign is taken that closes it.
+/// The same, where the others were read, once the sign is taken that closes it.
 pub(crate) fn closed<T: Drop>(
     tokens: &mut Tokens<'_>,
     end: Sign,
     first: T,
-    rest: List<T>,
+    rest: Result<List<T>, Stop<Fault>>,
 ) -> Result<List<T>, Stop<Fault>>
-    ensures { Reads (and_then (spec.sign end (input_of tokens.old)) (λ _. pure (first ∷ rest))) result (input_of tokens.new) }
+    ensures { (o : ReadResult (List T)) → Reads o rest (input_of tokens.old) → Reads (and_then o (λ more j. and_then (spec.sign end j) (λ _. pure (first ∷ more)))) result (input_of tokens.new) }
 {
-    let all = with_first(first, rest)?;
+    let all = with_first(first, rest?)?;
     tokens.sign(end)?;
     Ok(all)
 }
@@ -53,4 +54,37 @@ pub(crate) fn push_read<T: Drop>(
     let member = read?;
     list.push(member)?;
     Ok(())
+}
+
+/// What was read, in a box. Takes memory.
+pub(crate) fn boxed<T: Drop>(
+    alloc: Global,
+    read: Result<T, Stop<Fault>>,
+) -> Result<Boxed<T>, Stop<Fault>>
+    ensures { (o : ReadResult T) (i : Input) → Reads o read i → Reads o result i }
+{
+    Ok(Boxed::new(alloc, read?)?)
+}
+
+/// What was read, once the sign is taken that ends it.
+pub(crate) fn ended<T: Drop>(
+    tokens: &mut Tokens<'_>,
+    read: Result<T, Stop<Fault>>,
+    end: Sign,
+) -> Result<T, Stop<Fault>>
+    ensures { (o : ReadResult T) → Reads o read (input_of tokens.old) → Reads (and_then o (λ x j. and_then (spec.sign end j) (λ _. pure x))) result (input_of tokens.new) }
+{
+    let value = read?;
+    tokens.sign(end)?;
+    Ok(value)
+}
+
+/// Both, where the second was read.
+pub(crate) fn both<A: Drop, B: Drop>(
+    first: A,
+    second: Result<B, Stop<Fault>>,
+) -> Result<(A, B), Stop<Fault>>
+    ensures { (o : ReadResult B) (i : Input) → Reads o second i → ReadsBoth first o result i }
+{
+    Ok((first, second?))
 }

@@ -5,7 +5,7 @@ ghost use Rattle.cga_parser.specs.Grammar as spec;
 ghost use Rattle.cga_form.specs.Tokens.{is_sign};
 ghost use Rattle.cga_lexer.specs.declared.sign.Sign.TheVariants as sign;
 
-use crate::first::{closed, fitted, push_read};
+use crate::first::{closed, ended, fitted, push_read};
 use crate::parts;
 use crate::triples::{move_rest, resize_rest};
 use cga_form::fault::Fault;
@@ -23,38 +23,22 @@ fn begins_item(tokens: &Tokens<'_>) -> bool
     tokens.at_sign(Sign::LeftSquare) || words::item_head(tokens.peek()).is_some()
 }
 
-/// An item in one more bracket.
-#[cycle(item)]
-fn inner(alloc: Global, tokens: &mut Tokens<'_>, depth: u8) -> Result<Item, Stop<Fault>>
-    requires { 0 < depth }
-    ensures { Reads (spec.inner_item depth (input_of tokens.old)) result (input_of tokens.new) }
-{
-    item(alloc, tokens, depth - 1)
-}
-
+/// Items in one more bracket.
 #[cycle(item)]
 fn inner_items(alloc: Global, tokens: &mut Tokens<'_>, depth: u8) -> Result<List<Item>, Stop<Fault>>
     requires { 0 < depth }
     ensures { Reads (spec.items_by (spec.inner_item depth) (input_of tokens.old)) result (input_of tokens.new) }
 {
-    let mut items = List::new(alloc);
-    push_read(&mut items, inner(alloc, tokens, depth))?;
-    'items: while begins_item(tokens) {
-        push_read(&mut items, inner(alloc, tokens, depth))?;
-    }
-    Ok(fitted(items))
+    items(alloc, tokens, depth - 1)
 }
 
+/// The same, or `NIL`.
 #[cycle(item)]
 fn inner_body(alloc: Global, tokens: &mut Tokens<'_>, depth: u8) -> Result<List<Item>, Stop<Fault>>
     requires { 0 < depth }
     ensures { Reads (spec.body_by (spec.inner_item depth) (input_of tokens.old)) result (input_of tokens.new) }
 {
-    if tokens.at_keyword(Keyword::Nil) {
-        tokens.keyword(Keyword::Nil)?;
-        return Ok(List::new(alloc));
-    }
-    inner_items(alloc, tokens, depth)
+    body(alloc, tokens, depth - 1)
 }
 
 #[cycle(item)]
@@ -63,9 +47,8 @@ fn scoped(alloc: Global, tokens: &mut Tokens<'_>, depth: u8) -> Result<List<Item
     ensures { Reads (spec.scoped depth (spec.inside_of depth) (spec.inner_item depth) (input_of tokens.old)) result (input_of tokens.new) }
 {
     tokens.enter(Sign::LeftSquare, depth)?;
-    let items = inner_items(alloc, tokens, depth)?;
-    tokens.sign(Sign::RightSquare)?;
-    Ok(items)
+    let items = inner_items(alloc, tokens, depth);
+    ended(tokens, items, Sign::RightSquare)
 }
 
 #[cycle(item)]
@@ -117,7 +100,7 @@ fn braced_bodies(
 {
     tokens.enter(Sign::LeftCurly, depth)?;
     let items = inner_body(alloc, tokens, depth)?;
-    let rest = further_bodies(alloc, tokens, depth)?;
+    let rest = further_bodies(alloc, tokens, depth);
     closed(tokens, Sign::RightCurly, Body { items }, rest)
 }
 
@@ -196,6 +179,7 @@ fn item(alloc: Global, tokens: &mut Tokens<'_>, depth: u8) -> Result<Item, Stop<
     item_rest(alloc, tokens, depth, head)
 }
 
+#[cycle(item)]
 fn items(alloc: Global, tokens: &mut Tokens<'_>, depth: u8) -> Result<List<Item>, Stop<Fault>>
     ensures { Reads (spec.items_by (spec.item depth) (input_of tokens.old)) result (input_of tokens.new) }
 {
@@ -208,6 +192,7 @@ fn items(alloc: Global, tokens: &mut Tokens<'_>, depth: u8) -> Result<List<Item>
 }
 
 /// Items, or `NIL`, where so many brackets may be opened.
+#[cycle(item)]
 pub(crate) fn body(
     alloc: Global,
     tokens: &mut Tokens<'_>,

@@ -9,7 +9,7 @@ ghost use Rattle.cga_form.specs.Words.{is_relative};
 ghost use Rattle.cga_lexer.specs.declared.sign.Sign.TheVariants as sign;
 
 use crate::expr::{inside, inside_boxed};
-use crate::first::{closed, push_read, with_first};
+use crate::first::{closed, ended, push_read};
 use cga_form::fault::Fault;
 use cga_form::heads::SelectorHead;
 use cga_form::tokens::Tokens;
@@ -113,9 +113,8 @@ pub(crate) fn split_parts(
     tokens.enter(Sign::LeftRound, depth)?;
     let axis = tokens.take(texts::axis(tokens.peek()))?;
     let first = further_size(alloc, tokens, depth)?;
-    let rest = further_sizes(alloc, tokens, depth)?;
-    let sizes = with_first(first, rest)?;
-    tokens.sign(Sign::RightRound)?;
+    let rest = further_sizes(alloc, tokens, depth);
+    let sizes = closed(tokens, Sign::RightRound, first, rest)?;
     Ok((axis, sizes))
 }
 
@@ -130,8 +129,8 @@ pub(crate) fn repeat_parts(
     tokens.enter(Sign::LeftRound, depth)?;
     let axis = tokens.take(texts::axis(tokens.peek()))?;
     tokens.sign(Sign::Comma)?;
-    let length = inside_boxed(alloc, tokens, depth)?;
-    tokens.sign(Sign::RightRound)?;
+    let length = inside_boxed(alloc, tokens, depth);
+    let length = ended(tokens, length, Sign::RightRound)?;
     Ok((axis, length))
 }
 
@@ -216,7 +215,7 @@ fn some_arguments(
 {
     tokens.enter(Sign::LeftRound, depth)?;
     let first = inside(alloc, tokens, depth)?;
-    let rest = further_arguments(alloc, tokens, depth)?;
+    let rest = further_arguments(alloc, tokens, depth);
     closed(tokens, Sign::RightRound, first, rest)
 }
 

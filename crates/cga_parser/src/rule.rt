@@ -1,7 +1,8 @@
 ghost use Rattle.std.specs.Prelude.{◌≡◌, ◌≤◌, ◌∷◌, [], length, map, IfOk, List};
 ghost use Rattle.cga_form.specs.Cursor.{input_of, Finds, Reads, seen};
-ghost use Rattle.cga_form.specs.Reader.{many, many_from};
+ghost use Rattle.cga_form.specs.Reader.{many_from};
 ghost use Rattle.cga_parser.specs.Grammar as spec;
+ghost use Rattle.cga_parser.specs.Portions as portions;
 ghost use Rattle.cga_syntax.specs.Limits.{most_further};
 ghost use Rattle.cga_form.specs.Tells.{Tells};
 ghost use Rattle.cga_form.specs.Tokens.{is_sign};
@@ -9,13 +10,13 @@ ghost use Rattle.cga_syntax.specs.Pieces.{rule_pieces};
 ghost use Rattle.cga_lexer.specs.declared.sign.Sign.TheVariants as sign;
 
 use crate::cond::cond;
-use crate::first::{closed, push_read, with_first};
+use crate::first::{both, closed, fitted, push_read};
 use crate::item::body;
 use crate::parts::goes_on;
 use cga_form::fault::Fault;
+use cga_form::numbers;
 use cga_form::parts::{finish, id, name};
 use cga_form::tokens::Tokens;
-use cga_form::{numbers, words};
 use cga_fraction::{Fraction, List, NoMemory, Stop};
 use cga_lexer::{Sign, Token};
 use cga_syntax::{Alternative, Cond, Rule};
@@ -27,7 +28,7 @@ fn further_name(tokens: &mut Tokens<'_>) -> Result<Name, Fault>
     ensures { Finds (spec.further_name (input_of tokens.old)) result (input_of tokens.new) }
 {
     tokens.sign(Sign::Comma)?;
-    tokens.take(words::name(tokens.peek()))
+    name(tokens)
 }
 
 /// At most three names after the first.
@@ -51,8 +52,8 @@ fn some_parameters(
     ensures { Reads (spec.some_parameters depth (input_of tokens.old)) result (input_of tokens.new) }
 {
     tokens.enter(Sign::LeftRound, depth)?;
-    let first = tokens.take(words::name(tokens.peek()))?;
-    let rest = further_names(alloc, tokens)?;
+    let first = name(tokens)?;
+    let rest = further_names(alloc, tokens);
     closed(tokens, Sign::RightRound, first, rest)
 }
 
@@ -109,18 +110,20 @@ fn alternative(
     Ok(Alternative { items, prob })
 }
 
-fn further_alternatives(
+/// One or more alternatives.
+fn alternatives(
     alloc: Global,
     tokens: &mut Tokens<'_>,
     depth: u8,
 ) -> Result<List<Alternative>, Stop<Fault>>
-    ensures { Reads (many (is_sign sign.Arrow) (spec.alternative depth) (input_of tokens.old)) result (input_of tokens.new) }
+    ensures { Reads (portions.alternatives depth (input_of tokens.old)) result (input_of tokens.new) }
 {
-    let mut rest = List::new(alloc);
+    let mut all = List::new(alloc);
+    push_read(&mut all, alternative(alloc, tokens, depth))?;
     'alternatives: while tokens.at_sign(Sign::Arrow) {
-        push_read(&mut rest, alternative(alloc, tokens, depth))?;
+        push_read(&mut all, alternative(alloc, tokens, depth))?;
     }
-    Ok(rest)
+    Ok(fitted(all))
 }
 
 /// A rule, where so many brackets may be opened.
@@ -132,10 +135,8 @@ pub fn rule(alloc: Global, tokens: &mut Tokens<'_>, depth: u8) -> Result<Rule, S
     tokens.sign(Sign::Colon)?;
     let symbol = name(tokens)?;
     let params = parameters(alloc, tokens, depth)?;
-    let cond = condition(alloc, tokens, depth)?;
-    let first = alternative(alloc, tokens, depth)?;
-    let rest = further_alternatives(alloc, tokens, depth)?;
-    let alternatives = with_first(first, rest)?;
+    let (params, cond) = both(params, condition(alloc, tokens, depth))?;
+    let ((params, cond), alternatives) = both((params, cond), alternatives(alloc, tokens, depth))?;
     Ok(Rule {
         id,
         symbol,

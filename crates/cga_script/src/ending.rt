@@ -1,5 +1,5 @@
 /// What ended the line that is kept.
-#[derive(Clone, Copy, Debug, PartialEq, Eq)]
+#[derive(Clone, Copy, PartialEq, Eq)]
 pub enum Ending {
     /// Nothing yet: the line may go on.
     Open,

@@ -1,5 +1,5 @@
 /// How many bytes of a piece were taken, and whether a line is ready.
-#[derive(Clone, Copy, Debug, PartialEq, Eq)]
+#[derive(Clone, Copy, PartialEq, Eq)]
 pub struct Fed {
     pub taken: usize,
     pub ready: bool,

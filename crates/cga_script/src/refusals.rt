@@ -91,12 +91,18 @@ pub(crate) fn push_line(text: &mut Text, fault: LineFault) -> Result<(), NoMemor
     }
 }
 
+fn push_at(text: &mut Text, code: &[u8], line: u32) -> Result<(), NoMemory>
+    ensures { OnOk result (text.new ≡ text.old ++ spec.code_at code.now line) }
+{
+    text.push(code)?;
+    text.push(b" at ")?;
+    text.push_whole(u128::from(line))
+}
+
 fn push_block(text: &mut Text, fault: BlockFault) -> Result<(), NoMemory>
     ensures { OnOk result (text.new ≡ text.old ++ spec.block_text fault.line fault.fault) }
 {
-    text.push(line_code(fault.fault))?;
-    text.push(b" at ")?;
-    text.push_whole(u128::from(fault.line))?;
+    push_at(text, line_code(fault.fault), fault.line)?;
     match place_in(fault.fault) {
         Some(place) => {
             text.push(b":")?;
@@ -165,14 +171,6 @@ fn push_edit(text: &mut Text, refused: &EditRefused) -> Result<(), NoMemory>
         EditRefused::OverBudget => text.push(b"OverBudget"),
         EditRefused::NoMemory => unreachable!(),
     }
-}
-
-fn push_at(text: &mut Text, code: &[u8], line: u32) -> Result<(), NoMemory>
-    ensures { OnOk result (text.new ≡ text.old ++ spec.code_at code.now line) }
-{
-    text.push(code)?;
-    text.push(b" at ")?;
-    text.push_whole(u128::from(line))
 }
 
 #[tactic(auto, unfolding(crate::specs::Refusals::asset_text))]

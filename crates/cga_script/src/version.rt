@@ -1,5 +1,5 @@
 /// The version of a script, which its first line that isn't blank decides.
-#[derive(Clone, Copy, Debug, PartialEq, Eq)]
+#[derive(Clone, Copy, PartialEq, Eq)]
 pub enum Version {
     One,
     Two,

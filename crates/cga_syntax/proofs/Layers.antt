@@ -9,7 +9,7 @@ use Rattle.cga_rule.specs.declared.expr.Primary.{Primary}
 use Rattle.cga_rule.specs.declared.expr.Primary.TheVariants.{Rand, rolls-Rand}
 use Rattle.cga_rule.specs.declared.expr.Primary.TheOpen as layer
 use Rattle.cga_syntax.specs.declared.print.mark.Mark.{Mark}
-use Rattle.cga_syntax.specs.Printing.{printed_on, printed_piece}
+use Rattle.cga_syntax.specs.Printing.{printed_on}
 use Rattle.cga_syntax.proofs.Printed.{on_join}
 use Rattle.cga_syntax.specs.Pieces.{Pieces, sign, concat, drawn, whole, primary_pieces, expr_pieces, term_pieces, added_pieces, scaled_pieces, primary_step, added_step, expr_step, factor_pieces, factor_step, scaled_step, term_step}
 
@@ -30,12 +30,12 @@ unfolding primary_pieces expr_pieces
 rand_out j low high steps = ap primary_pieces (sym (rolls-Rand j low high steps)) ∙ fold-roll-Primary Pieces Pieces Pieces Pieces Pieces Pieces primary_step added_step expr_step factor_step scaled_step term_step (layer.Rand j low high steps)
 
 -- the tokens of a rand, one part after the other
-pub rand_on : (p : Primary) (ms m1 m2 m3 m4 : List Mark) (j : ℕ) (x y low high : Expr) (steps : ℕ) → p ≡ Rand j low high steps → x ≡ low → y ≡ high →
-    m1 ≡ ms ++ printed_piece (drawn j) → m2 ≡ m1 ++ printed_piece (sign s.LeftRound) →
+pub rand_on : (p : Primary) (ms m2 m3 m4 : List Mark) (j : ℕ) (x y low high : Expr) (steps : ℕ) → p ≡ Rand j low high steps → x ≡ low → y ≡ high →
+    m2 ≡ printed_on ms (drawn j ∷ sign s.LeftRound ∷ []) →
     m3 ≡ printed_on (printed_on m2 (expr_pieces x)) (sign s.Comma ∷ []) →
     m4 ≡ printed_on (printed_on m3 (expr_pieces y)) (sign s.Comma ∷ []) →
     printed_on m4 (whole 1 1000000 steps ∷ sign s.RightRound ∷ []) ≡ printed_on ms (primary_pieces p)
-rand_on p ms m1 m2 m3 m4 j x y low high steps is e f h1 h2 h3 h4 =
+rand_on p ms m2 m3 m4 j x y low high steps is e f h2 h3 h4 =
     let a : Pieces = expr_pieces x in
     let b : Pieces = expr_pieces y in
     let end : Pieces = whole 1 1000000 steps ∷ sign s.RightRound ∷ [] in
@@ -43,7 +43,7 @@ rand_on p ms m1 m2 m3 m4 j x y low high steps is e f h1 h2 h3 h4 =
     ∙ sym (on_join m3 b (sign s.Comma ∷ end))
     ∙ ap (λ z. printed_on z (b ++ (sign s.Comma ∷ end))) h3
     ∙ sym (on_join m2 a (sign s.Comma ∷ (b ++ (sign s.Comma ∷ end))))
-    ∙ ap (λ z. printed_on z (a ++ (sign s.Comma ∷ (b ++ (sign s.Comma ∷ end))))) (h2 ∙ ap (λ z. z ++ printed_piece (sign s.LeftRound)) h1)
+    ∙ ap (λ z. printed_on z (a ++ (sign s.Comma ∷ (b ++ (sign s.Comma ∷ end))))) h2
     ∙ ap (λ z. printed_on ms (drawn j ∷ sign s.LeftRound ∷ (expr_pieces z ++ (sign s.Comma ∷ (b ++ (sign s.Comma ∷ end)))))) e
     ∙ ap (λ z. printed_on ms (drawn j ∷ sign s.LeftRound ∷ (expr_pieces low ++ (sign s.Comma ∷ (expr_pieces z ++ (sign s.Comma ∷ end)))))) f
     ∙ ap (printed_on ms) (sym (ap primary_pieces is ∙ rand_out j low high steps))

@@ -8,7 +8,9 @@ use crate::keyword::Keyword;
 use crate::lexeme::Lexeme;
 use crate::print::expr::push_expr;
 use crate::print::mark::Mark;
-use crate::print::token::{push_between, push_keyword, push_sign, push_text, push_word};
+use crate::print::token::{
+    push_between, push_in_round, push_keyword, push_of_scope, push_sign, push_text,
+};
 use crate::print::words::{known, state_text, target_text};
 use cga_fraction::{List, NoMemory};
 use cga_lexer::Sign;
@@ -113,12 +115,8 @@ fn push_occ(
 ) -> Result<(), NoMemory>
     ensures { OnOk result (marks.new ≡ printed_on marks.old (occ_pieces target equal state)) }
 {
-    push_keyword(marks, Keyword::Scope)?;
-    push_sign(marks, Sign::Dot)?;
-    push_word(marks, known(b"occ"))?;
-    push_sign(marks, Sign::LeftRound)?;
-    push_text(marks, target_text(target))?;
-    push_sign(marks, Sign::RightRound)?;
+    push_of_scope(marks, known(b"occ"))?;
+    push_in_round(marks, target_text(target))?;
     push_sign(marks, equality_sign(equal))?;
     push_text(marks, state_text(state))
 }

@@ -11,7 +11,8 @@ use crate::limits::MOST_STEPS;
 use crate::print::mark::Mark;
 use crate::print::space::Space;
 use crate::print::token::{
-    push_close, push_keyword, push_lexeme, push_named, push_sign, push_whole, push_word,
+    push_close, push_keyword, push_lexeme, push_named, push_of_scope, push_opened, push_sign,
+    push_whole,
 };
 use crate::print::words::size_word;
 use cga_fraction::{List, NoMemory};
@@ -120,8 +121,7 @@ fn push_primary(marks: &mut List<Mark>, primary: &Primary) -> Result<(), NoMemor
             high,
             steps,
         } => {
-            push_keyword(marks, Keyword::Rand)?;
-            push_sign(marks, Sign::LeftRound)?;
+            push_opened(marks, Keyword::Rand)?;
             push_bound(marks, low.get())?;
             push_bound(marks, high.get())?;
             push_steps(marks, *steps)
@@ -149,7 +149,5 @@ fn push_steps(marks: &mut List<Mark>, steps: u32) -> Result<(), NoMemory>
 fn push_scope_size(marks: &mut List<Mark>, axis: Axis) -> Result<(), NoMemory>
     ensures { OnOk result (marks.new ≡ printed_on marks.old (scope_size axis)) }
 {
-    push_keyword(marks, Keyword::Scope)?;
-    push_sign(marks, Sign::Dot)?;
-    push_word(marks, size_word(axis))
+    push_of_scope(marks, size_word(axis))
 }

@@ -9,7 +9,10 @@ use crate::lexeme::Lexeme;
 use crate::limits::LAST_EDGE;
 use crate::print::expr::push_expr;
 use crate::print::mark::Mark;
-use crate::print::token::{push_keyword, push_lexeme, push_sign, push_text, push_turn, push_whole};
+use crate::print::token::{
+    push_in_round, push_keyword, push_lexeme, push_opened, push_sign, push_text, push_turn,
+    push_whole,
+};
 use crate::print::words::{axis_text, known, side_text, solid_text, turn_keyword};
 use cga_fraction::{List, NoMemory};
 use cga_lexer::Sign;
@@ -25,8 +28,7 @@ pub(crate) fn push_move(
 ) -> Result<(), NoMemory>
     ensures { OnOk result (marks.new ≡ printed_on marks.old (spec.keyword Keyword.T ∷ spec.three (spec.expr_pieces x.now) (spec.expr_pieces y.now) (spec.expr_pieces z.now))) }
 {
-    push_keyword(marks, Keyword::T)?;
-    push_sign(marks, Sign::LeftRound)?;
+    push_opened(marks, Keyword::T)?;
     push_value(marks, x, Sign::Comma)?;
     push_value(marks, y, Sign::Comma)?;
     push_value(marks, z, Sign::RightRound)
@@ -50,8 +52,7 @@ pub(crate) fn push_resize(
 ) -> Result<(), NoMemory>
     ensures { OnOk result (marks.new ≡ printed_on marks.old (spec.keyword Keyword.S ∷ spec.three (spec.size_pieces x.now) (spec.size_pieces y.now) (spec.size_pieces z.now))) }
 {
-    push_keyword(marks, Keyword::S)?;
-    push_sign(marks, Sign::LeftRound)?;
+    push_opened(marks, Keyword::S)?;
     push_extent(marks, x, Sign::Comma)?;
     push_extent(marks, y, Sign::Comma)?;
     push_extent(marks, z, Sign::RightRound)
@@ -79,8 +80,7 @@ fn push_size(marks: &mut List<Mark>, size: &Size) -> Result<(), NoMemory>
 pub(crate) fn push_rotate(marks: &mut List<Mark>, axis: Axis, by: Turn) -> Result<(), NoMemory>
     ensures { OnOk result (marks.new ≡ printed_on marks.old (forms.rotated axis by)) }
 {
-    push_keyword(marks, turn_keyword(axis))?;
-    push_sign(marks, Sign::LeftRound)?;
+    push_opened(marks, turn_keyword(axis))?;
     push_turn(marks, by)?;
     push_sign(marks, Sign::RightRound)
 }
@@ -89,9 +89,7 @@ pub(crate) fn push_solid(marks: &mut List<Mark>, solid: Primitive) -> Result<(),
     ensures { OnOk result (marks.new ≡ printed_on marks.old (forms.solid_of solid)) }
 {
     push_keyword(marks, Keyword::I)?;
-    push_sign(marks, Sign::LeftRound)?;
-    push_text(marks, solid_text(solid))?;
-    push_sign(marks, Sign::RightRound)
+    push_in_round(marks, solid_text(solid))
 }
 
 /// A Subdiv up to its bodies.
@@ -103,8 +101,7 @@ pub(crate) fn push_subdiv(
 ) -> Result<(), NoMemory>
     ensures { OnOk result (marks.new ≡ printed_on marks.old (forms.subdivided axis (map spec.size_pieces sizes.now))) }
 {
-    push_keyword(marks, Keyword::Subdiv)?;
-    push_sign(marks, Sign::LeftRound)?;
+    push_opened(marks, Keyword::Subdiv)?;
     push_text(marks, axis_text(axis))?;
     push_sizes(marks, sizes)?;
     push_sign(marks, Sign::RightRound)
@@ -126,8 +123,7 @@ fn push_sizes(marks: &mut List<Mark>, sizes: &[Size]) -> Result<(), NoMemory>
 pub(crate) fn push_repeat(marks: &mut List<Mark>, axis: Axis, length: &Expr) -> Result<(), NoMemory>
     ensures { OnOk result (marks.new ≡ printed_on marks.old (forms.repeated axis (spec.expr_pieces length.now))) }
 {
-    push_keyword(marks, Keyword::Repeat)?;
-    push_sign(marks, Sign::LeftRound)?;
+    push_opened(marks, Keyword::Repeat)?;
     push_text(marks, axis_text(axis))?;
     push_sign(marks, Sign::Comma)?;
     push_value(marks, length, Sign::RightRound)
@@ -138,8 +134,7 @@ pub(crate) fn push_repeat(marks: &mut List<Mark>, axis: Axis, length: &Expr) -> 
 pub(crate) fn push_comp(marks: &mut List<Mark>, selector: Selector) -> Result<(), NoMemory>
     ensures { OnOk result (marks.new ≡ printed_on marks.old (forms.selected selector)) }
 {
-    push_keyword(marks, Keyword::Comp)?;
-    push_sign(marks, Sign::LeftRound)?;
+    push_opened(marks, Keyword::Comp)?;
     push_selector(marks, selector)?;
     push_sign(marks, Sign::RightRound)
 }

@@ -9,6 +9,7 @@ use crate::print::mark::Mark;
 use crate::print::space::Space;
 use cga_fraction::{NoMemory, Text};
 use cga_lexer::Sign;
+use cga_word::Name;
 
 /// Appends the text of the tokens.
 pub(crate) fn push_marks(text: &mut Text, marks: &[Mark]) -> Result<(), NoMemory>
@@ -38,21 +39,24 @@ fn push_bytes(text: &mut Text, lexeme: Lexeme) -> Result<(), NoMemory>
     ensures { OnOk result (text.new ≡ text.old ++ spec.lexeme_bytes lexeme) }
 {
     match lexeme {
-        Lexeme::Number(value) => text.push_literal(value)?,
+        Lexeme::Number(value) => text.push_literal(value),
         Lexeme::Relative(value) => {
             text.push_literal(value)?;
-            text.push(b"r")?;
+            text.push(b"r")
         }
-        Lexeme::Keyword(keyword) => text.push(keyword_bytes(keyword))?,
-        Lexeme::Name(name) => text.push(name.bytes())?,
-        Lexeme::Text(name) => {
-            text.push(b"\"")?;
-            text.push(name.bytes())?;
-            text.push(b"\"")?;
-        }
-        Lexeme::Sign(sign) => text.push(sign_bytes(sign))?,
+        Lexeme::Keyword(keyword) => text.push(keyword_bytes(keyword)),
+        Lexeme::Name(name) => text.push(name.bytes()),
+        Lexeme::Text(name) => push_quoted(text, name),
+        Lexeme::Sign(sign) => text.push(sign_bytes(sign)),
     }
-    Ok(())
+}
+
+fn push_quoted(text: &mut Text, name: Name) -> Result<(), NoMemory>
+    ensures { OnOk result (text.new ≡ text.old ++ spec.lexeme_bytes (Lexeme.Text name)) }
+{
+    text.push(b"\"")?;
+    text.push(name.bytes())?;
+    text.push(b"\"")
 }
 
 /// No space stands between two neighbours.

@@ -3,7 +3,7 @@
 ghost use Rattle.std.specs.Prelude.{◌≡◌, ◌++◌, ◌∷◌, [], OnOk, pos, if◌then◌else◌};
 ghost use Rattle.cga_fraction.specs.Rat.{of_int};
 ghost use Rattle.cga_syntax.specs.Pieces as spec;
-ghost use Rattle.cga_syntax.specs.Printing.{usually, printed_piece, marked, degrees};
+ghost use Rattle.cga_syntax.specs.Printing.{usually, printed_piece, printed_on, marked, degrees};
 
 use crate::keyword::{Keyword, keyword_of};
 use crate::lexeme::Lexeme;
@@ -67,6 +67,32 @@ pub(crate) fn push_text(marks: &mut List<Mark>, text: Name) -> Result<(), NoMemo
     ensures { OnOk result (marks.new ≡ marks.old ++ printed_piece (spec.text text)) }
 {
     push_lexeme(marks, Lexeme::Text(text))
+}
+
+/// A reserved word and the bracket behind it.
+pub(crate) fn push_opened(marks: &mut List<Mark>, keyword: Keyword) -> Result<(), NoMemory>
+    ensures { OnOk result (marks.new ≡ printed_on marks.old (spec.keyword keyword ∷ spec.sign Sign.LeftRound ∷ [])) }
+{
+    push_keyword(marks, keyword)?;
+    push_sign(marks, Sign::LeftRound)
+}
+
+/// A text in brackets.
+pub(crate) fn push_in_round(marks: &mut List<Mark>, text: Name) -> Result<(), NoMemory>
+    ensures { OnOk result (marks.new ≡ printed_on marks.old (spec.sign Sign.LeftRound ∷ spec.text text ∷ spec.sign Sign.RightRound ∷ [])) }
+{
+    push_sign(marks, Sign::LeftRound)?;
+    push_text(marks, text)?;
+    push_sign(marks, Sign::RightRound)
+}
+
+/// What is asked of the scope.
+pub(crate) fn push_of_scope(marks: &mut List<Mark>, word: Name) -> Result<(), NoMemory>
+    ensures { OnOk result (marks.new ≡ printed_on marks.old (spec.keyword Keyword.Scope ∷ spec.sign Sign.Dot ∷ spec.word word ∷ [])) }
+{
+    push_keyword(marks, Keyword::Scope)?;
+    push_sign(marks, Sign::Dot)?;
+    push_word(marks, word)
 }
 
 pub(crate) fn push_named(marks: &mut List<Mark>, name: Name) -> Result<(), NoMemory>

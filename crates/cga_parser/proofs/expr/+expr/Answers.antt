@@ -6,7 +6,16 @@ use Rattle.cga_form.specs.Reader.{many_after, many}
 use Rattle.cga_parser.proofs.Listings.{scaled_listing, added_listing}
 use Rattle.cga_parser.proofs.Loops.{many_is, off}
 use Rattle.cga_parser.proofs.Gained.{gains_shortens, gains_on, gains_fails}
+use Rattle.cga_parser.proofs.Factors.{factor_ok, factor_fails}
 use Rattle.cga_parser.proofs.expr.+expr.Goals as goal
+
+pub factor-returns : goal.factor-returns
+factor-returns t c = factor_ok c.args.depth (inside_of c.args.depth) (input_of c.args.tokens.now) c.minus-minus.result (input_of c.minus-minus.new.tokens) c.minus-minus.ensures c.in_ok-primary.primary (input_of c.primary.new.tokens) c.in_ok-primary.ensures
+
+pub factor-returns-in_err-primary : goal.factor-returns-in_err-primary
+factor-returns-in_err-primary t c =
+    let p = err_from_is_err_and c.from_residual.result c.from_residual.ensures.1 in
+    rw (p.1, p.2) (factor_fails c.args.depth (inside_of c.args.depth) (input_of c.args.tokens.now) c.minus-minus.result (input_of c.minus-minus.new.tokens) c.minus-minus.ensures c.in_err-primary.field-0.0 c.in_err-primary.ensures)
 
 pub all_scaled-scaled-init : goal.all_scaled-scaled-init
 all_scaled-scaled-init t c = many_is is_scaling (scaled c.args.depth (inside_of c.args.depth)) (input_of c.args.tokens.now) ∙ ap (λ r. many_after is_scaling (scaled c.args.depth (inside_of c.args.depth)) r (input_of c.args.tokens.now)) (sym c.new-rest.ensures)

@@ -22,9 +22,6 @@ decreases-primary_rest l = 14 * l.depth + 3
 abbrev pub decreases-primary : goal.decreases-primary
 decreases-primary l = 14 * l.depth + 4
 
-abbrev pub decreases-signed : goal.decreases-signed
-decreases-signed l = 14 * l.depth + 5
-
 abbrev pub decreases-factor : goal.decreases-factor
 decreases-factor l = 14 * l.depth + 6
 
