@@ -15,15 +15,13 @@ ghost use Rattle.cga_words.specs.Words.{command_app, decimals_of, town_of};
 ghost use Rattle.clap.specs.Words.{fault_of};
 ghost use Rattle.std.specs.Vec.Iter.{into_iter_items};
 ghost use Rattle.std.specs.IoError.{error_kind};
-ghost use Rattle.cga_top.specs.declared.status.Status.TheVariants.{NoMemory};
-ghost use Rattle.cga_main.specs.Exits.{line_of, refusal_line, refusal_of};
-
-mod exit;
+ghost use Rattle.cga_words.specs.declared.status.Status.TheVariants.{NoMemory};
+ghost use Rattle.cga_words.specs.Exits.{line_of, refusal_line, refusal_of};
 
 use cga_fraction::Steps;
 use cga_outside::{Sink, Source, StdSink, StdSource};
 use cga_top::{Status, run_city};
-use exit::{Exit, OUT_OF_MEMORY, UNREADABLE, exit_of};
+use cga_words::{Exit, OUT_OF_MEMORY, UNREADABLE, exit_of};
 use std::alloc::Global;
 use std::env::Args;
 use std::io::{BufWriter, ErrorKind};

@@ -4,8 +4,8 @@ use Rattle.std.specs.Prelude.{IfSome}
 use Rattle.std.specs.Io.KnownBytes.{Consumes, Appends}
 use Rattle.cga_top.specs.Output.{output_of}
 use Rattle.cga_outside.specs.Causes.{Rose}
-use Rattle.cga_top.specs.declared.status.Status.{Status}
-use Rattle.cga_top.specs.declared.status.Status.TheVariants.{Done, Usage, ReadFault, WriteFault, TooLong, NoMemory}
+use Rattle.cga_words.specs.declared.status.Status.{Status}
+use Rattle.cga_words.specs.declared.status.Status.TheVariants.{Done, Usage, ReadFault, WriteFault, TooLong, NoMemory}
 use Rattle.cga_top.specs.Reads.{limit}
 use Rattle.cga_top.specs.Outside.{Outside}
 use Rattle.cga_top.specs.Statuses.{StatusMeans, HoldsFew, WritesAll}

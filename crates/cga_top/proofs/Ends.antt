@@ -20,8 +20,8 @@ use Rattle.cga_top.specs.Wrote.{Wrote}
 use Rattle.cga_top.specs.Prefixes.{AppendsSome}
 use Rattle.cga_top.specs.declared.halt.Halt.{Halt}
 use Rattle.cga_top.specs.declared.halt.Halt.TheVariants as cause
-use Rattle.cga_top.specs.declared.status.Status.{Status}
-use Rattle.cga_top.specs.declared.status.Status.TheVariants.{Done, ReadFault, WriteFault, TooLong, NoMemory}
+use Rattle.cga_words.specs.declared.status.Status.{Status}
+use Rattle.cga_words.specs.declared.status.Status.TheVariants.{Done, ReadFault, WriteFault, TooLong, NoMemory}
 use Rattle.cga_top.specs.Outside.{Outside}
 use Rattle.cga_top.specs.Faults.{FaultsAt}
 use Rattle.cga_top.specs.Reads.{limit, read_limit, pending_after, IsRead, IsHalted}

@@ -12,8 +12,8 @@ use Rattle.cga_words.specs.Town.{town_text}
 use Rattle.cga_top.specs.declared.halt.Halt.{Halt}
 use Rattle.cga_top.specs.declared.halt.Halt.TheVariants as cause
 use Rattle.cga_top.specs.declared.session.Session.{Session}
-use Rattle.cga_top.specs.declared.status.Status.{Status}
-use Rattle.cga_top.specs.declared.status.Status.TheVariants.{Done, Usage, ReadFault, WriteFault, TooLong, NoMemory}
+use Rattle.cga_words.specs.declared.status.Status.{Status}
+use Rattle.cga_words.specs.declared.status.Status.TheVariants.{Done, Usage, ReadFault, WriteFault, TooLong, NoMemory}
 use Rattle.cga_top.specs.State.{start}
 use Rattle.cga_top.specs.Output.{effect_of_all, effect_of_lines, effect_of_script, last_effect, output_of}
 use Rattle.cga_top.specs.Outside.{Outside}

@@ -4,8 +4,8 @@ use Rattle.std.specs.Io.KnownBytes.{Appends}
 use Rattle.cga_outside.specs.Causes.{Rose}
 use Rattle.cga_outside.specs.declared.sink.Sink as sink
 use Rattle.cga_words.specs.Town.{town_text}
-use Rattle.cga_top.specs.declared.status.Status.{Status}
-use Rattle.cga_top.specs.declared.status.Status.TheVariants.{Done, Usage, ReadFault, WriteFault, TooLong, NoMemory}
+use Rattle.cga_words.specs.declared.status.Status.{Status}
+use Rattle.cga_words.specs.declared.status.Status.TheVariants.{Done, Usage, ReadFault, WriteFault, TooLong, NoMemory}
 use Rattle.cga_top.specs.Output.{effect_of_script, output_of}
 use Rattle.cga_top.specs.Outside.{Outside}
 use Rattle.cga_top.specs.Prefixes.{AppendsSome}

@@ -2,8 +2,8 @@
 use Rattle.std.specs.Prelude.{◌≡◌, ℕ, ◌+◌, ◌≤◌, ◌<◌, List, length, take, IsTrue, Option, Some, None, IfSome}
 use Rattle.std.specs.Io.KnownBytes.{Appends, Consumes}
 use Rattle.cga_outside.specs.Causes.{Rose}
-use Rattle.cga_top.specs.declared.status.Status.{Status}
-use Rattle.cga_top.specs.declared.status.Status.TheVariants.{Done, Usage, ReadFault, WriteFault, TooLong, NoMemory}
+use Rattle.cga_words.specs.declared.status.Status.{Status}
+use Rattle.cga_words.specs.declared.status.Status.TheVariants.{Done, Usage, ReadFault, WriteFault, TooLong, NoMemory}
 use Rattle.cga_top.specs.Effect.{Effect, HasSpent}
 use Rattle.cga_top.specs.Output.{effect_of_lines, effect_of_script, replies_of, output_of}
 use Rattle.cga_top.specs.Outside.{Outside, IsCalm}

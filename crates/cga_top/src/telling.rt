@@ -11,10 +11,10 @@ use crate::decimals::Decimals;
 use crate::hulls::hulls_text;
 use crate::pump::write_all;
 use crate::session::{Session, new_session};
-use crate::status::Status;
 use crate::top::{flushed, run_in};
 use cga_fraction::{NoMemory, Steps};
 use cga_outside::{Failed, Sink, Source};
+use cga_words::Status;
 use std::alloc::Global;
 use std::sync::ledger::Ledger;
 

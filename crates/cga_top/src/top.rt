@@ -24,11 +24,10 @@ use crate::read_end::ReadEnd;
 use crate::reads::read_lines;
 use crate::script_end::end_script;
 use crate::session::{Session, new_session};
-use crate::status::Status;
 use cga_fraction::{NoMemory, Steps};
 use cga_outside::{Failed, Sink, Source};
 use cga_script::Lines;
-use cga_words::{WordsFault, read_words, town_script};
+use cga_words::{Status, WordsFault, read_words, town_script};
 use std::alloc::Global;
 use std::sync::ledger::Ledger;
 

@@ -1,15 +1,19 @@
-//! The words of the command line, and the script of the town, which the words may ask for. It knows nothing of what a
-//! script says.
+//! What the program shares with the shell: the words of the command line, the script of the town, which the words may ask
+//! for, and how a run ends, with its exit status and its line on standard error. It knows nothing of what a script says.
 //! The one thing that callers get wrong: words that leave an option out still say its value, so an absent number of
 //! decimals is 6, and only an absent town is None.
 #![tactic(auto)]
 
+mod exit;
 mod read;
+mod status;
 mod town;
 mod wanted;
 mod words_fault;
 
+pub use exit::{Exit, OUT_OF_MEMORY, UNREADABLE, exit_of};
 pub use read::read_words;
+pub use status::Status;
 pub use town::town_script;
 pub use wanted::Wanted;
 pub use words_fault::WordsFault;

@@ -1,7 +1,7 @@
 use Rattle.std.proofs.Common.{◌≡◌, ◌++◌, List, ℕ, subst}
 use Rattle.std.specs.Prelude.{IfSome}
 use Rattle.std.specs.Io.KnownBytes.{Appends}
-use Rattle.cga_top.specs.declared.status.Status.TheVariants.{Done}
+use Rattle.cga_words.specs.declared.status.Status.TheVariants.{Done}
 use Rattle.cga_top.specs.Hulls.{IsToldOf}
 use Rattle.cga_top.specs.Output.{output_of}
 use Rattle.cga_top.proofs.telling.told_of.Goals as goal
