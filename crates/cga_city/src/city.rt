@@ -244,6 +244,13 @@ impl City {
         &self.changes
     }
 
+    /// Forgets that record, which is long after a long edit. Frees its memory.
+    pub fn forget_changes(&mut self)
+        ensures { self.new ≡ record self.old { changes = record { gone = []; come = [] } } }
+    {
+        self.changes = no_changes(self.alloc);
+    }
+
     pub fn grammar(&self) -> &Grammar
         ensures { result.now ≡ self.now.sources.grammar }
     {

@@ -247,6 +247,7 @@ fn told(key: StampKey, own: Name, answers: Answers, outcome: Outcome) -> TraceSt
         lot,
         path,
         priorities: _,
+        head: _,
     } = key;
     TraceStep {
         lot,

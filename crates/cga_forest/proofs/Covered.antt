@@ -6,10 +6,11 @@ use Rattle.std.proofs.lemmas.Option.{slice_get_within}
 use Rattle.cga_frame.specs.Box.{Box, touches}
 use Rattle.cga_frame.proofs.Boxes.{touches_up}
 use Rattle.cga_frame.proofs.Flags.{both}
-use Rattle.cga_index.specs.Tree.{IsFarBlock, IsQuietBlock}
+use Rattle.cga_index.specs.Tree.{IsFarRun, IsQuietRun}
+use Rattle.cga_forest.specs.declared.blocks.Blocks.{Blocks}
 use Rattle.cga_forest.specs.declared.entry.Entry.{Entry}
 use Rattle.cga_forest.specs.declared.hulls.Hulls.{Hulls}
-use Rattle.cga_forest.specs.Blocks.{Blocks, AreCovered, AreCoveredBut, IsCovered, IsHeld, IsWithBlocks, StaysHeld, block_asks, block_holds, block_touches, opt_touches}
+use Rattle.cga_forest.specs.Blocks.{Level, AreCovered, AreCoveredBut, IsCovered, IsHeld, IsIn, IsWithBlocks, StaysHeld, StaysIn, block_asks, block_holds, block_touches, opt_touches}
 use Rattle.cga_forest.specs.Hull.{with_hulls, opt_within, holds_hulls}
 use Rattle.cga_forest.specs.Roots.{HasRoots, KeepsPlaces, Named, ids, root_under}
 use Rattle.cga_forest.specs.Tree.{ForestView, hulls_at}
@@ -64,7 +65,7 @@ pushed_ids [] n id (suc i) c h = let x : None ≡ Some c = h in absurd (cc)
 pushed_ids (e ∷ es) n id zero c h = inl h
 pushed_ids (e ∷ es) n id (suc i) c h = elim (pushed_ids es n id i c h) [ inl w ↦ inl w | inr q ↦ inr (omega (arith, q)) ]
 
--- ---- what a block holds
+-- ---- what an entry of a level holds
 
 with_self : (h : Hulls) (o : Option Hulls) → holds_hulls (with_hulls h o) h ≡ true
 with_self h None = holds_from h h (λ p t. t)
@@ -77,10 +78,10 @@ still_one : (o : Option Hulls) (h x : Hulls) → block_holds (Some o) x ≡ true
 still_one None h x e = let z : false ≡ true = e in absurd (cc)
 still_one (Some k) h x e = with_other h k x e
 
-pub held_here : (xs : Blocks) (place : ℕ) (o : Option Hulls) (h : Hulls) → place / 16 < length xs → IsHeld (set xs (place / 16) (Some (with_hulls h o))) place h
+pub held_here : (xs : Level) (place : ℕ) (o : Option Hulls) (h : Hulls) → place / 16 < length xs → IsIn (set xs (place / 16) (Some (with_hulls h o))) place h
 held_here xs place o h lt = ap (λ b. block_holds b h) (get_set xs (place / 16) (Some (with_hulls h o)) lt) ∙ with_self h o
 
-pub held_still : (xs : Blocks) (i : ℕ) (o : Option Hulls) (h : Hulls) → slice_get xs i ≡ Some o → StaysHeld xs (set xs i (Some (with_hulls h o)))
+pub held_still : (xs : Level) (i : ℕ) (o : Option Hulls) (h : Hulls) → slice_get xs i ≡ Some o → StaysIn xs (set xs i (Some (with_hulls h o)))
 held_still xs i o h at place x e = elim (nat_cases (place / 16) i) [
   | inl q ↦ (
       let was : block_holds (Some o) x ≡ true = ap (λ b. block_holds b x) (sym (ap (slice_get xs) q ∙ at)) ∙ e in
@@ -88,20 +89,8 @@ held_still xs i o h at place x e = elim (nat_cases (place / 16) i) [
   | inr n ↦ ap (λ b. block_holds b x) (get_other xs i (place / 16) (Some (with_hulls h o)) n) ∙ e
 ]
 
-at_or_past : (xs : Blocks) (i : ℕ) → ((o : Option Hulls) × (slice_get xs i ≡ Some o)) ⊎ (slice_get xs i ≡ None)
-at_or_past [] i = inr refl
-at_or_past (x ∷ xs) zero = inl (x, refl)
-at_or_past (x ∷ xs) (suc i) = at_or_past xs i
-
--- of a block that isn't there anything holds
-pub held_absent : (xs : Blocks) (place : ℕ) (h : Hulls) → length xs ≤ place / 16 → IsHeld xs place h
-held_absent xs place h past = elim (at_or_past xs (place / 16)) [
-  | inl w ↦ absurd (let l = slice_get_within xs (place / 16) w.0 w.1 in omega (arith, l, past))
-  | inr e ↦ ap (λ b. block_holds b h) e
-]
-
--- a block more, behind all roots
-pub room_made : (xs : Blocks) (o : Option Hulls) (roots place : ℕ) (h : Hulls) → roots % 16 ≡ 0 → roots / 16 ≡ length xs → place < roots → IsHeld xs place h → IsHeld (xs ++ o ∷ []) place h
+-- an entry more, behind all places
+pub room_made : (xs : Level) (o : Option Hulls) (roots place : ℕ) (h : Hulls) → roots % 16 ≡ 0 → roots / 16 ≡ length xs → place < roots → IsIn xs place h → IsIn (xs ++ o ∷ []) place h
 room_made xs o roots place h whole full lt e = ap (λ b. block_holds b h) (get_left xs (o ∷ []) (place / 16) (omega (arith, whole, full, lt))) ∙ e
 
 -- ---- the roots' hulls are held
@@ -154,12 +143,12 @@ covered_next xs ys roots H from to a kept here p low lt c h at e = elim (nat_cas
   | inr n ↦ kept p h (a p low (omega (arith, lt, n)) c h at e)
 ]
 
--- a block is emptied, and its places are gone over
-pub covered_anew : (xs ys zs : Blocks) (roots : Named) (H : ℕ → Option Hulls) (block from to count : ℕ) → count ≡ length roots → from ≡ 16 * block → ((p : ℕ) → p < count → p < from + 16 → p < to)
-    → ((place : ℕ) (h : Hulls) → place / 16 ≢ block → IsHeld xs place h → IsHeld ys place h) → StaysHeld ys zs → ((p : ℕ) → from ≤ p → p < to → IsCovered zs roots H p) → AreCovered xs roots H → AreCovered zs roots H
-covered_anew xs ys zs roots H block from to count n f reach others kept here a place c h at e =
+-- a group is emptied, and its places are gone over
+pub covered_anew : (xs ys zs : Blocks) (roots : Named) (H : ℕ → Option Hulls) (group from to count : ℕ) → count ≡ length roots → from ≡ 256 * group → ((p : ℕ) → p < count → p < from + 256 → p < to)
+    → ((place : ℕ) (h : Hulls) → place / 256 ≢ group → IsHeld xs place h → IsHeld ys place h) → StaysHeld ys zs → ((p : ℕ) → from ≤ p → p < to → IsCovered zs roots H p) → AreCovered xs roots H → AreCovered zs roots H
+covered_anew xs ys zs roots H group from to count n f reach others kept here a place c h at e =
     let lt = ids_within roots place c at in
-    elim (nat_cases (place / 16) block) [
+    elim (nat_cases (place / 256) group) [
       | inl q ↦ here place (omega (arith, f, q)) (reach place (omega (arith, n, lt)) (omega (arith, f, q))) c h at e
       | inr ne ↦ kept place h (others place h ne (a place c h at e))
     ]
@@ -230,23 +219,39 @@ held_quiet None h b area e f s = let z : true ≡ false = f in absurd (cc)
 held_quiet (Some None) h b area e f s = let z : false ≡ true = e in absurd (cc)
 held_quiet (Some (Some k)) h b area e f s = opt_far k.asking b area (ap (opt_within k.asking) (sym s) ∙ (both _ _ e).1) f
 
-in_block : (block place : ℕ) → 16 * block ≤ place → place < 16 * (block + 1) → place / 16 ≡ block
-in_block block place from to = omega (arith, from, to)
-
-module _ (v : ForestView) (xs : Blocks) (w : IsWithBlocks v xs) (block : ℕ) (area : Box) where
-  root_held : (place c : ℕ) → 16 * block ≤ place → place < 16 * (block + 1) → slice_get (ids v.roots) place ≡ Some c → (h : Hulls) × (hulls_at v c ≡ Some h) × (block_holds (slice_get xs block) h ≡ true)
-  root_held place c from to at =
+-- the hulls of the root at a place are held by its block and by its group
+module _ (v : ForestView) (xs : Blocks) (w : IsWithBlocks v xs) (area : Box) where
+  root_held : (place c : ℕ) → slice_get (ids v.roots) place ≡ Some c → (h : Hulls) × (hulls_at v c ≡ Some h) × IsHeld xs place h
+  root_held place c at =
       let m = ids_at v.roots place c at in
       let d = w.forest.tops.each m.0 c (contains_at v.roots place (m.0, c) m.1) in
       let r = w.forest.present.right c d.0 d.1 in
-      (r.0, r.1, ap (λ i. block_holds (slice_get xs i) r.0) (sym (in_block block place from to)) ∙ w.covered place c r.0 at r.1)
+      (r.0, r.1, w.covered place c r.0 at r.1)
 
-  pub far_block : block_touches (slice_get xs block) area ≡ false → IsFarBlock (forest_tree v) block area
-  far_block off place c within at =
-      let r = root_held place c within.0 within.1 at in
-      ap (λ o. touches (all_of o) area) r.1 ∙ held_far (slice_get xs block) r.0 area r.2 off
+  -- what an entry of a level holds is as far as the entry
+  module _ (level : Level) (entry from count : ℕ) (index : ℕ → ℕ) (here : (place : ℕ) → from ≤ place → place < from + count → index place / 16 ≡ entry)
+      (holds : (place : ℕ) (h : Hulls) → IsHeld xs place h → IsIn level (index place) h) where
+    at_entry : (place : ℕ) (h : Hulls) → from ≤ place → place < from + count → IsHeld xs place h → block_holds (slice_get level entry) h ≡ true
+    at_entry place h low high e = ap (λ i. block_holds (slice_get level i) h) (sym (here place low high)) ∙ holds place h e
 
-  pub quiet_block : block_asks (slice_get xs block) area ≡ false → IsQuietBlock (forest_tree v) block area
-  quiet_block off place c b within at asks =
-      let r = root_held place c within.0 within.1 at in
-      held_quiet (slice_get xs block) r.0 b area r.2 off (sym (ap asking_of r.1) ∙ asks)
+    pub far_run : block_touches (slice_get level entry) area ≡ false → IsFarRun (forest_tree v) from count area
+    far_run off place c within at =
+        let r = root_held place c at in
+        ap (λ o. touches (all_of o) area) r.1 ∙ held_far (slice_get level entry) r.0 area (at_entry place r.0 within.0 within.1 r.2) off
+
+    pub quiet_run : block_asks (slice_get level entry) area ≡ false → IsQuietRun (forest_tree v) from count area
+    quiet_run off place c b within at asks =
+        let r = root_held place c at in
+        held_quiet (slice_get level entry) r.0 b area (at_entry place r.0 within.0 within.1 r.2) off (sym (ap asking_of r.1) ∙ asks)
+
+  pub far_block : (block : ℕ) → block_touches (slice_get xs.blocks.hulls.items block) area ≡ false → IsFarRun (forest_tree v) (16 * block) 16 area
+  far_block block = far_run xs.blocks.hulls.items block (16 * block) 16 (λ p. p) (λ p a b. omega (arith, a, b)) (λ p h e. e.0)
+
+  pub quiet_block : (block : ℕ) → block_asks (slice_get xs.blocks.hulls.items block) area ≡ false → IsQuietRun (forest_tree v) (16 * block) 16 area
+  quiet_block block = quiet_run xs.blocks.hulls.items block (16 * block) 16 (λ p. p) (λ p a b. omega (arith, a, b)) (λ p h e. e.0)
+
+  pub far_group : (group : ℕ) → block_touches (slice_get xs.groups.hulls.items group) area ≡ false → IsFarRun (forest_tree v) (256 * group) 256 area
+  far_group group = far_run xs.groups.hulls.items group (256 * group) 256 (λ p. p / 16) (λ p a b. omega (arith, a, b)) (λ p h e. e.1)
+
+  pub quiet_group : (group : ℕ) → block_asks (slice_get xs.groups.hulls.items group) area ≡ false → IsQuietRun (forest_tree v) (256 * group) 256 area
+  quiet_group group = quiet_run xs.groups.hulls.items group (256 * group) 256 (λ p. p / 16) (λ p a b. omega (arith, a, b)) (λ p h e. e.1)

@@ -1,4 +1,5 @@
 pub mod Equal
+pub mod SameNode
 pub mod Books
 pub mod Changed
 pub mod Under

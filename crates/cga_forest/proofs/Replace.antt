@@ -1,5 +1,5 @@
 -- One node's children are replaced.
-use Rattle.std.proofs.Common.{◌≡◌, ◌≢◌, ℕ, ◌+◌, ◌<◌, List, [], ◌∷◌, length, Bool, false, ◌⊎◌, inl, inr, refl, ap, sym, ◌∙◌, arith}
+use Rattle.std.proofs.Common.{◌≡◌, ◌≢◌, ℕ, ◌+◌, ◌<◌, List, [], ◌∷◌, length, Bool, false, ◌⊎◌, inl, inr, refl, ap, sym, ◌∙◌, arith, true≢false}
 use Rattle.std.specs.Prelude.{Option, Some, None, slice_get, if◌then◌else◌}
 use Rattle.cga_forest.specs.declared.node.Node.{Node}
 use Rattle.cga_forest.specs.View.{Seen}
@@ -57,7 +57,7 @@ module _ (S T : ℕ → Option Seen) (id : ℕ) (news : List Node) (e now : Seen
       let u = tree.up id p e r.was ep in
       let v = tree.down p e.index id u.0 u.1 u.2 in
       let n : p ≢ id = (λ q. let z : Some u.0 ≡ Some e = sym u.1 ∙ ap S q ∙ r.was in let y : Some v.0 ≡ Some e = sym v.1 ∙ r.was in let z1 : u.0.depth ≡ e.depth = (let zz : u.0 ≡ e = (cc) in ap (λ (x : Seen). x.depth) zz) in let y1 : v.0.depth ≡ e.depth = (let yy : v.0 ≡ e = (cc) in ap (λ (x : Seen). x.depth) yy) in let k = v.3 in omega arith) in
-      let here : gone p ≡ false = elim (bool_cases (gone p)) [ inl y ↦ (let z = r.onto id p e r.was ep y in let w0 = r.self in absurd (cc)) | inr no_ ↦ no_ ] in
+      let here : gone p ≡ false = elim (bool_cases (gone p)) [ inl y ↦ absurd (true≢false (sym (r.onto id p e r.was ep y) ∙ r.self)) | inr no_ ↦ no_ ] in
       (u.0, kept p u.0 n u.1 here, ap (slice_get u.0.children) (ap (λ (x : Seen). x.index) w ∙ r.index) ∙ u.2)
 
   up_old : (c p : ℕ) (d : Seen) → S c ≡ Some d → gone c ≡ false → d.parent ≡ Some p → (x : Seen) × (T p ≡ Some x) × (slice_get x.children d.index ≡ Some c)

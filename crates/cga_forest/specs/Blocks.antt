@@ -1,16 +1,17 @@
--- Hulls over blocks of roots: sixteen places of their list in a row.
+-- Hulls over runs of roots: a block is sixteen places of their list in a row, and a group sixteen blocks.
 use Rattle.std.specs.Prelude.{◌≡◌, ◌≢◌, ℕ, ◌/◌, List, Option, Some, None, Bool, true, false, slice_get}
 use Rattle.cga_frame.specs.Box.{Box, touches}
+use Rattle.cga_forest.specs.declared.blocks.Blocks.{Blocks}
 use Rattle.cga_forest.specs.declared.hulls.Hulls.{Hulls}
 use Rattle.cga_forest.specs.Hull.{holds_hulls}
 use Rattle.cga_forest.specs.Roots.{Named, ids}
 use Rattle.cga_forest.specs.Tree.{ForestView, IsForest, hulls_at}
 
--- for each block hulls that hold those of its roots, where it has some
-abbrev pub Blocks : Type 0
-Blocks = List (Option Hulls)
+-- for each sixteen places in a row hulls that hold those at the places, where there are some
+abbrev pub Level : Type 0
+Level = List (Option Hulls)
 
--- a block holds these hulls; one that isn't there may have any
+-- an entry of a level holds these hulls; one that isn't there may have any
 abbrev pub block_holds : Option (Option Hulls) → Hulls → Bool
 block_holds None h = true
 block_holds (Some None) h = false
@@ -28,7 +29,7 @@ abbrev pub known_asks : Option Hulls → Box → Bool
 known_asks None area = false
 known_asks (Some k) area = opt_touches k.asking area
 
--- whether the hulls of a block touch the area, and whether those of who asks do
+-- whether the hulls of an entry touch the area, and whether those of who asks do
 abbrev pub block_touches : Option (Option Hulls) → Box → Bool
 block_touches None area = true
 block_touches (Some known) area = known_touches known area
@@ -37,9 +38,17 @@ abbrev pub block_asks : Option (Option Hulls) → Box → Bool
 block_asks None area = true
 block_asks (Some known) area = known_asks known area
 
--- the block of the place holds these hulls
+-- the entry of the place holds these hulls
+abbrev pub IsIn : Level → ℕ → Hulls → Type 0
+IsIn level place h = block_holds (slice_get level (place / 16)) h ≡ true
+
+-- all that a level held it holds
+abbrev pub StaysIn : Level → Level → Type 0
+StaysIn old new = (place : ℕ) (h : Hulls) → IsIn old place h → IsIn new place h
+
+-- the block of the place holds these hulls, and so does its group
 abbrev pub IsHeld : Blocks → ℕ → Hulls → Type 0
-IsHeld blocks place h = block_holds (slice_get blocks (place / 16)) h ≡ true
+IsHeld blocks place h = IsIn blocks.blocks.hulls.items place h × IsIn blocks.groups.hulls.items (place / 16) h
 
 -- all that was held is
 abbrev pub StaysHeld : Blocks → Blocks → Type 0

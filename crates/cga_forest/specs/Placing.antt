@@ -6,9 +6,11 @@ use Rattle.cga_check.specs.Groups.{group, mentions_target}
 use Rattle.cga_word.specs.declared.answers.Answers.{Answers}
 use Rattle.cga_word.specs.declared.primitive.Primitive.{Primitive}
 use Rattle.cga_word.specs.declared.target.Target.TheVariants.{Noparent, Active}
+use Rattle.cga_order.specs.Head.{child_head}
 use Rattle.cga_order.specs.World.{is_instance}
 use Rattle.cga_order.specs.declared.placed.Kind.{Kind}
 use Rattle.cga_order.specs.declared.placed.Kind.TheVariants.{Waiting, Done, Faulted, Instance}
+use Rattle.cga_order.proofs.ChildHeads.{child_is_head}
 use Rattle.cga_shape.specs.Root.{root_of}
 use Rattle.cga_shape.specs.declared.lot.Lot.{Lot}
 use Rattle.cga_shape.specs.declared.emitted.Emitted.{Emitted}
@@ -72,6 +74,8 @@ with_setting n shape e s = record {
   answers = unasked;
   asks = child_asks s e;
   line = n.line ++ s.priority ∷ [];
+  head = child_head n.line n.head s.priority;
+  headed = child_is_head n.line n.head s.priority n.headed;
 }
 
 -- child i of a node

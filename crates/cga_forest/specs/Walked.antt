@@ -1,5 +1,5 @@
 -- A forest as a tree of boxes.
-use Rattle.std.specs.Prelude.{ℕ, Option, Some, None, Bool, false, pos}
+use Rattle.std.specs.Prelude.{ℕ, Option, Some, None, Bool, false, ◌&&◌, is_some, pos, if◌then◌else◌}
 use Rattle.cga_frame.specs.Box.{Box}
 use Rattle.cga_index.specs.Tree.{TreeView}
 use Rattle.cga_forest.specs.declared.hulls.Hulls.{Hulls}
@@ -7,7 +7,7 @@ use Rattle.cga_forest.specs.Node.{bounds}
 use Rattle.cga_forest.specs.Roots.{ids}
 use Rattle.cga_forest.specs.View.{Seen}
 use Rattle.cga_forest.specs.Standing.{standing_of}
-use Rattle.cga_forest.specs.Tree.{ForestView, node_at, hulls_at, children_at}
+use Rattle.cga_forest.specs.Tree.{ForestView, node_at, marked_at, hulls_at, children_at}
 
 abbrev pub empty_box : Box
 empty_box = record { low = record { x = record { num = pos 0; above = 0 }; y = record { num = pos 0; above = 0 }; z = record { num = pos 0; above = 0 } }; high = record { x = record { num = pos 0; above = 0 }; y = record { num = pos 0; above = 0 }; z = record { num = pos 0; above = 0 } } }
@@ -42,4 +42,11 @@ forest_tree v = record {
   standing = λ n by. standing_of v.mode (node_at v) n by (node_at v n) (node_at v by);
   asks = λ n. asks_of (node_at v n);
   asking_hull = λ n. asking_of (hulls_at v n);
+}
+
+-- the same tree, in which only those nodes ask that were there at the mark
+abbrev pub lasting_tree : ForestView → TreeView
+lasting_tree v = record (forest_tree v) {
+  asks = λ n. is_some (marked_at v n) && asks_of (node_at v n);
+  asking_hull = λ n. if is_some (marked_at v n) then asking_of (hulls_at v n) else None;
 }

@@ -8,10 +8,10 @@ use crate::blocks::Blocks;
 use crate::roots::Roots;
 use crate::store::Store;
 
-/// Takes the hulls of the root at a place into its block.
+/// Takes the hulls of the root at a place into its block and its group.
 pub fn cover_place(blocks: &mut Blocks, store: &Store, roots: &Roots, place: usize)
-    ensures here { IsCovered blocks.new.hulls.items roots.now.list (λ c. hulls_of (at store.now c)) place }
-    ensures kept { StaysHeld blocks.old.hulls.items blocks.new.hulls.items }
+    ensures here { IsCovered blocks.new roots.now.list (λ c. hulls_of (at store.now c)) place }
+    ensures kept { StaysHeld blocks.old blocks.new }
 {
     if place < roots.len() {
         if let Some(entry) = store.get(roots.id(place)) {
@@ -22,8 +22,8 @@ pub fn cover_place(blocks: &mut Blocks, store: &Store, roots: &Roots, place: usi
 
 /// The same for places in a row.
 fn cover_places(blocks: &mut Blocks, store: &Store, roots: &Roots, from: usize, to: usize)
-    ensures here { (place : ℕ) → from ≤ place → place < to → IsCovered blocks.new.hulls.items roots.now.list (λ c. hulls_of (at store.now c)) place }
-    ensures kept { StaysHeld blocks.old.hulls.items blocks.new.hulls.items }
+    ensures here { (place : ℕ) → from ≤ place → place < to → IsCovered blocks.new roots.now.list (λ c. hulls_of (at store.now c)) place }
+    ensures kept { StaysHeld blocks.old blocks.new }
 {
     for place in from..to {
         cover_place(blocks, store, roots, place);
@@ -32,34 +32,38 @@ fn cover_places(blocks: &mut Blocks, store: &Store, roots: &Roots, from: usize, 
 
 /// Makes all blocks anew.
 pub fn cover_all(blocks: &mut Blocks, store: &Store, roots: &Roots)
-    ensures { AreCovered blocks.new.hulls.items roots.now.list (λ c. hulls_of (at store.now c)) }
+    ensures { AreCovered blocks.new roots.now.list (λ c. hulls_of (at store.now c)) }
 {
     blocks.clear();
     cover_places(blocks, store, roots, 0, roots.len());
 }
 
-/// Makes a block anew.
-fn renew(blocks: &mut Blocks, store: &Store, roots: &Roots, block: usize)
-    requires { AreCovered blocks.old.hulls.items roots.now.list (λ c. hulls_of (at store.now c)) }
-    ensures { AreCovered blocks.new.hulls.items roots.now.list (λ c. hulls_of (at store.now c)) }
+/// Makes a group and its blocks anew.
+fn renew(blocks: &mut Blocks, store: &Store, roots: &Roots, group: usize)
+    requires { AreCovered blocks.old roots.now.list (λ c. hulls_of (at store.now c)) }
+    ensures { AreCovered blocks.new roots.now.list (λ c. hulls_of (at store.now c)) }
 {
     let count = roots.len();
-    if block <= count / 16 {
-        blocks.empty(block);
-        let from = 16 * block;
-        let to = if count - from < 16 { count } else { from + 16 };
+    if group <= count / 256 {
+        blocks.empty(group);
+        let from = 256 * group;
+        let to = if count - from < 256 {
+            count
+        } else {
+            from + 256
+        };
         cover_places(blocks, store, roots, from, to);
     }
 }
 
-/// Makes the blocks anew that took hulls in, so that they hold no more than they have to.
+/// Makes the groups anew that took hulls in, so that they and their blocks hold no more than they have to.
 pub fn tighten(blocks: &mut Blocks, store: &Store, roots: &Roots)
-    requires { AreCovered blocks.old.hulls.items roots.now.list (λ c. hulls_of (at store.now c)) }
-    ensures { AreCovered blocks.new.hulls.items roots.now.list (λ c. hulls_of (at store.now c)) }
+    requires { AreCovered blocks.old roots.now.list (λ c. hulls_of (at store.now c)) }
+    ensures { AreCovered blocks.new roots.now.list (λ c. hulls_of (at store.now c)) }
 {
     let (from, to) = blocks.loose();
-    for block in from..to {
-        renew(blocks, store, roots, block);
+    for group in from..to {
+        renew(blocks, store, roots, group);
     }
     blocks.rest();
 }
@@ -77,8 +81,8 @@ fn place_of(store: &Store, roots: &Roots, root: usize) -> Option<usize>
 /// Takes the hulls of a root into its block, where they changed.
 pub fn cover_root(blocks: &mut Blocks, store: &Store, roots: &Roots, changed: Option<usize>)
     requires tops { HasRoots (λ c. present_of (at store.now c)) roots.now.list }
-    requires others { AreCoveredBut changed blocks.old.hulls.items roots.now.list (λ c. hulls_of (at store.now c)) }
-    ensures { AreCovered blocks.new.hulls.items roots.now.list (λ c. hulls_of (at store.now c)) }
+    requires others { AreCoveredBut changed blocks.old roots.now.list (λ c. hulls_of (at store.now c)) }
+    ensures { AreCovered blocks.new roots.now.list (λ c. hulls_of (at store.now c)) }
 {
     if let Some(root) = changed {
         if let Some(place) = place_of(store, roots, root) {

@@ -25,11 +25,19 @@ impl HullTree for Forest {
     }
 
     fn block_touches(&self, block: usize, area: &WorldBox) -> bool {
-        self.blocks.touch(block, area)
+        self.blocks.blocks.touches(block, area)
     }
 
     fn block_asks(&self, block: usize, area: &WorldBox) -> bool {
-        self.blocks.ask(block, area)
+        self.blocks.blocks.asks(block, area)
+    }
+
+    fn group_touches(&self, group: usize, area: &WorldBox) -> bool {
+        self.blocks.groups.touches(group, area)
+    }
+
+    fn group_asks(&self, group: usize, area: &WorldBox) -> bool {
+        self.blocks.groups.asks(group, area)
     }
 
     fn children(&self, node: NodeId) -> usize {

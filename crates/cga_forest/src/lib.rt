@@ -10,6 +10,7 @@ mod change;
 mod covering;
 mod entry;
 mod entry_marks;
+mod fitting;
 mod former;
 mod former_box;
 mod holds;
@@ -18,8 +19,11 @@ mod hulls;
 mod hulls_box;
 mod kept_hulls;
 mod last_setting;
+mod lasting_askers;
+mod level;
 mod listing;
 mod lots;
+mod mark;
 mod moved;
 mod new_content;
 mod new_hulls;
@@ -35,7 +39,7 @@ mod step;
 mod store;
 mod tree_law;
 
-ghost use Rattle.std.specs.Prelude.{◌≡◌, ◌≢◌, ℕ, true, false, [], Some, None, IfOk, IfSome, IsSome, is_some, option_copied, ◌↔◌, OnOk, OnErr};
+ghost use Rattle.std.specs.Prelude.{◌≡◌, ℕ, false, [], Some, None, IfOk, IfSome, IsSome, option_copied, ◌↔◌, OnOk, OnErr};
 ghost use Rattle.cga_order.specs.Chain as order;
 ghost use Rattle.cga_order.specs.Seen.{chain_of};
 ghost use Rattle.cga_forest.specs.Node.{chain_kept};
@@ -44,7 +48,7 @@ ghost use Rattle.cga_forest.specs.View.{Seen, is_shown};
 ghost use Rattle.cga_forest.specs.Moved.{ListsMoved};
 ghost use Rattle.cga_forest.specs.Numbers.{KeepsNumbers};
 ghost use Rattle.cga_forest.specs.Placing.{MayGrow, children_after, state_after};
-ghost use Rattle.cga_forest.specs.Tree.{ForestView, HasInner, content_of, above, slot_at, IsLeastHull, IsLeastAsking, NoneAsks, Replaces, node_at, marked_at, KeepsMark};
+ghost use Rattle.cga_forest.specs.Tree.{ForestView, HasInner, content_of, above, IsLeastHull, IsLeastAsking, NoneAsks, Replaces, node_at, marked_at, KeepsMark};
 
 use blocks::Blocks;
 use cga_fraction::{List, NoMemory};
@@ -55,8 +59,9 @@ use cga_rule::Grammar;
 use cga_shape::{Answers, Emitted, ShapeFault};
 use cga_word::Mode;
 pub use change::Change;
-use covering::{cover_all, cover_root, tighten};
+use covering::cover_root;
 use former_box::FormerBox;
+pub use lasting_askers::LastingAskers;
 use listing::list_children;
 pub use moved::Moved;
 pub use node::{Node, State};
@@ -91,7 +96,7 @@ impl Model for Forest {
 
     ghost view = { λ f. record { slots = f.store.slots; marking = f.marking; roots = f.roots.list; marked_roots = f.roots.former; mode = f.mode } };
 
-    ghost invariant = { λ f. IsWithBlocks (record { slots = f.store.slots; marking = f.marking; roots = f.roots.list; marked_roots = f.roots.former; mode = f.mode }) f.blocks.hulls.items };
+    ghost invariant = { λ f. IsWithBlocks (record { slots = f.store.slots; marking = f.marking; roots = f.roots.list; marked_roots = f.roots.former; mode = f.mode }) f.blocks };
 }
 
 impl Forest {
@@ -247,53 +252,6 @@ impl Forest {
             went: List::from_vec(went),
             came: List::from_vec(came),
         })
-    }
-
-    /// Whether a mark stands.
-    pub fn is_marked(&self) -> bool
-        ensures { result ≡ self.now.marking }
-    {
-        self.marking
-    }
-
-    /// Makes the mark the nodes as they stand.
-    pub fn begin(&mut self)
-        requires unmarked { self.old.marking ≡ false }
-        ensures marking { self.new.marking ≡ true }
-        ensures present { (c : ℕ) → node_at self.new c ≡ node_at self.old c }
-        ensures marked { (c : ℕ) → marked_at self.new c ≡ node_at self.old c }
-        ensures mode { self.new.mode ≡ self.old.mode }
-    {
-        self.marking = true;
-    }
-
-    /// Drops the mark, and what was set aside since: from now on the numbers of those nodes may be given out again. The
-    /// time goes by what went or came since the mark, and by the roots between those whose hulls changed.
-    pub fn settle(&mut self)
-        requires marked { self.old.marking ≡ true }
-        ensures marking { self.new.marking ≡ false }
-        ensures present { (c : ℕ) → node_at self.new c ≡ node_at self.old c }
-        ensures dropped { (c : ℕ) → is_some (slot_at self.new c) ≡ is_some (node_at self.new c) }
-        ensures mode { self.new.mode ≡ self.old.mode }
-    {
-        self.store.settle();
-        self.roots.settle();
-        tighten(&mut self.blocks, &self.store, &self.roots);
-        self.marking = false;
-    }
-
-    /// Makes the nodes those of the mark again, with their ids, and drops it: from now on the numbers of those that came
-    /// since may be given out again. The time goes by what changed since the mark, and by the roots.
-    pub fn roll_back(&mut self)
-        requires marked { self.old.marking ≡ true }
-        ensures marking { self.new.marking ≡ false }
-        ensures present { (c : ℕ) → node_at self.new c ≡ marked_at self.old c }
-        ensures mode { self.new.mode ≡ self.old.mode }
-    {
-        self.store.roll_back();
-        self.roots.roll_back();
-        cover_all(&mut self.blocks, &self.store, &self.roots);
-        self.marking = false;
     }
 }
 

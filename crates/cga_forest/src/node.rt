@@ -1,8 +1,6 @@
-ghost use Rattle.std.specs.Prelude.{◌≡◌, ◌↔◌, IsTrue};
-ghost use Rattle.cga_frame.specs.Box.{touches};
-ghost use Rattle.cga_order.specs.Seen.{chain_of};
-ghost use Rattle.cga_forest.specs.Node.{AreAlike, bounds, chain_kept, fits, same_sort, state_of, with_state};
+ghost use Rattle.cga_order.specs.Head.{IsHead};
 
+use crate::fitting::are_alike;
 use cga_fraction::List;
 use cga_frame::WorldBox;
 use cga_order::Chain;
@@ -16,11 +14,14 @@ pub struct Node {
     pub kind: Kind,
     /// That of its symbol, or of an instance's, when it was placed.
     pub priority: u16,
+    /// At which depth the head of its chain stands. Here it takes no memory.
+    pub head: u16,
     pub answers: Answers,
     /// Whether its answers depend on what lies near.
     pub asks: bool,
     /// The priorities on the way from the root, its own the last.
     pub line: List<u16>,
+    ghost headed: { IsHead line head },
 }
 
 /// What of a node may change while it stays.
@@ -32,6 +33,11 @@ pub struct State {
 }
 
 impl Node {
+    ghost use Rattle.std.specs.Prelude.{◌≡◌, ◌↔◌, IsTrue};
+    ghost use Rattle.cga_frame.specs.Box.{touches};
+    ghost use Rattle.cga_order.specs.Seen.{chain_of};
+    ghost use Rattle.cga_forest.specs.Node.{AreAlike, bounds, chain_kept, fits, state_of, with_state};
+
     pub fn lot(&self) -> Name
         ensures { result ≡ self.now.shape.lot }
     {
@@ -61,6 +67,7 @@ impl Node {
             lot: self.shape.lot,
             path: self.shape.path.as_slice(),
             priorities: self.line.as_slice(),
+            head: self.head as usize,
         }
     }
 
@@ -88,23 +95,5 @@ impl Node {
         ensures exact { IsTrue result ↔ AreAlike self.now new.now }
     {
         are_alike(self, new)
-    }
-}
-
-#[tactic(auto, unfolding(crate::specs::Node::fits))]
-fn are_alike(old: &Node, new: &Node) -> bool
-    ensures { result ≡ fits old.now new.now }
-{
-    old.priority == new.priority && (same_sort(old.kind, new.kind) && old.shape == new.shape)
-}
-
-/// Neither is an instance, or both are instances of one primitive.
-fn same_sort(a: Kind, b: Kind) -> bool
-    ensures { result ≡ same_sort a b }
-{
-    match (a, b) {
-        (Kind::Instance(a), Kind::Instance(b)) => a == b,
-        (Kind::Instance(_), _) | (_, Kind::Instance(_)) => false,
-        _ => true,
     }
 }

@@ -1,5 +1,6 @@
 //! The nodes that a grammar places: the root of a lot, and the children of an expansion.
-ghost use Rattle.std.specs.Prelude.{◌≡◌, ◌≤◌, ◌++◌, [], ◌∷◌, length, IfOk, IsOk};
+ghost use Rattle.std.specs.Prelude.{◌≡◌, ◌<◌, ◌≤◌, ◌++◌, [], ◌∷◌, length, IfOk, IsOk};
+ghost use Rattle.cga_order.specs.Head.{child_head};
 ghost use Rattle.cga_shape.specs.Root.{root_scope};
 ghost use Rattle.cga_forest.specs.Placing.{IsRootNode, IsSaid, child_asks, child_kind, child_node, child_shape, children_after, children_from, emitted, kind_after, unasked};
 
@@ -7,6 +8,7 @@ use crate::last_setting::LastSetting;
 use crate::node::Node;
 use crate::setting::{Setting, setting_of};
 use cga_fraction::{Fraction, List, NoMemory};
+use cga_order::child_head;
 use cga_rule::Grammar;
 use cga_shape::{Answers, Emitted, Kind, Lot, Shape, ShapeFault, root_shape};
 use std::alloc::Global;
@@ -31,6 +33,7 @@ pub fn root_node(alloc: Global, lot: &Lot, grammar: &Grammar) -> Result<Node, No
         shape: root_shape(alloc, lot),
         kind: Kind::Waiting,
         priority: setting.priority,
+        head: 0,
         answers: unasked(),
         asks: setting.asks,
         line,
@@ -65,6 +68,7 @@ pub fn children_after(
     grammar: &Grammar,
 ) -> Result<Vec<Node>, NoMemory>
     requires few { length (emitted outcome.now) ≤ 4096 }
+    requires low { 0 < length (emitted outcome.now) → length parent.now.line ≤ 256 }
     ensures { IfOk result (λ made. made.items ≡ children_after grammar.now parent.now outcome.now) }
 {
     match outcome {
@@ -80,6 +84,7 @@ fn children(
     grammar: &Grammar,
 ) -> Result<Vec<Node>, NoMemory>
     requires few { length emitted.now ≤ 4096 }
+    requires low { 0 < length emitted.now → length parent.now.line ≤ 256 }
     ensures { IfOk result (λ made. made.items ≡ children_from grammar.now parent.now 0 emitted.now) }
 {
     let mut made = Vec::with_capacity(alloc, emitted.len())?;
@@ -106,7 +111,8 @@ fn child(
     grammar: &Grammar,
     last: &mut LastSetting,
 ) -> Result<Node, NoMemory>
-    requires { IsSaid grammar.now last.old }
+    requires low { length parent.now.line ≤ 256 }
+    requires said { IsSaid grammar.now last.old }
     ensures made { IfOk result (λ made. made ≡ child_node grammar.now parent.now index emitted.now) }
     ensures said { IsSaid grammar.now last.new }
 {
@@ -117,10 +123,19 @@ fn child(
         shape,
         kind: child_kind(emitted),
         priority: setting.priority,
+        head: head_below(parent, setting.priority),
         answers: unasked(),
         asks: child_asks(&setting, emitted),
         line,
     })
+}
+
+/// The head of a child's chain, whose symbol has this priority.
+fn head_below(parent: &Node, priority: u16) -> u16
+    requires low { length parent.now.line ≤ 256 }
+    ensures { result ≡ child_head parent.now.line parent.now.head priority }
+{
+    child_head(parent.line.as_slice(), parent.head as usize, priority) as u16
 }
 
 fn child_shape(

@@ -65,7 +65,8 @@ pub fn child_count(store: &Store, id: usize) -> usize
     }
 }
 
-/// Gives a node another state and other children. Under a mark the first such call keeps the former ones.
+/// Gives a node another state and other children. Under a mark the first such call of a node that was there
+/// at the mark keeps the former ones.
 pub fn rewrite(
     store: &mut Store,
     id: usize,

@@ -1,13 +1,13 @@
--- Blocks of roots, gone over and passed by.
-use Rattle.std.proofs.Common.{◌≡◌, ℕ, zero, suc, ◌+◌, ◌*◌, ◌≤◌, ◌<◌, ◌⊎◌, inl, inr, List, [], ◌∷◌, ◌++◌, length, drop, Bool, false, refl, ap, sym, subst, ◌∙◌, arith}
+-- Runs of roots, gone over and passed by.
+use Rattle.std.proofs.Common.{◌≡◌, ℕ, zero, suc, ◌+◌, ◌*◌, ◌≤◌, ◌<◌, ◌⊎◌, inl, inr, List, [], ◌∷◌, ◌++◌, length, drop, refl, ap, sym, subst, ◌∙◌, arith}
 use Rattle.std.specs.List.{flat_map}
 use Rattle.std.specs.Prelude.{slice_get, Some}
 use Rattle.std.proofs.lemmas.Option.{slice_get_within}
-use Rattle.cga_frame.specs.Box.{Box, touches}
+use Rattle.cga_frame.specs.Box.{Box}
 use Rattle.cga_word.specs.declared.answer.Answer.{Answer}
 use Rattle.cga_word.specs.declared.target.Target.{Target}
 use Rattle.cga_index.specs.Occlusion.{join}
-use Rattle.cga_index.specs.Tree.{TreeView, below, IsHullTree, IsFarBlock, IsQuietBlock, answer_over, askers, total}
+use Rattle.cga_index.specs.Tree.{TreeView, below, IsHullTree, IsFarRun, IsQuietRun, answer_over, askers, total}
 use Rattle.cga_index.proofs.Askers.{askers_split, nobody_far}
 use Rattle.cga_index.proofs.Levels.{drop_at, drop_all, none_below, root_inside}
 use Rattle.cga_index.proofs.Over.{over_append}
@@ -44,12 +44,11 @@ total_past f xs k (suc n) = elim (here_or_past xs k) [
       let z : ◌≡◌ {A = ℕ} (total f (drop (k + suc n) xs)) 0 = ap (total f) (drop_all xs (k + suc n) (omega (arith, h))) in omega (arith, z)
 ]
 
--- a block that is passed by is read no more than one that is gone over
-pub block_counted : (f : ℕ → ℕ) (xs : List ℕ) (block a : ℕ) → a + total f (drop (16 * (block + 1)) xs) ≤ a + total f (drop (16 * block) xs)
-block_counted f xs block a =
-    let e : 16 * (block + 1) ≡ 16 * block + 16 = omega arith in
-    let s : ◌≡◌ {A = ℕ} (total f (drop (16 * (block + 1)) xs)) (total f (drop (16 * block + 16) xs)) = ap (λ m. total f (drop m xs)) e in
-    omega (arith, s, total_past f xs (16 * block) 16)
+-- a run that is passed by is read no more than one that is gone over
+pub run_counted : (f : ℕ → ℕ) (xs : List ℕ) (from count to a : ℕ) → from + count ≡ to → a + total f (drop to xs) ≤ a + total f (drop from xs)
+run_counted f xs from count to a e =
+    let s : ◌≡◌ {A = ℕ} (total f (drop (from + count) xs)) (total f (drop to xs)) = ap (λ m. total f (drop m xs)) e in
+    omega (arith, s, total_past f xs from count)
 
 module _ (v : TreeView) (laws : IsHullTree v) where
   -- what the roots from a place on answer, and those of them that ask
@@ -59,7 +58,7 @@ module _ (v : TreeView) (laws : IsHullTree v) where
   abbrev asking_from : Box → ℕ → List ℕ
   asking_from area k = askers v area (flat_map (below v 257) (drop k v.roots))
 
-  far_found : (by : ℕ) (target : Target) (k n : ℕ) → ((place c : ℕ) → k ≤ place → place < k + n → slice_get v.roots place ≡ Some c → touches (v.hull c) (v.own by) ≡ false) → over_from by target k ≡ over_from by target (k + n)
+  far_found : (by : ℕ) (target : Target) (k n : ℕ) → IsFarRun v k n (v.own by) → over_from by target k ≡ over_from by target (k + n)
   far_found by target k zero far = let e : k ≡ k + 0 = omega arith in ap (over_from by target) e
   far_found by target k (suc n) far = elim (here_or_past v.roots k) [
     | inl w ↦
@@ -67,19 +66,18 @@ module _ (v : TreeView) (laws : IsHullTree v) where
         let rest = flat_map (below v 257) (drop (k + 1) v.roots) in
         ap (λ t. answer_over v by target (flat_map (below v 257) t)) (drop_at v.roots k w.0 w.1)
         ∙ over_append v by target (below v 257 w.0) rest
-        ∙ ap (λ t. join t (answer_over v by target rest)) (none_below v laws by target 257 w.0 (root_inside v k w.0 w.1) (far k w.0 (omega arith) (omega arith) w.1))
-        ∙ far_found by target (k + 1) n (λ p c a b g. far p c (omega (arith, a)) (omega (arith, b)) g)
+        ∙ ap (λ t. join t (answer_over v by target rest)) (none_below v laws by target 257 w.0 (root_inside v k w.0 w.1) (far k w.0 (omega arith, omega arith) w.1))
+        ∙ far_found by target (k + 1) n (λ p c i g. far p c (let a = i.0 in omega (arith, a), let b = i.1 in omega (arith, b)) g)
         ∙ ap (over_from by target) e
     | inr h ↦ ap (λ t. answer_over v by target (flat_map (below v 257) t)) (drop_all v.roots k h ∙ sym (drop_all v.roots (k + suc n) (omega (arith, h))))
   ]
 
-  -- a block that is passed by answers nothing
-  pub block_found : (by : ℕ) (target : Target) (block : ℕ) (area : Box) (before : Answer) → area ≡ v.own by → IsFarBlock v block area → join before (over_from by target (16 * block)) ≡ join before (over_from by target (16 * (block + 1)))
-  block_found by target block area before own far =
-      let e : 16 * block + 16 ≡ 16 * (block + 1) = omega arith in
-      ap (join before) (far_found by target (16 * block) 16 (λ p c a b g. subst (λ (x : Box). touches (v.hull c) x ≡ false) own (far p c (a, omega (arith, b)) g)) ∙ ap (over_from by target) e)
+  -- a run that is passed by answers nothing
+  pub run_found : (by : ℕ) (target : Target) (from count to : ℕ) (area : Box) (before : Answer) → from + count ≡ to → area ≡ v.own by → IsFarRun v from count area → join before (over_from by target from) ≡ join before (over_from by target to)
+  run_found by target from count to area before e own far =
+      ap (join before) (far_found by target from count (subst (IsFarRun v from count) own far) ∙ ap (over_from by target) e)
 
-  quiet_listed : (area : Box) (k n : ℕ) → ((place c : ℕ) (h : Box) → k ≤ place → place < k + n → slice_get v.roots place ≡ Some c → v.asking_hull c ≡ Some h → touches h area ≡ false) → asking_from area k ≡ asking_from area (k + n)
+  quiet_listed : (area : Box) (k n : ℕ) → IsQuietRun v k n area → asking_from area k ≡ asking_from area (k + n)
   quiet_listed area k zero quiet = let e : k ≡ k + 0 = omega arith in ap (asking_from area) e
   quiet_listed area k (suc n) quiet = elim (here_or_past v.roots k) [
     | inl w ↦
@@ -87,14 +85,13 @@ module _ (v : TreeView) (laws : IsHullTree v) where
         let rest = flat_map (below v 257) (drop (k + 1) v.roots) in
         ap (λ t. askers v area (flat_map (below v 257) t)) (drop_at v.roots k w.0 w.1)
         ∙ askers_split v area (below v 257 w.0) rest
-        ∙ ap (λ t. t ++ askers v area rest) (nobody_far v laws area 257 w.0 (root_inside v k w.0 w.1) (λ h g. quiet k w.0 h (omega arith) (omega arith) w.1 g))
-        ∙ quiet_listed area (k + 1) n (λ p c h a b g. quiet p c h (omega (arith, a)) (omega (arith, b)) g)
+        ∙ ap (λ t. t ++ askers v area rest) (nobody_far v laws area 257 w.0 (root_inside v k w.0 w.1) (λ h g. quiet k w.0 h (omega arith, omega arith) w.1 g))
+        ∙ quiet_listed area (k + 1) n (λ p c h i g. quiet p c h (let a = i.0 in omega (arith, a), let b = i.1 in omega (arith, b)) g)
         ∙ ap (asking_from area) e
     | inr h ↦ ap (λ t. askers v area (flat_map (below v 257) t)) (drop_all v.roots k h ∙ sym (drop_all v.roots (k + suc n) (omega (arith, h))))
   ]
 
-  -- in a block that is passed by nobody asks who meets the area
-  pub block_listed : (area : Box) (block : ℕ) (out : List ℕ) → IsQuietBlock v block area → out ++ asking_from area (16 * (block + 1)) ≡ out ++ asking_from area (16 * block)
-  block_listed area block out quiet =
-      let e : 16 * block + 16 ≡ 16 * (block + 1) = omega arith in
-      ap (λ t. out ++ t) (sym (quiet_listed area (16 * block) 16 (λ p c h a b g f. quiet p c h (a, omega (arith, b)) g f) ∙ ap (asking_from area) e))
+  -- in a run that is passed by nobody asks who meets the area
+  pub run_listed : (area : Box) (from count to : ℕ) (out : List ℕ) → from + count ≡ to → IsQuietRun v from count area → out ++ asking_from area to ≡ out ++ asking_from area from
+  run_listed area from count to out e quiet =
+      ap (λ t. out ++ t) (sym (quiet_listed area from count quiet ∙ ap (asking_from area) e))

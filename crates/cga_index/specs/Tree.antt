@@ -1,5 +1,5 @@
 -- A tree of boxes as contracts see it.
-use Rattle.std.specs.Prelude.{◌≡◌, ℕ, zero, suc, ◌+◌, ◌*◌, ◌≤◌, ◌<◌, ◌⊎◌, List, [], ◌∷◌, length, map, Bool, true, false, cond, nat_eq, ◌&&◌, Option, Some, None, slice_get}
+use Rattle.std.specs.Prelude.{◌≡◌, ℕ, zero, suc, ◌+◌, ◌≤◌, ◌<◌, ◌⊎◌, List, [], ◌∷◌, length, map, Bool, true, false, cond, nat_eq, ◌&&◌, Option, Some, None, slice_get}
 use Rattle.std.specs.Bool.{⊤}
 use Rattle.std.specs.List.{flat_map, filter}
 use Rattle.cga_frame.specs.Box.{Box, touches, meets, holds, is_box}
@@ -63,18 +63,18 @@ pub record IsHullTree (v : TreeView) : Type 0 where
   pub asks_own : (n : ℕ) → InTree v n → v.asks n ≡ true → LiesIn (v.asking_hull n) (v.own n)
   pub asks_below : (n c : ℕ) (h : Box) → InTree v n → Member (v.children n) c → v.asking_hull c ≡ Some h → LiesIn (v.asking_hull n) h
 
--- ---- blocks of roots: sixteen places of their list in a row
+-- ---- runs of roots: so many places of their list in a row
 
-abbrev pub IsInBlock : ℕ → ℕ → Type 0
-IsInBlock block place = (16 * block ≤ place) × (place < 16 * (block + 1))
+abbrev pub IsInRun : ℕ → ℕ → ℕ → Type 0
+IsInRun from count place = (from ≤ place) × (place < from + count)
 
--- no root of the block has a hull that touches the box
-abbrev pub IsFarBlock : TreeView → ℕ → Box → Type 0
-IsFarBlock v block box = (place c : ℕ) → IsInBlock block place → slice_get v.roots place ≡ Some c → touches (v.hull c) box ≡ false
+-- no root of the run has a hull that touches the box
+abbrev pub IsFarRun : TreeView → ℕ → ℕ → Box → Type 0
+IsFarRun v from count box = (place c : ℕ) → IsInRun from count place → slice_get v.roots place ≡ Some c → touches (v.hull c) box ≡ false
 
 -- nor has one a hull of those that ask that does
-abbrev pub IsQuietBlock : TreeView → ℕ → Box → Type 0
-IsQuietBlock v block box = (place c : ℕ) (h : Box) → IsInBlock block place → slice_get v.roots place ≡ Some c → v.asking_hull c ≡ Some h → touches h box ≡ false
+abbrev pub IsQuietRun : TreeView → ℕ → ℕ → Box → Type 0
+IsQuietRun v from count box = (place c : ℕ) (h : Box) → IsInRun from count place → slice_get v.roots place ≡ Some c → v.asking_hull c ≡ Some h → touches h box ≡ false
 
 -- whether a node of this standing is asked about
 abbrev pub counts_for : Target → Standing → Bool

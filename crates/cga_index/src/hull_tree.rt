@@ -1,6 +1,6 @@
-ghost use Rattle.std.specs.Prelude.{◌≡◌, ◌+◌, ◌<◌, length, slice_get, Some, false};
+ghost use Rattle.std.specs.Prelude.{◌≡◌, ◌+◌, ◌*◌, ◌<◌, length, slice_get, Some, false};
 ghost use Rattle.cga_frame.specs.Box.{touches};
-ghost use Rattle.cga_index.specs.Tree.{TreeView, InTree, IsFarBlock, IsQuietBlock, touches_some};
+ghost use Rattle.cga_index.specs.Tree.{TreeView, InTree, IsFarRun, IsQuietRun, touches_some};
 
 use crate::node_id::NodeId;
 use crate::standing::Standing;
@@ -21,12 +21,32 @@ pub trait HullTree {
 
     /// Whether the hull of a root of this block may touch the area. A block is sixteen places of the roots in a row. Where
     /// this is false a walk passes by them all; it may be true of each block.
-    fn block_touches(&self, block: usize, area: &WorldBox) -> bool
-        ensures { result ≡ false → IsFarBlock (view self.now) block area.now };
+    fn block_touches(&self, _block: usize, _area: &WorldBox) -> bool
+        ensures { result ≡ false → IsFarRun (view self.now) (16 * _block) 16 _area.now }
+    {
+        true
+    }
 
     /// The same of the hulls of those that ask.
-    fn block_asks(&self, block: usize, area: &WorldBox) -> bool
-        ensures { result ≡ false → IsQuietBlock (view self.now) block area.now };
+    fn block_asks(&self, _block: usize, _area: &WorldBox) -> bool
+        ensures { result ≡ false → IsQuietRun (view self.now) (16 * _block) 16 _area.now }
+    {
+        true
+    }
+
+    /// The same of a group, which is sixteen blocks in a row.
+    fn group_touches(&self, _group: usize, _area: &WorldBox) -> bool
+        ensures { result ≡ false → IsFarRun (view self.now) (256 * _group) 256 _area.now }
+    {
+        true
+    }
+
+    /// The same of the hulls of those that ask.
+    fn group_asks(&self, _group: usize, _area: &WorldBox) -> bool
+        ensures { result ≡ false → IsQuietRun (view self.now) (256 * _group) 256 _area.now }
+    {
+        true
+    }
 
     fn children(&self, node: NodeId) -> usize
         requires { InTree (view self.now) node }

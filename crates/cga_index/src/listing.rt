@@ -111,6 +111,29 @@ fn list_block<H: HullTree, T: Ledger>(
     Ok(())
 }
 
+/// Appends those of a group's blocks.
+fn list_group<H: HullTree, T: Ledger>(
+    tree: &H,
+    group: usize,
+    area: &WorldBox,
+    tests: &mut Steps<T>,
+    out: &mut Vec<NodeId>,
+) -> Result<(), NoMemory>
+    requires laws { IsHullTree (H.view tree.now) }
+    requires group { 256 * group ≤ length (H.view tree.now).roots }
+    ensures { OnOk result (out.new.items ++ askers (H.view tree.now) area.now (flat_map (below (H.view tree.now) 257) (drop (256 * (group + 1)) (H.view tree.now).roots)) ≡ out.old.items ++ askers (H.view tree.now) area.now (flat_map (below (H.view tree.now) 257) (drop (256 * group) (H.view tree.now).roots))) }
+{
+    if !tree.group_asks(group, area) {
+        return Ok(());
+    }
+    let blocks = tree.roots() / 16 + 1;
+    let from = 16 * group;
+    for block in from..block_end(from, blocks) {
+        list_block(tree, block, area, tests, out)?;
+    }
+    Ok(())
+}
+
 /// The nodes that ask and whose box meets the area.
 pub fn queriers_meeting<H: HullTree, T: Ledger>(
     alloc: Global,
@@ -122,8 +145,8 @@ pub fn queriers_meeting<H: HullTree, T: Ledger>(
     ensures { IfOk result (λ list. ListsAskers (H.view tree.now) area.now list) }
 {
     let mut out = Vec::new(alloc);
-    for block in 0..tree.roots() / 16 + 1 {
-        list_block(tree, block, area, tests, &mut out)?;
+    for group in 0..tree.roots() / 256 + 1 {
+        list_group(tree, group, area, tests, &mut out)?;
     }
     Ok(List::from_vec(out))
 }

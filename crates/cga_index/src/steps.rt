@@ -5,7 +5,7 @@ ghost use Rattle.cga_index.specs.Tree.{IsHullTree, InTree};
 use crate::hull_tree::HullTree;
 use crate::node_id::NodeId;
 
-/// Where the block that begins at this place ends, with so many roots.
+/// Where sixteen in a row end that begin at this place, of so many.
 pub(crate) fn block_end(from: usize, roots: usize) -> usize
     requires { from ≤ roots }
     ensures begun { from ≤ result }

@@ -58,14 +58,6 @@ impl HullTree for TwoRoots {
         NodeId::new(place as u64)
     }
 
-    fn block_touches(&self, _block: usize, _area: &WorldBox) -> bool {
-        true
-    }
-
-    fn block_asks(&self, _block: usize, _area: &WorldBox) -> bool {
-        true
-    }
-
     fn children(&self, node: NodeId) -> usize {
         if node.number() < 2 { 2 } else { 0 }
     }

@@ -173,6 +173,35 @@ fn visit_block<H: HullTree, T: Ledger>(
     found
 }
 
+/// The same of the blocks of a group.
+fn visit_group<H: HullTree, T: Ledger>(
+    tree: &H,
+    group: usize,
+    before: Answer,
+    by: NodeId,
+    target: Target,
+    area: &WorldBox,
+    tests: &mut Steps<T>,
+) -> Answer
+    requires laws { IsHullTree (H.view tree.now) }
+    requires group { 256 * group ≤ length (H.view tree.now).roots }
+    requires by { InTree (H.view tree.now) by }
+    requires area { area.now ≡ (H.view tree.now).own by }
+    ensures found { join before (answer_over (H.view tree.now) by target (flat_map (below (H.view tree.now) 257) (drop (256 * group) (H.view tree.now).roots))) ≡ join result (answer_over (H.view tree.now) by target (flat_map (below (H.view tree.now) 257) (drop (256 * (group + 1)) (H.view tree.now).roots))) }
+    ensures counted { tests.new + total (reads (H.view tree.now) by 257) (drop (256 * (group + 1)) (H.view tree.now).roots) ≤ tests.old + total (reads (H.view tree.now) by 257) (drop (256 * group) (H.view tree.now).roots) }
+{
+    if !tree.group_touches(group, area) {
+        return before;
+    }
+    let blocks = tree.roots() / 16 + 1;
+    let from = 16 * group;
+    let mut found = before;
+    for block in from..block_end(from, blocks) {
+        found = visit_block(tree, block, found, by, target, area, tests);
+    }
+    found
+}
+
 /// The answer for a node.
 pub fn answer<H: HullTree, T: Ledger>(
     tree: &H,
@@ -187,8 +216,8 @@ pub fn answer<H: HullTree, T: Ledger>(
 {
     let area = tree.own_box(node, tests);
     let mut found = Answer::Nothing;
-    for block in 0..tree.roots() / 16 + 1 {
-        found = visit_block(tree, block, found, node, target, &area, tests);
+    for group in 0..tree.roots() / 256 + 1 {
+        found = visit_group(tree, group, found, node, target, &area, tests);
     }
     found
 }

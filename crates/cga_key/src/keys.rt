@@ -3,7 +3,7 @@ ghost use Rattle.cga_key.specs.Children.{IsChildKey, IsRootKey};
 
 use crate::stamp_key::StampKey;
 use cga_fraction::{List, NoMemory};
-use cga_order::Path;
+use cga_order::{Path, child_head};
 use cga_word::{Mode, Name};
 use std::alloc::Global;
 
@@ -18,6 +18,7 @@ pub fn root_key(alloc: Global, mode: Mode, lot: Name, priority: u16) -> Result<S
         lot,
         path: List::new(alloc),
         priorities,
+        head: 0,
     })
 }
 
@@ -32,11 +33,13 @@ pub fn child_key(
 {
     let path = child_path(alloc, &parent.path, index)?;
     let priorities = child_path(alloc, &parent.priorities, priority)?;
+    let head = child_head(parent.priorities.as_slice(), parent.head, priority);
     Ok(StampKey {
         mode: parent.mode,
         lot: parent.lot,
         path,
         priorities,
+        head,
     })
 }
 

@@ -1,4 +1,5 @@
 ghost use Rattle.std.specs.Prelude.{◌≡◌, ◌+◌, length};
+ghost use Rattle.cga_order.specs.Head.{IsHead};
 
 use cga_fraction::{List, NoMemory};
 use cga_order::{Chain, Path, cmp_stamp};
@@ -14,7 +15,10 @@ pub struct StampKey {
     pub lot: Name,
     pub path: Path,
     pub priorities: List<u16>,
+    /// At which depth the head of its chain stands.
+    pub head: usize,
     ghost whole: { length priorities ≡ length path + 1 },
+    ghost headed: { IsHead priorities head },
 }
 
 impl StampKey {
@@ -36,6 +40,7 @@ impl StampKey {
             lot: chain.lot,
             path,
             priorities,
+            head: chain.head,
         })
     }
 
@@ -47,6 +52,7 @@ impl StampKey {
             lot: self.lot,
             path: self.path.as_slice(),
             priorities: self.priorities.as_slice(),
+            head: self.head,
         }
     }
 }

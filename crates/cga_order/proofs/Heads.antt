@@ -34,12 +34,16 @@ module _ {R : Type 0} (cmp : R → R → Ordering) (o : IsTotalOrder cmp) where
   same_head : (a b : R) (xs ys : List R) → ◌≡◌ {A = List R} (a ∷ xs) (b ∷ ys) → a ≡ b
   same_head a b xs ys e = cc
 
-  -- an element that is greater than the greatest one becomes the first
+  -- an element that is greater than all others is the first
+  pub maxima-first : (r : R) (rs : List R) → ((q : R) → In q rs → cmp q r ≡ Less) → maxima cmp (r ∷ rs) ≡ r ∷ maxima cmp rs
+  maxima-first r rs h = lists.at_true cmp o r rs (all_under r rs h)
+
+  -- and so is one that is greater than the greatest
   pub maxima-over : (r : R) (rs : List R) (h : R) (t : List R) → maxima cmp rs ≡ h ∷ t → cmp h r ≡ Less → maxima cmp (r ∷ rs) ≡ r ∷ maxima cmp rs
-  maxima-over r rs h t e l = lists.at_true cmp o r rs (all_under r rs (λ q i.
+  maxima-over r rs h t e l = maxima-first r rs (λ q i.
       let u = lists.top cmp o rs q i in
       let head = same_head u.0 h u.1 t (sym u.2 ∙ e) in
-      lists.past_left cmp o q h r (subst (λ x. cmp x q ≡ Less → ⊥) head u.3) l))
+      lists.past_left cmp o q h r (subst (λ x. cmp x q ≡ Less → ⊥) head u.3) l)
 
   -- an element that is smaller than the greatest one is none
   pub maxima-under : (r : R) (rs : List R) (h : R) (t : List R) → maxima cmp rs ≡ h ∷ t → cmp r h ≡ Less → maxima cmp (r ∷ rs) ≡ maxima cmp rs

@@ -3,6 +3,7 @@ pub mod Heads
 pub mod Order
 pub mod Prefixes
 pub mod Tops
+pub mod ChildHeads
 pub mod Chains
 pub mod Members
 pub mod Steps

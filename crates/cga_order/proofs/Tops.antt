@@ -11,6 +11,7 @@ use Rattle.cga_word.specs.declared.mode.Mode.{Mode}
 use Rattle.cga_word.specs.declared.mode.Mode.TheVariants.{Breadth, Depth}
 use Rattle.cga_order.specs.Rank.{Rank, rank_cmp}
 use Rattle.cga_order.specs.Chain.{Chain, IsWhole, rank_at, ranks_down, ranks}
+use Rattle.cga_order.specs.Head.{IsHead}
 use Rattle.cga_order.specs.Stamp.{maxima, stamps_cmp, stamp_cmp}
 use Rattle.cga_order.specs.Walk.{ranks_run, ranks_from, IsTop, IsWithin, tops_cmp}
 use Rattle.cga_order.proofs.Prefixes.{nat_cmp-less, slice_cmp-within}
@@ -168,6 +169,31 @@ IsTop-pred mode chain depth top h t =
 pub IsWithin-from_IsTop : (mode : Mode) (chain : Chain) (depth : ℕ) (top : Option ℕ) → IsTop mode chain depth top → IsWithin chain top
 IsWithin-from_IsTop mode chain depth None t = tt
 IsWithin-from_IsTop mode chain depth (Some top) t = t.1
+
+-- the head is the greatest from its own depth on
+IsTop-head : (mode : Mode) (chain : Chain) (head : ℕ) → IsHead chain.priorities head → IsTop mode chain head (Some head)
+IsTop-head mode chain head h = (
+  omega arith,
+  h.within,
+  maxima (rank_cmp mode) (ranks_from chain (head + 1)),
+  ap (maxima (rank_cmp mode)) (ranks_from-step chain head h.within) ∙ heads.maxima-first (rank_cmp mode) (rank_total mode) (rank_at chain head) (ranks_from chain (head + 1)) (λ q i.
+      let w = In-ranks_run mode chain (head + 1) (length chain.priorities - (head + 1)) q i in
+      let less = h.deepest w.0 (omega (arith, w.1)) (omega (arith, w.1, w.2)) in
+      subst (λ r. rank_cmp mode r (rank_at chain head) ≡ Less) (sym w.3) (rank_at-priority mode chain w.0 head less)),
+)
+
+-- and from each depth before it
+IsTop-above : (mode : Mode) (chain : Chain) (head n depth : ℕ) → depth + n ≡ head → IsWhole chain → IsHead chain.priorities head → IsTop mode chain depth (Some head)
+IsTop-above mode chain head zero depth e whole h =
+    let here : head ≡ depth = omega (arith, e) in
+    subst (λ d. IsTop mode chain d (Some head)) here (IsTop-head mode chain head h)
+IsTop-above mode chain head (suc n) depth e whole h =
+    let within : depth < length chain.priorities = omega (arith, e, h.within) in
+    IsTop-under mode chain depth head whole within (h.greatest depth within) (IsTop-above mode chain head n (depth + 1) (omega (arith, e)) whole h)
+
+-- the greatest rank of a chain stands at its head
+pub IsTop-from_IsHead : (mode : Mode) (chain : Chain) (head : ℕ) → IsWhole chain → IsHead chain.priorities head → IsTop mode chain 0 (Some head)
+IsTop-from_IsHead mode chain head = IsTop-above mode chain head head 0 (omega arith)
 
 -- where the greatest ranks differ, they decide
 pub order_from-decided : (mode : Mode) (a b : Chain) (left right : Option ℕ) → IsWhole a → IsWhole b → IsTop mode a 0 left → IsTop mode b 0 right → (tops_cmp mode a left b right ≡ Equal → ⊥) → tops_cmp mode a left b right ≡ stamp_cmp mode a b

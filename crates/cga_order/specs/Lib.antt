@@ -1,4 +1,5 @@
 pub mod Rank
+pub mod Head
 pub mod Chain
 pub mod Stamp
 pub mod Seen

@@ -1,10 +1,6 @@
-ghost use Rattle.std.specs.Prelude.{◌≡◌};
-ghost use Rattle.cga_order.specs.Chain.{IsWhole, rank};
-ghost use Rattle.cga_order.specs.Rank.{rank_cmp};
-ghost use Rattle.cga_order.specs.Seen.{chain_of};
+ghost use Rattle.cga_order.specs.Head.{IsHead};
 
-use cga_word::{Mode, Name};
-use std::cmp::Ordering;
+use cga_word::Name;
 
 /// Where a shape stands and the priorities on the way there: those of the symbols of its root and
 /// of each shape on the path, so one more than the path is long.
@@ -13,21 +9,8 @@ pub struct Chain<'a> {
     pub lot: Name,
     pub path: &'a [u16],
     pub priorities: &'a [u16],
-}
-
-/// Which of two waiting shapes is expanded first.
-pub fn cmp_rank(mode: Mode, a: &Chain, b: &Chain) -> Ordering
-    requires left { IsWhole (chain_of a.now) }
-    requires right { IsWhole (chain_of b.now) }
-    ensures { result ≡ rank_cmp mode (rank (chain_of a.now)) (rank (chain_of b.now)) }
-{
-    let depth = match mode {
-        Mode::Breadth => a.path.len().cmp(&b.path.len()),
-        Mode::Depth => Ordering::Equal,
-    };
-    let priority = a.priorities[a.path.len()].cmp(&b.priorities[b.path.len()]);
-    priority
-        .then(depth)
-        .then(a.lot.cmp(&b.lot))
-        .then(a.path.cmp(b.path))
+    /// At which depth its head stands, its greatest rank: the deepest that has the greatest of the
+    /// priorities. It is kept where a chain is, so that no comparison looks for it.
+    pub head: usize,
+    ghost headed: { IsHead priorities.now head },
 }

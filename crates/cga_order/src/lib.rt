@@ -8,12 +8,16 @@
 use cga_fraction::List;
 
 mod chain;
+mod head;
 pub mod laws;
 mod placed;
+mod rank;
 mod walk;
 
-pub use chain::{Chain, cmp_rank};
+pub use chain::Chain;
+pub use head::{child_head, head_of};
 pub use placed::{Kind, Placed};
+pub use rank::cmp_rank;
 pub use walk::cmp_stamp;
 
 /// The indices of the children on the way from a lot's root to a shape. A root's is empty.

@@ -20,15 +20,15 @@ struct Parting {
     common: usize,
 }
 
-/// The order of the stamps of two shapes. It takes time linear in the two paths, and no memory. Their
-/// heads, which are their greatest ranks, decide it unless they are one rank; only then both chains
-/// are walked.
+/// The order of the stamps of two shapes. Their heads, which are their greatest ranks, decide it unless
+/// they are one rank; only then both chains are walked, which takes time linear in the two paths. It
+/// takes no memory.
 pub fn cmp_stamp(mode: Mode, a: &Chain, b: &Chain) -> Ordering
     requires left { IsWhole (chain_of a.now) }
     requires right { IsWhole (chain_of b.now) }
     ensures { result ≡ stamp_cmp mode (chain_of a.now) (chain_of b.now) }
 {
-    match cmp_heads(mode, a, head(a), b, head(b)) {
+    match cmp_heads(mode, a, a.head, b, b.head) {
         Ordering::Equal => cmp_by_walk(mode, a, b),
         decided => decided,
     }
@@ -57,26 +57,6 @@ fn cmp_heads(mode: Mode, a: &Chain, i: usize, b: &Chain, j: usize) -> Ordering
         Ordering::Equal => a.lot.cmp(&b.lot).then(a.path[..i].cmp(&b.path[..j])),
         decided => decided,
     }
-}
-
-/// At which depth the greatest rank of a chain stands: the deepest that has the greatest priority.
-fn head(chain: &Chain) -> usize
-    requires { IsWhole (chain_of chain.now) }
-    ensures { (mode : Mode) → IsTop mode (chain_of chain.now) 0 (Some result) }
-{
-    let priorities = chain.priorities;
-    let mut depth = chain.path.len();
-    let mut head = depth;
-    let mut greatest = priorities[head];
-    while depth > 0 {
-        depth -= 1;
-        let priority = priorities[depth];
-        if priority > greatest {
-            head = depth;
-            greatest = priority;
-        }
-    }
-    head
 }
 
 /// The same by all ranks, from the deepest up.

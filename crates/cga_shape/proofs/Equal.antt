@@ -53,12 +53,12 @@ scope_sound a b h =
 shape_sound : (a : Shape) → Sound same_shape a
 shape_sound a b h =
     let t = second_so (pointwise nat_eq a.lot b.lot) _ h in
-    let u = second_so (pointwise nat_eq a.path b.path) _ t in
-    let v = second_so (pointwise nat_eq a.symbol b.symbol) _ u in
+    let u = second_so (pointwise nat_eq a.symbol b.symbol) _ t in
+    let v = second_so (pointwise nat_eq a.path b.path) _ u in
     let w = second_so (pointwise (fraction.ghosts).eq a.args b.args) _ v in
     let lot = (bytes_decides a.lot b.lot).0 (first_so (pointwise nat_eq a.lot b.lot) _ h) in
-    let path = (bytes_decides a.path b.path).0 (first_so (pointwise nat_eq a.path b.path) _ t) in
-    let symbol = (bytes_decides a.symbol b.symbol).0 (first_so (pointwise nat_eq a.symbol b.symbol) _ u) in
+    let symbol = (bytes_decides a.symbol b.symbol).0 (first_so (pointwise nat_eq a.symbol b.symbol) _ t) in
+    let path = (bytes_decides a.path b.path).0 (first_so (pointwise nat_eq a.path b.path) _ u) in
     let args = list_sound (fraction.ghosts).eq fraction_sound a.args b.args (first_so (pointwise (fraction.ghosts).eq a.args b.args) _ v) in
     let seed = eqb-true a.seed b.seed (second_so ((scope.ghosts).eq a.scope b.scope) _ w) in
     let scope = scope_sound a.scope b.scope (first_so ((scope.ghosts).eq a.scope b.scope) _ w) in

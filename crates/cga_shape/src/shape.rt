@@ -12,9 +12,10 @@ use std::alloc::Global;
 /// emitted it, and no arguments.
 #[derive(Debug, Drop, PartialEq, Eq)]
 pub struct Shape {
+    // The two names side by side take the least room.
     pub lot: Name,
-    pub path: Path,
     pub symbol: Name,
+    pub path: Path,
     pub args: List<Fraction>,
     pub scope: Scope,
     pub seed: u64,

@@ -56,7 +56,7 @@ redone_nowhere s history k e = ap (λ (h : Kept). redone h s.sources) (sym k) �
 pub changed_did : (s : State) (old new : Session) (history : Kept) (e : Edit) (before : Sources) (reply : List ℕ) (i j : ℕ) → IsAt s old → HasDistinctLots e → Accepts old e before new i j → reply ≡ ok_reply new.quiet
     → Did (changed s history (applied s e)) (record new { history = history }) reply i j
 changed_did s old new history e before reply i j at apart a r =
-    let done = a.done in
+    let done = a.done.1 in
     let city = new.city in
     let others = a.others in
     let can : CanBeLeft old.city.budget old.city.sources e = record { sound = a.sound; fits = a.fits; apart = apart } in
@@ -175,10 +175,10 @@ history_same old new e before i j a = ap (λ (x : Session). x.history) a.others
 pub accepted_ready : (old new : Session) (history : Kept) (e : Edit) (before : Sources) (i j : ℕ) → IsReady old → IsWritten e → Accepts old e before new i j
     → All AreWritten history.past → All AreWritten history.future → IsReady (record new { history = history })
 accepted_ready old new history e before i j ready written a past future = record {
-  warm = a.done.warm_then;
+  warm = a.done.1.warm_then;
   bill = a.bill;
-  few = subst (λ (b : ℕ). b ≤ BUDGET_TWO) (sym a.done.budget_stays) ready.few;
-  rules = applied_prints _ _ _ _ a.done.applied ready.rules written;
+  few = subst (λ (b : ℕ). b ≤ BUDGET_TWO) (sym a.done.1.budget_stays) ready.few;
+  rules = applied_prints _ _ _ _ a.done.1.applied ready.rules written;
   past = past;
   future = future;
   block = subst MayHaveRead (sym (ap (λ (x : Session). x.block) a.others)) ready.block;

@@ -30,6 +30,7 @@ fn work_edit<E: Ledger, T: Ledger>(
     match session.city.edit(edit, expansions, tests) {
         Ok(()) => {
             session.bill.apply(session.city.changes())?;
+            session.city.forget_changes();
             Ok(Ok(()))
         }
         Err(EditRefused::NoMemory) => Err(NoMemory),

@@ -4,6 +4,7 @@ use Rattle.std.specs.Prelude.{is_some, nat_eq, if◌then◌else◌}
 use Rattle.std.specs.List.{list_any}
 use Rattle.std.proofs.lemmas.Option.{slice_get_within}
 use lib.Pointwise.{bytes_decides}
+use Rattle.cga_frame.specs.Box.{Box, box_of, meets}
 use Rattle.cga_word.specs.declared.mode.Mode.{Mode}
 use Rattle.cga_word.specs.declared.answers.Answers.{Answers}
 use Rattle.cga_word.specs.declared.primitive.Primitive.{Primitive}
@@ -45,7 +46,7 @@ use Rattle.cga_update.specs.Begun.{StandsMarked}
 use Rattle.cga_update.specs.Edit.{asks_by, content, kept_nodes, meets_box, rules_of, shapes_of, the_edit}
 use Rattle.cga_update.specs.Log.{came_of, drawn_before, drawn_of, is_of, IsLogged, noted_all, StayAlike, went_of}
 use Rattle.cga_update.specs.Means.{ArePriced, told_ranked}
-use Rattle.cga_update.specs.Near.{KeepsPriorities}
+use Rattle.cga_update.specs.Near.{HasNear, KeepsPriorities}
 use Rattle.cga_update.specs.Plain.{IsPlain}
 use Rattle.cga_update.specs.Queue.{on_of}
 use Rattle.cga_update.specs.Roots.{Gains, HasLost, HasOldLots, IsRerooted, Loses}
@@ -132,6 +133,13 @@ module _ {old new : Sources} {first v : ForestView} {d : DependentsView} {went c
   came_on c x none at =
       start.agenda.moved.roots (moved_of c x) ((start.listed.each (moved_of c x)).1 (c, x, at, none, refl)) c x refl (at, ap is_instance (start.roots.came c x none at).waits)
 
+  -- who asks near is on the agenda: it came, or was there at the mark
+  near_on : (area : Box) → HasNear v area a → (c : ℕ) (x : Seen) → T c ≡ Some x → is_instance x.node.kind ≡ false → x.node.asks ≡ true → meets (box_of x.node.shape.scope) area ≡ true → on_of v a c ≡ true
+  near_on area near c x at inner asks meet = elim (was_there c x at (V c) refl) [
+    | inl none ↦ came_on c x none at
+    | inr vc ↦ near c x (at, inner) (ap is_some (start.roots.marked c ∙ vc)) asks meet
+  ]
+
   listed_under : (c : ℕ) (x : Seen) → V c ≡ Some x → is_instance x.node.kind ≡ false → Member (nodes_in d x.node.shape.symbol) c
   listed_under c x vc inner = member_of (nodes_in d x.node.shape.symbol) c
       (start.stands.dependents x.node.shape.symbol c
@@ -150,8 +158,8 @@ module _ {old new : Sources} {first v : ForestView} {d : DependentsView} {went c
   is_first : theory.IsFirstAgenda (shapes_of new) content (rules_of old) (rules_of new) (asks_by new.grammar) meets_box V T (on_of v a)
   is_first = record {
     came = came_on;
-    went = λ b c x y vb tb tc inner asks meet. start.agenda.moved.near_went (moved_of b x) ((start.roots.went.each (moved_of b x)).1 (b, x, vb, tb, refl)) c y (tc, inner) asks meet;
-    arrived = λ b c x y vb tb tc inner asks meet. start.agenda.moved.near_came (moved_of b x) ((start.listed.each (moved_of b x)).1 (b, x, tb, vb, refl)) c y (tc, inner) asks meet;
+    went = λ b c x y vb tb tc inner asks meet. near_on (box_of x.node.shape.scope) (start.agenda.moved.near_went (moved_of b x) ((start.roots.went.each (moved_of b x)).1 (b, x, vb, tb, refl))) c y tc inner asks meet;
+    arrived = λ b c x y vb tb tc inner asks meet. near_on (box_of x.node.shape.scope) (start.agenda.moved.near_came (moved_of b x) ((start.listed.each (moved_of b x)).1 (b, x, tb, vb, refl))) c y tc inner asks meet;
     changed = changed_on;
     priced = λ c p x e tc up te inner. elim (was_there c x tc (V c) refl) [
       | inl none ↦ none_some p (sym (start.roots.came c x none tc).top ∙ up)

@@ -10,7 +10,7 @@ use Rattle.cga_key.specs.Key.{chain_of_key}
 use Rattle.cga_forest.specs.Node.{chain_kept}
 use Rattle.cga_forest.specs.View.{Seen}
 use Rattle.cga_forest.specs.Tree.{ForestView, IsForest, node_at}
-use Rattle.cga_update.specs.Agenda.{AgendaView, Chains, Grows, IsLeast, IsPopped, IsPut, OneEach, SameOn, is_due, is_later}
+use Rattle.cga_update.specs.Agenda.{AgendaView, Chains, Grows, IsLeast, IsPopped, IsPut, OneEach, SameOn, is_due}
 use Rattle.cga_update.specs.Due.{ComesAfter, HasLater}
 use Rattle.cga_update.specs.Queue.{chains_of, due_chain, on_of}
 use Rattle.cga_update.proofs.OnIt.{due_from, grows_on, is_least, least_after, passed_over, put_grows, same_on}
@@ -111,22 +111,3 @@ module _ (v : ForestView) where
 
   pub all_later : (mode : Mode) (of : ℕ) (ids : List ℕ) (n : ℕ) (a : AgendaView) → length ids ≤ n → HasFirst mode of ids n a → HasLater v mode of ids a
   all_later mode of ids n a whole has j c e late = let w = within ids j c e in has j c (omega (arith, w, whole)) e late
-
-  later_some : (mode : Mode) (x y : Option Chain) → is_later mode x y ≡ true → IsSome y
-  later_some mode None y e = let z : false ≡ true = e in cc
-  later_some mode (Some x) None e = let z : false ≡ true = e in cc
-  later_some mode (Some x) (Some y) e = refl
-
-  -- the node that comes later was added
-  pub grew_later : (a b : AgendaView) (mode : Mode) (of id : ℕ) (late : Bool) → late ≡ is_later mode (D of) (D id) → late ≡ true → Grows D (λ c. c ≡ id) a b → Grows D (ComesAfter v mode of) a b
-  grew_later a b mode of id late is told g = record {
-    mode = g.mode;
-    kept = g.kept;
-    only = λ c h. elim (g.only c h) [
-      | inl x ↦ inl x
-      | inr e ↦ inr (subst (λ k. ComesAfter v mode of k) (sym e) (sym is ∙ told))
-    ];
-  }
-
-  pub later_here : (mode : Mode) (of id : ℕ) (late : Bool) → late ≡ is_later mode (D of) (D id) → late ≡ true → IsSome (D id)
-  later_here mode of id late is told = later_some mode (D of) (D id) (sym is ∙ told)

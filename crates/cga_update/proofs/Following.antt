@@ -46,7 +46,7 @@ module _ (v : ForestView) where
 
   -- who asks stays on the agenda when it grows
   pub askers_stay : (P : ℕ → Type 0) (mode : Mode) (of : ℕ) (area : Box) (a b : AgendaView) → Grows D P a b → HasAskers v mode of area a → HasAskers v mode of area b
-  askers_stay P mode of area a b g has c d here asks meet late = g.kept c (has c d here asks meet late)
+  askers_stay P mode of area a b g has c d here marked asks meet late = g.kept c (has c d here marked asks meet late)
 
   pub askers_mode : (was is : Mode) (of : ℕ) (area : Box) (a : AgendaView) → was ≡ is → HasAskers v was of area a → HasAskers v is of area a
   askers_mode was is of area a e has = subst (λ m. HasAskers v m of area a) e has
@@ -58,11 +58,11 @@ module _ (v : ForestView) where
   pub came_more : (first a b : AgendaView) (came : List Moved) (n : ℕ) (y : Moved) → slice_get came n ≡ Some y → Grows D (λ c. (m : Moved) × Among m came × (m.id ≡ c)) first a → Grows D (λ c. y.id ≡ c) a b → Grows D (λ c. (m : Moved) × Among m came × (m.id ≡ c)) first b
   came_more first a b came n y at g h = grows_on D (λ c. (m : Moved) × Among m came × (m.id ≡ c)) first a b g (grows_by D (λ c. y.id ≡ c) (λ c. (m : Moved) × Among m came × (m.id ≡ c)) a b (λ c e. (y, at_among came n y at, e)) h)
 
-  pub followed : (of : ℕ) (change : Change) (due : Bool) (a b d e : AgendaView) → Grows D (IsComer change) a b → ((m : Moved) → Among m change.came → IsSome (D m.id) → on_of v b m.id ≡ true)
+  pub followed : (of : ℕ) (change : Change) (all_came : Bool) (a b d e : AgendaView) → Grows D (IsComer change) a b → ((m : Moved) → Among m change.came → IsSome (D m.id) → on_of v b m.id ≡ true)
       → Grows D (ComesAfter v b.mode of) b d → ((m : Moved) → Among m change.went → HasAskers v b.mode of (box_of m.scope) d)
       → Grows D (ComesAfter v d.mode of) d e → ((m : Moved) → Among m change.came → HasAskers v d.mode of (box_of m.scope) e)
-      → IsFollowed v of change due a e
-  followed of change due a b d e came there went met come seen =
+      → IsFollowed v of change all_came a e
+  followed of change all_came a b d e came there went met come seen =
       let second : d.mode ≡ a.mode = went.mode ∙ came.mode in
       let more = grows_mode b.mode a.mode of b d came.mode went in
       let last = grows_mode d.mode a.mode of d e second come in
@@ -81,21 +81,21 @@ module _ (v : ForestView) where
         ];
       }
 
-  pub followed_by : (of : ℕ) (change : Change) (due : Bool) (first second third : List Moved) (a b d e : AgendaView) → first ≡ change.came → second ≡ change.went → third ≡ change.came
+  pub followed_by : (of : ℕ) (change : Change) (all_came : Bool) (first second third : List Moved) (a b d e : AgendaView) → first ≡ change.came → second ≡ change.went → third ≡ change.came
       → Grows D (λ c. (m : Moved) × Among m first × (m.id ≡ c)) a b → ((m : Moved) → Among m first → IsSome (D m.id) → on_of v b m.id ≡ true)
       → Grows D (ComesAfter v b.mode of) b d → ((m : Moved) → Among m second → HasAskers v b.mode of (box_of m.scope) d)
       → Grows D (ComesAfter v d.mode of) d e → ((m : Moved) → Among m third → HasAskers v d.mode of (box_of m.scope) e)
-      → IsFollowed v of change due a e
-  followed_by of change due first second third a b d e one two three came there went met come seen =
-      followed of change due a b d e (subst (λ l. Grows D (λ c. (m : Moved) × Among m l × (m.id ≡ c)) a b) one came) (subst (λ l. (m : Moved) → Among m l → IsSome (D m.id) → on_of v b m.id ≡ true) one there)
+      → IsFollowed v of change all_came a e
+  followed_by of change all_came first second third a b d e one two three came there went met come seen =
+      followed of change all_came a b d e (subst (λ l. Grows D (λ c. (m : Moved) × Among m l × (m.id ≡ c)) a b) one came) (subst (λ l. (m : Moved) → Among m l → IsSome (D m.id) → on_of v b m.id ≡ true) one there)
       went (subst (λ l. (m : Moved) → Among m l → HasAskers v b.mode of (box_of m.scope) d) two met)
       come (subst (λ l. (m : Moved) → Among m l → HasAskers v d.mode of (box_of m.scope) e) three seen)
 
-  -- where the askers are due anyway, only what came is added
-  pub followed_due : (of : ℕ) (change : Change) (first : List Moved) (due : Bool) (a b : AgendaView) → first ≡ change.came → due ≡ true
+  -- where all nodes came, only what came is added
+  pub followed_due : (of : ℕ) (change : Change) (first : List Moved) (all_came : Bool) (a b : AgendaView) → first ≡ change.came → all_came ≡ true
       → Grows D (λ c. (m : Moved) × Among m first × (m.id ≡ c)) a b → ((m : Moved) → Among m first → IsSome (D m.id) → on_of v b m.id ≡ true)
-      → IsFollowed v of change due a b
-  followed_due of change first due a b same is came there = record {
+      → IsFollowed v of change all_came a b
+  followed_due of change first all_came a b same is came there = record {
     mode = came.mode;
     kept = came.kept;
     came = subst (λ l. (m : Moved) → Among m l → IsSome (D m.id) → on_of v b m.id ≡ true) same there;

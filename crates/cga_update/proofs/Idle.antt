@@ -43,7 +43,8 @@ module _ (was : Work) (rest : AgendaView) (edit : TheEdit) (s : TheState) (means
       asking = λ c d t solid. elim (means.underway.asking c d t solid) [ inl q ↦ inl (same.there c q) | inr r ↦ inr r ];
     };
     queued = λ c d t. (λ q. same.there c ((means.queued c d t).0 q), λ q. (means.queued c d t).1 (same.back c q));
-    due = λ is b c x d there on here asks less. same.there c (means.due is b c x d there (same.back b on) here asks less);
+    due = λ b c x d there on here came solid less. same.there c (means.due b c x d there (same.back b on) here came solid less);
+    all_came = means.all_came;
     priced = means.priced;
     silent = means.silent;
     plain = means.plain;

@@ -1,6 +1,6 @@
 -- The agenda after a turn, in the words of the theory: what was on it and stays, what came, and who meets what changed.
 use Rattle.std.proofs.Common.{◌≡◌, ℕ, List, refl, sym, ap, ◌∙◌, subst, inl, inr, Some, None, Bool, true, false}
-use Rattle.std.specs.Prelude.{IsSome, if◌then◌else◌}
+use Rattle.std.specs.Prelude.{IsSome, is_some, if◌then◌else◌}
 use Rattle.std.specs.declared.cmp.Ordering.TheVariants.{Less, Equal, Greater}
 use Rattle.std.specs.declared.cmp.Ordering.{Ordering}
 use Rattle.std.specs.Ordering.{is_lt}
@@ -16,14 +16,14 @@ use Rattle.cga_forest.specs.declared.node.Node.{Node}
 use Rattle.cga_forest.specs.Moved.{ListsMoved, moved_of}
 use Rattle.cga_forest.specs.Node.{bounds, chain_kept, fits}
 use Rattle.cga_forest.specs.View.{Seen}
-use Rattle.cga_forest.specs.Tree.{ForestView, node_at}
+use Rattle.cga_forest.specs.Tree.{ForestView, marked_at, node_at}
 use Rattle.cga_rework.specs.Agenda.{IsMoved}
 use Rattle.cga_update.specs.Agenda.{AgendaView, is_later}
-use Rattle.cga_update.specs.Due.{AskersAreDue, ComesAfter, HasAskers}
+use Rattle.cga_update.specs.Due.{AllCame, ComersAreDue, ComesAfter, HasAskers}
 use Rattle.cga_update.specs.Edit.{content, meets_box, shapes_of}
 use Rattle.cga_update.specs.Follow.{IsComer, IsFollowed}
 use Rattle.cga_update.specs.Queue.{chains_of, due_chain, on_of}
-use Rattle.cga_update.proofs.Cases.{bool_cases, is_false, option_cases}
+use Rattle.cga_update.proofs.Cases.{bool_cases, option_cases}
 use Rattle.cga_update.proofs.DueNodes.{due_is, due_of}
 use Rattle.cga_update.proofs.Moves.{chain_at, not_itself, some_one}
 use Rattle.cga_update.proofs.OnIt.{on_from, on_to}
@@ -66,9 +66,9 @@ module _ (v w : ForestView) (new : Sources) (id : ℕ) (news : List Node) (e now
       kept_same true f r = let z : None ≡ Some d = sym (r ∙ ap (λ h. if h then None else Some x) f) ∙ b in cc
       kept_same false f r = some_one (node_at w c) x d (r ∙ ap (λ h. if h then None else Some x) f) b
 
-  -- due: whether each later node that asks is on the agenda before
-  module _ (was after : AgendaView) (mode : was.mode ≡ new.mode) (change : Change) (went : ListsMoved (node_at v) (node_at w) change.went) (came : ListsMoved (node_at w) (node_at v) change.came) (due : Bool) (followed : IsFollowed w id change due was after)
-      (spared : due ≡ true → (c : ℕ) (d : Seen) → node_at v c ≡ Some d → d.node.asks ≡ true → IsAfter d → on_of v was c ≡ true) where
+  -- comers: what came since the mark and comes later is on the agenda before
+  module _ (was after : AgendaView) (mode : was.mode ≡ new.mode) (change : Change) (went : ListsMoved (node_at v) (node_at w) change.went) (came : ListsMoved (node_at w) (node_at v) change.came) (all_came : Bool) (followed : IsFollowed w id change all_came was after)
+      (comers : (c : ℕ) (d : Seen) → node_at v c ≡ Some d → marked_at w c ≡ None → is_instance d.node.kind ≡ false → IsAfter d → on_of v was c ≡ true) (all : all_came ≡ true → AllCame w) where
     later_in : (c : ℕ) (d : Seen) → node_at w c ≡ Some d → is_instance d.node.kind ≡ false → stamp_cmp new.mode (chain_kept e.node) (chain_kept d.node) ≡ Less → ComesAfter w was.mode id c
     later_in c d here solid less =
         (λ i. is_later (mode i) (due_is (node_at w id) now replaced.is still i) (due_is (node_at w c) d here solid i)) ∙ ap (λ y. is_lt (stamp_cmp new.mode y (chain_kept d.node))) chain ∙ ap is_lt less
@@ -83,21 +83,24 @@ module _ (v w : ForestView) (new : Sources) (id : ℕ) (news : List Node) (e now
     came_on : (c : ℕ) (d : Seen) → node_at v c ≡ None → node_at w c ≡ Some d → is_instance d.node.kind ≡ false → on_of w after c ≡ true
     came_on c d none here solid = followed.came (moved_of c d) ((came.each (moved_of c d)).1 (c, d, here, none, refl)) (subst IsSome (sym (due_is (node_at w c) d here solid)) refl)
 
-    -- then it is there after, too
-    still_later : due ≡ true → (c : ℕ) (d : Seen) → node_at w c ≡ Some d → is_instance d.node.kind ≡ false → d.node.asks ≡ true → IsAfter d → on_of w after c ≡ true
-    still_later is c d here solid asks less = elim (option_cases (node_at v c)) [
+    -- so it is on it after, as is what comes now
+    comer_on : (c : ℕ) (d : Seen) → node_at w c ≡ Some d → marked_at w c ≡ None → is_instance d.node.kind ≡ false → IsAfter d → on_of w after c ≡ true
+    comer_on c d here unmarked solid less = elim (option_cases (node_at v c)) [
       | inl none ↦ came_on c d none here solid
       | inr p ↦
           let there : node_at v c ≡ Some d = p.1 ∙ ap Some (same_later c p.0 d p.1 here less) in
-          followed.kept c (still_on was c d d there here (spared is c d there asks less))
+          followed.kept c (still_on was c d d there here (comers c d there unmarked solid less))
     ]
 
-    -- who asks and meets the box of one of the moved is on the agenda
-    seen_by : (b : Box) → (due ≡ false → HasAskers w was.mode id b after) → (c : ℕ) (d : Seen) → node_at w c ≡ Some d → is_instance d.node.kind ≡ false → d.node.asks ≡ true → meets (box_of d.node.shape.scope) b ≡ true → stamp_cmp new.mode (chain_kept e.node) (chain_kept d.node) ≡ Less → on_of w after c ≡ true
+    -- who asks and meets the box of one of the moved is on the agenda: it came, or was there at the mark
+    seen_by : (b : Box) → (all_came ≡ false → HasAskers w was.mode id b after) → (c : ℕ) (d : Seen) → node_at w c ≡ Some d → is_instance d.node.kind ≡ false → d.node.asks ≡ true → meets (box_of d.node.shape.scope) b ≡ true → stamp_cmp new.mode (chain_kept e.node) (chain_kept d.node) ≡ Less → on_of w after c ≡ true
     unfolding bounds
-    seen_by b has c d here solid asks meet less = elim (bool_cases due) [
-      | inl is ↦ still_later is c d here solid asks less
-      | inr not ↦ has not c d here asks meet (later_in c d here solid less)
+    seen_by b has c d here solid asks meet less = elim (option_cases (marked_at w c)) [
+      | inl unmarked ↦ comer_on c d here unmarked solid less
+      | inr p ↦ elim (bool_cases all_came) [
+        | inl is ↦ (let z : None ≡ Some p.0 = sym (all is c d here) ∙ p.1 in absurd (cc))
+        | inr not ↦ has not c d here (ap is_some p.1) asks meet (later_in c d here solid less)
+      ]
     ]
 
     was_on : (a : AgendaView) (c : ℕ) (x d : Seen) → node_at v c ≡ Some x → node_at w c ≡ Some d → on_of w a c ≡ true → on_of v a c ≡ true
@@ -141,9 +144,7 @@ module _ (v w : ForestView) (new : Sources) (id : ℕ) (news : List Node) (e now
       | inr r ↦ elim r [ inl none ↦ born c d none here | inr less ↦ less ]
     ]
 
-    -- so the askers are due after, too
-    pub still_due : ((c : ℕ) (d : Seen) → node_at v c ≡ None → node_at w c ≡ Some d → IsAfter d) → ((c : ℕ) (x : Seen) → node_at v c ≡ Some x → on_of v was c ≡ true → IsAfter x)
-        → ((c : ℕ) (d : Seen) → node_at w c ≡ Some d → is_instance d.node.kind ≡ true → d.node.asks ≡ false) → due ≡ true → AskersAreDue new.mode w after
-    still_due born left silent is b c y d there on here asks less =
-        still_later is c d here (is_false (is_instance d.node.kind) (λ drawn. let z : false ≡ true = sym (silent c d here drawn) ∙ asks in cc)) asks
-        ((stamp_total new.mode).trans (chain_kept e.node) (chain_kept y.node) (chain_kept d.node) (all_after born left b y there on) less)
+    -- so what came is due after, too
+    pub still_due : ((c : ℕ) (d : Seen) → node_at v c ≡ None → node_at w c ≡ Some d → IsAfter d) → ((c : ℕ) (x : Seen) → node_at v c ≡ Some x → on_of v was c ≡ true → IsAfter x) → ComersAreDue new.mode w after
+    still_due born left b c y d there on here unmarked solid less =
+        comer_on c d here unmarked solid ((stamp_total new.mode).trans (chain_kept e.node) (chain_kept y.node) (chain_kept d.node) (all_after born left b y there on) less)

@@ -1,5 +1,5 @@
 -- What a turn takes off the agenda and puts on it, in the words of the theory.
-use Rattle.std.proofs.Common.{◌≡◌, ℕ, sym, ap, ◌∙◌, subst, inl, inr, Option, Some, true, false}
+use Rattle.std.proofs.Common.{◌≡◌, ℕ, sym, ap, ◌∙◌, subst, inl, inr, Option, Some, None, true, false}
 use Rattle.std.specs.declared.cmp.Ordering.TheVariants.{Less, Equal}
 use Rattle.std.proofs.lemmas.Cmp.{tied_itself}
 use Rattle.cga_order.specs.Chain.{Chain}
@@ -9,10 +9,10 @@ use Rattle.cga_order.proofs.Order.{stamp_total}
 use Rattle.cga_shape.specs.declared.sources.Sources.{Sources}
 use Rattle.cga_forest.specs.Node.{chain_kept}
 use Rattle.cga_forest.specs.View.{Seen}
-use Rattle.cga_forest.specs.Tree.{ForestView, node_at}
+use Rattle.cga_forest.specs.Tree.{ForestView, marked_at, node_at}
 use Rattle.cga_rework.specs.Agenda.{IsTaken}
 use Rattle.cga_update.specs.Agenda.{AgendaView, IsLeast}
-use Rattle.cga_update.specs.Due.{AskersAreDue}
+use Rattle.cga_update.specs.Due.{ComersAreDue}
 use Rattle.cga_update.specs.Edit.{content, shapes_of}
 use Rattle.cga_update.specs.Queue.{chains_of, on_of}
 use Rattle.cga_update.proofs.DueNodes.{due_is, due_of}
@@ -61,10 +61,10 @@ taken_at v new old rest id x e mode least here =
     let z = is_taken v new old rest id x mode least in
     subst (λ (d : Seen). (is_instance d.node.kind ≡ false) × IsTaken (shapes_of new) content (node_at v) id d (on_of v old) (on_of v rest)) (some_one (node_at v id) z.0 e z.2.here here) (z.1, z.2)
 
--- where the askers are due, those later than the node stay on the agenda when it is taken
-pub spared : (v : ForestView) (new : Sources) (old rest : AgendaView) (id : ℕ) (x : Chain) (e : Seen) → IsLeast (chains_of v) old rest id x → node_at v id ≡ Some e → AskersAreDue new.mode v old
-    → (c : ℕ) (d : Seen) → node_at v c ≡ Some d → d.node.asks ≡ true → stamp_cmp new.mode (chain_kept e.node) (chain_kept d.node) ≡ Less → on_of v rest c ≡ true
-spared v new old rest id x e least at due c d here asks less = elim (least.stay c (due id c e d at least.there here asks less)) [
+-- what came since the mark and comes later than the node stays on the agenda when that is taken
+pub comers_stay : (v : ForestView) (new : Sources) (old rest : AgendaView) (id : ℕ) (x : Chain) (e : Seen) → IsLeast (chains_of v) old rest id x → node_at v id ≡ Some e → ComersAreDue new.mode v old
+    → (c : ℕ) (d : Seen) → node_at v c ≡ Some d → marked_at v c ≡ None → is_instance d.node.kind ≡ false → stamp_cmp new.mode (chain_kept e.node) (chain_kept d.node) ≡ Less → on_of v rest c ≡ true
+comers_stay v new old rest id x e least at due c d here came solid less = elim (least.stay c (due id c e d at least.there here came solid less)) [
   | inl same ↦ absurd (not_itself (chain_kept e.node) new (subst (λ (y : Seen). stamp_cmp new.mode (chain_kept e.node) (chain_kept y.node) ≡ Less) (some_one (node_at v c) d e here (ap (node_at v) same ∙ at)) less))
   | inr on ↦ on
 ]

@@ -1,6 +1,6 @@
 -- Who asks near boxes, piece by piece.
 use Rattle.std.proofs.Common.{◌≡◌, ◌⊎◌, inl, inr, ℕ, zero, suc, ◌+◌, ◌<◌, ◌≤◌, List, [], ◌∷◌, ◌++◌, length, take, drop, true, false, refl, sym, ap, subst, ◌∙◌, Some, arith}
-use Rattle.std.specs.Prelude.{slice_get}
+use Rattle.std.specs.Prelude.{IsSome, is_some, slice_get}
 use Rattle.std.specs.List.{list_any}
 use Rattle.std.proofs.lemmas.List.{append_assoc, append-nil, take-append-drop}
 use Rattle.std.proofs.lemmas.Option.{slice_get_within}
@@ -15,14 +15,15 @@ use Rattle.cga_forest.specs.declared.moved.Moved.{Moved}
 use Rattle.cga_forest.specs.declared.node.Node.{Node}
 use Rattle.cga_forest.specs.Node.{bounds}
 use Rattle.cga_forest.specs.View.{Seen}
-use Rattle.cga_forest.specs.Tree.{ForestView, IsForest, node_at}
-use Rattle.cga_forest.specs.Walked.{asks_of, forest_tree, own_of}
-use Rattle.cga_forest.proofs.Laws.{inside, there}
+use Rattle.cga_forest.specs.Tree.{ForestView, IsForest, marked_at, node_at}
+use Rattle.cga_forest.specs.Walked.{asks_of, lasting_tree, own_of}
+use Rattle.cga_forest.proofs.Laws.{in_forest, in_lasting, inside, there}
 use Rattle.cga_update.specs.Agenda.{AgendaView}
 use Rattle.cga_update.specs.Around.{IsAround}
 use Rattle.cga_update.specs.Askers.{AddsThese, AsksNear, AsksWithin, ListsNear, boxes_of}
 use Rattle.cga_update.specs.Due.{HasAskers, HasLater}
 use Rattle.cga_update.specs.Near.{HasNear, HasThese}
+use Rattle.cga_update.proofs.Cases.{and_both, and_left, and_right}
 use Rattle.cga_update.proofs.Members.{among_at, among_either, among_left, among_right, any_from, any_to, member_at, member_either}
 use Rattle.cga_update.proofs.Nearby.{First, at_or_below, first_cases}
 
@@ -75,7 +76,7 @@ at_member [] j n e = absurd (none_some n e)
 at_member (x ∷ xs) zero n e = inl (some_same x n e)
 at_member (x ∷ xs) (suc j) n e = inr (at_member xs j n e)
 
-pub in_walk : (v : ForestView) (around : Box) (list lent : List ℕ) (n id : ℕ) → lent ≡ list → ListsAskers (forest_tree v) around list → slice_get lent n ≡ Some id → InTree (forest_tree v) id
+pub in_walk : (v : ForestView) (around : Box) (list lent : List ℕ) (n id : ℕ) → lent ≡ list → ListsAskers (lasting_tree v) around list → slice_get lent n ≡ Some id → InTree (lasting_tree v) id
 in_walk v around list lent n id same lists at = (lists.only id (subst (λ l. Member l id) same (at_member lent n id at))).0
 
 -- ---- the filter: of the nodes that a walk found, those whose box meets one of the areas
@@ -109,25 +110,27 @@ module _ (v : ForestView) (areas : List Box) where
       ])
       adds
 
-  asker_within : (around : Box) (ids : List ℕ) → IsForest v → ListsAskers (forest_tree v) around ids → (id : ℕ) → Member ids id → IsNear id → AsksWithin v around areas id
+  asker_within : (around : Box) (ids : List ℕ) → IsForest v → ListsAskers (lasting_tree v) around ids → (id : ℕ) → Member ids id → IsNear id → AsksWithin v around areas id
   asker_within around ids f lists id m near =
       let o = lists.only id m in
-      let d = there v f id o.0 in
+      let d = there v f id (in_forest v id o.0) in
+      let marked = and_left (is_some (marked_at v id)) (asks_of (node_at v id)) o.1 in
+      let asks = and_right (is_some (marked_at v id)) (asks_of (node_at v id)) o.1 in
       let n = any_from (meets (own_of (node_at v id))) areas near in (
-        record { seen = d.0; there = d.1; asks = sym (ap asks_of d.1) ∙ o.1; area = n.0; among = n.1; near = sym (ap (λ k. meets (own_of k) n.0) d.1) ∙ n.2 },
+        record { seen = d.0; there = d.1; marked = marked; asks = sym (ap asks_of d.1) ∙ asks; area = n.0; among = n.1; near = sym (ap (λ k. meets (own_of k) n.0) d.1) ∙ n.2 },
         sym (ap (λ k. meets (own_of k) around) d.1) ∙ o.2,
       )
 
-  within_listed : (around : Box) (ids : List ℕ) → IsForest v → ListsAskers (forest_tree v) around ids → (id : ℕ) → AsksWithin v around areas id → Member ids id × IsNear id
+  within_listed : (around : Box) (ids : List ℕ) → IsForest v → ListsAskers (lasting_tree v) around ids → (id : ℕ) → AsksWithin v around areas id → Member ids id × IsNear id
   within_listed around ids f lists id w =
       let k = w.0 in (
-        lists.all id (inside v f id (k.seen, k.there)) (ap asks_of k.there ∙ k.asks) (ap (λ o. meets (own_of o) around) k.there ∙ w.1),
+        lists.all id (in_lasting v id (inside v f id (k.seen, k.there))) (and_both (is_some (marked_at v id)) (asks_of (node_at v id)) k.marked (ap asks_of k.there ∙ k.asks)) (ap (λ o. meets (own_of o) around) k.there ∙ w.1),
         any_to (meets (own_of (node_at v id))) areas k.area k.among (ap (λ o. meets (own_of o) k.area) k.there ∙ k.near),
       )
 
-  pub all_within : (around : Box) (ids lent : List ℕ) (n : ℕ) (a b : List ℕ) → IsForest v → lent ≡ ids → ListsAskers (forest_tree v) around ids → length lent ≤ n → AddsThese (NearFirst lent n) a b → AddsThese (AsksWithin v around areas) a b
+  pub all_within : (around : Box) (ids lent : List ℕ) (n : ℕ) (a b : List ℕ) → IsForest v → lent ≡ ids → ListsAskers (lasting_tree v) around ids → length lent ≤ n → AddsThese (NearFirst lent n) a b → AddsThese (AsksWithin v around areas) a b
   all_within around ids lent n a b f same lists le adds =
-      let listed = subst (ListsAskers (forest_tree v) around) (sym same) lists in
+      let listed = subst (ListsAskers (lasting_tree v) around) (sym same) lists in
       adds_like (NearFirst lent n) (AsksWithin v around areas) a b
       (λ id h. asker_within around lent f listed id (let f = h.0 in at_member lent f.0 id f.2) h.1)
       (λ id w. let z = within_listed around lent f listed id w in let m = member_at lent id z.0 in let in_list = slice_get_within lent m.0 id m.1 in ((m.0, omega (arith, in_list, le), m.1), z.1))
@@ -175,12 +178,12 @@ cut xs n front back e f = ap (λ l. l ++ back) e ∙ (ap (λ l. take n xs ++ l) 
 
 module _ (v : ForestView) where
   near_more : (xs ys : List Box) → ((b : Box) → Among b xs → Among b ys) → (id : ℕ) → AsksNear v xs id → AsksNear v ys id
-  near_more xs ys more id k = record { seen = k.seen; there = k.there; asks = k.asks; area = k.area; among = more k.area k.among; near = k.near }
+  near_more xs ys more id k = record { seen = k.seen; there = k.there; marked = k.marked; asks = k.asks; area = k.area; among = more k.area k.among; near = k.near }
 
   near_either : (xs ys : List Box) (id : ℕ) → AsksNear v (xs ++ ys) id → AsksNear v xs id ⊎ AsksNear v ys id
   near_either xs ys id k = elim (among_either xs ys k.area k.among) [
-    | inl one ↦ inl (record { seen = k.seen; there = k.there; asks = k.asks; area = k.area; among = one; near = k.near })
-    | inr two ↦ inr (record { seen = k.seen; there = k.there; asks = k.asks; area = k.area; among = two; near = k.near })
+    | inl one ↦ inl (record { seen = k.seen; there = k.there; marked = k.marked; asks = k.asks; area = k.area; among = one; near = k.near })
+    | inr two ↦ inr (record { seen = k.seen; there = k.there; marked = k.marked; asks = k.asks; area = k.area; among = two; near = k.near })
   ]
 
   joined : (xs ys : List Box) (a b c : List ℕ) → AddsThese (AsksNear v xs) a b → AddsThese (AsksNear v ys) b c → AddsThese (AsksNear v (xs ++ ys)) a c
@@ -220,12 +223,12 @@ box_among (x ∷ xs) m (inl e) = inl (ap (λ (k : Moved). box_of k.scope) e)
 box_among (x ∷ xs) m (inr h) = inr (box_among xs m h)
 
 module _ (v : ForestView) (moved : List Moved) (list lent : List ℕ) (same : lent ≡ list) (lists : ListsNear v (boxes_of moved) list) where
-  asker_in : (m : Moved) → Among m moved → (id : ℕ) (d : Seen) → node_at v id ≡ Some d → d.node.asks ≡ true → meets (bounds d.node) (box_of m.scope) ≡ true → Member lent id
-  asker_in m h id d at asks near = subst (λ l. Member l id) (sym same) (lists.all id (record { seen = d; there = at; asks = asks; area = box_of m.scope; among = box_among moved m h; near = near }))
+  asker_in : (m : Moved) → Among m moved → (id : ℕ) (d : Seen) → node_at v id ≡ Some d → IsSome (marked_at v id) → d.node.asks ≡ true → meets (bounds d.node) (box_of m.scope) ≡ true → Member lent id
+  asker_in m h id d at marked asks near = subst (λ l. Member l id) (sym same) (lists.all id (record { seen = d; there = at; marked = marked; asks = asks; area = box_of m.scope; among = box_among moved m h; near = near }))
 
   pub has_later : (mode : Mode) (of : ℕ) (a : AgendaView) → HasLater v mode of lent a → (m : Moved) → Among m moved → HasAskers v mode of (box_of m.scope) a
-  has_later mode of a has m h id d at asks near late = let z = member_at lent id (asker_in m h id d at asks near) in has z.0 id z.1 late
+  has_later mode of a has m h id d at marked asks near late = let z = member_at lent id (asker_in m h id d at marked asks near) in has z.0 id z.1 late
 
   pub has_near : (a : AgendaView) → HasThese v (λ id. Member lent id) a → (m : Moved) → Among m moved → HasNear v (box_of m.scope) a
   unfolding bounds
-  has_near a has m h id d w asks near = has id d (asker_in m h id d w.0 asks near) w
+  has_near a has m h id d w marked asks near = has id d (asker_in m h id d w.0 marked asks near) w

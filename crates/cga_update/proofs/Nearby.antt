@@ -1,12 +1,12 @@
 -- Nodes that are put on the agenda, whatever their stamps.
-use Rattle.std.proofs.Common.{◌≡◌, ◌⊎◌, inl, inr, ℕ, ◌+◌, ◌<◌, ◌≤◌, List, length, true, refl, sym, ap, ◌∙◌, subst, Some, None, arith}
+use Rattle.std.proofs.Common.{◌≡◌, ◌⊎◌, inl, inr, ℕ, ◌+◌, ◌<◌, ◌≤◌, List, length, true, refl, sym, ap, ◌∙◌, subst, Some, arith}
 use Rattle.std.specs.Prelude.{IsSome, slice_get}
 use Rattle.std.proofs.lemmas.Option.{slice_get_within}
 use Rattle.cga_frame.specs.Box.{Box, box_of}
 use Rattle.cga_index.specs.Tree.{Member}
-use Rattle.cga_derivation.proofs.Lists.{some_same, none_some}
+use Rattle.cga_derivation.proofs.Lists.{some_same}
 use Rattle.cga_forest.specs.declared.moved.Moved.{Moved}
-use Rattle.cga_forest.specs.Tree.{ForestView, above, node_at}
+use Rattle.cga_forest.specs.Tree.{ForestView, node_at}
 use Rattle.cga_update.specs.Agenda.{AgendaView, Grows}
 use Rattle.cga_update.specs.Begun.{HasMoved}
 use Rattle.cga_update.specs.Near.{HasNear, HasParents, HasThese, KeepsOn}
@@ -64,21 +64,10 @@ pub parents_end : (v : ForestView) (ids : List ℕ) (n : ℕ) (a : AgendaView) �
 parents_end v ids n a le first c p d e h was up w = let x = member_at ids c h in let z = slice_get_within ids x.0 c x.1 in first c p d e (x.0, omega (arith, z, le), x.1) was up w
 
 pub near_kept : (v : ForestView) (a b : AgendaView) → KeepsOn v a b → (area : Box) → HasNear v area a → HasNear v area b
-near_kept v a b kept area near c d w asks meet = kept.on c (near c d w asks meet)
+near_kept v a b kept area near c d w marked asks meet = kept.on c (near c d w marked asks meet)
 
 pub these_kept : (v : ForestView) (a b : AgendaView) → KeepsOn v a b → (These : ℕ → Type 0) → HasThese v These a → HasThese v These b
 these_kept v a b kept These these c d h w = kept.on c (these c d h w)
-
--- the parent of a node, where it has one
-pub parent_on : (v : ForestView) (id p : ℕ) (a : AgendaView) → above (node_at v id) ≡ Some p → HasThese v (λ c. c ≡ p) a → HasParents v (λ c. c ≡ id) a
-parent_on v id p a is these c q d e same was up w =
-    let x : Some q ≡ Some p = sym up ∙ (ap above (sym was ∙ ap (node_at v) same) ∙ is) in these q e (some_same q p x) w
-
-pub no_parent : (v : ForestView) (id : ℕ) (a : AgendaView) → above (node_at v id) ≡ None → HasParents v (λ c. c ≡ id) a
-no_parent v id a is c q d e same was up w = none_some q (sym is ∙ (ap above (ap (node_at v) (sym same) ∙ was) ∙ up))
-
-pub no_node : (v : ForestView) (id : ℕ) (a : AgendaView) → node_at v id ≡ None → HasParents v (λ c. c ≡ id) a
-no_node v id a is c q d e same was up w = none_some d (sym is ∙ (ap (node_at v) (sym same) ∙ was))
 
 pub parents_kept : (v : ForestView) (a b : AgendaView) → KeepsOn v a b → (These : ℕ → Type 0) → HasParents v These a → HasParents v These b
 parents_kept v a b kept These these c p d e h was up w = kept.on p (these c p d e h was up w)

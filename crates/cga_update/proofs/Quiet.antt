@@ -29,7 +29,7 @@ use Rattle.cga_update.specs.Queue.{chains_of, on_of}
 use Rattle.cga_update.specs.Turned.{IsQuiet}
 use Rattle.cga_update.proofs.Edits.{by_symbol, is_rules_edit}
 use Rattle.cga_update.proofs.Idle.{TheEdit, TheState}
-use Rattle.cga_update.proofs.Moves.{spared, taken_at}
+use Rattle.cga_update.proofs.Moves.{comers_stay, taken_at}
 use Rattle.cga_update.proofs.Nodes.{kept_bound}
 
 module _ (was now : Work) (rest : AgendaView) (id : ℕ) (x : Chain) (edit : TheEdit) (s : TheState) (means : Means was edit s) (least : IsLeast (chains_of was.forest) was.agenda rest id x) where
@@ -91,7 +91,8 @@ module _ (was now : Work) (rest : AgendaView) (id : ℕ) (x : Chain) (edit : The
       nodes = refl;
       underway = result.0;
       queued = result.1.1;
-      due = λ is b c y d there on here asks less. spared was.forest new was.agenda rest id x e least turn.here (means.due is) c d here asks ((stamp_total new.mode).trans (chain_kept e.node) (chain_kept y.node) (chain_kept d.node) (taken.1.left b y there on).2 less);
+      due = λ b c y d there on here came solid less. comers_stay was.forest new was.agenda rest id x e least turn.here means.due c d here came solid ((stamp_total new.mode).trans (chain_kept e.node) (chain_kept y.node) (chain_kept d.node) (taken.1.left b y there on).2 less);
+      all_came = means.all_came;
       priced = means.priced;
       silent = means.silent;
       plain = means.plain;

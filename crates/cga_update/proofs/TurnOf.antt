@@ -65,13 +65,14 @@ module _ (was : Work) (symbols : Symbols) where
     change,
     record {
       replaced = p.replaced;
+      unmarked = p.unmarked;
       went = p.went;
       came = p.came;
       followed = p.followed;
       log = p.log;
       gone = p.gone;
       come = p.come;
-      bounds = record { old = p.bounds.old; new = p.bounds.new; mode = p.bounds.mode; mark = p.bounds.mark; due = p.bounds.due; priced = p.bounds.priced };
+      bounds = record { old = p.bounds.old; new = p.bounds.new; mode = p.bounds.mode; mark = p.bounds.mark; all_came = p.bounds.all_came; priced = p.bounds.priced };
       forest = p.forest;
     },
   )

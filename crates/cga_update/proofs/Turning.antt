@@ -1,6 +1,6 @@
 -- A turn in code is a turn of the work of the theory.
 use Rattle.std.proofs.Common.{◌≡◌, ℕ, List, [], ◌∷◌, ◌++◌, ◌+◌, length, map, refl, sym, ap, ◌∙◌, subst, ◌⊎◌, inl, inr, Option, Some, None, Bool, true, false, not, Bor}
-use Rattle.std.specs.Prelude.{◌&&◌, if◌then◌else◌}
+use Rattle.std.specs.Prelude.{◌&&◌, is_some, if◌then◌else◌}
 use Rattle.cga_word.specs.declared.answers.Answers.{Answers}
 use Rattle.cga_word.specs.declared.primitive.Primitive.{Primitive}
 use Rattle.std.specs.declared.cmp.Ordering.TheVariants.{Less}
@@ -39,7 +39,7 @@ use Rattle.cga_rework.proofs.Whole.{node_turns}
 use Rattle.cga_update.specs.declared.work.Work.{Work}
 use Rattle.cga_update.specs.Agenda.{AgendaView, IsLeast}
 use Rattle.cga_update.specs.Changed.{AreKnown}
-use Rattle.cga_update.specs.Due.{AskersAreDue}
+use Rattle.cga_update.specs.Due.{AllCame, ComersAreDue}
 use Rattle.cga_update.specs.Edit.{asks_by, content, kept_nodes, meets_box, ranked, rules_of, shapes_of, the_edit}
 use Rattle.cga_check.specs.Uses.{same_name}
 use Rattle.cga_rule.specs.declared.grammar.Grammar.{Grammar}
@@ -48,11 +48,12 @@ use Rattle.cga_update.specs.Log.{IsLogged, StayAlike, came_of, drawn_of, is_of, 
 use Rattle.cga_update.specs.Means.{ArePriced, Means, told_ranked}
 use Rattle.cga_update.specs.Queue.{chains_of, on_of}
 use Rattle.cga_update.specs.Turned.{IsPlacing, MayTurn}
+use Rattle.cga_update.proofs.Cases.{option_cases}
 use Rattle.cga_update.proofs.Children.{are_news, is_outcome, keeps_self, setting_asks}
 use Rattle.cga_update.proofs.Edits.{by_symbol, is_rules_edit}
 use Rattle.cga_update.proofs.Idle.{TheEdit, TheState}
 use Rattle.cga_update.proofs.Moved.{is_moved, still_due}
-use Rattle.cga_update.proofs.Moves.{some_one, spared, taken_at}
+use Rattle.cga_update.proofs.Moves.{comers_stay, some_one, taken_at}
 use Rattle.cga_update.proofs.Nodes.{kept_bound}
 use Rattle.cga_update.proofs.Drawing.{lists_lost}
 use Rattle.cga_update.proofs.Logged.{logged_more}
@@ -122,8 +123,17 @@ module _ (was now : Work) (rest : AgendaView) (id : ℕ) (x : Chain) (turned : T
   abbrev IsAfter : Seen → Type 0
   IsAfter d = stamp_cmp new.mode (chain_kept e.node) (chain_kept d.node) ≡ Less
 
-  askers : was.askers_due ≡ true → (c : ℕ) (d : Seen) → V c ≡ Some d → d.node.asks ≡ true → IsAfter d → on_of was.forest rest c ≡ true
-  askers is = spared was.forest new was.agenda rest id x e least turn.here (means.due is)
+  marks_stay : (c : ℕ) → marked_at now.forest c ≡ marked_at was.forest c
+  marks_stay = turn.placed.1.bounds.mark.1 means.marked
+
+  comers : (c : ℕ) (d : Seen) → V c ≡ Some d → marked_at now.forest c ≡ None → is_instance d.node.kind ≡ false → IsAfter d → on_of was.forest rest c ≡ true
+  comers c d here came = comers_stay was.forest new was.agenda rest id x e least turn.here means.due c d here (sym (marks_stay c) ∙ came)
+
+  all_came : was.all_came ≡ true → AllCame now.forest
+  all_came is c d here = marks_stay c ∙ elim (option_cases (V c)) [
+    | inl none ↦ turn.placed.1.unmarked c none (ap is_some here)
+    | inr p ↦ means.all_came is c p.0 p.1
+  ]
 
   -- what came is a child of the node, and so comes later
   born_later : (c : ℕ) (d : Seen) → V c ≡ None → T c ≡ Some d → IsAfter d
@@ -172,7 +182,7 @@ module _ (was now : Work) (rest : AgendaView) (id : ℕ) (x : Chain) (turned : T
     self_asks = setting_asks g e.node.shape;
     are = are_news new e.node turn.outcome inner;
     outcome = told;
-    moved = is_moved was.forest now.forest new id news e after_e gone replaced inner still refl rest now.agenda (least.mode ∙ means.agenda_mode) turn.placed.0 turn.placed.1.went turn.placed.1.came was.askers_due turn.placed.1.followed askers;
+    moved = is_moved was.forest now.forest new id news e after_e gone replaced inner still refl rest now.agenda (least.mode ∙ means.agenda_mode) turn.placed.0 turn.placed.1.went turn.placed.1.came was.all_came turn.placed.1.followed comers all_came;
   }
 
   abbrev Result : Type 0
@@ -237,10 +247,10 @@ module _ (was now : Work) (rest : AgendaView) (id : ℕ) (x : Chain) (turned : T
   to_old : (P : Bor Sources → Type 0) → P was.old → P now.old
   to_old P h = subst P (sym turn.placed.1.bounds.old) h
 
-  due_now : was.askers_due ≡ true → AskersAreDue new.mode now.forest now.agenda
+  due_now : ComersAreDue new.mode now.forest now.agenda
   due_now =
-      still_due was.forest now.forest new id news e after_e gone replaced inner still refl rest now.agenda (least.mode ∙ means.agenda_mode) turn.placed.0 turn.placed.1.went turn.placed.1.came was.askers_due turn.placed.1.followed askers
-      born_later (λ c x there on. (taken.1.left c x there on).2) (still_silent was.forest now.forest before g id turn.outcome e after_e gone replaced refl means.silent)
+      still_due was.forest now.forest new id news e after_e gone replaced inner still refl rest now.agenda (least.mode ∙ means.agenda_mode) turn.placed.0 turn.placed.1.went turn.placed.1.came was.all_came turn.placed.1.followed comers all_came
+      born_later (λ c x there on. (taken.1.left c x there on).2)
 
   means_now : Means now edit after
   means_now = record {
@@ -252,7 +262,8 @@ module _ (was now : Work) (rest : AgendaView) (id : ℕ) (x : Chain) (turned : T
     nodes = refl;
     underway = to_new (λ b. IsUnderway (shapes_of b.now) content (rules_of b.now) (asks_by b.now.grammar) T (on_of now.forest now.agenda)) result.0;
     queued = to_new (λ b. AreQueued (shapes_of b.now) content T (on_of now.forest now.agenda) result.1.0) result.1.1;
-    due = λ is. to_new (λ b. AskersAreDue b.now.mode now.forest now.agenda) (due_now (sym turn.placed.1.bounds.due ∙ is));
+    due = to_new (λ b. ComersAreDue b.now.mode now.forest now.agenda) due_now;
+    all_came = λ is. all_came (sym turn.placed.1.bounds.all_came ∙ is);
     priced = λ is. to_new (λ b. ArePriced b.now.grammar now.forest) (still_priced was.forest now.forest before g id turn.outcome e after_e gone replaced refl turn.here refl refl inner (means.priced (sym turn.placed.1.bounds.priced ∙ is)));
     silent = still_silent was.forest now.forest before g id turn.outcome e after_e gone replaced refl means.silent;
     plain = still_plain was.forest now.forest before g id turn.outcome e after_e gone replaced refl means.plain;

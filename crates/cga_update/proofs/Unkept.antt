@@ -1,4 +1,4 @@
--- Where no node was kept, all that asks is on the agenda when the work begins.
+-- What came is on the agenda when the work begins; and where no node was kept, each came.
 use Rattle.std.proofs.Common.{◌≡◌, inl, inr, ℕ, List, sym, ◌∙◌, Option, Some, None, true}
 use Rattle.std.specs.Prelude.{nat_eq}
 use borrow.Author.Tests.{eqb-true}
@@ -11,7 +11,7 @@ use Rattle.cga_forest.specs.Count.{tally}
 use Rattle.cga_forest.specs.View.{Seen, is_shown}
 use Rattle.cga_forest.specs.Tree.{ForestView, node_at}
 use Rattle.cga_update.specs.Agenda.{AgendaView}
-use Rattle.cga_update.specs.Due.{AskersAreDue}
+use Rattle.cga_update.specs.Due.{ComersAreDue}
 use Rattle.cga_update.proofs.Beginning.{came_on}
 use Rattle.cga_update.proofs.Cases.{option_cases}
 use Rattle.cga_update.proofs.Counting.{none_shown}
@@ -28,6 +28,5 @@ all_came V before after still none c d here = elim (option_cases (V c)) [
 ]
 
 -- what came is on the agenda
-pub first_due : {old new : Sources} {first v : ForestView} {d : DependentsView} {went came : List Moved} {a : AgendaView} → IsRooted old new first v d went came a
-    → ((c : ℕ) (x : Seen) → node_at v c ≡ Some x → node_at first c ≡ None) → (mode : Mode) → AskersAreDue mode v a
-first_due start all mode b c e x at on here asks less = came_on start c x (all c x here) here
+pub first_due : {old new : Sources} {first v : ForestView} {d : DependentsView} {went came : List Moved} {a : AgendaView} → IsRooted old new first v d went came a → (mode : Mode) → ComersAreDue mode v a
+first_due start mode b c e x at on here unmarked solid less = came_on start c x (sym (start.roots.marked c) ∙ unmarked) here

@@ -1,21 +1,22 @@
 -- Who asks near boxes.
-use Rattle.std.specs.Prelude.{◌≡◌, ◌⊎◌, ℕ, List, Some, true, map}
+use Rattle.std.specs.Prelude.{◌≡◌, ◌⊎◌, ℕ, List, Some, IsSome, true, map}
 use Rattle.cga_frame.specs.Box.{Box, box_of, meets}
 use Rattle.cga_order.specs.World.{Among}
 use Rattle.cga_index.specs.Tree.{Member}
 use Rattle.cga_forest.specs.declared.moved.Moved.{Moved}
 use Rattle.cga_forest.specs.Node.{bounds}
 use Rattle.cga_forest.specs.View.{Seen}
-use Rattle.cga_forest.specs.Tree.{ForestView, node_at}
+use Rattle.cga_forest.specs.Tree.{ForestView, marked_at, node_at}
 
 -- the boxes of nodes that moved
 abbrev pub boxes_of : List Moved → List Box
 boxes_of moved = map (λ (m : Moved). box_of m.scope) moved
 
--- the node is there and asks, and its box meets one of the areas
+-- the node is there, was there at the mark, and asks, and its box meets one of the areas
 pub record AsksNear (v : ForestView) (areas : List Box) (id : ℕ) : Type 0 where
   pub seen : Seen
   pub there : node_at v id ≡ Some seen
+  pub marked : IsSome (marked_at v id)
   pub asks : seen.node.asks ≡ true
   pub area : Box
   pub among : Among area areas

@@ -39,7 +39,7 @@ pub record StandsMarked (old new : Sources) (v : ForestView) (d : DependentsView
   pub plain : (c : ℕ) (x : Seen) → node_at v c ≡ Some x → IsPlain x
   pub dependents : ListsView d (node_at v)
 
--- the roots that came are on the agenda, and those that ask near what went or came
+-- the roots that came are on the agenda, and those of the mark that ask near what went or came
 pub record HasMoved (v : ForestView) (went came : List Moved) (a : AgendaView) : Type 0 where
   pub roots : (m : Moved) → Among m came → HasThese v (λ c. c ≡ m.id) a
   pub near_went : (m : Moved) → Among m went → HasNear v (box_of m.scope) a

@@ -19,7 +19,7 @@ use Rattle.cga_forest.specs.View.{Seen}
 use Rattle.cga_forest.specs.Tree.{ForestView, KeepsMark, marked_at, node_at}
 use Rattle.cga_update.specs.declared.work.Work.{Work}
 use Rattle.cga_update.specs.Changed.{AreKnown}
-use Rattle.cga_update.specs.Due.{AskersAreDue}
+use Rattle.cga_update.specs.Due.{AllCame, ComersAreDue}
 use Rattle.cga_update.specs.Edit.{asks_by, content, kept_nodes, rules_of, shapes_of, the_edit}
 use Rattle.cga_update.specs.Log.{IsLogged}
 use Rattle.cga_update.specs.Plain.{IsPlain}
@@ -45,7 +45,8 @@ pub record Means (w : Work) (edit : Edit (Ranked Shape) Answers Setting ShapeFau
   -- the nodes are a city of the new roots, and what isn't right by priority or by asking is on the agenda
   pub underway : IsUnderway (shapes_of w.new.now) content (rules_of w.new.now) (asks_by w.new.now.grammar) (node_at w.forest) (on_of w.forest w.agenda)
   pub queued : AreQueued (shapes_of w.new.now) content (node_at w.forest) (on_of w.forest w.agenda) s.queued
-  pub due : w.askers_due ≡ true → AskersAreDue w.new.now.mode w.forest w.agenda
+  pub due : ComersAreDue w.new.now.mode w.forest w.agenda
+  pub all_came : w.all_came ≡ true → AllCame w.forest
   pub priced : w.priced ≡ true → ArePriced w.new.now.grammar w.forest
   -- an instance doesn't ask
   pub silent : (c : ℕ) (d : Seen) → node_at w.forest c ≡ Some d → is_instance d.node.kind ≡ true → d.node.asks ≡ false
@@ -57,11 +58,11 @@ pub record Means (w : Work) (edit : Edit (Ranked Shape) Answers Setting ShapeFau
   pub marked : w.forest.marking ≡ true
   pub logged : IsLogged (marked_at w.forest) (node_at w.forest) w.log.items
 
--- the sources, the mode and the mark are as they were, and so is whether the askers are due and the nodes priced
+-- the sources, the mode and the mark are as they were, and so is whether all nodes came and are priced
 pub record KeepsBounds (was now : Work) : Type 0 where
   pub old : now.old ≡ was.old
   pub new : now.new ≡ was.new
   pub mode : now.forest.mode ≡ was.forest.mode
   pub mark : KeepsMark was.forest now.forest
-  pub due : now.askers_due ≡ was.askers_due
+  pub all_came : now.all_came ≡ was.all_came
   pub priced : now.priced ≡ was.priced

@@ -1,5 +1,5 @@
 -- What is on the agenda when an update begins.
-use Rattle.std.specs.Prelude.{◌≡◌, ◌⊎◌, ℕ, List, Some, true, false}
+use Rattle.std.specs.Prelude.{◌≡◌, ◌⊎◌, ℕ, List, Some, IsSome, true, false}
 use Rattle.cga_frame.specs.Box.{Box, box_of, meets}
 use Rattle.cga_index.specs.Tree.{Member}
 use Rattle.cga_rule.specs.declared.grammar.Grammar.{Grammar}
@@ -8,7 +8,7 @@ use Rattle.cga_expand.specs.Derivation.{priority_of}
 use Rattle.cga_expand.specs.Settings.{setting_of}
 use Rattle.cga_order.specs.World.{is_instance}
 use Rattle.cga_forest.specs.View.{Seen}
-use Rattle.cga_forest.specs.Tree.{ForestView, node_at}
+use Rattle.cga_forest.specs.Tree.{ForestView, marked_at, node_at}
 use Rattle.cga_update.specs.Agenda.{AgendaView}
 use Rattle.cga_update.specs.Queue.{on_of}
 
@@ -38,10 +38,10 @@ module _ (v : ForestView) where
   abbrev pub HasParents : (ℕ → Type 0) → AgendaView → Type 0
   HasParents These a = (c p : ℕ) (d e : Seen) → These c → node_at v c ≡ Some d → d.parent ≡ Some p → IsWorked p e → on_of v a p ≡ true
 
-  -- the nodes that ask and whose boxes meet the area are
+  -- the nodes that were there at the mark and ask, and whose boxes meet the area, are
   abbrev pub HasNear : Box → AgendaView → Type 0
   HasNear area a =
-      (c : ℕ) (d : Seen) → IsWorked c d → d.node.asks ≡ true → meets (box_of d.node.shape.scope) area ≡ true → on_of v a c ≡ true
+      (c : ℕ) (d : Seen) → IsWorked c d → IsSome (marked_at v c) → d.node.asks ≡ true → meets (box_of d.node.shape.scope) area ≡ true → on_of v a c ≡ true
 
   -- these nodes of a symbol are on it, or its setting is the old one
   abbrev pub IsChangedFor : Grammar → Grammar → (ℕ → Type 0) → List ℕ → AgendaView → Type 0

@@ -1,5 +1,5 @@
 -- What the turn of a node does to the work.
-use Rattle.std.specs.Prelude.{◌≡◌, ◌⊎◌, ℕ, List, ◌++◌, length, Option, None, Some, true, false, slice_get}
+use Rattle.std.specs.Prelude.{◌≡◌, ◌⊎◌, ℕ, List, ◌++◌, length, Option, None, Some, IsSome, true, false, slice_get}
 use Rattle.cga_word.specs.declared.answers.Answers.{Answers}
 use Rattle.cga_word.specs.declared.primitive.Primitive.{Primitive}
 use Rattle.cga_order.specs.World.{is_waiting}
@@ -19,7 +19,7 @@ use Rattle.cga_forest.specs.declared.node.Node.{Node}
 use Rattle.cga_forest.specs.Moved.{ListsMoved}
 use Rattle.cga_forest.specs.Placing.{Outcome, children_after, emitted, kind_after, state_after}
 use Rattle.cga_forest.specs.View.{Seen}
-use Rattle.cga_forest.specs.Tree.{ForestView, IsForest, Replaces, node_at}
+use Rattle.cga_forest.specs.Tree.{ForestView, IsForest, Replaces, marked_at, node_at}
 use Rattle.cga_update.specs.declared.work.Work.{Work}
 use Rattle.cga_update.specs.Changed.{AreKnown}
 use Rattle.cga_update.specs.Edit.{asks_by, kept_nodes, ranked, the_edit}
@@ -31,9 +31,10 @@ use Rattle.cga_update.specs.Plain.{IsPlain}
 -- the node has the outcome and these answers now, and what went and came is noted and followed
 pub record IsPlaced (was now : Work) (id : ℕ) (answers : Answers) (outcome : Outcome) (change : Change) : Type 0 where
   pub replaced : (e : Seen) → node_at was.forest id ≡ Some e → Replaces (node_at was.forest) (node_at now.forest) id (state_after was.new.now.grammar e.node answers outcome) (children_after was.new.now.grammar e.node outcome)
+  pub unmarked : (c : ℕ) → node_at was.forest c ≡ None → IsSome (node_at now.forest c) → marked_at was.forest c ≡ None
   pub went : ListsMoved (node_at was.forest) (node_at now.forest) change.went
   pub came : ListsMoved (node_at now.forest) (node_at was.forest) change.came
-  pub followed : IsFollowed now.forest id change was.askers_due was.agenda now.agenda
+  pub followed : IsFollowed now.forest id change was.all_came was.agenda now.agenda
   pub log : now.log.items ≡ (was.log.items ++ went_of change.went) ++ came_of change.came
   pub gone : now.gone.items ≡ was.gone.items ++ drawn_of change.went
   pub come : now.come.items ≡ was.come.items ++ drawn_of change.came

@@ -1,11 +1,12 @@
-//! Who asks near what moved: one walk over the forest for many boxes that lie side by side.
+//! Who asks near what moved, of the nodes that were there at the mark: one walk over the forest for many boxes that lie side
+//! by side.
 ghost use Rattle.std.specs.Prelude.{◌≡◌, IfOk, OnOk};
 ghost use Rattle.std.specs.List.{list_any};
 ghost use Rattle.cga_frame.specs.Box.{meets};
 ghost use Rattle.cga_update.specs.Askers.{AddsThese, AsksNear, AsksWithin, ListsNear, boxes_of};
 
 use crate::around::box_around;
-use cga_forest::{Forest, Moved};
+use cga_forest::{Forest, LastingAskers, Moved};
 use cga_fraction::{List, NoMemory, Steps};
 use cga_frame::WorldBox;
 use cga_index::{HullTree, NodeId, queriers_meeting};
@@ -15,7 +16,8 @@ use std::sync::ledger::Ledger;
 /// So many nodes share a walk. Whoever asks near them is compared with each, so one walk for all would be slower.
 const PIECE: usize = 64;
 
-/// The nodes that ask and whose boxes meet that of one of these: once for each piece that they are near. Takes memory.
+/// The nodes of the mark that ask and whose boxes meet that of one of these: once for each piece that they are near. Takes
+/// memory.
 pub fn askers_near<T: Ledger>(
     alloc: Global,
     forest: &Forest,
@@ -46,7 +48,7 @@ fn boxes_of(alloc: Global, moved: &[Moved]) -> Result<List<WorldBox>, NoMemory>
     Ok(List::from_vec(boxes))
 }
 
-/// Appends the nodes that ask and whose boxes meet one of the areas. Takes memory.
+/// Appends the nodes of the mark that ask and whose boxes meet one of the areas. Takes memory.
 fn add_near<T: Ledger>(
     alloc: Global,
     forest: &Forest,
@@ -78,9 +80,10 @@ fn add_within<T: Ledger>(
     ensures { OnOk result (AddsThese (AsksWithin forest.now around.now areas.now) near.old.items near.new.items) }
 {
     forest.laws();
-    let askers = queriers_meeting(alloc, forest, around, tests)?;
+    let tree = LastingAskers { forest };
+    let askers = queriers_meeting(alloc, &tree, around, tests)?;
     for id in askers.as_slice() {
-        let own = forest.own_box(*id, tests);
+        let own = tree.own_box(*id, tests);
         if meets_one(&own, areas) {
             near.push(*id)?;
         }

@@ -17,7 +17,7 @@ use cga_fraction::{NoMemory, Steps};
 use std::alloc::Global;
 use std::sync::ledger::Ledger;
 
-/// Puts on an agenda the roots that came, and who asks near what went or came. Takes memory.
+/// Puts on an agenda the roots that came, and who of the mark asks near what went or came. Takes memory.
 fn queue_rooted<T: Ledger>(
     agenda: &mut Agenda,
     forest: &Forest,
@@ -58,8 +58,7 @@ pub fn begun<'a, T: Ledger>(
     let mut come = Vec::new(alloc);
     forest.laws();
     remove_roots(alloc, &mut forest, &mut symbols, renewal, &mut went)?;
-    // Of a forest that has no node all nodes are roots that come, and these wait on the agenda.
-    let askers_due = forest.count() == 0;
+    let all_came = forest.count() == 0;
     let came = add_roots(alloc, &mut forest, renewal.new)?;
     let went_nodes = went.as_slice();
     let came_nodes = came.as_slice();
@@ -72,7 +71,7 @@ pub fn begun<'a, T: Ledger>(
         alloc,
         forest,
         agenda,
-        askers_due,
+        all_came,
         priced,
         symbols,
         log,

@@ -16,7 +16,7 @@ use cga_fraction::{NoMemory, Steps};
 use cga_index::NodeId;
 use std::sync::ledger::Ledger;
 
-/// Puts the nodes on it that ask, meet one of the moved and come later than another. Takes memory.
+/// Puts the nodes of the mark on it that ask, meet one of the moved and come later than another. Takes memory.
 fn add_met<T: Ledger>(
     agenda: &mut Agenda,
     forest: &Forest,
@@ -32,21 +32,21 @@ fn add_met<T: Ledger>(
     add_each(agenda, forest, of, askers.as_slice())
 }
 
-/// Puts on the agenda what came, and who meets what went or came and comes later than the node whose children were
-/// replaced; but where the askers are due anyway, nobody is looked for. Takes memory.
+/// Puts on the agenda what came, and who of the mark asks near what went or came and comes later than the node whose
+/// children were replaced. What came since the mark and comes later is on it anyway. Takes memory.
 pub fn follow<T: Ledger>(
     agenda: &mut Agenda,
     forest: &Forest,
     of: NodeId,
     change: &Change,
-    askers_due: bool,
+    all_came: bool,
     tests: &mut Steps<T>,
 ) -> Result<(), NoMemory>
     requires one { OneEach (chains_of forest.now) }
-    ensures { OnOk result (IsFollowed forest.now of change.now askers_due agenda.old agenda.new) }
+    ensures { OnOk result (IsFollowed forest.now of change.now all_came agenda.old agenda.new) }
 {
     add_moved(agenda, forest, change.came.as_slice())?;
-    if askers_due {
+    if all_came {
         return Ok(());
     }
     add_met(agenda, forest, of, change.went.as_slice(), tests)?;

@@ -40,7 +40,7 @@ pub fn queue_all(agenda: &mut Agenda, forest: &Forest, ids: &[NodeId]) -> Result
     Ok(())
 }
 
-/// Puts the nodes on it that ask and whose boxes meet that of one of these. Takes memory.
+/// Puts the nodes of the mark on it that ask and whose boxes meet that of one of these. Takes memory.
 pub fn queue_near<T: Ledger>(
     agenda: &mut Agenda,
     forest: &Forest,

@@ -5,7 +5,6 @@ ghost use Rattle.cga_expand.specs.Validity.{RootsExist};
 ghost use Rattle.cga_forest.specs.Moved.{ListsMoved, moved_of};
 ghost use Rattle.cga_forest.specs.View.{Seen};
 ghost use Rattle.cga_forest.specs.Tree.{node_at};
-ghost use Rattle.cga_order.specs.World.{is_instance};
 ghost use Rattle.cga_shape.specs.Root.{root_scope};
 ghost use Rattle.cga_update.specs.Changed.{AreKnown};
 ghost use Rattle.cga_update.specs.Roots.{AllWanted, AreByName, AreThere, AreWithin, Gains, HasLost, HasOldLots, IsRootFor, IsRootNamed, IsWanted, Loses, View};
@@ -13,9 +12,9 @@ ghost use Rattle.cga_update.specs.Roots.{AllWanted, AreByName, AreThere, AreWith
 use crate::changed::Symbols;
 use crate::renewal::Renewal;
 use cga_forest::{Forest, Moved, Node};
-use cga_fraction::{List, NoMemory};
+use cga_fraction::NoMemory;
 use cga_index::NodeId;
-use cga_shape::{Answers, Kind, Lot, Sources, root_shape};
+use cga_shape::{Lot, Sources, equal_exactly, root_shape};
 use cga_word::Name;
 use indexmap::IndexMap;
 use std::alloc::Global;
@@ -35,20 +34,10 @@ pub fn lots_by_name(alloc: Global, lots: &[Lot]) -> Result<IndexMap<Name, Lot>, 
 pub fn is_root_for(alloc: Global, root: &Node, lot: &Lot, priority: u16) -> bool
     requires scope { IsOk (root_scope lot.now) }
     ensures sound { result ≡ true → IsRootFor lot.now priority root.now }
-    ensures whole { is_instance root.now.kind ≡ false → IsRootFor lot.now priority root.now → result ≡ true }
+    ensures whole { IsRootFor lot.now priority root.now → result ≡ true }
 {
-    let wanted = Node {
-        shape: root_shape(alloc, lot),
-        kind: Kind::Waiting,
-        priority,
-        answers: Answers {
-            noparent: None,
-            active: None,
-        },
-        asks: false,
-        line: List::new(alloc),
-    };
-    root.fits(&wanted)
+    equal_exactly();
+    root.priority == priority && root.shape == root_shape(alloc, lot)
 }
 
 /// Whether the root of that name is still wanted. Takes memory.
@@ -83,7 +72,7 @@ fn is_wanted(
 fn is_root_at(alloc: Global, forest: &Forest, id: NodeId, lot: &Lot, priority: u16) -> bool
     requires scope { IsOk (root_scope lot.now) }
     ensures sound { result ≡ true → (d : Seen) → node_at forest.now id ≡ Some d → IsRootFor lot.now priority d.node }
-    ensures whole { (d : Seen) → node_at forest.now id ≡ Some d → is_instance d.node.kind ≡ false → IsRootFor lot.now priority d.node → result ≡ true }
+    ensures whole { (d : Seen) → node_at forest.now id ≡ Some d → IsRootFor lot.now priority d.node → result ≡ true }
 {
     match forest.node(id) {
         Some(node) => is_root_for(alloc, node, lot, priority),

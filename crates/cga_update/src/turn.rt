@@ -57,7 +57,7 @@ fn place<T: Ledger>(
         &work.forest,
         id,
         &change,
-        work.askers_due,
+        work.all_came,
         tests,
     )
 }

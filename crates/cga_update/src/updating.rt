@@ -20,7 +20,8 @@ use std::sync::ledger::Ledger;
 /// expands. `changes` becomes the record of what went and came.
 ///
 /// `OverBudget` comes exactly where the new derivation has more shapes than the budget; then all is as before. After
-/// `NoMemory` what is kept and the changes are given up. Takes memory.
+/// `NoMemory` what is kept and the changes are given up, and at most budget + 2 expansions were made, or budget + 1 within
+/// one mode. Takes memory.
 pub fn update<E: Ledger, T: Ledger>(
     alloc: Global,
     kept: &mut Kept,

@@ -12,8 +12,8 @@ pub struct Work<'a> {
     /// Marked: the marked nodes are those with which the update began.
     pub(crate) forest: Forest,
     pub(crate) agenda: Agenda,
-    /// Whether each node that asks and comes later than one on the agenda is on it, too: then nobody has to be found.
-    pub(crate) askers_due: bool,
+    /// Whether each node came since the mark: then nobody has to be looked for.
+    pub(crate) all_came: bool,
     /// Whether each node has the priority that its symbol has today: then one that is asked as before is done.
     pub(crate) priced: bool,
     pub(crate) symbols: Symbols,

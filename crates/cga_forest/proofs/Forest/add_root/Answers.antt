@@ -18,13 +18,13 @@ pub push-place-requires-clause-absent : goal.push-place-requires-clause-absent
 push-place-requires-clause-absent c = rw (c.in_ok-reserve-2.ensures.list, c.lot-name.ensures) (no_root (record { slots = c.self.inside.store.slots; marking = c.self.inside.marking; roots = c.self.inside.roots.list; marked_roots = c.self.inside.roots.former; mode = c.self.inside.mode }) c.args.self.now c.self.view_is c.self.invariant.forest c.args.node.shape.lot c.requires.new)
 
 pub invariant_of-self : goal.invariant_of-self
-invariant_of-self c = record { forest = c.self.invariant.forest; covered = covered_made c.self.inside.blocks.hulls.items c.make_room.new.self.hulls.items c.self.inside.roots.list (hulls_at (record { slots = c.self.inside.store.slots; marking = c.self.inside.marking; roots = c.self.inside.roots.list; marked_roots = c.self.inside.roots.former; mode = c.self.inside.mode })) c.len-last.result c.len-last.ensures c.make_room.ensures c.self.invariant.covered }
+invariant_of-self c = record { forest = c.self.invariant.forest; covered = covered_made c.self.inside.blocks c.make_room.new.self c.self.inside.roots.list (hulls_at (record { slots = c.self.inside.store.slots; marking = c.self.inside.marking; roots = c.self.inside.roots.list; marked_roots = c.self.inside.roots.former; mode = c.self.inside.mode })) c.len-last.result c.len-last.ensures c.make_room.ensures c.self.invariant.covered }
 
 pub invariant_of-self-in_err-reserve : goal.invariant_of-self-in_err-reserve
-invariant_of-self-in_err-reserve c = rw c.in_err-reserve.ensures.slots (record { forest = c.self.invariant.forest; covered = covered_made c.self.inside.blocks.hulls.items c.make_room.new.self.hulls.items c.self.inside.roots.list (hulls_at (record { slots = c.self.inside.store.slots; marking = c.self.inside.marking; roots = c.self.inside.roots.list; marked_roots = c.self.inside.roots.former; mode = c.self.inside.mode })) c.len-last.result c.len-last.ensures c.make_room.ensures c.self.invariant.covered })
+invariant_of-self-in_err-reserve c = rw c.in_err-reserve.ensures.slots (record { forest = c.self.invariant.forest; covered = covered_made c.self.inside.blocks c.make_room.new.self c.self.inside.roots.list (hulls_at (record { slots = c.self.inside.store.slots; marking = c.self.inside.marking; roots = c.self.inside.roots.list; marked_roots = c.self.inside.roots.former; mode = c.self.inside.mode })) c.len-last.result c.len-last.ensures c.make_room.ensures c.self.invariant.covered })
 
 pub invariant_of-self-in_err-reserve-2 : goal.invariant_of-self-in_err-reserve-2
-invariant_of-self-in_err-reserve-2 c = rw (c.in_ok-reserve.ensures.slots, c.in_err-reserve-2.ensures.list, c.in_err-reserve-2.ensures.former) (record { forest = c.self.invariant.forest; covered = covered_made c.self.inside.blocks.hulls.items c.make_room.new.self.hulls.items c.self.inside.roots.list (hulls_at (record { slots = c.self.inside.store.slots; marking = c.self.inside.marking; roots = c.self.inside.roots.list; marked_roots = c.self.inside.roots.former; mode = c.self.inside.mode })) c.len-last.result c.len-last.ensures c.make_room.ensures c.self.invariant.covered })
+invariant_of-self-in_err-reserve-2 c = rw (c.in_ok-reserve.ensures.slots, c.in_err-reserve-2.ensures.list, c.in_err-reserve-2.ensures.former) (record { forest = c.self.invariant.forest; covered = covered_made c.self.inside.blocks c.make_room.new.self c.self.inside.roots.list (hulls_at (record { slots = c.self.inside.store.slots; marking = c.self.inside.marking; roots = c.self.inside.roots.list; marked_roots = c.self.inside.roots.former; mode = c.self.inside.mode })) c.len-last.result c.len-last.ensures c.make_room.ensures c.self.invariant.covered })
 
 pub invariant_of-self-2 : goal.invariant_of-self-2
 invariant_of-self-2 c =
@@ -39,7 +39,7 @@ invariant_of-self-2 c =
           (c.settle_unless.ensures.former ∙ (λ i. if c.self.inside.marking then (c.push-place.ensures.former ∙ c.in_ok-reserve-2.ensures.former) i else sym c.settle_unless.ensures.list i))
           (subst (λ (xs : List (Option Entry)). IsForest (record { slots = xs; marking = c.self.inside.marking; roots = c.self.inside.roots.list; marked_roots = c.self.inside.roots.former; mode = c.self.inside.mode })) (sym c.in_ok-reserve.ensures.slots) c.self.invariant.forest);
       covered =
-          covered_added (node_at (record { slots = c.self.inside.store.slots; marking = c.self.inside.marking; roots = c.self.inside.roots.list; marked_roots = c.self.inside.roots.former; mode = c.self.inside.mode })) c.self.inside.roots.list _ (hulls_at (record { slots = c.self.inside.store.slots; marking = c.self.inside.marking; roots = c.self.inside.roots.list; marked_roots = c.self.inside.roots.former; mode = c.self.inside.mode })) _ c.self.inside.blocks.hulls.items c.make_room.new.self.hulls.items c.cover_place.new.blocks.hulls.items c.cover_place-2.new.blocks.hulls.items c.args.node.shape.lot c.add_node-id.result c.push-place.result
+          covered_added (node_at (record { slots = c.self.inside.store.slots; marking = c.self.inside.marking; roots = c.self.inside.roots.list; marked_roots = c.self.inside.roots.former; mode = c.self.inside.mode })) c.self.inside.roots.list _ (hulls_at (record { slots = c.self.inside.store.slots; marking = c.self.inside.marking; roots = c.self.inside.roots.list; marked_roots = c.self.inside.roots.former; mode = c.self.inside.mode })) _ c.self.inside.blocks c.make_room.new.self c.cover_place.new.blocks c.cover_place-2.new.blocks c.args.node.shape.lot c.add_node-id.result c.push-place.result
           c.self.invariant.forest.tops (ap (λ (xs : List (Option Entry)). present_of (slot xs c.add_node-id.result)) (sym c.in_ok-reserve.ensures.slots) ∙ ap present_of c.add_node-id.ensures.vacant)
           (λ k n. ap hulls_of (c.add_node-id.ensures.others k n) ∙ ap (λ (xs : List (Option Entry)). hulls_of (slot xs k)) c.in_ok-reserve.ensures.slots)
           (λ i h lt e. c.make_room.ensures i h (let n = c.len-last.ensures in omega (arith, lt, n)) e) c.cover_place.ensures.kept c.cover_place-2.ensures.kept low is

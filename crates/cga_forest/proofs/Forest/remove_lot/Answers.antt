@@ -20,9 +20,9 @@ invariant_of-self c = record {
       (without_root (record { slots = c.self.inside.store.slots; marking = c.self.inside.marking; roots = c.self.inside.roots.list; marked_roots = c.self.inside.roots.former; mode = c.self.inside.mode }) (record { slots = c.set_aside.new.store.slots; marking = c.self.inside.marking; roots = c.self.inside.roots.list; marked_roots = c.self.inside.roots.former; mode = c.self.inside.mode }) c.in-Some.root r.0 r.1 r.2 c.set_aside.ensures.pointwise c.self.invariant.forest)
       (rw c.settle_unless.ensures.list (tops_left (record { slots = c.self.inside.store.slots; marking = c.self.inside.marking; roots = c.self.inside.roots.list; marked_roots = c.self.inside.roots.former; mode = c.self.inside.mode }) (record { slots = c.set_aside.new.store.slots; marking = c.self.inside.marking; roots = c.self.inside.roots.list; marked_roots = c.self.inside.roots.former; mode = c.self.inside.mode }) c.in-Some.root r.0 r.1 r.2 c.set_aside.ensures.pointwise c.self.invariant.forest c.args.name c.take_out.new.self.list c.in-Some.ensures.gone c.take_out.ensures.apart))
       (c.settle_unless.ensures.former ∙ ap (λ b. if b then c.take_out.new.self.former else c.take_out.new.self.list) c.if-not-self.true ∙ sym c.settle_unless.ensures.list);
-  covered = covered_part c.cover_place.new.blocks.hulls.items c.settle_unless.new.self.list _ (hulls_at (record { slots = c.self.inside.store.slots; marking = c.self.inside.marking; roots = c.self.inside.roots.list; marked_roots = c.self.inside.roots.former; mode = c.self.inside.mode })) _ refl
+  covered = covered_part c.cover_place.new.blocks c.settle_unless.new.self.list _ (hulls_at (record { slots = c.self.inside.store.slots; marking = c.self.inside.marking; roots = c.self.inside.roots.list; marked_roots = c.self.inside.roots.former; mode = c.self.inside.mode })) _ refl
       (λ k h e. sym (ap hulls_of (c.set_aside.ensures.pointwise k) ∙ hulls_flag _ (slot c.self.inside.store.slots k)) ∙ settled_hulls (slot c.set_aside.new.store.slots k) h (sym (ap hulls_of (c.settle.ensures k)) ∙ e))
-      (covered_out c.self.inside.blocks.hulls.items c.cover_place.new.blocks.hulls.items c.self.inside.roots.list c.settle_unless.new.self.list (hulls_at (record { slots = c.self.inside.store.slots; marking = c.self.inside.marking; roots = c.self.inside.roots.list; marked_roots = c.self.inside.roots.former; mode = c.self.inside.mode })) c.in-Some.place (subst (KeepsPlaces c.in-Some.place c.self.inside.roots.list) (sym c.settle_unless.ensures.list) c.in-Some.ensures.kept) c.cover_place.ensures.kept c.cover_place.ensures.here c.self.invariant.covered);
+      (covered_out c.self.inside.blocks c.cover_place.new.blocks c.self.inside.roots.list c.settle_unless.new.self.list (hulls_at (record { slots = c.self.inside.store.slots; marking = c.self.inside.marking; roots = c.self.inside.roots.list; marked_roots = c.self.inside.roots.former; mode = c.self.inside.mode })) c.in-Some.place (subst (KeepsPlaces c.in-Some.place c.self.inside.roots.list) (sym c.settle_unless.ensures.list) c.in-Some.ensures.kept) c.cover_place.ensures.kept c.cover_place.ensures.here c.self.invariant.covered);
 }
 
 pub invariant_of-self-else-not-self : goal.invariant_of-self-else-not-self
@@ -32,9 +32,9 @@ invariant_of-self-else-not-self c = record {
       IsForest-without_root (record { slots = c.self.inside.store.slots; marking = c.self.inside.marking; roots = c.self.inside.roots.list; marked_roots = c.self.inside.roots.former; mode = c.self.inside.mode }) _ c.in-Some.root r.0 r.1 r.2 c.set_aside.ensures.pointwise c.self.invariant.forest c.if-not-self.false c.if-not-self.false
       (rw c.settle_unless.ensures.list (tops_left (record { slots = c.self.inside.store.slots; marking = c.self.inside.marking; roots = c.self.inside.roots.list; marked_roots = c.self.inside.roots.former; mode = c.self.inside.mode }) (record { slots = c.set_aside.new.store.slots; marking = c.self.inside.marking; roots = c.self.inside.roots.list; marked_roots = c.self.inside.roots.former; mode = c.self.inside.mode }) c.in-Some.root r.0 r.1 r.2 c.set_aside.ensures.pointwise c.self.invariant.forest c.args.name c.take_out.new.self.list c.in-Some.ensures.gone c.take_out.ensures.apart))
       (c.settle_unless.ensures.former ∙ ap (λ b. if b then c.take_out.new.self.former else c.take_out.new.self.list) c.if-not-self.false ∙ c.take_out.ensures.former);
-  covered = covered_part c.cover_place.new.blocks.hulls.items c.settle_unless.new.self.list _ (hulls_at (record { slots = c.self.inside.store.slots; marking = c.self.inside.marking; roots = c.self.inside.roots.list; marked_roots = c.self.inside.roots.former; mode = c.self.inside.mode })) _ refl
+  covered = covered_part c.cover_place.new.blocks c.settle_unless.new.self.list _ (hulls_at (record { slots = c.self.inside.store.slots; marking = c.self.inside.marking; roots = c.self.inside.roots.list; marked_roots = c.self.inside.roots.former; mode = c.self.inside.mode })) _ refl
       (λ k h e. sym (ap hulls_of (c.set_aside.ensures.pointwise k) ∙ hulls_flag _ (slot c.self.inside.store.slots k)) ∙ e)
-      (covered_out c.self.inside.blocks.hulls.items c.cover_place.new.blocks.hulls.items c.self.inside.roots.list c.settle_unless.new.self.list (hulls_at (record { slots = c.self.inside.store.slots; marking = c.self.inside.marking; roots = c.self.inside.roots.list; marked_roots = c.self.inside.roots.former; mode = c.self.inside.mode })) c.in-Some.place (subst (KeepsPlaces c.in-Some.place c.self.inside.roots.list) (sym c.settle_unless.ensures.list) c.in-Some.ensures.kept) c.cover_place.ensures.kept c.cover_place.ensures.here c.self.invariant.covered);
+      (covered_out c.self.inside.blocks c.cover_place.new.blocks c.self.inside.roots.list c.settle_unless.new.self.list (hulls_at (record { slots = c.self.inside.store.slots; marking = c.self.inside.marking; roots = c.self.inside.roots.list; marked_roots = c.self.inside.roots.former; mode = c.self.inside.mode })) c.in-Some.place (subst (KeepsPlaces c.in-Some.place c.self.inside.roots.list) (sym c.settle_unless.ensures.list) c.in-Some.ensures.kept) c.cover_place.ensures.kept c.cover_place.ensures.here c.self.invariant.covered);
 }
 
 pub returns-then-not-self-clause-there : goal.returns-then-not-self-clause-there

@@ -35,6 +35,11 @@ overflow_sub-left c =
     let is : c.depth_of-depth.result ≡ c.requires.here.0.depth = c.depth_of-depth.ensures ∙ ap (λ (xs : List (Option Entry)). depth_at (slot xs c.args.id)) c.in_ok-reserve.ensures.slots ∙ depth_present (slot c.self.inside.store.slots c.args.id) c.requires.here.0 there in
     omega arith
 
+pub replace-changed-requires-clause-here : goal.replace-changed-requires-clause-here
+replace-changed-requires-clause-here c =
+    let there = ap (λ (s : List (Option Entry)). present_of (slot s c.args.id)) c.in_ok-reserve.ensures.slots ∙ (ap (λ (v : ForestView). node_at v c.args.id) c.self.view_is ∙ c.requires.here.1) in
+    (c.requires.here.0, there, c.requires.here.2)
+
 pub replace-changed-requires-clause-spares : goal.replace-changed-requires-clause-spares
 replace-changed-requires-clause-spares c = let is = c.depth_of-depth.ensures in let many = c.in_ok-provide.ensures in omega arith
 
@@ -48,7 +53,7 @@ cover_root-requires-clause-tops c = tops_replaced (λ k. present_of (at c.reserv
 
 pub cover_root-requires-clause-others : goal.cover_root-requires-clause-others
 cover_root-requires-clause-others c =
-    covered_but (node_at (record { slots = c.self.inside.store.slots; marking = c.self.inside.marking; roots = c.self.inside.roots.list; marked_roots = c.self.inside.roots.former; mode = c.self.inside.mode })) c.self.inside.roots.list (hulls_at (record { slots = c.self.inside.store.slots; marking = c.self.inside.marking; roots = c.self.inside.roots.list; marked_roots = c.self.inside.roots.former; mode = c.self.inside.mode })) (λ k. hulls_of (at c.replace-changed.new.store k)) c.self.inside.blocks.hulls.items c.replace-changed.result c.self.invariant.forest.tops
+    covered_but (node_at (record { slots = c.self.inside.store.slots; marking = c.self.inside.marking; roots = c.self.inside.roots.list; marked_roots = c.self.inside.roots.former; mode = c.self.inside.mode })) c.self.inside.roots.list (hulls_at (record { slots = c.self.inside.store.slots; marking = c.self.inside.marking; roots = c.self.inside.roots.list; marked_roots = c.self.inside.roots.former; mode = c.self.inside.mode })) (λ k. hulls_of (at c.replace-changed.new.store k)) c.self.inside.blocks c.replace-changed.result c.self.invariant.forest.tops
     (λ k d t top n. c.replace-changed.ensures.others k d (ap (λ (s : List (Option Entry)). present_of (slot s k)) c.in_ok-reserve.ensures.slots ∙ t) top n ∙ ap (λ (s : List (Option Entry)). hulls_of (slot s k)) c.in_ok-reserve.ensures.slots)
     c.self.invariant.covered
 
@@ -58,7 +63,7 @@ invariant_of-self-then-not-self c = record {
       (tops_replaced (λ k. present_of (at c.reserve.new.self k)) (λ k. present_of (at c.replace-changed.new.store k)) c.self.inside.roots.list c.args.id c.args.state c.args.news.items _ c.replace-changed.ensures.replaced
       (IsTree-same (node_at (record { slots = c.self.inside.store.slots; marking = c.self.inside.marking; roots = c.self.inside.roots.list; marked_roots = c.self.inside.roots.former; mode = c.self.inside.mode })) (λ k. present_of (at c.reserve.new.self k)) (λ k. ap (λ (s : List (Option Entry)). present_of (slot s k)) c.in_ok-reserve.ensures.slots) c.self.invariant.forest.present.tree)
       (HasRoots-same (node_at (record { slots = c.self.inside.store.slots; marking = c.self.inside.marking; roots = c.self.inside.roots.list; marked_roots = c.self.inside.roots.former; mode = c.self.inside.mode })) (λ k. present_of (at c.reserve.new.self k)) c.self.inside.roots.list (λ k. ap (λ (s : List (Option Entry)). present_of (slot s k)) c.in_ok-reserve.ensures.slots) c.self.invariant.forest.tops)) (c.self.invariant.forest.unmarked c.if-not-self.true);
-  covered = covered_part c.cover_root.new.blocks.hulls.items c.self.inside.roots.list _ (λ k. hulls_of (at c.replace-changed.new.store k)) _ refl (λ k h e. settled_hulls (at c.replace-changed.new.store k) h (sym (ap hulls_of (c.settle.ensures k)) ∙ e)) c.cover_root.ensures;
+  covered = covered_part c.cover_root.new.blocks c.self.inside.roots.list _ (λ k. hulls_of (at c.replace-changed.new.store k)) _ refl (λ k h e. settled_hulls (at c.replace-changed.new.store k) h (sym (ap hulls_of (c.settle.ensures k)) ∙ e)) c.cover_root.ensures;
 }
 
 pub invariant_of-self-else-not-self : goal.invariant_of-self-else-not-self

@@ -13,4 +13,4 @@ invariant_of-self c = record {
 }
 
 pub tighten-requires : goal.tighten-requires
-tighten-requires c = covered_part c.self.inside.blocks.hulls.items c.self.inside.roots.list _ (hulls_at (record { slots = c.self.inside.store.slots; marking = c.self.inside.marking; roots = c.self.inside.roots.list; marked_roots = c.self.inside.roots.former; mode = c.self.inside.mode })) _ c.settle-2.ensures.list (λ k h e. settled_hulls (slot c.self.inside.store.slots k) h (sym (ap hulls_of (c.settle.ensures k)) ∙ e)) c.self.invariant.covered
+tighten-requires c = covered_part c.self.inside.blocks c.self.inside.roots.list _ (hulls_at (record { slots = c.self.inside.store.slots; marking = c.self.inside.marking; roots = c.self.inside.roots.list; marked_roots = c.self.inside.roots.former; mode = c.self.inside.mode })) _ c.settle-2.ensures.list (λ k h e. settled_hulls (slot c.self.inside.store.slots k) h (sym (ap hulls_of (c.settle.ensures k)) ∙ e)) c.self.invariant.covered

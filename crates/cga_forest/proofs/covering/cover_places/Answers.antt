@@ -5,7 +5,7 @@ use Rattle.cga_forest.proofs.covering.cover_places.Goals as goal
 
 pub loop-place-preserved : goal.loop-place-preserved
 loop-place-preserved c = record {
-  here = covered_next c.loop-place.blocks.hulls.items c.cover_place.new.blocks.hulls.items c.args.roots.now.list (λ k. hulls_of (at c.args.store.now k)) c.args.from c.loop-place.place c.loop-place.invariant.here c.cover_place.ensures.kept c.cover_place.ensures.here;
+  here = covered_next c.loop-place.blocks c.cover_place.new.blocks c.args.roots.now.list (λ k. hulls_of (at c.args.store.now k)) c.args.from c.loop-place.place c.loop-place.invariant.here c.cover_place.ensures.kept c.cover_place.ensures.here;
   kept = λ p h e. c.cover_place.ensures.kept p h (c.loop-place.invariant.kept p h e);
 }
 

@@ -5,6 +5,6 @@ use Rattle.cga_forest.proofs.covering.cover_places.Given as goal
 
 abbrev pub invariant-loop-place : goal.invariant-loop-place
 invariant-loop-place l = record {
-  here : (p : ℕ) → l.from ≤ p → p < l.place → IsCovered l.blocks.hulls.items l.roots.list (λ c. hulls_of (at l.store c)) p;
-  kept : StaysHeld l.fn.blocks.hulls.items l.blocks.hulls.items;
+  here : (p : ℕ) → l.from ≤ p → p < l.place → IsCovered l.blocks l.roots.list (λ c. hulls_of (at l.store c)) p;
+  kept : StaysHeld l.fn.blocks l.blocks;
 }

@@ -11,3 +11,6 @@ waits_at-waits-requires-clause-by c = subst order.IsWhole (sym c.chain-chain.ens
 
 pub waits_at-waits-requires-clause-own : goal.waits_at-waits-requires-clause-own
 waits_at-waits-requires-clause-own c = c.requires.chains c.args.node (seen c.in-Some-Some.entry.now) c.in-Some-Some.ensures
+
+pub is_above-requires-clause-node : goal.is_above-requires-clause-node
+is_above-requires-clause-node c = (seen c.in-Some-Some.entry.now, c.in-Some-Some.ensures, sym c.len.ensures)

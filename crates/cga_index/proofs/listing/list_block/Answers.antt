@@ -1,13 +1,13 @@
-use Rattle.std.proofs.Common.{◌≡◌, ◌∙◌, ◌++◌, ◌*◌, ap, arith, sym}
+use Rattle.std.proofs.Common.{◌∙◌, ◌+◌, ◌++◌, ◌*◌, ap, arith, sym}
 use Rattle.std.specs.List.{flat_map}
 use Rattle.cga_index.specs.Tree.{askers, below}
 use Rattle.cga_index.proofs.Askers.{list_step}
-use Rattle.cga_index.proofs.Blocks.{at_end, block_listed}
+use Rattle.cga_index.proofs.Blocks.{at_end, run_listed}
 use Rattle.cga_index.proofs.listing.list_block.Goals as goal
 
 pub returns-then-not-block_asks : goal.returns-then-not-block_asks
 returns-then-not-block_asks g c =
-    block_listed (g.H.HullTree.view c.args.tree.now) c.requires.laws c.args.area.now c.args.block c.args.out.now.items (c.block_asks.ensures c.if-not-block_asks.true)
+    run_listed (g.H.HullTree.view c.args.tree.now) c.requires.laws c.args.area.now (16 * c.args.block) 16 (16 * (c.args.block + 1)) c.args.out.now.items (omega arith) (c.block_asks.ensures c.if-not-block_asks.true)
 
 pub loop-place-preserved : goal.loop-place-preserved
 loop-place-preserved g c =

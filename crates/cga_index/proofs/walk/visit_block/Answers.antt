@@ -1,19 +1,19 @@
-use Rattle.std.proofs.Common.{◌≡◌, ◌∙◌, ◌*◌, ◌+◌, ap, arith, drop}
+use Rattle.std.proofs.Common.{◌∙◌, ◌*◌, ◌+◌, ap, arith}
 use Rattle.std.specs.List.{flat_map}
 use Rattle.cga_index.specs.Occlusion.{join}
 use Rattle.cga_index.specs.Tree.{answer_over, below, reads, total}
-use Rattle.cga_index.proofs.Blocks.{at_end, block_counted, block_found}
+use Rattle.cga_index.proofs.Blocks.{at_end, run_counted, run_found}
 use Rattle.cga_index.proofs.Levels.{step_found, step_counted}
 use Rattle.cga_index.proofs.walk.visit_block.Goals as goal
 
 pub returns-then-not-block_touches-clause-found : goal.returns-then-not-block_touches-clause-found
 returns-then-not-block_touches-clause-found g c =
-    block_found (g.H.HullTree.view c.args.tree.now) c.requires.laws c.args.by c.args.target c.args.block c.args.area.now c.args.before c.requires.area (c.block_touches.ensures c.if-not-block_touches.true)
+    run_found (g.H.HullTree.view c.args.tree.now) c.requires.laws c.args.by c.args.target (16 * c.args.block) 16 (16 * (c.args.block + 1)) c.args.area.now c.args.before (omega arith) c.requires.area (c.block_touches.ensures c.if-not-block_touches.true)
 
 pub returns-then-not-block_touches-clause-counted : goal.returns-then-not-block_touches-clause-counted
 returns-then-not-block_touches-clause-counted g c =
     let v = g.H.HullTree.view c.args.tree.now in
-    block_counted (reads v c.args.by 257) v.roots c.args.block _
+    run_counted (reads v c.args.by 257) v.roots (16 * c.args.block) 16 (16 * (c.args.block + 1)) _ (omega arith)
 
 pub loop-place-preserved : goal.loop-place-preserved
 loop-place-preserved g c =

@@ -1,23 +1,15 @@
-use Rattle.std.proofs.Common.{◌≡◌, ℕ, ◌+◌, ◌-◌, ◌<◌, ◌∙◌, sym, ap, subst, arith, Option, Some, None}
+use Rattle.std.proofs.Common.{◌≡◌, ℕ, ◌+◌, ◌-◌, ◌<◌, ◌∙◌, sym, ap, arith, Option}
 use Rattle.cga_word.specs.declared.mode.Mode.{Mode}
 use Rattle.std.specs.declared.cmp.Ordering.{Ordering}
 use Rattle.std.specs.Ordering.{ordering_then}
 use Rattle.cga_order.specs.Chain.{Chain, IsWhole}
 use Rattle.cga_order.specs.Seen.{chain_of}
-use Rattle.cga_order.specs.Walk.{IsTop, IsWithin, tops_cmp}
-use Rattle.cga_order.proofs.Tops.{order_from, stamps_cmp-step, order_from-all}
+use Rattle.cga_order.specs.Walk.{IsTop, tops_cmp}
+use Rattle.cga_order.proofs.Tops.{order_from, stamps_cmp-step, order_from-all, IsTop-pred, IsWithin-from_IsTop}
 use Rattle.cga_order.proofs.walk.cmp_by_walk.Goals as goal
 
 pred-one : (depth : ℕ) → 0 < depth → depth ≡ (depth - 1) + 1
 pred-one depth h = omega arith
-
--- a top at one depth, as the top at one more than the next
-IsTop-pred : (mode : Mode) (chain : Chain) (depth : ℕ) (top : Option ℕ) → 0 < depth → IsTop mode chain depth top → IsTop mode chain ((depth - 1) + 1) top
-IsTop-pred mode chain depth top h t = subst (λ d. IsTop mode chain d top) (pred-one depth h) t
-
-IsWithin-from_IsTop : (mode : Mode) (chain : Chain) (depth : ℕ) (top : Option ℕ) → IsTop mode chain depth top → IsWithin chain top
-IsWithin-from_IsTop mode chain depth None t = tt
-IsWithin-from_IsTop mode chain depth (Some top) t = t.1
 
 pub cmp_tops-requires-clause-left : goal.cmp_tops-requires-clause-left
 cmp_tops-requires-clause-left c =

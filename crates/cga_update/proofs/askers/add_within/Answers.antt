@@ -1,7 +1,7 @@
 use Rattle.std.proofs.Common.{refl, sym, ap, subst, ◌∙◌, ◌+◌, ◌++◌, ◌∷◌, []}
 use Rattle.std.specs.List.{list_any}
 use Rattle.cga_frame.specs.Box.{meets}
-use Rattle.cga_forest.proofs.Laws.{keeps_laws}
+use Rattle.cga_forest.proofs.Laws.{lasting_laws}
 use Rattle.cga_update.specs.Askers.{AddsThese}
 use Rattle.cga_update.proofs.InLoops.{item_at}
 use Rattle.cga_update.proofs.NearAskers.{NearFirst, all_within, in_walk, passed, pushed}
@@ -9,7 +9,7 @@ use Rattle.cga_update.proofs.askers.add_within.Goals as goal
 use Rattle.cga_update.proofs.askers.add_within.Goals.{then-meets_one+in_ok-push, else-meets_one}
 
 pub queriers_meeting-requires : goal.queriers_meeting-requires
-queriers_meeting-requires g c = record { laws = keeps_laws c.args.forest.now c.laws.ensures }
+queriers_meeting-requires g c = record { laws = lasting_laws c.args.forest.now c.laws.ensures }
 
 pub own_box-own-requires : goal.own_box-own-requires
 own_box-own-requires g c =

@@ -29,7 +29,7 @@ returns-in-Some-root_of-clause-unwanted c = λ f k d w wanted.
     let same : k ≡ c.in-Some-root_of.root = some_same k c.in-Some-root_of.root (sym ((c.root_of.ensures k).1 (d, w.0, w.1, w.2)) ∙ c.in-Some-root_of.is) in
     let root = wanted_for c.args.renewal.new.now c.requires.names found.1.0 c.in-Some.lot.now found.1.1 d.node wanted (w.2 ∙ sym found.0) in
     let here : true ≡ false =
-    sym (c.is_root_at.ensures.whole d (ap (node_at c.args.forest.now) (sym same) ∙ w.0) (c.laws.ensures.present.places.root k d w.0 w.1).inner
+    sym (c.is_root_at.ensures.whole d (ap (node_at c.args.forest.now) (sym same) ∙ w.0)
     (subst (λ p. IsRootFor c.in-Some.lot.now p d.node) (sym (c.in_ok-facts.ensures.facts c.requires.known).priority) root)) ∙ f in absurd (cc)
 
 pub returns-in-None-clause-wanted : goal.returns-in-None-clause-wanted

@@ -1,4 +1,6 @@
 use Rattle.std.proofs.Common.{inl, inr}
+use Rattle.cga_forest.specs.Tree.{node_at}
+use Rattle.cga_update.proofs.DueNodes.{due_of}
 use Rattle.cga_update.proofs.Idle.{turn_idle}
 use Rattle.cga_update.proofs.Turning.{may_turn, turn_means}
 use Rattle.cga_update.proofs.Quiet.{quiet_means}
@@ -6,6 +8,12 @@ use Rattle.cga_update.proofs.turn.turn.Goals as goal
 
 pub returns-in-None-clause-turned : goal.returns-in-None-clause-turned
 returns-in-None-clause-turned g c = λ edit s means. turn_idle c.args.work.now c.take.new.agenda edit s means c.in-None.ensures.passed c.in-None.ensures.none c.args.expansions.now
+
+pub turn_of-requires : goal.turn_of-requires
+turn_of-requires g c =
+    let least = c.in-Some.ensures.taken in
+    let due = due_of (node_at c.args.work.now.forest c.in-Some.id) least.0 least.1.here in
+    record { here = (due.0, due.1, due.2) }
 
 pub returns-in_ok-turn_of-in-Some-clause-turned : goal.returns-in_ok-turn_of-in-Some-clause-turned
 returns-in_ok-turn_of-in-Some-clause-turned g c = λ edit s means.

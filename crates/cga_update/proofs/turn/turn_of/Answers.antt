@@ -1,5 +1,14 @@
+use Rattle.std.proofs.Common.{ap, ◌∙◌}
+use Rattle.cga_forest.specs.Tree.{node_at}
+use Rattle.cga_update.specs.declared.work.Work.{Work}
 use Rattle.cga_update.proofs.TurnOf.{expanded_turn, placed_turn, quiet_turn}
 use Rattle.cga_update.proofs.turn.turn_of.Goals as goal
+
+pub expand_at-requires : goal.expand_at-requires
+expand_at-requires g c = record { here = (c.requires.here.0, ap (λ (w : Work). node_at w.forest c.args.id) c.in_ok-facts.ensures.rest ∙ c.requires.here.1, c.requires.here.2) }
+
+pub place_again-requires : goal.place_again-requires
+place_again-requires g c = record { here = (c.requires.here.0, ap (λ (w : Work). node_at w.forest c.args.id) c.in_ok-facts.ensures.rest ∙ c.requires.here.1, c.requires.here.2) }
 
 pub returns-then-must_expand-clause-turned : goal.returns-then-must_expand-clause-turned
 returns-then-must_expand-clause-turned g c =

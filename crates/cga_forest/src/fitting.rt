@@ -1,0 +1,24 @@
+ghost use Rattle.std.specs.Prelude.{◌≡◌};
+ghost use Rattle.cga_forest.specs.Node.{fits, same_sort};
+
+use crate::node::Node;
+use cga_shape::Kind;
+
+/// Whether an old child stays where a new one is asked for.
+#[tactic(auto, unfolding(crate::specs::Node::fits))]
+pub fn are_alike(old: &Node, new: &Node) -> bool
+    ensures { result ≡ fits old.now new.now }
+{
+    old.priority == new.priority && (same_sort(old.kind, new.kind) && old.shape == new.shape)
+}
+
+/// Neither is an instance, or both are instances of one primitive.
+fn same_sort(a: Kind, b: Kind) -> bool
+    ensures { result ≡ same_sort a b }
+{
+    match (a, b) {
+        (Kind::Instance(a), Kind::Instance(b)) => a == b,
+        (Kind::Instance(_), _) | (_, Kind::Instance(_)) => false,
+        _ => true,
+    }
+}
