@@ -13,7 +13,9 @@ NAME = re.compile(r"[a-z0-9_]+\.edit")
 # by this the toolchain takes a crate for one with tests, and then it wants some
 SIGN = re.compile(r"#\s*\[[^]]*\btest\b")
 TESTED = re.compile(r"#\[cfg\(test\)\]\n(?:pub )?mod (\w+);")
-# as rt fmt lays it out, the body of a function that does something begins in one of these two ways; a law's is {}
+# a law's body is {}, or cites other laws
+CITES = re.compile(r"^\{\n(?:    \w+\(\);\n)+\}$", re.M)
+# as rt fmt lays it out, the body of a function that does something begins in one of these two ways
 BODY = re.compile(r"^\s*(?:(?:pub(?:\(\w+\))? )?(?:const )?fn .*\{|\{)$", re.M)
 
 
@@ -49,7 +51,7 @@ def tested_alone(crate):
 
 def computes(crate):
     files = set(crate.glob("src/**/*.rt")) - tested_alone(crate)
-    return files != {crate / "src/main.rt"} and any(BODY.search(file.read_text()) for file in files)
+    return files != {crate / "src/main.rt"} and any(BODY.search(CITES.sub("{}", file.read_text())) for file in files)
 
 
 def faults_of(crate):

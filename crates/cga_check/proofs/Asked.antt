@@ -7,7 +7,6 @@ use Rattle.cga_word.specs.declared.target.Target.{Target}
 use Rattle.cga_rule.specs.declared.rule.Rule.{Rule}
 use Rattle.cga_rule.specs.declared.grammar.Entry.{Entry}
 use Rattle.cga_rule.specs.declared.grammar.Grammar.{Grammar}
-use Rattle.cga_rule.specs.declared.grammar.Group.{Group}
 use Rattle.cga_check.specs.Groups.{is_of, first_entry, rules_of, place_of, placed, placed_all, by_id, group_with, group, names, asks, mentions_attribute, mentions_target, group_asks, group_names}
 
 or_none : (b c : Bool) → (b || (false || c)) ≡ (b || c)

@@ -15,7 +15,6 @@ use Rattle.cga_shape.specs.declared.edit.Edit.TheVariants as edit
 use Rattle.cga_shape.specs.declared.sources.Sources.{Sources}
 use Rattle.cga_city.specs.Apply.{apply, changed, within}
 use Rattle.cga_city.specs.Grammars.{with_rules, ranked, IsRising}
-use Rattle.cga_city.specs.Derived.{is_within}
 use Rattle.cga_city.specs.Inside.{AreSound}
 use Rattle.cga_city.specs.Laws.{with_entries, WholeSetsThem}
 use Rattle.cga_city.proofs.Sorting.{decide, all_at, all_from, IsStrict, Rises, one_rising}

@@ -8,7 +8,7 @@ use Rattle.cga_order.specs.World.{Has}
 use Rattle.cga_order.specs.Run as run
 use Rattle.cga_order.proofs.Steps as steps
 use Rattle.cga_order.proofs.Places as places
-use Rattle.cga_order.proofs.Places.{slice_get-map, slice_get-append}
+use Rattle.cga_order.proofs.Places.{slice_get-map}
 use Rattle.cga_order.proofs.Chains.{snoc-same}
 use Rattle.cga_derivation.specs.Derivation.{Derivation, IsDerivation, place_of, reached, AllApart}
 use Rattle.cga_derivation.specs.Sites.{Site, erased, erase, chain_of, world_of, next_site, step_sites_by, sites, taken, SitesApart}

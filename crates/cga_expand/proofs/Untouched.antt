@@ -10,17 +10,14 @@ use Rattle.cga_order.specs.World.{Has, Among, IsNew, is_instance}
 use Rattle.cga_order.proofs.Maxima.{either}
 use Rattle.cga_order.proofs.Members.{Has-append, Has-index}
 use Rattle.cga_derivation.specs.Consistent.{IsConsistent, IsMade}
-use Rattle.cga_derivation.specs.Derivation.{Derivation, IsDerivation, IsDerived, NothingWaits, next_of, is_next, become, told, outcome, asked, step_by, step, reached}
-use Rattle.cga_derivation.proofs.Along.{both, first_of-passes, first_of-Has}
-use Rattle.cga_derivation.proofs.Least.{waiting_kind}
+use Rattle.cga_derivation.specs.Derivation.{Derivation, IsDerivation, NothingWaits, next_of, is_next, become, told, outcome, asked, step_by, step, reached}
+use Rattle.cga_derivation.proofs.Along.{first_of-Has}
 use Rattle.cga_derivation.proofs.Apart.{apart-reached}
 use Rattle.cga_derivation.proofs.Keys.{become-set}
 use Rattle.cga_derivation.proofs.Derived.{derived_consistent}
 use Rattle.cga_shape.specs.declared.shape.Shape.{Shape}
 use Rattle.cga_shape.specs.declared.sources.Sources.{Sources}
-use Rattle.cga_expand.specs.Children.{Member}
-use Rattle.cga_expand.specs.Derivation.{derivation_of, NamesDiffer, priority_of}
-use Rattle.cga_expand.specs.Settings.{setting_of}
+use Rattle.cga_expand.specs.Derivation.{derivation_of, NamesDiffer}
 use Rattle.cga_expand.specs.Touched as touched
 use Rattle.cga_expand.proofs.Instance.{sources_are_derivations}
 

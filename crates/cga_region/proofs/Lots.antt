@@ -1,13 +1,11 @@
 -- The members of a lot are those that its district derives, and stand by their paths in both lists.
-use Rattle.std.proofs.Common.{◌≡◌, ℕ, List, [], ◌∷◌, ◌++◌, true, ◌⊎◌, inl, inr, refl, sym, ap, ◌∙◌, subst}
+use Rattle.std.proofs.Common.{◌≡◌, ℕ, List, [], ◌∷◌, ◌++◌, true, ◌⊎◌, inl, inr, sym, ap, ◌∙◌, subst}
 use Rattle.std.specs.List.{filter, flat_map}
 use Rattle.std.proofs.lemmas.Slice.Eq.{bytes_eq-Decides}
 use Rattle.cga_word.specs.declared.primitive.Primitive.{Primitive}
 use Rattle.cga_order.specs.declared.placed.Kind.{Kind}
-use Rattle.cga_order.specs.World.{Among, Has}
-use Rattle.cga_order.specs.Consistent.{SameMembers}
+use Rattle.cga_order.specs.World.{Has}
 use Rattle.cga_order.proofs.Members.{Has-left, Has-right, Has-append}
-use Rattle.cga_shape.specs.declared.lot.Lot.{Lot}
 use Rattle.cga_shape.specs.declared.shape.Shape.{Shape}
 use Rattle.cga_shape.specs.declared.shape_fault.ShapeFault.{ShapeFault}
 use Rattle.cga_shape.specs.declared.sources.Sources.{Sources}
@@ -16,7 +14,7 @@ use Rattle.cga_derivation.proofs.Derived.{derived_consistent}
 use Rattle.cga_expand.specs.Children.{Member}
 use Rattle.cga_expand.specs.Derivation.{derivation_of, NamesDiffer}
 use Rattle.cga_expand.proofs.Instance.{sources_are_derivations}
-use Rattle.cga_district.specs.Towns.{with_lots, AreLots}
+use Rattle.cga_district.specs.Towns.{with_lots}
 use Rattle.cga_district.proofs.Hulls.{lot_among}
 use Rattle.cga_district.proofs.Towns.{differ_left, differ_right, towns, two_names}
 use Rattle.cga_city.specs.Nodes.{AreApart}

@@ -8,7 +8,7 @@ use Rattle.cga_order.specs.declared.placed.Kind.TheVariants.{Done, Instance}
 use Rattle.cga_order.specs.Consistent.{SameMembers}
 use Rattle.cga_order.specs.Agenda.{Node, members_of, Keeps}
 use Rattle.cga_order.proofs.Chains.{snoc-same}
-use Rattle.cga_agenda.specs.Edit.{Edit, IsEdit, new_world, NonInstance}
+use Rattle.cga_agenda.specs.Edit.{Edit, IsEdit, NonInstance}
 use Rattle.cga_rework.specs.Ranked.{Ranked, ranked_world, edit_of, unranked, unranked_drawn}
 use Rattle.cga_order.specs.Once.{Once}
 use Rattle.cga_agenda.specs.Work.{IsWorking, IsStart}

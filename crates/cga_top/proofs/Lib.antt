@@ -19,6 +19,5 @@ pub mod Reading
 pub mod Ends
 pub mod Complete
 pub mod Given
-pub mod Undoing
 pub mod CityRuns
 pub mod LotByLot

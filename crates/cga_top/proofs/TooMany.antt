@@ -1,19 +1,17 @@
 -- One too many of the rules, the attributes or the lots is refused as all of them are.
-use Rattle.std.proofs.Common.{◌≡◌, ◌∙◌, ap, refl, sym, ℕ, ◌+◌, ◌<◌, ◌≤◌, min, nat_lt, List, [], ◌∷◌, ◌++◌, length, take, Bool, true, false, Result, Ok, Err, arith}
+use Rattle.std.proofs.Common.{◌≡◌, ◌∙◌, ap, refl, sym, ℕ, ◌+◌, ◌<◌, ◌≤◌, nat_lt, List, [], ◌∷◌, ◌++◌, length, take, Bool, true, false, Result, Ok, Err, arith}
 use Rattle.std.specs.Prelude.{if◌then◌else◌}
 use Rattle.std.proofs.lemmas.Bool.Decides.{nat_tests}
 use Rattle.std.proofs.lemmas.List.{length-take, take_all}
 use Rattle.cga_fraction.specs.Results.{and_then, err_if}
 use Rattle.cga_check.specs.Faults.{attribute_faults, check_fault, each_after, fault_if, first, rule_faults}
-use Rattle.cga_city.specs.Apply.{Changed, apply, by_check, changed, checked, with_grammar, within}
+use Rattle.cga_city.specs.Apply.{Changed, apply, by_check, checked, with_grammar, within}
 use Rattle.cga_city.specs.Grammars.{ranked}
 use Rattle.cga_city.specs.Lots.{accepted}
 use Rattle.cga_parser.specs.Kept.{kept}
 use Rattle.cga_rule.specs.declared.check_fault.CheckFault.{CheckFault}
 use Rattle.cga_rule.specs.declared.check_fault.CheckFault.TheVariants.{TooManyRules, TooManyAttributes}
 use Rattle.cga_rule.specs.declared.grammar.Grammar.{Grammar}
-use Rattle.cga_script.specs.CityLines.{kept_sources}
-use Rattle.cga_shape.specs.declared.edit.Edit.TheVariants.{Rules, Whole}
 use Rattle.cga_shape.specs.declared.edit_refused.EditRefused.{EditRefused}
 use Rattle.cga_shape.specs.declared.edit_refused.EditRefused.TheVariants as cause
 use Rattle.cga_shape.specs.declared.lot.Lot.{Lot}

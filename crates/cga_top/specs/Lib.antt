@@ -5,7 +5,6 @@ pub mod Stats
 pub mod Replies
 pub mod TooMany
 pub mod Output
-pub mod Undos
 pub mod Written
 pub mod Blocks
 pub mod Session
@@ -20,4 +19,3 @@ pub mod Reads
 pub mod Statuses
 pub mod Runs
 pub mod Hulls
-pub mod Dumped

@@ -1,31 +1,10 @@
-//! What the definition of the output says of lines is what they tell.
-ghost use Rattle.std.specs.Prelude.{ℕ, List, Ok, IfOk};
-ghost use Rattle.cga_form.specs.Lines.{Line};
-ghost use Rattle.cga_parser.specs.BlockTells.{GrammarTells};
+//! What is kept of a block with too many members is refused as the whole block is.
+ghost use Rattle.std.specs.Prelude.{ℕ};
 ghost use Rattle.cga_rule.specs.declared.grammar.Grammar.{Grammar};
-ghost use Rattle.cga_script.specs.CityLines.{CityTells};
-ghost use Rattle.cga_script.specs.Commands.{CommandTells};
-ghost use Rattle.cga_script.specs.declared.version.Version.{Version};
 ghost use Rattle.cga_shape.specs.declared.sources.Sources.{Sources};
-ghost use Rattle.cga_top.specs.Dumped.{DumpsAreSetBack};
-ghost use Rattle.cga_top.specs.Told.{command_of, rules_of, city_of};
 ghost use Rattle.cga_top.specs.TooMany.{FaultIsSame, RulesGiveSame, CityGivesSame};
-ghost use Rattle.cga_top.specs.Undos.{StatesAreWithin, UndosGoThrough, RedosGoThrough};
 
-use cga_city::laws::whole_sets_them;
 use cga_parser::too_many_are_cut;
-use cga_script::dump_reads_back;
-
-/// What a line outside a block is taken for is the one thing that it tells. Does nothing: its contract is the law.
-pub fn commands_are_told()
-    ensures { (version : Version) (line : Line) → CommandTells version line (command_of version line) }
-{}
-
-/// The same of the lines of a block, of rules and of a whole city.
-pub fn blocks_are_told()
-    ensures rules { (lines : List Line) → GrammarTells lines (rules_of lines) }
-    ensures city { (lines : List Line) → CityTells lines (city_of lines) }
-{}
 
 /// One too many of the rules, attributes or lots of a block is refused as all of them are. So no more need be kept.
 pub fn one_too_many_is_refused_as_all()
@@ -34,25 +13,4 @@ pub fn one_too_many_is_refused_as_all()
     ensures city { (s : Sources) (budget : ℕ) (other : Sources) → CityGivesSame s budget other }
 {
     too_many_are_cut();
-}
-
-/// Whatever lines came, the sources are sound, and come to no more shapes than the version allows.
-pub fn states_are_within_the_budget()
-    ensures { StatesAreWithin }
-{}
-
-/// Whatever lines came, an undo, where there is a past, is an edit that goes through and leaves just the sources that it
-/// takes; likewise a redo. So only memory can be wanting.
-pub fn undo_is_never_refused()
-    ensures undo { UndosGoThrough }
-    ensures redo { RedosGoThrough }
-{}
-
-/// What is read of the dump of a city's sources, set as a whole in any city of the same budget, gives just these sources
-/// again, the rules by rising id, unless memory is wanting. Of sources that a block said each line is one that is said.
-pub fn dumps_are_set_back()
-    ensures { DumpsAreSetBack }
-{
-    dump_reads_back();
-    whole_sets_them();
 }

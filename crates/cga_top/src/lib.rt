@@ -27,9 +27,6 @@ mod traces;
 mod turns;
 
 pub use cga_words::{Status, town_script};
-pub use laws::{
-    blocks_are_told, commands_are_told, dumps_are_set_back, one_too_many_is_refused_as_all,
-    states_are_within_the_budget, undo_is_never_refused,
-};
+pub use laws::one_too_many_is_refused_as_all;
 pub use telling::run_with_hulls;
 pub use top::run_city;

@@ -16,7 +16,7 @@ use Rattle.cga_expand.specs.Derivation.{derivation_of}
 use Rattle.cga_expand.specs.Touched.{Answered}
 use Rattle.cga_touched.specs.Words.{same_shape, same_answers}
 use Rattle.cga_touched.specs.Count.{Turn, with_turn, turns_of, is_turn, is_answered_alike}
-use Rattle.cga_touched.proofs.Words.{pair, shape_tells, answers_tell, tells_equal}
+use Rattle.cga_touched.proofs.Words.{pair, shape_tells, answers_tell}
 use Rattle.cga_touched.proofs.Words as words
 use Rattle.cga_touched.proofs.Lists.{any_found, any_by}
 

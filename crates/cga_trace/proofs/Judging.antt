@@ -6,7 +6,7 @@ use Rattle.std.proofs.lemmas.Slice.Eq.{bytes_eq-Decides}
 use Rattle.cga_form.specs.Lines.{Line, is_long}
 use Rattle.cga_order.proofs.Maxima.{either}
 use Rattle.cga_shape.specs.declared.trace_step.TraceStep.{TraceStep}
-use Rattle.cga_trace.specs.Text.{AreSteps, IsStep, header, step_text, trace_lines}
+use Rattle.cga_trace.specs.Text.{AreSteps, header, step_text}
 use Rattle.cga_trace.specs.Judged.{differs_at, is_headed, is_line, judged}
 use Rattle.cga_trace.specs.JudgeLines.{AgreeBefore, AreOf, AreRead, IsOf, IsRead, Stops, are_some, kept}
 use Rattle.cga_trace.specs.declared.judge_reader.JudgeReader.{JudgeReader}

@@ -1,5 +1,5 @@
 -- A text as its lines.
-use Rattle.std.proofs.Common.{◌≡◌, ℕ, List, [], ◌∷◌, ◌++◌, length, map, refl, sym, ap, ◌∙◌, append_assoc}
+use Rattle.std.proofs.Common.{◌≡◌, ℕ, List, [], ◌∷◌, ◌++◌, length, map, refl, ap, ◌∙◌}
 use Rattle.std.specs.Prelude.{codes, flat_map}
 use Rattle.cga_shape.specs.declared.trace_step.TraceStep.{TraceStep}
 use Rattle.cga_trace.specs.Text.{header, step_text, trace_text_of}

@@ -28,7 +28,7 @@ use Rattle.cga_forest.proofs.Laws.{there, inside}
 use Rattle.cga_update.specs.Asked.{answered}
 use Rattle.cga_update.specs.Edit.{ranked, kept_nodes}
 use Rattle.cga_order.proofs.Maxima.{either}
-use Rattle.cga_update.proofs.Cases.{bool_same, or_either, or_left, or_right, not_true, not_false, and_left, and_right, and_both}
+use Rattle.cga_queue.proofs.Cases.{bool_same, or_either, or_left, or_right, not_true, not_false, and_left, and_right, and_both}
 use Rattle.cga_update.proofs.Nodes.{member-node, node-member, kept_bound}
 use Rattle.cga_update.proofs.Places.{path_above, above_path}
 use Rattle.cga_update.proofs.Seen.{the_world, is_asked, counts_is}

@@ -41,7 +41,7 @@ use Rattle.cga_forest.specs.declared.moved.Moved.{Moved}
 use Rattle.cga_forest.specs.Moved.{ListsMoved, moved_of, primitive_of}
 use Rattle.cga_forest.specs.View.{Seen}
 use Rattle.cga_forest.specs.Tree.{ForestView, IsForest, marked_at, node_at}
-use Rattle.cga_update.specs.Agenda.{AgendaView}
+use Rattle.cga_queue.specs.Agenda.{AgendaView}
 use Rattle.cga_update.specs.Begun.{StandsMarked}
 use Rattle.cga_update.specs.Edit.{asks_by, content, kept_nodes, meets_box, rules_of, shapes_of, the_edit}
 use Rattle.cga_update.specs.Log.{came_of, drawn_before, drawn_of, is_of, IsLogged, noted_all, StayAlike, went_of}

@@ -12,7 +12,7 @@ use Rattle.cga_derivation.proofs.Lists.{some_same}
 use Rattle.cga_expand.specs.Derivation.{priority_of}
 use Rattle.cga_expand.specs.Settings.{Setting, setting_of}
 use Rattle.cga_forest.specs.Tree.{ForestView}
-use Rattle.cga_update.specs.Agenda.{AgendaView}
+use Rattle.cga_queue.specs.Agenda.{AgendaView}
 use Rattle.cga_update.specs.Changed.{IsNoted}
 use Rattle.cga_update.specs.Near.{HasThese, IsChangedFor, IsPricedFor, KeepsOn, KeepsPriority}
 use Rattle.cga_update.proofs.Members.{among_at}

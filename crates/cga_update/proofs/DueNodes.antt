@@ -10,10 +10,10 @@ use Rattle.cga_key.specs.Key.{chain_of_key}
 use Rattle.cga_forest.specs.Node.{chain_kept}
 use Rattle.cga_forest.specs.View.{Seen}
 use Rattle.cga_forest.specs.Tree.{ForestView, IsForest, node_at}
-use Rattle.cga_update.specs.Agenda.{AgendaView, Chains, Grows, IsLeast, IsPopped, IsPut, OneEach, SameOn, is_due}
+use Rattle.cga_queue.specs.Agenda.{AgendaView, Chains, Grows, IsLeast, IsPopped, IsPut, OneEach, SameOn, is_due}
 use Rattle.cga_update.specs.Due.{ComesAfter, HasLater}
 use Rattle.cga_update.specs.Queue.{chains_of, due_chain, on_of}
-use Rattle.cga_update.proofs.OnIt.{due_from, grows_on, is_least, least_after, passed_over, put_grows, same_on}
+use Rattle.cga_queue.proofs.OnIt.{due_from, grows_on, is_least, least_after, passed_over, put_grows, same_on}
 use Rattle.cga_update.proofs.Places.{same_node}
 
 -- where a node stands that may be on the agenda

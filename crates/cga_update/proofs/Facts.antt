@@ -1,7 +1,7 @@
 -- The facts of a symbol, once they are known.
 use Rattle.std.proofs.Common.{◌≡◌, ◌⊎◌, inl, inr, ℕ, suc, List, [], ◌∷◌, ◌++◌, Bool, true, false, ◌||◌, cond, refl, sym, ap, ◌∙◌, subst, Option, Some, None, slice_get, ◌+◌, ◌<◌, ◌≤◌, length, arith}
 use Rattle.std.proofs.lemmas.Option.{slice_get_within}
-use Rattle.std.specs.Prelude.{find, if◌then◌else◌}
+use Rattle.std.specs.Prelude.{find, if◌then◌else◌, Result, Ok, Err, IfOk}
 use Rattle.std.specs.List.{list_any}
 use lib.Pointwise.{bytes_decides}
 use Rattle.std.specs.Ordering.{nat_cmp, is_eq}
@@ -125,3 +125,8 @@ noted_end old new entries n list le first i e is = let z = slice_get_within entr
 pub noted_in : (old new : Grammar) (entries lent : List Entry) (list : List (List ℕ)) → lent ≡ entries → ((i : ℕ) (e : Entry) → slice_get lent i ≡ Some e → IsNoted old new list e.rule.symbol)
     → (i : ℕ) (e : Entry) → slice_get entries i ≡ Some e → IsNoted old new list e.rule.symbol
 noted_in old new entries lent list same each = subst (λ es. (i : ℕ) (e : Entry) → slice_get es i ≡ Some e → IsNoted old new list e.rule.symbol) same each
+
+-- what holds of the facts that were found, in other words
+pub on_value : {X E : Type 0} {P Q : X → Type 0} (r : Result X E) → ((x : X) → P x → Q x) → IfOk r P → IfOk r Q
+on_value (Ok x) f h = f x h
+on_value (Err e) f h = tt

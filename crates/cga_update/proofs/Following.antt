@@ -7,11 +7,11 @@ use Rattle.cga_word.specs.declared.mode.Mode.{Mode}
 use Rattle.cga_forest.specs.declared.change.Change.{Change}
 use Rattle.cga_forest.specs.declared.moved.Moved.{Moved}
 use Rattle.cga_forest.specs.Tree.{ForestView}
-use Rattle.cga_update.specs.Agenda.{AgendaView, Chains, Grows}
+use Rattle.cga_queue.specs.Agenda.{AgendaView, Chains, Grows}
 use Rattle.cga_update.specs.Due.{ComesAfter, HasAskers}
 use Rattle.cga_update.specs.Follow.{IsComer, IsFollowed}
 use Rattle.cga_update.specs.Queue.{chains_of, on_of}
-use Rattle.cga_update.proofs.OnIt.{grows_by, grows_on}
+use Rattle.cga_queue.proofs.OnIt.{grows_by, grows_on}
 
 below_or : (n j : ℕ) → j < n + 1 → (j < n) ⊎ (j ≡ n)
 below_or n j lt = grind arith

@@ -12,11 +12,11 @@ use Rattle.cga_forest.specs.Tree.{node_at}
 use Rattle.cga_rework.specs.Ranked.{Ranked}
 use Rattle.cga_rework.proofs.Whole.{empty_is_none}
 use Rattle.cga_update.specs.declared.work.Work.{Work}
-use Rattle.cga_update.specs.Agenda.{AgendaView, NoneOn, SameOn}
+use Rattle.cga_queue.specs.Agenda.{AgendaView, NoneOn, SameOn}
 use Rattle.cga_update.specs.Edit.{content, kept_nodes, rules_of, shapes_of, the_edit}
 use Rattle.cga_update.specs.Means.{Means}
 use Rattle.cga_update.specs.Queue.{chains_of, on_of}
-use Rattle.cga_update.proofs.Cases.{is_false}
+use Rattle.cga_queue.proofs.Cases.{is_false}
 use Rattle.cga_update.proofs.Nodes.{kept_bound}
 
 abbrev pub TheEdit : Type 0

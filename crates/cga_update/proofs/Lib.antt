@@ -3,12 +3,6 @@ pub mod Facts
 pub mod Agreeing
 pub mod InLoops
 pub mod Logged
-pub mod Entries
-pub mod OnIt
-pub mod TwoLines
-pub mod LinesTold
-pub mod Stamped
-pub mod Cases
 pub mod Edits
 pub mod Nodes
 pub mod Places

@@ -18,15 +18,15 @@ use Rattle.cga_forest.specs.Node.{bounds, chain_kept, fits}
 use Rattle.cga_forest.specs.View.{Seen}
 use Rattle.cga_forest.specs.Tree.{ForestView, marked_at, node_at}
 use Rattle.cga_rework.specs.Agenda.{IsMoved}
-use Rattle.cga_update.specs.Agenda.{AgendaView, is_later}
+use Rattle.cga_queue.specs.Agenda.{AgendaView, is_later}
 use Rattle.cga_update.specs.Due.{AllCame, ComersAreDue, ComesAfter, HasAskers}
 use Rattle.cga_update.specs.Edit.{content, meets_box, shapes_of}
 use Rattle.cga_update.specs.Follow.{IsComer, IsFollowed}
 use Rattle.cga_update.specs.Queue.{chains_of, due_chain, on_of}
-use Rattle.cga_update.proofs.Cases.{bool_cases, option_cases}
+use Rattle.cga_queue.proofs.Cases.{bool_cases, option_cases}
 use Rattle.cga_update.proofs.DueNodes.{due_is, due_of}
 use Rattle.cga_update.proofs.Moves.{chain_at, not_itself, some_one}
-use Rattle.cga_update.proofs.OnIt.{on_from, on_to}
+use Rattle.cga_queue.proofs.OnIt.{on_from, on_to}
 use Rattle.cga_forest.proofs.Books.{nat_cases}
 
 lt_is : (o : Ordering) → is_lt o ≡ true → o ≡ Less

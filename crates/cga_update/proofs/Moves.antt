@@ -11,12 +11,12 @@ use Rattle.cga_forest.specs.Node.{chain_kept}
 use Rattle.cga_forest.specs.View.{Seen}
 use Rattle.cga_forest.specs.Tree.{ForestView, marked_at, node_at}
 use Rattle.cga_rework.specs.Agenda.{IsTaken}
-use Rattle.cga_update.specs.Agenda.{AgendaView, IsLeast}
+use Rattle.cga_queue.specs.Agenda.{AgendaView, IsLeast}
 use Rattle.cga_update.specs.Due.{ComersAreDue}
 use Rattle.cga_update.specs.Edit.{content, shapes_of}
 use Rattle.cga_update.specs.Queue.{chains_of, on_of}
 use Rattle.cga_update.proofs.DueNodes.{due_is, due_of}
-use Rattle.cga_update.proofs.OnIt.{on_from}
+use Rattle.cga_queue.proofs.OnIt.{on_from}
 
 pub some_one : {X : Type 0} (o : Option X) (x y : X) → o ≡ Some x → o ≡ Some y → x ≡ y
 some_one o x y e f = let z : Some x ≡ Some y = sym e ∙ f in cc

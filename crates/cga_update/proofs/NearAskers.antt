@@ -18,12 +18,12 @@ use Rattle.cga_forest.specs.View.{Seen}
 use Rattle.cga_forest.specs.Tree.{ForestView, IsForest, marked_at, node_at}
 use Rattle.cga_forest.specs.Walked.{asks_of, lasting_tree, own_of}
 use Rattle.cga_forest.proofs.Laws.{in_forest, in_lasting, inside, there}
-use Rattle.cga_update.specs.Agenda.{AgendaView}
+use Rattle.cga_queue.specs.Agenda.{AgendaView}
 use Rattle.cga_update.specs.Around.{IsAround}
 use Rattle.cga_update.specs.Askers.{AddsThese, AsksNear, AsksWithin, ListsNear, boxes_of}
 use Rattle.cga_update.specs.Due.{HasAskers, HasLater}
 use Rattle.cga_update.specs.Near.{HasNear, HasThese}
-use Rattle.cga_update.proofs.Cases.{and_both, and_left, and_right}
+use Rattle.cga_queue.proofs.Cases.{and_both, and_left, and_right}
 use Rattle.cga_update.proofs.Members.{among_at, among_either, among_left, among_right, any_from, any_to, member_at, member_either}
 use Rattle.cga_update.proofs.Nearby.{First, at_or_below, first_cases}
 

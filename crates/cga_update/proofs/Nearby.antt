@@ -7,7 +7,7 @@ use Rattle.cga_index.specs.Tree.{Member}
 use Rattle.cga_derivation.proofs.Lists.{some_same}
 use Rattle.cga_forest.specs.declared.moved.Moved.{Moved}
 use Rattle.cga_forest.specs.Tree.{ForestView, node_at}
-use Rattle.cga_update.specs.Agenda.{AgendaView, Grows}
+use Rattle.cga_queue.specs.Agenda.{AgendaView, Grows}
 use Rattle.cga_update.specs.Begun.{HasMoved}
 use Rattle.cga_update.specs.Near.{HasNear, HasParents, HasThese, KeepsOn}
 use Rattle.cga_update.specs.Queue.{chains_of, on_of}

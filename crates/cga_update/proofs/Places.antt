@@ -15,7 +15,7 @@ use Rattle.cga_forest.specs.Roots.{same_name}
 use Rattle.cga_forest.specs.Standing.{is_above, at_parent}
 use Rattle.cga_forest.specs.Tree.{ForestView, IsForest, node_at, above}
 use Rattle.cga_forest.proofs.Books.{nat_cases}
-use Rattle.cga_update.proofs.Cases.{option_cases, or_left, or_right, or_either}
+use Rattle.cga_queue.proofs.Cases.{option_cases, or_left, or_right, or_either}
 
 snoc_empty : (xs : List ℕ) (i : ℕ) → xs ++ i ∷ [] ≡ [] → ⊥
 snoc_empty xs i e = let z : length (xs ++ i ∷ []) ≡ 0 = ap length e in omega (arith, z, length-append xs (i ∷ []))

@@ -21,7 +21,7 @@ use Rattle.cga_forest.specs.View.{Seen}
 use Rattle.cga_forest.specs.Tree.{node_at}
 use Rattle.cga_update.specs.declared.changed.Symbols.{Symbols}
 use Rattle.cga_update.specs.declared.work.Work.{Work}
-use Rattle.cga_update.specs.Agenda.{AgendaView, IsLeast}
+use Rattle.cga_queue.specs.Agenda.{AgendaView, IsLeast}
 use Rattle.cga_update.specs.Changed.{AreKnown}
 use Rattle.cga_update.specs.Edit.{asks_by, content, kept_nodes, ranked, rules_of, shapes_of, the_edit}
 use Rattle.cga_update.specs.Means.{Means}

@@ -27,7 +27,7 @@ use Rattle.cga_update.specs.Edit.{content}
 use Rattle.cga_update.specs.Means.{ArePriced}
 use Rattle.cga_update.specs.Plain.{IsPlain}
 use Rattle.cga_update.specs.Turned.{IsAgain, emitted_as, emitted_of}
-use Rattle.cga_update.proofs.Cases.{option_cases}
+use Rattle.cga_queue.proofs.Cases.{option_cases}
 use Rattle.cga_update.proofs.Children.{child_at, priced_is}
 
 length_from : (g : Grammar) (n : Node) (k : ℕ) (es : List Emitted) → length (children_from g n k es) ≡ length es

@@ -13,7 +13,7 @@ use Rattle.cga_forest.specs.Tree.{ForestView, IsForest, node_at}
 use Rattle.cga_shape.specs.declared.shape.Shape.{Shape}
 use Rattle.cga_shape.specs.declared.sources.Sources.{Sources}
 use Rattle.std.proofs.Common.{List}
-use Rattle.cga_update.specs.Agenda.{AgendaView}
+use Rattle.cga_queue.specs.Agenda.{AgendaView}
 use Rattle.cga_update.specs.Begun.{IsFirst, StandsMarked}
 use Rattle.cga_update.specs.Roots.{View, AllWanted, AreThere, Gains, HasLost, HasOldLots, IsNewRoot, IsRerooted, IsRootNamed, IsWanted, Loses}
 

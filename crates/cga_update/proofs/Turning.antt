@@ -37,7 +37,7 @@ use Rattle.cga_rework.specs.Turn as theory
 use Rattle.cga_rework.proofs.Changes.{lists_are_changes}
 use Rattle.cga_rework.proofs.Whole.{node_turns}
 use Rattle.cga_update.specs.declared.work.Work.{Work}
-use Rattle.cga_update.specs.Agenda.{AgendaView, IsLeast}
+use Rattle.cga_queue.specs.Agenda.{AgendaView, IsLeast}
 use Rattle.cga_update.specs.Changed.{AreKnown}
 use Rattle.cga_update.specs.Due.{AllCame, ComersAreDue}
 use Rattle.cga_update.specs.Edit.{asks_by, content, kept_nodes, meets_box, ranked, rules_of, shapes_of, the_edit}
@@ -48,7 +48,7 @@ use Rattle.cga_update.specs.Log.{IsLogged, StayAlike, came_of, drawn_of, is_of, 
 use Rattle.cga_update.specs.Means.{ArePriced, Means, told_ranked}
 use Rattle.cga_update.specs.Queue.{chains_of, on_of}
 use Rattle.cga_update.specs.Turned.{IsPlacing, MayTurn}
-use Rattle.cga_update.proofs.Cases.{option_cases}
+use Rattle.cga_queue.proofs.Cases.{option_cases}
 use Rattle.cga_update.proofs.Children.{are_news, is_outcome, keeps_self, setting_asks}
 use Rattle.cga_update.proofs.Edits.{by_symbol, is_rules_edit}
 use Rattle.cga_update.proofs.Idle.{TheEdit, TheState}

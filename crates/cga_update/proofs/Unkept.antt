@@ -10,10 +10,10 @@ use Rattle.cga_forest.specs.declared.moved.Moved.{Moved}
 use Rattle.cga_forest.specs.Count.{tally}
 use Rattle.cga_forest.specs.View.{Seen, is_shown}
 use Rattle.cga_forest.specs.Tree.{ForestView, node_at}
-use Rattle.cga_update.specs.Agenda.{AgendaView}
+use Rattle.cga_queue.specs.Agenda.{AgendaView}
 use Rattle.cga_update.specs.Due.{ComersAreDue}
 use Rattle.cga_update.proofs.Beginning.{came_on}
-use Rattle.cga_update.proofs.Cases.{option_cases}
+use Rattle.cga_queue.proofs.Cases.{option_cases}
 use Rattle.cga_update.proofs.Counting.{none_shown}
 use Rattle.cga_update.proofs.Rooting.{IsRooted}
 

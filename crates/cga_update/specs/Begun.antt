@@ -18,7 +18,7 @@ use Rattle.cga_forest.specs.declared.moved.Moved.{Moved}
 use Rattle.cga_forest.specs.View.{Seen}
 use Rattle.cga_forest.specs.Tree.{ForestView, marked_at, node_at}
 use Rattle.cga_update.specs.declared.work.Work.{Work}
-use Rattle.cga_update.specs.Agenda.{AgendaView}
+use Rattle.cga_queue.specs.Agenda.{AgendaView}
 use Rattle.cga_update.specs.Applied.{ListsView}
 use Rattle.cga_update.specs.Edit.{asks_by, content, kept_nodes, rules_of, shapes_of, the_edit}
 use Rattle.cga_update.specs.Means.{Means}

@@ -9,7 +9,7 @@ use Rattle.cga_order.specs.World.{is_instance}
 use Rattle.cga_forest.specs.Node.{bounds, chain_kept}
 use Rattle.cga_forest.specs.View.{Seen}
 use Rattle.cga_forest.specs.Tree.{ForestView, marked_at, node_at}
-use Rattle.cga_update.specs.Agenda.{AgendaView, is_later}
+use Rattle.cga_queue.specs.Agenda.{AgendaView, is_later}
 use Rattle.cga_update.specs.Queue.{chains_of, on_of}
 
 -- the node comes later than another

@@ -5,7 +5,7 @@ use Rattle.cga_order.specs.World.{Among}
 use Rattle.cga_forest.specs.declared.change.Change.{Change}
 use Rattle.cga_forest.specs.declared.moved.Moved.{Moved}
 use Rattle.cga_forest.specs.Tree.{ForestView}
-use Rattle.cga_update.specs.Agenda.{AgendaView}
+use Rattle.cga_queue.specs.Agenda.{AgendaView}
 use Rattle.cga_update.specs.Due.{ComesAfter, HasAskers}
 use Rattle.cga_update.specs.Queue.{chains_of, on_of}
 

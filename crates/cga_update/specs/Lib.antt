@@ -3,8 +3,6 @@ pub mod Asked
 pub mod Stands
 pub mod Updates
 pub mod Laws
-pub mod Lines
-pub mod Agenda
 pub mod Queue
 pub mod Due
 pub mod Follow

@@ -9,7 +9,7 @@ use Rattle.cga_expand.specs.Settings.{setting_of}
 use Rattle.cga_order.specs.World.{is_instance}
 use Rattle.cga_forest.specs.View.{Seen}
 use Rattle.cga_forest.specs.Tree.{ForestView, marked_at, node_at}
-use Rattle.cga_update.specs.Agenda.{AgendaView}
+use Rattle.cga_queue.specs.Agenda.{AgendaView}
 use Rattle.cga_update.specs.Queue.{on_of}
 
 -- where one of the nodes is of the symbol, its priority is the old one

@@ -5,7 +5,7 @@ use Rattle.cga_order.specs.World.{is_instance}
 use Rattle.cga_forest.specs.Node.{chain_kept}
 use Rattle.cga_forest.specs.View.{Seen}
 use Rattle.cga_forest.specs.Tree.{ForestView, node_at}
-use Rattle.cga_update.specs.Agenda.{AgendaView, Chains, on}
+use Rattle.cga_queue.specs.Agenda.{AgendaView, Chains, on}
 
 -- where a node stands that is no instance
 abbrev pub due_chain : Option Seen → Option Chain

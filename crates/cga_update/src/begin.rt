@@ -3,7 +3,6 @@ ghost use Rattle.std.specs.Prelude.{◌≡◌, ℕ, IfOk, OnOk};
 ghost use Rattle.cga_forest.specs.Tree.{marked_at, node_at};
 ghost use Rattle.cga_update.specs.Begun.{HasBegun, HasMoved, IsBetween, StandsMarked};
 
-use crate::agenda::Agenda;
 use crate::changed::Symbols;
 use crate::due::add_moved;
 use crate::log::{note_came, note_went};
@@ -14,6 +13,7 @@ use crate::work::Work;
 use cga_depend::Dependents;
 use cga_forest::{Forest, Moved};
 use cga_fraction::{NoMemory, Steps};
+use cga_queue::Agenda;
 use std::alloc::Global;
 use std::sync::ledger::Ledger;
 

@@ -8,16 +8,16 @@ ghost use Rattle.cga_order.specs.Chain.{Chain as Along, IsWhole};
 ghost use Rattle.cga_order.specs.Seen.{chain_of};
 ghost use Rattle.cga_order.specs.Stamp.{stamp_cmp};
 ghost use Rattle.cga_forest.specs.Tree.{node_at};
-ghost use Rattle.cga_update.specs.Agenda.{Grows, IsLeast, NoneOn, OneEach, SameOn, is_due, is_later};
+ghost use Rattle.cga_queue.specs.Agenda.{Grows, IsLeast, NoneOn, OneEach, SameOn, is_due, is_later};
 ghost use Rattle.cga_update.specs.Due.{ComesAfter, HasLater};
 ghost use Rattle.cga_update.specs.Queue.{chains_of, on_of};
 
-use crate::agenda::Agenda;
 use cga_forest::{Forest, Moved, Node};
 use cga_fraction::NoMemory;
 use cga_index::NodeId;
 use cga_key::StampKey;
 use cga_order::{Chain, cmp_stamp};
+use cga_queue::Agenda;
 use cga_shape::Kind;
 use cga_word::Mode;
 use std::cmp::Ordering;

@@ -3,17 +3,17 @@ ghost use Rattle.std.specs.Prelude.{OnOk};
 ghost use Rattle.cga_frame.specs.Box.{box_of};
 ghost use Rattle.cga_order.specs.World.{Among};
 ghost use Rattle.cga_forest.specs.declared.moved.Moved.{Moved as Mover};
-ghost use Rattle.cga_update.specs.Agenda.{Grows, OneEach};
+ghost use Rattle.cga_queue.specs.Agenda.{Grows, OneEach};
 ghost use Rattle.cga_update.specs.Due.{ComesAfter, HasAskers};
 ghost use Rattle.cga_update.specs.Follow.{IsFollowed};
 ghost use Rattle.cga_update.specs.Queue.{chains_of};
 
-use crate::agenda::Agenda;
 use crate::askers::askers_near;
 use crate::due::{add_each, add_moved};
 use cga_forest::{Change, Forest, Moved};
 use cga_fraction::{NoMemory, Steps};
 use cga_index::NodeId;
+use cga_queue::Agenda;
 use std::sync::ledger::Ledger;
 
 /// Puts the nodes of the mark on it that ask, meet one of the moved and come later than another. Takes memory.

@@ -7,7 +7,6 @@
 #![tactic(auto)]
 
 mod again;
-mod agenda;
 mod around;
 mod asked;
 mod askers;
@@ -18,7 +17,6 @@ mod end;
 mod follow;
 mod kept;
 pub mod laws;
-mod lines;
 mod log;
 mod queue;
 mod renewal;

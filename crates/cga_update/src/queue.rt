@@ -8,7 +8,6 @@ ghost use Rattle.cga_update.specs.Changed.{AreKnown};
 ghost use Rattle.cga_update.specs.Near.{HasNear, HasParents, HasThese, IsChangedFor, IsPricedFor, KeepsOn, KeepsPriorities, KeepsPriority};
 ghost use Rattle.cga_depend.specs.Pairs.{nodes_in};
 
-use crate::agenda::Agenda;
 use crate::askers::askers_near;
 use crate::changed::Symbols;
 use crate::due::add_worked;
@@ -17,6 +16,7 @@ use cga_depend::Dependents;
 use cga_forest::{Forest, Moved};
 use cga_fraction::{NoMemory, Steps};
 use cga_index::NodeId;
+use cga_queue::Agenda;
 use cga_word::Name;
 use std::sync::ledger::Ledger;
 

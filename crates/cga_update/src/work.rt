@@ -1,7 +1,7 @@
-use crate::agenda::Agenda;
 use crate::changed::Symbols;
 use crate::log::Pairing;
 use cga_forest::Forest;
+use cga_queue::Agenda;
 use cga_shape::{Drawn, Sources};
 use std::alloc::Global;
 

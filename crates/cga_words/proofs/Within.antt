@@ -1,6 +1,6 @@
 -- A value that is found passed the range of its option.
 use Rattle.std.proofs.Common.{◌≡◌, ◌∙◌, ◌++◌, ◌<◌, ◌||◌, ℕ, zero, suc, Bool, true, false, List, [], ◌∷◌, length, Option, Some, None, refl, sym, ap, subst, inl, inr, arith, codes}
-use Rattle.std.specs.Prelude.{option_map, slice_get, unwrap_or, pos}
+use Rattle.std.specs.Prelude.{option_map, slice_get, pos}
 use Rattle.std.specs.List.{All, slice_index_or}
 use Rattle.std.specs.Str.{bytes_eq}
 use Rattle.std.specs.Borrow.{Bor}

@@ -1,8 +1,8 @@
-use Rattle.std.proofs.Common.{◌≡◌, ◌+◌, ◌-◌, ◌<◌, ◌≤◌, true, false, drop, length, [], arith, ap, sym, ◌∙◌, refl}
+use Rattle.std.proofs.Common.{◌≡◌, ◌+◌, ◌-◌, ◌<◌, ◌≤◌, true, false, length, [], arith, ap, sym, ◌∙◌}
 use Rattle.cga_lexer.specs.Front.{front}
-use Rattle.cga_lexer.specs.Line.{lex, behind}
-use Rattle.cga_lexer.specs.declared.front.Front.TheVariants.{End, Blank, Token as Found, BadByte, BadNumber, LongName, OpenText}
-use Rattle.cga_script.specs.Ends.{are_end, ends_after}
+use Rattle.cga_lexer.specs.Line.{lex}
+use Rattle.cga_lexer.specs.declared.front.Front.TheVariants.{End, Blank}
+use Rattle.cga_script.specs.Ends.{are_end}
 use Rattle.cga_script.proofs.LineEnds.{nothing_more, no_end, at_end, turn, twice, other, word}
 use Rattle.cga_script.proofs.telling_lines.are_end.Goals as goal
 

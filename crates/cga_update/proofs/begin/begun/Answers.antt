@@ -2,7 +2,7 @@ use Rattle.std.proofs.Common.{◌∙◌, refl, sym, ap, subst, List}
 use Rattle.cga_forest.specs.declared.moved.Moved.{Moved}
 use Rattle.cga_forest.specs.Tree.{marked_at, node_at}
 use Rattle.cga_update.specs.declared.log.Pairing.{Pairing}
-use Rattle.cga_update.specs.Agenda.{AgendaView}
+use Rattle.cga_queue.specs.Agenda.{AgendaView}
 use Rattle.cga_update.specs.Begun.{HasMoved, IsFirst}
 use Rattle.cga_update.specs.Log.{IsLogged}
 use Rattle.cga_update.specs.Roots.{HasLost}

@@ -1,6 +1,6 @@
 use Rattle.std.proofs.Common.{◌≡◌, ℕ, ◌<◌, true, Some}
 use Rattle.std.specs.Prelude.{slice_get}
-use Rattle.cga_update.specs.Agenda.{Grows}
+use Rattle.cga_queue.specs.Agenda.{Grows}
 use Rattle.cga_update.specs.Due.{ComesAfter}
 use Rattle.cga_update.specs.Queue.{chains_of, on_of}
 use Rattle.cga_update.proofs.due.add_each.Given as goal

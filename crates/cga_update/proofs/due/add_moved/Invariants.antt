@@ -2,7 +2,7 @@ use Rattle.std.proofs.Common.{◌≡◌, ℕ, ◌<◌, true, Some}
 use Rattle.std.specs.Prelude.{IsSome, slice_get}
 use Rattle.cga_order.specs.World.{Among}
 use Rattle.cga_forest.specs.declared.moved.Moved.{Moved}
-use Rattle.cga_update.specs.Agenda.{Grows}
+use Rattle.cga_queue.specs.Agenda.{Grows}
 use Rattle.cga_update.specs.Queue.{chains_of, on_of}
 use Rattle.cga_update.proofs.due.add_moved.Given as goal
 

@@ -1,5 +1,5 @@
 use Rattle.std.proofs.Common.{◌≡◌, length}
-use Rattle.cga_update.specs.Agenda.{SameOn}
+use Rattle.cga_queue.specs.Agenda.{SameOn}
 use Rattle.cga_update.specs.Queue.{chains_of}
 use Rattle.cga_update.proofs.due.take.Given as goal
 

@@ -1,5 +1,0 @@
-use Rattle.cga_top.proofs.Asks.{command_told}
-use Rattle.cga_top.proofs.laws.commands_are_told.Goals as goal
-
-pub returns : goal.returns
-returns c = command_told
