@@ -24,6 +24,7 @@ use cga_update::{Kept, Renewal, UpdateRefused, update};
 use cga_word::{Mode, Name};
 use std::alloc::Global;
 use std::marker::Model;
+use std::mem::replace;
 use std::sync::ledger::Ledger;
 
 /// Sources, and the forest of the shapes that are derived from them.
@@ -151,15 +152,18 @@ impl City {
             budget: self.budget,
         };
         let mut changes = no_changes(alloc);
-        self.kept = no_shapes(alloc, mode);
-        match update(
+        drop(replace(&mut self.kept, no_shapes(alloc, mode)));
+        let told = update(
             alloc,
             &mut self.kept,
             renewal,
             &mut changes,
             expansions,
             tests,
-        ) {
+        );
+        drop(changes);
+        drop(empty);
+        match told {
             Ok(_) => {
                 self.warm = true;
                 Ok(())

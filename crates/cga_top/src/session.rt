@@ -37,6 +37,7 @@ pub(crate) fn new_session(alloc: Global, decimals: Decimals) -> Result<Session, 
     ensures start { IfOk result (IsAt (start decimals)) }
     ensures ready { IfOk result IsReady }
 {
+    let history = History::new(alloc)?;
     Ok(Session {
         alloc,
         decimals,
@@ -44,11 +45,19 @@ pub(crate) fn new_session(alloc: Global, decimals: Decimals) -> Result<Session, 
         version: Version::One,
         city: City::new(alloc, BUDGET),
         bill: Bill::new(alloc),
-        history: History::new(alloc)?,
+        history,
         wardrobe: Wardrobe::new(alloc),
         block: None,
         quiet: false,
     })
+}
+
+/// Puts a value in a place; what was there is let go. A large value's parts are then let go in one function and not
+/// in each that assigns to the place.
+pub(crate) fn put<T: Drop>(place: &mut T, value: T)
+    ensures { place.new ≡ value }
+{
+    *place = value;
 }
 
 /// The reply to what is accepted. Takes memory.

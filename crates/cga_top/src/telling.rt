@@ -75,7 +75,9 @@ fn told_of<S: Source, K: Sink, E: Ledger, T: Ledger>(
         Ok(session) => session,
         Err(NoMemory) => return Status::NoMemory,
     };
-    run_and_tell(&mut session, script, out, expansions, tests)
+    let status = run_and_tell(&mut session, script, out, expansions, tests);
+    drop(session);
+    status
 }
 
 /// Replies to a script as `run_city` does without words, and behind all replies writes for each lot the least box that

@@ -116,7 +116,9 @@ fn run_script<S: Source, K: Sink, E: Ledger, T: Ledger>(
         Ok(session) => session,
         Err(NoMemory) => return Status::NoMemory,
     };
-    run_in(&mut session, script, out, expansions, tests)
+    let status = run_in(&mut session, script, out, expansions, tests);
+    drop(session);
+    status
 }
 
 // Replies to lines that are all there, up to the end of their script.
@@ -188,7 +190,9 @@ fn run_given<K: Sink, E: Ledger, T: Ledger>(
         Ok(session) => session,
         Err(NoMemory) => return Status::NoMemory,
     };
-    given_in(&mut session, script, out, expansions, tests)
+    let status = given_in(&mut session, script, out, expansions, tests);
+    drop(session);
+    status
 }
 
 // Replies to the script of a town.

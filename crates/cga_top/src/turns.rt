@@ -10,7 +10,7 @@ use crate::commands::do_command;
 use crate::dresses::keep_asset;
 use crate::edits::change;
 use crate::open_block::{OpenBlock, city_edit, rules_edit};
-use crate::session::{Session, accepted};
+use crate::session::{Session, accepted, put};
 use crate::traces::judge_lines;
 use cga_asset::Wardrobe;
 use cga_bill::Bill;
@@ -32,13 +32,13 @@ fn begin_second(session: &mut Session) -> Result<List<u8>, NoMemory>
         → IfOk result (λ reply. Did (second s) session.new reply n n) }
     ensures ready { OnOk result (IsReady session.new) }
 {
-    session.history = History::new(session.alloc)?;
-    session.city = City::new(session.alloc, BUDGET_TWO);
-    session.bill = Bill::new(session.alloc);
-    session.wardrobe = Wardrobe::new(session.alloc);
+    put(&mut session.history, History::new(session.alloc)?);
+    put(&mut session.city, City::new(session.alloc, BUDGET_TWO));
+    put(&mut session.bill, Bill::new(session.alloc));
+    put(&mut session.wardrobe, Wardrobe::new(session.alloc));
     session.fresh = false;
     session.version = Version::Two;
-    session.block = None;
+    put(&mut session.block, None);
     session.quiet = false;
     accepted(session.alloc, false)
 }

@@ -1,5 +1,5 @@
 -- What an update begins with, and where it stands then.
-use Rattle.std.specs.Prelude.{◌≡◌, ℕ, List, length, Some, true, false}
+use Rattle.std.specs.Prelude.{◌≡◌, ℕ, List, [], length, Some, true, false}
 use Rattle.cga_frame.specs.Box.{box_of}
 use Rattle.cga_index.specs.Tree.{Member}
 use Rattle.cga_order.specs.World.{Among, is_instance}
@@ -20,6 +20,7 @@ use Rattle.cga_forest.specs.Tree.{ForestView, marked_at, node_at}
 use Rattle.cga_update.specs.declared.work.Work.{Work}
 use Rattle.cga_queue.specs.Agenda.{AgendaView}
 use Rattle.cga_update.specs.Applied.{ListsView}
+use Rattle.cga_update.specs.Changed.{AreKnown}
 use Rattle.cga_update.specs.Edit.{asks_by, content, kept_nodes, rules_of, shapes_of, the_edit}
 use Rattle.cga_update.specs.Means.{Means}
 use Rattle.cga_update.specs.Plain.{IsPlain}
@@ -39,6 +40,18 @@ pub record StandsMarked (old new : Sources) (v : ForestView) (d : DependentsView
   pub plain : (c : ℕ) (x : Seen) → node_at v c ≡ Some x → IsPlain x
   pub dependents : ListsView d (node_at v)
 
+-- the work is from these sources to those
+abbrev pub IsBetween : Sources → Sources → Work → Type 0
+IsBetween old new w = (w.old.now ≡ old) × (w.new.now ≡ new)
+
+-- nothing of the work is done yet
+pub record IsFresh (w : Work) : Type 0 where
+  pub mode : w.agenda.mode ≡ w.new.now.mode
+  pub symbols : AreKnown w.old.now.grammar w.new.now.grammar w.symbols.known
+  pub log : w.log.items ≡ []
+  pub gone : w.gone.items ≡ []
+  pub come : w.come.items ≡ []
+
 -- the roots that came are on the agenda, and those of the mark that ask near what went or came
 pub record HasMoved (v : ForestView) (went came : List Moved) (a : AgendaView) : Type 0 where
   pub roots : (m : Moved) → Among m came → HasThese v (λ c. c ≡ m.id) a
@@ -56,7 +69,3 @@ abbrev pub HasBegun : Sources → Sources → ForestView → Work → Type 0
 HasBegun old new v w =
     (s : State (Ranked Shape) Answers ShapeFault Primitive) × Means w (the_edit old new) s
     × IsReady (the_edit old new) (kept_nodes v) s (length (the_edit old new).new.roots)
-
--- the work is from these sources to those
-abbrev pub IsBetween : Sources → Sources → Work → Type 0
-IsBetween old new w = (w.old.now ≡ old) × (w.new.now ≡ new)

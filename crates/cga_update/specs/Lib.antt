@@ -2,6 +2,7 @@ pub mod Edit
 pub mod Asked
 pub mod Stands
 pub mod Updates
+pub mod Anew
 pub mod Laws
 pub mod Queue
 pub mod Due

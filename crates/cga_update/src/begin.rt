@@ -1,7 +1,7 @@
 //! The beginning of an update: the roots that go and come, and the first agenda.
 ghost use Rattle.std.specs.Prelude.{◌≡◌, ℕ, IfOk, OnOk};
 ghost use Rattle.cga_forest.specs.Tree.{marked_at, node_at};
-ghost use Rattle.cga_update.specs.Begun.{HasBegun, HasMoved, IsBetween, StandsMarked};
+ghost use Rattle.cga_update.specs.Begun.{HasBegun, HasMoved, IsBetween, IsFresh, StandsMarked};
 
 use crate::changed::Symbols;
 use crate::due::add_moved;
@@ -35,6 +35,60 @@ fn queue_rooted<T: Ledger>(
     Ok(())
 }
 
+/// Takes the roots that go away, puts those that come there, and puts on the agenda what the change may reach. Takes
+/// memory.
+fn begin<T: Ledger>(
+    work: &mut Work,
+    budget: u32,
+    dependents: &Dependents,
+    tests: &mut Steps<T>,
+) -> Result<(), NoMemory>
+    requires stands { StandsMarked work.now.old.now work.now.new.now work.now.forest dependents.now }
+    requires fresh { IsFresh work.now }
+    ensures begun { OnOk result (HasBegun work.entry.now.old.now work.entry.now.new.now work.entry.now.forest work.exit.now) }
+    ensures mark { OnOk result ((c : ℕ) → marked_at work.exit.now.forest c ≡ node_at work.entry.now.forest c) }
+    ensures sources { OnOk result (IsBetween work.entry.now.old.now work.entry.now.new.now work.exit.now) }
+{
+    let alloc = work.alloc;
+    let renewal = Renewal {
+        old: work.old,
+        new: work.new,
+        budget,
+    };
+    let mut went = Vec::new(alloc);
+    work.forest.laws();
+    remove_roots(
+        alloc,
+        &mut work.forest,
+        &mut work.symbols,
+        renewal,
+        &mut went,
+    )?;
+    work.all_came = work.forest.count() == 0;
+    let came = add_roots(alloc, &mut work.forest, work.new)?;
+    let went_nodes = went.as_slice();
+    let came_nodes = came.as_slice();
+    note_went(went_nodes, &mut work.log, &mut work.gone)?;
+    note_came(came_nodes, &mut work.log, &mut work.come)?;
+    queue_rooted(
+        &mut work.agenda,
+        &work.forest,
+        went_nodes,
+        came_nodes,
+        tests,
+    )?;
+    let priced = queue_changed(
+        &mut work.agenda,
+        &work.forest,
+        &mut work.symbols,
+        renewal,
+        dependents,
+    )?;
+    work.priced = priced;
+    work.forest.laws();
+    Ok(())
+}
+
 /// An update under way, before its first turn: the roots that went are gone, those that came are there, and the agenda has
 /// what the change may reach. The forest is marked, and the mark stays. Takes memory.
 pub fn begun<'a, T: Ledger>(
@@ -49,35 +103,24 @@ pub fn begun<'a, T: Ledger>(
     ensures mark { IfOk result (λ work. (c : ℕ) → marked_at work.forest c ≡ node_at forest c) }
     ensures sources { IfOk result (λ work. IsBetween renewal.entry.old.now renewal.entry.new.now work) }
 {
-    let mut forest = forest;
-    let mut symbols = Symbols::new(alloc);
-    let mut agenda = Agenda::new(alloc, renewal.new.mode);
-    let mut went = Vec::new(alloc);
-    let mut log = Vec::new(alloc);
-    let mut gone = Vec::new(alloc);
-    let mut come = Vec::new(alloc);
-    forest.laws();
-    remove_roots(alloc, &mut forest, &mut symbols, renewal, &mut went)?;
-    let all_came = forest.count() == 0;
-    let came = add_roots(alloc, &mut forest, renewal.new)?;
-    let went_nodes = went.as_slice();
-    let came_nodes = came.as_slice();
-    note_went(went_nodes, &mut log, &mut gone)?;
-    note_came(came_nodes, &mut log, &mut come)?;
-    queue_rooted(&mut agenda, &forest, went_nodes, came_nodes, tests)?;
-    let priced = queue_changed(&mut agenda, &forest, &mut symbols, renewal, dependents)?;
-    forest.laws();
-    Ok(Work {
+    let mut work = Work {
         alloc,
         forest,
-        agenda,
-        all_came,
-        priced,
-        symbols,
-        log,
-        gone,
-        come,
+        agenda: Agenda::new(alloc, renewal.new.mode),
+        all_came: false,
+        priced: false,
+        symbols: Symbols::new(alloc),
+        log: Vec::new(alloc),
+        gone: Vec::new(alloc),
+        come: Vec::new(alloc),
         old: renewal.old,
         new: renewal.new,
-    })
+    };
+    match begin(&mut work, renewal.budget, dependents, tests) {
+        Ok(()) => Ok(work),
+        Err(NoMemory) => {
+            drop(work);
+            Err(NoMemory)
+        }
+    }
 }

@@ -16,6 +16,7 @@ use cga_index::NodeId;
 use cga_rule::Grammar;
 use cga_shape::Changes;
 use cga_word::Name;
+use std::mem::{replace, swap};
 
 /// Makes the nodes of each symbol what a log says. Takes memory.
 pub fn apply(dependents: &mut Dependents, log: &[Pairing]) -> Result<(), NoMemory>
@@ -71,26 +72,32 @@ pub fn done(work: Work, kept: &mut Kept, changes: &mut Changes) -> Result<(), No
     ensures mentions { OnOk result ((a : List ℕ) → symbols_in kept.new.dependents a ≡ mentioning work.entry.new.now.grammar a) }
     ensures changes { OnOk result (changes.new ≡ record { gone = work.entry.gone.items; come = work.entry.come.items }) }
 {
-    let Work {
-        alloc: _,
-        forest: mut worked,
-        agenda: _,
-        all_came: _,
-        priced: _,
-        symbols: _,
-        log,
-        gone,
-        come,
-        old,
-        new,
-    } = work;
-    apply(&mut kept.dependents, log.as_slice())?;
-    renew_mentions(&mut kept.dependents, &old.grammar, &new.grammar)?;
-    worked.settle();
-    kept.forest = worked;
+    let mut work = work;
+    let told = keep(&mut work, kept, changes);
+    drop(work);
+    told
+}
+
+/// The same, and leaves in the work what was kept before.
+fn keep(work: &mut Work, kept: &mut Kept, changes: &mut Changes) -> Result<(), NoMemory>
+    requires marked { work.now.forest.marking ≡ true }
+    requires logged { IsLogged (marked_at work.now.forest) (node_at work.now.forest) work.now.log.items }
+    requires listed { ListsView kept.old.dependents (marked_at work.now.forest) }
+    requires mentions { (a : List ℕ) → symbols_in kept.old.dependents a ≡ mentioning work.now.old.now.grammar a }
+    ensures nodes { OnOk result ((c : ℕ) → node_at kept.new.forest c ≡ node_at work.entry.now.forest c) }
+    ensures unmarked { OnOk result (kept.new.forest.marking ≡ false) }
+    ensures mode { OnOk result (kept.new.forest.mode ≡ work.entry.now.forest.mode) }
+    ensures listed { OnOk result (ListsView kept.new.dependents (node_at work.entry.now.forest)) }
+    ensures mentions { OnOk result ((a : List ℕ) → symbols_in kept.new.dependents a ≡ mentioning work.entry.now.new.now.grammar a) }
+    ensures changes { OnOk result (changes.new ≡ record { gone = work.entry.now.gone.items; come = work.entry.now.come.items }) }
+{
+    apply(&mut kept.dependents, work.log.as_slice())?;
+    renew_mentions(&mut kept.dependents, &work.old.grammar, &work.new.grammar)?;
+    work.forest.settle();
+    swap(&mut kept.forest, &mut work.forest);
     *changes = Changes {
-        gone: List::from_vec(gone),
-        come: List::from_vec(come),
+        gone: List::from_vec(replace(&mut work.gone, Vec::new(work.alloc))),
+        come: List::from_vec(replace(&mut work.come, Vec::new(work.alloc))),
     };
     Ok(())
 }

@@ -7,6 +7,7 @@
 #![tactic(auto)]
 
 mod again;
+mod anew;
 mod around;
 mod asked;
 mod askers;

@@ -1,19 +1,20 @@
 //! The update.
-ghost use Rattle.std.specs.Prelude.{◌≡◌, ◌≢◌, ◌+◌, ◌≤◌, IfOk, OnOk};
+ghost use Rattle.std.specs.Prelude.{◌≡◌, ◌≢◌, ◌+◌, ◌≤◌, OnOk};
+ghost use Rattle.cga_update.specs.Anew.{IsAnew};
 ghost use Rattle.cga_expand.specs.Derivation.{NamesDiffer};
 ghost use Rattle.cga_expand.specs.Validity.{RootsExist};
 ghost use Rattle.cga_update.specs.Stands.{Stands};
 ghost use Rattle.cga_update.specs.Updates.{IsExact, IsUpdate, with_no_lots};
 
+use crate::anew::{Anew, without_lots};
 use crate::kept::Kept;
 use crate::renewal::Renewal;
 use crate::rework::rework;
 use crate::update_refused::UpdateRefused;
-use cga_depend::Dependents;
-use cga_forest::Forest;
-use cga_fraction::{List, NoMemory, Steps};
+use cga_fraction::{NoMemory, Steps};
 use cga_shape::{Changes, Sources};
 use std::alloc::Global;
+use std::mem::swap;
 use std::sync::ledger::Ledger;
 
 /// Makes what stands for the old sources stand for the new ones, and answers how many shapes were touched: so often it
@@ -59,34 +60,47 @@ fn change_mode<E: Ledger, T: Ledger>(
     requires stands { Stands renewal.old.now kept.old }
     ensures { IsUpdate renewal.entry kept.old kept.new changes.old changes.new expansions.old expansions.new result }
 {
-    let nothing = without_lots(alloc, renewal.new)?;
+    let mut anew = Anew::of(alloc, renewal.new)?;
+    let told = exchange(alloc, kept, &mut anew, renewal, changes, expansions, tests);
+    drop(anew);
+    told
+}
+
+/// The same with what stands for the new sources without their lots, which becomes what was kept.
+fn exchange<E: Ledger, T: Ledger>(
+    alloc: Global,
+    kept: &mut Kept,
+    anew: &mut Anew,
+    renewal: Renewal,
+    changes: &mut Changes,
+    expansions: &mut Steps<E>,
+    tests: &mut Steps<T>,
+) -> Result<u64, UpdateRefused>
+    requires mode { renewal.old.now.mode ≢ renewal.new.now.mode }
+    requires old_names { NamesDiffer renewal.old.now.lots }
+    requires names { NamesDiffer renewal.new.now.lots }
+    requires roots { RootsExist renewal.new.now.lots }
+    requires stands { Stands renewal.old.now kept.old }
+    requires anew { IsAnew renewal.new.now anew.old }
+    ensures { IsUpdate renewal.entry kept.old kept.new changes.old changes.new expansions.old expansions.new result }
+{
     let from_nothing = Renewal {
-        old: &nothing,
+        old: &anew.nothing,
         new: renewal.new,
         budget: renewal.budget,
     };
-    let mut anew = kept_of_nothing(alloc, renewal.new)?;
-    let mut made = Changes {
-        gone: List::new(alloc),
-        come: List::new(alloc),
-    };
-    let touched = rework(alloc, &mut anew, from_nothing, &mut made, expansions, tests)?;
+    let touched = rework(
+        alloc,
+        &mut anew.kept,
+        from_nothing,
+        &mut anew.made,
+        expansions,
+        tests,
+    )?;
     empty(alloc, kept, renewal.old, changes, expansions, tests)?;
-    *kept = anew;
-    changes.come = made.come;
+    swap(kept, &mut anew.kept);
+    swap(&mut changes.come, &mut anew.made.come);
     Ok(touched)
-}
-
-/// What is kept of sources without their lots. Takes memory.
-fn kept_of_nothing(alloc: Global, sources: &Sources) -> Result<Kept, NoMemory>
-    ensures { IfOk result (Stands (with_no_lots sources.now)) }
-{
-    let mut dependents = Dependents::new(alloc);
-    dependents.set_mentions(&sources.grammar)?;
-    Ok(Kept {
-        forest: Forest::new(alloc, sources.mode),
-        dependents,
-    })
 }
 
 /// Takes all lots away: `changes` tells the instances that go.
@@ -117,15 +131,4 @@ fn empty<E: Ledger, T: Ledger>(
         // No lots derive to no shapes.
         Err(UpdateRefused::OverBudget) => unreachable!(),
     }
-}
-
-fn without_lots(alloc: Global, sources: &Sources) -> Result<Sources, NoMemory>
-    ensures { IfOk result (λ nothing. nothing ≡ with_no_lots sources.now) }
-{
-    let grammar = sources.grammar.copy(alloc)?;
-    Ok(Sources {
-        grammar,
-        lots: List::new(alloc),
-        mode: sources.mode,
-    })
 }

@@ -4,4 +4,4 @@ use Rattle.cga_top.proofs.Bills.{new_ready}
 use Rattle.cga_top.proofs.session.new_session.Goals as goal
 
 pub returns-clause-ready : goal.returns-clause-ready
-returns-clause-ready c = new_ready _ BUDGET (omega arith) c.new.ensures c.new-2.ensures c.in_ok-new.ensures refl
+returns-clause-ready c = new_ready _ BUDGET (omega arith) c.new-2.ensures c.new-3.ensures c.in_ok-history.ensures refl

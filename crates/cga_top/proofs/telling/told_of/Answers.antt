@@ -8,5 +8,5 @@ use Rattle.cga_top.proofs.telling.told_of.Goals as goal
 
 pub returns-clause-told : goal.returns-clause-told
 returns-clause-told g c =
-    subst (λ (d : ℕ). c.run_and_tell.result ≡ Done → IfSome (g.S.Source.left c.args.script.now) (λ bytes. (text : List ℕ) × IsToldOf d bytes text
-    × Appends (g.K.Sink.held c.args.out.now) (g.K.Sink.held c.run_and_tell.new.out) (output_of d bytes ++ text))) c.in-Ok.ensures.start.decimals c.run_and_tell.ensures.told
+    subst (λ (d : ℕ). c.run_and_tell-status.result ≡ Done → IfSome (g.S.Source.left c.args.script.now) (λ bytes. (text : List ℕ) × IsToldOf d bytes text
+    × Appends (g.K.Sink.held c.args.out.now) (g.K.Sink.held c.run_and_tell-status.new.out) (output_of d bytes ++ text))) c.in-Ok.ensures.start.decimals c.run_and_tell-status.ensures.told

@@ -4,4 +4,4 @@ use Rattle.cga_top.proofs.top.run_given.Goals as goal
 
 pub returns-clause-means : goal.returns-clause-means
 returns-clause-means g c =
-    subst (λ (d : ℕ). GivenMeans d c.args.script.now c.given_in.result (sunk_in g.K.Sink c.args.out.now c.args.expansions.now) (sunk_in g.K.Sink c.given_in.new.out c.given_in.new.expansions)) c.in-Ok.ensures.start.decimals c.given_in.ensures.means
+    subst (λ (d : ℕ). GivenMeans d c.args.script.now c.given_in-status.result (sunk_in g.K.Sink c.args.out.now c.args.expansions.now) (sunk_in g.K.Sink c.given_in-status.new.out c.given_in-status.new.expansions)) c.in-Ok.ensures.start.decimals c.given_in-status.ensures.means

@@ -5,5 +5,5 @@ use Rattle.cga_top.proofs.top.run_script.Goals as goal
 
 pub returns-clause-means : goal.returns-clause-means
 returns-clause-means g c =
-    subst (λ (d : ℕ). StatusMeans d c.run_in.result (outside_of g.S.Source g.K.Sink c.args.script.now c.args.out.now c.args.expansions.now) (outside_of g.S.Source g.K.Sink c.run_in.new.script c.run_in.new.out c.run_in.new.expansions))
-    c.in-Ok.ensures.start.decimals c.run_in.ensures.means
+    subst (λ (d : ℕ). StatusMeans d c.run_in-status.result (outside_of g.S.Source g.K.Sink c.args.script.now c.args.out.now c.args.expansions.now) (outside_of g.S.Source g.K.Sink c.run_in-status.new.script c.run_in-status.new.out c.run_in-status.new.expansions))
+    c.in-Ok.ensures.start.decimals c.run_in-status.ensures.means

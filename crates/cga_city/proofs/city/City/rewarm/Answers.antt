@@ -3,14 +3,14 @@ use Rattle.cga_city.proofs.Valid.{sound_valid}
 use Rattle.cga_city.proofs.Warming.{warmed}
 use Rattle.cga_city.proofs.city.City.rewarm.Goals as goal
 
-pub update-requires-clause-names : goal.update-requires-clause-names
-update-requires-clause-names g c = names_differ c.self.inside.sources.lots c.self.invariant.sound.names
+pub update-told-requires-clause-names : goal.update-told-requires-clause-names
+update-told-requires-clause-names g c = names_differ c.self.inside.sources.lots c.self.invariant.sound.names
 
-pub update-requires-clause-roots : goal.update-requires-clause-roots
-update-requires-clause-roots g c = (sound_valid c.self.inside.sources c.self.invariant.sound).roots
+pub update-told-requires-clause-roots : goal.update-told-requires-clause-roots
+update-told-requires-clause-roots g c = (sound_valid c.self.inside.sources c.self.invariant.sound).roots
 
-pub update-requires-clause-stands : goal.update-requires-clause-stands
-update-requires-clause-stands g c = rw c.empty_sources-empty.ensures c.no_shapes.ensures
+pub update-told-requires-clause-stands : goal.update-told-requires-clause-stands
+update-told-requires-clause-stands g c = rw (c.empty_sources-empty.ensures, c.replace.ensures.after) c.no_shapes.ensures
 
 pub returns-in-Ok-clause-spent : goal.returns-in-Ok-clause-spent
 returns-in-Ok-clause-spent g c = λ cold.

@@ -1,7 +1,7 @@
 use Rattle.std.proofs.Common.{◌∙◌, ap}
 use Rattle.cga_depend.specs.Pairs.{DependentsView}
 use Rattle.cga_update.proofs.Fresh.{fresh_stands}
-use Rattle.cga_update.proofs.updating.kept_of_nothing.Goals as goal
+use Rattle.cga_update.proofs.anew.kept_of_nothing.Goals as goal
 
 pub returns : goal.returns
 returns c =

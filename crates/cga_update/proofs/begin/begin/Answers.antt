@@ -1,0 +1,95 @@
+use Rattle.std.proofs.Common.{◌∙◌, refl, sym, subst, List}
+use Rattle.cga_forest.specs.declared.moved.Moved.{Moved}
+use Rattle.cga_forest.specs.Tree.{marked_at, node_at}
+use Rattle.cga_update.specs.declared.log.Pairing.{Pairing}
+use Rattle.cga_update.specs.Begun.{HasMoved, IsFirst}
+use Rattle.cga_update.specs.Log.{IsLogged}
+use Rattle.cga_update.specs.Roots.{HasLost}
+use Rattle.cga_update.proofs.Beginning as proof
+use Rattle.cga_update.proofs.Logged.{drawn_from, log_from}
+use Rattle.cga_update.proofs.Nearby.{moved_kept}
+use Rattle.cga_update.proofs.Rooting.{IsRooted, still, wanted_after}
+use Rattle.cga_update.proofs.Unkept.{all_came, first_due, is_zero}
+use Rattle.cga_update.proofs.begin.begin.Goals as goal
+
+pub remove_roots-requires : goal.remove_roots-requires
+remove_roots-requires g c = record {
+  known = c.requires.fresh.symbols;
+  names = c.requires.stands.names;
+  scopes = c.requires.stands.scopes;
+  lots = proof.has_old_lots c.args.work.now.old.now c.args.work.now.new.now c.args.work.now.forest c.args.dependents.now c.requires.stands;
+}
+
+pub returns-clause-begun : goal.returns-clause-begun
+returns-clause-begun g c =
+    let old = c.args.work.now.old.now in
+    let new = c.args.work.now.new.now in
+    let first = c.args.work.now.forest in
+    let d = c.args.dependents.now in
+    let stands = c.requires.stands in
+    let before = c.remove_roots.new.forest in
+    let v = c.add_roots.new.forest in
+    let a = c.queue_changed.new.agenda in
+    let went = c.remove_roots.new.went.items in
+    let came = c.in_ok-came.came.items in
+    let first_laws = c.laws.ensures in
+    let laws = c.laws-2.ensures in
+    let lost : HasLost (node_at first) before went = c.in_ok-remove_roots.ensures.lost (node_at first) (proof.nothing_lost old new first d c.new-went.result.items c.new-went.ensures.items stands first_laws) in
+    let gains = c.in_ok-came.ensures.gains in
+    let loses = c.in_ok-remove_roots.ensures.loses in
+    let r = proof.now_rerooted old new first before v d went stands first_laws lost loses gains in
+    let keeps = still new (node_at first) first before v went (λ k. refl) (proof.parent_there first first_laws) lost loses gains in
+    let listed = proof.came_since (node_at first) before v went came lost keeps c.in_ok-came.ensures.came in
+    let wanted = wanted_after new before v c.in_ok-remove_roots.ensures.wanted gains in
+    let there = c.in_ok-came.ensures.there in
+    let moved : HasMoved v went came a =
+    moved_kept v c.queue_rooted.new.agenda a c.in_ok-priced.ensures.kept went came
+    (subst (λ (list : List Moved). HasMoved v list came c.queue_rooted.new.agenda) c.as_slice-went_nodes.ensures.value
+    (subst (λ (list : List Moved). HasMoved v c.as_slice-went_nodes.result.now list c.queue_rooted.new.agenda) c.as_slice-came_nodes.ensures.value c.in_ok-queue_rooted.ensures.moved)) in
+    let agenda : IsFirst old new v d went came a = record { moved = moved; changed = c.in_ok-priced.ensures.there; priced = c.in_ok-priced.ensures.parents } in
+    let start : IsRooted old new first v d went came a = record {
+      stands = stands;
+      roots = r;
+      listed = listed;
+      wanted = wanted;
+      there = there;
+      first_laws = first_laws;
+      laws = laws;
+      agenda = agenda;
+    } in
+    let begins = proof.begins start in
+    let lost_list = proof.lost start in (
+      proof.first_state start,
+      record {
+        edit_is = refl;
+        old_names = stands.old_names;
+        names = stands.names;
+        mode = c.in_ok-came.ensures.mode ∙ (c.in_ok-remove_roots.ensures.mode ∙ stands.mode);
+        agenda_mode = c.in_ok-priced.ensures.kept.mode ∙ c.in_ok-queue_rooted.ensures.mode ∙ c.requires.fresh.mode;
+        nodes = refl;
+        underway = begins.0;
+        queued = begins.1.1;
+        due = first_due start new.mode;
+        all_came = λ is k x there. r.marked k ∙ all_came (node_at first) before v keeps (is_zero c.count.result _ c.count.ensures is) k x there;
+        priced = λ is. proof.priced_now start (c.in_ok-priced.ensures.priced is);
+        silent = proof.silent_now start;
+        plain = proof.plain_now start;
+        gone = drawn_from c.note_went.new.gone.items c.args.work.now.gone.items c.as_slice-went_nodes.result.now went c.in_ok-note_went.ensures.gone c.requires.fresh.gone c.as_slice-went_nodes.ensures.value ∙ sym lost_list.2;
+        come = drawn_from c.note_came.new.come.items c.args.work.now.come.items c.as_slice-came_nodes.result.now came c.in_ok-note_came.ensures.come c.requires.fresh.come c.as_slice-came_nodes.ensures.value
+            ∙ proof.came_drawn start;
+        known = c.in_ok-priced.ensures.known;
+        marked = r.marking;
+        logged = subst (λ (log : List Pairing). IsLogged (marked_at v) (node_at v) log)
+            (sym (log_from c.note_came.new.log.items c.note_went.new.log.items c.args.work.now.log.items c.as_slice-went_nodes.result.now c.as_slice-came_nodes.result.now went came
+            c.in_ok-note_came.ensures.log c.in_ok-note_went.ensures.log c.requires.fresh.log c.as_slice-went_nodes.ensures.value c.as_slice-came_nodes.ensures.value))
+            (proof.logged start);
+      },
+      proof.is_ready start,
+    )
+
+pub returns-clause-mark : goal.returns-clause-mark
+returns-clause-mark g c =
+    let first = c.args.work.now.forest in
+    let lost : HasLost (node_at first) c.remove_roots.new.forest c.remove_roots.new.went.items =
+    c.in_ok-remove_roots.ensures.lost (node_at first) (proof.nothing_lost c.args.work.now.old.now c.args.work.now.new.now first c.args.dependents.now c.new-went.result.items c.new-went.ensures.items c.requires.stands c.laws.ensures) in
+    λ k. c.in_ok-came.ensures.gains.marked lost.marking k ∙ lost.marked k
