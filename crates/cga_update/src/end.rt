@@ -10,7 +10,6 @@ use crate::kept::Kept;
 use crate::log::Pairing;
 use crate::work::Work;
 use cga_depend::Dependents;
-use cga_forest::Forest;
 use cga_fraction::{List, NoMemory};
 use cga_index::NodeId;
 use cga_rule::Grammar;
@@ -114,26 +113,16 @@ fn renew_mentions(dependents: &mut Dependents, old: &Grammar, new: &Grammar) -> 
     dependents.set_mentions(new)
 }
 
-/// The forest as it was at the mark. The time goes by what changed since.
-pub fn undone(work: Work) -> Forest
+/// Puts the forest back as it was at the mark. The time goes by what changed since.
+pub fn put_back(work: Work, kept: &mut Kept)
     requires marked { work.forest.marking ≡ true }
-    ensures nodes { (c : ℕ) → node_at result c ≡ marked_at work.entry.forest c }
-    ensures unmarked { result.marking ≡ false }
-    ensures mode { result.mode ≡ work.entry.forest.mode }
+    ensures nodes { (c : ℕ) → node_at kept.new.forest c ≡ marked_at work.entry.forest c }
+    ensures unmarked { kept.new.forest.marking ≡ false }
+    ensures mode { kept.new.forest.mode ≡ work.entry.forest.mode }
+    ensures dependents { kept.new.dependents ≡ kept.old.dependents }
 {
-    let Work {
-        alloc: _,
-        mut forest,
-        agenda: _,
-        all_came: _,
-        priced: _,
-        symbols: _,
-        log: _,
-        gone: _,
-        come: _,
-        old: _,
-        new: _,
-    } = work;
-    forest.roll_back();
-    forest
+    let mut work = work;
+    work.forest.roll_back();
+    swap(&mut kept.forest, &mut work.forest);
+    drop(work);
 }

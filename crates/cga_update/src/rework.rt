@@ -12,7 +12,7 @@ ghost use Rattle.cga_update.specs.Stands.{Stands};
 ghost use Rattle.cga_update.specs.Updates.{IsUpdate};
 
 use crate::begin::begun;
-use crate::end::{done, undone};
+use crate::end::{done, put_back};
 use crate::kept::Kept;
 use crate::renewal::Renewal;
 use crate::update_refused::UpdateRefused;
@@ -45,14 +45,18 @@ pub fn rework<E: Ledger, T: Ledger>(
         return Err(UpdateRefused::OverBudget);
     }
     let mut under_way = begin_work(alloc, kept, renewal, tests)?;
-    match work_off(&mut under_way, renewal.budget, expansions, tests)? {
-        Ended::Within(touched) => {
+    match work_off(&mut under_way, renewal.budget, expansions, tests) {
+        Ok(Ended::Within(touched)) => {
             done(under_way, kept, changes)?;
             Ok(u64::from(touched))
         }
-        Ended::OverBudget => {
-            kept.forest = undone(under_way);
+        Ok(Ended::OverBudget) => {
+            put_back(under_way, kept);
             Err(UpdateRefused::OverBudget)
+        }
+        Err(NoMemory) => {
+            drop(under_way);
+            Err(UpdateRefused::NoMemory)
         }
     }
 }
