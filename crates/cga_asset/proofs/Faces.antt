@@ -15,7 +15,8 @@ abbrev Checked : Type 0
 Checked = Result (Unit {0}) AssetFault
 
 -- a face that fits, then those that are left
-pub one_face : (total : ℕ) (faces : List (List ℕ)) (lines : List ℕ) (i : ℕ) (f : List ℕ) (all : Checked) → i < length faces → i < length lines → get_or faces i f ≡ f → fits total f ≡ true
+pub one_face : (total : ℕ) (faces : List (List ℕ)) (lines : List ℕ) (i : ℕ) (f : List ℕ) (all : Checked)
+    → i < length faces → i < length lines → get_or faces i f ≡ f → fits total f ≡ true
     → pending total (drop i faces) (drop i lines) ≡ all → pending total (drop (i + 1) faces) (drop (i + 1) lines) ≡ all
 one_face total faces lines i f all h k at e so =
     let a : drop i faces ≡ f ∷ drop (i + 1) faces = drop_more faces i f h ∙ ap (λ (x : List ℕ). x ∷ drop (i + 1) faces) at in
@@ -27,7 +28,8 @@ one_face total faces lines i f all h k at e so =
     sym d ∙ (sym c ∙ so)
 
 -- and one that doesn't
-pub bad_face : (total : ℕ) (faces : List (List ℕ)) (lines : List ℕ) (i : ℕ) (f : List ℕ) (all : Checked) → i < length faces → i < length lines → get_or faces i f ≡ f → fits total f ≡ false
+pub bad_face : (total : ℕ) (faces : List (List ℕ)) (lines : List ℕ) (i : ℕ) (f : List ℕ) (all : Checked)
+    → i < length faces → i < length lines → get_or faces i f ≡ f → fits total f ≡ false
     → pending total (drop i faces) (drop i lines) ≡ all → Err (BadFace (get_or lines i 0)) ≡ all
 bad_face total faces lines i f all h k at e so =
     let a : drop i faces ≡ f ∷ drop (i + 1) faces = drop_more faces i f h ∙ ap (λ (x : List ℕ). x ∷ drop (i + 1) faces) at in
@@ -43,7 +45,8 @@ none_left total [] = refl
 none_left total (f ∷ fs) = refl
 
 -- no line is left
-pub no_line : (total : ℕ) (faces : List (List ℕ)) (lines : List ℕ) (i : ℕ) (all : Checked) → length lines ≤ i → pending total (drop i faces) (drop i lines) ≡ all → Ok tt ≡ all
+pub no_line : (total : ℕ) (faces : List (List ℕ)) (lines : List ℕ) (i : ℕ) (all : Checked) → length lines ≤ i
+    → pending total (drop i faces) (drop i lines) ≡ all → Ok tt ≡ all
 no_line total faces lines i all h so = sym (none_left total (drop i faces)) ∙ (ap (λ (x : List ℕ). pending total (drop i faces) x) (sym (drop_all i lines h)) ∙ so)
 
 -- one face more at the end
@@ -83,7 +86,8 @@ face_added total n m lines f e =
 
 -- the same of what the calls answered
 pub face_kept : (total n : ℕ) (m : SolidMesh) (lines : List ℕ) (f : List ℕ) (faces : List (List ℕ)) (more : List ℕ) (fault kept : Option AssetFault) (s : Said) (len : ℕ)
-    → length m.faces ≡ length lines → kept ≡ None → s ≡ Face (Some f) → faces ≡ m.faces ++ f ∷ [] → more ≡ lines ++ n ∷ [] → len ≡ length m.faces
+    → length m.faces ≡ length lines → kept ≡ None → s ≡ Face (Some f) → faces ≡ m.faces ++ f ∷ []
+    → more ≡ lines ++ n ∷ [] → len ≡ length m.faces
     → fault ≡ cond (nat_le most_faces len) (Some (TooManyFaces n)) None
     → and_then (pending total faces more) (λ u. unless_faulty fault (record { vertices = m.vertices; faces = faces }))
     ≡ and_then (and_then (pending total m.faces lines) (λ u. unless_faulty kept m)) (λ a. added total n a s)

@@ -15,10 +15,12 @@ use Rattle.cga_depend.proofs.Names.{same_sound, same_flip}
 abbrev pub step : List (List ℕ) → Entry → List (List ℕ)
 step symbols e = with_symbol symbols e.rule.symbol
 
-pub fold_next : (es : List Entry) (e : Entry) (rest : List Entry) (old new whole : List (List ℕ)) → es ≡ e ∷ rest → new ≡ with_symbol old e.rule.symbol → fold step old es ≡ whole → fold step new rest ≡ whole
+pub fold_next : (es : List Entry) (e : Entry) (rest : List Entry) (old new whole : List (List ℕ)) → es ≡ e ∷ rest
+    → new ≡ with_symbol old e.rule.symbol → fold step old es ≡ whole → fold step new rest ≡ whole
 fold_next es e rest old new whole s n h = ap (λ l. fold step l rest) n ∙ ap (λ l. fold step old l) (sym s) ∙ h
 
-pub fold_end : (es all : List Entry) (old : List (List ℕ)) → es ≡ [] → fold step old es ≡ fold step [] all → old ≡ symbols_of all
+pub fold_end : (es all : List Entry) (old : List (List ℕ)) → es ≡ [] → fold step old es ≡ fold step [] all
+    → old ≡ symbols_of all
 unfolding symbols_of
 fold_end es all old s h = ap (λ l. fold step old l) (sym s) ∙ h
 
@@ -27,7 +29,8 @@ module _ {X : Type 0} (p : X → Bool) where
   one : (x : X) (rest : List X) (b : Bool) → p x ≡ b → filter p (x ∷ rest) ≡ cond b (x ∷ filter p rest) (filter p rest)
   one x rest b t = ap (λ c. cond c (x ∷ filter p rest) (filter p rest)) t
 
-  pub filter_next : (xs : List X) (x : X) (rest old new whole : List X) → xs ≡ x ∷ rest → new ≡ (if p x then old ++ x ∷ [] else old) → old ++ filter p xs ≡ whole → new ++ filter p rest ≡ whole
+  pub filter_next : (xs : List X) (x : X) (rest old new whole : List X) → xs ≡ x ∷ rest
+      → new ≡ (if p x then old ++ x ∷ [] else old) → old ++ filter p xs ≡ whole → new ++ filter p rest ≡ whole
   filter_next xs x rest old new whole e n h = by (p x) refl
     where
       before : old ++ filter p (x ∷ rest) ≡ whole
@@ -53,15 +56,18 @@ naming g symbols a = filter (λ (s : List ℕ). group_names (group g s) a) symbo
 abbrev pub chosen : Bool → List (List ℕ) → List (List ℕ) → List (List ℕ)
 chosen b named other = if b then named else other
 
-pick : (b : Bool) (w : List (List ℕ)) (o : Option (List (List ℕ))) → unwrap_or (cond b (Some w) o) [] ≡ chosen b w (unwrap_or o [])
+pick : (b : Bool) (w : List (List ℕ)) (o : Option (List (List ℕ)))
+    → unwrap_or (cond b (Some w) o) [] ≡ chosen b w (unwrap_or o [])
 pick true w o = refl
 pick false w o = refl
 
 module _ (gr : Grammar) (symbols : List (List ℕ)) where
-  chosen_next : (name a : List ℕ) (rest : Bool) (old : List (List ℕ)) → chosen rest (naming gr symbols a) (chosen (same_name name a) (naming gr symbols name) old) ≡ chosen (same_name a name || rest) (naming gr symbols a) old
+  chosen_next : (name a : List ℕ) (rest : Bool) (old : List (List ℕ))
+      → chosen rest (naming gr symbols a) (chosen (same_name name a) (naming gr symbols name) old) ≡ chosen (same_name a name || rest) (naming gr symbols a) old
   chosen_next name a rest old = by rest (same_name name a) (same_name a name) (λ h. same_sound name a h) (same_flip name a) (same_flip a name)
     where
-      by : (r p q : Bool) → (p ≡ true → name ≡ a) → (p ≡ true → q ≡ true) → (q ≡ true → p ≡ true) → chosen r (naming gr symbols a) (chosen p (naming gr symbols name) old) ≡ chosen (q || r) (naming gr symbols a) old
+      by : (r p q : Bool) → (p ≡ true → name ≡ a) → (p ≡ true → q ≡ true) → (q ≡ true → p ≡ true)
+          → chosen r (naming gr symbols a) (chosen p (naming gr symbols name) old) ≡ chosen (q || r) (naming gr symbols a) old
       by true true true e f g = refl
       by true true false e f g = refl
       by true false true e f g = refl
@@ -72,14 +78,19 @@ module _ (gr : Grammar) (symbols : List (List ℕ)) where
       by false false false e f g = refl
 
   -- a step of the loop over the attributes
-  pub mention_next : (xs : List Attribute) (x : Attribute) (rest : List Attribute) (a : List ℕ) (old new : Option (List (List ℕ))) (whole : List (List ℕ)) → xs ≡ x ∷ rest → new ≡ cond (same_name x.name a) (Some (naming gr symbols x.name)) old → chosen (declares xs a) (naming gr symbols a) (unwrap_or old []) ≡ whole → chosen (declares rest a) (naming gr symbols a) (unwrap_or new []) ≡ whole
+  pub mention_next : (xs : List Attribute) (x : Attribute) (rest : List Attribute) (a : List ℕ) (old new : Option (List (List ℕ))) (whole : List (List ℕ))
+      → xs ≡ x ∷ rest → new ≡ cond (same_name x.name a) (Some (naming gr symbols x.name)) old
+      → chosen (declares xs a) (naming gr symbols a) (unwrap_or old []) ≡ whole
+      → chosen (declares rest a) (naming gr symbols a) (unwrap_or new []) ≡ whole
   mention_next xs x rest a old new whole e n h =
       ap (λ o. chosen (declares rest a) (naming gr symbols a) (unwrap_or o [])) n
       ∙ ap (λ l. chosen (declares rest a) (naming gr symbols a) l) (pick (same_name x.name a) (naming gr symbols x.name) old)
       ∙ chosen_next x.name a (declares rest a) (unwrap_or old [])
       ∙ ap (λ l. chosen (declares l a) (naming gr symbols a) (unwrap_or old [])) (sym e) ∙ h
 
-  pub mention_end : (xs : List Attribute) (a : List ℕ) (made : List (List ℕ)) → xs ≡ [] → symbols ≡ symbols_of gr.rules → chosen (declares xs a) (naming gr symbols a) made ≡ chosen (declares gr.attributes a) (naming gr symbols a) [] → made ≡ mentioning gr a
+  pub mention_end : (xs : List Attribute) (a : List ℕ) (made : List (List ℕ)) → xs ≡ [] → symbols ≡ symbols_of gr.rules
+      → chosen (declares xs a) (naming gr symbols a) made ≡ chosen (declares gr.attributes a) (naming gr symbols a) []
+      → made ≡ mentioning gr a
   unfolding mentioning
   mention_end xs a made e s h =
       ap (λ l. chosen (declares l a) (naming gr symbols a) made) (sym e) ∙ h

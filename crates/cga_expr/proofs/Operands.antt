@@ -15,18 +15,21 @@ module _ {X : Type 0} (by : Bool → Rat → Rat → Computed) (mark : X → Mar
       ∙ ap (λ (m : X). and_then ((mark m).1 k) (λ y. and_then (by (mark m).0 x y) (from_left by (map mark (drop (i + 1) xs)) k))) (sym at)
       ∙ ap (λ (m : Marked). and_then (m.1 k) (λ y. and_then (by m.0 x y) (from_left by (map mark (drop (i + 1) xs)) k))) is
 
-  pub goes_on : (y z : Rat) (r : Computed) → Ok y ≡ part k → Ok z ≡ by sign x y → from_left by (map mark (drop i xs)) k x ≡ r → from_left by (map mark (drop (i + 1) xs)) k z ≡ r
+  pub goes_on : (y z : Rat) (r : Computed) → Ok y ≡ part k → Ok z ≡ by sign x y
+      → from_left by (map mark (drop i xs)) k x ≡ r → from_left by (map mark (drop (i + 1) xs)) k z ≡ r
   goes_on y z r e f g =
       ap (λ (o : Computed). and_then o (from_left by (map mark (drop (i + 1) xs)) k)) f
       ∙ ap (λ (o : Computed). and_then o (λ y. and_then (by sign x y) (from_left by (map mark (drop (i + 1) xs)) k))) e
       ∙ sym turn ∙ g
 
-  pub has_no_operand : (f : ExprFault) (r : Computed) → Err f ≡ part k → from_left by (map mark (drop i xs)) k x ≡ r → Err f ≡ r
+  pub has_no_operand : (f : ExprFault) (r : Computed) → Err f ≡ part k → from_left by (map mark (drop i xs)) k x ≡ r
+      → Err f ≡ r
   has_no_operand f r e g =
       ap (λ (o : Computed). and_then o (λ y. and_then (by sign x y) (from_left by (map mark (drop (i + 1) xs)) k))) e
       ∙ sym turn ∙ g
 
-  pub is_refused : (y : Rat) (f : ExprFault) (r : Computed) → Ok y ≡ part k → Err f ≡ by sign x y → from_left by (map mark (drop i xs)) k x ≡ r → Err f ≡ r
+  pub is_refused : (y : Rat) (f : ExprFault) (r : Computed) → Ok y ≡ part k → Err f ≡ by sign x y
+      → from_left by (map mark (drop i xs)) k x ≡ r → Err f ≡ r
   is_refused y f r e h g =
       ap (λ (o : Computed). and_then o (from_left by (map mark (drop (i + 1) xs)) k)) h
       ∙ ap (λ (o : Computed). and_then o (λ y. and_then (by sign x y) (from_left by (map mark (drop (i + 1) xs)) k))) e

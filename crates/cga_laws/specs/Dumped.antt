@@ -31,5 +31,6 @@ pub record IsSetBack (s : Sources) (budget : ℕ) (text : List ℕ) : Type 0 whe
 -- of a dump of what a city has, where lines say each attribute, rule and lot
 abbrev pub DumpsAreSetBack : Type 0
 DumpsAreSetBack =
-    (s : Sources) (budget : ℕ) (text : List ℕ) → IsSpelledCity s → AreSound s → IsTrue (is_within budget s) → dump_of s ≡ Ok text
+    (s : Sources) (budget : ℕ) (text : List ℕ) → IsSpelledCity s → AreSound s → IsTrue (is_within budget s)
+        → dump_of s ≡ Ok text
     → IsSetBack s budget text

@@ -38,16 +38,19 @@ argument_listing n h = record { long = further_argument_long; reads = further_ar
 pub item_listing : (n : ℕ) → Listing n item_pieces (g.item n)
 item_listing n = record { long = item_long; reads = item_reads n }
 
-pub body_listing : (n : ℕ) → 0 < n → Listing (n - 1) further_body_pieces (g.further_body n (g.inside_of n) (g.inner_item n))
+pub body_listing : (n : ℕ) → 0 < n
+    → Listing (n - 1) further_body_pieces (g.further_body n (g.inside_of n) (g.inner_item n))
 body_listing n h = record { long = further_body_long; reads = further_body_reads n (n - 1) (g.inside_of n) (g.inner_item n) (inner_item_reads n (n - 1) (before n h)) }
 
 -- ---- one or more of a condition
 
-pub conj_is : (n : ℕ) (inner : Reader Cond) (i : Input) → g.conj n inner i ≡ and_then (g.one_test n inner i) (λ a. many (is_keyword k.And) (g.further_test n inner) >>= λ more. pure (roll-Conj (record { tests = a ∷ more })))
+pub conj_is : (n : ℕ) (inner : Reader Cond) (i : Input)
+    → g.conj n inner i ≡ and_then (g.one_test n inner i) (λ a. many (is_keyword k.And) (g.further_test n inner) >>= λ more. pure (roll-Conj (record { tests = a ∷ more })))
 unfolding g.conj
 conj_is n inner i = refl
 
-pub cond_is : (n : ℕ) (i : Input) → g.cond n i ≡ and_then (g.conj n (g.inner_of n) i) (λ a. many (is_keyword k.Or) (g.further_conj n (g.inner_of n)) >>= λ more. pure (roll-Cond (record { conjs = a ∷ more })))
+pub cond_is : (n : ℕ) (i : Input)
+    → g.cond n i ≡ and_then (g.conj n (g.inner_of n) i) (λ a. many (is_keyword k.Or) (g.further_conj n (g.inner_of n)) >>= λ more. pure (roll-Cond (record { conjs = a ∷ more })))
 unfolding g.cond g.cond_layer
 cond_is zero i = refl
 cond_is (suc n) i = refl

@@ -28,7 +28,8 @@ module _ (X S A B F P : Type 0) where
   NodeTurns =
       (shapes : Shapes S) (content : Content X S A F P) (old new : Rules S A B F P)
       → IsRulesEdit shapes old new → GoesBySymbol content new
-      → (fits : X → X → Bool) (asks : S → Bool) (meets : S → S → Bool) → IsFit content fits → SeesWhatMeets new asks meets
+      → (fits : X → X → Bool) (asks : S → Bool) (meets : S → S → Bool) → IsFit content fits
+      → SeesWhatMeets new asks meets
       → (V T : View X) (small great id : ℕ) (news : List X) (e now : Seen X) (gone agenda rest after : ℕ → Bool) (expanded : Bool)
       → IsBound V small → IsBound T great
       → IsUnderway shapes content new asks V agenda

@@ -13,9 +13,9 @@ use Rattle.cga_order.specs.Chain.{Chain, IsChild}
 use Rattle.cga_order.specs.Stamp.{stamp, birth, stamps_cmp, stamp_cmp}
 use Rattle.cga_order.specs.World.{World, is_instance}
 use Rattle.cga_order.specs.Consistent as world
-use Rattle.cga_order.proofs.Chains.{birth-child, root-before}
+use Rattle.cga_derivation.proofs.Door.{fitted-same}
+use Rattle.cga_order.proofs.Door.{birth-child, root-before}
 use Rattle.cga_order.specs.declared.placed.Kind.{Kind}
-use Rattle.cga_derivation.proofs.Sites.{fitted-same}
 use Rattle.cga_agenda.specs.Edit.{new_world}
 use Rattle.cga_rework.specs.Ranked.{Ranked, chain_of}
 use Rattle.cga_index.specs.Tree.{counts_for}
@@ -64,7 +64,8 @@ module _ (v : ForestView) (f : IsForest v) (old new : Sources) where
       ap (λ ps. record { lot = d.node.shape.lot; path = d.node.shape.path; priorities = ps })
       (fitted-same (length d.node.shape.path + 1) d.node.line (f.present.places.chain c d t))
 
-  pub child_chain : (c p : ℕ) (d e : Seen) → IsBelow e.node d.index d.node → IsChild (chain_kept e.node) d.index (chain_kept d.node)
+  pub child_chain : (c p : ℕ) (d e : Seen) → IsBelow e.node d.index d.node
+      → IsChild (chain_kept e.node) d.index (chain_kept d.node)
   child_chain c p d e b = record { lot = b.lot; path = b.path; priorities = (d.node.priority, b.line) }
 
   module _ (by : ℕ) (a : Seen) (here : T by ≡ Some a) where

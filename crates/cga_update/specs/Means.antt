@@ -33,7 +33,8 @@ told_ranked d = told (unranked_drawn d)
 -- each node that is no instance has the priority that its symbol has in the grammar
 abbrev pub ArePriced : Grammar → ForestView → Type 0
 ArePriced g v =
-    (c : ℕ) (d : Seen) → node_at v c ≡ Some d → is_instance d.node.kind ≡ false → d.node.priority ≡ priority_of g d.node.shape.symbol
+    (c : ℕ) (d : Seen) → node_at v c ≡ Some d → is_instance d.node.kind ≡ false
+        → d.node.priority ≡ priority_of g d.node.shape.symbol
 
 pub record Means (w : Work) (edit : Edit (Ranked Shape) Answers Setting ShapeFault Primitive) (s : State (Ranked Shape) Answers ShapeFault Primitive) : Type 0 where
   pub edit_is : edit ≡ the_edit w.old.now w.new.now
