@@ -1,7 +1,9 @@
-// Exact fractions, and the small types that every crate above shares: lists and boxes that contracts see as
-// what they hold, texts that grow, the answers for want of memory and for an early stop, and counters of steps. It knows nothing of
-// shapes or scopes.
-// The one thing that callers get wrong: a result that leaves the range is refused, and never rounded.
+//! Exact fractions, and the small types that every crate above shares: lists and boxes that contracts see as what they
+//! hold, texts that grow, the answers for want of memory and for an early stop, and counters of steps.
+//!
+//! It must not know shapes or scopes.
+//!
+//! What callers get wrong: a result that leaves the range is refused, and never rounded.
 #![tactic(auto)]
 
 mod boxed;

@@ -1,7 +1,9 @@
-// A program beside `cga_city`: it replies to a script in the same way, and then says of each lot the least box that
-// holds all of its shapes, drawn or not. By these boxes it is known whether two districts are apart. It knows the
-// system's input and output, and nothing of lots or of boxes.
-// The one thing that callers get wrong: without the exit status 0 not all of the boxes are there.
+//! A program beside `cga_city`: it replies to a script in the same way, and then says of each lot the least box that
+//! holds all of its shapes, drawn or not.
+//!
+//! It must not know lots, boxes or rules. By these boxes it is known whether two districts are apart.
+//!
+//! What callers get wrong: without the exit status 0 not all of the boxes are there.
 #![tactic(auto)]
 
 ghost use Rattle.std.specs.Prelude.{◌≡◌, ◌<◌, ◌++◌, List, ℕ, IfSome};

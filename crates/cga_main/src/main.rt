@@ -1,7 +1,9 @@
-// The program: replies to the script on standard input. It knows the system's input and output, its words and
-// exit statuses, and nothing of lines, rules or lots. Replies go through a buffer that is flushed after each
-// read, so that a person who types is answered at once and a long script isn't written line by line.
-// The one thing to get wrong: `main` alone has no contract, so it only hands on what the other functions answer.
+//! The program: replies to the script on standard input.
+//!
+//! It must not know lines, rules or lots. Replies go through a buffer that is flushed after each read, so that a person
+//! who types is answered at once and a long script isn't written line by line.
+//!
+//! What callers get wrong: that `main` alone has no contract, so it only hands on what the other functions answer.
 #![tactic(auto)]
 
 ghost use Rattle.std.specs.Prelude.{◌≡◌, ◌≢◌, ◌<◌, ◌⊎◌, [], ℕ, map, string_bytes, IfSome, IsFalse, IfOk, IfErr, IsErrAnd, MatchResult};
