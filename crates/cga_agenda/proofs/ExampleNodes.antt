@@ -123,7 +123,8 @@ one_root zero (suc j) n m h g = let x : ◌≡◌ {A = Option Five} None (Some m
 one_root (suc i) j n m h g = let x : ◌≡◌ {A = Option Five} None (Some n) = h in cc
 
 pub is_world : (children : Five → List (Placed Five ℕ ℕ))
-    → ((s : Five) (i : ℕ) (m : Placed Five ℕ ℕ) → slice_get (children s) i ≡ Some m → IsChild (chain s) i (chain m.shape) × IsNew m.kind)
+    → ((s : Five) (i : ℕ) (m : Placed Five ℕ ℕ) → slice_get (children s) i ≡ Some m
+      → IsChild (chain s) i (chain m.shape) × IsNew m.kind)
     → IsWorld (world_of edit (side children))
 is_world children child = record {
   whole = whole;

@@ -12,7 +12,9 @@ use Rattle.cga_order.proofs.Door as stamps
 use Rattle.cga_agenda.specs.Edit.{Edit, IsEdit, old_world, new_world, NonInstance, KeptAt, Kept}
 use Rattle.cga_order.specs.Once.{Once}
 use Rattle.cga_agenda.specs.Work.{next_worked, IsFresh, Expands, Places, IsTurnOf, IsReworked, IsOld, IsWorking, IsStart}
-use Rattle.cga_agenda.proofs.Working.{path_not_empty, Keeps-NonInstance, NonInstance-Keeps, ChildrenFrom, ChildrenTo, still_settled, same_children, waiting_is, settled_done, new_not, kept_new, order, was_right, one_kind, one_kind_old, parents_same, root_no_child, placed}
+use Rattle.cga_agenda.proofs.Working.{path_not_empty, Keeps-NonInstance, NonInstance-Keeps, ChildrenFrom, ChildrenTo}
+use Rattle.cga_agenda.proofs.Working.{still_settled, same_children, waiting_is, settled_done, new_not, kept_new}
+use Rattle.cga_agenda.proofs.Working.{order, was_right, one_kind, one_kind_old, parents_same, root_no_child, placed}
 
 module _ {N A B F P : Type 0} (edit : Edit N A B F P) (laws : IsEdit edit) (start : List (Node N A F P)) (started : IsStart edit start) (before after : List (Node N A F P)) (s : N) (queued requeued : N → Bool) (turned worked : List N) (expanded : Bool) (good : IsWorking edit start before queued turned worked) (turn : IsTurnOf edit before after s queued requeued expanded) where
   abbrev Nodes : Type 0
@@ -205,7 +207,8 @@ module _ {N A B F P : Type 0} (edit : Edit N A B F P) (laws : IsEdit edit) (star
 
   -- what had its turn is there after the turn, and was so before
   pub turned_stays : (x : N) → Among x turned
-      → ((k : Kind F P) × (a : A) × Keeps after x k a × (is_instance k ≡ false)) × ((x ≡ s) → ⊥) × ((k : Kind F P) (a : A) → Keeps after x k a → Keeps before x k a)
+      → ((k : Kind F P) × (a : A) × Keeps after x k a × (is_instance k ≡ false)) × ((x ≡ s) → ⊥)
+        × ((k : Kind F P) (a : A) → Keeps after x k a → Keeps before x k a)
   turned_stays x i =
       let g = good.stays x i in
       let d : x ≡ s → ⊥ = λ e. not_turned (subst (λ y. Among y turned) e i) in

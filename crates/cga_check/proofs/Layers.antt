@@ -30,7 +30,10 @@ use Rattle.cga_rule.specs.declared.item.Item.TheFolds.{fold_out-Body, fold-roll-
 use Rattle.cga_rule.specs.declared.item.Item.TheVariants as i
 use Rattle.cga_rule.specs.declared.item.Item.TheOpen as item
 use Rattle.cga_check.specs.declared.usage.Use.TheVariants.{Answer, Child, Named}
-use Rattle.cga_check.specs.Uses.{Uses, only, all, primary_step, added_step, expr_step, factor_step, scaled_step, term_step, primary_uses, added_uses, expr_uses, factor_uses, scaled_uses, term_uses, test_step, cond_step, conj_step, test_uses, cond_uses, conj_uses, size_uses, parts_uses, item_step, body_step, item_uses, body_uses}
+use Rattle.cga_check.specs.Uses.{Uses, only, all, primary_step, added_step, expr_step, factor_step, scaled_step}
+use Rattle.cga_check.specs.Uses.{term_step, primary_uses, added_uses, expr_uses, factor_uses, scaled_uses, term_uses}
+use Rattle.cga_check.specs.Uses.{test_step, cond_step, conj_step, test_uses, cond_uses, conj_uses, size_uses}
+use Rattle.cga_check.specs.Uses.{parts_uses, item_step, body_step, item_uses, body_uses}
 use Rattle.cga_check.proofs.Sifted.{flat_map_of_map, sifted_append, sifted_none}
 
 -- ---- expressions

@@ -12,7 +12,9 @@ use Rattle.cga_check.specs.declared.checks.TheConstants.{MOST_RULES, MOST_ATTRIB
 use Rattle.cga_check.specs.Uses.{rule_uses}
 use Rattle.cga_check.specs.Groups.{is_of}
 use Rattle.cga_check.specs.Probabilities.{are_probabilities}
-use Rattle.cga_check.specs.Faults.{Faults, first, fault_if, each_after, attribute_faults, id_is_taken, splits_priority, differs_in_arity, symbol_faults, param_faults, head_faults, use_faults, rule_faults, faults, check_fault, IsValid}
+use Rattle.cga_check.specs.Faults.{Faults, first, fault_if, each_after, attribute_faults, id_is_taken}
+use Rattle.cga_check.specs.Faults.{splits_priority, differs_in_arity, symbol_faults, param_faults, head_faults}
+use Rattle.cga_check.specs.Faults.{use_faults, rule_faults, faults, check_fault, IsValid}
 use Rattle.cga_check.proofs.Door.{if_none, none_left, none_right}
 use Rattle.cga_fraction.proofs.Door.{nat_eq_from_ne as untaken, or_false_first as or_left, or_false_second as or_right}
 use Rattle.std.proofs.lemmas.Bool.{or_from as or_none}

@@ -162,7 +162,8 @@ successor_draws (Some items) k shape es h =
     let c : m.children ≡ es = cc in
     subst AllDraw c (in_turn_keeps (map item_walk items) (all_items items) k (start shape) m at tt)
 
-pub expansion_draws : (attributes : List Attribute) (rules : List Rule) (shape : Shape) (answers : Answers) (es : List Emitted)
+pub expansion_draws : (attributes : List Attribute) (rules : List Rule) (shape : Shape) (answers : Answers)
+      (es : List Emitted)
     → expansion attributes rules shape answers ≡ Ok es → AllDraw es
 unfolding expansion
 expansion_draws attributes rules shape answers es h = elim (decide (nat_eq (length shape.path) MOST_DEPTH)) [

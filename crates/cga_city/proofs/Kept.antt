@@ -78,7 +78,8 @@ empty_city_is budget kept stands = record { sound = empty_sound; within = ([], e
 -- ---- edits
 
 -- what an update counted is what the edit touched
-pub done_gives : (s new : Sources) (e : Edit) (budget n x y k : ℕ) (warm : Bool) (before : List Member) (old changes : Changes)
+pub done_gives : (s new : Sources) (e : Edit) (budget n x y k : ℕ) (warm : Bool) (before : List Member)
+      (old changes : Changes)
     → AreSound s → derived budget s ≡ Some before → changed s e ≡ Ok new
     → IsExact s new budget n changes → y ≡ x + n → warm ≡ true
     → IsDone (record { sources = s; budget = budget; warm = warm; expanded = k; changes = old }) e (record { sources = new; budget = budget; warm = warm; expanded = n; changes = changes }) x y

@@ -1,5 +1,7 @@
 -- Rules by rising id, with another priority, and attributes with another value have no new fault.
-use Rattle.std.proofs.Common.{◌≡◌, ◌≢◌, ℕ, ◌+◌, suc, List, [], ◌∷◌, ◌++◌, length, take, drop, Bool, true, false, not, ◌||◌, nat_eq, nat_lt, refl, sym, ap, ◌∙◌, arith, zero-add, Option, Some, None, inl, inr, take-append-drop, length-append}
+use Rattle.std.proofs.Common.{◌≡◌, ◌≢◌, ℕ, ◌+◌, suc, List, [], ◌∷◌, ◌++◌, length, take, drop, Bool, true, false, not}
+use Rattle.std.proofs.Common.{◌||◌, nat_eq, nat_lt, refl, sym, ap, ◌∙◌, arith, zero-add, Option, Some, None, inl, inr}
+use Rattle.std.proofs.Common.{take-append-drop, length-append}
 use Rattle.std.specs.Prelude.{flat_map, find, insert}
 use Rattle.std.specs.List.{AllByRecursion, list_any, prefix_len}
 use Rattle.std.proofs.lemmas.Bool.Decides.{nat_tests}

@@ -1,5 +1,7 @@
 -- What edits keep of sources.
-use Rattle.std.proofs.Common.{◌≡◌, ℕ, suc, ◌<◌, ◌≤◌, List, [], ◌∷◌, ◌++◌, length, take, drop, true, false, not, Some, None, Option, Result, Ok, Err, refl, subst, ◌∙◌, arith, nat_lt, length-append, length-take, length-drop}
+use Rattle.std.proofs.Common.{◌≡◌, ℕ, suc, ◌<◌, ◌≤◌, List, [], ◌∷◌, ◌++◌, length, take, drop, true, false, not, Some}
+use Rattle.std.proofs.Common.{None, Option, Result, Ok, Err, refl, subst, ◌∙◌, arith, nat_lt, length-append}
+use Rattle.std.proofs.Common.{length-take, length-drop}
 use Rattle.std.specs.Prelude.{slice_set, remove}
 use Rattle.std.proofs.lemmas.List.Elements.{All-nil, All-cons, All-append, All-set, All-take, All-drop, All-weaker}
 use Rattle.std.proofs.Math.ListN.{length-set}

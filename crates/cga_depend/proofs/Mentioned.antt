@@ -63,11 +63,13 @@ pick false w o = refl
 
 module _ (gr : Grammar) (symbols : List (List ℕ)) where
   chosen_next : (name a : List ℕ) (rest : Bool) (old : List (List ℕ))
-      → chosen rest (naming gr symbols a) (chosen (same_name name a) (naming gr symbols name) old) ≡ chosen (same_name a name || rest) (naming gr symbols a) old
+      → chosen rest (naming gr symbols a) (chosen (same_name name a) (naming gr symbols name) old) ≡ chosen
+        (same_name a name || rest) (naming gr symbols a) old
   chosen_next name a rest old = by rest (same_name name a) (same_name a name) (λ h. same_sound name a h) (same_flip name a) (same_flip a name)
     where
       by : (r p q : Bool) → (p ≡ true → name ≡ a) → (p ≡ true → q ≡ true) → (q ≡ true → p ≡ true)
-          → chosen r (naming gr symbols a) (chosen p (naming gr symbols name) old) ≡ chosen (q || r) (naming gr symbols a) old
+          → chosen r (naming gr symbols a) (chosen p (naming gr symbols name) old) ≡ chosen (q || r)
+            (naming gr symbols a) old
       by true true true e f g = refl
       by true true false e f g = refl
       by true false true e f g = refl
@@ -78,7 +80,8 @@ module _ (gr : Grammar) (symbols : List (List ℕ)) where
       by false false false e f g = refl
 
   -- a step of the loop over the attributes
-  pub mention_next : (xs : List Attribute) (x : Attribute) (rest : List Attribute) (a : List ℕ) (old new : Option (List (List ℕ))) (whole : List (List ℕ))
+  pub mention_next : (xs : List Attribute) (x : Attribute) (rest : List Attribute) (a : List ℕ)
+        (old new : Option (List (List ℕ))) (whole : List (List ℕ))
       → xs ≡ x ∷ rest → new ≡ cond (same_name x.name a) (Some (naming gr symbols x.name)) old
       → chosen (declares xs a) (naming gr symbols a) (unwrap_or old []) ≡ whole
       → chosen (declares rest a) (naming gr symbols a) (unwrap_or new []) ≡ whole

@@ -1,5 +1,7 @@
 -- `derive` in the words of its definition.
-use Rattle.std.proofs.Common.{◌≡◌, ℕ, zero, suc, ◌+◌, ◌-◌, ◌<◌, ◌≤◌, List, [], ◌∷◌, ◌++◌, length, map, Bool, true, false, not, ◌&&◌, cond, refl, sym, ap, ◌∙◌, subst, ◌⊎◌, inl, inr, Result, Ok, Err, Option, Some, None, arith}
+use Rattle.std.proofs.Common.{◌≡◌, ℕ, zero, suc, ◌+◌, ◌-◌, ◌<◌, ◌≤◌, List, [], ◌∷◌, ◌++◌, length, map, Bool, true}
+use Rattle.std.proofs.Common.{false, not, ◌&&◌, cond, refl, sym, ap, ◌∙◌, subst, ◌⊎◌, inl, inr, Result, Ok, Err}
+use Rattle.std.proofs.Common.{Option, Some, None, arith}
 use Rattle.std.specs.Prelude.{slice_get, slice_set, nat_lt, MatchOption}
 use Rattle.std.specs.Ordering.{is_lt}
 use Rattle.std.specs.declared.cmp.Ordering.TheVariants.{Less, Equal}
@@ -154,7 +156,9 @@ module _ {N A F P : Type 0} (derivation : Derivation N A F P) where
     ]
 
     pub says : (budget : ℕ)
-        → MatchOption (derive derivation budget) ((n : ℕ) × (budget < length (reached derivation n))) (λ list. ((m : ℕ) → length (reached derivation m) ≤ budget) × ((n : ℕ) × (n ≤ budget) × (list ≡ reached derivation n) × ((s : N) → Has list s Waiting → ⊥)))
+        → MatchOption (derive derivation budget) ((n : ℕ) × (budget < length (reached derivation n)))
+          (λ list. ((m : ℕ) → length (reached derivation m) ≤ budget)
+          × ((n : ℕ) × (n ≤ budget) × (list ≡ reached derivation n) × ((s : N) → Has list s Waiting → ⊥)))
     unfolding derive
     says budget = elim (nat_lt budget (length (reached derivation budget))) as (λ b. nat_lt budget (length (reached derivation budget)) ≡ b → MatchOption (cond b None (Some (reached derivation budget))) ((n : ℕ) × (budget < length (reached derivation n))) (λ list. ((m : ℕ) → length (reached derivation m) ≤ budget) × ((n : ℕ) × (n ≤ budget) × (list ≡ reached derivation n) × ((s : N) → Has list s Waiting → ⊥)))) [
       | true ↦ λ e. (budget, over budget e)

@@ -38,14 +38,16 @@ module _ {N A F P : Type 0} (derivation : Derivation N A F P) (laws : IsDerivati
     good : steps.IsOrdered (world_of derivation) (sites derivation n)
     good = steps.in_order (world_of derivation) (world derivation laws) (taken derivation n) (sites derivation n) (reached-sites derivation n)
 
-    next : (m : Placed (Site N) F P) × (slice_get (sites derivation n) at ≡ Some m) × (m.kind ≡ Waiting) × (key_chain k ≡ chain_of derivation m.shape) × (next_site derivation (sites derivation n) ≡ Some m)
+    next : (m : Placed (Site N) F P) × (slice_get (sites derivation n) at ≡ Some m) × (m.kind ≡ Waiting)
+          × (key_chain k ≡ chain_of derivation m.shape) × (next_site derivation (sites derivation n) ≡ Some m)
     next = key-next derivation mode_of key_chain cmp agrees (sites derivation n) good k at entries turn.keys turn.above
 
     erase-list : erase (sites derivation n) ≡ list
     erase-list = erase-sites derivation n ∙ sym turn.list_is
 
     -- the member at that place waits, and has the key's lot and path
-    pub member : (x : Placed N F P) × (slice_get list at ≡ Some x) × (x.kind ≡ Waiting) × ((key_chain k).lot ≡ derivation.lot x.shape) × ((key_chain k).path ≡ derivation.path x.shape)
+    pub member : (x : Placed N F P) × (slice_get list at ≡ Some x) × (x.kind ≡ Waiting)
+          × ((key_chain k).lot ≡ derivation.lot x.shape) × ((key_chain k).path ≡ derivation.path x.shape)
     member =
         let m = next in
         (erased m.0, subst (λ l. slice_get l at ≡ Some (erased m.0)) erase-list (get-map erased (sites derivation n) at m.0 m.1), m.2, ap (λ c. c.lot) m.3, ap (λ c. c.path) m.3)
@@ -81,7 +83,8 @@ module _ {N A F P : Type 0} (derivation : Derivation N A F P) (laws : IsDerivati
 
       -- the same of the members that know their ancestors' priorities
       sites-next : (r : Result Members F) → derivation.expand x.shape (asked derivation list x.shape) ≡ r
-          → sites derivation (suc n) ≡ run.told (world_of derivation) (sites derivation n) site (all_sited (chain_of derivation site).priorities r)
+          → sites derivation (suc n) ≡ run.told (world_of derivation) (sites derivation n) site
+            (all_sited (chain_of derivation site).priorities r)
       unfolding sites site
       sites-next r e =
           let answers = asked-erase derivation (sites derivation n) next.0.shape ∙ (λ i. asked derivation (erase-list i) (site-shape i)) in

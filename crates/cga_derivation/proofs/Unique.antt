@@ -1,5 +1,7 @@
 -- A consistent list has the members of the derivation.
-use Rattle.std.proofs.Common.{◌≡◌, ℕ, zero, suc, ◌+◌, ◌≤◌, List, [], ◌∷◌, ◌++◌, length, take, map, Bool, true, false, not, ◌&&◌, cond, refl, sym, ap, ◌∙◌, subst, inl, inr, Result, Ok, Err, None, arith, length-append}
+use Rattle.std.proofs.Common.{◌≡◌, ℕ, zero, suc, ◌+◌, ◌≤◌, List, [], ◌∷◌, ◌++◌, length, take, map, Bool, true, false}
+use Rattle.std.proofs.Common.{not, ◌&&◌, cond, refl, sym, ap, ◌∙◌, subst, inl, inr, Result, Ok, Err, None, arith}
+use Rattle.std.proofs.Common.{length-append}
 use Rattle.std.specs.Prelude.{slice_get}
 use Rattle.std.specs.Ordering.{is_lt}
 use Rattle.std.proofs.Math.Seq.{take-length}
@@ -122,7 +124,8 @@ module _ {N A F P : Type 0} (derivation : Derivation N A F P) (laws : IsDerivati
 
   -- the outcome at a stamp is the same, with the ancestors' priorities
   outcome-lifts : (n : N) (k : Kind F P) → Has list n k
-      → order.outcome_at W (lifts list) (site n) ≡ all_sited (chain_of derivation (site n)).priorities (outcome_at derivation list n)
+      → order.outcome_at W (lifts list) (site n) ≡ all_sited (chain_of derivation (site n)).priorities
+        (outcome_at derivation list n)
   outcome-lifts n k h =
       let at = ap (stamp derivation.mode) (site-chain n k h) in
       let exists = shapes-lifts (order.exists_at W (site n)) (exists_at derivation list n) list (λ m j g. λ i. is_lt (stamps_cmp derivation.mode (birth derivation.mode (site-chain m j g i)) (at i))) in

@@ -52,7 +52,8 @@ module _ {N A F P : Type 0} (derivation : Derivation N A F P) where
 
   -- a list whose places stand once, and stand in another, is no longer than that
   pub no_longer : (ms ns : List (Placed N F P)) → AllApart derivation ms
-      → ((x : N) (k : Kind F P) → Has ms x k → (y : N) × (j : Kind F P) × Has ns y j × (place_of derivation y ≡ place_of derivation x))
+      → ((x : N) (k : Kind F P) → Has ms x k → (y : N) × (j : Kind F P) × Has ns y j
+        × (place_of derivation y ≡ place_of derivation x))
       → length ms ≤ length ns
   no_longer ms ns apart there =
       let less = length-once (places ms) (places ns) (places_once ms apart) (λ p h.
@@ -90,7 +91,8 @@ module _ {N A F P : Type 0} (derivation : Derivation N A F P) (laws : IsDerivati
   bounded n = no_longer derivation (reached derivation n) list (apart-reached derivation laws n) (λ x k h. let w = stands n x k h in (x, w.0, w.1, refl))
 
   pub consistent_within : (budget : ℕ) → length list ≤ budget
-      → (derived : List (Placed N F P)) × (derive derivation budget ≡ Some derived) × SameMembers list derived × (length list ≡ length derived)
+      → (derived : List (Placed N F P)) × (derive derivation budget ≡ Some derived) × SameMembers list derived
+        × (length list ≡ length derived)
   consistent_within budget fits =
       let ends = ends_within derivation laws budget (λ n. omega (arith, fits, bounded n)) in
       let n = ends.2.0 in

@@ -7,7 +7,9 @@ use Rattle.cga_order.specs.World.{World, IsWorld, Has, Among, shapes_where, is_i
 use Rattle.cga_order.specs.World as worlds
 use Rattle.cga_order.specs.Consistent as order
 use Rattle.cga_order.specs.Consistent.{Stands, HasOutcome, SameMembers}
-use Rattle.cga_derivation.proofs.Door.{Among-rooted, Has-erase, Has-erased, Has-places, apart-reached, derived_consistent, ends_within, erase-sites, kept, length-places, no_longer, places, places-Has, places_once, reached-sites, rooted-Among, world}
+use Rattle.cga_derivation.proofs.Door.{Among-rooted, Has-erase, Has-erased, Has-places, apart-reached}
+use Rattle.cga_derivation.proofs.Door.{derived_consistent, ends_within, erase-sites, kept, length-places, no_longer}
+use Rattle.cga_derivation.proofs.Door.{places, places-Has, places_once, reached-sites, rooted-Among, world}
 use Rattle.cga_fraction.proofs.Door.{map-append}
 use Rattle.cga_order.proofs.Door.{Among-shapes_where, Has-append, Has-from_shapes_where, Has-index, Has-left, Has-right, Once-append, has_members, length-once, same_members}
 use Rattle.cga_order.proofs.Door as derived
@@ -165,7 +167,8 @@ module _ {N A F P : Type 0} (derivation : Derivation N A F P) (laws : IsDerivati
   }
 
   pub apart : (n : ℕ) → NothingWaits derivation (reached derivation n)
-      → SameMembers (reached (district derivation left) a ++ reached (district derivation right) b) (reached derivation n)
+      → SameMembers (reached (district derivation left) a ++ reached (district derivation right) b)
+        (reached derivation n)
   apart n settled x k =
       let same = same_members W (world derivation laws) (xs ++ ys) joined (taken derivation n) (sites derivation n) (reached-sites derivation n) (λ w h l. settled w.shape (shape_in derivation n w Waiting h)) in (
         λ h. elim (Has-append (reached (district derivation left) a) (reached (district derivation right) b) x k h) [
@@ -218,7 +221,8 @@ module _ {N A F P : Type 0} (derivation : Derivation N A F P) (laws : IsDerivati
       let r = lot_in (district derivation right) right_laws b right_ends w.0 w.1 w.2 in
       parts.lots l.0 r.0 l.1 r.1 (sym l.2 ∙ (ap (λ x. x.0) (v.3 ∙ sym w.3) ∙ r.2))))
 
-  pub all : (list : List (Placed N F P)) × IsDerived derivation list × SameMembers (ls ++ rs) list × (length list ≡ length ls + length rs)
+  pub all : (list : List (Placed N F P)) × IsDerived derivation list × SameMembers (ls ++ rs) list
+        × (length list ≡ length ls + length rs)
   all =
       let list = ends.0 in
       let n = ends.1.0 in
@@ -234,7 +238,8 @@ pub districts : {N A F P : Type 0} (derivation : Derivation N A F P) → IsDeriv
     → AreParts derivation left right → IsDerivation (district derivation left)
     → IsDerivation (district derivation right) → (xs ys : List (Placed N F P)) → IsDerived (district derivation left) xs
     → IsDerived (district derivation right) ys → SeesNone derivation xs ys → SeesNone derivation ys xs
-    → (list : List (Placed N F P)) × IsDerived derivation list × SameMembers (xs ++ ys) list × (length list ≡ length xs + length ys)
+    → (list : List (Placed N F P)) × IsDerived derivation list × SameMembers (xs ++ ys) list
+      × (length list ≡ length xs + length ys)
 districts derivation laws left right parts left_laws right_laws members others (a, e, p) (b, f, q) s t =
     subst (λ us. (list : _) × IsDerived derivation list × SameMembers (us ++ others) list × (length list ≡ length us + length others)) (sym e)
     (subst (λ vs. (list : _) × IsDerived derivation list × SameMembers (reached (district derivation left) a ++ vs) list × (length list ≡ length (reached (district derivation left) a) + length vs)) (sym f)

@@ -1,5 +1,7 @@
 -- The choice among rules in any order is that among the rules by rising id.
-use Rattle.std.proofs.Common.{◌≡◌, Bor, ℕ, suc, ◌+◌, ◌<◌, ◌≤◌, List, [], ◌∷◌, ◌++◌, All, take, drop, length, get_or, map, filter, refl, ap, sym, ◌∙◌, subst, arith, cond, Bool, true, false, not, nat_lt, if◌then◌else◌, Some, None, Ok, Err}
+use Rattle.std.proofs.Common.{◌≡◌, Bor, ℕ, suc, ◌+◌, ◌<◌, ◌≤◌, List, [], ◌∷◌, ◌++◌, All, take, drop, length, get_or}
+use Rattle.std.proofs.Common.{map, filter, refl, ap, sym, ◌∙◌, subst, arith, cond, Bool, true, false, not, nat_lt}
+use Rattle.std.proofs.Common.{if◌then◌else◌, Some, None, Ok, Err}
 use Rattle.std.specs.Prelude.{Result, MatchResult, unwrap_or}
 use Rattle.std.specs.Result.{result_map_both}
 use Rattle.std.specs.List.{position_or_len}
@@ -148,7 +150,8 @@ module _ (attributes : List Attribute) (shape : Shape) (answers : Answers) where
 
 -- ---- one entry after the other
 
-one_more : (attributes : List Attribute) (shape : Shape) (answers : Answers) (found : Found) (b : Bool) (e : Entry) (es : List Entry)
+one_more : (attributes : List Attribute) (shape : Shape) (answers : Answers) (found : Found) (b : Bool) (e : Entry)
+      (es : List Entry)
     →
     tried_all attributes shape answers found (map (λ (x : Entry). x.rule) (if b then e ∷ es else es))
     ≡ tried_all attributes shape answers (if b then tried attributes shape answers found e.rule else found) (map (λ (x : Entry). x.rule) es)
@@ -156,7 +159,9 @@ one_more attributes shape answers found true e es = refl
 one_more attributes shape answers found false e es = refl
 
 module _ (attributes : List Attribute) (shape : Shape) (answers : Answers) (symbol : List ℕ) (found : Found) (xs : List Entry) (i : ℕ) (item : Entry) (w : Found) (lt : i < length xs) (at : item ≡ get_or xs i item) (h : tried_all attributes shape answers found (rules_of (drop i xs) symbol) ≡ w) where
-  here : tried_all attributes shape answers (if is_of symbol item then tried attributes shape answers found item.rule else found) (rules_of (drop (i + 1) xs) symbol) ≡ w
+  here : tried_all attributes shape answers
+        (if is_of symbol item then tried attributes shape answers found item.rule else found)
+        (rules_of (drop (i + 1) xs) symbol) ≡ w
   unfolding rules_of
   here =
       sym (one_more attributes shape answers found (is_of symbol item) item (filter (is_of symbol) (drop (i + 1) xs)))
@@ -174,7 +179,8 @@ module _ (attributes : List Attribute) (shape : Shape) (answers : Answers) (symb
   tried_out more e is =
       ap (λ (z : Found). tried_all attributes shape answers z (rules_of (drop (i + 1) xs) symbol)) (is ∙ ap (λ (b : Bool). if b then tried attributes shape answers found item.rule else found) (sym e)) ∙ here
 
-pub tried_end : (attributes : List Attribute) (shape : Shape) (answers : Answers) (symbol : List ℕ) (found : Found) (xs : List Entry) (i : ℕ) (w : Found)
+pub tried_end : (attributes : List Attribute) (shape : Shape) (answers : Answers) (symbol : List ℕ) (found : Found)
+      (xs : List Entry) (i : ℕ) (w : Found)
     → length xs ≤ i → tried_all attributes shape answers found (rules_of (drop i xs) symbol) ≡ w → found ≡ w
 unfolding rules_of
 tried_end attributes shape answers symbol found xs i w le h = sym (at_drop_all (λ ys. tried_all attributes shape answers found (rules_of ys symbol)) xs i le) ∙ h

@@ -137,7 +137,8 @@ unfolding item_walk body_walk
 body_layer x = fold-roll-Body Walk Walk item_step body_step x
 
 item_few : (y : Item-F SomeItem SomeBody)
-    → Keeps (item_step (map-Item Item Body Walk Walk item_walk body_walk (map-Item SomeItem SomeBody Item Body (λ e. e.0) (λ e. e.0) y)))
+    → Keeps (item_step (map-Item Item Body Walk Walk item_walk body_walk
+      (map-Item SomeItem SomeBody Item Body (λ e. e.0) (λ e. e.0) y)))
 item_few (Move x y z) k s h = rescoped_few (moved_by x y z k s.scope) s h
 item_few (Resize x y z) k s h = rescoped_few (resized_by x y z k s.scope) s h
 item_few (Rotate axis by) k s h = rescoped_few (turned_by axis by s.scope) s h
@@ -149,7 +150,8 @@ item_few (Comp selector body) k s h = over_keeps _ _ (λ parts. body_keeps (body
 item_few (Child symbol args) k s h = grown_keeps symbol args k s h
 
 body_few : (y : Body-F SomeItem SomeBody)
-    → Keeps (body_step (map-Body Item Body Walk Walk item_walk body_walk (map-Body SomeItem SomeBody Item Body (λ e. e.0) (λ e. e.0) y)))
+    → Keeps (body_step (map-Body Item Body Walk Walk item_walk body_walk
+      (map-Body SomeItem SomeBody Item Body (λ e. e.0) (λ e. e.0) y)))
 body_few y = turn_keeps _ (items_keep y.items)
 
 item_keeps : (i : Item) → Keeps (item_walk i)
@@ -196,7 +198,8 @@ expand_few : (grammar : Grammar) (shape : Shape) (answers : Answers) → FewChil
 unfolding expand_of
 expand_few grammar shape answers = expansion_few grammar.attributes (rules_by_id grammar shape.symbol) shape answers
 
-pub few_made : {E : Type 0} (grammar : Grammar) (shape : Shape) (answers : Answers) (r : Result (Result (List Emitted) ShapeFault) E)
+pub few_made : {E : Type 0} (grammar : Grammar) (shape : Shape) (answers : Answers)
+      (r : Result (Result (List Emitted) ShapeFault) E)
     → IfOk r (λ made. made ≡ expand_of grammar shape answers) → IfOk r FewChildren
 few_made grammar shape answers (Ok made) is = subst FewChildren (sym is) (expand_few grammar shape answers)
 few_made grammar shape answers (Err e) is = tt

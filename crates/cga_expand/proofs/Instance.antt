@@ -1,5 +1,6 @@
 -- The derivation of sources is one of which the laws of derivations hold.
-use Rattle.std.proofs.Common.{◌≡◌, ℕ, zero, suc, ◌+◌, List, [], ◌∷◌, ◌++◌, length, take, map, Bool, true, false, cond, not, ◌&&◌, ◌||◌, refl, sym, ap, ◌∙◌, subst, ◌⊎◌, inl, inr, Result, Ok, Err, Some, arith}
+use Rattle.std.proofs.Common.{◌≡◌, ℕ, zero, suc, ◌+◌, List, [], ◌∷◌, ◌++◌, length, take, map, Bool, true, false, cond}
+use Rattle.std.proofs.Common.{not, ◌&&◌, ◌||◌, refl, sym, ap, ◌∙◌, subst, ◌⊎◌, inl, inr, Result, Ok, Err, Some, arith}
 use Rattle.std.specs.Prelude.{slice_get, filter}
 use Rattle.std.specs.List.{list_any}
 use Rattle.std.proofs.Math.Seq.{take-length}
@@ -74,7 +75,8 @@ first_apart x lots differ s m j is f same =
     omega (arith, h)
 
 apart_first : (x : Lot) (lots : List Lot) (r : Result Shape ScopeFault) → root_of x ≡ r → NamesDiffer (x ∷ lots)
-    → ((i j : ℕ) (n m : Shape) → slice_get (roots_of lots) i ≡ Some n → slice_get (roots_of lots) j ≡ Some m → n.lot ≡ m.lot → i ≡ j)
+    → ((i j : ℕ) (n m : Shape) → slice_get (roots_of lots) i ≡ Some n → slice_get (roots_of lots) j ≡ Some m
+      → n.lot ≡ m.lot → i ≡ j)
     → (i j : ℕ) (n m : Shape) → slice_get (made r ++ roots_of lots) i ≡ Some n
     → slice_get (made r ++ roots_of lots) j ≡ Some m → n.lot ≡ m.lot → i ≡ j
 apart_first x lots (Ok s) is differ more zero zero n m e f same = refl
@@ -122,7 +124,8 @@ module _ (lot path own : List ℕ) where
       (w.0, w.1, ap (λ n. placed_at lot path own n w.0) same ∙ w.2)
 
   placed-new : (k : ℕ) (x : Emitted)
-      → ((placed_at lot path own k x).shape.lot ≡ lot) × ((placed_at lot path own k x).shape.path ≡ path ++ k ∷ []) × IsNew (placed_at lot path own k x).kind
+      → ((placed_at lot path own k x).shape.lot ≡ lot) × ((placed_at lot path own k x).shape.path ≡ path ++ k ∷ [])
+        × IsNew (placed_at lot path own k x).kind
   placed-new k (Child symbol args scope seed) = (refl, refl, inl refl)
   placed-new k (Solid primitive scope seed) = (refl, refl, inr (primitive, refl))
 

@@ -137,7 +137,8 @@ module _ (s0 s1 s2 s3 : ℕ → Option Entry) (id depth n : ℕ) (marking : Bool
   stay_before k w = ap (λ s. stay_of s w) (dropped k) ∙ stay_flag (gone k) (s0 k) w
 
   find : (c : ℕ) → gone c ≡ true
-      → (i : ℕ) × (k : ℕ) × (slice_get e.children i ≡ Some k) × (stay_of (s0 k) (slice_get news i) ≡ false) × (under (λ d. kids (s0 d)) n k c ≡ true)
+      → (i : ℕ) × (k : ℕ) × (slice_get e.children i ≡ Some k) × (stay_of (s0 k) (slice_get news i) ≡ false)
+        × (under (λ d. kids (s0 d)) n k c ≡ true)
   find c g = goes_find (λ d. kids (s0 d)) n (λ k w. stay_of (s0 k) w) e.children news (length e.children) c (sym (goneis c) ∙ g)
 
   here : (i k c : ℕ) → slice_get e.children i ≡ Some k → stay_of (s0 k) (slice_get news i) ≡ false

@@ -172,7 +172,8 @@ pub record IsNoted (old new : Shelf) (steps more : List Step) : Type 0 where
   pub ready : AreUndoable more new
   pub former : undone more new ≡ undone steps old
 
-pub pushed : (es put new : Named) (shown : ℕ) (name : List ℕ) (id place : ℕ) (former : Option ℕ) (gap : ℕ) (steps more : List Step)
+pub pushed : (es put new : Named) (shown : ℕ) (name : List ℕ) (id place : ℕ) (former : Option ℕ) (gap : ℕ)
+      (steps more : List Step)
     → put ≡ insert_entry same_name es name id → place ≡ position_or_len (same_name name) (names es)
     → former ≡ lookup (same_name name) es
     → shown ≤ length es → lookup (same_name name) (take shown es) ≡ None → gap ≤ shown

@@ -1,5 +1,7 @@
 -- What a reader keeps after one more line.
-use Rattle.std.proofs.Common.{◌≡◌, ℕ, ◌+◌, ◌==◌, List, [], ◌∷◌, ◌++◌, length, length-append, append_assoc, map, true, false, Option, Some, None, is_some, Result, Ok, Err, refl, ap, sym, ◌∙◌, min, OnOk, arith}
+use Rattle.std.proofs.Common.{◌≡◌, ℕ, ◌+◌, ◌==◌, List, [], ◌∷◌, ◌++◌, length, length-append, append_assoc, map, true}
+use Rattle.std.proofs.Common.{false, Option, Some, None, is_some, Result, Ok, Err, refl, ap, sym, ◌∙◌, min, OnOk}
+use Rattle.std.proofs.Common.{arith}
 use Rattle.cga_lexer.specs.declared.token.Token.{Token}
 use Rattle.cga_syntax.specs.declared.lexeme.Lexeme.{Lexeme}
 use Rattle.cga_syntax.specs.Pieces.{Pieces}

@@ -1,7 +1,11 @@
 -- What other crates may cite of cga_form. All other pages of its proofs are its own.
 
 -- What is written so is read so, or nests too deep
-pub use Rattle.cga_form.proofs.Again.{Begun, Misses, Starts, after, all_of, begun_append, begun_as, begun_drawn, begun_named, begun_nothing, begun_token, by_name, drew, ends, entered, few_misses, few_of, missed, misses_each, misses_end, misses_nothing, never_leads, never_written, peek_no, peek_yes, plainly, starts_as, starts_drawn, starts_named, starts_token, took, whole_leads, written_as}
+pub use Rattle.cga_form.proofs.Again.{Begun, Misses, Starts, after, all_of, begun_append, begun_as, begun_drawn}
+pub use Rattle.cga_form.proofs.Again.{begun_named, begun_nothing, begun_token, by_name, drew, ends, entered}
+pub use Rattle.cga_form.proofs.Again.{few_misses, few_of, missed, misses_each, misses_end, misses_nothing}
+pub use Rattle.cga_form.proofs.Again.{never_leads, never_written, peek_no, peek_yes, plainly, starts_as, starts_drawn}
+pub use Rattle.cga_form.proofs.Again.{starts_named, starts_token, took, whole_leads, written_as}
 
 -- Each form's reader takes what is written so, and stops at the first token with which nothing is
 pub use Rattle.cga_form.proofs.Forms.{Long, Token, bracketed, done, either, few_pieces, limited, listed, next, one_rand, one_token, refusing, shorter, translated, turned}
@@ -22,7 +26,9 @@ pub use Rattle.cga_form.proofs.OnceLines.{once_line, once_tokens}
 pub use Rattle.cga_form.proofs.Runs.{pure_runs}
 
 -- What single tokens stand for, and how they are written
-pub use Rattle.cga_form.proofs.Singles.{a_keyword_is, a_sign_is, as_token, by_token, keyword_token, name_pieces, name_read, name_token, named_is, no_more, number_token, opening, pick, sign_token, whole_token, whole_value, word_is, word_token}
+pub use Rattle.cga_form.proofs.Singles.{a_keyword_is, a_sign_is, as_token, by_token, keyword_token, name_pieces}
+pub use Rattle.cga_form.proofs.Singles.{name_read, name_token, named_is, no_more, number_token, opening, pick}
+pub use Rattle.cga_form.proofs.Singles.{sign_token, whole_token, whole_value, word_is, word_token}
 
 -- A text that spells a member of a form, with few enough brackets, is told by it
 pub use Rattle.cga_form.proofs.Told.{form_told}

@@ -1,5 +1,7 @@
 -- Each form's reader takes what is written so, and stops at the first token with which nothing is.
-use Rattle.std.proofs.Common.{◌≡◌, ℕ, zero, suc, ◌+◌, ◌-◌, List, [], ◌∷◌, ◌++◌, map, length, ◌≤◌, ◌<◌, append_assoc, Bool, true, false, Option, Some, refl, ap, sym, ◌∙◌, subst, arith, nat_le, Ok, if◌then◌else◌}
+use Rattle.std.proofs.Common.{◌≡◌, ℕ, zero, suc, ◌+◌, ◌-◌, List, [], ◌∷◌, ◌++◌, map, length, ◌≤◌, ◌<◌, append_assoc}
+use Rattle.std.proofs.Common.{Bool, true, false, Option, Some, refl, ap, sym, ◌∙◌, subst, arith, nat_le, Ok}
+use Rattle.std.proofs.Common.{if◌then◌else◌}
 use Rattle.cga_syntax.specs.declared.lexeme.Lexeme.{Lexeme}
 use Rattle.cga_syntax.specs.declared.lexeme.Lexeme.TheVariants as lexeme
 use Rattle.cga_syntax.specs.declared.keyword.Keyword.TheVariants as k
@@ -10,7 +12,9 @@ use Rattle.cga_syntax.specs.Brackets.{counted, bracket_of, opens}
 use Rattle.cga_form.specs.Reader.{Reader, ◌>>=◌, pure, refuse, single, enter, drawn_word, peeked, begins, many_from, many_after, many, Input}
 use Rattle.std.proofs.lemmas.Bool.Decides.{nat_tests}
 pub use Rattle.cga_form.specs.Laws.{After, Goes, Reads}
-use Rattle.cga_form.proofs.Runs.{Language, Some_text, Seq, Each, Grown, weaker, pure_runs, refuse_runs, bind_runs, single_runs, enter_runs, drawn_runs, peeked_runs, closed_runs, many_runs, Limited, limited_runs, unroll, shortens}
+use Rattle.cga_form.proofs.Runs.{Language, Some_text, Seq, Each, Grown, weaker, pure_runs, refuse_runs, bind_runs}
+use Rattle.cga_form.proofs.Runs.{single_runs, enter_runs, drawn_runs, peeked_runs, closed_runs, many_runs, Limited}
+use Rattle.cga_form.proofs.Runs.{limited_runs, unroll, shortens}
 use Rattle.cga_form.proofs.Written.{nothing, token_first, join, one, Of, each_writes}
 use Rattle.std.proofs.Common.{append-nil as nil_right}
 use Rattle.cga_fraction.proofs.Door.{append-nil_back as append_nil}

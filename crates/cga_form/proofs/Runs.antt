@@ -1,8 +1,12 @@
 -- What a reader does on a text: it takes a front of it, and gives the same however the text goes on after the next token.
-use Rattle.std.proofs.Common.{◌≡◌, ℕ, zero, suc, ◌+◌, ◌-◌, Bool, true, false, List, [], ◌∷◌, ◌++◌, length, append_assoc, ◌≤◌, ◌<◌, length-append, refl, sym, ap, ◌∙◌, Option, Some, None, Ok, Err, if◌then◌else◌, cond, arith}
+use Rattle.std.proofs.Common.{◌≡◌, ℕ, zero, suc, ◌+◌, ◌-◌, Bool, true, false, List, [], ◌∷◌, ◌++◌, length}
+use Rattle.std.proofs.Common.{append_assoc, ◌≤◌, ◌<◌, length-append, refl, sym, ap, ◌∙◌, Option, Some, None, Ok, Err}
+use Rattle.std.proofs.Common.{if◌then◌else◌, cond, arith}
 use Rattle.cga_syntax.specs.declared.lexeme.Lexeme.{Lexeme}
 use Rattle.cga_form.specs.declared.fault.Fault.TheVariants.{Unexpected, TooNested}
-use Rattle.cga_form.specs.Reader.{Input, at, ReadResult, Reader, and_then, ◌>>=◌, pure, refuse, first, decoded, taking, single, entering, enter, drawing, drawn_word, peeked, begins, many_from, many_after, many}
+use Rattle.cga_form.specs.Reader.{Input, at, ReadResult, Reader, and_then, ◌>>=◌, pure, refuse, first, decoded}
+use Rattle.cga_form.specs.Reader.{taking, single, entering, enter, drawing, drawn_word, peeked, begins, many_from}
+use Rattle.cga_form.specs.Reader.{many_after, many}
 pub use Rattle.cga_form.specs.Laws.{Language, Verdict, found, unexpected, nested, told, Means, Run, Exact, Some_text}
 use Rattle.cga_syntax.specs.Brackets.{walk, counted, walk_on, bracket_of, opens}
 use Rattle.cga_fraction.proofs.Door.{append-nil_back as append_nil}
@@ -418,7 +422,8 @@ module _ {A : Type 0} (L : Language A) (n : ℕ) (test : Lexeme → Bool) (p : R
     unroll_once j so_far i = refl
 
     unroll_then : (so_far : List A) (i : Input) (o : ReadResult A) → p i ≡ o
-        → and_then o (λ x. many_from test p (length i.left) (so_far ++ x ∷ [])) ≡ and_then o (λ x. many_after test p (so_far ++ x ∷ []))
+        → and_then o (λ x. many_from test p (length i.left) (so_far ++ x ∷ [])) ≡ and_then o
+          (λ x. many_after test p (so_far ++ x ∷ []))
     unroll_then so_far i (Ok q) e = enough (length i.left) (length q.1.left) (so_far ++ q.0 ∷ []) q.1 (omega (arith, shortens i q.0 q.1 e)) (omega arith)
     unroll_then so_far i (Err f) e = refl
 

@@ -54,16 +54,19 @@ pub itself : (q : Rat) → IsDiff q (positive_part q.num) (negative_part q.num) 
 itself q = record { positive = omega arith; same = omega arith }
 
 pub sum_parts : (x y : ℤ)
-    → positive_part (x +ℤ y) + negative_part x + negative_part y ≡ negative_part (x +ℤ y) + positive_part x + positive_part y
+    → positive_part (x +ℤ y) + negative_part x + negative_part y ≡ negative_part (x +ℤ y) + positive_part x +
+      positive_part y
 sum_parts x y = omega (arith, ints)
 
 pub sub_parts : (x y : ℤ)
-    → positive_part (x -ℤ y) + negative_part x + positive_part y ≡ negative_part (x -ℤ y) + positive_part x + negative_part y
+    → positive_part (x -ℤ y) + negative_part x + positive_part y ≡ negative_part (x -ℤ y) + positive_part x +
+      negative_part y
 sub_parts x y = omega (arith, ints)
 
 plus_parts : (a b : Rat) (p m : ℕ) → p ≡ positive_part (a.num *ℤ pos (den b) +ℤ b.num *ℤ pos (den a))
     → m ≡ negative_part (a.num *ℤ pos (den b) +ℤ b.num *ℤ pos (den a))
-    → p + (negative_part a.num * den b + negative_part b.num * den a) ≡ m + (positive_part a.num * den b + positive_part b.num * den a)
+    → p + (negative_part a.num * den b + negative_part b.num * den a) ≡ m +
+      (positive_part a.num * den b + positive_part b.num * den a)
 plus_parts a b p m e f =
     let s = sum_parts (a.num *ℤ pos (den b)) (b.num *ℤ pos (den a)) in
     let x = scaled_parts a.num (den b) in
@@ -72,7 +75,8 @@ plus_parts a b p m e f =
 
 -- the sum, of two numbers as they show themselves
 pub plus_diff : (a b : Rat)
-    → IsDiff (plus a b) (positive_part a.num * den b + positive_part b.num * den a) (negative_part a.num * den b + negative_part b.num * den a) (den a * den b)
+    → IsDiff (plus a b) (positive_part a.num * den b + positive_part b.num * den a)
+      (negative_part a.num * den b + negative_part b.num * den a) (den a * den b)
 unfolding plus
 plus_diff a b =
     let n = a.num *ℤ pos (den b) +ℤ b.num *ℤ pos (den a) in
@@ -97,7 +101,8 @@ le_diff a b u v d w x e r s l =
     le_test a b (orders (positive_part a.num) (negative_part a.num) (den a) (positive_part b.num) (negative_part b.num) (den b) u v d w x e r.positive s.positive r.same s.same l)
 
 monotone : (pa ma da pb mb db pc mc dc : ℕ) → pb * dc + mc * db ≤ pc * db + mb * dc
-    → (pa * db + pb * da) * (da * dc) + (ma * dc + mc * da) * (da * db) ≤ (pa * dc + pc * da) * (da * db) + (ma * db + mb * da) * (da * dc)
+    → (pa * db + pb * da) * (da * dc) + (ma * dc + mc * da) * (da * db) ≤ (pa * dc + pc * da) * (da * db) +
+      (ma * db + mb * da) * (da * dc)
 monotone pa ma da pb mb db pc mc dc h =
     let x : (pb * dc + mc * db) * (da * da) ≤ (pc * db + mb * dc) * (da * da) = mul-le-mul_right (da * da) h in omega arith
 
@@ -115,7 +120,8 @@ together p m q s t r u v d w x e f g =
 
 minus_parts : (a b : Rat) (p m : ℕ) → p ≡ positive_part (a.num *ℤ pos (den b) -ℤ b.num *ℤ pos (den a))
     → m ≡ negative_part (a.num *ℤ pos (den b) -ℤ b.num *ℤ pos (den a))
-    → p + (negative_part a.num * den b + positive_part b.num * den a) ≡ m + (positive_part a.num * den b + negative_part b.num * den a)
+    → p + (negative_part a.num * den b + positive_part b.num * den a) ≡ m +
+      (positive_part a.num * den b + negative_part b.num * den a)
 minus_parts a b p m e f =
     let s = sub_parts (a.num *ℤ pos (den b)) (b.num *ℤ pos (den a)) in
     let x = scaled_parts a.num (den b) in
@@ -123,7 +129,8 @@ minus_parts a b p m e f =
     omega (arith, e, f, s, x.0, x.1, y.0, y.1)
 
 pub minus_diff : (a b : Rat)
-    → IsDiff (minus a b) (positive_part a.num * den b + negative_part b.num * den a) (negative_part a.num * den b + positive_part b.num * den a) (den a * den b)
+    → IsDiff (minus a b) (positive_part a.num * den b + negative_part b.num * den a)
+      (negative_part a.num * den b + positive_part b.num * den a) (den a * den b)
 unfolding minus
 minus_diff a b =
     let h : 0 < den a * den b = mul-pos {m = den a} {n = den b} (omega arith) (omega arith) in
@@ -180,7 +187,8 @@ negated_diff a u v d r =
     let n = neg_parts a.num in record { positive = r.positive; same = rw (n.0, n.1) (omega (arith, r.same)) }
 
 product_parts : (x y : ℤ)
-    → positive_part (x *ℤ y) + (positive_part x * negative_part y + negative_part x * positive_part y) ≡ negative_part (x *ℤ y) + (positive_part x * positive_part y + negative_part x * negative_part y)
+    → positive_part (x *ℤ y) + (positive_part x * negative_part y + negative_part x * positive_part y) ≡ negative_part
+      (x *ℤ y) + (positive_part x * positive_part y + negative_part x * negative_part y)
 product_parts (pos n) (pos m) = omega arith
 product_parts (pos n) (negsuc m) = let e = neg_parts (pos (n * suc m)) in rw (e.0, e.1) (omega arith)
 product_parts (negsuc n) (pos m) = let e = neg_parts (pos (suc n * m)) in rw (e.0, e.1) (omega arith)
@@ -188,7 +196,8 @@ product_parts (negsuc n) (negsuc m) = omega arith
 
 -- the product, of two numbers as they show themselves
 pub times_diff : (a b : Rat)
-    → IsDiff (times a b) (positive_part a.num * positive_part b.num + negative_part a.num * negative_part b.num) (positive_part a.num * negative_part b.num + negative_part a.num * positive_part b.num) (den a * den b)
+    → IsDiff (times a b) (positive_part a.num * positive_part b.num + negative_part a.num * negative_part b.num)
+      (positive_part a.num * negative_part b.num + negative_part a.num * positive_part b.num) (den a * den b)
 unfolding times
 times_diff a b =
     let h : 0 < den a * den b = mul-pos {m = den a} {n = den b} (omega arith) (omega arith) in
@@ -198,7 +207,8 @@ times_diff a b =
     like (times a b) _ _ _ (positive_part a.num * positive_part b.num + negative_part a.num * negative_part b.num) (positive_part a.num * negative_part b.num + negative_part a.num * positive_part b.num) (den a * den b) r (omega (arith, k')) h
 
 monotone_minus : (pa ma da pb mb db pc mc dc : ℕ) → pb * dc + mc * db ≤ pc * db + mb * dc
-    → (pa * dc + mc * da) * (da * db) + (ma * db + pb * da) * (da * dc) ≤ (pa * db + mb * da) * (da * dc) + (ma * dc + pc * da) * (da * db)
+    → (pa * dc + mc * da) * (da * db) + (ma * db + pb * da) * (da * dc) ≤ (pa * db + mb * da) * (da * dc) +
+      (ma * dc + pc * da) * (da * db)
 monotone_minus pa ma da pb mb db pc mc dc h =
     let x : (pb * dc + mc * db) * (da * da) ≤ (pc * db + mb * dc) * (da * da) = mul-le-mul_right (da * da) h in omega arith
 

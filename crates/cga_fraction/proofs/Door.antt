@@ -7,13 +7,27 @@ pub use Rattle.cga_fraction.proofs.Diffs.{itself, le_diff, lt_diff, minus_diff, 
 pub use Rattle.cga_fraction.proofs.Digits.{after-more, digit_at, digit_range}
 
 -- Facts of tests, options, lists and numbers that the standard library lacks. No word of this project stands here
-pub use Rattle.cga_fraction.proofs.Facts.{Equal_from_is_eq, IfOk-map, IsSome_from_Some, Less_from_is_lt, None-not-Some, None-not-positive, Some_from_IsSome, Some_from_is_some, all_of_it, and_first, and_second, append-nil_back, cases_Option, cases_Option_nat, eq_from_nat_eq, eq_or_ne, false-not-true, false_from_not, le_from_nat_lt, least_of_some, length-map, lt-length_from_slice_get, lt-length_from_slice_get_nat, lt_from_nat_lt, lt_or_eq_below_suc, lt_or_eq_from_lt_suc, map-append, nat_cmp-same, nat_eq-same, nat_eq_from_ne, nat_le_18, nat_lt-same, nat_lt-zero, nat_lt_from_lt, not-and-true, or_false_first, or_false_second, same_Ok, same_Some, same_from_both_ways, slice_get_along, slice_get_from_get_or, take-all, true-and-false, true-not-false, true_from_not, within_4096}
+pub use Rattle.cga_fraction.proofs.Facts.{Equal_from_is_eq, IfOk-map, IsSome_from_Some, Less_from_is_lt}
+pub use Rattle.cga_fraction.proofs.Facts.{None-not-Some, None-not-positive, Some_from_IsSome, Some_from_is_some}
+pub use Rattle.cga_fraction.proofs.Facts.{all_of_it, and_first, and_second, append-nil_back, cases_Option}
+pub use Rattle.cga_fraction.proofs.Facts.{cases_Option_nat, eq_from_nat_eq, eq_or_ne, false-not-true, false_from_not}
+pub use Rattle.cga_fraction.proofs.Facts.{le_from_nat_lt, least_of_some, length-map, lt-length_from_slice_get}
+pub use Rattle.cga_fraction.proofs.Facts.{lt-length_from_slice_get_nat, lt_from_nat_lt, lt_or_eq_below_suc}
+pub use Rattle.cga_fraction.proofs.Facts.{lt_or_eq_from_lt_suc, map-append, nat_cmp-same, nat_eq-same, nat_eq_from_ne}
+pub use Rattle.cga_fraction.proofs.Facts.{nat_le_18, nat_lt-same, nat_lt-zero, nat_lt_from_lt, not-and-true}
+pub use Rattle.cga_fraction.proofs.Facts.{or_false_first, or_false_second, same_Ok, same_Some, same_from_both_ways}
+pub use Rattle.cga_fraction.proofs.Facts.{slice_get_along, slice_get_from_get_or, take-all, true-and-false}
+pub use Rattle.cga_fraction.proofs.Facts.{true-not-false, true_from_not, within_4096}
 
 -- The greatest common divisor
 pub use Rattle.cga_fraction.proofs.Gcds.{gcd-IsGcd, gcd-one}
 
 -- Laws of numbers in lowest terms, and of the least and the greatest
-pub use Rattle.cga_fraction.proofs.Laws.{IsLowest, between, checked_in_range, checked_is, fraction_in_range, fraction_lowest, in_range_from_ok, lt_min, max_above, max_least, max_lt, mediant, min_below, min_greatest, minus-plus, minus-plus_left, minus-zero, minus_lowest, out_of_range_from_err, plus-minus, plus-zero, same_diff, times_lowest}
+pub use Rattle.cga_fraction.proofs.Laws.{IsLowest, between, checked_in_range, checked_is, fraction_in_range}
+pub use Rattle.cga_fraction.proofs.Laws.{fraction_lowest, in_range_from_ok, lt_min, max_above, max_least, max_lt}
+pub use Rattle.cga_fraction.proofs.Laws.{mediant, min_below, min_greatest, minus-plus, minus-plus_left, minus-zero}
+pub use Rattle.cga_fraction.proofs.Laws.{minus_lowest, out_of_range_from_err, plus-minus, plus-zero, same_diff}
+pub use Rattle.cga_fraction.proofs.Laws.{times_lowest}
 
 -- The shortest text that is read as a number
 pub use Rattle.cga_fraction.proofs.Literals.{literal_is_shortest, reads}

@@ -82,7 +82,8 @@ same_diff a b u v d w x e p q r s h = same_value a b p q (le_diff a b u v d w x 
 -- ---- what undoes what
 
 back_naturals : (pa ma da ps ms ds : ℕ)
-    → ((pa * ds + ps * da) * ds + ms * (da * ds)) * da + ma * (da * ds * ds) ≡ pa * (da * ds * ds) + ((ma * ds + ms * da) * ds + ps * (da * ds)) * da
+    → ((pa * ds + ps * da) * ds + ms * (da * ds)) * da + ma * (da * ds * ds) ≡ pa * (da * ds * ds) +
+      ((ma * ds + ms * da) * ds + ps * (da * ds)) * da
 back_naturals pa ma da ps ms ds = omega arith
 
 pub minus-plus : (a s : Rat) → IsLowest a → minus (plus a s) s ≡ a
@@ -91,7 +92,8 @@ minus-plus a s l =
     (back_naturals (positive_part a.num) (negative_part a.num) (den a) (positive_part s.num) (negative_part s.num) (den s))
 
 forth_naturals : (pa ma da ps ms ds : ℕ)
-    → ((pa * ds + ms * da) * ds + ps * (da * ds)) * da + ma * (da * ds * ds) ≡ pa * (da * ds * ds) + ((ma * ds + ps * da) * ds + ms * (da * ds)) * da
+    → ((pa * ds + ms * da) * ds + ps * (da * ds)) * da + ma * (da * ds * ds) ≡ pa * (da * ds * ds) +
+      ((ma * ds + ps * da) * ds + ms * (da * ds)) * da
 forth_naturals pa ma da ps ms ds = omega arith
 
 pub plus-minus : (a s : Rat) → IsLowest a → plus (minus a s) s ≡ a
@@ -100,7 +102,8 @@ plus-minus a s l =
     (forth_naturals (positive_part a.num) (negative_part a.num) (den a) (positive_part s.num) (negative_part s.num) (den s))
 
 left_naturals : (pa ma da ps ms ds : ℕ)
-    → ((pa * ds + ps * da) * da + ma * (da * ds)) * ds + ms * (da * ds * da) ≡ ps * (da * ds * da) + ((ma * ds + ms * da) * da + pa * (da * ds)) * ds
+    → ((pa * ds + ps * da) * da + ma * (da * ds)) * ds + ms * (da * ds * da) ≡ ps * (da * ds * da) +
+      ((ma * ds + ms * da) * da + pa * (da * ds)) * ds
 left_naturals pa ma da ps ms ds = omega arith
 
 -- the difference of a sum and its first part is the second

@@ -1,5 +1,7 @@
 -- The shortest text that is read as a number.
-use Rattle.std.proofs.Common.{◌≡◌, ℕ, zero, suc, ◌+◌, ◌-◌, ◌*◌, ◌/◌, ◌%◌, ◌^◌, ◌<◌, ◌≤◌, ◌==◌, List, [], ◌∷◌, ◌++◌, take, drop, length, refl, sym, ap, ◌∙◌, subst, arith, true, false, Bool, Some, None, Option, Ok, Err, Result, ℤ, pos}
+use Rattle.std.proofs.Common.{◌≡◌, ℕ, zero, suc, ◌+◌, ◌-◌, ◌*◌, ◌/◌, ◌%◌, ◌^◌, ◌<◌, ◌≤◌, ◌==◌, List, [], ◌∷◌, ◌++◌}
+use Rattle.std.proofs.Common.{take, drop, length, refl, sym, ap, ◌∙◌, subst, arith, true, false, Bool, Some, None}
+use Rattle.std.proofs.Common.{Option, Ok, Err, Result, ℤ, pos}
 use Rattle.std.specs.Prelude.{position, decimal, unsigned_abs, if◌then◌else◌, nat_le, not}
 use Rattle.std.specs.Char.{is_ascii_digit, digit_value}
 use Rattle.std.specs.List.{list_all}
@@ -9,7 +11,9 @@ use Rattle.std.proofs.lemmas.Fmt.{length-decimal-le}
 use Rattle.std.proofs.lemmas.List.{length-take, length-drop}
 use Rattle.std.proofs.lemmas.Bool.Decides.{leb_tells, eqb_tells}
 use Rattle.std.proofs.lemmas.Nat.{div-mul-add, pow-add}
-use Rattle.std.proofs.Math.Nat.{pow-suc, one-le-pow, mul-div-mul_right, div-mul_cancel, dvd-mul_left_of_dvd, dvd-mul_right, dvd_of_mod-eq-zero, mod-eq-zero_of_dvd, eq_of_mul-eq-mul_right, pow-le-pow_right}
+use Rattle.std.proofs.Math.Nat.{pow-suc, one-le-pow, mul-div-mul_right, div-mul_cancel, dvd-mul_left_of_dvd}
+use Rattle.std.proofs.Math.Nat.{dvd-mul_right, dvd_of_mod-eq-zero, mod-eq-zero_of_dvd, eq_of_mul-eq-mul_right}
+use Rattle.std.proofs.Math.Nat.{pow-le-pow_right}
 use Rattle.std.specs.Int.{◌∣◌}
 use Rattle.cga_fraction.specs.Gcd.{gcd}
 use Rattle.cga_fraction.specs.Rat.{Rat, den}

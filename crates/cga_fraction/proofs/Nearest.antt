@@ -60,7 +60,8 @@ halves n d h =
 -- ---- distances by their parts
 
 distance-parts : (a : Rat) (places : ℕ) (z : ℤ)
-    → distance a places z ≡ gap (positive_part a.num * 10 ^ places + negative_part z * den a) (positive_part z * den a + negative_part a.num * 10 ^ places)
+    → distance a places z ≡ gap (positive_part a.num * 10 ^ places + negative_part z * den a)
+      (positive_part z * den a + negative_part a.num * 10 ^ places)
 distance-parts a places z =
     let x = scaled_parts a.num (10 ^ places) in
     let y = scaled_parts z (den a) in

@@ -127,7 +127,8 @@ pub minus_top : (s t : ℕ) → t ≤ s → pos s -ℤ pos t ≡ pos (s - t)
 minus_top s t h = omega (arith, ints)
 
 le_tops : (b a : Rat) (t s : ℕ) → b.num ≡ pos t → a.num ≡ pos s
-    → positive_part b.num * den a + negative_part a.num * den b ≤ positive_part a.num * den b + negative_part b.num * den a
+    → positive_part b.num * den a + negative_part a.num * den b ≤ positive_part a.num * den b + negative_part b.num *
+      den a
     → t * den a ≤ s * den b
 le_tops b a t s e f h =
     let h' = subst (λ z. positive_part z * den a + negative_part a.num * den b ≤ positive_part a.num * den b + negative_part z * den a) e h in

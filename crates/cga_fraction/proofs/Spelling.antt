@@ -1,5 +1,6 @@
 -- Texts with a point, read as the numbers that they show.
-use Rattle.std.proofs.Common.{◌≡◌, ℕ, zero, suc, ◌+◌, ◌*◌, ◌/◌, ◌%◌, ◌^◌, ◌<◌, ◌≤◌, ◌&&◌, ◌==◌, List, [], ◌∷◌, ◌++◌, drop, length, refl, sym, ap, ◌∙◌, arith, rules, true, false, Bool, Some, None, Ok, pos}
+use Rattle.std.proofs.Common.{◌≡◌, ℕ, zero, suc, ◌+◌, ◌*◌, ◌/◌, ◌%◌, ◌^◌, ◌<◌, ◌≤◌, ◌&&◌, ◌==◌, List, [], ◌∷◌, ◌++◌}
+use Rattle.std.proofs.Common.{drop, length, refl, sym, ap, ◌∙◌, arith, rules, true, false, Bool, Some, None, Ok, pos}
 use Rattle.std.specs.Prelude.{position, decimal, nat_le, nat_lt}
 use Rattle.std.specs.Char.{is_ascii_digit, digit_value}
 use Rattle.std.specs.List.{list_all, position_or_len}
@@ -155,7 +156,8 @@ unfolding pointed
 reads-pointed places n h few = reads_at places n h few
 
 length_at : (places n : ℕ)
-    → (length (decimal (n / 10 ^ places) ++ after_point places n) ≤ length (decimal (n / 10 ^ places)) + places + 1) × (places ≡ 0 → length (decimal (n / 10 ^ places) ++ after_point places n) ≤ length (decimal (n / 10 ^ places)))
+    → (length (decimal (n / 10 ^ places) ++ after_point places n) ≤ length (decimal (n / 10 ^ places)) + places + 1)
+      × (places ≡ 0 → length (decimal (n / 10 ^ places) ++ after_point places n) ≤ length (decimal (n / 10 ^ places)))
 length_at zero n = let l = length-append (decimal (n / 10 ^ 0)) [] in (omega arith, λ z. omega arith)
 length_at (suc places) n =
     let l = length-append (decimal (n / 10 ^ suc places)) (after_point (suc places) n) in
@@ -163,6 +165,7 @@ length_at (suc places) n =
     (omega arith, λ z. absurd (omega arith))
 
 pub length-pointed : (places n : ℕ)
-    → (length (pointed places n) ≤ length (decimal (n / 10 ^ places)) + places + 1) × (places ≡ 0 → length (pointed places n) ≤ length (decimal (n / 10 ^ places)))
+    → (length (pointed places n) ≤ length (decimal (n / 10 ^ places)) + places + 1)
+      × (places ≡ 0 → length (pointed places n) ≤ length (decimal (n / 10 ^ places)))
 unfolding pointed
 length-pointed places n = length_at places n

@@ -9,7 +9,9 @@ use Rattle.cga_frame.specs.Box.{Box, is_box, meets, holds, touches, hull, along_
 use Rattle.cga_frame.specs.Meeting.{IsBetween, Meets, Holds, Touches, IsHull}
 use Rattle.cga_frame.specs.declared.point.Point.{Point}
 use Rattle.cga_frame.proofs.Flags.{told, tells, pair, three, all_three}
-use Rattle.cga_frame.proofs.Intervals.{holds_at, holds_from, holds_chain, touches_at, touches_from, meets_at, meets_from, meets_touches_at, touches_up_at, hull_first, hull_second, hull_least, hull_ordered, ordered_at}
+use Rattle.cga_frame.proofs.Intervals.{holds_at, holds_from, holds_chain, touches_at, touches_from, meets_at}
+use Rattle.cga_frame.proofs.Intervals.{meets_from, meets_touches_at, touches_up_at, hull_first, hull_second}
+use Rattle.cga_frame.proofs.Intervals.{hull_least, hull_ordered, ordered_at}
 
 sides : (b : Box) → is_box b ≡ true
     → IsTrue (rat_le b.low.x b.high.x) × IsTrue (rat_le b.low.y b.high.y) × IsTrue (rat_le b.low.z b.high.z)
@@ -24,7 +26,8 @@ start l h e = record { from = le_refl l; to = e }
 -- ---- holding
 
 holds_parts : (a b : Box) → holds a b ≡ true
-    → (along_holds a.low.x a.high.x b.low.x b.high.x ≡ true) × (along_holds a.low.y a.high.y b.low.y b.high.y ≡ true) × (along_holds a.low.z a.high.z b.low.z b.high.z ≡ true)
+    → (along_holds a.low.x a.high.x b.low.x b.high.x ≡ true) × (along_holds a.low.y a.high.y b.low.y b.high.y ≡ true)
+      × (along_holds a.low.z a.high.z b.low.z b.high.z ≡ true)
 unfolding holds
 holds_parts a b e = three _ _ _ e
 
@@ -58,7 +61,9 @@ holds_itself a = holds_all a a (itself a.low.x a.high.x) (itself a.low.y a.high.
 -- ---- touching
 
 touches_parts : (a b : Box) → touches a b ≡ true
-    → (along_touches a.low.x a.high.x b.low.x b.high.x ≡ true) × (along_touches a.low.y a.high.y b.low.y b.high.y ≡ true) × (along_touches a.low.z a.high.z b.low.z b.high.z ≡ true)
+    → (along_touches a.low.x a.high.x b.low.x b.high.x ≡ true)
+      × (along_touches a.low.y a.high.y b.low.y b.high.y ≡ true)
+      × (along_touches a.low.z a.high.z b.low.z b.high.z ≡ true)
 unfolding touches
 touches_parts a b e = three _ _ _ e
 
@@ -90,7 +95,8 @@ touches_up a b q e f =
 -- ---- meeting
 
 meets_parts : (a b : Box) → meets a b ≡ true
-    → (along_meets a.low.x a.high.x b.low.x b.high.x ≡ true) × (along_meets a.low.y a.high.y b.low.y b.high.y ≡ true) × (along_meets a.low.z a.high.z b.low.z b.high.z ≡ true)
+    → (along_meets a.low.x a.high.x b.low.x b.high.x ≡ true) × (along_meets a.low.y a.high.y b.low.y b.high.y ≡ true)
+      × (along_meets a.low.z a.high.z b.low.z b.high.z ≡ true)
 unfolding meets
 meets_parts a b e = three _ _ _ e
 

@@ -37,7 +37,8 @@ whole_end false false near far size l e = e
 fits_end : (c : Component) (o t : Signed) (near far : Rat) (size : Point) → IsLowest near → IsLowest far
     → far ≡ moved_along o near size
     → (extent c t.axis ≡ None) ⊎ ((extent c t.axis ≡ Some o.axis) × (t.against ≡ is_high c o.axis))
-    → end_of c o (flipped o.against t) near far ≡ moved (differ o.against t.against) (corner c o near far) (size_by size (extent c t.axis))
+    → end_of c o (flipped o.against t) near far ≡ moved (differ o.against t.against) (corner c o near far)
+      (size_by size (extent c t.axis))
 fits_end c o t near far size l m e (inl f) = rw f (move_zero (differ o.against t.against) (if is_high c o.axis then far else near) (one_of IsLowest (is_high c o.axis) far near m l))
 fits_end c o t near far size l m e (inr f) = rw (f.0, f.1) (whole_end o.against (is_high c o.axis) near far (coordinate size o.axis) l e)
 
@@ -58,7 +59,8 @@ coordinate-sizes_of size c Z = refl
 
 end_at : (c : Component) (o : Signed) (near far : Rat) (size : Point) → IsFitting c → IsLowest near → IsLowest far
     → far ≡ moved_along o near size
-    → end_of c o (within (turn_of c.axis c.by) o) near far ≡ moved_along (within (turn_of c.axis c.by) o) (corner c o near far) (sizes_of size c)
+    → end_of c o (within (turn_of c.axis c.by) o) near far ≡ moved_along (within (turn_of c.axis c.by) o)
+      (corner c o near far) (sizes_of size c)
 end_at c o near far size h l m e =
     fits_end c o (along (turn_of c.axis c.by) o.axis) near far size l m e (fits_at c h o.axis)
     ∙ ap (λ (a : Rat). moved (differ o.against (along (turn_of c.axis c.by) o.axis).against) (corner c o near far) a) (sym (coordinate-sizes_of size c (along (turn_of c.axis c.by) o.axis).axis))

@@ -119,7 +119,8 @@ even_at P m e h k = h ∙ ap Some (sym k)
 
 composed_at : (a b c : Axis) (s t u : Bool) (g : Frame) → parity a b c ≡ Some (differ s (differ t u))
     → parity g.x.axis g.y.axis g.z.axis ≡ Some (differ g.x.against (differ g.y.against g.z.against))
-    → parity (along g a).axis (along g b).axis (along g c).axis ≡ Some (differ (differ s (along g a).against) (differ (differ t (along g b).against) (differ u (along g c).against)))
+    → parity (along g a).axis (along g b).axis (along g c).axis ≡ Some
+      (differ (differ s (along g a).against) (differ (differ t (along g b).against) (differ u (along g c).against)))
 composed_at X Y Z s t u g h k =
     let e : differ s (differ t u) ≡ false = cc in
     even_at _ _ _ k (mixed s t u g.x.against g.y.against g.z.against ∙ ap (λ (b : Bool). differ b (differ g.x.against (differ g.y.against g.z.against))) e)

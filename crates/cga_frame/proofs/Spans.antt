@@ -39,5 +39,6 @@ high_within a b l = either_is (rat_le l a) (rat_le l b) (rat_le l (rat_max a b))
     (λ h. tells _ (le_trans l b (rat_max a b) (told _ h) (max_above a b).1))
 
 pub span_touches : (a b lower upper : Rat)
-    → along_touches (rat_min a b) (rat_max a b) lower upper ≡ ((rat_le a upper || rat_le b upper) && (rat_le lower a || rat_le lower b))
+    → along_touches (rat_min a b) (rat_max a b) lower upper ≡
+      ((rat_le a upper || rat_le b upper) && (rat_le lower a || rat_le lower b))
 span_touches a b lower upper = ap (λ t. t && rat_le lower (rat_max a b)) (low_within a b upper) ∙ ap (λ t. (rat_le a upper || rat_le b upper) && t) (high_within a b lower)

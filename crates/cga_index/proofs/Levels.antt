@@ -1,5 +1,6 @@
 -- The walk over a tree of hulls.
-use Rattle.std.proofs.Common.{◌≡◌, ℕ, zero, suc, ◌+◌, ◌-◌, ◌≤◌, ◌<◌, ◌⊎◌, inl, inr, List, [], ◌∷◌, ◌++◌, length, drop, Bool, true, false, cond, refl, ap, sym, subst, ◌∙◌, arith, nat_eq, get_or, eq-eqb}
+use Rattle.std.proofs.Common.{◌≡◌, ℕ, zero, suc, ◌+◌, ◌-◌, ◌≤◌, ◌<◌, ◌⊎◌, inl, inr, List, [], ◌∷◌, ◌++◌, length, drop}
+use Rattle.std.proofs.Common.{Bool, true, false, cond, refl, ap, sym, subst, ◌∙◌, arith, nat_eq, get_or, eq-eqb}
 use Rattle.std.specs.List.{flat_map}
 use Rattle.std.specs.Prelude.{slice_get, Some}
 use Rattle.std.proofs.lemmas.List.{drop_more}
@@ -66,7 +67,8 @@ below_more v zero node h = absurd (omega (arith, h))
 below_more v (suc n) node h = let e : suc n - 1 ≡ n = omega arith in rw e refl
 
 reads_more : (v : TreeView) (by n node : ℕ) → 0 < n
-    → reads v by n node ≡ cond (nat_eq node by) 0 1 + cond (touches (v.hull node) (v.own by)) (total (reads v by (n - 1)) (v.children node)) 0
+    → reads v by n node ≡ cond (nat_eq node by) 0 1 + cond (touches (v.hull node) (v.own by))
+      (total (reads v by (n - 1)) (v.children node)) 0
 unfolding reads
 reads_more v by zero node h = absurd (omega (arith, h))
 reads_more v by (suc n) node h = let e : suc n - 1 ≡ n = omega arith in rw e refl

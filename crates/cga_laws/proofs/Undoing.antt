@@ -39,7 +39,9 @@ use Rattle.cga_top.specs.State.{Block, of_rules, of_city, of_asset, of_judge, St
 use Rattle.cga_top.specs.Effect.{Effect}
 use Rattle.cga_top.specs.Told.{command_of, rules_of, city_of, grammar_told, sources_told}
 use Rattle.cga_top.specs.Written.{AsksWritten}
-use Rattle.cga_top.specs.Replies.{budget_of, changed, applied, edited, noted_by, stepped, dumped, modelled, shown, model_of, clothed, given, done_by, is_blank, begun, asked, outside, closed, ended, effect_by, effect}
+use Rattle.cga_top.specs.Replies.{budget_of, changed, applied, edited, noted_by, stepped, dumped, modelled, shown}
+use Rattle.cga_top.specs.Replies.{model_of, clothed, given, done_by, is_blank, begun, asked, outside, closed, ended}
+use Rattle.cga_top.specs.Replies.{effect_by, effect}
 use Rattle.cga_top.specs.Output.{effect_of_all}
 use Rattle.cga_laws.specs.Undos.{GoesThrough, StatesAreWithin, UndosGoThrough, RedosGoThrough}
 

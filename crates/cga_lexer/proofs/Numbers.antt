@@ -1,5 +1,7 @@
 -- A number of at most 18 digits has the value that its digits write.
-use Rattle.std.proofs.Common.{◌≡◌, ℕ, zero, suc, ◌+◌, ◌<◌, ◌≤◌, ◌==◌, Bool, true, false, List, [], ◌∷◌, ◌++◌, length, take, drop, drop-drop, length-take, Ok, pos, arith, ap, sym, ◌∙◌, refl, subst, if◌then◌else◌}
+use Rattle.std.proofs.Common.{◌≡◌, ℕ, zero, suc, ◌+◌, ◌<◌, ◌≤◌, ◌==◌, Bool, true, false, List, [], ◌∷◌, ◌++◌, length}
+use Rattle.std.proofs.Common.{take, drop, drop-drop, length-take, Ok, pos, arith, ap, sym, ◌∙◌, refl, subst}
+use Rattle.std.proofs.Common.{if◌then◌else◌}
 use Rattle.std.proofs.Math.Seq.{take-append-add}
 use Rattle.std.proofs.lemmas.List.{take-append-drop, append-nil}
 use Rattle.std.proofs.lemmas.Bool.Decides.{eqb_tells}
@@ -40,7 +42,8 @@ module _ (text : List ℕ) (some : 0 < run is_ascii_digit text) where
 
   pointed_value : (cs : List ℕ) → drop (run is_ascii_digit text) text ≡ 46 ∷ cs → (n : ℕ)
       → run is_ascii_digit cs ≡ suc n → run is_ascii_digit text + suc n ≤ 18
-      → decimal_of (take (run is_ascii_digit text + suc (suc n)) text) ≡ Ok (value_of (before text) (take (suc n) (drop (run is_ascii_digit text + 1) text)))
+      → decimal_of (take (run is_ascii_digit text + suc (suc n)) text) ≡ Ok
+        (value_of (before text) (take (suc n) (drop (run is_ascii_digit text + 1) text)))
   pointed_value cs e n r few =
       let ds = take (suc n) cs in
       let l : length ds ≡ suc n = omega (arith, length-take (suc n) cs, run_within is_ascii_digit cs, r) in

@@ -114,7 +114,8 @@ run_from lots i lot rest n h at distinct stands k =
     first_run lot (drop (i + 1) lots) rest n (subst (IsDistinct bytes_eq) e distinct) (subst (λ (l : List (List ℕ)). StandsBy l rest) e stands) k
 
 lots_cons : (mesh : Shown) (decimals before : ℕ) (drawn : List Drawn) (lot : List ℕ) (lots : List (List ℕ))
-    → lots_text mesh decimals drawn before (lot ∷ lots) ≡ lot_text mesh decimals before lot (drawn_of lot drawn) ++ lots_text mesh decimals drawn (before + vertices_in mesh (drawn_of lot drawn)) lots
+    → lots_text mesh decimals drawn before (lot ∷ lots) ≡ lot_text mesh decimals before lot (drawn_of lot drawn) ++
+      lots_text mesh decimals drawn (before + vertices_in mesh (drawn_of lot drawn)) lots
 unfolding lots_text
 lots_cons mesh decimals before drawn lot lots = refl
 
@@ -123,7 +124,8 @@ unfolding lots_text
 lots_none mesh decimals before drawn = refl
 
 -- one lot more, then those that are left
-pub one_lot : (mesh : Shown) (decimals before after : ℕ) (lots : List (List ℕ)) (i : ℕ) (lot : List ℕ) (rest own left : List Drawn) (n : ℕ) (old new all : List ℕ)
+pub one_lot : (mesh : Shown) (decimals before after : ℕ) (lots : List (List ℕ)) (i : ℕ) (lot : List ℕ)
+      (rest own left : List Drawn) (n : ℕ) (old new all : List ℕ)
     → i < length lots → get_or lots i lot ≡ lot
     → FirstRun lot (drop (i + 1) lots) rest n → own ≡ take n rest → left ≡ drop n rest
     → after ≡ before + vertices_in mesh own → new ≡ old ++ lot_text mesh decimals before lot own

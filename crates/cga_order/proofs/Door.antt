@@ -31,7 +31,9 @@ pub use Rattle.cga_order.proofs.Places.{came_from, slice_get-Has, slice_get-appe
 pub use Rattle.cga_order.proofs.Prefixes.{nat_cmp-less}
 
 -- Configurations that are reached are in order: their waiting members come after all that was done
-pub use Rattle.cga_order.proofs.Steps.{Changes, Changes-step, IsExpanded, IsOrdered, SamePlace, child_birth, child_of, children_of, expanded_after, in_order, kind_after, law, not_waiting, rises, taken_done, told-is}
+pub use Rattle.cga_order.proofs.Steps.{Changes, Changes-step, IsExpanded, IsOrdered, SamePlace, child_birth, child_of}
+pub use Rattle.cga_order.proofs.Steps.{children_of, expanded_after, in_order, kind_after, law, not_waiting, rises}
+pub use Rattle.cga_order.proofs.Steps.{taken_done, told-is}
 
 -- A turn of an agenda keeps what is off it right, and a list that is right is consistent
 pub use Rattle.cga_order.proofs.Turns.{Has-Keeps, Keeps-Has, SameAt, asks_same, right_consistent, still_right}

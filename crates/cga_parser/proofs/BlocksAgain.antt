@@ -17,7 +17,9 @@ use Rattle.cga_parser.specs.Blocks as b
 use Rattle.cga_parser.proofs.ExprsAgain.{neither}
 use Rattle.cga_parser.proofs.Rules.{rule_is}
 use Rattle.cga_parser.proofs.RulesAgain.{with_rule, rule_again}
-use Rattle.cga_form.proofs.Door.{Begun, a_slash, after, begun_as, begun_token, by_name, ends, missed, misses_end, never_written, peek_no, peek_yes, plainly, starts_token, took, value_again, value_pieces, whole_leads}
+use Rattle.cga_form.proofs.Door.{Begun, a_slash, after, begun_as, begun_token, by_name, ends, missed, misses_end}
+use Rattle.cga_form.proofs.Door.{never_written, peek_no, peek_yes, plainly, starts_token, took, value_again}
+use Rattle.cga_form.proofs.Door.{value_pieces, whole_leads}
 use Rattle.cga_form.specs.Laws.{Again, Leads, nothing}
 
 name_read : (name : List ℕ) → is_reserved name ≡ false → a_name (lexeme.Name name) ≡ Some name

@@ -25,7 +25,10 @@ use Rattle.cga_rule.specs.declared.cond.Test.TheOpen as layer
 use Rattle.cga_rule.specs.declared.cond.Relation.{Relation}
 use Rattle.cga_rule.specs.declared.cond.Relation.TheVariants as relation
 use Rattle.cga_syntax.specs.declared.print.space.Space.TheVariants.{Usual}
-use Rattle.cga_syntax.specs.Pieces.{token, sign, keyword, word, text, Pieces, concat, squared, size_word, target_text, state_text, relation_sign, equality_sign, expr_pieces, scaled_pieces, added_pieces, cond_pieces, conj_pieces, test_pieces, test_step, cond_step, conj_step}
+use Rattle.cga_syntax.specs.Pieces.{token, sign, keyword, word, text, Pieces, concat, squared, size_word, target_text}
+use Rattle.cga_syntax.specs.Pieces.{state_text, relation_sign, equality_sign, expr_pieces, scaled_pieces}
+use Rattle.cga_syntax.specs.Pieces.{added_pieces, cond_pieces, conj_pieces, test_pieces, test_step, cond_step}
+use Rattle.cga_syntax.specs.Pieces.{conj_step}
 use Rattle.cga_syntax.specs.Brackets.{counted, bracket_of}
 use Rattle.cga_form.specs.Reader.{Reader, ◌>>=◌, ◌>>◌, pure, refuse, single}
 use Rattle.cga_form.specs.Tokens.{is_sign, is_keyword}
@@ -33,7 +36,9 @@ use Rattle.cga_form.specs.Words.{a_relation, relation_of, an_equality, equality_
 use Rattle.cga_parser.specs.Grammar as g
 use Rattle.cga_form.specs.declared.heads.ScopeWord.{ScopeWord}
 use Rattle.cga_form.specs.declared.heads.ScopeWord.TheVariants as scope_word
-use Rattle.cga_form.proofs.Door.{Long, Token, a_sign_is, as_token, bracketed, by_token, done, either, keyword_token, listed, long_of, next, no_more, one_token, opening, pick, plain_written, refusing, sign_token}
+use Rattle.cga_form.proofs.Door.{Long, Token, a_sign_is, as_token, bracketed, by_token, done, either, keyword_token}
+use Rattle.cga_form.proofs.Door.{listed, long_of, next, no_more, one_token, opening, pick, plain_written, refusing}
+use Rattle.cga_form.proofs.Door.{sign_token}
 use Rattle.cga_form.specs.Laws.{After, Goes, Reads, Some_text}
 use Rattle.std.proofs.Common.{append-nil as nil_right}
 use Rattle.cga_parser.proofs.Layers.{expr_layer, term_layer, factor_layer, size_layer}
@@ -187,7 +192,9 @@ abbrev pub occ_pieces : Target × Bool × Answer → Pieces
 occ_pieces p = sign s.LeftRound ∷ text (target_text p.0) ∷ sign s.RightRound ∷ sign (equality_sign p.1) ∷ text (state_text p.2) ∷ []
 
 occ_rest : (m : ℕ)
-    → Goes m (suc m) round occ_pieces (single a_target >>= λ target. g.sign s.RightRound >> (single an_equality >>= λ equal. single a_state >>= λ state. pure (target, equal, state)))
+    → Goes m (suc m) round occ_pieces
+      (single a_target >>= λ target. g.sign s.RightRound >>
+      (single an_equality >>= λ equal. single a_state >>= λ state. pure (target, equal, state)))
 occ_rest m = next (one_token (target_token m)) (λ a. next (close m) (λ _. next (one_token (equality_token (suc m))) (λ b. next (one_token (state_token (suc m))) (λ c. done refl))))
 
 occ_reads : (n : ℕ) (inner : Reader Cond) → Reads n n occ_pieces (g.occ_parts n inner)
@@ -210,7 +217,8 @@ module _ (n : ℕ) (inner : Reader Cond) (h : IsInner n inner) where
   scope_pieces w = keyword k.Scope ∷ sign s.Dot ∷ word (scope_bytes w) ∷ []
 
   pub sum_layer : (a : Axis) (fs : List Scaled) (ts : List Added)
-      → expr_pieces (g.sum_of (g.size_factor a) fs ts) ≡ (scope_pieces (scope_word.Size a) ++ concat (map scaled_pieces fs)) ++ concat (map added_pieces ts)
+      → expr_pieces (g.sum_of (g.size_factor a) fs ts) ≡
+        (scope_pieces (scope_word.Size a) ++ concat (map scaled_pieces fs)) ++ concat (map added_pieces ts)
   sum_layer a fs ts =
       expr_layer _ ts ∙ ap (λ z. z ++ concat (map added_pieces ts)) (term_layer (g.size_factor a) fs ∙ ap (λ z. z ++ concat (map scaled_pieces fs)) (factor_layer false _ ∙ size_layer a))
 

@@ -27,18 +27,27 @@ use Rattle.cga_rule.specs.declared.cond.Test.TheFolds.{fold-roll-Cond, fold-roll
 use Rattle.cga_rule.specs.declared.cond.Test.TheOpen as test
 use Rattle.cga_rule.specs.declared.cond.Relation.{Relation}
 use Rattle.cga_rule.specs.declared.cond.Relation.TheVariants as relation
-use Rattle.cga_syntax.specs.Pieces.{never, sign, keyword, word, Pieces, concat, target_text, state_text, relation_sign, equality_sign, expr_pieces, scaled_pieces, added_pieces, factor_pieces, primary_pieces, cond_pieces, conj_pieces, test_pieces, test_step, cond_step, conj_step}
+use Rattle.cga_syntax.specs.Pieces.{never, sign, keyword, word, Pieces, concat, target_text, state_text}
+use Rattle.cga_syntax.specs.Pieces.{relation_sign, equality_sign, expr_pieces, scaled_pieces, added_pieces}
+use Rattle.cga_syntax.specs.Pieces.{factor_pieces, primary_pieces, cond_pieces, conj_pieces, test_pieces, test_step}
+use Rattle.cga_syntax.specs.Pieces.{cond_step, conj_step}
 use Rattle.cga_form.specs.Reader.{Reader, refuse}
 use Rattle.cga_form.specs.Tokens.{a_sign, a_keyword, is_sign, is_keyword}
 use Rattle.cga_form.specs.Words.{a_relation, an_equality, a_target, a_state, a_scope_word}
 use Rattle.cga_parser.specs.Grammar as g
 use Rattle.cga_form.specs.declared.heads.ScopeWord.TheVariants as scope_word
-use Rattle.cga_form.proofs.Door.{Begun, after, all_of, begun_append, begun_as, begun_drawn, begun_named, begun_nothing, begun_token, ends, entered, missed, misses_each, misses_end, misses_nothing, never_leads, peek_no, peek_yes, plainly, starts_token, took, turned, written_as}
+use Rattle.cga_form.proofs.Door.{Begun, after, all_of, begun_append, begun_as, begun_drawn, begun_named}
+use Rattle.cga_form.proofs.Door.{begun_nothing, begun_token, ends, entered, missed, misses_each, misses_end}
+use Rattle.cga_form.proofs.Door.{misses_nothing, never_leads, peek_no, peek_yes, plainly, starts_token, took, turned}
+use Rattle.cga_form.proofs.Door.{written_as}
 use Rattle.cga_form.specs.Laws.{Again, Leads, nothing}
 use Rattle.cga_parser.proofs.Layers.{expr_layer, term_layer, factor_layer, number_layer, named_layer, group_layer as bracket_layer, floor_layer, ceil_layer, rand_layer}
 use Rattle.cga_parser.proofs.Exprs.{inside_reads, scaled_long, scaled_reads, added_long, added_reads}
 use Rattle.cga_parser.proofs.ExprsAgain.{goes_on, no_scaling, no_addition, Spares, expr_begun, scaled_again, scaled_starts, added_again, added_starts, added_begun, expr_again, inside_again, neither}
-use Rattle.cga_parser.proofs.Conds.{scope_bytes, IsInner, no_inner, one_inner, cond_reads, square_pieces, occ_pieces, sum_layer, further_test_pieces, further_test_long, further_test_reads, further_conj_pieces, further_conj_long, further_conj_reads, cond_layer, conj_layer, group_layer, not_layer, occ_layer, compare_layer}
+use Rattle.cga_parser.proofs.Conds.{scope_bytes, IsInner, no_inner, one_inner, cond_reads, square_pieces, occ_pieces}
+use Rattle.cga_parser.proofs.Conds.{sum_layer, further_test_pieces, further_test_long, further_test_reads}
+use Rattle.cga_parser.proofs.Conds.{further_conj_pieces, further_conj_long, further_conj_reads, cond_layer}
+use Rattle.cga_parser.proofs.Conds.{conj_layer, group_layer, not_layer, occ_layer, compare_layer}
 
 -- the tokens that go on with a conjunction, and with a condition
 abbrev pub with_and : Lexeme → Bool
@@ -116,7 +125,8 @@ module _ (n : ℕ) (inner : Reader Cond) (h : AgainInner n inner) (r : IsInner n
   }
 
   compare_again : (left : Expr) (o : Relation) (right : Expr)
-      → Leads goes_on (sign (relation_sign o) ∷ expr_pieces right) (g.compare_after n inner left) (t.Compare left o right)
+      → Leads goes_on (sign (relation_sign o) ∷ expr_pieces right) (g.compare_after n inner left)
+        (t.Compare left o right)
   unfolding g.compare_after
   compare_again left o right = took a_relation o (relation_read o) (plainly (after _ right (expr_again n) (misses_end (λ l e. e)) ends))
 
@@ -164,7 +174,8 @@ module _ (n : ℕ) (inner : Reader Cond) (h : AgainInner n inner) (r : IsInner n
       written_as (compare_layer left o right) (peek_no _ (missed (begun_append end (expr_begun square_spares refl left))) (peek_no _ (missed (begun_append end (expr_begun not_spares refl left)))
       (peek_no _ (missed (begun_append end b)) (after _ left (expr_again n) (missed (begun_token (relation_stops o))) (compare_again left o right)))))
 
-  by_primary : (q : Primary-F Primary Added Expr Factor Scaled Term) (fs : List Scaled) (ts : List Added) (o : Relation) (right : Expr)
+  by_primary : (q : Primary-F Primary Added Expr Factor Scaled Term) (fs : List Scaled) (ts : List Added)
+        (o : Relation) (right : Expr)
       → At_test (t.Compare (g.sum_of (record { minus = false; primary = roll-Primary q }) fs ts) o right)
   by_primary (layer.ScopeSize a) fs ts o right = subst (λ p. At_test (t.Compare (g.sum_of (record { minus = false; primary = p }) fs ts) o right)) (sym (rolls-ScopeSize a)) (sum_again a fs ts o right)
   by_primary (layer.Number value) fs ts o right = other_again _ o right (sum_begun _ fs ts (begun_as (factor_layer false _ ∙ ap primary_pieces (rolls-Number value) ∙ number_layer value) (begun_token refl)))

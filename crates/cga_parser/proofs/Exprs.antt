@@ -17,7 +17,9 @@ use Rattle.cga_rule.specs.declared.expr.Factor.{Factor}
 use Rattle.cga_rule.specs.declared.expr.Primary.TheVariants as v
 use Rattle.cga_syntax.specs.declared.print.space.Space.{Space}
 use Rattle.cga_syntax.specs.declared.print.space.Space.TheVariants.{Usual, NoneAfter}
-use Rattle.cga_syntax.specs.Pieces.{token, plain, sign, keyword, named, word, whole, Pieces, Writes, grouped, size_word, expr_pieces, term_pieces, added_pieces, scaled_pieces, factor_pieces, primary_pieces}
+use Rattle.cga_syntax.specs.Pieces.{token, plain, sign, keyword, named, word, whole, Pieces, Writes, grouped}
+use Rattle.cga_syntax.specs.Pieces.{size_word, expr_pieces, term_pieces, added_pieces, scaled_pieces, factor_pieces}
+use Rattle.cga_syntax.specs.Pieces.{primary_pieces}
 use Rattle.cga_syntax.specs.Brackets.{counted, bracket_of}
 use Rattle.cga_form.specs.Reader.{Reader, ◌>>=◌, ◌>>◌, pure, refuse, single, enter}
 use Rattle.cga_form.specs.Tokens.{a_sign, a_whole, is_sign, is_keyword, unless}
@@ -25,7 +27,9 @@ use Rattle.cga_form.specs.Words.{primary_head, primary_keyword, size_axis, size_
 use Rattle.cga_parser.specs.Grammar as g
 use Rattle.cga_form.specs.declared.heads.PrimaryHead.{PrimaryHead}
 use Rattle.cga_form.specs.declared.heads.PrimaryHead.TheVariants as head
-use Rattle.cga_form.proofs.Door.{Long, Token, a_keyword_is, a_sign_is, as_token, bracketed, by_token, done, either, listed, long_of, named_is, next, no_more, nothing, one_rand, one_token, opening, pick, refusing, sign_token, token_first, whole_token}
+use Rattle.cga_form.proofs.Door.{Long, Token, a_keyword_is, a_sign_is, as_token, bracketed, by_token, done, either}
+use Rattle.cga_form.proofs.Door.{listed, long_of, named_is, next, no_more, nothing, one_rand, one_token, opening}
+use Rattle.cga_form.proofs.Door.{pick, refusing, sign_token, token_first, whole_token}
 use Rattle.cga_form.specs.Laws.{After, Goes, Reads, Some_text}
 use Rattle.std.proofs.Common.{append-nil as nil_right}
 use Rattle.cga_parser.proofs.Layers.{expr_layer, term_layer, added_layer, scaled_layer, factor_layer, number_layer, named_layer, size_layer, group_layer, floor_layer, ceil_layer, rand_layer}

@@ -22,7 +22,10 @@ use Rattle.cga_form.specs.Tokens.{a_sign, a_keyword, a_whole, is_sign, unless}
 use Rattle.cga_form.specs.Words.{primary_head, size_axis, an_addition, a_scaling}
 use Rattle.cga_parser.specs.Grammar as g
 use Rattle.cga_form.specs.declared.heads.PrimaryHead.TheVariants as head
-use Rattle.cga_form.proofs.Door.{Begun, Starts, after, all_of, begun_append, begun_as, begun_drawn, begun_named, begun_nothing, begun_token, by_name, drew, ends, entered, missed, misses_each, misses_end, misses_nothing, peek_no, peek_yes, plainly, starts_as, starts_drawn, starts_token, took, turned, whole_leads, written_as}
+use Rattle.cga_form.proofs.Door.{Begun, Starts, after, all_of, begun_append, begun_as, begun_drawn, begun_named}
+use Rattle.cga_form.proofs.Door.{begun_nothing, begun_token, by_name, drew, ends, entered, missed, misses_each}
+use Rattle.cga_form.proofs.Door.{misses_end, misses_nothing, peek_no, peek_yes, plainly, starts_as, starts_drawn}
+use Rattle.cga_form.proofs.Door.{starts_token, took, turned, whole_leads, written_as}
 use Rattle.cga_form.specs.Laws.{Again, Leads, nothing}
 use Rattle.std.proofs.Common.{append-nil as nil_right}
 use Rattle.cga_parser.proofs.Exprs.{IsInside, group_pieces, rand_rest_pieces, scaled_long, scaled_reads, added_long, added_reads, expr_reads, no_inside, one_inside}

@@ -1,5 +1,7 @@
 -- Items are read exactly.
-use Rattle.std.proofs.Common.{◌≡◌, ℕ, zero, suc, ◌≤◌, ◌==◌, inl, inr, nat_le, List, [], ◌∷◌, ◌++◌, map, length, append_assoc, Bool, true, false, Option, Some, None, refl, ap, sym, ◌∙◌, subst, if◌then◌else◌, arith, codes, pos}
+use Rattle.std.proofs.Common.{◌≡◌, ℕ, zero, suc, ◌≤◌, ◌==◌, inl, inr, nat_le, List, [], ◌∷◌, ◌++◌, map, length}
+use Rattle.std.proofs.Common.{append_assoc, Bool, true, false, Option, Some, None, refl, ap, sym, ◌∙◌, subst}
+use Rattle.std.proofs.Common.{if◌then◌else◌, arith, codes, pos}
 use Rattle.std.proofs.lemmas.Bool.{eqb-true}
 use Rattle.cga_fraction.specs.Rat.{Rat, of_int}
 use Rattle.cga_lexer.specs.declared.sign.Sign.TheVariants as s
@@ -28,18 +30,27 @@ use Rattle.cga_rule.specs.declared.item.Item.TheFolds.{fold-roll-Body, fold-roll
 use Rattle.cga_rule.specs.declared.item.Item.TheOpen as layer
 use Rattle.cga_syntax.specs.declared.print.space.Space.{Space}
 use Rattle.cga_syntax.specs.declared.print.space.Space.TheVariants.{Usual}
-use Rattle.cga_syntax.specs.Pieces.{Piece, token, turned, plain, number, never, sign, keyword, word, text, named, Pieces, concat, IsTurn, Writes, nonempty, separated, preceded, at_most, after_each, arguments, three, body_of, in_curly, axis_text, turn_keyword, solid_text, side_text, selector_pieces, size_pieces, expr_pieces, item_pieces, body_pieces, item_step, body_step}
+use Rattle.cga_syntax.specs.Pieces.{Piece, token, turned, plain, number, never, sign, keyword, word, text, named}
+use Rattle.cga_syntax.specs.Pieces.{Pieces, concat, IsTurn, Writes, nonempty, separated, preceded, at_most}
+use Rattle.cga_syntax.specs.Pieces.{after_each, arguments, three, body_of, in_curly, axis_text, turn_keyword}
+use Rattle.cga_syntax.specs.Pieces.{solid_text, side_text, selector_pieces, size_pieces, expr_pieces, item_pieces}
+use Rattle.cga_syntax.specs.Pieces.{body_pieces, item_step, body_step}
 use Rattle.cga_syntax.specs.Brackets.{counted, bracket_of}
 use Rattle.cga_form.specs.Reader.{Reader, ◌>>=◌, ◌>>◌, pure, refuse, single, enter, many, many_from}
 use Rattle.cga_form.specs.Tokens.{passing, a_sign, is_sign, is_keyword, unless, whole_of}
-use Rattle.cga_form.specs.Words.{item_head, item_keyword, a_relative, is_relative, turn_of, turned_by, a_turn, ninety_by, a_ninety, axis_of, an_axis, solid_of, a_solid, side_of, a_side, selector_of, a_selector}
+use Rattle.cga_form.specs.Words.{item_head, item_keyword, a_relative, is_relative, turn_of, turned_by, a_turn}
+use Rattle.cga_form.specs.Words.{ninety_by, a_ninety, axis_of, an_axis, solid_of, a_solid, side_of, a_side}
+use Rattle.cga_form.specs.Words.{selector_of, a_selector}
 use Rattle.cga_parser.specs.Grammar as g
 use Rattle.cga_parser.proofs.Threes.{threes_are}
 use Rattle.cga_form.specs.declared.heads.ItemHead.{ItemHead}
 use Rattle.cga_form.specs.declared.heads.ItemHead.TheVariants as head
 use Rattle.cga_form.specs.declared.heads.SelectorHead.{SelectorHead}
 use Rattle.cga_form.specs.declared.heads.SelectorHead.TheVariants as choice
-use Rattle.cga_form.proofs.Door.{Long, Token, a_sign_is, as_token, bracketed, by_token, done, either, end_of, few_pieces, head_of, keyword_token, limited, listed, long_of, named_is, never_written, next, no_more, one_token, opening, pick, piece_written, plain_written, refusing, sign_token, translated, whole_token, whole_value}
+use Rattle.cga_form.proofs.Door.{Long, Token, a_sign_is, as_token, bracketed, by_token, done, either, end_of}
+use Rattle.cga_form.proofs.Door.{few_pieces, head_of, keyword_token, limited, listed, long_of, named_is}
+use Rattle.cga_form.proofs.Door.{never_written, next, no_more, one_token, opening, pick, piece_written, plain_written}
+use Rattle.cga_form.proofs.Door.{refusing, sign_token, translated, whole_token, whole_value}
 use Rattle.cga_form.specs.Laws.{After, Goes, Reads, Some_text}
 use Rattle.std.proofs.Common.{append-nil as nil_right}
 use Rattle.cga_parser.proofs.Lists.{after_map, separated_is, preceded_is}
@@ -78,12 +89,14 @@ unfolding item_pieces body_pieces
 subdiv_layer a sizes bodies = ap item_pieces (sym (rolls-Subdiv a sizes bodies)) ∙ fold-roll-Item Pieces Pieces item_step body_step (layer.Subdiv a sizes bodies)
 
 pub repeat_layer : (a : Axis) (length : Expr) (body : Body)
-    → item_pieces (i.Repeat a length body) ≡ keyword k.Repeat ∷ sign s.LeftRound ∷ text (axis_text a) ∷ sign s.Comma ∷ (expr_pieces length ++ (sign s.RightRound ∷ in_curly (body_pieces body)))
+    → item_pieces (i.Repeat a length body) ≡ keyword k.Repeat ∷ sign s.LeftRound ∷ text (axis_text a) ∷ sign s.Comma ∷
+      (expr_pieces length ++ (sign s.RightRound ∷ in_curly (body_pieces body)))
 unfolding item_pieces body_pieces
 repeat_layer a length body = ap item_pieces (sym (rolls-Repeat a length body)) ∙ fold-roll-Item Pieces Pieces item_step body_step (layer.Repeat a length body)
 
 pub comp_layer : (x : Selector) (body : Body)
-    → item_pieces (i.Comp x body) ≡ keyword k.Comp ∷ sign s.LeftRound ∷ (selector_pieces x ++ (sign s.RightRound ∷ in_curly (body_pieces body)))
+    → item_pieces (i.Comp x body) ≡ keyword k.Comp ∷ sign s.LeftRound ∷
+      (selector_pieces x ++ (sign s.RightRound ∷ in_curly (body_pieces body)))
 unfolding item_pieces body_pieces
 comp_layer x body = ap item_pieces (sym (rolls-Comp x body)) ∙ fold-roll-Item Pieces Pieces item_step body_step (layer.Comp x body)
 
@@ -354,7 +367,9 @@ abbrev pub split_pieces : Axis × List Size → Pieces
 split_pieces p = sign s.LeftRound ∷ text (axis_text p.0) ∷ preceded (sign s.Comma) (map size_pieces p.1) (sign s.RightRound ∷ [])
 
 split_is : (a : Axis) (x : Size) (more : List Size)
-    → split_pieces (a, x ∷ more) ≡ (((round ++ (text (axis_text a) ∷ [])) ++ further_size_pieces x) ++ concat (map further_size_pieces more)) ++ (sign s.RightRound ∷ [])
+    → split_pieces (a, x ∷ more) ≡
+      (((round ++ (text (axis_text a) ∷ [])) ++ further_size_pieces x) ++ concat (map further_size_pieces more)) ++
+      (sign s.RightRound ∷ [])
 split_is a x more = ap (λ z. sign s.LeftRound ∷ text (axis_text a) ∷ z) (preceded_is (sign s.Comma) size_pieces x more (sign s.RightRound ∷ [])) ∙ simp append_assoc
 
 split_rest : (n m : ℕ) (p : Reader Expr) → Reads m m expr_pieces p →
@@ -370,7 +385,8 @@ abbrev pub repeat_pieces : Axis × Expr → Pieces
 repeat_pieces p = sign s.LeftRound ∷ text (axis_text p.0) ∷ sign s.Comma ∷ (expr_pieces p.1 ++ (sign s.RightRound ∷ []))
 
 repeat_rest : (m : ℕ) (p : Reader Expr) → Reads m m expr_pieces p
-    → Goes m (suc m) round repeat_pieces (single an_axis >>= λ a. g.sign s.Comma >> (p >>= λ e. g.sign s.RightRound >> pure (a, e)))
+    → Goes m (suc m) round repeat_pieces
+      (single an_axis >>= λ a. g.sign s.Comma >> (p >>= λ e. g.sign s.RightRound >> pure (a, e)))
 repeat_rest m p h = next (one_token (axis_token m)) (λ a. next (comma m) (λ _. next h (λ e. next (close m) (λ _. done refl))))
 
 pub repeat_reads : (n : ℕ) (inside : Reader Expr) → IsInside n inside
@@ -424,7 +440,8 @@ at_most_is most p w xs = ap (λ n. if nat_le n most then after_each p (map w xs)
 
 -- arguments, one and further ones
 pub arguments_is : {A : Type 0} (w : A → Pieces) (x : A) (more : List A)
-    → arguments (map w (x ∷ more)) ≡ ((round ++ w x) ++ few_pieces 3 (λ a. sign s.Comma ∷ w a) more) ++ (sign s.RightRound ∷ [])
+    → arguments (map w (x ∷ more)) ≡ ((round ++ w x) ++ few_pieces 3 (λ a. sign s.Comma ∷ w a) more) ++
+      (sign s.RightRound ∷ [])
 arguments_is w x more = ap (λ z. sign s.LeftRound ∷ (w x ++ (z ++ (sign s.RightRound ∷ [])))) (at_most_is 3 (sign s.Comma) w more) ∙ simp append_assoc
 
 abbrev pub arguments_pieces : List Expr → Pieces
@@ -550,7 +567,8 @@ braced_bodies_rest n m inside p h =
     next (body_reads m p h) (λ is. next (listed (is_sign s.Bar) further_body_long (further_body_reads n m inside p h)) (λ more. next (close_curly m) (λ _. done (braced_bodies_is is more))))
 
 pub subdiv_is : (a : Axis) (sizes : List Size) (bodies : List Body)
-    → item_pieces (i.Subdiv a sizes bodies) ≡ (keyword k.Subdiv ∷ split_pieces (a, sizes)) ++ braced_bodies_pieces bodies
+    → item_pieces (i.Subdiv a sizes bodies) ≡ (keyword k.Subdiv ∷ split_pieces (a, sizes)) ++ braced_bodies_pieces
+      bodies
 subdiv_is a [] bodies = subdiv_layer a [] bodies
 subdiv_is a (x ∷ more) bodies = subdiv_layer a (x ∷ more) bodies ∙ simp append_assoc
 

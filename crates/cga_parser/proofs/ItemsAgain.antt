@@ -23,7 +23,9 @@ use Rattle.cga_rule.specs.declared.item.Item.TheVariants as i
 use Rattle.cga_rule.specs.declared.item.Item.TheVariants.{rolls-Move, rolls-Resize, rolls-Rotate, rolls-Scoped, rolls-Solid, rolls-Subdiv, rolls-Repeat, rolls-Comp, rolls-Child}
 use Rattle.cga_rule.specs.declared.item.Item.TheOpen as layer
 use Rattle.cga_syntax.specs.declared.print.space.Space.TheVariants.{Usual}
-use Rattle.cga_syntax.specs.Pieces.{token, turned, plain, number, sign, keyword, text, Pieces, concat, IsTurn, Writes, axis_text, turn_keyword, solid_text, side_text, selector_pieces, size_pieces, expr_pieces, item_pieces, body_pieces}
+use Rattle.cga_syntax.specs.Pieces.{token, turned, plain, number, sign, keyword, text, Pieces, concat, IsTurn, Writes}
+use Rattle.cga_syntax.specs.Pieces.{axis_text, turn_keyword, solid_text, side_text, selector_pieces, size_pieces}
+use Rattle.cga_syntax.specs.Pieces.{expr_pieces, item_pieces, body_pieces}
 use Rattle.cga_form.specs.Reader.{Reader, at, refuse, begins}
 use Rattle.cga_form.specs.Tokens.{a_sign, a_keyword, is_sign, is_keyword, unless, a_whole}
 use Rattle.cga_form.specs.Words.{item_head, a_relative, is_relative, a_turn, a_ninety, an_axis, a_solid, a_side, a_selector}
@@ -31,13 +33,24 @@ use Rattle.cga_parser.specs.Grammar as g
 use Rattle.cga_parser.proofs.Threes.{threes_are}
 use Rattle.cga_form.specs.declared.heads.ItemHead.TheVariants as head
 use Rattle.cga_form.specs.declared.heads.SelectorHead.TheVariants as choice
-use Rattle.cga_form.proofs.Door.{Begun, Starts, after, all_of, begun_append, begun_as, begun_named, begun_token, by_name, ends, entered, few_misses, few_of, missed, misses_each, misses_end, misses_nothing, never_leads, peek_no, peek_yes, piece_of, plain_written, plainly, starts_as, starts_named, starts_token, took, turned as unrolled, whole_leads, written_as}
+use Rattle.cga_form.proofs.Door.{Begun, Starts, after, all_of, begun_append, begun_as, begun_named, begun_token}
+use Rattle.cga_form.proofs.Door.{by_name, ends, entered, few_misses, few_of, missed, misses_each, misses_end}
+use Rattle.cga_form.proofs.Door.{misses_nothing, never_leads, peek_no, peek_yes, piece_of, plain_written, plainly}
+use Rattle.cga_form.proofs.Door.{starts_as, starts_named, starts_token, took, turned as unrolled, whole_leads}
+use Rattle.cga_form.proofs.Door.{written_as}
 use Rattle.cga_form.specs.Laws.{Again, Agrees, Leads, Reads, nothing}
 use Rattle.std.proofs.Common.{append-nil as nil_right}
 use Rattle.cga_parser.proofs.Lists.{separated_is, preceded_is}
 use Rattle.cga_parser.proofs.Exprs.{IsInside, inside_reads}
 use Rattle.cga_parser.proofs.ExprsAgain.{goes_on, Spares, expr_begun, AgainInside, inside_again, neither}
-use Rattle.cga_parser.proofs.Items.{move_layer, resize_layer, rotate_layer, scoped_layer, solid_layer, subdiv_layer, repeat_layer, comp_layer, child_layer, list_pieces, body_layer, turn_number, size_relative, size_absolute, triple, turn_pieces, turn_part_pieces, solid_pieces, further_size_pieces, further_size_long, further_size_reads, split_pieces, repeat_pieces, selector_part_pieces, further_argument_pieces, at_most_is, arguments_pieces, item_long, some_pieces, IsInnerItem, scoped_pieces, scoped_is, braced_body_pieces, further_body_pieces, further_body_long, further_body_reads, braced_bodies_pieces, subdiv_is, no_inner_item, one_inner_item, item_reads}
+use Rattle.cga_parser.proofs.Items.{move_layer, resize_layer, rotate_layer, scoped_layer, solid_layer, subdiv_layer}
+use Rattle.cga_parser.proofs.Items.{repeat_layer, comp_layer, child_layer, list_pieces, body_layer, turn_number}
+use Rattle.cga_parser.proofs.Items.{size_relative, size_absolute, triple, turn_pieces, turn_part_pieces, solid_pieces}
+use Rattle.cga_parser.proofs.Items.{further_size_pieces, further_size_long, further_size_reads, split_pieces}
+use Rattle.cga_parser.proofs.Items.{repeat_pieces, selector_part_pieces, further_argument_pieces, at_most_is}
+use Rattle.cga_parser.proofs.Items.{arguments_pieces, item_long, some_pieces, IsInnerItem, scoped_pieces, scoped_is}
+use Rattle.cga_parser.proofs.Items.{braced_body_pieces, further_body_pieces, further_body_long, further_body_reads}
+use Rattle.cga_parser.proofs.Items.{braced_bodies_pieces, subdiv_is, no_inner_item, one_inner_item, item_reads}
 
 relative_spares : Spares is_relative
 relative_spares = record { number = λ v. refl; name = λ n. refl; bracket = refl; scope = refl; floor = refl; ceil = refl; rand = refl }

@@ -17,7 +17,9 @@ use Rattle.cga_syntax.specs.Reading.{AreTokens, AreRead}
 use Rattle.cga_syntax.specs.Spelling.{Spelled}
 use Rattle.cga_form.proofs.Door.{form_told, head_of, never_written, nothing, token_first}
 use Rattle.cga_fraction.proofs.Door.{within_4096 as short_enough}
-use Rattle.cga_syntax.proofs.Door.{again, attribute_read, attribute_short, attribute_tokens, attribute_visible, lexemes, line_tokens, priority_read, priority_short, priority_tokens, priority_visible, text_read, text_visible}
+use Rattle.cga_syntax.proofs.Door.{again, attribute_read, attribute_short, attribute_tokens, attribute_visible}
+use Rattle.cga_syntax.proofs.Door.{lexemes, line_tokens, priority_read, priority_short, priority_tokens}
+use Rattle.cga_syntax.proofs.Door.{priority_visible, text_read, text_visible}
 use Rattle.std.proofs.Common.{append-nil as nil_right}
 use Rattle.cga_parser.specs.declared.block_line.BlockLine.{BlockLine}
 use Rattle.cga_parser.specs.declared.block_line.BlockLine.TheVariants as line

@@ -24,7 +24,8 @@ module _ {B : Type 0} (b : Reader ℕ) (d : Reader (Unit {0})) (h : ℕ → B) w
   by_number (Err e) = refl
 
   by_sign : (u : ReadResult (Unit {0}))
-      → and_then u (λ _. b >>= λ n. d >> pure (h n)) ≡ and_then (and_then u (λ _. b >>= λ n. d >> pure n)) (λ n. pure (h n))
+      → and_then u (λ _. b >>= λ n. d >> pure (h n)) ≡ and_then (and_then u (λ _. b >>= λ n. d >> pure n))
+        (λ n. pure (h n))
   by_sign (Ok p) = by_number (b p.1)
   by_sign (Err e) = refl
 

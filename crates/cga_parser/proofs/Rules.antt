@@ -11,7 +11,9 @@ use Rattle.cga_syntax.specs.Pieces.{token, plain, sign, named, whole, Pieces, co
 use Rattle.cga_form.specs.Reader.{◌>>=◌, ◌>>◌, pure, single, many_from}
 use Rattle.cga_form.specs.Tokens.{is_sign, a_name}
 use Rattle.cga_parser.specs.Grammar as g
-use Rattle.cga_form.proofs.Door.{Long, as_token, done, either, end_of, head_of, limited, listed, long_of, name_pieces, name_token, next, number_token, one_token, piece_written, pure_runs, sign_token, translated, whole_token}
+use Rattle.cga_form.proofs.Door.{Long, as_token, done, either, end_of, head_of, limited, listed, long_of, name_pieces}
+use Rattle.cga_form.proofs.Door.{name_token, next, number_token, one_token, piece_written, pure_runs, sign_token}
+use Rattle.cga_form.proofs.Door.{translated, whole_token}
 use Rattle.cga_form.specs.Laws.{After, Goes, Reads}
 use Rattle.std.proofs.Common.{append-nil as nil_right}
 use Rattle.cga_parser.proofs.Exprs.{comma, close, round, in_round}
@@ -34,7 +36,9 @@ abbrev pub parameters_pieces : List (List ℕ) → Pieces
 parameters_pieces ps = arguments (map name_pieces ps)
 
 parameters_rest : (m : ℕ)
-    → Goes m (suc m) round parameters_pieces (single a_name >>= λ x. many_from (is_sign s.Comma) g.further_name 3 [] >>= λ more. g.sign s.RightRound >> pure (x ∷ more))
+    → Goes m (suc m) round parameters_pieces
+      (single a_name >>= λ x. many_from (is_sign s.Comma) g.further_name 3 [] >>= λ more. g.sign s.RightRound >> pure
+      (x ∷ more))
 parameters_rest m = next (one_token (name_token m)) (λ x. next (limited (is_sign s.Comma) 3 (further_name_reads m)) (λ more. next (close m) (λ _. done (arguments_is name_pieces x more))))
 
 some_parameters_reads : (n : ℕ) → Reads n n parameters_pieces (g.some_parameters n)
@@ -97,7 +101,8 @@ pub alternative_long : Long alternative_pieces
 alternative_long c x a d w = long_of c Usual (lexeme.Sign s.Arrow) (list_pieces a.items ++ (probability a.prob ∷ [])) x d (subst (λ ps. Writes c ps x d) (alternative_is a.items a.prob) w)
 
 pub rule_is : (r : Rule)
-    → rule_pieces r ≡ whole 1 999999 r.id ∷ token NoneBefore (lexeme.Sign s.Colon) ∷ named r.symbol ∷ (parameters_pieces r.params ++ (condition_pieces r.cond ++ nonempty (map alternative_pieces r.alternatives) []))
+    → rule_pieces r ≡ whole 1 999999 r.id ∷ token NoneBefore (lexeme.Sign s.Colon) ∷ named r.symbol ∷
+      (parameters_pieces r.params ++ (condition_pieces r.cond ++ nonempty (map alternative_pieces r.alternatives) []))
 unfolding rule_pieces
 rule_is r = refl
 

@@ -13,7 +13,11 @@ use Rattle.cga_syntax.specs.Pieces.{token, never, sign, named, whole, Pieces, pr
 use Rattle.cga_form.specs.Reader.{at, begins}
 use Rattle.cga_form.specs.Tokens.{a_sign, is_sign, a_name, a_whole, a_number, unless}
 use Rattle.cga_parser.specs.Grammar as g
-use Rattle.cga_form.proofs.Door.{Begun, Misses, Starts, after, all_of, begun_append, begun_as, begun_nothing, begun_token, by_name, cut, ends, entered, few_of, missed, misses_each, misses_end, misses_nothing, name_pieces, never_written, peek_no, peek_yes, piece_of, plain_written, plainly, starts_as, starts_token, took, turned as unrolled, whole_leads, written_as}
+use Rattle.cga_form.proofs.Door.{Begun, Misses, Starts, after, all_of, begun_append, begun_as, begun_nothing}
+use Rattle.cga_form.proofs.Door.{begun_token, by_name, cut, ends, entered, few_of, missed, misses_each, misses_end}
+use Rattle.cga_form.proofs.Door.{misses_nothing, name_pieces, never_written, peek_no, peek_yes, piece_of}
+use Rattle.cga_form.proofs.Door.{plain_written, plainly, starts_as, starts_token, took, turned as unrolled}
+use Rattle.cga_form.proofs.Door.{whole_leads, written_as}
 use Rattle.cga_form.specs.Laws.{Again, Agrees, Leads, nothing}
 use Rattle.cga_parser.proofs.ExprsAgain.{neither}
 use Rattle.cga_parser.proofs.CondsAgain.{with_or, cond_again}

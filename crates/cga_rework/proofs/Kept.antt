@@ -51,7 +51,8 @@ module _ {S A B F P : Type 0} (shapes : Shapes S) (old new : Rules S A B F P) wh
         subst (SiteIs (start world)) w.2 (inl (are.root w.0 w.1, refl))
 
     module _ (C D : Sited) (s : Ranked S) (good : steps.IsOrdered world C) (step : IsStep world C D s) where
-      changes : steps.Changes world C D s (steps.kind_after world (outcome world C s)) (steps.children_of world (outcome world C s))
+      changes : steps.Changes world C D s (steps.kind_after world (outcome world C s))
+            (steps.children_of world (outcome world C s))
       changes = steps.Changes-step world laws C D s good step
 
       done-stays : (p : Ranked S) → Has C p Done → Has D p Done
@@ -178,9 +179,12 @@ module _ {S A B F P : Type 0} (shapes : Shapes S) (old new : Rules S A B F P) wh
         kept_old zero p h = h.0
         kept_old (suc depth) p h = h.0
 
-    pub kept_shape : ((n : Ranked S) → agenda.Kept edit O W n → (i : ℕ) → i ≤ length (shapes.path n.shape) → (m : Ranked S) × (shapes.lot m.shape ≡ shapes.lot n.shape) × (shapes.path m.shape ≡ take i (shapes.path n.shape)) × NonInstance O m × NonInstance W m)
+    pub kept_shape : ((n : Ranked S) → agenda.Kept edit O W n → (i : ℕ) → i ≤ length (shapes.path n.shape)
+          → (m : Ranked S) × (shapes.lot m.shape ≡ shapes.lot n.shape)
+          × (shapes.path m.shape ≡ take i (shapes.path n.shape)) × NonInstance O m × NonInstance W m)
         → (n : Ranked S) → NonInstance W n
-        → (agenda.Kept edit O W n → Kept shapes old new (map unranked O) (map unranked W) n.shape) × (Kept shapes old new (map unranked O) (map unranked W) n.shape → agenda.Kept edit O W n)
+        → (agenda.Kept edit O W n → Kept shapes old new (map unranked O) (map unranked W) n.shape)
+          × (Kept shapes old new (map unranked O) (map unranked W) n.shape → agenda.Kept edit O W n)
     kept_shape prefixes n is = (
       (λ k i le.
           let m = prefixes n k i le in

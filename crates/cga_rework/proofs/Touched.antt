@@ -61,7 +61,8 @@ module _ {S A B F P : Type 0} (shapes : Shapes S) where
       kept_old n (suc depth) h = h.0
 
       both : (n : Ranked S) → NonInstance w.1 n
-          → (agenda.Kept edit o.1 w.1 n → Kept shapes old new (map unranked o.1) (map unranked w.1) n.shape) × (Kept shapes old new (map unranked o.1) (map unranked w.1) n.shape → agenda.Kept edit o.1 w.1 n)
+          → (agenda.Kept edit o.1 w.1 n → Kept shapes old new (map unranked o.1) (map unranked w.1) n.shape)
+            × (Kept shapes old new (map unranked o.1) (map unranked w.1) n.shape → agenda.Kept edit o.1 w.1 n)
       both n is = kept_shape shapes old new laws.was laws.is o.0 w.0 o.1 w.1 o.2 w.2 (λ m k. (to_prefixes edit (make shapes old new laws) o.1 w.1 w.0 w.2 m k).2) n is
 
       to_shape : (n : Ranked S) → NonInstance w.1 n → agenda.Kept edit o.1 w.1 n
@@ -83,7 +84,8 @@ module _ {S A B F P : Type 0} (shapes : Shapes S) where
           (same.0, sym (from_own old laws.was i quiet_old o n was same.1.0 same.1.1) ∙ from_own new laws.is j quiet_new w n is same.1.0 same.1.2)
 
       pub touched : (n : Ranked S) → NonInstance w.1 n
-          → (agenda.Touched edit o.1 w.1 n → Touched shapes old new before after n.shape) × (Touched shapes old new before after n.shape → agenda.Touched edit o.1 w.1 n)
+          → (agenda.Touched edit o.1 w.1 n → Touched shapes old new before after n.shape)
+            × (Touched shapes old new before after n.shape → agenda.Touched edit o.1 w.1 n)
       touched n is = (
         (λ t. (
           subst (λ x. NonInstance x n.shape) w.3 (is.0, unranked-Has w.1 n is.0 is.1, is.2),

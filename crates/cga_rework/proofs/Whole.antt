@@ -109,7 +109,10 @@ module _ {X S A B F P : Type 0} (shapes : Shapes S) (content : Content X S A F P
       queues_only = fields.queues_only shapes content old new laws replacing small great within within' asks meets sees_is agenda rest after under.priced under.asking turn.self_asks turn.taken turn.moved queued requeued are are';
     }
 
-    pub turns : IsUnderway shapes content new asks T after × ((requeued : Ranked S → Bool) × AreQueued shapes content T after requeued × IsTurnOf (edit_of shapes old new) (nodes_of content V small) (nodes_of content T great) (ranked_of content e.node) queued requeued expanded)
+    pub turns : IsUnderway shapes content new asks T after
+          × ((requeued : Ranked S → Bool) × AreQueued shapes content T after requeued
+          × IsTurnOf (edit_of shapes old new) (nodes_of content V small) (nodes_of content T great)
+          (ranked_of content e.node) queued requeued expanded)
     turns = (
       record {
         city = city;

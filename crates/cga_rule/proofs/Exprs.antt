@@ -17,7 +17,9 @@ use Rattle.cga_rule.specs.declared.expr.Factor.{Factor, Factor-F, out-Factor, ro
 use Rattle.cga_rule.specs.declared.expr.Scaled.{Scaled, Scaled-F, out-Scaled, roll-Scaled, roll-out-Scaled, out-roll-Scaled}
 use Rattle.cga_rule.specs.declared.expr.Term.{Term, Term-F, out-Term, roll-Term, roll-out-Term, out-roll-Term}
 use Rattle.cga_rule.specs.declared.expr.Primary.TheFolds.{map-Primary, map-Added, map-Expr, map-Factor, map-Scaled, map-Term, ind-Expr}
-use Rattle.cga_rule.specs.declared.expr.Primary.TheBlock.{the_members, the_sigs, the_carrier, the_depth, split-Primary, member-Primary, member-Added, member-Expr, member-Factor, member-Scaled, member-Term}
+use Rattle.cga_rule.specs.declared.expr.Primary.TheBlock.{the_members, the_sigs, the_carrier, the_depth}
+use Rattle.cga_rule.specs.declared.expr.Primary.TheBlock.{split-Primary, member-Primary, member-Added, member-Expr}
+use Rattle.cga_rule.specs.declared.expr.Primary.TheBlock.{member-Factor, member-Scaled, member-Term}
 use Rattle.cga_rule.specs.declared.expr.Primary.TheOpen.{Number, Named, ScopeSize, Group, Floor, Ceil, Rand}
 use Rattle.cga_rule.specs.contracts.expr.Primary.{enum}
 use Rattle.cga_rule.specs.contracts.expr.ExprPartialEq.TheImpl.{the_step}

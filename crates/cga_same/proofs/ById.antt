@@ -1,5 +1,7 @@
 -- Rules by rising id are the same exactly where the rules of each id are.
-use Rattle.std.proofs.Common.{◌≡◌, ◌↔◌, IsTrue, ℕ, suc, ◌+◌, ◌<◌, ◌≤◌, ◌⊎◌, inl, inr, List, [], ◌∷◌, ◌++◌, All, take, drop, get_or, map, filter, refl, ap, sym, ◌∙◌, subst, arith, cond, Bool, true, false, not, nat_lt, nat_eq, ◌&&◌, if◌then◌else◌, Some, None, append_assoc}
+use Rattle.std.proofs.Common.{◌≡◌, ◌↔◌, IsTrue, ℕ, suc, ◌+◌, ◌<◌, ◌≤◌, ◌⊎◌, inl, inr, List, [], ◌∷◌, ◌++◌, All, take}
+use Rattle.std.proofs.Common.{drop, get_or, map, filter, refl, ap, sym, ◌∙◌, subst, arith, cond, Bool, true, false}
+use Rattle.std.proofs.Common.{not, nat_lt, nat_eq, ◌&&◌, if◌then◌else◌, Some, None, append_assoc}
 use Rattle.std.specs.Prelude.{Option, position, unwrap_or}
 use Rattle.std.specs.List.{position_or_len}
 use Rattle.std.proofs.lemmas.List.{append-nil}
@@ -180,7 +182,8 @@ rising_same (s ∷ S) (t ∷ T) h k e =
 
 with_step : (b c : Bool) (e : Entry) (X Y : List Entry) (symbol : List ℕ) (id : ℕ) → nat_eq e.rule.id id ≡ c
     → map (λ (x : Entry). x.rule) X ≡ with_id id (map (λ (x : Entry). x.rule) Y)
-    → map (λ (x : Entry). x.rule) (cond (b && c) (e ∷ X) X) ≡ with_id id (map (λ (x : Entry). x.rule) (cond b (e ∷ Y) Y))
+    → map (λ (x : Entry). x.rule) (cond (b && c) (e ∷ X) X) ≡ with_id id
+      (map (λ (x : Entry). x.rule) (cond b (e ∷ Y) Y))
 with_step true true e X Y symbol id is h = ap (λ l. e.rule ∷ l) h ∙ ap (λ t. cond t (e.rule ∷ with_id id (map (λ (x : Entry). x.rule) Y)) (with_id id (map (λ (x : Entry). x.rule) Y))) (sym is)
 with_step true false e X Y symbol id is h = h ∙ ap (λ t. cond t (e.rule ∷ with_id id (map (λ (x : Entry). x.rule) Y)) (with_id id (map (λ (x : Entry). x.rule) Y))) (sym is)
 with_step false c e X Y symbol id is h = h

@@ -7,7 +7,9 @@ use Rattle.cga_syntax.specs.Pieces.{Pieces, word, rule_pieces}
 use Rattle.cga_form.specs.Laws.{IsForm, Leads, Again}
 use Rattle.cga_form.specs.Parts.{any}
 use Rattle.cga_form.specs.Tokens.{is_word, a_sign, a_name, a_whole}
-use Rattle.cga_form.proofs.Door.{after, begun_token, by_name, done, either, ends, missed, misses_end, name_read, name_token, never_leads, next, one_token, peek_no, peek_yes, plainly, sign_token, starts_token, took, value_again, value_pieces, value_reads, whole_leads, whole_token}
+use Rattle.cga_form.proofs.Door.{after, begun_token, by_name, done, either, ends, missed, misses_end, name_read}
+use Rattle.cga_form.proofs.Door.{name_token, never_leads, next, one_token, peek_no, peek_yes, plainly, sign_token}
+use Rattle.cga_form.proofs.Door.{starts_token, took, value_again, value_pieces, value_reads, whole_leads, whole_token}
 use Rattle.cga_form.specs.Laws.{Goes, Reads}
 use Rattle.cga_parser.proofs.Door.{rule_again, rule_reads}
 use Rattle.cga_shape.specs.declared.lot.Lot.{Lot}

@@ -1,5 +1,7 @@
 -- The dump is read back.
-use Rattle.std.proofs.Common.{◌≡◌, ℕ, ◌+◌, ◌≤◌, nat_lt, Bool, true, false, List, [], ◌∷◌, ◌++◌, append_assoc, length, length-append, map, Option, Some, None, Ok, arith, ap, sym, ◌∙◌, refl, subst, codes, if◌then◌else◌}
+use Rattle.std.proofs.Common.{◌≡◌, ℕ, ◌+◌, ◌≤◌, nat_lt, Bool, true, false, List, [], ◌∷◌, ◌++◌, append_assoc, length}
+use Rattle.std.proofs.Common.{length-append, map, Option, Some, None, Ok, arith, ap, sym, ◌∙◌, refl, subst, codes}
+use Rattle.std.proofs.Common.{if◌then◌else◌}
 use Rattle.std.specs.Prelude.{flat_map}
 use Rattle.std.specs.List.{All}
 use Rattle.std.proofs.lemmas.Bool.Decides.{nat_tests}
@@ -75,7 +77,8 @@ same_lines g back =
     sym (cut_end (grammar_lines g) (rules.lines_text (said_of g)) (codes "end\n") (cut_front _ _ e))
 
 whole_text : (s : Sources) → rules.ReadsBack s.grammar
-    → dump_text_of s ≡ ended (codes "version 2") ++ (ended (codes "city") ++ (city_texts (city_said s) ++ ended (codes "end")))
+    → dump_text_of s ≡ ended (codes "version 2") ++
+      (ended (codes "city") ++ (city_texts (city_said s) ++ ended (codes "end")))
 unfolding dump_text_of
 whole_text s back =
     let e : city_texts (map line.Block (said_of s.grammar) ++ map line.Lot s.lots) ≡ grammar_lines s.grammar ++ flat_map lot_line s.lots =
@@ -145,7 +148,8 @@ blocks_given [] = refl
 blocks_given (b ∷ bs) = ap (λ z. rules.given b ∷ z) (blocks_given bs)
 
 lines_are : (s : Sources)
-    → map given (map line.Block (said_of s.grammar) ++ map line.Lot s.lots) ≡ map rules.given (said_of s.grammar) ++ map given (map line.Lot s.lots)
+    → map given (map line.Block (said_of s.grammar) ++ map line.Lot s.lots) ≡ map rules.given (said_of s.grammar) ++
+      map given (map line.Lot s.lots)
 lines_are s = map-append given (map line.Block (said_of s.grammar)) (map line.Lot s.lots) ∙ ap (λ z. z ++ map given (map line.Lot s.lots)) (sym (blocks_given (said_of s.grammar)))
 
 say_rest : (s : Sources) (all : List (Option BlockLine)) → Say block_pieces (map rules.given (said_of s.grammar)) all

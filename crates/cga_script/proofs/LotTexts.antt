@@ -107,7 +107,9 @@ symbol_last : (l : Lot) → HasTokens l → Texts l.symbol (lexeme.Name l.symbol
 symbol_last l t p = subst (λ z. AreRead (lex 0 p z) (lexeme.Name l.symbol ∷ [])) (nil_right l.symbol) (token_read (lexeme.Name l.symbol) [] p [] t.symbol refl nothing_read)
 
 last_read : (l : Lot) → HasTokens l
-    → Texts (exact_text_of l.x ++ 32 ∷ (exact_text_of l.z ++ 32 ∷ (exact_text_of l.width ++ 32 ∷ (exact_text_of l.depth ++ 32 ∷ l.symbol)))) (last_tokens l)
+    → Texts (exact_text_of l.x ++ 32 ∷
+      (exact_text_of l.z ++ 32 ∷ (exact_text_of l.width ++ 32 ∷ (exact_text_of l.depth ++ 32 ∷ l.symbol))))
+      (last_tokens l)
 last_read l t =
     value_then _ _ (spaced _ _ (value_then _ _ (spaced _ _ (value_then _ _ (spaced _ _ (value_then _ _ (spaced _ _ (symbol_last l t)) l.depth t.depth)) l.width t.width)) l.z t.z)) l.x t.x
 

@@ -6,7 +6,9 @@ use Rattle.cga_fraction.specs.Rat.{Rat, den, zero_rat, of_int}
 use Rattle.cga_fraction.specs.Order.{rat_le, rat_lt, positive_part, negative_part}
 use Rattle.cga_fraction.specs.Arithmetic.{minus, times, divided}
 use Rattle.cga_fraction.specs.Rounding.{IsCeil, ceil_of}
-use Rattle.cga_fraction.proofs.Door.{IsLowest, IsRatio, and_then-ok, divided_ratio, is_ceil, itself, le_ratio, like, lt_fact, lt_of_lt_le, lt_test, minus_lowest, minus_of, same_diff, times_diff, times_lowest, times_ratio, zero_ratio}
+use Rattle.cga_fraction.proofs.Door.{IsLowest, IsRatio, and_then-ok, divided_ratio, is_ceil, itself, le_ratio, like}
+use Rattle.cga_fraction.proofs.Door.{lt_fact, lt_of_lt_le, lt_test, minus_lowest, minus_of, same_diff, times_diff}
+use Rattle.cga_fraction.proofs.Door.{times_lowest, times_ratio, zero_ratio}
 use Rattle.cga_fraction.specs.Results.{and_then, onto}
 use Rattle.cga_split.specs.Faults.{within}
 use Rattle.cga_split.specs.Cuts.{Cover, IsCut, parts_of}
@@ -45,7 +47,8 @@ repeat_end size nl dl n l h =
 
 -- the difference of two neighbouring multiples
 step_naturals : (p m d i : ℕ)
-    → ((p * (i + 1) + m * 0) * (d * 1) + (p * 0 + m * i) * (d * 1)) * d + m * (d * 1 * (d * 1)) ≡ p * (d * 1 * (d * 1)) + ((p * 0 + m * (i + 1)) * (d * 1) + (p * i + m * 0) * (d * 1)) * d
+    → ((p * (i + 1) + m * 0) * (d * 1) + (p * 0 + m * i) * (d * 1)) * d + m * (d * 1 * (d * 1)) ≡ p * (d * 1 * (d * 1))
+      + ((p * 0 + m * (i + 1)) * (d * 1) + (p * i + m * 0) * (d * 1)) * d
 step_naturals p m d i = omega arith
 
 step_is : (step : Rat) (i : ℕ) → IsLowest step → minus (times step (whole (i + 1))) (times step (whole i)) ≡ step
@@ -170,7 +173,8 @@ module _ {P : Type 0} (part : Rat → Rat → Result P SplitFault) (step : Rat) 
       → onto longer (repeats_from part step (i + 1) (left - 1)) ≡ target
   one_repeat from longer p a b e = rw e (sym (onto_more made p (repeats_from part step (i + 1) (left - 1))) ∙ back ∙ here)
     where
-      back : onto made (and_then (repeats_from part step (i + 1) (left - 1)) (λ ps. Ok (p ∷ ps))) ≡ onto made (repeats_from part step i (suc (left - 1)))
+      back : onto made (and_then (repeats_from part step (i + 1) (left - 1)) (λ ps. Ok (p ∷ ps))) ≡ onto made
+            (repeats_from part step i (suc (left - 1)))
       back = rw (← a) (rw (← b) refl)
 
   pub place_fault : (fault : SplitFault) → ◌≡◌ {A = Result Rat SplitFault} (Err fault) (within (times step (whole i)))

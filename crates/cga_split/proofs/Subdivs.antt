@@ -6,7 +6,9 @@ use Rattle.std.proofs.Math.Nat.{mul-pos}
 use Rattle.cga_fraction.specs.Rat.{Rat, den, zero_rat}
 use Rattle.cga_fraction.specs.Order.{rat_le, rat_lt, positive_part, negative_part}
 use Rattle.cga_fraction.specs.Arithmetic.{plus, minus, times, divided}
-use Rattle.cga_fraction.proofs.Door.{IsLowest, IsRatio, and_second as and_right, and_then-ok, fraction_lowest, le_ratio, le_refl, le_total, lt_fact, lt_le, minus_ratio, not_le_lt, plus_ratio, times_lowest, zero_ratio}
+use Rattle.cga_fraction.proofs.Door.{IsLowest, IsRatio, and_second as and_right, and_then-ok, fraction_lowest}
+use Rattle.cga_fraction.proofs.Door.{le_ratio, le_refl, le_total, lt_fact, lt_le, minus_ratio, not_le_lt, plus_ratio}
+use Rattle.cga_fraction.proofs.Door.{times_lowest, zero_ratio}
 use Rattle.cga_fraction.specs.Results.{err_if}
 use Rattle.cga_split.specs.Faults.{within}
 use Rattle.cga_split.specs.Cuts.{Cover, IsCut, parts_of}

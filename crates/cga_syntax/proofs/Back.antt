@@ -1,5 +1,7 @@
 -- The text of printed tokens is lexed as these tokens.
-use Rattle.std.proofs.Common.{◌≡◌, ℕ, ◌+◌, ◌-◌, ◌<◌, ◌&&◌, ◌||◌, Bool, true, false, List, [], ◌∷◌, ◌++◌, length, length-append, map, Option, Some, None, Ok, Err, arith, ap, sym, ◌∙◌, refl, subst, if◌then◌else◌, inl, inr}
+use Rattle.std.proofs.Common.{◌≡◌, ℕ, ◌+◌, ◌-◌, ◌<◌, ◌&&◌, ◌||◌, Bool, true, false, List, [], ◌∷◌, ◌++◌, length}
+use Rattle.std.proofs.Common.{length-append, map, Option, Some, None, Ok, Err, arith, ap, sym, ◌∙◌, refl, subst}
+use Rattle.std.proofs.Common.{if◌then◌else◌, inl, inr}
 use Rattle.std.specs.Prelude.{◌⊎◌}
 use Rattle.std.specs.Char.{is_ascii_digit}
 use Rattle.std.specs.List.{list_all}
@@ -19,7 +21,9 @@ use Rattle.cga_lexer.specs.declared.token.Token.{Token}
 use Rattle.cga_lexer.specs.declared.token.TokenKind.{TokenKind}
 use Rattle.cga_lexer.specs.declared.front.Front.TheVariants.{Token as Found}
 use Rattle.cga_syntax.specs.Lexemes.{lexeme_of, keyword_bytes}
-use Rattle.cga_syntax.specs.Printing.{sign_bytes, lexeme_bytes, opens_up, ends_up, is_left, is_right, is_word, is_prefix, is_minus, is_colon, is_label, begins_primary, is_none_after, is_none_before, closes_up, space_before, text_after, text_of}
+use Rattle.cga_syntax.specs.Printing.{sign_bytes, lexeme_bytes, opens_up, ends_up, is_left, is_right, is_word}
+use Rattle.cga_syntax.specs.Printing.{is_prefix, is_minus, is_colon, is_label, begins_primary, is_none_after}
+use Rattle.cga_syntax.specs.Printing.{is_none_before, closes_up, space_before, text_after, text_of}
 use Rattle.cga_syntax.specs.Reading.{IsToken, AreTokens, AreRead, seen_of}
 use Rattle.cga_syntax.specs.declared.keyword.Keyword.{Keyword}
 use Rattle.cga_syntax.specs.declared.keyword.Keyword.TheVariants as k

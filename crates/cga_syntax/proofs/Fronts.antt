@@ -1,5 +1,7 @@
 -- What stands at the front of a text that begins with the bytes of a number, a word or a quoted name.
-use Rattle.std.proofs.Common.{◌≡◌, ℕ, suc, ◌+◌, ◌<◌, ◌≤◌, ◌==◌, ◌&&◌, Bool, true, false, not, nat_lt, nat_le, List, [], ◌∷◌, ◌++◌, length, take, drop, get_or, length-append, append_assoc, Option, Some, None, Result, Ok, Err, arith, ap, sym, ◌∙◌, refl, subst, if◌then◌else◌}
+use Rattle.std.proofs.Common.{◌≡◌, ℕ, suc, ◌+◌, ◌<◌, ◌≤◌, ◌==◌, ◌&&◌, Bool, true, false, not, nat_lt, nat_le, List}
+use Rattle.std.proofs.Common.{[], ◌∷◌, ◌++◌, length, take, drop, get_or, length-append, append_assoc, Option, Some}
+use Rattle.std.proofs.Common.{None, Result, Ok, Err, arith, ap, sym, ◌∙◌, refl, subst, if◌then◌else◌}
 use Rattle.std.specs.Prelude.{position}
 use Rattle.std.specs.List.{list_all}
 use Rattle.std.specs.Char.{is_ascii_digit}

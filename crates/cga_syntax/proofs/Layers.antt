@@ -11,7 +11,9 @@ use Rattle.cga_rule.specs.declared.expr.Primary.TheOpen as layer
 use Rattle.cga_syntax.specs.declared.print.mark.Mark.{Mark}
 use Rattle.cga_syntax.specs.Printing.{printed_on}
 use Rattle.cga_syntax.proofs.Printed.{on_join}
-use Rattle.cga_syntax.specs.Pieces.{Pieces, sign, concat, drawn, whole, primary_pieces, expr_pieces, term_pieces, added_pieces, scaled_pieces, primary_step, added_step, expr_step, factor_pieces, factor_step, scaled_step, term_step}
+use Rattle.cga_syntax.specs.Pieces.{Pieces, sign, concat, drawn, whole, primary_pieces, expr_pieces, term_pieces}
+use Rattle.cga_syntax.specs.Pieces.{added_pieces, scaled_pieces, primary_step, added_step, expr_step, factor_pieces}
+use Rattle.cga_syntax.specs.Pieces.{factor_step, scaled_step, term_step}
 
 pub expr_out : (e : Expr)
     → expr_pieces e ≡ term_pieces (out-Expr e).first ++ concat (map added_pieces (out-Expr e).rest)
@@ -29,7 +31,9 @@ unfolding added_pieces term_pieces
 added_out a = fold_out-Added Pieces Pieces Pieces Pieces Pieces Pieces primary_step added_step expr_step factor_step scaled_step term_step a
 
 pub rand_out : (j : ℕ) (low high : Expr) (steps : ℕ)
-    → primary_pieces (Rand j low high steps) ≡ drawn j ∷ sign s.LeftRound ∷ (expr_pieces low ++ (sign s.Comma ∷ (expr_pieces high ++ (sign s.Comma ∷ whole 1 1000000 steps ∷ sign s.RightRound ∷ []))))
+    → primary_pieces (Rand j low high steps) ≡ drawn j ∷ sign s.LeftRound ∷
+      (expr_pieces low ++ (sign s.Comma ∷
+      (expr_pieces high ++ (sign s.Comma ∷ whole 1 1000000 steps ∷ sign s.RightRound ∷ []))))
 unfolding primary_pieces expr_pieces
 rand_out j low high steps = ap primary_pieces (sym (rolls-Rand j low high steps)) ∙ fold-roll-Primary Pieces Pieces Pieces Pieces Pieces Pieces primary_step added_step expr_step factor_step scaled_step term_step (layer.Rand j low high steps)
 

@@ -120,7 +120,8 @@ read_prefix : (d : ℕ) (read : List ℕ) (old mid new : Outside) (session : Ses
 unfolding replies_of
 read_prefix d read old mid new session lines r keeps = prefix_of d old.left mid.left old.held new.held read limit r.taken (some_kept old.held mid.held new.held _ r.wrote.written keeps)
 
-pub failed_means : (d : ℕ) (status : Status) (old mid new : Outside) (session : Session) (lines : Pending) (read : List ℕ)
+pub failed_means : (d : ℕ) (status : Status) (old mid new : Outside) (session : Session) (lines : Pending)
+      (read : List ℕ)
     → IsRead d read old mid session lines → length read ≤ limit → Rose old.reads_failed mid.reads_failed
     → IsFlushed status ReadFault mid new → StatusMeans d status old new
 failed_means d status old mid new session lines read r few rose f =
@@ -135,7 +136,8 @@ failed_means d status old mid new session lines read r few rose f =
     ))
     (read_prefix d read old mid new session lines r f.held)
 
-pub too_long_means : (d : ℕ) (status : Status) (old mid new : Outside) (session : Session) (lines : Pending) (read : List ℕ)
+pub too_long_means : (d : ℕ) (status : Status) (old mid new : Outside) (session : Session) (lines : Pending)
+      (read : List ℕ)
     → IsRead d read old mid session lines → limit < length read → length read ≤ limit + read_limit
     → mid.reads_failed ≡ old.reads_failed → IsFlushed status TooLong mid new → StatusMeans d status old new
 too_long_means d status old mid new session lines read r many most reads f =
@@ -162,7 +164,8 @@ ended_bytes d read bytes old mid session lines told r at_end = all_taken read by
 all_written : (d : ℕ) (read bytes : List ℕ) (old mid last new : Outside) (session next : Session) (lines : Pending)
     → read ≡ bytes
     → IsRead d read old mid session lines → length read ≤ limit
-    → Wrote (last_effect (effect_of_lines d (take limit read)).state (cut (take limit read)).rest) next mid.held last.held mid.expanded last.expanded
+    → Wrote (last_effect (effect_of_lines d (take limit read)).state (cut (take limit read)).rest) next mid.held
+      last.held mid.expanded last.expanded
     → new.expanded ≡ last.expanded → Keeps last.held new.held → WritesAll d bytes old new
 unfolding output_of
 all_written d read bytes old mid last new session next lines is r few w expanded keeps =
@@ -180,7 +183,8 @@ all_written d read bytes old mid last new session next lines is r few w expanded
 -- all was replied to, or some of it
 end_some : (d : ℕ) (read bytes : List ℕ) (old mid new : Outside) (session : Session) (lines : Pending) → read ≡ bytes
     → IsRead d read old mid session lines → length read ≤ limit
-    → AppendsSome mid.held new.held (last_effect (effect_of_lines d (take limit read)).state (cut (take limit read)).rest).reply
+    → AppendsSome mid.held new.held
+      (last_effect (effect_of_lines d (take limit read)).state (cut (take limit read)).rest).reply
     → AppendsSome old.held new.held (output_of d bytes)
 unfolding output_of
 end_some d read bytes old mid new session lines is r few s =
@@ -189,16 +193,19 @@ end_some d read bytes old mid new session lines is r few s =
 
 pub end_prefix : (d : ℕ) (read : List ℕ) (old mid new : Outside) (session : Session) (lines : Pending)
     → IsRead d read old mid session lines → length read ≤ limit → IsAtEnd mid.left
-    → AppendsSome mid.held new.held (last_effect (effect_of_lines d (take limit read)).state (cut (take limit read)).rest).reply
+    → AppendsSome mid.held new.held
+      (last_effect (effect_of_lines d (take limit read)).state (cut (take limit read)).rest).reply
     → WritesPrefix d old new
 end_prefix d read old mid new session lines r few at_end s =
     by_bytes (λ bytes. AppendsSome old.held new.held (output_of d bytes)) old.left
     (λ bytes told. end_some d read bytes old mid new session lines (ended_bytes d read bytes old mid session lines told r at_end) r few s)
 
-pub done_means : (d : ℕ) (status : Status) (old mid last new : Outside) (session next : Session) (lines : Pending) (read : List ℕ)
+pub done_means : (d : ℕ) (status : Status) (old mid last new : Outside) (session next : Session) (lines : Pending)
+      (read : List ℕ)
     → IsRead d read old mid session lines → length read ≤ limit → IsAtEnd mid.left → IsTrue mid.ended
     → mid.reads_failed ≡ old.reads_failed
-    → Wrote (last_effect (effect_of_lines d (take limit read)).state (cut (take limit read)).rest) next mid.held last.held mid.expanded last.expanded
+    → Wrote (last_effect (effect_of_lines d (take limit read)).state (cut (take limit read)).rest) next mid.held
+      last.held mid.expanded last.expanded
     → SameSource mid last → last.writes_failed ≡ mid.writes_failed → IsFlushed status Done last new
     → StatusMeans d status old new
 done_means d status old mid last new session next lines read r few at_end ended reads w source writes f =

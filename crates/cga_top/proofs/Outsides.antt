@@ -18,7 +18,8 @@ use Rattle.cga_top.specs.Written.{AsksWritten}
 use Rattle.cga_top.proofs.Asks.{command_is, asks_written}
 
 by_test : (b c : Bool) (s : State) (line : Line) → b ≡ c
-    → (if b then second s else asked s (command_of s.version line)) ≡ (if c then second s else asked s (command_of s.version line))
+    → (if b then second s else asked s (command_of s.version line)) ≡
+      (if c then second s else asked s (command_of s.version line))
 by_test b c s line e = ap (λ (t : Bool). if t then second s else asked s (command_of s.version line)) e
 
 pub outside_second : (s : State) (line : Line) (told : Bool) → told ≡ (s.fresh && is_version_line line) → told ≡ true

@@ -60,7 +60,8 @@ pub redone_nowhere : (s : State) (history : Kept) → history ≡ s.kept
 redone_nowhere s history k e = ap (λ (h : Kept). redone h s.sources) (sym k) ∙ redone_none history s.sources e
 
 -- an edit that was done
-pub changed_did : (s : State) (old new : Session) (history : Kept) (e : Edit) (before : Sources) (reply : List ℕ) (i j : ℕ)
+pub changed_did : (s : State) (old new : Session) (history : Kept) (e : Edit) (before : Sources) (reply : List ℕ)
+      (i j : ℕ)
     → IsAt s old → HasDistinctLots e → Accepts old e before new i j → reply ≡ ok_reply new.quiet
     → Did (changed s history (applied s e)) (record new { history = history }) reply i j
 changed_did s old new history e before reply i j at apart a r =
@@ -99,7 +100,8 @@ noted_in : (s : State) (old : Session) (v : Version) → IsAt s old → old.vers
 noted_in s old v at is = ap (λ (w : Version). noted_by w s.kept s.sources) (sym is ∙ at.version)
 
 -- the sources before an edit that was done are noted
-pub change_did : (s : State) (old new : Session) (history : Kept) (e : Edit) (before : Sources) (text : Result (List ℕ) NoMemory) (i j : ℕ)
+pub change_did : (s : State) (old new : Session) (history : Kept) (e : Edit) (before : Sources)
+      (text : Result (List ℕ) NoMemory) (i j : ℕ)
     → IsAt s old → old.version ≡ Two → HasDistinctLots e → Accepts old e before new i j
     → history ≡ noted new.history before → IfOk text (λ t. t ≡ ok_reply new.quiet)
     → IfOk text (λ reply. Did (edited s e) (record new { history = history }) reply i j)
@@ -119,7 +121,8 @@ alone_did s old new e (Ok reply) i j at one apart a r =
     let k : new.history ≡ s.kept = ap (λ (x : Session). x.history) a.others ∙ at.kept in
     subst (λ (k : Kept). Did (changed s k (applied s e)) new reply i j) (k ∙ noted_in s old One at one) (changed_did s old new new.history e old.city.sources reply i j at apart a r)
 
-pub step_did : (s : State) (old new : Session) (history : Kept) (none : Refused) (step : Option Step) (some : Step) (taken before : Sources) (text : Result (List ℕ) NoMemory) (i j : ℕ)
+pub step_did : (s : State) (old new : Session) (history : Kept) (none : Refused) (step : Option Step) (some : Step)
+      (taken before : Sources) (text : Result (List ℕ) NoMemory) (i j : ℕ)
     → IsAt s old → HasDistinctLots (edit.Whole taken) → step ≡ Some some → taken ≡ some.taken
     → Accepts old (edit.Whole taken) before new i j → history ≡ some.left → IfOk text (λ t. t ≡ ok_reply new.quiet)
     → IfOk text (λ reply. Did (stepped s none step) (record new { history = history }) reply i j)
@@ -143,7 +146,8 @@ pub works_of : (old new : Session) (e : Edit) (answer : Result (Unit {0}) EditRe
     → Works old e answer new i j → Accepts old e old.city.sources new i j
 works_of old new e answer i j is h = subst (λ (r : Result (Unit {0}) EditRefused). Works old e r new i j) is h
 
-pub works_refused : (old new : Session) (e : Edit) (answer : Result (Unit {0}) EditRefused) (refused : EditRefused) (i j : ℕ)
+pub works_refused : (old new : Session) (e : Edit) (answer : Result (Unit {0}) EditRefused) (refused : EditRefused)
+      (i j : ℕ)
     → answer ≡ Err refused → Works old e answer new i j → Refuses old e refused new i j
 works_refused old new e answer refused i j is h = subst (λ (r : Result (Unit {0}) EditRefused). Works old e r new i j) is h
 
@@ -162,7 +166,8 @@ spent_refused old cause.OverBudget budget i j later most free = (later, most)
 spent_refused old cause.NoMemory budget i j later most free = let n = free (λ e. cc) in (later, omega arith)
 
 -- an edit that was refused
-pub refused_did : (s : State) (old new : Session) (kept : Kept) (e : Edit) (refused : EditRefused) (text : Result (List ℕ) NoMemory) (i j : ℕ)
+pub refused_did : (s : State) (old new : Session) (kept : Kept) (e : Edit) (refused : EditRefused)
+      (text : Result (List ℕ) NoMemory) (i j : ℕ)
     → IsAt s old → Refuses old e refused new i j → IfOk text (λ t. t ≡ refusal_text_of (told.Edit refused))
     → IfOk text (λ reply. Did (changed s kept (applied s e)) new reply i j)
 refused_did s old new kept e refused (Err none) i j at h is = tt
@@ -176,7 +181,8 @@ refused_did s old new kept e refused (Ok reply) i j at h is =
       spent = subst (λ (b : ℕ). SpentBy s.sources b (Err refused) i j) at.budget (spent_refused s.sources refused old.city.budget i j why.later why.most why.unspent);
     })
 
-pub step_refused : (s : State) (old new : Session) (none : Refused) (step : Option Step) (some : Step) (taken : Sources) (refused : EditRefused) (text : Result (List ℕ) NoMemory) (i j : ℕ)
+pub step_refused : (s : State) (old new : Session) (none : Refused) (step : Option Step) (some : Step)
+      (taken : Sources) (refused : EditRefused) (text : Result (List ℕ) NoMemory) (i j : ℕ)
     → IsAt s old → step ≡ Some some → taken ≡ some.taken → Refuses old (edit.Whole taken) refused new i j
     → IfOk text (λ t. t ≡ refusal_text_of (told.Edit refused))
     → IfOk text (λ reply. Did (stepped s none step) new reply i j)

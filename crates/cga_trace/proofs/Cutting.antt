@@ -1,5 +1,6 @@
 -- Where a text is cut.
-use Rattle.std.proofs.Common.{◌≡◌, ℕ, zero, suc, ◌+◌, ◌<◌, ◌≤◌, List, [], ◌∷◌, ◌++◌, length, take, drop, Bool, true, false, not, nat_eq, nat_lt, refl, ap, ◌∙◌, Option, Some, None, arith, length-append}
+use Rattle.std.proofs.Common.{◌≡◌, ℕ, zero, suc, ◌+◌, ◌<◌, ◌≤◌, List, [], ◌∷◌, ◌++◌, length, take, drop, Bool, true}
+use Rattle.std.proofs.Common.{false, not, nat_eq, nat_lt, refl, ap, ◌∙◌, Option, Some, None, arith, length-append}
 use Rattle.std.specs.List.{position_or_len}
 use Rattle.std.proofs.lemmas.Bool.Decides.{nat_tests}
 use Rattle.cga_trace.specs.Cut.{lacks, place_of, cut_at, cut_of}

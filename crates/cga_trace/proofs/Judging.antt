@@ -1,5 +1,7 @@
 -- Where lines differ from the text of a run.
-use Rattle.std.proofs.Common.{◌≡◌, ℕ, zero, suc, ◌+◌, ◌<◌, ◌≤◌, List, [], ◌∷◌, ◌++◌, length, map, take, Bool, true, false, not, ◌&&◌, cond, refl, sym, ap, ◌∙◌, subst, ◌⊎◌, inl, inr, Option, Some, None, arith, length-append}
+use Rattle.std.proofs.Common.{◌≡◌, ℕ, zero, suc, ◌+◌, ◌<◌, ◌≤◌, List, [], ◌∷◌, ◌++◌, length, map, take, Bool, true}
+use Rattle.std.proofs.Common.{false, not, ◌&&◌, cond, refl, sym, ap, ◌∙◌, subst, ◌⊎◌, inl, inr, Option, Some, None}
+use Rattle.std.proofs.Common.{arith, length-append}
 use Rattle.std.specs.Prelude.{slice_get, bytes_eq, is_some, nat_lt}
 use Rattle.std.proofs.lemmas.Bool.Decides.{nat_tests}
 use Rattle.std.proofs.lemmas.Slice.Eq.{bytes_eq-Decides}
@@ -125,11 +127,13 @@ module _ (reader : JudgeReader) (lines : List Line) (read : IsRead reader lines)
           )
 
   pub all_there : is_headed (length run) lines ≡ true → run ≡ reader.steps
-      → (length reader.steps ≤ MOST_STEPS) × (judged run lines ≡ cond reader.goes_on (Some (length reader.steps + 2)) None)
+      → (length reader.steps ≤ MOST_STEPS)
+        × (judged run lines ≡ cond reader.goes_on (Some (length reader.steps + 2)) None)
   all_there headed same = by lines read headed
     where
       by : (ls : List Line) → IsRead reader ls → is_headed (length run) ls ≡ true
-          → (length reader.steps ≤ MOST_STEPS) × (judged run ls ≡ cond reader.goes_on (Some (length reader.steps + 2)) None)
+          → (length reader.steps ≤ MOST_STEPS)
+            × (judged run ls ≡ cond reader.goes_on (Some (length reader.steps + 2)) None)
       by [] none met = let x : false ≡ true = met in cc
       by (line ∷ ls) (first, are) met = (
         are.few,

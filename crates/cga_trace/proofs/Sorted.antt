@@ -117,7 +117,8 @@ module _ (sources : Sources) (list : List Member) where
   each_before s t at zero h = subst (λ l. AllBefore l t) (sym run_none) tt
   each_before s t at (suc n) h = by (each_before s t at n) (next n) refl
     where
-      by : (AllEarlier (derivation_of sources) list s (expanded (derivation_of sources) n) → AllBefore (run_to sources n) t)
+      by : (AllEarlier (derivation_of sources) list s (expanded (derivation_of sources) n)
+            → AllBefore (run_to sources n) t)
           → (o : Option Member) → next n ≡ o → AllBefore (run_to sources (suc n)) t
       by known None e = subst (λ l. AllBefore l t) (sym (none_more n e)) (known (subst (AllEarlier (derivation_of sources) list s) (none_taken n e) h))
       by known (Some m) e =
@@ -130,7 +131,8 @@ module _ (sources : Sources) (list : List Member) where
   run_rises zero h = subst (Rise sources list) (sym run_none) tt
   run_rises (suc n) h = by (run_rises n) (next n) refl
     where
-      by : (RisesIn (derivation_of sources) list (expanded (derivation_of sources) n) → Rise sources list (run_to sources n))
+      by : (RisesIn (derivation_of sources) list (expanded (derivation_of sources) n)
+            → Rise sources list (run_to sources n))
           → (o : Option Member) → next n ≡ o → Rise sources list (run_to sources (suc n))
       by known None e = subst (Rise sources list) (sym (none_more n e)) (known (subst (RisesIn (derivation_of sources) list) (none_taken n e) h))
       by known (Some m) e =

@@ -176,11 +176,13 @@ module _ (v : ForestView) (f : IsForest v) (old new : Sources) (mode : v.mode �
         not_true _ w.2 (on_path-make w.0 a.node.shape (ap (λ (m : Shape). m.lot) (sym shape) ∙ on.0) (ap (λ (m : Shape). m.path) (sym shape) ∙ on.1 ∙ ap (λ (m : Shape). take (length m.path) a.node.shape.path) shape))) in
         number_any p (forest_tree v).own counts (all_nodes (forest_tree v)) n.0 (inside v f n.0 (n.1, n.2)) (◌∙◌ {b = not (is_above T 257 n.0 by) && is_asked old new target (ranked a.node) (ranked n.1.node) n.1.node.kind} (counted n.0 n.1 n.2) (and_both (not (is_above T 257 n.0 by)) (is_asked old new target (ranked a.node) (ranked n.1.node) n.1.node.kind) apart passes)) (ap p (own_is n.0 n.1 n.2) ∙ ap (λ (m : Shape). p (box_of m.scope)) shape ∙ w.3)
 
-    same : list_any p (asked (forest_tree v) by target (all_nodes (forest_tree v))) ≡ list_any p (boxes_beside a.node.shape shapes)
+    same : list_any p (asked (forest_tree v) by target (all_nodes (forest_tree v))) ≡ list_any p
+          (boxes_beside a.node.shape shapes)
     same = bool_same _ _ to from
 
   -- so both answer alike
-  pub answer_is : answer_of ((forest_tree v).own by) (asked (forest_tree v) by target (all_nodes (forest_tree v))) ≡ answer_of (box_of a.node.shape.scope) (boxes_beside a.node.shape shapes)
+  pub answer_is : answer_of ((forest_tree v).own by) (asked (forest_tree v) by target (all_nodes (forest_tree v))) ≡
+        answer_of (box_of a.node.shape.scope) (boxes_beside a.node.shape shapes)
   unfolding answer_of
   answer_is =
       ap (λ b. graded (list_any (λ m. meets m b && holds m b) (asked (forest_tree v) by target (all_nodes (forest_tree v)))) (list_any (λ m. meets m b) (asked (forest_tree v) by target (all_nodes (forest_tree v))))) (own_is by a here)

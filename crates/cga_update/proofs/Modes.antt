@@ -81,7 +81,8 @@ module _ (old new : Sources) (differ : old.mode ≢ new.mode) (before after : Li
     none_went = none_among came.gone (λ d h. (came.«record».each_gone d h).0)
 
     balances : (test : reported.Drawn → Bool)
-        → count_by test (instances before) + count_by test both.come ≡ count_by test (instances after) + count_by test both.gone
+        → count_by test (instances before) + count_by test both.come ≡ count_by test (instances after) + count_by test
+          both.gone
     balances test =
         let a = went.balance test in
         let b = came.balance test in

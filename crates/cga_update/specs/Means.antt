@@ -44,7 +44,8 @@ pub record Means (w : Work) (edit : Edit (Ranked Shape) Answers Setting ShapeFau
   pub agenda_mode : w.agenda.mode ≡ w.new.now.mode
   pub nodes : s.nodes ≡ kept_nodes w.forest
   -- the nodes are a city of the new roots, and what isn't right by priority or by asking is on the agenda
-  pub underway : IsUnderway (shapes_of w.new.now) content (rules_of w.new.now) (asks_by w.new.now.grammar) (node_at w.forest) (on_of w.forest w.agenda)
+  pub underway : IsUnderway (shapes_of w.new.now) content (rules_of w.new.now) (asks_by w.new.now.grammar)
+        (node_at w.forest) (on_of w.forest w.agenda)
   pub queued : AreQueued (shapes_of w.new.now) content (node_at w.forest) (on_of w.forest w.agenda) s.queued
   pub due : ComersAreDue w.new.now.mode w.forest w.agenda
   pub all_came : w.all_came ≡ true → AllCame w.forest
