@@ -18,7 +18,6 @@ use Rattle.cga_fraction.specs.declared.overflow.DivFault.{DivFault}
 use Rattle.cga_fraction.specs.declared.overflow.DivFault.TheVariants.{ZeroDivide}
 use Rattle.cga_fraction.proofs.Gcds.{gcd-IsGcd}
 use Rattle.cga_fraction.proofs.Order.{neg_parts, scaled_parts}
-use Rattle.std.proofs.lemmas.Int.{abs_neg as abs-neg}
 
 pub neg-scaled : (x : ℤ) (k : ℕ) → neg_ℤ x *ℤ pos k ≡ neg_ℤ (x *ℤ pos k)
 neg-scaled x k =
@@ -72,6 +71,10 @@ abs-pos d h = let k : d < 2 ^ hbits w64 = omega arith in rw (to_z_pos w64 d k) r
 
 minus_nat : (d : ℕ) → pos 0 -ℤ pos d ≡ neg_ℤ (pos d)
 minus_nat d = let p = neg_parts (pos d) in same_in (pos 0 -ℤ pos d) (neg_ℤ (pos d)) (omega (arith, ints, p.0, p.1))
+
+abs-neg : (d : ℕ) → unsigned_abs (neg_ℤ (pos d)) ≡ d
+abs-neg zero = refl
+abs-neg (suc d) = refl
 
 fits_neg : (d : ℕ) → d ≤ 2 ^ 62 → FitsSigned w64 (neg_ℤ (pos d))
 fits_neg zero h = record { sfits = omega arith }
