@@ -15,7 +15,6 @@ use Rattle.cga_expand.specs.Derivation.{derivation_of}
 use Rattle.cga_update.specs.declared.kept.Kept.{Kept}
 use Rattle.cga_update.specs.Stands.{Stands}
 use Rattle.cga_update.specs.Updates.{IsExact}
-use Rattle.cga_depend.specs.Mentions.{mentioning}
 use Rattle.cga_word.specs.declared.mode.Mode.{Mode}
 use Rattle.cga_city.specs.Apply.{changed}
 use Rattle.cga_city.specs.City.{CityState, IsDone, IsRefused, empty_in, empty_sources}
@@ -59,14 +58,10 @@ has_members s budget warm kept city on =
 
 -- ---- the first city
 
-no_mention : (mode : Mode) (a : List ℕ) → [] ≡ mentioning (empty_in mode).grammar a
-unfolding mentioning
-no_mention mode a = refl
-
 -- a new forest and new dependents stand for sources without attributes, rules and lots
 pub nothing_stands : (mode : Mode)
-    → Stands (empty_in mode) (record { forest = no_nodes mode; dependents = record { nodes = []; mentions = [] } })
-nothing_stands mode = fresh_stands (empty_in mode) (no_nodes mode) refl (record { nodes = []; mentions = [] }) refl (no_mention mode)
+    → Stands (empty_in mode) (record { forest = no_nodes mode; dependents = record { nodes = [] } })
+nothing_stands mode = fresh_stands (empty_in mode) (no_nodes mode) refl (record { nodes = [] }) refl
 
 pub empty_sound : AreSound empty_sources
 unfolding IsDistinct check_fault each_after

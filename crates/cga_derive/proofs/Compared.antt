@@ -17,8 +17,8 @@ use Rattle.cga_expand.specs.Derivation.{derivation_of}
 use Rattle.cga_derive.specs.declared.symbol.Symbol.{Symbol}
 use Rattle.cga_derive.specs.Compared.{counts, meets_own, holds_own, some_meets, some_fills, compared, targeted, answers_with}
 use Rattle.cga_derive.specs.Symbols.{symbol_of}
-pub use Rattle.std.proofs.lemmas.List.Folds.{and-false as and_false}
-use Rattle.std.proofs.lemmas.List.Folds.{or-false as or_false, or_assoc}
+pub use Rattle.cga_fraction.proofs.Door.{and-false as and_false}
+use Rattle.cga_fraction.proofs.Door.{or-false as or_false, or-assoc as or_assoc}
 
 -- a member that the target compares has a box that passes
 abbrev some_box : (Box → Bool) → Target → Shape → List Member → Bool

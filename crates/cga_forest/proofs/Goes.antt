@@ -22,7 +22,7 @@ use Rattle.cga_forest.proofs.Right.{right_exact, present_some, kids_present, rig
 use Rattle.cga_forest.proofs.Marks.{present_flag, marked_flag, hulls_flag, marked_hulls_flag}
 use Rattle.cga_forest.proofs.Replace.{old_or_new}
 pub use Rattle.cga_fraction.proofs.Door.{lt-length_from_slice_get as get_within}
-use Rattle.std.proofs.lemmas.List.Folds.{or-true as or_true}
+use Rattle.cga_fraction.proofs.Door.{or-true as or_true}
 
 at_find : (K : ℕ → List ℕ) (n : ℕ) (P : ℕ → Option Node → Bool) (o : Option ℕ) (w : Option Node) (c : ℕ)
     → goes_at K n P o w c ≡ true → (k : ℕ) × (o ≡ Some k) × (P k w ≡ false) × (under K n k c ≡ true)

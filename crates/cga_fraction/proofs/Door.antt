@@ -8,6 +8,7 @@ pub use Rattle.cga_fraction.proofs.Digits.{after-more, digit_at, digit_range}
 
 -- Facts of tests, options, lists and numbers that the standard library lacks. No word of this project stands here
 pub use Rattle.cga_fraction.proofs.Facts.{Equal_from_is_eq, IfOk-map, IsSome_from_Some, Less_from_is_lt}
+pub use Rattle.cga_fraction.proofs.Facts.{or-false, or-true, and-false, or-assoc}
 pub use Rattle.cga_fraction.proofs.Facts.{None-not-Some, None-not-positive, Some_from_IsSome, Some_from_is_some}
 pub use Rattle.cga_fraction.proofs.Facts.{all_of_it, and_first, and_second, append-nil_back, cases_Option}
 pub use Rattle.cga_fraction.proofs.Facts.{cases_Option_nat, eq_from_nat_eq, eq_or_ne, false-not-true, false_from_not}

@@ -191,3 +191,19 @@ true-not-false e = cc
 
 pub true-and-false : {Y : Type 0} (b : Bool) → b ≡ true → b ≡ false → Y
 true-and-false b t f = let z : true ≡ false = sym t ∙ f in absurd (cc)
+
+pub or-false : (b : Bool) → (b || false) ≡ b
+or-false true = refl
+or-false false = refl
+
+pub or-true : (b : Bool) → (b || true) ≡ true
+or-true true = refl
+or-true false = refl
+
+pub and-false : (b : Bool) → (b && false) ≡ false
+and-false true = refl
+and-false false = refl
+
+pub or-assoc : (a b c : Bool) → (a || (b || c)) ≡ ((a || b) || c)
+or-assoc true b c = refl
+or-assoc false b c = refl

@@ -10,7 +10,6 @@ use Rattle.cga_word.specs.declared.mode.Mode.{Mode}
 use Rattle.cga_word.specs.declared.mode.Mode.TheVariants.{Breadth, Depth}
 use Rattle.cga_order.specs.Rank.{Rank, rank_cmp, by_priority, by_place}
 use Rattle.cga_order.specs.Stamp.{stamp_cmp, stamps_cmp, stamp}
-use Rattle.std.proofs.lemmas.Map.Lookups.{both_Equal as both_equal}
 
 by_priority_total : IsTotalOrder by_priority
 by_priority_total = on_total (λ r. r.priority) nat_cmp_total
@@ -27,6 +26,11 @@ stamps_total mode = lists_total (rank_total mode)
 
 pub stamp_total : (mode : Mode) → IsTotalOrder (stamp_cmp mode)
 stamp_total mode = on_total (stamp mode) (stamps_total mode)
+
+both_equal : (a b : Ordering) → ordering_then a b ≡ Equal → (a ≡ Equal) × (b ≡ Equal)
+both_equal Less b e = let x : Less ≡ Equal = e in cc
+both_equal Equal b e = (refl, e)
+both_equal Greater b e = let x : Greater ≡ Equal = e in cc
 
 same_rank : (a b : Rank) → by_priority a b ≡ Equal → by_place a b ≡ Equal → a ≡ b
 same_rank a b priority place =

@@ -2,7 +2,7 @@
 use Rattle.std.proofs.Common.{◌≡◌, ◌≢◌, ℕ, List, [], ◌∷◌, length, Bool, true, false, nat_eq, refl, arith, None}
 use Rattle.std.specs.Prelude.{codes, ◌&&◌}
 use Rattle.cga_syntax.specs.Lexemes.{is, keyword_of, one_byte_keyword, two_byte_keyword, three_byte_keyword, four_byte_keyword, five_byte_keyword, six_byte_keyword}
-use Rattle.std.proofs.lemmas.List.Folds.{and-false as both_false}
+use Rattle.cga_fraction.proofs.Door.{and-false as both_false}
 
 -- lists of other lengths differ
 differs : (a b : List ℕ) → length a ≢ length b → is a b ≡ false

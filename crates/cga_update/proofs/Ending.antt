@@ -20,8 +20,7 @@ use Rattle.cga_rework.specs.Ranked.{Ranked}
 use Rattle.cga_rework.specs.TreeLaws.{StandsAgain}
 use Rattle.cga_fraction.proofs.Door.{same_from_both_ways as same_tests}
 use Rattle.cga_rework.proofs.Door.{stands_again}
-use Rattle.cga_depend.specs.Mentions.{mentioning}
-use Rattle.cga_depend.specs.Pairs.{DependentsView, nodes_in, symbols_in}
+use Rattle.cga_depend.specs.Pairs.{DependentsView, nodes_in}
 use Rattle.cga_expand.specs.Settings.{Setting}
 use Rattle.cga_forest.specs.declared.node.Node.{Node}
 use Rattle.cga_forest.specs.View.{Seen}
@@ -86,13 +85,12 @@ listed_at_mark sources v d T stand same s c =
 -- dependents that list the nodes stand
 dependents_stand : (sources : Sources) (v : ForestView) (d : DependentsView) (T : ℕ → Option Seen)
     → ((c : ℕ) → node_at v c ≡ T c)
-    → ListsView d T → ((a : List ℕ) → symbols_in d a ≡ mentioning sources.grammar a) → DependentsStand sources v d
-dependents_stand sources v d T same listed mentions = record {
+    → ListsView d T → DependentsStand sources v d
+dependents_stand sources v d T same listed = record {
   nodes = λ s c. (
     λ h. of_one (node_at v c) s (ap (λ o. is_of o s) (same c) ∙ (sym (listed s c) ∙ contains_any (nodes_in d s) c h)),
     λ x. any_contains (nodes_in d s) c (listed s c ∙ (sym (ap (λ o. is_of o s) (same c)) ∙ one_of (node_at v c) s x)),
   );
-  mentions = mentions;
 }
 
 -- ---- the forest
@@ -134,9 +132,9 @@ module _ (w : Work) (edit : Edit (Ranked Shape) Answers Setting ShapeFault Primi
   pub stands_done : (start : Nodes) (budget calls since : ℕ) → IsDone edit start s budget calls since
       → (v : ForestView) (d : DependentsView) → ((c : ℕ) → node_at v c ≡ node_at w.forest c) → v.marking ≡ false
       → v.mode ≡ w.forest.mode
-      → ListsView d (node_at w.forest) → ((a : List ℕ) → symbols_in d a ≡ mentioning w.new.now.grammar a)
+      → ListsView d (node_at w.forest)
       → Stands w.new.now (record { forest = v; dependents = d })
-  stands_done start budget calls since is_done v d same unmarked mode listed mentions = record {
+  stands_done start budget calls since is_done v d same unmarked mode listed = record {
     forest = record {
       mode = mode ∙ means.mode;
       unmarked = unmarked;
@@ -144,7 +142,7 @@ module _ (w : Work) (edit : Edit (Ranked Shape) Answers Setting ShapeFault Primi
       silent = λ c x at. means.silent c x (sym (same c) ∙ at);
       plain = λ c x at. means.plain c x (sym (same c) ∙ at);
     };
-    dependents = dependents_stand w.new.now v d (node_at w.forest) same listed mentions;
+    dependents = dependents_stand w.new.now v d (node_at w.forest) same listed;
   }
 
 -- put back, a forest stands as it did
@@ -161,7 +159,7 @@ stands_back sources was t stood same unmarked mode = record {
       plain = λ c x at. stood.forest.plain c x (sym (same c) ∙ at);
     };
     dependents = dependents_stand sources t was.dependents (node_at was.forest) same
-        (listed_at_mark sources was.forest was.dependents (node_at was.forest) stood.dependents (λ c. refl)) stood.dependents.mentions;
+        (listed_at_mark sources was.forest was.dependents (node_at was.forest) stood.dependents (λ c. refl));
   };
   nodes = same;
 }

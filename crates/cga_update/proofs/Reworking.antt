@@ -25,8 +25,7 @@ use Rattle.cga_rework.specs.Ranked.{Ranked, ranked_world, unranked_drawn}
 use Rattle.cga_rework.specs.Rules as rules
 use Rattle.cga_rework.specs.TreeLaws.{ListsAreViews}
 use Rattle.cga_rework.proofs.Door.{lists_are_views, loop_done, over_none, stands_again}
-use Rattle.cga_depend.specs.Mentions.{mentioning}
-use Rattle.cga_depend.specs.Pairs.{DependentsView, symbols_in}
+use Rattle.cga_depend.specs.Pairs.{DependentsView}
 use Rattle.cga_expand.specs.Derivation.{NamesDiffer, derivation_of, made, roots_of}
 use Rattle.cga_expand.specs.Validity.{RootsExist}
 use Rattle.cga_expand.specs.Settings.{Setting}
@@ -164,11 +163,11 @@ module _ (old new : Sources) (mode : old.mode ≡ new.mode) (olds : NamesDiffer 
       -- settled, all stands for the new sources
       pub settled : (t : ForestView) (f : DependentsView) → ((c : ℕ) → node_at t c ≡ node_at w.forest c)
           → t.marking ≡ false → t.mode ≡ w.forest.mode
-          → ListsView f (node_at w.forest) → ((a : List ℕ) → symbols_in f a ≡ mentioning w.new.now.grammar a)
+          → ListsView f (node_at w.forest)
           → Stands new (record { forest = t; dependents = f })
-      settled t f nodes unmarked moded lists mentions =
+      settled t f nodes unmarked moded lists =
           subst (λ (s : Sources). Stands s (record { forest = t; dependents = f })) still_new
-          (stands_done w (the_edit old new) ended.0 ended.1 (kept_nodes kept.forest) budget calls since ended.2 t f nodes unmarked moded lists mentions)
+          (stands_done w (the_edit old new) ended.0 ended.1 (kept_nodes kept.forest) budget calls since ended.2 t f nodes unmarked moded lists)
 
       pub exact : HasBegun old new kept.forest was → since ≡ calls + k → (changes : Changes)
           → changes ≡ record { gone = w.gone.items; come = w.come.items } → IsExact old new budget k changes
