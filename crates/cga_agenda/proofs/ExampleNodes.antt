@@ -136,7 +136,8 @@ is_world children child = record {
 }
 
 pub outcome : (n : Five)
-    → ◌≡◌ {A = Result (List (Placed Five ℕ ℕ)) ℕ} (Ok (new_children n)) (renewed (λ c. renew_as c.shape c.kind) (Ok (old_children n)))
+    → ◌≡◌ {A = Result (List (Placed Five ℕ ℕ)) ℕ} (Ok (new_children n))
+      (renewed (λ c. renew_as c.shape c.kind) (Ok (old_children n)))
 outcome r = refl
 outcome c1 = refl
 outcome c2 = refl

@@ -252,7 +252,8 @@ sum_lots f names distinct (m ∷ list) h =
 
 -- what is drawn, as reports give it and as the record of changes does
 instance_count : (test : reported.Drawn → Bool) (n : Shape) (k : Kind ShapeFault Primitive) (rest : List Member)
-    → count_by test (instances (record { shape = n; kind = k } ∷ rest)) ≡ count_by test (drawn_as n k) + count_by test (instances rest)
+    → count_by test (instances (record { shape = n; kind = k } ∷ rest)) ≡ count_by test (drawn_as n k) + count_by test
+      (instances rest)
 instance_count test n Waiting rest = omega arith
 instance_count test n Done rest = omega arith
 instance_count test n (Faulted fault) rest = omega arith

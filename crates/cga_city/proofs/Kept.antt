@@ -99,7 +99,8 @@ now_within s new budget n changes exact = (exact.1, is_derived budget new (Some 
 
 pub over_gives : (s new : Sources) (e : Edit) (budget x y k : ℕ) (warm : Bool) (old : Changes) → changed s e ≡ Ok new
     → derive (derivation_of new) budget ≡ None → x ≤ y → y ≤ x + (budget + 1)
-    → IsRefused (record { sources = s; budget = budget; warm = warm; expanded = k; changes = old }) e OverBudget (record { sources = s; budget = budget; warm = warm; expanded = k; changes = old }) x y
+    → IsRefused (record { sources = s; budget = budget; warm = warm; expanded = k; changes = old }) e OverBudget
+      (record { sources = s; budget = budget; warm = warm; expanded = k; changes = old }) x y
 over_gives s new e budget x y k warm old made over later most = record {
   cause = apply_over s new e budget made (is_derived budget new None over);
   same = refl;

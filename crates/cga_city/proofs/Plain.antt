@@ -91,7 +91,8 @@ same_any test alike symbol priority [] = refl
 same_any test alike symbol priority (e ∷ rules) = rw (alike (with_priority symbol priority e) e (same_rule symbol priority e), same_any test alike symbol priority rules) refl
 
 pub plain_priority : (g : Grammar) (symbol : List ℕ) (priority : ℕ) (name : List ℕ)
-    → is_plain (record { attributes = g.attributes; rules = prioritized symbol priority g.rules }) name ≡ is_plain g name
+    → is_plain (record { attributes = g.attributes; rules = prioritized symbol priority g.rules }) name ≡ is_plain g
+      name
 plain_priority g symbol priority name =
     let a : has_rule (record { attributes = g.attributes; rules = prioritized symbol priority g.rules }) name ≡ has_rule g name =
     same_any (is_of name) (λ a b e. rw e refl) symbol priority g.rules in

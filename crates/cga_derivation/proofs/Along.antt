@@ -127,7 +127,9 @@ module _ {N A F P : Type 0} (derivation : Derivation N A F P) where
   next-along C = first_of-map erased (is_next derivation (erase C)) C
 
   start-along : (ns : List N)
-      → erase {N = N} {F = F} {P = P} (map (λ n. record { shape = n; kind = Waiting }) (map (λ n. record { shape = n; above = [] }) ns)) ≡ map (λ n. record { shape = n; kind = Waiting }) ns
+      → erase {N = N} {F = F} {P = P}
+        (map (λ n. record { shape = n; kind = Waiting }) (map (λ n. record { shape = n; above = [] }) ns)) ≡ map
+        (λ n. record { shape = n; kind = Waiting }) ns
   start-along [] = refl
   start-along (n ∷ ns) = ap (λ l. record { shape = n; kind = Waiting } ∷ l) (start-along ns)
 

@@ -35,7 +35,8 @@ module _ {N A F P : Type 0} (derivation : Derivation N A F P) where
         ap (priority_found derivation) (first_of-only p (erase C) m (Has-erase C s k h) here (λ n j g e. only n j g e))
       where
         only : (n : N) (j : Kind F P) → Has (erase C) n j
-            → stands_at derivation (derivation.lot s.shape) (derivation.path s.shape) (record { shape = n; kind = j }) ≡ true
+            → stands_at derivation (derivation.lot s.shape) (derivation.path s.shape) (record { shape = n; kind = j })
+              ≡ true
             → (n ≡ s.shape) × (j ≡ k)
         only n j g e =
             let parts = both _ _ e in

@@ -92,7 +92,8 @@ module _ {N A F P : Type 0} (derivation : Derivation N A F P) (laws : IsDerivati
           ap (step_sites_by derivation (sites derivation n)) next.4 ∙ ap (λ q. run.told (world_of derivation) (sites derivation n) next.0.shape (all_sited (chain_of derivation next.0.shape).priorities q)) result
 
       pub turn-fault : (f : F) → derivation.expand x.shape (asked derivation list x.shape) ≡ Err f
-          → IsAt derivation mode_of key_chain (suc n) (slice_set list at (record { shape = x.shape; kind = Faulted f })) entries
+          → IsAt derivation mode_of key_chain (suc n)
+            (slice_set list at (record { shape = x.shape; kind = Faulted f })) entries
       unfolding site
       turn-fault f e = record {
         list_is = sym (reached-next (Err f) e ∙ become-set derivation list at x (Faulted f) apart there);
@@ -102,7 +103,12 @@ module _ {N A F P : Type 0} (derivation : Derivation N A F P) (laws : IsDerivati
 
       -- the sites before the children come, and what is left to show of the keys when they have come
       pub turn-done : (cs : Members) → derivation.expand x.shape (asked derivation list x.shape) ≡ Ok cs
-          → (C : Sites) × (length C ≡ length list) × HasWaiting derivation mode_of key_chain C entries × SitesApart derivation (C ++ map (sited (key_chain k).priorities) cs) × ((entries' : List (K × ℕ)) → HasWaiting derivation mode_of key_chain (C ++ map (sited (key_chain k).priorities) cs) entries' → IsAt derivation mode_of key_chain (suc n) (slice_set list at (record { shape = x.shape; kind = Done }) ++ cs) entries')
+          → (C : Sites) × (length C ≡ length list) × HasWaiting derivation mode_of key_chain C entries
+            × SitesApart derivation (C ++ map (sited (key_chain k).priorities) cs)
+            × ((entries' : List (K × ℕ))
+            → HasWaiting derivation mode_of key_chain (C ++ map (sited (key_chain k).priorities) cs) entries'
+            → IsAt derivation mode_of key_chain (suc n)
+            (slice_set list at (record { shape = x.shape; kind = Done }) ++ cs) entries')
       unfolding site
       turn-done cs e =
           let C = map (run.become (world_of derivation) next.0.shape Done) (sites derivation n) in

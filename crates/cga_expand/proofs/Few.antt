@@ -54,7 +54,8 @@ after_few (Err fault) f g = tt
 -- ---- what emits
 
 emit_step : (made : ℕ → Emitted) (k : Known) (s : State) (b : Bool) → nat_le MOST_CHILDREN (length s.children) ≡ b
-    → Few (and_then (if b then Err TooManyChildren else Ok (length s.children)) (λ i. Ok (record s { children = s.children ++ made (child_seed_of k.seed i) ∷ [] })))
+    → Few (and_then (if b then Err TooManyChildren else Ok (length s.children))
+      (λ i. Ok (record s { children = s.children ++ made (child_seed_of k.seed i) ∷ [] })))
 emit_step made k s true e = tt
 emit_step made k s false e =
     let lt : length s.children < MOST_CHILDREN = grind (arith, nat_tests) in

@@ -199,7 +199,9 @@ pushed es put new shown name id place former gap steps more e i o within free lo
 pub taken_out : (es new : Named) (shown i : ℕ) (name : List ℕ) (c : ℕ) (steps more : List Step)
     → shown ≤ length es → slice_get (take shown es) i ≡ Some (name, c) → new ≡ swap es i (shown - 1)
     → AreUndoable steps (record { entries = es; shown = shown }) → more ≡ steps ++ Went i ∷ []
-    → IsNoted (record { entries = es; shown = shown }) (record { entries = new; shown = shown - 1 }) steps more × IsPermutation (take shown es) ((name, c) ∷ take (shown - 1) new) × KeepsPlaces i (take shown es) (take (shown - 1) new)
+    → IsNoted (record { entries = es; shown = shown }) (record { entries = new; shown = shown - 1 }) steps more
+      × IsPermutation (take shown es) ((name, c) ∷ take (shown - 1) new)
+      × KeepsPlaces i (take shown es) (take (shown - 1) new)
 taken_out es new shown i name c steps more within at moved ready noting =
     let f = at_front es shown i (name, c) at in
     let back = out_undone es shown i name c f.0 within f.1 in

@@ -1,5 +1,6 @@
 -- Facts of tests, options, lists and numbers that the standard library lacks. No word of this project stands here.
-use Rattle.std.proofs.Common.{◌||◌, ◌≢◌, ◌<◌, ◌≤◌, ◌⊎◌, ◌&&◌, ◌∙◌, ◌+◌, ◌++◌, ◌↔◌, ◌∷◌, [], Bool, List, None, Ok, Option, Result, Some, ap, arith, cond, false, get_or, inl, inr, length, map, nat_eq, nat_lt, not, refl, subst, suc, sym, take, true, zero, ℕ, ◌≡◌}
+use Rattle.std.proofs.Common.{◌||◌, ◌≢◌, ◌<◌, ◌≤◌, ◌⊎◌, ◌&&◌, ◌∙◌, ◌+◌, ◌++◌, ◌↔◌, ◌∷◌, [], Bool, List, None, Ok, Option, Result, Some, ap}
+use Rattle.std.proofs.Common.{arith, cond, false, get_or, inl, inr, length, map, nat_eq, nat_lt, not, refl, subst, suc, sym, take, true, zero, ℕ, ◌≡◌}
 use Rattle.std.proofs.lemmas.Bool.Decides.{leb_tells, nat_tests}
 use Rattle.std.proofs.lemmas.Grind.{common_steps}
 use Rattle.std.proofs.lemmas.Option.{slice_get_within}

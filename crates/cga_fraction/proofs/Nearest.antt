@@ -75,7 +75,10 @@ abbrev half_up : ℕ → ℕ → ℕ → ℕ
 half_up n x places = (2 * (n * 10 ^ places) + (x + 1)) / (2 * (x + 1))
 
 at_positive : (n x places : ℕ) (w : ℤ)
-    → (distance (record { num = pos n; above = x }) places (pos (half_up n x places)) ≤ distance (record { num = pos n; above = x }) places w) × (distance (record { num = pos n; above = x }) places w ≡ distance (record { num = pos n; above = x }) places (pos (half_up n x places)) → unsigned_abs w ≤ half_up n x places)
+    → (distance (record { num = pos n; above = x }) places (pos (half_up n x places)) ≤ distance
+      (record { num = pos n; above = x }) places w)
+      × (distance (record { num = pos n; above = x }) places w ≡ distance (record { num = pos n; above = x }) places
+      (pos (half_up n x places)) → unsigned_abs w ≤ half_up n x places)
 at_positive n x places (pos k) =
     let r = nearest (n * 10 ^ places) (x + 1) (half_up n x places) k (halves (n * 10 ^ places) (x + 1) (omega arith)) in
     let z = distance-parts (record { num = pos n; above = x }) places (pos (half_up n x places)) in
@@ -97,7 +100,10 @@ negative_distance n x places m =
     omega (arith, z, u, v)
 
 at_negative : (n x places : ℕ) (w : ℤ)
-    → (distance (record { num = negsuc n; above = x }) places (neg_ℤ (pos (half_up (suc n) x places))) ≤ distance (record { num = negsuc n; above = x }) places w) × (distance (record { num = negsuc n; above = x }) places w ≡ distance (record { num = negsuc n; above = x }) places (neg_ℤ (pos (half_up (suc n) x places))) → unsigned_abs w ≤ half_up (suc n) x places)
+    → (distance (record { num = negsuc n; above = x }) places (neg_ℤ (pos (half_up (suc n) x places))) ≤ distance
+      (record { num = negsuc n; above = x }) places w)
+      × (distance (record { num = negsuc n; above = x }) places w ≡ distance (record { num = negsuc n; above = x })
+      places (neg_ℤ (pos (half_up (suc n) x places))) → unsigned_abs w ≤ half_up (suc n) x places)
 at_negative n x places (pos zero) =
     let r = nearest (suc n * 10 ^ places) (x + 1) (half_up (suc n) x places) 0 (halves (suc n * 10 ^ places) (x + 1) (omega arith)) in
     let z = negative_distance n x places (half_up (suc n) x places) in

@@ -72,7 +72,8 @@ same_point : (x y z a b c : Rat) → x ≡ a → y ≡ b → z ≡ c
 same_point x y z a b c e f g = rw (e, f, g) refl
 
 far_parts : (s : Scope)
-    → far_of s ≡ record { x = moved_along s.frame.x s.at.x s.size; y = moved_along s.frame.y s.at.y s.size; z = moved_along s.frame.z s.at.z s.size }
+    → far_of s ≡ record { x = moved_along s.frame.x s.at.x s.size; y = moved_along s.frame.y s.at.y s.size; z =
+      moved_along s.frame.z s.at.z s.size }
 unfolding place_of
 far_parts s = refl
 
@@ -150,7 +151,8 @@ pub component_is : (s : Scope) (c : Component) (far : Point) (f : Frame) (x y z 
     → f ≡ turned s.frame c.axis c.by → x ≡ corner c s.frame.x s.at.x far.x → y ≡ corner c s.frame.y s.at.y far.y
     → z ≡ corner c s.frame.z s.at.z far.z → u ≡ size_by s.size c.width → v ≡ size_by s.size c.height
     → w ≡ size_by s.size c.depth
-    → ◌≡◌ {A = Scope} (record { at = record { x = x; y = y; z = z }; frame = f; size = record { x = u; y = v; z = w } }) (component_of s c)
+    → ◌≡◌ {A = Scope} (record { at = record { x = x; y = y; z = z }; frame = f; size = record { x = u; y = v; z = w }
+      }) (component_of s c)
 unfolding component_of
 component_is s c far f x y z u v w e g a b d h i j = rw (a, b, d, g, h, i, j, e) refl
 

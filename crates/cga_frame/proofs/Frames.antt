@@ -160,7 +160,8 @@ on : Axis → Bool → Signed
 on a b = record { axis = a; against = b }
 
 right_at : (a b c : Axis) (s t u : Bool) → parity a b c ≡ Some (differ s (differ t u))
-    → IsRightHanded (record { x = record { axis = a; against = s }; y = record { axis = b; against = t }; z = record { axis = c; against = u } })
+    → IsRightHanded (record { x = record { axis = a; against = s }; y = record { axis = b; against = t }; z = record
+      { axis = c; against = u } })
 unfolding on
 right_at X Y Z s t u h = let e : differ s (differ t u) ≡ false = cc in record { third = ap (on Z) (last s t u false e); apart = refl }
 right_at Y Z X s t u h =
@@ -197,7 +198,8 @@ none_at Z true = refl
 none_at Z false = refl
 
 half_at : (a j : Axis) (b : Bool)
-    → within (composed (quarter a) (quarter a)) (record { axis = j; against = b }) ≡ within (quarter a) (within (quarter a) (record { axis = j; against = b }))
+    → within (composed (quarter a) (quarter a)) (record { axis = j; against = b }) ≡ within (quarter a)
+      (within (quarter a) (record { axis = j; against = b }))
 half_at X X true = refl
 half_at X X false = refl
 half_at X Y true = refl
@@ -218,7 +220,8 @@ half_at Z Z true = refl
 half_at Z Z false = refl
 
 three_at : (a j : Axis) (b : Bool)
-    → within (composed (composed (quarter a) (quarter a)) (quarter a)) (record { axis = j; against = b }) ≡ within (quarter a) (within (quarter a) (within (quarter a) (record { axis = j; against = b })))
+    → within (composed (composed (quarter a) (quarter a)) (quarter a)) (record { axis = j; against = b }) ≡ within
+      (quarter a) (within (quarter a) (within (quarter a) (record { axis = j; against = b })))
 three_at X X true = refl
 three_at X X false = refl
 three_at X Y true = refl
@@ -239,7 +242,8 @@ three_at Z Z true = refl
 three_at Z Z false = refl
 
 four_at : (a j : Axis) (b : Bool)
-    → within (quarter a) (within (quarter a) (within (quarter a) (within (quarter a) (record { axis = j; against = b })))) ≡ record { axis = j; against = b }
+    → within (quarter a) (within (quarter a)
+      (within (quarter a) (within (quarter a) (record { axis = j; against = b })))) ≡ record { axis = j; against = b }
 four_at X X true = refl
 four_at X X false = refl
 four_at X Y true = refl
@@ -261,7 +265,11 @@ four_at Z Z false = refl
 
 -- one axis after a quarter turn
 quarter_at : (p q r : Axis) (s t u : Bool) (a b : Axis) → parity p q r ≡ Some (differ s (differ t u))
-    → axis_of (composed (record { x = record { axis = p; against = s }; y = record { axis = q; against = t }; z = record { axis = r; against = u } }) (quarter a)) b ≡ seen (record { x = record { axis = p; against = s }; y = record { axis = q; against = t }; z = record { axis = r; against = u } }) (rule_of a b)
+    → axis_of (composed (record
+      { x = record { axis = p; against = s }; y = record { axis = q; against = t }; z = record
+      { axis = r; against = u } }) (quarter a)) b ≡ seen
+      (record { x = record { axis = p; against = s }; y = record { axis = q; against = t }; z = record
+      { axis = r; against = u } }) (rule_of a b)
 unfolding on
 quarter_at X Y Z s t u X X h = ap (on X) (differ_comm s false)
 quarter_at X Y Z s t u X Y h = ap (on Z) (differ_comm u false)

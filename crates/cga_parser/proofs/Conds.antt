@@ -52,12 +52,14 @@ scope_bytes (scope_word.Size a) = size_word a
 -- ---- one layer of the pieces
 
 pub cond_layer : (a : Conj) (more : List Conj)
-    → cond_pieces (roll-Cond (record { conjs = a ∷ more })) ≡ conj_pieces a ++ (concat (map (λ c. keyword k.Or ∷ conj_pieces c) more) ++ [])
+    → cond_pieces (roll-Cond (record { conjs = a ∷ more })) ≡ conj_pieces a ++
+      (concat (map (λ c. keyword k.Or ∷ conj_pieces c) more) ++ [])
 unfolding cond_pieces conj_pieces
 cond_layer a more = fold-roll-Cond Pieces Pieces Pieces test_step cond_step conj_step (record { conjs = a ∷ more }) ∙ separated_is (keyword k.Or) conj_pieces a more []
 
 pub conj_layer : (a : Test) (more : List Test)
-    → conj_pieces (roll-Conj (record { tests = a ∷ more })) ≡ test_pieces a ++ (concat (map (λ c. keyword k.And ∷ test_pieces c) more) ++ [])
+    → conj_pieces (roll-Conj (record { tests = a ∷ more })) ≡ test_pieces a ++
+      (concat (map (λ c. keyword k.And ∷ test_pieces c) more) ++ [])
 unfolding conj_pieces test_pieces
 conj_layer a more = fold-roll-Conj Pieces Pieces Pieces test_step cond_step conj_step (record { tests = a ∷ more }) ∙ separated_is (keyword k.And) test_pieces a more []
 

@@ -211,7 +211,8 @@ module _ (n : ℕ) (inner : Reader Cond) (h : AgainInner n inner) (r : IsInner n
   further_test_again = record { all = λ a. took (a_keyword k.And) tt refl (plainly (after _ a test_again (misses_end (λ l e. e)) ends)) }
 
   conj_at : (tests : List Test)
-      → Leads with_and (conj_pieces (roll-Conj (record { tests = tests }))) (g.conj n inner) (roll-Conj (record { tests = tests }))
+      → Leads with_and (conj_pieces (roll-Conj (record { tests = tests }))) (g.conj n inner)
+        (roll-Conj (record { tests = tests }))
   unfolding g.conj
   conj_at [] = written_as no_conjs never_leads
   conj_at (a ∷ more) =
@@ -228,7 +229,8 @@ module _ (n : ℕ) (inner : Reader Cond) (h : AgainInner n inner) (r : IsInner n
   further_conj_again = record { all = λ a. took (a_keyword k.Or) tt refl (plainly (after _ a conj_again (misses_end (λ l e. e)) ends)) }
 
   cond_at : (conjs : List Conj)
-      → Leads with_or (cond_pieces (roll-Cond (record { conjs = conjs }))) (g.cond_layer n inner) (roll-Cond (record { conjs = conjs }))
+      → Leads with_or (cond_pieces (roll-Cond (record { conjs = conjs }))) (g.cond_layer n inner)
+        (roll-Cond (record { conjs = conjs }))
   unfolding g.cond_layer
   cond_at [] = written_as no_conds never_leads
   cond_at (a ∷ more) =

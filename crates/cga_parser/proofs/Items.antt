@@ -538,7 +538,8 @@ abbrev pub braced_body_pieces : Body → Pieces
 braced_body_pieces b = in_curly (body_pieces b)
 
 braced_body_rest : (m : ℕ) (p : Reader Item) → Reads m m item_pieces p
-    → Goes m (suc m) (sign s.LeftCurly ∷ []) braced_body_pieces (g.body_by p >>= λ is. g.sign s.RightCurly >> pure (roll-Body (record { items = is })))
+    → Goes m (suc m) (sign s.LeftCurly ∷ []) braced_body_pieces
+      (g.body_by p >>= λ is. g.sign s.RightCurly >> pure (roll-Body (record { items = is })))
 braced_body_rest m p h = next (body_reads m p h) (λ is. next (close_curly m) (λ _. done (ap in_curly (body_layer is))))
 
 abbrev pub further_body_pieces : Body → Pieces
@@ -556,7 +557,8 @@ abbrev pub braced_bodies_pieces : List Body → Pieces
 braced_bodies_pieces bs = sign s.LeftCurly ∷ separated (sign s.Bar) (map body_pieces bs) (sign s.RightCurly ∷ [])
 
 braced_bodies_is : (is : List Item) (more : List Body)
-    → braced_bodies_pieces (roll-Body (record { items = is }) ∷ more) ≡ (((sign s.LeftCurly ∷ []) ++ list_pieces is) ++ concat (map further_body_pieces more)) ++ (sign s.RightCurly ∷ [])
+    → braced_bodies_pieces (roll-Body (record { items = is }) ∷ more) ≡
+      (((sign s.LeftCurly ∷ []) ++ list_pieces is) ++ concat (map further_body_pieces more)) ++ (sign s.RightCurly ∷ [])
 braced_bodies_is is more =
     ap (λ z. sign s.LeftCurly ∷ z) (separated_is (sign s.Bar) body_pieces (roll-Body (record { items = is })) more (sign s.RightCurly ∷ []))
     ∙ ap (λ z. sign s.LeftCurly ∷ (z ++ (concat (map further_body_pieces more) ++ (sign s.RightCurly ∷ [])))) (body_layer is) ∙ simp append_assoc

@@ -323,7 +323,8 @@ module _ (n : ℕ) (inside : Reader Expr) (h : AgainInside n inside) (r : IsInsi
     scoped_again = record { all = λ is. written_as (scoped_is is) (entered (a_sign s.LeftSquare) n refl (λ m e. after _ is (items_again m inner (hi m e) (ri m e)) (missed (begun_token refl)) (took (a_sign s.RightSquare) tt refl ends))) }
 
     braced_body_at : (is : List Item)
-        → Leads nothing (braced_body_pieces (roll-Body (record { items = is }))) (g.braced_body n inside inner) (roll-Body (record { items = is }))
+        → Leads nothing (braced_body_pieces (roll-Body (record { items = is }))) (g.braced_body n inside inner)
+          (roll-Body (record { items = is }))
     unfolding g.braced_body
     braced_body_at is =
         written_as (ap (λ z. sign s.LeftCurly ∷ (z ++ (sign s.RightCurly ∷ []))) (body_layer is))
@@ -333,7 +334,8 @@ module _ (n : ℕ) (inside : Reader Expr) (h : AgainInside n inside) (r : IsInsi
     braced_body_again = record { all = λ b. subst (λ z. Leads nothing (braced_body_pieces z) (g.braced_body n inside inner) z) (roll-out-Body b) (braced_body_at (out-Body b).items) }
 
     further_body_at : (m : ℕ) → n ≡ suc m → (is : List Item)
-        → Leads with_item (further_body_pieces (roll-Body (record { items = is }))) (g.further_body n inside inner) (roll-Body (record { items = is }))
+        → Leads with_item (further_body_pieces (roll-Body (record { items = is }))) (g.further_body n inside inner)
+          (roll-Body (record { items = is }))
     unfolding g.further_body
     further_body_at m e is =
         written_as (ap (λ z. sign s.Bar ∷ z) (body_layer is)) (took (a_sign s.Bar) tt refl (plainly (after _ is (body_again m inner (hi m e) (ri m e)) (misses_end (λ l q. q)) ends)))
@@ -342,7 +344,8 @@ module _ (n : ℕ) (inside : Reader Expr) (h : AgainInside n inside) (r : IsInsi
     further_body_again m e = record { all = λ b. subst (λ z. Leads with_item (further_body_pieces z) (g.further_body n inside inner) z) (roll-out-Body b) (further_body_at m e (out-Body b).items) }
 
     braced_bodies_of : (is : List Item) (more : List Body)
-        → Leads nothing (braced_bodies_pieces (roll-Body (record { items = is }) ∷ more)) (g.braced_bodies n inside inner) (roll-Body (record { items = is }) ∷ more)
+        → Leads nothing (braced_bodies_pieces (roll-Body (record { items = is }) ∷ more))
+          (g.braced_bodies n inside inner) (roll-Body (record { items = is }) ∷ more)
     unfolding g.braced_bodies
     braced_bodies_of is more =
         written_as (ap (λ z. sign s.LeftCurly ∷ z) (separated_is (sign s.Bar) body_pieces (roll-Body (record { items = is })) more (sign s.RightCurly ∷ [])) ∙ ap (λ z. sign s.LeftCurly ∷ (z ++ (concat (map further_body_pieces more) ++ (sign s.RightCurly ∷ [])))) (body_layer is))

@@ -114,7 +114,8 @@ probability_misses : (p : Rat) → Misses with_item (probability p ∷ []) with_
 probability_misses p = record { misses = λ c x d r w e. let t = piece_of c (probability p) x d w in starts_probability with_item p x r refl (λ l q. (neither (with_item l) (a_colon l) q).0) t.0 e }
 
 alternative_at : (n : ℕ) (is : List Item) (p : Rat)
-    → Leads with_more (alternative_pieces (record { items = is; prob = p })) (g.alternative n) (record { items = is; prob = p })
+    → Leads with_more (alternative_pieces (record { items = is; prob = p })) (g.alternative n)
+      (record { items = is; prob = p })
 unfolding g.alternative
 alternative_at n is p =
     written_as (alternative_is is p) (took (a_sign s.Arrow) tt refl (after _ is (body_again n (g.item n) (item_again n) (item_reads n)) (probability_misses p)

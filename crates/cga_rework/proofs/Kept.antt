@@ -78,7 +78,8 @@ module _ {S A B F P : Type 0} (shapes : Shapes S) (old new : Rules S A B F P) wh
           by g.0.shape g.0.kind (ap (λ m. m.shape) g.2 ∙ w.3) (ap (λ m. m.kind) g.2 ∙ w.4) child (subst (Has D s) (ap (steps.kind_after world) (sym same)) changes.itself)
         where
           by : (t : S) (kind : Kind F P)
-              → let m : Placed (Ranked S) F P = placed_as rules.priority (chain_of shapes s).priorities t kind in m.shape ≡ n
+              → let m : Placed (Ranked S) F P = placed_as rules.priority (chain_of shapes s).priorities t kind in
+                m.shape ≡ n
               → m.kind ≡ k → ((j : ℕ) × IsChild (chain_of shapes s) j (chain_of shapes n)) → Has D s Done → SiteIs D n
           by t Waiting is kind child done = inr (s, child.0, done, child.1, sym (ap (λ x. x.priorities) is) ∙ ap (λ x. (chain_of shapes s).priorities ++ rules.priority x ∷ []) (ap (λ x. x.shape) is))
           by t Done is kind child done = inr (s, child.0, done, child.1, sym (ap (λ x. x.priorities) is) ∙ ap (λ x. (chain_of shapes s).priorities ++ rules.priority x ∷ []) (ap (λ x. x.shape) is))

@@ -195,7 +195,8 @@ pub asked_is : (v : ForestView) → IsForest v → (old new : Sources) → v.mod
     → (noparent active : Bool) → noparent ≡ asks_for new.grammar a.node.shape.symbol Noparent
     → active ≡ asks_for new.grammar a.node.shape.symbol Active
     → (first second : Option Answer) → first ≡ answered v by Noparent noparent → second ≡ answered v by Active active
-    → ◌≡◌ {A = Answers} (record { noparent = first; active = second }) (agenda.asked (the_world old new) (kept_nodes v) (ranked a.node))
+    → ◌≡◌ {A = Answers} (record { noparent = first; active = second })
+      (agenda.asked (the_world old new) (kept_nodes v) (ranked a.node))
 unfolding answers_of
 asked_is v f old new mode by a here noparent active one two first second p q = λ i. record {
   noparent = (p ∙ ap (λ b. answered v by Noparent b) one ∙ ap (λ x. if asks_for new.grammar a.node.shape.symbol Noparent then Some x else None) (answer_is v f old new mode by a here Noparent)) i;
