@@ -16,7 +16,6 @@ use Rattle.cga_order.specs.Agenda.{Node, Keeps}
 use Rattle.cga_order.proofs.Door.{Once-append, Once-index, has_made, place_dec, snoc-same, stamps_total}
 use Rattle.std.proofs.lemmas.Bool.{cases_Bool as either}
 use Rattle.cga_order.proofs.Door as stamps
-use Rattle.cga_order.proofs.Door as steps
 use Rattle.cga_order.specs.Once.{Once}
 use Rattle.cga_agenda.specs.Known.{shapes_of}
 use Rattle.cga_agenda.proofs.Lists.{Has-Among, Among-Has}
@@ -59,19 +58,19 @@ module _ {N A F P : Type 0} (world : World N A F P) (laws : IsWorld world) where
   pub once-reached : (taken : List N) (C : Members) → Reached world taken C → Once world.roots → Once (shapes_of C)
   once-reached [] C e o = subst (λ x. Once (shapes_of x)) (sym e) (subst Once (sym (shapes-start world.roots)) o)
   once-reached (s ∷ taken) D (C, reached, step) o =
-      let good = steps.in_order world laws taken C reached in
-      let k = steps.kind_after world (outcome world C s) in
-      let cs = steps.children_of world (outcome world C s) in
-      let is : D ≡ map (become world s k) C ++ cs = step.told ∙ steps.told-is world C s (outcome world C s) in
+      let good = stamps.in_order world laws taken C reached in
+      let k = stamps.kind_after world (outcome world C s) in
+      let cs = stamps.children_of world (outcome world C s) in
+      let is : D ≡ map (become world s k) C ++ cs = step.told ∙ stamps.told-is world C s (outcome world C s) in
       let shapes : shapes_of D ≡ shapes_of C ++ shapes_of cs = ap (λ x. shapes_of x) is ∙ (map-append (λ m. m.shape) (map (become world s k) C) cs ∙ ap (λ x. x ++ shapes_of cs) (shapes-become s k C)) in
       subst Once (sym shapes) (Once-append (shapes_of C) (shapes_of cs) (once-reached taken C reached o) (children (outcome world C s) refl)
       (λ x h g.
       let u = Among-Has C x h in
       let v = Among-Has cs x g in
-      let birth = steps.child_birth world laws C D s good step x v.0 v.1 in
+      let birth = stamps.child_birth world laws C D s good step x v.0 v.1 in
       stamps.not_self (stamps_cmp world.mode) order (stamp_of world s) (subst (λ b. IsEarlier world b (stamp_of world s)) birth (good.born x s u.0 u.1 step.waits))))
     where
-      children : (r : Result Members F) → outcome world C s ≡ r → Once (shapes_of (steps.children_of world r))
+      children : (r : Result Members F) → outcome world C s ≡ r → Once (shapes_of (stamps.children_of world r))
       children (Ok cs) e = once-children s _ cs e
       children (Err f) e = tt
 
@@ -102,12 +101,12 @@ module _ {N A F P : Type 0} (world : World N A F P) (laws : IsWorld world) where
   cut limit (s ∷ taken) D (C, reached, step) rise quiet = elim (before_or_not limit (stamp_of world s)) [
     | inl b ↦ (s ∷ taken, D, (C, reached, step), (b, all-before limit s taken rise.0 b), quiet, λ n k h. (k, h))
     | inr late ↦
-        let good = steps.in_order world laws taken C reached in
-        let changes = steps.Changes-step world laws C D s good step in
+        let good = stamps.in_order world laws taken C reached in
+        let changes = stamps.Changes-step world laws C D s good step in
         let still : (n : N) (k : Kind F P) → Has C n k → (j : Kind F P) × Has D n j = λ n k h. elim (place_dec world n s) [
           | inl same ↦
               let one = (good.distinct n s k Waiting h step.waits same).0 in
-              (steps.kind_after world (outcome world C s), subst (λ x. Has D x (steps.kind_after world (outcome world C s))) (sym one) changes.itself)
+              (stamps.kind_after world (outcome world C s), subst (λ x. Has D x (stamps.kind_after world (outcome world C s))) (sym one) changes.itself)
           | inr apart ↦ (k, changes.to n k apart h)
         ] in
         let rest = cut limit taken C reached rise.1 (λ x h b. elim (place_dec world x s) [
@@ -122,7 +121,7 @@ module _ {N A F P : Type 0} (world : World N A F P) (laws : IsWorld world) where
       → (taken : List N) (C : Members) → Reached world taken C → NothingWaits world None C → (n : N) (k : Kind F P)
       → Has list n k → IsBefore world limit (birth_of world n) → Among n (shapes_of C)
   made_before limit list con taken C reached quiet n k h b =
-      let part = cut limit taken C reached (steps.rises world laws taken C reached) (λ x g e. quiet x g tt) in
+      let part = cut limit taken C reached (stamps.rises world laws taken C reached) (λ x g e. quiet x g tt) in
       let there = has_made world laws limit list con part.0 part.1 part.2 part.3 part.4 n k h b in
       let whole = part.5 n there.0 there.1 in
       Has-Among C n whole.0 whole.1

@@ -9,7 +9,6 @@ use Rattle.cga_order.specs.Consistent.{NothingWaits}
 use Rattle.cga_order.proofs.Door.{Has-start, waits}
 use Rattle.std.proofs.lemmas.Bool.{cases_Bool as either}
 use Rattle.cga_order.proofs.Door as steps
-use Rattle.cga_order.proofs.Door as derived
 use Rattle.cga_agenda.specs.Edit.{answers_at}
 
 -- n got these answers at its step of the run
@@ -36,10 +35,10 @@ module _ {N A F P : Type 0} (world : World N A F P) (laws : IsWorld world) where
   answered (s ∷ taken) D run n a h =
       let good = steps.in_order world laws taken run.0 run.1 in
       elim h [
-        | inl e ↦ sym e.1 ∙ (derived.saw_answers world laws run.0 D s good run.2 ∙ ap (answers_at world D) e.0)
+        | inl e ↦ sym e.1 ∙ (steps.saw_answers world laws run.0 D s good run.2 ∙ ap (answers_at world D) e.0)
         | inr r ↦
             let done = steps.taken_done world laws taken run.0 run.1 n (taken-in taken run.0 run.1 n a r) in
-            answered taken run.0 run.1 n a r ∙ derived.same_answers world laws run.0 D s good run.2 n (good.done n s done.0 done.1 done.2 run.2.waits)
+            answered taken run.0 run.1 n a r ∙ steps.same_answers world laws run.0 D s good run.2 n (good.done n s done.0 done.1 done.2 run.2.waits)
       ]
 
   expanded_kind : (k : Kind F P) → is_waiting k ≡ false → is_instance k ≡ false → steps.IsExpanded world k

@@ -19,7 +19,6 @@ use Rattle.cga_expand.proofs.Door.{sources_are_derivations}
 use Rattle.cga_fraction.proofs.Door.{None-not-Some as none_some, lt-length_from_slice_get as within, same_Some as some_same}
 use Rattle.cga_key.proofs.Door.{agrees}
 use Rattle.cga_derivation.proofs.Door as turns
-use Rattle.cga_derivation.proofs.Door as ends
 use Rattle.cga_shape.specs.declared.sources.Sources.{Sources}
 use Rattle.cga_key.specs.declared.stamp_key.StampKey.{StampKey}
 use Rattle.cga_shape.specs.declared.shape_fault.ShapeFault.{ShapeFault}
@@ -123,9 +122,9 @@ module _ (sources : Sources) (differ : NamesDiffer sources.lots) where
 
   module _ (budget n : ℕ) (list : List Member) (es : List (StampKey × ℕ)) (at : IsAfter sources n list es) where
     pub over : n ≤ budget → budget < length list → derive (derivation_of sources) budget ≡ None
-    over turned big = ends.ends-over (derivation_of sources) (sources_are_derivations sources differ) (λ k. k.mode) chain_of_key key_cmp (agrees sources.mode) budget n list es at turned big
+    over turned big = turns.ends-over (derivation_of sources) (sources_are_derivations sources differ) (λ k. k.mode) chain_of_key key_cmp (agrees sources.mode) budget n list es at turned big
 
     pub ended-full : n ≡ budget → length list ≤ budget
         → (derive (derivation_of sources) budget ≡ Some list)
           × (expanded_in list ≡ count_by (λ m. not (is_instance m.kind)) list)
-    ended-full same fits = ends.ends-full (derivation_of sources) (sources_are_derivations sources differ) (λ k. k.mode) chain_of_key key_cmp (agrees sources.mode) budget list es (subst (λ k. IsAfter sources k list es) same at) fits
+    ended-full same fits = turns.ends-full (derivation_of sources) (sources_are_derivations sources differ) (λ k. k.mode) chain_of_key key_cmp (agrees sources.mode) budget list es (subst (λ k. IsAfter sources k list es) same at) fits
