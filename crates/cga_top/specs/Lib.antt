@@ -1,6 +1,7 @@
 pub mod Told
 pub mod State
 pub mod Effect
+pub mod Changed
 pub mod Stats
 pub mod Replies
 pub mod TooMany

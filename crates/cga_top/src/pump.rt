@@ -23,7 +23,7 @@ use cga_script::Lines;
 use std::sync::ledger::Ledger;
 
 /// Writes all of the bytes.
-pub(crate) fn write_all<K: Sink>(out: &mut K, bytes: &[u8]) -> Result<(), Failed>
+pub fn write_all<K: Sink>(out: &mut K, bytes: &[u8]) -> Result<(), Failed>
     ensures ok { OnOk result (Appends (K.held out.old) (K.held out.new) bytes.now) }
     ensures err { OnErr result (AppendsSome (K.held out.old) (K.held out.new) bytes.now) }
     ensures cause { HasCause (K.faults out.old) (K.faults out.new) result }
@@ -38,7 +38,7 @@ pub(crate) fn write_all<K: Sink>(out: &mut K, bytes: &[u8]) -> Result<(), Failed
     Ok(())
 }
 
-/// Does what the line that is ready asks for, and writes the reply.
+/// Does what the line that is ready asks for, and writes the reply. What it changed is forgotten then.
 pub(crate) fn take_line<K: Sink, E: Ledger, T: Ledger>(
     session: &mut Session,
     lines: &mut Lines,
@@ -64,6 +64,7 @@ pub(crate) fn take_line<K: Sink, E: Ledger, T: Ledger>(
     match write_all(out, reply.as_slice()) {
         Ok(()) => {
             lines.clear();
+            session.forget_changes();
             Ok(())
         }
         Err(Failed) => Err(Halt::WriteFault),

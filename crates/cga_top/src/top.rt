@@ -44,7 +44,7 @@ fn status_of(halt: Halt) -> Status
 }
 
 // Flushes, and gives the status where that is done.
-pub(crate) fn flushed<K: Sink>(out: &mut K, status: Status) -> Status
+pub fn flushed<K: Sink>(out: &mut K, status: Status) -> Status
     ensures answers { (result ≡ status) ⊎ (result ≡ Status.WriteFault) }
     ensures done { result ≢ Status.WriteFault → IsTrue (K.flushed out.new) }
     ensures fault { result ≢ status → Rose (K.faults out.old) (K.faults out.new) }
