@@ -19,5 +19,6 @@ pub mod Reading
 pub mod Ends
 pub mod Complete
 pub mod Given
+pub mod Tellings
 pub mod CityRuns
 pub mod LotByLot

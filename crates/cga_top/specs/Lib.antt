@@ -20,3 +20,4 @@ pub mod Reads
 pub mod Statuses
 pub mod Runs
 pub mod Hulls
+pub mod Telling

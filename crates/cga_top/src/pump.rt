@@ -110,8 +110,8 @@ pub(crate) fn take_piece<K: Sink, E: Ledger, T: Ledger>(
     Ok(())
 }
 
-// Sends the replies on.
-fn send_on<K: Sink>(out: &mut K) -> Result<(), Halt>
+/// Sends the replies on.
+pub fn send_on<K: Sink>(out: &mut K) -> Result<(), Halt>
     ensures flushed { OnOk result (IsTrue (K.flushed out.new)) }
     ensures faults { FaultsBy result (K.faults out.old) (K.faults out.new) }
     ensures bytes { Keeps (K.held out.old) (K.held out.new) }
