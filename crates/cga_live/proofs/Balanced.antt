@@ -36,7 +36,8 @@ use Rattle.cga_top.specs.Replies.{applied, asked, begun, budget_of, changed, clo
 use Rattle.cga_top.specs.Told.{command_of, grammar_told, sources_told}
 use Rattle.cga_top.specs.State.{Block, State, of_asset, of_city, of_judge, of_rules, start}
 use Rattle.cga_undo.specs.History.{Kept, Step, redone, undone}
-use Rattle.cga_live.specs.Live.{IsUnbegun, drawn_at}
+use Rattle.cga_live.specs.Live.{drawn_at}
+use Rattle.cga_live.specs.Runs.{IsUnbegun}
 
 -- what an effect changed accounts for what is drawn before and after it, and it is the first line as before
 record IsFair (s : State) (e : Effect) : Type 0 where

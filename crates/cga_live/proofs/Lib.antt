@@ -1,2 +1,5 @@
 pub mod Balanced
-pub mod Live
+pub mod Turns
+pub mod Lived
+pub mod Reads
+pub mod Ends

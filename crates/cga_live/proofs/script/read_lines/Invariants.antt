@@ -1,16 +1,18 @@
-use Rattle.std.proofs.Common.{◌≡◌, List, ℕ}
-use Rattle.cga_live.specs.Live.{IsRead}
-use Rattle.cga_top.specs.Changed.{no_changes}
+use Rattle.std.proofs.Common.{◌≡◌, ◌≤◌, ◌+◌, ◌-◌, List, ℕ, length}
 use Rattle.cga_top.specs.Hulls.{usual}
+use Rattle.cga_top.specs.Outside.{outside_of}
+use Rattle.cga_top.specs.Reads.{limit, read_limit}
 use Rattle.cga_top.specs.Ready.{IsReady}
+use Rattle.cga_live.specs.Runs.{IsRead}
 use Rattle.cga_live.proofs.script.read_lines.Given as goal
 
-abbrev pub invariant-loop-room : goal.invariant-loop-room
-invariant-loop-room g l = record {
+abbrev pub invariant-loop-total : goal.invariant-loop-total
+invariant-loop-total g l = record {
+  most : l.total ≤ limit + read_limit;
   ready : IsReady l.session;
-  none : l.session.city.changes ≡ no_changes;
-  so_far : (read : List ℕ) × IsRead usual read (g.S.Source.left l.initial.script) (g.S.Source.left l.script) l.session l.lines (g.K.Sink.held l.initial.out) (g.K.Sink.held l.out);
+  calm : g.S.Source.faults l.script ≡ g.S.Source.faults l.initial.script;
+  so_far : (read : List ℕ) × IsRead usual read (outside_of g.S.Source g.K.Sink l.initial.script l.initial.out l.initial.expansions) (outside_of g.S.Source g.K.Sink l.script l.out l.expansions) l.session l.lines × (length read ≡ l.total);
 }
 
-abbrev pub decreases-loop-room : goal.decreases-loop-room
-decreases-loop-room g l = l.room
+abbrev pub decreases-loop-total : goal.decreases-loop-total
+decreases-loop-total g l = 67108865 - l.total
