@@ -6,10 +6,15 @@
 //! What callers get wrong: without the exit status 0 not all of the boxes are there.
 #![tactic(auto)]
 
-ghost use Rattle.std.specs.Prelude.{◌≡◌, ◌<◌, ◌++◌, List, ℕ, IfSome};
+ghost use Rattle.std.specs.Prelude.{◌≡◌, ◌<◌, ◌++◌, ◌⊎◌, ◌↔◌, List, ℕ, IfSome};
 ghost use Rattle.std.specs.Io.KnownBytes.{Appends};
+ghost use Rattle.std.specs.Process.{exit_status};
+ghost use Rattle.cga_outside.specs.Causes.{Rose};
 ghost use Rattle.cga_top.specs.Hulls.{IsToldOf, usual};
 ghost use Rattle.cga_top.specs.Output.{output_of};
+ghost use Rattle.cga_top.specs.Outside.{outside_of};
+ghost use Rattle.cga_top.specs.Statuses.{HoldsFew};
+ghost use Rattle.cga_top.specs.Telling.{TellingMeans};
 
 use cga_expand::Expansions;
 use cga_fraction::Tests;
@@ -34,20 +39,30 @@ fn run<S: Source, K: Sink, E: Ledger, T: Ledger>(
     requires tests_name { tests.name ≡ T.name }
     requires tests_parts { tests.parts ≡ T.parts }
     requires tests_some { 0 < tests.parts }
-    ensures { result ≡ Status.Done → IfSome (S.left script.old) (λ bytes. (text : List ℕ) × IsToldOf usual bytes text
+    ensures told { result ≡ Status.Done → IfSome (S.left script.old) (λ bytes. (text : List ℕ) × IsToldOf usual bytes text
         × Appends (K.held out.old) (K.held out.new) (output_of usual bytes ++ text)) }
+    ensures means { (expanded : ℕ) × TellingMeans usual result
+        (outside_of S.Source K.Sink script.old out.old 0)
+        (outside_of S.Source K.Sink script.new out.new expanded) }
+    ensures complete { HoldsFew (S.left script.old)
+        → (Rose (S.faults script.old) (S.faults script.new) → ⊥)
+        → (Rose (K.faults out.old) (K.faults out.new) → ⊥)
+        → (result ≡ Status.Done) ⊎ (result ≡ Status.NoMemory) }
 {
     let mut expansions = Expansions::<E>::new(rt, expansions);
     let mut tests = Tests::<T>::new(rt, tests);
     run_with_hulls(rt.alloc(), script, out, &mut expansions, &mut tests)
 }
 
-fn end(rt: &HostRuntime, status: Status) -> ExitCode {
+// The exit status is 0 exactly where all was written.
+fn end(rt: &HostRuntime, status: Status) -> ExitCode
+    ensures { (exit_status result ≡ 0) ↔ (status ≡ Status.Done) }
+{
     if status == Status::Done {
-        return ExitCode::SUCCESS;
+        return ExitCode::from(0);
     }
     let _ = eprintln!(rt; "cga_hulls: {status:?}");
-    ExitCode::FAILURE
+    ExitCode::from(1)
 }
 
 fn main(mut rt: HostRuntime) -> ExitCode {

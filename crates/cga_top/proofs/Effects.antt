@@ -6,6 +6,7 @@ use Rattle.std.proofs.Math.Seq.{take-append-add}
 use Rattle.std.specs.Io.KnownBytes.{Appends}
 use Rattle.cga_script.specs.Lines.{Line}
 use Rattle.cga_top.specs.declared.session.Session.{Session}
+use Rattle.cga_shape.specs.declared.changes.Changes.{Changes}
 use Rattle.cga_top.specs.State.{State}
 use Rattle.cga_top.specs.Effect.{Effect, HasSpent, SpentOn, Work, followed_by, silent}
 use Rattle.cga_top.specs.Replies.{effect}
@@ -73,9 +74,9 @@ pub wrote_nothing : (s : State) (session : Session) (a : Option (List ℕ)) (i :
 wrote_nothing s session a i st = record { is_at = st; written = appends_nothing a; spent = refl }
 
 -- a reply that was written
-pub wrote_reply : (t : Effect) (session : Session) (text : List ℕ) (a b : Option (List ℕ)) (i j : ℕ)
-    → Did t session text i j → Appends a b text → Wrote t session a b i j
-wrote_reply t session text a b i j did w = record { is_at = did.is_at; written = subst (Appends a b) did.reply w; spent = did.spent }
+pub wrote_reply : (t : Effect) (was : Changes) (session : Session) (text : List ℕ) (a b : Option (List ℕ)) (i j : ℕ)
+      → Did t was session text i j → Appends a b text → Wrote t session a b i j
+wrote_reply t was session text a b i j did w = record { is_at = did.is_at; written = subst (Appends a b) did.reply w; spent = did.spent }
 
 pub some_nothing : (a : Option (List ℕ)) (text : List ℕ) → AppendsSome a a text
 some_nothing None text = (0, tt)

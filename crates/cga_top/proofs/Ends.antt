@@ -68,8 +68,8 @@ pub some_kept : (a b c : Option (List ℕ)) (text : List ℕ) → Appends a b te
 some_kept a b c text p q = (length text, let e : take (length text) text ≡ text = take_all (length text) text (omega arith) in rw e (all_of_it a b c text p q))
 
 -- a fact of what the source tells
-by_bytes : (P : List ℕ → Type 0) (known : Option (List ℕ)) → ((bytes : List ℕ) → known ≡ Some bytes → P bytes)
-    → IfSome known P
+pub by_bytes : (P : List ℕ → Type 0) (known : Option (List ℕ)) → ((bytes : List ℕ) → known ≡ Some bytes → P bytes)
+      → IfSome known P
 by_bytes P None each = tt
 by_bytes P (Some bytes) each = each bytes refl
 
@@ -90,16 +90,21 @@ pub record IsFlushed (status wanted : Status) (old new : Outside) : Type 0 where
   pub calm : status ≢ WriteFault → new.writes_failed ≡ old.writes_failed
 
 -- the status after a flush is the wanted one with what it means, or a write fault with what that means
-flushed_means : (d : ℕ) (status wanted : Status) (old mid new : Outside) → wanted ≢ WriteFault
-    → IsFlushed status wanted mid new → mid.writes_failed ≡ old.writes_failed
-    → (IsTrue new.flushed → new.writes_failed ≡ old.writes_failed → StatusMeans d wanted old new)
-    → WritesPrefix d old new → StatusMeans d status old new
-flushed_means d status wanted old mid new other f calm means prefix = elim f.answers [
-  | inl is ↦ let fine : status ≢ WriteFault = λ e. other (sym is ∙ e) in
-      subst (λ (s : Status). StatusMeans d s old new) (sym is) (means (f.done fine) (f.calm fine ∙ calm))
-  | inr is ↦ let unwanted : status ≢ wanted = λ e. other (sym e ∙ is) in
-      subst (λ (s : Status). StatusMeans d s old new) (sym is) (subst (λ (n : ℕ). Rose n new.writes_failed) calm (f.fault unwanted), prefix)
+pub flushed_as : (means : Status → Type 0) (status wanted : Status) (old mid new : Outside) → wanted ≢ WriteFault
+      → IsFlushed status wanted mid new → mid.writes_failed ≡ old.writes_failed
+    → (IsTrue new.flushed → new.writes_failed ≡ old.writes_failed → means wanted)
+      → (Rose old.writes_failed new.writes_failed → means WriteFault) → means status
+flushed_as means status wanted old mid new other f calm fine bad = elim f.answers [
+  | inl is ↦ let kept : status ≢ WriteFault = λ e. other (sym is ∙ e) in subst means (sym is) (fine (f.done kept) (f.calm kept ∙ calm))
+  | inr is ↦ let unwanted : status ≢ wanted = λ e. other (sym e ∙ is) in subst means (sym is) (bad (subst (λ (n : ℕ). Rose n new.writes_failed) calm (f.fault unwanted)))
 ]
+
+flushed_means : (d : ℕ) (status wanted : Status) (old mid new : Outside) → wanted ≢ WriteFault
+      → IsFlushed status wanted mid new → mid.writes_failed ≡ old.writes_failed
+    → (IsTrue new.flushed → new.writes_failed ≡ old.writes_failed → StatusMeans d wanted old new)
+      → WritesPrefix d old new → StatusMeans d status old new
+flushed_means d status wanted old mid new other f calm means prefix =
+    flushed_as (λ (s : Status). StatusMeans d s old new) status wanted old mid new other f calm means (λ rose. (rose, prefix))
 
 -- what was replied when reading failed or went too far
 replies_written : (d : ℕ) (read bytes : List ℕ) (old mid new : Outside) (session : Session) (lines : Pending)
@@ -152,8 +157,8 @@ too_long_means d status old mid new session lines read r many most reads f =
     (read_prefix d read old mid new session lines r f.held)
 
 -- the whole script was read
-all_taken : (read bytes : List ℕ) (left : Option (List ℕ)) → Consumes (Some bytes) left read → IsAtEnd left
-    → read ≡ bytes
+pub all_taken : (read bytes : List ℕ) (left : Option (List ℕ)) → Consumes (Some bytes) left read → IsAtEnd left
+      → read ≡ bytes
 all_taken read bytes None taken at_end = absurd taken
 all_taken read bytes (Some rest) taken at_end = sym (taken ∙ ap (λ (x : List ℕ). read ++ x) at_end ∙ append-nil read)
 

@@ -19,6 +19,7 @@ mod Reading
 mod Ends
 mod Complete
 mod Given
+mod Tellings
 mod CityRuns
 mod LotByLot
 pub mod Door

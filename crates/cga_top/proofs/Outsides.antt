@@ -88,12 +88,13 @@ pub none_at : (s : State) (old : Session) (mid : Option OpenBlock) → IsAt s ol
 none_at s old mid at b e = subst (λ (t : State). IsAt t (record old { block = mid })) (ap (λ (x : Option Block). record s { block = x }) (sym b)) (closed_at s old mid at e)
 
 pub line_did : (s : State) (old : Session) (x : Block) (line : Line) (new : OpenBlock) (reply : List ℕ) (n : ℕ)
-    → IsAt s old → s.block ≡ Some x → is_end_line line ≡ false → IsOpenAs (with_line x line) new → reply ≡ []
-    → Did (effect s line) (record old { block = Some new }) reply n n
+      → IsAt s old → s.block ≡ Some x → is_end_line line ≡ false → IsOpenAs (with_line x line) new → reply ≡ []
+    → Did (effect s line) old.city.changes (record old { block = Some new }) reply n n
 line_did s old x line new reply n at b e is none =
-    subst (λ (t : Effect). Did t (record old { block = Some new }) reply n n) (sym (effect_line s x line b e))
+    subst (λ (t : Effect). Did t old.city.changes (record old { block = Some new }) reply n n) (sym (effect_line s x line b e))
     (record {
       is_at = record { decimals = at.decimals; fresh = at.fresh; version = at.version; sources = at.sources; budget = at.budget; warm = at.warm; kept = at.kept; number = at.number; block = is; quiet = at.quiet; wardrobe = at.wardrobe };
       reply = none;
       spent = refl;
+      changed = λ e. e;
     })

@@ -53,6 +53,11 @@ module _ (d : ℕ) (read chunk piece : List ℕ) (lines : Pending) (few : length
   kept_is : lines.kept ≡ kept_of (cut read).rest
   kept_is = ap (λ (p : Pending). p.kept) are ∙ ap (λ (r : List ℕ). kept_of (cut r).rest) all_read
 
+  pub lines_more : lines_of (take limit (read ++ chunk)) ≡ lines_of (take limit read) ++ lines_of (lines.kept ++ piece)
+  lines_more =
+      ap lines_of more_read ∙ lines_append read piece ∙ ap (λ (k : List ℕ). lines_of read ++ lines_of (k ++ piece)) (sym kept_is)
+      ∙ ap (λ (r : List ℕ). lines_of r ++ lines_of (lines.kept ++ piece)) (sym all_read)
+
   so_far : State
   so_far = (effect_of_lines d (take limit read)).state
 

@@ -8,7 +8,8 @@ use Rattle.cga_shape.specs.declared.edit_refused.EditRefused.{EditRefused}
 use Rattle.cga_shape.specs.declared.edit_refused.EditRefused.TheVariants as cause
 use Rattle.cga_shape.specs.declared.sources.Sources.{Sources}
 use Rattle.cga_city.specs.Apply.{apply}
-use Rattle.cga_city.specs.City.{HasDistinctLots}
+use Rattle.cga_bill.specs.Bill.{Balances}
+use Rattle.cga_city.specs.City.{CityState, HasDistinctLots, IsDone}
 use Rattle.cga_city.specs.Derived.{members}
 use Rattle.cga_city.specs.declared.limits.TheConstants.{BUDGET_TWO}
 use Rattle.cga_update.specs.Updates.{CountsTouched}
@@ -20,11 +21,13 @@ use Rattle.cga_script.specs.declared.version.Version.TheVariants.{One, Two}
 use Rattle.cga_script.specs.declared.refused.Refused.TheVariants as told
 use Rattle.cga_top.specs.State.{State}
 use Rattle.cga_top.specs.Effect.{Effect, SpentBy}
-use Rattle.cga_top.specs.Ready.{Accepts, IsReady, MayHaveRead, Refuses, Tells, Works}
+use Rattle.cga_top.specs.Changed.{AreChanges, drawn_from, no_changes}
+use Rattle.cga_top.specs.Ready.{drawn_by, Accepts, IsReady, MayHaveRead, Refuses, Tells, Works}
 use Rattle.cga_top.specs.Replies.{changed, applied, edited, noted_by, stepped, refuses, ok_reply, budget_of}
 use Rattle.cga_top.specs.Session.{IsAt, IsOpen, Did}
 use Rattle.cga_top.specs.Written.{AreWritten, IsWritten}
 use Rattle.cga_top.specs.declared.session.Session.{Session}
+use Rattle.cga_top.proofs.Bills.{balances}
 use Rattle.cga_top.proofs.Numbers.{CanBeLeft, left_at, number_of}
 use Rattle.cga_top.proofs.Histories.{left_by, undone_some, undone_none, redone_some, redone_none}
 use Rattle.cga_top.proofs.Prints.{applied_prints}
@@ -59,13 +62,24 @@ pub redone_nowhere : (s : State) (history : Kept) → history ≡ s.kept
     → slice_get history.future (length history.future - 1) ≡ None → redone s.kept s.sources ≡ None
 redone_nowhere s history k e = ap (λ (h : Kept). redone h s.sources) (sym k) ∙ redone_none history s.sources e
 
+-- what it changed, from the sources of the state
+are_changes : (s : State) (old : Session) (city : CityState) (e : Edit) (i j : ℕ) → IsAt s old
+      → CanBeLeft old.city.budget old.city.sources e → IsDone old.city e city i j
+    → AreChanges (budget_of s.version) s.sources city.sources city.changes
+are_changes s old city e i j at can done =
+    let changes : AreChanges old.city.budget old.city.sources city.sources city.changes = record {
+      by = done.changed;
+      balance = subst (λ (b : ℕ). Balances (drawn_by old.city) (drawn_from b city.sources) city.changes) done.budget_stays (balances old.city e city i j can done city.changes refl);
+    } in
+    subst (λ (b : ℕ). AreChanges b s.sources city.sources city.changes) at.budget
+    (subst (λ (x : Sources). AreChanges old.city.budget x city.sources city.changes) at.sources changes)
+
 -- an edit that was done
 pub changed_did : (s : State) (old new : Session) (history : Kept) (e : Edit) (before : Sources) (reply : List ℕ)
-      (i j : ℕ)
-    → IsAt s old → HasDistinctLots e → Accepts old e before new i j → reply ≡ ok_reply new.quiet
-    → Did (changed s history (applied s e)) (record new { history = history }) reply i j
+      (i j : ℕ) → IsAt s old → HasDistinctLots e → Accepts old e before new i j → reply ≡ ok_reply new.quiet
+    → Did (changed s history (applied s e)) old.city.changes (record new { history = history }) reply i j
 changed_did s old new history e before reply i j at apart a r =
-    let done = a.done.1 in
+    let done = a.done in
     let city = new.city in
     let others = a.others in
     let can : CanBeLeft old.city.budget old.city.sources e = record { sound = a.sound; fits = a.fits; apart = apart } in
@@ -75,7 +89,7 @@ changed_did s old new history e before reply i j at apart a r =
     let spent = done.spent in
     let number = number_of s.sources city.sources e (budget_of s.version) city.expanded (left_at s old e at can) is touched in
     let count : city.expanded ≡ j - i = omega arith in
-    subst (λ (t : Result Sources EditRefused). Did (changed s history t) (record new { history = history }) reply i j) (sym is)
+    subst (λ (t : Result Sources EditRefused). Did (changed s history t) old.city.changes (record new { history = history }) reply i j) (sym is)
     (record {
       is_at = record {
         decimals = ap (λ (x : Session). x.decimals) others ∙ at.decimals;
@@ -92,6 +106,7 @@ changed_did s old new history e before reply i j at apart a r =
       };
       reply = r ∙ ap ok_reply (ap (λ (x : Session). x.quiet) others ∙ at.quiet);
       spent = (omega arith, subst (CountsTouched s.sources city.sources (members (budget_of s.version) s.sources) (members (budget_of s.version) city.sources)) count touched);
+      changed = λ none. are_changes s old city e i j at can done;
     })
 
 -- what is noted is known by the version
@@ -103,33 +118,33 @@ noted_in s old v at is = ap (λ (w : Version). noted_by w s.kept s.sources) (sym
 pub change_did : (s : State) (old new : Session) (history : Kept) (e : Edit) (before : Sources)
       (text : Result (List ℕ) NoMemory) (i j : ℕ)
     → IsAt s old → old.version ≡ Two → HasDistinctLots e → Accepts old e before new i j
-    → history ≡ noted new.history before → IfOk text (λ t. t ≡ ok_reply new.quiet)
-    → IfOk text (λ reply. Did (edited s e) (record new { history = history }) reply i j)
+      → history ≡ noted new.history before → IfOk text (λ t. t ≡ ok_reply new.quiet)
+    → IfOk text (λ reply. Did (edited s e) old.city.changes (record new { history = history }) reply i j)
 change_did s old new history e before (Err none) i j at two apart a h r = tt
 change_did s old new history e before (Ok reply) i j at two apart a h r =
     let k : history ≡ noted s.kept s.sources =
     h ∙ ap (λ (k : Kept). noted k before) (ap (λ (x : Session). x.history) a.others ∙ at.kept) ∙ ap (noted s.kept) (a.before_is ∙ at.sources) in
-    subst (λ (k : Kept). Did (changed s k (applied s e)) (record new { history = history }) reply i j) (k ∙ noted_in s old Two at two) (changed_did s old new history e before reply i j at apart a r)
+    subst (λ (k : Kept). Did (changed s k (applied s e)) old.city.changes (record new { history = history }) reply i j) (k ∙ noted_in s old Two at two) (changed_did s old new history e before reply i j at apart a r)
 
 -- and in version 1 they aren't
 pub alone_did : (s : State) (old new : Session) (e : Edit) (text : Result (List ℕ) NoMemory) (i j : ℕ)
     → IsAt s old → old.version ≡ One → HasDistinctLots e → Accepts old e old.city.sources new i j
-    → IfOk text (λ t. t ≡ ok_reply new.quiet)
-    → IfOk text (λ reply. Did (edited s e) new reply i j)
+      → IfOk text (λ t. t ≡ ok_reply new.quiet)
+    → IfOk text (λ reply. Did (edited s e) old.city.changes new reply i j)
 alone_did s old new e (Err none) i j at one apart a r = tt
 alone_did s old new e (Ok reply) i j at one apart a r =
     let k : new.history ≡ s.kept = ap (λ (x : Session). x.history) a.others ∙ at.kept in
-    subst (λ (k : Kept). Did (changed s k (applied s e)) new reply i j) (k ∙ noted_in s old One at one) (changed_did s old new new.history e old.city.sources reply i j at apart a r)
+    subst (λ (k : Kept). Did (changed s k (applied s e)) old.city.changes new reply i j) (k ∙ noted_in s old One at one) (changed_did s old new new.history e old.city.sources reply i j at apart a r)
 
 pub step_did : (s : State) (old new : Session) (history : Kept) (none : Refused) (step : Option Step) (some : Step)
       (taken before : Sources) (text : Result (List ℕ) NoMemory) (i j : ℕ)
     → IsAt s old → HasDistinctLots (edit.Whole taken) → step ≡ Some some → taken ≡ some.taken
-    → Accepts old (edit.Whole taken) before new i j → history ≡ some.left → IfOk text (λ t. t ≡ ok_reply new.quiet)
-    → IfOk text (λ reply. Did (stepped s none step) (record new { history = history }) reply i j)
+      → Accepts old (edit.Whole taken) before new i j → history ≡ some.left → IfOk text (λ t. t ≡ ok_reply new.quiet)
+    → IfOk text (λ reply. Did (stepped s none step) old.city.changes (record new { history = history }) reply i j)
 step_did s old new history none step some taken before (Err e) i j at apart is t a h r = tt
 step_did s old new history none step some taken before (Ok reply) i j at apart is t a h r =
-    let did : Did (changed s history (applied s (edit.Whole taken))) (record new { history = history }) reply i j = changed_did s old new history (edit.Whole taken) before reply i j at apart a r in
-    subst (λ (e : Effect). Did e (record new { history = history }) reply i j)
+    let did : Did (changed s history (applied s (edit.Whole taken))) old.city.changes (record new { history = history }) reply i j = changed_did s old new history (edit.Whole taken) before reply i j at apart a r in
+    subst (λ (e : Effect). Did e old.city.changes (record new { history = history }) reply i j)
     (ap (λ (x : Sources). changed s history (applied s (edit.Whole x))) t ∙ ap (λ (k : Kept). changed s k (applied s (edit.Whole some.taken))) h ∙ sym (some_step s none step some is)) did
 
 -- ---- what an edit answered
@@ -169,25 +184,26 @@ spent_refused old cause.NoMemory budget i j later most free = let n = free (λ e
 pub refused_did : (s : State) (old new : Session) (kept : Kept) (e : Edit) (refused : EditRefused)
       (text : Result (List ℕ) NoMemory) (i j : ℕ)
     → IsAt s old → Refuses old e refused new i j → IfOk text (λ t. t ≡ refusal_text_of (told.Edit refused))
-    → IfOk text (λ reply. Did (changed s kept (applied s e)) new reply i j)
+      → IfOk text (λ reply. Did (changed s kept (applied s e)) old.city.changes new reply i j)
 refused_did s old new kept e refused (Err none) i j at h is = tt
 refused_did s old new kept e refused (Ok reply) i j at h is =
     let why = h.why in
     let cause : applied s e ≡ Err refused = sym (ap (λ (x : Sources). apply x e old.city.budget) at.sources ∙ ap (λ (b : ℕ). apply s.sources e b) at.budget) ∙ why.cause in
-    subst (λ (t : Result Sources EditRefused). Did (changed s kept t) new reply i j) (sym cause)
+    subst (λ (t : Result Sources EditRefused). Did (changed s kept t) old.city.changes new reply i j) (sym cause)
     (record {
       is_at = subst (IsAt s) (sym h.same) at;
       reply = is;
       spent = subst (λ (b : ℕ). SpentBy s.sources b (Err refused) i j) at.budget (spent_refused s.sources refused old.city.budget i j why.later why.most why.unspent);
+      changed = subst (λ (x : Session). old.city.changes ≡ no_changes → x.city.changes ≡ no_changes) (sym h.same) (λ none. none);
     })
 
 pub step_refused : (s : State) (old new : Session) (none : Refused) (step : Option Step) (some : Step)
       (taken : Sources) (refused : EditRefused) (text : Result (List ℕ) NoMemory) (i j : ℕ)
     → IsAt s old → step ≡ Some some → taken ≡ some.taken → Refuses old (edit.Whole taken) refused new i j
-    → IfOk text (λ t. t ≡ refusal_text_of (told.Edit refused))
-    → IfOk text (λ reply. Did (stepped s none step) new reply i j)
+      → IfOk text (λ t. t ≡ refusal_text_of (told.Edit refused))
+    → IfOk text (λ reply. Did (stepped s none step) old.city.changes new reply i j)
 step_refused s old new none step some taken refused text i j at is t h says =
-    subst (λ (e : Effect). IfOk text (λ reply. Did e new reply i j))
+    subst (λ (e : Effect). IfOk text (λ reply. Did e old.city.changes new reply i j))
     (ap (λ (x : Sources). changed s some.left (applied s (edit.Whole x))) t ∙ sym (some_step s none step some is))
     (refused_did s old new some.left (edit.Whole taken) refused text i j at h says)
 
@@ -202,10 +218,10 @@ pub accepted_ready : (old new : Session) (history : Kept) (e : Edit) (before : S
     → IsWritten e → Accepts old e before new i j
     → All AreWritten history.past → All AreWritten history.future → IsReady (record new { history = history })
 accepted_ready old new history e before i j ready written a past future = record {
-  warm = a.done.1.warm_then;
+  warm = a.done.warm_then;
   bill = a.bill;
-  few = subst (λ (b : ℕ). b ≤ BUDGET_TWO) (sym a.done.1.budget_stays) ready.few;
-  rules = applied_prints _ _ _ _ a.done.1.applied ready.rules written;
+  few = subst (λ (b : ℕ). b ≤ BUDGET_TWO) (sym a.done.budget_stays) ready.few;
+  rules = applied_prints _ _ _ _ a.done.applied ready.rules written;
   past = past;
   future = future;
   block = subst MayHaveRead (sym (ap (λ (x : Session). x.block) a.others)) ready.block;

@@ -1,6 +1,7 @@
 pub mod Told
 pub mod State
 pub mod Effect
+pub mod Changed
 pub mod Stats
 pub mod Replies
 pub mod TooMany
@@ -19,3 +20,4 @@ pub mod Reads
 pub mod Statuses
 pub mod Runs
 pub mod Hulls
+pub mod Telling

@@ -8,7 +8,6 @@ use Rattle.cga_city.specs.Lots.{names_of}
 use Rattle.cga_city.specs.Reports.{drawn_in}
 use Rattle.cga_city.specs.declared.limits.TheConstants.{BUDGET_TWO}
 use Rattle.cga_form.specs.Lines.{Line}
-use Rattle.cga_shape.specs.declared.changes.Changes.{Changes}
 use Rattle.cga_shape.specs.declared.drawn.Drawn.{Drawn}
 use Rattle.cga_shape.specs.declared.edit.Edit.{Edit}
 use Rattle.cga_shape.specs.declared.edit_refused.EditRefused.{EditRefused}
@@ -46,12 +45,12 @@ pub record IsReady (session : Session) : Type 0 where
   pub future : All AreWritten session.history.future
   pub block : MayHaveRead session.block
 
--- an edit was done, the bill went with it, and what it took and added was forgotten
+-- an edit was done, and the bill went with it
 pub record Accepts (old : Session) (e : Edit) (before : Sources) (new : Session) (spent spent' : ℕ) : Type 0 where
   pub before_is : before ≡ old.city.sources
   pub sound : AreSound old.city.sources
   pub fits : derived old.city.budget old.city.sources ≡ Some (members old.city.budget old.city.sources)
-  pub done : (changes : Changes) × IsDone old.city e (record new.city { changes = changes }) spent spent'
+  pub done : IsDone old.city e new.city spent spent'
   pub bill : new.bill ≡ bill_of (drawn_by new.city)
   pub others : new ≡ record old { city = new.city; bill = new.bill }
 

@@ -1,6 +1,8 @@
 -- When a session has come to a state.
 use Rattle.std.specs.Prelude.{◌≡◌, ℕ, List, true, Option, Some, None}
 use Rattle.cga_top.specs.Blocks.{AssetRead, RulesRead, SourcesRead, TraceRead}
+use Rattle.cga_shape.specs.declared.changes.Changes.{Changes}
+use Rattle.cga_top.specs.Changed.{HasChanged, no_changes}
 use Rattle.cga_top.specs.State.{Block, of_rules, of_city, of_asset, of_judge, State}
 use Rattle.cga_top.specs.Effect.{Effect, HasSpent, says}
 use Rattle.cga_top.specs.Replies.{budget_of}
@@ -37,11 +39,13 @@ pub record IsAt (s : State) (session : Session) : Type 0 where
   pub quiet : session.quiet ≡ s.quiet
   pub wardrobe : session.wardrobe ≡ s.wardrobe
 
--- a line was done: the session has come to its state, this was the reply, and its works expanded so much
-pub record Did (e : Effect) (session : Session) (text : List ℕ) (before after : ℕ) : Type 0 where
+-- a line was done: the session has come to its state, this was the reply, and its works expanded so much; and where no
+-- changes were kept, those that are kept now are what its works changed
+pub record Did (e : Effect) (was : Changes) (session : Session) (text : List ℕ) (before after : ℕ) : Type 0 where
   pub is_at : IsAt e.state session
   pub reply : text ≡ e.reply
   pub spent : HasSpent e.works before after
+  pub changed : was ≡ no_changes → HasChanged e.works session.city.changes
 
 -- only a reply was given: it is that of the effect, which changes nothing
 abbrev pub Says : Effect → List ℕ → Type 0

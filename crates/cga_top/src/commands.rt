@@ -25,7 +25,7 @@ fn open(session: &mut Session, block: OpenBlock) -> List<u8>
     requires ready { IsReady session.old }
     requires read { HasRead block }
     ensures did { (s : State) (b : Block) (n : ℕ) → IsAt s session.old → IsOpenAs b block
-        → Did (opened s b) session.new result n n }
+        → Did (opened s b) session.old.city.changes session.new result n n }
     ensures ready { IsReady session.new }
 {
     session.block = Some(block);
@@ -35,7 +35,7 @@ fn open(session: &mut Session, block: OpenBlock) -> List<u8>
 fn open_asset(session: &mut Session, name: Name) -> List<u8>
     requires { IsReady session.old }
     ensures did { (s : State) (n : ℕ) → IsAt s session.old
-        → Did (opened s (of_asset name [])) session.new result n n }
+        → Did (opened s (of_asset name [])) session.old.city.changes session.new result n n }
     ensures ready { IsReady session.new }
 {
     let reader = AssetReader::new(session.alloc);
@@ -47,7 +47,7 @@ fn do_plain(session: &mut Session, command: &ScriptCommand) -> Result<List<u8>, 
     requires ready { IsReady session.old }
     requires plain { EditsNothing command.now }
     ensures did { (s : State) (n : ℕ) → IsAt s session.old
-        → IfOk result (λ reply. Did (done_by s command.now) session.new reply n n) }
+        → IfOk result (λ reply. Did (done_by s command.now) session.old.city.changes session.new reply n n) }
     ensures ready { OnOk result (IsReady session.new) }
 {
     let alloc = session.alloc;
@@ -87,7 +87,7 @@ pub(crate) fn do_command<E: Ledger, T: Ledger>(
     requires ready { IsReady session.old }
     requires written { AsksWritten command }
     ensures did { (s : State) → IsAt s session.old
-        → IfOk result (λ reply. Did (done_by s command) session.new reply expansions.old expansions.new) }
+        → IfOk result (λ reply. Did (done_by s command) session.old.city.changes session.new reply expansions.old expansions.new) }
     ensures ready { OnOk result (IsReady session.new) }
 {
     match command {

@@ -2,7 +2,7 @@ use std::marker::Model;
 
 /// So many decimals, at most 9.
 #[derive(Clone, Copy)]
-pub(crate) struct Decimals {
+pub struct Decimals {
     places: u8,
 }
 
@@ -24,7 +24,7 @@ impl Model for Decimals {
 impl Decimals {
     ghost use Rattle.std.specs.Prelude.{◌≡◌, ◌≤◌};
 
-    pub(crate) fn new(places: u8) -> Decimals
+    pub fn new(places: u8) -> Decimals
         requires { places ≤ 9 }
         ensures { result ≡ places }
     {

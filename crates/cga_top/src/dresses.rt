@@ -32,7 +32,7 @@ fn reply_to(
 pub(crate) fn dress(session: &mut Session, symbol: Name, name: Name) -> Result<List<u8>, NoMemory>
     requires { IsReady session.old }
     ensures did { (s : State) (n : ℕ) → IsAt s session.old
-        → IfOk result (λ reply. Did (clothed s (dressed s.wardrobe symbol name)) session.new reply n n) }
+        → IfOk result (λ reply. Did (clothed s (dressed s.wardrobe symbol name)) session.old.city.changes session.new reply n n) }
     ensures ready { OnOk result (IsReady session.new) }
 {
     let done = session.wardrobe.dress(symbol, name);
@@ -43,7 +43,7 @@ pub(crate) fn dress(session: &mut Session, symbol: Name, name: Name) -> Result<L
 pub(crate) fn undress(session: &mut Session, symbol: Name) -> Result<List<u8>, NoMemory>
     requires { IsReady session.old }
     ensures did { (s : State) (n : ℕ) → IsAt s session.old
-        → IfOk result (λ reply. Did (stripped s symbol) session.new reply n n) }
+        → IfOk result (λ reply. Did (stripped s symbol) session.old.city.changes session.new reply n n) }
     ensures ready { OnOk result (IsReady session.new) }
 {
     if session.wardrobe.undress(symbol) {
@@ -60,7 +60,7 @@ pub(crate) fn keep_asset(
 ) -> Result<List<u8>, NoMemory>
     requires { IsReady session.old }
     ensures did { (s : State) (n : ℕ) → IsAt s session.old
-        → IfOk result (λ reply. Did (given s name made) session.new reply n n) }
+        → IfOk result (λ reply. Did (given s name made) session.old.city.changes session.new reply n n) }
     ensures ready { OnOk result (IsReady session.new) }
 {
     match made {

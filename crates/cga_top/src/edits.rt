@@ -31,7 +31,6 @@ fn work_edit<E: Ledger, T: Ledger>(
     match session.city.edit(edit, expansions, tests) {
         Ok(()) => {
             session.bill.apply(session.city.changes())?;
-            session.city.forget_changes();
             Ok(Ok(()))
         }
         Err(EditRefused::NoMemory) => Err(NoMemory),
@@ -67,7 +66,7 @@ pub(crate) fn change<E: Ledger, T: Ledger>(
     requires ready { IsReady session.old }
     requires written { IsWritten edit }
     ensures did { (s : State) → IsAt s session.old
-        → IfOk result (λ reply. Did (edited s edit) session.new reply expansions.old expansions.new) }
+        → IfOk result (λ reply. Did (edited s edit) session.old.city.changes session.new reply expansions.old expansions.new) }
     ensures ready { OnOk result (IsReady session.new) }
 {
     match session.version {
@@ -86,7 +85,7 @@ fn change_alone<E: Ledger, T: Ledger>(
     requires written { IsWritten edit }
     requires one { session.old.version ≡ One }
     ensures did { (s : State) → IsAt s session.old
-        → IfOk result (λ reply. Did (edited s edit) session.new reply expansions.old expansions.new) }
+        → IfOk result (λ reply. Did (edited s edit) session.old.city.changes session.new reply expansions.old expansions.new) }
     ensures ready { OnOk result (IsReady session.new) }
 {
     let told = work_edit(session, edit, expansions, tests)?;
@@ -106,7 +105,7 @@ fn change_and_note<E: Ledger, T: Ledger>(
     requires written { IsWritten edit }
     requires two { session.old.version ≡ Two }
     ensures did { (s : State) → IsAt s session.old
-        → IfOk result (λ reply. Did (edited s edit) session.new reply expansions.old expansions.new) }
+        → IfOk result (λ reply. Did (edited s edit) session.old.city.changes session.new reply expansions.old expansions.new) }
     ensures ready { OnOk result (IsReady session.new) }
 {
     let told = do_edit(session, edit, expansions, tests)?;
@@ -127,7 +126,7 @@ pub(crate) fn undo<E: Ledger, T: Ledger>(
 ) -> Result<List<u8>, NoMemory>
     requires { IsReady session.old }
     ensures did { (s : State) → IsAt s session.old
-        → IfOk result (λ reply. Did (stepped s Refused.NoUndo (undone s.kept s.sources)) session.new reply expansions.old expansions.new) }
+        → IfOk result (λ reply. Did (stepped s Refused.NoUndo (undone s.kept s.sources)) session.old.city.changes session.new reply expansions.old expansions.new) }
     ensures ready { OnOk result (IsReady session.new) }
 {
     let Some(last) = session.history.past().last() else {
@@ -152,7 +151,7 @@ pub(crate) fn redo<E: Ledger, T: Ledger>(
 ) -> Result<List<u8>, NoMemory>
     requires { IsReady session.old }
     ensures did { (s : State) → IsAt s session.old
-        → IfOk result (λ reply. Did (stepped s Refused.NoRedo (redone s.kept s.sources)) session.new reply expansions.old expansions.new) }
+        → IfOk result (λ reply. Did (stepped s Refused.NoRedo (redone s.kept s.sources)) session.old.city.changes session.new reply expansions.old expansions.new) }
     ensures ready { OnOk result (IsReady session.new) }
 {
     let Some(last) = session.history.future().last() else {

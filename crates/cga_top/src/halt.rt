@@ -2,7 +2,7 @@ use cga_fraction::NoMemory;
 
 /// Why a run stops before the script's end.
 #[derive(Clone, Copy, Debug, PartialEq, Eq)]
-pub(crate) enum Halt {
+pub enum Halt {
     WriteFault,
     NoMemory,
 }

@@ -24,7 +24,7 @@ use cga_script::Lines;
 use std::sync::ledger::Ledger;
 
 /// Writes all of the bytes.
-pub(crate) fn write_all<K: Sink>(out: &mut K, bytes: &[u8]) -> Result<(), Failed>
+pub fn write_all<K: Sink>(out: &mut K, bytes: &[u8]) -> Result<(), Failed>
     ensures ok { OnOk result (Appends (K.held out.old) (K.held out.new) bytes.now) }
     ensures err { OnErr result (AppendsSome (K.held out.old) (K.held out.new) bytes.now) }
     ensures cause { HasCause (K.faults out.old) (K.faults out.new) result }
@@ -39,7 +39,7 @@ pub(crate) fn write_all<K: Sink>(out: &mut K, bytes: &[u8]) -> Result<(), Failed
     Ok(())
 }
 
-/// Does what the line that is ready asks for, and writes the reply.
+/// Does what the line that is ready asks for, and writes the reply. What it changed is forgotten then.
 pub(crate) fn take_line<K: Sink, E: Ledger, T: Ledger>(
     session: &mut Session,
     lines: &mut Lines,
@@ -65,6 +65,7 @@ pub(crate) fn take_line<K: Sink, E: Ledger, T: Ledger>(
     match write_all(out, reply.as_slice()) {
         Ok(()) => {
             lines.clear();
+            session.forget_changes();
             Ok(())
         }
         Err(Failed) => Err(Halt::WriteFault),
@@ -110,8 +111,8 @@ pub(crate) fn take_piece<K: Sink, E: Ledger, T: Ledger>(
     Ok(())
 }
 
-// Sends the replies on.
-fn send_on<K: Sink>(out: &mut K) -> Result<(), Halt>
+/// Sends the replies on.
+pub fn send_on<K: Sink>(out: &mut K) -> Result<(), Halt>
     ensures flushed { OnOk result (IsTrue (K.flushed out.new)) }
     ensures faults { FaultsBy result (K.faults out.old) (K.faults out.new) }
     ensures bytes { Keeps (K.held out.old) (K.held out.new) }

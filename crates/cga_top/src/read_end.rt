@@ -2,7 +2,7 @@ use crate::halt::Halt;
 
 /// How reading a script ended.
 #[derive(Clone, Copy, Debug, PartialEq, Eq)]
-pub(crate) enum ReadEnd {
+pub enum ReadEnd {
     /// The source has no more.
     Ended,
     /// A read failed.

@@ -48,8 +48,8 @@ fn end_line<K: Sink, E: Ledger, T: Ledger>(
     Ok(())
 }
 
-// A block that is still open.
-fn end_block<K: Sink>(session: &Session, out: &mut K) -> Result<(), Halt>
+/// Refuses a block that is still open.
+pub fn end_block<K: Sink>(session: &Session, out: &mut K) -> Result<(), Halt>
     ensures ok { (s : State) → IsAt s session.now
         → OnOk result (Appends (K.held out.old) (K.held out.new) (at_end s).reply) }
     ensures err { (s : State) → IsAt s session.now

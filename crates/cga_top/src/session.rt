@@ -1,5 +1,6 @@
 ghost use Rattle.std.specs.Prelude.{◌≡◌, IfOk};
-ghost use Rattle.cga_top.specs.State.{start};
+ghost use Rattle.cga_top.specs.Changed.{no_changes};
+ghost use Rattle.cga_top.specs.State.{State, start};
 ghost use Rattle.cga_top.specs.Replies.{ok_reply};
 ghost use Rattle.cga_top.specs.Session.{IsAt};
 ghost use Rattle.cga_top.specs.Ready.{IsReady};
@@ -12,12 +13,13 @@ use cga_city::City;
 use cga_city::limits::BUDGET;
 use cga_fraction::{List, NoMemory, Text};
 use cga_script::Version;
+use cga_shape::Changes;
 use cga_undo::History;
 use std::alloc::Global;
 
 /// What a script has come to.
 #[derive(Drop)]
-pub(crate) struct Session {
+pub struct Session {
     pub(crate) alloc: Global,
     pub(crate) decimals: Decimals,
     /// Only blank lines came.
@@ -32,10 +34,29 @@ pub(crate) struct Session {
     pub(crate) quiet: bool,
 }
 
+impl Session {
+    /// What the last line changed where it was an accepted edit, until it is forgotten.
+    pub fn changes(&self) -> &Changes
+        ensures { result.now ≡ self.now.city.changes }
+    {
+        self.city.changes()
+    }
+
+    /// Forgets what was changed, which is long after a long edit. Frees its memory.
+    pub fn forget_changes(&mut self)
+        ensures none { self.new.city.changes ≡ no_changes }
+        ensures at { (s : State) → IsAt s self.old → IsAt s self.new }
+        ensures ready { IsReady self.old → IsReady self.new }
+    {
+        self.city.forget_changes();
+    }
+}
+
 /// A session that no line has come to. Takes memory.
-pub(crate) fn new_session(alloc: Global, decimals: Decimals) -> Result<Session, NoMemory>
+pub fn new_session(alloc: Global, decimals: Decimals) -> Result<Session, NoMemory>
     ensures start { IfOk result (IsAt (start decimals)) }
     ensures ready { IfOk result IsReady }
+    ensures none { IfOk result (λ session. session.city.changes ≡ no_changes) }
 {
     let history = History::new(alloc)?;
     Ok(Session {

@@ -1,11 +1,15 @@
-ghost use Rattle.std.specs.Prelude.{◌≡◌, ◌≢◌, ◌++◌, List, ℕ, IfSome, IsTrue};
+ghost use Rattle.std.specs.Prelude.{◌≡◌, ◌≢◌, ◌⊎◌, ◌++◌, List, ℕ, IfSome, IsTrue};
 ghost use Rattle.std.specs.Io.KnownBytes.{Appends};
 ghost use Rattle.cga_city.specs.Derived.{members};
+ghost use Rattle.cga_outside.specs.Causes.{Rose};
 ghost use Rattle.cga_top.specs.Hulls.{IsHullText, IsToldOf, usual};
 ghost use Rattle.cga_top.specs.Output.{output_of};
+ghost use Rattle.cga_top.specs.Outside.{Outside, outside_of};
 ghost use Rattle.cga_top.specs.Ready.{IsReady};
 ghost use Rattle.cga_top.specs.Session.{IsAt};
 ghost use Rattle.cga_top.specs.State.{start};
+ghost use Rattle.cga_top.specs.Statuses.{HoldsFew};
+ghost use Rattle.cga_top.specs.Telling.{TellMeans, TellingMeans, sunk_at};
 
 use crate::decimals::Decimals;
 use crate::hulls::hulls_text;
@@ -25,6 +29,8 @@ fn tell<K: Sink>(session: &Session, out: &mut K) -> Status
     ensures told { result ≡ Status.Done → (text : List ℕ)
         × IsHullText (members session.now.city.budget session.now.city.sources) session.now.city.sources.lots text
         × Appends (K.held out.old) (K.held out.new) text }
+    ensures means { (o : Outside) → TellMeans (IsHullText (members session.now.city.budget session.now.city.sources) session.now.city.sources.lots) result
+        (sunk_at K.Sink o out.old) (sunk_at K.Sink o out.new) }
     ensures used { result ≢ Status.Usage }
 {
     let text = match hulls_text(session.alloc, &session.city) {
@@ -50,7 +56,14 @@ fn run_and_tell<S: Source, K: Sink, E: Ledger, T: Ledger>(
     ensures told { result ≡ Status.Done → IfSome (S.left script.old) (λ bytes. (text : List ℕ)
         × IsToldOf session.old.decimals bytes text
         × Appends (K.held out.old) (K.held out.new) (output_of session.old.decimals bytes ++ text)) }
+    ensures means { TellingMeans session.old.decimals result
+        (outside_of S.Source K.Sink script.old out.old expansions.old)
+        (outside_of S.Source K.Sink script.new out.new expansions.new) }
     ensures used { result ≢ Status.Usage }
+    ensures complete { HoldsFew (S.left script.old)
+        → (Rose (S.faults script.old) (S.faults script.new) → ⊥)
+        → (Rose (K.faults out.old) (K.faults out.new) → ⊥)
+        → (result ≡ Status.Done) ⊎ (result ≡ Status.NoMemory) }
 {
     match run_in(session, script, out, expansions, tests) {
         Status::Done => tell(session, out),
@@ -70,7 +83,14 @@ fn told_of<S: Source, K: Sink, E: Ledger, T: Ledger>(
     ensures told { result ≡ Status.Done → IfSome (S.left script.old) (λ bytes. (text : List ℕ)
         × IsToldOf decimals bytes text
         × Appends (K.held out.old) (K.held out.new) (output_of decimals bytes ++ text)) }
+    ensures means { TellingMeans decimals result
+        (outside_of S.Source K.Sink script.old out.old expansions.old)
+        (outside_of S.Source K.Sink script.new out.new expansions.new) }
     ensures used { result ≢ Status.Usage }
+    ensures complete { HoldsFew (S.left script.old)
+        → (Rose (S.faults script.old) (S.faults script.new) → ⊥)
+        → (Rose (K.faults out.old) (K.faults out.new) → ⊥)
+        → (result ≡ Status.Done) ⊎ (result ≡ Status.NoMemory) }
 {
     let mut session = match new_session(alloc, decimals) {
         Ok(session) => session,
@@ -83,6 +103,9 @@ fn told_of<S: Source, K: Sink, E: Ledger, T: Ledger>(
 
 /// Replies to a script as `run_city` does without words, and behind all replies writes for each lot the least box that
 /// holds the boxes of all its shapes, drawn or not, as exact numbers. Only Done says that all was written. Takes memory.
+///
+/// `means` says when each status comes, and what was read and written then: as that of `run_city`, with what is told
+/// behind the output.
 pub fn run_with_hulls<S: Source, K: Sink, E: Ledger, T: Ledger>(
     alloc: Global,
     script: &mut S,
@@ -93,7 +116,14 @@ pub fn run_with_hulls<S: Source, K: Sink, E: Ledger, T: Ledger>(
     ensures told { result ≡ Status.Done → IfSome (S.left script.old) (λ bytes. (text : List ℕ)
         × IsToldOf usual bytes text
         × Appends (K.held out.old) (K.held out.new) (output_of usual bytes ++ text)) }
+    ensures means { TellingMeans usual result
+        (outside_of S.Source K.Sink script.old out.old expansions.old)
+        (outside_of S.Source K.Sink script.new out.new expansions.new) }
     ensures used { result ≢ Status.Usage }
+    ensures complete { HoldsFew (S.left script.old)
+        → (Rose (S.faults script.old) (S.faults script.new) → ⊥)
+        → (Rose (K.faults out.old) (K.faults out.new) → ⊥)
+        → (result ≡ Status.Done) ⊎ (result ≡ Status.NoMemory) }
 {
     told_of(alloc, Decimals::new(6), script, out, expansions, tests)
 }

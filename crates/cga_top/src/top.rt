@@ -32,7 +32,8 @@ use cga_words::{Status, WordsFault, read_words, town_script};
 use std::alloc::Global;
 use std::sync::ledger::Ledger;
 
-fn status_of(halt: Halt) -> Status
+/// How a run ends that stops.
+pub fn status_of(halt: Halt) -> Status
     ensures write { halt ≡ Halt.WriteFault → result ≡ Status.WriteFault }
     ensures memory { halt ≡ Halt.NoMemory → result ≡ Status.NoMemory }
     ensures used { result ≢ Status.Usage }
@@ -44,8 +45,8 @@ fn status_of(halt: Halt) -> Status
     }
 }
 
-// Flushes, and gives the status where that is done.
-pub(crate) fn flushed<K: Sink>(out: &mut K, status: Status) -> Status
+/// Flushes, and gives the status where that is done.
+pub fn flushed<K: Sink>(out: &mut K, status: Status) -> Status
     ensures answers { (result ≡ status) ⊎ (result ≡ Status.WriteFault) }
     ensures done { result ≢ Status.WriteFault → IsTrue (K.flushed out.new) }
     ensures fault { result ≢ status → Rose (K.faults out.old) (K.faults out.new) }

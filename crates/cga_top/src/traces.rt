@@ -69,7 +69,7 @@ pub(crate) fn judge_lines<E: Ledger, T: Ledger>(
 ) -> Result<List<u8>, NoMemory>
     requires { IsReady session.now }
     ensures { (s : State) (lines : List Line) → IsAt s session.now → IsRead reader.now lines
-        → IfOk result (λ reply. Did (judged_by s lines (judged (run_of s) lines)) session.now reply expansions.old expansions.new) }
+        → IfOk result (λ reply. Did (judged_by s lines (judged (run_of s) lines)) session.now.city.changes session.now reply expansions.old expansions.new) }
 {
     let place = place(session, reader, expansions, tests)?;
     judged_text(session.alloc, place)

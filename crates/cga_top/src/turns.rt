@@ -30,7 +30,7 @@ use std::sync::ledger::Ledger;
 fn begin_second(session: &mut Session) -> Result<List<u8>, NoMemory>
     requires { IsReady session.old }
     ensures did { (s : State) (n : ℕ) → IsAt s session.old
-        → IfOk result (λ reply. Did (second s) session.new reply n n) }
+        → IfOk result (λ reply. Did (second s) session.old.city.changes session.new reply n n) }
     ensures ready { OnOk result (IsReady session.new) }
 {
     put(&mut session.history, History::new(session.alloc)?);
@@ -71,7 +71,7 @@ fn do_asked<E: Ledger, T: Ledger>(
     requires ready { IsReady session.old }
     requires written { IfOk told AsksWritten }
     ensures did { (s : State) → IsAt s session.old
-        → IfOk result (λ reply. Did (asked s told) session.new reply expansions.old expansions.new) }
+        → IfOk result (λ reply. Did (asked s told) session.old.city.changes session.new reply expansions.old expansions.new) }
     ensures ready { OnOk result (IsReady session.new) }
 {
     match told {
@@ -99,7 +99,7 @@ fn do_outside<E: Ledger, T: Ledger>(
 ) -> Result<List<u8>, NoMemory>
     requires { IsReady session.old }
     ensures did { (s : State) → IsAt s session.old
-        → IfOk result (λ reply. Did (outside s (record { bytes = line.now; long = long })) session.new reply expansions.old expansions.new) }
+        → IfOk result (λ reply. Did (outside s (record { bytes = line.now; long = long })) session.old.city.changes session.new reply expansions.old expansions.new) }
     ensures ready { OnOk result (IsReady session.new) }
 {
     if is_second(session, line, long)? {
@@ -119,7 +119,7 @@ fn close<E: Ledger, T: Ledger>(
     requires ready { IsReady session.old }
     requires written { IfOk made IsWritten }
     ensures did { (s : State) → IsAt s session.old
-        → IfOk result (λ reply. Did (closed s made) session.new reply expansions.old expansions.new) }
+        → IfOk result (λ reply. Did (closed s made) session.old.city.changes session.new reply expansions.old expansions.new) }
     ensures ready { OnOk result (IsReady session.new) }
 {
     match made {
@@ -138,7 +138,7 @@ fn do_end<E: Ledger, T: Ledger>(
     requires ready { IsReady session.old }
     requires read { HasRead block }
     ensures did { (s : State) (b : Block) → IsAt s session.old → IsOpenAs b block
-        → IfOk result (λ reply. Did (ended s b) session.new reply expansions.old expansions.new) }
+        → IfOk result (λ reply. Did (ended s b) session.old.city.changes session.new reply expansions.old expansions.new) }
     ensures ready { OnOk result (IsReady session.new) }
 {
     match block {
@@ -149,8 +149,8 @@ fn do_end<E: Ledger, T: Ledger>(
     }
 }
 
-/// Does what a line asks for, and gives the reply.
-pub(crate) fn do_line<E: Ledger, T: Ledger>(
+/// Does what a line asks for, and gives the reply. What it changed is kept.
+pub fn do_line<E: Ledger, T: Ledger>(
     session: &mut Session,
     line: &[u8],
     long: bool,
@@ -159,7 +159,7 @@ pub(crate) fn do_line<E: Ledger, T: Ledger>(
 ) -> Result<List<u8>, NoMemory>
     requires { IsReady session.old }
     ensures did { (s : State) → IsAt s session.old
-        → IfOk result (λ reply. Did (effect s (record { bytes = line.now; long = long })) session.new reply expansions.old expansions.new) }
+        → IfOk result (λ reply. Did (effect s (record { bytes = line.now; long = long })) session.old.city.changes session.new reply expansions.old expansions.new) }
     ensures ready { OnOk result (IsReady session.new) }
 {
     match session.block.take() {

@@ -1,5 +1,5 @@
 -- The command before its options.
-use Rattle.std.proofs.Common.{◌≡◌, ◌∙◌, ap, ap₂, sym, subst, codes, true, List, [], Result, Ok, Err}
+use Rattle.std.proofs.Common.{◌≡◌, ◌∙◌, ap, ap₂, sym, subst, true, List, [], Result, Ok, Err}
 use Rattle.std.specs.Prelude.{IfOk, IfErr}
 use Rattle.clap.specs.Words.{App, Text, Kinds, FailsBy, HasKind, HasMatchesOf, app_of, new_app, is_simple, fault_of, matches_of, rows_of, found_of}
 use Rattle.clap.specs.declared.error.Error.{Error}
@@ -8,12 +8,12 @@ use Rattle.clap.specs.declared.builder.command.Command.TheViews.{out-Command as 
 use Rattle.clap.specs.Simple.{on_top, app_of_fields, Shape}
 use Rattle.clap.specs.declared.builder.command.Command.{Command}
 use Rattle.clap.specs.declared.builder.command.Command.TheOpen.{Command-F}
-use Rattle.cga_words.specs.Words.{bare_app}
+use Rattle.cga_words.specs.Words.{app_named}
 
-pub bare_of : (a b c : Command) → fields_of b ≡ record (fields_of a) { disable_help_flag = true }
-    → fields_of c ≡ record (fields_of b) { disable_version_flag = true } → app_of a ≡ new_app (codes "cga_city")
-    → app_of c ≡ bare_app
-bare_of a b c e f n =
+pub bare_of : (name : Text) (a b c : Command) → fields_of b ≡ record (fields_of a) { disable_help_flag = true }
+    → fields_of c ≡ record (fields_of b) { disable_version_flag = true } → app_of a ≡ new_app name
+    → app_of c ≡ app_named name
+bare_of name a b c e f n =
     ap app_of_fields (f ∙ ap (λ (x : Command-F Command). record x { disable_version_flag = true }) e)
     ∙ ap (on_top (λ (s : Shape). record s { disable_help_flag = true; disable_version_flag = true })) n
 

@@ -5,7 +5,7 @@ use Rattle.clap.specs.Words.{Text, fault_of}
 use Rattle.clap.specs.ValueTests.{accepts}
 use Rattle.clap.specs.declared.builder.value_parser.ValueParser.TheVariants as parser
 use Rattle.clap.proofs.OnLiterals.{clap_on_literals}
-use Rattle.cga_words.specs.Words.{command_app, given_for}
+use Rattle.cga_words.specs.Words.{command_app, given_for, wordless_app}
 
 abbrev Fits : ℕ → ℕ → Text → Type 0
 Fits low high text = accepts false (parser.Signed (pos low) (pos high)) text ≡ true
@@ -47,3 +47,8 @@ unfolding clap_on_literals
 town_first name rest more b c no_minus no_minus_more fits fits_more =
     let f = simp no_minus at fits in let m = simp no_minus_more at fits_more in
     record { pass = simp (no_minus, no_minus_more, f, m); decimals_are = simp (no_minus, no_minus_more); town_is = simp (no_minus, no_minus_more) }
+
+-- a program that takes no words is given its name alone
+pub alone_passes : (name : Text) → fault_of wordless_app (name ∷ []) ≡ []
+unfolding clap_on_literals
+alone_passes name = refl

@@ -20,9 +20,16 @@ decimals_rule = record (number_rule (codes "decimals") 0 9) { defaults = codes "
 abbrev pub town_rule : Rule
 town_rule = number_rule (codes "town") 1 200
 
--- no flags of help and of the version
+-- a command of this name, with no flags of help and of the version
+abbrev pub app_named : Text → App
+app_named name = on_top (λ s. record s { disable_help_flag = true; disable_version_flag = true }) (new_app name)
+
 abbrev pub bare_app : App
-bare_app = on_top (λ s. record s { disable_help_flag = true; disable_version_flag = true }) (new_app (codes "cga_city"))
+bare_app = app_named (codes "cga_city")
+
+-- the command of a program that takes no words
+abbrev pub wordless_app : App
+wordless_app = app_named (codes "cga_live")
 
 -- the command with its two options
 abbrev pub command_app : App

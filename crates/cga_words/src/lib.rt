@@ -12,6 +12,7 @@ mod read;
 mod status;
 mod town;
 mod wanted;
+mod wordless;
 mod words_fault;
 
 pub use exit::{Exit, OUT_OF_MEMORY, UNREADABLE, exit_of};
@@ -19,4 +20,5 @@ pub use read::read_words;
 pub use status::Status;
 pub use town::town_script;
 pub use wanted::Wanted;
+pub use wordless::read_none;
 pub use words_fault::WordsFault;

@@ -16,7 +16,7 @@ returns-in_default-clause-did g c = λ s st.
     let future = c.args.session.now.history.future in
     let none : slice_get future (length future - 1) ≡ None = subst (λ (p : List Sources). slice_get p (length p - 1) ≡ None) c.future.ensures.value (sym (c.in_default.ensures {u = tt}).value) in
     let nothing = no_step s refused.NoRedo _ (redone_nowhere s c.args.session.now.history st.kept none) in
-    subst (λ (e : Effect). IfOk c.refusal_text.result (λ reply. Did e c.args.session.now reply c.args.expansions.now c.args.expansions.now)) (sym nothing) (search rules)
+    subst (λ (e : Effect). IfOk c.refusal_text.result (λ reply. Did e c.args.session.now.city.changes c.args.session.now reply c.args.expansions.now c.args.expansions.now)) (sym nothing) (search rules)
 
 pub do_edit-requires-clause-lots : goal.do_edit-requires-clause-lots
 do_edit-requires-clause-lots g c =

@@ -12,11 +12,11 @@ pub returns-in_ok-apply-in-Ok : goal.returns-in_ok-apply-in-Ok
 returns-in_ok-apply-in-Ok g c =
     let can = can_be_left c.args.session.now.city c.sources-before.result.now c.args.edit c.sources-before.ensures.value c.sources-before.ensures.sound c.sources-before.ensures.within c.requires.lots in
     let done = c.in-Ok.ensures {u = tt} in
-    rw c.forget_changes.ensures (record {
+    record {
       before_is = refl;
       sound = can.sound;
       fits = can.fits;
-      done = (c.edit.new.self.changes, done);
+      done = done;
       bill = c.in_ok-apply-in-Ok.ensures.ok _ _ c.requires.ready.bill (balances c.args.session.now.city c.args.edit c.edit.new.self _ _ can done c.changes.result.now c.changes.ensures);
       others = refl;
-    })
+    }

@@ -1,4 +1,4 @@
-use Rattle.std.proofs.Common.{◌≡◌, ◌∙◌, ap, ap₂, refl, rules, map, string_bytes, Some}
+use Rattle.std.proofs.Common.{◌≡◌, ◌∙◌, ap, ap₂, refl, rules, codes, map, string_bytes, Some}
 use Rattle.std.specs.Prelude.{pos}
 use Rattle.clap.specs.Words.{App, app_of, rule_of, with_rule, fault_of, is_simple_and_free}
 use Rattle.clap.specs.declared.builder.value_parser.ValueParser.{ValueParser}
@@ -20,7 +20,7 @@ returns c =
     let lots_parser : c.value_parser-town.result.value_parser ≡ Some (parser.Signed (pos 1) (pos 200)) = lots_given.1 ∙ ap (λ (q : ValueParser). Some q) (lots_given.2 ∙ lots) in
     let decimals_is : rule_of c.default_value-decimals.result ≡ decimals_rule = search rules in
     let town_is : rule_of c.value_parser-town.result ≡ town_rule = search rules in
-    let bare_is : app_of c.disable_version_flag.result ≡ bare_app = bare_of c.new-3.result c.disable_help_flag.result c.disable_version_flag.result c.disable_help_flag.ensures c.disable_version_flag.ensures c.new-3.ensures.app in
+    let bare_is : app_of c.disable_version_flag.result ≡ bare_app = bare_of (codes "cga_city") c.new-3.result c.disable_help_flag.result c.disable_version_flag.result c.disable_help_flag.ensures c.disable_version_flag.ensures c.new-3.ensures.app in
     let app_is : app_of c.in_ok-command.command ≡ command_app = c.in_ok-command.ensures.shape (search rules)
     ∙ ap₂ with_rule (c.in_ok-arg.ensures.shape (search rules) ∙ ap₂ with_rule bare_is decimals_is) town_is in
     let parse = c.try_get_matches_from-parse in

@@ -1,0 +1,5 @@
+mod Balanced
+mod Turns
+mod Lived
+mod Reads
+mod Ends

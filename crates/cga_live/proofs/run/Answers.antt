@@ -1,0 +1,8 @@
+use Rattle.cga_live.proofs.Ends.{live_headline, none_means}
+use Rattle.cga_live.proofs.run.Goals as goal
+
+pub returns-clause-headline : goal.returns-clause-headline
+returns-clause-headline g c = λ done. live_headline _ _ _ _ c.run_live.ensures.means done
+
+pub returns-clause-means : goal.returns-clause-means
+returns-clause-means g c = (c.run_live.new.expansions, rw c.new-expansions.ensures at c.run_live.ensures.means)

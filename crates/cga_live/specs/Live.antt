@@ -1,0 +1,94 @@
+-- What is written of a script: the reply to each line, and behind it what the line changed.
+use Rattle.std.specs.Prelude.{◌≡◌, ℕ, ◌+◌, ◌-◌, List, [], ◌∷◌, ◌++◌, map, take, Bool, count_by}
+use Rattle.cga_bill.specs.Bill.{Balances}
+use Rattle.cga_city.specs.Lots.{names_of}
+use Rattle.cga_delta.specs.Text.{delta_text_of}
+use Rattle.cga_script.specs.Lines.{Line, cut, clipped, lines_of}
+use Rattle.cga_shape.specs.declared.changes.Changes.{Changes}
+use Rattle.cga_shape.specs.declared.drawn.Drawn.{Drawn}
+use Rattle.cga_top.specs.Changed.{HasChanged}
+use Rattle.cga_top.specs.Output.{effect_of_all, output_of}
+use Rattle.cga_top.specs.Replies.{at_end, drawn_by, effect}
+use Rattle.cga_top.specs.State.{State, start}
+
+-- a line, and what is told that it changed
+pub record Turn : Type 0 where
+  pub line : Line
+  pub changes : Changes
+
+abbrev pub lines_in : List Turn → List Line
+lines_in turns = map (λ turn. turn.line) turns
+
+-- what the lines of turns come to
+abbrev pub after : State → List Turn → State
+after s turns = (effect_of_all s (lines_in turns)).state
+
+-- what a `print` draws, of all lots
+abbrev pub drawn_at : State → List Drawn
+drawn_at s = drawn_by s (names_of s.sources.lots)
+
+-- what is told is what the line changed: of an accepted edit the instances that went and came, of any other line none. What
+-- is drawn before the line together with what came is what is drawn after it together with what went, each as often
+pub record IsTold (s : State) (turn : Turn) : Type 0 where
+  pub changed : HasChanged (effect s turn.line).works turn.changes
+  pub balance : Balances (drawn_at s) (drawn_at (effect s turn.line).state) turn.changes
+
+-- each of them
+abbrev pub AreTold : State → List Turn → Type 0
+AreTold s [] = Unit {0}
+AreTold s (turn ∷ turns) = IsTold s turn × AreTold (effect s turn.line).state turns
+
+-- ---- texts
+
+-- of each turn the reply to its line, and then the text of what it changed
+abbrev pub text_of : State → List Turn → List ℕ
+text_of s [] = []
+text_of s (turn ∷ turns) = ((effect s turn.line).reply ++ delta_text_of turn.changes) ++ text_of (effect s turn.line).state turns
+
+-- the replies alone
+abbrev pub replies_of : State → List Turn → List ℕ
+replies_of s [] = []
+replies_of s (turn ∷ turns) = (effect s turn.line).reply ++ replies_of (effect s turn.line).state turns
+
+-- what stands after the last LF is a line where it isn't empty, and keeps its CR
+abbrev pub last_of : List ℕ → List Line
+last_of [] = []
+last_of (byte ∷ bytes) = clipped (byte ∷ bytes) ∷ []
+
+-- the lines of a script
+abbrev pub all_lines : List ℕ → List Line
+all_lines bytes = lines_of bytes ++ last_of (cut bytes).rest
+
+-- the reply to the end of a script
+abbrev pub end_of : ℕ → List ℕ → List ℕ
+end_of decimals bytes = (at_end (effect_of_all (start decimals) (all_lines bytes)).state).reply
+
+-- ---- who applies what is told
+
+-- of each test, how many instances a reader has that meet it
+abbrev pub Having : Type 0
+Having = (Drawn → Bool) → ℕ
+
+abbrev pub nothing : Having
+nothing test = 0
+
+-- a reader takes turns: what came is added, and what went is taken away
+abbrev pub applied : Having → List Turn → Having
+applied mine [] = mine
+applied mine (turn ∷ turns) = applied (λ test. (mine test + count_by test turn.changes.come) - count_by test turn.changes.gone) turns
+
+-- who has nothing at first has after each line what a `print` there draws, each as often
+abbrev pub Follows : State → List Turn → Type 0
+Follows s turns = (n : ℕ) (test : Drawn → Bool) → applied nothing (take n turns) test ≡ count_by test (drawn_at (after s (take n turns)))
+
+-- ---- a whole script
+
+-- each line with what it changed, and the end, where coordinates are printed with so many decimals. The replies alone are
+-- the output that the script has without what was changed
+pub record IsLiveOf (decimals : ℕ) (bytes text : List ℕ) : Type 0 where
+  pub turns : List Turn
+  pub lines : lines_in turns ≡ all_lines bytes
+  pub told : AreTold (start decimals) turns
+  pub whole : text ≡ text_of (start decimals) turns ++ end_of decimals bytes
+  pub output : replies_of (start decimals) turns ++ end_of decimals bytes ≡ output_of decimals bytes
+  pub follows : Follows (start decimals) turns

@@ -1,0 +1,135 @@
+//! A program beside `cga_city`: it replies to a script in the same way, and after the reply to each accepted edit tells
+//! which instances went and which came by it.
+//!
+//! It must not know rules, lots or how an edit is worked. It knows the system's input and output and lines one after
+//! another. Whoever applies what is told to the instances that are kept, none at first, has those that a `print` would
+//! draw.
+//!
+//! What callers get wrong: without the exit status 0 the last of what was told may be there in part.
+#![tactic(auto)]
+
+mod exit;
+mod lines;
+mod script;
+
+ghost use Rattle.std.specs.Prelude.{◌≡◌, ◌≢◌, ◌<◌, ◌⊎◌, List, ℕ, [], ◌∷◌, map, string_bytes, IfOk, IfSome, IsErr};
+ghost use Rattle.std.specs.Io.KnownBytes.{Appends};
+ghost use Rattle.std.specs.Process.{exit_status};
+ghost use Rattle.std.specs.Vec.Iter.{into_iter_items};
+ghost use Rattle.cga_live.specs.Live.{IsLiveOf};
+ghost use Rattle.cga_live.specs.Means.{LiveMeans};
+ghost use Rattle.cga_outside.specs.Causes.{Rose};
+ghost use Rattle.cga_top.specs.Hulls.{usual};
+ghost use Rattle.cga_top.specs.Outside.{outside_of};
+ghost use Rattle.cga_top.specs.Statuses.{HoldsFew};
+ghost use Rattle.cga_words.specs.Words.{wordless_app};
+ghost use Rattle.clap.specs.Words.{fault_of};
+
+use crate::exit::{exit_of, unreadable_words};
+use crate::script::run_live;
+use cga_fraction::Steps;
+use cga_outside::{Sink, Source, StdSink, StdSource};
+use cga_top::Status;
+use cga_words::{Exit, WordsFault, read_none};
+use std::alloc::Global;
+use std::env::Args;
+use std::io::{BufWriter, ErrorKind};
+use std::marker::Brand;
+use std::process::ExitCode;
+use std::sync::ledger::{Blank, Ledger};
+use std::{env, io};
+
+// The words of the command line, the program's name first.
+fn words(alloc: Global, found: io::Result<Args>) -> Result<Vec<String>, Exit>
+    ensures given { IfOk found (λ given. IfOk result (λ words. words.items ≡ into_iter_items given)) }
+{
+    match found {
+        Ok(words) => match words.collect(alloc) {
+            Ok(words) => Ok(words),
+            Err(_) => Err(exit_of(Status::NoMemory)),
+        },
+        Err(error) if error.kind() == ErrorKind::OutOfMemory => Err(exit_of(Status::NoMemory)),
+        Err(_) => Err(unreadable_words()),
+    }
+}
+
+// Replies to the script, and tells what its edits change, where there is no word.
+fn run<S: Source, K: Sink, E: Ledger, T: Ledger>(
+    rt: &mut HostRuntime,
+    words: &[String],
+    script: &mut S,
+    out: &mut K,
+    expansions: Blank,
+    tests: Blank,
+) -> Status
+    requires expansions_name { expansions.name ≡ E.name }
+    requires expansions_parts { expansions.parts ≡ E.parts }
+    requires expansions_some { 0 < expansions.parts }
+    requires tests_name { tests.name ≡ T.name }
+    requires tests_parts { tests.parts ≡ T.parts }
+    requires tests_some { 0 < tests.parts }
+
+    // Where all was done, what was written is each line's reply and behind it what the line changed.
+    ensures headline { result ≡ Status.Done → IfSome (S.left script.old) (λ bytes. (text : List ℕ)
+        × IsLiveOf usual bytes text
+        × Appends (K.held out.old) (K.held out.new) text) }
+
+    // When each status comes, and what was read and written then.
+    ensures means { (expanded : ℕ) × LiveMeans usual result
+        (outside_of S.Source K.Sink script.old out.old 0)
+        (outside_of S.Source K.Sink script.new out.new expanded) }
+
+    // Usage comes where `clap` refuses the words, and never where there is no word.
+    ensures usage { result ≡ Status.Usage → fault_of wordless_app (map string_bytes words.now) ≢ [] }
+    ensures refused { fault_of wordless_app (map string_bytes words.now) ≢ []
+        → (result ≡ Status.Usage) ⊎ (result ≡ Status.NoMemory) }
+    ensures alone { (name : List ℕ) → map string_bytes words.now ≡ name ∷ []
+        → result ≢ Status.Usage }
+
+    // Nothing but a fault, a script that is too long and want of memory keeps a script from being done.
+    ensures complete { fault_of wordless_app (map string_bytes words.now) ≡ []
+        → HoldsFew (S.left script.old)
+        → (Rose (S.faults script.old) (S.faults script.new) → ⊥)
+        → (Rose (K.faults out.old) (K.faults out.new) → ⊥)
+        → (result ≡ Status.Done) ⊎ (result ≡ Status.NoMemory) }
+{
+    match read_none(rt.alloc(), words) {
+        Ok(()) => {}
+        Err(WordsFault::Usage) => return Status::Usage,
+        Err(WordsFault::NoMemory) => return Status::NoMemory,
+    }
+    let mut expansions = Steps::<E>::new(rt, expansions);
+    let mut tests = Steps::<T>::new(rt, tests);
+    run_live(rt.alloc(), script, out, &mut expansions, &mut tests)
+}
+
+fn end(rt: &HostRuntime, exit: Exit) -> ExitCode
+    ensures { exit_status result ≡ exit.status }
+{
+    if !exit.line.is_empty() {
+        let _ = eprintln!(rt; "{}", exit.line);
+    }
+    ExitCode::from(exit.status)
+}
+
+fn main(mut rt: HostRuntime) -> ExitCode {
+    let exit = match words(rt.alloc(), env::args(&rt)) {
+        Ok(words) => match BufWriter::new(rt.alloc(), rt.stdout()) {
+            Ok(writer) => {
+                let mut script = StdSource::new(rt.reader());
+                let mut out = StdSink::new(writer);
+                exit_of(run::<_, _, Brand, Brand>(
+                    &mut rt,
+                    words.as_slice(),
+                    &mut script,
+                    &mut out,
+                    Blank::new(1),
+                    Blank::new(1),
+                ))
+            }
+            Err(_) => exit_of(Status::NoMemory),
+        },
+        Err(exit) => exit,
+    };
+    end(&rt, exit)
+}

@@ -1,0 +1,115 @@
+-- What is told behind the output.
+use Rattle.std.proofs.Common.{◌≡◌, ◌≢◌, ◌∙◌, ◌⊎◌, inl, inr, ℕ, List, ◌++◌, length, Option, Some, None, refl, sym, ap, subst, take-length}
+use Rattle.std.specs.Prelude.{IfSome, IsTrue}
+use Rattle.std.specs.Io.KnownBytes.{Appends}
+use Rattle.cga_outside.specs.Causes.{Rose}
+use Rattle.cga_shape.specs.declared.sources.Sources.{Sources}
+use Rattle.cga_city.specs.Derived.{members}
+use Rattle.cga_words.specs.declared.status.Status.{Status}
+use Rattle.cga_words.specs.declared.status.Status.TheVariants.{Done, Usage, ReadFault, WriteFault, TooLong, NoMemory}
+use Rattle.cga_top.specs.Hulls.{IsHullText, IsToldIn, IsToldOf}
+use Rattle.cga_top.specs.Output.{effect_of_script, output_of}
+use Rattle.cga_top.specs.Outside.{Outside}
+use Rattle.cga_top.specs.Prefixes.{AppendsSome}
+use Rattle.cga_top.specs.Session.{IsAt}
+use Rattle.cga_top.specs.State.{State}
+use Rattle.cga_top.specs.Statuses.{HoldsFew, StatusMeans, WritesAll}
+use Rattle.cga_top.specs.Telling.{TellMeans, TellingMeans, TellsAll, TellsSome}
+use Rattle.cga_top.specs.declared.session.Session.{Session}
+use Rattle.cga_top.proofs.Complete.{complete_of}
+use Rattle.cga_top.proofs.Effects.{some_after, spent_then}
+use Rattle.cga_top.proofs.Ends.{IsFlushed, SameSource, all_of_it, flushed_as, some_kept}
+use Rattle.cga_top.proofs.Known.{appends_more}
+
+-- what is told of a session's lots
+abbrev pub ToldBy : Session → List ℕ → Type 0
+ToldBy session text = IsHullText (members session.city.budget session.city.sources) session.city.sources.lots text
+
+told_in : (s : State) (session : Session) (text : List ℕ) → IsAt s session → ToldBy session text → IsToldIn s text
+told_in s session text at told =
+    subst (λ (b : ℕ). IsHullText (members b s.sources) s.sources.lots text) at.budget
+    (subst (λ (x : Sources). IsHullText (members session.city.budget x) x.lots text) at.sources told)
+
+-- all of the text was written, and then flushed
+pub tell_done : (Tells : List ℕ → Type 0) (text : List ℕ) (status : Status) (old mid new : Outside) → Tells text
+      → Appends old.held mid.held text → mid.writes_failed ≡ old.writes_failed
+    → IsFlushed status Done mid new → TellMeans Tells status old new
+tell_done Tells text status old mid new told all calm f =
+    let other : Done ≢ WriteFault = λ e. cc in
+    flushed_as (λ (s : Status). TellMeans Tells s old new) status Done old mid new other f calm
+    (λ flushed still. (flushed, still, (text, told, all_of_it old.held mid.held new.held text all f.held)))
+    (λ rose. (rose, (text, told, some_kept old.held mid.held new.held text all f.held)))
+
+some_all : (a b : Option (List ℕ)) (bytes : List ℕ) → Appends a b bytes → AppendsSome a b bytes
+some_all a b bytes p = (length bytes, rw take-length p)
+
+both_known : (P R Q : List ℕ → Type 0) (known : Option (List ℕ)) → IfSome known P → IfSome known R
+      → ((bytes : List ℕ) → P bytes → R bytes → Q bytes) → IfSome known Q
+both_known P R Q None p r each = tt
+both_known P R Q (Some bytes) p r each = each bytes p r
+
+-- behind a script that was done
+module _ (d : ℕ) (session : Session) (old mid new : Outside) (done : StatusMeans d Done old mid) (left : IfSome old.left (λ bytes. IsAt (effect_of_script d bytes).state session)) (source : SameSource mid new) (spent : new.expanded ≡ mid.expanded) where
+  told_all : (text : List ℕ) → ToldBy session text → Appends mid.held new.held text → (bytes : List ℕ)
+        → WritesAll d bytes old mid → IsAt (effect_of_script d bytes).state session → TellsAll d bytes old new
+  told_all text told all bytes w at = record {
+    few = w.few;
+    text = text;
+    told = told_in (effect_of_script d bytes).state session text at told;
+    output = appends_more old.held mid.held new.held (output_of d bytes) text w.output all;
+    spent = record { by = spent_then (effect_of_script d bytes).works old.expanded mid.expanded new.expanded spent w.spent.by };
+  }
+
+  told_some : (text : List ℕ) → ToldBy session text → AppendsSome mid.held new.held text → (bytes : List ℕ)
+        → WritesAll d bytes old mid → IsAt (effect_of_script d bytes).state session → TellsSome d bytes old new
+  told_some text told some bytes w at =
+      inr (text, told_in (effect_of_script d bytes).state session text at told, some_after old.held mid.held new.held (output_of d bytes) text w.output some)
+
+  none_told : new ≡ mid → (bytes : List ℕ) → WritesAll d bytes old mid → IsAt (effect_of_script d bytes).state session
+        → AppendsSome old.held new.held (output_of d bytes)
+  none_told same bytes w at = subst (λ (o : Outside). AppendsSome old.held o.held (output_of d bytes)) (sym same) (some_all old.held mid.held (output_of d bytes) w.output)
+
+  pub telling_means : (status : Status) → TellMeans (ToldBy session) status mid new → TellingMeans d status old new
+  telling_means Done t = (
+    rw source.ended done.0,
+    t.0,
+    record { reads = source.reads ∙ done.2.reads; writes = t.1 ∙ done.2.writes },
+    both_known _ _ (λ bytes. TellsAll d bytes old new) old.left done.3 left (told_all t.2.0 t.2.1 t.2.2),
+  )
+  telling_means WriteFault t = (
+    subst (λ (n : ℕ). Rose n new.writes_failed) done.2.writes t.0,
+    both_known _ _ (λ bytes. TellsSome d bytes old new) old.left done.3 left (told_some t.1.0 t.1.1 t.1.2),
+  )
+  telling_means NoMemory same = (
+    record { reads = source.reads ∙ done.2.reads; writes = ap (λ (o : Outside). o.writes_failed) same ∙ done.2.writes },
+    both_known _ _ (λ bytes. AppendsSome old.held new.held (output_of d bytes)) old.left done.3 left (none_told same),
+  )
+  telling_means ReadFault bad = absurd bad
+  telling_means TooLong bad = absurd bad
+  telling_means Usage bad = absurd bad
+
+known_more : (P Q : List ℕ → Type 0) (known : Option (List ℕ)) → IfSome known P
+      → ((bytes : List ℕ) → P bytes → Q bytes) → IfSome known Q
+known_more P Q None p each = tt
+known_more P Q (Some bytes) p each = each bytes p
+
+-- where nothing more was told
+pub untold_means : (d : ℕ) (status : Status) (old new : Outside) → StatusMeans d status old new → status ≢ Done
+      → TellingMeans d status old new
+untold_means d Done old new m other = absurd (other refl)
+untold_means d WriteFault old new m other = (m.0, known_more _ (λ bytes. TellsSome d bytes old new) old.left m.1 (λ bytes some. inl some))
+untold_means d ReadFault old new m other = m
+untold_means d TooLong old new m other = m
+untold_means d NoMemory old new m other = m
+untold_means d Usage old new m other = m
+
+pub telling_complete : (d : ℕ) (status : Status) (old new : Outside) → TellingMeans d status old new
+      → HoldsFew old.left → (Rose old.reads_failed new.reads_failed → ⊥)
+      → (Rose old.writes_failed new.writes_failed → ⊥) → status ≢ Usage
+    → (status ≡ Done) ⊎ (status ≡ NoMemory)
+telling_complete d Done old new m few calm silent used = inl refl
+telling_complete d NoMemory old new m few calm silent used = inr refl
+telling_complete d WriteFault old new m few calm silent used = absurd (silent m.0)
+telling_complete d ReadFault old new m few calm silent used = complete_of d ReadFault old new m few calm silent used
+telling_complete d TooLong old new m few calm silent used = complete_of d TooLong old new m few calm silent used
+telling_complete d Usage old new m few calm silent used = absurd (used refl)

@@ -1,0 +1,17 @@
+use Rattle.std.proofs.Common.{refl, sym, subst, ◌∙◌}
+use Rattle.cga_top.specs.Outside.{outside_of}
+use Rattle.cga_top.specs.Statuses.{StatusMeans}
+use Rattle.cga_words.specs.declared.status.Status.{Status}
+use Rattle.cga_top.proofs.Tellings.{telling_complete, telling_means, untold_means}
+use Rattle.cga_top.proofs.telling.run_and_tell.Goals as goal
+
+pub returns-in-Done-clause-means : goal.returns-in-Done-clause-means
+returns-in-Done-clause-means g c =
+    let old = outside_of g.S.Source g.K.Sink c.args.script.now c.args.out.now c.args.expansions.now in
+    let mid = outside_of g.S.Source g.K.Sink c.run_in.new.script c.run_in.new.out c.run_in.new.expansions in
+    let d = c.args.session.now.decimals in
+    telling_means d c.run_in.new.session old mid _ (subst (λ (s : Status). StatusMeans d s old mid) c.in-Done.is c.run_in.ensures.means) (c.run_in.ensures.left c.in-Done.is)
+    (record { left = refl; ended = refl; reads = refl }) refl _ (c.tell.ensures.means mid)
+
+pub returns-in-Done-clause-complete : goal.returns-in-Done-clause-complete
+returns-in-Done-clause-complete g c = λ few calm silent. telling_complete _ _ _ _ (returns-in-Done-clause-means g c) few calm silent c.tell.ensures.used

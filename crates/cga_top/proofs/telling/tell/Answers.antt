@@ -1,0 +1,10 @@
+use Rattle.std.proofs.Common.{refl}
+use Rattle.cga_top.specs.Telling.{sunk_at}
+use Rattle.cga_top.proofs.Tellings.{ToldBy, tell_done}
+use Rattle.cga_top.proofs.telling.tell.Goals as goal
+
+pub returns-in-Ok-write_all-clause-means : goal.returns-in-Ok-write_all-clause-means
+returns-in-Ok-write_all-clause-means g c = λ o.
+    let f = c.flushed.ensures in
+    tell_done (ToldBy c.args.session.now) c.as_slice.result.now _ (sunk_at g.K.Sink o c.args.out.now) (sunk_at g.K.Sink o c.write_all.new.out) _ (c.in-Ok.ensures) c.in-Ok-write_all.ensures.ok c.in-Ok-write_all.ensures.cause
+    (record { source = record { left = refl; ended = refl; reads = refl }; expanded = refl; held = f.bytes; answers = f.answers; done = f.done; fault = f.fault; calm = f.calm })
