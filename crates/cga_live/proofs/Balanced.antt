@@ -138,7 +138,7 @@ right_of s t e off same fair = record {
 }
 
 either_right : (s : State) (b : Bool) (t e : Effect) → (b ≡ true → IsRight s t) → (b ≡ false → IsRight s e)
-      → IsRight s (if b then t else e)
+    → IsRight s (if b then t else e)
 either_right s true t e h k = h refl
 either_right s false t e h k = k refl
 
@@ -181,7 +181,7 @@ effect_right s (Some block) line is_open un =
     (λ more. record { balance = nothing_changed (drawn_at s); unbegun = λ yes. let bad : false ≡ true = sym off ∙ yes in cc })
 
 pub line_balances : (s : State) (line : Line) → IsUnbegun s → (changes : Changes)
-      → HasChanged (effect s line).works changes → Balances (drawn_at s) (drawn_at (effect s line).state) changes
+    → HasChanged (effect s line).works changes → Balances (drawn_at s) (drawn_at (effect s line).state) changes
 unfolding effect
 line_balances s line un changes has = (effect_right s s.block line refl un).balance changes has
 

@@ -44,7 +44,7 @@ module _ (s : State) (xs ys : List Line) (first second : List Turn) (are : lines
   both_text = sym (text_more s first second ∙ ap (λ (t : State). text_of s first ++ text_of t second) state_is)
 
 pub lived_nothing : (s : State) (session : Session) (a : Option (List ℕ)) (i : ℕ) → IsHere s session
-      → Lived s [] session a a i i
+    → Lived s [] session a a i i
 lived_nothing s session a i here = record {
   turns = [];
   lines_are = refl;
@@ -55,7 +55,7 @@ lived_nothing s session a i here = record {
 }
 
 pub lived_more : (s : State) (xs ys : List Line) (old new : Session) (a b c : Option (List ℕ)) (i j k : ℕ)
-      → Lived s xs old a b i j → Lived (effect_of_all s xs).state ys new b c j k → Lived s (xs ++ ys) new a c i k
+    → Lived s xs old a b i j → Lived (effect_of_all s xs).state ys new b c j k → Lived s (xs ++ ys) new a c i k
 lived_more s xs ys old new a b c i j k p q =
     let e : Effect = effect_of_all s xs in
     let f : Effect = effect_of_all e.state ys in
@@ -74,7 +74,7 @@ pub begun_none : (s : State) (lines : List Line) (a : Option (List ℕ)) → Beg
 begun_none s lines a = record { turns = []; left = lines; lines_are = refl; told = tt; written = some_nothing a [] }
 
 pub begun_all : (s : State) (lines : List Line) (session : Session) (a b c : Option (List ℕ)) (i j : ℕ)
-      → Lived s lines session a b i j → Keeps b c → Begun s lines a c
+    → Lived s lines session a b i j → Keeps b c → Begun s lines a c
 begun_all s lines session a b c i j p keeps = record {
   turns = p.turns;
   left = [];
@@ -93,7 +93,7 @@ begun_rest s xs ys a c p = record {
 }
 
 pub begun_more : (s : State) (xs ys : List Line) (old : Session) (a b c : Option (List ℕ)) (i j : ℕ)
-      → Lived s xs old a b i j → Begun (effect_of_all s xs).state ys b c → Begun s (xs ++ ys) a c
+    → Lived s xs old a b i j → Begun (effect_of_all s xs).state ys b c → Begun s (xs ++ ys) a c
 begun_more s xs ys old a b c i j p q = record {
   turns = p.turns ++ q.turns;
   left = q.left;
@@ -106,7 +106,7 @@ begun_more s xs ys old a b c i j p q = record {
 
 -- the line that is ready, by what is told of it
 pub same_line : (p : Pending) (bytes : List ℕ) (long : Bool) → bytes ≡ (ready_line p).bytes
-      → long ≡ (ready_line p).long → line_of bytes long ≡ ready_line p
+    → long ≡ (ready_line p).long → line_of bytes long ≡ ready_line p
 same_line p bytes long b l = ap (λ (x : List ℕ). line_of x long) b ∙ ap (line_of (ready_line p).bytes) l
 
 line_effect : (s : State) (line : Line) → effect_of_all s (line ∷ []) ≡ effect s line
@@ -115,7 +115,7 @@ line_effect s line = all_more s line [] ∙ ap (followed_by (effect s line)) (al
 module _ (s : State) (line : Line) (old mid : Session) (reply : List ℕ) (i j : ℕ) (un : IsUnbegun s) (forgot : old.city.changes ≡ no_changes) (did : Did (effect s line) old.city.changes mid reply i j) where
   -- a line was done, and its reply and what it changed were written
   pub lived_line : (new : Session) (a b c : Option (List ℕ)) → Appends a b reply
-        → Appends b c (delta_text_of mid.city.changes) → IsAt (effect s line).state new → new.city.changes ≡ no_changes
+      → Appends b c (delta_text_of mid.city.changes) → IsAt (effect s line).state new → new.city.changes ≡ no_changes
       → Lived s (line ∷ []) new a c i j
   lived_line new a b c first then at none =
       let changes : Changes = mid.city.changes in
@@ -132,7 +132,7 @@ module _ (s : State) (line : Line) (old mid : Session) (reply : List ℕ) (i j :
 
   -- some of it was written
   begun_text : (a c : Option (List ℕ)) → AppendsSome a c ((effect s line).reply ++ delta_text_of mid.city.changes)
-        → Begun s (line ∷ []) a c
+      → Begun s (line ∷ []) a c
   begun_text a c some =
       let changes : Changes = mid.city.changes in
       let has : HasChanged (effect s line).works changes = did.changed forgot in
@@ -148,17 +148,17 @@ module _ (s : State) (line : Line) (old mid : Session) (reply : List ℕ) (i j :
   begun_reply a c some = begun_text a c (some_more a c (effect s line).reply (delta_text_of mid.city.changes) (subst (AppendsSome a c) did.reply some))
 
   pub begun_change : (a b c : Option (List ℕ)) → Appends a b reply → AppendsSome b c (delta_text_of mid.city.changes)
-        → Begun s (line ∷ []) a c
+      → Begun s (line ∷ []) a c
   begun_change a b c first some = begun_text a c (some_after a b c (effect s line).reply (delta_text_of mid.city.changes) (subst (Appends a b) did.reply first) some)
 
 -- ---- the lines of a piece
 
 pub begins : (s : State) (all : List Line) (session : Session) (a : Option (List ℕ)) (i : ℕ) → IsHere s session
-      → Underway s all all session a a i i
+    → Underway s all all session a a i i
 begins s all session a i here = record { done = []; lived = lived_nothing s session a i here; both = refl }
 
 pub goes_on : (s : State) (all left more : List Line) (session : Session) (a b : Option (List ℕ)) (i j : ℕ)
-      → left ≡ more → Underway s all left session a b i j → Underway s all more session a b i j
+    → left ≡ more → Underway s all left session a b i j → Underway s all more session a b i j
 goes_on s all left more session a b i j e p = subst (λ (l : List Line). Underway s all l session a b i j) e p
 
 module _ (s : State) (all left more : List Line) (line : Line) (session : Session) (a b c : Option (List ℕ)) (i j : ℕ) (e : left ≡ line ∷ more) (p : Underway s all left session a b i j) where
@@ -166,7 +166,7 @@ module _ (s : State) (all left more : List Line) (line : Line) (session : Sessio
   so_far = append_assoc p.done (line ∷ []) more ∙ ap (λ (l : List Line). p.done ++ l) (sym e) ∙ p.both
 
   pub one_more : (new : Session) (k : ℕ) → ((t : State) → IsHere t session → Lived t (line ∷ []) new b c j k)
-        → Underway s all more new a c i k
+      → Underway s all more new a c i k
   one_more new k each = record {
     done = p.done ++ line ∷ [];
     lived = lived_more s p.done (line ∷ []) session new a b c i j k p.lived (each (effect_of_all s p.done).state p.lived.here);
@@ -179,15 +179,15 @@ module _ (s : State) (all left more : List Line) (line : Line) (session : Sessio
       (begun_rest s (p.done ++ line ∷ []) more a c (begun_more s p.done (line ∷ []) session a b c i j p.lived (each (effect_of_all s p.done).state p.lived.here)))
 
 pub all_done : (s : State) (all left : List Line) (session : Session) (a b : Option (List ℕ)) (i j : ℕ) → left ≡ []
-      → Underway s all left session a b i j → Lived s all session a b i j
+    → Underway s all left session a b i j → Lived s all session a b i j
 all_done s all left session a b i j none p =
     subst (λ (l : List Line). Lived s l session a b i j) (sym (append-nil p.done) ∙ ap (λ (l : List Line). p.done ++ l) (sym none) ∙ p.both) p.lived
 
 -- ---- the end of a script
 
 pub finished : (s : State) (lines : List Line) (session : Session) (a b c : Option (List ℕ)) (i j : ℕ)
-      → Lived s lines session a b i j → ((t : State) → IsAt t session → Appends b c (at_end t).reply)
-      → Finished s lines a c i j
+    → Lived s lines session a b i j → ((t : State) → IsAt t session → Appends b c (at_end t).reply)
+    → Finished s lines a c i j
 finished s lines session a b c i j p end = record {
   turns = p.turns;
   lines_are = p.lines_are;
@@ -197,7 +197,7 @@ finished s lines session a b c i j p end = record {
 }
 
 pub unfinished_line : (s : State) (lines : List Line) (a c : Option (List ℕ)) → Begun s lines a c
-      → Unfinished s lines a c
+    → Unfinished s lines a c
 unfinished_line s lines a c p = record {
   turns = p.turns;
   left = p.left;
@@ -207,8 +207,8 @@ unfinished_line s lines a c p = record {
 }
 
 pub unfinished_end : (s : State) (lines : List Line) (session : Session) (a b c : Option (List ℕ)) (i j : ℕ)
-      → Lived s lines session a b i j → ((t : State) → IsAt t session → AppendsSome b c (at_end t).reply)
-      → Unfinished s lines a c
+    → Lived s lines session a b i j → ((t : State) → IsAt t session → AppendsSome b c (at_end t).reply)
+    → Unfinished s lines a c
 unfinished_end s lines session a b c i j p end = record {
   turns = p.turns;
   left = [];
@@ -219,7 +219,7 @@ unfinished_end s lines session a b c i j p end = record {
 
 -- all was written, and a flush keeps it
 pub finished_some : (s : State) (lines : List Line) (a b c : Option (List ℕ)) (i j : ℕ) → Finished s lines a b i j
-      → Keeps b c → Unfinished s lines a c
+    → Keeps b c → Unfinished s lines a c
 finished_some s lines a b c i j p keeps = record {
   turns = p.turns;
   left = [];

@@ -19,7 +19,7 @@ use Rattle.cga_live.specs.Runs.{Begun, IsHalted, IsHere, IsRead, Lived}
 
 -- nothing was read
 pub reads_start : (d : ℕ) (session : Session) (lines : Pending) (o : Outside) → IsHere (start d) session
-      → lines ≡ pending_after [] → IsRead d [] o o session lines
+    → lines ≡ pending_after [] → IsRead d [] o o session lines
 reads_start d session lines o here are =
     let none : take limit [] ≡ [] = take-nil limit in
     let no_line : lines_of (take limit []) ≡ [] = ap lines_of none ∙ no_lines [] (All-nil (λ (b : ℕ). b ≢ 10)) in
@@ -32,8 +32,8 @@ reads_start d session lines o here are =
 
 -- a read that took nothing
 pub reads_none : (d : ℕ) (read : List ℕ) (old mid : Outside) (session : Session) (lines : Pending)
-      (left : Option (List ℕ)) (ended : Bool) (failed : ℕ) → IsRead d read old mid session lines
-      → Consumes mid.left left []
+    (left : Option (List ℕ)) (ended : Bool) (failed : ℕ) → IsRead d read old mid session lines
+    → Consumes mid.left left []
     → IsRead d read old (record mid { left = left; ended = ended; reads_failed = failed }) session lines
 reads_none d read old mid session lines left ended failed r none = record {
   taken = subst (Consumes old.left left) (append-nil read) (consumes_more old.left mid.left left read [] r.taken none);
@@ -47,8 +47,8 @@ module _ (d : ℕ) (read chunk piece : List ℕ) (old mid new : Outside) (sessio
   so_far = (effect_of_all (start d) (lines_of (take limit read))).state
 
   pub reads_more : (next : Session) (after : Pending)
-        → ((s : State) → IsHere s session
-        → Lived s (lines_of (lines.kept ++ piece)) next mid.held new.held mid.expanded new.expanded)
+      → ((s : State) → IsHere s session
+      → Lived s (lines_of (lines.kept ++ piece)) next mid.held new.held mid.expanded new.expanded)
       → after ≡ record { kept = kept_of (cut (lines.kept ++ piece)).rest; ending = Open }
       → new.writes_failed ≡ mid.writes_failed → IsRead d (read ++ chunk) old new next after
   reads_more next after each e calm = record {
@@ -60,7 +60,7 @@ module _ (d : ℕ) (read chunk piece : List ℕ) (old mid new : Outside) (sessio
   }
 
   pub reads_halt : ((s : State) → IsHere s session → Begun s (lines_of (lines.kept ++ piece)) mid.held new.held)
-        → new.reads_failed ≡ old.reads_failed → IsHalted d (read ++ chunk) old new
+      → new.reads_failed ≡ old.reads_failed → IsHalted d (read ++ chunk) old new
   reads_halt each calm = record {
     taken = consumes_more old.left mid.left new.left read chunk r.taken more;
     begun = subst (λ (l : List Line). Begun (start d) l old.held new.held) (sym (lines_more d read chunk piece lines few first r.lines_are))

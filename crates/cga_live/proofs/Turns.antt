@@ -39,7 +39,7 @@ replies_all s (x ∷ xs) =
 
 -- who has what is drawn, has after each turn what is drawn then
 follow : (s : State) (mine : Having) → ((test : Drawn → Bool) → mine test ≡ count_by test (drawn_at s))
-      → (turns : List Turn) → AreTold s turns → (n : ℕ) (test : Drawn → Bool)
+    → (turns : List Turn) → AreTold s turns → (n : ℕ) (test : Drawn → Bool)
     → applied mine (take n turns) test ≡ count_by test (drawn_at (after s (take n turns)))
 follow s mine has [] told zero test = has test ∙ ap (λ (e : Effect). count_by test (drawn_at e.state)) (sym (all_none s))
 follow s mine has [] told (suc n) test = has test ∙ ap (λ (e : Effect). count_by test (drawn_at e.state)) (sym (all_none s))

@@ -42,7 +42,7 @@ pub record TellsSome (decimals : ℕ) (bytes : List ℕ) (old new : Outside) : T
   pub lines : lines_in turns ++ left ≡ all_lines bytes
   pub told : AreTold (start decimals) turns
   pub written : AppendsSome old.held new.held
-        (text_of (start decimals) turns ++ behind_all left (end_of decimals bytes))
+      (text_of (start decimals) turns ++ behind_all left (end_of decimals bytes))
 
 -- one row for each status; what is said of bytes holds where the source tells what is left
 -- and the sink what it holds

@@ -27,7 +27,8 @@ ghost use Rattle.clap.specs.Words.{fault_of};
 
 use crate::exit::{exit_of, unreadable_words};
 use crate::script::run_live;
-use cga_fraction::Steps;
+use cga_expand::Expansions;
+use cga_fraction::Tests;
 use cga_outside::{Sink, Source, StdSink, StdSource};
 use cga_top::Status;
 use cga_words::{Exit, WordsFault, read_none};
@@ -98,8 +99,8 @@ fn run<S: Source, K: Sink, E: Ledger, T: Ledger>(
         Err(WordsFault::Usage) => return Status::Usage,
         Err(WordsFault::NoMemory) => return Status::NoMemory,
     }
-    let mut expansions = Steps::<E>::new(rt, expansions);
-    let mut tests = Steps::<T>::new(rt, tests);
+    let mut expansions = Expansions::<E>::new(rt, expansions);
+    let mut tests = Tests::<T>::new(rt, tests);
     run_live(rt.alloc(), script, out, &mut expansions, &mut tests)
 }
 

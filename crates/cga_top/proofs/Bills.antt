@@ -70,7 +70,7 @@ module _ (old : CityState) (e : Edit) (new : CityState) (i j : ℕ) (can : CanBe
   pub can_apply : old.budget ≤ BUDGET_TWO → (bill : List (List ℕ × Sums)) → bill ≡ bill_of (drawn_by old)
       → (changes : Changes) → changes ≡ new.changes
       → (before : List Drawn) × (after : List Drawn) × (bill ≡ bill_of before) × Balances before after changes
-        × (length before + length changes.come < 2 ^ 32)
+      × (length before + length changes.come < 2 ^ 32)
   can_apply few bill is changes same =
       let reported = reported_few old.budget old.sources (members old.budget old.sources) can.sound can.fits in
       let come = come_few old.budget old.sources new.sources (members old.budget old.sources) (members old.budget new.sources) new.changes done.changed in

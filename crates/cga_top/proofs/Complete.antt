@@ -11,7 +11,7 @@ use Rattle.cga_top.specs.Outside.{Outside}
 use Rattle.cga_top.specs.Statuses.{StatusMeans, HoldsFew, WritesAll}
 
 pub not_so_long : (bytes read : List ℕ) (left : Option (List ℕ)) → Consumes (Some bytes) left read
-      → limit < length read → length bytes ≤ limit → ⊥
+    → limit < length read → length bytes ≤ limit → ⊥
 not_so_long bytes read None p h few = p
 not_so_long bytes read (Some rest) p h few = omega (arith, ap length p, length-append read rest)
 

@@ -75,7 +75,7 @@ wrote_nothing s session a i st = record { is_at = st; written = appends_nothing 
 
 -- a reply that was written
 pub wrote_reply : (t : Effect) (was : Changes) (session : Session) (text : List ℕ) (a b : Option (List ℕ)) (i j : ℕ)
-      → Did t was session text i j → Appends a b text → Wrote t session a b i j
+    → Did t was session text i j → Appends a b text → Wrote t session a b i j
 wrote_reply t was session text a b i j did w = record { is_at = did.is_at; written = subst (Appends a b) did.reply w; spent = did.spent }
 
 pub some_nothing : (a : Option (List ℕ)) (text : List ℕ) → AppendsSome a a text

@@ -69,7 +69,7 @@ some_kept a b c text p q = (length text, let e : take (length text) text ≡ tex
 
 -- a fact of what the source tells
 pub by_bytes : (P : List ℕ → Type 0) (known : Option (List ℕ)) → ((bytes : List ℕ) → known ≡ Some bytes → P bytes)
-      → IfSome known P
+    → IfSome known P
 by_bytes P None each = tt
 by_bytes P (Some bytes) each = each bytes refl
 
@@ -91,18 +91,18 @@ pub record IsFlushed (status wanted : Status) (old new : Outside) : Type 0 where
 
 -- the status after a flush is the wanted one with what it means, or a write fault with what that means
 pub flushed_as : (means : Status → Type 0) (status wanted : Status) (old mid new : Outside) → wanted ≢ WriteFault
-      → IsFlushed status wanted mid new → mid.writes_failed ≡ old.writes_failed
+    → IsFlushed status wanted mid new → mid.writes_failed ≡ old.writes_failed
     → (IsTrue new.flushed → new.writes_failed ≡ old.writes_failed → means wanted)
-      → (Rose old.writes_failed new.writes_failed → means WriteFault) → means status
+    → (Rose old.writes_failed new.writes_failed → means WriteFault) → means status
 flushed_as means status wanted old mid new other f calm fine bad = elim f.answers [
   | inl is ↦ let kept : status ≢ WriteFault = λ e. other (sym is ∙ e) in subst means (sym is) (fine (f.done kept) (f.calm kept ∙ calm))
   | inr is ↦ let unwanted : status ≢ wanted = λ e. other (sym e ∙ is) in subst means (sym is) (bad (subst (λ (n : ℕ). Rose n new.writes_failed) calm (f.fault unwanted)))
 ]
 
 flushed_means : (d : ℕ) (status wanted : Status) (old mid new : Outside) → wanted ≢ WriteFault
-      → IsFlushed status wanted mid new → mid.writes_failed ≡ old.writes_failed
+    → IsFlushed status wanted mid new → mid.writes_failed ≡ old.writes_failed
     → (IsTrue new.flushed → new.writes_failed ≡ old.writes_failed → StatusMeans d wanted old new)
-      → WritesPrefix d old new → StatusMeans d status old new
+    → WritesPrefix d old new → StatusMeans d status old new
 flushed_means d status wanted old mid new other f calm means prefix =
     flushed_as (λ (s : Status). StatusMeans d s old new) status wanted old mid new other f calm means (λ rose. (rose, prefix))
 
@@ -126,7 +126,7 @@ unfolding replies_of
 read_prefix d read old mid new session lines r keeps = prefix_of d old.left mid.left old.held new.held read limit r.taken (some_kept old.held mid.held new.held _ r.wrote.written keeps)
 
 pub failed_means : (d : ℕ) (status : Status) (old mid new : Outside) (session : Session) (lines : Pending)
-      (read : List ℕ)
+    (read : List ℕ)
     → IsRead d read old mid session lines → length read ≤ limit → Rose old.reads_failed mid.reads_failed
     → IsFlushed status ReadFault mid new → StatusMeans d status old new
 failed_means d status old mid new session lines read r few rose f =
@@ -142,7 +142,7 @@ failed_means d status old mid new session lines read r few rose f =
     (read_prefix d read old mid new session lines r f.held)
 
 pub too_long_means : (d : ℕ) (status : Status) (old mid new : Outside) (session : Session) (lines : Pending)
-      (read : List ℕ)
+    (read : List ℕ)
     → IsRead d read old mid session lines → limit < length read → length read ≤ limit + read_limit
     → mid.reads_failed ≡ old.reads_failed → IsFlushed status TooLong mid new → StatusMeans d status old new
 too_long_means d status old mid new session lines read r many most reads f =
@@ -158,7 +158,7 @@ too_long_means d status old mid new session lines read r many most reads f =
 
 -- the whole script was read
 pub all_taken : (read bytes : List ℕ) (left : Option (List ℕ)) → Consumes (Some bytes) left read → IsAtEnd left
-      → read ≡ bytes
+    → read ≡ bytes
 all_taken read bytes None taken at_end = absurd taken
 all_taken read bytes (Some rest) taken at_end = sym (taken ∙ ap (λ (x : List ℕ). read ++ x) at_end ∙ append-nil read)
 
@@ -170,7 +170,7 @@ all_written : (d : ℕ) (read bytes : List ℕ) (old mid last new : Outside) (se
     → read ≡ bytes
     → IsRead d read old mid session lines → length read ≤ limit
     → Wrote (last_effect (effect_of_lines d (take limit read)).state (cut (take limit read)).rest) next mid.held
-      last.held mid.expanded last.expanded
+    last.held mid.expanded last.expanded
     → new.expanded ≡ last.expanded → Keeps last.held new.held → WritesAll d bytes old new
 unfolding output_of
 all_written d read bytes old mid last new session next lines is r few w expanded keeps =
@@ -189,7 +189,7 @@ all_written d read bytes old mid last new session next lines is r few w expanded
 end_some : (d : ℕ) (read bytes : List ℕ) (old mid new : Outside) (session : Session) (lines : Pending) → read ≡ bytes
     → IsRead d read old mid session lines → length read ≤ limit
     → AppendsSome mid.held new.held
-      (last_effect (effect_of_lines d (take limit read)).state (cut (take limit read)).rest).reply
+    (last_effect (effect_of_lines d (take limit read)).state (cut (take limit read)).rest).reply
     → AppendsSome old.held new.held (output_of d bytes)
 unfolding output_of
 end_some d read bytes old mid new session lines is r few s =
@@ -199,18 +199,18 @@ end_some d read bytes old mid new session lines is r few s =
 pub end_prefix : (d : ℕ) (read : List ℕ) (old mid new : Outside) (session : Session) (lines : Pending)
     → IsRead d read old mid session lines → length read ≤ limit → IsAtEnd mid.left
     → AppendsSome mid.held new.held
-      (last_effect (effect_of_lines d (take limit read)).state (cut (take limit read)).rest).reply
+    (last_effect (effect_of_lines d (take limit read)).state (cut (take limit read)).rest).reply
     → WritesPrefix d old new
 end_prefix d read old mid new session lines r few at_end s =
     by_bytes (λ bytes. AppendsSome old.held new.held (output_of d bytes)) old.left
     (λ bytes told. end_some d read bytes old mid new session lines (ended_bytes d read bytes old mid session lines told r at_end) r few s)
 
 pub done_means : (d : ℕ) (status : Status) (old mid last new : Outside) (session next : Session) (lines : Pending)
-      (read : List ℕ)
+    (read : List ℕ)
     → IsRead d read old mid session lines → length read ≤ limit → IsAtEnd mid.left → IsTrue mid.ended
     → mid.reads_failed ≡ old.reads_failed
     → Wrote (last_effect (effect_of_lines d (take limit read)).state (cut (take limit read)).rest) next mid.held
-      last.held mid.expanded last.expanded
+    last.held mid.expanded last.expanded
     → SameSource mid last → last.writes_failed ≡ mid.writes_failed → IsFlushed status Done last new
     → StatusMeans d status old new
 done_means d status old mid last new session next lines read r few at_end ended reads w source writes f =

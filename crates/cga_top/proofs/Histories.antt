@@ -56,7 +56,7 @@ redone_none kept now e = ap turned_step (undone_none (turned kept) now e)
 
 -- what was kept after a step that takes some sources
 pub kept_after : (step : Option Step) (some : Step) (old : Kept) (now : Sources) (result : Result Sources Sources)
-      (new : Kept)
+    (new : Kept)
     → step ≡ Some some → StepGives step old now result new → new ≡ some.left
 kept_after (Some s) some old now result new e g = let same : s ≡ some = cc in g.1 ∙ ap (λ (x : Step). x.left) same
 kept_after None some old now result new e g = absurd (let bad : None ≡ Some some = e in cc)

@@ -19,7 +19,7 @@ use Rattle.cga_top.proofs.Asks.{command_is, asks_written}
 
 by_test : (b c : Bool) (s : State) (line : Line) → b ≡ c
     → (if b then second s else asked s (command_of s.version line)) ≡
-      (if c then second s else asked s (command_of s.version line))
+    (if c then second s else asked s (command_of s.version line))
 by_test b c s line e = ap (λ (t : Bool). if t then second s else asked s (command_of s.version line)) e
 
 pub outside_second : (s : State) (line : Line) (told : Bool) → told ≡ (s.fresh && is_version_line line) → told ≡ true
@@ -88,7 +88,7 @@ pub none_at : (s : State) (old : Session) (mid : Option OpenBlock) → IsAt s ol
 none_at s old mid at b e = subst (λ (t : State). IsAt t (record old { block = mid })) (ap (λ (x : Option Block). record s { block = x }) (sym b)) (closed_at s old mid at e)
 
 pub line_did : (s : State) (old : Session) (x : Block) (line : Line) (new : OpenBlock) (reply : List ℕ) (n : ℕ)
-      → IsAt s old → s.block ≡ Some x → is_end_line line ≡ false → IsOpenAs (with_line x line) new → reply ≡ []
+    → IsAt s old → s.block ≡ Some x → is_end_line line ≡ false → IsOpenAs (with_line x line) new → reply ≡ []
     → Did (effect s line) old.city.changes (record old { block = Some new }) reply n n
 line_did s old x line new reply n at b e is none =
     subst (λ (t : Effect). Did t old.city.changes (record old { block = Some new }) reply n n) (sym (effect_line s x line b e))

@@ -29,7 +29,7 @@ pub progress_same : (s : State) (all now more : List ℕ) (session : Session) (a
 progress_same s all now more session a b i j e p = record { done = p.done; wrote = p.wrote; left = ap (λ (ls : List Line). followed_by p.done (effect_of_all p.done.state ls)) (sym e) ∙ p.left }
 
 pub progress_line : (s : State) (all now more : List ℕ) (line : Line) (session new : Session) (a b c : Option (List ℕ))
-      (i j k : ℕ)
+    (i j k : ℕ)
     → lines_of now ≡ line ∷ lines_of more
     → Progress s all now session a b i j → ((t : State) → IsAt t session → Wrote (effect t line) new b c j k)
     → Progress s all more new a c i k
@@ -50,7 +50,7 @@ progress_end s all now session a b i j e p =
 
 -- a line failed: some of the replies were written
 pub progress_err : (s : State) (all now more : List ℕ) (line : Line) (session : Session) (a b c : Option (List ℕ))
-      (i j : ℕ)
+    (i j : ℕ)
     → lines_of now ≡ line ∷ lines_of more
     → Progress s all now session a b i j → ((t : State) → IsAt t session → AppendsSome b c (effect t line).reply)
     → AppendsSome a c (effect_of_all s (lines_of all)).reply

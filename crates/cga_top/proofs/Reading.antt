@@ -62,7 +62,7 @@ module _ (d : ℕ) (read chunk piece : List ℕ) (lines : Pending) (few : length
   so_far = (effect_of_lines d (take limit read)).state
 
   pub effects_are : effect_of_lines d (take limit (read ++ chunk)) ≡ followed_by (effect_of_lines d (take limit read))
-        (effect_of_all (effect_of_lines d (take limit read)).state (lines_of (lines.kept ++ piece)))
+      (effect_of_all (effect_of_lines d (take limit read)).state (lines_of (lines.kept ++ piece)))
   effects_are =
       ap (effect_of_lines d) more_read ∙ ap (effect_of_all (start d)) (lines_append read piece) ∙ all_append (start d) (lines_of read) (lines_of (kept_of (cut read).rest ++ piece))
       ∙ ap (λ (k : List ℕ). followed_by (effect_of_lines d read) (effect_of_all (effect_of_lines d read).state (lines_of (k ++ piece)))) (sym kept_is)
@@ -74,11 +74,11 @@ module _ (d : ℕ) (read chunk piece : List ℕ) (lines : Pending) (few : length
       ∙ ap (λ (k : List ℕ). record { kept = k; ending = Open }) (kept_append read piece) ∙ ap pending_after (sym more_read)
 
 pub reads_more : (d : ℕ) (read chunk piece : List ℕ) (old mid new : Outside) (session next : Session)
-      (lines after : Pending)
+    (lines after : Pending)
     → length read ≤ limit → piece ≡ take (limit - length read) chunk
     → IsRead d read old mid session lines → Consumes mid.left new.left chunk
     → ((s : State) → IsAt s session
-      → Wrote (effect_of_all s (lines_of (lines.kept ++ piece))) next mid.held new.held mid.expanded new.expanded)
+    → Wrote (effect_of_all s (lines_of (lines.kept ++ piece))) next mid.held new.held mid.expanded new.expanded)
     → after ≡ record { kept = kept_of (cut (lines.kept ++ piece)).rest; ending = Open }
     → IsTrue new.flushed → new.writes_failed ≡ mid.writes_failed
     → IsRead d (read ++ chunk) old new next after
@@ -93,7 +93,7 @@ reads_more d read chunk piece old mid new session next lines after few first r m
 
 -- a read that took nothing
 pub reads_none : (d : ℕ) (read : List ℕ) (old mid : Outside) (session : Session) (lines : Pending)
-      (left : Option (List ℕ)) (ended : Bool) (failed : ℕ)
+    (left : Option (List ℕ)) (ended : Bool) (failed : ℕ)
     → IsRead d read old mid session lines → Consumes mid.left left []
     → IsRead d read old (record mid { left = left; ended = ended; reads_failed = failed }) session lines
 reads_none d read old mid session lines left ended failed r none = record {
@@ -108,7 +108,7 @@ pub reads_halt : (d : ℕ) (read chunk piece : List ℕ) (old mid new : Outside)
     → length read ≤ limit → piece ≡ take (limit - length read) chunk
     → IsRead d read old mid session lines → Consumes mid.left new.left chunk
     → ((s : State) → IsAt s session
-      → AppendsSome mid.held new.held (effect_of_all s (lines_of (lines.kept ++ piece))).reply)
+    → AppendsSome mid.held new.held (effect_of_all s (lines_of (lines.kept ++ piece))).reply)
     → new.reads_failed ≡ old.reads_failed → IsHalted d (read ++ chunk) old new
 unfolding replies_of
 reads_halt d read chunk piece old mid new session lines few first r more each calm = record {

@@ -64,7 +64,7 @@ redone_nowhere s history k e = ap (λ (h : Kept). redone h s.sources) (sym k) �
 
 -- what it changed, from the sources of the state
 are_changes : (s : State) (old : Session) (city : CityState) (e : Edit) (i j : ℕ) → IsAt s old
-      → CanBeLeft old.city.budget old.city.sources e → IsDone old.city e city i j
+    → CanBeLeft old.city.budget old.city.sources e → IsDone old.city e city i j
     → AreChanges (budget_of s.version) s.sources city.sources city.changes
 are_changes s old city e i j at can done =
     let changes : AreChanges old.city.budget old.city.sources city.sources city.changes = record {
@@ -76,7 +76,7 @@ are_changes s old city e i j at can done =
 
 -- an edit that was done
 pub changed_did : (s : State) (old new : Session) (history : Kept) (e : Edit) (before : Sources) (reply : List ℕ)
-      (i j : ℕ) → IsAt s old → HasDistinctLots e → Accepts old e before new i j → reply ≡ ok_reply new.quiet
+    (i j : ℕ) → IsAt s old → HasDistinctLots e → Accepts old e before new i j → reply ≡ ok_reply new.quiet
     → Did (changed s history (applied s e)) old.city.changes (record new { history = history }) reply i j
 changed_did s old new history e before reply i j at apart a r =
     let done = a.done in
@@ -116,9 +116,9 @@ noted_in s old v at is = ap (λ (w : Version). noted_by w s.kept s.sources) (sym
 
 -- the sources before an edit that was done are noted
 pub change_did : (s : State) (old new : Session) (history : Kept) (e : Edit) (before : Sources)
-      (text : Result (List ℕ) NoMemory) (i j : ℕ)
+    (text : Result (List ℕ) NoMemory) (i j : ℕ)
     → IsAt s old → old.version ≡ Two → HasDistinctLots e → Accepts old e before new i j
-      → history ≡ noted new.history before → IfOk text (λ t. t ≡ ok_reply new.quiet)
+    → history ≡ noted new.history before → IfOk text (λ t. t ≡ ok_reply new.quiet)
     → IfOk text (λ reply. Did (edited s e) old.city.changes (record new { history = history }) reply i j)
 change_did s old new history e before (Err none) i j at two apart a h r = tt
 change_did s old new history e before (Ok reply) i j at two apart a h r =
@@ -129,7 +129,7 @@ change_did s old new history e before (Ok reply) i j at two apart a h r =
 -- and in version 1 they aren't
 pub alone_did : (s : State) (old new : Session) (e : Edit) (text : Result (List ℕ) NoMemory) (i j : ℕ)
     → IsAt s old → old.version ≡ One → HasDistinctLots e → Accepts old e old.city.sources new i j
-      → IfOk text (λ t. t ≡ ok_reply new.quiet)
+    → IfOk text (λ t. t ≡ ok_reply new.quiet)
     → IfOk text (λ reply. Did (edited s e) old.city.changes new reply i j)
 alone_did s old new e (Err none) i j at one apart a r = tt
 alone_did s old new e (Ok reply) i j at one apart a r =
@@ -137,9 +137,9 @@ alone_did s old new e (Ok reply) i j at one apart a r =
     subst (λ (k : Kept). Did (changed s k (applied s e)) old.city.changes new reply i j) (k ∙ noted_in s old One at one) (changed_did s old new new.history e old.city.sources reply i j at apart a r)
 
 pub step_did : (s : State) (old new : Session) (history : Kept) (none : Refused) (step : Option Step) (some : Step)
-      (taken before : Sources) (text : Result (List ℕ) NoMemory) (i j : ℕ)
+    (taken before : Sources) (text : Result (List ℕ) NoMemory) (i j : ℕ)
     → IsAt s old → HasDistinctLots (edit.Whole taken) → step ≡ Some some → taken ≡ some.taken
-      → Accepts old (edit.Whole taken) before new i j → history ≡ some.left → IfOk text (λ t. t ≡ ok_reply new.quiet)
+    → Accepts old (edit.Whole taken) before new i j → history ≡ some.left → IfOk text (λ t. t ≡ ok_reply new.quiet)
     → IfOk text (λ reply. Did (stepped s none step) old.city.changes (record new { history = history }) reply i j)
 step_did s old new history none step some taken before (Err e) i j at apart is t a h r = tt
 step_did s old new history none step some taken before (Ok reply) i j at apart is t a h r =
@@ -162,7 +162,7 @@ pub works_of : (old new : Session) (e : Edit) (answer : Result (Unit {0}) EditRe
 works_of old new e answer i j is h = subst (λ (r : Result (Unit {0}) EditRefused). Works old e r new i j) is h
 
 pub works_refused : (old new : Session) (e : Edit) (answer : Result (Unit {0}) EditRefused) (refused : EditRefused)
-      (i j : ℕ)
+    (i j : ℕ)
     → answer ≡ Err refused → Works old e answer new i j → Refuses old e refused new i j
 works_refused old new e answer refused i j is h = subst (λ (r : Result (Unit {0}) EditRefused). Works old e r new i j) is h
 
@@ -182,9 +182,9 @@ spent_refused old cause.NoMemory budget i j later most free = let n = free (λ e
 
 -- an edit that was refused
 pub refused_did : (s : State) (old new : Session) (kept : Kept) (e : Edit) (refused : EditRefused)
-      (text : Result (List ℕ) NoMemory) (i j : ℕ)
+    (text : Result (List ℕ) NoMemory) (i j : ℕ)
     → IsAt s old → Refuses old e refused new i j → IfOk text (λ t. t ≡ refusal_text_of (told.Edit refused))
-      → IfOk text (λ reply. Did (changed s kept (applied s e)) old.city.changes new reply i j)
+    → IfOk text (λ reply. Did (changed s kept (applied s e)) old.city.changes new reply i j)
 refused_did s old new kept e refused (Err none) i j at h is = tt
 refused_did s old new kept e refused (Ok reply) i j at h is =
     let why = h.why in
@@ -198,9 +198,9 @@ refused_did s old new kept e refused (Ok reply) i j at h is =
     })
 
 pub step_refused : (s : State) (old new : Session) (none : Refused) (step : Option Step) (some : Step)
-      (taken : Sources) (refused : EditRefused) (text : Result (List ℕ) NoMemory) (i j : ℕ)
+    (taken : Sources) (refused : EditRefused) (text : Result (List ℕ) NoMemory) (i j : ℕ)
     → IsAt s old → step ≡ Some some → taken ≡ some.taken → Refuses old (edit.Whole taken) refused new i j
-      → IfOk text (λ t. t ≡ refusal_text_of (told.Edit refused))
+    → IfOk text (λ t. t ≡ refusal_text_of (told.Edit refused))
     → IfOk text (λ reply. Did (stepped s none step) old.city.changes new reply i j)
 step_refused s old new none step some taken refused text i j at is t h says =
     subst (λ (e : Effect). IfOk text (λ reply. Did e old.city.changes new reply i j))
