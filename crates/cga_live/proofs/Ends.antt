@@ -211,12 +211,10 @@ module _ (d : ℕ) (read : List ℕ) (old mid : Outside) (session : Session) (pe
   all_read : (bytes : List ℕ) → old.left ≡ Some bytes → take limit read ≡ bytes
   all_read bytes known = take_all limit read few ∙ all_taken read bytes mid.left (subst (λ (left : Option (List ℕ)). Consumes left mid.left read) known r.taken) at_end
 
-  rest_of : List ℕ → List Line
-  rest_of bytes = last_of (cut bytes).rest
-
   pub end_some : (new : Outside) → Unfinished (effect_of_lines d (take limit read)).state (last_of (cut (take limit read)).rest) mid.held new.held → IfSome old.left (λ bytes. TellsSome d bytes old new)
-  end_some new u = by_bytes (λ bytes. TellsSome d bytes old new) old.left (λ bytes known. subst (λ (x : List ℕ). TellsSome d x old new) (all_read bytes known)
-  (all_some d (take limit read) session mid.held old.expanded mid.expanded old new r.lived u))
+  end_some new u =
+      by_bytes (λ bytes. TellsSome d bytes old new) old.left
+      (λ bytes known. subst (λ (x : List ℕ). TellsSome d x old new) (all_read bytes known) (all_some d (take limit read) session mid.held old.expanded mid.expanded old new r.lived u))
 
   all_told : (last new : Outside) (bytes : List ℕ) → old.left ≡ Some bytes → Finished (effect_of_lines d (take limit read)).state (last_of (cut (take limit read)).rest) mid.held last.held mid.expanded last.expanded
       → new.expanded ≡ last.expanded → Keeps last.held new.held → TellsAll d bytes old new
@@ -257,13 +255,16 @@ halted_some d read old new h = some_known d old.left new.left read old new h.tak
 
 -- no memory at the start
 pub none_means : (d : ℕ) (o : Outside) → LiveMeans d NoMemory o o
-none_means d o = (record { reads = refl; writes = refl }, by_bytes (λ bytes. TellsSome d bytes o o) o.left (λ bytes known. record {
-  turns = [];
-  left = all_lines bytes;
-  lines = refl;
-  told = tt;
-  written = some_nothing o.held (behind_all (all_lines bytes) (end_of d bytes));
-}))
+none_means d o = (
+  record { reads = refl; writes = refl },
+  by_bytes (λ bytes. TellsSome d bytes o o) o.left (λ bytes known. record {
+    turns = [];
+    left = all_lines bytes;
+    lines = refl;
+    told = tt;
+    written = some_nothing o.held (behind_all (all_lines bytes) (end_of d bytes));
+  }),
+)
 
 -- ---- completeness
 
