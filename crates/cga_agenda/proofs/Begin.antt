@@ -5,8 +5,8 @@ use Rattle.cga_order.specs.declared.placed.Placed.{Placed}
 use Rattle.cga_order.specs.declared.placed.Kind.{Kind}
 use Rattle.cga_order.specs.declared.placed.Kind.TheVariants.{Waiting}
 use Rattle.cga_order.specs.Agenda.{Node, members_of, Keeps, IsSettled, AllRight}
-use Rattle.cga_order.proofs.Maxima.{either}
-use Rattle.cga_order.proofs.Turns.{SameAt, asks_same}
+use Rattle.cga_order.proofs.Door.{SameAt, asks_same}
+use Rattle.std.proofs.lemmas.Bool.{cases_Bool as either}
 use Rattle.cga_agenda.specs.Edit.{Side, Edit, IsEdit, world_of, old_world, new_world, NonInstance, Kept}
 use Rattle.cga_agenda.specs.Work.{IsBegun, IsOld, IsWorking, IsStart}
 use Rattle.cga_agenda.proofs.Working.{ChildrenFrom, ChildrenTo, Keeps-NonInstance, NonInstance-Keeps, still_settled, settled_done, kept_new, was_right, root_no_child}
@@ -16,7 +16,9 @@ module _ {N A B F P : Type 0} (edit : Edit N A B F P) where
   Nodes = List (Node N A F P)
 
   -- that a node is settled speaks of no sources
-  pub settled_as : (one other : Side N A B F P) (nodes : Nodes) (n : N) (k : Kind F P) (r : Result (List (Placed N F P)) F) → IsSettled (world_of edit one) nodes n k r → IsSettled (world_of edit other) nodes n k r
+  pub settled_as : (one other : Side N A B F P) (nodes : Nodes) (n : N) (k : Kind F P)
+        (r : Result (List (Placed N F P)) F)
+      → IsSettled (world_of edit one) nodes n k r → IsSettled (world_of edit other) nodes n k r
   settled_as one other nodes n k (Ok cs) h = (h.0, record { all = h.1.all; only = h.1.only })
   settled_as one other nodes n k (Err f) h = (h.0, record { all = h.1.all; only = h.1.only })
 
@@ -36,16 +38,19 @@ module _ {N A B F P : Type 0} (edit : Edit N A B F P) where
       | inr went ↦ absurd (went.0 n i child k a h g)
     ]
 
-    old_settled : (n : N) (k : Kind F P) (a : A) → Keeps start n k a → Keeps nodes n k a → is_instance k ≡ false → IsSettled (old_world edit) nodes n k (edit.old.expand n a)
+    old_settled : (n : N) (k : Kind F P) (a : A) → Keeps start n k a → Keeps nodes n k a → is_instance k ≡ false
+        → IsSettled (old_world edit) nodes n k (edit.old.expand n a)
     old_settled n k a h g i = still_settled edit edit.old laws.old start nodes n k a (from_children n) (to_children n k a h g) (was_right edit laws start started n k a h i).1
 
-    sees_to : (n : N) (j : Kind F P) (b : A) → Keeps nodes n j b → is_instance j ≡ false → queued n ≡ false → SameAt w laws.new n start nodes
+    sees_to : (n : N) (j : Kind F P) (b : A) → Keeps nodes n j b → is_instance j ≡ false → queued n ≡ false
+        → SameAt w laws.new n start nodes
     sees_to n j b there y off m k a v e h = elim (begun.to m k a h) [
       | inl stays ↦ (k, a, stays, refl)
       | inr went ↦ let x : true ≡ false = sym (went.1 n j b there y v) ∙ off in cc
     ]
 
-    sees_from : (n : N) (j : Kind F P) (b : A) → Keeps nodes n j b → is_instance j ≡ false → queued n ≡ false → SameAt w laws.new n nodes start
+    sees_from : (n : N) (j : Kind F P) (b : A) → Keeps nodes n j b → is_instance j ≡ false → queued n ≡ false
+        → SameAt w laws.new n nodes start
     sees_from n j b there y off m k a v e h = elim (begun.from m k a h) [
       | inl old ↦ (k, a, old, refl)
       | inr came ↦ let x : true ≡ false = sym (came.4 n j b there y v) ∙ off in cc
@@ -68,7 +73,8 @@ module _ {N A B F P : Type 0} (edit : Edit N A B F P) where
     ]
 
     -- what was there and is there is kept
-    kept : (bound : ℕ) (n : N) → length (edit.chain n).path < bound → NonInstance (members_of start) n → NonInstance (members_of nodes) n → Kept edit (members_of start) (members_of nodes) n
+    kept : (bound : ℕ) (n : N) → length (edit.chain n).path < bound → NonInstance (members_of start) n
+        → NonInstance (members_of nodes) n → Kept edit (members_of start) (members_of nodes) n
     kept zero n lt was is = absurd (omega (arith, lt))
     kept (suc bound) n lt was is =
         let u = NonInstance-Keeps edit nodes n is in
@@ -84,7 +90,8 @@ module _ {N A B F P : Type 0} (edit : Edit N A B F P) where
               (suc k.0, (was, is, (q.0, q.3, q.6, k.1)))
         ]
 
-    waiting : (n : N) (k : Kind F P) (a : A) → Keeps nodes n k a → k ≡ Waiting → Kept edit (members_of start) (members_of nodes) n → ⊥
+    waiting : (n : N) (k : Kind F P) (a : A) → Keeps nodes n k a → k ≡ Waiting
+        → Kept edit (members_of start) (members_of nodes) n → ⊥
     waiting n k a h e kept = elim (begun.from n k a h) [
       | inl old ↦
           let done = settled_done edit (old_world edit) start n k (edit.old.expand n a) (was_right edit laws start started n k a old (ap is_instance e)).1 in
@@ -94,7 +101,8 @@ module _ {N A B F P : Type 0} (edit : Edit N A B F P) where
           came.3.not_there u.0 u.1 u.2 (u.3 ∙ sym (ap is_instance e)) (λ i. let x : true ≡ false = sym i ∙ ap is_instance e in cc)
     ]
 
-    others : (n : N) (k : Kind F P) (a : A) → Keeps nodes n k a → is_instance k ≡ false → is_waiting k ≡ false → Among n [] ⊎ IsOld edit start nodes queued [] n k a
+    others : (n : N) (k : Kind F P) (a : A) → Keeps nodes n k a → is_instance k ≡ false → is_waiting k ≡ false
+        → Among n [] ⊎ IsOld edit start nodes queued [] n k a
     others n k a h i done = elim (begun.from n k a h) [
       | inl old ↦ inr record {
         kept = kept (length (edit.chain n).path + 1) n (omega arith) (Keeps-NonInstance edit start n k a old i) (Keeps-NonInstance edit nodes n k a h i);

@@ -8,16 +8,13 @@ use Rattle.cga_order.specs.declared.placed.Kind.{Kind}
 use Rattle.cga_order.specs.Run.{Reached}
 use Rattle.cga_order.specs.Consistent.{IsBefore, IsConsistent, NothingWaits, SameMembers}
 use Rattle.cga_order.specs.Agenda.{Node, members_of, Keeps, asked, IsSettled}
-use Rattle.cga_order.proofs.Chains.{birth-child, birth-stamp, root-before}
-use Rattle.cga_order.proofs.Steps as steps
-use Rattle.cga_order.proofs.Turns.{Has-Keeps, Keeps-Has, right_consistent}
-use Rattle.cga_order.proofs.Unique.{same_members}
+use Rattle.cga_order.proofs.Door.{Among-append, Has-Keeps, Keeps-Has, Once-append, birth-child, birth-stamp, length-once, right_consistent, root-before, same_members}
+use Rattle.cga_order.proofs.Door as steps
 use Rattle.cga_agenda.specs.Edit.{Edit, IsEdit, new_world}
 use Rattle.cga_order.specs.Once.{Once}
 use Rattle.cga_agenda.specs.Work.{next_worked, IsBegun, Expands, IsTurnOf, IsWorking, NoneQueued, IsStart}
 use Rattle.cga_agenda.specs.Record.{IsMade}
 use Rattle.cga_agenda.specs.Known.{shapes_of, made_by, next_known, IsKnown}
-use Rattle.cga_order.proofs.Once.{Among-append, Once-append, length-once}
 use Rattle.cga_agenda.proofs.Lists.{Has-Among, Among-Has}
 use Rattle.cga_agenda.proofs.Working.{parents_same, root_no_child}
 use Rattle.cga_agenda.proofs.Turning.{not_worked}
@@ -31,7 +28,8 @@ module _ {N A B F P : Type 0} (edit : Edit N A B F P) (laws : IsEdit edit) (star
   abbrev w : World N A F P
   w = new_world edit
 
-  pub known_begins : (nodes : Nodes) (queued : N → Bool) → IsBegun edit start nodes queued → Once edit.new.roots → IsKnown edit nodes [] edit.new.roots
+  pub known_begins : (nodes : Nodes) (queued : N → Bool) → IsBegun edit start nodes queued → Once edit.new.roots
+      → IsKnown edit nodes [] edit.new.roots
   known_begins nodes queued begun o = record {
     once = o;
     there = λ m i. let r = begun.tree.roots m i in (r.0, r.1, r.2);
@@ -73,7 +71,9 @@ module _ {N A B F P : Type 0} (edit : Edit N A B F P) (laws : IsEdit edit) (star
       ]
 
       -- a child that came: below s, and there
-      child : (r : Result (List (Placed N F P)) F) → edit.new.expand s (asked w before s) ≡ r → (j : Kind F P) → IsSettled w after s j r → (m : N) → Among m (made_by r) → ((i : ℕ) × IsChild (edit.chain s) i (edit.chain m)) × ((l : Kind F P) × (b : A) × Keeps after m l b)
+      child : (r : Result (List (Placed N F P)) F) → edit.new.expand s (asked w before s) ≡ r → (j : Kind F P)
+          → IsSettled w after s j r → (m : N) → Among m (made_by r)
+          → ((i : ℕ) × IsChild (edit.chain s) i (edit.chain m)) × ((l : Kind F P) × (b : A) × Keeps after m l b)
       child (Ok cs) e j h m i =
           let c = Among-Has cs m i in
           let u = steps.child_of w laws.new s _ cs e m c.0 c.1 in
@@ -82,7 +82,8 @@ module _ {N A B F P : Type 0} (edit : Edit N A B F P) (laws : IsEdit edit) (star
           ((u.0, u.5), (v.0, g.0, g.1))
       child (Err f) e j h m i = absurd i
 
-      of_s : (m : N) → Among m (made_by (edit.new.expand s (asked w before s))) → ((i : ℕ) × IsChild (edit.chain s) i (edit.chain m)) × ((l : Kind F P) × (b : A) × Keeps after m l b)
+      of_s : (m : N) → Among m (made_by (edit.new.expand s (asked w before s)))
+          → ((i : ℕ) × IsChild (edit.chain s) i (edit.chain m)) × ((l : Kind F P) × (b : A) × Keeps after m l b)
       of_s m i = child (edit.new.expand s (asked w before s)) refl s_after.0 s_after.1 m i
 
       once_made : (r : Result (List (Placed N F P)) F) → edit.new.expand s (asked w before s) ≡ r → Once (made_by r)
@@ -118,7 +119,10 @@ module _ {N A B F P : Type 0} (edit : Edit N A B F P) (laws : IsEdit edit) (star
 
   module _ (now : Nodes) (queued : N → Bool) (turned worked : List N) (good : IsWorking edit start now queued turned worked) where
     -- a limit that comes after all that was done, and before what is on the agenda
-    limit : (l : Option (List Rank)) × ((n : N) (k : Kind F P) (a : A) → Keeps now n k a → queued n ≡ true → IsBefore w l (stamp_of w n) → ⊥) × ((t : N) → Among t turned → IsBefore w l (stamp_of w t)) × ((m : N) → Among m edit.new.roots → IsBefore w l (birth_of w m))
+    limit : (l : Option (List Rank))
+          × ((n : N) (k : Kind F P) (a : A) → Keeps now n k a → queued n ≡ true → IsBefore w l (stamp_of w n) → ⊥)
+          × ((t : N) → Among t turned → IsBefore w l (stamp_of w t))
+          × ((m : N) → Among m edit.new.roots → IsBefore w l (birth_of w m))
     limit = elim (least_queued w laws.new queued now) [
       | inl none ↦ (None, (λ n k a h q b. let x : true ≡ false = sym q ∙ none n k a h in cc), (λ t i. tt), (λ m i. tt))
       | inr (s, k, a, there, q, least) ↦ (Some (stamp_of w s), (λ n j b h t e. least n j b h t e), (λ t i. good.later t i s k a there q), (λ m i. root-before edit.mode (edit.chain m) (edit.chain s) (laws.new.root m i)))
@@ -128,7 +132,8 @@ module _ {N A B F P : Type 0} (edit : Edit N A B F P) (laws : IsEdit edit) (star
     consistent = right_consistent w laws.new now queued limit.0 good.tree good.right limit.1
 
     module _ (taken : List N) (reached : List (Placed N F P)) (run : Reached w taken reached) (quiet : NothingWaits w None reached) where
-      derived : (m : N) (k : Kind F P) (a : A) → Keeps now m k a → IsBefore w limit.0 (birth_of w m) → Among m (shapes_of reached)
+      derived : (m : N) (k : Kind F P) (a : A) → Keeps now m k a → IsBefore w limit.0 (birth_of w m)
+          → Among m (shapes_of reached)
       derived m k a h b = made_before w laws.new limit.0 (members_of now) consistent taken reached run quiet m k (Has-Keeps now m k a h) b
 
       size : length (shapes_of reached) ≡ length reached
@@ -156,7 +161,8 @@ module _ {N A B F P : Type 0} (edit : Edit N A B F P) (laws : IsEdit edit) (star
       pub worked_turned : length worked ≤ length turned
       worked_turned = length-once worked turned good.once (λ x i. (good.expanded x i).0)
 
-      pub all_derived : NoneQueued edit now queued → Once edit.new.roots → Once (shapes_of (members_of now)) → SameMembers (members_of now) reached × (length now ≡ length reached)
+      pub all_derived : NoneQueued edit now queued → Once edit.new.roots → Once (shapes_of (members_of now))
+          → SameMembers (members_of now) reached × (length now ≡ length reached)
       all_derived empty roots once =
           let con = right_consistent w laws.new now queued None good.tree good.right (λ n k a h q b. let x : true ≡ false = sym q ∙ empty n k a h in cc) in
           let same = same_members w laws.new (members_of now) con taken reached run quiet in

@@ -3,7 +3,7 @@ use Rattle.std.proofs.Common.{◌≡◌, List, Bool, true, false, sym, ◌∙◌
 use Rattle.cga_order.specs.World.{World, Among, is_instance}
 use Rattle.cga_order.specs.declared.placed.Kind.{Kind}
 use Rattle.cga_order.specs.Agenda.{Node, members_of, Keeps, IsRight}
-use Rattle.cga_order.proofs.Turns.{right_consistent}
+use Rattle.cga_order.proofs.Door.{right_consistent}
 use Rattle.cga_agenda.specs.Edit.{Edit, IsEdit, new_world, Touched}
 use Rattle.cga_agenda.specs.Work.{IsWorking, IsStart}
 use Rattle.cga_agenda.specs.Exact.{IsExact}
@@ -40,7 +40,8 @@ module _ {N A B F P : Type 0} (edit : Edit N A B F P) (laws : IsEdit edit) (star
         ]
       ]
     where
-      setting : (k : Kind F P) (a : A) → (queued n ≡ true) ⊎ (edit.old.setting n ≡ edit.new.setting n) → Keeps now n k a → edit.old.setting n ≡ edit.new.setting n
+      setting : (k : Kind F P) (a : A) → (queued n ≡ true) ⊎ (edit.old.setting n ≡ edit.new.setting n) → Keeps now n k a
+          → edit.old.setting n ≡ edit.new.setting n
       setting k a s h = elim s [ inl q ↦ (let x : true ≡ false = sym q ∙ empty n k a h in cc) | inr e ↦ e ]
 
   pub exact : IsExact edit start now worked

@@ -14,7 +14,9 @@ use Rattle.cga_agenda.proofs.Begin.{begins}
 use Rattle.cga_agenda.proofs.Exact.{exact}
 use Rattle.cga_agenda.proofs.Record.{record_begins, record_next, record_exact}
 use Rattle.cga_agenda.specs.Example.{Five, r, c1, c2, i1, i2, chain, new_children, edit, node, nodes_0, nodes_1, nodes_2, queued_0, queued_1, ExampleWorks}
-use Rattle.cga_agenda.proofs.ExampleNodes.{K, Nodes, r_c1, r_c2, c1_i1, c2_i2, off, solid_not, far, no01, no02, no03, no12, no13, no21, no23, laws, w, for_2, for_3, solid_node, tree_3, tree_1, children_of_child, started}
+use Rattle.cga_agenda.proofs.ExampleNodes.{K, Nodes, r_c1, r_c2, c1_i1, c2_i2, off, solid_not, far, no01, no02, no03}
+use Rattle.cga_agenda.proofs.ExampleNodes.{no12, no13, no21, no23, laws, w, for_2, for_3, solid_node, tree_3, tree_1}
+use Rattle.cga_agenda.proofs.ExampleNodes.{children_of_child, started}
 
 begun : IsBegun edit nodes_0 nodes_0 queued_0
 begun = record {

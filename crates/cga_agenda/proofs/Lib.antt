@@ -1,17 +1,18 @@
-pub mod Lists
-pub mod Working
-pub mod Turning
-pub mod Begin
-pub mod Exact
-pub mod Record
-pub mod Made
-pub mod Budget
-pub mod OverBudget
-pub mod Update
-pub mod Prefixes
-pub mod Loop
-pub mod Late
-pub mod Own
-pub mod ExampleNodes
-pub mod Example
-pub mod OneLot
+mod Lists
+mod Working
+mod Turning
+mod Begin
+mod Exact
+mod Record
+mod Made
+mod Budget
+mod OverBudget
+mod Update
+mod Prefixes
+mod Loop
+mod Late
+mod Own
+mod ExampleNodes
+mod Example
+mod OneLot
+pub mod Door

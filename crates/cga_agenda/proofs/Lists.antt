@@ -4,7 +4,7 @@ use Rattle.cga_order.specs.Once.{Once}
 use Rattle.cga_order.specs.World.{World, IsWorld, Among, Has}
 use Rattle.cga_order.specs.declared.placed.Placed.{Placed}
 use Rattle.cga_order.specs.declared.placed.Kind.{Kind}
-use Rattle.cga_order.proofs.Once.{Once-index}
+use Rattle.cga_order.proofs.Door.{Once-index}
 use Rattle.cga_agenda.specs.Known.{shapes_of}
 
 module _ {N F P : Type 0} where
@@ -16,14 +16,16 @@ module _ {N F P : Type 0} where
   Among-Has [] n h = absurd h
   Among-Has (m ∷ ms) n h = elim h [ inl e ↦ (m.kind, inl (e, refl)) | inr r ↦ let w = Among-Has ms n r in (w.0, inr w.1) ]
 
-  pub Has-map : (f : Placed N F P → Placed N F P) (ms : List (Placed N F P)) (n : N) (k : Kind F P) → Has (map f ms) n k → (m : Placed N F P) × Has ms m.shape m.kind × ((f m).shape ≡ n) × ((f m).kind ≡ k)
+  pub Has-map : (f : Placed N F P → Placed N F P) (ms : List (Placed N F P)) (n : N) (k : Kind F P) → Has (map f ms) n k
+      → (m : Placed N F P) × Has ms m.shape m.kind × ((f m).shape ≡ n) × ((f m).kind ≡ k)
   Has-map f [] n k h = absurd h
   Has-map f (m ∷ ms) n k h = elim h [
     | inl e ↦ (m, inl (refl, refl), e.0, e.1)
     | inr r ↦ let w = Has-map f ms n k r in (w.0, inr w.1, w.2, w.3)
   ]
 
-  pub map-Has : (f : Placed N F P → Placed N F P) (ms : List (Placed N F P)) (m : Placed N F P) → Has ms m.shape m.kind → Has (map f ms) (f m).shape (f m).kind
+  pub map-Has : (f : Placed N F P → Placed N F P) (ms : List (Placed N F P)) (m : Placed N F P) → Has ms m.shape m.kind
+      → Has (map f ms) (f m).shape (f m).kind
   map-Has f [] m h = absurd h
   map-Has f (z ∷ ms) m h = elim h [
     | inl e ↦ let same : z ≡ m = (λ i. record { shape = e.0 i; kind = e.1 i }) in inl (ap (λ x. (f x).shape) same, ap (λ x. (f x).kind) same)

@@ -29,7 +29,8 @@ module _ {N A B F P : Type 0} (edit : Edit N A B F P) (start : List (Node N A F 
   }
 
   module _ (now : State N A F P) (turns known since : ℕ) (k : Knows edit start first now turns known calls since) where
-    pub knows_next : (after : State N A F P) (children more then : ℕ) → more ≡ children → Turns edit now after since then children → Knows edit start first after (turns + 1) (known + more) calls then
+    pub knows_next : (after : State N A F P) (children more then : ℕ) → more ≡ children
+        → Turns edit now after since then children → Knows edit start first after (turns + 1) (known + more) calls then
     knows_next after children more then e (s, expanded, turn, (went, came, change, gone_is, come_is), tells, called) = record {
       turned = s ∷ k.turned;
       worked = next_worked s expanded k.worked;
@@ -42,7 +43,8 @@ module _ {N A B F P : Type 0} (edit : Edit N A B F P) (start : List (Node N A F 
       calls_are = calls_more expanded called;
     }
       where
-        known_more : (b : Bool) → children ≡ children_of edit now.nodes s b → known + more ≡ length (next_known edit now.nodes s b k.learnt)
+        known_more : (b : Bool) → children ≡ children_of edit now.nodes s b
+            → known + more ≡ length (next_known edit now.nodes s b k.learnt)
         known_more true t = omega (arith, e, t, k.known_are, length-append (made_by (edit.new.expand s (asked (new_world edit) now.nodes s))) k.learnt)
         known_more false t = omega (arith, e, t, k.known_are)
 
@@ -74,7 +76,8 @@ module _ {N A B F P : Type 0} (was now after : Edit N A B F P → State N A F P 
   first_each known e edit first means start ready = (first, means, knows_first edit start first roots calls ready known e)
 
   module _ (turns known since then : ℕ) (k : KnowsEach was now roots turns known calls since) where
-    pub next_each : (children more : ℕ) → more ≡ children → TellsEach now after since then (Some children) → KnowsEach was after roots (turns + 1) (known + more) calls then
+    pub next_each : (children more : ℕ) → more ≡ children → TellsEach now after since then (Some children)
+        → KnowsEach was after roots (turns + 1) (known + more) calls then
     next_each children more e tells edit first means start ready =
         let h = k edit first means start ready in
         let t = tells edit h.0 h.1 in
@@ -99,11 +102,13 @@ module _ {N A B F P : Type 0} (was now after : Edit N A B F P → State N A F P 
           let number_is : number ≡ length h.0.nodes = subst (λ (x : State N A F P). number ≡ length x.nodes) t.2.same size.0 in
           (h.0, subst (after edit) t.2.same t.1, done edit start first roots calls ready h.0 turns known since h.2 t.2.none_queued once budget then t.2.no_call (omega (arith, le, number_is)))
 
-  pub ends_early : (turns known since budget : ℕ) → (budget < known) ⊎ (budget < turns) → KnowsEach was now roots turns known calls since → Ends was now roots budget calls since OverBudget
+  pub ends_early : (turns known since budget : ℕ) → (budget < known) ⊎ (budget < turns)
+      → KnowsEach was now roots turns known calls since → Ends was now roots budget calls since OverBudget
   ends_early turns known since budget more k edit first means start ready =
       let h = k edit first means start ready in
       (h.0, h.1, over_early edit start first roots calls ready h.0 turns known since h.2 budget more)
 
   -- what a worker tells, as a turn or as none
-  pub told : (since then : ℕ) (turned is : Option ℕ) → turned ≡ is → TellsEach now after since then turned → TellsEach now after since then is
+  pub told : (since then : ℕ) (turned is : Option ℕ) → turned ≡ is → TellsEach now after since then turned
+      → TellsEach now after since then is
   told since then turned is e h = subst (TellsEach now after since then) e h

@@ -13,31 +13,13 @@ use Rattle.cga_order.specs.declared.placed.Kind.TheVariants.{Waiting}
 use Rattle.cga_order.specs.Run.{same_place, become, outcome, Reached, AllEarlier, Rises}
 use Rattle.cga_order.specs.Consistent.{IsBefore, IsConsistent, AllBefore, NothingWaits}
 use Rattle.cga_order.specs.Agenda.{Node, Keeps}
-use Rattle.cga_order.proofs.Order.{stamps_total}
-use Rattle.cga_order.proofs.Chains.{snoc-same}
-use Rattle.cga_order.proofs.Members.{place_dec}
-use Rattle.cga_order.proofs.Maxima.{either}
-use Rattle.cga_order.proofs.Maxima as stamps
-use Rattle.cga_order.proofs.Steps as steps
-use Rattle.cga_order.proofs.Unique.{has_made}
+use Rattle.cga_order.proofs.Door.{Once-append, Once-index, has_made, place_dec, snoc-same, stamps_total}
+use Rattle.std.proofs.lemmas.Bool.{cases_Bool as either}
+use Rattle.cga_order.proofs.Door as stamps
 use Rattle.cga_order.specs.Once.{Once}
 use Rattle.cga_agenda.specs.Known.{shapes_of}
-use Rattle.cga_order.proofs.Once.{Once-append, Once-index}
 use Rattle.cga_agenda.proofs.Lists.{Has-Among, Among-Has}
-
-pub length-map : {X Y : Type 0} (f : X → Y) (xs : List X) → length (map f xs) ≡ length xs
-length-map f [] = refl
-length-map f (x ∷ xs) = let e = length-map f xs in omega (arith, e)
-
-pub none_some : {X Y : Type 0} (x : X) → ◌≡◌ {A = Option X} None (Some x) → Y
-none_some x e = cc
-
-pub some_same : {X : Type 0} (x y : X) → Some x ≡ Some y → x ≡ y
-some_same x y e = cc
-
-pub map-append : {X Y : Type 0} (f : X → Y) (xs ys : List X) → map f (xs ++ ys) ≡ map f xs ++ map f ys
-map-append f [] ys = refl
-map-append f (x ∷ xs) ys = ap (λ zs. f x ∷ zs) (map-append f xs ys)
+pub use Rattle.cga_fraction.proofs.Door.{None-not-Some as none_some, length-map, map-append, same_Some as some_same}
 
 module _ {N A F P : Type 0} (world : World N A F P) (laws : IsWorld world) where
   abbrev pub Members : Type 0
@@ -46,7 +28,8 @@ module _ {N A F P : Type 0} (world : World N A F P) (laws : IsWorld world) where
   pub order : IsTotalOrder (stamps_cmp world.mode)
   order = stamps_total world.mode
 
-  pub shape_at : (cs : Members) (i : ℕ) (x : N) → slice_get (shapes_of cs) i ≡ Some x → (c : Placed N F P) × (slice_get cs i ≡ Some c) × (c.shape ≡ x)
+  pub shape_at : (cs : Members) (i : ℕ) (x : N) → slice_get (shapes_of cs) i ≡ Some x
+      → (c : Placed N F P) × (slice_get cs i ≡ Some c) × (c.shape ≡ x)
   shape_at [] i x e = none_some x e
   shape_at (c ∷ cs) zero x e = (c, refl, some_same c.shape x e)
   shape_at (c ∷ cs) (suc i) x e = shape_at cs i x e
@@ -66,7 +49,8 @@ module _ {N A F P : Type 0} (world : World N A F P) (laws : IsWorld world) where
       let head : (become world s k m).shape ≡ m.shape = elim (same_place (world.chain m.shape) (world.chain s)) as (λ b. (cond b (record { shape = m.shape; kind = k }) m).shape ≡ m.shape) [ true ↦ refl | false ↦ refl ] in
       λ i. head i ∷ shapes-become s k xs i
 
-  pub shapes-start : (xs : List N) → shapes_of (map (λ n. let m : Placed N F P = record { shape = n; kind = Waiting } in m) xs) ≡ xs
+  pub shapes-start : (xs : List N)
+      → shapes_of (map (λ n. let m : Placed N F P = record { shape = n; kind = Waiting } in m) xs) ≡ xs
   shapes-start [] = refl
   shapes-start (x ∷ xs) = ap (λ zs. x ∷ zs) (shapes-start xs)
 
@@ -74,49 +58,55 @@ module _ {N A F P : Type 0} (world : World N A F P) (laws : IsWorld world) where
   pub once-reached : (taken : List N) (C : Members) → Reached world taken C → Once world.roots → Once (shapes_of C)
   once-reached [] C e o = subst (λ x. Once (shapes_of x)) (sym e) (subst Once (sym (shapes-start world.roots)) o)
   once-reached (s ∷ taken) D (C, reached, step) o =
-      let good = steps.in_order world laws taken C reached in
-      let k = steps.kind_after world (outcome world C s) in
-      let cs = steps.children_of world (outcome world C s) in
-      let is : D ≡ map (become world s k) C ++ cs = step.told ∙ steps.told-is world C s (outcome world C s) in
+      let good = stamps.in_order world laws taken C reached in
+      let k = stamps.kind_after world (outcome world C s) in
+      let cs = stamps.children_of world (outcome world C s) in
+      let is : D ≡ map (become world s k) C ++ cs = step.told ∙ stamps.told-is world C s (outcome world C s) in
       let shapes : shapes_of D ≡ shapes_of C ++ shapes_of cs = ap (λ x. shapes_of x) is ∙ (map-append (λ m. m.shape) (map (become world s k) C) cs ∙ ap (λ x. x ++ shapes_of cs) (shapes-become s k C)) in
       subst Once (sym shapes) (Once-append (shapes_of C) (shapes_of cs) (once-reached taken C reached o) (children (outcome world C s) refl)
       (λ x h g.
       let u = Among-Has C x h in
       let v = Among-Has cs x g in
-      let birth = steps.child_birth world laws C D s good step x v.0 v.1 in
+      let birth = stamps.child_birth world laws C D s good step x v.0 v.1 in
       stamps.not_self (stamps_cmp world.mode) order (stamp_of world s) (subst (λ b. IsEarlier world b (stamp_of world s)) birth (good.born x s u.0 u.1 step.waits))))
     where
-      children : (r : Result Members F) → outcome world C s ≡ r → Once (shapes_of (steps.children_of world r))
+      children : (r : Result Members F) → outcome world C s ≡ r → Once (shapes_of (stamps.children_of world r))
       children (Ok cs) e = once-children s _ cs e
       children (Err f) e = tt
 
-  pub before_or_not : (limit : Option (List Rank)) (b : List Rank) → IsBefore world limit b ⊎ (IsBefore world limit b → ⊥)
+  pub before_or_not : (limit : Option (List Rank)) (b : List Rank)
+      → IsBefore world limit b ⊎ (IsBefore world limit b → ⊥)
   before_or_not None b = inl tt
   before_or_not (Some l) b = elim (either (is_lt (stamps_cmp world.mode b l))) [
     | inl e ↦ inl (stamps.less_is (stamps_cmp world.mode) order _ e)
     | inr e ↦ inr (stamps.less_not (stamps_cmp world.mode) order _ e)
   ]
 
-  pub before-earlier : (limit : Option (List Rank)) (a b : List Rank) → IsEarlier world a b → IsBefore world limit b → IsBefore world limit a
+  pub before-earlier : (limit : Option (List Rank)) (a b : List Rank) → IsEarlier world a b → IsBefore world limit b
+      → IsBefore world limit a
   before-earlier None a b e h = tt
   before-earlier (Some l) a b e h = order.trans a b l e h
 
-  pub all-before : (limit : Option (List Rank)) (s : N) (taken : List N) → AllEarlier world s taken → IsBefore world limit (stamp_of world s) → AllBefore world limit taken
+  pub all-before : (limit : Option (List Rank)) (s : N) (taken : List N) → AllEarlier world s taken
+      → IsBefore world limit (stamp_of world s) → AllBefore world limit taken
   all-before limit s [] e h = tt
   all-before limit s (t ∷ taken) e h = (before-earlier limit (stamp_of world t) (stamp_of world s) e.0 h, all-before limit s taken e.1 h)
 
   -- the part of a run that comes before a limit
-  pub cut : (limit : Option (List Rank)) (taken : List N) (C : Members) → Reached world taken C → Rises world taken → NothingWaits world limit C → (first : List N) × (B : Members) × Reached world first B × AllBefore world limit first × NothingWaits world limit B × ((n : N) (k : Kind F P) → Has B n k → (j : Kind F P) × Has C n j)
+  pub cut : (limit : Option (List Rank)) (taken : List N) (C : Members) → Reached world taken C → Rises world taken
+      → NothingWaits world limit C
+      → (first : List N) × (B : Members) × Reached world first B × AllBefore world limit first
+        × NothingWaits world limit B × ((n : N) (k : Kind F P) → Has B n k → (j : Kind F P) × Has C n j)
   cut limit [] C e rise quiet = ([], C, e, tt, quiet, λ n k h. (k, h))
   cut limit (s ∷ taken) D (C, reached, step) rise quiet = elim (before_or_not limit (stamp_of world s)) [
     | inl b ↦ (s ∷ taken, D, (C, reached, step), (b, all-before limit s taken rise.0 b), quiet, λ n k h. (k, h))
     | inr late ↦
-        let good = steps.in_order world laws taken C reached in
-        let changes = steps.Changes-step world laws C D s good step in
+        let good = stamps.in_order world laws taken C reached in
+        let changes = stamps.Changes-step world laws C D s good step in
         let still : (n : N) (k : Kind F P) → Has C n k → (j : Kind F P) × Has D n j = λ n k h. elim (place_dec world n s) [
           | inl same ↦
               let one = (good.distinct n s k Waiting h step.waits same).0 in
-              (steps.kind_after world (outcome world C s), subst (λ x. Has D x (steps.kind_after world (outcome world C s))) (sym one) changes.itself)
+              (stamps.kind_after world (outcome world C s), subst (λ x. Has D x (stamps.kind_after world (outcome world C s))) (sym one) changes.itself)
           | inr apart ↦ (k, changes.to n k apart h)
         ] in
         let rest = cut limit taken C reached rise.1 (λ x h b. elim (place_dec world x s) [
@@ -127,15 +117,21 @@ module _ {N A F P : Type 0} (world : World N A F P) (laws : IsWorld world) where
   ]
 
   -- what a list that is consistent as far as a limit has made before it, a whole run has
-  pub made_before : (limit : Option (List Rank)) (list : Members) → IsConsistent world limit list → (taken : List N) (C : Members) → Reached world taken C → NothingWaits world None C → (n : N) (k : Kind F P) → Has list n k → IsBefore world limit (birth_of world n) → Among n (shapes_of C)
+  pub made_before : (limit : Option (List Rank)) (list : Members) → IsConsistent world limit list
+      → (taken : List N) (C : Members) → Reached world taken C → NothingWaits world None C → (n : N) (k : Kind F P)
+      → Has list n k → IsBefore world limit (birth_of world n) → Among n (shapes_of C)
   made_before limit list con taken C reached quiet n k h b =
-      let part = cut limit taken C reached (steps.rises world laws taken C reached) (λ x g e. quiet x g tt) in
+      let part = cut limit taken C reached (stamps.rises world laws taken C reached) (λ x g e. quiet x g tt) in
       let there = has_made world laws limit list con part.0 part.1 part.2 part.3 part.4 n k h b in
       let whole = part.5 n there.0 there.1 in
       Has-Among C n whole.0 whole.1
 
   -- of the nodes on the agenda one has the least stamp, if there is any
-  pub least_queued : (queued : N → Bool) (nodes : List (Node N A F P)) → ((n : N) (k : Kind F P) (a : A) → Keeps nodes n k a → queued n ≡ false) ⊎ ((s : N) × (k : Kind F P) × (a : A) × Keeps nodes s k a × (queued s ≡ true) × ((n : N) (j : Kind F P) (b : A) → Keeps nodes n j b → queued n ≡ true → IsEarlier world (stamp_of world n) (stamp_of world s) → ⊥))
+  pub least_queued : (queued : N → Bool) (nodes : List (Node N A F P))
+      → ((n : N) (k : Kind F P) (a : A) → Keeps nodes n k a → queued n ≡ false)
+        ⊎ ((s : N) × (k : Kind F P) × (a : A) × Keeps nodes s k a × (queued s ≡ true)
+        × ((n : N) (j : Kind F P) (b : A) → Keeps nodes n j b → queued n ≡ true
+        → IsEarlier world (stamp_of world n) (stamp_of world s) → ⊥))
   least_queued queued [] = inl (λ n k a h. absurd h)
   least_queued queued (m ∷ ms) = elim (either (queued m.shape)) [
     | inl on ↦ elim (least_queued queued ms) [

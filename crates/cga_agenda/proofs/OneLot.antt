@@ -28,7 +28,8 @@ no_child n i m child =
     let size : 0 ≡ 0 + 1 = ap length child.path ∙ length-append [] (i ∷ []) in
     omega (arith, size)
 
-no_member : {X : Type 0} (i : ℕ) (c : Placed ℕ ℕ ℕ) (cs : List (Placed ℕ ℕ ℕ)) → ◌≡◌ {A = Result (List (Placed ℕ ℕ ℕ)) ℕ} (Ok []) (Ok cs) → slice_get cs i ≡ Some c → X
+no_member : {X : Type 0} (i : ℕ) (c : Placed ℕ ℕ ℕ) (cs : List (Placed ℕ ℕ ℕ))
+    → ◌≡◌ {A = Result (List (Placed ℕ ℕ ℕ)) ℕ} (Ok []) (Ok cs) → slice_get cs i ≡ Some c → X
 no_member i c [] e g = let x : ◌≡◌ {A = Option (Placed ℕ ℕ ℕ)} None (Some c) = g in cc
 no_member i c (d ∷ ds) e g = cc
 
@@ -61,7 +62,8 @@ laws = record {
   solids = λ c e. refl;
 }
 
-is_root : (k : K) (n : ℕ) (j : K) (a : ℕ) → Keeps (record { shape = 0; kind = k; answers = 0 } ∷ []) n j a → (0 ≡ n) × (k ≡ j) × (0 ≡ a)
+is_root : (k : K) (n : ℕ) (j : K) (a : ℕ) → Keeps (record { shape = 0; kind = k; answers = 0 } ∷ []) n j a
+    → (0 ≡ n) × (k ≡ j) × (0 ≡ a)
 is_root k n j a h = elim h [ inl e ↦ e | inr r ↦ absurd r ]
 
 -- a list of the one root is a tree

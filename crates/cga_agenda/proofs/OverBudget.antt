@@ -12,18 +12,13 @@ use Rattle.cga_order.specs.declared.placed.Kind.TheVariants.{Waiting}
 use Rattle.cga_order.specs.Run.{outcome, told, start, IsStep, Reached}
 use Rattle.cga_order.specs.Consistent.{AllBefore, NothingWaits}
 use Rattle.cga_order.specs.Agenda.{Node, members_of, Keeps}
-use Rattle.cga_order.proofs.Order.{rank_total}
-use Rattle.cga_order.proofs.Members.{waits}
-use Rattle.cga_order.proofs.Maxima.{either}
-use Rattle.cga_order.proofs.Maxima as stamps
-use Rattle.cga_order.proofs.Counts.{length-taken}
-use Rattle.cga_order.proofs.Turns.{right_consistent}
-use Rattle.cga_order.proofs.Unique.{has_members}
+use Rattle.cga_order.proofs.Door.{has_members, length-once, length-taken, rank_total, right_consistent, waits}
+use Rattle.std.proofs.lemmas.Bool.{cases_Bool as either}
+use Rattle.cga_order.proofs.Door as stamps
 use Rattle.cga_agenda.specs.Edit.{Edit, IsEdit, new_world}
 use Rattle.cga_order.specs.Once.{Once}
 use Rattle.cga_agenda.specs.Work.{IsWorking, IsStart}
 use Rattle.cga_agenda.specs.Known.{shapes_of, IsOverBudget, IsKnown}
-use Rattle.cga_order.proofs.Once.{length-once}
 use Rattle.cga_agenda.proofs.Lists.{Has-Among, Among-Has}
 use Rattle.cga_agenda.proofs.Made.{length-map, once-reached}
 use Rattle.cga_agenda.proofs.Budget.{known_derived, turned_derived, all_derived}
@@ -42,7 +37,9 @@ module _ {N A F P : Type 0} (world : World N A F P) (laws : IsWorld world) where
   Below x s = below x s ≡ true
 
   -- of the members that wait one has the least rank, if any waits
-  least_waiting : (ms : Members) → ((x : N) → Has ms x Waiting → ⊥) ⊎ ((s : N) × Has ms s Waiting × ((x : N) → Has ms x Waiting → below x s ≡ false))
+  least_waiting : (ms : Members)
+      → ((x : N) → Has ms x Waiting → ⊥)
+        ⊎ ((s : N) × Has ms s Waiting × ((x : N) → Has ms x Waiting → below x s ≡ false))
   least_waiting [] = inl (λ x h. h)
   least_waiting (m ∷ ms) = elim (either (is_waiting m.kind)) [
     | inl on ↦
@@ -89,14 +86,16 @@ module _ {N A F P : Type 0} (world : World N A F P) (laws : IsWorld world) where
       ]
 
   -- a configuration is the last, or there is a step
-  goes_on : (C : Members) → NothingWaits world None C ⊎ ((s : N) × IsStep world C (told world C s (outcome world C s)) s)
+  goes_on : (C : Members)
+      → NothingWaits world None C ⊎ ((s : N) × IsStep world C (told world C s (outcome world C s)) s)
   goes_on C = elim (least_waiting C) [
     | inl none ↦ inl (λ x h b. none x h)
     | inr (s, there, least) ↦ inr (s, record { waits = there; least = λ x h e. let y : true ≡ false = sym (ap is_lt e) ∙ least x h in cc; told = refl })
   ]
 
   -- so many steps, or all of them
-  run_of : (n : ℕ) → (taken : List N) × (C : Members) × Reached world taken C × ((length taken ≡ n) ⊎ NothingWaits world None C)
+  run_of : (n : ℕ)
+      → (taken : List N) × (C : Members) × Reached world taken C × ((length taken ≡ n) ⊎ NothingWaits world None C)
   run_of zero = ([], start world, refl, inl refl)
   run_of (suc n) =
       let r = run_of n in
@@ -109,7 +108,9 @@ module _ {N A F P : Type 0} (world : World N A F P) (laws : IsWorld world) where
       ]
 
   -- what is no more than the members of each whole run is no more than those of some run
-  pub over : (budget size : ℕ) → budget < size → ((taken : List N) (C : Members) → Reached world taken C → NothingWaits world None C → size ≤ length C) → IsOverBudget world budget
+  pub over : (budget size : ℕ) → budget < size
+      → ((taken : List N) (C : Members) → Reached world taken C → NothingWaits world None C → size ≤ length C)
+      → IsOverBudget world budget
   over budget size lt within =
       let r = run_of (budget + 1) in (
         r.0,
@@ -129,7 +130,8 @@ module _ {N A B F P : Type 0} (edit : Edit N A B F P) (laws : IsEdit edit) (star
   abbrev w : World N A F P
   w = new_world edit
 
-  pub early : (known : List N) → IsKnown edit now worked known → (budget : ℕ) → (budget < length known) ⊎ (budget < length turned) → IsOverBudget w budget
+  pub early : (known : List N) → IsKnown edit now worked known → (budget : ℕ)
+      → (budget < length known) ⊎ (budget < length turned) → IsOverBudget w budget
   early known knows budget more = elim more [
     | inl lt ↦ over w laws.new budget (length known) lt (λ taken C run quiet. known_derived edit laws start started now queued turned worked good taken C run quiet known knows)
     | inr lt ↦ over w laws.new budget (length turned) lt (λ taken C run quiet. turned_derived edit laws start started now queued turned worked good taken C run quiet)
@@ -149,7 +151,8 @@ module _ {N A B F P : Type 0} (edit : Edit N A B F P) (laws : IsEdit edit) (star
         nodes : length (members_of now) ≡ length now
         nodes = length-map (λ m. record { shape = m.shape; kind = m.kind }) now
 
-    pub late : (budget : ℕ) → (IsOverBudget w budget → budget < length now) × (budget < length now → IsOverBudget w budget)
+    pub late : (budget : ℕ)
+        → (IsOverBudget w budget → budget < length now) × (budget < length now → IsOverBudget w budget)
     late budget = (
       (λ o. omega (arith, o.3, within o.0 o.1 o.2)),
       (λ lt. over w laws.new budget (length now) lt (λ taken C run quiet.

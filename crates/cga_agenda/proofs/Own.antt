@@ -6,14 +6,14 @@ use Rattle.cga_order.specs.declared.placed.Kind.{Kind}
 use Rattle.cga_order.specs.declared.placed.Kind.TheVariants.{Waiting, Done, Faulted, Instance}
 use Rattle.cga_order.specs.Run.{Reached}
 use Rattle.cga_order.specs.Consistent.{NothingWaits}
-use Rattle.cga_order.proofs.Maxima.{either}
-use Rattle.cga_order.proofs.Members.{waits, Has-start}
-use Rattle.cga_order.proofs.Steps as steps
-use Rattle.cga_order.proofs.Derived as derived
+use Rattle.cga_order.proofs.Door.{Has-start, waits}
+use Rattle.std.proofs.lemmas.Bool.{cases_Bool as either}
+use Rattle.cga_order.proofs.Door as steps
 use Rattle.cga_agenda.specs.Edit.{answers_at}
 
 -- n got these answers at its step of the run
-abbrev pub AnsweredIn : {N A F P : Type 0} (world : World N A F P) (taken : List N) (list : List (Placed N F P)) → Reached world taken list → N → A → Type 0
+abbrev pub AnsweredIn : {N A F P : Type 0} (world : World N A F P) (taken : List N) (list : List (Placed N F P))
+    → Reached world taken list → N → A → Type 0
 AnsweredIn world [] list run n a = ⊥
 AnsweredIn world (s ∷ taken) list run n a =
     ((s ≡ n)
@@ -24,19 +24,21 @@ module _ {N A F P : Type 0} (world : World N A F P) (laws : IsWorld world) where
   abbrev Members : Type 0
   Members = List (Placed N F P)
 
-  pub taken-in : (taken : List N) (C : Members) (run : Reached world taken C) (n : N) (a : A) → AnsweredIn world taken C run n a → Among n taken
+  pub taken-in : (taken : List N) (C : Members) (run : Reached world taken C) (n : N) (a : A)
+      → AnsweredIn world taken C run n a → Among n taken
   taken-in [] C run n a h = absurd h
   taken-in (s ∷ taken) D run n a h = elim h [ inl e ↦ inl e.0 | inr r ↦ inr (taken-in taken run.0 run.1 n a r) ]
 
-  pub answered : (taken : List N) (C : Members) (run : Reached world taken C) (n : N) (a : A) → AnsweredIn world taken C run n a → a ≡ answers_at world C n
+  pub answered : (taken : List N) (C : Members) (run : Reached world taken C) (n : N) (a : A)
+      → AnsweredIn world taken C run n a → a ≡ answers_at world C n
   answered [] C run n a h = absurd h
   answered (s ∷ taken) D run n a h =
       let good = steps.in_order world laws taken run.0 run.1 in
       elim h [
-        | inl e ↦ sym e.1 ∙ (derived.saw_answers world laws run.0 D s good run.2 ∙ ap (answers_at world D) e.0)
+        | inl e ↦ sym e.1 ∙ (steps.saw_answers world laws run.0 D s good run.2 ∙ ap (answers_at world D) e.0)
         | inr r ↦
             let done = steps.taken_done world laws taken run.0 run.1 n (taken-in taken run.0 run.1 n a r) in
-            answered taken run.0 run.1 n a r ∙ derived.same_answers world laws run.0 D s good run.2 n (good.done n s done.0 done.1 done.2 run.2.waits)
+            answered taken run.0 run.1 n a r ∙ steps.same_answers world laws run.0 D s good run.2 n (good.done n s done.0 done.1 done.2 run.2.waits)
       ]
 
   expanded_kind : (k : Kind F P) → is_waiting k ≡ false → is_instance k ≡ false → steps.IsExpanded world k
@@ -46,7 +48,8 @@ module _ {N A F P : Type 0} (world : World N A F P) (laws : IsWorld world) where
   expanded_kind (Instance y) e f = let x : true ≡ false = f in cc
 
   -- what is expanded was taken
-  was_taken : (taken : List N) (C : Members) (run : Reached world taken C) (n : N) (k : Kind F P) → Has C n k → steps.IsExpanded world k → (a : A) × AnsweredIn world taken C run n a
+  was_taken : (taken : List N) (C : Members) (run : Reached world taken C) (n : N) (k : Kind F P) → Has C n k
+      → steps.IsExpanded world k → (a : A) × AnsweredIn world taken C run n a
   was_taken [] C run n k h x = absurd (steps.not_waiting world k x (Has-start world world.roots n k (subst (λ y. Has y n k) run h)).1)
   was_taken (s ∷ taken) D run n k h x =
       let good = steps.in_order world laws taken run.0 run.1 in
@@ -58,7 +61,10 @@ module _ {N A F P : Type 0} (world : World N A F P) (laws : IsWorld world) where
         ]
       ]
 
-  pub own : (taken : List N) (C : Members) (run : Reached world taken C) → NothingWaits world None C → ((n : N) (a : A) → AnsweredIn world taken C run n a → a ≡ answers_at world C n) × ((n : N) (k : Kind F P) → Has C n k → is_instance k ≡ false → AnsweredIn world taken C run n (answers_at world C n))
+  pub own : (taken : List N) (C : Members) (run : Reached world taken C) → NothingWaits world None C
+      → ((n : N) (a : A) → AnsweredIn world taken C run n a → a ≡ answers_at world C n)
+        × ((n : N) (k : Kind F P) → Has C n k → is_instance k ≡ false
+        → AnsweredIn world taken C run n (answers_at world C n))
   own taken C run quiet = (
     answered taken C run,
     λ n k h i. elim (either (is_waiting k)) [

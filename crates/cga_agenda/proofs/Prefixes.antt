@@ -5,7 +5,7 @@ use Rattle.std.proofs.lemmas.List.{take-append-le}
 use Rattle.cga_order.specs.Chain.{IsChild}
 use Rattle.cga_order.specs.declared.placed.Placed.{Placed}
 use Rattle.cga_order.specs.Run.{Reached}
-use Rattle.cga_order.proofs.Steps as steps
+use Rattle.cga_order.proofs.Door as steps
 use Rattle.cga_agenda.specs.Edit.{Edit, IsEdit, new_world, NonInstance, KeptAt, Kept}
 
 last_or_less : (i n : ℕ) → i ≤ n → (i ≡ n) ⊎ (i < n)
@@ -40,10 +40,12 @@ module _ {N A B F P : Type 0} (edit : Edit N A B F P) (laws : IsEdit edit) (old 
   itself : (n : N) (i : ℕ) → NonInstance old n → NonInstance new n → i ≡ length (edit.chain n).path → Named n i
   itself n i was is e = (n, refl, sym (ap (λ j. take j (edit.chain n).path) e ∙ take-length (edit.chain n).path), was, is)
 
-  size : (p n : N) (i : ℕ) → IsChild (edit.chain p) i (edit.chain n) → length (edit.chain n).path ≡ length (edit.chain p).path + 1
+  size : (p n : N) (i : ℕ) → IsChild (edit.chain p) i (edit.chain n)
+      → length (edit.chain n).path ≡ length (edit.chain p).path + 1
   size p n i child = ap length child.path ∙ length-append (edit.chain p).path (i ∷ [])
 
-  prefix_up : (p n : N) (j i : ℕ) → IsChild (edit.chain p) j (edit.chain n) → i ≤ length (edit.chain p).path → take i (edit.chain n).path ≡ take i (edit.chain p).path
+  prefix_up : (p n : N) (j i : ℕ) → IsChild (edit.chain p) j (edit.chain n) → i ≤ length (edit.chain p).path
+      → take i (edit.chain n).path ≡ take i (edit.chain p).path
   prefix_up p n j i child le = ap (take i) child.path ∙ take-append-le i (edit.chain p).path (j ∷ []) le
 
   named : (depth : ℕ) (n : N) → KeptAt edit old new depth n → (i : ℕ) → i ≤ length (edit.chain n).path → Named n i

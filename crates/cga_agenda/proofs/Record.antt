@@ -8,23 +8,22 @@ use Rattle.cga_order.specs.declared.placed.Placed.{Placed}
 use Rattle.cga_order.specs.declared.placed.Kind.{Kind}
 use Rattle.cga_order.specs.declared.placed.Kind.TheVariants.{Instance}
 use Rattle.cga_order.specs.Agenda.{Node, members_of, Keeps, IsSettled, Remains}
-use Rattle.cga_order.proofs.Chains.{birth-child}
-use Rattle.cga_order.proofs.Members.{place_dec}
-use Rattle.cga_order.proofs.Turns.{Has-Keeps, Keeps-Has}
+use Rattle.cga_order.proofs.Door.{Among-append, Has-Keeps, Keeps-Has, Once-append, birth-child, place_dec}
 use Rattle.cga_agenda.specs.Edit.{Edit, IsEdit, old_world, new_world, renewed, Kept}
 use Rattle.cga_agenda.specs.Work.{next_worked, IsBegun, Places, IsTurnOf, IsWorking, IsStart}
 use Rattle.cga_agenda.specs.Record.{Drawn, Draws, IsChange, IsMade, IsRecord}
 use Rattle.cga_agenda.specs.Exact.{IsExact, IsExactRecord}
-use Rattle.cga_order.proofs.Once.{Among-append, Once-append}
 use Rattle.cga_agenda.proofs.Lists.{Has-map, map-Has}
 use Rattle.cga_agenda.proofs.Working.{NonInstance-Keeps, kept_new, one_kind, placed}
 use Rattle.cga_agenda.proofs.Turning.{turned_before, remains_early, alone, where_from, as_it_was, s_settled, kept_back, is_turn, still_worked}
 use Rattle.cga_agenda.proofs.Exact.{exact}
 
-told_true : {N : Type 0} (s : N) (worked : List N) (expanded : Bool) → expanded ≡ true → next_worked s expanded worked ≡ s ∷ worked
+told_true : {N : Type 0} (s : N) (worked : List N) (expanded : Bool) → expanded ≡ true
+    → next_worked s expanded worked ≡ s ∷ worked
 told_true s worked expanded e = ap (λ b. next_worked s b worked) e
 
-pub count_append : {X : Type 0} (test : X → Bool) (xs ys : List X) → count_by test (xs ++ ys) ≡ count_by test xs + count_by test ys
+pub count_append : {X : Type 0} (test : X → Bool) (xs ys : List X)
+    → count_by test (xs ++ ys) ≡ count_by test xs + count_by test ys
 count_append test xs ys = sum_by-append (λ x. cond (test x) 1 0) xs ys
 
 module _ {N A B F P : Type 0} (edit : Edit N A B F P) (laws : IsEdit edit) (start : List (Node N A F P)) (started : IsStart edit start) where
@@ -35,7 +34,8 @@ module _ {N A B F P : Type 0} (edit : Edit N A B F P) (laws : IsEdit edit) (star
   w = new_world edit
 
   module _ (nodes : Nodes) (queued : N → Bool) (begun : IsBegun edit start nodes queued) (gone : List (Drawn N P)) (change : IsChange start nodes gone []) where
-    no_parent : (d : Drawn N P) → Draws start d → (Draws nodes d → ⊥) → (q : N) (i : ℕ) → IsChild (edit.chain q) i (edit.chain d.shape) → Kept edit (members_of start) (members_of nodes) q → ⊥
+    no_parent : (d : Drawn N P) → Draws start d → (Draws nodes d → ⊥) → (q : N) (i : ℕ)
+        → IsChild (edit.chain q) i (edit.chain d.shape) → Kept edit (members_of start) (members_of nodes) q → ⊥
     no_parent d was gone q i child kept =
         let both = kept_new edit (members_of start) (members_of nodes) kept.0 q kept.1 in
         let old = NonInstance-Keeps edit start q both.0 in
@@ -80,11 +80,15 @@ module _ {N A B F P : Type 0} (edit : Edit N A B F P) (laws : IsEdit edit) (star
     pub made_on : (n : N) → IsMade edit worked n → IsMade edit reworked n
     made_on n (x, i, among, child) = (x, i, still_worked edit laws start started before after s queued requeued turned worked expanded good turn x among, child)
 
-    solid_is : (k : Kind F P) (p : P) (now : Kind F P) → now ≡ Instance p → is_instance now ≡ is_instance k → (is_instance k ≡ true → now ≡ k) → k ≡ Instance p
+    solid_is : (k : Kind F P) (p : P) (now : Kind F P) → now ≡ Instance p → is_instance now ≡ is_instance k
+        → (is_instance k ≡ true → now ≡ k) → k ≡ Instance p
     solid_is k p now e alike same = sym (same (sym alike ∙ ap is_instance e)) ∙ e
 
     -- where the children of s only get their new priorities, its instances stay, and none comes
-    solids_stay : (k : Kind F P) (x : N) (p : P) (i : ℕ) (r : Result (List (Placed N F P)) F) → IsChild (edit.chain s) i (edit.chain x) → IsSettled (old_world edit) before s k r → IsSettled w after s k (renewed edit.renew r) → Draws before (record { shape = x; solid = p }) → Draws after (record { shape = x; solid = p })
+    solids_stay : (k : Kind F P) (x : N) (p : P) (i : ℕ) (r : Result (List (Placed N F P)) F)
+        → IsChild (edit.chain s) i (edit.chain x) → IsSettled (old_world edit) before s k r
+        → IsSettled w after s k (renewed edit.renew r) → Draws before (record { shape = x; solid = p })
+        → Draws after (record { shape = x; solid = p })
     solids_stay k x p i (Ok cs) child was now h =
         let m = was.1.only x (Instance p) h.0 h.1 i child in
         let u = was.1.all x m.0 m.1 in
@@ -98,7 +102,10 @@ module _ {N A B F P : Type 0} (edit : Edit N A B F P) (laws : IsEdit edit) (star
         (kept.0, subst (λ j. Keeps after x j kept.0) (v.3 refl) kept.1)
     solids_stay k x p i (Err f) child was now h = absurd (was.1.only x (Instance p) h.0 h.1 i child).1
 
-    solids_were : (k : Kind F P) (x : N) (p : P) (i : ℕ) (r : Result (List (Placed N F P)) F) → IsChild (edit.chain s) i (edit.chain x) → IsSettled (old_world edit) before s k r → IsSettled w after s k (renewed edit.renew r) → Draws after (record { shape = x; solid = p }) → Draws before (record { shape = x; solid = p })
+    solids_were : (k : Kind F P) (x : N) (p : P) (i : ℕ) (r : Result (List (Placed N F P)) F)
+        → IsChild (edit.chain s) i (edit.chain x) → IsSettled (old_world edit) before s k r
+        → IsSettled w after s k (renewed edit.renew r) → Draws after (record { shape = x; solid = p })
+        → Draws before (record { shape = x; solid = p })
     solids_were k x p i (Ok cs) child was now h =
         let m = now.1.only x (Instance p) h.0 h.1 i child in
         let u = now.1.all x m.0 m.1 in
@@ -113,10 +120,12 @@ module _ {N A B F P : Type 0} (edit : Edit N A B F P) (laws : IsEdit edit) (star
         (kept.0, subst (λ j. Keeps before x j kept.0) (v.3 refl) kept.1)
     solids_were k x p i (Err f) child was now h = absurd (now.1.only x (Instance p) h.0 h.1 i child).1
 
-    settled : is_waiting turn.was.0 ≡ false → IsSettled (old_world edit) before s turn.was.0 (edit.old.expand s turn.was.1)
+    settled : is_waiting turn.was.0 ≡ false
+        → IsSettled (old_world edit) before s turn.was.0 (edit.old.expand s turn.was.1)
     settled done = s_settled edit laws start started before after s queued requeued turned worked expanded good turn done
 
-    renewed_settled : Places edit before after s turn.was.0 turn.was.1 → IsSettled w after s turn.was.0 (renewed edit.renew (edit.old.expand s turn.was.1))
+    renewed_settled : Places edit before after s turn.was.0 turn.was.1
+        → IsSettled w after s turn.was.0 (renewed edit.renew (edit.old.expand s turn.was.1))
     renewed_settled p = placed edit laws start started before after s turn.was.0 turn.was.1 good.tree p.children (settled p.done)
 
     -- an instance after the turn was there before it, or is a child of what was expanded
@@ -135,7 +144,9 @@ module _ {N A B F P : Type 0} (edit : Edit N A B F P) (laws : IsEdit edit) (star
     ]
 
     -- the parent of an instance that went isn't kept, or was expanded
-    went_from : (d : Drawn N P) → Draws before d → (Draws after d → ⊥) → (q : N) (i : ℕ) → IsChild (edit.chain q) i (edit.chain d.shape) → Kept edit (members_of start) (members_of after) q → Among q reworked
+    went_from : (d : Drawn N P) → Draws before d → (Draws after d → ⊥) → (q : N) (i : ℕ)
+        → IsChild (edit.chain q) i (edit.chain d.shape) → Kept edit (members_of start) (members_of after) q
+        → Among q reworked
     went_from d h gone q i child kept = elim (turn.to d.shape (Instance d.solid) h.0 h.1) [
       | inl r ↦ absurd (gone (r.1, subst (λ k. Keeps after d.shape k r.1) (r.4 refl) r.2))
       | inr went ↦
@@ -159,10 +170,12 @@ module _ {N A B F P : Type 0} (edit : Edit N A B F P) (laws : IsEdit edit) (star
     ]
 
     module _ (gone come went came : List (Drawn N P)) (kept : IsRecord edit start before worked gone come) (change : IsChange before after went came) where
-      back : (q : N) → Kept edit (members_of start) (members_of after) q → Kept edit (members_of start) (members_of before) q
+      back : (q : N) → Kept edit (members_of start) (members_of after) q
+          → Kept edit (members_of start) (members_of before) q
       back q h = kept_back edit laws start started before after s queued requeued turned worked expanded good turn q h
 
-      made_next : (d : Drawn N P) → (Draws before d → IsMade edit worked d.shape) → Draws after d → IsMade edit reworked d.shape
+      made_next : (d : Drawn N P) → (Draws before d → IsMade edit worked d.shape) → Draws after d
+          → IsMade edit reworked d.shape
       made_next d was h = elim (there_next d h) [ inl b ↦ made_on d.shape (was b) | inr m ↦ m ]
 
       next_come : (d : Drawn N P) → Among d (come ++ came) → Draws after d × IsMade edit reworked d.shape
@@ -174,7 +187,10 @@ module _ {N A B F P : Type 0} (edit : Edit N A B F P) (laws : IsEdit edit) (star
       was_old : (d : Drawn N P) → Draws before d → (Draws after d → ⊥) → Draws start d
       was_old d h lost = elim (kept.there d h) [ inl old ↦ old | inr made ↦ absurd (lost (drawn_stays d h made)) ]
 
-      next_gone : (d : Drawn N P) → Among d (gone ++ went) → Draws start d × (Draws after d → IsMade edit reworked d.shape) × ((q : N) (i : ℕ) → IsChild (edit.chain q) i (edit.chain d.shape) → Kept edit (members_of start) (members_of after) q → Among q reworked)
+      next_gone : (d : Drawn N P) → Among d (gone ++ went)
+          → Draws start d × (Draws after d → IsMade edit reworked d.shape)
+            × ((q : N) (i : ℕ) → IsChild (edit.chain q) i (edit.chain d.shape)
+            → Kept edit (members_of start) (members_of after) q → Among q reworked)
       next_gone d i = elim (Among-append gone went d i) [
         | inr c ↦ let g = change.each_went d c in (was_old d g.0 g.1, (λ h. absurd (g.1 h)), went_from d g.0 g.1)
         | inl c ↦

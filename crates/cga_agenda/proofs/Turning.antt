@@ -6,15 +6,15 @@ use Rattle.cga_order.specs.World.{World, Among, is_waiting, is_instance, place_o
 use Rattle.cga_order.specs.declared.placed.Kind.{Kind}
 use Rattle.cga_order.specs.declared.placed.Kind.TheVariants.{Waiting}
 use Rattle.cga_order.specs.Agenda.{Node, members_of, Keeps, IsSettled, Came, Remains, IsTurn}
-use Rattle.cga_order.proofs.Chains.{birth-stamp, stamp-child}
-use Rattle.cga_order.proofs.Members.{place_dec}
-use Rattle.cga_order.proofs.Maxima.{either}
-use Rattle.cga_order.proofs.Maxima as stamps
-use Rattle.cga_order.proofs.Turns.{Has-Keeps, still_right}
+use Rattle.cga_order.proofs.Door.{Has-Keeps, birth-stamp, place_dec, stamp-child, still_right}
+use Rattle.std.proofs.lemmas.Bool.{cases_Bool as either}
+use Rattle.cga_order.proofs.Door as stamps
 use Rattle.cga_agenda.specs.Edit.{Edit, IsEdit, old_world, new_world, NonInstance, KeptAt, Kept}
 use Rattle.cga_order.specs.Once.{Once}
 use Rattle.cga_agenda.specs.Work.{next_worked, IsFresh, Expands, Places, IsTurnOf, IsReworked, IsOld, IsWorking, IsStart}
-use Rattle.cga_agenda.proofs.Working.{path_not_empty, Keeps-NonInstance, NonInstance-Keeps, ChildrenFrom, ChildrenTo, still_settled, same_children, waiting_is, settled_done, new_not, kept_new, order, was_right, one_kind, one_kind_old, parents_same, root_no_child, placed}
+use Rattle.cga_agenda.proofs.Working.{path_not_empty, Keeps-NonInstance, NonInstance-Keeps, ChildrenFrom, ChildrenTo}
+use Rattle.cga_agenda.proofs.Working.{still_settled, same_children, waiting_is, settled_done, new_not, kept_new}
+use Rattle.cga_agenda.proofs.Working.{order, was_right, one_kind, one_kind_old, parents_same, root_no_child, placed}
 
 module _ {N A B F P : Type 0} (edit : Edit N A B F P) (laws : IsEdit edit) (start : List (Node N A F P)) (started : IsStart edit start) (before after : List (Node N A F P)) (s : N) (queued requeued : N → Bool) (turned worked : List N) (expanded : Bool) (good : IsWorking edit start before queued turned worked) (turn : IsTurnOf edit before after s queued requeued expanded) where
   abbrev Nodes : Type 0
@@ -45,7 +45,8 @@ module _ {N A B F P : Type 0} (edit : Edit N A B F P) (laws : IsEdit edit) (star
   not_worked i = not_turned (good.expanded s i).0
 
   -- what was made before the stamp of s remains
-  pub remains_early : (m : N) (k : Kind F P) (a : A) → Keeps before m k a → IsEarlier w (birth_of w m) (stamp_of w s) → Remains w after m k
+  pub remains_early : (m : N) (k : Kind F P) (a : A) → Keeps before m k a → IsEarlier w (birth_of w m) (stamp_of w s)
+      → Remains w after m k
   remains_early m k a h e = elim (turn.to m k a h) [ inl r ↦ r | inr went ↦ absurd (went.late e) ]
 
   s_after : Remains w after s turn.was.0
@@ -55,14 +56,16 @@ module _ {N A B F P : Type 0} (edit : Edit N A B F P) (laws : IsEdit edit) (star
   alone n k a h e = (turn.tree.distinct n s k s_after.0 a s_after.1 h s_after.2 e).0
 
   -- a node is s, or stayed, or came
-  pub where_from : (m : N) (k : Kind F P) (a : A) → Keeps after m k a → (m ≡ s) ⊎ (((m ≡ s) → ⊥) × (Keeps before m k a ⊎ (Came w after s m k requeued × IsFresh edit before after m k)))
+  pub where_from : (m : N) (k : Kind F P) (a : A) → Keeps after m k a
+      → (m ≡ s) ⊎ (((m ≡ s) → ⊥) × (Keeps before m k a ⊎ (Came w after s m k requeued × IsFresh edit before after m k)))
   where_from m k a h = elim (place_dec w m s) [
     | inl same ↦ inl (alone m k a h same)
     | inr apart ↦ let d : m ≡ s → ⊥ = λ e. apart (ap (place_of w) e) in inr (d, turn.from m k a h d)
   ]
 
   -- a node that stays is as it was
-  pub as_it_was : (m : N) (k j : Kind F P) (a b : A) → ((m ≡ s) → ⊥) → Keeps before m k a → Keeps after m j b → is_instance k ≡ is_instance j → (is_instance j ≡ true → k ≡ j) → Keeps before m j b
+  pub as_it_was : (m : N) (k j : Kind F P) (a b : A) → ((m ≡ s) → ⊥) → Keeps before m k a → Keeps after m j b
+      → is_instance k ≡ is_instance j → (is_instance j ≡ true → k ≡ j) → Keeps before m j b
   as_it_was m k j a b d h g i same = elim (turn.from m j b g d) [ inl x ↦ x | inr c ↦ absurd (c.1.not_there k a h i same) ]
 
   from_children : (n : N) (k : Kind F P) (a : A) → Keeps after n k a → (n ≡ s → ⊥) → (ChildrenFrom edit) before after n
@@ -74,7 +77,8 @@ module _ {N A B F P : Type 0} (edit : Edit N A B F P) (laws : IsEdit edit) (star
     ]
   ]
 
-  to_children : (n : N) (k : Kind F P) (a : A) → Keeps before n k a → Keeps after n k a → (n ≡ s → ⊥) → (ChildrenTo edit) before after n
+  to_children : (n : N) (k : Kind F P) (a : A) → Keeps before n k a → Keeps after n k a → (n ≡ s → ⊥)
+      → (ChildrenTo edit) before after n
   to_children n k a h g d c j b i child there = elim (turn.to c j b there) [
     | inl r ↦ r
     | inr went ↦ elim (went.below n i child) [
@@ -93,11 +97,13 @@ module _ {N A B F P : Type 0} (edit : Edit N A B F P) (laws : IsEdit edit) (star
   pub s_old : is_waiting turn.was.0 ≡ false → IsOld edit start before queued turned s turn.was.0 turn.was.1
   s_old done = elim (good.others s turn.was.0 turn.was.1 turn.was.2 turn.was.3 done) [ inl i ↦ absurd (not_worked i) | inr o ↦ o ]
 
-  pub s_settled : is_waiting turn.was.0 ≡ false → IsSettled (old_world edit) before s turn.was.0 (edit.old.expand s turn.was.1)
+  pub s_settled : is_waiting turn.was.0 ≡ false
+      → IsSettled (old_world edit) before s turn.was.0 (edit.old.expand s turn.was.1)
   s_settled done = elim (s_old done).children [ inl t ↦ absurd (not_turned t) | inr h ↦ h ]
 
   -- a child that s had in the old list, where s is kept, was there before
-  kept_child : KeptBefore s → (c : N) (i : ℕ) → IsChild (edit.chain s) i (edit.chain c) → NonInstance (members_of start) c → NonInstance (members_of before) c
+  kept_child : KeptBefore s → (c : N) (i : ℕ) → IsChild (edit.chain s) i (edit.chain c)
+      → NonInstance (members_of start) c → NonInstance (members_of before) c
   kept_child kept c i child is = elim (either (is_waiting turn.was.0)) [
     | inl e ↦ absurd (good.waiting s turn.was.0 turn.was.1 turn.was.2 ((waiting_is edit) turn.was.0 e) kept)
     | inr e ↦
@@ -106,10 +112,13 @@ module _ {N A B F P : Type 0} (edit : Edit N A B F P) (laws : IsEdit edit) (star
   ]
 
   -- what is kept after the turn was there before it
-  pub not_fresh : (m : N) (k : Kind F P) → IsFresh edit before after m k → is_instance k ≡ false → NonInstance (members_of before) m → ⊥
+  pub not_fresh : (m : N) (k : Kind F P) → IsFresh edit before after m k → is_instance k ≡ false
+      → NonInstance (members_of before) m → ⊥
   not_fresh m k fresh i is = let u = (NonInstance-Keeps edit) before m is in fresh.not_there u.0 u.1 u.2 (u.3 ∙ sym i) (λ e. let x : true ≡ false = sym e ∙ i in cc)
 
-  back : (n : N) → NonInstance (members_of after) n → ((i : ℕ) → IsChild (edit.chain s) i (edit.chain n) → NonInstance (members_of before) n) → NonInstance (members_of before) n
+  back : (n : N) → NonInstance (members_of after) n
+      → ((i : ℕ) → IsChild (edit.chain s) i (edit.chain n) → NonInstance (members_of before) n)
+      → NonInstance (members_of before) n
   back n is child =
       let u = (NonInstance-Keeps edit) after n is in
       elim (where_from n u.0 u.1 u.2) [
@@ -117,7 +126,8 @@ module _ {N A B F P : Type 0} (edit : Edit N A B F P) (laws : IsEdit edit) (star
         | inr r ↦ elim r.1 [ inl old ↦ (Keeps-NonInstance edit) before n u.0 u.1 old u.3 | inr came ↦ child came.0.0.0 came.0.0.1 ]
       ]
 
-  back_at : (depth : ℕ) (n : N) → KeptAt edit (members_of start) (members_of after) depth n → KeptAt edit (members_of start) (members_of before) depth n
+  back_at : (depth : ℕ) (n : N) → KeptAt edit (members_of start) (members_of after) depth n
+      → KeptAt edit (members_of start) (members_of before) depth n
   back_at zero n h = (h.0, back n h.1 (λ i child. absurd (path_not_empty (edit.chain s).path i (sym child.path ∙ h.2))), h.2)
   back_at (suc depth) n h =
       let p = h.2 in
@@ -134,7 +144,8 @@ module _ {N A B F P : Type 0} (edit : Edit N A B F P) (laws : IsEdit edit) (star
   kept_back n h = (h.0, back_at h.0 n h.1)
 
   -- what is kept before the turn, and still there, is kept after it
-  on_at : (depth : ℕ) (n : N) → KeptAt edit (members_of start) (members_of before) depth n → NonInstance (members_of after) n → KeptAt edit (members_of start) (members_of after) depth n
+  on_at : (depth : ℕ) (n : N) → KeptAt edit (members_of start) (members_of before) depth n
+      → NonInstance (members_of after) n → KeptAt edit (members_of start) (members_of after) depth n
   on_at zero n h is = (h.0, is, h.2)
   on_at (suc depth) n h is =
       let p = h.2 in
@@ -181,7 +192,8 @@ module _ {N A B F P : Type 0} (edit : Edit N A B F P) (laws : IsEdit edit) (star
     queued_still = turn.queued_still;
   }
 
-  after_s : (m : N) (k : Kind F P) (a : A) → Keeps after m k a → requeued m ≡ true → IsEarlier w (stamp_of w s) (stamp_of w m)
+  after_s : (m : N) (k : Kind F P) (a : A) → Keeps after m k a → requeued m ≡ true
+      → IsEarlier w (stamp_of w s) (stamp_of w m)
   after_s m k a h q = elim (turn.queues_only m k a h q) [
     | inl x ↦ turn.next.first m k a x.0 x.1 x.2
     | inr r ↦ elim r [ inl c ↦ stamp-child edit.mode (edit.chain s) c.0 (edit.chain m) (laws.new.whole s) c.1 | inr e ↦ e ]
@@ -194,7 +206,9 @@ module _ {N A B F P : Type 0} (edit : Edit N A B F P) (laws : IsEdit edit) (star
   ]
 
   -- what had its turn is there after the turn, and was so before
-  pub turned_stays : (x : N) → Among x turned → ((k : Kind F P) × (a : A) × Keeps after x k a × (is_instance k ≡ false)) × ((x ≡ s) → ⊥) × ((k : Kind F P) (a : A) → Keeps after x k a → Keeps before x k a)
+  pub turned_stays : (x : N) → Among x turned
+      → ((k : Kind F P) × (a : A) × Keeps after x k a × (is_instance k ≡ false)) × ((x ≡ s) → ⊥)
+        × ((k : Kind F P) (a : A) → Keeps after x k a → Keeps before x k a)
   turned_stays x i =
       let g = good.stays x i in
       let d : x ≡ s → ⊥ = λ e. not_turned (subst (λ y. Among y turned) e i) in
@@ -213,7 +227,8 @@ module _ {N A B F P : Type 0} (edit : Edit N A B F P) (laws : IsEdit edit) (star
     | inr j ↦ (turned_stays t j).0
   ]
 
-  reworked_on : (x : N) (k : Kind F P) (a : A) → Keeps after x k a → IsReworked edit start before x k a → IsReworked edit start after x k a
+  reworked_on : (x : N) (k : Kind F P) (a : A) → Keeps after x k a → IsReworked edit start before x k a
+      → IsReworked edit start after x k a
   reworked_on x k a h was = (
     was.0,
     elim was.1 [
@@ -230,7 +245,8 @@ module _ {N A B F P : Type 0} (edit : Edit N A B F P) (laws : IsEdit edit) (star
       let g = good.expanded x i in
       (inr g.0, λ k a h. reworked_on x k a h (g.1 k a ((turned_stays x g.0).2 k a h)))
 
-  s_reworked : Expands edit before after s turn.was.0 turn.was.1 → (k : Kind F P) (a : A) → Keeps after s k a → IsReworked edit start after s k a
+  s_reworked : Expands edit before after s turn.was.0 turn.was.1 → (k : Kind F P) (a : A) → Keeps after s k a
+      → IsReworked edit start after s k a
   s_reworked x k a h =
       let now = x.now k a h in (
         now.0,
@@ -276,7 +292,8 @@ module _ {N A B F P : Type 0} (edit : Edit N A B F P) (laws : IsEdit edit) (star
     ]
   ]
 
-  old_on : (n : N) (k : Kind F P) (a : A) → Keeps before n k a → Keeps after n k a → (n ≡ s → ⊥) → is_instance k ≡ false → IsOld edit start before queued turned n k a → IsOld edit start after requeued (s ∷ turned) n k a
+  old_on : (n : N) (k : Kind F P) (a : A) → Keeps before n k a → Keeps after n k a → (n ≡ s → ⊥) → is_instance k ≡ false
+      → IsOld edit start before queued turned n k a → IsOld edit start after requeued (s ∷ turned) n k a
   old_on n k a h g d i old = record {
     kept = kept_on n old.kept ((Keeps-NonInstance edit) after n k a g i);
     same = old.same;
@@ -287,7 +304,8 @@ module _ {N A B F P : Type 0} (edit : Edit N A B F P) (laws : IsEdit edit) (star
     ];
   }
 
-  s_placed : Places edit before after s turn.was.0 turn.was.1 → (k : Kind F P) (a : A) → Keeps after s k a → is_instance k ≡ false → IsOld edit start after requeued (s ∷ turned) s k a
+  s_placed : Places edit before after s turn.was.0 turn.was.1 → (k : Kind F P) (a : A) → Keeps after s k a
+      → is_instance k ≡ false → IsOld edit start after requeued (s ∷ turned) s k a
   s_placed p k a h i =
       let old = s_old p.done in
       let same = p.still k a h in
@@ -298,7 +316,8 @@ module _ {N A B F P : Type 0} (edit : Edit N A B F P) (laws : IsEdit edit) (star
         children = inl (inl refl);
       }
 
-  next_others : (n : N) (k : Kind F P) (a : A) → Keeps after n k a → is_instance k ≡ false → is_waiting k ≡ false → Among n reworked ⊎ IsOld edit start after requeued (s ∷ turned) n k a
+  next_others : (n : N) (k : Kind F P) (a : A) → Keeps after n k a → is_instance k ≡ false → is_waiting k ≡ false
+      → Among n reworked ⊎ IsOld edit start after requeued (s ∷ turned) n k a
   next_others n k a h i done = elim (where_from n k a h) [
     | inl e ↦ elim turn.was.4 [
       | inl x ↦ inl (subst (Among n) (sym (told_true x.0)) (inl (sym e)))

@@ -9,16 +9,13 @@ use Rattle.cga_order.specs.declared.placed.Kind.TheVariants.{Waiting, Done, Faul
 use Rattle.cga_order.specs.Run.{Reached}
 use Rattle.cga_order.specs.Consistent.{exists_at, waits_at, NothingWaits, SameMembers}
 use Rattle.cga_order.specs.Agenda.{Node, members_of, Keeps}
-use Rattle.cga_order.proofs.Members.{Among-shapes_where, Has-from_shapes_where}
-use Rattle.cga_order.proofs.Turns.{Has-Keeps, right_consistent}
-use Rattle.cga_order.proofs.Unique.{same_members}
+use Rattle.cga_order.proofs.Door.{Among-shapes_where, Has-Keeps, Has-from_shapes_where, count-once, length-once, right_consistent, same_members}
 use Rattle.cga_agenda.specs.Edit.{Edit, IsEdit, old_world, new_world, answers_at, NonInstance, KeptAt, Kept, SameInputs, Touched}
 use Rattle.cga_order.specs.Once.{Once}
 use Rattle.cga_agenda.specs.Work.{IsWorking, IsStart}
 use Rattle.cga_agenda.specs.Record.{Drawn, drawn, IsRecord, Balances}
 use Rattle.cga_agenda.specs.Known.{shapes_of}
 use Rattle.cga_agenda.specs.Exact.{IsExact, IsExactRecord}
-use Rattle.cga_order.proofs.Once.{length-once, count-once}
 use Rattle.cga_agenda.proofs.Lists.{Has-Among}
 use Rattle.cga_agenda.proofs.Exact.{exact}
 use Rattle.cga_agenda.proofs.Record.{record_exact}
@@ -44,14 +41,16 @@ pub record IsUpdate {N A B F P : Type 0} (edit : Edit N A B F P) (old new : List
   pub balance : Balances old come new gone
 
 module _ {N A F P : Type 0} (world : World N A F P) (laws : IsWorld world) where
-  seen_in : (n : N) (test : N → Kind F P → Bool) (xs ys : List (Placed N F P)) → SameMembers xs ys → (m : N) → Among m (shapes_where test xs) → Among m (shapes_where test ys)
+  seen_in : (n : N) (test : N → Kind F P → Bool) (xs ys : List (Placed N F P)) → SameMembers xs ys → (m : N)
+      → Among m (shapes_where test xs) → Among m (shapes_where test ys)
   seen_in n test xs ys same m h = let u = Has-from_shapes_where test xs m h in Among-shapes_where test ys m u.0 ((same m u.0).0 u.1) u.2
 
   pub turned_round : (xs ys : List (Placed N F P)) → SameMembers xs ys → SameMembers ys xs
   turned_round xs ys same n k = ((same n k).1, (same n k).0)
 
   -- answers depend on the members alone
-  pub answers_same : (n : N) (xs ys : List (Placed N F P)) → SameMembers xs ys → answers_at world xs n ≡ answers_at world ys n
+  pub answers_same : (n : N) (xs ys : List (Placed N F P)) → SameMembers xs ys
+      → answers_at world xs n ≡ answers_at world ys n
   answers_same n xs ys same =
       laws.local n _ _ _ _
       (λ m v. (seen_in n (exists_at world n) xs ys same m, seen_in n (exists_at world n) ys xs (turned_round xs ys same) m))
@@ -63,7 +62,8 @@ module _ {N F P : Type 0} where
   drawn-Has [] d h = absurd h
   drawn-Has (m ∷ ms) d h = by m.kind refl (drawn-Has ms d) h
     where
-      by : (k : Kind F P) → m.kind ≡ k → (Among d (drawn ms) → Has ms d.shape (Instance d.solid)) → Among d (drawn (record { shape = m.shape; kind = k } ∷ ms)) → Has (m ∷ ms) d.shape (Instance d.solid)
+      by : (k : Kind F P) → m.kind ≡ k → (Among d (drawn ms) → Has ms d.shape (Instance d.solid))
+          → Among d (drawn (record { shape = m.shape; kind = k } ∷ ms)) → Has (m ∷ ms) d.shape (Instance d.solid)
       by Waiting e rest i = inr (rest i)
       by Done e rest i = inr (rest i)
       by (Faulted f) e rest i = inr (rest i)
@@ -97,7 +97,9 @@ module _ {N F P : Type 0} where
       by (Faulted f) rest = rest
       by (Instance p) rest = ((λ i. o.0 (Has-Among ms m.shape (Instance p) (drawn-Has ms (record { shape = m.shape; solid = p }) i))), rest)
 
-  pub drawn_same : (xs ys : List (Placed N F P)) → Once (shapes_of xs) → Once (shapes_of ys) → ((n : N) (k : Kind F P) → (Has xs n k → Has ys n k) × (Has ys n k → Has xs n k)) → (test : Drawn N P → Bool) → count_by test (drawn xs) ≡ count_by test (drawn ys)
+  pub drawn_same : (xs ys : List (Placed N F P)) → Once (shapes_of xs) → Once (shapes_of ys)
+      → ((n : N) (k : Kind F P) → (Has xs n k → Has ys n k) × (Has ys n k → Has xs n k)) → (test : Drawn N P → Bool)
+      → count_by test (drawn xs) ≡ count_by test (drawn ys)
   drawn_same xs ys o p same test =
       count-once test (drawn xs) (drawn ys) (once-drawn xs o) (once-drawn ys p)
       (λ d h. Has-drawn ys d ((same d.shape (Instance d.solid)).0 (drawn-Has xs d h)))
@@ -125,7 +127,8 @@ module _ {N A B F P : Type 0} (edit : Edit N A B F P) (laws : IsEdit edit) where
     pub inputs_as : (n : N) → SameInputs edit old new n → SameInputs edit old' new' n
     inputs_as n h = (h.0, sym (answers_same (old_world edit) laws.old n old old' olds) ∙ (h.1 ∙ answers_same w laws.new n new new' news))
 
-  pub touched_as : (old old' new new' : List (Placed N F P)) → SameMembers old old' → SameMembers new new' → (n : N) → Touched edit old new n → Touched edit old' new' n
+  pub touched_as : (old old' new new' : List (Placed N F P)) → SameMembers old old' → SameMembers new new' → (n : N)
+      → Touched edit old new n → Touched edit old' new' n
   touched_as old old' new new' olds news n h =
       let back = turned_round w laws.new old old' olds in
       let back_new = turned_round w laws.new new new' news in (

@@ -9,10 +9,8 @@ use Rattle.cga_order.specs.declared.placed.Kind.{Kind}
 use Rattle.cga_order.specs.declared.placed.Kind.TheVariants.{Waiting, Done, Faulted, Instance}
 use Rattle.cga_order.specs.Consistent.{Stands}
 use Rattle.cga_order.specs.Agenda.{Node, members_of, Keeps, HasChildren, IsSettled, IsRight, Remains, IsTree}
-use Rattle.cga_order.proofs.Order.{stamps_total}
-use Rattle.cga_order.proofs.Chains.{snoc-same}
-use Rattle.cga_order.proofs.Steps as steps
-use Rattle.cga_order.proofs.Turns.{Has-Keeps, Keeps-Has}
+use Rattle.cga_order.proofs.Door.{Has-Keeps, Keeps-Has, snoc-same, stamps_total}
+use Rattle.cga_order.proofs.Door as steps
 use Rattle.cga_agenda.specs.Edit.{Side, Edit, IsEdit, world_of, old_world, new_world, renewed, NonInstance, KeptAt}
 use Rattle.cga_agenda.specs.Work.{first_kind, renewed_child, HasRenewed, IsStart}
 use Rattle.cga_agenda.proofs.Lists.{Has-map, map-Has}
@@ -26,10 +24,12 @@ module _ {N A B F P : Type 0} (edit : Edit N A B F P) where
   Nodes = List (Node N A F P)
 
   -- a node that is no instance
-  pub Keeps-NonInstance : (nodes : Nodes) (n : N) (k : Kind F P) (a : A) → Keeps nodes n k a → is_instance k ≡ false → NonInstance (members_of nodes) n
+  pub Keeps-NonInstance : (nodes : Nodes) (n : N) (k : Kind F P) (a : A) → Keeps nodes n k a → is_instance k ≡ false
+      → NonInstance (members_of nodes) n
   Keeps-NonInstance nodes n k a h i = (k, Has-Keeps nodes n k a h, i)
 
-  pub NonInstance-Keeps : (nodes : Nodes) (n : N) → NonInstance (members_of nodes) n → (k : Kind F P) × (a : A) × Keeps nodes n k a × (is_instance k ≡ false)
+  pub NonInstance-Keeps : (nodes : Nodes) (n : N) → NonInstance (members_of nodes) n
+      → (k : Kind F P) × (a : A) × Keeps nodes n k a × (is_instance k ≡ false)
   NonInstance-Keeps nodes n (k, h, i) = let w = Keeps-Has nodes n k h in (k, w.0, w.1, i)
 
   -- the children of n in the one list were there in the other
@@ -44,7 +44,9 @@ module _ {N A B F P : Type 0} (edit : Edit N A B F P) where
   abbrev pub AllBelow : N → List (Placed N F P) → Type 0
   AllBelow n cs = (c : N) (j : Kind F P) → Has cs c j → (i : ℕ) × IsChild (edit.chain n) i (edit.chain c)
 
-  pub children_on : (side : Side N A B F P) (before after : Nodes) (n : N) (cs : List (Placed N F P)) → AllBelow n cs → ChildrenFrom before after n → ChildrenTo before after n → HasChildren (world_of edit side) before n cs → HasChildren (world_of edit side) after n cs
+  pub children_on : (side : Side N A B F P) (before after : Nodes) (n : N) (cs : List (Placed N F P)) → AllBelow n cs
+      → ChildrenFrom before after n → ChildrenTo before after n → HasChildren (world_of edit side) before n cs
+      → HasChildren (world_of edit side) after n cs
   children_on side before after n cs below from to h = record {
     all = λ c j g.
         let u = below c j g in
@@ -56,15 +58,23 @@ module _ {N A B F P : Type 0} (edit : Edit N A B F P) where
   }
 
   -- a node whose children are the same stays settled
-  pub still_settled : (side : Side N A B F P) → IsWorld (world_of edit side) → (before after : Nodes) (n : N) (k : Kind F P) (a : A) → ChildrenFrom before after n → ChildrenTo before after n → IsSettled (world_of edit side) before n k (side.expand n a) → IsSettled (world_of edit side) after n k (side.expand n a)
+  pub still_settled : (side : Side N A B F P) → IsWorld (world_of edit side)
+      → (before after : Nodes) (n : N) (k : Kind F P) (a : A) → ChildrenFrom before after n → ChildrenTo before after n
+      → IsSettled (world_of edit side) before n k (side.expand n a)
+      → IsSettled (world_of edit side) after n k (side.expand n a)
   still_settled side laws before after n k a from to h = by (side.expand n a) refl h
     where
-      by : (r : Result (List (Placed N F P)) F) → side.expand n a ≡ r → IsSettled (world_of edit side) before n k r → IsSettled (world_of edit side) after n k r
+      by : (r : Result (List (Placed N F P)) F) → side.expand n a ≡ r → IsSettled (world_of edit side) before n k r
+          → IsSettled (world_of edit side) after n k r
       by (Ok cs) e g = (g.0, children_on side before after n cs (λ c j i. let u = steps.child_of (world_of edit side) laws n a cs e c j i in (u.0, u.5)) from to g.1)
       by (Err f) e g = (g.0, children_on side before after n [] (λ c j i. absurd i) from to g.1)
 
   -- two lists in which n is settled by one outcome have the same non-instances below it
-  pub same_children : (side : Side N A B F P) (one other : Nodes) (n c : N) (k j : Kind F P) (i : ℕ) (r : Result (List (Placed N F P)) F) → ((h : Kind F P) (g : Kind F P) → Has (members_of one) c h → Has (members_of one) c g → h ≡ g) → IsChild (edit.chain n) i (edit.chain c) → IsSettled (world_of edit side) one n k r → IsSettled (world_of edit side) other n j r → NonInstance (members_of one) c → NonInstance (members_of other) c
+  pub same_children : (side : Side N A B F P) (one other : Nodes) (n c : N) (k j : Kind F P) (i : ℕ)
+        (r : Result (List (Placed N F P)) F)
+      → ((h : Kind F P) (g : Kind F P) → Has (members_of one) c h → Has (members_of one) c g → h ≡ g)
+      → IsChild (edit.chain n) i (edit.chain c) → IsSettled (world_of edit side) one n k r
+      → IsSettled (world_of edit side) other n j r → NonInstance (members_of one) c → NonInstance (members_of other) c
   same_children side one other n c k j i (Ok cs) single child g h is =
       let w = NonInstance-Keeps one c is in
       let m = g.1.only c w.0 w.1 w.2 i child in
@@ -82,7 +92,8 @@ module _ {N A B F P : Type 0} (edit : Edit N A B F P) where
   waiting_is (Instance p) e = let x : false ≡ true = e in cc
 
   -- what is settled doesn't wait
-  pub settled_done : (world : World N A F P) (nodes : Nodes) (n : N) (k : Kind F P) (r : Result (List (Placed N F P)) F) → IsSettled world nodes n k r → is_waiting k ≡ false
+  pub settled_done : (world : World N A F P) (nodes : Nodes) (n : N) (k : Kind F P) (r : Result (List (Placed N F P)) F)
+      → IsSettled world nodes n k r → is_waiting k ≡ false
   settled_done world nodes n k (Ok cs) h = ap is_waiting h.0
   settled_done world nodes n k (Err f) h = ap is_waiting h.0
 
@@ -92,7 +103,8 @@ module _ {N A B F P : Type 0} (edit : Edit N A B F P) where
     | inr p ↦ let x : true ≡ false = sym (ap is_instance p.1) ∙ i in cc
   ]
 
-  pub kept_new : (old new : List (Placed N F P)) (depth : ℕ) (n : N) → KeptAt edit old new depth n → NonInstance old n × NonInstance new n
+  pub kept_new : (old new : List (Placed N F P)) (depth : ℕ) (n : N) → KeptAt edit old new depth n
+      → NonInstance old n × NonInstance new n
   kept_new old new zero n h = (h.0, h.1)
   kept_new old new (suc depth) n h = (h.0, h.1)
 
@@ -103,10 +115,12 @@ module _ {N A B F P : Type 0} (edit : Edit N A B F P) where
     pub order : IsTotalOrder (stamps_cmp edit.mode)
     order = stamps_total edit.mode
 
-    pub was_right : (n : N) (k : Kind F P) (a : A) → Keeps start n k a → is_instance k ≡ false → IsRight (old_world edit) start n k a
+    pub was_right : (n : N) (k : Kind F P) (a : A) → Keeps start n k a → is_instance k ≡ false
+        → IsRight (old_world edit) start n k a
     was_right n k a h i = elim (started.right n k a h i) [ inl q ↦ (let x : false ≡ true = q in cc) | inr r ↦ r ]
 
-    pub one_kind : (nodes : Nodes) (tree : IsTree w nodes) (c : N) (h g : Kind F P) → Has (members_of nodes) c h → Has (members_of nodes) c g → h ≡ g
+    pub one_kind : (nodes : Nodes) (tree : IsTree w nodes) (c : N) (h g : Kind F P) → Has (members_of nodes) c h
+        → Has (members_of nodes) c g → h ≡ g
     one_kind nodes tree c h g x y =
         let u = Keeps-Has nodes c h x in
         let v = Keeps-Has nodes c g y in
@@ -118,7 +132,8 @@ module _ {N A B F P : Type 0} (edit : Edit N A B F P) where
         let v = Keeps-Has start c g y in
         (started.tree.distinct c c h g u.0 v.0 u.1 v.1 refl).1
 
-    pub parents_same : (p q c : N) (i j : ℕ) → IsChild (edit.chain p) i (edit.chain c) → IsChild (edit.chain q) j (edit.chain c) → place_of w p ≡ place_of w q
+    pub parents_same : (p q c : N) (i j : ℕ) → IsChild (edit.chain p) i (edit.chain c)
+        → IsChild (edit.chain q) j (edit.chain c) → place_of w p ≡ place_of w q
     parents_same p q c i j u v =
         let path = (snoc-same (edit.chain p).path (edit.chain q).path i j (sym u.path ∙ v.path)).0 in
         let lot : (edit.chain p).lot ≡ (edit.chain q).lot = sym u.lot ∙ v.lot in
@@ -127,7 +142,8 @@ module _ {N A B F P : Type 0} (edit : Edit N A B F P) where
     pub root_no_child : (r p : N) (i : ℕ) → Among r edit.new.roots → IsChild (edit.chain p) i (edit.chain r) → ⊥
     root_no_child r p i root child = path_not_empty (edit.chain p).path i (sym child.path ∙ laws.new.root r root)
 
-    pub first_kind_is : (k j : Kind F P) → IsNew j → is_instance k ≡ is_instance j → (is_instance j ≡ true → k ≡ j) → first_kind k ≡ j
+    pub first_kind_is : (k j : Kind F P) → IsNew j → is_instance k ≡ is_instance j → (is_instance j ≡ true → k ≡ j)
+        → first_kind k ≡ j
     first_kind_is k j new alike same = elim new [
       | inl e ↦ waits k (alike ∙ ap is_instance e) ∙ sym e
       | inr p ↦
@@ -142,18 +158,23 @@ module _ {N A B F P : Type 0} (edit : Edit N A B F P) where
         waits (Instance p) e = let x : true ≡ false = e in cc
 
     -- children that got their new priorities are those of the old outcome with them
-    pub placed : (before after : Nodes) (s : N) (k : Kind F P) (a : A) → IsTree w before → HasRenewed edit before after s → IsSettled (old_world edit) before s k (edit.old.expand s a) → IsSettled w after s k (renewed edit.renew (edit.old.expand s a))
+    pub placed : (before after : Nodes) (s : N) (k : Kind F P) (a : A) → IsTree w before
+        → HasRenewed edit before after s → IsSettled (old_world edit) before s k (edit.old.expand s a)
+        → IsSettled w after s k (renewed edit.renew (edit.old.expand s a))
     placed before after s k a tree new h = by (edit.old.expand s a) refl h
       where
         -- a child as it was made is one of the outcome
-        made : (cs : List (Placed N F P)) → edit.old.expand s a ≡ Ok cs → HasChildren (old_world edit) before s cs → (c : N) (j : Kind F P) → Has cs c j → (l : Kind F P) → Has (members_of before) c l → ((i : ℕ) × IsChild (edit.chain s) i (edit.chain c)) × (first_kind l ≡ j)
+        made : (cs : List (Placed N F P)) → edit.old.expand s a ≡ Ok cs → HasChildren (old_world edit) before s cs
+            → (c : N) (j : Kind F P) → Has cs c j → (l : Kind F P) → Has (members_of before) c l
+            → ((i : ℕ) × IsChild (edit.chain s) i (edit.chain c)) × (first_kind l ≡ j)
         made cs e g c j i l there =
             let u = steps.child_of (old_world edit) laws.old s a cs e c j i in
             let v = g.all c j i in
             let one = one_kind before tree c l v.0 there v.1 in
             ((u.0, u.5), first_kind_is l j u.6 (ap is_instance one ∙ v.2) (λ q. one ∙ v.3 q))
 
-        by : (r : Result (List (Placed N F P)) F) → edit.old.expand s a ≡ r → IsSettled (old_world edit) before s k r → IsSettled w after s k (renewed edit.renew r)
+        by : (r : Result (List (Placed N F P)) F) → edit.old.expand s a ≡ r → IsSettled (old_world edit) before s k r
+            → IsSettled w after s k (renewed edit.renew r)
         by (Ok cs) e g = (
           g.0,
           record {

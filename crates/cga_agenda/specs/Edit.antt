@@ -44,7 +44,8 @@ abbrev pub new_world : {N A B F P : Type 0} → Edit N A B F P → World N A F P
 new_world edit = world_of edit edit.new
 
 -- an outcome whose children have the new priorities
-abbrev pub renewed : {N F P : Type 0} → (Placed N F P → Placed N F P) → Result (List (Placed N F P)) F → Result (List (Placed N F P)) F
+abbrev pub renewed : {N F P : Type 0} → (Placed N F P → Placed N F P) → Result (List (Placed N F P)) F
+    → Result (List (Placed N F P)) F
 renewed renew (Ok children) = Ok (map renew children)
 renewed renew (Err fault) = Err fault
 

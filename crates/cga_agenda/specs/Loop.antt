@@ -108,20 +108,23 @@ module _ {N A B F P : Type 0} (edit : Edit N A B F P) where
   IsEnded start last budget calls since OverBudget = IsOverBudget (new_world edit) budget
 
 -- what a turn tells is so of each state that the worker means, and it means the state after the turn
-abbrev pub TellsEach : {N A B F P : Type 0} → (Edit N A B F P → State N A F P → Type 0) → (Edit N A B F P → State N A F P → Type 0) → ℕ → ℕ → Option ℕ → Type 0
+abbrev pub TellsEach : {N A B F P : Type 0} → (Edit N A B F P → State N A F P → Type 0)
+    → (Edit N A B F P → State N A F P → Type 0) → ℕ → ℕ → Option ℕ → Type 0
 TellsEach {N} {A} {B} {F} {P} was is calls since turned =
     (edit : Edit N A B F P) (before : State N A F P) → was edit before
     → (after : State N A F P) × is edit after × Tells edit before after calls since turned
 
 -- from whatever edit and first state the worker means, and whatever nodes the edit started from, if these are ready
-abbrev pub Ends : {N A B F P : Type 0} → (Edit N A B F P → State N A F P → Type 0) → (Edit N A B F P → State N A F P → Type 0) → ℕ → ℕ → ℕ → ℕ → Ended → Type 0
+abbrev pub Ends : {N A B F P : Type 0} → (Edit N A B F P → State N A F P → Type 0)
+    → (Edit N A B F P → State N A F P → Type 0) → ℕ → ℕ → ℕ → ℕ → Ended → Type 0
 Ends {N} {A} {B} {F} {P} was is roots budget calls since ended =
     (edit : Edit N A B F P) (first : State N A F P) → was edit first
     → (start : List (Node N A F P)) → IsReady edit start first roots
     → (last : State N A F P) × is edit last × IsEnded edit start last budget calls since ended
 
 -- what the loop keeps of each edit and first state that the worker meant
-abbrev pub KnowsEach : {N A B F P : Type 0} → (Edit N A B F P → State N A F P → Type 0) → (Edit N A B F P → State N A F P → Type 0) → ℕ → ℕ → ℕ → ℕ → ℕ → Type 0
+abbrev pub KnowsEach : {N A B F P : Type 0} → (Edit N A B F P → State N A F P → Type 0)
+    → (Edit N A B F P → State N A F P → Type 0) → ℕ → ℕ → ℕ → ℕ → ℕ → Type 0
 KnowsEach {N} {A} {B} {F} {P} was now roots turns known calls since =
     (edit : Edit N A B F P) (first : State N A F P) → was edit first
     → (start : List (Node N A F P)) → IsReady edit start first roots
@@ -130,4 +133,5 @@ KnowsEach {N} {A} {B} {F} {P} was now roots turns known calls since =
 -- so many nodes there are in each state that the worker means, and each stands once
 abbrev pub Counts : {N A B F P : Type 0} → (Edit N A B F P → State N A F P → Type 0) → ℕ → Type 0
 Counts {N} {A} {B} {F} {P} now number =
-    (edit : Edit N A B F P) (state : State N A F P) → now edit state → (number ≡ length state.nodes) × StandOnce state.nodes
+    (edit : Edit N A B F P) (state : State N A F P) → now edit state
+        → (number ≡ length state.nodes) × StandOnce state.nodes

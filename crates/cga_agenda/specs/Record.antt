@@ -31,7 +31,8 @@ Draws {N} {A} {F} {P} nodes d = (a : A) × Keeps nodes d.shape (Instance d.solid
 
 -- the instances of the one list together with came are, each as often, those of the other together
 -- with went
-abbrev pub Balances : {N F P : Type 0} → List (Placed N F P) → List (Drawn N P) → List (Placed N F P) → List (Drawn N P) → Type 0
+abbrev pub Balances : {N F P : Type 0} → List (Placed N F P) → List (Drawn N P) → List (Placed N F P) → List (Drawn N P)
+    → Type 0
 Balances {N} {F} {P} before came after went =
     (test : Drawn N P → Bool)
     → count_by test (drawn before) + count_by test came ≡ count_by test (drawn after) + count_by test went

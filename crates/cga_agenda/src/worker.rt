@@ -3,12 +3,15 @@ ghost use Rattle.cga_agenda.specs.Edit.{Edit};
 ghost use Rattle.cga_agenda.specs.Loop.{State, TellsEach, Counts, children_told, calls_told};
 
 use crate::turned::Turned;
-use cga_fraction::{NoMemory, Steps};
+use cga_fraction::{NoMemory, Steps, Tests};
 use std::sync::ledger::Ledger;
 
 /// What does the turns of an agenda. It keeps the nodes of a derivation, of which some are on the
 /// agenda, and the record of what went and came.
 pub trait Worker {
+    /// What a tick of the counter of expansions wants to be shown.
+    type Key;
+
     // of what shapes, answers, settings, faults and solids the derivations are
     ghost Shape: { Type 0 };
 
@@ -30,8 +33,8 @@ pub trait Worker {
     /// expand ticks `expansions`.
     fn turn<E: Ledger, T: Ledger>(
         &mut self,
-        expansions: &mut Steps<E>,
-        tests: &mut Steps<T>,
+        expansions: &mut Steps<E, Self::Key>,
+        tests: &mut Tests<T>,
     ) -> Result<Option<Turned>, NoMemory>
         ensures turned { IfOk result (λ turned.
             TellsEach (means self.old) (means self.new) expansions.old expansions.new (children_told turned)) }

@@ -15,7 +15,8 @@ abbrev Checked : Type 0
 Checked = Result (Unit {0}) AssetFault
 
 -- a face that fits, then those that are left
-pub one_face : (total : ℕ) (faces : List (List ℕ)) (lines : List ℕ) (i : ℕ) (f : List ℕ) (all : Checked) → i < length faces → i < length lines → get_or faces i f ≡ f → fits total f ≡ true
+pub one_face : (total : ℕ) (faces : List (List ℕ)) (lines : List ℕ) (i : ℕ) (f : List ℕ) (all : Checked)
+    → i < length faces → i < length lines → get_or faces i f ≡ f → fits total f ≡ true
     → pending total (drop i faces) (drop i lines) ≡ all → pending total (drop (i + 1) faces) (drop (i + 1) lines) ≡ all
 one_face total faces lines i f all h k at e so =
     let a : drop i faces ≡ f ∷ drop (i + 1) faces = drop_more faces i f h ∙ ap (λ (x : List ℕ). x ∷ drop (i + 1) faces) at in
@@ -27,7 +28,8 @@ one_face total faces lines i f all h k at e so =
     sym d ∙ (sym c ∙ so)
 
 -- and one that doesn't
-pub bad_face : (total : ℕ) (faces : List (List ℕ)) (lines : List ℕ) (i : ℕ) (f : List ℕ) (all : Checked) → i < length faces → i < length lines → get_or faces i f ≡ f → fits total f ≡ false
+pub bad_face : (total : ℕ) (faces : List (List ℕ)) (lines : List ℕ) (i : ℕ) (f : List ℕ) (all : Checked)
+    → i < length faces → i < length lines → get_or faces i f ≡ f → fits total f ≡ false
     → pending total (drop i faces) (drop i lines) ≡ all → Err (BadFace (get_or lines i 0)) ≡ all
 bad_face total faces lines i f all h k at e so =
     let a : drop i faces ≡ f ∷ drop (i + 1) faces = drop_more faces i f h ∙ ap (λ (x : List ℕ). x ∷ drop (i + 1) faces) at in
@@ -43,12 +45,14 @@ none_left total [] = refl
 none_left total (f ∷ fs) = refl
 
 -- no line is left
-pub no_line : (total : ℕ) (faces : List (List ℕ)) (lines : List ℕ) (i : ℕ) (all : Checked) → length lines ≤ i → pending total (drop i faces) (drop i lines) ≡ all → Ok tt ≡ all
+pub no_line : (total : ℕ) (faces : List (List ℕ)) (lines : List ℕ) (i : ℕ) (all : Checked) → length lines ≤ i
+    → pending total (drop i faces) (drop i lines) ≡ all → Ok tt ≡ all
 no_line total faces lines i all h so = sym (none_left total (drop i faces)) ∙ (ap (λ (x : List ℕ). pending total (drop i faces) x) (sym (drop_all i lines h)) ∙ so)
 
 -- one face more at the end
 pending_push : (total : ℕ) (faces : List (List ℕ)) (lines : List ℕ) (f : List ℕ) (n : ℕ) → length faces ≡ length lines
-    → pending total (faces ++ f ∷ []) (lines ++ n ∷ []) ≡ and_then (pending total faces lines) (λ u. cond (fits total f) (Ok tt) (Err (BadFace n)))
+    → pending total (faces ++ f ∷ []) (lines ++ n ∷ []) ≡ and_then (pending total faces lines)
+      (λ u. cond (fits total f) (Ok tt) (Err (BadFace n)))
 pending_push total [] [] f n e = refl
 pending_push total [] (l ∷ ls) f n e = absurd (omega (arith, e))
 pending_push total (x ∷ xs) [] f n e = absurd (omega (arith, e))
@@ -63,7 +67,8 @@ faces_fault faces n = cond (nat_le most_faces faces) (Some (TooManyFaces n)) Non
 
 -- a face is read, and kept with its line even where there is no room for it
 pub face_added : (total n : ℕ) (m : SolidMesh) (lines : List ℕ) (f : List ℕ) → length m.faces ≡ length lines
-    → and_then (pending total (m.faces ++ f ∷ []) (lines ++ n ∷ [])) (λ u. unless_faulty (faces_fault (length m.faces) n) (with_face m f))
+    → and_then (pending total (m.faces ++ f ∷ []) (lines ++ n ∷ []))
+      (λ u. unless_faulty (faces_fault (length m.faces) n) (with_face m f))
     ≡ and_then (and_then (pending total m.faces lines) (λ u. Ok m)) (λ a. added total n a (Face (Some f)))
 face_added total n m lines f e =
     let after : Checked → Result SolidMesh AssetFault = λ (p : Checked). and_then p (λ u. unless_faulty (faces_fault (length m.faces) n) (with_face m f)) in
@@ -82,8 +87,10 @@ face_added total n m lines f e =
     ]
 
 -- the same of what the calls answered
-pub face_kept : (total n : ℕ) (m : SolidMesh) (lines : List ℕ) (f : List ℕ) (faces : List (List ℕ)) (more : List ℕ) (fault kept : Option AssetFault) (s : Said) (len : ℕ)
-    → length m.faces ≡ length lines → kept ≡ None → s ≡ Face (Some f) → faces ≡ m.faces ++ f ∷ [] → more ≡ lines ++ n ∷ [] → len ≡ length m.faces
+pub face_kept : (total n : ℕ) (m : SolidMesh) (lines : List ℕ) (f : List ℕ) (faces : List (List ℕ)) (more : List ℕ)
+      (fault kept : Option AssetFault) (s : Said) (len : ℕ)
+    → length m.faces ≡ length lines → kept ≡ None → s ≡ Face (Some f) → faces ≡ m.faces ++ f ∷ []
+    → more ≡ lines ++ n ∷ [] → len ≡ length m.faces
     → fault ≡ cond (nat_le most_faces len) (Some (TooManyFaces n)) None
     → and_then (pending total faces more) (λ u. unless_faulty fault (record { vertices = m.vertices; faces = faces }))
     ≡ and_then (and_then (pending total m.faces lines) (λ u. unless_faulty kept m)) (λ a. added total n a s)

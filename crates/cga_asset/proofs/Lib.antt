@@ -1,5 +1,5 @@
-pub mod Corners
-pub mod Digits
-pub mod Faces
-pub mod Reading
-pub mod Large
+mod Corners
+mod Digits
+mod Faces
+mod Reading
+mod Large

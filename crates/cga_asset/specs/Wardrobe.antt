@@ -51,7 +51,8 @@ abbrev pub worn : WardrobeView → List ℕ → Option SolidMesh
 worn w symbol = asset_named w (found symbol w.dresses)
 
 -- the new wardrobe, or the refusal and the old one; after want of memory the old one
-abbrev pub Gives : Result WardrobeView WardrobeFault → WardrobeView → Result (Unit {0}) WardrobeFault → WardrobeView → Type 0
+abbrev pub Gives : Result WardrobeView WardrobeFault → WardrobeView → Result (Unit {0}) WardrobeFault → WardrobeView
+    → Type 0
 Gives r old (Ok u) new = r ≡ Ok new
 Gives r old (Err NoMemory) new = new ≡ old
 Gives r old (Err fault) new = (r ≡ Err fault) × (new ≡ old)

@@ -1,6 +1,9 @@
 //! Meshes that a script gives, and what is drawn by them: read line by line, fitted into scopes, kept by name with the
-//! symbols that they dress. It must not know how shapes come about. What callers get wrong: a fit that is refused isn't a
-//! fault; the instance is then drawn as its solid.
+//! symbols that they dress.
+//!
+//! It must not know how shapes come about or what a command is.
+//!
+//! What callers get wrong: a fit that is refused isn't a fault; the instance is then drawn as its solid.
 #![tactic(auto)]
 
 mod asset;

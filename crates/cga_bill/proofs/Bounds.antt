@@ -19,6 +19,7 @@ use Rattle.cga_bill.specs.Bill.{IsBill, front_in, front_of, is_unmeasured, of_sy
 use Rattle.cga_bill.specs.Lines.{sums_at}
 use Rattle.cga_bill.specs.declared.sums.Sums.{Sums}
 use Rattle.cga_bill.proofs.Steps.{at_symbol}
+use Rattle.std.proofs.lemmas.Bool.{and_parts as both}
 
 pub with_sign_size : (z : ℤ) (m : ℕ) → unsigned_abs (with_sign z m) ≡ m
 with_sign_size (pos n) m = refl
@@ -29,13 +30,9 @@ pub millionths_are : (a : Rat) → millionths_of a ≡ (2 * (unsigned_abs a.num 
 unfolding round_of
 millionths_are a = with_sign_size a.num ((2 * (unsigned_abs a.num * 10 ^ 6) + den a) / (2 * den a))
 
-pub millionths_from : (a : Rat) (n d : ℕ) → n ≡ unsigned_abs a.num → d ≡ den a → (2 * (n * 1000000) + d) / (2 * d) ≡ millionths_of a
+pub millionths_from : (a : Rat) (n d : ℕ) → n ≡ unsigned_abs a.num → d ≡ den a
+    → (2 * (n * 1000000) + d) / (2 * d) ≡ millionths_of a
 millionths_from a n d e f = rw (e, f) (sym (millionths_are a))
-
-both : (b c : Bool) → (b && c) ≡ true → (b ≡ true) × (c ≡ true)
-both true true e = (refl, refl)
-both true false e = (refl, e)
-both false c e = (e, absurd (let f : false ≡ true = e in cc))
 
 small : (a : Rat) → in_range a ≡ true → millionths_of a ≤ 2 ^ 84
 small a e =
@@ -88,7 +85,8 @@ sum_small f h (x ∷ xs) =
     let c = sum_small f h xs in
     omega (arith, a, b, c)
 
-pub can_add : (lines : List (List ℕ × Sums)) (d : Drawn) (list : List Drawn) → IsBill lines list → length list + 1 ≤ 2 ^ 32 → HasRoom (sums_at lines d.symbol) (sums_of (d ∷ []))
+pub can_add : (lines : List (List ℕ × Sums)) (d : Drawn) (list : List Drawn) → IsBill lines list
+    → length list + 1 ≤ 2 ^ 32 → HasRoom (sums_at lines d.symbol) (sums_of (d ∷ []))
 can_add lines d list h few =
     let own : List Drawn = of_symbol d.symbol list in
     let n : length own ≤ length list = subst (λ (k : ℕ). k ≤ length list) (sym (length-filter (λ (x : Drawn). bytes_eq d.symbol x.symbol) list)) (count_by-le-length (λ (x : Drawn). bytes_eq d.symbol x.symbol) list) in

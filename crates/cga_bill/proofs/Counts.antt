@@ -4,14 +4,12 @@ use Rattle.std.specs.Prelude.{count_by, sum_by, nat_lt}
 use Rattle.std.specs.List.{filter}
 use Rattle.std.proofs.lemmas.List.Sums.{sum_by-cons, sum_by-append}
 use Rattle.std.proofs.lemmas.Grind.{common_steps}
+use Rattle.cga_fraction.proofs.Door.{nat_lt_from_lt as yes}
 
 -- a number cut at m
 abbrev cut : ℕ → ℕ → ℕ
 cut n zero = 0
 cut n (suc m) = cut n m + cond (nat_lt m n) 1 0
-
-yes : (m n : ℕ) → m < n → nat_lt m n ≡ true
-yes m n h = grind (arith, common_steps)
 
 no : (m n : ℕ) → n ≤ m → nat_lt m n ≡ false
 no m n h = grind (arith, common_steps)
@@ -46,7 +44,8 @@ module _ {X : Type 0} where
   abbrev pub SameCounts : List X → List X → Type 0
   SameCounts xs ys = (test : X → Bool) → count_by test xs ≡ count_by test ys
 
-  cut_same : (f : X → ℕ) (xs ys : List X) → SameCounts xs ys → (m : ℕ) → sum_by (λ (x : X). cut (f x) m) xs ≡ sum_by (λ (x : X). cut (f x) m) ys
+  cut_same : (f : X → ℕ) (xs ys : List X) → SameCounts xs ys → (m : ℕ)
+      → sum_by (λ (x : X). cut (f x) m) xs ≡ sum_by (λ (x : X). cut (f x) m) ys
   cut_same f xs ys h zero = sum_zero xs ∙ sym (sum_zero ys)
   cut_same f xs ys h (suc m) =
       let test : X → Bool = λ (x : X). nat_lt m (f x) in
@@ -69,7 +68,8 @@ module _ {X : Type 0} where
       sym (cut_all f m xs (omega arith)) ∙ (cut_same f xs ys h m ∙ cut_all f m ys (omega arith))
 
   -- the sum over those that pass a test
-  sum_filter : (f : X → ℕ) (p : X → Bool) (xs : List X) → sum_by f (filter p xs) ≡ sum_by (λ (x : X). cond (p x) (f x) 0) xs
+  sum_filter : (f : X → ℕ) (p : X → Bool) (xs : List X)
+      → sum_by f (filter p xs) ≡ sum_by (λ (x : X). cond (p x) (f x) 0) xs
   sum_filter f p [] = refl
   sum_filter f p (x ∷ xs) =
       let g : X → ℕ = λ (x : X). cond (p x) (f x) 0 in
@@ -87,9 +87,12 @@ module _ {X : Type 0} where
             omega (arith, b, c, d)
       ] refl
 
-  pub filtered_same : (f : X → ℕ) (p : X → Bool) (xs ys : List X) → SameCounts xs ys → sum_by f (filter p xs) ≡ sum_by f (filter p ys)
+  pub filtered_same : (f : X → ℕ) (p : X → Bool) (xs ys : List X) → SameCounts xs ys
+      → sum_by f (filter p xs) ≡ sum_by f (filter p ys)
   filtered_same f p xs ys h = sum_filter f p xs ∙ (sum_same (λ (x : X). cond (p x) (f x) 0) xs ys h ∙ sym (sum_filter f p ys))
 
-  pub appended_same : (xs ys us vs : List X) → ((test : X → Bool) → count_by test xs + count_by test ys ≡ count_by test us + count_by test vs) → SameCounts (xs ++ ys) (us ++ vs)
+  pub appended_same : (xs ys us vs : List X)
+      → ((test : X → Bool) → count_by test xs + count_by test ys ≡ count_by test us + count_by test vs)
+      → SameCounts (xs ++ ys) (us ++ vs)
   appended_same xs ys us vs h = λ test.
       sum_by-append (λ (x : X). cond (test x) 1 0) xs ys ∙ (h test ∙ sym (sum_by-append (λ (x : X). cond (test x) 1 0) us vs))

@@ -1,7 +1,7 @@
-pub mod Counts
-pub mod Summed
-pub mod Steps
-pub mod Made
-pub mod Bounds
-pub mod Lists
-pub mod Unique
+mod Counts
+mod Summed
+mod Steps
+mod Made
+mod Bounds
+mod Lists
+mod Unique

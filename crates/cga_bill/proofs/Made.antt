@@ -17,15 +17,12 @@ use Rattle.cga_shape.specs.declared.drawn.Drawn.{Drawn}
 use Rattle.cga_bill.specs.Bill.{IsBill, bill_of, by_bytes, of_symbol, sums_of, sums_or_none}
 use Rattle.cga_bill.specs.declared.sums.Sums.{Sums}
 use Rattle.cga_bill.proofs.Unique.{unique}
+use Rattle.std.proofs.lemmas.Bool.{false_from_ne_true as not_true}
 
 abbrev Lines : Type 0
 Lines = List (List ℕ × Sums)
 
 -- ---- names
-
-not_true : (r : Bool) → (r ≡ true → ⊥) → r ≡ false
-not_true true h = absurd (h refl)
-not_true false h = refl
 
 -- a name that stands behind another isn't equal to it
 differs : (k q e : List ℕ) → q ≡ e → by_bytes k e ≡ Greater → bytes_eq q k ≡ false
@@ -36,7 +33,8 @@ differs k q e s h =
 -- ---- an entry is put in its place
 
 module _ (k : List ℕ) (v : Sums) where
-  put_below : (x : List ℕ) (es : Lines) → by_bytes x k ≡ Less → AllByRecursion (λ y. by_bytes x y ≡ Less) (keys_of es) → AllByRecursion (λ y. by_bytes x y ≡ Less) (keys_of (insert_entry by_bytes es k v))
+  put_below : (x : List ℕ) (es : Lines) → by_bytes x k ≡ Less → AllByRecursion (λ y. by_bytes x y ≡ Less) (keys_of es)
+      → AllByRecursion (λ y. by_bytes x y ≡ Less) (keys_of (insert_entry by_bytes es k v))
   put_below x [] h a = (h, tt)
   put_below x (e ∷ es) h a =
       elim (by_bytes k e.0) as (λ (o : Ordering). AllByRecursion (λ y. by_bytes x y ≡ Less) (keys_of (match_ordering o ((k, v) ∷ e ∷ es) ((e.0, v) ∷ es) (e ∷ insert_entry by_bytes es k v)))) [
@@ -45,14 +43,16 @@ module _ (k : List ℕ) (v : Sums) where
         | Greater ↦ (a.0, put_below x es h a.1)
       ]
 
-  below_all : (e : List ℕ) (ks : List (List ℕ)) → by_bytes k e ≡ Less → AllByRecursion (λ y. by_bytes e y ≡ Less) ks → AllByRecursion (λ y. by_bytes k y ≡ Less) ks
+  below_all : (e : List ℕ) (ks : List (List ℕ)) → by_bytes k e ≡ Less → AllByRecursion (λ y. by_bytes e y ≡ Less) ks
+      → AllByRecursion (λ y. by_bytes k y ≡ Less) ks
   below_all e [] h a = tt
   below_all e (x ∷ xs) h a = (nat_list_cmp_total.trans k e x h a.0, below_all e xs h a.1)
 
   turned : (e : List ℕ) → by_bytes k e ≡ Greater → by_bytes e k ≡ Less
   turned e h = nat_list_cmp_total.antisymm e k ∙ rw h refl
 
-  put_sorted : (es : Lines) → IsStrictlySortedBy by_bytes (keys_of es) → IsStrictlySortedBy by_bytes (keys_of (insert_entry by_bytes es k v))
+  put_sorted : (es : Lines) → IsStrictlySortedBy by_bytes (keys_of es)
+      → IsStrictlySortedBy by_bytes (keys_of (insert_entry by_bytes es k v))
   unfolding IsStrictlySortedBy
   put_sorted [] s = (tt, tt)
   put_sorted (e ∷ es) s =
@@ -62,7 +62,9 @@ module _ (k : List ℕ) (v : Sums) where
         | Greater ↦ λ h. (put_below e.0 es (turned e.0 h) s.0, put_sorted es s.1)
       ] refl
 
-  put_found : (es : Lines) (q : List ℕ) → lookup (is_at (by_bytes q)) (insert_entry by_bytes es k v) ≡ cond (bytes_eq q k) (Some v) (lookup (is_at (by_bytes q)) es)
+  put_found : (es : Lines) (q : List ℕ)
+      → lookup (is_at (by_bytes q)) (insert_entry by_bytes es k v) ≡ cond (bytes_eq q k) (Some v)
+        (lookup (is_at (by_bytes q)) es)
   put_found [] q = ap (λ (b : Bool). cond b (Some v) None) (is_eq-slice_cmp q k)
   put_found (e ∷ es) q =
       let below : Lines = insert_entry by_bytes es k v in
@@ -91,13 +93,17 @@ module _ (k : List ℕ) (v : Sums) where
 -- the symbols of these instances have their sums in the whole list, and no other symbol has any
 record HasLines (lines : Lines) (some list : List Drawn) : Type 0 where
   ordered : IsStrictlySortedBy by_bytes (keys_of lines)
-  sums : (s : List ℕ) → lookup (is_at (by_bytes s)) lines ≡ cond (list_any (λ (d : Drawn). bytes_eq s d.symbol) some) (Some (sums_of (of_symbol s list))) None
+  sums : (s : List ℕ)
+      → lookup (is_at (by_bytes s)) lines ≡ cond (list_any (λ (d : Drawn). bytes_eq s d.symbol) some)
+        (Some (sums_of (of_symbol s list))) None
 
 module _ (list : List Drawn) where
   abbrev with_line : Lines → Drawn → Lines
   with_line lines d = insert_entry by_bytes lines d.symbol (sums_of (of_symbol d.symbol list))
 
-  any_more : (s : List ℕ) (done : List Drawn) (d : Drawn) → list_any (λ (x : Drawn). bytes_eq s x.symbol) (done ++ d ∷ []) ≡ (bytes_eq s d.symbol || list_any (λ (x : Drawn). bytes_eq s x.symbol) done)
+  any_more : (s : List ℕ) (done : List Drawn) (d : Drawn)
+      → list_any (λ (x : Drawn). bytes_eq s x.symbol) (done ++ d ∷ []) ≡
+        (bytes_eq s d.symbol || list_any (λ (x : Drawn). bytes_eq s x.symbol) done)
   any_more s [] d = refl
   any_more s (x ∷ xs) d =
       ap (λ (b : Bool). bytes_eq s x.symbol || b) (any_more s xs d)
@@ -106,7 +112,8 @@ module _ (list : List Drawn) where
         | false ↦ refl
       ]
 
-  one_line : (lines : Lines) (done : List Drawn) (d : Drawn) → HasLines lines done list → HasLines (with_line lines d) (done ++ d ∷ []) list
+  one_line : (lines : Lines) (done : List Drawn) (d : Drawn) → HasLines lines done list
+      → HasLines (with_line lines d) (done ++ d ∷ []) list
   one_line lines done d h = record {
     ordered = put_sorted d.symbol (sums_of (of_symbol d.symbol list)) lines h.ordered;
     sums = λ s. put_found d.symbol (sums_of (of_symbol d.symbol list)) lines s
@@ -118,12 +125,14 @@ module _ (list : List Drawn) where
       found s = list_any (λ (x : Drawn). bytes_eq s x.symbol) done
 
       at : (s : List ℕ) (b : Bool) → bytes_eq s d.symbol ≡ b
-          → cond (bytes_eq s d.symbol) (Some (sums_of (of_symbol d.symbol list))) (cond (list_any (λ (x : Drawn). bytes_eq s x.symbol) done) (Some (sums_of (of_symbol s list))) None)
+          → cond (bytes_eq s d.symbol) (Some (sums_of (of_symbol d.symbol list)))
+            (cond (list_any (λ (x : Drawn). bytes_eq s x.symbol) done) (Some (sums_of (of_symbol s list))) None)
           ≡ cond (bytes_eq s d.symbol || list_any (λ (x : Drawn). bytes_eq s x.symbol) done) (Some (sums_of (of_symbol s list))) None
       at s true e = rw e (ap (λ (k : List ℕ). Some (sums_of (of_symbol k list))) (sym ((bytes_eq-Decides s d.symbol).0 e)))
       at s false e = rw e refl
 
-  all_lines : (rest done : List Drawn) (lines : Lines) → HasLines lines done list → HasLines (fold with_line lines rest) (done ++ rest) list
+  all_lines : (rest done : List Drawn) (lines : Lines) → HasLines lines done list
+      → HasLines (fold with_line lines rest) (done ++ rest) list
   all_lines [] done lines h = subst (λ (l : List Drawn). HasLines lines l list) (sym (append-nil done)) h
   all_lines (d ∷ ds) done lines h = subst (λ (l : List Drawn). HasLines (fold with_line (with_line lines d) ds) l list) (append_assoc done (d ∷ []) ds) (all_lines ds (done ++ d ∷ []) (with_line lines d) (one_line lines done d h))
 
@@ -131,7 +140,8 @@ module _ (list : List Drawn) where
   unfolding IsStrictlySortedBy
   no_lines = record { ordered = tt; sums = λ s. refl }
 
-found_or_none : (p : Drawn → Bool) (xs : List Drawn) → cond (list_any p xs) (Some (sums_of (filter p xs))) None ≡ sums_or_none (filter p xs)
+found_or_none : (p : Drawn → Bool) (xs : List Drawn)
+    → cond (list_any p xs) (Some (sums_of (filter p xs))) None ≡ sums_or_none (filter p xs)
 found_or_none p [] = refl
 found_or_none p (x ∷ xs) =
     elim (p x) as (λ (b : Bool). cond (b || list_any p xs) (Some (sums_of (cond b (x ∷ filter p xs) (filter p xs)))) None ≡ sums_or_none (cond b (x ∷ filter p xs) (filter p xs))) [

@@ -14,10 +14,7 @@ use Rattle.cga_bill.specs.Lines.{left, sums_at}
 use Rattle.cga_bill.specs.declared.sums.Sums.{Sums}
 use Rattle.cga_bill.proofs.Counts.{SameCounts, appended_same}
 use Rattle.cga_bill.proofs.Summed.{found_or_nothing, holds_one, left_of, none_alike, same_sums, some_with_last, sums_append, taken_out}
-
-not_true : (r : Bool) → (r ≡ true → ⊥) → r ≡ false
-not_true true h = absurd (h refl)
-not_true false h = refl
+use Rattle.std.proofs.lemmas.Bool.{false_from_ne_true as not_true}
 
 same_names : (a b : List ℕ) → bytes_eq a b ≡ true → a ≡ b
 same_names a b e = (bytes_eq-Decides a b).0 e
@@ -43,26 +40,32 @@ joined : (s : List ℕ) (xs ys : List Drawn) → of_symbol s (xs ++ ys) ≡ of_s
 joined s xs ys = filter-append (λ (d : Drawn). bytes_eq s d.symbol) xs ys
 
 -- what a bill has at a symbol
-pub at_symbol : (lines : List (List ℕ × Sums)) (list : List Drawn) (s : List ℕ) → IsBill lines list → sums_at lines s ≡ sums_of (of_symbol s list)
+pub at_symbol : (lines : List (List ℕ × Sums)) (list : List Drawn) (s : List ℕ) → IsBill lines list
+    → sums_at lines s ≡ sums_of (of_symbol s list)
 at_symbol lines list s h = ap (λ (o : Option Sums). unwrap_or o no_sums) (h.sums s) ∙ found_or_nothing (of_symbol s list)
 
 module _ (before after : BTreeMap (List ℕ) Sums) where
   -- where one symbol's sums are set, and all others stay
-  changed : (d : Drawn) (w : Option Sums) (old new : List Drawn) → IsBill before.entries old → Updates by_bytes before after d.symbol w → IsOrdered by_bytes after
-      → w ≡ sums_or_none (of_symbol d.symbol new) → ((s : List ℕ) → bytes_eq s d.symbol ≡ false → of_symbol s old ≡ of_symbol s new)
+  changed : (d : Drawn) (w : Option Sums) (old new : List Drawn) → IsBill before.entries old
+      → Updates by_bytes before after d.symbol w → IsOrdered by_bytes after
+      → w ≡ sums_or_none (of_symbol d.symbol new)
+      → ((s : List ℕ) → bytes_eq s d.symbol ≡ false → of_symbol s old ≡ of_symbol s new)
       → IsBill after.entries new
   changed d w old new h u o here there = record {
     ordered = o;
     sums = λ s. at s (bytes_eq d.symbol s) refl (u.0 s ∙ ap (λ (b : Bool). cond b w (get by_bytes before s)) (is_eq-slice_cmp d.symbol s));
   }
     where
-      at : (s : List ℕ) (b : Bool) → bytes_eq d.symbol s ≡ b → get by_bytes after s ≡ cond (bytes_eq d.symbol s) w (get by_bytes before s) → get by_bytes after s ≡ sums_or_none (of_symbol s new)
+      at : (s : List ℕ) (b : Bool) → bytes_eq d.symbol s ≡ b
+          → get by_bytes after s ≡ cond (bytes_eq d.symbol s) w (get by_bytes before s)
+          → get by_bytes after s ≡ sums_or_none (of_symbol s new)
       at s true e g = (g ∙ ap (λ (b : Bool). cond b w (get by_bytes before s)) e) ∙ (here ∙ ap (λ (k : List ℕ). sums_or_none (of_symbol k new)) (same_names d.symbol s e))
       at s false e g = (g ∙ ap (λ (b : Bool). cond b w (get by_bytes before s)) e) ∙ (h.sums s ∙ ap sums_or_none (there s (apart d.symbol s e)))
 
   -- an instance was added
   pub added : (d : Drawn) (list : List Drawn) → IsBill before.entries list
-      → Updates by_bytes before after d.symbol (Some (plus_sums (sums_at before.entries d.symbol) (sums_of (d ∷ [])))) → IsOrdered by_bytes after
+      → Updates by_bytes before after d.symbol (Some (plus_sums (sums_at before.entries d.symbol) (sums_of (d ∷ []))))
+      → IsOrdered by_bytes after
       → IsBill after.entries (list ++ d ∷ [])
   added d list h u o =
       let mine : List Drawn = of_symbol d.symbol list in
@@ -75,7 +78,8 @@ module _ (before after : BTreeMap (List ℕ) Sums) where
 
   -- an instance was taken away
   pub taken : (d : Drawn) (xs ys : List Drawn) → IsBill before.entries (xs ++ d ∷ ys)
-      → Updates by_bytes before after d.symbol (left (minus_sums (sums_at before.entries d.symbol) (sums_of (d ∷ [])))) → IsOrdered by_bytes after
+      → Updates by_bytes before after d.symbol (left (minus_sums (sums_at before.entries d.symbol) (sums_of (d ∷ []))))
+      → IsOrdered by_bytes after
       → IsBill after.entries (xs ++ ys)
   taken d xs ys h u o =
       let first : List Drawn = of_symbol d.symbol xs in
@@ -88,7 +92,8 @@ module _ (before after : BTreeMap (List ℕ) Sums) where
       (ap left then ∙ (left_of (first ++ last) ∙ ap sums_or_none (sym (joined d.symbol xs ys))))
       (λ s e. joined s xs (d ∷ ys) ∙ (ap (λ (t : List Drawn). of_symbol s xs ++ t) (other s d ys e) ∙ sym (joined s xs ys)))
 
-pub can_take : (lines : List (List ℕ × Sums)) (d : Drawn) (xs ys : List Drawn) → IsBill lines (xs ++ d ∷ ys) → Holds (sums_at lines d.symbol) (sums_of (d ∷ []))
+pub can_take : (lines : List (List ℕ × Sums)) (d : Drawn) (xs ys : List Drawn) → IsBill lines (xs ++ d ∷ ys)
+    → Holds (sums_at lines d.symbol) (sums_of (d ∷ []))
 can_take lines d xs ys h =
     let first : List Drawn = of_symbol d.symbol xs in
     let last : List Drawn = of_symbol d.symbol ys in
@@ -96,11 +101,13 @@ can_take lines d xs ys h =
     subst (λ (a : Sums). Holds a (sums_of (d ∷ []))) (sym (at_symbol lines (xs ++ d ∷ ys) d.symbol h ∙ ap sums_of all)) (holds_one first last d)
 
 -- a bill of a list is one of each list that has each member as often
-pub same_bill : (lines : List (List ℕ × Sums)) (xs ys : List Drawn) → SameCounts xs ys → IsBill lines xs → IsBill lines ys
+pub same_bill : (lines : List (List ℕ × Sums)) (xs ys : List Drawn) → SameCounts xs ys → IsBill lines xs
+    → IsBill lines ys
 same_bill lines xs ys same h = record {
   ordered = h.ordered;
   sums = λ s. h.sums s ∙ none_alike (of_symbol s xs) (of_symbol s ys) (same_sums (λ (d : Drawn). bytes_eq s d.symbol) xs ys same);
 }
 
-pub balanced : (lines : List (List ℕ × Sums)) (old new : List Drawn) (changes : Changes) → Balances old new changes → IsBill lines (old ++ changes.come) → IsBill lines (new ++ changes.gone)
+pub balanced : (lines : List (List ℕ × Sums)) (old new : List Drawn) (changes : Changes) → Balances old new changes
+    → IsBill lines (old ++ changes.come) → IsBill lines (new ++ changes.gone)
 balanced lines old new changes b h = same_bill lines (old ++ changes.come) (new ++ changes.gone) (appended_same old changes.come new changes.gone b) h

@@ -11,7 +11,8 @@ use Rattle.cga_bill.specs.Lines.{left}
 use Rattle.cga_bill.specs.declared.sums.Sums.{Sums}
 use Rattle.cga_bill.proofs.Counts.{SameCounts, filtered_same}
 
-pub sums_path : (a b : Sums) → a.number ≡ b.number → a.front ≡ b.front → a.volume ≡ b.volume → a.unmeasured ≡ b.unmeasured → a ≡ b
+pub sums_path : (a b : Sums) → a.number ≡ b.number → a.front ≡ b.front → a.volume ≡ b.volume
+    → a.unmeasured ≡ b.unmeasured → a ≡ b
 sums_path a b p q r s = λ i. record { number = p i; front = q i; volume = r i; unmeasured = s i }
 
 one_if : Drawn → ℕ
@@ -21,7 +22,8 @@ one_if d = cond (is_unmeasured d) 1 0
 length_passed : (p : Drawn → Bool) (xs ys : List Drawn) → SameCounts xs ys → length (filter p xs) ≡ length (filter p ys)
 length_passed p xs ys h = length-filter p xs ∙ (h p ∙ sym (length-filter p ys))
 
-pub same_sums : (p : Drawn → Bool) (xs ys : List Drawn) → SameCounts xs ys → sums_of (filter p xs) ≡ sums_of (filter p ys)
+pub same_sums : (p : Drawn → Bool) (xs ys : List Drawn) → SameCounts xs ys
+    → sums_of (filter p xs) ≡ sums_of (filter p ys)
 same_sums p xs ys h =
     sums_path (sums_of (filter p xs)) (sums_of (filter p ys)) (length_passed p xs ys h)
     (filtered_same front_of p xs ys h) (filtered_same volume_of p xs ys h)
@@ -55,7 +57,8 @@ left_of [] = refl
 left_of (x ∷ xs) = rw (not_none (length xs)) refl
 
 -- the sums of a list with one in the middle
-middle : (xs ys : List Drawn) (d : Drawn) → sums_of (xs ++ d ∷ ys) ≡ plus_sums (sums_of xs) (plus_sums (sums_of (d ∷ [])) (sums_of ys))
+middle : (xs ys : List Drawn) (d : Drawn)
+    → sums_of (xs ++ d ∷ ys) ≡ plus_sums (sums_of xs) (plus_sums (sums_of (d ∷ [])) (sums_of ys))
 middle xs ys d = sums_append xs (d ∷ ys) ∙ ap (plus_sums (sums_of xs)) (sums_append (d ∷ []) ys)
 
 less : (a b c : Sums) → minus_sums (plus_sums a (plus_sums b c)) b ≡ plus_sums a c
@@ -65,7 +68,8 @@ more : (a b c : Sums) → Holds (plus_sums a (plus_sums b c)) b
 more a b c = record { number = omega arith; front = omega arith; volume = omega arith; unmeasured = omega arith }
 
 -- one fewer
-pub taken_out : (xs ys : List Drawn) (d : Drawn) → minus_sums (sums_of (xs ++ d ∷ ys)) (sums_of (d ∷ [])) ≡ sums_of (xs ++ ys)
+pub taken_out : (xs ys : List Drawn) (d : Drawn)
+    → minus_sums (sums_of (xs ++ d ∷ ys)) (sums_of (d ∷ [])) ≡ sums_of (xs ++ ys)
 taken_out xs ys d =
     ap (λ (s : Sums). minus_sums s (sums_of (d ∷ []))) (middle xs ys d) ∙ (less (sums_of xs) (sums_of (d ∷ [])) (sums_of ys) ∙ sym (sums_append xs ys))
 

@@ -29,7 +29,8 @@ some_is_none v e = let f : true ≡ false = ap (λ (o : Option Sums). is_some o)
 at_head : (x : Line) (xs : List Line) → find (x ∷ xs) x.0 ≡ Some x.1
 at_head x xs = ap (λ (b : Bool). cond b (Some x.1) (find xs x.0)) (is_eq-slice_cmp x.0 x.0 ∙ (bytes_eq-Decides x.0 x.0).1 refl)
 
-below_head : (q : List ℕ) (y : Line) (ys : List Line) → IsStrictlySortedBy by_bytes (keys_of (y ∷ ys)) → by_bytes q y.0 ≡ Less → find (y ∷ ys) q ≡ None
+below_head : (q : List ℕ) (y : Line) (ys : List Line) → IsStrictlySortedBy by_bytes (keys_of (y ∷ ys))
+    → by_bytes q y.0 ≡ Less → find (y ∷ ys) q ≡ None
 below_head q y ys s h = lookup-none (is_at (by_bytes q)) (y ∷ ys) (none_below_head nat_list_cmp_total q y ys s h)
 
 -- the first key isn't among the others
@@ -62,7 +63,8 @@ module _ (x y : Line) (xs ys : List Line) (s : IsStrictlySortedBy by_bytes (keys
             sym left ∙ (h q ∙ right)
       ] refl
 
-pub unique : (es fs : List Line) → IsStrictlySortedBy by_bytes (keys_of es) → IsStrictlySortedBy by_bytes (keys_of fs) → ((q : List ℕ) → find es q ≡ find fs q) → es ≡ fs
+pub unique : (es fs : List Line) → IsStrictlySortedBy by_bytes (keys_of es) → IsStrictlySortedBy by_bytes (keys_of fs)
+    → ((q : List ℕ) → find es q ≡ find fs q) → es ≡ fs
 unique [] [] s t h = refl
 unique [] (y ∷ ys) s t h = absurd (some_is_none y.1 (sym (h y.0 ∙ at_head y ys)))
 unique (x ∷ xs) [] s t h = absurd (some_is_none x.1 (sym (at_head x xs) ∙ h x.0))

@@ -70,4 +70,5 @@ pub record IsBill (lines : List (List ℕ × Sums)) (list : List Drawn) : Type 0
 -- the instances of the one list together with what came are, each as often, those of the other together with what went
 abbrev pub Balances : List Drawn → List Drawn → Changes → Type 0
 Balances old new changes =
-    (test : Drawn → Bool) → count_by test old + count_by test changes.come ≡ count_by test new + count_by test changes.gone
+    (test : Drawn → Bool)
+        → count_by test old + count_by test changes.come ≡ count_by test new + count_by test changes.gone

@@ -11,7 +11,7 @@ const PLACES: u8 = 6;
 
 const MILLION: u128 = 1_000_000;
 
-#[tactic(auto, using(cga_fraction::proofs::Texts::ten_positive))]
+#[tactic(auto, using(cga_fraction::proofs::Door::ten_positive))]
 fn power_of_ten(exponent: u8) -> u128
     requires { exponent ≤ 6 }
     ensures value { result ≡ 10 ^ exponent }

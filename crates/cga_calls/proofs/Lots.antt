@@ -12,7 +12,8 @@ both_differ l m d (suc zero) (suc zero) a b ha hb e = refl
 both_differ l m d (suc zero) (suc (suc j)) a b ha hb e = cc
 both_differ l m d (suc (suc i)) j a b ha hb e = cc
 
-pub two_differ : (lots : List Lot) (l m : Lot) → 1 < length lots → length lots < 3 → l ≡ get_or lots 0 l → m ≡ get_or lots 1 m
+pub two_differ : (lots : List Lot) (l m : Lot) → 1 < length lots → length lots < 3 → l ≡ get_or lots 0 l
+    → m ≡ get_or lots 1 m
     → (l.name ≡ m.name → ⊥) → NamesDiffer lots
 two_differ [] l m long short first second d = absurd (omega arith)
 two_differ (a ∷ []) l m long short first second d = absurd (omega arith)

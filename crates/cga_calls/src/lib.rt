@@ -1,8 +1,8 @@
 //! Tests of calls of one crate alone that no script shows: exact numbers, names, words and stamps, the adapters over
 //! the standard library's readers and writers, and `derive`, which the program does not call.
 //!
-//! It has no code beside its tests, so that no other crate is proved once more for them. It must not know cities and
-//! scripts as they run: what wants `run_city` is in `cga_tests`. What a script can show belongs into the folder `rows`.
+//! It must not know cities and scripts as they run. It has no code beside its tests, so that no other crate is proved
+//! once more for them. What wants `run_city` is in `cga_tests`; what a script can show belongs into the folder `rows`.
 #![tactic(auto)]
 
 #[cfg(test)]

@@ -29,7 +29,8 @@ valid_faults g valid = first_none (faults g) valid
 pub valid_rules : (g : Grammar) → IsValid g → each_after (rule_faults g) [] g.rules ≡ []
 valid_rules g valid = none_right (each_after attribute_faults [] g.attributes) _ (none_right _ _ (none_right _ _ (valid_faults g valid)))
 
-pub each_clean : {A : Type 0} (look : List A → A → Faults) (before xs : List A) → each_after look before xs ≡ [] → All (λ (x : A). (b : List A) × (look b x ≡ [])) xs
+pub each_clean : {A : Type 0} (look : List A → A → Faults) (before xs : List A) → each_after look before xs ≡ []
+    → All (λ (x : A). (b : List A) × (look b x ≡ [])) xs
 unfolding each_after
 each_clean look before [] e = All-nil _
 each_clean {A = A} look before (x ∷ xs) e =

@@ -32,20 +32,25 @@ unfolding each_after
 after_more look before x xs = first_append (look before x) (each_after look (before ++ x ∷ []) xs)
 
 module _ {A : Type 0} (look : List A → A → Faults) (xs : List A) (i : ℕ) (item : A) (lt : i < length xs) (at : item ≡ get_or xs i item) where
-  turn : first (each_after look (take i xs) (drop i xs)) ≡ and_then (first (look (take i xs) item)) (first (each_after look (take (i + 1) xs) (drop (i + 1) xs)))
+  turn : first (each_after look (take i xs) (drop i xs)) ≡ and_then (first (look (take i xs) item))
+        (first (each_after look (take (i + 1) xs) (drop (i + 1) xs)))
   turn =
       at_drop_more (λ ys. first (each_after look (take i xs) ys)) xs i item lt
       ∙ ap (λ (m : A). first (each_after look (take i xs) (m ∷ drop (i + 1) xs))) (sym at)
       ∙ after_more look (take i xs) item (drop (i + 1) xs)
       ∙ ap (λ ys. and_then (first (look (take i xs) item)) (first (each_after look ys (drop (i + 1) xs)))) (ap (λ m. take i xs ++ m ∷ []) at ∙ sym (take_more xs i item lt))
 
-  pub after_on : (u : Unit {0}) (w : Answer) → Ok u ≡ first (look (take i xs) item) → first (each_after look (take i xs) (drop i xs)) ≡ w → first (each_after look (take (i + 1) xs) (drop (i + 1) xs)) ≡ w
+  pub after_on : (u : Unit {0}) (w : Answer) → Ok u ≡ first (look (take i xs) item)
+      → first (each_after look (take i xs) (drop i xs)) ≡ w
+      → first (each_after look (take (i + 1) xs) (drop (i + 1) xs)) ≡ w
   after_on u w e h = ap (λ o. and_then o (first (each_after look (take (i + 1) xs) (drop (i + 1) xs)))) e ∙ sym turn ∙ h
 
-  pub after_stop : (fault : CheckFault) (w : Answer) → Err fault ≡ first (look (take i xs) item) → first (each_after look (take i xs) (drop i xs)) ≡ w → Err fault ≡ w
+  pub after_stop : (fault : CheckFault) (w : Answer) → Err fault ≡ first (look (take i xs) item)
+      → first (each_after look (take i xs) (drop i xs)) ≡ w → Err fault ≡ w
   after_stop fault w e h = ap (λ o. and_then o (first (each_after look (take (i + 1) xs) (drop (i + 1) xs)))) e ∙ sym turn ∙ h
 
-pub after_end : {A : Type 0} (look : List A → A → Faults) (before xs : List A) (i : ℕ) (w : Answer) → length xs ≤ i → first (each_after look before (drop i xs)) ≡ w → Ok tt ≡ w
+pub after_end : {A : Type 0} (look : List A → A → Faults) (before xs : List A) (i : ℕ) (w : Answer) → length xs ≤ i
+    → first (each_after look before (drop i xs)) ≡ w → Ok tt ≡ w
 after_end look before xs i w le h = sym (after_none look before) ∙ sym (at_drop_all (λ ys. first (each_after look before ys)) xs i le) ∙ h
 
 -- the fault of the use that was caught
@@ -53,18 +58,21 @@ abbrev pub at_use : Grammar → Rule → Result (Unit {0}) Use → Answer
 at_use g r (Ok u) = Ok tt
 at_use g r (Err use_) = first (use_faults g r use_)
 
-one_more : (g : Grammar) (r : Rule) (u : Use) (us : Uses) (a : Answer) → a ≡ first (use_faults g r u) → first (flat_map (use_faults g r) us) ≡ at_use g r (sifted (is_faulty g r) us) →
+one_more : (g : Grammar) (r : Rule) (u : Use) (us : Uses) (a : Answer) → a ≡ first (use_faults g r u)
+    → first (flat_map (use_faults g r) us) ≡ at_use g r (sifted (is_faulty g r) us) →
     and_then a (first (flat_map (use_faults g r) us)) ≡ at_use g r (if is_err a then Err u else sifted (is_faulty g r) us)
 one_more g r u us (Ok done) e h = h
 one_more g r u us (Err fault) e h = e
 
-pub first_of_uses : (g : Grammar) (r : Rule) (us : Uses) → first (flat_map (use_faults g r) us) ≡ at_use g r (sifted (is_faulty g r) us)
+pub first_of_uses : (g : Grammar) (r : Rule) (us : Uses)
+    → first (flat_map (use_faults g r) us) ≡ at_use g r (sifted (is_faulty g r) us)
 unfolding sifted
 first_of_uses g r [] = refl
 first_of_uses g r (u ∷ us) = first_append (use_faults g r u) (flat_map (use_faults g r) us) ∙ one_more g r u us (first (use_faults g r u)) refl (first_of_uses g r us)
 
 -- what the walk answers, as the fault of the use at which it stopped
-pub at_stop : (g : Grammar) (r : Rule) (us : Uses) (s : Result (Unit {0}) Use) → s ≡ sifted (is_faulty g r) us → at_use g r s ≡ first (flat_map (use_faults g r) us)
+pub at_stop : (g : Grammar) (r : Rule) (us : Uses) (s : Result (Unit {0}) Use) → s ≡ sifted (is_faulty g r) us
+    → at_use g r s ≡ first (flat_map (use_faults g r) us)
 at_stop g r us s e = ap (at_use g r) e ∙ sym (first_of_uses g r us)
 
 pub ruleset firsts = (first_append)

@@ -30,7 +30,10 @@ use Rattle.cga_rule.specs.declared.item.Item.TheFolds.{fold_out-Body, fold-roll-
 use Rattle.cga_rule.specs.declared.item.Item.TheVariants as i
 use Rattle.cga_rule.specs.declared.item.Item.TheOpen as item
 use Rattle.cga_check.specs.declared.usage.Use.TheVariants.{Answer, Child, Named}
-use Rattle.cga_check.specs.Uses.{Uses, only, all, primary_step, added_step, expr_step, factor_step, scaled_step, term_step, primary_uses, added_uses, expr_uses, factor_uses, scaled_uses, term_uses, test_step, cond_step, conj_step, test_uses, cond_uses, conj_uses, size_uses, parts_uses, item_step, body_step, item_uses, body_uses}
+use Rattle.cga_check.specs.Uses.{Uses, only, all, primary_step, added_step, expr_step, factor_step, scaled_step}
+use Rattle.cga_check.specs.Uses.{term_step, primary_uses, added_uses, expr_uses, factor_uses, scaled_uses, term_uses}
+use Rattle.cga_check.specs.Uses.{test_step, cond_step, conj_step, test_uses, cond_uses, conj_uses, size_uses}
+use Rattle.cga_check.specs.Uses.{parts_uses, item_step, body_step, item_uses, body_uses}
 use Rattle.cga_check.proofs.Sifted.{flat_map_of_map, sifted_append, sifted_none}
 
 -- ---- expressions
@@ -83,7 +86,8 @@ pub primary_Ceil : (e : Expr) → primary_uses (p.Ceil e) ≡ expr_uses e
 unfolding primary_uses expr_uses
 primary_Ceil e = ap primary_uses (sym (p.rolls-Ceil e)) ∙ fold-roll-Primary Uses Uses Uses Uses Uses Uses primary_step added_step expr_step factor_step scaled_step term_step (primary.Ceil e)
 
-pub primary_Rand : (j : ℕ) (low high : Expr) (steps : ℕ) → primary_uses (p.Rand j low high steps) ≡ expr_uses low ++ expr_uses high
+pub primary_Rand : (j : ℕ) (low high : Expr) (steps : ℕ)
+    → primary_uses (p.Rand j low high steps) ≡ expr_uses low ++ expr_uses high
 unfolding primary_uses expr_uses
 primary_Rand j low high steps = ap primary_uses (sym (p.rolls-Rand j low high steps)) ∙ fold-roll-Primary Uses Uses Uses Uses Uses Uses primary_step added_step expr_step factor_step scaled_step term_step (primary.Rand j low high steps)
 
@@ -105,11 +109,13 @@ pub test_Not : (c : Cond) → test_uses (t.Not c) ≡ cond_uses c
 unfolding test_uses cond_uses
 test_Not c = ap test_uses (sym (t.rolls-Not c)) ∙ fold-roll-Test Uses Uses Uses test_step cond_step conj_step (test.Not c)
 
-pub test_Occ : (target : Target) (equal : Bool) (state : State) → test_uses (t.Occ target equal state) ≡ only (Answer target)
+pub test_Occ : (target : Target) (equal : Bool) (state : State)
+    → test_uses (t.Occ target equal state) ≡ only (Answer target)
 unfolding test_uses
 test_Occ target equal state = ap test_uses (sym (t.rolls-Occ target equal state)) ∙ fold-roll-Test Uses Uses Uses test_step cond_step conj_step (test.Occ target equal state)
 
-pub test_Compare : (left : Expr) (relation : Relation) (right : Expr) → test_uses (t.Compare left relation right) ≡ expr_uses left ++ expr_uses right
+pub test_Compare : (left : Expr) (relation : Relation) (right : Expr)
+    → test_uses (t.Compare left relation right) ≡ expr_uses left ++ expr_uses right
 unfolding test_uses
 test_Compare left relation right = ap test_uses (sym (t.rolls-Compare left relation right)) ∙ fold-roll-Test Uses Uses Uses test_step cond_step conj_step (test.Compare left relation right)
 
@@ -145,13 +151,15 @@ parts_of_map sizes bodies =
     ap (λ n. parts_uses sizes n ++ all (map body_uses bodies)) (length-map bodies body_uses)
     ∙ ap (λ us. parts_uses sizes (length bodies) ++ us) (flat_map_of_map body_uses bodies)
 
-pub item_Subdiv : (axis : Axis) (sizes : List Size) (bodies : List Body) → item_uses (i.Subdiv axis sizes bodies) ≡ parts_uses sizes (length bodies) ++ flat_map body_uses bodies
+pub item_Subdiv : (axis : Axis) (sizes : List Size) (bodies : List Body)
+    → item_uses (i.Subdiv axis sizes bodies) ≡ parts_uses sizes (length bodies) ++ flat_map body_uses bodies
 unfolding item_uses body_uses
 item_Subdiv axis sizes bodies =
     ap item_uses (sym (i.rolls-Subdiv axis sizes bodies)) ∙ fold-roll-Item Uses Uses item_step body_step (item.Subdiv axis sizes bodies)
     ∙ parts_of_map sizes bodies
 
-pub item_Repeat : (axis : Axis) (step : Expr) (body : Body) → item_uses (i.Repeat axis step body) ≡ expr_uses step ++ body_uses body
+pub item_Repeat : (axis : Axis) (step : Expr) (body : Body)
+    → item_uses (i.Repeat axis step body) ≡ expr_uses step ++ body_uses body
 unfolding item_uses body_uses
 item_Repeat axis step body = ap item_uses (sym (i.rolls-Repeat axis step body)) ∙ fold-roll-Item Uses Uses item_step body_step (item.Repeat axis step body)
 
@@ -159,7 +167,8 @@ pub item_Comp : (selector : Selector) (body : Body) → item_uses (i.Comp select
 unfolding item_uses body_uses
 item_Comp selector body = ap item_uses (sym (i.rolls-Comp selector body)) ∙ fold-roll-Item Uses Uses item_step body_step (item.Comp selector body)
 
-pub item_Child : (symbol : List ℕ) (args : List Expr) → item_uses (i.Child symbol args) ≡ only (Child symbol (length args)) ++ flat_map expr_uses args
+pub item_Child : (symbol : List ℕ) (args : List Expr)
+    → item_uses (i.Child symbol args) ≡ only (Child symbol (length args)) ++ flat_map expr_uses args
 unfolding item_uses
 item_Child symbol args = ap item_uses (sym (i.rolls-Child symbol args)) ∙ fold-roll-Item Uses Uses item_step body_step (item.Child symbol args)
 

@@ -1,8 +1,9 @@
-pub mod Agreement
-pub mod Asked
-pub mod Clean
-pub mod Firsts
-pub mod Layers
-pub mod Placed
-pub mod Sifted
-pub mod Valid
+mod Agreement
+mod Asked
+mod Clean
+mod Firsts
+mod Layers
+mod Placed
+mod Sifted
+mod Valid
+pub mod Door

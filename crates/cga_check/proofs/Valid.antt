@@ -17,6 +17,7 @@ use Rattle.cga_check.specs.Faults.{IsValid, each_after, rule_faults, head_faults
 use Rattle.cga_check.specs.Validity.{SymbolsAgree, Agrees, Takes, IsMet, ChildrenHaveRules, AddUp, ProbabilitiesAddUp}
 use Rattle.cga_check.proofs.Clean.{none_left, none_right, if_none, valid_rules, each_clean, flat_clean}
 use Rattle.cga_check.proofs.Agreement.{agree_all}
+use Rattle.cga_fraction.proofs.Door.{eq_from_nat_eq as numbers}
 
 pub symbols_agree : SymbolsAgree
 unfolding first_entry
@@ -24,12 +25,15 @@ symbols_agree g valid symbol f found = agree_all g symbol f [] g.rules refl foun
 
 -- ---- children
 
-take_step : (symbol : List ℕ) (n : ℕ) (x : Entry) (kept : List Entry) (b : Bool) → (b ≡ true → length x.rule.params ≡ n) → All (λ (r : Rule). length r.params ≡ n) (map (λ (e : Entry). e.rule) kept)
+take_step : (symbol : List ℕ) (n : ℕ) (x : Entry) (kept : List Entry) (b : Bool) → (b ≡ true → length x.rule.params ≡ n)
+    → All (λ (r : Rule). length r.params ≡ n) (map (λ (e : Entry). e.rule) kept)
     → All (λ (r : Rule). length r.params ≡ n) (map (λ (e : Entry). e.rule) (if b then x ∷ kept else kept))
 take_step symbol n x kept true here more = All-cons (λ (r : Rule). length r.params ≡ n) x.rule (map (λ (e : Entry). e.rule) kept) (here refl) more
 take_step symbol n x kept false here more = more
 
-take_all : (symbol : List ℕ) (n : ℕ) (xs : List Entry) → All (λ (e : Entry). is_of symbol e ≡ true → length e.rule.params ≡ n) xs → All (λ (r : Rule). length r.params ≡ n) (rules_of xs symbol)
+take_all : (symbol : List ℕ) (n : ℕ) (xs : List Entry)
+    → All (λ (e : Entry). is_of symbol e ≡ true → length e.rule.params ≡ n) xs
+    → All (λ (r : Rule). length r.params ≡ n) (rules_of xs symbol)
 unfolding rules_of
 take_all symbol n [] each = All-nil _
 take_all symbol n (x ∷ xs) each =
@@ -37,7 +41,8 @@ take_all symbol n (x ∷ xs) each =
     (take_all symbol n xs (All-tail (λ (e : Entry). is_of symbol e ≡ true → length e.rule.params ≡ n) x xs each))
 
 -- all rules of a symbol have as many parameters as its first
-pub takes : (g : Grammar) → IsValid g → (symbol : List ℕ) (f : Entry) → first_entry g.rules symbol ≡ Some f → Takes g symbol (length f.rule.params)
+pub takes : (g : Grammar) → IsValid g → (symbol : List ℕ) (f : Entry) → first_entry g.rules symbol ≡ Some f
+    → Takes g symbol (length f.rule.params)
 takes g valid symbol f found =
     take_all symbol (length f.rule.params) g.rules
     (All-weaker (λ (e : Entry). is_of symbol e ≡ true → Agrees f e) (λ (e : Entry). is_of symbol e ≡ true → length e.rule.params ≡ length f.rule.params) (λ e agrees here. (agrees here).arity) g.rules (symbols_agree g valid symbol f found))
@@ -45,7 +50,8 @@ takes g valid symbol f found =
 same_number : (a b : ℕ) → not (nat_eq a b) ≡ false → a ≡ b
 same_number a b h = grind (arith, nat_tests)
 
-child_met : (g : Grammar) → IsValid g → (id : ℕ) (symbol : List ℕ) (args : ℕ) (o : Option Entry) → o ≡ first_entry g.rules symbol → child_faults id symbol args o ≡ [] → IsMet g (Child symbol args)
+child_met : (g : Grammar) → IsValid g → (id : ℕ) (symbol : List ℕ) (args : ℕ) (o : Option Entry)
+    → o ≡ first_entry g.rules symbol → child_faults id symbol args o ≡ [] → IsMet g (Child symbol args)
 child_met g valid id symbol args None is clean = cc
 child_met g valid id symbol args (Some f) is clean =
     (subst (λ (o : Option Entry). IsSome o) is refl, subst (λ (n : ℕ). Takes g symbol n) (same_number (length f.rule.params) args (if_none _ _ clean)) (takes g valid symbol f (sym is)))
@@ -56,7 +62,8 @@ use_met g valid r (Child symbol args) clean = child_met g valid r.id symbol args
 use_met g valid r (Parts sizes bodies) clean = tt
 use_met g valid r (Named name) clean = tt
 
-rule_met : (g : Grammar) → IsValid g → (e : Entry) → (b : List Entry) × (rule_faults g b e ≡ []) → All (IsMet g) (rule_uses e.rule)
+rule_met : (g : Grammar) → IsValid g → (e : Entry) → (b : List Entry) × (rule_faults g b e ≡ [])
+    → All (IsMet g) (rule_uses e.rule)
 unfolding rule_faults
 rule_met g valid e (b, clean) =
     All-weaker (λ (u : Use). use_faults g e.rule u ≡ []) (IsMet g) (use_met g valid e.rule) (rule_uses e.rule)
@@ -90,9 +97,6 @@ all_true {A = A} p (x ∷ xs) e = All-cons (λ (y : A). IsTrue (p y)) x xs (both
     both_right true b e = e
     both_right false b e = cc
 
-numbers : (a b : ℕ) → nat_eq a b ≡ true → a ≡ b
-numbers a b h = grind (arith, nat_tests)
-
 adds_up : (alternatives : List Alternative) → not (are_probabilities alternatives) ≡ false → AddUp alternatives
 adds_up alternatives e = record {
   each = all_true (λ (a : Alternative). is_probability a.prob) alternatives (and_left _ _ e);
@@ -112,7 +116,8 @@ probabilities_add_up g valid =
 -- ---- groups
 
 -- what holds of each rule holds of each by rising id
-placed_all_all : (P : Rule → Type 0) (ranked rules : List Rule) → All P ranked → All P rules → All P (placed_all ranked rules)
+placed_all_all : (P : Rule → Type 0) (ranked rules : List Rule) → All P ranked → All P rules
+    → All P (placed_all ranked rules)
 unfolding placed
 placed_all_all P ranked [] a b = a
 placed_all_all P ranked (r ∷ rs) a b =

@@ -2,7 +2,10 @@
 use Rattle.std.specs.Prelude.{◌≡◌, ℕ, List, [], ◌∷◌, ◌++◌, length, flat_map, Bool, not, ◌&&◌, ◌||◌, nat_eq, nat_lt, Option, Some, None, Result, Ok, Err, is_err, if◌then◌else◌}
 use Rattle.std.specs.List.{list_any}
 use Rattle.cga_rule.specs.declared.check_fault.CheckFault.{CheckFault}
-use Rattle.cga_rule.specs.declared.check_fault.CheckFault.TheVariants.{TooManyRules, TooManyAttributes, DoubleAttribute, DoubleId, SplitPriority, WrongArity, DoubleName, BadProbability, UnknownSymbol, PartsDiffer, UnknownName}
+use Rattle.cga_rule.specs.declared.check_fault.CheckFault.TheVariants.{TooManyRules, TooManyAttributes}
+use Rattle.cga_rule.specs.declared.check_fault.CheckFault.TheVariants.{DoubleAttribute, DoubleId, SplitPriority}
+use Rattle.cga_rule.specs.declared.check_fault.CheckFault.TheVariants.{WrongArity, DoubleName, BadProbability}
+use Rattle.cga_rule.specs.declared.check_fault.CheckFault.TheVariants.{UnknownSymbol, PartsDiffer, UnknownName}
 use Rattle.cga_rule.specs.declared.rule.Rule.{Rule}
 use Rattle.cga_rule.specs.declared.grammar.Attribute.{Attribute}
 use Rattle.cga_rule.specs.declared.grammar.Entry.{Entry}

@@ -1,9 +1,9 @@
 //! Whether a grammar is valid, the rules of a symbol, and what these rules mention.
 //!
-//! It looks at trees and computes nothing: it must not know what a rule does to a shape, nor how a
-//! rule is written. Callers get the order wrong: a grammar is checked as its rules stand in the
-//! list, and the rule that a fault names is the one that comes too late, not the one with the
-//! greater id.
+//! It must not know what a rule does to a shape or how it is written. It looks at trees and computes nothing.
+//!
+//! What callers get wrong: the order. A grammar is checked as its rules stand in the list, and the rule that a fault
+//! names is the one that comes too late, not the one with the greater id.
 #![tactic(auto)]
 
 mod checks;

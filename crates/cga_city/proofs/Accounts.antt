@@ -15,8 +15,9 @@ use Rattle.cga_order.specs.declared.placed.Kind.{Kind}
 use Rattle.cga_order.specs.declared.placed.Kind.TheVariants.{Waiting, Done, Faulted, Instance}
 use Rattle.cga_rule.specs.declared.grammar.Grammar.{Grammar}
 use Rattle.cga_agenda.specs.Record.{drawn}
-use Rattle.cga_order.proofs.Once.{length-once}
-use Rattle.cga_agenda.proofs.Update.{Has-drawn}
+use Rattle.cga_agenda.proofs.Door.{Has-drawn}
+use Rattle.cga_expand.proofs.Door.{root_is}
+use Rattle.cga_order.proofs.Door.{length-once}
 use Rattle.cga_shape.specs.declared.changes.Changes.{Changes}
 use Rattle.cga_shape.specs.declared.drawn.Drawn as reported
 use Rattle.cga_shape.specs.declared.emitted.Emitted.{Emitted}
@@ -29,7 +30,6 @@ use Rattle.cga_shape.specs.Root.{root_of}
 use Rattle.cga_derivation.specs.Derivation.{derive, reached, step, step_by, first_of, is_next, next_of, told, become, same_place, outcome}
 use Rattle.cga_expand.specs.Children.{Member, placed_at, placed_from, placed_by}
 use Rattle.cga_expand.specs.Expand.{expand_of}
-use Rattle.cga_expand.proofs.Instance.{root_is}
 use Rattle.cga_expand.specs.Derivation.{derivation_of, children_of, roots_of, made}
 use Rattle.cga_update.specs.Updates as updates
 use Rattle.cga_update.specs.Updates.{IsChange, instances}
@@ -53,11 +53,13 @@ AllAt names list = AllByRecursion (IsAt names) list
 abbrev waits : Shape → Member
 waits n = record { shape = n; kind = Waiting }
 
-made_at : (names : List (List ℕ)) (lot : Lot) (r : Result Shape ScopeFault) → root_of lot ≡ r → Among lot.name names → AllAt names (map waits (made r))
+made_at : (names : List (List ℕ)) (lot : Lot) (r : Result Shape ScopeFault) → root_of lot ≡ r → Among lot.name names
+    → AllAt names (map waits (made r))
 made_at names lot (Ok s) is h = let w = root_is lot s is in (subst (λ (l : List ℕ). Among l names) (ap (λ (x : Shape). x.lot) w.1) h, tt)
 made_at names lot (Err fault) is h = tt
 
-roots_at : (names : List (List ℕ)) (lots : List Lot) → ((lot : Lot) → Among lot lots → Among lot.name names) → AllAt names (map waits (roots_of lots))
+roots_at : (names : List (List ℕ)) (lots : List Lot) → ((lot : Lot) → Among lot lots → Among lot.name names)
+    → AllAt names (map waits (roots_of lots))
 roots_at names [] h = tt
 roots_at names (lot ∷ lots) h =
     subst (AllAt names) (sym (map_both (made (root_of lot)) (roots_of lots)))
@@ -68,11 +70,13 @@ roots_at names (lot ∷ lots) h =
     map_both [] ys = refl
     map_both (x ∷ xs) ys = ap (λ (ms : List Member). waits x ∷ ms) (map_both xs ys)
 
-placed_one : (names : List (List ℕ)) (lot path own : List ℕ) (i : ℕ) (e : Emitted) → Among lot names → IsAt names (placed_at lot path own i e)
+placed_one : (names : List (List ℕ)) (lot path own : List ℕ) (i : ℕ) (e : Emitted) → Among lot names
+    → IsAt names (placed_at lot path own i e)
 placed_one names lot path own i (emitted.Child symbol args scope seed) h = h
 placed_one names lot path own i (emitted.Solid p scope seed) h = h
 
-placed_all : (names : List (List ℕ)) (lot path own : List ℕ) (i : ℕ) (es : List Emitted) → Among lot names → AllAt names (placed_from lot path own i es)
+placed_all : (names : List (List ℕ)) (lot path own : List ℕ) (i : ℕ) (es : List Emitted) → Among lot names
+    → AllAt names (placed_from lot path own i es)
 placed_all names lot path own i [] h = tt
 placed_all names lot path own i (e ∷ es) h = (placed_one names lot path own i e h, placed_all names lot path own (suc i) es h)
 
@@ -81,11 +85,13 @@ abbrev Stays : List (List ℕ) → Result (List Member) ShapeFault → Type 0
 Stays names (Ok children) = AllAt names children
 Stays names (Err fault) = Unit {0}
 
-placed_stays : (names : List (List ℕ)) (s : Shape) (r : Result (List Emitted) ShapeFault) → Among s.lot names → Stays names (placed_by s r)
+placed_stays : (names : List (List ℕ)) (s : Shape) (r : Result (List Emitted) ShapeFault) → Among s.lot names
+    → Stays names (placed_by s r)
 placed_stays names s (Ok es) h = placed_all names s.lot s.path s.symbol 0 es h
 placed_stays names s (Err fault) h = tt
 
-children_stay : (names : List (List ℕ)) (g : Grammar) (s : Shape) (answers : Answers) → Among s.lot names → Stays names (children_of g s answers)
+children_stay : (names : List (List ℕ)) (g : Grammar) (s : Shape) (answers : Answers) → Among s.lot names
+    → Stays names (children_of g s answers)
 unfolding children_of
 children_stay names g s answers h = placed_stays names s (expand_of g s answers) h
 
@@ -93,18 +99,21 @@ module _ (sources : Sources) where
   abbrev names : List (List ℕ)
   names = names_of sources.lots
 
-  become_at : (s : Shape) (k : Kind ShapeFault Primitive) (list : List Member) → AllAt names list → AllAt names (map (become (derivation_of sources) s k) list)
+  become_at : (s : Shape) (k : Kind ShapeFault Primitive) (list : List Member) → AllAt names list
+      → AllAt names (map (become (derivation_of sources) s k) list)
   become_at s k [] h = tt
   become_at s k (m ∷ list) h = elim (decide (same_place (derivation_of sources) m.shape s)) [
     | inl t ↦ rw t (h.0, become_at s k list h.1)
     | inr f ↦ rw f (h.0, become_at s k list h.1)
   ]
 
-  told_at : (list : List Member) (s : Shape) (r : Result (List Member) ShapeFault) → AllAt names list → Stays names r → AllAt names (told (derivation_of sources) list s r)
+  told_at : (list : List Member) (s : Shape) (r : Result (List Member) ShapeFault) → AllAt names list → Stays names r
+      → AllAt names (told (derivation_of sources) list s r)
   told_at list s (Ok children) h k = all_both (IsAt names) (map (become (derivation_of sources) s Done) list) children (become_at s Done list h) k
   told_at list s (Err fault) h k = become_at s (Faulted fault) list h
 
-  step_at : (list : List Member) (o : Option Member) → next_of (derivation_of sources) list ≡ o → AllAt names list → AllAt names (step_by (derivation_of sources) list o)
+  step_at : (list : List Member) (o : Option Member) → next_of (derivation_of sources) list ≡ o → AllAt names list
+      → AllAt names (step_by (derivation_of sources) list o)
   step_at list None is h = h
   step_at list (Some m) is h =
       let own : Among m.shape.lot names = all_at (IsAt names) list m h (taken (is_next (derivation_of sources) list) list m is) in
@@ -126,7 +135,8 @@ module _ (sources : Sources) where
   reached_at zero = roots_at names sources.lots (name_of sources.lots)
   reached_at (suc n) = step_at (reached (derivation_of sources) n) (next_of (derivation_of sources) (reached (derivation_of sources) n)) refl (reached_at n)
 
-members_at_lots : (budget : ℕ) (s : Sources) (list : List Member) → derived budget s ≡ Some list → AllAt (names_of s.lots) list
+members_at_lots : (budget : ℕ) (s : Sources) (list : List Member) → derived budget s ≡ Some list
+    → AllAt (names_of s.lots) list
 unfolding derived derive
 members_at_lots budget s list h = elim (decide (nat_lt budget (length (reached (derivation_of s) budget)))) [
   | inl t ↦ (let k = rw t at h in absurd (cc))
@@ -169,7 +179,8 @@ module _ {X : Type 0} where
       let c = sum_by-cons f x xs in
       omega (arith, a, b, c)
 
-  count_flat : {Y : Type 0} (test : X → Bool) (f : Y → List X) (ys : List Y) → count_by test (flat_map f ys) ≡ sum_by (λ (y : Y). count_by test (f y)) ys
+  count_flat : {Y : Type 0} (test : X → Bool) (f : Y → List X) (ys : List Y)
+      → count_by test (flat_map f ys) ≡ sum_by (λ (y : Y). count_by test (f y)) ys
   count_flat {Y} test f [] = refl
   count_flat {Y} test f (y ∷ ys) =
       let a = ap (count_by test) (flat_map-cons f y ys) in
@@ -185,7 +196,8 @@ module _ {X : Type 0} where
 -- ---- by lots, and at once
 
 -- a name stands once among names that differ
-none_named : (name : List ℕ) (n : ℕ) (names : List (List ℕ)) → AllByRecursion (λ l. bytes_eq name l ≡ false) names → sum_by (λ (l : List ℕ). cond (same_name name l) n 0) names ≡ 0
+none_named : (name : List ℕ) (n : ℕ) (names : List (List ℕ)) → AllByRecursion (λ l. bytes_eq name l ≡ false) names
+    → sum_by (λ (l : List ℕ). cond (same_name name l) n 0) names ≡ 0
 none_named name n [] h = refl
 none_named name n (l ∷ names) h =
     let a = sum_by-cons (λ (l : List ℕ). cond (same_name name l) n 0) l names in
@@ -193,7 +205,8 @@ none_named name n (l ∷ names) h =
     let c = none_named name n names h.1 in
     omega (arith, a, b, c)
 
-once_named : (name : List ℕ) (n : ℕ) (names : List (List ℕ)) → IsDistinct bytes_eq names → Among name names → sum_by (λ (l : List ℕ). cond (same_name name l) n 0) names ≡ n
+once_named : (name : List ℕ) (n : ℕ) (names : List (List ℕ)) → IsDistinct bytes_eq names → Among name names
+    → sum_by (λ (l : List ℕ). cond (same_name name l) n 0) names ≡ n
 unfolding IsDistinct
 once_named name n [] distinct i = absurd i
 once_named name n (l ∷ names) distinct i =
@@ -217,14 +230,17 @@ once_named name n (l ∷ names) distinct i =
 
 -- the members of a lot, whatever their order
 sum_lot : (f : Member → ℕ) (lot : List ℕ) (m : Member) (list : List Member)
-    → sum_by f (filter (λ (m : Member). same_name m.shape.lot lot) (m ∷ list)) ≡ cond (same_name m.shape.lot lot) (f m) 0 + sum_by f (filter (λ (m : Member). same_name m.shape.lot lot) list)
+    → sum_by f (filter (λ (m : Member). same_name m.shape.lot lot) (m ∷ list)) ≡ cond (same_name m.shape.lot lot) (f m)
+      0 + sum_by f (filter (λ (m : Member). same_name m.shape.lot lot) list)
 sum_lot f lot m list = elim (decide (same_name m.shape.lot lot)) [
   | inl t ↦ rw t (sum_by-cons f m (filter (λ (m : Member). same_name m.shape.lot lot) list))
   | inr e ↦ rw e (omega arith)
 ]
 
-sum_lots : (f : Member → ℕ) (names : List (List ℕ)) → IsDistinct bytes_eq names → (list : List Member) → AllAt names list
-    → sum_by (λ (lot : List ℕ). sum_by f (filter (λ (m : Member). same_name m.shape.lot lot) list)) names ≡ sum_by f list
+sum_lots : (f : Member → ℕ) (names : List (List ℕ)) → IsDistinct bytes_eq names → (list : List Member)
+    → AllAt names list
+    → sum_by (λ (lot : List ℕ). sum_by f (filter (λ (m : Member). same_name m.shape.lot lot) list)) names ≡ sum_by f
+      list
 sum_lots f names distinct [] h = sum_none names
 sum_lots f names distinct (m ∷ list) h =
     let a = sum_alike _ _ (λ lot. sum_lot f lot m list) names in
@@ -236,13 +252,15 @@ sum_lots f names distinct (m ∷ list) h =
 
 -- what is drawn, as reports give it and as the record of changes does
 instance_count : (test : reported.Drawn → Bool) (n : Shape) (k : Kind ShapeFault Primitive) (rest : List Member)
-    → count_by test (instances (record { shape = n; kind = k } ∷ rest)) ≡ count_by test (drawn_as n k) + count_by test (instances rest)
+    → count_by test (instances (record { shape = n; kind = k } ∷ rest)) ≡ count_by test (drawn_as n k) + count_by test
+      (instances rest)
 instance_count test n Waiting rest = omega arith
 instance_count test n Done rest = omega arith
 instance_count test n (Faulted fault) rest = omega arith
 instance_count test n (Instance p) rest = sum_by-append (λ (x : reported.Drawn). cond (test x) 1 0) (drawn_as n (Instance p)) (instances rest)
 
-instances_count : (test : reported.Drawn → Bool) (list : List Member) → count_by test (instances list) ≡ sum_by (λ (m : Member). count_by test (drawn_of m)) list
+instances_count : (test : reported.Drawn → Bool) (list : List Member)
+    → count_by test (instances list) ≡ sum_by (λ (m : Member). count_by test (drawn_of m)) list
 instances_count test [] = refl
 instances_count test (m ∷ list) =
     let a = instance_count test m.shape m.kind list in
@@ -250,7 +268,8 @@ instances_count test (m ∷ list) =
     let c = sum_by-cons (λ (m : Member). count_by test (drawn_of m)) m list in
     omega (arith, a, b, c)
 
-reports_count : (test : reported.Drawn → Bool) (names : List (List ℕ)) (list : List Member) → IsDistinct bytes_eq names → AllAt names list → count_by test (drawn_in names list) ≡ count_by test (instances list)
+reports_count : (test : reported.Drawn → Bool) (names : List (List ℕ)) (list : List Member) → IsDistinct bytes_eq names
+    → AllAt names list → count_by test (drawn_in names list) ≡ count_by test (instances list)
 unfolding drawn_in
 reports_count test names list distinct h =
     let each : Member → ℕ = λ (m : Member). count_by test (drawn_of m) in
@@ -258,7 +277,8 @@ reports_count test names list distinct h =
     ∙ (sum_alike _ _ (λ lot. count_flat test drawn_of (members_of lot list) ∙ sum_sorted each comes_before (filter (λ (m : Member). same_name m.shape.lot lot) list)) names
     ∙ (sum_lots each names distinct list h ∙ sym (instances_count test list)))
 
-few_by : (n : Shape) (k : Kind ShapeFault Primitive) (list : List Member) → length (drawn list) ≤ length list → length (drawn (record { shape = n; kind = k } ∷ list)) ≤ length list + 1
+few_by : (n : Shape) (k : Kind ShapeFault Primitive) (list : List Member) → length (drawn list) ≤ length list
+    → length (drawn (record { shape = n; kind = k } ∷ list)) ≤ length list + 1
 few_by n Waiting list h = omega (arith, h)
 few_by n Done list h = omega (arith, h)
 few_by n (Faulted fault) list h = omega (arith, h)
@@ -272,8 +292,10 @@ few_drawn (m ∷ list) = let h = few_by m.shape m.kind list (few_drawn list) in 
 
 module _ (budget : ℕ) (old new : Sources) (before after : List Member) (changes : Changes) (change : IsChange old new before after changes) where
   -- what is reported before and after an edit, each as often
-  pub accounted : AreSound old → AreSound new → derived budget old ≡ Some before → derived budget new ≡ Some after → (test : reported.Drawn → Bool)
-      → count_by test (drawn_in (names_of old.lots) before) + count_by test changes.come ≡ count_by test (drawn_in (names_of new.lots) after) + count_by test changes.gone
+  pub accounted : AreSound old → AreSound new → derived budget old ≡ Some before → derived budget new ≡ Some after
+      → (test : reported.Drawn → Bool)
+      → count_by test (drawn_in (names_of old.lots) before) + count_by test changes.come ≡ count_by test
+        (drawn_in (names_of new.lots) after) + count_by test changes.gone
   accounted sound sound' fits fits' test =
       ap (λ (n : ℕ). n + count_by test changes.come) (reports_count test (names_of old.lots) before sound.names (members_at_lots budget old before fits))
       ∙ (change.balance test
@@ -288,7 +310,8 @@ module _ (budget : ℕ) (old new : Sources) (before after : List Member) (change
       omega (arith, one, all, told, length-map change.come updates.told)
 
 -- and no more is reported
-pub reported_few : (budget : ℕ) (s : Sources) (list : List Member) → AreSound s → derived budget s ≡ Some list → length (drawn_in (names_of s.lots) list) ≤ budget
+pub reported_few : (budget : ℕ) (s : Sources) (list : List Member) → AreSound s → derived budget s ≡ Some list
+    → length (drawn_in (names_of s.lots) list) ≤ budget
 reported_few budget s list sound fits =
     let drawn_all = drawn_in (names_of s.lots) list in
     let a = count_all drawn_all in

@@ -22,11 +22,13 @@ whole_changed s t sound =
     rw (sound.grammar, ranked_same t.grammar sound.rising, fits (length t.lots) sound.few, good_accepted t.grammar t.lots sound.plain sound.good) refl
 
 -- an edit that sets them whole is accepted, and they are the new sources
-pub whole_applied : (s t : Sources) (budget : ℕ) → AreSound t → is_within budget t ≡ true → apply s (edit.Whole t) budget ≡ Ok t
+pub whole_applied : (s t : Sources) (budget : ℕ) → AreSound t → is_within budget t ≡ true
+    → apply s (edit.Whole t) budget ≡ Ok t
 unfolding apply
 whole_applied s t budget sound fit = ap (within budget) (whole_changed s t sound) ∙ rw fit refl
 
-within_ok : (budget : ℕ) (r : Changed) (new : Sources) → within budget r ≡ Ok new → (r ≡ Ok new) × (is_within budget new ≡ true)
+within_ok : (budget : ℕ) (r : Changed) (new : Sources) → within budget r ≡ Ok new
+    → (r ≡ Ok new) × (is_within budget new ≡ true)
 within_ok budget (Ok made) new h =
     let k = err_if_ok (not (is_within budget made)) OverBudget (Ok made) new h in
     let same : made ≡ new = let e = k.1 in cc in
@@ -34,6 +36,7 @@ within_ok budget (Ok made) new h =
 within_ok budget (Err e) new h = cc
 
 -- what an accepted edit leaves is sound, and within the budget
-pub applied_sound : (s new : Sources) (e : Edit) (budget : ℕ) → AreSound s → HasDistinctLots e → apply s e budget ≡ Ok new → AreSound new × (is_within budget new ≡ true)
+pub applied_sound : (s new : Sources) (e : Edit) (budget : ℕ) → AreSound s → HasDistinctLots e
+    → apply s e budget ≡ Ok new → AreSound new × (is_within budget new ≡ true)
 unfolding apply
 applied_sound s new e budget sound apart h = let (made, fit) = within_ok budget (changed s e) new h in (changed_sound s new e sound apart made, fit)

@@ -7,16 +7,16 @@ use Rattle.std.proofs.lemmas.Option.{slice_get-get_or}
 use Rattle.std.proofs.lemmas.Slice.Eq.{bytes_eq-Decides}
 use Rattle.cga_order.specs.World.{Among, is_instance}
 use Rattle.cga_order.specs.Once.{Once}
-use Rattle.cga_order.proofs.Once.{Once-append, Once-index, count-once, length-once}
+use Rattle.cga_forest.proofs.Door.{inside, keeps_laws, there}
+use Rattle.cga_index.proofs.Door.{in_some}
+use Rattle.cga_order.proofs.Door.{Once-append, Once-index, count-once, length-once}
 use Rattle.cga_expand.specs.Children.{Member}
 use Rattle.cga_index.specs.Tree as trees
 use Rattle.cga_index.specs.Tree.{below, all_nodes}
-use Rattle.cga_index.proofs.Levels.{in_some}
 use Rattle.cga_forest.specs.View.{Seen}
 use Rattle.cga_forest.specs.Roots.{Named, names, same_name}
 use Rattle.cga_forest.specs.Tree.{ForestView, IsForest, IsRootOf, node_at}
 use Rattle.cga_forest.specs.Walked.{forest_tree}
-use Rattle.cga_forest.proofs.Laws.{inside, there, keeps_laws}
 use Rattle.cga_city.specs.Nodes.{member_of, members_at, members_among, HasNodes}
 use Rattle.cga_city.specs.Order.{comes_before}
 use Rattle.cga_city.specs.Reports.{is_faulted, instance_count, fault_count}
@@ -27,7 +27,8 @@ use Rattle.cga_city.proofs.Nodes.{among_to, among_from, among_both, among_has, h
 
 -- ---- one root a lot
 
-all_named : (P : List ℕ → Type 0) (es : Named) (j : ℕ) (n : List ℕ) (d : ℕ) → AllByRecursion P (names es) → slice_get es j ≡ Some (n, d) → P n
+all_named : (P : List ℕ → Type 0) (es : Named) (j : ℕ) (n : List ℕ) (d : ℕ) → AllByRecursion P (names es)
+    → slice_get es j ≡ Some (n, d) → P n
 all_named P [] j n d h at = cc
 all_named P (e ∷ es) zero n d h at = let q : e ≡ (n, d) = cc in subst P (ap (λ (x : List ℕ × ℕ). x.0) q) h.0
 all_named P (e ∷ es) (suc j) n d h at = all_named P es j n d h.1 at
@@ -35,7 +36,8 @@ all_named P (e ∷ es) (suc j) n d h at = all_named P es j n d h.1 at
 alike : (a n : List ℕ) → a ≡ n → same_name a n ≡ false → ⊥
 alike a n e f = let t : same_name a n ≡ true = (bytes_eq-Decides a n).1 e in let q : true ≡ false = sym t ∙ f in cc
 
-distinct_one : (es : Named) → IsDistinct same_name (names es) → (i j : ℕ) (n : List ℕ) (c d : ℕ) → slice_get es i ≡ Some (n, c) → slice_get es j ≡ Some (n, d) → i ≡ j
+distinct_one : (es : Named) → IsDistinct same_name (names es) → (i j : ℕ) (n : List ℕ) (c d : ℕ)
+    → slice_get es i ≡ Some (n, c) → slice_get es j ≡ Some (n, d) → i ≡ j
 unfolding IsDistinct
 distinct_one [] h i j n c d a b = cc
 distinct_one (e ∷ es) h zero zero n c d a b = refl
@@ -69,10 +71,12 @@ module _ (v : ForestView) (f : IsForest v) where
   unfolding members_among
   no_roots = refl
 
-  lot_at : (r : ℕ) (d : Seen) (m : Member) → node_at v r ≡ Some d → Among m (nodes_from v f 257 r) → m.shape.lot ≡ d.node.shape.lot
+  lot_at : (r : ℕ) (d : Seen) (m : Member) → node_at v r ≡ Some d → Among m (nodes_from v f 257 r)
+      → m.shape.lot ≡ d.node.shape.lot
   lot_at r d m h i = let b = all_at (Below v f d.node.shape) (nodes_from v f 257 r) m (nodes_below v f 257 r d h) i in b.2
 
-  roots_once : (rs : List ℕ) → ((r : ℕ) → trees.Member rs r → trees.Member (forest_tree v).roots r) → trees.Apart rs → Once (nodes_at rs)
+  roots_once : (rs : List ℕ) → ((r : ℕ) → trees.Member rs r → trees.Member (forest_tree v).roots r) → trees.Apart rs
+      → Once (nodes_at rs)
   roots_once [] is apart = subst (λ (ms : List Member). Once ms) (sym no_roots) tt
   roots_once (r ∷ rs) is apart =
       let w = root_own v f r (is r (inl refl)) in
@@ -116,7 +120,8 @@ module _ (v : ForestView) (f : IsForest v) where
 
 -- ---- the tally
 
-length_there : (v : ForestView) (ns : List ℕ) → ((c : ℕ) → trees.Member ns c → (d : Seen) × (node_at v c ≡ Some d)) → length (members_among v ns) ≡ length ns
+length_there : (v : ForestView) (ns : List ℕ) → ((c : ℕ) → trees.Member ns c → (d : Seen) × (node_at v c ≡ Some d))
+    → length (members_among v ns) ≡ length ns
 unfolding members_among
 length_there v [] h = refl
 length_there v (n ∷ ns) h =
@@ -124,7 +129,8 @@ length_there v (n ∷ ns) h =
     let rest = length_there v ns (λ c i. h c (inr i)) in
     ap (λ (o : Option Seen). length (members_at o ++ members_among v ns)) w.1 ∙ ap suc rest
 
-pub few_nodes : (v : ForestView) → IsForest v → (list : List Member) → HasNodes v list → length (all_nodes (forest_tree v)) ≡ length list
+pub few_nodes : (v : ForestView) → IsForest v → (list : List Member) → HasNodes v list
+    → length (all_nodes (forest_tree v)) ≡ length list
 few_nodes v f list has = sym (length_there v (all_nodes (forest_tree v)) (λ c i. there v f c i)) ∙ same_length v f list has
 
 -- a tally with what members add to it
@@ -135,15 +141,19 @@ added t ms = record {
   faults = t.faults + count_by (λ m. is_faulted m.kind) ms;
 }
 
-same_tally : (a b c d e g : ℕ) → a ≡ d → b ≡ e → c ≡ g → ◌≡◌ {A = Tally} (record { shapes = a; instances = b; faults = c }) (record { shapes = d; instances = e; faults = g })
+same_tally : (a b c d e g : ℕ) → a ≡ d → b ≡ e → c ≡ g
+    → ◌≡◌ {A = Tally} (record { shapes = a; instances = b; faults = c })
+      (record { shapes = d; instances = e; faults = g })
 same_tally a b c d e g p q r = ap (λ x. record { shapes = x; instances = b; faults = c }) p ∙ ap (λ x. record { shapes = d; instances = x; faults = c }) q ∙ ap (λ x. record { shapes = d; instances = e; faults = x }) r
 
-count_more : (test : Member → Bool) (n : ℕ) (m : Member) (ms : List Member) → cond (test m) (n + 1) n + count_by test ms ≡ n + count_by test (m ∷ ms)
+count_more : (test : Member → Bool) (n : ℕ) (m : Member) (ms : List Member)
+    → cond (test m) (n + 1) n + count_by test ms ≡ n + count_by test (m ∷ ms)
 count_more test n m ms =
     let e = sum_by-cons (λ x. cond (test x) 1 0) m ms in
     by (test m) e
   where
-    by : (t : Bool) → count_by test (m ∷ ms) ≡ cond t 1 0 + count_by test ms → cond t (n + 1) n + count_by test ms ≡ n + count_by test (m ∷ ms)
+    by : (t : Bool) → count_by test (m ∷ ms) ≡ cond t 1 0 + count_by test ms
+        → cond t (n + 1) n + count_by test ms ≡ n + count_by test (m ∷ ms)
     by true e = omega (arith, e)
     by false e = omega (arith, e)
 
@@ -160,7 +170,8 @@ tallied_added v (n ∷ ns) t = tallied_added v ns (with_seen (node_at v n) t) �
 
 -- what is tallied is what the list has
 pub tally_of : (v : ForestView) → IsForest v → (list : List Member) → HasNodes v list
-    → tallied v (all_nodes (forest_tree v)) none ≡ record { shapes = length list; instances = instance_count list; faults = fault_count list }
+    → tallied v (all_nodes (forest_tree v)) none ≡ record
+      { shapes = length list; instances = instance_count list; faults = fault_count list }
 tally_of v f list has =
     tallied_added v (all_nodes (forest_tree v)) none
     ∙ same_tally _ _ _ _ _ _ (let e = same_length v f list has in omega arith) (let e = same_count v f list has (λ m. is_instance m.kind) in omega arith) (let e = same_count v f list has (λ m. is_faulted m.kind) in omega arith)

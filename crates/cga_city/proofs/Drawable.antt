@@ -40,7 +40,8 @@ abbrev Brings : Result (List Member) ShapeFault → Type 0
 Brings (Ok children) = AllSound children
 Brings (Err fault) = Unit {0}
 
-placed_brings : (s : Shape) (r : Result (List Emitted) ShapeFault) → ((es : List Emitted) → r ≡ Ok es → AllDraw es) → Brings (placed_by s r)
+placed_brings : (s : Shape) (r : Result (List Emitted) ShapeFault) → ((es : List Emitted) → r ≡ Ok es → AllDraw es)
+    → Brings (placed_by s r)
 placed_brings s (Ok es) h = all_placed s.lot s.path s.symbol 0 es (h es refl)
 placed_brings s (Err fault) h = tt
 
@@ -49,18 +50,21 @@ unfolding children_of expand_of
 children_sound g s answers = placed_brings s (expand_of g s answers) (λ es h. expansion_draws _ _ s answers es h)
 
 module _ (sources : Sources) where
-  become_sound : (s : Shape) (k : Kind ShapeFault Primitive) → ((n : Shape) → CanBeDrawn n k) → (list : List Member) → AllSound list → AllSound (map (become (derivation_of sources) s k) list)
+  become_sound : (s : Shape) (k : Kind ShapeFault Primitive) → ((n : Shape) → CanBeDrawn n k) → (list : List Member)
+      → AllSound list → AllSound (map (become (derivation_of sources) s k) list)
   become_sound s k can [] h = tt
   become_sound s k can (m ∷ list) h = elim (decide (same_place (derivation_of sources) m.shape s)) [
     | inl t ↦ rw t (can m.shape, become_sound s k can list h.1)
     | inr f ↦ rw f (h.0, become_sound s k can list h.1)
   ]
 
-  told_sound : (list : List Member) (s : Shape) (r : Result (List Member) ShapeFault) → AllSound list → Brings r → AllSound (told (derivation_of sources) list s r)
+  told_sound : (list : List Member) (s : Shape) (r : Result (List Member) ShapeFault) → AllSound list → Brings r
+      → AllSound (told (derivation_of sources) list s r)
   told_sound list s (Ok children) h k = both IsSound (map (become (derivation_of sources) s Done) list) children (become_sound s Done (λ n. tt) list h) k
   told_sound list s (Err fault) h k = become_sound s (Faulted fault) (λ n. tt) list h
 
-  step_sound : (list : List Member) (o : Option Member) → AllSound list → AllSound (step_by (derivation_of sources) list o)
+  step_sound : (list : List Member) (o : Option Member) → AllSound list
+      → AllSound (step_by (derivation_of sources) list o)
   step_sound list None h = h
   step_sound list (Some m) h = told_sound list m.shape (outcome (derivation_of sources) list m.shape) h (children_sound sources.grammar m.shape _)
 
@@ -69,7 +73,8 @@ module _ (sources : Sources) where
   reached_sound zero = waiting_sound (roots_of sources.lots)
   reached_sound (suc n) = step_sound (reached (derivation_of sources) n) (next_of (derivation_of sources) (reached (derivation_of sources) n)) (reached_sound n)
 
-pub derived_sound : (budget : ℕ) (sources : Sources) (list : List Member) → derived budget sources ≡ Some list → AllSound list
+pub derived_sound : (budget : ℕ) (sources : Sources) (list : List Member) → derived budget sources ≡ Some list
+    → AllSound list
 unfolding derived derive
 derived_sound budget sources list h = elim (decide (nat_lt budget (length (reached (derivation_of sources) budget)))) [
   | inl t ↦ (let k = rw t at h in absurd (cc))

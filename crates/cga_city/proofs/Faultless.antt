@@ -12,8 +12,12 @@ use Rattle.cga_check.specs.declared.checks.TheConstants.{MOST_RULES, MOST_ATTRIB
 use Rattle.cga_check.specs.Uses.{rule_uses}
 use Rattle.cga_check.specs.Groups.{is_of}
 use Rattle.cga_check.specs.Probabilities.{are_probabilities}
-use Rattle.cga_check.specs.Faults.{Faults, first, fault_if, each_after, attribute_faults, id_is_taken, splits_priority, differs_in_arity, symbol_faults, param_faults, head_faults, use_faults, rule_faults, faults, check_fault, IsValid}
-use Rattle.cga_check.proofs.Clean.{none_left, none_right, if_none}
+use Rattle.cga_check.specs.Faults.{Faults, first, fault_if, each_after, attribute_faults, id_is_taken}
+use Rattle.cga_check.specs.Faults.{splits_priority, differs_in_arity, symbol_faults, param_faults, head_faults}
+use Rattle.cga_check.specs.Faults.{use_faults, rule_faults, faults, check_fault, IsValid}
+use Rattle.cga_check.proofs.Door.{if_none, none_left, none_right}
+use Rattle.cga_fraction.proofs.Door.{nat_eq_from_ne as untaken, or_false_first as or_left, or_false_second as or_right}
+use Rattle.std.proofs.lemmas.Bool.{or_from as or_none}
 
 -- ---- lists
 
@@ -34,7 +38,8 @@ module _ {X : Type 0} (P : X → Type 0) where
   weaker Q f [] h = tt
   weaker Q f (x ∷ xs) h = (f x h.0, weaker Q f xs h.1)
 
-  pub zipped : (Q R : X → Type 0) → ((x : X) → P x → Q x → R x) → (xs : List X) → AllByRecursion P xs → AllByRecursion Q xs → AllByRecursion R xs
+  pub zipped : (Q R : X → Type 0) → ((x : X) → P x → Q x → R x) → (xs : List X) → AllByRecursion P xs
+      → AllByRecursion Q xs → AllByRecursion R xs
   zipped Q R f [] h k = tt
   zipped Q R f (x ∷ xs) h k = (f x h.0 k.0, zipped Q R f xs h.1 k.1)
 
@@ -45,18 +50,6 @@ nils (x ∷ xs) ys e h = cc
 pub if_false : (bad : Bool) (fault : CheckFault) → bad ≡ false → fault_if bad fault ≡ []
 if_false true fault e = cc
 if_false false fault e = refl
-
-or_left : (a b : Bool) → (a || b) ≡ false → a ≡ false
-or_left true b e = cc
-or_left false b e = refl
-
-or_right : (a b : Bool) → (a || b) ≡ false → b ≡ false
-or_right true b e = cc
-or_right false b e = e
-
-or_none : (a b : Bool) → a ≡ false → b ≡ false → (a || b) ≡ false
-or_none true b e h = cc
-or_none false b e h = h
 
 -- ---- two rules
 
@@ -74,14 +67,12 @@ same : (a b : ℕ) (t : Bool) → t ≡ true → (t && not (nat_eq a b)) ≡ fal
 same a b true e h = grind (arith, nat_tests)
 same a b false e h = cc
 
-untaken : (a b : ℕ) → a ≢ b → nat_eq a b ≡ false
-untaken a b h = grind (arith, nat_tests)
-
 agreed : (a b : ℕ) (t : Bool) → (t ≡ true → a ≡ b) → (t && not (nat_eq a b)) ≡ false
 agreed a b true h = let e = h refl in grind (arith, nat_tests)
 agreed a b false h = refl
 
-apart_all : (e : Entry) (before : List Entry) → id_is_taken before e.rule.id ≡ false → splits_priority before e ≡ false → differs_in_arity before e ≡ false → AllByRecursion (Apart e) before
+apart_all : (e : Entry) (before : List Entry) → id_is_taken before e.rule.id ≡ false → splits_priority before e ≡ false
+    → differs_in_arity before e ≡ false → AllByRecursion (Apart e) before
 apart_all e [] a b c = tt
 apart_all e (x ∷ xs) a b c =
     let here : x.rule.symbol ≡ e.rule.symbol → is_of e.rule.symbol x ≡ true = (bytes_eq-Decides x.rule.symbol e.rule.symbol).1 in (
@@ -89,7 +80,8 @@ apart_all e (x ∷ xs) a b c =
       apart_all e xs (or_right _ _ a) (or_right _ _ b) (or_right _ _ c),
     )
 
-all_apart : (e : Entry) (before : List Entry) → AllByRecursion (Apart e) before → (id_is_taken before e.rule.id ≡ false) × (splits_priority before e ≡ false) × (differs_in_arity before e ≡ false)
+all_apart : (e : Entry) (before : List Entry) → AllByRecursion (Apart e) before
+    → (id_is_taken before e.rule.id ≡ false) × (splits_priority before e ≡ false) × (differs_in_arity before e ≡ false)
 all_apart e [] h = (refl, refl, refl)
 all_apart e (x ∷ xs) h =
     let (taken, splits, differs) = all_apart e xs h.1 in
@@ -111,7 +103,8 @@ pub record IsFine (g : Grammar) (e : Entry) : Type 0 where
   pub own : own_faults g e ≡ []
   pub used : used_faults g e ≡ []
 
-fine_rule : (g : Grammar) (before : List Entry) (e : Entry) → rule_faults g before e ≡ [] → AllByRecursion (Apart e) before × IsFine g e
+fine_rule : (g : Grammar) (before : List Entry) (e : Entry) → rule_faults g before e ≡ []
+    → AllByRecursion (Apart e) before × IsFine g e
 unfolding rule_faults head_faults
 fine_rule g before e h =
     let head = none_left (head_faults g before e) (used_faults g e) h in
@@ -123,7 +116,8 @@ fine_rule g before e h =
       record { own = none_right (symbol_faults before e) (own_faults g e) head; used = none_right (head_faults g before e) (used_faults g e) h },
     )
 
-rule_fine : (g : Grammar) (before : List Entry) (e : Entry) → AllByRecursion (Apart e) before → IsFine g e → rule_faults g before e ≡ []
+rule_fine : (g : Grammar) (before : List Entry) (e : Entry) → AllByRecursion (Apart e) before → IsFine g e
+    → rule_faults g before e ≡ []
 unfolding rule_faults head_faults
 rule_fine g before e apart fine =
     let (taken, splits, differs) = all_apart e before apart in
@@ -142,7 +136,8 @@ DifferFrom before xs = AllByRecursion (λ x. AllByRecursion (Apart x) before) xs
 abbrev pub AreFine : Grammar → List Entry → Type 0
 AreFine g rules = Differ rules × AllByRecursion (IsFine g) rules
 
-fine_rules : (g : Grammar) (before xs : List Entry) → each_after (rule_faults g) before xs ≡ [] → DifferFrom before xs × AreFine g xs
+fine_rules : (g : Grammar) (before xs : List Entry) → each_after (rule_faults g) before xs ≡ []
+    → DifferFrom before xs × AreFine g xs
 unfolding each_after
 fine_rules g before [] h = (tt, (tt, tt))
 fine_rules g before (x ∷ xs) h =
@@ -155,11 +150,13 @@ fine_rules g before (x ∷ xs) h =
       ),
     )
 
-pub pushed : (P : Entry → Type 0) (xs : List Entry) (e : Entry) → AllByRecursion P xs → P e → AllByRecursion P (xs ++ e ∷ [])
+pub pushed : (P : Entry → Type 0) (xs : List Entry) (e : Entry) → AllByRecursion P xs → P e
+    → AllByRecursion P (xs ++ e ∷ [])
 pushed P [] e h k = (k, tt)
 pushed P (x ∷ xs) e h k = (h.0, pushed P xs e h.1 k)
 
-rules_fine : (g : Grammar) (before xs : List Entry) → DifferFrom before xs → AreFine g xs → each_after (rule_faults g) before xs ≡ []
+rules_fine : (g : Grammar) (before xs : List Entry) → DifferFrom before xs → AreFine g xs
+    → each_after (rule_faults g) before xs ≡ []
 unfolding each_after
 rules_fine g before [] from h = refl
 rules_fine g before (x ∷ xs) from h =

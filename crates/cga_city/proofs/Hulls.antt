@@ -16,12 +16,11 @@ use Rattle.cga_expand.specs.Children.{Member}
 use Rattle.cga_expand.specs.Derivation.{made, roots_of}
 use Rattle.cga_index.specs.Tree as trees
 use Rattle.cga_index.specs.Tree.{below}
-use Rattle.cga_index.proofs.Levels.{in_at, in_flat, in_some}
+use Rattle.cga_forest.proofs.Door.{at_member, under_cases, under_child, under_none, under_self}
+use Rattle.cga_index.proofs.Door.{in_at, in_flat, in_some}
 use Rattle.cga_forest.specs.Node.{bounds}
 use Rattle.cga_forest.specs.Tree.{ForestView, IsForest, IsLeastHull, IsRootOf, children_at, node_at, under}
 use Rattle.cga_forest.specs.Walked.{forest_tree}
-use Rattle.cga_forest.proofs.Tops.{at_member}
-use Rattle.cga_forest.proofs.Walk.{under_cases, under_child, under_none, under_self}
 use Rattle.cga_update.specs.declared.kept.Kept.{Kept}
 use Rattle.cga_update.specs.Stands.{Stands}
 use Rattle.cga_city.specs.City.{CityState}
@@ -76,23 +75,27 @@ behind : (r : Result Shape ScopeFault) (ns : List Shape) (n : Shape) → Among n
 behind (Ok s) ns n h = inr h
 behind (Err f) ns n h = h
 
-root_among : (lots : List Lot) (i : ℕ) (lot : Lot) (n : Shape) → slice_get lots i ≡ Some lot → root_of lot ≡ Ok n → Among n (roots_of lots)
+root_among : (lots : List Lot) (i : ℕ) (lot : Lot) (n : Shape) → slice_get lots i ≡ Some lot → root_of lot ≡ Ok n
+    → Among n (roots_of lots)
 root_among [] i lot n at is = cc
 root_among (x ∷ lots) zero lot n at is =
     let same : x ≡ lot = cc in
     subst (λ q. Among n (made q ++ roots_of lots)) (sym (ap root_of same ∙ is)) (inl refl)
 root_among (x ∷ lots) (suc i) lot n at is = behind (root_of x) (roots_of lots) n (root_among lots i lot n at is)
 
-root_by : (lot : Lot) (r : Result Scope ScopeFault) → root_scope lot ≡ r → IsOk r → (n : Shape) × (root_of lot ≡ Ok n) × (n.lot ≡ lot.name)
+root_by : (lot : Lot) (r : Result Scope ScopeFault) → root_scope lot ≡ r → IsOk r
+    → (n : Shape) × (root_of lot ≡ Ok n) × (n.lot ≡ lot.name)
 root_by lot (Ok scope) is ok = (root_in lot scope, rw is refl, refl)
 root_by lot (Err fault) is ok = (let no : false ≡ true = ok in absurd (cc))
 
-good_at : (lots : List Lot) → AllByRecursion (λ (lot : Lot). is_bad lot ≡ false) lots → (i : ℕ) (lot : Lot) → slice_get lots i ≡ Some lot → is_bad lot ≡ false
+good_at : (lots : List Lot) → AllByRecursion (λ (lot : Lot). is_bad lot ≡ false) lots → (i : ℕ) (lot : Lot)
+    → slice_get lots i ≡ Some lot → is_bad lot ≡ false
 good_at [] good i lot at = cc
 good_at (x ∷ lots) good zero lot at = let same : x ≡ lot = cc in subst (λ (l : Lot). is_bad l ≡ false) same good.0
 good_at (x ∷ lots) good (suc i) lot at = good_at lots good.1 i lot at
 
-pub has_root : (s : Sources) → AreSound s → (kept : Kept) → Stands s kept → (i : ℕ) (lot : Lot) → slice_get s.lots i ≡ Some lot → (c : ℕ) × IsRootOf (node_at kept.forest) lot.name c
+pub has_root : (s : Sources) → AreSound s → (kept : Kept) → Stands s kept → (i : ℕ) (lot : Lot)
+    → slice_get s.lots i ≡ Some lot → (c : ℕ) × IsRootOf (node_at kept.forest) lot.name c
 has_root s sound kept stands i lot at =
     let good = good_at s.lots (recursion_from_All (λ (l : Lot). is_bad l ≡ false) s.lots sound.good) i lot at in
     let root = root_by lot (root_scope lot) refl (good_root lot good) in
@@ -100,7 +103,8 @@ has_root s sound kept stands i lot at =
     (top.0, (top.1, top.2, top.3, ap (λ (n : Shape). n.lot) top.4 ∙ root.2))
 
 -- the lot at a place of what is kept
-pub lot_there : (old now : CityState) → old ≡ now → (seen : List Lot) (place : ℕ) (lot : Lot) → seen ≡ old.sources.lots → place < length now.sources.lots → slice_get old.sources.lots place ≡ Some (slice_index_or seen place lot)
+pub lot_there : (old now : CityState) → old ≡ now → (seen : List Lot) (place : ℕ) (lot : Lot) → seen ≡ old.sources.lots
+    → place < length now.sources.lots → slice_get old.sources.lots place ≡ Some (slice_index_or seen place lot)
 lot_there old now same seen place lot listed within =
     let inside : place < length old.sources.lots = subst (λ (c : CityState). place < length c.sources.lots) (sym same) within in
     slice_get-get_or old.sources.lots place lot inside ∙ ap (λ ls. Some (slice_index_or ls place lot)) (sym listed)

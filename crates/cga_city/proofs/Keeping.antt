@@ -23,7 +23,7 @@ use Rattle.cga_expand.specs.declared.state.State.{State}
 use Rattle.cga_expand.specs.Collect.{collected}
 use Rattle.cga_expand.specs.Rules.{expansion, chosen, successor, picked, drawn_number, known_to, start}
 use Rattle.cga_expand.specs.Scopes.{moved_by, resized_by, turned_by, subdivided, repeated, taken_apart, value_in}
-use Rattle.cga_expand.proofs.Layers.{body_layer}
+use Rattle.cga_expand.proofs.Door.{body_layer}
 use Rattle.cga_expand.specs.Faults.{faulted, of_solid}
 use Rattle.cga_expand.specs.Walk.{Walk, with_scope, next_index, emit, count_parts, drawn, rescoped, in_turn, over_body, over_bodies, restored, over, item_step, body_step, item_walk, body_walk}
 use Rattle.cga_city.proofs.Sorting.{decide}
@@ -52,7 +52,8 @@ abbrev children_in : State → Result State ShapeFault → List Emitted
 children_in s (Ok t) = t.children
 children_in s (Err e) = s.children
 
-same_children : (s m t : State) → AllDraw m.children → ◌≡◌ {A = Result State ShapeFault} (Ok m) (Ok t) → AllDraw t.children
+same_children : (s m t : State) → AllDraw m.children → ◌≡◌ {A = Result State ShapeFault} (Ok m) (Ok t)
+    → AllDraw t.children
 same_children s m t all e = let c : m.children ≡ t.children = ap (λ (r : Result State ShapeFault). children_in s r) e in subst AllDraw c all
 
 emit_keeps : (made : ℕ → Emitted) → ((seed : ℕ) → CanDraw (made seed)) → Keeps (emit made)
@@ -88,7 +89,8 @@ count_keeps n s t h all = elim (decide (nat_lt MOST_PARTS (s.parts + n))) [
   | inr f ↦ (let k = rw f at h in same_children s (record s { parts = s.parts + n }) t all k)
 ]
 
-over_keeps : (made : Result (List Scope) ShapeFault) (each : List Scope → Walk) → ((ps : List Scope) → Keeps (each ps)) → Keeps (over made each)
+over_keeps : (made : Result (List Scope) ShapeFault) (each : List Scope → Walk) → ((ps : List Scope) → Keeps (each ps))
+    → Keeps (over made each)
 over_keeps made each a k s t h all =
     let (ps, at, e) = and_then_ok made _ t h in
     let (m, counted, f) = and_then_ok (count_parts (length ps) s) _ t e in
@@ -120,7 +122,8 @@ module _ {I B : Type 0} (item : I → Item) (body : B → Body) (items : (e : I)
   each_body [] = tt
   each_body (y ∷ ys) = (bodies y, each_body ys)
 
-  layer_keeps : (y : Item-F I B) → Keeps (item_step (map-Item Item Body Walk Walk item_walk body_walk (map-Item I B Item Body item body y)))
+  layer_keeps : (y : Item-F I B)
+      → Keeps (item_step (map-Item Item Body Walk Walk item_walk body_walk (map-Item I B Item Body item body y)))
   layer_keeps (layer.Move x y z) k s t h all = rescope_keeps (λ k s. moved_by x y z k s.scope) k s t h all
   layer_keeps (layer.Resize x y z) k s t h all = rescope_keeps (λ k s. resized_by x y z k s.scope) k s t h all
   layer_keeps (layer.Rotate axis by) k s t h all = rescope_keeps (λ k s. turned_by axis by s.scope) k s t h all
@@ -151,14 +154,17 @@ all_items (i ∷ items) = (items_keep i, all_items items)
 
 -- ---- an expansion
 
-successor_draws : (o : Option (List Item)) (k : Known) (shape : Shape) (es : List Emitted) → successor o k shape ≡ Ok es → AllDraw es
+successor_draws : (o : Option (List Item)) (k : Known) (shape : Shape) (es : List Emitted) → successor o k shape ≡ Ok es
+    → AllDraw es
 successor_draws None k shape es h = absurd (cc)
 successor_draws (Some items) k shape es h =
     let (m, at, e) = and_then_ok (in_turn (map item_walk items) k (start shape)) _ es h in
     let c : m.children ≡ es = cc in
     subst AllDraw c (in_turn_keeps (map item_walk items) (all_items items) k (start shape) m at tt)
 
-pub expansion_draws : (attributes : List Attribute) (rules : List Rule) (shape : Shape) (answers : Answers) (es : List Emitted) → expansion attributes rules shape answers ≡ Ok es → AllDraw es
+pub expansion_draws : (attributes : List Attribute) (rules : List Rule) (shape : Shape) (answers : Answers)
+      (es : List Emitted)
+    → expansion attributes rules shape answers ≡ Ok es → AllDraw es
 unfolding expansion
 expansion_draws attributes rules shape answers es h = elim (decide (nat_eq (length shape.path) MOST_DEPTH)) [
   | inl y ↦ (let k = rw y at h in absurd (cc))

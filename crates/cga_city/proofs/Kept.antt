@@ -7,17 +7,14 @@ use Rattle.cga_shape.specs.declared.edit.Edit.{Edit}
 use Rattle.cga_shape.specs.declared.edit_refused.EditRefused.TheVariants.{OverBudget}
 use Rattle.cga_shape.specs.declared.sources.Sources.{Sources}
 use Rattle.cga_derivation.specs.Derivation.{derive, AllApart, IsDerived, NothingWaits}
-use Rattle.cga_derivation.proofs.One.{one, within}
-use Rattle.cga_derivation.proofs.Derived.{derived_consistent}
+use Rattle.cga_derivation.proofs.Door.{derived_consistent, one, within}
+use Rattle.cga_expand.proofs.Door.{sources_are_derivations}
+use Rattle.cga_update.proofs.Door.{fresh_stands, no_nodes, standing_is_derived}
 use Rattle.cga_expand.specs.Children.{Member}
 use Rattle.cga_expand.specs.Derivation.{derivation_of}
-use Rattle.cga_expand.proofs.Instance.{sources_are_derivations}
 use Rattle.cga_update.specs.declared.kept.Kept.{Kept}
 use Rattle.cga_update.specs.Stands.{Stands}
 use Rattle.cga_update.specs.Updates.{IsExact}
-use Rattle.cga_update.proofs.Standing.{standing_is_derived}
-use Rattle.cga_update.proofs.Fresh.{fresh_stands, no_nodes}
-use Rattle.cga_depend.specs.Mentions.{mentioning}
 use Rattle.cga_word.specs.declared.mode.Mode.{Mode}
 use Rattle.cga_city.specs.Apply.{changed}
 use Rattle.cga_city.specs.City.{CityState, IsDone, IsRefused, empty_in, empty_sources}
@@ -29,15 +26,18 @@ use Rattle.cga_city.proofs.Deriving.{apply_ok, apply_over, empty_derived, few_me
 use Rattle.cga_city.proofs.Drawable.{AllSound, derived_sound}
 use Rattle.cga_city.proofs.Names.{names_differ}
 
-the_list : (budget : ℕ) (s : Sources) (list : List Member) → derived budget s ≡ Some list → derive (derivation_of s) budget ≡ Some list
+the_list : (budget : ℕ) (s : Sources) (list : List Member) → derived budget s ≡ Some list
+    → derive (derivation_of s) budget ≡ Some list
 unfolding derived
 the_list budget s list h = h
 
-pub derived_is : (s : Sources) → AreSound s → (budget : ℕ) (list : List Member) → derived budget s ≡ Some list → IsDerived (derivation_of s) list
+pub derived_is : (s : Sources) → AreSound s → (budget : ℕ) (list : List Member) → derived budget s ≡ Some list
+    → IsDerived (derivation_of s) list
 derived_is s sound budget list h = within (derivation_of s) (sources_are_derivations s (names_differ s.lots sound.names)) budget list (the_list budget s list h)
 
 -- the forest has the members of the derivation
-pub has_nodes : (s : Sources) (budget : ℕ) (list : List Member) (kept : Kept) → AreSound s → derived budget s ≡ Some list → Stands s kept → HasNodes kept.forest list
+pub has_nodes : (s : Sources) (budget : ℕ) (list : List Member) (kept : Kept) → AreSound s
+    → derived budget s ≡ Some list → Stands s kept → HasNodes kept.forest list
 has_nodes s budget list kept sound h stands =
     let names = names_differ s.lots sound.names in
     let is = derived_is s sound budget list h in
@@ -51,19 +51,17 @@ has_nodes s budget list kept sound h stands =
     }
 
 -- and in the words of a city's members
-pub has_members : (s : Sources) (budget : ℕ) (warm : Bool) (kept : Kept) → IsCity s budget warm kept → warm ≡ true → HasNodes kept.forest (members budget s)
+pub has_members : (s : Sources) (budget : ℕ) (warm : Bool) (kept : Kept) → IsCity s budget warm kept → warm ≡ true
+    → HasNodes kept.forest (members budget s)
 has_members s budget warm kept city on =
     subst (HasNodes kept.forest) (sym (members_are budget s city.within.0 city.within.1)) (has_nodes s budget city.within.0 kept city.sound city.within.1 (city.stands on))
 
 -- ---- the first city
 
-no_mention : (mode : Mode) (a : List ℕ) → [] ≡ mentioning (empty_in mode).grammar a
-unfolding mentioning
-no_mention mode a = refl
-
 -- a new forest and new dependents stand for sources without attributes, rules and lots
-pub nothing_stands : (mode : Mode) → Stands (empty_in mode) (record { forest = no_nodes mode; dependents = record { nodes = []; mentions = [] } })
-nothing_stands mode = fresh_stands (empty_in mode) (no_nodes mode) refl (record { nodes = []; mentions = [] }) refl (no_mention mode)
+pub nothing_stands : (mode : Mode)
+    → Stands (empty_in mode) (record { forest = no_nodes mode; dependents = record { nodes = [] } })
+nothing_stands mode = fresh_stands (empty_in mode) (no_nodes mode) refl (record { nodes = [] }) refl
 
 pub empty_sound : AreSound empty_sources
 unfolding IsDistinct check_fault each_after
@@ -75,7 +73,9 @@ empty_city_is budget kept stands = record { sound = empty_sound; within = ([], e
 -- ---- edits
 
 -- what an update counted is what the edit touched
-pub done_gives : (s new : Sources) (e : Edit) (budget n x y k : ℕ) (warm : Bool) (before : List Member) (old changes : Changes) → AreSound s → derived budget s ≡ Some before → changed s e ≡ Ok new
+pub done_gives : (s new : Sources) (e : Edit) (budget n x y k : ℕ) (warm : Bool) (before : List Member)
+      (old changes : Changes)
+    → AreSound s → derived budget s ≡ Some before → changed s e ≡ Ok new
     → IsExact s new budget n changes → y ≡ x + n → warm ≡ true
     → IsDone (record { sources = s; budget = budget; warm = warm; expanded = k; changes = old }) e (record { sources = new; budget = budget; warm = warm; expanded = n; changes = changes }) x y
 done_gives s new e budget n x y k warm before old changes sound fits made exact spent on =
@@ -93,11 +93,14 @@ done_gives s new e budget n x y k warm before old changes sound fits made exact 
     }
 
 -- and the new sources are within the budget
-pub now_within : (s new : Sources) (budget n : ℕ) (changes : Changes) → IsExact s new budget n changes → (after : List Member) × (derived budget new ≡ Some after)
+pub now_within : (s new : Sources) (budget n : ℕ) (changes : Changes) → IsExact s new budget n changes
+    → (after : List Member) × (derived budget new ≡ Some after)
 now_within s new budget n changes exact = (exact.1, is_derived budget new (Some exact.1) exact.3)
 
-pub over_gives : (s new : Sources) (e : Edit) (budget x y k : ℕ) (warm : Bool) (old : Changes) → changed s e ≡ Ok new → derive (derivation_of new) budget ≡ None → x ≤ y → y ≤ x + (budget + 1)
-    → IsRefused (record { sources = s; budget = budget; warm = warm; expanded = k; changes = old }) e OverBudget (record { sources = s; budget = budget; warm = warm; expanded = k; changes = old }) x y
+pub over_gives : (s new : Sources) (e : Edit) (budget x y k : ℕ) (warm : Bool) (old : Changes) → changed s e ≡ Ok new
+    → derive (derivation_of new) budget ≡ None → x ≤ y → y ≤ x + (budget + 1)
+    → IsRefused (record { sources = s; budget = budget; warm = warm; expanded = k; changes = old }) e OverBudget
+      (record { sources = s; budget = budget; warm = warm; expanded = k; changes = old }) x y
 over_gives s new e budget x y k warm old made over later most = record {
   cause = apply_over s new e budget made (is_derived budget new None over);
   same = refl;
@@ -111,8 +114,10 @@ over_gives s new e budget x y k warm old made over later most = record {
 pub warm_inside : (old now : CityState) → old ≡ now → now.warm ≡ true → old.warm ≡ true
 warm_inside old now same on = ap (λ (v : CityState). v.warm) same ∙ on
 
-pub few_there : (s : Sources) (budget : ℕ) (warm : Bool) (kept : Kept) → IsCity s budget warm kept → length (members budget s) ≤ budget
+pub few_there : (s : Sources) (budget : ℕ) (warm : Bool) (kept : Kept) → IsCity s budget warm kept
+    → length (members budget s) ≤ budget
 few_there s budget warm kept city = subst (λ (l : List Member). length l ≤ budget) (sym (members_are budget s city.within.0 city.within.1)) (few_members budget s city.within.0 city.within.1)
 
-pub members_sound : (s : Sources) (budget : ℕ) (warm : Bool) (kept : Kept) → IsCity s budget warm kept → AllSound (members budget s)
+pub members_sound : (s : Sources) (budget : ℕ) (warm : Bool) (kept : Kept) → IsCity s budget warm kept
+    → AllSound (members budget s)
 members_sound s budget warm kept city = subst AllSound (sym (members_are budget s city.within.0 city.within.1)) (derived_sound budget s city.within.0 city.within.1)

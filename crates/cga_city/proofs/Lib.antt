@@ -1,24 +1,25 @@
-pub mod Sorting
-pub mod Reporting
-pub mod Names
-pub mod Plain
-pub mod Faultless
-pub mod Ranked
-pub mod Valued
-pub mod Rising
-pub mod Sound
-pub mod Valid
-pub mod Again
-pub mod Deriving
-pub mod Standing
-pub mod Keeping
-pub mod Drawable
-pub mod Nodes
-pub mod Tallies
-pub mod Counting
-pub mod Kept
-pub mod Tracing
-pub mod Warming
-pub mod Accounts
-pub mod Reordered
-pub mod Hulls
+mod Sorting
+mod Reporting
+mod Names
+mod Plain
+mod Faultless
+mod Ranked
+mod Valued
+mod Rising
+mod Sound
+mod Valid
+mod Again
+mod Deriving
+mod Standing
+mod Keeping
+mod Drawable
+mod Nodes
+mod Tallies
+mod Counting
+mod Kept
+mod Tracing
+mod Warming
+mod Accounts
+mod Reordered
+mod Hulls
+pub mod Door

@@ -27,7 +27,8 @@ clash name (m ∷ ms) all zero b at e =
     let f : bytes_eq name m.name ≡ false = all.0 in cc
 clash name (m ∷ ms) all (suc j) b at e = clash name ms all.1 j b at e
 
-pub names_differ : (lots : List Lot) → AreApart lots → (i j : ℕ) (a b : Lot) → slice_get lots i ≡ Some a → slice_get lots j ≡ Some b → a.name ≡ b.name → i ≡ j
+pub names_differ : (lots : List Lot) → AreApart lots → (i j : ℕ) (a b : Lot) → slice_get lots i ≡ Some a
+    → slice_get lots j ≡ Some b → a.name ≡ b.name → i ≡ j
 unfolding IsDistinct
 names_differ [] d i j a b ha hb e = cc
 names_differ (l ∷ ls) d zero zero a b ha hb e = refl
@@ -37,18 +38,21 @@ names_differ (l ∷ ls) d (suc i) (suc j) a b ha hb e = ap suc (names_differ ls 
 
 -- ---- one more
 
-all_more : (P : List ℕ → Type 0) (lots : List Lot) (lot : Lot) → AllByRecursion P (names_of lots) → P lot.name → AllByRecursion P (names_of (lots ++ lot ∷ []))
+all_more : (P : List ℕ → Type 0) (lots : List Lot) (lot : Lot) → AllByRecursion P (names_of lots) → P lot.name
+    → AllByRecursion P (names_of (lots ++ lot ∷ []))
 all_more P [] lot h k = (k, tt)
 all_more P (l ∷ ls) lot h k = (h.0, all_more P ls lot h.1 k)
 
-apart_more : (lots : List Lot) (lot : Lot) → AreApart lots → AllByRecursion (λ (l : Lot). not (same_name l.name lot.name) ≡ true) lots → AreApart (lots ++ lot ∷ [])
+apart_more : (lots : List Lot) (lot : Lot) → AreApart lots
+    → AllByRecursion (λ (l : Lot). not (same_name l.name lot.name) ≡ true) lots → AreApart (lots ++ lot ∷ [])
 unfolding IsDistinct
 apart_more [] lot d h = (tt, tt)
 apart_more (l ∷ ls) lot d h = (all_more _ ls lot d.0 (elim (decide (bytes_eq l.name lot.name)) [ inl t ↦ (let k = rw t at h.0 in cc) | inr f ↦ f ]), apart_more ls lot d.1 h.1)
 
 -- ---- one less
 
-all_less : (P : List ℕ → Type 0) (lots : List Lot) (i : ℕ) → AllByRecursion P (names_of lots) → AllByRecursion P (names_of (remove lots i))
+all_less : (P : List ℕ → Type 0) (lots : List Lot) (i : ℕ) → AllByRecursion P (names_of lots)
+    → AllByRecursion P (names_of (remove lots i))
 all_less P [] zero h = tt
 all_less P [] (suc i) h = tt
 all_less P (l ∷ ls) zero h = h.1
@@ -63,14 +67,16 @@ apart_less (l ∷ ls) (suc i) d = (all_less _ ls i d.0, apart_less ls i d.1)
 
 -- ---- one in the place of its name
 
-pub apart_set : (lots : List Lot) (lot : Lot) (i : ℕ) → lot_place lot.name lots ≡ Some i → AreApart lots → AreApart (slice_set lots i lot)
+pub apart_set : (lots : List Lot) (lot : Lot) (i : ℕ) → lot_place lot.name lots ≡ Some i → AreApart lots
+    → AreApart (slice_set lots i lot)
 apart_set lots lot i at d =
     let there = position-Some (λ (l : Lot). same_name l.name lot.name) lots i lot at in
     let named : lot.name ≡ (get_or lots i lot).name = sym ((bytes_eq-Decides (get_or lots i lot).name lot.name).0 there.1) in
     rw (map-set_same (λ (l : Lot). l.name) lots i lot lot named) d
 
 -- no lot has the name
-pub apart_new : (lots : List Lot) (lot : Lot) → lot_place lot.name lots ≡ None → AreApart lots → AreApart (lots ++ lot ∷ [])
+pub apart_new : (lots : List Lot) (lot : Lot) → lot_place lot.name lots ≡ None → AreApart lots
+    → AreApart (lots ++ lot ∷ [])
 apart_new lots lot none d =
     let test : Lot → Bool = λ l. not (same_name l.name lot.name) in
     let most = prefix_len-le-length test lots in

@@ -1,5 +1,6 @@
 -- The nodes of a lot in the order of their paths, and a list of members that has them.
-use Rattle.std.proofs.Common.{◌≡◌, ◌↔◌, ℕ, zero, suc, ◌+◌, ◌-◌, ◌<◌, ◌≤◌, List, [], ◌∷◌, ◌++◌, Bool, true, false, ◌⊎◌, inl, inr, refl, sym, ap, ◌∙◌, subst, arith, append_assoc, Option, Some, None, slice_get}
+use Rattle.std.proofs.Common.{◌≡◌, ◌↔◌, ℕ, zero, suc, ◌+◌, ◌-◌, ◌<◌, ◌≤◌, List, [], ◌∷◌, ◌++◌, Bool, true, false, ◌⊎◌}
+use Rattle.std.proofs.Common.{inl, inr, refl, sym, ap, ◌∙◌, subst, arith, append_assoc, Option, Some, None, slice_get}
 use Rattle.std.specs.List.{AllByRecursion, filter, flat_map}
 use Rattle.std.proofs.lemmas.List.{append-nil}
 use Rattle.std.proofs.lemmas.Grind.{flat_map-append}
@@ -14,18 +15,17 @@ use Rattle.cga_check.specs.Uses.{same_name}
 use Rattle.cga_word.specs.declared.primitive.Primitive.{Primitive}
 use Rattle.cga_order.specs.World.{Among, Has}
 use Rattle.cga_order.specs.declared.placed.Kind.{Kind}
-use Rattle.cga_order.proofs.Maxima.{split}
-use Rattle.cga_order.proofs.Prefixes.{nat_cmp-less}
+use Rattle.cga_forest.proofs.Door.{inside, local, there}
+use Rattle.cga_index.proofs.Door.{in_some, root_in}
+use Rattle.cga_order.proofs.Door.{nat_cmp-less, split}
 use Rattle.cga_shape.specs.declared.shape.Shape.{Shape}
 use Rattle.cga_shape.specs.declared.shape_fault.ShapeFault.{ShapeFault}
 use Rattle.cga_expand.specs.Children.{Member}
 use Rattle.cga_index.specs.Tree as trees
 use Rattle.cga_index.specs.Tree.{below, all_nodes}
-use Rattle.cga_index.proofs.Levels.{in_some, root_in}
 use Rattle.cga_forest.specs.View.{Seen}
 use Rattle.cga_forest.specs.Tree.{ForestView, IsForest, IsRootOf, children_of, node_at}
 use Rattle.cga_forest.specs.Walked.{forest_tree, depth_of}
-use Rattle.cga_forest.proofs.Laws.{inside, there, local}
 use Rattle.cga_city.specs.Order.{comes_before, members_of}
 use Rattle.cga_city.specs.Nodes.{member_of, members_at, members_among, from_root, given_of, AreOfLot, AreApart, HasNodes}
 use Rattle.cga_city.proofs.Sorting.{IsStrict, Rises, Differs, Differ, strict_by, all_at, all_from, all_both, all_weaker, rises_both, sorted_is}
@@ -53,18 +53,21 @@ module _ (v : ForestView) where
   unfolding members_among
   among_both xs ys = flat_map-append (λ n. members_at (node_at v n)) xs ys
 
-  at_to : (o : Option Seen) (rest : List Member) (m : Member) → Among m (members_at o ++ rest) → ((d : Seen) × (o ≡ Some d) × (member_of d.node ≡ m)) ⊎ Among m rest
+  at_to : (o : Option Seen) (rest : List Member) (m : Member) → Among m (members_at o ++ rest)
+      → ((d : Seen) × (o ≡ Some d) × (member_of d.node ≡ m)) ⊎ Among m rest
   at_to None rest m h = inr h
   at_to (Some d) rest m h = elim h [ inl e ↦ inl (d, refl, e) | inr r ↦ inr r ]
 
-  at_from : (o : Option Seen) (rest : List Member) (d : Seen) → o ≡ Some d → Among (member_of d.node) (members_at o ++ rest)
+  at_from : (o : Option Seen) (rest : List Member) (d : Seen) → o ≡ Some d
+      → Among (member_of d.node) (members_at o ++ rest)
   at_from o rest d e = subst (λ (p : Option Seen). Among (member_of d.node) (members_at p ++ rest)) (sym e) (inl refl)
 
   at_rest : (o : Option Seen) (rest : List Member) (m : Member) → Among m rest → Among m (members_at o ++ rest)
   at_rest None rest m h = h
   at_rest (Some d) rest m h = inr h
 
-  pub among_to : (ns : List ℕ) (m : Member) → Among m (members_among v ns) → (c : ℕ) × (d : Seen) × trees.Member ns c × (node_at v c ≡ Some d) × (member_of d.node ≡ m)
+  pub among_to : (ns : List ℕ) (m : Member) → Among m (members_among v ns)
+      → (c : ℕ) × (d : Seen) × trees.Member ns c × (node_at v c ≡ Some d) × (member_of d.node ≡ m)
   unfolding members_among
   among_to [] m h = absurd h
   among_to (n ∷ ns) m h = elim (at_to (node_at v n) (members_among v ns) m h) [
@@ -72,7 +75,8 @@ module _ (v : ForestView) where
     | inr r ↦ let w = among_to ns m r in (w.0, w.1, inr w.2, w.3, w.4)
   ]
 
-  pub among_from : (ns : List ℕ) (c : ℕ) (d : Seen) → trees.Member ns c → node_at v c ≡ Some d → Among (member_of d.node) (members_among v ns)
+  pub among_from : (ns : List ℕ) (c : ℕ) (d : Seen) → trees.Member ns c → node_at v c ≡ Some d
+      → Among (member_of d.node) (members_among v ns)
   unfolding members_among
   among_from [] c d i h = absurd i
   among_from (n ∷ ns) c d i h = elim i [
@@ -113,7 +117,8 @@ module _ (v : ForestView) (f : IsForest v) where
   abbrev nodes_of : ℕ → List ℕ → List Member
   nodes_of n cs = members_among v (flat_map (below (forest_tree v) n) cs)
 
-  more_nodes : (n r : ℕ) (d : Seen) → node_at v r ≡ Some d → nodes_from (suc n) r ≡ member_of d.node ∷ nodes_of n d.children
+  more_nodes : (n r : ℕ) (d : Seen) → node_at v r ≡ Some d
+      → nodes_from (suc n) r ≡ member_of d.node ∷ nodes_of n d.children
   unfolding members_among below
   more_nodes n r d h = ap (λ (o : Option Seen). members_at o ++ members_among v (flat_map (below (forest_tree v) n) (children_of o))) h
 
@@ -128,7 +133,9 @@ module _ (v : ForestView) (f : IsForest v) where
   more_kids : (n c : ℕ) (cs : List ℕ) → nodes_of n (c ∷ cs) ≡ nodes_from n c ++ nodes_of n cs
   more_kids n c cs = among_both v (below (forest_tree v) n c) (flat_map (below (forest_tree v) n) cs)
 
-  kids_all : (n : ℕ) → ((r : ℕ) (d : Seen) → node_at v r ≡ Some d → AllByRecursion (Below d.node.shape) (nodes_from n r)) → (d : Seen) (i : ℕ) (cs : List ℕ) → AreFrom d i cs → AllByRecursion (From d.node.shape i) (nodes_of n cs)
+  kids_all : (n : ℕ)
+      → ((r : ℕ) (d : Seen) → node_at v r ≡ Some d → AllByRecursion (Below d.node.shape) (nodes_from n r))
+      → (d : Seen) (i : ℕ) (cs : List ℕ) → AreFrom d i cs → AllByRecursion (From d.node.shape i) (nodes_of n cs)
   kids_all n ih d i [] h = subst (AllByRecursion (From d.node.shape i)) (sym (no_kids n)) tt
   kids_all n ih d i (c ∷ cs) h =
       let w = h 0 c refl in
@@ -143,7 +150,8 @@ module _ (v : ForestView) (f : IsForest v) where
     all_weaker (From d.node.shape 0) (Below d.node.shape) (λ m b. (b.0 ∷ b.1, b.3, b.4)) (nodes_of n d.children) (kids_all n (λ c e k. nodes_below n c e k) d 0 d.children (kids_from r d h)),
   )
 
-  kids_rise : (n : ℕ) → ((r : ℕ) (d : Seen) → node_at v r ≡ Some d → Rises comes_before (nodes_from n r)) → (d : Seen) (i : ℕ) (cs : List ℕ) → AreFrom d i cs → Rises comes_before (nodes_of n cs)
+  kids_rise : (n : ℕ) → ((r : ℕ) (d : Seen) → node_at v r ≡ Some d → Rises comes_before (nodes_from n r))
+      → (d : Seen) (i : ℕ) (cs : List ℕ) → AreFrom d i cs → Rises comes_before (nodes_of n cs)
   kids_rise n ih d i [] h = subst (Rises comes_before) (sym (no_kids n)) tt
   kids_rise n ih d i (c ∷ cs) h =
       let w = h 0 c refl in
@@ -175,17 +183,20 @@ module _ (v : ForestView) (f : IsForest v) where
       absurd (omega (arith, deep, top))
 
   -- a root of the tree is the root of its lot
-  pub root_own : (r : ℕ) → trees.Member (forest_tree v).roots r → (d : Seen) × IsRootOf (node_at v) d.node.shape.lot r × (node_at v r ≡ Some d)
+  pub root_own : (r : ℕ) → trees.Member (forest_tree v).roots r
+      → (d : Seen) × IsRootOf (node_at v) d.node.shape.lot r × (node_at v r ≡ Some d)
   root_own r i =
       let p = there v f r (root_in (forest_tree v) r i) in
       let top : p.0.depth ≡ 0 = ap depth_of (sym p.1) ∙ (local v f).at_root r i in
       (p.0, (p.0, p.1, no_parent r p.0 p.1 top p.0.parent refl, refl), p.1)
 
-pub root_deep : (v : ForestView) → IsForest v → (lot : List ℕ) (r : ℕ) → IsRootOf (node_at v) lot r → 257 + depth_of (node_at v r) ≡ 257
+pub root_deep : (v : ForestView) → IsForest v → (lot : List ℕ) (r : ℕ) → IsRootOf (node_at v) lot r
+    → 257 + depth_of (node_at v r) ≡ 257
 root_deep v f lot r w = let top = f.present.tree.at_root r w.0 w.1 w.2 in let e = ap depth_of w.1 in omega arith
 
 module _ (v : ForestView) (f : IsForest v) (lot : List ℕ) where
-  some_rise : (o : Option ℕ) → ((c : ℕ) → (o ≡ Some c) ↔ IsRootOf (node_at v) lot c) → Rises comes_before (members_among v (from_root v o))
+  some_rise : (o : Option ℕ) → ((c : ℕ) → (o ≡ Some c) ↔ IsRootOf (node_at v) lot c)
+      → Rises comes_before (members_among v (from_root v o))
   unfolding members_among
   some_rise None is = tt
   some_rise (Some r) is = let w = (is r).0 refl in nodes_rise v f 257 r w.0 w.1
@@ -193,7 +204,9 @@ module _ (v : ForestView) (f : IsForest v) (lot : List ℕ) where
   pub lot_rises : (nodes : List ℕ) → AreOfLot v lot nodes → Rises comes_before (members_among v nodes)
   lot_rises nodes of = subst (λ ns. Rises comes_before (members_among v ns)) (sym of.2) (some_rise of.0 of.1)
 
-  some_to : (o : Option ℕ) → ((c : ℕ) → (o ≡ Some c) ↔ IsRootOf (node_at v) lot c) → (m : Member) → Among m (members_among v (from_root v o)) → (c : ℕ) × (d : Seen) × (node_at v c ≡ Some d) × (member_of d.node ≡ m) × (m.shape.lot ≡ lot)
+  some_to : (o : Option ℕ) → ((c : ℕ) → (o ≡ Some c) ↔ IsRootOf (node_at v) lot c) → (m : Member)
+      → Among m (members_among v (from_root v o))
+      → (c : ℕ) × (d : Seen) × (node_at v c ≡ Some d) × (member_of d.node ≡ m) × (m.shape.lot ≡ lot)
   some_to None is m h = let w = among_to v [] m h in absurd w.2
   some_to (Some r) is m h =
       let w = (is r).0 refl in
@@ -201,11 +214,13 @@ module _ (v : ForestView) (f : IsForest v) (lot : List ℕ) where
       let x = among_to v (below (forest_tree v) 257 r) m h in
       (x.0, x.1, x.3, x.4, b.2 ∙ w.3)
 
-  pub lot_to : (nodes : List ℕ) → AreOfLot v lot nodes → (m : Member) → Among m (members_among v nodes) → (c : ℕ) × (d : Seen) × (node_at v c ≡ Some d) × (member_of d.node ≡ m) × (m.shape.lot ≡ lot)
+  pub lot_to : (nodes : List ℕ) → AreOfLot v lot nodes → (m : Member) → Among m (members_among v nodes)
+      → (c : ℕ) × (d : Seen) × (node_at v c ≡ Some d) × (member_of d.node ≡ m) × (m.shape.lot ≡ lot)
   lot_to nodes of m h = some_to of.0 of.1 m (subst (λ ns. Among m (members_among v ns)) of.2 h)
 
   -- each node of the lot is listed
-  pub lot_listed : (nodes : List ℕ) → AreOfLot v lot nodes → (c : ℕ) (d : Seen) → node_at v c ≡ Some d → d.node.shape.lot ≡ lot → trees.Member nodes c
+  pub lot_listed : (nodes : List ℕ) → AreOfLot v lot nodes → (c : ℕ) (d : Seen) → node_at v c ≡ Some d
+      → d.node.shape.lot ≡ lot → trees.Member nodes c
   unfolding all_nodes
   lot_listed nodes of c d h own =
       let p = in_some (below (forest_tree v) 257) (forest_tree v).roots c (inside v f c (d, h)) in
@@ -216,7 +231,8 @@ module _ (v : ForestView) (f : IsForest v) (lot : List ℕ) where
       let e : nodes ≡ below (forest_tree v) 257 p.0 = of.2 ∙ ap (from_root v) ((of.1 p.0).1 root) in
       subst (λ ns. trees.Member ns c) (sym e) p.2
 
-  pub lot_from : (nodes : List ℕ) → AreOfLot v lot nodes → (c : ℕ) (d : Seen) → node_at v c ≡ Some d → d.node.shape.lot ≡ lot → Among (member_of d.node) (members_among v nodes)
+  pub lot_from : (nodes : List ℕ) → AreOfLot v lot nodes → (c : ℕ) (d : Seen) → node_at v c ≡ Some d
+      → d.node.shape.lot ≡ lot → Among (member_of d.node) (members_among v nodes)
   lot_from nodes of c d h own = among_from v nodes c d (lot_listed nodes of c d h own) h
 
 -- ---- lists that have the nodes
@@ -248,7 +264,8 @@ pub among_has : (list : List Member) (m : Member) → Among m list → Has list 
 among_has [] m h = absurd h
 among_has (x ∷ xs) m h = elim h [ inl e ↦ inl (ap (λ (y : Member). y.shape) e, ap (λ (y : Member). y.kind) e) | inr r ↦ inr (among_has xs m r) ]
 
-pub has_among : (list : List Member) (s : Shape) (k : Kind ShapeFault Primitive) → Has list s k → Among (record { shape = s; kind = k }) list
+pub has_among : (list : List Member) (s : Shape) (k : Kind ShapeFault Primitive) → Has list s k
+    → Among (record { shape = s; kind = k }) list
 has_among [] s k h = absurd h
 has_among (x ∷ xs) s k h = elim h [
   | inl e ↦ inl (ap (λ (t : Shape). record { shape = t; kind = x.kind }) e.0 ∙ ap (λ (j : Kind ShapeFault Primitive). record { shape = s; kind = j }) e.1)
@@ -284,7 +301,8 @@ module _ (lot : List ℕ) where
       ]
 
 -- what a list has of a lot, by paths, is what the forest has of it in its order
-pub lot_members : (v : ForestView) → IsForest v → (list : List Member) → HasNodes v list → (lot : List ℕ) (nodes : List ℕ) → AreOfLot v lot nodes → members_of lot list ≡ members_among v nodes
+pub lot_members : (v : ForestView) → IsForest v → (list : List Member) → HasNodes v list
+    → (lot : List ℕ) (nodes : List ℕ) → AreOfLot v lot nodes → members_of lot list ≡ members_among v nodes
 lot_members v f list has lot nodes of =
     sorted_is comes_before before_strict (filter (is_of lot) list) (members_among v nodes) (lot_differs lot list has.apart) (lot_rises v f lot nodes of)
     (λ m i.
@@ -296,11 +314,14 @@ lot_members v f list has lot nodes of =
     let w = lot_to v f lot nodes of m i in
     filter_from (is_of lot) list m (subst (λ y. Among y list) w.3 (has_among list w.1.node.shape w.1.node.kind (has.all w.0 w.1 w.2))) ((bytes_eq-Decides m.shape.lot lot).1 w.4))
 
-given_all : {A : Type 0} (give : Member → List A) (v : ForestView) (nodes : List ℕ) → flat_map (given_of give v) nodes ≡ flat_map give (members_among v nodes)
+given_all : {A : Type 0} (give : Member → List A) (v : ForestView) (nodes : List ℕ)
+    → flat_map (given_of give v) nodes ≡ flat_map give (members_among v nodes)
 unfolding members_among
 given_all give v [] = refl
 given_all give v (n ∷ ns) = ap (λ ys. given_of give v n ++ ys) (given_all give v ns) ∙ sym (flat_map-append give (members_at (node_at v n)) (members_among v ns))
 
 -- what the members of a lot give, by their paths
-pub given_in : {A : Type 0} (give : Member → List A) (v : ForestView) → IsForest v → (list : List Member) → HasNodes v list → (lot : List ℕ) (nodes : List ℕ) → AreOfLot v lot nodes → flat_map (given_of give v) nodes ≡ flat_map give (members_of lot list)
+pub given_in : {A : Type 0} (give : Member → List A) (v : ForestView) → IsForest v → (list : List Member)
+    → HasNodes v list → (lot : List ℕ) (nodes : List ℕ) → AreOfLot v lot nodes
+    → flat_map (given_of give v) nodes ≡ flat_map give (members_of lot list)
 given_in give v f list has lot nodes of = given_all give v nodes ∙ ap (flat_map give) (sym (lot_members v f list has lot nodes of))

@@ -13,18 +13,23 @@ use Rattle.cga_shape.specs.Root.{root_scope}
 use Rattle.cga_city.specs.Grammars.{has_rule, has_parameters, is_plain, with_priority, prioritized}
 use Rattle.cga_city.specs.Lots.{is_bad, rooted, accepted}
 use Rattle.cga_city.proofs.Sorting.{decide}
+pub use Rattle.cga_fraction.proofs.Door.{true_from_not as plain_if}
+use Rattle.cga_fraction.proofs.Door.{true_from_not as not_false}
 
 -- ---- what was done where nothing was refused
 
-pub and_then_ok : {A B F : Type 0} (r : Result A F) (f : A → Result B F) (y : B) → and_then r f ≡ Ok y → (x : A) × (r ≡ Ok x) × (f x ≡ Ok y)
+pub and_then_ok : {A B F : Type 0} (r : Result A F) (f : A → Result B F) (y : B) → and_then r f ≡ Ok y
+    → (x : A) × (r ≡ Ok x) × (f x ≡ Ok y)
 and_then_ok (Ok x) f y h = (x, refl, h)
 and_then_ok (Err e) f y h = cc
 
-pub err_if_ok : {A F : Type 0} (t : Bool) (e : F) (r : Result A F) (y : A) → err_if t e r ≡ Ok y → (t ≡ false) × (r ≡ Ok y)
+pub err_if_ok : {A F : Type 0} (t : Bool) (e : F) (r : Result A F) (y : A) → err_if t e r ≡ Ok y
+    → (t ≡ false) × (r ≡ Ok y)
 err_if_ok true e r y h = cc
 err_if_ok false e r y h = (refl, h)
 
-pub map_or_ok : {A B F : Type 0} (f : A → Result B F) (o : Option A) (e : F) (y : B) → option_map_or f o (Err e) ≡ Ok y → (x : A) × (o ≡ Some x) × (f x ≡ Ok y)
+pub map_or_ok : {A B F : Type 0} (f : A → Result B F) (o : Option A) (e : F) (y : B) → option_map_or f o (Err e) ≡ Ok y
+    → (x : A) × (o ≡ Some x) × (f x ≡ Ok y)
 map_or_ok f None e y h = cc
 map_or_ok f (Some x) e y h = (x, refl, h)
 
@@ -32,13 +37,6 @@ map_or_ok f (Some x) e y h = (x, refl, h)
 
 abbrev pub ArePlain : Grammar → List Lot → Type 0
 ArePlain g lots = All (λ (lot : Lot). is_plain g lot.symbol ≡ true) lots
-
-not_false : (t : Bool) → not t ≡ false → t ≡ true
-not_false true h = refl
-not_false false h = cc
-
-pub plain_if : (t : Bool) → not t ≡ false → t ≡ true
-plain_if = not_false
 
 pub rooted_plain : (g : Grammar) (lots : List Lot) (u : Unit {0}) → rooted g lots ≡ Ok u → ArePlain g lots
 rooted_plain g [] u h = All-nil (λ (lot : Lot). is_plain g lot.symbol ≡ true)
@@ -65,7 +63,8 @@ good_root lot h = elim (decide (is_err (root_scope lot))) [
 abbrev pub AreFit : List Lot → Type 0
 AreFit lots = All (λ (lot : Lot). is_bad lot ≡ false) lots
 
-pub accepted_good : (g : Grammar) (lots : List Lot) (u : Unit {0}) → accepted g lots ≡ Ok u → ArePlain g lots × AreFit lots
+pub accepted_good : (g : Grammar) (lots : List Lot) (u : Unit {0}) → accepted g lots ≡ Ok u
+    → ArePlain g lots × AreFit lots
 accepted_good g [] u h = (All-nil (λ (l : Lot). is_plain g l.symbol ≡ true), All-nil (λ (l : Lot). is_bad l ≡ false))
 accepted_good g (lot ∷ lots) u h =
     let k = err_if_ok (not (is_plain g lot.symbol)) _ _ u h in
@@ -85,13 +84,15 @@ good_accepted g (lot ∷ lots) plain fit =
 same_rule : (symbol : List ℕ) (priority : ℕ) (e : Entry) → (with_priority symbol priority e).rule ≡ e.rule
 same_rule symbol priority e = elim (decide (is_of symbol e)) [ inl t ↦ rw t refl | inr f ↦ rw f refl ]
 
-same_any : (test : Entry → Bool) → ((a b : Entry) → a.rule ≡ b.rule → test a ≡ test b) → (symbol : List ℕ) (priority : ℕ) (rules : List Entry)
+same_any : (test : Entry → Bool) → ((a b : Entry) → a.rule ≡ b.rule → test a ≡ test b)
+    → (symbol : List ℕ) (priority : ℕ) (rules : List Entry)
     → list_any test (prioritized symbol priority rules) ≡ list_any test rules
 same_any test alike symbol priority [] = refl
 same_any test alike symbol priority (e ∷ rules) = rw (alike (with_priority symbol priority e) e (same_rule symbol priority e), same_any test alike symbol priority rules) refl
 
 pub plain_priority : (g : Grammar) (symbol : List ℕ) (priority : ℕ) (name : List ℕ)
-    → is_plain (record { attributes = g.attributes; rules = prioritized symbol priority g.rules }) name ≡ is_plain g name
+    → is_plain (record { attributes = g.attributes; rules = prioritized symbol priority g.rules }) name ≡ is_plain g
+      name
 plain_priority g symbol priority name =
     let a : has_rule (record { attributes = g.attributes; rules = prioritized symbol priority g.rules }) name ≡ has_rule g name =
     same_any (is_of name) (λ a b e. rw e refl) symbol priority g.rules in

@@ -1,5 +1,7 @@
 -- Rules by rising id, with another priority, and attributes with another value have no new fault.
-use Rattle.std.proofs.Common.{◌≡◌, ◌≢◌, ℕ, ◌+◌, suc, List, [], ◌∷◌, ◌++◌, length, take, drop, Bool, true, false, not, ◌||◌, nat_eq, nat_lt, refl, sym, ap, ◌∙◌, arith, zero-add, Option, Some, None, inl, inr, take-append-drop, length-append}
+use Rattle.std.proofs.Common.{◌≡◌, ◌≢◌, ℕ, ◌+◌, suc, List, [], ◌∷◌, ◌++◌, length, take, drop, Bool, true, false, not}
+use Rattle.std.proofs.Common.{◌||◌, nat_eq, nat_lt, refl, sym, ap, ◌∙◌, arith, zero-add, Option, Some, None, inl, inr}
+use Rattle.std.proofs.Common.{take-append-drop, length-append}
 use Rattle.std.specs.Prelude.{flat_map, find, insert}
 use Rattle.std.specs.List.{AllByRecursion, list_any, prefix_len}
 use Rattle.std.proofs.lemmas.Bool.Decides.{nat_tests}
@@ -14,12 +16,12 @@ use Rattle.cga_check.specs.Uses.{rule_uses, Uses}
 use Rattle.cga_check.specs.Groups.{is_of, first_entry}
 use Rattle.cga_check.specs.Faults.{use_faults, child_faults, IsValid}
 use Rattle.cga_check.specs.Validity.{Agrees}
-use Rattle.cga_check.proofs.Clean.{none_left, none_right}
-use Rattle.cga_check.proofs.Agreement.{found_passes}
-use Rattle.cga_check.proofs.Valid.{symbols_agree}
+use Rattle.cga_check.proofs.Door.{found_passes, none_left, none_right, symbols_agree}
+use Rattle.cga_fraction.proofs.Door.{nat_lt-same as none_over}
 use Rattle.cga_city.specs.Grammars.{rule_place, new_place, with_rule, with_rules, ranked}
 use Rattle.cga_city.proofs.Sorting.{decide}
 use Rattle.cga_city.proofs.Faultless.{put_in, weaker, zipped, nils, Apart, apart_back, IsFine, Differ, DifferFrom, faultless, valid_if}
+use Rattle.std.proofs.lemmas.Bool.{or_right}
 
 abbrev pub of : List Attribute → List Entry → Grammar
 of attributes rules = record { attributes = attributes; rules = rules }
@@ -31,7 +33,8 @@ abbrev pub KeepsFirst : List Entry → List Entry → Type 0
 KeepsFirst rules new = (symbol : List ℕ) (f : Entry) → first_entry rules symbol ≡ Some f → (k : Entry) × (first_entry new symbol ≡ Some k) × (length k.rule.params ≡ length f.rule.params)
 
 module _ (attributes : List Attribute) (rules new : List Entry) (keeps : KeepsFirst rules new) where
-  child_kept : (id : ℕ) (symbol : List ℕ) (args : ℕ) (o : Option Entry) → first_entry rules symbol ≡ o → child_faults id symbol args o ≡ [] → child_faults id symbol args (first_entry new symbol) ≡ []
+  child_kept : (id : ℕ) (symbol : List ℕ) (args : ℕ) (o : Option Entry) → first_entry rules symbol ≡ o
+      → child_faults id symbol args o ≡ [] → child_faults id symbol args (first_entry new symbol) ≡ []
   child_kept id symbol args None at h = cc
   child_kept id symbol args (Some f) at h = let (k, there, same) = keeps symbol f at in rw (there, same) h
 
@@ -41,7 +44,8 @@ module _ (attributes : List Attribute) (rules new : List Entry) (keeps : KeepsFi
   use_kept r (Parts sizes bodies) h = h
   use_kept r (Named name) h = h
 
-  uses_kept : (r : Rule) (us : Uses) → flat_map (use_faults (of attributes rules) r) us ≡ [] → flat_map (use_faults (of attributes new) r) us ≡ []
+  uses_kept : (r : Rule) (us : Uses) → flat_map (use_faults (of attributes rules) r) us ≡ []
+      → flat_map (use_faults (of attributes new) r) us ≡ []
   uses_kept r [] h = refl
   uses_kept r (u ∷ us) h = nils _ _ (use_kept r u (none_left (use_faults (of attributes rules) r u) _ h)) (uses_kept r us (none_right (use_faults (of attributes rules) r u) _ h))
 
@@ -56,37 +60,34 @@ IsNew id rules = AllByRecursion (λ (x : Entry). x.rule.id ≢ id) rules
 untaken : (a b : ℕ) → a ≢ b → not (nat_eq a b) ≡ true
 untaken a b h = grind (arith, nat_tests)
 
-all_passed : (id : ℕ) (rules : List Entry) → IsNew id rules → prefix_len (λ (x : Entry). not (nat_eq x.rule.id id)) rules ≡ length rules
+all_passed : (id : ℕ) (rules : List Entry) → IsNew id rules
+    → prefix_len (λ (x : Entry). not (nat_eq x.rule.id id)) rules ≡ length rules
 all_passed id [] h = refl
 all_passed id (x ∷ xs) h = let more = all_passed id xs h.1 in rw (untaken x.rule.id id h.0) (omega arith)
-
-none_over : (n : ℕ) → nat_lt n n ≡ false
-none_over n = grind (arith, nat_tests)
 
 no_place : (id : ℕ) (rules : List Entry) → IsNew id rules → rule_place id rules ≡ None
 no_place id rules h = rw (all_passed id rules h, none_over (length rules)) refl
 
-pub new_rule : (e : Entry) (rules : List Entry) → IsNew e.rule.id rules → with_rule e rules ≡ insert rules (new_place e.rule.id rules) e
+pub new_rule : (e : Entry) (rules : List Entry) → IsNew e.rule.id rules
+    → with_rule e rules ≡ insert rules (new_place e.rule.id rules) e
 unfolding with_rule
 new_rule e rules h = rw (no_place e.rule.id rules h) refl
 
 are_new : (e : Entry) (rules : List Entry) → AllByRecursion (Apart e) rules → IsNew e.rule.id rules
 are_new e rules h = weaker (Apart e) (λ (x : Entry). x.rule.id ≢ e.rule.id) (λ x k. k.0) rules h
 
-put_differ : (xs ys : List Entry) (e : Entry) → AllByRecursion (Apart e) (xs ++ ys) → Differ (xs ++ ys) → Differ (xs ++ e ∷ ys)
+put_differ : (xs ys : List Entry) (e : Entry) → AllByRecursion (Apart e) (xs ++ ys) → Differ (xs ++ ys)
+    → Differ (xs ++ e ∷ ys)
 put_differ [] ys e h d = (h, d)
 put_differ (x ∷ xs) ys e h d = (put_in (Apart x) xs ys e (apart_back e x h.0) d.0, put_differ xs ys e h.1 d.1)
-
-or_right : (a b : Bool) → b ≡ true → (a || b) ≡ true
-or_right true b h = refl
-or_right false b h = h
 
 or_swap : (a b c : Bool) → (a || (b || c)) ≡ (b || (a || c))
 or_swap true true c = refl
 or_swap true false c = refl
 or_swap false b c = refl
 
-put_any : (p : Entry → Bool) (xs ys : List Entry) (e : Entry) → list_any p (xs ++ e ∷ ys) ≡ (p e || list_any p (xs ++ ys))
+put_any : (p : Entry → Bool) (xs ys : List Entry) (e : Entry)
+    → list_any p (xs ++ e ∷ ys) ≡ (p e || list_any p (xs ++ ys))
 put_any p [] ys e = refl
 put_any p (x ∷ xs) ys e = ap (λ t. p x || t) (put_any p xs ys e) ∙ or_swap (p x) (p e) (list_any p (xs ++ ys))
 
@@ -135,7 +136,8 @@ or_both true false c h = refl
 or_both false true c h = refl
 or_both false false c h = h
 
-pub among : (rules more : List Entry) → Differ rules → Differ more → DifferFrom rules more → Keeps rules more (with_rules rules more)
+pub among : (rules more : List Entry) → Differ rules → Differ more → DifferFrom rules more
+    → Keeps rules more (with_rules rules more)
 among rules [] d m from = record { differ = d; each = λ P h k. h; any = λ p h. or_nothing (list_any p rules) h; many = omega arith }
 among rules (e ∷ more) d m from =
     let rest = among (with_rule e rules) more (one_differ e rules from.0 d) m.1
@@ -147,7 +149,8 @@ among rules (e ∷ more) d m from =
       many = rest.many ∙ rw (one_length e rules from.0) (omega arith);
     }
 
-pub found_in : (p : Entry → Bool) (P : Entry → Type 0) (xs : List Entry) → list_any p xs ≡ true → AllByRecursion P xs → (k : Entry) × (find p xs ≡ Some k) × (p k ≡ true) × P k
+pub found_in : (p : Entry → Bool) (P : Entry → Type 0) (xs : List Entry) → list_any p xs ≡ true → AllByRecursion P xs
+    → (k : Entry) × (find p xs ≡ Some k) × (p k ≡ true) × P k
 found_in p P [] h all = cc
 found_in p P (x ∷ xs) h all = elim (decide (p x)) [
   | inl t ↦ (x, rw t refl, t, all.0)
@@ -159,7 +162,8 @@ any_found p [] f h = cc
 any_found p (x ∷ xs) f h = elim (decide (p x)) [ inl t ↦ rw t refl | inr f ↦ rw f (any_found p xs _ (rw f at h)) ]
 
 -- the first of a symbol stays where all members stay
-pub first_kept : (g : Grammar) (new : List Entry) → IsValid g → ((P : Entry → Type 0) → AllByRecursion P g.rules → AllByRecursion P new)
+pub first_kept : (g : Grammar) (new : List Entry) → IsValid g
+    → ((P : Entry → Type 0) → AllByRecursion P g.rules → AllByRecursion P new)
     → ((p : Entry → Bool) → list_any p g.rules ≡ true → list_any p new ≡ true) → KeepsFirst g.rules new
 unfolding first_entry
 first_kept g new valid each any symbol f at =
@@ -172,7 +176,8 @@ pub all_none : (rules : List Entry) → DifferFrom [] rules
 all_none [] = tt
 all_none (x ∷ xs) = (tt, all_none xs)
 
-pub fine_all : (attributes : List Attribute) (rules new xs : List Entry) → KeepsFirst rules new → AllByRecursion (IsFine (of attributes rules)) xs → AllByRecursion (IsFine (of attributes new)) xs
+pub fine_all : (attributes : List Attribute) (rules new xs : List Entry) → KeepsFirst rules new
+    → AllByRecursion (IsFine (of attributes rules)) xs → AllByRecursion (IsFine (of attributes new)) xs
 fine_all attributes rules new xs keeps h = weaker (IsFine (of attributes rules)) (IsFine (of attributes new)) (λ e k. fine_kept attributes rules new keeps e e refl k) xs h
 
 -- rules by rising id have no fault that they hadn't

@@ -23,20 +23,13 @@ use Rattle.cga_city.proofs.Ranked.{of, IsNew, KeepsFirst, all_none, among, fine_
 use Rattle.cga_city.proofs.Rising.{ranked_rises}
 use Rattle.cga_city.proofs.Plain.{good_accepted}
 use Rattle.cga_city.proofs.Again.{fits}
+use Rattle.std.proofs.lemmas.Bool.{or_right}
+use Rattle.cga_fraction.proofs.Door.{eq_from_nat_eq as is_id, nat_eq-same as own_id, nat_eq_from_ne as no_id, nat_lt_from_lt as lt_is}
 
 -- ---- how often an id stands in a list
 
 abbrev has_id : ℕ → Entry → ℕ
 has_id id e = if nat_eq e.rule.id id then 1 else 0
-
-no_id : (a b : ℕ) → a ≢ b → nat_eq a b ≡ false
-no_id a b h = grind (arith, nat_tests)
-
-is_id : (a b : ℕ) → nat_eq a b ≡ true → a ≡ b
-is_id a b h = grind (arith, nat_tests)
-
-own_id : (a : ℕ) → nat_eq a a ≡ true
-own_id a = grind (arith, nat_tests)
 
 count_none : (id : ℕ) (xs : List Entry) → IsNew id xs → sum_by (has_id id) xs ≡ 0
 count_none id [] h = refl
@@ -101,7 +94,8 @@ one_of (z ∷ zs) d x y i j e = elim i [
   ]
 ]
 
-differ_if : (xs : List Entry) → ((x y : Entry) → Among x xs → Among y xs → Agree x y) → ((id : ℕ) → sum_by (has_id id) xs ≤ 1) → Differ xs
+differ_if : (xs : List Entry) → ((x y : Entry) → Among x xs → Among y xs → Agree x y)
+    → ((id : ℕ) → sum_by (has_id id) xs ≤ 1) → Differ xs
 differ_if [] agree few = tt
 differ_if (x ∷ xs) agree few = (
   all_from (Apart x) xs (λ y i. (other y i, agree x y (inl refl) (inr i))),
@@ -123,10 +117,6 @@ any_at p (x ∷ xs) h = elim (decide (p x)) [
   | inl t ↦ (x, inl refl, t)
   | inr f ↦ let k = any_at p xs (rw f at h) in (k.0, inr k.1, k.2)
 ]
-
-or_right : (a b : Bool) → b ≡ true → (a || b) ≡ true
-or_right true b h = refl
-or_right false b h = h
 
 any_of : (p : Entry → Bool) (xs : List Entry) (x : Entry) → Among x xs → p x ≡ true → list_any p xs ≡ true
 any_of p [] x i h = absurd i
@@ -158,7 +148,8 @@ module _ (rules new : List Entry) (perm : IsPermutation rules new) where
       differ_if new (λ x y i j. agree_all rules d x y (from x i) (from y j))
       (λ id. let few = count_few id rules d in omega (arith, sum_by-IsPermutation (has_id id) rules new perm, few))
 
-reordered_valid : (g : Grammar) (new : List Entry) → IsPermutation g.rules new → IsValid g → IsValid (of g.attributes new)
+reordered_valid : (g : Grammar) (new : List Entry) → IsPermutation g.rules new → IsValid g
+    → IsValid (of g.attributes new)
 reordered_valid g new perm valid =
     let f = faultless g valid in
     let keeps : KeepsFirst g.rules new = first_kept g new valid (λ P h. each g.rules new perm P h) (any g.rules new perm) in
@@ -180,9 +171,6 @@ lt_chain a b c h k = grind (arith, nat_tests)
 lt_never : (a : ℕ) → nat_lt a a ≡ true → ⊥
 lt_never a h = grind (arith, nat_tests)
 
-lt_is : (a b : ℕ) → a < b → nat_lt a b ≡ true
-lt_is a b h = grind (arith, nat_tests)
-
 strict : IsStrict before
 strict = record { chain = λ x y z h k. lt_chain x.rule.id y.rule.id z.rule.id h k; never = λ x h. lt_never x.rule.id h }
 
@@ -190,7 +178,8 @@ rises : (xs : List Entry) → IsRising xs → Rises before xs
 rises [] h = tt
 rises (x ∷ xs) h = (weaker (λ (y : Entry). x.rule.id < y.rule.id) (λ (y : Entry). before x y ≡ true) (λ y k. lt_is x.rule.id y.rule.id k) xs h.0, rises xs h.1)
 
-reordered_ranked : (attributes : List Attribute) (rules new : List Entry) → IsPermutation rules new → IsRising rules → Differ new → ranked (of attributes new) ≡ of attributes rules
+reordered_ranked : (attributes : List Attribute) (rules new : List Entry) → IsPermutation rules new → IsRising rules
+    → Differ new → ranked (of attributes new) ≡ of attributes rules
 unfolding ranked
 reordered_ranked attributes rules new perm rising d =
     let k = among [] new tt d (all_none new) in
@@ -206,7 +195,8 @@ reordered_ranked attributes rules new perm rising d =
 
 -- ---- whole sources
 
-reordered_changed : (old s : Sources) (new : List Entry) → AreSound s → IsPermutation s.grammar.rules new → changed old (edit.Whole (with_entries s new)) ≡ Ok s
+reordered_changed : (old s : Sources) (new : List Entry) → AreSound s → IsPermutation s.grammar.rules new
+    → changed old (edit.Whole (with_entries s new)) ≡ Ok s
 reordered_changed old s new sound perm =
     let d = differ s.grammar.rules new perm (faultless s.grammar sound.grammar).rules.0 in
     rw (reordered_valid s.grammar new perm sound.grammar, reordered_ranked s.grammar.attributes s.grammar.rules new perm sound.rising d, fits (length s.lots) sound.few, good_accepted s.grammar s.lots sound.plain sound.good) refl

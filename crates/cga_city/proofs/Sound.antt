@@ -1,5 +1,7 @@
 -- What edits keep of sources.
-use Rattle.std.proofs.Common.{◌≡◌, ℕ, suc, ◌<◌, ◌≤◌, List, [], ◌∷◌, ◌++◌, length, take, drop, true, false, not, Some, None, Option, Result, Ok, Err, refl, subst, ◌∙◌, arith, nat_lt, length-append, length-take, length-drop}
+use Rattle.std.proofs.Common.{◌≡◌, ℕ, suc, ◌<◌, ◌≤◌, List, [], ◌∷◌, ◌++◌, length, take, drop, true, false, not, Some}
+use Rattle.std.proofs.Common.{None, Option, Result, Ok, Err, refl, subst, ◌∙◌, arith, nat_lt, length-append}
+use Rattle.std.proofs.Common.{length-take, length-drop}
 use Rattle.std.specs.Prelude.{slice_set, remove}
 use Rattle.std.proofs.lemmas.List.Elements.{All-nil, All-cons, All-append, All-set, All-take, All-drop, All-weaker}
 use Rattle.std.proofs.Math.ListN.{length-set}
@@ -32,13 +34,15 @@ by_check_ok (Err fault) u h = cc
 checked_valid : (g : Grammar) (u : Unit {0}) → checked g ≡ Ok u → IsValid g
 checked_valid g u h = by_check_ok (check_fault g) u h
 
-grammar_sound : (s new : Sources) (g : Grammar) → AreSound s → IsValid g → IsRising g.rules → with_grammar s g ≡ Ok new → AreSound new
+grammar_sound : (s new : Sources) (g : Grammar) → AreSound s → IsValid g → IsRising g.rules → with_grammar s g ≡ Ok new
+    → AreSound new
 grammar_sound s new g sound valid rising h =
     let (u, plain, made) = and_then_ok (rooted g s.lots) _ new h in
     let e : record { grammar = g; lots = s.lots; mode = s.mode } ≡ new = cc in
     subst AreSound e (record { grammar = valid; rising = rising; few = sound.few; names = sound.names; good = sound.good; plain = rooted_plain g s.lots u plain })
 
-checked_sound : (s new : Sources) (g : Grammar) → AreSound s → IsRising g.rules → with_checked s g ≡ Ok new → AreSound new
+checked_sound : (s new : Sources) (g : Grammar) → AreSound s → IsRising g.rules → with_checked s g ≡ Ok new
+    → AreSound new
 checked_sound s new g sound rising h = let (u, valid, made) = and_then_ok (checked g) _ new h in grammar_sound s new g sound (checked_valid g u valid) rising made
 
 -- ---- lots
@@ -61,12 +65,14 @@ less_good g lots i (few, apart, roots, plain) =
       All-append (IsPlain g) (take i lots) (drop (suc i) lots) (All-take (IsPlain g) i lots plain) (All-drop (IsPlain g) (suc i) lots plain),
     )
 
-set_good : (g : Grammar) (lots : List Lot) (lot : Lot) (i : ℕ) → lot_place lot.name lots ≡ Some i → is_bad lot ≡ false → is_plain g lot.symbol ≡ true
+set_good : (g : Grammar) (lots : List Lot) (lot : Lot) (i : ℕ) → lot_place lot.name lots ≡ Some i → is_bad lot ≡ false
+    → is_plain g lot.symbol ≡ true
     → AreGood g lots → AreGood g (slice_set lots i lot)
 set_good g lots lot i at root plain (few, apart, roots, others) =
     (omega (arith, length-set lots i lot), apart_set lots lot i at apart, All-set IsFit lots i lot root roots, All-set (IsPlain g) lots i lot plain others)
 
-new_good : (g : Grammar) (lots : List Lot) (lot : Lot) → lot_place lot.name lots ≡ None → length lots < MOST_LOTS → is_bad lot ≡ false → is_plain g lot.symbol ≡ true
+new_good : (g : Grammar) (lots : List Lot) (lot : Lot) → lot_place lot.name lots ≡ None → length lots < MOST_LOTS
+    → is_bad lot ≡ false → is_plain g lot.symbol ≡ true
     → AreGood g lots → AreGood g (lots ++ lot ∷ [])
 new_good g lots lot none room root plain (few, apart, roots, others) = (
   omega (arith, length-append lots (lot ∷ [])),
@@ -75,7 +81,8 @@ new_good g lots lot none room root plain (few, apart, roots, others) = (
   All-append (IsPlain g) lots (lot ∷ []) others (All-cons (IsPlain g) lot [] plain (All-nil (IsPlain g))),
 )
 
-lot_good : (g : Grammar) (lots : List Lot) (lot : Lot) (place : Option ℕ) → lot_place lot.name lots ≡ place → finds_no_room lot lots ≡ false → is_bad lot ≡ false
+lot_good : (g : Grammar) (lots : List Lot) (lot : Lot) (place : Option ℕ) → lot_place lot.name lots ≡ place
+    → finds_no_room lot lots ≡ false → is_bad lot ≡ false
     → is_plain g lot.symbol ≡ true → AreGood g lots → AreGood g (with_lot lot lots)
 lot_good g lots lot (Some i) at room root plain good = rw at (set_good g lots lot i at root plain good)
 lot_good g lots lot None at room root plain good = rw at (new_good g lots lot at (has_room (length lots) (rw at at room)) root plain good)

@@ -6,7 +6,7 @@ use Rattle.cga_order.specs.World.{is_instance}
 use Rattle.cga_order.specs.declared.placed.Kind.{Kind}
 use Rattle.cga_shape.specs.declared.shape_fault.ShapeFault.{ShapeFault}
 use Rattle.cga_index.specs.Tree.{below, all_nodes}
-use Rattle.cga_index.proofs.Levels.{below_more, drop_at, drop_all}
+use Rattle.cga_index.proofs.Door.{below_more, drop_all, drop_at}
 use Rattle.cga_forest.specs.View.{Seen}
 use Rattle.cga_forest.specs.Tree.{ForestView, node_at}
 use Rattle.cga_forest.specs.Walked.{forest_tree}
@@ -56,26 +56,34 @@ module _ (v : ForestView) where
       let e : length (levels left node) ≡ length (node ∷ flat_map (levels (left - 1)) ((forest_tree v).children node)) = ap (λ (xs : List ℕ). length xs) (below_more (forest_tree v) left node h) in
       fewer t 1 (length (levels left node)) (omega arith) room
 
-  pub room_below : (left node : ℕ) (t more : Tally) → 0 < left → more ≡ with_seen (node_at v node) t → HasRoom t (length (levels left node)) → HasRoom more (length (flat_map (levels (left - 1)) ((forest_tree v).children node)))
+  pub room_below : (left node : ℕ) (t more : Tally) → 0 < left → more ≡ with_seen (node_at v node) t
+      → HasRoom t (length (levels left node))
+      → HasRoom more (length (flat_map (levels (left - 1)) ((forest_tree v).children node)))
   room_below left node t more h e room =
       let kids = flat_map (levels (left - 1)) ((forest_tree v).children node) in
       let same : length (levels left node) ≡ length (node ∷ kids) = ap (λ (xs : List ℕ). length xs) (below_more (forest_tree v) left node h) in
       subst (λ (m : Tally). HasRoom m (length kids)) (sym e) (room_seen (node_at v node) t (length kids) (fewer t (suc (length kids)) (length (levels left node)) (omega arith) room))
 
-  pub all_below : (left node : ℕ) (t more result : Tally) → 0 < left → more ≡ with_seen (node_at v node) t → result ≡ tallied v (flat_map (levels (left - 1)) ((forest_tree v).children node)) more → result ≡ tallied v (levels left node) t
+  pub all_below : (left node : ℕ) (t more result : Tally) → 0 < left → more ≡ with_seen (node_at v node) t
+      → result ≡ tallied v (flat_map (levels (left - 1)) ((forest_tree v).children node)) more
+      → result ≡ tallied v (levels left node) t
   unfolding tallied
   all_below left node t more result h e r =
       r ∙ ap (tallied v (flat_map (levels (left - 1)) ((forest_tree v).children node))) e ∙ ap (λ (ns : List ℕ). tallied v ns t) (sym (below_more (forest_tree v) left node h))
 
-  apart_at : (left : ℕ) (cs : List ℕ) (k c : ℕ) → slice_get cs k ≡ Some c → flat_map (levels left) (drop k cs) ≡ levels left c ++ flat_map (levels left) (drop (k + 1) cs)
+  apart_at : (left : ℕ) (cs : List ℕ) (k c : ℕ) → slice_get cs k ≡ Some c
+      → flat_map (levels left) (drop k cs) ≡ levels left c ++ flat_map (levels left) (drop (k + 1) cs)
   apart_at left cs k c at = ap (flat_map (levels left)) (drop_at cs k c at)
 
-  pub room_next : (left : ℕ) (cs : List ℕ) (k c : ℕ) (sum whole : Tally) → slice_get cs k ≡ Some c → IsCounting v left cs k sum whole → HasRoom sum (length (levels left c))
+  pub room_next : (left : ℕ) (cs : List ℕ) (k c : ℕ) (sum whole : Tally) → slice_get cs k ≡ Some c
+      → IsCounting v left cs k sum whole → HasRoom sum (length (levels left c))
   room_next left cs k c sum whole at good =
       let e : length (flat_map (levels left) (drop k cs)) ≡ length (levels left c) + length (flat_map (levels left) (drop (k + 1) cs)) = ap (λ (xs : List ℕ). length xs) (apart_at left cs k c at) ∙ length-append (levels left c) (flat_map (levels left) (drop (k + 1) cs)) in
       fewer sum (length (levels left c)) (length (flat_map (levels left) (drop k cs))) (omega arith) good.room
 
-  pub counting_next : (left : ℕ) (cs : List ℕ) (k c : ℕ) (sum next whole : Tally) → slice_get cs k ≡ Some c → next ≡ tallied v (levels left c) sum → IsCounting v left cs k sum whole → IsCounting v left cs (k + 1) next whole
+  pub counting_next : (left : ℕ) (cs : List ℕ) (k c : ℕ) (sum next whole : Tally) → slice_get cs k ≡ Some c
+      → next ≡ tallied v (levels left c) sum → IsCounting v left cs k sum whole
+      → IsCounting v left cs (k + 1) next whole
   counting_next left cs k c sum next whole at e good =
       let rest = flat_map (levels left) (drop (k + 1) cs) in
       let n : length (flat_map (levels left) (drop k cs)) ≡ length (levels left c) + length rest = ap (λ (xs : List ℕ). length xs) (apart_at left cs k c at) ∙ length-append (levels left c) rest in
@@ -84,13 +92,15 @@ module _ (v : ForestView) where
         rest = sym (tallied_both (levels left c) rest sum) ∙ ap (λ (ns : List ℕ). tallied v ns sum) (sym (apart_at left cs k c at)) ∙ good.rest;
       })
 
-  pub counting_end : (left : ℕ) (cs : List ℕ) (k : ℕ) (sum whole : Tally) → length cs ≤ k → IsCounting v left cs k sum whole → sum ≡ whole
+  pub counting_end : (left : ℕ) (cs : List ℕ) (k : ℕ) (sum whole : Tally) → length cs ≤ k
+      → IsCounting v left cs k sum whole → sum ≡ whole
   unfolding tallied
   counting_end left cs k sum whole h good = sym (ap (λ (ns : List ℕ). tallied v (flat_map (levels left) ns) sum) (drop_all cs k h)) ∙ good.rest
 
   pub room_none : (ns : List ℕ) → length ns < 18446744073709551616 → HasRoom none (length ns)
   room_none ns h = record { shapes = omega arith; instances = omega arith; faults = omega arith }
 
-  pub counting_all : length (all_nodes (forest_tree v)) < 18446744073709551616 → IsCounting v 257 (forest_tree v).roots 0 none (tallied v (all_nodes (forest_tree v)) none)
+  pub counting_all : length (all_nodes (forest_tree v)) < 18446744073709551616
+      → IsCounting v 257 (forest_tree v).roots 0 none (tallied v (all_nodes (forest_tree v)) none)
   unfolding all_nodes
   counting_all h = record { room = room_none (flat_map (levels 257) (forest_tree v).roots) h; rest = refl }

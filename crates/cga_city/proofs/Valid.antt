@@ -10,7 +10,7 @@ use Rattle.cga_check.specs.declared.usage.Use.TheVariants.{Child}
 use Rattle.cga_check.specs.Groups.{is_of, first_entry}
 use Rattle.cga_check.specs.Faults as grammars
 use Rattle.cga_check.specs.Validity.{IsMet, Takes}
-use Rattle.cga_check.proofs.Valid.{takes}
+use Rattle.cga_check.proofs.Door.{takes}
 use Rattle.cga_shape.specs.declared.lot.Lot.{Lot}
 use Rattle.cga_shape.specs.declared.sources.Sources.{Sources}
 use Rattle.cga_shape.specs.Root.{root_scope}
@@ -43,7 +43,8 @@ takes_none : (t : Bool) (n : ℕ) → t ≡ true → (t && nat_lt 0 n) ≡ false
 takes_none true n t h = grind (arith, nat_tests)
 takes_none false n t h = cc
 
-symbol_met : (g : Grammar) → grammars.IsValid g → (symbol : List ℕ) → is_plain g symbol ≡ true → IsMet g (Child symbol 0)
+symbol_met : (g : Grammar) → grammars.IsValid g → (symbol : List ℕ) → is_plain g symbol ≡ true
+    → IsMet g (Child symbol 0)
 unfolding first_entry
 symbol_met g valid symbol plain =
     let (has, plainly) = has_one (has_rule g symbol) (has_parameters g symbol) plain in

@@ -16,7 +16,7 @@ use Rattle.cga_check.specs.declared.usage.Use.TheVariants.{Answer, Child, Parts,
 use Rattle.cga_check.specs.Uses.{rule_uses, Uses, same_name}
 use Rattle.cga_check.specs.Groups.{is_of, first_entry}
 use Rattle.cga_check.specs.Faults.{each_after, is_attribute, attribute_faults, param_faults, use_faults, IsValid}
-use Rattle.cga_check.proofs.Clean.{none_left, none_right}
+use Rattle.cga_check.proofs.Door.{none_left, none_right}
 use Rattle.cga_city.specs.Grammars.{attribute_place, with_priority, prioritized}
 use Rattle.cga_city.proofs.Sorting.{decide}
 use Rattle.cga_city.proofs.Faultless.{weaker, nils, Apart, IsFine, Differ, faultless, valid_if}
@@ -28,12 +28,17 @@ module _ (symbol : List ℕ) (priority : ℕ) where
   pub same_rule : (e : Entry) → (with_priority symbol priority e).rule ≡ e.rule
   same_rule e = elim (decide (is_of symbol e)) [ inl t ↦ rw t refl | inr f ↦ rw f refl ]
 
-  step : (s : List ℕ) (x : Entry) (rest more : Option Entry) (b : Bool) → ((f : Entry) → rest ≡ Some f → (k : Entry) × (more ≡ Some k) × (length k.rule.params ≡ length f.rule.params))
-      → (f : Entry) → (if b then Some x else rest) ≡ Some f → (k : Entry) × ((if b then Some (with_priority symbol priority x) else more) ≡ Some k) × (length k.rule.params ≡ length f.rule.params)
+  step : (s : List ℕ) (x : Entry) (rest more : Option Entry) (b : Bool)
+      → ((f : Entry) → rest ≡ Some f → (k : Entry) × (more ≡ Some k) × (length k.rule.params ≡ length f.rule.params))
+      → (f : Entry) → (if b then Some x else rest) ≡ Some f
+      → (k : Entry) × ((if b then Some (with_priority symbol priority x) else more) ≡ Some k)
+        × (length k.rule.params ≡ length f.rule.params)
   step s x rest more true ih f h = let same : x ≡ f = cc in (with_priority symbol priority x, refl, rw (same_rule x, same) refl)
   step s x rest more false ih f h = ih f h
 
-  finds : (s : List ℕ) (xs : List Entry) (f : Entry) → find (is_of s) xs ≡ Some f → (k : Entry) × (find (is_of s) (prioritized symbol priority xs) ≡ Some k) × (length k.rule.params ≡ length f.rule.params)
+  finds : (s : List ℕ) (xs : List Entry) (f : Entry) → find (is_of s) xs ≡ Some f
+      → (k : Entry) × (find (is_of s) (prioritized symbol priority xs) ≡ Some k)
+        × (length k.rule.params ≡ length f.rule.params)
   finds s [] f h = cc
   finds s (x ∷ xs) f h = rw (same_rule x) (step s x (find (is_of s) xs) (find (is_of s) (prioritized symbol priority xs)) (is_of s x) (finds s xs) f h)
 
@@ -41,7 +46,8 @@ module _ (symbol : List ℕ) (priority : ℕ) where
   unfolding first_entry
   keeps rules s f h = finds s rules f h
 
-  same_priority : (e x : Entry) → x.rule.symbol ≡ e.rule.symbol → x.priority ≡ e.priority → (with_priority symbol priority x).priority ≡ (with_priority symbol priority e).priority
+  same_priority : (e x : Entry) → x.rule.symbol ≡ e.rule.symbol → x.priority ≡ e.priority
+      → (with_priority symbol priority x).priority ≡ (with_priority symbol priority e).priority
   same_priority e x named same = elim (decide (is_of symbol e)) [
     | inl t ↦ (let u : is_of symbol x ≡ true = rw named t in rw (t, u) refl)
     | inr f ↦ (let u : is_of symbol x ≡ false = rw named f in rw (f, u) same)
@@ -50,7 +56,8 @@ module _ (symbol : List ℕ) (priority : ℕ) where
   still_apart : (e x : Entry) → Apart e x → Apart (with_priority symbol priority e) (with_priority symbol priority x)
   still_apart e x h = rw (same_rule e, same_rule x) (h.0, λ s. (same_priority e x s (h.1 s).0, (h.1 s).1))
 
-  all_apart : (e : Entry) (xs : List Entry) → AllByRecursion (Apart e) xs → AllByRecursion (Apart (with_priority symbol priority e)) (prioritized symbol priority xs)
+  all_apart : (e : Entry) (xs : List Entry) → AllByRecursion (Apart e) xs
+      → AllByRecursion (Apart (with_priority symbol priority e)) (prioritized symbol priority xs)
   all_apart e [] h = tt
   all_apart e (x ∷ xs) h = (still_apart e x h.0, all_apart e xs h.1)
 
@@ -58,7 +65,8 @@ module _ (symbol : List ℕ) (priority : ℕ) where
   still_differ [] h = tt
   still_differ (x ∷ xs) h = (all_apart x xs h.0, still_differ xs h.1)
 
-  still_fine : (attributes : List Attribute) (rules xs : List Entry) → AllByRecursion (IsFine (of attributes rules)) xs → AllByRecursion (IsFine (of attributes (prioritized symbol priority rules))) (prioritized symbol priority xs)
+  still_fine : (attributes : List Attribute) (rules xs : List Entry) → AllByRecursion (IsFine (of attributes rules)) xs
+      → AllByRecursion (IsFine (of attributes (prioritized symbol priority rules))) (prioritized symbol priority xs)
   still_fine attributes rules [] h = tt
   still_fine attributes rules (x ∷ xs) h =
       (fine_kept attributes rules (prioritized symbol priority rules) (keeps rules) x (with_priority symbol priority x) (same_rule x) h.0, still_fine attributes rules xs h.1)
@@ -78,7 +86,8 @@ module _ (symbol : List ℕ) (priority : ℕ) where
 abbrev names : List Attribute → List (List ℕ)
 names attributes = map (λ (a : Attribute). a.name) attributes
 
-is_named : (name : List ℕ) (attributes : List Attribute) → is_attribute attributes name ≡ list_any (λ n. same_name n name) (names attributes)
+is_named : (name : List ℕ) (attributes : List Attribute)
+    → is_attribute attributes name ≡ list_any (λ n. same_name n name) (names attributes)
 is_named name [] = refl
 is_named name (a ∷ attributes) = ap (λ t. same_name a.name name || t) (is_named name attributes)
 
@@ -87,7 +96,8 @@ module _ (old new : List Attribute) (same : names old ≡ names new) where
   same_attribute name = is_named name new ∙ ap (λ ns. list_any (λ n. same_name n name) ns) (sym same) ∙ sym (is_named name old)
 
   module _ (rules : List Entry) where
-    params_kept : (id : ℕ) (before ps : List (List ℕ)) → each_after (param_faults (of old rules) id) before ps ≡ [] → each_after (param_faults (of new rules) id) before ps ≡ []
+    params_kept : (id : ℕ) (before ps : List (List ℕ)) → each_after (param_faults (of old rules) id) before ps ≡ []
+        → each_after (param_faults (of new rules) id) before ps ≡ []
     unfolding each_after
     params_kept id before [] h = refl
     params_kept id before (p ∷ ps) h =
@@ -99,7 +109,8 @@ module _ (old new : List Attribute) (same : names old ≡ names new) where
     use_valued r (Parts sizes bodies) h = h
     use_valued r (Named name) h = rw (same_attribute name) h
 
-    uses_valued : (r : Rule) (us : Uses) → flat_map (use_faults (of old rules) r) us ≡ [] → flat_map (use_faults (of new rules) r) us ≡ []
+    uses_valued : (r : Rule) (us : Uses) → flat_map (use_faults (of old rules) r) us ≡ []
+        → flat_map (use_faults (of new rules) r) us ≡ []
     uses_valued r [] h = refl
     uses_valued r (u ∷ us) h = nils _ _ (use_valued r u (none_left (use_faults (of old rules) r u) _ h)) (uses_valued r us (none_right (use_faults (of old rules) r u) _ h))
 
@@ -109,11 +120,13 @@ module _ (old new : List Attribute) (same : names old ≡ names new) where
       used = uses_valued e.rule (rule_uses e.rule) fine.used;
     }
 
-names_more : (xs ys : List Attribute) (o n : Attribute) → names xs ≡ names ys → o.name ≡ n.name → names (xs ++ o ∷ []) ≡ names (ys ++ n ∷ [])
+names_more : (xs ys : List Attribute) (o n : Attribute) → names xs ≡ names ys → o.name ≡ n.name
+    → names (xs ++ o ∷ []) ≡ names (ys ++ n ∷ [])
 names_more xs ys o n e one = map-append (λ (a : Attribute). a.name) xs (o ∷ []) ∙ ap₂ ◌++◌ e (ap (λ m. m ∷ []) one) ∙ sym (map-append (λ (a : Attribute). a.name) ys (n ∷ []))
 
 -- attributes are looked at by their names alone
-named_alike : (before later olds news : List Attribute) → names before ≡ names later → names olds ≡ names news → each_after attribute_faults before olds ≡ [] → each_after attribute_faults later news ≡ []
+named_alike : (before later olds news : List Attribute) → names before ≡ names later → names olds ≡ names news
+    → each_after attribute_faults before olds ≡ [] → each_after attribute_faults later news ≡ []
 unfolding each_after
 named_alike before later [] [] b s h = refl
 named_alike before later [] (n ∷ news) b s h = cc
@@ -124,7 +137,8 @@ named_alike before later (o ∷ olds) (n ∷ news) b s h =
     nils _ _ (rw (← one) (rw (same_attribute before later b o.name) (none_left (attribute_faults before o) _ h)))
     (named_alike (before ++ o ∷ []) (later ++ n ∷ []) olds news (names_more before later o n b one) rest (none_right (attribute_faults before o) _ h))
 
-pub valued_valid : (g : Grammar) (name : List ℕ) (value : Rat) (i : ℕ) → attribute_place name g.attributes ≡ Some i → IsValid g
+pub valued_valid : (g : Grammar) (name : List ℕ) (value : Rat) (i : ℕ) → attribute_place name g.attributes ≡ Some i
+    → IsValid g
     → IsValid (of (slice_set g.attributes i (record { name = name; value = value })) g.rules)
 valued_valid g name value i at valid =
     let f = faultless g valid in

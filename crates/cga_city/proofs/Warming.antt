@@ -3,21 +3,20 @@ use Rattle.std.proofs.Common.{◌≡◌, ◌↔◌, ℕ, ◌+◌, List, [], ◌�
 use Rattle.std.specs.Prelude.{cond}
 use Rattle.std.proofs.lemmas.List.Sums.{sum_by-cons}
 use Rattle.cga_order.specs.World.{Among, is_instance, shapes_where}
-use Rattle.cga_order.proofs.Members.{Among-shapes_where, Has-from_shapes_where}
-use Rattle.cga_order.proofs.Places.{slice_get-map}
+use Rattle.cga_agenda.proofs.Door.{Has-Among}
+use Rattle.cga_derivation.proofs.Door.{apart-reached}
+use Rattle.cga_expand.proofs.Door.{sources_are_derivations}
+use Rattle.cga_fraction.proofs.Door.{false_from_not as not_false}
+use Rattle.cga_order.proofs.Door.{Among-shapes_where, Has-from_shapes_where, Once-index, length-once, slice_get-map}
 use Rattle.cga_shape.specs.declared.changes.Changes.{Changes}
 use Rattle.cga_shape.specs.declared.shape.Shape.{Shape}
 use Rattle.cga_shape.specs.declared.sources.Sources.{Sources}
 use Rattle.cga_derivation.specs.Derivation.{place_of, reached}
-use Rattle.cga_derivation.proofs.Apart.{apart-reached}
 use Rattle.cga_agenda.specs.Known.{shapes_of}
 use Rattle.cga_order.specs.Once.{Once}
-use Rattle.cga_order.proofs.Once.{Once-index, length-once}
-use Rattle.cga_agenda.proofs.Lists.{Has-Among}
 use Rattle.cga_expand.specs.Children.{Member}
 use Rattle.cga_expand.specs.Derivation.{derivation_of}
 use Rattle.cga_expand.specs.Touched.{Kept, NonInstance, Touched}
-use Rattle.cga_expand.proofs.Instance.{sources_are_derivations}
 use Rattle.cga_update.specs.Updates.{CountsTouched, IsExact, with_no_lots}
 use Rattle.cga_city.specs.City.{IsWarmed, empty_in}
 use Rattle.cga_city.specs.Derived.{members}
@@ -36,14 +35,11 @@ expanding_length : (list : List Member) → length (expanding list) ≡ expanded
 expanding_length [] = omega arith
 expanding_length (m ∷ ms) = by (not (is_instance m.kind)) (sum_by-cons (λ (x : Member). cond (not (is_instance x.kind)) 1 0) m ms) (expanding_length ms)
   where
-    by : (t : Bool) → expanded_count (m ∷ ms) ≡ cond t 1 0 + expanded_count ms → length (expanding ms) ≡ expanded_count ms
+    by : (t : Bool) → expanded_count (m ∷ ms) ≡ cond t 1 0 + expanded_count ms
+        → length (expanding ms) ≡ expanded_count ms
         → length (cond t (m.shape ∷ expanding ms) (expanding ms)) ≡ expanded_count (m ∷ ms)
     by true e rest = omega (arith, e, rest)
     by false e rest = omega (arith, e, rest)
-
-not_false : (t : Bool) → not t ≡ true → t ≡ false
-not_false true h = sym h
-not_false false h = refl
 
 expanding_is : (list : List Member) (s : Shape) → Among s (expanding list) ↔ NonInstance list s
 expanding_is list s = (
@@ -76,10 +72,12 @@ all_touched : (old new : Sources) (after : List Member) (s : Shape) → NonInsta
 all_touched old new after s is = (is, inl (none_kept old new after s))
 
 -- where nothing was there before, it doesn't matter of which sources
-counts_from : (a b s : Sources) (after : List Member) (n : ℕ) → CountsTouched a s [] after n → CountsTouched b s [] after n
+counts_from : (a b s : Sources) (after : List Member) (n : ℕ) → CountsTouched a s [] after n
+    → CountsTouched b s [] after n
 counts_from a b s after n c = (c.0, c.1, (λ x. ((λ h. all_touched b s after x ((c.2 x).0 h).0), λ t. (c.2 x).1 (all_touched a s after x t.0))), c.3)
 
-counts_expanding : (old s : Sources) (after : List Member) (n : ℕ) → Once (shapes_of after) → CountsTouched old s [] after n → n ≡ expanded_count after
+counts_expanding : (old s : Sources) (after : List Member) (n : ℕ) → Once (shapes_of after)
+    → CountsTouched old s [] after n → n ≡ expanded_count after
 counts_expanding old s after n once c =
     let fewer = length-once c.0 (expanding after) c.1 (λ x h. (expanding_is after x).1 ((c.2 x).0 h).0) in
     let more = length-once (expanding after) c.0 (expanding_once after once) (λ x h. (c.2 x).1 (all_touched old s after x ((expanding_is after x).0 h))) in
@@ -88,7 +86,8 @@ counts_expanding old s after n once c =
 -- ---- a city
 
 -- what an update from nothing counted is what the city expands
-pub warmed : (s : Sources) (budget n x y k : ℕ) (warm : Bool) (old changes : Changes) → AreSound s → IsExact (empty_in s.mode) s budget n changes → y ≡ x + n
+pub warmed : (s : Sources) (budget n x y k : ℕ) (warm : Bool) (old changes : Changes) → AreSound s
+    → IsExact (empty_in s.mode) s budget n changes → y ≡ x + n
     → IsWarmed (record { sources = s; budget = budget; warm = warm; expanded = k; changes = old }) x y
 warmed s budget n x y k warm old changes sound exact spent =
     let fits = is_derived budget s (Some exact.1) exact.3 in

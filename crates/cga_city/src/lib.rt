@@ -1,8 +1,9 @@
 //! A city: sources that edits change, and what they come to.
 //!
-//! It must not know how shapes come about, nor how scripts and reports are written: its contract speaks of sources,
-//! edits and their derivation alone. What callers get wrong: an edit that is refused leaves the city as it was, but one
-//! that finds no memory may leave it cold, and then no report may be asked for.
+//! It must not know lines, texts or how shapes are derived.
+//!
+//! What callers get wrong: an edit that is refused leaves the city as it was, but one that finds no memory may leave it
+//! cold, and then no report may be asked for.
 #![tactic(auto)]
 
 mod city;

@@ -1,6 +1,9 @@
-// Components of a scope: its faces, edges and vertices, as scopes. It knows nothing of symbols, rules or solids. The
-// one thing that callers get wrong: a scope that is flat along one axis has edges and vertices, but no faces; edges
-// are then numbered anew, from 1 to 4.
+//! Components of a scope: its faces, edges and vertices, as scopes.
+//!
+//! It must not know symbols, rules or solids.
+//!
+//! What callers get wrong: a scope that is flat along one axis has edges and vertices, but no faces; edges are then
+//! numbered anew, from 1 to 4.
 #![tactic(auto)]
 
 mod flat_scope;

@@ -1,4 +1,3 @@
-mod Mentioned
 mod Names
 mod Places
 mod Removed

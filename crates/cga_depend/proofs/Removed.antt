@@ -6,7 +6,8 @@ use Rattle.std.specs.List.Sorted.{IsPermutation}
 use Rattle.std.proofs.lemmas.List.Sorted.{IsPermutation-swap_remove}
 use Rattle.std.proofs.lemmas.List.Quantifiers.{position-Some}
 
-pub one_less : (keys xs ys : List ℕ) (i n x : ℕ) → keys ≡ xs → position (nat_eq n) keys ≡ Some i → x ≡ get_or xs i x → ys ≡ holes.swap_remove xs i x → IsPermutation xs (n ∷ ys)
+pub one_less : (keys xs ys : List ℕ) (i n x : ℕ) → keys ≡ xs → position (nat_eq n) keys ≡ Some i → x ≡ get_or xs i x
+    → ys ≡ holes.swap_remove xs i x → IsPermutation xs (n ∷ ys)
 one_less keys xs ys i n x same at is made =
     let found : position (nat_eq n) xs ≡ Some i = subst (λ l. position (nat_eq n) l ≡ Some i) same at in
     let p = position-Some (nat_eq n) xs i x found in

@@ -1,13 +1,12 @@
--- The nodes of each symbol, and the symbols that mention each attribute.
+-- The nodes of each symbol.
 use Rattle.std.specs.Prelude.{ℕ, List, [], ◌∷◌, ◌++◌, nat_eq, unwrap_or, if◌then◌else◌}
 use Rattle.std.specs.List.{list_any}
 use Rattle.std.specs.Map.{lookup}
 use Rattle.cga_check.specs.Uses.{same_name}
 
--- for each symbol its nodes, and for each attribute the symbols whose groups mention it
+-- for each symbol its nodes
 pub record DependentsView : Type 0 where
   pub nodes : List (List ℕ × List ℕ)
-  pub mentions : List (List ℕ × List (List ℕ))
 
 -- what stands under a name
 abbrev pub under : {X : Type 0} → List (List ℕ × List X) → List ℕ → List X
@@ -15,9 +14,6 @@ under entries name = unwrap_or (lookup (same_name name) entries) []
 
 abbrev pub nodes_in : DependentsView → List ℕ → List ℕ
 nodes_in v symbol = under v.nodes symbol
-
-abbrev pub symbols_in : DependentsView → List ℕ → List (List ℕ)
-symbols_in v attribute = under v.mentions attribute
 
 -- the nodes with one more, where it isn't there
 abbrev pub with_node : List ℕ → ℕ → List ℕ

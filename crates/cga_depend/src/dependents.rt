@@ -3,24 +3,20 @@ ghost use Rattle.std.specs.List.{list_any, IsDistinct};
 ghost use Rattle.std.specs.List.Sorted.{IsPermutation};
 ghost use Rattle.std.specs.Map.{lookup};
 ghost use Rattle.cga_check.specs.Uses.{same_name};
-ghost use Rattle.cga_depend.specs.Mentions.{mentioning};
-ghost use Rattle.cga_depend.specs.Pairs.{nodes_in, symbols_in, under, with_node};
+ghost use Rattle.cga_depend.specs.Pairs.{nodes_in, under, with_node};
 
-use crate::mentions::mentions_of;
 use crate::nodes::Nodes;
-use cga_fraction::{List, NoMemory};
+use cga_fraction::NoMemory;
 use cga_index::NodeId;
-use cga_rule::Grammar;
 use cga_word::Name;
 use indexmap::IndexMap;
 use std::alloc::Global;
 use std::marker::Model;
 
-/// Pairs of a symbol and a node of it, and for each attribute the symbols that mention it.
+/// Pairs of a symbol and a node of it.
 #[derive(Drop)]
 pub struct Dependents {
     nodes: IndexMap<Name, Nodes>,
-    mentions: IndexMap<Name, List<Name>>,
     alloc: Global,
 }
 
@@ -29,17 +25,16 @@ impl Model for Dependents {
 
     ghost Value = { DependentsView };
 
-    ghost view = { λ d. record { nodes = d.nodes.entries; mentions = d.mentions.entries } };
+    ghost view = { λ d. record { nodes = d.nodes.entries } };
 }
 
 impl Dependents {
     /// Takes no memory.
     pub fn new(alloc: Global) -> Dependents
-        ensures { result ≡ record { nodes = []; mentions = [] } }
+        ensures { result ≡ record { nodes = [] } }
     {
         Dependents {
             nodes: IndexMap::new(alloc),
-            mentions: IndexMap::new(alloc),
             alloc,
         }
     }
@@ -47,7 +42,6 @@ impl Dependents {
     /// Adds a pair, where it isn't there. Takes memory.
     pub fn add(&mut self, symbol: Name, node: NodeId) -> Result<(), NoMemory>
         ensures nodes { OnOk result ((s : List ℕ) → nodes_in self.new s ≡ (if same_name symbol s then with_node (nodes_in self.old s) node else nodes_in self.old s)) }
-        ensures mentions { self.new.mentions ≡ self.old.mentions }
         ensures err { OnErr result (self.new ≡ self.old) }
     {
         add_pair(self.alloc, &mut self.nodes, symbol, node)
@@ -59,20 +53,8 @@ impl Dependents {
         ensures gone { result ≡ true → IsPermutation (nodes_in self.old symbol) (node ∷ nodes_in self.new symbol) }
         ensures others { (s : List ℕ) → same_name symbol s ≡ false → nodes_in self.new s ≡ nodes_in self.old s }
         ensures same { result ≡ false → self.new ≡ self.old }
-        ensures mentions { self.new.mentions ≡ self.old.mentions }
     {
         take_out(&mut self.nodes, symbol, node)
-    }
-
-    /// Makes the mentions those of a grammar. Takes memory; the time goes by the attributes times the symbols times the
-    /// rules.
-    pub fn set_mentions(&mut self, grammar: &Grammar) -> Result<(), NoMemory>
-        ensures mentions { OnOk result ((a : List ℕ) → symbols_in self.new a ≡ mentioning grammar.now a) }
-        ensures nodes { self.new.nodes ≡ self.old.nodes }
-        ensures err { OnErr result (self.new ≡ self.old) }
-    {
-        self.mentions = mentions_of(self.alloc, grammar)?;
-        Ok(())
     }
 
     /// The nodes of a symbol, each once, in any order.
@@ -82,16 +64,6 @@ impl Dependents {
     {
         match self.nodes.get(&symbol) {
             Some(nodes) => nodes.as_slice(),
-            None => &[],
-        }
-    }
-
-    /// The symbols whose groups mention an attribute, in the order of their first rules.
-    pub fn symbols_of(&self, attribute: Name) -> &[Name]
-        ensures { result.now ≡ symbols_in self.now attribute }
-    {
-        match self.mentions.get(&attribute) {
-            Some(symbols) => symbols.as_slice(),
             None => &[],
         }
     }

@@ -1,10 +1,12 @@
-//! Which shapes an edit of a rule or of an attribute reaches: the nodes of each symbol, and the symbols whose rules mention
-//! an attribute. It must not know where a node stands or what a rule does. The one thing that callers get wrong: the pairs
-//! and the mentions are independent. A grammar set anew leaves the pairs, and a symbol without nodes is listed all the same.
+//! Which shapes an edit of a rule or of an attribute reaches: the nodes of each symbol.
+//!
+//! It must not know where a node stands or what a rule does.
+//!
+//! What callers get wrong: a node is listed under the symbol that it was added with. Nothing looks at the node, so a
+//! caller takes it out by the same symbol.
 #![tactic(auto)]
 
 mod dependents;
-mod mentions;
 mod nodes;
 
 pub use dependents::Dependents;

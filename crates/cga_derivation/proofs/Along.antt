@@ -9,27 +9,17 @@ use Rattle.cga_order.specs.declared.placed.Kind.{Kind}
 use Rattle.cga_order.specs.declared.placed.Kind.TheVariants.{Waiting, Done, Faulted}
 use Rattle.cga_order.specs.World.{Has, shapes_where, is_waiting}
 use Rattle.cga_order.specs.Run as run
-use Rattle.cga_order.proofs.Maxima.{either}
-use Rattle.cga_order.proofs.Members.{waits}
+use Rattle.cga_order.proofs.Door.{waits}
+use Rattle.std.proofs.lemmas.Bool.{cases_Bool as either}
 use Rattle.cga_derivation.specs.Derivation.{Derivation, rank_of, same_place, is_next, next_of, become, told, asked, outcome, step_by, step, reached, first_of}
 use Rattle.cga_derivation.specs.Sites.{Site, erased, erase, sited, all_sited, chain_of, world_of, next_site, step_sites_by, sites, taken_by, taken}
 use Rattle.cga_derivation.proofs.Sites.{rank-site}
-
-pub both : (a b : Bool) → (a && b) ≡ true → (a ≡ true) × (b ≡ true)
-both true b e = (refl, e)
-both false b e = let x : false ≡ true = e in cc
-
-pub length-map : {X Y : Type 0} (f : X → Y) (xs : List X) → length (map f xs) ≡ length xs
-length-map f [] = refl
-length-map f (x ∷ xs) = let e = length-map f xs in omega (arith, e)
+pub use Rattle.std.proofs.lemmas.Bool.{and_parts as both}
+pub use Rattle.cga_fraction.proofs.Door.{length-map, map-append}
 
 pub map-map : {X Y Z : Type 0} (f : Y → Z) (g : X → Y) (xs : List X) → map f (map g xs) ≡ map (λ x. f (g x)) xs
 map-map f g [] = refl
 map-map f g (x ∷ xs) = ap (λ l. f (g x) ∷ l) (map-map f g xs)
-
-pub map-append : {X Y : Type 0} (f : X → Y) (xs ys : List X) → map f (xs ++ ys) ≡ map f xs ++ map f ys
-map-append f [] ys = refl
-map-append f (x ∷ xs) ys = ap (λ l. f x ∷ l) (map-append f xs ys)
 
 -- what the first that passes says
 module _ {X : Type 0} where
@@ -48,14 +38,16 @@ module _ {X Y : Type 0} where
   option_of f None = None
   option_of f (Some x) = Some (f x)
 
-  first_of-map : (f : X → Y) (p : Y → Bool) (xs : List X) → first_of p (map f xs) ≡ option_of f (first_of (λ x. p (f x)) xs)
+  first_of-map : (f : X → Y) (p : Y → Bool) (xs : List X)
+      → first_of p (map f xs) ≡ option_of f (first_of (λ x. p (f x)) xs)
   first_of-map f p [] = refl
   first_of-map f p (x ∷ xs) = elim (p (f x)) as (λ b. cond b (Some (f x)) (first_of p (map f xs)) ≡ option_of f (cond b (Some x) (first_of (λ z. p (f z)) xs))) [
     | true ↦ refl
     | false ↦ first_of-map f p xs
   ]
 
-pub list_all-at : {N F P : Type 0} (p : Placed N F P → Bool) (xs : List (Placed N F P)) (n : N) (k : Kind F P) → list_all p xs ≡ true → Has xs n k → p (record { shape = n; kind = k }) ≡ true
+pub list_all-at : {N F P : Type 0} (p : Placed N F P → Bool) (xs : List (Placed N F P)) (n : N) (k : Kind F P)
+    → list_all p xs ≡ true → Has xs n k → p (record { shape = n; kind = k }) ≡ true
 list_all-at p [] n k e h = absurd h
 list_all-at p (x ∷ xs) n k e h =
     let parts = both _ _ e in
@@ -64,7 +56,8 @@ list_all-at p (x ∷ xs) n k e h =
       | inr r ↦ list_all-at p xs n k parts.1 r
     ]
 
-pub first_of-Has : {N F P : Type 0} (p : Placed N F P → Bool) (xs : List (Placed N F P)) (x : Placed N F P) → first_of p xs ≡ Some x → Has xs x.shape x.kind
+pub first_of-Has : {N F P : Type 0} (p : Placed N F P → Bool) (xs : List (Placed N F P)) (x : Placed N F P)
+    → first_of p xs ≡ Some x → Has xs x.shape x.kind
 first_of-Has p [] x e = let f : ◌≡◌ {A = Option (Placed _ _ _)} None (Some x) = e in cc
 first_of-Has p (y ∷ xs) x e = elim (either (p y)) [
   | inl t ↦
@@ -82,7 +75,8 @@ module _ {N F P : Type 0} where
     | inr r ↦ inr (Has-erase xs s k r)
   ]
 
-  shapes-erase : (test : Kind F P → Bool) (xs : List (Placed (Site N) F P)) → map (λ m. m.shape) (shapes_where (λ n k. test k) xs) ≡ shapes_where (λ n k. test k) (erase xs)
+  shapes-erase : (test : Kind F P → Bool) (xs : List (Placed (Site N) F P))
+      → map (λ m. m.shape) (shapes_where (λ n k. test k) xs) ≡ shapes_where (λ n k. test k) (erase xs)
   shapes-erase test [] = refl
   shapes-erase test (x ∷ xs) = elim (test x.kind) as (λ b. map (λ m. m.shape) (cond b (x.shape ∷ shapes_where (λ n k. test k) xs) (shapes_where (λ n k. test k) xs)) ≡ cond b (x.shape.shape ∷ shapes_where (λ n k. test k) (erase xs)) (shapes_where (λ n k. test k) (erase xs))) [
     | true ↦ ap (λ l. x.shape.shape ∷ l) (shapes-erase test xs)
@@ -94,35 +88,48 @@ module _ {N F P : Type 0} where
   erase-sited ps (c ∷ cs) = ap (λ l. c ∷ l) (erase-sited ps cs)
 
 module _ {N A F P : Type 0} (derivation : Derivation N A F P) where
-  erase-become : (s : Site N) (k : Kind F P) (m : Placed (Site N) F P) → erased (run.become (world_of derivation) s k m) ≡ become derivation s.shape k (erased m)
+  erase-become : (s : Site N) (k : Kind F P) (m : Placed (Site N) F P)
+      → erased (run.become (world_of derivation) s k m) ≡ become derivation s.shape k (erased m)
   erase-become s k m = elim (same_place derivation m.shape.shape s.shape) as (λ b. erased (cond b (record { shape = m.shape; kind = k }) m) ≡ cond b (record { shape = m.shape.shape; kind = k }) (erased m)) [ true ↦ refl | false ↦ refl ]
 
-  pub erase-becomes : (s : Site N) (k : Kind F P) (xs : List (Placed (Site N) F P)) → erase (map (run.become (world_of derivation) s k) xs) ≡ map (become derivation s.shape k) (erase xs)
+  pub erase-becomes : (s : Site N) (k : Kind F P) (xs : List (Placed (Site N) F P))
+      → erase (map (run.become (world_of derivation) s k) xs) ≡ map (become derivation s.shape k) (erase xs)
   erase-becomes s k [] = refl
   erase-becomes s k (x ∷ xs) = λ i. erase-become s k x i ∷ erase-becomes s k xs i
 
-  erase-told : (C : List (Placed (Site N) F P)) (s : Site N) (r : Result (List (Placed N F P)) F) → erase (run.told (world_of derivation) C s (all_sited (chain_of derivation s).priorities r)) ≡ told derivation (erase C) s.shape r
+  erase-told : (C : List (Placed (Site N) F P)) (s : Site N) (r : Result (List (Placed N F P)) F)
+      → erase (run.told (world_of derivation) C s (all_sited (chain_of derivation s).priorities r)) ≡ told derivation
+        (erase C) s.shape r
   erase-told C s (Ok cs) =
       let ps = (chain_of derivation s).priorities in
       map-append erased (map (run.become (world_of derivation) s Done) C) (map (sited ps) cs) ∙ (λ i. erase-becomes s Done C i ++ erase-sited ps cs i)
   erase-told C s (Err f) = erase-becomes s (Faulted f) C
 
-  pub asked-erase : (C : List (Placed (Site N) F P)) (s : Site N) → (world_of derivation).answers s (shapes_where (λ n k. true) C) (shapes_where (λ n k. is_waiting k) C) ≡ asked derivation (erase C) s.shape
+  pub asked-erase : (C : List (Placed (Site N) F P)) (s : Site N)
+      → (world_of derivation).answers s (shapes_where (λ n k. true) C) (shapes_where (λ n k. is_waiting k) C) ≡ asked
+        derivation (erase C) s.shape
   asked-erase C s = λ i. derivation.answers s.shape (shapes-erase (λ k. true) C i) (shapes-erase is_waiting C i)
 
   -- a step over sites, without the priorities of the ancestors, is a step of the derivation
-  pub erase-step : (C : List (Placed (Site N) F P)) (s : Site N) → erase (run.told (world_of derivation) C s (run.outcome (world_of derivation) C s)) ≡ told derivation (erase C) s.shape (outcome derivation (erase C) s.shape)
+  pub erase-step : (C : List (Placed (Site N) F P)) (s : Site N)
+      → erase (run.told (world_of derivation) C s (run.outcome (world_of derivation) C s)) ≡ told derivation (erase C)
+        s.shape (outcome derivation (erase C) s.shape)
   erase-step C s =
       ap (λ a. erase (run.told (world_of derivation) C s (all_sited (chain_of derivation s).priorities (derivation.expand s.shape a)))) (asked-erase C s) ∙ erase-told C s (outcome derivation (erase C) s.shape)
 
-  step-along : (C : List (Placed (Site N) F P)) (o : Option (Placed (Site N) F P)) → erase (step_sites_by derivation C o) ≡ step_by derivation (erase C) (option_of erased o)
+  step-along : (C : List (Placed (Site N) F P)) (o : Option (Placed (Site N) F P))
+      → erase (step_sites_by derivation C o) ≡ step_by derivation (erase C) (option_of erased o)
   step-along C None = refl
   step-along C (Some m) = erase-step C m.shape
 
-  pub next-along : (C : List (Placed (Site N) F P)) → next_of derivation (erase C) ≡ option_of erased (next_site derivation C)
+  pub next-along : (C : List (Placed (Site N) F P))
+      → next_of derivation (erase C) ≡ option_of erased (next_site derivation C)
   next-along C = first_of-map erased (is_next derivation (erase C)) C
 
-  start-along : (ns : List N) → erase {N = N} {F = F} {P = P} (map (λ n. record { shape = n; kind = Waiting }) (map (λ n. record { shape = n; above = [] }) ns)) ≡ map (λ n. record { shape = n; kind = Waiting }) ns
+  start-along : (ns : List N)
+      → erase {N = N} {F = F} {P = P}
+        (map (λ n. record { shape = n; kind = Waiting }) (map (λ n. record { shape = n; above = [] }) ns)) ≡ map
+        (λ n. record { shape = n; kind = Waiting }) ns
   start-along [] = refl
   start-along (n ∷ ns) = ap (λ l. record { shape = n; kind = Waiting } ∷ l) (start-along ns)
 
@@ -133,7 +140,9 @@ module _ {N A F P : Type 0} (derivation : Derivation N A F P) where
       step-along (sites derivation n) (next_site derivation (sites derivation n)) ∙ (ap (step_by derivation (erase (sites derivation n))) (sym (next-along (sites derivation n))) ∙ ap (λ l. step_by derivation l (next_of derivation l)) (erase-sites n))
 
   -- the next site waits, and no rank of one that waits is smaller
-  pub IsStep-next : (C : List (Placed (Site N) F P)) (m : Placed (Site N) F P) → next_site derivation C ≡ Some m → run.IsStep (world_of derivation) C (run.told (world_of derivation) C m.shape (run.outcome (world_of derivation) C m.shape)) m.shape
+  pub IsStep-next : (C : List (Placed (Site N) F P)) (m : Placed (Site N) F P) → next_site derivation C ≡ Some m
+      → run.IsStep (world_of derivation) C
+        (run.told (world_of derivation) C m.shape (run.outcome (world_of derivation) C m.shape)) m.shape
   IsStep-next C m e =
       let passes = both _ _ (first_of-passes (λ x. is_next derivation (erase C) (erased x)) C m e) in
       record {
@@ -148,7 +157,10 @@ module _ {N A F P : Type 0} (derivation : Derivation N A F P) where
         told = refl;
       }
 
-  reached-by : (n : ℕ) (o : Option (Placed (Site N) F P)) → next_site derivation (sites derivation n) ≡ o → run.Reached (world_of derivation) (taken derivation n) (sites derivation n) → run.Reached (world_of derivation) (taken_by derivation o (taken derivation n)) (step_sites_by derivation (sites derivation n) o)
+  reached-by : (n : ℕ) (o : Option (Placed (Site N) F P)) → next_site derivation (sites derivation n) ≡ o
+      → run.Reached (world_of derivation) (taken derivation n) (sites derivation n)
+      → run.Reached (world_of derivation) (taken_by derivation o (taken derivation n))
+        (step_sites_by derivation (sites derivation n) o)
   reached-by n None e r = r
   reached-by n (Some m) e r = (sites derivation n, r, IsStep-next (sites derivation n) m e)
 

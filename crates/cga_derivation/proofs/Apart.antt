@@ -6,10 +6,8 @@ use Rattle.cga_order.specs.declared.placed.Kind.{Kind}
 use Rattle.cga_order.specs.declared.placed.Kind.TheVariants.{Waiting, Done}
 use Rattle.cga_order.specs.World.{Has}
 use Rattle.cga_order.specs.Run as run
-use Rattle.cga_order.proofs.Steps as steps
-use Rattle.cga_order.proofs.Places as places
-use Rattle.cga_order.proofs.Places.{slice_get-map}
-use Rattle.cga_order.proofs.Chains.{snoc-same}
+use Rattle.cga_order.proofs.Door as steps
+use Rattle.cga_order.proofs.Door.{slice_get-map, snoc-same}
 use Rattle.cga_derivation.specs.Derivation.{Derivation, IsDerivation, place_of, reached, AllApart}
 use Rattle.cga_derivation.specs.Sites.{Site, erased, erase, chain_of, world_of, next_site, step_sites_by, sites, taken, SitesApart}
 use Rattle.cga_derivation.proofs.Sites.{world}
@@ -30,12 +28,16 @@ module _ {N A F P : Type 0} (derivation : Derivation N A F P) where
         let shape-n : d.0 ≡ n.shape.shape = ap (λ (s : Site N). s.shape) d.2 ∙ ap (λ (x : Placed (Site N) F P). x.shape.shape) b.2 in
         laws.roots_apart i j c.0 d.0 c.1 d.1 (ap (place_of derivation) shape-m ∙ (same ∙ sym (ap (place_of derivation) shape-n)))
 
-    child-Has : (C : Members) (s : Site N) (i : ℕ) (m : Placed (Site N) F P) → slice_get C i ≡ Some m → Has C m.shape m.kind
-    child-Has C s i m e = places.slice_get-Has (world_of derivation) (world derivation laws) C i m e
+    child-Has : (C : Members) (s : Site N) (i : ℕ) (m : Placed (Site N) F P) → slice_get C i ≡ Some m
+        → Has C m.shape m.kind
+    child-Has C s i m e = steps.slice_get-Has (world_of derivation) (world derivation laws) C i m e
 
     module _ (C D : Members) (s : Site N) (good : steps.IsOrdered (world_of derivation) C) (step : run.IsStep (world_of derivation) C D s) where
       -- a child of s does not stand where a member stood
-      no_child : (m : Site N) (k : Kind F P) (n : Site N) (i : ℕ) → Has C m k → (chain_of derivation n).lot ≡ (chain_of derivation s).lot → (chain_of derivation n).path ≡ (chain_of derivation s).path ++ i ∷ [] → place_of derivation n.shape ≡ place_of derivation m.shape → ⊥
+      no_child : (m : Site N) (k : Kind F P) (n : Site N) (i : ℕ) → Has C m k
+          → (chain_of derivation n).lot ≡ (chain_of derivation s).lot
+          → (chain_of derivation n).path ≡ (chain_of derivation s).path ++ i ∷ []
+          → place_of derivation n.shape ≡ place_of derivation m.shape → ⊥
       no_child m k n i h lot path same =
           let at : derivation.path m.shape ≡ derivation.path s.shape ++ i ∷ [] = ap (λ p. p.1) (sym same) ∙ path in
           elim (good.under m k h) [
@@ -51,8 +53,8 @@ module _ {N A F P : Type 0} (derivation : Derivation N A F P) where
 
       apart-next : SitesApart derivation C → SitesApart derivation D
       apart-next apart i j m n e f same =
-          elim (places.came_from (world_of derivation) (world derivation laws) C D s good step i m e) [
-            | inl a ↦ elim (places.came_from (world_of derivation) (world derivation laws) C D s good step j n f) [
+          elim (steps.came_from (world_of derivation) (world derivation laws) C D s good step i m e) [
+            | inl a ↦ elim (steps.came_from (world_of derivation) (world derivation laws) C D s good step j n f) [
               | inl b ↦
                   let p : place_of derivation a.1.0.shape.shape ≡ place_of derivation m.shape.shape = ap (λ (x : Site N). place_of derivation x.shape) a.1.2 in
                   let q : place_of derivation b.1.0.shape.shape ≡ place_of derivation n.shape.shape = ap (λ (x : Site N). place_of derivation x.shape) b.1.2 in
@@ -60,7 +62,7 @@ module _ {N A F P : Type 0} (derivation : Derivation N A F P) where
               | inr b ↦
                   absurd (no_child a.1.0.shape a.1.0.kind n.shape b.0 (child-Has C s i a.1.0 a.1.1) b.2.lot b.2.path (sym same ∙ sym (ap (λ (x : Site N). place_of derivation x.shape) a.1.2)))
             ]
-            | inr a ↦ elim (places.came_from (world_of derivation) (world derivation laws) C D s good step j n f) [
+            | inr a ↦ elim (steps.came_from (world_of derivation) (world derivation laws) C D s good step j n f) [
               | inl b ↦
                   absurd (no_child b.1.0.shape b.1.0.kind m.shape a.0 (child-Has C s j b.1.0 b.1.1) a.2.lot a.2.path (same ∙ sym (ap (λ (x : Site N). place_of derivation x.shape) b.1.2)))
               | inr b ↦
@@ -69,7 +71,9 @@ module _ {N A F P : Type 0} (derivation : Derivation N A F P) where
             ]
           ]
 
-    apart-by : (n : ℕ) (o : Option (Placed (Site N) F P)) → next_site derivation (sites derivation n) ≡ o → SitesApart derivation (sites derivation n) → SitesApart derivation (step_sites_by derivation (sites derivation n) o)
+    apart-by : (n : ℕ) (o : Option (Placed (Site N) F P)) → next_site derivation (sites derivation n) ≡ o
+        → SitesApart derivation (sites derivation n)
+        → SitesApart derivation (step_sites_by derivation (sites derivation n) o)
     apart-by n None e apart = apart
     apart-by n (Some m) e apart =
         apart-next (sites derivation n) _ m.shape (steps.in_order (world_of derivation) (world derivation laws) (taken derivation n) (sites derivation n) (reached-sites derivation n)) (IsStep-next derivation (sites derivation n) m e) apart

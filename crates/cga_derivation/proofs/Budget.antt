@@ -1,12 +1,14 @@
 -- How many members there are after so many steps.
-use Rattle.std.proofs.Common.{◌≡◌, ℕ, zero, suc, ◌+◌, ◌-◌, ◌<◌, ◌≤◌, List, [], ◌∷◌, length, map, Bool, true, false, cond, refl, sym, ap, ◌∙◌, subst, inl, inr, Result, Ok, Err, Option, Some, None, arith, length-append}
+use Rattle.std.proofs.Common.{◌≡◌, ℕ, zero, suc, ◌+◌, ◌-◌, ◌<◌, ◌≤◌, List, [], ◌∷◌, length, map, Bool, true, false}
+use Rattle.std.proofs.Common.{cond, refl, sym, ap, ◌∙◌, subst, inl, inr, Result, Ok, Err, Option, Some, None, arith}
+use Rattle.std.proofs.Common.{length-append}
 use Rattle.std.specs.Prelude.{nat_lt}
 use Rattle.std.proofs.lemmas.Bool.Decides.{nat_tests}
 use Rattle.cga_order.specs.declared.placed.Placed.{Placed}
 use Rattle.cga_order.specs.declared.placed.Kind.{Kind}
 use Rattle.cga_order.specs.declared.placed.Kind.TheVariants.{Waiting, Done, Faulted, Instance}
 use Rattle.cga_order.specs.World.{Has}
-use Rattle.cga_order.proofs.Maxima.{either}
+use Rattle.std.proofs.lemmas.Bool.{cases_Bool as either}
 use Rattle.cga_derivation.specs.Derivation.{Derivation, is_next, next_of, become, told, outcome, step_by, step, reached, derive, first_of, NothingWaits}
 use Rattle.cga_derivation.proofs.Along.{length-map}
 
@@ -41,7 +43,8 @@ module _ {N A F P : Type 0} (derivation : Derivation N A F P) where
       let rest = reached-longer n k in
       subst (λ j. length (reached derivation n) ≤ length (reached derivation j)) (sym e) (omega (arith, more, rest))
 
-  none_next : (p : Placed N F P → Bool) (list : Members) → ((n : N) (k : Kind F P) → Has list n k → p (record { shape = n; kind = k }) ≡ false) → first_of p list ≡ None
+  none_next : (p : Placed N F P → Bool) (list : Members)
+      → ((n : N) (k : Kind F P) → Has list n k → p (record { shape = n; kind = k }) ≡ false) → first_of p list ≡ None
   none_next p [] h = refl
   none_next p (x ∷ xs) h = ap (λ b. cond b (Some x) (first_of p xs)) (h x.shape x.kind (inl (refl, refl))) ∙ none_next p xs (λ n k g. h n k (inr g))
 
@@ -59,7 +62,8 @@ module _ {N A F P : Type 0} (derivation : Derivation N A F P) where
   settled-step list settled = ap (step_by derivation list) (settled-next list settled)
 
   -- where nothing waits no step changes the list
-  pub settled-reached : (n k : ℕ) → NothingWaits derivation (reached derivation n) → reached derivation (k + n) ≡ reached derivation n
+  pub settled-reached : (n k : ℕ) → NothingWaits derivation (reached derivation n)
+      → reached derivation (k + n) ≡ reached derivation n
   unfolding reached
   settled-reached n zero settled = let e : 0 + n ≡ n = omega arith in ap (reached derivation) e
   settled-reached n (suc k) settled =
@@ -67,7 +71,8 @@ module _ {N A F P : Type 0} (derivation : Derivation N A F P) where
       ap (reached derivation) e ∙ (ap (step derivation) (settled-reached n k settled) ∙ settled-step (reached derivation n) settled)
 
   -- a list is what the derivation gives, where nothing waits after at most so many steps
-  pub derive-some : (budget n : ℕ) → n ≤ budget → NothingWaits derivation (reached derivation n) → length (reached derivation n) ≤ budget → derive derivation budget ≡ Some (reached derivation n)
+  pub derive-some : (budget n : ℕ) → n ≤ budget → NothingWaits derivation (reached derivation n)
+      → length (reached derivation n) ≤ budget → derive derivation budget ≡ Some (reached derivation n)
   unfolding derive
   derive-some budget n le settled size =
       let gap : (budget - n) + n ≡ budget = omega arith in
@@ -75,7 +80,8 @@ module _ {N A F P : Type 0} (derivation : Derivation N A F P) where
       let fits : nat_lt budget (length (reached derivation n)) ≡ false = grind (arith, nat_tests) in
       ap (λ l. cond (nat_lt budget (length l)) None (Some l)) same ∙ ap (λ b. cond b None (Some (reached derivation n))) fits
 
-  pub derive-none : (budget n : ℕ) → n ≤ budget → budget < length (reached derivation n) → derive derivation budget ≡ None
+  pub derive-none : (budget n : ℕ) → n ≤ budget → budget < length (reached derivation n)
+      → derive derivation budget ≡ None
   unfolding derive
   derive-none budget n le size =
       let gap : (budget - n) + n ≡ budget = omega arith in
@@ -84,7 +90,8 @@ module _ {N A F P : Type 0} (derivation : Derivation N A F P) where
       ap (λ b. cond b None (Some (reached derivation budget))) passes
 
   -- a derivation that was answered is the list after as many steps as the budget
-  pub derived-reached : (budget : ℕ) (list : Members) → derive derivation budget ≡ Some list → reached derivation budget ≡ list
+  pub derived-reached : (budget : ℕ) (list : Members) → derive derivation budget ≡ Some list
+      → reached derivation budget ≡ list
   unfolding derive
   derived-reached budget list e = elim (either (nat_lt budget (length (reached derivation budget)))) [
     | inl t ↦ let q : ◌≡◌ {A = Option Members} None (Some list) = sym (ap (λ b. cond b None (Some (reached derivation budget))) t) ∙ e in cc

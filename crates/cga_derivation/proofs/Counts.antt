@@ -28,7 +28,8 @@ module _ {N F P : Type 0} where
   expanded-bound (x ∷ xs) = let a = expanded-bound xs in let b = one-bound x.kind in let c = expanded-cons x xs in omega (arith, a, b, c)
 
   -- a member that waits is not counted
-  pub expanded-below : (xs : List (Placed N F P)) (i : ℕ) (m : Placed N F P) → slice_get xs i ≡ Some m → m.kind ≡ Waiting → expanded_in xs < length xs
+  pub expanded-below : (xs : List (Placed N F P)) (i : ℕ) (m : Placed N F P) → slice_get xs i ≡ Some m
+      → m.kind ≡ Waiting → expanded_in xs < length xs
   expanded-below [] i m e w = none_some m e
   expanded-below (x ∷ xs) zero m e w =
       let a = expanded-bound xs in
@@ -42,7 +43,8 @@ module _ {N F P : Type 0} where
       omega (arith, a, b, c)
 
   -- one more is expanded
-  pub expanded-set : (xs : List (Placed N F P)) (i : ℕ) (m n : Placed N F P) → slice_get xs i ≡ Some m → m.kind ≡ Waiting → is_expanded n.kind ≡ true → expanded_in (slice_set xs i n) ≡ expanded_in xs + 1
+  pub expanded-set : (xs : List (Placed N F P)) (i : ℕ) (m n : Placed N F P) → slice_get xs i ≡ Some m
+      → m.kind ≡ Waiting → is_expanded n.kind ≡ true → expanded_in (slice_set xs i n) ≡ expanded_in xs + 1
   expanded-set [] i m n e w x = none_some m e
   expanded-set (x ∷ xs) zero m n e w d =
       let none : one x.kind ≡ 0 = ap (λ (y : Placed N F P). one y.kind) (some_same x m e) ∙ ap one w in
@@ -56,7 +58,8 @@ module _ {N F P : Type 0} where
   expanded-append xs ys = sum_by-append (λ m. one m.kind) xs ys
 
   -- where nothing waits, what is no instance is expanded
-  pub expanded-settled : (xs : List (Placed N F P)) → ((n : N) → Has xs n Waiting → ⊥) → expanded_in xs ≡ count_by (λ m. not (is_instance m.kind)) xs
+  pub expanded-settled : (xs : List (Placed N F P)) → ((n : N) → Has xs n Waiting → ⊥)
+      → expanded_in xs ≡ count_by (λ m. not (is_instance m.kind)) xs
   expanded-settled [] h = refl
   expanded-settled (x ∷ xs) h =
       let rest = expanded-settled xs (λ n g. h n (inr g)) in
@@ -71,7 +74,8 @@ module _ {N F P : Type 0} where
 
 module _ {N A F P : Type 0} (derivation : Derivation N A F P) where
   -- new members are not expanded
-  pub expanded-new : (xs : List (Placed N F P)) → ((i : ℕ) (c : Placed N F P) → slice_get xs i ≡ Some c → IsNew c.kind) → expanded_in xs ≡ 0
+  pub expanded-new : (xs : List (Placed N F P)) → ((i : ℕ) (c : Placed N F P) → slice_get xs i ≡ Some c → IsNew c.kind)
+      → expanded_in xs ≡ 0
   expanded-new [] h = refl
   expanded-new (x ∷ xs) h =
       let rest = expanded-new xs (λ i c e. h (suc i) c e) in

@@ -7,7 +7,7 @@ use Rattle.cga_order.specs.declared.placed.Kind.{Kind}
 use Rattle.cga_order.specs.declared.placed.Kind.TheVariants.{Waiting, Done}
 use Rattle.cga_order.specs.World.{World, Has, Among, shapes_where, is_instance}
 use Rattle.cga_order.specs.Consistent as order
-use Rattle.cga_order.proofs.Derived as derived
+use Rattle.cga_order.proofs.Door as derived
 use Rattle.cga_derivation.proofs.Lists.{ok_same, err_ok}
 use Rattle.cga_derivation.specs.Derivation.{Derivation, IsDerivation, AllApart, reached, NothingWaits}
 use Rattle.cga_derivation.specs.Sites.{Site, erase, all_sited, chain_of, world_of, sites, taken}
@@ -37,7 +37,9 @@ module _ {N A F P : Type 0} (derivation : Derivation N A F P) (laws : IsDerivati
   chain : (s : Site N) (k : Kind F P) → Has C s k → chain_of derivation s ≡ chain_in derivation (erase C) s.shape
   chain s k h = chain-is derivation C (good-at derivation laws n) s k h
 
-  shapes-erased : (t : Site N → Kind F P → Bool) (u : N → Kind F P → Bool) (xs : List (Placed (Site N) F P)) → ((s : Site N) (k : Kind F P) → Has xs s k → t s k ≡ u s.shape k) → map (λ (m : Site N). m.shape) (shapes_where t xs) ≡ shapes_where u (erase xs)
+  shapes-erased : (t : Site N → Kind F P → Bool) (u : N → Kind F P → Bool) (xs : List (Placed (Site N) F P))
+      → ((s : Site N) (k : Kind F P) → Has xs s k → t s k ≡ u s.shape k)
+      → map (λ (m : Site N). m.shape) (shapes_where t xs) ≡ shapes_where u (erase xs)
   shapes-erased t u [] agree = refl
   shapes-erased t u (x ∷ xs) agree =
       let rest = shapes-erased t u xs (λ s k h. agree s k (inr h)) in
@@ -46,7 +48,8 @@ module _ {N A F P : Type 0} (derivation : Derivation N A F P) (laws : IsDerivati
         | false ↦ rest
       ] ∙ ap (λ b. cond b (x.shape.shape ∷ shapes_where u (erase xs)) (shapes_where u (erase xs))) (agree x.shape x.kind (inl (refl, refl)))
 
-  outcome-erased : (s : Site N) (k : Kind F P) → Has C s k → order.outcome_at W C s ≡ all_sited (chain_of derivation s).priorities (outcome_at derivation (erase C) s.shape)
+  outcome-erased : (s : Site N) (k : Kind F P) → Has C s k
+      → order.outcome_at W C s ≡ all_sited (chain_of derivation s).priorities (outcome_at derivation (erase C) s.shape)
   outcome-erased s k h =
       let at = ap (stamp derivation.mode) (chain s k h) in
       let exists = shapes-erased (order.exists_at W s) (exists_at derivation (erase C) s.shape) C (λ t j g. λ i. is_lt (stamps_cmp derivation.mode (birth derivation.mode (chain t j g i)) (at i))) in
@@ -56,11 +59,15 @@ module _ {N A F P : Type 0} (derivation : Derivation N A F P) (laws : IsDerivati
   stands-erased : (s : Site N) (k : Kind F P) → Stands C s k → Stands (erase C) s.shape k
   stands-erased s k h = (h.0, Has-erase C s h.0 h.1, h.2, h.3)
 
-  has-outcome : (ps : List ℕ) (k : Kind F P) (r : Result (List (Placed N F P)) F) → HasOutcome C k (all_sited ps r) → HasOutcome (erase C) k r
+  has-outcome : (ps : List ℕ) (k : Kind F P) (r : Result (List (Placed N F P)) F) → HasOutcome C k (all_sited ps r)
+      → HasOutcome (erase C) k r
   has-outcome ps k (Ok cs) p = (p.0, λ c j g. stands-erased (record { shape = c; above = ps }) j (p.1 (record { shape = c; above = ps }) j (Has-sited ps cs c j g)))
   has-outcome ps k (Err f) p = p
 
-  made-erased : (s t : Site N) (h : Has C t Done) (r : Result (List (Placed N F P)) F) (cs : List (Placed (Site N) F P)) (j : Kind F P) → outcome_at derivation (erase C) t.shape ≡ r → all_sited (chain_of derivation t).priorities r ≡ Ok cs → Has cs s j → IsMade derivation (erase C) s.shape
+  made-erased : (s t : Site N) (h : Has C t Done) (r : Result (List (Placed N F P)) F)
+        (cs : List (Placed (Site N) F P)) (j : Kind F P)
+      → outcome_at derivation (erase C) t.shape ≡ r → all_sited (chain_of derivation t).priorities r ≡ Ok cs
+      → Has cs s j → IsMade derivation (erase C) s.shape
   made-erased s t h (Ok ds) cs j e is g = (t.shape, ds, Has-erase C t Done h, e, (j, (sited-Has (chain_of derivation t).priorities ds s j (subst (λ l. Has l s j) (sym (ok_same _ cs is)) g)).0))
   made-erased s t h (Err f) cs j e is g = err_ok f cs is
 

@@ -10,7 +10,7 @@ use Rattle.cga_order.specs.declared.placed.Placed.{Placed}
 use Rattle.cga_order.specs.declared.placed.Kind.TheVariants.{Waiting}
 use Rattle.cga_order.specs.World.{Has, is_instance}
 use Rattle.cga_order.specs.Run as run
-use Rattle.cga_order.proofs.Members.{Has-index}
+use Rattle.cga_order.proofs.Door.{Has-index}
 use Rattle.cga_derivation.proofs.Lists.{none_some}
 use Rattle.cga_derivation.specs.Derivation.{Derivation, IsDerivation, start, reached, derive, NothingWaits}
 use Rattle.cga_derivation.specs.Sites.{Site, chain_of, world_of, sites, SitesApart}
@@ -21,10 +21,7 @@ use Rattle.cga_derivation.proofs.Apart.{apart-start}
 use Rattle.cga_derivation.proofs.Budget.{derive-some, derive-none}
 use Rattle.cga_derivation.proofs.Counts.{expanded-below, expanded-settled}
 use Rattle.cga_derivation.proofs.Keys.{key-push, slice_get-left}
-
-pub append_assoc_one : {X : Type 0} (xs ys zs : List X) → (xs ++ ys) ++ zs ≡ xs ++ (ys ++ zs)
-append_assoc_one [] ys zs = refl
-append_assoc_one (x ∷ xs) ys zs = ap (λ l. x ∷ l) (append_assoc_one xs ys zs)
+pub use Rattle.std.proofs.Common.{append_assoc as append_assoc_one}
 
 module _ {N A F P : Type 0} (derivation : Derivation N A F P) where
   abbrev rooted : N → Placed (Site N) F P
@@ -42,7 +39,10 @@ module _ {N A F P : Type 0} (derivation : Derivation N A F P) where
     start-none = record { entry = λ k i h. absurd h; waits = λ i m e w. none_some m e }
 
     -- one more root
-    pub start-push : (rs : List N) (r : N) (rest : List N) → derivation.roots ≡ rs ++ r ∷ rest → (es : List (K × ℕ)) → HasWaiting derivation mode_of key_chain (map rooted rs) es → (k : K) → mode_of k ≡ derivation.mode → key_chain k ≡ chain_of derivation (record { shape = r; above = [] }) → HasWaiting derivation mode_of key_chain (map rooted (rs ++ r ∷ [])) (insert_entry cmp es k (length rs))
+    pub start-push : (rs : List N) (r : N) (rest : List N) → derivation.roots ≡ rs ++ r ∷ rest → (es : List (K × ℕ))
+        → HasWaiting derivation mode_of key_chain (map rooted rs) es → (k : K) → mode_of k ≡ derivation.mode
+        → key_chain k ≡ chain_of derivation (record { shape = r; above = [] })
+        → HasWaiting derivation mode_of key_chain (map rooted (rs ++ r ∷ [])) (insert_entry cmp es k (length rs))
     start-push rs r rest split es has k mode chain =
         let all : run.start (world_of derivation) ≡ (map rooted rs ++ rooted r ∷ []) ++ map rooted rest =
         start-sites ∙ (ap (map rooted) split ∙ (map-append rooted rs (r ∷ rest) ∙ sym (append_assoc_one (map rooted rs) (rooted r ∷ []) (map rooted rest)))) in
@@ -51,7 +51,8 @@ module _ {N A F P : Type 0} (derivation : Derivation N A F P) where
         subst (λ l. HasWaiting derivation mode_of key_chain l (insert_entry cmp es k (length rs))) (sym (map-append rooted rs (r ∷ []))) (subst (λ n. HasWaiting derivation mode_of key_chain (map rooted rs ++ rooted r ∷ []) (insert_entry cmp es k n)) (length-map rooted rs) pushed)
 
     -- all roots
-    pub start-all : (es : List (K × ℕ)) → HasWaiting derivation mode_of key_chain (map rooted derivation.roots) es → IsAt derivation mode_of key_chain 0 (start derivation) es
+    pub start-all : (es : List (K × ℕ)) → HasWaiting derivation mode_of key_chain (map rooted derivation.roots) es
+        → IsAt derivation mode_of key_chain 0 (start derivation) es
     unfolding reached sites
     start-all es has = record {
       list_is = refl;
@@ -64,14 +65,16 @@ module _ {N A F P : Type 0} (derivation : Derivation N A F P) where
         none (r ∷ rs) = none rs
 
     -- where no key is left nothing waits
-    settled-empty : (n : ℕ) (list : List (Placed N F P)) → IsAt derivation mode_of key_chain n list [] → NothingWaits derivation list
+    settled-empty : (n : ℕ) (list : List (Placed N F P)) → IsAt derivation mode_of key_chain n list []
+        → NothingWaits derivation list
     settled-empty n list at s h =
         let w = Has-erased (sites derivation n) s Waiting (subst (λ l. Has l s Waiting) (at.list_is ∙ sym (erase-sites derivation n)) h) in
         let i = Has-index (sites derivation n) w.0 Waiting w.1 in
         (at.keys.waits i.0 i.1 i.2 i.4).1
 
     -- nor where there are as many turns as there may be members
-    settled-full : (n : ℕ) (list : List (Placed N F P)) (es : List (K × ℕ)) → IsAt derivation mode_of key_chain n list es → length list ≤ n → NothingWaits derivation list
+    settled-full : (n : ℕ) (list : List (Placed N F P)) (es : List (K × ℕ))
+        → IsAt derivation mode_of key_chain n list es → length list ≤ n → NothingWaits derivation list
     settled-full n list es at full s h =
         let i = Has-index list s Waiting h in
         let below = expanded-below list i.0 i.1 i.2 i.4 in
@@ -80,17 +83,24 @@ module _ {N A F P : Type 0} (derivation : Derivation N A F P) where
     abbrev Ended : ℕ → List (Placed N F P) → Type 0
     Ended budget list = (derive derivation budget ≡ Some list) × (expanded_in list ≡ count_by (λ m. not (is_instance m.kind)) list)
 
-    ends : (budget n : ℕ) (list : List (Placed N F P)) (es : List (K × ℕ)) → IsAt derivation mode_of key_chain n list es → n ≤ budget → length list ≤ budget → NothingWaits derivation list → Ended budget list
+    ends : (budget n : ℕ) (list : List (Placed N F P)) (es : List (K × ℕ)) → IsAt derivation mode_of key_chain n list es
+        → n ≤ budget → length list ≤ budget → NothingWaits derivation list → Ended budget list
     ends budget n list es at turns fits settled = (
       derive-some derivation budget n turns (subst (NothingWaits derivation) at.list_is settled) (subst (λ l. length l ≤ budget) at.list_is fits) ∙ ap Some (sym at.list_is),
       expanded-settled list settled,
     )
 
-    pub ends-empty : (budget n : ℕ) (list : List (Placed N F P)) → IsAt derivation mode_of key_chain n list [] → n ≤ budget → length list ≤ budget → (derive derivation budget ≡ Some list) × (expanded_in list ≡ count_by (λ m. not (is_instance m.kind)) list)
+    pub ends-empty : (budget n : ℕ) (list : List (Placed N F P)) → IsAt derivation mode_of key_chain n list []
+        → n ≤ budget → length list ≤ budget
+        → (derive derivation budget ≡ Some list) × (expanded_in list ≡ count_by (λ m. not (is_instance m.kind)) list)
     ends-empty budget n list at turns fits = ends budget n list [] at turns fits (settled-empty n list at)
 
-    pub ends-full : (budget : ℕ) (list : List (Placed N F P)) (es : List (K × ℕ)) → IsAt derivation mode_of key_chain budget list es → length list ≤ budget → (derive derivation budget ≡ Some list) × (expanded_in list ≡ count_by (λ m. not (is_instance m.kind)) list)
+    pub ends-full : (budget : ℕ) (list : List (Placed N F P)) (es : List (K × ℕ))
+        → IsAt derivation mode_of key_chain budget list es → length list ≤ budget
+        → (derive derivation budget ≡ Some list) × (expanded_in list ≡ count_by (λ m. not (is_instance m.kind)) list)
     ends-full budget list es at fits = ends budget budget list es at (omega arith) fits (settled-full budget list es at fits)
 
-    pub ends-over : (budget n : ℕ) (list : List (Placed N F P)) (es : List (K × ℕ)) → IsAt derivation mode_of key_chain n list es → n ≤ budget → budget < length list → derive derivation budget ≡ None
+    pub ends-over : (budget n : ℕ) (list : List (Placed N F P)) (es : List (K × ℕ))
+        → IsAt derivation mode_of key_chain n list es → n ≤ budget → budget < length list
+        → derive derivation budget ≡ None
     ends-over budget n list es at turns over = derive-none derivation budget n turns (subst (λ l. budget < length l) at.list_is over)

@@ -5,7 +5,7 @@ use Rattle.cga_order.specs.declared.placed.Placed.{Placed}
 use Rattle.cga_order.specs.declared.placed.Kind.{Kind}
 use Rattle.cga_order.specs.declared.placed.Kind.TheVariants.{Waiting, Done, Faulted}
 use Rattle.cga_order.specs.World.{Has, Among, is_instance}
-use Rattle.cga_order.proofs.Members.{Has-append, Has-index}
+use Rattle.cga_order.proofs.Door.{Has-append, Has-index}
 use Rattle.cga_derivation.specs.Derivation.{Derivation, IsDerivation, next_of, is_next, become, told, outcome, asked, step_by, step, reached}
 use Rattle.cga_derivation.proofs.Along.{both, first_of-passes, first_of-Has}
 use Rattle.cga_derivation.proofs.Least.{waiting_kind}
@@ -13,7 +13,8 @@ use Rattle.cga_derivation.proofs.Apart.{apart-reached}
 use Rattle.cga_derivation.proofs.Keys.{become-set}
 
 module _ {N F P : Type 0} where
-  Has-set : (xs : List (Placed N F P)) (i : ℕ) (v : Placed N F P) (x : N) (k : Kind F P) → Has (slice_set xs i v) x k → ((v.shape ≡ x) × (v.kind ≡ k)) ⊎ Has xs x k
+  Has-set : (xs : List (Placed N F P)) (i : ℕ) (v : Placed N F P) (x : N) (k : Kind F P) → Has (slice_set xs i v) x k
+      → ((v.shape ≡ x) × (v.kind ≡ k)) ⊎ Has xs x k
   Has-set [] i v x k h = absurd h
   Has-set (y ∷ xs) zero v x k h = elim h [ inl e ↦ inl e | inr r ↦ inr (inr r) ]
   Has-set (y ∷ xs) (suc i) v x k h = elim h [
@@ -21,7 +22,8 @@ module _ {N F P : Type 0} where
     | inr r ↦ elim (Has-set xs i v x k r) [ inl e ↦ inl e | inr q ↦ inr (inr q) ]
   ]
 
-  Has-roots : (rs : List N) (x : N) (k : Kind F P) → Has (map (λ n. record { shape = n; kind = Waiting }) rs) x k → Among x rs
+  Has-roots : (rs : List N) (x : N) (k : Kind F P) → Has (map (λ n. record { shape = n; kind = Waiting }) rs) x k
+      → Among x rs
   Has-roots [] x k h = absurd h
   Has-roots (r ∷ rs) x k h = elim h [ inl e ↦ inl e.0 | inr q ↦ inr (Has-roots rs x k q) ]
 
@@ -29,7 +31,12 @@ module _ {N A F P : Type 0} (derivation : Derivation N A F P) (laws : IsDerivati
   abbrev Members : Type 0
   Members = List (Placed N F P)
 
-  told-kept : (list : Members) (i : ℕ) (m : Placed N F P) (r : Result Members F) → slice_get list i ≡ Some m → Q m.shape → ((k : Kind F P) → map (become derivation m.shape k) list ≡ slice_set list i (record { shape = m.shape; kind = k })) → ((x : N) (k : Kind F P) → Has list x k → is_instance k ≡ false → Q x) → derivation.expand m.shape (asked derivation list m.shape) ≡ r → (x : N) (k : Kind F P) → Has (told derivation list m.shape r) x k → is_instance k ≡ false → Q x
+  told-kept : (list : Members) (i : ℕ) (m : Placed N F P) (r : Result Members F) → slice_get list i ≡ Some m → Q m.shape
+      → ((k : Kind F P) → map (become derivation m.shape k) list ≡ slice_set list i
+        (record { shape = m.shape; kind = k }))
+      → ((x : N) (k : Kind F P) → Has list x k → is_instance k ≡ false → Q x)
+      → derivation.expand m.shape (asked derivation list m.shape) ≡ r → (x : N) (k : Kind F P)
+      → Has (told derivation list m.shape r) x k → is_instance k ≡ false → Q x
   told-kept list i m (Ok cs) at known writes before e x k h plainly = elim (Has-append (map (become derivation m.shape Done) list) cs x k h) [
     | inl a ↦ elim (Has-set list i (record { shape = m.shape; kind = Done }) x k (subst (λ l. Has l x k) (writes Done) a)) [
       | inl q ↦ subst Q q.0 known
@@ -47,7 +54,9 @@ module _ {N A F P : Type 0} (derivation : Derivation N A F P) (laws : IsDerivati
   kept zero x k h plainly = roots x (Has-roots derivation.roots x k h)
   kept (suc n) x k h plainly = by (λ y j g z. kept n y j g z) (next_of derivation (reached derivation n)) refl h
     where
-      by : ((y : N) (j : Kind F P) → Has (reached derivation n) y j → is_instance j ≡ false → Q y) → (o : Option (Placed N F P)) → next_of derivation (reached derivation n) ≡ o → Has (step_by derivation (reached derivation n) o) x k → Q x
+      by : ((y : N) (j : Kind F P) → Has (reached derivation n) y j → is_instance j ≡ false → Q y)
+          → (o : Option (Placed N F P)) → next_of derivation (reached derivation n) ≡ o
+          → Has (step_by derivation (reached derivation n) o) x k → Q x
       by before None e g = before x k g plainly
       by before (Some m) e g =
           let here = first_of-Has (is_next derivation (reached derivation n)) (reached derivation n) m e in

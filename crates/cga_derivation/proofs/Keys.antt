@@ -18,12 +18,9 @@ use Rattle.cga_order.specs.declared.placed.Kind.{Kind}
 use Rattle.cga_order.specs.declared.placed.Kind.TheVariants.{Waiting}
 use Rattle.cga_order.specs.World.{Has, Among, IsEarlier, stamp_of}
 use Rattle.cga_order.specs.Run as run
-use Rattle.cga_order.proofs.Steps as steps
-use Rattle.cga_order.proofs.Maxima.{either}
-use Rattle.cga_order.proofs.Order.{stamp_total}
-use Rattle.cga_order.proofs.Chains.{stamps-place}
-use Rattle.cga_order.proofs.Members.{Has-index}
-use Rattle.cga_order.proofs.Places.{slice_get-map, slice_get-append, slice_get-within}
+use Rattle.cga_order.proofs.Door as steps
+use Rattle.cga_order.proofs.Door.{Has-index, slice_get-append, slice_get-map, slice_get-within, stamp_total, stamps-place}
+use Rattle.std.proofs.lemmas.Bool.{cases_Bool as either}
 use Rattle.cga_derivation.proofs.Lists.{some_same, none_some}
 use Rattle.cga_derivation.specs.Derivation.{Derivation, place_of, same_place, become, AllApart}
 use Rattle.cga_derivation.specs.Sites.{Site, chain_of, world_of, next_site, SitesApart}
@@ -41,14 +38,17 @@ module _ {X : Type 0} where
   slice_get-seam [] ys x = refl
   slice_get-seam (z ∷ xs) ys x = slice_get-seam xs ys x
 
-  slice_get-map-some : {Y : Type 0} (f : Y → X) (ys : List Y) (i : ℕ) (y : Y) → slice_get ys i ≡ Some y → slice_get (map f ys) i ≡ Some (f y)
+  slice_get-map-some : {Y : Type 0} (f : Y → X) (ys : List Y) (i : ℕ) (y : Y) → slice_get ys i ≡ Some y
+      → slice_get (map f ys) i ≡ Some (f y)
   slice_get-map-some f [] i y e = none_some y e
   slice_get-map-some f (z ∷ ys) zero y e = ap (λ x. Some (f x)) (some_same z y e)
   slice_get-map-some f (z ∷ ys) (suc i) y e = slice_get-map-some f ys i y e
 
 module _ {K X : Type 0} (cmp : K → K → Ordering) where
   -- what is among the entries after an insertion
-  Among-inserted : (k : K) (v : X) (es : List (K × X)) (q : K) (w : X) → ((a : K) (b : X) → Among (a, b) es → cmp k a ≡ Equal → ⊥) → Among (q, w) (insert_entry cmp es k v) → (◌≡◌ {A = K × X} (k, v) (q, w)) ⊎ Among (q, w) es
+  Among-inserted : (k : K) (v : X) (es : List (K × X)) (q : K) (w : X)
+      → ((a : K) (b : X) → Among (a, b) es → cmp k a ≡ Equal → ⊥) → Among (q, w) (insert_entry cmp es k v)
+      → (◌≡◌ {A = K × X} (k, v) (q, w)) ⊎ Among (q, w) es
   Among-inserted k v [] q w new h = elim h [ inl e ↦ inl e | inr r ↦ absurd r ]
   Among-inserted k v (e ∷ es) q w new h = elim (cmp k e.0) as (λ o. cmp k e.0 ≡ o → Among (q, w) (match_ordering o ((k, v) ∷ e ∷ es) ((e.0, v) ∷ es) (e ∷ insert_entry cmp es k v)) → (◌≡◌ {A = K × X} (k, v) (q, w)) ⊎ Among (q, w) (e ∷ es)) [
     | Less ↦ λ c g. elim g [ inl a ↦ inl a | inr r ↦ inr r ]
@@ -59,7 +59,8 @@ module _ {K X : Type 0} (cmp : K → K → Ordering) where
     ]
   ] refl h
 
-  inserted-Among : (k : K) (v : X) (es : List (K × X)) → ((a : K) (b : X) → Among (a, b) es → cmp k a ≡ Equal → ⊥) → Among (k, v) (insert_entry cmp es k v)
+  inserted-Among : (k : K) (v : X) (es : List (K × X)) → ((a : K) (b : X) → Among (a, b) es → cmp k a ≡ Equal → ⊥)
+      → Among (k, v) (insert_entry cmp es k v)
   inserted-Among k v [] new = inl refl
   inserted-Among k v (e ∷ es) new = elim (cmp k e.0) as (λ o. cmp k e.0 ≡ o → Among (k, v) (match_ordering o ((k, v) ∷ e ∷ es) ((e.0, v) ∷ es) (e ∷ insert_entry cmp es k v))) [
     | Less ↦ λ c. inl refl
@@ -67,7 +68,9 @@ module _ {K X : Type 0} (cmp : K → K → Ordering) where
     | Greater ↦ λ c. inr (inserted-Among k v es (λ a b i. new a b (inr i)))
   ] refl
 
-  kept-Among : (k : K) (v : X) (es : List (K × X)) (q : K) (w : X) → ((a : K) (b : X) → Among (a, b) es → cmp k a ≡ Equal → ⊥) → Among (q, w) es → Among (q, w) (insert_entry cmp es k v)
+  kept-Among : (k : K) (v : X) (es : List (K × X)) (q : K) (w : X)
+      → ((a : K) (b : X) → Among (a, b) es → cmp k a ≡ Equal → ⊥) → Among (q, w) es
+      → Among (q, w) (insert_entry cmp es k v)
   kept-Among k v [] q w new h = absurd h
   kept-Among k v (e ∷ es) q w new h = elim (cmp k e.0) as (λ o. cmp k e.0 ≡ o → Among (q, w) (match_ordering o ((k, v) ∷ e ∷ es) ((e.0, v) ∷ es) (e ∷ insert_entry cmp es k v))) [
     | Less ↦ λ c. inr h
@@ -76,7 +79,8 @@ module _ {K X : Type 0} (cmp : K → K → Ordering) where
   ] refl
 
   -- what holds of each key holds of the key of each entry
-  Among-key : (es : List (K × X)) (q : K) (w : X) → Among (q, w) es → (j : ℕ) × (j < length (keys_of es)) × (get_or (keys_of es) j q ≡ q)
+  Among-key : (es : List (K × X)) (q : K) (w : X) → Among (q, w) es
+      → (j : ℕ) × (j < length (keys_of es)) × (get_or (keys_of es) j q ≡ q)
   Among-key [] q w h = absurd h
   Among-key (e ∷ es) q w h = elim h [
     | inl a ↦ (0, omega arith, ap (λ p. p.0) a)
@@ -102,17 +106,25 @@ module _ {N A F P : Type 0} (derivation : Derivation N A F P) where
   same_place-not : (n m : N) → (place_of derivation n ≡ place_of derivation m → ⊥) → same_place derivation n m ≡ false
   same_place-not n m h = elim (either (same_place derivation n m)) [ inl t ↦ absurd (h (same_place-is n m t)) | inr f ↦ f ]
 
-  become-there : (s : N) (k : Kind F P) (m : Placed N F P) → place_of derivation m.shape ≡ place_of derivation s → become derivation s k m ≡ record { shape = m.shape; kind = k }
+  become-there : (s : N) (k : Kind F P) (m : Placed N F P) → place_of derivation m.shape ≡ place_of derivation s
+      → become derivation s k m ≡ record { shape = m.shape; kind = k }
   become-there s k m e = ap (λ b. cond b (record { shape = m.shape; kind = k }) m) (same_place-make m.shape s e)
 
-  become-elsewhere : (s : N) (k : Kind F P) (m : Placed N F P) → (place_of derivation m.shape ≡ place_of derivation s → ⊥) → become derivation s k m ≡ m
+  become-elsewhere : (s : N) (k : Kind F P) (m : Placed N F P)
+      → (place_of derivation m.shape ≡ place_of derivation s → ⊥) → become derivation s k m ≡ m
   become-elsewhere s k m e = ap (λ b. cond b (record { shape = m.shape; kind = k }) m) (same_place-not m.shape s e)
 
-  becomes-none : (s : N) (k : Kind F P) (xs : List (Placed N F P)) → ((j : ℕ) (n : Placed N F P) → slice_get xs j ≡ Some n → place_of derivation n.shape ≡ place_of derivation s → ⊥) → map (become derivation s k) xs ≡ xs
+  becomes-none : (s : N) (k : Kind F P) (xs : List (Placed N F P))
+      → ((j : ℕ) (n : Placed N F P) → slice_get xs j ≡ Some n → place_of derivation n.shape ≡ place_of derivation s → ⊥)
+      → map (become derivation s k) xs ≡ xs
   becomes-none s k [] h = refl
   becomes-none s k (x ∷ xs) h = λ i. become-elsewhere s k x (h 0 x refl) i ∷ becomes-none s k xs (λ j n e. h (suc j) n e) i
 
-  becomes-set : (s : N) (k : Kind F P) (xs : List (Placed N F P)) (i : ℕ) (m : Placed N F P) → slice_get xs i ≡ Some m → place_of derivation m.shape ≡ place_of derivation s → ((j : ℕ) (n : Placed N F P) → slice_get xs j ≡ Some n → place_of derivation n.shape ≡ place_of derivation s → j ≡ i) → map (become derivation s k) xs ≡ slice_set xs i (record { shape = m.shape; kind = k })
+  becomes-set : (s : N) (k : Kind F P) (xs : List (Placed N F P)) (i : ℕ) (m : Placed N F P) → slice_get xs i ≡ Some m
+      → place_of derivation m.shape ≡ place_of derivation s
+      → ((j : ℕ) (n : Placed N F P) → slice_get xs j ≡ Some n → place_of derivation n.shape ≡ place_of derivation s
+        → j ≡ i)
+      → map (become derivation s k) xs ≡ slice_set xs i (record { shape = m.shape; kind = k })
   becomes-set s k [] i m e at h = none_some m e
   becomes-set s k (x ∷ xs) zero m e at h =
       let is = some_same x m e in
@@ -125,7 +137,9 @@ module _ {N A F P : Type 0} (derivation : Derivation N A F P) where
       λ t. here t ∷ rest t
 
   -- what one place of a list becomes is what is written there
-  pub become-set : (list : List (Placed N F P)) (i : ℕ) (m : Placed N F P) (k : Kind F P) → AllApart derivation list → slice_get list i ≡ Some m → map (become derivation m.shape k) list ≡ slice_set list i (record { shape = m.shape; kind = k })
+  pub become-set : (list : List (Placed N F P)) (i : ℕ) (m : Placed N F P) (k : Kind F P) → AllApart derivation list
+      → slice_get list i ≡ Some m
+      → map (become derivation m.shape k) list ≡ slice_set list i (record { shape = m.shape; kind = k })
   become-set list i m k apart e = becomes-set m.shape k list i m e refl (λ j n f same. apart j i n m f e same)
 
   module _ {K : Type 0} (mode_of : K → Mode) (key_chain : K → Chain) (cmp : K → K → Ordering) (agrees : (a b : K) → mode_of a ≡ derivation.mode → mode_of b ≡ derivation.mode → cmp a b ≡ stamp_cmp derivation.mode (key_chain a) (key_chain b)) where
@@ -133,11 +147,16 @@ module _ {N A F P : Type 0} (derivation : Derivation N A F P) where
     HasKeys C es = HasWaiting derivation mode_of key_chain C es
 
     -- two keys compare as the stamps of their members
-    agrees-at : (a b : K) (n m : Site N) → mode_of a ≡ derivation.mode → mode_of b ≡ derivation.mode → key_chain a ≡ chain_of derivation n → key_chain b ≡ chain_of derivation m → cmp a b ≡ stamp_cmp derivation.mode (chain_of derivation n) (chain_of derivation m)
+    agrees-at : (a b : K) (n m : Site N) → mode_of a ≡ derivation.mode → mode_of b ≡ derivation.mode
+        → key_chain a ≡ chain_of derivation n → key_chain b ≡ chain_of derivation m
+        → cmp a b ≡ stamp_cmp derivation.mode (chain_of derivation n) (chain_of derivation m)
     agrees-at a b n m p q c d = agrees a b p q ∙ (λ i. stamp_cmp derivation.mode (c i) (d i))
 
     -- the least key is that of the next member
-    pub key-next : (C : Members) → steps.IsOrdered (world_of derivation) C → (k : K) (i : ℕ) (es : List (K × ℕ)) → HasKeys C ((k, i) ∷ es) → All (IsLtBy cmp k) (keys_of es) → (m : Placed (Site N) F P) × (slice_get C i ≡ Some m) × (m.kind ≡ Waiting) × (key_chain k ≡ chain_of derivation m.shape) × (next_site derivation C ≡ Some m)
+    pub key-next : (C : Members) → steps.IsOrdered (world_of derivation) C → (k : K) (i : ℕ) (es : List (K × ℕ))
+        → HasKeys C ((k, i) ∷ es) → All (IsLtBy cmp k) (keys_of es)
+        → (m : Placed (Site N) F P) × (slice_get C i ≡ Some m) × (m.kind ≡ Waiting)
+          × (key_chain k ≡ chain_of derivation m.shape) × (next_site derivation C ≡ Some m)
     key-next C good k i es has above =
         let w = has.entry k i (inl refl) in
         let m = w.1.0 in
@@ -149,7 +168,11 @@ module _ {N A F P : Type 0} (derivation : Derivation N A F P) where
         index-Has (x ∷ xs) zero n e = let is = some_same x n e in inl (ap (λ y. y.shape) is, ap (λ y. y.kind) is)
         index-Has (x ∷ xs) (suc j) n e = inr (index-Has xs j n e)
 
-        least : (m : Placed (Site N) F P) → slice_get C i ≡ Some m → mode_of k ≡ derivation.mode → key_chain k ≡ chain_of derivation m.shape → (s : Site N) → Has C s Waiting → steps.SamePlace (world_of derivation) s m.shape ⊎ IsEarlier (world_of derivation) (stamp_of (world_of derivation) m.shape) (stamp_of (world_of derivation) s)
+        least : (m : Placed (Site N) F P) → slice_get C i ≡ Some m → mode_of k ≡ derivation.mode
+            → key_chain k ≡ chain_of derivation m.shape → (s : Site N) → Has C s Waiting
+            → steps.SamePlace (world_of derivation) s m.shape
+              ⊎ IsEarlier (world_of derivation) (stamp_of (world_of derivation) m.shape)
+              (stamp_of (world_of derivation) s)
         least m at mode chain s h =
             let p = Has-index C s Waiting h in
             let key = has.waits p.0 p.1 p.2 p.4 in
@@ -166,14 +189,20 @@ module _ {N A F P : Type 0} (derivation : Derivation N A F P) where
                   inr (sym (agrees-at k key.0 m.shape s mode w.0 chain chains) ∙ less)
             ]
 
-    become-site : (s : Site N) (kind : Kind F P) (m : Placed (Site N) F P) → (place_of derivation m.shape.shape ≡ place_of derivation s.shape → ⊥) → run.become (world_of derivation) s kind m ≡ m
+    become-site : (s : Site N) (kind : Kind F P) (m : Placed (Site N) F P)
+        → (place_of derivation m.shape.shape ≡ place_of derivation s.shape → ⊥)
+        → run.become (world_of derivation) s kind m ≡ m
     become-site s kind m e = ap (λ b. cond b (record { shape = m.shape; kind = kind }) m) (same_place-not m.shape.shape s.shape e)
 
-    become-kind : (s : Site N) (kind : Kind F P) (m : Placed (Site N) F P) → place_of derivation m.shape.shape ≡ place_of derivation s.shape → (run.become (world_of derivation) s kind m).kind ≡ kind
+    become-kind : (s : Site N) (kind : Kind F P) (m : Placed (Site N) F P)
+        → place_of derivation m.shape.shape ≡ place_of derivation s.shape
+        → (run.become (world_of derivation) s kind m).kind ≡ kind
     become-kind s kind m e = ap (λ b. (cond b (record { shape = m.shape; kind = kind }) m).kind) (same_place-make m.shape.shape s.shape e)
 
     -- without its key, where its member waits no more
-    pub key-pop : (C : Members) → SitesApart derivation C → (k : K) (i : ℕ) (es : List (K × ℕ)) → HasKeys C ((k, i) ∷ es) → All (IsLtBy cmp k) (keys_of es) → (m : Placed (Site N) F P) → slice_get C i ≡ Some m → (kind : Kind F P) → (kind ≡ Waiting → ⊥) → HasKeys (map (run.become (world_of derivation) m.shape kind) C) es
+    pub key-pop : (C : Members) → SitesApart derivation C → (k : K) (i : ℕ) (es : List (K × ℕ))
+        → HasKeys C ((k, i) ∷ es) → All (IsLtBy cmp k) (keys_of es) → (m : Placed (Site N) F P) → slice_get C i ≡ Some m
+        → (kind : Kind F P) → (kind ≡ Waiting → ⊥) → HasKeys (map (run.become (world_of derivation) m.shape kind) C) es
     key-pop C apart k i es has above m at kind done = record {
       entry = λ q j h.
           let w = has.entry q j (inr h) in
@@ -214,7 +243,9 @@ module _ {N A F P : Type 0} (derivation : Derivation N A F P) where
             cc
 
     -- with the key of one more member, which waits
-    pub key-push : (C : Members) (x : Placed (Site N) F P) → SitesApart derivation (C ++ x ∷ []) → (es : List (K × ℕ)) → HasKeys C es → x.kind ≡ Waiting → (k : K) → mode_of k ≡ derivation.mode → key_chain k ≡ chain_of derivation x.shape → HasKeys (C ++ x ∷ []) (insert_entry cmp es k (length C))
+    pub key-push : (C : Members) (x : Placed (Site N) F P) → SitesApart derivation (C ++ x ∷ []) → (es : List (K × ℕ))
+        → HasKeys C es → x.kind ≡ Waiting → (k : K) → mode_of k ≡ derivation.mode
+        → key_chain k ≡ chain_of derivation x.shape → HasKeys (C ++ x ∷ []) (insert_entry cmp es k (length C))
     key-push C x apart es has wait k mode chain = record {
       entry = λ q j h. elim (Among-inserted cmp k (length C) es q j new h) [
         | inl e ↦ (
@@ -243,7 +274,8 @@ module _ {N A F P : Type 0} (derivation : Derivation N A F P) where
             omega (arith, index, within)
 
     -- with one more member that doesn't wait
-    pub key-skip : (C : Members) (x : Placed (Site N) F P) → (es : List (K × ℕ)) → HasKeys C es → (x.kind ≡ Waiting → ⊥) → HasKeys (C ++ x ∷ []) es
+    pub key-skip : (C : Members) (x : Placed (Site N) F P) → (es : List (K × ℕ)) → HasKeys C es → (x.kind ≡ Waiting → ⊥)
+        → HasKeys (C ++ x ∷ []) es
     key-skip C x es has done = record {
       entry = λ q j h. let w = has.entry q j h in (w.0, (w.1.0, slice_get-left C (x ∷ []) j w.1.0 w.1.1, w.1.2, w.1.3));
       waits = λ j n e w. elim (slice_get-append C (x ∷ []) j n e) [

@@ -11,18 +11,14 @@ use Rattle.cga_order.specs.declared.placed.Placed.{Placed}
 use Rattle.cga_order.specs.declared.placed.Kind.{Kind}
 use Rattle.cga_order.specs.declared.placed.Kind.TheVariants.{Waiting, Done, Faulted, Instance}
 use Rattle.cga_order.specs.World.{World, Has, is_waiting, IsEarlier, stamp_of}
-use Rattle.cga_order.proofs.Maxima.{either}
-use Rattle.cga_order.proofs.Order.{rank_total}
-use Rattle.cga_order.proofs.Chains.{rank-before}
-use Rattle.cga_order.proofs.Steps as steps
+use Rattle.cga_order.proofs.Door.{rank-before, rank_total}
+use Rattle.std.proofs.lemmas.Bool.{cases_Bool as either}
+use Rattle.cga_order.proofs.Door as steps
 use Rattle.cga_derivation.specs.Derivation.{Derivation, rank_of, is_next, first_of}
 use Rattle.cga_derivation.specs.Sites.{Site, erased, erase, chain_of, world_of, next_site}
 use Rattle.cga_derivation.proofs.Sites.{rank-site}
 use Rattle.cga_derivation.proofs.Along.{both, list_all-at, Has-erase}
-
-pub both_make : (a b : Bool) → a ≡ true → b ≡ true → (a && b) ≡ true
-both_make true b e f = f
-both_make false b e f = let x : false ≡ true = e in cc
+pub use Rattle.std.proofs.lemmas.Bool.{and_from as both_make}
 
 pub waiting_kind : {F P : Type 0} (k : Kind F P) → is_waiting k ≡ true → k ≡ Waiting
 waiting_kind Waiting e = refl
@@ -31,12 +27,16 @@ waiting_kind (Faulted f) e = let x : false ≡ true = e in cc
 waiting_kind (Instance p) e = let x : false ≡ true = e in cc
 
 -- a test that holds of each member holds of all
-pub list_all-by : {N F P : Type 0} (p : Placed N F P → Bool) (xs : List (Placed N F P)) → ((n : N) (k : Kind F P) → Has xs n k → p (record { shape = n; kind = k }) ≡ true) → list_all p xs ≡ true
+pub list_all-by : {N F P : Type 0} (p : Placed N F P → Bool) (xs : List (Placed N F P))
+    → ((n : N) (k : Kind F P) → Has xs n k → p (record { shape = n; kind = k }) ≡ true) → list_all p xs ≡ true
 list_all-by p [] h = refl
 list_all-by p (x ∷ xs) h = both_make _ _ (h x.shape x.kind (inl (refl, refl))) (list_all-by p xs (λ n k g. h n k (inr g)))
 
 -- where one member passes, and only it, it is the first that passes
-pub first_of-only : {N F P : Type 0} (p : Placed N F P → Bool) (xs : List (Placed N F P)) (m : Placed N F P) → Has xs m.shape m.kind → p m ≡ true → ((n : N) (k : Kind F P) → Has xs n k → p (record { shape = n; kind = k }) ≡ true → (n ≡ m.shape) × (k ≡ m.kind)) → first_of p xs ≡ Some m
+pub first_of-only : {N F P : Type 0} (p : Placed N F P → Bool) (xs : List (Placed N F P)) (m : Placed N F P)
+    → Has xs m.shape m.kind → p m ≡ true
+    → ((n : N) (k : Kind F P) → Has xs n k → p (record { shape = n; kind = k }) ≡ true → (n ≡ m.shape) × (k ≡ m.kind))
+    → first_of p xs ≡ Some m
 first_of-only p [] m h e only = absurd h
 first_of-only p (x ∷ xs) m h e only = elim (either (p x)) [
   | inl t ↦
@@ -52,7 +52,8 @@ first_of-only p (x ∷ xs) m h e only = elim (either (p x)) [
 ]
 
 module _ {N F P : Type 0} where
-  pub Has-erased : (xs : List (Placed (Site N) F P)) (n : N) (k : Kind F P) → Has (erase xs) n k → (s : Site N) × Has xs s k × (s.shape ≡ n)
+  pub Has-erased : (xs : List (Placed (Site N) F P)) (n : N) (k : Kind F P) → Has (erase xs) n k
+      → (s : Site N) × Has xs s k × (s.shape ≡ n)
   Has-erased [] n k h = absurd h
   Has-erased (x ∷ xs) n k h = elim h [
     | inl e ↦ (x.shape, inl (refl, e.1), e.0)
@@ -73,7 +74,8 @@ module _ {N A F P : Type 0} (derivation : Derivation N A F P) where
 
   module _ (C : Members) (good : steps.IsOrdered world C) (m : Placed (Site N) F P) (was : Has C m.shape Waiting) (least : (w : Site N) → Has C w Waiting → steps.SamePlace world w m.shape ⊎ IsEarlier world (stamp_of world m.shape) (stamp_of world w)) where
     -- no member that waits has a smaller rank
-    none_less : (w : Site N) → Has C w Waiting → rank_cmp derivation.mode (rank (chain_of derivation w)) (rank (chain_of derivation m.shape)) ≡ Less → ⊥
+    none_less : (w : Site N) → Has C w Waiting
+        → rank_cmp derivation.mode (rank (chain_of derivation w)) (rank (chain_of derivation m.shape)) ≡ Less → ⊥
     none_less w h less = elim (least w h) [
       | inl same ↦
           let is : w ≡ m.shape = (good.distinct w m.shape Waiting Waiting h was same).0 in
@@ -91,7 +93,9 @@ module _ {N A F P : Type 0} (derivation : Derivation N A F P) where
     passes waiting =
         both_make _ _ waiting (list_all-by (λ x. not (is_waiting x.kind && is_lt (rank_cmp derivation.mode (rank_of derivation x.shape) (rank_of derivation m.shape.shape)))) (erase C) (λ n k h. at n k h))
       where
-        at : (n : N) (k : Kind F P) → Has (erase C) n k → not (is_waiting k && is_lt (rank_cmp derivation.mode (rank_of derivation n) (rank_of derivation m.shape.shape))) ≡ true
+        at : (n : N) (k : Kind F P) → Has (erase C) n k
+            → not (is_waiting k && is_lt
+              (rank_cmp derivation.mode (rank_of derivation n) (rank_of derivation m.shape.shape))) ≡ true
         at n Waiting h =
             let w = Has-erased C n Waiting h in
             not_less _ (λ less. none_less w.0 w.1 ((λ i. rank_cmp derivation.mode ((rank-site derivation w.0 ∙ ap (rank_of derivation) w.2) i) (rank-site derivation m.shape i)) ∙ less))
@@ -99,7 +103,9 @@ module _ {N A F P : Type 0} (derivation : Derivation N A F P) where
         at n (Faulted f) h = refl
         at n (Instance p) h = refl
 
-    only : (s : Site N) (k : Kind F P) → Has C s k → is_next derivation (erase C) (record { shape = s.shape; kind = k }) ≡ true → m.kind ≡ Waiting → (s ≡ m.shape) × (k ≡ m.kind)
+    only : (s : Site N) (k : Kind F P) → Has C s k
+        → is_next derivation (erase C) (record { shape = s.shape; kind = k }) ≡ true → m.kind ≡ Waiting
+        → (s ≡ m.shape) × (k ≡ m.kind)
     only s k h e kind =
         let parts = both _ _ e in
         let waiting = waiting_kind k parts.0 in

@@ -1,17 +1,18 @@
-pub mod Lists
-pub mod Sites
-pub mod Along
-pub mod Least
-pub mod Apart
-pub mod Budget
-pub mod Counts
-pub mod Keys
-pub mod Turn
-pub mod Ends
-pub mod Stamps
-pub mod Derive
-pub mod One
-pub mod Inherited
-pub mod Unique
-pub mod Derived
-pub mod Within
+mod Lists
+mod Sites
+mod Along
+mod Least
+mod Apart
+mod Budget
+mod Counts
+mod Keys
+mod Turn
+mod Ends
+mod Stamps
+mod Derive
+mod One
+mod Inherited
+mod Unique
+mod Derived
+mod Within
+pub mod Door

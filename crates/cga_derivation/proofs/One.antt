@@ -3,13 +3,14 @@ use Rattle.std.proofs.Common.{◌≡◌, ℕ, ◌+◌, ◌-◌, ◌≤◌, ◌<�
 use Rattle.std.specs.Prelude.{nat_lt, MatchOption}
 use Rattle.std.proofs.lemmas.Bool.Decides.{nat_tests}
 use Rattle.cga_order.specs.declared.placed.Placed.{Placed}
-use Rattle.cga_order.proofs.Maxima.{either}
+use Rattle.std.proofs.lemmas.Bool.{cases_Bool as either}
 use Rattle.cga_derivation.specs.Derivation.{Derivation, IsDerivation, reached, derive, NothingWaits, IsDerived}
 use Rattle.cga_derivation.proofs.Budget.{settled-reached}
 use Rattle.cga_derivation.proofs.Derive.{says}
 
 module _ {N A F P : Type 0} (derivation : Derivation N A F P) (laws : IsDerivation derivation) where
-  same_end : (n m : ℕ) → NothingWaits derivation (reached derivation n) → NothingWaits derivation (reached derivation m) → reached derivation n ≡ reached derivation m
+  same_end : (n m : ℕ) → NothingWaits derivation (reached derivation n) → NothingWaits derivation (reached derivation m)
+      → reached derivation n ≡ reached derivation m
   same_end n m quiet_n quiet_m = elim (either (nat_lt n m)) [
     | inl t ↦
         let lt : n < m = grind (arith, nat_tests) in
@@ -31,7 +32,8 @@ module _ {N A F P : Type 0} (derivation : Derivation N A F P) (laws : IsDerivati
       ((n : ℕ) × (budget < length (reached derivation n)))
       (λ list. ((m : ℕ) → length (reached derivation m) ≤ budget) × ((n : ℕ) × (n ≤ budget) × (list ≡ reached derivation n) × NothingWaits derivation list))
 
-  pub within : (budget : ℕ) (list : List (Placed N F P)) → derive derivation budget ≡ Some list → IsDerived derivation list
+  pub within : (budget : ℕ) (list : List (Placed N F P)) → derive derivation budget ≡ Some list
+      → IsDerived derivation list
   within budget list e =
       let h : Says budget (Some list) = subst (Says budget) e (says derivation laws budget) in
       (h.1.0, h.1.2, h.1.3)

@@ -6,7 +6,7 @@ use Rattle.cga_order.specs.Chain.{IsWhole, IsChild, rank}
 use Rattle.cga_order.specs.declared.placed.Placed.{Placed}
 use Rattle.cga_order.specs.World.{World, IsWorld, IsNew, Among}
 use Rattle.cga_order.specs.World as worlds
-use Rattle.cga_order.proofs.Places.{slice_get-map}
+use Rattle.cga_order.proofs.Door.{slice_get-map}
 use Rattle.cga_derivation.proofs.Lists.{ok_same, err_ok}
 use Rattle.cga_derivation.specs.Derivation.{Derivation, IsDerivation, place_of, rank_of, SameSeen}
 use Rattle.cga_derivation.specs.Sites.{Site, fitted, sited, all_sited, chain_of, world_of}
@@ -24,7 +24,8 @@ fitted-same (suc n) (x ∷ xs) e = ap (λ l. x ∷ l) (fitted-same n xs (omega (
 
 -- what was sited
 module _ {N F P : Type 0} where
-  all_sited-ok : (ps : List ℕ) (r : Result (List (Placed N F P)) F) (cs : List (Placed (Site N) F P)) → all_sited ps r ≡ Ok cs → (ds : List (Placed N F P)) × (r ≡ Ok ds) × (cs ≡ map (sited ps) ds)
+  all_sited-ok : (ps : List ℕ) (r : Result (List (Placed N F P)) F) (cs : List (Placed (Site N) F P))
+      → all_sited ps r ≡ Ok cs → (ds : List (Placed N F P)) × (r ≡ Ok ds) × (cs ≡ map (sited ps) ds)
   all_sited-ok ps (Ok ds) cs e = (ds, refl, sym (ok_same _ _ e))
   all_sited-ok ps (Err f) cs e = err_ok f cs e
 
@@ -39,7 +40,8 @@ module _ {N : Type 0} where
     | inr r ↦ let w = Among-rooted ns s r in (inr w.0, w.1)
   ]
 
-  Among-shapes : (ss : List (Site N)) (n : N) → Among n (map (λ m. m.shape) ss) → (s : Site N) × Among s ss × (s.shape ≡ n)
+  Among-shapes : (ss : List (Site N)) (n : N) → Among n (map (λ m. m.shape) ss)
+      → (s : Site N) × Among s ss × (s.shape ≡ n)
   Among-shapes [] n h = absurd h
   Among-shapes (s ∷ ss) n h = elim h [
     | inl e ↦ (s, inl refl, e)
@@ -70,7 +72,10 @@ module _ {N A F P : Type 0} (derivation : Derivation N A F P) where
       λ i. record { priority = at i; lot = derivation.lot s.shape; path = take-length path i }
 
   -- with the priorities of its parent's chain above it a child is sited below it
-  pub IsChild-sited : (s : Site N) (i : ℕ) (c : N) → derivation.lot c ≡ derivation.lot s.shape → derivation.path c ≡ derivation.path s.shape ++ i ∷ [] → IsChild (chain_of derivation s) i (chain_of derivation (record { shape = c; above = (chain_of derivation s).priorities }))
+  pub IsChild-sited : (s : Site N) (i : ℕ) (c : N) → derivation.lot c ≡ derivation.lot s.shape
+      → derivation.path c ≡ derivation.path s.shape ++ i ∷ []
+      → IsChild (chain_of derivation s) i
+        (chain_of derivation (record { shape = c; above = (chain_of derivation s).priorities }))
   IsChild-sited s i c lot path =
       let above = (chain_of derivation s).priorities in
       let size : length above ≡ length (derivation.path c) =
@@ -82,7 +87,8 @@ module _ {N A F P : Type 0} (derivation : Derivation N A F P) where
       }
 
   module _ (laws : IsDerivation derivation) where
-    SameSeen-shapes : (n : Site N) (xs ys : List (Site N)) → worlds.SameSeen (world_of derivation) n xs ys → SameSeen derivation n.shape (map (λ m. m.shape) xs) (map (λ m. m.shape) ys)
+    SameSeen-shapes : (n : Site N) (xs ys : List (Site N)) → worlds.SameSeen (world_of derivation) n xs ys
+        → SameSeen derivation n.shape (map (λ m. m.shape) xs) (map (λ m. m.shape) ys)
     SameSeen-shapes n xs ys h m sees = (
       λ a.
           let w = Among-shapes xs m a in

@@ -9,9 +9,8 @@ use Rattle.cga_order.specs.declared.placed.Placed.{Placed}
 use Rattle.cga_order.specs.declared.placed.Kind.{Kind}
 use Rattle.cga_order.specs.World.{Has, Among}
 use Rattle.cga_order.specs.Run as run
-use Rattle.cga_order.proofs.Steps as steps
-use Rattle.cga_order.proofs.Chains.{snoc-same}
-use Rattle.cga_order.proofs.Places.{slice_get-map, stands-reached}
+use Rattle.cga_order.proofs.Door as steps
+use Rattle.cga_order.proofs.Door.{slice_get-map, snoc-same, stands-reached}
 use Rattle.cga_derivation.proofs.Lists.{some_same, none_some}
 use Rattle.cga_derivation.specs.Derivation.{Derivation, IsDerivation, next_of, reached, taken_next, expanded}
 use Rattle.cga_derivation.specs.Sites.{Site, erased, erase, fitted, chain_of, world_of, next_site, sites, taken, taken_by}
@@ -26,14 +25,19 @@ module _ {N A F P : Type 0} (derivation : Derivation N A F P) where
 
   module _ (C : Members) (good : steps.IsOrdered (world_of derivation) C) where
     -- the member at a place is found
-    priority-here : (s : Site N) (k : Kind F P) → Has C s k → priority_at derivation (erase C) (derivation.lot s.shape) (derivation.path s.shape) ≡ derivation.priority s.shape
+    priority-here : (s : Site N) (k : Kind F P) → Has C s k
+        → priority_at derivation (erase C) (derivation.lot s.shape) (derivation.path s.shape) ≡ derivation.priority
+          s.shape
     priority-here s k h =
         let p = stands_at derivation (derivation.lot s.shape) (derivation.path s.shape) in
         let m : Placed N F P = record { shape = s.shape; kind = k } in
         let here : p m ≡ true = both_make _ _ ((bytes_decides (derivation.lot s.shape) (derivation.lot s.shape)).1 refl) ((bytes_decides (derivation.path s.shape) (derivation.path s.shape)).1 refl) in
         ap (priority_found derivation) (first_of-only p (erase C) m (Has-erase C s k h) here (λ n j g e. only n j g e))
       where
-        only : (n : N) (j : Kind F P) → Has (erase C) n j → stands_at derivation (derivation.lot s.shape) (derivation.path s.shape) (record { shape = n; kind = j }) ≡ true → (n ≡ s.shape) × (j ≡ k)
+        only : (n : N) (j : Kind F P) → Has (erase C) n j
+            → stands_at derivation (derivation.lot s.shape) (derivation.path s.shape) (record { shape = n; kind = j })
+              ≡ true
+            → (n ≡ s.shape) × (j ≡ k)
         only n j g e =
             let parts = both _ _ e in
             let w = Has-erased C n j g in
@@ -42,19 +46,25 @@ module _ {N A F P : Type 0} (derivation : Derivation N A F P) where
             let one = good.distinct w.0 s j k w.1 h (λ i. (lot i, path i)) in
             (sym w.2 ∙ ap (λ (x : Site N). x.shape) one.0, one.1)
 
-    down-same : (lot p : List ℕ) (i d : ℕ) → d ≤ length p + 1 → priorities_down derivation (erase C) lot (p ++ i ∷ []) d ≡ priorities_down derivation (erase C) lot p d
+    down-same : (lot p : List ℕ) (i d : ℕ) → d ≤ length p + 1
+        → priorities_down derivation (erase C) lot (p ++ i ∷ []) d ≡ priorities_down derivation (erase C) lot p d
     down-same lot p i zero h = refl
     down-same lot p i (suc d) h =
         let front : take d (p ++ i ∷ []) ≡ take d p = take-append-le d p (i ∷ []) (omega (arith, h)) in
         λ t. down-same lot p i d (omega (arith, h)) t ++ priority_at derivation (erase C) lot (front t) ∷ []
 
     -- the own priority stands behind those of the ancestors
-    down-last : (s : Site N) (k : Kind F P) → Has C s k → priorities_down derivation (erase C) (derivation.lot s.shape) (derivation.path s.shape) (suc (length (derivation.path s.shape))) ≡ priorities_down derivation (erase C) (derivation.lot s.shape) (derivation.path s.shape) (length (derivation.path s.shape)) ++ derivation.priority s.shape ∷ []
+    down-last : (s : Site N) (k : Kind F P) → Has C s k
+        → priorities_down derivation (erase C) (derivation.lot s.shape) (derivation.path s.shape)
+          (suc (length (derivation.path s.shape))) ≡ priorities_down derivation (erase C) (derivation.lot s.shape)
+          (derivation.path s.shape) (length (derivation.path s.shape)) ++ derivation.priority s.shape ∷ []
     down-last s k h =
         let own : priority_at derivation (erase C) (derivation.lot s.shape) (take (length (derivation.path s.shape)) (derivation.path s.shape)) ≡ derivation.priority s.shape = ap (priority_at derivation (erase C) (derivation.lot s.shape)) (take-length (derivation.path s.shape)) ∙ priority-here s k h in
         ap (λ p. priorities_down derivation (erase C) (derivation.lot s.shape) (derivation.path s.shape) (length (derivation.path s.shape)) ++ p ∷ []) own
 
-    above-is : (size : ℕ) (s : Site N) (k : Kind F P) → Has C s k → length (derivation.path s.shape) ≡ size → fitted (length (derivation.path s.shape)) s.above ≡ priorities_down derivation (erase C) (derivation.lot s.shape) (derivation.path s.shape) (length (derivation.path s.shape))
+    above-is : (size : ℕ) (s : Site N) (k : Kind F P) → Has C s k → length (derivation.path s.shape) ≡ size
+        → fitted (length (derivation.path s.shape)) s.above ≡ priorities_down derivation (erase C)
+          (derivation.lot s.shape) (derivation.path s.shape) (length (derivation.path s.shape))
     above-is zero s k h e = ap (λ n. fitted n s.above) e ∙ sym (ap (priorities_down derivation (erase C) (derivation.lot s.shape) (derivation.path s.shape)) e)
     above-is (suc size) s k h e = elim (good.under s k h) [
       | inl root ↦ let z : 0 ≡ suc size = sym (ap length root) ∙ e in absurd (omega (arith, z))
@@ -69,16 +79,20 @@ module _ {N A F P : Type 0} (derivation : Derivation N A F P) where
           front ∙ (whole ∙ (sym same ∙ (λ t. priorities_down derivation (erase C) (sym u.3.lot t) (sym u.3.path t) (sym long t))))
     ]
 
-    pub chain-is : (s : Site N) (k : Kind F P) → Has C s k → chain_of derivation s ≡ chain_in derivation (erase C) s.shape
+    pub chain-is : (s : Site N) (k : Kind F P) → Has C s k
+        → chain_of derivation s ≡ chain_in derivation (erase C) s.shape
     chain-is s k h =
         let ps = ap (λ l. l ++ derivation.priority s.shape ∷ []) (above-is (length (derivation.path s.shape)) s k h refl) ∙ sym (down-last s k h) in
         λ t. record { lot = derivation.lot s.shape; path = derivation.path s.shape; priorities = ps t }
 
-    rises-in : (ss : List (Site N)) → ((t : Site N) → Among t ss → (k : Kind F P) × Has C t k) → run.Rises (world_of derivation) ss → RisesIn derivation (erase C) (map (λ t. t.shape) ss)
+    rises-in : (ss : List (Site N)) → ((t : Site N) → Among t ss → (k : Kind F P) × Has C t k)
+        → run.Rises (world_of derivation) ss → RisesIn derivation (erase C) (map (λ t. t.shape) ss)
     rises-in [] there rises = tt
     rises-in (s ∷ ss) there rises = (all ss (λ t i. there t (inr i)) rises.0, rises-in ss (λ t i. there t (inr i)) rises.1)
       where
-        all : (ts : List (Site N)) → ((t : Site N) → Among t ts → (k : Kind F P) × Has C t k) → run.AllEarlier (world_of derivation) s ts → AllEarlier derivation (erase C) s.shape (map (λ t. t.shape) ts)
+        all : (ts : List (Site N)) → ((t : Site N) → Among t ts → (k : Kind F P) × Has C t k)
+            → run.AllEarlier (world_of derivation) s ts
+            → AllEarlier derivation (erase C) s.shape (map (λ t. t.shape) ts)
         all [] in_list h = tt
         all (t ∷ ts) in_list h =
             let a = in_list t (inl refl) in
@@ -96,7 +110,9 @@ module _ {N A F P : Type 0} (derivation : Derivation N A F P) where
         let found : next_of derivation (reached derivation n) ≡ option_of erased (next_site derivation (sites derivation n)) = ap (next_of derivation) (sym (erase-sites derivation n)) ∙ next-along derivation (sites derivation n) in
         by (next_site derivation (sites derivation n)) ∙ ((λ i. taken_next derivation (sym found i) (taken-shapes n i)))
       where
-        by : (o : Option (Placed (Site N) F P)) → map (λ (t : Site N). t.shape) (taken_by derivation o (taken derivation n)) ≡ taken_next derivation (option_of erased o) (map (λ (t : Site N). t.shape) (taken derivation n))
+        by : (o : Option (Placed (Site N) F P))
+            → map (λ (t : Site N). t.shape) (taken_by derivation o (taken derivation n)) ≡ taken_next derivation
+              (option_of erased o) (map (λ (t : Site N). t.shape) (taken derivation n))
         by None = refl
         by (Some m) = refl
 
@@ -107,7 +123,8 @@ module _ {N A F P : Type 0} (derivation : Derivation N A F P) where
         let made = rises-in C (good-at n) (taken derivation n) (λ t i. let w = steps.taken_done (world_of derivation) (world derivation laws) (taken derivation n) C (reached-sites derivation n) t i in (w.0, w.1)) (steps.rises (world_of derivation) (world derivation laws) (taken derivation n) C (reached-sites derivation n)) in
         subst (λ l. RisesIn derivation l (expanded derivation n)) (erase-sites derivation n) (subst (RisesIn derivation (erase C)) (taken-shapes n) made)
 
-    stands-erased : (C : Members) → steps.IsOrdered (world_of derivation) C → run.StandsByBirth (world_of derivation) C → StandsInOrder derivation (erase C)
+    stands-erased : (C : Members) → steps.IsOrdered (world_of derivation) C → run.StandsByBirth (world_of derivation) C
+        → StandsInOrder derivation (erase C)
     stands-erased C good order i j m n e f lt past =
         let a = slice_get-map (λ (x : Placed (Site N) F P). erased x) C i m e in
         let b = slice_get-map (λ (x : Placed (Site N) F P). erased x) C j n f in

@@ -7,7 +7,7 @@ use Rattle.cga_order.specs.Chain.{Chain}
 use Rattle.cga_order.specs.Stamp.{stamp_cmp}
 use Rattle.cga_order.specs.Run as run
 use Rattle.cga_order.specs.World as worlds
-use Rattle.cga_order.proofs.Steps as steps
+use Rattle.cga_order.proofs.Door as steps
 use Rattle.cga_order.specs.declared.placed.Placed.{Placed}
 use Rattle.cga_order.specs.declared.placed.Kind.{Kind}
 use Rattle.cga_order.specs.declared.placed.Kind.TheVariants.{Waiting, Done, Faulted}
@@ -21,7 +21,8 @@ use Rattle.cga_derivation.proofs.Apart.{apart-sites, apart-reached}
 use Rattle.cga_derivation.proofs.Counts.{expanded-set, expanded-append, expanded-new}
 use Rattle.cga_derivation.proofs.Keys.{become-set, key-next, key-pop}
 
-get-map : {X Y : Type 0} (f : Y → X) (ys : List Y) (i : ℕ) (y : Y) → slice_get ys i ≡ Some y → slice_get (map f ys) i ≡ Some (f y)
+get-map : {X Y : Type 0} (f : Y → X) (ys : List Y) (i : ℕ) (y : Y) → slice_get ys i ≡ Some y
+    → slice_get (map f ys) i ≡ Some (f y)
 get-map f [] i y e = none_some y e
 get-map f (z ∷ ys) zero y e = ap (λ x. Some (f x)) (some_same z y e)
 get-map f (z ∷ ys) (suc i) y e = get-map f ys i y e
@@ -37,14 +38,16 @@ module _ {N A F P : Type 0} (derivation : Derivation N A F P) (laws : IsDerivati
     good : steps.IsOrdered (world_of derivation) (sites derivation n)
     good = steps.in_order (world_of derivation) (world derivation laws) (taken derivation n) (sites derivation n) (reached-sites derivation n)
 
-    next : (m : Placed (Site N) F P) × (slice_get (sites derivation n) at ≡ Some m) × (m.kind ≡ Waiting) × (key_chain k ≡ chain_of derivation m.shape) × (next_site derivation (sites derivation n) ≡ Some m)
+    next : (m : Placed (Site N) F P) × (slice_get (sites derivation n) at ≡ Some m) × (m.kind ≡ Waiting)
+          × (key_chain k ≡ chain_of derivation m.shape) × (next_site derivation (sites derivation n) ≡ Some m)
     next = key-next derivation mode_of key_chain cmp agrees (sites derivation n) good k at entries turn.keys turn.above
 
     erase-list : erase (sites derivation n) ≡ list
     erase-list = erase-sites derivation n ∙ sym turn.list_is
 
     -- the member at that place waits, and has the key's lot and path
-    pub member : (x : Placed N F P) × (slice_get list at ≡ Some x) × (x.kind ≡ Waiting) × ((key_chain k).lot ≡ derivation.lot x.shape) × ((key_chain k).path ≡ derivation.path x.shape)
+    pub member : (x : Placed N F P) × (slice_get list at ≡ Some x) × (x.kind ≡ Waiting)
+          × ((key_chain k).lot ≡ derivation.lot x.shape) × ((key_chain k).path ≡ derivation.path x.shape)
     member =
         let m = next in
         (erased m.0, subst (λ l. slice_get l at ≡ Some (erased m.0)) erase-list (get-map erased (sites derivation n) at m.0 m.1), m.2, ap (λ c. c.lot) m.3, ap (λ c. c.path) m.3)
@@ -64,7 +67,8 @@ module _ {N A F P : Type 0} (derivation : Derivation N A F P) (laws : IsDerivati
       apart = subst (AllApart derivation) (sym turn.list_is) (apart-reached derivation laws n)
 
       -- the next configuration
-      reached-next : (r : Result Members F) → derivation.expand x.shape (asked derivation list x.shape) ≡ r → reached derivation (suc n) ≡ told derivation list x.shape r
+      reached-next : (r : Result Members F) → derivation.expand x.shape (asked derivation list x.shape) ≡ r
+          → reached derivation (suc n) ≡ told derivation list x.shape r
       unfolding reached step
       reached-next r e =
           let found : next_of derivation list ≡ Some x = ap (next_of derivation) (sym erase-list) ∙ (next-along derivation (sites derivation n) ∙ (ap (option_of erased) next.4 ∙ ap Some same_member)) in
@@ -78,14 +82,18 @@ module _ {N A F P : Type 0} (derivation : Derivation N A F P) (laws : IsDerivati
       site-shape = ap (λ (y : Placed N F P). y.shape) same_member
 
       -- the same of the members that know their ancestors' priorities
-      sites-next : (r : Result Members F) → derivation.expand x.shape (asked derivation list x.shape) ≡ r → sites derivation (suc n) ≡ run.told (world_of derivation) (sites derivation n) site (all_sited (chain_of derivation site).priorities r)
+      sites-next : (r : Result Members F) → derivation.expand x.shape (asked derivation list x.shape) ≡ r
+          → sites derivation (suc n) ≡ run.told (world_of derivation) (sites derivation n) site
+            (all_sited (chain_of derivation site).priorities r)
       unfolding sites site
       sites-next r e =
           let answers = asked-erase derivation (sites derivation n) next.0.shape ∙ (λ i. asked derivation (erase-list i) (site-shape i)) in
           let result : derivation.expand next.0.shape.shape ((world_of derivation).answers next.0.shape (worlds.shapes_where (λ n k. true) (sites derivation n)) (worlds.shapes_where (λ n k. worlds.is_waiting k) (sites derivation n))) ≡ r = (λ i. derivation.expand (site-shape i) (answers i)) ∙ e in
           ap (step_sites_by derivation (sites derivation n)) next.4 ∙ ap (λ q. run.told (world_of derivation) (sites derivation n) next.0.shape (all_sited (chain_of derivation next.0.shape).priorities q)) result
 
-      pub turn-fault : (f : F) → derivation.expand x.shape (asked derivation list x.shape) ≡ Err f → IsAt derivation mode_of key_chain (suc n) (slice_set list at (record { shape = x.shape; kind = Faulted f })) entries
+      pub turn-fault : (f : F) → derivation.expand x.shape (asked derivation list x.shape) ≡ Err f
+          → IsAt derivation mode_of key_chain (suc n)
+            (slice_set list at (record { shape = x.shape; kind = Faulted f })) entries
       unfolding site
       turn-fault f e = record {
         list_is = sym (reached-next (Err f) e ∙ become-set derivation list at x (Faulted f) apart there);
@@ -94,7 +102,13 @@ module _ {N A F P : Type 0} (derivation : Derivation N A F P) (laws : IsDerivati
       }
 
       -- the sites before the children come, and what is left to show of the keys when they have come
-      pub turn-done : (cs : Members) → derivation.expand x.shape (asked derivation list x.shape) ≡ Ok cs → (C : Sites) × (length C ≡ length list) × HasWaiting derivation mode_of key_chain C entries × SitesApart derivation (C ++ map (sited (key_chain k).priorities) cs) × ((entries' : List (K × ℕ)) → HasWaiting derivation mode_of key_chain (C ++ map (sited (key_chain k).priorities) cs) entries' → IsAt derivation mode_of key_chain (suc n) (slice_set list at (record { shape = x.shape; kind = Done }) ++ cs) entries')
+      pub turn-done : (cs : Members) → derivation.expand x.shape (asked derivation list x.shape) ≡ Ok cs
+          → (C : Sites) × (length C ≡ length list) × HasWaiting derivation mode_of key_chain C entries
+            × SitesApart derivation (C ++ map (sited (key_chain k).priorities) cs)
+            × ((entries' : List (K × ℕ))
+            → HasWaiting derivation mode_of key_chain (C ++ map (sited (key_chain k).priorities) cs) entries'
+            → IsAt derivation mode_of key_chain (suc n)
+            (slice_set list at (record { shape = x.shape; kind = Done }) ++ cs) entries')
       unfolding site
       turn-done cs e =
           let C = map (run.become (world_of derivation) next.0.shape Done) (sites derivation n) in

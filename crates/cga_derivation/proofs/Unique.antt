@@ -1,5 +1,7 @@
 -- A consistent list has the members of the derivation.
-use Rattle.std.proofs.Common.{◌≡◌, ℕ, zero, suc, ◌+◌, ◌≤◌, List, [], ◌∷◌, ◌++◌, length, take, map, Bool, true, false, not, ◌&&◌, cond, refl, sym, ap, ◌∙◌, subst, inl, inr, Result, Ok, Err, None, arith, length-append}
+use Rattle.std.proofs.Common.{◌≡◌, ℕ, zero, suc, ◌+◌, ◌≤◌, List, [], ◌∷◌, ◌++◌, length, take, map, Bool, true, false}
+use Rattle.std.proofs.Common.{not, ◌&&◌, cond, refl, sym, ap, ◌∙◌, subst, inl, inr, Result, Ok, Err, None, arith}
+use Rattle.std.proofs.Common.{length-append}
 use Rattle.std.specs.Prelude.{slice_get}
 use Rattle.std.specs.Ordering.{is_lt}
 use Rattle.std.proofs.Math.Seq.{take-length}
@@ -12,8 +14,7 @@ use Rattle.cga_order.specs.declared.placed.Kind.{Kind}
 use Rattle.cga_order.specs.declared.placed.Kind.TheVariants.{Waiting, Done}
 use Rattle.cga_order.specs.World.{World, Has, Among, shapes_where, is_instance}
 use Rattle.cga_order.specs.Consistent as order
-use Rattle.cga_order.proofs.Members.{Has-index}
-use Rattle.cga_order.proofs.Unique.{same_members}
+use Rattle.cga_order.proofs.Door.{Has-index, same_members}
 use Rattle.cga_derivation.proofs.Lists.{some_same}
 use Rattle.cga_derivation.specs.Derivation.{Derivation, IsDerivation, place_of, reached, NothingWaits}
 use Rattle.cga_derivation.specs.Sites.{Site, sited, all_sited, chain_of, world_of, sites, taken}
@@ -25,19 +26,22 @@ use Rattle.cga_derivation.proofs.Along.{both, Has-erase, erase-sites, reached-si
 use Rattle.cga_derivation.proofs.Least.{both_make, first_of-only, Has-erased}
 
 module _ {N : Type 0} where
-  pub rooted-Among : (ns : List N) (n : N) → Among n ns → Among {N = Site N} (record { shape = n; above = [] }) (map (λ (r : N). record { shape = r; above = [] }) ns)
+  pub rooted-Among : (ns : List N) (n : N) → Among n ns
+      → Among {N = Site N} (record { shape = n; above = [] }) (map (λ (r : N). record { shape = r; above = [] }) ns)
   rooted-Among [] n h = absurd h
   rooted-Among (m ∷ ns) n h = elim h [ inl e ↦ inl (ap (λ (x : N). record { shape = x; above = [] }) e) | inr r ↦ inr (rooted-Among ns n r) ]
 
 module _ {N F P : Type 0} (ps : List ℕ) where
-  pub sited-Has : (cs : List (Placed N F P)) (s : Site N) (k : Kind F P) → Has (map (sited ps) cs) s k → Has cs s.shape k × (s.above ≡ ps)
+  pub sited-Has : (cs : List (Placed N F P)) (s : Site N) (k : Kind F P) → Has (map (sited ps) cs) s k
+      → Has cs s.shape k × (s.above ≡ ps)
   sited-Has [] s k h = absurd h
   sited-Has (c ∷ cs) s k h = elim h [
     | inl e ↦ (inl (ap (λ (x : Site N). x.shape) e.0, e.1), ap (λ (x : Site N). x.above) (sym e.0))
     | inr r ↦ let w = sited-Has cs s k r in (inr w.0, w.1)
   ]
 
-  pub Has-sited : (cs : List (Placed N F P)) (n : N) (k : Kind F P) → Has cs n k → Has (map (sited ps) cs) (record { shape = n; above = ps }) k
+  pub Has-sited : (cs : List (Placed N F P)) (n : N) (k : Kind F P) → Has cs n k
+      → Has (map (sited ps) cs) (record { shape = n; above = ps }) k
   Has-sited [] n k h = absurd h
   Has-sited (c ∷ cs) n k h = elim h [ inl e ↦ inl (ap (λ (x : N). record { shape = x; above = ps }) e.0, e.1) | inr r ↦ inr (Has-sited cs n k r) ]
 
@@ -54,7 +58,8 @@ module _ {N A F P : Type 0} (derivation : Derivation N A F P) (laws : IsDerivati
   abbrev pub lifts : List (Placed N F P) → List (Placed (Site N) F P)
   lifts xs = map (λ m. record { shape = site m.shape; kind = m.kind }) xs
 
-  one_place : (n m : N) (k j : Kind F P) → Has list n k → Has list m j → place_of derivation n ≡ place_of derivation m → (n ≡ m) × (k ≡ j)
+  one_place : (n m : N) (k j : Kind F P) → Has list n k → Has list m j → place_of derivation n ≡ place_of derivation m
+      → (n ≡ m) × (k ≡ j)
   one_place n m k j h g same =
       let a = Has-index list n k h in
       let b = Has-index list m j g in
@@ -62,14 +67,17 @@ module _ {N A F P : Type 0} (derivation : Derivation N A F P) (laws : IsDerivati
       let is = some_same a.1 b.1 (sym a.2 ∙ (ap (slice_get list) index ∙ b.2)) in
       (sym a.3 ∙ (ap (λ (x : Placed N F P). x.shape) is ∙ b.3), sym a.4 ∙ (ap (λ (x : Placed N F P). x.kind) is ∙ b.4))
 
-  priority-here : (n : N) (k : Kind F P) → Has list n k → priority_at derivation list (derivation.lot n) (derivation.path n) ≡ derivation.priority n
+  priority-here : (n : N) (k : Kind F P) → Has list n k
+      → priority_at derivation list (derivation.lot n) (derivation.path n) ≡ derivation.priority n
   priority-here n k h =
       let p = stands_at derivation (derivation.lot n) (derivation.path n) in
       let m : Placed N F P = record { shape = n; kind = k } in
       let here : p m ≡ true = both_make _ _ ((bytes_decides (derivation.lot n) (derivation.lot n)).1 refl) ((bytes_decides (derivation.path n) (derivation.path n)).1 refl) in
       ap (priority_found derivation) (first_of-only p list m h here (λ x j g e. only x j g e))
     where
-      only : (x : N) (j : Kind F P) → Has list x j → stands_at derivation (derivation.lot n) (derivation.path n) (record { shape = x; kind = j }) ≡ true → (x ≡ n) × (j ≡ k)
+      only : (x : N) (j : Kind F P) → Has list x j
+          → stands_at derivation (derivation.lot n) (derivation.path n) (record { shape = x; kind = j }) ≡ true
+          → (x ≡ n) × (j ≡ k)
       only x j g e =
           let parts = both _ _ e in
           one_place x n j k g h (λ i. ((bytes_decides (derivation.lot x) (derivation.lot n)).0 parts.0 i, (bytes_decides (derivation.path x) (derivation.path n)).0 parts.1 i))
@@ -91,7 +99,8 @@ module _ {N A F P : Type 0} (derivation : Derivation N A F P) (laws : IsDerivati
       let own : derivation.priority n ≡ priority_at derivation list (derivation.lot n) (take (length (derivation.path n)) (derivation.path n)) = sym (ap (priority_at derivation list (derivation.lot n)) (take-length (derivation.path n)) ∙ priority-here n k h) in
       λ t. record { lot = derivation.lot n; path = derivation.path n; priorities = above t ++ own t ∷ [] }
 
-  pub lifts-Has : (xs : List (Placed N F P)) (s : Site N) (k : Kind F P) → Has (lifts xs) s k → Has xs s.shape k × (s ≡ site s.shape)
+  pub lifts-Has : (xs : List (Placed N F P)) (s : Site N) (k : Kind F P) → Has (lifts xs) s k
+      → Has xs s.shape k × (s ≡ site s.shape)
   lifts-Has [] s k h = absurd h
   lifts-Has (x ∷ xs) s k h = elim h [
     | inl e ↦ (inl (ap (λ (y : Site N). y.shape) e.0, e.1), sym e.0 ∙ ap (λ (y : Site N). site y.shape) e.0)
@@ -102,7 +111,9 @@ module _ {N A F P : Type 0} (derivation : Derivation N A F P) (laws : IsDerivati
   Has-lifts [] n k h = absurd h
   Has-lifts (x ∷ xs) n k h = elim h [ inl e ↦ inl (ap site e.0, e.1) | inr r ↦ inr (Has-lifts xs n k r) ]
 
-  shapes-lifts : (t : Site N → Kind F P → Bool) (u : N → Kind F P → Bool) (xs : List (Placed N F P)) → ((n : N) (k : Kind F P) → Has xs n k → t (site n) k ≡ u n k) → map (λ (m : Site N). m.shape) (shapes_where t (lifts xs)) ≡ shapes_where u xs
+  shapes-lifts : (t : Site N → Kind F P → Bool) (u : N → Kind F P → Bool) (xs : List (Placed N F P))
+      → ((n : N) (k : Kind F P) → Has xs n k → t (site n) k ≡ u n k)
+      → map (λ (m : Site N). m.shape) (shapes_where t (lifts xs)) ≡ shapes_where u xs
   shapes-lifts t u [] agree = refl
   shapes-lifts t u (x ∷ xs) agree =
       let rest = shapes-lifts t u xs (λ n k h. agree n k (inr h)) in
@@ -112,7 +123,9 @@ module _ {N A F P : Type 0} (derivation : Derivation N A F P) (laws : IsDerivati
       ] ∙ ap (λ b. cond b (x.shape ∷ shapes_where u xs) (shapes_where u xs)) (agree x.shape x.kind (inl (refl, refl)))
 
   -- the outcome at a stamp is the same, with the ancestors' priorities
-  outcome-lifts : (n : N) (k : Kind F P) → Has list n k → order.outcome_at W (lifts list) (site n) ≡ all_sited (chain_of derivation (site n)).priorities (outcome_at derivation list n)
+  outcome-lifts : (n : N) (k : Kind F P) → Has list n k
+      → order.outcome_at W (lifts list) (site n) ≡ all_sited (chain_of derivation (site n)).priorities
+        (outcome_at derivation list n)
   outcome-lifts n k h =
       let at = ap (stamp derivation.mode) (site-chain n k h) in
       let exists = shapes-lifts (order.exists_at W (site n)) (exists_at derivation list n) list (λ m j g. λ i. is_lt (stamps_cmp derivation.mode (birth derivation.mode (site-chain m j g i)) (at i))) in
@@ -120,7 +133,9 @@ module _ {N A F P : Type 0} (derivation : Derivation N A F P) (laws : IsDerivati
       λ i. all_sited (chain_of derivation (site n)).priorities (derivation.expand n (derivation.answers n (exists i) (waits i)))
 
   -- a child that the outcome made has its parent's chain above it
-  child-site : (n : N) (k : Kind F P) → Has list n k → (a : A) (cs : List (Placed N F P)) → derivation.expand n a ≡ Ok cs → (c : N) (j : Kind F P) → Has cs c j → site c ≡ record { shape = c; above = (chain_of derivation (site n)).priorities }
+  child-site : (n : N) (k : Kind F P) → Has list n k → (a : A) (cs : List (Placed N F P))
+      → derivation.expand n a ≡ Ok cs → (c : N) (j : Kind F P) → Has cs c j
+      → site c ≡ record { shape = c; above = (chain_of derivation (site n)).priorities }
   child-site n k h a cs e c j g =
       let w = Has-index cs c j g in
       let law = laws.child n a cs e w.0 w.1 w.2 in
@@ -138,7 +153,9 @@ module _ {N A F P : Type 0} (derivation : Derivation N A F P) (laws : IsDerivati
   stands-lifts : (c : N) (k : Kind F P) → Stands list c k → Stands (lifts list) (site c) k
   stands-lifts c k s = (s.0, Has-lifts list c s.0 s.1, s.2, s.3)
 
-  has-outcome : (n : N) (k : Kind F P) → Has list n k → (r : Result (List (Placed N F P)) F) → outcome_at derivation list n ≡ r → HasOutcome list k r → HasOutcome (lifts list) k (all_sited (chain_of derivation (site n)).priorities r)
+  has-outcome : (n : N) (k : Kind F P) → Has list n k → (r : Result (List (Placed N F P)) F)
+      → outcome_at derivation list n ≡ r → HasOutcome list k r
+      → HasOutcome (lifts list) k (all_sited (chain_of derivation (site n)).priorities r)
   has-outcome n k h (Ok cs) e p = (
     p.0,
     λ c j g.

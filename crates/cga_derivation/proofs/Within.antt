@@ -2,16 +2,14 @@
 use Rattle.std.proofs.Common.{◌≡◌, ℕ, ◌+◌, ◌≤◌, ◌<◌, List, [], ◌∷◌, length, map, refl, sym, ap, ◌∙◌, subst, inl, inr, Option, Some, None, arith}
 use Rattle.std.specs.Prelude.{nat_lt, if◌then◌else◌}
 use Rattle.std.proofs.lemmas.Bool.Decides.{nat_tests}
-use Rattle.cga_order.proofs.Maxima.{either}
+use Rattle.cga_order.proofs.Door.{Once-index, has_members, length-once, slice_get-map}
+use Rattle.std.proofs.lemmas.Bool.{cases_Bool as either}
 use Rattle.cga_order.specs.declared.placed.Placed.{Placed}
 use Rattle.cga_order.specs.declared.placed.Kind.{Kind}
 use Rattle.cga_order.specs.Consistent as order
 use Rattle.cga_order.specs.Consistent.{SameMembers}
 use Rattle.cga_order.specs.Once.{Once}
 use Rattle.cga_order.specs.World.{Has, Among}
-use Rattle.cga_order.proofs.Once.{Once-index, length-once}
-use Rattle.cga_order.proofs.Places.{slice_get-map}
-use Rattle.cga_order.proofs.Unique.{has_members}
 use Rattle.cga_derivation.specs.Consistent.{IsConsistent}
 use Rattle.cga_derivation.specs.Derivation.{Derivation, IsDerivation, IsDerived, AllApart, NothingWaits, place_of, reached, derive}
 use Rattle.cga_derivation.specs.Sites.{Site, sites, taken}
@@ -30,11 +28,13 @@ module _ {N A F P : Type 0} (derivation : Derivation N A F P) where
   abbrev pub places : List (Placed N F P) → List (List ℕ × List ℕ)
   places ms = map (λ m. place_of derivation m.shape) ms
 
-  pub Has-places : (ms : List (Placed N F P)) (x : N) (k : Kind F P) → Has ms x k → Among (place_of derivation x) (places ms)
+  pub Has-places : (ms : List (Placed N F P)) (x : N) (k : Kind F P) → Has ms x k
+      → Among (place_of derivation x) (places ms)
   Has-places [] x k h = absurd h
   Has-places (m ∷ ms) x k h = elim h [ inl e ↦ inl (ap (place_of derivation) e.0) | inr r ↦ inr (Has-places ms x k r) ]
 
-  pub places-Has : (ms : List (Placed N F P)) (p : List ℕ × List ℕ) → Among p (places ms) → (x : N) × (k : Kind F P) × Has ms x k × (place_of derivation x ≡ p)
+  pub places-Has : (ms : List (Placed N F P)) (p : List ℕ × List ℕ) → Among p (places ms)
+      → (x : N) × (k : Kind F P) × Has ms x k × (place_of derivation x ≡ p)
   places-Has [] p h = absurd h
   places-Has (m ∷ ms) p h = elim h [
     | inl e ↦ (m.shape, m.kind, inl (refl, refl), e)
@@ -52,7 +52,8 @@ module _ {N A F P : Type 0} (derivation : Derivation N A F P) where
 
   -- a list whose places stand once, and stand in another, is no longer than that
   pub no_longer : (ms ns : List (Placed N F P)) → AllApart derivation ms
-      → ((x : N) (k : Kind F P) → Has ms x k → (y : N) × (j : Kind F P) × Has ns y j × (place_of derivation y ≡ place_of derivation x))
+      → ((x : N) (k : Kind F P) → Has ms x k → (y : N) × (j : Kind F P) × Has ns y j
+        × (place_of derivation y ≡ place_of derivation x))
       → length ms ≤ length ns
   no_longer ms ns apart there =
       let less = length-once (places ms) (places ns) (places_once ms apart) (λ p h.
@@ -67,7 +68,8 @@ pub ends_within : {N A F P : Type 0} (derivation : Derivation N A F P) (laws : I
     → (list : List (Placed N F P)) × (derive derivation budget ≡ Some list) × IsDerived derivation list
 ends_within {N} {A} {F} {P} derivation laws budget bounded = by (derive derivation budget) refl
   where
-    by : (o : Option (List (Placed N F P))) → derive derivation budget ≡ o → (list : List (Placed N F P)) × (derive derivation budget ≡ Some list) × IsDerived derivation list
+    by : (o : Option (List (Placed N F P))) → derive derivation budget ≡ o
+        → (list : List (Placed N F P)) × (derive derivation budget ≡ Some list) × IsDerived derivation list
     by (Some list) e = (list, e, within derivation laws budget list e)
     by None e =
         let h : Says derivation laws budget None = subst (Says derivation laws budget) e (says derivation laws budget) in
@@ -88,7 +90,9 @@ module _ {N A F P : Type 0} (derivation : Derivation N A F P) (laws : IsDerivati
   bounded : (n : ℕ) → length (reached derivation n) ≤ length list
   bounded n = no_longer derivation (reached derivation n) list (apart-reached derivation laws n) (λ x k h. let w = stands n x k h in (x, w.0, w.1, refl))
 
-  pub consistent_within : (budget : ℕ) → length list ≤ budget → (derived : List (Placed N F P)) × (derive derivation budget ≡ Some derived) × SameMembers list derived × (length list ≡ length derived)
+  pub consistent_within : (budget : ℕ) → length list ≤ budget
+      → (derived : List (Placed N F P)) × (derive derivation budget ≡ Some derived) × SameMembers list derived
+        × (length list ≡ length derived)
   consistent_within budget fits =
       let ends = ends_within derivation laws budget (λ n. omega (arith, fits, bounded n)) in
       let n = ends.2.0 in
@@ -101,7 +105,8 @@ module _ {N A F P : Type 0} (derivation : Derivation N A F P) (laws : IsDerivati
 -- ---- exactly which budgets
 
 module _ {N A F P : Type 0} (derivation : Derivation N A F P) (laws : IsDerivation derivation) (list : List (Placed N F P)) (ended : IsDerived derivation list) where
-  over : (budget : ℕ) → budget < length list → (o : Option (List (Placed N F P))) → derive derivation budget ≡ o → o ≡ None
+  over : (budget : ℕ) → budget < length list → (o : Option (List (Placed N F P))) → derive derivation budget ≡ o
+      → o ≡ None
   over budget less None e = refl
   over budget less (Some other) e =
       let h : Says derivation laws budget (Some other) = subst (Says derivation laws budget) e (says derivation laws budget) in

@@ -29,7 +29,8 @@ erase list = map erased list
 abbrev pub sited : {N F P : Type 0} → List ℕ → Placed N F P → Placed (Site N) F P
 sited priorities c = record { shape = record { shape = c.shape; above = priorities }; kind = c.kind }
 
-abbrev pub all_sited : {N F P : Type 0} → List ℕ → Result (List (Placed N F P)) F → Result (List (Placed (Site N) F P)) F
+abbrev pub all_sited : {N F P : Type 0} → List ℕ → Result (List (Placed N F P)) F
+    → Result (List (Placed (Site N) F P)) F
 all_sited priorities (Ok children) = Ok (map (sited priorities) children)
 all_sited priorities (Err fault) = Err fault
 

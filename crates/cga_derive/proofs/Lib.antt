@@ -1,8 +1,8 @@
-pub mod Compared
-pub mod Reading
-pub mod Placing
-pub mod PlaceAll
-pub mod Working
-pub mod Starting
-pub mod Boxes
-pub mod Stepping
+mod Compared
+mod Reading
+mod Placing
+mod PlaceAll
+mod Working
+mod Starting
+mod Boxes
+mod Stepping

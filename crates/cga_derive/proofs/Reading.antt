@@ -16,7 +16,7 @@ use Rattle.cga_expand.specs.Asked.{group_asks, asks_for}
 use Rattle.cga_expand.specs.Derivation.{priority_of}
 use Rattle.cga_derive.specs.declared.symbol.Symbol.{Symbol}
 use Rattle.cga_derive.specs.Symbols.{symbol_of, IsRead}
-use Rattle.cga_derivation.proofs.Lists.{some_same}
+use Rattle.cga_fraction.proofs.Door.{Equal_from_is_eq as equal_here, same_Some as some_same}
 
 -- both definitions of what a group asks for say the same
 same_asks : (o : Option Group) (target : Target) → groups.group_asks o target ≡ group_asks o target
@@ -24,7 +24,11 @@ same_asks None target = refl
 same_asks (Some group) target = refl
 
 -- what is read of a symbol
-pub read_is : (grammar : Grammar) (name : List ℕ) (priority : ℕ) (noparent active : Bool) → priority ≡ unwrap_or (groups.priority_of grammar name) 0 → noparent ≡ groups.group_asks (groups.group grammar name) Noparent → active ≡ groups.group_asks (groups.group grammar name) Active → record { priority = priority; noparent = noparent; active = active } ≡ symbol_of grammar name
+pub read_is : (grammar : Grammar) (name : List ℕ) (priority : ℕ) (noparent active : Bool)
+    → priority ≡ unwrap_or (groups.priority_of grammar name) 0
+    → noparent ≡ groups.group_asks (groups.group grammar name) Noparent
+    → active ≡ groups.group_asks (groups.group grammar name) Active
+    → record { priority = priority; noparent = noparent; active = active } ≡ symbol_of grammar name
 unfolding symbol_of priority_of asks_for
 read_is grammar name priority noparent active p n a =
     let group = groups.group grammar name in λ i. record {
@@ -33,16 +37,16 @@ read_is grammar name priority noparent active p n a =
       active = (a ∙ same_asks group Active) i;
     }
 
-equal_here : (o : Ordering) → is_eq o ≡ true → o ≡ Equal
-equal_here Less e = let x : false ≡ true = e in cc
-equal_here Equal e = refl
-equal_here Greater e = let x : false ≡ true = e in cc
-
 -- what was read is right, and so is the rest
-pub still_read : (grammar : Grammar) (old new : BTreeMap (List ℕ) Symbol) (symbol : List ℕ) (read : Symbol) → read ≡ symbol_of grammar symbol → IsRead grammar old → Updates (slice_cmp nat_cmp) old new symbol (Some read) → IsRead grammar new
+pub still_read : (grammar : Grammar) (old new : BTreeMap (List ℕ) Symbol) (symbol : List ℕ) (read : Symbol)
+    → read ≡ symbol_of grammar symbol → IsRead grammar old → Updates (slice_cmp nat_cmp) old new symbol (Some read)
+    → IsRead grammar new
 still_read grammar old new symbol read is before updates = λ name found e. at name found e (is_eq (slice_cmp nat_cmp symbol name)) refl (updates.0 name)
   where
-    at : (name : List ℕ) (found : Symbol) → get (slice_cmp nat_cmp) new name ≡ Some found → (b : Bool) → is_eq (slice_cmp nat_cmp symbol name) ≡ b → get (slice_cmp nat_cmp) new name ≡ cond b (Some read) (get (slice_cmp nat_cmp) old name) → found ≡ symbol_of grammar name
+    at : (name : List ℕ) (found : Symbol) → get (slice_cmp nat_cmp) new name ≡ Some found → (b : Bool)
+        → is_eq (slice_cmp nat_cmp symbol name) ≡ b
+        → get (slice_cmp nat_cmp) new name ≡ cond b (Some read) (get (slice_cmp nat_cmp) old name)
+        → found ≡ symbol_of grammar name
     at name found e true here q =
         let same : symbol ≡ name = slice_cmp-IsAntisymmetric nat_cmp-IsAntisymmetric symbol name (equal_here _ here) in
         sym (some_same read found (sym q ∙ e)) ∙ (is ∙ ap (symbol_of grammar) same)

@@ -4,18 +4,15 @@ use Rattle.std.specs.Prelude.{slice_get, count_by, is_some, IsSome, ◌↔◌}
 use Rattle.cga_word.specs.declared.answers.Answers.{Answers}
 use Rattle.cga_order.specs.declared.placed.Kind.TheVariants.{Waiting}
 use Rattle.cga_order.specs.World.{Has, is_instance}
-use Rattle.cga_order.proofs.Steps as steps
-use Rattle.cga_order.proofs.Members.{Has-index}
+use Rattle.cga_order.proofs.Door as steps
+use Rattle.cga_derivation.proofs.Door.{Has-erased, derive-some, erase-sites, expanded-settled, key-next, next-along, option_of, reached-sites, world}
+use Rattle.cga_expand.proofs.Door.{sources_are_derivations}
+use Rattle.cga_fraction.proofs.Door.{None-not-Some as none_some, same_Some as some_same}
+use Rattle.cga_key.proofs.Door.{agrees}
+use Rattle.cga_order.proofs.Door.{Has-index}
 use Rattle.cga_derivation.specs.Derivation.{asked, derive, next_of, reached, NothingWaits}
 use Rattle.cga_derivation.specs.Sites.{erased, erase, sites, taken, world_of}
 use Rattle.cga_derivation.specs.Turns.{expanded_in}
-use Rattle.cga_derivation.proofs.Along.{erase-sites, next-along, option_of, reached-sites}
-use Rattle.cga_derivation.proofs.Budget.{derive-some}
-use Rattle.cga_derivation.proofs.Counts.{expanded-settled}
-use Rattle.cga_derivation.proofs.Keys.{key-next}
-use Rattle.cga_derivation.proofs.Least.{Has-erased}
-use Rattle.cga_derivation.proofs.Lists.{some_same, none_some}
-use Rattle.cga_derivation.proofs.Sites.{world}
 use Rattle.cga_shape.specs.declared.emitted.Emitted.{Emitted}
 use Rattle.cga_shape.specs.declared.shape.Shape.{Shape}
 use Rattle.cga_shape.specs.declared.shape_fault.ShapeFault.{ShapeFault}
@@ -24,15 +21,14 @@ use Rattle.cga_shape.specs.declared.trace_step.Outcome.{Outcome}
 use Rattle.cga_shape.specs.declared.trace_step.Outcome.TheVariants.{Grew, Faulted}
 use Rattle.cga_key.specs.declared.stamp_key.StampKey.{StampKey}
 use Rattle.cga_key.specs.Key.{chain_of_key, key_cmp}
-use Rattle.cga_key.proofs.KeyAgrees.{agrees}
 use Rattle.cga_expand.specs.Children.{Member, placed_from, placed_by}
 use Rattle.cga_expand.specs.Derivation.{derivation_of, NamesDiffer}
 use Rattle.cga_expand.specs.Expand.{expand_of}
 use Rattle.cga_expand.specs.Run.{outcome_of, traced}
-use Rattle.cga_expand.proofs.Instance.{sources_are_derivations}
 use Rattle.cga_derive.specs.Run.{HasKeys, IsAfter, IsInTurnOf}
 use Rattle.cga_derive.specs.Underway.{IsStepAfter}
 use Rattle.cga_derive.proofs.Working.{there, result, none-left}
+pub use Rattle.cga_fraction.proofs.Door.{None-not-positive as none_left}
 
 -- what an expansion tells
 abbrev pub told_by : Result (List Emitted) ShapeFault → Outcome
@@ -47,7 +43,8 @@ told-is : (s : Shape) (r : Result (List Emitted) ShapeFault) → outcome_of (pla
 told-is s (Ok es) = ap Grew (length-placed s.lot s.path s.symbol 0 es)
 told-is s (Err f) = refl
 
-get-map : {X Y : Type 0} (f : Y → X) (ys : List Y) (i : ℕ) (y : Y) → slice_get ys i ≡ Some y → slice_get (map f ys) i ≡ Some (f y)
+get-map : {X Y : Type 0} (f : Y → X) (ys : List Y) (i : ℕ) (y : Y) → slice_get ys i ≡ Some y
+    → slice_get (map f ys) i ≡ Some (f y)
 get-map f [] i y e = none_some y e
 get-map f (z ∷ ys) zero y e = ap (λ x. Some (f x)) (some_same z y e)
 get-map f (z ∷ ys) (suc i) y e = get-map f ys i y e
@@ -61,11 +58,6 @@ get-has : (list : List Member) (i : ℕ) (m : Member) → slice_get list i ≡ S
 get-has [] i m e = none_some m e
 get-has (x ∷ list) zero m e = let is = some_same x m e in inl (ap (λ y. y.shape) is, ap (λ y. y.kind) is)
 get-has (x ∷ list) (suc i) m e = inr (get-has list i m e)
-
--- an empty map
-pub none_left : {X : Type 0} (r : Option X) (n : ℕ) → r ≡ None → (IsSome r ↔ (0 < n)) → 0 < n → ⊥
-none_left None n e h lt = let x : false ≡ true = h.1 lt in cc
-none_left (Some x) n e h lt = let f : Some x ≡ None = e in cc
 
 -- what is_none tells
 pub none_by : {X : Type 0} (o : Option X) (none : Bool) → is_some o ≡ not none → none ≡ true → o ≡ None
@@ -92,7 +84,11 @@ module _ (sources : Sources) (differ : NamesDiffer sources.lots) where
         found ∙ (sym here ∙ x.1)
 
     -- and what its expansion told is the step
-    pub step-told : (y : Member) (own : List ℕ) (answers : Answers) (r : Result (List Emitted) ShapeFault) (outcome : Outcome) → y ≡ get_or list place y → own ≡ y.shape.symbol → answers ≡ asked (derivation_of sources) list y.shape → r ≡ expand_of sources.grammar y.shape answers → outcome ≡ told_by r → IsStepAfter sources n (record { lot = key.lot; path = key.path; symbol = own; answers = answers; outcome = outcome })
+    pub step-told : (y : Member) (own : List ℕ) (answers : Answers) (r : Result (List Emitted) ShapeFault)
+          (outcome : Outcome)
+        → y ≡ get_or list place y → own ≡ y.shape.symbol → answers ≡ asked (derivation_of sources) list y.shape
+        → r ≡ expand_of sources.grammar y.shape answers → outcome ≡ told_by r
+        → IsStepAfter sources n (record { lot = key.lot; path = key.path; symbol = own; answers = answers; outcome = outcome })
     step-told y own answers r outcome is symbol asks gives tells =
         let d = derivation_of sources in
         let x = there sources differ n key place list es turn in
@@ -121,7 +117,8 @@ module _ (sources : Sources) (n : ℕ) (list : List Member) (es : List (StampKey
   pub nothing-waits : (0 < length es → ⊥) → NothingWaits (derivation_of sources) (reached (derivation_of sources) n)
   nothing-waits none = subst (NothingWaits (derivation_of sources)) at.list_is (none-waits es at (none-left es none))
 
-  some-waits : (e : List (StampKey × ℕ)) → HasKeys sources (sites (derivation_of sources) n) e → 0 < length e → NothingWaits (derivation_of sources) (reached (derivation_of sources) n) → ⊥
+  some-waits : (e : List (StampKey × ℕ)) → HasKeys sources (sites (derivation_of sources) n) e → 0 < length e
+      → NothingWaits (derivation_of sources) (reached (derivation_of sources) n) → ⊥
   some-waits [] keys some quiet = absurd (omega (arith, some))
   some-waits ((key, place) ∷ e) keys some quiet =
       let d = derivation_of sources in
@@ -138,7 +135,10 @@ module _ (sources : Sources) (n : ℕ) (list : List Member) (es : List (StampKey
       empty (x ∷ e) none = absurd (none (omega arith))
 
   -- and the list is the derivation
-  pub ended : NothingWaits (derivation_of sources) (reached (derivation_of sources) n) → (budget : ℕ) → n ≤ budget → length list ≤ budget → (derive (derivation_of sources) budget ≡ Some list) × (expanded_in list ≡ count_by (λ m. not (is_instance m.kind)) list)
+  pub ended : NothingWaits (derivation_of sources) (reached (derivation_of sources) n) → (budget : ℕ) → n ≤ budget
+      → length list ≤ budget
+      → (derive (derivation_of sources) budget ≡ Some list)
+        × (expanded_in list ≡ count_by (λ m. not (is_instance m.kind)) list)
   ended quiet budget turned fits = (
     derive-some (derivation_of sources) budget n turned quiet (subst (λ l. length l ≤ budget) at.list_is fits) ∙ ap Some (sym at.list_is),
     expanded-settled list (subst (NothingWaits (derivation_of sources)) (sym at.list_is) quiet),

@@ -1,8 +1,9 @@
 //! The derivation of sources from nothing: every shape once, by least rank, as a plain list.
 //!
-//! It must not know how a list is kept while edits go on, nor how boxes are found near a shape: each
-//! query compares the boxes of the whole list. What callers get wrong: the list stands in order of
-//! emission, which is that of the parents' stamps, and not by lot and path.
+//! It must not know edits, reports or kept trees. Each query compares the boxes of the whole list.
+//!
+//! What callers get wrong: the list stands in order of emission, which is that of the parents' stamps, and not by lot
+//! and path.
 #![tactic(auto)]
 
 mod answers;

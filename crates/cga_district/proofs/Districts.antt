@@ -7,32 +7,28 @@ use Rattle.cga_order.specs.World.{World, IsWorld, Has, Among, shapes_where, is_i
 use Rattle.cga_order.specs.World as worlds
 use Rattle.cga_order.specs.Consistent as order
 use Rattle.cga_order.specs.Consistent.{Stands, HasOutcome, SameMembers}
-use Rattle.cga_order.proofs.Members.{Has-left, Has-right, Has-append, Has-index, Among-shapes_where, Has-from_shapes_where}
-use Rattle.cga_order.proofs.Derived as derived
-use Rattle.cga_order.proofs.Unique.{same_members, has_members}
+use Rattle.cga_derivation.proofs.Door.{Among-rooted, Has-erase, Has-erased, Has-places, apart-reached}
+use Rattle.cga_derivation.proofs.Door.{derived_consistent, ends_within, erase-sites, kept, length-places, no_longer}
+use Rattle.cga_derivation.proofs.Door.{places, places-Has, places_once, reached-sites, rooted-Among, world}
+use Rattle.cga_fraction.proofs.Door.{map-append}
+use Rattle.cga_order.proofs.Door.{Among-shapes_where, Has-append, Has-from_shapes_where, Has-index, Has-left, Has-right, Once-append, has_members, length-once, same_members}
+use Rattle.cga_order.proofs.Door as derived
 use Rattle.cga_derivation.specs.Derivation.{Derivation, IsDerivation, place_of, reached, NothingWaits, IsDerived}
 use Rattle.cga_derivation.specs.Sites.{Site, world_of, sites, taken}
 use Rattle.cga_district.specs.Districts.{district, AreParts, SeesNone}
-use Rattle.cga_derivation.proofs.Sites.{world, Among-rooted}
-use Rattle.cga_derivation.proofs.Along.{Has-erase, erase-sites, reached-sites, map-append}
-use Rattle.cga_derivation.proofs.Apart.{apart-reached}
-use Rattle.cga_derivation.proofs.Within.{places, Has-places, places-Has, places_once, length-places, no_longer, ends_within}
 use Rattle.cga_order.specs.Once.{Once}
-use Rattle.cga_order.proofs.Once.{Once-append, length-once}
-use Rattle.cga_derivation.proofs.Least.{Has-erased}
-use Rattle.cga_derivation.proofs.Inherited.{kept}
-use Rattle.cga_derivation.proofs.Derived.{derived_consistent}
-use Rattle.cga_derivation.proofs.Unique.{rooted-Among}
 
 -- a list that is consistent for some of the roots, in a longer one of which it sees no more
 module _ {S A F P : Type 0} (W : World S A F P) (laws : IsWorld W) (roots : List S) (rooted : (n : S) → Among n roots → Among n W.roots) (xs zs : List (Placed S F P)) (up : (n : S) (k : Kind F P) → Has xs n k → Has zs n k) (seen : (n m : S) (k j : Kind F P) → Has xs n k → is_instance k ≡ false → Has zs m j → W.sees n m ≡ true → Has xs m j) (good : order.IsConsistent (record W { roots = roots }) None xs) where
-  same_seen : (test : S → Kind F P → Bool) (n : S) (k : Kind F P) → Has xs n k → is_instance k ≡ false → worlds.SameSeen W n (shapes_where test xs) (shapes_where test zs)
+  same_seen : (test : S → Kind F P → Bool) (n : S) (k : Kind F P) → Has xs n k → is_instance k ≡ false
+      → worlds.SameSeen W n (shapes_where test xs) (shapes_where test zs)
   same_seen test n k h p m v = (
     (λ a. let w = Has-from_shapes_where test xs m a in Among-shapes_where test zs m w.0 (up m w.0 w.1) w.2),
     (λ a. let w = Has-from_shapes_where test zs m a in Among-shapes_where test xs m w.0 (seen n m k w.0 h p w.1 v) w.2),
   )
 
-  outcome : (n : S) (k : Kind F P) → Has xs n k → is_instance k ≡ false → order.outcome_at W xs n ≡ order.outcome_at W zs n
+  outcome : (n : S) (k : Kind F P) → Has xs n k → is_instance k ≡ false
+      → order.outcome_at W xs n ≡ order.outcome_at W zs n
   outcome n k h p = ap (W.expand n) (laws.local n _ _ _ _ (same_seen (order.exists_at W n) n k h p) (same_seen (order.waits_at W n) n k h p))
 
   pub stands : (c : S) (k : Kind F P) → Stands xs c k → Stands zs c k
@@ -56,7 +52,8 @@ module _ {N A F P : Type 0} (derivation : Derivation N A F P) (laws : IsDerivati
   abbrev pub HasLot : N → Type 0
   HasLot x = (r : N) × Among r derivation.roots × (derivation.lot x ≡ derivation.lot r)
 
-  child_lot : (s : N) (a : A) (cs : List (Placed N F P)) → HasLot s → derivation.expand s a ≡ Ok cs → (c : N) (k : Kind F P) → Has cs c k → HasLot c
+  child_lot : (s : N) (a : A) (cs : List (Placed N F P)) → HasLot s → derivation.expand s a ≡ Ok cs
+      → (c : N) (k : Kind F P) → Has cs c k → HasLot c
   child_lot s a cs q e c k h =
       let w = Has-index cs c k h in
       let law = laws.child s a cs e w.0 w.1 w.2 in
@@ -69,13 +66,15 @@ module _ {N A F P : Type 0} (derivation : Derivation N A F P) (laws : IsDerivati
   ]
 
 module _ {N A F P : Type 0} (derivation : Derivation N A F P) (n : ℕ) where
-  site_in : (x : N) (k : Kind F P) → Has (reached derivation n) x k → (s : Site N) × Has (sites derivation n) s k × (s.shape ≡ x)
+  site_in : (x : N) (k : Kind F P) → Has (reached derivation n) x k
+      → (s : Site N) × Has (sites derivation n) s k × (s.shape ≡ x)
   site_in x k h = Has-erased (sites derivation n) x k (subst (λ l. Has l x k) (sym (erase-sites derivation n)) h)
 
   shape_in : (s : Site N) (k : Kind F P) → Has (sites derivation n) s k → Has (reached derivation n) s.shape k
   shape_in s k h = subst (λ l. Has l s.shape k) (erase-sites derivation n) (Has-erase (sites derivation n) s k h)
 
-  sites_consistent : IsDerivation derivation → NothingWaits derivation (reached derivation n) → order.IsConsistent (world_of derivation) None (sites derivation n)
+  sites_consistent : IsDerivation derivation → NothingWaits derivation (reached derivation n)
+      → order.IsConsistent (world_of derivation) None (sites derivation n)
   sites_consistent laws settled = derived.consistent-reached (world_of derivation) (world derivation laws) (taken derivation n) (sites derivation n) (reached-sites derivation n) (λ w h b. settled w.shape (shape_in w Waiting h))
 
 module _ {N A F P : Type 0} (derivation : Derivation N A F P) (laws : IsDerivation derivation) (left right : List N) (parts : AreParts derivation left right) (left_laws : IsDerivation (district derivation left)) (right_laws : IsDerivation (district derivation right)) (a b : ℕ) (left_ends : NothingWaits (district derivation left) (reached (district derivation left) a)) (right_ends : NothingWaits (district derivation right) (reached (district derivation right) b)) (left_sees : SeesNone derivation (reached (district derivation left) a) (reached (district derivation right) b)) (right_sees : SeesNone derivation (reached (district derivation right) b) (reached (district derivation left) a)) where
@@ -110,25 +109,29 @@ module _ {N A F P : Type 0} (derivation : Derivation N A F P) (laws : IsDerivati
       let w = Among-rooted right s h in
       subst (λ x. Among x W.roots) (sym w.1) (rooted-Among derivation.roots s.shape (parts.right_roots s.shape w.0))
 
-  left_seen : (s t : Site N) (k j : Kind F P) → Has xs s k → is_instance k ≡ false → Has (xs ++ ys) t j → W.sees s t ≡ true → Has xs t j
+  left_seen : (s t : Site N) (k j : Kind F P) → Has xs s k → is_instance k ≡ false → Has (xs ++ ys) t j
+      → W.sees s t ≡ true → Has xs t j
   left_seen s t k j h p g v = elim (Has-append xs ys t j g) [
     | inl q ↦ q
     | inr q ↦ not_seen (derivation.sees s.shape t.shape) (left_sees s.shape t.shape k j (shape_in (district derivation left) a s k h) p (shape_in (district derivation right) b t j q)) v
   ]
 
-  right_seen : (s t : Site N) (k j : Kind F P) → Has ys s k → is_instance k ≡ false → Has (xs ++ ys) t j → W.sees s t ≡ true → Has ys t j
+  right_seen : (s t : Site N) (k j : Kind F P) → Has ys s k → is_instance k ≡ false → Has (xs ++ ys) t j
+      → W.sees s t ≡ true → Has ys t j
   right_seen s t k j h p g v = elim (Has-append xs ys t j g) [
     | inl q ↦ not_seen (derivation.sees s.shape t.shape) (right_sees s.shape t.shape k j (shape_in (district derivation right) b s k h) p (shape_in (district derivation left) a t j q)) v
     | inr q ↦ q
   ]
 
-  two_lots : (s t : Site N) (k j : Kind F P) → Has xs s k → Has ys t j → derivation.lot s.shape ≡ derivation.lot t.shape → ⊥
+  two_lots : (s t : Site N) (k j : Kind F P) → Has xs s k → Has ys t j → derivation.lot s.shape ≡ derivation.lot t.shape
+      → ⊥
   two_lots s t k j h g same =
       let l = lot_in (district derivation left) left_laws a left_ends s.shape k (shape_in (district derivation left) a s k h) in
       let r = lot_in (district derivation right) right_laws b right_ends t.shape j (shape_in (district derivation right) b t j g) in
       parts.lots l.0 r.0 l.1 r.1 (sym l.2 ∙ (same ∙ r.2))
 
-  distinct : (s t : Site N) (k j : Kind F P) → Has (xs ++ ys) s k → Has (xs ++ ys) t j → worlds.place_of W s ≡ worlds.place_of W t → (s ≡ t) × (k ≡ j)
+  distinct : (s t : Site N) (k j : Kind F P) → Has (xs ++ ys) s k → Has (xs ++ ys) t j
+      → worlds.place_of W s ≡ worlds.place_of W t → (s ≡ t) × (k ≡ j)
   distinct s t k j h g same = elim (Has-append xs ys s k h) [
     | inl p ↦ elim (Has-append xs ys t j g) [
       | inl q ↦ left_good.distinct s t k j p q same
@@ -163,7 +166,9 @@ module _ {N A F P : Type 0} (derivation : Derivation N A F P) (laws : IsDerivati
     ];
   }
 
-  pub apart : (n : ℕ) → NothingWaits derivation (reached derivation n) → SameMembers (reached (district derivation left) a ++ reached (district derivation right) b) (reached derivation n)
+  pub apart : (n : ℕ) → NothingWaits derivation (reached derivation n)
+      → SameMembers (reached (district derivation left) a ++ reached (district derivation right) b)
+        (reached derivation n)
   apart n settled x k =
       let same = same_members W (world derivation laws) (xs ++ ys) joined (taken derivation n) (sites derivation n) (reached-sites derivation n) (λ w h l. settled w.shape (shape_in derivation n w Waiting h)) in (
         λ h. elim (Has-append (reached (district derivation left) a) (reached (district derivation right) b) x k h) [
@@ -216,7 +221,8 @@ module _ {N A F P : Type 0} (derivation : Derivation N A F P) (laws : IsDerivati
       let r = lot_in (district derivation right) right_laws b right_ends w.0 w.1 w.2 in
       parts.lots l.0 r.0 l.1 r.1 (sym l.2 ∙ (ap (λ x. x.0) (v.3 ∙ sym w.3) ∙ r.2))))
 
-  pub all : (list : List (Placed N F P)) × IsDerived derivation list × SameMembers (ls ++ rs) list × (length list ≡ length ls + length rs)
+  pub all : (list : List (Placed N F P)) × IsDerived derivation list × SameMembers (ls ++ rs) list
+        × (length list ≡ length ls + length rs)
   all =
       let list = ends.0 in
       let n = ends.1.0 in
@@ -228,7 +234,12 @@ module _ {N A F P : Type 0} (derivation : Derivation N A F P) (laws : IsDerivati
       let more : length list ≤ length ls + length rs = subst (λ l. length l ≤ length ls + length rs) (sym is) (bounded n) in
       (list, ends.1, same, omega (arith, less, more, length-places derivation list, length-places derivation (ls ++ rs), length-append ls rs))
 
-pub districts : {N A F P : Type 0} (derivation : Derivation N A F P) → IsDerivation derivation → (left right : List N) → AreParts derivation left right → IsDerivation (district derivation left) → IsDerivation (district derivation right) → (xs ys : List (Placed N F P)) → IsDerived (district derivation left) xs → IsDerived (district derivation right) ys → SeesNone derivation xs ys → SeesNone derivation ys xs → (list : List (Placed N F P)) × IsDerived derivation list × SameMembers (xs ++ ys) list × (length list ≡ length xs + length ys)
+pub districts : {N A F P : Type 0} (derivation : Derivation N A F P) → IsDerivation derivation → (left right : List N)
+    → AreParts derivation left right → IsDerivation (district derivation left)
+    → IsDerivation (district derivation right) → (xs ys : List (Placed N F P)) → IsDerived (district derivation left) xs
+    → IsDerived (district derivation right) ys → SeesNone derivation xs ys → SeesNone derivation ys xs
+    → (list : List (Placed N F P)) × IsDerived derivation list × SameMembers (xs ++ ys) list
+      × (length list ≡ length xs + length ys)
 districts derivation laws left right parts left_laws right_laws members others (a, e, p) (b, f, q) s t =
     subst (λ us. (list : _) × IsDerived derivation list × SameMembers (us ++ others) list × (length list ≡ length us + length others)) (sym e)
     (subst (λ vs. (list : _) × IsDerived derivation list × SameMembers (reached (district derivation left) a ++ vs) list × (length list ≡ length (reached (district derivation left) a) + length vs)) (sym f)

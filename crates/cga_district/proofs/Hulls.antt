@@ -4,7 +4,8 @@ use Rattle.cga_word.specs.declared.primitive.Primitive.{Primitive}
 use Rattle.cga_frame.specs.Box.{Box, box_of, holds, is_box, meets, touches}
 use Rattle.cga_frame.specs.Meeting.{Touches}
 use Rattle.cga_frame.specs.Scope.{Scope, far_of}
-use Rattle.cga_frame.proofs.Boxes.{corners_box, holds_points, meets_touches, points_touch, touches_points}
+use Rattle.cga_expand.proofs.Door.{sources_are_derivations}
+use Rattle.cga_frame.proofs.Door.{corners_box, holds_points, meets_touches, points_touch, touches_points}
 use Rattle.cga_order.specs.declared.placed.Kind.{Kind}
 use Rattle.cga_order.specs.World.{Has, Among}
 use Rattle.cga_shape.specs.declared.lot.Lot.{Lot}
@@ -14,18 +15,14 @@ use Rattle.cga_shape.specs.declared.sources.Sources.{Sources}
 use Rattle.cga_derivation.specs.Derivation.{IsDerived, NothingWaits}
 use Rattle.cga_expand.specs.Children.{Member}
 use Rattle.cga_expand.specs.Derivation.{derivation_of, NamesDiffer}
-use Rattle.cga_expand.proofs.Instance.{sources_are_derivations}
 use Rattle.cga_district.specs.Towns.{with_lots, MeetsNone}
 use Rattle.cga_district.specs.Parts.{AreDerived, MeetsNoOther, joined}
 use Rattle.cga_district.specs.Hulls.{AllHeld, AreFar, AreHeld, HullsTellApart, IsFarFrom}
 use Rattle.cga_district.proofs.Districts.{lot_in}
 use Rattle.cga_district.proofs.Towns.{differ_left, differ_right, lot_of_root, name_of}
+use Rattle.std.proofs.lemmas.Bool.{false_from_ne_true as no_point}
 
 -- ---- boxes in boxes
-
-no_point : (v : Bool) → (v ≡ true → ⊥) → v ≡ false
-no_point true none = absurd (none refl)
-no_point false none = refl
 
 scope_boxed : (s : Scope) → is_box (box_of s) ≡ true
 scope_boxed s = corners_box s.at (far_of s)
@@ -46,7 +43,8 @@ module _ (h g : Box) (s t : Scope) (in_h : holds h (box_of s) ≡ true) (in_g : 
 -- ---- two parts
 
 -- a member's lot is one of its part
-pub lot_among : (sources : Sources) (lots : List Lot) → NamesDiffer lots → (list : List Member) → IsDerived (derivation_of (with_lots sources lots)) list
+pub lot_among : (sources : Sources) (lots : List Lot) → NamesDiffer lots → (list : List Member)
+    → IsDerived (derivation_of (with_lots sources lots)) list
     → (n : Shape) (k : Kind ShapeFault Primitive) → Has list n k → (x : Lot) × Among x lots × (n.lot ≡ x.name)
 lot_among sources lots differ list ends n k h =
     let laws = sources_are_derivations (with_lots sources lots) differ in
@@ -56,7 +54,8 @@ lot_among sources lots differ list ends n k h =
     (x.0, x.1, r.2 ∙ name_of x.0 r.0 x.2)
 
 module _ (hull : List ℕ → Box) (sources : Sources) (left right : List Lot) (left_differ : NamesDiffer left) (right_differ : NamesDiffer right) (xs ys : List Member) (left_ends : IsDerived (derivation_of (with_lots sources left)) xs) (right_ends : IsDerived (derivation_of (with_lots sources right)) ys) (left_held : AreHeld hull xs) (right_held : AreHeld hull ys) (far : AreFar hull left right) where
-  off : (n m : Shape) (k j : Kind ShapeFault Primitive) → Has xs n k → Has ys m j → touches (hull n.lot) (hull m.lot) ≡ false
+  off : (n m : Shape) (k j : Kind ShapeFault Primitive) → Has xs n k → Has ys m j
+      → touches (hull n.lot) (hull m.lot) ≡ false
   off n m k j h g =
       let x = lot_among sources left left_differ xs left_ends n k h in
       let y = lot_among sources right right_differ ys right_ends m j g in
@@ -71,8 +70,10 @@ module _ (hull : List ℕ → Box) (sources : Sources) (left right : List Lot) (
 -- ---- any number
 
 module _ (hull : List ℕ → Box) (sources : Sources) where
-  one_far : (part : List Lot) (xs : List Member) → NamesDiffer part → IsDerived (derivation_of (with_lots sources part)) xs → AreHeld hull xs
-      → (parts : List (List Lot)) (lists : List (List Member)) → NamesDiffer (joined parts) → AreDerived sources parts lists → AllHeld hull lists → IsFarFrom hull part parts
+  one_far : (part : List Lot) (xs : List Member) → NamesDiffer part
+      → IsDerived (derivation_of (with_lots sources part)) xs → AreHeld hull xs
+      → (parts : List (List Lot)) (lists : List (List Member)) → NamesDiffer (joined parts)
+      → AreDerived sources parts lists → AllHeld hull lists → IsFarFrom hull part parts
       → MeetsNoOther sources.grammar xs lists
   one_far part xs differ ends held [] [] apart derived all far = tt
   one_far part xs differ ends held [] (ys ∷ lists) apart derived all far = absurd derived

@@ -1,4 +1,5 @@
-pub mod Districts
-pub mod Towns
-pub mod Parts
-pub mod Hulls
+mod Districts
+mod Towns
+mod Parts
+mod Hulls
+pub mod Door

@@ -2,8 +2,7 @@
 use Rattle.std.proofs.Common.{◌≡◌, List, [], ◌∷◌, ◌++◌, length, refl, sym, subst, ◌⊎◌, inl, inr, arith}
 use Rattle.cga_order.specs.World.{Among}
 use Rattle.cga_order.specs.Consistent.{SameMembers}
-use Rattle.cga_order.proofs.Members.{Has-left, Has-right, Has-append}
-use Rattle.cga_order.proofs.Once.{Among-append}
+use Rattle.cga_order.proofs.Door.{Among-append, Has-append, Has-left, Has-right}
 use Rattle.cga_rule.specs.declared.grammar.Grammar.{Grammar}
 use Rattle.cga_shape.specs.declared.lot.Lot.{Lot}
 use Rattle.cga_shape.specs.declared.sources.Sources.{Sources}
@@ -62,13 +61,15 @@ Whole sources lists =
     (list : List Member) × IsDerived (derivation_of sources) list × SameMembers (joined lists) list
     × (length list ≡ total lists)
 
-both_same : (xs ys zs list : List Member) → SameMembers ys zs → SameMembers (xs ++ zs) list → SameMembers (xs ++ ys) list
+both_same : (xs ys zs list : List Member) → SameMembers ys zs → SameMembers (xs ++ zs) list
+    → SameMembers (xs ++ ys) list
 both_same xs ys zs list one all n k = (
   λ h. elim (Has-append xs ys n k h) [ inl q ↦ (all n k).0 (Has-left xs zs n k q) | inr q ↦ (all n k).0 (Has-right xs zs n k ((one n k).0 q)) ],
   λ h. elim (Has-append xs zs n k ((all n k).1 h)) [ inl q ↦ Has-left xs ys n k q | inr q ↦ Has-right xs ys n k ((one n k).1 q) ],
 )
 
-behind : (grammar : Grammar) (xs : List Member) (lists : List (List Member)) → NoneAsks grammar ⊎ AllMeetNone grammar (xs ∷ lists) → NoneAsks grammar ⊎ AllMeetNone grammar lists
+behind : (grammar : Grammar) (xs : List Member) (lists : List (List Member))
+    → NoneAsks grammar ⊎ AllMeetNone grammar (xs ∷ lists) → NoneAsks grammar ⊎ AllMeetNone grammar lists
 behind grammar xs lists (inl quiet) = inl quiet
 behind grammar xs lists (inr far) = inr far.1
 
@@ -96,7 +97,8 @@ parts_are_apart sources differ (part ∷ parts) all (xs ∷ lists) derived far =
     (both.0, both.1, both_same xs (joined lists) others.0 both.0 others.2 both.2, omega (arith, both.3, others.3))
   where
     -- the lots of the whole don't count where each part has its own
-    with_parts : (ps : List (List Lot)) (ls : List (List Member)) → AreDerived sources ps ls → AreDerived (with_lots sources (joined parts)) ps ls
+    with_parts : (ps : List (List Lot)) (ls : List (List Member)) → AreDerived sources ps ls
+        → AreDerived (with_lots sources (joined parts)) ps ls
     with_parts [] [] d = tt
     with_parts [] (l ∷ ls) d = absurd d
     with_parts (p ∷ ps) [] d = absurd d

@@ -6,8 +6,8 @@ use Rattle.cga_word.specs.declared.target.Target.TheVariants.{Noparent, Active}
 use Rattle.cga_frame.specs.Box.{box_of, meets}
 use Rattle.cga_frame.specs.declared.scope_fault.ScopeFault.{ScopeFault}
 use Rattle.cga_order.specs.World.{Among}
-use Rattle.cga_order.proofs.Members.{Among-index}
-use Rattle.cga_order.proofs.Places.{slice_get-within}
+use Rattle.cga_expand.proofs.Door.{root_is, sources_are_derivations}
+use Rattle.cga_order.proofs.Door.{Among-index, slice_get-within}
 use Rattle.cga_rule.specs.declared.grammar.Grammar.{Grammar}
 use Rattle.cga_shape.specs.declared.lot.Lot.{Lot}
 use Rattle.cga_shape.specs.declared.shape.Shape.{Shape}
@@ -16,21 +16,24 @@ use Rattle.cga_shape.specs.Root.{root_of}
 use Rattle.cga_expand.specs.Asked.{asks_for, on_path, sees}
 use Rattle.cga_expand.specs.Children.{Member}
 use Rattle.cga_expand.specs.Derivation.{derivation_of, NamesDiffer, roots_of, made}
-use Rattle.cga_expand.proofs.Instance.{sources_are_derivations, root_is}
 use Rattle.cga_district.specs.Districts.{AreParts, SeesNone}
 use Rattle.cga_district.specs.Towns.{with_lots, AreLots, NoneAsks, MeetsNone, LotsAreApart}
 use Rattle.cga_district.proofs.Districts.{districts}
+use Rattle.std.proofs.lemmas.Bool.{or_cases as either_asks}
 
 -- ---- roots and their lots
 
-from_first : (x : Lot) (lots : List Lot) (r : Result Shape ScopeFault) → root_of x ≡ r → (n : Shape) → ((m : Shape) → Among m (roots_of lots) → (y : Lot) × Among y lots × (root_of y ≡ Ok m)) → Among n (made r ++ roots_of lots) → (y : Lot) × Among y (x ∷ lots) × (root_of y ≡ Ok n)
+from_first : (x : Lot) (lots : List Lot) (r : Result Shape ScopeFault) → root_of x ≡ r → (n : Shape)
+    → ((m : Shape) → Among m (roots_of lots) → (y : Lot) × Among y lots × (root_of y ≡ Ok m))
+    → Among n (made r ++ roots_of lots) → (y : Lot) × Among y (x ∷ lots) × (root_of y ≡ Ok n)
 from_first x lots (Ok s) is n more h = elim h [
   | inl e ↦ (x, inl refl, is ∙ ap Ok e)
   | inr r ↦ let w = more n r in (w.0, inr w.1, w.2)
 ]
 from_first x lots (Err f) is n more h = let w = more n h in (w.0, inr w.1, w.2)
 
-pub lot_of_root : (lots : List Lot) (n : Shape) → Among n (roots_of lots) → (y : Lot) × Among y lots × (root_of y ≡ Ok n)
+pub lot_of_root : (lots : List Lot) (n : Shape) → Among n (roots_of lots)
+    → (y : Lot) × Among y lots × (root_of y ≡ Ok n)
 lot_of_root [] n h = absurd h
 lot_of_root (x ∷ lots) n h = from_first x lots (root_of x) refl n (lot_of_root lots) h
 
@@ -52,7 +55,8 @@ get-left [] ys i x e = cc
 get-left (z ∷ xs) ys zero x e = e
 get-left (z ∷ xs) ys (suc i) x e = get-left xs ys i x e
 
-get-right : (xs ys : List Lot) (i j : ℕ) (y : Lot) → slice_get ys j ≡ Some y → i ≡ length xs + j → slice_get (xs ++ ys) i ≡ Some y
+get-right : (xs ys : List Lot) (i j : ℕ) (y : Lot) → slice_get ys j ≡ Some y → i ≡ length xs + j
+    → slice_get (xs ++ ys) i ≡ Some y
 get-right [] ys i j y e q = let same : i ≡ j = omega (arith, q) in ap (slice_get ys) same ∙ e
 get-right (z ∷ xs) ys zero j y e q = absurd (omega (arith, q))
 get-right (z ∷ xs) ys (suc i) j y e q = get-right xs ys i j y e (omega (arith, q))
@@ -65,7 +69,8 @@ differ_right xs ys differ i j a b e f same =
     let h = differ (length xs + i) (length xs + j) a b (get-right xs ys _ i a e refl) (get-right xs ys _ j b f refl) same in
     omega (arith, h)
 
-pub two_names : (xs ys : List Lot) → NamesDiffer (xs ++ ys) → (x y : Lot) → Among x xs → Among y ys → x.name ≡ y.name → ⊥
+pub two_names : (xs ys : List Lot) → NamesDiffer (xs ++ ys) → (x y : Lot) → Among x xs → Among y ys → x.name ≡ y.name
+    → ⊥
 two_names xs ys differ x y h g same =
     let i = Among-index xs x h in
     let j = Among-index ys y g in
@@ -82,11 +87,9 @@ off : (a b c : Bool) → (a ≡ true → b ≡ false) → (a && (b && c)) ≡ fa
 off true b c h = ap (λ x. x && c) (h refl)
 off false b c h = refl
 
-either_asks : (a b : Bool) → (a || b) ≡ true → (a ≡ true) ⊎ (b ≡ true)
-either_asks true b e = inl refl
-either_asks false b e = inr e
-
-sees_not : (grammar : Grammar) (s m : Shape) → ((target : Target) → asks_for grammar s.symbol target ≡ true → meets (box_of m.scope) (box_of s.scope) ≡ false) → sees grammar s m ≡ false
+sees_not : (grammar : Grammar) (s m : Shape)
+    → ((target : Target) → asks_for grammar s.symbol target ≡ true → meets (box_of m.scope) (box_of s.scope) ≡ false)
+    → sees grammar s m ≡ false
 unfolding sees
 sees_not grammar s m h = off (asks_for grammar s.symbol Noparent || asks_for grammar s.symbol Active) (meets (box_of m.scope) (box_of s.scope)) (not (on_path m s)) (λ e. elim (either_asks (asks_for grammar s.symbol Noparent) (asks_for grammar s.symbol Active) e) [ inl a ↦ h Noparent a | inr a ↦ h Active a ])
 
@@ -104,7 +107,8 @@ module _ (sources : Sources) (differ : NamesDiffer sources.lots) (left right : L
         two_names left right lots.differ v.0 w.0 v.1 w.1 (sym (name_of v.0 n v.2) ∙ (same ∙ name_of w.0 m w.2));
   }
 
-  unseen : (xs ys : List Member) → NoneAsks sources.grammar ⊎ MeetsNone sources.grammar xs ys → SeesNone (derivation_of sources) xs ys
+  unseen : (xs ys : List Member) → NoneAsks sources.grammar ⊎ MeetsNone sources.grammar xs ys
+      → SeesNone (derivation_of sources) xs ys
   unseen xs ys h n m k j a p b = sees_not sources.grammar n m (λ target e. elim h [
     | inl quiet ↦ (let x : true ≡ false = sym e ∙ quiet n.symbol target in cc)
     | inr far ↦ far n m k j target a p e b

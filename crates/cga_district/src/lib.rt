@@ -1,8 +1,10 @@
-//! Districts: where two sets of lots are apart, the town of both is the two towns, and so for any number of sets. So a
-//! region may be derived by jobs, each with its own lots. The crate holds definitions and laws alone, over any shapes
-//! and over sources; it knows nothing of a forest, of an edit, or of how jobs are run.
-//! The one thing that callers get wrong: that the pictures of two districts are apart says nothing. What has to be
-//! apart are the boxes of all shapes that ask, drawn or not, from those of all shapes of the other district.
+//! Districts: where two sets of lots are apart, the town of both is the two towns, and so for any number of sets.
+//!
+//! It must not know forests, edits or how runs are made. So a region may be derived by jobs, each with its own lots.
+//! The crate holds definitions and laws alone, over any shapes and over sources.
+//!
+//! What callers get wrong: that the pictures of two districts are apart says nothing. What has to be apart are the
+//! boxes of all shapes that ask, drawn or not, from those of all shapes of the other district.
 #![tactic(auto)]
 
 mod laws;

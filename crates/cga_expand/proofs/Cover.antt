@@ -18,7 +18,7 @@ use Rattle.cga_rule.specs.declared.rule.Rule.{Rule}
 use Rattle.cga_check.specs.Groups.{is_of, rules_of}
 use Rattle.cga_check.specs.Probabilities as probabilities
 use Rattle.cga_check.specs.Validity.{AddUp}
-use Rattle.cga_check.proofs.Valid.{probabilities_add_up, by_id_all}
+use Rattle.cga_check.proofs.Door.{by_id_all, probabilities_add_up}
 use Rattle.cga_shape.specs.declared.shape.Shape.{Shape}
 use Rattle.cga_shape.specs.declared.shape_fault.ShapeFault.{ShapeFault}
 use Rattle.cga_expand.specs.declared.limits.TheConstants.{MILLIONTHS}
@@ -42,7 +42,8 @@ drawn_small shape =
 
 -- ---- the alternatives
 
-found_step : (number before : ℕ) (a : Alternative) (more : Option (List Item)) (b : Bool) → (b ≡ false → IsSome more) → IsSome (if b then Some a.items else more)
+found_step : (number before : ℕ) (a : Alternative) (more : Option (List Item)) (b : Bool) → (b ≡ false → IsSome more)
+    → IsSome (if b then Some a.items else more)
 found_step number before a more true rest = refl
 found_step number before a more false rest = rest refl
 
@@ -50,7 +51,8 @@ same_millionths : (a : Alternative) → probabilities.millionths a.prob ≡ mill
 unfolding probabilities.millionths
 same_millionths a = refl
 
-covers : (number before : ℕ) (alternatives : List Alternative) → before ≤ number → number < before + probabilities.total alternatives → IsSome (picked number before alternatives)
+covers : (number before : ℕ) (alternatives : List Alternative) → before ≤ number
+    → number < before + probabilities.total alternatives → IsSome (picked number before alternatives)
 covers number before [] le lt = absurd (omega arith)
 covers number before (a ∷ more) le lt =
     found_step number before a _ (nat_lt number (before + millionths a.prob))
@@ -61,16 +63,20 @@ covers number before (a ∷ more) le lt =
 
 -- ---- the rules
 
-of_symbol : (P : Rule → Type 0) (entries : List Entry) (symbol : List ℕ) → All (λ (e : Entry). P e.rule) entries → All P (rules_of entries symbol)
+of_symbol : (P : Rule → Type 0) (entries : List Entry) (symbol : List ℕ) → All (λ (e : Entry). P e.rule) entries
+    → All P (rules_of entries symbol)
 unfolding rules_of
 of_symbol P entries symbol h = All-map P (λ (e : Entry). e.rule) _ (All-filter (is_of symbol) (λ (e : Entry). P e.rule) entries h)
 
-chosen_step : (P : Rule → Type 0) (x rule : Rule) (o : Result Bool ShapeFault) (more : Result Rule ShapeFault) → P x → (more ≡ Ok rule → P rule) → and_then o (λ holds. if holds then Ok x else more) ≡ Ok rule → P rule
+chosen_step : (P : Rule → Type 0) (x rule : Rule) (o : Result Bool ShapeFault) (more : Result Rule ShapeFault) → P x
+    → (more ≡ Ok rule → P rule) → and_then o (λ holds. if holds then Ok x else more) ≡ Ok rule → P rule
 chosen_step P x rule (Ok true) more p rest e = let same : x ≡ rule = cc in subst P same p
 chosen_step P x rule (Ok false) more p rest e = rest e
 chosen_step P x rule (Err fault) more p rest e = cc
 
-chosen_all : (P : Rule → Type 0) (attributes : List Attribute) (shape : Shape) (answers : Answers) (rules : List Rule) (rule : Rule) → All P rules → chosen attributes shape answers rules ≡ Ok rule → P rule
+chosen_all : (P : Rule → Type 0) (attributes : List Attribute) (shape : Shape) (answers : Answers) (rules : List Rule)
+      (rule : Rule)
+    → All P rules → chosen attributes shape answers rules ≡ Ok rule → P rule
 chosen_all P attributes shape answers [] rule all e = cc
 chosen_all P attributes shape answers (x ∷ xs) rule all e =
     chosen_step P x rule (optional_holds x.cond (known_to attributes shape x) answers) (chosen attributes shape answers xs) (All-head P x xs all) (chosen_all P attributes shape answers xs rule (All-tail P x xs all)) e

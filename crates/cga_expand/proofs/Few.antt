@@ -41,18 +41,21 @@ Few (Err fault) = Unit {0}
 abbrev Keeps : Walk → Type 0
 Keeps w = (k : Known) (s : State) → IsFew s → Few (w k s)
 
-then_few : (r : Result State ShapeFault) (f : State → Result State ShapeFault) → Few r → ((s : State) → IsFew s → Few (f s)) → Few (and_then r f)
+then_few : (r : Result State ShapeFault) (f : State → Result State ShapeFault) → Few r
+    → ((s : State) → IsFew s → Few (f s)) → Few (and_then r f)
 then_few (Ok s) f h g = g s h
 then_few (Err fault) f h g = tt
 
-after_few : {A : Type 0} (r : Result A ShapeFault) (f : A → Result State ShapeFault) → ((x : A) → Few (f x)) → Few (and_then r f)
+after_few : {A : Type 0} (r : Result A ShapeFault) (f : A → Result State ShapeFault) → ((x : A) → Few (f x))
+    → Few (and_then r f)
 after_few (Ok x) f g = g x
 after_few (Err fault) f g = tt
 
 -- ---- what emits
 
 emit_step : (made : ℕ → Emitted) (k : Known) (s : State) (b : Bool) → nat_le MOST_CHILDREN (length s.children) ≡ b
-    → Few (and_then (if b then Err TooManyChildren else Ok (length s.children)) (λ i. Ok (record s { children = s.children ++ made (child_seed_of k.seed i) ∷ [] })))
+    → Few (and_then (if b then Err TooManyChildren else Ok (length s.children))
+      (λ i. Ok (record s { children = s.children ++ made (child_seed_of k.seed i) ∷ [] })))
 emit_step made k s true e = tt
 emit_step made k s false e =
     let lt : length s.children < MOST_CHILDREN = grind (arith, nat_tests) in
@@ -94,14 +97,16 @@ bodies_keep (w ∷ ws) (p ∷ ps) all k s h = then_few (w k (with_scope p s)) (o
 restored_keeps : (w : Walk) → Keeps w → Keeps (restored w)
 restored_keeps w each k s h = then_few (w k s) (λ t. Ok (with_scope s.scope t)) (each k s h) (λ t few. few)
 
-count_step : (n : ℕ) (s : State) (b : Bool) → IsFew s → Few (if b then Err TooManyParts else Ok (record s { parts = s.parts + n }))
+count_step : (n : ℕ) (s : State) (b : Bool) → IsFew s
+    → Few (if b then Err TooManyParts else Ok (record s { parts = s.parts + n }))
 count_step n s true h = tt
 count_step n s false h = h
 
 count_few : (n : ℕ) (s : State) → IsFew s → Few (count_parts n s)
 count_few n s h = count_step n s (nat_lt MOST_PARTS (s.parts + n)) h
 
-over_keeps : (made : Result (List Scope) ShapeFault) (each : List Scope → Walk) → ((parts : List Scope) → Keeps (each parts)) → Keeps (over made each)
+over_keeps : (made : Result (List Scope) ShapeFault) (each : List Scope → Walk)
+    → ((parts : List Scope) → Keeps (each parts)) → Keeps (over made each)
 over_keeps made each keeps k s h =
     after_few made (λ ps. and_then (count_parts (length ps) s) (restored (each ps) k))
     (λ ps. then_few (count_parts (length ps) s) (restored (each ps) k) (count_few (length ps) s h) (restored_keeps (each ps) (keeps ps) k))
@@ -122,15 +127,19 @@ all_bodies_keep : (bodies : List SomeBody) → AllKeep (map body_walk (map (λ e
 all_bodies_keep [] = tt
 all_bodies_keep (e ∷ bodies) = (e.1, all_bodies_keep bodies)
 
-item_layer : (x : Item-F Item Body) → item_walk (roll-Item x) ≡ item_step (map-Item Item Body Walk Walk item_walk body_walk x)
+item_layer : (x : Item-F Item Body)
+    → item_walk (roll-Item x) ≡ item_step (map-Item Item Body Walk Walk item_walk body_walk x)
 unfolding item_walk body_walk
 item_layer x = fold-roll-Item Walk Walk item_step body_step x
 
-body_layer : (x : Body-F Item Body) → body_walk (roll-Body x) ≡ body_step (map-Body Item Body Walk Walk item_walk body_walk x)
+body_layer : (x : Body-F Item Body)
+    → body_walk (roll-Body x) ≡ body_step (map-Body Item Body Walk Walk item_walk body_walk x)
 unfolding item_walk body_walk
 body_layer x = fold-roll-Body Walk Walk item_step body_step x
 
-item_few : (y : Item-F SomeItem SomeBody) → Keeps (item_step (map-Item Item Body Walk Walk item_walk body_walk (map-Item SomeItem SomeBody Item Body (λ e. e.0) (λ e. e.0) y)))
+item_few : (y : Item-F SomeItem SomeBody)
+    → Keeps (item_step (map-Item Item Body Walk Walk item_walk body_walk
+      (map-Item SomeItem SomeBody Item Body (λ e. e.0) (λ e. e.0) y)))
 item_few (Move x y z) k s h = rescoped_few (moved_by x y z k s.scope) s h
 item_few (Resize x y z) k s h = rescoped_few (resized_by x y z k s.scope) s h
 item_few (Rotate axis by) k s h = rescoped_few (turned_by axis by s.scope) s h
@@ -141,7 +150,9 @@ item_few (Repeat axis length body) k s h = over_keeps _ _ (λ parts. body_keeps 
 item_few (Comp selector body) k s h = over_keeps _ _ (λ parts. body_keeps (body_walk body.0) parts body.1) k s h
 item_few (Child symbol args) k s h = grown_keeps symbol args k s h
 
-body_few : (y : Body-F SomeItem SomeBody) → Keeps (body_step (map-Body Item Body Walk Walk item_walk body_walk (map-Body SomeItem SomeBody Item Body (λ e. e.0) (λ e. e.0) y)))
+body_few : (y : Body-F SomeItem SomeBody)
+    → Keeps (body_step (map-Body Item Body Walk Walk item_walk body_walk
+      (map-Body SomeItem SomeBody Item Body (λ e. e.0) (λ e. e.0) y)))
 body_few y = turn_keeps _ (items_keep y.items)
 
 item_keeps : (i : Item) → Keeps (item_walk i)
@@ -167,15 +178,18 @@ successor_few : (items : Option (List Item)) (k : Known) (shape : Shape) → Few
 successor_few None k shape = tt
 successor_few (Some items) k shape = children_few _ (turn_keeps (map item_walk items) (all_keep items) k (start shape) (omega arith))
 
-chosen_few : (rule : Result Rule ShapeFault) (f : Rule → Result (List Emitted) ShapeFault) → ((r : Rule) → FewChildren (f r)) → FewChildren (and_then rule f)
+chosen_few : (rule : Result Rule ShapeFault) (f : Rule → Result (List Emitted) ShapeFault)
+    → ((r : Rule) → FewChildren (f r)) → FewChildren (and_then rule f)
 chosen_few (Ok r) f g = g r
 chosen_few (Err fault) f g = tt
 
-depth_few : (b : Bool) (made : Result (List Emitted) ShapeFault) → FewChildren made → FewChildren (if b then Err TooDeep else made)
+depth_few : (b : Bool) (made : Result (List Emitted) ShapeFault) → FewChildren made
+    → FewChildren (if b then Err TooDeep else made)
 depth_few true made h = tt
 depth_few false made h = h
 
-expansion_few : (attributes : List Attribute) (rules : List Rule) (shape : Shape) (answers : Answers) → FewChildren (expansion attributes rules shape answers)
+expansion_few : (attributes : List Attribute) (rules : List Rule) (shape : Shape) (answers : Answers)
+    → FewChildren (expansion attributes rules shape answers)
 unfolding expansion
 expansion_few attributes rules shape answers =
     depth_few (nat_eq (length shape.path) MOST_DEPTH) _ (chosen_few (chosen attributes shape answers rules) _ (λ rule.
@@ -185,6 +199,8 @@ expand_few : (grammar : Grammar) (shape : Shape) (answers : Answers) → FewChil
 unfolding expand_of
 expand_few grammar shape answers = expansion_few grammar.attributes (rules_by_id grammar shape.symbol) shape answers
 
-pub few_made : {E : Type 0} (grammar : Grammar) (shape : Shape) (answers : Answers) (r : Result (Result (List Emitted) ShapeFault) E) → IfOk r (λ made. made ≡ expand_of grammar shape answers) → IfOk r FewChildren
+pub few_made : {E : Type 0} (grammar : Grammar) (shape : Shape) (answers : Answers)
+      (r : Result (Result (List Emitted) ShapeFault) E)
+    → IfOk r (λ made. made ≡ expand_of grammar shape answers) → IfOk r FewChildren
 few_made grammar shape answers (Ok made) is = subst FewChildren (sym is) (expand_few grammar shape answers)
 few_made grammar shape answers (Err e) is = tt

@@ -24,7 +24,8 @@ at_state e k s = ap (λ (m : Walk). m k s) e
 pub at_item : {i j : Item} → i ≡ j → (k : Known) (s : State) → item_walk i k s ≡ item_walk j k s
 at_item e k s = ap (λ i. item_walk i k s) e
 
-pub gives_at : (r r' : Result State ShapeFault) (new : State) (result : Result (Unit {0}) (Stop ShapeFault)) → r' ≡ r → Gives r new result → Gives r' new result
+pub gives_at : (r r' : Result State ShapeFault) (new : State) (result : Result (Unit {0}) (Stop ShapeFault)) → r' ≡ r
+    → Gives r new result → Gives r' new result
 gives_at r r' new result e g = subst (λ r. Gives r new result) (sym e) g
 
 pub body_layer : (b : Body) → body_walk b ≡ in_turn (map item_walk (out-Body b).items)
@@ -51,19 +52,23 @@ pub item_Solid : (p : Primitive) → item_walk (item.Solid p) ≡ item_step (lay
 unfolding item_walk body_walk
 item_Solid p = ap item_walk (sym (item.rolls-Solid p)) ∙ fold-roll-Item Walk Walk item_step body_step (layer.Solid p)
 
-pub item_Subdiv : (axis : Axis) (sizes : List Size) (bodies : List Body) → item_walk (item.Subdiv axis sizes bodies) ≡ item_step (layer.Subdiv axis sizes (map body_walk bodies))
+pub item_Subdiv : (axis : Axis) (sizes : List Size) (bodies : List Body)
+    → item_walk (item.Subdiv axis sizes bodies) ≡ item_step (layer.Subdiv axis sizes (map body_walk bodies))
 unfolding item_walk body_walk
 item_Subdiv axis sizes bodies = ap item_walk (sym (item.rolls-Subdiv axis sizes bodies)) ∙ fold-roll-Item Walk Walk item_step body_step (layer.Subdiv axis sizes bodies)
 
-pub item_Repeat : (axis : Axis) (length : Expr) (body : Body) → item_walk (item.Repeat axis length body) ≡ item_step (layer.Repeat axis length (body_walk body))
+pub item_Repeat : (axis : Axis) (length : Expr) (body : Body)
+    → item_walk (item.Repeat axis length body) ≡ item_step (layer.Repeat axis length (body_walk body))
 unfolding item_walk body_walk
 item_Repeat axis length body = ap item_walk (sym (item.rolls-Repeat axis length body)) ∙ fold-roll-Item Walk Walk item_step body_step (layer.Repeat axis length body)
 
-pub item_Comp : (selector : Selector) (body : Body) → item_walk (item.Comp selector body) ≡ item_step (layer.Comp selector (body_walk body))
+pub item_Comp : (selector : Selector) (body : Body)
+    → item_walk (item.Comp selector body) ≡ item_step (layer.Comp selector (body_walk body))
 unfolding item_walk body_walk
 item_Comp selector body = ap item_walk (sym (item.rolls-Comp selector body)) ∙ fold-roll-Item Walk Walk item_step body_step (layer.Comp selector body)
 
-pub item_Child : (symbol : List ℕ) (args : List Expr) → item_walk (item.Child symbol args) ≡ item_step (layer.Child symbol args)
+pub item_Child : (symbol : List ℕ) (args : List Expr)
+    → item_walk (item.Child symbol args) ≡ item_step (layer.Child symbol args)
 unfolding item_walk body_walk
 item_Child symbol args = ap item_walk (sym (item.rolls-Child symbol args)) ∙ fold-roll-Item Walk Walk item_step body_step (layer.Child symbol args)
 

@@ -87,16 +87,19 @@ module _ (k : Known) (others : List Attribute) (answers : Answers) where
   rolled m n us vs em eu h a =
       ap (λ (z : holds.Holding). z k answers) em ∙ h (subst (Agrees k others) eu a) ∙ sym (ap (λ (z : holds.Holding). z (with_others k others) answers) em)
 
-  if_same : (b : Bool) (x : Result Bool ExprFault) (r s : Result Bool ExprFault) → r ≡ s → (if b then r else x) ≡ (if b then s else x)
+  if_same : (b : Bool) (x : Result Bool ExprFault) (r s : Result Bool ExprFault) → r ≡ s
+      → (if b then r else x) ≡ (if b then s else x)
   if_same b x r s e = ap (λ o. if b then o else x) e
 
-  else_same : (b : Bool) (x : Result Bool ExprFault) (r s : Result Bool ExprFault) → r ≡ s → (if b then x else r) ≡ (if b then x else s)
+  else_same : (b : Bool) (x : Result Bool ExprFault) (r s : Result Bool ExprFault) → r ≡ s
+      → (if b then x else r) ≡ (if b then x else s)
   else_same b x r s e = ap (λ o. if b then x else o) e
 
   -- ---- each layer
 
   all_same : (tests : List SomeTest) → Agrees k others (used.all (map used.test_uses (map (λ e. e.0) tests)))
-      → holds.all_hold (map holds.test_holds (map (λ e. e.0) tests)) k answers ≡ holds.all_hold (map holds.test_holds (map (λ e. e.0) tests)) (with_others k others) answers
+      → holds.all_hold (map holds.test_holds (map (λ e. e.0) tests)) k answers ≡ holds.all_hold
+        (map holds.test_holds (map (λ e. e.0) tests)) (with_others k others) answers
   all_same [] h = refl
   all_same (t ∷ ts) h =
       let m : holds.Holding = holds.test_holds t.0 in
@@ -107,7 +110,8 @@ module _ (k : Known) (others : List Attribute) (answers : Answers) where
       (λ b. if_same b (Ok false) _ _ (all_same ts (agrees_right k others (used.test_uses t.0) _ h)))
 
   any_same : (conjs : List SomeConj) → Agrees k others (used.all (map used.conj_uses (map (λ e. e.0) conjs)))
-      → holds.any_holds (map holds.conj_holds (map (λ e. e.0) conjs)) k answers ≡ holds.any_holds (map holds.conj_holds (map (λ e. e.0) conjs)) (with_others k others) answers
+      → holds.any_holds (map holds.conj_holds (map (λ e. e.0) conjs)) k answers ≡ holds.any_holds
+        (map holds.conj_holds (map (λ e. e.0) conjs)) (with_others k others) answers
   any_same [] h = refl
   any_same (t ∷ ts) h =
       let m : holds.Holding = holds.conj_holds t.0 in
@@ -117,7 +121,8 @@ module _ (k : Known) (others : List Attribute) (answers : Answers) where
       (t.1 (agrees_left k others (used.conj_uses t.0) _ h))
       (λ b. else_same b (Ok true) _ _ (any_same ts (agrees_right k others (used.conj_uses t.0) _ h)))
 
-  test_case : (y : Test-F SomeTest SomeCond SomeConj) → Same (holds.test_step (test_meant (test_parts y))) (used.test_step (test_used (test_parts y)))
+  test_case : (y : Test-F SomeTest SomeCond SomeConj)
+      → Same (holds.test_step (test_meant (test_parts y))) (used.test_step (test_used (test_parts y)))
   test_case (Group c) h = c.1 h
   test_case (Not c) h = ap (λ (o : Result Bool ExprFault). and_then o (λ b. Ok (not b))) (c.1 h)
   test_case (Occ target equal state) h = refl
@@ -128,23 +133,28 @@ module _ (k : Known) (others : List Attribute) (answers : Answers) where
       (expr_reads k others left (agrees_left k others (used.expr_uses left) _ h))
       (λ x. ap (λ o. and_then o (λ y. Ok (holds.relates relation (rat_cmp x y)))) (expr_reads k others right (agrees_right k others (used.expr_uses left) _ h)))
 
-  cond_case : (y : Cond-F SomeTest SomeCond SomeConj) → Same (holds.cond_step (cond_meant (cond_parts y))) (used.cond_step (cond_used (cond_parts y)))
+  cond_case : (y : Cond-F SomeTest SomeCond SomeConj)
+      → Same (holds.cond_step (cond_meant (cond_parts y))) (used.cond_step (cond_used (cond_parts y)))
   cond_case y h = any_same y.conjs h
 
-  conj_case : (y : Conj-F SomeTest SomeCond SomeConj) → Same (holds.conj_step (conj_meant (conj_parts y))) (used.conj_step (conj_used (conj_parts y)))
+  conj_case : (y : Conj-F SomeTest SomeCond SomeConj)
+      → Same (holds.conj_step (conj_meant (conj_parts y))) (used.conj_step (conj_used (conj_parts y)))
   conj_case y h = all_same y.tests h
 
-  test_step : (x : Test-F Test Cond Conj) (y : Test-F SomeTest SomeCond SomeConj) → test_parts y ≡ x → Same (holds.test_holds (roll-Test x)) (used.test_uses (roll-Test x))
+  test_step : (x : Test-F Test Cond Conj) (y : Test-F SomeTest SomeCond SomeConj) → test_parts y ≡ x
+      → Same (holds.test_holds (roll-Test x)) (used.test_uses (roll-Test x))
   test_step x y is =
       subst (λ (z : Test-F Test Cond Conj). Same (holds.test_holds (roll-Test z)) (used.test_uses (roll-Test z))) is
       (rolled _ _ _ _ (test_value (test_parts y)) (test_uses (test_parts y)) (test_case y))
 
-  cond_step : (x : Cond-F Test Cond Conj) (y : Cond-F SomeTest SomeCond SomeConj) → cond_parts y ≡ x → Same (holds.cond_holds (roll-Cond x)) (used.cond_uses (roll-Cond x))
+  cond_step : (x : Cond-F Test Cond Conj) (y : Cond-F SomeTest SomeCond SomeConj) → cond_parts y ≡ x
+      → Same (holds.cond_holds (roll-Cond x)) (used.cond_uses (roll-Cond x))
   cond_step x y is =
       subst (λ (z : Cond-F Test Cond Conj). Same (holds.cond_holds (roll-Cond z)) (used.cond_uses (roll-Cond z))) is
       (rolled _ _ _ _ (cond_value (cond_parts y)) (cond_uses (cond_parts y)) (cond_case y))
 
-  conj_step : (x : Conj-F Test Cond Conj) (y : Conj-F SomeTest SomeCond SomeConj) → conj_parts y ≡ x → Same (holds.conj_holds (roll-Conj x)) (used.conj_uses (roll-Conj x))
+  conj_step : (x : Conj-F Test Cond Conj) (y : Conj-F SomeTest SomeCond SomeConj) → conj_parts y ≡ x
+      → Same (holds.conj_holds (roll-Conj x)) (used.conj_uses (roll-Conj x))
   conj_step x y is =
       subst (λ (z : Conj-F Test Cond Conj). Same (holds.conj_holds (roll-Conj z)) (used.conj_uses (roll-Conj z))) is
       (rolled _ _ _ _ (conj_value (conj_parts y)) (conj_uses (conj_parts y)) (conj_case y))

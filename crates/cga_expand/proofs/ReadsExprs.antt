@@ -10,7 +10,10 @@ use Rattle.cga_rule.specs.declared.expr.Added.{Added, Added-F, roll-Added}
 use Rattle.cga_rule.specs.declared.expr.Scaled.{Scaled, Scaled-F, roll-Scaled}
 use Rattle.cga_rule.specs.declared.expr.Factor.{Factor, Factor-F, roll-Factor}
 use Rattle.cga_rule.specs.declared.expr.Primary.{Primary, Primary-F, roll-Primary}
-use Rattle.cga_rule.specs.declared.expr.Primary.TheFolds.{fold-roll-Expr, fold-roll-Term, fold-roll-Added, fold-roll-Scaled, fold-roll-Factor, fold-roll-Primary, map-Expr, map-Term, map-Added, map-Scaled, map-Factor, map-Primary, ind-Expr}
+use Rattle.cga_rule.specs.declared.expr.Primary.TheFolds.{fold-roll-Expr, fold-roll-Term, fold-roll-Added}
+use Rattle.cga_rule.specs.declared.expr.Primary.TheFolds.{fold-roll-Scaled, fold-roll-Factor, fold-roll-Primary}
+use Rattle.cga_rule.specs.declared.expr.Primary.TheFolds.{map-Expr, map-Term, map-Added, map-Scaled, map-Factor}
+use Rattle.cga_rule.specs.declared.expr.Primary.TheFolds.{map-Primary, ind-Expr}
 use Rattle.cga_rule.specs.declared.expr.Primary.TheOpen.{Number, Named, ScopeSize, Group, Floor, Ceil, Rand}
 use Rattle.cga_rule.specs.declared.grammar.Attribute.{Attribute}
 use Rattle.cga_check.specs.declared.usage.Use.{Use}
@@ -51,10 +54,12 @@ module _ (k : Known) (others : List Attribute) where
   abbrev SameMarked : value.Marked → List Use → Type 0
   SameMarked m us = Agrees k others us → m.1 k ≡ m.1 (with_others k others)
 
-  pub then_same : {A B F : Type 0} (r s : Result A F) (f g : A → Result B F) → r ≡ s → ((x : A) → f x ≡ g x) → and_then r f ≡ and_then s g
+  pub then_same : {A B F : Type 0} (r s : Result A F) (f g : A → Result B F) → r ≡ s → ((x : A) → f x ≡ g x)
+      → and_then r f ≡ and_then s g
   then_same r s f g e h = ap (λ o. and_then o f) e ∙ inner s f g h
     where
-      inner : {A B F : Type 0} (s : Result A F) (f g : A → Result B F) → ((x : A) → f x ≡ g x) → and_then s f ≡ and_then s g
+      inner : {A B F : Type 0} (s : Result A F) (f g : A → Result B F) → ((x : A) → f x ≡ g x)
+          → and_then s f ≡ and_then s g
       inner (Ok x) f g h = h x
       inner (Err fault) f g h = refl
 
@@ -78,105 +83,135 @@ module _ (k : Known) (others : List Attribute) where
 
   -- ---- a layer: its parts, what they come to, and what they use
 
-  abbrev primary_parts : Primary-F SomePrimary SomeAdded SomeExpr SomeFactor SomeScaled SomeTerm → Primary-F Primary Added Expr Factor Scaled Term
+  abbrev primary_parts : Primary-F SomePrimary SomeAdded SomeExpr SomeFactor SomeScaled SomeTerm
+      → Primary-F Primary Added Expr Factor Scaled Term
   primary_parts y = map-Primary SomePrimary SomeAdded SomeExpr SomeFactor SomeScaled SomeTerm Primary Added Expr Factor Scaled Term (λ e. e.0) (λ e. e.0) (λ e. e.0) (λ e. e.0) (λ e. e.0) (λ e. e.0) y
 
-  abbrev primary_meant : Primary-F Primary Added Expr Factor Scaled Term → Primary-F value.Meaning value.Marked value.Meaning value.Meaning value.Marked value.Meaning
+  abbrev primary_meant : Primary-F Primary Added Expr Factor Scaled Term
+      → Primary-F value.Meaning value.Marked value.Meaning value.Meaning value.Marked value.Meaning
   primary_meant x = map-Primary Primary Added Expr Factor Scaled Term value.Meaning value.Marked value.Meaning value.Meaning value.Marked value.Meaning value.primary_value value.added_value value.expr_value value.factor_value value.scaled_value value.term_value x
 
-  abbrev primary_used : Primary-F Primary Added Expr Factor Scaled Term → Primary-F (List Use) (List Use) (List Use) (List Use) (List Use) (List Use)
+  abbrev primary_used : Primary-F Primary Added Expr Factor Scaled Term
+      → Primary-F (List Use) (List Use) (List Use) (List Use) (List Use) (List Use)
   primary_used x = map-Primary Primary Added Expr Factor Scaled Term (List Use) (List Use) (List Use) (List Use) (List Use) (List Use) used.primary_uses used.added_uses used.expr_uses used.factor_uses used.scaled_uses used.term_uses x
 
-  primary_value : (x : Primary-F Primary Added Expr Factor Scaled Term) → value.primary_value (roll-Primary x) ≡ value.primary_step (primary_meant x)
+  primary_value : (x : Primary-F Primary Added Expr Factor Scaled Term)
+      → value.primary_value (roll-Primary x) ≡ value.primary_step (primary_meant x)
   unfolding value.primary_value value.added_value value.expr_value value.factor_value value.scaled_value value.term_value
   primary_value x = fold-roll-Primary value.Meaning value.Marked value.Meaning value.Meaning value.Marked value.Meaning value.primary_step value.added_step value.expr_step value.factor_step value.scaled_step value.term_step x
 
-  primary_uses : (x : Primary-F Primary Added Expr Factor Scaled Term) → used.primary_uses (roll-Primary x) ≡ used.primary_step (primary_used x)
+  primary_uses : (x : Primary-F Primary Added Expr Factor Scaled Term)
+      → used.primary_uses (roll-Primary x) ≡ used.primary_step (primary_used x)
   unfolding used.primary_uses used.added_uses used.expr_uses used.factor_uses used.scaled_uses used.term_uses
   primary_uses x = fold-roll-Primary (List Use) (List Use) (List Use) (List Use) (List Use) (List Use) used.primary_step used.added_step used.expr_step used.factor_step used.scaled_step used.term_step x
 
-  abbrev added_parts : Added-F SomePrimary SomeAdded SomeExpr SomeFactor SomeScaled SomeTerm → Added-F Primary Added Expr Factor Scaled Term
+  abbrev added_parts : Added-F SomePrimary SomeAdded SomeExpr SomeFactor SomeScaled SomeTerm
+      → Added-F Primary Added Expr Factor Scaled Term
   added_parts y = map-Added SomePrimary SomeAdded SomeExpr SomeFactor SomeScaled SomeTerm Primary Added Expr Factor Scaled Term (λ e. e.0) (λ e. e.0) (λ e. e.0) (λ e. e.0) (λ e. e.0) (λ e. e.0) y
 
-  abbrev added_meant : Added-F Primary Added Expr Factor Scaled Term → Added-F value.Meaning value.Marked value.Meaning value.Meaning value.Marked value.Meaning
+  abbrev added_meant : Added-F Primary Added Expr Factor Scaled Term
+      → Added-F value.Meaning value.Marked value.Meaning value.Meaning value.Marked value.Meaning
   added_meant x = map-Added Primary Added Expr Factor Scaled Term value.Meaning value.Marked value.Meaning value.Meaning value.Marked value.Meaning value.primary_value value.added_value value.expr_value value.factor_value value.scaled_value value.term_value x
 
-  abbrev added_used : Added-F Primary Added Expr Factor Scaled Term → Added-F (List Use) (List Use) (List Use) (List Use) (List Use) (List Use)
+  abbrev added_used : Added-F Primary Added Expr Factor Scaled Term
+      → Added-F (List Use) (List Use) (List Use) (List Use) (List Use) (List Use)
   added_used x = map-Added Primary Added Expr Factor Scaled Term (List Use) (List Use) (List Use) (List Use) (List Use) (List Use) used.primary_uses used.added_uses used.expr_uses used.factor_uses used.scaled_uses used.term_uses x
 
-  added_value : (x : Added-F Primary Added Expr Factor Scaled Term) → value.added_value (roll-Added x) ≡ value.added_step (added_meant x)
+  added_value : (x : Added-F Primary Added Expr Factor Scaled Term)
+      → value.added_value (roll-Added x) ≡ value.added_step (added_meant x)
   unfolding value.primary_value value.added_value value.expr_value value.factor_value value.scaled_value value.term_value
   added_value x = fold-roll-Added value.Meaning value.Marked value.Meaning value.Meaning value.Marked value.Meaning value.primary_step value.added_step value.expr_step value.factor_step value.scaled_step value.term_step x
 
-  added_uses : (x : Added-F Primary Added Expr Factor Scaled Term) → used.added_uses (roll-Added x) ≡ used.added_step (added_used x)
+  added_uses : (x : Added-F Primary Added Expr Factor Scaled Term)
+      → used.added_uses (roll-Added x) ≡ used.added_step (added_used x)
   unfolding used.primary_uses used.added_uses used.expr_uses used.factor_uses used.scaled_uses used.term_uses
   added_uses x = fold-roll-Added (List Use) (List Use) (List Use) (List Use) (List Use) (List Use) used.primary_step used.added_step used.expr_step used.factor_step used.scaled_step used.term_step x
 
-  abbrev expr_parts : Expr-F SomePrimary SomeAdded SomeExpr SomeFactor SomeScaled SomeTerm → Expr-F Primary Added Expr Factor Scaled Term
+  abbrev expr_parts : Expr-F SomePrimary SomeAdded SomeExpr SomeFactor SomeScaled SomeTerm
+      → Expr-F Primary Added Expr Factor Scaled Term
   expr_parts y = map-Expr SomePrimary SomeAdded SomeExpr SomeFactor SomeScaled SomeTerm Primary Added Expr Factor Scaled Term (λ e. e.0) (λ e. e.0) (λ e. e.0) (λ e. e.0) (λ e. e.0) (λ e. e.0) y
 
-  abbrev expr_meant : Expr-F Primary Added Expr Factor Scaled Term → Expr-F value.Meaning value.Marked value.Meaning value.Meaning value.Marked value.Meaning
+  abbrev expr_meant : Expr-F Primary Added Expr Factor Scaled Term
+      → Expr-F value.Meaning value.Marked value.Meaning value.Meaning value.Marked value.Meaning
   expr_meant x = map-Expr Primary Added Expr Factor Scaled Term value.Meaning value.Marked value.Meaning value.Meaning value.Marked value.Meaning value.primary_value value.added_value value.expr_value value.factor_value value.scaled_value value.term_value x
 
-  abbrev expr_used : Expr-F Primary Added Expr Factor Scaled Term → Expr-F (List Use) (List Use) (List Use) (List Use) (List Use) (List Use)
+  abbrev expr_used : Expr-F Primary Added Expr Factor Scaled Term
+      → Expr-F (List Use) (List Use) (List Use) (List Use) (List Use) (List Use)
   expr_used x = map-Expr Primary Added Expr Factor Scaled Term (List Use) (List Use) (List Use) (List Use) (List Use) (List Use) used.primary_uses used.added_uses used.expr_uses used.factor_uses used.scaled_uses used.term_uses x
 
-  expr_value : (x : Expr-F Primary Added Expr Factor Scaled Term) → value.expr_value (roll-Expr x) ≡ value.expr_step (expr_meant x)
+  expr_value : (x : Expr-F Primary Added Expr Factor Scaled Term)
+      → value.expr_value (roll-Expr x) ≡ value.expr_step (expr_meant x)
   unfolding value.primary_value value.added_value value.expr_value value.factor_value value.scaled_value value.term_value
   expr_value x = fold-roll-Expr value.Meaning value.Marked value.Meaning value.Meaning value.Marked value.Meaning value.primary_step value.added_step value.expr_step value.factor_step value.scaled_step value.term_step x
 
-  expr_uses : (x : Expr-F Primary Added Expr Factor Scaled Term) → used.expr_uses (roll-Expr x) ≡ used.expr_step (expr_used x)
+  expr_uses : (x : Expr-F Primary Added Expr Factor Scaled Term)
+      → used.expr_uses (roll-Expr x) ≡ used.expr_step (expr_used x)
   unfolding used.primary_uses used.added_uses used.expr_uses used.factor_uses used.scaled_uses used.term_uses
   expr_uses x = fold-roll-Expr (List Use) (List Use) (List Use) (List Use) (List Use) (List Use) used.primary_step used.added_step used.expr_step used.factor_step used.scaled_step used.term_step x
 
-  abbrev factor_parts : Factor-F SomePrimary SomeAdded SomeExpr SomeFactor SomeScaled SomeTerm → Factor-F Primary Added Expr Factor Scaled Term
+  abbrev factor_parts : Factor-F SomePrimary SomeAdded SomeExpr SomeFactor SomeScaled SomeTerm
+      → Factor-F Primary Added Expr Factor Scaled Term
   factor_parts y = map-Factor SomePrimary SomeAdded SomeExpr SomeFactor SomeScaled SomeTerm Primary Added Expr Factor Scaled Term (λ e. e.0) (λ e. e.0) (λ e. e.0) (λ e. e.0) (λ e. e.0) (λ e. e.0) y
 
-  abbrev factor_meant : Factor-F Primary Added Expr Factor Scaled Term → Factor-F value.Meaning value.Marked value.Meaning value.Meaning value.Marked value.Meaning
+  abbrev factor_meant : Factor-F Primary Added Expr Factor Scaled Term
+      → Factor-F value.Meaning value.Marked value.Meaning value.Meaning value.Marked value.Meaning
   factor_meant x = map-Factor Primary Added Expr Factor Scaled Term value.Meaning value.Marked value.Meaning value.Meaning value.Marked value.Meaning value.primary_value value.added_value value.expr_value value.factor_value value.scaled_value value.term_value x
 
-  abbrev factor_used : Factor-F Primary Added Expr Factor Scaled Term → Factor-F (List Use) (List Use) (List Use) (List Use) (List Use) (List Use)
+  abbrev factor_used : Factor-F Primary Added Expr Factor Scaled Term
+      → Factor-F (List Use) (List Use) (List Use) (List Use) (List Use) (List Use)
   factor_used x = map-Factor Primary Added Expr Factor Scaled Term (List Use) (List Use) (List Use) (List Use) (List Use) (List Use) used.primary_uses used.added_uses used.expr_uses used.factor_uses used.scaled_uses used.term_uses x
 
-  factor_value : (x : Factor-F Primary Added Expr Factor Scaled Term) → value.factor_value (roll-Factor x) ≡ value.factor_step (factor_meant x)
+  factor_value : (x : Factor-F Primary Added Expr Factor Scaled Term)
+      → value.factor_value (roll-Factor x) ≡ value.factor_step (factor_meant x)
   unfolding value.primary_value value.added_value value.expr_value value.factor_value value.scaled_value value.term_value
   factor_value x = fold-roll-Factor value.Meaning value.Marked value.Meaning value.Meaning value.Marked value.Meaning value.primary_step value.added_step value.expr_step value.factor_step value.scaled_step value.term_step x
 
-  factor_uses : (x : Factor-F Primary Added Expr Factor Scaled Term) → used.factor_uses (roll-Factor x) ≡ used.factor_step (factor_used x)
+  factor_uses : (x : Factor-F Primary Added Expr Factor Scaled Term)
+      → used.factor_uses (roll-Factor x) ≡ used.factor_step (factor_used x)
   unfolding used.primary_uses used.added_uses used.expr_uses used.factor_uses used.scaled_uses used.term_uses
   factor_uses x = fold-roll-Factor (List Use) (List Use) (List Use) (List Use) (List Use) (List Use) used.primary_step used.added_step used.expr_step used.factor_step used.scaled_step used.term_step x
 
-  abbrev scaled_parts : Scaled-F SomePrimary SomeAdded SomeExpr SomeFactor SomeScaled SomeTerm → Scaled-F Primary Added Expr Factor Scaled Term
+  abbrev scaled_parts : Scaled-F SomePrimary SomeAdded SomeExpr SomeFactor SomeScaled SomeTerm
+      → Scaled-F Primary Added Expr Factor Scaled Term
   scaled_parts y = map-Scaled SomePrimary SomeAdded SomeExpr SomeFactor SomeScaled SomeTerm Primary Added Expr Factor Scaled Term (λ e. e.0) (λ e. e.0) (λ e. e.0) (λ e. e.0) (λ e. e.0) (λ e. e.0) y
 
-  abbrev scaled_meant : Scaled-F Primary Added Expr Factor Scaled Term → Scaled-F value.Meaning value.Marked value.Meaning value.Meaning value.Marked value.Meaning
+  abbrev scaled_meant : Scaled-F Primary Added Expr Factor Scaled Term
+      → Scaled-F value.Meaning value.Marked value.Meaning value.Meaning value.Marked value.Meaning
   scaled_meant x = map-Scaled Primary Added Expr Factor Scaled Term value.Meaning value.Marked value.Meaning value.Meaning value.Marked value.Meaning value.primary_value value.added_value value.expr_value value.factor_value value.scaled_value value.term_value x
 
-  abbrev scaled_used : Scaled-F Primary Added Expr Factor Scaled Term → Scaled-F (List Use) (List Use) (List Use) (List Use) (List Use) (List Use)
+  abbrev scaled_used : Scaled-F Primary Added Expr Factor Scaled Term
+      → Scaled-F (List Use) (List Use) (List Use) (List Use) (List Use) (List Use)
   scaled_used x = map-Scaled Primary Added Expr Factor Scaled Term (List Use) (List Use) (List Use) (List Use) (List Use) (List Use) used.primary_uses used.added_uses used.expr_uses used.factor_uses used.scaled_uses used.term_uses x
 
-  scaled_value : (x : Scaled-F Primary Added Expr Factor Scaled Term) → value.scaled_value (roll-Scaled x) ≡ value.scaled_step (scaled_meant x)
+  scaled_value : (x : Scaled-F Primary Added Expr Factor Scaled Term)
+      → value.scaled_value (roll-Scaled x) ≡ value.scaled_step (scaled_meant x)
   unfolding value.primary_value value.added_value value.expr_value value.factor_value value.scaled_value value.term_value
   scaled_value x = fold-roll-Scaled value.Meaning value.Marked value.Meaning value.Meaning value.Marked value.Meaning value.primary_step value.added_step value.expr_step value.factor_step value.scaled_step value.term_step x
 
-  scaled_uses : (x : Scaled-F Primary Added Expr Factor Scaled Term) → used.scaled_uses (roll-Scaled x) ≡ used.scaled_step (scaled_used x)
+  scaled_uses : (x : Scaled-F Primary Added Expr Factor Scaled Term)
+      → used.scaled_uses (roll-Scaled x) ≡ used.scaled_step (scaled_used x)
   unfolding used.primary_uses used.added_uses used.expr_uses used.factor_uses used.scaled_uses used.term_uses
   scaled_uses x = fold-roll-Scaled (List Use) (List Use) (List Use) (List Use) (List Use) (List Use) used.primary_step used.added_step used.expr_step used.factor_step used.scaled_step used.term_step x
 
-  abbrev term_parts : Term-F SomePrimary SomeAdded SomeExpr SomeFactor SomeScaled SomeTerm → Term-F Primary Added Expr Factor Scaled Term
+  abbrev term_parts : Term-F SomePrimary SomeAdded SomeExpr SomeFactor SomeScaled SomeTerm
+      → Term-F Primary Added Expr Factor Scaled Term
   term_parts y = map-Term SomePrimary SomeAdded SomeExpr SomeFactor SomeScaled SomeTerm Primary Added Expr Factor Scaled Term (λ e. e.0) (λ e. e.0) (λ e. e.0) (λ e. e.0) (λ e. e.0) (λ e. e.0) y
 
-  abbrev term_meant : Term-F Primary Added Expr Factor Scaled Term → Term-F value.Meaning value.Marked value.Meaning value.Meaning value.Marked value.Meaning
+  abbrev term_meant : Term-F Primary Added Expr Factor Scaled Term
+      → Term-F value.Meaning value.Marked value.Meaning value.Meaning value.Marked value.Meaning
   term_meant x = map-Term Primary Added Expr Factor Scaled Term value.Meaning value.Marked value.Meaning value.Meaning value.Marked value.Meaning value.primary_value value.added_value value.expr_value value.factor_value value.scaled_value value.term_value x
 
-  abbrev term_used : Term-F Primary Added Expr Factor Scaled Term → Term-F (List Use) (List Use) (List Use) (List Use) (List Use) (List Use)
+  abbrev term_used : Term-F Primary Added Expr Factor Scaled Term
+      → Term-F (List Use) (List Use) (List Use) (List Use) (List Use) (List Use)
   term_used x = map-Term Primary Added Expr Factor Scaled Term (List Use) (List Use) (List Use) (List Use) (List Use) (List Use) used.primary_uses used.added_uses used.expr_uses used.factor_uses used.scaled_uses used.term_uses x
 
-  term_value : (x : Term-F Primary Added Expr Factor Scaled Term) → value.term_value (roll-Term x) ≡ value.term_step (term_meant x)
+  term_value : (x : Term-F Primary Added Expr Factor Scaled Term)
+      → value.term_value (roll-Term x) ≡ value.term_step (term_meant x)
   unfolding value.primary_value value.added_value value.expr_value value.factor_value value.scaled_value value.term_value
   term_value x = fold-roll-Term value.Meaning value.Marked value.Meaning value.Meaning value.Marked value.Meaning value.primary_step value.added_step value.expr_step value.factor_step value.scaled_step value.term_step x
 
-  term_uses : (x : Term-F Primary Added Expr Factor Scaled Term) → used.term_uses (roll-Term x) ≡ used.term_step (term_used x)
+  term_uses : (x : Term-F Primary Added Expr Factor Scaled Term)
+      → used.term_uses (roll-Term x) ≡ used.term_step (term_used x)
   unfolding used.primary_uses used.added_uses used.expr_uses used.factor_uses used.scaled_uses used.term_uses
   term_uses x = fold-roll-Term (List Use) (List Use) (List Use) (List Use) (List Use) (List Use) used.primary_step used.added_step used.expr_step used.factor_step used.scaled_step used.term_step x
 
@@ -188,8 +223,10 @@ module _ (k : Known) (others : List Attribute) where
 
   -- ---- each layer
 
-  sums_same : (terms : List SomeAdded) → Agrees k others (used.all (map used.added_uses (map (λ e. e.0) terms))) → (x : Rat)
-      → value.from_left added (map value.added_value (map (λ e. e.0) terms)) k x ≡ value.from_left added (map value.added_value (map (λ e. e.0) terms)) (with_others k others) x
+  sums_same : (terms : List SomeAdded) → Agrees k others (used.all (map used.added_uses (map (λ e. e.0) terms)))
+      → (x : Rat)
+      → value.from_left added (map value.added_value (map (λ e. e.0) terms)) k x ≡ value.from_left added
+        (map value.added_value (map (λ e. e.0) terms)) (with_others k others) x
   sums_same [] h x = refl
   sums_same (t ∷ ts) h x =
       let m : value.Marked = value.added_value t.0 in
@@ -198,8 +235,10 @@ module _ (k : Known) (others : List Attribute) where
       (t.1 (agrees_left (used.added_uses t.0) _ h))
       (λ y. then_same (added m.0 x y) (added m.0 x y) (value.from_left added ms k) (value.from_left added ms (with_others k others)) refl (sums_same ts (agrees_right (used.added_uses t.0) _ h)))
 
-  products_same : (factors : List SomeScaled) → Agrees k others (used.all (map used.scaled_uses (map (λ e. e.0) factors))) → (x : Rat)
-      → value.from_left scaled (map value.scaled_value (map (λ e. e.0) factors)) k x ≡ value.from_left scaled (map value.scaled_value (map (λ e. e.0) factors)) (with_others k others) x
+  products_same : (factors : List SomeScaled)
+      → Agrees k others (used.all (map used.scaled_uses (map (λ e. e.0) factors))) → (x : Rat)
+      → value.from_left scaled (map value.scaled_value (map (λ e. e.0) factors)) k x ≡ value.from_left scaled
+        (map value.scaled_value (map (λ e. e.0) factors)) (with_others k others) x
   products_same [] h x = refl
   products_same (t ∷ ts) h x =
       let m : value.Marked = value.scaled_value t.0 in
@@ -208,7 +247,8 @@ module _ (k : Known) (others : List Attribute) where
       (t.1 (agrees_left (used.scaled_uses t.0) _ h))
       (λ y. then_same (scaled m.0 x y) (scaled m.0 x y) (value.from_left scaled ms k) (value.from_left scaled ms (with_others k others)) refl (products_same ts (agrees_right (used.scaled_uses t.0) _ h)))
 
-  primary_case : (y : Primary-F SomePrimary SomeAdded SomeExpr SomeFactor SomeScaled SomeTerm) → Same (value.primary_step (primary_meant (primary_parts y))) (used.primary_step (primary_used (primary_parts y)))
+  primary_case : (y : Primary-F SomePrimary SomeAdded SomeExpr SomeFactor SomeScaled SomeTerm)
+      → Same (value.primary_step (primary_meant (primary_parts y))) (used.primary_step (primary_used (primary_parts y)))
   unfolding used.only
   primary_case (Number n) h = refl
   primary_case (Named name) h = ap (λ (x : Rat). Ok x) h.0
@@ -224,55 +264,72 @@ module _ (k : Known) (others : List Attribute) where
       (low.1 (agrees_left (used.expr_uses low.0) _ h))
       (λ x. ap (λ o. and_then o (λ y. drawn word steps x y)) (high.1 (agrees_right (used.expr_uses low.0) _ h)))
 
-  added_case : (y : Added-F SomePrimary SomeAdded SomeExpr SomeFactor SomeScaled SomeTerm) → SameMarked (value.added_step (added_meant (added_parts y))) (used.added_step (added_used (added_parts y)))
+  added_case : (y : Added-F SomePrimary SomeAdded SomeExpr SomeFactor SomeScaled SomeTerm)
+      → SameMarked (value.added_step (added_meant (added_parts y))) (used.added_step (added_used (added_parts y)))
   added_case y h = y.term.1 h
 
-  expr_case : (y : Expr-F SomePrimary SomeAdded SomeExpr SomeFactor SomeScaled SomeTerm) → Same (value.expr_step (expr_meant (expr_parts y))) (used.expr_step (expr_used (expr_parts y)))
+  expr_case : (y : Expr-F SomePrimary SomeAdded SomeExpr SomeFactor SomeScaled SomeTerm)
+      → Same (value.expr_step (expr_meant (expr_parts y))) (used.expr_step (expr_used (expr_parts y)))
   expr_case y h =
       let first : value.Meaning = value.term_value y.first.0 in
       let rest : List value.Marked = map value.added_value (map (λ e. e.0) y.rest) in
       then_same (first k) (first (with_others k others)) (value.from_left added rest k) (value.from_left added rest (with_others k others))
       (y.first.1 (agrees_left (used.term_uses y.first.0) _ h)) (sums_same y.rest (agrees_right (used.term_uses y.first.0) _ h))
 
-  factor_case : (y : Factor-F SomePrimary SomeAdded SomeExpr SomeFactor SomeScaled SomeTerm) → Same (value.factor_step (factor_meant (factor_parts y))) (used.factor_step (factor_used (factor_parts y)))
+  factor_case : (y : Factor-F SomePrimary SomeAdded SomeExpr SomeFactor SomeScaled SomeTerm)
+      → Same (value.factor_step (factor_meant (factor_parts y))) (used.factor_step (factor_used (factor_parts y)))
   factor_case y h = ap (λ o. and_then o (λ x. Ok (signed y.minus x))) (y.primary.1 h)
 
-  scaled_case : (y : Scaled-F SomePrimary SomeAdded SomeExpr SomeFactor SomeScaled SomeTerm) → SameMarked (value.scaled_step (scaled_meant (scaled_parts y))) (used.scaled_step (scaled_used (scaled_parts y)))
+  scaled_case : (y : Scaled-F SomePrimary SomeAdded SomeExpr SomeFactor SomeScaled SomeTerm)
+      → SameMarked (value.scaled_step (scaled_meant (scaled_parts y))) (used.scaled_step (scaled_used (scaled_parts y)))
   scaled_case y h = y.factor.1 h
 
-  term_case : (y : Term-F SomePrimary SomeAdded SomeExpr SomeFactor SomeScaled SomeTerm) → Same (value.term_step (term_meant (term_parts y))) (used.term_step (term_used (term_parts y)))
+  term_case : (y : Term-F SomePrimary SomeAdded SomeExpr SomeFactor SomeScaled SomeTerm)
+      → Same (value.term_step (term_meant (term_parts y))) (used.term_step (term_used (term_parts y)))
   term_case y h =
       let first : value.Meaning = value.factor_value y.first.0 in
       let rest : List value.Marked = map value.scaled_value (map (λ e. e.0) y.rest) in
       then_same (first k) (first (with_others k others)) (value.from_left scaled rest k) (value.from_left scaled rest (with_others k others))
       (y.first.1 (agrees_left (used.factor_uses y.first.0) _ h)) (products_same y.rest (agrees_right (used.factor_uses y.first.0) _ h))
 
-  primary_step : (x : Primary-F Primary Added Expr Factor Scaled Term) (y : Primary-F SomePrimary SomeAdded SomeExpr SomeFactor SomeScaled SomeTerm) → primary_parts y ≡ x → Same (value.primary_value (roll-Primary x)) (used.primary_uses (roll-Primary x))
+  primary_step : (x : Primary-F Primary Added Expr Factor Scaled Term)
+        (y : Primary-F SomePrimary SomeAdded SomeExpr SomeFactor SomeScaled SomeTerm)
+      → primary_parts y ≡ x → Same (value.primary_value (roll-Primary x)) (used.primary_uses (roll-Primary x))
   primary_step x y is =
       subst (λ (z : Primary-F Primary Added Expr Factor Scaled Term). Same (value.primary_value (roll-Primary z)) (used.primary_uses (roll-Primary z))) is
       (rolled _ _ _ _ (primary_value (primary_parts y)) (primary_uses (primary_parts y)) (primary_case y))
 
-  added_step : (x : Added-F Primary Added Expr Factor Scaled Term) (y : Added-F SomePrimary SomeAdded SomeExpr SomeFactor SomeScaled SomeTerm) → added_parts y ≡ x → SameMarked (value.added_value (roll-Added x)) (used.added_uses (roll-Added x))
+  added_step : (x : Added-F Primary Added Expr Factor Scaled Term)
+        (y : Added-F SomePrimary SomeAdded SomeExpr SomeFactor SomeScaled SomeTerm)
+      → added_parts y ≡ x → SameMarked (value.added_value (roll-Added x)) (used.added_uses (roll-Added x))
   added_step x y is =
       subst (λ (z : Added-F Primary Added Expr Factor Scaled Term). SameMarked (value.added_value (roll-Added z)) (used.added_uses (roll-Added z))) is
       (rolled_marked _ _ _ _ (added_value (added_parts y)) (added_uses (added_parts y)) (added_case y))
 
-  expr_step : (x : Expr-F Primary Added Expr Factor Scaled Term) (y : Expr-F SomePrimary SomeAdded SomeExpr SomeFactor SomeScaled SomeTerm) → expr_parts y ≡ x → Same (value.expr_value (roll-Expr x)) (used.expr_uses (roll-Expr x))
+  expr_step : (x : Expr-F Primary Added Expr Factor Scaled Term)
+        (y : Expr-F SomePrimary SomeAdded SomeExpr SomeFactor SomeScaled SomeTerm)
+      → expr_parts y ≡ x → Same (value.expr_value (roll-Expr x)) (used.expr_uses (roll-Expr x))
   expr_step x y is =
       subst (λ (z : Expr-F Primary Added Expr Factor Scaled Term). Same (value.expr_value (roll-Expr z)) (used.expr_uses (roll-Expr z))) is
       (rolled _ _ _ _ (expr_value (expr_parts y)) (expr_uses (expr_parts y)) (expr_case y))
 
-  factor_step : (x : Factor-F Primary Added Expr Factor Scaled Term) (y : Factor-F SomePrimary SomeAdded SomeExpr SomeFactor SomeScaled SomeTerm) → factor_parts y ≡ x → Same (value.factor_value (roll-Factor x)) (used.factor_uses (roll-Factor x))
+  factor_step : (x : Factor-F Primary Added Expr Factor Scaled Term)
+        (y : Factor-F SomePrimary SomeAdded SomeExpr SomeFactor SomeScaled SomeTerm)
+      → factor_parts y ≡ x → Same (value.factor_value (roll-Factor x)) (used.factor_uses (roll-Factor x))
   factor_step x y is =
       subst (λ (z : Factor-F Primary Added Expr Factor Scaled Term). Same (value.factor_value (roll-Factor z)) (used.factor_uses (roll-Factor z))) is
       (rolled _ _ _ _ (factor_value (factor_parts y)) (factor_uses (factor_parts y)) (factor_case y))
 
-  scaled_step : (x : Scaled-F Primary Added Expr Factor Scaled Term) (y : Scaled-F SomePrimary SomeAdded SomeExpr SomeFactor SomeScaled SomeTerm) → scaled_parts y ≡ x → SameMarked (value.scaled_value (roll-Scaled x)) (used.scaled_uses (roll-Scaled x))
+  scaled_step : (x : Scaled-F Primary Added Expr Factor Scaled Term)
+        (y : Scaled-F SomePrimary SomeAdded SomeExpr SomeFactor SomeScaled SomeTerm)
+      → scaled_parts y ≡ x → SameMarked (value.scaled_value (roll-Scaled x)) (used.scaled_uses (roll-Scaled x))
   scaled_step x y is =
       subst (λ (z : Scaled-F Primary Added Expr Factor Scaled Term). SameMarked (value.scaled_value (roll-Scaled z)) (used.scaled_uses (roll-Scaled z))) is
       (rolled_marked _ _ _ _ (scaled_value (scaled_parts y)) (scaled_uses (scaled_parts y)) (scaled_case y))
 
-  term_step : (x : Term-F Primary Added Expr Factor Scaled Term) (y : Term-F SomePrimary SomeAdded SomeExpr SomeFactor SomeScaled SomeTerm) → term_parts y ≡ x → Same (value.term_value (roll-Term x)) (used.term_uses (roll-Term x))
+  term_step : (x : Term-F Primary Added Expr Factor Scaled Term)
+        (y : Term-F SomePrimary SomeAdded SomeExpr SomeFactor SomeScaled SomeTerm)
+      → term_parts y ≡ x → Same (value.term_value (roll-Term x)) (used.term_uses (roll-Term x))
   term_step x y is =
       subst (λ (z : Term-F Primary Added Expr Factor Scaled Term). Same (value.term_value (roll-Term z)) (used.term_uses (roll-Term z))) is
       (rolled _ _ _ _ (term_value (term_parts y)) (term_uses (term_parts y)) (term_case y))

@@ -31,24 +31,28 @@ use Rattle.cga_expand.specs.Walk.{Walk, with_scope, emit, count_parts, rescoped,
 use Rattle.cga_expand.proofs.ReadsExprs.{with_others, AgreesAt, Agrees, agrees_left, agrees_right, expr_reads}
 
 -- the sizes of the current scope are no names
-at_size : (k : Known) (others : List Attribute) (s : Scope) (u : Use) → AgreesAt k others u → AgreesAt (sized k s) others u
+at_size : (k : Known) (others : List Attribute) (s : Scope) (u : Use) → AgreesAt k others u
+    → AgreesAt (sized k s) others u
 unfolding number_of
 at_size k others s (uses.Answer target) h = tt
 at_size k others s (uses.Child symbol args) h = tt
 at_size k others s (uses.Parts sizes bodies) h = tt
 at_size k others s (uses.Named name) h = h
 
-at_sizes : (k : Known) (others : List Attribute) (s : Scope) (us : List Use) → Agrees k others us → Agrees (sized k s) others us
+at_sizes : (k : Known) (others : List Attribute) (s : Scope) (us : List Use) → Agrees k others us
+    → Agrees (sized k s) others us
 at_sizes k others s [] h = tt
 at_sizes k others s (u ∷ us) h = (at_size k others s u h.0, at_sizes k others s us h.1)
 
-followed_by : {A B F : Type 0} (r : Result A F) (f g : A → Result B F) → ((x : A) → f x ≡ g x) → and_then r f ≡ and_then r g
+followed_by : {A B F : Type 0} (r : Result A F) (f g : A → Result B F) → ((x : A) → f x ≡ g x)
+    → and_then r f ≡ and_then r g
 followed_by (Ok x) f g h = h x
 followed_by (Err fault) f g h = refl
 
 -- three results, one after the other
 three : {A B F : Type 0} (r r' s s' t t' : Result A F) (f : A → A → A → Result B F) → r ≡ r' → s ≡ s' → t ≡ t'
-    → and_then r (λ a. and_then s (λ b. and_then t (λ c. f a b c))) ≡ and_then r' (λ a. and_then s' (λ b. and_then t' (λ c. f a b c)))
+    → and_then r (λ a. and_then s (λ b. and_then t (λ c. f a b c))) ≡ and_then r'
+      (λ a. and_then s' (λ b. and_then t' (λ c. f a b c)))
 three r r' s s' t t' f d e g =
     ap (λ o. and_then o (λ a. and_then s (λ b. and_then t (λ c. f a b c)))) d
     ∙ ap (λ o. and_then r' (λ a. and_then o (λ b. and_then t (λ c. f a b c)))) e
@@ -61,7 +65,8 @@ module _ (k : Known) (others : List Attribute) where
   value_same : (e : Expr) (s : Scope) → Agrees k others (used.expr_uses e) → value_in k s e ≡ value_in Other s e
   value_same e s h = ap (faulted of_expr) (expr_reads (sized k s) others e (at_sizes k others s (used.expr_uses e) h))
 
-  size_same : (z : Size) (axis : Axis) (s : Scope) → Agrees k others (used.size_uses z) → size_in k s axis z ≡ size_in Other s axis z
+  size_same : (z : Size) (axis : Axis) (s : Scope) → Agrees k others (used.size_uses z)
+      → size_in k s axis z ≡ size_in Other s axis z
   size_same (Relative factor) axis s h = refl
   size_same (Absolute e) axis s h = value_same e s h
 
@@ -69,13 +74,15 @@ module _ (k : Known) (others : List Attribute) where
   part_same (Relative factor) s h = refl
   part_same (Absolute e) s h = ap (λ (o : Result Rat ShapeFault). and_then o (λ x. Ok (part.Absolute x))) (value_same e s h)
 
-  values_same : (es : List Expr) (s : Scope) → Agrees k others (flat_map used.expr_uses es) → collected (value_in k s) es ≡ collected (value_in Other s) es
+  values_same : (es : List Expr) (s : Scope) → Agrees k others (flat_map used.expr_uses es)
+      → collected (value_in k s) es ≡ collected (value_in Other s) es
   values_same [] s h = refl
   values_same (e ∷ es) s h =
       ap (λ (o : Result Rat ShapeFault). and_then o (λ y. and_then (collected (value_in k s) es) (λ ys. Ok (y ∷ ys)))) (value_same e s (agrees_left k others (used.expr_uses e) _ h))
       ∙ ap (λ (o : Result (List Rat) ShapeFault). and_then (value_in Other s e) (λ y. and_then o (λ ys. Ok (y ∷ ys)))) (values_same es s (agrees_right k others (used.expr_uses e) _ h))
 
-  parts_same : (zs : List Size) (s : Scope) → Agrees k others (flat_map used.size_uses zs) → collected (part_in k s) zs ≡ collected (part_in Other s) zs
+  parts_same : (zs : List Size) (s : Scope) → Agrees k others (flat_map used.size_uses zs)
+      → collected (part_in k s) zs ≡ collected (part_in Other s) zs
   parts_same [] s h = refl
   parts_same (z ∷ zs) s h =
       ap (λ (o : Result PartSize ShapeFault). and_then o (λ y. and_then (collected (part_in k s) zs) (λ ys. Ok (y ∷ ys)))) (part_same z s (agrees_left k others (used.size_uses z) _ h))
@@ -91,23 +98,28 @@ module _ (k : Known) (others : List Attribute) where
   abbrev SomeBody : Type 0
   SomeBody = (b : Body) × Same (body_walk b) (used.body_uses b)
 
-  turn_step : (w : Walk) (ws : List Walk) (s : State) → w k s ≡ w Other s → ((t : State) → in_turn ws k t ≡ in_turn ws Other t) → in_turn (w ∷ ws) k s ≡ in_turn (w ∷ ws) Other s
+  turn_step : (w : Walk) (ws : List Walk) (s : State) → w k s ≡ w Other s
+      → ((t : State) → in_turn ws k t ≡ in_turn ws Other t) → in_turn (w ∷ ws) k s ≡ in_turn (w ∷ ws) Other s
   turn_step w ws s e h = ap (λ o. and_then o (in_turn ws k)) e ∙ followed_by (w Other s) (in_turn ws k) (in_turn ws Other) h
 
-  items_same : (items : List SomeItem) → Agrees k others (used.all (map used.item_uses (map (λ e. e.0) items))) → (s : State)
+  items_same : (items : List SomeItem) → Agrees k others (used.all (map used.item_uses (map (λ e. e.0) items)))
+      → (s : State)
       → in_turn (map item_walk (map (λ e. e.0) items)) k s ≡ in_turn (map item_walk (map (λ e. e.0) items)) Other s
   items_same [] h s = refl
   items_same (i ∷ items) h s =
       turn_step (item_walk i.0) (map item_walk (map (λ e. e.0) items)) s (i.1 (agrees_left k others (used.item_uses i.0) _ h) s)
       (items_same items (agrees_right k others (used.item_uses i.0) _ h))
 
-  body_same : (w : Walk) → ((s : State) → w k s ≡ w Other s) → (parts : List Scope) (s : State) → over_body w parts k s ≡ over_body w parts Other s
+  body_same : (w : Walk) → ((s : State) → w k s ≡ w Other s) → (parts : List Scope) (s : State)
+      → over_body w parts k s ≡ over_body w parts Other s
   body_same w h [] s = refl
   body_same w h (p ∷ ps) s =
       ap (λ o. and_then o (over_body w ps k)) (h (with_scope p s)) ∙ followed_by (w Other (with_scope p s)) (over_body w ps k) (over_body w ps Other) (body_same w h ps)
 
-  bodies_same : (bodies : List SomeBody) → Agrees k others (used.all (map used.body_uses (map (λ e. e.0) bodies))) → (parts : List Scope) (s : State)
-      → over_bodies (map body_walk (map (λ e. e.0) bodies)) parts k s ≡ over_bodies (map body_walk (map (λ e. e.0) bodies)) parts Other s
+  bodies_same : (bodies : List SomeBody) → Agrees k others (used.all (map used.body_uses (map (λ e. e.0) bodies)))
+      → (parts : List Scope) (s : State)
+      → over_bodies (map body_walk (map (λ e. e.0) bodies)) parts k s ≡ over_bodies
+        (map body_walk (map (λ e. e.0) bodies)) parts Other s
   bodies_same [] h [] s = refl
   bodies_same [] h (p ∷ ps) s = refl
   bodies_same (b ∷ bs) h [] s = refl
@@ -119,7 +131,8 @@ module _ (k : Known) (others : List Attribute) where
   restored_same : (w : Walk) (s : State) → w k s ≡ w Other s → restored w k s ≡ restored w Other s
   restored_same w s e = ap (λ o. and_then o (λ t. Ok (with_scope s.scope t))) e
 
-  over_same : (made made' : Result (List Scope) ShapeFault) (each : List Scope → Walk) (s : State) → made ≡ made' → ((ps : List Scope) (t : State) → each ps k t ≡ each ps Other t) → over made each k s ≡ over made' each Other s
+  over_same : (made made' : Result (List Scope) ShapeFault) (each : List Scope → Walk) (s : State) → made ≡ made'
+      → ((ps : List Scope) (t : State) → each ps k t ≡ each ps Other t) → over made each k s ≡ over made' each Other s
   over_same made made' each s e h =
       ap (λ o. over o each k s) e
       ∙ followed_by made' (λ ps. and_then (count_parts (length ps) s) (restored (each ps) k)) (λ ps. and_then (count_parts (length ps) s) (restored (each ps) Other))
@@ -164,7 +177,8 @@ module _ (k : Known) (others : List Attribute) where
   rolled : (m n : Walk) (us vs : List Use) → m ≡ n → us ≡ vs → Same n vs → Same m us
   rolled m n us vs em eu h a s = ap (λ (z : Walk). z k s) em ∙ h (subst (Agrees k others) eu a) s ∙ sym (ap (λ (z : Walk). z Other s) em)
 
-  item_case : (y : Item-F SomeItem SomeBody) → Same (item_step (item_done (item_parts y))) (used.item_step (item_used (item_parts y)))
+  item_case : (y : Item-F SomeItem SomeBody)
+      → Same (item_step (item_done (item_parts y))) (used.item_step (item_used (item_parts y)))
   item_case (Move x y z) h s =
       ap (λ r. rescoped r s)
       (three (value_in k s.scope x) (value_in Other s.scope x) (value_in k s.scope y) (value_in Other s.scope y) (value_in k s.scope z) (value_in Other s.scope z)
@@ -196,15 +210,18 @@ module _ (k : Known) (others : List Attribute) where
   item_case (Child symbol args) h s =
       ap (λ (o : Result (List Rat) ShapeFault). and_then o (λ xs. emit (emitted.Child symbol xs s.scope) k s)) (values_same args s.scope (agrees_right k others (used.only _) _ h))
 
-  body_case : (y : Body-F SomeItem SomeBody) → Same (body_step (body_done (body_parts y))) (used.body_step (body_used (body_parts y)))
+  body_case : (y : Body-F SomeItem SomeBody)
+      → Same (body_step (body_done (body_parts y))) (used.body_step (body_used (body_parts y)))
   body_case y h s = items_same y.items h s
 
-  item_reads_step : (x : Item-F Item Body) (y : Item-F SomeItem SomeBody) → item_parts y ≡ x → Same (item_walk (roll-Item x)) (used.item_uses (roll-Item x))
+  item_reads_step : (x : Item-F Item Body) (y : Item-F SomeItem SomeBody) → item_parts y ≡ x
+      → Same (item_walk (roll-Item x)) (used.item_uses (roll-Item x))
   item_reads_step x y is =
       subst (λ (z : Item-F Item Body). Same (item_walk (roll-Item z)) (used.item_uses (roll-Item z))) is
       (rolled _ _ _ _ (item_does (item_parts y)) (item_names (item_parts y)) (item_case y))
 
-  body_reads_step : (x : Body-F Item Body) (y : Body-F SomeItem SomeBody) → body_parts y ≡ x → Same (body_walk (roll-Body x)) (used.body_uses (roll-Body x))
+  body_reads_step : (x : Body-F Item Body) (y : Body-F SomeItem SomeBody) → body_parts y ≡ x
+      → Same (body_walk (roll-Body x)) (used.body_uses (roll-Body x))
   body_reads_step x y is =
       subst (λ (z : Body-F Item Body). Same (body_walk (roll-Body z)) (used.body_uses (roll-Body z))) is
       (rolled _ _ _ _ (body_does (body_parts y)) (body_names (body_parts y)) (body_case y))
@@ -212,7 +229,8 @@ module _ (k : Known) (others : List Attribute) where
   pub item_reads : (i : Item) → Same (item_walk i) (used.item_uses i)
   item_reads = ind-Item (λ i. Same (item_walk i) (used.item_uses i)) (λ b. Same (body_walk b) (used.body_uses b)) item_reads_step body_reads_step
 
-  pub turn_reads : (items : List Item) → Agrees k others (flat_map used.item_uses items) → (s : State) → in_turn (map item_walk items) k s ≡ in_turn (map item_walk items) Other s
+  pub turn_reads : (items : List Item) → Agrees k others (flat_map used.item_uses items) → (s : State)
+      → in_turn (map item_walk items) k s ≡ in_turn (map item_walk items) Other s
   turn_reads [] h s = refl
   turn_reads (i ∷ items) h s =
       turn_step (item_walk i) (map item_walk items) s (item_reads i (agrees_left k others (used.item_uses i) _ h) s)

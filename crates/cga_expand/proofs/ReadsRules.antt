@@ -1,6 +1,7 @@
 -- Equal settings: the expansion reads of a grammar only the group of the symbol and the attributes that the
 -- group mentions.
-use Rattle.std.proofs.Common.{◌≡◌, ℕ, suc, arith, ◌+◌, ◌≤◌, List, [], ◌∷◌, map, filter, length, refl, ap, sym, ◌∙◌, Ok, Err, Bool, true, false, not, ◌&&◌, ◌||◌, nat_eq, nat_lt, if◌then◌else◌, Some, None}
+use Rattle.std.proofs.Common.{◌≡◌, ℕ, suc, arith, ◌+◌, ◌≤◌, List, [], ◌∷◌, map, filter, length, refl, ap, sym, ◌∙◌}
+use Rattle.std.proofs.Common.{Ok, Err, Bool, true, false, not, ◌&&◌, ◌||◌, nat_eq, nat_lt, if◌then◌else◌, Some, None}
 use Rattle.std.specs.Prelude.{Result, Option, find, flat_map, position, unwrap_or}
 use Rattle.std.specs.List.{list_any, position_or_len}
 use Rattle.std.proofs.lemmas.Bool.Decides.{nat_tests}
@@ -37,14 +38,7 @@ use Rattle.cga_expand.specs.Settings.{Setting, setting_of, mentions, SettingsDec
 use Rattle.cga_expand.proofs.ReadsExprs.{with_others, Agrees, AgreesAt, agrees_left, agrees_right}
 use Rattle.cga_expand.proofs.ReadsConds.{cond_reads}
 use Rattle.cga_expand.proofs.ReadsItems.{turn_reads}
-
-or_left : (a b : Bool) → a ≡ true → (a || b) ≡ true
-or_left true b e = refl
-or_left false b e = cc
-
-or_right : (a b : Bool) → b ≡ true → (a || b) ≡ true
-or_right true b e = refl
-or_right false b e = e
+use Rattle.std.proofs.lemmas.Bool.{or_left, or_right}
 
 both : (a b : Bool) → a ≡ false → b ≡ true → (not a && b) ≡ true
 both true b e f = cc
@@ -54,7 +48,8 @@ beyond : (n m : ℕ) (b : Bool) → nat_lt n m ≡ b → (if b then Some n else 
 beyond n m true e h = cc
 beyond n m false e h = grind (arith, nat_tests)
 
-nowhere_step : (b more : Bool) (n m : ℕ) → suc n ≤ (if not b then 1 + m else 0) → (n ≤ m → more ≡ false) → (b || more) ≡ false
+nowhere_step : (b more : Bool) (n m : ℕ) → suc n ≤ (if not b then 1 + m else 0) → (n ≤ m → more ≡ false)
+    → (b || more) ≡ false
 nowhere_step true more n m h rest = absurd (omega arith)
 nowhere_step false more n m h rest = rest (omega arith)
 
@@ -80,13 +75,17 @@ module _ (olds news : List Attribute) (shape : Shape) (answers : Answers) where
   holds_same rule None h = refl
   holds_same rule (Some cond) h = ap (faulted of_expr) (cond_reads (known_to olds shape rule) news answers cond h)
 
-  picked_step : (b : Bool) (k k' : Known) (items : List Item) (more : Option (List Item)) → successor (Some items) k shape ≡ successor (Some items) k' shape
-      → successor more k shape ≡ successor more k' shape → successor (if b then Some items else more) k shape ≡ successor (if b then Some items else more) k' shape
+  picked_step : (b : Bool) (k k' : Known) (items : List Item) (more : Option (List Item))
+      → successor (Some items) k shape ≡ successor (Some items) k' shape
+      → successor more k shape ≡ successor more k' shape
+      → successor (if b then Some items else more) k shape ≡ successor (if b then Some items else more) k' shape
   picked_step true k k' items more e f = e
   picked_step false k k' items more e f = f
 
-  picked_same : (rule : Rule) (number before : ℕ) (alternatives : List Alternative) → Agrees (known_to olds shape rule) news (flat_map used.alternative_uses alternatives)
-      → successor (picked number before alternatives) (known_to olds shape rule) shape ≡ successor (picked number before alternatives) (known_to news shape rule) shape
+  picked_same : (rule : Rule) (number before : ℕ) (alternatives : List Alternative)
+      → Agrees (known_to olds shape rule) news (flat_map used.alternative_uses alternatives)
+      → successor (picked number before alternatives) (known_to olds shape rule) shape ≡ successor
+        (picked number before alternatives) (known_to news shape rule) shape
   picked_same rule number before [] h = refl
   picked_same rule number before (a ∷ more) h =
       picked_step (nat_lt number (before + millionths a.prob)) (known_to olds shape rule) (known_to news shape rule) a.items (picked number (before + millionths a.prob) more)
@@ -100,26 +99,35 @@ module _ (olds news : List Attribute) (shape : Shape) (answers : Answers) where
   unfolding used.rule_uses
   becomes_same rule h = picked_same rule (drawn_number shape) 0 rule.alternatives (agrees_right (known_to olds shape rule) news (used.condition_uses rule.cond) _ h)
 
-  rule_holds : (rule : Rule) → RuleAgrees rule → optional_holds rule.cond (known_to olds shape rule) answers ≡ optional_holds rule.cond (known_to news shape rule) answers
+  rule_holds : (rule : Rule) → RuleAgrees rule
+      → optional_holds rule.cond (known_to olds shape rule) answers ≡ optional_holds rule.cond
+        (known_to news shape rule) answers
   unfolding used.rule_uses
   rule_holds rule h = holds_same rule rule.cond (agrees_left (known_to olds shape rule) news (used.condition_uses rule.cond) _ h)
 
-  chosen_step : (rule : Rule) (o o' : Result Bool ShapeFault) (more more' : Result Rule ShapeFault) → o ≡ o' → becomes olds rule ≡ becomes news rule → and_then more (becomes olds) ≡ and_then more' (becomes news)
-      → and_then (and_then o (λ holds. if holds then Ok rule else more)) (becomes olds) ≡ and_then (and_then o' (λ holds. if holds then Ok rule else more')) (becomes news)
+  chosen_step : (rule : Rule) (o o' : Result Bool ShapeFault) (more more' : Result Rule ShapeFault) → o ≡ o'
+      → becomes olds rule ≡ becomes news rule → and_then more (becomes olds) ≡ and_then more' (becomes news)
+      → and_then (and_then o (λ holds. if holds then Ok rule else more)) (becomes olds) ≡ and_then
+        (and_then o' (λ holds. if holds then Ok rule else more')) (becomes news)
   chosen_step rule o o' more more' e here rest = ap (λ p. and_then (and_then p (λ holds. if holds then Ok rule else more)) (becomes olds)) e ∙ by_result o'
     where
-      by_result : (p : Result Bool ShapeFault) → and_then (and_then p (λ holds. if holds then Ok rule else more)) (becomes olds) ≡ and_then (and_then p (λ holds. if holds then Ok rule else more')) (becomes news)
+      by_result : (p : Result Bool ShapeFault)
+          → and_then (and_then p (λ holds. if holds then Ok rule else more)) (becomes olds) ≡ and_then
+            (and_then p (λ holds. if holds then Ok rule else more')) (becomes news)
       by_result (Ok true) = here
       by_result (Ok false) = rest
       by_result (Err fault) = refl
 
-  chosen_same : (rules : List Rule) → AllAgree rules → and_then (chosen olds shape answers rules) (becomes olds) ≡ and_then (chosen news shape answers rules) (becomes news)
+  chosen_same : (rules : List Rule) → AllAgree rules
+      → and_then (chosen olds shape answers rules) (becomes olds) ≡ and_then (chosen news shape answers rules)
+        (becomes news)
   chosen_same [] h = refl
   chosen_same (r ∷ rs) h =
       chosen_step r (optional_holds r.cond (known_to olds shape r) answers) (optional_holds r.cond (known_to news shape r) answers) (chosen olds shape answers rs) (chosen news shape answers rs)
       (rule_holds r h.0) (becomes_same r h.0) (chosen_same rs h.1)
 
-  pub expansion_same : (rules : List Rule) → AllAgree rules → expansion olds rules shape answers ≡ expansion news rules shape answers
+  pub expansion_same : (rules : List Rule) → AllAgree rules
+      → expansion olds rules shape answers ≡ expansion news rules shape answers
   unfolding expansion
   expansion_same rules h = ap (λ r. if nat_eq (length shape.path) MOST_DEPTH then Err TooDeep else r) (chosen_same rules h)
 
@@ -128,23 +136,30 @@ module _ (olds news : List Attribute) (shape : Shape) (answers : Answers) where
   abbrev SameValue : List ℕ → Type 0
   SameValue name = attribute_of olds name ≡ attribute_of news name
 
-  at_place : (k : Known) (name : List ℕ) (place : Option ℕ) → (place ≡ None → attribute_of k.attributes name ≡ attribute_of news name) → value_at k name place ≡ value_at (with_others k news) name place
+  at_place : (k : Known) (name : List ℕ) (place : Option ℕ)
+      → (place ≡ None → attribute_of k.attributes name ≡ attribute_of news name)
+      → value_at k name place ≡ value_at (with_others k news) name place
   at_place k name None h = h refl
   at_place k name (Some place) h = refl
 
-  at_name : (rule : Rule) (name : List ℕ) → (used.has_name rule.params name ≡ false → SameValue name) → number_of (known_to olds shape rule) name ≡ number_of (with_others (known_to olds shape rule) news) name
+  at_name : (rule : Rule) (name : List ℕ) → (used.has_name rule.params name ≡ false → SameValue name)
+      → number_of (known_to olds shape rule) name ≡ number_of (with_others (known_to olds shape rule) news) name
   unfolding number_of
   at_name rule name h =
       ap (λ o. unwrap_or o zero_rat)
       (at_place (known_to olds shape rule) name (position (λ param. same_name param name) rule.params) (λ none. h (no_place (λ param. same_name param name) rule.params none)))
 
-  at_use : (rule : Rule) (u : Use) → ((name : List ℕ) → is_name name u ≡ true → used.has_name rule.params name ≡ false → SameValue name) → AgreesAt (known_to olds shape rule) news u
+  at_use : (rule : Rule) (u : Use)
+      → ((name : List ℕ) → is_name name u ≡ true → used.has_name rule.params name ≡ false → SameValue name)
+      → AgreesAt (known_to olds shape rule) news u
   at_use rule (uses.Answer target) h = tt
   at_use rule (uses.Child symbol args) h = tt
   at_use rule (uses.Parts sizes bodies) h = tt
   at_use rule (uses.Named name) h = at_name rule name (h name ((bytes_decides name name).1 refl))
 
-  at_uses : (rule : Rule) (us : List Use) → ((name : List ℕ) → list_any (is_name name) us ≡ true → used.has_name rule.params name ≡ false → SameValue name) → Agrees (known_to olds shape rule) news us
+  at_uses : (rule : Rule) (us : List Use)
+      → ((name : List ℕ) → list_any (is_name name) us ≡ true → used.has_name rule.params name ≡ false → SameValue name)
+      → Agrees (known_to olds shape rule) news us
   at_uses rule [] h = tt
   at_uses rule (u ∷ us) h = (
     at_use rule u (λ name here. h name (or_left (is_name name u) (list_any (is_name name) us) here)),
@@ -154,7 +169,8 @@ module _ (olds news : List Attribute) (shape : Shape) (answers : Answers) where
   rule_agrees : (rule : Rule) → ((name : List ℕ) → names name rule ≡ true → SameValue name) → RuleAgrees rule
   rule_agrees rule h = at_uses rule (used.rule_uses rule) (λ name here none. h name (both (used.has_name rule.params name) (list_any (is_name name) (used.rule_uses rule)) none here))
 
-  pub all_agree : (rules : List Rule) → ((name : List ℕ) → list_any (names name) rules ≡ true → SameValue name) → AllAgree rules
+  pub all_agree : (rules : List Rule) → ((name : List ℕ) → list_any (names name) rules ≡ true → SameValue name)
+      → AllAgree rules
   all_agree [] h = tt
   all_agree (r ∷ rs) h = (
     rule_agrees r (λ name here. h name (or_left (names name r) (list_any (names name) rs) here)),
@@ -167,16 +183,20 @@ abbrev rules_in : Option Group → List Rule
 rules_in None = []
 rules_in (Some g) = g.rules
 
-filter_step : (b : Bool) (x : Entry) (xs : List Entry) (more : Option Entry) → (more ≡ None → map (λ (y : Entry). y.rule) xs ≡ []) → (if b then Some x else more) ≡ None → map (λ (y : Entry). y.rule) (if b then x ∷ xs else xs) ≡ []
+filter_step : (b : Bool) (x : Entry) (xs : List Entry) (more : Option Entry)
+    → (more ≡ None → map (λ (y : Entry). y.rule) xs ≡ []) → (if b then Some x else more) ≡ None
+    → map (λ (y : Entry). y.rule) (if b then x ∷ xs else xs) ≡ []
 filter_step true x xs more rest e = cc
 filter_step false x xs more rest e = rest e
 
-filter_none : (symbol : List ℕ) (entries : List Entry) → find (is_of symbol) entries ≡ None → rules_of entries symbol ≡ []
+filter_none : (symbol : List ℕ) (entries : List Entry) → find (is_of symbol) entries ≡ None
+    → rules_of entries symbol ≡ []
 unfolding rules_of
 filter_none symbol [] e = refl
 filter_none symbol (x ∷ xs) e = filter_step (is_of symbol x) x (filter (is_of symbol) xs) (find (is_of symbol) xs) (filter_none symbol xs) e
 
-in_group : (entries : List Entry) (symbol : List ℕ) (first : Option Entry) → first ≡ first_entry entries symbol → rules_in (group_with entries symbol first) ≡ by_id (rules_of entries symbol)
+in_group : (entries : List Entry) (symbol : List ℕ) (first : Option Entry) → first ≡ first_entry entries symbol
+    → rules_in (group_with entries symbol first) ≡ by_id (rules_of entries symbol)
 unfolding first_entry by_id
 in_group entries symbol None e = sym (ap by_id (filter_none symbol entries (sym e)))
 in_group entries symbol (Some x) e = refl
@@ -190,7 +210,8 @@ unfolding mentions_attribute
 mentioned None name = refl
 mentioned (Some g) name = refl
 
-chosen_value : (b b' : Bool) (x y : Option Rat) → b ≡ true → b ≡ b' → (if b then x else None) ≡ (if b' then y else None) → x ≡ y
+chosen_value : (b b' : Bool) (x y : Option Rat) → b ≡ true → b ≡ b' → (if b then x else None) ≡ (if b' then y else None)
+    → x ≡ y
 chosen_value true true x y e f h = h
 chosen_value true false x y e f h = cc
 chosen_value false b' x y e f h = cc
@@ -200,7 +221,8 @@ module _ (old new : Grammar) (s : Shape) (same : setting_of old s.symbol ≡ set
   unfolding setting_of
   same_group = ap (λ (t : Setting). t.group) same
 
-  same_value : (name : List ℕ) → mentions (group old s.symbol) name ≡ true → attribute_of old.attributes name ≡ attribute_of new.attributes name
+  same_value : (name : List ℕ) → mentions (group old s.symbol) name ≡ true
+      → attribute_of old.attributes name ≡ attribute_of new.attributes name
   unfolding setting_of
   same_value name here =
       chosen_value (mentions (group old s.symbol) name) (mentions (group new s.symbol) name) _ _ here (ap (λ o. mentions o name) same_group) (ap (λ (t : Setting). t.values name) same)

@@ -1,9 +1,9 @@
-//! One expansion: what a shape becomes by the rules of its symbol, or the first fault in reading
-//! order. On it stand the definitions of all above: the derivation of sources, its run, and which
-//! shapes an edit touches.
+//! One expansion: what a shape becomes by the rules of its symbol, or the first fault in reading order.
 //!
-//! Its code must not know other shapes: what they are to a shape is in its answers. Callers get the
-//! order wrong: a fault comes where it stands in the text, and nothing is emitted then.
+//! It must not know how shapes are kept and found: what other shapes are to one is in its answers. On it stand the
+//! definitions of all above: the derivation of sources, its run, and which shapes an edit touches.
+//!
+//! What callers get wrong: the order. A fault comes where it stands in the text, and nothing is emitted then.
 #![tactic(auto)]
 
 mod choice;
@@ -19,5 +19,5 @@ mod scopes;
 mod state;
 mod walk;
 
-pub use rules::expand;
+pub use rules::{ExpandKey, Expansions, expand};
 pub use state::State;

@@ -1,3 +1,4 @@
-pub mod Layers
-pub mod Operands
-pub mod Whole
+mod Layers
+mod Operands
+mod Whole
+pub mod Door

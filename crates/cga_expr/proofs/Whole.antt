@@ -8,9 +8,7 @@ use Rattle.cga_fraction.specs.Results.{or_err}
 use Rattle.cga_fraction.specs.declared.overflow.DivFault.TheVariants as division
 use Rattle.cga_expr.specs.declared.expr_fault.ExprFault.TheVariants as fault
 use Rattle.cga_fraction.specs.declared.overflow.Overflow.{Overflow}
-use Rattle.cga_fraction.proofs.Gcds.{gcd-one}
-use Rattle.cga_fraction.proofs.Lowest.{reduced-parts}
-use Rattle.cga_fraction.proofs.Quotients.{by_positive}
+use Rattle.cga_fraction.proofs.Door.{by_positive, gcd-one, reduced-parts}
 use Rattle.cga_expr.specs.Arithmetic.{or_fault, exact}
 
 with_own_sign : (z : ℤ) → with_sign z (unsigned_abs z) ≡ z

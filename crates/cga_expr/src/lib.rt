@@ -1,9 +1,10 @@
-//! Values of expressions, and whether conditions hold, for one shape: exact, or the first operation
-//! in reading order that is refused.
+//! Values of expressions, and whether conditions hold, for one shape: exact, or the first operation in reading order
+//! that is refused.
 //!
-//! It knows the trees of rules, numbers and words, and neither symbols nor how scopes change: the
-//! caller says whose sizes are read. Callers get those wrong: an item reads the current scope, a
-//! condition the shape's own. Takes no memory.
+//! It must not know symbols, how scopes change or what a fault does to a shape. Takes no memory.
+//!
+//! What callers get wrong: whose sizes are read. An item reads the current scope, a condition the shape's own; the
+//! caller says which.
 #![tactic(auto)]
 
 mod arithmetic;

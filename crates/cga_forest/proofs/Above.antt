@@ -8,15 +8,14 @@ use Rattle.cga_forest.specs.Tree.{above}
 use Rattle.cga_forest.specs.Standing.{is_above, at_parent}
 use Rattle.cga_tree.specs.Tree.{IsTree}
 use Rattle.cga_forest.proofs.Books.{nat_cases}
-
-ne-eqb : (x c : ℕ) → x ≢ c → nat_eq x c ≡ false
-ne-eqb x c n = elim (eqb_tells x c) [ inl y ↦ absurd (n y.1) | inr f ↦ f.0 ]
+use Rattle.cga_fraction.proofs.Door.{nat_eq_from_ne as ne-eqb}
 
 pub is_above_zero : (T : ℕ → Option Seen) (n x c : ℕ) → n ≡ 0 → is_above T n x c ≡ false
 unfolding is_above
 is_above_zero T n x c e = ap (λ k. is_above T k x c) e
 
-pub is_above_step : (T : ℕ → Option Seen) (n x c : ℕ) → 0 < n → is_above T n x c ≡ (nat_eq x c || at_parent (is_above T (n - 1) x) (above (T c)))
+pub is_above_step : (T : ℕ → Option Seen) (n x c : ℕ) → 0 < n
+    → is_above T n x c ≡ (nat_eq x c || at_parent (is_above T (n - 1) x) (above (T c)))
 unfolding is_above
 is_above_step T zero x c h = absurd (omega (arith, h))
 is_above_step T (suc n) x c h = let e : suc n - 1 ≡ n = omega arith in rw e refl
@@ -24,14 +23,16 @@ is_above_step T (suc n) x c h = let e : suc n - 1 ≡ n = omega arith in rw e re
 pub above_own : (T : ℕ → Option Seen) (n x c : ℕ) → 0 < n → x ≡ c → is_above T n x c ≡ true
 above_own T n x c h e = is_above_step T n x c h ∙ ap (λ b. b || at_parent (is_above T (n - 1) x) (above (T c))) (eq-eqb x c e)
 
-pub above_up : (T : ℕ → Option Seen) (n x c : ℕ) → 0 < n → x ≢ c → (p : ℕ) → above (T c) ≡ Some p → is_above T n x c ≡ is_above T (n - 1) x p
+pub above_up : (T : ℕ → Option Seen) (n x c : ℕ) → 0 < n → x ≢ c → (p : ℕ) → above (T c) ≡ Some p
+    → is_above T n x c ≡ is_above T (n - 1) x p
 above_up T n x c h e p a = is_above_step T n x c h ∙ ap (λ b. b || at_parent (is_above T (n - 1) x) (above (T c))) (ne-eqb x c e) ∙ ap (at_parent (is_above T (n - 1) x)) a
 
 pub above_none : (T : ℕ → Option Seen) (n x c : ℕ) → 0 < n → x ≢ c → above (T c) ≡ None → is_above T n x c ≡ false
 above_none T n x c h e a = is_above_step T n x c h ∙ ap (λ b. b || at_parent (is_above T (n - 1) x) (above (T c))) (ne-eqb x c e) ∙ ap (at_parent (is_above T (n - 1) x)) a
 
 -- a parent stands one level above its child
-parent_higher : (T : ℕ → Option Seen) → IsTree T → (c p : ℕ) (e : Seen) → T c ≡ Some e → e.parent ≡ Some p → (u : Seen) × (T p ≡ Some u) × (e.depth ≡ u.depth + 1)
+parent_higher : (T : ℕ → Option Seen) → IsTree T → (c p : ℕ) (e : Seen) → T c ≡ Some e → e.parent ≡ Some p
+    → (u : Seen) × (T p ≡ Some u) × (e.depth ≡ u.depth + 1)
 parent_higher T tree c p e here parent =
     let u = tree.up c p e here parent in
     let r = tree.down p e.index c u.0 u.1 u.2 in
@@ -39,7 +40,8 @@ parent_higher T tree c p e here parent =
     (u.0, u.1, ap (λ (x : Seen). x.depth) (sym same) ∙ r.3)
 
 -- a node is no ancestor of another one that stands as high
-pub above_higher : (T : ℕ → Option Seen) → IsTree T → (n x c : ℕ) (d e : Seen) → T x ≡ Some d → T c ≡ Some e → x ≢ c → e.depth ≤ d.depth → is_above T n x c ≡ false
+pub above_higher : (T : ℕ → Option Seen) → IsTree T → (n x c : ℕ) (d e : Seen) → T x ≡ Some d → T c ≡ Some e → x ≢ c
+    → e.depth ≤ d.depth → is_above T n x c ≡ false
 above_higher T tree zero x c d e at_x at_c differ high = is_above_zero T zero x c refl
 above_higher T tree (suc n) x c d e at_x at_c differ high = by_parent (λ p u. above_higher T tree n x p d u at_x) e.parent refl
   where

@@ -75,8 +75,10 @@ module _ (s0 s1 s2 s3 : ℕ → Option Entry) (id depth n : ℕ) (marking : Bool
   pub right_after : hulls_of (s3 id) ≡ hulls_of (s2 id) → RightBut (λ c. present_of (s3 c)) (λ c. hulls_of (s3 c)) id
   right_after h = right_but s0 s1 s2 s3 id depth n marking made news state e was low deep fuel whole.tree gone (λ c. refl) dropped_seen placed_seen sized others changed whole.right h
 
-  pub mark_after : marking ≡ true → marked_of (s3 id) ≡ marked_of (s2 id) → marked_hulls_of (s3 id) ≡ marked_hulls_of (s2 id) → (c : ℕ) → marked_of (s3 c) ≡ marked_of (s0 c)
+  pub mark_after : marking ≡ true → marked_of (s3 id) ≡ marked_of (s2 id)
+      → marked_hulls_of (s3 id) ≡ marked_hulls_of (s2 id) → (c : ℕ) → marked_of (s3 c) ≡ marked_of (s0 c)
   mark_after on m h = mark_kept s0 s1 s2 s3 id depth n marking made news state e was low deep fuel whole.tree gone (λ c. refl) dropped_seen placed_seen sized others changed on m h
 
-  pub mark_hulls_after : marking ≡ true → marked_of (s3 id) ≡ marked_of (s2 id) → marked_hulls_of (s3 id) ≡ marked_hulls_of (s2 id) → (c : ℕ) → marked_hulls_of (s3 c) ≡ marked_hulls_of (s0 c)
+  pub mark_hulls_after : marking ≡ true → marked_of (s3 id) ≡ marked_of (s2 id)
+      → marked_hulls_of (s3 id) ≡ marked_hulls_of (s2 id) → (c : ℕ) → marked_hulls_of (s3 c) ≡ marked_hulls_of (s0 c)
   mark_hulls_after on m h = mark_hulls_kept s0 s1 s2 s3 id depth n marking made news state e was low deep fuel whole.tree gone (λ c. refl) dropped_seen placed_seen sized others changed on m h

@@ -5,6 +5,7 @@ use Rattle.cga_word.specs.declared.mode.Mode.{Mode}
 use Rattle.cga_forest.specs.Roots.{AreApart, root_under}
 use Rattle.cga_forest.specs.Tree.{ForestView, IsForest, IsRootOf, HasNoLot, node_at}
 use Rattle.cga_forest.proofs.Names.{at_contains, contains_at, contains_under, under_contains}
+use Rattle.cga_fraction.proofs.Door.{cases_Option_nat as either}
 
 module _ (v : ForestView) (f : IsForest v) (name : List ℕ) where
   pub root_from : (c : ℕ) → root_under v.roots name ≡ Some c → IsRootOf (node_at v) name c
@@ -16,23 +17,22 @@ module _ (v : ForestView) (f : IsForest v) (name : List ℕ) where
       let w = at_contains v.roots (name, c) there in
       contains_under v.roots name w.0 c f.tops.apart w.1
 
-pub root_exact : (v w : ForestView) → v ≡ w → IsForest v → (name : List ℕ) (o : Option ℕ) → o ≡ root_under v.roots name → (c : ℕ) → (o ≡ Some c) ↔ IsRootOf (node_at w) name c
+pub root_exact : (v w : ForestView) → v ≡ w → IsForest v → (name : List ℕ) (o : Option ℕ) → o ≡ root_under v.roots name
+    → (c : ℕ) → (o ≡ Some c) ↔ IsRootOf (node_at w) name c
 root_exact v w same f name o e c = (
   λ h. subst (λ (x : ForestView). IsRootOf (node_at x) name c) same (root_from v f name c (sym e ∙ h)),
   λ r. e ∙ root_to v f name c (subst (λ (x : ForestView). IsRootOf (node_at x) name c) (sym same) r),
 )
 
-either : (o : Option ℕ) → (o ≡ None) ⊎ ((c : ℕ) × (o ≡ Some c))
-either None = inl refl
-either (Some c) = inr (c, refl)
-
-pub no_root : (v w : ForestView) → v ≡ w → IsForest v → (name : List ℕ) → HasNoLot w name → root_under v.roots name ≡ None
+pub no_root : (v w : ForestView) → v ≡ w → IsForest v → (name : List ℕ) → HasNoLot w name
+    → root_under v.roots name ≡ None
 no_root v w same f name away = elim (either (root_under v.roots name)) [
   | inl q ↦ q
   | inr k ↦ absurd (away k.0 (subst (λ (x : ForestView). IsRootOf (node_at x) name k.0) same (root_from v f name k.0 k.1)))
 ]
 
-pub no_lot : (v w : ForestView) → v ≡ w → IsForest v → (name : List ℕ) → None ≡ root_under v.roots name → HasNoLot w name
+pub no_lot : (v w : ForestView) → v ≡ w → IsForest v → (name : List ℕ) → None ≡ root_under v.roots name
+    → HasNoLot w name
 no_lot v w same f name h c r =
     let e = root_to v f name c (subst (λ (x : ForestView). IsRootOf (node_at x) name c) (sym same) r) in
     let z : None ≡ Some c = h ∙ e in absurd (cc)
@@ -43,7 +43,8 @@ none_apart : AreApart []
 unfolding IsDistinct
 none_apart = tt
 
-pub none_forest : (mode : Mode) → IsForest (record { slots = []; marking = false; roots = []; marked_roots = []; mode = mode })
+pub none_forest : (mode : Mode)
+    → IsForest (record { slots = []; marking = false; roots = []; marked_roots = []; mode = mode })
 none_forest mode = record {
   present = record {
     tree = record {

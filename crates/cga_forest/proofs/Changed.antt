@@ -14,5 +14,6 @@ module _ {X : Type 0} (f : Option Entry → X) (g : X → X) (none : f None ≡ 
   lifted (Some x) (Some y) h = some x y h
 
   -- also where it was touched before
-  pub changed : (m : Bool) (s t : Option Entry) → f (touch_when touched_entry m s) ≡ f s → Relates R (touch_when touched_entry m s) t → f t ≡ g (f s)
+  pub changed : (m : Bool) (s t : Option Entry) → f (touch_when touched_entry m s) ≡ f s
+      → Relates R (touch_when touched_entry m s) t → f t ≡ g (f s)
   changed m s t same h = lifted (touch_when touched_entry m s) t h ∙ ap g same

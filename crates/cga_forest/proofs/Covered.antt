@@ -4,8 +4,9 @@ use Rattle.std.specs.Prelude.{Option, Some, None, slice_get}
 use Rattle.std.proofs.lemmas.List.{length_push}
 use Rattle.std.proofs.lemmas.Option.{slice_get_within}
 use Rattle.cga_frame.specs.Box.{Box, touches}
-use Rattle.cga_frame.proofs.Boxes.{touches_up}
-use Rattle.cga_frame.proofs.Flags.{both}
+use Rattle.cga_fraction.proofs.Door.{eq_or_ne as nat_cases}
+use Rattle.cga_frame.proofs.Door.{touches_up}
+use Rattle.std.proofs.lemmas.Bool.{and_parts as both, cases_Bool as bool_cases}
 use Rattle.cga_index.specs.Tree.{IsFarRun, IsQuietRun}
 use Rattle.cga_forest.specs.declared.blocks.Blocks.{Blocks}
 use Rattle.cga_forest.specs.declared.entry.Entry.{Entry}
@@ -17,8 +18,6 @@ use Rattle.cga_forest.specs.Tree.{ForestView, hulls_at}
 use Rattle.cga_forest.specs.View.{Seen, present_of}
 use Rattle.cga_forest.specs.Walked.{all_of, asking_of, forest_tree}
 use Rattle.cga_forest.proofs.Alike.{holds_from, probed_apart, probed_chain}
-use Rattle.cga_marked.proofs.Slots.{nat_cases}
-use Rattle.cga_marked.proofs.Count.{bool_cases}
 use Rattle.cga_forest.proofs.Names.{contains_at, contains_under, place_once}
 use Rattle.cga_forest.proofs.Right.{present_some}
 use Rattle.cga_forest.proofs.Swaps.{swap_kept}
@@ -59,7 +58,8 @@ at_ids [] i c n h = let x : None ≡ Some (n, c) = h in absurd (cc)
 at_ids (e ∷ es) zero c n h = let x : Some e ≡ Some (n, c) = h in let q : e ≡ (n, c) = (cc) in ap (λ (p : List ℕ × ℕ). Some p.1) q
 at_ids (e ∷ es) (suc i) c n h = at_ids es i c n h
 
-pushed_ids : (es : Named) (n : List ℕ) (id i c : ℕ) → slice_get (ids (es ++ (n, id) ∷ [])) i ≡ Some c → (slice_get (ids es) i ≡ Some c) ⊎ (i ≡ length es)
+pushed_ids : (es : Named) (n : List ℕ) (id i c : ℕ) → slice_get (ids (es ++ (n, id) ∷ [])) i ≡ Some c
+    → (slice_get (ids es) i ≡ Some c) ⊎ (i ≡ length es)
 pushed_ids [] n id zero c h = inr refl
 pushed_ids [] n id (suc i) c h = let x : None ≡ Some c = h in absurd (cc)
 pushed_ids (e ∷ es) n id zero c h = inl h
@@ -74,14 +74,17 @@ with_self h (Some k) = holds_from (with_hulls h (Some k)) h (λ p t. (probed_apa
 with_other : (h k x : Hulls) → holds_hulls k x ≡ true → holds_hulls (with_hulls h (Some k)) x ≡ true
 with_other h k x e = holds_from (with_hulls h (Some k)) x (λ p t. probed_chain p k x e (probed_apart p h k t).1)
 
-still_one : (o : Option Hulls) (h x : Hulls) → block_holds (Some o) x ≡ true → block_holds (Some (Some (with_hulls h o))) x ≡ true
+still_one : (o : Option Hulls) (h x : Hulls) → block_holds (Some o) x ≡ true
+    → block_holds (Some (Some (with_hulls h o))) x ≡ true
 still_one None h x e = let z : false ≡ true = e in absurd (cc)
 still_one (Some k) h x e = with_other h k x e
 
-pub held_here : (xs : Level) (place : ℕ) (o : Option Hulls) (h : Hulls) → place / 16 < length xs → IsIn (set xs (place / 16) (Some (with_hulls h o))) place h
+pub held_here : (xs : Level) (place : ℕ) (o : Option Hulls) (h : Hulls) → place / 16 < length xs
+    → IsIn (set xs (place / 16) (Some (with_hulls h o))) place h
 held_here xs place o h lt = ap (λ b. block_holds b h) (get_set xs (place / 16) (Some (with_hulls h o)) lt) ∙ with_self h o
 
-pub held_still : (xs : Level) (i : ℕ) (o : Option Hulls) (h : Hulls) → slice_get xs i ≡ Some o → StaysIn xs (set xs i (Some (with_hulls h o)))
+pub held_still : (xs : Level) (i : ℕ) (o : Option Hulls) (h : Hulls) → slice_get xs i ≡ Some o
+    → StaysIn xs (set xs i (Some (with_hulls h o)))
 held_still xs i o h at place x e = elim (nat_cases (place / 16) i) [
   | inl q ↦ (
       let was : block_holds (Some o) x ≡ true = ap (λ b. block_holds b x) (sym (ap (slice_get xs) q ∙ at)) ∙ e in
@@ -90,24 +93,31 @@ held_still xs i o h at place x e = elim (nat_cases (place / 16) i) [
 ]
 
 -- an entry more, behind all places
-pub room_made : (xs : Level) (o : Option Hulls) (roots place : ℕ) (h : Hulls) → roots % 16 ≡ 0 → roots / 16 ≡ length xs → place < roots → IsIn xs place h → IsIn (xs ++ o ∷ []) place h
+pub room_made : (xs : Level) (o : Option Hulls) (roots place : ℕ) (h : Hulls) → roots % 16 ≡ 0 → roots / 16 ≡ length xs
+    → place < roots → IsIn xs place h → IsIn (xs ++ o ∷ []) place h
 room_made xs o roots place h whole full lt e = ap (λ b. block_holds b h) (get_left xs (o ∷ []) (place / 16) (omega (arith, whole, full, lt))) ∙ e
 
 -- ---- the roots' hulls are held
 
 -- other nodes, whose hulls are the same where they have some
-pub covered_part : (xs : Blocks) (roots left : Named) (H J : ℕ → Option Hulls) → left ≡ roots → ((c : ℕ) (h : Hulls) → J c ≡ Some h → H c ≡ Some h) → AreCovered xs roots H → AreCovered xs left J
+pub covered_part : (xs : Blocks) (roots left : Named) (H J : ℕ → Option Hulls) → left ≡ roots
+    → ((c : ℕ) (h : Hulls) → J c ≡ Some h → H c ≡ Some h) → AreCovered xs roots H → AreCovered xs left J
 covered_part xs roots left H J same part a place c h at e = a place c h (subst (λ (l : Named). slice_get (ids l) place ≡ Some c) same at) (part c h e)
 
 pub none_covered : (xs : Blocks) (roots : Named) (H : ℕ → Option Hulls) → roots ≡ [] → AreCovered xs roots H
 none_covered xs roots H none place c h at e = let l = ids_within roots place c at in let z = ap length none in absurd (omega (arith, l, z))
 
 -- more blocks, behind all roots
-pub covered_made : (xs ys : Blocks) (roots : Named) (H : ℕ → Option Hulls) (count : ℕ) → count ≡ length roots → ((place : ℕ) (h : Hulls) → place < count → IsHeld xs place h → IsHeld ys place h) → AreCovered xs roots H → AreCovered ys roots H
+pub covered_made : (xs ys : Blocks) (roots : Named) (H : ℕ → Option Hulls) (count : ℕ) → count ≡ length roots
+    → ((place : ℕ) (h : Hulls) → place < count → IsHeld xs place h → IsHeld ys place h) → AreCovered xs roots H
+    → AreCovered ys roots H
 covered_made xs ys roots H count n made a place c h at e = let lt = ids_within roots place c at in made place h (omega (arith, lt, n)) (a place c h at e)
 
-pub covered_added : (S : ℕ → Option Seen) (roots left : Named) (H J : ℕ → Option Hulls) (us vs xs ys : Blocks) (n : List ℕ) (id gap : ℕ) → HasRoots S roots → S id ≡ None → ((c : ℕ) → c ≢ id → J c ≡ H c)
-    → ((place : ℕ) (h : Hulls) → place < length roots → IsHeld us place h → IsHeld vs place h) → StaysHeld vs xs → StaysHeld xs ys → gap ≤ length roots → left ≡ swap (roots ++ (n, id) ∷ []) gap (length roots)
+pub covered_added : (S : ℕ → Option Seen) (roots left : Named) (H J : ℕ → Option Hulls) (us vs xs ys : Blocks)
+      (n : List ℕ) (id gap : ℕ)
+    → HasRoots S roots → S id ≡ None → ((c : ℕ) → c ≢ id → J c ≡ H c)
+    → ((place : ℕ) (h : Hulls) → place < length roots → IsHeld us place h → IsHeld vs place h) → StaysHeld vs xs
+    → StaysHeld xs ys → gap ≤ length roots → left ≡ swap (roots ++ (n, id) ∷ []) gap (length roots)
     → IsCovered xs left J gap → IsCovered ys left J (length roots) → AreCovered us roots H → AreCovered ys left J
 covered_added S roots left H J us vs xs ys n id gap r fresh others made kept more low pushed here there a place c h at e = elim (nat_cases place gap) [
   | inl q ↦ more place h (subst (λ i. IsHeld xs i h) (sym q) (here c h (subst (λ i. slice_get (ids left) i ≡ Some c) q at) e))
@@ -128,7 +138,9 @@ covered_added S roots left H J us vs xs ys n id gap r fresh others made kept mor
   ]
 ]
 
-pub covered_out : (xs ys : Blocks) (roots left : Named) (H : ℕ → Option Hulls) (place : ℕ) → KeepsPlaces place roots left → StaysHeld xs ys → IsCovered ys left H place → AreCovered xs roots H → AreCovered ys left H
+pub covered_out : (xs ys : Blocks) (roots left : Named) (H : ℕ → Option Hulls) (place : ℕ)
+    → KeepsPlaces place roots left → StaysHeld xs ys → IsCovered ys left H place → AreCovered xs roots H
+    → AreCovered ys left H
 covered_out xs ys roots left H place keeps kept here a i c h at e = elim (nat_cases i place) [
   | inl q ↦ subst (λ k. IsHeld ys k h) (sym q) (here c h (subst (λ k. slice_get (ids left) k ≡ Some c) q at) e)
   | inr n ↦ (
@@ -137,15 +149,19 @@ covered_out xs ys roots left H place keeps kept here a i c h at e = elim (nat_ca
 ]
 
 -- a place more
-pub covered_next : (xs ys : Blocks) (roots : Named) (H : ℕ → Option Hulls) (from to : ℕ) → ((p : ℕ) → from ≤ p → p < to → IsCovered xs roots H p) → StaysHeld xs ys → IsCovered ys roots H to → (p : ℕ) → from ≤ p → p < to + 1 → IsCovered ys roots H p
+pub covered_next : (xs ys : Blocks) (roots : Named) (H : ℕ → Option Hulls) (from to : ℕ)
+    → ((p : ℕ) → from ≤ p → p < to → IsCovered xs roots H p) → StaysHeld xs ys → IsCovered ys roots H to → (p : ℕ)
+    → from ≤ p → p < to + 1 → IsCovered ys roots H p
 covered_next xs ys roots H from to a kept here p low lt c h at e = elim (nat_cases p to) [
   | inl q ↦ subst (λ i. IsHeld ys i h) (sym q) (here c h (subst (λ i. slice_get (ids roots) i ≡ Some c) q at) e)
   | inr n ↦ kept p h (a p low (omega (arith, lt, n)) c h at e)
 ]
 
 -- a group is emptied, and its places are gone over
-pub covered_anew : (xs ys zs : Blocks) (roots : Named) (H : ℕ → Option Hulls) (group from to count : ℕ) → count ≡ length roots → from ≡ 256 * group → ((p : ℕ) → p < count → p < from + 256 → p < to)
-    → ((place : ℕ) (h : Hulls) → place / 256 ≢ group → IsHeld xs place h → IsHeld ys place h) → StaysHeld ys zs → ((p : ℕ) → from ≤ p → p < to → IsCovered zs roots H p) → AreCovered xs roots H → AreCovered zs roots H
+pub covered_anew : (xs ys zs : Blocks) (roots : Named) (H : ℕ → Option Hulls) (group from to count : ℕ)
+    → count ≡ length roots → from ≡ 256 * group → ((p : ℕ) → p < count → p < from + 256 → p < to)
+    → ((place : ℕ) (h : Hulls) → place / 256 ≢ group → IsHeld xs place h → IsHeld ys place h) → StaysHeld ys zs
+    → ((p : ℕ) → from ≤ p → p < to → IsCovered zs roots H p) → AreCovered xs roots H → AreCovered zs roots H
 covered_anew xs ys zs roots H group from to count n f reach others kept here a place c h at e =
     let lt = ids_within roots place c at in
     elim (nat_cases (place / 256) group) [
@@ -155,13 +171,17 @@ covered_anew xs ys zs roots H group from to count n f reach others kept here a p
 
 -- ---- one root's hulls change
 
-pub covered_but : (S : ℕ → Option Seen) (roots : Named) (H J : ℕ → Option Hulls) (xs : Blocks) (changed : Option ℕ) → HasRoots S roots → ((c : ℕ) (d : Seen) → S c ≡ Some d → d.parent ≡ None → changed ≢ Some c → J c ≡ H c) → AreCovered xs roots H → AreCoveredBut changed xs roots J
+pub covered_but : (S : ℕ → Option Seen) (roots : Named) (H J : ℕ → Option Hulls) (xs : Blocks) (changed : Option ℕ)
+    → HasRoots S roots → ((c : ℕ) (d : Seen) → S c ≡ Some d → d.parent ≡ None → changed ≢ Some c → J c ≡ H c)
+    → AreCovered xs roots H → AreCoveredBut changed xs roots J
 covered_but S roots H J xs changed r same a place c h n at e =
     let m = ids_at roots place c at in
     let d = r.each m.0 c (contains_at roots place (m.0, c) m.1) in
     a place c h at (sym (same c d.0 d.1 d.2 n) ∙ e)
 
-pub covered_root : (xs ys : Blocks) (roots : Named) (H : ℕ → Option Hulls) (root place : ℕ) → AreCoveredBut (Some root) xs roots H → StaysHeld xs ys → IsCovered ys roots H place → ((p : ℕ) → slice_get (ids roots) p ≡ Some root → place ≡ p) → AreCovered ys roots H
+pub covered_root : (xs ys : Blocks) (roots : Named) (H : ℕ → Option Hulls) (root place : ℕ)
+    → AreCoveredBut (Some root) xs roots H → StaysHeld xs ys → IsCovered ys roots H place
+    → ((p : ℕ) → slice_get (ids roots) p ≡ Some root → place ≡ p) → AreCovered ys roots H
 covered_root xs ys roots H root place a kept here stands p c h at e = elim (nat_cases c root) [
   | inl q ↦ (
       let same : place ≡ p = stands p (at ∙ ap (λ k. Some k) q) in
@@ -170,11 +190,16 @@ covered_root xs ys roots H root place a kept here stands p c h at e = elim (nat_
 ]
 
 -- none of them is a root of the list
-pub covered_none : (xs : Blocks) (roots : Named) (H : ℕ → Option Hulls) (changed : Option ℕ) → AreCoveredBut changed xs roots H → ((p c : ℕ) → changed ≡ Some c → slice_get (ids roots) p ≡ Some c → ⊥) → AreCovered xs roots H
+pub covered_none : (xs : Blocks) (roots : Named) (H : ℕ → Option Hulls) (changed : Option ℕ)
+    → AreCoveredBut changed xs roots H → ((p c : ℕ) → changed ≡ Some c → slice_get (ids roots) p ≡ Some c → ⊥)
+    → AreCovered xs roots H
 covered_none xs roots H changed a none p c h at e = a p c h (λ q. absurd (none p c q at)) at e
 
 -- the slot of a root, and its name
-pub root_at : (s : ℕ → Option Entry) (roots : Named) → HasRoots (λ c. present_of (s c)) roots → (root p : ℕ) → slice_get (ids roots) p ≡ Some root → (n : List ℕ) × (slice_get roots p ≡ Some (n, root)) × ((x : Entry) → s root ≡ Some x → x.node.shape.lot ≡ n) × (s root ≡ None → ⊥)
+pub root_at : (s : ℕ → Option Entry) (roots : Named) → HasRoots (λ c. present_of (s c)) roots → (root p : ℕ)
+    → slice_get (ids roots) p ≡ Some root
+    → (n : List ℕ) × (slice_get roots p ≡ Some (n, root)) × ((x : Entry) → s root ≡ Some x → x.node.shape.lot ≡ n)
+      × (s root ≡ None → ⊥)
 root_at s roots r root p at =
     let m = ids_at roots p root at in
     let d = r.each m.0 root (contains_at roots p (m.0, root) m.1) in
@@ -185,13 +210,17 @@ root_at s roots r root p at =
       (λ e. let z : None ≡ Some w.0 = sym e ∙ w.1 in absurd (cc)),
     )
 
-pub place_is : (s : ℕ → Option Entry) (roots : Named) → HasRoots (λ c. present_of (s c)) roots → (root place id p : ℕ) (x : Entry) (name : List ℕ) → s root ≡ Some x → name ≡ x.node.shape.lot → slice_get roots place ≡ Some (name, id) → slice_get (ids roots) p ≡ Some root → place ≡ p
+pub place_is : (s : ℕ → Option Entry) (roots : Named) → HasRoots (λ c. present_of (s c)) roots
+    → (root place id p : ℕ) (x : Entry) (name : List ℕ) → s root ≡ Some x → name ≡ x.node.shape.lot
+    → slice_get roots place ≡ Some (name, id) → slice_get (ids roots) p ≡ Some root → place ≡ p
 place_is s roots r root place id p x name here named there at =
     let w = root_at s roots r root p at in
     let same : name ≡ w.0 = named ∙ w.2 x here in
     place_once roots place p w.0 id root r.apart (there ∙ ap (λ (n : List ℕ). Some (n, id)) same) w.1
 
-pub place_there : (s : ℕ → Option Entry) (roots : Named) → HasRoots (λ c. present_of (s c)) roots → (root p : ℕ) (x : Entry) (name : List ℕ) → s root ≡ Some x → name ≡ x.node.shape.lot → None ≡ root_under roots name → slice_get (ids roots) p ≡ Some root → ⊥
+pub place_there : (s : ℕ → Option Entry) (roots : Named) → HasRoots (λ c. present_of (s c)) roots
+    → (root p : ℕ) (x : Entry) (name : List ℕ) → s root ≡ Some x → name ≡ x.node.shape.lot
+    → None ≡ root_under roots name → slice_get (ids roots) p ≡ Some root → ⊥
 place_there s roots r root p x name here named none at =
     let w = root_at s roots r root p at in
     let same : name ≡ w.0 = named ∙ w.2 x here in
@@ -199,7 +228,8 @@ place_there s roots r root p x name here named none at =
 
 -- ---- a block that doesn't touch
 
-held_far : (o : Option (Option Hulls)) (h : Hulls) (area : Box) → block_holds o h ≡ true → block_touches o area ≡ false → touches h.all area ≡ false
+held_far : (o : Option (Option Hulls)) (h : Hulls) (area : Box) → block_holds o h ≡ true → block_touches o area ≡ false
+    → touches h.all area ≡ false
 held_far None h area e f = let z : true ≡ false = f in absurd (cc)
 held_far (Some None) h area e f = let z : false ≡ true = e in absurd (cc)
 held_far (Some (Some k)) h area e f = elim (bool_cases (touches h.all area)) [
@@ -207,21 +237,24 @@ held_far (Some (Some k)) h area e f = elim (bool_cases (touches h.all area)) [
   | inr n ↦ n
 ]
 
-opt_far : (a : Option Box) (b area : Box) → opt_within a (Some b) ≡ true → opt_touches a area ≡ false → touches b area ≡ false
+opt_far : (a : Option Box) (b area : Box) → opt_within a (Some b) ≡ true → opt_touches a area ≡ false
+    → touches b area ≡ false
 opt_far None b area e f = let z : false ≡ true = e in absurd (cc)
 opt_far (Some a) b area e f = elim (bool_cases (touches b area)) [
   | inl y ↦ absurd (let z : true ≡ false = sym (touches_up b a area e y) ∙ f in (cc))
   | inr n ↦ n
 ]
 
-held_quiet : (o : Option (Option Hulls)) (h : Hulls) (b area : Box) → block_holds o h ≡ true → block_asks o area ≡ false → h.asking ≡ Some b → touches b area ≡ false
+held_quiet : (o : Option (Option Hulls)) (h : Hulls) (b area : Box) → block_holds o h ≡ true → block_asks o area ≡ false
+    → h.asking ≡ Some b → touches b area ≡ false
 held_quiet None h b area e f s = let z : true ≡ false = f in absurd (cc)
 held_quiet (Some None) h b area e f s = let z : false ≡ true = e in absurd (cc)
 held_quiet (Some (Some k)) h b area e f s = opt_far k.asking b area (ap (opt_within k.asking) (sym s) ∙ (both _ _ e).1) f
 
 -- the hulls of the root at a place are held by its block and by its group
 module _ (v : ForestView) (xs : Blocks) (w : IsWithBlocks v xs) (area : Box) where
-  root_held : (place c : ℕ) → slice_get (ids v.roots) place ≡ Some c → (h : Hulls) × (hulls_at v c ≡ Some h) × IsHeld xs place h
+  root_held : (place c : ℕ) → slice_get (ids v.roots) place ≡ Some c
+      → (h : Hulls) × (hulls_at v c ≡ Some h) × IsHeld xs place h
   root_held place c at =
       let m = ids_at v.roots place c at in
       let d = w.forest.tops.each m.0 c (contains_at v.roots place (m.0, c) m.1) in
@@ -231,7 +264,8 @@ module _ (v : ForestView) (xs : Blocks) (w : IsWithBlocks v xs) (area : Box) whe
   -- what an entry of a level holds is as far as the entry
   module _ (level : Level) (entry from count : ℕ) (index : ℕ → ℕ) (here : (place : ℕ) → from ≤ place → place < from + count → index place / 16 ≡ entry)
       (holds : (place : ℕ) (h : Hulls) → IsHeld xs place h → IsIn level (index place) h) where
-    at_entry : (place : ℕ) (h : Hulls) → from ≤ place → place < from + count → IsHeld xs place h → block_holds (slice_get level entry) h ≡ true
+    at_entry : (place : ℕ) (h : Hulls) → from ≤ place → place < from + count → IsHeld xs place h
+        → block_holds (slice_get level entry) h ≡ true
     at_entry place h low high e = ap (λ i. block_holds (slice_get level i) h) (sym (here place low high)) ∙ holds place h e
 
     pub far_run : block_touches (slice_get level entry) area ≡ false → IsFarRun (forest_tree v) from count area
@@ -244,14 +278,18 @@ module _ (v : ForestView) (xs : Blocks) (w : IsWithBlocks v xs) (area : Box) whe
         let r = root_held place c at in
         held_quiet (slice_get level entry) r.0 b area (at_entry place r.0 within.0 within.1 r.2) off (sym (ap asking_of r.1) ∙ asks)
 
-  pub far_block : (block : ℕ) → block_touches (slice_get xs.blocks.hulls.items block) area ≡ false → IsFarRun (forest_tree v) (16 * block) 16 area
+  pub far_block : (block : ℕ) → block_touches (slice_get xs.blocks.hulls.items block) area ≡ false
+      → IsFarRun (forest_tree v) (16 * block) 16 area
   far_block block = far_run xs.blocks.hulls.items block (16 * block) 16 (λ p. p) (λ p a b. omega (arith, a, b)) (λ p h e. e.0)
 
-  pub quiet_block : (block : ℕ) → block_asks (slice_get xs.blocks.hulls.items block) area ≡ false → IsQuietRun (forest_tree v) (16 * block) 16 area
+  pub quiet_block : (block : ℕ) → block_asks (slice_get xs.blocks.hulls.items block) area ≡ false
+      → IsQuietRun (forest_tree v) (16 * block) 16 area
   quiet_block block = quiet_run xs.blocks.hulls.items block (16 * block) 16 (λ p. p) (λ p a b. omega (arith, a, b)) (λ p h e. e.0)
 
-  pub far_group : (group : ℕ) → block_touches (slice_get xs.groups.hulls.items group) area ≡ false → IsFarRun (forest_tree v) (256 * group) 256 area
+  pub far_group : (group : ℕ) → block_touches (slice_get xs.groups.hulls.items group) area ≡ false
+      → IsFarRun (forest_tree v) (256 * group) 256 area
   far_group group = far_run xs.groups.hulls.items group (256 * group) 256 (λ p. p / 16) (λ p a b. omega (arith, a, b)) (λ p h e. e.1)
 
-  pub quiet_group : (group : ℕ) → block_asks (slice_get xs.groups.hulls.items group) area ≡ false → IsQuietRun (forest_tree v) (256 * group) 256 area
+  pub quiet_group : (group : ℕ) → block_asks (slice_get xs.groups.hulls.items group) area ≡ false
+      → IsQuietRun (forest_tree v) (256 * group) 256 area
   quiet_group group = quiet_run xs.groups.hulls.items group (256 * group) 256 (λ p. p / 16) (λ p a b. omega (arith, a, b)) (λ p h e. e.1)

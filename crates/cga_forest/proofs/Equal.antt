@@ -9,28 +9,22 @@ use Rattle.cga_order.specs.declared.placed.Kind.{Kind}
 use Rattle.cga_order.specs.declared.placed.Kind.TheVariants.{Instance}
 use Rattle.cga_shape.specs.Equal.{same_shape}
 use Rattle.cga_shape.specs.declared.shape_fault.ShapeFault.{ShapeFault}
-use Rattle.cga_shape.proofs.Equal.{shape_equal}
+use Rattle.cga_fraction.proofs.Door.{false-not-true as not_so}
+use Rattle.cga_shape.proofs.Door.{shape_equal}
 use Rattle.cga_forest.specs.declared.node.Node.{Node}
 use Rattle.cga_forest.specs.Node.{same_sort, fits, AreAlike}
-
-both : (a b : Bool) → (a && b) ≡ true → (a ≡ true) × (b ≡ true)
-both true b h = (refl, h)
-both false b h = absurd (true≢false (sym h))
-
-pair : (a b : Bool) → a ≡ true → b ≡ true → (a && b) ≡ true
-pair a b p q = ap (λ t. t && b) p ∙ q
-
-not_so : {P : Type 0} → false ≡ true → P
-not_so h = absurd (true≢false (sym h))
+use Rattle.std.proofs.lemmas.Bool.{and_from as pair, and_parts as both}
 
 -- neither an instance, or instances of one primitive
-sort_sound : (k l : Kind ShapeFault Primitive) → same_sort k l ≡ true → (is_instance k ≡ is_instance l) × (is_instance l ≡ true → k ≡ l)
+sort_sound : (k l : Kind ShapeFault Primitive) → same_sort k l ≡ true
+    → (is_instance k ≡ is_instance l) × (is_instance l ≡ true → k ≡ l)
 sort_sound (Instance p) (Instance q) h = (refl, λ x. ap Instance (same_true primitive.the_type tt p q h))
 sort_sound (Instance p) l h = not_so h
 sort_sound k (Instance q) h = not_so h
 sort_sound k l h = (refl, λ x. not_so x)
 
-sort_whole : (k l : Kind ShapeFault Primitive) → is_instance k ≡ is_instance l → (is_instance l ≡ true → k ≡ l) → same_sort k l ≡ true
+sort_whole : (k l : Kind ShapeFault Primitive) → is_instance k ≡ is_instance l → (is_instance l ≡ true → k ≡ l)
+    → same_sort k l ≡ true
 sort_whole (Instance p) (Instance q) e s = subst (λ k. same_sort (Instance p) k ≡ true) (s refl) (equal.laws-law.refl p)
 sort_whole (Instance p) l e s = not_so (sym e)
 sort_whole k (Instance q) e s = not_so e

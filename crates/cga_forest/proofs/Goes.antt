@@ -13,27 +13,28 @@ use Rattle.cga_forest.specs.View.{Seen, kids, flag_if, present_of, marked_of, hu
 use Rattle.cga_forest.specs.Tree.{IsRight, AllRight, RightBut, under, goes, goes_at, stay_of, IsPlaced, IsPlacedChild}
 use Rattle.cga_tree.specs.Tree.{IsTree}
 use Rattle.cga_tree.specs.Replaced.{fits_at, IsReplaced, IsNewChild}
-use Rattle.cga_marked.proofs.Count.{bool_cases}
-use Rattle.cga_marked.proofs.Slots.{nat_cases}
+use Rattle.cga_fraction.proofs.Door.{eq_or_ne as nat_cases}
+use Rattle.std.proofs.lemmas.Bool.{cases_Bool as bool_cases}
 use Rattle.cga_forest.proofs.Under.{stay_flag}
 use Rattle.cga_forest.proofs.Tree.{cut_some}
 use Rattle.cga_forest.proofs.Walk.{under_cases, under_none, under_into, under_onto, under_self}
 use Rattle.cga_forest.proofs.Right.{right_exact, present_some, kids_present, right_same, over_zero}
 use Rattle.cga_forest.proofs.Marks.{present_flag, marked_flag, hulls_flag, marked_hulls_flag}
 use Rattle.cga_forest.proofs.Replace.{old_or_new}
+pub use Rattle.cga_fraction.proofs.Door.{lt-length_from_slice_get as get_within}
+use Rattle.cga_fraction.proofs.Door.{or-true as or_true}
 
-at_find : (K : ℕ → List ℕ) (n : ℕ) (P : ℕ → Option Node → Bool) (o : Option ℕ) (w : Option Node) (c : ℕ) → goes_at K n P o w c ≡ true → (k : ℕ) × (o ≡ Some k) × (P k w ≡ false) × (under K n k c ≡ true)
+at_find : (K : ℕ → List ℕ) (n : ℕ) (P : ℕ → Option Node → Bool) (o : Option ℕ) (w : Option Node) (c : ℕ)
+    → goes_at K n P o w c ≡ true → (k : ℕ) × (o ≡ Some k) × (P k w ≡ false) × (under K n k c ≡ true)
 at_find K n P None w c h = absurd (cc)
 at_find K n P (Some k) w c h = elim (bool_cases (P k w)) [
   | inl y ↦ (let z : false ≡ true = ap (λ b. if b then false else under K n k c) (sym y) ∙ h in absurd (cc))
   | inr ne ↦ (k, refl, ne, ap (λ b. if b then false else under K n k c) (sym ne) ∙ h)
 ]
 
-or_true : (b : Bool) → (b || true) ≡ true
-or_true true = refl
-or_true false = refl
-
-pub goes_find : (K : ℕ → List ℕ) (n : ℕ) (P : ℕ → Option Node → Bool) (olds : List ℕ) (news : List Node) (m c : ℕ) → goes K n P olds news m c ≡ true → (i : ℕ) × (k : ℕ) × (slice_get olds i ≡ Some k) × (P k (slice_get news i) ≡ false) × (under K n k c ≡ true)
+pub goes_find : (K : ℕ → List ℕ) (n : ℕ) (P : ℕ → Option Node → Bool) (olds : List ℕ) (news : List Node) (m c : ℕ)
+    → goes K n P olds news m c ≡ true
+    → (i : ℕ) × (k : ℕ) × (slice_get olds i ≡ Some k) × (P k (slice_get news i) ≡ false) × (under K n k c ≡ true)
 unfolding goes
 goes_find K n P olds news zero c h = absurd (cc)
 goes_find K n P olds news (suc m) c h = elim (bool_cases (goes K n P olds news m c)) [
@@ -41,7 +42,9 @@ goes_find K n P olds news (suc m) c h = elim (bool_cases (goes K n P olds news m
   | inr ne ↦ (let w = at_find K n P (slice_get olds m) (slice_get news m) c (sym (ap (λ b. b || goes_at K n P (slice_get olds m) (slice_get news m) c) ne) ∙ h) in (m, w.0, w.1, w.2, w.3))
 ]
 
-goes_below : (K : ℕ → List ℕ) (n : ℕ) (P : ℕ → Option Node → Bool) (olds : List ℕ) (news : List Node) (m i k c : ℕ) → i < m → slice_get olds i ≡ Some k → P k (slice_get news i) ≡ false → under K n k c ≡ true → goes K n P olds news m c ≡ true
+goes_below : (K : ℕ → List ℕ) (n : ℕ) (P : ℕ → Option Node → Bool) (olds : List ℕ) (news : List Node) (m i k c : ℕ)
+    → i < m → slice_get olds i ≡ Some k → P k (slice_get news i) ≡ false → under K n k c ≡ true
+    → goes K n P olds news m c ≡ true
 unfolding goes
 goes_below K n P olds news zero i k c lt at unfit u = absurd (omega arith)
 goes_below K n P olds news (suc m) i k c lt at unfit u = elim (nat_cases i m) [
@@ -52,12 +55,16 @@ goes_below K n P olds news (suc m) i k c lt at unfit u = elim (nat_cases i m) [
   | inr ne ↦ (let lt2 : i < m = omega arith in ap (λ b. b || goes_at K n P (slice_get olds m) (slice_get news m) c) (goes_below K n P olds news m i k c lt2 at unfit u))
 ]
 
-pub goes_here : (K : ℕ → List ℕ) (n : ℕ) (P : ℕ → Option Node → Bool) (olds : List ℕ) (news : List Node) (i k c : ℕ) → slice_get olds i ≡ Some k → P k (slice_get news i) ≡ false → under K n k c ≡ true → goes K n P olds news (length olds) c ≡ true
+pub goes_here : (K : ℕ → List ℕ) (n : ℕ) (P : ℕ → Option Node → Bool) (olds : List ℕ) (news : List Node) (i k c : ℕ)
+    → slice_get olds i ≡ Some k → P k (slice_get news i) ≡ false → under K n k c ≡ true
+    → goes K n P olds news (length olds) c ≡ true
 goes_here K n P olds news i k c at unfit u = goes_below K n P olds news (length olds) i k c (slice_get_within olds i k at) at unfit u
 
 -- what is below a node of a tree is in it, and no higher
-pub under_deep : (K : ℕ → List ℕ) (T : ℕ → Option Seen) → IsTree T → ((c : ℕ) (d : Seen) → T c ≡ Some d → K c ≡ d.children)
-    → (n id c : ℕ) (e : Seen) → T id ≡ Some e → under K n id c ≡ true → (d : Seen) × (T c ≡ Some d) × (e.depth ≤ d.depth)
+pub under_deep : (K : ℕ → List ℕ) (T : ℕ → Option Seen) → IsTree T
+    → ((c : ℕ) (d : Seen) → T c ≡ Some d → K c ≡ d.children)
+    → (n id c : ℕ) (e : Seen) → T id ≡ Some e → under K n id c ≡ true
+    → (d : Seen) × (T c ≡ Some d) × (e.depth ≤ d.depth)
 under_deep K T tree same zero id c e t h = let z = under_none K id c in absurd (cc)
 under_deep K T tree same (suc n) id c e t h = elim (under_cases K n id c h) [
   | inl q ↦ (e, ap T (sym q) ∙ t, omega arith)
@@ -70,7 +77,8 @@ under_deep K T tree same (suc n) id c e t h = elim (under_cases K n id c h) [
 same_seen : (T : ℕ → Option Seen) (a b : ℕ) (d e : Seen) → T a ≡ Some d → T b ≡ Some e → a ≡ b → d ≡ e
 same_seen T a b d e t u q = let z : Some d ≡ Some e = sym t ∙ ap T q ∙ u in (cc)
 
-pub stay_seen : (s : Option Entry) (d : Seen) (w : Option Node) → present_of s ≡ Some d → stay_of s w ≡ fits_at fits d.node w
+pub stay_seen : (s : Option Entry) (d : Seen) (w : Option Node) → present_of s ≡ Some d
+    → stay_of s w ≡ fits_at fits d.node w
 stay_seen s d w h = let r = present_some s d h in ap (λ o. stay_of o w) r.1 ∙ ap (λ (x : Seen). fits_at fits x.node w) r.2
 
 not_true : (b : Bool) → b ≡ true → false ≡ not b
@@ -83,9 +91,6 @@ asked_some : (s : Option Entry) (w : Option Node) → stay_of s w ≡ true → (
 asked_some None w h = absurd (cc)
 asked_some (Some e) None h = absurd (cc)
 asked_some (Some e) (Some x) h = (x, refl)
-
-pub get_within : {X : Type 0} (xs : List X) (i : ℕ) (x : X) → slice_get xs i ≡ Some x → i < length xs
-get_within xs i x h = slice_get_within xs i x h
 
 pub get_there : (xs : List ℕ) (i : ℕ) → i < length xs → (k : ℕ) × (slice_get xs i ≡ Some k)
 get_there [] i h = absurd (omega arith)
@@ -131,10 +136,13 @@ module _ (s0 s1 s2 s3 : ℕ → Option Entry) (id depth n : ℕ) (marking : Bool
   stay_before : (k : ℕ) (w : Option Node) → stay_of (s1 k) w ≡ stay_of (s0 k) w
   stay_before k w = ap (λ s. stay_of s w) (dropped k) ∙ stay_flag (gone k) (s0 k) w
 
-  find : (c : ℕ) → gone c ≡ true → (i : ℕ) × (k : ℕ) × (slice_get e.children i ≡ Some k) × (stay_of (s0 k) (slice_get news i) ≡ false) × (under (λ d. kids (s0 d)) n k c ≡ true)
+  find : (c : ℕ) → gone c ≡ true
+      → (i : ℕ) × (k : ℕ) × (slice_get e.children i ≡ Some k) × (stay_of (s0 k) (slice_get news i) ≡ false)
+        × (under (λ d. kids (s0 d)) n k c ≡ true)
   find c g = goes_find (λ d. kids (s0 d)) n (λ k w. stay_of (s0 k) w) e.children news (length e.children) c (sym (goneis c) ∙ g)
 
-  here : (i k c : ℕ) → slice_get e.children i ≡ Some k → stay_of (s0 k) (slice_get news i) ≡ false → under (λ d. kids (s0 d)) n k c ≡ true → gone c ≡ true
+  here : (i k c : ℕ) → slice_get e.children i ≡ Some k → stay_of (s0 k) (slice_get news i) ≡ false
+      → under (λ d. kids (s0 d)) n k c ≡ true → gone c ≡ true
   here i k c at unfit u = goneis c ∙ goes_here (λ d. kids (s0 d)) n (λ k w. stay_of (s0 k) w) e.children news i k c at unfit u
 
   -- what goes is a node, deeper than id
@@ -196,7 +204,8 @@ module _ (s0 s1 s2 s3 : ℕ → Option Entry) (id depth n : ℕ) (marking : Bool
   not_id : (c : ℕ) → present_of (s0 c) ≡ None → c ≢ id
   not_id c h q = let z : None ≡ Some e = sym h ∙ ap (λ x. present_of (s0 x)) q ∙ was in absurd (cc)
 
-  new_child : (i c : ℕ) (w : Node) → s1 c ≡ None → IsNewEntry (s2 c) (Some id) w depth i marking → IsNewChild (λ x. present_of (s3 x)) id e.depth i w c
+  new_child : (i c : ℕ) (w : Node) → s1 c ≡ None → IsNewEntry (s2 c) (Some id) w depth i marking
+      → IsNewChild (λ x. present_of (s3 x)) id e.depth i w c
   new_child i c w h v = record {
     seen = seen v.entry;
     here = ap present_of (others c (not_id c (ap present_of (none_slot c h))) ∙ v.here) ∙ ap (λ b. if b then None else Some (seen v.entry)) v.shows;
@@ -211,10 +220,12 @@ module _ (s0 s1 s2 s3 : ℕ → Option Entry) (id depth n : ℕ) (marking : Bool
   if_none true o h = refl
   if_none false o h = h
 
-  rest_of : (c : ℕ) (x : Entry) → c ≢ id → s0 c ≡ Some x → present_of (s3 c) ≡ (if gone c then None else present_of (s0 c))
+  rest_of : (c : ℕ) (x : Entry) → c ≢ id → s0 c ≡ Some x
+      → present_of (s3 c) ≡ (if gone c then None else present_of (s0 c))
   rest_of c x ne h = ap present_of (others c ne ∙ old_slot c x h) ∙ present_flag (gone c) (s0 c)
 
-  came_none : (c : ℕ) (o : Option Entry) → s0 c ≡ o → present_of o ≡ None → (present_of (s3 c) ≡ None) ⊎ ((i : ℕ) × (slice_get made i ≡ Some c))
+  came_none : (c : ℕ) (o : Option Entry) → s0 c ≡ o → present_of o ≡ None
+      → (present_of (s3 c) ≡ None) ⊎ ((i : ℕ) × (slice_get made i ≡ Some c))
   came_none c None q h = elim (placed.came c (dropped c ∙ flag_none (gone c) (s0 c) q)) [
     | inl y ↦ inl (ap present_of (others c (not_id c (ap present_of q)) ∙ y))
     | inr w ↦ inr w
@@ -236,7 +247,8 @@ module _ (s0 s1 s2 s3 : ℕ → Option Entry) (id depth n : ℕ) (marking : Bool
       ]
 
   -- a node that came stands where no entry was
-  vacant_at : (c : ℕ) (o : Option Entry) (d : Seen) → s0 c ≡ o → present_of o ≡ None → present_of (s3 c) ≡ Some d → s0 c ≡ None
+  vacant_at : (c : ℕ) (o : Option Entry) (d : Seen) → s0 c ≡ o → present_of o ≡ None → present_of (s3 c) ≡ Some d
+      → s0 c ≡ None
   vacant_at c None d q h t = q
   vacant_at c (Some x) d q h t = let z : None ≡ Some d = sym (if_none (gone c) (present_of (s0 c)) (ap present_of q ∙ h)) ∙ sym (rest_of c x (not_id c (ap present_of q ∙ h)) q) ∙ t in absurd (cc)
 
@@ -291,17 +303,20 @@ module _ (s0 s1 s2 s3 : ℕ → Option Entry) (id depth n : ℕ) (marking : Bool
       | inr ne ↦ ap hulls_of (others c ne ∙ old_node c d t) ∙ hulls_flag (gone c) (s0 c)
     ]
 
-    leaf_right : (c : ℕ) (d : Seen) (x : Entry) (w : Node) → hulls_of (s3 c) ≡ Some (hulls_known x.node x.hulls) → hulls_known x.node x.hulls ≡ own_hulls w → d.node ≡ w → d.children ≡ [] → IsRight (λ k. hulls_of (s3 k)) c d
+    leaf_right : (c : ℕ) (d : Seen) (x : Entry) (w : Node) → hulls_of (s3 c) ≡ Some (hulls_known x.node x.hulls)
+        → hulls_known x.node x.hulls ≡ own_hulls w → d.node ≡ w → d.children ≡ [] → IsRight (λ k. hulls_of (s3 k)) c d
     leaf_right c d x w h o dn leaf = right_exact (λ k. hulls_of (s3 k)) c d (h ∙ ap (λ h. Some h) (o ∙ ap own_hulls (sym dn) ∙ sym (over_zero (λ k. hulls_of (s3 k)) (own_hulls d.node) d.children) ∙ ap (λ xs. over (λ k. hulls_of (s3 k)) (own_hulls d.node) d.children (length xs)) (sym leaf)))
 
-    new_right : (i c : ℕ) (d : Seen) (w : Node) → present_of (s3 c) ≡ Some d → s1 c ≡ None → IsNewEntry (s2 c) (Some id) w depth i marking → IsRight (λ k. hulls_of (s3 k)) c d
+    new_right : (i c : ℕ) (d : Seen) (w : Node) → present_of (s3 c) ≡ Some d → s1 c ≡ None
+        → IsNewEntry (s2 c) (Some id) w depth i marking → IsRight (λ k. hulls_of (s3 k)) c d
     new_right i c d w t h v =
         let k = new_child i c w h v in
         let z : Some k.seen ≡ Some d = sym k.here ∙ t in
         let q : k.seen ≡ d = (cc) in
         leaf_right c d v.entry w (ap hulls_of (others c (not_id c (ap present_of (none_slot c h))) ∙ v.here)) (known_own v.entry w v.node v.hulls) (ap (λ (x : Seen). x.node) (sym q) ∙ k.node) (ap (λ (x : Seen). x.children) (sym q) ∙ k.leaf)
 
-    old_same : (c : ℕ) (d u : Seen) → present_of (s0 c) ≡ Some u → present_of (s3 c) ≡ Some d → c ≢ id → (i : ℕ) → slice_get e.children i ≡ Some c → present_of (s0 c) ≡ Some d
+    old_same : (c : ℕ) (d u : Seen) → present_of (s0 c) ≡ Some u → present_of (s3 c) ≡ Some d → c ≢ id → (i : ℕ)
+        → slice_get e.children i ≡ Some c → present_of (s0 c) ≡ Some d
     old_same c d u t now ne i o = let w = present_some (s0 c) u t in let r = cut_some (gone c) (present_of (s0 c)) d (sym (rest_of c w.0 ne w.1) ∙ now) in r.1
 
     pub right_but : RightBut (λ c. present_of (s3 c)) (λ c. hulls_of (s3 c)) id
@@ -318,20 +333,25 @@ module _ (s0 s1 s2 s3 : ℕ → Option Entry) (id depth n : ℕ) (marking : Bool
   -- ---- the mark
 
   module _ (on : marking ≡ true) (marked : marked_of (s3 id) ≡ marked_of (s2 id)) (marked_hulls : marked_hulls_of (s3 id) ≡ marked_hulls_of (s2 id)) where
-    came_apart : (i c : ℕ) (w : Node) → s0 c ≡ None → IsPlacedChild s1 s2 id depth marking e.children w i c → IsNewEntry (s2 c) (Some id) w depth i marking
+    came_apart : (i c : ℕ) (w : Node) → s0 c ≡ None → IsPlacedChild s1 s2 id depth marking e.children w i c
+        → IsNewEntry (s2 c) (Some id) w depth i marking
     came_apart i c w q p = elim p [
       | inl o ↦ (let u = tree.down id i c e was o.0 in let z : None ≡ Some u.0 = ap present_of (sym q) ∙ u.1 in absurd (cc))
       | inr v ↦ v.1
     ]
 
-    placed_mark : (f : Option Entry → Option Seen) → ((b : Bool) (s : Option Entry) → f (flag_if b s) ≡ f s) → f None ≡ None → ((x : Entry) → x.came ≡ true → f (Some x) ≡ None) → (c : ℕ) (o : Option Entry) → s0 c ≡ o → f (s2 c) ≡ f (s0 c)
+    placed_mark : (f : Option Entry → Option Seen) → ((b : Bool) (s : Option Entry) → f (flag_if b s) ≡ f s)
+        → f None ≡ None → ((x : Entry) → x.came ≡ true → f (Some x) ≡ None) → (c : ℕ) (o : Option Entry) → s0 c ≡ o
+        → f (s2 c) ≡ f (s0 c)
     placed_mark f flag none new c (Some x) q = ap f (old_slot c x q) ∙ flag (gone c) (s0 c)
     placed_mark f flag none new c None q = elim (placed.came c (dropped c ∙ flag_none (gone c) (s0 c) q)) [
       | inl y ↦ ap f (y ∙ sym q)
       | inr w ↦ (let p = placed.each w.0 c w.1 in let v = came_apart w.0 c p.0 q p.2 in ap f v.here ∙ new v.entry (v.comes ∙ on) ∙ sym (ap f q ∙ none))
     ]
 
-    placed_hulls : (f : Option Entry → Option Hulls) → ((b : Bool) (s : Option Entry) → f (flag_if b s) ≡ f s) → f None ≡ None → ((x : Entry) → x.came ≡ true → f (Some x) ≡ None) → (c : ℕ) (o : Option Entry) → s0 c ≡ o → f (s2 c) ≡ f (s0 c)
+    placed_hulls : (f : Option Entry → Option Hulls) → ((b : Bool) (s : Option Entry) → f (flag_if b s) ≡ f s)
+        → f None ≡ None → ((x : Entry) → x.came ≡ true → f (Some x) ≡ None) → (c : ℕ) (o : Option Entry) → s0 c ≡ o
+        → f (s2 c) ≡ f (s0 c)
     placed_hulls f flag none new c (Some x) q = ap f (old_slot c x q) ∙ flag (gone c) (s0 c)
     placed_hulls f flag none new c None q = elim (placed.came c (dropped c ∙ flag_none (gone c) (s0 c) q)) [
       | inl y ↦ ap f (y ∙ sym q)

@@ -23,7 +23,8 @@ use Rattle.cga_forest.specs.Placing.{MayGrow, Outcome, child_node, children_afte
 
 module _ (g : Grammar) (n : Node) where
   -- a step of the loop that makes them
-  pub children_next : (es : List Emitted) (i : ℕ) (e : Emitted) (made new whole : List Node) → i < length es → e ≡ get_or es i e → new ≡ made ++ child_node g n i e ∷ []
+  pub children_next : (es : List Emitted) (i : ℕ) (e : Emitted) (made new whole : List Node) → i < length es
+      → e ≡ get_or es i e → new ≡ made ++ child_node g n i e ∷ []
       → made ++ children_from g n i (drop i es) ≡ whole → new ++ children_from g n (i + 1) (drop (i + 1) es) ≡ whole
   children_next es i e made new whole lt at more h =
       let d : drop i es ≡ e ∷ drop (i + 1) es = at_drop_more (λ l. l) es i e lt ∙ ap (λ x. x ∷ drop (i + 1) es) (sym at) in
@@ -31,18 +32,21 @@ module _ (g : Grammar) (n : Node) where
       ∙ append_assoc made (child_node g n i e ∷ []) (children_from g n (i + 1) (drop (i + 1) es))
       ∙ ap (λ l. made ++ children_from g n i l) (sym d) ∙ h
 
-  pub children_end : (es : List Emitted) (i : ℕ) (made whole : List Node) → length es ≤ i → made ++ children_from g n i (drop i es) ≡ whole → made ≡ whole
+  pub children_end : (es : List Emitted) (i : ℕ) (made whole : List Node) → length es ≤ i
+      → made ++ children_from g n i (drop i es) ≡ whole → made ≡ whole
   children_end es i made whole le h = sym (append-nil made) ∙ ap (λ l. made ++ children_from g n i l) (sym (at_drop_all (λ l. l) es i le)) ∙ h
 
   pub children_long : (es : List Emitted) (k : ℕ) → length (children_from g n k es) ≡ length es
   children_long [] k = refl
   children_long (e ∷ es) k = ap suc (children_long es (k + 1))
 
-  child_below : (s : State) → is_instance s.kind ≡ false → (k : ℕ) (e : Emitted) → IsBelow (with_state s n) k (child_node g n k e)
+  child_below : (s : State) → is_instance s.kind ≡ false → (k : ℕ) (e : Emitted)
+      → IsBelow (with_state s n) k (child_node g n k e)
   child_below s is k (Child symbol args scope seed) = record { inner = is; lot = refl; path = refl; line = refl }
   child_below s is k (Solid primitive scope seed) = record { inner = is; lot = refl; path = refl; line = refl }
 
-  pub children_below : (s : State) → is_instance s.kind ≡ false → (es : List Emitted) (k i : ℕ) (w : Node) → slice_get (children_from g n k es) i ≡ Some w → IsBelow (with_state s n) (k + i) w
+  pub children_below : (s : State) → is_instance s.kind ≡ false → (es : List Emitted) (k i : ℕ) (w : Node)
+      → slice_get (children_from g n k es) i ≡ Some w → IsBelow (with_state s n) (k + i) w
   children_below s is [] k i w h = let x : None ≡ Some w = h in absurd (cc)
   children_below s is (e ∷ es) k zero w h =
       let x : Some (child_node g n k e) ≡ Some w = h in
@@ -58,7 +62,8 @@ no_instance (Ok es) = refl
 no_instance (Err f) = refl
 
 -- what the core asks of new children
-pub may_grow : (g : Grammar) (e : Seen) (answers : Answers) (o : Outcome) → e.depth ≡ length e.node.shape.path → MayGrow e o → IsInner e (state_after g e.node answers o) (children_after g e.node o)
+pub may_grow : (g : Grammar) (e : Seen) (answers : Answers) (o : Outcome) → e.depth ≡ length e.node.shape.path
+    → MayGrow e o → IsInner e (state_after g e.node answers o) (children_after g e.node o)
 may_grow g e answers o deep m = record {
   low = λ h. let l = m.low (let n = children_long g e.node (emitted o) 0 in omega (arith, h, n)) in omega (arith, l, deep);
   was = m.inner;
@@ -94,7 +99,8 @@ entry_node s x e h t =
 -- ---- a node's depth is the length of its path
 
 module _ (T : ℕ → Option Seen) (tree : IsTree T) (places : InPlace T) where
-  at_depth : (n c : ℕ) (d : Seen) → T c ≡ Some d → d.depth ≡ n → (o : Option ℕ) → d.parent ≡ o → length d.node.shape.path ≡ n
+  at_depth : (n c : ℕ) (d : Seen) → T c ≡ Some d → d.depth ≡ n → (o : Option ℕ) → d.parent ≡ o
+      → length d.node.shape.path ≡ n
   at_depth n c d h e None q = ap length (places.root c d h q).path ∙ sym (tree.at_root c d h q) ∙ e
   at_depth zero c d h e (Some p) q =
       let u = tree.up c p d h q in

@@ -7,8 +7,8 @@ use Rattle.cga_forest.specs.declared.node.Node.{Node}
 use Rattle.cga_forest.specs.declared.node.State.{State}
 use Rattle.cga_forest.specs.Tree.{IsPlaced, above, parent_of}
 use Rattle.cga_forest.specs.View.{Seen, flag_if, hulls_of, present_of, rewritten, settled}
-use Rattle.cga_marked.proofs.Slots.{nat_cases}
-use Rattle.cga_marked.proofs.Count.{bool_cases}
+use Rattle.cga_fraction.proofs.Door.{eq_or_ne as nat_cases}
+use Rattle.std.proofs.lemmas.Bool.{cases_Bool as bool_cases}
 use Rattle.cga_forest.proofs.Marks.{hulls_flag, present_flag}
 use Rattle.cga_forest.proofs.Right.{parent_present, present_some}
 
@@ -27,7 +27,8 @@ module _ (s t : ℕ → Option Entry) (id : ℕ) (others : (c : ℕ) → c ≢ i
   written_here c n = ap hulls_of (others c (λ q. n (ap (λ k. Some k) (sym q))))
 
   -- the node isn't a root, and the way goes on from its parent
-  pub written_above : (u : ℕ → Option Entry) (p : ℕ) (e : Seen) (changed : Option ℕ) → present_of (s id) ≡ Some e → present_of (t id) ≡ present_of (s id) → parent_of (t id) ≡ Some p
+  pub written_above : (u : ℕ → Option Entry) (p : ℕ) (e : Seen) (changed : Option ℕ) → present_of (s id) ≡ Some e
+      → present_of (t id) ≡ present_of (s id) → parent_of (t id) ≡ Some p
       → ((c : ℕ) → above (present_of (t c)) ≡ None → changed ≢ Some c → hulls_of (u c) ≡ hulls_of (t c))
       → (c : ℕ) → above (present_of (s c)) ≡ None → changed ≢ Some c → hulls_of (u c) ≡ hulls_of (s c)
   written_above u p e changed here present up rest c top n =
@@ -40,7 +41,8 @@ above_flag : (b : Bool) (o : Option Seen) → above o ≡ None → above (if b t
 above_flag true o top = refl
 above_flag false o top = top
 
-above_rewritten : (state : State) (children : List ℕ) (o : Option Seen) → above o ≡ None → above (rewritten state children o) ≡ None
+above_rewritten : (state : State) (children : List ℕ) (o : Option Seen) → above o ≡ None
+    → above (rewritten state children o) ≡ None
 above_rewritten state children None top = refl
 above_rewritten state children (Some d) top = top
 
@@ -62,7 +64,8 @@ module _ (old dropped placed written : ℕ → Option Entry) (id depth : ℕ) (m
       ap (λ x. above (present_of x)) (placed_same c d h ∙ drops c) ∙ ap above (present_flag (gone c) (old c))
       ∙ above_flag (gone c) (present_of (old c)) (ap above h ∙ top)
 
-  pub top_written : (c : ℕ) (d : Seen) → present_of (old c) ≡ Some d → d.parent ≡ None → above (present_of (written c)) ≡ None
+  pub top_written : (c : ℕ) (d : Seen) → present_of (old c) ≡ Some d → d.parent ≡ None
+      → above (present_of (written c)) ≡ None
   top_written c d h top = elim (nat_cases c id) [
     | inl q ↦ ap (λ i. above (present_of (written i))) q ∙ ap above present ∙ above_rewritten state made (present_of (placed id)) (ap (λ i. above (present_of (placed i))) (sym q) ∙ top_placed c d h top)
     | inr n ↦ ap (λ x. above (present_of x)) (others c n) ∙ top_placed c d h top

@@ -10,7 +10,7 @@ use Rattle.cga_forest.specs.declared.node.State.{State}
 use Rattle.cga_forest.specs.Hull.{hulls_alone, hulls_known, own_hulls}
 use Rattle.cga_forest.specs.Node.{bounds, with_state}
 use Rattle.cga_forest.specs.View.{restored}
-use Rattle.cga_marked.proofs.Slots.{nat_cases}
+use Rattle.cga_fraction.proofs.Door.{eq_or_ne as nat_cases}
 
 state_bounds : (s : State) (n : Node) → bounds (with_state s n) ≡ bounds n
 unfolding bounds
@@ -21,7 +21,8 @@ pub known_state : (s : State) (n : Node) (k : KeptHulls) → hulls_known (with_s
 known_state s n (Own asks) = ap (λ b. hulls_alone b asks) (state_bounds s n)
 known_state s n (Other h) = refl
 
-pub known_restored : (e : Entry) (f : Option Former) (k : KeptHulls) → hulls_known (restored e f).node k ≡ hulls_known e.node k
+pub known_restored : (e : Entry) (f : Option Former) (k : KeptHulls)
+    → hulls_known (restored e f).node k ≡ hulls_known e.node k
 known_restored e None k = refl
 known_restored e (Some f) k = known_state f.state e.node k
 
@@ -30,7 +31,8 @@ pub known_own : (e : Entry) (w : Node) → e.node ≡ w → e.hulls ≡ Own w.as
 known_own e w n h = λ i. hulls_known (n i) (h i)
 
 -- what is the same of one slot is of all, where no other changes
-pub same_but : {X : Type 0} (f : Option Entry → X) (old new : ℕ → Option Entry) (id : ℕ) → ((c : ℕ) → c ≢ id → new c ≡ old c) → f (new id) ≡ f (old id) → (c : ℕ) → f (new c) ≡ f (old c)
+pub same_but : {X : Type 0} (f : Option Entry → X) (old new : ℕ → Option Entry) (id : ℕ)
+    → ((c : ℕ) → c ≢ id → new c ≡ old c) → f (new id) ≡ f (old id) → (c : ℕ) → f (new c) ≡ f (old c)
 same_but f old new id others here c = elim (nat_cases c id) [
   | inl same ↦ ap (λ (n : ℕ). f (new n)) same ∙ here ∙ ap (λ (n : ℕ). f (old n)) (sym same)
   | inr other ↦ ap f (others c other)

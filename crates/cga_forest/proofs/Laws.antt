@@ -4,10 +4,11 @@ use Rattle.std.specs.Prelude.{Option, Some, None, is_some, not, slice_get, if◌
 use Rattle.std.specs.List.{flat_map}
 use Rattle.cga_frame.specs.Box.{Box, holds, is_box}
 use Rattle.cga_frame.specs.Scope.{far_of}
-use Rattle.cga_frame.proofs.Boxes.{holds_itself, corners_box}
+use Rattle.cga_fraction.proofs.Door.{cases_Option as opt_two}
+use Rattle.cga_frame.proofs.Door.{corners_box, holds_itself}
+use Rattle.cga_index.proofs.Door.{in_present, present_in}
 use Rattle.cga_index.specs.Tree.{TreeView, Member, Apart, InTree, IsHullTree, IsQuietRun, LiesIn, all_nodes, below}
 use Rattle.cga_index.specs.Local.{IsLocalTree}
-use Rattle.cga_index.proofs.Local.{in_present, present_in}
 use Rattle.cga_forest.specs.declared.hulls.Hulls.{Hulls}
 use Rattle.cga_forest.specs.declared.node.Node.{Node}
 use Rattle.cga_forest.specs.Node.{bounds}
@@ -26,10 +27,6 @@ use Rattle.cga_forest.proofs.Alike.{Every, Asking, Nobody, Probe, probed, opt_ho
 use Rattle.cga_forest.proofs.Least.{own_asks, own_none, none_is}
 use Rattle.cga_forest.proofs.Moves.{apart_by_place}
 
-opt_two : {X : Type 0} (o : Option X) → (o ≡ None) ⊎ ((x : X) × (o ≡ Some x))
-opt_two None = inl refl
-opt_two (Some x) = inr (x, refl)
-
 -- low is at most high in a node's box
 node_boxed : (n : Node) → is_box (bounds n) ≡ true
 unfolding bounds
@@ -42,13 +39,16 @@ module _ (v : ForestView) (f : IsForest v) where
   abbrev t : TreeView
   t = forest_tree v
 
-  kid_place : (n c : ℕ) (d : Seen) → node_at v n ≡ Some d → Member (children_at v n) c → (i : ℕ) × (slice_get d.children i ≡ Some c)
+  kid_place : (n c : ℕ) (d : Seen) → node_at v n ≡ Some d → Member (children_at v n) c
+      → (i : ℕ) × (slice_get d.children i ≡ Some c)
   kid_place n c d h m = at_member d.children c (subst (λ (o : Option Seen). Member (children_of o) c) h m)
 
-  kid : (n c : ℕ) (d : Seen) → node_at v n ≡ Some d → Member (children_at v n) c → (e : Seen) × (node_at v c ≡ Some e) × (e.parent ≡ Some n) × (e.depth ≡ d.depth + 1)
+  kid : (n c : ℕ) (d : Seen) → node_at v n ≡ Some d → Member (children_at v n) c
+      → (e : Seen) × (node_at v c ≡ Some e) × (e.parent ≡ Some n) × (e.depth ≡ d.depth + 1)
   kid n c d h m = let w = kid_place n c d h m in let r = f.present.tree.down n w.0 c d h w.1 in (r.0, r.1, r.2, r.3)
 
-  parent_cases : (n : ℕ) (d : Seen) → node_at v n ≡ Some d → (o : Option ℕ) → d.parent ≡ o → Member (ids v.roots) n ⊎ ((p : ℕ) × There p × Member (children_at v p) n)
+  parent_cases : (n : ℕ) (d : Seen) → node_at v n ≡ Some d → (o : Option ℕ) → d.parent ≡ o
+      → Member (ids v.roots) n ⊎ ((p : ℕ) × There p × Member (children_at v p) n)
   parent_cases n d h None q = let w = at_contains v.roots (d.node.shape.lot, n) (f.tops.all n d h q) in inl (named_id v.roots w.0 d.node.shape.lot n w.1)
   parent_cases n d h (Some p) q = let u = f.present.tree.up n p d h q in inr (p, (u.0, u.1), subst (λ (o : Option Seen). Member (children_of o) n) (sym u.1) (member_at u.0.children d.index n u.2))
 
@@ -57,7 +57,8 @@ module _ (v : ForestView) (f : IsForest v) where
       let k = id_named v.roots r m in
       let w = f.tops.each k.1 r (contains_at v.roots k.0 (k.1, r) k.2) in (w.0, w.1, w.2)
 
-  named_once : (n m : List ℕ) (c i j : ℕ) → slice_get v.roots i ≡ Some (n, c) → slice_get v.roots j ≡ Some (m, c) → n ≡ m
+  named_once : (n m : List ℕ) (c i j : ℕ) → slice_get v.roots i ≡ Some (n, c) → slice_get v.roots j ≡ Some (m, c)
+      → n ≡ m
   named_once n m c i j p q =
       let a = f.tops.each n c (contains_at v.roots i (n, c) p) in
       let b = f.tops.each m c (contains_at v.roots j (m, c) q) in
@@ -96,19 +97,23 @@ module _ (v : ForestView) (f : IsForest v) where
     as_made : (n : ℕ) (d : Seen) (h : node_at v n ≡ Some d) → probed p (got n d h) ≡ true → probed p (made d) ≡ true
     as_made n d h on = sym (alike_probed p (got n d h) (made d) (f.present.right n d h).2) ∙ on
 
-    to_own : (n : ℕ) (d : Seen) (h : node_at v n ≡ Some d) → probed p (got n d h) ≡ true → probed p (own_hulls d.node) ≡ true
+    to_own : (n : ℕ) (d : Seen) (h : node_at v n ≡ Some d) → probed p (got n d h) ≡ true
+        → probed p (own_hulls d.node) ≡ true
     to_own n d h on = over_own p (hulls_at v) (own_hulls d.node) d.children (length d.children) (as_made n d h on)
 
-    to_child : (n c : ℕ) (d e : Seen) (h : node_at v n ≡ Some d) → Member (children_at v n) c → (u : node_at v c ≡ Some e) → probed p (got n d h) ≡ true → probed p (got c e u) ≡ true
+    to_child : (n c : ℕ) (d e : Seen) (h : node_at v n ≡ Some d) → Member (children_at v n) c
+        → (u : node_at v c ≡ Some e) → probed p (got n d h) ≡ true → probed p (got c e u) ≡ true
     to_child n c d e h m u on = let w = kid_place n c d h m in over_child p (hulls_at v) (own_hulls d.node) d.children (length d.children) (as_made n d h on) w.0 c (got c e u) (within d.children w.0 c w.1) w.1 (hulls_is c e u)
 
   own_holds : (n : ℕ) (d : Seen) → node_at v n ≡ Some d → holds (all_of (hulls_at v n)) (own_of (node_at v n)) ≡ true
   own_holds n d h = rw (hulls_is n d h, h) (to_own (Every (got n d h).all) n d h (holds_itself (got n d h).all))
 
-  kid_holds : (n c : ℕ) (d e : Seen) → node_at v n ≡ Some d → Member (children_at v n) c → node_at v c ≡ Some e → holds (all_of (hulls_at v n)) (all_of (hulls_at v c)) ≡ true
+  kid_holds : (n c : ℕ) (d e : Seen) → node_at v n ≡ Some d → Member (children_at v n) c → node_at v c ≡ Some e
+      → holds (all_of (hulls_at v n)) (all_of (hulls_at v c)) ≡ true
   kid_holds n c d e h m u = rw (hulls_is n d h, hulls_is c e u) (to_child (Every (got n d h).all) n c d e h m u (holds_itself (got n d h).all))
 
-  asks_at : (n : ℕ) (d : Seen) → node_at v n ≡ Some d → asks_of (node_at v n) ≡ true → LiesIn (asking_of (hulls_at v n)) (own_of (node_at v n))
+  asks_at : (n : ℕ) (d : Seen) → node_at v n ≡ Some d → asks_of (node_at v n) ≡ true
+      → LiesIn (asking_of (hulls_at v n)) (own_of (node_at v n))
   asks_at n d h on = rw (hulls_is n d h, h) (elim (opt_two (got n d h).asking) [
     | inl none ↦ (
         let z : d.node.asks ≡ false = own_none d.node (to_own Nobody n d h (ap (λ o. not (is_some o)) none)) in
@@ -116,7 +121,8 @@ module _ (v : ForestView) (f : IsForest v) where
     | inr a ↦ (a.0, a.1, own_asks a.0 d.node (to_own (Asking a.0) n d h (ap (opt_holds a.0) a.1 ∙ holds_itself a.0)) (ap asks_of (sym h) ∙ on))
   ])
 
-  asks_under : (n c : ℕ) (d e : Seen) (b : Box) → node_at v n ≡ Some d → Member (children_at v n) c → node_at v c ≡ Some e → asking_of (hulls_at v c) ≡ Some b → LiesIn (asking_of (hulls_at v n)) b
+  asks_under : (n c : ℕ) (d e : Seen) (b : Box) → node_at v n ≡ Some d → Member (children_at v n) c
+      → node_at v c ≡ Some e → asking_of (hulls_at v c) ≡ Some b → LiesIn (asking_of (hulls_at v n)) b
   asks_under n c d e b h m u q =
       let qe : (got c e u).asking ≡ Some b = ap asking_of (sym (hulls_is c e u)) ∙ q in
       rw (hulls_is n d h) (elim (opt_two (got n d h).asking) [
@@ -134,7 +140,8 @@ module _ (v : ForestView) (f : IsForest v) where
       let y : a.0 ≡ b.0 = (cc) in
       sym a.4 ∙ ap (λ (x : Seen). x.index) y ∙ b.4))
 
-  same_parent : (a b c : ℕ) (d e : Seen) → node_at v a ≡ Some d → node_at v b ≡ Some e → Member (children_at v a) c → Member (children_at v b) c → a ≡ b
+  same_parent : (a b c : ℕ) (d e : Seen) → node_at v a ≡ Some d → node_at v b ≡ Some e → Member (children_at v a) c
+      → Member (children_at v b) c → a ≡ b
   same_parent a b c d e h u m k =
       let x = kid a c d h m in
       let y = kid b c e u k in
@@ -183,7 +190,8 @@ module _ (v w : ForestView) (same : v ≡ w) (f : IsForest v) (n k : ℕ) (id : 
 pub laws_inside : (v w : ForestView) → v ≡ w → IsForest v → IsHullTree (forest_tree w)
 laws_inside v w same f = subst (λ (x : ForestView). IsHullTree (forest_tree x)) same (keeps_laws v f)
 
-pub in_inside : (v w : ForestView) → v ≡ w → IsForest v → (n : ℕ) → is_some (node_at w n) ≡ true → InTree (forest_tree w) n
+pub in_inside : (v w : ForestView) → v ≡ w → IsForest v → (n : ℕ) → is_some (node_at w n) ≡ true
+    → InTree (forest_tree w) n
 in_inside v w same f n h = subst (λ (x : ForestView). InTree (forest_tree x) n) same (inside v f n (is_there (node_at v n) (ap (λ (x : ForestView). is_some (node_at x n)) same ∙ h)))
 
 -- ---- in which only those nodes ask that were there at the mark: it has the same nodes
@@ -204,18 +212,22 @@ pub in_lasting : (v : ForestView) (n : ℕ) → InTree (forest_tree v) n → InT
 in_lasting v n m = subst (λ l. Member l n) (sym (nodes_same v)) m
 
 -- who asks in it asks in the forest
-pub quiet_too : (v : ForestView) (from count : ℕ) (area : Box) → IsQuietRun (forest_tree v) from count area → IsQuietRun (lasting_tree v) from count area
+pub quiet_too : (v : ForestView) (from count : ℕ) (area : Box) → IsQuietRun (forest_tree v) from count area
+    → IsQuietRun (lasting_tree v) from count area
 quiet_too v from count area quiet place c h within at is = quiet place c h within at (asks_still (is_some (marked_at v c)) is)
   where
     asks_still : (lasts : Bool) {hull : Option Box} → (if lasts then hull else None) ≡ Some h → hull ≡ Some h
     asks_still true e = e
     asks_still false e = let z : None ≡ Some h = e in absurd (cc)
 
-own_lies : (lasts asks : Bool) (hull : Option Box) (own : Box) → (asks ≡ true → LiesIn hull own) → (lasts && asks) ≡ true → LiesIn (if lasts then hull else None) own
+own_lies : (lasts asks : Bool) (hull : Option Box) (own : Box) → (asks ≡ true → LiesIn hull own)
+    → (lasts && asks) ≡ true → LiesIn (if lasts then hull else None) own
 own_lies true asks hull own lies on = lies on
 own_lies false asks hull own lies on = let z : false ≡ true = on in absurd (cc)
 
-child_lies : (lasts child : Bool) (hull below : Option Box) (h : Box) → (child ≡ true → lasts ≡ true) → (below ≡ Some h → LiesIn hull h) → (if child then below else None) ≡ Some h → LiesIn (if lasts then hull else None) h
+child_lies : (lasts child : Bool) (hull below : Option Box) (h : Box) → (child ≡ true → lasts ≡ true)
+    → (below ≡ Some h → LiesIn hull h) → (if child then below else None) ≡ Some h
+    → LiesIn (if lasts then hull else None) h
 child_lies lasts true hull below h up lies is = subst (λ b. LiesIn (if b then hull else None) h) (sym (up refl)) (lies is)
 child_lies lasts false hull below h up lies is = let z : None ≡ Some h = is in absurd (cc)
 
@@ -224,20 +236,23 @@ marked_parent : (s : Option Entry) (b : Seen) → marked_of s ≡ Some b → b.p
 marked_parent None b m = let z : None ≡ Some b = m in absurd (cc)
 marked_parent (Some x) b m = by_books x.came x.former m
   where
-    by_books : (came : Bool) (former : Option Former) → (if came then None else Some (seen (restored x former))) ≡ Some b → b.parent ≡ x.parent
+    by_books : (came : Bool) (former : Option Former)
+        → (if came then None else Some (seen (restored x former))) ≡ Some b → b.parent ≡ x.parent
     by_books true former e = let z : None ≡ Some b = e in absurd (cc)
     by_books false None e = let z : Some (seen x) ≡ Some b = e in let y : seen x ≡ b = (cc) in ap (λ (d : Seen). d.parent) (sym y)
     by_books false (Some f) e = let z : Some (seen (restored x (Some f))) ≡ Some b = e in let y : seen (restored x (Some f)) ≡ b = (cc) in ap (λ (d : Seen). d.parent) (sym y)
 
 module _ (v : ForestView) (f : IsForest v) where
-  parent_lasts : (n c : ℕ) → InTree (forest_tree v) n → Member (children_at v n) c → is_some (marked_at v c) ≡ true → is_some (marked_at v n) ≡ true
+  parent_lasts : (n c : ℕ) → InTree (forest_tree v) n → Member (children_at v n) c → is_some (marked_at v c) ≡ true
+      → is_some (marked_at v n) ≡ true
   parent_lasts n c m k on =
       let p = there v f n m in
       let w = kid v f n c p.0 p.1 k in
       let b = is_there (marked_at v c) on in
       by_mark p.0 p.1 b.0 b.1 (marked_parent (slot_at v c) b.0 b.1 ∙ (parent_present (slot_at v c) w.0 w.1 ∙ w.2)) v.marking refl
     where
-      by_mark : (d : Seen) → node_at v n ≡ Some d → (b : Seen) → marked_at v c ≡ Some b → b.parent ≡ Some n → (marking : Bool) → v.marking ≡ marking → is_some (marked_at v n) ≡ true
+      by_mark : (d : Seen) → node_at v n ≡ Some d → (b : Seen) → marked_at v c ≡ Some b → b.parent ≡ Some n
+          → (marking : Bool) → v.marking ≡ marking → is_some (marked_at v n) ≡ true
       by_mark d h b q up true is = ap is_some ((f.marked is).tree.up c n b q up).1
       by_mark d h b q up false is = ap is_some (marked_plain (slot_at v n) (f.plain is n) ∙ h)
 

@@ -1,33 +1,34 @@
-pub mod Equal
-pub mod SameNode
-pub mod Books
-pub mod Changed
-pub mod Under
-pub mod Tree
-pub mod Walk
-pub mod Place
-pub mod Replace
-pub mod Places
-pub mod Alike
-pub mod Right
-pub mod Marks
-pub mod Goes
-pub mod Assemble
-pub mod Through
-pub mod Known
-pub mod Least
-pub mod Tops
-pub mod Listed
-pub mod Moves
-pub mod WentCame
-pub mod Above
-pub mod Laws
-pub mod Names
-pub mod ByName
-pub mod Swaps
+mod Equal
+mod SameNode
+mod Books
+mod Changed
+mod Under
+mod Tree
+mod Walk
+mod Place
+mod Replace
+mod Places
+mod Alike
+mod Right
+mod Marks
+mod Goes
+mod Assemble
+mod Through
+mod Known
+mod Least
+mod Tops
+mod Listed
+mod Moves
+mod WentCame
+mod Above
+mod Laws
+mod Names
+mod ByName
+mod Swaps
 mod Shelf
 mod Grown
-pub mod Said
-pub mod Numbers
-pub mod Covered
-pub mod Heads
+mod Said
+mod Numbers
+mod Covered
+mod Heads
+pub mod Door

@@ -5,7 +5,7 @@ use Rattle.std.specs.Prelude.{Option, Some, None, is_some, slice_get, slice_inde
 use Rattle.std.proofs.lemmas.List.{append_assoc, append-nil, take_all}
 use Rattle.std.proofs.lemmas.Option.{slice_get_cases}
 use Rattle.cga_index.specs.Tree.{Member, Apart}
-use Rattle.cga_index.proofs.Levels.{in_split}
+use Rattle.cga_index.proofs.Door.{in_split}
 use Rattle.cga_order.specs.World.{Among}
 use Rattle.cga_forest.specs.declared.entry.Entry.{Entry}
 use Rattle.cga_forest.specs.declared.moved.Moved.{Moved}
@@ -13,10 +13,13 @@ use Rattle.cga_forest.specs.declared.node.Node.{Node}
 use Rattle.cga_forest.specs.Moved.{moved_node, ids_of}
 use Rattle.cga_forest.specs.Gathered.{found, found_at, below, going, going_at, coming, coming_at, listed}
 use Rattle.cga_forest.specs.Tree.{stay_child}
+pub use Rattle.std.proofs.lemmas.Grind.{flat_map-append as flat_append}
+pub use Rattle.cga_fraction.proofs.Door.{Some_from_is_some as some_from, cases_Option as opt_cases}
 
 -- ---- lists
 
-pub take_next : {X : Type 0} (xs : List X) (i : ℕ) (x : X) → slice_get xs i ≡ Some x → take (i + 1) xs ≡ take i xs ++ x ∷ []
+pub take_next : {X : Type 0} (xs : List X) (i : ℕ) (x : X) → slice_get xs i ≡ Some x
+    → take (i + 1) xs ≡ take i xs ++ x ∷ []
 take_next [] i x h = absurd (cc)
 take_next (y ∷ ys) zero x h = let q : y ≡ x = (cc) in ap (λ z. z ∷ []) q
 take_next (y ∷ ys) (suc i) x h = let e : suc i + 1 ≡ suc (i + 1) = omega arith in rw e (ap (λ zs. y ∷ zs) (take_next ys i x h))
@@ -27,17 +30,15 @@ take_none xs i h = elim (slice_get_cases xs i).1 [
   | inr w ↦ (let out : length xs ≤ i = w.0 in rw (take_all i xs out, take_all (i + 1) xs (omega arith)) refl)
 ]
 
-pub flat_append : {X A : Type 0} (f : X → List A) (xs ys : List X) → flat_map f (xs ++ ys) ≡ flat_map f xs ++ flat_map f ys
-flat_append f [] ys = refl
-flat_append f (x ∷ xs) ys = ap (λ zs. f x ++ zs) (flat_append f xs ys) ∙ sym (append_assoc (f x) (flat_map f xs) (flat_map f ys))
-
-pub flat_next : {X A : Type 0} (f : X → List A) (xs : List X) (i : ℕ) (x : X) → slice_get xs i ≡ Some x → flat_map f (take (i + 1) xs) ≡ flat_map f (take i xs) ++ f x
+pub flat_next : {X A : Type 0} (f : X → List A) (xs : List X) (i : ℕ) (x : X) → slice_get xs i ≡ Some x
+    → flat_map f (take (i + 1) xs) ≡ flat_map f (take i xs) ++ f x
 flat_next f xs i x h = ap (flat_map f) (take_next xs i x h) ∙ flat_append f (take i xs) (x ∷ []) ∙ ap (λ zs. flat_map f (take i xs) ++ zs) (append-nil (f x))
 
 -- ---- what is found
 
 module _ (s : ℕ → Option Entry) where
-  pub found_join : (a b c : List Moved) (xs ys : List ℕ) → b ≡ a ++ found s xs → c ≡ b ++ found s ys → c ≡ a ++ found s (xs ++ ys)
+  pub found_join : (a b c : List Moved) (xs ys : List ℕ) → b ≡ a ++ found s xs → c ≡ b ++ found s ys
+      → c ≡ a ++ found s (xs ++ ys)
   found_join a b c xs ys p q =
       q ∙ ap (λ l. l ++ found s ys) p ∙ append_assoc a (found s xs) (found s ys) ∙ ap (λ l. a ++ l) (sym (flat_append (λ k. found_at k (s k)) xs ys))
 
@@ -48,7 +49,8 @@ module _ (s : ℕ → Option Entry) where
   pub found_none : (a : List Moved) (xs : List ℕ) → xs ≡ [] → a ≡ a ++ found s xs
   found_none a xs e = sym (ap (λ l. a ++ found s l) e ∙ append-nil a)
 
-  pub found_one : (a b : List Moved) (c : ℕ) (e : Entry) → s c ≡ Some e → b ≡ a ++ moved_node c e.node ∷ [] → b ≡ a ++ found s (c ∷ [])
+  pub found_one : (a b : List Moved) (c : ℕ) (e : Entry) → s c ≡ Some e → b ≡ a ++ moved_node c e.node ∷ []
+      → b ≡ a ++ found s (c ∷ [])
   found_one a b c e h p = p ∙ ap (λ l. a ++ l) (ap (λ (o : Option Entry). found_at c o ++ []) (sym h))
 
   pub found_vacant : (a : List Moved) (c : ℕ) → s c ≡ None → a ≡ a ++ found s (c ∷ [])
@@ -61,10 +63,12 @@ module _ (s : ℕ → Option Entry) where
   pub child_vacant : (a : List Moved) (o : Option ℕ) (c : ℕ) → o ≡ Some c → s c ≡ None → a ≡ a ++ found s (listed o)
   child_vacant a o c h none = found_is a a (c ∷ []) (listed o) (sym (ap listed h)) (found_vacant a c none)
 
-  pub child_found : (a b : List Moved) (o : Option ℕ) (c : ℕ) (e : Entry) → o ≡ Some c → s c ≡ Some e → b ≡ a ++ moved_node c e.node ∷ [] → b ≡ a ++ found s (listed o)
+  pub child_found : (a b : List Moved) (o : Option ℕ) (c : ℕ) (e : Entry) → o ≡ Some c → s c ≡ Some e
+      → b ≡ a ++ moved_node c e.node ∷ [] → b ≡ a ++ found s (listed o)
   child_found a b o c e h here p = found_is a b (c ∷ []) (listed o) (sym (ap listed h)) (found_one a b c e here p)
 
-  pub found_in : (m : Moved) (xs : List ℕ) → Among m (found s xs) → (c : ℕ) × (e : Entry) × Member xs c × (s c ≡ Some e) × (m ≡ moved_node c e.node)
+  pub found_in : (m : Moved) (xs : List ℕ) → Among m (found s xs)
+      → (c : ℕ) × (e : Entry) × Member xs c × (s c ≡ Some e) × (m ≡ moved_node c e.node)
   found_in m [] h = absurd h
   found_in m (x ∷ xs) h = (elim (s x) as (λ o. s x ≡ o → Among m (found_at x o ++ found s xs) → (c : ℕ) × (e : Entry) × Member (x ∷ xs) c × (s c ≡ Some e) × (m ≡ moved_node c e.node)) [
     | None ↦ (λ q j. let r = found_in m xs j in (r.0, r.1, inr r.2, r.3, r.4))
@@ -75,7 +79,8 @@ module _ (s : ℕ → Option Entry) where
   among_right m [] ys h = h
   among_right m (x ∷ xs) ys h = inr (among_right m xs ys h)
 
-  pub found_has : (xs : List ℕ) (c : ℕ) (e : Entry) → Member xs c → s c ≡ Some e → Among (moved_node c e.node) (found s xs)
+  pub found_has : (xs : List ℕ) (c : ℕ) (e : Entry) → Member xs c → s c ≡ Some e
+      → Among (moved_node c e.node) (found s xs)
   found_has [] c e h q = absurd h
   found_has (x ∷ xs) c e h q = elim h [
     | inl y ↦ subst (λ (o : Option Entry). Among (moved_node c e.node) (found_at x o ++ found s xs)) (sym q ∙ ap s (sym y)) (inl (ap (λ k. moved_node k e.node) y))
@@ -117,39 +122,49 @@ unfolding below
 below_step K zero id h = absurd (omega arith)
 below_step K (suc n) id h = let e : suc n - 1 ≡ n = omega arith in rw e refl
 
-pub going_zero : (K : ℕ → List ℕ) (n : ℕ) (P : ℕ → Option Node → Bool) (olds : List ℕ) (news : List Node) → going K n P olds news 0 ≡ []
+pub going_zero : (K : ℕ → List ℕ) (n : ℕ) (P : ℕ → Option Node → Bool) (olds : List ℕ) (news : List Node)
+    → going K n P olds news 0 ≡ []
 unfolding going
 going_zero K n P olds news = refl
 
-pub going_step : (K : ℕ → List ℕ) (n : ℕ) (P : ℕ → Option Node → Bool) (olds : List ℕ) (news : List Node) (i : ℕ) → going K n P olds news (i + 1) ≡ going K n P olds news i ++ going_at K n P (slice_get olds i) (slice_get news i)
+pub going_step : (K : ℕ → List ℕ) (n : ℕ) (P : ℕ → Option Node → Bool) (olds : List ℕ) (news : List Node) (i : ℕ)
+    → going K n P olds news (i + 1) ≡ going K n P olds news i ++ going_at K n P (slice_get olds i) (slice_get news i)
 unfolding going
 going_step K n P olds news i = let e : i + 1 ≡ suc i = omega arith in rw e refl
 
 -- nobody goes with this child
-pub going_still : (K : ℕ → List ℕ) (n : ℕ) (P : ℕ → Option Node → Bool) (olds : List ℕ) (news : List Node) (i : ℕ) → going_at K n P (slice_get olds i) (slice_get news i) ≡ [] → going K n P olds news i ≡ going K n P olds news (i + 1)
+pub going_still : (K : ℕ → List ℕ) (n : ℕ) (P : ℕ → Option Node → Bool) (olds : List ℕ) (news : List Node) (i : ℕ)
+    → going_at K n P (slice_get olds i) (slice_get news i) ≡ []
+    → going K n P olds news i ≡ going K n P olds news (i + 1)
 going_still K n P olds news i h = sym (going_step K n P olds news i ∙ ap (λ l. going K n P olds news i ++ l) h ∙ append-nil (going K n P olds news i))
 
-pub going_at_none : (K : ℕ → List ℕ) (n : ℕ) (P : ℕ → Option Node → Bool) (o : Option ℕ) (w : Option Node) → o ≡ None → going_at K n P o w ≡ []
+pub going_at_none : (K : ℕ → List ℕ) (n : ℕ) (P : ℕ → Option Node → Bool) (o : Option ℕ) (w : Option Node) → o ≡ None
+    → going_at K n P o w ≡ []
 going_at_none K n P o w h = ap (λ x. going_at K n P x w) h
 
-pub going_at_stays : (K : ℕ → List ℕ) (n : ℕ) (P : ℕ → Option Node → Bool) (o : Option ℕ) (k : ℕ) (w : Option Node) → o ≡ Some k → P k w ≡ true → going_at K n P o w ≡ []
+pub going_at_stays : (K : ℕ → List ℕ) (n : ℕ) (P : ℕ → Option Node → Bool) (o : Option ℕ) (k : ℕ) (w : Option Node)
+    → o ≡ Some k → P k w ≡ true → going_at K n P o w ≡ []
 going_at_stays K n P o k w h t = ap (λ x. going_at K n P x w) h ∙ ap (λ b. if b then [] else below K n k) t
 
-pub going_at_goes : (K : ℕ → List ℕ) (n : ℕ) (P : ℕ → Option Node → Bool) (o : Option ℕ) (k : ℕ) (w : Option Node) → o ≡ Some k → P k w ≡ false → going_at K n P o w ≡ below K n k
+pub going_at_goes : (K : ℕ → List ℕ) (n : ℕ) (P : ℕ → Option Node → Bool) (o : Option ℕ) (k : ℕ) (w : Option Node)
+    → o ≡ Some k → P k w ≡ false → going_at K n P o w ≡ below K n k
 going_at_goes K n P o k w h t = ap (λ x. going_at K n P x w) h ∙ ap (λ b. if b then [] else below K n k) t
 
 pub coming_zero : (s : ℕ → Option Entry) (olds : List ℕ) (news : List Node) → coming s olds news 0 ≡ []
 unfolding coming
 coming_zero s olds news = refl
 
-pub coming_step : (s : ℕ → Option Entry) (olds : List ℕ) (news : List Node) (i : ℕ) → coming s olds news (i + 1) ≡ coming s olds news i ++ coming_at s (slice_get olds i) (slice_get news i) i
+pub coming_step : (s : ℕ → Option Entry) (olds : List ℕ) (news : List Node) (i : ℕ)
+    → coming s olds news (i + 1) ≡ coming s olds news i ++ coming_at s (slice_get olds i) (slice_get news i) i
 unfolding coming
 coming_step s olds news i = let e : i + 1 ≡ suc i = omega arith in rw e refl
 
-pub coming_comes : (s : ℕ → Option Entry) (o : Option ℕ) (n : Option Node) (w : Node) (i : ℕ) → n ≡ Some w → stay_child s o w ≡ None → coming_at s o n i ≡ i ∷ []
+pub coming_comes : (s : ℕ → Option Entry) (o : Option ℕ) (n : Option Node) (w : Node) (i : ℕ) → n ≡ Some w
+    → stay_child s o w ≡ None → coming_at s o n i ≡ i ∷ []
 coming_comes s o n w i h q = ap (λ x. coming_at s o x i) h ∙ ap (λ (x : Option ℕ). if is_some x then [] else i ∷ []) q
 
-pub coming_stays : (s : ℕ → Option Entry) (o : Option ℕ) (n : Option Node) (w : Node) (k i : ℕ) → n ≡ Some w → stay_child s o w ≡ Some k → coming_at s o n i ≡ []
+pub coming_stays : (s : ℕ → Option Entry) (o : Option ℕ) (n : Option Node) (w : Node) (k i : ℕ) → n ≡ Some w
+    → stay_child s o w ≡ Some k → coming_at s o n i ≡ []
 coming_stays s o n w k i h q = ap (λ x. coming_at s o x i) h ∙ ap (λ (x : Option ℕ). if is_some x then [] else i ∷ []) q
 
 pub got_at : {X : Type 0} (xs : List X) (i : ℕ) (d : X) → i < length xs → slice_get xs i ≡ Some (slice_index_or xs i d)
@@ -161,23 +176,18 @@ pub none_from : {X : Type 0} (o : Option X) → is_some o ≡ false → o ≡ No
 none_from None h = refl
 none_from (Some x) h = absurd (cc)
 
-pub some_from : {X : Type 0} (o : Option X) → is_some o ≡ true → (x : X) × (o ≡ Some x)
-some_from None h = absurd (cc)
-some_from (Some x) h = (x, refl)
-
-pub opt_cases : {X : Type 0} (o : Option X) → (o ≡ None) ⊎ ((x : X) × (o ≡ Some x))
-opt_cases None = inl refl
-opt_cases (Some x) = inr (x, refl)
-
 module _ (s : ℕ → Option Entry) (olds : List ℕ) (news : List Node) where
   pub places_start : (a : List ℕ) → a ≡ a ++ coming s olds news 0
   places_start a = sym (ap (λ l. a ++ l) (coming_zero s olds news) ∙ append-nil a)
 
-  pub places_more : (a b c : List ℕ) (i : ℕ) (w : Node) → slice_get news i ≡ Some w → stay_child s (slice_get olds i) w ≡ None → b ≡ a ++ coming s olds news i → c ≡ b ++ i ∷ [] → c ≡ a ++ coming s olds news (i + 1)
+  pub places_more : (a b c : List ℕ) (i : ℕ) (w : Node) → slice_get news i ≡ Some w
+      → stay_child s (slice_get olds i) w ≡ None → b ≡ a ++ coming s olds news i → c ≡ b ++ i ∷ []
+      → c ≡ a ++ coming s olds news (i + 1)
   places_more a b c i w at none p q =
       q ∙ ap (λ l. l ++ i ∷ []) p ∙ append_assoc a (coming s olds news i) (i ∷ [])
       ∙ ap (λ l. a ++ l) (ap (λ l. coming s olds news i ++ l) (sym (coming_comes s (slice_get olds i) (slice_get news i) w i at none)) ∙ sym (coming_step s olds news i))
 
-  pub places_same : (a b : List ℕ) (i k : ℕ) (w : Node) → slice_get news i ≡ Some w → stay_child s (slice_get olds i) w ≡ Some k → b ≡ a ++ coming s olds news i → b ≡ a ++ coming s olds news (i + 1)
+  pub places_same : (a b : List ℕ) (i k : ℕ) (w : Node) → slice_get news i ≡ Some w
+      → stay_child s (slice_get olds i) w ≡ Some k → b ≡ a ++ coming s olds news i → b ≡ a ++ coming s olds news (i + 1)
   places_same a b i k w at stays p =
       p ∙ ap (λ l. a ++ l) (sym (coming_step s olds news i ∙ ap (λ l. coming s olds news i ++ l) (coming_stays s (slice_get olds i) (slice_get news i) w k i at stays) ∙ append-nil (coming s olds news i)))

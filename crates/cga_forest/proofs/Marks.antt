@@ -11,8 +11,8 @@ use Rattle.cga_forest.specs.Node.{IsTop}
 use Rattle.cga_forest.proofs.Places.{InPlace-same, InPlace-part, InPlace-root}
 use Rattle.cga_forest.specs.Tree.{ForestView, IsForest, InPlace, IsWhole, IsRight, AllRight, slot_at, node_at, marked_at, hulls_at, marked_hulls_at, children_at, under}
 use Rattle.cga_tree.specs.Tree.{IsTree}
-use Rattle.cga_marked.proofs.Count.{bool_cases}
-use Rattle.cga_marked.proofs.Slots.{nat_cases}
+use Rattle.cga_fraction.proofs.Door.{eq_or_ne as nat_cases}
+use Rattle.std.proofs.lemmas.Bool.{cases_Bool as bool_cases}
 use Rattle.cga_forest.proofs.Tree.{IsTree-same, IsTree-cut, IsTree-root, cut_some}
 use Rattle.cga_forest.proofs.Walk.{under_into, under_onto, under_same, under_self}
 use Rattle.cga_forest.proofs.Names.{apart_moved}
@@ -78,14 +78,17 @@ marked_hulls_plain None h = refl
 marked_hulls_plain (Some e) h = let p = h e refl in let a = p.old in let b = p.hulls in search (rules, a, b)
 
 -- the same nodes, with the same hulls
-pub IsWhole-same : (S T : ℕ → Option Seen) (H J : ℕ → Option Hulls) → ((c : ℕ) → T c ≡ S c) → ((c : ℕ) (e : Seen) → S c ≡ Some e → J c ≡ H c) → IsWhole S H → IsWhole T J
+pub IsWhole-same : (S T : ℕ → Option Seen) (H J : ℕ → Option Hulls) → ((c : ℕ) → T c ≡ S c)
+    → ((c : ℕ) (e : Seen) → S c ≡ Some e → J c ≡ H c) → IsWhole S H → IsWhole T J
 IsWhole-same S T H J t h w = record {
   tree = IsTree-same S T t w.tree;
   places = InPlace-same S T t w.places;
   right = AllRight-part S T H J (λ c e x. sym (t c) ∙ x) h w.tree w.right;
 }
 
-pub IsForest-settled : (old new : ForestView) → ((c : ℕ) → slot_at new c ≡ settled (slot_at old c)) → new.marking ≡ false → IsWhole (node_at old) (hulls_at old) → HasRoots (node_at old) new.roots → new.marked_roots ≡ new.roots → IsForest new
+pub IsForest-settled : (old new : ForestView) → ((c : ℕ) → slot_at new c ≡ settled (slot_at old c))
+    → new.marking ≡ false → IsWhole (node_at old) (hulls_at old) → HasRoots (node_at old) new.roots
+    → new.marked_roots ≡ new.roots → IsForest new
 IsForest-settled old new h off whole tops same = record {
   unmarked = λ _. same;
   tops = HasRoots-same (node_at old) (node_at new) new.roots (λ c. ap present_of (h c) ∙ present_settled (slot_at old c)) tops;
@@ -95,7 +98,9 @@ IsForest-settled old new h off whole tops same = record {
   plain = λ _ id e t. settled_plain (slot_at old id) e (sym (h id) ∙ t);
 }
 
-pub IsForest-rolled : (old new : ForestView) → ((c : ℕ) → slot_at new c ≡ rolled (slot_at old c)) → new.marking ≡ false → IsWhole (marked_at old) (marked_hulls_at old) → HasRoots (marked_at old) new.roots → new.marked_roots ≡ new.roots → IsForest new
+pub IsForest-rolled : (old new : ForestView) → ((c : ℕ) → slot_at new c ≡ rolled (slot_at old c)) → new.marking ≡ false
+    → IsWhole (marked_at old) (marked_hulls_at old) → HasRoots (marked_at old) new.roots → new.marked_roots ≡ new.roots
+    → IsForest new
 IsForest-rolled old new h off whole tops same = record {
   unmarked = λ _. same;
   tops = HasRoots-same (marked_at old) (node_at new) new.roots (λ c. ap present_of (h c) ∙ present_rolled (slot_at old c)) tops;
@@ -115,7 +120,10 @@ IsForest-begun v off f = record {
   plain = λ q. absurd (cc);
 }
 
-pub IsForest-marked : (old new : ForestView) → IsForest old → IsWhole (node_at new) (hulls_at new) → old.marking ≡ true → new.marking ≡ true → ((c : ℕ) → marked_at new c ≡ marked_at old c) → ((c : ℕ) → marked_hulls_at new c ≡ marked_hulls_at old c) → HasRoots (node_at new) new.roots → new.marked_roots ≡ old.marked_roots → IsForest new
+pub IsForest-marked : (old new : ForestView) → IsForest old → IsWhole (node_at new) (hulls_at new) → old.marking ≡ true
+    → new.marking ≡ true → ((c : ℕ) → marked_at new c ≡ marked_at old c)
+    → ((c : ℕ) → marked_hulls_at new c ≡ marked_hulls_at old c) → HasRoots (node_at new) new.roots
+    → new.marked_roots ≡ old.marked_roots → IsForest new
 IsForest-marked old new f whole on still same hulls tops kept = record {
   unmarked = λ q. let z : true ≡ false = sym still ∙ q in absurd (cc);
   tops = tops;
@@ -125,10 +133,13 @@ IsForest-marked old new f whole on still same hulls tops kept = record {
   plain = λ q. absurd (cc);
 }
 
-pub IsWhole-from : (S T : ℕ → Option Seen) (J : ℕ → Option Hulls) → ((c : ℕ) → T c ≡ S c) → AllRight T J → InPlace S → IsTree S → IsWhole T J
+pub IsWhole-from : (S T : ℕ → Option Seen) (J : ℕ → Option Hulls) → ((c : ℕ) → T c ≡ S c) → AllRight T J → InPlace S
+    → IsTree S → IsWhole T J
 IsWhole-from S T J t r p s = record { tree = IsTree-same S T t s; places = InPlace-same S T t p; right = r }
 
-pub new_root : (s : Option Entry) (node : Node) (marking : Bool) → IsTop node → IsNewEntry s None node (length node.shape.path) (last_from 0 node.shape.path) marking → IsNewEntry s None node 0 0 marking
+pub new_root : (s : Option Entry) (node : Node) (marking : Bool) → IsTop node
+    → IsNewEntry s None node (length node.shape.path) (last_from 0 node.shape.path) marking
+    → IsNewEntry s None node 0 0 marking
 new_root s node marking top made = subst (λ (p : List ℕ). IsNewEntry s None node (length p) (last_from 0 p) marking) top.path made
 
 -- an entry for a new root comes
@@ -190,7 +201,8 @@ module _ (old new : ForestView) (id : ℕ) (node : Node) (fresh : slot_at old id
 -- a root's nodes are flagged
 module _ (old new : ForestView) (id : ℕ) (root : Seen) (is : node_at old id ≡ Some root) (top : root.parent ≡ None)
     (h : (c : ℕ) → slot_at new c ≡ flag_if (under (λ d. kids (slot_at old d)) 257 id c) (slot_at old c)) (f : IsForest old) where
-  pub cut_present : (c : ℕ) → node_at new c ≡ (if under (λ d. kids (slot_at old d)) 257 id c then None else node_at old c)
+  pub cut_present : (c : ℕ)
+      → node_at new c ≡ (if under (λ d. kids (slot_at old d)) 257 id c then None else node_at old c)
   cut_present c = ap present_of (h c) ∙ present_flag _ (slot_at old c)
 
   pub cut_seen : (c : ℕ) → node_at new c ≡ (if under (children_at old) 257 id c then None else node_at old c)
@@ -213,9 +225,11 @@ module _ (old new : ForestView) (id : ℕ) (root : Seen) (is : node_at old id �
   pub marks_kept : (c : ℕ) → marked_at new c ≡ marked_at old c
   marks_kept c = ap marked_of (h c) ∙ marked_flag _ (slot_at old c)
 
-  pub tops_left : (name : List ℕ) (left : Named) → IsPermutation old.roots ((name, id) ∷ left) → AreApart left → HasRoots (node_at new) left
+  pub tops_left : (name : List ℕ) (left : Named) → IsPermutation old.roots ((name, id) ∷ left) → AreApart left
+      → HasRoots (node_at new) left
   tops_left name left out apart = HasRoots-cut (node_at old) (node_at new) old.roots f.tops id name left out apart (under (λ d. kids (slot_at old d)) 257 id) cut_present (under_self (λ d. kids (slot_at old d)) 257 id (omega arith))
       (λ c d t up g. under_parent (λ d. kids (slot_at old d)) (node_at old) f.present.tree (λ k e w. kids_present (slot_at old k) e w) 257 id c root d is t up g)
 
-  pub IsForest-without_root : old.marking ≡ true → new.marking ≡ true → HasRoots (node_at new) new.roots → new.marked_roots ≡ old.marked_roots → IsForest new
+  pub IsForest-without_root : old.marking ≡ true → new.marking ≡ true → HasRoots (node_at new) new.roots
+      → new.marked_roots ≡ old.marked_roots → IsForest new
   IsForest-without_root on still tops kept = IsForest-marked old new f without_root on still marks_kept (λ c. ap marked_hulls_of (h c) ∙ marked_hulls_flag _ (slot_at old c)) tops kept

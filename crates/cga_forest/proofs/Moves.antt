@@ -3,7 +3,9 @@ use Rattle.std.proofs.Common.{◌≡◌, inl, inr, ℕ, zero, suc, ◌+◌, ◌<
 use Rattle.std.specs.List.{flat_map}
 use Rattle.std.specs.Prelude.{Option, Some, None, slice_get, if◌then◌else◌}
 use Rattle.cga_index.specs.Tree.{Member, Apart}
-use Rattle.cga_index.proofs.Levels.{in_split, in_left, in_right, in_some, in_flat, in_at}
+use Rattle.cga_fraction.proofs.Door.{eq_or_ne as nat_cases}
+use Rattle.cga_index.proofs.Door.{in_at, in_flat, in_left, in_right, in_some, in_split}
+use Rattle.std.proofs.lemmas.Bool.{cases_Bool as bool_cases}
 use Rattle.cga_order.specs.World.{Among}
 use Rattle.cga_tree.specs.Tree.{IsTree}
 use Rattle.cga_forest.specs.declared.entry.Entry.{Entry}
@@ -13,22 +15,22 @@ use Rattle.cga_forest.specs.View.{Seen, kids, present_of}
 use Rattle.cga_forest.specs.Moved.{moved_node, moved_of, Lists}
 use Rattle.cga_forest.specs.Gathered.{found, below, going, going_at}
 use Rattle.cga_forest.specs.Tree.{children_of, under}
-use Rattle.cga_marked.proofs.Count.{bool_cases}
-use Rattle.cga_marked.proofs.Slots.{nat_cases}
 use Rattle.cga_forest.proofs.Right.{present_some, kids_present}
 use Rattle.cga_forest.proofs.Goes.{under_deep}
 use Rattle.cga_forest.proofs.Walk.{under_cases, under_child, under_self, under_none, under_same}
 use Rattle.cga_forest.proofs.Tops.{at_member}
 use Rattle.cga_forest.proofs.Listed.{apart_join, found_in, found_has, found_once}
 
-pub apart_by_place : (xs : List ℕ) → ((i j c : ℕ) → slice_get xs i ≡ Some c → slice_get xs j ≡ Some c → i ≡ j) → Apart xs
+pub apart_by_place : (xs : List ℕ) → ((i j c : ℕ) → slice_get xs i ≡ Some c → slice_get xs j ≡ Some c → i ≡ j)
+    → Apart xs
 apart_by_place [] h = tt
 apart_by_place (x ∷ xs) h = (
   (λ m. let w = at_member xs x m in let z : 0 ≡ suc w.0 = h 0 (suc w.0) x refl w.1 in absurd (omega arith)),
   apart_by_place xs (λ i j c p q. let z : suc i ≡ suc j = h (suc i) (suc j) c p q in omega arith),
 )
 
-pub apart_flat : (f : ℕ → List ℕ) (cs : List ℕ) → Apart cs → ((c : ℕ) → Member cs c → Apart (f c)) → ((a b n : ℕ) → Member cs a → Member cs b → Member (f a) n → Member (f b) n → a ≡ b) → Apart (flat_map f cs)
+pub apart_flat : (f : ℕ → List ℕ) (cs : List ℕ) → Apart cs → ((c : ℕ) → Member cs c → Apart (f c))
+    → ((a b n : ℕ) → Member cs a → Member cs b → Member (f a) n → Member (f b) n → a ≡ b) → Apart (flat_map f cs)
 apart_flat f [] a e s = tt
 apart_flat f (c ∷ cs) a e s = apart_join (f c) (flat_map f cs) (e c (inl refl)) (apart_flat f cs a.1 (λ d i. e d (inr i)) (λ x y n i j. s x y n (inr i) (inr j))) (λ n i j.
     let p = in_some f cs n j in
@@ -57,11 +59,13 @@ same_depth : (T : ℕ → Option Seen) (a b : ℕ) (d e : Seen) → T a ≡ Some
 same_depth T a b d e t u q = let z : Some d ≡ Some e = sym t ∙ ap T q ∙ u in let y : d ≡ e = (cc) in ap (λ (x : Seen). x.depth) y
 
 module _ (K : ℕ → List ℕ) (T : ℕ → Option Seen) (tree : IsTree T) (kids_are : (c : ℕ) (d : Seen) → T c ≡ Some d → K c ≡ d.children) where
-  child : (id i c : ℕ) (e : Seen) → T id ≡ Some e → slice_get (K id) i ≡ Some c → (d : Seen) × (T c ≡ Some d) × (d.parent ≡ Some id) × (d.depth ≡ e.depth + 1) × (d.index ≡ i)
+  child : (id i c : ℕ) (e : Seen) → T id ≡ Some e → slice_get (K id) i ≡ Some c
+      → (d : Seen) × (T c ≡ Some d) × (d.parent ≡ Some id) × (d.depth ≡ e.depth + 1) × (d.index ≡ i)
   child id i c e t g = tree.down id i c e t (ap (λ xs. slice_get xs i) (sym (kids_are id e t)) ∙ g)
 
   -- of two nodes of one depth only one has a given node below it
-  same_top : (m a b n : ℕ) (x y : Seen) → T a ≡ Some x → T b ≡ Some y → x.depth ≡ y.depth → under K m a n ≡ true → under K m b n ≡ true → a ≡ b
+  same_top : (m a b n : ℕ) (x y : Seen) → T a ≡ Some x → T b ≡ Some y → x.depth ≡ y.depth → under K m a n ≡ true
+      → under K m b n ≡ true → a ≡ b
   same_top zero a b n x y ta tb d ha hb = let z = under_none K a n in absurd (cc)
   same_top (suc m) a b n x y ta tb d ha hb = elim (under_cases K m a n ha) [
     | inl e ↦ elim (under_cases K m b n hb) [
@@ -87,7 +91,8 @@ module _ (K : ℕ → List ℕ) (T : ℕ → Option Seen) (tree : IsTree T) (kid
         ])
   ]
 
-  same_place : (id i j c : ℕ) (e : Seen) → T id ≡ Some e → slice_get (K id) i ≡ Some c → slice_get (K id) j ≡ Some c → i ≡ j
+  same_place : (id i j c : ℕ) (e : Seen) → T id ≡ Some e → slice_get (K id) i ≡ Some c → slice_get (K id) j ≡ Some c
+      → i ≡ j
   same_place id i j c e t p q =
       let a = child id i c e t p in let b = child id j c e t q in
       let z : Some a.0 ≡ Some b.0 = sym a.1 ∙ b.1 in
@@ -117,14 +122,17 @@ module _ (K : ℕ → List ℕ) (T : ℕ → Option Seen) (tree : IsTree T) (kid
     abbrev olds : List ℕ
     olds = K id
 
-    going_at_find : (o : Option ℕ) (w : Option Node) (c : ℕ) → Member (going_at K n P o w) c → (k : ℕ) × (o ≡ Some k) × (P k w ≡ false) × (under K n k c ≡ true)
+    going_at_find : (o : Option ℕ) (w : Option Node) (c : ℕ) → Member (going_at K n P o w) c
+        → (k : ℕ) × (o ≡ Some k) × (P k w ≡ false) × (under K n k c ≡ true)
     going_at_find None w c m = absurd m
     going_at_find (Some k) w c m = elim (bool_cases (P k w)) [
       | inl y ↦ absurd (subst (λ b. Member (if b then [] else below K n k) c) y m)
       | inr f ↦ (k, refl, f, below_under K n k c (subst (λ b. Member (if b then [] else below K n k) c) f m))
     ]
 
-    pub going_find : (m c : ℕ) → Member (going K n P olds news m) c → (i : ℕ) × (k : ℕ) × (i < m) × (slice_get olds i ≡ Some k) × (P k (slice_get news i) ≡ false) × (under K n k c ≡ true)
+    pub going_find : (m c : ℕ) → Member (going K n P olds news m) c
+        → (i : ℕ) × (k : ℕ) × (i < m) × (slice_get olds i ≡ Some k) × (P k (slice_get news i) ≡ false)
+          × (under K n k c ≡ true)
     unfolding going
     going_find zero c h = absurd h
     going_find (suc m) c h = elim (in_split (going K n P olds news m) (going_at K n P (slice_get olds m) (slice_get news m)) c h) [
@@ -132,7 +140,8 @@ module _ (K : ℕ → List ℕ) (T : ℕ → Option Seen) (tree : IsTree T) (kid
       | inr y ↦ (let r = going_at_find (slice_get olds m) (slice_get news m) c y in (m, r.0, omega arith, r.1, r.2, r.3))
     ]
 
-    pub going_has : (m i k c : ℕ) → i < m → slice_get olds i ≡ Some k → P k (slice_get news i) ≡ false → under K n k c ≡ true → Member (going K n P olds news m) c
+    pub going_has : (m i k c : ℕ) → i < m → slice_get olds i ≡ Some k → P k (slice_get news i) ≡ false
+        → under K n k c ≡ true → Member (going K n P olds news m) c
     unfolding going
     going_has zero i k c lt at f u = absurd (omega arith)
     going_has (suc m) i k c lt at f u = elim (nat_cases i m) [
@@ -163,8 +172,10 @@ module _ (K : ℕ → List ℕ) (T : ℕ → Option Seen) (tree : IsTree T) (kid
 
 -- ---- the list below a node of a forest
 
-pub lists_below : (s : ℕ → Option Entry) → IsTree (λ c. present_of (s c)) → (id : ℕ) (e : Seen) → present_of (s id) ≡ Some e
-    → Lists (λ c. present_of (s c)) (λ c. under (λ d. children_of (present_of (s d))) 257 id c ≡ true) (found s (below (λ d. kids (s d)) 257 id))
+pub lists_below : (s : ℕ → Option Entry) → IsTree (λ c. present_of (s c)) → (id : ℕ) (e : Seen)
+    → present_of (s id) ≡ Some e
+    → Lists (λ c. present_of (s c)) (λ c. under (λ d. children_of (present_of (s d))) 257 id c ≡ true)
+      (found s (below (λ d. kids (s d)) 257 id))
 lists_below s tree id e t =
     let K : ℕ → List ℕ = λ d. kids (s d) in
     let T : ℕ → Option Seen = λ d. present_of (s d) in

@@ -7,7 +7,7 @@ use Rattle.cga_forest.specs.declared.node.Node.{Node}
 use Rattle.cga_forest.specs.Numbers.{StaysTaken}
 use Rattle.cga_forest.specs.View.{Seen, present_of, hulls_of, rehulled, flag_if}
 use Rattle.cga_forest.specs.Tree.{IsPlaced}
-use Rattle.cga_marked.proofs.Slots.{nat_cases}
+use Rattle.cga_fraction.proofs.Door.{eq_or_ne as nat_cases}
 
 -- ---- what keeps slots taken
 
@@ -29,16 +29,19 @@ flag_there true None = refl
 flag_there true (Some e) = refl
 
 -- one slot's hulls change
-pub there_but : (old new : ℕ → Option Entry) (id : ℕ) → ((c : ℕ) → c ≢ id → new c ≡ old c) → is_some (new id) ≡ is_some (old id) → (c : ℕ) → is_some (new c) ≡ is_some (old c)
+pub there_but : (old new : ℕ → Option Entry) (id : ℕ) → ((c : ℕ) → c ≢ id → new c ≡ old c)
+    → is_some (new id) ≡ is_some (old id) → (c : ℕ) → is_some (new c) ≡ is_some (old c)
 there_but old new id others here c = elim (nat_cases c id) [
   | inl same ↦ ap (λ (n : ℕ). is_some (new n)) same ∙ here ∙ ap (λ (n : ℕ). is_some (old n)) (sym same)
   | inr other ↦ ap is_some (others c other)
 ]
 
 -- a node's children are replaced: some are set aside, some come, and its content changes
-pub kept_taken : (old dropped placed written last : ℕ → Option Entry) (id depth : ℕ) (marking : Bool) (olds : List ℕ) (news : List Node) (made : List ℕ) (goes : ℕ → Bool)
+pub kept_taken : (old dropped placed written last : ℕ → Option Entry) (id depth : ℕ) (marking : Bool) (olds : List ℕ)
+      (news : List Node) (made : List ℕ) (goes : ℕ → Bool)
     → ((c : ℕ) → dropped c ≡ flag_if (goes c) (old c)) → IsPlaced dropped placed id depth marking olds news made
-    → ((c : ℕ) → c ≢ id → written c ≡ placed c) → hulls_of (written id) ≡ hulls_of (placed id) → ((c : ℕ) → is_some (last c) ≡ is_some (written c))
+    → ((c : ℕ) → c ≢ id → written c ≡ placed c) → hulls_of (written id) ≡ hulls_of (placed id)
+    → ((c : ℕ) → is_some (last c) ≡ is_some (written c))
     → (c : ℕ) → IsSome (old c) → IsSome (last c)
 kept_taken old dropped placed written last id depth marking olds news made goes cut p others here all c there =
     let aside : is_some (dropped c) ≡ true = ap is_some (cut c) ∙ flag_there (goes c) (old c) ∙ there in
@@ -54,7 +57,8 @@ pub taken_same : (old new : ℕ → Option Entry) → ((c : ℕ) → new c ≡ o
 taken_same old new same c there = (ap is_some (same c) ∙ there, λ none. ap present_of (same c) ∙ none)
 
 -- a number that wasn't taken is given to a node
-pub taken_added : (old new : ℕ → Option Entry) (id : ℕ) → old id ≡ None → ((c : ℕ) → c ≢ id → new c ≡ old c) → (c : ℕ) → StaysTaken (old c) (new c)
+pub taken_added : (old new : ℕ → Option Entry) (id : ℕ) → old id ≡ None → ((c : ℕ) → c ≢ id → new c ≡ old c) → (c : ℕ)
+    → StaysTaken (old c) (new c)
 taken_added old new id vacant others c there = elim (nat_cases c id) [
   | inl same ↦ absurd (let e : old c ≡ None = ap old same ∙ vacant in let f : is_some (old c) ≡ false = ap is_some e in cc)
   | inr other ↦ (ap is_some (others c other) ∙ there, λ none. ap present_of (others c other) ∙ none)
@@ -67,7 +71,8 @@ taken_cut true None there = absurd (cc)
 taken_cut true (Some e) there = (refl, λ none. refl)
 
 -- nodes are set aside, and others come under numbers that weren't taken
-pub taken_replaced : (old new : ℕ → Option Entry) → ((c : ℕ) → IsSome (old c) → IsSome (new c)) → ((c : ℕ) (d : Seen) → present_of (old c) ≡ None → present_of (new c) ≡ Some d → old c ≡ None)
+pub taken_replaced : (old new : ℕ → Option Entry) → ((c : ℕ) → IsSome (old c) → IsSome (new c))
+    → ((c : ℕ) (d : Seen) → present_of (old c) ≡ None → present_of (new c) ≡ Some d → old c ≡ None)
     → (c : ℕ) → StaysTaken (old c) (new c)
 taken_replaced old new kept vacant c there = (kept c there, λ none. gone (present_of (new c)) refl none)
   where

@@ -9,7 +9,7 @@ use Rattle.cga_forest.specs.View.{Seen}
 use Rattle.cga_forest.specs.Tree.{InPlace, IsInner}
 use Rattle.cga_tree.specs.Tree.{IsTree}
 use Rattle.cga_tree.specs.Replaced.{IsReplaced}
-use Rattle.cga_marked.proofs.Slots.{nat_cases}
+use Rattle.cga_fraction.proofs.Door.{eq_or_ne as nat_cases}
 use Rattle.cga_forest.proofs.Replace.{old_or_new}
 use Rattle.cga_forest.proofs.Tree.{cut_some}
 
@@ -40,7 +40,8 @@ chain-below p c i w b =
     omega (arith, line, path, whole)
 
 -- a root comes
-pub InPlace-root : (S T : ℕ → Option Seen) (id : ℕ) (e : Seen) → S id ≡ None → T id ≡ Some e → e.parent ≡ None → IsTop e.node
+pub InPlace-root : (S T : ℕ → Option Seen) (id : ℕ) (e : Seen) → S id ≡ None → T id ≡ Some e → e.parent ≡ None
+    → IsTop e.node
     → ((c : ℕ) → c ≢ id → T c ≡ S c) → IsTree S → InPlace S → InPlace T
 InPlace-root S T id e fresh here root top others tree s =
     let same = λ (c : ℕ) (d : Seen) (q : c ≡ id) (t : T c ≡ Some d). let z : Some e ≡ Some d = sym here ∙ ap T (sym q) ∙ t in let w : e ≡ d = (cc) in w in
@@ -79,7 +80,8 @@ module _ (S T : ℕ → Option Seen) (id : ℕ) (state : State) (news : List Nod
   now_below p i b = record { inner = b.inner; lot = b.lot; path = b.path; line = b.line }
 
   -- what stands at a parent now has the place of what stood there
-  was_there : (p : ℕ) (x : Seen) → T p ≡ Some x → (i : ℕ) (c : Node) → ((y : Seen) → S p ≡ Some y → IsBelow y.node i c) → (y : Seen) → S p ≡ Some y → IsBelow x.node i c
+  was_there : (p : ℕ) (x : Seen) → T p ≡ Some x → (i : ℕ) (c : Node) → ((y : Seen) → S p ≡ Some y → IsBelow y.node i c)
+      → (y : Seen) → S p ≡ Some y → IsBelow x.node i c
   was_there p x u i c b y t = elim (nat_cases p id) [
     | inl q ↦ (
         let z : Some y ≡ Some e = sym t ∙ ap S q ∙ r.was in

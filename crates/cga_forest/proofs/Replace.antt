@@ -6,8 +6,8 @@ use Rattle.cga_forest.specs.View.{Seen}
 use Rattle.cga_forest.specs.Node.{fits}
 use Rattle.cga_tree.specs.Tree.{IsTree}
 use Rattle.cga_tree.specs.Replaced.{IsReplaced, IsNewChild}
-use Rattle.cga_marked.proofs.Count.{bool_cases}
-use Rattle.cga_marked.proofs.Slots.{nat_cases}
+use Rattle.cga_fraction.proofs.Door.{eq_or_ne as nat_cases}
+use Rattle.std.proofs.lemmas.Bool.{cases_Bool as bool_cases}
 use Rattle.cga_forest.proofs.Tree.{cut_some}
 
 none_some : (d : Seen) → None ≡ Some d → ⊥
@@ -23,7 +23,10 @@ module _ (S T : ℕ → Option Seen) (id : ℕ) (news : List Node) (e now : Seen
   kept c d n t g = r.rest c d n t ∙ ap (λ b. if b then None else Some d) g
 
   -- a node of T but the changed one is an old one that stays, or a child that came
-  pub old_or_new : (c : ℕ) (d : Seen) → T c ≡ Some d → c ≢ id → (s : Option Seen) → S c ≡ s → ((gone c ≡ false) × (S c ≡ Some d)) ⊎ ((i : ℕ) × (w : Node) × (slice_get now.children i ≡ Some c) × (slice_get news i ≡ Some w) × IsNewChild T id e.depth i w c)
+  pub old_or_new : (c : ℕ) (d : Seen) → T c ≡ Some d → c ≢ id → (s : Option Seen) → S c ≡ s
+      → ((gone c ≡ false) × (S c ≡ Some d))
+        ⊎ ((i : ℕ) × (w : Node) × (slice_get now.children i ≡ Some c) × (slice_get news i ≡ Some w)
+        × IsNewChild T id e.depth i w c)
   old_or_new c d t n (Some x) q = let w = cut_some (gone c) (Some x) d (sym (r.rest c x n q) ∙ t) in inl (w.0, q ∙ w.1)
   old_or_new c d t n None q = elim (r.came c q) [
     | inl none ↦ absurd (none_some d (sym none ∙ t))
@@ -33,7 +36,8 @@ module _ (S T : ℕ → Option Seen) (id : ℕ) (news : List Node) (e now : Seen
     ])
   ]
 
-  down_now : (i c : ℕ) → slice_get now.children i ≡ Some c → (d : Seen) × (T c ≡ Some d) × (d.parent ≡ Some id) × (d.depth ≡ e.depth + 1) × (d.index ≡ i)
+  down_now : (i c : ℕ) → slice_get now.children i ≡ Some c
+      → (d : Seen) × (T c ≡ Some d) × (d.parent ≡ Some id) × (d.depth ≡ e.depth + 1) × (d.index ≡ i)
   down_now i c g = elim (r.each i c g).2 [
     | inl old ↦ (
         let u = tree.down id i c e r.was old.0 in
@@ -42,7 +46,8 @@ module _ (S T : ℕ → Option Seen) (id : ℕ) (news : List Node) (e now : Seen
     | inr new ↦ (new.1.seen, new.1.here, new.1.parent, new.1.deeper, new.1.index)
   ]
 
-  down_here : (n i c : ℕ) (d : Seen) → n ≡ id → d ≡ now → slice_get d.children i ≡ Some c → (x : Seen) × (T c ≡ Some x) × (x.parent ≡ Some n) × (x.depth ≡ d.depth + 1) × (x.index ≡ i)
+  down_here : (n i c : ℕ) (d : Seen) → n ≡ id → d ≡ now → slice_get d.children i ≡ Some c
+      → (x : Seen) × (T c ≡ Some x) × (x.parent ≡ Some n) × (x.depth ≡ d.depth + 1) × (x.index ≡ i)
   down_here n i c d q w g =
       let u = down_now i c (ap (λ (x : Seen). slice_get x.children i) (sym w) ∙ g) in
       (u.0, u.1, u.2 ∙ ap (λ x. Some x) (sym q), (let a : d.depth ≡ now.depth = ap (λ (x : Seen). x.depth) w in let b = u.3 in let k = r.depth in omega arith), u.4)
@@ -51,7 +56,8 @@ module _ (S T : ℕ → Option Seen) (id : ℕ) (news : List Node) (e now : Seen
   same_now c d t q = let z : Some d ≡ Some now = sym t ∙ ap T q ∙ r.is in (cc)
 
   -- a node of T has the parent of what was there
-  parent_here : (d : Seen) (p : ℕ) → d ≡ now → d.parent ≡ Some p → (x : Seen) × (T p ≡ Some x) × (slice_get x.children d.index ≡ Some id)
+  parent_here : (d : Seen) (p : ℕ) → d ≡ now → d.parent ≡ Some p
+      → (x : Seen) × (T p ≡ Some x) × (slice_get x.children d.index ≡ Some id)
   parent_here d p w g =
       let ep : e.parent ≡ Some p = sym r.parent ∙ ap (λ (x : Seen). x.parent) (sym w) ∙ g in
       let u = tree.up id p e r.was ep in
@@ -60,7 +66,8 @@ module _ (S T : ℕ → Option Seen) (id : ℕ) (news : List Node) (e now : Seen
       let here : gone p ≡ false = elim (bool_cases (gone p)) [ inl y ↦ absurd (true≢false (sym (r.onto id p e r.was ep y) ∙ r.self)) | inr no_ ↦ no_ ] in
       (u.0, kept p u.0 n u.1 here, ap (slice_get u.0.children) (ap (λ (x : Seen). x.index) w ∙ r.index) ∙ u.2)
 
-  up_old : (c p : ℕ) (d : Seen) → S c ≡ Some d → gone c ≡ false → d.parent ≡ Some p → (x : Seen) × (T p ≡ Some x) × (slice_get x.children d.index ≡ Some c)
+  up_old : (c p : ℕ) (d : Seen) → S c ≡ Some d → gone c ≡ false → d.parent ≡ Some p
+      → (x : Seen) × (T p ≡ Some x) × (slice_get x.children d.index ≡ Some c)
   up_old c p d t g h =
       let u = tree.up c p d t h in elim (nat_cases p id) [
         | inl q ↦ (
@@ -72,7 +79,8 @@ module _ (S T : ℕ → Option Seen) (id : ℕ) (news : List Node) (e now : Seen
             (u.0, kept p u.0 n u.1 here, u.2))
       ]
 
-  down_old : (n i c : ℕ) (d : Seen) → n ≢ id → S n ≡ Some d → gone n ≡ false → slice_get d.children i ≡ Some c → (x : Seen) × (T c ≡ Some x) × (x.parent ≡ Some n) × (x.depth ≡ d.depth + 1) × (x.index ≡ i)
+  down_old : (n i c : ℕ) (d : Seen) → n ≢ id → S n ≡ Some d → gone n ≡ false → slice_get d.children i ≡ Some c
+      → (x : Seen) × (T c ≡ Some x) × (x.parent ≡ Some n) × (x.depth ≡ d.depth + 1) × (x.index ≡ i)
   down_old n i c d ne t gn g =
       let u = tree.down n i c d t g in elim (nat_cases c id) [
         | inl q ↦ (

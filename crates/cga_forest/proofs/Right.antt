@@ -7,16 +7,18 @@ use Rattle.cga_forest.specs.Hull.{over, own_hulls, hulls_known, with_hulls, at_h
 use Rattle.cga_forest.specs.View.{Seen, seen, last_from, flag_if, hulls_of, present_of, rehulled, kids}
 use Rattle.cga_forest.specs.Tree.{IsRight, AllRight, RightBut, IsDue, hulls_now, hulls_next, parent_of, depth_at}
 use Rattle.cga_tree.specs.Tree.{IsTree}
-use Rattle.cga_marked.proofs.Count.{bool_cases}
-use Rattle.cga_marked.proofs.Slots.{nat_cases}
+use Rattle.cga_fraction.proofs.Door.{eq_or_ne as nat_cases}
+use Rattle.std.proofs.lemmas.Bool.{cases_Bool as bool_cases}
 use Rattle.cga_forest.proofs.Alike.{alike_itself, alike_turned, grown_alike}
 use Rattle.cga_forest.proofs.Tree.{IsTree-same}
+pub use Rattle.cga_fraction.proofs.Door.{Some_from_is_some as is_there}
 
 pub over_zero : (H : ℕ → Option Hulls) (own : Hulls) (xs : List ℕ) → over H own xs 0 ≡ own
 unfolding over
 over_zero H own xs = refl
 
-pub over_step : (H : ℕ → Option Hulls) (own : Hulls) (xs : List ℕ) (i : ℕ) → over H own xs (i + 1) ≡ with_hulls (over H own xs i) (at_hulls H (slice_get xs i))
+pub over_step : (H : ℕ → Option Hulls) (own : Hulls) (xs : List ℕ) (i : ℕ)
+    → over H own xs (i + 1) ≡ with_hulls (over H own xs i) (at_hulls H (slice_get xs i))
 unfolding over
 over_step H own xs i = let e : i + 1 ≡ suc i = omega arith in rw e refl
 
@@ -24,23 +26,29 @@ at_same : (H J : ℕ → Option Hulls) (o : Option ℕ) → ((k : ℕ) → o ≡
 at_same H J None h = refl
 at_same H J (Some k) h = h k refl
 
-pub over_ext : (H J : ℕ → Option Hulls) (own : Hulls) (xs : List ℕ) → ((i k : ℕ) → slice_get xs i ≡ Some k → J k ≡ H k) → (n : ℕ) → over J own xs n ≡ over H own xs n
+pub over_ext : (H J : ℕ → Option Hulls) (own : Hulls) (xs : List ℕ) → ((i k : ℕ) → slice_get xs i ≡ Some k → J k ≡ H k)
+    → (n : ℕ) → over J own xs n ≡ over H own xs n
 unfolding over
 over_ext H J own xs h zero = refl
 over_ext H J own xs h (suc n) = rw (over_ext H J own xs h n, at_same H J (slice_get xs n) (h n)) refl
 
-pub right_exact : (H : ℕ → Option Hulls) (c : ℕ) (e : Seen) → H c ≡ Some (over H (own_hulls e.node) e.children (length e.children)) → IsRight H c e
+pub right_exact : (H : ℕ → Option Hulls) (c : ℕ) (e : Seen)
+    → H c ≡ Some (over H (own_hulls e.node) e.children (length e.children)) → IsRight H c e
 right_exact H c e h = (over H (own_hulls e.node) e.children (length e.children), h, alike_itself _)
 
-right_moved : (H J : ℕ → Option Hulls) (c : ℕ) (e : Seen) → J c ≡ H c → ((i k : ℕ) → slice_get e.children i ≡ Some k → J k ≡ H k) → IsRight H c e → IsRight J c e
+right_moved : (H J : ℕ → Option Hulls) (c : ℕ) (e : Seen) → J c ≡ H c
+    → ((i k : ℕ) → slice_get e.children i ≡ Some k → J k ≡ H k) → IsRight H c e → IsRight J c e
 right_moved H J c e same kids r = (r.0, same ∙ r.1, ap (alike r.0) (over_ext H J (own_hulls e.node) e.children kids (length e.children)) ∙ r.2)
 
 -- a node that is as it was, with the hulls of its children as they were
-pub right_same : (S : ℕ → Option Seen) (H J : ℕ → Option Hulls) → ((c : ℕ) (e : Seen) → S c ≡ Some e → J c ≡ H c) → IsTree S → (c : ℕ) (e : Seen) → S c ≡ Some e → IsRight H c e → IsRight J c e
+pub right_same : (S : ℕ → Option Seen) (H J : ℕ → Option Hulls) → ((c : ℕ) (e : Seen) → S c ≡ Some e → J c ≡ H c)
+    → IsTree S → (c : ℕ) (e : Seen) → S c ≡ Some e → IsRight H c e → IsRight J c e
 right_same S H J same tree c e t r = right_moved H J c e (same c e t) (λ i k g. let d = tree.down c i k e t g in same k d.0 d.1) r
 
 -- a part of the nodes, with the hulls as they were
-pub AllRight-part : (S T : ℕ → Option Seen) (H J : ℕ → Option Hulls) → ((c : ℕ) (e : Seen) → T c ≡ Some e → S c ≡ Some e) → ((c : ℕ) (e : Seen) → S c ≡ Some e → J c ≡ H c) → IsTree S → AllRight S H → AllRight T J
+pub AllRight-part : (S T : ℕ → Option Seen) (H J : ℕ → Option Hulls)
+    → ((c : ℕ) (e : Seen) → T c ≡ Some e → S c ≡ Some e) → ((c : ℕ) (e : Seen) → S c ≡ Some e → J c ≡ H c) → IsTree S
+    → AllRight S H → AllRight T J
 AllRight-part S T H J part same tree right c e t = right_same S H J same tree c e (part c e t) (right c e (part c e t))
 
 -- ---- the way up
@@ -61,7 +69,8 @@ module _ (T : ℕ → Option Seen) (H J : ℕ → Option Hulls) (tree : IsTree T
       let s : d.0.depth ≡ e.depth = ap (λ (x : Seen). x.depth) (same_seen d.0 k d.1 q) in
       let a = d.3 in omega arith
 
-  other_right : (c : ℕ) (d : Seen) → c ≢ id → T c ≡ Some d → ((i : ℕ) → slice_get d.children i ≡ Some id → ⊥) → IsRight H c d → IsRight J c d
+  other_right : (c : ℕ) (d : Seen) → c ≢ id → T c ≡ Some d → ((i : ℕ) → slice_get d.children i ≡ Some id → ⊥)
+      → IsRight H c d → IsRight J c d
   other_right c d n t apart r = right_moved H J c d (others c n) (λ i k g. others k (λ q. apart i (g ∙ ap (λ x. Some x) q))) r
 
   -- the hulls at the node, worked out before they are written
@@ -95,7 +104,8 @@ module _ (T : ℕ → Option Seen) (H J : ℕ → Option Hulls) (tree : IsTree T
       ]
 
       -- what the parent needs, where this node's hulls grew
-      due_at : (old : Hulls) → H id ≡ Some old → (p : ℕ) → p ≢ id → (d : Seen) → slice_get d.children e.index ≡ Some id → (r : IsRight H p d) → (mine k : Hulls) → J p ≡ Some mine → grown_from new old ≡ Some k
+      due_at : (old : Hulls) → H id ≡ Some old → (p : ℕ) → p ≢ id → (d : Seen) → slice_get d.children e.index ≡ Some id
+          → (r : IsRight H p d) → (mine k : Hulls) → J p ≡ Some mine → grown_from new old ≡ Some k
           → alike (with_hulls mine (Some k)) (over J (own_hulls d.node) d.children (length d.children)) ≡ true
       due_at old was p ne d at r mine k h g =
           let y : Some mine ≡ Some r.0 = sym h ∙ others p ne ∙ r.1 in
@@ -113,7 +123,9 @@ module _ (T : ℕ → Option Seen) (H J : ℕ → Option Hulls) (tree : IsTree T
           due_at old was p ne d at (but p d ne t) mine k h g
 
 -- hulls that are alike with the right ones are kept
-pub right_kept : (T : ℕ → Option Seen) (H : ℕ → Option Hulls) (id : ℕ) (e : Seen) (old new : Hulls) → T id ≡ Some e → H id ≡ Some old → alike new (over H (own_hulls e.node) e.children (length e.children)) ≡ true → alike new old ≡ true → RightBut T H id → AllRight T H
+pub right_kept : (T : ℕ → Option Seen) (H : ℕ → Option Hulls) (id : ℕ) (e : Seen) (old new : Hulls) → T id ≡ Some e
+    → H id ≡ Some old → alike new (over H (own_hulls e.node) e.children (length e.children)) ≡ true
+    → alike new old ≡ true → RightBut T H id → AllRight T H
 right_kept T H id e old new here was made same but c d t = elim (nat_cases c id) [
   | inl q ↦ (
       let z : Some d ≡ Some e = sym t ∙ ap T q ∙ here in
@@ -123,7 +135,8 @@ right_kept T H id e old new here was made same but c d t = elim (nat_cases c id)
   | inr ne ↦ but c d ne t
 ]
 
-pub hulls_now_of : (H : ℕ → Option Hulls) (s : Option Entry) (e : Entry) (own : Hulls) (n : ℕ) (h : Hulls) → s ≡ Some e → own ≡ own_hulls e.node → n ≡ length (kids s) → h ≡ over H own (kids s) n → hulls_now H s ≡ Some h
+pub hulls_now_of : (H : ℕ → Option Hulls) (s : Option Entry) (e : Entry) (own : Hulls) (n : ℕ) (h : Hulls) → s ≡ Some e
+    → own ≡ own_hulls e.node → n ≡ length (kids s) → h ≡ over H own (kids s) n → hulls_now H s ≡ Some h
 hulls_now_of H None e own n h q o l r = absurd (cc)
 hulls_now_of H (Some x) e own n h q o l r = let z : x ≡ e = (cc) in ap (λ a. Some a) (ap (λ w. over H w x.children.items (length x.children.items)) (ap (λ (y : Entry). own_hulls y.node) z ∙ sym o) ∙ ap (over H own x.children.items) (sym l) ∙ sym r)
 
@@ -160,14 +173,17 @@ last_push d (x ∷ xs) i = last_push x xs i
 pub depth_present : (s : Option Entry) (d : Seen) → present_of s ≡ Some d → depth_at s ≡ d.depth
 depth_present s d h = let w = present_some s d h in ap depth_at w.1 ∙ ap (λ (x : Seen). x.depth) w.2
 
-pub hulls_now_at : (H : ℕ → Option Hulls) (s : Option Entry) (d : Seen) → present_of s ≡ Some d → hulls_now H s ≡ Some (over H (own_hulls d.node) d.children (length d.children))
+pub hulls_now_at : (H : ℕ → Option Hulls) (s : Option Entry) (d : Seen) → present_of s ≡ Some d
+    → hulls_now H s ≡ Some (over H (own_hulls d.node) d.children (length d.children))
 hulls_now_at H s d h = let w = present_some s d h in ap (hulls_now H) w.1 ∙ ap (λ (x : Seen). Some (over H (own_hulls x.node) x.children (length x.children))) w.2
 
 rehulled_at : (s : Option Entry) (d : Seen) (h : Hulls) → present_of s ≡ Some d → rehulled h (hulls_of s) ≡ Some h
 rehulled_at s d h p = let w = present_some s d p in ap (λ o. rehulled h (hulls_of o)) w.1
 
-next_made : (H : ℕ → Option Hulls) (s : Option Entry) (d : Seen) (g : Option Hulls) (h : Hulls) → present_of s ≡ Some d → Some h ≡ hulls_next H s g
-    → ((old k : Hulls) → hulls_of s ≡ Some old → g ≡ Some k → alike (with_hulls old (Some k)) (over H (own_hulls d.node) d.children (length d.children)) ≡ true)
+next_made : (H : ℕ → Option Hulls) (s : Option Entry) (d : Seen) (g : Option Hulls) (h : Hulls) → present_of s ≡ Some d
+    → Some h ≡ hulls_next H s g
+    → ((old k : Hulls) → hulls_of s ≡ Some old → g ≡ Some k
+      → alike (with_hulls old (Some k)) (over H (own_hulls d.node) d.children (length d.children)) ≡ true)
     → alike h (over H (own_hulls d.node) d.children (length d.children)) ≡ true
 next_made H s d None h p is due =
     let z : Some h ≡ Some (over H (own_hulls d.node) d.children (length d.children)) = is ∙ hulls_now_at H s d p in
@@ -212,7 +228,8 @@ module _ (s : ℕ → Option Entry) (id : ℕ) (g : Option Hulls) (old new : Hul
     pub step_top : parent_of (t id) ≡ None → AllRight (λ c. present_of (t c)) (λ c. hulls_of (t c))
     step_top top = right_top (λ c. present_of (t c)) (λ c. hulls_of (s c)) (λ c. hulls_of (t c)) tree_now id e here_now (λ c n. ap hulls_of (others c n)) new written made but_now (sym (parent_present (t id) e here_now) ∙ top)
 
-    pub step_due : (p : ℕ) → parent_of (t id) ≡ Some p → (grown : Option Hulls) → grown ≡ grown_from new old → IsDue (λ c. present_of (t c)) (λ c. hulls_of (t c)) p grown
+    pub step_due : (p : ℕ) → parent_of (t id) ≡ Some p → (grown : Option Hulls) → grown ≡ grown_from new old
+        → IsDue (λ c. present_of (t c)) (λ c. hulls_of (t c)) p grown
     step_due p up grown q d mine k x h g = due_up (λ c. present_of (t c)) (λ c. hulls_of (s c)) (λ c. hulls_of (t c)) tree_now id e here_now (λ c n. ap hulls_of (others c n)) new written made but_now old (sym was) p (sym (parent_present (t id) e here_now) ∙ up) d mine k x h (sym q ∙ g)
 
     pub parent_there : (p : ℕ) → parent_of (t id) ≡ Some p → is_some (present_of (t p)) ≡ true
@@ -225,10 +242,6 @@ module _ (s : ℕ → Option Entry) (id : ℕ) (g : Option Hulls) (old new : Hul
         let z : Some d.0 ≡ Some e = sym d.1 ∙ here_now in
         let q : d.0.depth ≡ e.depth = (let w : d.0 ≡ e = (cc) in ap (λ (x : Seen). x.depth) w) in
         let a = depth_present (t p) u.0 u.1 in let b = depth_present (s id) e here in let k = d.3 in omega arith
-
-pub is_there : {X : Type 0} (o : Option X) → is_some o ≡ true → (x : X) × (o ≡ Some x)
-is_there None h = absurd (cc)
-is_there (Some x) h = (x, refl)
 
 -- with no hulls to write there is no node
 pub none_there : (H : ℕ → Option Hulls) (s : Option Entry) → hulls_now H s ≡ None → is_some (present_of s) ≡ true → ⊥

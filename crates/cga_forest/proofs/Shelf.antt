@@ -22,12 +22,14 @@ unfolding undone
 undone_push [] x s = refl
 undone_push (y ∷ xs) x s = ap (undo y) (undone_push xs x s)
 
-pub undoable_push : (xs : List Step) (x : Step) (s : Shelf) → AreUndoable xs (undo x s) → IsUndoable x s → AreUndoable (xs ++ x ∷ []) s
+pub undoable_push : (xs : List Step) (x : Step) (s : Shelf) → AreUndoable xs (undo x s) → IsUndoable x s
+    → AreUndoable (xs ++ x ∷ []) s
 unfolding AreUndoable undone
 undoable_push [] x s a h = (h, tt)
 undoable_push (y ∷ xs) x s a h = (subst (IsUndoable y) (sym (undone_push xs x s)) a.0, undoable_push xs x s a.1 h)
 
-pub undoable_pop : (xs : List Step) (x : Step) (s : Shelf) → AreUndoable (xs ++ x ∷ []) s → IsUndoable x s × AreUndoable xs (undo x s)
+pub undoable_pop : (xs : List Step) (x : Step) (s : Shelf) → AreUndoable (xs ++ x ∷ []) s
+    → IsUndoable x s × AreUndoable xs (undo x s)
 unfolding AreUndoable undone
 undoable_pop [] x s a = (a.0, tt)
 undoable_pop (y ∷ xs) x s a = let w = undoable_pop xs x s a.1 in (w.0, (subst (IsUndoable y) (undone_push xs x s) a.0, w.1))
@@ -36,7 +38,8 @@ undoable_pop (y ∷ xs) x s a = let w = undoable_pop xs x s a.1 in (w.0, (subst 
 pub noted : (xs : List Step) (x : Step) (old new : Shelf) → undo x new ≡ old → undone (xs ++ x ∷ []) new ≡ undone xs old
 noted xs x old new h = undone_push xs x new ∙ ap (undone xs) h
 
-pub noted_ready : (xs : List Step) (x : Step) (old new : Shelf) → undo x new ≡ old → IsUndoable x new → AreUndoable xs old → AreUndoable (xs ++ x ∷ []) new
+pub noted_ready : (xs : List Step) (x : Step) (old new : Shelf) → undo x new ≡ old → IsUndoable x new
+    → AreUndoable xs old → AreUndoable (xs ++ x ∷ []) new
 noted_ready xs x old new h can ready = undoable_push xs x new (subst (AreUndoable xs) (sym h) ready) can
 
 -- the roots that are there lie within the entries, also once a step is taken back
@@ -55,14 +58,17 @@ undo_within (Went place) s h =
     let n = length-swap s.entries place s.shown in
     let b = h.1 in omega (arith, n, b)
 
-pub undone_within : (xs : List Step) (s : Shelf) → s.shown ≤ length s.entries → AreUndoable xs s → (undone xs s).shown ≤ length (undone xs s).entries
+pub undone_within : (xs : List Step) (s : Shelf) → s.shown ≤ length s.entries → AreUndoable xs s
+    → (undone xs s).shown ≤ length (undone xs s).entries
 unfolding AreUndoable undone
 undone_within [] s w a = w
 undone_within (x ∷ xs) s w a = undo_within x (undone xs s) a.0
 
 -- ---- a root comes
 
-pub put_at : (es new : Named) (name : List ℕ) (id place : ℕ) (former : Option ℕ) → new ≡ insert_entry same_name es name id → place ≡ position_or_len (same_name name) (names es) → former ≡ lookup (same_name name) es → IsPut es new name id place former
+pub put_at : (es new : Named) (name : List ℕ) (id place : ℕ) (former : Option ℕ)
+    → new ≡ insert_entry same_name es name id → place ≡ position_or_len (same_name name) (names es)
+    → former ≡ lookup (same_name name) es → IsPut es new name id place former
 put_at es new name id place former e i o = rw (e, i, o) (is_put es name id)
 
 module _ (es put : Named) (shown : ℕ) (name : List ℕ) (id place : ℕ) (former : Option ℕ) (p : IsPut es put name id place former) (within : shown ≤ length es) (after : shown ≤ place) (gap : ℕ) (low : gap ≤ shown) where
@@ -166,9 +172,13 @@ pub record IsNoted (old new : Shelf) (steps more : List Step) : Type 0 where
   pub ready : AreUndoable more new
   pub former : undone more new ≡ undone steps old
 
-pub pushed : (es put new : Named) (shown : ℕ) (name : List ℕ) (id place : ℕ) (former : Option ℕ) (gap : ℕ) (steps more : List Step)
-    → put ≡ insert_entry same_name es name id → place ≡ position_or_len (same_name name) (names es) → former ≡ lookup (same_name name) es
-    → shown ≤ length es → lookup (same_name name) (take shown es) ≡ None → gap ≤ shown → new ≡ swap (swap put shown place) gap shown → AreUndoable steps (record { entries = es; shown = shown }) → more ≡ steps ++ Came place former gap ∷ []
+pub pushed : (es put new : Named) (shown : ℕ) (name : List ℕ) (id place : ℕ) (former : Option ℕ) (gap : ℕ)
+      (steps more : List Step)
+    → put ≡ insert_entry same_name es name id → place ≡ position_or_len (same_name name) (names es)
+    → former ≡ lookup (same_name name) es
+    → shown ≤ length es → lookup (same_name name) (take shown es) ≡ None → gap ≤ shown
+    → new ≡ swap (swap put shown place) gap shown → AreUndoable steps (record { entries = es; shown = shown })
+    → more ≡ steps ++ Came place former gap ∷ []
     → IsNoted (record { entries = es; shown = shown }) (record { entries = new; shown = shown + 1 }) steps more × (take (shown + 1) new ≡ swap (take shown es ++ (name, id) ∷ []) gap shown)
 pushed es put new shown name id place former gap steps more e i o within free low moved ready noting =
     let p = put_at es put name id place former e i o in
@@ -187,8 +197,11 @@ pushed es put new shown name id place former gap steps more e i o within free lo
     )
 
 pub taken_out : (es new : Named) (shown i : ℕ) (name : List ℕ) (c : ℕ) (steps more : List Step)
-    → shown ≤ length es → slice_get (take shown es) i ≡ Some (name, c) → new ≡ swap es i (shown - 1) → AreUndoable steps (record { entries = es; shown = shown }) → more ≡ steps ++ Went i ∷ []
-    → IsNoted (record { entries = es; shown = shown }) (record { entries = new; shown = shown - 1 }) steps more × IsPermutation (take shown es) ((name, c) ∷ take (shown - 1) new) × KeepsPlaces i (take shown es) (take (shown - 1) new)
+    → shown ≤ length es → slice_get (take shown es) i ≡ Some (name, c) → new ≡ swap es i (shown - 1)
+    → AreUndoable steps (record { entries = es; shown = shown }) → more ≡ steps ++ Went i ∷ []
+    → IsNoted (record { entries = es; shown = shown }) (record { entries = new; shown = shown - 1 }) steps more
+      × IsPermutation (take shown es) ((name, c) ∷ take (shown - 1) new)
+      × KeepsPlaces i (take shown es) (take (shown - 1) new)
 taken_out es new shown i name c steps more within at moved ready noting =
     let f = at_front es shown i (name, c) at in
     let back = out_undone es shown i name c f.0 within f.1 in

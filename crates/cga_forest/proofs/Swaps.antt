@@ -32,14 +32,16 @@ module _ {X : Type 0} (xs : List X) where
       ∙ swap_is (take n xs) a b d (omega (arith, la, m)) (omega (arith, lb, m))
 
   -- what stands before both stays
-  pub take_before : (n a b : ℕ) (d : X) → n ≤ a → n ≤ b → a < length xs → b < length xs → take n (swap xs a b) ≡ take n xs
+  pub take_before : (n a b : ℕ) (d : X) → n ≤ a → n ≤ b → a < length xs → b < length xs
+      → take n (swap xs a b) ≡ take n xs
   take_before n a b d h k p q =
       ap (take n) (sym (swap_is xs a b d p q))
       ∙ take-set-le n (set xs a (get_or xs b d)) b (get_or xs a d) k
       ∙ take-set-le n xs a (get_or xs b d) h
 
   -- one brought to the place behind the first a
-  pub take_brought : (a b : ℕ) (x : X) → a ≤ b → b < length xs → x ≡ get_or xs b x → take (a + 1) (swap xs a b) ≡ take a xs ++ x ∷ []
+  pub take_brought : (a b : ℕ) (x : X) → a ≤ b → b < length xs → x ≡ get_or xs b x
+      → take (a + 1) (swap xs a b) ≡ take a xs ++ x ∷ []
   take_brought a b x h q at =
       let p : a < length xs = omega (arith, h, q) in
       let n : length (swap xs a b) ≡ length xs = length-swap xs a b in
@@ -65,14 +67,16 @@ module _ {X : Type 0} (xs : List X) where
       ∙ ap (λ y. take j (set front i y)) (sym w)
       ∙ ap (λ m. take m (set front i (get_or front m x))) (sym last)
 
-  pub brought_out : (i j : ℕ) (x : X) → i ≤ j → j < length xs → x ≡ get_or xs i x → IsPermutation (take (j + 1) xs) (x ∷ take j (swap xs i j))
+  pub brought_out : (i j : ℕ) (x : X) → i ≤ j → j < length xs → x ≡ get_or xs i x
+      → IsPermutation (take (j + 1) xs) (x ∷ take j (swap xs i j))
   brought_out i j x h q at =
       let n : length (take (j + 1) xs) ≡ j + 1 = length-take-le (j + 1) xs (omega (arith, q)) in
       let there : x ≡ get_or (take (j + 1) xs) i x = at ∙ sym (get_or-take (j + 1) xs i x (omega (arith, h))) in
       subst (λ l. IsPermutation (take (j + 1) xs) (x ∷ l)) (sym (swapped_out i j x h q)) (IsPermutation-swap_remove (take (j + 1) xs) i x (omega (arith, n, h)) there)
 
   -- a member at neither place stays
-  pub swap_kept : (a b k : ℕ) (x : X) → a < length xs → b < length xs → k ≢ a → k ≢ b → slice_get (swap xs a b) k ≡ Some x → slice_get xs k ≡ Some x
+  pub swap_kept : (a b k : ℕ) (x : X) → a < length xs → b < length xs → k ≢ a → k ≢ b
+      → slice_get (swap xs a b) k ≡ Some x → slice_get xs k ≡ Some x
   swap_kept a b k x p q na nb at =
       let moved = swapped_from_swap xs (swap xs a b) a b x p q refl in
       let low = slice_get_within (swap xs a b) k x at in

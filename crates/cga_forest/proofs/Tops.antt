@@ -14,13 +14,14 @@ use Rattle.cga_forest.specs.Tree.{under}
 use Rattle.cga_forest.specs.Node.{fits}
 use Rattle.cga_tree.specs.Tree.{IsTree}
 use Rattle.cga_tree.specs.Replaced.{IsReplaced}
-use Rattle.cga_marked.proofs.Count.{bool_cases}
-use Rattle.cga_marked.proofs.Slots.{nat_cases}
+use Rattle.cga_fraction.proofs.Door.{eq_or_ne as nat_cases}
+use Rattle.std.proofs.lemmas.Bool.{cases_Bool as bool_cases}
 use Rattle.cga_forest.proofs.Tree.{cut_some}
 use Rattle.cga_forest.proofs.Walk.{under_cases, under_none}
 use Rattle.cga_forest.proofs.Replace.{old_or_new}
 
-pub HasRoots-same : (S T : ℕ → Option Seen) (roots : Named) → ((c : ℕ) → T c ≡ S c) → HasRoots S roots → HasRoots T roots
+pub HasRoots-same : (S T : ℕ → Option Seen) (roots : Named) → ((c : ℕ) → T c ≡ S c) → HasRoots S roots
+    → HasRoots T roots
 HasRoots-same S T roots h r = record {
   apart = r.apart;
   each = λ name c m. let w = r.each name c m in (w.0, h c ∙ w.1, w.2, w.3);
@@ -28,7 +29,8 @@ HasRoots-same S T roots h r = record {
 }
 
 -- another order
-pub HasRoots-moved : (T : ℕ → Option Seen) (roots left : Named) → IsPermutation roots left → AreApart left → HasRoots T roots → HasRoots T left
+pub HasRoots-moved : (T : ℕ → Option Seen) (roots left : Named) → IsPermutation roots left → AreApart left
+    → HasRoots T roots → HasRoots T left
 HasRoots-moved T roots left moved apart r = record {
   apart = apart;
   each = λ name c m. r.each name c (Contains-permutation left roots (name, c) (IsPermutation-sym roots left moved) m);
@@ -92,7 +94,8 @@ module _ (S T : ℕ → Option Seen) (roots : Named) (r : HasRoots S roots) wher
     }
 
   -- a node's children are replaced
-  pub HasRoots-replaced : (id : ℕ) (news : List Node) (e now : Seen) (gone : ℕ → Bool) → IsReplaced fits S T id news e now gone → now.node.shape.lot ≡ e.node.shape.lot → IsTree S → HasRoots T roots
+  pub HasRoots-replaced : (id : ℕ) (news : List Node) (e now : Seen) (gone : ℕ → Bool)
+      → IsReplaced fits S T id news e now gone → now.node.shape.lot ≡ e.node.shape.lot → IsTree S → HasRoots T roots
   HasRoots-replaced id news e now gone p lot tree = record {
     apart = r.apart;
     each = λ name c m. let w = r.each name c m in elim (nat_cases c id) [
@@ -113,7 +116,8 @@ module _ (S T : ℕ → Option Seen) (roots : Named) (r : HasRoots S roots) wher
   }
 
 -- what is below a node but the node itself has a parent
-pub under_parent : (K : ℕ → List ℕ) (T : ℕ → Option Seen) → IsTree T → ((c : ℕ) (d : Seen) → T c ≡ Some d → K c ≡ d.children)
+pub under_parent : (K : ℕ → List ℕ) (T : ℕ → Option Seen) → IsTree T
+    → ((c : ℕ) (d : Seen) → T c ≡ Some d → K c ≡ d.children)
     → (n id c : ℕ) (e d : Seen) → T id ≡ Some e → T c ≡ Some d → d.parent ≡ None → under K n id c ≡ true → c ≡ id
 under_parent K T tree same zero id c e d t u top h = let z = under_none K id c in absurd (cc)
 under_parent K T tree same (suc n) id c e d t u top h = elim (under_cases K n id c h) [

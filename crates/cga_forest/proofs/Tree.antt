@@ -3,8 +3,8 @@ use Rattle.std.proofs.Common.{◌≡◌, ◌≢◌, ℕ, [], Bool, true, false, 
 use Rattle.std.specs.Prelude.{Option, Some, None, slice_get, if◌then◌else◌}
 use Rattle.cga_forest.specs.View.{Seen}
 use Rattle.cga_tree.specs.Tree.{IsTree}
-use Rattle.cga_marked.proofs.Count.{bool_cases}
-use Rattle.cga_marked.proofs.Slots.{nat_cases}
+use Rattle.cga_fraction.proofs.Door.{eq_or_ne as nat_cases}
+use Rattle.std.proofs.lemmas.Bool.{cases_Bool as bool_cases}
 
 -- the same nodes
 pub IsTree-same : (S T : ℕ → Option Seen) → ((c : ℕ) → T c ≡ S c) → IsTree S → IsTree T
@@ -51,7 +51,8 @@ came_or_was S T id e here others c d t = elim (nat_cases c id) [
 ]
 
 -- a root without children comes
-pub IsTree-root : (S T : ℕ → Option Seen) (id : ℕ) (e : Seen) → S id ≡ None → T id ≡ Some e → e.parent ≡ None → e.depth ≡ 0 → e.children ≡ []
+pub IsTree-root : (S T : ℕ → Option Seen) (id : ℕ) (e : Seen) → S id ≡ None → T id ≡ Some e → e.parent ≡ None
+    → e.depth ≡ 0 → e.children ≡ []
     → ((c : ℕ) → c ≢ id → T c ≡ S c) → IsTree S → IsTree T
 IsTree-root S T id e fresh here root depth leaf others s =
     let apart = λ (c : ℕ) (d : Seen) (t : S c ≡ Some d). let ne : c ≢ id = (λ q. let z : S id ≡ Some d = rw (← q) t in absurd (cc)) in ne in

@@ -11,6 +11,8 @@ use Rattle.cga_forest.specs.declared.node.Node.{Node}
 use Rattle.cga_forest.specs.View.{kids, flag_if}
 use Rattle.cga_forest.specs.Tree.{under, goes, goes_at, stay_of}
 use Rattle.std.specs.Prelude.{if◌then◌else◌}
+pub use Rattle.std.proofs.lemmas.List.Folds.{or-false as or_false}
+use Rattle.cga_fraction.proofs.Door.{lt-length_from_slice_get_nat as slice_get_in}
 
 pub any_ext : {X : Type 0} (p q : X → Bool) → ((x : X) → p x ≡ q x) → (xs : List X) → list_any p xs ≡ list_any q xs
 any_ext p q h [] = refl
@@ -26,7 +28,8 @@ unfolding under
 under_zero a zero id c h = refl
 under_zero a (suc n) id c h = absurd (omega arith)
 
-pub under_step : (a : ℕ → List ℕ) (n id c : ℕ) → 0 < n → under a n id c ≡ (nat_eq id c || list_any (λ k. under a (n - 1) k c) (a id))
+pub under_step : (a : ℕ → List ℕ) (n id c : ℕ) → 0 < n
+    → under a n id c ≡ (nat_eq id c || list_any (λ k. under a (n - 1) k c) (a id))
 unfolding under
 under_step a zero id c h = absurd (omega arith)
 under_step a (suc n) id c h = let e : suc n - 1 ≡ n = omega arith in rw e refl
@@ -42,20 +45,20 @@ flag_flag true false s = refl
 flag_flag true true None = refl
 flag_flag true true (Some e) = refl
 
-pub any_take_all : {X : Type 0} (p : X → Bool) (xs : List X) (n : ℕ) → length xs ≤ n → list_any p (take n xs) ≡ list_any p xs
+pub any_take_all : {X : Type 0} (p : X → Bool) (xs : List X) (n : ℕ) → length xs ≤ n
+    → list_any p (take n xs) ≡ list_any p xs
 any_take_all p xs n h = rw (take_all n xs h) refl
-
-slice_get_in : (xs : List ℕ) (i k : ℕ) → slice_get xs i ≡ Some k → i < length xs
-slice_get_in xs i k h = elim (slice_get_cases xs i).1 [ inl w ↦ w.1 | inr w ↦ (cc) ]
 
 slice_get_out : (xs : List ℕ) (i : ℕ) → slice_get xs i ≡ None → length xs ≤ i
 slice_get_out xs i h = elim (slice_get_cases xs i).1 [ inl w ↦ (cc) | inr w ↦ w.0 ]
 
 -- one more child in a walk over the children
-pub any_take_next : (p : ℕ → Bool) (xs : List ℕ) (i k : ℕ) → slice_get xs i ≡ Some k → list_any p (take (i + 1) xs) ≡ (list_any p (take i xs) || p k)
+pub any_take_next : (p : ℕ → Bool) (xs : List ℕ) (i k : ℕ) → slice_get xs i ≡ Some k
+    → list_any p (take (i + 1) xs) ≡ (list_any p (take i xs) || p k)
 any_take_next p xs i k h = list_any_more p xs i k (slice_get_in xs i k h) ∙ ap (λ y. list_any p (take i xs) || p y) (get_or_from_slice_get xs i k k h)
 
-pub any_take_none : (p : ℕ → Bool) (xs : List ℕ) (i : ℕ) → slice_get xs i ≡ None → list_any p (take (i + 1) xs) ≡ list_any p (take i xs)
+pub any_take_none : (p : ℕ → Bool) (xs : List ℕ) (i : ℕ) → slice_get xs i ≡ None
+    → list_any p (take (i + 1) xs) ≡ list_any p (take i xs)
 any_take_none p xs i h = let out : length xs ≤ i = slice_get_out xs i h in rw (take_all i xs out, take_all (i + 1) xs (omega arith)) refl
 
 pub or_assoc : (a b c : Bool) → ((a || b) || c) ≡ (a || (b || c))
@@ -79,17 +82,16 @@ pub flags_none : (ch : ℕ → List ℕ) (old now : ℕ → Option Entry) (n id 
     → (c : ℕ) → now c ≡ flag_if (nat_eq id c || list_any (λ k. under ch n k c) (take (i + 1) (ch id))) (old c)
 flags_none ch old now n id i at h c = h c ∙ ap (λ b. flag_if (nat_eq id c || b) (old c)) (sym (any_take_none (λ k. under ch n k c) (ch id) i at))
 
-pub goes_step : (K : ℕ → List ℕ) (n : ℕ) (P : ℕ → Option Node → Bool) (olds : List ℕ) (news : List Node) (i c : ℕ) → goes K n P olds news (i + 1) c ≡ (goes K n P olds news i c || goes_at K n P (slice_get olds i) (slice_get news i) c)
+pub goes_step : (K : ℕ → List ℕ) (n : ℕ) (P : ℕ → Option Node → Bool) (olds : List ℕ) (news : List Node) (i c : ℕ)
+    → goes K n P olds news (i + 1) c ≡
+      (goes K n P olds news i c || goes_at K n P (slice_get olds i) (slice_get news i) c)
 unfolding goes
 goes_step K n P olds news i c = let e : i + 1 ≡ suc i = omega arith in rw e refl
 
-pub goes_zero : (K : ℕ → List ℕ) (n : ℕ) (P : ℕ → Option Node → Bool) (olds : List ℕ) (news : List Node) (c : ℕ) → goes K n P olds news 0 c ≡ false
+pub goes_zero : (K : ℕ → List ℕ) (n : ℕ) (P : ℕ → Option Node → Bool) (olds : List ℕ) (news : List Node) (c : ℕ)
+    → goes K n P olds news 0 c ≡ false
 unfolding goes
 goes_zero K n P olds news c = refl
-
-pub or_false : (b : Bool) → (b || false) ≡ b
-or_false true = refl
-or_false false = refl
 
 pub stay_flag : (b : Bool) (s : Option Entry) (w : Option Node) → stay_of (flag_if b s) w ≡ stay_of s w
 stay_flag false s w = refl
@@ -100,7 +102,8 @@ module _ (K : ℕ → List ℕ) (olds : List ℕ) (news : List Node) (old now : 
   abbrev pub P : ℕ → Option Node → Bool
   P k w = stay_of (old k) w
 
-  still : (c : ℕ) → goes_at K n P (slice_get olds i) (slice_get news i) c ≡ false → now c ≡ flag_if (goes K n P olds news (i + 1) c) (old c)
+  still : (c : ℕ) → goes_at K n P (slice_get olds i) (slice_get news i) c ≡ false
+      → now c ≡ flag_if (goes K n P olds news (i + 1) c) (old c)
   still c off = h c ∙ ap (λ b. flag_if b (old c)) (sym (goes_step K n P olds news i c ∙ ap (λ b. goes K n P olds news i c || b) off ∙ or_false (goes K n P olds news i c)))
 
   same_test : (k : ℕ) (w : Option Node) → stay_of (now k) w ≡ P k w
@@ -109,10 +112,12 @@ module _ (K : ℕ → List ℕ) (olds : List ℕ) (news : List Node) (old now : 
   pub goes_none : slice_get olds i ≡ None → (c : ℕ) → now c ≡ flag_if (goes K n P olds news (i + 1) c) (old c)
   goes_none at c = still c (ap (λ o. goes_at K n P o (slice_get news i) c) at)
 
-  pub goes_kept : (k : ℕ) → slice_get olds i ≡ Some k → stay_of (now k) (slice_get news i) ≡ true → (c : ℕ) → now c ≡ flag_if (goes K n P olds news (i + 1) c) (old c)
+  pub goes_kept : (k : ℕ) → slice_get olds i ≡ Some k → stay_of (now k) (slice_get news i) ≡ true → (c : ℕ)
+      → now c ≡ flag_if (goes K n P olds news (i + 1) c) (old c)
   goes_kept k at on c = still c (ap (λ o. goes_at K n P o (slice_get news i) c) at ∙ ap (λ b. if b then false else under K n k c) (sym (same_test k (slice_get news i)) ∙ on))
 
-  pub goes_next : (new : ℕ → Option Entry) (k : ℕ) → slice_get olds i ≡ Some k → stay_of (now k) (slice_get news i) ≡ false
+  pub goes_next : (new : ℕ → Option Entry) (k : ℕ) → slice_get olds i ≡ Some k
+      → stay_of (now k) (slice_get news i) ≡ false
       → ((c : ℕ) → new c ≡ flag_if (under (λ d. kids (now d)) n k c) (now c))
       → (c : ℕ) → new c ≡ flag_if (goes K n P olds news (i + 1) c) (old c)
   goes_next new k at other called c =
@@ -120,11 +125,16 @@ module _ (K : ℕ → List ℕ) (olds : List ℕ) (news : List Node) (old now : 
       called c ∙ ap (λ b. flag_if b (now c)) e1 ∙ ap (flag_if (under K n k c)) (h c) ∙ flag_flag (goes K n P olds news i c) (under K n k c) (old c)
       ∙ ap (λ b. flag_if b (old c)) (sym (goes_step K n P olds news i c ∙ ap (λ b. goes K n P olds news i c || b) (ap (λ o. goes_at K n P o (slice_get news i) c) at ∙ ap (λ b. if b then false else under K n k c) (sym (same_test k (slice_get news i)) ∙ other))))
 
-pub goes_at_none : (K : ℕ → List ℕ) (n : ℕ) (P : ℕ → Option Node → Bool) (o : Option ℕ) (w : Option Node) (c : ℕ) → o ≡ None → goes_at K n P o w c ≡ false
+pub goes_at_none : (K : ℕ → List ℕ) (n : ℕ) (P : ℕ → Option Node → Bool) (o : Option ℕ) (w : Option Node) (c : ℕ)
+    → o ≡ None → goes_at K n P o w c ≡ false
 goes_at_none K n P o w c h = ap (λ x. goes_at K n P x w c) h
 
-pub goes_at_stays : (K : ℕ → List ℕ) (n : ℕ) (P : ℕ → Option Node → Bool) (o : Option ℕ) (k : ℕ) (w : Option Node) (c : ℕ) → o ≡ Some k → P k w ≡ true → goes_at K n P o w c ≡ false
+pub goes_at_stays : (K : ℕ → List ℕ) (n : ℕ) (P : ℕ → Option Node → Bool) (o : Option ℕ) (k : ℕ) (w : Option Node)
+      (c : ℕ)
+    → o ≡ Some k → P k w ≡ true → goes_at K n P o w c ≡ false
 goes_at_stays K n P o k w c h t = ap (λ x. goes_at K n P x w c) h ∙ ap (λ b. if b then false else under K n k c) t
 
-pub goes_at_goes : (K : ℕ → List ℕ) (n : ℕ) (P : ℕ → Option Node → Bool) (o : Option ℕ) (k : ℕ) (w : Option Node) (c : ℕ) → o ≡ Some k → P k w ≡ false → goes_at K n P o w c ≡ under K n k c
+pub goes_at_goes : (K : ℕ → List ℕ) (n : ℕ) (P : ℕ → Option Node → Bool) (o : Option ℕ) (k : ℕ) (w : Option Node)
+      (c : ℕ)
+    → o ≡ Some k → P k w ≡ false → goes_at K n P o w c ≡ under K n k c
 goes_at_goes K n P o k w c h t = ap (λ x. goes_at K n P x w c) h ∙ ap (λ b. if b then false else under K n k c) t

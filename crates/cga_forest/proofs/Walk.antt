@@ -6,9 +6,10 @@ use Rattle.std.specs.List.{list_any}
 use Rattle.cga_forest.specs.View.{Seen}
 use Rattle.cga_forest.specs.Tree.{under, children_of}
 use Rattle.cga_tree.specs.Tree.{IsTree}
-use Rattle.cga_marked.proofs.Count.{bool_cases}
+use Rattle.std.proofs.lemmas.Bool.{cases_Bool as bool_cases}
 
-pub any_find : (p : ℕ → Bool) (xs : List ℕ) → list_any p xs ≡ true → (i : ℕ) × (k : ℕ) × (slice_get xs i ≡ Some k) × (p k ≡ true)
+pub any_find : (p : ℕ → Bool) (xs : List ℕ) → list_any p xs ≡ true
+    → (i : ℕ) × (k : ℕ) × (slice_get xs i ≡ Some k) × (p k ≡ true)
 any_find p [] h = absurd (cc)
 any_find p (x ∷ xs) h = elim (bool_cases (p x)) [
   | inl y ↦ (0, x, refl, y)
@@ -25,12 +26,14 @@ unfolding under
 under_self K zero id h = absurd (omega arith)
 under_self K (suc n) id h = ap (λ b. b || list_any (λ k. under K n k id) (K id)) (eq-eqb id id refl)
 
-pub under_child : (K : ℕ → List ℕ) (n id i k c : ℕ) → slice_get (K id) i ≡ Some k → under K n k c ≡ true → under K (suc n) id c ≡ true
+pub under_child : (K : ℕ → List ℕ) (n id i k c : ℕ) → slice_get (K id) i ≡ Some k → under K n k c ≡ true
+    → under K (suc n) id c ≡ true
 unfolding under
 under_child K n id i k c at h = elim (nat_eq id c) as (λ b. (b || list_any (λ k. under K n k c) (K id)) ≡ true) [ true ↦ refl | false ↦ any_here (λ k. under K n k c) (K id) i k at h ]
 
 -- the node itself, or below a child
-pub under_cases : (K : ℕ → List ℕ) (n id c : ℕ) → under K (suc n) id c ≡ true → (id ≡ c) ⊎ ((i : ℕ) × (k : ℕ) × (slice_get (K id) i ≡ Some k) × (under K n k c ≡ true))
+pub under_cases : (K : ℕ → List ℕ) (n id c : ℕ) → under K (suc n) id c ≡ true
+    → (id ≡ c) ⊎ ((i : ℕ) × (k : ℕ) × (slice_get (K id) i ≡ Some k) × (under K n k c ≡ true))
 unfolding under
 under_cases K n id c h = elim (bool_cases (nat_eq id c)) [
   | inl y ↦ inl (eqb-true id c y)
@@ -46,7 +49,8 @@ parent_of None = None
 parent_of (Some d) = d.parent
 
 module _ (K : ℕ → List ℕ) (T : ℕ → Option Seen) (tree : IsTree T) (kids : (c : ℕ) (d : Seen) → T c ≡ Some d → K c ≡ d.children) where
-  pub under_into : (n id c p : ℕ) (e d : Seen) → T id ≡ Some e → T c ≡ Some d → d.parent ≡ Some p → under K n id c ≡ true → (id ≡ c) ⊎ (under K n id p ≡ true)
+  pub under_into : (n id c p : ℕ) (e d : Seen) → T id ≡ Some e → T c ≡ Some d → d.parent ≡ Some p
+      → under K n id c ≡ true → (id ≡ c) ⊎ (under K n id p ≡ true)
   under_into zero id c p e d te td pd h = let z = under_none K id c in absurd (cc)
   under_into (suc n) id c p e d te td pd h = elim (under_cases K n id c h) [
     | inl q ↦ inl q
@@ -62,7 +66,8 @@ module _ (K : ℕ → List ℕ) (T : ℕ → Option Seen) (tree : IsTree T) (kid
         ])
   ]
 
-  pub under_onto : (n id c p : ℕ) (e d : Seen) → T id ≡ Some e → T c ≡ Some d → d.parent ≡ Some p → d.depth < e.depth + n → under K n id p ≡ true → under K n id c ≡ true
+  pub under_onto : (n id c p : ℕ) (e d : Seen) → T id ≡ Some e → T c ≡ Some d → d.parent ≡ Some p
+      → d.depth < e.depth + n → under K n id p ≡ true → under K n id c ≡ true
   under_onto zero id c p e d te td pd deep h = let z = under_none K id p in absurd (cc)
   under_onto (suc n) id c p e d te td pd deep h = elim (under_cases K n id p h) [
     | inl q ↦ (
@@ -79,7 +84,8 @@ module _ (K : ℕ → List ℕ) (T : ℕ → Option Seen) (tree : IsTree T) (kid
   ]
 
   -- a node but a root is at or below a root exactly where its parent is
-  pub under_along : (id c p : ℕ) (e d : Seen) → T id ≡ Some e → e.parent ≡ None → T c ≡ Some d → d.parent ≡ Some p → under K 257 id c ≡ under K 257 id p
+  pub under_along : (id c p : ℕ) (e d : Seen) → T id ≡ Some e → e.parent ≡ None → T c ≡ Some d → d.parent ≡ Some p
+      → under K 257 id c ≡ under K 257 id p
   under_along id c p e d te top td pd = elim (bool_cases (under K 257 id c)) [
     | inl y ↦ elim (under_into 257 id c p e d te td pd y) [
       | inl q ↦ (
@@ -94,12 +100,14 @@ module _ (K : ℕ → List ℕ) (T : ℕ → Option Seen) (tree : IsTree T) (kid
     ]
   ]
 
-any_same : (p q : ℕ → Bool) (xs : List ℕ) → ((i k : ℕ) → slice_get xs i ≡ Some k → p k ≡ q k) → list_any p xs ≡ list_any q xs
+any_same : (p q : ℕ → Bool) (xs : List ℕ) → ((i k : ℕ) → slice_get xs i ≡ Some k → p k ≡ q k)
+    → list_any p xs ≡ list_any q xs
 any_same p q [] h = refl
 any_same p q (x ∷ xs) h = rw (h 0 x refl, any_same p q xs (λ i k g. h (suc i) k g)) refl
 
 -- two ways to name the children, alike at the nodes that are there
-pub under_same : (K : ℕ → List ℕ) (T : ℕ → Option Seen) → IsTree T → ((c : ℕ) (d : Seen) → T c ≡ Some d → K c ≡ d.children)
+pub under_same : (K : ℕ → List ℕ) (T : ℕ → Option Seen) → IsTree T
+    → ((c : ℕ) (d : Seen) → T c ≡ Some d → K c ≡ d.children)
     → (n id c : ℕ) (e : Seen) → T id ≡ Some e → under K n id c ≡ under (λ k. children_of (T k)) n id c
 unfolding under
 under_same K T tree same zero id c e t = refl

@@ -2,7 +2,9 @@
 use Rattle.std.proofs.Common.{◌≡◌, ◌≢◌, inl, inr, ℕ, zero, suc, ◌<◌, List, [], ◌∷◌, length, Bool, true, false, refl, ap, sym, ◌∙◌, arith, subst}
 use Rattle.std.specs.Prelude.{Option, Some, None, is_some, not, slice_get, if◌then◌else◌}
 use Rattle.cga_index.specs.Tree.{Member, Apart}
-use Rattle.cga_index.proofs.Levels.{in_split, in_left, in_right, in_some, in_flat}
+use Rattle.cga_fraction.proofs.Door.{eq_or_ne as nat_cases}
+use Rattle.cga_index.proofs.Door.{in_flat, in_left, in_right, in_some, in_split}
+use Rattle.std.proofs.lemmas.Bool.{cases_Bool as bool_cases}
 use Rattle.cga_order.specs.World.{Among}
 use Rattle.cga_tree.specs.Tree.{IsTree}
 use Rattle.cga_tree.specs.Replaced.{IsReplaced}
@@ -14,8 +16,6 @@ use Rattle.cga_forest.specs.View.{Seen, kids, present_of}
 use Rattle.cga_forest.specs.Moved.{moved_node, moved_of, ListsMoved}
 use Rattle.cga_forest.specs.Gathered.{found, going, coming, coming_at, listed, chosen}
 use Rattle.cga_forest.specs.Tree.{goes, stay_of, stay_child}
-use Rattle.cga_marked.proofs.Count.{bool_cases}
-use Rattle.cga_marked.proofs.Slots.{nat_cases}
 use Rattle.cga_forest.proofs.Right.{present_some, kids_present}
 use Rattle.cga_forest.proofs.Place.{stay_some}
 use Rattle.cga_forest.proofs.Goes.{goes_find, goes_here, under_deep, stay_seen, get_within}
@@ -26,14 +26,16 @@ use Rattle.cga_forest.proofs.Moves.{apart_flat, going_find, going_has, going_onc
 -- ---- the places where one comes
 
 module _ (s : ℕ → Option Entry) (olds : List ℕ) (news : List Node) where
-  coming_at_in : (n : Option Node) (m i : ℕ) → Member (coming_at s (slice_get olds m) n m) i → (w : Node) × (n ≡ Some w) × (stay_child s (slice_get olds m) w ≡ None) × (m ≡ i)
+  coming_at_in : (n : Option Node) (m i : ℕ) → Member (coming_at s (slice_get olds m) n m) i
+      → (w : Node) × (n ≡ Some w) × (stay_child s (slice_get olds m) w ≡ None) × (m ≡ i)
   coming_at_in None m i h = absurd h
   coming_at_in (Some w) m i h = elim (opt_cases (stay_child s (slice_get olds m) w)) [
     | inl y ↦ (w, refl, y, elim (subst (λ (o : Option ℕ). Member (if is_some o then [] else m ∷ []) i) y h) [ inl q ↦ q | inr x ↦ absurd x ])
     | inr y ↦ absurd (subst (λ (o : Option ℕ). Member (if is_some o then [] else m ∷ []) i) y.1 h)
   ]
 
-  coming_in : (m i : ℕ) → Member (coming s olds news m) i → (i < m) × ((w : Node) × (slice_get news i ≡ Some w) × (stay_child s (slice_get olds i) w ≡ None))
+  coming_in : (m i : ℕ) → Member (coming s olds news m) i
+      → (i < m) × ((w : Node) × (slice_get news i ≡ Some w) × (stay_child s (slice_get olds i) w ≡ None))
   unfolding coming
   coming_in zero i h = absurd h
   coming_in (suc m) i h = elim (in_split (coming s olds news m) (coming_at s (slice_get olds m) (slice_get news m) m) i h) [
@@ -42,7 +44,8 @@ module _ (s : ℕ → Option Entry) (olds : List ℕ) (news : List Node) where
         (omega arith, (r.0, ap (slice_get news) (sym q) ∙ r.1, ap (λ j. stay_child s (slice_get olds j) r.0) (sym q) ∙ r.2)))
   ]
 
-  coming_has : (m i : ℕ) (w : Node) → i < m → slice_get news i ≡ Some w → stay_child s (slice_get olds i) w ≡ None → Member (coming s olds news m) i
+  coming_has : (m i : ℕ) (w : Node) → i < m → slice_get news i ≡ Some w → stay_child s (slice_get olds i) w ≡ None
+      → Member (coming s olds news m) i
   unfolding coming
   coming_has zero i w lt at none = absurd (omega arith)
   coming_has (suc m) i w lt at none = elim (nat_cases i m) [
@@ -146,7 +149,8 @@ module _ (s : ℕ → Option Entry) (T : ℕ → Option Seen) (id n : ℕ) (news
   not_flip false h = absurd (cc)
 
   -- what stands at a place where no old child stays came
-  came_at : (i c : ℕ) (w : Node) → slice_get now.children i ≡ Some c → slice_get news i ≡ Some w → stay_child s (slice_get (kids (s id)) i) w ≡ None → (present_of (s c) ≡ None) × ((d : Seen) × (T c ≡ Some d))
+  came_at : (i c : ℕ) (w : Node) → slice_get now.children i ≡ Some c → slice_get news i ≡ Some w
+      → stay_child s (slice_get (kids (s id)) i) w ≡ None → (present_of (s c) ≡ None) × ((d : Seen) × (T c ≡ Some d))
   came_at i c w here at none =
       let p = r.each i c here in
       let z : Some p.0 ≡ Some w = sym p.1 ∙ at in
@@ -161,7 +165,8 @@ module _ (s : ℕ → Option Entry) (T : ℕ → Option Seen) (id n : ℕ) (news
       ]
 
   -- an old child that fits stands in the new list, so nothing came there
-  still : (c i k : ℕ) (w : Node) → present_of (s c) ≡ None → slice_get now.children i ≡ Some c → slice_get news i ≡ Some w → slice_get (kids (s id)) i ≡ Some k → stay_of (s k) (Some w) ≡ true → ⊥
+  still : (c i k : ℕ) (w : Node) → present_of (s c) ≡ None → slice_get now.children i ≡ Some c
+      → slice_get news i ≡ Some w → slice_get (kids (s id)) i ≡ Some k → stay_of (s k) (Some w) ≡ true → ⊥
   still c i k w none at asked o fit =
       let o2 : slice_get e.children i ≡ Some k = ap (λ xs. slice_get xs i) (sym olds) ∙ o in
       let d = tree.down id i k e r.was o2 in
@@ -171,7 +176,9 @@ module _ (s : ℕ → Option Entry) (T : ℕ → Option Seen) (id n : ℕ) (news
       let u : Some d.0 ≡ None = sym d.1 ∙ ap (λ x. present_of (s x)) y ∙ none in (cc)
 
   -- what came stands at such a place
-  came_to : (c : ℕ) (d : Seen) → present_of (s c) ≡ None → T c ≡ Some d → (i : ℕ) × (w : Node) × (slice_get now.children i ≡ Some c) × (slice_get news i ≡ Some w) × (stay_child s (slice_get (kids (s id)) i) w ≡ None)
+  came_to : (c : ℕ) (d : Seen) → present_of (s c) ≡ None → T c ≡ Some d
+      → (i : ℕ) × (w : Node) × (slice_get now.children i ≡ Some c) × (slice_get news i ≡ Some w)
+        × (stay_child s (slice_get (kids (s id)) i) w ≡ None)
   came_to c d none t = elim (r.came c none) [
     | inl y ↦ (let z : None ≡ Some d = sym y ∙ t in absurd (cc))
     | inr at ↦ (let p = r.each at.0 c at.1 in elim p.2 [

@@ -11,7 +11,9 @@ settled_calm e m = λ i. if m.plain.here i then None else Some (record e { came 
 settles : (e : Entry) → IfSome (settled_entry e) (IsCalm touched_of IsPlain)
 settles e = by_flag e.aside refl
   where
-    by_flag : (b : Bool) → e.aside ≡ b → IfSome (if b then None else Some (record e { came = false; touched = false; former = None; former_hulls = None })) (IsCalm touched_of IsPlain)
+    by_flag : (b : Bool) → e.aside ≡ b
+        → IfSome (if b then None else Some
+          (record e { came = false; touched = false; former = None; former_hulls = None })) (IsCalm touched_of IsPlain)
     by_flag true q = tt
     by_flag false q = record { untouched = refl; plain = record { here = q; old = refl; same = refl; hulls = refl } }
 
@@ -21,7 +23,11 @@ rolled_calm e m = λ i. if m.plain.old i then None else Some (record (restored e
 rolls : (e : Entry) → IfSome (rolled_entry e) (IsCalm touched_of IsPlain)
 rolls e = by_flag e.came
   where
-    by_flag : (b : Bool) → IfSome (if b then None else Some (record (restored e e.former) { hulls = former_hulls e.hulls e.former_hulls; aside = false; came = false; touched = false; former = None; former_hulls = None })) (IsCalm touched_of IsPlain)
+    by_flag : (b : Bool)
+        → IfSome (if b then None else Some
+          (record (restored e e.former)
+          { hulls = former_hulls e.hulls e.former_hulls; aside = false; came = false; touched = false; former = None;
+          former_hulls = None })) (IsCalm touched_of IsPlain)
     by_flag true = tt
     by_flag false = record { untouched = refl; plain = record { here = refl; old = refl; same = refl; hulls = refl } }
 

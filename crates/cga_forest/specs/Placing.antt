@@ -10,7 +10,7 @@ use Rattle.cga_order.specs.Head.{child_head}
 use Rattle.cga_order.specs.World.{is_instance}
 use Rattle.cga_order.specs.declared.placed.Kind.{Kind}
 use Rattle.cga_order.specs.declared.placed.Kind.TheVariants.{Waiting, Done, Faulted, Instance}
-use Rattle.cga_order.proofs.ChildHeads.{child_is_head}
+use Rattle.cga_order.proofs.Door.{child_is_head}
 use Rattle.cga_shape.specs.Root.{root_of}
 use Rattle.cga_shape.specs.declared.lot.Lot.{Lot}
 use Rattle.cga_shape.specs.declared.emitted.Emitted.{Emitted}

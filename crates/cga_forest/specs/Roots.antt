@@ -91,5 +91,6 @@ pub record HasSpace (v : RootsView) : Type 0 where
 -- the list has each root once, under its lot's name
 pub record HasRoots (T : ℕ → Option Seen) (roots : Named) : Type 0 where
   pub apart : AreApart roots
-  pub each : (name : List ℕ) (c : ℕ) → Contains roots (name, c) → (d : Seen) × (T c ≡ Some d) × (d.parent ≡ None) × (d.node.shape.lot ≡ name)
+  pub each : (name : List ℕ) (c : ℕ) → Contains roots (name, c)
+      → (d : Seen) × (T c ≡ Some d) × (d.parent ≡ None) × (d.node.shape.lot ≡ name)
   pub all : (c : ℕ) (d : Seen) → T c ≡ Some d → d.parent ≡ None → Contains roots (d.node.shape.lot, c)

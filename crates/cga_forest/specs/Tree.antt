@@ -130,7 +130,8 @@ IsAt depth i w = (length w.shape.path ≡ depth) × (last_from 0 w.shape.path �
 
 -- the children so far are old ones at their places, or came, and nothing else changed
 pub record IsPlaced (old now : ℕ → Option Entry) (id depth : ℕ) (marking : Bool) (olds : List ℕ) (news : List Node) (made : List ℕ) : Type 0 where
-  pub each : (i c : ℕ) → slice_get made i ≡ Some c → (w : Node) × (slice_get news i ≡ Some w) × IsPlacedChild old now id depth marking olds w i c
+  pub each : (i c : ℕ) → slice_get made i ≡ Some c
+      → (w : Node) × (slice_get news i ≡ Some w) × IsPlacedChild old now id depth marking olds w i c
   pub rest : (c : ℕ) (e : Entry) → old c ≡ Some e → now c ≡ Some e
   pub came : (c : ℕ) → old c ≡ None → (now c ≡ None) ⊎ ((i : ℕ) × (slice_get made i ≡ Some c))
 

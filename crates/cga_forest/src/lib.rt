@@ -1,7 +1,11 @@
-//! The kept forest: the shapes of a city as nodes under numbers, each with the least box that holds it and all below it,
-//! and a mark to which all can be taken back. It keeps nodes and never expands a shape: what a node's children are it is
-//! told. The one thing that callers get wrong: a number names a node only while that is there, and says nothing of order;
-//! a shape is told by its lot and path.
+//! The kept forest: the shapes of a city as nodes under numbers, each with the least box that holds it and all below
+//! it, and a mark to which all can be taken back.
+//!
+//! It must not know how a shape comes about, grammars or edits. It keeps nodes and never expands a shape: what a node's
+//! children are it is told.
+//!
+//! What callers get wrong: a number names a node only while that is there, and says nothing of order; a shape is told
+//! by its lot and path.
 #![tactic(auto)]
 
 mod below;

@@ -28,7 +28,8 @@ module _ {A : Type 0} (w : A → Pieces) (s : Lexeme → Bool) (n : ℕ) (p : Re
   plain_nil [] = refl
   plain_nil (x ∷ xs) = ap (λ z. x ∷ z) (plain_nil xs)
 
-  stops_at : (x r : List Lexeme) → ((b : List Lexeme) → first b ≡ first r → p (at (x ++ b) 0) ≡ Err (Unexpected (length b))) → Stops w x r
+  stops_at : (x r : List Lexeme)
+      → ((b : List Lexeme) → first b ≡ first r → p (at (x ++ b) 0) ≡ Err (Unexpected (length b))) → Stops w x r
   stops_at x [] same = λ a h.
       agreed (p (at (x ++ []) 0)) a (at [] h.0) 0 (same [] refl) ((again.all a).leads 0 x h.0 [] h.1 refl)
   stops_at x (j ∷ r) same = λ h.
@@ -42,7 +43,9 @@ module _ {A : Type 0} (w : A → Pieces) (s : Lexeme → Bool) (n : ℕ) (p : Re
   headed [] j e = absurd (let q : None ≡ Some j = e in cc)
   headed (i ∷ r) j e = let q : i ≡ j = cc in (r, ap (λ z. z ∷ r) q)
 
-  judged_by : (text x r : List Lexeme) (v : Verdict A) → text ≡ x ++ r → ((b : List Lexeme) → first b ≡ first r → p (at (x ++ b) 0) ≡ told v b) → Means n n (After [] w) 0 x r v → Judges w n text (told v r)
+  judged_by : (text x r : List Lexeme) (v : Verdict A) → text ≡ x ++ r
+      → ((b : List Lexeme) → first b ≡ first r → p (at (x ++ b) 0) ≡ told v b) → Means n n (After [] w) 0 x r v
+      → Judges w n text (told v r)
   judged_by text x r (found a d) e same h =
       let none = ends (x ++ r) a (at r d) (same r refl) in
       let whole : text ≡ x = e ∙ ap (λ z. x ++ z) none ∙ plain_nil x in
@@ -59,14 +62,17 @@ module _ {A : Type 0} (w : A → Pieces) (s : Lexeme → Bool) (n : ℕ) (p : Re
       subst (λ o. Judges w n text o) (sym (ap (λ z. p (at z 0)) t.split ∙ t.same t.rest refl)) (judged_by text t.front t.rest t.verdict t.split t.same t.means)
 
   -- a text that is spelled is read as its value, or nests too deep
-  pub complete : (text : List Lexeme) (a : A) (d : ℕ) → Writes 0 (w a) text d → begins s [] ≡ false → Agrees (p (at text 0)) a (at [] d)
+  pub complete : (text : List Lexeme) (a : A) (d : ℕ) → Writes 0 (w a) text d → begins s [] ≡ false
+      → Agrees (p (at text 0)) a (at [] d)
   complete text a d h e = subst (λ z. Agrees (p (at z 0)) a (at [] d)) (plain_nil text) ((again.all a).leads 0 text d [] h refl)
 
-opened_step : (n m : ℕ) (x : List Lexeme) → walk_on (λ i. walk i x) (counted opens n) ≡ Some m → ((i : ℕ) → walk i x ≡ Some m → i ≤ m + length x) → n ≤ suc (m + length x)
+opened_step : (n m : ℕ) (x : List Lexeme) → walk_on (λ i. walk i x) (counted opens n) ≡ Some m
+    → ((i : ℕ) → walk i x ≡ Some m → i ≤ m + length x) → n ≤ suc (m + length x)
 opened_step zero m x e f = omega arith
 opened_step (suc n) m x e f = omega (arith, f n e)
 
-stepped : (j : Bracket) (n m : ℕ) (x : List Lexeme) → walk_on (λ i. walk i x) (counted j n) ≡ Some m → ((i : ℕ) → walk i x ≡ Some m → i ≤ m + length x) → n ≤ suc (m + length x)
+stepped : (j : Bracket) (n m : ℕ) (x : List Lexeme) → walk_on (λ i. walk i x) (counted j n) ≡ Some m
+    → ((i : ℕ) → walk i x ≡ Some m → i ≤ m + length x) → n ≤ suc (m + length x)
 stepped opens n m x e f = opened_step n m x e f
 stepped closes n m x e f = omega (arith, f (suc n) e)
 stepped other n m x e f = omega (arith, f n e)
@@ -79,7 +85,8 @@ walk_length n m (j ∷ x) e = omega (arith, stepped (bracket_of j) n m x e (λ i
 -- no text is spelled by two values, where each number of brackets has its reader
 module _ {A : Type 0} (w : A → Pieces) (s : Lexeme → Bool) (p : ℕ → Reader A) (reads : (n : ℕ) → Reads n n w (p n)) (again : (n : ℕ) → Again w s (p n))
     (ends : (n : ℕ) (text : List Lexeme) (a : A) (o : Input) → p n (at text 0) ≡ Ok (a, o) → o.left ≡ []) (last : begins s [] ≡ false) where
-  same_value : (text : List Lexeme) (o : ReadResult A) → Judges w (length text) text o → (a b : A) (d e : ℕ) → Agrees o a (at [] d) → Agrees o b (at [] e) → a ≡ b
+  same_value : (text : List Lexeme) (o : ReadResult A) → Judges w (length text) text o → (a b : A) (d e : ℕ)
+      → Agrees o a (at [] d) → Agrees o b (at [] e) → a ≡ b
   same_value text (Ok q) h a b d e f g = sym f.0 ∙ g.0
   same_value text (Err (Unexpected l)) h a b d e f g = absurd f
   same_value text (Err (TooNested l)) h a b d e f g = absurd (omega (arith, walk_length (length text) 0 h.0 h.6, ap length h.3, length-append h.0 (h.1 ∷ h.2)))

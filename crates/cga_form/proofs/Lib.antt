@@ -1,18 +1,19 @@
-pub mod Runs
-pub mod Written
-pub mod Forms
-pub mod Again
-pub mod Singles
-pub mod Complete
-pub mod Lines
-pub mod Nexts
-pub mod Spans
-pub mod Values
-pub mod ValuesAgain
-pub mod Quotients
-pub mod Once
-pub mod OnceLines
-pub mod Told
-pub mod OnceBlocks
-pub mod BlockReaders
-pub mod Made
+mod Runs
+mod Written
+mod Forms
+mod Again
+mod Singles
+mod Complete
+mod Lines
+mod Nexts
+mod Spans
+mod Values
+mod ValuesAgain
+mod Quotients
+mod Once
+mod OnceLines
+mod Told
+mod OnceBlocks
+mod BlockReaders
+mod Made
+pub mod Door

@@ -25,7 +25,8 @@ unfolding finish
 finish_reads n = either any (refusing (λ c. ([], tt, c, ([], refl, nothing c)))) (done refl)
 
 -- a form and then the end
-pub line_reads : {A : Type 0} {w : A → Pieces} {p : Reader A} (n : ℕ) → Reads n n w p → Reads n n w (p >>= λ a. finish >> pure a)
+pub line_reads : {A : Type 0} {w : A → Pieces} {p : Reader A} (n : ℕ) → Reads n n w p
+    → Reads n n w (p >>= λ a. finish >> pure a)
 line_reads {w = w} n h = next h (λ a. next (finish_reads n) (λ _. done (sym (nil_right (w a)))))
 
 finish_again : Again nowhere any finish
@@ -42,12 +43,14 @@ module _ {A : Type 0} {w : A → Pieces} {t : Lexeme → Bool} {p : Reader A} (a
 ok_left : {A : Type 0} {a b : A} {i o : Input} → ◌≡◌ {A = ReadResult A} (Ok (a, i)) (Ok (b, o)) → o.left ≡ i.left
 ok_left {A} {a} {b} {i} {o} e = let q : ◌≡◌ {A = A × Input} (a, i) (b, o) = cc in ap (λ (z : A × Input). z.1.left) (sym q)
 
-finish_by : {A : Type 0} (r a : A) (ls : List Lexeme) (c : ℕ) (o : Input) → (finish >> pure r) (at ls c) ≡ Ok (a, o) → o.left ≡ []
+finish_by : {A : Type 0} (r a : A) (ls : List Lexeme) (c : ℕ) (o : Input) → (finish >> pure r) (at ls c) ≡ Ok (a, o)
+    → o.left ≡ []
 unfolding finish
 finish_by r a [] c o h = ok_left h
 finish_by r a (l ∷ ls) c o h = absurd (cc)
 
-ends_by : {A : Type 0} (q : ReadResult A) (a : A) (o : Input) → and_then q (λ r. finish >> pure r) ≡ Ok (a, o) → o.left ≡ []
+ends_by : {A : Type 0} (q : ReadResult A) (a : A) (o : Input) → and_then q (λ r. finish >> pure r) ≡ Ok (a, o)
+    → o.left ≡ []
 ends_by (Ok q) a o h = finish_by q.0 a q.1.left q.1.count o h
 ends_by (Err f) a o h = absurd (cc)
 
@@ -72,14 +75,16 @@ module _ {A : Type 0} (w : A → Pieces) (p : ℕ → Reader A) (form : IsForm w
   form_unique = unique w any complete (λ n. line_reads n (form.exact n)) (λ n. line_again (form.again n)) complete_ends refl
 
   -- what is read is what the line spells, and a refusal is the right one
-  pub form_found : (n : ℕ) (text : List Lexeme) (a : A) (o : Input) → complete n (at text 0) ≡ Ok (a, o) → Tells w n text (Ok a)
+  pub form_found : (n : ℕ) (text : List Lexeme) (a : A) (o : Input) → complete n (at text 0) ≡ Ok (a, o)
+      → Tells w n text (Ok a)
   form_found n text a o e = judged_as n text (Ok (a, o)) e
 
   pub form_refused : (n : ℕ) (text : List Lexeme) (f : Fault) → complete n (at text 0) ≡ Err f → Tells w n text (Err f)
   form_refused n text f e = judged_as n text (Err f) e
 
   -- what was made of the line, settled, is what its tokens tell
-  pub form_settled : (n : ℕ) (text : List Lexeme) (new : Input) (made : Result A (Stop Fault)) → cursor.Reads (complete n (at text 0)) made new → IfOk (settled_of made) (λ found. Tells w n text found)
+  pub form_settled : (n : ℕ) (text : List Lexeme) (new : Input) (made : Result A (Stop Fault))
+      → cursor.Reads (complete n (at text 0)) made new → IfOk (settled_of made) (λ found. Tells w n text found)
   form_settled n text new (Ok a) e = form_found n text a new e
   form_settled n text new (Err (stop.Fault f)) e = form_refused n text f e
   form_settled n text new (Err stop.NoMemory) e = tt

@@ -20,8 +20,10 @@ module _ (test : Lexeme → Bool) (l : Lexeme) (yes' : test l ≡ true) (only : 
   next_is false [] h = refl
   next_is false (j ∷ ls) h = sym (tested j false (test j) refl h.1 refl)
 
-pub sign_next : (x : Sign) (b : Bool) (ls : List Lexeme) → IsTrue b ↔ (first ls ≡ Some (lexeme.Sign x)) → b ≡ begins (is_sign x) ls
+pub sign_next : (x : Sign) (b : Bool) (ls : List Lexeme) → IsTrue b ↔ (first ls ≡ Some (lexeme.Sign x))
+    → b ≡ begins (is_sign x) ls
 sign_next x = next_is (is_sign x) (lexeme.Sign x) (eq-eqb (sign_number x) (sign_number x) refl) (λ j e. sign_is x j e)
 
-pub keyword_next : (x : Keyword) (b : Bool) (ls : List Lexeme) → IsTrue b ↔ (first ls ≡ Some (lexeme.Keyword x)) → b ≡ begins (is_keyword x) ls
+pub keyword_next : (x : Keyword) (b : Bool) (ls : List Lexeme) → IsTrue b ↔ (first ls ≡ Some (lexeme.Keyword x))
+    → b ≡ begins (is_keyword x) ls
 keyword_next x = next_is (is_keyword x) (lexeme.Keyword x) (eq-eqb (keyword_number x) (keyword_number x) refl) (λ j e. keyword_is x j e)

@@ -20,7 +20,8 @@ tail_same a b x y e = cc
 abbrev pub Split : {X : Type 0} → List X → List X → List X → List X → Type 0
 Split {X} x y r s = (z : List X) × (y ≡ x ++ z) × (r ≡ z ++ s)
 
-grown : {X : Type 0} (a b : X) (x y r s : List X) → a ≡ b → Split x y r s ⊎ Split y x s r → Split (a ∷ x) (b ∷ y) r s ⊎ Split (b ∷ y) (a ∷ x) s r
+grown : {X : Type 0} (a b : X) (x y r s : List X) → a ≡ b → Split x y r s ⊎ Split y x s r
+    → Split (a ∷ x) (b ∷ y) r s ⊎ Split (b ∷ y) (a ∷ x) s r
 grown a b x y r s e (inl h) = inl (h.0, ap (λ z. z ∷ y) (sym e) ∙ ap (λ z. a ∷ z) h.1, h.2)
 grown a b x y r s e (inr h) = inr (h.0, ap (λ z. z ∷ x) e ∙ ap (λ z. b ∷ z) h.1, h.2)
 
@@ -37,7 +38,8 @@ unfolding walk
 stuck j r e = opened (bracket_of j) (λ m. walk m r) e
 
 -- after a bracket too many
-blocked : (n : ℕ) (x : List Lexeme) (j : Lexeme) (r : List Lexeme) → walk n x ≡ Some 0 → IsOpening j → walk n (x ++ j ∷ r) ≡ None
+blocked : (n : ℕ) (x : List Lexeme) (j : Lexeme) (r : List Lexeme) → walk n x ≡ Some 0 → IsOpening j
+    → walk n (x ++ j ∷ r) ≡ None
 blocked n x j r e o = walk_append n x (j ∷ r) 0 e ∙ stuck j r o
 
 open_none : (o : Option ℕ) (m : ℕ) → o ≡ None → o ≡ Some m → ⊥
@@ -60,19 +62,22 @@ module _ {A : Type 0} (w : A → Pieces) (n : ℕ) (unique : (text : List Lexeme
   same_stop x y r s (k ∷ z) b h e f = absurd (subst (λ t. Stops w x t) f h (shorter x z k (subst (λ t. Begins w t) e b)))
 
   -- two brackets too many
-  same_bracket : (x y : List Lexeme) (j i : Lexeme) (r s z : List Lexeme) → walk n x ≡ Some 0 → IsOpening j → walk n y ≡ Some 0 → y ≡ x ++ z → j ∷ r ≡ z ++ (i ∷ s) → length r ≡ length s
+  same_bracket : (x y : List Lexeme) (j i : Lexeme) (r s z : List Lexeme) → walk n x ≡ Some 0 → IsOpening j
+      → walk n y ≡ Some 0 → y ≡ x ++ z → j ∷ r ≡ z ++ (i ∷ s) → length r ≡ length s
   same_bracket x y j i r s [] e o f g h = ap length (tail_same j i r s h)
   same_bracket x y j i r s (k ∷ z) e o f g h =
       absurd (open_none (walk n y) 0 (ap (λ t. walk n t) (g ∙ ap (λ t. x ++ t ∷ z) (sym (head_same j k r (z ++ (i ∷ s)) h))) ∙ blocked n x j z e o) f)
 
   -- a bracket too many before or at a token with which nothing is spelled
-  nested_first : (x y : List Lexeme) (j : Lexeme) (r s z : List Lexeme) (m : ℕ) → Begins w (x ++ j ∷ []) → walk n x ≡ Some 0 → IsOpening j → Stops w y s → walk n y ≡ Some m → y ≡ x ++ z → j ∷ r ≡ z ++ s → ⊥
+  nested_first : (x y : List Lexeme) (j : Lexeme) (r s z : List Lexeme) (m : ℕ) → Begins w (x ++ j ∷ [])
+      → walk n x ≡ Some 0 → IsOpening j → Stops w y s → walk n y ≡ Some m → y ≡ x ++ z → j ∷ r ≡ z ++ s → ⊥
   nested_first x y j r s [] m b e o h f g q = subst (λ t. Stops w x t) (sym q) (subst (λ t. Stops w t s) (g ∙ nil_right x) h) b
   nested_first x y j r s (k ∷ z) m b e o h f g q =
       open_none (walk n y) m (ap (λ t. walk n t) (g ∙ ap (λ t. x ++ t ∷ z) (sym (head_same j k r (z ++ s) q))) ∙ blocked n x j z e o) f
 
   -- and after it
-  stop_first : (x y : List Lexeme) (j : Lexeme) (r s z : List Lexeme) → Begins w (x ++ j ∷ []) → Stops w y s → x ≡ y ++ z → s ≡ z ++ (j ∷ r) → ⊥
+  stop_first : (x y : List Lexeme) (j : Lexeme) (r s z : List Lexeme) → Begins w (x ++ j ∷ []) → Stops w y s
+      → x ≡ y ++ z → s ≡ z ++ (j ∷ r) → ⊥
   stop_first x y j r s [] b h g q = subst (λ t. Stops w y t) q h (subst (λ t. Begins w (t ++ j ∷ [])) (g ∙ nil_right y) b)
   stop_first x y j r s (k ∷ z) b h g q =
       let e : (y ++ k ∷ z) ++ j ∷ [] ≡ y ++ k ∷ (z ++ j ∷ []) = append_assoc y (k ∷ z) (j ∷ []) in
@@ -81,14 +86,16 @@ module _ {A : Type 0} (w : A → Pieces) (n : ℕ) (unique : (text : List Lexeme
   found_nested : (text : List Lexeme) (l : ℕ) → walk n text ≡ Some n → Tells w n text (Err (TooNested l)) → ⊥
   found_nested text l e h = open_none (walk n text) n (ap (λ t. walk n t) h.3 ∙ blocked n h.0 h.1 h.2 h.6 h.7) e
 
-  never_both : (text : List Lexeme) (k l : ℕ) → Tells w n text (Err (Unexpected k)) → Tells w n text (Err (TooNested l)) → ⊥
+  never_both : (text : List Lexeme) (k l : ℕ) → Tells w n text (Err (Unexpected k)) → Tells w n text (Err (TooNested l))
+      → ⊥
   never_both text k l g h =
       elim (compared h.0 g.0 (h.1 ∷ h.2) g.1 (sym h.3 ∙ g.3)) [
         | inl s ↦ nested_first h.0 g.0 h.1 h.2 g.1 s.0 g.2 h.5 h.6 h.7 g.6 g.7 s.1 s.2
         | inr s ↦ stop_first h.0 g.0 h.1 h.2 g.1 s.0 h.5 g.6 s.1 s.2
       ]
 
-  both_unexpected : (text : List Lexeme) (k l : ℕ) → Tells w n text (Err (Unexpected k)) → Tells w n text (Err (Unexpected l)) → k ≡ l
+  both_unexpected : (text : List Lexeme) (k l : ℕ) → Tells w n text (Err (Unexpected k))
+      → Tells w n text (Err (Unexpected l)) → k ≡ l
   both_unexpected text k l g h =
       let same : length g.1 ≡ length h.1 = elim (compared g.0 h.0 g.1 h.1 (sym g.3 ∙ h.3)) [
         | inl s ↦ same_stop g.0 h.0 g.1 h.1 s.0 h.5 g.6 s.1 s.2
@@ -96,7 +103,8 @@ module _ {A : Type 0} (w : A → Pieces) (n : ℕ) (unique : (text : List Lexeme
       ] in
       sym g.4 ∙ same ∙ h.4
 
-  both_nested : (text : List Lexeme) (k l : ℕ) → Tells w n text (Err (TooNested k)) → Tells w n text (Err (TooNested l)) → k ≡ l
+  both_nested : (text : List Lexeme) (k l : ℕ) → Tells w n text (Err (TooNested k)) → Tells w n text (Err (TooNested l))
+      → k ≡ l
   both_nested text k l g h =
       let same : length g.2 ≡ length h.2 = elim (compared g.0 h.0 (g.1 ∷ g.2) (h.1 ∷ h.2) (sym g.3 ∙ h.3)) [
         | inl s ↦ same_bracket g.0 h.0 g.1 h.1 g.2 h.2 s.0 g.6 g.7 h.6 s.1 s.2

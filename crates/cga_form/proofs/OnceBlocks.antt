@@ -15,7 +15,8 @@ use Rattle.cga_form.proofs.Once.{compared}
 use Rattle.cga_form.proofs.OnceLines.{once_tokens}
 
 module _ {A : Type 0} (w : A → Pieces) (unique : (text : List Lexeme) (a b : A) → Spelled w text a → Spelled w text b → a ≡ b) where
-  once_said : (end : ℕ) (o : Result (List Token) LexFault) (f g : Found A) → unless_blank w end o f → unless_blank w end o g → f ≡ g
+  once_said : (end : ℕ) (o : Result (List Token) LexFault) (f g : Found A) → unless_blank w end o f
+      → unless_blank w end o g → f ≡ g
   once_said end (Err e) f g h k = h ∙ sym k
   once_said end (Ok []) f g h k = h ∙ sym k
   once_said end (Ok (t ∷ ts)) f g h k = h.2 ∙ ap as_line (once_tokens w unique end (Ok (t ∷ ts)) h.0 k.0 h.1 k.1) ∙ sym k.2
@@ -48,14 +49,18 @@ module _ {A : Type 0} (w : A → Pieces) (unique : (text : List Lexeme) (a b : A
       ap (λ z. z ∷ all) p ∙ ap (λ z. y ∷ z) (once_say lines all more h.1 k.1)
 
   -- a faulty line says nothing
-  says_none : (before : List Line) (l : Line) (after : List Line) (all : List (Option A)) (f : LineFault) → Say w (before ++ l ∷ after) all → BlockTells w l (Err f) → ⊥
+  says_none : (before : List Line) (l : Line) (after : List Line) (all : List (Option A)) (f : LineFault)
+      → Say w (before ++ l ∷ after) all → BlockTells w l (Err f) → ⊥
   unfolding Say
   says_none [] l after [] f h k = h
   says_none [] l after (x ∷ all) f h k = ok_err x f (once_block l (Ok x) (Err f) h.0 k)
   says_none (b ∷ before) l after [] f h k = h
   says_none (b ∷ before) l after (x ∷ all) f h k = says_none before l after all f h.1 k
 
-  first_fault : (before more : List Line) (l k : Line) (after rest z : List Line) (all : List (Option A)) (f g : LineFault) → BlockTells w l (Err f) → BlockTells w k (Err g) → Say w more all → more ≡ before ++ z → l ∷ after ≡ z ++ (k ∷ rest) →
+  first_fault : (before more : List Line) (l k : Line) (after rest z : List Line) (all : List (Option A))
+        (f g : LineFault)
+      → BlockTells w l (Err f) → BlockTells w k (Err g) → Say w more all → more ≡ before ++ z
+      → l ∷ after ≡ z ++ (k ∷ rest) →
       (length before ≡ length more) × (f ≡ g)
   first_fault before more l k after rest [] all f g h i s e q =
       let p : l ≡ k = cc in
@@ -67,17 +72,20 @@ module _ {A : Type 0} (w : A → Pieces) (unique : (text : List Lexeme) (a b : A
   same_fault : (a b : BlockFault) → a.line ≡ b.line → a.fault ≡ b.fault → a ≡ b
   same_fault a b e f = ap (λ z. record { line = z; fault = a.fault }) e ∙ ap (λ z. record { line = b.line; fault = z }) f
 
-  both_faulty : (lines : List Line) (a b : BlockFault) → IsFaulty w lines a → IsFaulty w lines b → (a.line ≡ b.line) × (a.fault ≡ b.fault)
+  both_faulty : (lines : List Line) (a b : BlockFault) → IsFaulty w lines a → IsFaulty w lines b
+      → (a.line ≡ b.line) × (a.fault ≡ b.fault)
   both_faulty lines a b h k =
       elim (compared h.0 k.0 (h.1 ∷ h.2) (k.1 ∷ k.2) (sym h.4 ∙ k.4)) [
         | inl s ↦ let t = first_fault h.0 k.0 h.1 k.1 h.2 k.2 s.0 k.3 a.fault b.fault h.6 k.6 k.5 s.1 s.2 in (h.7 ∙ ap (λ z. line_number (suc z)) t.0 ∙ sym k.7, t.1)
         | inr s ↦ let t = first_fault k.0 h.0 k.1 h.1 k.2 h.2 s.0 h.3 b.fault a.fault k.6 h.6 h.5 s.1 s.2 in (h.7 ∙ ap (λ z. line_number (suc z)) (sym t.0) ∙ sym k.7, sym t.1)
       ]
 
-  pub good_or_faulty : (lines : List Line) (all : List (Option A)) (f : BlockFault) → Say w lines all → IsFaulty w lines f → ⊥
+  pub good_or_faulty : (lines : List Line) (all : List (Option A)) (f : BlockFault) → Say w lines all
+      → IsFaulty w lines f → ⊥
   good_or_faulty lines all f h k = says_none k.0 k.1 k.2 all f.fault (subst (λ z. Say w z all) k.4 h) k.6
 
-  pub once_lines : {B : Type 0} (says : List (Option A) → B) (lines : List Line) (f g : Result B BlockFault) → AllTells w says lines f → AllTells w says lines g → f ≡ g
+  pub once_lines : {B : Type 0} (says : List (Option A) → B) (lines : List Line) (f g : Result B BlockFault)
+      → AllTells w says lines f → AllTells w says lines g → f ≡ g
   once_lines says lines (Ok a) (Ok b) h k = ap Ok (h.2 ∙ ap says (once_say lines h.0 k.0 h.1 k.1) ∙ sym k.2)
   once_lines says lines (Ok a) (Err b) h k = absurd (good_or_faulty lines h.0 b h.1 k)
   once_lines says lines (Err a) (Ok b) h k = absurd (good_or_faulty lines k.0 a k.1 h)

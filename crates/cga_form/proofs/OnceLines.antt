@@ -14,11 +14,13 @@ use Rattle.cga_form.proofs.Once.{one_telling}
 -- ---- one line
 
 module _ {A : Type 0} (w : A → Pieces) (unique : (text : List Lexeme) (a b : A) → Spelled w text a → Spelled w text b → a ≡ b) where
-  pub once_tokens : (end : ℕ) (o : Result (List Token) LexFault) (f g : Result A LineFault) → by_tokens w end o f → by_tokens w end o g → f ≡ g
+  pub once_tokens : (end : ℕ) (o : Result (List Token) LexFault) (f g : Result A LineFault) → by_tokens w end o f
+      → by_tokens w end o g → f ≡ g
   once_tokens end (Err e) f g h k = h ∙ sym k
   once_tokens end (Ok ts) f g h k = h.2 ∙ ap (λ z. with_place end ts z) (one_telling w 32 unique (map seen ts) h.0 k.0 h.1 k.1) ∙ sym k.2
 
-  once_length : (bytes : List ℕ) (b : Bool) (f g : Result A LineFault) → by_length w bytes b f → by_length w bytes b g → f ≡ g
+  once_length : (bytes : List ℕ) (b : Bool) (f g : Result A LineFault) → by_length w bytes b f → by_length w bytes b g
+      → f ≡ g
   once_length bytes true f g h k = h ∙ sym k
   once_length bytes false f g h k = once_tokens (length bytes + 1) (tokens_of bytes) f g h k
 

@@ -10,7 +10,7 @@ use Rattle.cga_fraction.specs.Refusals.{checked, quotient_of}
 use Rattle.cga_fraction.specs.Results.{or_err}
 use Rattle.cga_fraction.specs.declared.overflow.DivFault.TheVariants as fault
 use Rattle.cga_fraction.specs.declared.overflow.DivFault.{DivFault}
-use Rattle.cga_fraction.proofs.Lowest.{den-reduced, checked-in}
+use Rattle.cga_fraction.proofs.Door.{checked-in, den-reduced}
 
 small_num : (m e : ℕ) → m ≤ 2 ^ 62 → unsigned_abs (reduced (pos m) e).num ≤ 2 ^ 62
 unfolding reduced
@@ -26,12 +26,14 @@ divided_is n k =
     let f : 1 * (k + 1) ≡ suc k = omega arith in
     ap (λ z. reduced z (1 * (k + 1))) e ∙ ap (λ z. reduced (pos n) z) f
 
-in_range : (n k : ℕ) → n ≤ 2 ^ 62 → suc k ≤ 2 ^ 62 → checked (divided (of_int (pos n)) (of_int (pos (suc k)))) ≡ Ok (divided (of_int (pos n)) (of_int (pos (suc k))))
+in_range : (n k : ℕ) → n ≤ 2 ^ 62 → suc k ≤ 2 ^ 62
+    → checked (divided (of_int (pos n)) (of_int (pos (suc k)))) ≡ Ok (divided (of_int (pos n)) (of_int (pos (suc k))))
 in_range n k a b =
     let e = divided_is n k in
     subst (λ r. checked r ≡ Ok r) (sym e) (checked-in (reduced (pos n) (suc k)) (small_num n (suc k) a) (small_den n (suc k) (omega arith) b))
 
-quotient_is : (n d : ℕ) → n ≤ 2 ^ 62 → 0 < d → d ≤ 2 ^ 62 → quotient_of (of_int (pos n)) (of_int (pos d)) ≡ Ok (divided (of_int (pos n)) (of_int (pos d)))
+quotient_is : (n d : ℕ) → n ≤ 2 ^ 62 → 0 < d → d ≤ 2 ^ 62
+    → quotient_of (of_int (pos n)) (of_int (pos d)) ≡ Ok (divided (of_int (pos n)) (of_int (pos d)))
 unfolding quotient_of
 quotient_is n zero a p b = absurd (omega arith)
 quotient_is n (suc k) a p b = ap (or_err fault.Overflow) (in_range n k a b)

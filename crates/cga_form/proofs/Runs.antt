@@ -1,21 +1,29 @@
 -- What a reader does on a text: it takes a front of it, and gives the same however the text goes on after the next token.
-use Rattle.std.proofs.Common.{◌≡◌, ℕ, zero, suc, ◌+◌, ◌-◌, Bool, true, false, List, [], ◌∷◌, ◌++◌, length, append_assoc, ◌≤◌, ◌<◌, length-append, refl, sym, ap, ◌∙◌, Option, Some, None, Ok, Err, if◌then◌else◌, cond, arith}
+use Rattle.std.proofs.Common.{◌≡◌, ℕ, zero, suc, ◌+◌, ◌-◌, Bool, true, false, List, [], ◌∷◌, ◌++◌, length}
+use Rattle.std.proofs.Common.{append_assoc, ◌≤◌, ◌<◌, length-append, refl, sym, ap, ◌∙◌, Option, Some, None, Ok, Err}
+use Rattle.std.proofs.Common.{if◌then◌else◌, cond, arith}
 use Rattle.cga_syntax.specs.declared.lexeme.Lexeme.{Lexeme}
 use Rattle.cga_form.specs.declared.fault.Fault.TheVariants.{Unexpected, TooNested}
-use Rattle.cga_form.specs.Reader.{Input, at, ReadResult, Reader, and_then, ◌>>=◌, pure, refuse, first, decoded, taking, single, entering, enter, drawing, drawn_word, peeked, begins, many_from, many_after, many}
+use Rattle.cga_form.specs.Reader.{Input, at, ReadResult, Reader, and_then, ◌>>=◌, pure, refuse, first, decoded}
+use Rattle.cga_form.specs.Reader.{taking, single, entering, enter, drawing, drawn_word, peeked, begins, many_from}
+use Rattle.cga_form.specs.Reader.{many_after, many}
 pub use Rattle.cga_form.specs.Laws.{Language, Verdict, found, unexpected, nested, told, Means, Run, Exact, Some_text}
 use Rattle.cga_syntax.specs.Brackets.{walk, counted, walk_on, bracket_of, opens}
+use Rattle.cga_fraction.proofs.Door.{append-nil_back as append_nil}
 
 pub first_same : (x r b : List Lexeme) → first b ≡ first r → first (x ++ b) ≡ first (x ++ r)
 first_same [] r b e = e
 first_same (k ∷ x) r b e = refl
 
-weaker_means : {A : Type 0} {L M : Language A} (n m : ℕ) → ((c : ℕ) (x : List Lexeme) (a : A) (d : ℕ) → L c x a d → M c x a d) → (c : ℕ) (x r : List Lexeme) (v : Verdict A) → Means n m L c x r v → Means n m M c x r v
+weaker_means : {A : Type 0} {L M : Language A} (n m : ℕ)
+    → ((c : ℕ) (x : List Lexeme) (a : A) (d : ℕ) → L c x a d → M c x a d) → (c : ℕ) (x r : List Lexeme) (v : Verdict A)
+    → Means n m L c x r v → Means n m M c x r v
 weaker_means n m h c x r (found a d) w = (h c x a d w.0, w.1)
 weaker_means n m h c x r unexpected w = (w.0, w.1, w.2, w.3, h c _ _ _ w.4, w.5)
 weaker_means n m h c x r nested w = (w.0, w.1, w.2, w.3, h c _ _ _ w.4, w.5, w.6, w.7)
 
-pub weaker : {A : Type 0} {L M : Language A} {p : Reader A} (n m : ℕ) → ((c : ℕ) (x : List Lexeme) (a : A) (d : ℕ) → L c x a d → M c x a d) → Exact n m L p → Exact n m M p
+pub weaker : {A : Type 0} {L M : Language A} {p : Reader A} (n m : ℕ)
+    → ((c : ℕ) (x : List Lexeme) (a : A) (d : ℕ) → L c x a d → M c x a d) → Exact n m L p → Exact n m M p
 weaker n m h e c text =
     let r = e c text in
     record { front = r.front; rest = r.rest; verdict = r.verdict; split = r.split; same = r.same; means = weaker_means n m h c r.front r.rest r.verdict r.means }
@@ -33,7 +41,8 @@ refuse_runs n m some c text = let s = some c in record { front = []; rest = text
 abbrev pub Seq : {A B : Type 0} → Language A → (A → Language B) → Language B
 Seq {A} L M c z b d = (x : List Lexeme) × (y : List Lexeme) × (a : A) × (e : ℕ) × (z ≡ x ++ y) × L c x a e × M a e y b d
 
-walk_step : (x y : List Lexeme) (m : ℕ) (o : Option ℕ) → ((j : ℕ) → walk j x ≡ Some m → walk j (x ++ y) ≡ walk m y) → walk_on (λ j. walk j x) o ≡ Some m → walk_on (λ j. walk j (x ++ y)) o ≡ walk m y
+walk_step : (x y : List Lexeme) (m : ℕ) (o : Option ℕ) → ((j : ℕ) → walk j x ≡ Some m → walk j (x ++ y) ≡ walk m y)
+    → walk_on (λ j. walk j x) o ≡ Some m → walk_on (λ j. walk j (x ++ y)) o ≡ walk m y
 walk_step x y m None h e = cc
 walk_step x y m (Some j) h e = h j e
 
@@ -44,12 +53,15 @@ walk_append n (k ∷ x) y m e = walk_step x y m (counted (bracket_of k) n) (λ j
 
 module _ {A B : Type 0} (L : Language A) (M : A → Language B) (n m l : ℕ) (p : Reader A) (f : A → Reader B)
     (some : (a : A) → Some_text (M a)) where
-  next_means : (c : ℕ) (x y r : List Lexeme) (a : A) (d : ℕ) → L c x a d → walk n x ≡ Some m → (v : Verdict B) → Means m l (M a) d y r v → Means n l (Seq L M) c (x ++ y) r v
+  next_means : (c : ℕ) (x y r : List Lexeme) (a : A) (d : ℕ) → L c x a d → walk n x ≡ Some m → (v : Verdict B)
+      → Means m l (M a) d y r v → Means n l (Seq L M) c (x ++ y) r v
   next_means c x y r a d h e (found b j) w = ((x, y, a, d, refl, h, w.0), walk_append n x y m e ∙ w.1)
   next_means c x y r a d h e unexpected w = (w.0, w.1, w.2, w.3, (x, y ++ w.0, a, d, append_assoc x y w.0, h, w.4), walk_append n x y m e ∙ w.5)
   next_means c x y r a d h e nested w = (w.0, w.1, w.2, w.3, (x, y ++ w.0 ∷ w.1, a, d, append_assoc x y (w.0 ∷ w.1), h, w.4), walk_append n x y m e ∙ w.5, w.6, w.7)
 
-  after : (c : ℕ) (text x r : List Lexeme) (v : Verdict A) → text ≡ x ++ r → ((b : List Lexeme) → first b ≡ first r → p (at (x ++ b) c) ≡ told v b) → Means n m L c x r v → ((a : A) (d : ℕ) → L c x a d → Run m l (M a) (f a) d r) → Run n l (Seq L M) (p >>= f) c text
+  after : (c : ℕ) (text x r : List Lexeme) (v : Verdict A) → text ≡ x ++ r
+      → ((b : List Lexeme) → first b ≡ first r → p (at (x ++ b) c) ≡ told v b) → Means n m L c x r v
+      → ((a : A) (d : ℕ) → L c x a d → Run m l (M a) (f a) d r) → Run n l (Seq L M) (p >>= f) c text
   after c text x r (found a d) s same w second =
       let t = second a d w.0 in
       record {
@@ -83,7 +95,8 @@ module _ {A B : Type 0} (L : Language A) (M : A → Language B) (n m l : ℕ) (p
         means = (w.0, w.1 ++ t.0, t.1, t.2, (x ++ w.0 ∷ w.1, t.0, w.2, w.3, sym (append_assoc x (w.0 ∷ w.1) t.0), w.4, t.3), w.5, w.6, w.7);
       }
 
-  pub bind_run : (c : ℕ) (text : List Lexeme) → (t : Run n m L p c text) → ((a : A) (d : ℕ) → L c t.front a d → Run m l (M a) (f a) d t.rest) → Run n l (Seq L M) (p >>= f) c text
+  pub bind_run : (c : ℕ) (text : List Lexeme) → (t : Run n m L p c text)
+      → ((a : A) (d : ℕ) → L c t.front a d → Run m l (M a) (f a) d t.rest) → Run n l (Seq L M) (p >>= f) c text
   bind_run c text r second = after c text r.front r.rest r.verdict r.split r.same r.means second
 
   pub bind_runs : ((a : A) → Exact m l (M a) (f a)) → Exact n m L p → Exact n l (Seq L M) (p >>= f)
@@ -104,7 +117,8 @@ module _ {A : Type 0} (L : Language A) (n m : ℕ) (decode : Lexeme → Option A
   }
 
   module _ (fine : (l : Lexeme) (a : A) → decode l ≡ Some a → ((c : ℕ) → L c (l ∷ []) a c) × (counted (bracket_of l) n ≡ Some m)) where
-    one_runs : (c : ℕ) (l : Lexeme) (ls : List Lexeme) (o : Option A) → decode l ≡ o → Run n m L (single decode) c (l ∷ ls)
+    one_runs : (c : ℕ) (l : Lexeme) (ls : List Lexeme) (o : Option A) → decode l ≡ o
+        → Run n m L (single decode) c (l ∷ ls)
     unfolding walk
     one_runs c l ls None e = none_runs c (l ∷ ls) e
     one_runs c l ls (Some a) e = record {
@@ -134,7 +148,8 @@ module _ (L : Language (Unit {0})) (decode : Lexeme → Option (Unit {0})) (some
   }
 
   module _ (fine : (l : Lexeme) → decode l ≡ Some tt → ((c : ℕ) → L c (l ∷ []) tt c) × (bracket_of l ≡ opens)) where
-    open_runs : (n c : ℕ) (l : Lexeme) (ls : List Lexeme) (o : Option (Unit {0})) → decode l ≡ o → Run n (n - 1) L (enter decode n) c (l ∷ ls)
+    open_runs : (n c : ℕ) (l : Lexeme) (ls : List Lexeme) (o : Option (Unit {0})) → decode l ≡ o
+        → Run n (n - 1) L (enter decode n) c (l ∷ ls)
     unfolding walk
     open_runs n c l ls None e = shut_runs n (n - 1) c (l ∷ ls) e
     open_runs zero c l ls (Some u) e = record {
@@ -161,7 +176,8 @@ module _ (L : Language (Unit {0})) (decode : Lexeme → Option (Unit {0})) (some
 -- where no bracket may be opened, what follows one is never read
 module _ {A : Type 0} (L : Language A) (m : ℕ) (decode : Lexeme → Option (Unit {0})) (q : Reader A) (some : Some_text L)
     (fine : (l : Lexeme) → decode l ≡ Some tt → ((c : ℕ) → (x : List Lexeme) × (a : A) × (d : ℕ) × L c (l ∷ x) a d) × (bracket_of l ≡ opens)) where
-  unopened_runs : (c : ℕ) (text : List Lexeme) → decoded decode (first text) ≡ None → Run 0 m L (enter decode 0 >>= λ _. q) c text
+  unopened_runs : (c : ℕ) (text : List Lexeme) → decoded decode (first text) ≡ None
+      → Run 0 m L (enter decode 0 >>= λ _. q) c text
   unfolding walk
   unopened_runs c text e = let t = some c in record {
     front = [];
@@ -172,7 +188,8 @@ module _ {A : Type 0} (L : Language A) (m : ℕ) (decode : Lexeme → Option (Un
     means = (t.0, t.1, t.2, 0, t.3, refl);
   }
 
-  full_runs : (c : ℕ) (l : Lexeme) (ls : List Lexeme) (o : Option (Unit {0})) → decode l ≡ o → Run 0 m L (enter decode 0 >>= λ _. q) c (l ∷ ls)
+  full_runs : (c : ℕ) (l : Lexeme) (ls : List Lexeme) (o : Option (Unit {0})) → decode l ≡ o
+      → Run 0 m L (enter decode 0 >>= λ _. q) c (l ∷ ls)
   unfolding walk
   full_runs c l ls None e = unopened_runs c (l ∷ ls) e
   full_runs c l ls (Some u) e = let t = (fine l e).0 c in record {
@@ -191,7 +208,8 @@ module _ {A : Type 0} (L : Language A) (m : ℕ) (decode : Lexeme → Option (Un
 -- the word of a rand
 module _ (L : Language ℕ) (n : ℕ) (decode : Lexeme → Option (Unit {0})) (some : Some_text L)
     (fine : (l : Lexeme) → decode l ≡ Some tt → ((c : ℕ) → L c (l ∷ []) (c + 1) (c + 1)) × (counted (bracket_of l) n ≡ Some n)) where
-  undrawn_runs : (c : ℕ) (text : List Lexeme) → decoded decode (first text) ≡ None → Run n n L (drawn_word decode) c text
+  undrawn_runs : (c : ℕ) (text : List Lexeme) → decoded decode (first text) ≡ None
+      → Run n n L (drawn_word decode) c text
   unfolding walk
   undrawn_runs c text e = let t = some c in record {
     front = [];
@@ -202,7 +220,8 @@ module _ (L : Language ℕ) (n : ℕ) (decode : Lexeme → Option (Unit {0})) (s
     means = (t.0, t.1, t.2, n, t.3, refl);
   }
 
-  draw_runs : (c : ℕ) (l : Lexeme) (ls : List Lexeme) (o : Option (Unit {0})) → decode l ≡ o → Run n n L (drawn_word decode) c (l ∷ ls)
+  draw_runs : (c : ℕ) (l : Lexeme) (ls : List Lexeme) (o : Option (Unit {0})) → decode l ≡ o
+      → Run n n L (drawn_word decode) c (l ∷ ls)
   unfolding walk
   draw_runs c l ls None e = undrawn_runs c (l ∷ ls) e
   draw_runs c l ls (Some u) e = record {
@@ -233,15 +252,14 @@ same_begins test [] (k ∷ r) e = absurd (cc)
 same_begins test (j ∷ b) [] e = absurd (cc)
 same_begins test (j ∷ b) (k ∷ r) e = let p : j ≡ k = cc in ap test p
 
-append_nil : {A : Type 0} (xs : List A) → xs ≡ xs ++ []
-append_nil [] = refl
-append_nil (x ∷ xs) = ap (λ z. x ∷ z) (append_nil xs)
-
-weaker_run : {A : Type 0} {L M : Language A} {p : Reader A} (n m : ℕ) → ((c : ℕ) (x : List Lexeme) (a : A) (d : ℕ) → L c x a d → M c x a d) → (c : ℕ) (text : List Lexeme) → Run n m L p c text → Run n m M p c text
+weaker_run : {A : Type 0} {L M : Language A} {p : Reader A} (n m : ℕ)
+    → ((c : ℕ) (x : List Lexeme) (a : A) (d : ℕ) → L c x a d → M c x a d) → (c : ℕ) (text : List Lexeme)
+    → Run n m L p c text → Run n m M p c text
 weaker_run n m h c text r = record { front = r.front; rest = r.rest; verdict = r.verdict; split = r.split; same = r.same; means = weaker_means n m h c r.front r.rest r.verdict r.means }
 
 -- the same reader by another name
-renamed : {A : Type 0} {L : Language A} {p q : Reader A} (n m c : ℕ) (text : List Lexeme) → ((i : Input) → q i ≡ p i) → Run n m L p c text → Run n m L q c text
+renamed : {A : Type 0} {L : Language A} {p q : Reader A} (n m c : ℕ) (text : List Lexeme) → ((i : Input) → q i ≡ p i)
+    → Run n m L p c text → Run n m L q c text
 renamed n m c text e r = record { front = r.front; rest = r.rest; verdict = r.verdict; split = r.split; same = λ b h. e (at (r.front ++ b) c) ∙ r.same b h; means = r.means }
 
 ok_input : {A : Type 0} {a b : A} {i o : Input} → ◌≡◌ {A = ReadResult A} (Ok (a, i)) (Ok (b, o)) → i ≡ o
@@ -252,10 +270,12 @@ module _ {A : Type 0} (L : Language A) (n : ℕ) (test : Lexeme → Bool) (p : R
   abbrev turn : (List A → Reader (List A)) → List A → Reader (List A)
   turn go so_far = λ i. if begins test i.left then (p >>= λ x. go (so_far ++ x ∷ [])) i else Ok (so_far, i)
 
-  grown_more : (so_far : List A) (c : ℕ) (x : List Lexeme) (out : List A) (d : ℕ) → Seq L (λ a. Grown L (so_far ++ a ∷ [])) c x out d → Grown L so_far c x out d
+  grown_more : (so_far : List A) (c : ℕ) (x : List Lexeme) (out : List A) (d : ℕ)
+      → Seq L (λ a. Grown L (so_far ++ a ∷ [])) c x out d → Grown L so_far c x out d
   grown_more so_far c x out d w = (w.2 ∷ w.6.0, w.6.1 ∙ append_assoc so_far (w.2 ∷ []) w.6.0, (w.0, w.1, w.3, w.4, w.5, w.6.2))
 
-  stopping : (go : List A → Reader (List A)) (so_far : List A) (c : ℕ) (text : List Lexeme) → begins test text ≡ false → Run n n (Grown L so_far) (turn go so_far) c text
+  stopping : (go : List A → Reader (List A)) (so_far : List A) (c : ℕ) (text : List Lexeme) → begins test text ≡ false
+      → Run n n (Grown L so_far) (turn go so_far) c text
   unfolding walk
   stopping go so_far c text e = record {
     front = [];
@@ -268,7 +288,9 @@ module _ {A : Type 0} (L : Language A) (n : ℕ) (test : Lexeme → Bool) (p : R
     means = (([], append_nil so_far, (refl, refl)), refl);
   }
 
-  looked : (go : List A → Reader (List A)) (so_far : List A) (c : ℕ) (text : List Lexeme) → Run n n (Grown L so_far) (p >>= λ x. go (so_far ++ x ∷ [])) c text → (b : Bool) → begins test text ≡ b → Run n n (Grown L so_far) (turn go so_far) c text
+  looked : (go : List A → Reader (List A)) (so_far : List A) (c : ℕ) (text : List Lexeme)
+      → Run n n (Grown L so_far) (p >>= λ x. go (so_far ++ x ∷ [])) c text → (b : Bool) → begins test text ≡ b
+      → Run n n (Grown L so_far) (turn go so_far) c text
   unfolding walk
   looked go so_far c text t true e =
       record {
@@ -301,13 +323,15 @@ module _ {A : Type 0} (L : Language A) (n : ℕ) (test : Lexeme → Bool) (p : R
   abbrev pub Limited : ℕ → List A → Language (List A)
   Limited most so_far c x out d = (new : List A) × (out ≡ so_far ++ new) × Each L c x new d × (length new ≤ most)
 
-  limited_more : (most : ℕ) (so_far : List A) (c : ℕ) (x : List Lexeme) (out : List A) (d : ℕ) → Seq L (λ a. Limited most (so_far ++ a ∷ [])) c x out d → Limited (suc most) so_far c x out d
+  limited_more : (most : ℕ) (so_far : List A) (c : ℕ) (x : List Lexeme) (out : List A) (d : ℕ)
+      → Seq L (λ a. Limited most (so_far ++ a ∷ [])) c x out d → Limited (suc most) so_far c x out d
   limited_more most so_far c x out d w = (w.2 ∷ w.6.0, w.6.1 ∙ append_assoc so_far (w.2 ∷ []) w.6.0, (w.0, w.1, w.3, w.4, w.5, w.6.2), let h = w.6.3 in omega arith)
 
   limited_none : (most : ℕ) (so_far : List A) (c : ℕ) → Limited most so_far c [] so_far c
   limited_none most so_far c = ([], append_nil so_far, (refl, refl), omega arith)
 
-  limited_stop : (most : ℕ) (go : List A → Reader (List A)) (so_far : List A) (c : ℕ) (text : List Lexeme) → begins test text ≡ false → Run n n (Limited most so_far) (turn go so_far) c text
+  limited_stop : (most : ℕ) (go : List A → Reader (List A)) (so_far : List A) (c : ℕ) (text : List Lexeme)
+      → begins test text ≡ false → Run n n (Limited most so_far) (turn go so_far) c text
   unfolding walk
   limited_stop most go so_far c text e = record {
     front = [];
@@ -320,7 +344,9 @@ module _ {A : Type 0} (L : Language A) (n : ℕ) (test : Lexeme → Bool) (p : R
     means = (limited_none most so_far c, refl);
   }
 
-  limited_turn : (most : ℕ) (go : List A → Reader (List A)) (so_far : List A) (c : ℕ) (text : List Lexeme) → Run n n (Limited most so_far) (p >>= λ x. go (so_far ++ x ∷ [])) c text → (b : Bool) → begins test text ≡ b → Run n n (Limited most so_far) (turn go so_far) c text
+  limited_turn : (most : ℕ) (go : List A → Reader (List A)) (so_far : List A) (c : ℕ) (text : List Lexeme)
+      → Run n n (Limited most so_far) (p >>= λ x. go (so_far ++ x ∷ [])) c text → (b : Bool) → begins test text ≡ b
+      → Run n n (Limited most so_far) (turn go so_far) c text
   limited_turn most go so_far c text t true e =
       record {
         front = t.front;
@@ -348,7 +374,8 @@ module _ {A : Type 0} (L : Language A) (n : ℕ) (test : Lexeme → Bool) (p : R
       (begins test text) refl
 
   module _ (long : (c : ℕ) (x : List Lexeme) (a : A) (d : ℕ) → L c x a d → 1 ≤ length x) where
-    is_found : (c : ℕ) (x r : List Lexeme) (v : Verdict A) (a : A) (o : Input) → Means n n L c x r v → told v r ≡ Ok (a, o) → (1 ≤ length x) × (o.left ≡ r)
+    is_found : (c : ℕ) (x r : List Lexeme) (v : Verdict A) (a : A) (o : Input) → Means n n L c x r v
+        → told v r ≡ Ok (a, o) → (1 ≤ length x) × (o.left ≡ r)
     is_found c x r (found b d) a o w e = (long c x b d w.0, let q : at r d ≡ o = ok_input e in sym (ap (λ (z : Input). z.left) q))
     is_found c x r unexpected a o w e = absurd (let q : Err (Unexpected (length r)) ≡ Ok (a, o) = e in cc)
     is_found c x r nested a o w e = absurd (let q : Err (TooNested (length r)) ≡ Ok (a, o) = e in cc)
@@ -359,7 +386,8 @@ module _ {A : Type 0} (L : Language A) (n : ℕ) (test : Lexeme → Bool) (p : R
         let g = is_found i.count t.front t.rest t.verdict a o t.means (sym (t.same t.rest refl) ∙ ap (λ z. p (at z i.count)) (sym t.split) ∙ e) in
         omega (arith, g.0, ap length g.1, ap length t.split, length-append t.front t.rest)
 
-    over : (j : ℕ) (so_far : List A) (i : Input) → begins test i.left ≡ false → many_from test p j so_far i ≡ Ok (so_far, i)
+    over : (j : ℕ) (so_far : List A) (i : Input) → begins test i.left ≡ false
+        → many_from test p j so_far i ≡ Ok (so_far, i)
     unfolding many_from
     over zero so_far i e = refl
     over (suc j) so_far i e = ap (λ z. cond z ((p >>= λ x. many_from test p j (so_far ++ x ∷ [])) i) (Ok (so_far, i))) e
@@ -369,25 +397,33 @@ module _ {A : Type 0} (L : Language A) (n : ℕ) (test : Lexeme → Bool) (p : R
     empty_begins (k ∷ ks) h = absurd (omega arith)
 
     enough_then : (j l : ℕ) (so_far : List A) (i : Input) → length i.left ≤ suc j → length i.left ≤ suc l →
-        ((q : List A) (o : Input) → length o.left ≤ j → length o.left ≤ l → many_from test p j q o ≡ many_from test p l q o) →
-        (o : ReadResult A) → p i ≡ o → and_then o (λ x. many_from test p j (so_far ++ x ∷ [])) ≡ and_then o (λ x. many_from test p l (so_far ++ x ∷ []))
+        ((q : List A) (o : Input) → length o.left ≤ j → length o.left ≤ l → many_from test p j q o ≡ many_from test p l q o)
+            →
+        (o : ReadResult A) → p i ≡ o
+            → and_then o (λ x. many_from test p j (so_far ++ x ∷ [])) ≡ and_then o (λ x. many_from test p l (so_far ++ x ∷ []))
     enough_then j l so_far i a b h (Ok q) e = h (so_far ++ q.0 ∷ []) q.1 (omega (arith, shortens i q.0 q.1 e)) (omega (arith, shortens i q.0 q.1 e))
     enough_then j l so_far i a b h (Err f) e = refl
 
-    enough_turn : (j l : ℕ) (so_far : List A) (i : Input) → (p >>= λ x. many_from test p j (so_far ++ x ∷ [])) i ≡ (p >>= λ x. many_from test p l (so_far ++ x ∷ [])) i → many_from test p (suc j) so_far i ≡ many_from test p (suc l) so_far i
+    enough_turn : (j l : ℕ) (so_far : List A) (i : Input)
+        → (p >>= λ x. many_from test p j (so_far ++ x ∷ [])) i ≡ (p >>= λ x. many_from test p l (so_far ++ x ∷ [])) i
+        → many_from test p (suc j) so_far i ≡ many_from test p (suc l) so_far i
     unfolding many_from
     enough_turn j l so_far i e = ap (λ z. cond (begins test i.left) z (Ok (so_far, i))) e
 
-    enough : (j l : ℕ) (so_far : List A) (i : Input) → length i.left ≤ j → length i.left ≤ l → many_from test p j so_far i ≡ many_from test p l so_far i
+    enough : (j l : ℕ) (so_far : List A) (i : Input) → length i.left ≤ j → length i.left ≤ l
+        → many_from test p j so_far i ≡ many_from test p l so_far i
     enough zero l so_far i a b = over zero so_far i (empty_begins i.left a) ∙ sym (over l so_far i (empty_begins i.left a))
     enough (suc j) zero so_far i a b = over (suc j) so_far i (empty_begins i.left b) ∙ sym (over zero so_far i (empty_begins i.left b))
     enough (suc j) (suc l) so_far i a b = enough_turn j l so_far i (enough_then j l so_far i a b (λ q o x y. enough j l q o x y) (p i) refl)
 
-    unroll_once : (j : ℕ) (so_far : List A) (i : Input) → many_from test p (suc j) so_far i ≡ turn (many_from test p j) so_far i
+    unroll_once : (j : ℕ) (so_far : List A) (i : Input)
+        → many_from test p (suc j) so_far i ≡ turn (many_from test p j) so_far i
     unfolding many_from
     unroll_once j so_far i = refl
 
-    unroll_then : (so_far : List A) (i : Input) (o : ReadResult A) → p i ≡ o → and_then o (λ x. many_from test p (length i.left) (so_far ++ x ∷ [])) ≡ and_then o (λ x. many_after test p (so_far ++ x ∷ []))
+    unroll_then : (so_far : List A) (i : Input) (o : ReadResult A) → p i ≡ o
+        → and_then o (λ x. many_from test p (length i.left) (so_far ++ x ∷ [])) ≡ and_then o
+          (λ x. many_after test p (so_far ++ x ∷ []))
     unroll_then so_far i (Ok q) e = enough (length i.left) (length q.1.left) (so_far ++ q.0 ∷ []) q.1 (omega (arith, shortens i q.0 q.1 e)) (omega arith)
     unroll_then so_far i (Err f) e = refl
 
@@ -398,7 +434,8 @@ module _ {A : Type 0} (L : Language A) (n : ℕ) (test : Lexeme → Bool) (p : R
         ∙ unroll_once (length i.left) so_far i
         ∙ ap (λ z. cond (begins test i.left) z (Ok (so_far, i))) (unroll_then so_far i (p i) refl)
 
-    many_after_runs : (size : ℕ) (so_far : List A) (c : ℕ) (text : List Lexeme) → length text ≤ size → Run n n (Grown L so_far) (many_after test p so_far) c text
+    many_after_runs : (size : ℕ) (so_far : List A) (c : ℕ) (text : List Lexeme) → length text ≤ size
+        → Run n n (Grown L so_far) (many_after test p so_far) c text
     many_after_runs zero so_far c text h = renamed n n c text (unroll so_far) (stopping (many_after test p) so_far c text (empty_begins text h))
     many_after_runs (suc size) so_far c text h =
         renamed n n c text (unroll so_far)
@@ -415,7 +452,8 @@ module _ {A : Type 0} (L : Language A) (n : ℕ) (test : Lexeme → Bool) (p : R
 
 -- ---- a choice by the next token
 module _ {A : Type 0} (L : Language A) (n m : ℕ) (test : Lexeme → Bool) (p q : Reader A) where
-  by_test : (c : ℕ) (text : List Lexeme) → Run n m L p c text → Run n m L q c text → (b : Bool) → begins test text ≡ b → Run n m L (peeked test p q) c text
+  by_test : (c : ℕ) (text : List Lexeme) → Run n m L p c text → Run n m L q c text → (b : Bool) → begins test text ≡ b
+      → Run n m L (peeked test p q) c text
   by_test c text t u true e = record {
     front = t.front;
     rest = t.rest;

@@ -16,6 +16,7 @@ use Rattle.cga_syntax.specs.Brackets.{counted, bracket_of, bracket_of_sign, open
 use Rattle.cga_form.specs.Tokens.{sign_number, keyword_number, is_sign, is_keyword, passing, a_sign, a_keyword, unless, when, a_name, whole_of, whole_parts, bounded, a_whole, a_number, is_word}
 use Rattle.cga_form.specs.Parts.{a_word}
 use Rattle.cga_form.proofs.Forms.{Token, Opening}
+use Rattle.std.proofs.lemmas.Bool.{and_parts as both}
 
 sign_at : ℕ → Sign
 sign_at n =
@@ -136,21 +137,24 @@ a_keyword_is x l a e = keyword_is x l (passed (is_keyword x l) a e)
 abbrev pub as_token : Space → Lexeme → Unit {0} → Pieces
 as_token sp l _ = token sp l ∷ []
 
-pub sign_token : (sp : Space) (x : Sign) (n m : ℕ) → a_sign x (lexeme.Sign x) ≡ Some tt → counted (bracket_of_sign x) n ≡ Some m → Token n m (as_token sp (lexeme.Sign x)) (a_sign x)
+pub sign_token : (sp : Space) (x : Sign) (n m : ℕ) → a_sign x (lexeme.Sign x) ≡ Some tt
+    → counted (bracket_of_sign x) n ≡ Some m → Token n m (as_token sp (lexeme.Sign x)) (a_sign x)
 sign_token sp x n m r h = record {
   means = λ l a e. (sp, ap (λ z. token sp z ∷ []) (sym (a_sign_is x l a e)));
   counts = λ l a e. ap (λ z. counted (bracket_of z) n) (a_sign_is x l a e) ∙ h;
   some = (lexeme.Sign x, tt, r);
 }
 
-pub keyword_token : (x : Keyword) (n : ℕ) → a_keyword x (lexeme.Keyword x) ≡ Some tt → Token n n (as_token Usual (lexeme.Keyword x)) (a_keyword x)
+pub keyword_token : (x : Keyword) (n : ℕ) → a_keyword x (lexeme.Keyword x) ≡ Some tt
+    → Token n n (as_token Usual (lexeme.Keyword x)) (a_keyword x)
 keyword_token x n r = record {
   means = λ l a e. (Usual, ap (λ z. token Usual z ∷ []) (sym (a_keyword_is x l a e)));
   counts = λ l a e. ap (λ z. counted (bracket_of z) n) (a_keyword_is x l a e);
   some = (lexeme.Keyword x, tt, r);
 }
 
-pub opening : (x : Sign) → a_sign x (lexeme.Sign x) ≡ Some tt → bracket_of_sign x ≡ opens → Opening (as_token Usual (lexeme.Sign x)) (a_sign x)
+pub opening : (x : Sign) → a_sign x (lexeme.Sign x) ≡ Some tt → bracket_of_sign x ≡ opens
+    → Opening (as_token Usual (lexeme.Sign x)) (a_sign x)
 opening x r h = record {
   means = λ l e. (Usual, ap (λ z. token Usual z ∷ []) (sym (a_sign_is x l tt e)));
   is = λ l e. ap bracket_of (a_sign_is x l tt e) ∙ h;
@@ -160,7 +164,9 @@ opening x r h = record {
 -- ---- names and numbers
 
 -- a token that a value determines
-pub by_token : {A : Type 0} (sp : Space) (enc : A → Lexeme) (decode : Lexeme → Option A) (n : ℕ) → ((l : Lexeme) (a : A) → decode l ≡ Some a → l ≡ enc a) → ((a : A) → counted (bracket_of (enc a)) n ≡ Some n) → (a : A) → decode (enc a) ≡ Some a →
+pub by_token : {A : Type 0} (sp : Space) (enc : A → Lexeme) (decode : Lexeme → Option A) (n : ℕ)
+    → ((l : Lexeme) (a : A) → decode l ≡ Some a → l ≡ enc a) → ((a : A) → counted (bracket_of (enc a)) n ≡ Some n)
+    → (a : A) → decode (enc a) ≡ Some a →
     Token n n (λ a. token sp (enc a) ∷ []) decode
 by_token sp enc decode n sound count a r = record {
   means = λ l b e. (sp, ap (λ z. token sp z ∷ []) (sym (sound l b e)));
@@ -199,12 +205,14 @@ unfolding keyword_of
 name_token n = record { means = name_means; counts = name_counts n; some = (lexeme.Name (97 ∷ []), 97 ∷ [], refl) }
 
 -- a whole number as its token
-pub whole_value : (z : ℤ) (d a : ℕ) → whole_parts z d ≡ Some a → ◌≡◌ {A = Rat} (record { num = z; above = d }) (of_int (pos a))
+pub whole_value : (z : ℤ) (d a : ℕ) → whole_parts z d ≡ Some a
+    → ◌≡◌ {A = Rat} (record { num = z; above = d }) (of_int (pos a))
 whole_value (pos n) zero a e = let q : n ≡ a = cc in ap (λ m. of_int (pos m)) q
 whole_value (pos n) (suc d) a e = absurd (cc)
 whole_value (negsuc n) d a e = absurd (cc)
 
-bounded_is : (low high a : ℕ) (o : Option ℕ) → bounded low high o ≡ Some a → ((nat_le low a && nat_le a high) ≡ true) × (o ≡ Some a)
+bounded_is : (low high a : ℕ) (o : Option ℕ) → bounded low high o ≡ Some a
+    → ((nat_le low a && nat_le a high) ≡ true) × (o ≡ Some a)
 bounded_is low high a None e = absurd (cc)
 bounded_is low high a (Some n) e =
     let t = when_is (nat_le low n && nat_le n high) n a e in
@@ -213,7 +221,8 @@ bounded_is low high a (Some n) e =
 pub whole_is : (low high a : ℕ) → (nat_le low a && nat_le a high) ≡ true → whole low high a ≡ plain (number a)
 whole_is low high a e = ap (λ b. if b then plain (number a) else never) e
 
-whole_means : (low high : ℕ) (l : Lexeme) (a : ℕ) → a_whole low high l ≡ Some a → (s : Space) × (whole low high a ∷ [] ≡ token s l ∷ [])
+whole_means : (low high : ℕ) (l : Lexeme) (a : ℕ) → a_whole low high l ≡ Some a
+    → (s : Space) × (whole low high a ∷ [] ≡ token s l ∷ [])
 whole_means low high (lexeme.Number value) a e =
     let t = bounded_is low high a (whole_of value) e in
     (Usual, ap (λ z. z ∷ []) (whole_is low high a t.0) ∙ ap (λ z. plain (lexeme.Number z) ∷ []) (sym (whole_value value.num value.above a t.1)))
@@ -226,7 +235,8 @@ whole_counts low high n _ a e = absurd (cc)
 abbrev pub whole_pieces : ℕ → ℕ → ℕ → Pieces
 whole_pieces low high a = whole low high a ∷ []
 
-pub whole_token : (low high n : ℕ) → a_whole low high (number low) ≡ Some low → Token n n (whole_pieces low high) (a_whole low high)
+pub whole_token : (low high n : ℕ) → a_whole low high (number low) ≡ Some low
+    → Token n n (whole_pieces low high) (a_whole low high)
 whole_token low high n r = record { means = whole_means low high; counts = whole_counts low high n; some = (number low, low, r) }
 
 -- any number
@@ -239,10 +249,6 @@ number_token n = by_token Usual lexeme.Number a_number n number_is (λ a. refl) 
 
 -- ---- words that forms name
 
-both : (a b : Bool) → (a && b) ≡ true → (a ≡ true) × (b ≡ true)
-both true b e = (refl, e)
-both false b e = absurd (let q : false ≡ true = e in cc)
-
 pub is_true : (a b : List ℕ) → is a b ≡ true → a ≡ b
 is_true [] [] e = refl
 is_true [] (b ∷ bs) e = absurd (let q : false ≡ true = e in cc)
@@ -254,7 +260,8 @@ is_true (a ∷ as') (b ∷ bs) e =
     cc
 
 -- the first of several words
-pub pick : {A : Type 0} (enc : A → List ℕ) (name : List ℕ) (x : A) (t : Bool) (rest : Option A) (a : A) → is name (enc x) ≡ t → (rest ≡ Some a → name ≡ enc a) → (if t then Some x else rest) ≡ Some a → name ≡ enc a
+pub pick : {A : Type 0} (enc : A → List ℕ) (name : List ℕ) (x : A) (t : Bool) (rest : Option A) (a : A)
+    → is name (enc x) ≡ t → (rest ≡ Some a → name ≡ enc a) → (if t then Some x else rest) ≡ Some a → name ≡ enc a
 pick enc name x true rest a e h q = let p : x ≡ a = cc in is_true name (enc x) e ∙ ap enc p
 pick enc name x false rest a e h q = h q
 
@@ -276,7 +283,8 @@ abbrev pub word_pieces : List ℕ → Unit {0} → Pieces
 word_pieces bytes _ = word bytes ∷ []
 
 -- a word that a form names
-pub word_token : (bytes : List ℕ) (n : ℕ) → a_word bytes (lexeme.Name bytes) ≡ Some tt → Token n n (word_pieces bytes) (a_word bytes)
+pub word_token : (bytes : List ℕ) (n : ℕ) → a_word bytes (lexeme.Name bytes) ≡ Some tt
+    → Token n n (word_pieces bytes) (a_word bytes)
 word_token bytes n r = record {
   means = λ l a e. (Usual, ap (λ z. token Usual z ∷ []) (sym (a_word_is bytes l a e)));
   counts = λ l a e. ap (λ z. counted (bracket_of z) n) (a_word_is bytes l a e);

@@ -4,7 +4,7 @@ use Rattle.cga_syntax.specs.declared.lexeme.Lexeme.{Lexeme}
 use Rattle.cga_syntax.specs.Brackets.{walk, walk_on, counted, IsOpening}
 use Rattle.cga_syntax.specs.Pieces.{Pieces}
 use Rattle.cga_syntax.specs.Spelling.{Spelled, Stops}
-use Rattle.cga_syntax.proofs.Again.{walk_join}
+use Rattle.cga_syntax.proofs.Door.{walk_join}
 use Rattle.cga_form.specs.declared.fault.Fault.{Fault}
 use Rattle.cga_form.specs.declared.fault.Fault.TheVariants.{Unexpected, TooNested}
 use Rattle.cga_form.specs.Tells.{Tells}
@@ -19,7 +19,8 @@ one_too_many : (j : Lexeme) (r : List Lexeme) → IsOpening j → walk 0 (j ∷ 
 unfolding walk
 one_too_many j r h = ap (λ b. walk_on (λ m. walk m r) (counted b 0)) h
 
-not_deep : (x front r : List Lexeme) (j : Lexeme) (m : ℕ) → x ≡ front ++ j ∷ r → walk 32 front ≡ Some 0 → IsOpening j → walk 32 x ≡ Some m → ⊥
+not_deep : (x front r : List Lexeme) (j : Lexeme) (m : ℕ) → x ≡ front ++ j ∷ r → walk 32 front ≡ Some 0 → IsOpening j
+    → walk 32 x ≡ Some m → ⊥
 not_deep x front r j m e w o h =
     let q : walk 32 x ≡ None = ap (walk 32) e ∙ walk_join front (j ∷ r) 32 ∙ ap (walk_on (λ n. walk n (j ∷ r))) w ∙ one_too_many j r o in
     let z : None ≡ Some m = sym q ∙ h in
@@ -30,7 +31,8 @@ module _ {A : Type 0} (w : A → Pieces) where
   goes_on x front [] a e stops s = stops a (subst (λ z. Spelled w z a) (e ∙ nil_right front) s)
   goes_on x front (j ∷ t) a e stops s = stops (t, a, subst (λ z. Spelled w z a) (e ∙ sym (append_assoc front (j ∷ []) t)) s)
 
-  not_refused : (x : List Lexeme) (a : A) (m : ℕ) → Spelled w x a → walk 32 x ≡ Some m → (f : Fault) → Tells w 32 x (Err f) → ⊥
+  not_refused : (x : List Lexeme) (a : A) (m : ℕ) → Spelled w x a → walk 32 x ≡ Some m → (f : Fault)
+      → Tells w 32 x (Err f) → ⊥
   not_refused x a m s h (Unexpected left) r = goes_on x r.0 r.1 a r.3 r.6 s
   not_refused x a m s h (TooNested left) r = not_deep x r.0 r.2 r.1 m r.3 r.6 r.7 h
 
@@ -38,12 +40,14 @@ module _ {A : Type 0} (w : A → Pieces) where
   module _ (line : Reader A) (unique : (text : List Lexeme) (a b : A) → Spelled w text a → Spelled w text b → a ≡ b)
       (found : (text : List Lexeme) (a : A) (o : Input) → line (at text 0) ≡ Ok (a, o) → Tells w 32 text (Ok a))
       (refused : (text : List Lexeme) (f : Fault) → line (at text 0) ≡ Err f → Tells w 32 text (Err f)) where
-    told_as : (x : List Lexeme) (a : A) (m : ℕ) → Spelled w x a → walk 32 x ≡ Some m → (o : ReadResult A) → line (at x 0) ≡ o → Tells w 32 x (Ok a)
+    told_as : (x : List Lexeme) (a : A) (m : ℕ) → Spelled w x a → walk 32 x ≡ Some m → (o : ReadResult A)
+        → line (at x 0) ≡ o → Tells w 32 x (Ok a)
     told_as x a m s h (Ok q) e = let r = found x q.0 q.1 e in subst (λ z. Tells w 32 x (Ok z)) (unique x q.0 a r.0 s) r
     told_as x a m s h (Err f) e = absurd (not_refused x a m s h f (refused x f e))
 
     pub told : (x : List Lexeme) (a : A) (m : ℕ) → Spelled w x a → walk 32 x ≡ Some m → Tells w 32 x (Ok a)
     told x a m s h = told_as x a m s h (line (at x 0)) refl
 
-pub form_told : {A : Type 0} (w : A → Pieces) (p : ℕ → Reader A) → IsForm w p → (x : List Lexeme) (a : A) (m : ℕ) → Spelled w x a → walk 32 x ≡ Some m → Tells w 32 x (Ok a)
+pub form_told : {A : Type 0} (w : A → Pieces) (p : ℕ → Reader A) → IsForm w p → (x : List Lexeme) (a : A) (m : ℕ)
+    → Spelled w x a → walk 32 x ≡ Some m → Tells w 32 x (Ok a)
 form_told w p form = told w (complete (p 32)) (form_unique w p form) (form_found w p form 32) (form_refused w p form 32)

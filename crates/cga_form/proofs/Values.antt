@@ -26,7 +26,8 @@ above_zero_is None a e = absurd (cc)
 above_zero_is (Some zero) a e = absurd (cc)
 above_zero_is (Some (suc n)) a e = let q : suc n ≡ a = cc in (ap Some q, omega (arith, q))
 
-divisor_fine : (n : ℕ) (l : Lexeme) (a : ℕ) → b.a_divisor l ≡ Some a → ((c : ℕ) → Divisor c (l ∷ []) a c) × (counted (bracket_of l) n ≡ Some n)
+divisor_fine : (n : ℕ) (l : Lexeme) (a : ℕ) → b.a_divisor l ≡ Some a
+    → ((c : ℕ) → Divisor c (l ∷ []) a c) × (counted (bracket_of l) n ≡ Some n)
 divisor_fine n (lexeme.Number v) a e =
     let t = above_zero_is (whole_of v) a e in
     (λ c. (ap (λ z. lexeme.Number z ∷ []) (whole_value v.num v.above a t.0), t.1, refl), refl)
@@ -43,7 +44,8 @@ Divided c x a d = (x ≡ lexeme.Sign s.Slash ∷ number a ∷ []) × (0 < a) × 
 abbrev Same : {B : Type 0} → B → Language B
 Same v c x a d = (a ≡ v) × (x ≡ []) × (c ≡ d)
 
-one_of : {A : Type 0} (w : A → Pieces) (l : Lexeme) (c : ℕ) (x : List Lexeme) (a : A) (d : ℕ) → w a ≡ token Usual l ∷ [] → After [] w c x a d → (x ≡ l ∷ []) × (c ≡ d)
+one_of : {A : Type 0} (w : A → Pieces) (l : Lexeme) (c : ℕ) (x : List Lexeme) (a : A) (d : ℕ) → w a ≡ token Usual l ∷ []
+    → After [] w c x a d → (x ≡ l ∷ []) × (c ≡ d)
 one_of w l c x a d e h =
     let t = head_of c Usual l [] x d (subst (λ ps. Writes c ps x d) (sym h.1 ∙ e) h.2) in
     let u = end_of c t.0 d t.2 in
@@ -60,7 +62,8 @@ exact_divisor n =
 divisor_text : Some_text (Seq Divisor (λ a. Same a))
 divisor_text c = (number 1 ∷ [], 1, c, (number 1 ∷ [], [], 1, c, refl, (refl, omega arith, refl), (refl, refl, refl)))
 
-as_after : (c : ℕ) (x : List Lexeme) (a d : ℕ) → Seq (After [] (as_token Usual (lexeme.Sign s.Slash))) (λ _. Seq Divisor (λ k. Same k)) c x a d → Divided c x a d
+as_after : (c : ℕ) (x : List Lexeme) (a d : ℕ)
+    → Seq (After [] (as_token Usual (lexeme.Sign s.Slash))) (λ _. Seq Divisor (λ k. Same k)) c x a d → Divided c x a d
 as_after c x a d h =
     let t = one_of (as_token Usual (lexeme.Sign s.Slash)) (lexeme.Sign s.Slash) c h.0 h.2 h.3 refl h.5 in
     let g = h.6 in
@@ -106,7 +109,8 @@ Magnitude minus c x a d = (m : Rat) × IsMagnitude m x × (a ≡ b.with_minus mi
 abbrev number_pieces : Rat → Pieces
 number_pieces v = plain (lexeme.Number v) ∷ []
 
-rest_is : (minus : Bool) (v : Rat) (o : Option ℕ) (c : ℕ) (x y : List Lexeme) (a : Rat) (d : ℕ) → whole_of v ≡ o → x ≡ lexeme.Number v ∷ y → Rest minus v o c y a d → Magnitude minus c x a d
+rest_is : (minus : Bool) (v : Rat) (o : Option ℕ) (c : ℕ) (x y : List Lexeme) (a : Rat) (d : ℕ) → whole_of v ≡ o
+    → x ≡ lexeme.Number v ∷ y → Rest minus v o c y a d → Magnitude minus c x a d
 rest_is minus v None c x y a d q e h = (v, inl (e ∙ ap (λ z. lexeme.Number v ∷ z) h.1), h.0, h.2)
 rest_is minus v (Some n) c x y a d q e (inl h) = (v, inl (e ∙ ap (λ z. lexeme.Number v ∷ z) h.1), h.0, h.2)
 rest_is minus v (Some n) c x y a d q e (inr h) =
@@ -114,7 +118,8 @@ rest_is minus v (Some n) c x y a d q e (inr h) =
     let t : y ≡ lexeme.Sign s.Slash ∷ number h.2 ∷ [] = h.4 ∙ ap (λ z. h.0 ++ z) h.6.1 ∙ nil_right h.0 ∙ h.5.0 in
     (ratio n h.2, inr (n, h.2, e ∙ ap (λ z. lexeme.Number z ∷ y) w ∙ ap (λ z. number n ∷ z) t, h.5.1, refl), h.6.0, h.5.2 ∙ h.6.2)
 
-as_magnitude : (minus : Bool) (c : ℕ) (x : List Lexeme) (a : Rat) (d : ℕ) → Seq (After [] number_pieces) (λ v. Rest minus v (whole_of v)) c x a d → Magnitude minus c x a d
+as_magnitude : (minus : Bool) (c : ℕ) (x : List Lexeme) (a : Rat) (d : ℕ)
+    → Seq (After [] number_pieces) (λ v. Rest minus v (whole_of v)) c x a d → Magnitude minus c x a d
 as_magnitude minus c x a d h =
     let t = one_of number_pieces (lexeme.Number h.2) c h.0 h.2 h.3 refl h.5 in
     rest_is minus h.2 (whole_of h.2) c x h.1 a d refl (h.4 ∙ ap (λ z. z ++ h.1) t.0) (subst (λ e. Rest minus h.2 (whole_of h.2) e h.1 a d) (sym t.1) h.6)
@@ -140,7 +145,9 @@ written c x a d h e = (value_pieces a, refl, piece_written c (valued a) x d (h, 
 positive : (c : ℕ) (x : List Lexeme) (a : Rat) (d : ℕ) → Magnitude false c x a d → After [] value_pieces c x a d
 positive c x a d h = written c x a d (inl (subst (λ z. IsMagnitude z x) (sym h.2) h.1)) h.3
 
-negative : (c : ℕ) (x : List Lexeme) (a : Rat) (d : ℕ) → Seq (After [] (as_token Usual (lexeme.Sign s.Minus))) (λ _. Magnitude true) c x a d → After [] value_pieces c x a d
+negative : (c : ℕ) (x : List Lexeme) (a : Rat) (d : ℕ)
+    → Seq (After [] (as_token Usual (lexeme.Sign s.Minus))) (λ _. Magnitude true) c x a d
+    → After [] value_pieces c x a d
 negative c x a d h =
     let t = one_of (as_token Usual (lexeme.Sign s.Minus)) (lexeme.Sign s.Minus) c h.0 h.2 h.3 refl h.5 in
     written c x a d (inr (h.6.0, h.1, h.4 ∙ ap (λ z. z ++ h.1) t.0, h.6.1, h.6.2)) (t.1 ∙ h.6.3)

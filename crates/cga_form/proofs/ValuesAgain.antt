@@ -24,11 +24,13 @@ single_text m = lexeme.Number m ∷ []
 abbrev double_text : ℕ → ℕ → List Lexeme
 double_text n d = number n ∷ lexeme.Sign s.Slash ∷ number d ∷ []
 
-rest_single : (minus : Bool) (m : Rat) (o : Option ℕ) → Leads a_slash [] (b.magnitude_rest minus m o) (b.with_minus minus m)
+rest_single : (minus : Bool) (m : Rat) (o : Option ℕ)
+    → Leads a_slash [] (b.magnitude_rest minus m o) (b.with_minus minus m)
 rest_single minus m None = ends
 rest_single minus m (Some n) = peek_no _ (misses_end (λ l e. e)) ends
 
-read_single : (minus : Bool) (m : Rat) → Leads a_slash (map (token Usual) (single_text m)) (b.magnitude minus) (b.with_minus minus m)
+read_single : (minus : Bool) (m : Rat)
+    → Leads a_slash (map (token Usual) (single_text m)) (b.magnitude minus) (b.with_minus minus m)
 unfolding b.magnitude
 read_single minus m = took a_number m refl (rest_single minus m (whole_of m))
 
@@ -45,20 +47,25 @@ divisor_at (suc d) = took (a_sign s.Slash) tt refl (took b.a_divisor (suc d) ref
 divisor_again : Again divisor_pieces nothing b.divisor
 divisor_again = record { all = divisor_at }
 
-read_divisor : (minus : Bool) (n d : ℕ) → 0 < d → Leads a_slash (sign s.Slash ∷ plain (number d) ∷ []) (b.magnitude_rest minus (of_int (pos n)) (Some n)) (b.with_minus minus (ratio n d))
+read_divisor : (minus : Bool) (n d : ℕ) → 0 < d
+    → Leads a_slash (sign s.Slash ∷ plain (number d) ∷ []) (b.magnitude_rest minus (of_int (pos n)) (Some n))
+      (b.with_minus minus (ratio n d))
 read_divisor minus n zero h = absurd (omega arith)
 read_divisor minus n (suc d) h = peek_yes _ (starts_token refl) (plainly (after {v = divisor_pieces} _ (suc d) divisor_again misses_nothing ends))
 
-read_double : (minus : Bool) (n d : ℕ) → 0 < d → Leads a_slash (map (token Usual) (double_text n d)) (b.magnitude minus) (b.with_minus minus (ratio n d))
+read_double : (minus : Bool) (n d : ℕ) → 0 < d
+    → Leads a_slash (map (token Usual) (double_text n d)) (b.magnitude minus) (b.with_minus minus (ratio n d))
 unfolding b.magnitude
 read_double minus n d h = took a_number (of_int (pos n)) refl (read_divisor minus n d h)
 
 -- ---- magnitudes and values
 
-written_plainly : (c : ℕ) (x : List Lexeme) (d : ℕ) (ls : List Lexeme) → x ≡ ls → c ≡ d → Writes c (map (token Usual) ls) x d
+written_plainly : (c : ℕ) (x : List Lexeme) (d : ℕ) (ls : List Lexeme) → x ≡ ls → c ≡ d
+    → Writes c (map (token Usual) ls) x d
 written_plainly c x d ls e q = subst (λ z. Writes c (map (token Usual) ls) z d) (sym e) (subst (λ m. Writes c (map (token Usual) ls) ls m) q (plain_written c ls))
 
-magnitude_at : (minus : Bool) (m : Rat) (c : ℕ) (x : List Lexeme) (d : ℕ) (r : List Lexeme) → IsMagnitude m x → c ≡ d → begins a_slash r ≡ false → Agrees (b.magnitude minus (at (x ++ r) c)) (b.with_minus minus m) (at r d)
+magnitude_at : (minus : Bool) (m : Rat) (c : ℕ) (x : List Lexeme) (d : ℕ) (r : List Lexeme) → IsMagnitude m x → c ≡ d
+    → begins a_slash r ≡ false → Agrees (b.magnitude minus (at (x ++ r) c)) (b.with_minus minus m) (at r d)
 magnitude_at minus m c x d r (inl h) q e = (read_single minus m).leads c x d r (written_plainly c x d (single_text m) h q) e
 magnitude_at minus m c x d r (inr h) q e =
     subst (λ z. Agrees (b.magnitude minus (at (x ++ r) c)) (b.with_minus minus z) (at r d)) (sym h.4)
@@ -69,15 +76,19 @@ magnitude_first : (m : Rat) (x r : List Lexeme) → IsMagnitude m x → begins (
 magnitude_first m x r (inl h) = ap (λ z. begins (is_sign s.Minus) (z ++ r)) h
 magnitude_first m x r (inr h) = ap (λ z. begins (is_sign s.Minus) (z ++ r)) h.2
 
-plain_at : (v : Rat) (c : ℕ) (x : List Lexeme) (d : ℕ) (r : List Lexeme) → begins (is_sign s.Minus) (x ++ r) ≡ false → Agrees (b.magnitude false (at (x ++ r) c)) v (at r d) → Agrees (b.value (at (x ++ r) c)) v (at r d)
+plain_at : (v : Rat) (c : ℕ) (x : List Lexeme) (d : ℕ) (r : List Lexeme) → begins (is_sign s.Minus) (x ++ r) ≡ false
+    → Agrees (b.magnitude false (at (x ++ r) c)) v (at r d) → Agrees (b.value (at (x ++ r) c)) v (at r d)
 unfolding b.value
 plain_at v c x d r e h = subst (λ t. Agrees (if t then (single (a_sign s.Minus) >>= λ _. b.magnitude true) (at (x ++ r) c) else (b.magnitude false (at (x ++ r) c))) v (at r d)) (sym e) h
 
-minus_at : (v : Rat) (c : ℕ) (x : List Lexeme) (d : ℕ) (r : List Lexeme) → Agrees (b.magnitude true (at (x ++ r) c)) v (at r d) → Agrees (b.value (at (lexeme.Sign s.Minus ∷ (x ++ r)) c)) v (at r d)
+minus_at : (v : Rat) (c : ℕ) (x : List Lexeme) (d : ℕ) (r : List Lexeme)
+    → Agrees (b.magnitude true (at (x ++ r) c)) v (at r d)
+    → Agrees (b.value (at (lexeme.Sign s.Minus ∷ (x ++ r)) c)) v (at r d)
 unfolding b.value
 minus_at v c x d r h = h
 
-value_at : (v : Rat) (c : ℕ) (x : List Lexeme) (d : ℕ) (r : List Lexeme) → IsValue v x → c ≡ d → begins a_slash r ≡ false → Agrees (b.value (at (x ++ r) c)) v (at r d)
+value_at : (v : Rat) (c : ℕ) (x : List Lexeme) (d : ℕ) (r : List Lexeme) → IsValue v x → c ≡ d
+    → begins a_slash r ≡ false → Agrees (b.value (at (x ++ r) c)) v (at r d)
 value_at v c x d r (inl h) q e = plain_at v c x d r (magnitude_first v x r h) (magnitude_at false v c x d r h q e)
 value_at v c x d r (inr h) q e =
     subst (λ z. Agrees (b.value (at (z ++ r) c)) v (at r d)) (sym h.2)

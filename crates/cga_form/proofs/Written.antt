@@ -5,23 +5,23 @@ use Rattle.cga_syntax.specs.declared.print.space.Space.{Space}
 use Rattle.cga_syntax.specs.declared.print.space.Space.TheVariants.{Usual}
 use Rattle.cga_syntax.specs.Pieces.{Piece, token, Pieces, concat, IsWritten, Writes}
 use Rattle.cga_form.proofs.Runs.{Language, Each}
-
-pub nil_right : {A : Type 0} (xs : List A) → xs ++ [] ≡ xs
-nil_right [] = refl
-nil_right (x ∷ xs) = ap (λ z. x ∷ z) (nil_right xs)
+pub use Rattle.std.proofs.Common.{append-nil as nil_right}
 
 pub nothing : (c : ℕ) → Writes c [] [] c
 unfolding Writes
 nothing c = (refl, refl)
 
-pub one : (c : ℕ) (p : Piece) (ps : Pieces) (x y : List Lexeme) (e d : ℕ) → IsWritten c p x e → Writes e ps y d → Writes c (p ∷ ps) (x ++ y) d
+pub one : (c : ℕ) (p : Piece) (ps : Pieces) (x y : List Lexeme) (e d : ℕ) → IsWritten c p x e → Writes e ps y d
+    → Writes c (p ∷ ps) (x ++ y) d
 unfolding Writes
 one c p ps x y e d w h = (x, y, e, refl, w, h)
 
-pub token_first : (c : ℕ) (s : Space) (k : Lexeme) (ps : Pieces) (y : List Lexeme) (d : ℕ) → Writes c ps y d → Writes c (token s k ∷ ps) (k ∷ y) d
+pub token_first : (c : ℕ) (s : Space) (k : Lexeme) (ps : Pieces) (y : List Lexeme) (d : ℕ) → Writes c ps y d
+    → Writes c (token s k ∷ ps) (k ∷ y) d
 token_first c s k ps y d h = one c (token s k) ps (k ∷ []) y c d (refl, refl) h
 
-pub join : (ps qs : Pieces) (x y : List Lexeme) (c e d : ℕ) → Writes c ps x e → Writes e qs y d → Writes c (ps ++ qs) (x ++ y) d
+pub join : (ps qs : Pieces) (x y : List Lexeme) (c e d : ℕ) → Writes c ps x e → Writes e qs y d
+    → Writes c (ps ++ qs) (x ++ y) d
 unfolding Writes
 join [] qs x y c e d w h =
     let empty : x ++ y ≡ y = ap (λ z. z ++ y) w.0 in
@@ -29,7 +29,8 @@ join [] qs x y c e d w h =
 join (p ∷ ps) qs x y c e d w h =
     (w.0, w.1 ++ y, w.2, ap (λ z. z ++ y) w.3 ∙ append_assoc w.0 w.1 y, w.4, join ps qs w.1 y w.2 e d w.5 h)
 
-pub cut : (ps qs : Pieces) (z : List Lexeme) (c d : ℕ) → Writes c (ps ++ qs) z d → (x : List Lexeme) × (y : List Lexeme) × (e : ℕ) × (z ≡ x ++ y) × Writes c ps x e × Writes e qs y d
+pub cut : (ps qs : Pieces) (z : List Lexeme) (c d : ℕ) → Writes c (ps ++ qs) z d
+    → (x : List Lexeme) × (y : List Lexeme) × (e : ℕ) × (z ≡ x ++ y) × Writes c ps x e × Writes e qs y d
 unfolding Writes
 cut [] qs z c d w = ([], z, c, refl, (refl, refl), w)
 cut (p ∷ ps) qs z c d w =
@@ -40,14 +41,16 @@ cut (p ∷ ps) qs z c d w =
 abbrev pub Of : {A : Type 0} → (A → Pieces) → Language A
 Of w c x a d = Writes c (w a) x d
 
-pub each_writes : {A : Type 0} (w : A → Pieces) (c : ℕ) (x : List Lexeme) (xs : List A) (d : ℕ) → Each (Of w) c x xs d → Writes c (concat (map w xs)) x d
+pub each_writes : {A : Type 0} (w : A → Pieces) (c : ℕ) (x : List Lexeme) (xs : List A) (d : ℕ) → Each (Of w) c x xs d
+    → Writes c (concat (map w xs)) x d
 unfolding Writes
 each_writes w c x [] d h = h
 each_writes w c x (a ∷ xs) d h =
     subst (λ z. Writes c (w a ++ concat (map w xs)) z d) (sym h.3) (join (w a) (concat (map w xs)) h.0 h.1 c h.2 d h.4 (each_writes w h.2 h.1 xs d h.5))
 
 -- what begins with a token's piece begins with the token
-pub head_of : (c : ℕ) (s : Space) (k : Lexeme) (ps : Pieces) (x : List Lexeme) (d : ℕ) → Writes c (token s k ∷ ps) x d → (y : List Lexeme) × (x ≡ k ∷ y) × Writes c ps y d
+pub head_of : (c : ℕ) (s : Space) (k : Lexeme) (ps : Pieces) (x : List Lexeme) (d : ℕ) → Writes c (token s k ∷ ps) x d
+    → (y : List Lexeme) × (x ≡ k ∷ y) × Writes c ps y d
 unfolding Writes
 head_of c s k ps x d w = (w.1, w.3 ∙ ap (λ z. z ++ w.1) w.4.0, subst (λ n. Writes n ps w.1 d) (sym w.4.1) w.5)
 
@@ -65,7 +68,8 @@ piece_of c p x d w =
 pub piece_written : (c : ℕ) (p : Piece) (x : List Lexeme) (d : ℕ) → IsWritten c p x d → Writes c (p ∷ []) x d
 piece_written c p x d w = subst (λ z. Writes c (p ∷ []) z d) (nil_right x) (one c p [] x [] d d w (nothing d))
 
-pub long_of : (c : ℕ) (s : Space) (k : Lexeme) (ps : Pieces) (x : List Lexeme) (d : ℕ) → Writes c (token s k ∷ ps) x d → 1 ≤ length x
+pub long_of : (c : ℕ) (s : Space) (k : Lexeme) (ps : Pieces) (x : List Lexeme) (d : ℕ) → Writes c (token s k ∷ ps) x d
+    → 1 ≤ length x
 long_of c s k ps x d w = let t = head_of c s k ps x d w in omega (arith, ap length t.1)
 
 -- tokens are written as themselves

@@ -63,10 +63,12 @@ AllTells w says lines (Err f) = IsFaulty w lines f
 -- ---- the reader
 
 -- what is kept of the lines: what they say, or the first faulty one
-abbrev pub Keeps : {A G : Type 0} → (A → Pieces) → (G → List (Option A) → Type 0) → G → List Line → Option BlockFault → Type 0
+abbrev pub Keeps : {A G : Type 0} → (A → Pieces) → (G → List (Option A) → Type 0) → G → List Line → Option BlockFault
+    → Type 0
 Keeps {A} w holds g lines None = (all : List (Option A)) × Say w lines all × holds g all
 Keeps w holds g lines (Some f) = IsFaulty w lines f
 
 -- the reader was given these lines
-abbrev pub StandsFor : {A G : Type 0} → (A → Pieces) → (G → List (Option A) → Type 0) → BlockReader G → List Line → Type 0
+abbrev pub StandsFor : {A G : Type 0} → (A → Pieces) → (G → List (Option A) → Type 0) → BlockReader G → List Line
+    → Type 0
 StandsFor w holds reader lines = (reader.lines ≡ line_number (length lines)) × Keeps w holds reader.gathered lines reader.fault

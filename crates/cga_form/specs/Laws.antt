@@ -66,7 +66,8 @@ Agrees (Err (TooNested n)) a i = Unit {0}
 
 -- the pieces are read as the value, where what follows isn't one of the tokens that go on with it
 pub record Leads {B : Type 0} (s : Lexeme → Bool) (ps : Pieces) (p : Reader B) (b : B) : Type 0 where
-  pub leads : (c : ℕ) (x : List Lexeme) (d : ℕ) (r : List Lexeme) → Writes c ps x d → begins s r ≡ false → Agrees (p (at (x ++ r) c)) b (at r d)
+  pub leads : (c : ℕ) (x : List Lexeme) (d : ℕ) (r : List Lexeme) → Writes c ps x d → begins s r ≡ false
+      → Agrees (p (at (x ++ r) c)) b (at r d)
 
 -- each value is read as it is written
 pub record Again {A : Type 0} (w : A → Pieces) (s : Lexeme → Bool) (p : Reader A) : Type 0 where

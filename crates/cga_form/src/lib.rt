@@ -1,9 +1,9 @@
-//! Reading lines of any form: which tokens are a member, where the first fault is, and what the
-//! lines of a block say.
+//! Reading lines of any form: which tokens are a member, where the first fault is, and what the lines of a block say.
 //!
-//! A form is an `impl` of `Form`. It knows what single tokens stand for, and must not know which
-//! forms there are or what a member does. Callers get the fault's place wrong: it is the first token
-//! with which no member could go on, or the end of the line, which comes after blanks and a comment.
+//! It must not know which forms there are. A form is an `impl` of `Form`.
+//!
+//! What callers get wrong: the fault's place. It is the first token with which no member could go on, or the end of the
+//! line, which comes after blanks and a comment.
 #![tactic(auto)]
 
 pub mod block_fault;

@@ -37,7 +37,8 @@ reduced_diff (negsuc n) d h =
     let m = neg_parts (pos (suc n / gcd (suc n) d)) in
     record { positive = h; same = rw (k, m.0, m.1) (omega arith) }
 
-swap : (p m q u v d w x e : ℕ) → 0 < d → p * d + v * q ≡ u * q + m * d → u * e + x * d ≡ w * d + v * e → p * e + x * q ≡ w * q + m * e
+swap : (p m q u v d w x e : ℕ) → 0 < d → p * d + v * q ≡ u * q + m * d → u * e + x * d ≡ w * d + v * e
+    → p * e + x * q ≡ w * q + m * e
 swap p m q u v d w x e h s k =
     let a : (p * d + v * q) * e ≡ (u * q + m * d) * e = ap (λ z. z * e) s in
     let b : (u * e + x * d) * q ≡ (w * d + v * e) * q = ap (λ z. z * q) k in
@@ -52,14 +53,20 @@ like q u v d w x e r k h = record { positive = h; same = swap (positive_part q.n
 pub itself : (q : Rat) → IsDiff q (positive_part q.num) (negative_part q.num) (den q)
 itself q = record { positive = omega arith; same = omega arith }
 
-pub sum_parts : (x y : ℤ) → positive_part (x +ℤ y) + negative_part x + negative_part y ≡ negative_part (x +ℤ y) + positive_part x + positive_part y
+pub sum_parts : (x y : ℤ)
+    → positive_part (x +ℤ y) + negative_part x + negative_part y ≡ negative_part (x +ℤ y) + positive_part x +
+      positive_part y
 sum_parts x y = omega (arith, ints)
 
-pub sub_parts : (x y : ℤ) → positive_part (x -ℤ y) + negative_part x + positive_part y ≡ negative_part (x -ℤ y) + positive_part x + negative_part y
+pub sub_parts : (x y : ℤ)
+    → positive_part (x -ℤ y) + negative_part x + positive_part y ≡ negative_part (x -ℤ y) + positive_part x +
+      negative_part y
 sub_parts x y = omega (arith, ints)
 
-plus_parts : (a b : Rat) (p m : ℕ) → p ≡ positive_part (a.num *ℤ pos (den b) +ℤ b.num *ℤ pos (den a)) → m ≡ negative_part (a.num *ℤ pos (den b) +ℤ b.num *ℤ pos (den a))
-    → p + (negative_part a.num * den b + negative_part b.num * den a) ≡ m + (positive_part a.num * den b + positive_part b.num * den a)
+plus_parts : (a b : Rat) (p m : ℕ) → p ≡ positive_part (a.num *ℤ pos (den b) +ℤ b.num *ℤ pos (den a))
+    → m ≡ negative_part (a.num *ℤ pos (den b) +ℤ b.num *ℤ pos (den a))
+    → p + (negative_part a.num * den b + negative_part b.num * den a) ≡ m +
+      (positive_part a.num * den b + positive_part b.num * den a)
 plus_parts a b p m e f =
     let s = sum_parts (a.num *ℤ pos (den b)) (b.num *ℤ pos (den a)) in
     let x = scaled_parts a.num (den b) in
@@ -67,7 +74,9 @@ plus_parts a b p m e f =
     omega (arith, e, f, s, x.0, x.1, y.0, y.1)
 
 -- the sum, of two numbers as they show themselves
-pub plus_diff : (a b : Rat) → IsDiff (plus a b) (positive_part a.num * den b + positive_part b.num * den a) (negative_part a.num * den b + negative_part b.num * den a) (den a * den b)
+pub plus_diff : (a b : Rat)
+    → IsDiff (plus a b) (positive_part a.num * den b + positive_part b.num * den a)
+      (negative_part a.num * den b + negative_part b.num * den a) (den a * den b)
 unfolding plus
 plus_diff a b =
     let n = a.num *ℤ pos (den b) +ℤ b.num *ℤ pos (den a) in
@@ -77,7 +86,8 @@ plus_diff a b =
     let k' = ap (λ z. z * (den a * den b)) k in
     like (plus a b) _ _ _ (positive_part a.num * den b + positive_part b.num * den a) (negative_part a.num * den b + negative_part b.num * den a) (den a * den b) r (omega (arith, k')) h
 
-orders : (p m q s t r u v d w x e : ℕ) → 0 < d → 0 < e → p * d + v * q ≡ u * q + m * d → s * e + x * r ≡ w * r + t * e → u * e + x * d ≤ w * d + v * e → p * r + t * q ≤ s * q + m * r
+orders : (p m q s t r u v d w x e : ℕ) → 0 < d → 0 < e → p * d + v * q ≡ u * q + m * d → s * e + x * r ≡ w * r + t * e
+    → u * e + x * d ≤ w * d + v * e → p * r + t * q ≤ s * q + m * r
 orders p m q s t r u v d w x e h k f g l =
     let a : (p * d + v * q) * (r * e) ≡ (u * q + m * d) * (r * e) = ap (λ z. z * (r * e)) f in
     let b : (s * e + x * r) * (q * d) ≡ (w * r + t * e) * (q * d) = ap (λ z. z * (q * d)) g in
@@ -85,12 +95,14 @@ orders p m q s t r u v d w x e h k f g l =
     let z : (p * r + t * q) * (d * e) ≤ (s * q + m * r) * (d * e) = omega arith in
     le_of_mul-le-mul_right z (mul-pos h k)
 
-pub le_diff : (a b : Rat) (u v d w x e : ℕ) → IsDiff a u v d → IsDiff b w x e → u * e + x * d ≤ w * d + v * e → IsTrue (rat_le a b)
+pub le_diff : (a b : Rat) (u v d w x e : ℕ) → IsDiff a u v d → IsDiff b w x e → u * e + x * d ≤ w * d + v * e
+    → IsTrue (rat_le a b)
 le_diff a b u v d w x e r s l =
     le_test a b (orders (positive_part a.num) (negative_part a.num) (den a) (positive_part b.num) (negative_part b.num) (den b) u v d w x e r.positive s.positive r.same s.same l)
 
 monotone : (pa ma da pb mb db pc mc dc : ℕ) → pb * dc + mc * db ≤ pc * db + mb * dc
-    → (pa * db + pb * da) * (da * dc) + (ma * dc + mc * da) * (da * db) ≤ (pa * dc + pc * da) * (da * db) + (ma * db + mb * da) * (da * dc)
+    → (pa * db + pb * da) * (da * dc) + (ma * dc + mc * da) * (da * db) ≤ (pa * dc + pc * da) * (da * db) +
+      (ma * db + mb * da) * (da * dc)
 monotone pa ma da pb mb db pc mc dc h =
     let x : (pb * dc + mc * db) * (da * da) ≤ (pc * db + mb * dc) * (da * da) = mul-le-mul_right (da * da) h in omega arith
 
@@ -106,15 +118,19 @@ together p m q s t r u v d w x e f g =
     let b : (s * e + x * r) * (q * d) ≡ (w * r + t * e) * (q * d) = ap (λ z. z * (q * d)) g in
     omega arith
 
-minus_parts : (a b : Rat) (p m : ℕ) → p ≡ positive_part (a.num *ℤ pos (den b) -ℤ b.num *ℤ pos (den a)) → m ≡ negative_part (a.num *ℤ pos (den b) -ℤ b.num *ℤ pos (den a))
-    → p + (negative_part a.num * den b + positive_part b.num * den a) ≡ m + (positive_part a.num * den b + negative_part b.num * den a)
+minus_parts : (a b : Rat) (p m : ℕ) → p ≡ positive_part (a.num *ℤ pos (den b) -ℤ b.num *ℤ pos (den a))
+    → m ≡ negative_part (a.num *ℤ pos (den b) -ℤ b.num *ℤ pos (den a))
+    → p + (negative_part a.num * den b + positive_part b.num * den a) ≡ m +
+      (positive_part a.num * den b + negative_part b.num * den a)
 minus_parts a b p m e f =
     let s = sub_parts (a.num *ℤ pos (den b)) (b.num *ℤ pos (den a)) in
     let x = scaled_parts a.num (den b) in
     let y = scaled_parts b.num (den a) in
     omega (arith, e, f, s, x.0, x.1, y.0, y.1)
 
-pub minus_diff : (a b : Rat) → IsDiff (minus a b) (positive_part a.num * den b + negative_part b.num * den a) (negative_part a.num * den b + positive_part b.num * den a) (den a * den b)
+pub minus_diff : (a b : Rat)
+    → IsDiff (minus a b) (positive_part a.num * den b + negative_part b.num * den a)
+      (negative_part a.num * den b + positive_part b.num * den a) (den a * den b)
 unfolding minus
 minus_diff a b =
     let h : 0 < den a * den b = mul-pos {m = den a} {n = den b} (omega arith) (omega arith) in
@@ -123,18 +139,21 @@ minus_diff a b =
     let k' = ap (λ z. z * (den a * den b)) k in
     like (minus a b) _ _ _ (positive_part a.num * den b + negative_part b.num * den a) (negative_part a.num * den b + positive_part b.num * den a) (den a * den b) r (omega (arith, k')) h
 
-pub minus_of : (a b : Rat) (u v d w x e : ℕ) → IsDiff a u v d → IsDiff b w x e → IsDiff (minus a b) (u * e + x * d) (v * e + w * d) (d * e)
+pub minus_of : (a b : Rat) (u v d w x e : ℕ) → IsDiff a u v d → IsDiff b w x e
+    → IsDiff (minus a b) (u * e + x * d) (v * e + w * d) (d * e)
 minus_of a b u v d w x e r s =
     like (minus a b) _ _ _ (u * e + x * d) (v * e + w * d) (d * e) (minus_diff a b)
     (together (positive_part a.num) (negative_part a.num) (den a) (negative_part b.num) (positive_part b.num) (den b) u v d x w e r.same (omega (arith, s.same))) (mul-pos r.positive s.positive)
 
 -- sums and differences of numbers shown in any way
-pub plus_of : (a b : Rat) (u v d w x e : ℕ) → IsDiff a u v d → IsDiff b w x e → IsDiff (plus a b) (u * e + w * d) (v * e + x * d) (d * e)
+pub plus_of : (a b : Rat) (u v d w x e : ℕ) → IsDiff a u v d → IsDiff b w x e
+    → IsDiff (plus a b) (u * e + w * d) (v * e + x * d) (d * e)
 plus_of a b u v d w x e r s =
     like (plus a b) _ _ _ (u * e + w * d) (v * e + x * d) (d * e) (plus_diff a b)
     (together (positive_part a.num) (negative_part a.num) (den a) (positive_part b.num) (negative_part b.num) (den b) u v d w x e r.same s.same) (mul-pos r.positive s.positive)
 
-diff_naturals : (p m q s t r u v d w x e : ℕ) → 0 < q → 0 < r → p * d + v * q ≡ u * q + m * d → s * e + x * r ≡ w * r + t * e → p * r + t * q ≤ s * q + m * r → u * e + x * d ≤ w * d + v * e
+diff_naturals : (p m q s t r u v d w x e : ℕ) → 0 < q → 0 < r → p * d + v * q ≡ u * q + m * d
+    → s * e + x * r ≡ w * r + t * e → p * r + t * q ≤ s * q + m * r → u * e + x * d ≤ w * d + v * e
 diff_naturals p m q s t r u v d w x e h k f g l =
     let a : (p * d + v * q) * (r * e) ≡ (u * q + m * d) * (r * e) = ap (λ z. z * (r * e)) f in
     let b : (s * e + x * r) * (q * d) ≡ (w * r + t * e) * (q * d) = ap (λ z. z * (q * d)) g in
@@ -143,14 +162,17 @@ diff_naturals p m q s t r u v d w x e h k f g l =
     le_of_mul-le-mul_right z (mul-pos h k)
 
 -- what the test says, by the naturals
-pub diff_le : (a b : Rat) (u v d w x e : ℕ) → IsDiff a u v d → IsDiff b w x e → IsTrue (rat_le a b) → u * e + x * d ≤ w * d + v * e
+pub diff_le : (a b : Rat) (u v d w x e : ℕ) → IsDiff a u v d → IsDiff b w x e → IsTrue (rat_le a b)
+    → u * e + x * d ≤ w * d + v * e
 diff_le a b u v d w x e r s l =
     diff_naturals (positive_part a.num) (negative_part a.num) (den a) (positive_part b.num) (negative_part b.num) (den b) u v d w x e (omega arith) (omega arith) r.same s.same (le_fact a b l)
 
-pub lt_diff : (a b : Rat) (u v d w x e : ℕ) → IsDiff a u v d → IsDiff b w x e → u * e + x * d < w * d + v * e → IsTrue (rat_lt a b)
+pub lt_diff : (a b : Rat) (u v d w x e : ℕ) → IsDiff a u v d → IsDiff b w x e → u * e + x * d < w * d + v * e
+    → IsTrue (rat_lt a b)
 lt_diff a b u v d w x e r s l = not_le_lt a b (λ k. let m = diff_le b a w x e u v d s r k in omega arith)
 
-pub diff_lt : (a b : Rat) (u v d w x e : ℕ) → IsDiff a u v d → IsDiff b w x e → IsTrue (rat_lt a b) → u * e + x * d < w * d + v * e
+pub diff_lt : (a b : Rat) (u v d w x e : ℕ) → IsDiff a u v d → IsDiff b w x e → IsTrue (rat_lt a b)
+    → u * e + x * d < w * d + v * e
 diff_lt a b u v d w x e r s l =
     let n : w * d + v * e ≤ u * e + x * d → ⊥ = λ (k : w * d + v * e ≤ u * e + x * d). lt_not_le a b l (le_diff b a w x e u v d s r k) in omega arith
 
@@ -164,14 +186,18 @@ pub negated_diff : (a : Rat) (u v d : ℕ) → IsDiff a u v d → IsDiff (negate
 negated_diff a u v d r =
     let n = neg_parts a.num in record { positive = r.positive; same = rw (n.0, n.1) (omega (arith, r.same)) }
 
-product_parts : (x y : ℤ) → positive_part (x *ℤ y) + (positive_part x * negative_part y + negative_part x * positive_part y) ≡ negative_part (x *ℤ y) + (positive_part x * positive_part y + negative_part x * negative_part y)
+product_parts : (x y : ℤ)
+    → positive_part (x *ℤ y) + (positive_part x * negative_part y + negative_part x * positive_part y) ≡ negative_part
+      (x *ℤ y) + (positive_part x * positive_part y + negative_part x * negative_part y)
 product_parts (pos n) (pos m) = omega arith
 product_parts (pos n) (negsuc m) = let e = neg_parts (pos (n * suc m)) in rw (e.0, e.1) (omega arith)
 product_parts (negsuc n) (pos m) = let e = neg_parts (pos (suc n * m)) in rw (e.0, e.1) (omega arith)
 product_parts (negsuc n) (negsuc m) = omega arith
 
 -- the product, of two numbers as they show themselves
-pub times_diff : (a b : Rat) → IsDiff (times a b) (positive_part a.num * positive_part b.num + negative_part a.num * negative_part b.num) (positive_part a.num * negative_part b.num + negative_part a.num * positive_part b.num) (den a * den b)
+pub times_diff : (a b : Rat)
+    → IsDiff (times a b) (positive_part a.num * positive_part b.num + negative_part a.num * negative_part b.num)
+      (positive_part a.num * negative_part b.num + negative_part a.num * positive_part b.num) (den a * den b)
 unfolding times
 times_diff a b =
     let h : 0 < den a * den b = mul-pos {m = den a} {n = den b} (omega arith) (omega arith) in
@@ -181,7 +207,8 @@ times_diff a b =
     like (times a b) _ _ _ (positive_part a.num * positive_part b.num + negative_part a.num * negative_part b.num) (positive_part a.num * negative_part b.num + negative_part a.num * positive_part b.num) (den a * den b) r (omega (arith, k')) h
 
 monotone_minus : (pa ma da pb mb db pc mc dc : ℕ) → pb * dc + mc * db ≤ pc * db + mb * dc
-    → (pa * dc + mc * da) * (da * db) + (ma * db + pb * da) * (da * dc) ≤ (pa * db + mb * da) * (da * dc) + (ma * dc + pc * da) * (da * db)
+    → (pa * dc + mc * da) * (da * db) + (ma * db + pb * da) * (da * dc) ≤ (pa * db + mb * da) * (da * dc) +
+      (ma * dc + pc * da) * (da * db)
 monotone_minus pa ma da pb mb db pc mc dc h =
     let x : (pb * dc + mc * db) * (da * da) ≤ (pc * db + mb * dc) * (da * da) = mul-le-mul_right (da * da) h in omega arith
 

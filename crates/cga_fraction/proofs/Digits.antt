@@ -7,29 +7,29 @@ use Rattle.std.proofs.lemmas.List.{take_more}
 use Rattle.std.proofs.lemmas.Bool.Decides.{nat_tests}
 use Rattle.std.proofs.Math.Nat.{pow-suc, pow-le-pow_right, mul-le-mul_right, one-le-pow}
 use Rattle.std.proofs.lemmas.Nat.{pow-add}
+use Rattle.std.proofs.lemmas.Bool.{and_parts as both}
 
 pub digit_range : (c : ℕ) → is_ascii_digit c ≡ true → (48 ≤ c) × (c ≤ 57) × (digit_value c ≡ c - 48)
 digit_range c e = (grind (arith, nat_tests), grind (arith, nat_tests), grind (arith, nat_tests))
 
-both : (a b : Bool) → (a && b) ≡ true → (a ≡ true) × (b ≡ true)
-both true true e = (refl, refl)
-both true false e = absurd (cc)
-both false b e = absurd (cc)
-
-pub digit_at : (ds : List ℕ) (i : ℕ) → list_all is_ascii_digit ds ≡ true → i < length ds → is_ascii_digit (get_or ds i 0) ≡ true
+pub digit_at : (ds : List ℕ) (i : ℕ) → list_all is_ascii_digit ds ≡ true → i < length ds
+    → is_ascii_digit (get_or ds i 0) ≡ true
 digit_at [] i e h = absurd (omega arith)
 digit_at (c ∷ cs) zero e h = (both (is_ascii_digit c) (list_all is_ascii_digit cs) e).0
 digit_at (c ∷ cs) (suc i) e h = digit_at cs i (both (is_ascii_digit c) (list_all is_ascii_digit cs) e).1 (omega arith)
 
-pub after-append : (n : ℕ) (xs ys : List ℕ) → digits_value_after 10 n (xs ++ ys) ≡ digits_value_after 10 (digits_value_after 10 n xs) ys
+pub after-append : (n : ℕ) (xs ys : List ℕ)
+    → digits_value_after 10 n (xs ++ ys) ≡ digits_value_after 10 (digits_value_after 10 n xs) ys
 after-append n [] ys = refl
 after-append n (c ∷ cs) ys = after-append (n * 10 + digit_value c) cs ys
 
 -- one digit more
-pub after-more : (n : ℕ) (ds : List ℕ) (i : ℕ) → i < length ds → digits_value_after 10 n (take (i + 1) ds) ≡ digits_value_after 10 n (take i ds) * 10 + digit_value (get_or ds i 0)
+pub after-more : (n : ℕ) (ds : List ℕ) (i : ℕ) → i < length ds
+    → digits_value_after 10 n (take (i + 1) ds) ≡ digits_value_after 10 n (take i ds) * 10 + digit_value (get_or ds i 0)
 after-more n ds i h = rw (take_more ds i 0 h) (after-append n (take i ds) (get_or ds i 0 ∷ []))
 
-pub next_small : (v d n i most : ℕ) → i < n → d ≤ 9 → (v + 1) * 10 ^ (n - i) ≤ most → (v * 10 + d + 1) * 10 ^ (n - (i + 1)) ≤ most
+pub next_small : (v d n i most : ℕ) → i < n → d ≤ 9 → (v + 1) * 10 ^ (n - i) ≤ most
+    → (v * 10 + d + 1) * 10 ^ (n - (i + 1)) ≤ most
 next_small v d n i most h k l =
     let e : n - i ≡ suc (n - (i + 1)) = omega arith in
     let p : 10 ^ (n - i) ≡ 10 ^ (n - (i + 1)) * 10 = rw e (pow-suc 10 (n - (i + 1))) in

@@ -13,6 +13,7 @@ use Rattle.cga_fraction.proofs.Gcds.{same_lowest}
 use Rattle.cga_fraction.proofs.Lowest.{abs-with_sign, den-reduced, lowest}
 use Rattle.cga_fraction.proofs.Order.{le_fact, le_refl, le_total, lt_fact, lt_test}
 use Rattle.cga_fraction.proofs.Diffs.{IsDiff, itself, le_diff, plus_diff, plus_of, minus_diff, minus_of, zero_diff, sum_parts}
+use Rattle.std.proofs.lemmas.Bool.{and_parts as in_both}
 
 -- in lowest terms
 pub record IsLowest (a : Rat) : Type 0 where
@@ -57,7 +58,9 @@ over_pos n x m y p q e =
     let e' : n * (y + 1) ≡ m * (y + 1) = e ∙ ap (λ z. m * z) d in
     (d, eq_of_mul-eq-mul_right (y + 1) (omega arith) n m e')
 
-same_at : (n m : ℤ) (x y : ℕ) → gcd (unsigned_abs n) (x + 1) ≡ 1 → gcd (unsigned_abs m) (y + 1) ≡ 1 → IsTrue (rat_le (record { num = n; above = x }) (record { num = m; above = y })) → IsTrue (rat_le (record { num = m; above = y }) (record { num = n; above = x })) → (x + 1 ≡ y + 1) × (n ≡ m)
+same_at : (n m : ℤ) (x y : ℕ) → gcd (unsigned_abs n) (x + 1) ≡ 1 → gcd (unsigned_abs m) (y + 1) ≡ 1
+    → IsTrue (rat_le (record { num = n; above = x }) (record { num = m; above = y }))
+    → IsTrue (rat_le (record { num = m; above = y }) (record { num = n; above = x })) → (x + 1 ≡ y + 1) × (n ≡ m)
 same_at (pos n) (pos m) x y p q h k =
     let f = le_fact (record { num = pos n; above = x }) (record { num = pos m; above = y }) h in let g = le_fact (record { num = pos m; above = y }) (record { num = pos n; above = x }) k in
     let w = over_pos n x m y p q (omega arith) in (w.0, ap pos w.1)
@@ -72,12 +75,15 @@ pub same_value : (a b : Rat) → IsLowest a → IsLowest b → IsTrue (rat_le a 
 same_value a b p q h k = let w = same_at a.num b.num a.above b.above p.coprime q.coprime h k in same_parts a b w.1 w.0
 
 -- two numbers in lowest terms that are one difference of naturals are one
-pub same_diff : (a b : Rat) (u v d w x e : ℕ) → IsLowest a → IsLowest b → IsDiff a u v d → IsDiff b w x e → u * e + x * d ≡ w * d + v * e → a ≡ b
+pub same_diff : (a b : Rat) (u v d w x e : ℕ) → IsLowest a → IsLowest b → IsDiff a u v d → IsDiff b w x e
+    → u * e + x * d ≡ w * d + v * e → a ≡ b
 same_diff a b u v d w x e p q r s h = same_value a b p q (le_diff a b u v d w x e r s (omega arith)) (le_diff b a w x e u v d s r (omega arith))
 
 -- ---- what undoes what
 
-back_naturals : (pa ma da ps ms ds : ℕ) → ((pa * ds + ps * da) * ds + ms * (da * ds)) * da + ma * (da * ds * ds) ≡ pa * (da * ds * ds) + ((ma * ds + ms * da) * ds + ps * (da * ds)) * da
+back_naturals : (pa ma da ps ms ds : ℕ)
+    → ((pa * ds + ps * da) * ds + ms * (da * ds)) * da + ma * (da * ds * ds) ≡ pa * (da * ds * ds) +
+      ((ma * ds + ms * da) * ds + ps * (da * ds)) * da
 back_naturals pa ma da ps ms ds = omega arith
 
 pub minus-plus : (a s : Rat) → IsLowest a → minus (plus a s) s ≡ a
@@ -85,7 +91,9 @@ minus-plus a s l =
     same_diff (minus (plus a s) s) a _ _ _ _ _ _ (minus_lowest (plus a s) s) l (minus_of (plus a s) s _ _ _ _ _ _ (plus_diff a s) (itself s)) (itself a)
     (back_naturals (positive_part a.num) (negative_part a.num) (den a) (positive_part s.num) (negative_part s.num) (den s))
 
-forth_naturals : (pa ma da ps ms ds : ℕ) → ((pa * ds + ms * da) * ds + ps * (da * ds)) * da + ma * (da * ds * ds) ≡ pa * (da * ds * ds) + ((ma * ds + ps * da) * ds + ms * (da * ds)) * da
+forth_naturals : (pa ma da ps ms ds : ℕ)
+    → ((pa * ds + ms * da) * ds + ps * (da * ds)) * da + ma * (da * ds * ds) ≡ pa * (da * ds * ds) +
+      ((ma * ds + ps * da) * ds + ms * (da * ds)) * da
 forth_naturals pa ma da ps ms ds = omega arith
 
 pub plus-minus : (a s : Rat) → IsLowest a → plus (minus a s) s ≡ a
@@ -93,7 +101,9 @@ plus-minus a s l =
     same_diff (plus (minus a s) s) a _ _ _ _ _ _ (plus_lowest (minus a s) s) l (plus_of (minus a s) s _ _ _ _ _ _ (minus_diff a s) (itself s)) (itself a)
     (forth_naturals (positive_part a.num) (negative_part a.num) (den a) (positive_part s.num) (negative_part s.num) (den s))
 
-left_naturals : (pa ma da ps ms ds : ℕ) → ((pa * ds + ps * da) * da + ma * (da * ds)) * ds + ms * (da * ds * da) ≡ ps * (da * ds * da) + ((ma * ds + ms * da) * da + pa * (da * ds)) * ds
+left_naturals : (pa ma da ps ms ds : ℕ)
+    → ((pa * ds + ps * da) * da + ma * (da * ds)) * ds + ms * (da * ds * da) ≡ ps * (da * ds * da) +
+      ((ma * ds + ms * da) * da + pa * (da * ds)) * ds
 left_naturals pa ma da ps ms ds = omega arith
 
 -- the difference of a sum and its first part is the second
@@ -124,11 +134,6 @@ negated-negated a = same_parts (negated (negated a)) a (neg-neg a.num) refl
 pub checked_is : (r a : Rat) → checked r ≡ Ok a → r ≡ a
 unfolding checked
 checked_is r a h = grind arith
-
-in_both : (x y : Bool) → (x && y) ≡ true → (x ≡ true) × (y ≡ true)
-in_both true true e = (refl, refl)
-in_both true false e = absurd (cc)
-in_both false y e = absurd (cc)
 
 checked_at : (r : Rat) (t : Bool) → in_range r ≡ t → checked r ≡ (if t then Ok r else Err (record {}))
 unfolding checked
@@ -172,11 +177,13 @@ fraction_in_range a h =
 not_le_ge : (a b : Rat) → rat_le a b ≡ false → IsTrue (rat_le b a)
 not_le_ge a b e = elim (le_total a b) [ inl k ↦ absurd (grind arith) | inr k ↦ k ]
 
-min_at : (a b : Rat) (t : Bool) → rat_le a b ≡ t → IsTrue (rat_le (if t then a else b) a) × IsTrue (rat_le (if t then a else b) b)
+min_at : (a b : Rat) (t : Bool) → rat_le a b ≡ t
+    → IsTrue (rat_le (if t then a else b) a) × IsTrue (rat_le (if t then a else b) b)
 min_at a b true e = (le_refl a, grind arith)
 min_at a b false e = (not_le_ge a b e, le_refl b)
 
-max_at : (a b : Rat) (t : Bool) → rat_le a b ≡ t → IsTrue (rat_le a (if t then b else a)) × IsTrue (rat_le b (if t then b else a))
+max_at : (a b : Rat) (t : Bool) → rat_le a b ≡ t
+    → IsTrue (rat_le a (if t then b else a)) × IsTrue (rat_le b (if t then b else a))
 max_at a b true e = (grind arith, le_refl b)
 max_at a b false e = (le_refl a, not_le_ge a b e)
 

@@ -1,17 +1,19 @@
-pub mod Decimals
-pub mod Diffs
-pub mod Digits
-pub mod Gcds
-pub mod Laws
-pub mod Literals
-pub mod Lowest
-pub mod Naturals
-pub mod Nearest
-pub mod Order
-pub mod Places
-pub mod Quotients
-pub mod Ratios
-pub mod Results
-pub mod Rounding
-pub mod Spelling
-pub mod Texts
+mod Decimals
+mod Diffs
+mod Digits
+mod Gcds
+mod Laws
+mod Literals
+mod Lowest
+mod Naturals
+mod Nearest
+mod Order
+mod Places
+mod Quotients
+mod Ratios
+mod Results
+mod Rounding
+mod Spelling
+mod Texts
+mod Facts
+pub mod Door

@@ -1,5 +1,7 @@
 -- The shortest text that is read as a number.
-use Rattle.std.proofs.Common.{◌≡◌, ℕ, zero, suc, ◌+◌, ◌-◌, ◌*◌, ◌/◌, ◌%◌, ◌^◌, ◌<◌, ◌≤◌, ◌==◌, List, [], ◌∷◌, ◌++◌, take, drop, length, refl, sym, ap, ◌∙◌, subst, arith, true, false, Bool, Some, None, Option, Ok, Err, Result, ℤ, pos}
+use Rattle.std.proofs.Common.{◌≡◌, ℕ, zero, suc, ◌+◌, ◌-◌, ◌*◌, ◌/◌, ◌%◌, ◌^◌, ◌<◌, ◌≤◌, ◌==◌, List, [], ◌∷◌, ◌++◌}
+use Rattle.std.proofs.Common.{take, drop, length, refl, sym, ap, ◌∙◌, subst, arith, true, false, Bool, Some, None}
+use Rattle.std.proofs.Common.{Option, Ok, Err, Result, ℤ, pos}
 use Rattle.std.specs.Prelude.{position, decimal, unsigned_abs, if◌then◌else◌, nat_le, not}
 use Rattle.std.specs.Char.{is_ascii_digit, digit_value}
 use Rattle.std.specs.List.{list_all}
@@ -9,7 +11,9 @@ use Rattle.std.proofs.lemmas.Fmt.{length-decimal-le}
 use Rattle.std.proofs.lemmas.List.{length-take, length-drop}
 use Rattle.std.proofs.lemmas.Bool.Decides.{leb_tells, eqb_tells}
 use Rattle.std.proofs.lemmas.Nat.{div-mul-add, pow-add}
-use Rattle.std.proofs.Math.Nat.{pow-suc, one-le-pow, mul-div-mul_right, div-mul_cancel, dvd-mul_left_of_dvd, dvd-mul_right, dvd_of_mod-eq-zero, mod-eq-zero_of_dvd, eq_of_mul-eq-mul_right, pow-le-pow_right}
+use Rattle.std.proofs.Math.Nat.{pow-suc, one-le-pow, mul-div-mul_right, div-mul_cancel, dvd-mul_left_of_dvd}
+use Rattle.std.proofs.Math.Nat.{dvd-mul_right, dvd_of_mod-eq-zero, mod-eq-zero_of_dvd, eq_of_mul-eq-mul_right}
+use Rattle.std.proofs.Math.Nat.{pow-le-pow_right}
 use Rattle.std.specs.Int.{◌∣◌}
 use Rattle.cga_fraction.specs.Gcd.{gcd}
 use Rattle.cga_fraction.specs.Rat.{Rat, den}
@@ -39,7 +43,8 @@ pub record Reads (text : List ℕ) (a : Rat) : Type 0 where
   pub alone : length whole ≤ length text
   pub pointed : 0 < length places → length whole + length places + 1 ≤ length text
 
-if_ok : (b : Bool) (x : Result Rat DecimalFault) (e : DecimalFault) (a : Rat) → (if b then x else Err e) ≡ Ok a → (b ≡ true) × (x ≡ Ok a)
+if_ok : (b : Bool) (x : Result Rat DecimalFault) (e : DecimalFault) (a : Rat) → (if b then x else Err e) ≡ Ok a
+    → (b ≡ true) × (x ≡ Ok a)
 if_ok true x e a h = (refl, h)
 if_ok false x e a h = absurd (cc)
 
@@ -50,7 +55,8 @@ numeral_parts : (ds : List ℕ) → is_numeral ds ≡ true → (0 < length ds) �
 numeral_parts ds h =
     let b = both (not (length ds == 0)) (list_all is_ascii_digit ds) h in (grind (arith, eqb_tells (length ds) 0), b.1)
 
-read_parts : (text whole places : List ℕ) (a : Rat) → list_all is_ascii_digit places ≡ true → length whole ≤ length text → (0 < length places → length whole + length places + 1 ≤ length text) → read_of whole places ≡ Ok a → Reads text a
+read_parts : (text whole places : List ℕ) (a : Rat) → list_all is_ascii_digit places ≡ true → length whole ≤ length text
+    → (0 < length places → length whole + length places + 1 ≤ length text) → read_of whole places ≡ Ok a → Reads text a
 read_parts text whole places a m l p h =
     let s = if_ok (is_numeral whole) (limited whole places) NotNumber a h in
     let n = numeral_parts whole s.0 in
@@ -92,7 +98,8 @@ after_split v (c ∷ cs) =
     omega (arith, a, b, q)
 
 -- n digits with k places, and m of them with p, of one number t / d
-same_number : (n k m p t d : ℕ) → 0 < d → t * 10 ^ k ≡ n * d → m * d ≡ t * 10 ^ p → p ≤ k → (m * 10 ^ k ≡ n * 10 ^ p) × (m / 10 ^ p ≡ n / 10 ^ k)
+same_number : (n k m p t d : ℕ) → 0 < d → t * 10 ^ k ≡ n * d → m * d ≡ t * 10 ^ p → p ≤ k
+    → (m * 10 ^ k ≡ n * 10 ^ p) × (m / 10 ^ p ≡ n / 10 ^ k)
 same_number n k m p t d h e f l =
     let j : p + (k - p) ≡ k = omega arith in
     let w : 10 ^ k ≡ 10 ^ p * 10 ^ (k - p) = ap (λ z. 10 ^ z) (sym j) ∙ pow-add 10 p (k - p) in
@@ -170,7 +177,8 @@ literal_is_shortest a l = record {
 }
 
 -- what the code writes is that text
-pub written : (a : Rat) (n : ℤ) (d p u ten : ℕ) → by_parts n d ≡ a → 0 < d → p ≡ places_from 17 0 d → u ≡ unsigned_abs n → ten ≡ 10 ^ p → pointed p (u * ten / d) ≡ literal_text_of a
+pub written : (a : Rat) (n : ℤ) (d p u ten : ℕ) → by_parts n d ≡ a → 0 < d → p ≡ places_from 17 0 d → u ≡ unsigned_abs n
+    → ten ≡ 10 ^ p → pointed p (u * ten / d) ≡ literal_text_of a
 unfolding literal_text_of
 written a n d p u ten e h f g i =
     let k : d - 1 + 1 ≡ d = omega arith in rw (← e, g, i, f) (rw k refl)

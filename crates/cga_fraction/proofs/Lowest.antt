@@ -43,7 +43,8 @@ pub lowest : (a d : ℕ) → 0 < d → gcd (a / gcd a d) (d / gcd a d) ≡ 1
 lowest a d h = same_from_IsGcd _ _ _ _ (gcd-IsGcd _ _) (coprime a d (gcd a d) (gcd-IsGcd a d) (gcd_positive a d h))
 
 -- the result of `reduced`, by the divisor that was found
-pub reduced-parts : (n : ℤ) (d g : ℕ) → g ≡ gcd (unsigned_abs n) d → reduced n d ≡ record { num = with_sign n (unsigned_abs n / g); above = d / g - 1 }
+pub reduced-parts : (n : ℤ) (d g : ℕ) → g ≡ gcd (unsigned_abs n) d
+    → reduced n d ≡ record { num = with_sign n (unsigned_abs n / g); above = d / g - 1 }
 unfolding reduced
 reduced-parts n d g e = rw e refl
 
@@ -56,7 +57,8 @@ unfolding checked
 checked-out a e = rw e refl
 
 -- both parts are within the limit
-within : (n : ℤ) (d u v g : ℕ) (z : ℤ) → u ≡ unsigned_abs n → v ≡ unsigned_abs n → g ≡ gcd u d → z ≡ with_sign n (v / g) → v / g ≤ 2 ^ 62 → d / g ≤ 2 ^ 62 → 0 < d
+within : (n : ℤ) (d u v g : ℕ) (z : ℤ) → u ≡ unsigned_abs n → v ≡ unsigned_abs n → g ≡ gcd u d → z ≡ with_sign n (v / g)
+    → v / g ≤ 2 ^ 62 → d / g ≤ 2 ^ 62 → 0 < d
     → ◌≡◌ {A = Result Rat Overflow} (Ok (record { num = z; above = d / g - 1 })) (checked (reduced n d))
 within n d u v g z eu ev eg ez a b h =
     let e : g ≡ gcd (unsigned_abs n) d = eg ∙ ap (λ k. gcd k d) eu in
@@ -66,7 +68,8 @@ within n d u v g z eu ev eg ez a b h =
     let same : ◌≡◌ {A = Rat} (record { num = z; above = d / g - 1 }) (reduced n d) = rw (ez, ev) (sym (reduced-parts n d g e)) in
     rw (← same) (sym (checked-in (record { num = z; above = d / g - 1 }) m k))
 
-within_is : (n : ℤ) (d u v g : ℕ) (z : ℤ) → u ≡ unsigned_abs n → v ≡ unsigned_abs n → g ≡ gcd u d → z ≡ with_sign n (v / g) → v / g ≤ 2 ^ 62 → d / g ≤ 2 ^ 62 → 0 < d
+within_is : (n : ℤ) (d u v g : ℕ) (z : ℤ) → u ≡ unsigned_abs n → v ≡ unsigned_abs n → g ≡ gcd u d
+    → z ≡ with_sign n (v / g) → v / g ≤ 2 ^ 62 → d / g ≤ 2 ^ 62 → 0 < d
     → IsReduced z (d / g)
 within_is n d u v g z eu ev eg ez a b h =
     let e : g ≡ gcd (unsigned_abs n) d = eg ∙ ap (λ k. gcd k d) eu in
@@ -78,7 +81,8 @@ within_is n d u v g z eu ev eg ez a b h =
     }
 
 -- one part is above it
-beyond : (n : ℤ) (d u v g : ℕ) → u ≡ unsigned_abs n → v ≡ unsigned_abs n → g ≡ gcd u d → ((2 ^ 62 < v / g) ⊎ (2 ^ 62 < d / g)) → 0 < d
+beyond : (n : ℤ) (d u v g : ℕ) → u ≡ unsigned_abs n → v ≡ unsigned_abs n → g ≡ gcd u d
+    → ((2 ^ 62 < v / g) ⊎ (2 ^ 62 < d / g)) → 0 < d
     → ◌≡◌ {A = Result Rat Overflow} (Err (record {})) (checked (reduced n d))
 beyond n d u v g eu ev eg above h =
     let e : g ≡ gcd (unsigned_abs n) d = eg ∙ ap (λ k. gcd k d) eu in
@@ -89,15 +93,18 @@ beyond n d u v g eu ev eg above h =
 
 -- ---- the same, by quotients that were formed
 
-pub formed : (n : ℤ) (d u v g q e : ℕ) (z : ℤ) → u ≡ unsigned_abs n → v ≡ unsigned_abs n → g ≡ gcd u d → q ≡ v / g → e ≡ d / g → z ≡ with_sign n q → q ≤ 2 ^ 62 → e ≤ 2 ^ 62 → 0 < d
+pub formed : (n : ℤ) (d u v g q e : ℕ) (z : ℤ) → u ≡ unsigned_abs n → v ≡ unsigned_abs n → g ≡ gcd u d → q ≡ v / g
+    → e ≡ d / g → z ≡ with_sign n q → q ≤ 2 ^ 62 → e ≤ 2 ^ 62 → 0 < d
     → ◌≡◌ {A = Result Rat Overflow} (Ok (record { num = z; above = e - 1 })) (checked (reduced n d))
 formed n d u v g q e z eu ev eg eq ee ez a b h = rw ee (within n d u v g z eu ev eg (ez ∙ ap (λ (k : ℕ). with_sign n k) eq) (rw eq at a) (rw ee at b) h)
 
-pub formed_is : (n : ℤ) (d u v g q e : ℕ) (z : ℤ) → u ≡ unsigned_abs n → v ≡ unsigned_abs n → g ≡ gcd u d → q ≡ v / g → e ≡ d / g → z ≡ with_sign n q → q ≤ 2 ^ 62 → e ≤ 2 ^ 62 → 0 < d
+pub formed_is : (n : ℤ) (d u v g q e : ℕ) (z : ℤ) → u ≡ unsigned_abs n → v ≡ unsigned_abs n → g ≡ gcd u d → q ≡ v / g
+    → e ≡ d / g → z ≡ with_sign n q → q ≤ 2 ^ 62 → e ≤ 2 ^ 62 → 0 < d
     → IsReduced z e
 formed_is n d u v g q e z eu ev eg eq ee ez a b h = rw ee (within_is n d u v g z eu ev eg (ez ∙ ap (λ (k : ℕ). with_sign n k) eq) (rw eq at a) (rw ee at b) h)
 
-pub formed_beyond : (n : ℤ) (d u v g q e : ℕ) → u ≡ unsigned_abs n → v ≡ unsigned_abs n → g ≡ gcd u d → q ≡ v / g → e ≡ d / g → ((2 ^ 62 < q) ⊎ (2 ^ 62 < e)) → 0 < d
+pub formed_beyond : (n : ℤ) (d u v g q e : ℕ) → u ≡ unsigned_abs n → v ≡ unsigned_abs n → g ≡ gcd u d → q ≡ v / g
+    → e ≡ d / g → ((2 ^ 62 < q) ⊎ (2 ^ 62 < e)) → 0 < d
     → ◌≡◌ {A = Result Rat Overflow} (Err (record {})) (checked (reduced n d))
 formed_beyond n d u v g q e eu ev eg eq ee above h = beyond n d u v g eu ev eg (rw (eq, ee) at above) h
 
@@ -121,7 +128,8 @@ narrow_is n d g e a b h =
     let f : n / g < 2 ^ hbits w64 = omega arith in
     rw (to_z_pos w64 (n / g) f) (within_is (pos n) d n n g (pos (n / g)) refl refl e refl (omega arith) (omega arith) h)
 
-pub narrow : (n d g : ℕ) → g ≡ gcd n d → n ≤ 2 ^ 62 → ◌≡◌ {A = Rat} (record { num = to_z w64 (n / g); above = d / g - 1 }) (reduced (pos n) d)
+pub narrow : (n d g : ℕ) → g ≡ gcd n d → n ≤ 2 ^ 62
+    → ◌≡◌ {A = Rat} (record { num = to_z w64 (n / g); above = d / g - 1 }) (reduced (pos n) d)
 narrow n d g e a =
     let k : n / g ≤ n = div-le_self n g in
     let f : n / g < 2 ^ hbits w64 = omega arith in

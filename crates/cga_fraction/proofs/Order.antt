@@ -32,7 +32,8 @@ unfolding rat_le
 le_total a b = grind (arith, nat_tests)
 
 -- cross products in a chain
-chain : (p m q n r k d e f : ℕ) → 0 < e → p * e + n * d ≤ q * d + m * e → q * f + k * e ≤ r * e + n * f → p * f + k * d ≤ r * d + m * f
+chain : (p m q n r k d e f : ℕ) → 0 < e → p * e + n * d ≤ q * d + m * e → q * f + k * e ≤ r * e + n * f
+    → p * f + k * d ≤ r * d + m * f
 chain p m q n r k d e f h x y =
     let x' : (p * e + n * d) * f ≤ (q * d + m * e) * f = mul-le-mul_right f x in
     let y' : (q * f + k * e) * d ≤ (r * e + n * f) * d = mul-le-mul_right d y in
@@ -78,17 +79,22 @@ lt_asym a b h k = lt_not_le a b h (lt_le b a k)
 -- ---- the tests of the code
 
 -- a test of whole numbers is a test of naturals that says the same
-le_is : (x y : ℤ) (u v : ℕ) → (positive_part x + negative_part y ≤ positive_part y + negative_part x → u ≤ v) → (u ≤ v → positive_part x + negative_part y ≤ positive_part y + negative_part x) → (t : Bool) → le_z x y ≡ t → t ≡ nat_le u v
+le_is : (x y : ℤ) (u v : ℕ) → (positive_part x + negative_part y ≤ positive_part y + negative_part x → u ≤ v)
+    → (u ≤ v → positive_part x + negative_part y ≤ positive_part y + negative_part x) → (t : Bool) → le_z x y ≡ t
+    → t ≡ nat_le u v
 le_is x y u v f g true e = let h : u ≤ v = f (le-true x y e) in grind (arith, leb_tells u v)
 le_is x y u v f g false e =
     let n : u ≤ v → ⊥ = λ (h : u ≤ v). (let k = g h in let l = le-false x y e in omega arith) in grind (arith, leb_tells u v)
 
-ranked : (A B C P Q R : Type 0) (r : Ordering) → MatchOrdering r A B C → (A → P) → (B → Q) → (C → R) → MatchOrdering r P Q R
+ranked : (A B C P Q R : Type 0) (r : Ordering) → MatchOrdering r A B C → (A → P) → (B → Q) → (C → R)
+    → MatchOrdering r P Q R
 ranked A B C P Q R Less h f g k = f h
 ranked A B C P Q R Equal h f g k = g h
 ranked A B C P Q R Greater h f g k = k h
 
-cmp_is : (x y : ℤ) (u v : ℕ) → (positive_part x + negative_part y < positive_part y + negative_part x → u < v) → (x ≡ y → u ≡ v) → (positive_part y + negative_part x < positive_part x + negative_part y → v < u) → int_cmp x y ≡ nat_cmp u v
+cmp_is : (x y : ℤ) (u v : ℕ) → (positive_part x + negative_part y < positive_part y + negative_part x → u < v)
+    → (x ≡ y → u ≡ v) → (positive_part y + negative_part x < positive_part x + negative_part y → v < u)
+    → int_cmp x y ≡ nat_cmp u v
 cmp_is x y u v f g k =
     nat_cmp_is u v (int_cmp x y) (ranked (x <ℤ y) (x ≡ y) (y <ℤ x) (u < v) (u ≡ v) (v < u) (int_cmp x y) (int_ranks x y) (λ h. f (lt_out x y h)) g (λ h. k (lt_out y x h)))
 
@@ -99,7 +105,8 @@ neg_parts (pos (suc n)) = (refl, refl)
 neg_parts (negsuc n) = (refl, refl)
 
 -- a product with a natural has the products of the parts
-pub scaled_parts : (x : ℤ) (k : ℕ) → (positive_part (x *ℤ pos k) ≡ positive_part x * k) × (negative_part (x *ℤ pos k) ≡ negative_part x * k)
+pub scaled_parts : (x : ℤ) (k : ℕ)
+    → (positive_part (x *ℤ pos k) ≡ positive_part x * k) × (negative_part (x *ℤ pos k) ≡ negative_part x * k)
 scaled_parts (pos n) k = (refl, omega arith)
 scaled_parts (negsuc n) k = let m = neg_parts (pos (suc n * k)) in (rw m.0 (omega arith), m.1)
 
@@ -118,7 +125,8 @@ cmp-cross a b =
     cmp_is (a.num *ℤ pos (den b)) (b.num *ℤ pos (den a)) (cross a b) (cross b a) (λ h. omega (arith, h, p.0, p.1, q.0, q.1))
     (λ h. let e = same_out (a.num *ℤ pos (den b)) (b.num *ℤ pos (den a)) h in omega (arith, e.0, e.1, p.0, p.1, q.0, q.1)) (λ h. omega (arith, h, p.0, p.1, q.0, q.1))
 
-scale_le : (p n q m d : ℕ) → 0 < d → (p + n ≤ q + m → p * d + n * d ≤ q * d + m * d) × (p * d + n * d ≤ q * d + m * d → p + n ≤ q + m)
+scale_le : (p n q m d : ℕ) → 0 < d
+    → (p + n ≤ q + m → p * d + n * d ≤ q * d + m * d) × (p * d + n * d ≤ q * d + m * d → p + n ≤ q + m)
 scale_le p n q m d h = (
   λ k. let l : (p + n) * d ≤ (q + m) * d = mul-le-mul_right d k in omega arith,
   λ k. let l : (p + n) * d ≤ (q + m) * d = omega arith in le_of_mul-le-mul_right l h,
@@ -152,29 +160,35 @@ by_parts n d = record { num = n; above = d - 1 }
 den-by_parts : (n : ℤ) (d : ℕ) → 0 < d → den (by_parts n d) ≡ d
 den-by_parts n d h = omega arith
 
-pub at_most_same : (a b : Rat) (m n : ℤ) (d : ℕ) (x y : ℤ) → by_parts m d ≡ a → by_parts n d ≡ b → x ≡ m → y ≡ n → le_z x y ≡ rat_le a b
+pub at_most_same : (a b : Rat) (m n : ℤ) (d : ℕ) (x y : ℤ) → by_parts m d ≡ a → by_parts n d ≡ b → x ≡ m → y ≡ n
+    → le_z x y ≡ rat_le a b
 at_most_same a b m n d x y p q e f = rw (← p, ← q, e, f) (le-numerators (by_parts m d) (by_parts n d) refl)
 
-pub at_most_cross : (a b : Rat) (m n : ℤ) (d e : ℕ) (x y : ℤ) → by_parts m d ≡ a → by_parts n e ≡ b → 0 < d → 0 < e → x ≡ m *ℤ pos e → y ≡ n *ℤ pos d → le_z x y ≡ rat_le a b
+pub at_most_cross : (a b : Rat) (m n : ℤ) (d e : ℕ) (x y : ℤ) → by_parts m d ≡ a → by_parts n e ≡ b → 0 < d → 0 < e
+    → x ≡ m *ℤ pos e → y ≡ n *ℤ pos d → le_z x y ≡ rat_le a b
 at_most_cross a b m n d e x y p q h k u v =
     let i = den-by_parts m d h in
     let j = den-by_parts n e k in
     rw (← p, ← q, u, v) (rw (i, j) at (le-cross (by_parts m d) (by_parts n e)))
 
-pub compared_same : (a b : Rat) (m n : ℤ) (d : ℕ) (r : Ordering) → by_parts m d ≡ a → by_parts n d ≡ b → r ≡ int_cmp m n → r ≡ rat_cmp a b
+pub compared_same : (a b : Rat) (m n : ℤ) (d : ℕ) (r : Ordering) → by_parts m d ≡ a → by_parts n d ≡ b → r ≡ int_cmp m n
+    → r ≡ rat_cmp a b
 compared_same a b m n d r p q h = rw (← p, ← q, h) (cmp-numerators (by_parts m d) (by_parts n d) refl)
 
-pub compared_cross : (a b : Rat) (m n : ℤ) (d e : ℕ) (r : Ordering) → by_parts m d ≡ a → by_parts n e ≡ b → 0 < d → 0 < e → r ≡ int_cmp (m *ℤ pos e) (n *ℤ pos d) → r ≡ rat_cmp a b
+pub compared_cross : (a b : Rat) (m n : ℤ) (d e : ℕ) (r : Ordering) → by_parts m d ≡ a → by_parts n e ≡ b → 0 < d
+    → 0 < e → r ≡ int_cmp (m *ℤ pos e) (n *ℤ pos d) → r ≡ rat_cmp a b
 compared_cross a b m n d e r p q h k o =
     let i = den-by_parts m d h in
     let j = den-by_parts n e k in
     rw (← p, ← q, o) (rw (i, j) at (cmp-cross (by_parts m d) (by_parts n e)))
 
-negative_at : (n : ℤ) (d : ℕ) → 0 < d → lt_z n (pos 0) ≡ not (nat_le (0 * d + negative_part n * (0 + 1)) (positive_part n * (0 + 1) + 0 * d))
+negative_at : (n : ℤ) (d : ℕ) → 0 < d
+    → lt_z n (pos 0) ≡ not (nat_le (0 * d + negative_part n * (0 + 1)) (positive_part n * (0 + 1) + 0 * d))
 negative_at (pos n) d h = grind (arith, nat_tests)
 negative_at (negsuc n) d h = grind (arith, nat_tests)
 
-positive_at : (n : ℤ) (d : ℕ) → 0 < d → lt_z (pos 0) n ≡ not (nat_le (positive_part n * (0 + 1) + 0 * d) (0 * d + negative_part n * (0 + 1)))
+positive_at : (n : ℤ) (d : ℕ) → 0 < d
+    → lt_z (pos 0) n ≡ not (nat_le (positive_part n * (0 + 1) + 0 * d) (0 * d + negative_part n * (0 + 1)))
 positive_at (pos n) d h = grind (arith, nat_tests)
 positive_at (negsuc n) d h = grind (arith, nat_tests)
 

@@ -9,7 +9,8 @@ is_zero_at n e = grind (arith, eqb_tells n 0)
 is_other_at : (n : ℕ) → (n ≡ 0 → ⊥) → (n == 0) ≡ false
 is_other_at n e = grind (arith, eqb_tells n 0)
 
-one_more : (more places d : ℕ) → (10 ^ places % d == 0) ≡ false → places_from (suc more) places d ≡ places_from more (places + 1) d
+one_more : (more places d : ℕ) → (10 ^ places % d == 0) ≡ false
+    → places_from (suc more) places d ≡ places_from more (places + 1) d
 unfolding places_from
 one_more more places d e = rw e refl
 
@@ -22,7 +23,8 @@ unfolding places_from
 none_left places d = refl
 
 -- the steps of the code
-pub goes_on : (most places d rest : ℕ) → rest ≡ 10 ^ places % d → (rest ≡ 0 → ⊥) → places < most → places_from (most - (places + 1)) (places + 1) d ≡ places_from (most - places) places d
+pub goes_on : (most places d rest : ℕ) → rest ≡ 10 ^ places % d → (rest ≡ 0 → ⊥) → places < most
+    → places_from (most - (places + 1)) (places + 1) d ≡ places_from (most - places) places d
 goes_on most places d rest e some h =
     let k : most - places ≡ suc (most - (places + 1)) = omega arith in
     rw k (sym (one_more (most - (places + 1)) places d (is_other_at (10 ^ places % d) (λ z. some (e ∙ z)))))
@@ -36,7 +38,8 @@ pub ends : (more places d : ℕ) → more ≡ 0 → places_from more places d �
 ends more places d e = rw e (none_left places d)
 
 -- where a number of places is exact, the least one is, and it isn't greater
-exact_at : (more places d k : ℕ) → places ≤ k → k ≤ places + more → 10 ^ k % d ≡ 0 → (t : Bool) → (10 ^ places % d == 0) ≡ t → (places_from more places d ≤ k) × (10 ^ places_from more places d % d ≡ 0)
+exact_at : (more places d k : ℕ) → places ≤ k → k ≤ places + more → 10 ^ k % d ≡ 0 → (t : Bool)
+    → (10 ^ places % d == 0) ≡ t → (places_from more places d ≤ k) × (10 ^ places_from more places d % d ≡ 0)
 exact_at zero places d k h l e t s =
     let p : places ≡ k = omega arith in
     let q = none_left places d in (rw q h, rw (q, p) e)

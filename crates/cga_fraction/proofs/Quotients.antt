@@ -37,7 +37,8 @@ pub plus-negated : (a b : Rat) → plus a (negated b) ≡ minus a b
 unfolding plus minus
 plus-negated a b = rw (neg-scaled b.num (den a)) (rw (plus-neg (a.num *ℤ pos (den b)) (b.num *ℤ pos (den a))) refl)
 
-pub difference_is : (a b n : Rat) (r : Result Rat Overflow) → n ≡ negated b → r ≡ checked (plus a n) → r ≡ checked (minus a b)
+pub difference_is : (a b n : Rat) (r : Result Rat Overflow) → n ≡ negated b → r ≡ checked (plus a n)
+    → r ≡ checked (minus a b)
 difference_is a b n r e h = rw (h, e, plus-negated) refl
 
 gcd-swap : (a b : ℕ) → gcd a b ≡ gcd b a
@@ -56,7 +57,8 @@ not_zero (pos (suc n)) h = refl
 not_zero (negsuc n) h = refl
 
 -- numerator and denominator change places
-pub swapped : (n : ℤ) (d : ℕ) (top : ℤ) (u : ℕ) → IsReduced n d → n ≢ pos 0 → unsigned_abs top ≡ d → u ≡ unsigned_abs n → IsReduced top u
+pub swapped : (n : ℤ) (d : ℕ) (top : ℤ) (u : ℕ) → IsReduced n d → n ≢ pos 0 → unsigned_abs top ≡ d → u ≡ unsigned_abs n
+    → IsReduced top u
 swapped n d top u h some e f = record {
   positive = rw f (abs_positive n some);
   lowest = rw (e, f) (gcd-swap d (unsigned_abs n) ∙ h.lowest);
@@ -94,7 +96,8 @@ by_other : (a b : Rat) → (b.num ≡ pos 0 → ⊥) → quotient_of a b ≡ or_
 unfolding quotient_of divided
 by_other a b some = rw (not_zero b.num some) refl
 
-pub quotient_is : (a b i : Rat) (m : Result Rat Overflow) (r : Result Rat DivFault) → (b.num ≡ pos 0 → ⊥) → i ≡ inverse b → m ≡ checked (times a i) → r ≡ or_err fault.Overflow m → r ≡ quotient_of a b
+pub quotient_is : (a b i : Rat) (m : Result Rat Overflow) (r : Result Rat DivFault) → (b.num ≡ pos 0 → ⊥)
+    → i ≡ inverse b → m ≡ checked (times a i) → r ≡ or_err fault.Overflow m → r ≡ quotient_of a b
 quotient_is a b i m r some e f g = g ∙ rw (f, e) (sym (by_other a b some))
 
 one-scaled : (n : ℤ) → n *ℤ pos (suc 0) ≡ n
@@ -105,20 +108,26 @@ minus_one-scaled (pos zero) = refl
 minus_one-scaled (pos (suc n)) = let e : suc n * suc 0 ≡ suc n = omega arith in ap (λ k. neg_ℤ (pos k)) e
 minus_one-scaled (negsuc n) = let e : suc n * suc 0 ≡ suc n = omega arith in ap pos e
 
-pub by_positive : (n : ℤ) (d : ℕ) (m : Result Rat Overflow) (r : Result Rat DivFault) → m ≡ checked (reduced n (suc d)) → r ≡ or_err fault.Overflow m → r ≡ quotient_of (of_int n) (of_int (pos (suc d)))
+pub by_positive : (n : ℤ) (d : ℕ) (m : Result Rat Overflow) (r : Result Rat DivFault) → m ≡ checked (reduced n (suc d))
+    → r ≡ or_err fault.Overflow m → r ≡ quotient_of (of_int n) (of_int (pos (suc d)))
 unfolding times
 by_positive n d m r f g = quotient_is (of_int n) (of_int (pos (suc d))) _ _ r (λ e. cc) refl refl (g ∙ rw f (rw (one-scaled n) (ap (λ k. or_err fault.Overflow (checked (reduced n k))) (omega arith))))
 
-pub by_negative : (n : ℤ) (d : ℕ) (m : Result Rat Overflow) (r : Result Rat DivFault) → m ≡ checked (reduced (neg_ℤ n) (suc d)) → r ≡ or_err fault.Overflow m → r ≡ quotient_of (of_int n) (of_int (negsuc d))
+pub by_negative : (n : ℤ) (d : ℕ) (m : Result Rat Overflow) (r : Result Rat DivFault)
+    → m ≡ checked (reduced (neg_ℤ n) (suc d)) → r ≡ or_err fault.Overflow m
+    → r ≡ quotient_of (of_int n) (of_int (negsuc d))
 unfolding times
 by_negative n d m r f g = quotient_is (of_int n) (of_int (negsuc d)) _ _ r (λ e. cc) refl refl (g ∙ rw f (rw (minus_one-scaled n) (ap (λ k. or_err fault.Overflow (checked (reduced (neg_ℤ n) k))) (omega arith))))
 
-pub by_negative_int : (n d : ℤ) (m : Result Rat Overflow) (r : Result Rat DivFault) → d <ℤ pos 0 → m ≡ checked (reduced (neg_ℤ n) (unsigned_abs d)) → r ≡ or_err fault.Overflow m → r ≡ quotient_of (of_int n) (of_int d)
+pub by_negative_int : (n d : ℤ) (m : Result Rat Overflow) (r : Result Rat DivFault) → d <ℤ pos 0
+    → m ≡ checked (reduced (neg_ℤ n) (unsigned_abs d)) → r ≡ or_err fault.Overflow m
+    → r ≡ quotient_of (of_int n) (of_int d)
 by_negative_int n (pos zero) m r h f g = absurd (omega (arith, ints))
 by_negative_int n (pos (suc d)) m r h f g = absurd (omega (arith, ints))
 by_negative_int n (negsuc d) m r h f g = by_negative n d m r f g
 
-pub by_positive_int : (n d : ℤ) (m : Result Rat Overflow) (r : Result Rat DivFault) → pos 0 <ℤ d → m ≡ checked (reduced n (unsigned_abs d)) → r ≡ or_err fault.Overflow m → r ≡ quotient_of (of_int n) (of_int d)
+pub by_positive_int : (n d : ℤ) (m : Result Rat Overflow) (r : Result Rat DivFault) → pos 0 <ℤ d
+    → m ≡ checked (reduced n (unsigned_abs d)) → r ≡ or_err fault.Overflow m → r ≡ quotient_of (of_int n) (of_int d)
 by_positive_int n (pos zero) m r h f g = absurd (omega (arith, ints))
 by_positive_int n (pos (suc d)) m r h f g = by_positive n d m r f g
 by_positive_int n (negsuc d) m r h f g = absurd (omega (arith, ints))

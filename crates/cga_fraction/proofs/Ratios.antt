@@ -77,7 +77,8 @@ inverse_parts (negsuc n) t x m e i s h = absurd (cc)
 pub inverse_ratio : (b : Rat) (m e : ℕ) → IsRatio b m e → 0 < m → IsRatio (inverse b) e m
 inverse_ratio b m e s h = inverse_parts b.num s.top b.above m e s.is s.same h
 
-pub divided_ratio : (a b : Rat) (n d m e : ℕ) → IsRatio a n d → IsRatio b m e → 0 < m → IsRatio (divided a b) (n * e) (d * m)
+pub divided_ratio : (a b : Rat) (n d m e : ℕ) → IsRatio a n d → IsRatio b m e → 0 < m
+    → IsRatio (divided a b) (n * e) (d * m)
 unfolding divided
 divided_ratio a b n d m e r s h = times_ratio a (inverse b) n d e m r (inverse_ratio b m e s h)
 
@@ -114,7 +115,8 @@ back s t a b d e n m p q h k l =
     le_of_mul-le-mul_right w (mul-pos p q)
 
 -- what is left of a where b is at most a
-differences : (s t a b d e n m x : ℕ) → s * d ≡ n * a → t * e ≡ m * b → s * b ≡ x + t * a → x * (d * e) + m * d * (a * b) ≡ n * e * (a * b)
+differences : (s t a b d e n m x : ℕ) → s * d ≡ n * a → t * e ≡ m * b → s * b ≡ x + t * a
+    → x * (d * e) + m * d * (a * b) ≡ n * e * (a * b)
 differences s t a b d e n m x h k l =
     let u : s * d * (b * e) ≡ n * a * (b * e) = ap (λ x. x * (b * e)) h in
     let v : t * e * (a * d) ≡ m * b * (a * d) = ap (λ x. x * (a * d)) k in
@@ -124,13 +126,17 @@ differences s t a b d e n m x h k l =
 pub minus_top : (s t : ℕ) → t ≤ s → pos s -ℤ pos t ≡ pos (s - t)
 minus_top s t h = omega (arith, ints)
 
-le_tops : (b a : Rat) (t s : ℕ) → b.num ≡ pos t → a.num ≡ pos s → positive_part b.num * den a + negative_part a.num * den b ≤ positive_part a.num * den b + negative_part b.num * den a → t * den a ≤ s * den b
+le_tops : (b a : Rat) (t s : ℕ) → b.num ≡ pos t → a.num ≡ pos s
+    → positive_part b.num * den a + negative_part a.num * den b ≤ positive_part a.num * den b + negative_part b.num *
+      den a
+    → t * den a ≤ s * den b
 le_tops b a t s e f h =
     let h' = subst (λ z. positive_part z * den a + negative_part a.num * den b ≤ positive_part a.num * den b + negative_part z * den a) e h in
     let h'' = subst (λ z. t * den a + negative_part z * den b ≤ positive_part z * den b + 0 * den a) f h' in
     omega arith
 
-pub minus_ratio : (a b : Rat) (n d m e : ℕ) → IsRatio a n d → IsRatio b m e → IsTrue (rat_le b a) → (k : ℕ) × (k + m * d ≡ n * e) × IsRatio (minus a b) k (d * e)
+pub minus_ratio : (a b : Rat) (n d m e : ℕ) → IsRatio a n d → IsRatio b m e → IsTrue (rat_le b a)
+    → (k : ℕ) × (k + m * d ≡ n * e) × IsRatio (minus a b) k (d * e)
 unfolding minus
 minus_ratio a b n d m e r s l =
     let f = le_fact b a l in

@@ -7,7 +7,8 @@ use Rattle.cga_fraction.specs.declared.stop.Stop.{Stop}
 use Rattle.cga_fraction.specs.declared.stop.Stop.TheVariants.{Fault, NoMemory}
 
 -- what two steps that succeed went through
-pub and_then-ok : {A B F : Type 0} (r : Result A F) (f : A → Result B F) (y : B) → and_then r f ≡ Ok y → (x : A) × (r ≡ Ok x) × (f x ≡ Ok y)
+pub and_then-ok : {A B F : Type 0} (r : Result A F) (f : A → Result B F) (y : B) → and_then r f ≡ Ok y
+    → (x : A) × (r ≡ Ok x) × (f x ≡ Ok y)
 and_then-ok (Ok x) f y h = (x, refl, h)
 and_then-ok (Err e) f y h = absurd (cc)
 
@@ -27,7 +28,8 @@ or_err-err_as f e g (Ok a) h = absurd (cc)
 or_err-err_as f e g (Err x) h = refl
 
 -- what holds of whatever was made holds of what is answered
-pub settled_of-each : {A F : Type 0} (P : A → Type 0) (made : Result A (Stop F)) → ((x : A) → made ≡ Ok x → P x) → IfOk (settled_of made) (λ given. IfOk given P)
+pub settled_of-each : {A F : Type 0} (P : A → Type 0) (made : Result A (Stop F)) → ((x : A) → made ≡ Ok x → P x)
+    → IfOk (settled_of made) (λ given. IfOk given P)
 settled_of-each P (Ok x) each = each x refl
 settled_of-each P (Err (Fault f)) each = tt
 settled_of-each P (Err NoMemory) each = tt

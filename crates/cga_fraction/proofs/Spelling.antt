@@ -1,5 +1,6 @@
 -- Texts with a point, read as the numbers that they show.
-use Rattle.std.proofs.Common.{◌≡◌, ℕ, zero, suc, ◌+◌, ◌*◌, ◌/◌, ◌%◌, ◌^◌, ◌<◌, ◌≤◌, ◌&&◌, ◌==◌, List, [], ◌∷◌, ◌++◌, drop, length, refl, sym, ap, ◌∙◌, arith, rules, true, false, Bool, Some, None, Ok, pos}
+use Rattle.std.proofs.Common.{◌≡◌, ℕ, zero, suc, ◌+◌, ◌*◌, ◌/◌, ◌%◌, ◌^◌, ◌<◌, ◌≤◌, ◌&&◌, ◌==◌, List, [], ◌∷◌, ◌++◌}
+use Rattle.std.proofs.Common.{drop, length, refl, sym, ap, ◌∙◌, arith, rules, true, false, Bool, Some, None, Ok, pos}
 use Rattle.std.specs.Prelude.{position, decimal, nat_le, nat_lt}
 use Rattle.std.specs.Char.{is_ascii_digit, digit_value}
 use Rattle.std.specs.List.{list_all, position_or_len}
@@ -17,6 +18,9 @@ use Rattle.cga_fraction.specs.Texts.{padded, pointed, after_point}
 use Rattle.cga_fraction.proofs.Diffs.{reduced_diff}
 use Rattle.cga_fraction.proofs.Laws.{same_diff, reduced_lowest}
 use Rattle.cga_fraction.proofs.Digits.{after-append}
+pub use Rattle.std.proofs.lemmas.Bool.{and_parts as both}
+use Rattle.std.proofs.lemmas.Fmt.{decimal_nonempty as length_decimal_some}
+use Rattle.cga_fraction.proofs.Facts.{nat_le_18 as few_digits, nat_lt-same as not_below, nat_lt_from_lt as below_it}
 
 -- ---- digits
 
@@ -76,13 +80,9 @@ value-padded (suc places) n v =
 no_point : (c : ℕ) → is_ascii_digit c ≡ true → is_point c ≡ false
 no_point c e = grind (arith, nat_tests)
 
-pub both : (a b : Bool) → (a && b) ≡ true → (a ≡ true) × (b ≡ true)
-both true true e = (refl, refl)
-both true false e = absurd (cc)
-both false b e = absurd (cc)
-
 -- digits hold no point
-length_before : (ds rest : List ℕ) → list_all is_ascii_digit ds ≡ true → position_or_len is_point (ds ++ 46 ∷ rest) ≡ length ds
+length_before : (ds rest : List ℕ) → list_all is_ascii_digit ds ≡ true
+    → position_or_len is_point (ds ++ 46 ∷ rest) ≡ length ds
 length_before [] rest e = refl
 length_before (c ∷ cs) rest e =
     let b = both (is_ascii_digit c) (list_all is_ascii_digit cs) e in
@@ -94,13 +94,8 @@ length_alone (c ∷ cs) e =
     let b = both (is_ascii_digit c) (list_all is_ascii_digit cs) e in
     rw (no_point c b.0) (omega (arith, length_alone cs b.1))
 
-below_it : (n m : ℕ) → n < m → nat_lt n m ≡ true
-below_it n m h = grind (arith, nat_tests)
-
-not_below : (n : ℕ) → nat_lt n n ≡ false
-not_below n = grind (arith, nat_tests)
-
-position_between : (ds rest : List ℕ) → list_all is_ascii_digit ds ≡ true → position is_point (ds ++ 46 ∷ rest) ≡ Some (length ds)
+position_between : (ds rest : List ℕ) → list_all is_ascii_digit ds ≡ true
+    → position is_point (ds ++ 46 ∷ rest) ≡ Some (length ds)
 position_between ds rest e =
     let p = length_before ds rest e in
     let l : length ds < length (ds ++ 46 ∷ rest) = omega (arith, length-append ds (46 ∷ rest)) in
@@ -119,16 +114,15 @@ numeral : (ds : List ℕ) → 0 < length ds → list_all is_ascii_digit ds ≡ t
 numeral ds h e =
     let z : (length ds == 0) ≡ false = grind (arith, eqb_tells (length ds) 0) in rw (z, e) refl
 
-few_digits : (n : ℕ) → n ≤ 18 → nat_le n 18 ≡ true
-few_digits n h = grind (arith, leb_tells n 18)
-
-pub reads_whole : (ds : List ℕ) → 0 < length ds → list_all is_ascii_digit ds ≡ true → length ds ≤ 18 → decimal_of ds ≡ Ok (reduced (pos (digits_value 10 ds)) 1)
+pub reads_whole : (ds : List ℕ) → 0 < length ds → list_all is_ascii_digit ds ≡ true → length ds ≤ 18
+    → decimal_of ds ≡ Ok (reduced (pos (digits_value 10 ds)) 1)
 unfolding decimal_of
 reads_whole ds h e few =
     let k : length ds + 0 ≤ 18 = omega arith in
     rw (position_alone ds e, numeral ds h e, few_digits (length ds + 0) k, append-nil ds) refl
 
-pub reads_parts : (ds ps : List ℕ) → 0 < length ds → list_all is_ascii_digit ds ≡ true → 0 < length ps → list_all is_ascii_digit ps ≡ true → length ds + length ps ≤ 18
+pub reads_parts : (ds ps : List ℕ) → 0 < length ds → list_all is_ascii_digit ds ≡ true → 0 < length ps
+    → list_all is_ascii_digit ps ≡ true → length ds + length ps ≤ 18
     → decimal_of (ds ++ 46 ∷ ps) ≡ Ok (reduced (pos (digits_value 10 (ds ++ ps))) (10 ^ length ps))
 unfolding decimal_of
 reads_parts ds ps h e k f few =
@@ -136,14 +130,12 @@ reads_parts ds ps h e k f few =
 
 -- ---- the text with a point is read as the number that it shows
 
-length_decimal_some : (n : ℕ) → n < 2 ^ 64 → 0 < length (decimal n)
-length_decimal_some n h = decimal_nonempty n h
-
 pub reduced_like : (n d m e : ℕ) → 0 < d → 0 < e → n * e ≡ m * d → reduced (pos n) d ≡ reduced (pos m) e
 reduced_like n d m e h k l =
     same_diff (reduced (pos n) d) (reduced (pos m) e) n 0 d m 0 e (reduced_lowest (pos n) d h) (reduced_lowest (pos m) e k) (reduced_diff (pos n) d h) (reduced_diff (pos m) e k) (omega arith)
 
-reads_at : (places n : ℕ) → n / 10 ^ places < 2 ^ 64 → length (decimal (n / 10 ^ places)) + places ≤ 18 → decimal_of (decimal (n / 10 ^ places) ++ after_point places n) ≡ Ok (reduced (pos n) (10 ^ places))
+reads_at : (places n : ℕ) → n / 10 ^ places < 2 ^ 64 → length (decimal (n / 10 ^ places)) + places ≤ 18
+    → decimal_of (decimal (n / 10 ^ places) ++ after_point places n) ≡ Ok (reduced (pos n) (10 ^ places))
 reads_at zero n h few =
     let i : n / 10 ^ 0 ≡ n = omega arith in
     let v : digits_value 10 (decimal (n / 10 ^ 0)) ≡ n / 10 ^ 0 = digits_value-decimal own (n / 10 ^ 0) h in
@@ -158,17 +150,22 @@ reads_at (suc places) n h few =
     reads_parts (decimal (n / 10 ^ suc places)) (padded (suc places) n) (length_decimal_some (n / 10 ^ suc places) h) (digits_decimal own (n / 10 ^ suc places) h) (omega arith) (digits-padded (suc places) n) (omega arith)
     ∙ ap (λ (k : ℕ). Ok (reduced (pos k) (10 ^ length (padded (suc places) n)))) t ∙ ap (λ (k : ℕ). Ok (reduced (pos n) (10 ^ k))) l
 
-pub reads-pointed : (places n : ℕ) → n / 10 ^ places < 2 ^ 64 → length (decimal (n / 10 ^ places)) + places ≤ 18 → decimal_of (pointed places n) ≡ Ok (reduced (pos n) (10 ^ places))
+pub reads-pointed : (places n : ℕ) → n / 10 ^ places < 2 ^ 64 → length (decimal (n / 10 ^ places)) + places ≤ 18
+    → decimal_of (pointed places n) ≡ Ok (reduced (pos n) (10 ^ places))
 unfolding pointed
 reads-pointed places n h few = reads_at places n h few
 
-length_at : (places n : ℕ) → (length (decimal (n / 10 ^ places) ++ after_point places n) ≤ length (decimal (n / 10 ^ places)) + places + 1) × (places ≡ 0 → length (decimal (n / 10 ^ places) ++ after_point places n) ≤ length (decimal (n / 10 ^ places)))
+length_at : (places n : ℕ)
+    → (length (decimal (n / 10 ^ places) ++ after_point places n) ≤ length (decimal (n / 10 ^ places)) + places + 1)
+      × (places ≡ 0 → length (decimal (n / 10 ^ places) ++ after_point places n) ≤ length (decimal (n / 10 ^ places)))
 length_at zero n = let l = length-append (decimal (n / 10 ^ 0)) [] in (omega arith, λ z. omega arith)
 length_at (suc places) n =
     let l = length-append (decimal (n / 10 ^ suc places)) (after_point (suc places) n) in
     let k = length-padded (suc places) n in
     (omega arith, λ z. absurd (omega arith))
 
-pub length-pointed : (places n : ℕ) → (length (pointed places n) ≤ length (decimal (n / 10 ^ places)) + places + 1) × (places ≡ 0 → length (pointed places n) ≤ length (decimal (n / 10 ^ places)))
+pub length-pointed : (places n : ℕ)
+    → (length (pointed places n) ≤ length (decimal (n / 10 ^ places)) + places + 1)
+      × (places ≡ 0 → length (pointed places n) ≤ length (decimal (n / 10 ^ places)))
 unfolding pointed
 length-pointed places n = length_at places n

@@ -39,15 +39,19 @@ pointed-parts places n h =
     let e : suc (places - 1) ≡ places = omega arith in rw (← e) refl
 
 -- what the code forms is the rounded number
-pub rounded : (a : Rat) (n : ℤ) (d places u p : ℕ) → by_parts n d ≡ a → 0 < d → u ≡ unsigned_abs n → p ≡ 10 ^ places → with_sign a.num ((2 * (u * p) + d) / (2 * d)) ≡ round_of a places
+pub rounded : (a : Rat) (n : ℤ) (d places u p : ℕ) → by_parts n d ≡ a → 0 < d → u ≡ unsigned_abs n → p ≡ 10 ^ places
+    → with_sign a.num ((2 * (u * p) + d) / (2 * d)) ≡ round_of a places
 unfolding round_of
 rounded a n d places u p e h f g =
     let k : d - 1 + 1 ≡ d = omega arith in rw (← e, f, g) (rw k refl)
 
 -- what the code writes is the number with its point
-pub written_whole : (out after text : List ℕ) (number places p : ℕ) → places ≡ 0 → p ≡ 10 ^ places → text ≡ decimal (number / p) → after ≡ out ++ text → after ≡ out ++ pointed places number
+pub written_whole : (out after text : List ℕ) (number places p : ℕ) → places ≡ 0 → p ≡ 10 ^ places
+    → text ≡ decimal (number / p) → after ≡ out ++ text → after ≡ out ++ pointed places number
 written_whole out after text number places p z e f g = rw (g, f, e) (ap (λ (t : List ℕ). out ++ t) (sym (pointed-whole places number z)))
 
-pub written_parts : (out after dotted all text : List ℕ) (number places p : ℕ) → 0 < places → p ≡ 10 ^ places → text ≡ decimal (number / p) → after ≡ out ++ text → dotted ≡ after ++ (46 ∷ []) → all ≡ dotted ++ padded places number → all ≡ out ++ pointed places number
+pub written_parts : (out after dotted all text : List ℕ) (number places p : ℕ) → 0 < places → p ≡ 10 ^ places
+    → text ≡ decimal (number / p) → after ≡ out ++ text → dotted ≡ after ++ (46 ∷ [])
+    → all ≡ dotted ++ padded places number → all ≡ out ++ pointed places number
 written_parts out after dotted all text number places p h e f g i j =
     rw (j, i, g, f, e) (append_assoc (out ++ decimal (number / 10 ^ places)) (46 ∷ []) (padded places number) ∙ append_assoc out (decimal (number / 10 ^ places)) (46 ∷ padded places number) ∙ ap (λ (t : List ℕ). out ++ t) (sym (pointed-parts places number h)))

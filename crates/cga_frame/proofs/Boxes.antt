@@ -3,15 +3,18 @@ use Rattle.std.proofs.Common.{◌≡◌, true}
 use Rattle.std.specs.Prelude.{IsTrue}
 use Rattle.cga_fraction.specs.Rat.{Rat}
 use Rattle.cga_fraction.specs.Order.{rat_le}
-use Rattle.cga_fraction.proofs.Order.{le_refl}
+use Rattle.cga_fraction.proofs.Door.{le_refl}
 use Rattle.cga_frame.specs.Points.{point_min, point_max}
 use Rattle.cga_frame.specs.Box.{Box, is_box, meets, holds, touches, hull, along_meets, along_holds, along_touches}
 use Rattle.cga_frame.specs.Meeting.{IsBetween, Meets, Holds, Touches, IsHull}
 use Rattle.cga_frame.specs.declared.point.Point.{Point}
 use Rattle.cga_frame.proofs.Flags.{told, tells, pair, three, all_three}
-use Rattle.cga_frame.proofs.Intervals.{holds_at, holds_from, holds_chain, touches_at, touches_from, meets_at, meets_from, meets_touches_at, touches_up_at, hull_first, hull_second, hull_least, hull_ordered, ordered_at}
+use Rattle.cga_frame.proofs.Intervals.{holds_at, holds_from, holds_chain, touches_at, touches_from, meets_at}
+use Rattle.cga_frame.proofs.Intervals.{meets_from, meets_touches_at, touches_up_at, hull_first, hull_second}
+use Rattle.cga_frame.proofs.Intervals.{hull_least, hull_ordered, ordered_at}
 
-sides : (b : Box) → is_box b ≡ true → IsTrue (rat_le b.low.x b.high.x) × IsTrue (rat_le b.low.y b.high.y) × IsTrue (rat_le b.low.z b.high.z)
+sides : (b : Box) → is_box b ≡ true
+    → IsTrue (rat_le b.low.x b.high.x) × IsTrue (rat_le b.low.y b.high.y) × IsTrue (rat_le b.low.z b.high.z)
 sides b e = let t = three (rat_le b.low.x b.high.x) (rat_le b.low.y b.high.y) (rat_le b.low.z b.high.z) e in (told _ t.0, told _ t.1, told _ t.2)
 
 itself : (l h : Rat) → along_holds l h l h ≡ true
@@ -22,11 +25,15 @@ start l h e = record { from = le_refl l; to = e }
 
 -- ---- holding
 
-holds_parts : (a b : Box) → holds a b ≡ true → (along_holds a.low.x a.high.x b.low.x b.high.x ≡ true) × (along_holds a.low.y a.high.y b.low.y b.high.y ≡ true) × (along_holds a.low.z a.high.z b.low.z b.high.z ≡ true)
+holds_parts : (a b : Box) → holds a b ≡ true
+    → (along_holds a.low.x a.high.x b.low.x b.high.x ≡ true) × (along_holds a.low.y a.high.y b.low.y b.high.y ≡ true)
+      × (along_holds a.low.z a.high.z b.low.z b.high.z ≡ true)
 unfolding holds
 holds_parts a b e = three _ _ _ e
 
-holds_all : (a b : Box) → along_holds a.low.x a.high.x b.low.x b.high.x ≡ true → along_holds a.low.y a.high.y b.low.y b.high.y ≡ true → along_holds a.low.z a.high.z b.low.z b.high.z ≡ true → holds a b ≡ true
+holds_all : (a b : Box) → along_holds a.low.x a.high.x b.low.x b.high.x ≡ true
+    → along_holds a.low.y a.high.y b.low.y b.high.y ≡ true → along_holds a.low.z a.high.z b.low.z b.high.z ≡ true
+    → holds a b ≡ true
 unfolding holds
 holds_all a b e f g = all_three _ _ _ e f g
 
@@ -53,11 +60,16 @@ holds_itself a = holds_all a a (itself a.low.x a.high.x) (itself a.low.y a.high.
 
 -- ---- touching
 
-touches_parts : (a b : Box) → touches a b ≡ true → (along_touches a.low.x a.high.x b.low.x b.high.x ≡ true) × (along_touches a.low.y a.high.y b.low.y b.high.y ≡ true) × (along_touches a.low.z a.high.z b.low.z b.high.z ≡ true)
+touches_parts : (a b : Box) → touches a b ≡ true
+    → (along_touches a.low.x a.high.x b.low.x b.high.x ≡ true)
+      × (along_touches a.low.y a.high.y b.low.y b.high.y ≡ true)
+      × (along_touches a.low.z a.high.z b.low.z b.high.z ≡ true)
 unfolding touches
 touches_parts a b e = three _ _ _ e
 
-touches_all : (a b : Box) → along_touches a.low.x a.high.x b.low.x b.high.x ≡ true → along_touches a.low.y a.high.y b.low.y b.high.y ≡ true → along_touches a.low.z a.high.z b.low.z b.high.z ≡ true → touches a b ≡ true
+touches_all : (a b : Box) → along_touches a.low.x a.high.x b.low.x b.high.x ≡ true
+    → along_touches a.low.y a.high.y b.low.y b.high.y ≡ true → along_touches a.low.z a.high.z b.low.z b.high.z ≡ true
+    → touches a b ≡ true
 unfolding touches
 touches_all a b e f g = all_three _ _ _ e f g
 
@@ -82,11 +94,15 @@ touches_up a b q e f =
 
 -- ---- meeting
 
-meets_parts : (a b : Box) → meets a b ≡ true → (along_meets a.low.x a.high.x b.low.x b.high.x ≡ true) × (along_meets a.low.y a.high.y b.low.y b.high.y ≡ true) × (along_meets a.low.z a.high.z b.low.z b.high.z ≡ true)
+meets_parts : (a b : Box) → meets a b ≡ true
+    → (along_meets a.low.x a.high.x b.low.x b.high.x ≡ true) × (along_meets a.low.y a.high.y b.low.y b.high.y ≡ true)
+      × (along_meets a.low.z a.high.z b.low.z b.high.z ≡ true)
 unfolding meets
 meets_parts a b e = three _ _ _ e
 
-meets_all : (a b : Box) → along_meets a.low.x a.high.x b.low.x b.high.x ≡ true → along_meets a.low.y a.high.y b.low.y b.high.y ≡ true → along_meets a.low.z a.high.z b.low.z b.high.z ≡ true → meets a b ≡ true
+meets_all : (a b : Box) → along_meets a.low.x a.high.x b.low.x b.high.x ≡ true
+    → along_meets a.low.y a.high.y b.low.y b.high.y ≡ true → along_meets a.low.z a.high.z b.low.z b.high.z ≡ true
+    → meets a b ≡ true
 unfolding meets
 meets_all a b e f g = all_three _ _ _ e f g
 
@@ -116,7 +132,8 @@ touches_itself a p =
 
 -- ---- hulls
 
-hull_in : (c a b : Box) → holds c a ≡ true → holds c b ≡ true → holds c (record { low = point_min a.low b.low; high = point_max a.high b.high }) ≡ true
+hull_in : (c a b : Box) → holds c a ≡ true → holds c b ≡ true
+    → holds c (record { low = point_min a.low b.low; high = point_max a.high b.high }) ≡ true
 hull_in c a b e f =
     let p = holds_parts c a e in
     let q = holds_parts c b f in
@@ -130,7 +147,8 @@ is_hull a b = record {
   least = λ c e f. hull_in c a b e f;
 }
 
-pub hull_is_box : (a b : Box) → is_box a ≡ true → is_box (record { low = point_min a.low b.low; high = point_max a.high b.high }) ≡ true
+pub hull_is_box : (a b : Box) → is_box a ≡ true
+    → is_box (record { low = point_min a.low b.low; high = point_max a.high b.high }) ≡ true
 hull_is_box a b p =
     let t = three (rat_le a.low.x a.high.x) (rat_le a.low.y a.high.y) (rat_le a.low.z a.high.z) p in
     all_three _ _ _ (hull_ordered a.low.x a.high.x b.low.x b.high.x t.0) (hull_ordered a.low.y a.high.y b.low.y b.high.y t.1) (hull_ordered a.low.z a.high.z b.low.z b.high.z t.2)

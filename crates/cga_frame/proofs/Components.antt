@@ -3,8 +3,7 @@ use Rattle.std.proofs.Common.{◌≡◌, refl, sym, ap, ◌∙◌, Bool, true, f
 use Rattle.std.specs.Prelude.{if◌then◌else◌}
 use Rattle.cga_fraction.specs.Rat.{Rat, IsFraction, zero_rat}
 use Rattle.cga_fraction.specs.Order.{rat_lt}
-use Rattle.cga_fraction.proofs.Order.{le_refl}
-use Rattle.cga_fraction.proofs.Laws.{IsLowest, fraction_lowest, minus-plus, plus-minus, plus-zero, minus-zero}
+use Rattle.cga_fraction.proofs.Door.{IsLowest, fraction_lowest, le_refl, minus-plus, minus-zero, plus-minus, plus-zero}
 use Rattle.cga_word.specs.declared.axis.Axis.{Axis}
 use Rattle.cga_word.specs.declared.axis.Axis.TheVariants.{X, Y, Z}
 use Rattle.cga_frame.specs.Axes.{Frame, along, differ, flipped, turn_of, turned, within}
@@ -28,14 +27,18 @@ one_of P true a b p q = p
 one_of P false a b p q = q
 
 -- the size leads from one end to the other, whichever comes first
-whole_end : (g h : Bool) (near far size : Rat) → IsLowest near → far ≡ moved g near size → (if h then near else far) ≡ moved (differ g h) (if h then far else near) size
+whole_end : (g h : Bool) (near far size : Rat) → IsLowest near → far ≡ moved g near size
+    → (if h then near else far) ≡ moved (differ g h) (if h then far else near) size
 whole_end true true near far size l e = rw e (sym (plus-minus near size l))
 whole_end true false near far size l e = e
 whole_end false true near far size l e = rw e (sym (minus-plus near size l))
 whole_end false false near far size l e = e
 
-fits_end : (c : Component) (o t : Signed) (near far : Rat) (size : Point) → IsLowest near → IsLowest far → far ≡ moved_along o near size
-    → (extent c t.axis ≡ None) ⊎ ((extent c t.axis ≡ Some o.axis) × (t.against ≡ is_high c o.axis)) → end_of c o (flipped o.against t) near far ≡ moved (differ o.against t.against) (corner c o near far) (size_by size (extent c t.axis))
+fits_end : (c : Component) (o t : Signed) (near far : Rat) (size : Point) → IsLowest near → IsLowest far
+    → far ≡ moved_along o near size
+    → (extent c t.axis ≡ None) ⊎ ((extent c t.axis ≡ Some o.axis) × (t.against ≡ is_high c o.axis))
+    → end_of c o (flipped o.against t) near far ≡ moved (differ o.against t.against) (corner c o near far)
+      (size_by size (extent c t.axis))
 fits_end c o t near far size l m e (inl f) = rw f (move_zero (differ o.against t.against) (if is_high c o.axis then far else near) (one_of IsLowest (is_high c o.axis) far near m l))
 fits_end c o t near far size l m e (inr f) = rw (f.0, f.1) (whole_end o.against (is_high c o.axis) near far (coordinate size o.axis) l e)
 
@@ -47,24 +50,30 @@ fits_at c h Z = h.z
 sizes_of : Point → Component → Point
 sizes_of size c = record { x = size_by size c.width; y = size_by size c.height; z = size_by size c.depth }
 
-coordinate-sizes_of : (size : Point) (c : Component) (a : Axis) → coordinate (sizes_of size c) a ≡ size_by size (extent c a)
+coordinate-sizes_of : (size : Point) (c : Component) (a : Axis)
+    → coordinate (sizes_of size c) a ≡ size_by size (extent c a)
 unfolding sizes_of
 coordinate-sizes_of size c X = refl
 coordinate-sizes_of size c Y = refl
 coordinate-sizes_of size c Z = refl
 
-end_at : (c : Component) (o : Signed) (near far : Rat) (size : Point) → IsFitting c → IsLowest near → IsLowest far → far ≡ moved_along o near size
-    → end_of c o (within (turn_of c.axis c.by) o) near far ≡ moved_along (within (turn_of c.axis c.by) o) (corner c o near far) (sizes_of size c)
+end_at : (c : Component) (o : Signed) (near far : Rat) (size : Point) → IsFitting c → IsLowest near → IsLowest far
+    → far ≡ moved_along o near size
+    → end_of c o (within (turn_of c.axis c.by) o) near far ≡ moved_along (within (turn_of c.axis c.by) o)
+      (corner c o near far) (sizes_of size c)
 end_at c o near far size h l m e =
     fits_end c o (along (turn_of c.axis c.by) o.axis) near far size l m e (fits_at c h o.axis)
     ∙ ap (λ (a : Rat). moved (differ o.against (along (turn_of c.axis c.by) o.axis).against) (corner c o near far) a) (sym (coordinate-sizes_of size c (along (turn_of c.axis c.by) o.axis).axis))
 
 -- ---- the three axes together
 
-same_point : (x y z a b c : Rat) → x ≡ a → y ≡ b → z ≡ c → ◌≡◌ {A = Point} (record { x = x; y = y; z = z }) (record { x = a; y = b; z = c })
+same_point : (x y z a b c : Rat) → x ≡ a → y ≡ b → z ≡ c
+    → ◌≡◌ {A = Point} (record { x = x; y = y; z = z }) (record { x = a; y = b; z = c })
 same_point x y z a b c e f g = rw (e, f, g) refl
 
-far_parts : (s : Scope) → far_of s ≡ record { x = moved_along s.frame.x s.at.x s.size; y = moved_along s.frame.y s.at.y s.size; z = moved_along s.frame.z s.at.z s.size }
+far_parts : (s : Scope)
+    → far_of s ≡ record { x = moved_along s.frame.x s.at.x s.size; y = moved_along s.frame.y s.at.y s.size; z =
+      moved_along s.frame.z s.at.z s.size }
 unfolding place_of
 far_parts s = refl
 
@@ -72,7 +81,8 @@ far_parts s = refl
 abbrev pub ends_of : Scope → Component → Point → Point
 ends_of s c far = record { x = end_of c s.frame.x (turned s.frame c.axis c.by).x s.at.x far.x; y = end_of c s.frame.y (turned s.frame c.axis c.by).y s.at.y far.y; z = end_of c s.frame.z (turned s.frame c.axis c.by).z s.at.z far.z }
 
-pub component_far : (s : Scope) (c : Component) → IsFitting c → Exists s → ends_of s c (far_of s) ≡ far_of (component_of s c)
+pub component_far : (s : Scope) (c : Component) → IsFitting c → Exists s
+    → ends_of s c (far_of s) ≡ far_of (component_of s c)
 unfolding component_of place_of turned sizes_of
 component_far s c h e =
     let p = ap (λ (p : Point). p.x) (far_parts s) in
@@ -89,7 +99,8 @@ corners_in_range s c e = record {
   z = one_of IsFraction (is_high c s.frame.z.axis) (far_of s).z s.at.z e.far.z e.at.z;
 }
 
-end_fraction : (o : Option Axis) (h : Bool) (near far : Rat) → IsFraction near → IsFraction far → IsFraction (ended o h near far)
+end_fraction : (o : Option Axis) (h : Bool) (near far : Rat) → IsFraction near → IsFraction far
+    → IsFraction (ended o h near far)
 end_fraction None h near far p q = one_of IsFraction h far near q p
 end_fraction (Some a) h near far p q = one_of IsFraction h near far p q
 
@@ -120,13 +131,15 @@ size_by_at : (size : Point) (o : Option Axis) → has_negative size ≡ false �
 size_by_at size None e = not_below
 size_by_at size (Some a) e = size_at size a e
 
-pub component_sizes : (s : Scope) (c : Component) → has_negative s.size ≡ false → has_negative (component_of s c).size ≡ false
+pub component_sizes : (s : Scope) (c : Component) → has_negative s.size ≡ false
+    → has_negative (component_of s c).size ≡ false
 unfolding component_of
 component_sizes s c e = rw (size_by_at s.size c.width e, size_by_at s.size c.height e, size_by_at s.size c.depth e) refl
 
 -- ---- what the code forms
 
-pub component_stands : (s t : Scope) (c : Component) (far ends : Point) → IsStanding s far → IsFitting c → t ≡ component_of s c → ends ≡ ends_of s c far → IsStanding t ends
+pub component_stands : (s t : Scope) (c : Component) (far ends : Point) → IsStanding s far → IsFitting c
+    → t ≡ component_of s c → ends ≡ ends_of s c far → IsStanding t ends
 component_stands s t c far ends h k e f =
     rw e (record {
       sizes = component_sizes s c h.sizes;
@@ -134,11 +147,18 @@ component_stands s t c far ends h k e f =
       exists = component_exists s c k h.exists;
     })
 
-pub component_is : (s : Scope) (c : Component) (far : Point) (f : Frame) (x y z u v w : Rat) → far ≡ far_of s → f ≡ turned s.frame c.axis c.by → x ≡ corner c s.frame.x s.at.x far.x → y ≡ corner c s.frame.y s.at.y far.y → z ≡ corner c s.frame.z s.at.z far.z → u ≡ size_by s.size c.width → v ≡ size_by s.size c.height → w ≡ size_by s.size c.depth
-    → ◌≡◌ {A = Scope} (record { at = record { x = x; y = y; z = z }; frame = f; size = record { x = u; y = v; z = w } }) (component_of s c)
+pub component_is : (s : Scope) (c : Component) (far : Point) (f : Frame) (x y z u v w : Rat) → far ≡ far_of s
+    → f ≡ turned s.frame c.axis c.by → x ≡ corner c s.frame.x s.at.x far.x → y ≡ corner c s.frame.y s.at.y far.y
+    → z ≡ corner c s.frame.z s.at.z far.z → u ≡ size_by s.size c.width → v ≡ size_by s.size c.height
+    → w ≡ size_by s.size c.depth
+    → ◌≡◌ {A = Scope} (record { at = record { x = x; y = y; z = z }; frame = f; size = record { x = u; y = v; z = w }
+      }) (component_of s c)
 unfolding component_of
 component_is s c far f x y z u v w e g a b d h i j = rw (a, b, d, g, h, i, j, e) refl
 
-pub ends_are : (s : Scope) (c : Component) (far : Point) (x y z : Rat) → x ≡ end_of c s.frame.x (turned s.frame c.axis c.by).x s.at.x far.x → y ≡ end_of c s.frame.y (turned s.frame c.axis c.by).y s.at.y far.y → z ≡ end_of c s.frame.z (turned s.frame c.axis c.by).z s.at.z far.z
+pub ends_are : (s : Scope) (c : Component) (far : Point) (x y z : Rat)
+    → x ≡ end_of c s.frame.x (turned s.frame c.axis c.by).x s.at.x far.x
+    → y ≡ end_of c s.frame.y (turned s.frame c.axis c.by).y s.at.y far.y
+    → z ≡ end_of c s.frame.z (turned s.frame c.axis c.by).z s.at.z far.z
     → ◌≡◌ {A = Point} (record { x = x; y = y; z = z }) (ends_of s c far)
 ends_are s c far x y z a b d = same_point x y z _ _ _ a b d

@@ -35,11 +35,13 @@ mixed_last : (u v w o : Bool) → differ v (differ w (differ u o)) ≡ differ u 
 mixed_last true v w o = ap (differ v) (differ-not_right w o) ∙ differ-not_right v (differ w o)
 mixed_last false v w o = refl
 
-mixed_middle : (t u v w o : Bool) → differ v (differ (differ t w) (differ u o)) ≡ differ (differ t u) (differ v (differ w o))
+mixed_middle : (t u v w o : Bool)
+    → differ v (differ (differ t w) (differ u o)) ≡ differ (differ t u) (differ v (differ w o))
 mixed_middle true u v w o = ap (differ v) (differ-not_left w (differ u o)) ∙ differ-not_right v (differ w (differ u o)) ∙ ap not (mixed_last u v w o) ∙ sym (differ-not_left u (differ v (differ w o)))
 mixed_middle false u v w o = mixed_last u v w o
 
-mixed : (s t u v w o : Bool) → differ (differ s v) (differ (differ t w) (differ u o)) ≡ differ (differ s (differ t u)) (differ v (differ w o))
+mixed : (s t u v w o : Bool)
+    → differ (differ s v) (differ (differ t w) (differ u o)) ≡ differ (differ s (differ t u)) (differ v (differ w o))
 mixed true t u v w o = differ-not_left v (differ (differ t w) (differ u o)) ∙ ap not (mixed_middle t u v w o) ∙ sym (differ-not_left (differ t u) (differ v (differ w o)))
 mixed false t u v w o = mixed_middle t u v w o
 
@@ -115,8 +117,10 @@ swapped_right p q r = sym (turned_left p r q) ∙ swapped_left q r p ∙ ap swap
 even_at : (P : Option Bool) (m e : Bool) → P ≡ Some e → m ≡ e → P ≡ Some m
 even_at P m e h k = h ∙ ap Some (sym k)
 
-composed_at : (a b c : Axis) (s t u : Bool) (g : Frame) → parity a b c ≡ Some (differ s (differ t u)) → parity g.x.axis g.y.axis g.z.axis ≡ Some (differ g.x.against (differ g.y.against g.z.against))
-    → parity (along g a).axis (along g b).axis (along g c).axis ≡ Some (differ (differ s (along g a).against) (differ (differ t (along g b).against) (differ u (along g c).against)))
+composed_at : (a b c : Axis) (s t u : Bool) (g : Frame) → parity a b c ≡ Some (differ s (differ t u))
+    → parity g.x.axis g.y.axis g.z.axis ≡ Some (differ g.x.against (differ g.y.against g.z.against))
+    → parity (along g a).axis (along g b).axis (along g c).axis ≡ Some
+      (differ (differ s (along g a).against) (differ (differ t (along g b).against) (differ u (along g c).against)))
 composed_at X Y Z s t u g h k =
     let e : differ s (differ t u) ≡ false = cc in
     even_at _ _ _ k (mixed s t u g.x.against g.y.against g.z.against ∙ ap (λ (b : Bool). differ b (differ g.x.against (differ g.y.against g.z.against))) e)
@@ -155,7 +159,9 @@ last false false u e h = h
 on : Axis → Bool → Signed
 on a b = record { axis = a; against = b }
 
-right_at : (a b c : Axis) (s t u : Bool) → parity a b c ≡ Some (differ s (differ t u)) → IsRightHanded (record { x = record { axis = a; against = s }; y = record { axis = b; against = t }; z = record { axis = c; against = u } })
+right_at : (a b c : Axis) (s t u : Bool) → parity a b c ≡ Some (differ s (differ t u))
+    → IsRightHanded (record { x = record { axis = a; against = s }; y = record { axis = b; against = t }; z = record
+      { axis = c; against = u } })
 unfolding on
 right_at X Y Z s t u h = let e : differ s (differ t u) ≡ false = cc in record { third = ap (on Z) (last s t u false e); apart = refl }
 right_at Y Z X s t u h =
@@ -178,10 +184,12 @@ base_right_handed f e = rw e (record { third = refl; apart = refl })
 
 -- ---- turns
 
-same_frame : (x y z a b c : Signed) → x ≡ a → y ≡ b → z ≡ c → ◌≡◌ {A = Frame} (record { x = x; y = y; z = z }) (record { x = a; y = b; z = c })
+same_frame : (x y z a b c : Signed) → x ≡ a → y ≡ b → z ≡ c
+    → ◌≡◌ {A = Frame} (record { x = x; y = y; z = z }) (record { x = a; y = b; z = c })
 same_frame x y z a b c e f g = rw (e, f, g) refl
 
-none_at : (j : Axis) (b : Bool) → within base_frame (record { axis = j; against = b }) ≡ record { axis = j; against = b }
+none_at : (j : Axis) (b : Bool)
+    → within base_frame (record { axis = j; against = b }) ≡ record { axis = j; against = b }
 none_at X true = refl
 none_at X false = refl
 none_at Y true = refl
@@ -189,7 +197,9 @@ none_at Y false = refl
 none_at Z true = refl
 none_at Z false = refl
 
-half_at : (a j : Axis) (b : Bool) → within (composed (quarter a) (quarter a)) (record { axis = j; against = b }) ≡ within (quarter a) (within (quarter a) (record { axis = j; against = b }))
+half_at : (a j : Axis) (b : Bool)
+    → within (composed (quarter a) (quarter a)) (record { axis = j; against = b }) ≡ within (quarter a)
+      (within (quarter a) (record { axis = j; against = b }))
 half_at X X true = refl
 half_at X X false = refl
 half_at X Y true = refl
@@ -209,7 +219,9 @@ half_at Z Y false = refl
 half_at Z Z true = refl
 half_at Z Z false = refl
 
-three_at : (a j : Axis) (b : Bool) → within (composed (composed (quarter a) (quarter a)) (quarter a)) (record { axis = j; against = b }) ≡ within (quarter a) (within (quarter a) (within (quarter a) (record { axis = j; against = b })))
+three_at : (a j : Axis) (b : Bool)
+    → within (composed (composed (quarter a) (quarter a)) (quarter a)) (record { axis = j; against = b }) ≡ within
+      (quarter a) (within (quarter a) (within (quarter a) (record { axis = j; against = b })))
 three_at X X true = refl
 three_at X X false = refl
 three_at X Y true = refl
@@ -229,7 +241,9 @@ three_at Z Y false = refl
 three_at Z Z true = refl
 three_at Z Z false = refl
 
-four_at : (a j : Axis) (b : Bool) → within (quarter a) (within (quarter a) (within (quarter a) (within (quarter a) (record { axis = j; against = b })))) ≡ record { axis = j; against = b }
+four_at : (a j : Axis) (b : Bool)
+    → within (quarter a) (within (quarter a)
+      (within (quarter a) (within (quarter a) (record { axis = j; against = b })))) ≡ record { axis = j; against = b }
 four_at X X true = refl
 four_at X X false = refl
 four_at X Y true = refl
@@ -250,7 +264,12 @@ four_at Z Z true = refl
 four_at Z Z false = refl
 
 -- one axis after a quarter turn
-quarter_at : (p q r : Axis) (s t u : Bool) (a b : Axis) → parity p q r ≡ Some (differ s (differ t u)) → axis_of (composed (record { x = record { axis = p; against = s }; y = record { axis = q; against = t }; z = record { axis = r; against = u } }) (quarter a)) b ≡ seen (record { x = record { axis = p; against = s }; y = record { axis = q; against = t }; z = record { axis = r; against = u } }) (rule_of a b)
+quarter_at : (p q r : Axis) (s t u : Bool) (a b : Axis) → parity p q r ≡ Some (differ s (differ t u))
+    → axis_of (composed (record
+      { x = record { axis = p; against = s }; y = record { axis = q; against = t }; z = record
+      { axis = r; against = u } }) (quarter a)) b ≡ seen
+      (record { x = record { axis = p; against = s }; y = record { axis = q; against = t }; z = record
+      { axis = r; against = u } }) (rule_of a b)
 unfolding on
 quarter_at X Y Z s t u X X h = ap (on X) (differ_comm s false)
 quarter_at X Y Z s t u X Y h = ap (on Z) (differ_comm u false)

@@ -4,9 +4,7 @@ use Rattle.std.specs.Prelude.{IsTrue}
 use Rattle.cga_fraction.specs.Rat.{Rat, zero_rat}
 use Rattle.cga_fraction.specs.Arithmetic.{plus, minus}
 use Rattle.cga_fraction.specs.Order.{rat_le, rat_min, rat_max}
-use Rattle.cga_fraction.proofs.Order.{le_trans}
-use Rattle.cga_fraction.proofs.Diffs.{plus_le, minus_le}
-use Rattle.cga_fraction.proofs.Laws.{IsLowest, fraction_lowest, plus-zero, minus-zero, min_below, max_above}
+use Rattle.cga_fraction.proofs.Door.{IsLowest, fraction_lowest, le_trans, max_above, min_below, minus-zero, minus_le, plus-zero, plus_le}
 use Rattle.cga_word.specs.declared.axis.Axis.{Axis}
 use Rattle.cga_word.specs.declared.axis.Axis.TheVariants.{X, Y, Z}
 use Rattle.cga_frame.specs.Points.{coordinate}
@@ -17,7 +15,8 @@ use Rattle.cga_frame.specs.Inside.{IsUpTo, IsLocal}
 use Rattle.cga_frame.specs.declared.point.Point.{Point}
 
 -- what is moved by at most the size lies between the two ends
-between_at : (g : Bool) (p a size : Rat) → IsLowest p → IsUpTo a size → IsBetween (moved g p a) (rat_min p (moved g p size)) (rat_max p (moved g p size))
+between_at : (g : Bool) (p a size : Rat) → IsLowest p → IsUpTo a size
+    → IsBetween (moved g p a) (rat_min p (moved g p size)) (rat_max p (moved g p size))
 between_at false p a size l h =
     let low : IsTrue (rat_le p (plus p a)) = rw plus-zero at (plus_le p zero_rat a h.from) in
     let below = min_below p (plus p size) in
@@ -40,7 +39,8 @@ local_at local size h X = h.x
 local_at local size h Y = h.y
 local_at local size h Z = h.z
 
-pub inside : (s : Scope) (local : Point) → Exists s → IsLocal local s.size → IsIn (place_of s.at s.frame local) (box_of s)
+pub inside : (s : Scope) (local : Point) → Exists s → IsLocal local s.size
+    → IsIn (place_of s.at s.frame local) (box_of s)
 unfolding place_of
 inside s local e h = record {
   x = between_at s.frame.x.against s.at.x (coordinate local s.frame.x.axis) (coordinate s.size s.frame.x.axis) (fraction_lowest s.at.x e.at.x) (local_at local s.size h s.frame.x.axis);

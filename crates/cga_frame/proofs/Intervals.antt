@@ -3,8 +3,7 @@ use Rattle.std.proofs.Common.{◌≡◌, refl, Bool, true, false, ◌&&◌, inl,
 use Rattle.std.specs.Prelude.{IsTrue}
 use Rattle.cga_fraction.specs.Rat.{Rat}
 use Rattle.cga_fraction.specs.Order.{rat_le, rat_lt, rat_min, rat_max}
-use Rattle.cga_fraction.proofs.Order.{le_refl, le_trans, lt_le, not_le_lt, lt_of_le_lt, lt_of_lt_le, lt_trans}
-use Rattle.cga_fraction.proofs.Laws.{between, mediant, min_below, min_greatest, max_above, max_least, lt_min, max_lt}
+use Rattle.cga_fraction.proofs.Door.{between, le_refl, le_trans, lt_le, lt_min, lt_of_le_lt, lt_of_lt_le, lt_trans, max_above, max_least, max_lt, mediant, min_below, min_greatest, not_le_lt}
 use Rattle.cga_frame.specs.Box.{along_meets, along_holds, along_touches}
 use Rattle.cga_frame.specs.Meeting.{IsBetween, IsInside}
 use Rattle.cga_frame.proofs.Flags.{told, tells, both, pair, either, first_of_two, second_of_two}
@@ -25,7 +24,8 @@ holds_at x l h m u e b =
 pub holds_from : (l h m u : Rat) → IsBetween m l h → IsBetween u l h → along_holds l h m u ≡ true
 holds_from l h m u a b = pair (rat_le l m) (rat_le u h) (tells (rat_le l m) a.from) (tells (rat_le u h) b.to)
 
-pub holds_chain : (l h m u p q : Rat) → along_holds l h m u ≡ true → along_holds m u p q ≡ true → along_holds l h p q ≡ true
+pub holds_chain : (l h m u p q : Rat) → along_holds l h m u ≡ true → along_holds m u p q ≡ true
+    → along_holds l h p q ≡ true
 holds_chain l h m u p q e f =
     let a = both (rat_le l m) (rat_le u h) e in
     let b = both (rat_le m p) (rat_le q u) f in
@@ -33,7 +33,8 @@ holds_chain l h m u p q e f =
 
 -- ---- touching
 
-pub touches_at : (l h m u : Rat) → Le l h → Le m u → along_touches l h m u ≡ true → IsBetween (rat_max l m) l h × IsBetween (rat_max l m) m u
+pub touches_at : (l h m u : Rat) → Le l h → Le m u → along_touches l h m u ≡ true
+    → IsBetween (rat_max l m) l h × IsBetween (rat_max l m) m u
 touches_at l h m u a b e =
     let p = both (rat_le l u) (rat_le m h) e in
     let above = max_above l m in (
@@ -55,7 +56,8 @@ pub record Common (l h m u : Rat) : Type 0 where
   pub first : IsInside point l h
   pub second : IsInside point m u
 
-overlap : (l h m u : Rat) → Le l h → Le m u → Lt l u → Lt m h → (s t : Bool) → rat_le h l ≡ s → rat_le u m ≡ t → Common l h m u
+overlap : (l h m u : Rat) → Le l h → Le m u → Lt l u → Lt m h → (s t : Bool) → rat_le h l ≡ s → rat_le u m ≡ t
+    → Common l h m u
 overlap l h m u a b p q true t e f = record {
   point = l;
   first = inr (record { flat = told (rat_le h l) e; within = record { from = le_refl l; to = a } });
@@ -132,7 +134,8 @@ meets_touches_at l h m u a e =
           pair (rat_le l u) (rat_le m h) (tells (rat_le l u) (le_trans l h u a (told (rat_le h u) r.0))) (tells (rat_le m h) (le_trans m l h (told (rat_le m l) q.1) a)))
     ]
 
-pub touches_up_at : (l h m u p q : Rat) → along_holds l h m u ≡ true → along_touches m u p q ≡ true → along_touches l h p q ≡ true
+pub touches_up_at : (l h m u p q : Rat) → along_holds l h m u ≡ true → along_touches m u p q ≡ true
+    → along_touches l h p q ≡ true
 touches_up_at l h m u p q e f =
     let a = both (rat_le l m) (rat_le u h) e in
     let b = both (rat_le m q) (rat_le p u) f in
@@ -144,7 +147,8 @@ hull_first l h m u = let a = min_below l m in let b = max_above h u in pair (rat
 pub hull_second : (l h m u : Rat) → along_holds (rat_min l m) (rat_max h u) m u ≡ true
 hull_second l h m u = let a = min_below l m in let b = max_above h u in pair (rat_le (rat_min l m) m) (rat_le u (rat_max h u)) (tells _ a.1) (tells _ b.1)
 
-pub hull_least : (p q l h m u : Rat) → along_holds p q l h ≡ true → along_holds p q m u ≡ true → along_holds p q (rat_min l m) (rat_max h u) ≡ true
+pub hull_least : (p q l h m u : Rat) → along_holds p q l h ≡ true → along_holds p q m u ≡ true
+    → along_holds p q (rat_min l m) (rat_max h u) ≡ true
 hull_least p q l h m u e f =
     let a = both (rat_le p l) (rat_le h q) e in
     let b = both (rat_le p m) (rat_le u q) f in

@@ -1,8 +1,9 @@
-pub mod Boxes
-pub mod Components
-pub mod Flags
-pub mod Frames
-pub mod Inside
-pub mod Intervals
-pub mod Spans
-pub mod Standing
+mod Boxes
+mod Components
+mod Flags
+mod Frames
+mod Inside
+mod Intervals
+mod Spans
+mod Standing
+pub mod Door

@@ -2,19 +2,15 @@
 use Rattle.std.proofs.Common.{◌≡◌, refl, ◌∙◌, ap, Bool, true, false, ◌&&◌, ◌||◌, ◌⊎◌, inl, inr, if◌then◌else◌}
 use Rattle.cga_fraction.specs.Rat.{Rat}
 use Rattle.cga_fraction.specs.Order.{rat_le, rat_min, rat_max}
-use Rattle.cga_fraction.proofs.Order.{le_trans}
-use Rattle.cga_fraction.proofs.Laws.{min_below, max_above}
+use Rattle.cga_fraction.proofs.Door.{le_trans, max_above, min_below}
 use Rattle.cga_frame.specs.Box.{along_touches}
 use Rattle.cga_frame.proofs.Flags.{told, tells}
+use Rattle.std.proofs.lemmas.Bool.{cases_Bool as either}
 
 either_is : (a b c : Bool) → (c ≡ a) ⊎ (c ≡ b) → (a ≡ true → c ≡ true) → (b ≡ true → c ≡ true) → c ≡ (a || b)
 either_is true b c one h k = h refl
 either_is false true c one h k = k refl
 either_is false false c one h k = elim one [ inl e ↦ e | inr e ↦ e ]
-
-either : (b : Bool) → (b ≡ true) ⊎ (b ≡ false)
-either true = inl refl
-either false = inr refl
 
 min_is : (a b u : Rat) → (rat_le (rat_min a b) u ≡ rat_le a u) ⊎ (rat_le (rat_min a b) u ≡ rat_le b u)
 unfolding rat_min
@@ -42,5 +38,7 @@ high_within a b l = either_is (rat_le l a) (rat_le l b) (rat_le l (rat_max a b))
     (λ h. tells _ (le_trans l a (rat_max a b) (told _ h) (max_above a b).0))
     (λ h. tells _ (le_trans l b (rat_max a b) (told _ h) (max_above a b).1))
 
-pub span_touches : (a b lower upper : Rat) → along_touches (rat_min a b) (rat_max a b) lower upper ≡ ((rat_le a upper || rat_le b upper) && (rat_le lower a || rat_le lower b))
+pub span_touches : (a b lower upper : Rat)
+    → along_touches (rat_min a b) (rat_max a b) lower upper ≡
+      ((rat_le a upper || rat_le b upper) && (rat_le lower a || rat_le lower b))
 span_touches a b lower upper = ap (λ t. t && rat_le lower (rat_max a b)) (low_within a b upper) ∙ ap (λ t. (rat_le a upper || rat_le b upper) && t) (high_within a b lower)

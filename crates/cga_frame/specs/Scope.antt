@@ -29,7 +29,8 @@ abbrev pub moved_along : Signed → Rat → Point → Rat
 moved_along s from local = moved s.against from (coordinate local s.axis)
 
 -- the point of three coordinates, none of which is refused
-abbrev pub joined : Result Rat Unit.Overflow → Result Rat Unit.Overflow → Result Rat Unit.Overflow → Result Point Unit.Overflow
+abbrev pub joined : Result Rat Unit.Overflow → Result Rat Unit.Overflow → Result Rat Unit.Overflow
+    → Result Point Unit.Overflow
 joined (Ok x) (Ok y) (Ok z) = Ok (record { x = x; y = y; z = z })
 joined a b c = Err (record {})
 

@@ -1,6 +1,8 @@
-// Scopes and boxes: positions, frames of signed axes, oriented boxes and what of them meets in the world. It knows
-// nothing of symbols, rules or trees, and takes no memory. The one thing that callers get wrong: boxes that only
-// touch don't meet, but two that are flat in one plane may.
+//! Scopes and boxes: positions, frames of signed axes, oriented boxes and what of them meets in the world.
+//!
+//! It must not know symbols, rules or trees. It takes no memory.
+//!
+//! What callers get wrong: boxes that only touch don't meet, but two that are flat in one plane may.
 #![tactic(auto)]
 
 mod component;

@@ -1,7 +1,9 @@
-// A program beside `cga_city`: it replies to a script in the same way, and then says of each lot the least box that
-// holds all of its shapes, drawn or not. By these boxes it is known whether two districts are apart. It knows the
-// system's input and output, and nothing of lots or of boxes.
-// The one thing that callers get wrong: without the exit status 0 not all of the boxes are there.
+//! A program beside `cga_city`: it replies to a script in the same way, and then says of each lot the least box that
+//! holds all of its shapes, drawn or not.
+//!
+//! It must not know lots, boxes or rules. By these boxes it is known whether two districts are apart.
+//!
+//! What callers get wrong: without the exit status 0 not all of the boxes are there.
 #![tactic(auto)]
 
 ghost use Rattle.std.specs.Prelude.{◌≡◌, ◌<◌, ◌++◌, ◌⊎◌, ◌↔◌, List, ℕ, IfSome};
@@ -14,7 +16,8 @@ ghost use Rattle.cga_top.specs.Outside.{outside_of};
 ghost use Rattle.cga_top.specs.Statuses.{HoldsFew};
 ghost use Rattle.cga_top.specs.Telling.{TellingMeans};
 
-use cga_fraction::Steps;
+use cga_expand::Expansions;
+use cga_fraction::Tests;
 use cga_outside::{Sink, Source, StdSink, StdSource};
 use cga_top::{Status, run_with_hulls};
 use std::io::BufWriter;
@@ -46,8 +49,8 @@ fn run<S: Source, K: Sink, E: Ledger, T: Ledger>(
         → (Rose (K.faults out.old) (K.faults out.new) → ⊥)
         → (result ≡ Status.Done) ⊎ (result ≡ Status.NoMemory) }
 {
-    let mut expansions = Steps::<E>::new(rt, expansions);
-    let mut tests = Steps::<T>::new(rt, tests);
+    let mut expansions = Expansions::<E>::new(rt, expansions);
+    let mut tests = Tests::<T>::new(rt, tests);
     run_with_hulls(rt.alloc(), script, out, &mut expansions, &mut tests)
 }
 

@@ -1,5 +1,6 @@
 -- Those that ask and meet an area.
-use Rattle.std.proofs.Common.{◌≡◌, ℕ, zero, suc, ◌+◌, ◌-◌, ◌≤◌, ◌<◌, ◌⊎◌, inl, inr, List, [], ◌∷◌, ◌++◌, length, drop, Bool, true, false, cond, ◌&&◌, refl, ap, sym, subst, ◌∙◌, arith, Option, Some, None}
+use Rattle.std.proofs.Common.{◌≡◌, ℕ, zero, suc, ◌+◌, ◌-◌, ◌≤◌, ◌<◌, ◌⊎◌, inl, inr, List, [], ◌∷◌, ◌++◌, length, drop}
+use Rattle.std.proofs.Common.{Bool, true, false, cond, ◌&&◌, refl, ap, sym, subst, ◌∙◌, arith, Option, Some, None}
 use Rattle.std.specs.List.{flat_map, filter}
 use Rattle.std.specs.Prelude.{slice_get}
 use Rattle.std.proofs.lemmas.List.{append_assoc, append-nil}
@@ -7,18 +8,17 @@ use Rattle.std.proofs.lemmas.List.Elements.{filter-append}
 use Rattle.cga_frame.specs.Box.{Box}
 use Rattle.cga_frame.specs.Box.{touches, meets}
 use Rattle.cga_index.specs.Tree.{TreeView, Member, Apart, LiesIn, below, all_nodes, InTree, IsHullTree, is_asker, askers, touches_some, ListsAskers}
-use Rattle.cga_frame.proofs.Boxes.{touches_up, meets_touches, holds_trans}
+use Rattle.cga_frame.proofs.Door.{holds_trans, meets_touches, touches_up}
 use Rattle.cga_index.proofs.Levels.{in_split, in_some, drop_at, drop_all, below_more, root_in}
+use Rattle.std.proofs.lemmas.Bool.{and_parts as both, cases_Bool as either}
 
-both : (a b : Bool) → (a && b) ≡ true → (a ≡ true) × (b ≡ true)
-both true b e = (refl, e)
-both false b e = let x : false ≡ true = e in cc
-
-pub askers_split : (v : TreeView) (area : Box) (xs ys : List ℕ) → askers v area (xs ++ ys) ≡ askers v area xs ++ askers v area ys
+pub askers_split : (v : TreeView) (area : Box) (xs ys : List ℕ)
+    → askers v area (xs ++ ys) ≡ askers v area xs ++ askers v area ys
 unfolding askers
 askers_split v area xs ys = filter-append (is_asker v area) xs ys
 
-pub askers_one_in : (v : TreeView) (area : Box) (n : ℕ) → v.asks n ≡ true → meets (v.own n) area ≡ true → askers v area (n ∷ []) ≡ n ∷ []
+pub askers_one_in : (v : TreeView) (area : Box) (n : ℕ) → v.asks n ≡ true → meets (v.own n) area ≡ true
+    → askers v area (n ∷ []) ≡ n ∷ []
 unfolding askers
 askers_one_in v area n a m = ap (λ b. cond (b && meets (v.own n) area) (n ∷ []) []) a ∙ ap (λ b. cond b (n ∷ []) []) m
 
@@ -26,7 +26,8 @@ pub askers_one_quiet : (v : TreeView) (area : Box) (n : ℕ) → v.asks n ≡ fa
 unfolding askers
 askers_one_quiet v area n a = ap (λ b. cond (b && meets (v.own n) area) (n ∷ []) []) a
 
-pub askers_one_far : (v : TreeView) (area : Box) (n : ℕ) → v.asks n ≡ true → meets (v.own n) area ≡ false → askers v area (n ∷ []) ≡ []
+pub askers_one_far : (v : TreeView) (area : Box) (n : ℕ) → v.asks n ≡ true → meets (v.own n) area ≡ false
+    → askers v area (n ∷ []) ≡ []
 unfolding askers
 askers_one_far v area n a m = ap (λ b. cond (b && meets (v.own n) area) (n ∷ []) []) a ∙ ap (λ b. cond b (n ∷ []) []) m
 
@@ -46,10 +47,6 @@ caller_in p (x ∷ xs) n h e = elim h [
   ]
 ]
 
-either : (b : Bool) → (b ≡ true) ⊎ (b ≡ false)
-either true = inl refl
-either false = inr refl
-
 pub caller_out : (p : ℕ → Bool) (xs : List ℕ) (n : ℕ) → Member (filter p xs) n → Member xs n × (p n ≡ true)
 caller_out p [] n h = absurd h
 caller_out p (x ∷ xs) n h = elim (either (p x)) [
@@ -61,7 +58,8 @@ caller_out p (x ∷ xs) n h = elim (either (p x)) [
 ]
 
 -- who asks below a node has its box in the node's asking hull
-pub asking_reach : (v : TreeView) → IsHullTree v → (m r n : ℕ) → InTree v r → Member (below v m r) n → v.asks n ≡ true → InTree v n × LiesIn (v.asking_hull r) (v.own n)
+pub asking_reach : (v : TreeView) → IsHullTree v → (m r n : ℕ) → InTree v r → Member (below v m r) n → v.asks n ≡ true
+    → InTree v n × LiesIn (v.asking_hull r) (v.own n)
 unfolding below
 asking_reach v laws zero r n h w a = absurd w
 asking_reach v laws (suc m) r n h w a = elim w [
@@ -83,7 +81,8 @@ abbrev pub IsFar : Option Box → Box → Type 0
 IsFar None area = 0 ≤ 0
 IsFar (Some h) area = touches h area ≡ false
 
-pub nobody_far : (v : TreeView) → IsHullTree v → (area : Box) (m r : ℕ) → InTree v r → ((h : Box) → v.asking_hull r ≡ Some h → touches h area ≡ false) → askers v area (below v m r) ≡ []
+pub nobody_far : (v : TreeView) → IsHullTree v → (area : Box) (m r : ℕ) → InTree v r
+    → ((h : Box) → v.asking_hull r ≡ Some h → touches h area ≡ false) → askers v area (below v m r) ≡ []
 unfolding askers
 nobody_far v laws area m r h far = no_member (filter (is_asker v area) (below v m r)) (λ n w.
     let o = caller_out (is_asker v area) (below v m r) n w in
@@ -94,7 +93,8 @@ nobody_far v laws area m r h far = no_member (filter (is_asker v area) (below v 
     let x : true ≡ false = sym yes ∙ far l.0 l.1 in
     cc)
 
-pub nobody_near : (v : TreeView) → IsHullTree v → (area : Box) (m r : ℕ) → InTree v r → touches_some (v.asking_hull r) area ≡ false → askers v area (below v m r) ≡ []
+pub nobody_near : (v : TreeView) → IsHullTree v → (area : Box) (m r : ℕ) → InTree v r
+    → touches_some (v.asking_hull r) area ≡ false → askers v area (below v m r) ≡ []
 nobody_near v laws area m r h far = nobody_far v laws area m r h (λ hull here. sym (ap (λ o. touches_some o area) here) ∙ far)
 
 pub ruleset nobody = (nobody_near)
@@ -108,7 +108,8 @@ apart_join (x ∷ xs) ys a b h = (
   apart_join xs ys a.1 b (λ n i j. h n (inr i) j),
 )
 
-apart_flat : (f : ℕ → List ℕ) (cs : List ℕ) → Apart cs → ((c : ℕ) → Member cs c → Apart (f c)) → ((a b n : ℕ) → Member cs a → Member cs b → Member (f a) n → Member (f b) n → a ≡ b) → Apart (flat_map f cs)
+apart_flat : (f : ℕ → List ℕ) (cs : List ℕ) → Apart cs → ((c : ℕ) → Member cs c → Apart (f c))
+    → ((a b n : ℕ) → Member cs a → Member cs b → Member (f a) n → Member (f b) n → a ≡ b) → Apart (flat_map f cs)
 apart_flat f [] a e s = tt
 apart_flat f (c ∷ cs) a e s = apart_join (f c) (flat_map f cs) (e c (inl refl)) (apart_flat f cs a.1 (λ d i. e d (inr i)) (λ x y n i j. s x y n (inr i) (inr j))) (λ n i j.
     let p = in_some f cs n j in
@@ -133,7 +134,8 @@ deeper v laws (suc m) r n h w = elim w [
       omega (arith, q, laws.at_child r p.0 h p.1)
 ]
 
-same_top : (v : TreeView) → IsHullTree v → (m a b n : ℕ) → InTree v a → InTree v b → v.depth a ≡ v.depth b → Member (below v m a) n → Member (below v m b) n → a ≡ b
+same_top : (v : TreeView) → IsHullTree v → (m a b n : ℕ) → InTree v a → InTree v b → v.depth a ≡ v.depth b
+    → Member (below v m a) n → Member (below v m b) n → a ≡ b
 unfolding below
 same_top v laws zero a b n i j d x y = absurd x
 same_top v laws (suc m) a b n i j d x y = elim x [
@@ -181,7 +183,9 @@ all_once v laws = apart_flat (below v 257) v.roots laws.roots_once (λ c i. once
 
 -- the steps of the listing
 
-pub from_end : (v : TreeView) (area : Box) (left node : ℕ) (a b c : List ℕ) → 0 < left → b ≡ a ++ askers v area (node ∷ []) → c ≡ b ++ askers v area (flat_map (below v (left - 1)) (v.children node)) → c ≡ a ++ askers v area (below v left node)
+pub from_end : (v : TreeView) (area : Box) (left node : ℕ) (a b c : List ℕ) → 0 < left
+    → b ≡ a ++ askers v area (node ∷ []) → c ≡ b ++ askers v area (flat_map (below v (left - 1)) (v.children node))
+    → c ≡ a ++ askers v area (below v left node)
 from_end v area left node a b c h p q =
     let kids = flat_map (below v (left - 1)) (v.children node) in
     q ∙ ap (λ t. t ++ askers v area kids) p
@@ -192,7 +196,10 @@ from_end v area left node a b c h p q =
 pub from_skip : (v : TreeView) (area : Box) (ns a : List ℕ) → askers v area ns ≡ [] → a ≡ a ++ askers v area ns
 from_skip v area ns a e = sym (ap (λ t. a ++ t) e ∙ append-nil a)
 
-pub list_step : (v : TreeView) (area : Box) (m : ℕ) (cs : List ℕ) (k c : ℕ) (a b whole : List ℕ) → slice_get cs k ≡ Some c → b ≡ a ++ askers v area (below v m c) → a ++ askers v area (flat_map (below v m) (drop k cs)) ≡ whole → b ++ askers v area (flat_map (below v m) (drop (k + 1) cs)) ≡ whole
+pub list_step : (v : TreeView) (area : Box) (m : ℕ) (cs : List ℕ) (k c : ℕ) (a b whole : List ℕ)
+    → slice_get cs k ≡ Some c → b ≡ a ++ askers v area (below v m c)
+    → a ++ askers v area (flat_map (below v m) (drop k cs)) ≡ whole
+    → b ++ askers v area (flat_map (below v m) (drop (k + 1) cs)) ≡ whole
 list_step v area m cs k c a b whole e p q =
     let rest = flat_map (below v m) (drop (k + 1) cs) in
     ap (λ t. t ++ askers v area rest) p
@@ -205,7 +212,8 @@ askers_nil : (v : TreeView) (area : Box) → askers v area [] ≡ []
 unfolding askers
 askers_nil v area = refl
 
-pub list_end : (v : TreeView) (area : Box) (m : ℕ) (cs : List ℕ) (k : ℕ) (a whole : List ℕ) → length cs ≤ k → a ++ askers v area (flat_map (below v m) (drop k cs)) ≡ whole → a ≡ whole
+pub list_end : (v : TreeView) (area : Box) (m : ℕ) (cs : List ℕ) (k : ℕ) (a whole : List ℕ) → length cs ≤ k
+    → a ++ askers v area (flat_map (below v m) (drop k cs)) ≡ whole → a ≡ whole
 list_end v area m cs k a whole h q =
     sym (ap (λ t. a ++ askers v area (flat_map (below v m) t)) (drop_all cs k h) ∙ ap (λ t. a ++ t) (askers_nil v area) ∙ append-nil a) ∙ q
 
@@ -220,8 +228,10 @@ lists_askers v laws area = record {
   once = apart_filter (is_asker v area) (all_nodes v) (all_once v laws);
 }
 
-pub quiet_same : (v : TreeView) (area : Box) (n : ℕ) (a : List ℕ) (t : Bool) → t ≡ v.asks n → t ≡ false → a ≡ a ++ askers v area (n ∷ [])
+pub quiet_same : (v : TreeView) (area : Box) (n : ℕ) (a : List ℕ) (t : Bool) → t ≡ v.asks n → t ≡ false
+    → a ≡ a ++ askers v area (n ∷ [])
 quiet_same v area n a t p e = from_skip v area (n ∷ []) a (askers_one_quiet v area n (sym p ∙ e))
 
-pub far_same : (v : TreeView) (area own : Box) (n : ℕ) (a : List ℕ) (t u : Bool) → t ≡ v.asks n → t ≡ true → own ≡ v.own n → u ≡ meets own area → u ≡ false → a ≡ a ++ askers v area (n ∷ [])
+pub far_same : (v : TreeView) (area own : Box) (n : ℕ) (a : List ℕ) (t u : Bool) → t ≡ v.asks n → t ≡ true
+    → own ≡ v.own n → u ≡ meets own area → u ≡ false → a ≡ a ++ askers v area (n ∷ [])
 far_same v area own n a t u p e o m f = from_skip v area (n ∷ []) a (askers_one_far v area n (sym p ∙ e) (ap (λ b. meets b area) (sym o) ∙ sym m ∙ f))

@@ -26,7 +26,8 @@ drop_same xs k m le same = elim (here_or_past xs k) [
 ]
 
 -- at its end a block is gone over
-pub at_end : (xs : List ℕ) (block from end k roots : ℕ) → roots ≡ length xs → from ≡ 16 * block → end ≤ from + 16 → end ≤ roots → (end < roots → end ≡ from + 16) → k ≡ end → drop k xs ≡ drop (16 * (block + 1)) xs
+pub at_end : (xs : List ℕ) (block from end k roots : ℕ) → roots ≡ length xs → from ≡ 16 * block → end ≤ from + 16
+    → end ≤ roots → (end < roots → end ≡ from + 16) → k ≡ end → drop k xs ≡ drop (16 * (block + 1)) xs
 at_end xs block from end k roots n f most within whole at = drop_same xs k (16 * (block + 1)) (omega (arith, f, most, at)) (λ lt.
     let w : end ≡ from + 16 = whole (omega (arith, n, lt, at)) in omega (arith, w, f, at))
 
@@ -45,7 +46,8 @@ total_past f xs k (suc n) = elim (here_or_past xs k) [
 ]
 
 -- a run that is passed by is read no more than one that is gone over
-pub run_counted : (f : ℕ → ℕ) (xs : List ℕ) (from count to a : ℕ) → from + count ≡ to → a + total f (drop to xs) ≤ a + total f (drop from xs)
+pub run_counted : (f : ℕ → ℕ) (xs : List ℕ) (from count to a : ℕ) → from + count ≡ to
+    → a + total f (drop to xs) ≤ a + total f (drop from xs)
 run_counted f xs from count to a e =
     let s : ◌≡◌ {A = ℕ} (total f (drop (from + count) xs)) (total f (drop to xs)) = ap (λ m. total f (drop m xs)) e in
     omega (arith, s, total_past f xs from count)
@@ -58,7 +60,8 @@ module _ (v : TreeView) (laws : IsHullTree v) where
   abbrev asking_from : Box → ℕ → List ℕ
   asking_from area k = askers v area (flat_map (below v 257) (drop k v.roots))
 
-  far_found : (by : ℕ) (target : Target) (k n : ℕ) → IsFarRun v k n (v.own by) → over_from by target k ≡ over_from by target (k + n)
+  far_found : (by : ℕ) (target : Target) (k n : ℕ) → IsFarRun v k n (v.own by)
+      → over_from by target k ≡ over_from by target (k + n)
   far_found by target k zero far = let e : k ≡ k + 0 = omega arith in ap (over_from by target) e
   far_found by target k (suc n) far = elim (here_or_past v.roots k) [
     | inl w ↦
@@ -73,7 +76,9 @@ module _ (v : TreeView) (laws : IsHullTree v) where
   ]
 
   -- a run that is passed by answers nothing
-  pub run_found : (by : ℕ) (target : Target) (from count to : ℕ) (area : Box) (before : Answer) → from + count ≡ to → area ≡ v.own by → IsFarRun v from count area → join before (over_from by target from) ≡ join before (over_from by target to)
+  pub run_found : (by : ℕ) (target : Target) (from count to : ℕ) (area : Box) (before : Answer) → from + count ≡ to
+      → area ≡ v.own by → IsFarRun v from count area
+      → join before (over_from by target from) ≡ join before (over_from by target to)
   run_found by target from count to area before e own far =
       ap (join before) (far_found by target from count (subst (IsFarRun v from count) own far) ∙ ap (over_from by target) e)
 
@@ -92,6 +97,7 @@ module _ (v : TreeView) (laws : IsHullTree v) where
   ]
 
   -- in a run that is passed by nobody asks who meets the area
-  pub run_listed : (area : Box) (from count to : ℕ) (out : List ℕ) → from + count ≡ to → IsQuietRun v from count area → out ++ asking_from area to ≡ out ++ asking_from area from
+  pub run_listed : (area : Box) (from count to : ℕ) (out : List ℕ) → from + count ≡ to → IsQuietRun v from count area
+      → out ++ asking_from area to ≡ out ++ asking_from area from
   run_listed area from count to out e quiet =
       ap (λ t. out ++ t) (sym (quiet_listed area from count quiet ∙ ap (asking_from area) e))

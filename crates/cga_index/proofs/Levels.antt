@@ -1,5 +1,6 @@
 -- The walk over a tree of hulls.
-use Rattle.std.proofs.Common.{◌≡◌, ℕ, zero, suc, ◌+◌, ◌-◌, ◌≤◌, ◌<◌, ◌⊎◌, inl, inr, List, [], ◌∷◌, ◌++◌, length, drop, Bool, true, false, cond, refl, ap, sym, subst, ◌∙◌, arith, nat_eq, get_or, eq-eqb}
+use Rattle.std.proofs.Common.{◌≡◌, ℕ, zero, suc, ◌+◌, ◌-◌, ◌≤◌, ◌<◌, ◌⊎◌, inl, inr, List, [], ◌∷◌, ◌++◌, length, drop}
+use Rattle.std.proofs.Common.{Bool, true, false, cond, refl, ap, sym, subst, ◌∙◌, arith, nat_eq, get_or, eq-eqb}
 use Rattle.std.specs.List.{flat_map}
 use Rattle.std.specs.Prelude.{slice_get, Some}
 use Rattle.std.proofs.lemmas.List.{drop_more}
@@ -11,7 +12,7 @@ use Rattle.cga_word.specs.declared.target.Target.{Target}
 use Rattle.cga_frame.specs.Box.{touches, holds}
 use Rattle.cga_index.specs.Occlusion.{join}
 use Rattle.cga_index.specs.Tree.{TreeView, Member, below, all_nodes, InTree, IsHullTree, answer_over, total, open_children, near, reads, visits}
-use Rattle.cga_frame.proofs.Boxes.{touches_up, meets_touches, touches_itself, holds_trans}
+use Rattle.cga_frame.proofs.Door.{holds_trans, meets_touches, touches_itself, touches_up}
 use Rattle.cga_index.proofs.Over.{over_append, over_none, over_apart}
 
 -- members
@@ -59,12 +60,15 @@ drop_at xs k x e =
 
 -- levels
 
-pub below_more : (v : TreeView) (n node : ℕ) → 0 < n → below v n node ≡ node ∷ flat_map (below v (n - 1)) (v.children node)
+pub below_more : (v : TreeView) (n node : ℕ) → 0 < n
+    → below v n node ≡ node ∷ flat_map (below v (n - 1)) (v.children node)
 unfolding below
 below_more v zero node h = absurd (omega (arith, h))
 below_more v (suc n) node h = let e : suc n - 1 ≡ n = omega arith in rw e refl
 
-reads_more : (v : TreeView) (by n node : ℕ) → 0 < n → reads v by n node ≡ cond (nat_eq node by) 0 1 + cond (touches (v.hull node) (v.own by)) (total (reads v by (n - 1)) (v.children node)) 0
+reads_more : (v : TreeView) (by n node : ℕ) → 0 < n
+    → reads v by n node ≡ cond (nat_eq node by) 0 1 + cond (touches (v.hull node) (v.own by))
+      (total (reads v by (n - 1)) (v.children node)) 0
 unfolding reads
 reads_more v by zero node h = absurd (omega (arith, h))
 reads_more v by (suc n) node h = let e : suc n - 1 ≡ n = omega arith in rw e refl
@@ -74,7 +78,8 @@ unfolding all_nodes
 root_in v r h = in_flat (below v 257) v.roots r r h (subst (λ t. Member t r) (sym (below_more v 257 r (omega arith))) (inl refl))
 
 -- all below a node are the tree's, and their boxes lie in its hull
-pub reach : (v : TreeView) → IsHullTree v → (m r n : ℕ) → InTree v r → Member (below v m r) n → InTree v n × (holds (v.hull r) (v.own n) ≡ true)
+pub reach : (v : TreeView) → IsHullTree v → (m r n : ℕ) → InTree v r → Member (below v m r) n
+    → InTree v n × (holds (v.hull r) (v.own n) ≡ true)
 unfolding below
 reach v laws zero r n h w = absurd w
 reach v laws (suc m) r n h w = elim w [
@@ -86,7 +91,8 @@ reach v laws (suc m) r n h w = elim w [
 ]
 
 -- neither a node whose hull doesn't touch the box nor what is below it meets the box
-pub none_below : (v : TreeView) → IsHullTree v → (by : ℕ) (target : Target) (m r : ℕ) → InTree v r → touches (v.hull r) (v.own by) ≡ false → answer_over v by target (below v m r) ≡ Nothing
+pub none_below : (v : TreeView) → IsHullTree v → (by : ℕ) (target : Target) (m r : ℕ) → InTree v r
+    → touches (v.hull r) (v.own by) ≡ false → answer_over v by target (below v m r) ≡ Nothing
 none_below v laws by target m r h f = over_apart v by target (below v m r) (λ n w t.
     let q = reach v laws m r n h w in
     let yes = touches_up (v.own n) (v.hull r) (v.own by) q.1 (meets_touches (v.own n) (v.own by) (laws.boxed n q.0) t) in
@@ -109,22 +115,31 @@ join_nothing Full = refl
 join_nothing Part = refl
 join_nothing Nothing = refl
 
-pub visit_found : (v : TreeView) (by : ℕ) (target : Target) (left node : ℕ) (first rest : Answer) → 0 < left → first ≡ answer_over v by target (node ∷ []) → rest ≡ answer_over v by target (flat_map (below v (left - 1)) (v.children node)) → join first rest ≡ answer_over v by target (below v left node)
+pub visit_found : (v : TreeView) (by : ℕ) (target : Target) (left node : ℕ) (first rest : Answer) → 0 < left
+    → first ≡ answer_over v by target (node ∷ [])
+    → rest ≡ answer_over v by target (flat_map (below v (left - 1)) (v.children node))
+    → join first rest ≡ answer_over v by target (below v left node)
 visit_found v by target left node first rest h p q =
     ap (λ t. join t rest) p ∙ ap (join (answer_over v by target (node ∷ []))) q
     ∙ sym (over_append v by target (node ∷ []) (flat_map (below v (left - 1)) (v.children node)))
     ∙ ap (answer_over v by target) (sym (below_more v left node h))
 
-touched : (v : TreeView) (by r : ℕ) (hull area : Box) (t seen : Bool) → hull ≡ v.hull r → area ≡ v.own by → t ≡ touches hull area → t ≡ seen → touches (v.hull r) (v.own by) ≡ seen
+touched : (v : TreeView) (by r : ℕ) (hull area : Box) (t seen : Bool) → hull ≡ v.hull r → area ≡ v.own by
+    → t ≡ touches hull area → t ≡ seen → touches (v.hull r) (v.own by) ≡ seen
 touched v by r hull area t seen p q e f = ap (λ s. touches s (v.own by)) (sym p) ∙ ap (touches hull) (sym q) ∙ sym e ∙ f
 
-pub visit_counted : (v : TreeView) (by left node a b c : ℕ) (hull area : Box) (t : Bool) → 0 < left → hull ≡ v.hull node → area ≡ v.own by → t ≡ touches hull area → t ≡ true → b ≤ a + cond (nat_eq node by) 0 1 → c ≤ b + total (reads v by (left - 1)) (v.children node) → c ≤ a + reads v by left node
+pub visit_counted : (v : TreeView) (by left node a b c : ℕ) (hull area : Box) (t : Bool) → 0 < left → hull ≡ v.hull node
+    → area ≡ v.own by → t ≡ touches hull area → t ≡ true → b ≤ a + cond (nat_eq node by) 0 1
+    → c ≤ b + total (reads v by (left - 1)) (v.children node) → c ≤ a + reads v by left node
 visit_counted v by left node a b c hull area t h eh ea et f p q =
     let all = total (reads v by (left - 1)) (v.children node) in
     let s : ◌≡◌ {A = ℕ} (cond (touches (v.hull node) (v.own by)) all 0) all = ap (λ x. cond x all 0) (touched v by node hull area t true eh ea et f) in
     omega (arith, p, q, s, reads_more v by left node h)
 
-pub step_found : (v : TreeView) (by : ℕ) (target : Target) (m : ℕ) (cs : List ℕ) (k c : ℕ) (found one whole : Answer) → slice_get cs k ≡ Some c → one ≡ answer_over v by target (below v m c) → whole ≡ join found (answer_over v by target (flat_map (below v m) (drop k cs))) → whole ≡ join (join found one) (answer_over v by target (flat_map (below v m) (drop (k + 1) cs)))
+pub step_found : (v : TreeView) (by : ℕ) (target : Target) (m : ℕ) (cs : List ℕ) (k c : ℕ) (found one whole : Answer)
+    → slice_get cs k ≡ Some c → one ≡ answer_over v by target (below v m c)
+    → whole ≡ join found (answer_over v by target (flat_map (below v m) (drop k cs)))
+    → whole ≡ join (join found one) (answer_over v by target (flat_map (below v m) (drop (k + 1) cs)))
 step_found v by target m cs k c found one whole e p q =
     let rest = flat_map (below v m) (drop (k + 1) cs) in
     q ∙ ap (λ t. join found (answer_over v by target (flat_map (below v m) t))) (drop_at cs k c e)
@@ -132,7 +147,8 @@ step_found v by target m cs k c found one whole e p q =
     ∙ sym (join_assoc found (answer_over v by target (below v m c)) (answer_over v by target rest))
     ∙ ap (λ t. join (join found t) (answer_over v by target rest)) (sym p)
 
-pub step_counted : (f : ℕ → ℕ) (cs : List ℕ) (k c a b whole : ℕ) → slice_get cs k ≡ Some c → b ≤ a + f c → a + total f (drop k cs) ≤ whole → b + total f (drop (k + 1) cs) ≤ whole
+pub step_counted : (f : ℕ → ℕ) (cs : List ℕ) (k c a b whole : ℕ) → slice_get cs k ≡ Some c → b ≤ a + f c
+    → a + total f (drop k cs) ≤ whole → b + total f (drop (k + 1) cs) ≤ whole
 step_counted f cs k c a b whole e p q =
     let t : total f (drop k cs) ≡ f c + total f (drop (k + 1) cs) = ap (total f) (drop_at cs k c e) in
     omega (arith, p, q, t)
@@ -143,7 +159,8 @@ drop_all [] (suc k) h = refl
 drop_all (c ∷ cs) zero h = absurd (omega (arith, h))
 drop_all (c ∷ cs) (suc k) h = drop_all cs k (omega (arith, h))
 
-pub end_found : (v : TreeView) (by : ℕ) (target : Target) (m : ℕ) (cs : List ℕ) (k : ℕ) (found whole : Answer) → length cs ≤ k → whole ≡ join found (answer_over v by target (flat_map (below v m) (drop k cs))) → found ≡ whole
+pub end_found : (v : TreeView) (by : ℕ) (target : Target) (m : ℕ) (cs : List ℕ) (k : ℕ) (found whole : Answer)
+    → length cs ≤ k → whole ≡ join found (answer_over v by target (flat_map (below v m) (drop k cs))) → found ≡ whole
 end_found v by target m cs k found whole h q =
     sym (q ∙ ap (λ t. join found (answer_over v by target (flat_map (below v m) t))) (drop_all cs k h)
     ∙ ap (join found) (over_none v by target) ∙ join_nothing found)
@@ -154,7 +171,8 @@ total_most : (f g : ℕ → ℕ) (xs : List ℕ) → ((x : ℕ) → f x ≤ g x)
 total_most f g [] h = omega arith
 total_most f g (x ∷ xs) h = omega (arith, h x, total_most f g xs h)
 
-total_less : (f g : ℕ → ℕ) (xs : List ℕ) (x : ℕ) → ((y : ℕ) → f y ≤ g y) → Member xs x → f x + 1 ≤ g x → total f xs + 1 ≤ total g xs
+total_less : (f g : ℕ → ℕ) (xs : List ℕ) (x : ℕ) → ((y : ℕ) → f y ≤ g y) → Member xs x → f x + 1 ≤ g x
+    → total f xs + 1 ≤ total g xs
 total_less f g [] x h w e = absurd w
 total_less f g (y ∷ ys) x h w e = elim w [
   | inl p ↦
@@ -167,7 +185,8 @@ total_split : (f : ℕ → ℕ) (xs ys : List ℕ) → total f (xs ++ ys) ≡ to
 total_split f [] ys = omega arith
 total_split f (x ∷ xs) ys = let e = total_split f xs ys in omega (arith, e)
 
-total_flat : (f k : ℕ → ℕ) (g : ℕ → List ℕ) (xs : List ℕ) → ((x : ℕ) → f x ≤ 1 + total k (g x)) → total f xs ≤ length xs + total k (flat_map g xs)
+total_flat : (f k : ℕ → ℕ) (g : ℕ → List ℕ) (xs : List ℕ) → ((x : ℕ) → f x ≤ 1 + total k (g x))
+    → total f xs ≤ length xs + total k (flat_map g xs)
 total_flat f k g [] h = omega arith
 total_flat f k g (x ∷ xs) h = omega (arith, h x, total_flat f k g xs h, total_split k (g x) (flat_map g xs))
 
@@ -198,7 +217,8 @@ visits_most v by (suc m) r =
     omega (arith, cond_more (touches (v.hull r) (v.own by)) _ _ _ t)
 
 -- the asking node is among those that the walk comes to, and isn't read there
-reads_less : (v : TreeView) → IsHullTree v → (by m r : ℕ) → InTree v r → Member (below v m r) by → reads v by m r + 1 ≤ visits v by m r
+reads_less : (v : TreeView) → IsHullTree v → (by m r : ℕ) → InTree v r → Member (below v m r) by
+    → reads v by m r + 1 ≤ visits v by m r
 unfolding reads visits below
 reads_less v laws by zero r h w = absurd w
 reads_less v laws by (suc m) r h w = elim w [
@@ -226,10 +246,12 @@ reads_near v laws by h =
     let b = total_flat (visits v by 257) (open_children v (v.own by)) (below v 257) v.roots (λ c. visits_most v by 257 c) in
     omega (arith, a, b)
 
-pub child_in : (v : TreeView) → IsHullTree v → (n k c : ℕ) → InTree v n → slice_get (v.children n) k ≡ Some c → InTree v c
+pub child_in : (v : TreeView) → IsHullTree v → (n k c : ℕ) → InTree v n → slice_get (v.children n) k ≡ Some c
+    → InTree v c
 child_in v laws n k c h e = laws.closed n c h (in_at (v.children n) k c e)
 
-pub child_depth : (v : TreeView) → IsHullTree v → (n k c : ℕ) → InTree v n → slice_get (v.children n) k ≡ Some c → v.depth c ≡ v.depth n + 1
+pub child_depth : (v : TreeView) → IsHullTree v → (n k c : ℕ) → InTree v n → slice_get (v.children n) k ≡ Some c
+    → v.depth c ≡ v.depth n + 1
 child_depth v laws n k c h e = laws.at_child n c h (in_at (v.children n) k c e)
 
 pub root_inside : (v : TreeView) (k r : ℕ) → slice_get v.roots k ≡ Some r → InTree v r
@@ -238,8 +260,11 @@ root_inside v k r e = root_in v r (in_at v.roots k r e)
 pub root_depth : (v : TreeView) → IsHullTree v → (k r : ℕ) → slice_get v.roots k ≡ Some r → v.depth r ≡ 0
 root_depth v laws k r e = laws.at_root r (in_at v.roots k r e)
 
-pub reads_within : (v : TreeView) → IsHullTree v → (by a b k : ℕ) → InTree v by → length v.roots ≤ k → b + total (reads v by 257) (drop k v.roots) ≤ a + 1 + total (reads v by 257) v.roots → b ≤ a + near v by
+pub reads_within : (v : TreeView) → IsHullTree v → (by a b k : ℕ) → InTree v by → length v.roots ≤ k
+    → b + total (reads v by 257) (drop k v.roots) ≤ a + 1 + total (reads v by 257) v.roots → b ≤ a + near v by
 reads_within v laws by a b k h e q = omega (arith, q, reads_near v laws by h)
 
-pub none_seen : (v : TreeView) → IsHullTree v → (by : ℕ) (target : Target) (m r : ℕ) (hull area : Box) (t : Bool) → InTree v r → hull ≡ v.hull r → area ≡ v.own by → t ≡ touches hull area → t ≡ false → Nothing ≡ answer_over v by target (below v m r)
+pub none_seen : (v : TreeView) → IsHullTree v → (by : ℕ) (target : Target) (m r : ℕ) (hull area : Box) (t : Bool)
+    → InTree v r → hull ≡ v.hull r → area ≡ v.own by → t ≡ touches hull area → t ≡ false
+    → Nothing ≡ answer_over v by target (below v m r)
 none_seen v laws by target m r hull area t h p q e f = sym (none_below v laws by target m r h (touched v by r hull area t false p q e f))

@@ -1,6 +1,7 @@
-pub mod Askers
-pub mod Local
-pub mod Over
-pub mod Levels
-pub mod Blocks
-pub mod TwoRoots
+mod Askers
+mod Local
+mod Over
+mod Levels
+mod Blocks
+mod TwoRoots
+pub mod Door

@@ -28,7 +28,8 @@ of_append box xs ys =
     ∙ graded_or (list_any f xs) (list_any g xs) (list_any f ys) (list_any g ys)
 
 -- the answer over two lists
-pub over_append : (v : TreeView) (by : ℕ) (target : Target) (xs ys : List ℕ) → answer_over v by target (xs ++ ys) ≡ join (answer_over v by target xs) (answer_over v by target ys)
+pub over_append : (v : TreeView) (by : ℕ) (target : Target) (xs ys : List ℕ)
+    → answer_over v by target (xs ++ ys) ≡ join (answer_over v by target xs) (answer_over v by target ys)
 unfolding answer_over
 over_append v by target xs ys =
     let p : ℕ → Bool = λ n. counts_for target (v.standing n by) in
@@ -37,7 +38,8 @@ over_append v by target xs ys =
     ∙ of_append (v.own by) (map v.own (filter p xs)) (map v.own (filter p ys))
 
 -- the answer over one node
-pub over_one_asked : (v : TreeView) (by : ℕ) (target : Target) (n : ℕ) → counts_for target (v.standing n by) ≡ true → answer_over v by target (n ∷ []) ≡ answer_of (v.own by) (v.own n ∷ [])
+pub over_one_asked : (v : TreeView) (by : ℕ) (target : Target) (n : ℕ) → counts_for target (v.standing n by) ≡ true
+    → answer_over v by target (n ∷ []) ≡ answer_of (v.own by) (v.own n ∷ [])
 unfolding answer_over
 over_one_asked v by target n e = ap (λ t. answer_of (v.own by) (map v.own (cond t (n ∷ []) []))) e
 
@@ -45,7 +47,8 @@ pub over_none : (v : TreeView) (by : ℕ) (target : Target) → answer_over v by
 unfolding answer_over answer_of
 over_none v by target = refl
 
-pub over_one_other : (v : TreeView) (by : ℕ) (target : Target) (n : ℕ) → counts_for target (v.standing n by) ≡ false → answer_over v by target (n ∷ []) ≡ Nothing
+pub over_one_other : (v : TreeView) (by : ℕ) (target : Target) (n : ℕ) → counts_for target (v.standing n by) ≡ false
+    → answer_over v by target (n ∷ []) ≡ Nothing
 unfolding answer_over answer_of
 over_one_other v by target n e = ap (λ t. answer_of (v.own by) (map v.own (cond t (n ∷ []) []))) e
 
@@ -59,11 +62,13 @@ either_none : (a b : Bool) → (a ≡ true → ⊥) → b ≡ false → (a || b)
 either_none true b h e = absurd (h refl)
 either_none false b h e = e
 
-any_none : (f : Box → Bool) (xs : List Box) → list_any f xs ≡ false → (g : Box → Bool) → list_any (λ m. f m && g m) xs ≡ false
+any_none : (f : Box → Bool) (xs : List Box) → list_any f xs ≡ false → (g : Box → Bool)
+    → list_any (λ m. f m && g m) xs ≡ false
 any_none f [] e g = refl
 any_none f (x ∷ xs) e g = none_more (f x) (g x) (list_any f xs) (list_any (λ m. f m && g m) xs) e (λ t. any_none f xs t g)
 
-any_apart : (v : TreeView) (p : ℕ → Bool) (f : Box → Bool) (ns : List ℕ) → ((n : ℕ) → Member ns n → f (v.own n) ≡ true → ⊥) → list_any f (map v.own (filter p ns)) ≡ false
+any_apart : (v : TreeView) (p : ℕ → Bool) (f : Box → Bool) (ns : List ℕ)
+    → ((n : ℕ) → Member ns n → f (v.own n) ≡ true → ⊥) → list_any f (map v.own (filter p ns)) ≡ false
 any_apart v p f [] h = refl
 any_apart v p f (n ∷ ns) h = elim (p n) as (λ b. list_any f (map v.own (cond b (n ∷ filter p ns) (filter p ns))) ≡ false) [
   | true ↦ either_none (f (v.own n)) (list_any f (map v.own (filter p ns))) (λ t. h n (inl refl) t) (any_apart v p f ns (λ m w. h m (inr w)))
@@ -71,7 +76,8 @@ any_apart v p f (n ∷ ns) h = elim (p n) as (λ b. list_any f (map v.own (cond 
 ]
 
 -- nodes whose boxes don't meet the box answer nothing
-pub over_apart : (v : TreeView) (by : ℕ) (target : Target) (ns : List ℕ) → ((n : ℕ) → Member ns n → meets (v.own n) (v.own by) ≡ true → ⊥) → answer_over v by target ns ≡ Nothing
+pub over_apart : (v : TreeView) (by : ℕ) (target : Target) (ns : List ℕ)
+    → ((n : ℕ) → Member ns n → meets (v.own n) (v.own by) ≡ true → ⊥) → answer_over v by target ns ≡ Nothing
 unfolding answer_over answer_of
 over_apart v by target ns h =
     let xs = asked v by target ns in

@@ -48,7 +48,8 @@ two_of P a b pa pb c m = elim m [
   | inr m ↦ elim m [ inl e ↦ subst P e pb | inr m ↦ absurd m ]
 ]
 
-below_is : (P : ℕ → ℕ → Type 0) → P 0 2 → P 0 3 → P 1 4 → P 1 5 → (n c : ℕ) → InTree two_roots n → Member (leaves_of n) c → P n c
+below_is : (P : ℕ → ℕ → Type 0) → P 0 2 → P 0 3 → P 1 4 → P 1 5 → (n c : ℕ) → InTree two_roots n
+    → Member (leaves_of n) c → P n c
 below_is P p2 p3 p4 p5 n c h = each (λ k. Member (leaves_of k) c → P k c)
     (two_of (P 0) 2 3 p2 p3 c) (two_of (P 1) 4 5 p4 p5 c) (λ m. absurd m) (λ m. absurd m) (λ m. absurd m) (λ m. absurd m) n h
 

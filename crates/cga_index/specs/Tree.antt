@@ -61,7 +61,8 @@ pub record IsHullTree (v : TreeView) : Type 0 where
   pub holds_own : (n : ℕ) → InTree v n → holds (v.hull n) (v.own n) ≡ true
   pub holds_children : (n c : ℕ) → InTree v n → Member (v.children n) c → holds (v.hull n) (v.hull c) ≡ true
   pub asks_own : (n : ℕ) → InTree v n → v.asks n ≡ true → LiesIn (v.asking_hull n) (v.own n)
-  pub asks_below : (n c : ℕ) (h : Box) → InTree v n → Member (v.children n) c → v.asking_hull c ≡ Some h → LiesIn (v.asking_hull n) h
+  pub asks_below : (n c : ℕ) (h : Box) → InTree v n → Member (v.children n) c → v.asking_hull c ≡ Some h
+      → LiesIn (v.asking_hull n) h
 
 -- ---- runs of roots: so many places of their list in a row
 

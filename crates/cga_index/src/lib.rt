@@ -1,8 +1,11 @@
 //! What lies near a shape: occlusion answers, and who asks there, over any tree of nodes whose hulls hold what is below
-//! them. Only nodes whose parent's hull touches the box are looked at, and of the roots only those of blocks that the tree
-//! doesn't tell to be apart from it. It must not know shapes, symbols or how a tree is kept. The one thing that callers get
-//! wrong: a node is compared by its standing towards the asker, which a tree has to give for every pair; who asks is not
-//! who is answered.
+//! them.
+//!
+//! It must not know shapes, symbols or how a tree is kept. Only nodes whose parent's hull touches the box are looked
+//! at, and of the roots only those of blocks that the tree doesn't tell to be apart from it.
+//!
+//! What callers get wrong: a node is compared by its standing towards the asker, which a tree has to give for every
+//! pair; who asks is not who is answered.
 #![tactic(auto)]
 
 mod hull_tree;

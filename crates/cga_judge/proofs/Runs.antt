@@ -1,25 +1,25 @@
 -- How the run grows with the turns, and where it ends.
-use Rattle.std.proofs.Common.{◌≡◌, ℕ, zero, suc, ◌+◌, ◌-◌, ◌<◌, ◌≤◌, List, [], ◌∷◌, ◌++◌, length, take, refl, sym, ap, ◌∙◌, subst, inl, inr, Option, Some, None, true, false, get_or, arith, length-append}
+use Rattle.std.proofs.Common.{◌≡◌, ℕ, zero, suc, ◌+◌, ◌-◌, ◌<◌, ◌≤◌, List, [], ◌∷◌, ◌++◌, length, take, refl, sym, ap}
+use Rattle.std.proofs.Common.{◌∙◌, subst, inl, inr, Option, Some, None, true, false, get_or, arith, length-append}
 use Rattle.std.specs.Prelude.{slice_get, nat_lt, IsSome, MatchOption}
 use Rattle.std.proofs.lemmas.List.{append-nil}
 use Rattle.std.proofs.lemmas.Bool.Decides.{nat_tests}
 use Rattle.cga_order.specs.World.{Has}
-use Rattle.cga_order.proofs.Maxima.{either}
+use Rattle.cga_derivation.proofs.Door.{derive-some, first_of-Has, first_of-passes, says, settled-reached, waiting_kind}
+use Rattle.cga_expand.proofs.Door.{sources_are_derivations}
+use Rattle.cga_fraction.proofs.Door.{None-not-Some as none_some, same_Some as some_same}
+use Rattle.std.proofs.Common.{append_assoc as append_assoc_one}
+use Rattle.std.proofs.lemmas.Bool.{and_parts as both, cases_Bool as either}
 use Rattle.cga_derivation.specs.Derivation.{derive, is_next, next_of, reached, step, step_by, NothingWaits}
-use Rattle.cga_derivation.proofs.Along.{both, first_of-passes, first_of-Has}
-use Rattle.cga_derivation.proofs.Budget.{derive-some, settled-reached}
-use Rattle.cga_derivation.proofs.Derive.{says}
-use Rattle.cga_derivation.proofs.Ends.{append_assoc_one}
-use Rattle.cga_derivation.proofs.Least.{waiting_kind}
-use Rattle.cga_derivation.proofs.Lists.{none_some, some_same}
 use Rattle.cga_shape.specs.declared.sources.Sources.{Sources}
 use Rattle.cga_shape.specs.declared.trace_step.TraceStep.{TraceStep}
 use Rattle.cga_expand.specs.Children.{Member}
 use Rattle.cga_expand.specs.Derivation.{derivation_of, NamesDiffer}
 use Rattle.cga_expand.specs.Run.{traced, step_of, run_to, IsRun}
-use Rattle.cga_expand.proofs.Instance.{sources_are_derivations}
 use Rattle.cga_derive.specs.Underway.{IsStepAfter}
 use Rattle.cga_judge.specs.Judged.{DifferFirstAt}
+pub use Rattle.std.proofs.lemmas.Option.{slice_get_past as get-end}
+pub use Rattle.cga_fraction.proofs.Door.{Some_from_IsSome as some_of, slice_get_from_get_or as get-there, take-all as take-end}
 
 -- ---- lists
 
@@ -32,17 +32,6 @@ get-append : {X : Type 0} (xs ys : List X) (y : X) → slice_get (xs ++ y ∷ ys
 get-append [] ys y = refl
 get-append (x ∷ xs) ys y = get-append xs ys y
 
-pub get-end : {X : Type 0} (xs : List X) (i : ℕ) → length xs ≤ i → slice_get xs i ≡ None
-get-end [] i h = refl
-get-end (x ∷ xs) zero h = absurd (omega (arith, h))
-get-end (x ∷ xs) (suc i) h = get-end xs i (omega (arith, h))
-
-pub take-end : {X : Type 0} (xs : List X) (i : ℕ) → length xs ≤ i → take i xs ≡ xs
-take-end [] zero h = refl
-take-end [] (suc i) h = refl
-take-end (x ∷ xs) zero h = absurd (omega (arith, h))
-take-end (x ∷ xs) (suc i) h = ap (λ l. x ∷ l) (take-end xs i (omega (arith, h)))
-
 length-take : {X : Type 0} (xs : List X) (i : ℕ) → i ≤ length xs → length (take i xs) ≡ i
 length-take [] zero h = refl
 length-take [] (suc i) h = absurd (omega (arith, h))
@@ -50,33 +39,26 @@ length-take (x ∷ xs) zero h = refl
 length-take (x ∷ xs) (suc i) h = ap suc (length-take xs i (omega (arith, h)))
 
 -- one more
-pub take-more : {X : Type 0} (xs : List X) (i : ℕ) (x : X) → slice_get xs i ≡ Some x → take (suc i) xs ≡ take i xs ++ x ∷ []
+pub take-more : {X : Type 0} (xs : List X) (i : ℕ) (x : X) → slice_get xs i ≡ Some x
+    → take (suc i) xs ≡ take i xs ++ x ∷ []
 take-more [] i x e = none_some x e
 take-more (y ∷ xs) zero x e = ap (λ z. z ∷ []) (some_same y x e)
 take-more (y ∷ xs) (suc i) x e = ap (λ l. y ∷ l) (take-more xs i x e)
-
-pub some_of : {X : Type 0} (o : Option X) → IsSome o → (x : X) × (o ≡ Some x)
-some_of None h = let x : false ≡ true = h in cc
-some_of (Some x) h = (x, refl)
-
--- what an index reads stands there
-pub get-there : {X : Type 0} (xs : List X) (i : ℕ) (x : X) → i < length xs → x ≡ get_or xs i x → slice_get xs i ≡ Some x
-get-there [] i x h e = absurd (omega (arith, h))
-get-there (y ∷ xs) zero x h e = ap Some (sym e)
-get-there (y ∷ xs) (suc i) x h e = get-there xs i x (omega (arith, h)) e
 
 pub some_apart : {X : Type 0} (x : X) (o : Option X) → o ≡ None → o ≡ Some x → ⊥
 some_apart x o e f = let q : ◌≡◌ {A = Option _} None (Some x) = sym e ∙ f in cc
 
 module _ (sources : Sources) where
   -- nothing is next where nothing waits
-  waits-next : (n : ℕ) (m : Member) → next_of (derivation_of sources) (reached (derivation_of sources) n) ≡ Some m → NothingWaits (derivation_of sources) (reached (derivation_of sources) n) → ⊥
+  waits-next : (n : ℕ) (m : Member) → next_of (derivation_of sources) (reached (derivation_of sources) n) ≡ Some m
+      → NothingWaits (derivation_of sources) (reached (derivation_of sources) n) → ⊥
   waits-next n m e quiet =
       let list = reached (derivation_of sources) n in
       let kind = waiting_kind m.kind (both _ _ (first_of-passes (is_next (derivation_of sources) list) list m e)).0 in
       quiet m.shape (subst (Has list m.shape) kind (first_of-Has (is_next (derivation_of sources) list) list m e))
 
-  none-next : (n : ℕ) → NothingWaits (derivation_of sources) (reached (derivation_of sources) n) → next_of (derivation_of sources) (reached (derivation_of sources) n) ≡ None
+  none-next : (n : ℕ) → NothingWaits (derivation_of sources) (reached (derivation_of sources) n)
+      → next_of (derivation_of sources) (reached (derivation_of sources) n) ≡ None
   none-next n quiet = by (next_of (derivation_of sources) (reached (derivation_of sources) n)) refl
     where
       by : (o : Option Member) → next_of (derivation_of sources) (reached (derivation_of sources) n) ≡ o → o ≡ None
@@ -94,7 +76,8 @@ module _ (sources : Sources) where
       (before.0 ++ step, ap (run_to sources) e ∙ (ap (λ l. l ++ step) before.1 ∙ append_assoc_one (run_to sources n) before.0 step))
 
   -- no turn adds a step where nothing waits
-  run-settled : (n k : ℕ) → NothingWaits (derivation_of sources) (reached (derivation_of sources) n) → run_to sources (k + n) ≡ run_to sources n
+  run-settled : (n k : ℕ) → NothingWaits (derivation_of sources) (reached (derivation_of sources) n)
+      → run_to sources (k + n) ≡ run_to sources n
   unfolding run_to
   run-settled n zero quiet = let e : 0 + n ≡ n = omega arith in ap (run_to sources) e
   run-settled n (suc k) quiet =
@@ -103,11 +86,13 @@ module _ (sources : Sources) where
       ap (run_to sources) e ∙ (ap (λ o. run_to sources (k + n) ++ step_of sources (reached (derivation_of sources) (k + n)) o) (none-next (k + n) still) ∙ (append-nil (run_to sources (k + n)) ∙ run-settled n k quiet))
 
   -- the turn after n turns adds its step
-  pub run-next : (n : ℕ) (m : Member) → next_of (derivation_of sources) (reached (derivation_of sources) n) ≡ Some m → run_to sources (suc n) ≡ run_to sources n ++ traced sources (reached (derivation_of sources) n) m.shape ∷ []
+  pub run-next : (n : ℕ) (m : Member) → next_of (derivation_of sources) (reached (derivation_of sources) n) ≡ Some m
+      → run_to sources (suc n) ≡ run_to sources n ++ traced sources (reached (derivation_of sources) n) m.shape ∷ []
   unfolding run_to
   run-next n m e = ap (λ o. run_to sources n ++ step_of sources (reached (derivation_of sources) n) o) e
 
-  pub run-step : (n : ℕ) (step : TraceStep) → IsStepAfter sources n step → run_to sources (suc n) ≡ run_to sources n ++ step ∷ []
+  pub run-step : (n : ℕ) (step : TraceStep) → IsStepAfter sources n step
+      → run_to sources (suc n) ≡ run_to sources n ++ step ∷ []
   run-step n step (m, e, is) = run-next n m e ∙ ap (λ s. run_to sources n ++ s ∷ []) (sym is)
 
   pub run-begins : (steps : List TraceStep) → run_to sources 0 ≡ take 0 steps
@@ -116,7 +101,8 @@ module _ (sources : Sources) where
   run-begins (x ∷ steps) = refl
 
   -- sources have one run
-  pub one : (n m : ℕ) → NothingWaits (derivation_of sources) (reached (derivation_of sources) n) → NothingWaits (derivation_of sources) (reached (derivation_of sources) m) → run_to sources n ≡ run_to sources m
+  pub one : (n m : ℕ) → NothingWaits (derivation_of sources) (reached (derivation_of sources) n)
+      → NothingWaits (derivation_of sources) (reached (derivation_of sources) m) → run_to sources n ≡ run_to sources m
   one n m quiet_n quiet_m = elim (either (nat_lt n m)) [
     | inl t ↦
         let lt : n < m = grind (arith, nat_tests) in
@@ -129,7 +115,8 @@ module _ (sources : Sources) where
   ]
 
   -- something waits before the end
-  before-end : (n end : ℕ) → (NothingWaits (derivation_of sources) (reached (derivation_of sources) n) → ⊥) → NothingWaits (derivation_of sources) (reached (derivation_of sources) end) → n < end
+  before-end : (n end : ℕ) → (NothingWaits (derivation_of sources) (reached (derivation_of sources) n) → ⊥)
+      → NothingWaits (derivation_of sources) (reached (derivation_of sources) end) → n < end
   before-end n end waits quiet = elim (either (nat_lt n end)) [
     | inl t ↦ grind (arith, nat_tests)
     | inr t ↦
@@ -139,11 +126,14 @@ module _ (sources : Sources) where
   ]
 
   -- where something is next the end is later
-  pub later : (n end : ℕ) → (m : Member) × (next_of (derivation_of sources) (reached (derivation_of sources) n) ≡ Some m) → NothingWaits (derivation_of sources) (reached (derivation_of sources) end) → n < end
+  pub later : (n end : ℕ)
+      → (m : Member) × (next_of (derivation_of sources) (reached (derivation_of sources) n) ≡ Some m)
+      → NothingWaits (derivation_of sources) (reached (derivation_of sources) end) → n < end
   later n end (m, e) = before-end n end (waits-next n m e)
 
   -- where nothing is next the list stays
-  stuck : (n k : ℕ) → next_of (derivation_of sources) (reached (derivation_of sources) n) ≡ None → reached (derivation_of sources) (k + n) ≡ reached (derivation_of sources) n
+  stuck : (n k : ℕ) → next_of (derivation_of sources) (reached (derivation_of sources) n) ≡ None
+      → reached (derivation_of sources) (k + n) ≡ reached (derivation_of sources) n
   unfolding reached step
   stuck n zero e = let z : 0 + n ≡ n = omega arith in ap (reached (derivation_of sources)) z
   stuck n (suc k) e =
@@ -151,10 +141,13 @@ module _ (sources : Sources) where
       ap (reached (derivation_of sources)) z ∙ (ap (step (derivation_of sources)) (stuck n k e) ∙ ap (step_by (derivation_of sources) (reached (derivation_of sources) n)) e)
 
   -- a member is next where something waits
-  pub next-there : (n end : ℕ) → (NothingWaits (derivation_of sources) (reached (derivation_of sources) n) → ⊥) → NothingWaits (derivation_of sources) (reached (derivation_of sources) end) → (m : Member) × (next_of (derivation_of sources) (reached (derivation_of sources) n) ≡ Some m)
+  pub next-there : (n end : ℕ) → (NothingWaits (derivation_of sources) (reached (derivation_of sources) n) → ⊥)
+      → NothingWaits (derivation_of sources) (reached (derivation_of sources) end)
+      → (m : Member) × (next_of (derivation_of sources) (reached (derivation_of sources) n) ≡ Some m)
   next-there n end waits quiet = by (next_of (derivation_of sources) (reached (derivation_of sources) n)) refl
     where
-      by : (o : Option Member) → next_of (derivation_of sources) (reached (derivation_of sources) n) ≡ o → (m : Member) × (next_of (derivation_of sources) (reached (derivation_of sources) n) ≡ Some m)
+      by : (o : Option Member) → next_of (derivation_of sources) (reached (derivation_of sources) n) ≡ o
+          → (m : Member) × (next_of (derivation_of sources) (reached (derivation_of sources) n) ≡ Some m)
       by (Some m) e = (m, e)
       by None e =
           let lt = before-end n end waits quiet in
@@ -167,7 +160,8 @@ module _ (sources : Sources) where
     long = ap length along ∙ length-take steps i within
 
     -- nothing waits: the run has ended
-    pub run-ended : NothingWaits (derivation_of sources) (reached (derivation_of sources) i) → i < length steps → (run : List TraceStep) × IsRun sources run × DifferFirstAt run steps (suc i)
+    pub run-ended : NothingWaits (derivation_of sources) (reached (derivation_of sources) i) → i < length steps
+        → (run : List TraceStep) × IsRun sources run × DifferFirstAt run steps (suc i)
     run-ended quiet more = (
       run_to sources i,
       (i, quiet, refl),
@@ -181,7 +175,8 @@ module _ (sources : Sources) where
 
     module _ (end : ℕ) (quiet : NothingWaits (derivation_of sources) (reached (derivation_of sources) end)) where
       -- a step comes, which is the run's
-      pub run-goes : (step : TraceStep) → IsStepAfter sources i step → (slice_get steps i ≡ Some step → ⊥) → (run : List TraceStep) × IsRun sources run × DifferFirstAt run steps (suc i)
+      pub run-goes : (step : TraceStep) → IsStepAfter sources i step → (slice_get steps i ≡ Some step → ⊥)
+          → (run : List TraceStep) × IsRun sources run × DifferFirstAt run steps (suc i)
       run-goes step is differ =
           let lt = later i end (is.0, is.1) quiet in
           let gap : (end - suc i) + suc i ≡ end = omega (arith, lt) in
@@ -192,13 +187,16 @@ module _ (sources : Sources) where
           (run_to sources end, (end, quiet, refl), (i, refl, same ∙ along, λ eq. differ (sym eq ∙ here)))
 
 -- a derivation within a budget ends after at most so many turns
-pub ends_by : (sources : Sources) → NamesDiffer sources.lots → (budget : ℕ) (list : List Member) → derive (derivation_of sources) budget ≡ Some list → (n : ℕ) × (n ≤ budget) × NothingWaits (derivation_of sources) (reached (derivation_of sources) n)
+pub ends_by : (sources : Sources) → NamesDiffer sources.lots → (budget : ℕ) (list : List Member)
+    → derive (derivation_of sources) budget ≡ Some list
+    → (n : ℕ) × (n ≤ budget) × NothingWaits (derivation_of sources) (reached (derivation_of sources) n)
 ends_by sources differ budget list e =
     let h = subst (λ o. MatchOption o ((n : ℕ) × (budget < length (reached (derivation_of sources) n))) (λ l. ((m : ℕ) → length (reached (derivation_of sources) m) ≤ budget) × ((n : ℕ) × (n ≤ budget) × (l ≡ reached (derivation_of sources) n) × NothingWaits (derivation_of sources) l))) e (says (derivation_of sources) (sources_are_derivations sources differ) budget) in
     (h.1.0, h.1.1, subst (NothingWaits (derivation_of sources)) h.1.2 h.1.3)
 
 -- after as many turns as a budget
-pub ended_by : (sources : Sources) → NamesDiffer sources.lots → (budget : ℕ) → IsSome (derive (derivation_of sources) budget) → IsRun sources (run_to sources budget)
+pub ended_by : (sources : Sources) → NamesDiffer sources.lots → (budget : ℕ)
+    → IsSome (derive (derivation_of sources) budget) → IsRun sources (run_to sources budget)
 ended_by sources differ budget within =
     let list = some_of (derive (derivation_of sources) budget) within in
     let end = ends_by sources differ budget list.0 list.1 in
@@ -207,13 +205,16 @@ ended_by sources differ budget within =
     (budget, subst (NothingWaits (derivation_of sources)) (sym same) end.2, refl)
 
 -- so that each run is this one
-pub run_is : (sources : Sources) → NamesDiffer sources.lots → (budget : ℕ) → IsSome (derive (derivation_of sources) budget) → (steps : List TraceStep) → IsRun sources steps → steps ≡ run_to sources budget
+pub run_is : (sources : Sources) → NamesDiffer sources.lots → (budget : ℕ)
+    → IsSome (derive (derivation_of sources) budget) → (steps : List TraceStep) → IsRun sources steps
+    → steps ≡ run_to sources budget
 run_is sources differ budget within steps (n, quiet, is) =
     let end = ended_by sources differ budget within in
     is ∙ (one sources n end.0 quiet end.1 ∙ sym end.2)
 
 -- what is within a budget is within a greater one
-pub within_more : (sources : Sources) → NamesDiffer sources.lots → (budget most : ℕ) → IsSome (derive (derivation_of sources) budget) → budget ≤ most → IsSome (derive (derivation_of sources) most)
+pub within_more : (sources : Sources) → NamesDiffer sources.lots → (budget most : ℕ)
+    → IsSome (derive (derivation_of sources) budget) → budget ≤ most → IsSome (derive (derivation_of sources) most)
 within_more sources differ budget most within less =
     let d = derivation_of sources in
     let list = some_of (derive d budget) within in

@@ -1,1 +1,2 @@
-pub mod KeyAgrees
+mod KeyAgrees
+pub mod Door

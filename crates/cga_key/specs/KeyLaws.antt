@@ -2,7 +2,7 @@
 use Rattle.std.specs.Cmp.{IsTotalOrder, IsEquivalence, IsPartialEquivalence, IsPartialOrder, partial_equiv_from_equiv, partial_order_from_total, eq_by_cmp_equiv, then_total, on_total, nat_cmp_total}
 use Rattle.std.specs.Ordering.{eq_by_cmp, as_partial_cmp}
 use Rattle.cga_word.specs.declared.mode.Mode.TheVariants.{Breadth, Depth}
-use Rattle.cga_order.proofs.Order.{stamps_total}
+use Rattle.cga_order.proofs.Door.{stamps_total}
 use Rattle.cga_key.specs.Key.{mode_number, chain_of_key, stamp_in, key_cmp}
 
 pub key_total : IsTotalOrder key_cmp

@@ -1,1 +1,1 @@
-pub mod Undoing
+mod Undoing

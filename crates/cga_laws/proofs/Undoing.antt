@@ -21,9 +21,8 @@ use Rattle.cga_city.specs.City.{HasDistinctLots, empty_sources}
 use Rattle.cga_city.specs.Derived.{is_within}
 use Rattle.cga_city.specs.Inside.{AreSound}
 use Rattle.cga_city.specs.Lots.{lot_place, names_of}
-use Rattle.cga_city.proofs.Again.{whole_applied, applied_sound}
-use Rattle.cga_city.proofs.Deriving.{empty_derived}
-use Rattle.cga_city.proofs.Kept.{empty_sound}
+use Rattle.cga_city.proofs.Door.{applied_sound, empty_derived, empty_sound, whole_applied}
+use Rattle.cga_top.proofs.Door.{asks_written, city_told, city_written, command_told, distinct}
 use Rattle.cga_undo.specs.History.{Kept, Step, undone, redone, turned, turned_step, back_to}
 use Rattle.cga_script.specs.declared.long_dump.LongDump.{LongDump}
 use Rattle.cga_script.specs.declared.refused.Refused.{Refused}
@@ -40,11 +39,11 @@ use Rattle.cga_top.specs.State.{Block, of_rules, of_city, of_asset, of_judge, St
 use Rattle.cga_top.specs.Effect.{Effect}
 use Rattle.cga_top.specs.Told.{command_of, rules_of, city_of, grammar_told, sources_told}
 use Rattle.cga_top.specs.Written.{AsksWritten}
-use Rattle.cga_top.specs.Replies.{budget_of, changed, applied, edited, noted_by, stepped, dumped, modelled, shown, model_of, clothed, given, done_by, is_blank, begun, asked, outside, closed, ended, effect_by, effect}
+use Rattle.cga_top.specs.Replies.{budget_of, changed, applied, edited, noted_by, stepped, dumped, modelled, shown}
+use Rattle.cga_top.specs.Replies.{model_of, clothed, given, done_by, is_blank, begun, asked, outside, closed, ended}
+use Rattle.cga_top.specs.Replies.{effect_by, effect}
 use Rattle.cga_top.specs.Output.{effect_of_all}
 use Rattle.cga_laws.specs.Undos.{GoesThrough, StatesAreWithin, UndosGoThrough, RedosGoThrough}
-use Rattle.cga_top.proofs.Numbers.{distinct}
-use Rattle.cga_top.proofs.Asks.{command_told, asks_written, city_told, city_written}
 
 -- ---- sources that go through
 
@@ -69,7 +68,8 @@ module _ (s : State) (is : IsSettled s) where
   abbrev Can : Sources → Type 0
   Can = CanBeSet (budget_of s.version)
 
-  changed_settled : (e : Edit) (kept : Kept) (r : Result Sources EditRefused) → applied s e ≡ r → HasDistinctLots e → All Can kept.past → All Can kept.future → IsSettled (changed s kept r).state
+  changed_settled : (e : Edit) (kept : Kept) (r : Result Sources EditRefused) → applied s e ≡ r → HasDistinctLots e
+      → All Can kept.past → All Can kept.future → IsSettled (changed s kept r).state
   changed_settled e kept (Ok new) made apart past future =
       let (sound, fits) = applied_sound s.sources new e (budget_of s.version) is.now.sound apart made in
       record { now = record { sound = sound; fits = fits }; past = past; future = future }
@@ -110,7 +110,8 @@ module _ (s : State) (is : IsSettled s) where
   one_of (y ∷ ys) zero x e h = let same : y ≡ x = cc in subst Can same (All-head Can y ys h)
   one_of (y ∷ ys) (suc i) x e h = one_of ys i x e (All-tail Can y ys h)
 
-  back_fine : (kept : Kept) (o : Option Sources) → slice_get kept.past (length kept.past - 1) ≡ o → All Can kept.past → All Can kept.future → MayBeFine (back_to kept s.sources o)
+  back_fine : (kept : Kept) (o : Option Sources) → slice_get kept.past (length kept.past - 1) ≡ o → All Can kept.past
+      → All Can kept.future → MayBeFine (back_to kept s.sources o)
   back_fine kept None at past future = tt
   back_fine kept (Some last) at past future = record { taken = one_of kept.past (length kept.past - 1) last at past; past = All-take Can (length kept.past - 1) kept.past past; future = pushed kept.future future }
 
@@ -141,7 +142,8 @@ module _ (s : State) (is : IsSettled s) where
 
   -- ---- commands
 
-  printed_settled : (b : Bool) (t e : Effect) → IsSettled t.state → IsSettled e.state → IsSettled (if b then t else e).state
+  printed_settled : (b : Bool) (t e : Effect) → IsSettled t.state → IsSettled e.state
+      → IsSettled (if b then t else e).state
   printed_settled true t e h k = h
   printed_settled false t e h k = k
 
@@ -192,7 +194,8 @@ module _ (s : State) (is : IsSettled s) where
 begun_settled : (s : State) → IsSettled s → IsSettled (begun s)
 begun_settled s is = record { now = is.now; past = is.past; future = is.future }
 
-asked_settled : (s : State) (told : Result ScriptCommand LineFault) → ((a : ScriptCommand) → told ≡ Ok a → AsksWritten a) → IsSettled s → IsSettled (asked s told).state
+asked_settled : (s : State) (told : Result ScriptCommand LineFault)
+    → ((a : ScriptCommand) → told ≡ Ok a → AsksWritten a) → IsSettled s → IsSettled (asked s told).state
 asked_settled s (Ok command) w is = printed_settled s is (is_blank command) _ (done_by (begun s) command) is (command_settled (begun s) (begun_settled s is) command (w command refl))
 asked_settled s (Err fault) w is = begun_settled s is
 
@@ -204,15 +207,18 @@ outside_settled s line is =
     printed_settled s is (s.fresh && is_version_line line) _ (asked s (command_of s.version line)) (second_settled s)
     (asked_settled s (command_of s.version line) (λ a told. asks_written s.version line a (subst (CommandTells s.version line) told (command_told s.version line))) is)
 
-closed_settled : (s : State) (made : Result Edit BlockFault) → ((e : Edit) → made ≡ Ok e → HasDistinctLots e) → IsSettled s → IsSettled (closed s made).state
+closed_settled : (s : State) (made : Result Edit BlockFault) → ((e : Edit) → made ≡ Ok e → HasDistinctLots e)
+    → IsSettled s → IsSettled (closed s made).state
 closed_settled s (Ok e) apart is = edited_settled s is e (apart e refl)
 closed_settled s (Err fault) apart is = is
 
-rules_apart : (r : Result Grammar BlockFault) (e : Edit) → and_then r (λ g. Ok (edit.Rules g)) ≡ Ok e → HasDistinctLots e
+rules_apart : (r : Result Grammar BlockFault) (e : Edit) → and_then r (λ g. Ok (edit.Rules g)) ≡ Ok e
+    → HasDistinctLots e
 rules_apart (Ok g) e h = let same : edit.Rules g ≡ e = cc in subst HasDistinctLots same tt
 rules_apart (Err fault) e h = absurd (cc)
 
-city_apart : (lines : List Line) (r : Result Sources BlockFault) → CityTells lines r → (e : Edit) → and_then r (λ x. Ok (edit.Whole x)) ≡ Ok e → HasDistinctLots e
+city_apart : (lines : List Line) (r : Result Sources BlockFault) → CityTells lines r → (e : Edit)
+    → and_then r (λ x. Ok (edit.Whole x)) ≡ Ok e → HasDistinctLots e
 city_apart lines (Ok x) tells e h = let same : edit.Whole x ≡ e = cc in subst HasDistinctLots same (city_written lines x tells).names
 city_apart lines (Err fault) tells e h = absurd (cc)
 

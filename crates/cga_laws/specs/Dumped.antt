@@ -20,7 +20,8 @@ Sets s (Err refused) new = refused ≡ NoMemory
 -- The text is these lines, between which none is `end`. They tell one thing, the sources with the rules in the order of
 -- the text; set as a whole, that gives the sources back, in every city of the budget.
 pub record IsSetBack (s : Sources) (budget : ℕ) (text : List ℕ) : Type 0 where
-  pub lines : text ≡ ended (codes "version 2") ++ (ended (codes "city") ++ (city_texts (city_said s) ++ ended (codes "end")))
+  pub lines : text ≡ ended (codes "version 2") ++
+        (ended (codes "city") ++ (city_texts (city_said s) ++ ended (codes "end")))
   pub inside : All IsInside (city_said s)
   pub told : CityTells (map given (city_said s)) (Ok (in_order s))
   pub only : (t : Sources) → CityTells (map given (city_said s)) (Ok t) → t ≡ in_order s
@@ -31,5 +32,6 @@ pub record IsSetBack (s : Sources) (budget : ℕ) (text : List ℕ) : Type 0 whe
 -- of a dump of what a city has, where lines say each attribute, rule and lot
 abbrev pub DumpsAreSetBack : Type 0
 DumpsAreSetBack =
-    (s : Sources) (budget : ℕ) (text : List ℕ) → IsSpelledCity s → AreSound s → IsTrue (is_within budget s) → dump_of s ≡ Ok text
+    (s : Sources) (budget : ℕ) (text : List ℕ) → IsSpelledCity s → AreSound s → IsTrue (is_within budget s)
+        → dump_of s ≡ Ok text
     → IsSetBack s budget text

@@ -1,9 +1,11 @@
-//! What follows from what a script is replied to: a line is taken for the one thing that it tells, every state that lines
-//! come to is within the budget, an undo is never refused, a dump read as a city gives its sources back. The crate holds
-//! definitions and laws alone, over lines and sources; it knows nothing of pieces, of bytes that are written, or of
-//! what keeps a city.
-//! The one thing that callers get wrong: a law is of the definition of the output, and a call does nothing. That a
-//! program's bytes are that output is what `run_city` promises.
+//! What follows from what a script is replied to: a line is taken for the one thing that it tells, every state that
+//! lines come to is within the budget, an undo is never refused, a dump read as a city gives its sources back.
+//!
+//! It must not know how bytes are read and written or what keeps a city. The crate holds definitions and laws alone,
+//! over lines and sources.
+//!
+//! What callers get wrong: a law is of the definition of the output, and a call does nothing. That a program's bytes
+//! are that output is what `run_city` promises.
 #![tactic(auto)]
 
 mod laws;

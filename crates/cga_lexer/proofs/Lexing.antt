@@ -15,11 +15,14 @@ lex_skip zero place bs h = let e : place ≡ place + 0 = omega arith in ap (λ p
 lex_skip (suc n) place [] h = absurd (omega arith)
 lex_skip (suc n) place (b ∷ bs) h = let e : place + 1 + n ≡ place + suc n = omega arith in lex_skip n (place + 1) bs (omega arith) ∙ ap (λ p. lex 0 p (drop n bs)) e
 
-pub lex_head : (place b : ℕ) (bs : List ℕ) → lex 0 place (b ∷ bs) ≡ from_front (front (b ∷ bs)) place (λ n. lex n (place + 1) bs)
+pub lex_head : (place b : ℕ) (bs : List ℕ)
+    → lex 0 place (b ∷ bs) ≡ from_front (front (b ∷ bs)) place (λ n. lex n (place + 1) bs)
 unfolding lex
 lex_head place b bs = refl
 
-pub lex_turn : (line : List ℕ) (at : ℕ) → at < length line → lex 0 (at + 1) (drop at line) ≡ from_front (front (drop at line)) (at + 1) (λ n. lex n (at + 1 + 1) (drop (at + 1) line))
+pub lex_turn : (line : List ℕ) (at : ℕ) → at < length line
+    → lex 0 (at + 1) (drop at line) ≡ from_front (front (drop at line)) (at + 1)
+      (λ n. lex n (at + 1 + 1) (drop (at + 1) line))
 lex_turn line at h =
     let a : lex 0 (at + 1) (drop at line) ≡ lex 0 (at + 1) (get_or line at 0 ∷ drop (at + 1) line) = at_drop_more (λ r. lex 0 (at + 1) r) line at 0 h in
     let b : front (drop at line) ≡ front (get_or line at 0 ∷ drop (at + 1) line) = at_drop_more (λ r. front r) line at 0 h in
@@ -29,12 +32,14 @@ nil_right : (xs : List Token) → xs ++ [] ≡ xs
 nil_right [] = refl
 nil_right (x ∷ xs) = ap (λ z. x ∷ z) (nil_right xs)
 
-with_behind : (xs : List Token) (t : Token) (o : Result (List Token) LexFault) → with_found xs (behind t o) ≡ with_found (xs ++ t ∷ []) o
+with_behind : (xs : List Token) (t : Token) (o : Result (List Token) LexFault)
+    → with_found xs (behind t o) ≡ with_found (xs ++ t ∷ []) o
 with_behind xs t (Ok ts) = ap Ok (sym (append_assoc xs (t ∷ []) ts))
 with_behind xs t (Err f) = refl
 
 module _ (line : List ℕ) (at : ℕ) (h : at < length line) (xs : List Token) (r : Result (List Token) LexFault) (read : r ≡ with_found xs (lex 0 (at + 1) (drop at line))) where
-  pub seen : (f : Front) → front (drop at line) ≡ f → r ≡ with_found xs (from_front f (at + 1) (λ n. lex n (at + 1 + 1) (drop (at + 1) line)))
+  pub seen : (f : Front) → front (drop at line) ≡ f
+      → r ≡ with_found xs (from_front f (at + 1) (λ n. lex n (at + 1 + 1) (drop (at + 1) line)))
   seen f e = read ∙ ap (with_found xs) (lex_turn line at h ∙ ap (λ g. from_front g (at + 1) (λ n. lex n (at + 1 + 1) (drop (at + 1) line))) e)
 
   pub token_seen : (k : TokenKind) (len : ℕ) → front (drop at line) ≡ Found k len → 0 < len → at + len ≤ length line →
@@ -53,7 +58,8 @@ lex_nil : (place : ℕ) → lex 0 place [] ≡ Ok []
 unfolding lex
 lex_nil place = refl
 
-pub ended : (line : List ℕ) (at : ℕ) → length line ≤ at → (xs : List Token) → with_found xs (lex 0 (at + 1) (drop at line)) ≡ Ok xs
+pub ended : (line : List ℕ) (at : ℕ) → length line ≤ at → (xs : List Token)
+    → with_found xs (lex 0 (at + 1) (drop at line)) ≡ Ok xs
 ended line at h xs =
     let a : lex 0 (at + 1) (drop at line) ≡ lex 0 (at + 1) [] = at_drop_all (λ r. lex 0 (at + 1) r) line at h in
     ap (with_found xs) (a ∙ lex_nil (at + 1)) ∙ all_found xs
@@ -62,6 +68,7 @@ pub rise_further : (place : ℕ) (ts : List Token) (last more : ℕ) → Rise pl
 rise_further place [] last more h le = omega arith
 rise_further place (t ∷ ts) last more h le = (h.0, h.1, rise_further t.to ts last more h.2 le)
 
-pub rise_behind : (place : ℕ) (ts : List Token) (last : ℕ) (t : Token) → Rise place ts last → last ≤ t.from → t.from < t.to → Rise place (ts ++ t ∷ []) t.to
+pub rise_behind : (place : ℕ) (ts : List Token) (last : ℕ) (t : Token) → Rise place ts last → last ≤ t.from
+    → t.from < t.to → Rise place (ts ++ t ∷ []) t.to
 rise_behind place [] last t h le lt = (omega arith, lt, omega arith)
 rise_behind place (s ∷ ts) last t h le lt = (h.0, h.1, rise_behind s.to ts last t h.2 le lt)

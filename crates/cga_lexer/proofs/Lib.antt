@@ -1,4 +1,5 @@
-pub mod Running
-pub mod Lexing
-pub mod Names
-pub mod Numbers
+mod Running
+mod Lexing
+mod Names
+mod Numbers
+pub mod Door

@@ -3,7 +3,8 @@ use Rattle.std.proofs.Common.{◌≡◌, ℕ, suc, ◌+◌, ◌<◌, ◌≤◌, 
 use Rattle.std.proofs.lemmas.List.{at_drop_more, at_drop_all}
 use Rattle.cga_lexer.specs.Bytes.{run}
 
-run_step : (test : ℕ → Bool) (b : ℕ) (bs : List ℕ) (t : Bool) → test b ≡ t → run test (b ∷ bs) ≡ (if t then suc (run test bs) else 0)
+run_step : (test : ℕ → Bool) (b : ℕ) (bs : List ℕ) (t : Bool) → test b ≡ t
+    → run test (b ∷ bs) ≡ (if t then suc (run test bs) else 0)
 unfolding run
 run_step test b bs t e = ap (λ z. if z then suc (run test bs) else 0) e
 
@@ -21,7 +22,8 @@ module _ (test : ℕ → Bool) (text : List ℕ) (n i : ℕ) (h : n ≡ i + run 
   pub run_ends : length text ≤ i → n ≡ i
   run_ends le = let a : run test (drop i text) ≡ 0 = at_drop_all (λ r. run test r) text i le ∙ run_nil test in omega (arith, h, a)
 
-within_step : (test : ℕ → Bool) (b : ℕ) (bs : List ℕ) (t : Bool) → test b ≡ t → run test bs ≤ length bs → run test (b ∷ bs) ≤ suc (length bs)
+within_step : (test : ℕ → Bool) (b : ℕ) (bs : List ℕ) (t : Bool) → test b ≡ t → run test bs ≤ length bs
+    → run test (b ∷ bs) ≤ suc (length bs)
 within_step test b bs true e h = omega (arith, run_step test b bs true e)
 within_step test b bs false e h = omega (arith, run_step test b bs false e)
 

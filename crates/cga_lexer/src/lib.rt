@@ -1,7 +1,8 @@
 //! The tokens of one line, or its first fault by place.
 //!
-//! It knows bytes, names and numbers, and nothing of rules or commands: a reserved word is a word
-//! here. Callers get the places wrong: they count from 1, and `to` is the place behind the token.
+//! It must not know which words are reserved.
+//!
+//! What callers get wrong: the places. They count from 1, and `to` is the place behind the token.
 #![tactic(auto)]
 
 ghost use Rattle.std.specs.Prelude.{◌≡◌, ◌+◌, ◌<◌, ◌^◌, length, IfOk};

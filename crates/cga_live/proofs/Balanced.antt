@@ -29,10 +29,12 @@ use Rattle.cga_shape.specs.declared.edit.Edit.TheVariants as edit
 use Rattle.cga_shape.specs.declared.edit_refused.EditRefused.{EditRefused}
 use Rattle.cga_shape.specs.declared.sources.Sources.{Sources}
 use Rattle.cga_solid.specs.declared.solid_mesh.SolidMesh.{SolidMesh}
-use Rattle.cga_top.proofs.Bills.{nothing_drawn}
+use Rattle.cga_top.proofs.Door.{nothing_drawn}
 use Rattle.cga_top.specs.Changed.{HasChanged, no_changes}
 use Rattle.cga_top.specs.Effect.{Effect}
-use Rattle.cga_top.specs.Replies.{applied, asked, begun, budget_of, changed, closed, clothed, done_by, dumped, effect, effect_by, ended, given, is_blank, model_of, modelled, outside, second, shown, stepped}
+use Rattle.cga_top.specs.Replies.{applied, asked, begun, budget_of, changed, closed, clothed, done_by, dumped, effect}
+use Rattle.cga_top.specs.Replies.{effect_by, ended, given, is_blank, model_of, modelled, outside, second, shown}
+use Rattle.cga_top.specs.Replies.{stepped}
 use Rattle.cga_top.specs.Told.{command_of, grammar_told, sources_told}
 use Rattle.cga_top.specs.State.{Block, State, of_asset, of_city, of_judge, of_rules, start}
 use Rattle.cga_undo.specs.History.{Kept, Step, redone, undone}
@@ -135,7 +137,8 @@ right_of s t e off same fair = record {
   unbegun = never_fresh e.state (fair.fresh ∙ off);
 }
 
-either_right : (s : State) (b : Bool) (t e : Effect) → (b ≡ true → IsRight s t) → (b ≡ false → IsRight s e) → IsRight s (if b then t else e)
+either_right : (s : State) (b : Bool) (t e : Effect) → (b ≡ true → IsRight s t) → (b ≡ false → IsRight s e)
+    → IsRight s (if b then t else e)
 either_right s true t e h k = h refl
 either_right s false t e h k = k refl
 
@@ -177,7 +180,8 @@ effect_right s (Some block) line is_open un =
     (λ yes. right_of s (record s { block = None }) (ended (record s { block = None }) block) off refl (ended_fair (record s { block = None }) block))
     (λ more. record { balance = nothing_changed (drawn_at s); unbegun = λ yes. let bad : false ≡ true = sym off ∙ yes in cc })
 
-pub line_balances : (s : State) (line : Line) → IsUnbegun s → (changes : Changes) → HasChanged (effect s line).works changes → Balances (drawn_at s) (drawn_at (effect s line).state) changes
+pub line_balances : (s : State) (line : Line) → IsUnbegun s → (changes : Changes)
+    → HasChanged (effect s line).works changes → Balances (drawn_at s) (drawn_at (effect s line).state) changes
 unfolding effect
 line_balances s line un changes has = (effect_right s s.block line refl un).balance changes has
 

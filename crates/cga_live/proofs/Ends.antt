@@ -4,14 +4,14 @@ use Rattle.std.proofs.lemmas.List.{append-nil, take_all, take-append-drop}
 use Rattle.std.specs.Prelude.{IfSome, IsTrue}
 use Rattle.std.specs.Io.KnownBytes.{Appends, Consumes, IsAtEnd, Keeps}
 use Rattle.cga_outside.specs.Causes.{Rose}
-use Rattle.cga_script.proofs.Cuts.{last_kept, lines_append}
+use Rattle.cga_script.proofs.Door.{last_kept, lines_append}
 use Rattle.cga_script.specs.Lines.{Line, clipped, cut, lines_of}
 use Rattle.cga_script.specs.Pending.{Pending, kept_of, ready_line}
 use Rattle.cga_script.specs.declared.ending.Ending.TheVariants.{End}
-use Rattle.cga_top.proofs.Complete.{not_so_long}
-use Rattle.cga_top.proofs.Effects.{all_append, all_none, followed_assoc, some_after, some_more, some_nothing, spent_more, spent_then}
-use Rattle.cga_top.proofs.Ends.{IsFlushed, SameSource, all_of_it, all_taken, by_bytes, flushed_as}
-use Rattle.cga_top.proofs.Known.{appends_more}
+use Rattle.cga_top.proofs.Door.{IsFlushed, SameSource, all_append, all_none, all_taken, appends_more, by_bytes}
+use Rattle.cga_top.proofs.Door.{flushed_as, followed_assoc, not_so_long, some_after, some_more, some_nothing}
+use Rattle.cga_top.proofs.Door.{spent_more, spent_then}
+use Rattle.cga_fraction.proofs.Door.{all_of_it}
 use Rattle.cga_top.specs.Effect.{Effect, HasSpent, followed_by, silent}
 use Rattle.cga_top.specs.Faults.{FaultsAt}
 use Rattle.cga_top.specs.Outside.{IsCalm, Outside}
@@ -37,7 +37,8 @@ use Rattle.cga_live.specs.Runs.{Begun, Finished, IsHalted, IsRead, Lived, Unfini
 nothing_kept : (x : ℕ) (xs : List ℕ) → kept_of (x ∷ xs) ≡ [] → ⊥
 nothing_kept x xs e = let bad : x ∷ take 4097 xs ≡ [] = e in cc
 
-pub line_at_end : (rest : List ℕ) (p : Pending) (kept : List ℕ) → p ≡ record { kept = kept; ending = End } → kept ≡ kept_of rest → (kept ≡ [] → ⊥) → ready_line p ∷ [] ≡ last_of rest
+pub line_at_end : (rest : List ℕ) (p : Pending) (kept : List ℕ) → p ≡ record { kept = kept; ending = End }
+    → kept ≡ kept_of rest → (kept ≡ [] → ⊥) → ready_line p ∷ [] ≡ last_of rest
 line_at_end [] p kept e k some = absurd (some k)
 line_at_end (byte ∷ bytes) p kept e k some = ap (λ (l : Line). l ∷ []) (ap ready_line e ∙ ap clipped k ∙ last_kept (byte ∷ bytes))
 
@@ -67,13 +68,15 @@ script_is d bytes =
     ∙ ap (λ (t : Effect). followed_by t (at_end t.state)) (sym (all_append s (lines_of bytes) (last_of rest)))
 
 -- the replies alone are the output
-output_is : (d : ℕ) (bytes : List ℕ) (turns : List Turn) → lines_in turns ≡ all_lines bytes → replies_of (start d) turns ++ end_of d bytes ≡ output_of d bytes
+output_is : (d : ℕ) (bytes : List ℕ) (turns : List Turn) → lines_in turns ≡ all_lines bytes
+    → replies_of (start d) turns ++ end_of d bytes ≡ output_of d bytes
 unfolding output_of whole_effect
 output_is d bytes turns are =
     ap (λ (r : List ℕ). r ++ end_of d bytes) (replies_all (start d) turns ∙ ap (λ (l : List Line). (effect_of_all (start d) l).reply) are)
     ∙ ap (λ (t : Effect). t.reply) (sym (script_is d bytes))
 
-spent_all : (d : ℕ) (bytes : List ℕ) (i j : ℕ) → HasSpent (effect_of_all (start d) (all_lines bytes)).works i j → HasSpent (effect_of_script d bytes).works i j
+spent_all : (d : ℕ) (bytes : List ℕ) (i j : ℕ) → HasSpent (effect_of_all (start d) (all_lines bytes)).works i j
+    → HasSpent (effect_of_script d bytes).works i j
 unfolding whole_effect
 spent_all d bytes i j h =
     let e : Effect = effect_of_all (start d) (all_lines bytes) in
@@ -102,7 +105,8 @@ module _ (d : ℕ) (bytes : List ℕ) where
   end_is : (at_end (effect_of_all mid_state rest).state).reply ≡ end_of d bytes
   end_is = ap (λ (t : Effect). (at_end t.state).reply) (sym (all_append (start d) lines rest))
 
-  all_live : (session : Session) (a b c : Option (List ℕ)) (i j k : ℕ) → Lived (start d) lines session a b i j → Finished mid_state rest b c j k
+  all_live : (session : Session) (a b c : Option (List ℕ)) (i j k : ℕ) → Lived (start d) lines session a b i j
+      → Finished mid_state rest b c j k
       → (text : List ℕ) × IsLiveOf d bytes text × Appends a c text × HasSpent (effect_of_script d bytes).works i k
   all_live session a b c i j k p q =
       let turns : List Turn = p.turns ++ q.turns in
@@ -122,7 +126,9 @@ module _ (d : ℕ) (bytes : List ℕ) where
       (text, live, subst (Appends a c) same (appends_more a b c first (second ++ end) p.written q.written), spent_all d bytes i k spent)
 
   -- some of it
-  all_some : (session : Session) (b : Option (List ℕ)) (i j : ℕ) (old new : Outside) → Lived (start d) lines session old.held b i j → Unfinished mid_state rest b new.held → TellsSome d bytes old new
+  all_some : (session : Session) (b : Option (List ℕ)) (i j : ℕ) (old new : Outside)
+      → Lived (start d) lines session old.held b i j → Unfinished mid_state rest b new.held
+      → TellsSome d bytes old new
   all_some session b i j old new p q =
       let turns : List Turn = p.turns ++ q.turns in
       let end : List ℕ = (at_end (effect_of_all mid_state rest).state).reply in
@@ -140,7 +146,8 @@ module _ (d : ℕ) (bytes : List ℕ) where
       }
 
 -- some of what is told of the first bytes
-some_first : (d : ℕ) (bytes x y : List ℕ) (old new : Outside) → bytes ≡ x ++ y → Begun (start d) (lines_of x) old.held new.held → TellsSome d bytes old new
+some_first : (d : ℕ) (bytes x y : List ℕ) (old new : Outside) → bytes ≡ x ++ y
+    → Begun (start d) (lines_of x) old.held new.held → TellsSome d bytes old new
 some_first d bytes x y old new e p =
     let more = first_lines x y in
     let b : Begun (start d) (lines_of x ++ more.0) old.held new.held = begun_rest (start d) (lines_of x) more.0 old.held new.held p in
@@ -152,7 +159,9 @@ some_first d bytes x y old new e p =
       written = some_more old.held new.held (text_of (start d) b.turns) (behind_all b.left (end_of d bytes)) b.written;
     }
 
-some_known : (d : ℕ) (script left : Option (List ℕ)) (read : List ℕ) (old new : Outside) → Consumes script left read → Begun (start d) (lines_of (take limit read)) old.held new.held → IfSome script (λ bytes. TellsSome d bytes old new)
+some_known : (d : ℕ) (script left : Option (List ℕ)) (read : List ℕ) (old new : Outside) → Consumes script left read
+    → Begun (start d) (lines_of (take limit read)) old.held new.held
+    → IfSome script (λ bytes. TellsSome d bytes old new)
 some_known d None left read old new taken p = tt
 some_known d (Some bytes) None read old new taken p = absurd taken
 some_known d (Some bytes) (Some later) read old new taken p =
@@ -162,8 +171,10 @@ some_known d (Some bytes) (Some later) read old new taken p =
 -- ---- by the end
 
 -- what was told when reading failed or went too far
-lines_told : (d : ℕ) (read bytes : List ℕ) (old mid new : Outside) (session : Session) (pending : Pending) → old.left ≡ Some bytes
-    → IsRead d read old mid session pending → SameSource mid new → new.expanded ≡ mid.expanded → Keeps mid.held new.held → TellsLines d read bytes old new
+lines_told : (d : ℕ) (read bytes : List ℕ) (old mid new : Outside) (session : Session) (pending : Pending)
+    → old.left ≡ Some bytes
+    → IsRead d read old mid session pending → SameSource mid new → new.expanded ≡ mid.expanded
+    → Keeps mid.held new.held → TellsLines d read bytes old new
 lines_told d read bytes old mid new session pending known r source expanded keeps =
     let taken : Consumes old.left new.left read = subst (λ (left : Option (List ℕ)). Consumes old.left left read) (sym source.left) r.taken in
     record {
@@ -175,12 +186,16 @@ lines_told d read bytes old mid new session pending known r source expanded keep
       spent = record { by = spent_then (effect_of_lines d (take limit read)).works old.expanded mid.expanded new.expanded expanded r.lived.spent };
     }
 
-read_some : (d : ℕ) (read : List ℕ) (old mid new : Outside) (session : Session) (pending : Pending) → IsRead d read old mid session pending → Keeps mid.held new.held → IfSome old.left (λ bytes. TellsSome d bytes old new)
+read_some : (d : ℕ) (read : List ℕ) (old mid new : Outside) (session : Session) (pending : Pending)
+    → IsRead d read old mid session pending → Keeps mid.held new.held
+    → IfSome old.left (λ bytes. TellsSome d bytes old new)
 read_some d read old mid new session pending r keeps =
     some_known d old.left mid.left read old new r.taken (begun_all (start d) (lines_of (take limit read)) session old.held mid.held new.held old.expanded mid.expanded r.lived keeps)
 
-pub failed_means : (d : ℕ) (status : Status) (old mid new : Outside) (session : Session) (pending : Pending) (read : List ℕ)
-    → IsRead d read old mid session pending → length read ≤ limit → Rose old.reads_failed mid.reads_failed → IsFlushed status ReadFault mid new → LiveMeans d status old new
+pub failed_means : (d : ℕ) (status : Status) (old mid new : Outside) (session : Session) (pending : Pending)
+    (read : List ℕ)
+    → IsRead d read old mid session pending → length read ≤ limit → Rose old.reads_failed mid.reads_failed
+    → IsFlushed status ReadFault mid new → LiveMeans d status old new
 failed_means d status old mid new session pending read r few rose f =
     let other : ReadFault ≢ WriteFault = λ e. cc in
     flushed_as (λ (s : Status). LiveMeans d s old new) status ReadFault old mid new other f r.calm
@@ -193,8 +208,10 @@ failed_means d status old mid new session pending read r few rose f =
     ))
     (λ failed. (failed, read_some d read old mid new session pending r f.held))
 
-pub too_long_means : (d : ℕ) (status : Status) (old mid new : Outside) (session : Session) (pending : Pending) (read : List ℕ)
-    → IsRead d read old mid session pending → limit < length read → length read ≤ limit + read_limit → mid.reads_failed ≡ old.reads_failed → IsFlushed status TooLong mid new → LiveMeans d status old new
+pub too_long_means : (d : ℕ) (status : Status) (old mid new : Outside) (session : Session) (pending : Pending)
+    (read : List ℕ)
+    → IsRead d read old mid session pending → limit < length read → length read ≤ limit + read_limit
+    → mid.reads_failed ≡ old.reads_failed → IsFlushed status TooLong mid new → LiveMeans d status old new
 too_long_means d status old mid new session pending read r many most reads f =
     let other : TooLong ≢ WriteFault = λ e. cc in
     flushed_as (λ (s : Status). LiveMeans d s old new) status TooLong old mid new other f r.calm
@@ -211,12 +228,17 @@ module _ (d : ℕ) (read : List ℕ) (old mid : Outside) (session : Session) (pe
   all_read : (bytes : List ℕ) → old.left ≡ Some bytes → take limit read ≡ bytes
   all_read bytes known = take_all limit read few ∙ all_taken read bytes mid.left (subst (λ (left : Option (List ℕ)). Consumes left mid.left read) known r.taken) at_end
 
-  pub end_some : (new : Outside) → Unfinished (effect_of_lines d (take limit read)).state (last_of (cut (take limit read)).rest) mid.held new.held → IfSome old.left (λ bytes. TellsSome d bytes old new)
+  pub end_some : (new : Outside)
+      → Unfinished (effect_of_lines d (take limit read)).state (last_of (cut (take limit read)).rest) mid.held
+      new.held → IfSome old.left (λ bytes. TellsSome d bytes old new)
   end_some new u =
       by_bytes (λ bytes. TellsSome d bytes old new) old.left
-      (λ bytes known. subst (λ (x : List ℕ). TellsSome d x old new) (all_read bytes known) (all_some d (take limit read) session mid.held old.expanded mid.expanded old new r.lived u))
+      (λ bytes known. subst (λ (x : List ℕ). TellsSome d x old new) (all_read bytes known)
+      (all_some d (take limit read) session mid.held old.expanded mid.expanded old new r.lived u))
 
-  all_told : (last new : Outside) (bytes : List ℕ) → old.left ≡ Some bytes → Finished (effect_of_lines d (take limit read)).state (last_of (cut (take limit read)).rest) mid.held last.held mid.expanded last.expanded
+  all_told : (last new : Outside) (bytes : List ℕ) → old.left ≡ Some bytes
+      → Finished (effect_of_lines d (take limit read)).state (last_of (cut (take limit read)).rest) mid.held
+      last.held mid.expanded last.expanded
       → new.expanded ≡ last.expanded → Keeps last.held new.held → TellsAll d bytes old new
   all_told last new bytes known q expanded keeps =
       let is : take limit read ≡ bytes = all_read bytes known in
@@ -231,8 +253,10 @@ module _ (d : ℕ) (read : List ℕ) (old mid : Outside) (session : Session) (pe
       subst (λ (x : List ℕ). TellsAll d x old new) is all
 
   pub done_means : (status : Status) (last new : Outside) → IsTrue mid.ended → mid.reads_failed ≡ old.reads_failed
-      → Finished (effect_of_lines d (take limit read)).state (last_of (cut (take limit read)).rest) mid.held last.held mid.expanded last.expanded
-      → SameSource mid last → last.writes_failed ≡ mid.writes_failed → IsFlushed status Done last new → LiveMeans d status old new
+      → Finished (effect_of_lines d (take limit read)).state (last_of (cut (take limit read)).rest) mid.held last.held
+      mid.expanded last.expanded
+      → SameSource mid last → last.writes_failed ≡ mid.writes_failed → IsFlushed status Done last new
+      → LiveMeans d status old new
   done_means status last new ended reads q source writes f =
       let other : Done ≢ WriteFault = λ e. cc in
       let over : IsTrue new.ended = rw (f.source.ended ∙ source.ended) ended in
@@ -245,12 +269,15 @@ module _ (d : ℕ) (read : List ℕ) (old mid : Outside) (session : Session) (pe
       ))
       (λ failed. (failed, end_some new (finished_some (effect_of_lines d (take limit read)).state (last_of (cut (take limit read)).rest) mid.held last.held new.held mid.expanded last.expanded q f.held)))
 
-pub halted_means : (d : ℕ) (halt : Halt) (status : Status) (old new : Outside) → (halt ≡ cause.WriteFault → status ≡ WriteFault) → (halt ≡ cause.NoMemory → status ≡ NoMemory)
-    → FaultsAt halt old.writes_failed new.writes_failed → new.reads_failed ≡ old.reads_failed → IfSome old.left (λ bytes. TellsSome d bytes old new) → LiveMeans d status old new
+pub halted_means : (d : ℕ) (halt : Halt) (status : Status) (old new : Outside)
+    → (halt ≡ cause.WriteFault → status ≡ WriteFault) → (halt ≡ cause.NoMemory → status ≡ NoMemory)
+    → FaultsAt halt old.writes_failed new.writes_failed → new.reads_failed ≡ old.reads_failed
+    → IfSome old.left (λ bytes. TellsSome d bytes old new) → LiveMeans d status old new
 halted_means d cause.WriteFault status old new write memory faults reads some = subst (λ (s : Status). LiveMeans d s old new) (sym (write refl)) (faults, some)
 halted_means d cause.NoMemory status old new write memory faults reads some = subst (λ (s : Status). LiveMeans d s old new) (sym (memory refl)) (record { reads = reads; writes = faults }, some)
 
-pub halted_some : (d : ℕ) (read : List ℕ) (old new : Outside) → IsHalted d read old new → IfSome old.left (λ bytes. TellsSome d bytes old new)
+pub halted_some : (d : ℕ) (read : List ℕ) (old new : Outside) → IsHalted d read old new
+    → IfSome old.left (λ bytes. TellsSome d bytes old new)
 halted_some d read old new h = some_known d old.left new.left read old new h.taken h.begun
 
 -- no memory at the start
@@ -268,11 +295,13 @@ none_means d o = (
 
 -- ---- completeness
 
-too_long : (d : ℕ) (script : Option (List ℕ)) (old new : Outside) → old.left ≡ script → HoldsFew script → LiveMeans d TooLong old new → ⊥
+too_long : (d : ℕ) (script : Option (List ℕ)) (old new : Outside) → old.left ≡ script → HoldsFew script
+    → LiveMeans d TooLong old new → ⊥
 too_long d None old new e few m = few
 too_long d (Some bytes) old new e few m = let t = rw e at m.2 in not_so_long bytes t.0 new.left t.3.taken t.1 few
 
-pub live_complete : (d : ℕ) (status : Status) (old new : Outside) → LiveMeans d status old new → HoldsFew old.left → (Rose old.reads_failed new.reads_failed → ⊥) → (Rose old.writes_failed new.writes_failed → ⊥) → status ≢ Usage
+pub live_complete : (d : ℕ) (status : Status) (old new : Outside) → LiveMeans d status old new → HoldsFew old.left
+    → (Rose old.reads_failed new.reads_failed → ⊥) → (Rose old.writes_failed new.writes_failed → ⊥) → status ≢ Usage
     → (status ≡ Done) ⊎ (status ≡ NoMemory)
 live_complete d Done old new m few calm silent used = inl refl
 live_complete d NoMemory old new m few calm silent used = inr refl
@@ -283,9 +312,11 @@ live_complete d Usage old new m few calm silent used = absurd (used refl)
 
 -- ---- the headline
 
-told_text : (d : ℕ) (script : Option (List ℕ)) (old new : Outside) → IfSome script (λ bytes. TellsAll d bytes old new) → IfSome script (λ bytes. (text : List ℕ) × IsLiveOf d bytes text × Appends old.held new.held text)
+told_text : (d : ℕ) (script : Option (List ℕ)) (old new : Outside) → IfSome script (λ bytes. TellsAll d bytes old new)
+    → IfSome script (λ bytes. (text : List ℕ) × IsLiveOf d bytes text × Appends old.held new.held text)
 told_text d None old new all = tt
 told_text d (Some bytes) old new all = (all.text, all.live, all.written)
 
-pub live_headline : (d : ℕ) (status : Status) (old new : Outside) → LiveMeans d status old new → status ≡ Done → IfSome old.left (λ bytes. (text : List ℕ) × IsLiveOf d bytes text × Appends old.held new.held text)
+pub live_headline : (d : ℕ) (status : Status) (old new : Outside) → LiveMeans d status old new → status ≡ Done
+    → IfSome old.left (λ bytes. (text : List ℕ) × IsLiveOf d bytes text × Appends old.held new.held text)
 live_headline d status old new means done = let all = subst (λ (s : Status). LiveMeans d s old new) done means in told_text d old.left old new all.3

@@ -1,5 +1,5 @@
-pub mod Balanced
-pub mod Turns
-pub mod Lived
-pub mod Reads
-pub mod Ends
+mod Balanced
+mod Turns
+mod Lived
+mod Reads
+mod Ends

@@ -4,12 +4,11 @@ use Rattle.std.proofs.Math.Seq.{take-nil}
 use Rattle.std.proofs.lemmas.List.{append-nil}
 use Rattle.std.proofs.lemmas.List.Elements.{All-nil}
 use Rattle.std.specs.Io.KnownBytes.{Consumes}
-use Rattle.cga_script.proofs.Feeds.{no_lines}
+use Rattle.cga_script.proofs.Door.{no_lines}
 use Rattle.cga_script.specs.Lines.{Line, cut, lines_of}
 use Rattle.cga_script.specs.Pending.{Pending, kept_of}
 use Rattle.cga_script.specs.declared.ending.Ending.TheVariants.{Open}
-use Rattle.cga_top.proofs.Known.{consumes_more, consumes_nothing}
-use Rattle.cga_top.proofs.Reading.{lines_more, pending_is}
+use Rattle.cga_top.proofs.Door.{consumes_more, consumes_nothing, lines_more, pending_is}
 use Rattle.cga_top.specs.Outside.{Outside}
 use Rattle.cga_top.specs.Output.{effect_of_all}
 use Rattle.cga_top.specs.Reads.{limit, pending_after}
@@ -19,7 +18,8 @@ use Rattle.cga_live.proofs.Lived.{begun_more, lived_more, lived_nothing}
 use Rattle.cga_live.specs.Runs.{Begun, IsHalted, IsHere, IsRead, Lived}
 
 -- nothing was read
-pub reads_start : (d : ℕ) (session : Session) (lines : Pending) (o : Outside) → IsHere (start d) session → lines ≡ pending_after [] → IsRead d [] o o session lines
+pub reads_start : (d : ℕ) (session : Session) (lines : Pending) (o : Outside) → IsHere (start d) session
+    → lines ≡ pending_after [] → IsRead d [] o o session lines
 reads_start d session lines o here are =
     let none : take limit [] ≡ [] = take-nil limit in
     let no_line : lines_of (take limit []) ≡ [] = ap lines_of none ∙ no_lines [] (All-nil (λ (b : ℕ). b ≢ 10)) in
@@ -31,7 +31,9 @@ reads_start d session lines o here are =
     }
 
 -- a read that took nothing
-pub reads_none : (d : ℕ) (read : List ℕ) (old mid : Outside) (session : Session) (lines : Pending) (left : Option (List ℕ)) (ended : Bool) (failed : ℕ) → IsRead d read old mid session lines → Consumes mid.left left []
+pub reads_none : (d : ℕ) (read : List ℕ) (old mid : Outside) (session : Session) (lines : Pending)
+    (left : Option (List ℕ)) (ended : Bool) (failed : ℕ) → IsRead d read old mid session lines
+    → Consumes mid.left left []
     → IsRead d read old (record mid { left = left; ended = ended; reads_failed = failed }) session lines
 reads_none d read old mid session lines left ended failed r none = record {
   taken = subst (Consumes old.left left) (append-nil read) (consumes_more old.left mid.left left read [] r.taken none);
@@ -44,8 +46,11 @@ module _ (d : ℕ) (read chunk piece : List ℕ) (old mid new : Outside) (sessio
   so_far : State
   so_far = (effect_of_all (start d) (lines_of (take limit read))).state
 
-  pub reads_more : (next : Session) (after : Pending) → ((s : State) → IsHere s session → Lived s (lines_of (lines.kept ++ piece)) next mid.held new.held mid.expanded new.expanded)
-      → after ≡ record { kept = kept_of (cut (lines.kept ++ piece)).rest; ending = Open } → new.writes_failed ≡ mid.writes_failed → IsRead d (read ++ chunk) old new next after
+  pub reads_more : (next : Session) (after : Pending)
+      → ((s : State) → IsHere s session
+      → Lived s (lines_of (lines.kept ++ piece)) next mid.held new.held mid.expanded new.expanded)
+      → after ≡ record { kept = kept_of (cut (lines.kept ++ piece)).rest; ending = Open }
+      → new.writes_failed ≡ mid.writes_failed → IsRead d (read ++ chunk) old new next after
   reads_more next after each e calm = record {
     taken = consumes_more old.left mid.left new.left read chunk r.taken more;
     lived = subst (λ (l : List Line). Lived (start d) l next old.held new.held old.expanded new.expanded) (sym (lines_more d read chunk piece lines few first r.lines_are))
@@ -54,7 +59,8 @@ module _ (d : ℕ) (read chunk piece : List ℕ) (old mid new : Outside) (sessio
     calm = calm ∙ r.calm;
   }
 
-  pub reads_halt : ((s : State) → IsHere s session → Begun s (lines_of (lines.kept ++ piece)) mid.held new.held) → new.reads_failed ≡ old.reads_failed → IsHalted d (read ++ chunk) old new
+  pub reads_halt : ((s : State) → IsHere s session → Begun s (lines_of (lines.kept ++ piece)) mid.held new.held)
+      → new.reads_failed ≡ old.reads_failed → IsHalted d (read ++ chunk) old new
   reads_halt each calm = record {
     taken = consumes_more old.left mid.left new.left read chunk r.taken more;
     begun = subst (λ (l : List Line). Begun (start d) l old.held new.held) (sym (lines_more d read chunk piece lines few first r.lines_are))

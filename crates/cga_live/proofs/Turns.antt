@@ -10,8 +10,7 @@ use Rattle.cga_top.specs.Effect.{Effect}
 use Rattle.cga_top.specs.Output.{effect_of_all}
 use Rattle.cga_top.specs.Replies.{budget_of, effect}
 use Rattle.cga_top.specs.State.{State, start}
-use Rattle.cga_top.proofs.Bills.{nothing_drawn}
-use Rattle.cga_top.proofs.Effects.{all_more, all_none}
+use Rattle.cga_top.proofs.Door.{all_more, all_none, nothing_drawn}
 use Rattle.cga_live.specs.Live.{AreTold, Follows, Having, Turn, after, applied, drawn_at, lines_in, nothing, replies_of, text_of}
 
 pub lines_more : (xs ys : List Turn) → lines_in (xs ++ ys) ≡ lines_in xs ++ lines_in ys
@@ -39,7 +38,8 @@ replies_all s (x ∷ xs) =
 -- ---- who applies what is told
 
 -- who has what is drawn, has after each turn what is drawn then
-follow : (s : State) (mine : Having) → ((test : Drawn → Bool) → mine test ≡ count_by test (drawn_at s)) → (turns : List Turn) → AreTold s turns → (n : ℕ) (test : Drawn → Bool)
+follow : (s : State) (mine : Having) → ((test : Drawn → Bool) → mine test ≡ count_by test (drawn_at s))
+    → (turns : List Turn) → AreTold s turns → (n : ℕ) (test : Drawn → Bool)
     → applied mine (take n turns) test ≡ count_by test (drawn_at (after s (take n turns)))
 follow s mine has [] told zero test = has test ∙ ap (λ (e : Effect). count_by test (drawn_at e.state)) (sym (all_none s))
 follow s mine has [] told (suc n) test = has test ∙ ap (λ (e : Effect). count_by test (drawn_at e.state)) (sym (all_none s))

@@ -41,7 +41,8 @@ pub record TellsSome (decimals : ℕ) (bytes : List ℕ) (old new : Outside) : T
   pub left : List Line
   pub lines : lines_in turns ++ left ≡ all_lines bytes
   pub told : AreTold (start decimals) turns
-  pub written : AppendsSome old.held new.held (text_of (start decimals) turns ++ behind_all left (end_of decimals bytes))
+  pub written : AppendsSome old.held new.held
+      (text_of (start decimals) turns ++ behind_all left (end_of decimals bytes))
 
 -- one row for each status; what is said of bytes holds where the source tells what is left
 -- and the sink what it holds

@@ -14,7 +14,8 @@ ghost use Rattle.cga_top.specs.Ready.{IsReady};
 ghost use Rattle.cga_top.specs.State.{State};
 
 use cga_delta::delta_text;
-use cga_fraction::{NoMemory, Steps};
+use cga_expand::Expansions;
+use cga_fraction::{NoMemory, Tests};
 use cga_outside::{Failed, Sink};
 use cga_script::Lines;
 use cga_shape::Changes;
@@ -44,8 +45,8 @@ fn take_line<K: Sink, E: Ledger, T: Ledger>(
     session: &mut Session,
     lines: &mut Lines,
     out: &mut K,
-    expansions: &mut Steps<E>,
-    tests: &mut Steps<T>,
+    expansions: &mut Expansions<E>,
+    tests: &mut Tests<T>,
 ) -> Result<(), Halt>
     requires { IsReady session.old }
     ensures ok { (s : State) → IsHere s session.old
@@ -81,8 +82,8 @@ fn take_piece<K: Sink, E: Ledger, T: Ledger>(
     lines: &mut Lines,
     piece: &[u8],
     out: &mut K,
-    expansions: &mut Steps<E>,
-    tests: &mut Steps<T>,
+    expansions: &mut Expansions<E>,
+    tests: &mut Tests<T>,
 ) -> Result<(), Halt>
     requires part { IsKeptPart lines.old }
     requires ready { IsReady session.old }
@@ -120,8 +121,8 @@ pub(crate) fn tell_piece<K: Sink, E: Ledger, T: Ledger>(
     lines: &mut Lines,
     piece: &[u8],
     out: &mut K,
-    expansions: &mut Steps<E>,
-    tests: &mut Steps<T>,
+    expansions: &mut Expansions<E>,
+    tests: &mut Tests<T>,
 ) -> Result<(), Halt>
     requires part { IsKeptPart lines.old }
     requires ready { IsReady session.old }
@@ -155,8 +156,8 @@ pub(crate) fn tell_last<K: Sink, E: Ledger, T: Ledger>(
     session: &mut Session,
     lines: &mut Lines,
     out: &mut K,
-    expansions: &mut Steps<E>,
-    tests: &mut Steps<T>,
+    expansions: &mut Expansions<E>,
+    tests: &mut Tests<T>,
 ) -> Result<(), Halt>
     requires goes_on { lines.old.ending ≡ ending.Open }
     requires ready { IsReady session.old }

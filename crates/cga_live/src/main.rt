@@ -1,7 +1,11 @@
-// A program beside `cga_city`: it replies to a script in the same way, and after the reply to each accepted edit tells
-// which instances went and which came by it. Whoever applies that to the instances that he has, none at first, has those
-// that a `print` would draw. It knows the system's input and output, lines one after another, and nothing of lots or rules.
-// The one thing that callers get wrong: without the exit status 0 the last of what was told may be there in part.
+//! A program beside `cga_city`: it replies to a script in the same way, and after the reply to each accepted edit tells
+//! which instances went and which came by it.
+//!
+//! It must not know rules, lots or how an edit is worked. It knows the system's input and output and lines one after
+//! another. Whoever applies what is told to the instances that are kept, none at first, has those that a `print` would
+//! draw.
+//!
+//! What callers get wrong: without the exit status 0 the last of what was told may be there in part.
 #![tactic(auto)]
 
 mod exit;
@@ -23,7 +27,8 @@ ghost use Rattle.clap.specs.Words.{fault_of};
 
 use crate::exit::{exit_of, unreadable_words};
 use crate::script::run_live;
-use cga_fraction::Steps;
+use cga_expand::Expansions;
+use cga_fraction::Tests;
 use cga_outside::{Sink, Source, StdSink, StdSource};
 use cga_top::Status;
 use cga_words::{Exit, WordsFault, read_none};
@@ -94,8 +99,8 @@ fn run<S: Source, K: Sink, E: Ledger, T: Ledger>(
         Err(WordsFault::Usage) => return Status::Usage,
         Err(WordsFault::NoMemory) => return Status::NoMemory,
     }
-    let mut expansions = Steps::<E>::new(rt, expansions);
-    let mut tests = Steps::<T>::new(rt, tests);
+    let mut expansions = Expansions::<E>::new(rt, expansions);
+    let mut tests = Tests::<T>::new(rt, tests);
     run_live(rt.alloc(), script, out, &mut expansions, &mut tests)
 }
 

@@ -15,7 +15,8 @@ ghost use Rattle.cga_top.specs.State.{State, start};
 ghost use Rattle.cga_top.specs.Statuses.{HoldsFew};
 
 use crate::lines::{tell_last, tell_piece};
-use cga_fraction::{NoMemory, Steps};
+use cga_expand::Expansions;
+use cga_fraction::{NoMemory, Tests};
 use cga_outside::{Failed, Sink, Source};
 use cga_script::Lines;
 use cga_top::{
@@ -47,8 +48,8 @@ fn read_lines<S: Source, K: Sink, E: Ledger, T: Ledger>(
     lines: &mut Lines,
     script: &mut S,
     out: &mut K,
-    expansions: &mut Steps<E>,
-    tests: &mut Steps<T>,
+    expansions: &mut Expansions<E>,
+    tests: &mut Tests<T>,
 ) -> ReadEnd
     requires session { IsHere (start usual) session.old }
     requires ready { IsReady session.old }
@@ -84,8 +85,8 @@ fn end_script<K: Sink, E: Ledger, T: Ledger>(
     session: &mut Session,
     lines: &mut Lines,
     out: &mut K,
-    expansions: &mut Steps<E>,
-    tests: &mut Steps<T>,
+    expansions: &mut Expansions<E>,
+    tests: &mut Tests<T>,
 ) -> Result<(), Halt>
     requires goes_on { lines.old.ending ≡ ending.Open }
     requires ready { IsReady session.old }
@@ -112,8 +113,8 @@ fn run_in<S: Source, K: Sink, E: Ledger, T: Ledger>(
     session: &mut Session,
     script: &mut S,
     out: &mut K,
-    expansions: &mut Steps<E>,
-    tests: &mut Steps<T>,
+    expansions: &mut Expansions<E>,
+    tests: &mut Tests<T>,
 ) -> Status
     requires session { IsHere (start usual) session.old }
     requires ready { IsReady session.old }
@@ -143,8 +144,8 @@ pub(crate) fn run_live<S: Source, K: Sink, E: Ledger, T: Ledger>(
     alloc: Global,
     script: &mut S,
     out: &mut K,
-    expansions: &mut Steps<E>,
-    tests: &mut Steps<T>,
+    expansions: &mut Expansions<E>,
+    tests: &mut Tests<T>,
 ) -> Status
     ensures means { LiveMeans usual result
         (outside_of S.Source K.Sink script.old out.old expansions.old)

@@ -1,7 +1,9 @@
-// The program: replies to the script on standard input. It knows the system's input and output, its words and
-// exit statuses, and nothing of lines, rules or lots. Replies go through a buffer that is flushed after each
-// read, so that a person who types is answered at once and a long script isn't written line by line.
-// The one thing to get wrong: `main` alone has no contract, so it only hands on what the other functions answer.
+//! The program: replies to the script on standard input.
+//!
+//! It must not know lines, rules or lots. Replies go through a buffer that is flushed after each read, so that a person
+//! who types is answered at once and a long script isn't written line by line.
+//!
+//! What callers get wrong: that `main` alone has no contract, so it only hands on what the other functions answer.
 #![tactic(auto)]
 
 ghost use Rattle.std.specs.Prelude.{◌≡◌, ◌≢◌, ◌<◌, ◌⊎◌, [], ℕ, map, string_bytes, IfSome, IsFalse, IfOk, IfErr, IsErrAnd, MatchResult};
@@ -18,7 +20,8 @@ ghost use Rattle.std.specs.IoError.{error_kind};
 ghost use Rattle.cga_words.specs.declared.status.Status.TheVariants.{NoMemory};
 ghost use Rattle.cga_words.specs.Exits.{line_of, refusal_line, refusal_of};
 
-use cga_fraction::Steps;
+use cga_expand::Expansions;
+use cga_fraction::Tests;
 use cga_outside::{Sink, Source, StdSink, StdSource};
 use cga_top::{Status, run_city};
 use cga_words::{Exit, OUT_OF_MEMORY, UNREADABLE, exit_of};
@@ -80,8 +83,8 @@ fn run<S: Source, K: Sink, E: Ledger, T: Ledger>(
         → (Rose (K.faults out.old) (K.faults out.new) → ⊥)
         → (result ≡ Status.Done) ⊎ (result ≡ Status.NoMemory) }
 {
-    let mut expansions = Steps::<E>::new(rt, expansions);
-    let mut tests = Steps::<T>::new(rt, tests);
+    let mut expansions = Expansions::<E>::new(rt, expansions);
+    let mut tests = Tests::<T>::new(rt, tests);
     run_city(rt.alloc(), words, script, out, &mut expansions, &mut tests)
 }
 

@@ -8,7 +8,9 @@ use Rattle.cga_marked.proofs.Count.{bool_cases, tally_mono, tally_same, tally_no
 use Rattle.cga_marked.proofs.Slots.{nat_cases, get_kept, get_last, relates_some, relates_passes, relates_from, books_refl, not_passes, same_again, some_map, passes_some}
 
 -- what is the same of one slot is of all, where no other changes
-same_but : {E X : Type 0} (f : Option E → X) (slots now : List (Option E)) (id : ℕ) → ((c : ℕ) → c ≢ id → slot now c ≡ slot slots c) → f (slot now id) ≡ f (slot slots id) → (c : ℕ) → f (slot now c) ≡ f (slot slots c)
+same_but : {E X : Type 0} (f : Option E → X) (slots now : List (Option E)) (id : ℕ)
+    → ((c : ℕ) → c ≢ id → slot now c ≡ slot slots c) → f (slot now id) ≡ f (slot slots id) → (c : ℕ)
+    → f (slot now c) ≡ f (slot slots c)
 same_but f slots now id others here c = elim (nat_cases c id) [
   | inl q ↦ ap (λ (i : ℕ). f (slot now i)) q ∙ here ∙ ap (λ (i : ℕ). f (slot slots i)) (sym q)
   | inr n ↦ ap f (others c n)
@@ -22,7 +24,8 @@ module _ {E : Type 0} {touched aside : E → Bool} {Plain : E → Type 0} {slots
   ]
 
   -- the same is kept of each slot
-  pub kept : ((c : ℕ) → Relates (KeepsBooks touched aside Plain) (slot slots c) (slot now c)) → IsStore touched aside Plain now list cap gone
+  pub kept : ((c : ℕ) → Relates (KeepsBooks touched aside Plain) (slot slots c) (slot now c))
+      → IsStore touched aside Plain now list cap gone
   kept h = record {
     listed = λ id e t on. let w = relates_from (KeepsBooks touched aside Plain) (slot slots id) (slot now id) e (h id) t in b.listed id w.0 w.1 (sym w.2.touches ∙ on);
     plain = λ id e t off. let w = relates_from (KeepsBooks touched aside Plain) (slot slots id) (slot now id) e (h id) t in w.2.plain off (b.plain id w.0 w.1 (sym w.2.touches ∙ off));
@@ -33,7 +36,8 @@ module _ {E : Type 0} {touched aside : E → Bool} {Plain : E → Type 0} {slots
 
   -- all is swept
   module _ (calm : (id : ℕ) (e : E) → slot now id ≡ Some e → IsCalm touched Plain e) (shown : (e : E) → Plain e → aside e ≡ false) (fewer : (c : ℕ) → is_some (slot now c) ≡ true → is_some (slot slots c) ≡ true) where
-    swept_none : (p : E → Bool) → ((e : E) → IsCalm touched Plain e → p e ≡ false) → (c : ℕ) (s : Option E) → slot now c ≡ s → passes p (slot now c) ≡ false
+    swept_none : (p : E → Bool) → ((e : E) → IsCalm touched Plain e → p e ≡ false) → (c : ℕ) (s : Option E)
+        → slot now c ≡ s → passes p (slot now c) ≡ false
     swept_none p h c None q = ap (passes p) q
     swept_none p h c (Some e) q = ap (passes p) q ∙ h e (calm c e q)
 
@@ -54,7 +58,8 @@ module _ {E : Type 0} {touched aside : E → Bool} {Plain : E → Type 0} {slots
     pub some_same : is_some (slot now id) ≡ is_some (slot slots id) → tally is_some now ≡ tally is_some slots
     some_same h = tally_same is_some refl slots now (same_but is_some slots now id others h)
 
-    pub written : Relates (KeepsBooks touched aside Plain) (slot slots id) (slot now id) → IsStore touched aside Plain now list cap gone
+    pub written : Relates (KeepsBooks touched aside Plain) (slot slots id) (slot now id)
+        → IsStore touched aside Plain now list cap gone
     written h = kept (λ c. elim (nat_cases c id) [
       | inl q ↦ subst (λ i. Relates (KeepsBooks touched aside Plain) (slot slots i) (slot now i)) (sym q) h
       | inr n ↦ books_refl touched aside Plain (slot slots c) (slot now c) (others c n)
@@ -86,7 +91,8 @@ module _ {E : Type 0} {touched aside : E → Bool} {Plain : E → Type 0} {slots
         }
 
       -- which keeps nothing
-      pub joined_books : tally is_some now ≤ cap → touched y ≡ false → Plain y → passes touched (slot slots id) ≡ false → passes aside (slot slots id) ≡ aside y → IsStore touched aside Plain now list cap gone
+      pub joined_books : tally is_some now ≤ cap → touched y ≡ false → Plain y → passes touched (slot slots id) ≡ false
+          → passes aside (slot slots id) ≡ aside y → IsStore touched aside Plain now list cap gone
       joined_books fits off p was hidden = record {
         listed = λ k e t on. elim (nat_cases k id) [
           | inl q ↦ (let w : false ≡ true = sym off ∙ ap touched (here_is k e q t) ∙ on in absurd (cc))
@@ -144,26 +150,31 @@ module _ {E : Type 0} {touched aside : E → Bool} {Plain : E → Type 0} {slots
             let l = tally_mono (passes touched) is_some refl now now refl (λ c t. passes_some touched (slot now c) t) in
             let r = b.room in let k = b.counted in omega arith
 
-        pub touch_books : passes (λ e. not (touched e)) (slot slots id) ≡ true → IsStore touched aside Plain now (list ++ id ∷ []) cap gone
+        pub touch_books : passes (λ e. not (touched e)) (slot slots id) ≡ true
+            → IsStore touched aside Plain now (list ++ id ∷ []) cap gone
         touch_books h =
             let w = not_passes touched (slot slots id) h in
             let e = touch_room in let r = b.room in
             listed_books (touching w.0) (here ∙ ap (option_map touching) w.1) (m.touches w.0) (ap (passes touched) w.1 ∙ w.2) (ap (passes aside) w.1 ∙ sym (m.touch_shows w.0)) (omega arith)
 
-        pub touch_still : passes (λ e. not (touched e)) (slot slots id) ≡ false → IsStore touched aside Plain now list cap gone
+        pub touch_still : passes (λ e. not (touched e)) (slot slots id) ≡ false
+            → IsStore touched aside Plain now list cap gone
         touch_still h = still (here ∙ same_again touching touched m.touch_again (slot slots id) h)
 
       module _ (here : slot now id ≡ option_map hiding (slot slots id)) where
         pub hide_room : tally is_some now ≡ tally is_some slots
         hide_room = some_same (ap is_some here ∙ some_map hiding (slot slots id))
 
-        pub hide_fits : OnlyTouched touched (slot slots id) → passes (λ e. not (aside e)) (slot slots id) ≡ true → gone < cap
+        pub hide_fits : OnlyTouched touched (slot slots id) → passes (λ e. not (aside e)) (slot slots id) ≡ true
+            → gone < cap
         hide_fits on h = let w = not_passes aside (slot slots id) h in
             gone_fits (hiding w.0) (here ∙ ap (option_map hiding) w.1) w.0 w.1 (on w.0 w.1) w.2 (m.hide_touches w.0) (m.hides w.0)
 
-        pub hide_books : OnlyTouched touched (slot slots id) → passes (λ e. not (aside e)) (slot slots id) ≡ true → IsStore touched aside Plain now list cap (gone + 1)
+        pub hide_books : OnlyTouched touched (slot slots id) → passes (λ e. not (aside e)) (slot slots id) ≡ true
+            → IsStore touched aside Plain now list cap (gone + 1)
         hide_books on h = let w = not_passes aside (slot slots id) h in
             hidden_books (hiding w.0) (here ∙ ap (option_map hiding) w.1) w.0 w.1 (on w.0 w.1) w.2 (m.hide_touches w.0) (m.hides w.0)
 
-        pub hide_still : passes (λ e. not (aside e)) (slot slots id) ≡ false → IsStore touched aside Plain now list cap gone
+        pub hide_still : passes (λ e. not (aside e)) (slot slots id) ≡ false
+            → IsStore touched aside Plain now list cap gone
         hide_still h = still (here ∙ same_again hiding aside m.hide_again (slot slots id) h)

@@ -4,10 +4,7 @@ use Rattle.std.specs.Prelude.{Option, None, slice_index_or}
 use Rattle.std.specs.List.{count_by}
 use Rattle.std.proofs.lemmas.List.Recursion.{is_count_by}
 use Rattle.cga_marked.specs.Count.{tally}
-
-pub bool_cases : (b : Bool) → (b ≡ true) ⊎ (b ≡ false)
-bool_cases true = inl refl
-bool_cases false = inr refl
+pub use Rattle.std.proofs.lemmas.Bool.{cases_Bool as bool_cases}
 
 one_more : (b : Bool) (n : ℕ) → cond b 1 0 + n ≡ cond b (1 + n) n
 one_more true n = omega arith
@@ -34,13 +31,15 @@ tally_same p pn xs ys h =
     let a = tally_mono p p pn xs ys pn (λ c e. h c ∙ e) in
     let b = tally_mono p p pn ys xs pn (λ c e. sym (h c) ∙ e) in omega arith
 
-pub tally_none : {X : Type 0} (p : Option X → Bool) → p None ≡ false → (xs : List (Option X)) → ((c : ℕ) → p (slice_index_or xs c None) ≡ false) → tally p xs ≡ 0
+pub tally_none : {X : Type 0} (p : Option X → Bool) → p None ≡ false → (xs : List (Option X))
+    → ((c : ℕ) → p (slice_index_or xs c None) ≡ false) → tally p xs ≡ 0
 tally_none p pn xs h = tally_same p pn [] xs (λ c. h c ∙ sym pn)
 
 suc_apart : (c k : ℕ) → c ≢ k → suc c ≢ suc k
 suc_apart c k n e = n (omega arith)
 
-pub tally_more : {X : Type 0} (p : Option X → Bool) → p None ≡ false → (xs ys : List (Option X)) (k : ℕ) → p (slice_index_or xs k None) ≡ false → p (slice_index_or ys k None) ≡ true
+pub tally_more : {X : Type 0} (p : Option X → Bool) → p None ≡ false → (xs ys : List (Option X)) (k : ℕ)
+    → p (slice_index_or xs k None) ≡ false → p (slice_index_or ys k None) ≡ true
     → ((c : ℕ) → c ≢ k → p (slice_index_or ys c None) ≡ p (slice_index_or xs c None)) → tally p ys ≡ tally p xs + 1
 tally_more p pn xs [] k off on h = let z : false ≡ true = sym pn ∙ on in absurd (cc)
 tally_more p pn [] (y ∷ ys) zero off on h =

@@ -1,5 +1,6 @@
-pub mod Count
-pub mod Slots
-pub mod Books
-pub mod Room
-pub mod Sweep
+mod Count
+mod Slots
+mod Books
+mod Room
+mod Sweep
+pub mod Door

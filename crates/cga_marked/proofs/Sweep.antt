@@ -12,7 +12,8 @@ get_at (x ∷ xs) zero h = refl
 get_at (x ∷ xs) (suc i) h = get_at xs i (omega arith)
 
 module _ {E : Type 0} (g : Option E → Option E) (twice : (s : Option E) → g (g s) ≡ g s) (old now new : List (Option E)) (list : List ℕ) where
-  swept_one : (i k : ℕ) → slice_get list i ≡ Some k → IsSwept g old now list i → slot new k ≡ g (slot now k) → ((c : ℕ) → c ≢ k → slot new c ≡ slot now c) → IsSwept g old new list (i + 1)
+  swept_one : (i k : ℕ) → slice_get list i ≡ Some k → IsSwept g old now list i → slot new k ≡ g (slot now k)
+      → ((c : ℕ) → c ≢ k → slot new c ≡ slot now c) → IsSwept g old new list (i + 1)
   swept_one i k at s here others =
       let new_k : slot new k ≡ g (slot old k) = here ∙ elim (s.each k) [ inl y ↦ ap g y ∙ twice (slot old k) | inr n ↦ ap g n ] in record {
         each = λ c. elim (nat_cases c k) [
@@ -53,11 +54,14 @@ module _ {E : Type 0} (touched : E → Bool) (Plain : E → Type 0) (f : E → O
     pub swept_start : IsSwept (option_and_then f) old old list 0
     swept_start = record { each = λ c. inr refl; done = λ j k lt at. absurd (omega arith) }
 
-    pub swept_next : (new : List (Option E)) (i k : ℕ) → slice_get list i ≡ Some k → IsSwept (option_and_then f) old now list i → slot new k ≡ option_and_then f (slot now k) → ((c : ℕ) → c ≢ k → slot new c ≡ slot now c) → IsSwept (option_and_then f) old new list (i + 1)
+    pub swept_next : (new : List (Option E)) (i k : ℕ) → slice_get list i ≡ Some k
+        → IsSwept (option_and_then f) old now list i → slot new k ≡ option_and_then f (slot now k)
+        → ((c : ℕ) → c ≢ k → slot new c ≡ slot now c) → IsSwept (option_and_then f) old new list (i + 1)
     swept_next new = swept_one (option_and_then f) twice old now new list
 
     module _ (l : Listed touched Plain old list) (n : ℕ) (le : length list ≤ n) (s : IsSwept (option_and_then f) old now list n) where
-      at_end : (c : ℕ) (o : Option E) → slot old c ≡ o → slot now c ≡ slot old c → slot now c ≡ option_and_then f (slot old c)
+      at_end : (c : ℕ) (o : Option E) → slot old c ≡ o → slot now c ≡ slot old c
+          → slot now c ≡ option_and_then f (slot old c)
       at_end c None q w = w ∙ q ∙ sym (ap (option_and_then f) q)
       at_end c (Some e) q w = elim (l c e q) [
         | inl at ↦ (let lt = slice_get_within list at.0 c at.1 in s.done at.0 c (omega arith) at.1)

@@ -5,7 +5,8 @@ use Rattle.cga_shape.specs.declared.drawn.Drawn.{Drawn}
 use Rattle.cga_obj.specs.Lots.{Shown, instance_text, instances_text, vertex_count}
 
 instances_cons : (mesh : Shown) (decimals before : ℕ) (d : Drawn) (ds : List Drawn)
-    → instances_text mesh decimals before (d ∷ ds) ≡ instance_text mesh decimals before d ++ instances_text mesh decimals (before + vertex_count mesh d) ds
+    → instances_text mesh decimals before (d ∷ ds) ≡ instance_text mesh decimals before d ++ instances_text mesh
+      decimals (before + vertex_count mesh d) ds
 unfolding instances_text
 instances_cons mesh decimals before d ds = refl
 
@@ -14,8 +15,10 @@ unfolding instances_text
 instances_none mesh decimals before = refl
 
 -- one instance more, then those that are left
-pub one_more : (mesh : Shown) (decimals before n : ℕ) (xs : List Drawn) (i : ℕ) (d : Drawn) (old new all : List ℕ) → i < length xs → get_or xs i d ≡ d
-    → n ≡ vertex_count mesh d → new ≡ old ++ instance_text mesh decimals before d → old ++ instances_text mesh decimals before (drop i xs) ≡ all
+pub one_more : (mesh : Shown) (decimals before n : ℕ) (xs : List Drawn) (i : ℕ) (d : Drawn) (old new all : List ℕ)
+    → i < length xs → get_or xs i d ≡ d
+    → n ≡ vertex_count mesh d → new ≡ old ++ instance_text mesh decimals before d
+    → old ++ instances_text mesh decimals before (drop i xs) ≡ all
     → new ++ instances_text mesh decimals (before + n) (drop (i + 1) xs) ≡ all
 one_more mesh decimals before n xs i d old new all h at k e f =
     let left : old ++ instances_text mesh decimals before (drop i xs) ≡ old ++ instances_text mesh decimals before (d ∷ drop (i + 1) xs) =
@@ -24,7 +27,8 @@ one_more mesh decimals before n xs i d old new all h at k e f =
     ∙ ap (λ (t : List ℕ). old ++ t) (sym (instances_cons mesh decimals before d (drop (i + 1) xs))) ∙ sym left ∙ f)
 
 -- none is left
-pub no_more : (mesh : Shown) (decimals before : ℕ) (xs : List Drawn) (i : ℕ) (old all : List ℕ) → length xs ≤ i → old ++ instances_text mesh decimals before (drop i xs) ≡ all → old ≡ all
+pub no_more : (mesh : Shown) (decimals before : ℕ) (xs : List Drawn) (i : ℕ) (old all : List ℕ) → length xs ≤ i
+    → old ++ instances_text mesh decimals before (drop i xs) ≡ all → old ≡ all
 no_more mesh decimals before xs i old all h f =
     sym (append-nil old) ∙ ap (λ (t : List ℕ). old ++ t) (sym (instances_none mesh decimals before))
     ∙ sym (at_drop_all (λ (r : List Drawn). old ++ instances_text mesh decimals before r) xs i h) ∙ f

@@ -1,2 +1,2 @@
-pub mod Instances
-pub mod Runs
+mod Instances
+mod Runs

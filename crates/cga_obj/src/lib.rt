@@ -1,6 +1,9 @@
-//! The texts that show a city: the OBJ text of what is drawn in lots, and the list of faults. It must not know how
-//! shapes come about. The one thing that callers get wrong: what is drawn must stand lot by lot, in the order of the
-//! lots; vertex numbers run over the whole text, so texts of single lots can't be joined.
+//! The texts that show a city: the OBJ text of what is drawn in lots, and the list of faults.
+//!
+//! It must not know how shapes come about.
+//!
+//! What callers get wrong: what is drawn must stand lot by lot, in the order of the lots; vertex numbers run over the
+//! whole text, so texts of single lots can't be joined.
 #![tactic(auto)]
 
 mod faults;

@@ -15,7 +15,8 @@ use Rattle.cga_order.proofs.Maxima as stamps
 abbrev pub Apart : Mode → Rank → List Rank → Type 0
 Apart mode = stamps.Apart (rank_cmp mode) (rank_total mode)
 
-rank_at-apart : (mode : Mode) (chain : Chain) (r : Rank) (depth : ℕ) → depth ≤ length r.path → Apart mode r (ranks_down chain depth)
+rank_at-apart : (mode : Mode) (chain : Chain) (r : Rank) (depth : ℕ) → depth ≤ length r.path
+    → Apart mode r (ranks_down chain depth)
 rank_at-apart mode chain r zero h = tt
 rank_at-apart mode chain r (suc depth) h =
     stamps.Apart-push (rank_cmp mode) (rank_total mode) r (rank_at chain depth) (ranks_down chain depth) (rank_at-apart mode chain r depth (omega (arith, h)))
@@ -53,7 +54,8 @@ place chain = (chain.lot, chain.path)
 pub rank-place : (a b : Chain) → rank a ≡ rank b → place a ≡ place b
 rank-place a b e = λ i. ((e i).lot, (sym (take-length a.path) ∙ (ap (λ r. r.path) e ∙ take-length b.path)) i)
 
-ranks_down-child : (parent : Chain) (i : ℕ) (child : Chain) → IsWhole parent → IsChild parent i child → (depth : ℕ) → depth ≤ length parent.path + 1 → ranks_down child depth ≡ ranks_down parent depth
+ranks_down-child : (parent : Chain) (i : ℕ) (child : Chain) → IsWhole parent → IsChild parent i child → (depth : ℕ)
+    → depth ≤ length parent.path + 1 → ranks_down child depth ≡ ranks_down parent depth
 ranks_down-child parent i child whole h zero within = refl
 ranks_down-child parent i child whole h (suc depth) within =
     let priority : slice_index child.priorities depth ≡ slice_index parent.priorities depth =
@@ -64,27 +66,32 @@ ranks_down-child parent i child whole h (suc depth) within =
     λ j. ranks_down-child parent i child whole h depth (omega (arith, within)) j ++ here j ∷ []
 
 -- above a child stand its parent's ranks
-pub ranks_above-child : (parent : Chain) (i : ℕ) (child : Chain) → IsWhole parent → IsChild parent i child → ranks_above child ≡ ranks parent
+pub ranks_above-child : (parent : Chain) (i : ℕ) (child : Chain) → IsWhole parent → IsChild parent i child
+    → ranks_above child ≡ ranks parent
 ranks_above-child parent i child whole h =
     let size : length child.path ≡ suc (length parent.path) = ap length h.path ∙ (length-append parent.path (i ∷ []) ∙ omega arith) in
     ap (ranks_down child) size ∙ ranks_down-child parent i child whole h (suc (length parent.path)) (omega arith)
 
-pub birth-child : (mode : Mode) (parent : Chain) (i : ℕ) (child : Chain) → IsWhole parent → IsChild parent i child → birth mode child ≡ stamp mode parent
+pub birth-child : (mode : Mode) (parent : Chain) (i : ℕ) (child : Chain) → IsWhole parent → IsChild parent i child
+    → birth mode child ≡ stamp mode parent
 birth-child mode parent i child whole h = ap (maxima (rank_cmp mode)) (ranks_above-child parent i child whole h)
 
 -- a child comes after its parent
-pub stamp-child : (mode : Mode) (parent : Chain) (i : ℕ) (child : Chain) → IsWhole parent → IsChild parent i child → stamp_cmp mode parent child ≡ Less
+pub stamp-child : (mode : Mode) (parent : Chain) (i : ℕ) (child : Chain) → IsWhole parent → IsChild parent i child
+    → stamp_cmp mode parent child ≡ Less
 stamp-child mode parent i child whole h = subst (λ s. stamps_cmp mode s (stamp mode child) ≡ Less) (birth-child mode parent i child whole h) (birth-stamp mode child)
 
 pub birth-root : (mode : Mode) (chain : Chain) → chain.path ≡ [] → birth mode chain ≡ []
 birth-root mode chain e = ap (λ p. maxima (rank_cmp mode) (ranks_down chain (length p))) e
 
-nonempty : (mode : Mode) (s : List Rank) (r : Rank) → stamps.In (rank_cmp mode) (rank_total mode) r s → stamps_cmp mode [] s ≡ Less
+nonempty : (mode : Mode) (s : List Rank) (r : Rank) → stamps.In (rank_cmp mode) (rank_total mode) r s
+    → stamps_cmp mode [] s ≡ Less
 nonempty mode [] r i = absurd i
 nonempty mode (q ∷ s) r i = refl
 
 -- a root was there before every stamp
-pub root-before : (mode : Mode) (root other : Chain) → root.path ≡ [] → stamps_cmp mode (birth mode root) (stamp mode other) ≡ Less
+pub root-before : (mode : Mode) (root other : Chain) → root.path ≡ []
+    → stamps_cmp mode (birth mode root) (stamp mode other) ≡ Less
 root-before mode root other e =
     subst (λ b. stamps_cmp mode b (stamp mode other) ≡ Less) (sym (birth-root mode root e))
     (nonempty mode (stamp mode other) (rank other) (stamps.last_in (rank_cmp mode) (rank_total mode) (ranks_above other) (rank other)))
@@ -94,7 +101,8 @@ pub stamps-place : (mode : Mode) (a b : Chain) → stamp_cmp mode a b ≡ Equal 
 stamps-place mode a b e = rank-place a b (stamp-same mode a b (stamps_exact mode _ _ e))
 
 -- a shape that was made before the other's stamp, and has a smaller one, has a smaller rank
-pub rank-before : (mode : Mode) (a b : Chain) → stamps_cmp mode (birth mode b) (stamp mode a) ≡ Less → stamp_cmp mode a b ≡ Less → rank_cmp mode (rank a) (rank b) ≡ Less
+pub rank-before : (mode : Mode) (a b : Chain) → stamps_cmp mode (birth mode b) (stamp mode a) ≡ Less
+    → stamp_cmp mode a b ≡ Less → rank_cmp mode (rank a) (rank b) ≡ Less
 rank-before mode a b born before = stamps.rank_below (rank_cmp mode) (rank_total mode) (ranks_above b) (rank b) (ranks_above a) (rank a) (rank-apart mode b) born before
 
 -- of two children of one parent, each has its index

@@ -40,13 +40,16 @@ module _ {N A F P : Type 0} (world : World N A F P) (laws : IsWorld world) where
   abbrev AllWait : N → Members → Type 0
   AllWait s xs = (n : N) (k : Kind F P) → Has xs n k → place_of world n ≡ place_of world s → k ≡ Waiting
 
-  there : (s : N) (k : Kind F P) (m : Placed N F P) → same_place (world.chain m.shape) (world.chain s) ≡ true → (become world s k m).kind ≡ k
+  there : (s : N) (k : Kind F P) (m : Placed N F P) → same_place (world.chain m.shape) (world.chain s) ≡ true
+      → (become world s k m).kind ≡ k
   there s k m e = ap (λ b. (cond b (record { shape = m.shape; kind = k }) m).kind) e
 
-  elsewhere : (s : N) (k : Kind F P) (m : Placed N F P) → same_place (world.chain m.shape) (world.chain s) ≡ false → (become world s k m).kind ≡ m.kind
+  elsewhere : (s : N) (k : Kind F P) (m : Placed N F P) → same_place (world.chain m.shape) (world.chain s) ≡ false
+      → (become world s k m).kind ≡ m.kind
   elsewhere s k m e = ap (λ b. (cond b (record { shape = m.shape; kind = k }) m).kind) e
 
-  kept : (s : N) (kind : Kind F P) (xs : Members) → AllWait s xs → expanded_one kind ≡ 1 → expanded_count xs ≤ expanded_count (map (become world s kind) xs)
+  kept : (s : N) (kind : Kind F P) (xs : Members) → AllWait s xs → expanded_one kind ≡ 1
+      → expanded_count xs ≤ expanded_count (map (become world s kind) xs)
   kept s kind [] wait one = omega arith
   kept s kind (m ∷ xs) wait one =
       let rest = kept s kind xs (λ n k h. wait n k (inr h)) one in
@@ -59,7 +62,8 @@ module _ {N A F P : Type 0} (world : World N A F P) (laws : IsWorld world) where
             omega (arith, rest, now)
       ]
 
-  more : (s : N) (kind : Kind F P) (xs : Members) → AllWait s xs → expanded_one kind ≡ 1 → (k : Kind F P) → Has xs s k → expanded_count xs + 1 ≤ expanded_count (map (become world s kind) xs)
+  more : (s : N) (kind : Kind F P) (xs : Members) → AllWait s xs → expanded_one kind ≡ 1 → (k : Kind F P) → Has xs s k
+      → expanded_count xs + 1 ≤ expanded_count (map (become world s kind) xs)
   more s kind [] wait one k h = absurd h
   more s kind (m ∷ xs) wait one k h =
       elim (either (same_place (world.chain m.shape) (world.chain s))) [
@@ -78,7 +82,8 @@ module _ {N A F P : Type 0} (world : World N A F P) (laws : IsWorld world) where
   expanded_one-after : (k : Kind F P) → steps.IsExpanded world k → expanded_one k ≡ 1
   expanded_one-after k x = elim x [ inl d ↦ ap expanded_one d | inr f ↦ ap expanded_one f.1 ]
 
-  count-step : (C D : Members) (s : N) → steps.IsOrdered world C → IsStep world C D s → expanded_count C + 1 ≤ expanded_count D
+  count-step : (C D : Members) (s : N) → steps.IsOrdered world C → IsStep world C D s
+      → expanded_count C + 1 ≤ expanded_count D
   count-step C D s good step =
       let kind = steps.kind_after world (outcome world C s) in
       let cs = steps.children_of world (outcome world C s) in

@@ -42,13 +42,16 @@ module _ {N A F P : Type 0} (world : World N A F P) (laws : IsWorld world) where
   not_true false e = refl
 
   -- the parts of waiting at a stamp
-  pub waits_at-parts : (q n : N) (k : Kind F P) → waits_at world q n k ≡ true → IsEarlier world (birth_of world n) (stamp_of world q) × (is_instance k ≡ false) × IsEarlier world (stamp_of world q) (stamp_of world n)
+  pub waits_at-parts : (q n : N) (k : Kind F P) → waits_at world q n k ≡ true
+      → IsEarlier world (birth_of world n) (stamp_of world q) × (is_instance k ≡ false)
+        × IsEarlier world (stamp_of world q) (stamp_of world n)
   waits_at-parts q n k e =
       let t = both_true _ _ e in
       let u = both_true _ _ t.0 in
       (is_earlier _ _ u.0, not_true _ u.1, is_earlier _ _ t.1)
 
-  pub waits_at-true : (q n : N) (k : Kind F P) → IsEarlier world (birth_of world n) (stamp_of world q) → is_instance k ≡ false → IsEarlier world (stamp_of world q) (stamp_of world n) → waits_at world q n k ≡ true
+  pub waits_at-true : (q n : N) (k : Kind F P) → IsEarlier world (birth_of world n) (stamp_of world q)
+      → is_instance k ≡ false → IsEarlier world (stamp_of world q) (stamp_of world n) → waits_at world q n k ≡ true
   waits_at-true q n k b i e =
       ap (λ x. (x && not (is_instance k)) && is_lt (stamps_cmp world.mode (stamp_of world q) (stamp_of world n))) (ap is_lt b)
       ∙ ap (λ x. not x && is_lt (stamps_cmp world.mode (stamp_of world q) (stamp_of world n))) i
@@ -74,7 +77,8 @@ module _ {N A F P : Type 0} (world : World N A F P) (laws : IsWorld world) where
     changes = steps.Changes-step world laws C D s good step
 
     -- a child was made too late for what has a stamp up to that of s
-    too_late : (c n : N) (k : Kind F P) → Has children c k → IsEarlier world (birth_of world c) (stamp_of world n) → (stamp_of world n ≡ stamp_of world s) ⊎ IsEarlier world (stamp_of world n) (stamp_of world s) → ⊥
+    too_late : (c n : N) (k : Kind F P) → Has children c k → IsEarlier world (birth_of world c) (stamp_of world n)
+        → (stamp_of world n ≡ stamp_of world s) ⊎ IsEarlier world (stamp_of world n) (stamp_of world s) → ⊥
     too_late c n k h e o =
         let now : IsEarlier world (stamp_of world s) (stamp_of world n) = subst (λ x. IsEarlier world x (stamp_of world n)) (steps.child_birth world laws C D s good step c k h) e in
         elim o [
@@ -83,7 +87,9 @@ module _ {N A F P : Type 0} (world : World N A F P) (laws : IsWorld world) where
         ]
 
     -- a member of the new list that exists at such a stamp is one of the old
-    existed : (n m : N) (k : Kind F P) → (stamp_of world n ≡ stamp_of world s) ⊎ IsEarlier world (stamp_of world n) (stamp_of world s) → Has D m k → IsEarlier world (birth_of world m) (stamp_of world n) → (Has C m k) ⊎ ((m ≡ s) × (k ≡ kind))
+    existed : (n m : N) (k : Kind F P)
+        → (stamp_of world n ≡ stamp_of world s) ⊎ IsEarlier world (stamp_of world n) (stamp_of world s) → Has D m k
+        → IsEarlier world (birth_of world m) (stamp_of world n) → (Has C m k) ⊎ ((m ≡ s) × (k ≡ kind))
     existed n m k o h e = elim (changes.from m k h) [
       | inl a ↦ inl a.1
       | inr r ↦ elim r [ inl q ↦ inr q | inr c ↦ absurd (too_late m n k c e o) ]
@@ -102,7 +108,8 @@ module _ {N A F P : Type 0} (world : World N A F P) (laws : IsWorld world) where
     ]
 
     -- what a shape with a smaller stamp sees stays as it is
-    sees_existing : (n : N) → IsEarlier world (stamp_of world n) (stamp_of world s) → SameSeen world n (shapes_where (exists_at world n) C) (shapes_where (exists_at world n) D)
+    sees_existing : (n : N) → IsEarlier world (stamp_of world n) (stamp_of world s)
+        → SameSeen world n (shapes_where (exists_at world n) C) (shapes_where (exists_at world n) D)
     sees_existing n before m v = (
       (λ h.
           let w = Has-from_shapes_where (exists_at world n) C m h in
@@ -116,7 +123,8 @@ module _ {N A F P : Type 0} (world : World N A F P) (laws : IsWorld world) where
           ]),
     )
 
-    sees_waiting : (n : N) → IsEarlier world (stamp_of world n) (stamp_of world s) → SameSeen world n (shapes_where (waits_at world n) C) (shapes_where (waits_at world n) D)
+    sees_waiting : (n : N) → IsEarlier world (stamp_of world n) (stamp_of world s)
+        → SameSeen world n (shapes_where (waits_at world n) C) (shapes_where (waits_at world n) D)
     sees_waiting n before m v = (
       (λ h.
           let w = Has-from_shapes_where (waits_at world n) C m h in
@@ -133,10 +141,13 @@ module _ {N A F P : Type 0} (world : World N A F P) (laws : IsWorld world) where
     )
 
     -- what a shape with a smaller stamp is answered stays
-    pub same_answers : (n : N) → IsEarlier world (stamp_of world n) (stamp_of world s) → world.answers n (shapes_where (exists_at world n) C) (shapes_where (waits_at world n) C) ≡ world.answers n (shapes_where (exists_at world n) D) (shapes_where (waits_at world n) D)
+    pub same_answers : (n : N) → IsEarlier world (stamp_of world n) (stamp_of world s)
+        → world.answers n (shapes_where (exists_at world n) C) (shapes_where (waits_at world n) C) ≡ world.answers n
+          (shapes_where (exists_at world n) D) (shapes_where (waits_at world n) D)
     same_answers n before = laws.local n _ _ _ _ (sees_existing n before) (sees_waiting n before)
 
-    same_outcome : (n : N) → IsEarlier world (stamp_of world n) (stamp_of world s) → outcome_at world C n ≡ outcome_at world D n
+    same_outcome : (n : N) → IsEarlier world (stamp_of world n) (stamp_of world s)
+        → outcome_at world C n ≡ outcome_at world D n
     same_outcome n before = ap (world.expand n) (same_answers n before)
 
     -- what s saw is what it sees at its stamp
@@ -175,7 +186,8 @@ module _ {N A F P : Type 0} (world : World N A F P) (laws : IsWorld world) where
     )
 
     -- what s was answered is what it is answered at its stamp
-    pub saw_answers : world.answers s (shapes_where (λ n k. true) C) (shapes_where (λ n k. is_waiting k) C) ≡ world.answers s (shapes_where (exists_at world s) D) (shapes_where (waits_at world s) D)
+    pub saw_answers : world.answers s (shapes_where (λ n k. true) C) (shapes_where (λ n k. is_waiting k) C) ≡
+          world.answers s (shapes_where (exists_at world s) D) (shapes_where (waits_at world s) D)
     saw_answers = laws.local s _ _ _ _ saw_existing saw_waiting
 
     saw : outcome world C s ≡ outcome_at world D s
@@ -204,7 +216,8 @@ module _ {N A F P : Type 0} (world : World N A F P) (laws : IsWorld world) where
     own_outcome : HasOutcome D kind (outcome world C s)
     own_outcome = by (outcome world C s) changes.came
       where
-        by : (r : Result Members F) → ((n : N) (k : Kind F P) → Has (steps.children_of world r) n k → Has D n k) → HasOutcome D (steps.kind_after world r) r
+        by : (r : Result Members F) → ((n : N) (k : Kind F P) → Has (steps.children_of world r) n k → Has D n k)
+            → HasOutcome D (steps.kind_after world r) r
         by (Ok cs) came = (refl, λ c j i. (j, came c j i, refl, λ e. refl))
         by (Err f) came = refl
 
@@ -249,7 +262,8 @@ module _ {N A F P : Type 0} (world : World N A F P) (laws : IsWorld world) where
   settled-reached (s ∷ taken) D (C, reached, step) = settled-next C D s (steps.in_order world laws taken C reached) step (settled-reached taken C reached)
 
   -- what a derivation ends with is consistent
-  pub consistent-reached : (taken : List N) (C : Members) → Reached world taken C → NothingWaits world None C → IsConsistent world None C
+  pub consistent-reached : (taken : List N) (C : Members) → Reached world taken C → NothingWaits world None C
+      → IsConsistent world None C
   consistent-reached taken C reached quiet =
       let settled = settled-reached taken C reached in
       record {
@@ -260,7 +274,8 @@ module _ {N A F P : Type 0} (world : World N A F P) (laws : IsWorld world) where
       }
 
   -- what s saw was made before its stamp
-  pub sees-step : (taken : List N) (C D : Members) (s : N) → Reached world taken C → IsStep world C D s → SeesWhatWasMade world C D s
+  pub sees-step : (taken : List N) (C D : Members) (s : N) → Reached world taken C → IsStep world C D s
+      → SeesWhatWasMade world C D s
   sees-step taken C D s reached step =
       let good = steps.in_order world laws taken C reached in
       record {

@@ -15,7 +15,8 @@ use Rattle.cga_order.specs.FourShapes.{Four, a, b, c, d, waiting, done, all_done
 record IsFamily (chain : Four → Chain) (children : Four → List (Placed Four ℕ ℕ)) : Type 0 where
   whole : (n : Four) → IsWhole (chain n)
   root : (chain a).path ≡ []
-  child : (s : Four) (i : ℕ) (m : Placed Four ℕ ℕ) → slice_get (children s) i ≡ Some m → IsChild (chain s) i (chain m.shape) × IsNew m.kind
+  child : (s : Four) (i : ℕ) (m : Placed Four ℕ ℕ) → slice_get (children s) i ≡ Some m
+      → IsChild (chain s) i (chain m.shape) × IsNew m.kind
 
 ok_same : (x y : List (Placed Four ℕ ℕ)) → ◌≡◌ {A = Result (List (Placed Four ℕ ℕ)) ℕ} (Ok x) (Ok y) → x ≡ y
 ok_same x y e = cc
@@ -25,7 +26,8 @@ one_index zero zero n m h g = refl
 one_index zero (suc j) n m h g = let x : ◌≡◌ {A = Option Four} None (Some m) = g in cc
 one_index (suc i) j n m h g = let x : ◌≡◌ {A = Option Four} None (Some n) = h in cc
 
-is_world : (mode : Mode) (chain : Four → Chain) (children : Four → List (Placed Four ℕ ℕ)) → IsFamily chain children → IsWorld (world_of mode chain children)
+is_world : (mode : Mode) (chain : Four → Chain) (children : Four → List (Placed Four ℕ ℕ)) → IsFamily chain children
+    → IsWorld (world_of mode chain children)
 is_world mode chain children family = record {
   whole = family.whole;
   root = λ n h. elim h [ inl e ↦ subst (λ x. (chain x).path ≡ []) e family.root | inr r ↦ absurd r ];
@@ -42,12 +44,14 @@ none_some : {X : Type 0} (m : Placed Four ℕ ℕ) → ◌≡◌ {A = Option (Pl
 none_some m e = cc
 
 -- a waiting child at its place
-child_is : (chain : Four → Chain) (s n : Four) (i : ℕ) (m : Placed Four ℕ ℕ) → IsChild (chain s) i (chain n) → Some (waiting n) ≡ Some m → IsChild (chain s) i (chain m.shape) × IsNew m.kind
+child_is : (chain : Four → Chain) (s n : Four) (i : ℕ) (m : Placed Four ℕ ℕ) → IsChild (chain s) i (chain n)
+    → Some (waiting n) ≡ Some m → IsChild (chain s) i (chain m.shape) × IsNew m.kind
 child_is chain s n i m h e =
     let is = some_same (waiting n) m e in
     (subst (λ x. IsChild (chain s) i (chain x)) (ap (λ x. x.shape) is) h, inl (sym (ap (λ x. x.kind) is)))
 
-below : (parent child : Chain) (i own : ℕ) → child.lot ≡ parent.lot → child.path ≡ parent.path ++ i ∷ [] → child.priorities ≡ parent.priorities ++ own ∷ [] → IsChild parent i child
+below : (parent child : Chain) (i own : ℕ) → child.lot ≡ parent.lot → child.path ≡ parent.path ++ i ∷ []
+    → child.priorities ≡ parent.priorities ++ own ∷ [] → IsChild parent i child
 below parent child i own lot path priorities = record { lot = lot; path = path; priorities = (own, priorities) }
 
 under_c : IsFamily chain_under_c children_under_c
@@ -59,7 +63,8 @@ under_c = record { whole = whole; root = refl; child = child }
     whole c = refl
     whole d = refl
 
-    child : (s : Four) (i : ℕ) (m : Placed Four ℕ ℕ) → slice_get (children_under_c s) i ≡ Some m → IsChild (chain_under_c s) i (chain_under_c m.shape) × IsNew m.kind
+    child : (s : Four) (i : ℕ) (m : Placed Four ℕ ℕ) → slice_get (children_under_c s) i ≡ Some m
+        → IsChild (chain_under_c s) i (chain_under_c m.shape) × IsNew m.kind
     child a zero m e = child_is chain_under_c a b 0 m (below _ _ 0 3 refl refl refl) e
     child a (suc zero) m e = child_is chain_under_c a c 1 m (below _ _ 1 2 refl refl refl) e
     child a (suc (suc i)) m e = none_some m e
@@ -77,7 +82,8 @@ under_b = record { whole = whole; root = refl; child = child }
     whole c = refl
     whole d = refl
 
-    child : (s : Four) (i : ℕ) (m : Placed Four ℕ ℕ) → slice_get (children_under_b s) i ≡ Some m → IsChild (chain_under_b s) i (chain_under_b m.shape) × IsNew m.kind
+    child : (s : Four) (i : ℕ) (m : Placed Four ℕ ℕ) → slice_get (children_under_b s) i ≡ Some m
+        → IsChild (chain_under_b s) i (chain_under_b m.shape) × IsNew m.kind
     child a zero m e = child_is chain_under_b a b 0 m (below _ _ 0 1 refl refl refl) e
     child a (suc zero) m e = child_is chain_under_b a c 1 m (below _ _ 1 1 refl refl refl) e
     child a (suc (suc i)) m e = none_some m e

@@ -35,18 +35,21 @@ module _ {R : Type 0} (cmp : R → R → Ordering) (o : IsTotalOrder cmp) where
   same_head a b xs ys e = cc
 
   -- an element that is greater than all others is the first
-  pub maxima-first : (r : R) (rs : List R) → ((q : R) → In q rs → cmp q r ≡ Less) → maxima cmp (r ∷ rs) ≡ r ∷ maxima cmp rs
+  pub maxima-first : (r : R) (rs : List R) → ((q : R) → In q rs → cmp q r ≡ Less)
+      → maxima cmp (r ∷ rs) ≡ r ∷ maxima cmp rs
   maxima-first r rs h = lists.at_true cmp o r rs (all_under r rs h)
 
   -- and so is one that is greater than the greatest
-  pub maxima-over : (r : R) (rs : List R) (h : R) (t : List R) → maxima cmp rs ≡ h ∷ t → cmp h r ≡ Less → maxima cmp (r ∷ rs) ≡ r ∷ maxima cmp rs
+  pub maxima-over : (r : R) (rs : List R) (h : R) (t : List R) → maxima cmp rs ≡ h ∷ t → cmp h r ≡ Less
+      → maxima cmp (r ∷ rs) ≡ r ∷ maxima cmp rs
   maxima-over r rs h t e l = maxima-first r rs (λ q i.
       let u = lists.top cmp o rs q i in
       let head = same_head u.0 h u.1 t (sym u.2 ∙ e) in
       lists.past_left cmp o q h r (subst (λ x. cmp x q ≡ Less → ⊥) head u.3) l)
 
   -- an element that is smaller than the greatest one is none
-  pub maxima-under : (r : R) (rs : List R) (h : R) (t : List R) → maxima cmp rs ≡ h ∷ t → cmp r h ≡ Less → maxima cmp (r ∷ rs) ≡ maxima cmp rs
+  pub maxima-under : (r : R) (rs : List R) (h : R) (t : List R) → maxima cmp rs ≡ h ∷ t → cmp r h ≡ Less
+      → maxima cmp (r ∷ rs) ≡ maxima cmp rs
   maxima-under r rs h t e l = elim (either (list_all (under r) rs)) [
     | inl all ↦ absurd (lists.not_both cmp o r h l (lists.under_all cmp o r rs all h (in_maxima h rs (subst (In h) (sym e) (inl refl)))))
     | inr some ↦ lists.at_false cmp o r rs some
@@ -81,7 +84,8 @@ module _ {R : Type 0} (cmp : R → R → Ordering) (o : IsTotalOrder cmp) where
   TiesNone x ys = (y : R) → In y ys → (cmp x y ≡ Equal → ⊥) × (cmp y x ≡ Equal → ⊥)
 
   -- two lists that grew at their fronts, compared by their new first elements and then as they were
-  pub cmps-extended : (x y : R) (xs ys xs' ys' : List R) → Extends x xs xs' → Extends y ys ys' → TiesNone x ys → TiesNone y xs → cmps xs' ys' ≡ ordering_then (heads_cmp xs' ys') (cmps xs ys)
+  pub cmps-extended : (x y : R) (xs ys xs' ys' : List R) → Extends x xs xs' → Extends y ys ys' → TiesNone x ys
+      → TiesNone y xs → cmps xs' ys' ≡ ordering_then (heads_cmp xs' ys') (cmps xs ys)
   cmps-extended x y xs ys xs' ys' left right apart_x apart_y = elim left [
     | inl e ↦ elim right [
       | inl f ↦ both_at (x ∷ xs) (y ∷ ys) xs' ys' xs ys e f refl
@@ -93,14 +97,18 @@ module _ {R : Type 0} (cmp : R → R → Ordering) (o : IsTotalOrder cmp) where
     ]
   ]
     where
-      both_at : (us vs us' vs' xs ys : List R) → us' ≡ us → vs' ≡ vs → cmps us vs ≡ ordering_then (heads_cmp us vs) (cmps xs ys) → cmps us' vs' ≡ ordering_then (heads_cmp us' vs') (cmps xs ys)
+      both_at : (us vs us' vs' xs ys : List R) → us' ≡ us → vs' ≡ vs
+          → cmps us vs ≡ ordering_then (heads_cmp us vs) (cmps xs ys)
+          → cmps us' vs' ≡ ordering_then (heads_cmp us' vs') (cmps xs ys)
       both_at us vs us' vs' xs ys e f h = subst (λ u. cmps u vs' ≡ ordering_then (heads_cmp u vs') (cmps xs ys)) (sym e) (subst (λ v. cmps us v ≡ ordering_then (heads_cmp us v) (cmps xs ys)) (sym f) h)
 
-      grown_left : (x : R) (xs ys : List R) → TiesNone x ys → cmps (x ∷ xs) ys ≡ ordering_then (heads_cmp (x ∷ xs) ys) (cmps xs ys)
+      grown_left : (x : R) (xs ys : List R) → TiesNone x ys
+          → cmps (x ∷ xs) ys ≡ ordering_then (heads_cmp (x ∷ xs) ys) (cmps xs ys)
       grown_left x xs [] h = refl
       grown_left x xs (y ∷ ys) h = then_other (cmp x y) (cmps xs ys) (cmps xs (y ∷ ys)) (h y (inl refl)).0
 
-      grown_right : (y : R) (xs ys : List R) → TiesNone y xs → cmps xs (y ∷ ys) ≡ ordering_then (heads_cmp xs (y ∷ ys)) (cmps xs ys)
+      grown_right : (y : R) (xs ys : List R) → TiesNone y xs
+          → cmps xs (y ∷ ys) ≡ ordering_then (heads_cmp xs (y ∷ ys)) (cmps xs ys)
       grown_right y [] ys h = refl
       grown_right y (x ∷ xs) ys h = then_other (cmp x y) (cmps xs ys) (cmps (x ∷ xs) ys) (h x (inl refl)).1
 

@@ -1,16 +1,17 @@
-pub mod Maxima
-pub mod Heads
-pub mod Order
-pub mod Prefixes
-pub mod Tops
-pub mod ChildHeads
-pub mod Chains
-pub mod Members
-pub mod Steps
-pub mod Places
-pub mod Counts
-pub mod Unique
-pub mod Derived
-pub mod Turns
-pub mod FourShapesInOrder
-pub mod Once
+mod Maxima
+mod Heads
+mod Order
+mod Prefixes
+mod Tops
+mod ChildHeads
+mod Chains
+mod Members
+mod Steps
+mod Places
+mod Counts
+mod Unique
+mod Derived
+mod Turns
+mod FourShapesInOrder
+mod Once
+pub mod Door

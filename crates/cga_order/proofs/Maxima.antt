@@ -8,10 +8,7 @@ use Rattle.std.proofs.lemmas.Cmp.{tied_itself}
 use Rattle.std.specs.Cmp.Lexicographic.{slice_cmp}
 use Rattle.std.specs.List.{list_all}
 use Rattle.cga_order.specs.Stamp.{maxima}
-
-pub either : (b : Bool) → (b ≡ true) ⊎ (b ≡ false)
-either true = inl refl
-either false = inr refl
+pub use Rattle.std.proofs.lemmas.Bool.{cases_Bool as either}
 
 module _ {R : Type 0} (cmp : R → R → Ordering) (o : IsTotalOrder cmp) where
   abbrev pub under : R → R → Bool
@@ -115,7 +112,8 @@ module _ {R : Type 0} (cmp : R → R → Ordering) (o : IsTotalOrder cmp) where
   pub at_false : (x : R) (xs : List R) → list_all (under x) xs ≡ false → maxima cmp (x ∷ xs) ≡ maxima cmp xs
   at_false x xs e = ap (λ b. cond b (x ∷ maxima cmp xs) (maxima cmp xs)) e
 
-  all_push : (x r : R) (xs : List R) → list_all (under x) xs ≡ true → under x r ≡ true → list_all (under x) (xs ++ r ∷ []) ≡ true
+  all_push : (x r : R) (xs : List R) → list_all (under x) xs ≡ true → under x r ≡ true
+      → list_all (under x) (xs ++ r ∷ []) ≡ true
   all_push x r [] e f = ap (λ b. b && true) f
   all_push x r (y ∷ xs) e f = elim (either (under x y)) [
     | inl h ↦ ap (λ b. b && list_all (under x) (xs ++ r ∷ [])) h ∙ all_push x r xs (sym (ap (λ b. b && list_all (under x) xs) h) ∙ e) f
@@ -204,7 +202,11 @@ module _ {R : Type 0} (cmp : R → R → Ordering) (o : IsTotalOrder cmp) where
   ] refl f
 
   -- the same head
-  both : (xs : List R) (x s : R) (A : List R) → Apart s xs → ((B : List R) → cmps (maxima cmp xs) B ≡ Less → cmps B (maxima cmp (xs ++ s ∷ [])) ≡ Less → (a : R) × In a B × (cmp a s ≡ Less)) → cmps (x ∷ maxima cmp xs) A ≡ Less → cmps A (x ∷ maxima cmp (xs ++ s ∷ [])) ≡ Less → (a : R) × In a A × (cmp a s ≡ Less)
+  both : (xs : List R) (x s : R) (A : List R) → Apart s xs
+      → ((B : List R) → cmps (maxima cmp xs) B ≡ Less → cmps B (maxima cmp (xs ++ s ∷ [])) ≡ Less → (a : R) × In a B
+        × (cmp a s ≡ Less))
+      → cmps (x ∷ maxima cmp xs) A ≡ Less → cmps A (x ∷ maxima cmp (xs ++ s ∷ [])) ≡ Less
+      → (a : R) × In a A × (cmp a s ≡ Less)
   both xs x s [] d go e f = let g : Greater ≡ Less = e in cc
   both xs x s (a ∷ A) d go e f = elim (cmp x a) as (λ v. cmp x a ≡ v → ordering_then v (cmps (maxima cmp xs) A) ≡ Less → (b : R) × In b (a ∷ A) × (cmp b s ≡ Less)) [
     | Less ↦ λ h k. let g : ordering_then Greater (cmps A (maxima cmp (xs ++ s ∷ []))) ≡ Less = sym (ap (λ c. ordering_then c (cmps A (maxima cmp (xs ++ s ∷ [])))) (o.antisymm a x ∙ ap ordering_reverse h)) ∙ f in cc
@@ -224,7 +226,8 @@ module _ {R : Type 0} (cmp : R → R → Ordering) (o : IsTotalOrder cmp) where
   some_there M (a ∷ A) e = refl
 
   -- a stamp between those of a parent and its child has a rank below the child's
-  pub between : (ps : List R) (s : R) (A : List R) → Apart s ps → cmps (maxima cmp ps) A ≡ Less → cmps A (maxima cmp (ps ++ s ∷ [])) ≡ Less → (a : R) × In a A × (cmp a s ≡ Less)
+  pub between : (ps : List R) (s : R) (A : List R) → Apart s ps → cmps (maxima cmp ps) A ≡ Less
+      → cmps A (maxima cmp (ps ++ s ∷ [])) ≡ Less → (a : R) × In a A × (cmp a s ≡ Less)
   between [] s A d e f = one_less s A e f
   between (x ∷ xs) s A d e f = elim (either (list_all (under x) xs)) [
     | inl h ↦ elim (either (under x s)) [
@@ -241,7 +244,9 @@ module _ {R : Type 0} (cmp : R → R → Ordering) (o : IsTotalOrder cmp) where
   ]
 
   -- y waits under the parent whose ranks are ps, and x waits too: where x's stamp is smaller, so is its rank
-  pub rank_below : (ps : List R) (s : R) (xs : List R) (r : R) → Apart s ps → cmps (maxima cmp ps) (maxima cmp (xs ++ r ∷ [])) ≡ Less → cmps (maxima cmp (xs ++ r ∷ [])) (maxima cmp (ps ++ s ∷ [])) ≡ Less → cmp r s ≡ Less
+  pub rank_below : (ps : List R) (s : R) (xs : List R) (r : R) → Apart s ps
+      → cmps (maxima cmp ps) (maxima cmp (xs ++ r ∷ [])) ≡ Less
+      → cmps (maxima cmp (xs ++ r ∷ [])) (maxima cmp (ps ++ s ∷ [])) ≡ Less → cmp r s ≡ Less
   rank_below ps s xs r d e f =
       let w = between ps s (maxima cmp (xs ++ r ∷ [])) d e f in
       past_left r w.0 s (least_last xs r w.0 w.1) w.2

@@ -7,10 +7,7 @@ use Rattle.cga_order.specs.World.{World, Placed, Kind, Waiting, Done, Faulted, I
 use Rattle.cga_order.specs.Run.{same_place, become}
 use Rattle.cga_order.proofs.Chains.{place}
 use Rattle.cga_order.proofs.Maxima.{either}
-
-both_true : (a b : Bool) → (a && b) ≡ true → (a ≡ true) × (b ≡ true)
-both_true true b e = (refl, e)
-both_true false b e = let x : false ≡ true = e in cc
+use Rattle.std.proofs.lemmas.Bool.{and_parts as both_true}
 
 pub same_place-is : (a b : Chain) → same_place a b ≡ true → place a ≡ place b
 same_place-is a b e =
@@ -49,7 +46,8 @@ module _ {N F P : Type 0} where
   ]
 
   -- a member has a place in the list
-  pub Has-index : (xs : List (Placed N F P)) (n : N) (k : Kind F P) → Has xs n k → (i : ℕ) × (m : Placed N F P) × (slice_get xs i ≡ Some m) × (m.shape ≡ n) × (m.kind ≡ k)
+  pub Has-index : (xs : List (Placed N F P)) (n : N) (k : Kind F P) → Has xs n k
+      → (i : ℕ) × (m : Placed N F P) × (slice_get xs i ≡ Some m) × (m.shape ≡ n) × (m.kind ≡ k)
   Has-index [] n k h = absurd h
   Has-index (x ∷ xs) n k h = elim h [
     | inl e ↦ (0, x, refl, e.0, e.1)
@@ -64,7 +62,8 @@ module _ {N F P : Type 0} where
     | Instance y ↦ λ g f. let x : false ≡ true = f in cc
   ] h e
 
-  pub Among-shapes_where : (test : N → Kind F P → Bool) (ms : List (Placed N F P)) (n : N) (k : Kind F P) → Has ms n k → test n k ≡ true → Among n (shapes_where test ms)
+  pub Among-shapes_where : (test : N → Kind F P → Bool) (ms : List (Placed N F P)) (n : N) (k : Kind F P) → Has ms n k
+      → test n k ≡ true → Among n (shapes_where test ms)
   Among-shapes_where test [] n k h e = absurd h
   Among-shapes_where test (m ∷ ms) n k h e = elim h [
     | inl w ↦
@@ -76,7 +75,8 @@ module _ {N F P : Type 0} where
     ]
   ]
 
-  pub Has-from_shapes_where : (test : N → Kind F P → Bool) (ms : List (Placed N F P)) (n : N) → Among n (shapes_where test ms) → (k : Kind F P) × Has ms n k × (test n k ≡ true)
+  pub Has-from_shapes_where : (test : N → Kind F P → Bool) (ms : List (Placed N F P)) (n : N)
+      → Among n (shapes_where test ms) → (k : Kind F P) × Has ms n k × (test n k ≡ true)
   Has-from_shapes_where test [] n h = absurd h
   Has-from_shapes_where test (m ∷ ms) n h = elim (either (test m.shape m.kind)) [
     | inl t ↦ elim (subst (Among n) (ap (λ b. cond b (m.shape ∷ shapes_where test ms) (shapes_where test ms)) t) h) [
@@ -93,25 +93,32 @@ module _ {N A F P : Type 0} (world : World N A F P) where
     | inr e ↦ inr (same_place-not (world.chain n) (world.chain m) e)
   ]
 
-  pub Has-start : (xs : List N) (n : N) (k : Kind F P) → Has (map (λ r. record { shape = r; kind = Waiting }) xs) n k → Among n xs × (k ≡ Waiting)
+  pub Has-start : (xs : List N) (n : N) (k : Kind F P) → Has (map (λ r. record { shape = r; kind = Waiting }) xs) n k
+      → Among n xs × (k ≡ Waiting)
   Has-start [] n k h = absurd h
   Has-start (x ∷ xs) n k h = elim h [
     | inl e ↦ (inl e.0, sym e.1)
     | inr r ↦ let w = Has-start xs n k r in (inr w.0, w.1)
   ]
 
-  pub start-Has : (xs : List N) (n : N) → Among n xs → Has {N = N} {F = F} {P = P} (map (λ r. record { shape = r; kind = Waiting }) xs) n Waiting
+  pub start-Has : (xs : List N) (n : N) → Among n xs
+      → Has {N = N} {F = F} {P = P} (map (λ r. record { shape = r; kind = Waiting }) xs) n Waiting
   start-Has [] n h = absurd h
   start-Has (x ∷ xs) n h = elim h [ inl e ↦ inl (e, refl) | inr r ↦ inr (start-Has xs n r) ]
 
-  become-there : (s : N) (k : Kind F P) (m : Placed N F P) → same_place (world.chain m.shape) (world.chain s) ≡ true → become world s k m ≡ record { shape = m.shape; kind = k }
+  become-there : (s : N) (k : Kind F P) (m : Placed N F P) → same_place (world.chain m.shape) (world.chain s) ≡ true
+      → become world s k m ≡ record { shape = m.shape; kind = k }
   become-there s k m e = ap (λ b. cond b (record { shape = m.shape; kind = k }) m) e
 
-  become-elsewhere : (s : N) (k : Kind F P) (m : Placed N F P) → same_place (world.chain m.shape) (world.chain s) ≡ false → become world s k m ≡ m
+  become-elsewhere : (s : N) (k : Kind F P) (m : Placed N F P)
+      → same_place (world.chain m.shape) (world.chain s) ≡ false → become world s k m ≡ m
   become-elsewhere s k m e = ap (λ b. cond b (record { shape = m.shape; kind = k }) m) e
 
   -- a member after the change of one place is there, with the new kind, or elsewhere, as before
-  pub Has-become : (s : N) (kind : Kind F P) (xs : List (Placed N F P)) (n : N) (k : Kind F P) → Has (map (become world s kind) xs) n k → ((place_of world n ≡ place_of world s → ⊥) × Has xs n k) ⊎ ((place_of world n ≡ place_of world s) × (k ≡ kind) × ((j : Kind F P) × Has xs n j))
+  pub Has-become : (s : N) (kind : Kind F P) (xs : List (Placed N F P)) (n : N) (k : Kind F P)
+      → Has (map (become world s kind) xs) n k
+      → ((place_of world n ≡ place_of world s → ⊥) × Has xs n k)
+        ⊎ ((place_of world n ≡ place_of world s) × (k ≡ kind) × ((j : Kind F P) × Has xs n j))
   Has-become s kind [] n k h = absurd h
   Has-become s kind (m ∷ xs) n k h = elim h [
     | inl e ↦ elim (either (same_place (world.chain m.shape) (world.chain s))) [
@@ -130,7 +137,8 @@ module _ {N A F P : Type 0} (world : World N A F P) where
     ]
   ]
 
-  pub become-Has_elsewhere : (s : N) (kind : Kind F P) (xs : List (Placed N F P)) (n : N) (k : Kind F P) → (place_of world n ≡ place_of world s → ⊥) → Has xs n k → Has (map (become world s kind) xs) n k
+  pub become-Has_elsewhere : (s : N) (kind : Kind F P) (xs : List (Placed N F P)) (n : N) (k : Kind F P)
+      → (place_of world n ≡ place_of world s → ⊥) → Has xs n k → Has (map (become world s kind) xs) n k
   become-Has_elsewhere s kind [] n k d h = absurd h
   become-Has_elsewhere s kind (m ∷ xs) n k d h = elim h [
     | inl e ↦ elim (either (same_place (world.chain m.shape) (world.chain s))) [
@@ -140,7 +148,8 @@ module _ {N A F P : Type 0} (world : World N A F P) where
     | inr r ↦ inr (become-Has_elsewhere s kind xs n k d r)
   ]
 
-  pub become-Has_there : (s : N) (kind : Kind F P) (xs : List (Placed N F P)) (k : Kind F P) → Has xs s k → Has (map (become world s kind) xs) s kind
+  pub become-Has_there : (s : N) (kind : Kind F P) (xs : List (Placed N F P)) (k : Kind F P) → Has xs s k
+      → Has (map (become world s kind) xs) s kind
   become-Has_there s kind [] k h = absurd h
   become-Has_there s kind (m ∷ xs) k h = elim h [
     | inl e ↦ elim (either (same_place (world.chain m.shape) (world.chain s))) [

@@ -22,7 +22,9 @@ module _ {X : Type 0} where
   sum_cons f x xs = let e = sum_by-append f (x ∷ []) xs in omega (arith, e)
 
   -- a list without one of its elements
-  without : (xs : List X) (x : X) → Among x xs → (ys : List X) × (length xs ≡ length ys + 1) × ((y : X) → Among y xs → (y ≡ x) ⊎ Among y ys) × ((f : X → ℕ) → sum_by f xs ≡ f x + sum_by f ys)
+  without : (xs : List X) (x : X) → Among x xs
+      → (ys : List X) × (length xs ≡ length ys + 1) × ((y : X) → Among y xs → (y ≡ x) ⊎ Among y ys)
+        × ((f : X → ℕ) → sum_by f xs ≡ f x + sum_by f ys)
   without [] x h = absurd h
   without (z ∷ xs) x h = elim h [
     | inl e ↦ (xs, omega arith, (λ y i. elim i [ inl f ↦ inl (sym f ∙ e) | inr r ↦ inr r ]), λ f. sum_cons f z xs ∙ ap (λ y. f y + sum_by f xs) e)
@@ -39,7 +41,8 @@ module _ {X : Type 0} where
       omega (arith, rest, w.3 f, sum_cons f x xs)
 
   -- two lists of the same elements, each once, have each as often
-  pub count-once : (test : X → Bool) (xs ys : List X) → Once xs → Once ys → ((x : X) → Among x xs → Among x ys) → ((x : X) → Among x ys → Among x xs) → count_by test xs ≡ count_by test ys
+  pub count-once : (test : X → Bool) (xs ys : List X) → Once xs → Once ys → ((x : X) → Among x xs → Among x ys)
+      → ((x : X) → Among x ys → Among x xs) → count_by test xs ≡ count_by test ys
   count-once test xs ys o p to from =
       let one = sum-once (λ x. cond (test x) 1 0) xs ys o to in
       let other = sum-once (λ x. cond (test x) 1 0) ys xs p from in
@@ -57,7 +60,8 @@ module _ {X : Type 0} where
   Among-index (z ∷ xs) x h = elim h [ inl e ↦ (0, ap Some e) | inr r ↦ let w = Among-index xs x r in (suc w.0, w.1) ]
 
   -- where no element has two places
-  pub Once-index : (xs : List X) → ((x : X) (i j : ℕ) → slice_get xs i ≡ Some x → slice_get xs j ≡ Some x → i ≡ j) → Once xs
+  pub Once-index : (xs : List X) → ((x : X) (i j : ℕ) → slice_get xs i ≡ Some x → slice_get xs j ≡ Some x → i ≡ j)
+      → Once xs
   Once-index [] h = tt
   Once-index (x ∷ xs) h =
       ((λ g. let w = Among-index xs x g in let e : 0 ≡ suc w.0 = h x 0 (suc w.0) refl w.1 in absurd (omega (arith, e))), Once-index xs (λ y i j a b. let e : suc i ≡ suc j = h y (suc i) (suc j) a b in omega (arith, e)))

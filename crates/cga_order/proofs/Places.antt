@@ -6,16 +6,12 @@ use Rattle.cga_order.specs.World.{World, IsWorld, Placed, Kind, Waiting, Has, st
 use Rattle.cga_order.specs.Run.{same_place, become, outcome, start, IsStep, Reached, AreSiblings, StandsByBirth}
 use Rattle.cga_order.proofs.Chains.{birth-child}
 use Rattle.cga_order.proofs.Steps as steps
-
-some_same : {X : Type 0} (x y : X) → Some x ≡ Some y → x ≡ y
-some_same x y e = cc
-
-none_some : {X Y : Type 0} (x : X) → ◌≡◌ {A = Option X} None (Some x) → Y
-none_some x e = cc
+use Rattle.cga_fraction.proofs.Door.{None-not-Some as none_some, length-map, same_Some as some_same}
 
 module _ {X : Type 0} where
   -- what stands in a list that is put together stands in its first part, or in its second
-  pub slice_get-append : (xs ys : List X) (i : ℕ) (x : X) → slice_get (xs ++ ys) i ≡ Some x → ((i < length xs) × (slice_get xs i ≡ Some x)) ⊎ ((k : ℕ) × (i ≡ length xs + k) × (slice_get ys k ≡ Some x))
+  pub slice_get-append : (xs ys : List X) (i : ℕ) (x : X) → slice_get (xs ++ ys) i ≡ Some x
+      → ((i < length xs) × (slice_get xs i ≡ Some x)) ⊎ ((k : ℕ) × (i ≡ length xs + k) × (slice_get ys k ≡ Some x))
   slice_get-append [] ys i x e = inr (i, omega arith, e)
   slice_get-append (z ∷ xs) ys zero x e = inl (omega arith, e)
   slice_get-append (z ∷ xs) ys (suc i) x e = elim (slice_get-append xs ys i x e) [
@@ -23,7 +19,8 @@ module _ {X : Type 0} where
     | inr h ↦ inr (h.0, omega (arith, h.1), h.2)
   ]
 
-  pub slice_get-map : {Y : Type 0} (f : Y → X) (ys : List Y) (i : ℕ) (x : X) → slice_get (map f ys) i ≡ Some x → (y : Y) × (slice_get ys i ≡ Some y) × (f y ≡ x)
+  pub slice_get-map : {Y : Type 0} (f : Y → X) (ys : List Y) (i : ℕ) (x : X) → slice_get (map f ys) i ≡ Some x
+      → (y : Y) × (slice_get ys i ≡ Some y) × (f y ≡ x)
   slice_get-map f [] i x e = none_some x e
   slice_get-map f (y ∷ ys) zero x e = (y, refl, some_same (f y) x e)
   slice_get-map f (y ∷ ys) (suc i) x e = slice_get-map f ys i x e
@@ -32,10 +29,6 @@ module _ {X : Type 0} where
   slice_get-within [] i x e = none_some x e
   slice_get-within (y ∷ xs) zero x e = omega arith
   slice_get-within (y ∷ xs) (suc i) x e = omega (arith, slice_get-within xs i x e)
-
-length-map : {X Y : Type 0} (f : X → Y) (xs : List X) → length (map f xs) ≡ length xs
-length-map f [] = refl
-length-map f (x ∷ xs) = let e = length-map f xs in omega (arith, e)
 
 module _ {N A F P : Type 0} (world : World N A F P) (laws : IsWorld world) where
   abbrev pub Members : Type 0
@@ -53,12 +46,15 @@ module _ {N A F P : Type 0} (world : World N A F P) (laws : IsWorld world) where
     abbrev pub kind : Kind F P
     kind = steps.kind_after world (outcome world C s)
 
-    child_at : (k : ℕ) (m : Placed N F P) (r : Result Members F) → outcome world C s ≡ r → slice_get (steps.children_of world r) k ≡ Some m → IsChild (world.chain s) k (world.chain m.shape)
+    child_at : (k : ℕ) (m : Placed N F P) (r : Result Members F) → outcome world C s ≡ r
+        → slice_get (steps.children_of world r) k ≡ Some m → IsChild (world.chain s) k (world.chain m.shape)
     child_at k m (Ok cs) e g = (laws.child s _ cs e k m g).0
     child_at k m (Err f) e g = none_some m g
 
     -- a member of the new list was in the old at its place, or is a child
-    pub came_from : (i : ℕ) (m : Placed N F P) → slice_get D i ≡ Some m → ((i < length C) × ((o : Placed N F P) × (slice_get C i ≡ Some o) × (o.shape ≡ m.shape))) ⊎ ((k : ℕ) × (i ≡ length C + k) × IsChild (world.chain s) k (world.chain m.shape))
+    pub came_from : (i : ℕ) (m : Placed N F P) → slice_get D i ≡ Some m
+        → ((i < length C) × ((o : Placed N F P) × (slice_get C i ≡ Some o) × (o.shape ≡ m.shape)))
+          ⊎ ((k : ℕ) × (i ≡ length C + k) × IsChild (world.chain s) k (world.chain m.shape))
     came_from i m e =
         let size = length-map (become world s kind) C in
         elim (slice_get-append (map (become world s kind) C) (steps.children_of world (outcome world C s)) i m (subst (λ x. slice_get x i ≡ Some m) (step.told ∙ steps.told-is world C s (outcome world C s)) e)) [
@@ -84,7 +80,9 @@ module _ {N A F P : Type 0} (world : World N A F P) (laws : IsWorld world) where
           ]
     ]
       where
-        alike : (a a' b b' : N) → a ≡ a' → b ≡ b' → IsEarlier world (birth_of world a) (birth_of world b) ⊎ AreSiblings world a b → IsEarlier world (birth_of world a') (birth_of world b') ⊎ AreSiblings world a' b'
+        alike : (a a' b b' : N) → a ≡ a' → b ≡ b'
+            → IsEarlier world (birth_of world a) (birth_of world b) ⊎ AreSiblings world a b
+            → IsEarlier world (birth_of world a') (birth_of world b') ⊎ AreSiblings world a' b'
         alike a a' b b' p q h = subst (λ x. IsEarlier world (birth_of world x) (birth_of world b') ⊎ AreSiblings world x b') p (subst (λ y. IsEarlier world (birth_of world a) (birth_of world y) ⊎ AreSiblings world a y) q h)
 
   stands-start : StandsByBirth world (start world)

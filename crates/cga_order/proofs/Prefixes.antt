@@ -7,6 +7,7 @@ use Rattle.std.specs.Ordering.{nat_cmp, ordering_then, MatchOrdering}
 use Rattle.std.specs.Cmp.{nat_cmp_is, ranked}
 use Rattle.std.specs.FinMap.{nat_cmp-IsAntisymmetric}
 use Rattle.std.specs.Cmp.Lexicographic.{slice_cmp}
+use Rattle.cga_fraction.proofs.Door.{nat_cmp-same}
 
 pub nat_cmp-less : (m n : ℕ) → m < n → nat_cmp m n ≡ Less
 nat_cmp-less m n h = sym (nat_cmp_is m n Less h)
@@ -26,11 +27,9 @@ nat_cmp-suc m n =
 heads_same : (x y : ℕ) (xs ys : List ℕ) → ◌≡◌ {A = List ℕ} (x ∷ xs) (y ∷ ys) → (x ≡ y) × (xs ≡ ys)
 heads_same x y xs ys e = (cc, cc)
 
-nat_cmp-same : (x y : ℕ) → x ≡ y → nat_cmp x y ≡ Equal
-nat_cmp-same x y e = sym (nat_cmp_is x y Equal e)
-
 -- up to where the paths part, the shorter prefix is the earlier
-pub slice_cmp-within : (common : ℕ) (xs ys : List ℕ) (i j : ℕ) → take common xs ≡ take common ys → i ≤ length xs → j ≤ length ys → (i ≤ common) ⊎ (j ≤ common) → slice_cmp nat_cmp (take i xs) (take j ys) ≡ nat_cmp i j
+pub slice_cmp-within : (common : ℕ) (xs ys : List ℕ) (i j : ℕ) → take common xs ≡ take common ys → i ≤ length xs
+    → j ≤ length ys → (i ≤ common) ⊎ (j ≤ common) → slice_cmp nat_cmp (take i xs) (take j ys) ≡ nat_cmp i j
 slice_cmp-within common xs ys zero zero same left right within = refl
 slice_cmp-within common xs [] zero (suc j) same left right within = absurd (omega arith)
 slice_cmp-within common xs (y ∷ ys) zero (suc j) same left right within = sym (nat_cmp-less 0 (suc j) (omega arith))
@@ -51,7 +50,9 @@ then_decided Equal b h = absurd (h refl)
 then_decided Greater b h = refl
 
 -- past that, the first elements that differ decide
-pub slice_cmp-past : (common : ℕ) (xs ys : List ℕ) (i j : ℕ) → take common xs ≡ take common ys → i ≤ length xs → j ≤ length ys → common < i → common < j → slice_index xs common ≢ slice_index ys common → slice_cmp nat_cmp (take i xs) (take j ys) ≡ nat_cmp (slice_index xs common) (slice_index ys common)
+pub slice_cmp-past : (common : ℕ) (xs ys : List ℕ) (i j : ℕ) → take common xs ≡ take common ys → i ≤ length xs
+    → j ≤ length ys → common < i → common < j → slice_index xs common ≢ slice_index ys common
+    → slice_cmp nat_cmp (take i xs) (take j ys) ≡ nat_cmp (slice_index xs common) (slice_index ys common)
 slice_cmp-past common xs ys zero j same left right past_i past_j differ = absurd (omega arith)
 slice_cmp-past common xs ys (suc i) zero same left right past_i past_j differ = absurd (omega arith)
 slice_cmp-past common [] ys (suc i) (suc j) same left right past_i past_j differ = absurd (omega arith)

@@ -23,7 +23,8 @@ module _ {N A F P : Type 0} (world : World N A F P) where
 
   -- the members of D are those of C, but s has this kind, and these children came
   pub record Changes (C D : Members) (s : N) (kind : Kind F P) (children : Members) : Type 0 where
-    pub from : (n : N) (k : Kind F P) → Has D n k → ((SamePlace n s → ⊥) × Has C n k) ⊎ (((n ≡ s) × (k ≡ kind)) ⊎ Has children n k)
+    pub from : (n : N) (k : Kind F P) → Has D n k
+        → ((SamePlace n s → ⊥) × Has C n k) ⊎ (((n ≡ s) × (k ≡ kind)) ⊎ Has children n k)
     pub to : (n : N) (k : Kind F P) → (SamePlace n s → ⊥) → Has C n k → Has D n k
     pub itself : Has D s kind
     pub came : (n : N) (k : Kind F P) → Has children n k → Has D n k
@@ -37,7 +38,8 @@ module _ {N A F P : Type 0} (world : World N A F P) where
   children_of (Ok children) = children
   children_of (Err fault) = []
 
-  pub told-is : (C : Members) (s : N) (r : Result Members F) → told world C s r ≡ map (become world s (kind_after r)) C ++ children_of r
+  pub told-is : (C : Members) (s : N) (r : Result Members F)
+      → told world C s r ≡ map (become world s (kind_after r)) C ++ children_of r
   told-is C s (Ok children) = refl
   told-is C s (Err fault) = sym (append-nil (map (become world s (Faulted fault)) C))
 
@@ -54,9 +56,12 @@ module _ {N A F P : Type 0} (world : World N A F P) where
   -- what a configuration that was reached keeps
   pub record IsOrdered (C : Members) : Type 0 where
     pub distinct : (n m : N) (k j : Kind F P) → Has C n k → Has C m j → SamePlace n m → (n ≡ m) × (k ≡ j)
-    pub under : (n : N) (k : Kind F P) → Has C n k → ((world.chain n).path ≡ []) ⊎ ((e : N) × (i : ℕ) × Has C e Done × IsChild (world.chain e) i (world.chain n))
-    pub born : (n w : N) (k : Kind F P) → Has C n k → Has C w Waiting → IsEarlier world (birth_of world n) (stamp_of world w)
-    pub done : (e w : N) (k : Kind F P) → Has C e k → IsExpanded k → Has C w Waiting → IsEarlier world (stamp_of world e) (stamp_of world w)
+    pub under : (n : N) (k : Kind F P) → Has C n k
+        → ((world.chain n).path ≡ []) ⊎ ((e : N) × (i : ℕ) × Has C e Done × IsChild (world.chain e) i (world.chain n))
+    pub born : (n w : N) (k : Kind F P) → Has C n k → Has C w Waiting
+        → IsEarlier world (birth_of world n) (stamp_of world w)
+    pub done : (e w : N) (k : Kind F P) → Has C e k → IsExpanded k → Has C w Waiting
+        → IsEarlier world (stamp_of world e) (stamp_of world w)
 
   module _ (laws : IsWorld world) where
     order : IsTotalOrder (stamps_cmp world.mode)
@@ -66,7 +71,9 @@ module _ {N A F P : Type 0} (world : World N A F P) where
     later a b c = order.trans a b c
 
     -- the children of an expansion: below it, at places of their own, new
-    pub child_of : (s : N) (a : A) (cs : Members) → world.expand s a ≡ Ok cs → (c : N) (k : Kind F P) → Has cs c k → (i : ℕ) × (m : Placed N F P) × (slice_get cs i ≡ Some m) × (m.shape ≡ c) × (m.kind ≡ k) × IsChild (world.chain s) i (world.chain c) × ((k ≡ Waiting) ⊎ ((p : P) × (k ≡ Instance p)))
+    pub child_of : (s : N) (a : A) (cs : Members) → world.expand s a ≡ Ok cs → (c : N) (k : Kind F P) → Has cs c k
+        → (i : ℕ) × (m : Placed N F P) × (slice_get cs i ≡ Some m) × (m.shape ≡ c) × (m.kind ≡ k)
+          × IsChild (world.chain s) i (world.chain c) × ((k ≡ Waiting) ⊎ ((p : P) × (k ≡ Instance p)))
     child_of s a cs e c k h =
         let w = Has-index cs c k h in
         let law = laws.child s a cs e w.0 w.1 w.2 in (
@@ -79,7 +86,8 @@ module _ {N A F P : Type 0} (world : World N A F P) where
           subst (λ x. (x ≡ Waiting) ⊎ ((p : P) × (x ≡ Instance p))) w.4 law.1,
         )
 
-    pub children_apart : (s : N) (a : A) (cs : Members) → world.expand s a ≡ Ok cs → (c d : N) (k j : Kind F P) → Has cs c k → Has cs d j → SamePlace c d → (c ≡ d) × (k ≡ j)
+    pub children_apart : (s : N) (a : A) (cs : Members) → world.expand s a ≡ Ok cs → (c d : N) (k j : Kind F P)
+        → Has cs c k → Has cs d j → SamePlace c d → (c ≡ d) × (k ≡ j)
     children_apart s a cs e c d k j h g same =
         let u = child_of s a cs e c k h in
         let v = child_of s a cs e d j g in
@@ -88,7 +96,8 @@ module _ {N A F P : Type 0} (world : World N A F P) where
         let m : u.1 ≡ v.1 = cc in
         (sym u.3 ∙ (ap (λ x. x.shape) m ∙ v.3), sym u.4 ∙ (ap (λ x. x.kind) m ∙ v.4))
 
-    pub fresh_kind : (s : N) (a : A) (cs : Members) → world.expand s a ≡ Ok cs → (c : N) (k : Kind F P) → Has cs c k → IsExpanded k → ⊥
+    pub fresh_kind : (s : N) (a : A) (cs : Members) → world.expand s a ≡ Ok cs → (c : N) (k : Kind F P) → Has cs c k
+        → IsExpanded k → ⊥
     fresh_kind s a cs e c k h x =
         let u = child_of s a cs e c k h in
         elim u.6 [
@@ -97,7 +106,8 @@ module _ {N A F P : Type 0} (world : World N A F P) where
         ]
 
     -- what a step makes of a configuration in order
-    pub Changes-step : (C D : Members) (s : N) → IsOrdered C → IsStep world C D s → Changes C D s (kind_after (outcome world C s)) (children_of (outcome world C s))
+    pub Changes-step : (C D : Members) (s : N) → IsOrdered C → IsStep world C D s
+        → Changes C D s (kind_after (outcome world C s)) (children_of (outcome world C s))
     Changes-step C D s good step =
         let kind = kind_after (outcome world C s) in
         let cs = children_of (outcome world C s) in
@@ -116,7 +126,9 @@ module _ {N A F P : Type 0} (world : World N A F P) where
         }
 
     -- the waiting shape of least rank has the least stamp
-    pub least_stamp : (C : Members) (s : N) → IsOrdered C → Has C s Waiting → ((w : N) → Has C w Waiting → rank_cmp world.mode (rank (world.chain w)) (rank (world.chain s)) ≡ Less → ⊥) → (w : N) → Has C w Waiting → (SamePlace w s → ⊥) → IsEarlier world (stamp_of world s) (stamp_of world w)
+    pub least_stamp : (C : Members) (s : N) → IsOrdered C → Has C s Waiting
+        → ((w : N) → Has C w Waiting → rank_cmp world.mode (rank (world.chain w)) (rank (world.chain s)) ≡ Less → ⊥)
+        → (w : N) → Has C w Waiting → (SamePlace w s → ⊥) → IsEarlier world (stamp_of world s) (stamp_of world w)
     least_stamp C s good was least w h apart = elim (stamps.split (stamps_cmp world.mode) order (stamp_of world s) (stamp_of world w)) [
       | inl l ↦ l
       | inr r ↦ elim r [
@@ -134,25 +146,31 @@ module _ {N A F P : Type 0} (world : World N A F P) where
       changes = Changes-step C D s good step
 
       -- what is known of a child that came
-      pub law : (c : N) (k : Kind F P) → Has (children_of (outcome world C s)) c k → (kind_after (outcome world C s) ≡ Done) × ((i : ℕ) × IsChild (world.chain s) i (world.chain c)) × (IsExpanded k → ⊥)
+      pub law : (c : N) (k : Kind F P) → Has (children_of (outcome world C s)) c k
+          → (kind_after (outcome world C s) ≡ Done) × ((i : ℕ) × IsChild (world.chain s) i (world.chain c))
+            × (IsExpanded k → ⊥)
       law c k h = elim (outcome world C s) as (λ r. outcome world C s ≡ r → Has (children_of r) c k → (kind_after r ≡ Done) × ((i : ℕ) × IsChild (world.chain s) i (world.chain c)) × (IsExpanded k → ⊥)) [
         | Ok cs ↦ λ e g. let u = child_of s _ cs e c k g in (refl, (u.0, u.5), fresh_kind s _ cs e c k g)
         | Err f ↦ λ e g. absurd g
       ] refl h
 
-      pub apart_children : (c d : N) (k j : Kind F P) → Has (children_of (outcome world C s)) c k → Has (children_of (outcome world C s)) d j → SamePlace c d → (c ≡ d) × (k ≡ j)
+      pub apart_children : (c d : N) (k j : Kind F P) → Has (children_of (outcome world C s)) c k
+          → Has (children_of (outcome world C s)) d j → SamePlace c d → (c ≡ d) × (k ≡ j)
       apart_children c d k j h g same = elim (outcome world C s) as (λ r. outcome world C s ≡ r → Has (children_of r) c k → Has (children_of r) d j → (c ≡ d) × (k ≡ j)) [
         | Ok cs ↦ λ e x y. children_apart s _ cs e c d k j x y same
         | Err f ↦ λ e x y. absurd x
       ] refl h g
 
-      pub least : (w : N) → Has C w Waiting → (SamePlace w s → ⊥) → IsEarlier world (stamp_of world s) (stamp_of world w)
+      pub least : (w : N) → Has C w Waiting → (SamePlace w s → ⊥)
+          → IsEarlier world (stamp_of world s) (stamp_of world w)
       least = least_stamp C s good step.waits step.least
 
-      pub child_birth : (c : N) (k : Kind F P) → Has (children_of (outcome world C s)) c k → birth_of world c ≡ stamp_of world s
+      pub child_birth : (c : N) (k : Kind F P) → Has (children_of (outcome world C s)) c k
+          → birth_of world c ≡ stamp_of world s
       child_birth c k h = let l = law c k h in birth-child world.mode (world.chain s) l.1.0 (world.chain c) (laws.whole s) l.1.1
 
-      pub child_after : (c : N) (k : Kind F P) → Has (children_of (outcome world C s)) c k → IsEarlier world (stamp_of world s) (stamp_of world c)
+      pub child_after : (c : N) (k : Kind F P) → Has (children_of (outcome world C s)) c k
+          → IsEarlier world (stamp_of world s) (stamp_of world c)
       child_after c k h = let l = law c k h in stamp-child world.mode (world.chain s) l.1.0 (world.chain c) (laws.whole s) l.1.1
 
       -- whatever waits next comes after s
@@ -162,7 +180,8 @@ module _ {N A F P : Type 0} (world : World N A F P) where
         | inr r ↦ elim r [ inl e ↦ absurd (not_waiting _ (expanded_after (outcome world C s)) (sym e.1)) | inr c ↦ child_after w Waiting c ]
       ]
 
-      over : (a : List Rank) → IsEarlier world a (stamp_of world s) → (w : N) → Has D w Waiting → IsEarlier world a (stamp_of world w)
+      over : (a : List Rank) → IsEarlier world a (stamp_of world s) → (w : N) → Has D w Waiting
+          → IsEarlier world a (stamp_of world w)
       over a e w h = later a (stamp_of world s) (stamp_of world w) e (after w h)
 
       -- no child has the place of a member of C
@@ -263,7 +282,8 @@ module _ {N A F P : Type 0} (world : World N A F P) where
     in_order (s ∷ taken) D (C, reached, step) = next C D s (in_order taken C reached) step
 
     -- what was taken is expanded
-    pub taken_done : (taken : List N) (C : Members) → Reached world taken C → (t : N) → Among t taken → (k : Kind F P) × Has C t k × IsExpanded k
+    pub taken_done : (taken : List N) (C : Members) → Reached world taken C → (t : N) → Among t taken
+        → (k : Kind F P) × Has C t k × IsExpanded k
     taken_done [] C r t h = absurd h
     taken_done (s ∷ taken) D (C, reached, step) t h =
         let good = in_order taken C reached in
@@ -275,7 +295,8 @@ module _ {N A F P : Type 0} (world : World N A F P) where
               (w.0, changes.to t w.0 (λ q. not_waiting w.0 w.2 (good.distinct t s w.0 Waiting w.1 step.waits q).1) w.1, w.2)
         ]
 
-    all_earlier : (taken : List N) (s : N) → ((t : N) → Among t taken → IsEarlier world (stamp_of world t) (stamp_of world s)) → AllEarlier world s taken
+    all_earlier : (taken : List N) (s : N)
+        → ((t : N) → Among t taken → IsEarlier world (stamp_of world t) (stamp_of world s)) → AllEarlier world s taken
     all_earlier [] s h = tt
     all_earlier (t ∷ taken) s h = (h t (inl refl), all_earlier taken s (λ u i. h u (inr i)))
 

@@ -27,7 +27,8 @@ module _ {N A F P : Type 0} (world : World N A F P) (laws : IsWorld world) (limi
     pub waiting : (n : N) → Has C n Waiting → Stands L n Waiting
     pub settled : (n : N) (k : Kind F P) → Has C n k → is_waiting k ≡ false → Has L n k
     pub roots_in : (n : N) → Among n world.roots → (k : Kind F P) × Has C n k
-    pub closed : (e c : N) (j : Kind F P) (cs : Members) → Has C e Done → outcome_at world L e ≡ Ok cs → Has cs c j → (k : Kind F P) × Has C c k
+    pub closed : (e c : N) (j : Kind F P) (cs : Members) → Has C e Done → outcome_at world L e ≡ Ok cs → Has cs c j
+        → (k : Kind F P) × Has C c k
 
   before-earlier : (a b : List Rank) → IsEarlier world a b → IsBefore world limit b → IsBefore world limit a
   before-earlier a b e h = elim limit as (λ v. IsBefore world v b → IsBefore world v a) [
@@ -39,7 +40,8 @@ module _ {N A F P : Type 0} (world : World N A F P) (laws : IsWorld world) (limi
   grown n = birth-stamp world.mode (world.chain n)
 
   -- a child that the list has made was made at its parent's stamp
-  made-birth : (s c : N) (cs : Members) (j : Kind F P) → outcome_at world L s ≡ Ok cs → Has cs c j → (birth_of world c ≡ stamp_of world s) × (length (world.chain c).path ≡ length (world.chain s).path + 1)
+  made-birth : (s c : N) (cs : Members) (j : Kind F P) → outcome_at world L s ≡ Ok cs → Has cs c j
+      → (birth_of world c ≡ stamp_of world s) × (length (world.chain c).path ≡ length (world.chain s).path + 1)
   made-birth s c cs j e h =
       let u = steps.child_of world laws s _ cs e c j h in
       (birth-child world.mode (world.chain s) u.0 (world.chain c) (laws.whole s) u.5, ap length u.5.path ∙ length-append (world.chain s).path (u.0 ∷ []))
@@ -59,7 +61,11 @@ module _ {N A F P : Type 0} (world : World N A F P) (laws : IsWorld world) (limi
     settled-kind n k j h y g = subst (Has C n) (con.distinct n n k j (fits.settled n k h y) g refl).1 h
 
     -- what the list has made before a stamp that nothing waiting comes before is in the configuration
-    pub present : (bound : ℕ) (m : N) (k : Kind F P) → length (world.chain m).path < bound → Has L m k → IsBefore world limit (birth_of world m) → ((w : N) → Has C w Waiting → IsEarlier world (stamp_of world w) (birth_of world m) ⊎ (stamp_of world w ≡ birth_of world m) → ⊥) → (j : Kind F P) × Has C m j
+    pub present : (bound : ℕ) (m : N) (k : Kind F P) → length (world.chain m).path < bound → Has L m k
+        → IsBefore world limit (birth_of world m)
+        → ((w : N) → Has C w Waiting → IsEarlier world (stamp_of world w) (birth_of world m)
+          ⊎ (stamp_of world w ≡ birth_of world m) → ⊥)
+        → (j : Kind F P) × Has C m j
     present zero m k lt h b quiet = absurd (omega arith)
     present (suc bound) m k lt h b quiet = elim (con.only m k h b) [
       | inl r ↦ fits.roots_in m r
@@ -76,14 +82,17 @@ module _ {N A F P : Type 0} (world : World N A F P) (laws : IsWorld world) (limi
 
     -- one step, of a shape before the limit
     module _ (D : Members) (s : N) (step : IsStep world C D s) (before : IsBefore world limit (stamp_of world s)) where
-      changes : steps.Changes world C D s (steps.kind_after world (outcome world C s)) (steps.children_of world (outcome world C s))
+      changes : steps.Changes world C D s (steps.kind_after world (outcome world C s))
+            (steps.children_of world (outcome world C s))
       changes = steps.Changes-step world laws C D s good step
 
-      least : (w : N) → Has C w Waiting → (place_of world w ≡ place_of world s → ⊥) → IsEarlier world (stamp_of world s) (stamp_of world w)
+      least : (w : N) → Has C w Waiting → (place_of world w ≡ place_of world s → ⊥)
+          → IsEarlier world (stamp_of world s) (stamp_of world w)
       least = steps.least world laws C D s good step
 
       -- no waiting member comes before what was made before s
-      quiet : (m : N) → IsEarlier world (birth_of world m) (stamp_of world s) → (w : N) → Has C w Waiting → IsEarlier world (stamp_of world w) (birth_of world m) ⊎ (stamp_of world w ≡ birth_of world m) → ⊥
+      quiet : (m : N) → IsEarlier world (birth_of world m) (stamp_of world s) → (w : N) → Has C w Waiting
+          → IsEarlier world (stamp_of world w) (birth_of world m) ⊎ (stamp_of world w ≡ birth_of world m) → ⊥
       quiet m e w h o =
           let below : IsEarlier world (stamp_of world w) (stamp_of world s) = elim o [
             | inl l ↦ order.trans _ _ _ l e
@@ -96,7 +105,8 @@ module _ {N A F P : Type 0} (world : World N A F P) (laws : IsWorld world) (limi
             | inr apart ↦ stamps.not_both (stamps_cmp world.mode) order (stamp_of world w) (stamp_of world s) below (least w h apart)
           ]
 
-      made_before : (m : N) (k : Kind F P) → Has L m k → IsEarlier world (birth_of world m) (stamp_of world s) → (j : Kind F P) × Has C m j
+      made_before : (m : N) (k : Kind F P) → Has L m k → IsEarlier world (birth_of world m) (stamp_of world s)
+          → (j : Kind F P) × Has C m j
       made_before m k h e = present (length (world.chain m).path + 1) m k (omega arith) h (before-earlier _ _ e before) (quiet m e)
 
       -- what s sees in the configuration is what it sees at its stamp in the list
@@ -120,7 +130,8 @@ module _ {N A F P : Type 0} (world : World N A F P) (laws : IsWorld world) (limi
       not_true true e = let x : false ≡ true = e in cc
       not_true false e = refl
 
-      waits_at-true : (n : N) (k : Kind F P) → IsEarlier world (birth_of world n) (stamp_of world s) → is_instance k ≡ false → IsEarlier world (stamp_of world s) (stamp_of world n) → waits_at world s n k ≡ true
+      waits_at-true : (n : N) (k : Kind F P) → IsEarlier world (birth_of world n) (stamp_of world s)
+          → is_instance k ≡ false → IsEarlier world (stamp_of world s) (stamp_of world n) → waits_at world s n k ≡ true
       waits_at-true n k b i e =
           ap (λ x. (x && not (is_instance k)) && is_lt (stamps_cmp world.mode (stamp_of world s) (stamp_of world n))) (ap is_lt b)
           ∙ ap (λ x. not x && is_lt (stamps_cmp world.mode (stamp_of world s) (stamp_of world n))) i
@@ -160,13 +171,16 @@ module _ {N A F P : Type 0} (world : World N A F P) (laws : IsWorld world) (limi
       agree = ap (world.expand s) (laws.local s _ _ _ _ sees_existing sees_waiting)
 
       -- the list has s as its outcome has it, and its children
-      has_outcome : (k : Kind F P) → Has L s k → HasOutcome L k (outcome world C s) → Has L s (steps.kind_after world (outcome world C s)) × ((c : N) (j : Kind F P) → Has (steps.children_of world (outcome world C s)) c j → Stands L c j)
+      has_outcome : (k : Kind F P) → Has L s k → HasOutcome L k (outcome world C s)
+          → Has L s (steps.kind_after world (outcome world C s))
+            × ((c : N) (j : Kind F P) → Has (steps.children_of world (outcome world C s)) c j → Stands L c j)
       has_outcome k h o = elim (outcome world C s) as (λ r. HasOutcome L k r → Has L s (steps.kind_after world r) × ((c : N) (j : Kind F P) → Has (steps.children_of world r) c j → Stands L c j)) [
         | Ok cs ↦ λ g. (subst (Has L s) g.0 h, g.1)
         | Err f ↦ λ g. (subst (Has L s) g h, λ c j i. absurd i)
       ] o
 
-      in_list : Has L s (steps.kind_after world (outcome world C s)) × ((c : N) (j : Kind F P) → Has (steps.children_of world (outcome world C s)) c j → Stands L c j)
+      in_list : Has L s (steps.kind_after world (outcome world C s))
+            × ((c : N) (j : Kind F P) → Has (steps.children_of world (outcome world C s)) c j → Stands L c j)
       in_list =
           let w = fits.waiting s step.waits in
           has_outcome w.0 w.1 (subst (HasOutcome L w.0) agree (con.each s w.0 w.1 w.2 before))
@@ -179,7 +193,8 @@ module _ {N A F P : Type 0} (world : World N A F P) (laws : IsWorld world) (limi
         | inr apart ↦ (k, changes.to n k apart h)
       ]
 
-      child_settled : (c : N) (k : Kind F P) → Has (steps.children_of world (outcome world C s)) c k → is_waiting k ≡ false → Has L c k
+      child_settled : (c : N) (k : Kind F P) → Has (steps.children_of world (outcome world C s)) c k
+          → is_waiting k ≡ false → Has L c k
       child_settled c k h y =
           let there = in_list.1 c k h in
           elim (either (is_instance k)) [
@@ -228,10 +243,12 @@ module _ {N A F P : Type 0} (world : World N A F P) (laws : IsWorld world) (limi
   fits-reached [] C e b = subst Fits (sym e) fits-start
   fits-reached (s ∷ taken) D (C, reached, step) b = next C (steps.in_order world laws taken C reached) (fits-reached taken C reached b.1) D s step b.0
 
-  pub has_members : (taken : List N) (C : Members) → Reached world taken C → AllBefore world limit taken → HasMembers L C
+  pub has_members : (taken : List N) (C : Members) → Reached world taken C → AllBefore world limit taken
+      → HasMembers L C
   has_members taken C r b = listed C (steps.in_order world laws taken C r) (fits-reached taken C r b)
 
-  pub has_made : (taken : List N) (C : Members) → Reached world taken C → AllBefore world limit taken → NothingWaits world limit C → HasMade world limit C L
+  pub has_made : (taken : List N) (C : Members) → Reached world taken C → AllBefore world limit taken
+      → NothingWaits world limit C → HasMade world limit C L
   has_made taken C r b quiet n k h e =
       present C (steps.in_order world laws taken C r) (fits-reached taken C r b) (length (world.chain n).path + 1) n k (omega arith) h e
       (λ w g o. quiet w g (elim o [ inl l ↦ before-earlier _ _ l e | inr q ↦ subst (IsBefore world limit) (sym q) e ]))
@@ -242,7 +259,8 @@ module _ {N A F P : Type 0} (world : World N A F P) (laws : IsWorld world) (L : 
   all_before (s ∷ taken) = (tt, all_before taken)
 
   -- where nothing waits, the configuration has the members of the list
-  pub same_members : (taken : List N) (C : List (Placed N F P)) → Reached world taken C → NothingWaits world None C → SameMembers L C
+  pub same_members : (taken : List N) (C : List (Placed N F P)) → Reached world taken C → NothingWaits world None C
+      → SameMembers L C
   same_members taken C r quiet n k =
       let settled : (j : Kind F P) → Has C n j → is_waiting j ≡ false = λ j g. elim (either (is_waiting j)) [ inl y ↦ absurd (quiet n (waits C n j g y) tt) | inr y ↦ y ] in (
         (λ h.

@@ -5,7 +5,8 @@ use Rattle.std.specs.Prelude.{ℕ, ◌<◌, ◌≤◌, nat_le, if◌then◌else�
 pub record IsHead (priorities : List ℕ) (head : ℕ) : Type 0 where
   pub within : head < length priorities
   pub greatest : (depth : ℕ) → depth < length priorities → slice_index priorities depth ≤ slice_index priorities head
-  pub deepest : (depth : ℕ) → head < depth → depth < length priorities → slice_index priorities depth < slice_index priorities head
+  pub deepest : (depth : ℕ) → head < depth → depth < length priorities
+      → slice_index priorities depth < slice_index priorities head
 
 -- the head where one more priority stands behind these: its own depth, unless a greater one is before it
 abbrev pub child_head : List ℕ → ℕ → ℕ → ℕ

@@ -1,8 +1,10 @@
-//! The order of derivation. A shape's rank says which of two waiting shapes is expanded first, and
-//! its stamp, which is computed from the ranks on its path, says when it is expanded: the shape of
-//! least rank is always that of least stamp, and stamps rise as the derivation goes on. This crate
-//! must not know what a shape is beyond its chain, its lot, path and priorities. What callers get
-//! wrong: ranks don't rise as the derivation goes on, so what was done is told by stamps alone.
+//! The order of derivation.
+//!
+//! It must not know geometry, forests or rules. A shape's rank says which of two waiting shapes is expanded first. Its
+//! stamp, which is computed from the ranks on its path, says when it is expanded: the shape of least rank is always
+//! that of least stamp, and stamps rise as the derivation goes on.
+//!
+//! What callers get wrong: ranks don't rise as the derivation goes on, so what was done is told by stamps alone.
 #![tactic(auto)]
 
 use cga_fraction::List;

@@ -1,7 +1,10 @@
-// What is outside of the program: a source of bytes and a sink for them, each with a count of its failures,
-// once in memory and once over std's readers and writers. It knows nothing of scripts, lines or statuses.
-// The one thing that callers get wrong: a read or a write may move fewer bytes than were asked for, so that
-// moving all of them is a loop of the caller's.
+//! What is outside of the program: a source of bytes and a sink for them, each with a count of its failures, once in
+//! memory and once over std's readers and writers.
+//!
+//! It must not know lines, scripts or statuses.
+//!
+//! What callers get wrong: a read or a write may move fewer bytes than were asked for, so that moving all of them is a
+//! loop of the caller's.
 #![tactic(auto)]
 
 mod failed;

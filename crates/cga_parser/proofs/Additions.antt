@@ -7,7 +7,8 @@ use Rattle.cga_parser.specs.BlockTells.{attributes_of, entries_from, priority_af
 use Rattle.cga_parser.specs.Kept.{with_room}
 use Rattle.cga_parser.proofs.Kept.{kept_more}
 
-attributes_more : (all : List (Option BlockLine)) (said : Option BlockLine) → attributes_of (all ++ said ∷ []) ≡ attributes_of all ++ attributes_of (said ∷ [])
+attributes_more : (all : List (Option BlockLine)) (said : Option BlockLine)
+    → attributes_of (all ++ said ∷ []) ≡ attributes_of all ++ attributes_of (said ∷ [])
 unfolding attributes_of
 attributes_more [] said = refl
 attributes_more (Some (line.Attribute a) ∷ all) said = ap (λ z. a ∷ z) (attributes_more all said)
@@ -16,7 +17,8 @@ attributes_more (Some (line.Rule r) ∷ all) said = attributes_more all said
 attributes_more (Some line.End ∷ all) said = attributes_more all said
 attributes_more (None ∷ all) said = attributes_more all said
 
-entries_more : (p : ℕ) (all : List (Option BlockLine)) (said : Option BlockLine) → entries_from p (all ++ said ∷ []) ≡ entries_from p all ++ entries_from (priority_after p all) (said ∷ [])
+entries_more : (p : ℕ) (all : List (Option BlockLine)) (said : Option BlockLine)
+    → entries_from p (all ++ said ∷ []) ≡ entries_from p all ++ entries_from (priority_after p all) (said ∷ [])
 unfolding entries_from priority_after
 entries_more p [] said = refl
 entries_more p (Some (line.Attribute a) ∷ all) said = entries_more p all said
@@ -25,7 +27,8 @@ entries_more p (Some (line.Rule r) ∷ all) said = ap (λ z. record { priority =
 entries_more p (Some line.End ∷ all) said = entries_more p all said
 entries_more p (None ∷ all) said = entries_more p all said
 
-priority_more : (p : ℕ) (all : List (Option BlockLine)) (said : Option BlockLine) → priority_after p (all ++ said ∷ []) ≡ priority_after (priority_after p all) (said ∷ [])
+priority_more : (p : ℕ) (all : List (Option BlockLine)) (said : Option BlockLine)
+    → priority_after p (all ++ said ∷ []) ≡ priority_after (priority_after p all) (said ∷ [])
 unfolding priority_after
 priority_more p [] said = refl
 priority_more p (Some (line.Attribute a) ∷ all) said = priority_more p all said
@@ -50,7 +53,9 @@ few_entries p (Some (line.Rule r)) = omega arith
 few_entries p (Some line.End) = omega arith
 few_entries p None = omega arith
 
-pub holds_more : {T E : Type 0} (r : Result T E) (old new : Gathered) (said : Option BlockLine) → OnOk r (Adds old said new) → (all : List (Option BlockLine)) → Holds old all → OnOk r (Holds new (all ++ said ∷ []))
+pub holds_more : {T E : Type 0} (r : Result T E) (old new : Gathered) (said : Option BlockLine)
+    → OnOk r (Adds old said new) → (all : List (Option BlockLine)) → Holds old all
+    → OnOk r (Holds new (all ++ said ∷ []))
 holds_more (Ok x) old new said a all h = (
   a.attributes ∙ ap (λ z. with_room 129 z (attributes_of (said ∷ []))) h.0
       ∙ kept_more 129 (attributes_of all) (attributes_of (said ∷ [])) (few_attributes said)

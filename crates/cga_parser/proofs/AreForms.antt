@@ -5,7 +5,7 @@ use Rattle.cga_rule.specs.declared.rule.Rule.{Rule}
 use Rattle.cga_syntax.specs.Pieces.{rule_pieces}
 use Rattle.cga_syntax.specs.Spelling.{Spelled}
 use Rattle.cga_form.specs.Laws.{IsForm}
-use Rattle.cga_form.proofs.Lines.{form_unique}
+use Rattle.cga_form.proofs.Door.{form_unique}
 use Rattle.cga_parser.specs.declared.block_line.BlockLine.{BlockLine}
 use Rattle.cga_parser.specs.Blocks.{block_pieces, block}
 use Rattle.cga_parser.specs.Grammar.{rule}
@@ -23,5 +23,6 @@ block_form = record { follows = with_line; exact = block_reads; again = block_ag
 pub rule_unique : (text : List Lexeme) (a b : Rule) → Spelled rule_pieces text a → Spelled rule_pieces text b → a ≡ b
 rule_unique = form_unique rule_pieces rule rule_form
 
-pub block_unique : (text : List Lexeme) (a b : BlockLine) → Spelled block_pieces text a → Spelled block_pieces text b → a ≡ b
+pub block_unique : (text : List Lexeme) (a b : BlockLine) → Spelled block_pieces text a → Spelled block_pieces text b
+    → a ≡ b
 block_unique = form_unique block_pieces block block_form

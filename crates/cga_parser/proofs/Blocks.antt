@@ -4,10 +4,9 @@ use Rattle.cga_lexer.specs.declared.sign.Sign.TheVariants as s
 use Rattle.cga_syntax.specs.declared.print.space.Space.TheVariants.{Usual, NoneBefore}
 use Rattle.cga_form.specs.Tokens.{is_word}
 use Rattle.cga_parser.specs.Blocks as b
-use Rattle.cga_form.proofs.Forms.{Reads, next, done, one_token, either}
-use Rattle.cga_form.proofs.Singles.{sign_token, name_token, whole_token, word_token}
+use Rattle.cga_form.proofs.Door.{done, either, name_token, next, one_token, sign_token, value_reads, whole_token, word_token}
+use Rattle.cga_form.specs.Laws.{Reads}
 use Rattle.cga_parser.proofs.Rules.{rule_reads}
-use Rattle.cga_form.proofs.Values.{value_reads}
 
 pub attribute_reads : (n : ℕ) → Reads n n b.attribute_pieces b.attribute
 unfolding b.attribute

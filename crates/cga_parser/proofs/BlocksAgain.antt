@@ -17,9 +17,10 @@ use Rattle.cga_parser.specs.Blocks as b
 use Rattle.cga_parser.proofs.ExprsAgain.{neither}
 use Rattle.cga_parser.proofs.Rules.{rule_is}
 use Rattle.cga_parser.proofs.RulesAgain.{with_rule, rule_again}
-use Rattle.cga_form.proofs.Values.{value_pieces}
-use Rattle.cga_form.proofs.ValuesAgain.{a_slash, value_again}
-use Rattle.cga_form.proofs.Again.{Leads, Again, Begun, begun_token, starts_token, begun_as, missed, misses_end, nothing, never_written, ends, took, by_name, whole_leads, peek_yes, peek_no, after, plainly}
+use Rattle.cga_form.proofs.Door.{Begun, a_slash, after, begun_as, begun_token, by_name, ends, missed, misses_end}
+use Rattle.cga_form.proofs.Door.{never_written, peek_no, peek_yes, plainly, starts_token, took, value_again}
+use Rattle.cga_form.proofs.Door.{value_pieces, whole_leads}
+use Rattle.cga_form.specs.Laws.{Again, Leads, nothing}
 
 name_read : (name : List ℕ) → is_reserved name ≡ false → a_name (lexeme.Name name) ≡ Some name
 name_read name e = ap (λ t. unless t name) e
@@ -42,11 +43,14 @@ priority_again = record { all = priority_at }
 
 -- ---- what a rule begins with
 
-whole_begun_by : (test : Lexeme → Bool) (l : Lexeme) (qs : Pieces) → test l ≡ false → (t : Bool) → (c : ℕ) (x : List Lexeme) (d : ℕ) (r : List Lexeme) → Writes c ((if t then token Usual l else never) ∷ qs) x d → begins test (x ++ r) ≡ false
+whole_begun_by : (test : Lexeme → Bool) (l : Lexeme) (qs : Pieces) → test l ≡ false → (t : Bool)
+    → (c : ℕ) (x : List Lexeme) (d : ℕ) (r : List Lexeme) → Writes c ((if t then token Usual l else never) ∷ qs) x d
+    → begins test (x ++ r) ≡ false
 whole_begun_by test l qs e true c x d r w = (begun_token e).begun c x d r w
 whole_begun_by test l qs e false c x d r w = absurd (never_written c qs x d w)
 
-begun_whole : {test : Lexeme → Bool} {qs : Pieces} (low high n : ℕ) → test (number n) ≡ false → Begun test (whole low high n ∷ qs)
+begun_whole : {test : Lexeme → Bool} {qs : Pieces} (low high n : ℕ) → test (number n) ≡ false
+    → Begun test (whole low high n ∷ qs)
 begun_whole {test = test} {qs = qs} low high n e = record { begun = λ c x d r w. whole_begun_by test (number n) qs e (nat_le low n && nat_le n high) c x d r w }
 
 rule_begun : {test : Lexeme → Bool} (r : Rule) → test (number r.id) ≡ false → Begun test (rule_pieces r)

@@ -25,7 +25,10 @@ use Rattle.cga_rule.specs.declared.cond.Test.TheOpen as layer
 use Rattle.cga_rule.specs.declared.cond.Relation.{Relation}
 use Rattle.cga_rule.specs.declared.cond.Relation.TheVariants as relation
 use Rattle.cga_syntax.specs.declared.print.space.Space.TheVariants.{Usual}
-use Rattle.cga_syntax.specs.Pieces.{token, sign, keyword, word, text, Pieces, concat, squared, size_word, target_text, state_text, relation_sign, equality_sign, expr_pieces, scaled_pieces, added_pieces, cond_pieces, conj_pieces, test_pieces, test_step, cond_step, conj_step}
+use Rattle.cga_syntax.specs.Pieces.{token, sign, keyword, word, text, Pieces, concat, squared, size_word, target_text}
+use Rattle.cga_syntax.specs.Pieces.{state_text, relation_sign, equality_sign, expr_pieces, scaled_pieces}
+use Rattle.cga_syntax.specs.Pieces.{added_pieces, cond_pieces, conj_pieces, test_pieces, test_step, cond_step}
+use Rattle.cga_syntax.specs.Pieces.{conj_step}
 use Rattle.cga_syntax.specs.Brackets.{counted, bracket_of}
 use Rattle.cga_form.specs.Reader.{Reader, ◌>>=◌, ◌>>◌, pure, refuse, single}
 use Rattle.cga_form.specs.Tokens.{is_sign, is_keyword}
@@ -33,10 +36,11 @@ use Rattle.cga_form.specs.Words.{a_relation, relation_of, an_equality, equality_
 use Rattle.cga_parser.specs.Grammar as g
 use Rattle.cga_form.specs.declared.heads.ScopeWord.{ScopeWord}
 use Rattle.cga_form.specs.declared.heads.ScopeWord.TheVariants as scope_word
-use Rattle.cga_form.proofs.Runs.{Some_text}
-use Rattle.cga_form.proofs.Written.{plain_written, long_of, nil_right}
-use Rattle.cga_form.proofs.Forms.{After, Goes, Reads, next, done, Token, one_token, bracketed, either, refusing, Long, listed}
-use Rattle.cga_form.proofs.Singles.{sign_token, keyword_token, opening, a_sign_is, as_token, by_token, pick, no_more}
+use Rattle.cga_form.proofs.Door.{Long, Token, a_sign_is, as_token, bracketed, by_token, done, either, keyword_token}
+use Rattle.cga_form.proofs.Door.{listed, long_of, next, no_more, one_token, opening, pick, plain_written, refusing}
+use Rattle.cga_form.proofs.Door.{sign_token}
+use Rattle.cga_form.specs.Laws.{After, Goes, Reads, Some_text}
+use Rattle.std.proofs.Common.{append-nil as nil_right}
 use Rattle.cga_parser.proofs.Layers.{expr_layer, term_layer, factor_layer, size_layer}
 use Rattle.cga_parser.proofs.Lists.{separated_is}
 use Rattle.cga_parser.proofs.Exprs.{dot, close, round, in_round, some_as, expr_reads, inside_reads, scaled_long, scaled_reads, added_long, added_reads}
@@ -47,11 +51,15 @@ scope_bytes (scope_word.Size a) = size_word a
 
 -- ---- one layer of the pieces
 
-pub cond_layer : (a : Conj) (more : List Conj) → cond_pieces (roll-Cond (record { conjs = a ∷ more })) ≡ conj_pieces a ++ (concat (map (λ c. keyword k.Or ∷ conj_pieces c) more) ++ [])
+pub cond_layer : (a : Conj) (more : List Conj)
+    → cond_pieces (roll-Cond (record { conjs = a ∷ more })) ≡ conj_pieces a ++
+      (concat (map (λ c. keyword k.Or ∷ conj_pieces c) more) ++ [])
 unfolding cond_pieces conj_pieces
 cond_layer a more = fold-roll-Cond Pieces Pieces Pieces test_step cond_step conj_step (record { conjs = a ∷ more }) ∙ separated_is (keyword k.Or) conj_pieces a more []
 
-pub conj_layer : (a : Test) (more : List Test) → conj_pieces (roll-Conj (record { tests = a ∷ more })) ≡ test_pieces a ++ (concat (map (λ c. keyword k.And ∷ test_pieces c) more) ++ [])
+pub conj_layer : (a : Test) (more : List Test)
+    → conj_pieces (roll-Conj (record { tests = a ∷ more })) ≡ test_pieces a ++
+      (concat (map (λ c. keyword k.And ∷ test_pieces c) more) ++ [])
 unfolding conj_pieces test_pieces
 conj_layer a more = fold-roll-Conj Pieces Pieces Pieces test_step cond_step conj_step (record { tests = a ∷ more }) ∙ separated_is (keyword k.And) test_pieces a more []
 
@@ -68,7 +76,8 @@ pub occ_layer : (target : Target) (equal : Bool) (state : Answer) →
 unfolding test_pieces
 occ_layer target equal state = ap test_pieces (sym (rolls-Occ target equal state)) ∙ fold-roll-Test Pieces Pieces Pieces test_step cond_step conj_step (layer.Occ target equal state)
 
-pub compare_layer : (left : Expr) (r : Relation) (right : Expr) → test_pieces (t.Compare left r right) ≡ expr_pieces left ++ (sign (relation_sign r) ∷ expr_pieces right)
+pub compare_layer : (left : Expr) (r : Relation) (right : Expr)
+    → test_pieces (t.Compare left r right) ≡ expr_pieces left ++ (sign (relation_sign r) ∷ expr_pieces right)
 unfolding test_pieces
 compare_layer left r right = ap test_pieces (sym (rolls-Compare left r right)) ∙ fold-roll-Test Pieces Pieces Pieces test_step cond_step conj_step (layer.Compare left r right)
 
@@ -173,7 +182,8 @@ square_pieces c = squared (cond_pieces c)
 close_square : (n : ℕ) → Reads n (suc n) (as_token Usual (lexeme.Sign s.RightSquare)) (g.sign s.RightSquare)
 close_square n = one_token (sign_token Usual s.RightSquare n (suc n) refl refl)
 
-square_rest : (m : ℕ) (p : Reader Cond) → Reads m m cond_pieces p → Goes m (suc m) (sign s.LeftSquare ∷ []) square_pieces (p >>= λ c. g.sign s.RightSquare >> pure c)
+square_rest : (m : ℕ) (p : Reader Cond) → Reads m m cond_pieces p
+    → Goes m (suc m) (sign s.LeftSquare ∷ []) square_pieces (p >>= λ c. g.sign s.RightSquare >> pure c)
 square_rest m p h = next h (λ c. next (close_square m) (λ _. done refl))
 
 square_reads : (n : ℕ) (inner : Reader Cond) → IsInner n inner → Reads n n square_pieces (g.square n inner)
@@ -183,7 +193,10 @@ square_reads n inner h = bracketed n (opening s.LeftSquare refl refl) (λ i e. a
 abbrev pub occ_pieces : Target × Bool × Answer → Pieces
 occ_pieces p = sign s.LeftRound ∷ text (target_text p.0) ∷ sign s.RightRound ∷ sign (equality_sign p.1) ∷ text (state_text p.2) ∷ []
 
-occ_rest : (m : ℕ) → Goes m (suc m) round occ_pieces (single a_target >>= λ target. g.sign s.RightRound >> (single an_equality >>= λ equal. single a_state >>= λ state. pure (target, equal, state)))
+occ_rest : (m : ℕ)
+    → Goes m (suc m) round occ_pieces
+      (single a_target >>= λ target. g.sign s.RightRound >>
+      (single an_equality >>= λ equal. single a_state >>= λ state. pure (target, equal, state)))
 occ_rest m = next (one_token (target_token m)) (λ a. next (close m) (λ _. next (one_token (equality_token (suc m))) (λ b. next (one_token (state_token (suc m))) (λ c. done refl))))
 
 occ_reads : (n : ℕ) (inner : Reader Cond) → Reads n n occ_pieces (g.occ_parts n inner)
@@ -197,14 +210,17 @@ abbrev pub further_conj_pieces : Conj → Pieces
 further_conj_pieces a = keyword k.Or ∷ conj_pieces a
 
 module _ (n : ℕ) (inner : Reader Cond) (h : IsInner n inner) where
-  compare_reads : (left : Expr) (ps : Pieces) → expr_pieces left ≡ ps → Goes n n ps test_pieces (g.compare_after n inner left)
+  compare_reads : (left : Expr) (ps : Pieces) → expr_pieces left ≡ ps
+      → Goes n n ps test_pieces (g.compare_after n inner left)
   unfolding g.compare_after
   compare_reads left ps e = next (one_token (relation_token n)) (λ r. next (expr_reads n) (λ right. done (compare_layer left r right ∙ ap (λ z. z ++ (sign (relation_sign r) ∷ expr_pieces right)) e ∙ sym (append_assoc ps (sign (relation_sign r) ∷ []) (expr_pieces right)))))
 
   abbrev pub scope_pieces : ScopeWord → Pieces
   scope_pieces w = keyword k.Scope ∷ sign s.Dot ∷ word (scope_bytes w) ∷ []
 
-  pub sum_layer : (a : Axis) (fs : List Scaled) (ts : List Added) → expr_pieces (g.sum_of (g.size_factor a) fs ts) ≡ (scope_pieces (scope_word.Size a) ++ concat (map scaled_pieces fs)) ++ concat (map added_pieces ts)
+  pub sum_layer : (a : Axis) (fs : List Scaled) (ts : List Added)
+      → expr_pieces (g.sum_of (g.size_factor a) fs ts) ≡
+        (scope_pieces (scope_word.Size a) ++ concat (map scaled_pieces fs)) ++ concat (map added_pieces ts)
   sum_layer a fs ts =
       expr_layer _ ts ∙ ap (λ z. z ++ concat (map added_pieces ts)) (term_layer (g.size_factor a) fs ∙ ap (λ z. z ++ concat (map scaled_pieces fs)) (factor_layer false _ ∙ size_layer a))
 

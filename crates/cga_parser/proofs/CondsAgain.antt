@@ -27,18 +27,27 @@ use Rattle.cga_rule.specs.declared.cond.Test.TheFolds.{fold-roll-Cond, fold-roll
 use Rattle.cga_rule.specs.declared.cond.Test.TheOpen as test
 use Rattle.cga_rule.specs.declared.cond.Relation.{Relation}
 use Rattle.cga_rule.specs.declared.cond.Relation.TheVariants as relation
-use Rattle.cga_syntax.specs.Pieces.{never, sign, keyword, word, Pieces, concat, target_text, state_text, relation_sign, equality_sign, expr_pieces, scaled_pieces, added_pieces, factor_pieces, primary_pieces, cond_pieces, conj_pieces, test_pieces, test_step, cond_step, conj_step}
+use Rattle.cga_syntax.specs.Pieces.{never, sign, keyword, word, Pieces, concat, target_text, state_text}
+use Rattle.cga_syntax.specs.Pieces.{relation_sign, equality_sign, expr_pieces, scaled_pieces, added_pieces}
+use Rattle.cga_syntax.specs.Pieces.{factor_pieces, primary_pieces, cond_pieces, conj_pieces, test_pieces, test_step}
+use Rattle.cga_syntax.specs.Pieces.{cond_step, conj_step}
 use Rattle.cga_form.specs.Reader.{Reader, refuse}
 use Rattle.cga_form.specs.Tokens.{a_sign, a_keyword, is_sign, is_keyword}
 use Rattle.cga_form.specs.Words.{a_relation, an_equality, a_target, a_state, a_scope_word}
 use Rattle.cga_parser.specs.Grammar as g
 use Rattle.cga_form.specs.declared.heads.ScopeWord.TheVariants as scope_word
-use Rattle.cga_form.proofs.Forms.{turned}
+use Rattle.cga_form.proofs.Door.{Begun, after, all_of, begun_append, begun_as, begun_drawn, begun_named}
+use Rattle.cga_form.proofs.Door.{begun_nothing, begun_token, ends, entered, missed, misses_each, misses_end}
+use Rattle.cga_form.proofs.Door.{misses_nothing, never_leads, peek_no, peek_yes, plainly, starts_token, took, turned}
+use Rattle.cga_form.proofs.Door.{written_as}
+use Rattle.cga_form.specs.Laws.{Again, Leads, nothing}
 use Rattle.cga_parser.proofs.Layers.{expr_layer, term_layer, factor_layer, number_layer, named_layer, group_layer as bracket_layer, floor_layer, ceil_layer, rand_layer}
 use Rattle.cga_parser.proofs.Exprs.{inside_reads, scaled_long, scaled_reads, added_long, added_reads}
 use Rattle.cga_parser.proofs.ExprsAgain.{goes_on, no_scaling, no_addition, Spares, expr_begun, scaled_again, scaled_starts, added_again, added_starts, added_begun, expr_again, inside_again, neither}
-use Rattle.cga_parser.proofs.Conds.{scope_bytes, IsInner, no_inner, one_inner, cond_reads, square_pieces, occ_pieces, sum_layer, further_test_pieces, further_test_long, further_test_reads, further_conj_pieces, further_conj_long, further_conj_reads, cond_layer, conj_layer, group_layer, not_layer, occ_layer, compare_layer}
-use Rattle.cga_form.proofs.Again.{Leads, Again, Begun, begun_token, starts_token, begun_drawn, begun_named, begun_append, begun_as, missed, misses_end, misses_each, nothing, misses_nothing, begun_nothing, never_leads, ends, took, entered, peek_yes, peek_no, after, plainly, written_as, all_of}
+use Rattle.cga_parser.proofs.Conds.{scope_bytes, IsInner, no_inner, one_inner, cond_reads, square_pieces, occ_pieces}
+use Rattle.cga_parser.proofs.Conds.{sum_layer, further_test_pieces, further_test_long, further_test_reads}
+use Rattle.cga_parser.proofs.Conds.{further_conj_pieces, further_conj_long, further_conj_reads, cond_layer}
+use Rattle.cga_parser.proofs.Conds.{conj_layer, group_layer, not_layer, occ_layer, compare_layer}
 
 -- the tokens that go on with a conjunction, and with a condition
 abbrev pub with_and : Lexeme → Bool
@@ -88,7 +97,8 @@ not_spares : Spares (is_keyword k.Not)
 not_spares = record { number = λ v. refl; name = λ n. refl; bracket = refl; scope = refl; floor = refl; ceil = refl; rand = refl }
 
 -- a sum begins as its first factor does
-sum_begun : {test : Lexeme → Bool} (f : Factor) (fs : List Scaled) (ts : List Added) → Begun test (factor_pieces f) → Begun test (expr_pieces (g.sum_of f fs ts))
+sum_begun : {test : Lexeme → Bool} (f : Factor) (fs : List Scaled) (ts : List Added) → Begun test (factor_pieces f)
+    → Begun test (expr_pieces (g.sum_of f fs ts))
 sum_begun f fs ts b = begun_as (expr_layer _ ts ∙ ap (λ z. z ++ concat (map added_pieces ts)) (term_layer f fs)) (begun_append (concat (map added_pieces ts)) (begun_append (concat (map scaled_pieces fs)) b))
 
 abbrev pub AgainInner : ℕ → Reader Cond → Type 0
@@ -114,7 +124,9 @@ module _ (n : ℕ) (inner : Reader Cond) (h : AgainInner n inner) (r : IsInner n
         took a_target p.0 (target_read p.0) (took (a_sign s.RightRound) tt refl (took an_equality p.1 (equality_read p.1) (took a_state p.2 (state_read p.2) ends))));
   }
 
-  compare_again : (left : Expr) (o : Relation) (right : Expr) → Leads goes_on (sign (relation_sign o) ∷ expr_pieces right) (g.compare_after n inner left) (t.Compare left o right)
+  compare_again : (left : Expr) (o : Relation) (right : Expr)
+      → Leads goes_on (sign (relation_sign o) ∷ expr_pieces right) (g.compare_after n inner left)
+        (t.Compare left o right)
   unfolding g.compare_after
   compare_again left o right = took a_relation o (relation_read o) (plainly (after _ right (expr_again n) (misses_end (λ l e. e)) ends))
 
@@ -136,7 +148,8 @@ module _ (n : ℕ) (inner : Reader Cond) (h : AgainInner n inner) (r : IsInner n
       (took (a_keyword k.Scope) tt refl (took (a_sign s.Dot) tt refl (took a_scope_word scope_word.Occ refl (plainly (after _ (a, equal, state) occ_again misses_nothing ends))))))))
 
   -- a comparison that begins with a size of the scope
-  sum_again : (a : Axis) (fs : List Scaled) (ts : List Added) (o : Relation) (right : Expr) → At_test (t.Compare (g.sum_of (g.size_factor a) fs ts) o right)
+  sum_again : (a : Axis) (fs : List Scaled) (ts : List Added) (o : Relation) (right : Expr)
+      → At_test (t.Compare (g.sum_of (g.size_factor a) fs ts) o right)
   unfolding g.one_test
   sum_again a fs ts o right =
       let left : Expr = g.sum_of (g.size_factor a) fs ts in
@@ -153,14 +166,17 @@ module _ (n : ℕ) (inner : Reader Cond) (h : AgainInner n inner) (r : IsInner n
       (compare_again left o right)))))))))
 
   -- one that doesn't
-  other_again : (left : Expr) (o : Relation) (right : Expr) → Begun (is_keyword k.Scope) (expr_pieces left) → At_test (t.Compare left o right)
+  other_again : (left : Expr) (o : Relation) (right : Expr) → Begun (is_keyword k.Scope) (expr_pieces left)
+      → At_test (t.Compare left o right)
   unfolding g.one_test
   other_again left o right b =
       let end : Pieces = sign (relation_sign o) ∷ expr_pieces right in
       written_as (compare_layer left o right) (peek_no _ (missed (begun_append end (expr_begun square_spares refl left))) (peek_no _ (missed (begun_append end (expr_begun not_spares refl left)))
       (peek_no _ (missed (begun_append end b)) (after _ left (expr_again n) (missed (begun_token (relation_stops o))) (compare_again left o right)))))
 
-  by_primary : (q : Primary-F Primary Added Expr Factor Scaled Term) (fs : List Scaled) (ts : List Added) (o : Relation) (right : Expr) → At_test (t.Compare (g.sum_of (record { minus = false; primary = roll-Primary q }) fs ts) o right)
+  by_primary : (q : Primary-F Primary Added Expr Factor Scaled Term) (fs : List Scaled) (ts : List Added)
+        (o : Relation) (right : Expr)
+      → At_test (t.Compare (g.sum_of (record { minus = false; primary = roll-Primary q }) fs ts) o right)
   by_primary (layer.ScopeSize a) fs ts o right = subst (λ p. At_test (t.Compare (g.sum_of (record { minus = false; primary = p }) fs ts) o right)) (sym (rolls-ScopeSize a)) (sum_again a fs ts o right)
   by_primary (layer.Number value) fs ts o right = other_again _ o right (sum_begun _ fs ts (begun_as (factor_layer false _ ∙ ap primary_pieces (rolls-Number value) ∙ number_layer value) (begun_token refl)))
   by_primary (layer.Named name) fs ts o right = other_again _ o right (sum_begun _ fs ts (begun_as (factor_layer false _ ∙ ap primary_pieces (rolls-Named name) ∙ named_layer name) (begun_named name refl)))
@@ -170,7 +186,8 @@ module _ (n : ℕ) (inner : Reader Cond) (h : AgainInner n inner) (r : IsInner n
   by_primary (layer.Rand j low high steps) fs ts o right =
       other_again _ o right (sum_begun _ fs ts (begun_as (factor_layer false _ ∙ ap primary_pieces (rolls-Rand j low high steps) ∙ rand_layer j low high steps) (begun_drawn refl)))
 
-  by_factor : (minus : Bool) (p : Primary) (fs : List Scaled) (ts : List Added) (o : Relation) (right : Expr) → At_test (t.Compare (g.sum_of (record { minus = minus; primary = p }) fs ts) o right)
+  by_factor : (minus : Bool) (p : Primary) (fs : List Scaled) (ts : List Added) (o : Relation) (right : Expr)
+      → At_test (t.Compare (g.sum_of (record { minus = minus; primary = p }) fs ts) o right)
   by_factor true p fs ts o right = other_again _ o right (sum_begun _ fs ts (begun_as (factor_layer true p) (begun_token refl)))
   by_factor false p fs ts o right = subst (λ z. At_test (t.Compare (g.sum_of (record { minus = false; primary = z }) fs ts) o right)) (roll-out-Primary p) (by_primary (out-Primary p) fs ts o right)
 
@@ -193,7 +210,9 @@ module _ (n : ℕ) (inner : Reader Cond) (h : AgainInner n inner) (r : IsInner n
   unfolding g.further_test
   further_test_again = record { all = λ a. took (a_keyword k.And) tt refl (plainly (after _ a test_again (misses_end (λ l e. e)) ends)) }
 
-  conj_at : (tests : List Test) → Leads with_and (conj_pieces (roll-Conj (record { tests = tests }))) (g.conj n inner) (roll-Conj (record { tests = tests }))
+  conj_at : (tests : List Test)
+      → Leads with_and (conj_pieces (roll-Conj (record { tests = tests }))) (g.conj n inner)
+        (roll-Conj (record { tests = tests }))
   unfolding g.conj
   conj_at [] = written_as no_conjs never_leads
   conj_at (a ∷ more) =
@@ -209,7 +228,9 @@ module _ (n : ℕ) (inner : Reader Cond) (h : AgainInner n inner) (r : IsInner n
   unfolding g.further_conj
   further_conj_again = record { all = λ a. took (a_keyword k.Or) tt refl (plainly (after _ a conj_again (misses_end (λ l e. e)) ends)) }
 
-  cond_at : (conjs : List Conj) → Leads with_or (cond_pieces (roll-Cond (record { conjs = conjs }))) (g.cond_layer n inner) (roll-Cond (record { conjs = conjs }))
+  cond_at : (conjs : List Conj)
+      → Leads with_or (cond_pieces (roll-Cond (record { conjs = conjs }))) (g.cond_layer n inner)
+        (roll-Cond (record { conjs = conjs }))
   unfolding g.cond_layer
   cond_at [] = written_as no_conds never_leads
   cond_at (a ∷ more) =

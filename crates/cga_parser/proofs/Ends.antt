@@ -19,7 +19,7 @@ use Rattle.cga_form.specs.LineTells.{with_place}
 use Rattle.cga_form.specs.Lines.{Line, is_long}
 use Rattle.cga_form.specs.BlockTells.{Found, as_line, unless_blank, unless_long}
 use Rattle.cga_parser.specs.BlockTells.{EndsBlock, BlockTells}
-use Rattle.cga_form.proofs.Written.{head_of, end_of, token_first, nothing}
+use Rattle.cga_form.proofs.Door.{end_of, head_of, nothing, token_first}
 
 abbrev end_word : Lexeme
 end_word = lexeme.Name (codes "end")
@@ -43,14 +43,17 @@ ends l h =
 
 -- ---- what says the end is the word
 
-only : (t : Token) (ts : List Token) (d : ℕ) → Writes 0 (block_pieces line.End) (map seen (t ∷ ts)) d → (ts ≡ []) × (seen t ≡ end_word)
+only : (t : Token) (ts : List Token) (d : ℕ) → Writes 0 (block_pieces line.End) (map seen (t ∷ ts)) d
+    → (ts ≡ []) × (seen t ≡ end_word)
 only t [] d w = let h = head_of 0 Usual end_word [] (seen t ∷ []) d w in (refl, let q : seen t ∷ [] ≡ end_word ∷ h.0 = h.1 in cc)
 only t (u ∷ ts) d w =
     let h = head_of 0 Usual end_word [] (seen t ∷ map seen (u ∷ ts)) d w in
     let e = end_of 0 h.0 d h.2 in
     absurd (let q : seen t ∷ seen u ∷ map seen ts ≡ end_word ∷ h.0 = h.1 in let r : h.0 ≡ [] = e.0 in cc)
 
-found_end : (end : ℕ) (t : Token) (ts : List Token) (f : Result BlockLine Fault) (g : Result BlockLine LineFault) → Tells block_pieces 32 (map seen (t ∷ ts)) f → g ≡ with_place end (t ∷ ts) f → ◌≡◌ {A = Found BlockLine} (Ok (Some line.End)) (as_line g) →
+found_end : (end : ℕ) (t : Token) (ts : List Token) (f : Result BlockLine Fault) (g : Result BlockLine LineFault)
+    → Tells block_pieces 32 (map seen (t ∷ ts)) f → g ≡ with_place end (t ∷ ts) f
+    → ◌≡◌ {A = Found BlockLine} (Ok (Some line.End)) (as_line g) →
     (ts ≡ []) × (seen t ≡ end_word)
 found_end end t ts (Ok a) (Ok b) h e q =
     let p : b ≡ a = cc in
@@ -60,14 +63,16 @@ found_end end t ts (Ok a) (Err b) h e q = absurd (cc)
 found_end end t ts (Err a) (Ok b) h e q = absurd (cc)
 found_end end t ts (Err a) (Err b) h e q = absurd (cc)
 
-of_tokens : (l : Line) (o : Result (List Token) LexFault) → is_long l ≡ false → tokens_of l.bytes ≡ o → unless_blank block_pieces (length l.bytes + 1) o (Ok (Some line.End)) → EndsBlock l
+of_tokens : (l : Line) (o : Result (List Token) LexFault) → is_long l ≡ false → tokens_of l.bytes ≡ o
+    → unless_blank block_pieces (length l.bytes + 1) o (Ok (Some line.End)) → EndsBlock l
 of_tokens l (Err f) b e h = absurd (cc)
 of_tokens l (Ok []) b e h = absurd (cc)
 of_tokens l (Ok (t ∷ ts)) b e h =
     let q = found_end (length l.bytes + 1) t ts h.1.0 h.0 h.1.1 h.1.2 h.2 in
     (t, b, e ∙ ap (λ z. Ok (t ∷ z)) q.0, q.1)
 
-of_length : (l : Line) (b : Bool) → is_long l ≡ b → unless_long block_pieces l.bytes b (Ok (Some line.End)) → EndsBlock l
+of_length : (l : Line) (b : Bool) → is_long l ≡ b → unless_long block_pieces l.bytes b (Ok (Some line.End))
+    → EndsBlock l
 of_length l true e h = absurd (cc)
 of_length l false e h = of_tokens l (tokens_of l.bytes) e refl h
 

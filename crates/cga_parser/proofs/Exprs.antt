@@ -17,7 +17,9 @@ use Rattle.cga_rule.specs.declared.expr.Factor.{Factor}
 use Rattle.cga_rule.specs.declared.expr.Primary.TheVariants as v
 use Rattle.cga_syntax.specs.declared.print.space.Space.{Space}
 use Rattle.cga_syntax.specs.declared.print.space.Space.TheVariants.{Usual, NoneAfter}
-use Rattle.cga_syntax.specs.Pieces.{token, plain, sign, keyword, named, word, whole, Pieces, Writes, grouped, size_word, expr_pieces, term_pieces, added_pieces, scaled_pieces, factor_pieces, primary_pieces}
+use Rattle.cga_syntax.specs.Pieces.{token, plain, sign, keyword, named, word, whole, Pieces, Writes, grouped}
+use Rattle.cga_syntax.specs.Pieces.{size_word, expr_pieces, term_pieces, added_pieces, scaled_pieces, factor_pieces}
+use Rattle.cga_syntax.specs.Pieces.{primary_pieces}
 use Rattle.cga_syntax.specs.Brackets.{counted, bracket_of}
 use Rattle.cga_form.specs.Reader.{Reader, ◌>>=◌, ◌>>◌, pure, refuse, single, enter}
 use Rattle.cga_form.specs.Tokens.{a_sign, a_whole, is_sign, is_keyword, unless}
@@ -25,10 +27,11 @@ use Rattle.cga_form.specs.Words.{primary_head, primary_keyword, size_axis, size_
 use Rattle.cga_parser.specs.Grammar as g
 use Rattle.cga_form.specs.declared.heads.PrimaryHead.{PrimaryHead}
 use Rattle.cga_form.specs.declared.heads.PrimaryHead.TheVariants as head
-use Rattle.cga_form.proofs.Runs.{Some_text}
-use Rattle.cga_form.proofs.Written.{nothing, token_first, long_of, nil_right}
-use Rattle.cga_form.proofs.Forms.{After, Goes, Reads, next, done, Token, one_token, bracketed, one_rand, either, refusing, Long, listed}
-use Rattle.cga_form.proofs.Singles.{sign_token, opening, a_sign_is, a_keyword_is, as_token, whole_token, by_token, named_is, pick, no_more}
+use Rattle.cga_form.proofs.Door.{Long, Token, a_keyword_is, a_sign_is, as_token, bracketed, by_token, done, either}
+use Rattle.cga_form.proofs.Door.{listed, long_of, named_is, next, no_more, nothing, one_rand, one_token, opening}
+use Rattle.cga_form.proofs.Door.{pick, refusing, sign_token, token_first, whole_token}
+use Rattle.cga_form.specs.Laws.{After, Goes, Reads, Some_text}
+use Rattle.std.proofs.Common.{append-nil as nil_right}
 use Rattle.cga_parser.proofs.Layers.{expr_layer, term_layer, added_layer, scaled_layer, factor_layer, number_layer, named_layer, size_layer, group_layer, floor_layer, ceil_layer, rand_layer}
 
 pub comma : (n : ℕ) → Reads n n (as_token Usual (lexeme.Sign s.Comma)) (g.sign s.Comma)
@@ -44,7 +47,8 @@ abbrev pub round : Pieces
 round = sign s.LeftRound ∷ []
 
 -- a form in round brackets
-pub in_round : {A : Type 0} {w : A → Pieces} {q : Reader A} (n : ℕ) → Some_text (After round w) → ((m : ℕ) → n ≡ suc m → Goes m (suc m) round w q) → Reads n n w (enter (a_sign s.LeftRound) n >>= λ _. q)
+pub in_round : {A : Type 0} {w : A → Pieces} {q : Reader A} (n : ℕ) → Some_text (After round w)
+    → ((m : ℕ) → n ≡ suc m → Goes m (suc m) round w q) → Reads n n w (enter (a_sign s.LeftRound) n >>= λ _. q)
 in_round n some h = bracketed n (opening s.LeftRound refl refl) (λ i e. a_sign_is s.LeftRound i tt e) some h
 
 -- ---- the shortest texts
@@ -52,7 +56,8 @@ in_round n some h = bracketed n (opening s.LeftRound refl refl) (λ i e. a_sign_
 number_some : Some_text (After [] primary_pieces)
 number_some c = (lexeme.Number (of_int (pos 1)) ∷ [], v.Number (of_int (pos 1)), c, (plain (lexeme.Number (of_int (pos 1))) ∷ [], number_layer (of_int (pos 1)), token_first c Usual (lexeme.Number (of_int (pos 1))) [] [] c (nothing c)))
 
-pub some_as : {A B : Type 0} (v : A → Pieces) (w : B → Pieces) (f : A → B) → ((a : A) → w (f a) ≡ v a) → Some_text (After [] v) → Some_text (After [] w)
+pub some_as : {A B : Type 0} (v : A → Pieces) (w : B → Pieces) (f : A → B) → ((a : A) → w (f a) ≡ v a)
+    → Some_text (After [] v) → Some_text (After [] w)
 some_as v w f e s c = let t = s c in (t.0, f t.1, t.2, (t.3.0, e t.1 ∙ t.3.1, t.3.2))
 
 factor_some : Some_text (After [] factor_pieces)
@@ -75,7 +80,8 @@ IsInside n inside = (m : ℕ) → n ≡ suc m → Reads m m expr_pieces inside
 abbrev pub group_pieces : Expr → Pieces
 group_pieces e = grouped (expr_pieces e)
 
-group_rest : (m : ℕ) (p : Reader Expr) → Reads m m expr_pieces p → Goes m (suc m) round group_pieces (p >>= λ e. g.sign s.RightRound >> pure e)
+group_rest : (m : ℕ) (p : Reader Expr) → Reads m m expr_pieces p
+    → Goes m (suc m) round group_pieces (p >>= λ e. g.sign s.RightRound >> pure e)
 group_rest m p h = next h (λ e. next (close m) (λ _. done refl))
 
 pub group_reads : (n : ℕ) (inside : Reader Expr) → IsInside n inside → Reads n n group_pieces (g.group n inside)
@@ -103,7 +109,8 @@ head_pieces head.Scope = keyword k.Scope ∷ []
 head_pieces head.Floor = keyword k.Floor ∷ []
 head_pieces head.Ceil = keyword k.Ceil ∷ []
 
-named_head : (b : Bool) (name : List ℕ) (a : PrimaryHead) → unless b (head.Named name) ≡ Some a → (b ≡ false) × (head.Named name ≡ a)
+named_head : (b : Bool) (name : List ℕ) (a : PrimaryHead) → unless b (head.Named name) ≡ Some a
+    → (b ≡ false) × (head.Named name ≡ a)
 named_head true name a e = absurd (cc)
 named_head false name a e = (refl, cc)
 
@@ -164,11 +171,13 @@ scale_sign_is s.Star divide e = let q : false ≡ divide = cc in ap (λ b. if b 
 scale_sign_is s.Slash divide e = let q : true ≡ divide = cc in ap (λ b. if b then s.Slash else s.Star) q
 scale_sign_is _ divide e = absurd (cc)
 
-scale_is : (l : Lexeme) (divide : Bool) → a_scaling l ≡ Some divide → l ≡ lexeme.Sign (if divide then s.Slash else s.Star)
+scale_is : (l : Lexeme) (divide : Bool) → a_scaling l ≡ Some divide
+    → l ≡ lexeme.Sign (if divide then s.Slash else s.Star)
 scale_is (lexeme.Sign x) divide e = ap lexeme.Sign (scale_sign_is x divide e)
 scale_is _ divide e = absurd (cc)
 
-scale_counts : (n : ℕ) (divide : Bool) → counted (bracket_of (lexeme.Sign (if divide then s.Slash else s.Star))) n ≡ Some n
+scale_counts : (n : ℕ) (divide : Bool)
+    → counted (bracket_of (lexeme.Sign (if divide then s.Slash else s.Star))) n ≡ Some n
 scale_counts n true = refl
 scale_counts n false = refl
 

@@ -22,19 +22,19 @@ use Rattle.cga_form.specs.Tokens.{a_sign, a_keyword, a_whole, is_sign, unless}
 use Rattle.cga_form.specs.Words.{primary_head, size_axis, an_addition, a_scaling}
 use Rattle.cga_parser.specs.Grammar as g
 use Rattle.cga_form.specs.declared.heads.PrimaryHead.TheVariants as head
-use Rattle.cga_form.proofs.Written.{nil_right}
-use Rattle.cga_form.proofs.Forms.{turned}
+use Rattle.cga_form.proofs.Door.{Begun, Starts, after, all_of, begun_append, begun_as, begun_drawn, begun_named}
+use Rattle.cga_form.proofs.Door.{begun_nothing, begun_token, by_name, drew, ends, entered, missed, misses_each}
+use Rattle.cga_form.proofs.Door.{misses_end, misses_nothing, peek_no, peek_yes, plainly, starts_as, starts_drawn}
+use Rattle.cga_form.proofs.Door.{starts_token, took, turned, whole_leads, written_as}
+use Rattle.cga_form.specs.Laws.{Again, Leads, nothing}
+use Rattle.std.proofs.Common.{append-nil as nil_right}
 use Rattle.cga_parser.proofs.Exprs.{IsInside, group_pieces, rand_rest_pieces, scaled_long, scaled_reads, added_long, added_reads, expr_reads, no_inside, one_inside}
 use Rattle.cga_parser.proofs.Layers.{expr_layer, term_layer, added_layer, scaled_layer, factor_layer, number_layer, named_layer, size_layer, group_layer, floor_layer, ceil_layer, rand_layer}
-use Rattle.cga_form.proofs.Again.{Leads, Again, Begun, Starts, begun_token, starts_token, begun_drawn, starts_drawn, begun_named, begun_append, begun_as, starts_as, missed, misses_end, misses_each, nothing, misses_nothing, begun_nothing, ends, took, by_name, entered, drew, peek_yes, peek_no, after, plainly, written_as, all_of, whole_leads}
+pub use Rattle.std.proofs.lemmas.Bool.{or_parts as neither}
 
 -- the tokens that go on with an expression
 abbrev pub goes_on : Lexeme → Bool
 goes_on l = g.is_scaling l || g.is_addition l
-
-pub neither : (a b : Bool) → (a || b) ≡ false → (a ≡ false) × (b ≡ false)
-neither true b e = absurd (let q : true ≡ false = e in cc)
-neither false b e = (refl, e)
 
 pub no_scaling : (l : Lexeme) → goes_on l ≡ false → g.is_scaling l ≡ false
 no_scaling l e = (neither (g.is_scaling l) (g.is_addition l) e).0
@@ -77,7 +77,8 @@ pub record Spares (test : Lexeme → Bool) : Type 0 where
   pub ceil : test (lexeme.Keyword k.Ceil) ≡ false
   pub rand : test (lexeme.Keyword k.Rand) ≡ false
 
-layer_begun : {test : Lexeme → Bool} → Spares test → (q : Primary-F Primary Added Expr Factor Scaled Term) → Begun test (primary_pieces (roll-Primary q))
+layer_begun : {test : Lexeme → Bool} → Spares test → (q : Primary-F Primary Added Expr Factor Scaled Term)
+    → Begun test (primary_pieces (roll-Primary q))
 layer_begun h (layer.Number value) = begun_as (ap primary_pieces (rolls-Number value) ∙ number_layer value) (begun_token (h.number value))
 layer_begun h (layer.Named name) = begun_as (ap primary_pieces (rolls-Named name) ∙ named_layer name) (begun_named name (h.name name))
 layer_begun h (layer.ScopeSize a) = begun_as (ap primary_pieces (rolls-ScopeSize a) ∙ size_layer a) (begun_token h.scope)
@@ -89,17 +90,21 @@ layer_begun h (layer.Rand j low high steps) = begun_as (ap primary_pieces (rolls
 pub primary_begun : {test : Lexeme → Bool} → Spares test → (p : Primary) → Begun test (primary_pieces p)
 primary_begun {test} h p = subst (λ z. Begun test (primary_pieces z)) (roll-out-Primary p) (layer_begun h (out-Primary p))
 
-factor_begun_by : {test : Lexeme → Bool} → Spares test → test (lexeme.Sign s.Minus) ≡ false → (minus : Bool) (p : Primary) → Begun test (factor_pieces (record { minus = minus; primary = p }))
+factor_begun_by : {test : Lexeme → Bool} → Spares test → test (lexeme.Sign s.Minus) ≡ false
+    → (minus : Bool) (p : Primary) → Begun test (factor_pieces (record { minus = minus; primary = p }))
 factor_begun_by h m true p = begun_as (factor_layer true p) (begun_token m)
 factor_begun_by h m false p = begun_as (factor_layer false p) (primary_begun h p)
 
-pub factor_begun : {test : Lexeme → Bool} → Spares test → test (lexeme.Sign s.Minus) ≡ false → (f : Factor) → Begun test (factor_pieces f)
+pub factor_begun : {test : Lexeme → Bool} → Spares test → test (lexeme.Sign s.Minus) ≡ false → (f : Factor)
+    → Begun test (factor_pieces f)
 factor_begun h m f = factor_begun_by h m f.minus f.primary
 
-pub term_begun : {test : Lexeme → Bool} → Spares test → test (lexeme.Sign s.Minus) ≡ false → (t : Term) → Begun test (term_pieces t)
+pub term_begun : {test : Lexeme → Bool} → Spares test → test (lexeme.Sign s.Minus) ≡ false → (t : Term)
+    → Begun test (term_pieces t)
 term_begun {test} h m t = subst (λ z. Begun test (term_pieces z)) (roll-out-Term t) (begun_as (term_layer (out-Term t).first (out-Term t).rest) (begun_append (concat (map scaled_pieces (out-Term t).rest)) (factor_begun h m (out-Term t).first)))
 
-pub expr_begun : {test : Lexeme → Bool} → Spares test → test (lexeme.Sign s.Minus) ≡ false → (e : Expr) → Begun test (expr_pieces e)
+pub expr_begun : {test : Lexeme → Bool} → Spares test → test (lexeme.Sign s.Minus) ≡ false → (e : Expr)
+    → Begun test (expr_pieces e)
 expr_begun {test} h m e = subst (λ z. Begun test (expr_pieces z)) (roll-out-Expr e) (begun_as (expr_layer (out-Expr e).first (out-Expr e).rest) (begun_append (concat (map added_pieces (out-Expr e).rest)) (term_begun h m (out-Expr e).first)))
 
 abbrev pub AgainInside : ℕ → Reader Expr → Type 0
@@ -159,7 +164,8 @@ module _ (n : ℕ) (inside : Reader Expr) (h : AgainInside n inside) (r : IsInsi
   unfolding g.primary
   ceil_again e = written_as (ceil_layer e) (peek_no _ (missed (begun_token refl)) (peek_no _ (missed (begun_token refl)) (took primary_head head.Ceil refl (plainly (after _ e group_again misses_nothing ends)))))
 
-  drawn_again : (j : ℕ) (low high : Expr) (steps : ℕ) → Leads nothing (primary_pieces (v.Rand j low high steps)) (g.primary n inside) (v.Rand j low high steps)
+  drawn_again : (j : ℕ) (low high : Expr) (steps : ℕ)
+      → Leads nothing (primary_pieces (v.Rand j low high steps)) (g.primary n inside) (v.Rand j low high steps)
   unfolding g.primary
   drawn_again j low high steps =
       written_as (rand_layer j low high steps) (peek_no _ (missed (begun_drawn refl)) (peek_yes _ (starts_drawn refl)
@@ -180,7 +186,9 @@ module _ (n : ℕ) (inside : Reader Expr) (h : AgainInside n inside) (r : IsInsi
   pub primary_again : Again primary_pieces nothing (g.primary n inside)
   primary_again = record { all = λ p. subst At_primary (roll-out-Primary p) (primary_at (out-Primary p)) }
 
-  factor_at : (minus : Bool) (p : Primary) → Leads nothing (factor_pieces (record { minus = minus; primary = p })) (g.factor n inside) (record { minus = minus; primary = p })
+  factor_at : (minus : Bool) (p : Primary)
+      → Leads nothing (factor_pieces (record { minus = minus; primary = p })) (g.factor n inside)
+        (record { minus = minus; primary = p })
   unfolding g.factor
   factor_at true p = written_as (factor_layer true p) (peek_yes _ (starts_token refl) (took (a_sign s.Minus) tt refl (plainly (after _ p primary_again misses_nothing ends))))
   factor_at false p = written_as (factor_layer false p) (peek_no _ (missed (primary_begun minus_spares p)) (plainly (after _ p primary_again misses_nothing ends)))
@@ -188,7 +196,9 @@ module _ (n : ℕ) (inside : Reader Expr) (h : AgainInside n inside) (r : IsInsi
   pub factor_again : Again factor_pieces nothing (g.factor n inside)
   factor_again = record { all = λ f. factor_at f.minus f.primary }
 
-  scaled_at : (divide : Bool) (f : Factor) → Leads nothing (scaled_pieces (record { divide = divide; factor = f })) (g.scaled n inside) (record { divide = divide; factor = f })
+  scaled_at : (divide : Bool) (f : Factor)
+      → Leads nothing (scaled_pieces (record { divide = divide; factor = f })) (g.scaled n inside)
+        (record { divide = divide; factor = f })
   unfolding g.scaled
   scaled_at divide f = written_as (scaled_layer divide f) (took a_scaling divide (scale_read divide) (plainly (after _ f factor_again misses_nothing ends)))
 
@@ -196,19 +206,25 @@ module _ (n : ℕ) (inside : Reader Expr) (h : AgainInside n inside) (r : IsInsi
   scaled_again = record { all = λ f. scaled_at f.divide f.factor }
 
   -- the factors after the first
-  pub term_rest : (f : Factor) (rest : List Scaled) → Leads g.is_scaling (concat (map scaled_pieces rest)) (g.term_after n inside f) (roll-Term (record { first = f; rest = rest }))
+  pub term_rest : (f : Factor) (rest : List Scaled)
+      → Leads g.is_scaling (concat (map scaled_pieces rest)) (g.term_after n inside f)
+        (roll-Term (record { first = f; rest = rest }))
   term_rest f rest =
       plainly (all_of _ g.is_scaling rest scaled_again scaled_starts (λ a. begun_nothing) (turned scaled_pieces n g.is_scaling (g.scaled n inside) scaled_long (scaled_reads n inside r))
       misses_nothing (misses_end (λ l e. e)) ends)
 
-  term_at : (f : Factor) (rest : List Scaled) → Leads g.is_scaling (term_pieces (roll-Term (record { first = f; rest = rest }))) (g.term n inside) (roll-Term (record { first = f; rest = rest }))
+  term_at : (f : Factor) (rest : List Scaled)
+      → Leads g.is_scaling (term_pieces (roll-Term (record { first = f; rest = rest }))) (g.term n inside)
+        (roll-Term (record { first = f; rest = rest }))
   unfolding g.term
   term_at f rest = written_as (term_layer f rest) (after _ f factor_again misses_nothing (term_rest f rest))
 
   pub term_again : Again term_pieces g.is_scaling (g.term n inside)
   term_again = record { all = λ t. subst (λ z. Leads g.is_scaling (term_pieces z) (g.term n inside) z) (roll-out-Term t) (term_at (out-Term t).first (out-Term t).rest) }
 
-  added_at : (minus : Bool) (t : Term) → Leads g.is_scaling (added_pieces (roll-Added (record { minus = minus; term = t }))) (g.added n inside) (roll-Added (record { minus = minus; term = t }))
+  added_at : (minus : Bool) (t : Term)
+      → Leads g.is_scaling (added_pieces (roll-Added (record { minus = minus; term = t }))) (g.added n inside)
+        (roll-Added (record { minus = minus; term = t }))
   unfolding g.added
   added_at minus t = written_as (added_layer minus t) (took an_addition minus (add_read minus) (plainly (after _ t term_again (misses_end (λ l e. e)) ends)))
 
@@ -216,12 +232,16 @@ module _ (n : ℕ) (inside : Reader Expr) (h : AgainInside n inside) (r : IsInsi
   added_again = record { all = λ a. subst (λ z. Leads g.is_scaling (added_pieces z) (g.added n inside) z) (roll-out-Added a) (added_at (out-Added a).minus (out-Added a).term) }
 
   -- the terms after the first
-  pub expr_rest : (t : Term) (rest : List Added) → Leads goes_on (concat (map added_pieces rest) ++ []) (g.expr_after n inside t) (roll-Expr (record { first = t; rest = rest }))
+  pub expr_rest : (t : Term) (rest : List Added)
+      → Leads goes_on (concat (map added_pieces rest) ++ []) (g.expr_after n inside t)
+        (roll-Expr (record { first = t; rest = rest }))
   expr_rest t rest =
       all_of _ g.is_addition rest added_again added_starts added_begun (turned added_pieces n g.is_addition (g.added n inside) added_long (added_reads n inside r))
       (misses_end no_scaling) (misses_end no_addition) ends
 
-  expr_at : (t : Term) (rest : List Added) → Leads goes_on (expr_pieces (roll-Expr (record { first = t; rest = rest }))) (g.expr_layer n inside) (roll-Expr (record { first = t; rest = rest }))
+  expr_at : (t : Term) (rest : List Added)
+      → Leads goes_on (expr_pieces (roll-Expr (record { first = t; rest = rest }))) (g.expr_layer n inside)
+        (roll-Expr (record { first = t; rest = rest }))
   unfolding g.expr_layer
   expr_at t rest =
       written_as (expr_layer t rest ∙ ap (λ z. term_pieces t ++ z) (sym (nil_right (concat (map added_pieces rest)))))

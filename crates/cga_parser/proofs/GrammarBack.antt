@@ -31,7 +31,8 @@ SaysRule e = IsSaid (rule_of e)
 abbrev HasFew : Entry → Type 0
 HasFew e = e.priority ≤ 65535
 
-attributes_are : (lines : List Line) (all : List (Option BlockLine)) → Say block_pieces lines all → All SaysAttribute (attributes_of all)
+attributes_are : (lines : List Line) (all : List (Option BlockLine)) → Say block_pieces lines all
+    → All SaysAttribute (attributes_of all)
 unfolding Say attributes_of
 attributes_are [] [] h = All-nil SaysAttribute
 attributes_are (l ∷ ls) [] h = absurd h
@@ -42,7 +43,8 @@ attributes_are (l ∷ ls) (Some (says.Priority q) ∷ all) h = attributes_are ls
 attributes_are (l ∷ ls) (Some (says.Rule r) ∷ all) h = attributes_are ls all h.1
 attributes_are (l ∷ ls) (Some says.End ∷ all) h = attributes_are ls all h.1
 
-rules_are : (p : ℕ) (lines : List Line) (all : List (Option BlockLine)) → Say block_pieces lines all → All SaysRule (entries_from p all)
+rules_are : (p : ℕ) (lines : List Line) (all : List (Option BlockLine)) → Say block_pieces lines all
+    → All SaysRule (entries_from p all)
 unfolding Say entries_from
 rules_are p [] [] h = All-nil SaysRule
 rules_are p (l ∷ ls) [] h = absurd h
@@ -53,7 +55,8 @@ rules_are p (l ∷ ls) (Some (says.Priority q) ∷ all) h = rules_are q ls all h
 rules_are p (l ∷ ls) (Some (says.Rule r) ∷ all) h = All-cons SaysRule (record { priority = p; rule = r }) (entries_from p all) (l, h.0) (rules_are p ls all h.1)
 rules_are p (l ∷ ls) (Some says.End ∷ all) h = rules_are p ls all h.1
 
-few_are : (p : ℕ) (lines : List Line) (all : List (Option BlockLine)) → p ≤ 65535 → Say block_pieces lines all → All HasFew (entries_from p all)
+few_are : (p : ℕ) (lines : List Line) (all : List (Option BlockLine)) → p ≤ 65535 → Say block_pieces lines all
+    → All HasFew (entries_from p all)
 unfolding Say entries_from
 few_are p [] [] b h = All-nil HasFew
 few_are p (l ∷ ls) [] b h = absurd h
@@ -64,7 +67,8 @@ few_are p (l ∷ ls) (Some (says.Priority q) ∷ all) b h = let f = priority_bou
 few_are p (l ∷ ls) (Some (says.Rule r) ∷ all) b h = All-cons HasFew (record { priority = p; rule = r }) (entries_from p all) b (few_are p ls all b h.1)
 few_are p (l ∷ ls) (Some says.End ∷ all) b h = few_are p ls all b h.1
 
-said_spelled : (lines : List Line) (all : List (Option BlockLine)) → Say block_pieces lines all → IsSpelled (grammar_of all)
+said_spelled : (lines : List Line) (all : List (Option BlockLine)) → Say block_pieces lines all
+    → IsSpelled (grammar_of all)
 said_spelled lines all h = record { attributes = attributes_are lines all h; rules = rules_are 1 lines all h; priorities = few_are 1 lines all (omega arith) h }
 
 pub spelled : (lines : List Line) (grammar : Grammar) → GrammarTells lines (Ok grammar) → IsSpelled grammar
@@ -96,7 +100,8 @@ module _ (P : BlockLine → Type 0) (attribute : (a : Attribute) → SaysAttribu
   rules_all [] h = tt
   rules_all (e ∷ es) h = (h.0, rules_all es h.1)
 
-  section_all : (es : List Entry) (p : ℕ) (t : Bool) → p < 2 ^ 16 → Every (λ e. P (rule_of e)) es → Every P (if t then says.Priority p ∷ map rule_of (by_id es p) else [])
+  section_all : (es : List Entry) (p : ℕ) (t : Bool) → p < 2 ^ 16 → Every (λ e. P (rule_of e)) es
+      → Every P (if t then says.Priority p ∷ map rule_of (by_id es p) else [])
   section_all es p true b h = (priority p b, rules_all (by_id es p) (every_from (λ e. P (rule_of e)) (with_id es p) 0 (2 ^ 32) (λ id l. id_all (λ e. P (rule_of e)) es p id h)))
   section_all es p false b h = tt
 

@@ -10,6 +10,8 @@ use Rattle.cga_parser.specs.declared.block_line.BlockLine.TheVariants as says
 use Rattle.cga_parser.specs.BlockTells.{attributes_of, entries_from, grammar_of}
 use Rattle.cga_parser.specs.GrammarLines.{all_from, with_id, by_id, by_rank, rule_of, section, said_of, line_text, lines_text}
 use Rattle.cga_parser.proofs.Ranked.{Every, every_join, every_from, none_from}
+use Rattle.std.proofs.lemmas.Bool.{or_parts as parts}
+use Rattle.std.proofs.Common.{append-nil as nil_right}
 
 -- ---- the text
 
@@ -25,15 +27,12 @@ rules_join : (xs ys : List Entry) → map rule_of (xs ++ ys) ≡ map rule_of xs 
 rules_join [] ys = refl
 rules_join (e ∷ xs) ys = ap (λ z. rule_of e ∷ z) (rules_join xs ys)
 
-rules_text : (xs ys : List Entry) → lines_text (map rule_of (xs ++ ys)) ≡ lines_text (map rule_of xs) ++ lines_text (map rule_of ys)
+rules_text : (xs ys : List Entry)
+    → lines_text (map rule_of (xs ++ ys)) ≡ lines_text (map rule_of xs) ++ lines_text (map rule_of ys)
 rules_text xs ys = ap lines_text (rules_join xs ys) ∙ lines_join (map rule_of xs) (map rule_of ys)
 
 abbrev taken : Entry → Bool → List Entry
 taken e t = if t then e ∷ [] else []
-
-nil_right : {A : Type 0} (xs : List A) → xs ++ [] ≡ xs
-nil_right [] = refl
-nil_right (x ∷ xs) = ap (λ z. x ∷ z) (nil_right xs)
 
 taken_text : (e : Entry) (t : Bool) → lines_text (map rule_of (taken e t)) ≡ (if t then rule_line e.rule else [])
 taken_text e true = nil_right (rule_line e.rule)
@@ -46,7 +45,8 @@ id_text (e ∷ es) p id =
     ∙ ap (λ z. z ++ lines_text (map rule_of (with_id es p id))) (taken_text e (nat_eq e.priority p && nat_eq e.rule.id id))
     ∙ ap (λ z. (if nat_eq e.priority p && nat_eq e.rule.id id then rule_line e.rule else []) ++ z) (id_text es p id)
 
-ids_text : (es : List Entry) (p from n : ℕ) → lines_text (map rule_of (all_from (with_id es p) from n)) ≡ each_from (rules_with es p) from n
+ids_text : (es : List Entry) (p from n : ℕ)
+    → lines_text (map rule_of (all_from (with_id es p) from n)) ≡ each_from (rules_with es p) from n
 unfolding all_from each_from
 ids_text es p from zero = refl
 ids_text es p from (suc n) =
@@ -54,11 +54,14 @@ ids_text es p from (suc n) =
     ∙ ap (λ z. z ++ lines_text (map rule_of (all_from (with_id es p) (from + 1) n))) (id_text es p from)
     ∙ ap (λ z. rules_with es p from ++ z) (ids_text es p (from + 1) n)
 
-section_by : (es : List Entry) (p : ℕ) (t : Bool) → lines_text (if t then says.Priority p ∷ map rule_of (by_id es p) else []) ≡ (if t then priority_section es p else [])
+section_by : (es : List Entry) (p : ℕ) (t : Bool)
+    → lines_text (if t then says.Priority p ∷ map rule_of (by_id es p) else []) ≡
+      (if t then priority_section es p else [])
 section_by es p true = ap (λ z. line (line_text (says.Priority p)) ++ z) (ids_text es p 0 (2 ^ 32))
 section_by es p false = refl
 
-sections_text : (es : List Entry) (from n : ℕ) → lines_text (all_from (section es) from n) ≡ each_from (section_at es) from n
+sections_text : (es : List Entry) (from n : ℕ)
+    → lines_text (all_from (section es) from n) ≡ each_from (section_at es) from n
 unfolding all_from each_from
 sections_text es from zero = refl
 sections_text es from (suc n) =
@@ -66,7 +69,8 @@ sections_text es from (suc n) =
     ∙ ap (λ z. z ++ lines_text (all_from (section es) (from + 1) n)) (section_by es from (has (priorities es) from))
     ∙ ap (λ z. section_at es from ++ z) (sections_text es (from + 1) n)
 
-said_text : (g : Grammar) → lines_text (said_of g) ≡ attribute_lines g.attributes ++ each_from (section_at g.rules) 0 (2 ^ 16)
+said_text : (g : Grammar)
+    → lines_text (said_of g) ≡ attribute_lines g.attributes ++ each_from (section_at g.rules) 0 (2 ^ 16)
 said_text g =
     lines_join (map says.Attribute g.attributes) (all_from (section g.rules) 0 (2 ^ 16))
     ∙ ap (λ z. z ++ lines_text (all_from (section g.rules) 0 (2 ^ 16))) (attributes_text g.attributes)
@@ -82,17 +86,21 @@ whole_text g =
 abbrev somes : List BlockLine → List (Option BlockLine)
 somes bs = map Some bs
 
-attributes_first : (as' : List Attribute) (rest : List BlockLine) → attributes_of (somes (map says.Attribute as' ++ rest)) ≡ as' ++ attributes_of (somes rest)
+attributes_first : (as' : List Attribute) (rest : List BlockLine)
+    → attributes_of (somes (map says.Attribute as' ++ rest)) ≡ as' ++ attributes_of (somes rest)
 unfolding attributes_of
 attributes_first [] rest = refl
 attributes_first (a ∷ as') rest = ap (λ z. a ∷ z) (attributes_first as' rest)
 
-no_attribute : (es : List Entry) (rest : List BlockLine) → attributes_of (somes (map rule_of es ++ rest)) ≡ attributes_of (somes rest)
+no_attribute : (es : List Entry) (rest : List BlockLine)
+    → attributes_of (somes (map rule_of es ++ rest)) ≡ attributes_of (somes rest)
 unfolding attributes_of
 no_attribute [] rest = refl
 no_attribute (e ∷ es) rest = no_attribute es rest
 
-section_none : (es : List Entry) (p : ℕ) (rest : List BlockLine) (t : Bool) → attributes_of (somes ((if t then says.Priority p ∷ map rule_of (by_id es p) else []) ++ rest)) ≡ attributes_of (somes rest)
+section_none : (es : List Entry) (p : ℕ) (rest : List BlockLine) (t : Bool)
+    → attributes_of (somes ((if t then says.Priority p ∷ map rule_of (by_id es p) else []) ++ rest)) ≡ attributes_of
+      (somes rest)
 unfolding attributes_of
 section_none es p rest true = no_attribute (by_id es p) rest
 section_none es p rest false = refl
@@ -102,7 +110,8 @@ unfolding all_from attributes_of
 sections_none es from zero = refl
 sections_none es from (suc n) = section_none es from (all_from (section es) (from + 1) n) (has (priorities es) from) ∙ sections_none es (from + 1) n
 
-entries_first : (q : ℕ) (as' : List Attribute) (rest : List BlockLine) → entries_from q (somes (map says.Attribute as' ++ rest)) ≡ entries_from q (somes rest)
+entries_first : (q : ℕ) (as' : List Attribute) (rest : List BlockLine)
+    → entries_from q (somes (map says.Attribute as' ++ rest)) ≡ entries_from q (somes rest)
 unfolding entries_from
 entries_first q [] rest = refl
 entries_first q (a ∷ as') rest = entries_first q as' rest
@@ -110,7 +119,8 @@ entries_first q (a ∷ as') rest = entries_first q as' rest
 abbrev HasPriority : ℕ → Entry → Type 0
 HasPriority p e = e.priority ≡ p
 
-rules_said : (p : ℕ) (es : List Entry) (rest : List BlockLine) → Every (HasPriority p) es → entries_from p (somes (map rule_of es ++ rest)) ≡ es ++ entries_from p (somes rest)
+rules_said : (p : ℕ) (es : List Entry) (rest : List BlockLine) → Every (HasPriority p) es
+    → entries_from p (somes (map rule_of es ++ rest)) ≡ es ++ entries_from p (somes rest)
 unfolding entries_from
 rules_said p [] rest h = refl
 rules_said p (e ∷ es) rest h = ap (λ z. record { priority = z; rule = e.rule } ∷ entries_from p (somes (map rule_of es ++ rest))) (sym h.0) ∙ ap (λ z. e ∷ z) (rules_said p es rest h.1)
@@ -129,10 +139,6 @@ id_has (e ∷ es) p id =
     every_join (HasPriority p) (taken e (nat_eq e.priority p && nat_eq e.rule.id id)) (with_id es p id)
     (taken_has e p (nat_eq e.priority p && nat_eq e.rule.id id) (eq_of e.priority p (nat_eq e.rule.id id))) (id_has es p id)
 
-parts : (a b : Bool) → (a || b) ≡ false → (a ≡ false) × (b ≡ false)
-parts true b h = absurd (let q : true ≡ false = h in cc)
-parts false b h = (refl, h)
-
 id_none : (es : List Entry) (p id : ℕ) → has (priorities es) p ≡ false → with_id es p id ≡ []
 id_none [] p id h = refl
 id_none (e ∷ es) p id h =
@@ -146,14 +152,16 @@ unfolding entries_from
 section_said es p q rest true h = (p, rules_said p (by_id es p) rest (every_from (HasPriority p) (with_id es p) 0 (2 ^ 32) (λ id l. id_has es p id)))
 section_said es p q rest false h = (q, ap (λ z. z ++ entries_from q (somes rest)) (sym (none_from (with_id es p) 0 (2 ^ 32) (λ id. id_none es p id h))))
 
-sections_said : (es : List Entry) (q from n : ℕ) → entries_from q (somes (all_from (section es) from n)) ≡ all_from (by_id es) from n
+sections_said : (es : List Entry) (q from n : ℕ)
+    → entries_from q (somes (all_from (section es) from n)) ≡ all_from (by_id es) from n
 unfolding all_from entries_from
 sections_said es q from zero = refl
 sections_said es q from (suc n) =
     let h = section_said es from q (all_from (section es) (from + 1) n) (has (priorities es) from) refl in
     h.1 ∙ ap (λ z. by_id es from ++ z) (sections_said es h.0 (from + 1) n)
 
-pub said_grammar : (g : Grammar) → ◌≡◌ {A = Grammar} (record { attributes = g.attributes; rules = by_rank g.rules }) (grammar_of (somes (said_of g)))
+pub said_grammar : (g : Grammar)
+    → ◌≡◌ {A = Grammar} (record { attributes = g.attributes; rules = by_rank g.rules }) (grammar_of (somes (said_of g)))
 said_grammar g =
     let rest : List BlockLine = all_from (section g.rules) 0 (2 ^ 16) in
     let a : attributes_of (somes (said_of g)) ≡ g.attributes = attributes_first g.attributes rest ∙ ap (λ z. g.attributes ++ z) (sections_none g.rules 0 (2 ^ 16)) ∙ nil_right g.attributes in

@@ -1,5 +1,7 @@
 -- Items are read exactly.
-use Rattle.std.proofs.Common.{◌≡◌, ℕ, zero, suc, ◌≤◌, ◌==◌, inl, inr, nat_le, List, [], ◌∷◌, ◌++◌, map, length, append_assoc, Bool, true, false, Option, Some, None, refl, ap, sym, ◌∙◌, subst, if◌then◌else◌, arith, codes, pos}
+use Rattle.std.proofs.Common.{◌≡◌, ℕ, zero, suc, ◌≤◌, ◌==◌, inl, inr, nat_le, List, [], ◌∷◌, ◌++◌, map, length}
+use Rattle.std.proofs.Common.{append_assoc, Bool, true, false, Option, Some, None, refl, ap, sym, ◌∙◌, subst}
+use Rattle.std.proofs.Common.{if◌then◌else◌, arith, codes, pos}
 use Rattle.std.proofs.lemmas.Bool.{eqb-true}
 use Rattle.cga_fraction.specs.Rat.{Rat, of_int}
 use Rattle.cga_lexer.specs.declared.sign.Sign.TheVariants as s
@@ -28,44 +30,56 @@ use Rattle.cga_rule.specs.declared.item.Item.TheFolds.{fold-roll-Body, fold-roll
 use Rattle.cga_rule.specs.declared.item.Item.TheOpen as layer
 use Rattle.cga_syntax.specs.declared.print.space.Space.{Space}
 use Rattle.cga_syntax.specs.declared.print.space.Space.TheVariants.{Usual}
-use Rattle.cga_syntax.specs.Pieces.{Piece, token, turned, plain, number, never, sign, keyword, word, text, named, Pieces, concat, IsTurn, Writes, nonempty, separated, preceded, at_most, after_each, arguments, three, body_of, in_curly, axis_text, turn_keyword, solid_text, side_text, selector_pieces, size_pieces, expr_pieces, item_pieces, body_pieces, item_step, body_step}
+use Rattle.cga_syntax.specs.Pieces.{Piece, token, turned, plain, number, never, sign, keyword, word, text, named}
+use Rattle.cga_syntax.specs.Pieces.{Pieces, concat, IsTurn, Writes, nonempty, separated, preceded, at_most}
+use Rattle.cga_syntax.specs.Pieces.{after_each, arguments, three, body_of, in_curly, axis_text, turn_keyword}
+use Rattle.cga_syntax.specs.Pieces.{solid_text, side_text, selector_pieces, size_pieces, expr_pieces, item_pieces}
+use Rattle.cga_syntax.specs.Pieces.{body_pieces, item_step, body_step}
 use Rattle.cga_syntax.specs.Brackets.{counted, bracket_of}
 use Rattle.cga_form.specs.Reader.{Reader, ◌>>=◌, ◌>>◌, pure, refuse, single, enter, many, many_from}
 use Rattle.cga_form.specs.Tokens.{passing, a_sign, is_sign, is_keyword, unless, whole_of}
-use Rattle.cga_form.specs.Words.{item_head, item_keyword, a_relative, is_relative, turn_of, turned_by, a_turn, ninety_by, a_ninety, axis_of, an_axis, solid_of, a_solid, side_of, a_side, selector_of, a_selector}
+use Rattle.cga_form.specs.Words.{item_head, item_keyword, a_relative, is_relative, turn_of, turned_by, a_turn}
+use Rattle.cga_form.specs.Words.{ninety_by, a_ninety, axis_of, an_axis, solid_of, a_solid, side_of, a_side}
+use Rattle.cga_form.specs.Words.{selector_of, a_selector}
 use Rattle.cga_parser.specs.Grammar as g
 use Rattle.cga_parser.proofs.Threes.{threes_are}
 use Rattle.cga_form.specs.declared.heads.ItemHead.{ItemHead}
 use Rattle.cga_form.specs.declared.heads.ItemHead.TheVariants as head
 use Rattle.cga_form.specs.declared.heads.SelectorHead.{SelectorHead}
 use Rattle.cga_form.specs.declared.heads.SelectorHead.TheVariants as choice
-use Rattle.cga_form.proofs.Runs.{Some_text}
-use Rattle.cga_form.proofs.Written.{head_of, end_of, long_of, nil_right, plain_written, piece_written}
-use Rattle.cga_form.proofs.Forms.{After, Goes, Reads, next, done, Token, one_token, bracketed, either, refusing, Long, listed, limited, few_pieces, translated}
-use Rattle.cga_form.proofs.Singles.{sign_token, keyword_token, opening, a_sign_is, as_token, by_token, whole_token, whole_value, named_is, pick, no_more}
+use Rattle.cga_form.proofs.Door.{Long, Token, a_sign_is, as_token, bracketed, by_token, done, either, end_of}
+use Rattle.cga_form.proofs.Door.{few_pieces, head_of, keyword_token, limited, listed, long_of, named_is}
+use Rattle.cga_form.proofs.Door.{never_written, next, no_more, one_token, opening, pick, piece_written, plain_written}
+use Rattle.cga_form.proofs.Door.{refusing, sign_token, translated, whole_token, whole_value}
+use Rattle.cga_form.specs.Laws.{After, Goes, Reads, Some_text}
+use Rattle.std.proofs.Common.{append-nil as nil_right}
 use Rattle.cga_parser.proofs.Lists.{after_map, separated_is, preceded_is}
-use Rattle.cga_form.proofs.Again.{never_written}
 use Rattle.cga_parser.proofs.Exprs.{comma, close, round, in_round, some_as, expr_some, refused_expr, IsInside, inside_reads}
 
 -- ---- one layer of the pieces
 
-pub move_layer : (x y z : Expr) → item_pieces (i.Move x y z) ≡ keyword k.T ∷ three (expr_pieces x) (expr_pieces y) (expr_pieces z)
+pub move_layer : (x y z : Expr)
+    → item_pieces (i.Move x y z) ≡ keyword k.T ∷ three (expr_pieces x) (expr_pieces y) (expr_pieces z)
 unfolding item_pieces
 move_layer x y z = ap item_pieces (sym (rolls-Move x y z)) ∙ fold-roll-Item Pieces Pieces item_step body_step (layer.Move x y z)
 
-pub resize_layer : (x y z : Size) → item_pieces (i.Resize x y z) ≡ keyword k.S ∷ three (size_pieces x) (size_pieces y) (size_pieces z)
+pub resize_layer : (x y z : Size)
+    → item_pieces (i.Resize x y z) ≡ keyword k.S ∷ three (size_pieces x) (size_pieces y) (size_pieces z)
 unfolding item_pieces
 resize_layer x y z = ap item_pieces (sym (rolls-Resize x y z)) ∙ fold-roll-Item Pieces Pieces item_step body_step (layer.Resize x y z)
 
-pub rotate_layer : (a : Axis) (by : Turn) → item_pieces (i.Rotate a by) ≡ keyword (turn_keyword a) ∷ sign s.LeftRound ∷ turned by ∷ sign s.RightRound ∷ []
+pub rotate_layer : (a : Axis) (by : Turn)
+    → item_pieces (i.Rotate a by) ≡ keyword (turn_keyword a) ∷ sign s.LeftRound ∷ turned by ∷ sign s.RightRound ∷ []
 unfolding item_pieces
 rotate_layer a by = ap item_pieces (sym (rolls-Rotate a by)) ∙ fold-roll-Item Pieces Pieces item_step body_step (layer.Rotate a by)
 
-pub scoped_layer : (items : List Item) → item_pieces (i.Scoped items) ≡ sign s.LeftSquare ∷ nonempty (map item_pieces items) (sign s.RightSquare ∷ [])
+pub scoped_layer : (items : List Item)
+    → item_pieces (i.Scoped items) ≡ sign s.LeftSquare ∷ nonempty (map item_pieces items) (sign s.RightSquare ∷ [])
 unfolding item_pieces
 scoped_layer items = ap item_pieces (sym (rolls-Scoped items)) ∙ fold-roll-Item Pieces Pieces item_step body_step (layer.Scoped items)
 
-pub solid_layer : (p : Primitive) → item_pieces (i.Solid p) ≡ keyword k.I ∷ sign s.LeftRound ∷ text (solid_text p) ∷ sign s.RightRound ∷ []
+pub solid_layer : (p : Primitive)
+    → item_pieces (i.Solid p) ≡ keyword k.I ∷ sign s.LeftRound ∷ text (solid_text p) ∷ sign s.RightRound ∷ []
 unfolding item_pieces
 solid_layer p = ap item_pieces (sym (rolls-Solid p)) ∙ fold-roll-Item Pieces Pieces item_step body_step (layer.Solid p)
 
@@ -74,15 +88,20 @@ pub subdiv_layer : (a : Axis) (sizes : List Size) (bodies : List Body) →
 unfolding item_pieces body_pieces
 subdiv_layer a sizes bodies = ap item_pieces (sym (rolls-Subdiv a sizes bodies)) ∙ fold-roll-Item Pieces Pieces item_step body_step (layer.Subdiv a sizes bodies)
 
-pub repeat_layer : (a : Axis) (length : Expr) (body : Body) → item_pieces (i.Repeat a length body) ≡ keyword k.Repeat ∷ sign s.LeftRound ∷ text (axis_text a) ∷ sign s.Comma ∷ (expr_pieces length ++ (sign s.RightRound ∷ in_curly (body_pieces body)))
+pub repeat_layer : (a : Axis) (length : Expr) (body : Body)
+    → item_pieces (i.Repeat a length body) ≡ keyword k.Repeat ∷ sign s.LeftRound ∷ text (axis_text a) ∷ sign s.Comma ∷
+      (expr_pieces length ++ (sign s.RightRound ∷ in_curly (body_pieces body)))
 unfolding item_pieces body_pieces
 repeat_layer a length body = ap item_pieces (sym (rolls-Repeat a length body)) ∙ fold-roll-Item Pieces Pieces item_step body_step (layer.Repeat a length body)
 
-pub comp_layer : (x : Selector) (body : Body) → item_pieces (i.Comp x body) ≡ keyword k.Comp ∷ sign s.LeftRound ∷ (selector_pieces x ++ (sign s.RightRound ∷ in_curly (body_pieces body)))
+pub comp_layer : (x : Selector) (body : Body)
+    → item_pieces (i.Comp x body) ≡ keyword k.Comp ∷ sign s.LeftRound ∷
+      (selector_pieces x ++ (sign s.RightRound ∷ in_curly (body_pieces body)))
 unfolding item_pieces body_pieces
 comp_layer x body = ap item_pieces (sym (rolls-Comp x body)) ∙ fold-roll-Item Pieces Pieces item_step body_step (layer.Comp x body)
 
-pub child_layer : (name : List ℕ) (args : List Expr) → item_pieces (i.Child name args) ≡ named name ∷ arguments (map expr_pieces args)
+pub child_layer : (name : List ℕ) (args : List Expr)
+    → item_pieces (i.Child name args) ≡ named name ∷ arguments (map expr_pieces args)
 unfolding item_pieces
 child_layer name args = ap item_pieces (sym (rolls-Child name args)) ∙ fold-roll-Item Pieces Pieces item_step body_step (layer.Child name args)
 
@@ -108,7 +127,8 @@ turn_number turn.By90 = 90
 turn_number turn.By180 = 180
 turn_number turn.By270 = 270
 
-pick_turn : (n : ℕ) (x : Turn) (t : Bool) (rest : Option Turn) (a : Turn) → (n == turn_number x) ≡ t → (rest ≡ Some a → n ≡ turn_number a) → (if t then Some x else rest) ≡ Some a → n ≡ turn_number a
+pick_turn : (n : ℕ) (x : Turn) (t : Bool) (rest : Option Turn) (a : Turn) → (n == turn_number x) ≡ t
+    → (rest ≡ Some a → n ≡ turn_number a) → (if t then Some x else rest) ≡ Some a → n ≡ turn_number a
 pick_turn n x true rest a e h q = let p : x ≡ a = cc in eqb-true n (turn_number x) e ∙ ap turn_number p
 pick_turn n x false rest a e h q = h q
 
@@ -209,7 +229,8 @@ head_pieces head.Repeat = keyword k.Repeat ∷ []
 head_pieces head.Comp = keyword k.Comp ∷ []
 head_pieces (head.Child name) = named name ∷ []
 
-named_head : (b : Bool) (name : List ℕ) (a : ItemHead) → unless b (head.Child name) ≡ Some a → (b ≡ false) × (head.Child name ≡ a)
+named_head : (b : Bool) (name : List ℕ) (a : ItemHead) → unless b (head.Child name) ≡ Some a
+    → (b ≡ false) × (head.Child name ≡ a)
 named_head true name a e = absurd (cc)
 named_head false name a e = (refl, cc)
 
@@ -264,11 +285,13 @@ triple_rest {w = w} m p h =
     subst (Goes m (suc m) round (triple w)) (threes_are p)
     (next h (λ x. next (comma m) (λ _. next h (λ y. next (comma m) (λ _. next h (λ z. next (close m) (λ _. done (simp append_assoc))))))))
 
-pub move_reads : (n : ℕ) (inside : Reader Expr) → IsInside n inside → Reads n n (triple expr_pieces) (g.move_parts n inside)
+pub move_reads : (n : ℕ) (inside : Reader Expr) → IsInside n inside
+    → Reads n n (triple expr_pieces) (g.move_parts n inside)
 unfolding g.move_parts
 move_reads n inside h = in_round n (triple_rest 0 refuse (refused_expr 0)).some (λ m e. triple_rest m inside (h m e))
 
-pub resize_reads : (n : ℕ) (inside : Reader Expr) → IsInside n inside → Reads n n (triple size_pieces) (g.resize_parts n inside)
+pub resize_reads : (n : ℕ) (inside : Reader Expr) → IsInside n inside
+    → Reads n n (triple size_pieces) (g.resize_parts n inside)
 unfolding g.resize_parts
 resize_reads n inside h = in_round n (triple_rest 0 refuse (refusing size_some)).some (λ m e. triple_rest m (g.size n inside) (size_reads n m inside (h m e)))
 
@@ -288,13 +311,15 @@ turned_plainly turn.By180 = refl
 turned_plainly turn.By270 = inl refl
 
 -- one token written as the piece
-as_turn : (c : ℕ) (x : List Lexeme) (a : Turn) (d : ℕ) → Writes c (plain (number (turn_number a)) ∷ []) x d → Writes c (turn_pieces a) x d
+as_turn : (c : ℕ) (x : List Lexeme) (a : Turn) (d : ℕ) → Writes c (plain (number (turn_number a)) ∷ []) x d
+    → Writes c (turn_pieces a) x d
 as_turn c x a d w =
     let t = head_of c Usual (number (turn_number a)) [] x d w in
     let u = end_of c t.0 d t.2 in
     piece_written c (turned a) x d (subst (λ z. IsTurn a z) (sym (t.1 ∙ ap (λ z. number (turn_number a) ∷ z) u.0)) (turned_plainly a), u.1)
 
-as_minus : (c : ℕ) (x : List Lexeme) (u : Unit {0}) (d : ℕ) → Writes c (sign s.Minus ∷ plain (number 90) ∷ []) x d → Writes c (turn_pieces turn.By270) x d
+as_minus : (c : ℕ) (x : List Lexeme) (u : Unit {0}) (d : ℕ) → Writes c (sign s.Minus ∷ plain (number 90) ∷ []) x d
+    → Writes c (turn_pieces turn.By270) x d
 as_minus c x u d w =
     let t = head_of c Usual (lexeme.Sign s.Minus) (plain (number 90) ∷ []) x d w in
     let v = head_of c Usual (number 90) [] t.0 d t.2 in
@@ -333,14 +358,18 @@ further_size_pieces a = sign s.Comma ∷ size_pieces a
 pub further_size_long : Long further_size_pieces
 further_size_long c x a d w = long_of c Usual (lexeme.Sign s.Comma) (size_pieces a) x d w
 
-pub further_size_reads : (n m : ℕ) (p : Reader Expr) → Reads m m expr_pieces p → Reads m m further_size_pieces (g.further_size n p)
+pub further_size_reads : (n m : ℕ) (p : Reader Expr) → Reads m m expr_pieces p
+    → Reads m m further_size_pieces (g.further_size n p)
 unfolding g.further_size
 further_size_reads n m p h = next (comma m) (λ _. next (size_reads n m p h) (λ a. done refl))
 
 abbrev pub split_pieces : Axis × List Size → Pieces
 split_pieces p = sign s.LeftRound ∷ text (axis_text p.0) ∷ preceded (sign s.Comma) (map size_pieces p.1) (sign s.RightRound ∷ [])
 
-split_is : (a : Axis) (x : Size) (more : List Size) → split_pieces (a, x ∷ more) ≡ (((round ++ (text (axis_text a) ∷ [])) ++ further_size_pieces x) ++ concat (map further_size_pieces more)) ++ (sign s.RightRound ∷ [])
+split_is : (a : Axis) (x : Size) (more : List Size)
+    → split_pieces (a, x ∷ more) ≡
+      (((round ++ (text (axis_text a) ∷ [])) ++ further_size_pieces x) ++ concat (map further_size_pieces more)) ++
+      (sign s.RightRound ∷ [])
 split_is a x more = ap (λ z. sign s.LeftRound ∷ text (axis_text a) ∷ z) (preceded_is (sign s.Comma) size_pieces x more (sign s.RightRound ∷ [])) ∙ simp append_assoc
 
 split_rest : (n m : ℕ) (p : Reader Expr) → Reads m m expr_pieces p →
@@ -355,10 +384,13 @@ split_reads n inside h = in_round n (split_rest n 0 refuse (refused_expr 0)).som
 abbrev pub repeat_pieces : Axis × Expr → Pieces
 repeat_pieces p = sign s.LeftRound ∷ text (axis_text p.0) ∷ sign s.Comma ∷ (expr_pieces p.1 ++ (sign s.RightRound ∷ []))
 
-repeat_rest : (m : ℕ) (p : Reader Expr) → Reads m m expr_pieces p → Goes m (suc m) round repeat_pieces (single an_axis >>= λ a. g.sign s.Comma >> (p >>= λ e. g.sign s.RightRound >> pure (a, e)))
+repeat_rest : (m : ℕ) (p : Reader Expr) → Reads m m expr_pieces p
+    → Goes m (suc m) round repeat_pieces
+      (single an_axis >>= λ a. g.sign s.Comma >> (p >>= λ e. g.sign s.RightRound >> pure (a, e)))
 repeat_rest m p h = next (one_token (axis_token m)) (λ a. next (comma m) (λ _. next h (λ e. next (close m) (λ _. done refl))))
 
-pub repeat_reads : (n : ℕ) (inside : Reader Expr) → IsInside n inside → Reads n n repeat_pieces (g.repeat_parts n inside)
+pub repeat_reads : (n : ℕ) (inside : Reader Expr) → IsInside n inside
+    → Reads n n repeat_pieces (g.repeat_parts n inside)
 unfolding g.repeat_parts
 repeat_reads n inside h = in_round n (repeat_rest 0 refuse (refused_expr 0)).some (λ m e. repeat_rest m inside (h m e))
 
@@ -377,7 +409,8 @@ pub selector_reads : (m : ℕ) → Reads m m selector_pieces g.selector
 unfolding g.selector
 selector_reads m = next (one_token (choice_token m)) (selector_rest m)
 
-selector_part_rest : (m : ℕ) → Goes m (suc m) round selector_part_pieces (g.selector >>= λ a. g.sign s.RightRound >> pure a)
+selector_part_rest : (m : ℕ)
+    → Goes m (suc m) round selector_part_pieces (g.selector >>= λ a. g.sign s.RightRound >> pure a)
 selector_part_rest m = next (selector_reads m) (λ a. next (close m) (λ _. done refl))
 
 pub selector_part_reads : (n : ℕ) (inside : Reader Expr) → Reads n n selector_part_pieces (g.selector_part n inside)
@@ -392,7 +425,8 @@ further_argument_pieces a = sign s.Comma ∷ expr_pieces a
 pub further_argument_long : Long further_argument_pieces
 further_argument_long c x a d w = long_of c Usual (lexeme.Sign s.Comma) (expr_pieces a) x d w
 
-pub further_argument_reads : (n m : ℕ) (p : Reader Expr) → Reads m m expr_pieces p → Reads m m further_argument_pieces (g.further_argument n p)
+pub further_argument_reads : (n m : ℕ) (p : Reader Expr) → Reads m m expr_pieces p
+    → Reads m m further_argument_pieces (g.further_argument n p)
 unfolding g.further_argument
 further_argument_reads n m p h = next (comma m) (λ _. next h (λ a. done refl))
 
@@ -400,11 +434,14 @@ length_map : {A : Type 0} (w : A → Pieces) (xs : List A) → length (map w xs)
 length_map w [] = refl
 length_map w (x ∷ xs) = ap suc (length_map w xs)
 
-pub at_most_is : {A : Type 0} (most : ℕ) (p : Piece) (w : A → Pieces) (xs : List A) → at_most most p (map w xs) ≡ few_pieces most (λ a. p ∷ w a) xs
+pub at_most_is : {A : Type 0} (most : ℕ) (p : Piece) (w : A → Pieces) (xs : List A)
+    → at_most most p (map w xs) ≡ few_pieces most (λ a. p ∷ w a) xs
 at_most_is most p w xs = ap (λ n. if nat_le n most then after_each p (map w xs) else never ∷ []) (length_map w xs) ∙ ap (λ z. if nat_le (length xs) most then z else never ∷ []) (after_map p w xs)
 
 -- arguments, one and further ones
-pub arguments_is : {A : Type 0} (w : A → Pieces) (x : A) (more : List A) → arguments (map w (x ∷ more)) ≡ ((round ++ w x) ++ few_pieces 3 (λ a. sign s.Comma ∷ w a) more) ++ (sign s.RightRound ∷ [])
+pub arguments_is : {A : Type 0} (w : A → Pieces) (x : A) (more : List A)
+    → arguments (map w (x ∷ more)) ≡ ((round ++ w x) ++ few_pieces 3 (λ a. sign s.Comma ∷ w a) more) ++
+      (sign s.RightRound ∷ [])
 arguments_is w x more = ap (λ z. sign s.LeftRound ∷ (w x ++ (z ++ (sign s.RightRound ∷ [])))) (at_most_is 3 (sign s.Comma) w more) ∙ simp append_assoc
 
 abbrev pub arguments_pieces : List Expr → Pieces
@@ -414,11 +451,13 @@ arguments_rest : (n m : ℕ) (p : Reader Expr) → Reads m m expr_pieces p →
     Goes m (suc m) round arguments_pieces (p >>= λ e. many_from (is_sign s.Comma) (g.further_argument n p) 3 [] >>= λ more. g.sign s.RightRound >> pure (e ∷ more))
 arguments_rest n m p h = next h (λ e. next (limited (is_sign s.Comma) 3 (further_argument_reads n m p h)) (λ more. next (close m) (λ _. done (arguments_is expr_pieces e more))))
 
-some_arguments_reads : (n : ℕ) (inside : Reader Expr) → IsInside n inside → Reads n n arguments_pieces (g.some_arguments n inside)
+some_arguments_reads : (n : ℕ) (inside : Reader Expr) → IsInside n inside
+    → Reads n n arguments_pieces (g.some_arguments n inside)
 unfolding g.some_arguments
 some_arguments_reads n inside h = in_round n (arguments_rest n 0 refuse (refused_expr 0)).some (λ m e. arguments_rest n m inside (h m e))
 
-pub arguments_reads : (n : ℕ) (inside : Reader Expr) → IsInside n inside → Reads n n arguments_pieces (g.arguments n inside)
+pub arguments_reads : (n : ℕ) (inside : Reader Expr) → IsInside n inside
+    → Reads n n arguments_pieces (g.arguments n inside)
 unfolding g.arguments
 arguments_reads n inside h = either (is_sign s.LeftRound) (some_arguments_reads n inside h) (done refl)
 
@@ -432,12 +471,14 @@ solid_some c =
 pub refused_item : (m : ℕ) → Reads m m item_pieces refuse
 refused_item m = refusing solid_some
 
-named_long : (t : Bool) (c : ℕ) (name : List ℕ) (qs : Pieces) (x : List Lexeme) (d : ℕ) → Writes c ((if t then never else word name) ∷ qs) x d → 1 ≤ length x
+named_long : (t : Bool) (c : ℕ) (name : List ℕ) (qs : Pieces) (x : List Lexeme) (d : ℕ)
+    → Writes c ((if t then never else word name) ∷ qs) x d → 1 ≤ length x
 named_long true c name qs x d w = absurd (never_written c qs x d w)
 named_long false c name qs x d w = long_of c Usual (lexeme.Name name) qs x d w
 
 -- an item begins with a token
-item_long_by : (q : Item-F Item Body) (c : ℕ) (x : List Lexeme) (d : ℕ) → Writes c (item_pieces (roll-Item q)) x d → 1 ≤ length x
+item_long_by : (q : Item-F Item Body) (c : ℕ) (x : List Lexeme) (d : ℕ) → Writes c (item_pieces (roll-Item q)) x d
+    → 1 ≤ length x
 item_long_by (layer.Move x y z) c t d w = long_of c Usual _ _ t d (subst (λ ps. Writes c ps t d) (ap item_pieces (rolls-Move x y z) ∙ move_layer x y z) w)
 item_long_by (layer.Resize x y z) c t d w = long_of c Usual _ _ t d (subst (λ ps. Writes c ps t d) (ap item_pieces (rolls-Resize x y z) ∙ resize_layer x y z) w)
 item_long_by (layer.Rotate a by) c t d w = long_of c Usual _ _ t d (subst (λ ps. Writes c ps t d) (ap item_pieces (rolls-Rotate a by) ∙ rotate_layer a by) w)
@@ -452,7 +493,9 @@ pub item_long : Long item_pieces
 item_long c x a d w = item_long_by (out-Item a) c x d (subst (λ z. Writes c (item_pieces z) x d) (sym (roll-out-Item a)) w)
 
 -- one or more items
-items_reads : {w : List Item → Pieces} (m : ℕ) (p : Reader Item) → ((a : Item) (more : List Item) → w (a ∷ more) ≡ item_pieces a ++ concat (map item_pieces more)) → Reads m m item_pieces p → Reads m m w (g.items_by p)
+items_reads : {w : List Item → Pieces} (m : ℕ) (p : Reader Item)
+    → ((a : Item) (more : List Item) → w (a ∷ more) ≡ item_pieces a ++ concat (map item_pieces more))
+    → Reads m m item_pieces p → Reads m m w (g.items_by p)
 items_reads m p e h = next h (λ a. next (listed g.begins_item item_long h) (λ more. done (e a more)))
 
 abbrev pub some_pieces : List Item → Pieces
@@ -470,7 +513,8 @@ IsInnerItem n inner = (m : ℕ) → n ≡ suc m → Reads m m item_pieces inner
 abbrev pub scoped_pieces : List Item → Pieces
 scoped_pieces is = sign s.LeftSquare ∷ nonempty (map item_pieces is) (sign s.RightSquare ∷ [])
 
-pub scoped_is : (is : List Item) → scoped_pieces is ≡ ((sign s.LeftSquare ∷ []) ++ some_pieces is) ++ (sign s.RightSquare ∷ [])
+pub scoped_is : (is : List Item)
+    → scoped_pieces is ≡ ((sign s.LeftSquare ∷ []) ++ some_pieces is) ++ (sign s.RightSquare ∷ [])
 scoped_is [] = refl
 scoped_is (a ∷ more) = simp append_assoc
 
@@ -480,17 +524,22 @@ close_square n = one_token (sign_token Usual s.RightSquare n (suc n) refl refl)
 close_curly : (n : ℕ) → Reads n (suc n) (as_token Usual (lexeme.Sign s.RightCurly)) (g.sign s.RightCurly)
 close_curly n = one_token (sign_token Usual s.RightCurly n (suc n) refl refl)
 
-scoped_rest : (m : ℕ) (p : Reader Item) → Reads m m item_pieces p → Goes m (suc m) (sign s.LeftSquare ∷ []) scoped_pieces (g.items_by p >>= λ is. g.sign s.RightSquare >> pure is)
+scoped_rest : (m : ℕ) (p : Reader Item) → Reads m m item_pieces p
+    → Goes m (suc m) (sign s.LeftSquare ∷ []) scoped_pieces (g.items_by p >>= λ is. g.sign s.RightSquare >> pure is)
 scoped_rest m p h = next (items_reads {w = some_pieces} m p some_is h) (λ is. next (close_square m) (λ _. done (scoped_is is)))
 
 -- a form in curly brackets
-in_curly_brackets : {A : Type 0} {w : A → Pieces} {q : Reader A} (n : ℕ) → Some_text (After (sign s.LeftCurly ∷ []) w) → ((m : ℕ) → n ≡ suc m → Goes m (suc m) (sign s.LeftCurly ∷ []) w q) → Reads n n w (enter (a_sign s.LeftCurly) n >>= λ _. q)
+in_curly_brackets : {A : Type 0} {w : A → Pieces} {q : Reader A} (n : ℕ) → Some_text (After (sign s.LeftCurly ∷ []) w)
+    → ((m : ℕ) → n ≡ suc m → Goes m (suc m) (sign s.LeftCurly ∷ []) w q)
+    → Reads n n w (enter (a_sign s.LeftCurly) n >>= λ _. q)
 in_curly_brackets n some h = bracketed n (opening s.LeftCurly refl refl) (λ i e. a_sign_is s.LeftCurly i tt e) some h
 
 abbrev pub braced_body_pieces : Body → Pieces
 braced_body_pieces b = in_curly (body_pieces b)
 
-braced_body_rest : (m : ℕ) (p : Reader Item) → Reads m m item_pieces p → Goes m (suc m) (sign s.LeftCurly ∷ []) braced_body_pieces (g.body_by p >>= λ is. g.sign s.RightCurly >> pure (roll-Body (record { items = is })))
+braced_body_rest : (m : ℕ) (p : Reader Item) → Reads m m item_pieces p
+    → Goes m (suc m) (sign s.LeftCurly ∷ []) braced_body_pieces
+      (g.body_by p >>= λ is. g.sign s.RightCurly >> pure (roll-Body (record { items = is })))
 braced_body_rest m p h = next (body_reads m p h) (λ is. next (close_curly m) (λ _. done (ap in_curly (body_layer is))))
 
 abbrev pub further_body_pieces : Body → Pieces
@@ -499,14 +548,17 @@ further_body_pieces b = sign s.Bar ∷ body_pieces b
 pub further_body_long : Long further_body_pieces
 further_body_long c x a d w = long_of c Usual (lexeme.Sign s.Bar) (body_pieces a) x d w
 
-pub further_body_reads : (n m : ℕ) (inside : Reader Expr) (p : Reader Item) → Reads m m item_pieces p → Reads m m further_body_pieces (g.further_body n inside p)
+pub further_body_reads : (n m : ℕ) (inside : Reader Expr) (p : Reader Item) → Reads m m item_pieces p
+    → Reads m m further_body_pieces (g.further_body n inside p)
 unfolding g.further_body
 further_body_reads n m inside p h = next (one_token (sign_token Usual s.Bar m m refl refl)) (λ _. next (body_reads m p h) (λ is. done (ap (λ z. sign s.Bar ∷ z) (body_layer is))))
 
 abbrev pub braced_bodies_pieces : List Body → Pieces
 braced_bodies_pieces bs = sign s.LeftCurly ∷ separated (sign s.Bar) (map body_pieces bs) (sign s.RightCurly ∷ [])
 
-braced_bodies_is : (is : List Item) (more : List Body) → braced_bodies_pieces (roll-Body (record { items = is }) ∷ more) ≡ (((sign s.LeftCurly ∷ []) ++ list_pieces is) ++ concat (map further_body_pieces more)) ++ (sign s.RightCurly ∷ [])
+braced_bodies_is : (is : List Item) (more : List Body)
+    → braced_bodies_pieces (roll-Body (record { items = is }) ∷ more) ≡
+      (((sign s.LeftCurly ∷ []) ++ list_pieces is) ++ concat (map further_body_pieces more)) ++ (sign s.RightCurly ∷ [])
 braced_bodies_is is more =
     ap (λ z. sign s.LeftCurly ∷ z) (separated_is (sign s.Bar) body_pieces (roll-Body (record { items = is })) more (sign s.RightCurly ∷ []))
     ∙ ap (λ z. sign s.LeftCurly ∷ (z ++ (concat (map further_body_pieces more) ++ (sign s.RightCurly ∷ [])))) (body_layer is) ∙ simp append_assoc
@@ -516,7 +568,9 @@ braced_bodies_rest : (n m : ℕ) (inside : Reader Expr) (p : Reader Item) → Re
 braced_bodies_rest n m inside p h =
     next (body_reads m p h) (λ is. next (listed (is_sign s.Bar) further_body_long (further_body_reads n m inside p h)) (λ more. next (close_curly m) (λ _. done (braced_bodies_is is more))))
 
-pub subdiv_is : (a : Axis) (sizes : List Size) (bodies : List Body) → item_pieces (i.Subdiv a sizes bodies) ≡ (keyword k.Subdiv ∷ split_pieces (a, sizes)) ++ braced_bodies_pieces bodies
+pub subdiv_is : (a : Axis) (sizes : List Size) (bodies : List Body)
+    → item_pieces (i.Subdiv a sizes bodies) ≡ (keyword k.Subdiv ∷ split_pieces (a, sizes)) ++ braced_bodies_pieces
+      bodies
 subdiv_is a [] bodies = subdiv_layer a [] bodies
 subdiv_is a (x ∷ more) bodies = subdiv_layer a (x ∷ more) bodies ∙ simp append_assoc
 

@@ -23,7 +23,9 @@ use Rattle.cga_rule.specs.declared.item.Item.TheVariants as i
 use Rattle.cga_rule.specs.declared.item.Item.TheVariants.{rolls-Move, rolls-Resize, rolls-Rotate, rolls-Scoped, rolls-Solid, rolls-Subdiv, rolls-Repeat, rolls-Comp, rolls-Child}
 use Rattle.cga_rule.specs.declared.item.Item.TheOpen as layer
 use Rattle.cga_syntax.specs.declared.print.space.Space.TheVariants.{Usual}
-use Rattle.cga_syntax.specs.Pieces.{token, turned, plain, number, sign, keyword, text, Pieces, concat, IsTurn, Writes, axis_text, turn_keyword, solid_text, side_text, selector_pieces, size_pieces, expr_pieces, item_pieces, body_pieces}
+use Rattle.cga_syntax.specs.Pieces.{token, turned, plain, number, sign, keyword, text, Pieces, concat, IsTurn, Writes}
+use Rattle.cga_syntax.specs.Pieces.{axis_text, turn_keyword, solid_text, side_text, selector_pieces, size_pieces}
+use Rattle.cga_syntax.specs.Pieces.{expr_pieces, item_pieces, body_pieces}
 use Rattle.cga_form.specs.Reader.{Reader, at, refuse, begins}
 use Rattle.cga_form.specs.Tokens.{a_sign, a_keyword, is_sign, is_keyword, unless, a_whole}
 use Rattle.cga_form.specs.Words.{item_head, a_relative, is_relative, a_turn, a_ninety, an_axis, a_solid, a_side, a_selector}
@@ -31,13 +33,24 @@ use Rattle.cga_parser.specs.Grammar as g
 use Rattle.cga_parser.proofs.Threes.{threes_are}
 use Rattle.cga_form.specs.declared.heads.ItemHead.TheVariants as head
 use Rattle.cga_form.specs.declared.heads.SelectorHead.TheVariants as choice
-use Rattle.cga_form.proofs.Written.{nil_right, piece_of, plain_written}
-use Rattle.cga_form.proofs.Forms.{Reads, turned as unrolled}
+use Rattle.cga_form.proofs.Door.{Begun, Starts, after, all_of, begun_append, begun_as, begun_named, begun_token}
+use Rattle.cga_form.proofs.Door.{by_name, ends, entered, few_misses, few_of, missed, misses_each, misses_end}
+use Rattle.cga_form.proofs.Door.{misses_nothing, never_leads, peek_no, peek_yes, piece_of, plain_written, plainly}
+use Rattle.cga_form.proofs.Door.{starts_as, starts_named, starts_token, took, turned as unrolled, whole_leads}
+use Rattle.cga_form.proofs.Door.{written_as}
+use Rattle.cga_form.specs.Laws.{Again, Agrees, Leads, Reads, nothing}
+use Rattle.std.proofs.Common.{append-nil as nil_right}
 use Rattle.cga_parser.proofs.Lists.{separated_is, preceded_is}
 use Rattle.cga_parser.proofs.Exprs.{IsInside, inside_reads}
 use Rattle.cga_parser.proofs.ExprsAgain.{goes_on, Spares, expr_begun, AgainInside, inside_again, neither}
-use Rattle.cga_parser.proofs.Items.{move_layer, resize_layer, rotate_layer, scoped_layer, solid_layer, subdiv_layer, repeat_layer, comp_layer, child_layer, list_pieces, body_layer, turn_number, size_relative, size_absolute, triple, turn_pieces, turn_part_pieces, solid_pieces, further_size_pieces, further_size_long, further_size_reads, split_pieces, repeat_pieces, selector_part_pieces, further_argument_pieces, at_most_is, arguments_pieces, item_long, some_pieces, IsInnerItem, scoped_pieces, scoped_is, braced_body_pieces, further_body_pieces, further_body_long, further_body_reads, braced_bodies_pieces, subdiv_is, no_inner_item, one_inner_item, item_reads}
-use Rattle.cga_form.proofs.Again.{Agrees, Leads, Again, Begun, Starts, begun_token, starts_token, begun_named, starts_named, begun_append, begun_as, starts_as, missed, misses_end, misses_each, few_misses, nothing, misses_nothing, never_leads, ends, took, by_name, whole_leads, entered, peek_yes, peek_no, after, plainly, written_as, all_of, few_of}
+use Rattle.cga_parser.proofs.Items.{move_layer, resize_layer, rotate_layer, scoped_layer, solid_layer, subdiv_layer}
+use Rattle.cga_parser.proofs.Items.{repeat_layer, comp_layer, child_layer, list_pieces, body_layer, turn_number}
+use Rattle.cga_parser.proofs.Items.{size_relative, size_absolute, triple, turn_pieces, turn_part_pieces, solid_pieces}
+use Rattle.cga_parser.proofs.Items.{further_size_pieces, further_size_long, further_size_reads, split_pieces}
+use Rattle.cga_parser.proofs.Items.{repeat_pieces, selector_part_pieces, further_argument_pieces, at_most_is}
+use Rattle.cga_parser.proofs.Items.{arguments_pieces, item_long, some_pieces, IsInnerItem, scoped_pieces, scoped_is}
+use Rattle.cga_parser.proofs.Items.{braced_body_pieces, further_body_pieces, further_body_long, further_body_reads}
+use Rattle.cga_parser.proofs.Items.{braced_bodies_pieces, subdiv_is, no_inner_item, one_inner_item, item_reads}
 
 relative_spares : Spares is_relative
 relative_spares = record { number = λ v. refl; name = λ n. refl; bracket = refl; scope = refl; floor = refl; ceil = refl; rand = refl }
@@ -153,10 +166,12 @@ unfolding g.quarter_turn
 turn_minus =
     peek_yes _ (starts_token refl) (plainly (after {v = λ (_ : Unit {0}). sign s.Minus ∷ plain (number 90) ∷ []} _ tt (record { all = λ u. minus_again }) misses_nothing ends))
 
-written_plainly : (c : ℕ) (x : List Lexeme) (d : ℕ) (ls : List Lexeme) → x ≡ ls → c ≡ d → Writes c (map (token Usual) ls) x d
+written_plainly : (c : ℕ) (x : List Lexeme) (d : ℕ) (ls : List Lexeme) → x ≡ ls → c ≡ d
+    → Writes c (map (token Usual) ls) x d
 written_plainly c x d ls e q = subst (λ z. Writes c (map (token Usual) ls) z d) (sym e) (subst (λ m. Writes c (map (token Usual) ls) ls m) q (plain_written c ls))
 
-turn_at : (a : Turn) (c : ℕ) (x : List Lexeme) (d : ℕ) (r : List Lexeme) → IsTurn a x → c ≡ d → begins nothing r ≡ false → Agrees (g.quarter_turn (at (x ++ r) c)) a (at r d)
+turn_at : (a : Turn) (c : ℕ) (x : List Lexeme) (d : ℕ) (r : List Lexeme) → IsTurn a x → c ≡ d → begins nothing r ≡ false
+    → Agrees (g.quarter_turn (at (x ++ r) c)) a (at r d)
 turn_at turn.By0 c x d r h q e = (turn_plainly turn.By0).leads c x d r (written_plainly c x d (number 0 ∷ []) h q) e
 turn_at turn.By90 c x d r h q e = (turn_plainly turn.By90).leads c x d r (written_plainly c x d (number 90 ∷ []) h q) e
 turn_at turn.By180 c x d r h q e = (turn_plainly turn.By180).leads c x d r (written_plainly c x d (number 180 ∷ []) h q) e
@@ -183,10 +198,12 @@ selector_again = record { all = selector_at }
 abbrev pub AgainInnerItem : ℕ → Reader Item → Type 0
 AgainInnerItem n inner = (m : ℕ) → n ≡ suc m → Again item_pieces with_bracket inner
 
-repeat_is : (a : Axis) (x : Expr) (body : Body) → item_pieces (i.Repeat a x body) ≡ keyword k.Repeat ∷ (repeat_pieces (a, x) ++ braced_body_pieces body)
+repeat_is : (a : Axis) (x : Expr) (body : Body)
+    → item_pieces (i.Repeat a x body) ≡ keyword k.Repeat ∷ (repeat_pieces (a, x) ++ braced_body_pieces body)
 repeat_is a x body = repeat_layer a x body ∙ simp append_assoc
 
-comp_is : (x : Selector) (body : Body) → item_pieces (i.Comp x body) ≡ keyword k.Comp ∷ (selector_part_pieces x ++ braced_body_pieces body)
+comp_is : (x : Selector) (body : Body)
+    → item_pieces (i.Comp x body) ≡ keyword k.Comp ∷ (selector_part_pieces x ++ braced_body_pieces body)
 comp_is x body = comp_layer x body ∙ simp append_assoc
 
 -- ---- lists of items
@@ -199,7 +216,8 @@ stops_item l e = (neither (with_bracket l) (g.begins_item l) e).1
 
 module _ (m : ℕ) (p : Reader Item) (h : Again item_pieces with_bracket p) (r : Reads m m item_pieces p) where
   -- the items after the first
-  items_rest : (a : Item) (more : List Item) → Leads with_item (item_pieces a ++ (concat (map item_pieces more) ++ [])) (g.items_by p) (a ∷ more)
+  items_rest : (a : Item) (more : List Item)
+      → Leads with_item (item_pieces a ++ (concat (map item_pieces more) ++ [])) (g.items_by p) (a ∷ more)
   items_rest a more =
       after _ a h (misses_each more (item_begun bracket_spares) (misses_end stops_bracket))
       (all_of _ g.begins_item more h item_starts (item_begun bracket_spares) (unrolled item_pieces m g.begins_item p item_long r) (misses_end stops_bracket) (misses_end stops_item) ends)
@@ -256,7 +274,8 @@ module _ (n : ℕ) (inside : Reader Expr) (h : AgainInside n inside) (r : IsInsi
   unfolding g.further_size
   further_size_again m e = record { all = λ a. took (a_sign s.Comma) tt refl (plainly (after _ a (size_again m e) (misses_end (λ l q. q)) ends)) }
 
-  split_at : (a : Axis) (sizes : List Size) → Leads nothing (split_pieces (a, sizes)) (g.split_parts n inside) (a, sizes)
+  split_at : (a : Axis) (sizes : List Size)
+      → Leads nothing (split_pieces (a, sizes)) (g.split_parts n inside) (a, sizes)
   unfolding g.split_parts
   split_at a [] = entered (a_sign s.LeftRound) n refl (λ m e. took an_axis a (axis_read a) never_leads)
   split_at a (x ∷ more) =
@@ -282,7 +301,8 @@ module _ (n : ℕ) (inside : Reader Expr) (h : AgainInside n inside) (r : IsInsi
   unfolding g.further_argument
   further_argument_again m e = record { all = λ a. took (a_sign s.Comma) tt refl (plainly (after _ a (h m e) (misses_end (λ l q. q)) ends)) }
 
-  some_arguments_at : (x : Expr) (more : List Expr) → Leads with_bracket (arguments_pieces (x ∷ more)) (g.some_arguments n inside) (x ∷ more)
+  some_arguments_at : (x : Expr) (more : List Expr)
+      → Leads with_bracket (arguments_pieces (x ∷ more)) (g.some_arguments n inside) (x ∷ more)
   unfolding g.some_arguments
   some_arguments_at x more =
       written_as (ap (λ z. sign s.LeftRound ∷ (expr_pieces x ++ (z ++ (sign s.RightRound ∷ [])))) (at_most_is 3 (sign s.Comma) expr_pieces more))
@@ -302,7 +322,9 @@ module _ (n : ℕ) (inside : Reader Expr) (h : AgainInside n inside) (r : IsInsi
     unfolding g.scoped
     scoped_again = record { all = λ is. written_as (scoped_is is) (entered (a_sign s.LeftSquare) n refl (λ m e. after _ is (items_again m inner (hi m e) (ri m e)) (missed (begun_token refl)) (took (a_sign s.RightSquare) tt refl ends))) }
 
-    braced_body_at : (is : List Item) → Leads nothing (braced_body_pieces (roll-Body (record { items = is }))) (g.braced_body n inside inner) (roll-Body (record { items = is }))
+    braced_body_at : (is : List Item)
+        → Leads nothing (braced_body_pieces (roll-Body (record { items = is }))) (g.braced_body n inside inner)
+          (roll-Body (record { items = is }))
     unfolding g.braced_body
     braced_body_at is =
         written_as (ap (λ z. sign s.LeftCurly ∷ (z ++ (sign s.RightCurly ∷ []))) (body_layer is))
@@ -311,7 +333,9 @@ module _ (n : ℕ) (inside : Reader Expr) (h : AgainInside n inside) (r : IsInsi
     braced_body_again : Again braced_body_pieces nothing (g.braced_body n inside inner)
     braced_body_again = record { all = λ b. subst (λ z. Leads nothing (braced_body_pieces z) (g.braced_body n inside inner) z) (roll-out-Body b) (braced_body_at (out-Body b).items) }
 
-    further_body_at : (m : ℕ) → n ≡ suc m → (is : List Item) → Leads with_item (further_body_pieces (roll-Body (record { items = is }))) (g.further_body n inside inner) (roll-Body (record { items = is }))
+    further_body_at : (m : ℕ) → n ≡ suc m → (is : List Item)
+        → Leads with_item (further_body_pieces (roll-Body (record { items = is }))) (g.further_body n inside inner)
+          (roll-Body (record { items = is }))
     unfolding g.further_body
     further_body_at m e is =
         written_as (ap (λ z. sign s.Bar ∷ z) (body_layer is)) (took (a_sign s.Bar) tt refl (plainly (after _ is (body_again m inner (hi m e) (ri m e)) (misses_end (λ l q. q)) ends)))
@@ -319,7 +343,9 @@ module _ (n : ℕ) (inside : Reader Expr) (h : AgainInside n inside) (r : IsInsi
     further_body_again : (m : ℕ) → n ≡ suc m → Again further_body_pieces with_item (g.further_body n inside inner)
     further_body_again m e = record { all = λ b. subst (λ z. Leads with_item (further_body_pieces z) (g.further_body n inside inner) z) (roll-out-Body b) (further_body_at m e (out-Body b).items) }
 
-    braced_bodies_of : (is : List Item) (more : List Body) → Leads nothing (braced_bodies_pieces (roll-Body (record { items = is }) ∷ more)) (g.braced_bodies n inside inner) (roll-Body (record { items = is }) ∷ more)
+    braced_bodies_of : (is : List Item) (more : List Body)
+        → Leads nothing (braced_bodies_pieces (roll-Body (record { items = is }) ∷ more))
+          (g.braced_bodies n inside inner) (roll-Body (record { items = is }) ∷ more)
     unfolding g.braced_bodies
     braced_bodies_of is more =
         written_as (ap (λ z. sign s.LeftCurly ∷ z) (separated_is (sign s.Bar) body_pieces (roll-Body (record { items = is })) more (sign s.RightCurly ∷ [])) ∙ ap (λ z. sign s.LeftCurly ∷ (z ++ (concat (map further_body_pieces more) ++ (sign s.RightCurly ∷ [])))) (body_layer is))

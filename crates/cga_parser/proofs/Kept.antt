@@ -13,7 +13,8 @@ module _ {A : Type 0} (most : ℕ) (xs : List A) where
   none_by false = refl
 
   -- a list that is not full
-  one_by : (x : A) (t : Bool) → nat_lt (length xs) most ≡ t → with_room most (take most xs) (x ∷ []) ≡ take most (xs ++ x ∷ [])
+  one_by : (x : A) (t : Bool) → nat_lt (length xs) most ≡ t
+      → with_room most (take most xs) (x ∷ []) ≡ take most (xs ++ x ∷ [])
   one_by x true e =
       let few : length xs < most = grind (arith, nat_tests) in
       let all : take most xs ≡ xs = take_all most xs (omega arith) in
@@ -29,7 +30,8 @@ module _ {A : Type 0} (most : ℕ) (xs : List A) where
       ∙ sym (take-append-le most xs (x ∷ []) many)
 
 -- what one more line adds is kept where there is room
-pub kept_more : {A : Type 0} (most : ℕ) (xs more : List A) → length more ≤ 1 → with_room most (take most xs) more ≡ take most (xs ++ more)
+pub kept_more : {A : Type 0} (most : ℕ) (xs more : List A) → length more ≤ 1
+    → with_room most (take most xs) more ≡ take most (xs ++ more)
 kept_more most xs [] h = none_by most (take most xs) (nat_lt (length (take most xs)) most) ∙ ap (take most) (sym (append-nil xs))
 kept_more most xs (x ∷ []) h = one_by most xs x (nat_lt (length xs) most) refl
 kept_more most xs (x ∷ y ∷ more) h = absurd (omega arith)
@@ -39,5 +41,6 @@ pub all_kept : (g : Grammar) → length g.rules ≤ 513 → length g.attributes 
 all_kept g r a = ap (λ z. record { attributes = z; rules = take 513 g.rules }) (take_all 129 g.attributes a) ∙ ap (λ z. record { attributes = g.attributes; rules = z }) (take_all 513 g.rules r)
 
 -- what a reader gives is what the lines tell, cut
-pub told_whole : (lines : List Line) (given : Grammar) → GrammarKept lines (Ok given) → (whole : Grammar) × GrammarTells lines (Ok whole) × (given ≡ kept whole)
+pub told_whole : (lines : List Line) (given : Grammar) → GrammarKept lines (Ok given)
+    → (whole : Grammar) × GrammarTells lines (Ok whole) × (given ≡ kept whole)
 told_whole lines given h = (grammar_of h.0, (h.0, h.1, refl), h.2)

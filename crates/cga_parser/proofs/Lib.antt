@@ -1,30 +1,31 @@
-pub mod Layers
-pub mod Exprs
-pub mod ExprsAgain
-pub mod Lists
-pub mod Conds
-pub mod CondsAgain
-pub mod Threes
-pub mod Items
-pub mod ItemsAgain
-pub mod Rules
-pub mod RulesAgain
-pub mod Factors
-pub mod RandSteps
-pub mod OneByOne
-pub mod Loops
-pub mod Gained
-pub mod Listings
-pub mod RuleListings
-pub mod Blocks
-pub mod BlocksAgain
-pub mod Ends
-pub mod ReadBack
-pub mod Printable
-pub mod LinesBack
-pub mod Ranked
-pub mod GrammarLines
-pub mod GrammarBack
-pub mod AreForms
-pub mod Additions
-pub mod Kept
+mod Layers
+mod Exprs
+mod ExprsAgain
+mod Lists
+mod Conds
+mod CondsAgain
+mod Threes
+mod Items
+mod ItemsAgain
+mod Rules
+mod RulesAgain
+mod Factors
+mod RandSteps
+mod OneByOne
+mod Loops
+mod Gained
+mod Listings
+mod RuleListings
+mod Blocks
+mod BlocksAgain
+mod Ends
+mod ReadBack
+mod Printable
+mod LinesBack
+mod Ranked
+mod GrammarLines
+mod GrammarBack
+mod AreForms
+mod Additions
+mod Kept
+pub mod Door

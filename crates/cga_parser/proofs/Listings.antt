@@ -8,7 +8,10 @@ use Rattle.cga_form.specs.Tokens.{is_keyword}
 use Rattle.cga_syntax.specs.Pieces.{scaled_pieces, added_pieces}
 use Rattle.cga_parser.specs.Grammar as g
 use Rattle.cga_syntax.specs.Pieces.{item_pieces}
-use Rattle.cga_parser.proofs.Items.{further_size_pieces, further_size_long, further_size_reads, further_argument_pieces, further_argument_long, further_argument_reads, item_long, item_reads, inner_item_reads, further_body_pieces, further_body_long, further_body_reads}
+use Rattle.cga_parser.proofs.Items.{further_size_pieces, further_size_long, further_size_reads}
+use Rattle.cga_parser.proofs.Items.{further_argument_pieces, further_argument_long, further_argument_reads, item_long}
+use Rattle.cga_parser.proofs.Items.{item_reads, inner_item_reads, further_body_pieces, further_body_long}
+use Rattle.cga_parser.proofs.Items.{further_body_reads}
 use Rattle.cga_parser.proofs.Loops.{Listing}
 use Rattle.cga_parser.proofs.Conds.{inner_reads, further_test_pieces, further_test_long, further_test_reads, further_conj_pieces, further_conj_long, further_conj_reads}
 use Rattle.cga_parser.proofs.Exprs.{inside_reads, scaled_long, scaled_reads, added_long, added_reads}
@@ -38,16 +41,22 @@ argument_listing n h = record { long = further_argument_long; reads = further_ar
 pub item_listing : (n : ℕ) → Listing n item_pieces (g.item n)
 item_listing n = record { long = item_long; reads = item_reads n }
 
-pub body_listing : (n : ℕ) → 0 < n → Listing (n - 1) further_body_pieces (g.further_body n (g.inside_of n) (g.inner_item n))
+pub body_listing : (n : ℕ) → 0 < n
+    → Listing (n - 1) further_body_pieces (g.further_body n (g.inside_of n) (g.inner_item n))
 body_listing n h = record { long = further_body_long; reads = further_body_reads n (n - 1) (g.inside_of n) (g.inner_item n) (inner_item_reads n (n - 1) (before n h)) }
 
 -- ---- one or more of a condition
 
-pub conj_is : (n : ℕ) (inner : Reader Cond) (i : Input) → g.conj n inner i ≡ and_then (g.one_test n inner i) (λ a. many (is_keyword k.And) (g.further_test n inner) >>= λ more. pure (roll-Conj (record { tests = a ∷ more })))
+pub conj_is : (n : ℕ) (inner : Reader Cond) (i : Input)
+    → g.conj n inner i ≡ and_then (g.one_test n inner i)
+      (λ a. many (is_keyword k.And) (g.further_test n inner) >>= λ more. pure (roll-Conj (record { tests = a ∷ more })))
 unfolding g.conj
 conj_is n inner i = refl
 
-pub cond_is : (n : ℕ) (i : Input) → g.cond n i ≡ and_then (g.conj n (g.inner_of n) i) (λ a. many (is_keyword k.Or) (g.further_conj n (g.inner_of n)) >>= λ more. pure (roll-Cond (record { conjs = a ∷ more })))
+pub cond_is : (n : ℕ) (i : Input)
+    → g.cond n i ≡ and_then (g.conj n (g.inner_of n) i)
+      (λ a. many (is_keyword k.Or) (g.further_conj n (g.inner_of n)) >>= λ more. pure
+      (roll-Cond (record { conjs = a ∷ more })))
 unfolding g.cond g.cond_layer
 cond_is zero i = refl
 cond_is (suc n) i = refl

@@ -13,15 +13,19 @@ use Rattle.cga_parser.specs.Grammar.{sign}
 use Rattle.cga_parser.specs.Portions.{rand_steps}
 
 module _ {B : Type 0} (b : Reader ℕ) (d : Reader (Unit {0})) (h : ℕ → B) where
-  by_end : (n : ℕ) (w : ReadResult (Unit {0})) → and_then w (λ _. pure (h n)) ≡ and_then (and_then w (λ _. pure n)) (λ n. pure (h n))
+  by_end : (n : ℕ) (w : ReadResult (Unit {0}))
+      → and_then w (λ _. pure (h n)) ≡ and_then (and_then w (λ _. pure n)) (λ n. pure (h n))
   by_end n (Ok p) = refl
   by_end n (Err e) = refl
 
-  by_number : (v : ReadResult ℕ) → and_then v (λ n. d >> pure (h n)) ≡ and_then (and_then v (λ n. d >> pure n)) (λ n. pure (h n))
+  by_number : (v : ReadResult ℕ)
+      → and_then v (λ n. d >> pure (h n)) ≡ and_then (and_then v (λ n. d >> pure n)) (λ n. pure (h n))
   by_number (Ok p) = by_end p.0 (d p.1)
   by_number (Err e) = refl
 
-  by_sign : (u : ReadResult (Unit {0})) → and_then u (λ _. b >>= λ n. d >> pure (h n)) ≡ and_then (and_then u (λ _. b >>= λ n. d >> pure n)) (λ n. pure (h n))
+  by_sign : (u : ReadResult (Unit {0}))
+      → and_then u (λ _. b >>= λ n. d >> pure (h n)) ≡ and_then (and_then u (λ _. b >>= λ n. d >> pure n))
+        (λ n. pure (h n))
   by_sign (Ok p) = by_number (b p.1)
   by_sign (Err e) = refl
 
@@ -32,6 +36,8 @@ fails_then (stop.Fault f) o k h = ap (λ z. and_then z k) h
 abbrev with_ends : Expr → Expr → ℕ → Expr × Expr × ℕ
 with_ends low high n = (low, high, n)
 
-pub rand_fails : (low high : Expr) (i : Input) (e : Stop Fault) → Fails e (rand_steps i) → Fails {A = Expr × Expr × ℕ} e (and_then (sign s.Comma i) (λ _. single (a_whole 1 most_steps) >>= λ n. sign s.RightRound >> pure (low, high, n)))
+pub rand_fails : (low high : Expr) (i : Input) (e : Stop Fault) → Fails e (rand_steps i)
+    → Fails {A = Expr × Expr × ℕ} e
+      (and_then (sign s.Comma i) (λ _. single (a_whole 1 most_steps) >>= λ n. sign s.RightRound >> pure (low, high, n)))
 rand_fails low high i e f =
     subst (Fails {A = Expr × Expr × ℕ} e) (sym (by_sign (single (a_whole 1 most_steps)) (sign s.RightRound) (with_ends low high) (sign s.Comma i))) (fails_then e (rand_steps i) (λ n. pure (with_ends low high n)) f)

@@ -5,6 +5,8 @@ use Rattle.std.proofs.lemmas.Bool.Decides.{nat_tests}
 use Rattle.std.proofs.lemmas.List.Sorted.{IsPermutation-refl, IsPermutation-sym, IsPermutation-trans, IsPermutation-cons, IsPermutation-append_left, IsPermutation-append_right, IsPermutation-middle}
 use Rattle.cga_rule.specs.declared.grammar.Entry.{Entry}
 use Rattle.cga_parser.specs.GrammarLines.{all_from, with_id, by_id, by_rank}
+use Rattle.std.proofs.lemmas.Bool.{and_right as not_both}
+use Rattle.cga_fraction.proofs.Door.{nat_eq-same as same}
 
 -- ---- each of a list
 
@@ -17,7 +19,8 @@ module _ {A : Type 0} (P : A → Type 0) where
   every_join [] ys h k = k
   every_join (x ∷ xs) ys h k = (h.0, every_join xs ys h.1 k)
 
-  pub every_from : (f : ℕ → List A) (from n : ℕ) → ((q : ℕ) → q < from + n → Every P (f q)) → Every P (all_from f from n)
+  pub every_from : (f : ℕ → List A) (from n : ℕ) → ((q : ℕ) → q < from + n → Every P (f q))
+      → Every P (all_from f from n)
   unfolding all_from
   every_from f from zero h = tt
   every_from f from (suc n) h = every_join (f from) (all_from f (from + 1) n) (h from (omega arith)) (every_from f (from + 1) n (λ q l. h q (omega arith)))
@@ -47,7 +50,9 @@ module _ {A : Type 0} (x : A) (k : ℕ) (f g : ℕ → List A) (more : More x k 
   past : (q : ℕ) → k + 1 ≤ q → nat_eq k q ≡ false
   past q l = grind (arith, nat_tests)
 
-  more_by : (from n : ℕ) (t : Bool) → nat_eq k from ≡ t → (t ≡ false → IsPermutation (x ∷ all_from f (from + 1) n) (all_from g (from + 1) n)) → IsPermutation (x ∷ (f from ++ all_from f (from + 1) n)) (g from ++ all_from g (from + 1) n)
+  more_by : (from n : ℕ) (t : Bool) → nat_eq k from ≡ t
+      → (t ≡ false → IsPermutation (x ∷ all_from f (from + 1) n) (all_from g (from + 1) n))
+      → IsPermutation (x ∷ (f from ++ all_from f (from + 1) n)) (g from ++ all_from g (from + 1) n)
   more_by from n true e i =
       let q : k ≡ from = grind (arith, nat_tests) in
       let rest : all_from f (from + 1) n ≡ all_from g (from + 1) n = same_from f g (from + 1) n (λ j l. more.apart j (past j (omega arith))) in
@@ -68,13 +73,6 @@ module _ {A : Type 0} (x : A) (k : ℕ) (f g : ℕ → List A) (more : More x k 
 
 abbrev taken : Entry → Bool → List Entry
 taken e t = if t then e ∷ [] else []
-
-same : (k : ℕ) → nat_eq k k ≡ true
-same k = grind (arith, nat_tests)
-
-not_both : (a b : Bool) → b ≡ false → (a && b) ≡ false
-not_both true b e = e
-not_both false b e = refl
 
 module _ (e : Entry) (es : List Entry) where
   id_here : (p : ℕ) → nat_eq e.priority p ≡ true → e ∷ with_id es p e.rule.id ≡ with_id (e ∷ es) p e.rule.id

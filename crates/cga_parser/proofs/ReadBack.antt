@@ -9,23 +9,23 @@ use Rattle.cga_syntax.specs.Pieces.{rule_pieces}
 use Rattle.cga_syntax.specs.Printing.{printed, text_of}
 use Rattle.cga_syntax.specs.Reading.{AreRead}
 use Rattle.cga_syntax.specs.Spelling.{Spelled}
-use Rattle.cga_syntax.proofs.Again.{lexemes, again, have_texts}
-use Rattle.cga_syntax.proofs.Back.{text_read}
-use Rattle.cga_syntax.proofs.Tokens.{line_tokens}
+use Rattle.cga_form.proofs.Door.{form_told}
+use Rattle.cga_syntax.proofs.Door.{again, have_texts, lexemes, line_tokens, text_read}
 use Rattle.cga_form.specs.Tells.{Tells}
 use Rattle.cga_parser.specs.PrintedRules.{few_brackets, SpellsRule, IsReadBack}
 use Rattle.cga_form.specs.Cursor.{seen}
 use Rattle.cga_parser.specs.Grammar.{rule}
 use Rattle.cga_form.specs.LineTells.{by_tokens, by_length}
-use Rattle.cga_form.proofs.Told.{form_told}
 use Rattle.cga_parser.proofs.AreForms.{rule_form}
 
 -- a text that spells a rule, with few enough brackets, tells the rule
-rule_told : (x : List Lexeme) (r : Rule) (m : ℕ) → Spelled rule_pieces x r → walk 32 x ≡ Some m → Tells rule_pieces 32 x (Ok r)
+rule_told : (x : List Lexeme) (r : Rule) (m : ℕ) → Spelled rule_pieces x r → walk 32 x ≡ Some m
+    → Tells rule_pieces 32 x (Ok r)
 rule_told = form_told rule_pieces rule rule_form
 
 module _ (r : Rule) where
-  by_read : (o : Lexed) (ls : List Lexeme) (end : ℕ) → AreRead o ls → Tells rule_pieces 32 ls (Ok r) → by_tokens rule_pieces end o (Ok r)
+  by_read : (o : Lexed) (ls : List Lexeme) (end : ℕ) → AreRead o ls → Tells rule_pieces 32 ls (Ok r)
+      → by_tokens rule_pieces end o (Ok r)
   by_read (Ok ts) ls end e a = (Ok r, subst (λ z. Tells rule_pieces 32 z (Ok r)) (sym e) a, refl)
   by_read (Err f) ls end e a = absurd e
 

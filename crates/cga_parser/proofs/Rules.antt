@@ -11,10 +11,11 @@ use Rattle.cga_syntax.specs.Pieces.{token, plain, sign, named, whole, Pieces, co
 use Rattle.cga_form.specs.Reader.{◌>>=◌, ◌>>◌, pure, single, many_from}
 use Rattle.cga_form.specs.Tokens.{is_sign, a_name}
 use Rattle.cga_parser.specs.Grammar as g
-use Rattle.cga_form.proofs.Runs.{pure_runs}
-use Rattle.cga_form.proofs.Written.{head_of, end_of, long_of, nil_right, piece_written}
-use Rattle.cga_form.proofs.Forms.{After, Goes, Reads, next, done, one_token, either, Long, listed, limited, translated}
-use Rattle.cga_form.proofs.Singles.{sign_token, name_token, name_pieces, whole_token, number_token, as_token}
+use Rattle.cga_form.proofs.Door.{Long, as_token, done, either, end_of, head_of, limited, listed, long_of, name_pieces}
+use Rattle.cga_form.proofs.Door.{name_token, next, number_token, one_token, piece_written, pure_runs, sign_token}
+use Rattle.cga_form.proofs.Door.{translated, whole_token}
+use Rattle.cga_form.specs.Laws.{After, Goes, Reads}
+use Rattle.std.proofs.Common.{append-nil as nil_right}
 use Rattle.cga_parser.proofs.Exprs.{comma, close, round, in_round}
 use Rattle.cga_parser.proofs.Conds.{cond_reads}
 use Rattle.cga_parser.proofs.Items.{list_pieces, body_reads, item_reads, arguments_is}
@@ -34,7 +35,10 @@ further_name_reads m = next (comma m) (λ _. next (one_token (name_token m)) (λ
 abbrev pub parameters_pieces : List (List ℕ) → Pieces
 parameters_pieces ps = arguments (map name_pieces ps)
 
-parameters_rest : (m : ℕ) → Goes m (suc m) round parameters_pieces (single a_name >>= λ x. many_from (is_sign s.Comma) g.further_name 3 [] >>= λ more. g.sign s.RightRound >> pure (x ∷ more))
+parameters_rest : (m : ℕ)
+    → Goes m (suc m) round parameters_pieces
+      (single a_name >>= λ x. many_from (is_sign s.Comma) g.further_name 3 [] >>= λ more. g.sign s.RightRound >> pure
+      (x ∷ more))
 parameters_rest m = next (one_token (name_token m)) (λ x. next (limited (is_sign s.Comma) 3 (further_name_reads m)) (λ more. next (close m) (λ _. done (arguments_is name_pieces x more))))
 
 some_parameters_reads : (n : ℕ) → Reads n n parameters_pieces (g.some_parameters n)
@@ -64,7 +68,8 @@ given_reads n = next (colon n) (λ _. next (one_token (number_token n)) (λ p. d
 abbrev pub probability_pieces : Rat → Pieces
 probability_pieces p = probability p ∷ []
 
-as_probability : (c : ℕ) (x : List Lexeme) (p : Rat) (d : ℕ) → Writes c (given_pieces p) x d → Writes c (probability_pieces p) x d
+as_probability : (c : ℕ) (x : List Lexeme) (p : Rat) (d : ℕ) → Writes c (given_pieces p) x d
+    → Writes c (probability_pieces p) x d
 as_probability c x p d w =
     let t = head_of c Usual (lexeme.Sign s.Colon) (plain (lexeme.Number p) ∷ []) x d w in
     let u = head_of c Usual (lexeme.Number p) [] t.0 d t.2 in
@@ -83,7 +88,8 @@ probability_reads n = either (is_sign s.Colon) (translated (λ p. p) as_probabil
 
 -- ---- alternatives and rules
 
-pub alternative_is : (is : List Item) (p : Rat) → alternative_pieces (record { items = is; prob = p }) ≡ sign s.Arrow ∷ (list_pieces is ++ (probability p ∷ []))
+pub alternative_is : (is : List Item) (p : Rat)
+    → alternative_pieces (record { items = is; prob = p }) ≡ sign s.Arrow ∷ (list_pieces is ++ (probability p ∷ []))
 unfolding alternative_pieces
 alternative_is is p = refl
 
@@ -94,7 +100,9 @@ alternative_reads n = next (one_token (sign_token Usual s.Arrow n n refl refl)) 
 pub alternative_long : Long alternative_pieces
 alternative_long c x a d w = long_of c Usual (lexeme.Sign s.Arrow) (list_pieces a.items ++ (probability a.prob ∷ [])) x d (subst (λ ps. Writes c ps x d) (alternative_is a.items a.prob) w)
 
-pub rule_is : (r : Rule) → rule_pieces r ≡ whole 1 999999 r.id ∷ token NoneBefore (lexeme.Sign s.Colon) ∷ named r.symbol ∷ (parameters_pieces r.params ++ (condition_pieces r.cond ++ nonempty (map alternative_pieces r.alternatives) []))
+pub rule_is : (r : Rule)
+    → rule_pieces r ≡ whole 1 999999 r.id ∷ token NoneBefore (lexeme.Sign s.Colon) ∷ named r.symbol ∷
+      (parameters_pieces r.params ++ (condition_pieces r.cond ++ nonempty (map alternative_pieces r.alternatives) []))
 unfolding rule_pieces
 rule_is r = refl
 

@@ -13,15 +13,17 @@ use Rattle.cga_syntax.specs.Pieces.{token, never, sign, named, whole, Pieces, pr
 use Rattle.cga_form.specs.Reader.{at, begins}
 use Rattle.cga_form.specs.Tokens.{a_sign, is_sign, a_name, a_whole, a_number, unless}
 use Rattle.cga_parser.specs.Grammar as g
-use Rattle.cga_form.proofs.Written.{cut, piece_of, plain_written}
-use Rattle.cga_form.proofs.Forms.{turned as unrolled}
-use Rattle.cga_form.proofs.Singles.{name_pieces}
+use Rattle.cga_form.proofs.Door.{Begun, Misses, Starts, after, all_of, begun_append, begun_as, begun_nothing}
+use Rattle.cga_form.proofs.Door.{begun_token, by_name, cut, ends, entered, few_of, missed, misses_each, misses_end}
+use Rattle.cga_form.proofs.Door.{misses_nothing, name_pieces, never_written, peek_no, peek_yes, piece_of}
+use Rattle.cga_form.proofs.Door.{plain_written, plainly, starts_as, starts_token, took, turned as unrolled}
+use Rattle.cga_form.proofs.Door.{whole_leads, written_as}
+use Rattle.cga_form.specs.Laws.{Again, Agrees, Leads, nothing}
 use Rattle.cga_parser.proofs.ExprsAgain.{neither}
 use Rattle.cga_parser.proofs.CondsAgain.{with_or, cond_again}
 use Rattle.cga_parser.proofs.Items.{at_most_is, item_reads}
 use Rattle.cga_parser.proofs.ItemsAgain.{with_bracket, with_item, body_again, item_again}
 use Rattle.cga_parser.proofs.Rules.{further_name_pieces, parameters_pieces, given_pieces, probability_pieces, alternative_is, alternative_long, alternative_reads, rule_is}
-use Rattle.cga_form.proofs.Again.{Agrees, Leads, Again, Begun, Starts, Misses, begun_token, starts_token, begun_append, begun_as, starts_as, missed, misses_end, misses_each, nothing, misses_nothing, begun_nothing, never_written, ends, took, by_name, whole_leads, entered, peek_yes, peek_no, after, plainly, written_as, all_of, few_of}
 
 -- ---- parameters
 
@@ -35,7 +37,8 @@ further_name_at a = took (a_sign s.Comma) tt refl (by_name a (λ e. took a_name 
 further_name_again : Again further_name_pieces nothing g.further_name
 further_name_again = record { all = further_name_at }
 
-some_parameters_at : (n : ℕ) (x : List ℕ) (more : List (List ℕ)) → Leads with_bracket (parameters_pieces (x ∷ more)) (g.some_parameters n) (x ∷ more)
+some_parameters_at : (n : ℕ) (x : List ℕ) (more : List (List ℕ))
+    → Leads with_bracket (parameters_pieces (x ∷ more)) (g.some_parameters n) (x ∷ more)
 unfolding g.some_parameters
 some_parameters_at n x more =
     written_as (ap (λ z. sign s.LeftRound ∷ (name_pieces x ++ (z ++ (sign s.RightRound ∷ [])))) (at_most_is 3 (sign s.Comma) name_pieces more))
@@ -78,10 +81,12 @@ one_by : Leads a_colon [] g.probability (of_int (pos 1))
 unfolding g.probability
 one_by = peek_no _ (misses_end (λ l e. e)) ends
 
-written_plainly : (c : ℕ) (x : List Lexeme) (d : ℕ) (ls : List Lexeme) → x ≡ ls → c ≡ d → Writes c (map (token Usual) ls) x d
+written_plainly : (c : ℕ) (x : List Lexeme) (d : ℕ) (ls : List Lexeme) → x ≡ ls → c ≡ d
+    → Writes c (map (token Usual) ls) x d
 written_plainly c x d ls e q = subst (λ z. Writes c (map (token Usual) ls) z d) (sym e) (subst (λ m. Writes c (map (token Usual) ls) ls m) q (plain_written c ls))
 
-probability_by : (p : Rat) (c : ℕ) (x : List Lexeme) (d : ℕ) (r : List Lexeme) → IsProbability p x → c ≡ d → begins a_colon r ≡ false → Agrees (g.probability (at (x ++ r) c)) p (at r d)
+probability_by : (p : Rat) (c : ℕ) (x : List Lexeme) (d : ℕ) (r : List Lexeme) → IsProbability p x → c ≡ d
+    → begins a_colon r ≡ false → Agrees (g.probability (at (x ++ r) c)) p (at r d)
 probability_by p c x d r (inl h) q e = (given_by p).leads c x d r (written_plainly c x d (lexeme.Sign s.Colon ∷ lexeme.Number p ∷ []) h q) e
 probability_by p c x d r (inr h) q e = subst (λ z. Agrees (g.probability (at (x ++ r) c)) z (at r d)) (sym h.0) (one_by.leads c x d r (written_plainly c x d [] h.1 q) e)
 
@@ -94,18 +99,23 @@ probability_again = record { all = λ p. record { leads = λ c x d r w e. let t 
 abbrev with_more : Lexeme → Bool
 with_more l = with_item l || a_colon l
 
-fewer : {test s : Lexeme → Bool} → ((l : Lexeme) → s l ≡ false → test l ≡ false) → (r : List Lexeme) → begins s r ≡ false → begins test r ≡ false
+fewer : {test s : Lexeme → Bool} → ((l : Lexeme) → s l ≡ false → test l ≡ false) → (r : List Lexeme)
+    → begins s r ≡ false → begins test r ≡ false
 fewer h [] e = refl
 fewer h (l ∷ r) e = h l e
 
-starts_probability : (test : Lexeme → Bool) (p : Rat) (x r : List Lexeme) → test (lexeme.Sign s.Colon) ≡ false → ((l : Lexeme) → with_more l ≡ false → test l ≡ false) → IsProbability p x → begins with_more r ≡ false → begins test (x ++ r) ≡ false
+starts_probability : (test : Lexeme → Bool) (p : Rat) (x r : List Lexeme) → test (lexeme.Sign s.Colon) ≡ false
+    → ((l : Lexeme) → with_more l ≡ false → test l ≡ false) → IsProbability p x → begins with_more r ≡ false
+    → begins test (x ++ r) ≡ false
 starts_probability test p x r h g' (inl q) e = ap (λ z. begins test (z ++ r)) q ∙ h
 starts_probability test p x r h g' (inr q) e = ap (λ z. begins test (z ++ r)) q.1 ∙ fewer g' r e
 
 probability_misses : (p : Rat) → Misses with_item (probability p ∷ []) with_more
 probability_misses p = record { misses = λ c x d r w e. let t = piece_of c (probability p) x d w in starts_probability with_item p x r refl (λ l q. (neither (with_item l) (a_colon l) q).0) t.0 e }
 
-alternative_at : (n : ℕ) (is : List Item) (p : Rat) → Leads with_more (alternative_pieces (record { items = is; prob = p })) (g.alternative n) (record { items = is; prob = p })
+alternative_at : (n : ℕ) (is : List Item) (p : Rat)
+    → Leads with_more (alternative_pieces (record { items = is; prob = p })) (g.alternative n)
+      (record { items = is; prob = p })
 unfolding g.alternative
 alternative_at n is p =
     written_as (alternative_is is p) (took (a_sign s.Arrow) tt refl (after _ is (body_again n (g.item n) (item_again n) (item_reads n)) (probability_misses p)
@@ -117,7 +127,8 @@ alternative_again n = record { all = λ a. alternative_at n a.items a.prob }
 alternative_starts : (a : Alternative) → Starts (is_sign s.Arrow) (alternative_pieces a)
 alternative_starts a = starts_as (alternative_is a.items a.prob) (starts_token refl)
 
-alternative_begun : {test : Lexeme → Bool} → test (lexeme.Sign s.Arrow) ≡ false → (a : Alternative) → Begun test (alternative_pieces a)
+alternative_begun : {test : Lexeme → Bool} → test (lexeme.Sign s.Arrow) ≡ false → (a : Alternative)
+    → Begun test (alternative_pieces a)
 alternative_begun h a = begun_as (alternative_is a.items a.prob) (begun_token h)
 
 -- ---- rules
@@ -126,12 +137,15 @@ alternative_begun h a = begun_as (alternative_is a.items a.prob) (begun_token h)
 abbrev pub with_rule : Lexeme → Bool
 with_rule l = with_more l || is_sign s.Arrow l
 
-condition_begun : {test out : Lexeme → Bool} → test (lexeme.Sign s.Colon) ≡ false → test (lexeme.Sign s.Arrow) ≡ false → (c : Option Cond) (a : Alternative) (qs : Pieces) → Misses test (condition_pieces c ++ (alternative_pieces a ++ qs)) out
+condition_begun : {test out : Lexeme → Bool} → test (lexeme.Sign s.Colon) ≡ false → test (lexeme.Sign s.Arrow) ≡ false
+    → (c : Option Cond) (a : Alternative) (qs : Pieces)
+    → Misses test (condition_pieces c ++ (alternative_pieces a ++ qs)) out
 condition_begun h g' None a qs = missed (begun_append qs (alternative_begun g' a))
 condition_begun h g' (Some c) a qs = missed (begun_token h)
 
 -- a rule with alternatives
-rule_of : (n id : ℕ) (name : List ℕ) (ps : List (List ℕ)) (c : Option Cond) (a : Alternative) (more : List Alternative) →
+rule_of : (n id : ℕ) (name : List ℕ) (ps : List (List ℕ)) (c : Option Cond) (a : Alternative) (more : List Alternative)
+    →
     Leads with_rule (rule_pieces (record { id = id; symbol = name; params = ps; cond = c; alternatives = a ∷ more })) (g.rule n) (record { id = id; symbol = name; params = ps; cond = c; alternatives = a ∷ more })
 unfolding g.rule
 rule_of n id name ps c a more =
@@ -145,7 +159,8 @@ rule_of n id name ps c a more =
     (misses_end stop) (misses_end (λ l e. (neither (with_more l) (is_sign s.Arrow l) e).1)) ends)))))))))
 
 -- a rule without one isn't written
-rule_none : (id : ℕ) (name : List ℕ) (ps : List (List ℕ)) (c : Option Cond) (n : ℕ) (x : List Lexeme) (d : ℕ) → Writes n (rule_pieces (record { id = id; symbol = name; params = ps; cond = c; alternatives = [] })) x d → ⊥
+rule_none : (id : ℕ) (name : List ℕ) (ps : List (List ℕ)) (c : Option Cond) (n : ℕ) (x : List Lexeme) (d : ℕ)
+    → Writes n (rule_pieces (record { id = id; symbol = name; params = ps; cond = c; alternatives = [] })) x d → ⊥
 rule_none id name ps c n x d w =
     let front : Pieces = whole 1 999999 id ∷ token NoneBefore (lexeme.Sign s.Colon) ∷ named name ∷ (parameters_pieces ps ++ condition_pieces c) in
     let e : rule_pieces (record { id = id; symbol = name; params = ps; cond = c; alternatives = [] }) ≡ front ++ (never ∷ []) =

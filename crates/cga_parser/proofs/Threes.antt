@@ -5,7 +5,8 @@ use Rattle.cga_form.specs.Reader.{Input, Reader, ReadResult, and_then, ◌>>=◌
 use Rattle.cga_form.specs.Parts.{sign}
 use Rattle.cga_parser.specs.Grammar.{last_of, last_two, in_threes}
 
-chained : {A B C : Type 0} (o : ReadResult A) (f : A → Reader B) (g : B → Reader C) → and_then (and_then o f) g ≡ and_then o (λ a j. and_then (f a j) g)
+chained : {A B C : Type 0} (o : ReadResult A) (f : A → Reader B) (g : B → Reader C)
+    → and_then (and_then o f) g ≡ and_then o (λ a j. and_then (f a j) g)
 chained (Ok p) f g = refl
 chained (Err e) f g = refl
 
@@ -13,14 +14,18 @@ abbrev pub one_by_one : {A : Type 0} → Reader A → Reader (A × A × A)
 one_by_one p = p >>= λ x. sign s.Comma >> (p >>= λ y. sign s.Comma >> (p >>= λ z. sign s.RightRound >> pure (x, y, z)))
 
 module _ {A : Type 0} (p : Reader A) (x : A) where
-  third : (y : A) (m : Input) → and_then {B = A × A × A} (last_of p m) (λ z. pure (x, y, z)) ≡ (sign s.Comma >> (p >>= λ z. sign s.RightRound >> pure (x, y, z))) m
+  third : (y : A) (m : Input)
+      → and_then {B = A × A × A} (last_of p m) (λ z. pure (x, y, z)) ≡
+        (sign s.Comma >> (p >>= λ z. sign s.RightRound >> pure (x, y, z))) m
   unfolding last_of
   third y m =
       chained {C = A × A × A} (sign s.Comma m) (λ _. p >>= λ z. sign s.RightRound >> pure z) (λ z. pure (x, y, z))
       ∙ (λ i. and_then (sign s.Comma m) (λ _ k. (chained {C = A × A × A} (p k) (λ z. sign s.RightRound >> pure z) (λ z. pure (x, y, z))
       ∙ (λ j. and_then (p k) (λ z l. chained {C = A × A × A} (sign s.RightRound l) (λ _. pure z) (λ z. pure (x, y, z)) j))) i))
 
-  second : (j : Input) → and_then {B = A × A × A} (last_two p j) (λ rest. pure (x, rest.0, rest.1)) ≡ (sign s.Comma >> (p >>= λ y. sign s.Comma >> (p >>= λ z. sign s.RightRound >> pure (x, y, z)))) j
+  second : (j : Input)
+      → and_then {B = A × A × A} (last_two p j) (λ rest. pure (x, rest.0, rest.1)) ≡
+        (sign s.Comma >> (p >>= λ y. sign s.Comma >> (p >>= λ z. sign s.RightRound >> pure (x, y, z)))) j
   unfolding last_two
   second j =
       chained {B = A × A} {C = A × A × A} (sign s.Comma j) (λ _. p >>= λ y. last_of p >>= λ z. pure (y, z)) (λ rest. pure (x, rest.0, rest.1))

@@ -40,7 +40,9 @@ use Rattle.cga_form.specs.declared.heads.SelectorHead.{SelectorHead}
 use Rattle.cga_form.specs.declared.heads.SelectorHead.TheVariants as selector_head
 use Rattle.cga_form.specs.Reader.{Reader, ◌>>=◌, ◌>>◌, pure, refuse, single, enter, drawn_word, peeked, many, many_from}
 use Rattle.cga_form.specs.Tokens.{is_sign, is_keyword, a_sign, a_keyword, a_name, a_whole, a_number}
-use Rattle.cga_form.specs.Words.{primary_head, size_axis, an_addition, a_scaling, a_relation, an_equality, a_target, a_state, a_scope_word, item_head, a_relative, is_relative, a_turn, a_ninety, an_axis, a_solid, a_side, a_selector}
+use Rattle.cga_form.specs.Words.{primary_head, size_axis, an_addition, a_scaling, a_relation, an_equality, a_target}
+use Rattle.cga_form.specs.Words.{a_state, a_scope_word, item_head, a_relative, is_relative, a_turn, a_ninety, an_axis}
+use Rattle.cga_form.specs.Words.{a_solid, a_side, a_selector}
 use Rattle.cga_form.specs.declared.heads.PrimaryHead.{PrimaryHead}
 use Rattle.cga_form.specs.declared.heads.PrimaryHead.TheVariants as head
 pub use Rattle.cga_form.specs.Parts.{sign, any, finish}

@@ -90,5 +90,6 @@ pub record ReadsBack (g : Grammar) : Type 0 where
   pub printable : ArePrintable g.rules
   pub text : grammar_text g ≡ line (codes "rules") ++ (lines_text (said_of g) ++ line (codes "end"))
   pub inside : All IsInside (said_of g)
-  pub told : AreShort g.rules → GrammarTells (map given (said_of g)) (Ok (record { attributes = g.attributes; rules = by_rank g.rules }))
+  pub told : AreShort g.rules
+      → GrammarTells (map given (said_of g)) (Ok (record { attributes = g.attributes; rules = by_rank g.rules }))
   pub same : IsPermutation g.rules (by_rank g.rules)

@@ -1,11 +1,11 @@
-//! The forms of rules and of the lines of a block of rules: which tokens are one, and which grammar
-//! the lines of a block say.
+//! The forms of rules and of the lines of a block of rules: which tokens are one, and which grammar the lines of a
+//! block say.
 //!
-//! It knows the forms of the language, and neither what a rule does nor whether a grammar is valid.
-//! What is told of a line, of whatever form, is `cga_form`'s. Callers get the fault's place wrong:
-//! it is the first token with which no rule could go on, or the end of the line, which comes after
-//! blanks and a comment. And a block with more rules or attributes than a grammar may have is not
-//! read whole: the reader gives one too many of them.
+//! It must not know whether a rule can be applied. What is told of a line, of whatever form, is `cga_form`'s.
+//!
+//! What callers get wrong: the fault's place. It is the first token with which no rule could go on, or the end of the
+//! line, which comes after blanks and a comment. And a block with more rules or attributes than a grammar may have is
+//! not read whole: the reader gives one too many of them.
 #![tactic(auto)]
 
 pub mod block;

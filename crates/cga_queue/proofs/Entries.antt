@@ -18,7 +18,8 @@ module _ {K X : Type 0} (cmp : K → K → Ordering) where
   takes_on k e es q (inr h) = inr (h.0, (h.1.0, inr h.1.1))
 
   -- at that key, or before
-  pub came_or_was : (k : K) (v : X) (es : List (K × X)) (q : K) (w : X) → Among (q, w) (insert_entry cmp es k v) → ((w ≡ v) × Takes k es q) ⊎ Among (q, w) es
+  pub came_or_was : (k : K) (v : X) (es : List (K × X)) (q : K) (w : X) → Among (q, w) (insert_entry cmp es k v)
+      → ((w ≡ v) × Takes k es q) ⊎ Among (q, w) es
   came_or_was k v [] q w h = elim h [ inl e ↦ inl (sym (ap (λ p. p.1) e), inl (sym (ap (λ p. p.0) e))) | inr r ↦ absurd r ]
   came_or_was k v (e ∷ es) q w h = elim (cmp k e.0) as (λ o. cmp k e.0 ≡ o → Among (q, w) (match_ordering o ((k, v) ∷ e ∷ es) ((e.0, v) ∷ es) (e ∷ insert_entry cmp es k v)) → ((w ≡ v) × Takes k (e ∷ es) q) ⊎ Among (q, w) (e ∷ es)) [
     | Less ↦ λ c g. elim g [ inl a ↦ inl (sym (ap (λ p. p.1) a), inl (sym (ap (λ p. p.0) a))) | inr r ↦ inr r ]
@@ -41,7 +42,8 @@ module _ {K X : Type 0} (cmp : K → K → Ordering) where
   ] refl
 
   -- what was there still is, but at that key
-  pub still_there : (k : K) (v : X) (es : List (K × X)) (q : K) (w : X) → Among (q, w) es → (cmp k q ≡ Equal) ⊎ Among (q, w) (insert_entry cmp es k v)
+  pub still_there : (k : K) (v : X) (es : List (K × X)) (q : K) (w : X) → Among (q, w) es
+      → (cmp k q ≡ Equal) ⊎ Among (q, w) (insert_entry cmp es k v)
   still_there k v [] q w h = absurd h
   still_there k v (e ∷ es) q w h = elim (cmp k e.0) as (λ o. cmp k e.0 ≡ o → (cmp k q ≡ Equal) ⊎ Among (q, w) (match_ordering o ((k, v) ∷ e ∷ es) ((e.0, v) ∷ es) (e ∷ insert_entry cmp es k v))) [
     | Less ↦ λ c. inr (inr h)
@@ -53,7 +55,8 @@ module _ {K X : Type 0} (cmp : K → K → Ordering) where
   ] refl
 
 module _ {K X : Type 0} where
-  among_key : (es : List (K × X)) (q : K) (w : X) → Among (q, w) es → (j : ℕ) × (j < length (keys_of es)) × (get_or (keys_of es) j q ≡ q)
+  among_key : (es : List (K × X)) (q : K) (w : X) → Among (q, w) es
+      → (j : ℕ) × (j < length (keys_of es)) × (get_or (keys_of es) j q ≡ q)
   among_key [] q w h = absurd h
   among_key (e ∷ es) q w h = elim h [
     | inl a ↦ (0, omega arith, ap (λ p. p.0) a)

@@ -1,6 +1,7 @@
-pub mod Cases
-pub mod Entries
-pub mod OnIt
-pub mod TwoLines
-pub mod LinesTold
-pub mod Stamped
+mod Cases
+mod Entries
+mod OnIt
+mod TwoLines
+mod LinesTold
+mod Stamped
+pub mod Door

@@ -11,16 +11,12 @@ use Rattle.cga_word.specs.declared.mode.Mode.{Mode}
 use Rattle.cga_order.specs.Chain.{Chain}
 use Rattle.cga_order.specs.Stamp.{stamp_cmp}
 use Rattle.cga_order.specs.World.{Among}
-use Rattle.cga_order.proofs.Order.{stamp_total}
+use Rattle.cga_order.proofs.Door.{stamp_total}
 use Rattle.cga_key.specs.declared.stamp_key.StampKey.{StampKey}
 use Rattle.cga_key.specs.Key.{chain_of_key}
 use Rattle.cga_queue.specs.Agenda.{AgendaView, Names, IsPut, IsPopped, NamesNone, NoneOn, Chains, is_due, on, OneEach, Grows, IsLeast, SameOn}
 use Rattle.cga_queue.proofs.Cases.{and_left, and_right, and_both, or_either}
-
-pub is_eq_is : (o : Ordering) → is_eq o ≡ true → o ≡ Equal
-is_eq_is Less e = let x : false ≡ true = e in cc
-is_eq_is Equal e = refl
-is_eq_is Greater e = let x : false ≡ true = e in cc
+pub use Rattle.cga_fraction.proofs.Door.{Equal_from_is_eq as is_eq_is}
 
 module _ {E : Type 0} (p : E → Bool) where
   pub any_from : (es : List E) → list_any p es ≡ true → (e : E) × Among e es × (p e ≡ true)
@@ -41,11 +37,13 @@ module _ {E : Type 0} (p : E → Bool) where
     | inr b ↦ or_after (p x) (list_any p es) (any_to es e b t)
   ]
 
-pub due_from : (mode : Mode) (k : StampKey) (o : Option Chain) → is_due mode k o ≡ true → (x : Chain) × (o ≡ Some x) × (stamp_cmp mode (chain_of_key k) x ≡ Equal)
+pub due_from : (mode : Mode) (k : StampKey) (o : Option Chain) → is_due mode k o ≡ true
+    → (x : Chain) × (o ≡ Some x) × (stamp_cmp mode (chain_of_key k) x ≡ Equal)
 due_from mode k None e = let x : false ≡ true = e in cc
 due_from mode k (Some x) e = (x, refl, is_eq_is (stamp_cmp mode (chain_of_key k) x) e)
 
-due_to : (mode : Mode) (k : StampKey) (o : Option Chain) (x : Chain) → o ≡ Some x → stamp_cmp mode (chain_of_key k) x ≡ Equal → is_due mode k o ≡ true
+due_to : (mode : Mode) (k : StampKey) (o : Option Chain) (x : Chain) → o ≡ Some x
+    → stamp_cmp mode (chain_of_key k) x ≡ Equal → is_due mode k o ≡ true
 due_to mode k o x e s = ap (is_due mode k) e ∙ ap is_eq s
 
 module _ (D : Chains) where
@@ -113,7 +111,8 @@ module _ (D : Chains) where
 
   -- an entry was taken off it that names a node at its stamp
   module _ (old new : AgendaView) (key : StampKey) (id : ℕ) (popped : IsPopped old new (chain_of_key key) id) where
-    pub is_least : (x : Chain) → D id ≡ Some x → stamp_cmp old.mode (chain_of_key key) x ≡ Equal → IsLeast D old new id x
+    pub is_least : (x : Chain) → D id ≡ Some x → stamp_cmp old.mode (chain_of_key key) x ≡ Equal
+        → IsLeast D old new id x
     is_least x here at = record {
       mode = popped.mode;
       here = here;

@@ -8,11 +8,11 @@ use Rattle.cga_word.specs.declared.mode.Mode.{Mode}
 use Rattle.cga_order.specs.Chain.{Chain}
 use Rattle.cga_order.specs.Stamp.{stamp_cmp}
 use Rattle.cga_order.specs.World.{Among}
-use Rattle.cga_order.proofs.Order.{stamp_total}
+use Rattle.cga_key.proofs.Door.{agrees}
+use Rattle.cga_order.proofs.Door.{stamp_total}
 use Rattle.cga_key.specs.declared.stamp_key.StampKey.{StampKey}
 use Rattle.cga_key.specs.Key.{chain_of_key, key_cmp}
 use Rattle.cga_key.specs.KeyLaws.{key_total}
-use Rattle.cga_key.proofs.KeyAgrees.{agrees}
 use Rattle.cga_queue.specs.Agenda.{AgendaView, NamesNone, OfOneMode, IsPut, IsPopped}
 use Rattle.cga_queue.specs.Lines.{AllBehind, Rises, IsPutIn, IsTakenOut, counted, spare}
 use Rattle.cga_queue.proofs.Entries.{Takes, came_or_was}
@@ -49,7 +49,8 @@ module _ (mode : Mode) where
     put_own (inr h) = (subst (OfOneMode mode) (sym h.0) map_own, subst (OfOneMode mode) (sym h.1) b)
 
   -- or the first was taken out
-  pub left_own : (es ls es' ls' : Entries) (p : StampKey × ℕ) → OfOneMode mode es → OfOneMode mode ls → IsTakenOut key_cmp es ls es' ls' p → OfOneMode mode es' × OfOneMode mode ls'
+  pub left_own : (es ls es' ls' : Entries) (p : StampKey × ℕ) → OfOneMode mode es → OfOneMode mode ls
+      → IsTakenOut key_cmp es ls es' ls' p → OfOneMode mode es' × OfOneMode mode ls'
   left_own es ls es' ls' p a b (inl h) = ((λ k i x. a k i (subst (Among (k, i)) (sym h.0) (inr x))), subst (OfOneMode mode) (sym h.1) b)
   left_own es ls es' ls' p a b (inr (inl h)) = ((λ k i x. a k i (subst (Among (k, i)) (sym h.0) (inr x))), (λ k i x. b k i (subst (Among (k, i)) (sym h.2) (inr x))))
   left_own es ls es' ls' p a b (inr (inr h)) = (subst (OfOneMode mode) (sym h.0) a, (λ k i x. b k i (subst (Among (k, i)) (sym h.1) (inr x))))
@@ -58,7 +59,9 @@ module _ (mode : Mode) where
 
   module _ (old new : Entries) (own : OfOneMode mode old) (after : OfOneMode mode new) where
     -- a number was put on the agenda
-    pub is_put : (key : StampKey) (id : ℕ) → key.mode ≡ mode → PutsIn key_cmp key id old new → (chain : Chain) → chain_of_key key ≡ chain → IsPut (record { mode = mode; entries = old }) (record { mode = mode; entries = new }) chain id
+    pub is_put : (key : StampKey) (id : ℕ) → key.mode ≡ mode → PutsIn key_cmp key id old new → (chain : Chain)
+        → chain_of_key key ≡ chain
+        → IsPut (record { mode = mode; entries = old }) (record { mode = mode; entries = new }) chain id
     is_put key id m puts chain is = subst (λ c. IsPut (record { mode = mode; entries = old }) (record { mode = mode; entries = new }) c id) is (record {
       mode = refl;
       there = let z = puts.there in (z.0, z.1, tied_back (stamp_total mode) (chain_of_key key) (chain_of_key z.0) (sym (agrees mode key z.0 m (after z.0 id z.1)) ∙ z.2));
@@ -73,7 +76,8 @@ module _ (mode : Mode) where
     })
 
     -- the first entry was taken off it
-    pub is_popped : (key : StampKey) (id : ℕ) → IsOut (key, id) old new → AllBehind key_cmp key new → IsPopped (record { mode = mode; entries = old }) (record { mode = mode; entries = new }) (chain_of_key key) id
+    pub is_popped : (key : StampKey) (id : ℕ) → IsOut (key, id) old new → AllBehind key_cmp key new
+        → IsPopped (record { mode = mode; entries = old }) (record { mode = mode; entries = new }) (chain_of_key key) id
     is_popped key id out above = record {
       mode = refl;
       there = (key, out.there, tied_itself (stamp_total mode) (chain_of_key key));
@@ -98,38 +102,46 @@ viewed mode es ls = record { mode = mode; entries = Counted es ls }
 
 module _ (mode : Mode) (es ls es' ls' : Entries) (are : AreLines mode es ls) where
   module _ {T E : Type 0} (key : StampKey) (id : ℕ) (m : key.mode ≡ mode) where
-    pub put_lines : (r : Result T E) → OnOk r (IsPutIn key_cmp es ls es' ls' key id) → OnErr r (es' ≡ es) → OnErr r (ls' ≡ ls) → AreLines mode es' ls'
+    pub put_lines : (r : Result T E) → OnOk r (IsPutIn key_cmp es ls es' ls' key id) → OnErr r (es' ≡ es)
+        → OnErr r (ls' ≡ ls) → AreLines mode es' ls'
     put_lines (Ok x) put a b = let z = put_own mode es ls es' ls' key id m are.0 are.1 put in (z.0, z.1, rises_after key_cmp key_total es ls es' ls' key id are.2 put)
     put_lines (Err e) put a b = (subst (OfOneMode mode) (sym a) are.0, subst (OfOneMode mode) (sym b) are.1, subst (Rises key_cmp) (sym b) are.2)
 
-    pub put_viewed : (r : Result T E) (chain : Chain) → chain_of_key key ≡ chain → OnOk r (IsPutIn key_cmp es ls es' ls' key id) → OnOk r (IsPut (viewed mode es ls) (viewed mode es' ls') chain id)
+    pub put_viewed : (r : Result T E) (chain : Chain) → chain_of_key key ≡ chain
+        → OnOk r (IsPutIn key_cmp es ls es' ls' key id)
+        → OnOk r (IsPut (viewed mode es ls) (viewed mode es' ls') chain id)
     put_viewed (Ok x) chain is put =
         let z = put_own mode es ls es' ls' key id m are.0 are.1 put in
         is_put mode (Counted es ls) (Counted es' ls') (counted_own mode es ls are.0 are.1) (counted_own mode es' ls' z.0 z.1) key id m (puts_in key_cmp key_total es ls es' ls' key id put) chain is
     put_viewed (Err e) chain is put = put
 
-  pub pop_lines : (r : Option (StampKey × ℕ)) → IfSome r (λ p. IsTakenOut key_cmp es ls es' ls' p) → IfNone r (es' ≡ es) → IfNone r (ls' ≡ ls) → AreLines mode es' ls'
+  pub pop_lines : (r : Option (StampKey × ℕ)) → IfSome r (λ p. IsTakenOut key_cmp es ls es' ls' p) → IfNone r (es' ≡ es)
+      → IfNone r (ls' ≡ ls) → AreLines mode es' ls'
   pop_lines None taken a b = (subst (OfOneMode mode) (sym a) are.0, subst (OfOneMode mode) (sym b) are.1, subst (Rises key_cmp) (sym b) are.2)
   pop_lines (Some p) taken a b = let z = left_own mode es ls es' ls' p are.0 are.1 taken in (z.0, z.1, rises_left key_cmp key_total es ls es' ls' p are.2 taken)
 
-  pub pop_viewed : (r : Option (StampKey × ℕ)) → IfSome r (λ p. IsTakenOut key_cmp es ls es' ls' p) → IfSome r (λ p. IsPopped (viewed mode es ls) (viewed mode es' ls') (chain_of_key p.0) p.1)
+  pub pop_viewed : (r : Option (StampKey × ℕ)) → IfSome r (λ p. IsTakenOut key_cmp es ls es' ls' p)
+      → IfSome r (λ p. IsPopped (viewed mode es ls) (viewed mode es' ls') (chain_of_key p.0) p.1)
   pop_viewed None taken = taken
   pop_viewed (Some p) taken =
       let z = left_own mode es ls es' ls' p are.0 are.1 taken in
       is_popped mode (Counted es ls) (Counted es' ls') (counted_own mode es ls are.0 are.1) (counted_own mode es' ls' z.0 z.1) p.0 p.1 (taken_out key_cmp key_total es ls es' ls' p are.2 taken) (left_behind key_cmp key_total es ls es' ls' p are.2 taken)
 
-  pub pop_shorter : (r : Option (StampKey × ℕ)) → IfSome r (λ p. IsTakenOut key_cmp es ls es' ls' p) → IfSome r (λ p. length (Counted es ls) ≡ suc (length (Counted es' ls')))
+  pub pop_shorter : (r : Option (StampKey × ℕ)) → IfSome r (λ p. IsTakenOut key_cmp es ls es' ls' p)
+      → IfSome r (λ p. length (Counted es ls) ≡ suc (length (Counted es' ls')))
   pop_shorter None taken = taken
   pop_shorter (Some p) taken = (taken_out key_cmp key_total es ls es' ls' p are.2 taken).shorter
 
-  pub pop_none : (r : Option (StampKey × ℕ)) → IfNone r ((es ≡ []) × (ls ≡ [])) → IfNone r (NamesNone (viewed mode es ls))
+  pub pop_none : (r : Option (StampKey × ℕ)) → IfNone r ((es ≡ []) × (ls ≡ []))
+      → IfNone r (NamesNone (viewed mode es ls))
   pop_none None none = λ c i h. elim (counted_from key_cmp key_total es ls (h.0, i) h.1) [
     | inl x ↦ absurd (subst (Among (h.0, i)) none.0 x)
     | inr y ↦ absurd (subst (Among (h.0, i)) none.1 y)
   ]
   pop_none (Some p) none = none
 
-  pub pop_same : (r : Option (StampKey × ℕ)) → IfNone r (es' ≡ es) → IfNone r (ls' ≡ ls) → IfNone r (viewed mode es' ls' ≡ viewed mode es ls)
+  pub pop_same : (r : Option (StampKey × ℕ)) → IfNone r (es' ≡ es) → IfNone r (ls' ≡ ls)
+      → IfNone r (viewed mode es' ls' ≡ viewed mode es ls)
   pop_same None a b = ap (λ (xs : Entries). viewed mode xs ls') a ∙ ap (viewed mode es) b
   pop_same (Some p) a b = a
 

@@ -11,6 +11,7 @@ use Rattle.cga_order.specs.World.{Among}
 use Rattle.cga_queue.specs.Lines.{has_key, spare, counted, AllBefore, AllBehind, Rises, IsPutIn, IsTakenOut}
 use Rattle.cga_queue.proofs.Entries.{Takes, came_or_was, now_there, still_there}
 use Rattle.cga_queue.proofs.OnIt.{any_from, any_to, is_eq_is}
+pub use Rattle.cga_fraction.proofs.Door.{true-not-false as true_false}
 
 -- ---- members of lists one behind the other
 
@@ -51,10 +52,8 @@ module _ {E : Type 0} where
         shorter = ap suc z.shorter;
       }
 
-pub true_false : {A : Type 0} → true ≡ false → A
-true_false e = absurd (let x : true ≡ false = e in cc)
-
-before_not_tied : {K : Type 0} (cmp : K → K → Ordering) (o : IsTotalOrder cmp) (k q : K) → cmp k q ≡ Less → cmp q k ≡ Equal → Less ≡ Equal
+before_not_tied : {K : Type 0} (cmp : K → K → Ordering) (o : IsTotalOrder cmp) (k q : K) → cmp k q ≡ Less
+    → cmp q k ≡ Equal → Less ≡ Equal
 before_not_tied cmp o k q l e = sym l ∙ tied_back o q k e
 
 -- an entry was put into a list, in the place of what was there at its key
@@ -72,7 +71,8 @@ module _ {K X : Type 0} (cmp : K → K → Ordering) (o : IsTotalOrder cmp) wher
   has_to es k e h q = any_to (λ (x : K × X). is_eq (cmp x.0 k)) es e h (ap is_eq q)
 
   -- what counts of the second line
-  spare_from : (es ls : List (K × X)) (x : K × X) → Among x (spare cmp es ls) → Among x ls × (has_key cmp es x.0 ≡ false)
+  spare_from : (es ls : List (K × X)) (x : K × X) → Among x (spare cmp es ls)
+      → Among x ls × (has_key cmp es x.0 ≡ false)
   unfolding spare
   spare_from es [] x h = absurd h
   spare_from es (l ∷ ls) x h = elim (has_key cmp es l.0) as (λ b. has_key cmp es l.0 ≡ b → Among x (if b then spare cmp es ls else (l ∷ spare cmp es ls)) → Among x (l ∷ ls) × (has_key cmp es x.0 ≡ false)) [
@@ -186,7 +186,8 @@ module _ {K X : Type 0} (cmp : K → K → Ordering) (o : IsTotalOrder cmp) wher
       ];
     }
 
-  pub puts_in : (es ls es' ls' : List (K × X)) (k : K) (v : X) → IsPutIn cmp es ls es' ls' k v → PutsIn cmp k v (counted cmp es ls) (counted cmp es' ls')
+  pub puts_in : (es ls es' ls' : List (K × X)) (k : K) (v : X) → IsPutIn cmp es ls es' ls' k v
+      → PutsIn cmp k v (counted cmp es ls) (counted cmp es' ls')
   puts_in es ls es' ls' k v (inl h) = subst (λ (xs : List (K × X)). PutsIn cmp k v (counted cmp es ls) (counted cmp xs ls')) (sym h.0) (subst (λ (ys : List (K × X)). PutsIn cmp k v (counted cmp es ls) (counted cmp es ys)) (sym h.1) (behind_all es ls k v h.2))
   puts_in es ls es' ls' k v (inr h) = subst (λ (xs : List (K × X)). PutsIn cmp k v (counted cmp es ls) (counted cmp xs ls')) (sym h.0) (subst (λ (ys : List (K × X)). PutsIn cmp k v (counted cmp es ls) (counted cmp (insert_entry cmp es k v) ys)) (sym h.1) (into_map es ls k v))
 
@@ -203,12 +204,14 @@ module _ {K X : Type 0} (cmp : K → K → Ordering) (o : IsTotalOrder cmp) wher
     rises_more ls k v r.1 (λ q i x. h q i (inr x)),
   )
 
-  pub rises_after : (es ls es' ls' : List (K × X)) (k : K) (v : X) → Rises cmp ls → IsPutIn cmp es ls es' ls' k v → Rises cmp ls'
+  pub rises_after : (es ls es' ls' : List (K × X)) (k : K) (v : X) → Rises cmp ls → IsPutIn cmp es ls es' ls' k v
+      → Rises cmp ls'
   rises_after es ls es' ls' k v r (inl h) = subst (Rises cmp) (sym h.1) (rises_more ls k v r h.3)
   rises_after es ls es' ls' k v r (inr h) = subst (Rises cmp) (sym h.1) r
 
   -- what comes behind the last one comes behind all
-  pub all_before : (ls : List (K × X)) (j : ℕ) (x : K × X) (k : K) → length ls ≡ suc j → x ≡ slice_index_or ls j x → Rises cmp ls → cmp x.0 k ≡ Less → AllBefore cmp ls k
+  pub all_before : (ls : List (K × X)) (j : ℕ) (x : K × X) (k : K) → length ls ≡ suc j → x ≡ slice_index_or ls j x
+      → Rises cmp ls → cmp x.0 k ≡ Less → AllBefore cmp ls k
   all_before [] j x k n e r l q i h = absurd h
   all_before (y ∷ []) zero x k n e r l q i h = elim h [
     | inl a ↦ ap (λ p. cmp p k) (sym (ap (λ p. p.0) a) ∙ ap (λ (p : K × X). p.0) (sym e)) ∙ l
@@ -233,7 +236,8 @@ module _ {K X : Type 0} (cmp : K → K → Ordering) (o : IsTotalOrder cmp) wher
       ap (λ b. if (is_eq b || has_key cmp es l.0) then spare cmp (p ∷ es) ls else (l ∷ spare cmp (p ∷ es) ls)) (h l.0 l.1 (inl refl))
       ∙ ap (λ (r : List (K × X)). if has_key cmp es l.0 then r else (l ∷ r)) (spare_past p es ls (λ q i x. h q i (inr x)))
 
-  spare_tied : (p l : K × X) (es ls : List (K × X)) → cmp p.0 l.0 ≡ Equal → spare cmp (p ∷ es) (l ∷ ls) ≡ spare cmp (p ∷ es) ls
+  spare_tied : (p l : K × X) (es ls : List (K × X)) → cmp p.0 l.0 ≡ Equal
+      → spare cmp (p ∷ es) (l ∷ ls) ≡ spare cmp (p ∷ es) ls
   unfolding spare
   spare_tied p l es ls e = ap (λ b. if (is_eq b || has_key cmp es l.0) then spare cmp (p ∷ es) ls else (l ∷ spare cmp (p ∷ es) ls)) e
 
@@ -242,7 +246,8 @@ module _ {K X : Type 0} (cmp : K → K → Ordering) (o : IsTotalOrder cmp) wher
   spare_first p es ls h = ap (λ b. if b then spare cmp es ls else (p ∷ spare cmp es ls)) (none_before es p.0 h)
 
   -- what comes before the first comes before all
-  pub behind_front : (p l : K × X) (ls : List (K × X)) → cmp p.0 l.0 ≡ Less → Rises cmp (l ∷ ls) → AllBehind cmp p.0 (l ∷ ls)
+  pub behind_front : (p l : K × X) (ls : List (K × X)) → cmp p.0 l.0 ≡ Less → Rises cmp (l ∷ ls)
+      → AllBehind cmp p.0 (l ∷ ls)
   behind_front p l ls less r q i h = elim h [
     | inl a ↦ ap (cmp p.0) (sym (ap (λ (e : K × X). e.0) a)) ∙ less
     | inr b ↦ o.trans p.0 l.0 q less (r.0 q i b)
@@ -254,7 +259,8 @@ module _ {K X : Type 0} (cmp : K → K → Ordering) (o : IsTotalOrder cmp) wher
   front_out : (p : K × X) (old new : List (K × X)) → old ≡ p ∷ new → IsOut p old new
   front_out p old new e = subst (λ (xs : List (K × X)). IsOut p xs new) (sym e) (out_of p [] new)
 
-  pub taken_out : (es ls es' ls' : List (K × X)) (p : K × X) → Rises cmp ls → IsTakenOut cmp es ls es' ls' p → IsOut p (counted cmp es ls) (counted cmp es' ls')
+  pub taken_out : (es ls es' ls' : List (K × X)) (p : K × X) → Rises cmp ls → IsTakenOut cmp es ls es' ls' p
+      → IsOut p (counted cmp es ls) (counted cmp es' ls')
   taken_out es ls es' ls' p r (inl h) =
       front_out p (counted cmp es ls) (counted cmp es' ls') (ap (λ (xs : List (K × X)). counted cmp xs ls) h.0 ∙ ap (λ (ys : List (K × X)). p ∷ (es' ++ ys)) (spare_past p es' ls h.3) ∙ ap (λ (ys : List (K × X)). p ∷ counted cmp es' ys) (sym h.1))
   taken_out es ls es' ls' p r (inr (inl h)) =
@@ -269,15 +275,18 @@ module _ {K X : Type 0} (cmp : K → K → Ordering) (o : IsTotalOrder cmp) wher
       (subst (λ (ys : List (K × X)). IsOut p ys (counted cmp es ls')) (sym (ap (counted cmp es) h.1 ∙ ap (λ (ys : List (K × X)). es ++ ys) (spare_first p es ls' h.2))) (out_of p es (spare cmp es ls')))
 
   -- and what is left comes behind it
-  counted_behind : (es ls : List (K × X)) (k : K) → AllBehind cmp k es → AllBehind cmp k ls → AllBehind cmp k (counted cmp es ls)
+  counted_behind : (es ls : List (K × X)) (k : K) → AllBehind cmp k es → AllBehind cmp k ls
+      → AllBehind cmp k (counted cmp es ls)
   counted_behind es ls k a b q i h = elim (counted_from es ls (q, i) h) [ inl x ↦ a q i x | inr y ↦ b q i y ]
 
-  pub left_behind : (es ls es' ls' : List (K × X)) (p : K × X) → Rises cmp ls → IsTakenOut cmp es ls es' ls' p → AllBehind cmp p.0 (counted cmp es' ls')
+  pub left_behind : (es ls es' ls' : List (K × X)) (p : K × X) → Rises cmp ls → IsTakenOut cmp es ls es' ls' p
+      → AllBehind cmp p.0 (counted cmp es' ls')
   left_behind es ls es' ls' p r (inl h) = counted_behind es' ls' p.0 h.2 (subst (AllBehind cmp p.0) (sym h.1) h.3)
   left_behind es ls es' ls' p r (inr (inl h)) = counted_behind es' ls' p.0 h.4 (behind_tied p h.1 ls' h.3 (subst (Rises cmp) h.2 r).0)
   left_behind es ls es' ls' p r (inr (inr h)) = counted_behind es' ls' p.0 (subst (AllBehind cmp p.0) (sym h.0) h.2) (subst (Rises cmp) h.1 r).0
 
-  pub rises_left : (es ls es' ls' : List (K × X)) (p : K × X) → Rises cmp ls → IsTakenOut cmp es ls es' ls' p → Rises cmp ls'
+  pub rises_left : (es ls es' ls' : List (K × X)) (p : K × X) → Rises cmp ls → IsTakenOut cmp es ls es' ls' p
+      → Rises cmp ls'
   rises_left es ls es' ls' p r (inl h) = subst (Rises cmp) (sym h.1) r
   rises_left es ls es' ls' p r (inr (inl h)) = (subst (Rises cmp) h.2 r).1
   rises_left es ls es' ls' p r (inr (inr h)) = (subst (Rises cmp) h.1 r).1

@@ -1,7 +1,10 @@
 //! The agenda of an edit as it is kept: numbers of nodes by the stamps at which they are to be looked at, the least
-//! first. It must not know what a node is, nor why one is looked at again.
-//! The one thing that callers get wrong: an entry stays when its node goes, and a stamp has one entry. A number that is
-//! put where another stands takes its place.
+//! first.
+//!
+//! It must not know what a node is or why one is looked at again.
+//!
+//! What callers get wrong: an entry stays when its node goes, and a stamp has one entry. A number that is put where
+//! another stands takes its place.
 #![tactic(auto)]
 
 mod agenda;

@@ -1,1 +1,1 @@
-pub mod Lots
+mod Lots

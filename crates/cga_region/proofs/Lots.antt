@@ -5,23 +5,21 @@ use Rattle.std.proofs.lemmas.Slice.Eq.{bytes_eq-Decides}
 use Rattle.cga_word.specs.declared.primitive.Primitive.{Primitive}
 use Rattle.cga_order.specs.declared.placed.Kind.{Kind}
 use Rattle.cga_order.specs.World.{Has}
-use Rattle.cga_order.proofs.Members.{Has-left, Has-right, Has-append}
+use Rattle.cga_city.proofs.Door.{among_has, before_strict, filter_from, filter_to, has_among, is_of, lot_differs, sorted_from, sorted_is, sorted_rises, sorted_to}
+use Rattle.cga_derivation.proofs.Door.{derived_consistent}
+use Rattle.cga_district.proofs.Door.{differ_left, differ_right, lot_among, towns, two_names}
+use Rattle.cga_expand.proofs.Door.{sources_are_derivations}
+use Rattle.cga_order.proofs.Door.{Has-append, Has-left, Has-right}
 use Rattle.cga_shape.specs.declared.shape.Shape.{Shape}
 use Rattle.cga_shape.specs.declared.shape_fault.ShapeFault.{ShapeFault}
 use Rattle.cga_shape.specs.declared.sources.Sources.{Sources}
 use Rattle.cga_derivation.specs.Derivation.{AllApart, IsDerived, NothingWaits}
-use Rattle.cga_derivation.proofs.Derived.{derived_consistent}
 use Rattle.cga_expand.specs.Children.{Member}
 use Rattle.cga_expand.specs.Derivation.{derivation_of, NamesDiffer}
-use Rattle.cga_expand.proofs.Instance.{sources_are_derivations}
 use Rattle.cga_district.specs.Towns.{with_lots}
-use Rattle.cga_district.proofs.Hulls.{lot_among}
-use Rattle.cga_district.proofs.Towns.{differ_left, differ_right, towns, two_names}
 use Rattle.cga_city.specs.Nodes.{AreApart}
 use Rattle.cga_city.specs.Order.{comes_before, members_of}
 use Rattle.cga_city.specs.Reports.{drawn_in, drawn_of, faults_in, fault_of}
-use Rattle.cga_city.proofs.Nodes.{among_has, before_strict, filter_from, filter_to, has_among, is_of, lot_differs}
-use Rattle.cga_city.proofs.Sorting.{sorted_from, sorted_is, sorted_rises, sorted_to}
 use Rattle.cga_region.specs.Lots.{LotsAreTheirDistricts, TellAlike}
 
 -- ---- lists that have the same of a lot
@@ -51,7 +49,8 @@ module _ (lot : List ℕ) (list other : List Member) (apart : AreApart list) (ot
 -- ---- two districts
 
 -- places stand once in what is derived
-places_differ : (s : Sources) → NamesDiffer s.lots → (list : List Member) → IsDerived (derivation_of s) list → AreApart list
+places_differ : (s : Sources) → NamesDiffer s.lots → (list : List Member) → IsDerived (derivation_of s) list
+    → AreApart list
 places_differ s differ list ends =
     subst (AllApart (derivation_of s)) (sym ends.1) (derived_consistent (derivation_of s) (sources_are_derivations s differ) ends.0 (subst (NothingWaits (derivation_of s)) ends.1 ends.2)).apart
 

@@ -1,7 +1,9 @@
-//! What is told of a lot of a region: what its own district tells. The crate holds a law alone, over sources; it knows
-//! nothing of a forest, of an edit, or of how jobs are run.
-//! The one thing that callers get wrong: the law is of the instances and the faults of one lot. Of all lots the lists
-//! of two districts don't stand one behind the other, since a list has its lots in the order of the sources.
+//! What is told of a lot of a region: what its own district tells.
+//!
+//! It must not know forests, edits or how jobs are run. The crate holds a law alone, over sources.
+//!
+//! What callers get wrong: the law is of the instances and the faults of one lot. Of all lots the lists of two
+//! districts don't stand one behind the other, since a list has its lots in the order of the sources.
 #![tactic(auto)]
 
 mod laws;

@@ -8,12 +8,11 @@ use Rattle.cga_order.specs.declared.placed.Placed.{Placed}
 use Rattle.cga_order.specs.declared.placed.Kind.{Kind}
 use Rattle.cga_order.specs.declared.placed.Kind.TheVariants.{Waiting}
 use Rattle.cga_order.specs.Agenda.{Node, Keeps, IsSettled, HasChildren, IsRight}
-use Rattle.cga_order.proofs.Chains.{snoc-same}
-use Rattle.cga_order.proofs.Turns.{Keeps-Has}
-use Rattle.cga_order.proofs.Steps as steps
+use Rattle.cga_agenda.proofs.Door.{path_not_empty}
+use Rattle.cga_order.proofs.Door.{Keeps-Has, snoc-same}
+use Rattle.cga_order.proofs.Door as steps
 use Rattle.cga_agenda.specs.Edit.{Edit, old_world, renewed}
 use Rattle.cga_agenda.specs.Work.{IsStart, IsBegun, IsFresh, SeenQueued}
-use Rattle.cga_agenda.proofs.Working.{path_not_empty}
 use Rattle.cga_rework.specs.Rules.{Shapes, Rules, IsRulesEdit}
 use Rattle.cga_rework.specs.Ranked.{Ranked, chain_of, edit_of, ranked_world}
 use Rattle.cga_rework.specs.Nodes.{Content, ranked_of, nodes_of, IsBound}
@@ -31,7 +30,8 @@ use Rattle.cga_rework.proofs.Worlds.{make}
 one_same : (x y : ℕ) → x ∷ [] ≡ y ∷ [] → x ≡ y
 one_same x y e = (snoc-same [] [] x y e).1
 
-map-fixed : {N F P : Type 0} (f : Placed N F P → Placed N F P) (xs : List (Placed N F P)) → ((x : Placed N F P) → Among x xs → f x ≡ x) → map f xs ≡ xs
+map-fixed : {N F P : Type 0} (f : Placed N F P → Placed N F P) (xs : List (Placed N F P))
+    → ((x : Placed N F P) → Among x xs → f x ≡ x) → map f xs ≡ xs
 map-fixed f [] h = refl
 map-fixed f (x ∷ xs) h =
     let first = h x (inl refl) in
@@ -55,7 +55,8 @@ module _ {X S A F P : Type 0} (content : Content X S A F P) (V T : View X) (gone
 module _ {X S A B F P : Type 0} (shapes : Shapes S) (content : Content X S A F P) (old new : Rules S A B F P) (V T : View X) (gone : ℕ → Bool)
     (was : IsCity shapes content old V) (r : IsRerooted content V T gone) where
   module _ (tree : IsTree T) (came : (c : ℕ) (d : Seen X) → V c ≡ None → T c ≡ Some d → StandsOnTop shapes content d.node) (tops : HasTops shapes content new T) where
-    before : (c p : ℕ) (d x : Seen X) → T c ≡ Some d → d.parent ≡ Some p → T p ≡ Some x → (V c ≡ Some d) × (V p ≡ Some x)
+    before : (c p : ℕ) (d x : Seen X) → T c ≡ Some d → d.parent ≡ Some p → T p ≡ Some x
+        → (V c ≡ Some d) × (V p ≡ Some x)
     before c p d x t up u = elim (option_cases (V c)) [
       | inl none ↦ none_some p (sym (r.top c d none t) ∙ up)
       | inr y ↦
@@ -82,7 +83,8 @@ rerooted_is_city shapes content old new V T gone was tree r came tops = rerooted
 module _ {X S A B F P : Type 0} (shapes : Shapes S) (content : Content X S A F P) (old new : Rules S A B F P) (V T : View X) (gone : ℕ → Bool)
     (was : IsCity shapes content old V) (city : IsCity shapes content new T) (r : IsRerooted content V T gone) where
   -- a root that came was not there
-  pub root_not_there : (c b : ℕ) (d x : Seen X) → V c ≡ None → T c ≡ Some d → V b ≡ Some x → ranked_of content x.node ≡ ranked_of content d.node → ⊥
+  pub root_not_there : (c b : ℕ) (d x : Seen X) → V c ≡ None → T c ≡ Some d → V b ≡ Some x
+      → ranked_of content x.node ≡ ranked_of content d.node → ⊥
   root_not_there c b d x none t v same = elim (option_cases x.parent) [
     | inl top ↦
         let one = (was.root b x v top).line in
@@ -122,7 +124,9 @@ module _ {X S A B F P : Type 0} (shapes : Shapes S) (content : Content X S A F P
   on : (c : ℕ) (d : Seen X) (n : Ranked S) → T c ≡ Some d → rank d.node ≡ n → agenda c ≡ true → queued n ≡ true
   on c d n t q h = ap queued (sym q) ∙ (are c d t).1 h
 
-  seen : (m : S) → ((c : ℕ) (d : Seen X) → T c ≡ Some d → is_instance (content.kind d.node) ≡ false → content.asks d.node ≡ true → meets (content.shape d.node) m ≡ true → agenda c ≡ true)
+  seen : (m : S)
+      → ((c : ℕ) (d : Seen X) → T c ≡ Some d → is_instance (content.kind d.node) ≡ false → content.asks d.node ≡ true
+        → meets (content.shape d.node) m ≡ true → agenda c ≡ true)
       → (l : Ranked S) → l.shape ≡ m → SeenQueued edit nodes l queued
   seen m found l is_l n k a h solid sees =
       let y = keeps-node content T great n k a h in
@@ -134,7 +138,8 @@ module _ {X S A B F P : Type 0} (shapes : Shapes S) (content : Content X S A F P
         | inr a' ↦ on y.0 y.1 n y.2 y.3 (found y.0 y.1 y.2 plain (a' ∙ ap asks shape ∙ is.0) (ap (λ z. meets z m) shape ∙ is.1))
       ]
 
-  fresh : (c : ℕ) (d : Seen X) → V c ≡ None → T c ≡ Some d → IsFresh edit start nodes (rank d.node) (content.kind d.node)
+  fresh : (c : ℕ) (d : Seen X) → V c ≡ None → T c ≡ Some d
+      → IsFresh edit start nodes (rank d.node) (content.kind d.node)
   fresh c d none t = record {
     new = inl (r.waits c d none t);
     bare = λ i m j a below h.
@@ -169,7 +174,9 @@ module _ {X S A B F P : Type 0} (shapes : Shapes S) (content : Content X S A F P
             inl (keeps_as shapes content old V was small within y.0 y.1 m k a v y.3 y.4 y.5)
       ]
 
-  to : (m : Ranked S) (k : Kind F P) (a : A) → Keeps start m k a → Keeps nodes m k a ⊎ (((p : Ranked S) (i : ℕ) → IsChild (chain_of shapes p) i (chain_of shapes m) → (j : Kind F P) (b : A) → Keeps start p j b → Keeps nodes p j b → ⊥) × SeenQueued edit nodes m queued)
+  to : (m : Ranked S) (k : Kind F P) (a : A) → Keeps start m k a
+      → Keeps nodes m k a ⊎ (((p : Ranked S) (i : ℕ) → IsChild (chain_of shapes p) i (chain_of shapes m)
+        → (j : Kind F P) (b : A) → Keeps start p j b → Keeps nodes p j b → ⊥) × SeenQueued edit nodes m queued)
   to m k a h =
       let y = keeps-node content V small m k a h in
       elim (bool_cases (gone y.0)) [
@@ -197,17 +204,25 @@ module _ {X S A B F P : Type 0} (shapes : Shapes S) (content : Content X S A F P
       ]
 
   -- where the node isn't on the agenda, renewing its children changes nothing
-  renews : (c : ℕ) (d : Seen X) → V c ≡ Some d → T c ≡ Some d → gone c ≡ false → is_instance (content.kind d.node) ≡ false → agenda c ≡ false → renewed edit.renew (edit.old.expand (rank d.node) (content.answers d.node)) ≡ edit.old.expand (rank d.node) (content.answers d.node)
+  renews : (c : ℕ) (d : Seen X) → V c ≡ Some d → T c ≡ Some d → gone c ≡ false
+      → is_instance (content.kind d.node) ≡ false → agenda c ≡ false
+      → renewed edit.renew (edit.old.expand (rank d.node) (content.answers d.node)) ≡ edit.old.expand (rank d.node)
+        (content.answers d.node)
   renews c d v t g solid off = by (edit.old.expand n (content.answers d.node)) refl (settled (started.right n (content.kind d.node) (content.answers d.node) (keeps_as shapes content old V was small within c d n (content.kind d.node) (content.answers d.node) v refl refl refl) solid))
     where
       n : Ranked S
       n = rank d.node
 
-      settled : (false ≡ true) ⊎ IsRight (old_world edit) start (rank d.node) (content.kind d.node) (content.answers d.node) → IsSettled (old_world edit) start (rank d.node) (content.kind d.node) (edit.old.expand (rank d.node) (content.answers d.node))
+      settled : (false ≡ true) ⊎ IsRight (old_world edit) start (rank d.node) (content.kind d.node)
+            (content.answers d.node)
+          → IsSettled (old_world edit) start (rank d.node) (content.kind d.node)
+            (edit.old.expand (rank d.node) (content.answers d.node))
       settled (inl q) = let z : false ≡ true = q in absurd (cc)
       settled (inr x) = x.1
 
-      fixed : (cs : List (Placed (Ranked S) F P)) → edit.old.expand (rank d.node) (content.answers d.node) ≡ Ok cs → HasChildren (old_world edit) start (rank d.node) cs → (x : Placed (Ranked S) F P) → Among x cs → edit.renew x ≡ x
+      fixed : (cs : List (Placed (Ranked S) F P)) → edit.old.expand (rank d.node) (content.answers d.node) ≡ Ok cs
+          → HasChildren (old_world edit) start (rank d.node) cs → (x : Placed (Ranked S) F P) → Among x cs
+          → edit.renew x ≡ x
       fixed cs e has x i =
           let found = has.all x.shape x.kind (among-Has cs x i) in
           let k = Keeps-Has start x.shape found.0 found.1 in
@@ -224,11 +239,14 @@ module _ {X S A B F P : Type 0} (shapes : Shapes S) (content : Content X S A F P
             | inr p ↦ p ∙ ap (λ (l : Ranked S). new.priority l.shape) y.3
           ])
 
-      by : (o : Result (List (Placed (Ranked S) F P)) F) → edit.old.expand (rank d.node) (content.answers d.node) ≡ o → IsSettled (old_world edit) start (rank d.node) (content.kind d.node) o → renewed edit.renew o ≡ o
+      by : (o : Result (List (Placed (Ranked S) F P)) F) → edit.old.expand (rank d.node) (content.answers d.node) ≡ o
+          → IsSettled (old_world edit) start (rank d.node) (content.kind d.node) o → renewed edit.renew o ≡ o
       by (Ok cs) e h = ap Ok (map-fixed edit.renew cs (fixed cs e h.1))
       by (Err f) e h = refl
 
-  changed : (n : Ranked S) (k : Kind F P) (a : A) → Keeps nodes n k a → is_instance k ≡ false → (queued n ≡ true) ⊎ ((edit.old.setting n ≡ edit.new.setting n) × (renewed edit.renew (edit.old.expand n a) ≡ edit.old.expand n a))
+  changed : (n : Ranked S) (k : Kind F P) (a : A) → Keeps nodes n k a → is_instance k ≡ false
+      → (queued n ≡ true) ⊎ ((edit.old.setting n ≡ edit.new.setting n)
+        × (renewed edit.renew (edit.old.expand n a) ≡ edit.old.expand n a))
   changed n k a h solid =
       let y = keeps-node content T great n k a h in
       let plain : is_instance (content.kind y.1.node) ≡ false = ap is_instance y.4 ∙ solid in

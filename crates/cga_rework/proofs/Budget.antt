@@ -3,17 +3,21 @@ use Rattle.std.proofs.Common.{◌≡◌, ℕ, ◌+◌, ◌-◌, ◌≤◌, ◌<�
 use Rattle.std.specs.Prelude.{nat_lt}
 use Rattle.std.proofs.lemmas.Bool.Decides.{nat_tests}
 use Rattle.cga_order.specs.declared.placed.Placed.{Placed}
-use Rattle.cga_order.proofs.Maxima.{either}
-use Rattle.cga_derivation.proofs.One.{Says}
+use Rattle.cga_derivation.proofs.Door.{Says, reached-longer, says, settled-reached}
+use Rattle.std.proofs.lemmas.Bool.{cases_Bool as either}
 use Rattle.cga_derivation.specs.Derivation.{Derivation, IsDerivation, reached, derive, NothingWaits}
-use Rattle.cga_derivation.proofs.Budget.{settled-reached, reached-longer}
-use Rattle.cga_derivation.proofs.Derive.{says}
 
 module _ {N A F P : Type 0} (derivation : Derivation N A F P) (laws : IsDerivation derivation) where
-  pub derived_or_none : (budget : ℕ) → (derive derivation budget ≡ None) ⊎ (((m : ℕ) → length (reached derivation m) ≤ budget) × ((n : ℕ) × NothingWaits derivation (reached derivation n)))
+  pub derived_or_none : (budget : ℕ)
+      → (derive derivation budget ≡ None)
+        ⊎ (((m : ℕ) → length (reached derivation m) ≤ budget)
+        × ((n : ℕ) × NothingWaits derivation (reached derivation n)))
   derived_or_none budget = by (derive derivation budget) refl (says derivation laws budget)
     where
-      by : (o : Option (List (Placed N F P))) → derive derivation budget ≡ o → Says derivation laws budget o → (derive derivation budget ≡ None) ⊎ (((m : ℕ) → length (reached derivation m) ≤ budget) × ((n : ℕ) × NothingWaits derivation (reached derivation n)))
+      by : (o : Option (List (Placed N F P))) → derive derivation budget ≡ o → Says derivation laws budget o
+          → (derive derivation budget ≡ None)
+            ⊎ (((m : ℕ) → length (reached derivation m) ≤ budget)
+            × ((n : ℕ) × NothingWaits derivation (reached derivation n)))
       by None e h = inl e
       by (Some list) e h = inr (h.0, (h.1.0, subst (NothingWaits derivation) h.1.2 h.1.3))
 

@@ -5,13 +5,11 @@ use Rattle.cga_tree.specs.Tree.{Seen, View}
 use Rattle.cga_order.specs.World.{Among, is_instance}
 use Rattle.cga_order.specs.declared.placed.Kind.TheVariants.{Instance}
 use Rattle.cga_order.specs.Agenda.{Node, members_of}
-use Rattle.cga_order.proofs.Turns.{Has-Keeps, Keeps-Has}
+use Rattle.cga_agenda.proofs.Door.{Has-drawn, count_append, drawn-Has, once-drawn}
+use Rattle.cga_order.proofs.Door.{Among-append, Has-Keeps, Keeps-Has, Once-append, count-once}
 use Rattle.cga_order.specs.Once.{Once}
 use Rattle.cga_agenda.specs.Known.{shapes_of}
 use Rattle.cga_agenda.specs.Record.{Drawn, drawn, Draws, IsChange}
-use Rattle.cga_order.proofs.Once.{Among-append, Once-append, count-once}
-use Rattle.cga_agenda.proofs.Record.{count_append}
-use Rattle.cga_agenda.proofs.Update.{drawn-Has, Has-drawn, once-drawn}
 use Rattle.cga_rework.specs.Rules.{Shapes, Rules, IsRulesEdit}
 use Rattle.cga_rework.specs.Ranked.{Ranked}
 use Rattle.cga_rework.specs.Nodes.{Content, ranked_of, nodes_of, IsBound}
@@ -72,7 +70,8 @@ module _ {N A F P : Type 0} (before after : List (Node N A F P)) (gone come : Li
   }
 
 module _ {X S A B F P : Type 0} (shapes : Shapes S) (content : Content X S A F P) (rules : Rules S A B F P) (V : View X) (city : IsCity shapes content rules V) (n : ℕ) (bound : IsBound V n) where
-  pub keeps_drawn : (c : ℕ) (d : Seen X) (x : Drawn (Ranked S) P) → V c ≡ Some d → ranked_of content d.node ≡ x.shape → content.kind d.node ≡ Instance x.solid → Draws (nodes_of content V n) x
+  pub keeps_drawn : (c : ℕ) (d : Seen X) (x : Drawn (Ranked S) P) → V c ≡ Some d → ranked_of content d.node ≡ x.shape
+      → content.kind d.node ≡ Instance x.solid → Draws (nodes_of content V n) x
   keeps_drawn c d x v q k = (content.answers d.node, keeps_as shapes content rules V city n bound c d x.shape (Instance x.solid) (content.answers d.node) v q k refl)
 
 module _ {X S A B F P : Type 0} (shapes : Shapes S) (content : Content X S A F P) (old rules : Rules S A B F P) (laws : IsRulesEdit shapes old rules) (t : Replacing shapes content rules)

@@ -7,21 +7,16 @@ use Rattle.cga_order.specs.declared.placed.Kind.{Kind}
 use Rattle.cga_order.specs.declared.placed.Kind.TheVariants.{Done, Instance}
 use Rattle.cga_order.specs.Consistent.{SameMembers}
 use Rattle.cga_order.specs.Agenda.{Node, members_of, Keeps}
-use Rattle.cga_order.proofs.Chains.{snoc-same}
+use Rattle.cga_agenda.proofs.Door.{IsUpdate, all_derived, known_derived, path_not_empty, turned_derived, update}
+use Rattle.cga_fraction.proofs.Door.{length-map}
+use Rattle.cga_order.proofs.Door.{Once-index, length-once, slice_get-map, snoc-same}
 use Rattle.cga_agenda.specs.Edit.{Edit, IsEdit, NonInstance}
 use Rattle.cga_rework.specs.Ranked.{Ranked, ranked_world, edit_of, unranked, unranked_drawn}
 use Rattle.cga_order.specs.Once.{Once}
 use Rattle.cga_agenda.specs.Work.{IsWorking, IsStart}
 use Rattle.cga_agenda.specs.Record.{Drawn, drawn, IsRecord}
 use Rattle.cga_agenda.specs.Known.{shapes_of, IsKnown}
-use Rattle.cga_agenda.proofs.Update.{IsUpdate}
 use Rattle.cga_rework.proofs.Lists.{Among-map, map-Among, Once-map, count-map, drawn-unranked}
-use Rattle.cga_order.proofs.Places.{slice_get-map}
-use Rattle.cga_order.proofs.Once.{length-once, Once-index}
-use Rattle.cga_agenda.proofs.Working.{path_not_empty}
-use Rattle.cga_agenda.proofs.Made.{length-map}
-use Rattle.cga_agenda.proofs.Budget.{known_derived, turned_derived, all_derived}
-use Rattle.cga_agenda.proofs.Update.{update}
 use Rattle.cga_derivation.specs.Derivation.{IsDerivation, reached, derive, NothingWaits, IsDerived}
 use Rattle.cga_rework.specs.Rules.{Shapes, Rules, IsRulesEdit, derivation_of}
 use Rattle.cga_rework.specs.Touched.{Kept, SameInputs, Touched}
@@ -30,11 +25,12 @@ use Rattle.cga_rework.proofs.Worlds.{is_world, make, root_ranked, shape_of}
 use Rattle.cga_rework.proofs.Runs.{RankedRun, ranked_run, unranked-Has, Has-unranked}
 use Rattle.cga_rework.proofs.Touched.{quiet, touched, kept_old, from_shape, inputs_ranked}
 use Rattle.cga_rework.proofs.Budget.{derived_or_none, over_to, over_from}
-use Rattle.cga_order.proofs.Steps as steps
+use Rattle.cga_order.proofs.Door as steps
 use Rattle.cga_agenda.specs.Edit as agenda
 
 module _ {S A B F P : Type 0} (shapes : Shapes S) where
-  pub once_roots : (rules : Rules S A B F P) → IsDerivation (derivation_of shapes rules) → Once (ranked_world shapes rules).roots
+  pub once_roots : (rules : Rules S A B F P) → IsDerivation (derivation_of shapes rules)
+      → Once (ranked_world shapes rules).roots
   once_roots rules are =
       Once-index (ranked_world shapes rules).roots
       (λ x i j e f.
@@ -114,13 +110,15 @@ module _ {S A B F P : Type 0} (shapes : Shapes S) where
         size_of : length run.1 ≡ length (reached (derivation_of shapes new) j)
         size_of = sym (length-map unranked run.1) ∙ ap length run.3
 
-        known_fits : (known : List (Ranked S)) → IsKnown edit now worked known → length known ≤ length (reached (derivation_of shapes new) j)
+        known_fits : (known : List (Ranked S)) → IsKnown edit now worked known
+            → length known ≤ length (reached (derivation_of shapes new) j)
         known_fits known knows = subst (λ n. length known ≤ n) size_of (known_derived edit made start started now queued turned worked good run.0 run.1 run.2 (quiet shapes new laws.is j settled run) known knows)
 
         turned_fits : length turned ≤ length (reached (derivation_of shapes new) j)
         turned_fits = subst (λ n. length turned ≤ n) size_of (turned_derived edit made start started now queued turned worked good run.0 run.1 run.2 (quiet shapes new laws.is j settled run))
 
-      pub early : (known : List (Ranked S)) → IsKnown edit now worked known → (budget : ℕ) → (budget < length known) ⊎ (budget < length turned) → derive (derivation_of shapes new) budget ≡ None
+      pub early : (known : List (Ranked S)) → IsKnown edit now worked known → (budget : ℕ)
+          → (budget < length known) ⊎ (budget < length turned) → derive (derivation_of shapes new) budget ≡ None
       early known knows budget over = elim (derived_or_none (derivation_of shapes new) laws.is budget) [
         | inl none ↦ none
         | inr (all, (j, settled)) ↦
@@ -139,7 +137,8 @@ module _ {S A B F P : Type 0} (shapes : Shapes S) where
           size : length now ≡ length (new_list j)
           size = (all_derived edit made start started now queued turned worked good w.0 w.1 w.2 (quiet shapes new laws.is j quiet_new w) empty (once_roots new laws.is) now_once).1 ∙ (sym (length-map unranked w.1) ∙ ap length w.3)
 
-          old_distinct : (n m : Ranked S) (k l : Kind F P) → Has o.1 n k → Has o.1 m l → shapes.lot n.shape ≡ shapes.lot m.shape → shapes.path n.shape ≡ shapes.path m.shape → n ≡ m
+          old_distinct : (n m : Ranked S) (k l : Kind F P) → Has o.1 n k → Has o.1 m l
+              → shapes.lot n.shape ≡ shapes.lot m.shape → shapes.path n.shape ≡ shapes.path m.shape → n ≡ m
           old_distinct n m k l h g e f = ((steps.in_order (ranked_world shapes old) (is_world shapes old laws.was) o.0 o.1 o.2).distinct n m k l h g (λ t. (e t, f t))).0
 
           work : IsExactWork shapes old new now worked (old_list i) (new_list j)
@@ -151,7 +150,10 @@ module _ {S A B F P : Type 0} (shapes : Shapes S) where
           non_ranked : (s : S) → NonInstance (new_list j) s → (n : Ranked S) × NonInstance w.1 n × (n.shape ≡ s)
           non_ranked = ranked_of now worked i j quiet_old quiet_new o w done.0 done.1.once done.1.touched
 
-          each_gone : (d : Drawn (Ranked S) P) → Among d gone → Has (old_list i) d.shape.shape (Instance d.solid) × ((parent : S) (l : ℕ) → NonInstance (new_list j) parent → IsBelow shapes parent l d.shape.shape → Kept shapes old new (old_list i) (new_list j) parent → SameInputs shapes old new parent → ⊥)
+          each_gone : (d : Drawn (Ranked S) P) → Among d gone
+              → Has (old_list i) d.shape.shape (Instance d.solid)
+                × ((parent : S) (l : ℕ) → NonInstance (new_list j) parent → IsBelow shapes parent l d.shape.shape
+                → Kept shapes old new (old_list i) (new_list j) parent → SameInputs shapes old new parent → ⊥)
           each_gone d h =
               let g = done.1.each_gone d h in (
                 subst (λ x. Has x d.shape.shape (Instance d.solid)) o.3 (unranked-Has o.1 d.shape (Instance d.solid) g.0),
@@ -170,7 +172,10 @@ module _ {S A B F P : Type 0} (shapes : Shapes S) where
                     ],
               )
 
-          each_come : (d : Drawn (Ranked S) P) → Among d come → Has (new_list j) d.shape.shape (Instance d.solid) × ((parent : S) × (l : ℕ) × IsBelow shapes parent l d.shape.shape × Touched shapes old new (old_list i) (new_list j) parent)
+          each_come : (d : Drawn (Ranked S) P) → Among d come
+              → Has (new_list j) d.shape.shape (Instance d.solid)
+                × ((parent : S) × (l : ℕ) × IsBelow shapes parent l d.shape.shape
+                × Touched shapes old new (old_list i) (new_list j) parent)
           each_come d h =
               let g = done.1.each_come d h in
               let t = g.1.3 in (
@@ -188,10 +193,13 @@ module _ {S A B F P : Type 0} (shapes : Shapes S) where
               let shape = new_one x.shape y.shape (Instance x.solid) (Instance y.solid) (done.1.each_come x a).0 (done.1.each_come y b).0 (λ t. (e t).shape) in
               λ t. record { shape = shape t; solid = (e t).solid })
 
-          shape_count : (test : Drawn S P → Bool) (C : List (Placed (Ranked S) F P)) (list : List (Placed S F P)) → map unranked C ≡ list → count_by test (drawn list) ≡ count_by (λ d. test (unranked_drawn d)) (drawn C)
+          shape_count : (test : Drawn S P → Bool) (C : List (Placed (Ranked S) F P)) (list : List (Placed S F P))
+              → map unranked C ≡ list → count_by test (drawn list) ≡ count_by (λ d. test (unranked_drawn d)) (drawn C)
           shape_count test C list e = ap (λ l. count_by test (drawn l)) (sym e) ∙ (ap (count_by test) (drawn-unranked C) ∙ count-map unranked_drawn test (drawn C))
 
-          balance : (test : Drawn S P → Bool) → count_by test (drawn (old_list i)) + count_by test (map unranked_drawn come) ≡ count_by test (drawn (new_list j)) + count_by test (map unranked_drawn gone)
+          balance : (test : Drawn S P → Bool)
+              → count_by test (drawn (old_list i)) + count_by test (map unranked_drawn come) ≡ count_by test
+                (drawn (new_list j)) + count_by test (map unranked_drawn gone)
           balance test =
               let law = done.1.balance (λ d. test (unranked_drawn d)) in
               let one = shape_count test o.1 (old_list i) o.3 in
@@ -215,7 +223,13 @@ module _ {S A B F P : Type 0} (shapes : Shapes S) where
             balance = balance;
           }
 
-    pub rework : (start now : Nodes) (queued : Ranked S → Bool) (turned worked : List (Ranked S)) (gone come : List (Drawn (Ranked S) P)) → IsStart edit start → Once (shapes_of (members_of start)) → IsWorking edit start now queued turned worked → Once (shapes_of (members_of now)) → IsRecord edit start now worked gone come → ((n : Ranked S) (k : Kind F P) (a : A) → Keeps now n k a → queued n ≡ false) → (before after : List (Placed S F P)) → IsDerived (derivation_of shapes old) before → IsDerived (derivation_of shapes new) after → IsExactRework shapes old new now worked gone come before after
+    pub rework : (start now : Nodes) (queued : Ranked S → Bool) (turned worked : List (Ranked S))
+          (gone come : List (Drawn (Ranked S) P))
+        → IsStart edit start → Once (shapes_of (members_of start)) → IsWorking edit start now queued turned worked
+        → Once (shapes_of (members_of now)) → IsRecord edit start now worked gone come
+        → ((n : Ranked S) (k : Kind F P) (a : A) → Keeps now n k a → queued n ≡ false)
+        → (before after : List (Placed S F P)) → IsDerived (derivation_of shapes old) before
+        → IsDerived (derivation_of shapes new) after → IsExactRework shapes old new now worked gone come before after
     rework start now queued turned worked gone come started start_once good now_once kept empty list other (i, e, was) (j, f, is) =
         let settled_old = subst (NothingWaits (derivation_of shapes old)) e was in
         let settled_new = subst (NothingWaits (derivation_of shapes new)) f is in

@@ -5,19 +5,14 @@ use Rattle.cga_order.specs.World.{Has}
 use Rattle.cga_order.specs.declared.placed.Placed.{Placed}
 use Rattle.cga_order.specs.declared.placed.Kind.TheVariants.{Waiting, Done}
 use Rattle.cga_agenda.specs.Edit.{NonInstance}
-use Rattle.cga_derivation.proofs.Lists.{ok_same}
+use Rattle.cga_fraction.proofs.Door.{None-not-Some as none, same_Ok as ok_same, same_Some as some}
 use Rattle.cga_derivation.specs.Derivation.{IsDerivation, reached, step, IsDerived}
 use Rattle.cga_rework.specs.Rules.{derivation_of}
 use Rattle.cga_rework.specs.Touched.{Answered, Kept}
 use Rattle.cga_rework.specs.Example.{path_of, children_of, two_shapes, with_priority, both_done, PriorityTouchesTheChild}
 
-some : {X : Type 0} (x y : X) → Some x ≡ Some y → x ≡ y
-some x y e = cc
-
-none : {X Y : Type 0} (x : X) → ◌≡◌ {A = Option X} None (Some x) → Y
-none x e = cc
-
-child_at : (s i : ℕ) (c : Placed ℕ ℕ ℕ) → slice_get (children_of s) i ≡ Some c → (path_of c.shape ≡ path_of s ++ i ∷ []) × (c.kind ≡ Waiting)
+child_at : (s i : ℕ) (c : Placed ℕ ℕ ℕ) → slice_get (children_of s) i ≡ Some c
+    → (path_of c.shape ≡ path_of s ++ i ∷ []) × (c.kind ≡ Waiting)
 child_at zero zero c e =
     let is = some (record { shape = 1; kind = Waiting }) c e in
     (ap (λ x. path_of x.shape) (sym is), ap (λ x. x.kind) (sym is))
@@ -68,7 +63,8 @@ not_kept kept =
     let m = kept 1 (omega arith) in
     by m.0 m.2 m.3 m.5
   where
-    by : (m : ℕ) → path_of m ≡ 0 ∷ [] → NonInstance both_done m → (with_priority 0).priority m ≡ (with_priority 5).priority m → ⊥
+    by : (m : ℕ) → path_of m ≡ 0 ∷ [] → NonInstance both_done m
+        → (with_priority 0).priority m ≡ (with_priority 5).priority m → ⊥
     by zero path there same = let e = ap length path in omega (arith, e)
     by (suc m) path there same = let e : 0 ≡ 5 = same in omega (arith, e)
 

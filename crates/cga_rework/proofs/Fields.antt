@@ -21,7 +21,10 @@ use Rattle.cga_rework.proofs.Replaced.{Replacing, IsComer, comer, where_from, be
 use Rattle.cga_rework.proofs.Went as went
 
 -- the node that was taken is the next
-pub is_next : {X S A B F P : Type 0} (shapes : Shapes S) (content : Content X S A F P) (rules : Rules S A B F P) (V : View X) (city : IsCity shapes content rules V) (small id : ℕ) (e : Seen X) (agenda rest : ℕ → Bool) → IsTaken shapes content V id e agenda rest → (queued : Ranked S → Bool) → AreQueued shapes content V agenda queued → IsNext (ranked_world shapes rules) (nodes_of content V small) (ranked_of content e.node) queued
+pub is_next : {X S A B F P : Type 0} (shapes : Shapes S) (content : Content X S A F P) (rules : Rules S A B F P)
+      (V : View X) (city : IsCity shapes content rules V) (small id : ℕ) (e : Seen X) (agenda rest : ℕ → Bool)
+    → IsTaken shapes content V id e agenda rest → (queued : Ranked S → Bool) → AreQueued shapes content V agenda queued
+    → IsNext (ranked_world shapes rules) (nodes_of content V small) (ranked_of content e.node) queued
 is_next shapes content rules V city small id e agenda rest taken queued are = record {
   there = (are id e taken.here).1 taken.there;
   first = λ m k a h q apart.
@@ -67,7 +70,8 @@ module _ {X S A B F P : Type 0} (shapes : Shapes S) (content : Content X S A F P
   abbrev IsNewcomer : ℕ → Seen X → Type 0
   IsNewcomer c d = IsComer shapes content rules t c d
 
-  from_where : (c : ℕ) (d : Seen X) → t.T c ≡ Some d → ((c ≡ t.id) × (d ≡ t.now)) ⊎ (((c ≢ t.id) × (t.V c ≡ Some d) × (t.gone c ≡ false)) ⊎ IsNewcomer c d)
+  from_where : (c : ℕ) (d : Seen X) → t.T c ≡ Some d
+      → ((c ≡ t.id) × (d ≡ t.now)) ⊎ (((c ≢ t.id) × (t.V c ≡ Some d) × (t.gone c ≡ false)) ⊎ IsNewcomer c d)
   from_where = where_from shapes content rules t
 
   stays_on : (c : ℕ) (x d : Seen X) → t.V c ≡ Some x → t.T c ≡ Some d → c ≢ t.id → agenda c ≡ true → after c ≡ true
@@ -106,7 +110,8 @@ module _ {X S A B F P : Type 0} (shapes : Shapes S) (content : Content X S A F P
         inr (ap content.priority y.node ∙ t.are.priced y.place y.asked_for y.wanted ∙ ap (λ z. rules.priority (content.shape z)) (sym y.node))
   ]
 
-  late : (c : ℕ) (d : Seen X) (n : Ranked S) → t.T c ≡ Some d → rank d.node ≡ n → IsEarlier w (stamp_of w s) (stamp_of w n) → ComesLater content shapes t.e.node d.node
+  late : (c : ℕ) (d : Seen X) (n : Ranked S) → t.T c ≡ Some d → rank d.node ≡ n
+      → IsEarlier w (stamp_of w s) (stamp_of w n) → ComesLater content shapes t.e.node d.node
   late c d n u q h = later shapes content rules t.e.node d.node (keyed shapes content rules t.V t.start t.id t.e t.r.was) (keyed shapes content rules t.T city c d u) (subst (λ m. IsEarlier w (stamp_of w s) (stamp_of w m)) (sym q) h)
 
   -- what sees what went is on the agenda
@@ -138,14 +143,16 @@ module _ {X S A B F P : Type 0} (shapes : Shapes S) (content : Content X S A F P
             on y.0 y.1 n y.2 y.3 (moved.arrived b y.0 x y.1 v came y.2 plain does meet (late y.0 y.1 n y.2 y.3 after_s))
       ]
 
-  keeps_before : (c : ℕ) (d : Seen X) (m : Ranked S) (k : Kind F P) (a : A) → t.V c ≡ Some d → rank d.node ≡ m → content.kind d.node ≡ k → content.answers d.node ≡ a → Keeps nodes m k a
+  keeps_before : (c : ℕ) (d : Seen X) (m : Ranked S) (k : Kind F P) (a : A) → t.V c ≡ Some d → rank d.node ≡ m
+      → content.kind d.node ≡ k → content.answers d.node ≡ a → Keeps nodes m k a
   keeps_before = keeps_as shapes content rules t.V t.start small within
 
   self_is : (d : Seen X) → d ≡ t.now → rank d.node ≡ s
   self_is d f = ap (λ (y : Seen X). rank y.node) f ∙ rank_self shapes content rules t
 
   -- each other node is as it was, or came
-  pub from : (m : Ranked S) (k : Kind F P) (a : A) → Keeps nodes' m k a → m ≢ s → Keeps nodes m k a ⊎ (Came w nodes' s m k requeued × IsFresh edit nodes nodes' m k)
+  pub from : (m : Ranked S) (k : Kind F P) (a : A) → Keeps nodes' m k a → m ≢ s
+      → Keeps nodes m k a ⊎ (Came w nodes' s m k requeued × IsFresh edit nodes nodes' m k)
   from m k a h apart =
       let y = keeps-node content t.T great m k a h in
       elim (from_where y.0 y.1 y.2) [
@@ -166,7 +173,8 @@ module _ {X S A B F P : Type 0} (shapes : Shapes S) (content : Content X S A F P
       ]
 
   -- each node remains, or went
-  pub to : (m : Ranked S) (k : Kind F P) (a : A) → Keeps nodes m k a → Remains w nodes' m k ⊎ Went w s m nodes nodes' requeued
+  pub to : (m : Ranked S) (k : Kind F P) (a : A) → Keeps nodes m k a
+      → Remains w nodes' m k ⊎ Went w s m nodes nodes' requeued
   to m k a h =
       let y = keeps-node content t.V small m k a h in
       elim (bool_cases (t.gone y.0)) [
@@ -192,7 +200,8 @@ module _ {X S A B F P : Type 0} (shapes : Shapes S) (content : Content X S A F P
   pub tree : kept.IsTree w nodes'
   tree = is_tree shapes content rules t.T city great within'
 
-  pub queued_still : (m : Ranked S) (k : Kind F P) (a : A) → Keeps nodes' m k a → is_instance k ≡ false → m ≢ s → queued m ≡ true → requeued m ≡ true
+  pub queued_still : (m : Ranked S) (k : Kind F P) (a : A) → Keeps nodes' m k a → is_instance k ≡ false → m ≢ s
+      → queued m ≡ true → requeued m ≡ true
   queued_still m k a h solid apart q =
       let y = keeps-node content t.T great m k a h in
       let plain : is_instance (content.kind y.1.node) ≡ false = ap is_instance y.4 ∙ solid in

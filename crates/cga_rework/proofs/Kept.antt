@@ -8,19 +8,17 @@ use Rattle.cga_order.specs.declared.placed.Placed.{Placed}
 use Rattle.cga_order.specs.declared.placed.Kind.{Kind}
 use Rattle.cga_order.specs.declared.placed.Kind.TheVariants.{Waiting, Done, Faulted, Instance}
 use Rattle.cga_order.specs.Run.{outcome, start, IsStep, Reached}
-use Rattle.cga_order.proofs.Chains.{snoc-same}
-use Rattle.cga_order.proofs.Members.{place_dec, Has-index, Has-start}
+use Rattle.cga_agenda.proofs.Door.{path_not_empty}
+use Rattle.cga_order.proofs.Door.{Has-index, Has-start, place_dec, slice_get-map, snoc-same}
 use Rattle.cga_agenda.specs.Edit.{Edit, NonInstance}
 use Rattle.cga_rework.specs.Ranked.{Ranked, placed_as, placed, all_placed, chain_of, ranked_world, edit_of, unranked}
 use Rattle.cga_rework.proofs.Lists.{Among-map}
-use Rattle.cga_order.proofs.Places.{slice_get-map}
-use Rattle.cga_agenda.proofs.Working.{path_not_empty}
 use Rattle.cga_derivation.specs.Derivation.{IsDerivation}
 use Rattle.cga_rework.specs.Rules.{Shapes, Rules, derivation_of}
 use Rattle.cga_rework.specs.Touched.{Kept}
 use Rattle.cga_rework.proofs.Worlds.{is_world}
 use Rattle.cga_rework.proofs.Runs.{unranked-Has, Has-unranked}
-use Rattle.cga_order.proofs.Steps as steps
+use Rattle.cga_order.proofs.Door as steps
 use Rattle.cga_agenda.specs.Edit as agenda
 
 module _ {S A B F P : Type 0} (shapes : Shapes S) (old new : Rules S A B F P) where
@@ -53,7 +51,8 @@ module _ {S A B F P : Type 0} (shapes : Shapes S) (old new : Rules S A B F P) wh
         subst (SiteIs (start world)) w.2 (inl (are.root w.0 w.1, refl))
 
     module _ (C D : Sited) (s : Ranked S) (good : steps.IsOrdered world C) (step : IsStep world C D s) where
-      changes : steps.Changes world C D s (steps.kind_after world (outcome world C s)) (steps.children_of world (outcome world C s))
+      changes : steps.Changes world C D s (steps.kind_after world (outcome world C s))
+            (steps.children_of world (outcome world C s))
       changes = steps.Changes-step world laws C D s good step
 
       done-stays : (p : Ranked S) → Has C p Done → Has D p Done
@@ -65,7 +64,11 @@ module _ {S A B F P : Type 0} (shapes : Shapes S) (old new : Rules S A B F P) wh
       ranked-stays : (n : Ranked S) → SiteIs C n → SiteIs D n
       ranked-stays n is = elim is [ inl r ↦ inl r | inr c ↦ inr (c.0, c.1, done-stays c.0 c.2, c.3, c.4) ]
 
-      ranked-child : (r : Result (List (Placed S F P)) F) (a : A) → rules.expand s.shape a ≡ r → all_placed rules.priority (chain_of shapes s).priorities r ≡ outcome world C s → (n : Ranked S) (k : Kind F P) → Has (steps.children_of world (all_placed rules.priority (chain_of shapes s).priorities r)) n k → is_instance k ≡ false → SiteIs D n
+      ranked-child : (r : Result (List (Placed S F P)) F) (a : A) → rules.expand s.shape a ≡ r
+          → all_placed rules.priority (chain_of shapes s).priorities r ≡ outcome world C s
+          → (n : Ranked S) (k : Kind F P)
+          → Has (steps.children_of world (all_placed rules.priority (chain_of shapes s).priorities r)) n k
+          → is_instance k ≡ false → SiteIs D n
       ranked-child (Err f) a e same n k h i = absurd h
       ranked-child (Ok es) a e same n k h i =
           let f = placed {F = F} {P = P} rules.priority (chain_of shapes s).priorities in
@@ -74,7 +77,10 @@ module _ {S A B F P : Type 0} (shapes : Shapes S) (old new : Rules S A B F P) wh
           let child = (steps.law world laws C D s good step n k (subst (λ r. Has (steps.children_of world r) n k) same h)).1 in
           by g.0.shape g.0.kind (ap (λ m. m.shape) g.2 ∙ w.3) (ap (λ m. m.kind) g.2 ∙ w.4) child (subst (Has D s) (ap (steps.kind_after world) (sym same)) changes.itself)
         where
-          by : (t : S) (kind : Kind F P) → let m : Placed (Ranked S) F P = placed_as rules.priority (chain_of shapes s).priorities t kind in m.shape ≡ n → m.kind ≡ k → ((j : ℕ) × IsChild (chain_of shapes s) j (chain_of shapes n)) → Has D s Done → SiteIs D n
+          by : (t : S) (kind : Kind F P)
+              → let m : Placed (Ranked S) F P = placed_as rules.priority (chain_of shapes s).priorities t kind in
+                m.shape ≡ n
+              → m.kind ≡ k → ((j : ℕ) × IsChild (chain_of shapes s) j (chain_of shapes n)) → Has D s Done → SiteIs D n
           by t Waiting is kind child done = inr (s, child.0, done, child.1, sym (ap (λ x. x.priorities) is) ∙ ap (λ x. (chain_of shapes s).priorities ++ rules.priority x ∷ []) (ap (λ x. x.shape) is))
           by t Done is kind child done = inr (s, child.0, done, child.1, sym (ap (λ x. x.priorities) is) ∙ ap (λ x. (chain_of shapes s).priorities ++ rules.priority x ∷ []) (ap (λ x. x.shape) is))
           by t (Faulted f) is kind child done = inr (s, child.0, done, child.1, sym (ap (λ x. x.priorities) is) ∙ ap (λ x. (chain_of shapes s).priorities ++ rules.priority x ∷ []) (ap (λ x. x.shape) is))
@@ -93,7 +99,8 @@ module _ {S A B F P : Type 0} (shapes : Shapes S) (old new : Rules S A B F P) wh
     all_ranked-reached [] C e = subst SitesAre (sym e) all_ranked-start
     all_ranked-reached (s ∷ taken) D (C, reached, step) = all_ranked-next C D s (steps.in_order world laws taken C reached) step (all_ranked-reached taken C reached)
 
-    pub last_is : (C : Sited) (n : Ranked S) → SiteIs C n → (above : List ℕ) × (n.priorities ≡ above ++ rules.priority n.shape ∷ [])
+    pub last_is : (C : Sited) (n : Ranked S) → SiteIs C n
+        → (above : List ℕ) × (n.priorities ≡ above ++ rules.priority n.shape ∷ [])
     last_is C n is = elim is [ inl r ↦ ([], r.1) | inr c ↦ ((chain_of shapes c.0).priorities, c.4) ]
 
   module _ (olds : IsDerivation (derivation_of shapes old)) (news : IsDerivation (derivation_of shapes new)) (taken_old taken_new : List (Ranked S)) (O W : Sited) (run_old : Reached (world old olds) taken_old O) (run_new : Reached (world new news) taken_new W) where
@@ -119,14 +126,18 @@ module _ {S A B F P : Type 0} (shapes : Shapes S) (old new : Rules S A B F P) wh
     erased-non : (ms : Sited) (n : Ranked S) → NonInstance ms n → NonInstance (map unranked ms) n.shape
     erased-non ms n is = (is.0, unranked-Has ms n is.0 is.1, is.2)
 
-    non-erased : (ms : Sited) (s : S) → NonInstance (map unranked ms) s → (n : Ranked S) × NonInstance ms n × (n.shape ≡ s)
+    non-erased : (ms : Sited) (s : S) → NonInstance (map unranked ms) s
+        → (n : Ranked S) × NonInstance ms n × (n.shape ≡ s)
     non-erased ms s is = let w = Has-unranked ms s is.0 is.1 in (w.0, (is.0, w.1, is.2), w.2)
 
     ranked_same : (n m : Ranked S) → n.shape ≡ m.shape → n.priorities ≡ m.priorities → n ≡ m
     ranked_same n m e f = λ i. record { shape = e i; priorities = f i }
 
     -- the ranked shape of the old list at the place of n, where its shape and priority are equal
-    at_place : (n : Ranked S) → NonInstance W n → (m : S) → (shapes.lot m ≡ shapes.lot n.shape) → (shapes.path m ≡ shapes.path n.shape) → NonInstance (map unranked O) m → NonInstance (map unranked W) m → (old.priority m ≡ new.priority m) → (x : Ranked S) × NonInstance O x × (x.shape ≡ n.shape) × (old.priority x.shape ≡ new.priority n.shape)
+    at_place : (n : Ranked S) → NonInstance W n → (m : S) → (shapes.lot m ≡ shapes.lot n.shape)
+        → (shapes.path m ≡ shapes.path n.shape) → NonInstance (map unranked O) m → NonInstance (map unranked W) m
+        → (old.priority m ≡ new.priority m)
+        → (x : Ranked S) × NonInstance O x × (x.shape ≡ n.shape) × (old.priority x.shape ≡ new.priority n.shape)
     at_place n is m lot path was there priority =
         let y = non-erased W m there in
         let same : y.0 ≡ n = (good_new.distinct y.0 n y.1.0 is.0 y.1.1 is.1 (λ i. ((ap shapes.lot y.2 ∙ lot) i, (ap shapes.path y.2 ∙ path) i))).0 in
@@ -134,7 +145,8 @@ module _ {S A B F P : Type 0} (shapes : Shapes S) (old new : Rules S A B F P) wh
         let x = non-erased O m was in
         (x.0, x.1, x.2 ∙ shape, ap old.priority x.2 ∙ (priority ∙ ap new.priority shape))
 
-    from_shape : (bound : ℕ) (n : Ranked S) → length (shapes.path n.shape) < bound → NonInstance W n → Kept shapes old new (map unranked O) (map unranked W) n.shape → agenda.Kept edit O W n
+    from_shape : (bound : ℕ) (n : Ranked S) → length (shapes.path n.shape) < bound → NonInstance W n
+        → Kept shapes old new (map unranked O) (map unranked W) n.shape → agenda.Kept edit O W n
     from_shape zero n lt is kept = absurd (omega (arith, lt))
     from_shape (suc bound) n lt is kept =
         let m = kept (length (shapes.path n.shape)) (omega arith) in
@@ -168,7 +180,12 @@ module _ {S A B F P : Type 0} (shapes : Shapes S) (old new : Rules S A B F P) wh
         kept_old zero p h = h.0
         kept_old (suc depth) p h = h.0
 
-    pub kept_shape : ((n : Ranked S) → agenda.Kept edit O W n → (i : ℕ) → i ≤ length (shapes.path n.shape) → (m : Ranked S) × (shapes.lot m.shape ≡ shapes.lot n.shape) × (shapes.path m.shape ≡ take i (shapes.path n.shape)) × NonInstance O m × NonInstance W m) → (n : Ranked S) → NonInstance W n → (agenda.Kept edit O W n → Kept shapes old new (map unranked O) (map unranked W) n.shape) × (Kept shapes old new (map unranked O) (map unranked W) n.shape → agenda.Kept edit O W n)
+    pub kept_shape : ((n : Ranked S) → agenda.Kept edit O W n → (i : ℕ) → i ≤ length (shapes.path n.shape)
+          → (m : Ranked S) × (shapes.lot m.shape ≡ shapes.lot n.shape)
+          × (shapes.path m.shape ≡ take i (shapes.path n.shape)) × NonInstance O m × NonInstance W m)
+        → (n : Ranked S) → NonInstance W n
+        → (agenda.Kept edit O W n → Kept shapes old new (map unranked O) (map unranked W) n.shape)
+          × (Kept shapes old new (map unranked O) (map unranked W) n.shape → agenda.Kept edit O W n)
     kept_shape prefixes n is = (
       (λ k i le.
           let m = prefixes n k i le in

@@ -1,28 +1,29 @@
-pub mod Lists
-pub mod Worlds
-pub mod Runs
-pub mod Kept
-pub mod OwnStep
-pub mod Touched
-pub mod Budget
-pub mod End
-pub mod More
-pub mod Loop
-pub mod Again
-pub mod Example
-pub mod Stands
-pub mod NodeLists
-pub mod Place
-pub mod Replaced
-pub mod Went
-pub mod Queue
-pub mod Fields
-pub mod Renewed
-pub mod Outcome
-pub mod Whole
-pub mod Views
-pub mod Begun
-pub mod Roots
-pub mod Changes
-pub mod StandsAgain
-pub mod TreeExample
+mod Lists
+mod Worlds
+mod Runs
+mod Kept
+mod OwnStep
+mod Touched
+mod Budget
+mod End
+mod More
+mod Loop
+mod Again
+mod Example
+mod Stands
+mod NodeLists
+mod Place
+mod Replaced
+mod Went
+mod Queue
+mod Fields
+mod Renewed
+mod Outcome
+mod Whole
+mod Views
+mod Begun
+mod Roots
+mod Changes
+mod StandsAgain
+mod TreeExample
+pub mod Door

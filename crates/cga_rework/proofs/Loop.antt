@@ -3,7 +3,7 @@ use Rattle.std.proofs.Common.{◌≡◌, ℕ, ◌+◌, List, length, refl, Optio
 use Rattle.cga_order.specs.declared.placed.Placed.{Placed}
 use Rattle.cga_order.specs.Agenda.{Node}
 use Rattle.cga_derivation.specs.Derivation.{derive, IsDerived}
-use Rattle.cga_derivation.proofs.One.{within}
+use Rattle.cga_derivation.proofs.Door.{within}
 use Rattle.cga_agenda.specs.Work.{StandOnce, IsStart}
 use Rattle.cga_agenda.specs.Loop.{State, IsDone}
 use Rattle.cga_rework.specs.Rules.{Shapes, Rules, IsRulesEdit, derivation_of}

@@ -10,9 +10,7 @@ use Rattle.cga_order.specs.declared.placed.Kind.{Kind}
 use Rattle.cga_order.specs.declared.placed.Kind.TheVariants.{Waiting, Done, Faulted, Instance}
 use Rattle.cga_order.specs.Consistent.{Stands}
 use Rattle.cga_order.specs.Agenda.{Node, Keeps, members_of, HasChildren, IsSettled}
-use Rattle.cga_order.proofs.Members.{Has-index}
-use Rattle.cga_order.proofs.Places.{slice_get-map}
-use Rattle.cga_order.proofs.Turns.{Has-Keeps}
+use Rattle.cga_order.proofs.Door.{Has-Keeps, Has-index, slice_get-map}
 use Rattle.cga_agenda.specs.Edit.{Edit}
 use Rattle.cga_agenda.specs.Work.{Expands, HasRenewed, Places, renewed_child, first_kind}
 use Rattle.cga_rework.specs.Rules.{Shapes, Rules}
@@ -25,7 +23,8 @@ use Rattle.cga_rework.proofs.Place.{chain_line, child_rank, child_is, same_ranke
 use Rattle.cga_rework.proofs.Replaced.{Replacing, get_along, stayed, stays_fit, rank_old, rank_self, city_after}
 use Rattle.cga_rework.proofs.Renewed.{ends_with, placed_below, renewed_below}
 
-pub index-Has : {N F P : Type 0} (xs : List (Placed N F P)) (i : ℕ) (m : Placed N F P) → slice_get xs i ≡ Some m → Has xs m.shape m.kind
+pub index-Has : {N F P : Type 0} (xs : List (Placed N F P)) (i : ℕ) (m : Placed N F P) → slice_get xs i ≡ Some m
+    → Has xs m.shape m.kind
 index-Has [] i m h = none_some m h
 index-Has (x ∷ xs) zero m h = let q : x ≡ m = some_same x m h in inl (ap (λ y. y.shape) q, ap (λ y. y.kind) q)
 index-Has (x ∷ xs) (suc i) m h = inr (index-Has xs i m h)
@@ -62,7 +61,8 @@ module _ {X S A B F P : Type 0} (shapes : Shapes S) (content : Content X S A F P
     pub instances : is_instance (content.kind seen.node) ≡ is_instance (content.kind x)
     pub solid : is_instance (content.kind x) ≡ true → content.kind seen.node ≡ content.kind x
 
-  child_there : (i c : ℕ) (x : X) → slice_get t.now.children i ≡ Some c → slice_get t.news i ≡ Some x → IsChildNow t.V t.T t.id t.e t.gone x i c → IsChildAt i c x
+  child_there : (i c : ℕ) (x : X) → slice_get t.now.children i ≡ Some c → slice_get t.news i ≡ Some x
+      → IsChildNow t.V t.T t.id t.e t.gone x i c → IsChildAt i c x
   child_there i c x at wanted (inl stay) =
       let u = t.start.tree.down t.id i c t.e t.r.was stay.0 in
       let y = stayed shapes content rules t c u.0 u.1 stay.1 in
@@ -107,7 +107,8 @@ module _ {X S A B F P : Type 0} (shapes : Shapes S) (content : Content X S A F P
       (content.kind c.1.seen.node, Has-Keeps after (rank x) (content.kind c.1.seen.node) (content.answers c.1.seen.node) k, c.1.instances, c.1.solid)
 
   -- what stands right below the node was asked for
-  wanted_there : (m : Ranked S) (k : Kind F P) (a : A) (i : ℕ) → Keeps after m k a → IsChild (chain_of shapes s) i (chain_of shapes m) → (x : X) × (slice_get t.news i ≡ Some x) × (rank x ≡ m)
+  wanted_there : (m : Ranked S) (k : Kind F P) (a : A) (i : ℕ) → Keeps after m k a
+      → IsChild (chain_of shapes s) i (chain_of shapes m) → (x : X) × (slice_get t.news i ≡ Some x) × (rank x ≡ m)
   wanted_there m k a i h below =
       let y = keeps-node content t.T great m k a h in
       let under : IsChild (chain_of shapes (rank t.now.node)) i (chain_of shapes (rank y.1.node)) =
@@ -124,19 +125,22 @@ module _ {X S A B F P : Type 0} (shapes : Shapes S) (content : Content X S A F P
   above_is = chain_line shapes content rules t.V t.start t.id t.e t.r.was
 
   -- an instance that is asked for has the priority of the node
-  drawn_own : (i : ℕ) (y : X) → slice_get t.news i ≡ Some y → is_instance (content.kind y) ≡ true → content.priority y ≡ content.priority t.e.node
+  drawn_own : (i : ℕ) (y : X) → slice_get t.news i ≡ Some y → is_instance (content.kind y) ≡ true
+      → content.priority y ≡ content.priority t.e.node
   drawn_own i y wanted q = t.are.priced i y wanted ∙ t.by_symbol y t.e.node ((t.are.below i y wanted).symbol q) ∙ sym t.own
 
   abbrev child : Placed S F P → Placed (Ranked S) F P
   child c = placed rules.priority (chain_of shapes s).priorities c
 
-  placed_is : (i : ℕ) (y : X) → slice_get t.news i ≡ Some y → child (placed_of content y) ≡ record { shape = rank y; kind = content.kind y }
+  placed_is : (i : ℕ) (y : X) → slice_get t.news i ≡ Some y
+      → child (placed_of content y) ≡ record { shape = rank y; kind = content.kind y }
   placed_is i y wanted =
       ap (λ above. placed rules.priority above (placed_of content y)) above_is
       ∙ placed_below shapes content rules (content.line t.e.node) (content.priority t.e.node) (ends_with shapes content rules t.V t.start t.id t.e t.r.was) y (t.are.below i y wanted).line (λ q. t.are.priced i y wanted) (λ q. drawn_own i y wanted q)
 
   -- the children are those of a list
-  has_children : (children : List (Placed S F P)) → map (placed_of content) t.news ≡ children → HasChildren w after s (map child children)
+  has_children : (children : List (Placed S F P)) → map (placed_of content) t.news ≡ children
+      → HasChildren w after s (map child children)
   has_children children are = record {
     all = λ c k h.
         let i = Has-index (map child children) c k h in
@@ -153,24 +157,28 @@ module _ {X S A B F P : Type 0} (shapes : Shapes S) (content : Content X S A F P
         (content.kind x.0, subst (λ l. Has (map child children) l (content.kind x.0)) x.2 (index-Has (map child children) i (record { shape = rank x.0; kind = content.kind x.0 }) at'));
   }
     where
-      get_map : {Y Z : Type 0} (f : Y → Z) (xs : List Y) (i : ℕ) (x : Y) → slice_get xs i ≡ Some x → slice_get (map f xs) i ≡ Some (f x)
+      get_map : {Y Z : Type 0} (f : Y → Z) (xs : List Y) (i : ℕ) (x : Y) → slice_get xs i ≡ Some x
+          → slice_get (map f xs) i ≡ Some (f x)
       get_map f [] i x e = none_some x e
       get_map f (y ∷ xs) zero x e = ap (λ z. Some (f z)) (some_same y x e)
       get_map f (y ∷ xs) (suc i) x e = get_map f xs i x e
 
-  settled : (outcome : Result (List (Placed S F P)) F) → IsOutcome content t.now.node t.news outcome → IsSettled w after s (content.kind t.now.node) (all_placed rules.priority (chain_of shapes s).priorities outcome)
+  settled : (outcome : Result (List (Placed S F P)) F) → IsOutcome content t.now.node t.news outcome
+      → IsSettled w after s (content.kind t.now.node) (all_placed rules.priority (chain_of shapes s).priorities outcome)
   settled (Ok children) h = (h.0, has_children children h.1)
   settled (Err fault) h = (h.0, has_children [] (ap (map (placed_of content)) h.1))
 
   -- what stands at the node's place is the node
-  self_there : (k : Kind F P) (a : A) → Keeps after s k a → (content.kind t.now.node ≡ k) × (content.answers t.now.node ≡ a)
+  self_there : (k : Kind F P) (a : A) → Keeps after s k a
+      → (content.kind t.now.node ≡ k) × (content.answers t.now.node ≡ a)
   self_there k a h =
       let y = keeps-node content t.T great s k a h in
       let q = same_ranked shapes content rules t.T city y.0 t.id y.1 t.now y.2 t.r.is (y.3 ∙ sym (rank_self shapes content rules t)) in
       (ap (λ (d : Seen X). content.kind d.node) (sym q.1) ∙ y.4, ap (λ (d : Seen X). content.answers d.node) (sym q.1) ∙ y.5)
 
   -- the turn that expands
-  pub expands : IsExpanded shapes content old rules t.V small t.e.node t.now.node t.news → Expands edit before after s (content.kind t.e.node) (content.answers t.e.node)
+  pub expands : IsExpanded shapes content old rules t.V small t.e.node t.now.node t.news
+      → Expands edit before after s (content.kind t.e.node) (content.answers t.e.node)
   expands x = record {
     must = x.must;
     now = λ k a h.
@@ -182,7 +190,8 @@ module _ {X S A B F P : Type 0} (shapes : Shapes S) (content : Content X S A F P
   }
 
   -- a child from before, with its new priority, is what was asked for again
-  renewed_is : AreAgain content t.V t.e t.news → (i b : ℕ) (y : X) (x : Seen X) → slice_get t.news i ≡ Some y → slice_get t.e.children i ≡ Some b → t.V b ≡ Some x
+  renewed_is : AreAgain content t.V t.e t.news → (i b : ℕ) (y : X) (x : Seen X) → slice_get t.news i ≡ Some y
+      → slice_get t.e.children i ≡ Some b → t.V b ≡ Some x
       → renewed_child edit (rank x.node) (content.kind x.node) ≡ record { shape = rank y; kind = content.kind y }
   renewed_is again i b y x wanted child v =
       let q = again.each i b y x wanted child v in
@@ -218,7 +227,8 @@ module _ {X S A B F P : Type 0} (shapes : Shapes S) (content : Content X S A F P
         (rank u.0.node, content.kind u.0.node, content.answers u.0.node, u.0.index, keeps shapes content rules t.V t.start small within b.0 u.0 u.1, child_rank shapes content rules t.V t.start b.0 t.id u.0 t.e u.1 u.2 t.r.was, ap (λ (z : Placed (Ranked S) F P). z.shape) q ∙ x.2);
   }
 
-  pub places : IsRepriced shapes content old rules t.V small t.e t.now.node t.news → Places edit before after s (content.kind t.e.node) (content.answers t.e.node)
+  pub places : IsRepriced shapes content old rules t.V small t.e t.now.node t.news
+      → Places edit before after s (content.kind t.e.node) (content.answers t.e.node)
   places x = record {
     done = x.done;
     setting = x.same.0;

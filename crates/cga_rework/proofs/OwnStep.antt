@@ -5,11 +5,10 @@ use Rattle.std.proofs.lemmas.Bool.Decides.{nat_tests}
 use Rattle.cga_order.specs.World.{Has}
 use Rattle.cga_order.specs.declared.placed.Placed.{Placed}
 use Rattle.cga_order.specs.declared.placed.Kind.TheVariants.{Waiting}
-use Rattle.cga_order.proofs.Maxima.{either}
-use Rattle.cga_order.proofs.Members.{waits}
+use Rattle.cga_derivation.proofs.Door.{first_of-Has, first_of-passes, settled-reached}
+use Rattle.cga_order.proofs.Door.{waits}
+use Rattle.std.proofs.lemmas.Bool.{and_parts as both, cases_Bool as either}
 use Rattle.cga_derivation.specs.Derivation.{Derivation, is_next, next_of, asked, reached, NothingWaits}
-use Rattle.cga_derivation.proofs.Along.{both, first_of-passes, first_of-Has}
-use Rattle.cga_derivation.proofs.Budget.{settled-reached}
 use Rattle.cga_rework.specs.Touched.{Answered}
 use Rattle.cga_rework.proofs.Runs.{AnsweredTo}
 
@@ -18,7 +17,8 @@ module _ {N A F P : Type 0} (derivation : Derivation N A F P) where
   answered_at zero s a h = absurd h
   answered_at (suc n) s a h = elim h [ inl f ↦ (n, f.0, f.1, f.2, f.3) | inr r ↦ answered_at n s a r ]
 
-  within : (n k : ℕ) → k < n → (s : N) (a : A) (m : Placed N F P) → next_of derivation (reached derivation k) ≡ Some m → m.shape ≡ s → asked derivation (reached derivation k) s ≡ a → AnsweredTo derivation n s a
+  within : (n k : ℕ) → k < n → (s : N) (a : A) (m : Placed N F P) → next_of derivation (reached derivation k) ≡ Some m
+      → m.shape ≡ s → asked derivation (reached derivation k) s ≡ a → AnsweredTo derivation n s a
   within zero k lt s a m e f g = absurd (omega (arith, lt))
   within (suc n) k lt s a m e f g = elim (either (nat_lt k n)) [
     | inl t ↦ inr (within n k (grind (arith, nat_tests)) s a m e f g)
@@ -30,7 +30,8 @@ module _ {N A F P : Type 0} (derivation : Derivation N A F P) where
       last : (i j : ℕ) → i < suc j → nat_lt i j ≡ false → i ≡ j
       last i j lt t = grind (arith, nat_tests)
 
-  pub answered_by : (n : ℕ) → NothingWaits derivation (reached derivation n) → (s : N) (a : A) → Answered derivation s a → AnsweredTo derivation n s a
+  pub answered_by : (n : ℕ) → NothingWaits derivation (reached derivation n) → (s : N) (a : A) → Answered derivation s a
+      → AnsweredTo derivation n s a
   answered_by n quiet s a (k, m, e, f, g) = elim (either (nat_lt k n)) [
     | inl t ↦ within n k (less k n t) s a m e f g
     | inr t ↦

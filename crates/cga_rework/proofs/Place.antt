@@ -8,9 +8,9 @@ use Rattle.cga_order.specs.World.{World, Among, IsEarlier, stamp_of}
 use Rattle.cga_order.specs.declared.placed.Kind.{Kind}
 use Rattle.cga_order.specs.Agenda.{Node, Keeps}
 use Rattle.cga_order.specs.Agenda as agenda
-use Rattle.cga_order.proofs.Chains.{snoc-same}
-use Rattle.cga_agenda.proofs.Working.{path_not_empty}
-use Rattle.cga_derivation.proofs.Sites.{fitted-same}
+use Rattle.cga_agenda.proofs.Door.{path_not_empty}
+use Rattle.cga_derivation.proofs.Door.{fitted-same}
+use Rattle.cga_order.proofs.Door.{snoc-same}
 use Rattle.cga_rework.specs.Rules.{Shapes, Rules}
 use Rattle.cga_rework.specs.Ranked.{Ranked, chain_of, ranked_world}
 use Rattle.cga_rework.specs.Nodes.{Content, ranked_of, kept_key, nodes_of, IsBound, ComesLater}
@@ -39,29 +39,34 @@ module _ {X S A B F P : Type 0} (shapes : Shapes S) (content : Content X S A F P
   abbrev pub IsKeyed : X → Type 0
   IsKeyed x = chain_of shapes (rank x) ≡ kept_key content shapes x
 
-  pub earlier : (x y : X) → IsKeyed x → IsKeyed y → ComesLater content shapes x y → IsEarlier w (stamp_of w (rank x)) (stamp_of w (rank y))
+  pub earlier : (x y : X) → IsKeyed x → IsKeyed y → ComesLater content shapes x y
+      → IsEarlier w (stamp_of w (rank x)) (stamp_of w (rank y))
   earlier x y p q h = ap (λ c. stamps_cmp shapes.mode (stamp shapes.mode c) (stamp shapes.mode (chain_of shapes (rank y)))) p ∙ ap (λ c. stamps_cmp shapes.mode (stamp shapes.mode (kept_key content shapes x)) (stamp shapes.mode c)) q ∙ h
 
-  pub later : (x y : X) → IsKeyed x → IsKeyed y → IsEarlier w (stamp_of w (rank x)) (stamp_of w (rank y)) → ComesLater content shapes x y
+  pub later : (x y : X) → IsKeyed x → IsKeyed y → IsEarlier w (stamp_of w (rank x)) (stamp_of w (rank y))
+      → ComesLater content shapes x y
   later x y p q h = sym (ap (λ c. stamps_cmp shapes.mode (stamp shapes.mode c) (stamp shapes.mode (chain_of shapes (rank y)))) p ∙ ap (λ c. stamps_cmp shapes.mode (stamp shapes.mode (kept_key content shapes x)) (stamp shapes.mode c)) q) ∙ h
 
   module _ (T : View X) (city : IsCity shapes content rules T) where
     -- the parent of a node, one level above
-    pub parent_of : (c p : ℕ) (d : Seen X) → T c ≡ Some d → d.parent ≡ Some p → (e : Seen X) × (T p ≡ Some e) × (d.depth ≡ e.depth + 1) × (slice_get e.children d.index ≡ Some c)
+    pub parent_of : (c p : ℕ) (d : Seen X) → T c ≡ Some d → d.parent ≡ Some p
+        → (e : Seen X) × (T p ≡ Some e) × (d.depth ≡ e.depth + 1) × (slice_get e.children d.index ≡ Some c)
     parent_of c p d t up =
         let u = city.tree.up c p d t up in
         let v = city.tree.down p d.index c u.0 u.1 u.2 in
         let same : v.0 ≡ d = some_same v.0 d (sym v.1 ∙ t) in
         (u.0, u.1, ap (λ (x : Seen X). x.depth) (sym same) ∙ v.3, u.2)
 
-    pub path_child : (c p : ℕ) (d e : Seen X) → T c ≡ Some d → d.parent ≡ Some p → T p ≡ Some e → path d.node ≡ path e.node ++ d.index ∷ []
+    pub path_child : (c p : ℕ) (d e : Seen X) → T c ≡ Some d → d.parent ≡ Some p → T p ≡ Some e
+        → path d.node ≡ path e.node ++ d.index ∷ []
     path_child c p d e t up at = (city.child c p d e t up at).place.1
 
     pub lot_child : (c p : ℕ) (d e : Seen X) → T c ≡ Some d → d.parent ≡ Some p → T p ≡ Some e → lot d.node ≡ lot e.node
     lot_child c p d e t up at = (city.child c p d e t up at).place.0
 
     -- one priority for the node and each on its path
-    sized : (n c : ℕ) (d : Seen X) → T c ≡ Some d → d.depth ≡ n → length (content.line d.node) ≡ length (path d.node) + 1
+    sized : (n c : ℕ) (d : Seen X) → T c ≡ Some d → d.depth ≡ n
+        → length (content.line d.node) ≡ length (path d.node) + 1
     sized zero c d t deep = elim (option_cases d.parent) [
       | inl top ↦ (let at = city.root c d t top in let a = ap length at.line in let b : length (path d.node) ≡ 0 = ap length at.path in omega (arith, a, b))
       | inr up ↦ (let u = parent_of c up.0 d t up.1 in let x = u.2 in absurd (omega (arith, x, deep)))
@@ -79,14 +84,16 @@ module _ {X S A B F P : Type 0} (shapes : Shapes S) (content : Content X S A F P
     ]
 
     -- the chain of a node has its priorities as they are
-    pub chain_line : (c : ℕ) (d : Seen X) → T c ≡ Some d → (chain_of shapes (rank d.node)).priorities ≡ content.line d.node
+    pub chain_line : (c : ℕ) (d : Seen X) → T c ≡ Some d
+        → (chain_of shapes (rank d.node)).priorities ≡ content.line d.node
     chain_line c d t = fitted-same (length (path d.node) + 1) (content.line d.node) (sized d.depth c d t refl)
 
     pub keyed : (c : ℕ) (d : Seen X) → T c ≡ Some d → IsKeyed d.node
     keyed c d t = let q = chain_line c d t in λ i. record { lot = lot d.node; path = path d.node; priorities = q i }
 
     -- a node stands right below its parent
-    pub child_rank : (c p : ℕ) (d e : Seen X) → T c ≡ Some d → d.parent ≡ Some p → T p ≡ Some e → IsChild (chain_of shapes (rank e.node)) d.index (chain_of shapes (rank d.node))
+    pub child_rank : (c p : ℕ) (d e : Seen X) → T c ≡ Some d → d.parent ≡ Some p → T p ≡ Some e
+        → IsChild (chain_of shapes (rank e.node)) d.index (chain_of shapes (rank d.node))
     child_rank c p d e t up at =
         let x = city.child c p d e t up at in
         record {
@@ -99,7 +106,8 @@ module _ {X S A B F P : Type 0} (shapes : Shapes S) (content : Content X S A F P
     SamePlaces x y = (lot x ≡ lot y) × (path x ≡ path y)
 
     -- a node with a parent isn't where a root is
-    apart_top : (c b q : ℕ) (d e : Seen X) → T c ≡ Some d → T b ≡ Some e → d.parent ≡ None → e.parent ≡ Some q → path d.node ≡ path e.node → ⊥
+    apart_top : (c b q : ℕ) (d e : Seen X) → T c ≡ Some d → T b ≡ Some e → d.parent ≡ None → e.parent ≡ Some q
+        → path d.node ≡ path e.node → ⊥
     apart_top c b q d e t u top up same =
         let v = parent_of b q e u up in
         path_not_empty (path v.0.node) e.index (sym (path_child b q e v.0 u up v.1) ∙ sym same ∙ (city.root c d t top).path)
@@ -133,18 +141,22 @@ module _ {X S A B F P : Type 0} (shapes : Shapes S) (content : Content X S A F P
       ]
     ]
 
-    pub same_node : (c b : ℕ) (d e : Seen X) → T c ≡ Some d → T b ≡ Some e → SamePlaces d.node e.node → (c ≡ b) × (d ≡ e)
+    pub same_node : (c b : ℕ) (d e : Seen X) → T c ≡ Some d → T b ≡ Some e → SamePlaces d.node e.node
+        → (c ≡ b) × (d ≡ e)
     same_node c b d e t u same =
         let q = same_id d.depth c b d e refl t u same in
         (q, some_same d e (sym t ∙ ap T q ∙ u))
 
     -- the same of equal ranked shapes
-    pub same_ranked : (c b : ℕ) (d e : Seen X) → T c ≡ Some d → T b ≡ Some e → rank d.node ≡ rank e.node → (c ≡ b) × (d ≡ e)
+    pub same_ranked : (c b : ℕ) (d e : Seen X) → T c ≡ Some d → T b ≡ Some e → rank d.node ≡ rank e.node
+        → (c ≡ b) × (d ≡ e)
     same_ranked c b d e t u same =
         same_node c b d e t u (ap (λ (n : Ranked S). shapes.lot n.shape) same, ap (λ (n : Ranked S). shapes.path n.shape) same)
 
     -- what stands right below a node is its child
-    pub child_is : (c p i : ℕ) (d e : Seen X) → T c ≡ Some d → T p ≡ Some e → IsChild (chain_of shapes (rank e.node)) i (chain_of shapes (rank d.node)) → (d.parent ≡ Some p) × (d.index ≡ i) × (slice_get e.children i ≡ Some c)
+    pub child_is : (c p i : ℕ) (d e : Seen X) → T c ≡ Some d → T p ≡ Some e
+        → IsChild (chain_of shapes (rank e.node)) i (chain_of shapes (rank d.node))
+        → (d.parent ≡ Some p) × (d.index ≡ i) × (slice_get e.children i ≡ Some c)
     child_is c p i d e t u below = elim (option_cases d.parent) [
       | inl top ↦ absurd (path_not_empty (path e.node) i (sym below.path ∙ (city.root c d t top).path))
       | inr up ↦
@@ -156,7 +168,8 @@ module _ {X S A B F P : Type 0} (shapes : Shapes S) (content : Content X S A F P
     ]
 
     -- a root, ranked
-    pub root_is : (c : ℕ) (d : Seen X) → T c ≡ Some d → d.parent ≡ None → rank d.node ≡ root_ranked rules (content.shape d.node)
+    pub root_is : (c : ℕ) (d : Seen X) → T c ≡ Some d → d.parent ≡ None
+        → rank d.node ≡ root_ranked rules (content.shape d.node)
     root_is c d t top =
         let q : content.line d.node ≡ rules.priority (content.shape d.node) ∷ [] = (city.root c d t top).line ∙ ap (λ p. p ∷ []) (city.tops.top c d t top).1 in
         λ i. record { shape = content.shape d.node; priorities = q i }
@@ -170,10 +183,12 @@ module _ {X S A B F P : Type 0} (shapes : Shapes S) (content : Content X S A F P
       abbrev pub nodes : List (Node (Ranked S) A F P)
       nodes = nodes_of content T bound
 
-      pub keeps : (c : ℕ) (d : Seen X) → T c ≡ Some d → Keeps nodes (rank d.node) (content.kind d.node) (content.answers d.node)
+      pub keeps : (c : ℕ) (d : Seen X) → T c ≡ Some d
+          → Keeps nodes (rank d.node) (content.kind d.node) (content.answers d.node)
       keeps c d t = node-keeps content T bound c d (bounded c d t) t
 
-      pub keeps_as : (c : ℕ) (d : Seen X) (n : Ranked S) (k : Kind F P) (a : A) → T c ≡ Some d → rank d.node ≡ n → content.kind d.node ≡ k → content.answers d.node ≡ a → Keeps nodes n k a
+      pub keeps_as : (c : ℕ) (d : Seen X) (n : Ranked S) (k : Kind F P) (a : A) → T c ≡ Some d → rank d.node ≡ n
+          → content.kind d.node ≡ k → content.answers d.node ≡ a → Keeps nodes n k a
       keeps_as c d n k a t q f g = subst (λ b. Keeps nodes n k b) g (subst (λ j. Keeps nodes n j (content.answers d.node)) f (subst (λ m. Keeps nodes m (content.kind d.node) (content.answers d.node)) q (keeps c d t)))
 
       pub is_tree : agenda.IsTree w nodes

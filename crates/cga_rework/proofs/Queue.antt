@@ -12,26 +12,7 @@ use Rattle.cga_rework.specs.Agenda.{AreQueued, numbered}
 use Rattle.cga_rework.specs.TreeLaws.{EntriesNumber}
 use Rattle.cga_rework.proofs.NodeLists.{bool_cases, nat_cases, true_false, keeps-node}
 use Rattle.cga_rework.proofs.Place.{same_node}
-
-or_cases : (a b : Bool) → (a || b) ≡ true → (a ≡ true) ⊎ (b ≡ true)
-or_cases true b h = inl refl
-or_cases false b h = inr h
-
-or_left : (a b : Bool) → a ≡ true → (a || b) ≡ true
-or_left true b h = refl
-or_left false b h = let z : false ≡ true = h in absurd (cc)
-
-or_right : (a b : Bool) → b ≡ true → (a || b) ≡ true
-or_right true b h = refl
-or_right false b h = h
-
-and_cases : (a b : Bool) → (a && b) ≡ true → (a ≡ true) × (b ≡ true)
-and_cases true b h = (refl, h)
-and_cases false b h = let z : false ≡ true = h in absurd (cc)
-
-and_true : (a b : Bool) → a ≡ true → b ≡ true → (a && b) ≡ true
-and_true true b h g = g
-and_true false b h g = h
+use Rattle.std.proofs.lemmas.Bool.{and_from as and_true, and_parts as and_cases, or_cases, or_left, or_right}
 
 module _ {X S A F P : Type 0} (shapes : Shapes S) (content : Content X S A F P) (V : View X) (agenda : ℕ → Bool) where
   abbrev lot : Seen X → List ℕ
@@ -67,7 +48,8 @@ module _ {X S A F P : Type 0} (shapes : Shapes S) (content : Content X S A F P) 
           let y = and_cases (pointwise nat_eq (lot d) (shapes.lot n.shape)) (pointwise nat_eq (path d) (shapes.path n.shape)) x.1 in
           (b, d, e, x.0, (bytes_decides (lot d) (shapes.lot n.shape)).0 y.0, (bytes_decides (path d) (shapes.path n.shape)).0 y.1)
 
-  finds : (b c : ℕ) (d : Seen X) → c < b → V c ≡ Some d → agenda c ≡ true → queued_by b (ranked_of content d.node) ≡ true
+  finds : (b c : ℕ) (d : Seen X) → c < b → V c ≡ Some d → agenda c ≡ true
+      → queued_by b (ranked_of content d.node) ≡ true
   finds zero c d lt v q = absurd (omega arith)
   finds (suc b) c d lt v q = elim (nat_cases c b) [
     | inl is ↦
@@ -79,7 +61,8 @@ module _ {X S A F P : Type 0} (shapes : Shapes S) (content : Content X S A F P) 
     | inr ne ↦ or_right (at_place (V b) (agenda b) (ranked_of content d.node)) (queued_by b (ranked_of content d.node)) (finds b c d (omega arith) v q)
   ]
 
-  pub are_queued : {B : Type 0} (rules : Rules S A B F P) → IsCity shapes content rules V → (n : ℕ) → IsBound V n → AreQueued shapes content V agenda (queued_by n)
+  pub are_queued : {B : Type 0} (rules : Rules S A B F P) → IsCity shapes content rules V → (n : ℕ) → IsBound V n
+      → AreQueued shapes content V agenda (queued_by n)
   are_queued rules city n bound c d v = (
     λ h.
         let x = found n (ranked_of content d.node) h in
@@ -89,7 +72,10 @@ module _ {X S A F P : Type 0} (shapes : Shapes S) (content : Content X S A F P) 
   )
 
 -- where no node is on the agenda, nothing is queued
-pub none_queued : {X S A B F P : Type 0} (shapes : Shapes S) (content : Content X S A F P) (old new : Rules S A B F P) (V : View X) (n : ℕ) (agenda : ℕ → Bool) (queued : Ranked S → Bool) → AreQueued shapes content V agenda queued → ((c : ℕ) (d : Seen X) → V c ≡ Some d → agenda c ≡ false) → NoneQueued (edit_of shapes old new) (nodes_of content V n) queued
+pub none_queued : {X S A B F P : Type 0} (shapes : Shapes S) (content : Content X S A F P) (old new : Rules S A B F P)
+      (V : View X) (n : ℕ) (agenda : ℕ → Bool) (queued : Ranked S → Bool)
+    → AreQueued shapes content V agenda queued → ((c : ℕ) (d : Seen X) → V c ≡ Some d → agenda c ≡ false)
+    → NoneQueued (edit_of shapes old new) (nodes_of content V n) queued
 none_queued shapes content old new V n agenda queued are none m k a h =
     let y = keeps-node content V n m k a h in
     elim (bool_cases (queued m)) [

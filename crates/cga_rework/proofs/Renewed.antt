@@ -47,13 +47,16 @@ pub first_plain : {F P : Type 0} (k : Kind F P) → is_instance (first_kind k) �
 first_plain k h = first_alike k ∙ h
 
 -- what has its symbol's priority stays when it is renewed
-pub renew_same : {S F P : Type 0} (priority : S → ℕ) (n : Ranked S) (k : Kind F P) (front : List ℕ) (last : ℕ) → n.priorities ≡ front ++ last ∷ [] → (is_instance k ≡ false → last ≡ priority n.shape) → ◌≡◌ {A = Placed (Ranked S) F P} (renewed_as priority n k) (record { shape = n; kind = k })
+pub renew_same : {S F P : Type 0} (priority : S → ℕ) (n : Ranked S) (k : Kind F P) (front : List ℕ) (last : ℕ)
+    → n.priorities ≡ front ++ last ∷ [] → (is_instance k ≡ false → last ≡ priority n.shape)
+    → ◌≡◌ {A = Placed (Ranked S) F P} (renewed_as priority n k) (record { shape = n; kind = k })
 renew_same {S} {F} {P} priority n k front last e q = by k q
   where
     same : last ≡ priority n.shape → with_last (priority n.shape) n.priorities ≡ n.priorities
     same q = ap (with_last (priority n.shape)) e ∙ with_last-snoc (priority n.shape) last front ∙ ap (λ p. front ++ p ∷ []) (sym q) ∙ sym e
 
-    by : (j : Kind F P) → (is_instance j ≡ false → last ≡ priority n.shape) → ◌≡◌ {A = Placed (Ranked S) F P} (renewed_as priority n j) (record { shape = n; kind = j })
+    by : (j : Kind F P) → (is_instance j ≡ false → last ≡ priority n.shape)
+        → ◌≡◌ {A = Placed (Ranked S) F P} (renewed_as priority n j) (record { shape = n; kind = j })
     by Waiting q = let z = same (q refl) in λ i. record { shape = record { shape = n.shape; priorities = z i }; kind = Waiting }
     by Done q = let z = same (q refl) in λ i. record { shape = record { shape = n.shape; priorities = z i }; kind = Done }
     by (Faulted f) q = let z = same (q refl) in λ i. record { shape = record { shape = n.shape; priorities = z i }; kind = Faulted f }
@@ -61,7 +64,8 @@ renew_same {S} {F} {P} priority n k front last e q = by k q
 
 module _ {X S A B F P : Type 0} (shapes : Shapes S) (content : Content X S A F P) (rules : Rules S A B F P) where
   -- each line ends with its node's priority
-  pub ends_with : (V : View X) → IsCity shapes content rules V → (c : ℕ) (d : Seen X) → V c ≡ Some d → EndsWith (content.line d.node) (content.priority d.node)
+  pub ends_with : (V : View X) → IsCity shapes content rules V → (c : ℕ) (d : Seen X) → V c ≡ Some d
+      → EndsWith (content.line d.node) (content.priority d.node)
   ends_with V city c d v = elim (option_cases d.parent) [
     | inl top ↦ ([], (city.root c d v top).line)
     | inr up ↦
@@ -70,27 +74,33 @@ module _ {X S A B F P : Type 0} (shapes : Shapes S) (content : Content X S A F P
   ]
 
   -- a child that stands at its place below a node is as the theory places it
-  pub placed_below : (above : List ℕ) (own : ℕ) → EndsWith above own → (y : X) → content.line y ≡ above ++ content.priority y ∷ []
+  pub placed_below : (above : List ℕ) (own : ℕ) → EndsWith above own → (y : X)
+      → content.line y ≡ above ++ content.priority y ∷ []
       → (is_instance (content.kind y) ≡ false → content.priority y ≡ rules.priority (content.shape y))
       → (is_instance (content.kind y) ≡ true → content.priority y ≡ own)
-      → placed rules.priority above (placed_of content y) ≡ record { shape = ranked_of content y; kind = content.kind y }
+      → placed rules.priority above (placed_of content y) ≡ record
+        { shape = ranked_of content y; kind = content.kind y }
   placed_below above own ends y line new solid = by (content.kind y) refl
     where
       shown : (p : ℕ) → content.priority y ≡ p → above ++ p ∷ [] ≡ content.line y
       shown p e = ap (λ q. above ++ q ∷ []) (sym e) ∙ sym line
 
-      by : (k : Kind F P) → content.kind y ≡ k → ◌≡◌ {A = Placed (Ranked S) F P} (placed_as rules.priority above (content.shape y) k) (record { shape = ranked_of content y; kind = k })
+      by : (k : Kind F P) → content.kind y ≡ k
+          → ◌≡◌ {A = Placed (Ranked S) F P} (placed_as rules.priority above (content.shape y) k)
+            (record { shape = ranked_of content y; kind = k })
       by Waiting e = let q = shown (rules.priority (content.shape y)) (new (ap is_instance e)) in λ i. record { shape = record { shape = content.shape y; priorities = q i }; kind = Waiting }
       by Done e = let q = shown (rules.priority (content.shape y)) (new (ap is_instance e)) in λ i. record { shape = record { shape = content.shape y; priorities = q i }; kind = Done }
       by (Faulted f) e = let q = shown (rules.priority (content.shape y)) (new (ap is_instance e)) in λ i. record { shape = record { shape = content.shape y; priorities = q i }; kind = Faulted f }
       by (Instance p) e = let q = shown (last_of above) (solid (ap is_instance e) ∙ sym (last_is above own ends)) in λ i. record { shape = record { shape = content.shape y; priorities = q i }; kind = Instance p }
 
   -- and so is one from before, with its new priority
-  pub renewed_below : (old : Rules S A B F P) (above : List ℕ) (x y : X) → content.line x ≡ above ++ content.priority x ∷ [] → content.line y ≡ above ++ content.priority y ∷ []
+  pub renewed_below : (old : Rules S A B F P) (above : List ℕ) (x y : X)
+      → content.line x ≡ above ++ content.priority x ∷ [] → content.line y ≡ above ++ content.priority y ∷ []
       → content.shape y ≡ content.shape x → content.kind y ≡ first_kind (content.kind x)
       → (is_instance (content.kind y) ≡ false → content.priority y ≡ rules.priority (content.shape y))
       → (is_instance (content.kind y) ≡ true → content.priority y ≡ content.priority x)
-      → renewed_child (edit_of shapes old rules) (ranked_of content x) (content.kind x) ≡ record { shape = ranked_of content y; kind = content.kind y }
+      → renewed_child (edit_of shapes old rules) (ranked_of content x) (content.kind x) ≡ record
+        { shape = ranked_of content y; kind = content.kind y }
   renewed_below old above x y line_x line_y shape kind new solid =
       by (first_kind (content.kind x)) refl ∙ ap (λ k. record { shape = ranked_of content y; kind = k }) (sym kind)
     where
@@ -103,7 +113,9 @@ module _ {X S A B F P : Type 0} (shapes : Shapes S) (content : Content X S A F P
       fresh : is_instance (content.kind y) ≡ false → content.priority y ≡ rules.priority (content.shape x)
       fresh i = new i ∙ ap rules.priority shape
 
-      by : (k : Kind F P) → first_kind (content.kind x) ≡ k → ◌≡◌ {A = Placed (Ranked S) F P} (renewed_as rules.priority (ranked_of content x) k) (record { shape = ranked_of content y; kind = k })
+      by : (k : Kind F P) → first_kind (content.kind x) ≡ k
+          → ◌≡◌ {A = Placed (Ranked S) F P} (renewed_as rules.priority (ranked_of content x) k)
+            (record { shape = ranked_of content y; kind = k })
       by Waiting e = let q = own (rules.priority (content.shape x)) (fresh (ap is_instance (kind ∙ e))) in λ i. record { shape = record { shape = back i; priorities = q i }; kind = Waiting }
       by Done e = let q = own (rules.priority (content.shape x)) (fresh (ap is_instance (kind ∙ e))) in λ i. record { shape = record { shape = back i; priorities = q i }; kind = Done }
       by (Faulted f) e = let q = own (rules.priority (content.shape x)) (fresh (ap is_instance (kind ∙ e))) in λ i. record { shape = record { shape = back i; priorities = q i }; kind = Faulted f }

@@ -12,14 +12,12 @@ use Rattle.cga_rework.specs.Turn.{AreAlike, IsFit, KeepsSelf, AreNews}
 use Rattle.cga_rework.specs.TreeLaws.{GoesBySymbol}
 use Rattle.cga_rework.proofs.NodeLists.{bool_cases, nat_cases, option_cases, some_same, none_some, true_false}
 use Rattle.cga_rework.proofs.Place.{parent_of}
+pub use Rattle.cga_fraction.proofs.Door.{slice_get_along as get_along}
 
 pub get_there : {Y : Type 0} (xs : List Y) (i : ℕ) → i < length xs → (x : Y) × (slice_get xs i ≡ Some x)
 get_there [] i h = absurd (omega arith)
 get_there (x ∷ xs) zero h = (x, refl)
 get_there (x ∷ xs) (suc i) h = get_there xs i (omega arith)
-
-pub get_along : {Y Z : Type 0} (xs : List Y) (ys : List Z) (i : ℕ) (x : Y) → length xs ≡ length ys → slice_get xs i ≡ Some x → (y : Z) × (slice_get ys i ≡ Some y)
-get_along xs ys i x q h = let lt = slice_get_within xs i x h in get_there ys i (omega (arith, lt, q))
 
 fit_true : (b g : Bool) → g ≡ false → g ≡ not b → b ≡ true
 fit_true true g f q = refl
@@ -106,7 +104,8 @@ module _ {X S A B F P : Type 0} (shapes : Shapes S) (content : Content X S A F P
   rank_same x v s = let p = s.shape in let q = s.line in λ i. record { shape = p i; priorities = q i }
 
   -- so it is the same ranked shape
-  pub rank_old : (c : ℕ) (d x : Seen X) → V c ≡ Some d → t.gone c ≡ false → T c ≡ Some x → ranked_of content x.node ≡ ranked_of content d.node
+  pub rank_old : (c : ℕ) (d x : Seen X) → V c ≡ Some d → t.gone c ≡ false → T c ≡ Some x
+      → ranked_of content x.node ≡ ranked_of content d.node
   rank_old c d x v g u =
       let y = stayed c d v g in
       let same : x ≡ y.seen = some_same x y.seen (sym u ∙ y.here) in
@@ -151,7 +150,8 @@ module _ {X S A B F P : Type 0} (shapes : Shapes S) (content : Content X S A F P
   ]
 
   -- a node of the new view is the node itself, or as it was, or came
-  pub where_from : (c : ℕ) (d : Seen X) → T c ≡ Some d → ((c ≡ t.id) × (d ≡ now)) ⊎ (((c ≢ t.id) × (V c ≡ Some d) × (t.gone c ≡ false)) ⊎ IsComer c d)
+  pub where_from : (c : ℕ) (d : Seen X) → T c ≡ Some d
+      → ((c ≡ t.id) × (d ≡ now)) ⊎ (((c ≢ t.id) × (V c ≡ Some d) × (t.gone c ≡ false)) ⊎ IsComer c d)
   where_from c d u = elim (nat_cases c t.id) [
     | inl q ↦ inl (q, some_same d now (sym u ∙ ap T q ∙ t.r.is))
     | inr ne ↦ elim (option_cases (V c)) [
@@ -182,7 +182,8 @@ module _ {X S A B F P : Type 0} (shapes : Shapes S) (content : Content X S A F P
   WasBelow c p d x =
       (d' : Seen X) × (x' : Seen X) × (V c ≡ Some d') × (d'.parent ≡ Some p) × (V p ≡ Some x') × SameNode d d' × SameNode x x'
 
-  pub below_before : (c p : ℕ) (d x : Seen X) → T c ≡ Some d → d.parent ≡ Some p → T p ≡ Some x → WasBelow c p d x ⊎ (IsComer c d × (p ≡ t.id) × (x ≡ now))
+  pub below_before : (c p : ℕ) (d x : Seen X) → T c ≡ Some d → d.parent ≡ Some p → T p ≡ Some x
+      → WasBelow c p d x ⊎ (IsComer c d × (p ≡ t.id) × (x ≡ now))
   below_before c p d x u up at = elim (option_cases (V c)) [
     | inl none ↦
         let n = comer c d none u in
@@ -196,7 +197,8 @@ module _ {X S A B F P : Type 0} (shapes : Shapes S) (content : Content X S A F P
         inl (y.0, v.0, y.1, up', v.1, b.0, b'.0)
   ]
 
-  below_as : (x y x' y' : Seen X) → SameNode x x' → SameNode y y' → (i : ℕ) → StandsBelow shapes content x'.node i y'.node → StandsBelow shapes content x.node i y.node
+  below_as : (x y x' y' : Seen X) → SameNode x x' → SameNode y y' → (i : ℕ)
+      → StandsBelow shapes content x'.node i y'.node → StandsBelow shapes content x.node i y.node
   below_as x y x' y' a b i s = record {
     inner = a.instances ∙ s.inner;
     place = (
@@ -221,7 +223,8 @@ module _ {X S A B F P : Type 0} (shapes : Shapes S) (content : Content X S A F P
       (subst (λ y. StandsBelow shapes content now.node n.place y) (sym n.node) (self_below n.place n.asked_for (t.are.below n.place n.asked_for n.wanted)))
 
   -- an instance that came has the priority of the node
-  comer_drawn : (c : ℕ) (d : Seen X) (n : IsComer c d) → is_instance (content.kind d.node) ≡ true → content.priority d.node ≡ content.priority now.node
+  comer_drawn : (c : ℕ) (d : Seen X) (n : IsComer c d) → is_instance (content.kind d.node) ≡ true
+      → content.priority d.node ≡ content.priority now.node
   comer_drawn c d n q =
       let below = t.are.below n.place n.asked_for n.wanted in
       let solid : is_instance (content.kind n.asked_for) ≡ true = ap (λ y. is_instance (content.kind y)) (sym n.node) ∙ q in
@@ -276,12 +279,14 @@ module _ {X S A B F P : Type 0} (shapes : Shapes S) (content : Content X S A F P
   }
 
   -- a child that stays fits what was asked for at its place
-  pub stays_fit : (i c : ℕ) (d : Seen X) (y : X) → slice_get e.children i ≡ Some c → V c ≡ Some d → t.gone c ≡ false → slice_get t.news i ≡ Some y → AreAlike content d.node y
+  pub stays_fit : (i c : ℕ) (d : Seen X) (y : X) → slice_get e.children i ≡ Some c → V c ≡ Some d → t.gone c ≡ false
+      → slice_get t.news i ≡ Some y → AreAlike content d.node y
   stays_fit i c d y child v g wanted =
       t.is_fit.sound d.node y (fit_true (t.fits d.node y) (t.gone c) g (t.r.fate i c d child v ∙ ap (λ o. not (fits_at t.fits d.node o)) wanted))
 
   -- so its priority is its symbol's
-  pub child_priced : (c : ℕ) (d : Seen X) → V c ≡ Some d → d.parent ≡ Some t.id → t.gone c ≡ false → content.priority d.node ≡ rules.priority (content.shape d.node)
+  pub child_priced : (c : ℕ) (d : Seen X) → V c ≡ Some d → d.parent ≡ Some t.id → t.gone c ≡ false
+      → content.priority d.node ≡ rules.priority (content.shape d.node)
   child_priced c d v up g =
       let u = parent_of shapes content rules V t.start c t.id d v up in
       let owner : u.0 ≡ e = some_same u.0 e (sym u.1 ∙ t.r.was) in

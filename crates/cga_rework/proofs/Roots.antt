@@ -7,7 +7,8 @@ use Rattle.cga_rework.specs.Begin.{IsRerooted, IsRemoved, IsAdded}
 use Rattle.cga_rework.specs.TreeLaws.{RootsAddUp}
 use Rattle.cga_rework.proofs.NodeLists.{bool_cases, nat_cases, some_same, none_some}
 
-twice : {X : Type 0} (b g : Bool) (o : Option X) → (if b then None else (if g then None else o)) ≡ (if g || b then None else o)
+twice : {X : Type 0} (b g : Bool) (o : Option X)
+    → (if b then None else (if g then None else o)) ≡ (if g || b then None else o)
 twice true true o = refl
 twice true false o = refl
 twice false true o = refl

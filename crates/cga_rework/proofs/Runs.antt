@@ -1,5 +1,7 @@
 -- A derivation is that of a run over ranked shapes.
-use Rattle.std.proofs.Common.{◌≡◌, ℕ, zero, suc, ◌+◌, ◌⊎◌, List, [], ◌∷◌, ◌++◌, map, length, Bool, true, false, cond, not, ◌&&◌, refl, sym, ap, ◌∙◌, subst, inl, inr, Result, Ok, Err, Option, Some, None, length-append}
+use Rattle.std.proofs.Common.{◌≡◌, ℕ, zero, suc, ◌+◌, ◌⊎◌, List, [], ◌∷◌, ◌++◌, map, length, Bool, true, false, cond}
+use Rattle.std.proofs.Common.{not, ◌&&◌, refl, sym, ap, ◌∙◌, subst, inl, inr, Result, Ok, Err, Option, Some, None}
+use Rattle.std.proofs.Common.{length-append}
 use Rattle.std.specs.Prelude.{slice_index}
 use Rattle.std.specs.Ordering.{is_lt}
 use Rattle.std.specs.declared.cmp.Ordering.TheVariants.{Less}
@@ -11,34 +13,37 @@ use Rattle.cga_order.specs.declared.placed.Placed.{Placed}
 use Rattle.cga_order.specs.declared.placed.Kind.{Kind}
 use Rattle.cga_order.specs.declared.placed.Kind.TheVariants.{Waiting, Done, Faulted, Instance}
 use Rattle.cga_order.specs.Run.{IsStep, Reached}
-use Rattle.cga_order.proofs.Members.{Has-index, Has-start, waits}
+use Rattle.cga_agenda.proofs.Door.{AnsweredIn}
+use Rattle.cga_derivation.proofs.Door.{first_of-Has, first_of-passes, fitted-same, length-fitted, list_all-at, map-map}
+use Rattle.cga_fraction.proofs.Door.{map-append}
+use Rattle.cga_order.proofs.Door.{Has-index, Has-start, slice_get-map, waits}
+use Rattle.std.proofs.lemmas.Bool.{and_parts as both}
 use Rattle.cga_rework.specs.Ranked.{Ranked, placed_as, placed, all_placed, chain_of, ranked_world, unranked}
 use Rattle.cga_derivation.specs.Sites.{fitted}
-use Rattle.cga_agenda.proofs.Own.{AnsweredIn}
-use Rattle.cga_derivation.proofs.Sites.{length-fitted, fitted-same}
 use Rattle.cga_rework.proofs.Lists.{Among-map}
-use Rattle.cga_order.proofs.Places.{slice_get-map}
 use Rattle.cga_derivation.specs.Derivation.{Derivation, IsDerivation, is_next, next_of, same_place, become, told, asked, outcome, start, rank_of, step_by, step, reached}
-use Rattle.cga_derivation.proofs.Along.{both, map-map, map-append, first_of-passes, first_of-Has, list_all-at}
 use Rattle.cga_rework.specs.Rules.{Shapes, Rules, derivation_of}
 use Rattle.cga_rework.proofs.Worlds.{is_world, shape_of}
 use Rattle.cga_order.specs.Run as run
-use Rattle.cga_order.proofs.Steps as steps
+use Rattle.cga_order.proofs.Door as steps
 
 index-snoc : (xs : List ℕ) (x : ℕ) → slice_index (xs ++ x ∷ []) (length xs) ≡ x
 index-snoc xs x = get_or-append_seam xs x [] 0
 
 module _ {S F P : Type 0} where
-  pub unranked-Has : (ms : List (Placed (Ranked S) F P)) (n : Ranked S) (k : Kind F P) → Has ms n k → Has (map unranked ms) n.shape k
+  pub unranked-Has : (ms : List (Placed (Ranked S) F P)) (n : Ranked S) (k : Kind F P) → Has ms n k
+      → Has (map unranked ms) n.shape k
   unranked-Has [] n k h = absurd h
   unranked-Has (m ∷ ms) n k h = elim h [ inl e ↦ inl (ap shape_of e.0, e.1) | inr r ↦ inr (unranked-Has ms n k r) ]
 
-  pub Has-unranked : (ms : List (Placed (Ranked S) F P)) (s : S) (k : Kind F P) → Has (map unranked ms) s k → (n : Ranked S) × Has ms n k × (n.shape ≡ s)
+  pub Has-unranked : (ms : List (Placed (Ranked S) F P)) (s : S) (k : Kind F P) → Has (map unranked ms) s k
+      → (n : Ranked S) × Has ms n k × (n.shape ≡ s)
   Has-unranked [] s k h = absurd h
   Has-unranked (m ∷ ms) s k h = elim h [ inl e ↦ (m.shape, inl (refl, e.1), e.0) | inr r ↦ let w = Has-unranked ms s k r in (w.0, inr w.1, w.2) ]
 
   -- what is asked is the same
-  where-erased : (test : Kind F P → Bool) (ms : List (Placed (Ranked S) F P)) → map shape_of (shapes_where (λ n k. test k) ms) ≡ shapes_where (λ n k. test k) (map unranked ms)
+  where-erased : (test : Kind F P → Bool) (ms : List (Placed (Ranked S) F P))
+      → map shape_of (shapes_where (λ n k. test k) ms) ≡ shapes_where (λ n k. test k) (map unranked ms)
   where-erased test [] = refl
   where-erased test (m ∷ ms) = elim (test m.kind) as (λ b. map shape_of (cond b (m.shape ∷ shapes_where (λ n k. test k) ms) (shapes_where (λ n k. test k) ms)) ≡ cond b (m.shape.shape ∷ shapes_where (λ n k. test k) (map unranked ms)) (shapes_where (λ n k. test k) (map unranked ms))) [
     | true ↦ ap (λ xs. m.shape.shape ∷ xs) (where-erased test ms)
@@ -49,17 +54,20 @@ module _ {S F P : Type 0} where
   erased_result (Ok cs) = Ok (map unranked cs)
   erased_result (Err f) = Err f
 
-  placed-erased : (priority : S → ℕ) (above : List ℕ) (s : S) (k : Kind F P) → unranked (placed_as priority above s k) ≡ record { shape = s; kind = k }
+  placed-erased : (priority : S → ℕ) (above : List ℕ) (s : S) (k : Kind F P)
+      → unranked (placed_as priority above s k) ≡ record { shape = s; kind = k }
   placed-erased priority above s Waiting = refl
   placed-erased priority above s Done = refl
   placed-erased priority above s (Faulted f) = refl
   placed-erased priority above s (Instance p) = refl
 
-  all-erased : (priority : S → ℕ) (above : List ℕ) (cs : List (Placed S F P)) → map unranked (map (placed priority above) cs) ≡ cs
+  all-erased : (priority : S → ℕ) (above : List ℕ) (cs : List (Placed S F P))
+      → map unranked (map (placed priority above) cs) ≡ cs
   all-erased priority above [] = refl
   all-erased priority above (c ∷ cs) = λ i. placed-erased priority above c.shape c.kind i ∷ all-erased priority above cs i
 
-  result-erased : (priority : S → ℕ) (above : List ℕ) (r : Result (List (Placed S F P)) F) → erased_result (all_placed priority above r) ≡ r
+  result-erased : (priority : S → ℕ) (above : List ℕ) (r : Result (List (Placed S F P)) F)
+      → erased_result (all_placed priority above r) ≡ r
   result-erased priority above (Ok cs) = ap Ok (all-erased priority above cs)
   result-erased priority above (Err f) = refl
 
@@ -84,19 +92,23 @@ module _ {S A B F P : Type 0} (shapes : Shapes S) (rules : Rules S A B F P) (are
   abbrev Sited : Type 0
   Sited = List (Placed (Ranked S) F P)
 
-  outcome-erased : (C : Sited) (n : Ranked S) → erased_result (run.outcome world C n) ≡ outcome derivation (map unranked C) n.shape
+  outcome-erased : (C : Sited) (n : Ranked S)
+      → erased_result (run.outcome world C n) ≡ outcome derivation (map unranked C) n.shape
   outcome-erased C n =
       result-erased rules.priority (chain_of shapes n).priorities _
       ∙ (λ i. rules.expand n.shape (rules.answers n.shape (where-erased (λ k. true) C i) (where-erased (λ k. is_waiting k) C i)))
 
-  become-erased : (n : Ranked S) (k : Kind F P) (m : Placed (Ranked S) F P) → unranked (run.become world n k m) ≡ become derivation n.shape k (unranked m)
+  become-erased : (n : Ranked S) (k : Kind F P) (m : Placed (Ranked S) F P)
+      → unranked (run.become world n k m) ≡ become derivation n.shape k (unranked m)
   become-erased n k m = elim (same_place derivation m.shape.shape n.shape) as (λ b. unranked (cond b (record { shape = m.shape; kind = k }) m) ≡ cond b (record { shape = m.shape.shape; kind = k }) (unranked m)) [ true ↦ refl | false ↦ refl ]
 
-  all-become : (n : Ranked S) (k : Kind F P) (C : Sited) → map unranked (map (run.become world n k) C) ≡ map (become derivation n.shape k) (map unranked C)
+  all-become : (n : Ranked S) (k : Kind F P) (C : Sited)
+      → map unranked (map (run.become world n k) C) ≡ map (become derivation n.shape k) (map unranked C)
   all-become n k [] = refl
   all-become n k (m ∷ C) = λ i. become-erased n k m i ∷ all-become n k C i
 
-  told-erased : (C : Sited) (n : Ranked S) (r : Result Sited F) → map unranked (run.told world C n r) ≡ told derivation (map unranked C) n.shape (erased_result r)
+  told-erased : (C : Sited) (n : Ranked S) (r : Result Sited F)
+      → map unranked (run.told world C n r) ≡ told derivation (map unranked C) n.shape (erased_result r)
   told-erased C n (Ok cs) = map-append unranked (map (run.become world n Done) C) cs ∙ ap (λ xs. xs ++ map unranked cs) (all-become n Done C)
   told-erased C n (Err f) = all-become n (Faulted f) C
 
@@ -104,7 +116,8 @@ module _ {S A B F P : Type 0} (shapes : Shapes S) (rules : Rules S A B F P) (are
   abbrev RanksRight : Sited → Type 0
   RanksRight C = (n : Ranked S) → Has C n Waiting → rank (chain_of shapes n) ≡ rank_of derivation n.shape
 
-  rank_is : (n : Ranked S) (above : List ℕ) → n.priorities ≡ above ++ rules.priority n.shape ∷ [] → length above ≡ length (shapes.path n.shape) → rank (chain_of shapes n) ≡ rank_of derivation n.shape
+  rank_is : (n : Ranked S) (above : List ℕ) → n.priorities ≡ above ++ rules.priority n.shape ∷ []
+      → length above ≡ length (shapes.path n.shape) → rank (chain_of shapes n) ≡ rank_of derivation n.shape
   rank_is n above e size =
       let longer : length n.priorities ≡ length (shapes.path n.shape) + 1 = ap length e ∙ length-append above (rules.priority n.shape ∷ []) ∙ ap (λ x. x + 1) size in
       let priority : slice_index (fitted (length (shapes.path n.shape) + 1) n.priorities) (length (shapes.path n.shape)) ≡ rules.priority n.shape =
@@ -120,7 +133,9 @@ module _ {S A B F P : Type 0} (shapes : Shapes S) (rules : Rules S A B F P) (are
       subst (λ x. rank (chain_of shapes x) ≡ rank_of derivation x.shape) w.2 (rank_is (record { shape = w.0; priorities = rules.priority w.0 ∷ [] }) [] refl (sym (ap length path)))
 
   -- a child that waits has its own priority last
-  rank-child : (s : Ranked S) (a : A) (r : Result (List (Placed S F P)) F) → rules.expand s.shape a ≡ r → (n : Ranked S) → Has (steps.children_of world (all_placed rules.priority (chain_of shapes s).priorities r)) n Waiting → rank (chain_of shapes n) ≡ rank_of derivation n.shape
+  rank-child : (s : Ranked S) (a : A) (r : Result (List (Placed S F P)) F) → rules.expand s.shape a ≡ r → (n : Ranked S)
+      → Has (steps.children_of world (all_placed rules.priority (chain_of shapes s).priorities r)) n Waiting
+      → rank (chain_of shapes n) ≡ rank_of derivation n.shape
   rank-child s a (Err f) e n h = absurd h
   rank-child s a (Ok es) e n h =
       let f = placed {F = F} {P = P} rules.priority (chain_of shapes s).priorities in
@@ -129,7 +144,10 @@ module _ {S A B F P : Type 0} (shapes : Shapes S) (rules : Rules S A B F P) (are
       let law = are.child s.shape a es e w.0 g.0 g.1 in
       by g.0.shape g.0.kind w.0 law.1 (ap (λ m. m.shape) g.2 ∙ w.3) (ap (λ m. m.kind) g.2 ∙ w.4)
     where
-      by : (t : S) (kind : Kind F P) (i : ℕ) → shapes.path t ≡ shapes.path s.shape ++ i ∷ [] → let m : Placed (Ranked S) F P = placed_as rules.priority (chain_of shapes s).priorities t kind in m.shape ≡ n → m.kind ≡ Waiting → rank (chain_of shapes n) ≡ rank_of derivation n.shape
+      by : (t : S) (kind : Kind F P) (i : ℕ) → shapes.path t ≡ shapes.path s.shape ++ i ∷ []
+          → let m : Placed (Ranked S) F P = placed_as rules.priority (chain_of shapes s).priorities t kind in m.shape ≡
+            n
+          → m.kind ≡ Waiting → rank (chain_of shapes n) ≡ rank_of derivation n.shape
       by t Waiting i path is k =
           let above = (chain_of shapes s).priorities in
           let size : length above ≡ length (shapes.path t) = length-fitted (length (shapes.path s.shape) + 1) s.priorities ∙ sym (ap length path ∙ length-append (shapes.path s.shape) (i ∷ [])) in
@@ -161,7 +179,8 @@ module _ {S A B F P : Type 0} (shapes : Shapes S) (rules : Rules S A B F P) (are
       × ((m : Ranked S) (a : A) → AnsweredIn world all_ranked C run m a → AnsweredTo derivation n m.shape a)
       × ((s : S) (a : A) → AnsweredTo derivation n s a → (m : Ranked S) × (m.shape ≡ s) × AnsweredIn world all_ranked C run m a)
 
-  ranked_next : (n : ℕ) (o : Option (Placed S F P)) → next_of derivation (reached derivation n) ≡ o → RankedRun n → RankedRun (suc n)
+  ranked_next : (n : ℕ) (o : Option (Placed S F P)) → next_of derivation (reached derivation n) ≡ o → RankedRun n
+      → RankedRun (suc n)
   unfolding reached step
   ranked_next n None e w = (
     w.0,

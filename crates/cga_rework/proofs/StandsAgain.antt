@@ -41,7 +41,8 @@ module _ {X S A B F P : Type 0} (shapes : Shapes S) (content : Content X S A F P
       ];
     }
 
-  empty : (rules : Rules S A B F P) (asks : S → Bool) (V : View X) → ((c : ℕ) → V c ≡ None) → Stands shapes content (no_lots rules) asks V
+  empty : (rules : Rules S A B F P) (asks : S → Bool) (V : View X) → ((c : ℕ) → V c ≡ None)
+      → Stands shapes content (no_lots rules) asks V
   empty rules asks V none = record {
     city = record {
       tree = record {

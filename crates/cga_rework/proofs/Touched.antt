@@ -6,9 +6,7 @@ use Rattle.cga_order.specs.declared.placed.Kind.TheVariants.{Waiting}
 use Rattle.cga_order.specs.Consistent as order
 use Rattle.cga_agenda.specs.Edit.{Edit, answers_at, NonInstance}
 use Rattle.cga_rework.specs.Ranked.{Ranked, ranked_world, edit_of, unranked}
-use Rattle.cga_agenda.proofs.Own.{AnsweredIn}
-use Rattle.cga_agenda.proofs.Own.{own, taken-in}
-use Rattle.cga_agenda.proofs.Prefixes.{to_prefixes}
+use Rattle.cga_agenda.proofs.Door.{AnsweredIn, own, taken-in, to_prefixes}
 use Rattle.cga_derivation.specs.Derivation.{IsDerivation, reached, NothingWaits}
 use Rattle.cga_rework.specs.Rules.{Shapes, Rules, IsRulesEdit, derivation_of}
 use Rattle.cga_rework.specs.Touched.{Answered, Kept, SameInputs, Touched}
@@ -16,7 +14,7 @@ use Rattle.cga_rework.proofs.Worlds.{is_world, make}
 use Rattle.cga_rework.proofs.Runs.{RankedRun, unranked-Has}
 use Rattle.cga_rework.proofs.Kept.{kept_shape}
 use Rattle.cga_rework.proofs.OwnStep.{answered_at, answered_by}
-use Rattle.cga_order.proofs.Steps as steps
+use Rattle.cga_order.proofs.Door as steps
 use Rattle.cga_agenda.specs.Edit as agenda
 
 module _ {S A B F P : Type 0} (shapes : Shapes S) where
@@ -28,18 +26,21 @@ module _ {S A B F P : Type 0} (shapes : Shapes S) where
     quiet n h b = settled n.shape (subst (λ x. Has x n.shape Waiting) r.3 (unranked-Has r.1 n Waiting h))
 
     -- a ranked shape that was answered is that of its shape
-    the_ranked : (n m : Ranked S) (a : A) → NonInstance r.1 n → m.shape ≡ n.shape → AnsweredIn world r.0 r.1 r.2 m a → m ≡ n
+    the_ranked : (n m : Ranked S) (a : A) → NonInstance r.1 n → m.shape ≡ n.shape → AnsweredIn world r.0 r.1 r.2 m a
+        → m ≡ n
     the_ranked n m a is e h =
         let done = steps.taken_done world (is_world shapes rules are) r.0 r.1 r.2 m (taken-in world (is_world shapes rules are) r.0 r.1 r.2 m a h) in
         ((steps.in_order world (is_world shapes rules are) r.0 r.1 r.2).distinct m n done.0 is.0 done.1 is.1 (λ i. (ap shapes.lot e i, ap shapes.path e i))).0
 
     -- its answers at its own step are those at its stamp
-    pub to_own : (n : Ranked S) → NonInstance r.1 n → Answered (derivation_of shapes rules) n.shape (answers_at world r.1 n)
+    pub to_own : (n : Ranked S) → NonInstance r.1 n
+        → Answered (derivation_of shapes rules) n.shape (answers_at world r.1 n)
     to_own n is =
         let mine = (own world (is_world shapes rules are) r.0 r.1 r.2 quiet).1 n is.0 is.1 is.2 in
         answered_at (derivation_of shapes rules) steps_done n.shape (answers_at world r.1 n) (r.4 n (answers_at world r.1 n) mine)
 
-    from_own : (n : Ranked S) → NonInstance r.1 n → (a : A) → Answered (derivation_of shapes rules) n.shape a → a ≡ answers_at world r.1 n
+    from_own : (n : Ranked S) → NonInstance r.1 n → (a : A) → Answered (derivation_of shapes rules) n.shape a
+        → a ≡ answers_at world r.1 n
     from_own n is a h =
         let u = r.5 n.shape a (answered_by (derivation_of shapes rules) steps_done settled n.shape a h) in
         (own world (is_world shapes rules are) r.0 r.1 r.2 quiet).0 u.0 a u.2 ∙ ap (answers_at world r.1) (the_ranked n u.0 a is u.1 u.2)
@@ -59,24 +60,32 @@ module _ {S A B F P : Type 0} (shapes : Shapes S) where
       kept_old n zero h = h.0
       kept_old n (suc depth) h = h.0
 
-      both : (n : Ranked S) → NonInstance w.1 n → (agenda.Kept edit o.1 w.1 n → Kept shapes old new (map unranked o.1) (map unranked w.1) n.shape) × (Kept shapes old new (map unranked o.1) (map unranked w.1) n.shape → agenda.Kept edit o.1 w.1 n)
+      both : (n : Ranked S) → NonInstance w.1 n
+          → (agenda.Kept edit o.1 w.1 n → Kept shapes old new (map unranked o.1) (map unranked w.1) n.shape)
+            × (Kept shapes old new (map unranked o.1) (map unranked w.1) n.shape → agenda.Kept edit o.1 w.1 n)
       both n is = kept_shape shapes old new laws.was laws.is o.0 w.0 o.1 w.1 o.2 w.2 (λ m k. (to_prefixes edit (make shapes old new laws) o.1 w.1 w.0 w.2 m k).2) n is
 
-      to_shape : (n : Ranked S) → NonInstance w.1 n → agenda.Kept edit o.1 w.1 n → Kept shapes old new before after n.shape
+      to_shape : (n : Ranked S) → NonInstance w.1 n → agenda.Kept edit o.1 w.1 n
+          → Kept shapes old new before after n.shape
       to_shape n is k = subst (λ x. Kept shapes old new before x n.shape) w.3 (subst (λ x. Kept shapes old new x (map unranked w.1) n.shape) o.3 ((both n is).0 k))
 
-      pub from_shape : (n : Ranked S) → NonInstance w.1 n → Kept shapes old new before after n.shape → agenda.Kept edit o.1 w.1 n
+      pub from_shape : (n : Ranked S) → NonInstance w.1 n → Kept shapes old new before after n.shape
+          → agenda.Kept edit o.1 w.1 n
       from_shape n is k = (both n is).1 (subst (λ x. Kept shapes old new x (map unranked w.1) n.shape) (sym o.3) (subst (λ x. Kept shapes old new before x n.shape) (sym w.3) k))
 
-      inputs_shape : (n : Ranked S) → NonInstance w.1 n → NonInstance o.1 n → agenda.SameInputs edit o.1 w.1 n → SameInputs shapes old new n.shape
+      inputs_shape : (n : Ranked S) → NonInstance w.1 n → NonInstance o.1 n → agenda.SameInputs edit o.1 w.1 n
+          → SameInputs shapes old new n.shape
       inputs_shape n is was same =
           (same.0, (answers_at (ranked_world shapes new) w.1 n, subst (Answered (derivation_of shapes old) n.shape) same.1 (to_own old laws.was i quiet_old o n was), to_own new laws.is j quiet_new w n is))
 
-      pub inputs_ranked : (n : Ranked S) → NonInstance w.1 n → NonInstance o.1 n → SameInputs shapes old new n.shape → agenda.SameInputs edit o.1 w.1 n
+      pub inputs_ranked : (n : Ranked S) → NonInstance w.1 n → NonInstance o.1 n → SameInputs shapes old new n.shape
+          → agenda.SameInputs edit o.1 w.1 n
       inputs_ranked n is was same =
           (same.0, sym (from_own old laws.was i quiet_old o n was same.1.0 same.1.1) ∙ from_own new laws.is j quiet_new w n is same.1.0 same.1.2)
 
-      pub touched : (n : Ranked S) → NonInstance w.1 n → (agenda.Touched edit o.1 w.1 n → Touched shapes old new before after n.shape) × (Touched shapes old new before after n.shape → agenda.Touched edit o.1 w.1 n)
+      pub touched : (n : Ranked S) → NonInstance w.1 n
+          → (agenda.Touched edit o.1 w.1 n → Touched shapes old new before after n.shape)
+            × (Touched shapes old new before after n.shape → agenda.Touched edit o.1 w.1 n)
       touched n is = (
         (λ t. (
           subst (λ x. NonInstance x n.shape) w.3 (is.0, unranked-Has w.1 n is.0 is.1, is.2),

@@ -14,22 +14,19 @@ use Rattle.cga_rework.specs.Turn.{IsFit, IsNodeTurn}
 use Rattle.cga_rework.specs.TreeExample.{Held, content, is_solid, same_sort, fits, root, child, before, after, TreeTurns}
 use Rattle.cga_rework.proofs.NodeLists.{some_same, none_some, true_false}
 use Rattle.cga_rework.proofs.Example as example
-
-off : {Y : Type 0} → false ≡ true → Y
-off e = let z : false ≡ true = e in absurd (cc)
-
-and_cases : (a b : Bool) → (a && b) ≡ true → (a ≡ true) × (b ≡ true)
-and_cases true b h = (refl, h)
-and_cases false b h = off h
+use Rattle.std.proofs.lemmas.Bool.{and_parts as and_cases}
+use Rattle.cga_fraction.proofs.Door.{false-not-true as off, false_from_not as plain}
 
 -- each node of the first view is the root or its child
-each_before : (P : ℕ → Seen Held → Type 0) → P 0 (root (1 ∷ [])) → P 1 (child 0 Done) → (c : ℕ) (d : Seen Held) → before c ≡ Some d → P c d
+each_before : (P : ℕ → Seen Held → Type 0) → P 0 (root (1 ∷ [])) → P 1 (child 0 Done) → (c : ℕ) (d : Seen Held)
+    → before c ≡ Some d → P c d
 each_before P h g zero d t = subst (P 0) (some_same (root (1 ∷ [])) d t) h
 each_before P h g (suc zero) d t = subst (P 1) (some_same (child 0 Done) d t) g
 each_before P h g (suc (suc n)) d t = none_some d t
 
 -- and each of the second is the root or the child that came
-each_after : (P : ℕ → Seen Held → Type 0) → P 0 (root (2 ∷ [])) → P 2 (child 5 Waiting) → (c : ℕ) (d : Seen Held) → after c ≡ Some d → P c d
+each_after : (P : ℕ → Seen Held → Type 0) → P 0 (root (2 ∷ [])) → P 2 (child 5 Waiting) → (c : ℕ) (d : Seen Held)
+    → after c ≡ Some d → P c d
 each_after P h g zero d t = subst (P 0) (some_same (root (2 ∷ [])) d t) h
 each_after P h g (suc zero) d t = none_some d t
 each_after P h g (suc (suc zero)) d t = subst (P 2) (some_same (child 5 Waiting) d t) g
@@ -44,10 +41,6 @@ solid_same p Waiting e = off e
 solid_same p Done e = off e
 solid_same p (Faulted f) e = off e
 solid_same p (Instance q) e = ap Instance (eqb-true p q e)
-
-plain : (b : Bool) → not b ≡ true → b ≡ false
-plain true e = off e
-plain false e = refl
 
 sorts : (x y : Kind ℕ ℕ) → same_sort x y ≡ true → (is_instance x ≡ is_instance y) × (is_instance y ≡ true → x ≡ y)
 sorts Waiting y e = (sym (plain (is_instance y) e), λ i. true_false (is_instance y) i (plain (is_instance y) e))
@@ -102,11 +95,13 @@ after_tree = record {
 top : StandsOnTop two_shapes content (root (1 ∷ [])).node
 top = record { inner = refl; path = refl; line = refl }
 
-below : (priority : ℕ) (kind : Kind ℕ ℕ) → is_instance kind ≡ false → StandsBelow two_shapes content (root (1 ∷ [])).node 0 (child priority kind).node
+below : (priority : ℕ) (kind : Kind ℕ ℕ) → is_instance kind ≡ false
+    → StandsBelow two_shapes content (root (1 ∷ [])).node 0 (child priority kind).node
 below priority kind plain = record { inner = refl; place = (refl, refl); line = refl; symbol = λ i. true_false (is_instance kind) i plain }
 
 -- a child of the first view is the one of the root
-child_before : (P : ℕ → ℕ → Seen Held → Seen Held → Type 0) → P 1 0 (child 0 Done) (root (1 ∷ [])) → (c p : ℕ) (d e : Seen Held) → before c ≡ Some d → d.parent ≡ Some p → before p ≡ Some e → P c p d e
+child_before : (P : ℕ → ℕ → Seen Held → Seen Held → Type 0) → P 1 0 (child 0 Done) (root (1 ∷ []))
+    → (c p : ℕ) (d e : Seen Held) → before c ≡ Some d → d.parent ≡ Some p → before p ≡ Some e → P c p d e
 child_before P h c p d e t up at =
     each_before (λ c d. d.parent ≡ Some p → before p ≡ Some e → P c p d e) (λ up at. none_some p up)
     (λ up at.
@@ -190,7 +185,8 @@ replaced = record {
     rest (suc zero) d ne v = refl
     rest (suc (suc n)) d ne v = none_some d v
 
-turn : IsNodeTurn two_shapes content (with_priority 0) (with_priority 5) fits (λ n. false) (λ n m. false) before after 2 0 news (root (1 ∷ [])) (root (2 ∷ [])) (λ c. nat_eq c 1) (λ c. nat_eq c 0) (λ c. false) (λ c. nat_eq c 2) false
+turn : IsNodeTurn two_shapes content (with_priority 0) (with_priority 5) fits (λ n. false) (λ n m. false) before after
+      2 0 news (root (1 ∷ [])) (root (2 ∷ [])) (λ c. nat_eq c 1) (λ c. nat_eq c 0) (λ c. false) (λ c. nat_eq c 2) false
 turn = record {
   taken = record {
     here = refl;

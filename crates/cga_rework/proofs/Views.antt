@@ -8,12 +8,10 @@ use Rattle.cga_order.specs.World.{World, Among, shapes_where, is_instance}
 use Rattle.cga_order.specs.declared.placed.Kind.{Kind}
 use Rattle.cga_order.specs.Consistent.{exists_at, waits_at}
 use Rattle.cga_order.specs.Agenda.{Node, Keeps, members_of}
-use Rattle.cga_order.proofs.Chains.{birth-child, root-before}
-use Rattle.cga_order.proofs.Members.{Among-shapes_where, Has-from_shapes_where}
-use Rattle.cga_order.proofs.Turns.{Has-Keeps, Keeps-Has}
+use Rattle.cga_derivation.proofs.Door.{length-fitted}
+use Rattle.cga_order.proofs.Door.{Among-shapes_where, Has-Keeps, Has-from_shapes_where, Keeps-Has, birth-child, root-before}
 use Rattle.cga_order.specs.Once.{Once}
 use Rattle.cga_agenda.specs.Known.{shapes_of}
-use Rattle.cga_derivation.proofs.Sites.{length-fitted}
 use Rattle.cga_rework.specs.Rules.{Shapes, Rules}
 use Rattle.cga_rework.specs.Ranked.{Ranked, chain_of, ranked_world}
 use Rattle.cga_rework.specs.Nodes.{Content, ranked_of, kept_key, with_node, nodes_of, IsBound}
@@ -50,7 +48,8 @@ module _ {X S A F P : Type 0} (content : Content X S A F P) where
   pub same_view : (V T : View X) → ((c : ℕ) → T c ≡ V c) → T ≡ V
   same_view V T same = λ i c. same c i
 
-  pub same_list : (V T : View X) (n m : ℕ) → ((c : ℕ) → T c ≡ V c) → IsBound V n → IsBound V m → nodes_of content T m ≡ nodes_of content V n
+  pub same_list : (V T : View X) (n m : ℕ) → ((c : ℕ) → T c ≡ V c) → IsBound V n → IsBound V m
+      → nodes_of content T m ≡ nodes_of content V n
   same_list V T n m same b c = ap (λ (U : View X). nodes_of content U m) (same_view V T same) ∙ same_bound V n m b c
 
   size : (T : View X) (n : ℕ) → length (nodes_of content T n) ≡ count_of T n
@@ -58,7 +57,8 @@ module _ {X S A F P : Type 0} (content : Content X S A F P) where
   size T zero = refl
   size T (suc n) = by (T n) (nodes_of content T n) (count_of T n) (size T n)
     where
-      by : (o : Option (Seen X)) (l : List (Node (Ranked S) A F P)) (k : ℕ) → length l ≡ k → length (with_node content o l) ≡ one_if o + k
+      by : (o : Option (Seen X)) (l : List (Node (Ranked S) A F P)) (k : ℕ) → length l ≡ k
+          → length (with_node content o l) ≡ one_if o + k
       by None l k e = omega (arith, e)
       by (Some d) l k e = omega (arith, e)
 
@@ -69,7 +69,8 @@ module _ {X S A B F P : Type 0} (shapes : Shapes S) (content : Content X S A F P
   abbrev rank : X → Ranked S
   rank x = ranked_of content x
 
-  among-keeps : (nodes : List (Node (Ranked S) A F P)) (m : Ranked S) → Among m (shapes_of (members_of nodes)) → (k : Kind F P) × (a : A) × Keeps nodes m k a
+  among-keeps : (nodes : List (Node (Ranked S) A F P)) (m : Ranked S) → Among m (shapes_of (members_of nodes))
+      → (k : Kind F P) × (a : A) × Keeps nodes m k a
   among-keeps [] m h = absurd h
   among-keeps (x ∷ xs) m h = elim h [
     | inl e ↦ (x.kind, x.answers, inl (e, refl, refl))
@@ -81,7 +82,8 @@ module _ {X S A B F P : Type 0} (shapes : Shapes S) (content : Content X S A F P
   once zero = tt
   once (suc n) = by (T n) refl (once n)
     where
-      by : (o : Option (Seen X)) → T n ≡ o → Once (shapes_of (members_of (nodes_of content T n))) → Once (shapes_of (members_of (with_node content o (nodes_of content T n))))
+      by : (o : Option (Seen X)) → T n ≡ o → Once (shapes_of (members_of (nodes_of content T n)))
+          → Once (shapes_of (members_of (with_node content o (nodes_of content T n))))
       by None e h = h
       by (Some d) e h = (
         λ g.
@@ -94,7 +96,9 @@ module _ {X S A B F P : Type 0} (shapes : Shapes S) (content : Content X S A F P
       )
 
   -- what of the list passes a test
-  by_nodes : (n : ℕ) → IsBound T n → (test : Ranked S → Kind F P → Bool) (m : Ranked S) → Among m (shapes_where test (members_of (nodes_of content T n))) ↔ ((c : ℕ) × (d : Seen X) × (T c ≡ Some d) × (rank d.node ≡ m) × (test m (content.kind d.node) ≡ true))
+  by_nodes : (n : ℕ) → IsBound T n → (test : Ranked S → Kind F P → Bool) (m : Ranked S)
+      → Among m (shapes_where test (members_of (nodes_of content T n))) ↔
+        ((c : ℕ) × (d : Seen X) × (T c ≡ Some d) × (rank d.node ≡ m) × (test m (content.kind d.node) ≡ true))
   by_nodes n b test m = (
     λ h.
         let x = Has-from_shapes_where test (members_of (nodes_of content T n)) m h in
@@ -107,7 +111,8 @@ module _ {X S A B F P : Type 0} (shapes : Shapes S) (content : Content X S A F P
   )
 
   -- the tests of the walk are those of the world
-  exists_same : (c b : ℕ) (d q : Seen X) → T c ≡ Some d → T b ≡ Some q → exists_at w (rank q.node) (rank d.node) (content.kind d.node) ≡ exists_then shapes content T q.node d
+  exists_same : (c b : ℕ) (d q : Seen X) → T c ≡ Some d → T b ≡ Some q
+      → exists_at w (rank q.node) (rank d.node) (content.kind d.node) ≡ exists_then shapes content T q.node d
   exists_same c b d q t u = elim (option_cases d.parent) [
     | inl top ↦ ap is_lt (root-before shapes.mode (chain_of shapes (rank d.node)) (chain_of shapes (rank q.node)) (city.root c d t top).path) ∙ ap (there_at shapes content T q.node) (sym top)
     | inr up ↦
@@ -120,17 +125,22 @@ module _ {X S A B F P : Type 0} (shapes : Shapes S) (content : Content X S A F P
         ∙ ap (there_at shapes content T q.node) (sym up.1)
   ]
 
-  waits_same : (c b : ℕ) (d q : Seen X) → T c ≡ Some d → T b ≡ Some q → waits_at w (rank q.node) (rank d.node) (content.kind d.node) ≡ waits_then shapes content T q.node d
+  waits_same : (c b : ℕ) (d q : Seen X) → T c ≡ Some d → T b ≡ Some q
+      → waits_at w (rank q.node) (rank d.node) (content.kind d.node) ≡ waits_then shapes content T q.node d
   waits_same c b d q t u =
       ap (λ x. x && not (is_instance (content.kind d.node)) && is_lt (stamps_cmp shapes.mode (stamp shapes.mode (chain_of shapes (rank q.node))) (stamp shapes.mode (chain_of shapes (rank d.node))))) (exists_same c b d q t u)
       ∙ ap (λ x. exists_then shapes content T q.node d && not (is_instance (content.kind d.node)) && is_lt (stamps_cmp shapes.mode (stamp shapes.mode x) (stamp shapes.mode (chain_of shapes (rank d.node))))) (keyed shapes content rules T city b q u)
       ∙ ap (λ x. exists_then shapes content T q.node d && not (is_instance (content.kind d.node)) && is_lt (stamps_cmp shapes.mode (stamp shapes.mode (kept_key content shapes q.node)) (stamp shapes.mode x))) (keyed shapes content rules T city c d t)
 
   module _ (n : ℕ) (bounded : IsBound T n) (b : ℕ) (q : Seen X) (u : T b ≡ Some q) where
-    counted_same : (test : Ranked S → Kind F P → Bool) (walked : Seen X → Bool) → ((c : ℕ) (d : Seen X) → T c ≡ Some d → test (rank d.node) (content.kind d.node) ≡ walked d)
-        → (counted : List S) → IsCounted content rules T q.node walked counted → (m : S) → rules.sees (content.shape q.node) m ≡ true
-        → (Among m (map (λ (r : Ranked S). r.shape) (shapes_where test (members_of (nodes_of content T n)))) → Among m counted)
-        × (Among m counted → Among m (map (λ (r : Ranked S). r.shape) (shapes_where test (members_of (nodes_of content T n)))))
+    counted_same : (test : Ranked S → Kind F P → Bool) (walked : Seen X → Bool)
+        → ((c : ℕ) (d : Seen X) → T c ≡ Some d → test (rank d.node) (content.kind d.node) ≡ walked d)
+        → (counted : List S) → IsCounted content rules T q.node walked counted → (m : S)
+        → rules.sees (content.shape q.node) m ≡ true
+        → (Among m (map (λ (r : Ranked S). r.shape) (shapes_where test (members_of (nodes_of content T n))))
+          → Among m counted)
+        × (Among m counted → Among m
+          (map (λ (r : Ranked S). r.shape) (shapes_where test (members_of (nodes_of content T n)))))
     counted_same test walked same counted has m sees = (
       λ h.
           let r = Among-map (λ (r : Ranked S). r.shape) (shapes_where test (members_of (nodes_of content T n))) m h in

@@ -7,10 +7,10 @@ use Rattle.cga_order.specs.Chain.{IsChild}
 use Rattle.cga_order.specs.World.{World, is_instance, place_of, IsEarlier, stamp_of, birth_of, IsNew}
 use Rattle.cga_order.specs.declared.placed.Kind.{Kind}
 use Rattle.cga_order.specs.Agenda.{Node, Keeps}
-use Rattle.cga_order.proofs.Chains.{snoc-same}
+use Rattle.cga_order.proofs.Door.{snoc-same}
 use Rattle.cga_agenda.specs.Edit.{Edit, IsEdit}
 use Rattle.cga_agenda.specs.Work.{IsFresh}
-use Rattle.cga_agenda.proofs.Late as late
+use Rattle.cga_agenda.proofs.Door as late
 use Rattle.cga_rework.specs.Rules.{Shapes, Rules, IsRulesEdit}
 use Rattle.cga_rework.specs.Ranked.{Ranked, chain_of, edit_of, ranked_world}
 use Rattle.cga_rework.specs.Nodes.{Content, ranked_of, nodes_of, IsBound}
@@ -48,13 +48,16 @@ module _ {X S A B F P : Type 0} (shapes : Shapes S) (content : Content X S A F P
   city = city_after shapes content rules t
 
   -- what came stands right below the node
-  pub comer_below : (c : ℕ) (d : Seen X) → t.T c ≡ Some d → (n : IsComer shapes content rules t c d) → IsChild (chain_of shapes s) n.place (chain_of shapes (rank d.node))
+  pub comer_below : (c : ℕ) (d : Seen X) → t.T c ≡ Some d → (n : IsComer shapes content rules t c d)
+      → IsChild (chain_of shapes s) n.place (chain_of shapes (rank d.node))
   comer_below c d u n =
       let below = child_rank shapes content rules t.T city c t.id d t.now u n.parent t.r.is in
       subst (λ i. IsChild (chain_of shapes s) i (chain_of shapes (rank d.node))) n.index (subst (λ (m : Ranked S). IsChild (chain_of shapes m) d.index (chain_of shapes (rank d.node))) (rank_self shapes content rules t) below)
 
   -- and wasn't there
-  pub not_there : (c b : ℕ) (d x : Seen X) → t.T c ≡ Some d → IsComer shapes content rules t c d → t.V b ≡ Some x → rank x.node ≡ rank d.node → is_instance (content.kind x.node) ≡ is_instance (content.kind d.node) → (is_instance (content.kind d.node) ≡ true → content.kind x.node ≡ content.kind d.node) → ⊥
+  pub not_there : (c b : ℕ) (d x : Seen X) → t.T c ≡ Some d → IsComer shapes content rules t c d → t.V b ≡ Some x
+      → rank x.node ≡ rank d.node → is_instance (content.kind x.node) ≡ is_instance (content.kind d.node)
+      → (is_instance (content.kind d.node) ≡ true → content.kind x.node ≡ content.kind d.node) → ⊥
   not_there c b d x u n v same alike solid =
       let below : IsChild (chain_of shapes s) n.place (chain_of shapes (rank x.node)) = subst (λ (m : Ranked S). IsChild (chain_of shapes s) n.place (chain_of shapes m)) (sym same) (comer_below c d u n) in
       let is = child_is shapes content rules t.V t.start b t.id n.place x t.e v t.r.was below in
@@ -78,17 +81,21 @@ module _ {X S A B F P : Type 0} (shapes : Shapes S) (content : Content X S A F P
             true_false (t.gone b) goes kept
       ]
     where
-      child_line : (b : ℕ) (x : Seen X) → t.V b ≡ Some x → x.parent ≡ Some t.id → content.line x.node ≡ content.line t.e.node ++ content.priority x.node ∷ []
+      child_line : (b : ℕ) (x : Seen X) → t.V b ≡ Some x → x.parent ≡ Some t.id
+          → content.line x.node ≡ content.line t.e.node ++ content.priority x.node ∷ []
       child_line b x v up = (t.start.child b t.id x t.e v up t.r.was).line
 
-      comer_line : (c : ℕ) (d : Seen X) → t.T c ≡ Some d → IsComer shapes content rules t c d → content.line d.node ≡ content.line t.now.node ++ content.priority d.node ∷ []
+      comer_line : (c : ℕ) (d : Seen X) → t.T c ≡ Some d → IsComer shapes content rules t c d
+          → content.line d.node ≡ content.line t.now.node ++ content.priority d.node ∷ []
       comer_line c d u n = (city.child c t.id d t.now u n.parent t.r.is).line
 
-      fate_of : (x : X) (i : ℕ) (y : X) → slice_get t.news i ≡ Some y → not (fits_at t.fits x (slice_get t.news i)) ≡ not (t.fits x y)
+      fate_of : (x : X) (i : ℕ) (y : X) → slice_get t.news i ≡ Some y
+          → not (fits_at t.fits x (slice_get t.news i)) ≡ not (t.fits x y)
       fate_of x i y h = ap (λ o. not (fits_at t.fits x o)) h
 
   -- a node that came is fresh
-  pub fresh : (c : ℕ) (d : Seen X) → t.T c ≡ Some d → IsComer shapes content rules t c d → IsFresh edit before after (rank d.node) (content.kind d.node)
+  pub fresh : (c : ℕ) (d : Seen X) → t.T c ≡ Some d → IsComer shapes content rules t c d
+      → IsFresh edit before after (rank d.node) (content.kind d.node)
   fresh c d u n = record {
     new = subst (λ y. IsNew (content.kind y)) (sym n.node) (t.are.fresh n.place n.asked_for n.wanted);
     bare = λ i m j a below h.
@@ -102,7 +109,8 @@ module _ {X S A B F P : Type 0} (shapes : Shapes S) (content : Content X S A F P
   }
 
   -- what goes has a parent that goes, or that is the node
-  gone_parent : (c : ℕ) (d : Seen X) → t.V c ≡ Some d → t.gone c ≡ true → (p : ℕ) × (d.parent ≡ Some p) × ((p ≡ t.id) ⊎ (t.gone p ≡ true))
+  gone_parent : (c : ℕ) (d : Seen X) → t.V c ≡ Some d → t.gone c ≡ true
+      → (p : ℕ) × (d.parent ≡ Some p) × ((p ≡ t.id) ⊎ (t.gone p ≡ true))
   gone_parent c d v g = elim (option_cases d.parent) [
     | inl top ↦ true_false (t.gone c) g (t.r.tops c d v top)
     | inr up ↦ elim (nat_cases up.0 t.id) [
@@ -111,11 +119,13 @@ module _ {X S A B F P : Type 0} (shapes : Shapes S) (content : Content X S A F P
     ]
   ]
 
-  self_child : (c : ℕ) (p : ℕ) (d : Seen X) → t.V c ≡ Some d → d.parent ≡ Some p → p ≡ t.id → IsChild (chain_of shapes s) d.index (chain_of shapes (rank d.node))
+  self_child : (c : ℕ) (p : ℕ) (d : Seen X) → t.V c ≡ Some d → d.parent ≡ Some p → p ≡ t.id
+      → IsChild (chain_of shapes s) d.index (chain_of shapes (rank d.node))
   self_child c p d v up q = child_rank shapes content rules t.V t.start c t.id d t.e v (up ∙ ap Some q) t.r.was
 
   -- what goes was made at the stamp of the node or later
-  pub went_late : (n c : ℕ) (d : Seen X) → d.depth ≡ n → t.V c ≡ Some d → t.gone c ≡ true → IsEarlier w (birth_of w (rank d.node)) (stamp_of w s) → ⊥
+  pub went_late : (n c : ℕ) (d : Seen X) → d.depth ≡ n → t.V c ≡ Some d → t.gone c ≡ true
+      → IsEarlier w (birth_of w (rank d.node)) (stamp_of w s) → ⊥
   went_late zero c d deep v g =
       let up = gone_parent c d v g in
       let z = (parent_of shapes content rules t.V t.start c up.0 d v up.1).2 in
@@ -136,7 +146,8 @@ module _ {X S A B F P : Type 0} (shapes : Shapes S) (content : Content X S A F P
   same_places n m q = (ap (λ (l : Ranked S). shapes.lot l.shape) q, ap (λ (l : Ranked S). shapes.path l.shape) q)
 
   -- a node that went isn't there in its kind
-  pub gone_away : (q : ℕ) (v : Seen X) → t.V q ≡ Some v → t.gone q ≡ true → (p : Ranked S) → places_of p (rank v.node) → (k : Kind F P) (a a' : A) → Keeps before p k a → Keeps after p k a' → ⊥
+  pub gone_away : (q : ℕ) (v : Seen X) → t.V q ≡ Some v → t.gone q ≡ true → (p : Ranked S) → places_of p (rank v.node)
+      → (k : Kind F P) (a a' : A) → Keeps before p k a → Keeps after p k a' → ⊥
   gone_away q v at g p here k a a' h h' =
       let x = keeps-node content t.V small p k a h in
       let y = keeps-node content t.T great p k a' h' in
@@ -157,7 +168,9 @@ module _ {X S A B F P : Type 0} (shapes : Shapes S) (content : Content X S A F P
       ]
 
   -- what went was right below the node, or below what went
-  pub went_below : (c : ℕ) (d : Seen X) → t.V c ≡ Some d → t.gone c ≡ true → (p : Ranked S) (i : ℕ) → IsChild (chain_of shapes p) i (chain_of shapes (rank d.node)) → (place_of w p ≡ place_of w s) ⊎ ((k : Kind F P) (a : A) → Keeps before p k a → Keeps after p k a → ⊥)
+  pub went_below : (c : ℕ) (d : Seen X) → t.V c ≡ Some d → t.gone c ≡ true → (p : Ranked S) (i : ℕ)
+      → IsChild (chain_of shapes p) i (chain_of shapes (rank d.node))
+      → (place_of w p ≡ place_of w s) ⊎ ((k : Kind F P) (a : A) → Keeps before p k a → Keeps after p k a → ⊥)
   went_below c d v g p i below =
       let up = gone_parent c d v g in
       let u = parent_of shapes content rules t.V t.start c up.0 d v up.1 in

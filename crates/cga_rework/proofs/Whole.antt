@@ -9,10 +9,9 @@ use Rattle.cga_order.specs.declared.placed.Placed.{Placed}
 use Rattle.cga_order.specs.declared.placed.Kind.{Kind}
 use Rattle.cga_order.specs.Consistent.{Stands}
 use Rattle.cga_order.specs.Agenda.{Node, Keeps, members_of}
-use Rattle.cga_order.proofs.Chains.{stamp-child}
-use Rattle.cga_order.proofs.Order.{stamps_total}
-use Rattle.cga_order.proofs.Turns.{Has-Keeps}
-use Rattle.cga_order.proofs.Maxima as stamps
+use Rattle.cga_derivation.proofs.Door.{length-fitted}
+use Rattle.cga_order.proofs.Door.{Has-Keeps, stamp-child, stamps_total}
+use Rattle.cga_order.proofs.Door as stamps
 use Rattle.cga_agenda.specs.Edit.{Edit}
 use Rattle.cga_agenda.specs.Work.{IsTurnOf, Places, HasRenewed, renewed_child, first_kind}
 use Rattle.cga_rework.specs.Rules.{Shapes, Rules, IsRulesEdit}
@@ -29,7 +28,6 @@ use Rattle.cga_rework.proofs.Queue.{queued_by, are_queued, none_queued}
 use Rattle.cga_rework.proofs.Fields as fields
 use Rattle.cga_rework.proofs.Outcome.{expands, places}
 use Rattle.cga_rework.proofs.Renewed.{ends_with, renew_same, first_alike, first_same, first_plain}
-use Rattle.cga_derivation.proofs.Sites.{length-fitted}
 
 -- at its turn a node has its symbol's priority: its parent comes earlier
 pub taken_is_priced : {X S A B F P : Type 0} → TakenIsPriced X S A B F P
@@ -111,7 +109,10 @@ module _ {X S A B F P : Type 0} (shapes : Shapes S) (content : Content X S A F P
       queues_only = fields.queues_only shapes content old new laws replacing small great within within' asks meets sees_is agenda rest after under.priced under.asking turn.self_asks turn.taken turn.moved queued requeued are are';
     }
 
-    pub turns : IsUnderway shapes content new asks T after × ((requeued : Ranked S → Bool) × AreQueued shapes content T after requeued × IsTurnOf (edit_of shapes old new) (nodes_of content V small) (nodes_of content T great) (ranked_of content e.node) queued requeued expanded)
+    pub turns : IsUnderway shapes content new asks T after
+          × ((requeued : Ranked S → Bool) × AreQueued shapes content T after requeued
+          × IsTurnOf (edit_of shapes old new) (nodes_of content V small) (nodes_of content T great)
+          (ranked_of content e.node) queued requeued expanded)
     turns = (
       record {
         city = city;
@@ -144,7 +145,9 @@ module _ {X S A B F P : Type 0} (shapes : Shapes S) (content : Content X S A F P
   nodes = nodes_of content V small
 
   -- a child of the node stays when it is renewed
-  child_stays : (c : Ranked S) (k : Kind F P) (a : A) (i : ℕ) → Keeps nodes c k a → IsChild (chain_of shapes s) i (chain_of shapes c) → renewed_child edit c k ≡ record { shape = c; kind = first_kind k }
+  child_stays : (c : Ranked S) (k : Kind F P) (a : A) (i : ℕ) → Keeps nodes c k a
+      → IsChild (chain_of shapes s) i (chain_of shapes c)
+      → renewed_child edit c k ≡ record { shape = c; kind = first_kind k }
   child_stays c k a i h below =
       let y = keeps-node content V small c k a h in
       let under_s : IsChild (chain_of shapes s) i (chain_of shapes (rank y.1.node)) = subst (λ (l : Ranked S). IsChild (chain_of shapes s) i (chain_of shapes l)) (sym y.3) below in

@@ -8,10 +8,10 @@ use Rattle.cga_order.specs.declared.placed.Kind.{Kind}
 use Rattle.cga_order.specs.declared.placed.Kind.TheVariants.{Waiting, Done, Faulted, Instance}
 use Rattle.cga_agenda.specs.Edit.{Edit, IsEdit, renewed}
 use Rattle.cga_rework.specs.Ranked.{Ranked, last_of, with_last_from, with_last, renewed_as, placed_as, placed, all_placed, chain_of, edit_of, ranked_world}
-use Rattle.cga_derivation.proofs.Lists.{ok_same, err_ok}
-use Rattle.cga_derivation.proofs.Sites.{length-fitted, fitted-same}
+use Rattle.cga_derivation.proofs.Door.{err_ok, fitted-same, length-fitted}
+use Rattle.cga_fraction.proofs.Door.{same_Ok as ok_same}
+use Rattle.cga_order.proofs.Door.{slice_get-map}
 use Rattle.cga_rework.proofs.Lists.{Among-map, map-Among}
-use Rattle.cga_order.proofs.Places.{slice_get-map}
 use Rattle.cga_derivation.specs.Derivation.{IsDerivation}
 use Rattle.cga_rework.specs.Rules.{Shapes, Rules, derivation_of, IsRulesEdit}
 
@@ -35,20 +35,29 @@ module _ {S A B F P : Type 0} (shapes : Shapes S) where
     root_ranked s = record { shape = s; priorities = rules.priority s ∷ [] }
 
     -- a child that is placed below these priorities
-    child_of : (s : Ranked S) (i : ℕ) (own : ℕ) (e : S) → (shapes.lot e ≡ shapes.lot s.shape) → (shapes.path e ≡ shapes.path s.shape ++ i ∷ []) → IsChild (chain_of shapes s) i (chain_of shapes (record { shape = e; priorities = (chain_of shapes s).priorities ++ own ∷ [] }))
+    child_of : (s : Ranked S) (i : ℕ) (own : ℕ) (e : S) → (shapes.lot e ≡ shapes.lot s.shape)
+        → (shapes.path e ≡ shapes.path s.shape ++ i ∷ [])
+        → IsChild (chain_of shapes s) i
+          (chain_of shapes (record { shape = e; priorities = (chain_of shapes s).priorities ++ own ∷ [] }))
     child_of s i own e lot path =
         let above = length-fitted (length (shapes.path s.shape) + 1) s.priorities in
         let size = length-append (chain_of shapes s).priorities (own ∷ []) in
         let longer : length (shapes.path e) ≡ length (shapes.path s.shape) + 1 = ap length path ∙ length-append (shapes.path s.shape) (i ∷ []) in
         record { lot = lot; path = path; priorities = (own, fitted-same (length (shapes.path e) + 1) ((chain_of shapes s).priorities ++ own ∷ []) (omega (arith, above, size, longer))) }
 
-    child_as : (s : Ranked S) (i : ℕ) (e : S) (kind : Kind F P) → IsNew kind → (shapes.lot e ≡ shapes.lot s.shape) → (shapes.path e ≡ shapes.path s.shape ++ i ∷ []) → let c : Placed (Ranked S) F P = placed_as rules.priority (chain_of shapes s).priorities e kind in IsChild (chain_of shapes s) i (chain_of shapes c.shape) × IsNew c.kind
+    child_as : (s : Ranked S) (i : ℕ) (e : S) (kind : Kind F P) → IsNew kind → (shapes.lot e ≡ shapes.lot s.shape)
+        → (shapes.path e ≡ shapes.path s.shape ++ i ∷ [])
+        → let c : Placed (Ranked S) F P = placed_as rules.priority (chain_of shapes s).priorities e kind in IsChild
+          (chain_of shapes s) i (chain_of shapes c.shape) × IsNew c.kind
     child_as s i e Waiting fresh lot path = (child_of s i (rules.priority e) e lot path, fresh)
     child_as s i e Done fresh lot path = (child_of s i (rules.priority e) e lot path, fresh)
     child_as s i e (Faulted f) fresh lot path = (child_of s i (rules.priority e) e lot path, fresh)
     child_as s i e (Instance p) fresh lot path = (child_of s i (last_of (chain_of shapes s).priorities) e lot path, fresh)
 
-    child : (s : Ranked S) (a : A) (r : Result (List (Placed S F P)) F) → rules.expand s.shape a ≡ r → (cs : List (Placed (Ranked S) F P)) → all_placed rules.priority (chain_of shapes s).priorities r ≡ Ok cs → (i : ℕ) (c : Placed (Ranked S) F P) → slice_get cs i ≡ Some c → IsChild (chain_of shapes s) i (chain_of shapes c.shape) × IsNew c.kind
+    child : (s : Ranked S) (a : A) (r : Result (List (Placed S F P)) F) → rules.expand s.shape a ≡ r
+        → (cs : List (Placed (Ranked S) F P)) → all_placed rules.priority (chain_of shapes s).priorities r ≡ Ok cs
+        → (i : ℕ) (c : Placed (Ranked S) F P) → slice_get cs i ≡ Some c
+        → IsChild (chain_of shapes s) i (chain_of shapes c.shape) × IsNew c.kind
     child s a (Err f) e cs is i c g = err_ok f cs is
     child s a (Ok es) e cs is i c g =
         let same = ok_same (map (placed rules.priority (chain_of shapes s).priorities) es) cs is in
@@ -59,7 +68,9 @@ module _ {S A B F P : Type 0} (shapes : Shapes S) where
     whole : (n : Ranked S) → length (chain_of shapes n).priorities ≡ length (chain_of shapes n).path + 1
     whole n = length-fitted (length (shapes.path n.shape) + 1) n.priorities
 
-    seen : (n : Ranked S) (xs ys : List (Ranked S)) → ((m : Ranked S) → rules.sees n.shape m.shape ≡ true → Among m xs → Among m ys) → (t : S) → rules.sees n.shape t ≡ true → Among t (map shape_of xs) → Among t (map shape_of ys)
+    seen : (n : Ranked S) (xs ys : List (Ranked S))
+        → ((m : Ranked S) → rules.sees n.shape m.shape ≡ true → Among m xs → Among m ys) → (t : S)
+        → rules.sees n.shape t ≡ true → Among t (map shape_of xs) → Among t (map shape_of ys)
     seen n xs ys same t v h =
         let w = Among-map shape_of xs t h in
         subst (λ x. Among x (map shape_of ys)) w.2 (map-Among shape_of ys w.0 (same w.0 (subst (λ x. rules.sees n.shape x ≡ true) (sym w.2) v) w.1))
@@ -86,17 +97,21 @@ module _ {S A B F P : Type 0} (shapes : Shapes S) where
     abbrev edit : Edit (Ranked S) A B F P
     edit = edit_of shapes old new
 
-    renew_placed : (above : List ℕ) (s : S) (kind : Kind F P) → let c : Placed (Ranked S) F P = placed_as old.priority above s kind in renewed_as new.priority c.shape c.kind ≡ placed_as new.priority above s kind
+    renew_placed : (above : List ℕ) (s : S) (kind : Kind F P)
+        → let c : Placed (Ranked S) F P = placed_as old.priority above s kind in renewed_as new.priority c.shape c.kind
+          ≡ placed_as new.priority above s kind
     renew_placed above s Waiting = ap (λ ps. record { shape = record { shape = s; priorities = ps }; kind = Waiting }) (with_last-snoc (new.priority s) (old.priority s) above)
     renew_placed above s Done = ap (λ ps. record { shape = record { shape = s; priorities = ps }; kind = Done }) (with_last-snoc (new.priority s) (old.priority s) above)
     renew_placed above s (Faulted f) = ap (λ ps. record { shape = record { shape = s; priorities = ps }; kind = Faulted f }) (with_last-snoc (new.priority s) (old.priority s) above)
     renew_placed above s (Instance p) = refl
 
-    renew_all : (above : List ℕ) (es : List (Placed S F P)) → map (placed new.priority above) es ≡ map edit.renew (map (placed old.priority above) es)
+    renew_all : (above : List ℕ) (es : List (Placed S F P))
+        → map (placed new.priority above) es ≡ map edit.renew (map (placed old.priority above) es)
     renew_all above [] = refl
     renew_all above (e ∷ es) = λ i. sym (renew_placed above e.shape e.kind) i ∷ renew_all above es i
 
-    pub outcome : (above : List ℕ) (r : Result (List (Placed S F P)) F) → all_placed new.priority above r ≡ renewed edit.renew (all_placed old.priority above r)
+    pub outcome : (above : List ℕ) (r : Result (List (Placed S F P)) F)
+        → all_placed new.priority above r ≡ renewed edit.renew (all_placed old.priority above r)
     outcome above (Ok es) = ap Ok (renew_all above es)
     outcome above (Err f) = refl
 
@@ -106,7 +121,8 @@ module _ {S A B F P : Type 0} (shapes : Shapes S) where
     kinds n (Faulted f) = refl
     kinds n (Instance p) = refl
 
-    solids : (n : Ranked S) (k : Kind F P) → is_instance k ≡ true → renewed_as new.priority n k ≡ record { shape = n; kind = k }
+    solids : (n : Ranked S) (k : Kind F P) → is_instance k ≡ true
+        → renewed_as new.priority n k ≡ record { shape = n; kind = k }
     solids n Waiting e = let x : false ≡ true = e in cc
     solids n Done e = let x : false ≡ true = e in cc
     solids n (Faulted f) e = let x : false ≡ true = e in cc

@@ -57,7 +57,8 @@ placed_as priority above s (Instance p) =
 abbrev pub placed : {S F P : Type 0} → (S → ℕ) → List ℕ → Placed S F P → Placed (Ranked S) F P
 placed priority above c = placed_as priority above c.shape c.kind
 
-abbrev pub all_placed : {S F P : Type 0} → (S → ℕ) → List ℕ → Result (List (Placed S F P)) F → Result (List (Placed (Ranked S) F P)) F
+abbrev pub all_placed : {S F P : Type 0} → (S → ℕ) → List ℕ → Result (List (Placed S F P)) F
+    → Result (List (Placed (Ranked S) F P)) F
 all_placed priority above (Ok children) = Ok (map (placed priority above) children)
 all_placed priority above (Err fault) = Err fault
 

@@ -28,7 +28,8 @@ module _ (X S A B F P : Type 0) where
   NodeTurns =
       (shapes : Shapes S) (content : Content X S A F P) (old new : Rules S A B F P)
       → IsRulesEdit shapes old new → GoesBySymbol content new
-      → (fits : X → X → Bool) (asks : S → Bool) (meets : S → S → Bool) → IsFit content fits → SeesWhatMeets new asks meets
+      → (fits : X → X → Bool) (asks : S → Bool) (meets : S → S → Bool) → IsFit content fits
+      → SeesWhatMeets new asks meets
       → (V T : View X) (small great id : ℕ) (news : List X) (e now : Seen X) (gone agenda rest after : ℕ → Bool) (expanded : Bool)
       → IsBound V small → IsBound T great
       → IsUnderway shapes content new asks V agenda
@@ -106,7 +107,8 @@ module _ (X S A B F P : Type 0) where
     pub turn : (shapes : Shapes S) (content : Content X S A F P) (old new : Rules S A B F P)
         → IsRulesEdit shapes old new → GoesBySymbol content new
         → (fits : X → X → Bool) (asks : S → Bool) (meets : S → S → Bool) → IsFit content fits
-        → (V T : View X) (small great id : ℕ) (news : List X) (e now : Seen X) (gone agenda rest after : ℕ → Bool) (expanded : Bool)
+        → (V T : View X) (small great id : ℕ) (news : List X) (e now : Seen X) (gone agenda rest after : ℕ → Bool)
+          (expanded : Bool)
         → IsBound V small → IsBound T great
         → IsUnderway shapes content new asks V agenda
         → IsNodeTurn shapes content old new fits asks meets V T small id news e now gone agenda rest after expanded
@@ -152,13 +154,16 @@ module _ (X S A B F P : Type 0) where
         → NoneQueued (edit_of shapes old new) (nodes_of content T n) queued
         → Stands shapes content new asks T
     -- what stands is what an edit starts from
-    pub start : (shapes : Shapes S) (content : Content X S A F P) (old new : Rules S A B F P) (asks : S → Bool) (V : View X) (n : ℕ)
+    pub start : (shapes : Shapes S) (content : Content X S A F P) (old new : Rules S A B F P) (asks : S → Bool)
+          (V : View X) (n : ℕ)
         → IsBound V n → Stands shapes content old asks V → IsStart (edit_of shapes old new) (nodes_of content V n)
     -- put back as it was, it stands as it did
-    pub back : (shapes : Shapes S) (content : Content X S A F P) (rules : Rules S A B F P) (asks : S → Bool) (V T : View X)
+    pub back : (shapes : Shapes S) (content : Content X S A F P) (rules : Rules S A B F P) (asks : S → Bool)
+          (V T : View X)
         → ((c : ℕ) → T c ≡ V c) → Stands shapes content rules asks V → Stands shapes content rules asks T
     -- no node at all stands for rules without lots
-    pub nothing : (shapes : Shapes S) (content : Content X S A F P) (rules : Rules S A B F P) (asks : S → Bool) (V : View X)
+    pub nothing : (shapes : Shapes S) (content : Content X S A F P) (rules : Rules S A B F P) (asks : S → Bool)
+          (V : View X)
         → ((c : ℕ) → V c ≡ None) → Stands shapes content (no_lots rules) asks V
 
 -- the numbers that a map's entries name

@@ -40,6 +40,7 @@ module _ {X S A F P : Type 0} (shapes : Shapes S) (content : Content X S A F P) 
 -- the shapes that a walk counts for q: all that pass the test, are seen and are there, and none but those
 -- that are there and pass
 pub record IsCounted {X S A B F P : Type 0} (content : Content X S A F P) (rules : Rules S A B F P) (T : View X) (q : X) (test : Seen X → Bool) (counted : List S) : Type 0 where
-  pub is : (s : S) → Among s counted → (c : ℕ) × (d : Seen X) × (T c ≡ Some d) × (test d ≡ true) × (content.shape d.node ≡ s)
+  pub is : (s : S) → Among s counted
+      → (c : ℕ) × (d : Seen X) × (T c ≡ Some d) × (test d ≡ true) × (content.shape d.node ≡ s)
   pub all : (c : ℕ) (d : Seen X) → T c ≡ Some d → test d ≡ true
       → rules.sees (content.shape q) (content.shape d.node) ≡ true → Among (content.shape d.node) counted

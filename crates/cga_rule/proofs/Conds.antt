@@ -25,7 +25,8 @@ use Rattle.cga_rule.specs.contracts.cond.CondPartialEq.TheImpl.{the_step}
 use Rattle.cga_rule.specs.contracts.cond.CondPartialEq.TheImpl.Laws.{family, local}
 
 -- the family of derived tests, and that each asks the tests of the parts
-abbrev same : (j : the_members) → Values the_members the_sigs the_carrier j → Values the_members the_sigs the_carrier j → Bool
+abbrev same : (j : the_members) → Values the_members the_sigs the_carrier j → Values the_members the_sigs the_carrier j
+    → Bool
 same = family
 
 abbrev Parts : ((A B C : Type 0) → Type 0) → Type 0

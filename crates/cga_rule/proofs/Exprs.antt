@@ -17,14 +17,17 @@ use Rattle.cga_rule.specs.declared.expr.Factor.{Factor, Factor-F, out-Factor, ro
 use Rattle.cga_rule.specs.declared.expr.Scaled.{Scaled, Scaled-F, out-Scaled, roll-Scaled, roll-out-Scaled, out-roll-Scaled}
 use Rattle.cga_rule.specs.declared.expr.Term.{Term, Term-F, out-Term, roll-Term, roll-out-Term, out-roll-Term}
 use Rattle.cga_rule.specs.declared.expr.Primary.TheFolds.{map-Primary, map-Added, map-Expr, map-Factor, map-Scaled, map-Term, ind-Expr}
-use Rattle.cga_rule.specs.declared.expr.Primary.TheBlock.{the_members, the_sigs, the_carrier, the_depth, split-Primary, member-Primary, member-Added, member-Expr, member-Factor, member-Scaled, member-Term}
+use Rattle.cga_rule.specs.declared.expr.Primary.TheBlock.{the_members, the_sigs, the_carrier, the_depth}
+use Rattle.cga_rule.specs.declared.expr.Primary.TheBlock.{split-Primary, member-Primary, member-Added, member-Expr}
+use Rattle.cga_rule.specs.declared.expr.Primary.TheBlock.{member-Factor, member-Scaled, member-Term}
 use Rattle.cga_rule.specs.declared.expr.Primary.TheOpen.{Number, Named, ScopeSize, Group, Floor, Ceil, Rand}
 use Rattle.cga_rule.specs.contracts.expr.Primary.{enum}
 use Rattle.cga_rule.specs.contracts.expr.ExprPartialEq.TheImpl.{the_step}
 use Rattle.cga_rule.specs.contracts.expr.ExprPartialEq.TheImpl.Laws.{family, local}
 
 -- the family of derived tests, and that each asks the tests of the parts
-abbrev same : (j : the_members) → Values the_members the_sigs the_carrier j → Values the_members the_sigs the_carrier j → Bool
+abbrev same : (j : the_members) → Values the_members the_sigs the_carrier j → Values the_members the_sigs the_carrier j
+    → Bool
 same = family
 
 abbrev Parts : ((A B C D E F : Type 0) → Type 0) → Type 0
@@ -61,7 +64,8 @@ primary_passes a b = by false false enum.parts (
 primary_is : (d e : Primary) → same member-Primary d e ≡ primary_passes (out-Primary d) (out-Primary e)
 primary_is = compared_is the_members (Values the_members the_sigs the_carrier) the_depth Bool true the_step local member-Primary
 
-primary_sound : (y : Found Primary-F) (z : Parts Primary-F) → primary_passes (primary_parts y) z ≡ true → primary_parts y ≡ z
+primary_sound : (y : Found Primary-F) (z : Parts Primary-F) → primary_passes (primary_parts y) z ≡ true
+    → primary_parts y ≡ z
 primary_sound (Number n) (Number m) h = ap Number (fraction_sound n m h)
 primary_sound (Named n) (Named m) h = ap Named ((bytes_decides n m).0 h)
 primary_sound (ScopeSize a) (ScopeSize b) h = ap ScopeSize (same_true axis.the_type tt a b h)
@@ -78,7 +82,8 @@ primary_sound (Rand n low high steps) (Rand m l t s) h =
     λ i. Rand (one i) (least i) (most i) (last i)
 primary_sound y z h = not_so h
 
-primary_step : (x : Parts Primary-F) (y : Found Primary-F) → primary_parts y ≡ x → Sound (same member-Primary) (roll-Primary x)
+primary_step : (x : Parts Primary-F) (y : Found Primary-F) → primary_parts y ≡ x
+    → Sound (same member-Primary) (roll-Primary x)
 primary_step x y is =
     subst (λ (z : Parts Primary-F). Sound (same member-Primary) (roll-Primary z)) is
     (layer_sound (same member-Primary) roll-Primary out-Primary primary_passes roll-out-Primary out-roll-Primary primary_is (primary_parts y) (primary_sound y))
@@ -138,7 +143,8 @@ factor_sound y z h =
     let other = y.primary.1 z.primary (second_so (beq y.minus z.minus) _ h) in
     λ i. record { minus = one i; primary = other i }
 
-factor_step : (x : Parts Factor-F) (y : Found Factor-F) → factor_parts y ≡ x → Sound (same member-Factor) (roll-Factor x)
+factor_step : (x : Parts Factor-F) (y : Found Factor-F) → factor_parts y ≡ x
+    → Sound (same member-Factor) (roll-Factor x)
 factor_step x y is =
     subst (λ (z : Parts Factor-F). Sound (same member-Factor) (roll-Factor z)) is
     (layer_sound (same member-Factor) roll-Factor out-Factor factor_passes roll-out-Factor out-roll-Factor factor_is (factor_parts y) (factor_sound y))
@@ -158,7 +164,8 @@ scaled_sound y z h =
     let other = y.factor.1 z.factor (second_so (beq y.divide z.divide) _ h) in
     λ i. record { divide = one i; factor = other i }
 
-scaled_step : (x : Parts Scaled-F) (y : Found Scaled-F) → scaled_parts y ≡ x → Sound (same member-Scaled) (roll-Scaled x)
+scaled_step : (x : Parts Scaled-F) (y : Found Scaled-F) → scaled_parts y ≡ x
+    → Sound (same member-Scaled) (roll-Scaled x)
 scaled_step x y is =
     subst (λ (z : Parts Scaled-F). Sound (same member-Scaled) (roll-Scaled z)) is
     (layer_sound (same member-Scaled) roll-Scaled out-Scaled scaled_passes roll-out-Scaled out-roll-Scaled scaled_is (scaled_parts y) (scaled_sound y))

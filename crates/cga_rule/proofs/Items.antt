@@ -31,7 +31,8 @@ size_equal (Absolute a) (Absolute b) h = ap Absolute (expr_equal a b h)
 size_equal a b h = not_so h
 
 -- the family of derived tests, and that each asks the tests of the parts
-abbrev same : (j : the_members) → Values the_members the_sigs the_carrier j → Values the_members the_sigs the_carrier j → Bool
+abbrev same : (j : the_members) → Values the_members the_sigs the_carrier j → Values the_members the_sigs the_carrier j
+    → Bool
 same = family
 
 abbrev Parts : ((A B : Type 0) → Type 0) → Type 0

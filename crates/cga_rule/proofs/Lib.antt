@@ -1,5 +1,6 @@
-pub mod Told
-pub mod Exprs
-pub mod Conds
-pub mod Items
-pub mod Equal
+mod Told
+mod Exprs
+mod Conds
+mod Items
+mod Equal
+pub mod Door

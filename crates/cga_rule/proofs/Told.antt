@@ -11,13 +11,11 @@ use Rattle.cga_word.specs.declared.selector.Selector.{Selector}
 use Rattle.cga_word.specs.declared.selector.Selector.TheVariants.{Faces, Sidefaces, Face, Edges, Edge, Vertices}
 use Rattle.cga_word.specs.contracts.selector.SelectorPartialEq.TheImpl as selector
 use Rattle.cga_word.specs.contracts.side.Side as side
+pub use Rattle.cga_fraction.proofs.Door.{false-not-true as not_so}
 
 -- what passes the test with this value is this value
 abbrev pub Sound : {A : Type 0} → (A → A → Bool) → A → Type 0
 Sound {A} same x = (y : A) → same x y ≡ true → x ≡ y
-
-pub not_so : {P : Type 0} → false ≡ true → P
-not_so h = absurd (true≢false (sym h))
 
 one_less : (a b : ℕ) → a + 1 ≡ b + 1 → a ≡ b
 one_less a b h = omega arith
@@ -37,12 +35,14 @@ selector_sound (Edge n) (Edge m) h = ap Edge (eqb-true n m h)
 selector_sound Vertices Vertices h = refl
 selector_sound a b h = not_so h
 
-pub option_sound : {A : Type 0} (same : A → A → Bool) → ((x : A) → Sound same x) → (x : Option A) → Sound (option_eq same) x
+pub option_sound : {A : Type 0} (same : A → A → Bool) → ((x : A) → Sound same x) → (x : Option A)
+    → Sound (option_eq same) x
 option_sound same each None None h = refl
 option_sound same each (Some a) (Some b) h = ap Some (each a b h)
 option_sound same each a b h = not_so h
 
-pub list_sound : {A : Type 0} (same : A → A → Bool) → ((x : A) → Sound same x) → (xs : List A) → Sound (pointwise same) xs
+pub list_sound : {A : Type 0} (same : A → A → Bool) → ((x : A) → Sound same x) → (xs : List A)
+    → Sound (pointwise same) xs
 list_sound same each [] [] h = refl
 list_sound same each [] (y ∷ ys) h = not_so h
 list_sound same each (x ∷ xs) [] h = not_so h
@@ -56,7 +56,8 @@ list_sound same each (x ∷ xs) (y ∷ ys) h =
 abbrev pub Sure : {A : Type 0} → (A → A → Bool) → Type 0
 Sure {A} same = (x : A) × Sound same x
 
-pub parts_sound : {A : Type 0} (same : A → A → Bool) (ys : List (Sure same)) (zs : List A) → pointwise same (map (λ y. y.0) ys) zs ≡ true → map (λ y. y.0) ys ≡ zs
+pub parts_sound : {A : Type 0} (same : A → A → Bool) (ys : List (Sure same)) (zs : List A)
+    → pointwise same (map (λ y. y.0) ys) zs ≡ true → map (λ y. y.0) ys ≡ zs
 parts_sound same [] [] h = refl
 parts_sound same [] (z ∷ zs) h = not_so h
 parts_sound same (y ∷ ys) [] h = not_so h

@@ -1,9 +1,10 @@
-//! Rules as trees: what a rule, its condition and its bodies are made of, grammars and groups of
-//! rules, the faults of a check, and copies of trees.
+//! Rules as trees: what a rule, its condition and its bodies are made of, grammars and groups of rules, the faults of a
+//! check, and copies of trees.
 //!
-//! It knows names and numbers, and neither how a tree is written nor what a rule does. Callers get
-//! the empty list wrong: an alternative or a body without items is `NIL`, and no other list of a
-//! tree that some line spells is empty, but for parameters and arguments.
+//! It must not know how a tree is written or what a rule does.
+//!
+//! What callers get wrong: the empty list. An alternative or a body without items is `NIL`, and no other list of a tree
+//! that some line spells is empty, but for parameters and arguments.
 #![tactic(auto)]
 
 mod check_fault;

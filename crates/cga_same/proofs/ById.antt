@@ -1,5 +1,7 @@
 -- Rules by rising id are the same exactly where the rules of each id are.
-use Rattle.std.proofs.Common.{◌≡◌, ◌↔◌, IsTrue, ℕ, suc, ◌+◌, ◌<◌, ◌≤◌, ◌⊎◌, inl, inr, List, [], ◌∷◌, ◌++◌, All, take, drop, get_or, map, filter, refl, ap, sym, ◌∙◌, subst, arith, cond, Bool, true, false, not, nat_lt, nat_eq, ◌&&◌, if◌then◌else◌, Some, None, append_assoc}
+use Rattle.std.proofs.Common.{◌≡◌, ◌↔◌, IsTrue, ℕ, suc, ◌+◌, ◌<◌, ◌≤◌, ◌⊎◌, inl, inr, List, [], ◌∷◌, ◌++◌, All, take}
+use Rattle.std.proofs.Common.{drop, get_or, map, filter, refl, ap, sym, ◌∙◌, subst, arith, cond, Bool, true, false}
+use Rattle.std.proofs.Common.{not, nat_lt, nat_eq, ◌&&◌, if◌then◌else◌, Some, None, append_assoc}
 use Rattle.std.specs.Prelude.{Option, position, unwrap_or}
 use Rattle.std.specs.List.{position_or_len}
 use Rattle.std.proofs.lemmas.List.{append-nil}
@@ -11,6 +13,7 @@ use Rattle.cga_rule.specs.declared.rule.Rule.{Rule}
 use Rattle.cga_check.specs.Groups.{is_of, rules_of, place_of, placed, placed_all, by_id}
 use Rattle.cga_same.specs.Agreement.{is_one, rules_with, AgreesAt}
 use Rattle.cga_same.proofs.Lists.{behind, all_behind, filter_none, filter_first, filter_some}
+use Rattle.cga_fraction.proofs.Door.{eq_from_nat_eq as equal, le_from_nat_lt as above, least_of_some as or_end, lt_from_nat_lt as below, nat_eq-same as is_self}
 
 -- each rule has no greater id than those behind it
 abbrev Rising : List Rule → Type 0
@@ -22,9 +25,6 @@ with_id id rules = filter (λ (r : Rule). nat_eq r.id id) rules
 
 -- ---- a rule put among others
 
-or_end : (a b : ℕ) → a ≤ b → unwrap_or (cond (nat_lt a b) (Some a) None) b ≡ a
-or_end a b h = elim (nat_lt a b) as (λ t. t ≡ nat_lt a b → unwrap_or (cond t (Some a) None) b ≡ a) [ true ↦ λ e. refl | false ↦ λ e. grind (arith, nat_tests) ] refl
-
 place_is : (id : ℕ) (rules : List Rule) → place_of id rules ≡ position_or_len (λ (x : Rule). nat_lt id x.id) rules
 place_is id rules = or_end _ _ (prefix_len-le-length (λ (x : Rule). not (nat_lt id x.id)) rules)
 
@@ -35,18 +35,21 @@ placed_nil r = refl
 abbrev put_at : Rule → List Rule → ℕ → List Rule
 put_at r rules i = take i rules ++ r ∷ drop i rules
 
-cons_step : (r x : Rule) (xs : List Rule) (b : Bool) (n : ℕ) → put_at r (x ∷ xs) (cond (not b) (1 + n) 0) ≡ if b then r ∷ x ∷ xs else x ∷ put_at r xs n
+cons_step : (r x : Rule) (xs : List Rule) (b : Bool) (n : ℕ)
+    → put_at r (x ∷ xs) (cond (not b) (1 + n) 0) ≡ if b then r ∷ x ∷ xs else x ∷ put_at r xs n
 cons_step r x xs true n = refl
 cons_step r x xs false n = let e : 1 + n ≡ suc n = omega arith in ap (put_at r (x ∷ xs)) e
 
-placed_cons : (r x : Rule) (xs : List Rule) → placed r (x ∷ xs) ≡ if nat_lt r.id x.id then r ∷ x ∷ xs else x ∷ placed r xs
+placed_cons : (r x : Rule) (xs : List Rule)
+    → placed r (x ∷ xs) ≡ if nat_lt r.id x.id then r ∷ x ∷ xs else x ∷ placed r xs
 unfolding placed
 placed_cons r x xs =
     ap (put_at r (x ∷ xs)) (place_is r.id (x ∷ xs))
     ∙ cons_step r x xs (nat_lt r.id x.id) (position_or_len (λ (y : Rule). nat_lt r.id y.id) xs)
     ∙ ap (λ (n : ℕ). if nat_lt r.id x.id then r ∷ x ∷ xs else x ∷ put_at r xs n) (sym (place_is r.id xs))
 
-all_step : (P : Rule → Type 0) (r x : Rule) (xs more : List Rule) (b : Bool) → P r → P x → All P xs → All P more → All P (if b then r ∷ x ∷ xs else x ∷ more)
+all_step : (P : Rule → Type 0) (r x : Rule) (xs more : List Rule) (b : Bool) → P r → P x → All P xs → All P more
+    → All P (if b then r ∷ x ∷ xs else x ∷ more)
 all_step P r x xs more true pr px pxs pmore = All-cons P r (x ∷ xs) pr (All-cons P x xs px pxs)
 all_step P r x xs more false pr px pxs pmore = All-cons P x more px pmore
 
@@ -56,20 +59,8 @@ all_placed P r (x ∷ xs) p h =
     subst (All P) (sym (placed_cons r x xs))
     (all_step P r x xs (placed r xs) (nat_lt r.id x.id) p (All-head P x xs h) (All-tail P x xs h) (all_placed P r xs p (All-tail P x xs h)))
 
-below : (m n : ℕ) → nat_lt m n ≡ true → m < n
-below m n h = grind (arith, nat_tests)
-
-above : (m n : ℕ) → nat_lt m n ≡ false → n ≤ m
-above m n h = grind (arith, nat_tests)
-
-is_self : (n : ℕ) → nat_eq n n ≡ true
-is_self n = grind (arith, nat_tests)
-
 is_other : (id n m : ℕ) → id < n → n ≤ m → nat_eq m id ≡ false
 is_other id n m h k = grind (arith, nat_tests)
-
-equal : (m n : ℕ) → nat_eq m n ≡ true → m ≡ n
-equal m n h = grind (arith, nat_tests)
 
 least_first : (r x : Rule) (xs : List Rule) → r.id ≤ x.id → Rising (x ∷ xs) → All (λ (y : Rule). r.id ≤ y.id) (x ∷ xs)
 least_first r x xs first h =
@@ -102,11 +93,13 @@ none_below id n (x ∷ xs) lt h =
     skip_step (nat_eq x.id id) x (with_id id xs) (is_other id n x.id lt (All-head (λ (y : Rule). n ≤ y.id) x xs h))
     (none_below id n xs lt (All-tail (λ (y : Rule). n ≤ y.id) x xs h))
 
-front_step : (b : Bool) (r : Rule) (more : List Rule) → (b ≡ true → more ≡ []) → cond b (r ∷ more) more ≡ more ++ cond b (r ∷ []) []
+front_step : (b : Bool) (r : Rule) (more : List Rule) → (b ≡ true → more ≡ [])
+    → cond b (r ∷ more) more ≡ more ++ cond b (r ∷ []) []
 front_step true r more h = ap (λ l. r ∷ l) (h refl) ∙ ap (λ l. l ++ r ∷ []) (sym (h refl))
 front_step false r more h = sym (append-nil more)
 
-back_step : (b : Bool) (x : Rule) (more kept last : List Rule) → more ≡ kept ++ last → cond b (x ∷ more) more ≡ cond b (x ∷ kept) kept ++ last
+back_step : (b : Bool) (x : Rule) (more kept last : List Rule) → more ≡ kept ++ last
+    → cond b (x ∷ more) more ≡ cond b (x ∷ kept) kept ++ last
 back_step true x more kept last e = ap (λ l. x ∷ l) e
 back_step false x more kept last e = e
 
@@ -119,7 +112,8 @@ put_step id r x xs more true e h before =
     none_below id x.id (x ∷ xs) (subst (λ n. n < x.id) (equal r.id id same) (below r.id x.id e)) (least_first x x xs le h))
 put_step id r x xs more false e h before = back_step (nat_eq x.id id) x (with_id id more) (with_id id xs) (with_id id (r ∷ [])) before
 
-put_last : (id : ℕ) (r : Rule) (xs : List Rule) → Rising xs → with_id id (placed r xs) ≡ with_id id xs ++ with_id id (r ∷ [])
+put_last : (id : ℕ) (r : Rule) (xs : List Rule) → Rising xs
+    → with_id id (placed r xs) ≡ with_id id xs ++ with_id id (r ∷ [])
 put_last id r [] h = ap (with_id id) (placed_nil r)
 put_last id r (x ∷ xs) h = ap (with_id id) (placed_cons r x xs) ∙ put_step id r x xs (placed r xs) (nat_lt r.id x.id) refl h (put_last id r xs h.1)
 
@@ -127,7 +121,8 @@ all_rising : (ranked xs : List Rule) → Rising ranked → Rising (placed_all ra
 all_rising ranked [] h = h
 all_rising ranked (x ∷ xs) h = all_rising (placed x ranked) xs (rising_placed x ranked h)
 
-all_kept : (id : ℕ) (ranked xs : List Rule) → Rising ranked → with_id id (placed_all ranked xs) ≡ with_id id ranked ++ with_id id xs
+all_kept : (id : ℕ) (ranked xs : List Rule) → Rising ranked
+    → with_id id (placed_all ranked xs) ≡ with_id id ranked ++ with_id id xs
 all_kept id ranked [] h = sym (append-nil (with_id id ranked))
 all_kept id ranked (x ∷ xs) h =
     all_kept id (placed x ranked) xs (rising_placed x ranked h)
@@ -151,7 +146,8 @@ first_is s more = ap (λ b. cond b (s ∷ with_id s.id more) (with_id s.id more)
 not_empty : (t : Rule) (more : List Rule) → [] ≡ t ∷ more → ⊥
 not_empty t more e = cc
 
-least_step : (s t : Rule) (S T : List Rule) (b : Bool) → nat_lt t.id s.id ≡ b → Rising (s ∷ S) → with_id t.id (s ∷ S) ≡ with_id t.id (t ∷ T) → s.id ≤ t.id
+least_step : (s t : Rule) (S T : List Rule) (b : Bool) → nat_lt t.id s.id ≡ b → Rising (s ∷ S)
+    → with_id t.id (s ∷ S) ≡ with_id t.id (t ∷ T) → s.id ≤ t.id
 least_step s t S T true e h same =
     let le : s.id ≤ s.id = omega arith in
     absurd (not_empty t (with_id t.id T) (sym (none_below t.id s.id (s ∷ S) (below t.id s.id e) (least_first s s S le h)) ∙ (same ∙ first_is t T)))
@@ -161,7 +157,8 @@ tail_step : (b : Bool) (s t : Rule) (X Y : List Rule) → (b ≡ true → X ≡ 
 tail_step true s t X Y h e = h refl
 tail_step false s t X Y h e = e
 
-tails : (s t : Rule) (S T : List Rule) → s.id ≡ t.id → with_id s.id S ≡ with_id s.id T → (id : ℕ) → with_id id (s ∷ S) ≡ with_id id (t ∷ T) → with_id id S ≡ with_id id T
+tails : (s t : Rule) (S T : List Rule) → s.id ≡ t.id → with_id s.id S ≡ with_id s.id T → (id : ℕ)
+    → with_id id (s ∷ S) ≡ with_id id (t ∷ T) → with_id id S ≡ with_id id T
 tails s t S T ids at id e =
     tail_step (nat_eq s.id id) s t (with_id id S) (with_id id T) (λ yes. subst (λ n. with_id n S ≡ with_id n T) (equal s.id id yes) at)
     (e ∙ ap (λ n. cond (nat_eq n id) (t ∷ with_id id T) (with_id id T)) (sym ids))
@@ -185,7 +182,8 @@ rising_same (s ∷ S) (t ∷ T) h k e =
 
 with_step : (b c : Bool) (e : Entry) (X Y : List Entry) (symbol : List ℕ) (id : ℕ) → nat_eq e.rule.id id ≡ c
     → map (λ (x : Entry). x.rule) X ≡ with_id id (map (λ (x : Entry). x.rule) Y)
-    → map (λ (x : Entry). x.rule) (cond (b && c) (e ∷ X) X) ≡ with_id id (map (λ (x : Entry). x.rule) (cond b (e ∷ Y) Y))
+    → map (λ (x : Entry). x.rule) (cond (b && c) (e ∷ X) X) ≡ with_id id
+      (map (λ (x : Entry). x.rule) (cond b (e ∷ Y) Y))
 with_step true true e X Y symbol id is h = ap (λ l. e.rule ∷ l) h ∙ ap (λ t. cond t (e.rule ∷ with_id id (map (λ (x : Entry). x.rule) Y)) (with_id id (map (λ (x : Entry). x.rule) Y))) (sym is)
 with_step true false e X Y symbol id is h = h ∙ ap (λ t. cond t (e.rule ∷ with_id id (map (λ (x : Entry). x.rule) Y)) (with_id id (map (λ (x : Entry). x.rule) Y))) (sym is)
 with_step false c e X Y symbol id is h = h
@@ -195,14 +193,16 @@ unfolding rules_of
 with_is symbol id [] = refl
 with_is symbol id (e ∷ es) = with_step (is_of symbol e) (nat_eq e.rule.id id) e (filter (is_one symbol id) es) (filter (is_of symbol) es) symbol id refl (with_is symbol id es)
 
-found_step : (P : ℕ → Type 0) (e : Entry) (id : ℕ) (X : List Entry) (b c : Bool) → nat_eq e.rule.id id ≡ c → (b ≡ true → P e.rule.id)
+found_step : (P : ℕ → Type 0) (e : Entry) (id : ℕ) (X : List Entry) (b c : Bool) → nat_eq e.rule.id id ≡ c
+    → (b ≡ true → P e.rule.id)
     → (map (λ (x : Entry). x.rule) X ≡ []) ⊎ P id → (map (λ (x : Entry). x.rule) (cond (b && c) (e ∷ X) X) ≡ []) ⊎ P id
 found_step P e id X true true is p h = inr (subst P (equal e.rule.id id is) (p refl))
 found_step P e id X true false is p h = h
 found_step P e id X false c is p h = h
 
 -- what holds of the ids of entries of the symbol holds of an id, or there is none of it
-found : (symbol : List ℕ) (P : ℕ → Type 0) (id : ℕ) (es : List Entry) → All (λ (e : Entry). is_of symbol e ≡ true → P e.rule.id) es → (rules_with symbol id es ≡ []) ⊎ P id
+found : (symbol : List ℕ) (P : ℕ → Type 0) (id : ℕ) (es : List Entry)
+    → All (λ (e : Entry). is_of symbol e ≡ true → P e.rule.id) es → (rules_with symbol id es ≡ []) ⊎ P id
 found symbol P id [] h = inl refl
 found symbol P id (e ∷ es) h =
     found_step P e id (filter (is_one symbol id) es) (is_of symbol e) (nat_eq e.rule.id id) refl
@@ -218,7 +218,8 @@ module _ (symbol : List ℕ) (xs ys : List Entry) where
   abbrev Same : ℕ → Type 0
   Same id = rules_with symbol id xs ≡ rules_with symbol id ys
 
-  pub agreed : All (AgreesAt symbol xs ys) xs → All (AgreesAt symbol xs ys) ys → by_id (rules_of xs symbol) ≡ by_id (rules_of ys symbol)
+  pub agreed : All (AgreesAt symbol xs ys) xs → All (AgreesAt symbol xs ys) ys
+      → by_id (rules_of xs symbol) ≡ by_id (rules_of ys symbol)
   agreed h k =
       rising_same (by_id (rules_of xs symbol)) (by_id (rules_of ys symbol)) (by_id_rises (rules_of xs symbol)) (by_id_rises (rules_of ys symbol)) (λ id.
       let at : Same id = each_id (rules_with symbol id xs) (rules_with symbol id ys) (found symbol Same id xs h) (found symbol Same id ys k) in
@@ -228,17 +229,21 @@ module _ (symbol : List ℕ) (xs ys : List Entry) where
   same_at e id =
       with_is symbol id xs ∙ (sym (by_id_keeps id (rules_of xs symbol)) ∙ (ap (with_id id) e ∙ (by_id_keeps id (rules_of ys symbol) ∙ sym (with_is symbol id ys))))
 
-  pub agrees : by_id (rules_of xs symbol) ≡ by_id (rules_of ys symbol) → (zs : List Entry) → All (AgreesAt symbol xs ys) zs
+  pub agrees : by_id (rules_of xs symbol) ≡ by_id (rules_of ys symbol) → (zs : List Entry)
+      → All (AgreesAt symbol xs ys) zs
   agrees e [] = All-nil (AgreesAt symbol xs ys)
   agrees e (z ∷ zs) = All-cons (AgreesAt symbol xs ys) z zs (λ is. same_at e z.rule.id) (agrees e zs)
 
 -- ---- the rules with an id, one after the other
 
 module _ (symbol : List ℕ) (id : ℕ) where
-  pub with_none : (es : List Entry) (r : Option ℕ) → r ≡ position (is_one symbol id) es → r ≡ None → rules_with symbol id es ≡ []
+  pub with_none : (es : List Entry) (r : Option ℕ) → r ≡ position (is_one symbol id) es → r ≡ None
+      → rules_with symbol id es ≡ []
   with_none es r is none = ap (map (λ (x : Entry). x.rule)) (filter_none (is_one symbol id) es (sym is ∙ none))
 
-  pub with_first : (es : List Entry) (r : Option ℕ) (i : ℕ) (x : Entry) → r ≡ position (is_one symbol id) es → r ≡ Some i → x ≡ get_or es i x → rules_with symbol id es ≡ (get_or es i x).rule ∷ rules_with symbol id (behind (i + 1) es)
+  pub with_first : (es : List Entry) (r : Option ℕ) (i : ℕ) (x : Entry) → r ≡ position (is_one symbol id) es
+      → r ≡ Some i → x ≡ get_or es i x
+      → rules_with symbol id es ≡ (get_or es i x).rule ∷ rules_with symbol id (behind (i + 1) es)
   with_first es r i x is some at =
       ap (map (λ (y : Entry). y.rule)) (filter_first (is_one symbol id) es i x (sym is ∙ some) at) ∙ (ap (λ (y : Entry). y.rule ∷ rules_with symbol id (drop (i + 1) es)) at ∙ ap (λ l. (get_or es i x).rule ∷ rules_with symbol id l) (sym (all_behind (i + 1) es)))
 
@@ -246,12 +251,15 @@ module _ (symbol : List ℕ) (id : ℕ) where
   not_mapped [] e = refl
   not_mapped (x ∷ es) e = absurd (cc)
 
-  pub with_some : (es : List Entry) (r : Option ℕ) (i : ℕ) → r ≡ position (is_one symbol id) es → r ≡ Some i → rules_with symbol id es ≡ [] → ⊥
+  pub with_some : (es : List Entry) (r : Option ℕ) (i : ℕ) → r ≡ position (is_one symbol id) es → r ≡ Some i
+      → rules_with symbol id es ≡ [] → ⊥
   with_some es r i is some none = filter_some (is_one symbol id) es i (sym is ∙ some) (not_mapped (filter (is_one symbol id) es) none)
 
-pub firsts_same : (X Y A B : List Rule) (x y : Rule) (r : Bool) → X ≡ x ∷ A → Y ≡ y ∷ B → x ≡ y → (IsTrue r ↔ (A ≡ B)) → IsTrue r ↔ (X ≡ Y)
+pub firsts_same : (X Y A B : List Rule) (x y : Rule) (r : Bool) → X ≡ x ∷ A → Y ≡ y ∷ B → x ≡ y → (IsTrue r ↔ (A ≡ B))
+    → IsTrue r ↔ (X ≡ Y)
 firsts_same X Y A B x y r d e same rest =
     (λ h. d ∙ ((λ i. same i ∷ rest.0 h i) ∙ sym e), λ h. let tails : A ≡ B = cc in rest.1 tails)
 
-pub firsts_differ : (X Y A B : List Rule) (x y : Rule) (r : Bool) → X ≡ x ∷ A → Y ≡ y ∷ B → (IsTrue r ↔ (x ≡ y)) → r ≡ false → IsTrue r ↔ (X ≡ Y)
+pub firsts_differ : (X Y A B : List Rule) (x y : Rule) (r : Bool) → X ≡ x ∷ A → Y ≡ y ∷ B → (IsTrue r ↔ (x ≡ y))
+    → r ≡ false → IsTrue r ↔ (X ≡ Y)
 firsts_differ X Y A B x y r d e same off = (λ h. absurd (cc), λ h. let firsts : x ≡ y = cc in same.1 firsts)

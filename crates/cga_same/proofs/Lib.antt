@@ -1,4 +1,4 @@
-pub mod Lists
-pub mod ById
-pub mod Values
-pub mod Groups
+mod Lists
+mod ById
+mod Values
+mod Groups

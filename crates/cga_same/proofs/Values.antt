@@ -11,13 +11,16 @@ use Rattle.cga_rule.specs.declared.grammar.Group.{Group}
 use Rattle.cga_expr.specs.Names.{attribute_of, same_name}
 use Rattle.cga_same.specs.Agreement.{SameValue, SameValues}
 
-value_step : (P : List ℕ → Type 0) (a : Attribute) (name : List ℕ) (rest : Option Attribute) (b : Bool) → (b ≡ true → P name)
-    → (option_map (λ (x : Attribute). x.value) rest ≡ None) ⊎ P name → (option_map (λ (x : Attribute). x.value) (cond b (Some a) rest) ≡ None) ⊎ P name
+value_step : (P : List ℕ → Type 0) (a : Attribute) (name : List ℕ) (rest : Option Attribute) (b : Bool)
+    → (b ≡ true → P name)
+    → (option_map (λ (x : Attribute). x.value) rest ≡ None) ⊎ P name
+    → (option_map (λ (x : Attribute). x.value) (cond b (Some a) rest) ≡ None) ⊎ P name
 value_step P a name rest true p h = inr (p refl)
 value_step P a name rest false p h = h
 
 -- what holds of the names of attributes holds of a name, or it has no value
-with_value : (P : List ℕ → Type 0) (name : List ℕ) (more : List Attribute) → All (λ (a : Attribute). P a.name) more → (attribute_of more name ≡ None) ⊎ P name
+with_value : (P : List ℕ → Type 0) (name : List ℕ) (more : List Attribute) → All (λ (a : Attribute). P a.name) more
+    → (attribute_of more name ≡ None) ⊎ P name
 with_value P name [] h = inl refl
 with_value P name (a ∷ more) h =
     value_step P a name (find (λ (x : Attribute). same_name x.name name) more) (same_name a.name name)
@@ -43,6 +46,7 @@ module _ (rules : Option Group) (old new : Grammar) where
   values_of h (a ∷ more) = All-cons Same a more (h a.name) (values_of h more)
 
   -- lists that are lent as slices
-  pub values_decided : (s t : List Attribute) (r : Bool) → s ≡ old.attributes → t ≡ new.attributes → All Same s → (IsTrue r ↔ All Same t) → IsTrue r ↔ SameValues rules old new
+  pub values_decided : (s t : List Attribute) (r : Bool) → s ≡ old.attributes → t ≡ new.attributes → All Same s
+      → (IsTrue r ↔ All Same t) → IsTrue r ↔ SameValues rules old new
   values_decided s t r is was first second =
       (λ p. all_values (subst (All Same) is first) (subst (All Same) was (second.0 p)), λ v. second.1 (values_of v t))

@@ -8,13 +8,12 @@ use Rattle.cga_form.specs.Laws.{IsForm, Leads}
 use Rattle.cga_form.specs.Parts.{any}
 use Rattle.cga_form.specs.Reader.{begins}
 use Rattle.cga_form.specs.Tokens.{is_word}
-use Rattle.cga_form.proofs.Again.{Begun, begun_token, begun_as, starts_token, missed, misses_end, never_written, ends, peek_yes, peek_no, after, plainly}
-use Rattle.cga_form.proofs.Forms.{Reads, next, done, either}
+use Rattle.cga_form.proofs.Door.{Begun, after, begun_as, begun_token, done, either, ends, missed, misses_end, never_written, next, peek_no, peek_yes, plainly, starts_token}
+use Rattle.cga_form.specs.Laws.{Reads}
+use Rattle.cga_parser.proofs.Door.{block_form, rule_is}
 use Rattle.cga_parser.specs.Blocks.{block_pieces}
 use Rattle.cga_parser.specs.declared.block_line.BlockLine.{BlockLine}
 use Rattle.cga_parser.specs.declared.block_line.BlockLine.TheVariants as said
-use Rattle.cga_parser.proofs.AreForms.{block_form}
-use Rattle.cga_parser.proofs.Rules.{rule_is}
 use Rattle.cga_script.specs.declared.city_line.CityLine.{CityLine}
 use Rattle.cga_script.specs.declared.city_line.CityLine.TheVariants as line
 use Rattle.cga_script.specs.CityLines.{city_pieces, city}
@@ -32,11 +31,14 @@ city_reads n =
 
 -- ---- a line of a block of rules is no lot and no order
 
-id_begun_by : (test : Lexeme → Bool) (l : Lexeme) (qs : Pieces) → test l ≡ false → (t : Bool) → (c : ℕ) (x : List Lexeme) (d : ℕ) (r : List Lexeme) → Writes c ((if t then token Usual l else never) ∷ qs) x d → begins test (x ++ r) ≡ false
+id_begun_by : (test : Lexeme → Bool) (l : Lexeme) (qs : Pieces) → test l ≡ false → (t : Bool)
+    → (c : ℕ) (x : List Lexeme) (d : ℕ) (r : List Lexeme) → Writes c ((if t then token Usual l else never) ∷ qs) x d
+    → begins test (x ++ r) ≡ false
 id_begun_by test l qs e true c x d r w = (begun_token e).begun c x d r w
 id_begun_by test l qs e false c x d r w = absurd (never_written c qs x d w)
 
-id_begun : {test : Lexeme → Bool} {qs : Pieces} (low high n : ℕ) → test (number n) ≡ false → Begun test (whole low high n ∷ qs)
+id_begun : {test : Lexeme → Bool} {qs : Pieces} (low high n : ℕ) → test (number n) ≡ false
+    → Begun test (whole low high n ∷ qs)
 id_begun {test = test} {qs = qs} low high n e = record { begun = λ c x d r w. id_begun_by test (number n) qs e (nat_le low n && nat_le n high) c x d r w }
 
 rule_begun : {test : Lexeme → Bool} (r : Rule) → test (number r.id) ≡ false → Begun test (rule_pieces r)

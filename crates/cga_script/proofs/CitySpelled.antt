@@ -6,9 +6,9 @@ use Rattle.cga_syntax.specs.Lexemes.{is}
 use Rattle.cga_syntax.specs.declared.lexeme.Lexeme.TheVariants as lexeme
 use Rattle.cga_form.specs.BlockTells.{Say}
 use Rattle.cga_form.specs.Lines.{Line}
-use Rattle.cga_form.proofs.Singles.{word_is}
+use Rattle.cga_form.proofs.Door.{word_is}
+use Rattle.cga_parser.proofs.Door.{spelled}
 use Rattle.cga_parser.specs.BlockTells.{grammar_of}
-use Rattle.cga_parser.proofs.GrammarBack.{spelled}
 use Rattle.cga_shape.specs.declared.lot.Lot.{Lot}
 use Rattle.cga_shape.specs.declared.sources.Sources.{Sources}
 use Rattle.cga_script.specs.declared.city_line.CityLine.{CityLine}
@@ -18,7 +18,8 @@ use Rattle.cga_script.specs.DumpLines.{IsSaidLot, Differ, IsSpelledCity}
 use Rattle.cga_script.proofs.Said.{rule_lines}
 
 module _ (P : Lot → Type 0) (x : Lot) (p : P x) where
-  placed_all : (t : Bool) (y : Lot) (acc more : List Lot) → P y → All P acc → All P more → All P (if t then x ∷ acc else y ∷ more)
+  placed_all : (t : Bool) (y : Lot) (acc more : List Lot) → P y → All P acc → All P more
+      → All P (if t then x ∷ acc else y ∷ more)
   placed_all true y acc more q k m = All-cons P x acc p k
   placed_all false y acc more q k m = All-cons P y more q m
 
@@ -27,7 +28,8 @@ module _ (P : Lot → Type 0) (x : Lot) (p : P x) where
   with_all [] k = All-cons P x [] p (All-nil P)
   with_all (y ∷ acc) k = placed_all (is y.name x.name) y acc (with_lot x acc) (All-head P y acc k) (All-tail P y acc k) (with_all acc (All-tail P y acc k))
 
-lots_said : (lines : List Line) (all : List (Option CityLine)) → Say city_pieces lines all → (acc : List Lot) → All IsSaidLot acc → All IsSaidLot (lots_after acc all)
+lots_said : (lines : List Line) (all : List (Option CityLine)) → Say city_pieces lines all → (acc : List Lot)
+    → All IsSaidLot acc → All IsSaidLot (lots_after acc all)
 unfolding Say lots_after
 lots_said [] [] h acc k = k
 lots_said [] (a ∷ all) h acc k = absurd h
@@ -48,7 +50,8 @@ one_name y x e = let q : lexeme.Name y.name ≡ lexeme.Name x.name = word_is x.n
 renamed : (y x : Lot) (acc : List Lot) → y.name ≡ x.name → All (OtherName y) acc → All (OtherName x) acc
 renamed y x acc e h = subst (λ n. All (λ (k : Lot). is n k.name ≡ false) acc) e h
 
-differ_by : (x y : Lot) (acc more : List Lot) (t : Bool) → is y.name x.name ≡ t → All (OtherName y) acc → Differ acc → (is y.name x.name ≡ false → All (OtherName y) more) → Differ more → Differ (if t then x ∷ acc else y ∷ more)
+differ_by : (x y : Lot) (acc more : List Lot) (t : Bool) → is y.name x.name ≡ t → All (OtherName y) acc → Differ acc
+    → (is y.name x.name ≡ false → All (OtherName y) more) → Differ more → Differ (if t then x ∷ acc else y ∷ more)
 unfolding Differ
 differ_by x y acc more true e h d g m = (renamed y x acc (one_name y x e) h, d)
 differ_by x y acc more false e h d g m = (g e, m)

@@ -7,13 +7,11 @@ use Rattle.cga_syntax.specs.Pieces.{Pieces, word, rule_pieces}
 use Rattle.cga_form.specs.Laws.{IsForm, Leads, Again}
 use Rattle.cga_form.specs.Parts.{any}
 use Rattle.cga_form.specs.Tokens.{is_word, a_sign, a_name, a_whole}
-use Rattle.cga_form.proofs.Again.{begun_token, starts_token, missed, misses_end, ends, took, by_name, whole_leads, never_leads, peek_yes, peek_no, after, plainly}
-use Rattle.cga_form.proofs.Forms.{Goes, Reads, next, done, one_token, either}
-use Rattle.cga_form.proofs.Singles.{sign_token, name_token, whole_token, name_read}
-use Rattle.cga_form.proofs.Values.{value_pieces, value_reads}
-use Rattle.cga_form.proofs.ValuesAgain.{value_again}
-use Rattle.cga_parser.proofs.Rules.{rule_reads}
-use Rattle.cga_parser.proofs.RulesAgain.{rule_again}
+use Rattle.cga_form.proofs.Door.{after, begun_token, by_name, done, either, ends, missed, misses_end, name_read}
+use Rattle.cga_form.proofs.Door.{name_token, never_leads, next, one_token, peek_no, peek_yes, plainly, sign_token}
+use Rattle.cga_form.proofs.Door.{starts_token, took, value_again, value_pieces, value_reads, whole_leads, whole_token}
+use Rattle.cga_form.specs.Laws.{Goes, Reads}
+use Rattle.cga_parser.proofs.Door.{rule_again, rule_reads}
 use Rattle.cga_shape.specs.declared.lot.Lot.{Lot}
 use Rattle.cga_word.specs.declared.mode.Mode.{Mode}
 use Rattle.cga_shape.specs.declared.edit.Edit.{Edit}
@@ -40,7 +38,8 @@ maybe_reads : (n : ℕ) → Reads n n maybe_named maybe_name
 unfolding maybe_name
 maybe_reads n = either any (next (one_token (name_token n)) (λ x. done refl)) (done refl)
 
-rest_goes : (v : Version) (n : ℕ) (h : CommandHead) → Goes n n (word (head_word h) ∷ []) (command_pieces v) (command_rest n h)
+rest_goes : (v : Version) (n : ℕ) (h : CommandHead)
+    → Goes n n (word (head_word h) ∷ []) (command_pieces v) (command_rest n h)
 rest_goes v n head.Rules = done refl
 rest_goes v n head.Put = next (one_token (whole_token 0 65535 n refl)) (λ p. next (rule_reads n) (λ r. done refl))
 rest_goes v n head.Drop = next (one_token (whole_token 1 999999 n refl)) (λ i. done refl)
@@ -97,26 +96,31 @@ maybe_at (Some x) = by_name x (λ e. peek_yes any (starts_token refl) (took a_na
 maybe_again : Again maybe_named any maybe_name
 maybe_again = record { all = maybe_at }
 
-first_at : (n : ℕ) (h : CommandHead) {b : ScriptCommand} {qs : Pieces} → Leads any qs (command_rest n h) b → Leads any (word (head_word h) ∷ qs) (first_command n) b
+first_at : (n : ℕ) (h : CommandHead) {b : ScriptCommand} {qs : Pieces} → Leads any qs (command_rest n h) b
+    → Leads any (word (head_word h) ∷ qs) (first_command n) b
 unfolding first_command
 first_at n h rest = peek_no (is_word (codes "lot")) (missed (begun_token (head_no_lot h))) (took a_head h (head_read h) rest)
 
-second_at : (n : ℕ) (h : CommandHead) {b : ScriptCommand} {qs : Pieces} → Leads any qs (command_rest n h) b → Leads any (word (head_word h) ∷ qs) (second_command n) b
+second_at : (n : ℕ) (h : CommandHead) {b : ScriptCommand} {qs : Pieces} → Leads any qs (command_rest n h) b
+    → Leads any (word (head_word h) ∷ qs) (second_command n) b
 unfolding second_command
 second_at n h rest =
     peek_no (is_word (codes "order")) (missed (begun_token (head_no_order h))) (peek_no is_further (missed (begun_token (head_no_further h))) (first_at n h rest))
 
-version_at : (v : Version) (n : ℕ) (h : CommandHead) {b : ScriptCommand} {qs : Pieces} → Leads any qs (command_rest n h) b → Leads any (word (head_word h) ∷ qs) (by_version v n) b
+version_at : (v : Version) (n : ℕ) (h : CommandHead) {b : ScriptCommand} {qs : Pieces}
+    → Leads any qs (command_rest n h) b → Leads any (word (head_word h) ∷ qs) (by_version v n) b
 version_at One n h rest = first_at n h rest
 version_at Two n h rest = second_at n h rest
 
 -- a command of both versions
-by_head : (v : Version) (n : ℕ) (h : CommandHead) {b : ScriptCommand} {qs : Pieces} → Leads any qs (command_rest n h) b → Leads any (word (head_word h) ∷ qs) (command v n) b
+by_head : (v : Version) (n : ℕ) (h : CommandHead) {b : ScriptCommand} {qs : Pieces} → Leads any qs (command_rest n h) b
+    → Leads any (word (head_word h) ∷ qs) (command v n) b
 unfolding command
 by_head v n h rest = peek_yes any (starts_token refl) (version_at v n h rest)
 
 -- a command of version 2 alone
-by_further : (v : Version) (n : ℕ) (h : FurtherHead) {b : ScriptCommand} {qs : Pieces} → Leads any qs (further_rest h) b → Leads any (in_two v (word (further_word h) ∷ qs)) (command v n) b
+by_further : (v : Version) (n : ℕ) (h : FurtherHead) {b : ScriptCommand} {qs : Pieces} → Leads any qs (further_rest h) b
+    → Leads any (in_two v (word (further_word h) ∷ qs)) (command v n) b
 unfolding command second_command
 by_further One n h rest = never_leads
 by_further Two n h rest =
@@ -136,7 +140,8 @@ unfolding command
 lot_at One n l = peek_yes any (starts_token refl) (lot_first n l)
 lot_at Two n l = peek_yes any (starts_token refl) (lot_second n l)
 
-order_at : (v : Version) (n : ℕ) (m : Mode) → Leads any (in_two v (order_pieces m)) (command v n) (c.Change (edit.SetOrder m))
+order_at : (v : Version) (n : ℕ) (m : Mode)
+    → Leads any (in_two v (order_pieces m)) (command v n) (c.Change (edit.SetOrder m))
 unfolding command second_command
 order_at One n m = never_leads
 order_at Two n m = peek_yes any (starts_token refl) (peek_yes (is_word (codes "order")) (starts_token refl) (plainly (after {v = order_pieces} _ m (order_form.again n) (misses_end (no_more _)) ends)))

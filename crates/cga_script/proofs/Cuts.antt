@@ -22,11 +22,13 @@ abbrev pub after_part : List (List ℕ) → List ℕ → List ℕ → Cut
 after_part [] rest r = record { lines = []; rest = r ++ rest }
 after_part (line ∷ lines) rest r = record { lines = (r ++ line) ∷ lines; rest = rest }
 
-before_after_part : (x : ℕ) (ended : List (List ℕ)) (rest r : List ℕ) → before_first x (after_part ended rest r).lines (after_part ended rest r).rest ≡ after_part ended rest (x ∷ r)
+before_after_part : (x : ℕ) (ended : List (List ℕ)) (rest r : List ℕ)
+    → before_first x (after_part ended rest r).lines (after_part ended rest r).rest ≡ after_part ended rest (x ∷ r)
 before_after_part x [] rest r = refl
 before_after_part x (line ∷ lines) rest r = refl
 
-nothing_before : (ended : List (List ℕ)) (rest : List ℕ) → ◌≡◌ {A = Cut} (record { lines = ended; rest = rest }) (after_part ended rest [])
+nothing_before : (ended : List (List ℕ)) (rest : List ℕ)
+    → ◌≡◌ {A = Cut} (record { lines = ended; rest = rest }) (after_part ended rest [])
 nothing_before [] rest = refl
 nothing_before (line ∷ lines) rest = refl
 
@@ -38,7 +40,8 @@ cut_after (x ∷ xs) ys all =
     ∙ before_after_part x (cut ys).lines (cut ys).rest xs
 
 -- a line that an LF ends
-pub cut_line : (r ys : List ℕ) → IsOneLine r → cut (r ++ 10 ∷ ys) ≡ record { lines = r ∷ (cut ys).lines; rest = (cut ys).rest }
+pub cut_line : (r ys : List ℕ) → IsOneLine r
+    → cut (r ++ 10 ∷ ys) ≡ record { lines = r ∷ (cut ys).lines; rest = (cut ys).rest }
 cut_line r ys all = cut_after r (10 ∷ ys) all ∙ ap (λ (c : Cut). after_part c.lines c.rest r) (at_lf 10 ys refl) ∙ ap (λ (l : List ℕ). record { lines = l ∷ (cut ys).lines; rest = (cut ys).rest }) (append-nil r)
 
 pub cut_part : (r : List ℕ) → IsOneLine r → cut r ≡ record { lines = []; rest = r }
@@ -50,7 +53,8 @@ abbrev goes_on : Cut → List ℕ → Cut
 goes_on c ys = record { lines = c.lines ++ (cut (c.rest ++ ys)).lines; rest = (cut (c.rest ++ ys)).rest }
 
 before_goes_on : (x : ℕ) (ended : List (List ℕ)) (rest ys : List ℕ) → x ≢ 10
-    → before_first x (ended ++ (cut (rest ++ ys)).lines) (cut (rest ++ ys)).rest ≡ goes_on (before_first x ended rest) ys
+    → before_first x (ended ++ (cut (rest ++ ys)).lines) (cut (rest ++ ys)).rest ≡ goes_on (before_first x ended rest)
+      ys
 before_goes_on x [] rest ys other = sym (at_other x (rest ++ ys) other)
 before_goes_on x (line ∷ lines) rest ys other = refl
 
@@ -69,7 +73,8 @@ cut_append (x ∷ xs) ys = elim (lf_or_other x) [
 ]
 
 -- the rest is one line
-before_is_one : (x : ℕ) (ended : List (List ℕ)) (rest : List ℕ) → x ≢ 10 → IsOneLine rest → IsOneLine (before_first x ended rest).rest
+before_is_one : (x : ℕ) (ended : List (List ℕ)) (rest : List ℕ) → x ≢ 10 → IsOneLine rest
+    → IsOneLine (before_first x ended rest).rest
 before_is_one x [] rest other all = All-cons (λ (b : ℕ). b ≢ 10) x rest other all
 before_is_one x (line ∷ lines) rest other all = all
 
@@ -135,7 +140,8 @@ last_kept x = elim (le_or 4098 (length x)) [
 abbrev as_lines : List (List ℕ) → List Line
 as_lines ended = map (λ line. clipped (without_cr line)) ended
 
-after_part_kept : (ended : List (List ℕ)) (rest r : List ℕ) → (as_lines (after_part ended rest (kept_of r)).lines ≡ as_lines (after_part ended rest r).lines)
+after_part_kept : (ended : List (List ℕ)) (rest r : List ℕ)
+    → (as_lines (after_part ended rest (kept_of r)).lines ≡ as_lines (after_part ended rest r).lines)
     × (kept_of (after_part ended rest (kept_of r)).rest ≡ kept_of (after_part ended rest r).rest)
 after_part_kept [] rest r = (refl, kept_again 4098 r rest)
 after_part_kept (line ∷ lines) rest r = (ap (λ (l : Line). l ∷ as_lines lines) (sym (line_kept (kept_of r ++ line)) ∙ ap (λ (t : List ℕ). clipped (without_cr t)) (kept_again 4098 r line) ∙ line_kept (r ++ line)), refl)
@@ -150,11 +156,13 @@ pub rest_kept : (r ys : List ℕ) → IsOneLine r → kept_of (cut (kept_of r ++
 rest_kept r ys all = ap (λ (c : Cut). kept_of c.rest) (cut_after (kept_of r) ys (kept_is_one r all)) ∙ (after_part_kept (cut ys).lines (cut ys).rest r).1 ∙ ap (λ (c : Cut). kept_of c.rest) (sym (cut_after r ys all))
 
 -- one more piece: the lines so far, then those that it ends
-pub lines_append : (read piece : List ℕ) → lines_of (read ++ piece) ≡ lines_of read ++ lines_of (kept_of (cut read).rest ++ piece)
+pub lines_append : (read piece : List ℕ)
+    → lines_of (read ++ piece) ≡ lines_of read ++ lines_of (kept_of (cut read).rest ++ piece)
 lines_append read piece =
     ap (λ (c : Cut). as_lines c.lines) (cut_append read piece)
     ∙ map-append (λ line. clipped (without_cr line)) (cut read).lines (cut ((cut read).rest ++ piece)).lines
     ∙ ap (λ (ls : List Line). lines_of read ++ ls) (sym (lines_kept (cut read).rest piece (rest_is_one read)))
 
-pub kept_append : (read piece : List ℕ) → kept_of (cut (kept_of (cut read).rest ++ piece)).rest ≡ kept_of (cut (read ++ piece)).rest
+pub kept_append : (read piece : List ℕ)
+    → kept_of (cut (kept_of (cut read).rest ++ piece)).rest ≡ kept_of (cut (read ++ piece)).rest
 kept_append read piece = rest_kept (cut read).rest piece (rest_is_one read) ∙ ap (λ (c : Cut). kept_of c.rest) (sym (cut_append read piece))

@@ -1,5 +1,7 @@
 -- The dump is read back.
-use Rattle.std.proofs.Common.{◌≡◌, ℕ, ◌+◌, ◌≤◌, nat_lt, Bool, true, false, List, [], ◌∷◌, ◌++◌, append_assoc, length, length-append, map, Option, Some, None, Ok, arith, ap, sym, ◌∙◌, refl, subst, codes, if◌then◌else◌}
+use Rattle.std.proofs.Common.{◌≡◌, ℕ, ◌+◌, ◌≤◌, nat_lt, Bool, true, false, List, [], ◌∷◌, ◌++◌, append_assoc, length}
+use Rattle.std.proofs.Common.{length-append, map, Option, Some, None, Ok, arith, ap, sym, ◌∙◌, refl, subst, codes}
+use Rattle.std.proofs.Common.{if◌then◌else◌}
 use Rattle.std.specs.Prelude.{flat_map}
 use Rattle.std.specs.List.{All}
 use Rattle.std.proofs.lemmas.Bool.Decides.{nat_tests}
@@ -14,20 +16,19 @@ use Rattle.cga_syntax.specs.Least.{least, lesser}
 use Rattle.cga_syntax.specs.Lexemes.{is, keyword_of}
 use Rattle.cga_syntax.specs.Reading.{AreTokens, AreRead}
 use Rattle.cga_syntax.specs.Printing.{printed, text_of}
-use Rattle.cga_syntax.proofs.Again.{lexemes}
-use Rattle.cga_syntax.proofs.Visible.{text_visible}
+use Rattle.cga_form.proofs.Door.{nothing, token_first}
+use Rattle.cga_fraction.proofs.Door.{nat_lt-zero as not_below}
+use Rattle.cga_parser.proofs.Door.{grammar_back}
+use Rattle.cga_syntax.proofs.Door.{lexemes, text_read, text_visible}
 use Rattle.cga_syntax.specs.declared.lexeme.Lexeme.TheVariants as lexeme
 use Rattle.cga_syntax.specs.declared.print.space.Space.TheVariants.{Usual}
-use Rattle.cga_syntax.proofs.Back.{text_read}
 use Rattle.cga_form.specs.BlockTells.{BlockTells, Say}
 use Rattle.cga_form.specs.Lines.{Line}
 use Rattle.cga_form.specs.Tells.{Tells}
-use Rattle.cga_form.proofs.Written.{token_first, nothing}
 use Rattle.cga_parser.specs.Blocks.{block_pieces}
 use Rattle.cga_parser.specs.GrammarLines as rules
 use Rattle.cga_parser.specs.GrammarLines.{said_of, AreShort}
 use Rattle.cga_parser.specs.declared.block_line.BlockLine.{BlockLine}
-use Rattle.cga_parser.proofs.GrammarBack.{grammar_back}
 use Rattle.cga_shape.specs.declared.lot.Lot.{Lot}
 use Rattle.cga_shape.specs.declared.sources.Sources.{Sources}
 use Rattle.cga_word.specs.declared.mode.Mode.{Mode}
@@ -75,7 +76,9 @@ same_lines g back =
     let e : codes "rules\n" ++ (grammar_lines g ++ codes "end\n") ≡ codes "rules\n" ++ (rules.lines_text (said_of g) ++ codes "end\n") = ap (λ z. codes "rules\n" ++ z) (append_assoc _ _ (codes "end\n")) ∙ back.text in
     sym (cut_end (grammar_lines g) (rules.lines_text (said_of g)) (codes "end\n") (cut_front _ _ e))
 
-whole_text : (s : Sources) → rules.ReadsBack s.grammar → dump_text_of s ≡ ended (codes "version 2") ++ (ended (codes "city") ++ (city_texts (city_said s) ++ ended (codes "end")))
+whole_text : (s : Sources) → rules.ReadsBack s.grammar
+    → dump_text_of s ≡ ended (codes "version 2") ++
+      (ended (codes "city") ++ (city_texts (city_said s) ++ ended (codes "end")))
 unfolding dump_text_of
 whole_text s back =
     let e : city_texts (map line.Block (said_of s.grammar) ++ map line.Lot s.lots) ≡ grammar_lines s.grammar ++ flat_map lot_line s.lots =
@@ -118,14 +121,16 @@ order_inside m = (
 
 -- ---- all lines
 
-say_join : (xs ys : List Line) (as' bs : List (Option CityLine)) → Say city_pieces xs as' → Say city_pieces ys bs → Say city_pieces (xs ++ ys) (as' ++ bs)
+say_join : (xs ys : List Line) (as' bs : List (Option CityLine)) → Say city_pieces xs as' → Say city_pieces ys bs
+    → Say city_pieces (xs ++ ys) (as' ++ bs)
 unfolding Say
 say_join [] ys [] bs h k = k
 say_join [] ys (a ∷ as') bs h k = absurd h
 say_join (x ∷ xs) ys [] bs h k = absurd h
 say_join (x ∷ xs) ys (a ∷ as') bs h k = (h.0, say_join xs ys as' bs h.1 k)
 
-say_blocks : (ls : List Line) (all : List (Option BlockLine)) → Say block_pieces ls all → Say city_pieces ls (map wrap all)
+say_blocks : (ls : List Line) (all : List (Option BlockLine)) → Say block_pieces ls all
+    → Say city_pieces ls (map wrap all)
 unfolding Say
 say_blocks [] [] h = tt
 say_blocks [] (a ∷ all) h = absurd h
@@ -142,22 +147,25 @@ blocks_given : (bs : List BlockLine) → map rules.given bs ≡ map given (map l
 blocks_given [] = refl
 blocks_given (b ∷ bs) = ap (λ z. rules.given b ∷ z) (blocks_given bs)
 
-lines_are : (s : Sources) → map given (map line.Block (said_of s.grammar) ++ map line.Lot s.lots) ≡ map rules.given (said_of s.grammar) ++ map given (map line.Lot s.lots)
+lines_are : (s : Sources)
+    → map given (map line.Block (said_of s.grammar) ++ map line.Lot s.lots) ≡ map rules.given (said_of s.grammar) ++
+      map given (map line.Lot s.lots)
 lines_are s = map-append given (map line.Block (said_of s.grammar)) (map line.Lot s.lots) ∙ ap (λ z. z ++ map given (map line.Lot s.lots)) (sym (blocks_given (said_of s.grammar)))
 
-say_rest : (s : Sources) (all : List (Option BlockLine)) → Say block_pieces (map rules.given (said_of s.grammar)) all → All IsSaidLot s.lots → Say city_pieces (map given (map line.Block (said_of s.grammar) ++ map line.Lot s.lots)) (rest_said all s.lots)
+say_rest : (s : Sources) (all : List (Option BlockLine)) → Say block_pieces (map rules.given (said_of s.grammar)) all
+    → All IsSaidLot s.lots
+    → Say city_pieces (map given (map line.Block (said_of s.grammar) ++ map line.Lot s.lots)) (rest_said all s.lots)
 say_rest s all h k =
     subst (λ z. Say city_pieces z (rest_said all s.lots)) (sym (lines_are s))
     (say_join (map rules.given (said_of s.grammar)) (map given (map line.Lot s.lots)) (map wrap all) (map lot_said s.lots) (say_blocks (map rules.given (said_of s.grammar)) all h) (say_lots s.lots k))
 
-say_all : (s : Sources) (all : List (Option BlockLine)) → Say city_pieces (map given (map line.Block (said_of s.grammar) ++ map line.Lot s.lots)) (rest_said all s.lots) → Say city_pieces (map given (city_said s)) (Some (line.Order s.mode) ∷ rest_said all s.lots)
+say_all : (s : Sources) (all : List (Option BlockLine))
+    → Say city_pieces (map given (map line.Block (said_of s.grammar) ++ map line.Lot s.lots)) (rest_said all s.lots)
+    → Say city_pieces (map given (city_said s)) (Some (line.Order s.mode) ∷ rest_said all s.lots)
 unfolding Say
 say_all s all h = (order_back s.mode, h)
 
 -- ---- where there is a dump
-
-not_below : (k : ℕ) → nat_lt k 0 ≡ false
-not_below k = grind (arith, nat_tests)
 
 lesser_some : (best k : ℕ) → (b : ℕ) × (lesser 0 (Some best) k ≡ Some b)
 lesser_some best k =
@@ -181,7 +189,8 @@ none_least (k ∷ ks) e =
 abbrev IsShort : Entry → Type 0
 IsShort e = length (rules.line_text (rules.rule_of e)) ≤ 4096
 
-short_by : (e : Entry) (more : List ℕ) (t : Bool) → nat_lt 4096 (length (rule_text e.rule)) ≡ t → (if t then e.rule.id ∷ more else more) ≡ [] → IsShort e × (more ≡ [])
+short_by : (e : Entry) (more : List ℕ) (t : Bool) → nat_lt 4096 (length (rule_text e.rule)) ≡ t
+    → (if t then e.rule.id ∷ more else more) ≡ [] → IsShort e × (more ≡ [])
 short_by e more true q h = absurd (cc)
 short_by e more false q h = (grind (arith, nat_tests), h)
 
@@ -204,7 +213,8 @@ lots_inside : (ls : List Lot) → All IsSaidLot ls → All IsInside (map line.Lo
 lots_inside [] h = All-nil IsInside
 lots_inside (l ∷ ls) h = All-cons IsInside (line.Lot l) (map line.Lot ls) (lot_inside l (All-head IsSaidLot l ls h)) (lots_inside ls (All-tail IsSaidLot l ls h))
 
-told_back : (s : Sources) (h : IsSpelledCity s) (back : rules.ReadsBack s.grammar) (text : List ℕ) → dump_of s ≡ Ok text → CityTells (map given (city_said s)) (Ok (in_order s))
+told_back : (s : Sources) (h : IsSpelledCity s) (back : rules.ReadsBack s.grammar) (text : List ℕ) → dump_of s ≡ Ok text
+    → CityTells (map given (city_said s)) (Ok (in_order s))
 told_back s h back text e =
     let t = back.told (short_all s.grammar.rules (none_least (long_ids s.grammar.rules) (dumped_by (least_long s.grammar.rules) (dump_text_of s) text e))) in (
       Some (line.Order s.mode) ∷ rest_said t.0 s.lots,

@@ -12,7 +12,8 @@ use Rattle.cga_script.proofs.Cuts.{cut_line, cut_part, line_kept, last_kept, lin
 abbrev IsByte : ℕ → Type 0
 IsByte b = b ≢ 10
 
-split_lf : (bytes : List ℕ) (n : ℕ) → 0 < n → n ≤ length bytes → get_or bytes (n - 1) 0 ≡ 10 → bytes ≡ take (n - 1) bytes ++ 10 ∷ drop n bytes
+split_lf : (bytes : List ℕ) (n : ℕ) → 0 < n → n ≤ length bytes → get_or bytes (n - 1) 0 ≡ 10
+    → bytes ≡ take (n - 1) bytes ++ 10 ∷ drop n bytes
 split_lf bytes n some most lf =
     let e : suc (n - 1) ≡ n = omega arith in
     sym (take-append-drop (n - 1) bytes) ∙ ap (λ (d : List ℕ). take (n - 1) bytes ++ d) (drop-cons bytes (n - 1) 0 (omega arith) ∙ ap₂ (λ (b : ℕ) (d : List ℕ). b ∷ d) lf (ap (λ (k : ℕ). drop k bytes) e))
@@ -22,8 +23,10 @@ pub record TakesLine (now more : List ℕ) (line : Line) : Type 0 where
   pub lines : lines_of now ≡ line ∷ lines_of more
   pub left : (cut now).rest ≡ (cut more).rest
 
-pub takes_line : (kept rest more : List ℕ) (n : ℕ) (p : Pending) → IsOneLine kept → 0 < n → n ≤ length rest → get_or rest (n - 1) 0 ≡ 10 → IsOneLine (take (n - 1) rest) → more ≡ drop n rest
-    → p ≡ record { kept = kept_of (kept ++ take (n - 1) rest); ending = Lf } → TakesLine (kept ++ rest) more (ready_line p)
+pub takes_line : (kept rest more : List ℕ) (n : ℕ) (p : Pending) → IsOneLine kept → 0 < n → n ≤ length rest
+    → get_or rest (n - 1) 0 ≡ 10 → IsOneLine (take (n - 1) rest) → more ≡ drop n rest
+    → p ≡ record { kept = kept_of (kept ++ take (n - 1) rest); ending = Lf }
+    → TakesLine (kept ++ rest) more (ready_line p)
 takes_line kept rest more n p one some most lf part others is =
     let line : List ℕ = kept ++ take (n - 1) rest in
     let split : kept ++ rest ≡ line ++ 10 ∷ more = ap (λ (r : List ℕ). kept ++ r) (split_lf rest n some most lf) ∙ sym (append_assoc kept (take (n - 1) rest) (10 ∷ drop n rest)) ∙ ap (λ (d : List ℕ). line ++ 10 ∷ d) (sym others) in
@@ -50,8 +53,10 @@ pub one_more : (kept part : List ℕ) → IsOneLine kept → IsOneLine part → 
 one_more kept part a b = All-append IsByte kept part a b
 
 -- a piece that has an LF completes the line that is read
-pub cuts_line : (rest piece : List ℕ) (old new : Pending) (end : ℕ) → IsPart rest old → end < length piece → get_or piece end 0 ≡ 10 → IsOneLine (take end piece)
-    → new ≡ record { kept = kept_of (old.kept ++ take end piece); ending = Lf } → lines_of (rest ++ piece) ≡ ready_line new ∷ lines_of (drop (end + 1) piece)
+pub cuts_line : (rest piece : List ℕ) (old new : Pending) (end : ℕ) → IsPart rest old → end < length piece
+    → get_or piece end 0 ≡ 10 → IsOneLine (take end piece)
+    → new ≡ record { kept = kept_of (old.kept ++ take end piece); ending = Lf }
+    → lines_of (rest ++ piece) ≡ ready_line new ∷ lines_of (drop (end + 1) piece)
 cuts_line rest piece old new end part within lf one is =
     let kept : old.kept ≡ kept_of rest = ap (λ (p : Pending). p.kept) part.kept in
     let back : end + 1 - 1 ≡ end = omega arith in
@@ -60,7 +65,9 @@ cuts_line rest piece old new end part within lf one is =
     ∙ (takes_line (kept_of rest) piece (drop (end + 1) piece) (end + 1) new (kept_one rest part.one) (omega arith) (omega arith) (rw back lf) (rw back one) refl taken).lines
 
 -- a piece with no LF goes on with it
-pub goes_on : (rest piece : List ℕ) (old new : Pending) → IsPart rest old → IsOneLine piece → new ≡ record { kept = kept_of (old.kept ++ piece); ending = Open } → (lines_of (rest ++ piece) ≡ []) × IsPart (rest ++ piece) new
+pub goes_on : (rest piece : List ℕ) (old new : Pending) → IsPart rest old → IsOneLine piece
+    → new ≡ record { kept = kept_of (old.kept ++ piece); ending = Open }
+    → (lines_of (rest ++ piece) ≡ []) × IsPart (rest ++ piece) new
 goes_on rest piece old new part one is =
     let kept : old.kept ≡ kept_of rest = ap (λ (p : Pending). p.kept) part.kept in
     let both = one_more rest piece part.one one in (
@@ -76,7 +83,8 @@ none_kept [] = (λ e. refl, λ e. take-nil 4098)
 none_kept (byte ∷ bytes) = (λ e. absurd (nothing_kept byte bytes e), λ e. cc)
 
 -- the line that the script's end leaves
-pub ends_line : (rest : List ℕ) (old new : Pending) (ready : Bool) → IsPart rest old → (IsFalse ready ↔ (old.kept ≡ [])) → new ≡ record { kept = old.kept; ending = End } → (IsFalse ready ↔ (rest ≡ [])) × (ready_line new ≡ clipped rest)
+pub ends_line : (rest : List ℕ) (old new : Pending) (ready : Bool) → IsPart rest old → (IsFalse ready ↔ (old.kept ≡ []))
+    → new ≡ record { kept = old.kept; ending = End } → (IsFalse ready ↔ (rest ≡ [])) × (ready_line new ≡ clipped rest)
 ends_line rest old new ready part exact is =
     let kept : old.kept ≡ kept_of rest = ap (λ (p : Pending). p.kept) part.kept in (
       (λ none. (none_kept rest).0 (sym kept ∙ exact.0 none), λ none. exact.1 (kept ∙ (none_kept rest).1 none)),

@@ -6,8 +6,7 @@ use Rattle.cga_syntax.specs.declared.lexeme.Lexeme.TheVariants as lexeme
 use Rattle.cga_syntax.specs.declared.print.space.Space.TheVariants.{Usual}
 use Rattle.cga_syntax.specs.Pieces.{word}
 use Rattle.cga_form.specs.Tokens.{is_word}
-use Rattle.cga_form.proofs.Forms.{Token}
-use Rattle.cga_form.proofs.Singles.{by_token, pick, no_more}
+use Rattle.cga_form.proofs.Door.{Token, by_token, no_more, pick}
 use Rattle.cga_script.specs.declared.heads.CommandHead.{CommandHead}
 use Rattle.cga_script.specs.declared.heads.CommandHead.TheVariants as head
 use Rattle.cga_script.specs.declared.heads.FurtherHead.{FurtherHead}

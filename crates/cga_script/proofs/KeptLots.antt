@@ -28,7 +28,8 @@ take_with zero lot ls = refl
 take_with (suc n) lot [] = refl
 take_with (suc n) lot (l ∷ ls) = with_by n lot l ls (with_lot lot (take n ls)) (with_lot lot ls) (is l.name lot.name) (take_with n lot ls)
 
-pub kept_more : (lots : List Lot) (said : Option CityLine) → kept_with (take 4097 lots) said ≡ take 4097 (lots_after lots (said ∷ []))
+pub kept_more : (lots : List Lot) (said : Option CityLine)
+    → kept_with (take 4097 lots) said ≡ take 4097 (lots_after lots (said ∷ []))
 unfolding lots_after
 kept_more lots (Some (line.Block b)) = refl
 kept_more lots (Some (line.Order m)) = refl
@@ -38,7 +39,8 @@ kept_more lots None = refl
 -- ---- the same where it is known which place it takes
 
 module _ (most : ℕ) (lot : Lot) (lots : List Lot) where
-  pub known_kept : (i : ℕ) → place_of lot.name lots ≡ Some i → length lots ≤ most → slice_set lots i lot ≡ take most (with_lot lot lots)
+  pub known_kept : (i : ℕ) → place_of lot.name lots ≡ Some i → length lots ≤ most
+      → slice_set lots i lot ≡ take most (with_lot lot lots)
   known_kept i e few =
       let same : length (with_lot lot lots) ≡ length lots = ap length (sym (placed lot lots i e)) ∙ length-set lots i lot in
       placed lot lots i e ∙ sym (take_all most (with_lot lot lots) (omega arith))
@@ -48,7 +50,8 @@ module _ (most : ℕ) (lot : Lot) (lots : List Lot) where
       let long = length-append lots (lot ∷ []) in
       sym (take_all most (lots ++ lot ∷ []) (omega (arith, long))) ∙ ap (take most) (behind lot lots e)
 
-  pub full_kept : place_of lot.name lots ≡ None → length lots ≤ most → most ≤ length lots → lots ≡ take most (with_lot lot lots)
+  pub full_kept : place_of lot.name lots ≡ None → length lots ≤ most → most ≤ length lots
+      → lots ≡ take most (with_lot lot lots)
   full_kept e few many =
       sym (take_all most lots few) ∙ sym (take-append-le most lots (lot ∷ []) many) ∙ ap (take most) (behind lot lots e)
 
@@ -58,11 +61,13 @@ abbrev FewStay : Type 0
 FewStay = (g : Grammar) → length g.rules ≤ 513 → length g.attributes ≤ 129 → kept g ≡ g
 
 -- sources without one too many are left as they are
-pub all_kept : FewStay → (s : Sources) → length s.grammar.rules ≤ 513 → length s.grammar.attributes ≤ 129 → length s.lots ≤ 4097 → kept_sources s ≡ s
+pub all_kept : FewStay → (s : Sources) → length s.grammar.rules ≤ 513 → length s.grammar.attributes ≤ 129
+    → length s.lots ≤ 4097 → kept_sources s ≡ s
 all_kept few s r a l =
     ap (λ z. record { grammar = z; lots = take 4097 s.lots; mode = s.mode }) (few s.grammar r a)
     ∙ ap (λ z. record { grammar = s.grammar; lots = z; mode = s.mode }) (take_all 4097 s.lots l)
 
 -- what a reader gives is what the lines tell, cut
-pub told_whole : (lines : List Line) (given : Sources) → CityKept lines (Ok given) → (whole : Sources) × CityTells lines (Ok whole) × (given ≡ kept_sources whole)
+pub told_whole : (lines : List Line) (given : Sources) → CityKept lines (Ok given)
+    → (whole : Sources) × CityTells lines (Ok whole) × (given ≡ kept_sources whole)
 told_whole lines given h = (sources_of h.0, (h.0, h.1, refl), h.2)

@@ -8,13 +8,13 @@ use Rattle.cga_lexer.specs.declared.front.Front.{Front}
 use Rattle.cga_lexer.specs.declared.front.Front.TheVariants.{Token as Found}
 use Rattle.cga_lexer.specs.Front.{front}
 use Rattle.cga_lexer.specs.Line.{Lexed, lex, from_front, behind, with_found, tokens_of}
-use Rattle.cga_lexer.proofs.Lexing.{lex_turn, lex_skip, ended}
+use Rattle.cga_form.proofs.Door.{word_is}
+use Rattle.cga_lexer.proofs.Door.{ended, lex_skip, lex_turn}
 use Rattle.cga_syntax.specs.Lexemes.{lexeme_of}
 use Rattle.cga_syntax.specs.declared.lexeme.Lexeme.TheVariants as lexeme
 use Rattle.cga_form.specs.Cursor.{seen}
 use Rattle.cga_form.specs.Lines.{Line, is_long}
 use Rattle.cga_form.specs.Tokens.{is_word}
-use Rattle.cga_form.proofs.Singles.{word_is}
 use Rattle.cga_parser.specs.BlockTells.{EndsBlock}
 use Rattle.cga_script.specs.Ends.{are_end, ends_after, is_end_line}
 
@@ -37,7 +37,8 @@ other_word t (Ok []) e = e
 other_word t (Ok (u ∷ us)) e = refl
 other_word t (Err f) e = refl
 
-end_word : (t : Token) (o : Lexed) → is_word (codes "end") (seen t) ≡ true → ends_after false (behind t o) ≡ ends_after true o
+end_word : (t : Token) (o : Lexed) → is_word (codes "end") (seen t) ≡ true
+    → ends_after false (behind t o) ≡ ends_after true o
 end_word t (Ok []) e = e
 end_word t (Ok (u ∷ us)) e = refl
 end_word t (Err f) e = refl
@@ -51,10 +52,12 @@ module _ (line : List ℕ) (at : ℕ) (found r : Bool) (read : r ≡ ends_after 
   at_end h = read ∙ ap (ends_after found) (found_none (lex 0 (at + 1) (drop at line)) (ended line at h [])) ∙ nothing_more found
 
   module _ (h : at < length line) where
-    pub turn : (f : Front) → front (drop at line) ≡ f → r ≡ ends_after found (from_front f (at + 1) (λ n. lex n (at + 1 + 1) (drop (at + 1) line)))
+    pub turn : (f : Front) → front (drop at line) ≡ f
+        → r ≡ ends_after found (from_front f (at + 1) (λ n. lex n (at + 1 + 1) (drop (at + 1) line)))
     turn f e = read ∙ ap (ends_after found) (lex_turn line at h ∙ ap (λ g. from_front g (at + 1) (λ n. lex n (at + 1 + 1) (drop (at + 1) line))) e)
 
-behind_token : (line : List ℕ) (at len : ℕ) → 0 < len → at + len ≤ length line → lex (len - 1) (at + 1 + 1) (drop (at + 1) line) ≡ lex 0 (at + len + 1) (drop (at + len) line)
+behind_token : (line : List ℕ) (at len : ℕ) → 0 < len → at + len ≤ length line
+    → lex (len - 1) (at + 1 + 1) (drop (at + 1) line) ≡ lex 0 (at + len + 1) (drop (at + len) line)
 behind_token line at len some fits =
     let place : at + 1 + 1 + (len - 1) ≡ at + len + 1 = omega arith in
     let rest : at + 1 + (len - 1) ≡ at + len = omega arith in
@@ -80,7 +83,8 @@ module _ (line : List ℕ) (at : ℕ) (found r : Bool) (read : r ≡ ends_after 
   other q w = after_token false q ∙ other_word here rest w
 
   -- the word
-  pub word : found ≡ false → is_word (codes "end") (lexeme_of k) ≡ true → 0 < len → at + len ≤ length line → r ≡ ends_after true (lex 0 (at + len + 1) (drop (at + len) line))
+  pub word : found ≡ false → is_word (codes "end") (lexeme_of k) ≡ true → 0 < len → at + len ≤ length line
+      → r ≡ ends_after true (lex 0 (at + len + 1) (drop (at + len) line))
   word q w some fits = after_token false q ∙ end_word here rest w ∙ ap (ends_after true) (behind_token line at len some fits)
 
 -- ---- what the end is

@@ -1,5 +1,7 @@
 -- A lot that some line says is told by its text.
-use Rattle.std.proofs.Common.{◌≡◌, ℕ, zero, suc, ◌+◌, ◌≤◌, nat_le, nat_lt, ◌&&◌, Bool, true, false, List, [], ◌∷◌, ◌++◌, length, length-append, map, ℤ, pos, negsuc, Some, Ok, Err, arith, ap, sym, ◌∙◌, refl, subst, codes, decimal, if◌then◌else◌}
+use Rattle.std.proofs.Common.{◌≡◌, ℕ, zero, suc, ◌+◌, ◌≤◌, nat_le, nat_lt, ◌&&◌, Bool, true, false, List, [], ◌∷◌}
+use Rattle.std.proofs.Common.{◌++◌, length, length-append, map, ℤ, pos, negsuc, Some, Ok, Err, arith, ap, sym, ◌∙◌}
+use Rattle.std.proofs.Common.{refl, subst, codes, decimal, if◌then◌else◌}
 use Rattle.std.specs.Fmt.{signed_decimal}
 use Rattle.std.specs.List.{All}
 use Rattle.std.proofs.lemmas.Bool.Decides.{nat_tests}
@@ -18,17 +20,12 @@ use Rattle.cga_syntax.specs.Reading.{IsToken, AreTokens, AreRead}
 use Rattle.cga_syntax.specs.declared.lexeme.Lexeme.{Lexeme}
 use Rattle.cga_syntax.specs.declared.lexeme.Lexeme.TheVariants as lexeme
 use Rattle.cga_syntax.specs.declared.print.space.Space.TheVariants.{Usual}
-use Rattle.cga_syntax.proofs.Again.{lexemes, again}
-use Rattle.cga_syntax.proofs.Exact.{whole_small}
-use Rattle.cga_syntax.proofs.Fronts.{named_of}
-use Rattle.cga_syntax.proofs.LineTexts.{below, below_more}
-use Rattle.cga_syntax.proofs.Tokens.{line_tokens}
-use Rattle.cga_syntax.proofs.Visible.{attribute_visible}
+use Rattle.cga_form.proofs.Door.{head_of, never_written}
+use Rattle.cga_fraction.proofs.Door.{within_4096 as short_enough}
+use Rattle.cga_syntax.proofs.Door.{again, attribute_visible, below, below_more, lexemes, line_tokens, named_of, whole_small}
 use Rattle.cga_form.specs.BlockTells.{unless_blank, unless_long, BlockTells}
 use Rattle.cga_form.specs.Cursor.{seen}
 use Rattle.cga_form.specs.Tells.{Tells}
-use Rattle.cga_form.proofs.Again.{never_written}
-use Rattle.cga_form.proofs.Written.{head_of}
 use Rattle.cga_parser.specs.BlockTells.{EndsBlock}
 use Rattle.cga_shape.specs.declared.lot.Lot.{Lot}
 use Rattle.cga_script.specs.declared.city_line.CityLine.{CityLine}
@@ -39,6 +36,7 @@ use Rattle.cga_script.specs.Dumps.{lot_text}
 use Rattle.cga_script.specs.Lots.{lot_pieces}
 use Rattle.cga_script.proofs.LotTexts.{last_tokens, lot_tokens, flat_text, lot_flat, HasTokens, lot_read}
 use Rattle.cga_script.proofs.Said.{line_says}
+use Rattle.std.proofs.Common.{append-nil as nil_right}
 
 -- ---- what the pieces of a lot are
 
@@ -50,18 +48,22 @@ record Parts (l : Lot) : Type 0 where
 abbrev name_piece : Bool → List ℕ → Pieces → Pieces
 name_piece t name ps = (if t then never else word name) ∷ ps
 
-name_by : (name : List ℕ) (ps : Pieces) (t : Bool) (c : ℕ) (x : List Lexeme) (d : ℕ) → is_reserved name ≡ t → Writes c (name_piece t name ps) x d → (is_reserved name ≡ false) × ((y : List Lexeme) × Writes c ps y d)
+name_by : (name : List ℕ) (ps : Pieces) (t : Bool) (c : ℕ) (x : List Lexeme) (d : ℕ) → is_reserved name ≡ t
+    → Writes c (name_piece t name ps) x d → (is_reserved name ≡ false) × ((y : List Lexeme) × Writes c ps y d)
 name_by name ps true c x d e w = absurd (never_written c ps x d w)
 name_by name ps false c x d e w = let h = head_of c Usual (lexeme.Name name) ps x d w in (e, (h.0, h.2))
 
 abbrev seed_fits : ℕ → Bool
 seed_fits n = nat_le 0 n && nat_le n 999999999999999999
 
-seed_by : (n : ℕ) (ps : Pieces) (t : Bool) (c : ℕ) (x : List Lexeme) (d : ℕ) → seed_fits n ≡ t → Writes c ((if t then token Usual (number n) else never) ∷ ps) x d → (seed_fits n ≡ true) × ((y : List Lexeme) × Writes c ps y d)
+seed_by : (n : ℕ) (ps : Pieces) (t : Bool) (c : ℕ) (x : List Lexeme) (d : ℕ) → seed_fits n ≡ t
+    → Writes c ((if t then token Usual (number n) else never) ∷ ps) x d
+    → (seed_fits n ≡ true) × ((y : List Lexeme) × Writes c ps y d)
 seed_by n ps true c x d e w = let h = head_of c Usual (number n) ps x d w in (e, (h.0, h.2))
 seed_by n ps false c x d e w = absurd (never_written c ps x d w)
 
-value_by : (v : Rat) (ps : Pieces) (c : ℕ) (x : List Lexeme) (d : ℕ) → Writes c (valued v ∷ ps) x d → (y : List Lexeme) × Writes c ps y d
+value_by : (v : Rat) (ps : Pieces) (c : ℕ) (x : List Lexeme) (d : ℕ) → Writes c (valued v ∷ ps) x d
+    → (y : List Lexeme) × Writes c ps y d
 unfolding Writes
 value_by v ps c x d w = (w.1, subst (λ n. Writes n ps w.1 d) (sym w.4.1) w.5)
 
@@ -145,10 +147,6 @@ told_lot l h =
 whole_few : (n : ℕ) → IsToken (number n) → length (decimal n) ≤ 18
 whole_few n t = let b = whole_small n t in length-decimal-le 18 n (omega arith) b (omega arith)
 
-nil_right : {A : Type 0} (xs : List A) → xs ++ [] ≡ xs
-nil_right [] = refl
-nil_right (x ∷ xs) = ap (λ z. x ∷ z) (nil_right xs)
-
 magnitude_few : (n above : ℕ) → AreTokens (lexemes (magnitude n above)) → length (decimal n ++ below above) ≤ 37
 magnitude_few n zero t = omega (arith, whole_few n t.0, ap length (nil_right (decimal n)))
 magnitude_few n (suc above) t = omega (arith, whole_few n t.0, whole_few (suc above + 1) t.1.1.0, length-append (decimal n) (below (suc above)), ap length (below_more above))
@@ -176,18 +174,18 @@ lot_few l t =
     let f = more_by l.name _ 32 207 n e in
     omega (arith, f, ap length (lot_flat l))
 
-short_enough : (text : List ℕ) → length text ≤ 4096 → nat_lt 4096 (length text) ≡ false
-short_enough text h = grind (arith, nat_tests)
-
 -- ---- the text tells the lot
 
-not_blank : (c : CityLine) (a : Lexeme) (ls : List Lexeme) (o : Lexed) (end : ℕ) → AreRead o (a ∷ ls) → Tells city_pieces 32 (a ∷ ls) (Ok c) → unless_blank city_pieces end o (Ok (Some c))
+not_blank : (c : CityLine) (a : Lexeme) (ls : List Lexeme) (o : Lexed) (end : ℕ) → AreRead o (a ∷ ls)
+    → Tells city_pieces 32 (a ∷ ls) (Ok c) → unless_blank city_pieces end o (Ok (Some c))
 not_blank c a ls (Err f) end e h = absurd e
 not_blank c a ls (Ok []) end e h = absurd (cc)
 not_blank c a ls (Ok (t ∷ ts)) end e h = (Ok c, (Ok c, subst (λ z. Tells city_pieces 32 z (Ok c)) (sym e) h, refl), refl)
 
 -- a short text with the tokens of the line tells it
-pub told_by : (c : CityLine) (a : Lexeme) (ls : List Lexeme) → AreRead (tokens_of (city_text c)) (a ∷ ls) → Tells city_pieces 32 (a ∷ ls) (Ok c) → length (city_text c) ≤ 4096 → BlockTells city_pieces (given c) (Ok (Some c))
+pub told_by : (c : CityLine) (a : Lexeme) (ls : List Lexeme) → AreRead (tokens_of (city_text c)) (a ∷ ls)
+    → Tells city_pieces 32 (a ∷ ls) (Ok c) → length (city_text c) ≤ 4096
+    → BlockTells city_pieces (given c) (Ok (Some c))
 told_by c a ls e h few =
     subst (λ b. unless_long city_pieces (city_text c) b (Ok (Some c))) (sym (short_enough (city_text c) few)) (not_blank c a ls (tokens_of (city_text c)) (length (city_text c) + 1) e h)
 
@@ -214,7 +212,8 @@ unfolding keyword_of
 attr_word = (refl, refl)
 
 -- a name and a value, as those of an attribute
-both_visible : (name : List ℕ) (v : Rat) → IsToken (lexeme.Name name) → AreTokens (of_value v) → All IsVisible name × All IsVisible (exact_text_of v)
+both_visible : (name : List ℕ) (v : Rat) → IsToken (lexeme.Name name) → AreTokens (of_value v)
+    → All IsVisible name × All IsVisible (exact_text_of v)
 both_visible name v n t =
     let a : Attribute = record { name = name; value = v } in
     let h = all_right (codes "attr ") (name ++ (codes " = " ++ exact_text_of v)) (attribute_visible a (attr_word, (n, (tt, t)))) in
@@ -253,7 +252,8 @@ two_tokens (Ok (u ∷ [])) t a b ls e r = absurd (let q : seen u ∷ [] ≡ a �
 two_tokens (Ok (u ∷ v ∷ us)) t a b ls e r = absurd (cc)
 
 -- a line of two tokens or more ends no block
-pub no_end : (c : CityLine) (a b : Lexeme) (ls : List Lexeme) → AreRead (tokens_of (city_text c)) (a ∷ b ∷ ls) → EndsBlock (given c) → ⊥
+pub no_end : (c : CityLine) (a b : Lexeme) (ls : List Lexeme) → AreRead (tokens_of (city_text c)) (a ∷ b ∷ ls)
+    → EndsBlock (given c) → ⊥
 no_end c a b ls r h = two_tokens (tokens_of (city_text c)) h.0 a b ls h.2 r
 
 pub lot_inside : (l : Lot) → IsSaidLot l → IsInside (line.Lot l)

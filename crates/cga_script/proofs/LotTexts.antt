@@ -12,16 +12,10 @@ use Rattle.cga_syntax.specs.Printing.{exactly, magnitude}
 use Rattle.cga_syntax.specs.Reading.{IsToken, AreTokens, AreRead}
 use Rattle.cga_syntax.specs.declared.lexeme.Lexeme.{Lexeme}
 use Rattle.cga_syntax.specs.declared.lexeme.Lexeme.TheVariants as lexeme
-use Rattle.cga_syntax.proofs.Again.{lexemes}
-use Rattle.cga_syntax.proofs.Back.{primary_apart, lex_nil, token_read, space_read}
-use Rattle.cga_syntax.proofs.LineTexts.{whole_text, below, below_more, first_whole}
-use Rattle.cga_syntax.proofs.Signs.{second, Ends}
+use Rattle.cga_syntax.proofs.Door.{Ends, below, below_more, first_whole, lex_nil, lexemes, primary_apart, second, space_read, token_read, whole_text}
 use Rattle.cga_shape.specs.declared.lot.Lot.{Lot}
 use Rattle.cga_script.specs.Dumps.{lot_text}
-
-nil_right : {A : Type 0} (xs : List A) → xs ++ [] ≡ xs
-nil_right [] = refl
-nil_right (x ∷ xs) = ap (λ z. x ∷ z) (nil_right xs)
+use Rattle.std.proofs.Common.{append-nil as nil_right}
 
 -- from each place the text is lexed as these tokens
 abbrev Texts : List ℕ → List Lexeme → Type 0
@@ -30,7 +24,8 @@ Texts text ls = (p : ℕ) → AreRead (lex 0 p text) ls
 spaced : (text : List ℕ) (ls : List Lexeme) → Texts text ls → Texts (32 ∷ text) ls
 spaced text ls h p = space_read false text p ls h
 
-whole_then : (n : ℕ) (rest : List ℕ) (ls : List Lexeme) → IsToken (number n) → Ends (number n) rest → Texts rest ls → Texts (decimal n ++ rest) (number n ∷ ls)
+whole_then : (n : ℕ) (rest : List ℕ) (ls : List Lexeme) → IsToken (number n) → Ends (number n) rest → Texts rest ls
+    → Texts (decimal n ++ rest) (number n ∷ ls)
 whole_then n rest ls t e more p = subst (λ z. AreRead (lex 0 p (z ++ rest)) (number n ∷ ls)) (whole_text n) (token_read (number n) rest p ls t e more)
 
 whole_apart : (n : ℕ) (rest : List ℕ) → IsToken (number n) → begins second (decimal n ++ rest) ≡ false
@@ -39,7 +34,8 @@ whole_apart n rest t = ap (λ z. begins second (z ++ rest)) (sym (whole_text n))
 -- ---- a value and a space after it
 
 module _ (rest : List ℕ) (ls : List Lexeme) (more : Texts (32 ∷ rest) ls) where
-  magnitude_then : (n above : ℕ) → AreTokens (lexemes (magnitude n above)) → Texts ((decimal n ++ below above) ++ 32 ∷ rest) (lexemes (magnitude n above) ++ ls)
+  magnitude_then : (n above : ℕ) → AreTokens (lexemes (magnitude n above))
+      → Texts ((decimal n ++ below above) ++ 32 ∷ rest) (lexemes (magnitude n above) ++ ls)
   magnitude_then n zero t p =
       subst (λ z. AreRead (lex 0 p (z ++ 32 ∷ rest)) (number n ∷ ls)) (sym (nil_right (decimal n))) (whole_then n (32 ∷ rest) ls t.0 (refl, refl) more p)
   magnitude_then n (suc above) t p =
@@ -50,14 +46,16 @@ module _ (rest : List ℕ) (ls : List Lexeme) (more : Texts (32 ∷ rest) ls) wh
       (whole_then n (47 ∷ (decimal d ++ 32 ∷ rest)) (lexeme.Sign s.Slash ∷ number d ∷ ls) t.0 (refl, refl)
       (λ q. token_read (lexeme.Sign s.Slash) (decimal d ++ 32 ∷ rest) q (number d ∷ ls) tt (inr (whole_apart d (32 ∷ rest) t.1.1.0)) (whole_then d (32 ∷ rest) ls t.1.1.0 (refl, refl) more)) p)
 
-  signed_then : (z : ℤ) (above : ℕ) → AreTokens (lexemes (exactly z above)) → Texts ((signed_decimal z ++ below above) ++ 32 ∷ rest) (lexemes (exactly z above) ++ ls)
+  signed_then : (z : ℤ) (above : ℕ) → AreTokens (lexemes (exactly z above))
+      → Texts ((signed_decimal z ++ below above) ++ 32 ∷ rest) (lexemes (exactly z above) ++ ls)
   signed_then (pos n) above t p = magnitude_then n above t p
   signed_then (negsuc n) above t p =
       token_read (lexeme.Sign s.Minus) ((decimal (suc n) ++ below above) ++ 32 ∷ rest) p (lexemes (magnitude (suc n) above) ++ ls) tt
       (inr (ap (begins second) (append_assoc (decimal (suc n)) (below above) (32 ∷ rest)) ∙ whole_apart (suc n) (below above ++ 32 ∷ rest) (first_whole (suc n) above t.1)))
       (magnitude_then (suc n) above t.1)
 
-  value_then : (v : Rat) → AreTokens (lexemes (exactly v.num v.above)) → Texts (exact_text_of v ++ 32 ∷ rest) (lexemes (exactly v.num v.above) ++ ls)
+  value_then : (v : Rat) → AreTokens (lexemes (exactly v.num v.above))
+      → Texts (exact_text_of v ++ 32 ∷ rest) (lexemes (exactly v.num v.above) ++ ls)
   unfolding exact_text_of
   value_then v t p = signed_then v.num v.above t p
 
@@ -77,7 +75,8 @@ abbrev pub flat_text : Lot → List ℕ
 flat_text l =
     codes "lot" ++ 32 ∷ (l.name ++ 32 ∷ (decimal l.seed ++ 32 ∷ (exact_text_of l.x ++ 32 ∷ (exact_text_of l.z ++ 32 ∷ (exact_text_of l.width ++ 32 ∷ (exact_text_of l.depth ++ 32 ∷ l.symbol))))))
 
-ground_flat : (x z w d y : List ℕ) → (32 ∷ (x ++ 32 ∷ (z ++ 32 ∷ (w ++ 32 ∷ d)))) ++ 32 ∷ y ≡ 32 ∷ (x ++ 32 ∷ (z ++ 32 ∷ (w ++ 32 ∷ (d ++ 32 ∷ y))))
+ground_flat : (x z w d y : List ℕ)
+    → (32 ∷ (x ++ 32 ∷ (z ++ 32 ∷ (w ++ 32 ∷ d)))) ++ 32 ∷ y ≡ 32 ∷ (x ++ 32 ∷ (z ++ 32 ∷ (w ++ 32 ∷ (d ++ 32 ∷ y))))
 ground_flat x z w d y =
     ap (λ q. 32 ∷ q) (append_assoc x (32 ∷ (z ++ 32 ∷ (w ++ 32 ∷ d))) (32 ∷ y)
     ∙ ap (λ q. x ++ 32 ∷ q) (append_assoc z (32 ∷ (w ++ 32 ∷ d)) (32 ∷ y) ∙ ap (λ q. z ++ 32 ∷ q) (append_assoc w (32 ∷ d) (32 ∷ y))))
@@ -107,7 +106,10 @@ nothing_read p = subst (λ o. AreRead o []) (sym (lex_nil p)) refl
 symbol_last : (l : Lot) → HasTokens l → Texts l.symbol (lexeme.Name l.symbol ∷ [])
 symbol_last l t p = subst (λ z. AreRead (lex 0 p z) (lexeme.Name l.symbol ∷ [])) (nil_right l.symbol) (token_read (lexeme.Name l.symbol) [] p [] t.symbol refl nothing_read)
 
-last_read : (l : Lot) → HasTokens l → Texts (exact_text_of l.x ++ 32 ∷ (exact_text_of l.z ++ 32 ∷ (exact_text_of l.width ++ 32 ∷ (exact_text_of l.depth ++ 32 ∷ l.symbol)))) (last_tokens l)
+last_read : (l : Lot) → HasTokens l
+    → Texts (exact_text_of l.x ++ 32 ∷
+      (exact_text_of l.z ++ 32 ∷ (exact_text_of l.width ++ 32 ∷ (exact_text_of l.depth ++ 32 ∷ l.symbol))))
+      (last_tokens l)
 last_read l t =
     value_then _ _ (spaced _ _ (value_then _ _ (spaced _ _ (value_then _ _ (spaced _ _ (value_then _ _ (spaced _ _ (symbol_last l t)) l.depth t.depth)) l.width t.width)) l.z t.z)) l.x t.x
 

@@ -2,9 +2,7 @@
 use Rattle.std.proofs.Common.{refl, codes}
 use Rattle.cga_form.specs.Laws.{IsForm}
 use Rattle.cga_form.specs.Limits.{last_seed}
-use Rattle.cga_form.proofs.Again.{begun_nothing, begun_named}
-use Rattle.cga_form.proofs.Made.{word_part, name_part, whole_part, value_part, both, made}
-use Rattle.cga_form.proofs.ValuesAgain.{begun_valued}
+use Rattle.cga_form.proofs.Door.{begun_named, begun_nothing, begun_valued, both, made, name_part, value_part, whole_part, word_part}
 use Rattle.cga_script.specs.Lots.{lot_pieces, lot, lot_of, parts_of}
 
 pub lot_form : IsForm lot_pieces (λ n. lot)

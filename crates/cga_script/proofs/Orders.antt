@@ -9,9 +9,8 @@ use Rattle.cga_word.specs.declared.mode.Mode.{Mode}
 use Rattle.cga_word.specs.declared.mode.Mode.TheVariants as mode
 use Rattle.cga_form.specs.Laws.{IsForm, Leads, nothing}
 use Rattle.cga_form.specs.Parts.{a_word}
-use Rattle.cga_form.proofs.Again.{took, ends}
-use Rattle.cga_form.proofs.Forms.{Token, Reads, next, done, one_token}
-use Rattle.cga_form.proofs.Singles.{by_token, pick, no_more, word_token}
+use Rattle.cga_form.proofs.Door.{Token, by_token, done, ends, next, no_more, one_token, pick, took, word_token}
+use Rattle.cga_form.specs.Laws.{Reads}
 use Rattle.cga_script.specs.Orders.{mode_word, mode_of, a_mode, order_pieces, order}
 
 mode_of_is : (name : List ℕ) (a : Mode) → mode_of name ≡ Some a → name ≡ mode_word a

@@ -23,7 +23,9 @@ same_line : {A : Type 0} (a b : A) → ◌≡◌ {A = Found A} (Ok (Some a)) (Ok
 same_line a b h = cc
 
 module _ {A : Type 0} (v : A → Pieces) (a : A) where
-  placed_value : (end : ℕ) (ts : List Token) (found : Result A Fault) → ◌≡◌ {A = Result A LineFault} (Ok a) (with_place end ts found) → Tells v 32 (map seen ts) found → Tells v 32 (map seen ts) (Ok a)
+  placed_value : (end : ℕ) (ts : List Token) (found : Result A Fault)
+      → ◌≡◌ {A = Result A LineFault} (Ok a) (with_place end ts found) → Tells v 32 (map seen ts) found
+      → Tells v 32 (map seen ts) (Ok a)
   placed_value end ts (Ok b) e h = subst (λ z. Tells v 32 (map seen ts) (Ok z)) (same_value a b e) h
   placed_value end ts (Err f) e h = absurd (cc)
 
@@ -31,7 +33,8 @@ module _ {A : Type 0} (v : A → Pieces) (a : A) where
   pub tokens_tell : (end : ℕ) (ts : List Token) → by_tokens v end (Ok ts) (Ok a) → Tells v 32 (map seen ts) (Ok a)
   tokens_tell end ts h = placed_value end ts h.0 h.2 h.1
 
-  line_tells : (end : ℕ) (ts : List Token) (found : Result A LineFault) → by_tokens v end (Ok ts) found → ◌≡◌ {A = Found A} (Ok (Some a)) (as_line found) → Tells v 32 (map seen ts) (Ok a)
+  line_tells : (end : ℕ) (ts : List Token) (found : Result A LineFault) → by_tokens v end (Ok ts) found
+      → ◌≡◌ {A = Found A} (Ok (Some a)) (as_line found) → Tells v 32 (map seen ts) (Ok a)
   line_tells end ts (Ok said) h e = tokens_tell end ts (subst (λ z. by_tokens v end (Ok ts) (Ok z)) (same_line a said e) h)
   line_tells end ts (Err f) h e = absurd (cc)
 
@@ -44,7 +47,8 @@ module _ {A B : Type 0} (v : A → Pieces) (w : B → Pieces) (a : A) (b : B) (s
   unless_blank_alike end (Ok []) h = absurd (let q : Some a ≡ None = cc in cc)
   unless_blank_alike end (Ok (t ∷ ts)) h = (Ok b, (Ok b, spelled_alike (map seen (t ∷ ts)) (line_tells v a end (t ∷ ts) h.0 h.1 h.2), refl), refl)
 
-  unless_long_alike : (bytes : List ℕ) (long : Bool) → unless_long v bytes long (Ok (Some a)) → unless_long w bytes long (Ok (Some b))
+  unless_long_alike : (bytes : List ℕ) (long : Bool) → unless_long v bytes long (Ok (Some a))
+      → unless_long w bytes long (Ok (Some b))
   unless_long_alike bytes true h = absurd (cc)
   unless_long_alike bytes false h = unless_blank_alike (length bytes + 1) (tokens_of bytes) h
 
@@ -60,7 +64,8 @@ blank_says : BlockTells block_pieces blank (Ok None)
 unfolding lex
 blank_says = refl
 
-pub rule_lines : (lines : List Line) (all : List (Option CityLine)) → Say city_pieces lines all → (ls : List Line) × Say block_pieces ls (map rules_part all)
+pub rule_lines : (lines : List Line) (all : List (Option CityLine)) → Say city_pieces lines all
+    → (ls : List Line) × Say block_pieces ls (map rules_part all)
 unfolding Say
 rule_lines [] [] h = ([], tt)
 rule_lines [] (said ∷ all) h = absurd h
@@ -73,16 +78,19 @@ rule_lines (l ∷ lines) (None ∷ all) h = let r = rule_lines lines all h.1 in 
 -- ---- the tokens of a line that says a member
 
 module _ {A : Type 0} (v : A → Pieces) (a : A) where
-  by_lexed : (bytes : List ℕ) (o : Lexed) → tokens_of bytes ≡ o → unless_blank v (length bytes + 1) o (Ok (Some a)) → (ts : List Token) × (tokens_of bytes ≡ Ok ts) × Tells v 32 (map seen ts) (Ok a)
+  by_lexed : (bytes : List ℕ) (o : Lexed) → tokens_of bytes ≡ o → unless_blank v (length bytes + 1) o (Ok (Some a))
+      → (ts : List Token) × (tokens_of bytes ≡ Ok ts) × Tells v 32 (map seen ts) (Ok a)
   by_lexed bytes (Err f) e h = absurd (cc)
   by_lexed bytes (Ok []) e h = absurd (let q : Some a ≡ None = cc in cc)
   by_lexed bytes (Ok (t ∷ ts)) e h = (t ∷ ts, e, line_tells v a (length bytes + 1) (t ∷ ts) h.0 h.1 h.2)
 
-  by_long : (bytes : List ℕ) (long : Bool) → unless_long v bytes long (Ok (Some a)) → (ts : List Token) × (tokens_of bytes ≡ Ok ts) × Tells v 32 (map seen ts) (Ok a)
+  by_long : (bytes : List ℕ) (long : Bool) → unless_long v bytes long (Ok (Some a))
+      → (ts : List Token) × (tokens_of bytes ≡ Ok ts) × Tells v 32 (map seen ts) (Ok a)
   by_long bytes true h = absurd (cc)
   by_long bytes false h = by_lexed bytes (tokens_of bytes) refl h
 
-  pub line_says : (l : Line) → BlockTells v l (Ok (Some a)) → (ts : List Token) × (tokens_of l.bytes ≡ Ok ts) × Tells v 32 (map seen ts) (Ok a)
+  pub line_says : (l : Line) → BlockTells v l (Ok (Some a))
+      → (ts : List Token) × (tokens_of l.bytes ≡ Ok ts) × Tells v 32 (map seen ts) (Ok a)
   line_says l h = by_long l.bytes (is_long l) h
 
 -- ---- blank lines

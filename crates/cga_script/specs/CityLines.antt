@@ -94,6 +94,7 @@ kept_with lots _ = lots
 
 -- what a line adds
 pub record Adds (old : CityGathered) (said : Option CityLine) (new : CityGathered) : Type 0 where
-  pub rules : (all : List (Option BlockLine)) → rule_lines.Holds old.rules all → rule_lines.Holds new.rules (all ++ rules_part said ∷ [])
+  pub rules : (all : List (Option BlockLine)) → rule_lines.Holds old.rules all
+      → rule_lines.Holds new.rules (all ++ rules_part said ∷ [])
   pub lots : new.lots ≡ kept_with old.lots said
   pub mode : new.mode ≡ mode_after old.mode (said ∷ [])

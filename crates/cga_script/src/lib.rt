@@ -1,7 +1,8 @@
 //! The script's text: the cutting of any pieces into lines, and what each line asks for.
 //!
-//! It knows nothing of where the pieces come from, and does nothing that a line asks for. Callers get
-//! one thing wrong: a line that is ready has to be cleared before more is fed.
+//! It must not know where pieces come from or what a command does.
+//!
+//! What callers get wrong: a line that is ready has to be cleared before more is fed.
 #![tactic(auto)]
 
 pub mod city_gathered;

@@ -13,7 +13,7 @@ use Rattle.cga_frame.specs.contracts.frame.FramePartialEq.TheImpl as frame
 use Rattle.cga_frame.specs.contracts.point.PointPartialEq.TheImpl as point
 use Rattle.cga_frame.specs.contracts.scope.ScopePartialEq.TheImpl as scope
 use Rattle.cga_frame.specs.contracts.signed.SignedPartialEq.TheImpl as signed
-use Rattle.cga_rule.proofs.Told.{Sound, fraction_sound, list_sound}
+use Rattle.cga_rule.proofs.Door.{Sound, fraction_sound, list_sound}
 use Rattle.cga_shape.specs.declared.shape.Shape.{Shape}
 use Rattle.cga_shape.specs.Equal.{same_shape}
 use Rattle.cga_shape.specs.contracts.shape.ShapeEq.TheImpl.Laws as shape

@@ -1,9 +1,10 @@
-//! What a city is made of, as plain types: the sources (a grammar, lots and a mode), the shapes that
-//! come of them, what each shape gave, the edits of the sources, and what is reported.
+//! What a city is made of, as plain types: the sources (a grammar, lots and a mode), the shapes that come of them, what
+//! each shape gave, the edits of the sources, and what is reported.
 //!
-//! It must not know what a rule does, how shapes come about or how they are printed. Callers get two
-//! things wrong: the symbol of an instance, and of what is drawn for it, is that of the shape that
-//! emitted it; and a path of no indices is a lot's root.
+//! It must not know rules, how shapes come about or how they are printed.
+//!
+//! What callers get wrong: two things. The symbol of an instance, and of what is drawn for it, is that of the shape
+//! that emitted it; and a path of no indices is a lot's root.
 #![tactic(auto)]
 
 mod changes;

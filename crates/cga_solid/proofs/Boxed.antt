@@ -8,9 +8,7 @@ use Rattle.cga_fraction.specs.declared.stop.Stop.TheVariants.{Fault, NoMemory}
 use Rattle.cga_fraction.specs.Rat.{Rat, zero_rat}
 use Rattle.cga_fraction.specs.Order.{rat_le, rat_lt, rat_min, rat_max}
 use Rattle.cga_fraction.specs.Arithmetic.{plus, minus}
-use Rattle.cga_fraction.proofs.Diffs.{itself, le_diff, plus_diff, plus_le, minus_diff, minus_le}
-use Rattle.cga_fraction.proofs.Laws.{min_below, max_above}
-use Rattle.cga_fraction.proofs.Order.{le_trans}
+use Rattle.cga_fraction.proofs.Door.{and_then-ok, itself, le_diff, le_trans, max_above, min_below, minus_diff, minus_le, plus_diff, plus_le}
 use Rattle.cga_word.specs.declared.axis.Axis.{Axis}
 use Rattle.cga_word.specs.declared.axis.Axis.TheVariants.{X, Y, Z}
 use Rattle.cga_word.specs.declared.primitive.Primitive.{Primitive}
@@ -22,7 +20,6 @@ use Rattle.cga_frame.specs.Scope.{Scope, has_negative, moved, moved_along, place
 use Rattle.cga_frame.specs.declared.point.Point.{Point}
 use Rattle.cga_frame.specs.declared.signed.Signed.{Signed}
 use Rattle.cga_fraction.specs.Results.{err_if, or_err}
-use Rattle.cga_fraction.proofs.Results.{and_then-ok}
 use Rattle.cga_fraction.specs.declared.overflow.Overflow as Unit
 use Rattle.cga_solid.specs.declared.solid_fault.SolidFault.TheVariants as fault
 use Rattle.cga_solid.specs.Corners.{corners_of}
@@ -44,7 +41,8 @@ low_end a b h = le_trans a (plus a zero_rat) (plus a b) (le_diff a (plus a zero_
 high_end : (a b : Rat) → IsTrue (rat_le zero_rat b) → IsTrue (rat_le (minus a b) a)
 high_end a b h = le_trans (minus a b) (minus a zero_rat) a (minus_le a zero_rat b h) (le_diff (minus a zero_rat) a _ _ _ _ _ _ (minus_diff a zero_rat) (itself a) (omega arith))
 
-moved_inside : (against : Bool) (p x size : Rat) → IsWithin x size → IsBetween (moved against p x) (rat_min p (moved against p size)) (rat_max p (moved against p size))
+moved_inside : (against : Bool) (p x size : Rat) → IsWithin x size
+    → IsBetween (moved against p x) (rat_min p (moved against p size)) (rat_max p (moved against p size))
 moved_inside false p x size w = record {
   from = le_trans (rat_min p (plus p size)) p (plus p x) (min_below p (plus p size)).0 (low_end p x w.low);
   to = le_trans (plus p x) (plus p size) (rat_max p (plus p size)) (plus_le p x size w.high) (max_above p (plus p size)).1;
@@ -59,7 +57,8 @@ along c size X l = l.x
 along c size Y l = l.y
 along c size Z l = l.z
 
-one_axis : (s : Signed) (p : Rat) (c size : Point) → IsLocal c size → IsBetween (moved_along s p c) (rat_min p (moved_along s p size)) (rat_max p (moved_along s p size))
+one_axis : (s : Signed) (p : Rat) (c size : Point) → IsLocal c size
+    → IsBetween (moved_along s p c) (rat_min p (moved_along s p size)) (rat_max p (moved_along s p size))
 one_axis s p c size l = moved_inside s.against p (coordinate c s.axis) (coordinate size s.axis) (along c size s.axis l)
 
 -- ---- in the box
@@ -72,7 +71,10 @@ in_box s c l = record {
   z = one_axis s.frame.z s.at.z c s.size l;
 }
 
-point_is : (p v : Point) (b : Bool) → ◌≡◌ {A = Result Point SolidFault} (or_err {E = Unit.Overflow} fault.Overflow (if b then Ok p else Err (record {}))) (Ok v) → p ≡ v
+point_is : (p v : Point) (b : Bool)
+    → ◌≡◌ {A = Result Point SolidFault}
+      (or_err {E = Unit.Overflow} fault.Overflow (if b then Ok p else Err (record {}))) (Ok v)
+    → p ≡ v
 point_is p v true h = same_ok p v h
 point_is p v false h = absurd (cc)
 
@@ -80,7 +82,8 @@ placed_is : (s : Scope) (c v : Point) → placed s c ≡ Ok v → place_of s.at 
 unfolding checked_point
 placed_is s c v h = point_is (place_of s.at s.frame c) v (point_in_range (place_of s.at s.frame c)) h
 
-all_in : (s : Scope) (cs vs : List Point) → AllLocal s.size cs → all_placed s cs ≡ Ok vs → All (λ v. IsIn v (box_of s)) vs
+all_in : (s : Scope) (cs vs : List Point) → AllLocal s.size cs → all_placed s cs ≡ Ok vs
+    → All (λ v. IsIn v (box_of s)) vs
 all_in s [] vs l h = subst (λ (ws : List Point). All (λ v. IsIn v (box_of s)) ws) (same_ok [] vs h) (All-nil (λ v. IsIn v (box_of s)))
 all_in s (c ∷ cs) vs l h =
     let a = and_then-ok (placed s c) _ vs h in
@@ -91,12 +94,14 @@ all_in s (c ∷ cs) vs l h =
 
 -- ---- of meshes
 
-not_refused : {A F : Type 0} (test : Bool) (fault : F) (more : Result A F) (y : A) → err_if test fault more ≡ Ok y → more ≡ Ok y
+not_refused : {A F : Type 0} (test : Bool) (fault : F) (more : Result A F) (y : A) → err_if test fault more ≡ Ok y
+    → more ≡ Ok y
 not_refused true fault more y h = absurd (cc)
 not_refused false fault more y h = h
 
 -- a mesh that is given has the vertices and the faces of its form
-mesh_is : (kind : Primitive) (s : Scope) (m : SolidMesh) → mesh_of kind s ≡ Ok m → (vs : List Point) × (vertices_of (form_of kind s.size) s ≡ Ok vs) × (mesh_in (form_of kind s.size) vs ≡ m)
+mesh_is : (kind : Primitive) (s : Scope) (m : SolidMesh) → mesh_of kind s ≡ Ok m
+    → (vs : List Point) × (vertices_of (form_of kind s.size) s ≡ Ok vs) × (mesh_in (form_of kind s.size) vs ≡ m)
 unfolding mesh_of
 mesh_is kind s m h =
     let a = and_then-ok (vertices_of (form_of kind s.size) s) _ m (not_refused (lacks_size kind s.size) _ _ m h) in (a.0, a.1, same_ok _ m a.2)
@@ -105,7 +110,8 @@ gable_solid : (b : Bool) → ◌≡◌ {A = Form} (if b then form.GableAlongX el
 gable_solid true h = cc
 gable_solid false h = cc
 
-hip_solid : (b c : Bool) → ◌≡◌ {A = Form} (if b then form.HipAlongX else (if c then form.HipAlongZ else form.Pyramid)) form.Quad → ⊥
+hip_solid : (b c : Bool)
+    → ◌≡◌ {A = Form} (if b then form.HipAlongX else (if c then form.HipAlongZ else form.Pyramid)) form.Quad → ⊥
 hip_solid true c h = cc
 hip_solid false true h = cc
 hip_solid false false h = cc
@@ -117,24 +123,29 @@ no_quad primitive.Shed s n h = cc
 no_quad primitive.Gable s n h = gable_solid (rat_le s.z s.x) h
 no_quad primitive.Hip s n h = hip_solid (rat_lt s.z s.x) (rat_lt s.x s.z) h
 
-pub mesh_closed : (kind : Primitive) (s : Scope) (m : SolidMesh) → mesh_of kind s ≡ Ok m → kind ≢ primitive.Quad → IsClosed m.faces
+pub mesh_closed : (kind : Primitive) (s : Scope) (m : SolidMesh) → mesh_of kind s ≡ Ok m → kind ≢ primitive.Quad
+    → IsClosed m.faces
 mesh_closed kind s m h n =
     let a = mesh_is kind s m h in
     subst (λ (k : SolidMesh). IsClosed k.faces) a.2 (all_close (form_of kind s.size) (no_quad kind s.size n))
 
-pub mesh_inside : (kind : Primitive) (s : Scope) (m : SolidMesh) → has_negative s.size ≡ false → mesh_of kind s ≡ Ok m → All (λ v. IsIn v (box_of s)) m.vertices
+pub mesh_inside : (kind : Primitive) (s : Scope) (m : SolidMesh) → has_negative s.size ≡ false → mesh_of kind s ≡ Ok m
+    → All (λ v. IsIn v (box_of s)) m.vertices
 mesh_inside kind s m size h =
     let a = mesh_is kind s m h in
     let b = and_then-ok (corners_of (form_of kind s.size) s.size) _ a.0 a.1 in
     subst (λ (k : SolidMesh). All (λ v. IsIn v (box_of s)) k.vertices) a.2 (all_in s b.0 a.0 (corners_local kind s.size b.0 (sizes s.size size) b.1) b.2)
 
 -- what is answered is closed, and stands inside
-pub closed_settled : (kind : Primitive) (s : Scope) (made : Result SolidMesh (Stop SolidFault)) → Makes (mesh_of kind s) made → IfOk (settled_of made) (λ given. kind ≢ primitive.Quad → IfOk given (λ m. IsClosed m.faces))
+pub closed_settled : (kind : Primitive) (s : Scope) (made : Result SolidMesh (Stop SolidFault))
+    → Makes (mesh_of kind s) made
+    → IfOk (settled_of made) (λ given. kind ≢ primitive.Quad → IfOk given (λ m. IsClosed m.faces))
 closed_settled kind s (Ok m) h = λ n. mesh_closed kind s m h n
 closed_settled kind s (Err (Fault f)) h = λ n. tt
 closed_settled kind s (Err NoMemory) h = tt
 
-pub inside_settled : (kind : Primitive) (s : Scope) (made : Result SolidMesh (Stop SolidFault)) → OnOk made (has_negative s.size ≡ false) → Makes (mesh_of kind s) made
+pub inside_settled : (kind : Primitive) (s : Scope) (made : Result SolidMesh (Stop SolidFault))
+    → OnOk made (has_negative s.size ≡ false) → Makes (mesh_of kind s) made
     → IfOk (settled_of made) (λ given. IfOk given (λ m. All (λ v. IsIn v (box_of s)) m.vertices))
 inside_settled kind s (Ok m) size h = mesh_inside kind s m size h
 inside_settled kind s (Err (Fault f)) size h = tt

@@ -6,6 +6,7 @@ use Rattle.std.proofs.lemmas.Bool.Decides.{nat_tests}
 use Rattle.cga_solid.specs.declared.form.Form.{Form}
 use Rattle.cga_solid.specs.declared.form.Form.TheVariants.{Cube, Shed, GableAlongX, GableAlongZ, HipAlongX, HipAlongZ, Pyramid, Quad}
 use Rattle.cga_solid.specs.Faces.{faces_of, edges, times_in, IsClosed}
+use Rattle.cga_fraction.proofs.Door.{and_first as first_of_two, and_second as second_of_two}
 
 abbrev is_once : List (ℕ × ℕ) → ℕ × ℕ → Bool
 is_once es e = nat_eq (times_in es e.0 e.1) 1 && nat_eq (times_in es e.1 e.0) 1
@@ -16,14 +17,9 @@ is_closed faces = list_all (is_once (edges faces)) (edges faces)
 parts : (m n : ℕ) → (nat_eq m 1 && nat_eq n 1) ≡ true → (m ≡ 1) × (n ≡ 1)
 parts m n h = grind (arith, nat_tests)
 
-first_of_two : (a b : Bool) → (a && b) ≡ true → a ≡ true
-first_of_two a b h = grind arith
-
-second_of_two : (a b : Bool) → (a && b) ≡ true → b ≡ true
-second_of_two a b h = grind arith
-
 -- a test that all pass is passed by each
-all_at : (p : ℕ × ℕ → Bool) (xs : List (ℕ × ℕ)) (k : ℕ) (d : ℕ × ℕ) → list_all p xs ≡ true → k < length xs → p (get_or xs k d) ≡ true
+all_at : (p : ℕ × ℕ → Bool) (xs : List (ℕ × ℕ)) (k : ℕ) (d : ℕ × ℕ) → list_all p xs ≡ true → k < length xs
+    → p (get_or xs k d) ≡ true
 all_at p [] k d h l = absurd (omega arith)
 all_at p (x ∷ xs) zero d h l = first_of_two (p x) (list_all p xs) h
 all_at p (x ∷ xs) (suc k) d h l = all_at p xs k d (second_of_two (p x) (list_all p xs) h) (omega arith)

@@ -1,4 +1,4 @@
-pub mod Boxed
-pub mod Closed
-pub mod Halves
-pub mod Local
+mod Boxed
+mod Closed
+mod Halves
+mod Local

@@ -4,12 +4,11 @@ use Rattle.std.specs.Prelude.{IsTrue, not, ◌||◌, if◌then◌else◌}
 use Rattle.cga_fraction.specs.Rat.{Rat, zero_rat}
 use Rattle.cga_fraction.specs.Order.{rat_le, rat_lt}
 use Rattle.cga_fraction.specs.Arithmetic.{minus, divided}
-use Rattle.cga_fraction.proofs.Order.{le_refl, lt_le}
+use Rattle.cga_fraction.proofs.Door.{and_then-ok, le_refl, lt_le}
 use Rattle.cga_frame.specs.Scope.{has_negative}
 use Rattle.cga_frame.specs.declared.point.Point.{Point}
 use Rattle.cga_word.specs.declared.primitive.Primitive.{Primitive}
 use Rattle.cga_word.specs.declared.primitive.Primitive.TheVariants as primitive
-use Rattle.cga_fraction.proofs.Results.{and_then-ok}
 use Rattle.cga_solid.specs.Faults.{within}
 use Rattle.cga_solid.specs.Corners.{corners_of, half_of, over_base, point, two}
 use Rattle.cga_solid.specs.Solids.{form_of}
@@ -67,17 +66,21 @@ base_local s more p m =
 ridge_local : (s a b : Point) → IsSize s → IsLocal a s → IsLocal b s → AllLocal s (over_base s (a ∷ b ∷ []))
 ridge_local s a b p f g = base_local s (a ∷ b ∷ []) p (f, (g, tt))
 
-level_local : (s a b c d : Point) → IsSize s → IsLocal a s → IsLocal b s → IsLocal c s → IsLocal d s → AllLocal s (over_base s (a ∷ b ∷ c ∷ d ∷ []))
+level_local : (s a b c d : Point) → IsSize s → IsLocal a s → IsLocal b s → IsLocal c s → IsLocal d s
+    → AllLocal s (over_base s (a ∷ b ∷ c ∷ d ∷ []))
 level_local s a b c d p f g h k = base_local s (a ∷ b ∷ c ∷ d ∷ []) p (f, (g, (h, (k, tt))))
 
-given : (s : Point) (xs cs : List Point) → AllLocal s xs → ◌≡◌ {A = Result (List Point) SolidFault} (Ok xs) (Ok cs) → AllLocal s cs
+given : (s : Point) (xs cs : List Point) → AllLocal s xs → ◌≡◌ {A = Result (List Point) SolidFault} (Ok xs) (Ok cs)
+    → AllLocal s cs
 given s xs cs all h = subst (λ (l : List Point). AllLocal s l) (same_ok xs cs h) all
 
 -- the half that was made is within the other size
-half_is : (d w m : Rat) → half_of d ≡ Ok m → IsTrue (rat_le zero_rat d) → IsTrue (rat_le zero_rat w) → IsTrue (rat_le d w) → IsWithin m w
+half_is : (d w m : Rat) → half_of d ≡ Ok m → IsTrue (rat_le zero_rat d) → IsTrue (rat_le zero_rat w)
+    → IsTrue (rat_le d w) → IsWithin m w
 half_is d w m h f g k = subst (λ (x : Rat). IsWithin x w) (within_is (divided d two) m h) (half_within d w f g k)
 
-rest_is : (d w m r : Rat) → half_of d ≡ Ok m → within (minus w m) ≡ Ok r → IsTrue (rat_le zero_rat d) → IsTrue (rat_le zero_rat w) → IsTrue (rat_le d w) → IsWithin r w
+rest_is : (d w m r : Rat) → half_of d ≡ Ok m → within (minus w m) ≡ Ok r → IsTrue (rat_le zero_rat d)
+    → IsTrue (rat_le zero_rat w) → IsTrue (rat_le d w) → IsWithin r w
 rest_is d w m r h i f g k =
     let e : minus w (divided d two) ≡ r = ap (minus w) (within_is (divided d two) m h) ∙ within_is (minus w m) r i in subst (λ (x : Rat). IsWithin x w) e (rest_within d w f g k)
 
@@ -124,7 +127,8 @@ gable_z_local s cs p h =
     let y = own s.y p.y in
     given s _ cs (ridge_local s _ _ p (at s a.0 s.y zero_rat m y (low s.z p.z)) (at s a.0 s.y s.z m y (own s.z p.z))) a.2
 
-hip_x_local : (s : Point) (cs : List Point) → IsSize s → IsTrue (rat_le s.z s.x) → corners_of HipAlongX s ≡ Ok cs → AllLocal s cs
+hip_x_local : (s : Point) (cs : List Point) → IsSize s → IsTrue (rat_le s.z s.x) → corners_of HipAlongX s ≡ Ok cs
+    → AllLocal s cs
 unfolding corners_of
 hip_x_local s cs p l h =
     let a = and_then-ok (half_of s.z) _ cs h in
@@ -135,7 +139,8 @@ hip_x_local s cs p l h =
     let y = own s.y p.y in
     given s _ cs (ridge_local s _ _ p (at s a.0 s.y a.0 mx y mz) (at s b.0 s.y a.0 r y mz)) b.2
 
-hip_z_local : (s : Point) (cs : List Point) → IsSize s → IsTrue (rat_le s.x s.z) → corners_of HipAlongZ s ≡ Ok cs → AllLocal s cs
+hip_z_local : (s : Point) (cs : List Point) → IsSize s → IsTrue (rat_le s.x s.z) → corners_of HipAlongZ s ≡ Ok cs
+    → AllLocal s cs
 unfolding corners_of
 hip_z_local s cs p l h =
     let a = and_then-ok (half_of s.x) _ cs h in
@@ -146,7 +151,8 @@ hip_z_local s cs p l h =
     let y = own s.y p.y in
     given s _ cs (ridge_local s _ _ p (at s a.0 s.y a.0 mx y mz) (at s a.0 s.y b.0 mx y r)) b.2
 
-pyramid_local : (s : Point) (cs : List Point) → IsSize s → IsTrue (rat_le s.x s.z) → corners_of Pyramid s ≡ Ok cs → AllLocal s cs
+pyramid_local : (s : Point) (cs : List Point) → IsSize s → IsTrue (rat_le s.x s.z) → corners_of Pyramid s ≡ Ok cs
+    → AllLocal s cs
 unfolding corners_of
 pyramid_local s cs p l h =
     let a = and_then-ok (half_of s.x) _ cs h in
@@ -154,7 +160,8 @@ pyramid_local s cs p l h =
     let mx = half_is s.x s.x a.0 a.1 p.x p.x (le_refl s.x) in
     given s _ cs (base_local s (point a.0 s.y a.0 ∷ []) p (at s a.0 s.y a.0 mx (own s.y p.y) mz, tt)) a.2
 
-gable_local : (b : Bool) (s : Point) (cs : List Point) → IsSize s → corners_of (if b then GableAlongX else GableAlongZ) s ≡ Ok cs → AllLocal s cs
+gable_local : (b : Bool) (s : Point) (cs : List Point) → IsSize s
+    → corners_of (if b then GableAlongX else GableAlongZ) s ≡ Ok cs → AllLocal s cs
 gable_local true s cs p h = gable_x_local s cs p h
 gable_local false s cs p h = gable_z_local s cs p h
 
@@ -172,7 +179,8 @@ hip_local true c s cs p e f h = hip_x_local s cs p (less s.z s.x e) h
 hip_local false true s cs p e f h = hip_z_local s cs p (less s.x s.z f) h
 hip_local false false s cs p e f h = pyramid_local s cs p (at_least (rat_le s.x s.z) e) h
 
-pub corners_local : (kind : Primitive) (s : Point) (cs : List Point) → IsSize s → corners_of (form_of kind s) s ≡ Ok cs → AllLocal s cs
+pub corners_local : (kind : Primitive) (s : Point) (cs : List Point) → IsSize s → corners_of (form_of kind s) s ≡ Ok cs
+    → AllLocal s cs
 corners_local primitive.Cube s cs p h = cube_local s cs p h
 corners_local primitive.Quad s cs p h = quad_local s cs p h
 corners_local primitive.Shed s cs p h = shed_local s cs p h

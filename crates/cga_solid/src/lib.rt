@@ -1,6 +1,8 @@
-// Solids drawn into scopes: their vertices and faces, exact, or the reason why there are none. It knows nothing of
-// shapes, rules or texts. The one thing that callers get wrong: faces name vertices from 1 on, and a quad is one face
-// and no closed solid.
+//! Solids drawn into scopes: their vertices and faces, exact, or the reason why there are none.
+//!
+//! It must not know shapes, rules or texts.
+//!
+//! What callers get wrong: faces name vertices from 1 on, and a quad is one face and no closed solid.
 #![tactic(auto)]
 
 mod corners;

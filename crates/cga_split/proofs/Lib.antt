@@ -1,7 +1,7 @@
-pub mod Covers
-pub mod Parts
-pub mod RepeatParts
-pub mod Scopes
-pub mod Shares
-pub mod Subdivs
-pub mod Sums
+mod Covers
+mod Parts
+mod RepeatParts
+mod Scopes
+mod Shares
+mod Subdivs
+mod Sums

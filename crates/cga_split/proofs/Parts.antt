@@ -4,9 +4,8 @@ use Rattle.std.specs.Prelude.{Result}
 use Rattle.cga_fraction.specs.Rat.{Rat}
 use Rattle.cga_fraction.specs.Arithmetic.{plus, minus, times, divided}
 use Rattle.cga_fraction.specs.Refusals.{checked}
-use Rattle.cga_fraction.proofs.Results.{and_then-ok, or_err-ok}
+use Rattle.cga_fraction.proofs.Door.{IsLowest, and_then-ok, checked_is, minus-plus_left, or_err-ok}
 use Rattle.cga_split.specs.declared.split_fault.SplitFault.TheVariants as fault
-use Rattle.cga_fraction.proofs.Laws.{IsLowest, minus-plus_left, checked_is}
 use Rattle.cga_fraction.specs.Results.{and_then, onto}
 use Rattle.cga_split.specs.Faults.{within}
 use Rattle.cga_split.specs.Cuts.{parts_of}
@@ -26,18 +25,22 @@ abbrev pub AllLengthsLowest : Rat → Rat → List PartSize → Type 0
 AllLengthsLowest rest total [] = Unit {0}
 AllLengthsLowest rest total (s ∷ ss) = IsLowest (length_of rest total s) × AllLengthsLowest rest total ss
 
-pub length_is : (rest total : Rat) (s : PartSize) (len : Rat) → checked_length rest total s ≡ Ok len → length_of rest total s ≡ len
+pub length_is : (rest total : Rat) (s : PartSize) (len : Rat) → checked_length rest total s ≡ Ok len
+    → length_of rest total s ≡ len
 length_is rest total (Absolute x) len h = ok_same x len h
 length_is rest total (Relative r) len h =
     let w = and_then-ok (within (times rest r)) (λ m. within (divided m total)) len h in
     ap (λ m. divided m total) (within_is (times rest r) w.0 w.1) ∙ within_is (divided w.0 total) len w.2
 
-pub joined : {P F : Type 0} (p : P) (qs ps : List P) (q : P) (rs : List P) → ◌≡◌ {A = Result (List P) F} (Ok (p ∷ qs)) (Ok ps) → p ≡ q → qs ≡ rs → ps ≡ q ∷ rs
+pub joined : {P F : Type 0} (p : P) (qs ps : List P) (q : P) (rs : List P)
+    → ◌≡◌ {A = Result (List P) F} (Ok (p ∷ qs)) (Ok ps) → p ≡ q → qs ≡ rs → ps ≡ q ∷ rs
 joined p qs ps q rs e f g = cc
 
 -- parts that are given are those of the cuts
-pub parts_are : {P : Type 0} (part : Rat → Rat → Result P SplitFault) (place : Rat → Rat → P) → ((a len : Rat) (p : P) → part a len ≡ Ok p → p ≡ place a len)
-    → (rest total at : Rat) (ss : List PartSize) (ps : List P) → AllLengthsLowest rest total ss → parts_from part rest total at ss ≡ Ok ps → ps ≡ parts_of place (at ∷ cuts_after rest total at ss)
+pub parts_are : {P : Type 0} (part : Rat → Rat → Result P SplitFault) (place : Rat → Rat → P)
+    → ((a len : Rat) (p : P) → part a len ≡ Ok p → p ≡ place a len)
+    → (rest total at : Rat) (ss : List PartSize) (ps : List P) → AllLengthsLowest rest total ss
+    → parts_from part rest total at ss ≡ Ok ps → ps ≡ parts_of place (at ∷ cuts_after rest total at ss)
 parts_are part place exact rest total at [] ps l h = cc
 parts_are part place exact rest total at (s ∷ ss) ps l h =
     let a = and_then-ok (checked_length rest total s) _ ps h in
@@ -67,16 +70,21 @@ relative_is a (Relative r ∷ sizes) t h =
     let w = and_then-ok (within (plus a r)) (λ b. relative_total b sizes) t h in
     ap (λ b. relative_sum b sizes) (within_is (plus a r) w.0 w.1) ∙ relative_is w.0 sizes t w.2
 
-onto_more : {P F : Type 0} (made : List P) (p : P) (r : Result (List P) F) → onto made (and_then r (λ ps. Ok (p ∷ ps))) ≡ onto (made ++ p ∷ []) r
+onto_more : {P F : Type 0} (made : List P) (p : P) (r : Result (List P) F)
+    → onto made (and_then r (λ ps. Ok (p ∷ ps))) ≡ onto (made ++ p ∷ []) r
 onto_more made p (Ok ps) = ap Ok (sym (append_assoc made (p ∷ []) ps))
 onto_more made p (Err e) = refl
 
 -- one part more
-pub one_more : {P : Type 0} (part : Rat → Rat → Result P SplitFault) (rest total from length next : Rat) (made longer : List P) (p : P) (s : PartSize) (ss : List PartSize) (target : Result (List P) SplitFault)
-    → onto made (parts_from part rest total from (s ∷ ss)) ≡ target → ◌≡◌ {A = Result Rat SplitFault} (Ok length) (checked_length rest total s) → Ok p ≡ part from length
-    → ◌≡◌ {A = Result Rat SplitFault} (Ok next) (within (plus from length)) → longer ≡ made ++ p ∷ [] → onto longer (parts_from part rest total next ss) ≡ target
+pub one_more : {P : Type 0} (part : Rat → Rat → Result P SplitFault) (rest total from length next : Rat)
+      (made longer : List P) (p : P) (s : PartSize) (ss : List PartSize) (target : Result (List P) SplitFault)
+    → onto made (parts_from part rest total from (s ∷ ss)) ≡ target
+    → ◌≡◌ {A = Result Rat SplitFault} (Ok length) (checked_length rest total s) → Ok p ≡ part from length
+    → ◌≡◌ {A = Result Rat SplitFault} (Ok next) (within (plus from length)) → longer ≡ made ++ p ∷ []
+    → onto longer (parts_from part rest total next ss) ≡ target
 one_more part rest total from length next made longer p s ss target h a b c e =
     rw e (sym (onto_more made p (parts_from part rest total next ss)) ∙ step ∙ h)
   where
-    step : onto made (and_then (parts_from part rest total next ss) (λ ps. Ok (p ∷ ps))) ≡ onto made (parts_from part rest total from (s ∷ ss))
+    step : onto made (and_then (parts_from part rest total next ss) (λ ps. Ok (p ∷ ps))) ≡ onto made
+          (parts_from part rest total from (s ∷ ss))
     step = rw (← a) (rw (← b) (rw (← c) refl))

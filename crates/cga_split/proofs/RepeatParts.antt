@@ -6,18 +6,15 @@ use Rattle.cga_fraction.specs.Rat.{Rat, den, zero_rat, of_int}
 use Rattle.cga_fraction.specs.Order.{rat_le, rat_lt, positive_part, negative_part}
 use Rattle.cga_fraction.specs.Arithmetic.{minus, times, divided}
 use Rattle.cga_fraction.specs.Rounding.{IsCeil, ceil_of}
-use Rattle.cga_fraction.proofs.Order.{lt_of_lt_le, lt_fact, lt_test}
-use Rattle.cga_fraction.proofs.Laws.{IsLowest, minus_lowest, times_lowest, same_diff}
-use Rattle.cga_fraction.proofs.Diffs.{minus_of, times_diff, itself}
-use Rattle.cga_fraction.proofs.Ratios.{IsRatio, like, times_ratio, divided_ratio, le_ratio, zero_ratio}
-use Rattle.cga_fraction.proofs.Rounding.{is_ceil}
+use Rattle.cga_fraction.proofs.Door.{IsLowest, IsRatio, and_then-ok, divided_ratio, is_ceil, itself, le_ratio, like}
+use Rattle.cga_fraction.proofs.Door.{lt_fact, lt_of_lt_le, lt_test, minus_lowest, minus_of, same_diff, times_diff}
+use Rattle.cga_fraction.proofs.Door.{times_lowest, times_ratio, zero_ratio}
 use Rattle.cga_fraction.specs.Results.{and_then, onto}
 use Rattle.cga_split.specs.Faults.{within}
 use Rattle.cga_split.specs.Cuts.{Cover, IsCut, parts_of}
 use Rattle.cga_split.specs.Repeat.{whole, multiples, repeat_cuts, count_of, repeats_from, counted, repeated}
 use Rattle.cga_split.specs.declared.split_fault.SplitFault.{SplitFault}
 use Rattle.cga_split.proofs.Covers.{Rises, last_of, covers}
-use Rattle.cga_fraction.proofs.Results.{and_then-ok}
 use Rattle.cga_split.proofs.Parts.{within_is, joined}
 use Rattle.cga_split.proofs.Subdivs.{positive, not_refused, not_true}
 
@@ -32,21 +29,26 @@ part_ratio size nl dl n l h = like (divided size (whole n)) _ _ nl (dl * n) (div
 multiple_ratio : (part : Rat) (np dp i : ℕ) → IsRatio part np dp → IsRatio (times part (whole i)) (np * i) dp
 multiple_ratio part np dp i r = like (times part (whole i)) _ _ (np * i) dp (times_ratio part (whole i) np dp i 1 r (whole_ratio i)) (omega arith) r.positive
 
-multiples_rise : (part : Rat) (np dp i n : ℕ) → IsRatio part np dp → Rises (times part (whole i)) (multiples part (i + 1) n)
+multiples_rise : (part : Rat) (np dp i n : ℕ) → IsRatio part np dp
+    → Rises (times part (whole i)) (multiples part (i + 1) n)
 multiples_rise part np dp i zero r = tt
 multiples_rise part np dp i (suc n) r =
     (le_ratio (times part (whole i)) (times part (whole (i + 1))) (np * i) dp (np * (i + 1)) dp (multiple_ratio part np dp i r) (multiple_ratio part np dp (i + 1) r) (omega arith), multiples_rise part np dp (i + 1) n r)
 
-last_multiple : (part : Rat) (i n : ℕ) → last_of (times part (whole i)) (multiples part (i + 1) n) ≡ times part (whole (i + n))
+last_multiple : (part : Rat) (i n : ℕ)
+    → last_of (times part (whole i)) (multiples part (i + 1) n) ≡ times part (whole (i + n))
 last_multiple part i zero = ap (λ k. times part (whole k)) (omega arith)
 last_multiple part i (suc n) = last_multiple part (i + 1) n ∙ ap (λ k. times part (whole k)) (omega arith)
 
-repeat_end : (size : Rat) (nl dl n : ℕ) → IsRatio size nl dl → 0 < n → IsRatio (times (divided size (whole n)) (whole n)) nl dl
+repeat_end : (size : Rat) (nl dl n : ℕ) → IsRatio size nl dl → 0 < n
+    → IsRatio (times (divided size (whole n)) (whole n)) nl dl
 repeat_end size nl dl n l h =
     like (times (divided size (whole n)) (whole n)) _ _ nl dl (multiple_ratio (divided size (whole n)) nl (dl * n) n (part_ratio size nl dl n l h)) (omega arith) l.positive
 
 -- the difference of two neighbouring multiples
-step_naturals : (p m d i : ℕ) → ((p * (i + 1) + m * 0) * (d * 1) + (p * 0 + m * i) * (d * 1)) * d + m * (d * 1 * (d * 1)) ≡ p * (d * 1 * (d * 1)) + ((p * 0 + m * (i + 1)) * (d * 1) + (p * i + m * 0) * (d * 1)) * d
+step_naturals : (p m d i : ℕ)
+    → ((p * (i + 1) + m * 0) * (d * 1) + (p * 0 + m * i) * (d * 1)) * d + m * (d * 1 * (d * 1)) ≡ p * (d * 1 * (d * 1))
+      + ((p * 0 + m * (i + 1)) * (d * 1) + (p * i + m * 0) * (d * 1)) * d
 step_naturals p m d i = omega arith
 
 step_is : (step : Rat) (i : ℕ) → IsLowest step → minus (times step (whole (i + 1))) (times step (whole i)) ≡ step
@@ -57,8 +59,10 @@ step_is step i low =
 
 -- ---- the parts
 
-repeats_are : {P : Type 0} (part : Rat → Rat → Result P SplitFault) (place : Rat → Rat → P) → ((a len : Rat) (p : P) → part a len ≡ Ok p → p ≡ place a len)
-    → (step : Rat) → IsLowest step → (i n : ℕ) (ps : List P) → repeats_from part step i n ≡ Ok ps → ps ≡ parts_of place (times step (whole i) ∷ multiples step (i + 1) n)
+repeats_are : {P : Type 0} (part : Rat → Rat → Result P SplitFault) (place : Rat → Rat → P)
+    → ((a len : Rat) (p : P) → part a len ≡ Ok p → p ≡ place a len)
+    → (step : Rat) → IsLowest step → (i n : ℕ) (ps : List P) → repeats_from part step i n ≡ Ok ps
+    → ps ≡ parts_of place (times step (whole i) ∷ multiples step (i + 1) n)
 repeats_are part place exact step low i zero ps h = cc
 repeats_are part place exact step low i (suc n) ps h =
     let a = and_then-ok (within (times step (whole i))) _ ps h in
@@ -96,7 +100,8 @@ lt_ratio q n d r some = lt_test zero_rat q (lt_parts q.num r.top (den q) r.is (s
 
 -- ---- the cover
 
-zero_multiple : (part : Rat) (np dp : ℕ) → IsRatio part np dp → IsTrue (rat_le (times part (whole 0)) zero_rat) × IsTrue (rat_le zero_rat (times part (whole 0)))
+zero_multiple : (part : Rat) (np dp : ℕ) → IsRatio part np dp
+    → IsTrue (rat_le (times part (whole 0)) zero_rat) × IsTrue (rat_le zero_rat (times part (whole 0)))
 zero_multiple part np dp r =
     let z = multiple_ratio part np dp 0 r in
     (le_ratio (times part (whole 0)) zero_rat (np * 0) dp 0 1 z zero_ratio (omega arith), le_ratio zero_rat (times part (whole 0)) 0 1 (np * 0) dp zero_ratio z (omega arith))
@@ -117,7 +122,8 @@ divided_lowest : (a b : Rat) → IsLowest (divided a b)
 unfolding divided
 divided_lowest a b = times_lowest _ _
 
-counted_is : {P : Type 0} (part : Rat → Rat → Result P SplitFault) (place : Rat → Rat → P) → ((a len : Rat) (p : P) → part a len ≡ Ok p → p ≡ place a len)
+counted_is : {P : Type 0} (part : Rat → Rat → Result P SplitFault) (place : Rat → Rat → P)
+    → ((a len : Rat) (p : P) → part a len ≡ Ok p → p ≡ place a len)
     → (size : Rat) (n : ℕ) (ps : List P) → counted part size n ≡ Ok ps → ps ≡ parts_of place (repeat_cuts size n)
 unfolding repeat_cuts
 counted_is part place exact size n ps h =
@@ -128,8 +134,10 @@ counted_is part place exact size n ps h =
     repeats_are part place exact a.0 low 0 n ps a.2 ∙ ap (λ (x : Rat). parts_of place (times x (whole 0) ∷ multiples x (0 + 1) n)) (sym step)
 
 -- so many parts, the cuts of which cover the size
-pub repeated_is : {P : Type 0} (part : Rat → Rat → Result P SplitFault) (place : Rat → Rat → P) → ((a len : Rat) (p : P) → part a len ≡ Ok p → p ≡ place a len)
-    → (size length : Rat) (ps : List P) → repeated part size length ≡ Ok ps → (n : ℕ) × IsCeil (divided size length) (pos n) × IsCut place (repeat_cuts size n) size ps
+pub repeated_is : {P : Type 0} (part : Rat → Rat → Result P SplitFault) (place : Rat → Rat → P)
+    → ((a len : Rat) (p : P) → part a len ≡ Ok p → p ≡ place a len)
+    → (size length : Rat) (ps : List P) → repeated part size length ≡ Ok ps
+    → (n : ℕ) × IsCeil (divided size length) (pos n) × IsCut place (repeat_cuts size n) size ps
 unfolding repeated
 repeated_is part place exact size length ps h =
     let flat = not_refused (not (rat_lt zero_rat size)) _ _ ps h in
@@ -146,7 +154,8 @@ repeated_is part place exact size length ps h =
 
 -- ---- one part more
 
-onto_more : {P F : Type 0} (made : List P) (p : P) (r : Result (List P) F) → onto made (and_then r (λ ps. Ok (p ∷ ps))) ≡ onto (made ++ p ∷ []) r
+onto_more : {P F : Type 0} (made : List P) (p : P) (r : Result (List P) F)
+    → onto made (and_then r (λ ps. Ok (p ∷ ps))) ≡ onto (made ++ p ∷ []) r
 onto_more made p (Ok ps) = ap Ok (sym (append_assoc made (p ∷ []) ps))
 onto_more made p (Err e) = refl
 
@@ -158,15 +167,21 @@ module _ {P : Type 0} (part : Rat → Rat → Result P SplitFault) (step : Rat) 
   here : onto made (repeats_from part step i (suc (left - 1))) ≡ target
   here = ap (λ (n : ℕ). onto made (repeats_from part step i n)) (sym less) ∙ so_far
 
-  pub one_repeat : (from : Rat) (longer : List P) (p : P) → ◌≡◌ {A = Result Rat SplitFault} (Ok from) (within (times step (whole i))) → Ok p ≡ part from step → longer ≡ made ++ p ∷ []
+  pub one_repeat : (from : Rat) (longer : List P) (p : P)
+      → ◌≡◌ {A = Result Rat SplitFault} (Ok from) (within (times step (whole i))) → Ok p ≡ part from step
+      → longer ≡ made ++ p ∷ []
       → onto longer (repeats_from part step (i + 1) (left - 1)) ≡ target
   one_repeat from longer p a b e = rw e (sym (onto_more made p (repeats_from part step (i + 1) (left - 1))) ∙ back ∙ here)
     where
-      back : onto made (and_then (repeats_from part step (i + 1) (left - 1)) (λ ps. Ok (p ∷ ps))) ≡ onto made (repeats_from part step i (suc (left - 1)))
+      back : onto made (and_then (repeats_from part step (i + 1) (left - 1)) (λ ps. Ok (p ∷ ps))) ≡ onto made
+            (repeats_from part step i (suc (left - 1)))
       back = rw (← a) (rw (← b) refl)
 
-  pub place_fault : (fault : SplitFault) → ◌≡◌ {A = Result Rat SplitFault} (Err fault) (within (times step (whole i))) → target ≡ Err fault
+  pub place_fault : (fault : SplitFault) → ◌≡◌ {A = Result Rat SplitFault} (Err fault) (within (times step (whole i)))
+      → target ≡ Err fault
   place_fault fault a = sym here ∙ (rw (← a) refl)
 
-  pub part_fault : (from : Rat) (fault : SplitFault) → ◌≡◌ {A = Result Rat SplitFault} (Ok from) (within (times step (whole i))) → Err fault ≡ part from step → target ≡ Err fault
+  pub part_fault : (from : Rat) (fault : SplitFault)
+      → ◌≡◌ {A = Result Rat SplitFault} (Ok from) (within (times step (whole i))) → Err fault ≡ part from step
+      → target ≡ Err fault
   part_fault from fault a b = sym here ∙ (rw (← a) (rw (← b) refl))

@@ -6,10 +6,8 @@ use Rattle.cga_fraction.specs.Order.{rat_le, rat_lt, positive_part, negative_par
 use Rattle.cga_fraction.specs.Arithmetic.{minus, times, divided}
 use Rattle.cga_fraction.specs.Refusals.{checked, quotient_of, is_zero}
 use Rattle.cga_fraction.specs.declared.overflow.DivFault.{DivFault}
-use Rattle.cga_fraction.proofs.Order.{lt_test, lt_not_le}
-use Rattle.cga_fraction.proofs.Ratios.{IsRatio, times_ratio, minus_ratio, divided_ratio, le_ratio, zero_ratio}
+use Rattle.cga_fraction.proofs.Door.{IsRatio, divided_ratio, le_ratio, lt_not_le, lt_test, minus_ratio, or_err-err_as, or_err-ok_as, times_ratio, zero_ratio}
 use Rattle.cga_fraction.specs.Results.{and_then, or_err}
-use Rattle.cga_fraction.proofs.Results.{or_err-ok_as, or_err-err_as}
 use Rattle.cga_fraction.specs.declared.overflow.DivFault.TheVariants as div
 use Rattle.cga_split.specs.Faults.{within}
 use Rattle.cga_split.specs.Subdiv.{checked_length, is_off, is_positive, is_relative, absolute_sum, absolute_total, relative_sum, relative_total}
@@ -30,7 +28,8 @@ not_zero : (z : ℤ) (n : ℕ) → z ≡ pos (suc n) → is_zero z ≡ false
 not_zero z n e = rw e refl
 
 -- by a number above 0 the quotient is the exact one
-quotient_is : (m total : Rat) (n : ℕ) → total.num ≡ pos (suc n) → quotient_of m total ≡ or_err div.Overflow (checked (divided m total))
+quotient_is : (m total : Rat) (n : ℕ) → total.num ≡ pos (suc n)
+    → quotient_of m total ≡ or_err div.Overflow (checked (divided m total))
 unfolding quotient_of
 quotient_is m total n e = rw (not_zero total.num n e) refl
 
@@ -43,7 +42,8 @@ module _ (rest r total m : Rat) (product : checked (times rest r) ≡ Ok m) (som
       let t = positive_top total some in
       ap (λ (x : Result Rat SplitFault). and_then x (λ k. within (divided k total))) first ∙ or_err-ok_as div.Overflow Overflow (checked (divided m total)) len (sym (quotient_is m total t.0 t.1) ∙ h)
 
-  pub share_err : (e : DivFault) → quotient_of m total ≡ Err e → ◌≡◌ {A = Result Rat SplitFault} (checked_length rest total (Relative r)) (Err Overflow)
+  pub share_err : (e : DivFault) → quotient_of m total ≡ Err e
+      → ◌≡◌ {A = Result Rat SplitFault} (checked_length rest total (Relative r)) (Err Overflow)
   share_err e h =
       let t = positive_top total some in
       ap (λ (x : Result Rat SplitFault). and_then x (λ k. within (divided k total))) first ∙ or_err-err_as div.Overflow e Overflow (checked (divided m total)) (sym (quotient_is m total t.0 t.1) ∙ h)
@@ -62,7 +62,8 @@ ratio_of x h =
 pub not_negative : (x : Rat) (n d : ℕ) → IsRatio x n d → rat_lt x zero_rat ≡ false
 not_negative x n d r = ap not (le_ratio zero_rat x 0 1 n d zero_ratio r (omega arith))
 
-pub share_sign : (rest r total len : Rat) → rat_lt rest zero_rat ≡ false → IsTrue (rat_lt zero_rat r) → IsTrue (rat_lt zero_rat total) → checked_length rest total (Relative r) ≡ Ok len → rat_lt len zero_rat ≡ false
+pub share_sign : (rest r total len : Rat) → rat_lt rest zero_rat ≡ false → IsTrue (rat_lt zero_rat r)
+    → IsTrue (rat_lt zero_rat total) → checked_length rest total (Relative r) ≡ Ok len → rat_lt len zero_rat ≡ false
 share_sign rest r total len left factor some h =
     let a = ratio_of rest left in
     let f = positive r factor in
@@ -81,7 +82,8 @@ fits_le size a sizes fits = elim (list_any is_relative sizes) as (λ b. (list_an
   | false ↦ λ none. (fits_absolute size a sizes none fits).0
 ] refl
 
-pub rest_sign : (size a rest : Rat) (sizes : List PartSize) → IsTrue (rat_lt zero_rat size) → list_all is_positive sizes ≡ true → absolute_total zero_rat sizes ≡ Ok a
+pub rest_sign : (size a rest : Rat) (sizes : List PartSize) → IsTrue (rat_lt zero_rat size)
+    → list_all is_positive sizes ≡ true → absolute_total zero_rat sizes ≡ Ok a
     → is_off size a sizes ≡ false → within (minus size a) ≡ Ok rest → rat_lt rest zero_rat ≡ false
 rest_sign size a rest sizes some all sum fits left =
     let l = positive size some in
@@ -92,16 +94,19 @@ rest_sign size a rest sizes some all sum fits left =
     subst (λ (x : Rat). rat_lt x zero_rat ≡ false) (within_is (minus size a) rest left) (not_negative (minus size a) m.0 (l.d * r.1) m.2)
 
 -- the sum of the factors is above 0 where there is one
-pub total_sign : (total : Rat) (sizes : List PartSize) → list_all is_positive sizes ≡ true → relative_total zero_rat sizes ≡ Ok total → IsTrue (list_any is_relative sizes) → IsTrue (rat_lt zero_rat total)
+pub total_sign : (total : Rat) (sizes : List PartSize) → list_all is_positive sizes ≡ true
+    → relative_total zero_rat sizes ≡ Ok total → IsTrue (list_any is_relative sizes) → IsTrue (rat_lt zero_rat total)
 total_sign total sizes all sum one =
     let p = relative_some zero_rat 0 1 sizes zero_ratio one all in
     subst (λ (x : Rat). IsTrue (rat_lt zero_rat x)) (relative_is zero_rat sizes total sum) (lt_ratio (relative_sum zero_rat sizes) p.n p.d p.ratio p.some)
 
 -- what a division by a number above 0 answers
-pub quotient_ok : (m total len : Rat) → IsTrue (rat_lt zero_rat total) → quotient_of m total ≡ Ok len → within (divided m total) ≡ Ok len
+pub quotient_ok : (m total len : Rat) → IsTrue (rat_lt zero_rat total) → quotient_of m total ≡ Ok len
+    → within (divided m total) ≡ Ok len
 quotient_ok m total len some h = let t = positive_top total some in or_err-ok_as div.Overflow Overflow (checked (divided m total)) len (sym (quotient_is m total t.0 t.1) ∙ h)
 
-pub quotient_err : (m total : Rat) (e : DivFault) → IsTrue (rat_lt zero_rat total) → quotient_of m total ≡ Err e → ◌≡◌ {A = Result Rat SplitFault} (within (divided m total)) (Err Overflow)
+pub quotient_err : (m total : Rat) (e : DivFault) → IsTrue (rat_lt zero_rat total) → quotient_of m total ≡ Err e
+    → ◌≡◌ {A = Result Rat SplitFault} (within (divided m total)) (Err Overflow)
 quotient_err m total e some h = let t = positive_top total some in or_err-err_as div.Overflow e Overflow (checked (divided m total)) (sym (quotient_is m total t.0 t.1) ∙ h)
 
 -- ---- the count and the step of Repeat
@@ -109,12 +114,14 @@ quotient_err m total e some h = let t = positive_top total some in or_err-err_as
 pub whole_positive : (n : ℕ) → 0 < n → IsTrue (rat_lt zero_rat (whole n))
 whole_positive n some = lt_ratio (whole n) n 1 (whole_ratio n) some
 
-pub step_sign : (size step : Rat) (n : ℕ) → IsTrue (rat_lt zero_rat size) → 0 < n → within (divided size (whole n)) ≡ Ok step → rat_lt step zero_rat ≡ false
+pub step_sign : (size step : Rat) (n : ℕ) → IsTrue (rat_lt zero_rat size) → 0 < n
+    → within (divided size (whole n)) ≡ Ok step → rat_lt step zero_rat ≡ false
 step_sign size step n some many h =
     let l = positive size some in
     subst (λ (x : Rat). rat_lt x zero_rat ≡ false) (within_is (divided size (whole n)) step h) (not_negative (divided size (whole n)) l.n (l.d * n) (part_ratio size l.n l.d n l.ratio many))
 
-pub count_some : (size length q : Rat) → IsTrue (rat_lt zero_rat size) → IsTrue (rat_lt zero_rat length) → within (divided size length) ≡ Ok q → 0 < count_of q
+pub count_some : (size length q : Rat) → IsTrue (rat_lt zero_rat size) → IsTrue (rat_lt zero_rat length)
+    → within (divided size length) ≡ Ok q → 0 < count_of q
 count_some size length q some step h =
     let l = positive size some in
     let s = positive length step in

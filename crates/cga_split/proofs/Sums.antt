@@ -8,7 +8,7 @@ use Rattle.cga_fraction.specs.Arithmetic.{plus, minus, times}
 use Rattle.cga_split.specs.declared.part_size.PartSize.{PartSize}
 use Rattle.cga_split.specs.declared.part_size.PartSize.TheVariants.{Absolute, Relative}
 use Rattle.cga_split.specs.Subdiv.{absolute_sum, relative_sum, length_of, cuts_after}
-use Rattle.cga_fraction.proofs.Ratios.{IsRatio, like, both, plus_ratio, times_ratio, divided_ratio, minus_ratio, le_ratio}
+use Rattle.cga_fraction.proofs.Door.{IsRatio, both, divided_ratio, le_ratio, like, minus_ratio, plus_ratio, times_ratio}
 use Rattle.cga_split.proofs.Covers.{last_of, Rises}
 
 -- each size as a ratio, and each share as the factor times q / k
@@ -27,16 +27,21 @@ record Ends (at a r : Rat) (k q : ℕ) : Type 0 where
   r_is : IsRatio r nr dr
   at_is : IsRatio at (na * k * dr + q * nr * da) (da * k * dr)
 
-absolute_step : (na k dr q nr da n d : ℕ) → ((na * k * dr + q * nr * da) * d + n * (da * k * dr)) * (da * d * k * dr) ≡ ((na * d + n * da) * k * dr + q * nr * (da * d)) * (da * k * dr * d)
+absolute_step : (na k dr q nr da n d : ℕ)
+    → ((na * k * dr + q * nr * da) * d + n * (da * k * dr)) * (da * d * k * dr) ≡
+      ((na * d + n * da) * k * dr + q * nr * (da * d)) * (da * k * dr * d)
 absolute_step na k dr q nr da n d = omega arith
 
-relative_step : (na k dr q nr da n d : ℕ) → ((na * k * dr + q * nr * da) * (k * d) + q * n * (da * k * dr)) * (da * k * (dr * d)) ≡ (na * k * (dr * d) + q * (nr * d + n * dr) * da) * (da * k * dr * (k * d))
+relative_step : (na k dr q nr da n d : ℕ)
+    → ((na * k * dr + q * nr * da) * (k * d) + q * n * (da * k * dr)) * (da * k * (dr * d)) ≡
+      (na * k * (dr * d) + q * (nr * d + n * dr) * da) * (da * k * dr * (k * d))
 relative_step na k dr q nr da n d = omega arith
 
 pos3 : (a b c : ℕ) → 0 < a → 0 < b → 0 < c → 0 < a * b * c
 pos3 a b c h i j = mul-pos (mul-pos h i) j
 
-ends : (rest total at a r : Rat) (k q : ℕ) (sizes : List PartSize) → 0 < k → Shares rest total k q sizes → Ends at a r k q
+ends : (rest total at a r : Rat) (k q : ℕ) (sizes : List PartSize) → 0 < k → Shares rest total k q sizes
+    → Ends at a r k q
     → Ends (last_of at (cuts_after rest total at sizes)) (absolute_sum a sizes) (relative_sum r sizes) k q
 ends rest total at a r k q [] p s e = e
 ends rest total at a r k q (Absolute x ∷ sizes) p s e =
@@ -66,7 +71,8 @@ ends rest total at a r k q (Relative f ∷ sizes) p s e =
     })
 
 -- what is left, shared out, and the absolute sum together are the whole
-whole_step : (na da nr dr np dp nt dt nl dl kk : ℕ) → nr * dt ≡ nt * dr → kk + na * dl ≡ nl * da → np * (dl * da) ≡ kk * dp
+whole_step : (na da nr dr np dp nt dt nl dl kk : ℕ) → nr * dt ≡ nt * dr → kk + na * dl ≡ nl * da
+    → np * (dl * da) ≡ kk * dp
     → (na * (dp * nt) * dr + (np * dt) * nr * da) * dl ≡ nl * (da * (dp * nt) * dr)
 whole_step na da nr dr np dp nt dt nl dl kk e f g =
     let x : np * da * dl * (nr * dt) ≡ np * da * dl * (nt * dr) = ap (λ w. np * da * dl * w) e in
@@ -80,7 +86,8 @@ AreRatios [] = Unit {0}
 AreRatios (Absolute x ∷ sizes) = (n : ℕ) × (d : ℕ) × IsRatio x n d × AreRatios sizes
 AreRatios (Relative r ∷ sizes) = (n : ℕ) × (d : ℕ) × IsRatio r n d × AreRatios sizes
 
-pub shares_of : (rest total : Rat) (np dp nt dt : ℕ) (sizes : List PartSize) → IsRatio rest np dp → IsRatio total nt dt → 0 < nt → AreRatios sizes → Shares rest total (dp * nt) (np * dt) sizes
+pub shares_of : (rest total : Rat) (np dp nt dt : ℕ) (sizes : List PartSize) → IsRatio rest np dp → IsRatio total nt dt
+    → 0 < nt → AreRatios sizes → Shares rest total (dp * nt) (np * dt) sizes
 shares_of rest total np dp nt dt [] r t p s = tt
 shares_of rest total np dp nt dt (Absolute x ∷ sizes) r t p s = (s.0, s.1, s.2, shares_of rest total np dp nt dt sizes r t p s.3)
 shares_of rest total np dp nt dt (Relative f ∷ sizes) r t p s =
@@ -91,13 +98,15 @@ shares_of rest total np dp nt dt (Relative f ∷ sizes) r t p s =
 zero_ratio : IsRatio zero_rat 0 1
 zero_ratio = record { positive = omega arith; top = 0; is = refl; same = refl }
 
-pub absolute_ratio : (a : Rat) (n d : ℕ) (sizes : List PartSize) → IsRatio a n d → AreRatios sizes → (m : ℕ) × (e : ℕ) × IsRatio (absolute_sum a sizes) m e
+pub absolute_ratio : (a : Rat) (n d : ℕ) (sizes : List PartSize) → IsRatio a n d → AreRatios sizes
+    → (m : ℕ) × (e : ℕ) × IsRatio (absolute_sum a sizes) m e
 absolute_ratio a n d [] r s = (n, d, r)
 absolute_ratio a n d (Absolute x ∷ sizes) r s = absolute_ratio (plus a x) _ _ sizes (plus_ratio a x _ _ _ _ r s.2) s.3
 absolute_ratio a n d (Relative f ∷ sizes) r s = absolute_ratio a n d sizes r s.3
 
 -- the end of the sum is the size, over plain numbers
-finish : (size a total last : Rat) (nl dl nt dt np dp : ℕ) → IsRatio size nl dl → IsTrue (rat_le a size) → IsRatio (minus size a) np dp → IsRatio total nt dt → Ends last a total (dp * nt) (np * dt) → IsRatio last nl dl
+finish : (size a total last : Rat) (nl dl nt dt np dp : ℕ) → IsRatio size nl dl → IsTrue (rat_le a size)
+    → IsRatio (minus size a) np dp → IsRatio total nt dt → Ends last a total (dp * nt) (np * dt) → IsRatio last nl dl
 finish size a total last nl dl nt dt np dp l h r t e =
     let m = minus_ratio size a nl dl e.na e.da l e.a_is h in
     let x = both total e.nr e.dr nt dt e.r_is t in
@@ -108,8 +117,10 @@ start : (k q : ℕ) → 0 < k → Ends zero_rat zero_rat zero_rat k q
 start k q h = record { na = 0; da = 1; nr = 0; dr = 1; a_is = zero_ratio; r_is = zero_ratio; at_is = like zero_rat 0 1 (0 * k * 1 + q * 0 * 1) (1 * k * 1) zero_ratio (omega arith) (omega arith) }
 
 -- where some factor is above 0, the last cut is the size
-pub last_ratio : (size : Rat) (sizes : List PartSize) (nl dl nt dt : ℕ) → IsRatio size nl dl → AreRatios sizes → IsRatio (relative_sum zero_rat sizes) nt dt → 0 < nt → IsTrue (rat_le (absolute_sum zero_rat sizes) size)
-    → IsRatio (last_of zero_rat (cuts_after (minus size (absolute_sum zero_rat sizes)) (relative_sum zero_rat sizes) zero_rat sizes)) nl dl
+pub last_ratio : (size : Rat) (sizes : List PartSize) (nl dl nt dt : ℕ) → IsRatio size nl dl → AreRatios sizes
+    → IsRatio (relative_sum zero_rat sizes) nt dt → 0 < nt → IsTrue (rat_le (absolute_sum zero_rat sizes) size)
+    → IsRatio (last_of zero_rat
+      (cuts_after (minus size (absolute_sum zero_rat sizes)) (relative_sum zero_rat sizes) zero_rat sizes)) nl dl
 last_ratio size sizes nl dl nt dt l s t p h =
     let a = absolute_ratio zero_rat 0 1 sizes zero_ratio s in
     let m = minus_ratio size (absolute_sum zero_rat sizes) nl dl a.0 a.1 l a.2 h in
@@ -122,7 +133,8 @@ last_ratio size sizes nl dl nt dt l s t p h =
 plus_rises : (at x : Rat) (n d m e : ℕ) → IsRatio at n d → IsRatio x m e → IsTrue (rat_le at (plus at x))
 plus_rises at x n d m e r s = le_ratio at (plus at x) n d (n * e + m * d) (d * e) r (plus_ratio at x n d m e r s) (omega arith)
 
-pub rises : (rest total at : Rat) (n d k q : ℕ) (sizes : List PartSize) → IsRatio at n d → Shares rest total k q sizes → Rises at (cuts_after rest total at sizes)
+pub rises : (rest total at : Rat) (n d k q : ℕ) (sizes : List PartSize) → IsRatio at n d → Shares rest total k q sizes
+    → Rises at (cuts_after rest total at sizes)
 rises rest total at n d k q [] r s = tt
 rises rest total at n d k q (Absolute x ∷ sizes) r s =
     (plus_rises at x n d s.0 s.1 r s.2, rises rest total (plus at x) _ _ k q sizes (plus_ratio at x _ _ _ _ r s.2) s.3)

@@ -19,8 +19,11 @@ StrictlyBetween x p = IsTrue (rat_lt p.0 x) × IsTrue (rat_lt x p.1)
 
 -- a rational lies on the axis exactly where it lies between some neighbouring cuts, and strictly between no two of them
 pub record Cover (cuts : List Rat) (size : Rat) : Type 0 where
-  pub everywhere : (x : Rat) → (IsTrue (rat_le zero_rat x) × IsTrue (rat_le x size)) ↔ ((i : ℕ) × (p : Rat × Rat) × (slice_get (neighbours cuts) i ≡ Some p) × Between x p)
-  pub apart : (x : Rat) (i j : ℕ) (p q : Rat × Rat) → slice_get (neighbours cuts) i ≡ Some p → slice_get (neighbours cuts) j ≡ Some q → StrictlyBetween x p → StrictlyBetween x q → i ≡ j
+  pub everywhere : (x : Rat)
+      → (IsTrue (rat_le zero_rat x) × IsTrue (rat_le x size)) ↔
+        ((i : ℕ) × (p : Rat × Rat) × (slice_get (neighbours cuts) i ≡ Some p) × Between x p)
+  pub apart : (x : Rat) (i j : ℕ) (p q : Rat × Rat) → slice_get (neighbours cuts) i ≡ Some p
+      → slice_get (neighbours cuts) j ≡ Some q → StrictlyBetween x p → StrictlyBetween x q → i ≡ j
 
 -- a part for each pair of neighbouring cuts, from the lower one, with their difference as its length
 abbrev pub parts_of : {P : Type 0} → (Rat → Rat → P) → List Rat → List P

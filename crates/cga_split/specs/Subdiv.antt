@@ -68,14 +68,16 @@ checked_length rest total (Absolute x) = Ok x
 checked_length rest total (Relative r) = and_then (within (times rest r)) (λ m. within (divided m total))
 
 -- for each part in order: its length, the part, and the place of the next
-abbrev pub parts_from : {P : Type 0} → (Rat → Rat → Result P SplitFault) → Rat → Rat → Rat → List PartSize → Result (List P) SplitFault
+abbrev pub parts_from : {P : Type 0} → (Rat → Rat → Result P SplitFault) → Rat → Rat → Rat → List PartSize
+    → Result (List P) SplitFault
 parts_from part rest total at [] = Ok []
 parts_from part rest total at (size ∷ sizes) =
     and_then (checked_length rest total size) (λ length. and_then (part at length) (λ p. and_then (within (plus at length)) (λ next.
     and_then (parts_from part rest total next sizes) (λ ps. Ok (p ∷ ps)))))
 
 -- the parts of an axis of this size, or the first fault
-unfoldable pub subdivided : {P : Type 0} → (Rat → Rat → Result P SplitFault) → Rat → List PartSize → Result (List P) SplitFault
+unfoldable pub subdivided : {P : Type 0} → (Rat → Rat → Result P SplitFault) → Rat → List PartSize
+    → Result (List P) SplitFault
 subdivided part size sizes =
     err_if (not (rat_lt zero_rat size)) FlatScope
     (err_if (not (list_all is_positive sizes)) PartNotPositive

@@ -28,7 +28,7 @@ fn number_of(size: PartSize) -> Fraction
 }
 
 // Whether a size is above 0. What is a size is a number in lowest terms.
-#[tactic(auto, using(cga_fraction::proofs::Order::positive_is))]
+#[tactic(auto, using(cga_fraction::proofs::Door::positive_is))]
 fn is_positive(size: PartSize) -> bool
     ensures value { result ≡ is_positive size }
     ensures fraction { IsFraction (number_of size) }

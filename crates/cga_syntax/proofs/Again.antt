@@ -14,6 +14,7 @@ use Rattle.cga_syntax.specs.declared.lexeme.Lexeme.{Lexeme}
 use Rattle.cga_syntax.specs.declared.lexeme.Lexeme.TheVariants as lexeme
 use Rattle.cga_syntax.specs.declared.print.mark.Mark.{Mark}
 use Rattle.cga_syntax.proofs.Exact.{whole_literal, exact}
+use Rattle.std.proofs.lemmas.Bool.{and_parts as both}
 
 abbrev pub lexemes : List Mark → List Lexeme
 lexemes ms = map (λ m. m.lexeme) ms
@@ -94,10 +95,6 @@ one_num : (z : ℤ) → is_whole_one z ≡ true → z ≡ pos 1
 one_num (pos n) h = ap pos (let e : n ≡ 1 = grind (arith, nat_tests) in e)
 one_num (negsuc n) h = absurd (let q : false ≡ true = h in cc)
 
-both : (a b : Bool) → (a && b) ≡ true → (a ≡ true) × (b ≡ true)
-both true b h = (refl, h)
-both false b h = absurd (let q : false ≡ true = h in cc)
-
 one_is : (p : Rat) → is_one p ≡ true → p ≡ of_int (pos 1)
 one_is p h =
     let b = both (is_whole_one p.num) (p.above == 0) h in
@@ -110,7 +107,8 @@ not_one p h e = let g : true ≡ false = ap is_one (sym e) ∙ h in cc
 abbrev given : Rat → Bool → List Mark
 given p one = if one then [] else usually (lexeme.Sign s.Colon) ∷ usually (lexeme.Number p) ∷ []
 
-given_tokens : (p : Rat) (one : Bool) → is_one p ≡ one → (x : List Lexeme) → AreTokens x → IsProbability p x → AreTokens (lexemes (given p one))
+given_tokens : (p : Rat) (one : Bool) → is_one p ≡ one → (x : List Lexeme) → AreTokens x → IsProbability p x
+    → AreTokens (lexemes (given p one))
 given_tokens p true h x t w = tt
 given_tokens p false h x t (inl e) = let u = subst AreTokens e t in (tt, (u.1.0, tt))
 given_tokens p false h x t (inr e) = absurd (not_one p h e.0)
@@ -173,7 +171,8 @@ pub record Again (n : ℕ) (ps : Pieces) (x : List Lexeme) (m : ℕ) : Type 0 wh
   pub written : Writes n ps (lexemes (printed ps)) m
   pub brackets : (i : ℕ) → walk i (lexemes (printed ps)) ≡ walk i x
 
-again_step : (n c m : ℕ) (p : Piece) (ps : Pieces) (x here rest : List Lexeme) → x ≡ here ++ rest → Alike n p here c → Again c ps rest m → Again n (p ∷ ps) x m
+again_step : (n c m : ℕ) (p : Piece) (ps : Pieces) (x here rest : List Lexeme) → x ≡ here ++ rest → Alike n p here c
+    → Again c ps rest m → Again n (p ∷ ps) x m
 unfolding Writes
 again_step n c m p ps x here rest e a g =
     let y : List Lexeme = lexemes (printed_piece p) in

@@ -1,5 +1,7 @@
 -- The text of printed tokens is lexed as these tokens.
-use Rattle.std.proofs.Common.{◌≡◌, ℕ, ◌+◌, ◌-◌, ◌<◌, ◌&&◌, ◌||◌, Bool, true, false, List, [], ◌∷◌, ◌++◌, length, length-append, map, Option, Some, None, Ok, Err, arith, ap, sym, ◌∙◌, refl, subst, if◌then◌else◌, inl, inr}
+use Rattle.std.proofs.Common.{◌≡◌, ℕ, ◌+◌, ◌-◌, ◌<◌, ◌&&◌, ◌||◌, Bool, true, false, List, [], ◌∷◌, ◌++◌, length}
+use Rattle.std.proofs.Common.{length-append, map, Option, Some, None, Ok, Err, arith, ap, sym, ◌∙◌, refl, subst}
+use Rattle.std.proofs.Common.{if◌then◌else◌, inl, inr}
 use Rattle.std.specs.Prelude.{◌⊎◌}
 use Rattle.std.specs.Char.{is_ascii_digit}
 use Rattle.std.specs.List.{list_all}
@@ -8,7 +10,8 @@ use Rattle.cga_word.specs.Name.{begins_name, continues_name}
 use Rattle.cga_fraction.specs.Rat.{Rat}
 use Rattle.cga_fraction.specs.Decimals.{is_point, IsLiteral}
 use Rattle.cga_fraction.specs.Texts.{literal_text_of}
-use Rattle.cga_fraction.proofs.Literals.{literal_is_shortest}
+use Rattle.cga_fraction.proofs.Door.{literal_is_shortest}
+use Rattle.cga_lexer.proofs.Door.{lex_head, lex_skip}
 use Rattle.cga_lexer.specs.Bytes.{begins}
 use Rattle.cga_lexer.specs.Front.{front}
 use Rattle.cga_lexer.specs.Line.{Lexed, lex, from_front, behind, tokens_of}
@@ -17,9 +20,10 @@ use Rattle.cga_lexer.specs.declared.sign.Sign.TheVariants as s
 use Rattle.cga_lexer.specs.declared.token.Token.{Token}
 use Rattle.cga_lexer.specs.declared.token.TokenKind.{TokenKind}
 use Rattle.cga_lexer.specs.declared.front.Front.TheVariants.{Token as Found}
-use Rattle.cga_lexer.proofs.Lexing.{lex_skip, lex_head}
 use Rattle.cga_syntax.specs.Lexemes.{lexeme_of, keyword_bytes}
-use Rattle.cga_syntax.specs.Printing.{sign_bytes, lexeme_bytes, opens_up, ends_up, is_left, is_right, is_word, is_prefix, is_minus, is_colon, is_label, begins_primary, is_none_after, is_none_before, closes_up, space_before, text_after, text_of}
+use Rattle.cga_syntax.specs.Printing.{sign_bytes, lexeme_bytes, opens_up, ends_up, is_left, is_right, is_word}
+use Rattle.cga_syntax.specs.Printing.{is_prefix, is_minus, is_colon, is_label, begins_primary, is_none_after}
+use Rattle.cga_syntax.specs.Printing.{is_none_before, closes_up, space_before, text_after, text_of}
 use Rattle.cga_syntax.specs.Reading.{IsToken, AreTokens, AreRead, seen_of}
 use Rattle.cga_syntax.specs.declared.keyword.Keyword.{Keyword}
 use Rattle.cga_syntax.specs.declared.keyword.Keyword.TheVariants as k
@@ -28,6 +32,7 @@ use Rattle.cga_syntax.specs.declared.lexeme.Lexeme.TheVariants as lexeme
 use Rattle.cga_syntax.specs.declared.print.mark.Mark.{Mark}
 use Rattle.cga_syntax.proofs.Fronts.{Shape, shape, dotted, drop_over, Named, named_of}
 use Rattle.cga_syntax.proofs.Signs.{second, Ends, token_front}
+use Rattle.std.proofs.lemmas.Bool.{and_parts as both, or_cases as either}
 
 -- ---- what ends a token
 
@@ -82,7 +87,8 @@ colon_closes (lexeme.Text name) rest h = absurd (let q : false ≡ true = h in c
 colon_closes (lexeme.Sign sign) rest h = colon_sign sign rest h
 
 -- a ( and a . end a word
-left_sign : (sign : Sign) (rest : List ℕ) → opens_up sign ≡ true → begins continues_name (sign_bytes sign ++ rest) ≡ false
+left_sign : (sign : Sign) (rest : List ℕ) → opens_up sign ≡ true
+    → begins continues_name (sign_bytes sign ++ rest) ≡ false
 left_sign s.LeftRound rest h = refl
 left_sign s.Dot rest h = refl
 left_sign _ rest h = absurd (let q : false ≡ true = h in cc)
@@ -110,11 +116,8 @@ digit_apart b h = grind (arith, nat_tests)
 name_apart : (b : ℕ) → begins_name b ≡ true → second b ≡ false
 name_apart b h = grind (arith, nat_tests)
 
-both : (a b : Bool) → (a && b) ≡ true → (a ≡ true) × (b ≡ true)
-both true b h = (refl, h)
-both false b h = absurd (let q : false ≡ true = h in cc)
-
-whole_apart : (whole more rest : List ℕ) → 0 < length whole → list_all is_ascii_digit whole ≡ true → begins second ((whole ++ more) ++ rest) ≡ false
+whole_apart : (whole more rest : List ℕ) → 0 < length whole → list_all is_ascii_digit whole ≡ true
+    → begins second ((whole ++ more) ++ rest) ≡ false
 whole_apart [] more rest h d = absurd (omega arith)
 whole_apart (b ∷ bs) more rest h d = digit_apart b (both (is_ascii_digit b) (list_all is_ascii_digit bs) d).0
 
@@ -144,11 +147,13 @@ keyword_apart k.And rest = refl
 keyword_apart k.Or rest = refl
 keyword_apart k.Not rest = refl
 
-primary_sign : (sign : Sign) (rest : List ℕ) → begins_primary (lexeme.Sign sign) ≡ true → begins second (sign_bytes sign ++ rest) ≡ false
+primary_sign : (sign : Sign) (rest : List ℕ) → begins_primary (lexeme.Sign sign) ≡ true
+    → begins second (sign_bytes sign ++ rest) ≡ false
 primary_sign s.LeftRound rest h = refl
 primary_sign _ rest h = absurd (let q : false ≡ true = h in cc)
 
-pub primary_apart : (l : Lexeme) (rest : List ℕ) → IsToken l → begins_primary l ≡ true → begins second (lexeme_bytes l ++ rest) ≡ false
+pub primary_apart : (l : Lexeme) (rest : List ℕ) → IsToken l → begins_primary l ≡ true
+    → begins second (lexeme_bytes l ++ rest) ≡ false
 primary_apart (lexeme.Number value) rest t h = number_apart (literal_text_of value) rest (shape (literal_text_of value) value (literal_is_shortest value t).reads)
 primary_apart (lexeme.Relative value) rest t h = absurd (let q : false ≡ true = h in cc)
 primary_apart (lexeme.Keyword word) rest t h = keyword_apart word rest
@@ -165,10 +170,6 @@ minus_ends (lexeme.Text name) rest h e = tt
 minus_ends (lexeme.Sign sign) rest h e = inr e
 
 -- ---- neighbours
-
-either : (a b : Bool) → (a || b) ≡ true → (a ≡ true) ⊎ (b ≡ true)
-either true b h = inl refl
-either false b h = inr h
 
 module _ (a b : Mark) (rest : List ℕ) (t : IsToken b.lexeme) where
   abbrev over : List ℕ
@@ -189,7 +190,9 @@ module _ (a b : Mark) (rest : List ℕ) (t : IsToken b.lexeme) where
   by_right : is_right b.lexeme ≡ true → Ends a.lexeme over
   by_right h = closed_ends a.lexeme over (right_closes b.lexeme rest h)
 
-  one_of : (p q u v w : Bool) → (p ≡ true → Ends a.lexeme over) → (q ≡ true → Ends a.lexeme over) → (u ≡ true → Ends a.lexeme over) → (v ≡ true → Ends a.lexeme over) → (w ≡ true → Ends a.lexeme over) → ((((p || q) || u) || v) || w) ≡ true → Ends a.lexeme over
+  one_of : (p q u v w : Bool) → (p ≡ true → Ends a.lexeme over) → (q ≡ true → Ends a.lexeme over)
+      → (u ≡ true → Ends a.lexeme over) → (v ≡ true → Ends a.lexeme over) → (w ≡ true → Ends a.lexeme over)
+      → ((((p || q) || u) || v) || w) ≡ true → Ends a.lexeme over
   one_of true q u v w f g i j l h = f refl
   one_of false true u v w f g i j l h = g refl
   one_of false false true v w f g i j l h = i refl
@@ -210,7 +213,8 @@ followed_by m (n ∷ ns) t = spaced m n (text_after (Some n) ns) t.0 (closes_up 
 
 -- ---- the text is lexed
 
-some_bytes : (bytes rest : List ℕ) (place : ℕ) (kind : TokenKind) → front (bytes ++ rest) ≡ Found kind (length bytes) → 0 < length bytes →
+some_bytes : (bytes rest : List ℕ) (place : ℕ) (kind : TokenKind) → front (bytes ++ rest) ≡ Found kind (length bytes)
+    → 0 < length bytes →
     lex 0 place (bytes ++ rest) ≡ behind (record { kind = kind; from = place; to = place + length bytes }) (lex 0 (place + length bytes) rest)
 some_bytes [] rest place kind e h = absurd (omega arith)
 some_bytes (b ∷ bs) rest place kind e h =
@@ -226,7 +230,8 @@ some_bytes (b ∷ bs) rest place kind e h =
 taken : (bytes rest : List ℕ) (kind : TokenKind) → 0 < length bytes → Unit {0}
 taken bytes rest kind h = tt
 
-front_first : (t : Token) (o : Lexed) (l : Lexeme) (ls : List Lexeme) → lexeme_of t.kind ≡ l → AreRead o ls → AreRead (behind t o) (l ∷ ls)
+front_first : (t : Token) (o : Lexed) (l : Lexeme) (ls : List Lexeme) → lexeme_of t.kind ≡ l → AreRead o ls
+    → AreRead (behind t o) (l ∷ ls)
 front_first t (Ok ts) l ls e h = ap (λ z. z ∷ seen_of ts) e ∙ ap (λ z. l ∷ z) h
 front_first t (Err f) l ls e h = absurd h
 
@@ -295,26 +300,31 @@ unfolding lex
 lex_nil place = refl
 
 -- a token's bytes and what is printed behind it
-pub token_read : (l : Lexeme) (rest : List ℕ) (place : ℕ) (ls : List Lexeme) → IsToken l → Ends l rest → ((p : ℕ) → AreRead (lex 0 p rest) ls) → AreRead (lex 0 place (lexeme_bytes l ++ rest)) (l ∷ ls)
+pub token_read : (l : Lexeme) (rest : List ℕ) (place : ℕ) (ls : List Lexeme) → IsToken l → Ends l rest
+    → ((p : ℕ) → AreRead (lex 0 p rest) ls) → AreRead (lex 0 place (lexeme_bytes l ++ rest)) (l ∷ ls)
 token_read l rest place ls t e h =
     let f = token_front l rest t e in
     let at : Token = record { kind = f.kind; from = place; to = place + length (lexeme_bytes l) } in
     subst (λ o. AreRead o (l ∷ ls)) (sym (some_bytes (lexeme_bytes l) rest place f.kind f.there (bytes_some l t)))
     (front_first at (lex 0 (place + length (lexeme_bytes l)) rest) l ls f.is (h (place + length (lexeme_bytes l))))
 
-pub space_read : (c : Bool) (text : List ℕ) (place : ℕ) (ls : List Lexeme) → ((p : ℕ) → AreRead (lex 0 p text) ls) → AreRead (lex 0 place ((if c then [] else 32 ∷ []) ++ text)) ls
+pub space_read : (c : Bool) (text : List ℕ) (place : ℕ) (ls : List Lexeme) → ((p : ℕ) → AreRead (lex 0 p text) ls)
+    → AreRead (lex 0 place ((if c then [] else 32 ∷ []) ++ text)) ls
 space_read true text place ls h = h place
 space_read false text place ls h = subst (λ o. AreRead o ls) (sym (lex_blank place text)) (h (place + 1))
 
-before_read : (last : Option Mark) (m : Mark) (text : List ℕ) (place : ℕ) (ls : List Lexeme) → ((p : ℕ) → AreRead (lex 0 p text) ls) → AreRead (lex 0 place (space_before last m ++ text)) ls
+before_read : (last : Option Mark) (m : Mark) (text : List ℕ) (place : ℕ) (ls : List Lexeme)
+    → ((p : ℕ) → AreRead (lex 0 p text) ls) → AreRead (lex 0 place (space_before last m ++ text)) ls
 before_read None m text place ls h = h place
 before_read (Some b) m text place ls h = space_read (closes_up b m) text place ls h
 
-marks_read : (last : Option Mark) (ms : List Mark) (place : ℕ) → AreTokens (map (λ m. m.lexeme) ms) → AreRead (lex 0 place (text_after last ms)) (map (λ m. m.lexeme) ms)
+marks_read : (last : Option Mark) (ms : List Mark) (place : ℕ) → AreTokens (map (λ m. m.lexeme) ms)
+    → AreRead (lex 0 place (text_after last ms)) (map (λ m. m.lexeme) ms)
 marks_read last [] place t = subst (λ o. AreRead o []) (sym (lex_nil place)) refl
 marks_read last (m ∷ ms) place t =
     before_read last m (lexeme_bytes m.lexeme ++ text_after (Some m) ms) place (m.lexeme ∷ map (λ n. n.lexeme) ms)
     (λ p. token_read m.lexeme (text_after (Some m) ms) p (map (λ n. n.lexeme) ms) t.0 (followed_by m ms t.1) (λ q. marks_read (Some m) ms q t.1))
 
-pub text_read : (ms : List Mark) → AreTokens (map (λ m. m.lexeme) ms) → AreRead (tokens_of (text_of ms)) (map (λ m. m.lexeme) ms)
+pub text_read : (ms : List Mark) → AreTokens (map (λ m. m.lexeme) ms)
+    → AreRead (tokens_of (text_of ms)) (map (λ m. m.lexeme) ms)
 text_read ms t = marks_read None ms 1 t

@@ -13,10 +13,7 @@ use Rattle.cga_fraction.specs.Rat.{Rat, den, of_int}
 use Rattle.cga_fraction.specs.Arithmetic.{reduced, times, divided, negated}
 use Rattle.cga_fraction.specs.Decimals.{IsLiteral}
 use Rattle.cga_fraction.specs.Texts.{pointed}
-use Rattle.cga_fraction.proofs.Gcds.{gcd-IsGcd}
-use Rattle.cga_fraction.proofs.Lowest.{lowest, reduced-parts, quotient_positive}
-use Rattle.cga_fraction.proofs.Literals.{reads}
-use Rattle.cga_fraction.proofs.Spelling.{own, reads-pointed}
+use Rattle.cga_fraction.proofs.Door.{gcd-IsGcd, lowest, own, quotient_positive, reads, reads-pointed, reduced-parts}
 use Rattle.cga_syntax.specs.Pieces.{IsMagnitude, IsValue}
 use Rattle.cga_syntax.specs.Printing.{magnitude, exactly}
 use Rattle.cga_syntax.specs.Reading.{AreTokens}
@@ -92,13 +89,15 @@ magnitude_tokens : (n above : ℕ) → n < 10 ^ 18 → above + 1 < 10 ^ 18 → A
 magnitude_tokens n zero f g = (whole_literal n f, tt)
 magnitude_tokens n (suc above) f g = (whole_literal n f, (tt, (whole_literal (suc above + 1) g, tt)))
 
-quotient_is : (n d : ℕ) → 0 < d → gcd n d ≡ 1 → divided (of_int (pos n)) (of_int (pos d)) ≡ record { num = pos n; above = d - 1 }
+quotient_is : (n d : ℕ) → 0 < d → gcd n d ≡ 1
+    → divided (of_int (pos n)) (of_int (pos d)) ≡ record { num = pos n; above = d - 1 }
 quotient_is n d h e =
     let a : n / 1 ≡ n = omega arith in
     let b : d / 1 ≡ d = omega arith in
     divided_is n d h ∙ reduced-parts (pos n) d 1 (sym e) ∙ ap (λ z. record { num = pos z; above = d / 1 - 1 }) a ∙ ap (λ z. record { num = pos n; above = z - 1 }) b
 
-magnitude_written : (n above : ℕ) → gcd n (above + 1) ≡ 1 → IsMagnitude (record { num = pos n; above = above }) (lexemes (magnitude n above))
+magnitude_written : (n above : ℕ) → gcd n (above + 1) ≡ 1
+    → IsMagnitude (record { num = pos n; above = above }) (lexemes (magnitude n above))
 magnitude_written n zero e = inl refl
 magnitude_written n (suc above) e =
     let z : suc above ≡ suc above + 1 - 1 = omega arith in
@@ -109,10 +108,12 @@ pub record Exactly (v : Rat) : Type 0 where
   pub tokens : AreTokens (lexemes (exactly v.num v.above))
   pub written : IsValue v (lexemes (exactly v.num v.above))
 
-positive : (n above : ℕ) → n < 10 ^ 18 → above + 1 < 10 ^ 18 → gcd n (above + 1) ≡ 1 → Exactly (record { num = pos n; above = above })
+positive : (n above : ℕ) → n < 10 ^ 18 → above + 1 < 10 ^ 18 → gcd n (above + 1) ≡ 1
+    → Exactly (record { num = pos n; above = above })
 positive n above f g e = record { tokens = magnitude_tokens n above f g; written = inl (magnitude_written n above e) }
 
-negative : (n above : ℕ) → n < 10 ^ 18 → above + 1 < 10 ^ 18 → gcd n (above + 1) ≡ 1 → Exactly (record { num = neg_ℤ (pos n); above = above })
+negative : (n above : ℕ) → n < 10 ^ 18 → above + 1 < 10 ^ 18 → gcd n (above + 1) ≡ 1
+    → Exactly (record { num = neg_ℤ (pos n); above = above })
 negative zero above f g e = positive zero above f g e
 negative (suc n) above f g e = record {
   tokens = (tt, magnitude_tokens (suc n) above f g);

@@ -1,5 +1,7 @@
 -- What stands at the front of a text that begins with the bytes of a number, a word or a quoted name.
-use Rattle.std.proofs.Common.{◌≡◌, ℕ, suc, ◌+◌, ◌<◌, ◌≤◌, ◌==◌, ◌&&◌, Bool, true, false, not, nat_lt, nat_le, List, [], ◌∷◌, ◌++◌, length, take, drop, get_or, length-append, append_assoc, Option, Some, None, Result, Ok, Err, arith, ap, sym, ◌∙◌, refl, subst, if◌then◌else◌}
+use Rattle.std.proofs.Common.{◌≡◌, ℕ, suc, ◌+◌, ◌<◌, ◌≤◌, ◌==◌, ◌&&◌, Bool, true, false, not, nat_lt, nat_le, List}
+use Rattle.std.proofs.Common.{[], ◌∷◌, ◌++◌, length, take, drop, get_or, length-append, append_assoc, Option, Some}
+use Rattle.std.proofs.Common.{None, Result, Ok, Err, arith, ap, sym, ◌∙◌, refl, subst, if◌then◌else◌}
 use Rattle.std.specs.Prelude.{position}
 use Rattle.std.specs.List.{list_all}
 use Rattle.std.specs.Char.{is_ascii_digit}
@@ -16,14 +18,8 @@ use Rattle.cga_lexer.specs.Bytes.{run, begins}
 use Rattle.cga_lexer.specs.Front.{front, number, word, quoted, closed, enclosed, followed, valued, decimals, with_point, number_len, digit_count}
 use Rattle.cga_lexer.specs.declared.token.TokenKind.TheVariants as kind
 use Rattle.cga_lexer.specs.declared.front.Front.TheVariants.{Token, BadNumber, LongName, BadByte}
-
-nil_right : {A : Type 0} (xs : List A) → xs ++ [] ≡ xs
-nil_right [] = refl
-nil_right (x ∷ xs) = ap (λ z. x ∷ z) (nil_right xs)
-
-both : (a b : Bool) → (a && b) ≡ true → (a ≡ true) × (b ≡ true)
-both true b h = (refl, h)
-both false b h = absurd (let q : false ≡ true = h in cc)
+use Rattle.std.proofs.lemmas.Bool.{and_parts as both}
+use Rattle.std.proofs.Common.{append-nil as nil_right}
 
 -- ---- runs
 
@@ -32,7 +28,8 @@ unfolding run
 run_stops test [] e = refl
 run_stops test (b ∷ bs) e = ap (λ t. if t then suc (run test bs) else 0) e
 
-pub run_over : (test : ℕ → Bool) (xs rest : List ℕ) → list_all test xs ≡ true → begins test rest ≡ false → run test (xs ++ rest) ≡ length xs
+pub run_over : (test : ℕ → Bool) (xs rest : List ℕ) → list_all test xs ≡ true → begins test rest ≡ false
+    → run test (xs ++ rest) ≡ length xs
 unfolding run
 run_over test [] rest a e = run_stops test rest e
 run_over test (x ∷ xs) rest a e =
@@ -59,7 +56,8 @@ pub record Shape (text : List ℕ) : Type 0 where
   pub few : length whole + length places ≤ 18
   pub split : text ≡ whole ++ dotted places
 
-if_ok : (b : Bool) (x : Result Rat DecimalFault) (e : DecimalFault) (a : Rat) → (if b then x else Err e) ≡ Ok a → (b ≡ true) × (x ≡ Ok a)
+if_ok : (b : Bool) (x : Result Rat DecimalFault) (e : DecimalFault) (a : Rat) → (if b then x else Err e) ≡ Ok a
+    → (b ≡ true) × (x ≡ Ok a)
 if_ok true x e a h = (refl, h)
 if_ok false x e a h = absurd (cc)
 
@@ -67,7 +65,8 @@ numeral_parts : (ds : List ℕ) → is_numeral ds ≡ true → (0 < length ds) �
 numeral_parts ds h =
     let b = both (not (length ds == 0)) (list_all is_ascii_digit ds) h in (grind (arith, eqb_tells (length ds) 0), b.1)
 
-shaped : (text whole places : List ℕ) (a : Rat) → list_all is_ascii_digit places ≡ true → text ≡ whole ++ dotted places → read_of whole places ≡ Ok a → Shape text
+shaped : (text whole places : List ℕ) (a : Rat) → list_all is_ascii_digit places ≡ true → text ≡ whole ++ dotted places
+    → read_of whole places ≡ Ok a → Shape text
 shaped text whole places a m e h =
     let s = if_ok (is_numeral whole) (limited whole places) NotNumber a h in
     let n = numeral_parts whole s.0 in
@@ -97,7 +96,8 @@ shape text a h = shape_at text (position is_point text) a refl h
 
 -- ---- numbers
 
-ends_digits : (places rest : List ℕ) → begins is_ascii_digit rest ≡ false → begins is_ascii_digit (dotted places ++ rest) ≡ false
+ends_digits : (places rest : List ℕ) → begins is_ascii_digit rest ≡ false
+    → begins is_ascii_digit (dotted places ++ rest) ≡ false
 ends_digits [] rest e = e
 ends_digits (p ∷ ps) rest e = refl
 
@@ -105,7 +105,8 @@ no_decimals : (rest : List ℕ) → begins is_point rest ≡ false → decimals 
 no_decimals [] e = refl
 no_decimals (b ∷ bs) e = ap (λ t. if t then run is_ascii_digit bs else 0) e
 
-decimals_over : (places rest : List ℕ) → list_all is_ascii_digit places ≡ true → begins is_ascii_digit rest ≡ false → begins is_point rest ≡ false → decimals (dotted places ++ rest) ≡ length places
+decimals_over : (places rest : List ℕ) → list_all is_ascii_digit places ≡ true → begins is_ascii_digit rest ≡ false
+    → begins is_point rest ≡ false → decimals (dotted places ++ rest) ≡ length places
 decimals_over [] rest m d e = no_decimals rest e
 decimals_over (p ∷ ps) rest m d e = run_over is_ascii_digit (p ∷ ps) rest m d
 
@@ -162,7 +163,8 @@ begins_digit_no : (rest : List ℕ) → begins continues_name rest ≡ false →
 begins_digit_no [] h = refl
 begins_digit_no (b ∷ bs) h = digit_no b h
 
-number_ends : (a : Rat) (len : ℕ) (rest : List ℕ) → begins continues_name rest ≡ false → followed a len rest ≡ Token (kind.Number a) len
+number_ends : (a : Rat) (len : ℕ) (rest : List ℕ) → begins continues_name rest ≡ false
+    → followed a len rest ≡ Token (kind.Number a) len
 number_ends a len [] h = refl
 number_ends a len (b ∷ bs) h =
     ap (λ t. if t && not (begins continues_name bs) then Token (kind.Relative a) (len + 1) else if begins_name b then BadNumber else Token (kind.Number a) len) (mark_no b h)
@@ -177,7 +179,8 @@ front_digit b bs h =
     let q : (b == 34) ≡ false = grind (arith, nat_tests) in
     rw (c, s, t, q, h) refl
 
-front_whole : (text whole more rest : List ℕ) → 0 < length whole → list_all is_ascii_digit whole ≡ true → text ≡ whole ++ more → front (text ++ rest) ≡ number (text ++ rest)
+front_whole : (text whole more rest : List ℕ) → 0 < length whole → list_all is_ascii_digit whole ≡ true
+    → text ≡ whole ++ more → front (text ++ rest) ≡ number (text ++ rest)
 front_whole text [] more rest s d e = absurd (omega arith)
 front_whole text (b ∷ bs) more rest s d e =
     subst (λ z. front (z ++ rest) ≡ number (z ++ rest)) (sym e) (front_digit b ((bs ++ more) ++ rest) (both (is_ascii_digit b) (list_all is_ascii_digit bs) d).0)
@@ -186,11 +189,13 @@ front_shaped : (text rest : List ℕ) → Shape text → front (text ++ rest) �
 front_shaped text rest s = front_whole text s.whole (dotted s.places) rest s.some s.digits s.split
 
 -- a number's text, and what follows it
-pub number_front : (text rest : List ℕ) (a : Rat) → decimal_of text ≡ Ok a → begins continues_name rest ≡ false → begins is_point rest ≡ false → front (text ++ rest) ≡ Token (kind.Number a) (length text)
+pub number_front : (text rest : List ℕ) (a : Rat) → decimal_of text ≡ Ok a → begins continues_name rest ≡ false
+    → begins is_point rest ≡ false → front (text ++ rest) ≡ Token (kind.Number a) (length text)
 number_front text rest a h n p =
     front_shaped text rest (shape text a h) ∙ number_over text rest a h (begins_digit_no rest n) p ∙ number_ends a (length text) rest n
 
-pub relative_front : (text rest : List ℕ) (a : Rat) → decimal_of text ≡ Ok a → begins continues_name rest ≡ false → front (text ++ 114 ∷ rest) ≡ Token (kind.Relative a) (length text + 1)
+pub relative_front : (text rest : List ℕ) (a : Rat) → decimal_of text ≡ Ok a → begins continues_name rest ≡ false
+    → front (text ++ 114 ∷ rest) ≡ Token (kind.Relative a) (length text + 1)
 relative_front text rest a h n =
     front_shaped text (114 ∷ rest) (shape text a h) ∙ number_over text (114 ∷ rest) a h refl refl
     ∙ ap (λ t. if not t then Token (kind.Relative a) (length text + 1) else BadNumber) n
@@ -228,7 +233,8 @@ name_front_by : (name rest : List ℕ) → Named name → front (name ++ rest) �
 name_front_by [] rest n = absurd (let q : false ≡ true = n.begun in cc)
 name_front_by (b ∷ bs) rest n = front_name b (bs ++ rest) n.begun
 
-word_over : (name rest : List ℕ) → Named name → begins continues_name rest ≡ false → word (name ++ rest) ≡ Token (kind.Word name) (length name)
+word_over : (name rest : List ℕ) → Named name → begins continues_name rest ≡ false
+    → word (name ++ rest) ≡ Token (kind.Word name) (length name)
 unfolding word
 word_over name rest n e =
     let r = run_over continues_name name rest n.going e in
@@ -238,7 +244,8 @@ word_over name rest n e =
     ∙ ap (λ t. if t then LongName 0 else Token (kind.Word (take (length name) (name ++ rest))) (length name)) s
     ∙ ap (λ z. Token (kind.Word z) (length name)) (take-append_seam name rest)
 
-pub word_front : (name rest : List ℕ) → is_name name ≡ true → begins continues_name rest ≡ false → front (name ++ rest) ≡ Token (kind.Word name) (length name)
+pub word_front : (name rest : List ℕ) → is_name name ≡ true → begins continues_name rest ≡ false
+    → front (name ++ rest) ≡ Token (kind.Word name) (length name)
 word_front name rest h e = name_front_by name rest (named_of name h) ∙ word_over name rest (named_of name h) e
 
 -- ---- quoted names
@@ -262,6 +269,7 @@ quoted_over name rest n =
     ∙ ap (λ t. if t then closed name else BadByte (length name + 1)) u
     ∙ ap (λ t. if t then LongName 1 else Token (kind.Text name) (length name + 2)) s
 
-pub text_front : (name rest : List ℕ) → is_name name ≡ true → front (34 ∷ (name ++ 34 ∷ rest)) ≡ Token (kind.Text name) (length name + 2)
+pub text_front : (name rest : List ℕ) → is_name name ≡ true
+    → front (34 ∷ (name ++ 34 ∷ rest)) ≡ Token (kind.Text name) (length name + 2)
 unfolding front
 text_front name rest h = quoted_over name rest (named_of name h)

@@ -31,7 +31,8 @@ unfolding item_pieces body_pieces
 repeat_out a length body = ap item_pieces (sym (rolls-Repeat a length body)) ∙ fold-roll-Item Pieces Pieces item_step body_step (layer.Repeat a length body)
 
 -- the tokens of a Subdiv, first those before its bodies
-pub subdiv_on : (i : Item) (ms middle : List Mark) (a : Axis) (xs sizes : List Size) (ys bodies : List Body) → i ≡ Subdiv a sizes bodies → xs ≡ sizes → ys ≡ bodies →
+pub subdiv_on : (i : Item) (ms middle : List Mark) (a : Axis) (xs sizes : List Size) (ys bodies : List Body)
+    → i ≡ Subdiv a sizes bodies → xs ≡ sizes → ys ≡ bodies →
     middle ≡ printed_on ms (subdivided a (map size_pieces xs)) → printed_on middle (bodies_of (map body_pieces ys)) ≡ printed_on ms (item_pieces i)
 subdiv_on i ms middle a xs sizes ys bodies is e f h =
     let start : List Mark = printed_on ms (keyword k.Subdiv ∷ sign s.LeftRound ∷ text (axis_text a) ∷ []) in

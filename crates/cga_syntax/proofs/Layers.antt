@@ -11,26 +11,35 @@ use Rattle.cga_rule.specs.declared.expr.Primary.TheOpen as layer
 use Rattle.cga_syntax.specs.declared.print.mark.Mark.{Mark}
 use Rattle.cga_syntax.specs.Printing.{printed_on}
 use Rattle.cga_syntax.proofs.Printed.{on_join}
-use Rattle.cga_syntax.specs.Pieces.{Pieces, sign, concat, drawn, whole, primary_pieces, expr_pieces, term_pieces, added_pieces, scaled_pieces, primary_step, added_step, expr_step, factor_pieces, factor_step, scaled_step, term_step}
+use Rattle.cga_syntax.specs.Pieces.{Pieces, sign, concat, drawn, whole, primary_pieces, expr_pieces, term_pieces}
+use Rattle.cga_syntax.specs.Pieces.{added_pieces, scaled_pieces, primary_step, added_step, expr_step, factor_pieces}
+use Rattle.cga_syntax.specs.Pieces.{factor_step, scaled_step, term_step}
 
-pub expr_out : (e : Expr) → expr_pieces e ≡ term_pieces (out-Expr e).first ++ concat (map added_pieces (out-Expr e).rest)
+pub expr_out : (e : Expr)
+    → expr_pieces e ≡ term_pieces (out-Expr e).first ++ concat (map added_pieces (out-Expr e).rest)
 unfolding expr_pieces term_pieces added_pieces
 expr_out e = fold_out-Expr Pieces Pieces Pieces Pieces Pieces Pieces primary_step added_step expr_step factor_step scaled_step term_step e
 
-pub term_out : (t : Term) → term_pieces t ≡ factor_pieces (out-Term t).first ++ concat (map scaled_pieces (out-Term t).rest)
+pub term_out : (t : Term)
+    → term_pieces t ≡ factor_pieces (out-Term t).first ++ concat (map scaled_pieces (out-Term t).rest)
 unfolding term_pieces factor_pieces scaled_pieces
 term_out t = fold_out-Term Pieces Pieces Pieces Pieces Pieces Pieces primary_step added_step expr_step factor_step scaled_step term_step t
 
-pub added_out : (a : Added) → added_pieces a ≡ sign (if (out-Added a).minus then s.Minus else s.Plus) ∷ term_pieces (out-Added a).term
+pub added_out : (a : Added)
+    → added_pieces a ≡ sign (if (out-Added a).minus then s.Minus else s.Plus) ∷ term_pieces (out-Added a).term
 unfolding added_pieces term_pieces
 added_out a = fold_out-Added Pieces Pieces Pieces Pieces Pieces Pieces primary_step added_step expr_step factor_step scaled_step term_step a
 
-pub rand_out : (j : ℕ) (low high : Expr) (steps : ℕ) → primary_pieces (Rand j low high steps) ≡ drawn j ∷ sign s.LeftRound ∷ (expr_pieces low ++ (sign s.Comma ∷ (expr_pieces high ++ (sign s.Comma ∷ whole 1 1000000 steps ∷ sign s.RightRound ∷ []))))
+pub rand_out : (j : ℕ) (low high : Expr) (steps : ℕ)
+    → primary_pieces (Rand j low high steps) ≡ drawn j ∷ sign s.LeftRound ∷
+      (expr_pieces low ++ (sign s.Comma ∷
+      (expr_pieces high ++ (sign s.Comma ∷ whole 1 1000000 steps ∷ sign s.RightRound ∷ []))))
 unfolding primary_pieces expr_pieces
 rand_out j low high steps = ap primary_pieces (sym (rolls-Rand j low high steps)) ∙ fold-roll-Primary Pieces Pieces Pieces Pieces Pieces Pieces primary_step added_step expr_step factor_step scaled_step term_step (layer.Rand j low high steps)
 
 -- the tokens of a rand, one part after the other
-pub rand_on : (p : Primary) (ms m2 m3 m4 : List Mark) (j : ℕ) (x y low high : Expr) (steps : ℕ) → p ≡ Rand j low high steps → x ≡ low → y ≡ high →
+pub rand_on : (p : Primary) (ms m2 m3 m4 : List Mark) (j : ℕ) (x y low high : Expr) (steps : ℕ)
+    → p ≡ Rand j low high steps → x ≡ low → y ≡ high →
     m2 ≡ printed_on ms (drawn j ∷ sign s.LeftRound ∷ []) →
     m3 ≡ printed_on (printed_on m2 (expr_pieces x)) (sign s.Comma ∷ []) →
     m4 ≡ printed_on (printed_on m3 (expr_pieces y)) (sign s.Comma ∷ []) →

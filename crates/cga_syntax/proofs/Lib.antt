@@ -1,16 +1,17 @@
-pub mod Printed
-pub mod Wholes
-pub mod Layers
-pub mod LineTexts
-pub mod Visible
-pub mod CondLayers
-pub mod ItemLayers
-pub mod Fronts
-pub mod Signs
-pub mod Back
-pub mod Sections
-pub mod Tokens
-pub mod Exact
-pub mod Again
-pub mod Spelled
-pub mod Keywords
+mod Printed
+mod Wholes
+mod Layers
+mod LineTexts
+mod Visible
+mod CondLayers
+mod ItemLayers
+mod Fronts
+mod Signs
+mod Back
+mod Sections
+mod Tokens
+mod Exact
+mod Again
+mod Spelled
+mod Keywords
+pub mod Door

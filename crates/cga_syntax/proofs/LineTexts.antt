@@ -1,5 +1,7 @@
 -- The lines of attributes and priorities are lexed as their tokens.
-use Rattle.std.proofs.Common.{◌≡◌, ℕ, zero, suc, ◌+◌, ◌*◌, ◌/◌, ◌<◌, ◌≤◌, ◌^◌, ◌==◌, false, List, [], ◌∷◌, ◌++◌, length, length-append, ℤ, pos, negsuc, arith, ap, sym, ◌∙◌, refl, subst, inr, codes, decimal, if◌then◌else◌}
+use Rattle.std.proofs.Common.{◌≡◌, ℕ, zero, suc, ◌+◌, ◌*◌, ◌/◌, ◌<◌, ◌≤◌, ◌^◌, ◌==◌, false, List, [], ◌∷◌, ◌++◌}
+use Rattle.std.proofs.Common.{length, length-append, ℤ, pos, negsuc, arith, ap, sym, ◌∙◌, refl, subst, inr, codes}
+use Rattle.std.proofs.Common.{decimal, if◌then◌else◌}
 use Rattle.std.specs.Fmt.{signed_decimal}
 use Rattle.std.proofs.lemmas.Bool.Decides.{nat_tests}
 use Rattle.std.proofs.lemmas.Fmt.{length-decimal-le}
@@ -20,10 +22,7 @@ use Rattle.cga_syntax.proofs.Back.{primary_apart, lex_nil, token_read, space_rea
 use Rattle.cga_syntax.proofs.Exact.{whole_literal, whole_small}
 use Rattle.cga_syntax.proofs.Fronts.{named_of}
 use Rattle.cga_syntax.proofs.Signs.{second, Ends}
-
-nil_right : {A : Type 0} (xs : List A) → xs ++ [] ≡ xs
-nil_right [] = refl
-nil_right (x ∷ xs) = ap (λ z. x ∷ z) (nil_right xs)
+use Rattle.std.proofs.Common.{append-nil as nil_right}
 
 -- ---- whole numbers
 
@@ -36,7 +35,8 @@ whole_text n =
 nothing_read : (place : ℕ) → AreRead (lex 0 place []) []
 nothing_read place = subst (λ o. AreRead o []) (sym (lex_nil place)) refl
 
-whole_read : (n : ℕ) (rest : List ℕ) (place : ℕ) (ls : List Lexeme) → IsToken (number n) → Ends (number n) rest → ((p : ℕ) → AreRead (lex 0 p rest) ls) → AreRead (lex 0 place (decimal n ++ rest)) (number n ∷ ls)
+whole_read : (n : ℕ) (rest : List ℕ) (place : ℕ) (ls : List Lexeme) → IsToken (number n) → Ends (number n) rest
+    → ((p : ℕ) → AreRead (lex 0 p rest) ls) → AreRead (lex 0 place (decimal n ++ rest)) (number n ∷ ls)
 whole_read n rest place ls t e more = subst (λ z. AreRead (lex 0 place (z ++ rest)) (number n ∷ ls)) (whole_text n) (token_read (number n) rest place ls t e more)
 
 whole_last : (n place : ℕ) → IsToken (number n) → AreRead (lex 0 place (decimal n)) (number n ∷ [])
@@ -56,7 +56,8 @@ below_more above =
     let e : (suc above == 0) ≡ false = grind (arith, nat_tests) in
     ap (λ t. if t then [] else (47 ∷ decimal (suc above + 1))) e
 
-magnitude_read : (n above place : ℕ) → AreTokens (lexemes (magnitude n above)) → AreRead (lex 0 place (decimal n ++ below above)) (lexemes (magnitude n above))
+magnitude_read : (n above place : ℕ) → AreTokens (lexemes (magnitude n above))
+    → AreRead (lex 0 place (decimal n ++ below above)) (lexemes (magnitude n above))
 magnitude_read n zero place t = whole_read n [] place [] t.0 (refl, refl) nothing_read
 magnitude_read n (suc above) place t =
     let apart : begins second (decimal (suc above + 1)) ≡ false = ap (begins second) (sym (nil_right (decimal (suc above + 1)))) ∙ whole_apart (suc above + 1) [] t.1.1.0 in
@@ -68,19 +69,22 @@ pub first_whole : (n above : ℕ) → AreTokens (lexemes (magnitude n above)) �
 first_whole n zero t = t.0
 first_whole n (suc above) t = t.0
 
-signed_read : (z : ℤ) (above place : ℕ) → AreTokens (lexemes (exactly z above)) → AreRead (lex 0 place (signed_decimal z ++ below above)) (lexemes (exactly z above))
+signed_read : (z : ℤ) (above place : ℕ) → AreTokens (lexemes (exactly z above))
+    → AreRead (lex 0 place (signed_decimal z ++ below above)) (lexemes (exactly z above))
 signed_read (pos n) above place t = magnitude_read n above place t
 signed_read (negsuc n) above place t =
     token_read (lexeme.Sign s.Minus) (decimal (suc n) ++ below above) place (lexemes (magnitude (suc n) above)) tt (inr (whole_apart (suc n) (below above) (first_whole (suc n) above t.1)))
     (λ p. magnitude_read (suc n) above p t.1)
 
-exact_read : (v : Rat) (place : ℕ) → AreTokens (lexemes (exactly v.num v.above)) → AreRead (lex 0 place (exact_text_of v)) (lexemes (exactly v.num v.above))
+exact_read : (v : Rat) (place : ℕ) → AreTokens (lexemes (exactly v.num v.above))
+    → AreRead (lex 0 place (exact_text_of v)) (lexemes (exactly v.num v.above))
 unfolding exact_text_of
 exact_read v place t = signed_read v.num v.above place t
 
 -- ---- lines
 
-space_first : (text : List ℕ) (place : ℕ) (ls : List Lexeme) → ((p : ℕ) → AreRead (lex 0 p text) ls) → AreRead (lex 0 place (32 ∷ text)) ls
+space_first : (text : List ℕ) (place : ℕ) (ls : List Lexeme) → ((p : ℕ) → AreRead (lex 0 p text) ls)
+    → AreRead (lex 0 place (32 ∷ text)) ls
 space_first text place ls h = space_read false text place ls h
 
 attr_token : IsToken (lexeme.Name (codes "attr"))
@@ -95,7 +99,8 @@ priority_token = (refl, refl)
 abbrev pub attribute_tokens : Attribute → List Lexeme
 attribute_tokens a = lexeme.Name (codes "attr") ∷ lexeme.Name a.name ∷ lexeme.Sign s.Assign ∷ lexemes (exactly a.value.num a.value.above)
 
-pub attribute_read : (a : Attribute) → AreTokens (attribute_tokens a) → AreRead (tokens_of (codes "attr " ++ (a.name ++ (codes " = " ++ exact_text_of a.value)))) (attribute_tokens a)
+pub attribute_read : (a : Attribute) → AreTokens (attribute_tokens a)
+    → AreRead (tokens_of (codes "attr " ++ (a.name ++ (codes " = " ++ exact_text_of a.value)))) (attribute_tokens a)
 attribute_read a t =
     let value : List Lexeme = lexemes (exactly a.value.num a.value.above) in
     let text : List ℕ = exact_text_of a.value in
@@ -111,7 +116,8 @@ attribute_read a t =
 abbrev pub priority_tokens : ℕ → List Lexeme
 priority_tokens n = lexeme.Name (codes "PRIORITY") ∷ number n ∷ lexeme.Sign s.Colon ∷ []
 
-pub priority_read : (n : ℕ) → n < 2 ^ 16 → AreRead (tokens_of (codes "PRIORITY " ++ (decimal n ++ codes ":"))) (priority_tokens n)
+pub priority_read : (n : ℕ) → n < 2 ^ 16
+    → AreRead (tokens_of (codes "PRIORITY " ++ (decimal n ++ codes ":"))) (priority_tokens n)
 priority_read n h =
     token_read (lexeme.Name (codes "PRIORITY")) (32 ∷ (decimal n ++ codes ":")) 1 (number n ∷ lexeme.Sign s.Colon ∷ []) priority_token refl
     (λ p. space_first (decimal n ++ codes ":") p (number n ∷ lexeme.Sign s.Colon ∷ [])
@@ -133,7 +139,8 @@ magnitude_short n zero t = omega (arith, whole_short n t.0, ap length (nil_right
 magnitude_short n (suc above) t =
     omega (arith, whole_short n t.0, whole_short (suc above + 1) t.1.1.0, length-append (decimal n) (below (suc above)), ap length (below_more above))
 
-signed_short : (z : ℤ) (above : ℕ) → AreTokens (lexemes (exactly z above)) → length (signed_decimal z ++ below above) ≤ 38
+signed_short : (z : ℤ) (above : ℕ) → AreTokens (lexemes (exactly z above))
+    → length (signed_decimal z ++ below above) ≤ 38
 signed_short (pos n) above t = omega (arith, magnitude_short n above t)
 signed_short (negsuc n) above t = omega (arith, magnitude_short (suc n) above t.1)
 
@@ -141,7 +148,8 @@ exact_short : (v : Rat) → AreTokens (lexemes (exactly v.num v.above)) → leng
 unfolding exact_text_of
 exact_short v t = signed_short v.num v.above t
 
-pub attribute_short : (a : Attribute) → AreTokens (attribute_tokens a) → length (codes "attr " ++ (a.name ++ (codes " = " ++ exact_text_of a.value))) ≤ 4096
+pub attribute_short : (a : Attribute) → AreTokens (attribute_tokens a)
+    → length (codes "attr " ++ (a.name ++ (codes " = " ++ exact_text_of a.value))) ≤ 4096
 attribute_short a t =
     let n = (named_of a.name t.1.0.0).few in
     omega (arith, n, exact_short a.value t.1.1.1, length-append a.name (codes " = " ++ exact_text_of a.value))

@@ -1,5 +1,7 @@
 -- What stands at the front of a text that begins with the bytes of a token.
-use Rattle.std.proofs.Common.{◌≡◌, ℕ, suc, ◌+◌, ◌==◌, ◌||◌, Bool, true, false, List, [], ◌∷◌, ◌++◌, length, length-append, append_assoc, Option, Some, None, Ok, arith, ap, sym, ◌∙◌, refl, if◌then◌else◌}
+use Rattle.std.proofs.Common.{◌≡◌, ℕ, suc, ◌+◌, ◌==◌, ◌||◌, Bool, true, false, List, [], ◌∷◌, ◌++◌, length}
+use Rattle.std.proofs.Common.{length-append, append_assoc, Option, Some, None, Ok, arith, ap, sym, ◌∙◌, refl}
+use Rattle.std.proofs.Common.{if◌then◌else◌}
 use Rattle.std.specs.Prelude.{◌⊎◌, is_some}
 use Rattle.std.proofs.Common.{inl, inr}
 use Rattle.std.proofs.lemmas.Bool.Decides.{nat_tests}
@@ -7,7 +9,7 @@ use Rattle.cga_word.specs.Name.{continues_name, is_name}
 use Rattle.cga_fraction.specs.Rat.{Rat}
 use Rattle.cga_fraction.specs.Decimals.{decimal_of, is_point, IsLiteral}
 use Rattle.cga_fraction.specs.Texts.{literal_text_of}
-use Rattle.cga_fraction.proofs.Literals.{literal_is_shortest}
+use Rattle.cga_fraction.proofs.Door.{literal_is_shortest}
 use Rattle.cga_lexer.specs.Bytes.{begins}
 use Rattle.cga_lexer.specs.Front.{front, sign_of, single, pair, short, long_or}
 use Rattle.cga_lexer.specs.declared.sign.Sign.{Sign}
@@ -48,7 +50,8 @@ unfolding sign_of
 lone b [] h = refl
 lone b (c ∷ cs) h = ap (λ p. long_or p (short (single b))) (h c)
 
-apart : (b : ℕ) (rest : List ℕ) → begins second rest ≡ false → ((c : ℕ) → second c ≡ false → pair b c ≡ None) → sign_of b rest ≡ short (single b)
+apart : (b : ℕ) (rest : List ℕ) → begins second rest ≡ false → ((c : ℕ) → second c ≡ false → pair b c ≡ None)
+    → sign_of b rest ≡ short (single b)
 unfolding sign_of
 apart b [] e h = refl
 apart b (c ∷ cs) e h = ap (λ p. long_or p (short (single b))) (h c e)
@@ -63,7 +66,8 @@ after_it : (sign : Sign) (rest : List ℕ) → opens_up sign ≡ false → Alone
 after_it sign rest e (inl h) = absurd (let q : true ≡ false = sym h ∙ e in cc)
 after_it sign rest e (inr h) = h
 
-sign_front : (sign : Sign) (rest : List ℕ) → Alone sign rest → front (sign_bytes sign ++ rest) ≡ Token (kind.Sign sign) (length (sign_bytes sign))
+sign_front : (sign : Sign) (rest : List ℕ) → Alone sign rest
+    → front (sign_bytes sign ++ rest) ≡ Token (kind.Sign sign) (length (sign_bytes sign))
 unfolding front sign_of
 sign_front s.LeftRound rest h = lone 40 rest (λ c. refl)
 sign_front s.RightRound rest h = lone 41 rest (λ c. refl)

@@ -1,5 +1,7 @@
 -- The tokens of a line: its numbers are read from a text, and its words are names.
-use Rattle.std.proofs.Common.{◌≡◌, ℕ, zero, suc, ◌+◌, ◌-◌, ◌<◌, ◌==◌, ◌&&◌, ◌||◌, Bool, true, false, nat_lt, List, [], ◌∷◌, length, length-take, take, drop, Option, Some, None, Result, Ok, Err, arith, ap, ◌∙◌, refl, subst, if◌then◌else◌}
+use Rattle.std.proofs.Common.{◌≡◌, ℕ, zero, suc, ◌+◌, ◌-◌, ◌<◌, ◌==◌, ◌&&◌, ◌||◌, Bool, true, false, nat_lt, List, []}
+use Rattle.std.proofs.Common.{◌∷◌, length, length-take, take, drop, Option, Some, None, Result, Ok, Err, arith, ap}
+use Rattle.std.proofs.Common.{◌∙◌, refl, subst, if◌then◌else◌}
 use Rattle.std.specs.Prelude.{is_some}
 use Rattle.std.specs.List.{list_all}
 use Rattle.std.specs.Char.{is_ascii_digit}
@@ -17,11 +19,11 @@ use Rattle.cga_lexer.specs.declared.token.TokenKind.{TokenKind}
 use Rattle.cga_lexer.specs.declared.token.TokenKind.TheVariants as kind
 use Rattle.cga_lexer.specs.declared.front.Front.{Front}
 use Rattle.cga_lexer.specs.declared.front.Front.TheVariants.{End, Blank, Token, BadByte, BadNumber, LongName, OpenText}
-use Rattle.cga_lexer.proofs.Names.{all_run, word_begun, begun}
-use Rattle.cga_lexer.proofs.Running.{run_within}
+use Rattle.cga_lexer.proofs.Door.{all_run, begun, run_within, word_begun}
 use Rattle.cga_syntax.specs.Lexemes.{lexeme_of, keyword_of, word_lexeme}
 use Rattle.cga_syntax.specs.Reading.{IsToken, AreTokens, seen_of}
 use Rattle.cga_syntax.specs.declared.keyword.Keyword.{Keyword}
+use Rattle.std.proofs.lemmas.Bool.{and_parts as both}
 
 abbrev IsRead : TokenKind → Type 0
 IsRead k = IsToken (lexeme_of k)
@@ -37,7 +39,9 @@ followed_is v text e len n k true name h = subst IsRead (same_kind (kind.Relativ
 followed_is v text e len n k false true h = absurd (cc)
 followed_is v text e len n k false false h = subst IsRead (same_kind (kind.Number v) k len n h) (text, e)
 
-valued_is : (r : Result Rat DecimalFault) (text rest : List ℕ) → decimal_of text ≡ r → (len n : ℕ) (k : TokenKind) (many : Bool) → ◌≡◌ {A = Front} (if many then BadNumber else valued r len rest) (Token k n) → IsRead k
+valued_is : (r : Result Rat DecimalFault) (text rest : List ℕ) → decimal_of text ≡ r
+    → (len n : ℕ) (k : TokenKind) (many : Bool)
+    → ◌≡◌ {A = Front} (if many then BadNumber else valued r len rest) (Token k n) → IsRead k
 valued_is r text rest e len n k true h = absurd (cc)
 valued_is (Ok v) text rest e len n k false h = followed_is v text e len n k (is_mark rest) (begins begins_name rest) h
 valued_is (Err f) text rest e len n k false h = absurd (cc)
@@ -48,11 +52,8 @@ number_is text k n h = valued_is (decimal_of (take (number_len text) text)) (tak
 
 -- ---- names
 
-both : (a b : Bool) → (a && b) ≡ true → (a ≡ true) × (b ≡ true)
-both true b h = (refl, h)
-both false b h = absurd (let q : false ≡ true = h in cc)
-
-name_is : (name : List ℕ) → begins begins_name name ≡ true → list_all continues_name name ≡ true → nat_lt 32 (length name) ≡ false → is_name name ≡ true
+name_is : (name : List ℕ) → begins begins_name name ≡ true → list_all continues_name name ≡ true
+    → nat_lt 32 (length name) ≡ false → is_name name ≡ true
 name_is [] b a l = absurd (let q : false ≡ true = b in cc)
 name_is (x ∷ xs) b a l =
     let s : nat_lt (length xs) 32 ≡ true = grind (arith, nat_tests) in
@@ -61,11 +62,13 @@ name_is (x ∷ xs) b a l =
 run_len : (text : List ℕ) → length (take (run continues_name text) text) ≡ run continues_name text
 run_len text = omega (arith, length-take (run continues_name text) text, run_within continues_name text)
 
-word_token : (name : List ℕ) (o : Option Keyword) → keyword_of name ≡ o → is_name name ≡ true → IsToken (word_lexeme name o)
+word_token : (name : List ℕ) (o : Option Keyword) → keyword_of name ≡ o → is_name name ≡ true
+    → IsToken (word_lexeme name o)
 word_token name None e h = (h, ap is_some e)
 word_token name (Some word) e h = tt
 
-word_by : (text : List ℕ) (k : TokenKind) (n : ℕ) (long : Bool) → nat_lt 32 (run continues_name text) ≡ long → begins begins_name text ≡ true →
+word_by : (text : List ℕ) (k : TokenKind) (n : ℕ) (long : Bool) → nat_lt 32 (run continues_name text) ≡ long
+    → begins begins_name text ≡ true →
     ◌≡◌ {A = Front} (if long then LongName 0 else Token (kind.Word (take (run continues_name text) text)) (run continues_name text)) (Token k n) → IsRead k
 word_by text k n true l b h = absurd (cc)
 word_by text k n false l b h =
@@ -77,7 +80,8 @@ word_is : (text : List ℕ) (k : TokenKind) (n : ℕ) → begins begins_name tex
 unfolding word
 word_is text k n b h = word_by text k n (nat_lt 32 (run continues_name text)) refl b h
 
-closed_is : (name : List ℕ) (k : TokenKind) (n : ℕ) (long : Bool) → nat_lt 32 (length name) ≡ long → begins begins_name name ≡ true → list_all continues_name name ≡ true →
+closed_is : (name : List ℕ) (k : TokenKind) (n : ℕ) (long : Bool) → nat_lt 32 (length name) ≡ long
+    → begins begins_name name ≡ true → list_all continues_name name ≡ true →
     ◌≡◌ {A = Front} (if long then LongName 1 else Token (kind.Text name) (length name + 2)) (Token k n) → IsRead k
 closed_is name k n true l b a h = absurd (cc)
 closed_is name k n false l b a h = subst IsRead (same_kind (kind.Text name) k (length name + 2) n h) (name_is name b a l)
@@ -85,7 +89,8 @@ closed_is name k n false l b a h = subst IsRead (same_kind (kind.Text name) k (l
 some_bytes : (n : ℕ) → nat_lt 0 n ≡ true → 0 < n
 some_bytes n h = grind (arith, nat_tests)
 
-enclosed_by : (text name : List ℕ) (k : TokenKind) (n : ℕ) (quote some : Bool) → nat_lt 0 (length name) ≡ some → name ≡ take (run continues_name text) text → begins is_ascii_digit text ≡ false →
+enclosed_by : (text name : List ℕ) (k : TokenKind) (n : ℕ) (quote some : Bool) → nat_lt 0 (length name) ≡ some
+    → name ≡ take (run continues_name text) text → begins is_ascii_digit text ≡ false →
     ◌≡◌ {A = Front} (if quote && some then closed name else BadByte (length name + 1)) (Token k n) → IsRead k
 enclosed_by text name k n true true s e d h =
     closed_is name k n (nat_lt 32 (length name)) refl
@@ -94,7 +99,8 @@ enclosed_by text name k n true true s e d h =
 enclosed_by text name k n true false s e d h = absurd (cc)
 enclosed_by text name k n false some s e d h = absurd (cc)
 
-enclosed_is : (text name rest : List ℕ) (k : TokenKind) (n : ℕ) → name ≡ take (run continues_name text) text → begins is_ascii_digit text ≡ false → enclosed name rest ≡ Token k n → IsRead k
+enclosed_is : (text name rest : List ℕ) (k : TokenKind) (n : ℕ) → name ≡ take (run continues_name text) text
+    → begins is_ascii_digit text ≡ false → enclosed name rest ≡ Token k n → IsRead k
 enclosed_is text name [] k n e d h = absurd (cc)
 enclosed_is text name (b ∷ bs) k n e d h = enclosed_by text name k n (b == 34) (nat_lt 0 (length name)) refl e d h
 
@@ -124,7 +130,8 @@ sign_is b (c ∷ cs) k n h = long_is (pair b c) (single b) k n h
 
 -- ---- the front
 
-front_by : (b : ℕ) (bs : List ℕ) (k : TokenKind) (n : ℕ) (comment blank quote digit name : Bool) → begins_name b ≡ name →
+front_by : (b : ℕ) (bs : List ℕ) (k : TokenKind) (n : ℕ) (comment blank quote digit name : Bool) → begins_name b ≡ name
+    →
     ◌≡◌ {A = Front} (if comment then End else if blank then Blank else if quote then quoted bs else if digit then number (b ∷ bs) else if name then word (b ∷ bs) else sign_of b bs) (Token k n) → IsRead k
 front_by b bs k n true blank quote digit name e h = absurd (cc)
 front_by b bs k n false true quote digit name e h = absurd (cc)
@@ -142,11 +149,13 @@ front_is b bs k n h = front_by b bs k n (b == 35) (b == 32 || b == 9) (b == 34) 
 same_list : (us ts : List Read) → ◌≡◌ {A = Lexed} (Ok us) (Ok ts) → us ≡ ts
 same_list us ts h = cc
 
-behind_is : (t : Read) (o : Lexed) (ts : List Read) → behind t o ≡ Ok ts → IsToken (lexeme_of t.kind) → ((us : List Read) → o ≡ Ok us → AreTokens (seen_of us)) → AreTokens (seen_of ts)
+behind_is : (t : Read) (o : Lexed) (ts : List Read) → behind t o ≡ Ok ts → IsToken (lexeme_of t.kind)
+    → ((us : List Read) → o ≡ Ok us → AreTokens (seen_of us)) → AreTokens (seen_of ts)
 behind_is t (Ok us) ts h i more = subst (λ z. AreTokens (seen_of z)) (same_list (t ∷ us) ts h) (i, more us refl)
 behind_is t (Err f) ts h i more = absurd (cc)
 
-from_front_is : (f : Front) (place : ℕ) (on : ℕ → Lexed) (ts : List Read) → from_front f place on ≡ Ok ts → ((k : TokenKind) (n : ℕ) → f ≡ Token k n → IsRead k) →
+from_front_is : (f : Front) (place : ℕ) (on : ℕ → Lexed) (ts : List Read) → from_front f place on ≡ Ok ts
+    → ((k : TokenKind) (n : ℕ) → f ≡ Token k n → IsRead k) →
     ((m : ℕ) (us : List Read) → on m ≡ Ok us → AreTokens (seen_of us)) → AreTokens (seen_of ts)
 from_front_is End place on ts h i more = subst (λ z. AreTokens (seen_of z)) (same_list [] ts h) tt
 from_front_is Blank place on ts h i more = more 0 ts h

@@ -1,5 +1,7 @@
 -- No byte of a printed line is a control byte.
-use Rattle.std.proofs.Common.{◌≡◌, ℕ, zero, suc, ◌+◌, ◌<◌, ◌≤◌, ◌^◌, ◌&&◌, nat_le, Bool, true, false, List, [], ◌∷◌, ◌++◌, Option, Some, None, ℤ, pos, negsuc, arith, ap, sym, ◌∙◌, refl, subst, codes, decimal, if◌then◌else◌}
+use Rattle.std.proofs.Common.{◌≡◌, ℕ, zero, suc, ◌+◌, ◌<◌, ◌≤◌, ◌^◌, ◌&&◌, nat_le, Bool, true, false, List, [], ◌∷◌}
+use Rattle.std.proofs.Common.{◌++◌, Option, Some, None, ℤ, pos, negsuc, arith, ap, sym, ◌∙◌, refl, subst, codes}
+use Rattle.std.proofs.Common.{decimal, if◌then◌else◌}
 use Rattle.std.specs.Char.{is_ascii_digit}
 use Rattle.std.specs.Fmt.{signed_decimal}
 use Rattle.std.specs.List.{All, list_all}
@@ -10,7 +12,7 @@ use Rattle.cga_word.specs.Name.{continues_name, is_name}
 use Rattle.cga_fraction.specs.Rat.{Rat}
 use Rattle.cga_fraction.specs.Decimals.{IsLiteral}
 use Rattle.cga_fraction.specs.Texts.{literal_text_of, exact_text_of}
-use Rattle.cga_fraction.proofs.Literals.{literal_is_shortest}
+use Rattle.cga_fraction.proofs.Door.{literal_is_shortest}
 use Rattle.cga_lexer.specs.declared.sign.Sign.{Sign}
 use Rattle.cga_lexer.specs.declared.sign.Sign.TheVariants as s
 use Rattle.cga_syntax.specs.Lexemes.{keyword_bytes}
@@ -26,6 +28,7 @@ use Rattle.cga_syntax.proofs.Exact.{whole_literal}
 use Rattle.cga_syntax.proofs.Fronts.{shape, dotted, named_of}
 use Rattle.cga_syntax.proofs.LineTexts.{whole_text, below, below_more, first_whole, attribute_tokens}
 use Rattle.cga_syntax.proofs.Signs.{keyword_is_name}
+use Rattle.std.proofs.lemmas.Bool.{and_parts as both}
 
 abbrev visible : ℕ → Bool
 visible c = nat_le 32 c
@@ -33,14 +36,11 @@ visible c = nat_le 32 c
 abbrev IsVisible : List ℕ → Type 0
 IsVisible text = list_all visible text ≡ true
 
-both : (a b : Bool) → (a && b) ≡ true → (a ≡ true) × (b ≡ true)
-both true b h = (refl, h)
-both false b h = absurd (let q : false ≡ true = h in cc)
-
 join : (xs ys : List ℕ) → IsVisible xs → IsVisible ys → IsVisible (xs ++ ys)
 join xs ys h k = rw (list_all-append visible xs ys, h, k) refl
 
-passing : (p : ℕ → Bool) → ((c : ℕ) → p c ≡ true → visible c ≡ true) → (xs : List ℕ) → list_all p xs ≡ true → IsVisible xs
+passing : (p : ℕ → Bool) → ((c : ℕ) → p c ≡ true → visible c ≡ true) → (xs : List ℕ) → list_all p xs ≡ true
+    → IsVisible xs
 passing p h [] k = refl
 passing p h (c ∷ xs) k =
     let b = both (p c) (list_all p xs) k in
@@ -121,7 +121,8 @@ below_visible : (n above : ℕ) → AreTokens (lexemes (magnitude n above)) → 
 below_visible n zero t = refl
 below_visible n (suc above) t = subst IsVisible (sym (below_more above)) (whole_visible (suc above + 1) t.1.1.0)
 
-signed_visible : (z : ℤ) (above : ℕ) → AreTokens (lexemes (exactly z above)) → IsVisible (signed_decimal z ++ below above)
+signed_visible : (z : ℤ) (above : ℕ) → AreTokens (lexemes (exactly z above))
+    → IsVisible (signed_decimal z ++ below above)
 signed_visible (pos n) above t = join (decimal n) (below above) (whole_visible n (first_whole n above t)) (below_visible n above t)
 signed_visible (negsuc n) above t = join (decimal (suc n)) (below above) (whole_visible (suc n) (first_whole (suc n) above t.1)) (below_visible (suc n) above t.1)
 
@@ -141,7 +142,8 @@ all_seen (c ∷ text) h = let b = both (visible c) (list_all visible text) h in 
 pub text_visible : (ms : List Mark) → AreTokens (lexemes ms) → All (λ c. 32 ≤ c) (text_of ms)
 text_visible ms t = all_seen (text_of ms) (after_visible None ms t)
 
-pub attribute_visible : (a : Attribute) → AreTokens (attribute_tokens a) → All (λ c. 32 ≤ c) (codes "attr " ++ (a.name ++ (codes " = " ++ exact_text_of a.value)))
+pub attribute_visible : (a : Attribute) → AreTokens (attribute_tokens a)
+    → All (λ c. 32 ≤ c) (codes "attr " ++ (a.name ++ (codes " = " ++ exact_text_of a.value)))
 attribute_visible a t =
     all_seen (codes "attr " ++ (a.name ++ (codes " = " ++ exact_text_of a.value))) (join a.name (codes " = " ++ exact_text_of a.value) (name_visible a.name t.1.0.0) (value_visible a.value t.1.1.1))
 

@@ -9,7 +9,9 @@ use Rattle.cga_word.specs.declared.selector.Selector.{Selector}
 use Rattle.cga_word.specs.declared.turn.Turn.{Turn}
 use Rattle.cga_syntax.specs.Limits.{last_id}
 use Rattle.cga_syntax.specs.declared.print.space.Space.TheVariants.{NoneBefore}
-use Rattle.cga_syntax.specs.Pieces.{Pieces, keyword, sign, word, text, named, whole, nonempty, preceded, separated, turn_keyword, solid_text, axis_text, selector_pieces, size_word, target_text, equality_sign, relation_sign, state_text, token, turned}
+use Rattle.cga_syntax.specs.Pieces.{Pieces, keyword, sign, word, text, named, whole, nonempty, preceded, separated}
+use Rattle.cga_syntax.specs.Pieces.{turn_keyword, solid_text, axis_text, selector_pieces, size_word, target_text}
+use Rattle.cga_syntax.specs.Pieces.{equality_sign, relation_sign, state_text, token, turned}
 use Rattle.cga_syntax.specs.declared.keyword.Keyword.TheVariants as k
 use Rattle.cga_syntax.specs.declared.lexeme.Lexeme.TheVariants as lexeme
 use Rattle.cga_rule.specs.declared.cond.Relation.{Relation}

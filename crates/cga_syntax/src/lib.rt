@@ -1,9 +1,10 @@
-//! What rules are written as: tokens as lexemes, in which a reserved word is a keyword, the pieces
-//! of each tree, what is spelled so, and the texts of rules and grammars.
+//! What rules are written as: tokens as lexemes, in which a reserved word is a keyword, the pieces of each tree, what
+//! is spelled so, and the texts of rules and grammars.
 //!
-//! It knows trees and tokens, and neither reads a line nor says what a rule does. The trees are
-//! those of `cga_rule`, given again. Callers get the condition of printing wrong: a tree that no
-//! line spells may be printed, and what no line spells of it is left out.
+//! It must not know lines and places. The trees are those of `cga_rule`, given again.
+//!
+//! What callers get wrong: the condition of printing. A tree that no line spells may be printed, and what no line
+//! spells of it is left out.
 #![tactic(auto)]
 
 mod keyword;

@@ -9,13 +9,11 @@ use Rattle.cga_form.specs.declared.line_fault.LineFault.{LineFault}
 use Rattle.cga_form.specs.Cursor.{seen}
 use Rattle.cga_form.specs.LineTells.{by_length, by_tokens}
 use Rattle.cga_form.specs.Lines.{Line, is_long}
-use Rattle.cga_form.proofs.Again.{never_written}
-use Rattle.cga_form.proofs.Lines.{form_unique}
-use Rattle.cga_form.proofs.OnceBlocks.{once_lines}
+use Rattle.cga_form.proofs.Door.{form_unique, never_written, once_lines}
+use Rattle.cga_parser.proofs.Door.{block_form, grammar_prints}
+use Rattle.cga_script.proofs.Door.{city_form, city_prints, command_form, one_command, put_prints, tokens_tell}
 use Rattle.cga_parser.specs.Blocks.{block_pieces, block}
 use Rattle.cga_parser.specs.BlockTells.{GrammarTells, grammar_of}
-use Rattle.cga_parser.proofs.AreForms.{block_form}
-use Rattle.cga_parser.proofs.Printable.{grammar_prints}
 use Rattle.cga_rule.specs.declared.grammar.Grammar.{Grammar}
 use Rattle.cga_shape.specs.declared.edit.Edit.{Edit}
 use Rattle.cga_shape.specs.declared.edit.Edit.TheVariants as edit
@@ -27,11 +25,6 @@ use Rattle.cga_script.specs.declared.script_command.ScriptCommand.TheVariants as
 use Rattle.cga_script.specs.declared.version.Version.{Version}
 use Rattle.cga_script.specs.Commands.{command_pieces, command, CommandTells}
 use Rattle.cga_script.specs.CityLines.{CityTells, city_pieces, city, sources_of}
-use Rattle.cga_script.proofs.CityForm.{city_form}
-use Rattle.cga_script.proofs.Commands.{command_form}
-use Rattle.cga_script.proofs.OneCommand.{one_command}
-use Rattle.cga_script.proofs.Printable.{put_prints, city_prints}
-use Rattle.cga_script.proofs.Said.{tokens_tell}
 use Rattle.cga_top.specs.Told.{command_of, rules_of, city_of}
 use Rattle.cga_top.specs.Written.{IsWritten, AsksWritten}
 use Rattle.cga_top.proofs.Told.{line_tells, block_tells}
@@ -42,7 +35,8 @@ use Rattle.cga_top.proofs.Apart.{lots_differ}
 pub command_told : (v : Version) (line : Line) → CommandTells v line (command_of v line)
 command_told v line = line_tells (command_pieces v) (command v) (command_form v) line
 
-pub command_is : (v : Version) (line : Line) (told : Result ScriptCommand LineFault) → CommandTells v line told → told ≡ command_of v line
+pub command_is : (v : Version) (line : Line) (told : Result ScriptCommand LineFault) → CommandTells v line told
+    → told ≡ command_of v line
 command_is v line told h = one_command v line told (command_of v line) h (command_told v line)
 
 pub rules_told : (lines : List Line) → GrammarTells lines (rules_of lines)
@@ -62,11 +56,13 @@ city_is lines told h = once_lines city_pieces (form_unique city_pieces city city
 never_spelled : (w : Pieces) (text : List Lexeme) (d : ℕ) → w ≡ never ∷ [] → Writes 0 w text d → ⊥
 never_spelled w text d e h = never_written 0 [] text d (subst (λ (p : Pieces). Writes 0 p text d) e h)
 
-never_lexed : (v : Version) (a : ScriptCommand) (end : ℕ) (o : Lexed) → command_pieces v a ≡ never ∷ [] → by_tokens (command_pieces v) end o (Ok a) → ⊥
+never_lexed : (v : Version) (a : ScriptCommand) (end : ℕ) (o : Lexed) → command_pieces v a ≡ never ∷ []
+    → by_tokens (command_pieces v) end o (Ok a) → ⊥
 never_lexed v a end (Err f) e h = absurd (cc)
 never_lexed v a end (Ok ts) e h = let t = tokens_tell (command_pieces v) a end ts h in never_spelled (command_pieces v a) (map seen ts) t.0.0 e t.0.1
 
-never_told : (v : Version) (a : ScriptCommand) (bytes : List ℕ) (long : Bool) → command_pieces v a ≡ never ∷ [] → by_length (command_pieces v) bytes long (Ok a) → ⊥
+never_told : (v : Version) (a : ScriptCommand) (bytes : List ℕ) (long : Bool) → command_pieces v a ≡ never ∷ []
+    → by_length (command_pieces v) bytes long (Ok a) → ⊥
 never_told v a bytes true e h = absurd (cc)
 never_told v a bytes false e h = never_lexed v a (length bytes + 1) (tokens_of bytes) e h
 

@@ -14,9 +14,7 @@ use Rattle.cga_city.specs.Derived.{derived, members}
 use Rattle.cga_city.specs.Lots.{names_of}
 use Rattle.cga_city.specs.Reports.{drawn_in}
 use Rattle.cga_city.specs.declared.limits.TheConstants.{BUDGET_TWO}
-use Rattle.cga_city.proofs.Accounts.{accounted, come_few, reported_few}
-use Rattle.cga_city.proofs.Again.{applied_sound}
-use Rattle.cga_city.proofs.Deriving.{few_members}
+use Rattle.cga_city.proofs.Door.{accounted, applied_sound, come_few, few_members, reported_few}
 use Rattle.cga_syntax.specs.GrammarText.{ArePrintable}
 use Rattle.cga_undo.specs.History.{Kept, nothing}
 use Rattle.cga_top.specs.State.{State}
@@ -32,11 +30,13 @@ pub nothing_drawn : (list : List Member) → drawn_in [] list ≡ []
 unfolding drawn_in
 nothing_drawn list = refl
 
-pub empty_bill : (bill : List (List ℕ × Sums)) (city : CityState) (budget : ℕ) → bill ≡ bill_of [] → city ≡ empty_city budget → bill ≡ bill_of (drawn_by city)
+pub empty_bill : (bill : List (List ℕ × Sums)) (city : CityState) (budget : ℕ) → bill ≡ bill_of []
+    → city ≡ empty_city budget → bill ≡ bill_of (drawn_by city)
 empty_bill bill city budget e is = e ∙ sym (ap (λ (c : CityState). bill_of (drawn_by c)) is ∙ ap bill_of (nothing_drawn (members budget empty_sources)))
 
 -- a session of nothing
-pub new_ready : (session : Session) (budget : ℕ) → budget ≤ BUDGET_TWO → session.city ≡ empty_city budget → session.bill ≡ bill_of [] → session.history ≡ nothing → session.block ≡ None → IsReady session
+pub new_ready : (session : Session) (budget : ℕ) → budget ≤ BUDGET_TWO → session.city ≡ empty_city budget
+    → session.bill ≡ bill_of [] → session.history ≡ nothing → session.block ≡ None → IsReady session
 new_ready session budget few city bill history block = record {
   warm = ap (λ (c : CityState). c.warm) city;
   bill = empty_bill session.bill session.city budget bill city;
@@ -48,7 +48,8 @@ new_ready session budget few city bill history block = record {
 }
 
 -- the bill of a session is that of the state that it has come to
-pub bill_is : (s : State) (session : Session) → IsReady session → IsAt s session → session.bill ≡ bill_of (replies.drawn_by s (names_of s.sources.lots))
+pub bill_is : (s : State) (session : Session) → IsReady session → IsAt s session
+    → session.bill ≡ bill_of (replies.drawn_by s (names_of s.sources.lots))
 bill_is s session ready at =
     ready.bill
     ∙ (ap (λ (x : Sources). bill_of (drawn_in (names_of x.lots) (members session.city.budget x))) at.sources
@@ -66,8 +67,10 @@ module _ (old : CityState) (e : Edit) (new : CityState) (i j : ℕ) (can : CanBe
       (accounted old.budget old.sources new.sources (members old.budget old.sources) (members old.budget new.sources) new.changes done.changed can.sound sound can.fits fits))
 
   -- there is room for all that was drawn and all that comes
-  pub can_apply : old.budget ≤ BUDGET_TWO → (bill : List (List ℕ × Sums)) → bill ≡ bill_of (drawn_by old) → (changes : Changes) → changes ≡ new.changes
-      → (before : List Drawn) × (after : List Drawn) × (bill ≡ bill_of before) × Balances before after changes × (length before + length changes.come < 2 ^ 32)
+  pub can_apply : old.budget ≤ BUDGET_TWO → (bill : List (List ℕ × Sums)) → bill ≡ bill_of (drawn_by old)
+      → (changes : Changes) → changes ≡ new.changes
+      → (before : List Drawn) × (after : List Drawn) × (bill ≡ bill_of before) × Balances before after changes
+      × (length before + length changes.come < 2 ^ 32)
   can_apply few bill is changes same =
       let reported = reported_few old.budget old.sources (members old.budget old.sources) can.sound can.fits in
       let come = come_few old.budget old.sources new.sources (members old.budget old.sources) (members old.budget new.sources) new.changes done.changed in

@@ -39,7 +39,9 @@ same_done s a b e = ap (changed s (noted_by s.version s.kept s.sources)) e
 ruled : Result Grammar BlockFault → Result Edit BlockFault
 ruled told = and_then told (λ grammar. Ok (edit.Rules grammar))
 
-pub rules_closed : ((s : Sources) (budget : ℕ) (g : Grammar) → RulesGiveSame s budget g) → (lines : List Line) (given : Grammar) → GrammarKept lines (Ok given) → DoesAs (grammar_told lines) (Ok (edit.Rules given))
+pub rules_closed : ((s : Sources) (budget : ℕ) (g : Grammar) → RulesGiveSame s budget g)
+    → (lines : List Line) (given : Grammar) → GrammarKept lines (Ok given)
+    → DoesAs (grammar_told lines) (Ok (edit.Rules given))
 unfolding ruled
 rules_closed same lines given h = λ s.
     let whole : Grammar = grammar_of h.0 in
@@ -47,7 +49,8 @@ rules_closed same lines given h = λ s.
     ∙ same_done s _ (edit.Rules whole) (same s.sources (budget_of s.version) whole)
     ∙ ap (λ (t : Result Grammar BlockFault). closed s (ruled t)) (rules_is lines (Ok whole) (h.0, h.1, refl))
 
-pub rules_faulty : (lines : List Line) (fault : BlockFault) → GrammarKept lines (Err fault) → DoesAs (grammar_told lines) (Err fault)
+pub rules_faulty : (lines : List Line) (fault : BlockFault) → GrammarKept lines (Err fault)
+    → DoesAs (grammar_told lines) (Err fault)
 unfolding ruled
 rules_faulty lines fault h = λ s. ap (λ (t : Result Grammar BlockFault). closed s (ruled t)) (rules_is lines (Err fault) h)
 
@@ -61,7 +64,9 @@ rules_printed lines given h =
 cited : Result Sources BlockFault → Result Edit BlockFault
 cited told = and_then told (λ sources. Ok (edit.Whole sources))
 
-pub city_closed : ((s : Sources) (budget : ℕ) (other : Sources) → CityGivesSame s budget other) → (lines : List Line) (given : Sources) → CityKept lines (Ok given) → DoesAs (sources_told lines) (Ok (edit.Whole given))
+pub city_closed : ((s : Sources) (budget : ℕ) (other : Sources) → CityGivesSame s budget other)
+    → (lines : List Line) (given : Sources) → CityKept lines (Ok given)
+    → DoesAs (sources_told lines) (Ok (edit.Whole given))
 unfolding cited
 city_closed same lines given h = λ s.
     let whole : Sources = sources_of h.0 in
@@ -69,7 +74,8 @@ city_closed same lines given h = λ s.
     ∙ same_done s _ (edit.Whole whole) (same s.sources (budget_of s.version) whole)
     ∙ ap (λ (t : Result Sources BlockFault). closed s (cited t)) (city_is lines (Ok whole) (h.0, h.1, refl))
 
-pub city_faulty : (lines : List Line) (fault : BlockFault) → CityKept lines (Err fault) → DoesAs (sources_told lines) (Err fault)
+pub city_faulty : (lines : List Line) (fault : BlockFault) → CityKept lines (Err fault)
+    → DoesAs (sources_told lines) (Err fault)
 unfolding cited
 city_faulty lines fault h = λ s. ap (λ (t : Result Sources BlockFault). closed s (cited t)) (city_is lines (Err fault) h)
 
@@ -82,13 +88,17 @@ city_printed lines given h =
 
 -- ---- the end of a block
 
-pub rules_ended : (s : State) (b : Block) (reader : BlockReader Gathered) (made : Result Edit BlockFault) → IsOpenAs b (opened.Rules reader) → ((lines : List Line) → RulesRead reader lines → DoesAs (grammar_told lines) made) → closed s made ≡ ended s b
+pub rules_ended : (s : State) (b : Block) (reader : BlockReader Gathered) (made : Result Edit BlockFault)
+    → IsOpenAs b (opened.Rules reader)
+    → ((lines : List Line) → RulesRead reader lines → DoesAs (grammar_told lines) made) → closed s made ≡ ended s b
 rules_ended s (of_rules lines) reader made is does = does lines is s
 rules_ended s (of_city lines) reader made is does = absurd is
 rules_ended s (of_asset name lines) reader made is does = absurd is
 rules_ended s (of_judge lines) reader made is does = absurd is
 
-pub city_ended : (s : State) (b : Block) (reader : BlockReader CityGathered) (made : Result Edit BlockFault) → IsOpenAs b (opened.City reader) → ((lines : List Line) → SourcesRead reader lines → DoesAs (sources_told lines) made) → closed s made ≡ ended s b
+pub city_ended : (s : State) (b : Block) (reader : BlockReader CityGathered) (made : Result Edit BlockFault)
+    → IsOpenAs b (opened.City reader)
+    → ((lines : List Line) → SourcesRead reader lines → DoesAs (sources_told lines) made) → closed s made ≡ ended s b
 city_ended s (of_rules lines) reader made is does = absurd is
 city_ended s (of_city lines) reader made is does = does lines is s
 city_ended s (of_asset name lines) reader made is does = absurd is

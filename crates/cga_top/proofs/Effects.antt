@@ -43,11 +43,13 @@ pub all_none : (s : State) → effect_of_all s [] ≡ silent s
 unfolding effect_of_all
 all_none s = refl
 
-pub all_more : (s : State) (line : Line) (lines : List Line) → effect_of_all s (line ∷ lines) ≡ followed_by (effect s line) (effect_of_all (effect s line).state lines)
+pub all_more : (s : State) (line : Line) (lines : List Line)
+    → effect_of_all s (line ∷ lines) ≡ followed_by (effect s line) (effect_of_all (effect s line).state lines)
 unfolding effect_of_all
 all_more s line lines = refl
 
-pub all_append : (s : State) (xs ys : List Line) → effect_of_all s (xs ++ ys) ≡ followed_by (effect_of_all s xs) (effect_of_all (effect_of_all s xs).state ys)
+pub all_append : (s : State) (xs ys : List Line)
+    → effect_of_all s (xs ++ ys) ≡ followed_by (effect_of_all s xs) (effect_of_all (effect_of_all s xs).state ys)
 all_append s [] ys = sym (rw (all_none s) (silent_followed s (effect_of_all s ys)))
 all_append s (x ∷ xs) ys =
     all_more s x (xs ++ ys) ∙ ap (followed_by (effect s x)) (all_append (effect s x).state xs ys)
@@ -59,25 +61,29 @@ pub spent_then : (ts : List Work) (i j k : ℕ) → k ≡ j → HasSpent ts i j 
 spent_then ts i j k e h = subst (λ n. HasSpent ts i n) (sym e) h
 
 -- what was done, and then more
-pub wrote_more : (t u : Effect) (old mid : Session) (a b c : Option (List ℕ)) (i j k : ℕ) → Wrote t old a b i j → Wrote u mid b c j k → Wrote (followed_by t u) mid a c i k
+pub wrote_more : (t u : Effect) (old mid : Session) (a b c : Option (List ℕ)) (i j k : ℕ) → Wrote t old a b i j
+    → Wrote u mid b c j k → Wrote (followed_by t u) mid a c i k
 wrote_more t u old mid a b c i j k x y = record {
   is_at = y.is_at;
   written = appends_more a b c t.reply u.reply x.written y.written;
   spent = spent_more t.works u.works i j k x.spent y.spent;
 }
 
-pub wrote_nothing : (s : State) (session : Session) (a : Option (List ℕ)) (i : ℕ) → IsAt s session → Wrote (silent s) session a a i i
+pub wrote_nothing : (s : State) (session : Session) (a : Option (List ℕ)) (i : ℕ) → IsAt s session
+    → Wrote (silent s) session a a i i
 wrote_nothing s session a i st = record { is_at = st; written = appends_nothing a; spent = refl }
 
 -- a reply that was written
-pub wrote_reply : (t : Effect) (was : Changes) (session : Session) (text : List ℕ) (a b : Option (List ℕ)) (i j : ℕ) → Did t was session text i j → Appends a b text → Wrote t session a b i j
+pub wrote_reply : (t : Effect) (was : Changes) (session : Session) (text : List ℕ) (a b : Option (List ℕ)) (i j : ℕ)
+    → Did t was session text i j → Appends a b text → Wrote t session a b i j
 wrote_reply t was session text a b i j did w = record { is_at = did.is_at; written = subst (Appends a b) did.reply w; spent = did.spent }
 
 pub some_nothing : (a : Option (List ℕ)) (text : List ℕ) → AppendsSome a a text
 some_nothing None text = (0, tt)
 some_nothing (Some xs) text = (0, sym (append-nil xs))
 
-pub some_after : (a b c : Option (List ℕ)) (xs ys : List ℕ) → Appends a b xs → AppendsSome b c ys → AppendsSome a c (xs ++ ys)
+pub some_after : (a b c : Option (List ℕ)) (xs ys : List ℕ) → Appends a b xs → AppendsSome b c ys
+    → AppendsSome a c (xs ++ ys)
 some_after a b c xs ys p s = (length xs + s.0, rw (take-append-add xs ys s.0) (appends_more a b c xs (take s.0 ys) p s.1))
 
 pub some_more : (a c : Option (List ℕ)) (xs ys : List ℕ) → AppendsSome a c xs → AppendsSome a c (xs ++ ys)

@@ -9,8 +9,7 @@ use Rattle.cga_script.specs.Lines.{cut, clipped, lines_of}
 use Rattle.cga_script.specs.Pending.{Pending, kept_of, ready_line}
 use Rattle.cga_script.specs.declared.ending.Ending.TheVariants.{Open, End}
 use Rattle.std.proofs.lemmas.List.Elements.{All-nil}
-use Rattle.cga_script.proofs.Cuts.{last_kept, lines_append}
-use Rattle.cga_script.proofs.Feeds.{rest_of_part}
+use Rattle.cga_script.proofs.Door.{last_kept, lines_append, rest_of_part}
 use Rattle.cga_top.specs.declared.session.Session.{Session}
 use Rattle.cga_top.specs.State.{State, start}
 use Rattle.cga_top.specs.Effect.{Effect, silent, followed_by}
@@ -28,11 +27,13 @@ use Rattle.cga_top.specs.Reads.{limit, read_limit, pending_after, IsRead, IsHalt
 use Rattle.cga_top.specs.Session.{IsAt}
 use Rattle.cga_top.specs.Statuses.{WritesAll, WritesReplies, WritesPrefix, StatusMeans}
 use Rattle.cga_top.proofs.Effects.{spent_then, all_append, some_more, some_after, wrote_more}
+pub use Rattle.cga_fraction.proofs.Door.{all_of_it}
 
 nothing_kept : (x : ℕ) (xs : List ℕ) → take 4098 (x ∷ xs) ≡ [] → ⊥
 nothing_kept x xs e = let bad : x ∷ take 4097 xs ≡ [] = e in cc
 
-pub line_at_end : (s : State) (rest : List ℕ) (p : Pending) (kept : List ℕ) → p ≡ record { kept = kept; ending = End } → kept ≡ kept_of rest → (kept ≡ [] → ⊥) → last_line s rest ≡ effect s (ready_line p)
+pub line_at_end : (s : State) (rest : List ℕ) (p : Pending) (kept : List ℕ) → p ≡ record { kept = kept; ending = End }
+    → kept ≡ kept_of rest → (kept ≡ [] → ⊥) → last_line s rest ≡ effect s (ready_line p)
 line_at_end s [] p kept e k some = absurd (some (k ∙ take-nil 4098))
 line_at_end s (byte ∷ bytes) p kept e k some = ap (effect s) (sym (ap ready_line e ∙ ap clipped k ∙ last_kept (byte ∷ bytes)))
 
@@ -50,28 +51,25 @@ output_more d read more =
     (later.reply ++ last.reply, ap (λ (t : Effect). t.reply ++ last.reply) same ∙ append_assoc (effect_of_lines d read).reply later.reply last.reply)
 
 -- some replies to a part are some of the output
-pub some_output : (d : ℕ) (bytes read more : List ℕ) (a c : Option (List ℕ)) → bytes ≡ read ++ more → AppendsSome a c (replies_of d read) → AppendsSome a c (output_of d bytes)
+pub some_output : (d : ℕ) (bytes read more : List ℕ) (a c : Option (List ℕ)) → bytes ≡ read ++ more
+    → AppendsSome a c (replies_of d read) → AppendsSome a c (output_of d bytes)
 some_output d bytes read more a c e s = let o = output_more d read more in
     subst (λ (t : List ℕ). AppendsSome a c t) (sym (ap (output_of d) e ∙ o.1)) (some_more a c (replies_of d read) o.0 s)
 
 -- so that whatever was read, a prefix was written
-pub prefix_of : (d : ℕ) (script left a c : Option (List ℕ)) (read : List ℕ) (n : ℕ) → Consumes script left read → AppendsSome a c (replies_of d (take n read)) → IfSome script (λ bytes. AppendsSome a c (output_of d bytes))
+pub prefix_of : (d : ℕ) (script left a c : Option (List ℕ)) (read : List ℕ) (n : ℕ) → Consumes script left read
+    → AppendsSome a c (replies_of d (take n read)) → IfSome script (λ bytes. AppendsSome a c (output_of d bytes))
 prefix_of d None left a c read n p s = tt
 prefix_of d (Some bytes) None a c read n p s = absurd p
 prefix_of d (Some bytes) (Some rest) a c read n p s =
     some_output d bytes (take n read) (drop n read ++ rest) a c (p ∙ ap (λ (r : List ℕ). r ++ rest) (sym (take-append-drop n read)) ∙ append_assoc (take n read) (drop n read) rest) s
 
-pub all_of_it : (a b c : Option (List ℕ)) (text : List ℕ) → Appends a b text → Keeps b c → Appends a c text
-all_of_it None b c text p q = tt
-all_of_it (Some xs) None c text p q = absurd p
-all_of_it (Some xs) (Some ys) None text p q = absurd q
-all_of_it (Some xs) (Some ys) (Some zs) text p q = q ∙ p
-
 pub some_kept : (a b c : Option (List ℕ)) (text : List ℕ) → Appends a b text → Keeps b c → AppendsSome a c text
 some_kept a b c text p q = (length text, let e : take (length text) text ≡ text = take_all (length text) text (omega arith) in rw e (all_of_it a b c text p q))
 
 -- a fact of what the source tells
-pub by_bytes : (P : List ℕ → Type 0) (known : Option (List ℕ)) → ((bytes : List ℕ) → known ≡ Some bytes → P bytes) → IfSome known P
+pub by_bytes : (P : List ℕ → Type 0) (known : Option (List ℕ)) → ((bytes : List ℕ) → known ≡ Some bytes → P bytes)
+    → IfSome known P
 by_bytes P None each = tt
 by_bytes P (Some bytes) each = each bytes refl
 
@@ -92,21 +90,27 @@ pub record IsFlushed (status wanted : Status) (old new : Outside) : Type 0 where
   pub calm : status ≢ WriteFault → new.writes_failed ≡ old.writes_failed
 
 -- the status after a flush is the wanted one with what it means, or a write fault with what that means
-pub flushed_as : (means : Status → Type 0) (status wanted : Status) (old mid new : Outside) → wanted ≢ WriteFault → IsFlushed status wanted mid new → mid.writes_failed ≡ old.writes_failed
-    → (IsTrue new.flushed → new.writes_failed ≡ old.writes_failed → means wanted) → (Rose old.writes_failed new.writes_failed → means WriteFault) → means status
+pub flushed_as : (means : Status → Type 0) (status wanted : Status) (old mid new : Outside) → wanted ≢ WriteFault
+    → IsFlushed status wanted mid new → mid.writes_failed ≡ old.writes_failed
+    → (IsTrue new.flushed → new.writes_failed ≡ old.writes_failed → means wanted)
+    → (Rose old.writes_failed new.writes_failed → means WriteFault) → means status
 flushed_as means status wanted old mid new other f calm fine bad = elim f.answers [
   | inl is ↦ let kept : status ≢ WriteFault = λ e. other (sym is ∙ e) in subst means (sym is) (fine (f.done kept) (f.calm kept ∙ calm))
   | inr is ↦ let unwanted : status ≢ wanted = λ e. other (sym e ∙ is) in subst means (sym is) (bad (subst (λ (n : ℕ). Rose n new.writes_failed) calm (f.fault unwanted)))
 ]
 
-flushed_means : (d : ℕ) (status wanted : Status) (old mid new : Outside) → wanted ≢ WriteFault → IsFlushed status wanted mid new → mid.writes_failed ≡ old.writes_failed
-    → (IsTrue new.flushed → new.writes_failed ≡ old.writes_failed → StatusMeans d wanted old new) → WritesPrefix d old new → StatusMeans d status old new
+flushed_means : (d : ℕ) (status wanted : Status) (old mid new : Outside) → wanted ≢ WriteFault
+    → IsFlushed status wanted mid new → mid.writes_failed ≡ old.writes_failed
+    → (IsTrue new.flushed → new.writes_failed ≡ old.writes_failed → StatusMeans d wanted old new)
+    → WritesPrefix d old new → StatusMeans d status old new
 flushed_means d status wanted old mid new other f calm means prefix =
     flushed_as (λ (s : Status). StatusMeans d s old new) status wanted old mid new other f calm means (λ rose. (rose, prefix))
 
 -- what was replied when reading failed or went too far
-replies_written : (d : ℕ) (read bytes : List ℕ) (old mid new : Outside) (session : Session) (lines : Pending) → old.left ≡ Some bytes
-    → IsRead d read old mid session lines → SameSource mid new → new.expanded ≡ mid.expanded → Keeps mid.held new.held → WritesReplies d read bytes old new
+replies_written : (d : ℕ) (read bytes : List ℕ) (old mid new : Outside) (session : Session) (lines : Pending)
+    → old.left ≡ Some bytes
+    → IsRead d read old mid session lines → SameSource mid new → new.expanded ≡ mid.expanded → Keeps mid.held new.held
+    → WritesReplies d read bytes old new
 unfolding replies_of
 replies_written d read bytes old mid new session lines told r source expanded keeps =
     let taken : Consumes old.left new.left read = subst (λ (left : Option (List ℕ)). Consumes old.left left read) (sym source.left) r.taken in
@@ -116,12 +120,15 @@ replies_written d read bytes old mid new session lines told r source expanded ke
       spent = record { by = spent_then (effect_of_lines d (take limit read)).works old.expanded mid.expanded new.expanded expanded r.wrote.spent };
     }
 
-read_prefix : (d : ℕ) (read : List ℕ) (old mid new : Outside) (session : Session) (lines : Pending) → IsRead d read old mid session lines → Keeps mid.held new.held → WritesPrefix d old new
+read_prefix : (d : ℕ) (read : List ℕ) (old mid new : Outside) (session : Session) (lines : Pending)
+    → IsRead d read old mid session lines → Keeps mid.held new.held → WritesPrefix d old new
 unfolding replies_of
 read_prefix d read old mid new session lines r keeps = prefix_of d old.left mid.left old.held new.held read limit r.taken (some_kept old.held mid.held new.held _ r.wrote.written keeps)
 
-pub failed_means : (d : ℕ) (status : Status) (old mid new : Outside) (session : Session) (lines : Pending) (read : List ℕ)
-    → IsRead d read old mid session lines → length read ≤ limit → Rose old.reads_failed mid.reads_failed → IsFlushed status ReadFault mid new → StatusMeans d status old new
+pub failed_means : (d : ℕ) (status : Status) (old mid new : Outside) (session : Session) (lines : Pending)
+    (read : List ℕ)
+    → IsRead d read old mid session lines → length read ≤ limit → Rose old.reads_failed mid.reads_failed
+    → IsFlushed status ReadFault mid new → StatusMeans d status old new
 failed_means d status old mid new session lines read r few rose f =
     let other : ReadFault ≢ WriteFault = λ e. cc in
     flushed_means d status ReadFault old mid new other f r.calm
@@ -134,8 +141,10 @@ failed_means d status old mid new session lines read r few rose f =
     ))
     (read_prefix d read old mid new session lines r f.held)
 
-pub too_long_means : (d : ℕ) (status : Status) (old mid new : Outside) (session : Session) (lines : Pending) (read : List ℕ)
-    → IsRead d read old mid session lines → limit < length read → length read ≤ limit + read_limit → mid.reads_failed ≡ old.reads_failed → IsFlushed status TooLong mid new → StatusMeans d status old new
+pub too_long_means : (d : ℕ) (status : Status) (old mid new : Outside) (session : Session) (lines : Pending)
+    (read : List ℕ)
+    → IsRead d read old mid session lines → limit < length read → length read ≤ limit + read_limit
+    → mid.reads_failed ≡ old.reads_failed → IsFlushed status TooLong mid new → StatusMeans d status old new
 too_long_means d status old mid new session lines read r many most reads f =
     let other : TooLong ≢ WriteFault = λ e. cc in
     flushed_means d status TooLong old mid new other f r.calm
@@ -148,16 +157,20 @@ too_long_means d status old mid new session lines read r many most reads f =
     (read_prefix d read old mid new session lines r f.held)
 
 -- the whole script was read
-pub all_taken : (read bytes : List ℕ) (left : Option (List ℕ)) → Consumes (Some bytes) left read → IsAtEnd left → read ≡ bytes
+pub all_taken : (read bytes : List ℕ) (left : Option (List ℕ)) → Consumes (Some bytes) left read → IsAtEnd left
+    → read ≡ bytes
 all_taken read bytes None taken at_end = absurd taken
 all_taken read bytes (Some rest) taken at_end = sym (taken ∙ ap (λ (x : List ℕ). read ++ x) at_end ∙ append-nil read)
 
-pub ended_bytes : (d : ℕ) (read bytes : List ℕ) (old mid : Outside) (session : Session) (lines : Pending) → old.left ≡ Some bytes → IsRead d read old mid session lines → IsAtEnd mid.left → read ≡ bytes
+pub ended_bytes : (d : ℕ) (read bytes : List ℕ) (old mid : Outside) (session : Session) (lines : Pending)
+    → old.left ≡ Some bytes → IsRead d read old mid session lines → IsAtEnd mid.left → read ≡ bytes
 ended_bytes d read bytes old mid session lines told r at_end = all_taken read bytes mid.left (subst (λ (left : Option (List ℕ)). Consumes left mid.left read) told r.taken) at_end
 
-all_written : (d : ℕ) (read bytes : List ℕ) (old mid last new : Outside) (session next : Session) (lines : Pending) → read ≡ bytes
+all_written : (d : ℕ) (read bytes : List ℕ) (old mid last new : Outside) (session next : Session) (lines : Pending)
+    → read ≡ bytes
     → IsRead d read old mid session lines → length read ≤ limit
-    → Wrote (last_effect (effect_of_lines d (take limit read)).state (cut (take limit read)).rest) next mid.held last.held mid.expanded last.expanded
+    → Wrote (last_effect (effect_of_lines d (take limit read)).state (cut (take limit read)).rest) next mid.held
+    last.held mid.expanded last.expanded
     → new.expanded ≡ last.expanded → Keeps last.held new.held → WritesAll d bytes old new
 unfolding output_of
 all_written d read bytes old mid last new session next lines is r few w expanded keeps =
@@ -173,23 +186,33 @@ all_written d read bytes old mid last new session next lines is r few w expanded
     }
 
 -- all was replied to, or some of it
-end_some : (d : ℕ) (read bytes : List ℕ) (old mid new : Outside) (session : Session) (lines : Pending) → read ≡ bytes → IsRead d read old mid session lines → length read ≤ limit
-    → AppendsSome mid.held new.held (last_effect (effect_of_lines d (take limit read)).state (cut (take limit read)).rest).reply → AppendsSome old.held new.held (output_of d bytes)
+end_some : (d : ℕ) (read bytes : List ℕ) (old mid new : Outside) (session : Session) (lines : Pending) → read ≡ bytes
+    → IsRead d read old mid session lines → length read ≤ limit
+    → AppendsSome mid.held new.held
+    (last_effect (effect_of_lines d (take limit read)).state (cut (take limit read)).rest).reply
+    → AppendsSome old.held new.held (output_of d bytes)
 unfolding output_of
 end_some d read bytes old mid new session lines is r few s =
     let same : take limit read ≡ bytes = take_all limit read few ∙ is in
     subst (λ (x : List ℕ). AppendsSome old.held new.held (effect_of_script d x).reply) same (some_after old.held mid.held new.held _ _ r.wrote.written s)
 
-pub end_prefix : (d : ℕ) (read : List ℕ) (old mid new : Outside) (session : Session) (lines : Pending) → IsRead d read old mid session lines → length read ≤ limit → IsAtEnd mid.left
-    → AppendsSome mid.held new.held (last_effect (effect_of_lines d (take limit read)).state (cut (take limit read)).rest).reply → WritesPrefix d old new
+pub end_prefix : (d : ℕ) (read : List ℕ) (old mid new : Outside) (session : Session) (lines : Pending)
+    → IsRead d read old mid session lines → length read ≤ limit → IsAtEnd mid.left
+    → AppendsSome mid.held new.held
+    (last_effect (effect_of_lines d (take limit read)).state (cut (take limit read)).rest).reply
+    → WritesPrefix d old new
 end_prefix d read old mid new session lines r few at_end s =
     by_bytes (λ bytes. AppendsSome old.held new.held (output_of d bytes)) old.left
     (λ bytes told. end_some d read bytes old mid new session lines (ended_bytes d read bytes old mid session lines told r at_end) r few s)
 
-pub done_means : (d : ℕ) (status : Status) (old mid last new : Outside) (session next : Session) (lines : Pending) (read : List ℕ)
-    → IsRead d read old mid session lines → length read ≤ limit → IsAtEnd mid.left → IsTrue mid.ended → mid.reads_failed ≡ old.reads_failed
-    → Wrote (last_effect (effect_of_lines d (take limit read)).state (cut (take limit read)).rest) next mid.held last.held mid.expanded last.expanded
-    → SameSource mid last → last.writes_failed ≡ mid.writes_failed → IsFlushed status Done last new → StatusMeans d status old new
+pub done_means : (d : ℕ) (status : Status) (old mid last new : Outside) (session next : Session) (lines : Pending)
+    (read : List ℕ)
+    → IsRead d read old mid session lines → length read ≤ limit → IsAtEnd mid.left → IsTrue mid.ended
+    → mid.reads_failed ≡ old.reads_failed
+    → Wrote (last_effect (effect_of_lines d (take limit read)).state (cut (take limit read)).rest) next mid.held
+    last.held mid.expanded last.expanded
+    → SameSource mid last → last.writes_failed ≡ mid.writes_failed → IsFlushed status Done last new
+    → StatusMeans d status old new
 done_means d status old mid last new session next lines read r few at_end ended reads w source writes f =
     let other : Done ≢ WriteFault = λ e. cc in
     let over : IsTrue new.ended = rw (f.source.ended ∙ source.ended) ended in
@@ -204,15 +227,18 @@ done_means d status old mid last new session next lines read r few at_end ended 
     (end_prefix d read old mid new session lines r few at_end (some_kept mid.held last.held new.held _ w.written f.held))
 
 -- and so the session has come to the state of the whole script
-pub left_at : (d : ℕ) (read : List ℕ) (old mid : Outside) (session next : Session) (lines : Pending) → IsRead d read old mid session lines → length read ≤ limit → IsAtEnd mid.left
-    → IsAt (last_effect (effect_of_lines d (take limit read)).state (cut (take limit read)).rest).state next → IfSome old.left (λ bytes. IsAt (effect_of_script d bytes).state next)
+pub left_at : (d : ℕ) (read : List ℕ) (old mid : Outside) (session next : Session) (lines : Pending)
+    → IsRead d read old mid session lines → length read ≤ limit → IsAtEnd mid.left
+    → IsAt (last_effect (effect_of_lines d (take limit read)).state (cut (take limit read)).rest).state next
+    → IfSome old.left (λ bytes. IsAt (effect_of_script d bytes).state next)
 left_at d read old mid session next lines r few at_end is =
     by_bytes (λ bytes. IsAt (effect_of_script d bytes).state next) old.left
     (λ bytes told. subst (λ (x : List ℕ). IsAt (effect_of_script d x).state next) (take_all limit read few ∙ ended_bytes d read bytes old mid session lines told r at_end) is)
 
 pub halted_means : (d : ℕ) (halt : Halt) (status : Status) (old new : Outside)
     → (halt ≡ cause.WriteFault → status ≡ WriteFault) → (halt ≡ cause.NoMemory → status ≡ NoMemory)
-    → FaultsAt halt old.writes_failed new.writes_failed → new.reads_failed ≡ old.reads_failed → WritesPrefix d old new → StatusMeans d status old new
+    → FaultsAt halt old.writes_failed new.writes_failed → new.reads_failed ≡ old.reads_failed → WritesPrefix d old new
+    → StatusMeans d status old new
 halted_means d cause.WriteFault status old new write memory faults reads prefix = subst (λ (s : Status). StatusMeans d s old new) (sym (write refl)) (faults, prefix)
 halted_means d cause.NoMemory status old new write memory faults reads prefix = subst (λ (s : Status). StatusMeans d s old new) (sym (memory refl)) (record { reads = reads; writes = faults }, prefix)
 
@@ -222,5 +248,6 @@ halted_prefix d read old new h = prefix_of d old.left new.left old.held new.held
 pub start_pending : (p : Pending) → p ≡ record { kept = []; ending = Open } → p ≡ pending_after []
 start_pending p e = e ∙ ap (λ (k : List ℕ). record { kept = kept_of k; ending = Open }) (sym (rest_of_part [] (All-nil (λ (b : ℕ). b ≢ 10))))
 
-pub ended_line : (t : Effect) (s1 : Session) (a b c : Option (List ℕ)) (i j : ℕ) → Wrote t s1 a b i j → Appends b c (at_end t.state).reply → Wrote (followed_by t (at_end t.state)) s1 a c i j
+pub ended_line : (t : Effect) (s1 : Session) (a b c : Option (List ℕ)) (i j : ℕ) → Wrote t s1 a b i j
+    → Appends b c (at_end t.state).reply → Wrote (followed_by t (at_end t.state)) s1 a c i j
 ended_line t s1 a b c i j w e = wrote_more t (at_end t.state) s1 s1 a b c i j j w (record { is_at = w.is_at; written = e; spent = refl })

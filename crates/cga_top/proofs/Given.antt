@@ -7,7 +7,7 @@ use Rattle.std.specs.Io.KnownBytes.{Appends}
 use Rattle.cga_outside.specs.Causes.{Rose}
 use Rattle.cga_script.specs.Lines.{cut, lines_of}
 use Rattle.cga_script.specs.Pending.{Pending, kept_of}
-use Rattle.cga_script.proofs.Feeds.{rest_of_part}
+use Rattle.cga_script.proofs.Door.{rest_of_part}
 use Rattle.cga_words.specs.Town.{town_text}
 use Rattle.cga_top.specs.declared.halt.Halt.{Halt}
 use Rattle.cga_top.specs.declared.halt.Halt.TheVariants as cause
@@ -30,17 +30,22 @@ pub none_kept : (p : Pending) → p ≡ pending_after [] → p.kept ≡ []
 none_kept p e = ap (λ (q : Pending). q.kept) e ∙ ap kept_of (rest_of_part [] (All-nil (λ (b : ℕ). b ≢ 10))) ∙ take-nil 4098
 
 -- behind nothing that was kept
-pub behind_none : (d : ℕ) (kept bytes : List ℕ) → kept ≡ [] → effect_of_all (start d) (lines_of (kept ++ bytes)) ≡ effect_of_lines d bytes
+pub behind_none : (d : ℕ) (kept bytes : List ℕ) → kept ≡ []
+    → effect_of_all (start d) (lines_of (kept ++ bytes)) ≡ effect_of_lines d bytes
 behind_none d kept bytes e = ap (λ (k : List ℕ). effect_of_all (start d) (lines_of (k ++ bytes))) e
 
-pub rest_kept : (kept bytes p : List ℕ) → kept ≡ [] → p ≡ kept_of (cut (kept ++ bytes)).rest → p ≡ kept_of (cut bytes).rest
+pub rest_kept : (kept bytes p : List ℕ) → kept ≡ [] → p ≡ kept_of (cut (kept ++ bytes)).rest
+    → p ≡ kept_of (cut bytes).rest
 rest_kept kept bytes p e h = h ∙ ap (λ (k : List ℕ). kept_of (cut (k ++ bytes)).rest) e
 
-pub some_given : (d : ℕ) (bytes : List ℕ) (a b : Option (List ℕ)) → AppendsSome a b (effect_of_lines d bytes).reply → AppendsSome a b (output_of d bytes)
+pub some_given : (d : ℕ) (bytes : List ℕ) (a b : Option (List ℕ)) → AppendsSome a b (effect_of_lines d bytes).reply
+    → AppendsSome a b (output_of d bytes)
 unfolding output_of
 some_given d bytes a b s = some_more a b (effect_of_lines d bytes).reply _ s
 
-pub more_given : (d : ℕ) (bytes : List ℕ) (a b c : Option (List ℕ)) → Appends a b (effect_of_lines d bytes).reply → AppendsSome b c (last_effect (effect_of_lines d bytes).state (cut bytes).rest).reply → AppendsSome a c (output_of d bytes)
+pub more_given : (d : ℕ) (bytes : List ℕ) (a b c : Option (List ℕ)) → Appends a b (effect_of_lines d bytes).reply
+    → AppendsSome b c (last_effect (effect_of_lines d bytes).state (cut bytes).rest).reply
+    → AppendsSome a c (output_of d bytes)
 unfolding output_of
 more_given d bytes a b c w s = some_after a b c (effect_of_lines d bytes).reply _ w s
 
@@ -48,7 +53,8 @@ output_is : (d : ℕ) (bytes : List ℕ) → (effect_of_script d bytes).reply �
 unfolding output_of
 output_is d bytes = refl
 
-pub given_done : (d : ℕ) (bytes : List ℕ) (status : Status) (old mid new : Outside) (session : Session) → Wrote (effect_of_script d bytes) session old.held mid.held old.expanded mid.expanded
+pub given_done : (d : ℕ) (bytes : List ℕ) (status : Status) (old mid new : Outside) (session : Session)
+    → Wrote (effect_of_script d bytes) session old.held mid.held old.expanded mid.expanded
     → mid.writes_failed ≡ old.writes_failed → IsFlushed status Done mid new → GivenMeans d bytes status old new
 given_done d bytes status old mid new session w calm f =
     let all : Appends old.held mid.held (output_of d bytes) = subst (Appends old.held mid.held) (output_is d bytes) w.written in
@@ -65,8 +71,10 @@ given_done d bytes status old mid new session w calm f =
           subst (λ (s : Status). GivenMeans d bytes s old new) (sym is) (subst (λ (n : ℕ). Rose n new.writes_failed) calm (f.fault unwanted), some_kept old.held mid.held new.held (output_of d bytes) all f.held)
     ]
 
-pub given_halted : (d : ℕ) (bytes : List ℕ) (halt : Halt) (status : Status) (old new : Outside) → (halt ≡ cause.WriteFault → status ≡ WriteFault) → (halt ≡ cause.NoMemory → status ≡ NoMemory)
-    → FaultsAt halt old.writes_failed new.writes_failed → AppendsSome old.held new.held (output_of d bytes) → GivenMeans d bytes status old new
+pub given_halted : (d : ℕ) (bytes : List ℕ) (halt : Halt) (status : Status) (old new : Outside)
+    → (halt ≡ cause.WriteFault → status ≡ WriteFault) → (halt ≡ cause.NoMemory → status ≡ NoMemory)
+    → FaultsAt halt old.writes_failed new.writes_failed → AppendsSome old.held new.held (output_of d bytes)
+    → GivenMeans d bytes status old new
 given_halted d bytes cause.WriteFault status old new write memory faults some = subst (λ (s : Status). GivenMeans d bytes s old new) (sym (write refl)) (faults, some)
 given_halted d bytes cause.NoMemory status old new write memory faults some = subst (λ (s : Status). GivenMeans d bytes s old new) (sym (memory refl)) (faults, some)
 
@@ -84,14 +92,17 @@ pub usage : (d : ℕ) (town : Option ℕ) (o : Outside) → RunMeans d town Usag
 usage d None o = refl
 usage d (Some lots) o = (refl, record { left = refl; ended = refl; reads = refl })
 
-given_headline : (d : ℕ) (bytes : List ℕ) (status : Status) (old new : Outside) → GivenMeans d bytes status old new → status ≡ Done → Appends old.held new.held (output_of d bytes)
+given_headline : (d : ℕ) (bytes : List ℕ) (status : Status) (old new : Outside) → GivenMeans d bytes status old new
+    → status ≡ Done → Appends old.held new.held (output_of d bytes)
 given_headline d bytes status old new m is = let all = subst (λ (s : Status). GivenMeans d bytes s old new) is m in all.2
 
-pub run_headline : (d : ℕ) (town : Option ℕ) (status : Status) (old new : Outside) → RunMeans d town status old new → status ≡ Done → IfSome (script_of town old.left) (λ bytes. Appends old.held new.held (output_of d bytes))
+pub run_headline : (d : ℕ) (town : Option ℕ) (status : Status) (old new : Outside) → RunMeans d town status old new
+    → status ≡ Done → IfSome (script_of town old.left) (λ bytes. Appends old.held new.held (output_of d bytes))
 run_headline d None status old new m is = headline_of d status old new m is
 run_headline d (Some lots) status old new m is = given_headline d (town_text lots) status old new m.0 is
 
-given_complete : (d : ℕ) (bytes : List ℕ) (status : Status) (old new : Outside) → GivenMeans d bytes status old new → (Rose old.writes_failed new.writes_failed → ⊥) → status ≢ Usage → (status ≡ Done) ⊎ (status ≡ NoMemory)
+given_complete : (d : ℕ) (bytes : List ℕ) (status : Status) (old new : Outside) → GivenMeans d bytes status old new
+    → (Rose old.writes_failed new.writes_failed → ⊥) → status ≢ Usage → (status ≡ Done) ⊎ (status ≡ NoMemory)
 given_complete d bytes Done old new m silent used = inl refl
 given_complete d bytes NoMemory old new m silent used = inr refl
 given_complete d bytes WriteFault old new m silent used = absurd (silent m.0)
@@ -99,7 +110,9 @@ given_complete d bytes ReadFault old new m silent used = absurd m
 given_complete d bytes TooLong old new m silent used = absurd m
 given_complete d bytes Usage old new m silent used = absurd (used refl)
 
-pub run_complete : (d : ℕ) (town : Option ℕ) (status : Status) (old new : Outside) → RunMeans d town status old new → HoldsFewOr town old.left
-    → (Rose old.reads_failed new.reads_failed → ⊥) → (Rose old.writes_failed new.writes_failed → ⊥) → status ≢ Usage → (status ≡ Done) ⊎ (status ≡ NoMemory)
+pub run_complete : (d : ℕ) (town : Option ℕ) (status : Status) (old new : Outside) → RunMeans d town status old new
+    → HoldsFewOr town old.left
+    → (Rose old.reads_failed new.reads_failed → ⊥) → (Rose old.writes_failed new.writes_failed → ⊥) → status ≢ Usage
+    → (status ≡ Done) ⊎ (status ≡ NoMemory)
 run_complete d None status old new m few calm silent used = complete_of d status old new m few calm silent used
 run_complete d (Some lots) status old new m few calm silent used = given_complete d (town_text lots) status old new m.0 silent used

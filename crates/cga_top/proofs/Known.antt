@@ -4,12 +4,14 @@ use Rattle.std.proofs.lemmas.List.{append-nil, take-append-drop}
 use Rattle.std.specs.Io.KnownBytes.{Appends, Consumes, Keeps}
 use Rattle.std.proofs.Math.Seq.{take-append_seam, take-length}
 use Rattle.cga_top.specs.Prefixes.{AppendsSome}
+use Rattle.cga_fraction.proofs.Door.{all_of_it as appends_kept}
 
 pub consumes_nothing : (known : Option (List ℕ)) → Consumes known known []
 consumes_nothing None = tt
 consumes_nothing (Some xs) = refl
 
-pub consumes_more : (a b c : Option (List ℕ)) (xs ys : List ℕ) → Consumes a b xs → Consumes b c ys → Consumes a c (xs ++ ys)
+pub consumes_more : (a b c : Option (List ℕ)) (xs ys : List ℕ) → Consumes a b xs → Consumes b c ys
+    → Consumes a c (xs ++ ys)
 consumes_more None b c xs ys p q = tt
 consumes_more (Some xs0) None c xs ys p q = absurd p
 consumes_more (Some xs0) (Some ys0) None xs ys p q = absurd q
@@ -25,19 +27,15 @@ appends_more (Some xs0) None c xs ys p q = absurd p
 appends_more (Some xs0) (Some ys0) None xs ys p q = absurd q
 appends_more (Some xs0) (Some ys0) (Some zs0) xs ys p q = rw (q, p) (append_assoc xs0 xs ys)
 
-appends_kept : (a b c : Option (List ℕ)) (xs : List ℕ) → Appends a b xs → Keeps b c → Appends a c xs
-appends_kept None b c xs p q = tt
-appends_kept (Some xs0) None c xs p q = absurd p
-appends_kept (Some xs0) (Some ys0) None xs p q = absurd q
-appends_kept (Some xs0) (Some ys0) (Some zs0) xs p q = q ∙ p
-
 -- a write that failed leaves what was written before it
-pub appends_so_far : (a b c : Option (List ℕ)) (done rest bytes : List ℕ) → done ++ rest ≡ bytes → Appends a b done → Keeps b c → AppendsSome a c bytes
+pub appends_so_far : (a b c : Option (List ℕ)) (done rest bytes : List ℕ) → done ++ rest ≡ bytes → Appends a b done
+    → Keeps b c → AppendsSome a c bytes
 appends_so_far a b c done rest bytes e p q =
     (length done, let same : take (length done) bytes ≡ done = rw (← e) (take-append_seam done rest) in rw same (appends_kept a b c done p q))
 
 -- one more write
-pub appends_piece : (a b c : Option (List ℕ)) (done rest others bytes : List ℕ) (n : ℕ) → done ++ rest ≡ bytes → Appends a b done → Appends b c (take n rest) → others ≡ drop n rest
+pub appends_piece : (a b c : Option (List ℕ)) (done rest others bytes : List ℕ) (n : ℕ) → done ++ rest ≡ bytes
+    → Appends a b done → Appends b c (take n rest) → others ≡ drop n rest
     → (xs : List ℕ) × (xs ++ others ≡ bytes) × Appends a c xs
 appends_piece a b c done rest others bytes n e p q o =
     (done ++ take n rest, rw o (append_assoc done (take n rest) (drop n rest) ∙ ap (λ (xs : List ℕ). done ++ xs) (take-append-drop n rest) ∙ e), appends_more a b c done (take n rest) p q)

@@ -1,24 +1,25 @@
-pub mod Told
-pub mod Apart
-pub mod Asks
-pub mod TooMany
-pub mod Closing
-pub mod Prints
-pub mod Numbers
-pub mod Numbered
-pub mod Histories
-pub mod Bills
-pub mod Steps
-pub mod Clothes
-pub mod Outsides
-pub mod Known
-pub mod Faults
-pub mod Effects
-pub mod Pieces
-pub mod Reading
-pub mod Ends
-pub mod Complete
-pub mod Given
-pub mod Tellings
-pub mod CityRuns
-pub mod LotByLot
+mod Told
+mod Apart
+mod Asks
+mod TooMany
+mod Closing
+mod Prints
+mod Numbers
+mod Numbered
+mod Histories
+mod Bills
+mod Steps
+mod Clothes
+mod Outsides
+mod Known
+mod Faults
+mod Effects
+mod Pieces
+mod Reading
+mod Ends
+mod Complete
+mod Given
+mod Tellings
+mod CityRuns
+mod LotByLot
+pub mod Door

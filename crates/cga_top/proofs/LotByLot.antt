@@ -16,7 +16,8 @@ Continues list lots place text = (rest : List ℕ) → IsHullText list (drop pla
 pub begins : (list : List Member) (lots : List Lot) (text : List ℕ) → text ≡ [] → Continues list lots 0 text
 begins list lots text none rest h = subst (λ t. IsHullText list lots (t ++ rest)) (sym none) h
 
-drop_at : (lots : List Lot) (place : ℕ) (lot : Lot) → slice_get lots place ≡ Some lot → drop place lots ≡ lot ∷ drop (suc place) lots
+drop_at : (lots : List Lot) (place : ℕ) (lot : Lot) → slice_get lots place ≡ Some lot
+    → drop place lots ≡ lot ∷ drop (suc place) lots
 drop_at [] place lot at = cc
 drop_at (x ∷ lots) zero lot at = let same : x ≡ lot = cc in ap (λ y. y ∷ lots) same
 drop_at (x ∷ lots) (suc place) lot at = drop_at lots place lot at
@@ -27,17 +28,21 @@ past [] (suc place) h = refl
 past (x ∷ lots) zero h = absurd (omega arith)
 past (x ∷ lots) (suc place) h = past lots place (omega arith)
 
-pub goes_on : (list : List Member) (lots : List Lot) (place next : ℕ) (text told : List ℕ) (lot : Lot) (box : Box) → slice_get lots place ≡ Some lot → IsHullOf lot.name list box
-    → told ≡ text ++ hull_line lot.name box → next ≡ suc place → Continues list lots place text → Continues list lots next told
+pub goes_on : (list : List Member) (lots : List Lot) (place next : ℕ) (text told : List ℕ) (lot : Lot) (box : Box)
+    → slice_get lots place ≡ Some lot → IsHullOf lot.name list box
+    → told ≡ text ++ hull_line lot.name box → next ≡ suc place → Continues list lots place text
+    → Continues list lots next told
 goes_on list lots place next text told lot box at is wrote one so_far rest h =
     let line = hull_line lot.name box in
     let after : IsHullText list (drop (suc place) lots) rest = subst (λ n. IsHullText list (drop n lots) rest) one h in
     let whole : IsHullText list (drop place lots) (line ++ rest) = subst (λ ls. IsHullText list ls (line ++ rest)) (sym (drop_at lots place lot at)) (box, rest, is, after, refl) in
     subst (IsHullText list lots) (sym (ap (λ t. t ++ rest) wrote ∙ append_assoc text line rest)) (so_far (line ++ rest) whole)
 
-pub ends : (list : List Member) (lots : List Lot) (place : ℕ) (text told : List ℕ) → length lots ≤ place → told ≡ text → Continues list lots place text → IsHullText list lots told
+pub ends : (list : List Member) (lots : List Lot) (place : ℕ) (text told : List ℕ) → length lots ≤ place → told ≡ text
+    → Continues list lots place text → IsHullText list lots told
 ends list lots place text told h is so_far =
     subst (IsHullText list lots) (append-nil text ∙ sym is) (so_far [] (subst (λ ls. IsHullText list ls []) (sym (past lots place h)) refl))
 
-pub at_place : (lots seen : List Lot) (place : ℕ) (lot : Lot) → seen ≡ lots → place < length seen → slice_get lots place ≡ Some (slice_index_or seen place lot)
+pub at_place : (lots seen : List Lot) (place : ℕ) (lot : Lot) → seen ≡ lots → place < length seen
+    → slice_get lots place ≡ Some (slice_index_or seen place lot)
 at_place lots seen place lot listed within = subst (λ (ls : List Lot). slice_get ls place ≡ Some (slice_index_or seen place lot)) listed (slice_get-get_or seen place lot within)

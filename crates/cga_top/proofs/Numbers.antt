@@ -8,13 +8,12 @@ use Rattle.cga_city.specs.Apply.{apply}
 use Rattle.cga_city.specs.City.{CityState, HasDistinctLots}
 use Rattle.cga_city.specs.Derived.{derived, members}
 use Rattle.cga_city.specs.Inside.{AreSound}
-use Rattle.cga_city.proofs.Again.{applied_sound}
-use Rattle.cga_city.proofs.Names.{names_differ}
+use Rattle.cga_city.proofs.Door.{applied_sound, names_differ}
+use Rattle.cga_touched.proofs.Door.{touched_is_counted}
 use Rattle.cga_expand.specs.Children.{Member}
 use Rattle.cga_expand.specs.Derivation.{NamesDiffer}
 use Rattle.cga_update.specs.Updates.{CountsTouched}
 use Rattle.cga_touched.specs.Count.{touched_count}
-use Rattle.cga_touched.proofs.Law.{touched_is_counted}
 use Rattle.cga_top.specs.State.{State}
 use Rattle.cga_top.specs.Written.{IsWritten}
 use Rattle.cga_top.specs.Replies.{budget_of}
@@ -39,10 +38,12 @@ distinct (edit.Unlot name) w = tt
 distinct (edit.SetOrder mode) w = tt
 distinct (edit.Whole sources) w = w.names
 
-pub can_be_left : (city : CityState) (x : Sources) (e : Edit) → x ≡ city.sources → AreSound x → derived city.budget x ≡ Some (members city.budget x) → HasDistinctLots e → CanBeLeft city.budget city.sources e
+pub can_be_left : (city : CityState) (x : Sources) (e : Edit) → x ≡ city.sources → AreSound x
+    → derived city.budget x ≡ Some (members city.budget x) → HasDistinctLots e → CanBeLeft city.budget city.sources e
 can_be_left city x e same sound fits apart = subst (λ (t : Sources). CanBeLeft city.budget t e) same (record { sound = sound; fits = fits; apart = apart })
 
-pub left_at : (s : State) (old : Session) (e : Edit) → IsAt s old → CanBeLeft old.city.budget old.city.sources e → CanBeLeft (budget_of s.version) s.sources e
+pub left_at : (s : State) (old : Session) (e : Edit) → IsAt s old → CanBeLeft old.city.budget old.city.sources e
+    → CanBeLeft (budget_of s.version) s.sources e
 left_at s old e at can =
     subst (λ (b : ℕ). CanBeLeft b s.sources e) at.budget (subst (λ (x : Sources). CanBeLeft old.city.budget x e) at.sources can)
 

@@ -17,17 +17,23 @@ use Rattle.cga_top.specs.Told.{command_of}
 use Rattle.cga_top.specs.Written.{AsksWritten}
 use Rattle.cga_top.proofs.Asks.{command_is, asks_written}
 
-by_test : (b c : Bool) (s : State) (line : Line) → b ≡ c → (if b then second s else asked s (command_of s.version line)) ≡ (if c then second s else asked s (command_of s.version line))
+by_test : (b c : Bool) (s : State) (line : Line) → b ≡ c
+    → (if b then second s else asked s (command_of s.version line)) ≡
+    (if c then second s else asked s (command_of s.version line))
 by_test b c s line e = ap (λ (t : Bool). if t then second s else asked s (command_of s.version line)) e
 
-pub outside_second : (s : State) (line : Line) (told : Bool) → told ≡ (s.fresh && is_version_line line) → told ≡ true → outside s line ≡ second s
+pub outside_second : (s : State) (line : Line) (told : Bool) → told ≡ (s.fresh && is_version_line line) → told ≡ true
+    → outside s line ≡ second s
 outside_second s line told e is = by_test (s.fresh && is_version_line line) true s line (sym e ∙ is)
 
-pub outside_asked : (s : State) (line : Line) (told : Bool) (version : Version) (found : Result ScriptCommand LineFault) → told ≡ (s.fresh && is_version_line line) → told ≡ false → version ≡ s.version → CommandTells version line found → outside s line ≡ asked s found
+pub outside_asked : (s : State) (line : Line) (told : Bool) (version : Version) (found : Result ScriptCommand LineFault)
+    → told ≡ (s.fresh && is_version_line line) → told ≡ false → version ≡ s.version → CommandTells version line found
+    → outside s line ≡ asked s found
 outside_asked s line told version found e isnt v h =
     by_test (s.fresh && is_version_line line) false s line (sym e ∙ isnt) ∙ ap (λ (w : Version). asked s (command_of w line)) (sym v) ∙ ap (asked s) (sym (command_is version line found h))
 
-pub command_written : (version : Version) (line : Line) (found : Result ScriptCommand LineFault) → CommandTells version line found → IfOk found AsksWritten
+pub command_written : (version : Version) (line : Line) (found : Result ScriptCommand LineFault)
+    → CommandTells version line found → IfOk found AsksWritten
 command_written version line (Ok command) h = asks_written version line command h
 command_written version line (Err fault) h = tt
 
@@ -37,7 +43,8 @@ pub none_open : (b : Option Block) → IsOpen b None → b ≡ None
 none_open None h = refl
 none_open (Some x) h = absurd h
 
-pub some_open : (b : Option Block) (reader : OpenBlock) → IsOpen b (Some reader) → (x : Block) × (b ≡ Some x) × IsOpenAs x reader
+pub some_open : (b : Option Block) (reader : OpenBlock) → IsOpen b (Some reader)
+    → (x : Block) × (b ≡ Some x) × IsOpenAs x reader
 some_open None reader h = absurd h
 some_open (Some x) reader h = (x, refl, h)
 
@@ -45,19 +52,23 @@ pub effect_none : (s : State) (line : Line) → s.block ≡ None → effect s li
 unfolding effect
 effect_none s line e = ap (λ (b : Option Block). effect_by b s line) e
 
-ended_by : (b : Bool) (s : State) (x : Block) (line : Line) → is_end_line line ≡ b → in_block s x line ≡ (if b then ended (record s { block = None }) x else opened s (with_line x line))
+ended_by : (b : Bool) (s : State) (x : Block) (line : Line) → is_end_line line ≡ b
+    → in_block s x line ≡ (if b then ended (record s { block = None }) x else opened s (with_line x line))
 ended_by b s x line e = ap (λ (t : Bool). if t then ended (record s { block = None }) x else opened s (with_line x line)) e
 
-pub effect_end : (s : State) (x : Block) (line : Line) → s.block ≡ Some x → is_end_line line ≡ true → effect s line ≡ ended (record s { block = None }) x
+pub effect_end : (s : State) (x : Block) (line : Line) → s.block ≡ Some x → is_end_line line ≡ true
+    → effect s line ≡ ended (record s { block = None }) x
 unfolding effect
 effect_end s x line e f = ap (λ (b : Option Block). effect_by b s line) e ∙ ended_by true s x line f
 
-pub effect_line : (s : State) (x : Block) (line : Line) → s.block ≡ Some x → is_end_line line ≡ false → effect s line ≡ opened s (with_line x line)
+pub effect_line : (s : State) (x : Block) (line : Line) → s.block ≡ Some x → is_end_line line ≡ false
+    → effect s line ≡ opened s (with_line x line)
 unfolding effect
 effect_line s x line e f = ap (λ (b : Option Block). effect_by b s line) e ∙ ended_by false s x line f
 
 -- the block was taken
-pub closed_at : (s : State) (old : Session) (mid : Option OpenBlock) → IsAt s old → mid ≡ None → IsAt (record s { block = None }) (record old { block = mid })
+pub closed_at : (s : State) (old : Session) (mid : Option OpenBlock) → IsAt s old → mid ≡ None
+    → IsAt (record s { block = None }) (record old { block = mid })
 closed_at s old mid at e = record {
   decimals = at.decimals;
   fresh = at.fresh;
@@ -72,10 +83,12 @@ closed_at s old mid at e = record {
   wardrobe = at.wardrobe;
 }
 
-pub none_at : (s : State) (old : Session) (mid : Option OpenBlock) → IsAt s old → s.block ≡ None → mid ≡ None → IsAt s (record old { block = mid })
+pub none_at : (s : State) (old : Session) (mid : Option OpenBlock) → IsAt s old → s.block ≡ None → mid ≡ None
+    → IsAt s (record old { block = mid })
 none_at s old mid at b e = subst (λ (t : State). IsAt t (record old { block = mid })) (ap (λ (x : Option Block). record s { block = x }) (sym b)) (closed_at s old mid at e)
 
-pub line_did : (s : State) (old : Session) (x : Block) (line : Line) (new : OpenBlock) (reply : List ℕ) (n : ℕ) → IsAt s old → s.block ≡ Some x → is_end_line line ≡ false → IsOpenAs (with_line x line) new → reply ≡ []
+pub line_did : (s : State) (old : Session) (x : Block) (line : Line) (new : OpenBlock) (reply : List ℕ) (n : ℕ)
+    → IsAt s old → s.block ≡ Some x → is_end_line line ≡ false → IsOpenAs (with_line x line) new → reply ≡ []
     → Did (effect s line) old.city.changes (record old { block = Some new }) reply n n
 line_did s old x line new reply n at b e is none =
     subst (λ (t : Effect). Did t old.city.changes (record old { block = Some new }) reply n n) (sym (effect_line s x line b e))

@@ -32,7 +32,8 @@ all_inserted es i e p ps = All-append Prints (take i es) (e ∷ drop i es) (All-
 all_removed : (es : List Entry) (i : ℕ) → All Prints es → All Prints (remove es i)
 all_removed es i ps = All-append Prints (take i es) (drop (suc i) es) (All-take Prints i es ps) (All-drop Prints (suc i) es ps)
 
-by_place : (es : List Entry) (e : Entry) (place : Option ℕ) (other : ℕ) → Prints e → All Prints es → All Prints (option_map_or (λ i. slice_set es i e) place (insert es other e))
+by_place : (es : List Entry) (e : Entry) (place : Option ℕ) (other : ℕ) → Prints e → All Prints es
+    → All Prints (option_map_or (λ i. slice_set es i e) place (insert es other e))
 by_place es e None other p ps = all_inserted es other e p ps
 by_place es e (Some i) other p ps = All-set Prints es i e p ps
 
@@ -48,11 +49,13 @@ all_ranked : (g : Grammar) → All Prints g.rules → All Prints (ranked g).rule
 unfolding ranked
 all_ranked g ps = with_all [] g.rules (All-nil Prints) ps
 
-one_repriced : (symbol : List ℕ) (priority : ℕ) (e : Entry) (b : Bool) → Prints e → Prints (if b then record { priority = priority; rule = e.rule } else e)
+one_repriced : (symbol : List ℕ) (priority : ℕ) (e : Entry) (b : Bool) → Prints e
+    → Prints (if b then record { priority = priority; rule = e.rule } else e)
 one_repriced symbol priority e true p = p
 one_repriced symbol priority e false p = p
 
-all_repriced : (symbol : List ℕ) (priority : ℕ) (es : List Entry) → All Prints es → All Prints (prioritized symbol priority es)
+all_repriced : (symbol : List ℕ) (priority : ℕ) (es : List Entry) → All Prints es
+    → All Prints (prioritized symbol priority es)
 all_repriced symbol priority [] ps = All-nil Prints
 all_repriced symbol priority (e ∷ es) ps =
     All-cons Prints (with_priority symbol priority e) (prioritized symbol priority es) (one_repriced symbol priority e (is_of symbol e) (All-head Prints e es ps)) (all_repriced symbol priority es (All-tail Prints e es ps))
@@ -71,7 +74,8 @@ unless : (b : Bool) (e : EditRefused) (r : Changed) → Keeps r → Keeps (err_i
 unless true e r k = tt
 unless false e r k = k
 
-found : (place : Option ℕ) (f : ℕ → Changed) (e : EditRefused) → ((i : ℕ) → Keeps (f i)) → Keeps (option_map_or f place (Err e))
+found : (place : Option ℕ) (f : ℕ → Changed) (e : EditRefused) → ((i : ℕ) → Keeps (f i))
+    → Keeps (option_map_or f place (Err e))
 found None f e each = tt
 found (Some i) f e each = each i
 
@@ -103,10 +107,12 @@ within_keeps : (budget : ℕ) (r : Changed) → Keeps r → Keeps (within budget
 within_keeps budget (Ok new) k = unless (not (is_within budget new)) cause.OverBudget (Ok new) k
 within_keeps budget (Err e) k = tt
 
-apply_keeps : (s : Sources) (e : Edit) (budget : ℕ) → ArePrintable s.grammar.rules → IsWritten e → Keeps (apply s e budget)
+apply_keeps : (s : Sources) (e : Edit) (budget : ℕ) → ArePrintable s.grammar.rules → IsWritten e
+    → Keeps (apply s e budget)
 unfolding apply
 apply_keeps s e budget ps w = within_keeps budget (changed s e) (changed_keeps s e ps w)
 
 -- an accepted edit of what can be printed leaves what can be printed
-pub applied_prints : (s new : Sources) (e : Edit) (budget : ℕ) → apply s e budget ≡ Ok new → ArePrintable s.grammar.rules → IsWritten e → ArePrintable new.grammar.rules
+pub applied_prints : (s new : Sources) (e : Edit) (budget : ℕ) → apply s e budget ≡ Ok new
+    → ArePrintable s.grammar.rules → IsWritten e → ArePrintable new.grammar.rules
 applied_prints s new e budget is ps w = subst Keeps is (apply_keeps s e budget ps w)

@@ -8,9 +8,7 @@ use Rattle.std.specs.Io.KnownBytes.{Consumes}
 use Rattle.cga_script.specs.Lines.{IsOneLine, cut, lines_of}
 use Rattle.cga_script.specs.Pending.{Pending, kept_of}
 use Rattle.cga_script.specs.declared.ending.Ending.TheVariants.{Open}
-use Rattle.cga_script.proofs.Cuts.{lines_append, kept_append, rest_is_one}
-use Rattle.cga_script.proofs.Feeds.{no_lines}
-use Rattle.cga_script.proofs.Kept.{take_room}
+use Rattle.cga_script.proofs.Door.{kept_append, lines_append, no_lines, rest_is_one, take_room}
 use Rattle.cga_top.specs.declared.session.Session.{Session}
 use Rattle.cga_top.specs.State.{State, start}
 use Rattle.cga_top.specs.Effect.{Effect, silent, followed_by}
@@ -28,7 +26,8 @@ use Rattle.cga_top.proofs.Pieces.{part_kept}
 nothing : IsOneLine []
 nothing = All-nil (λ (b : ℕ). b ≢ 10)
 
-pub reads_start : (d : ℕ) (session : Session) (lines : Pending) (o : Outside) → IsAt (start d) session → lines ≡ pending_after [] → IsRead d [] o o session lines
+pub reads_start : (d : ℕ) (session : Session) (lines : Pending) (o : Outside) → IsAt (start d) session
+    → lines ≡ pending_after [] → IsRead d [] o o session lines
 reads_start d session lines o at_it e =
     let none : take limit [] ≡ [] = take-nil limit in
     let still : effect_of_lines d (take limit []) ≡ silent (start d) = ap (effect_of_lines d) none ∙ ap (effect_of_all (start d)) (no_lines [] nothing) ∙ all_none (start d) in
@@ -62,7 +61,8 @@ module _ (d : ℕ) (read chunk piece : List ℕ) (lines : Pending) (few : length
   so_far : State
   so_far = (effect_of_lines d (take limit read)).state
 
-  pub effects_are : effect_of_lines d (take limit (read ++ chunk)) ≡ followed_by (effect_of_lines d (take limit read)) (effect_of_all (effect_of_lines d (take limit read)).state (lines_of (lines.kept ++ piece)))
+  pub effects_are : effect_of_lines d (take limit (read ++ chunk)) ≡ followed_by (effect_of_lines d (take limit read))
+      (effect_of_all (effect_of_lines d (take limit read)).state (lines_of (lines.kept ++ piece)))
   effects_are =
       ap (effect_of_lines d) more_read ∙ ap (effect_of_all (start d)) (lines_append read piece) ∙ all_append (start d) (lines_of read) (lines_of (kept_of (cut read).rest ++ piece))
       ∙ ap (λ (k : List ℕ). followed_by (effect_of_lines d read) (effect_of_all (effect_of_lines d read).state (lines_of (k ++ piece)))) (sym kept_is)
@@ -73,9 +73,12 @@ module _ (d : ℕ) (read chunk piece : List ℕ) (lines : Pending) (few : length
       ap (λ (k : List ℕ). record { kept = kept_of (cut (k ++ piece)).rest; ending = Open }) kept_is
       ∙ ap (λ (k : List ℕ). record { kept = k; ending = Open }) (kept_append read piece) ∙ ap pending_after (sym more_read)
 
-pub reads_more : (d : ℕ) (read chunk piece : List ℕ) (old mid new : Outside) (session next : Session) (lines after : Pending) → length read ≤ limit → piece ≡ take (limit - length read) chunk
+pub reads_more : (d : ℕ) (read chunk piece : List ℕ) (old mid new : Outside) (session next : Session)
+    (lines after : Pending)
+    → length read ≤ limit → piece ≡ take (limit - length read) chunk
     → IsRead d read old mid session lines → Consumes mid.left new.left chunk
-    → ((s : State) → IsAt s session → Wrote (effect_of_all s (lines_of (lines.kept ++ piece))) next mid.held new.held mid.expanded new.expanded)
+    → ((s : State) → IsAt s session
+    → Wrote (effect_of_all s (lines_of (lines.kept ++ piece))) next mid.held new.held mid.expanded new.expanded)
     → after ≡ record { kept = kept_of (cut (lines.kept ++ piece)).rest; ending = Open }
     → IsTrue new.flushed → new.writes_failed ≡ mid.writes_failed
     → IsRead d (read ++ chunk) old new next after
@@ -89,7 +92,9 @@ reads_more d read chunk piece old mid new session next lines after few first r m
 }
 
 -- a read that took nothing
-pub reads_none : (d : ℕ) (read : List ℕ) (old mid : Outside) (session : Session) (lines : Pending) (left : Option (List ℕ)) (ended : Bool) (failed : ℕ) → IsRead d read old mid session lines → Consumes mid.left left []
+pub reads_none : (d : ℕ) (read : List ℕ) (old mid : Outside) (session : Session) (lines : Pending)
+    (left : Option (List ℕ)) (ended : Bool) (failed : ℕ)
+    → IsRead d read old mid session lines → Consumes mid.left left []
     → IsRead d read old (record mid { left = left; ended = ended; reads_failed = failed }) session lines
 reads_none d read old mid session lines left ended failed r none = record {
   taken = subst (Consumes old.left left) (append-nil read) (consumes_more old.left mid.left left read [] r.taken none);
@@ -99,9 +104,11 @@ reads_none d read old mid session lines left ended failed r none = record {
   calm = r.calm;
 }
 
-pub reads_halt : (d : ℕ) (read chunk piece : List ℕ) (old mid new : Outside) (session : Session) (lines : Pending) → length read ≤ limit → piece ≡ take (limit - length read) chunk
+pub reads_halt : (d : ℕ) (read chunk piece : List ℕ) (old mid new : Outside) (session : Session) (lines : Pending)
+    → length read ≤ limit → piece ≡ take (limit - length read) chunk
     → IsRead d read old mid session lines → Consumes mid.left new.left chunk
-    → ((s : State) → IsAt s session → AppendsSome mid.held new.held (effect_of_all s (lines_of (lines.kept ++ piece))).reply)
+    → ((s : State) → IsAt s session
+    → AppendsSome mid.held new.held (effect_of_all s (lines_of (lines.kept ++ piece))).reply)
     → new.reads_failed ≡ old.reads_failed → IsHalted d (read ++ chunk) old new
 unfolding replies_of
 reads_halt d read chunk piece old mid new session lines few first r more each calm = record {

@@ -40,23 +40,31 @@ on_ok (Err e) P p = tt
 pub no_step : (s : State) (none : Refused) (step : Option Step) → step ≡ None → stepped s none step ≡ refuses s none
 no_step s none step e = ap (stepped s none) e
 
-pub some_step : (s : State) (none : Refused) (step : Option Step) (some : Step) → step ≡ Some some → stepped s none step ≡ changed s some.left (applied s (edit.Whole some.taken))
+pub some_step : (s : State) (none : Refused) (step : Option Step) (some : Step) → step ≡ Some some
+    → stepped s none step ≡ changed s some.left (applied s (edit.Whole some.taken))
 some_step s none step some e = ap (stepped s none) e
 
-pub undone_there : (s : State) (history : Kept) (last : Sources) → history ≡ s.kept → slice_get history.past (length history.past - 1) ≡ Some last → undone s.kept s.sources ≡ Some (record { taken = last; left = left_by history s.sources })
+pub undone_there : (s : State) (history : Kept) (last : Sources) → history ≡ s.kept
+    → slice_get history.past (length history.past - 1) ≡ Some last
+    → undone s.kept s.sources ≡ Some (record { taken = last; left = left_by history s.sources })
 undone_there s history last k e = ap (λ (h : Kept). undone h s.sources) (sym k) ∙ undone_some history s.sources last e
 
-pub undone_nowhere : (s : State) (history : Kept) → history ≡ s.kept → slice_get history.past (length history.past - 1) ≡ None → undone s.kept s.sources ≡ None
+pub undone_nowhere : (s : State) (history : Kept) → history ≡ s.kept
+    → slice_get history.past (length history.past - 1) ≡ None → undone s.kept s.sources ≡ None
 undone_nowhere s history k e = ap (λ (h : Kept). undone h s.sources) (sym k) ∙ undone_none history s.sources e
 
-pub redone_there : (s : State) (history : Kept) (last : Sources) → history ≡ s.kept → slice_get history.future (length history.future - 1) ≡ Some last → redone s.kept s.sources ≡ Some (record { taken = last; left = turned (left_by (turned history) s.sources) })
+pub redone_there : (s : State) (history : Kept) (last : Sources) → history ≡ s.kept
+    → slice_get history.future (length history.future - 1) ≡ Some last
+    → redone s.kept s.sources ≡ Some (record { taken = last; left = turned (left_by (turned history) s.sources) })
 redone_there s history last k e = ap (λ (h : Kept). redone h s.sources) (sym k) ∙ redone_some history s.sources last e
 
-pub redone_nowhere : (s : State) (history : Kept) → history ≡ s.kept → slice_get history.future (length history.future - 1) ≡ None → redone s.kept s.sources ≡ None
+pub redone_nowhere : (s : State) (history : Kept) → history ≡ s.kept
+    → slice_get history.future (length history.future - 1) ≡ None → redone s.kept s.sources ≡ None
 redone_nowhere s history k e = ap (λ (h : Kept). redone h s.sources) (sym k) ∙ redone_none history s.sources e
 
 -- what it changed, from the sources of the state
-are_changes : (s : State) (old : Session) (city : CityState) (e : Edit) (i j : ℕ) → IsAt s old → CanBeLeft old.city.budget old.city.sources e → IsDone old.city e city i j
+are_changes : (s : State) (old : Session) (city : CityState) (e : Edit) (i j : ℕ) → IsAt s old
+    → CanBeLeft old.city.budget old.city.sources e → IsDone old.city e city i j
     → AreChanges (budget_of s.version) s.sources city.sources city.changes
 are_changes s old city e i j at can done =
     let changes : AreChanges old.city.budget old.city.sources city.sources city.changes = record {
@@ -67,7 +75,8 @@ are_changes s old city e i j at can done =
     (subst (λ (x : Sources). AreChanges old.city.budget x city.sources city.changes) at.sources changes)
 
 -- an edit that was done
-pub changed_did : (s : State) (old new : Session) (history : Kept) (e : Edit) (before : Sources) (reply : List ℕ) (i j : ℕ) → IsAt s old → HasDistinctLots e → Accepts old e before new i j → reply ≡ ok_reply new.quiet
+pub changed_did : (s : State) (old new : Session) (history : Kept) (e : Edit) (before : Sources) (reply : List ℕ)
+    (i j : ℕ) → IsAt s old → HasDistinctLots e → Accepts old e before new i j → reply ≡ ok_reply new.quiet
     → Did (changed s history (applied s e)) old.city.changes (record new { history = history }) reply i j
 changed_did s old new history e before reply i j at apart a r =
     let done = a.done in
@@ -101,12 +110,15 @@ changed_did s old new history e before reply i j at apart a r =
     })
 
 -- what is noted is known by the version
-noted_in : (s : State) (old : Session) (v : Version) → IsAt s old → old.version ≡ v → noted_by v s.kept s.sources ≡ noted_by s.version s.kept s.sources
+noted_in : (s : State) (old : Session) (v : Version) → IsAt s old → old.version ≡ v
+    → noted_by v s.kept s.sources ≡ noted_by s.version s.kept s.sources
 noted_in s old v at is = ap (λ (w : Version). noted_by w s.kept s.sources) (sym is ∙ at.version)
 
 -- the sources before an edit that was done are noted
-pub change_did : (s : State) (old new : Session) (history : Kept) (e : Edit) (before : Sources) (text : Result (List ℕ) NoMemory) (i j : ℕ)
-    → IsAt s old → old.version ≡ Two → HasDistinctLots e → Accepts old e before new i j → history ≡ noted new.history before → IfOk text (λ t. t ≡ ok_reply new.quiet)
+pub change_did : (s : State) (old new : Session) (history : Kept) (e : Edit) (before : Sources)
+    (text : Result (List ℕ) NoMemory) (i j : ℕ)
+    → IsAt s old → old.version ≡ Two → HasDistinctLots e → Accepts old e before new i j
+    → history ≡ noted new.history before → IfOk text (λ t. t ≡ ok_reply new.quiet)
     → IfOk text (λ reply. Did (edited s e) old.city.changes (record new { history = history }) reply i j)
 change_did s old new history e before (Err none) i j at two apart a h r = tt
 change_did s old new history e before (Ok reply) i j at two apart a h r =
@@ -116,15 +128,18 @@ change_did s old new history e before (Ok reply) i j at two apart a h r =
 
 -- and in version 1 they aren't
 pub alone_did : (s : State) (old new : Session) (e : Edit) (text : Result (List ℕ) NoMemory) (i j : ℕ)
-    → IsAt s old → old.version ≡ One → HasDistinctLots e → Accepts old e old.city.sources new i j → IfOk text (λ t. t ≡ ok_reply new.quiet)
+    → IsAt s old → old.version ≡ One → HasDistinctLots e → Accepts old e old.city.sources new i j
+    → IfOk text (λ t. t ≡ ok_reply new.quiet)
     → IfOk text (λ reply. Did (edited s e) old.city.changes new reply i j)
 alone_did s old new e (Err none) i j at one apart a r = tt
 alone_did s old new e (Ok reply) i j at one apart a r =
     let k : new.history ≡ s.kept = ap (λ (x : Session). x.history) a.others ∙ at.kept in
     subst (λ (k : Kept). Did (changed s k (applied s e)) old.city.changes new reply i j) (k ∙ noted_in s old One at one) (changed_did s old new new.history e old.city.sources reply i j at apart a r)
 
-pub step_did : (s : State) (old new : Session) (history : Kept) (none : Refused) (step : Option Step) (some : Step) (taken before : Sources) (text : Result (List ℕ) NoMemory) (i j : ℕ)
-    → IsAt s old → HasDistinctLots (edit.Whole taken) → step ≡ Some some → taken ≡ some.taken → Accepts old (edit.Whole taken) before new i j → history ≡ some.left → IfOk text (λ t. t ≡ ok_reply new.quiet)
+pub step_did : (s : State) (old new : Session) (history : Kept) (none : Refused) (step : Option Step) (some : Step)
+    (taken before : Sources) (text : Result (List ℕ) NoMemory) (i j : ℕ)
+    → IsAt s old → HasDistinctLots (edit.Whole taken) → step ≡ Some some → taken ≡ some.taken
+    → Accepts old (edit.Whole taken) before new i j → history ≡ some.left → IfOk text (λ t. t ≡ ok_reply new.quiet)
     → IfOk text (λ reply. Did (stepped s none step) old.city.changes (record new { history = history }) reply i j)
 step_did s old new history none step some taken before (Err e) i j at apart is t a h r = tt
 step_did s old new history none step some taken before (Ok reply) i j at apart is t a h r =
@@ -134,21 +149,27 @@ step_did s old new history none step some taken before (Ok reply) i j at apart i
 
 -- ---- what an edit answered
 
-pub accepts_of : (old new : Session) (e : Edit) (answer : Result Sources EditRefused) (before : Sources) (i j : ℕ) → answer ≡ Ok before → Tells old e answer new i j → Accepts old e before new i j
+pub accepts_of : (old new : Session) (e : Edit) (answer : Result Sources EditRefused) (before : Sources) (i j : ℕ)
+    → answer ≡ Ok before → Tells old e answer new i j → Accepts old e before new i j
 accepts_of old new e answer before i j is h = subst (λ (r : Result Sources EditRefused). Tells old e r new i j) is h
 
-pub refuses_of : (old new : Session) (e : Edit) (answer : Result Sources EditRefused) (refused : EditRefused) (i j : ℕ) → answer ≡ Err refused → Tells old e answer new i j → Refuses old e refused new i j
+pub refuses_of : (old new : Session) (e : Edit) (answer : Result Sources EditRefused) (refused : EditRefused) (i j : ℕ)
+    → answer ≡ Err refused → Tells old e answer new i j → Refuses old e refused new i j
 refuses_of old new e answer refused i j is h = subst (λ (r : Result Sources EditRefused). Tells old e r new i j) is h
 
-pub works_of : (old new : Session) (e : Edit) (answer : Result (Unit {0}) EditRefused) (i j : ℕ) → answer ≡ Ok tt → Works old e answer new i j → Accepts old e old.city.sources new i j
+pub works_of : (old new : Session) (e : Edit) (answer : Result (Unit {0}) EditRefused) (i j : ℕ) → answer ≡ Ok tt
+    → Works old e answer new i j → Accepts old e old.city.sources new i j
 works_of old new e answer i j is h = subst (λ (r : Result (Unit {0}) EditRefused). Works old e r new i j) is h
 
-pub works_refused : (old new : Session) (e : Edit) (answer : Result (Unit {0}) EditRefused) (refused : EditRefused) (i j : ℕ) → answer ≡ Err refused → Works old e answer new i j → Refuses old e refused new i j
+pub works_refused : (old new : Session) (e : Edit) (answer : Result (Unit {0}) EditRefused) (refused : EditRefused)
+    (i j : ℕ)
+    → answer ≡ Err refused → Works old e answer new i j → Refuses old e refused new i j
 works_refused old new e answer refused i j is h = subst (λ (r : Result (Unit {0}) EditRefused). Works old e r new i j) is h
 
 -- ---- refused
 
-spent_refused : (old : Sources) (refused : EditRefused) (budget i j : ℕ) → i ≤ j → j ≤ i + (budget + 1) → (refused ≢ cause.OverBudget → j ≡ i) → SpentBy old budget (Err refused) i j
+spent_refused : (old : Sources) (refused : EditRefused) (budget i j : ℕ) → i ≤ j → j ≤ i + (budget + 1)
+    → (refused ≢ cause.OverBudget → j ≡ i) → SpentBy old budget (Err refused) i j
 spent_refused old (cause.NoRule id) budget i j later most free = let n = free (λ e. cc) in (later, omega arith)
 spent_refused old (cause.NoAttribute name) budget i j later most free = let n = free (λ e. cc) in (later, omega arith)
 spent_refused old (cause.NoSymbol name) budget i j later most free = let n = free (λ e. cc) in (later, omega arith)
@@ -160,8 +181,10 @@ spent_refused old cause.OverBudget budget i j later most free = (later, most)
 spent_refused old cause.NoMemory budget i j later most free = let n = free (λ e. cc) in (later, omega arith)
 
 -- an edit that was refused
-pub refused_did : (s : State) (old new : Session) (kept : Kept) (e : Edit) (refused : EditRefused) (text : Result (List ℕ) NoMemory) (i j : ℕ)
-    → IsAt s old → Refuses old e refused new i j → IfOk text (λ t. t ≡ refusal_text_of (told.Edit refused)) → IfOk text (λ reply. Did (changed s kept (applied s e)) old.city.changes new reply i j)
+pub refused_did : (s : State) (old new : Session) (kept : Kept) (e : Edit) (refused : EditRefused)
+    (text : Result (List ℕ) NoMemory) (i j : ℕ)
+    → IsAt s old → Refuses old e refused new i j → IfOk text (λ t. t ≡ refusal_text_of (told.Edit refused))
+    → IfOk text (λ reply. Did (changed s kept (applied s e)) old.city.changes new reply i j)
 refused_did s old new kept e refused (Err none) i j at h is = tt
 refused_did s old new kept e refused (Ok reply) i j at h is =
     let why = h.why in
@@ -174,8 +197,10 @@ refused_did s old new kept e refused (Ok reply) i j at h is =
       changed = subst (λ (x : Session). old.city.changes ≡ no_changes → x.city.changes ≡ no_changes) (sym h.same) (λ none. none);
     })
 
-pub step_refused : (s : State) (old new : Session) (none : Refused) (step : Option Step) (some : Step) (taken : Sources) (refused : EditRefused) (text : Result (List ℕ) NoMemory) (i j : ℕ)
-    → IsAt s old → step ≡ Some some → taken ≡ some.taken → Refuses old (edit.Whole taken) refused new i j → IfOk text (λ t. t ≡ refusal_text_of (told.Edit refused))
+pub step_refused : (s : State) (old new : Session) (none : Refused) (step : Option Step) (some : Step)
+    (taken : Sources) (refused : EditRefused) (text : Result (List ℕ) NoMemory) (i j : ℕ)
+    → IsAt s old → step ≡ Some some → taken ≡ some.taken → Refuses old (edit.Whole taken) refused new i j
+    → IfOk text (λ t. t ≡ refusal_text_of (told.Edit refused))
     → IfOk text (λ reply. Did (stepped s none step) old.city.changes new reply i j)
 step_refused s old new none step some taken refused text i j at is t h says =
     subst (λ (e : Effect). IfOk text (λ reply. Did e old.city.changes new reply i j))
@@ -185,10 +210,12 @@ step_refused s old new none step some taken refused text i j at is t h says =
 -- ---- the next line
 
 -- an edit of the city leaves the history
-pub history_same : (old new : Session) (e : Edit) (before : Sources) (i j : ℕ) → Accepts old e before new i j → new.history ≡ old.history
+pub history_same : (old new : Session) (e : Edit) (before : Sources) (i j : ℕ) → Accepts old e before new i j
+    → new.history ≡ old.history
 history_same old new e before i j a = ap (λ (x : Session). x.history) a.others
 
-pub accepted_ready : (old new : Session) (history : Kept) (e : Edit) (before : Sources) (i j : ℕ) → IsReady old → IsWritten e → Accepts old e before new i j
+pub accepted_ready : (old new : Session) (history : Kept) (e : Edit) (before : Sources) (i j : ℕ) → IsReady old
+    → IsWritten e → Accepts old e before new i j
     → All AreWritten history.past → All AreWritten history.future → IsReady (record new { history = history })
 accepted_ready old new history e before i j ready written a past future = record {
   warm = a.done.warm_then;
@@ -201,13 +228,15 @@ accepted_ready old new history e before i j ready written a past future = record
 }
 
 -- where nothing is noted
-pub alone_ready : (old new : Session) (e : Edit) (i j : ℕ) → IsReady old → IsWritten e → Accepts old e old.city.sources new i j → IsReady new
+pub alone_ready : (old new : Session) (e : Edit) (i j : ℕ) → IsReady old → IsWritten e
+    → Accepts old e old.city.sources new i j → IsReady new
 alone_ready old new e i j ready written a =
     let same = history_same old new e old.city.sources i j a in
     accepted_ready old new new.history e old.city.sources i j ready written a
     (subst (λ (k : Kept). All AreWritten k.past) (sym same) ready.past) (subst (λ (k : Kept). All AreWritten k.future) (sym same) ready.future)
 
 -- the sources before an edit are such as lines write
-pub before_written : (old new : Session) (e : Edit) (before : Sources) (i j : ℕ) → IsReady old → Accepts old e before new i j → AreWritten before
+pub before_written : (old new : Session) (e : Edit) (before : Sources) (i j : ℕ) → IsReady old
+    → Accepts old e before new i j → AreWritten before
 before_written old new e before i j ready a =
     subst AreWritten (sym a.before_is) (record { printable = ready.rules; names = a.sound.names })

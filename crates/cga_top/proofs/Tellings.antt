@@ -31,7 +31,8 @@ told_in s session text at told =
     (subst (λ (x : Sources). IsHullText (members session.city.budget x) x.lots text) at.sources told)
 
 -- all of the text was written, and then flushed
-pub tell_done : (Tells : List ℕ → Type 0) (text : List ℕ) (status : Status) (old mid new : Outside) → Tells text → Appends old.held mid.held text → mid.writes_failed ≡ old.writes_failed
+pub tell_done : (Tells : List ℕ → Type 0) (text : List ℕ) (status : Status) (old mid new : Outside) → Tells text
+    → Appends old.held mid.held text → mid.writes_failed ≡ old.writes_failed
     → IsFlushed status Done mid new → TellMeans Tells status old new
 tell_done Tells text status old mid new told all calm f =
     let other : Done ≢ WriteFault = λ e. cc in
@@ -42,13 +43,15 @@ tell_done Tells text status old mid new told all calm f =
 some_all : (a b : Option (List ℕ)) (bytes : List ℕ) → Appends a b bytes → AppendsSome a b bytes
 some_all a b bytes p = (length bytes, rw take-length p)
 
-both_known : (P R Q : List ℕ → Type 0) (known : Option (List ℕ)) → IfSome known P → IfSome known R → ((bytes : List ℕ) → P bytes → R bytes → Q bytes) → IfSome known Q
+both_known : (P R Q : List ℕ → Type 0) (known : Option (List ℕ)) → IfSome known P → IfSome known R
+    → ((bytes : List ℕ) → P bytes → R bytes → Q bytes) → IfSome known Q
 both_known P R Q None p r each = tt
 both_known P R Q (Some bytes) p r each = each bytes p r
 
 -- behind a script that was done
 module _ (d : ℕ) (session : Session) (old mid new : Outside) (done : StatusMeans d Done old mid) (left : IfSome old.left (λ bytes. IsAt (effect_of_script d bytes).state session)) (source : SameSource mid new) (spent : new.expanded ≡ mid.expanded) where
-  told_all : (text : List ℕ) → ToldBy session text → Appends mid.held new.held text → (bytes : List ℕ) → WritesAll d bytes old mid → IsAt (effect_of_script d bytes).state session → TellsAll d bytes old new
+  told_all : (text : List ℕ) → ToldBy session text → Appends mid.held new.held text → (bytes : List ℕ)
+      → WritesAll d bytes old mid → IsAt (effect_of_script d bytes).state session → TellsAll d bytes old new
   told_all text told all bytes w at = record {
     few = w.few;
     text = text;
@@ -57,11 +60,13 @@ module _ (d : ℕ) (session : Session) (old mid new : Outside) (done : StatusMea
     spent = record { by = spent_then (effect_of_script d bytes).works old.expanded mid.expanded new.expanded spent w.spent.by };
   }
 
-  told_some : (text : List ℕ) → ToldBy session text → AppendsSome mid.held new.held text → (bytes : List ℕ) → WritesAll d bytes old mid → IsAt (effect_of_script d bytes).state session → TellsSome d bytes old new
+  told_some : (text : List ℕ) → ToldBy session text → AppendsSome mid.held new.held text → (bytes : List ℕ)
+      → WritesAll d bytes old mid → IsAt (effect_of_script d bytes).state session → TellsSome d bytes old new
   told_some text told some bytes w at =
       inr (text, told_in (effect_of_script d bytes).state session text at told, some_after old.held mid.held new.held (output_of d bytes) text w.output some)
 
-  none_told : new ≡ mid → (bytes : List ℕ) → WritesAll d bytes old mid → IsAt (effect_of_script d bytes).state session → AppendsSome old.held new.held (output_of d bytes)
+  none_told : new ≡ mid → (bytes : List ℕ) → WritesAll d bytes old mid → IsAt (effect_of_script d bytes).state session
+      → AppendsSome old.held new.held (output_of d bytes)
   none_told same bytes w at = subst (λ (o : Outside). AppendsSome old.held o.held (output_of d bytes)) (sym same) (some_all old.held mid.held (output_of d bytes) w.output)
 
   pub telling_means : (status : Status) → TellMeans (ToldBy session) status mid new → TellingMeans d status old new
@@ -83,12 +88,14 @@ module _ (d : ℕ) (session : Session) (old mid new : Outside) (done : StatusMea
   telling_means TooLong bad = absurd bad
   telling_means Usage bad = absurd bad
 
-known_more : (P Q : List ℕ → Type 0) (known : Option (List ℕ)) → IfSome known P → ((bytes : List ℕ) → P bytes → Q bytes) → IfSome known Q
+known_more : (P Q : List ℕ → Type 0) (known : Option (List ℕ)) → IfSome known P
+    → ((bytes : List ℕ) → P bytes → Q bytes) → IfSome known Q
 known_more P Q None p each = tt
 known_more P Q (Some bytes) p each = each bytes p
 
 -- where nothing more was told
-pub untold_means : (d : ℕ) (status : Status) (old new : Outside) → StatusMeans d status old new → status ≢ Done → TellingMeans d status old new
+pub untold_means : (d : ℕ) (status : Status) (old new : Outside) → StatusMeans d status old new → status ≢ Done
+    → TellingMeans d status old new
 untold_means d Done old new m other = absurd (other refl)
 untold_means d WriteFault old new m other = (m.0, known_more _ (λ bytes. TellsSome d bytes old new) old.left m.1 (λ bytes some. inl some))
 untold_means d ReadFault old new m other = m
@@ -96,7 +103,9 @@ untold_means d TooLong old new m other = m
 untold_means d NoMemory old new m other = m
 untold_means d Usage old new m other = m
 
-pub telling_complete : (d : ℕ) (status : Status) (old new : Outside) → TellingMeans d status old new → HoldsFew old.left → (Rose old.reads_failed new.reads_failed → ⊥) → (Rose old.writes_failed new.writes_failed → ⊥) → status ≢ Usage
+pub telling_complete : (d : ℕ) (status : Status) (old new : Outside) → TellingMeans d status old new
+    → HoldsFew old.left → (Rose old.reads_failed new.reads_failed → ⊥)
+    → (Rose old.writes_failed new.writes_failed → ⊥) → status ≢ Usage
     → (status ≡ Done) ⊎ (status ≡ NoMemory)
 telling_complete d Done old new m few calm silent used = inl refl
 telling_complete d NoMemory old new m few calm silent used = inr refl

@@ -31,7 +31,8 @@ module _ (g : Grammar) where
   rules_many r =
       ap (λ t. first (fault_if t TooManyRules ++ (fault_if (nat_lt 128 (length g.attributes)) TooManyAttributes ++ (each_after attribute_faults [] g.attributes ++ each_after (rule_faults g) [] g.rules)))) r
 
-  attributes_many : nat_lt 512 (length g.rules) ≡ false → nat_lt 128 (length g.attributes) ≡ true → check_fault g ≡ Err TooManyAttributes
+  attributes_many : nat_lt 512 (length g.rules) ≡ false → nat_lt 128 (length g.attributes) ≡ true
+      → check_fault g ≡ Err TooManyAttributes
   unfolding check_fault
   attributes_many r a =
       ap (λ t. first (fault_if t TooManyRules ++ (fault_if (nat_lt 128 (length g.attributes)) TooManyAttributes ++ (each_after attribute_faults [] g.attributes ++ each_after (rule_faults g) [] g.rules)))) r
@@ -54,7 +55,8 @@ same_grammar g e = record { fault = ap check_fault e; further = λ f. ap (λ x. 
 abbrev FewStay : Type 0
 FewStay = (g : Grammar) → length g.rules ≤ 513 → length g.attributes ≤ 129 → kept g ≡ g
 
-alike_by : FewStay → (g : Grammar) (r a : Bool) → nat_lt 512 (length g.rules) ≡ r → nat_lt 128 (length g.attributes) ≡ a → Alike g
+alike_by : FewStay → (g : Grammar) (r a : Bool) → nat_lt 512 (length g.rules) ≡ r → nat_lt 128 (length g.attributes) ≡ a
+    → Alike g
 alike_by few g true a e h = both_refused g TooManyRules (rules_many (kept g) (same_test 512 g.rules ∙ e)) (rules_many g e)
 alike_by few g false true e h = both_refused g TooManyAttributes (attributes_many (kept g) (same_test 512 g.rules ∙ e) (same_test 128 g.attributes ∙ h)) (attributes_many g e h)
 alike_by few g false false e h = same_grammar g (few g (grind (arith, nat_tests)) (grind (arith, nat_tests)))
@@ -71,7 +73,8 @@ pub rules_give_same : FewStay → (s : Sources) (budget : ℕ) (g : Grammar) →
 unfolding apply
 rules_give_same few s budget g = let a = alike few g in ap (within budget) (a.further (λ x u. with_grammar s (ranked x)))
 
-and_same : (r : Result (Unit {0}) EditRefused) (f g : Unit {0} → Changed) → ((u : Unit {0}) → f u ≡ g u) → and_then r f ≡ and_then r g
+and_same : (r : Result (Unit {0}) EditRefused) (f g : Unit {0} → Changed) → ((u : Unit {0}) → f u ≡ g u)
+    → and_then r f ≡ and_then r g
 and_same (Ok u) f g h = h u
 and_same (Err e) f g h = refl
 
@@ -81,7 +84,8 @@ settled g mode lots = and_then (accepted (ranked g) lots) (λ u. Ok (record { gr
 abbrev with_lots : Grammar → Mode → List Lot → Changed
 with_lots g mode lots = err_if (nat_lt 4096 (length lots)) cause.TooManyLots (settled g mode lots)
 
-lots_by : (g : Grammar) (mode : Mode) (lots : List Lot) (t : Bool) → nat_lt 4096 (length lots) ≡ t → with_lots g mode (take 4097 lots) ≡ with_lots g mode lots
+lots_by : (g : Grammar) (mode : Mode) (lots : List Lot) (t : Bool) → nat_lt 4096 (length lots) ≡ t
+    → with_lots g mode (take 4097 lots) ≡ with_lots g mode lots
 lots_by g mode lots true e =
     ap (λ b. err_if b cause.TooManyLots (settled g mode (take 4097 lots))) (same_test 4096 lots ∙ e) ∙ sym (ap (λ b. err_if b cause.TooManyLots (settled g mode lots)) e)
 lots_by g mode lots false e = ap (with_lots g mode) (take_all 4097 lots (grind (arith, nat_tests)))

@@ -39,7 +39,10 @@ use Rattle.cga_script.specs.declared.long_dump.LongDump.{LongDump}
 use Rattle.cga_script.specs.declared.refused.Refused.{Refused}
 use Rattle.cga_script.specs.declared.refused.Refused.TheVariants as refused
 use Rattle.cga_script.specs.declared.script_command.ScriptCommand.{ScriptCommand}
-use Rattle.cga_script.specs.declared.script_command.ScriptCommand.TheVariants.{Blank, Rules, Change, Print, Faults, Grammar, Stats, Quiet, CityBlock, Dump, AssetBlock, Dress, Undress, Model, Bill, Undo, Redo, Trace, JudgeBlock}
+use Rattle.cga_script.specs.declared.script_command.ScriptCommand.TheVariants.{Blank, Rules, Change, Print, Faults}
+use Rattle.cga_script.specs.declared.script_command.ScriptCommand.TheVariants.{Grammar, Stats, Quiet, CityBlock, Dump}
+use Rattle.cga_script.specs.declared.script_command.ScriptCommand.TheVariants.{AssetBlock, Dress, Undress, Model}
+use Rattle.cga_script.specs.declared.script_command.ScriptCommand.TheVariants.{Bill, Undo, Redo, Trace, JudgeBlock}
 use Rattle.cga_script.specs.declared.version.Version.{Version}
 use Rattle.cga_script.specs.declared.version.Version.TheVariants.{One, Two}
 use Rattle.cga_script.specs.Dumps.{dump_of}

@@ -9,7 +9,8 @@ ghost use Rattle.cga_top.specs.Session.{IsAt, Did};
 ghost use Rattle.cga_top.specs.Ready.{IsReady, Tells, Works};
 
 use crate::session::{Session, accepted};
-use cga_fraction::{List, NoMemory, Steps};
+use cga_expand::Expansions;
+use cga_fraction::{List, NoMemory, Tests};
 use cga_script::{Refused, Version, refusal_text};
 use cga_shape::{Edit, EditRefused, Sources};
 use std::sync::ledger::Ledger;
@@ -18,8 +19,8 @@ use std::sync::ledger::Ledger;
 fn work_edit<E: Ledger, T: Ledger>(
     session: &mut Session,
     edit: Edit,
-    expansions: &mut Steps<E>,
-    tests: &mut Steps<T>,
+    expansions: &mut Expansions<E>,
+    tests: &mut Tests<T>,
 ) -> Result<Result<(), EditRefused>, NoMemory>
     requires ready { IsReady session.old }
     requires lots { HasDistinctLots edit }
@@ -41,8 +42,8 @@ fn work_edit<E: Ledger, T: Ledger>(
 fn do_edit<E: Ledger, T: Ledger>(
     session: &mut Session,
     edit: Edit,
-    expansions: &mut Steps<E>,
-    tests: &mut Steps<T>,
+    expansions: &mut Expansions<E>,
+    tests: &mut Tests<T>,
 ) -> Result<Result<Sources, EditRefused>, NoMemory>
     requires ready { IsReady session.old }
     requires lots { HasDistinctLots edit }
@@ -59,8 +60,8 @@ fn do_edit<E: Ledger, T: Ledger>(
 pub(crate) fn change<E: Ledger, T: Ledger>(
     session: &mut Session,
     edit: Edit,
-    expansions: &mut Steps<E>,
-    tests: &mut Steps<T>,
+    expansions: &mut Expansions<E>,
+    tests: &mut Tests<T>,
 ) -> Result<List<u8>, NoMemory>
     requires ready { IsReady session.old }
     requires written { IsWritten edit }
@@ -77,8 +78,8 @@ pub(crate) fn change<E: Ledger, T: Ledger>(
 fn change_alone<E: Ledger, T: Ledger>(
     session: &mut Session,
     edit: Edit,
-    expansions: &mut Steps<E>,
-    tests: &mut Steps<T>,
+    expansions: &mut Expansions<E>,
+    tests: &mut Tests<T>,
 ) -> Result<List<u8>, NoMemory>
     requires ready { IsReady session.old }
     requires written { IsWritten edit }
@@ -97,8 +98,8 @@ fn change_alone<E: Ledger, T: Ledger>(
 fn change_and_note<E: Ledger, T: Ledger>(
     session: &mut Session,
     edit: Edit,
-    expansions: &mut Steps<E>,
-    tests: &mut Steps<T>,
+    expansions: &mut Expansions<E>,
+    tests: &mut Tests<T>,
 ) -> Result<List<u8>, NoMemory>
     requires ready { IsReady session.old }
     requires written { IsWritten edit }
@@ -120,8 +121,8 @@ fn change_and_note<E: Ledger, T: Ledger>(
 /// Goes back to the sources before the last edit that wasn't undone.
 pub(crate) fn undo<E: Ledger, T: Ledger>(
     session: &mut Session,
-    expansions: &mut Steps<E>,
-    tests: &mut Steps<T>,
+    expansions: &mut Expansions<E>,
+    tests: &mut Tests<T>,
 ) -> Result<List<u8>, NoMemory>
     requires { IsReady session.old }
     ensures did { (s : State) → IsAt s session.old
@@ -145,8 +146,8 @@ pub(crate) fn undo<E: Ledger, T: Ledger>(
 /// Goes on to the sources that the last undo left.
 pub(crate) fn redo<E: Ledger, T: Ledger>(
     session: &mut Session,
-    expansions: &mut Steps<E>,
-    tests: &mut Steps<T>,
+    expansions: &mut Expansions<E>,
+    tests: &mut Tests<T>,
 ) -> Result<List<u8>, NoMemory>
     requires { IsReady session.old }
     ensures did { (s : State) → IsAt s session.old

@@ -1,9 +1,11 @@
-//! The top call: replies to a script, each line as it is complete, while the script is read. What a line does is
-//! the session's matter; moving bytes is the matter of `pump`, `reads` and `top`, which know of lines only that
-//! each has an effect. It knows nothing of the system: the source, the sink and the counters are handed in. A program that
+//! The top call: replies to a script, each line as it is complete, while the script is read.
+//!
+//! It must not know which reader and writer the system has. What a line does is the session's matter; moving bytes is
+//! the matter of `pump`, `reads` and `top`, which know of lines only that each has an effect. A program that
 //! writes more behind a reply than the reply has the session and what does a line, and moves the bytes itself.
-//! The one thing that callers get wrong: only Done says that all was written. After WriteFault and NoMemory the
-//! sink holds some of the output, and may hold a reply in part.
+//!
+//! What callers get wrong: only Done says that all was written. After WriteFault and NoMemory the sink holds some of
+//! the output, and may hold a reply in part.
 #![tactic(auto)]
 
 mod commands;

@@ -24,7 +24,8 @@ use crate::read_end::ReadEnd;
 use crate::reads::read_lines;
 use crate::script_end::end_script;
 use crate::session::{Session, new_session};
-use cga_fraction::{NoMemory, Steps};
+use cga_expand::Expansions;
+use cga_fraction::{NoMemory, Tests};
 use cga_outside::{Failed, Sink, Source};
 use cga_script::Lines;
 use cga_words::{Status, WordsFault, read_words, town_script};
@@ -63,8 +64,8 @@ pub(crate) fn run_in<S: Source, K: Sink, E: Ledger, T: Ledger>(
     session: &mut Session,
     script: &mut S,
     out: &mut K,
-    expansions: &mut Steps<E>,
-    tests: &mut Steps<T>,
+    expansions: &mut Expansions<E>,
+    tests: &mut Tests<T>,
 ) -> Status
     requires session { IsAt (start session.old.decimals) session.old }
     requires ready { IsReady session.old }
@@ -101,8 +102,8 @@ fn run_script<S: Source, K: Sink, E: Ledger, T: Ledger>(
     decimals: Decimals,
     script: &mut S,
     out: &mut K,
-    expansions: &mut Steps<E>,
-    tests: &mut Steps<T>,
+    expansions: &mut Expansions<E>,
+    tests: &mut Tests<T>,
 ) -> Status
     ensures means { StatusMeans decimals result
         (outside_of S.Source K.Sink script.old out.old expansions.old)
@@ -128,8 +129,8 @@ fn take_all<K: Sink, E: Ledger, T: Ledger>(
     lines: &mut Lines,
     script: &[u8],
     out: &mut K,
-    expansions: &mut Steps<E>,
-    tests: &mut Steps<T>,
+    expansions: &mut Expansions<E>,
+    tests: &mut Tests<T>,
 ) -> Result<(), Halt>
     requires session { IsAt (start session.old.decimals) session.old }
     requires ready { IsReady session.old }
@@ -155,8 +156,8 @@ fn given_in<K: Sink, E: Ledger, T: Ledger>(
     session: &mut Session,
     script: &[u8],
     out: &mut K,
-    expansions: &mut Steps<E>,
-    tests: &mut Steps<T>,
+    expansions: &mut Expansions<E>,
+    tests: &mut Tests<T>,
 ) -> Status
     requires session { IsAt (start session.old.decimals) session.old }
     requires ready { IsReady session.old }
@@ -180,8 +181,8 @@ fn run_given<K: Sink, E: Ledger, T: Ledger>(
     decimals: Decimals,
     script: &[u8],
     out: &mut K,
-    expansions: &mut Steps<E>,
-    tests: &mut Steps<T>,
+    expansions: &mut Expansions<E>,
+    tests: &mut Tests<T>,
 ) -> Status
     ensures means { GivenMeans decimals script.now result
         (sunk_in K.Sink out.old expansions.old) (sunk_in K.Sink out.new expansions.new) }
@@ -202,8 +203,8 @@ fn run_town<K: Sink, E: Ledger, T: Ledger>(
     decimals: Decimals,
     lots: u32,
     out: &mut K,
-    expansions: &mut Steps<E>,
-    tests: &mut Steps<T>,
+    expansions: &mut Expansions<E>,
+    tests: &mut Tests<T>,
 ) -> Status
     requires { IsTown lots }
     ensures means { GivenMeans decimals (town_text lots) result
@@ -231,8 +232,8 @@ pub fn run_city<S: Source, K: Sink, E: Ledger, T: Ledger>(
     words: &[String],
     script: &mut S,
     out: &mut K,
-    expansions: &mut Steps<E>,
-    tests: &mut Steps<T>,
+    expansions: &mut Expansions<E>,
+    tests: &mut Tests<T>,
 ) -> Status
     requires { IsFalse (S.ended script.old) }
 

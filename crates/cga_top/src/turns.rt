@@ -16,8 +16,9 @@ use cga_asset::Wardrobe;
 use cga_bill::Bill;
 use cga_city::City;
 use cga_city::limits::BUDGET_TWO;
+use cga_expand::Expansions;
 use cga_form::{BlockFault, LineFault};
-use cga_fraction::{List, NoMemory, Steps};
+use cga_fraction::{List, NoMemory, Tests};
 use cga_script::{
     Refused, ScriptCommand, Version, command, ends_block, refusal_text, version_line,
 };
@@ -64,8 +65,8 @@ fn is_blank(command: &ScriptCommand) -> bool
 fn do_asked<E: Ledger, T: Ledger>(
     session: &mut Session,
     told: Result<ScriptCommand, LineFault>,
-    expansions: &mut Steps<E>,
-    tests: &mut Steps<T>,
+    expansions: &mut Expansions<E>,
+    tests: &mut Tests<T>,
 ) -> Result<List<u8>, NoMemory>
     requires ready { IsReady session.old }
     requires written { IfOk told AsksWritten }
@@ -93,8 +94,8 @@ fn do_outside<E: Ledger, T: Ledger>(
     session: &mut Session,
     line: &[u8],
     long: bool,
-    expansions: &mut Steps<E>,
-    tests: &mut Steps<T>,
+    expansions: &mut Expansions<E>,
+    tests: &mut Tests<T>,
 ) -> Result<List<u8>, NoMemory>
     requires { IsReady session.old }
     ensures did { (s : State) → IsAt s session.old
@@ -112,8 +113,8 @@ fn do_outside<E: Ledger, T: Ledger>(
 fn close<E: Ledger, T: Ledger>(
     session: &mut Session,
     made: Result<Edit, BlockFault>,
-    expansions: &mut Steps<E>,
-    tests: &mut Steps<T>,
+    expansions: &mut Expansions<E>,
+    tests: &mut Tests<T>,
 ) -> Result<List<u8>, NoMemory>
     requires ready { IsReady session.old }
     requires written { IfOk made IsWritten }
@@ -131,8 +132,8 @@ fn close<E: Ledger, T: Ledger>(
 fn do_end<E: Ledger, T: Ledger>(
     session: &mut Session,
     block: OpenBlock,
-    expansions: &mut Steps<E>,
-    tests: &mut Steps<T>,
+    expansions: &mut Expansions<E>,
+    tests: &mut Tests<T>,
 ) -> Result<List<u8>, NoMemory>
     requires ready { IsReady session.old }
     requires read { HasRead block }
@@ -153,8 +154,8 @@ pub fn do_line<E: Ledger, T: Ledger>(
     session: &mut Session,
     line: &[u8],
     long: bool,
-    expansions: &mut Steps<E>,
-    tests: &mut Steps<T>,
+    expansions: &mut Expansions<E>,
+    tests: &mut Tests<T>,
 ) -> Result<List<u8>, NoMemory>
     requires { IsReady session.old }
     ensures did { (s : State) → IsAt s session.old

@@ -4,7 +4,7 @@ use Rattle.std.specs.List.{list_any}
 use Rattle.cga_word.specs.declared.primitive.Primitive.{Primitive}
 use Rattle.cga_order.specs.World.{Has, Among, is_instance}
 use Rattle.cga_order.specs.declared.placed.Kind.{Kind}
-use Rattle.cga_order.proofs.Members.{Among-shapes_where, Has-from_shapes_where}
+use Rattle.cga_order.proofs.Door.{Among-shapes_where, Has-from_shapes_where}
 use Rattle.cga_check.specs.Uses.{same_name}
 use Rattle.cga_shape.specs.declared.shape.Shape.{Shape}
 use Rattle.cga_shape.specs.declared.shape_fault.ShapeFault.{ShapeFault}
@@ -94,7 +94,8 @@ module _ (old new : Sources) where
       changed_sound : (s : Shape) → is_touched old new steps before after s ≡ true → Changed s
       changed_sound s h = by (is_kept old new before after s) refl (has_same_inputs old new steps s) refl h
         where
-          by : (k : Bool) → is_kept old new before after s ≡ k → (i : Bool) → has_same_inputs old new steps s ≡ i → not (k && i) ≡ true → Changed s
+          by : (k : Bool) → is_kept old new before after s ≡ k → (i : Bool) → has_same_inputs old new steps s ≡ i
+              → not (k && i) ≡ true → Changed s
           by false e i f g = inl (λ kept. not_both (is_kept old new before after s) (kept_whole before after s kept) e)
           by true e false f g = inr (kept_sound before after s e, λ inputs. not_both (has_same_inputs old new steps s) (inputs_whole s inputs) f)
           by true e true f g = not_so g
@@ -102,7 +103,8 @@ module _ (old new : Sources) where
       changed_whole : (s : Shape) → Changed s → is_touched old new steps before after s ≡ true
       changed_whole s c = by (is_kept old new before after s) refl (has_same_inputs old new steps s) refl
         where
-          by : (k : Bool) → is_kept old new before after s ≡ k → (i : Bool) → has_same_inputs old new steps s ≡ i → not (k && i) ≡ true
+          by : (k : Bool) → is_kept old new before after s ≡ k → (i : Bool) → has_same_inputs old new steps s ≡ i
+              → not (k && i) ≡ true
           by false e i f = refl
           by true e false f = refl
           by true e true f = absurd (elim c [ inl gone ↦ gone (kept_sound before after s e) | inr other ↦ other.1 (inputs_sound s f) ])
@@ -110,7 +112,8 @@ module _ (old new : Sources) where
       abbrev test : Shape → Kind ShapeFault Primitive → Bool
       test s kind = not (is_instance kind) && is_touched old new steps before after s
 
-      pub names_touched : (s : Shape) → Among s (touched_shapes steps old new before after) ↔ Touched old new before after s
+      pub names_touched : (s : Shape)
+          → Among s (touched_shapes steps old new before after) ↔ Touched old new before after s
       unfolding touched_shapes
       names_touched s = (
         (λ h.

@@ -20,7 +20,7 @@ use Rattle.cga_check.specs.Groups as groups
 use Rattle.cga_check.specs.Groups.{first_entry, group, rules_of, placed, by_id, mentions_target, mentions_attribute}
 use Rattle.cga_check.specs.Uses.{Uses, only, rule_uses}
 use Rattle.cga_check.specs.Uses as used
-use Rattle.cga_check.proofs.Layers as uses
+use Rattle.cga_check.proofs.Door as uses
 use Rattle.cga_expr.specs.Names.{number_of, attribute_of}
 use Rattle.cga_derivation.specs.Derivation.{reached, step, derive, next_of}
 use Rattle.cga_word.specs.declared.answers.Answers.{Answers}
@@ -31,7 +31,7 @@ use Rattle.cga_expand.specs.Derivation.{derivation_of, priority_of, children_of}
 use Rattle.cga_expand.specs.Expand.{expand_of}
 use Rattle.cga_expand.specs.Rules.{expansion}
 use Rattle.cga_expand.specs.Settings.{setting_of}
-use Rattle.cga_expand.proofs.Layers.{item_Child, item_Resize}
+use Rattle.cga_expand.proofs.Door.{item_Child, item_Resize}
 use Rattle.cga_touched.specs.Words.{same_option, same_rat, same_shape, same_scope}
 use Rattle.cga_touched.specs.Settings.{same_setting}
 use Rattle.cga_touched.specs.Count.{Turn, with_turn, is_answered_alike, turns_of, is_kept, has_same_inputs, touched_shapes, touched_count}
@@ -113,7 +113,8 @@ yard_answers : (h : Rat) (existing waiting : List Shape) → answers_of (of_heig
 unfolding answers_of asks_for group first_entry rules_of placed by_id mentions_target rule_uses
 yard_answers h existing waiting = refl
 
-wall_answers : (h : Rat) (existing waiting : List Shape) → answers_of (of_height h) (wall h) existing waiting ≡ no_answers
+wall_answers : (h : Rat) (existing waiting : List Shape)
+    → answers_of (of_height h) (wall h) existing waiting ≡ no_answers
 unfolding answers_of asks_for group first_entry rules_of placed by_id mentions_target rule_uses
 wall_answers h existing waiting = refl
 
@@ -138,8 +139,10 @@ module _ (h : Rat) (second : step (derivation_of (farm h)) (record { shape = roo
   unfolding derive
   members_are = ap (λ (l : List Member). unwrap_or (if nat_lt 4 (length l) then None else Some l) []) reached_four
 
-  one_turn : (n : ℕ) (list : List Member) (m : Member) (turns : List Turn) → reached (derivation_of (farm h)) n ≡ list → next_of (derivation_of (farm h)) list ≡ Some m
-      → ((existing waiting : List Shape) → answers_of (of_height h) m.shape existing waiting ≡ no_answers) → turns_of (farm h) n ≡ turns → turns_of (farm h) (suc n) ≡ turn_of m.shape ∷ turns
+  one_turn : (n : ℕ) (list : List Member) (m : Member) (turns : List Turn) → reached (derivation_of (farm h)) n ≡ list
+      → next_of (derivation_of (farm h)) list ≡ Some m
+      → ((existing waiting : List Shape) → answers_of (of_height h) m.shape existing waiting ≡ no_answers)
+      → turns_of (farm h) n ≡ turns → turns_of (farm h) (suc n) ≡ turn_of m.shape ∷ turns
   unfolding turns_of
   one_turn n list m turns at next answers before =
       ap (λ l. with_turn (farm h) l (next_of (derivation_of (farm h)) l) (turns_of (farm h) n)) at
@@ -164,7 +167,8 @@ height_is : (h : Rat) → (setting_of (of_height h) c).values height ≡ Some h
 unfolding setting_of group first_entry rules_of placed by_id
 height_is h = ap (λ t. if t then attribute_of (of_height h).attributes height else None) height_mentioned
 
-heights_differ : same_option same_rat ((setting_of (of_height one) c).values height) ((setting_of (of_height two) c).values height) ≡ false
+heights_differ : same_option same_rat ((setting_of (of_height one) c).values height)
+      ((setting_of (of_height two) c).values height) ≡ false
 heights_differ = λ i. same_option same_rat (height_is one i) (height_is two i)
 
 root_setting : same_setting (of_height one) (of_height two) c ≡ false

@@ -1,9 +1,10 @@
-pub mod Words
-pub mod Settings
-pub mod Lists
-pub mod Turns
-pub mod Count
-pub mod Law
-pub mod Example
-pub mod Named
-pub mod Heights
+mod Words
+mod Settings
+mod Lists
+mod Turns
+mod Count
+mod Law
+mod Example
+mod Named
+mod Heights
+pub mod Door

@@ -6,20 +6,8 @@ use Rattle.cga_order.specs.declared.placed.Placed.{Placed}
 use Rattle.cga_order.specs.declared.placed.Kind.{Kind}
 use Rattle.cga_touched.specs.Count.{passes_to}
 use Rattle.cga_touched.proofs.Words.{not_so, both, pair}
-
-pub decide : (b : Bool) → (b ≡ true) ⊎ (b ≡ false)
-decide true = inl refl
-decide false = inr refl
-
-pub not_both : {P : Type 0} (b : Bool) → b ≡ true → b ≡ false → P
-not_both b p q = not_so (sym q ∙ p)
-
-pub is_false : (b : Bool) → not b ≡ true → b ≡ false
-is_false false h = refl
-is_false true h = not_so h
-
-pub is_not : (b : Bool) → b ≡ false → not b ≡ true
-is_not b e = ap not e
+pub use Rattle.std.proofs.lemmas.Bool.{cases_Bool as decide, not_from_false as is_not}
+pub use Rattle.cga_fraction.proofs.Door.{false_from_not as is_false, true-and-false as not_both}
 
 module _ {X : Type 0} where
   -- an element that passes
@@ -27,7 +15,8 @@ module _ {X : Type 0} where
   any_found test [] h = not_so h
   any_found test (x ∷ xs) h = by (any_found test xs) (test x) refl h
     where
-      by : (list_any test xs ≡ true → (y : X) × Among y xs × (test y ≡ true)) → (b : Bool) → test x ≡ b → (b || list_any test xs) ≡ true → (y : X) × Among y (x ∷ xs) × (test y ≡ true)
+      by : (list_any test xs ≡ true → (y : X) × Among y xs × (test y ≡ true)) → (b : Bool) → test x ≡ b
+          → (b || list_any test xs) ≡ true → (y : X) × Among y (x ∷ xs) × (test y ≡ true)
       by more true e g = (x, inl refl, e)
       by more false e g = let w = more g in (w.0, inr w.1, w.2)
 
@@ -47,7 +36,8 @@ module _ {N F P : Type 0} where
   Among-Has [] m h = h
   Among-Has (x ∷ ms) m h = elim h [ inl e ↦ inl (ap (λ y. y.shape) e, ap (λ y. y.kind) e) | inr r ↦ inr (Among-Has ms m r) ]
 
-  pub Has-Among : (ms : List (Placed N F P)) (n : N) (k : Kind F P) → Has ms n k → Among (record { shape = n; kind = k }) ms
+  pub Has-Among : (ms : List (Placed N F P)) (n : N) (k : Kind F P) → Has ms n k
+      → Among (record { shape = n; kind = k }) ms
   Has-Among [] n k h = h
   Has-Among (x ∷ ms) n k h = elim h [ inl e ↦ inl (λ i. record { shape = e.0 i; kind = e.1 i }) | inr r ↦ inr (Has-Among ms n k r) ]
 

@@ -7,23 +7,27 @@ use Rattle.cga_rule.specs.declared.expr.Primary.TheVariants.{Named}
 use Rattle.cga_rule.specs.declared.expr.Primary.TheFolds.{fold-roll-Expr, fold-roll-Term, fold-roll-Factor}
 use Rattle.cga_check.specs.Uses.{Uses}
 use Rattle.cga_check.specs.Uses as used
-use Rattle.cga_check.proofs.Layers as uses
+use Rattle.cga_check.proofs.Door as uses
 use Rattle.cga_check.specs.declared.usage.Use.TheVariants as named_use
 use Rattle.cga_expr.specs.Names.{Known, number_of}
 use Rattle.cga_expr.specs.Arithmetic.{Computed, signed}
 use Rattle.cga_expr.specs.Value.{Meaning, Marked}
 use Rattle.cga_expr.specs.Value as value
-use Rattle.cga_expr.proofs.Layers.{primary_Named}
+use Rattle.cga_expr.proofs.Door.{primary_Named}
 use Rattle.cga_touched.specs.Heights.{named}
 
 module _ (name : List ℕ) where
-  factor_value : (k : Known) → value.factor_value (roll-Factor (record { minus = false; primary = Named name })) k ≡ Ok (number_of k name)
+  factor_value : (k : Known)
+      → value.factor_value (roll-Factor (record { minus = false; primary = Named name })) k ≡ Ok (number_of k name)
   unfolding value.primary_value value.added_value value.expr_value value.factor_value value.scaled_value value.term_value
   factor_value k =
       ap (λ (m : Meaning). m k) (fold-roll-Factor Meaning Marked Meaning Meaning Marked Meaning value.primary_step value.added_step value.expr_step value.factor_step value.scaled_step value.term_step (record { minus = false; primary = Named name }))
       ∙ ap (λ (r : Computed). and_then r (λ x. Ok (signed false x))) (primary_Named name k)
 
-  term_value : (k : Known) → value.term_value (roll-Term (record { first = roll-Factor (record { minus = false; primary = Named name }); rest = [] })) k ≡ Ok (number_of k name)
+  term_value : (k : Known)
+      → value.term_value (roll-Term
+        (record { first = roll-Factor (record { minus = false; primary = Named name }); rest = [] })) k ≡ Ok
+        (number_of k name)
   unfolding value.primary_value value.added_value value.expr_value value.factor_value value.scaled_value value.term_value
   term_value k =
       ap (λ (m : Meaning). m k) (fold-roll-Term Meaning Marked Meaning Meaning Marked Meaning value.primary_step value.added_step value.expr_step value.factor_step value.scaled_step value.term_step (record { first = roll-Factor (record { minus = false; primary = Named name }); rest = [] }))

@@ -9,7 +9,7 @@ use Rattle.cga_rule.specs.declared.grammar.Attribute.{Attribute}
 use Rattle.cga_rule.specs.declared.grammar.Grammar.{Grammar}
 use Rattle.cga_rule.specs.declared.grammar.Group.{Group}
 use Rattle.cga_rule.specs.Equal.{same_group}
-use Rattle.cga_rule.proofs.Equal.{group_equal}
+use Rattle.cga_rule.proofs.Door.{group_equal}
 use Rattle.cga_check.specs.Groups.{group}
 use Rattle.cga_check.specs.Uses.{same_name}
 use Rattle.cga_expr.specs.Names.{attribute_of}
@@ -24,7 +24,8 @@ group_tells a = ((λ b h. (group_equal a b).0 h), (group_equal a a).1 refl)
 number_tells : (a : Option Rat) → Tells (same_option same_rat) a
 number_tells = option_tells same_rat rat_tells
 
-all_parts : {A : Type 0} (test : A → Bool) (xs ys : List A) → list_all test (xs ++ ys) ≡ true → (list_all test xs ≡ true) × (list_all test ys ≡ true)
+all_parts : {A : Type 0} (test : A → Bool) (xs ys : List A) → list_all test (xs ++ ys) ≡ true
+    → (list_all test xs ≡ true) × (list_all test ys ≡ true)
 all_parts test [] ys h = (refl, h)
 all_parts test (x ∷ xs) ys h =
     let w = both (test x) _ h in
@@ -32,19 +33,24 @@ all_parts test (x ∷ xs) ys h =
     (pair (test x) _ w.0 rest.0, rest.1)
 
 -- a test of each attribute's name passes at a name, or no attribute has it
-named_or_none : (test : List ℕ → Bool) (attributes : List Attribute) (name : List ℕ) → list_all (λ (a : Attribute). test a.name) attributes ≡ true → (attribute_of attributes name ≡ None) ⊎ (test name ≡ true)
+named_or_none : (test : List ℕ → Bool) (attributes : List Attribute) (name : List ℕ)
+    → list_all (λ (a : Attribute). test a.name) attributes ≡ true
+    → (attribute_of attributes name ≡ None) ⊎ (test name ≡ true)
 named_or_none test [] name h = inl refl
 named_or_none test (a ∷ rest) name h =
     let w = both (test a.name) _ h in
     step (same_name a.name name) refl w.0 (named_or_none test rest name w.1)
   where
-    step : (b : Bool) → same_name a.name name ≡ b → test a.name ≡ true → (attribute_of rest name ≡ None) ⊎ (test name ≡ true)
-        → (option_map (λ (x : Attribute). x.value) (cond b (Some a) (find (λ (x : Attribute). same_name x.name name) rest)) ≡ None) ⊎ (test name ≡ true)
+    step : (b : Bool) → same_name a.name name ≡ b → test a.name ≡ true
+        → (attribute_of rest name ≡ None) ⊎ (test name ≡ true)
+        → (option_map (λ (x : Attribute). x.value)
+          (cond b (Some a) (find (λ (x : Attribute). same_name x.name name) rest)) ≡ None) ⊎ (test name ≡ true)
     step true e t more = inr (subst (λ n. test n ≡ true) ((bytes_decides a.name name).0 e) t)
     step false e t more = more
 
 module _ (old new : Grammar) (symbol : List ℕ) where
-  value_is : (g : Grammar) (name : List ℕ) → attribute_of g.attributes name ≡ None → (setting_of g symbol).values name ≡ None
+  value_is : (g : Grammar) (name : List ℕ) → attribute_of g.attributes name ≡ None
+      → (setting_of g symbol).values name ≡ None
   unfolding setting_of
   value_is g name e = at (mentions (group g symbol) name)
     where
@@ -52,7 +58,9 @@ module _ (old new : Grammar) (symbol : List ℕ) where
       at true = e
       at false = refl
 
-  values_same : list_all (same_value (setting_of old symbol) (setting_of new symbol)) (old.attributes ++ new.attributes) ≡ true → (name : List ℕ) → (setting_of old symbol).values name ≡ (setting_of new symbol).values name
+  values_same : list_all (same_value (setting_of old symbol) (setting_of new symbol))
+        (old.attributes ++ new.attributes) ≡ true
+      → (name : List ℕ) → (setting_of old symbol).values name ≡ (setting_of new symbol).values name
   values_same h name =
       let w = all_parts (same_value (setting_of old symbol) (setting_of new symbol)) old.attributes new.attributes h in
       by (named_or_none told old.attributes name w.0) (named_or_none told new.attributes name w.1)
@@ -60,7 +68,9 @@ module _ (old new : Grammar) (symbol : List ℕ) where
       told : List ℕ → Bool
       told n = same_option same_rat ((setting_of old symbol).values n) ((setting_of new symbol).values n)
 
-      by : (attribute_of old.attributes name ≡ None) ⊎ (told name ≡ true) → (attribute_of new.attributes name ≡ None) ⊎ (told name ≡ true) → (setting_of old symbol).values name ≡ (setting_of new symbol).values name
+      by : (attribute_of old.attributes name ≡ None) ⊎ (told name ≡ true)
+          → (attribute_of new.attributes name ≡ None) ⊎ (told name ≡ true)
+          → (setting_of old symbol).values name ≡ (setting_of new symbol).values name
       by (inr t) other = (number_tells ((setting_of old symbol).values name)).0 ((setting_of new symbol).values name) t
       by (inl e) (inr t) = (number_tells ((setting_of old symbol).values name)).0 ((setting_of new symbol).values name) t
       by (inl e) (inl f) = value_is old name e ∙ sym (value_is new name f)

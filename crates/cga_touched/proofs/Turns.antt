@@ -8,9 +8,8 @@ use Rattle.cga_order.specs.World.{Among, Has}
 use Rattle.cga_shape.specs.declared.shape.Shape.{Shape}
 use Rattle.cga_shape.specs.declared.sources.Sources.{Sources}
 use Rattle.cga_derivation.specs.Derivation.{asked, is_next, next_of, reached, NothingWaits}
-use Rattle.cga_derivation.proofs.Along.{both, first_of-passes, first_of-Has}
-use Rattle.cga_derivation.proofs.Least.{waiting_kind}
-use Rattle.cga_derivation.proofs.Budget.{settled-reached}
+use Rattle.cga_derivation.proofs.Door.{first_of-Has, first_of-passes, settled-reached, waiting_kind}
+use Rattle.std.proofs.lemmas.Bool.{and_parts as both}
 use Rattle.cga_expand.specs.Children.{Member}
 use Rattle.cga_expand.specs.Derivation.{derivation_of}
 use Rattle.cga_expand.specs.Touched.{Answered}
@@ -24,7 +23,8 @@ module _ (sources : Sources) where
   abbrev IsTurn : Turn → Type 0
   IsTurn t = Answered sources t.shape t.answers
 
-  listed_by : (list : List Member) (o : Option Member) (turns : List Turn) (n : ℕ) → reached (derivation_of sources) n ≡ list → next_of (derivation_of sources) list ≡ o
+  listed_by : (list : List Member) (o : Option Member) (turns : List Turn) (n : ℕ)
+      → reached (derivation_of sources) n ≡ list → next_of (derivation_of sources) list ≡ o
       → ((t : Turn) → Among t turns → IsTurn t) → (t : Turn) → Among t (with_turn sources list o turns) → IsTurn t
   listed_by list None turns n is next before t h = before t h
   listed_by list (Some m) turns n is next before t h = elim h [
@@ -39,16 +39,20 @@ module _ (sources : Sources) where
   listed (suc n) t h =
       listed_by (reached (derivation_of sources) n) (next_of (derivation_of sources) (reached (derivation_of sources) n)) (turns_of sources n) n refl refl (λ u g. listed n u g) t h
 
-  later : (list : List Member) (o : Option Member) (turns : List Turn) (t : Turn) → Among t turns → Among t (with_turn sources list o turns)
+  later : (list : List Member) (o : Option Member) (turns : List Turn) (t : Turn) → Among t turns
+      → Among t (with_turn sources list o turns)
   later list None turns t h = h
   later list (Some m) turns t h = inr h
 
-  here : (list : List Member) (o : Option Member) (turns : List Turn) (m : Member) → o ≡ Some m → Among (record { shape = m.shape; answers = asked (derivation_of sources) list m.shape }) (with_turn sources list o turns)
+  here : (list : List Member) (o : Option Member) (turns : List Turn) (m : Member) → o ≡ Some m
+      → Among (record { shape = m.shape; answers = asked (derivation_of sources) list m.shape })
+        (with_turn sources list o turns)
   here list o turns m e = subst (λ p. Among (record { shape = m.shape; answers = asked (derivation_of sources) list m.shape }) (with_turn sources list p turns)) (sym e) (inl refl)
 
   -- what is taken by a step is listed after it
   taken : (n k : ℕ) (m : Member) → next_of (derivation_of sources) (reached (derivation_of sources) k) ≡ Some m → k < n
-      → Among (record { shape = m.shape; answers = asked (derivation_of sources) (reached (derivation_of sources) k) m.shape }) (turns_of sources n)
+      → Among (record { shape = m.shape; answers = asked (derivation_of sources) (reached (derivation_of sources) k)
+        m.shape }) (turns_of sources n)
   unfolding turns_of
   taken zero k m e lt = absurd (omega (arith, lt))
   taken (suc n) k m e lt = elim (cases_lt k n) [
@@ -60,13 +64,16 @@ module _ (sources : Sources) where
   ]
 
   -- no step takes one where nothing waits
-  quiet_next : (list : List Member) (m : Member) → NothingWaits (derivation_of sources) list → next_of (derivation_of sources) list ≡ Some m → ⊥
+  quiet_next : (list : List Member) (m : Member) → NothingWaits (derivation_of sources) list
+      → next_of (derivation_of sources) list ≡ Some m → ⊥
   quiet_next list m quiet e =
       let kind = waiting_kind m.kind (both _ _ (first_of-passes (is_next (derivation_of sources) list) list m e)).0 in
       quiet m.shape (subst (Has list m.shape) kind (first_of-Has (is_next (derivation_of sources) list) list m e))
 
   -- where nothing waits after n steps, what was answered is listed
-  pub answered_listed : (n : ℕ) → NothingWaits (derivation_of sources) (reached (derivation_of sources) n) → (s : Shape) (answers : Answers) → Answered sources s answers → Among (record { shape = s; answers = answers }) (turns_of sources n)
+  pub answered_listed : (n : ℕ) → NothingWaits (derivation_of sources) (reached (derivation_of sources) n)
+      → (s : Shape) (answers : Answers) → Answered sources s answers
+      → Among (record { shape = s; answers = answers }) (turns_of sources n)
   answered_listed n quiet s answers (k, m, next, shape, asks) = elim (cases_lt k n) [
     | inl below ↦
         let is : ◌≡◌ {A = Turn} (record { shape = m.shape; answers = asked (derivation_of sources) (reached (derivation_of sources) k) m.shape }) (record { shape = s; answers = answers }) =
@@ -83,7 +90,8 @@ module _ (sources : Sources) where
 abbrev AnsweredAlike : Sources → Sources → Shape → Type 0
 AnsweredAlike old new s = (answers : Answers) × Answered old s answers × Answered new s answers
 
-pub alike_sound : (old new : Sources) (n m : ℕ) (s : Shape) → is_answered_alike (turns_of old n) (turns_of new m) s ≡ true → AnsweredAlike old new s
+pub alike_sound : (old new : Sources) (n m : ℕ) (s : Shape)
+    → is_answered_alike (turns_of old n) (turns_of new m) s ≡ true → AnsweredAlike old new s
 alike_sound old new n m s h =
     let t = any_found (λ turn. same_shape turn.shape s && list_any (is_turn s turn.answers) (turns_of new m)) (turns_of old n) h in
     let w = words.both (same_shape t.0.shape s) (list_any (is_turn s t.0.answers) (turns_of new m)) t.2 in
@@ -93,7 +101,9 @@ alike_sound old new n m s h =
     let second : Answered new s u.0.answers = subst (λ x. Answered new x u.0.answers) ((shape_tells u.0.shape).0 s v.0) (listed new m u.0 u.1) in
     (t.0.answers, first, subst (Answered new s) ((answers_tell u.0.answers).0 t.0.answers v.1) second)
 
-pub alike_whole : (old new : Sources) (n m : ℕ) (s : Shape) → NothingWaits (derivation_of old) (reached (derivation_of old) n) → NothingWaits (derivation_of new) (reached (derivation_of new) m)
+pub alike_whole : (old new : Sources) (n m : ℕ) (s : Shape)
+    → NothingWaits (derivation_of old) (reached (derivation_of old) n)
+    → NothingWaits (derivation_of new) (reached (derivation_of new) m)
     → AnsweredAlike old new s → is_answered_alike (turns_of old n) (turns_of new m) s ≡ true
 alike_whole old new n m s quiet calm (answers, was, is) =
     let later : list_any (is_turn s answers) (turns_of new m) ≡ true =

@@ -21,16 +21,8 @@ use Rattle.cga_frame.specs.declared.signed.Signed.{Signed}
 use Rattle.cga_check.specs.Uses.{same_name}
 use Rattle.cga_shape.specs.declared.shape.Shape.{Shape}
 use Rattle.cga_touched.specs.Words.{same_option, same_mode, same_answer, same_answers, same_rat, same_point, same_signed, same_frame, same_scope, same_path, same_shape}
-
-pub not_so : {P : Type 0} → false ≡ true → P
-not_so h = absurd (true≢false (sym h))
-
-pub both : (a b : Bool) → (a && b) ≡ true → (a ≡ true) × (b ≡ true)
-both true b h = (refl, h)
-both false b h = not_so h
-
-pub pair : (a b : Bool) → a ≡ true → b ≡ true → (a && b) ≡ true
-pair a b p q = ap (λ t. t && b) p ∙ q
+pub use Rattle.std.proofs.lemmas.Bool.{and_from as pair, and_parts as both}
+pub use Rattle.cga_fraction.proofs.Door.{false-not-true as not_so}
 
 -- a test tells a value from others: it passes at no other, and at this one
 abbrev pub Tells : {A : Type 0} → (A → A → Bool) → A → Type 0
@@ -39,13 +31,16 @@ Tells {A} same x = ((y : A) → same x y ≡ true → x ≡ y) × (same x x ≡ 
 pub tells_equal : {A : Type 0} (same : A → A → Bool) (x y : A) → Tells same x → x ≡ y → same x y ≡ true
 tells_equal same x y t e = subst (λ z. same x z ≡ true) e t.1
 
-list_decides : {A : Type 0} (same : A → A → Bool) → ((x : A) → Tells same x) → (xs ys : List A) → (pointwise same xs ys ≡ true → xs ≡ ys) × (xs ≡ ys → pointwise same xs ys ≡ true)
+list_decides : {A : Type 0} (same : A → A → Bool) → ((x : A) → Tells same x) → (xs ys : List A)
+    → (pointwise same xs ys ≡ true → xs ≡ ys) × (xs ≡ ys → pointwise same xs ys ≡ true)
 list_decides same each = pointwise_decides (λ x y. ((each x).0 y, tells_equal same x y (each x)))
 
-pub list_tells : {A : Type 0} (same : A → A → Bool) → ((x : A) → Tells same x) → (xs : List A) → Tells (pointwise same) xs
+pub list_tells : {A : Type 0} (same : A → A → Bool) → ((x : A) → Tells same x) → (xs : List A)
+    → Tells (pointwise same) xs
 list_tells same each xs = ((λ ys h. (list_decides same each xs ys).0 h), (list_decides same each xs xs).1 refl)
 
-pub option_tells : {A : Type 0} (same : A → A → Bool) → ((x : A) → Tells same x) → (x : Option A) → Tells (same_option same) x
+pub option_tells : {A : Type 0} (same : A → A → Bool) → ((x : A) → Tells same x) → (x : Option A)
+    → Tells (same_option same) x
 option_tells same each x = (sound x, own x)
   where
     sound : (a b : Option _) → same_option same a b ≡ true → a ≡ b

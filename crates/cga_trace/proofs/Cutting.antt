@@ -1,22 +1,12 @@
 -- Where a text is cut.
-use Rattle.std.proofs.Common.{◌≡◌, ℕ, zero, suc, ◌+◌, ◌<◌, ◌≤◌, List, [], ◌∷◌, ◌++◌, length, take, drop, Bool, true, false, not, nat_eq, nat_lt, refl, ap, ◌∙◌, Option, Some, None, arith, length-append}
+use Rattle.std.proofs.Common.{◌≡◌, ℕ, zero, suc, ◌+◌, ◌<◌, ◌≤◌, List, [], ◌∷◌, ◌++◌, length, take, drop, Bool, true}
+use Rattle.std.proofs.Common.{false, not, nat_eq, nat_lt, refl, ap, ◌∙◌, Option, Some, None, arith, length-append}
 use Rattle.std.specs.List.{position_or_len}
 use Rattle.std.proofs.lemmas.Bool.Decides.{nat_tests}
 use Rattle.cga_trace.specs.Cut.{lacks, place_of, cut_at, cut_of}
 use Rattle.cga_trace.proofs.Again.{both}
-
-same : (n : ℕ) → nat_eq n n ≡ true
-same n = grind (arith, nat_tests)
-
-pub not_true : (b : Bool) → not b ≡ true → b ≡ false
-not_true true e = let x : false ≡ true = e in cc
-not_true false e = refl
-
-below_it : (n m : ℕ) → n < m → nat_lt n m ≡ true
-below_it n m h = grind (arith, nat_tests)
-
-not_below : (n : ℕ) → nat_lt n n ≡ false
-not_below n = grind (arith, nat_tests)
+pub use Rattle.cga_fraction.proofs.Door.{false_from_not as not_true}
+use Rattle.cga_fraction.proofs.Door.{nat_eq-same as same, nat_lt-same as not_below, nat_lt_from_lt as below_it}
 
 take_seam : (x y : List ℕ) → take (length x) (x ++ y) ≡ x
 take_seam [] [] = refl
@@ -81,7 +71,8 @@ module _ (byte : ℕ) where
   cut_shorter text h = shorter_by text (place_of byte text) h
 
   -- a word, and what is behind it
-  pub cut_word : (x y text word rest : List ℕ) → lacks byte x ≡ true → text ≡ x ++ byte ∷ y → word ≡ (cut_of byte text).0 → rest ≡ (cut_of byte text).1 → (word ≡ x) × (rest ≡ y)
+  pub cut_word : (x y text word rest : List ℕ) → lacks byte x ≡ true → text ≡ x ++ byte ∷ y
+      → word ≡ (cut_of byte text).0 → rest ≡ (cut_of byte text).1 → (word ≡ x) × (rest ≡ y)
   cut_word x y text word rest e is w r =
       let cut = ap (cut_of byte) is ∙ cut_between x y e in
       (w ∙ ap (λ p. p.0) cut, r ∙ ap (λ p. p.1) cut)

@@ -1,10 +1,12 @@
 -- Where lines differ from the text of a run.
-use Rattle.std.proofs.Common.{◌≡◌, ℕ, zero, suc, ◌+◌, ◌<◌, ◌≤◌, List, [], ◌∷◌, ◌++◌, length, map, take, Bool, true, false, not, ◌&&◌, cond, refl, sym, ap, ◌∙◌, subst, ◌⊎◌, inl, inr, Option, Some, None, arith, length-append}
+use Rattle.std.proofs.Common.{◌≡◌, ℕ, zero, suc, ◌+◌, ◌<◌, ◌≤◌, List, [], ◌∷◌, ◌++◌, length, map, take, Bool, true}
+use Rattle.std.proofs.Common.{false, not, ◌&&◌, cond, refl, sym, ap, ◌∙◌, subst, ◌⊎◌, inl, inr, Option, Some, None}
+use Rattle.std.proofs.Common.{arith, length-append}
 use Rattle.std.specs.Prelude.{slice_get, bytes_eq, is_some, nat_lt}
 use Rattle.std.proofs.lemmas.Bool.Decides.{nat_tests}
 use Rattle.std.proofs.lemmas.Slice.Eq.{bytes_eq-Decides}
 use Rattle.cga_form.specs.Lines.{Line, is_long}
-use Rattle.cga_order.proofs.Maxima.{either}
+use Rattle.std.proofs.lemmas.Bool.{cases_Bool as either}
 use Rattle.cga_shape.specs.declared.trace_step.TraceStep.{TraceStep}
 use Rattle.cga_trace.specs.Text.{AreSteps, header, step_text}
 use Rattle.cga_trace.specs.Judged.{differs_at, is_headed, is_line, judged}
@@ -14,6 +16,8 @@ use Rattle.cga_trace.specs.declared.limits.TheConstants.{MOST_STEPS}
 use Rattle.cga_trace.proofs.Again.{both, some_value, none_not}
 use Rattle.cga_trace.proofs.Cutting.{not_true}
 use Rattle.cga_trace.proofs.Tells.{text_tells_step}
+pub use Rattle.cga_fraction.proofs.Door.{Some_from_is_some as some_first}
+use Rattle.std.proofs.lemmas.Option.{slice_get_past as none_behind}
 
 -- ---- one line
 
@@ -38,13 +42,9 @@ tail_of (x ∷ xs) = xs
 no_cons : {X : Type 0} (x : X) (xs : List X) → [] ≡ x ∷ xs → ⊥
 no_cons x xs e = let none : 0 ≡ suc (length xs) = ap length e in omega (arith, none)
 
-none_behind : {X : Type 0} (xs : List X) (i : ℕ) → length xs ≤ i → slice_get xs i ≡ None
-none_behind [] i h = refl
-none_behind (x ∷ xs) zero h = absurd (omega (arith, h))
-none_behind (x ∷ xs) (suc i) h = none_behind xs i (omega (arith, h))
-
 -- lists that differ at a place are not both over there
-pub apart_within : {X : Type 0} (xs ys : List X) (i most : ℕ) → length xs ≤ most → length ys ≤ most → (slice_get xs i ≡ slice_get ys i → ⊥) → i < most
+pub apart_within : {X : Type 0} (xs ys : List X) (i most : ℕ) → length xs ≤ most → length ys ≤ most
+    → (slice_get xs i ≡ slice_get ys i → ⊥) → i < most
 apart_within xs ys i most a b apart = elim (either (nat_lt i most)) [
   | inl t ↦ grind (arith, nat_tests)
   | inr t ↦
@@ -54,7 +54,10 @@ apart_within xs ys i most a b apart = elim (either (nat_lt i most)) [
 
 -- ---- a step that isn't the run's
 
-differs : (n before : ℕ) (run steps : List TraceStep) (lines others : List Line) → AreSteps run → AreOf steps lines others → Stops (before + length steps) others → before + length run < MOST_STEPS → (i : ℕ) → take i run ≡ take i steps → (slice_get run i ≡ slice_get steps i → ⊥) → differs_at n (map step_text run) lines ≡ Some (i + n)
+differs : (n before : ℕ) (run steps : List TraceStep) (lines others : List Line) → AreSteps run
+    → AreOf steps lines others → Stops (before + length steps) others → before + length run < MOST_STEPS → (i : ℕ)
+    → take i run ≡ take i steps → (slice_get run i ≡ slice_get steps i → ⊥)
+    → differs_at n (map step_text run) lines ≡ Some (i + n)
 differs n before [] [] lines others fields of stops few i same apart = absurd (apart refl)
 differs n before [] (s ∷ steps) [] others fields of stops few i same apart = absurd of
 differs n before [] (s ∷ steps) (line ∷ lines) others fields of stops few zero same apart = let e : n ≡ 0 + n = omega arith in ap Some e
@@ -93,7 +96,8 @@ differs n before (r ∷ run) (s ∷ steps) (line ∷ lines) others fields of sto
 
 -- ---- the run's steps
 
-agree : (n : ℕ) (steps : List TraceStep) (lines others : List Line) → AreOf steps lines others → differs_at n (map step_text steps) lines ≡ cond (are_some others) (Some (length steps + n)) None
+agree : (n : ℕ) (steps : List TraceStep) (lines others : List Line) → AreOf steps lines others
+    → differs_at n (map step_text steps) lines ≡ cond (are_some others) (Some (length steps + n)) None
 agree n [] lines [] of = ap (λ l. differs_at n [] l) of
 agree n [] lines (o ∷ others) of = let e : n ≡ 0 + n = omega arith in ap (λ l. differs_at n [] l) of ∙ ap Some e
 agree n (s ∷ steps) [] others of = absurd of
@@ -104,10 +108,12 @@ agree n (s ∷ steps) (line ∷ lines) others of =
     ∙ (agree (suc n) steps lines others of.1 ∙ ap (λ k. cond (are_some others) (Some k) None) next)
 
 module _ (reader : JudgeReader) (lines : List Line) (read : IsRead reader lines) (run : List TraceStep) (fields : AreSteps run) (few : length run < MOST_STEPS) where
-  pub wrong_there : is_headed (length run) lines ≡ true → (place : ℕ) → AgreeBefore run reader.steps (Some place) → (place ≤ MOST_STEPS) × (judged run lines ≡ Some (place + 1))
+  pub wrong_there : is_headed (length run) lines ≡ true → (place : ℕ) → AgreeBefore run reader.steps (Some place)
+      → (place ≤ MOST_STEPS) × (judged run lines ≡ Some (place + 1))
   wrong_there headed place wrong = by lines read headed
     where
-      by : (ls : List Line) → IsRead reader ls → is_headed (length run) ls ≡ true → (place ≤ MOST_STEPS) × (judged run ls ≡ Some (place + 1))
+      by : (ls : List Line) → IsRead reader ls → is_headed (length run) ls ≡ true
+          → (place ≤ MOST_STEPS) × (judged run ls ≡ Some (place + 1))
       by [] none met = let x : false ≡ true = met in cc
       by (line ∷ ls) (first, are) met =
           let i = wrong.0 in
@@ -120,10 +126,14 @@ module _ (reader : JudgeReader) (lines : List Line) (read : IsRead reader lines)
                 ∙ (differs 2 0 run reader.steps ls are.others fields are.are (subst (λ m. Stops m are.others) zero_more are.stops) short i wrong.2 wrong.3 ∙ ap Some place_is),
           )
 
-  pub all_there : is_headed (length run) lines ≡ true → run ≡ reader.steps → (length reader.steps ≤ MOST_STEPS) × (judged run lines ≡ cond reader.goes_on (Some (length reader.steps + 2)) None)
+  pub all_there : is_headed (length run) lines ≡ true → run ≡ reader.steps
+      → (length reader.steps ≤ MOST_STEPS)
+        × (judged run lines ≡ cond reader.goes_on (Some (length reader.steps + 2)) None)
   all_there headed same = by lines read headed
     where
-      by : (ls : List Line) → IsRead reader ls → is_headed (length run) ls ≡ true → (length reader.steps ≤ MOST_STEPS) × (judged run ls ≡ cond reader.goes_on (Some (length reader.steps + 2)) None)
+      by : (ls : List Line) → IsRead reader ls → is_headed (length run) ls ≡ true
+          → (length reader.steps ≤ MOST_STEPS)
+            × (judged run ls ≡ cond reader.goes_on (Some (length reader.steps + 2)) None)
       by [] none met = let x : false ≡ true = met in cc
       by (line ∷ ls) (first, are) met = (
         are.few,
@@ -134,12 +144,14 @@ module _ (reader : JudgeReader) (lines : List Line) (read : IsRead reader lines)
 
 -- ---- one more line
 
-of_snoc : (steps : List TraceStep) (lines others : List Line) (line : Line) → AreOf steps lines others → AreOf steps (lines ++ line ∷ []) (others ++ line ∷ [])
+of_snoc : (steps : List TraceStep) (lines others : List Line) (line : Line) → AreOf steps lines others
+    → AreOf steps (lines ++ line ∷ []) (others ++ line ∷ [])
 of_snoc [] lines others line of = ap (λ l. l ++ line ∷ []) of
 of_snoc (s ∷ steps) [] others line of = absurd of
 of_snoc (s ∷ steps) (l ∷ lines) others line of = (of.0, of_snoc steps lines others line of.1)
 
-of_more : (steps : List TraceStep) (lines : List Line) (step : TraceStep) (line : Line) → AreOf steps lines [] → IsOf line step → AreOf (steps ++ step ∷ []) (lines ++ line ∷ []) []
+of_more : (steps : List TraceStep) (lines : List Line) (step : TraceStep) (line : Line) → AreOf steps lines []
+    → IsOf line step → AreOf (steps ++ step ∷ []) (lines ++ line ∷ []) []
 of_more [] lines step line of is = subst (λ l. AreOf (step ∷ []) (l ++ line ∷ []) []) (sym of) (is, refl)
 of_more (s ∷ steps) [] step line of is = absurd of
 of_more (s ∷ steps) (l ∷ lines) step line of is = (of.0, of_more steps lines step line of.1 is)
@@ -153,7 +165,8 @@ some_more [] line = refl
 some_more (o ∷ others) line = refl
 
 module _ (steps : List TraceStep) (lines : List Line) (line : Line) where
-  pub read_step_more : (step : TraceStep) → AreRead steps false lines → length steps < MOST_STEPS → IsOf line step → AreRead (steps ++ step ∷ []) false (lines ++ line ∷ [])
+  pub read_step_more : (step : TraceStep) → AreRead steps false lines → length steps < MOST_STEPS → IsOf line step
+      → AreRead (steps ++ step ∷ []) false (lines ++ line ∷ [])
   read_step_more step are few is =
       let of = subst (AreOf steps lines) (none_of are.others are.behind) are.are in
       let long : length (steps ++ step ∷ []) ≡ length steps + 1 = length-append steps (step ∷ []) in record {
@@ -164,7 +177,9 @@ module _ (steps : List TraceStep) (lines : List Line) (line : Line) where
         few = omega (arith, few, long);
       }
 
-  pub read_none_more : AreRead steps false lines → ((step : TraceStep) → IsOf line step → ⊥) ⊎ (MOST_STEPS ≤ length steps) → AreRead steps true (lines ++ line ∷ [])
+  pub read_none_more : AreRead steps false lines
+      → ((step : TraceStep) → IsOf line step → ⊥) ⊎ (MOST_STEPS ≤ length steps)
+      → AreRead steps true (lines ++ line ∷ [])
   read_none_more are none =
       let of = subst (AreOf steps lines) (none_of are.others are.behind) are.are in record {
         others = line ∷ [];
@@ -183,28 +198,30 @@ module _ (steps : List TraceStep) (lines : List Line) (line : Line) where
     few = are.few;
   }
     where
-      still : (others : List Line) → true ≡ are_some others → Stops (length steps) others → Stops (length steps) (others ++ line ∷ [])
+      still : (others : List Line) → true ≡ are_some others → Stops (length steps) others
+          → Stops (length steps) (others ++ line ∷ [])
       still [] some stops = let x : true ≡ false = some in cc
       still (o ∷ others) some stops = stops
 
 -- ---- the first line
 
-pub some_first : {X : Type 0} (o : Option X) → is_some o ≡ true → (x : X) × (o ≡ Some x)
-some_first None e = let x : false ≡ true = e in cc
-some_first (Some x) e = (x, refl)
-
 module _ (reader : JudgeReader) where
-  pub no_line_yet : (lines : List Line) → IsRead reader lines → reader.first ≡ None → (lines ≡ []) × (reader.steps ≡ []) × (reader.goes_on ≡ false)
+  pub no_line_yet : (lines : List Line) → IsRead reader lines → reader.first ≡ None
+      → (lines ≡ []) × (reader.steps ≡ []) × (reader.goes_on ≡ false)
   no_line_yet [] read none = (refl, read.1, read.2)
   no_line_yet (l ∷ lines) read none = absurd (none_not (kept l) (sym none ∙ read.0))
 
   -- another reader, by what came behind the first line
-  pub further : (new : JudgeReader) (line : Line) (lines : List Line) → IsRead reader lines → (first : List ℕ) → reader.first ≡ Some first → new.first ≡ reader.first → ((ls : List Line) → AreRead reader.steps reader.goes_on ls → AreRead new.steps new.goes_on (ls ++ line ∷ [])) → IsRead new (lines ++ line ∷ [])
+  pub further : (new : JudgeReader) (line : Line) (lines : List Line) → IsRead reader lines → (first : List ℕ)
+      → reader.first ≡ Some first → new.first ≡ reader.first
+      → ((ls : List Line) → AreRead reader.steps reader.goes_on ls → AreRead new.steps new.goes_on (ls ++ line ∷ []))
+      → IsRead new (lines ++ line ∷ [])
   further new line [] read first some same more = absurd (none_not first (sym read.0 ∙ some))
   further new line (l ∷ lines) read first some same more = (same ∙ read.0, more lines read.1)
 
   -- by the text of the first line
-  pub head_told : (n : ℕ) (lines : List Line) → IsRead reader lines → (first : List ℕ) → reader.first ≡ Some first → bytes_eq (header n) first ≡ is_headed n lines
+  pub head_told : (n : ℕ) (lines : List Line) → IsRead reader lines → (first : List ℕ) → reader.first ≡ Some first
+      → bytes_eq (header n) first ≡ is_headed n lines
   unfolding header
   head_told n [] read first some = absurd (none_not first (sym read.0 ∙ some))
   head_told n (l ∷ lines) read first some =

@@ -9,10 +9,11 @@ use Rattle.cga_order.specs.Chain.{IsChild}
 use Rattle.cga_order.specs.World.{World, IsWorld, Has, is_instance}
 use Rattle.cga_order.specs.declared.placed.Placed.{Placed}
 use Rattle.cga_order.specs.declared.placed.Kind.{Kind}
-use Rattle.cga_order.proofs.Chains.{snoc-same}
-use Rattle.cga_order.proofs.Members.{Has-index}
+use Rattle.cga_expand.proofs.Door.{few_made, sources_are_derivations}
+use Rattle.cga_fraction.proofs.Door.{length-map, lt-length_from_slice_get as within}
+use Rattle.cga_order.proofs.Door.{Has-index, snoc-same}
+use Rattle.cga_rework.proofs.Door.{child_is, child_rank, is_world, keeps, keeps-node, rank, start_stands}
 use Rattle.cga_derivation.specs.Derivation.{IsDerivation, outcome, reached, NothingWaits}
-use Rattle.cga_derivation.proofs.Along.{length-map}
 use Rattle.cga_shape.specs.declared.shape.Shape.{Shape}
 use Rattle.cga_shape.specs.declared.shape_fault.ShapeFault.{ShapeFault}
 use Rattle.cga_shape.specs.declared.sources.Sources.{Sources}
@@ -20,18 +21,12 @@ use Rattle.cga_shape.specs.declared.trace_step.Outcome.TheVariants as trace
 use Rattle.cga_shape.specs.declared.emitted.Emitted.{Emitted}
 use Rattle.cga_expand.specs.Children.{Member, placed_by, placed_from}
 use Rattle.cga_expand.specs.Expand.{expand_of}
-use Rattle.cga_expand.proofs.Few.{few_made}
 use Rattle.cga_expand.specs.declared.limits.TheConstants.{MOST_CHILDREN}
 use Rattle.cga_expand.specs.Derivation.{children_of, derivation_of, NamesDiffer}
 use Rattle.cga_expand.specs.Run.{outcome_of, traced}
-use Rattle.cga_expand.proofs.Instance.{sources_are_derivations}
 use Rattle.cga_rework.specs.Nodes.{nodes_of, IsBound}
 use Rattle.cga_rework.specs.Ranked.{Ranked, all_placed, placed, ranked_world}
 use Rattle.cga_rework.specs.Rules as rules
-use Rattle.cga_rework.proofs.NodeLists.{keeps-node}
-use Rattle.cga_rework.proofs.Place.{child_rank, child_is, keeps, rank}
-use Rattle.cga_rework.proofs.Stands.{start_stands}
-use Rattle.cga_rework.proofs.Worlds.{is_world}
 use Rattle.cga_forest.specs.declared.entry.Entry.{Entry}
 use Rattle.cga_forest.specs.View.{Seen, slot, present_of}
 use Rattle.cga_forest.specs.Tree.{ForestView, node_at}
@@ -43,17 +38,13 @@ FewChildren made = IfOk made (λ children. length children ≤ MOST_CHILDREN)
 
 -- ---- lists
 
-within : {X : Type 0} (xs : List X) (i : ℕ) (x : X) → slice_get xs i ≡ Some x → i < length xs
-within [] i x e = let z : None ≡ Some x = e in cc
-within (y ∷ xs) zero x e = omega arith
-within (y ∷ xs) (suc i) x e = omega (arith, within xs i x e)
-
 long_by : {X : Type 0} (xs : List X) (n : ℕ) → ((i : ℕ) (x : X) → slice_get xs i ≡ Some x → i < n) → length xs ≤ n
 long_by [] n h = omega arith
 long_by (x ∷ xs) zero h = let z = h 0 x refl in absurd (omega (arith, z))
 long_by (x ∷ xs) (suc n) h = let r = long_by xs n (λ i y e. let z = h (suc i) y e in omega (arith, z)) in omega (arith, r)
 
-get-Has : {N F P : Type 0} (xs : List (Placed N F P)) (i : ℕ) (x : Placed N F P) → slice_get xs i ≡ Some x → Has xs x.shape x.kind
+get-Has : {N F P : Type 0} (xs : List (Placed N F P)) (i : ℕ) (x : Placed N F P) → slice_get xs i ≡ Some x
+    → Has xs x.shape x.kind
 get-Has [] i x e = let z : None ≡ Some x = e in cc
 get-Has (y ∷ xs) zero x e = let same : y ≡ x = cc in inl (ap (λ z. z.shape) same, ap (λ z. z.kind) same)
 get-Has (y ∷ xs) (suc i) x e = inr (get-Has xs i x e)
@@ -62,7 +53,8 @@ length-placed : (lot path own : List ℕ) (i : ℕ) (es : List Emitted) → leng
 length-placed lot path own i [] = refl
 length-placed lot path own i (e ∷ es) = ap suc (length-placed lot path own (suc i) es)
 
-pub keeps_of : {N A F P : Type 0} (nodes : List (agenda.Node N A F P)) (n : N) (k : Kind F P) → Has (members_of nodes) n k → (a : A) × Keeps nodes n k a
+pub keeps_of : {N A F P : Type 0} (nodes : List (agenda.Node N A F P)) (n : N) (k : Kind F P)
+    → Has (members_of nodes) n k → (a : A) × Keeps nodes n k a
 keeps_of [] n k h = absurd h
 keeps_of (m ∷ ms) n k h = elim h [
   | inl e ↦ (m.answers, inl (e.0, e.1, refl))
@@ -100,7 +92,8 @@ module _ (sources : Sources) (differ : NamesDiffer sources.lots) (v : ForestView
     own = record { shape = d.node.shape; priorities = d.node.line }
 
     -- as many children as were made
-    count : (a : Answers) (cs : List (Placed (Ranked Shape) ShapeFault Primitive)) → W.expand own a ≡ Ok cs → HasChildren W nodes own cs → length d.children ≡ length cs
+    count : (a : Answers) (cs : List (Placed (Ranked Shape) ShapeFault Primitive)) → W.expand own a ≡ Ok cs
+        → HasChildren W nodes own cs → length d.children ≡ length cs
     unfolding own
     count a cs e has =
         let up = long_by d.children (length cs) (λ i b h.
@@ -134,7 +127,8 @@ module _ (sources : Sources) (differ : NamesDiffer sources.lots) (v : ForestView
             | inr r ↦ r
           ]
 
-      came : (r : Result (List Member) ShapeFault) → children_of sources.grammar d.node.shape d.node.answers ≡ r → outcome_from d.node.kind (length d.children) ≡ outcome_of r
+      came : (r : Result (List Member) ShapeFault) → children_of sources.grammar d.node.shape d.node.answers ≡ r
+          → outcome_from d.node.kind (length d.children) ≡ outcome_of r
       unfolding own
       came (Ok cs) e =
           let above = (W.chain own).priorities in
@@ -147,7 +141,8 @@ module _ (sources : Sources) (differ : NamesDiffer sources.lots) (v : ForestView
           let settled = subst (IsSettled W nodes own d.node.kind) made right.1 in
           ap (λ k. outcome_from k (length d.children)) settled.0
 
-      few_by : (r : Result (List Emitted) ShapeFault) → expand_of sources.grammar d.node.shape d.node.answers ≡ r → FewChildren r → length d.children < 2 ^ 16
+      few_by : (r : Result (List Emitted) ShapeFault) → expand_of sources.grammar d.node.shape d.node.answers ≡ r
+          → FewChildren r → length d.children < 2 ^ 16
       unfolding own children_of
       few_by (Ok es) e few =
           let above = (W.chain own).priorities in
@@ -171,7 +166,8 @@ module _ (sources : Sources) (differ : NamesDiffer sources.lots) (v : ForestView
       pub children_few : length d.children < 2 ^ 16
       children_few = few_by (expand_of sources.grammar d.node.shape d.node.answers) refl (few_made {E = Unit {0}} sources.grammar d.node.shape d.node.answers (Ok (expand_of sources.grammar d.node.shape d.node.answers)) refl)
 
-      told : (end : ℕ) → NothingWaits (derivation_of sources) (reached (derivation_of sources) end) → (n : ℕ) × IsTold sources n (step_of_node d)
+      told : (end : ℕ) → NothingWaits (derivation_of sources) (reached (derivation_of sources) end)
+          → (n : ℕ) × IsTold sources n (step_of_node d)
       told end quiet =
           let start = stands.started top bounded in
           let for = start_stands (shapes_of sources) (rules_of sources) are (rules_of sources) nodes start (reached (derivation_of sources) end) (end, refl, quiet) in

@@ -1,13 +1,14 @@
-pub mod Again
-pub mod Cutting
-pub mod Parts
-pub mod LineWords
-pub mod Sorted
-pub mod Kept
-pub mod Places
-pub mod Listing
-pub mod Entries
-pub mod Turning
-pub mod Tells
-pub mod TraceLines
-pub mod Judging
+mod Again
+mod Cutting
+mod Parts
+mod LineWords
+mod Sorted
+mod Kept
+mod Places
+mod Listing
+mod Entries
+mod Turning
+mod Tells
+mod TraceLines
+mod Judging
+pub mod Door

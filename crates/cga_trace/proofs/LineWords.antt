@@ -28,7 +28,10 @@ module _ (s : TraceStep) where
   unfolding step_text told_text
   behind_step = refl
 
-  pub words : IsStep s → (line t0 w1 t1 w2 t2 w3 t3 w4 t4 w5 t5 : List ℕ) → line ≡ step_text s → t0 ≡ drop 7 line → w1 ≡ (cut_of 32 t0).0 → t1 ≡ (cut_of 32 t0).1 → w2 ≡ (cut_of 32 t1).0 → t2 ≡ (cut_of 32 t1).1 → w3 ≡ (cut_of 32 t2).0 → t3 ≡ (cut_of 32 t2).1 → w4 ≡ (cut_of 32 t3).0 → t4 ≡ (cut_of 32 t3).1 → w5 ≡ (cut_of 32 t4).0 → t5 ≡ (cut_of 32 t4).1 → AreWords s w1 w2 w3 w4 w5 t5
+  pub words : IsStep s → (line t0 w1 t1 w2 t2 w3 t3 w4 t4 w5 t5 : List ℕ) → line ≡ step_text s → t0 ≡ drop 7 line
+      → w1 ≡ (cut_of 32 t0).0 → t1 ≡ (cut_of 32 t0).1 → w2 ≡ (cut_of 32 t1).0 → t2 ≡ (cut_of 32 t1).1
+      → w3 ≡ (cut_of 32 t2).0 → t3 ≡ (cut_of 32 t2).1 → w4 ≡ (cut_of 32 t3).0 → t4 ≡ (cut_of 32 t3).1
+      → w5 ≡ (cut_of 32 t4).0 → t5 ≡ (cut_of 32 t4).1 → AreWords s w1 w2 w3 w4 w5 t5
   words is line t0 w1 t1 w2 t2 w3 t3 w4 t4 w5 t5 at e0 f1 e1 f2 e2 f3 e3 f4 e4 f5 e5 =
       let a = cut_word 32 s.lot r1 t0 w1 t1 (name_lacks s.lot is.lot) (e0 ∙ (ap (drop 7) at ∙ behind_step)) f1 e1 in
       let b = cut_word 32 (path_text s.path) r2 t1 w2 t2 (path_lacks s.path is.path) a.1 f2 e2 in

@@ -1,12 +1,14 @@
 -- The words of a step hold no blank, and the numbers of a path no stroke.
-use Rattle.std.proofs.Common.{◌≡◌, ℕ, ◌<◌, ◌^◌, List, [], ◌∷◌, ◌++◌, length, drop, Bool, true, false, not, ◌&&◌, ◌⊎◌, inl, inr, nat_eq, nat_lt, refl, sym, ap, ◌∙◌, subst, Option, Some, None, arith, length-append}
+use Rattle.std.proofs.Common.{◌≡◌, ℕ, ◌<◌, ◌^◌, List, [], ◌∷◌, ◌++◌, length, drop, Bool, true, false, not, ◌&&◌, ◌⊎◌}
+use Rattle.std.proofs.Common.{inl, inr, nat_eq, nat_lt, refl, sym, ap, ◌∙◌, subst, Option, Some, None, arith}
+use Rattle.std.proofs.Common.{length-append}
 use Rattle.std.specs.Prelude.{decimal, flat_map, IsTrue}
 use Rattle.std.specs.Char.{is_ascii_digit}
 use Rattle.std.specs.List.{list_all, AllByRecursion}
 use Rattle.std.proofs.lemmas.Bool.Decides.{nat_tests}
 use Rattle.std.proofs.lemmas.List.{append-nil}
 use Rattle.std.proofs.lemmas.Fmt.{digits_decimal, decimal_nonempty}
-use Rattle.cga_fraction.proofs.Spelling.{own}
+use Rattle.cga_fraction.proofs.Door.{eq_from_nat_eq as equal, own}
 use Rattle.cga_word.specs.Name.{begins_name, continues_name, is_name, name_of}
 use Rattle.cga_word.specs.declared.answer.Answer.{Answer}
 use Rattle.cga_word.specs.declared.answer.Answer.TheVariants.{Nothing, Part, Full}
@@ -15,23 +17,13 @@ use Rattle.cga_obj.specs.Faults.{index_text, path_text}
 use Rattle.cga_trace.specs.Words.{answer_word}
 use Rattle.cga_trace.proofs.Again.{both}
 use Rattle.cga_trace.proofs.Cutting.{cut_alone, cut_between}
-
-either : (b : Bool) → (b ≡ true) ⊎ (b ≡ false)
-either true = inl refl
-either false = inr refl
-
-equal : (n m : ℕ) → nat_eq n m ≡ true → n ≡ m
-equal n m e = grind (arith, nat_tests)
+use Rattle.std.proofs.lemmas.Bool.{and_from as and_true, cases_Bool as either}
 
 other : (p : ℕ → Bool) (byte b : ℕ) → p byte ≡ false → p b ≡ true → not (nat_eq b byte) ≡ true
 other p byte b f t = elim (either (nat_eq b byte)) [
   | inl e ↦ let x : true ≡ false = sym t ∙ (ap p (equal b byte e) ∙ f) in cc
   | inr e ↦ ap not e
 ]
-
-and_true : (a b : Bool) → a ≡ true → b ≡ true → (a && b) ≡ true
-and_true true b e f = f
-and_true false b e f = let x : false ≡ true = e in cc
 
 lacks_by : (p : ℕ → Bool) (byte : ℕ) → p byte ≡ false → (xs : List ℕ) → list_all p xs ≡ true → lacks byte xs ≡ true
 lacks_by p byte f [] e = refl
@@ -79,12 +71,14 @@ path_lacks (i ∷ path) h = indices_lack (i ∷ path) h
 
 -- ---- the numbers of a path
 
-pub path_behind : (path text rest : List ℕ) → text ≡ path_text path → rest ≡ drop 1 text → rest ≡ drop 1 (flat_map index_text path)
+pub path_behind : (path text rest : List ℕ) → text ≡ path_text path → rest ≡ drop 1 text
+    → rest ≡ drop 1 (flat_map index_text path)
 unfolding path_text
 path_behind [] text rest is at = at ∙ ap (drop 1) is
 path_behind (i ∷ path) text rest is at = at ∙ ap (drop 1) is
 
-pub cut_index : (i : ℕ) → i < 2 ^ 16 → (path : List ℕ) → cut_of 47 (drop 1 (flat_map index_text (i ∷ path))) ≡ (decimal i, drop 1 (flat_map index_text path))
+pub cut_index : (i : ℕ) → i < 2 ^ 16 → (path : List ℕ)
+    → cut_of 47 (drop 1 (flat_map index_text (i ∷ path))) ≡ (decimal i, drop 1 (flat_map index_text path))
 unfolding index_text
 cut_index i h [] = ap (cut_of 47) (append-nil (decimal i)) ∙ cut_alone 47 (decimal i) (number_lacks 47 i refl h)
 cut_index i h (j ∷ path) = cut_between 47 (decimal i) (decimal j ++ flat_map index_text path) (number_lacks 47 i refl h)
@@ -95,7 +89,8 @@ some_left i h path =
     let fits : i < 2 ^ 64 = omega (arith, h) in
     omega (arith, decimal_nonempty i fits, length-append (decimal i) (flat_map index_text path))
 
-behind_done : (done left : List ℕ) → AllByRecursion (λ i. i < 2 ^ 16) (done ++ left) → AllByRecursion (λ i. i < 2 ^ 16) left
+behind_done : (done left : List ℕ) → AllByRecursion (λ i. i < 2 ^ 16) (done ++ left)
+    → AllByRecursion (λ i. i < 2 ^ 16) left
 behind_done [] left h = h
 behind_done (x ∷ done) left h = behind_done done left h.1
 
@@ -116,13 +111,15 @@ module _ (is : List ℕ) (few : AllByRecursion (λ i. i < 2 ^ 16) is) (done rest
       absurd (h (subst (λ l. 0 < length l) (sym r) (some_left i all.0 left)))
 
   -- one more number is read
-  pub path_goes : IsLeft is done rest → 0 < length rest → (word more : List ℕ) → word ≡ (cut_of 47 rest).0 → more ≡ (cut_of 47 rest).1 → (i : ℕ) × (i < 2 ^ 16) × (word ≡ decimal i) × IsLeft is (done ++ i ∷ []) more
+  pub path_goes : IsLeft is done rest → 0 < length rest → (word more : List ℕ) → word ≡ (cut_of 47 rest).0
+      → more ≡ (cut_of 47 rest).1 → (i : ℕ) × (i < 2 ^ 16) × (word ≡ decimal i) × IsLeft is (done ++ i ∷ []) more
   path_goes ([], e, r) h word more w m = let none : length rest ≡ 0 = ap length r in absurd (omega (arith, h, none))
   path_goes (i ∷ left, e, r) h word more w m =
       let all = behind_done done (i ∷ left) (subst (AllByRecursion (λ i. i < 2 ^ 16)) e few) in
       let cut = ap (cut_of 47) r ∙ cut_index i all.0 left in
       (i, all.0, w ∙ ap (λ p. p.0) cut, (left, e ∙ append_one done i left, m ∙ ap (λ p. p.1) cut))
 
-pub few_more : (path : List ℕ) (i : ℕ) → AllByRecursion (λ i. i < 2 ^ 16) path → i < 2 ^ 16 → AllByRecursion (λ i. i < 2 ^ 16) (path ++ i ∷ [])
+pub few_more : (path : List ℕ) (i : ℕ) → AllByRecursion (λ i. i < 2 ^ 16) path → i < 2 ^ 16
+    → AllByRecursion (λ i. i < 2 ^ 16) (path ++ i ∷ [])
 few_more [] i few one = (one, tt)
 few_more (x ∷ path) i few one = (few.0, few_more path i few.1 one)

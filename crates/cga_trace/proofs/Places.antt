@@ -1,5 +1,7 @@
 -- The places of turns and nodes, and the stamps that nodes keep.
-use Rattle.std.proofs.Common.{◌≡◌, ℕ, zero, suc, ◌+◌, ◌-◌, List, [], ◌∷◌, ◌++◌, length, map, true, false, cond, refl, sym, ap, ◌∙◌, subst, inl, inr, Result, Ok, Err, Option, Some, None, arith, length-append}
+use Rattle.std.proofs.Common.{◌≡◌, ℕ, zero, suc, ◌+◌, ◌-◌, List, [], ◌∷◌, ◌++◌, length, map, true, false, cond, refl}
+use Rattle.std.proofs.Common.{sym, ap, ◌∙◌, subst, inl, inr, Result, Ok, Err, Option, Some, None, arith}
+use Rattle.std.proofs.Common.{length-append}
 use Rattle.cga_word.specs.declared.answers.Answers.{Answers}
 use Rattle.cga_word.specs.declared.primitive.Primitive.{Primitive}
 use Rattle.cga_order.specs.Agenda.{members_of}
@@ -7,28 +9,24 @@ use Rattle.cga_order.specs.World.{Has, is_instance}
 use Rattle.cga_order.specs.declared.placed.Placed.{Placed}
 use Rattle.cga_order.specs.declared.placed.Kind.{Kind}
 use Rattle.cga_order.specs.declared.placed.Kind.TheVariants.{Waiting, Done, Faulted}
-use Rattle.cga_order.proofs.Chains.{snoc-same}
-use Rattle.cga_order.proofs.Turns.{Has-Keeps}
-use Rattle.cga_order.proofs.Steps as steps
+use Rattle.cga_derivation.proofs.Door.{Has-erased, chain-is, erase-sites, first_of-Has, first_of-passes, good-at, waiting_kind}
+use Rattle.cga_expand.proofs.Door.{sources_are_derivations}
+use Rattle.cga_fraction.proofs.Door.{cases_Option as option_cases}
+use Rattle.cga_order.proofs.Door.{Has-Keeps, snoc-same}
+use Rattle.cga_rework.proofs.Door.{Has-unranked, keeps, keeps-node, parent_of, rank, start_stands, unranked-Has}
+use Rattle.std.proofs.lemmas.Bool.{and_parts as both}
+use Rattle.cga_order.proofs.Door as steps
 use Rattle.cga_derivation.specs.Derivation.{Derivation, become, same_place, is_next, next_of, outcome, told, step, step_by, reached, NothingWaits}
 use Rattle.cga_derivation.specs.Sites.{Site, chain_of, erase, fitted, sites, world_of}
 use Rattle.cga_derivation.specs.Stamps.{chain_in}
-use Rattle.cga_derivation.proofs.Along.{both, erase-sites, first_of-passes, first_of-Has}
-use Rattle.cga_derivation.proofs.Least.{Has-erased, waiting_kind}
-use Rattle.cga_derivation.proofs.Stamps.{chain-is, good-at}
 use Rattle.cga_shape.specs.declared.shape.Shape.{Shape}
 use Rattle.cga_shape.specs.declared.shape_fault.ShapeFault.{ShapeFault}
 use Rattle.cga_shape.specs.declared.sources.Sources.{Sources}
 use Rattle.cga_shape.specs.declared.trace_step.TraceStep.{TraceStep}
 use Rattle.cga_expand.specs.Children.{Member}
 use Rattle.cga_expand.specs.Derivation.{derivation_of, priority_of, NamesDiffer}
-use Rattle.cga_expand.proofs.Instance.{sources_are_derivations}
 use Rattle.cga_rework.specs.Exact.{StandsFor}
 use Rattle.cga_rework.specs.Ranked.{Ranked}
-use Rattle.cga_rework.proofs.NodeLists.{keeps-node, option_cases}
-use Rattle.cga_rework.proofs.Place.{keeps, parent_of, rank}
-use Rattle.cga_rework.proofs.Runs.{unranked-Has, Has-unranked}
-use Rattle.cga_rework.proofs.Stands.{start_stands}
 use Rattle.cga_forest.specs.Node.{chain_kept}
 use Rattle.cga_forest.specs.View.{Seen}
 use Rattle.cga_forest.specs.Tree.{ForestView, node_at}
@@ -43,7 +41,8 @@ module _ {N A F P : Type 0} (derivation : Derivation N A F P) (s : N) where
   abbrev Inner : List (Placed N F P) → Type 0
   Inner list = (j : Kind F P) × Has list s j × (is_instance j ≡ false)
 
-  become_has : (list : List (Placed N F P)) (x : N) (kind : Kind F P) → is_instance kind ≡ false → Inner list → Inner (map (become derivation x kind) list)
+  become_has : (list : List (Placed N F P)) (x : N) (kind : Kind F P) → is_instance kind ≡ false → Inner list
+      → Inner (map (become derivation x kind) list)
   become_has [] x kind k h = absurd h.1
   become_has (m ∷ ms) x kind k (j, h, i) = elim h [
     | inl e ↦ elim (same_place derivation m.shape x) as (λ b. Inner (cond b (record { shape = m.shape; kind = kind }) m ∷ map (become derivation x kind) ms)) [
@@ -57,7 +56,8 @@ module _ {N A F P : Type 0} (derivation : Derivation N A F P) (s : N) where
   has_left [] ys h = absurd h.1
   has_left (x ∷ xs) ys (j, h, i) = elim h [ inl e ↦ (j, inl e, i) | inr r ↦ let w = has_left xs ys (j, r, i) in (w.0, inr w.1, w.2) ]
 
-  told_has : (list : List (Placed N F P)) (x : N) (r : Result (List (Placed N F P)) F) → Inner list → Inner (told derivation list x r)
+  told_has : (list : List (Placed N F P)) (x : N) (r : Result (List (Placed N F P)) F) → Inner list
+      → Inner (told derivation list x r)
   told_has list x (Ok cs) h = has_left (map (become derivation x Done) list) cs (become_has list x Done refl h)
   told_has list x (Err f) h = become_has list x (Faulted f) refl h
 
@@ -83,7 +83,8 @@ module _ (sources : Sources) (differ : NamesDiffer sources.lots) (end : ℕ) (qu
   for = start_stands (shapes_of sources) (rules_of sources) (are sources differ v stands) (rules_of sources) (nodes sources differ v stands) (stands.started (top sources differ v stands) (bounded sources differ v stands)) list (end, refl, quiet)
 
   -- a member is a node
-  node_of : (s : Shape) (k : Kind ShapeFault Primitive) → Has list s k → is_instance k ≡ false → (c : ℕ) × (d : Seen) × IsInner v c d × (d.node.shape ≡ s)
+  node_of : (s : Shape) (k : Kind ShapeFault Primitive) → Has list s k → is_instance k ≡ false
+      → (c : ℕ) × (d : Seen) × IsInner v c d × (d.node.shape ≡ s)
   node_of s k h inner =
       let r = Has-unranked (members_of (nodes sources differ v stands)) s k ((for.members s k).1 h) in
       let a = keeps_of (nodes sources differ v stands) r.0 k r.1 in
@@ -97,7 +98,8 @@ module _ (sources : Sources) (differ : NamesDiffer sources.lots) (end : ℕ) (qu
       let has = Has-Keeps (nodes sources differ v stands) (rank (shapes_of sources) content (rules_of sources) d.node) d.node.kind d.node.answers kept in
       (for.members d.node.shape d.node.kind).0 (unranked-Has (members_of (nodes sources differ v stands)) (rank (shapes_of sources) content (rules_of sources) d.node) d.node.kind has)
 
-  turn_kept : (n : ℕ) (t : TraceStep) → IsTold sources n t → (c : ℕ) × (d : Seen) × IsInner v c d × (d.node.shape.lot ≡ t.lot) × (d.node.shape.path ≡ t.path)
+  turn_kept : (n : ℕ) (t : TraceStep) → IsTold sources n t
+      → (c : ℕ) × (d : Seen) × IsInner v c d × (d.node.shape.lot ≡ t.lot) × (d.node.shape.path ≡ t.path)
   turn_kept n t (m, e, is) =
       let lt = early sources end quiet n m e in
       let gap : (end - n) + n ≡ end = omega (arith, lt) in
@@ -122,14 +124,17 @@ module _ (sources : Sources) (differ : NamesDiffer sources.lots) (end : ℕ) (qu
   abbrev LineIs : Seen → Site Shape → Type 0
   LineIs d st = d.node.line ≡ (chain_of D st).priorities
 
-  top_line : (c : ℕ) (d : Seen) → IsInner v c d → d.parent ≡ None → (st : Site Shape) → st.shape ≡ d.node.shape → LineIs d st
+  top_line : (c : ℕ) (d : Seen) → IsInner v c d → d.parent ≡ None → (st : Site Shape) → st.shape ≡ d.node.shape
+      → LineIs d st
   top_line c d (t, inner) none st same =
       let top = stands.city.root c d t none in
       let path : st.shape.path ≡ [] = ap (λ (s : Shape). s.path) same ∙ top.path in
       let own : d.node.priority ≡ priority_of sources.grammar st.shape.symbol = stands.priced c d t inner ∙ ap (λ (s : Shape). priority_of sources.grammar s.symbol) (sym same) in
       top.line ∙ (λ i. fitted (length (sym path i)) st.above ++ own i ∷ [])
 
-  below_line : (c p : ℕ) (d e : Seen) → IsInner v c d → d.parent ≡ Some p → node_at v p ≡ Some e → ((u : Site Shape) → Has C u Done → u.shape ≡ e.node.shape → LineIs e u) → (st : Site Shape) (k : Kind ShapeFault Primitive) → Has C st k → st.shape ≡ d.node.shape → LineIs d st
+  below_line : (c p : ℕ) (d e : Seen) → IsInner v c d → d.parent ≡ Some p → node_at v p ≡ Some e
+      → ((u : Site Shape) → Has C u Done → u.shape ≡ e.node.shape → LineIs e u)
+      → (st : Site Shape) (k : Kind ShapeFault Primitive) → Has C st k → st.shape ≡ d.node.shape → LineIs d st
   below_line c p d e (t, inner) up te known st k h same =
       let below = stands.city.child c p d e t up te in
       let path : st.shape.path ≡ e.node.shape.path ++ d.index ∷ [] = ap (λ (s : Shape). s.path) same ∙ below.place.1 in
@@ -148,7 +153,8 @@ module _ (sources : Sources) (differ : NamesDiffer sources.lots) (end : ℕ) (qu
             below.line ∙ ((λ j. line j ++ own j ∷ []) ∙ sym child.priorities.1)
       ]
 
-  line_is : (size c : ℕ) (d : Seen) → IsInner v c d → length d.node.shape.path ≡ size → (st : Site Shape) (k : Kind ShapeFault Primitive) → Has C st k → st.shape ≡ d.node.shape → LineIs d st
+  line_is : (size c : ℕ) (d : Seen) → IsInner v c d → length d.node.shape.path ≡ size
+      → (st : Site Shape) (k : Kind ShapeFault Primitive) → Has C st k → st.shape ≡ d.node.shape → LineIs d st
   line_is zero c d at long st k h same = elim (option_cases d.parent) [
     | inl none ↦ top_line c d at none st same
     | inr (p, up) ↦

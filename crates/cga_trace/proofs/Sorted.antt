@@ -7,22 +7,19 @@ use Rattle.std.proofs.lemmas.Bool.Decides.{nat_tests}
 use Rattle.cga_order.specs.Stamp.{stamp, stamps_cmp}
 use Rattle.cga_order.specs.World.{Among, Has}
 use Rattle.cga_order.specs.declared.placed.Kind.TheVariants.{Waiting}
-use Rattle.cga_order.proofs.Maxima as ranks
-use Rattle.cga_order.proofs.Maxima.{either}
-use Rattle.cga_order.proofs.Order.{stamps_total}
+use Rattle.cga_order.proofs.Door as ranks
+use Rattle.cga_derivation.proofs.Door.{first_of-Has, first_of-passes, rises, settled-reached, waiting_kind}
+use Rattle.cga_expand.proofs.Door.{sources_are_derivations}
+use Rattle.cga_order.proofs.Door.{stamps_total}
+use Rattle.std.proofs.lemmas.Bool.{and_parts as both, cases_Bool as either}
 use Rattle.cga_derivation.specs.Derivation.{is_next, next_of, reached, expanded, NothingWaits}
 use Rattle.cga_derivation.specs.Stamps.{priorities_down, stamp_in, AllEarlier, RisesIn}
-use Rattle.cga_derivation.proofs.Along.{both, first_of-passes, first_of-Has}
-use Rattle.cga_derivation.proofs.Budget.{settled-reached}
-use Rattle.cga_derivation.proofs.Least.{waiting_kind}
-use Rattle.cga_derivation.proofs.Stamps.{rises}
 use Rattle.cga_shape.specs.declared.shape.Shape.{Shape}
 use Rattle.cga_shape.specs.declared.sources.Sources.{Sources}
 use Rattle.cga_shape.specs.declared.trace_step.TraceStep.{TraceStep}
 use Rattle.cga_expand.specs.Children.{Member}
 use Rattle.cga_expand.specs.Derivation.{derivation_of}
 use Rattle.cga_expand.specs.Run.{traced, step_of, run_to}
-use Rattle.cga_expand.proofs.Instance.{sources_are_derivations}
 use Rattle.cga_trace.specs.Sorted.{IsTold, stamp_at, Before, BeforeAll, Rise, SortedIsRun}
 
 module _ (sources : Sources) (list : List Member) where
@@ -40,20 +37,23 @@ module _ (sources : Sources) (list : List Member) where
   all_at t (x ∷ us) h u i = elim i [ inl e ↦ subst (B t) e h.0 | inr r ↦ all_at t us h.1 u r ]
 
   -- members of the rest
-  behind : (x : TraceStep) (xs ys : List TraceStep) → BeforeAll sources list x xs → ((t : TraceStep) → Among t (x ∷ xs) → Among t (x ∷ ys)) → (t : TraceStep) → Among t xs → Among t ys
+  behind : (x : TraceStep) (xs ys : List TraceStep) → BeforeAll sources list x xs
+      → ((t : TraceStep) → Among t (x ∷ xs) → Among t (x ∷ ys)) → (t : TraceStep) → Among t xs → Among t ys
   behind x xs ys before to t i = elim (to t (inr i)) [
     | inl e ↦ absurd (never x (subst (B x) (sym e) (all_at x xs before t i)))
     | inr r ↦ r
   ]
 
-  same_first : (x y : TraceStep) (xs ys : List TraceStep) → BeforeAll sources list x xs → BeforeAll sources list y ys → Among x (y ∷ ys) → Among y (x ∷ xs) → x ≡ y
+  same_first : (x y : TraceStep) (xs ys : List TraceStep) → BeforeAll sources list x xs → BeforeAll sources list y ys
+      → Among x (y ∷ ys) → Among y (x ∷ xs) → x ≡ y
   same_first x y xs ys before after i j = elim i [
     | inl e ↦ sym e
     | inr r ↦ elim j [ inl e ↦ e | inr q ↦ absurd (never_both x y (all_at x xs before y q) (all_at y ys after x r)) ]
   ]
 
   -- rising lists with the same members are one
-  pub one_list : (xs ys : List TraceStep) → Rise sources list xs → Rise sources list ys → ((t : TraceStep) → Among t xs → Among t ys) → ((t : TraceStep) → Among t ys → Among t xs) → xs ≡ ys
+  pub one_list : (xs ys : List TraceStep) → Rise sources list xs → Rise sources list ys
+      → ((t : TraceStep) → Among t xs → Among t ys) → ((t : TraceStep) → Among t ys → Among t xs) → xs ≡ ys
   one_list [] [] h k to from = refl
   one_list [] (y ∷ ys) h k to from = absurd (from y (inl refl))
   one_list (x ∷ xs) [] h k to from = absurd (to x (inl refl))
@@ -75,11 +75,13 @@ module _ (sources : Sources) (list : List Member) where
   all_snoc [] x t h b = (b, tt)
   all_snoc (y ∷ xs) x t h b = (h.0, all_snoc xs x t h.1 b)
 
-  before_snoc : (x : TraceStep) (xs : List TraceStep) (t : TraceStep) → BeforeAll sources list x xs → B x t → BeforeAll sources list x (xs ++ t ∷ [])
+  before_snoc : (x : TraceStep) (xs : List TraceStep) (t : TraceStep) → BeforeAll sources list x xs → B x t
+      → BeforeAll sources list x (xs ++ t ∷ [])
   before_snoc x [] t h b = (b, tt)
   before_snoc x (y ∷ xs) t h b = (h.0, before_snoc x xs t h.1 b)
 
-  pub rise_snoc : (xs : List TraceStep) (t : TraceStep) → Rise sources list xs → AllBefore xs t → Rise sources list (xs ++ t ∷ [])
+  pub rise_snoc : (xs : List TraceStep) (t : TraceStep) → Rise sources list xs → AllBefore xs t
+      → Rise sources list (xs ++ t ∷ [])
   rise_snoc [] t h b = (tt, tt)
   rise_snoc (x ∷ xs) t h b = (before_snoc x xs t h.0 b.0, rise_snoc xs t h.1 b.1)
 
@@ -90,7 +92,8 @@ module _ (sources : Sources) (list : List Member) where
   unfolding run_to
   none_more n e = ap (λ o. run_to sources n ++ step_of sources (reached (derivation_of sources) n) o) e ∙ append-nil (run_to sources n)
 
-  one_more : (n : ℕ) (m : Member) → next n ≡ Some m → run_to sources (suc n) ≡ run_to sources n ++ traced sources (reached (derivation_of sources) n) m.shape ∷ []
+  one_more : (n : ℕ) (m : Member) → next n ≡ Some m
+      → run_to sources (suc n) ≡ run_to sources n ++ traced sources (reached (derivation_of sources) n) m.shape ∷ []
   unfolding run_to
   one_more n m e = ap (λ o. run_to sources n ++ step_of sources (reached (derivation_of sources) n) o) e
 
@@ -98,7 +101,8 @@ module _ (sources : Sources) (list : List Member) where
   unfolding expanded
   none_taken n e = rw e refl
 
-  one_taken : (n : ℕ) (m : Member) → next n ≡ Some m → expanded (derivation_of sources) (suc n) ≡ m.shape ∷ expanded (derivation_of sources) n
+  one_taken : (n : ℕ) (m : Member) → next n ≡ Some m
+      → expanded (derivation_of sources) (suc n) ≡ m.shape ∷ expanded (derivation_of sources) n
   unfolding expanded
   one_taken n m e = rw e refl
 
@@ -107,22 +111,29 @@ module _ (sources : Sources) (list : List Member) where
   run_none = refl
 
   -- each step of the run is before a shape that comes after all that were taken
-  each_before : (s : Shape) (t : TraceStep) → stamp_at sources list t ≡ stamp_in (derivation_of sources) list s → (n : ℕ) → AllEarlier (derivation_of sources) list s (expanded (derivation_of sources) n) → AllBefore (run_to sources n) t
+  each_before : (s : Shape) (t : TraceStep) → stamp_at sources list t ≡ stamp_in (derivation_of sources) list s
+      → (n : ℕ) → AllEarlier (derivation_of sources) list s (expanded (derivation_of sources) n)
+      → AllBefore (run_to sources n) t
   each_before s t at zero h = subst (λ l. AllBefore l t) (sym run_none) tt
   each_before s t at (suc n) h = by (each_before s t at n) (next n) refl
     where
-      by : (AllEarlier (derivation_of sources) list s (expanded (derivation_of sources) n) → AllBefore (run_to sources n) t) → (o : Option Member) → next n ≡ o → AllBefore (run_to sources (suc n)) t
+      by : (AllEarlier (derivation_of sources) list s (expanded (derivation_of sources) n)
+            → AllBefore (run_to sources n) t)
+          → (o : Option Member) → next n ≡ o → AllBefore (run_to sources (suc n)) t
       by known None e = subst (λ l. AllBefore l t) (sym (none_more n e)) (known (subst (AllEarlier (derivation_of sources) list s) (none_taken n e) h))
       by known (Some m) e =
           let all = subst (AllEarlier (derivation_of sources) list s) (one_taken n m e) h in
           let first : B (traced sources (reached (derivation_of sources) n) m.shape) t = ap (stamps_cmp sources.mode (stamp_in (derivation_of sources) list m.shape)) at ∙ all.0 in
           subst (λ l. AllBefore l t) (sym (one_more n m e)) (all_snoc (run_to sources n) (traced sources (reached (derivation_of sources) n) m.shape) t (known all.1) first)
 
-  run_rises : (n : ℕ) → RisesIn (derivation_of sources) list (expanded (derivation_of sources) n) → Rise sources list (run_to sources n)
+  run_rises : (n : ℕ) → RisesIn (derivation_of sources) list (expanded (derivation_of sources) n)
+      → Rise sources list (run_to sources n)
   run_rises zero h = subst (Rise sources list) (sym run_none) tt
   run_rises (suc n) h = by (run_rises n) (next n) refl
     where
-      by : (RisesIn (derivation_of sources) list (expanded (derivation_of sources) n) → Rise sources list (run_to sources n)) → (o : Option Member) → next n ≡ o → Rise sources list (run_to sources (suc n))
+      by : (RisesIn (derivation_of sources) list (expanded (derivation_of sources) n)
+            → Rise sources list (run_to sources n))
+          → (o : Option Member) → next n ≡ o → Rise sources list (run_to sources (suc n))
       by known None e = subst (Rise sources list) (sym (none_more n e)) (known (subst (RisesIn (derivation_of sources) list) (none_taken n e) h))
       by known (Some m) e =
           let all = subst (RisesIn (derivation_of sources) list) (one_taken n m e) h in
@@ -147,7 +158,8 @@ module _ (sources : Sources) where
   told_in zero t i = absurd (subst (Among t) (run_none sources []) i)
   told_in (suc n) t i = by (told_in n t) (next_of (derivation_of sources) (reached (derivation_of sources) n)) refl
     where
-      by : (Among t (run_to sources n) → (k : ℕ) × IsTold sources k t) → (o : Option Member) → next_of (derivation_of sources) (reached (derivation_of sources) n) ≡ o → (k : ℕ) × IsTold sources k t
+      by : (Among t (run_to sources n) → (k : ℕ) × IsTold sources k t) → (o : Option Member)
+          → next_of (derivation_of sources) (reached (derivation_of sources) n) ≡ o → (k : ℕ) × IsTold sources k t
       by known None e = known (subst (Among t) (none_more sources [] n e) i)
       by known (Some m) e = elim (among_snoc (run_to sources n) (traced sources (reached (derivation_of sources) n) m.shape) t (subst (Among t) (one_more sources [] n m e) i)) [
         | inl l ↦ known l
@@ -160,13 +172,16 @@ module _ (sources : Sources) where
       let e : suc k + n ≡ suc (k + n) = omega arith in
       subst (λ j. Among t (run_to sources j)) (sym e) (by (goes_on n k t i) (next_of (derivation_of sources) (reached (derivation_of sources) (k + n))) refl)
     where
-      by : Among t (run_to sources (k + n)) → (o : Option Member) → next_of (derivation_of sources) (reached (derivation_of sources) (k + n)) ≡ o → Among t (run_to sources (suc (k + n)))
+      by : Among t (run_to sources (k + n)) → (o : Option Member)
+          → next_of (derivation_of sources) (reached (derivation_of sources) (k + n)) ≡ o
+          → Among t (run_to sources (suc (k + n)))
       by known None f = subst (Among t) (sym (none_more sources [] (k + n) f)) known
       by known (Some m) f = subst (Among t) (sym (one_more sources [] (k + n) m f)) (among_left (run_to sources (k + n)) _ t known)
 
   module _ (end : ℕ) (quiet : NothingWaits (derivation_of sources) (reached (derivation_of sources) end)) where
     -- a turn after which nothing waits tells nothing
-    pub early : (n : ℕ) (m : Member) → next_of (derivation_of sources) (reached (derivation_of sources) n) ≡ Some m → n < end
+    pub early : (n : ℕ) (m : Member) → next_of (derivation_of sources) (reached (derivation_of sources) n) ≡ Some m
+        → n < end
     early n m e = elim (either (nat_lt n end)) [
       | inl t ↦ grind (arith, nat_tests)
       | inr t ↦
@@ -187,7 +202,8 @@ module _ (sources : Sources) where
         subst (λ j. Among t (run_to sources j)) gap (goes_on (suc n) (end - suc n) t here)
 
   -- steps of one place in a rising list are one
-  among_one : (list : List Member) (xs : List TraceStep) → Rise sources list xs → (t u : TraceStep) → Among t xs → Among u xs → t.lot ≡ u.lot → t.path ≡ u.path → t ≡ u
+  among_one : (list : List Member) (xs : List TraceStep) → Rise sources list xs → (t u : TraceStep) → Among t xs
+      → Among u xs → t.lot ≡ u.lot → t.path ≡ u.path → t ≡ u
   among_one list [] h t u i j lot path = absurd i
   among_one list (x ∷ xs) h t u i j lot path = elim i [
     | inl e ↦ elim j [

@@ -4,7 +4,7 @@ use Rattle.std.specs.Prelude.{decimal, flat_map}
 use Rattle.std.specs.List.{AllByRecursion}
 use Rattle.std.specs.Str.Parse.{digits_value}
 use Rattle.std.proofs.lemmas.Fmt.{digits_value-decimal}
-use Rattle.cga_fraction.proofs.Spelling.{own}
+use Rattle.cga_fraction.proofs.Door.{own}
 use Rattle.cga_shape.specs.declared.trace_step.Outcome.{Outcome}
 use Rattle.cga_shape.specs.declared.trace_step.Outcome.TheVariants.{Grew, Faulted}
 use Rattle.cga_shape.specs.declared.trace_step.TraceStep.{TraceStep}
@@ -25,7 +25,8 @@ number_one i j h k e =
     let fits' : j < 2 ^ 64 = omega (arith, k) in
     sym (digits_value-decimal own i fits) ∙ (ap (digits_value 10) e ∙ digits_value-decimal own j fits')
 
-indices_one : (p q : List ℕ) → AllByRecursion (λ i. i < 2 ^ 16) p → AllByRecursion (λ i. i < 2 ^ 16) q → drop 1 (flat_map index_text p) ≡ drop 1 (flat_map index_text q) → p ≡ q
+indices_one : (p q : List ℕ) → AllByRecursion (λ i. i < 2 ^ 16) p → AllByRecursion (λ i. i < 2 ^ 16) q
+    → drop 1 (flat_map index_text p) ≡ drop 1 (flat_map index_text q) → p ≡ q
 indices_one [] [] h k e = refl
 indices_one [] (j ∷ q) h k e = let z : 0 ≡ length (drop 1 (flat_map index_text (j ∷ q))) = ap length e in let some = some_left j k.0 q in absurd (omega (arith, z, some))
 indices_one (i ∷ p) [] h k e = let z : length (drop 1 (flat_map index_text (i ∷ p))) ≡ 0 = ap length e in let some = some_left i h.0 p in absurd (omega (arith, z, some))
@@ -35,7 +36,8 @@ indices_one (i ∷ p) (j ∷ q) h k e =
     let rest = indices_one p q h.1 k.1 (ap (λ c. c.1) cut) in
     λ n. first n ∷ rest n
 
-path_one : (p q : List ℕ) → AllByRecursion (λ i. i < 2 ^ 16) p → AllByRecursion (λ i. i < 2 ^ 16) q → path_text p ≡ path_text q → p ≡ q
+path_one : (p q : List ℕ) → AllByRecursion (λ i. i < 2 ^ 16) p → AllByRecursion (λ i. i < 2 ^ 16) q
+    → path_text p ≡ path_text q → p ≡ q
 path_one p q h k e = indices_one p q h k (sym (path_behind p (path_text p) (drop 1 (path_text p)) refl refl) ∙ path_behind q (path_text p) (drop 1 (path_text p)) e refl)
 
 answer_one : (a b : Option Answer) → answer_word a ≡ answer_word b → a ≡ b
@@ -64,7 +66,8 @@ module _ (line : List ℕ) where
   abbrev t4 : List ℕ
   t4 = (cut_of 32 t3).1
 
-  read : (s : TraceStep) → IsStep s → line ≡ step_text s → AreWords s (cut_of 32 t0).0 (cut_of 32 t1).0 (cut_of 32 t2).0 (cut_of 32 t3).0 (cut_of 32 t4).0 (cut_of 32 t4).1
+  read : (s : TraceStep) → IsStep s → line ≡ step_text s
+      → AreWords s (cut_of 32 t0).0 (cut_of 32 t1).0 (cut_of 32 t2).0 (cut_of 32 t3).0 (cut_of 32 t4).0 (cut_of 32 t4).1
   read s is at = words s is line t0 (cut_of 32 t0).0 t1 (cut_of 32 t1).0 t2 (cut_of 32 t2).0 t3 (cut_of 32 t3).0 t4 (cut_of 32 t4).0 (cut_of 32 t4).1 at refl refl refl refl refl refl refl refl refl refl refl
 
 pub text_tells_step : TextTellsStep

@@ -1,8 +1,10 @@
-//! The run of a derivation: told from the forest that is kept, written as text, and read again; with
-//! the walk over the forest that it goes by, which reports go by too.
+//! The run of a derivation: told from the forest that is kept, written as text, and read again; with the walk over the
+//! forest that it goes by, which reports go by too.
 //!
-//! It must not know how a derivation goes, nor what is judged. What callers get wrong: a line is read
-//! as it is, so that one with a further blank, a comment or a leading zero is the text of no step.
+//! It must not know how a derivation goes or what is judged.
+//!
+//! What callers get wrong: a line is read as it is, so that one with a further blank, a comment or a leading zero is
+//! the text of no step.
 #![tactic(auto)]
 
 mod cuts;

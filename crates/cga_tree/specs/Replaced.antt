@@ -33,9 +33,11 @@ module _ {X : Type 0} where
     pub low : 0 < length news → e.depth < 256
     -- as many children as were asked for, each the old one at its place or one of the content asked for
     pub sized : length now.children ≡ length news
-    pub each : (i c : ℕ) → slice_get now.children i ≡ Some c → (w : X) × (slice_get news i ≡ Some w) × IsChildNow S T id e gone w i c
+    pub each : (i c : ℕ) → slice_get now.children i ≡ Some c
+        → (w : X) × (slice_get news i ≡ Some w) × IsChildNow S T id e gone w i c
     -- an old child goes exactly where it doesn't fit the content asked for at its place
-    pub fate : (i c : ℕ) (d : Seen X) → slice_get e.children i ≡ Some c → S c ≡ Some d → gone c ≡ not (fits_at fits d.node (slice_get news i))
+    pub fate : (i c : ℕ) (d : Seen X) → slice_get e.children i ≡ Some c → S c ≡ Some d
+        → gone c ≡ not (fits_at fits d.node (slice_get news i))
     pub stays : (i c : ℕ) → slice_get e.children i ≡ Some c → gone c ≡ false → slice_get now.children i ≡ Some c
     -- no root goes; with a node goes all below it, and nothing else
     pub tops : (c : ℕ) (d : Seen X) → S c ≡ Some d → d.parent ≡ None → gone c ≡ false

@@ -6,7 +6,7 @@ use Rattle.cga_order.specs.World.{Among}
 use Rattle.cga_rule.specs.declared.grammar.Entry.{Entry}
 use Rattle.cga_rule.specs.declared.grammar.Grammar.{Grammar}
 use Rattle.cga_check.specs.Groups as groups
-use Rattle.cga_derivation.proofs.Lists.{some_same, none_some}
+use Rattle.cga_fraction.proofs.Door.{None-not-Some as none_some, eq_or_ne as nat_cases, lt_or_eq_from_lt_suc as at_or_below, same_Some as some_same}
 use Rattle.cga_expand.specs.Derivation.{priority_of}
 use Rattle.cga_forest.specs.declared.moved.Moved.{Moved}
 use Rattle.cga_forest.specs.declared.node.Node.{Node}
@@ -20,7 +20,8 @@ use Rattle.cga_update.specs.Roots.{View, AreThere, AreWithin, Gains, IsGained, I
 use Rattle.cga_update.proofs.Lots.{root_name}
 use Rattle.cga_update.proofs.Members.{among_either, among_left, among_right, apart_join, ids_join, id_of}
 
-priority_first : (g : Grammar) (symbol : List ℕ) (o : Option Entry) → groups.first_entry g.rules symbol ≡ o → (setting g symbol).priority ≡ priority_of g symbol
+priority_first : (g : Grammar) (symbol : List ℕ) (o : Option Entry) → groups.first_entry g.rules symbol ≡ o
+    → (setting g symbol).priority ≡ priority_of g symbol
 unfolding setting priority_of groups.group groups.priority_of
 priority_first g symbol None is = rw is refl
 priority_first g symbol (Some e) is = rw is refl
@@ -28,13 +29,6 @@ priority_first g symbol (Some e) is = rw is refl
 -- a node is placed with its symbol's priority
 pub priority_set : (g : Grammar) (symbol : List ℕ) → (setting g symbol).priority ≡ priority_of g symbol
 priority_set g symbol = priority_first g symbol (groups.first_entry g.rules symbol) refl
-
-nat_cases : (a b : ℕ) → (a ≡ b) ⊎ (a ≢ b)
-nat_cases a b = by_test (nat_eq a b) refl
-  where
-    by_test : (t : Bool) → nat_eq a b ≡ t → (a ≡ b) ⊎ (a ≢ b)
-    by_test true is = inl (grind (arith, is))
-    by_test false is = inr (grind (arith, is))
 
 abbrev top_seen : Node → Seen
 top_seen n = record { node = n; depth = 0; parent = None; index = 0; children = [] }
@@ -82,7 +76,8 @@ module _ (new : Sources) (old now : ForestView) (lot : Lot) (listed : (i : ℕ) 
     ];
   }
 
-  pub came_root : (W : View) (came : List Moved) → AreWithin W (node_at old) → ListsMoved (node_at old) W came → ListsMoved (node_at now) W (came ++ moved_of id (top_seen n) ∷ [])
+  pub came_root : (W : View) (came : List Moved) → AreWithin W (node_at old) → ListsMoved (node_at old) W came
+      → ListsMoved (node_at now) W (came ++ moved_of id (top_seen n) ∷ [])
   came_root W came within lists = record {
     once = subst (λ (ids : List ℕ). Apart ids) (sym (ids_join came (moved_of id (top_seen n) ∷ []))) (apart_join (ids_of came) (id ∷ []) lists.once ((λ m. m), tt) both);
     each = λ m. (to m, from m);
@@ -100,7 +95,8 @@ module _ (new : Sources) (old now : ForestView) (lot : Lot) (listed : (i : ℕ) 
       unlisted None is = is
       unlisted (Some d) is = none_some d (sym fresh ∙ within id d is)
 
-      to : (m : Moved) → Among m (came ++ moved_of id (top_seen n) ∷ []) → (c : ℕ) × (d : Seen) × (node_at now c ≡ Some d) × (W c ≡ None) × (m ≡ moved_of c d)
+      to : (m : Moved) → Among m (came ++ moved_of id (top_seen n) ∷ [])
+          → (c : ℕ) × (d : Seen) × (node_at now c ≡ Some d) × (W c ≡ None) × (m ≡ moved_of c d)
       to m h = elim (among_either came (moved_of id (top_seen n) ∷ []) m h) [
         | inl a ↦ (let p = (lists.each m).0 a in (p.0, p.1, more_now p.0 p.1 p.2, p.3, p.4))
         | inr b ↦ elim b [
@@ -109,7 +105,8 @@ module _ (new : Sources) (old now : ForestView) (lot : Lot) (listed : (i : ℕ) 
         ]
       ]
 
-      from : (m : Moved) → ((c : ℕ) × (d : Seen) × (node_at now c ≡ Some d) × (W c ≡ None) × (m ≡ moved_of c d)) → Among m (came ++ moved_of id (top_seen n) ∷ [])
+      from : (m : Moved) → ((c : ℕ) × (d : Seen) × (node_at now c ≡ Some d) × (W c ≡ None) × (m ≡ moved_of c d))
+          → Among m (came ++ moved_of id (top_seen n) ∷ [])
       from m w = elim (nat_cases w.0 id) [
         | inl same ↦ (
             let seen : top_seen n ≡ w.1 = some_same (top_seen n) w.1 (sym at ∙ (ap (node_at now) (sym same) ∙ w.2)) in
@@ -119,12 +116,14 @@ module _ (new : Sources) (old now : ForestView) (lot : Lot) (listed : (i : ℕ) 
 
 -- ---- as the calls tell it
 
-pub root_there : (v : ForestView) (name : List ℕ) (o : Option ℕ) → ((c : ℕ) → (o ≡ Some c) ↔ IsRootOf (node_at v) name c) → is_some o ≡ true
+pub root_there : (v : ForestView) (name : List ℕ) (o : Option ℕ)
+    → ((c : ℕ) → (o ≡ Some c) ↔ IsRootOf (node_at v) name c) → is_some o ≡ true
     → (c : ℕ) × (d : Seen) × IsRootNamed (node_at v) name c d
 root_there v name None each some = let z : false ≡ true = some in absurd (cc)
 root_there v name (Some c) each some = let w = (each c).0 refl in (c, w.0, (w.1, w.2, w.3))
 
-pub no_root_there : (v : ForestView) (name : List ℕ) (o : Option ℕ) → ((c : ℕ) → (o ≡ Some c) ↔ IsRootOf (node_at v) name c) → is_some o ≡ false → HasNoLot v name
+pub no_root_there : (v : ForestView) (name : List ℕ) (o : Option ℕ)
+    → ((c : ℕ) → (o ≡ Some c) ↔ IsRootOf (node_at v) name c) → is_some o ≡ false → HasNoLot v name
 no_root_there v name None each none c is = none_some c ((each c).1 is)
 no_root_there v name (Some k) each none c is = let z : true ≡ false = none in absurd (cc)
 
@@ -145,16 +144,14 @@ module _ (new : Sources) (old now : ForestView) (lot : Lot) (listed : (i : ℕ) 
 
 -- ---- one root after the other
 
-at_or_below : (i n : ℕ) → i < n + 1 → (i < n) ⊎ (i ≡ n)
-at_or_below i n le = grind (arith, le)
-
 pub none_came : (T : View) → ListsMoved T T []
 none_came T = record {
   once = tt;
   each = λ m. ((λ h. absurd h), (λ w. none_some w.1 (sym w.3 ∙ w.2)));
 }
 
-pub gains_more : (new : Sources) (first before after : ForestView) → Gains new first before → Gains new before after → Gains new first after
+pub gains_more : (new : Sources) (first before after : ForestView) → Gains new first before → Gains new before after
+    → Gains new first after
 gains_more new first before after one two = record {
   marking = two.marking ∙ one.marking;
   marked = λ m c. two.marked (one.marking ∙ m) c ∙ one.marked m c;
@@ -162,7 +159,8 @@ gains_more new first before after one two = record {
   new = λ c d none at. by_slot c d none at (node_at before c) refl;
 }
   where
-    by_slot : (c : ℕ) (d : Seen) → node_at first c ≡ None → node_at after c ≡ Some d → (s : Option Seen) → node_at before c ≡ s → IsGained new first c d
+    by_slot : (c : ℕ) (d : Seen) → node_at first c ≡ None → node_at after c ≡ Some d → (s : Option Seen)
+        → node_at before c ≡ s → IsGained new first c d
     by_slot c d none at (Some e) is =
         let same : e ≡ d = some_same e d (sym (two.more c e is) ∙ at) in subst (λ (x : Seen). IsGained new first c x) same (one.new c e none is)
     by_slot c d none at None is =
@@ -175,15 +173,19 @@ gains_more new first before after one two = record {
           first = λ b x w. g.first b x (one.more b x w.0, w.1, w.2);
         }
 
-there_in : (new : Sources) (after : ForestView) (x lot : Lot) → x ≡ lot → (c : ℕ) × (d : Seen) × IsRootNamed (node_at after) x.name c d → (c : ℕ) × (d : Seen) × IsRootNamed (node_at after) lot.name c d
+there_in : (new : Sources) (after : ForestView) (x lot : Lot) → x ≡ lot
+    → (c : ℕ) × (d : Seen) × IsRootNamed (node_at after) x.name c d
+    → (c : ℕ) × (d : Seen) × IsRootNamed (node_at after) lot.name c d
 there_in new after x lot same w = (w.0, w.1, (w.2.0, w.2.1, w.2.2 ∙ ap (λ (l : Lot). l.name) same))
 
-pub there_more : (new : Sources) (before after : ForestView) (n : ℕ) (x : Lot) → slice_get new.lots n ≡ Some x → Gains new before after
+pub there_more : (new : Sources) (before after : ForestView) (n : ℕ) (x : Lot) → slice_get new.lots n ≡ Some x
+    → Gains new before after
     → (c : ℕ) × (d : Seen) × IsRootNamed (node_at after) x.name c d → AreThere new before n → AreThere new after (n + 1)
 there_more new before after n x at gains here first i lot lt is = elim (at_or_below i n lt) [
   | inl lower ↦ (let w = first i lot lower is in (w.0, w.1, (gains.more w.0 w.1 w.2.0, w.2.1, w.2.2)))
   | inr same ↦ there_in new after x lot (some_same x lot (sym at ∙ (ap (slice_get new.lots) (sym same) ∙ is))) here
 ]
 
-pub there_end : (new : Sources) (f : ForestView) (ys : List Lot) (n : ℕ) → ys ≡ new.lots → length ys ≤ n → AreThere new f n → AreThere new f (length new.lots)
+pub there_end : (new : Sources) (f : ForestView) (ys : List Lot) (n : ℕ) → ys ≡ new.lots → length ys ≤ n
+    → AreThere new f n → AreThere new f (length new.lots)
 there_end new f ys n same le first i lot lt is = let z = ap length same in first i lot (omega (arith, lt, le, z)) is

@@ -8,9 +8,7 @@ use Rattle.cga_check.specs.Groups.{group, mentions_attribute}
 use Rattle.cga_expr.specs.Names.{attribute_of}
 use Rattle.cga_expand.specs.Settings.{Setting, mentions, setting_of}
 use Rattle.cga_same.specs.Agreement.{IsSameSetting, SameValues}
-
-not_so : {P : Type 0} → false ≡ true → P
-not_so h = absurd (true≢false (sym h))
+use Rattle.cga_fraction.proofs.Door.{false-not-true as not_so}
 
 if_same : (b : Bool) (x y : Option Rat) → (b ≡ true → x ≡ y) → (if b then x else None) ≡ (if b then y else None)
 if_same true x y h = h refl
@@ -28,7 +26,8 @@ module _ (old new : Grammar) where
   values_same None v name = refl
   values_same (Some rules) v name = if_same (mentions_attribute rules name) (attribute_of old.attributes name) (attribute_of new.attributes name) (v name)
 
-  same_values : (g : Option Group) → ((name : List ℕ) → value_at old g name ≡ value_at new g name) → SameValues g old new
+  same_values : (g : Option Group) → ((name : List ℕ) → value_at old g name ≡ value_at new g name)
+      → SameValues g old new
   same_values None h = λ name is. not_so is
   same_values (Some rules) h = λ name is. same_if (mentions_attribute rules name) (attribute_of old.attributes name) (attribute_of new.attributes name) (h name) is
 

@@ -13,9 +13,13 @@ use Rattle.cga_shape.specs.declared.sources.Sources.{Sources}
 use Rattle.cga_order.specs.World.{Among, shapes_where}
 use Rattle.cga_order.specs.Agenda.{members_of}
 use Rattle.cga_order.specs.Agenda as agenda
-use Rattle.cga_order.proofs.Members.{Among-shapes_where, Has-from_shapes_where}
+use Rattle.cga_forest.proofs.Door.{inside, there}
+use Rattle.cga_fraction.proofs.Door.{and_first as and_left, and_second as and_right, not-and-true as not_true, same_from_both_ways as bool_same}
+use Rattle.cga_order.proofs.Door.{Among-shapes_where, Has-from_shapes_where}
+use Rattle.cga_queue.proofs.Door.{not_false}
+use Rattle.cga_rework.proofs.Door.{Among-map, map-Among}
+use Rattle.std.proofs.lemmas.Bool.{and_from as and_both, cases_Bool as either, or_cases as or_either, or_left, or_right}
 use Rattle.cga_rework.specs.Ranked.{Ranked}
-use Rattle.cga_rework.proofs.Lists.{Among-map, map-Among}
 use Rattle.cga_index.specs.Occlusion.{graded, answer_of}
 use Rattle.cga_index.specs.Tree.{Member, all_nodes, asked, counts_for}
 use Rattle.cga_expand.specs.Asked.{on_path, boxes_beside, asks_for, answers_of}
@@ -24,11 +28,8 @@ use Rattle.cga_forest.specs.View.{Seen}
 use Rattle.cga_forest.specs.Standing.{is_above, standing_of}
 use Rattle.cga_forest.specs.Tree.{ForestView, IsForest, node_at}
 use Rattle.cga_forest.specs.Walked.{forest_tree, own_of}
-use Rattle.cga_forest.proofs.Laws.{there, inside}
 use Rattle.cga_update.specs.Asked.{answered}
 use Rattle.cga_update.specs.Edit.{ranked, kept_nodes}
-use Rattle.cga_order.proofs.Maxima.{either}
-use Rattle.cga_queue.proofs.Cases.{bool_same, or_either, or_left, or_right, not_true, not_false, and_left, and_right, and_both}
 use Rattle.cga_update.proofs.Nodes.{member-node, node-member, kept_bound}
 use Rattle.cga_update.proofs.Places.{path_above, above_path}
 use Rattle.cga_update.proofs.Seen.{the_world, is_asked, counts_is}
@@ -51,7 +52,8 @@ on_path-make a s lot path =
 module _ (p : Box → Bool) where
   -- of the boxes of numbers that pass a test
   module _ (own : ℕ → Box) (test : ℕ → Bool) where
-    any_number : (ns : List ℕ) → list_any p (map own (filter test ns)) ≡ true → (n : ℕ) × Member ns n × (test n ≡ true) × (p (own n) ≡ true)
+    any_number : (ns : List ℕ) → list_any p (map own (filter test ns)) ≡ true
+        → (n : ℕ) × Member ns n × (test n ≡ true) × (p (own n) ≡ true)
     any_number [] e = let x : false ≡ true = e in cc
     any_number (n ∷ ns) e = elim (either (test n)) [
       | inl t ↦ elim (or_either _ _ (sym (ap (λ b. list_any p (map own (cond b (n ∷ filter test ns) (filter test ns)))) t) ∙ e)) [
@@ -63,7 +65,8 @@ module _ (p : Box → Bool) where
           (w.0, inr w.1, w.2, w.3)
     ]
 
-    number_any : (ns : List ℕ) (n : ℕ) → Member ns n → test n ≡ true → p (own n) ≡ true → list_any p (map own (filter test ns)) ≡ true
+    number_any : (ns : List ℕ) (n : ℕ) → Member ns n → test n ≡ true → p (own n) ≡ true
+        → list_any p (map own (filter test ns)) ≡ true
     number_any [] n m t q = absurd m
     number_any (x ∷ ns) n m t q = elim (either (test x)) [
       | inl y ↦
@@ -85,7 +88,8 @@ module _ (p : Box → Bool) where
     abbrev off : Shape → Bool
     off m = not (on_path m s)
 
-    any_shape : (xs : List Shape) → list_any p (boxes_beside s xs) ≡ true → (m : Shape) × Among m xs × (off m ≡ true) × (p (box_of m.scope) ≡ true)
+    any_shape : (xs : List Shape) → list_any p (boxes_beside s xs) ≡ true
+        → (m : Shape) × Among m xs × (off m ≡ true) × (p (box_of m.scope) ≡ true)
     any_shape [] e = let x : false ≡ true = e in cc
     any_shape (x ∷ xs) e = elim (either (off x)) [
       | inl t ↦ elim (or_either _ _ (sym (ap (λ b. list_any p (map (λ m. box_of m.scope) (cond b (x ∷ filter off xs) (filter off xs)))) t) ∙ e)) [
@@ -97,7 +101,8 @@ module _ (p : Box → Bool) where
           (w.0, inr w.1, w.2, w.3)
     ]
 
-    shape_any : (xs : List Shape) (m : Shape) → Among m xs → off m ≡ true → p (box_of m.scope) ≡ true → list_any p (boxes_beside s xs) ≡ true
+    shape_any : (xs : List Shape) (m : Shape) → Among m xs → off m ≡ true → p (box_of m.scope) ≡ true
+        → list_any p (boxes_beside s xs) ≡ true
     shape_any [] m h t q = absurd h
     shape_any (x ∷ xs) m h t q = elim (either (off x)) [
       | inl y ↦
@@ -127,7 +132,8 @@ module _ (v : ForestView) (f : IsForest v) (old new : Sources) (mode : v.mode �
   abbrev shapes : List Shape
   shapes = map (λ (m : Ranked Shape). m.shape) (shapes_where (is_asked old new target (ranked a.node)) (members_of (kept_nodes v)))
 
-  counted : (c : ℕ) (d : Seen) → T c ≡ Some d → counts c ≡ (not (is_above T 257 c by) && is_asked old new target (ranked a.node) (ranked d.node) d.node.kind)
+  counted : (c : ℕ) (d : Seen) → T c ≡ Some d
+      → counts c ≡ (not (is_above T 257 c by) && is_asked old new target (ranked a.node) (ranked d.node) d.node.kind)
   counted c d t =
       ap (λ m. counts_for target (standing_of m T c by (T c) (T by))) mode
       ∙ ap (λ o. counts_for target (standing_of new.mode T c by o (T by))) t
@@ -142,7 +148,8 @@ module _ (v : ForestView) (f : IsForest v) (old new : Sources) (mode : v.mode �
   own_is c d t = ap own_of t
 
   module _ (p : Box → Bool) where
-    to : list_any p (asked (forest_tree v) by target (all_nodes (forest_tree v))) ≡ true → list_any p (boxes_beside a.node.shape shapes) ≡ true
+    to : list_any p (asked (forest_tree v) by target (all_nodes (forest_tree v))) ≡ true
+        → list_any p (boxes_beside a.node.shape shapes) ≡ true
     to e =
         let w = any_number p (forest_tree v).own counts (all_nodes (forest_tree v)) e in
         let n = there v f w.0 w.1 in
@@ -155,7 +162,8 @@ module _ (v : ForestView) (f : IsForest v) (old new : Sources) (mode : v.mode �
         let among = Among-shapes_where (is_asked old new target (ranked a.node)) (members_of (kept_nodes v)) (ranked n.0.node) n.0.node.kind member passes in
         shape_any p a.node.shape shapes n.0.node.shape (map-Among (λ (m : Ranked Shape). m.shape) _ (ranked n.0.node) among) off (ap p (sym (own_is w.0 n.0 n.1)) ∙ w.3)
 
-    from : list_any p (boxes_beside a.node.shape shapes) ≡ true → list_any p (asked (forest_tree v) by target (all_nodes (forest_tree v))) ≡ true
+    from : list_any p (boxes_beside a.node.shape shapes) ≡ true
+        → list_any p (asked (forest_tree v) by target (all_nodes (forest_tree v))) ≡ true
     from e =
         let w = any_shape p a.node.shape shapes e in
         let r = Among-map (λ (m : Ranked Shape). m.shape) _ w.0 w.1 in
@@ -168,11 +176,13 @@ module _ (v : ForestView) (f : IsForest v) (old new : Sources) (mode : v.mode �
         not_true _ w.2 (on_path-make w.0 a.node.shape (ap (λ (m : Shape). m.lot) (sym shape) ∙ on.0) (ap (λ (m : Shape). m.path) (sym shape) ∙ on.1 ∙ ap (λ (m : Shape). take (length m.path) a.node.shape.path) shape))) in
         number_any p (forest_tree v).own counts (all_nodes (forest_tree v)) n.0 (inside v f n.0 (n.1, n.2)) (◌∙◌ {b = not (is_above T 257 n.0 by) && is_asked old new target (ranked a.node) (ranked n.1.node) n.1.node.kind} (counted n.0 n.1 n.2) (and_both (not (is_above T 257 n.0 by)) (is_asked old new target (ranked a.node) (ranked n.1.node) n.1.node.kind) apart passes)) (ap p (own_is n.0 n.1 n.2) ∙ ap (λ (m : Shape). p (box_of m.scope)) shape ∙ w.3)
 
-    same : list_any p (asked (forest_tree v) by target (all_nodes (forest_tree v))) ≡ list_any p (boxes_beside a.node.shape shapes)
+    same : list_any p (asked (forest_tree v) by target (all_nodes (forest_tree v))) ≡ list_any p
+          (boxes_beside a.node.shape shapes)
     same = bool_same _ _ to from
 
   -- so both answer alike
-  pub answer_is : answer_of ((forest_tree v).own by) (asked (forest_tree v) by target (all_nodes (forest_tree v))) ≡ answer_of (box_of a.node.shape.scope) (boxes_beside a.node.shape shapes)
+  pub answer_is : answer_of ((forest_tree v).own by) (asked (forest_tree v) by target (all_nodes (forest_tree v))) ≡
+        answer_of (box_of a.node.shape.scope) (boxes_beside a.node.shape shapes)
   unfolding answer_of
   answer_is =
       ap (λ b. graded (list_any (λ m. meets m b && holds m b) (asked (forest_tree v) by target (all_nodes (forest_tree v)))) (list_any (λ m. meets m b) (asked (forest_tree v) by target (all_nodes (forest_tree v))))) (own_is by a here)
@@ -180,10 +190,13 @@ module _ (v : ForestView) (f : IsForest v) (old new : Sources) (mode : v.mode �
       ∙ ap (graded _) (same (λ m. meets m (box_of a.node.shape.scope)))
 
 -- what the forest answers a node, for the targets that are mentioned, is what the theory asks
-pub asked_is : (v : ForestView) → IsForest v → (old new : Sources) → v.mode ≡ new.mode → (by : ℕ) (a : Seen) → node_at v by ≡ Some a
-    → (noparent active : Bool) → noparent ≡ asks_for new.grammar a.node.shape.symbol Noparent → active ≡ asks_for new.grammar a.node.shape.symbol Active
+pub asked_is : (v : ForestView) → IsForest v → (old new : Sources) → v.mode ≡ new.mode → (by : ℕ) (a : Seen)
+    → node_at v by ≡ Some a
+    → (noparent active : Bool) → noparent ≡ asks_for new.grammar a.node.shape.symbol Noparent
+    → active ≡ asks_for new.grammar a.node.shape.symbol Active
     → (first second : Option Answer) → first ≡ answered v by Noparent noparent → second ≡ answered v by Active active
-    → ◌≡◌ {A = Answers} (record { noparent = first; active = second }) (agenda.asked (the_world old new) (kept_nodes v) (ranked a.node))
+    → ◌≡◌ {A = Answers} (record { noparent = first; active = second })
+      (agenda.asked (the_world old new) (kept_nodes v) (ranked a.node))
 unfolding answers_of
 asked_is v f old new mode by a here noparent active one two first second p q = λ i. record {
   noparent = (p ∙ ap (λ b. answered v by Noparent b) one ∙ ap (λ x. if asks_for new.grammar a.node.shape.symbol Noparent then Some x else None) (answer_is v f old new mode by a here Noparent)) i;

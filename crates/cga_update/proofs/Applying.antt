@@ -12,12 +12,7 @@ use Rattle.cga_update.specs.declared.log.Pairing.{Pairing}
 use Rattle.cga_update.specs.Applied.{IsApplied, ListsView, lists}
 use Rattle.cga_update.specs.Log.{IsLogged, is_pair, noted, noted_all}
 use Rattle.cga_forest.specs.View.{Seen}
-
-pub same_number : (a b : ℕ) → nat_eq a b ≡ true → a ≡ b
-same_number a b e = grind (arith, e)
-
-pub own_number : (a : ℕ) → nat_eq a a ≡ true
-own_number a = grind arith
+pub use Rattle.cga_fraction.proofs.Door.{eq_from_nat_eq as same_number, nat_eq-same as own_number}
 
 flip_number : (a b : ℕ) → nat_eq a b ≡ nat_eq b a
 flip_number a b = by_tests (nat_eq a b) (nat_eq b a) refl refl
@@ -32,7 +27,8 @@ none_of : (node : ℕ) (ys : List ℕ) → AllByRecursion (λ y. nat_eq node y �
 none_of node [] all = refl
 none_of node (y ∷ ys) all = ap (λ b. b || list_any (nat_eq node) ys) all.0 ∙ none_of node ys all.1
 
-any_behind : (c node : ℕ) (xs : List ℕ) → list_any (nat_eq c) (xs ++ node ∷ []) ≡ (list_any (nat_eq c) xs || nat_eq c node)
+any_behind : (c node : ℕ) (xs : List ℕ)
+    → list_any (nat_eq c) (xs ++ node ∷ []) ≡ (list_any (nat_eq c) xs || nat_eq c node)
 any_behind c node [] = or_false (nat_eq c node)
   where
     or_false : (b : Bool) → (b || false) ≡ b
@@ -60,11 +56,13 @@ any_more xs node c false false is at = any_behind c node xs ∙ (ap (λ b. list_
     or_false false = refl
 
 module _ (old new : DependentsView) (symbol : List ℕ) (node : ℕ) where
-  pub added : ((s : List ℕ) → nodes_in new s ≡ (if same_name symbol s then with_node (nodes_in old s) node else nodes_in old s))
+  pub added : ((s : List ℕ) → nodes_in new s ≡
+        (if same_name symbol s then with_node (nodes_in old s) node else nodes_in old s))
       → (s : List ℕ) (c : ℕ) → lists new s c ≡ (if is_pair symbol node s c then true else lists old s c)
   added nodes s c = by_test (same_name symbol s) refl
     where
-      by_test : (b : Bool) → same_name symbol s ≡ b → lists new s c ≡ (if is_pair symbol node s c then true else lists old s c)
+      by_test : (b : Bool) → same_name symbol s ≡ b
+          → lists new s c ≡ (if is_pair symbol node s c then true else lists old s c)
       by_test true is =
           ap (list_any (nat_eq c)) (nodes s ∙ ap (λ b. if b then with_node (nodes_in old s) node else nodes_in old s) is)
           ∙ (any_more (nodes_in old s) node c (list_any (nat_eq node) (nodes_in old s)) (nat_eq node c) refl refl
@@ -73,12 +71,15 @@ module _ (old new : DependentsView) (symbol : List ℕ) (node : ℕ) where
           ap (list_any (nat_eq c)) (nodes s ∙ ap (λ b. if b then with_node (nodes_in old s) node else nodes_in old s) is)
           ∙ ap (λ b. if b && nat_eq node c then true else lists old s c) (sym is)
 
-  pub removed : (r : Bool) → r ≡ list_any (nat_eq node) (nodes_in old symbol) → (r ≡ true → IsPermutation (nodes_in old symbol) (node ∷ nodes_in new symbol))
-      → ((s : List ℕ) → same_name symbol s ≡ false → nodes_in new s ≡ nodes_in old s) → (r ≡ false → new ≡ old) → IsDistinct nat_eq (nodes_in old symbol)
+  pub removed : (r : Bool) → r ≡ list_any (nat_eq node) (nodes_in old symbol)
+      → (r ≡ true → IsPermutation (nodes_in old symbol) (node ∷ nodes_in new symbol))
+      → ((s : List ℕ) → same_name symbol s ≡ false → nodes_in new s ≡ nodes_in old s) → (r ≡ false → new ≡ old)
+      → IsDistinct nat_eq (nodes_in old symbol)
       → (s : List ℕ) (c : ℕ) → lists new s c ≡ (if is_pair symbol node s c then false else lists old s c)
   removed r found gone others same once s c = by_test (same_name symbol s) refl
     where
-      here : (r : Bool) → r ≡ list_any (nat_eq node) (nodes_in old symbol) → (r ≡ true → IsPermutation (nodes_in old symbol) (node ∷ nodes_in new symbol)) → (r ≡ false → new ≡ old)
+      here : (r : Bool) → r ≡ list_any (nat_eq node) (nodes_in old symbol)
+          → (r ≡ true → IsPermutation (nodes_in old symbol) (node ∷ nodes_in new symbol)) → (r ≡ false → new ≡ old)
           → (b : Bool) → nat_eq node c ≡ b → lists new symbol c ≡ (if b then false else lists old symbol c)
       here true found gone same true at =
           ap (λ n. lists new symbol n) (sym (same_number node c at))
@@ -89,7 +90,8 @@ module _ (old new : DependentsView) (symbol : List ℕ) (node : ℕ) where
       here false found gone same true at = ap (λ (d : DependentsView). lists d symbol c) (same refl) ∙ (ap (λ n. lists old symbol n) (sym (same_number node c at)) ∙ sym found)
       here false found gone same false at = ap (λ (d : DependentsView). lists d symbol c) (same refl)
 
-      by_test : (b : Bool) → same_name symbol s ≡ b → lists new s c ≡ (if is_pair symbol node s c then false else lists old s c)
+      by_test : (b : Bool) → same_name symbol s ≡ b
+          → lists new s c ≡ (if is_pair symbol node s c then false else lists old s c)
       by_test true is =
           let name : symbol ≡ s = (bytes_decides symbol s).0 is in
           subst (λ n. lists new n c ≡ (if is_pair symbol node n c then false else lists old n c)) name
@@ -98,7 +100,8 @@ module _ (old new : DependentsView) (symbol : List ℕ) (node : ℕ) where
           ap (list_any (nat_eq c)) (others s is) ∙ ap (λ b. if b && nat_eq node c then false else lists old s c) (sym is)
 
 -- one entry more
-pub applied_next : (x : Pairing) (at later : List Pairing) (all : List Pairing) (first before after : DependentsView) → at ≡ x ∷ later
+pub applied_next : (x : Pairing) (at later : List Pairing) (all : List Pairing) (first before after : DependentsView)
+    → at ≡ x ∷ later
     → ((s : List ℕ) (c : ℕ) → lists after s c ≡ noted x s c (lists before s c))
     → ((s : List ℕ) (c : ℕ) → noted_all at s c (lists before s c) ≡ noted_all all s c (lists first s c))
     → (s : List ℕ) (c : ℕ) → noted_all later s c (lists after s c) ≡ noted_all all s c (lists first s c)
@@ -107,10 +110,12 @@ applied_next x at later all first before after is one so_far s c =
     ap (noted_all later s c) (one s c) ∙ (ap (λ es. noted_all es s c (lists before s c)) (sym is) ∙ so_far s c)
 
 pub applied_end : (at all : List Pairing) (first last : DependentsView) → at ≡ []
-    → ((s : List ℕ) (c : ℕ) → noted_all at s c (lists last s c) ≡ noted_all all s c (lists first s c)) → IsApplied all first last
+    → ((s : List ℕ) (c : ℕ) → noted_all at s c (lists last s c) ≡ noted_all all s c (lists first s c))
+    → IsApplied all first last
 unfolding noted_all
 applied_end at all first last is so_far s c = ap (λ es. noted_all es s c (lists last s c)) (sym is) ∙ so_far s c
 
 -- the dependents list the new nodes, where the log makes these of the old ones
-pub lists_after : (log : List Pairing) (old new : DependentsView) (V T : ℕ → Option Seen) → IsApplied log old new → IsLogged V T log → ListsView old V → ListsView new T
+pub lists_after : (log : List Pairing) (old new : DependentsView) (V T : ℕ → Option Seen) → IsApplied log old new
+    → IsLogged V T log → ListsView old V → ListsView new T
 lists_after log old new V T applied logged listed s c = applied s c ∙ (ap (noted_all log s c) (listed s c) ∙ sym (logged s c))

@@ -18,8 +18,9 @@ use Rattle.cga_agenda.specs.Loop.{IsReady, State}
 use Rattle.cga_agenda.specs.Record.{Drawn}
 use Rattle.cga_agenda.specs.Work.{IsBegun}
 use Rattle.cga_depend.specs.Pairs.{DependentsView, nodes_in}
-use Rattle.cga_derivation.proofs.Lists.{none_some, ok_same}
-use Rattle.cga_expand.proofs.Instance.{root_is}
+use Rattle.cga_expand.proofs.Door.{root_is}
+use Rattle.cga_fraction.proofs.Door.{None-not-Some as none_some, eq_from_nat_eq as same_number, same_Ok as ok_same}
+use Rattle.cga_rework.proofs.Door.{lists_are_changes, rerooted_is_city, roots_begin, stands_again}
 use Rattle.cga_expand.specs.Asked.{asks_for, group_asks}
 use Rattle.cga_expand.specs.Derivation.{priority_of}
 use Rattle.cga_expand.specs.Settings.{Setting, setting_of}
@@ -29,9 +30,6 @@ use Rattle.cga_rework.specs.Changes.{ListsLost}
 use Rattle.cga_rework.specs.City as tree
 use Rattle.cga_rework.specs.Ranked.{Ranked}
 use Rattle.cga_rework.specs.Rules.{Shapes}
-use Rattle.cga_rework.proofs.Begun.{rerooted_is_city, roots_begin}
-use Rattle.cga_rework.proofs.Changes.{lists_are_changes}
-use Rattle.cga_rework.proofs.StandsAgain.{stands_again}
 use Rattle.cga_frame.specs.declared.scope_fault.ScopeFault.{ScopeFault}
 use Rattle.cga_shape.specs.Root.{root_of}
 use Rattle.cga_shape.specs.declared.shape.Shape.{Shape}
@@ -61,16 +59,15 @@ use Rattle.cga_update.proofs.Meeting.{sees_what_meets}
 use Rattle.cga_update.proofs.Nodes.{kept_bound}
 use Rattle.cga_update.proofs.Places.{same_node}
 
-same_number : (a b : ℕ) → nat_eq a b ≡ true → a ≡ b
-same_number a b e = grind (arith, e)
-
 -- ---- what of the grammars is the same
 
-asks_same : (old new : Grammar) (symbol : List ℕ) (target : Target) → setting_of old symbol ≡ setting_of new symbol → asks_for old symbol target ≡ asks_for new symbol target
+asks_same : (old new : Grammar) (symbol : List ℕ) (target : Target) → setting_of old symbol ≡ setting_of new symbol
+    → asks_for old symbol target ≡ asks_for new symbol target
 unfolding asks_for setting_of
 asks_same old new symbol target e = ap (λ (s : Setting). group_asks s.group target) e
 
-asks_by_same : (old new : Grammar) (s : Shape) → setting_of old s.symbol ≡ setting_of new s.symbol → asks_by old s ≡ asks_by new s
+asks_by_same : (old new : Grammar) (s : Shape) → setting_of old s.symbol ≡ setting_of new s.symbol
+    → asks_by old s ≡ asks_by new s
 asks_by_same old new s e =
     ap (λ b. b || asks_for old s.symbol Active) (asks_same old new s.symbol Noparent e)
     ∙ ap (λ b. asks_for new s.symbol Noparent || b) (asks_same old new s.symbol Active e)
@@ -78,7 +75,8 @@ asks_by_same old new s e =
 shapes_same : (old new : Sources) → old.mode ≡ new.mode → shapes_of old ≡ shapes_of new
 shapes_same old new e = ap (λ (m : Mode). record { mode = m; lot = λ (s : Shape). s.lot; path = λ (s : Shape). s.path }) e
 
-member_first : (x : ℕ) (xs : List ℕ) (c : ℕ) → (list_any (nat_eq c) xs ≡ true → Member xs c) → (b : Bool) → nat_eq c x ≡ b → list_any (nat_eq c) (x ∷ xs) ≡ true → Member (x ∷ xs) c
+member_first : (x : ℕ) (xs : List ℕ) (c : ℕ) → (list_any (nat_eq c) xs ≡ true → Member xs c) → (b : Bool)
+    → nat_eq c x ≡ b → list_any (nat_eq c) (x ∷ xs) ≡ true → Member (x ∷ xs) c
 member_first x xs c more true is h = inl (sym (same_number c x is))
 member_first x xs c more false is h = inr (more (ap (λ b. b || list_any (nat_eq c) xs) (sym is) ∙ h))
 
@@ -134,19 +132,22 @@ module _ {old new : Sources} {first v : ForestView} {d : DependentsView} {went c
       start.agenda.moved.roots (moved_of c x) ((start.listed.each (moved_of c x)).1 (c, x, at, none, refl)) c x refl (at, ap is_instance (start.roots.came c x none at).waits)
 
   -- who asks near is on the agenda: it came, or was there at the mark
-  near_on : (area : Box) → HasNear v area a → (c : ℕ) (x : Seen) → T c ≡ Some x → is_instance x.node.kind ≡ false → x.node.asks ≡ true → meets (box_of x.node.shape.scope) area ≡ true → on_of v a c ≡ true
+  near_on : (area : Box) → HasNear v area a → (c : ℕ) (x : Seen) → T c ≡ Some x → is_instance x.node.kind ≡ false
+      → x.node.asks ≡ true → meets (box_of x.node.shape.scope) area ≡ true → on_of v a c ≡ true
   near_on area near c x at inner asks meet = elim (was_there c x at (V c) refl) [
     | inl none ↦ came_on c x none at
     | inr vc ↦ near c x (at, inner) (ap is_some (start.roots.marked c ∙ vc)) asks meet
   ]
 
-  listed_under : (c : ℕ) (x : Seen) → V c ≡ Some x → is_instance x.node.kind ≡ false → Member (nodes_in d x.node.shape.symbol) c
+  listed_under : (c : ℕ) (x : Seen) → V c ≡ Some x → is_instance x.node.kind ≡ false
+      → Member (nodes_in d x.node.shape.symbol) c
   listed_under c x vc inner = member_of (nodes_in d x.node.shape.symbol) c
       (start.stands.dependents x.node.shape.symbol c
       ∙ (ap (λ o. is_of o x.node.shape.symbol) vc
       ∙ (ap (λ b. not b && same_name x.node.shape.symbol x.node.shape.symbol) inner ∙ (bytes_decides x.node.shape.symbol x.node.shape.symbol).1 refl)))
 
-  changed_on : (c : ℕ) (x : Seen) → T c ≡ Some x → is_instance x.node.kind ≡ false → (on_of v a c ≡ true) ⊎ (setting_of old.grammar x.node.shape.symbol ≡ setting_of new.grammar x.node.shape.symbol)
+  changed_on : (c : ℕ) (x : Seen) → T c ≡ Some x → is_instance x.node.kind ≡ false
+      → (on_of v a c ≡ true) ⊎ (setting_of old.grammar x.node.shape.symbol ≡ setting_of new.grammar x.node.shape.symbol)
   changed_on c x at inner = elim (was_there c x at (V c) refl) [
     | inl none ↦ inl (came_on c x none at)
     | inr vc ↦ elim (start.agenda.changed x.node.shape.symbol) [
@@ -155,7 +156,8 @@ module _ {old new : Sources} {first v : ForestView} {d : DependentsView} {went c
     ]
   ]
 
-  is_first : theory.IsFirstAgenda (shapes_of new) content (rules_of old) (rules_of new) (asks_by new.grammar) meets_box V T (on_of v a)
+  is_first : theory.IsFirstAgenda (shapes_of new) content (rules_of old) (rules_of new) (asks_by new.grammar) meets_box
+        V T (on_of v a)
   is_first = record {
     came = came_on;
     went = λ b c x y vb tb tc inner asks meet. near_on (box_of x.node.shape.scope) (start.agenda.moved.near_went (moved_of b x) ((start.roots.went.each (moved_of b x)).1 (b, x, vb, tb, refl))) c y tc inner asks meet;
@@ -202,11 +204,13 @@ module _ {old new : Sources} {first v : ForestView} {d : DependentsView} {went c
       has_tops
 
   pub begins : tree.IsUnderway (shapes_of new) content (rules_of new) (asks_by new.grammar) T (on_of v a)
-      × ((queued : Ranked Shape → Bool) × AreQueued (shapes_of new) content T (on_of v a) queued × IsBegun (the_edit old new) (kept_nodes first) (kept_nodes v) queued)
+      × ((queued : Ranked Shape → Bool) × AreQueued (shapes_of new) content T (on_of v a) queued
+        × IsBegun (the_edit old new) (kept_nodes first) (kept_nodes v) queued)
   begins = roots_begin (shapes_of new) content (rules_of old) (rules_of new) (is_rules_edit old new start.stands.old_names start.stands.names) (asks_by old.grammar) (asks_by new.grammar) meets_box (sees_what_meets new)
       V T (length first.slots) (length v.slots) gone (on_of v a) (kept_bound first) (kept_bound v) city new_city rerooted is_first
 
-  pub lost : (list : List (Drawn (Ranked Shape) Primitive)) × ListsLost content V T list × (map told_ranked list ≡ drawn_of went)
+  pub lost : (list : List (Drawn (Ranked Shape) Primitive)) × ListsLost content V T list
+        × (map told_ranked list ≡ drawn_of went)
   lost = lists_lost V T (λ c b x y at of same. (same_node first start.first_laws c b x y at of (ap (λ (s : Shape). s.lot) same, ap (λ (s : Shape). s.path) same)).0) went start.roots.went
 
   abbrev pub first_state : State (Ranked Shape) Answers ShapeFault Primitive
@@ -262,15 +266,18 @@ module _ {old new : Sources} {first v : ForestView} {d : DependentsView} {went c
 -- ---- before any root goes
 
 -- each root is of an old lot
-pub has_old_lots : (old new : Sources) (first : ForestView) (d : DependentsView) → StandsMarked old new first d → HasOldLots old.lots first
+pub has_old_lots : (old new : Sources) (first : ForestView) (d : DependentsView) → StandsMarked old new first d
+    → HasOldLots old.lots first
 has_old_lots old new first d stands c x at up =
     let w = among_root old.lots x.node.shape (stands.nodes.city.tops.top c x at up).0 in
     (w.0, w.1, w.2, sym (root_name w.1 x.node.shape w.3))
 
-pub parent_there : (first : ForestView) → IsForest first → (c p : ℕ) (x : Seen) → node_at first c ≡ Some x → x.parent ≡ Some p → (e : Seen) × (node_at first p ≡ Some e)
+pub parent_there : (first : ForestView) → IsForest first → (c p : ℕ) (x : Seen) → node_at first c ≡ Some x
+    → x.parent ≡ Some p → (e : Seen) × (node_at first p ≡ Some e)
 parent_there first laws c p x at up = let w = laws.present.tree.up c p x at up in (w.0, w.1)
 
-pub nothing_lost : (old new : Sources) (first : ForestView) (d : DependentsView) (none : List Moved) → none ≡ [] → StandsMarked old new first d → IsForest first → HasLost (node_at first) first none
+pub nothing_lost : (old new : Sources) (first : ForestView) (d : DependentsView) (none : List Moved) → none ≡ []
+    → StandsMarked old new first d → IsForest first → HasLost (node_at first) first none
 nothing_lost old new first d none is stands laws = subst (λ (list : List Moved). HasLost (node_at first) first list) (sym is) (record {
   marking = stands.marking;
   marked = stands.marked;
@@ -280,13 +287,17 @@ nothing_lost old new first d none is stands laws = subst (λ (list : List Moved)
   went = none_came (node_at first);
 })
 
-pub now_rerooted : (old new : Sources) (first before after : ForestView) (d : DependentsView) (went : List Moved) → StandsMarked old new first d → IsForest first
-    → HasLost (node_at first) before went → Loses new first before → Gains new before after → IsRerooted (node_at first) after went
+pub now_rerooted : (old new : Sources) (first before after : ForestView) (d : DependentsView) (went : List Moved)
+    → StandsMarked old new first d → IsForest first
+    → HasLost (node_at first) before went → Loses new first before → Gains new before after
+    → IsRerooted (node_at first) after went
 now_rerooted old new first before after d went stands laws lost loses gains =
     roots_changed new (node_at first) first before after went (λ c. refl) (parent_there first laws) lost loses gains
 
 -- what came since the roots went is what wasn't at the mark
-pub came_since : (V : ℕ → Option Seen) (before after : ForestView) (went came : List Moved) → HasLost V before went → ((c : ℕ) (x : Seen) → V c ≡ Some x → node_at after c ≡ node_at before c) → ListsMoved (node_at after) (node_at before) came → ListsMoved (node_at after) V came
+pub came_since : (V : ℕ → Option Seen) (before after : ForestView) (went came : List Moved) → HasLost V before went
+    → ((c : ℕ) (x : Seen) → V c ≡ Some x → node_at after c ≡ node_at before c)
+    → ListsMoved (node_at after) (node_at before) came → ListsMoved (node_at after) V came
 came_since V before after went came lost still lists = record {
   once = lists.once;
   each = λ m. (
@@ -295,6 +306,7 @@ came_since V before after went came lost still lists = record {
   );
 }
   where
-    unmarked : (c : ℕ) (x : Seen) → node_at after c ≡ Some x → node_at before c ≡ None → (o : Option Seen) → V c ≡ o → V c ≡ None
+    unmarked : (c : ℕ) (x : Seen) → node_at after c ≡ Some x → node_at before c ≡ None → (o : Option Seen) → V c ≡ o
+        → V c ≡ None
     unmarked c x at none None is = is
     unmarked c x at none (Some y) is = none_some x (sym none ∙ (sym (still c y is) ∙ at))

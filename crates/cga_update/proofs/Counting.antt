@@ -7,7 +7,7 @@ use Rattle.cga_forest.specs.Count.{tally}
 use Rattle.cga_forest.specs.View.{is_shown, present_of, seen, slot}
 use Rattle.cga_forest.specs.Tree.{node_at}
 use Rattle.cga_rework.specs.Views.{count_of, one_if}
-use Rattle.cga_rework.proofs.Views.{lists_are_views}
+use Rattle.cga_rework.proofs.Door.{lists_are_views}
 use Rattle.cga_agenda.specs.Loop.{Counts}
 use Rattle.cga_agenda.specs.Work.{StandOnce}
 use Rattle.cga_expand.specs.Settings.{Setting}
@@ -42,7 +42,8 @@ none_shown [] h c = refl
 none_shown (x ∷ xs) h zero = hidden x (tally is_shown xs) h
 none_shown (x ∷ xs) h (suc c) = none_shown xs (omega (arith, h)) c
 
-pub count_is : (slots : List (Option Entry)) → count_of (λ c. present_of (slot slots c)) (length slots) ≡ tally is_shown slots
+pub count_is : (slots : List (Option Entry))
+    → count_of (λ c. present_of (slot slots c)) (length slots) ≡ tally is_shown slots
 count_is [] = refl
 count_is (x ∷ xs) = from_front (λ c. present_of (slot (x ∷ xs) c)) (length xs) ∙ (λ i. shown_is x i + count_is xs i)
 

@@ -46,7 +46,8 @@ module _ (V T : ℕ → Option Seen) (one : (c b : ℕ) (d e : Seen) → V c ≡
   seen_at : (m : Moved) (c : ℕ) (d : Seen) → V c ≡ Some d → m ≡ moved_of c d → V m.id ≡ Some d
   seen_at m c d v is = ap V (ap (λ (x : Moved). x.id) is) ∙ v
 
-  told_one : (m : Moved) (d : Seen) (k : Kind ShapeFault Primitive) (rest : List Lost) (ms : List reported.Drawn) → m.lot ≡ d.node.shape.lot → m.symbol ≡ d.node.shape.symbol → m.scope ≡ d.node.shape.scope
+  told_one : (m : Moved) (d : Seen) (k : Kind ShapeFault Primitive) (rest : List Lost) (ms : List reported.Drawn)
+      → m.lot ≡ d.node.shape.lot → m.symbol ≡ d.node.shape.symbol → m.scope ≡ d.node.shape.scope
       → map told_ranked rest ≡ ms → map told_ranked (lost_by d.node k rest) ≡ drawn_before m (primitive_of k) ms
   told_one m d Waiting rest ms a b c e = e
   told_one m d Done rest ms a b c e = e
@@ -67,7 +68,8 @@ module _ (V T : ℕ → Option Seen) (one : (c b : ℕ) (d e : Seen) → V c ≡
   abbrev IsLost : List Moved → Lost → Type 0
   IsLost ms x = (m : Moved) × Among m ms × ((d : Seen) × (V m.id ≡ Some d) × (ranked d.node ≡ x.shape) × (d.node.kind ≡ Instance x.solid))
 
-  by_from : (n : Node) (k : Kind ShapeFault Primitive) (rest : List Lost) (x : Lost) → Among x (lost_by n k rest) → ((ranked n ≡ x.shape) × (k ≡ Instance x.solid)) ⊎ Among x rest
+  by_from : (n : Node) (k : Kind ShapeFault Primitive) (rest : List Lost) (x : Lost) → Among x (lost_by n k rest)
+      → ((ranked n ≡ x.shape) × (k ≡ Instance x.solid)) ⊎ Among x rest
   by_from n Waiting rest x h = inr h
   by_from n Done rest x h = inr h
   by_from n (Faulted f) rest x h = inr h
@@ -76,13 +78,15 @@ module _ (V T : ℕ → Option Seen) (one : (c b : ℕ) (d e : Seen) → V c ≡
     | inr r ↦ inr r
   ]
 
-  by_to : (n : Node) (k : Kind ShapeFault Primitive) (rest : List Lost) (x : Lost) → Among x rest → Among x (lost_by n k rest)
+  by_to : (n : Node) (k : Kind ShapeFault Primitive) (rest : List Lost) (x : Lost) → Among x rest
+      → Among x (lost_by n k rest)
   by_to n Waiting rest x h = h
   by_to n Done rest x h = h
   by_to n (Faulted f) rest x h = h
   by_to n (Instance p) rest x h = inr h
 
-  from_slot : (m : Moved) (ms : List Moved) (x : Lost) → (Among x (lost_of ms) → IsLost ms x) → (o : Option Seen) → V m.id ≡ o → Among x (lost_at o (lost_of ms)) → IsLost (m ∷ ms) x
+  from_slot : (m : Moved) (ms : List Moved) (x : Lost) → (Among x (lost_of ms) → IsLost ms x) → (o : Option Seen)
+      → V m.id ≡ o → Among x (lost_at o (lost_of ms)) → IsLost (m ∷ ms) x
   from_slot m ms x more None is h = let w = more h in (w.0, inr w.1, w.2)
   from_slot m ms x more (Some d) is h = elim (by_from d.node d.node.kind (lost_of ms) x h) [
     | inl e ↦ (m, inl refl, (d, is, e.0, e.1))
@@ -97,12 +101,14 @@ module _ (V T : ℕ → Option Seen) (one : (c b : ℕ) (d e : Seen) → V c ≡
   to_slot None rest x h = h
   to_slot (Some d) rest x h = by_to d.node d.node.kind rest x h
 
-  to_here : (m : Moved) (rest : List Lost) (x : Lost) (d : Seen) → V m.id ≡ Some d → ranked d.node ≡ x.shape → d.node.kind ≡ Instance x.solid → Among x (lost_at (V m.id) rest)
+  to_here : (m : Moved) (rest : List Lost) (x : Lost) (d : Seen) → V m.id ≡ Some d → ranked d.node ≡ x.shape
+      → d.node.kind ≡ Instance x.solid → Among x (lost_at (V m.id) rest)
   to_here m rest x d at shape kind =
       subst (λ o. Among x (lost_at o rest)) (sym at)
       (subst (λ k. Among x (lost_by d.node k rest)) (sym kind) (inl (λ i. record { shape = shape i; solid = x.solid })))
 
-  lost_to : (ms : List Moved) (x : Lost) (y : Moved) (d : Seen) → Among y ms → V y.id ≡ Some d → ranked d.node ≡ x.shape → d.node.kind ≡ Instance x.solid → Among x (lost_of ms)
+  lost_to : (ms : List Moved) (x : Lost) (y : Moved) (d : Seen) → Among y ms → V y.id ≡ Some d → ranked d.node ≡ x.shape
+      → d.node.kind ≡ Instance x.solid → Among x (lost_of ms)
   lost_to [] x y d h at shape kind = absurd h
   lost_to (m ∷ ms) x y d (inl e) at shape kind = to_here m (lost_of ms) x d (ap (λ (z : Moved). V z.id) e ∙ at) shape kind
   lost_to (m ∷ ms) x y d (inr h) at shape kind = to_slot (V m.id) (lost_of ms) x (lost_to ms x y d h at shape kind)
@@ -112,13 +118,16 @@ module _ (V T : ℕ → Option Seen) (one : (c b : ℕ) (d e : Seen) → V c ≡
   id_among (x ∷ ms) m (inl e) = inl (ap (λ (y : Moved). y.id) e)
   id_among (x ∷ ms) m (inr h) = inr (id_among ms m h)
 
-  once_by : (n : Node) (k : Kind ShapeFault Primitive) (rest : List Lost) → Once rest → ((p : Primitive) → k ≡ Instance p → Among (record { shape = ranked n; solid = p }) rest → ⊥) → Once (lost_by n k rest)
+  once_by : (n : Node) (k : Kind ShapeFault Primitive) (rest : List Lost) → Once rest
+      → ((p : Primitive) → k ≡ Instance p → Among (record { shape = ranked n; solid = p }) rest → ⊥)
+      → Once (lost_by n k rest)
   once_by n Waiting rest once new = once
   once_by n Done rest once new = once
   once_by n (Faulted f) rest once new = once
   once_by n (Instance p) rest once new = (new p refl, once)
 
-  once_slot : (m : Moved) (ms : List Moved) → (Member (ids_of ms) m.id → ⊥) → Once (lost_of ms) → (o : Option Seen) → V m.id ≡ o → Once (lost_at o (lost_of ms))
+  once_slot : (m : Moved) (ms : List Moved) → (Member (ids_of ms) m.id → ⊥) → Once (lost_of ms) → (o : Option Seen)
+      → V m.id ≡ o → Once (lost_at o (lost_of ms))
   once_slot m ms new once None is = once
   once_slot m ms new once (Some d) is = once_by d.node d.node.kind (lost_of ms) once (λ p kind h.
       let w = lost_from ms (record { shape = ranked d.node; solid = p }) h in
@@ -130,7 +139,8 @@ module _ (V T : ℕ → Option Seen) (one : (c b : ℕ) (d e : Seen) → V c ≡
   once_lost (m ∷ ms) apart = once_slot m ms apart.0 (once_lost ms apart.1) (V m.id) refl
 
   -- what went, as the theory lists it and as it is reported
-  pub lists_lost : (went : List Moved) → ListsMoved V T went → (list : List Lost) × ListsLost content V T list × (map told_ranked list ≡ drawn_of went)
+  pub lists_lost : (went : List Moved) → ListsMoved V T went
+      → (list : List Lost) × ListsLost content V T list × (map told_ranked list ≡ drawn_of went)
   lists_lost went lists = (
     lost_of went,
     record {
@@ -140,12 +150,17 @@ module _ (V T : ℕ → Option Seen) (one : (c b : ℕ) (d e : Seen) → V c ≡
     told_lost went (λ m h. let w = (lists.each m).0 h in (w.0, w.1, w.2, w.4)),
   )
     where
-      to : (x : Lost) → Among x (lost_of went) → (c : ℕ) × (d : Seen) × (V c ≡ Some d) × (T c ≡ None) × (ranked d.node ≡ x.shape) × (d.node.kind ≡ Instance x.solid)
+      to : (x : Lost) → Among x (lost_of went)
+          → (c : ℕ) × (d : Seen) × (V c ≡ Some d) × (T c ≡ None) × (ranked d.node ≡ x.shape)
+            × (d.node.kind ≡ Instance x.solid)
       to x h =
           let w = lost_from went x h in
           let p = (lists.each w.0).0 w.1 in
           let id : p.0 ≡ w.0.id = sym (ap (λ (m : Moved). m.id) p.4) in
           (w.0.id, w.2.0, w.2.1, ap T (sym id) ∙ p.3, w.2.2, w.2.3)
 
-      from : (x : Lost) → ((c : ℕ) × (d : Seen) × (V c ≡ Some d) × (T c ≡ None) × (ranked d.node ≡ x.shape) × (d.node.kind ≡ Instance x.solid)) → Among x (lost_of went)
+      from : (x : Lost)
+          → ((c : ℕ) × (d : Seen) × (V c ≡ Some d) × (T c ≡ None) × (ranked d.node ≡ x.shape)
+            × (d.node.kind ≡ Instance x.solid))
+          → Among x (lost_of went)
       from x w = lost_to went x (moved_of w.0 w.1) w.1 ((lists.each (moved_of w.0 w.1)).1 (w.0, w.1, w.2, w.3, refl)) w.2 w.4 w.5

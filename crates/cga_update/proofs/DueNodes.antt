@@ -4,7 +4,8 @@ use Rattle.std.specs.Prelude.{IsSome, IfSome, OnOk, Result, Ok, Err, slice_get, 
 use Rattle.cga_word.specs.declared.mode.Mode.{Mode}
 use Rattle.cga_order.specs.Chain.{Chain}
 use Rattle.cga_order.specs.World.{is_instance}
-use Rattle.cga_order.proofs.Chains.{stamps-place}
+use Rattle.cga_order.proofs.Door.{stamps-place}
+use Rattle.cga_queue.proofs.Door.{due_from, grows_on, is_least, least_after, passed_over, put_grows, same_on}
 use Rattle.cga_key.specs.declared.stamp_key.StampKey.{StampKey}
 use Rattle.cga_key.specs.Key.{chain_of_key}
 use Rattle.cga_forest.specs.Node.{chain_kept}
@@ -13,18 +14,19 @@ use Rattle.cga_forest.specs.Tree.{ForestView, IsForest, node_at}
 use Rattle.cga_queue.specs.Agenda.{AgendaView, Chains, Grows, IsLeast, IsPopped, IsPut, OneEach, SameOn, is_due}
 use Rattle.cga_update.specs.Due.{ComesAfter, HasLater}
 use Rattle.cga_update.specs.Queue.{chains_of, due_chain, on_of}
-use Rattle.cga_queue.proofs.OnIt.{due_from, grows_on, is_least, least_after, passed_over, put_grows, same_on}
 use Rattle.cga_update.proofs.Places.{same_node}
 
 -- where a node stands that may be on the agenda
-pub due_of : (o : Option Seen) (x : Chain) → due_chain o ≡ Some x → (d : Seen) × (o ≡ Some d) × (is_instance d.node.kind ≡ false) × (chain_kept d.node ≡ x)
+pub due_of : (o : Option Seen) (x : Chain) → due_chain o ≡ Some x
+    → (d : Seen) × (o ≡ Some d) × (is_instance d.node.kind ≡ false) × (chain_kept d.node ≡ x)
 due_of None x e = let z : None ≡ Some x = e in cc
 due_of (Some d) x e = elim (is_instance d.node.kind) as (λ b. is_instance d.node.kind ≡ b → (if b then None else Some (chain_kept d.node)) ≡ Some x → (y : Seen) × (Some d ≡ Some y) × (is_instance y.node.kind ≡ false) × (chain_kept y.node ≡ x)) [
   | true ↦ λ i f. (let z : None ≡ Some x = f in cc)
   | false ↦ λ i f. (d, refl, i, (let z : Some (chain_kept d.node) ≡ Some x = f in cc))
 ] refl e
 
-pub due_is : (o : Option Seen) (d : Seen) → o ≡ Some d → is_instance d.node.kind ≡ false → due_chain o ≡ Some (chain_kept d.node)
+pub due_is : (o : Option Seen) (d : Seen) → o ≡ Some d → is_instance d.node.kind ≡ false
+    → due_chain o ≡ Some (chain_kept d.node)
 due_is o d e i = ap due_chain e ∙ ap (λ b. if b then None else Some (chain_kept d.node)) i
 
 due_some : (o : Option Seen) → IsSome (due_chain o) → (d : Seen) × (o ≡ Some d) × (is_instance d.node.kind ≡ false)
@@ -39,7 +41,8 @@ due_some (Some d) h = (
 )
 
 -- the chain that the forest lends is the node's
-pub lent_is : (o : Option Seen) (x : Chain) → IsSome (due_chain o) → IfSome o (λ d. x ≡ chain_kept d.node) → due_chain o ≡ Some x
+pub lent_is : (o : Option Seen) (x : Chain) → IsSome (due_chain o) → IfSome o (λ d. x ≡ chain_kept d.node)
+    → due_chain o ≡ Some x
 lent_is o x h value =
     let z = due_some o h in
     due_is o z.0 z.1 z.2 ∙ ap Some (sym (subst (λ p. IfSome p (λ d. x ≡ chain_kept d.node)) z.1 value))
@@ -64,16 +67,21 @@ module _ (v : ForestView) where
   abbrev D : Chains
   D = chains_of v
 
-  pub added_grows : (old new : AgendaView) (x : Chain) (id : ℕ) → OneEach D → D id ≡ Some x → IsPut old new x id → Grows D (λ c. c ≡ id) old new
+  pub added_grows : (old new : AgendaView) (x : Chain) (id : ℕ) → OneEach D → D id ≡ Some x → IsPut old new x id
+      → Grows D (λ c. c ≡ id) old new
   added_grows old new x id one here put = put_grows D old new x id one here put
 
   -- the node of a popped entry
-  pub taken_is : (first a b : AgendaView) (mode : Mode) (key : StampKey) (id : ℕ) (due : Bool) → mode ≡ a.mode → SameOn D first a → IsPopped a b (chain_of_key key) id → due ≡ is_due mode key (D id) → due ≡ true → (x : Chain) × IsLeast D first b id x
+  pub taken_is : (first a b : AgendaView) (mode : Mode) (key : StampKey) (id : ℕ) (due : Bool) → mode ≡ a.mode
+      → SameOn D first a → IsPopped a b (chain_of_key key) id → due ≡ is_due mode key (D id) → due ≡ true
+      → (x : Chain) × IsLeast D first b id x
   taken_is first a b mode key id due m same popped is told =
       let z = due_from a.mode key (D id) (ap (λ k. is_due k key (D id)) (sym m) ∙ sym is ∙ told) in
       (z.0, least_after D first a b id z.0 same (is_least D a b key id popped z.0 z.1 z.2))
 
-  pub passed_is : (first a b : AgendaView) (mode : Mode) (key : StampKey) (id : ℕ) (due : Bool) → mode ≡ a.mode → SameOn D first a → IsPopped a b (chain_of_key key) id → due ≡ is_due mode key (D id) → due ≡ false → SameOn D first b × (mode ≡ b.mode)
+  pub passed_is : (first a b : AgendaView) (mode : Mode) (key : StampKey) (id : ℕ) (due : Bool) → mode ≡ a.mode
+      → SameOn D first a → IsPopped a b (chain_of_key key) id → due ≡ is_due mode key (D id) → due ≡ false
+      → SameOn D first b × (mode ≡ b.mode)
   passed_is first a b mode key id due m same popped is told = (
     same_on D first a b same (passed_over D a b key id popped (λ so. let z : true ≡ false = sym so ∙ ap (λ k. is_due k key (D id)) (sym m) ∙ sym is ∙ told in cc)),
     m ∙ sym popped.mode,
@@ -83,7 +91,10 @@ module _ (v : ForestView) where
   abbrev pub HasFirst : Mode → ℕ → List ℕ → ℕ → AgendaView → Type 0
   HasFirst mode of ids n a = (j c : ℕ) → j < n → slice_get ids j ≡ Some c → ComesAfter v mode of c → on_of v a c ≡ true
 
-  pub one_more : (first a b : AgendaView) (of : ℕ) (ids : List ℕ) (n id : ℕ) → Grows D (ComesAfter v first.mode of) first a → HasFirst first.mode of ids n a → slice_get ids n ≡ Some id → Grows D (ComesAfter v a.mode of) a b → (ComesAfter v a.mode of id → on_of v b id ≡ true) → Grows D (ComesAfter v first.mode of) first b × HasFirst first.mode of ids (n + 1) b
+  pub one_more : (first a b : AgendaView) (of : ℕ) (ids : List ℕ) (n id : ℕ)
+      → Grows D (ComesAfter v first.mode of) first a → HasFirst first.mode of ids n a → slice_get ids n ≡ Some id
+      → Grows D (ComesAfter v a.mode of) a b → (ComesAfter v a.mode of id → on_of v b id ≡ true)
+      → Grows D (ComesAfter v first.mode of) first b × HasFirst first.mode of ids (n + 1) b
   one_more first a b of ids n id grows has at more reach =
       let next = subst (λ m. Grows D (ComesAfter v m of) a b) grows.mode more in (
         grows_on D (ComesAfter v first.mode of) first a b grows next,
@@ -99,7 +110,8 @@ module _ (v : ForestView) where
       below_or n j lt = grind arith
 
   -- what an index reads stands there
-  pub stands_there : {X : Type 0} (xs : List X) (i : ℕ) (x : X) → i < length xs → x ≡ get_or xs i x → slice_get xs i ≡ Some x
+  pub stands_there : {X : Type 0} (xs : List X) (i : ℕ) (x : X) → i < length xs → x ≡ get_or xs i x
+      → slice_get xs i ≡ Some x
   stands_there [] i x h e = absurd (omega (arith, h))
   stands_there (y ∷ xs) zero x h e = ap Some (sym e)
   stands_there (y ∷ xs) (suc i) x h e = stands_there xs i x (omega (arith, h)) e
@@ -109,5 +121,6 @@ module _ (v : ForestView) where
   within (y ∷ xs) zero x e = omega arith
   within (y ∷ xs) (suc i) x e = omega (arith, within xs i x e)
 
-  pub all_later : (mode : Mode) (of : ℕ) (ids : List ℕ) (n : ℕ) (a : AgendaView) → length ids ≤ n → HasFirst mode of ids n a → HasLater v mode of ids a
+  pub all_later : (mode : Mode) (of : ℕ) (ids : List ℕ) (n : ℕ) (a : AgendaView) → length ids ≤ n
+      → HasFirst mode of ids n a → HasLater v mode of ids a
   all_later mode of ids n a whole has j c e late = let w = within ids j c e in has j c (omega (arith, w, whole)) e late

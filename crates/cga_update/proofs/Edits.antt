@@ -4,20 +4,21 @@ use Rattle.cga_shape.specs.declared.sources.Sources.{Sources}
 use Rattle.cga_derivation.specs.Derivation.{IsDerivation}
 use Rattle.cga_agenda.specs.Edit.{IsEdit}
 use Rattle.cga_rework.specs.Rules.{IsRulesEdit, derivation_of}
-use Rattle.cga_rework.proofs.Worlds.{make}
+use Rattle.cga_expand.proofs.Door.{settings_decide, sources_are_derivations}
+use Rattle.cga_rework.proofs.Door.{make}
 use Rattle.cga_rework.specs.TreeLaws.{GoesBySymbol}
 use Rattle.cga_expand.specs.Derivation.{NamesDiffer, priority_of}
-use Rattle.cga_expand.proofs.Instance.{sources_are_derivations}
-use Rattle.cga_expand.proofs.ReadsRules.{settings_decide}
 use Rattle.cga_update.specs.Edit.{content, shapes_of, rules_of, the_edit}
 
 -- the rules of sources make a derivation in any mode
-pub is_derivation : (sources new : Sources) → NamesDiffer sources.lots → IsDerivation (derivation_of (shapes_of new) (rules_of sources))
+pub is_derivation : (sources new : Sources) → NamesDiffer sources.lots
+    → IsDerivation (derivation_of (shapes_of new) (rules_of sources))
 is_derivation sources new names =
     let d = sources_are_derivations sources names in
     record { root = d.root; roots_apart = d.roots_apart; child = d.child; unseen = d.unseen; local = d.local }
 
-pub is_rules_edit : (old new : Sources) → NamesDiffer old.lots → NamesDiffer new.lots → IsRulesEdit (shapes_of new) (rules_of old) (rules_of new)
+pub is_rules_edit : (old new : Sources) → NamesDiffer old.lots → NamesDiffer new.lots
+    → IsRulesEdit (shapes_of new) (rules_of old) (rules_of new)
 is_rules_edit old new olds news = record {
   was = is_derivation old new olds;
   is = is_derivation new new news;

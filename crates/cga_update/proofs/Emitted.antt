@@ -11,14 +11,13 @@ use Rattle.cga_shape.specs.declared.shape_fault.ShapeFault.{ShapeFault}
 use Rattle.cga_forest.specs.View.{Seen}
 use Rattle.cga_forest.specs.Tree.{ForestView, IsForest, children_at, children_of, node_at}
 use Rattle.cga_forest.specs.Walked.{forest_tree}
-use Rattle.cga_forest.proofs.Laws.{inside}
+use Rattle.cga_forest.proofs.Door.{inside}
+use Rattle.cga_fraction.proofs.Door.{lt_or_eq_below_suc as below_or}
 use Rattle.cga_update.specs.Turned.{AreEmitted, IsAgain, emitted_of, fault_in}
 
-below_or : (n j : ℕ) → j < n + 1 → (j < n) ⊎ (j ≡ n)
-below_or n j lt = grind arith
-
 module _ {X : Type 0} where
-  last_or : (xs : List X) (y : X) (i : ℕ) (x : X) → slice_get (xs ++ y ∷ []) i ≡ Some x → (slice_get xs i ≡ Some x) ⊎ ((i ≡ length xs) × (x ≡ y))
+  last_or : (xs : List X) (y : X) (i : ℕ) (x : X) → slice_get (xs ++ y ∷ []) i ≡ Some x
+      → (slice_get xs i ≡ Some x) ⊎ ((i ≡ length xs) × (x ≡ y))
   last_or [] y zero x h = inr (refl, (let z : Some y ≡ Some x = h in cc))
   last_or [] y (suc i) x h = let z : None ≡ Some x = h in cc
   last_or (a ∷ xs) y zero x h = inl h
@@ -28,7 +27,9 @@ module _ {X : Type 0} where
   ]
 
 -- one child more
-pub emitted_more : (v : ForestView) (e : Seen) (n b : ℕ) (made : List Emitted) (y : Emitted) → AreEmitted v e n made → slice_get e.children n ≡ Some b → ((x : Seen) → node_at v b ≡ Some x → y ≡ emitted_of x.node) → AreEmitted v e (n + 1) (made ++ y ∷ [])
+pub emitted_more : (v : ForestView) (e : Seen) (n b : ℕ) (made : List Emitted) (y : Emitted) → AreEmitted v e n made
+    → slice_get e.children n ≡ Some b → ((x : Seen) → node_at v b ≡ Some x → y ≡ emitted_of x.node)
+    → AreEmitted v e (n + 1) (made ++ y ∷ [])
 emitted_more v e n b made y are at own = record {
   sized = length-append made (y ∷ []) ∙ ap (λ k. k + 1) are.sized;
   each = λ i c z x h k t. elim (last_or made y i z h) [
@@ -43,7 +44,8 @@ pub none_emitted : (v : ForestView) (e : Seen) → AreEmitted v e 0 []
 none_emitted v e = record { sized = refl; each = λ i b y x h k t. (let z : None ≡ Some y = h in cc) }
 
 -- a node that isn't waiting has the outcome that it had
-pub again_fault : (v : ForestView) (e : Seen) (fault : ShapeFault) → fault_in e.node.kind ≡ Some fault → ((e.node.kind ≡ Done) ⊎ (e.children ≡ [])) → IsAgain v e (Err fault)
+pub again_fault : (v : ForestView) (e : Seen) (fault : ShapeFault) → fault_in e.node.kind ≡ Some fault
+    → ((e.node.kind ≡ Done) ⊎ (e.children ≡ [])) → IsAgain v e (Err fault)
 again_fault v e fault is child =
     let kind = kind_of e.node.kind is in (
       sym kind,
@@ -59,10 +61,13 @@ again_fault v e fault is child =
     kind_of (Faulted f) h = let z : Some f ≡ Some fault = h in cc
     kind_of (Instance p) h = let z : None ≡ Some fault = h in cc
 
-pub again_done : (v : ForestView) (e : Seen) (made : List Emitted) → None ≡ fault_in e.node.kind → is_instance e.node.kind ≡ false → is_waiting e.node.kind ≡ false → AreEmitted v e (length e.children) made → IsAgain v e (Ok made)
+pub again_done : (v : ForestView) (e : Seen) (made : List Emitted) → None ≡ fault_in e.node.kind
+    → is_instance e.node.kind ≡ false → is_waiting e.node.kind ≡ false → AreEmitted v e (length e.children) made
+    → IsAgain v e (Ok made)
 again_done v e made is inner done are = (sym (kind_of e.node.kind is inner done), are)
   where
-    kind_of : (k : Kind ShapeFault Primitive) → None ≡ fault_in k → is_instance k ≡ false → is_waiting k ≡ false → k ≡ Done
+    kind_of : (k : Kind ShapeFault Primitive) → None ≡ fault_in k → is_instance k ≡ false → is_waiting k ≡ false
+        → k ≡ Done
     kind_of Waiting h a b = let z : true ≡ false = b in cc
     kind_of Done h a b = refl
     kind_of (Faulted f) h a b = let z : None ≡ Some f = h in cc
@@ -73,7 +78,8 @@ seen_some None h = let z : false ≡ true = h in cc
 seen_some (Some d) h = (d, refl)
 
 -- a child that a node names is there
-pub child_there : (v : ForestView) → IsForest v → (id place b : ℕ) → IsSome (node_at v id) → slice_get (children_at v id) place ≡ Some b → IsSome (node_at v b)
+pub child_there : (v : ForestView) → IsForest v → (id place b : ℕ) → IsSome (node_at v id)
+    → slice_get (children_at v id) place ≡ Some b → IsSome (node_at v b)
 child_there v f id place b here at =
     let e = seen_some (node_at v id) here in
     let d = f.present.tree.down id place b e.0 e.1 (ap (λ o. slice_get (children_of o) place) (sym e.1) ∙ at) in
@@ -82,10 +88,15 @@ child_there v f id place b here at =
 pub in_tree : (v : ForestView) → IsForest v → (id : ℕ) → IsSome (node_at v id) → InTree (forest_tree v) id
 in_tree v f id here = inside v f id (seen_some (node_at v id) here)
 
-pub emitted_next : (v : ForestView) (id n b : ℕ) (made : List Emitted) (y : Emitted) → ((e : Seen) → node_at v id ≡ Some e → AreEmitted v e n made) → slice_get (children_at v id) n ≡ Some b → ((x : Seen) → node_at v b ≡ Some x → y ≡ emitted_of x.node) → (e : Seen) → node_at v id ≡ Some e → AreEmitted v e (n + 1) (made ++ y ∷ [])
+pub emitted_next : (v : ForestView) (id n b : ℕ) (made : List Emitted) (y : Emitted)
+    → ((e : Seen) → node_at v id ≡ Some e → AreEmitted v e n made) → slice_get (children_at v id) n ≡ Some b
+    → ((x : Seen) → node_at v b ≡ Some x → y ≡ emitted_of x.node) → (e : Seen) → node_at v id ≡ Some e
+    → AreEmitted v e (n + 1) (made ++ y ∷ [])
 emitted_next v id n b made y are at own e here = emitted_more v e n b made y (are e here) (ap (λ o. slice_get (children_of o) n) (sym here) ∙ at) own
 
-pub all_emitted : (v : ForestView) (id n count : ℕ) (made list : List Emitted) → ((e : Seen) → node_at v id ≡ Some e → AreEmitted v e n made) → list ≡ made → count ≡ length (children_at v id) → n ≡ count → (e : Seen) → node_at v id ≡ Some e → AreEmitted v e (length e.children) list
+pub all_emitted : (v : ForestView) (id n count : ℕ) (made list : List Emitted)
+    → ((e : Seen) → node_at v id ≡ Some e → AreEmitted v e n made) → list ≡ made → count ≡ length (children_at v id)
+    → n ≡ count → (e : Seen) → node_at v id ≡ Some e → AreEmitted v e (length e.children) list
 all_emitted v id n count made list are same counted whole e here =
     let size : n ≡ length e.children = whole ∙ counted ∙ ap (λ o. length (children_of o)) here in
     subst (λ l. AreEmitted v e (length e.children) l) (sym same) (subst (λ k. AreEmitted v e k made) size (are e here))

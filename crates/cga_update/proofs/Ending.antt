@@ -18,9 +18,9 @@ use Rattle.cga_agenda.specs.Work.{IsWorking, NoneQueued}
 use Rattle.cga_rework.specs.City as tree
 use Rattle.cga_rework.specs.Ranked.{Ranked}
 use Rattle.cga_rework.specs.TreeLaws.{StandsAgain}
-use Rattle.cga_rework.proofs.StandsAgain.{stands_again}
-use Rattle.cga_depend.specs.Mentions.{mentioning}
-use Rattle.cga_depend.specs.Pairs.{DependentsView, nodes_in, symbols_in}
+use Rattle.cga_fraction.proofs.Door.{same_from_both_ways as same_tests}
+use Rattle.cga_rework.proofs.Door.{stands_again}
+use Rattle.cga_depend.specs.Pairs.{DependentsView, nodes_in}
 use Rattle.cga_expand.specs.Settings.{Setting}
 use Rattle.cga_forest.specs.declared.node.Node.{Node}
 use Rattle.cga_forest.specs.View.{Seen}
@@ -61,7 +61,8 @@ of_one : (o : Option Seen) (s : List ℕ) → is_of o s ≡ true → IsOne o s
 of_one None s h = absurd (cc)
 of_one (Some d) s h = by_tests (is_instance d.node.kind) (same_name d.node.shape.symbol s) refl refl h
   where
-    by_tests : (i n : Bool) → is_instance d.node.kind ≡ i → same_name d.node.shape.symbol s ≡ n → (not i && n) ≡ true → IsOne (Some d) s
+    by_tests : (i n : Bool) → is_instance d.node.kind ≡ i → same_name d.node.shape.symbol s ≡ n → (not i && n) ≡ true
+        → IsOne (Some d) s
     by_tests false true inner name h = (d, refl, inner, (bytes_decides d.node.shape.symbol s).0 name)
     by_tests false false inner name h = absurd (cc)
     by_tests true n inner name h = absurd (cc)
@@ -70,11 +71,6 @@ one_of : (o : Option Seen) (s : List ℕ) → IsOne o s → is_of o s ≡ true
 one_of o s x =
     ap (λ p. is_of p s) x.1
     ∙ (ap (λ i. not i && same_name x.0.node.shape.symbol s) x.2 ∙ (bytes_decides x.0.node.shape.symbol s).1 x.3)
-
-same_tests : (a b : Bool) → (a ≡ true → b ≡ true) → (b ≡ true → a ≡ true) → a ≡ b
-same_tests true b to back = sym (to refl)
-same_tests false true to back = back refl
-same_tests false false to back = refl
 
 -- ---- the dependents
 
@@ -87,14 +83,14 @@ listed_at_mark sources v d T stand same s c =
     (λ h. contains_any (nodes_in d s) c ((stand.nodes s c).1 (of_one (node_at v c) s (sym (ap (λ o. is_of o s) (same c)) ∙ h))))
 
 -- dependents that list the nodes stand
-dependents_stand : (sources : Sources) (v : ForestView) (d : DependentsView) (T : ℕ → Option Seen) → ((c : ℕ) → node_at v c ≡ T c)
-    → ListsView d T → ((a : List ℕ) → symbols_in d a ≡ mentioning sources.grammar a) → DependentsStand sources v d
-dependents_stand sources v d T same listed mentions = record {
+dependents_stand : (sources : Sources) (v : ForestView) (d : DependentsView) (T : ℕ → Option Seen)
+    → ((c : ℕ) → node_at v c ≡ T c)
+    → ListsView d T → DependentsStand sources v d
+dependents_stand sources v d T same listed = record {
   nodes = λ s c. (
     λ h. of_one (node_at v c) s (ap (λ o. is_of o s) (same c) ∙ (sym (listed s c) ∙ contains_any (nodes_in d s) c h)),
     λ x. any_contains (nodes_in d s) c (listed s c ∙ (sym (ap (λ o. is_of o s) (same c)) ∙ one_of (node_at v c) s x)),
   );
-  mentions = mentions;
 }
 
 -- ---- the forest
@@ -111,7 +107,8 @@ module _ (w : Work) (edit : Edit (Ranked Shape) Answers Setting ShapeFault Primi
   abbrev Nodes : Type 0
   Nodes = List (kept.Node (Ranked Shape) Answers ShapeFault Primitive)
 
-  working_is : (start : Nodes) (turned worked : List (Ranked Shape)) → IsWorking edit start s.nodes s.queued turned worked
+  working_is : (start : Nodes) (turned worked : List (Ranked Shape))
+      → IsWorking edit start s.nodes s.queued turned worked
       → IsWorking (the_edit w.old.now w.new.now) start (kept_nodes w.forest) s.queued turned worked
   working_is start turned worked h =
       subst (λ e. IsWorking e start (kept_nodes w.forest) s.queued turned worked) means.edit_is
@@ -123,7 +120,8 @@ module _ (w : Work) (edit : Edit (Ranked Shape) Answers Setting ShapeFault Primi
       (subst (λ ns. NoneQueued edit ns s.queued) means.nodes h)
 
   -- the nodes stand when nothing is on the agenda
-  nodes_stand : (start : Nodes) (turned worked : List (Ranked Shape)) → IsWorking edit start s.nodes s.queued turned worked → NoneQueued edit s.nodes s.queued
+  nodes_stand : (start : Nodes) (turned worked : List (Ranked Shape))
+      → IsWorking edit start s.nodes s.queued turned worked → NoneQueued edit s.nodes s.queued
       → tree.Stands (shapes_of w.new.now) content (rules_of w.new.now) (asks_by w.new.now.grammar) (node_at w.forest)
   nodes_stand start turned worked working none =
       let again : StandsAgain Node Shape Answers Setting ShapeFault Primitive = stands_again in
@@ -132,10 +130,11 @@ module _ (w : Work) (edit : Edit (Ranked Shape) Answers Setting ShapeFault Primi
 
   -- what the end of the work leaves stands for the new sources
   pub stands_done : (start : Nodes) (budget calls since : ℕ) → IsDone edit start s budget calls since
-      → (v : ForestView) (d : DependentsView) → ((c : ℕ) → node_at v c ≡ node_at w.forest c) → v.marking ≡ false → v.mode ≡ w.forest.mode
-      → ListsView d (node_at w.forest) → ((a : List ℕ) → symbols_in d a ≡ mentioning w.new.now.grammar a)
+      → (v : ForestView) (d : DependentsView) → ((c : ℕ) → node_at v c ≡ node_at w.forest c) → v.marking ≡ false
+      → v.mode ≡ w.forest.mode
+      → ListsView d (node_at w.forest)
       → Stands w.new.now (record { forest = v; dependents = d })
-  stands_done start budget calls since is_done v d same unmarked mode listed mentions = record {
+  stands_done start budget calls since is_done v d same unmarked mode listed = record {
     forest = record {
       mode = mode ∙ means.mode;
       unmarked = unmarked;
@@ -143,7 +142,7 @@ module _ (w : Work) (edit : Edit (Ranked Shape) Answers Setting ShapeFault Primi
       silent = λ c x at. means.silent c x (sym (same c) ∙ at);
       plain = λ c x at. means.plain c x (sym (same c) ∙ at);
     };
-    dependents = dependents_stand w.new.now v d (node_at w.forest) same listed mentions;
+    dependents = dependents_stand w.new.now v d (node_at w.forest) same listed;
   }
 
 -- put back, a forest stands as it did
@@ -160,7 +159,7 @@ stands_back sources was t stood same unmarked mode = record {
       plain = λ c x at. stood.forest.plain c x (sym (same c) ∙ at);
     };
     dependents = dependents_stand sources t was.dependents (node_at was.forest) same
-        (listed_at_mark sources was.forest was.dependents (node_at was.forest) stood.dependents (λ c. refl)) stood.dependents.mentions;
+        (listed_at_mark sources was.forest was.dependents (node_at was.forest) stood.dependents (λ c. refl));
   };
   nodes = same;
 }

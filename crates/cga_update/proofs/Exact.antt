@@ -17,17 +17,14 @@ use Rattle.cga_rework.specs.Exact as rework
 use Rattle.cga_rework.specs.Ranked.{Ranked, unranked_drawn}
 use Rattle.cga_rework.specs.Rules.{derivation_of}
 use Rattle.cga_rework.specs.Touched as plain
-use Rattle.cga_rework.proofs.Lists.{Among-map, count-map}
+use Rattle.cga_fraction.proofs.Door.{length-map}
+use Rattle.cga_rework.proofs.Door.{Among-map, count-map}
 use Rattle.cga_expand.specs.Children.{Member}
 use Rattle.cga_expand.specs.Derivation as expansion
 use Rattle.cga_expand.specs.Settings.{setting_of}
 use Rattle.cga_expand.specs.Touched.{NonInstance, Kept, SameInputs, Touched}
 use Rattle.cga_update.specs.Edit.{shapes_of, rules_of}
 use Rattle.cga_update.specs.Updates.{told, instances, IsBelow, CountsTouched, IsChange}
-
-length-map : {X Y : Type 0} (f : X → Y) (xs : List X) → length (map f xs) ≡ length xs
-length-map f [] = refl
-length-map f (x ∷ xs) = let r = length-map f xs in omega (arith, r)
 
 -- a ranked instance as it is reported
 abbrev pub told_ranked : Drawn (Ranked Shape) Primitive → reported.Drawn
@@ -99,11 +96,14 @@ module _ (old new : Sources) (mode : old.mode ≡ new.mode) (before after : List
         let found : Has before x.0.shape.shape (Instance x.0.solid) × ((parent : Shape) (i : ℕ) → NonInstance after parent → IsBelow parent i x.0.shape.shape → Kept old new before after parent → SameInputs old new parent → ⊥) = (y.0, λ parent i non below keeps same. y.1 parent i non below keeps.1 (from_inputs parent same)) in
         subst (λ (z : Drawn Shape Primitive). Has before z.shape (Instance z.solid) × ((parent : Shape) (i : ℕ) → NonInstance after parent → IsBelow parent i z.shape → Kept old new before after parent → SameInputs old new parent → ⊥)) x.2 found
 
-    told_count : (test : reported.Drawn → Bool) (list : List (Drawn Shape Primitive)) → count_by test (map told list) ≡ count_by (λ d. test (told d)) list
+    told_count : (test : reported.Drawn → Bool) (list : List (Drawn Shape Primitive))
+        → count_by test (map told list) ≡ count_by (λ d. test (told d)) list
     told_count test list = count-map told test list
 
     module _ (changes : Changes) (gone_told : changes.gone ≡ map told (map unranked_drawn gone)) (come_told : changes.come ≡ map told (map unranked_drawn come)) where
-      balances : (test : reported.Drawn → Bool) → count_by test (instances before) + count_by test changes.come ≡ count_by test (instances after) + count_by test changes.gone
+      balances : (test : reported.Drawn → Bool)
+          → count_by test (instances before) + count_by test changes.come ≡ count_by test (instances after) + count_by
+            test changes.gone
       balances test =
           let a = told_count test (drawn before) in
           let b = ap (count_by test) come_told ∙ told_count test (map unranked_drawn come) in

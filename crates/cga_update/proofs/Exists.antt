@@ -3,15 +3,13 @@ use Rattle.std.proofs.Common.{◌≡◌, List, [], length, false, inl, inr, refl
 use Rattle.std.specs.Prelude.{Option, Some, None}
 use Rattle.cga_shape.specs.declared.sources.Sources.{Sources}
 use Rattle.cga_derivation.specs.Derivation.{IsDerived, derive}
-use Rattle.cga_derivation.proofs.One.{within}
+use Rattle.cga_agenda.proofs.Door.{begins, roots_once}
+use Rattle.cga_derivation.proofs.Door.{within}
+use Rattle.cga_rework.proofs.Door.{lists_are_views, none_over, unchanged}
 use Rattle.cga_agenda.specs.Edit.{new_world}
 use Rattle.cga_agenda.specs.Known.{IsOverBudget}
 use Rattle.cga_agenda.specs.Work.{StandOnce, IsBegun, IsWorking}
-use Rattle.cga_agenda.proofs.Begin.{begins}
-use Rattle.cga_agenda.proofs.Lists.{roots_once}
-use Rattle.cga_agenda.proofs.OverBudget as over
-use Rattle.cga_rework.proofs.More.{none_over, unchanged}
-use Rattle.cga_rework.proofs.Views.{lists_are_views}
+use Rattle.cga_agenda.proofs.Door as over
 use Rattle.cga_expand.specs.Children.{Member}
 use Rattle.cga_expand.specs.Derivation as expansion
 use Rattle.cga_expand.specs.Derivation.{NamesDiffer}
@@ -45,6 +43,7 @@ module _ (sources : Sources) (names : NamesDiffer sources.lots) (v : ForestView)
   pub stands_derived : (list : List Member) × IsDerived (expansion.derivation_of sources) list
   stands_derived = by (derive (expansion.derivation_of sources) (length (kept_nodes v))) refl
     where
-      by : (answer : Option (List Member)) → derive (expansion.derivation_of sources) (length (kept_nodes v)) ≡ answer → (list : List Member) × IsDerived (expansion.derivation_of sources) list
+      by : (answer : Option (List Member)) → derive (expansion.derivation_of sources) (length (kept_nodes v)) ≡ answer
+          → (list : List Member) × IsDerived (expansion.derivation_of sources) list
       by None none = absurd (not_over (none_over (shapes_of sources) (rules_of sources) (is_derivation sources sources names) (length (kept_nodes v)) none))
       by (Some list) is = (list, within (expansion.derivation_of sources) (is_derivation sources sources names) (length (kept_nodes v)) list is)

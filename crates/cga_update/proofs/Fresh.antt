@@ -2,14 +2,13 @@
 use Rattle.std.proofs.Common.{◌≡◌, ℕ, List, [], false, refl, ap, sym, subst, arith}
 use Rattle.std.specs.List.{Contains}
 use Rattle.cga_shape.specs.declared.sources.Sources.{Sources}
-use Rattle.cga_rework.proofs.StandsAgain.{stands_again}
-use Rattle.cga_depend.specs.Mentions.{mentioning}
-use Rattle.cga_depend.specs.Pairs.{DependentsView, nodes_in, symbols_in, under}
+use Rattle.cga_fraction.proofs.Door.{None-not-Some as none_some}
+use Rattle.cga_rework.proofs.Door.{stands_again}
+use Rattle.cga_depend.specs.Pairs.{DependentsView, nodes_in, under}
 use Rattle.cga_forest.specs.Tree.{ForestView, node_at}
 use Rattle.cga_update.specs.Edit.{shapes_of, rules_of, asks_by, content}
 use Rattle.cga_update.specs.Stands.{ForestStands, DependentsStand, Stands}
 use Rattle.cga_update.specs.Updates.{with_no_lots}
-use Rattle.cga_derivation.proofs.Lists.{none_some}
 use Rattle.cga_word.specs.declared.mode.Mode.{Mode}
 
 abbrev pub no_nodes : Mode → ForestView
@@ -31,19 +30,17 @@ no_pair d none symbol c h =
     let less = k.1 in
     omega (arith, less)
 
-fresh_pairs : (sources : Sources) (d : DependentsView) → d.nodes ≡ [] → ((a : List ℕ) → symbols_in d a ≡ mentioning sources.grammar a)
+fresh_pairs : (sources : Sources) (d : DependentsView) → d.nodes ≡ []
     → DependentsStand (with_no_lots sources) (no_nodes sources.mode) d
-fresh_pairs sources d none mentions = record {
+fresh_pairs sources d none = record {
   nodes = λ symbol c. (
     λ h. absurd (no_pair d none symbol c h),
     λ w. none_some w.0 w.1,
   );
-  mentions = mentions;
 }
 
 pub fresh_stands : (sources : Sources) (v : ForestView) → v ≡ no_nodes sources.mode
-    → (d : DependentsView) → d.nodes ≡ [] → ((a : List ℕ) → symbols_in d a ≡ mentioning sources.grammar a)
-    → Stands (with_no_lots sources) (record { forest = v; dependents = d })
-fresh_stands sources v new d none mentions =
+    → (d : DependentsView) → d.nodes ≡ [] → Stands (with_no_lots sources) (record { forest = v; dependents = d })
+fresh_stands sources v new d none =
     subst (λ (y : ForestView). Stands (with_no_lots sources) (record { forest = y; dependents = d })) (sym new)
-    (record { forest = fresh_forest sources; dependents = fresh_pairs sources d none mentions })
+    (record { forest = fresh_forest sources; dependents = fresh_pairs sources d none })

@@ -8,8 +8,7 @@ use Rattle.cga_rule.specs.declared.grammar.Grammar.{Grammar}
 use Rattle.cga_rule.specs.contracts.grammar.AttributePartialEq.TheImpl as attribute
 use Rattle.cga_rule.specs.contracts.grammar.EntryPartialEq.TheImpl as entry
 use Rattle.cga_rule.specs.contracts.grammar.GrammarPartialEq.TheImpl as grammar
-use Rattle.cga_rule.proofs.Told.{Sound, fraction_sound, list_sound}
-use Rattle.cga_rule.proofs.Equal.{rule_equal}
+use Rattle.cga_rule.proofs.Door.{Sound, fraction_sound, list_sound, rule_equal}
 
 attribute_sound : (a : Attribute) → Sound (attribute.ghosts).eq a
 attribute_sound a b h =

@@ -12,10 +12,11 @@ use Rattle.cga_expand.specs.declared.limits.TheConstants.{MOST_CHILDREN}
 use Rattle.cga_forest.specs.Placing.{MayGrow, Outcome, emitted}
 use Rattle.cga_forest.specs.View.{Seen}
 use Rattle.cga_forest.specs.Tree.{ForestView, IsForest, node_at}
-use Rattle.cga_forest.proofs.Books.{nat_cases}
+use Rattle.cga_fraction.proofs.Door.{eq_or_ne as nat_cases}
 use Rattle.cga_update.proofs.Places.{sized}
 
-deep_is_fault : (g : Grammar) (s : Shape) (answers : Answers) → length s.path ≡ 256 → expand_of g s answers ≡ Err TooDeep
+deep_is_fault : (g : Grammar) (s : Shape) (answers : Answers) → length s.path ≡ 256
+    → expand_of g s answers ≡ Err TooDeep
 unfolding expand_of expansion
 deep_is_fault g s answers e = rw (eq-eqb (length s.path) 256 e) refl
 
@@ -30,7 +31,9 @@ has_child [] lt = absurd (omega (arith, lt))
 has_child (x ∷ xs) lt = (x, refl)
 
 module _ (v : ForestView) (f : IsForest v) (id : ℕ) (e : Seen) (here : node_at v id ≡ Some e) (inner : is_instance e.node.kind ≡ false) where
-  pub grows_by_expansion : (g : Grammar) (answers : Answers) (outcome : Outcome) → ((d : Seen) → node_at v id ≡ Some d → outcome ≡ expand_of g d.node.shape answers) → length (emitted outcome) ≤ MOST_CHILDREN → (x : Seen) × (node_at v id ≡ Some x) × MayGrow x outcome
+  pub grows_by_expansion : (g : Grammar) (answers : Answers) (outcome : Outcome)
+      → ((d : Seen) → node_at v id ≡ Some d → outcome ≡ expand_of g d.node.shape answers)
+      → length (emitted outcome) ≤ MOST_CHILDREN → (x : Seen) × (node_at v id ≡ Some x) × MayGrow x outcome
   grows_by_expansion g answers outcome is few = (
     e,
     here,
@@ -47,7 +50,8 @@ module _ (v : ForestView) (f : IsForest v) (id : ℕ) (e : Seen) (here : node_at
       none_emitted : 0 < length (emitted outcome) → outcome ≡ Err TooDeep → ⊥
       none_emitted some same = let z : 0 < 0 = subst (λ o. 0 < length (emitted o)) same some in omega (arith, z)
 
-  pub grows_again : (outcome : Outcome) → length (emitted outcome) ≤ length e.children → length (emitted outcome) ≤ MOST_CHILDREN → (x : Seen) × (node_at v id ≡ Some x) × MayGrow x outcome
+  pub grows_again : (outcome : Outcome) → length (emitted outcome) ≤ length e.children
+      → length (emitted outcome) ≤ MOST_CHILDREN → (x : Seen) × (node_at v id ≡ Some x) × MayGrow x outcome
   grows_again outcome more few = (
     e,
     here,

@@ -10,13 +10,13 @@ use Rattle.cga_shape.specs.declared.shape_fault.ShapeFault.{ShapeFault}
 use Rattle.cga_expand.specs.Settings.{Setting}
 use Rattle.cga_forest.specs.Tree.{node_at}
 use Rattle.cga_rework.specs.Ranked.{Ranked}
-use Rattle.cga_rework.proofs.Whole.{empty_is_none}
+use Rattle.cga_rework.proofs.Door.{empty_is_none}
+use Rattle.std.proofs.lemmas.Bool.{false_from_ne_true as is_false}
 use Rattle.cga_update.specs.declared.work.Work.{Work}
 use Rattle.cga_queue.specs.Agenda.{AgendaView, NoneOn, SameOn}
 use Rattle.cga_update.specs.Edit.{content, kept_nodes, rules_of, shapes_of, the_edit}
 use Rattle.cga_update.specs.Means.{Means}
 use Rattle.cga_update.specs.Queue.{chains_of, on_of}
-use Rattle.cga_queue.proofs.Cases.{is_false}
 use Rattle.cga_update.proofs.Nodes.{kept_bound}
 
 abbrev pub TheEdit : Type 0
@@ -60,5 +60,6 @@ module _ (was : Work) (rest : AgendaView) (edit : TheEdit) (s : TheState) (means
       let first : NoneQueued (the_edit was.old.now was.new.now) (kept_nodes was.forest) s.queued = empty_is_none (shapes_of was.new.now) content (rules_of was.old.now) (rules_of was.new.now) (node_at was.forest) _ (on_of was.forest was.agenda) s.queued (kept_bound was.forest) means.queued (λ c d t. is_false (on_of was.forest was.agenda c) (none c)) in
       subst (λ (ed : TheEdit). NoneQueued ed s.nodes s.queued) (sym means.edit_is) (subst (λ n. NoneQueued (the_edit was.old.now was.new.now) n s.queued) (sym means.nodes) first)
 
-  pub turn_idle : NoneOn (chains_of was.forest) was.agenda → (calls : ℕ) → (last : TheState) × Means passed edit last × IsIdle edit s last calls calls
+  pub turn_idle : NoneOn (chains_of was.forest) was.agenda → (calls : ℕ)
+      → (last : TheState) × Means passed edit last × IsIdle edit s last calls calls
   turn_idle none calls = (s, still_means, record { same = refl; none_queued = none_queued none; no_call = refl })

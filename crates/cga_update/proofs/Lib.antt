@@ -1,46 +1,47 @@
-pub mod Members
-pub mod Facts
-pub mod Agreeing
-pub mod InLoops
-pub mod Logged
-pub mod Edits
-pub mod Nodes
-pub mod Places
-pub mod DueNodes
-pub mod Following
-pub mod Grammars
-pub mod Moves
-pub mod Moved
-pub mod Children
-pub mod Counting
-pub mod Seen
-pub mod Answered
-pub mod Standing
-pub mod Exact
-pub mod Exists
-pub mod Modes
-pub mod Results
-pub mod Fresh
-pub mod Applying
-pub mod Ending
-pub mod Lots
-pub mod Losing
-pub mod Adding
-pub mod Rooting
-pub mod Nearby
-pub mod Changing
-pub mod Drawing
-pub mod Meeting
-pub mod RootShapes
-pub mod Beginning
-pub mod Unkept
-pub mod Reworking
-pub mod Emitted
-pub mod Growing
-pub mod TurnOf
-pub mod Renewing
-pub mod Turning
-pub mod Quiet
-pub mod Idle
-pub mod Widening
-pub mod NearAskers
+mod Members
+mod Facts
+mod Agreeing
+mod InLoops
+mod Logged
+mod Edits
+mod Nodes
+mod Places
+mod DueNodes
+mod Following
+mod Grammars
+mod Moves
+mod Moved
+mod Children
+mod Counting
+mod Seen
+mod Answered
+mod Standing
+mod Exact
+mod Exists
+mod Modes
+mod Results
+mod Fresh
+mod Applying
+mod Ending
+mod Lots
+mod Losing
+mod Adding
+mod Rooting
+mod Nearby
+mod Changing
+mod Drawing
+mod Meeting
+mod RootShapes
+mod Beginning
+mod Unkept
+mod Reworking
+mod Emitted
+mod Growing
+mod TurnOf
+mod Renewing
+mod Turning
+mod Quiet
+mod Idle
+mod Widening
+mod NearAskers
+pub mod Door

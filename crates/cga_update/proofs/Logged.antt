@@ -5,7 +5,7 @@ use Rattle.cga_check.specs.Uses.{same_name}
 use Rattle.cga_order.specs.World.{Among, is_instance}
 use Rattle.cga_order.specs.declared.placed.Kind.{Kind}
 use Rattle.cga_order.specs.declared.placed.Kind.TheVariants.{Waiting, Done, Faulted, Instance}
-use Rattle.cga_derivation.proofs.Lists.{some_same, none_some}
+use Rattle.cga_fraction.proofs.Door.{None-not-Some as none_some, eq_from_nat_eq as nat_eq_sound, nat_eq-same as nat_eq_own, same_Some as some_same}
 use Rattle.cga_shape.specs.declared.shape_fault.ShapeFault.{ShapeFault}
 use Rattle.cga_word.specs.declared.primitive.Primitive.{Primitive}
 use Rattle.cga_shape.specs.declared.drawn.Drawn.{Drawn}
@@ -15,14 +15,17 @@ use Rattle.cga_forest.specs.View.{Seen}
 use Rattle.cga_update.specs.declared.log.Pairing.{Pairing}
 use Rattle.cga_update.specs.declared.log.Pairing.TheVariants.{Came, Went}
 use Rattle.cga_update.specs.Log.{came_of, drawn_before, drawn_of, is_of, IsLogged, noted, noted_all, paired_before, went_of, StayAlike}
+use Rattle.std.proofs.Common.{append-nil as append_none}
 
 -- ---- a list after a loop's step
 
-pair_split : (x : Pairing) (p : Option Primitive) (rest : List Pairing) → paired_before x p rest ≡ paired_before x p [] ++ rest
+pair_split : (x : Pairing) (p : Option Primitive) (rest : List Pairing)
+    → paired_before x p rest ≡ paired_before x p [] ++ rest
 pair_split x None rest = refl
 pair_split x (Some p) rest = refl
 
-draw_split : (m : Moved) (p : Option Primitive) (rest : List Drawn) → drawn_before m p rest ≡ drawn_before m p [] ++ rest
+draw_split : (m : Moved) (p : Option Primitive) (rest : List Drawn)
+    → drawn_before m p rest ≡ drawn_before m p [] ++ rest
 draw_split m None rest = refl
 draw_split m (Some p) rest = refl
 
@@ -32,26 +35,26 @@ next : {X Y : Type 0} (f : List X → List Y) (m : X) (one : List Y) (now after 
 next f m one now after all at later split is more before =
     ap (λ ys. ys ++ f later) more ∙ (append_assoc now one (f later) ∙ (ap (λ ys. now ++ ys) (sym split ∙ ap f (sym is)) ∙ before))
 
-pub went_next : (m : Moved) (now after all : List Pairing) (at later : List Moved) → at ≡ m ∷ later → after ≡ now ++ paired_before (Went m.symbol m.id) m.primitive []
+pub went_next : (m : Moved) (now after all : List Pairing) (at later : List Moved) → at ≡ m ∷ later
+    → after ≡ now ++ paired_before (Went m.symbol m.id) m.primitive []
     → now ++ went_of at ≡ all → after ++ went_of later ≡ all
 unfolding went_of
 went_next m now after all at later is more before = next went_of m (paired_before (Went m.symbol m.id) m.primitive []) now after all at later (pair_split (Went m.symbol m.id) m.primitive (went_of later)) is more before
 
-pub came_next : (m : Moved) (now after all : List Pairing) (at later : List Moved) → at ≡ m ∷ later → after ≡ now ++ paired_before (Came m.symbol m.id) m.primitive []
+pub came_next : (m : Moved) (now after all : List Pairing) (at later : List Moved) → at ≡ m ∷ later
+    → after ≡ now ++ paired_before (Came m.symbol m.id) m.primitive []
     → now ++ came_of at ≡ all → after ++ came_of later ≡ all
 unfolding came_of
 came_next m now after all at later is more before = next came_of m (paired_before (Came m.symbol m.id) m.primitive []) now after all at later (pair_split (Came m.symbol m.id) m.primitive (came_of later)) is more before
 
-pub drawn_next : (m : Moved) (now after all : List Drawn) (at later : List Moved) → at ≡ m ∷ later → after ≡ now ++ drawn_before m m.primitive []
+pub drawn_next : (m : Moved) (now after all : List Drawn) (at later : List Moved) → at ≡ m ∷ later
+    → after ≡ now ++ drawn_before m m.primitive []
     → now ++ drawn_of at ≡ all → after ++ drawn_of later ≡ all
 unfolding drawn_of
 drawn_next m now after all at later is more before = next drawn_of m (drawn_before m m.primitive []) now after all at later (draw_split m m.primitive (drawn_of later)) is more before
 
-append_none : {Y : Type 0} (ys : List Y) → ys ++ [] ≡ ys
-append_none [] = refl
-append_none (y ∷ ys) = ap (λ zs. y ∷ zs) (append_none ys)
-
-end : {X Y : Type 0} (f : List X → List Y) (now all : List Y) (at : List X) → f [] ≡ [] → at ≡ [] → now ++ f at ≡ all → now ≡ all
+end : {X Y : Type 0} (f : List X → List Y) (now all : List Y) (at : List X) → f [] ≡ [] → at ≡ [] → now ++ f at ≡ all
+    → now ≡ all
 end f now all at none is before = sym (append_none now) ∙ (ap (λ ys. now ++ ys) (sym none ∙ ap f (sym is)) ∙ before)
 
 pub went_end : (now all : List Pairing) (at : List Moved) → at ≡ [] → now ++ went_of at ≡ all → now ≡ all
@@ -68,17 +71,12 @@ drawn_end now all at is before = end drawn_of now all at refl is before
 
 -- ---- what a log says
 
-nat_eq_sound : (a b : ℕ) → nat_eq a b ≡ true → a ≡ b
-nat_eq_sound a b e = grind (arith, e)
-
-nat_eq_own : (a : ℕ) → nat_eq a a ≡ true
-nat_eq_own a = grind arith
-
 and_true : (a b : Bool) → b ≡ true → (a && b) ≡ a
 and_true true b is = is
 and_true false b is = refl
 
-pub noted_more : (xs ys : List Pairing) (s : List ℕ) (c : ℕ) (was : Bool) → noted_all (xs ++ ys) s c was ≡ noted_all ys s c (noted_all xs s c was)
+pub noted_more : (xs ys : List Pairing) (s : List ℕ) (c : ℕ) (was : Bool)
+    → noted_all (xs ++ ys) s c was ≡ noted_all ys s c (noted_all xs s c was)
 unfolding noted_all
 noted_more [] ys s c was = refl
 noted_more (x ∷ xs) ys s c was = noted_more xs ys s c (noted x s c was)
@@ -92,24 +90,30 @@ abbrev hits : Moved → List ℕ → ℕ → Bool
 hits m s c = is_other m.primitive && (same_name m.symbol s && nat_eq m.id c)
 
 module _ (s : List ℕ) (c : ℕ) where
-  went_step : (m : Moved) (p : Option Primitive) (rest : List Pairing) (was : Bool) → noted_all (paired_before (Went m.symbol m.id) p rest) s c was ≡ noted_all rest s c (if is_other p && (same_name m.symbol s && nat_eq m.id c) then false else was)
+  went_step : (m : Moved) (p : Option Primitive) (rest : List Pairing) (was : Bool)
+      → noted_all (paired_before (Went m.symbol m.id) p rest) s c was ≡ noted_all rest s c
+        (if is_other p && (same_name m.symbol s && nat_eq m.id c) then false else was)
   unfolding noted_all
   went_step m None rest was = refl
   went_step m (Some p) rest was = refl
 
-  came_step : (m : Moved) (p : Option Primitive) (rest : List Pairing) (was : Bool) → noted_all (paired_before (Came m.symbol m.id) p rest) s c was ≡ noted_all rest s c (if is_other p && (same_name m.symbol s && nat_eq m.id c) then true else was)
+  came_step : (m : Moved) (p : Option Primitive) (rest : List Pairing) (was : Bool)
+      → noted_all (paired_before (Came m.symbol m.id) p rest) s c was ≡ noted_all rest s c
+        (if is_other p && (same_name m.symbol s && nat_eq m.id c) then true else was)
   unfolding noted_all
   came_step m None rest was = refl
   came_step m (Some p) rest was = refl
 
-  went_none : (ms : List Moved) (was : Bool) → ((m : Moved) → Among m ms → hits m s c ≡ false) → noted_all (went_of ms) s c was ≡ was
+  went_none : (ms : List Moved) (was : Bool) → ((m : Moved) → Among m ms → hits m s c ≡ false)
+      → noted_all (went_of ms) s c was ≡ was
   unfolding noted_all went_of
   went_none [] was none = refl
   went_none (m ∷ ms) was none =
       went_step m m.primitive (went_of ms) was
       ∙ (ap (λ b. noted_all (went_of ms) s c (if b then false else was)) (none m (inl refl)) ∙ went_none ms was (λ x h. none x (inr h)))
 
-  came_none : (ms : List Moved) (was : Bool) → ((m : Moved) → Among m ms → hits m s c ≡ false) → noted_all (came_of ms) s c was ≡ was
+  came_none : (ms : List Moved) (was : Bool) → ((m : Moved) → Among m ms → hits m s c ≡ false)
+      → noted_all (came_of ms) s c was ≡ was
   unfolding noted_all came_of
   came_none [] was none = refl
   came_none (m ∷ ms) was none =
@@ -130,7 +134,8 @@ module _ (s : List ℕ) (c : ℕ) where
   came_true [] = refl
   came_true (m ∷ ms) = came_step m m.primitive (came_of ms) true ∙ (ap (noted_all (came_of ms) s c) (if_same (hits m s c) true) ∙ came_true ms)
 
-  went_some : (ms : List Moved) (m : Moved) (was : Bool) → Among m ms → hits m s c ≡ true → noted_all (went_of ms) s c was ≡ false
+  went_some : (ms : List Moved) (m : Moved) (was : Bool) → Among m ms → hits m s c ≡ true
+      → noted_all (went_of ms) s c was ≡ false
   unfolding noted_all went_of
   went_some [] m was h hit = absurd h
   went_some (x ∷ ms) m was (inl e) hit =
@@ -139,7 +144,8 @@ module _ (s : List ℕ) (c : ℕ) where
   went_some (x ∷ ms) m was (inr h) hit =
       went_step x x.primitive (went_of ms) was ∙ went_some ms m (if hits x s c then false else was) h hit
 
-  came_some : (ms : List Moved) (m : Moved) (was : Bool) → Among m ms → hits m s c ≡ true → noted_all (came_of ms) s c was ≡ true
+  came_some : (ms : List Moved) (m : Moved) (was : Bool) → Among m ms → hits m s c ≡ true
+      → noted_all (came_of ms) s c was ≡ true
   unfolding noted_all came_of
   came_some [] m was h hit = absurd h
   came_some (x ∷ ms) m was (inl e) hit =
@@ -168,7 +174,8 @@ module _ (s : List ℕ) (c : ℕ) where
   moved_hit : (d : Seen) → hits (moved_of c d) s c ≡ is_of (Some d) s
   moved_hit d = by_kind d.node.kind (same_name d.node.shape.symbol s) (nat_eq c c) (nat_eq_own c)
     where
-      by_kind : (k : Kind ShapeFault Primitive) (a b : Bool) → b ≡ true → (is_other (primitive_of k) && (a && b)) ≡ (not (is_instance k) && a)
+      by_kind : (k : Kind ShapeFault Primitive) (a b : Bool) → b ≡ true
+          → (is_other (primitive_of k) && (a && b)) ≡ (not (is_instance k) && a)
       by_kind Waiting a b is = and_true a b is
       by_kind Done a b is = and_true a b is
       by_kind (Faulted f) a b is = and_true a b is
@@ -195,7 +202,8 @@ module _ (S T : ℕ → Option Seen) (went came : List Moved) (w : ListsMoved S 
       let x = (k.each m).0 h in
       none_some e (sym x.3 ∙ (ap S (sym (sym id ∙ ap (λ (y : Moved). y.id) x.4)) ∙ at))
 
-  then_made : (x y : Option Seen) → S c ≡ x → T c ≡ y → noted_all (came_of came) s c (noted_all (went_of went) s c (is_of x s)) ≡ is_of y s
+  then_made : (x y : Option Seen) → S c ≡ x → T c ≡ y
+      → noted_all (came_of came) s c (noted_all (went_of went) s c (is_of x s)) ≡ is_of y s
   then_made None None was is =
       came_none s c came _ (missed s c came (no_came is)) ∙ went_none s c went false (missed s c went (no_went was))
   then_made (Some d) (Some e) was is =
@@ -226,7 +234,8 @@ module _ (S T : ℕ → Option Seen) (went came : List Moved) (w : ListsMoved S 
                   ap (λ (y : Moved). hits y s c) m_is ∙ (moved_hit s c e ∙ other)
 
 -- the log of what went and came between two views, behind one that makes the first, makes the second
-pub logged_more : (V S T : ℕ → Option Seen) (log : List Pairing) (went came : List Moved) → IsLogged V S log → ListsMoved S T went → ListsMoved T S came → StayAlike S T
+pub logged_more : (V S T : ℕ → Option Seen) (log : List Pairing) (went came : List Moved) → IsLogged V S log
+    → ListsMoved S T went → ListsMoved T S came → StayAlike S T
     → IsLogged V T ((log ++ went_of went) ++ came_of came)
 logged_more V S T log went came logged w k alike s c =
     let first = noted_more (log ++ went_of went) (came_of came) s c (is_of (V c) s) in
@@ -235,10 +244,12 @@ logged_more V S T log went came logged w k alike s c =
 
 -- ---- what is noted when an update begins
 
-pub drawn_from : (now before : List Drawn) (lent moved : List Moved) → now ≡ before ++ drawn_of lent → before ≡ [] → lent ≡ moved → now ≡ drawn_of moved
+pub drawn_from : (now before : List Drawn) (lent moved : List Moved) → now ≡ before ++ drawn_of lent → before ≡ []
+    → lent ≡ moved → now ≡ drawn_of moved
 drawn_from now before lent moved is none same = is ∙ (ap (λ xs. xs ++ drawn_of lent) none ∙ ap drawn_of same)
 
-pub log_from : (now mid before : List Pairing) (gone new went came : List Moved) → now ≡ mid ++ came_of new → mid ≡ before ++ went_of gone → before ≡ [] → gone ≡ went → new ≡ came
+pub log_from : (now mid before : List Pairing) (gone new went came : List Moved) → now ≡ mid ++ came_of new
+    → mid ≡ before ++ went_of gone → before ≡ [] → gone ≡ went → new ≡ came
     → now ≡ ([] ++ went_of went) ++ came_of came
 log_from now mid before gone new went came is was none same same' =
     is ∙ (ap (λ xs. xs ++ came_of new) (was ∙ (ap (λ xs. xs ++ went_of gone) none ∙ ap (λ xs. [] ++ went_of xs) same)) ∙ ap (λ xs. ([] ++ went_of went) ++ came_of xs) same')

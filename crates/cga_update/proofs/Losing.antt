@@ -3,20 +3,20 @@ use Rattle.std.proofs.Common.{◌≡◌, ◌⊎◌, inl, inr, ℕ, List, ◌++�
 use Rattle.std.specs.Prelude.{◌↔◌, is_some, if◌then◌else◌}
 use Rattle.cga_index.specs.Tree.{Apart, Member}
 use Rattle.cga_order.specs.World.{Among}
-use Rattle.cga_derivation.proofs.Lists.{some_same, none_some}
+use Rattle.cga_forest.proofs.Door.{under_parent, under_step}
+use Rattle.cga_fraction.proofs.Door.{None-not-Some as none_some, same_Some as some_same}
 use Rattle.cga_forest.specs.declared.moved.Moved.{Moved}
 use Rattle.cga_forest.specs.Moved.{ListsBelow, ids_of, moved_of}
 use Rattle.cga_forest.specs.View.{Seen}
 use Rattle.cga_forest.specs.Tree.{ForestView, IsForest, IsRootOf, IsWithout, HasNoLot, KeepsMark, children_at, children_of, node_at, under}
-use Rattle.cga_forest.proofs.Tops.{under_parent}
-use Rattle.cga_forest.proofs.Under.{under_step}
-use Rattle.cga_forest.proofs.Walk as walk
+use Rattle.cga_forest.proofs.Door as walk
 use Rattle.cga_update.specs.Roots.{View, HasLost, IsRootNamed}
 use Rattle.cga_update.proofs.Members.{among_either, among_left, among_right, apart_join, ids_join, id_of}
 
 -- ---- one slot
 
-cut_either : (b : Bool) (s t : Option Seen) (d : Seen) → t ≡ (if b then None else s) → s ≡ Some d → (t ≡ Some d) ⊎ (t ≡ None)
+cut_either : (b : Bool) (s t : Option Seen) (d : Seen) → t ≡ (if b then None else s) → s ≡ Some d
+    → (t ≡ Some d) ⊎ (t ≡ None)
 cut_either true s t d e f = inr e
 cut_either false s t d e f = inl (e ∙ f)
 
@@ -24,7 +24,8 @@ cut_none : (b : Bool) (s t : Option Seen) → t ≡ (if b then None else s) → 
 cut_none true s t e f = e
 cut_none false s t e f = e ∙ f
 
-cut_some : (b : Bool) (s t : Option Seen) (d : Seen) → t ≡ (if b then None else s) → t ≡ Some d → (b ≡ false) × (s ≡ Some d)
+cut_some : (b : Bool) (s t : Option Seen) (d : Seen) → t ≡ (if b then None else s) → t ≡ Some d
+    → (b ≡ false) × (s ≡ Some d)
 cut_some true s t d e f = none_some d (sym e ∙ f)
 cut_some false s t d e f = (refl, sym e ∙ f)
 
@@ -32,13 +33,15 @@ cut_gone : (b : Bool) (s t : Option Seen) (d : Seen) → t ≡ (if b then None e
 cut_gone true s t d e f g = refl
 cut_gone false s t d e f g = none_some d (sym g ∙ (e ∙ f))
 
-cut_along : (a b : Bool) (s t u v : Option Seen) → u ≡ (if a then None else s) → v ≡ (if b then None else t) → is_some s ≡ is_some t → ((d : Seen) → s ≡ Some d → a ≡ b) → is_some u ≡ is_some v
+cut_along : (a b : Bool) (s t u v : Option Seen) → u ≡ (if a then None else s) → v ≡ (if b then None else t)
+    → is_some s ≡ is_some t → ((d : Seen) → s ≡ Some d → a ≡ b) → is_some u ≡ is_some v
 cut_along a b None None u v e f same alike = ap is_some (cut_none a None u e refl) ∙ sym (ap is_some (cut_none b None v f refl))
 cut_along a b None (Some y) u v e f same alike = absurd (cc)
 cut_along a b (Some x) None u v e f same alike = absurd (cc)
 cut_along a b (Some x) (Some y) u v e f same alike = cut_both a b x y u v e f (alike x refl)
   where
-    cut_both : (a b : Bool) (x y : Seen) (u v : Option Seen) → u ≡ (if a then None else Some x) → v ≡ (if b then None else Some y) → a ≡ b → is_some u ≡ is_some v
+    cut_both : (a b : Bool) (x y : Seen) (u v : Option Seen) → u ≡ (if a then None else Some x)
+        → v ≡ (if b then None else Some y) → a ≡ b → is_some u ≡ is_some v
     cut_both true true x y u v e f g = ap is_some e ∙ sym (ap is_some f)
     cut_both false false x y u v e f g = ap is_some e ∙ sym (ap is_some f)
     cut_both true false x y u v e f g = absurd (cc)
@@ -46,7 +49,8 @@ cut_along a b (Some x) (Some y) u v e f same alike = cut_both a b x y u v e f (a
 
 -- what stands below a node is that node, or has its parent below it
 pub under_along : (v : ForestView) → IsForest v → (root : ℕ) (r : Seen) → node_at v root ≡ Some r → r.parent ≡ None
-    → (c p : ℕ) (d : Seen) → node_at v c ≡ Some d → d.parent ≡ Some p → under (children_at v) 257 root c ≡ under (children_at v) 257 root p
+    → (c p : ℕ) (d : Seen) → node_at v c ≡ Some d → d.parent ≡ Some p
+    → under (children_at v) 257 root c ≡ under (children_at v) 257 root p
 under_along v laws root r is top c p d at up = walk.under_along (children_at v) (node_at v) laws.present.tree (λ k x e. ap children_of e) root c p r d is top at up
 
 under_own : (v : ForestView) (root : ℕ) → under (children_at v) 257 root root ≡ true
@@ -55,7 +59,8 @@ under_own v root = grind (arith, under_step (children_at v) 257 root root)
 -- ---- a removal
 
 pub was_removed : (old new : ForestView) (name : List ℕ) (r : ℕ) (b : Bool) → (b ≡ false → HasNoLot old name)
-    → (b ≡ true → (root : ℕ) × IsRootOf (node_at old) name root × IsWithout old new root) → IsRootOf (node_at old) name r
+    → (b ≡ true → (root : ℕ) × IsRootOf (node_at old) name root × IsWithout old new root)
+    → IsRootOf (node_at old) name r
     → ((c : ℕ) → IsRootOf (node_at old) name c → c ≡ r) → IsWithout old new r
 was_removed old new name r false absent there is only = absurd (absent refl r is)
 was_removed old new name r true absent there is only = let w = there refl in subst (λ (k : ℕ). IsWithout old new k) (only w.0 w.1) w.2
@@ -67,13 +72,15 @@ module _ (old new : ForestView) (root : ℕ) (r : Seen) (without : IsWithout old
   pub less_after : (c : ℕ) (d : Seen) → node_at new c ≡ Some d → node_at old c ≡ Some d
   less_after c d at = (cut_some (went_under c) (node_at old c) (node_at new c) d (without c) at).1
 
-  pub gone_after : (name : List ℕ) → ((c : ℕ) → IsRootOf (node_at old) name c → c ≡ root) → (c : ℕ) (d : Seen) → IsRootNamed (node_at new) name c d → ⊥
+  pub gone_after : (name : List ℕ) → ((c : ℕ) → IsRootOf (node_at old) name c → c ≡ root) → (c : ℕ) (d : Seen)
+      → IsRootNamed (node_at new) name c d → ⊥
   gone_after name only c d w =
       let x = cut_some (went_under c) (node_at old c) (node_at new c) d (without c) w.0 in
       let same : c ≡ root = only c (d, x.1, w.1, w.2) in
       let z : true ≡ false = sym (under_own old root) ∙ (ap went_under (sym same) ∙ x.0) in absurd (cc)
 
-  pub others_after : (c : ℕ) (d : Seen) → node_at old c ≡ Some d → d.parent ≡ None → (d.node.shape.lot ≡ r.node.shape.lot → ⊥) → node_at new c ≡ Some d
+  pub others_after : (c : ℕ) (d : Seen) → node_at old c ≡ Some d → d.parent ≡ None
+      → (d.node.shape.lot ≡ r.node.shape.lot → ⊥) → node_at new c ≡ Some d
   others_after c d at up other = by_under (went_under c) refl
     where
       by_under : (b : Bool) → went_under c ≡ b → node_at new c ≡ Some d
@@ -83,7 +90,8 @@ module _ (old new : ForestView) (root : ℕ) (r : Seen) (without : IsWithout old
           absurd (other (ap (λ (x : Seen). x.node.shape.lot) z))
       by_under false apart = without c ∙ (ap (λ (b : Bool). if b then None else node_at old c) apart ∙ at)
 
-  pub lost_more : (V : View) (went below : List Moved) → KeepsMark old new → ListsBelow old root below → HasLost V old went → HasLost V new (went ++ below)
+  pub lost_more : (V : View) (went below : List Moved) → KeepsMark old new → ListsBelow old root below
+      → HasLost V old went → HasLost V new (went ++ below)
   lost_more V went below mark listed lost = record {
     marking = mark.0 ∙ lost.marking;
     marked = λ c. mark.1 lost.marking c ∙ lost.marked c;
@@ -119,13 +127,15 @@ module _ (old new : ForestView) (root : ℕ) (r : Seen) (without : IsWithout old
         | inr t ↦ none_some d (sym t ∙ at)
       ]
 
-      to : (m : Moved) → Among m (went ++ below) → (c : ℕ) × (d : Seen) × (V c ≡ Some d) × (node_at new c ≡ None) × (m ≡ moved_of c d)
+      to : (m : Moved) → Among m (went ++ below)
+          → (c : ℕ) × (d : Seen) × (V c ≡ Some d) × (node_at new c ≡ None) × (m ≡ moved_of c d)
       to m h = elim (among_either went below m h) [
         | inl a ↦ (let p = (lost.went.each m).0 a in (p.0, p.1, p.2, cut_none (went_under p.0) (node_at old p.0) (node_at new p.0) (without p.0) p.3, p.4))
         | inr b ↦ (let q = (listed.each m).0 b in (q.0, q.1, known q.0 q.1 q.2 (V q.0) refl, without q.0 ∙ ap (λ (b : Bool). if b then None else node_at old q.0) q.3, q.4))
       ]
 
-      from : (m : Moved) → ((c : ℕ) × (d : Seen) × (V c ≡ Some d) × (node_at new c ≡ None) × (m ≡ moved_of c d)) → Among m (went ++ below)
+      from : (m : Moved) → ((c : ℕ) × (d : Seen) × (V c ≡ Some d) × (node_at new c ≡ None) × (m ≡ moved_of c d))
+          → Among m (went ++ below)
       from m w = elim (lost.rest w.0 w.1 w.2) [
         | inl t ↦ among_right went below m ((listed.each m).1 (w.0, w.1, t, cut_gone (went_under w.0) (node_at old w.0) (node_at new w.0) w.1 (without w.0) t w.3, w.4))
         | inr t ↦ among_left went below m ((lost.went.each m).1 (w.0, w.1, w.2, t, w.4))
@@ -160,8 +170,10 @@ module _ (old new : ForestView) (name : List ℕ) (o : Option ℕ) (each : (c : 
   pub gone_named : (c : ℕ) (d : Seen) → IsRootNamed (node_at new) name c d → ⊥
   gone_named = gone_after old new root root_is.0 without laws root_is.1 root_is.2 name only_root
 
-  pub others_named : (c : ℕ) (d : Seen) → node_at old c ≡ Some d → d.parent ≡ None → (d.node.shape.lot ≡ name → ⊥) → node_at new c ≡ Some d
+  pub others_named : (c : ℕ) (d : Seen) → node_at old c ≡ Some d → d.parent ≡ None → (d.node.shape.lot ≡ name → ⊥)
+      → node_at new c ≡ Some d
   others_named c d at up other = others_after old new root root_is.0 without laws root_is.1 root_is.2 c d at up (λ e. other (e ∙ root_is.3))
 
-  pub lost_named : (V : View) (went below : List Moved) → KeepsMark old new → ListsBelow old root below → HasLost V old went → HasLost V new (went ++ below)
+  pub lost_named : (V : View) (went below : List Moved) → KeepsMark old new → ListsBelow old root below
+      → HasLost V old went → HasLost V new (went ++ below)
   lost_named = lost_more old new root root_is.0 without laws root_is.1 root_is.2

@@ -7,6 +7,7 @@ use Rattle.cga_shape.specs.declared.sources.Sources.{Sources}
 use Rattle.cga_expand.specs.Asked.{on_path, sees}
 use Rattle.cga_rework.specs.Turn.{SeesWhatMeets}
 use Rattle.cga_update.specs.Edit.{asks_by, meets_box, rules_of}
+use Rattle.cga_fraction.proofs.Door.{and_first as left, and_second as right}
 
 flip : (a b : Bool) → (a && b) ≡ (b && a)
 flip true true = refl
@@ -27,14 +28,6 @@ meets_back a b =
     ap (λ k. k && (along_meets a.low.y a.high.y b.low.y b.high.y && along_meets a.low.z a.high.z b.low.z b.high.z)) (along_back a.low.x a.high.x b.low.x b.high.x)
     ∙ (ap (λ k. along_meets b.low.x b.high.x a.low.x a.high.x && (k && along_meets a.low.z a.high.z b.low.z b.high.z)) (along_back a.low.y a.high.y b.low.y b.high.y)
     ∙ ap (λ k. along_meets b.low.x b.high.x a.low.x a.high.x && (along_meets b.low.y b.high.y a.low.y a.high.y && k)) (along_back a.low.z a.high.z b.low.z b.high.z))
-
-left : (a b : Bool) → (a && b) ≡ true → a ≡ true
-left true b h = refl
-left false b h = let z : false ≡ true = h in absurd (cc)
-
-right : (a b : Bool) → (a && b) ≡ true → b ≡ true
-right true b h = h
-right false b h = let z : false ≡ true = h in absurd (cc)
 
 pub sees_what_meets : (new : Sources) → SeesWhatMeets (rules_of new) (asks_by new.grammar) meets_box
 unfolding sees

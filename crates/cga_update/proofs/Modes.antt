@@ -7,12 +7,12 @@ use Rattle.cga_shape.specs.declared.shape.Shape.{Shape}
 use Rattle.cga_shape.specs.declared.sources.Sources.{Sources}
 use Rattle.cga_order.specs.World.{Among}
 use Rattle.cga_derivation.specs.Derivation.{IsDerived, derive, reached}
-use Rattle.cga_derivation.proofs.Lists.{some_same, none_some}
-use Rattle.cga_derivation.proofs.One.{one}
+use Rattle.cga_derivation.proofs.Door.{one}
+use Rattle.cga_expand.proofs.Door.{sources_are_derivations}
+use Rattle.cga_fraction.proofs.Door.{None-not-Some as none_some, same_Some as some_same}
 use Rattle.cga_expand.specs.Children.{Member}
 use Rattle.cga_shape.specs.declared.lot.Lot.{Lot}
 use Rattle.cga_expand.specs.Derivation.{derivation_of, NamesDiffer}
-use Rattle.cga_expand.proofs.Instance.{sources_are_derivations}
 use Rattle.cga_expand.specs.Touched.{Touched}
 use Rattle.cga_update.specs.Updates.{told, instances, CountsTouched, IsChange, IsExact, with_no_lots}
 
@@ -21,7 +21,8 @@ no_lots_derive : (sources : Sources) → derive (derivation_of (with_no_lots sou
 unfolding derive reached
 no_lots_derive sources = refl
 
-pub never_over : (sources nothing : Sources) → nothing ≡ with_no_lots sources → derive (derivation_of nothing) 0 ≡ None → ⊥
+pub never_over : (sources nothing : Sources) → nothing ≡ with_no_lots sources → derive (derivation_of nothing) 0 ≡ None
+    → ⊥
 never_over sources nothing is h =
     let z : Some [] ≡ None = sym (no_lots_derive sources) ∙ (ap (λ (x : Sources). derive (derivation_of x) 0) (sym is) ∙ h) in
     none_some [] (sym z)
@@ -33,7 +34,8 @@ no_lots_end : (sources : Sources) → IsDerived (derivation_of (with_no_lots sou
 unfolding reached
 no_lots_end sources = (0, refl, λ n h. h)
 
-no_lots_reach : (sources : Sources) (list : List Member) → IsDerived (derivation_of (with_no_lots sources)) list → list ≡ []
+no_lots_reach : (sources : Sources) (list : List Member) → IsDerived (derivation_of (with_no_lots sources)) list
+    → list ≡ []
 no_lots_reach sources list d =
     one (derivation_of (with_no_lots sources)) (sources_are_derivations (with_no_lots sources) (no_names sources)) list [] d (no_lots_end sources)
 
@@ -49,7 +51,8 @@ none_counted old new before n h =
     let empty : h.0 ≡ [] = none_among h.0 (λ s among. ((h.2 s).0 among).0.1) in
     h.3 ∙ ap length empty
 
-pub empties : (old nothing : Sources) → nothing ≡ with_no_lots old → (n : ℕ) (changes : Changes) → IsExact old nothing 0 n changes
+pub empties : (old nothing : Sources) → nothing ≡ with_no_lots old → (n : ℕ) (changes : Changes)
+    → IsExact old nothing 0 n changes
     → (n ≡ 0) × IsExact old (with_no_lots old) 0 0 changes
 empties old nothing is n changes exact =
     let e = subst (λ (x : Sources). IsExact old x 0 n changes) is exact in
@@ -77,7 +80,9 @@ module _ (old new : Sources) (differ : old.mode ≢ new.mode) (before after : Li
     none_went : came.gone ≡ []
     none_went = none_among came.gone (λ d h. (came.«record».each_gone d h).0)
 
-    balances : (test : reported.Drawn → Bool) → count_by test (instances before) + count_by test both.come ≡ count_by test (instances after) + count_by test both.gone
+    balances : (test : reported.Drawn → Bool)
+        → count_by test (instances before) + count_by test both.come ≡ count_by test (instances after) + count_by test
+          both.gone
     balances test =
         let a = went.balance test in
         let b = came.balance test in

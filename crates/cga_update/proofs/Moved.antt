@@ -5,7 +5,10 @@ use Rattle.std.specs.declared.cmp.Ordering.TheVariants.{Less, Equal, Greater}
 use Rattle.std.specs.declared.cmp.Ordering.{Ordering}
 use Rattle.std.specs.Ordering.{is_lt}
 use Rattle.cga_frame.specs.Box.{Box, box_of, meets}
-use Rattle.cga_order.proofs.Order.{stamp_total}
+use Rattle.cga_fraction.proofs.Door.{Less_from_is_lt as lt_is, cases_Option as option_cases, eq_or_ne as nat_cases}
+use Rattle.cga_order.proofs.Door.{stamp_total}
+use Rattle.cga_queue.proofs.Door.{on_from, on_to}
+use Rattle.std.proofs.lemmas.Bool.{cases_Bool as bool_cases}
 use Rattle.cga_order.specs.Stamp.{stamp_cmp}
 use Rattle.cga_order.specs.World.{is_instance}
 use Rattle.cga_shape.specs.declared.sources.Sources.{Sources}
@@ -23,16 +26,8 @@ use Rattle.cga_update.specs.Due.{AllCame, ComersAreDue, ComesAfter, HasAskers}
 use Rattle.cga_update.specs.Edit.{content, meets_box, shapes_of}
 use Rattle.cga_update.specs.Follow.{IsComer, IsFollowed}
 use Rattle.cga_update.specs.Queue.{chains_of, due_chain, on_of}
-use Rattle.cga_queue.proofs.Cases.{bool_cases, option_cases}
 use Rattle.cga_update.proofs.DueNodes.{due_is, due_of}
 use Rattle.cga_update.proofs.Moves.{chain_at, not_itself, some_one}
-use Rattle.cga_queue.proofs.OnIt.{on_from, on_to}
-use Rattle.cga_forest.proofs.Books.{nat_cases}
-
-lt_is : (o : Ordering) → is_lt o ≡ true → o ≡ Less
-lt_is Less e = refl
-lt_is Equal e = let x : false ≡ true = e in cc
-lt_is Greater e = let x : false ≡ true = e in cc
 
 -- S and T are two forests, before and after the children of a node were replaced
 module _ (v w : ForestView) (new : Sources) (id : ℕ) (news : List Node) (e now : Seen) (gone : ℕ → Bool) (replaced : IsReplaced fits (node_at v) (node_at w) id news e now gone) (inner : is_instance e.node.kind ≡ false) (still : is_instance now.node.kind ≡ false) (chain : chain_kept now.node ≡ chain_kept e.node) where
@@ -46,7 +41,8 @@ module _ (v w : ForestView) (new : Sources) (id : ℕ) (news : List Node) (e now
     | inr other ↦ kept_due (gone c) refl (replaced.rest c x other a)
   ]
     where
-      kept_due : (g : Bool) → gone c ≡ g → node_at w c ≡ (if gone c then None else Some x) → chains_of w c ≡ chains_of v c
+      kept_due : (g : Bool) → gone c ≡ g → node_at w c ≡ (if gone c then None else Some x)
+          → chains_of w c ≡ chains_of v c
       kept_due true f r = let z : None ≡ Some d = sym (r ∙ ap (λ h. if h then None else Some x) f) ∙ b in cc
       kept_due false f r = ap due_chain (r ∙ ap (λ h. if h then None else Some x) f ∙ sym a)
 
@@ -69,22 +65,27 @@ module _ (v w : ForestView) (new : Sources) (id : ℕ) (news : List Node) (e now
   -- comers: what came since the mark and comes later is on the agenda before
   module _ (was after : AgendaView) (mode : was.mode ≡ new.mode) (change : Change) (went : ListsMoved (node_at v) (node_at w) change.went) (came : ListsMoved (node_at w) (node_at v) change.came) (all_came : Bool) (followed : IsFollowed w id change all_came was after)
       (comers : (c : ℕ) (d : Seen) → node_at v c ≡ Some d → marked_at w c ≡ None → is_instance d.node.kind ≡ false → IsAfter d → on_of v was c ≡ true) (all : all_came ≡ true → AllCame w) where
-    later_in : (c : ℕ) (d : Seen) → node_at w c ≡ Some d → is_instance d.node.kind ≡ false → stamp_cmp new.mode (chain_kept e.node) (chain_kept d.node) ≡ Less → ComesAfter w was.mode id c
+    later_in : (c : ℕ) (d : Seen) → node_at w c ≡ Some d → is_instance d.node.kind ≡ false
+        → stamp_cmp new.mode (chain_kept e.node) (chain_kept d.node) ≡ Less → ComesAfter w was.mode id c
     later_in c d here solid less =
         (λ i. is_later (mode i) (due_is (node_at w id) now replaced.is still i) (due_is (node_at w c) d here solid i)) ∙ ap (λ y. is_lt (stamp_cmp new.mode y (chain_kept d.node))) chain ∙ ap is_lt less
 
-    later_out : (c : ℕ) (d : Seen) → node_at w c ≡ Some d → is_instance d.node.kind ≡ false → ComesAfter w was.mode id c → stamp_cmp new.mode (chain_kept e.node) (chain_kept d.node) ≡ Less
+    later_out : (c : ℕ) (d : Seen) → node_at w c ≡ Some d → is_instance d.node.kind ≡ false → ComesAfter w was.mode id c
+        → stamp_cmp new.mode (chain_kept e.node) (chain_kept d.node) ≡ Less
     later_out c d here solid late =
         lt_is (stamp_cmp new.mode (chain_kept e.node) (chain_kept d.node)) (sym (ap (λ y. is_lt (stamp_cmp new.mode y (chain_kept d.node))) chain) ∙ sym (λ i. is_later (mode i) (due_is (node_at w id) now replaced.is still i) (due_is (node_at w c) d here solid i)) ∙ late)
 
-    still_on : (a : AgendaView) (c : ℕ) (x d : Seen) → node_at v c ≡ Some x → node_at w c ≡ Some d → on_of v a c ≡ true → on_of w a c ≡ true
+    still_on : (a : AgendaView) (c : ℕ) (x d : Seen) → node_at v c ≡ Some x → node_at w c ≡ Some d → on_of v a c ≡ true
+        → on_of w a c ≡ true
     still_on a c x d p q h = let z = on_from (chains_of v) a c h in on_to (chains_of w) a c z.0 (same_due c x d p q ∙ z.1) z.2
 
-    came_on : (c : ℕ) (d : Seen) → node_at v c ≡ None → node_at w c ≡ Some d → is_instance d.node.kind ≡ false → on_of w after c ≡ true
+    came_on : (c : ℕ) (d : Seen) → node_at v c ≡ None → node_at w c ≡ Some d → is_instance d.node.kind ≡ false
+        → on_of w after c ≡ true
     came_on c d none here solid = followed.came (moved_of c d) ((came.each (moved_of c d)).1 (c, d, here, none, refl)) (subst IsSome (sym (due_is (node_at w c) d here solid)) refl)
 
     -- so it is on it after, as is what comes now
-    comer_on : (c : ℕ) (d : Seen) → node_at w c ≡ Some d → marked_at w c ≡ None → is_instance d.node.kind ≡ false → IsAfter d → on_of w after c ≡ true
+    comer_on : (c : ℕ) (d : Seen) → node_at w c ≡ Some d → marked_at w c ≡ None → is_instance d.node.kind ≡ false
+        → IsAfter d → on_of w after c ≡ true
     comer_on c d here unmarked solid less = elim (option_cases (node_at v c)) [
       | inl none ↦ came_on c d none here solid
       | inr p ↦
@@ -93,7 +94,10 @@ module _ (v w : ForestView) (new : Sources) (id : ℕ) (news : List Node) (e now
     ]
 
     -- who asks and meets the box of one of the moved is on the agenda: it came, or was there at the mark
-    seen_by : (b : Box) → (all_came ≡ false → HasAskers w was.mode id b after) → (c : ℕ) (d : Seen) → node_at w c ≡ Some d → is_instance d.node.kind ≡ false → d.node.asks ≡ true → meets (box_of d.node.shape.scope) b ≡ true → stamp_cmp new.mode (chain_kept e.node) (chain_kept d.node) ≡ Less → on_of w after c ≡ true
+    seen_by : (b : Box) → (all_came ≡ false → HasAskers w was.mode id b after) → (c : ℕ) (d : Seen)
+        → node_at w c ≡ Some d → is_instance d.node.kind ≡ false → d.node.asks ≡ true
+        → meets (box_of d.node.shape.scope) b ≡ true → stamp_cmp new.mode (chain_kept e.node) (chain_kept d.node) ≡ Less
+        → on_of w after c ≡ true
     unfolding bounds
     seen_by b has c d here solid asks meet less = elim (option_cases (marked_at w c)) [
       | inl unmarked ↦ comer_on c d here unmarked solid less
@@ -103,10 +107,12 @@ module _ (v w : ForestView) (new : Sources) (id : ℕ) (news : List Node) (e now
       ]
     ]
 
-    was_on : (a : AgendaView) (c : ℕ) (x d : Seen) → node_at v c ≡ Some x → node_at w c ≡ Some d → on_of w a c ≡ true → on_of v a c ≡ true
+    was_on : (a : AgendaView) (c : ℕ) (x d : Seen) → node_at v c ≡ Some x → node_at w c ≡ Some d → on_of w a c ≡ true
+        → on_of v a c ≡ true
     was_on a c x d p q h = let z = on_from (chains_of w) a c h in on_to (chains_of v) a c z.0 (sym (same_due c x d p q) ∙ z.1) z.2
 
-    pub is_moved : IsMoved (shapes_of new) content meets_box (node_at v) (node_at w) e.node (on_of v was) (on_of w after)
+    pub is_moved : IsMoved (shapes_of new) content meets_box (node_at v) (node_at w) e.node (on_of v was)
+          (on_of w after)
     is_moved = record {
       kept = λ c x d p q h. followed.kept c (still_on was c x d p q h);
       came = came_on;
@@ -136,7 +142,9 @@ module _ (v w : ForestView) (new : Sources) (id : ℕ) (news : List Node) (e now
             ap (λ (k : Seen). is_instance k.node.kind) (some_one (node_at w c) d y.0 here y.1) ∙ y.2
 
     -- what is on the agenda after comes later than the node
-    all_after : ((c : ℕ) (d : Seen) → node_at v c ≡ None → node_at w c ≡ Some d → IsAfter d) → ((c : ℕ) (x : Seen) → node_at v c ≡ Some x → on_of v was c ≡ true → IsAfter x) → (c : ℕ) (d : Seen) → node_at w c ≡ Some d → on_of w after c ≡ true → IsAfter d
+    all_after : ((c : ℕ) (d : Seen) → node_at v c ≡ None → node_at w c ≡ Some d → IsAfter d)
+        → ((c : ℕ) (x : Seen) → node_at v c ≡ Some x → on_of v was c ≡ true → IsAfter x) → (c : ℕ) (d : Seen)
+        → node_at w c ≡ Some d → on_of w after c ≡ true → IsAfter d
     all_after born left c d here h = elim (is_moved.only c d here h) [
       | inl p ↦
           let same : Some (chain_kept p.0.node) ≡ Some (chain_kept d.node) = sym (chain_at v was c p.0 p.1 p.2) ∙ sym (same_due c p.0 d p.1 here) ∙ chain_at w after c d here h in
@@ -145,6 +153,7 @@ module _ (v w : ForestView) (new : Sources) (id : ℕ) (news : List Node) (e now
     ]
 
     -- so what came is due after, too
-    pub still_due : ((c : ℕ) (d : Seen) → node_at v c ≡ None → node_at w c ≡ Some d → IsAfter d) → ((c : ℕ) (x : Seen) → node_at v c ≡ Some x → on_of v was c ≡ true → IsAfter x) → ComersAreDue new.mode w after
+    pub still_due : ((c : ℕ) (d : Seen) → node_at v c ≡ None → node_at w c ≡ Some d → IsAfter d)
+        → ((c : ℕ) (x : Seen) → node_at v c ≡ Some x → on_of v was c ≡ true → IsAfter x) → ComersAreDue new.mode w after
     still_due born left b c y d there on here unmarked solid less =
         comer_on c d here unmarked solid ((stamp_total new.mode).trans (chain_kept e.node) (chain_kept y.node) (chain_kept d.node) (all_after born left b y there on) less)

@@ -5,7 +5,8 @@ use Rattle.std.proofs.lemmas.Cmp.{tied_itself}
 use Rattle.cga_order.specs.Chain.{Chain}
 use Rattle.cga_order.specs.Stamp.{stamp_cmp}
 use Rattle.cga_order.specs.World.{is_instance}
-use Rattle.cga_order.proofs.Order.{stamp_total}
+use Rattle.cga_order.proofs.Door.{stamp_total}
+use Rattle.cga_queue.proofs.Door.{on_from}
 use Rattle.cga_shape.specs.declared.sources.Sources.{Sources}
 use Rattle.cga_forest.specs.Node.{chain_kept}
 use Rattle.cga_forest.specs.View.{Seen}
@@ -16,20 +17,21 @@ use Rattle.cga_update.specs.Due.{ComersAreDue}
 use Rattle.cga_update.specs.Edit.{content, shapes_of}
 use Rattle.cga_update.specs.Queue.{chains_of, on_of}
 use Rattle.cga_update.proofs.DueNodes.{due_is, due_of}
-use Rattle.cga_queue.proofs.OnIt.{on_from}
 
 pub some_one : {X : Type 0} (o : Option X) (x y : X) → o ≡ Some x → o ≡ Some y → x ≡ y
 some_one o x y e f = let z : Some x ≡ Some y = sym e ∙ f in cc
 
 -- a node on the agenda is there and is no instance
-pub on_node : (v : ForestView) (a : AgendaView) (c : ℕ) → on_of v a c ≡ true → (d : Seen) × (node_at v c ≡ Some d) × (is_instance d.node.kind ≡ false)
+pub on_node : (v : ForestView) (a : AgendaView) (c : ℕ) → on_of v a c ≡ true
+    → (d : Seen) × (node_at v c ≡ Some d) × (is_instance d.node.kind ≡ false)
 on_node v a c h =
     let z = on_from (chains_of v) a c h in
     let d = due_of (node_at v c) z.0 z.1 in
     (d.0, d.1, d.2)
 
 -- its chain is the one that it is found by
-pub chain_at : (v : ForestView) (a : AgendaView) (c : ℕ) (d : Seen) → node_at v c ≡ Some d → on_of v a c ≡ true → chains_of v c ≡ Some (chain_kept d.node)
+pub chain_at : (v : ForestView) (a : AgendaView) (c : ℕ) (d : Seen) → node_at v c ≡ Some d → on_of v a c ≡ true
+    → chains_of v c ≡ Some (chain_kept d.node)
 chain_at v a c d here h =
     let z = on_node v a c h in
     due_is (node_at v c) d here (ap (λ (x : Seen). is_instance x.node.kind) (some_one (node_at v c) d z.0 here z.1) ∙ z.2)
@@ -37,7 +39,10 @@ chain_at v a c d here h =
 pub not_itself : (x : Chain) (new : Sources) → stamp_cmp new.mode x x ≡ Less → ⊥
 not_itself x new e = let z : Equal ≡ Less = sym (tied_itself (stamp_total new.mode) x) ∙ e in cc
 
-pub is_taken : (v : ForestView) (new : Sources) (old rest : AgendaView) (id : ℕ) (x : Chain) → old.mode ≡ new.mode → IsLeast (chains_of v) old rest id x → (e : Seen) × (is_instance e.node.kind ≡ false) × IsTaken (shapes_of new) content (node_at v) id e (on_of v old) (on_of v rest)
+pub is_taken : (v : ForestView) (new : Sources) (old rest : AgendaView) (id : ℕ) (x : Chain) → old.mode ≡ new.mode
+    → IsLeast (chains_of v) old rest id x
+    → (e : Seen) × (is_instance e.node.kind ≡ false)
+      × IsTaken (shapes_of new) content (node_at v) id e (on_of v old) (on_of v rest)
 is_taken v new old rest id x mode least =
     let e = due_of (node_at v id) x least.here in
     let later = λ (c : ℕ) (d : Seen) (here : node_at v c ≡ Some d) (h : on_of v rest c ≡ true). subst (λ m. stamp_cmp m (chain_kept e.0.node) (chain_kept d.node) ≡ Less) mode (subst (λ y. stamp_cmp old.mode y (chain_kept d.node) ≡ Less) (sym e.3) (least.later c (chain_kept d.node) (chain_at v rest c d here h) h)) in (
@@ -56,14 +61,18 @@ is_taken v new old rest id x mode least =
     )
 
 -- the same of the node that is found under the number
-pub taken_at : (v : ForestView) (new : Sources) (old rest : AgendaView) (id : ℕ) (x : Chain) (e : Seen) → old.mode ≡ new.mode → IsLeast (chains_of v) old rest id x → node_at v id ≡ Some e → (is_instance e.node.kind ≡ false) × IsTaken (shapes_of new) content (node_at v) id e (on_of v old) (on_of v rest)
+pub taken_at : (v : ForestView) (new : Sources) (old rest : AgendaView) (id : ℕ) (x : Chain) (e : Seen)
+    → old.mode ≡ new.mode → IsLeast (chains_of v) old rest id x → node_at v id ≡ Some e
+    → (is_instance e.node.kind ≡ false) × IsTaken (shapes_of new) content (node_at v) id e (on_of v old) (on_of v rest)
 taken_at v new old rest id x e mode least here =
     let z = is_taken v new old rest id x mode least in
     subst (λ (d : Seen). (is_instance d.node.kind ≡ false) × IsTaken (shapes_of new) content (node_at v) id d (on_of v old) (on_of v rest)) (some_one (node_at v id) z.0 e z.2.here here) (z.1, z.2)
 
 -- what came since the mark and comes later than the node stays on the agenda when that is taken
-pub comers_stay : (v : ForestView) (new : Sources) (old rest : AgendaView) (id : ℕ) (x : Chain) (e : Seen) → IsLeast (chains_of v) old rest id x → node_at v id ≡ Some e → ComersAreDue new.mode v old
-    → (c : ℕ) (d : Seen) → node_at v c ≡ Some d → marked_at v c ≡ None → is_instance d.node.kind ≡ false → stamp_cmp new.mode (chain_kept e.node) (chain_kept d.node) ≡ Less → on_of v rest c ≡ true
+pub comers_stay : (v : ForestView) (new : Sources) (old rest : AgendaView) (id : ℕ) (x : Chain) (e : Seen)
+    → IsLeast (chains_of v) old rest id x → node_at v id ≡ Some e → ComersAreDue new.mode v old
+    → (c : ℕ) (d : Seen) → node_at v c ≡ Some d → marked_at v c ≡ None → is_instance d.node.kind ≡ false
+    → stamp_cmp new.mode (chain_kept e.node) (chain_kept d.node) ≡ Less → on_of v rest c ≡ true
 comers_stay v new old rest id x e least at due c d here came solid less = elim (least.stay c (due id c e d at least.there here came solid less)) [
   | inl same ↦ absurd (not_itself (chain_kept e.node) new (subst (λ (y : Seen). stamp_cmp new.mode (chain_kept e.node) (chain_kept y.node) ≡ Less) (some_one (node_at v c) d e here (ap (node_at v) same ∙ at)) less))
   | inr on ↦ on

@@ -7,15 +7,14 @@ use Rattle.std.proofs.Math.Seq.{take-length}
 use Rattle.std.proofs.lemmas.Cmp.{nat_list_eq_equiv}
 use Rattle.std.proofs.lemmas.Map.Views.{lookup-from_Contains}
 use Rattle.std.specs.Map.{lookup}
-use Rattle.cga_order.proofs.Chains.{snoc-same}
-use Rattle.cga_derivation.proofs.Lists.{some_same}
+use Rattle.cga_fraction.proofs.Door.{cases_Option as option_cases, eq_or_ne as nat_cases, same_Some as some_same}
+use Rattle.cga_order.proofs.Door.{snoc-same}
+use Rattle.std.proofs.lemmas.Bool.{or_cases as or_either, or_left, or_right}
 use Rattle.cga_forest.specs.Node.{IsBelow, IsTop}
 use Rattle.cga_forest.specs.View.{Seen}
 use Rattle.cga_forest.specs.Roots.{same_name}
 use Rattle.cga_forest.specs.Standing.{is_above, at_parent}
 use Rattle.cga_forest.specs.Tree.{ForestView, IsForest, node_at, above}
-use Rattle.cga_forest.proofs.Books.{nat_cases}
-use Rattle.cga_queue.proofs.Cases.{option_cases, or_left, or_right, or_either}
 
 snoc_empty : (xs : List ℕ) (i : ℕ) → xs ++ i ∷ [] ≡ [] → ⊥
 snoc_empty xs i e = let z : length (xs ++ i ∷ []) ≡ 0 = ap length e in omega (arith, z, length-append xs (i ∷ []))
@@ -41,7 +40,9 @@ module _ (v : ForestView) (f : IsForest v) where
   T = node_at v
 
   -- the parent of a node, which stands right below it
-  pub parent_of : (c p : ℕ) (d : Seen) → T c ≡ Some d → d.parent ≡ Some p → (e : Seen) × (T p ≡ Some e) × (d.depth ≡ e.depth + 1) × (slice_get e.children d.index ≡ Some c) × IsBelow e.node d.index d.node
+  pub parent_of : (c p : ℕ) (d : Seen) → T c ≡ Some d → d.parent ≡ Some p
+      → (e : Seen) × (T p ≡ Some e) × (d.depth ≡ e.depth + 1) × (slice_get e.children d.index ≡ Some c)
+        × IsBelow e.node d.index d.node
   parent_of c p d t up =
       let u = f.present.tree.up c p d t up in
       let w = f.present.tree.down p d.index c u.0 u.1 u.2 in
@@ -77,14 +78,16 @@ module _ (v : ForestView) (f : IsForest v) where
   abbrev pub SamePlaces : Seen → Seen → Type 0
   SamePlaces d e = (d.node.shape.lot ≡ e.node.shape.lot) × (d.node.shape.path ≡ e.node.shape.path)
 
-  one_top : (c b : ℕ) (d e : Seen) → T c ≡ Some d → T b ≡ Some e → d.parent ≡ None → e.parent ≡ None → d.node.shape.lot ≡ e.node.shape.lot → c ≡ b
+  one_top : (c b : ℕ) (d e : Seen) → T c ≡ Some d → T b ≡ Some e → d.parent ≡ None → e.parent ≡ None
+      → d.node.shape.lot ≡ e.node.shape.lot → c ≡ b
   one_top c b d e t u top top' same =
       let x : lookup (same_name d.node.shape.lot) v.roots ≡ Some c = lookup-from_Contains nat_list_eq_equiv d.node.shape.lot c v.roots f.tops.apart (f.tops.all c d t top) in
       let y : lookup (same_name e.node.shape.lot) v.roots ≡ Some b = lookup-from_Contains nat_list_eq_equiv e.node.shape.lot b v.roots f.tops.apart (f.tops.all b e u top') in
       some_same c b (sym x ∙ ap (λ n. lookup (same_name n) v.roots) same ∙ y)
 
   -- a node with a parent isn't where a root is
-  apart_top : (c b q : ℕ) (d e : Seen) → T c ≡ Some d → T b ≡ Some e → d.parent ≡ None → e.parent ≡ Some q → d.node.shape.path ≡ e.node.shape.path → ⊥
+  apart_top : (c b q : ℕ) (d e : Seen) → T c ≡ Some d → T b ≡ Some e → d.parent ≡ None → e.parent ≡ Some q
+      → d.node.shape.path ≡ e.node.shape.path → ⊥
   apart_top c b q d e t u top up same =
       let w = parent_of b q e u up in
       snoc_empty w.0.node.shape.path e.index (sym w.4.path ∙ sym same ∙ (top_of c d t top).path)
@@ -131,14 +134,16 @@ module _ (v : ForestView) (f : IsForest v) where
   unfolding is_above
   above_same n x c q = or_left (nat_eq x c) (at_parent (is_above T n x) (above (T c))) (eq-eqb x c q)
 
-  above_next : (n x c p : ℕ) (d : Seen) → T c ≡ Some d → d.parent ≡ Some p → is_above T n x p ≡ true → is_above T (suc n) x c ≡ true
+  above_next : (n x c p : ℕ) (d : Seen) → T c ≡ Some d → d.parent ≡ Some p → is_above T n x p ≡ true
+      → is_above T (suc n) x c ≡ true
   unfolding is_above
   above_next n x c p d t up h =
       let o : above (T c) ≡ Some p = ap above t ∙ up in
       or_right (nat_eq x c) (at_parent (is_above T n x) (above (T c))) (ap (at_parent (is_above T n x)) o ∙ h)
 
   -- what stands on the path of a node is above it
-  pub path_above : (n fuel x c : ℕ) (a d : Seen) → d.depth ≡ n → n < fuel → T x ≡ Some a → T c ≡ Some d → OnPath a d → is_above T fuel x c ≡ true
+  pub path_above : (n fuel x c : ℕ) (a d : Seen) → d.depth ≡ n → n < fuel → T x ≡ Some a → T c ≡ Some d → OnPath a d
+      → is_above T fuel x c ≡ true
   path_above n zero x c a d deep less u t on = absurd (omega (arith, less))
   path_above zero (suc fuel) x c a d deep less u t on =
       let size = sized 0 c d t deep in

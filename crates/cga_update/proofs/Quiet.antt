@@ -1,7 +1,8 @@
 -- A turn that changes nothing but the agenda is a turn of the work of the theory.
 use Rattle.std.proofs.Common.{◌≡◌, ◌+◌, ℕ, [], length, refl, sym, ap, ◌∙◌, subst, Bool, false}
 use Rattle.std.proofs.lemmas.List.{append-nil}
-use Rattle.cga_order.proofs.Order.{stamp_total}
+use Rattle.cga_order.proofs.Door.{stamp_total}
+use Rattle.cga_rework.proofs.Door.{lists_are_changes, quiet_turns}
 use Rattle.cga_order.specs.Chain.{Chain}
 use Rattle.cga_order.specs.World.{is_instance}
 use Rattle.cga_agenda.specs.declared.turned.Turned.{Turned}
@@ -11,8 +12,6 @@ use Rattle.cga_rework.specs.Agenda.{AreQueued, IsTaken}
 use Rattle.cga_rework.specs.City.{IsUnderway}
 use Rattle.cga_rework.specs.Ranked.{Ranked}
 use Rattle.cga_rework.specs.Turn.{IsQuietTurn}
-use Rattle.cga_rework.proofs.Changes.{lists_are_changes}
-use Rattle.cga_rework.proofs.Whole.{quiet_turns}
 use Rattle.cga_shape.specs.declared.shape.Shape.{Shape}
 use Rattle.cga_shape.specs.declared.sources.Sources.{Sources}
 use Rattle.cga_expand.specs.Settings.{Setting}
@@ -43,10 +42,13 @@ module _ (was now : Work) (rest : AgendaView) (id : ℕ) (x : Chain) (edit : The
     abbrev e : Seen
     e = turn.node
 
-    taken : (is_instance e.node.kind ≡ false) × IsTaken (shapes_of new) content (node_at was.forest) id e (on_of was.forest was.agenda) (on_of was.forest rest)
+    taken : (is_instance e.node.kind ≡ false)
+          × IsTaken (shapes_of new) content (node_at was.forest) id e (on_of was.forest was.agenda)
+          (on_of was.forest rest)
     taken = taken_at was.forest new was.agenda rest id x e means.agenda_mode least turn.here
 
-    quiet : IsQuietTurn (shapes_of new) content (rules_of was.old.now) (rules_of new) (asks_by new.grammar) (node_at was.forest) (length was.forest.slots) id e (on_of was.forest was.agenda) (on_of was.forest rest)
+    quiet : IsQuietTurn (shapes_of new) content (rules_of was.old.now) (rules_of new) (asks_by new.grammar)
+          (node_at was.forest) (length was.forest.slots) id e (on_of was.forest was.agenda) (on_of was.forest rest)
     quiet = record {
       taken = taken.1;
       inner = taken.0;
@@ -56,9 +58,12 @@ module _ (was now : Work) (rest : AgendaView) (id : ℕ) (x : Chain) (edit : The
       self_asks = turn.asks;
     }
 
-    result : IsUnderway (shapes_of new) content (rules_of new) (asks_by new.grammar) (node_at was.forest) (on_of was.forest rest)
-        × ((requeued : Ranked Shape → Bool) × AreQueued (shapes_of new) content (node_at was.forest) (on_of was.forest rest) requeued
-        × IsTurnOf (the_edit was.old.now new) (kept_nodes was.forest) (kept_nodes was.forest) (ranked e.node) s.queued requeued false)
+    result : IsUnderway (shapes_of new) content (rules_of new) (asks_by new.grammar) (node_at was.forest)
+          (on_of was.forest rest)
+        × ((requeued : Ranked Shape → Bool)
+          × AreQueued (shapes_of new) content (node_at was.forest) (on_of was.forest rest) requeued
+        × IsTurnOf (the_edit was.old.now new) (kept_nodes was.forest) (kept_nodes was.forest) (ranked e.node) s.queued
+          requeued false)
     result = quiet_turns (shapes_of new) content (rules_of was.old.now) (rules_of new) (is_rules_edit was.old.now new means.old_names means.names) (by_symbol new) (asks_by new.grammar) (node_at was.forest) (length was.forest.slots) id e (on_of was.forest was.agenda) (on_of was.forest rest) (kept_bound was.forest) means.underway quiet s.queued means.queued
 
     abbrev after : TheState
@@ -72,7 +77,8 @@ module _ (was now : Work) (rest : AgendaView) (id : ℕ) (x : Chain) (edit : The
     no_calls : (calls since : ℕ) → since ≡ calls + calls_of turned.expanded → since ≡ calls + calls_of false
     no_calls calls since ticks = ticks ∙ ap (λ (t : Turned). calls + calls_of t.expanded) turn.told
 
-    turns : (calls since : ℕ) → since ≡ calls + calls_of turned.expanded → Turns edit s after calls since turned.children
+    turns : (calls since : ℕ) → since ≡ calls + calls_of turned.expanded
+        → Turns edit s after calls since turned.children
     turns calls since ticks =
         let first : Turns (the_edit was.old.now new) (record { nodes = kept_nodes was.forest; queued = s.queued; gone = s.gone; come = s.come }) after calls since turned.children =
         (ranked e.node, false, result.1.2, ([], [], (lists_are_changes {B = Setting}).quiet content (node_at was.forest) (length was.forest.slots), sym (append-nil s.gone), sym (append-nil s.come)), no_children, no_calls calls since ticks) in
@@ -81,7 +87,8 @@ module _ (was now : Work) (rest : AgendaView) (id : ℕ) (x : Chain) (edit : The
 
     -- ---- what it means then
 
-    still_means : (symbols : Symbols) → AreKnown was.old.now.grammar new.grammar symbols.known → Means (record passed { symbols = symbols }) edit after
+    still_means : (symbols : Symbols) → AreKnown was.old.now.grammar new.grammar symbols.known
+        → Means (record passed { symbols = symbols }) edit after
     still_means symbols known = record {
       edit_is = means.edit_is;
       old_names = means.old_names;
@@ -103,5 +110,6 @@ module _ (was now : Work) (rest : AgendaView) (id : ℕ) (x : Chain) (edit : The
       logged = means.logged;
     }
 
-    pub quiet_means : (calls since : ℕ) → since ≡ calls + calls_of turned.expanded → (last : TheState) × Means now edit last × Turns edit s last calls since turned.children
+    pub quiet_means : (calls since : ℕ) → since ≡ calls + calls_of turned.expanded
+        → (last : TheState) × Means now edit last × Turns edit s last calls since turned.children
     quiet_means calls since ticks = (after, subst (λ (w : Work). Means w edit after) (sym turn.stays) (still_means now.symbols turn.known), turns calls since ticks)

@@ -20,14 +20,13 @@ use Rattle.cga_forest.specs.Node.{IsBelow, fits}
 use Rattle.cga_forest.specs.Placing.{Outcome, child_kind, child_node, child_shape, children_after, children_from, emitted, kind_after}
 use Rattle.cga_forest.specs.View.{Seen}
 use Rattle.cga_forest.specs.Tree.{ForestView, IsForest, node_at}
-use Rattle.cga_forest.proofs.Books.{nat_cases}
+use Rattle.cga_fraction.proofs.Door.{cases_Option as option_cases, eq_or_ne as nat_cases, length-map as length_mapped, slice_get_along as emitted_there}
 use Rattle.cga_rework.specs.Ranked.{all_placed}
 use Rattle.cga_rework.specs.Turn.{AreAgain}
 use Rattle.cga_update.specs.Edit.{content}
 use Rattle.cga_update.specs.Means.{ArePriced}
 use Rattle.cga_update.specs.Plain.{IsPlain}
 use Rattle.cga_update.specs.Turned.{IsAgain, emitted_as, emitted_of}
-use Rattle.cga_queue.proofs.Cases.{option_cases}
 use Rattle.cga_update.proofs.Children.{child_at, priced_is}
 
 length_from : (g : Grammar) (n : Node) (k : ℕ) (es : List Emitted) → length (children_from g n k es) ≡ length es
@@ -35,7 +34,9 @@ length_from g n k [] = refl
 length_from g n k (e ∷ es) = let z = length_from g n (k + 1) es in omega (arith, z)
 
 -- child i of a node was emitted as it stands
-shape_again : (n : Node) (i : ℕ) (k : Kind ShapeFault Primitive) (s : Shape) → s.lot ≡ n.shape.lot → s.path ≡ n.shape.path ++ i ∷ [] → (is_instance k ≡ true → s.symbol ≡ n.shape.symbol) → (is_instance k ≡ true → s.args ≡ []) → child_shape n i (emitted_as k s) ≡ s
+shape_again : (n : Node) (i : ℕ) (k : Kind ShapeFault Primitive) (s : Shape) → s.lot ≡ n.shape.lot
+    → s.path ≡ n.shape.path ++ i ∷ [] → (is_instance k ≡ true → s.symbol ≡ n.shape.symbol)
+    → (is_instance k ≡ true → s.args ≡ []) → child_shape n i (emitted_as k s) ≡ s
 shape_again n i Waiting s lot path symbol args = λ j. record { lot = sym lot j; path = sym path j; symbol = s.symbol; args = s.args; scope = s.scope; seed = s.seed }
 shape_again n i Done s lot path symbol args = λ j. record { lot = sym lot j; path = sym path j; symbol = s.symbol; args = s.args; scope = s.scope; seed = s.seed }
 shape_again n i (Faulted f) s lot path symbol args = λ j. record { lot = sym lot j; path = sym path j; symbol = s.symbol; args = s.args; scope = s.scope; seed = s.seed }
@@ -52,12 +53,6 @@ node_shape g n i y = refl
 
 node_kind : (g : Grammar) (n : Node) (i : ℕ) (y : Emitted) → (child_node g n i y).kind ≡ child_kind y
 node_kind g n i y = refl
-
-emitted_there : {X Y : Type 0} (xs : List X) (ys : List Y) (i : ℕ) (x : X) → length xs ≡ length ys → slice_get xs i ≡ Some x → (y : Y) × (slice_get ys i ≡ Some y)
-emitted_there [] ys i x same h = let z : None ≡ Some x = h in cc
-emitted_there (a ∷ xs) [] i x same h = absurd (omega (arith, same))
-emitted_there (a ∷ xs) (b ∷ ys) zero x same h = (b, refl)
-emitted_there (a ∷ xs) (b ∷ ys) (suc i) x same h = emitted_there xs ys i x (omega (arith, same)) h
 
 module _ (v : ForestView) (f : IsForest v) (g : Grammar) (id : ℕ) (e : Seen) (here : node_at v id ≡ Some e) (outcome : Outcome) (again : IsAgain v e outcome) (symbols : (c p : ℕ) (d x : Seen) → node_at v c ≡ Some d → d.parent ≡ Some p → node_at v p ≡ Some x → is_instance d.node.kind ≡ true → d.node.shape.symbol ≡ x.node.shape.symbol) (plain : (c : ℕ) (d : Seen) → node_at v c ≡ Some d → IsPlain d) where
   pub are_again : AreAgain content (node_at v) e (children_after g e.node outcome)
@@ -87,16 +82,19 @@ module _ (v w : ForestView) (f : IsForest v) (id : ℕ) (news : List Node) (e no
   same_seen : (o : Option Seen) (d q : Seen) → o ≡ Some d → o ≡ Some q → d ≡ q
   same_seen o d q t h = let z : Some d ≡ Some q = sym t ∙ h in cc
 
-  kept_seen : (c : ℕ) (d x : Seen) → node_at w c ≡ Some d → node_at v c ≡ Some x → (b : Bool) → gone c ≡ b → node_at w c ≡ (if gone c then None else Some x) → node_at v c ≡ Some d
+  kept_seen : (c : ℕ) (d x : Seen) → node_at w c ≡ Some d → node_at v c ≡ Some x → (b : Bool) → gone c ≡ b
+      → node_at w c ≡ (if gone c then None else Some x) → node_at v c ≡ Some d
   kept_seen c d x t p true q r = let z : None ≡ Some d = sym (r ∙ ap (λ h. if h then None else Some x) q) ∙ t in cc
   kept_seen c d x t p false q r = p ∙ sym (r ∙ ap (λ h. if h then None else Some x) q) ∙ t
 
-  new_seen : (c : ℕ) (d : Seen) (i : ℕ) (n : Node) → node_at w c ≡ Some d → slice_get news i ≡ Some n → IsNewChild (node_at w) id e.depth i n c → Comes d
+  new_seen : (c : ℕ) (d : Seen) (i : ℕ) (n : Node) → node_at w c ≡ Some d → slice_get news i ≡ Some n
+      → IsNewChild (node_at w) id e.depth i n c → Comes d
   new_seen c d i n t at new =
       let same = same_seen (node_at w c) d new.seen t new.here in
       (i, n, at, ap (λ (q : Seen). q.node) same ∙ new.node, ap (λ (q : Seen). q.children) same ∙ new.leaf)
 
-  came_seen : (c : ℕ) (d : Seen) (i : ℕ) → node_at w c ≡ Some d → node_at v c ≡ None → (z : (n : Node) × (slice_get news i ≡ Some n) × IsChildNow (node_at v) (node_at w) id e gone n i c) → Comes d
+  came_seen : (c : ℕ) (d : Seen) (i : ℕ) → node_at w c ≡ Some d → node_at v c ≡ None
+      → (z : (n : Node) × (slice_get news i ≡ Some n) × IsChildNow (node_at v) (node_at w) id e gone n i c) → Comes d
   came_seen c d i t none z = elim z.2 [
     | inl old ↦ (let x = f.present.tree.down id i c e replaced.was old.0 in let y : None ≡ Some x.0 = sym none ∙ x.1 in cc)
     | inr new ↦ new_seen c d i z.0 t z.1 new.1
@@ -114,11 +112,13 @@ module _ (v w : ForestView) (f : IsForest v) (id : ℕ) (news : List Node) (e no
     ]
   ]
 
-bare_child : (g : Grammar) (n : Node) (i : ℕ) (y : Emitted) → is_instance (child_node g n i y).kind ≡ true → (child_node g n i y).shape.args ≡ []
+bare_child : (g : Grammar) (n : Node) (i : ℕ) (y : Emitted) → is_instance (child_node g n i y).kind ≡ true
+    → (child_node g n i y).shape.args ≡ []
 bare_child g n i (Child symbol args scope seed) h = let z : false ≡ true = h in cc
 bare_child g n i (Solid primitive scope seed) h = refl
 
-silent_child : (g : Grammar) (n : Node) (i : ℕ) (y : Emitted) → is_instance (child_node g n i y).kind ≡ true → (child_node g n i y).asks ≡ false
+silent_child : (g : Grammar) (n : Node) (i : ℕ) (y : Emitted) → is_instance (child_node g n i y).kind ≡ true
+    → (child_node g n i y).asks ≡ false
 silent_child g n i (Child symbol args scope seed) h = let z : false ≡ true = h in cc
 silent_child g n i (Solid primitive scope seed) h = refl
 
@@ -134,7 +134,8 @@ module _ (v w : ForestView) (f : IsForest v) (g : Grammar) (id : ℕ) (outcome :
   now_is : is_instance now.node.kind ≡ false
   now_is = ap is_instance kind ∙ not_instance outcome
 
-  pub still_silent : ((c : ℕ) (d : Seen) → node_at v c ≡ Some d → is_instance d.node.kind ≡ true → d.node.asks ≡ false) → (c : ℕ) (d : Seen) → node_at w c ≡ Some d → is_instance d.node.kind ≡ true → d.node.asks ≡ false
+  pub still_silent : ((c : ℕ) (d : Seen) → node_at v c ≡ Some d → is_instance d.node.kind ≡ true → d.node.asks ≡ false)
+      → (c : ℕ) (d : Seen) → node_at w c ≡ Some d → is_instance d.node.kind ≡ true → d.node.asks ≡ false
   still_silent before c d t solid = elim (now_or_was v w f id (children_after g e.node outcome) e now gone replaced c d t) [
     | inl same ↦ (let z : false ≡ true = sym now_is ∙ ap (λ (q : Seen). is_instance q.node.kind) (sym same) ∙ solid in cc)
     | inr r ↦ elim r [
@@ -146,7 +147,8 @@ module _ (v w : ForestView) (f : IsForest v) (g : Grammar) (id : ℕ) (outcome :
     ]
   ]
 
-  pub still_priced : node_at v id ≡ Some e → now.node.shape ≡ e.node.shape → now.node.priority ≡ e.node.priority → is_instance e.node.kind ≡ false → ArePriced g v → ArePriced g w
+  pub still_priced : node_at v id ≡ Some e → now.node.shape ≡ e.node.shape → now.node.priority ≡ e.node.priority
+      → is_instance e.node.kind ≡ false → ArePriced g v → ArePriced g w
   still_priced here shape priority inner before c d t solid = elim (now_or_was v w f id (children_after g e.node outcome) e now gone replaced c d t) [
     | inl same ↦ ap (λ (q : Seen). q.node.priority) same ∙ priority ∙ before id e here inner ∙ ap (λ (s : Shape). priority_of g s.symbol) (sym shape ∙ ap (λ (q : Seen). q.node.shape) (sym same))
     | inr r ↦ elim r [
@@ -157,11 +159,13 @@ module _ (v w : ForestView) (f : IsForest v) (g : Grammar) (id : ℕ) (outcome :
     ]
   ]
 
-  childless_now : (o : Outcome) → now.node.kind ≡ kind_after o → length now.children ≡ length (children_after g e.node o) → (now.node.kind ≡ Done) ⊎ (now.children ≡ [])
+  childless_now : (o : Outcome) → now.node.kind ≡ kind_after o
+      → length now.children ≡ length (children_after g e.node o) → (now.node.kind ≡ Done) ⊎ (now.children ≡ [])
   childless_now (Ok es) k s = inl k
   childless_now (Err fault) k s = inr (none_left now.children s)
 
-  pub still_plain : ((c : ℕ) (d : Seen) → node_at v c ≡ Some d → IsPlain d) → (c : ℕ) (d : Seen) → node_at w c ≡ Some d → IsPlain d
+  pub still_plain : ((c : ℕ) (d : Seen) → node_at v c ≡ Some d → IsPlain d) → (c : ℕ) (d : Seen) → node_at w c ≡ Some d
+      → IsPlain d
   still_plain before c d t = elim (now_or_was v w f id (children_after g e.node outcome) e now gone replaced c d t) [
     | inl same ↦ subst IsPlain (sym same) (record {
       bare = λ solid. (let z : false ≡ true = sym now_is ∙ solid in cc);
@@ -185,10 +189,7 @@ length_placed : (lot path own : List ℕ) (i : ℕ) (es : List Emitted) → leng
 length_placed lot path own i [] = refl
 length_placed lot path own i (e ∷ es) = let z = length_placed lot path own (suc i) es in omega (arith, z)
 
-length_mapped : {X Y : Type 0} (h : X → Y) (xs : List X) → length (map h xs) ≡ length xs
-length_mapped h [] = refl
-length_mapped h (x ∷ xs) = let z = length_mapped h xs in omega (arith, z)
-
-pub count_made : (priority : Shape → ℕ) (above : List ℕ) (s : Shape) (o : Outcome) → length (made_by (all_placed priority above (placed_by s o))) ≡ length (emitted o)
+pub count_made : (priority : Shape → ℕ) (above : List ℕ) (s : Shape) (o : Outcome)
+    → length (made_by (all_placed priority above (placed_by s o))) ≡ length (emitted o)
 count_made priority above s (Ok es) = length_mapped _ _ ∙ length_mapped _ _ ∙ length_placed s.lot s.path s.symbol 0 es
 count_made priority above s (Err fault) = refl

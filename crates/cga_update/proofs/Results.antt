@@ -14,8 +14,10 @@ use Rattle.cga_update.specs.Updates.{IsExact, IsUpdate, StandAsBefore}
 
 module _ (r : Renewal) (before after : Kept) (was now : Changes) (calls since : ℕ) (counted : calls ≤ since) where
   -- where memory is wanting, only calls are counted
-  pub given_up : (result : Result ℕ UpdateRefused) → IsErrAnd result (λ e. e ≡ NoMemory) → since ≤ calls + (r.budget + 2)
-      → (r.old.now.mode ≡ r.new.now.mode → since ≤ calls + (r.budget + 1)) → IsUpdate r before after was now calls since result
+  pub given_up : (result : Result ℕ UpdateRefused) → IsErrAnd result (λ e. e ≡ NoMemory)
+      → since ≤ calls + (r.budget + 2)
+      → (r.old.now.mode ≡ r.new.now.mode → since ≤ calls + (r.budget + 1))
+      → IsUpdate r before after was now calls since result
   given_up (Ok n) none bounded within = absurd none
   given_up (Err e) is bounded within = subst (λ x. IsUpdate r before after was now calls since (Err x)) (sym is) (record {
     stands = tt;
@@ -32,10 +34,12 @@ module _ (r : Renewal) (before after : Kept) (was now : Changes) (calls since : 
   })
 
   module _ (most : since ≤ calls + (r.budget + 1)) where
-    pub given_up_within : (result : Result ℕ UpdateRefused) → IsErrAnd result (λ e. e ≡ NoMemory) → IsUpdate r before after was now calls since result
+    pub given_up_within : (result : Result ℕ UpdateRefused) → IsErrAnd result (λ e. e ≡ NoMemory)
+        → IsUpdate r before after was now calls since result
     given_up_within result none = given_up result none (omega (arith, most)) (λ same. most)
 
-    pub refused : derive (derivation_of r.new.now) r.budget ≡ None → StandAsBefore r.old.now before after → after.dependents ≡ before.dependents → now ≡ was
+    pub refused : derive (derivation_of r.new.now) r.budget ≡ None → StandAsBefore r.old.now before after
+        → after.dependents ≡ before.dependents → now ≡ was
         → IsUpdate r before after was now calls since (Err OverBudget)
     refused over stands dependents changes = record {
       stands = tt;
@@ -68,9 +72,12 @@ module _ (r : Renewal) (before after : Kept) (was now : Changes) (calls since : 
     }
 
 -- what is refused on the way from nothing is refused
-pub refused_anew : (r : Renewal) (nothing : Bor Sources) → nothing.now.mode ≡ r.new.now.mode → (before : Kept) → Stands r.old.now before → (was : Changes) (calls since : ℕ)
-    → (anew made : Kept) (come all : Changes) (e : UpdateRefused) → IsUpdate (record r { old = nothing }) anew made come all calls since (Err e)
-    → (result : Result ℕ UpdateRefused) → IsErrAnd result (λ x. x ≡ e) → IsUpdate r before before was was calls since result
+pub refused_anew : (r : Renewal) (nothing : Bor Sources) → nothing.now.mode ≡ r.new.now.mode → (before : Kept)
+    → Stands r.old.now before → (was : Changes) (calls since : ℕ)
+    → (anew made : Kept) (come all : Changes) (e : UpdateRefused)
+    → IsUpdate (record r { old = nothing }) anew made come all calls since (Err e)
+    → (result : Result ℕ UpdateRefused) → IsErrAnd result (λ x. x ≡ e)
+    → IsUpdate r before before was was calls since result
 refused_anew r nothing same before stood was calls since anew made come all e u (Ok n) none = absurd none
 refused_anew r nothing same before stood was calls since anew made come all OverBudget u (Err x) is =
     subst (λ y. IsUpdate r before before was was calls since (Err y)) (sym is)

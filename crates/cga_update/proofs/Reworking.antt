@@ -24,12 +24,8 @@ use Rattle.cga_derivation.specs.Derivation.{IsDerived, derive}
 use Rattle.cga_rework.specs.Ranked.{Ranked, ranked_world, unranked_drawn}
 use Rattle.cga_rework.specs.Rules as rules
 use Rattle.cga_rework.specs.TreeLaws.{ListsAreViews}
-use Rattle.cga_rework.proofs.Loop.{loop_done}
-use Rattle.cga_rework.proofs.More.{over_none}
-use Rattle.cga_rework.proofs.StandsAgain.{stands_again}
-use Rattle.cga_rework.proofs.Views.{lists_are_views}
-use Rattle.cga_depend.specs.Mentions.{mentioning}
-use Rattle.cga_depend.specs.Pairs.{DependentsView, symbols_in}
+use Rattle.cga_rework.proofs.Door.{lists_are_views, loop_done, over_none, stands_again}
+use Rattle.cga_depend.specs.Pairs.{DependentsView}
 use Rattle.cga_expand.specs.Derivation.{NamesDiffer, derivation_of, made, roots_of}
 use Rattle.cga_expand.specs.Validity.{RootsExist}
 use Rattle.cga_expand.specs.Settings.{Setting}
@@ -49,6 +45,7 @@ use Rattle.cga_update.proofs.Ending.{listed_at_mark, stands_back, stands_done}
 use Rattle.cga_update.proofs.Exact.{changed, counts, same_derivation}
 use Rattle.cga_update.proofs.Exists.{once, stands_derived}
 use Rattle.cga_update.proofs.Nodes.{kept_bound}
+pub use Rattle.cga_fraction.proofs.Door.{IfOk-map as where_ok}
 
 -- ---- as many roots as lots
 
@@ -66,7 +63,8 @@ module _ {X : Type 0} where
   length-each f [] = refl
   length-each f (x ∷ xs) = let r = length-each f xs in omega (arith, r)
 
-roots_are : (lots : List Lot) → AllByRecursion (λ (lot : Lot). IsOk (root_scope lot)) lots → length (roots_of lots) ≡ length lots
+roots_are : (lots : List Lot) → AllByRecursion (λ (lot : Lot). IsOk (root_scope lot)) lots
+    → length (roots_of lots) ≡ length lots
 roots_are [] all = refl
 roots_are (lot ∷ lots) all =
     let one = made_one lot (root_scope lot) refl all.0 in
@@ -103,8 +101,10 @@ told_twice (d ∷ list) = ap (λ rest. told_ranked d ∷ rest) (told_twice list)
 
 module _ (old new : Sources) (mode : old.mode ≡ new.mode) (olds : NamesDiffer old.lots) (names : NamesDiffer new.lots) (kept : Kept) (stood : Stands old kept) where
   -- marked, the forest stands as it did
-  pub marked_stands : RootsExist new.lots → (m : ForestView) → m.marking ≡ true → ((c : ℕ) → node_at m c ≡ node_at kept.forest c)
-      → ((c : ℕ) → marked_at m c ≡ node_at kept.forest c) → m.mode ≡ kept.forest.mode → StandsMarked old new m kept.dependents
+  pub marked_stands : RootsExist new.lots → (m : ForestView) → m.marking ≡ true
+      → ((c : ℕ) → node_at m c ≡ node_at kept.forest c)
+      → ((c : ℕ) → marked_at m c ≡ node_at kept.forest c) → m.mode ≡ kept.forest.mode
+      → StandsMarked old new m kept.dependents
   marked_stands exist m marking present marked moded = record {
     old_names = olds;
     names = names;
@@ -120,7 +120,8 @@ module _ (old new : Sources) (mode : old.mode ≡ new.mode) (olds : NamesDiffer 
   }
 
   -- so the work begins from its nodes
-  pub begun_before : (m : ForestView) → ((c : ℕ) → node_at m c ≡ node_at kept.forest c) → (w : Work) → HasBegun old new m w → HasBegun old new kept.forest w
+  pub begun_before : (m : ForestView) → ((c : ℕ) → node_at m c ≡ node_at kept.forest c) → (w : Work)
+      → HasBegun old new m w → HasBegun old new kept.forest w
   begun_before m present w begun =
       let views : ListsAreViews Node Shape Answers Setting ShapeFault Primitive = lists_are_views in
       let same : kept_nodes m ≡ kept_nodes kept.forest = views.same content (node_at kept.forest) (node_at m) (length kept.forest.slots) (length m.slots) present (kept_bound kept.forest) (λ c x at. kept_bound m c x (present c ∙ at)) in
@@ -148,7 +149,8 @@ module _ (old new : Sources) (mode : old.mode ≡ new.mode) (olds : NamesDiffer 
       same_mode = ended.1.mode ∙ (ap (λ (s : Sources). s.mode) still_new ∙ sym (stood.forest.mode ∙ mode))
 
       -- put back, all stands as before
-      pub put_back : (t : ForestView) (f : DependentsView) → f ≡ kept.dependents → ((c : ℕ) → node_at t c ≡ marked_at w.forest c) → t.marking ≡ false → t.mode ≡ w.forest.mode
+      pub put_back : (t : ForestView) (f : DependentsView) → f ≡ kept.dependents
+          → ((c : ℕ) → node_at t c ≡ marked_at w.forest c) → t.marking ≡ false → t.mode ≡ w.forest.mode
           → StandAsBefore old kept (record { forest = t; dependents = f })
       put_back t f same nodes unmarked moded =
           subst (λ (x : DependentsView). StandAsBefore old kept (record { forest = t; dependents = x })) (sym same)
@@ -159,11 +161,13 @@ module _ (old new : Sources) (mode : old.mode ≡ new.mode) (olds : NamesDiffer 
 
     module _ (k : ℕ) (ended : HasEnded old new kept.forest w budget calls since (Within k)) where
       -- settled, all stands for the new sources
-      pub settled : (t : ForestView) (f : DependentsView) → ((c : ℕ) → node_at t c ≡ node_at w.forest c) → t.marking ≡ false → t.mode ≡ w.forest.mode
-          → ListsView f (node_at w.forest) → ((a : List ℕ) → symbols_in f a ≡ mentioning w.new.now.grammar a) → Stands new (record { forest = t; dependents = f })
-      settled t f nodes unmarked moded lists mentions =
+      pub settled : (t : ForestView) (f : DependentsView) → ((c : ℕ) → node_at t c ≡ node_at w.forest c)
+          → t.marking ≡ false → t.mode ≡ w.forest.mode
+          → ListsView f (node_at w.forest)
+          → Stands new (record { forest = t; dependents = f })
+      settled t f nodes unmarked moded lists =
           subst (λ (s : Sources). Stands s (record { forest = t; dependents = f })) still_new
-          (stands_done w (the_edit old new) ended.0 ended.1 (kept_nodes kept.forest) budget calls since ended.2 t f nodes unmarked moded lists mentions)
+          (stands_done w (the_edit old new) ended.0 ended.1 (kept_nodes kept.forest) budget calls since ended.2 t f nodes unmarked moded lists)
 
       pub exact : HasBegun old new kept.forest was → since ≡ calls + k → (changes : Changes)
           → changes ≡ record { gone = w.gone.items; come = w.come.items } → IsExact old new budget k changes
@@ -183,8 +187,3 @@ module _ (old new : Sources) (mode : old.mode ≡ new.mode) (olds : NamesDiffer 
             counts old new mode before.0 end.0 ended.0.nodes worked ended.0.gone ended.0.come end.2.1 k number,
             changed old new mode before.0 end.0 ended.0.nodes worked ended.0.gone ended.0.come end.2.1 changes gone come,
           )
-
--- what holds of each value holds of the one that came
-pub where_ok : {X E : Type 0} {P Q : X → Type 0} (r : Result X E) → ((x : X) → P x → Q x) → IfOk r P → IfOk r Q
-where_ok (Ok x) then h = then x h
-where_ok (Err e) then h = h

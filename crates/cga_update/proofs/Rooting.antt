@@ -3,7 +3,7 @@ use Rattle.std.proofs.Common.{◌≡◌, ◌⊎◌, inl, inr, ℕ, ◌+◌, ◌<
 use Rattle.std.specs.Prelude.{is_some}
 use Rattle.std.proofs.lemmas.Option.{slice_get_within}
 use Rattle.cga_shape.specs.declared.lot.Lot.{Lot}
-use Rattle.cga_derivation.proofs.Lists.{some_same, none_some}
+use Rattle.cga_fraction.proofs.Door.{None-not-Some as none_some, lt_or_eq_from_lt_suc as at_or_below, same_Some as some_same}
 use Rattle.cga_forest.specs.declared.moved.Moved.{Moved}
 use Rattle.cga_forest.specs.declared.node.Node.{Node}
 use Rattle.cga_depend.specs.Pairs.{DependentsView}
@@ -29,7 +29,8 @@ pub record IsRooted (old new : Sources) (first v : ForestView) (d : DependentsVi
   pub agenda : IsFirst old new v d went came a
 
 -- a node of an equal shape and priority is wanted too
-pub wanted_alike : (new : Sources) (n m : Node) → m.shape ≡ n.shape → m.priority ≡ n.priority → IsWanted new n → IsWanted new m
+pub wanted_alike : (new : Sources) (n m : Node) → m.shape ≡ n.shape → m.priority ≡ n.priority → IsWanted new n
+    → IsWanted new m
 wanted_alike new n m shape priority w = record {
   place = w.place;
   lot = w.lot;
@@ -37,7 +38,8 @@ wanted_alike new n m shape priority w = record {
   root = record { shape = w.root.shape ∙ ap Ok (sym shape); priority = priority ∙ w.root.priority };
 }
 
-pub wanted_after : (new : Sources) (before after : ForestView) → AllWanted new before → Gains new before after → AllWanted new after
+pub wanted_after : (new : Sources) (before after : ForestView) → AllWanted new before → Gains new before after
+    → AllWanted new after
 wanted_after new before after wanted gains c d at up = by_slot (node_at before c) refl
   where
     by_slot : (s : Option Seen) → node_at before c ≡ s → IsWanted new d.node
@@ -46,7 +48,8 @@ wanted_after new before after wanted gains c d at up = by_slot (node_at before c
         let same : e ≡ d = some_same e d (sym (gains.more c e is) ∙ at) in
         subst (λ (x : Seen). IsWanted new x.node) same (wanted c e is (ap (λ (x : Seen). x.parent) same ∙ up))
 
-pub loses_more : (new : Sources) (first before after : ForestView) → Loses new first before → Loses new before after → Loses new first after
+pub loses_more : (new : Sources) (first before after : ForestView) → Loses new first before → Loses new before after
+    → Loses new first after
 loses_more new first before after one two = record {
   less = λ c d at. one.less c d (two.less c d at);
   wanted = λ c d at up w. two.wanted c d (one.wanted c d at up w) up w;
@@ -55,13 +58,13 @@ loses_more new first before after one two = record {
 -- the roots of the first n lots are wanted
 abbrev pub FirstWanted : Sources → List Lot → ForestView → ℕ → Type 0
 FirstWanted new lots f n =
-    (i : ℕ) (lot : Lot) → i < n → slice_get lots i ≡ Some lot → (c : ℕ) (d : Seen) → IsRootNamed (node_at f) lot.name c d → IsWanted new d.node
+    (i : ℕ) (lot : Lot) → i < n → slice_get lots i ≡ Some lot → (c : ℕ) (d : Seen)
+        → IsRootNamed (node_at f) lot.name c d → IsWanted new d.node
 
-at_or_below : (i n : ℕ) → i < n + 1 → (i < n) ⊎ (i ≡ n)
-at_or_below i n le = grind (arith, le)
-
-pub wanted_more : (new : Sources) (lots : List Lot) (before after : ForestView) (n : ℕ) (x : Lot) → slice_get lots n ≡ Some x → Loses new before after
-    → ((c : ℕ) (d : Seen) → IsRootNamed (node_at after) x.name c d → IsWanted new d.node) → FirstWanted new lots before n → FirstWanted new lots after (n + 1)
+pub wanted_more : (new : Sources) (lots : List Lot) (before after : ForestView) (n : ℕ) (x : Lot)
+    → slice_get lots n ≡ Some x → Loses new before after
+    → ((c : ℕ) (d : Seen) → IsRootNamed (node_at after) x.name c d → IsWanted new d.node)
+    → FirstWanted new lots before n → FirstWanted new lots after (n + 1)
 wanted_more new lots before after n x at loses here first i lot lt is c d w = elim (at_or_below i n lt) [
   | inl lower ↦ first i lot lower is c d (loses.less c d w.0, w.1, w.2)
   | inr same ↦ (
@@ -69,7 +72,8 @@ wanted_more new lots before after n x at loses here first i lot lt is c d w = el
       here c d (w.0, w.1, w.2 ∙ ap (λ (l : Lot). l.name) (sym z)))
 ]
 
-pub all_wanted : (new : Sources) (lots lent : List Lot) (first f : ForestView) (n : ℕ) → lent ≡ lots → length lent ≤ n → HasOldLots lots first → Loses new first f → FirstWanted new lots f n → AllWanted new f
+pub all_wanted : (new : Sources) (lots lent : List Lot) (first f : ForestView) (n : ℕ) → lent ≡ lots → length lent ≤ n
+    → HasOldLots lots first → Loses new first f → FirstWanted new lots f n → AllWanted new f
 all_wanted new lots lent first f n same le has loses wanted c d at up =
     let w = has c d (loses.less c d at) up in
     let z = slice_get_within lots w.0 w.1 w.2 in

@@ -8,8 +8,7 @@ use Rattle.cga_derivation.specs.Derivation.{IsDerived}
 use Rattle.cga_agenda.specs.Work.{IsStart}
 use Rattle.cga_rework.specs.Ranked.{Ranked, unranked}
 use Rattle.cga_rework.specs.Exact.{StandsFor}
-use Rattle.cga_rework.proofs.Runs.{unranked-Has, Has-unranked}
-use Rattle.cga_rework.proofs.Stands.{start_stands}
+use Rattle.cga_rework.proofs.Door.{Has-unranked, start_stands, unranked-Has}
 use Rattle.cga_expand.specs.Children.{Member}
 use Rattle.cga_expand.specs.Derivation.{derivation_of, NamesDiffer}
 use Rattle.cga_forest.specs.Tree.{ForestView, node_at}
@@ -20,7 +19,8 @@ use Rattle.cga_update.proofs.Edits.{is_derivation}
 use Rattle.cga_update.proofs.Nodes.{member-node, node-member, kept_bound}
 
 -- the nodes of the forest are what an edit starts from
-pub is_start : (sources : Sources) (v : ForestView) → ForestStands sources v → IsStart (the_edit sources sources) (kept_nodes v)
+pub is_start : (sources : Sources) (v : ForestView) → ForestStands sources v
+    → IsStart (the_edit sources sources) (kept_nodes v)
 is_start sources v stands = stands.nodes.started (length v.slots) (kept_bound v)
 
 -- the kept nodes stand for the derivation

@@ -31,7 +31,8 @@ HasFacts w id facts = (d : Seen) → node_at w.forest id ≡ Some d → Knows w 
 
 abbrev AsksOf : Work → ℕ → Facts → Answers → Type 0
 AsksOf w id facts answers = (old new : Sources) (d : Seen) → w.forest.mode ≡ new.mode → node_at w.forest id ≡ Some d
-    → facts.noparent ≡ asks_for new.grammar d.node.shape.symbol Noparent → facts.active ≡ asks_for new.grammar d.node.shape.symbol Active
+    → facts.noparent ≡ asks_for new.grammar d.node.shape.symbol Noparent
+    → facts.active ≡ asks_for new.grammar d.node.shape.symbol Active
     → answers ≡ kept.asked (new_world (the_edit old new)) (kept_nodes w.forest) (ranked d.node)
 
 abbrev ChangedOf : Work → ℕ → Facts → Answers → Bool → Type 0
@@ -60,7 +61,8 @@ module _ (was : Work) (symbols : Symbols) where
   abbrev mid : Work
   mid = record was { symbols = symbols }
 
-  placed_before : (now : Work) (id : ℕ) (answers : Answers) (outcome : Outcome) → HasPlaced mid now id answers outcome → HasPlaced was now id answers outcome
+  placed_before : (now : Work) (id : ℕ) (answers : Answers) (outcome : Outcome) → HasPlaced mid now id answers outcome
+      → HasPlaced was now id answers outcome
   placed_before now id answers outcome (change, p) = (
     change,
     record {
@@ -81,13 +83,15 @@ module _ (was : Work) (symbols : Symbols) where
     are : AreFacts was.old.now.grammar was.new.now.grammar here.0.node.shape.symbol facts
     are = facts_are here.0 here.1 may.known
 
-    asked_is : answers ≡ kept.asked (new_world (the_edit was.old.now was.new.now)) (kept_nodes was.forest) (ranked here.0.node)
+    asked_is : answers ≡ kept.asked (new_world (the_edit was.old.now was.new.now)) (kept_nodes was.forest)
+          (ranked here.0.node)
     asked_is = asks was.old.now was.new.now here.0 may.mode here.1 are.noparent are.active
 
     known_now : Knows was now.symbols
     known_now = subst (λ s. Knows was s) (sym same_symbols) (known may.known)
 
-    expanded_is : ChangedOf mid id facts answers must → must ≡ true → ExpandsAt mid now id answers turned → IsTurned was now id turned
+    expanded_is : ChangedOf mid id facts answers must → must ≡ true → ExpandsAt mid now id answers turned
+        → IsTurned was now id turned
     expanded_is changed so p = inl (record {
       node = here.0;
       here = here.1;
@@ -106,7 +110,8 @@ module _ (was : Work) (symbols : Symbols) where
       );
     })
 
-    placed_is : SameOf mid id facts answers must → must ≡ false → PlacesAt mid now id answers turned → IsTurned was now id turned
+    placed_is : SameOf mid id facts answers must → must ≡ false → PlacesAt mid now id answers turned
+        → IsTurned was now id turned
     placed_is same so p = inl (record {
       node = here.0;
       here = here.1;
@@ -126,7 +131,9 @@ module _ (was : Work) (symbols : Symbols) where
       );
     })
 
-    quiet_is : SameOf mid id facts answers must → must ≡ false → was.priced ≡ true → here.0.node.asks ≡ (facts.noparent || facts.active) → now ≡ mid → turned ≡ record { children = 0; expanded = false } → IsTurned was now id turned
+    quiet_is : SameOf mid id facts answers must → must ≡ false → was.priced ≡ true
+        → here.0.node.asks ≡ (facts.noparent || facts.active) → now ≡ mid
+        → turned ≡ record { children = 0; expanded = false } → IsTurned was now id turned
     quiet_is same so priced right stays told = inr (record {
       node = here.0;
       here = here.1;
@@ -140,23 +147,32 @@ module _ (was : Work) (symbols : Symbols) where
     })
 
 module _ (was between now : Work) (id : ℕ) (facts : Facts) (answers : Answers) (must : Bool) (r : Result Turned NoMemory) (here : IsHere was id) (rest : between ≡ record was { symbols = between.symbols }) (facts_are : HasFacts was id facts) (known : Knows was was.symbols → Knows was between.symbols) (asks : AsksOf between id facts answers) (same_symbols : now.symbols ≡ between.symbols) where
-  pub expanded_turn : ChangedOf between id facts answers must → must ≡ true → IfOk r (λ turned. ExpandsAt between now id answers turned) → IfOk r (λ turned. MayTurn was → IsTurned was now id turned)
+  pub expanded_turn : ChangedOf between id facts answers must → must ≡ true
+      → IfOk r (λ turned. ExpandsAt between now id answers turned)
+      → IfOk r (λ turned. MayTurn was → IsTurned was now id turned)
   expanded_turn changed so p = at r p
     where
-      at : (o : Result Turned NoMemory) → IfOk o (λ turned. ExpandsAt between now id answers turned) → IfOk o (λ turned. MayTurn was → IsTurned was now id turned)
+      at : (o : Result Turned NoMemory) → IfOk o (λ turned. ExpandsAt between now id answers turned)
+          → IfOk o (λ turned. MayTurn was → IsTurned was now id turned)
       at (Ok turned) q = λ may. expanded_is was between.symbols now id facts answers must turned here facts_are known (subst (λ w. AsksOf w id facts answers) rest asks) same_symbols may (subst (λ w. ChangedOf w id facts answers must) rest changed) so (subst (λ w. ExpandsAt w now id answers turned) rest q)
       at (Err f) q = q
 
-  pub placed_turn : SameOf between id facts answers must → must ≡ false → IfOk r (λ turned. PlacesAt between now id answers turned) → IfOk r (λ turned. MayTurn was → IsTurned was now id turned)
+  pub placed_turn : SameOf between id facts answers must → must ≡ false
+      → IfOk r (λ turned. PlacesAt between now id answers turned)
+      → IfOk r (λ turned. MayTurn was → IsTurned was now id turned)
   placed_turn same so p = at r p
     where
-      at : (o : Result Turned NoMemory) → IfOk o (λ turned. PlacesAt between now id answers turned) → IfOk o (λ turned. MayTurn was → IsTurned was now id turned)
+      at : (o : Result Turned NoMemory) → IfOk o (λ turned. PlacesAt between now id answers turned)
+          → IfOk o (λ turned. MayTurn was → IsTurned was now id turned)
       at (Ok turned) q = λ may. placed_is was between.symbols now id facts answers must turned here facts_are known (subst (λ w. AsksOf w id facts answers) rest asks) same_symbols may (subst (λ w. SameOf w id facts answers must) rest same) so (subst (λ w. PlacesAt w now id answers turned) rest q)
       at (Err f) q = q
 
 -- where all stays
-pub quiet_turn : (was between : Work) (id : ℕ) (facts : Facts) (answers : Answers) (must right : Bool) → IsHere was id → between ≡ record was { symbols = between.symbols } → HasFacts was id facts → (Knows was was.symbols → Knows was between.symbols) → AsksOf between id facts answers
-    → SameOf between id facts answers must → must ≡ false → between.priced ≡ true → RightOf between id facts right → right ≡ true → MayTurn was → IsTurned was between id (record { children = 0; expanded = false })
+pub quiet_turn : (was between : Work) (id : ℕ) (facts : Facts) (answers : Answers) (must right : Bool) → IsHere was id
+    → between ≡ record was { symbols = between.symbols } → HasFacts was id facts
+    → (Knows was was.symbols → Knows was between.symbols) → AsksOf between id facts answers
+    → SameOf between id facts answers must → must ≡ false → between.priced ≡ true → RightOf between id facts right
+    → right ≡ true → MayTurn was → IsTurned was between id (record { children = 0; expanded = false })
 quiet_turn was between id facts answers must right here rest facts_are known asks same so priced asking is may =
     quiet_is was between.symbols between id facts answers must (record { children = 0; expanded = false }) here facts_are known (subst (λ w. AsksOf w id facts answers) rest asks) refl may
     (subst (λ w. SameOf w id facts answers must) rest same) so (sym (ap (λ w. w.priced) rest) ∙ priced) (subst (λ w. RightOf w id facts right) rest asking here.0 here.1 is) rest refl

@@ -4,7 +4,10 @@ use Rattle.std.specs.Prelude.{◌&&◌, is_some, if◌then◌else◌}
 use Rattle.cga_word.specs.declared.answers.Answers.{Answers}
 use Rattle.cga_word.specs.declared.primitive.Primitive.{Primitive}
 use Rattle.std.specs.declared.cmp.Ordering.TheVariants.{Less}
-use Rattle.cga_order.proofs.Chains.{stamp-child}
+use Rattle.cga_forest.proofs.Door.{fits_sound, fits_whole}
+use Rattle.cga_fraction.proofs.Door.{None-not-Some as none_some, cases_Option as option_cases, eq_or_ne as nat_cases, map-append as map_both}
+use Rattle.cga_order.proofs.Door.{stamp-child}
+use Rattle.cga_rework.proofs.Door.{lists_are_changes, node_turns}
 use Rattle.cga_order.specs.Chain.{Chain}
 use Rattle.cga_order.specs.Stamp.{stamp_cmp}
 use Rattle.cga_order.specs.World.{is_instance}
@@ -20,22 +23,17 @@ use Rattle.cga_shape.specs.declared.sources.Sources.{Sources}
 use Rattle.cga_tree.specs.Replaced.{IsReplaced}
 use Rattle.cga_expand.specs.Derivation as expansion
 use Rattle.cga_expand.specs.Derivation.{NamesDiffer}
-use Rattle.cga_derivation.proofs.Lists.{none_some}
 use Rattle.cga_forest.specs.Node.{chain_kept, fits, with_state}
 use Rattle.cga_forest.specs.Placing.{children_after, emitted, state_after}
 use Rattle.cga_forest.specs.View.{Seen}
 use Rattle.cga_forest.specs.Tree.{ForestView, IsForest, Replaces, marked_at, node_at}
 use Rattle.cga_forest.specs.declared.node.Node.{Node}
-use Rattle.cga_forest.proofs.Books.{nat_cases}
-use Rattle.cga_forest.proofs.Equal.{fits_sound, fits_whole}
 use Rattle.cga_rework.specs.Agenda.{AreQueued, IsTaken}
 use Rattle.cga_rework.specs.City.{IsUnderway}
 use Rattle.cga_rework.specs.Ranked.{Ranked}
 use Rattle.cga_rework.specs.Turn.{IsFit, IsNodeTurn}
 use Rattle.cga_rework.specs.Changes.{ListsLost}
 use Rattle.cga_rework.specs.Turn as theory
-use Rattle.cga_rework.proofs.Changes.{lists_are_changes}
-use Rattle.cga_rework.proofs.Whole.{node_turns}
 use Rattle.cga_update.specs.declared.work.Work.{Work}
 use Rattle.cga_queue.specs.Agenda.{AgendaView, IsLeast}
 use Rattle.cga_update.specs.Changed.{AreKnown}
@@ -48,7 +46,6 @@ use Rattle.cga_update.specs.Log.{IsLogged, StayAlike, came_of, drawn_of, is_of, 
 use Rattle.cga_update.specs.Means.{ArePriced, Means, told_ranked}
 use Rattle.cga_update.specs.Queue.{chains_of, on_of}
 use Rattle.cga_update.specs.Turned.{IsPlacing, MayTurn}
-use Rattle.cga_queue.proofs.Cases.{option_cases}
 use Rattle.cga_update.proofs.Children.{are_news, is_outcome, keeps_self, setting_asks}
 use Rattle.cga_update.proofs.Edits.{by_symbol, is_rules_edit}
 use Rattle.cga_update.proofs.Idle.{TheEdit, TheState}
@@ -61,15 +58,13 @@ use Rattle.cga_update.proofs.Meeting.{sees_what_meets}
 use Rattle.cga_update.proofs.Places.{same_node}
 use Rattle.cga_update.proofs.Renewing.{are_again, count_made, still_plain, still_priced, still_silent}
 
-pub may_turn : (w : Work) (rest : AgendaView) (edit : TheEdit) (s : TheState) → Means w edit s → MayTurn (record w { agenda = rest })
+pub may_turn : (w : Work) (rest : AgendaView) (edit : TheEdit) (s : TheState) → Means w edit s
+    → MayTurn (record w { agenda = rest })
 may_turn w rest edit s means = record { mode = means.mode; known = means.known; plain = means.plain }
 
-map_both : {X Y : Type 0} (h : X → Y) (xs ys : List X) → map h (xs ++ ys) ≡ map h xs ++ map h ys
-map_both h [] ys = refl
-map_both h (x ∷ xs) ys = ap (λ l. h x ∷ l) (map_both h xs ys)
-
 -- an expansion makes as many children as were emitted
-expansion_count : (old new : Sources) (n : Ranked Shape) (a : Answers) → length (made_by ((the_edit old new).new.expand n a)) ≡ length (emitted (expand_of new.grammar n.shape a))
+expansion_count : (old new : Sources) (n : Ranked Shape) (a : Answers)
+    → length (made_by ((the_edit old new).new.expand n a)) ≡ length (emitted (expand_of new.grammar n.shape a))
 unfolding expansion.children_of
 expansion_count old new n a = count_made _ _ n.shape (expand_of new.grammar n.shape a)
 
@@ -99,7 +94,8 @@ module _ (was now : Work) (rest : AgendaView) (id : ℕ) (x : Chain) (turned : T
   abbrev news : List Node
   news = children_after g e.node turn.outcome
 
-  taken : (is_instance e.node.kind ≡ false) × IsTaken (shapes_of new) content V id e (on_of was.forest was.agenda) (on_of was.forest rest)
+  taken : (is_instance e.node.kind ≡ false)
+        × IsTaken (shapes_of new) content V id e (on_of was.forest was.agenda) (on_of was.forest rest)
   taken = taken_at was.forest new was.agenda rest id x e means.agenda_mode least turn.here
 
   inner : is_instance e.node.kind ≡ false
@@ -126,7 +122,8 @@ module _ (was now : Work) (rest : AgendaView) (id : ℕ) (x : Chain) (turned : T
   marks_stay : (c : ℕ) → marked_at now.forest c ≡ marked_at was.forest c
   marks_stay = turn.placed.1.bounds.mark.1 means.marked
 
-  comers : (c : ℕ) (d : Seen) → V c ≡ Some d → marked_at now.forest c ≡ None → is_instance d.node.kind ≡ false → IsAfter d → on_of was.forest rest c ≡ true
+  comers : (c : ℕ) (d : Seen) → V c ≡ Some d → marked_at now.forest c ≡ None → is_instance d.node.kind ≡ false
+      → IsAfter d → on_of was.forest rest c ≡ true
   comers c d here came = comers_stay was.forest new was.agenda rest id x e least turn.here means.due c d here (sym (marks_stay c) ∙ came)
 
   all_came : was.all_came ≡ true → AllCame now.forest
@@ -147,11 +144,16 @@ module _ (was now : Work) (rest : AgendaView) (id : ℕ) (x : Chain) (turned : T
         stamp-child new.mode (chain_kept after_e.node) d.index (chain_kept d.node) (turn.placed.1.forest.present.places.chain id after_e replaced.is) (record { lot = b.lot; path = b.path; priorities = (d.node.priority, b.line) })
   ]
 
-  symbols : (c b : ℕ) (d y : Seen) → V c ≡ Some d → d.parent ≡ Some b → V b ≡ Some y → is_instance d.node.kind ≡ true → d.node.shape.symbol ≡ y.node.shape.symbol
+  symbols : (c b : ℕ) (d y : Seen) → V c ≡ Some d → d.parent ≡ Some b → V b ≡ Some y → is_instance d.node.kind ≡ true
+      → d.node.shape.symbol ≡ y.node.shape.symbol
   symbols c b d y t u k solid = (means.underway.city.child c b d y t u k).symbol solid
 
-  told : ((turned.expanded ≡ true) × theory.IsExpanded (shapes_of new) content (rules_of was.old.now) (rules_of new) V (length was.forest.slots) e.node after_e.node news)
-      ⊎ ((turned.expanded ≡ false) × theory.IsRepriced (shapes_of new) content (rules_of was.old.now) (rules_of new) V (length was.forest.slots) e after_e.node news)
+  told : ((turned.expanded ≡ true)
+        × theory.IsExpanded (shapes_of new) content (rules_of was.old.now) (rules_of new) V (length was.forest.slots)
+        e.node after_e.node news)
+      ⊎ ((turned.expanded ≡ false)
+        × theory.IsRepriced (shapes_of new) content (rules_of was.old.now) (rules_of new) V (length was.forest.slots) e
+        after_e.node news)
   told = elim turn.told [
     | inl h ↦ inl (
       h.0,
@@ -173,7 +175,9 @@ module _ (was now : Work) (rest : AgendaView) (id : ℕ) (x : Chain) (turned : T
     )
   ]
 
-  node_turn : IsNodeTurn (shapes_of new) content (rules_of was.old.now) (rules_of new) fits (asks_by g) meets_box V T (length was.forest.slots) id news e after_e gone (on_of was.forest was.agenda) (on_of was.forest rest) (on_of now.forest now.agenda) turned.expanded
+  node_turn : IsNodeTurn (shapes_of new) content (rules_of was.old.now) (rules_of new) fits (asks_by g) meets_box V T
+        (length was.forest.slots) id news e after_e gone (on_of was.forest was.agenda) (on_of was.forest rest)
+        (on_of now.forest now.agenda) turned.expanded
   node_turn = record {
     taken = taken.1;
     replaced = replaced;
@@ -196,13 +200,16 @@ module _ (was now : Work) (rest : AgendaView) (id : ℕ) (x : Chain) (turned : T
 
   -- ---- the record
 
-  one_node : (v : ForestView) → IsForest v → (c b : ℕ) (d y : Seen) → node_at v c ≡ Some d → node_at v b ≡ Some y → d.node.shape ≡ y.node.shape → c ≡ b
+  one_node : (v : ForestView) → IsForest v → (c b : ℕ) (d y : Seen) → node_at v c ≡ Some d → node_at v b ≡ Some y
+      → d.node.shape ≡ y.node.shape → c ≡ b
   one_node v f c b d y t u same = (same_node v f c b d y t u (ap (λ (q : Shape). q.lot) same, ap (λ (q : Shape). q.path) same)).0
 
-  went : (list : List (Drawn (Ranked Shape) Primitive)) × ListsLost content V T list × (map told_ranked list ≡ drawn_of turn.placed.0.went)
+  went : (list : List (Drawn (Ranked Shape) Primitive)) × ListsLost content V T list
+        × (map told_ranked list ≡ drawn_of turn.placed.0.went)
   went = lists_lost V T (one_node was.forest before) turn.placed.0.went turn.placed.1.went
 
-  came : (list : List (Drawn (Ranked Shape) Primitive)) × ListsLost content T V list × (map told_ranked list ≡ drawn_of turn.placed.0.came)
+  came : (list : List (Drawn (Ranked Shape) Primitive)) × ListsLost content T V list
+        × (map told_ranked list ≡ drawn_of turn.placed.0.came)
   came = lists_lost T V (one_node now.forest turn.placed.1.forest) turn.placed.0.came turn.placed.1.came
 
   change : IsChange (kept_nodes was.forest) (kept_nodes now.forest) went.0 came.0
@@ -211,7 +218,8 @@ module _ (was now : Work) (rest : AgendaView) (id : ℕ) (x : Chain) (turned : T
   abbrev after : TheState
   after = record { nodes = kept_nodes now.forest; queued = result.1.0; gone = s.gone ++ went.0; come = s.come ++ came.0 }
 
-  children_is : turned.children ≡ children_of (the_edit was.old.now new) (kept_nodes was.forest) (ranked e.node) turned.expanded
+  children_is : turned.children ≡ children_of (the_edit was.old.now new) (kept_nodes was.forest) (ranked e.node)
+        turned.expanded
   children_is = elim turn.told [
     | inl h ↦ h.1.count ∙ ap (λ o. length (emitted o)) (h.1.value ∙ ap (expand_of g e.node.shape) turn.asked) ∙ sym (expansion_count was.old.now new (ranked e.node) (asked (new_world (the_edit was.old.now new)) (kept_nodes was.forest) (ranked e.node))) ∙ ap (children_of (the_edit was.old.now new) (kept_nodes was.forest) (ranked e.node)) (sym h.0)
     | inr h ↦ h.1.count ∙ ap (children_of (the_edit was.old.now new) (kept_nodes was.forest) (ranked e.node)) (sym h.0)
@@ -238,7 +246,8 @@ module _ (was now : Work) (rest : AgendaView) (id : ℕ) (x : Chain) (turned : T
       kept_one true q r = let z : None ≡ Some y = sym (r ∙ ap (λ h. if h then None else Some d) q) ∙ u in cc
       kept_one false q r = let z : Some y ≡ Some d = sym u ∙ (r ∙ ap (λ h. if h then None else Some d) q) in cc
 
-  log_is : IsLogged (marked_at was.forest) T ((was.log.items ++ went_of turn.placed.0.went) ++ came_of turn.placed.0.came)
+  log_is : IsLogged (marked_at was.forest) T
+        ((was.log.items ++ went_of turn.placed.0.went) ++ came_of turn.placed.0.came)
   log_is = logged_more (marked_at was.forest) V T was.log.items turn.placed.0.went turn.placed.0.came means.logged turn.placed.1.went turn.placed.1.came alike
 
   to_new : (P : Bor Sources → Type 0) → P was.new → P now.new
@@ -274,5 +283,6 @@ module _ (was now : Work) (rest : AgendaView) (id : ℕ) (x : Chain) (turned : T
     logged = λ name c. log_is name c ∙ (λ i. noted_all (sym turn.placed.1.log i) name c (is_of (sym (turn.placed.1.bounds.mark.1 means.marked c) i) name));
   }
 
-  pub turn_means : (calls since : ℕ) → since ≡ calls + calls_of turned.expanded → (last : TheState) × Means now edit last × Turns edit s last calls since turned.children
+  pub turn_means : (calls since : ℕ) → since ≡ calls + calls_of turned.expanded
+      → (last : TheState) × Means now edit last × Turns edit s last calls since turned.children
   turn_means calls since ticks = (after, means_now, turns calls since ticks)

@@ -2,7 +2,7 @@
 use Rattle.std.proofs.Common.{◌≡◌, inl, inr, ℕ, List, sym, ◌∙◌, Option, Some, None, true}
 use Rattle.std.specs.Prelude.{nat_eq}
 use borrow.Author.Tests.{eqb-true}
-use Rattle.cga_derivation.proofs.Lists.{none_some}
+use Rattle.cga_fraction.proofs.Door.{None-not-Some as none_some, cases_Option as option_cases}
 use Rattle.cga_word.specs.declared.mode.Mode.{Mode}
 use Rattle.cga_shape.specs.declared.sources.Sources.{Sources}
 use Rattle.cga_depend.specs.Pairs.{DependentsView}
@@ -13,7 +13,6 @@ use Rattle.cga_forest.specs.Tree.{ForestView, node_at}
 use Rattle.cga_queue.specs.Agenda.{AgendaView}
 use Rattle.cga_update.specs.Due.{ComersAreDue}
 use Rattle.cga_update.proofs.Beginning.{came_on}
-use Rattle.cga_queue.proofs.Cases.{option_cases}
 use Rattle.cga_update.proofs.Counting.{none_shown}
 use Rattle.cga_update.proofs.Rooting.{IsRooted}
 
@@ -21,12 +20,16 @@ pub is_zero : (count nodes : ℕ) → count ≡ nodes → nat_eq count 0 ≡ tru
 is_zero count nodes e f = sym e ∙ eqb-true count 0 f
 
 -- each node came, where there was none before the roots came
-pub all_came : (V : ℕ → Option Seen) (before after : ForestView) → ((c : ℕ) (x : Seen) → V c ≡ Some x → node_at after c ≡ node_at before c) → tally is_shown before.slots ≡ 0 → (c : ℕ) (d : Seen) → node_at after c ≡ Some d → V c ≡ None
+pub all_came : (V : ℕ → Option Seen) (before after : ForestView)
+    → ((c : ℕ) (x : Seen) → V c ≡ Some x → node_at after c ≡ node_at before c) → tally is_shown before.slots ≡ 0
+    → (c : ℕ) (d : Seen) → node_at after c ≡ Some d → V c ≡ None
 all_came V before after still none c d here = elim (option_cases (V c)) [
   | inl e ↦ e
   | inr p ↦ none_some d (sym (none_shown before.slots none c) ∙ (sym (still c p.0 p.1) ∙ here))
 ]
 
 -- what came is on the agenda
-pub first_due : {old new : Sources} {first v : ForestView} {d : DependentsView} {went came : List Moved} {a : AgendaView} → IsRooted old new first v d went came a → (mode : Mode) → ComersAreDue mode v a
+pub first_due : {old new : Sources} {first v : ForestView} {d : DependentsView} {went came : List Moved}
+      {a : AgendaView}
+    → IsRooted old new first v d went came a → (mode : Mode) → ComersAreDue mode v a
 first_due start mode b c e x at on here unmarked solid less = came_on start c x (sym (start.roots.marked c) ∙ unmarked) here

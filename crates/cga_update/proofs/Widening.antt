@@ -9,14 +9,12 @@ use Rattle.cga_fraction.specs.declared.overflow.Overflow.{Overflow}
 use Rattle.cga_fraction.specs.Rat.{Rat, den, of_int}
 use Rattle.cga_fraction.specs.Arithmetic.{plus}
 use Rattle.cga_fraction.specs.Order.{rat_le, rat_lt, positive_part, negative_part}
-use Rattle.cga_fraction.proofs.Laws.{checked_is}
-use Rattle.cga_fraction.proofs.Order.{le_trans, lt_le, lt_of_le_lt, lt_of_lt_le}
-use Rattle.cga_fraction.proofs.Diffs.{itself, lt_diff, of_int_diff, plus_of}
+use Rattle.cga_fraction.proofs.Door.{checked_is, itself, le_trans, lt_diff, lt_le, lt_of_le_lt, lt_of_lt_le, of_int_diff, plus_of}
+use Rattle.cga_frame.proofs.Door.{all_three, holds_trans, meets_touches, tells, three, told}
+use Rattle.std.proofs.lemmas.Bool.{and_from as pair, and_parts as both, or_left as first_of_two}
 use Rattle.cga_frame.specs.Meeting.{IsHull}
 use Rattle.cga_frame.specs.Box.{Box, is_box, meets, touches, holds, along_meets, along_touches, along_holds}
 use Rattle.cga_frame.specs.declared.point.Point.{Point}
-use Rattle.cga_frame.proofs.Boxes.{holds_trans, meets_touches}
-use Rattle.cga_frame.proofs.Flags.{told, tells, both, pair, first_of_two, three, all_three}
 use Rattle.cga_update.specs.Around.{IsAround, IsWider, IsWithin, shifted_by}
 use Rattle.cga_update.proofs.Members.{among_at}
 use Rattle.cga_update.proofs.Nearby.{at_or_below}
@@ -43,7 +41,8 @@ wide_along l h m u p q e w =
     let left = lt_of_lt_le p m h w.above (told (rat_le m h) t.1) in
     first_of_two (rat_lt l q && rat_lt p h) ((rat_le l p && rat_le p l) && (rat_le h q && rat_le q h)) (pair (rat_lt l q) (rat_lt p h) (tells _ right) (tells _ left))
 
-pub wide_meets : (own area wide : Box) → is_box own ≡ true → meets own area ≡ true → IsWider area wide → meets own wide ≡ true
+pub wide_meets : (own area wide : Box) → is_box own ≡ true → meets own area ≡ true → IsWider area wide
+    → meets own wide ≡ true
 unfolding meets touches
 wide_meets own area wide boxed e w =
     let t = three _ _ _ (meets_touches own area boxed e) in
@@ -63,13 +62,15 @@ wider_than hull area wide e w =
 
 -- ---- a box with a margin
 
-margin : (l h low high : Rat) → low ≡ plus l (of_int (negsuc 0)) → high ≡ plus h (of_int (pos 1)) → IsWithin l h low high
+margin : (l h low high : Rat) → low ≡ plus l (of_int (negsuc 0)) → high ≡ plus h (of_int (pos 1))
+    → IsWithin l h low high
 margin l h low high e f = record { above = rw e (one_less l); below = rw f (one_more h) }
 
 ordered : (l h low high : Rat) → rat_le l h ≡ true → IsWithin l h low high → rat_le low high ≡ true
 ordered l h low high e w = tells _ (le_trans low l high (lt_le low l w.above) (le_trans l h high (told _ e) (lt_le h high w.below)))
 
-pub shifted_is : (by : Rat) (p : Point) (x y z : Rat) → Ok x ≡ checked (plus p.x by) → Ok y ≡ checked (plus p.y by) → Ok z ≡ checked (plus p.z by) → record { x = x; y = y; z = z } ≡ shifted_by by p
+pub shifted_is : (by : Rat) (p : Point) (x y z : Rat) → Ok x ≡ checked (plus p.x by) → Ok y ≡ checked (plus p.y by)
+    → Ok z ≡ checked (plus p.z by) → record { x = x; y = y; z = z } ≡ shifted_by by p
 shifted_is by p x y z e f g =
     let a = checked_is (plus p.x by) x (sym e) in
     let b = checked_is (plus p.y by) y (sym f) in
@@ -88,7 +89,8 @@ module _ (inner : Box) (from to low high : Point) (l m : Rat) (same : record { l
         z = margin _ _ _ _ (ap (λ (p : Point). p.z) low_is) (ap (λ (p : Point). p.z) high_is);
       })
 
-  pub wider_is_box : is_box (record { low = from; high = to }) ≡ true → is_box (record { low = low; high = high }) ≡ true
+  pub wider_is_box : is_box (record { low = from; high = to }) ≡ true
+      → is_box (record { low = low; high = high }) ≡ true
   wider_is_box e =
       let w = subst (λ b. IsWider b (record { low = low; high = high })) (sym same) is_wider in
       let t = three (rat_le from.x to.x) (rat_le from.y to.y) (rat_le from.z to.z) e in
@@ -98,19 +100,22 @@ module _ (inner : Box) (from to low high : Point) (l m : Rat) (same : record { l
 abbrev pub HoldsFirst : List Box → ℕ → Box → Type 0
 HoldsFirst areas n hull = (i : ℕ) (area : Box) → i < n → slice_get areas i ≡ Some area → holds hull area ≡ true
 
-pub holds_more : (areas : List Box) (n : ℕ) (x old new : Box) → slice_get areas n ≡ Some x → IsHull old x new → HoldsFirst areas n old → HoldsFirst areas (n + 1) new
+pub holds_more : (areas : List Box) (n : ℕ) (x old new : Box) → slice_get areas n ≡ Some x → IsHull old x new
+    → HoldsFirst areas n old → HoldsFirst areas (n + 1) new
 holds_more areas n x old new at is first i area lt here = elim (at_or_below i n lt) [
   | inl lower ↦ holds_trans new old area is.first (first i area lower here)
   | inr same ↦ (let z : Some x ≡ Some area = sym at ∙ ap (slice_get areas) (sym same) ∙ here in let y : x ≡ area = cc in subst (λ b. holds new b ≡ true) y is.second)
 ]
 
 -- a box with a margin round a hull is round each box that the hull holds
-around_held : (areas : List Box) (n : ℕ) (hull wide : Box) → length areas ≤ n → HoldsFirst areas n hull → IsWider hull wide → IsAround areas wide
+around_held : (areas : List Box) (n : ℕ) (hull wide : Box) → length areas ≤ n → HoldsFirst areas n hull
+    → IsWider hull wide → IsAround areas wide
 around_held areas n hull wide le first w own area boxed h e =
     let at = among_at areas area h in
     let in_list = slice_get_within areas at.0 area at.1 in
     wide_meets own area wide boxed e (wider_than hull area wide (first at.0 area (omega (arith, in_list, le)) at.1) w)
 
-pub is_around : (areas : List Box) (n : ℕ) (hull : Box) (made : Result Box Overflow) → length areas ≤ n → HoldsFirst areas n hull → IfOk made (IsWider hull) → IfSome (result_ok made) (IsAround areas)
+pub is_around : (areas : List Box) (n : ℕ) (hull : Box) (made : Result Box Overflow) → length areas ≤ n
+    → HoldsFirst areas n hull → IfOk made (IsWider hull) → IfSome (result_ok made) (IsAround areas)
 is_around areas n hull (Ok wide) le first w = around_held areas n hull wide le first w
 is_around areas n hull (Err e) le first w = w

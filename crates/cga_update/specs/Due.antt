@@ -19,7 +19,8 @@ ComesAfter v mode of c = is_later mode (chains_of v of) (chains_of v c) ≡ true
 -- each later node that was there at the mark, asks and meets the box is on the agenda
 abbrev pub HasAskers : ForestView → Mode → ℕ → Box → AgendaView → Type 0
 HasAskers v mode of area a =
-    (c : ℕ) (d : Seen) → node_at v c ≡ Some d → IsSome (marked_at v c) → d.node.asks ≡ true → meets (bounds d.node) area ≡ true
+    (c : ℕ) (d : Seen) → node_at v c ≡ Some d → IsSome (marked_at v c) → d.node.asks ≡ true
+        → meets (bounds d.node) area ≡ true
     → ComesAfter v mode of c → on_of v a c ≡ true
 
 -- each later one of these nodes is
@@ -31,7 +32,8 @@ HasLater v mode of ids a =
 abbrev pub ComersAreDue : Mode → ForestView → AgendaView → Type 0
 ComersAreDue mode v a =
     (b c : ℕ) (e d : Seen) → node_at v b ≡ Some e → on_of v a b ≡ true → node_at v c ≡ Some d → marked_at v c ≡ None
-    → is_instance d.node.kind ≡ false → stamp_cmp mode (chain_kept e.node) (chain_kept d.node) ≡ Less → on_of v a c ≡ true
+    → is_instance d.node.kind ≡ false → stamp_cmp mode (chain_kept e.node) (chain_kept d.node) ≡ Less
+    → on_of v a c ≡ true
 
 -- each node came since the mark
 abbrev pub AllCame : ForestView → Type 0

@@ -32,7 +32,8 @@ pub record IsWanted (sources : Sources) (n : Node) : Type 0 where
 pub record AreByName (lots : List Lot) (n : ℕ) (named : List (List ℕ × Lot)) : Type 0 where
   pub only : (name : List ℕ) (lot : Lot) → lookup (same_name name) named ≡ Some lot
       → (lot.name ≡ name) × ((i : ℕ) × (slice_get lots i ≡ Some lot))
-  pub all : (i : ℕ) (lot : Lot) → i < n → slice_get lots i ≡ Some lot → (other : Lot) × (lookup (same_name lot.name) named ≡ Some other)
+  pub all : (i : ℕ) (lot : Lot) → i < n → slice_get lots i ≡ Some lot
+      → (other : Lot) × (lookup (same_name lot.name) named ≡ Some other)
 
 -- the node is there and is a root, of the lot of that name
 abbrev pub IsRootNamed : View → List ℕ → ℕ → Seen → Type 0
@@ -67,7 +68,8 @@ pub record IsRerooted (V : View) (f : ForestView) (list : List Moved) : Type 0 w
 -- nothing came, and what is wanted stays
 pub record Loses (sources : Sources) (before after : ForestView) : Type 0 where
   pub less : (c : ℕ) (d : Seen) → node_at after c ≡ Some d → node_at before c ≡ Some d
-  pub wanted : (c : ℕ) (d : Seen) → node_at before c ≡ Some d → d.parent ≡ None → IsWanted sources d.node → node_at after c ≡ Some d
+  pub wanted : (c : ℕ) (d : Seen) → node_at before c ≡ Some d → d.parent ≡ None → IsWanted sources d.node
+      → node_at after c ≡ Some d
 
 -- each root is wanted
 abbrev pub AllWanted : Sources → ForestView → Type 0

@@ -4,8 +4,7 @@ use Rattle.std.specs.List.{Contains}
 use Rattle.cga_shape.specs.declared.sources.Sources.{Sources}
 use Rattle.cga_order.specs.World.{is_instance}
 use Rattle.cga_rework.specs.City as tree
-use Rattle.cga_depend.specs.Mentions.{mentioning}
-use Rattle.cga_depend.specs.Pairs.{DependentsView, nodes_in, symbols_in}
+use Rattle.cga_depend.specs.Pairs.{DependentsView, nodes_in}
 use Rattle.cga_forest.specs.View.{Seen}
 use Rattle.cga_forest.specs.Tree.{ForestView, node_at}
 use Rattle.cga_update.specs.declared.kept.Kept.{Kept}
@@ -29,10 +28,9 @@ abbrev pub IsOf : ForestView → List ℕ → ℕ → Type 0
 IsOf v symbol c =
     (d : Seen) × (node_at v c ≡ Some d) × (is_instance d.node.kind ≡ false) × (d.node.shape.symbol ≡ symbol)
 
--- the dependents list the nodes of each symbol, and the symbols that mention each attribute
+-- the dependents list the nodes of each symbol
 pub record DependentsStand (sources : Sources) (v : ForestView) (d : DependentsView) : Type 0 where
   pub nodes : (symbol : List ℕ) (c : ℕ) → Contains (nodes_in d symbol) c ↔ IsOf v symbol c
-  pub mentions : (attribute : List ℕ) → symbols_in d attribute ≡ mentioning sources.grammar attribute
 
 -- both are
 pub record Stands (sources : Sources) (kept : Kept) : Type 0 where

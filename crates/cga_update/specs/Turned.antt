@@ -30,7 +30,9 @@ use Rattle.cga_update.specs.Plain.{IsPlain}
 
 -- the node has the outcome and these answers now, and what went and came is noted and followed
 pub record IsPlaced (was now : Work) (id : ℕ) (answers : Answers) (outcome : Outcome) (change : Change) : Type 0 where
-  pub replaced : (e : Seen) → node_at was.forest id ≡ Some e → Replaces (node_at was.forest) (node_at now.forest) id (state_after was.new.now.grammar e.node answers outcome) (children_after was.new.now.grammar e.node outcome)
+  pub replaced : (e : Seen) → node_at was.forest id ≡ Some e
+      → Replaces (node_at was.forest) (node_at now.forest) id (state_after was.new.now.grammar e.node answers outcome)
+        (children_after was.new.now.grammar e.node outcome)
   pub unmarked : (c : ℕ) → node_at was.forest c ≡ None → IsSome (node_at now.forest c) → marked_at was.forest c ≡ None
   pub went : ListsMoved (node_at was.forest) (node_at now.forest) change.went
   pub came : ListsMoved (node_at now.forest) (node_at was.forest) change.came
@@ -64,7 +66,8 @@ fault_in (Instance p) = None
 -- what was emitted for the first so many children of a node
 pub record AreEmitted (v : ForestView) (e : Seen) (n : ℕ) (made : List Emitted) : Type 0 where
   pub sized : length made ≡ n
-  pub each : (i b : ℕ) (y : Emitted) (x : Seen) → slice_get made i ≡ Some y → slice_get e.children i ≡ Some b → node_at v b ≡ Some x
+  pub each : (i b : ℕ) (y : Emitted) (x : Seen) → slice_get made i ≡ Some y → slice_get e.children i ≡ Some b
+      → node_at v b ≡ Some x
       → y ≡ emitted_of x.node
 
 -- the outcome that a node had, if it isn't waiting
@@ -94,7 +97,8 @@ pub record IsPlacing (was now : Work) (id : ℕ) (turned : Turned) : Type 0 wher
   pub node : Seen
   pub here : node_at was.forest id ≡ Some node
   pub answers : Answers
-  pub asked : answers ≡ kept.asked (new_world (the_edit was.old.now was.new.now)) (kept_nodes was.forest) (ranked node.node)
+  pub asked : answers ≡ kept.asked (new_world (the_edit was.old.now was.new.now)) (kept_nodes was.forest)
+        (ranked node.node)
   pub outcome : Outcome
   pub placed : HasPlaced was now id answers outcome
   pub known : AreKnown was.old.now.grammar was.new.now.grammar now.symbols.known
@@ -106,7 +110,8 @@ pub record IsQuiet (was now : Work) (id : ℕ) (turned : Turned) : Type 0 where
   pub node : Seen
   pub here : node_at was.forest id ≡ Some node
   pub done : is_waiting node.node.kind ≡ false
-  pub same : SameAsked was node (kept.asked (new_world (the_edit was.old.now was.new.now)) (kept_nodes was.forest) (ranked node.node))
+  pub same : SameAsked was node
+        (kept.asked (new_world (the_edit was.old.now was.new.now)) (kept_nodes was.forest) (ranked node.node))
   pub asks : node.node.asks ≡ asks_by was.new.now.grammar node.node.shape
   pub priced : was.priced ≡ true
   pub stays : now ≡ record was { symbols = now.symbols }

@@ -25,7 +25,7 @@ impl Anew {
         ensures { IfOk result (IsAnew sources.now) }
     {
         let nothing = without_lots(alloc, sources)?;
-        let kept = kept_of_nothing(alloc, sources)?;
+        let kept = kept_of_nothing(alloc, sources);
         Ok(Anew {
             nothing,
             kept,
@@ -37,16 +37,15 @@ impl Anew {
     }
 }
 
-/// What is kept of sources without their lots. Takes memory.
-fn kept_of_nothing(alloc: Global, sources: &Sources) -> Result<Kept, NoMemory>
-    ensures { IfOk result (Stands (with_no_lots sources.now)) }
+/// What is kept of sources without their lots. Takes no memory.
+fn kept_of_nothing(alloc: Global, sources: &Sources) -> Kept
+    ensures { Stands (with_no_lots sources.now) result }
 {
-    let mut dependents = Dependents::new(alloc);
-    dependents.set_mentions(&sources.grammar)?;
-    Ok(Kept {
+    let dependents = Dependents::new(alloc);
+    Kept {
         forest: Forest::new(alloc, sources.mode),
         dependents,
-    })
+    }
 }
 
 /// The sources without their lots. Takes memory.

@@ -1,7 +1,5 @@
 //! The end of an update within the budget: what the log says is made of the dependents.
 ghost use Rattle.std.specs.Prelude.{◌≡◌, ℕ, List, OnOk, if◌then◌else◌, true, false};
-ghost use Rattle.cga_depend.specs.Mentions.{mentioning};
-ghost use Rattle.cga_depend.specs.Pairs.{symbols_in};
 ghost use Rattle.cga_forest.specs.Tree.{marked_at, node_at};
 ghost use Rattle.cga_update.specs.Applied.{IsApplied, ListsView, lists};
 ghost use Rattle.cga_update.specs.Log.{IsLogged, is_pair, noted};
@@ -12,7 +10,6 @@ use crate::work::Work;
 use cga_depend::Dependents;
 use cga_fraction::{List, NoMemory};
 use cga_index::NodeId;
-use cga_rule::Grammar;
 use cga_shape::Changes;
 use cga_word::Name;
 use std::mem::{replace, swap};
@@ -20,7 +17,6 @@ use std::mem::{replace, swap};
 /// Makes the nodes of each symbol what a log says. Takes memory.
 pub fn apply(dependents: &mut Dependents, log: &[Pairing]) -> Result<(), NoMemory>
     ensures applied { OnOk result (IsApplied log.now dependents.old dependents.new) }
-    ensures mentions { dependents.new.mentions ≡ dependents.old.mentions }
 {
     for entry in log {
         apply_one(dependents, *entry)?;
@@ -30,7 +26,6 @@ pub fn apply(dependents: &mut Dependents, log: &[Pairing]) -> Result<(), NoMemor
 
 fn apply_one(dependents: &mut Dependents, entry: Pairing) -> Result<(), NoMemory>
     ensures noted { OnOk result ((s : List ℕ) (c : ℕ) → lists dependents.new s c ≡ noted entry s c (lists dependents.old s c)) }
-    ensures mentions { dependents.new.mentions ≡ dependents.old.mentions }
 {
     match entry {
         Pairing::Came(symbol, node) => add(dependents, symbol, node),
@@ -43,7 +38,6 @@ fn apply_one(dependents: &mut Dependents, entry: Pairing) -> Result<(), NoMemory
 
 fn add(dependents: &mut Dependents, symbol: Name, node: NodeId) -> Result<(), NoMemory>
     ensures noted { OnOk result ((s : List ℕ) (c : ℕ) → lists dependents.new s c ≡ (if is_pair symbol node s c then true else lists dependents.old s c)) }
-    ensures mentions { dependents.new.mentions ≡ dependents.old.mentions }
 {
     dependents.add(symbol, node)?;
     Ok(())
@@ -52,7 +46,6 @@ fn add(dependents: &mut Dependents, symbol: Name, node: NodeId) -> Result<(), No
 /// Takes a node out of those of a symbol, where it is one.
 fn take_out(dependents: &mut Dependents, symbol: Name, node: NodeId)
     ensures noted { (s : List ℕ) (c : ℕ) → lists dependents.new s c ≡ (if is_pair symbol node s c then false else lists dependents.old s c) }
-    ensures mentions { dependents.new.mentions ≡ dependents.old.mentions }
 {
     let _nodes = dependents.nodes_of(symbol);
     dependents.remove(symbol, node);
@@ -63,12 +56,10 @@ pub fn done(work: Work, kept: &mut Kept, changes: &mut Changes) -> Result<(), No
     requires marked { work.forest.marking ≡ true }
     requires logged { IsLogged (marked_at work.forest) (node_at work.forest) work.log.items }
     requires listed { ListsView kept.old.dependents (marked_at work.forest) }
-    requires mentions { (a : List ℕ) → symbols_in kept.old.dependents a ≡ mentioning work.old.now.grammar a }
     ensures nodes { OnOk result ((c : ℕ) → node_at kept.new.forest c ≡ node_at work.entry.forest c) }
     ensures unmarked { OnOk result (kept.new.forest.marking ≡ false) }
     ensures mode { OnOk result (kept.new.forest.mode ≡ work.entry.forest.mode) }
     ensures listed { OnOk result (ListsView kept.new.dependents (node_at work.entry.forest)) }
-    ensures mentions { OnOk result ((a : List ℕ) → symbols_in kept.new.dependents a ≡ mentioning work.entry.new.now.grammar a) }
     ensures changes { OnOk result (changes.new ≡ record { gone = work.entry.gone.items; come = work.entry.come.items }) }
 {
     let mut work = work;
@@ -82,16 +73,13 @@ fn keep(work: &mut Work, kept: &mut Kept, changes: &mut Changes) -> Result<(), N
     requires marked { work.now.forest.marking ≡ true }
     requires logged { IsLogged (marked_at work.now.forest) (node_at work.now.forest) work.now.log.items }
     requires listed { ListsView kept.old.dependents (marked_at work.now.forest) }
-    requires mentions { (a : List ℕ) → symbols_in kept.old.dependents a ≡ mentioning work.now.old.now.grammar a }
     ensures nodes { OnOk result ((c : ℕ) → node_at kept.new.forest c ≡ node_at work.entry.now.forest c) }
     ensures unmarked { OnOk result (kept.new.forest.marking ≡ false) }
     ensures mode { OnOk result (kept.new.forest.mode ≡ work.entry.now.forest.mode) }
     ensures listed { OnOk result (ListsView kept.new.dependents (node_at work.entry.now.forest)) }
-    ensures mentions { OnOk result ((a : List ℕ) → symbols_in kept.new.dependents a ≡ mentioning work.entry.now.new.now.grammar a) }
     ensures changes { OnOk result (changes.new ≡ record { gone = work.entry.now.gone.items; come = work.entry.now.come.items }) }
 {
     apply(&mut kept.dependents, work.log.as_slice())?;
-    renew_mentions(&mut kept.dependents, &work.old.grammar, &work.new.grammar)?;
     work.forest.settle();
     swap(&mut kept.forest, &mut work.forest);
     *changes = Changes {
@@ -99,18 +87,6 @@ fn keep(work: &mut Work, kept: &mut Kept, changes: &mut Changes) -> Result<(), N
         come: List::from_vec(replace(&mut work.come, Vec::new(work.alloc))),
     };
     Ok(())
-}
-
-/// Makes the mentions those of the new grammar, which most edits leave as it is. Takes memory.
-fn renew_mentions(dependents: &mut Dependents, old: &Grammar, new: &Grammar) -> Result<(), NoMemory>
-    requires mentions { (a : List ℕ) → symbols_in dependents.old a ≡ mentioning old.now a }
-    ensures mentions { OnOk result ((a : List ℕ) → symbols_in dependents.new a ≡ mentioning new.now a) }
-    ensures nodes { dependents.new.nodes ≡ dependents.old.nodes }
-{
-    if *old == *new {
-        return Ok(());
-    }
-    dependents.set_mentions(new)
 }
 
 /// Puts the forest back as it was at the mark. The time goes by what changed since.

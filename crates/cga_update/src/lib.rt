@@ -1,9 +1,10 @@
-//! From one derivation to the next: a kept forest that stands for old sources is made to stand for new
-//! ones, expanding as many shapes as the edit touched.
+//! From one derivation to the next: a kept forest that stands for old sources is made to stand for new ones, expanding
+//! as many shapes as the edit touched.
 //!
-//! It must not know what an edit is, nor how a report is written: it is given old and new sources. What
-//! callers get wrong: after want of memory the forest, the dependents and the record are given up, and
-//! only new ones stand again.
+//! It must not know what an edit is, what a report is or how texts are written.
+//!
+//! What callers get wrong: after want of memory the forest, the dependents and the record are given up, and only new
+//! ones stand again.
 #![tactic(auto)]
 
 mod again;

@@ -14,7 +14,8 @@ length-is_name (first ∷ rest) h =
     let short = ltb-true _ _ (second_so (begins_name first) (nat_lt (length rest) 32) (first_so _ (list_all continues_name rest) h)) in
     omega (arith, short)
 
-pub IsPadded-over_zeros : (name : List ℕ) → is_name name ≡ true → IsPadded (name ++ drop (length name) (replicate 32 0)) (length name)
+pub IsPadded-over_zeros : (name : List ℕ) → is_name name ≡ true
+    → IsPadded (name ++ drop (length name) (replicate 32 0)) (length name)
 IsPadded-over_zeros name h =
     let few = length-is_name name h in
     let rest : drop (length name) (replicate 32 0) ≡ replicate (32 - length name) 0 = drop-replicate (length name) 32 0 in

@@ -5,7 +5,8 @@ use Rattle.std.proofs.lemmas.List.{take-append-drop}
 use Rattle.cga_word.specs.Name.{IsPadded, padded_of}
 use Rattle.cga_word.specs.declared.name.Name.TheInside.{Inside}
 
-pub inverse-view : (n : Inside) → IsPadded n.bytes n.size → ◌≡◌ {A = Inside} (record { bytes = padded_of (take n.size n.bytes); size = length (take n.size n.bytes) }) n
+pub inverse-view : (n : Inside) → IsPadded n.bytes n.size
+    → ◌≡◌ {A = Inside} (record { bytes = padded_of (take n.size n.bytes); size = length (take n.size n.bytes) }) n
 inverse-view n h =
     let few = h.few in
     let size : length (take n.size n.bytes) ≡ n.size = omega (arith, length-take n.size n.bytes, h.long) in

@@ -1,7 +1,8 @@
-//! Names, the small enumerations that rules, shapes and the engine share, and the random words of
-//! shapes. This crate stands on no other of the repository and knows nothing of grammars: a word
-//! that the rule language reserves, as `T`, is a name like any other here, and refusing it is the
-//! parser's matter. Nothing takes memory.
+//! Names, the small enumerations that rules, shapes and the engine share, and the random words of shapes.
+//!
+//! It must not know grammars: a reserved word is a name here. It stands on no other crate of the repository. A word
+//! that the rule language reserves, as `T`, is a name like any other here, and refusing it is the parser's matter.
+//! Nothing takes memory.
 #![tactic(auto)]
 
 mod answer;

@@ -7,6 +7,8 @@ use Rattle.std.specs.Str.Parse.{digits_value, without_leading_plus}
 use Rattle.clap.specs.Words.{Text}
 use Rattle.clap.specs.ValueTests.{accepts}
 use Rattle.clap.specs.declared.builder.value_parser.ValueParser.TheVariants as parser
+use Rattle.std.proofs.lemmas.Bool.{and_parts as both_true}
+use Rattle.cga_fraction.proofs.Door.{eq_or_ne as same_or_other, false_from_not as not_true}
 
 -- a text that doesn't begin with a minus, is in the option's range, and is read as the number
 abbrev pub writes : ℕ → ℕ → ℕ → ℕ → Text → Bool
@@ -34,17 +36,6 @@ towns_write : all_below 200 (λ k. writes 1 200 4294967295 (suc k) (decimal (suc
 unfolding all_below digits
 towns_write = refl
 
-both_true : (a b : Bool) → (a && b) ≡ true → (a ≡ true) × (b ≡ true)
-both_true true b h = (refl, h)
-both_true false b h = absurd (let bad : false ≡ true = h in cc)
-
-not_true : (a : Bool) → not a ≡ true → a ≡ false
-not_true true h = absurd (let bad : false ≡ true = h in cc)
-not_true false h = refl
-
-same_or_other : (i j : ℕ) → (i ≡ j) ⊎ (i ≢ j)
-same_or_other i j = elim (nat_eq i j) as (λ t. (nat_eq i j ≡ t) → (i ≡ j) ⊎ (i ≢ j)) [ true ↦ λ h. inl (grind (arith, nat_tests)) | false ↦ λ h. inr (grind (arith, nat_tests)) ] refl
-
 each_below : (n : ℕ) (p : ℕ → Bool) → all_below n p ≡ true → (k : ℕ) → k < n → p k ≡ true
 unfolding all_below
 each_below zero p e k lt = absurd (omega arith)
@@ -52,7 +43,8 @@ each_below (suc n) p e k lt =
     let both = both_true (p n) (all_below n p) e in
     elim (same_or_other k n) [ inl same ↦ ap p same ∙ both.0 | inr other ↦ each_below n p both.1 k (omega (arith, lt, other)) ]
 
-pub written : (low high most n b : ℕ) (rest : Text) → writes low high most n (b ∷ rest) ≡ true → Writes low high most n b rest
+pub written : (low high most n b : ℕ) (rest : Text) → writes low high most n (b ∷ rest) ≡ true
+    → Writes low high most n b rest
 written low high most n b rest e =
     let first = both_true (not (nat_eq b 45)) _ e in
     let second = both_true (accepts false (parser.Signed (pos low) (pos high)) (b ∷ rest)) _ first.1 in

@@ -1,6 +1,7 @@
-pub mod Bare
-pub mod Numbers
-pub mod Digits
-pub mod Plain
-pub mod Says
-pub mod Within
+mod Bare
+mod Numbers
+mod Digits
+mod Plain
+mod Says
+mod Within
+pub mod Door

@@ -24,7 +24,8 @@ module _ (E : Type 0) (G : List ℕ → Result ℕ E → Type 0) (k most : ℕ) 
         | false ↦ λ e. refl
       ] refl
 
-  pub number_got : (o : Option Text) (r : Option ℕ) → (o ≡ None → r ≡ None) → ((t : List ℕ) → o ≡ Some t → ReadsOne G t r) → r ≡ option_and_then (number_in most) o
+  pub number_got : (o : Option Text) (r : Option ℕ) → (o ≡ None → r ≡ None)
+      → ((t : List ℕ) → o ≡ Some t → ReadsOne G t r) → r ≡ option_and_then (number_in most) o
   number_got None r none value = none refl
   number_got (Some t) r none value = number_read t r (value t refl)
 
@@ -34,7 +35,8 @@ Between low high None = Unit {0}
 Between low high (Some n) = (low ≤ n) × (n ≤ high)
 
 module _ (E : Type 0) (G : List ℕ → Result ℕ E → Type 0) (k low high : ℕ) (only : (u : List ℕ) (x : Result ℕ E) → G u x → ParsesUnsigned k 10 u x) (fits : high < 2 ^ k) where
-  pub read_between : (o : Option Text) (r : Option ℕ) → ((t : Text) → o ≡ Some t → (u : Text) × (t ≡ without_minus u) × IsSignedIn (pos low) (pos high) u)
+  pub read_between : (o : Option Text) (r : Option ℕ)
+      → ((t : Text) → o ≡ Some t → (u : Text) × (t ≡ without_minus u) × IsSignedIn (pos low) (pos high) u)
       → (o ≡ None → r ≡ None) → ((t : List ℕ) → o ≡ Some t → ReadsOne G t r) → Between low high r
   read_between None r within none value = subst (Between low high) (sym (none refl)) tt
   read_between (Some t) r within none value =

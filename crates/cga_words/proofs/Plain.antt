@@ -20,23 +20,29 @@ pub name_alone : (name : Text) → Give (name ∷ []) (Some (codes "6")) None
 unfolding clap_on_literals
 name_alone name = record { pass = refl; decimals_are = refl; town_is = refl }
 
-pub decimals_alone : (name rest : Text) (b : ℕ) → nat_eq b 45 ≡ false → Fits 0 9 (b ∷ rest) → Give (name ∷ codes "--decimals" ∷ (b ∷ rest) ∷ []) (Some (b ∷ rest)) None
+pub decimals_alone : (name rest : Text) (b : ℕ) → nat_eq b 45 ≡ false → Fits 0 9 (b ∷ rest)
+    → Give (name ∷ codes "--decimals" ∷ (b ∷ rest) ∷ []) (Some (b ∷ rest)) None
 unfolding clap_on_literals
 decimals_alone name rest b no_minus fits = let f = simp no_minus at fits in record { pass = simp (no_minus, f); decimals_are = simp no_minus; town_is = simp no_minus }
 
-pub town_alone : (name rest : Text) (b : ℕ) → nat_eq b 45 ≡ false → Fits 1 200 (b ∷ rest) → Give (name ∷ codes "--town" ∷ (b ∷ rest) ∷ []) (Some (codes "6")) (Some (b ∷ rest))
+pub town_alone : (name rest : Text) (b : ℕ) → nat_eq b 45 ≡ false → Fits 1 200 (b ∷ rest)
+    → Give (name ∷ codes "--town" ∷ (b ∷ rest) ∷ []) (Some (codes "6")) (Some (b ∷ rest))
 unfolding clap_on_literals
 town_alone name rest b no_minus fits = let f = simp no_minus at fits in record { pass = simp (no_minus, f); decimals_are = simp no_minus; town_is = simp no_minus }
 
-pub decimals_first : (name rest more : Text) (b c : ℕ) → nat_eq b 45 ≡ false → nat_eq c 45 ≡ false → Fits 0 9 (b ∷ rest) → Fits 1 200 (c ∷ more)
-    → Give (name ∷ codes "--decimals" ∷ (b ∷ rest) ∷ codes "--town" ∷ (c ∷ more) ∷ []) (Some (b ∷ rest)) (Some (c ∷ more))
+pub decimals_first : (name rest more : Text) (b c : ℕ) → nat_eq b 45 ≡ false → nat_eq c 45 ≡ false → Fits 0 9 (b ∷ rest)
+    → Fits 1 200 (c ∷ more)
+    → Give (name ∷ codes "--decimals" ∷ (b ∷ rest) ∷ codes "--town" ∷ (c ∷ more) ∷ []) (Some (b ∷ rest))
+      (Some (c ∷ more))
 unfolding clap_on_literals
 decimals_first name rest more b c no_minus no_minus_more fits fits_more =
     let f = simp no_minus at fits in let m = simp no_minus_more at fits_more in
     record { pass = simp (no_minus, no_minus_more, f, m); decimals_are = simp (no_minus, no_minus_more); town_is = simp (no_minus, no_minus_more) }
 
-pub town_first : (name rest more : Text) (b c : ℕ) → nat_eq b 45 ≡ false → nat_eq c 45 ≡ false → Fits 0 9 (b ∷ rest) → Fits 1 200 (c ∷ more)
-    → Give (name ∷ codes "--town" ∷ (c ∷ more) ∷ codes "--decimals" ∷ (b ∷ rest) ∷ []) (Some (b ∷ rest)) (Some (c ∷ more))
+pub town_first : (name rest more : Text) (b c : ℕ) → nat_eq b 45 ≡ false → nat_eq c 45 ≡ false → Fits 0 9 (b ∷ rest)
+    → Fits 1 200 (c ∷ more)
+    → Give (name ∷ codes "--town" ∷ (c ∷ more) ∷ codes "--decimals" ∷ (b ∷ rest) ∷ []) (Some (b ∷ rest))
+      (Some (c ∷ more))
 unfolding clap_on_literals
 town_first name rest more b c no_minus no_minus_more fits fits_more =
     let f = simp no_minus at fits in let m = simp no_minus_more at fits_more in

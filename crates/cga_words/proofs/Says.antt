@@ -19,7 +19,8 @@ number_read low high most n b rest w = rw w.in_type (ap (λ (i : ℕ). Some i) w
 six : number_in 255 (codes "6") ≡ Some 6
 six = refl
 
-says : (words : List Text) (d t : Option Text) (n : ℕ) (lots : Option ℕ) → Give words d t → unwrap_or (option_and_then (number_in 255) d) 6 ≡ n → n ≤ 9
+says : (words : List Text) (d t : Option Text) (n : ℕ) (lots : Option ℕ) → Give words d t
+    → unwrap_or (option_and_then (number_in 255) d) 6 ≡ n → n ≤ 9
     → option_map (λ i. min (max i 1) 200) (option_and_then (number_in 4294967295) t) ≡ lots → Says words n lots
 unfolding decimals_of town_of
 says words d t n lots g e few h = record {
@@ -28,7 +29,8 @@ says words d t n lots g e few h = record {
   town_is = ap (λ (o : Option Text). option_map (λ i. min (max i 1) 200) (option_and_then (number_in 4294967295) o)) g.town_is ∙ h;
 }
 
-read_decimals : (n b : ℕ) (rest : Text) → Writes 0 9 255 n b rest → unwrap_or (option_and_then (number_in 255) (Some (b ∷ rest))) 6 ≡ n
+read_decimals : (n b : ℕ) (rest : Text) → Writes 0 9 255 n b rest
+    → unwrap_or (option_and_then (number_in 255) (Some (b ∷ rest))) 6 ≡ n
 read_decimals n b rest w = ap (λ (o : Option ℕ). unwrap_or o 6) (number_read 0 9 255 n b rest w)
 
 read_town : (n b : ℕ) (rest : Text) → 1 ≤ n → n ≤ 200 → Writes 1 200 4294967295 n b rest
@@ -38,13 +40,15 @@ read_town n b rest some few w = ap (option_map (λ i. min (max i 1) 200)) (numbe
 alone_says : (name : Text) → Says (name ∷ []) 6 None
 alone_says name = says (name ∷ []) (Some (codes "6")) None 6 None (name_alone name) refl (omega arith) refl
 
-decimals_says : (name x : Text) (n : ℕ) → n ≤ 9 → writes 0 9 255 n x ≡ true → Says (name ∷ codes "--decimals" ∷ x ∷ []) n None
+decimals_says : (name x : Text) (n : ℕ) → n ≤ 9 → writes 0 9 255 n x ≡ true
+    → Says (name ∷ codes "--decimals" ∷ x ∷ []) n None
 decimals_says name [] n few e = absurd (let bad : false ≡ true = e in cc)
 decimals_says name (b ∷ rest) n few e =
     let w = written 0 9 255 n b rest e in
     says _ (Some (b ∷ rest)) None n None (decimals_alone name rest b w.no_minus w.in_range) (read_decimals n b rest w) few refl
 
-town_says : (name y : Text) (k : ℕ) → 1 ≤ k → k ≤ 200 → writes 1 200 4294967295 k y ≡ true → Says (name ∷ codes "--town" ∷ y ∷ []) 6 (Some k)
+town_says : (name y : Text) (k : ℕ) → 1 ≤ k → k ≤ 200 → writes 1 200 4294967295 k y ≡ true
+    → Says (name ∷ codes "--town" ∷ y ∷ []) 6 (Some k)
 town_says name [] k some few e = absurd (let bad : false ≡ true = e in cc)
 town_says name (c ∷ more) k some few e =
     let v = written 1 200 4294967295 k c more e in
@@ -54,7 +58,8 @@ town_says name (c ∷ more) k some few e =
 abbrev both : Bool → Text → Text → Text → List Text
 both first name x y = if first then name ∷ codes "--decimals" ∷ x ∷ codes "--town" ∷ y ∷ [] else name ∷ codes "--town" ∷ y ∷ codes "--decimals" ∷ x ∷ []
 
-both_says : (first : Bool) (name x y : Text) (n k : ℕ) → n ≤ 9 → 1 ≤ k → k ≤ 200 → writes 0 9 255 n x ≡ true → writes 1 200 4294967295 k y ≡ true → Says (both first name x y) n (Some k)
+both_says : (first : Bool) (name x y : Text) (n k : ℕ) → n ≤ 9 → 1 ≤ k → k ≤ 200 → writes 0 9 255 n x ≡ true
+    → writes 1 200 4294967295 k y ≡ true → Says (both first name x y) n (Some k)
 both_says first name [] y n k low some high e f = absurd (let bad : false ≡ true = e in cc)
 both_says first name (b ∷ rest) [] n k low some high e f = absurd (let bad : false ≡ true = f in cc)
 both_says true name (b ∷ rest) (c ∷ more) n k low some high e f =
@@ -66,7 +71,8 @@ both_says false name (b ∷ rest) (c ∷ more) n k low some high e f =
     let v = written 1 200 4294967295 k c more f in
     says _ (Some (b ∷ rest)) (Some (c ∷ more)) n (Some k) (town_first name rest more b c w.no_minus v.no_minus w.in_range v.in_range) (read_decimals n b rest w) low (read_town k c more some high v)
 
-pub plain_says : (name : Text) (first : Bool) (decimals town : Option ℕ) → IsPlain decimals town → Says (plain_words name first decimals town) (unwrap_or decimals 6) town
+pub plain_says : (name : Text) (first : Bool) (decimals town : Option ℕ) → IsPlain decimals town
+    → Says (plain_words name first decimals town) (unwrap_or decimals 6) town
 plain_says name true None None p = alone_says name
 plain_says name false None None p = alone_says name
 plain_says name true (Some n) None p = decimals_says name (decimal n) n p.decimals_fit (decimals_written n p.decimals_fit)

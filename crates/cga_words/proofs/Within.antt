@@ -22,7 +22,8 @@ use Rattle.clap.proofs.CallerLemmas.{added_plain, entry_by_id, same_rules_by_id}
 use Rattle.cga_words.specs.Within.{IsFoundIn}
 
 module _ (old : Command) (m : ArgMatches) (p : IsParsedFrom old m) (k : ℕ) (a : Arg) (lt : k < length (args_of old)) (at : (d : Arg) → slice_index_or (args_of old) k d ≡ a) (unique : (j : ℕ) (e : Arg) → j < length (args_of old) → bytes_eq (slice_index_or (args_of old) j e).id.now a.id.now ≡ true → j ≡ k) (own : IsAuto a → ⊥) (named : a.id.now ≡ [] → ⊥) (q : ValueParser) (has : a.value_parser ≡ Some q) where
-  same_rules : (j : ℕ) (x : Arg) → j < length (args_of p.built) → slice_index_or (args_of p.built) j x ≡ x → bytes_eq x.id.now a.id.now ≡ true → SameRules a x
+  same_rules : (j : ℕ) (x : Arg) → j < length (args_of p.built) → slice_index_or (args_of p.built) j x ≡ x
+      → bytes_eq x.id.now a.id.now ≡ true → SameRules a x
   same_rules j x low is same =
       let here = at a in
       subst (λ (b : Arg). SameRules b x) here
@@ -45,15 +46,19 @@ module _ (old : Command) (m : ArgMatches) (p : IsParsedFrom old m) (k : ℕ) (a 
   Passes : Text → Type 0
   Passes t = (u : Text) × (t ≡ read_as (reading_of q) u) × Accepts a.ignore_case q u
 
-  first_value : (how : Reading) (vs : List (Bor Text)) (t : Text) → how ≡ reading_of q → All (λ v. PassesArg p.built a.id.now v.now) vs
-      → option_map (λ (s : Bor Text). read_as how s.now) (slice_get vs 0) ≡ Some t → (u : Text) × (t ≡ read_as (reading_of q) u) × Accepts a.ignore_case q u
+  first_value : (how : Reading) (vs : List (Bor Text)) (t : Text) → how ≡ reading_of q
+      → All (λ v. PassesArg p.built a.id.now v.now) vs
+      → option_map (λ (s : Bor Text). read_as how s.now) (slice_get vs 0) ≡ Some t
+      → (u : Text) × (t ≡ read_as (reading_of q) u) × Accepts a.ignore_case q u
   first_value how [] t is all e = absurd (cc)
   first_value how (v ∷ vs) t is all e =
       let same : read_as how v.now ≡ t = cc in
       (v.now, sym same ∙ ap (λ (h : Reading). read_as h v.now) is, passed v.now (All-get_or (λ (w : Bor Text). PassesArg p.built a.id.now w.now) (v ∷ vs) 0 v (omega arith) all))
 
-  of_entry : (x : MatchedArg) (e : Entry) (t : Text) → groups_of p.built ≡ [] → e.1 ≡ x → e.0.now ≡ a.id.now → EntryPasses p.built e
-      → option_map (λ (s : Bor Text). read_as x.reading s.now) (slice_get x.vals.items 0) ≡ Some t → (u : Text) × (t ≡ read_as (reading_of q) u) × Accepts a.ignore_case q u
+  of_entry : (x : MatchedArg) (e : Entry) (t : Text) → groups_of p.built ≡ [] → e.1 ≡ x → e.0.now ≡ a.id.now
+      → EntryPasses p.built e
+      → option_map (λ (s : Bor Text). read_as x.reading s.now) (slice_get x.vals.items 0) ≡ Some t
+      → (u : Text) × (t ≡ read_as (reading_of q) u) × Accepts a.ignore_case q u
   of_entry x e t no_groups same_x key pass found =
       let no_group : e.1.is_group ≡ true → ⊥ = λ g. elim (pass.3 g) [
         | inl empty ↦ named (sym key ∙ empty)
@@ -71,7 +76,8 @@ module _ (old : Command) (m : ArgMatches) (p : IsParsedFrom old m) (k : ℕ) (a 
       ] in
       first_value x.reading x.vals.items t (ap (λ (y : MatchedArg). y.reading) (sym same_x) ∙ is) all found
 
-  pub value_passed : IsPlain old → (out-Command old).has_globals ≡ false → (t : Text) → one_text (found_of m) a.id.now ≡ Some t
+  pub value_passed : IsPlain old → (out-Command old).has_globals ≡ false → (t : Text)
+      → one_text (found_of m) a.id.now ≡ Some t
       → (u : Text) × (t ≡ read_as (reading_of q) u) × Accepts a.ignore_case q u
   value_passed plain globals t found = go (matched_of (found_of m) a.id.now) refl found
     where
@@ -116,14 +122,16 @@ module _ (start one two : Command) (a b : Arg) (m : ArgMatches) (first : AddsArg
   apart : first.arg.id.now ≡ second.arg.id.now → ⊥
   apart e = let bad : 8 ≡ 4 = ap length (sym first_id ∙ e ∙ second_id) in absurd (omega (arith, bad))
 
-  first_alone : (j : ℕ) (e : Arg) → j < length (args_of two) → bytes_eq (slice_index_or (args_of two) j e).id.now first.arg.id.now ≡ true → j ≡ 0
+  first_alone : (j : ℕ) (e : Arg) → j < length (args_of two)
+      → bytes_eq (slice_index_or (args_of two) j e).id.now first.arg.id.now ≡ true → j ≡ 0
   first_alone zero e low same = refl
   first_alone (suc zero) e low same =
       let is : bytes_eq second.arg.id.now first.arg.id.now ≡ true = subst (λ (l : List Arg). bytes_eq (slice_index_or l 1 e).id.now first.arg.id.now ≡ true) list same in
       absurd (apart (sym ((bytes_eq-Decides second.arg.id.now first.arg.id.now).0 is)))
   first_alone (suc (suc j)) e low same = absurd (let two_only : length (args_of two) ≡ 2 = ap length list in omega (arith, low, two_only))
 
-  second_alone : (j : ℕ) (e : Arg) → j < length (args_of two) → bytes_eq (slice_index_or (args_of two) j e).id.now second.arg.id.now ≡ true → j ≡ 1
+  second_alone : (j : ℕ) (e : Arg) → j < length (args_of two)
+      → bytes_eq (slice_index_or (args_of two) j e).id.now second.arg.id.now ≡ true → j ≡ 1
   second_alone zero e low same =
       let is : bytes_eq first.arg.id.now second.arg.id.now ≡ true = subst (λ (l : List Arg). bytes_eq (slice_index_or l 0 e).id.now second.arg.id.now ≡ true) list same in
       absurd (apart ((bytes_eq-Decides first.arg.id.now second.arg.id.now).0 is))

@@ -1,7 +1,10 @@
-//! What the program shares with the shell: the words of the command line, the script of the town, which the words may ask
-//! for, and how a run ends, with its exit status and its line on standard error. It knows nothing of what a script says.
-//! The one thing that callers get wrong: words that leave an option out still say its value, so an absent number of
-//! decimals is 6, and only an absent town is None.
+//! What the program shares with the shell: the words of the command line, the script of the town, which the words may
+//! ask for, and how a run ends, with its exit status and its line on standard error.
+//!
+//! It must not know what a script says.
+//!
+//! What callers get wrong: words that leave an option out still say its value, so an absent number of decimals is 6,
+//! and only an absent town is None.
 #![tactic(auto)]
 
 mod exit;

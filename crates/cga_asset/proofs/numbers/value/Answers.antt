@@ -1,5 +1,5 @@
 use Rattle.std.proofs.Common.{◌+◌, ◌*◌, ◌-◌, ◌<◌, length, get_or, arith, refl}
-use Rattle.cga_fraction.proofs.Digits.{after-more, digit_at, digit_range}
+use Rattle.cga_fraction.proofs.Door.{after-more, digit_at, digit_range}
 use Rattle.cga_asset.proofs.Digits.{too_large}
 use Rattle.cga_asset.proofs.numbers.value.Goals as goal
 

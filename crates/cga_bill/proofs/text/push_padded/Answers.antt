@@ -1,5 +1,5 @@
 use Rattle.std.proofs.Common.{arith, refl}
-use Rattle.cga_fraction.proofs.Texts.{padded-step, padded-end}
+use Rattle.cga_fraction.proofs.Door.{padded-end, padded-step}
 use Rattle.cga_bill.proofs.text.push_padded.Goals as goal
 
 pub loop-left-preserved : goal.loop-left-preserved

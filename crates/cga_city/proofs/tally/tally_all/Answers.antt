@@ -1,6 +1,6 @@
 use Rattle.std.proofs.Common.{arith}
 use Rattle.cga_forest.specs.Walked.{forest_tree}
-use Rattle.cga_forest.proofs.Laws.{keeps_laws}
+use Rattle.cga_forest.proofs.Door.{keeps_laws}
 use Rattle.cga_city.proofs.Tallies.{counting_all, room_next, counting_next, counting_end}
 use Rattle.cga_city.proofs.tally.tally_all.Goals as goal
 

@@ -1,5 +1,5 @@
 use Rattle.std.proofs.Common.{refl}
-use Rattle.cga_forest.proofs.Laws.{inside, keeps_laws}
+use Rattle.cga_forest.proofs.Door.{inside, keeps_laws}
 use Rattle.cga_city.proofs.Nodes.{root_deep}
 use Rattle.cga_city.proofs.walk.nodes_of_lot.Goals as goal
 

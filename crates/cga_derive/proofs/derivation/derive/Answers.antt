@@ -13,7 +13,8 @@ use Rattle.cga_derive.proofs.Working.{over, ended-full, stands, rises_to}
 use Rattle.cga_derive.proofs.derivation.derive.Goals as goal
 
 -- at first there are the roots
-first_size : (s : Sources) (list : List Member) (entries : List (StampKey × ℕ)) → IsAfter s 0 list entries → length list ≡ length (roots_of s.lots)
+first_size : (s : Sources) (list : List Member) (entries : List (StampKey × ℕ)) → IsAfter s 0 list entries
+    → length list ≡ length (roots_of s.lots)
 unfolding reached
 first_size s list entries at = ap length at.list_is ∙ length-map (roots_of s.lots) _
 

@@ -1,6 +1,6 @@
 use Rattle.std.proofs.Common.{◌≡◌, ◌∙◌, ℕ, List, [], ◌∷◌, ◌++◌, ap, sym, subst}
 use Rattle.cga_order.specs.Head.{IsHead, child_head}
-use Rattle.cga_order.proofs.ChildHeads.{child_is_head}
+use Rattle.cga_order.proofs.Door.{child_is_head}
 use Rattle.cga_shape.specs.declared.shape.Shape.{Shape}
 use Rattle.cga_forest.specs.declared.setting.Setting.{Setting}
 use Rattle.cga_forest.specs.Placing.{child_asks, child_shape, setting}

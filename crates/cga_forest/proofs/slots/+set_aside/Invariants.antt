@@ -10,6 +10,7 @@ decreases-set_aside l = l.left
 abbrev pub invariant-loop-place : goal.invariant-loop-place
 invariant-loop-place l = record {
   counted : l.count ≡ length (kids (at l.fn.store l.id));
-  so_far : (c : ℕ) → at l.store c ≡ flag_if (nat_eq l.id c || list_any (λ k. under (λ d. kids (at l.fn.store d)) (l.left - 1) k c) (take l.place (kids (at l.fn.store l.id)))) (at l.fn.store c);
+  so_far : (c : ℕ)
+      → at l.store c ≡ flag_if (nat_eq l.id c || list_any (λ k. under (λ d. kids (at l.fn.store d)) (l.left - 1) k c) (take l.place (kids (at l.fn.store l.id)))) (at l.fn.store c);
   room : KeepsRoom l.fn.store l.store;
 }

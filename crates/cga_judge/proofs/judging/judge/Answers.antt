@@ -1,7 +1,7 @@
 use Rattle.std.proofs.Common.{◌≡◌, ◌+◌, suc, List, ◌∷◌, [], ◌++◌, take, true, false, refl, Some, sym, ap, ◌∙◌, subst, arith}
 use Rattle.std.specs.Prelude.{slice_get}
 use Rattle.cga_derivation.specs.Derivation.{reached}
-use Rattle.cga_derivation.proofs.Lists.{some_same}
+use Rattle.cga_fraction.proofs.Door.{same_Some as some_same}
 use Rattle.cga_shape.specs.declared.trace_step.TraceStep.{TraceStep}
 use Rattle.cga_expand.specs.Derivation.{derivation_of}
 use Rattle.cga_expand.specs.Run.{traced, run_to, IsRun}

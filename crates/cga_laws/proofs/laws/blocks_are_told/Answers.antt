@@ -1,4 +1,4 @@
-use Rattle.cga_top.proofs.Asks.{rules_told, city_told}
+use Rattle.cga_top.proofs.Door.{city_told, rules_told}
 use Rattle.cga_laws.proofs.laws.blocks_are_told.Goals as goal
 
 pub returns-clause-rules : goal.returns-clause-rules

@@ -1,4 +1,4 @@
-use Rattle.cga_top.proofs.Asks.{command_told}
+use Rattle.cga_top.proofs.Door.{command_told}
 use Rattle.cga_laws.proofs.laws.commands_are_told.Goals as goal
 
 pub returns : goal.returns

@@ -10,14 +10,15 @@ use Rattle.cga_city.specs.Apply.{apply}
 use Rattle.cga_city.specs.City.{CityState, EditGives}
 use Rattle.cga_parser.specs.GrammarLines.{by_rank}
 use Rattle.cga_laws.specs.Dumped.{Sets}
-use Rattle.cga_top.proofs.Asks.{city_is}
+use Rattle.cga_top.proofs.Door.{city_is}
 use Rattle.cga_laws.proofs.laws.dumps_are_set_back.Goals as goal
 
 text_is : (o : Option ℕ) (whole text : List ℕ) → unless_long o whole ≡ Ok text → text ≡ whole
 text_is None whole text e = cc
 text_is (Some id) whole text e = absurd (cc)
 
-sets : (s : Sources) (e : Edit) (budget : ℕ) (old new : CityState) (result : Result (Unit {0}) EditRefused) (before after : ℕ) → apply old.sources e budget ≡ Ok s → old.budget ≡ budget
+sets : (s : Sources) (e : Edit) (budget : ℕ) (old new : CityState) (result : Result (Unit {0}) EditRefused) (before after : ℕ)
+    → apply old.sources e budget ≡ Ok s → old.budget ≡ budget
     → EditGives old e result new before after → Sets s result new
 sets s e budget old new (Ok u) before after at same h =
     let k : Ok new.sources ≡ Ok s = sym h.applied ∙ ap (apply old.sources e) same ∙ at in cc

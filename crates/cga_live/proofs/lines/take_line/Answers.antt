@@ -8,7 +8,7 @@ use Rattle.cga_top.specs.Prefixes.{AppendsSome}
 use Rattle.cga_live.proofs.Lived.{begun_change, begun_none, begun_reply, lived_line, same_line}
 use Rattle.cga_top.specs.Replies.{effect}
 use Rattle.cga_top.specs.Session.{Did}
-use Rattle.cga_top.proofs.Faults.{faults_since}
+use Rattle.cga_top.proofs.Door.{faults_since}
 use Rattle.cga_live.proofs.lines.take_line.Goals as goal
 
 pub returns-clause-ok : goal.returns-clause-ok

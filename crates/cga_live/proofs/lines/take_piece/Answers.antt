@@ -2,9 +2,8 @@ use Rattle.std.proofs.Common.{◌≡◌, ◌++◌, [], refl, sym, subst, ◌∙�
 use Rattle.std.proofs.lemmas.List.{nil_from_length}
 use Rattle.cga_script.specs.Lines.{lines_of}
 use Rattle.cga_script.specs.Pending.{Pending}
-use Rattle.cga_script.proofs.Feeds as feeds
-use Rattle.cga_top.proofs.Faults.{faults_since}
-use Rattle.cga_top.proofs.Pieces.{left_cleared, left_kept, lines_kept_none, no_more_left, no_more_lines, nothing_left, part_cleared, part_kept}
+use Rattle.cga_script.proofs.Door as feeds
+use Rattle.cga_top.proofs.Door.{faults_since, left_cleared, left_kept, lines_kept_none, no_more_left, no_more_lines, nothing_left, part_cleared, part_kept}
 use Rattle.cga_live.specs.Runs.{Underway}
 use Rattle.cga_live.proofs.Lived.{all_done, begins, goes_on, one_begun, one_more}
 use Rattle.cga_live.proofs.lines.take_piece.Goals as goal

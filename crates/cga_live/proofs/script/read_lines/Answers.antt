@@ -1,8 +1,7 @@
 use Rattle.std.proofs.Common.{◌++◌, ◌≤◌, ◌-◌, ◌∙◌, ℕ, [], length, take, refl, sym, subst, ap, arith, rules, length-append}
 use Rattle.std.proofs.lemmas.List.{length-take-le}
 use Rattle.std.specs.Io.KnownBytes.{Consumes}
-use Rattle.cga_top.proofs.Faults.{faults_since}
-use Rattle.cga_top.proofs.Reading.{is_part}
+use Rattle.cga_top.proofs.Door.{faults_since, is_part}
 use Rattle.cga_live.proofs.Reads.{reads_halt, reads_more, reads_none, reads_start}
 use Rattle.cga_live.proofs.script.read_lines.Goals as goal
 

@@ -1,8 +1,6 @@
 use Rattle.std.proofs.Common.{ap, refl}
 use Rattle.cga_top.specs.Outside.{outside_of}
-use Rattle.cga_top.proofs.Complete.{done_not_used, long_not_used, not_used, read_not_used}
-use Rattle.cga_top.proofs.Ends.{start_pending}
-use Rattle.cga_top.proofs.Faults.{faults_since}
+use Rattle.cga_top.proofs.Door.{done_not_used, faults_since, long_not_used, not_used, read_not_used, start_pending}
 use Rattle.cga_live.proofs.Ends.{done_means, end_some, failed_means, halted_means, halted_some, none_means, too_long_means}
 use Rattle.cga_live.proofs.script.run_in.Goals as goal
 

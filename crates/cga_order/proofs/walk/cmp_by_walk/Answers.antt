@@ -22,7 +22,10 @@ cmp_tops-requires-clause-right c =
     (c.top-right.ensures c.args.mode c.requires.right (IsTop-pred _ _ _ _ c.loop-depth-test.true c.loop-depth.invariant.2))
 
 -- the order after a step, from what the calls gave
-order_from-pred : (mode : Mode) (a b : Chain) (depth : ℕ) (left right : Option ℕ) (tops order result : Ordering) → IsWhole a → IsWhole b → 0 < depth → IsTop mode a (depth - 1) left → IsTop mode b (depth - 1) right → tops ≡ tops_cmp mode a left b right → order ≡ order_from mode a b depth → result ≡ ordering_then tops order → result ≡ order_from mode a b (depth - 1)
+order_from-pred : (mode : Mode) (a b : Chain) (depth : ℕ) (left right : Option ℕ) (tops order result : Ordering)
+    → IsWhole a → IsWhole b → 0 < depth → IsTop mode a (depth - 1) left → IsTop mode b (depth - 1) right
+    → tops ≡ tops_cmp mode a left b right → order ≡ order_from mode a b depth → result ≡ ordering_then tops order
+    → result ≡ order_from mode a b (depth - 1)
 order_from-pred mode a b depth left right tops order result whole_a whole_b h l r t o e =
     e
     ∙ ap (λ x. ordering_then x order) t

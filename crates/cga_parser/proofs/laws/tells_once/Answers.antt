@@ -1,6 +1,5 @@
 use Rattle.cga_syntax.specs.Pieces.{rule_pieces}
-use Rattle.cga_form.proofs.OnceLines.{once_line}
-use Rattle.cga_form.proofs.OnceBlocks.{once_block, once_lines}
+use Rattle.cga_form.proofs.Door.{once_block, once_line, once_lines}
 use Rattle.cga_parser.specs.Blocks.{block_pieces}
 use Rattle.cga_parser.specs.BlockTells.{grammar_of}
 use Rattle.cga_parser.proofs.AreForms.{rule_unique, block_unique}

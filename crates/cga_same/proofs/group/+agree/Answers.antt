@@ -1,5 +1,5 @@
 use Rattle.std.proofs.Common.{◌+◌, get_or, sym, ◌∙◌, refl}
-use Rattle.cga_rule.proofs.Equal.{rule_told}
+use Rattle.cga_rule.proofs.Door.{rule_told}
 use Rattle.cga_same.specs.Agreement.{rules_with}
 use Rattle.cga_same.proofs.Lists.{behind}
 use Rattle.cga_same.proofs.ById.{with_none, with_first, with_some, firsts_same, firsts_differ}

@@ -1,9 +1,11 @@
 use Rattle.std.proofs.Common.{◌≡◌, ◌++◌, [], refl, sym, subst, ◌∙◌, rules}
 use Rattle.std.proofs.lemmas.List.{nil_from_length}
 use Rattle.cga_script.specs.Pending.{Pending}
-use Rattle.cga_script.proofs.Feeds.{takes_line, one_more}
+use Rattle.cga_script.proofs.Door.{one_more, takes_line}
 use Rattle.cga_top.specs.Progress.{Progress}
-use Rattle.cga_top.proofs.Pieces.{progress_start, progress_same, progress_line, progress_end, progress_err, part_cleared, part_kept, left_cleared, left_kept, lines_kept_none, nothing_left, no_more_lines, no_more_left}
+use Rattle.cga_top.proofs.Pieces.{progress_start, progress_same, progress_line, progress_end, progress_err}
+use Rattle.cga_top.proofs.Pieces.{part_cleared, part_kept, left_cleared, left_kept, lines_kept_none, nothing_left}
+use Rattle.cga_top.proofs.Pieces.{no_more_lines, no_more_left}
 use Rattle.cga_top.proofs.Faults.{faults_since}
 use Rattle.cga_top.proofs.pump.take_piece.Goals as goal
 

@@ -13,7 +13,8 @@ invariant-loop-rest g l = record {
   part : IsKeptPart l.lines;
   ready : IsReady l.session;
   calm : g.K.Sink.faults l.out ≡ g.K.Sink.faults l.initial.out;
-  each : (s : State) → IsAt s l.initial.session → Progress s (l.initial.lines.kept ++ l.fn.piece) (l.lines.kept ++ l.rest) l.session (g.K.Sink.held l.initial.out) (g.K.Sink.held l.out) l.initial.expansions l.expansions;
+  each : (s : State) → IsAt s l.initial.session
+      → Progress s (l.initial.lines.kept ++ l.fn.piece) (l.lines.kept ++ l.rest) l.session (g.K.Sink.held l.initial.out) (g.K.Sink.held l.out) l.initial.expansions l.expansions;
   kept : kept_of (cut (l.lines.kept ++ l.rest)).rest ≡ kept_of (cut (l.initial.lines.kept ++ l.fn.piece)).rest;
 }
 

@@ -5,7 +5,8 @@ use Rattle.cga_fraction.specs.declared.memory.NoMemory.{NoMemory}
 use Rattle.cga_top.proofs.Bills.{bill_is}
 use Rattle.cga_top.proofs.reports.bill.Goals as goal
 
-same : (r : Result (List ℕ) NoMemory) (a b : List (List ℕ × Sums)) → a ≡ b → IfOk r (λ text. text ≡ bill_text_of a) → IfOk r (λ text. text ≡ bill_text_of b)
+same : (r : Result (List ℕ) NoMemory) (a b : List (List ℕ × Sums)) → a ≡ b → IfOk r (λ text. text ≡ bill_text_of a)
+    → IfOk r (λ text. text ≡ bill_text_of b)
 same (Ok text) a b e h = h ∙ ap bill_text_of e
 same (Err none) a b e h = tt
 

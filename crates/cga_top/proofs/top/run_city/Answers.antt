@@ -3,7 +3,7 @@ use Rattle.clap.specs.Words.{fault_of}
 use Rattle.cga_words.specs.Words.{command_app, decimals_of, town_of}
 use Rattle.cga_words.specs.declared.wanted.Wanted.{Wanted}
 use Rattle.cga_words.specs.declared.words_fault.WordsFault.{WordsFault}
-use Rattle.cga_words.proofs.Says.{plain_says}
+use Rattle.cga_words.proofs.Door.{plain_says}
 use Rattle.cga_top.proofs.top.run_city.Goals as goal
 
 pub returns-in-Err-Usage-clause-plain : goal.returns-in-Err-Usage-clause-plain

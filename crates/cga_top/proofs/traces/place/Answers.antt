@@ -1,12 +1,12 @@
 use Rattle.std.proofs.Common.{◌≡◌, ◌+◌, ◌≤◌, true, length, Some, sym, ap, ◌∙◌, subst, arith}
 use Rattle.cga_city.specs.Derived.{derived}
-use Rattle.cga_city.proofs.Valid.{sound_valid}
+use Rattle.cga_city.proofs.Door.{sound_valid}
+use Rattle.cga_trace.proofs.Door.{wrong_there}
 use Rattle.cga_judge.specs.Judged.{IsJudged}
 use Rattle.cga_judge.specs.declared.limits.TheConstants.{MOST_SHAPES}
 use Rattle.cga_trace.specs.Judged.{is_headed}
 use Rattle.cga_trace.specs.JudgeLines.{AgreeBefore}
 use Rattle.cga_trace.specs.Text.{AreSteps}
-use Rattle.cga_trace.proofs.Judging.{wrong_there}
 use Rattle.cga_top.specs.Replies.{run_of}
 use Rattle.cga_top.proofs.CityRuns.{read_few, spent_accepted, spent_there, state_few, state_run_of, most_fit}
 use Rattle.cga_top.proofs.traces.place.Goals as goal

@@ -1,7 +1,7 @@
 use Rattle.std.proofs.Common.{arith}
 use Rattle.cga_index.specs.Tree.{all_nodes}
 use Rattle.cga_forest.specs.Walked.{forest_tree}
-use Rattle.cga_forest.proofs.Laws.{keeps_laws}
+use Rattle.cga_forest.proofs.Door.{keeps_laws}
 use Rattle.cga_trace.proofs.Listing.{list_step, list_end}
 use Rattle.cga_trace.proofs.walk.all_nodes.Goals as goal
 

@@ -1,7 +1,7 @@
 use Rattle.std.proofs.Common.{refl, sym, ap, subst, ◌∙◌, ◌+◌, ◌++◌, ◌∷◌, []}
 use Rattle.std.specs.List.{list_any}
 use Rattle.cga_frame.specs.Box.{meets}
-use Rattle.cga_forest.proofs.Laws.{lasting_laws}
+use Rattle.cga_forest.proofs.Door.{lasting_laws}
 use Rattle.cga_update.specs.Askers.{AddsThese}
 use Rattle.cga_update.proofs.InLoops.{item_at}
 use Rattle.cga_update.proofs.NearAskers.{NearFirst, all_within, in_walk, passed, pushed}

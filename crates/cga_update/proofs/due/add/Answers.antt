@@ -1,7 +1,7 @@
 use Rattle.cga_update.specs.Queue.{chains_of}
 use Rattle.cga_order.specs.Seen.{chain_of}
 use Rattle.cga_forest.specs.Tree.{node_at}
-use Rattle.cga_queue.proofs.OnIt.{put_there}
+use Rattle.cga_queue.proofs.Door.{put_there}
 use Rattle.cga_update.proofs.DueNodes.{added_grows, lent_is, on_ok}
 use Rattle.cga_update.proofs.due.add.Goals as goal
 

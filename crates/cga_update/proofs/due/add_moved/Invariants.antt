@@ -9,5 +9,6 @@ use Rattle.cga_update.proofs.due.add_moved.Given as goal
 abbrev pub invariant-loop-node : goal.invariant-loop-node
 invariant-loop-node l = record {
   grows : Grows (chains_of l.forest) (λ c. (m : Moved) × Among m l.moved × (m.id ≡ c)) l.fn.agenda l.agenda;
-  there : (j : ℕ) (m : Moved) → j < l.node-index → slice_get l.moved j ≡ Some m → IsSome (chains_of l.forest m.id) → on_of l.forest l.agenda m.id ≡ true;
+  there : (j : ℕ) (m : Moved) → j < l.node-index → slice_get l.moved j ≡ Some m → IsSome (chains_of l.forest m.id)
+      → on_of l.forest l.agenda m.id ≡ true;
 }

@@ -1,5 +1,5 @@
 use Rattle.cga_update.specs.Queue.{chains_of}
-use Rattle.cga_queue.proofs.OnIt.{none_after, none_on}
+use Rattle.cga_queue.proofs.Door.{none_after, none_on}
 use Rattle.cga_update.proofs.DueNodes.{passed_is, taken_is}
 use Rattle.cga_update.proofs.due.take.Goals as goal
 

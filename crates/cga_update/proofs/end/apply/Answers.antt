@@ -7,7 +7,6 @@ pub loop-entry-preserved : goal.loop-entry-preserved
 loop-entry-preserved c =
     let rest = drop_at c.args.log.now c.args.log.now refl c.loop-entry.entry-index c.entry-item.result c.loop-entry-test.true c.entry-item.is in record {
       applied = applied_next c.entry-item.result _ _ _ c.args.dependents.now c.loop-entry.dependents c.apply_one.new.dependents rest c.in_ok-apply_one.ensures.noted c.loop-entry.invariant.applied;
-      mentions = c.apply_one.ensures.mentions ∙ c.loop-entry.invariant.mentions;
     }
 
 pub returns-clause-applied : goal.returns-clause-applied

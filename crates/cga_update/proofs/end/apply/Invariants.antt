@@ -5,6 +5,6 @@ use Rattle.cga_update.proofs.end.apply.Given as goal
 
 abbrev pub invariant-loop-entry : goal.invariant-loop-entry
 invariant-loop-entry l = record {
-  applied : (s : List ℕ) (c : ℕ) → noted_all (drop l.entry-index l.log) s c (lists l.dependents s c) ≡ noted_all l.log s c (lists l.fn.dependents s c);
-  mentions : l.dependents.mentions ≡ l.fn.dependents.mentions;
+  applied : (s : List ℕ) (c : ℕ)
+      → noted_all (drop l.entry-index l.log) s c (lists l.dependents s c) ≡ noted_all l.log s c (lists l.fn.dependents s c);
 }

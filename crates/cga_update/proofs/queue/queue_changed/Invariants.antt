@@ -9,7 +9,10 @@ abbrev pub invariant-loop-symbol : goal.invariant-loop-symbol
 invariant-loop-symbol l = record {
   known : AreKnown l.renewal.old.now.grammar l.renewal.new.now.grammar l.symbols.known;
   kept : KeepsOn l.forest l.fn.agenda l.agenda;
-  there : (i : ℕ) (s : List ℕ) → i < l.symbol-index → slice_get l.symbol-items i ≡ Some s → HasThese l.forest (λ c. Member (nodes_in l.dependents s) c) l.agenda;
-  parents : (i : ℕ) (s : List ℕ) → i < l.symbol-index → slice_get l.symbol-items i ≡ Some s → IsPricedFor l.forest l.renewal.old.now.grammar l.renewal.new.now.grammar (λ c. Member (nodes_in l.dependents s) c) s l.agenda;
-  prices : (i : ℕ) (s : List ℕ) → i < l.symbol-index → slice_get l.symbol-items i ≡ Some s → l.priced ≡ true → KeepsPriority l.renewal.old.now.grammar l.renewal.new.now.grammar (nodes_in l.dependents s) s;
+  there : (i : ℕ) (s : List ℕ) → i < l.symbol-index → slice_get l.symbol-items i ≡ Some s
+      → HasThese l.forest (λ c. Member (nodes_in l.dependents s) c) l.agenda;
+  parents : (i : ℕ) (s : List ℕ) → i < l.symbol-index → slice_get l.symbol-items i ≡ Some s
+      → IsPricedFor l.forest l.renewal.old.now.grammar l.renewal.new.now.grammar (λ c. Member (nodes_in l.dependents s) c) s l.agenda;
+  prices : (i : ℕ) (s : List ℕ) → i < l.symbol-index → slice_get l.symbol-items i ≡ Some s → l.priced ≡ true
+      → KeepsPriority l.renewal.old.now.grammar l.renewal.new.now.grammar (nodes_in l.dependents s) s;
 }

@@ -1,6 +1,5 @@
 use Rattle.std.proofs.Common.{◌≡◌, ◌∙◌, ◌<◌, length, refl, ap, sym, subst, arith, Bor}
-use Rattle.cga_depend.specs.Mentions.{mentioning}
-use Rattle.cga_depend.specs.Pairs.{DependentsView, symbols_in}
+use Rattle.cga_depend.specs.Pairs.{DependentsView}
 use Rattle.cga_shape.specs.declared.sources.Sources.{Sources}
 use Rattle.cga_agenda.specs.Loop.{HasCalled}
 use Rattle.cga_update.specs.Reworked.{HasEnded}
@@ -26,11 +25,6 @@ done-requires-clause-listed g c =
     c.in_ok-under_way.under_way c.work_off.new.under_way c.args.renewal.budget c.args.expansions.now c.work_off.new.expansions c.in_ok-under_way.ensures.sources c.work_off.ensures.bounds c.in_ok-under_way.ensures.mark _ e
     c.begin_work.new.kept.dependents c.begin_work.ensures.dependents
 
-pub done-requires-clause-mentions : goal.done-requires-clause-mentions
-done-requires-clause-mentions g c =
-    let same : c.work_off.new.under_way.old.now ≡ c.args.renewal.old.now = ap (λ (s : Bor Sources). s.now) c.work_off.ensures.bounds.old ∙ c.in_ok-under_way.ensures.sources.0 in
-    λ a. ap (λ (d : DependentsView). symbols_in d a) c.begin_work.ensures.dependents ∙ c.requires.stands.dependents.mentions a ∙ ap (λ (s : Sources). mentioning s.grammar a) (sym same)
-
 pub returns-in-Err : goal.returns-in-Err
 returns-in-Err g c =
     given_up_within c.args.renewal c.args.kept.now c.begin_work.new.kept c.args.changes.now c.args.changes.now c.args.expansions.now c.work_off.new.expansions c.work_off.ensures.counted c.work_off.ensures.most _ refl
@@ -43,7 +37,7 @@ returns-in_ok-done-in-Ok-Within g c =
     done c.args.renewal c.args.kept.now c.done.new.kept c.args.changes.now c.done.new.changes c.args.expansions.now c.work_off.new.expansions c.work_off.ensures.counted c.work_off.ensures.most _
     (proof.settled c.args.renewal.old.now c.args.renewal.new.now c.requires.mode c.requires.old_names c.requires.names c.args.kept.now c.requires.stands
     c.in_ok-under_way.under_way c.work_off.new.under_way c.args.renewal.budget c.args.expansions.now c.work_off.new.expansions c.in_ok-under_way.ensures.sources c.work_off.ensures.bounds c.in_ok-under_way.ensures.mark c.in-Ok-Within.touched ended
-    c.done.new.kept.forest c.done.new.kept.dependents c.in_ok-done-in-Ok-Within.ensures.nodes c.in_ok-done-in-Ok-Within.ensures.unmarked c.in_ok-done-in-Ok-Within.ensures.mode c.in_ok-done-in-Ok-Within.ensures.listed c.in_ok-done-in-Ok-Within.ensures.mentions)
+    c.done.new.kept.forest c.done.new.kept.dependents c.in_ok-done-in-Ok-Within.ensures.nodes c.in_ok-done-in-Ok-Within.ensures.unmarked c.in_ok-done-in-Ok-Within.ensures.mode c.in_ok-done-in-Ok-Within.ensures.listed)
     (subst (λ n. IsExact c.args.renewal.old.now c.args.renewal.new.now c.args.renewal.budget n c.done.new.changes) (sym c.from.ensures)
     (proof.exact c.args.renewal.old.now c.args.renewal.new.now c.requires.mode c.requires.old_names c.requires.names c.args.kept.now c.requires.stands
     c.in_ok-under_way.under_way c.work_off.new.under_way c.args.renewal.budget c.args.expansions.now c.work_off.new.expansions c.in_ok-under_way.ensures.sources c.work_off.ensures.bounds c.in_ok-under_way.ensures.mark c.in-Ok-Within.touched ended

@@ -1,6 +1,6 @@
 use Rattle.std.proofs.Common.{◌≡◌, ◌∙◌, sym, ap, subst, true, false}
 use Rattle.std.specs.Option.{option_copied}
-use Rattle.cga_derivation.proofs.Lists.{some_same}
+use Rattle.cga_fraction.proofs.Door.{same_Some as some_same}
 use Rattle.cga_forest.specs.Tree.{node_at}
 use Rattle.cga_update.specs.Roots.{IsRootFor}
 use Rattle.cga_update.proofs.Losing.{none_named}

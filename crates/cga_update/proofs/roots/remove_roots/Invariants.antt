@@ -10,7 +10,8 @@ abbrev pub invariant-loop-lot : goal.invariant-loop-lot
 invariant-loop-lot l = record {
   known : AreKnown l.renewal.old.now.grammar l.renewal.new.now.grammar l.symbols.known;
   lost : (V : View) → HasLost V l.fn.forest l.fn.went.items → HasLost V l.forest l.went.items;
-  wanted : (i : ℕ) (lot : Lot) → i < l.lot-index → slice_get l.renewal.old.now.lots i ≡ Some lot → (c : ℕ) (d : Seen) → IsRootNamed (node_at l.forest) lot.name c d → IsWanted l.renewal.new.now d.node;
+  wanted : (i : ℕ) (lot : Lot) → i < l.lot-index → slice_get l.renewal.old.now.lots i ≡ Some lot → (c : ℕ) (d : Seen)
+      → IsRootNamed (node_at l.forest) lot.name c d → IsWanted l.renewal.new.now d.node;
   loses : Loses l.renewal.new.now l.fn.forest l.forest;
   mode : l.forest.mode ≡ l.fn.forest.mode;
 }

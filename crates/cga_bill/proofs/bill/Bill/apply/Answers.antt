@@ -9,11 +9,13 @@ use Rattle.cga_bill.proofs.Steps.{balanced}
 use Rattle.cga_bill.proofs.bill.Bill.apply.Goals as goal
 
 -- a copy of the bill of a list is a bill of it
-copied : (before copy : List (List ℕ × Sums)) (value : List (List ℕ × Sums)) (old : List Drawn) → copy ≡ before → before ≡ value → value ≡ bill_of old → IsBill copy old
+copied : (before copy : List (List ℕ × Sums)) (value : List (List ℕ × Sums)) (old : List Drawn) → copy ≡ before
+    → before ≡ value → value ≡ bill_of old → IsBill copy old
 copied before copy value old e f g = subst (λ (l : List (List ℕ × Sums)). IsBill l old) (sym (e ∙ (f ∙ g))) (is_bill old)
 
 -- what came was added, so that only what went is too much
-stepped : (copy more : List (List ℕ × Sums)) (come gone : List Drawn) (changes : Changes) (old new : List Drawn) → IsBill copy old → ((list : List Drawn) → IsBill copy list → IsBill more (list ++ come))
+stepped : (copy more : List (List ℕ × Sums)) (come gone : List Drawn) (changes : Changes) (old new : List Drawn)
+    → IsBill copy old → ((list : List Drawn) → IsBill copy list → IsBill more (list ++ come))
     → come ≡ changes.come → gone ≡ changes.gone → Balances old new changes → IsBill more (new ++ gone)
 stepped copy more come gone changes old new is add e f b =
     subst (λ (l : List Drawn). IsBill more (new ++ l)) (sym f) (balanced more old new changes b (subst (λ (l : List Drawn). IsBill more (old ++ l)) e (add old is)))

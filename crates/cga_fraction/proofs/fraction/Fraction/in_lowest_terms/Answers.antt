@@ -6,7 +6,8 @@ use Rattle.cga_fraction.specs.Arithmetic.{with_sign}
 use Rattle.cga_fraction.proofs.Gcds.{gcd_positive}
 use Rattle.cga_fraction.proofs.Lowest.{formed, formed_beyond, formed_is}
 use Rattle.cga_fraction.proofs.fraction.Fraction.in_lowest_terms.Goals as goal
-use Rattle.cga_fraction.proofs.fraction.Fraction.in_lowest_terms.Goals.{then-magnitude-gt-LIMIT-via-then-magnitude-gt-LIMIT, then-magnitude-gt-LIMIT-via-else-magnitude-gt-LIMIT+then-denominator-gt-LIMIT}
+use Rattle.cga_fraction.proofs.fraction.Fraction.in_lowest_terms.Goals.{then-magnitude-gt-LIMIT-via-then-magnitude-gt-LIMIT}
+use Rattle.cga_fraction.proofs.fraction.Fraction.in_lowest_terms.Goals.{then-magnitude-gt-LIMIT-via-else-magnitude-gt-LIMIT+then-denominator-gt-LIMIT}
 
 pub quotient-magnitude-requires : goal.quotient-magnitude-requires
 quotient-magnitude-requires c = rw c.common_divisor-common.ensures (gcd_positive _ _ c.requires)

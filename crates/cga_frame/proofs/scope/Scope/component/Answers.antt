@@ -6,7 +6,8 @@ use Rattle.cga_frame.specs.declared.signed.Signed.{Signed}
 use Rattle.cga_frame.proofs.Components.{component_is, component_stands, ends_are}
 use Rattle.cga_frame.proofs.scope.Scope.component.Goals as goal
 
-value_of : (c : goal.After-size_by-3) → record { at = record { x = c.ends-x.result.near; y = c.ends-y.result.near; z = c.ends-z.result.near }; frame = c.turn-frame.result; size = record { x = c.size_by.result; y = c.size_by-2.result; z = c.size_by-3.result } } ≡ component_of (record { at = c.self.inside.at; frame = c.self.inside.frame; size = c.self.inside.size }) c.args.part
+value_of : (c : goal.After-size_by-3)
+    → record { at = record { x = c.ends-x.result.near; y = c.ends-y.result.near; z = c.ends-z.result.near }; frame = c.turn-frame.result; size = record { x = c.size_by.result; y = c.size_by-2.result; z = c.size_by-3.result } } ≡ component_of (record { at = c.self.inside.at; frame = c.self.inside.frame; size = c.self.inside.size }) c.args.part
 value_of c =
     component_is (record { at = c.self.inside.at; frame = c.self.inside.frame; size = c.self.inside.size }) c.args.part c.self.inside.far _ _ _ _ _ _ _ c.self.invariant.corner c.turn-frame.ensures.value
     (c.ends-x.ensures.near ∙ ap (λ (o : Signed). corner c.args.part o c.self.inside.at.x c.self.inside.far.x) c.along.ensures.value)

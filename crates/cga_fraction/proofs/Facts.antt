@@ -1,0 +1,210 @@
+-- Facts of tests, options, lists and numbers that the standard library lacks. No word of this project stands here.
+use Rattle.std.proofs.Common.{◌||◌, ◌≢◌, ◌<◌, ◌≤◌, ◌⊎◌, ◌&&◌, ◌∙◌, ◌+◌, ◌++◌, ◌↔◌, ◌∷◌, [], Bool, List, None, Ok, Option, Result, Some, ap}
+use Rattle.std.proofs.Common.{arith, cond, false, get_or, inl, inr, length, map, nat_eq, nat_lt, not, refl, subst, suc, sym, take, true, zero, ℕ, ◌≡◌}
+use Rattle.std.proofs.lemmas.Bool.Decides.{leb_tells, nat_tests}
+use Rattle.std.proofs.lemmas.Grind.{common_steps}
+use Rattle.std.proofs.lemmas.Option.{slice_get_within}
+use Rattle.std.specs.Cmp.{nat_cmp_is}
+use Rattle.std.specs.Io.KnownBytes.{Appends, Keeps}
+use Rattle.std.specs.Ordering.{is_eq, is_lt, nat_cmp}
+use Rattle.std.specs.Prelude.{Err, IfOk, IsSome, None, Ok, Option, Result, Some, is_some, nat_eq, nat_le, nat_lt, slice_get, unwrap_or}
+use Rattle.std.specs.declared.cmp.Ordering.{Ordering}
+use Rattle.std.specs.declared.cmp.Ordering.TheVariants.{Equal, Greater, Less}
+
+pub nat_eq-same : (a : ℕ) → nat_eq a a ≡ true
+nat_eq-same a = grind (arith, nat_tests)
+
+pub not-and-true : (a : Bool) → not a ≡ true → a ≡ true → ⊥
+not-and-true true e f = let x : false ≡ true = e in cc
+not-and-true false e f = let x : false ≡ true = f in cc
+
+pub or_false_first : (a b : Bool) → (a || b) ≡ false → a ≡ false
+or_false_first true b e = cc
+or_false_first false b e = refl
+
+pub or_false_second : (a b : Bool) → (a || b) ≡ false → b ≡ false
+or_false_second true b e = cc
+or_false_second false b e = e
+
+pub eq_from_nat_eq : (a b : ℕ) → nat_eq a b ≡ true → a ≡ b
+eq_from_nat_eq a b h = grind (arith, nat_tests)
+
+pub nat_eq_from_ne : (a b : ℕ) → a ≢ b → nat_eq a b ≡ false
+nat_eq_from_ne a b h = grind (arith, nat_tests)
+
+pub lt_from_nat_lt : (a b : ℕ) → nat_lt a b ≡ true → a < b
+lt_from_nat_lt a b h = grind (arith, nat_tests)
+
+pub least_of_some : (a b : ℕ) → a ≤ b → unwrap_or (cond (nat_lt a b) (Some a) None) b ≡ a
+least_of_some a b h = elim (nat_lt a b) as (λ t. t ≡ nat_lt a b → unwrap_or (cond t (Some a) None) b ≡ a) [ true ↦ λ e. refl | false ↦ λ e. grind (arith, nat_tests) ] refl
+
+pub same_from_both_ways : (a b : Bool) → (a ≡ true → b ≡ true) → (b ≡ true → a ≡ true) → a ≡ b
+same_from_both_ways true b f g = sym (f refl)
+same_from_both_ways false true f g = g refl
+same_from_both_ways false false f g = refl
+
+pub eq_or_ne : (a b : ℕ) → (a ≡ b) ⊎ (a ≢ b)
+eq_or_ne a b = by_test (nat_eq a b) refl
+  where
+    by_test : (t : Bool) → nat_eq a b ≡ t → (a ≡ b) ⊎ (a ≢ b)
+    by_test true is = inl (grind (arith, is))
+    by_test false is = inr (grind (arith, is))
+
+pub and_first : (a b : Bool) → (a && b) ≡ true → a ≡ true
+and_first true b e = refl
+and_first false b e = e
+
+pub and_second : (a b : Bool) → (a && b) ≡ true → b ≡ true
+and_second true b e = e
+and_second false b e = let x : false ≡ true = e in cc
+
+pub all_of_it : (a b c : Option (List ℕ)) (text : List ℕ) → Appends a b text → Keeps b c → Appends a c text
+all_of_it None b c text p q = tt
+all_of_it (Some xs) None c text p q = absurd p
+all_of_it (Some xs) (Some ys) None text p q = absurd q
+all_of_it (Some xs) (Some ys) (Some zs) text p q = q ∙ p
+
+pub lt_or_eq_from_lt_suc : (i n : ℕ) → i < n + 1 → (i < n) ⊎ (i ≡ n)
+lt_or_eq_from_lt_suc i n le = grind (arith, le)
+
+pub nat_lt_from_lt : (m n : ℕ) → m < n → nat_lt m n ≡ true
+nat_lt_from_lt m n h = grind (arith, common_steps)
+
+pub le_from_nat_lt : (m n : ℕ) → nat_lt m n ≡ false → n ≤ m
+le_from_nat_lt m n h = grind (arith, nat_tests)
+
+pub nat_lt-zero : (n : ℕ) → nat_lt n 0 ≡ false
+nat_lt-zero n = grind (arith, nat_tests)
+
+pub nat_lt-same : (n : ℕ) → nat_lt n n ≡ false
+nat_lt-same n = grind (arith, nat_tests)
+
+pub nat_le_18 : (n : ℕ) → n ≤ 18 → nat_le n 18 ≡ true
+nat_le_18 n h = grind (arith, leb_tells n 18)
+
+pub lt_or_eq_below_suc : (n j : ℕ) → j < n + 1 → (j < n) ⊎ (j ≡ n)
+lt_or_eq_below_suc n j lt = grind arith
+
+pub Less_from_is_lt : (o : Ordering) → is_lt o ≡ true → o ≡ Less
+Less_from_is_lt Less h = refl
+Less_from_is_lt Equal h = cc
+Less_from_is_lt Greater h = cc
+
+pub Equal_from_is_eq : (o : Ordering) → is_eq o ≡ true → o ≡ Equal
+Equal_from_is_eq Less e = let x : false ≡ true = e in cc
+Equal_from_is_eq Equal e = refl
+Equal_from_is_eq Greater e = let x : false ≡ true = e in cc
+
+pub cases_Option_nat : (o : Option ℕ) → (o ≡ None) ⊎ ((c : ℕ) × (o ≡ Some c))
+cases_Option_nat None = inl refl
+cases_Option_nat (Some c) = inr (c, refl)
+
+pub true_from_not : (t : Bool) → not t ≡ false → t ≡ true
+true_from_not true h = refl
+true_from_not false h = cc
+
+pub false_from_not : (t : Bool) → not t ≡ true → t ≡ false
+false_from_not true h = sym h
+false_from_not false h = refl
+
+pub within_4096 : (text : List ℕ) → length text ≤ 4096 → nat_lt 4096 (length text) ≡ false
+within_4096 text h = grind (arith, nat_tests)
+
+pub nat_cmp-same : (x y : ℕ) → x ≡ y → nat_cmp x y ≡ Equal
+nat_cmp-same x y e = sym (nat_cmp_is x y Equal e)
+
+pub lt-length_from_slice_get_nat : (xs : List ℕ) (i k : ℕ) → slice_get xs i ≡ Some k → i < length xs
+lt-length_from_slice_get_nat [] i k h = absurd (cc)
+lt-length_from_slice_get_nat (x ∷ xs) zero k h = omega arith
+lt-length_from_slice_get_nat (x ∷ xs) (suc i) k h = let r = lt-length_from_slice_get_nat xs i k h in omega arith
+
+pub append-nil_back : {A : Type 0} (xs : List A) → xs ≡ xs ++ []
+append-nil_back [] = refl
+append-nil_back (x ∷ xs) = ap (λ z. x ∷ z) (append-nil_back xs)
+
+pub same_Some : {X : Type 0} (x y : X) → Some x ≡ Some y → x ≡ y
+same_Some x y e = cc
+
+pub take-all : {X : Type 0} (xs : List X) (i : ℕ) → length xs ≤ i → take i xs ≡ xs
+take-all [] zero h = refl
+take-all [] (suc i) h = refl
+take-all (x ∷ xs) zero h = absurd (omega (arith, h))
+take-all (x ∷ xs) (suc i) h = ap (λ l. x ∷ l) (take-all xs i (omega (arith, h)))
+
+pub None-not-positive : {X : Type 0} (r : Option X) (n : ℕ) → r ≡ None → (IsSome r ↔ (0 < n)) → 0 < n → ⊥
+None-not-positive None n e h lt = let x : false ≡ true = h.1 lt in cc
+None-not-positive (Some x) n e h lt = let f : Some x ≡ None = e in cc
+
+pub lt-length_from_slice_get : {X : Type 0} (xs : List X) (i : ℕ) (x : X) → slice_get xs i ≡ Some x → i < length xs
+lt-length_from_slice_get xs i x h = slice_get_within xs i x h
+
+pub slice_get_from_get_or : {X : Type 0} (xs : List X) (i : ℕ) (x : X) → i < length xs → x ≡ get_or xs i x
+    → slice_get xs i ≡ Some x
+slice_get_from_get_or [] i x h e = absurd (omega (arith, h))
+slice_get_from_get_or (y ∷ xs) zero x h e = ap Some (sym e)
+slice_get_from_get_or (y ∷ xs) (suc i) x h e = slice_get_from_get_or xs i x (omega (arith, h)) e
+
+pub cases_Option : {X : Type 0} (o : Option X) → (o ≡ None) ⊎ ((x : X) × (o ≡ Some x))
+cases_Option None = inl refl
+cases_Option (Some x) = inr (x, refl)
+
+pub Some_from_is_some : {X : Type 0} (o : Option X) → is_some o ≡ true → (x : X) × (o ≡ Some x)
+Some_from_is_some None h = absurd (cc)
+Some_from_is_some (Some x) h = (x, refl)
+
+pub Some_from_IsSome : {X : Type 0} (o : Option X) → IsSome o → (x : X) × (o ≡ Some x)
+Some_from_IsSome None h = let x : false ≡ true = h in cc
+Some_from_IsSome (Some x) h = (x, refl)
+
+pub IsSome_from_Some : {X : Type 0} (o : Option X) (x : X) → o ≡ Some x → IsSome o
+IsSome_from_Some o x is = subst (λ q. IsSome q) (sym is) refl
+
+pub IfOk-map : {X E : Type 0} {P Q : X → Type 0} (r : Result X E) → ((x : X) → P x → Q x) → IfOk r P → IfOk r Q
+IfOk-map (Ok x) f h = f x h
+IfOk-map (Err e) f h = tt
+
+pub same_Ok : {X F : Type 0} (x y : X) → ◌≡◌ {A = Result X F} (Ok x) (Ok y) → x ≡ y
+same_Ok x y e = cc
+
+pub None-not-Some : {X Y : Type 0} (x : X) → ◌≡◌ {A = Option X} None (Some x) → Y
+None-not-Some x e = cc
+
+pub length-map : {X Y : Type 0} (f : X → Y) (xs : List X) → length (map f xs) ≡ length xs
+length-map f [] = refl
+length-map f (x ∷ xs) = let e = length-map f xs in omega (arith, e)
+
+pub map-append : {X Y : Type 0} (f : X → Y) (xs ys : List X) → map f (xs ++ ys) ≡ map f xs ++ map f ys
+map-append f [] ys = refl
+map-append f (x ∷ xs) ys = ap (λ zs. f x ∷ zs) (map-append f xs ys)
+
+pub slice_get_along : {X Y : Type 0} (xs : List X) (ys : List Y) (i : ℕ) (x : X) → length xs ≡ length ys
+    → slice_get xs i ≡ Some x → (y : Y) × (slice_get ys i ≡ Some y)
+slice_get_along [] ys i x same h = let z : None ≡ Some x = h in cc
+slice_get_along (a ∷ xs) [] i x same h = absurd (omega (arith, same))
+slice_get_along (a ∷ xs) (b ∷ ys) zero x same h = (b, refl)
+slice_get_along (a ∷ xs) (b ∷ ys) (suc i) x same h = slice_get_along xs ys i x (omega (arith, same)) h
+
+pub false-not-true : {Y : Type 0} → false ≡ true → Y
+false-not-true e = cc
+
+pub true-not-false : {Y : Type 0} → true ≡ false → Y
+true-not-false e = cc
+
+pub true-and-false : {Y : Type 0} (b : Bool) → b ≡ true → b ≡ false → Y
+true-and-false b t f = let z : true ≡ false = sym t ∙ f in absurd (cc)
+
+pub or-false : (b : Bool) → (b || false) ≡ b
+or-false true = refl
+or-false false = refl
+
+pub or-true : (b : Bool) → (b || true) ≡ true
+or-true true = refl
+or-true false = refl
+
+pub and-false : (b : Bool) → (b && false) ≡ false
+and-false true = refl
+and-false false = refl
+
+pub or-assoc : (a b c : Bool) → (a || (b || c)) ≡ ((a || b) || c)
+or-assoc true b c = refl
+or-assoc false b c = refl
