@@ -69,14 +69,14 @@ script_is d bytes =
 
 -- the replies alone are the output
 output_is : (d : ℕ) (bytes : List ℕ) (turns : List Turn) → lines_in turns ≡ all_lines bytes
-      → replies_of (start d) turns ++ end_of d bytes ≡ output_of d bytes
+    → replies_of (start d) turns ++ end_of d bytes ≡ output_of d bytes
 unfolding output_of whole_effect
 output_is d bytes turns are =
     ap (λ (r : List ℕ). r ++ end_of d bytes) (replies_all (start d) turns ∙ ap (λ (l : List Line). (effect_of_all (start d) l).reply) are)
     ∙ ap (λ (t : Effect). t.reply) (sym (script_is d bytes))
 
 spent_all : (d : ℕ) (bytes : List ℕ) (i j : ℕ) → HasSpent (effect_of_all (start d) (all_lines bytes)).works i j
-      → HasSpent (effect_of_script d bytes).works i j
+    → HasSpent (effect_of_script d bytes).works i j
 unfolding whole_effect
 spent_all d bytes i j h =
     let e : Effect = effect_of_all (start d) (all_lines bytes) in
@@ -106,7 +106,7 @@ module _ (d : ℕ) (bytes : List ℕ) where
   end_is = ap (λ (t : Effect). (at_end t.state).reply) (sym (all_append (start d) lines rest))
 
   all_live : (session : Session) (a b c : Option (List ℕ)) (i j k : ℕ) → Lived (start d) lines session a b i j
-        → Finished mid_state rest b c j k
+      → Finished mid_state rest b c j k
       → (text : List ℕ) × IsLiveOf d bytes text × Appends a c text × HasSpent (effect_of_script d bytes).works i k
   all_live session a b c i j k p q =
       let turns : List Turn = p.turns ++ q.turns in
@@ -127,8 +127,8 @@ module _ (d : ℕ) (bytes : List ℕ) where
 
   -- some of it
   all_some : (session : Session) (b : Option (List ℕ)) (i j : ℕ) (old new : Outside)
-        → Lived (start d) lines session old.held b i j → Unfinished mid_state rest b new.held
-        → TellsSome d bytes old new
+      → Lived (start d) lines session old.held b i j → Unfinished mid_state rest b new.held
+      → TellsSome d bytes old new
   all_some session b i j old new p q =
       let turns : List Turn = p.turns ++ q.turns in
       let end : List ℕ = (at_end (effect_of_all mid_state rest).state).reply in
@@ -147,7 +147,7 @@ module _ (d : ℕ) (bytes : List ℕ) where
 
 -- some of what is told of the first bytes
 some_first : (d : ℕ) (bytes x y : List ℕ) (old new : Outside) → bytes ≡ x ++ y
-      → Begun (start d) (lines_of x) old.held new.held → TellsSome d bytes old new
+    → Begun (start d) (lines_of x) old.held new.held → TellsSome d bytes old new
 some_first d bytes x y old new e p =
     let more = first_lines x y in
     let b : Begun (start d) (lines_of x ++ more.0) old.held new.held = begun_rest (start d) (lines_of x) more.0 old.held new.held p in
@@ -160,8 +160,8 @@ some_first d bytes x y old new e p =
     }
 
 some_known : (d : ℕ) (script left : Option (List ℕ)) (read : List ℕ) (old new : Outside) → Consumes script left read
-      → Begun (start d) (lines_of (take limit read)) old.held new.held
-      → IfSome script (λ bytes. TellsSome d bytes old new)
+    → Begun (start d) (lines_of (take limit read)) old.held new.held
+    → IfSome script (λ bytes. TellsSome d bytes old new)
 some_known d None left read old new taken p = tt
 some_known d (Some bytes) None read old new taken p = absurd taken
 some_known d (Some bytes) (Some later) read old new taken p =
@@ -172,9 +172,9 @@ some_known d (Some bytes) (Some later) read old new taken p =
 
 -- what was told when reading failed or went too far
 lines_told : (d : ℕ) (read bytes : List ℕ) (old mid new : Outside) (session : Session) (pending : Pending)
-      → old.left ≡ Some bytes
+    → old.left ≡ Some bytes
     → IsRead d read old mid session pending → SameSource mid new → new.expanded ≡ mid.expanded
-      → Keeps mid.held new.held → TellsLines d read bytes old new
+    → Keeps mid.held new.held → TellsLines d read bytes old new
 lines_told d read bytes old mid new session pending known r source expanded keeps =
     let taken : Consumes old.left new.left read = subst (λ (left : Option (List ℕ)). Consumes old.left left read) (sym source.left) r.taken in
     record {
@@ -187,15 +187,15 @@ lines_told d read bytes old mid new session pending known r source expanded keep
     }
 
 read_some : (d : ℕ) (read : List ℕ) (old mid new : Outside) (session : Session) (pending : Pending)
-      → IsRead d read old mid session pending → Keeps mid.held new.held
-      → IfSome old.left (λ bytes. TellsSome d bytes old new)
+    → IsRead d read old mid session pending → Keeps mid.held new.held
+    → IfSome old.left (λ bytes. TellsSome d bytes old new)
 read_some d read old mid new session pending r keeps =
     some_known d old.left mid.left read old new r.taken (begun_all (start d) (lines_of (take limit read)) session old.held mid.held new.held old.expanded mid.expanded r.lived keeps)
 
 pub failed_means : (d : ℕ) (status : Status) (old mid new : Outside) (session : Session) (pending : Pending)
-      (read : List ℕ)
+    (read : List ℕ)
     → IsRead d read old mid session pending → length read ≤ limit → Rose old.reads_failed mid.reads_failed
-      → IsFlushed status ReadFault mid new → LiveMeans d status old new
+    → IsFlushed status ReadFault mid new → LiveMeans d status old new
 failed_means d status old mid new session pending read r few rose f =
     let other : ReadFault ≢ WriteFault = λ e. cc in
     flushed_as (λ (s : Status). LiveMeans d s old new) status ReadFault old mid new other f r.calm
@@ -209,9 +209,9 @@ failed_means d status old mid new session pending read r few rose f =
     (λ failed. (failed, read_some d read old mid new session pending r f.held))
 
 pub too_long_means : (d : ℕ) (status : Status) (old mid new : Outside) (session : Session) (pending : Pending)
-      (read : List ℕ)
+    (read : List ℕ)
     → IsRead d read old mid session pending → limit < length read → length read ≤ limit + read_limit
-      → mid.reads_failed ≡ old.reads_failed → IsFlushed status TooLong mid new → LiveMeans d status old new
+    → mid.reads_failed ≡ old.reads_failed → IsFlushed status TooLong mid new → LiveMeans d status old new
 too_long_means d status old mid new session pending read r many most reads f =
     let other : TooLong ≢ WriteFault = λ e. cc in
     flushed_as (λ (s : Status). LiveMeans d s old new) status TooLong old mid new other f r.calm
@@ -228,18 +228,17 @@ module _ (d : ℕ) (read : List ℕ) (old mid : Outside) (session : Session) (pe
   all_read : (bytes : List ℕ) → old.left ≡ Some bytes → take limit read ≡ bytes
   all_read bytes known = take_all limit read few ∙ all_taken read bytes mid.left (subst (λ (left : Option (List ℕ)). Consumes left mid.left read) known r.taken) at_end
 
-  rest_of : List ℕ → List Line
-  rest_of bytes = last_of (cut bytes).rest
-
   pub end_some : (new : Outside)
-        → Unfinished (effect_of_lines d (take limit read)).state (last_of (cut (take limit read)).rest) mid.held
-        new.held → IfSome old.left (λ bytes. TellsSome d bytes old new)
-  end_some new u = by_bytes (λ bytes. TellsSome d bytes old new) old.left (λ bytes known. subst (λ (x : List ℕ). TellsSome d x old new) (all_read bytes known)
-  (all_some d (take limit read) session mid.held old.expanded mid.expanded old new r.lived u))
+      → Unfinished (effect_of_lines d (take limit read)).state (last_of (cut (take limit read)).rest) mid.held
+      new.held → IfSome old.left (λ bytes. TellsSome d bytes old new)
+  end_some new u =
+      by_bytes (λ bytes. TellsSome d bytes old new) old.left
+      (λ bytes known. subst (λ (x : List ℕ). TellsSome d x old new) (all_read bytes known)
+      (all_some d (take limit read) session mid.held old.expanded mid.expanded old new r.lived u))
 
   all_told : (last new : Outside) (bytes : List ℕ) → old.left ≡ Some bytes
-        → Finished (effect_of_lines d (take limit read)).state (last_of (cut (take limit read)).rest) mid.held
-        last.held mid.expanded last.expanded
+      → Finished (effect_of_lines d (take limit read)).state (last_of (cut (take limit read)).rest) mid.held
+      last.held mid.expanded last.expanded
       → new.expanded ≡ last.expanded → Keeps last.held new.held → TellsAll d bytes old new
   all_told last new bytes known q expanded keeps =
       let is : take limit read ≡ bytes = all_read bytes known in
@@ -255,9 +254,9 @@ module _ (d : ℕ) (read : List ℕ) (old mid : Outside) (session : Session) (pe
 
   pub done_means : (status : Status) (last new : Outside) → IsTrue mid.ended → mid.reads_failed ≡ old.reads_failed
       → Finished (effect_of_lines d (take limit read)).state (last_of (cut (take limit read)).rest) mid.held last.held
-        mid.expanded last.expanded
+      mid.expanded last.expanded
       → SameSource mid last → last.writes_failed ≡ mid.writes_failed → IsFlushed status Done last new
-        → LiveMeans d status old new
+      → LiveMeans d status old new
   done_means status last new ended reads q source writes f =
       let other : Done ≢ WriteFault = λ e. cc in
       let over : IsTrue new.ended = rw (f.source.ended ∙ source.ended) ended in
@@ -271,35 +270,38 @@ module _ (d : ℕ) (read : List ℕ) (old mid : Outside) (session : Session) (pe
       (λ failed. (failed, end_some new (finished_some (effect_of_lines d (take limit read)).state (last_of (cut (take limit read)).rest) mid.held last.held new.held mid.expanded last.expanded q f.held)))
 
 pub halted_means : (d : ℕ) (halt : Halt) (status : Status) (old new : Outside)
-      → (halt ≡ cause.WriteFault → status ≡ WriteFault) → (halt ≡ cause.NoMemory → status ≡ NoMemory)
+    → (halt ≡ cause.WriteFault → status ≡ WriteFault) → (halt ≡ cause.NoMemory → status ≡ NoMemory)
     → FaultsAt halt old.writes_failed new.writes_failed → new.reads_failed ≡ old.reads_failed
-      → IfSome old.left (λ bytes. TellsSome d bytes old new) → LiveMeans d status old new
+    → IfSome old.left (λ bytes. TellsSome d bytes old new) → LiveMeans d status old new
 halted_means d cause.WriteFault status old new write memory faults reads some = subst (λ (s : Status). LiveMeans d s old new) (sym (write refl)) (faults, some)
 halted_means d cause.NoMemory status old new write memory faults reads some = subst (λ (s : Status). LiveMeans d s old new) (sym (memory refl)) (record { reads = reads; writes = faults }, some)
 
 pub halted_some : (d : ℕ) (read : List ℕ) (old new : Outside) → IsHalted d read old new
-      → IfSome old.left (λ bytes. TellsSome d bytes old new)
+    → IfSome old.left (λ bytes. TellsSome d bytes old new)
 halted_some d read old new h = some_known d old.left new.left read old new h.taken h.begun
 
 -- no memory at the start
 pub none_means : (d : ℕ) (o : Outside) → LiveMeans d NoMemory o o
-none_means d o = (record { reads = refl; writes = refl }, by_bytes (λ bytes. TellsSome d bytes o o) o.left (λ bytes known. record {
-  turns = [];
-  left = all_lines bytes;
-  lines = refl;
-  told = tt;
-  written = some_nothing o.held (behind_all (all_lines bytes) (end_of d bytes));
-}))
+none_means d o = (
+  record { reads = refl; writes = refl },
+  by_bytes (λ bytes. TellsSome d bytes o o) o.left (λ bytes known. record {
+    turns = [];
+    left = all_lines bytes;
+    lines = refl;
+    told = tt;
+    written = some_nothing o.held (behind_all (all_lines bytes) (end_of d bytes));
+  }),
+)
 
 -- ---- completeness
 
 too_long : (d : ℕ) (script : Option (List ℕ)) (old new : Outside) → old.left ≡ script → HoldsFew script
-      → LiveMeans d TooLong old new → ⊥
+    → LiveMeans d TooLong old new → ⊥
 too_long d None old new e few m = few
 too_long d (Some bytes) old new e few m = let t = rw e at m.2 in not_so_long bytes t.0 new.left t.3.taken t.1 few
 
 pub live_complete : (d : ℕ) (status : Status) (old new : Outside) → LiveMeans d status old new → HoldsFew old.left
-      → (Rose old.reads_failed new.reads_failed → ⊥) → (Rose old.writes_failed new.writes_failed → ⊥) → status ≢ Usage
+    → (Rose old.reads_failed new.reads_failed → ⊥) → (Rose old.writes_failed new.writes_failed → ⊥) → status ≢ Usage
     → (status ≡ Done) ⊎ (status ≡ NoMemory)
 live_complete d Done old new m few calm silent used = inl refl
 live_complete d NoMemory old new m few calm silent used = inr refl
@@ -311,10 +313,10 @@ live_complete d Usage old new m few calm silent used = absurd (used refl)
 -- ---- the headline
 
 told_text : (d : ℕ) (script : Option (List ℕ)) (old new : Outside) → IfSome script (λ bytes. TellsAll d bytes old new)
-      → IfSome script (λ bytes. (text : List ℕ) × IsLiveOf d bytes text × Appends old.held new.held text)
+    → IfSome script (λ bytes. (text : List ℕ) × IsLiveOf d bytes text × Appends old.held new.held text)
 told_text d None old new all = tt
 told_text d (Some bytes) old new all = (all.text, all.live, all.written)
 
 pub live_headline : (d : ℕ) (status : Status) (old new : Outside) → LiveMeans d status old new → status ≡ Done
-      → IfSome old.left (λ bytes. (text : List ℕ) × IsLiveOf d bytes text × Appends old.held new.held text)
+    → IfSome old.left (λ bytes. (text : List ℕ) × IsLiveOf d bytes text × Appends old.held new.held text)
 live_headline d status old new means done = let all = subst (λ (s : Status). LiveMeans d s old new) done means in told_text d old.left old new all.3
