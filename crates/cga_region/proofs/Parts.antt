@@ -24,7 +24,8 @@ use Rattle.cga_region.specs.Parts.{AllTellAlike, AreSums, HullsAreApart, RegionI
 use Rattle.cga_region.proofs.Lots.{places_differ, tell_alike}
 
 -- a member's lot is one of all lots
-lot_of_joined : (sources : Sources) (parts : List (List Lot)) → NamesDiffer (joined parts) → (lists : List (List Member))
+lot_of_joined : (sources : Sources) (parts : List (List Lot)) → NamesDiffer (joined parts)
+    → (lists : List (List Member))
     → AreDerived sources parts lists → (s : Shape) (k : Kind ShapeFault Primitive) → Has (joined lists) s k
     → (y : Lot) × Among y (joined parts) × (s.lot ≡ y.name)
 lot_of_joined sources [] differ [] derived s k h = absurd h
