@@ -3,7 +3,7 @@ ghost use Rattle.cga_agenda.specs.Loop.{Ends, HasCalled};
 
 use crate::ended::Ended;
 use crate::worker::Worker;
-use cga_fraction::{NoMemory, Steps};
+use cga_fraction::{NoMemory, Steps, Tests};
 use std::sync::ledger::Ledger;
 
 /// Works the agenda until nothing is on it, or more members of the new derivation are known than the
@@ -16,7 +16,7 @@ pub fn work<W: Worker, E: Ledger, T: Ledger>(
     roots: u32,
     budget: u32,
     expansions: &mut Steps<E>,
-    tests: &mut Steps<T>,
+    tests: &mut Tests<T>,
 ) -> Result<Ended, NoMemory>
     ensures ended { IfOk result (λ ended.
         Ends (W.means worker.old) (W.means worker.new) roots budget expansions.old expansions.new ended) }

@@ -2,7 +2,7 @@ ghost use Rattle.std.specs.Prelude.{◌≡◌, ◌<◌, ℕ};
 ghost use Rattle.cga_agenda.specs.OneLot.{means_one_lot};
 
 use crate::{Ended, Turned, Worker, work};
-use cga_fraction::{NoMemory, Steps};
+use cga_fraction::{NoMemory, Steps, Tests};
 use std::marker::Brand;
 use std::sync::ledger::{Blank, Ledger};
 use std::test::Fail;
@@ -31,7 +31,7 @@ impl Worker for OneLot {
     fn turn<E: Ledger, T: Ledger>(
         &mut self,
         expansions: &mut Steps<E>,
-        _tests: &mut Steps<T>,
+        _tests: &mut Tests<T>,
     ) -> Result<Option<Turned>, NoMemory> {
         if self.done {
             return Ok(None);
@@ -66,7 +66,7 @@ fn worked<E: Ledger, T: Ledger>(
     requires tests_some { 0 < tests.parts }
 {
     let mut expansions = Steps::<E>::new(rt, expansions);
-    let mut tests = Steps::<T>::new(rt, tests);
+    let mut tests = Tests::<T>::new(rt, tests);
     let mut worker = OneLot { done: false };
     work(&mut worker, 1, 1, &mut expansions, &mut tests)
 }

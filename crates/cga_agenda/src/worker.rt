@@ -3,7 +3,7 @@ ghost use Rattle.cga_agenda.specs.Edit.{Edit};
 ghost use Rattle.cga_agenda.specs.Loop.{State, TellsEach, Counts, children_told, calls_told};
 
 use crate::turned::Turned;
-use cga_fraction::{NoMemory, Steps};
+use cga_fraction::{NoMemory, Steps, Tests};
 use std::sync::ledger::Ledger;
 
 /// What does the turns of an agenda. It keeps the nodes of a derivation, of which some are on the
@@ -31,7 +31,7 @@ pub trait Worker {
     fn turn<E: Ledger, T: Ledger>(
         &mut self,
         expansions: &mut Steps<E>,
-        tests: &mut Steps<T>,
+        tests: &mut Tests<T>,
     ) -> Result<Option<Turned>, NoMemory>
         ensures turned { IfOk result (λ turned.
             TellsEach (means self.old) (means self.new) expansions.old expansions.new (children_told turned)) }

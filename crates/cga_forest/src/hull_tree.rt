@@ -7,7 +7,7 @@ ghost use Rattle.cga_forest.specs.Walked.{forest_tree};
 use crate::Forest;
 use crate::standing::standing_of;
 use crate::store::child_count;
-use cga_fraction::Steps;
+use cga_fraction::Tests;
 use cga_frame::WorldBox;
 use cga_index::{HullTree, NodeId, Standing, answer};
 use cga_word::{Answer, Target};
@@ -48,7 +48,7 @@ impl HullTree for Forest {
         NodeId::new(self.store.entry(node.number() as usize).children[place] as u64)
     }
 
-    fn own_box<T: Ledger>(&self, node: NodeId, tests: &mut Steps<T>) -> WorldBox {
+    fn own_box<T: Ledger>(&self, node: NodeId, tests: &mut Tests<T>) -> WorldBox {
         tests.tick();
         self.store.entry(node.number() as usize).node.bounds()
     }
@@ -85,7 +85,7 @@ impl HullTree for Forest {
 
 impl Forest {
     /// What a node is answered: as by all boxes, since a forest keeps the laws of `HullTree` (`forests_are_hull_trees`).
-    pub fn ask<T: Ledger>(&self, node: NodeId, target: Target, tests: &mut Steps<T>) -> Answer
+    pub fn ask<T: Ledger>(&self, node: NodeId, target: Target, tests: &mut Tests<T>) -> Answer
         requires here { IsSome (node_at self.now node) }
         ensures found { result ≡ answer_of ((forest_tree self.now).own node) (asked (forest_tree self.now) node target (all_nodes (forest_tree self.now))) }
         ensures counted { tests.new ≤ tests.old + near (forest_tree self.now) node }

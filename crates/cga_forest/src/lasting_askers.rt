@@ -4,7 +4,7 @@ ghost use Rattle.cga_forest.specs.Tree.{marked_at};
 ghost use Rattle.cga_forest.specs.Walked.{lasting_tree};
 
 use crate::{Forest, slot_of};
-use cga_fraction::Steps;
+use cga_fraction::Tests;
 use cga_frame::WorldBox;
 use cga_index::{HullTree, NodeId, Standing};
 use std::sync::ledger::Ledger;
@@ -68,7 +68,7 @@ impl<'a> HullTree for LastingAskers<'a> {
     }
 
     #[tactic(auto, using(crate::proofs::Laws::in_forest))]
-    fn own_box<T: Ledger>(&self, node: NodeId, tests: &mut Steps<T>) -> WorldBox {
+    fn own_box<T: Ledger>(&self, node: NodeId, tests: &mut Tests<T>) -> WorldBox {
         self.forest.own_box(node, tests)
     }
 

@@ -1,9 +1,10 @@
 // Exact fractions, and the small types that every crate above shares: lists and boxes that contracts see as
-// what they hold, texts that grow, the answers for want of memory and for an early stop, and counters of steps. It knows nothing of
-// shapes or scopes.
+// what they hold, texts that grow, the answers for want of memory and for an early stop, and counters of expansions
+// and of box tests. It knows nothing of shapes or scopes.
 // The one thing that callers get wrong: a result that leaves the range is refused, and never rounded.
 #![tactic(auto)]
 
+mod box_tests;
 mod boxed;
 mod fraction;
 mod gcd;
@@ -14,6 +15,7 @@ mod steps;
 mod stop;
 mod text;
 
+pub use box_tests::Tests;
 pub use boxed::Boxed;
 pub use fraction::{DecimalFault, Fraction};
 pub use list::List;

@@ -3,7 +3,7 @@ ghost use Rattle.std.specs.Prelude.{◌≡◌, ◌<◌, ◌+◌};
 use std::marker::Model;
 use std::sync::ledger::{Blank, Book, Ledger, Share};
 
-/// A counter of steps, which takes no bytes when the program runs. Only `main` and tests can make one, since
+/// A counter of expansions, which takes no bytes when the program runs. Only `main` and tests can make one, since
 /// they alone are handed the runtime, and nothing lowers it.
 #[derive(Drop)]
 pub struct Steps<L: Ledger> {

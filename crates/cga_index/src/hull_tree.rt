@@ -4,7 +4,7 @@ ghost use Rattle.cga_index.specs.Tree.{TreeView, InTree, IsFarRun, IsQuietRun, t
 
 use crate::node_id::NodeId;
 use crate::standing::Standing;
-use cga_fraction::Steps;
+use cga_fraction::Tests;
 use cga_frame::WorldBox;
 use std::sync::ledger::Ledger;
 
@@ -58,7 +58,7 @@ pub trait HullTree {
         ensures { slice_get ((view self.now).children node) place ≡ Some result };
 
     /// The node's own box. It is the one call that counts as a test.
-    fn own_box<T: Ledger>(&self, node: NodeId, tests: &mut Steps<T>) -> WorldBox
+    fn own_box<T: Ledger>(&self, node: NodeId, tests: &mut Tests<T>) -> WorldBox
         requires node { InTree (view self.now) node }
         ensures value { result ≡ (view self.now).own node }
         ensures ticks { tests.new ≡ tests.old + 1 };

@@ -5,7 +5,7 @@ ghost use Rattle.cga_index.specs.Tree.{IsHullTree, InTree, below, askers, ListsA
 use crate::hull_tree::HullTree;
 use crate::node_id::NodeId;
 use crate::steps::{block_end, child_of, root_of};
-use cga_fraction::{List, NoMemory, Steps};
+use cga_fraction::{List, NoMemory, Tests};
 use cga_frame::WorldBox;
 use std::alloc::Global;
 use std::sync::ledger::Ledger;
@@ -16,7 +16,7 @@ fn list_one<H: HullTree, T: Ledger>(
     tree: &H,
     node: NodeId,
     area: &WorldBox,
-    tests: &mut Steps<T>,
+    tests: &mut Tests<T>,
     out: &mut Vec<NodeId>,
 ) -> Result<(), NoMemory>
     requires node { InTree (H.view tree.now) node }
@@ -49,7 +49,7 @@ fn list_from<H: HullTree, T: Ledger>(
     node: NodeId,
     left: usize,
     area: &WorldBox,
-    tests: &mut Steps<T>,
+    tests: &mut Tests<T>,
     out: &mut Vec<NodeId>,
 ) -> Result<(), NoMemory>
     requires laws { IsHullTree (H.view tree.now) }
@@ -72,7 +72,7 @@ fn list_children<H: HullTree, T: Ledger>(
     node: NodeId,
     left: usize,
     area: &WorldBox,
-    tests: &mut Steps<T>,
+    tests: &mut Tests<T>,
     out: &mut Vec<NodeId>,
 ) -> Result<(), NoMemory>
     requires laws { IsHullTree (H.view tree.now) }
@@ -92,7 +92,7 @@ fn list_block<H: HullTree, T: Ledger>(
     tree: &H,
     block: usize,
     area: &WorldBox,
-    tests: &mut Steps<T>,
+    tests: &mut Tests<T>,
     out: &mut Vec<NodeId>,
 ) -> Result<(), NoMemory>
     requires laws { IsHullTree (H.view tree.now) }
@@ -116,7 +116,7 @@ fn list_group<H: HullTree, T: Ledger>(
     tree: &H,
     group: usize,
     area: &WorldBox,
-    tests: &mut Steps<T>,
+    tests: &mut Tests<T>,
     out: &mut Vec<NodeId>,
 ) -> Result<(), NoMemory>
     requires laws { IsHullTree (H.view tree.now) }
@@ -139,7 +139,7 @@ pub fn queriers_meeting<H: HullTree, T: Ledger>(
     alloc: Global,
     tree: &H,
     area: &WorldBox,
-    tests: &mut Steps<T>,
+    tests: &mut Tests<T>,
 ) -> Result<List<NodeId>, NoMemory>
     requires laws { IsHullTree (H.view tree.now) }
     ensures { IfOk result (λ list. ListsAskers (H.view tree.now) area.now list) }

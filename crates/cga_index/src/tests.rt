@@ -4,7 +4,7 @@ ghost use Rattle.cga_index.specs.Tree.{InTree, IsHullTree};
 ghost use Rattle.cga_index.specs.TwoRoots.{box_at, standing_of, two_roots};
 
 use crate::{HullTree, NodeId, Standing, answer, queriers_meeting};
-use cga_fraction::{List, NoMemory, Steps};
+use cga_fraction::{List, NoMemory, Tests};
 use cga_frame::{Point, WorldBox};
 use cga_word::{Answer, Target};
 use std::alloc::Global;
@@ -71,7 +71,7 @@ impl HullTree for TwoRoots {
         }
     }
 
-    fn own_box<T: Ledger>(&self, node: NodeId, tests: &mut Steps<T>) -> WorldBox {
+    fn own_box<T: Ledger>(&self, node: NodeId, tests: &mut Tests<T>) -> WorldBox {
         tests.tick();
         box_of(node)
     }
@@ -95,14 +95,14 @@ impl HullTree for TwoRoots {
 
 // Two roots, and the two children of the first: at most four tests.
 #[tactic(auto, using(crate::proofs::TwoRoots::keeps_laws, crate::proofs::TwoRoots::first_leaf, crate::proofs::TwoRoots::near_is))]
-fn ask_first_leaf<T: Ledger>(target: Target, tests: &mut Steps<T>) -> Answer
+fn ask_first_leaf<T: Ledger>(target: Target, tests: &mut Tests<T>) -> Answer
     ensures { tests.new ≤ tests.old + 4 }
 {
     answer(&TwoRoots, NodeId::new(2), target, tests)
 }
 
 #[tactic(auto, using(crate::proofs::TwoRoots::keeps_laws))]
-fn askers<T: Ledger>(alloc: Global, tests: &mut Steps<T>) -> Result<List<NodeId>, NoMemory> {
+fn askers<T: Ledger>(alloc: Global, tests: &mut Tests<T>) -> Result<List<NodeId>, NoMemory> {
     queriers_meeting(alloc, &TwoRoots, &box_of(NodeId::new(2)), tests)
 }
 
@@ -112,7 +112,7 @@ fn asked<T: Ledger>(rt: &mut HostRuntime, blank: Blank) -> Result<(Answer, Answe
     requires parts { blank.parts ≡ T.parts }
     requires some { 0 < blank.parts }
 {
-    let mut tests = Steps::<T>::new(rt, blank);
+    let mut tests = Tests::<T>::new(rt, blank);
     let noparent = ask_first_leaf(Target::Noparent, &mut tests);
     let active = ask_first_leaf(Target::Active, &mut tests);
     let near = askers(rt.alloc(), &mut tests)?;

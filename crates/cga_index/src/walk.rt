@@ -7,7 +7,7 @@ use crate::hull_tree::HullTree;
 use crate::node_id::NodeId;
 use crate::standing::Standing;
 use crate::steps::{block_end, child_of, root_of};
-use cga_fraction::Steps;
+use cga_fraction::Tests;
 use cga_frame::WorldBox;
 use cga_word::{Answer, Target};
 use std::sync::ledger::Ledger;
@@ -68,7 +68,7 @@ fn look<H: HullTree, T: Ledger>(
     by: NodeId,
     target: Target,
     area: &WorldBox,
-    tests: &mut Steps<T>,
+    tests: &mut Tests<T>,
 ) -> Answer
     requires node { InTree (H.view tree.now) node }
     requires by { InTree (H.view tree.now) by }
@@ -96,7 +96,7 @@ fn visit<H: HullTree, T: Ledger>(
     by: NodeId,
     target: Target,
     area: &WorldBox,
-    tests: &mut Steps<T>,
+    tests: &mut Tests<T>,
 ) -> Answer
     requires laws { IsHullTree (H.view tree.now) }
     requires node { InTree (H.view tree.now) node }
@@ -123,7 +123,7 @@ fn visit_children<H: HullTree, T: Ledger>(
     by: NodeId,
     target: Target,
     area: &WorldBox,
-    tests: &mut Steps<T>,
+    tests: &mut Tests<T>,
 ) -> Answer
     requires laws { IsHullTree (H.view tree.now) }
     requires node { InTree (H.view tree.now) node }
@@ -150,7 +150,7 @@ fn visit_block<H: HullTree, T: Ledger>(
     by: NodeId,
     target: Target,
     area: &WorldBox,
-    tests: &mut Steps<T>,
+    tests: &mut Tests<T>,
 ) -> Answer
     requires laws { IsHullTree (H.view tree.now) }
     requires block { 16 * block ≤ length (H.view tree.now).roots }
@@ -181,7 +181,7 @@ fn visit_group<H: HullTree, T: Ledger>(
     by: NodeId,
     target: Target,
     area: &WorldBox,
-    tests: &mut Steps<T>,
+    tests: &mut Tests<T>,
 ) -> Answer
     requires laws { IsHullTree (H.view tree.now) }
     requires group { 256 * group ≤ length (H.view tree.now).roots }
@@ -207,7 +207,7 @@ pub fn answer<H: HullTree, T: Ledger>(
     tree: &H,
     node: NodeId,
     target: Target,
-    tests: &mut Steps<T>,
+    tests: &mut Tests<T>,
 ) -> Answer
     requires laws { IsHullTree (H.view tree.now) }
     requires node { InTree (H.view tree.now) node }

@@ -8,7 +8,7 @@ ghost use Rattle.cga_judge.specs.declared.limits.TheConstants.{MOST_SHAPES};
 use crate::same::is_same;
 use crate::verdict::Verdict;
 use cga_derive::Run;
-use cga_fraction::{NoMemory, Steps};
+use cga_fraction::{NoMemory, Steps, Tests};
 use cga_shape::{Sources, TraceStep};
 use std::alloc::Global;
 use std::sync::ledger::Ledger;
@@ -21,7 +21,7 @@ pub fn judge<E: Ledger, T: Ledger>(
     sources: &Sources,
     steps: &[TraceStep],
     expansions: &mut Steps<E>,
-    tests: &mut Steps<T>,
+    tests: &mut Tests<T>,
 ) -> Result<Verdict, NoMemory>
     requires names { NamesDiffer sources.now.lots }
     requires roots { RootsExist sources.now.lots }

@@ -13,7 +13,7 @@ use crate::reports::{bill, dump, faults, grammar, print_city, print_lot, stats};
 use crate::session::Session;
 use crate::traces::trace;
 use cga_asset::AssetReader;
-use cga_fraction::{List, NoMemory, Steps};
+use cga_fraction::{List, NoMemory, Steps, Tests};
 use cga_parser::GrammarReader;
 use cga_script::{CityReader, ScriptCommand};
 use cga_trace::JudgeReader;
@@ -81,7 +81,7 @@ pub(crate) fn do_command<E: Ledger, T: Ledger>(
     session: &mut Session,
     command: ScriptCommand,
     expansions: &mut Steps<E>,
-    tests: &mut Steps<T>,
+    tests: &mut Tests<T>,
 ) -> Result<List<u8>, NoMemory>
     requires ready { IsReady session.old }
     requires written { AsksWritten command }

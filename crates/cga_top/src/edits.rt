@@ -9,7 +9,7 @@ ghost use Rattle.cga_top.specs.Session.{IsAt, Did};
 ghost use Rattle.cga_top.specs.Ready.{IsReady, Tells, Works};
 
 use crate::session::{Session, accepted};
-use cga_fraction::{List, NoMemory, Steps};
+use cga_fraction::{List, NoMemory, Steps, Tests};
 use cga_script::{Refused, Version, refusal_text};
 use cga_shape::{Edit, EditRefused, Sources};
 use std::sync::ledger::Ledger;
@@ -19,7 +19,7 @@ fn work_edit<E: Ledger, T: Ledger>(
     session: &mut Session,
     edit: Edit,
     expansions: &mut Steps<E>,
-    tests: &mut Steps<T>,
+    tests: &mut Tests<T>,
 ) -> Result<Result<(), EditRefused>, NoMemory>
     requires ready { IsReady session.old }
     requires lots { HasDistinctLots edit }
@@ -43,7 +43,7 @@ fn do_edit<E: Ledger, T: Ledger>(
     session: &mut Session,
     edit: Edit,
     expansions: &mut Steps<E>,
-    tests: &mut Steps<T>,
+    tests: &mut Tests<T>,
 ) -> Result<Result<Sources, EditRefused>, NoMemory>
     requires ready { IsReady session.old }
     requires lots { HasDistinctLots edit }
@@ -61,7 +61,7 @@ pub(crate) fn change<E: Ledger, T: Ledger>(
     session: &mut Session,
     edit: Edit,
     expansions: &mut Steps<E>,
-    tests: &mut Steps<T>,
+    tests: &mut Tests<T>,
 ) -> Result<List<u8>, NoMemory>
     requires ready { IsReady session.old }
     requires written { IsWritten edit }
@@ -79,7 +79,7 @@ fn change_alone<E: Ledger, T: Ledger>(
     session: &mut Session,
     edit: Edit,
     expansions: &mut Steps<E>,
-    tests: &mut Steps<T>,
+    tests: &mut Tests<T>,
 ) -> Result<List<u8>, NoMemory>
     requires ready { IsReady session.old }
     requires written { IsWritten edit }
@@ -99,7 +99,7 @@ fn change_and_note<E: Ledger, T: Ledger>(
     session: &mut Session,
     edit: Edit,
     expansions: &mut Steps<E>,
-    tests: &mut Steps<T>,
+    tests: &mut Tests<T>,
 ) -> Result<List<u8>, NoMemory>
     requires ready { IsReady session.old }
     requires written { IsWritten edit }
@@ -122,7 +122,7 @@ fn change_and_note<E: Ledger, T: Ledger>(
 pub(crate) fn undo<E: Ledger, T: Ledger>(
     session: &mut Session,
     expansions: &mut Steps<E>,
-    tests: &mut Steps<T>,
+    tests: &mut Tests<T>,
 ) -> Result<List<u8>, NoMemory>
     requires { IsReady session.old }
     ensures did { (s : State) → IsAt s session.old
@@ -147,7 +147,7 @@ pub(crate) fn undo<E: Ledger, T: Ledger>(
 pub(crate) fn redo<E: Ledger, T: Ledger>(
     session: &mut Session,
     expansions: &mut Steps<E>,
-    tests: &mut Steps<T>,
+    tests: &mut Tests<T>,
 ) -> Result<List<u8>, NoMemory>
     requires { IsReady session.old }
     ensures did { (s : State) → IsAt s session.old

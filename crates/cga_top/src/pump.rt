@@ -17,7 +17,7 @@ ghost use Rattle.cga_top.specs.Faults.{FaultsBy};
 use crate::halt::Halt;
 use crate::session::Session;
 use crate::turns::do_line;
-use cga_fraction::{NoMemory, Steps};
+use cga_fraction::{NoMemory, Steps, Tests};
 use cga_outside::{Failed, Sink};
 use cga_script::Lines;
 use std::sync::ledger::Ledger;
@@ -44,7 +44,7 @@ pub(crate) fn take_line<K: Sink, E: Ledger, T: Ledger>(
     lines: &mut Lines,
     out: &mut K,
     expansions: &mut Steps<E>,
-    tests: &mut Steps<T>,
+    tests: &mut Tests<T>,
 ) -> Result<(), Halt>
     requires { IsReady session.old }
     ensures ok { (s : State) → IsAt s session.old
@@ -77,7 +77,7 @@ pub(crate) fn take_piece<K: Sink, E: Ledger, T: Ledger>(
     piece: &[u8],
     out: &mut K,
     expansions: &mut Steps<E>,
-    tests: &mut Steps<T>,
+    tests: &mut Tests<T>,
 ) -> Result<(), Halt>
     requires part { IsKeptPart lines.old }
     requires ready { IsReady session.old }
@@ -128,7 +128,7 @@ pub(crate) fn reply_to<K: Sink, E: Ledger, T: Ledger>(
     piece: &[u8],
     out: &mut K,
     expansions: &mut Steps<E>,
-    tests: &mut Steps<T>,
+    tests: &mut Tests<T>,
 ) -> Result<(), Halt>
     requires part { IsKeptPart lines.old }
     requires ready { IsReady session.old }

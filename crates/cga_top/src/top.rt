@@ -24,7 +24,7 @@ use crate::read_end::ReadEnd;
 use crate::reads::read_lines;
 use crate::script_end::end_script;
 use crate::session::{Session, new_session};
-use cga_fraction::{NoMemory, Steps};
+use cga_fraction::{NoMemory, Steps, Tests};
 use cga_outside::{Failed, Sink, Source};
 use cga_script::Lines;
 use cga_words::{Status, WordsFault, read_words, town_script};
@@ -63,7 +63,7 @@ pub(crate) fn run_in<S: Source, K: Sink, E: Ledger, T: Ledger>(
     script: &mut S,
     out: &mut K,
     expansions: &mut Steps<E>,
-    tests: &mut Steps<T>,
+    tests: &mut Tests<T>,
 ) -> Status
     requires session { IsAt (start session.old.decimals) session.old }
     requires ready { IsReady session.old }
@@ -101,7 +101,7 @@ fn run_script<S: Source, K: Sink, E: Ledger, T: Ledger>(
     script: &mut S,
     out: &mut K,
     expansions: &mut Steps<E>,
-    tests: &mut Steps<T>,
+    tests: &mut Tests<T>,
 ) -> Status
     ensures means { StatusMeans decimals result
         (outside_of S.Source K.Sink script.old out.old expansions.old)
@@ -128,7 +128,7 @@ fn take_all<K: Sink, E: Ledger, T: Ledger>(
     script: &[u8],
     out: &mut K,
     expansions: &mut Steps<E>,
-    tests: &mut Steps<T>,
+    tests: &mut Tests<T>,
 ) -> Result<(), Halt>
     requires session { IsAt (start session.old.decimals) session.old }
     requires ready { IsReady session.old }
@@ -155,7 +155,7 @@ fn given_in<K: Sink, E: Ledger, T: Ledger>(
     script: &[u8],
     out: &mut K,
     expansions: &mut Steps<E>,
-    tests: &mut Steps<T>,
+    tests: &mut Tests<T>,
 ) -> Status
     requires session { IsAt (start session.old.decimals) session.old }
     requires ready { IsReady session.old }
@@ -180,7 +180,7 @@ fn run_given<K: Sink, E: Ledger, T: Ledger>(
     script: &[u8],
     out: &mut K,
     expansions: &mut Steps<E>,
-    tests: &mut Steps<T>,
+    tests: &mut Tests<T>,
 ) -> Status
     ensures means { GivenMeans decimals script.now result
         (sunk_in K.Sink out.old expansions.old) (sunk_in K.Sink out.new expansions.new) }
@@ -202,7 +202,7 @@ fn run_town<K: Sink, E: Ledger, T: Ledger>(
     lots: u32,
     out: &mut K,
     expansions: &mut Steps<E>,
-    tests: &mut Steps<T>,
+    tests: &mut Tests<T>,
 ) -> Status
     requires { IsTown lots }
     ensures means { GivenMeans decimals (town_text lots) result
@@ -231,7 +231,7 @@ pub fn run_city<S: Source, K: Sink, E: Ledger, T: Ledger>(
     script: &mut S,
     out: &mut K,
     expansions: &mut Steps<E>,
-    tests: &mut Steps<T>,
+    tests: &mut Tests<T>,
 ) -> Status
     requires { IsFalse (S.ended script.old) }
 

@@ -10,7 +10,7 @@ ghost use Rattle.cga_top.specs.Session.{Did, IsAt};
 ghost use Rattle.cga_top.specs.Ready.{IsReady};
 
 use crate::session::Session;
-use cga_fraction::{List, NoMemory, Steps};
+use cga_fraction::{List, NoMemory, Steps, Tests};
 use cga_judge::{Verdict, judge};
 use cga_shape::TraceStep;
 use cga_trace::{JudgeReader, are_steps, judged_text, trace_text};
@@ -40,7 +40,7 @@ fn place<E: Ledger, T: Ledger>(
     session: &Session,
     reader: &JudgeReader,
     expansions: &mut Steps<E>,
-    tests: &mut Steps<T>,
+    tests: &mut Tests<T>,
 ) -> Result<Option<u32>, NoMemory>
     requires { IsReady session.now }
     ensures { (s : State) (lines : List Line) → IsAt s session.now → IsRead reader.now lines
@@ -64,7 +64,7 @@ pub(crate) fn judge_lines<E: Ledger, T: Ledger>(
     session: &Session,
     reader: &JudgeReader,
     expansions: &mut Steps<E>,
-    tests: &mut Steps<T>,
+    tests: &mut Tests<T>,
 ) -> Result<List<u8>, NoMemory>
     requires { IsReady session.now }
     ensures { (s : State) (lines : List Line) → IsAt s session.now → IsRead reader.now lines

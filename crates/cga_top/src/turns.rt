@@ -17,7 +17,7 @@ use cga_bill::Bill;
 use cga_city::City;
 use cga_city::limits::BUDGET_TWO;
 use cga_form::{BlockFault, LineFault};
-use cga_fraction::{List, NoMemory, Steps};
+use cga_fraction::{List, NoMemory, Steps, Tests};
 use cga_script::{
     Refused, ScriptCommand, Version, command, ends_block, refusal_text, version_line,
 };
@@ -65,7 +65,7 @@ fn do_asked<E: Ledger, T: Ledger>(
     session: &mut Session,
     told: Result<ScriptCommand, LineFault>,
     expansions: &mut Steps<E>,
-    tests: &mut Steps<T>,
+    tests: &mut Tests<T>,
 ) -> Result<List<u8>, NoMemory>
     requires ready { IsReady session.old }
     requires written { IfOk told AsksWritten }
@@ -94,7 +94,7 @@ fn do_outside<E: Ledger, T: Ledger>(
     line: &[u8],
     long: bool,
     expansions: &mut Steps<E>,
-    tests: &mut Steps<T>,
+    tests: &mut Tests<T>,
 ) -> Result<List<u8>, NoMemory>
     requires { IsReady session.old }
     ensures did { (s : State) → IsAt s session.old
@@ -113,7 +113,7 @@ fn close<E: Ledger, T: Ledger>(
     session: &mut Session,
     made: Result<Edit, BlockFault>,
     expansions: &mut Steps<E>,
-    tests: &mut Steps<T>,
+    tests: &mut Tests<T>,
 ) -> Result<List<u8>, NoMemory>
     requires ready { IsReady session.old }
     requires written { IfOk made IsWritten }
@@ -132,7 +132,7 @@ fn do_end<E: Ledger, T: Ledger>(
     session: &mut Session,
     block: OpenBlock,
     expansions: &mut Steps<E>,
-    tests: &mut Steps<T>,
+    tests: &mut Tests<T>,
 ) -> Result<List<u8>, NoMemory>
     requires ready { IsReady session.old }
     requires read { HasRead block }
@@ -154,7 +154,7 @@ pub(crate) fn do_line<E: Ledger, T: Ledger>(
     line: &[u8],
     long: bool,
     expansions: &mut Steps<E>,
-    tests: &mut Steps<T>,
+    tests: &mut Tests<T>,
 ) -> Result<List<u8>, NoMemory>
     requires { IsReady session.old }
     ensures did { (s : State) → IsAt s session.old

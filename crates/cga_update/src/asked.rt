@@ -11,7 +11,7 @@ ghost use Rattle.cga_update.specs.Asked.{answered};
 ghost use Rattle.cga_update.specs.Edit.{the_edit, kept_nodes, ranked};
 
 use cga_forest::Forest;
-use cga_fraction::Steps;
+use cga_fraction::Tests;
 use cga_index::NodeId;
 use cga_shape::Answers;
 use cga_word::{Answer, Target};
@@ -23,7 +23,7 @@ pub fn asked<T: Ledger>(
     id: NodeId,
     noparent: bool,
     active: bool,
-    tests: &mut Steps<T>,
+    tests: &mut Tests<T>,
 ) -> Answers
     requires here { IsSome (node_at forest.now id) }
     // It is what the theory asks, of any sources in whose mode the forest stands.
@@ -43,7 +43,7 @@ fn answered<T: Ledger>(
     id: NodeId,
     target: Target,
     mentioned: bool,
-    tests: &mut Steps<T>,
+    tests: &mut Tests<T>,
 ) -> Option<Answer>
     requires here { IsSome (node_at forest.now id) }
     ensures { result ≡ answered forest.now id target mentioned }

@@ -7,7 +7,7 @@ ghost use Rattle.cga_update.specs.Askers.{AddsThese, AsksNear, AsksWithin, Lists
 
 use crate::around::box_around;
 use cga_forest::{Forest, LastingAskers, Moved};
-use cga_fraction::{List, NoMemory, Steps};
+use cga_fraction::{List, NoMemory, Tests};
 use cga_frame::WorldBox;
 use cga_index::{HullTree, NodeId, queriers_meeting};
 use std::alloc::Global;
@@ -22,7 +22,7 @@ pub fn askers_near<T: Ledger>(
     alloc: Global,
     forest: &Forest,
     moved: &[Moved],
-    tests: &mut Steps<T>,
+    tests: &mut Tests<T>,
 ) -> Result<List<NodeId>, NoMemory>
     ensures { IfOk result (ListsNear forest.now (boxes_of moved.now)) }
 {
@@ -53,7 +53,7 @@ fn add_near<T: Ledger>(
     alloc: Global,
     forest: &Forest,
     areas: &[WorldBox],
-    tests: &mut Steps<T>,
+    tests: &mut Tests<T>,
     near: &mut Vec<NodeId>,
 ) -> Result<(), NoMemory>
     ensures { OnOk result (AddsThese (AsksNear forest.now areas.now) near.old.items near.new.items) }
@@ -74,7 +74,7 @@ fn add_within<T: Ledger>(
     forest: &Forest,
     around: &WorldBox,
     areas: &[WorldBox],
-    tests: &mut Steps<T>,
+    tests: &mut Tests<T>,
     near: &mut Vec<NodeId>,
 ) -> Result<(), NoMemory>
     ensures { OnOk result (AddsThese (AsksWithin forest.now around.now areas.now) near.old.items near.new.items) }

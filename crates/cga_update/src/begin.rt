@@ -12,7 +12,7 @@ use crate::roots::{add_roots, remove_roots};
 use crate::work::Work;
 use cga_depend::Dependents;
 use cga_forest::{Forest, Moved};
-use cga_fraction::{NoMemory, Steps};
+use cga_fraction::{NoMemory, Tests};
 use cga_queue::Agenda;
 use std::alloc::Global;
 use std::sync::ledger::Ledger;
@@ -23,7 +23,7 @@ fn queue_rooted<T: Ledger>(
     forest: &Forest,
     went: &[Moved],
     came: &[Moved],
-    tests: &mut Steps<T>,
+    tests: &mut Tests<T>,
 ) -> Result<(), NoMemory>
     ensures moved { OnOk result (HasMoved forest.now went.now came.now agenda.new) }
     ensures mode { OnOk result (agenda.new.mode ≡ agenda.old.mode) }
@@ -41,7 +41,7 @@ fn begin<T: Ledger>(
     work: &mut Work,
     budget: u32,
     dependents: &Dependents,
-    tests: &mut Steps<T>,
+    tests: &mut Tests<T>,
 ) -> Result<(), NoMemory>
     requires stands { StandsMarked work.now.old.now work.now.new.now work.now.forest dependents.now }
     requires fresh { IsFresh work.now }
@@ -96,7 +96,7 @@ pub fn begun<'a, T: Ledger>(
     forest: Forest,
     dependents: &Dependents,
     renewal: Renewal<'a>,
-    tests: &mut Steps<T>,
+    tests: &mut Tests<T>,
 ) -> Result<Work<'a>, NoMemory>
     requires stands { StandsMarked renewal.old.now renewal.new.now forest dependents.now }
     ensures begun { IfOk result (λ work. HasBegun renewal.entry.old.now renewal.entry.new.now forest work) }

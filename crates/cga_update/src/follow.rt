@@ -11,7 +11,7 @@ ghost use Rattle.cga_update.specs.Queue.{chains_of};
 use crate::askers::askers_near;
 use crate::due::{add_each, add_moved};
 use cga_forest::{Change, Forest, Moved};
-use cga_fraction::{NoMemory, Steps};
+use cga_fraction::{NoMemory, Tests};
 use cga_index::NodeId;
 use cga_queue::Agenda;
 use std::sync::ledger::Ledger;
@@ -22,7 +22,7 @@ fn add_met<T: Ledger>(
     forest: &Forest,
     of: NodeId,
     moved: &[Moved],
-    tests: &mut Steps<T>,
+    tests: &mut Tests<T>,
 ) -> Result<(), NoMemory>
     requires one { OneEach (chains_of forest.now) }
     ensures grows { OnOk result (Grows (chains_of forest.now) (ComesAfter forest.now agenda.old.mode of) agenda.old agenda.new) }
@@ -40,7 +40,7 @@ pub fn follow<T: Ledger>(
     of: NodeId,
     change: &Change,
     all_came: bool,
-    tests: &mut Steps<T>,
+    tests: &mut Tests<T>,
 ) -> Result<(), NoMemory>
     requires one { OneEach (chains_of forest.now) }
     ensures { OnOk result (IsFollowed forest.now of change.now all_came agenda.old agenda.new) }

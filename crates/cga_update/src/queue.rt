@@ -14,7 +14,7 @@ use crate::due::add_worked;
 use crate::renewal::Renewal;
 use cga_depend::Dependents;
 use cga_forest::{Forest, Moved};
-use cga_fraction::{NoMemory, Steps};
+use cga_fraction::{NoMemory, Tests};
 use cga_index::NodeId;
 use cga_queue::Agenda;
 use cga_word::Name;
@@ -45,7 +45,7 @@ pub fn queue_near<T: Ledger>(
     agenda: &mut Agenda,
     forest: &Forest,
     moved: &[Moved],
-    tests: &mut Steps<T>,
+    tests: &mut Tests<T>,
 ) -> Result<(), NoMemory>
     ensures kept { OnOk result (KeepsOn forest.now agenda.old agenda.new) }
     ensures there { OnOk result ((m : Moved) → Among m moved.now → HasNear forest.now (box_of m.scope) agenda.new) }

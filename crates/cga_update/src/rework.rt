@@ -19,7 +19,7 @@ use crate::update_refused::UpdateRefused;
 use crate::work::Work;
 use cga_agenda::{Ended, work};
 use cga_forest::Forest;
-use cga_fraction::{NoMemory, Steps};
+use cga_fraction::{NoMemory, Steps, Tests};
 use cga_shape::Changes;
 use std::alloc::Global;
 use std::mem::replace;
@@ -32,7 +32,7 @@ pub fn rework<E: Ledger, T: Ledger>(
     renewal: Renewal,
     changes: &mut Changes,
     expansions: &mut Steps<E>,
-    tests: &mut Steps<T>,
+    tests: &mut Tests<T>,
 ) -> Result<u64, UpdateRefused>
     requires mode { renewal.old.now.mode ≡ renewal.new.now.mode }
     requires old_names { NamesDiffer renewal.old.now.lots }
@@ -66,7 +66,7 @@ fn begin_work<'a, T: Ledger>(
     alloc: Global,
     kept: &mut Kept,
     renewal: Renewal<'a>,
-    tests: &mut Steps<T>,
+    tests: &mut Tests<T>,
 ) -> Result<Work<'a>, NoMemory>
     requires mode { renewal.old.now.mode ≡ renewal.new.now.mode }
     requires old_names { NamesDiffer renewal.old.now.lots }
@@ -88,7 +88,7 @@ fn work_off<E: Ledger, T: Ledger>(
     under_way: &mut Work,
     budget: u32,
     expansions: &mut Steps<E>,
-    tests: &mut Steps<T>,
+    tests: &mut Tests<T>,
 ) -> Result<Ended, NoMemory>
     requires few { length under_way.now.new.now.lots ≤ budget }
     ensures ended { IfOk result (λ ended. (old new : Sources) (v : ForestView) → RootsExist new.lots

@@ -23,7 +23,7 @@ use crate::work::Work;
 use cga_agenda::Turned;
 use cga_expand::expand;
 use cga_forest::{Forest, Node};
-use cga_fraction::{List, NoMemory, Steps};
+use cga_fraction::{List, NoMemory, Steps, Tests};
 use cga_index::NodeId;
 use cga_shape::{Answers, Emitted, Kind, ShapeFault};
 use std::sync::ledger::Ledger;
@@ -40,7 +40,7 @@ fn place<T: Ledger>(
     id: NodeId,
     answers: Answers,
     outcome: &Result<List<Emitted>, ShapeFault>,
-    tests: &mut Steps<T>,
+    tests: &mut Tests<T>,
 ) -> Result<(), NoMemory>
     requires here { (e : Seen) × (node_at work.now.forest id ≡ Some e) × MayGrow e outcome.now }
     ensures placed { OnOk result (HasPlaced work.entry.now work.exit.now id answers outcome.now) }
@@ -155,7 +155,7 @@ fn expand_at<E: Ledger, T: Ledger>(
     id: NodeId,
     answers: Answers,
     expansions: &mut Steps<E>,
-    tests: &mut Steps<T>,
+    tests: &mut Tests<T>,
 ) -> Result<Turned, NoMemory>
     requires here { (e : Seen) × (node_at work.now.forest id ≡ Some e) × (world.is_instance e.node.kind ≡ false) }
     ensures placed { IfOk result (λ turned. (outcome : Outcome) × HasPlaced work.entry.now work.exit.now id answers outcome
@@ -180,7 +180,7 @@ fn place_again<T: Ledger>(
     work: &mut Work,
     id: NodeId,
     answers: Answers,
-    tests: &mut Steps<T>,
+    tests: &mut Tests<T>,
 ) -> Result<Turned, NoMemory>
     requires here { (e : Seen) × (node_at work.now.forest id ≡ Some e) × (world.is_instance e.node.kind ≡ false) }
     ensures placed { IfOk result (λ turned. (outcome : Outcome) × HasPlaced work.entry.now work.exit.now id answers outcome
@@ -200,7 +200,7 @@ fn turn_of<E: Ledger, T: Ledger>(
     work: &mut Work,
     id: NodeId,
     expansions: &mut Steps<E>,
-    tests: &mut Steps<T>,
+    tests: &mut Tests<T>,
 ) -> Result<Turned, NoMemory>
     requires here { (e : Seen) × (node_at work.now.forest id ≡ Some e) × (world.is_instance e.node.kind ≡ false) }
     ensures turned { IfOk result (λ turned. MayTurn work.entry.now → IsTurned work.entry.now work.exit.now id turned) }
@@ -225,7 +225,7 @@ fn turn_of<E: Ledger, T: Ledger>(
 pub fn turn<E: Ledger, T: Ledger>(
     work: &mut Work,
     expansions: &mut Steps<E>,
-    tests: &mut Steps<T>,
+    tests: &mut Tests<T>,
 ) -> Result<Option<Turned>, NoMemory>
     ensures turned { IfOk result (λ turned. TellsEach (Means work.entry.now) (Means work.exit.now) expansions.old expansions.new (children_told turned)) }
     ensures called { IfOk result (λ turned. expansions.new ≡ expansions.old + calls_told turned) }

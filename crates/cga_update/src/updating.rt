@@ -11,7 +11,7 @@ use crate::kept::Kept;
 use crate::renewal::Renewal;
 use crate::rework::rework;
 use crate::update_refused::UpdateRefused;
-use cga_fraction::{NoMemory, Steps};
+use cga_fraction::{NoMemory, Steps, Tests};
 use cga_shape::{Changes, Sources};
 use std::alloc::Global;
 use std::mem::swap;
@@ -29,7 +29,7 @@ pub fn update<E: Ledger, T: Ledger>(
     renewal: Renewal,
     changes: &mut Changes,
     expansions: &mut Steps<E>,
-    tests: &mut Steps<T>,
+    tests: &mut Tests<T>,
 ) -> Result<u64, UpdateRefused>
     requires old_names { NamesDiffer renewal.old.now.lots }
     requires names { NamesDiffer renewal.new.now.lots }
@@ -51,7 +51,7 @@ fn change_mode<E: Ledger, T: Ledger>(
     renewal: Renewal,
     changes: &mut Changes,
     expansions: &mut Steps<E>,
-    tests: &mut Steps<T>,
+    tests: &mut Tests<T>,
 ) -> Result<u64, UpdateRefused>
     requires mode { renewal.old.now.mode ≢ renewal.new.now.mode }
     requires old_names { NamesDiffer renewal.old.now.lots }
@@ -74,7 +74,7 @@ fn exchange<E: Ledger, T: Ledger>(
     renewal: Renewal,
     changes: &mut Changes,
     expansions: &mut Steps<E>,
-    tests: &mut Steps<T>,
+    tests: &mut Tests<T>,
 ) -> Result<u64, UpdateRefused>
     requires mode { renewal.old.now.mode ≢ renewal.new.now.mode }
     requires old_names { NamesDiffer renewal.old.now.lots }
@@ -110,7 +110,7 @@ fn empty<E: Ledger, T: Ledger>(
     old: &Sources,
     changes: &mut Changes,
     expansions: &mut Steps<E>,
-    tests: &mut Steps<T>,
+    tests: &mut Tests<T>,
 ) -> Result<(), NoMemory>
     requires names { NamesDiffer old.now.lots }
     requires stands { Stands old.now kept.old }

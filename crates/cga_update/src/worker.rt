@@ -2,7 +2,7 @@
 use crate::turn::turn;
 use crate::work::Work;
 use cga_agenda::{Turned, Worker};
-use cga_fraction::{NoMemory, Steps};
+use cga_fraction::{NoMemory, Steps, Tests};
 use std::sync::ledger::Ledger;
 
 impl<'a> Worker for Work<'a> {
@@ -32,7 +32,7 @@ impl<'a> Worker for Work<'a> {
     fn turn<E: Ledger, T: Ledger>(
         &mut self,
         expansions: &mut Steps<E>,
-        tests: &mut Steps<T>,
+        tests: &mut Tests<T>,
     ) -> Result<Option<Turned>, NoMemory> {
         turn(self, expansions, tests)
     }
