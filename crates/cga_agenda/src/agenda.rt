@@ -15,7 +15,7 @@ pub fn work<W: Worker, E: Ledger, T: Ledger>(
     worker: &mut W,
     roots: u32,
     budget: u32,
-    expansions: &mut Steps<E>,
+    expansions: &mut Steps<E, W::Key>,
     tests: &mut Tests<T>,
 ) -> Result<Ended, NoMemory>
     ensures ended { IfOk result (λ ended.

@@ -13,7 +13,13 @@ struct OneLot {
     done: bool,
 }
 
+// What a turn of it shows.
+#[derive(Drop)]
+struct Turning;
+
 impl Worker for OneLot {
+    type Key = Turning;
+
     ghost Shape = { ℕ };
 
     ghost Answers = { ℕ };
@@ -30,14 +36,14 @@ impl Worker for OneLot {
 
     fn turn<E: Ledger, T: Ledger>(
         &mut self,
-        expansions: &mut Steps<E>,
+        expansions: &mut Steps<E, Turning>,
         _tests: &mut Tests<T>,
     ) -> Result<Option<Turned>, NoMemory> {
         if self.done {
             return Ok(None);
         }
         self.done = true;
-        expansions.tick();
+        expansions.tick(&Turning);
         Ok(Some(Turned {
             children: 0,
             expanded: true,
@@ -65,7 +71,7 @@ fn worked<E: Ledger, T: Ledger>(
     requires tests_parts { tests.parts ≡ T.parts }
     requires tests_some { 0 < tests.parts }
 {
-    let mut expansions = Steps::<E>::new(rt, expansions);
+    let mut expansions = Steps::<E, Turning>::new(rt, expansions);
     let mut tests = Tests::<T>::new(rt, tests);
     let mut worker = OneLot { done: false };
     work(&mut worker, 1, 1, &mut expansions, &mut tests)

@@ -9,6 +9,9 @@ use std::sync::ledger::Ledger;
 /// What does the turns of an agenda. It keeps the nodes of a derivation, of which some are on the
 /// agenda, and the record of what went and came.
 pub trait Worker {
+    /// What a tick of the counter of expansions wants to be shown.
+    type Key;
+
     // of what shapes, answers, settings, faults and solids the derivations are
     ghost Shape: { Type 0 };
 
@@ -30,7 +33,7 @@ pub trait Worker {
     /// expand ticks `expansions`.
     fn turn<E: Ledger, T: Ledger>(
         &mut self,
-        expansions: &mut Steps<E>,
+        expansions: &mut Steps<E, Self::Key>,
         tests: &mut Tests<T>,
     ) -> Result<Option<Turned>, NoMemory>
         ensures turned { IfOk result (λ turned.

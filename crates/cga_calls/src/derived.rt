@@ -5,7 +5,8 @@ ghost use Rattle.cga_expand.specs.Derivation.{NamesDiffer};
 ghost use Rattle.cga_expand.specs.Validity.{RootsExist};
 
 use cga_derive::derive;
-use cga_fraction::{NoMemory, Steps, Tests};
+use cga_expand::Expansions;
+use cga_fraction::{NoMemory, Tests};
 use cga_script::CityReader;
 use cga_shape::{Kind, Lot, Placed, Sources};
 use std::alloc::Global;
@@ -103,7 +104,7 @@ fn counted<E: Ledger, T: Ledger>(
     requires tests_parts { tests.parts ≡ T.parts }
     requires tests_some { 0 < tests.parts }
 {
-    let mut expansions = Steps::<E>::new(rt, expansions);
+    let mut expansions = Expansions::<E>::new(rt, expansions);
     let mut tests = Tests::<T>::new(rt, tests);
     match derive(rt.alloc(), sources, budget, &mut expansions, &mut tests)? {
         Ok(list) => Ok(Some(numbers(list.as_slice()))),

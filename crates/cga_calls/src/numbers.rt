@@ -111,8 +111,8 @@ fn counted<L: Ledger>(rt: &mut HostRuntime, blank: Blank)
     requires parts { blank.parts ≡ L.parts }
     requires some { 0 < blank.parts }
 {
-    let mut steps = Steps::<L>::new(rt, blank);
-    steps.tick();
+    let mut steps = Steps::<L, u8>::new(rt, blank);
+    steps.tick(&1);
 }
 
 #[test]

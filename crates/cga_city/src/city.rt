@@ -15,7 +15,8 @@ use crate::empty::{empty_sources, no_changes, no_shapes};
 use crate::no_lot::NoLot;
 use crate::reports::{all_faults, told};
 use crate::tally::tally_all;
-use cga_fraction::{List, NoMemory, Steps, Tests};
+use cga_expand::Expansions;
+use cga_fraction::{List, NoMemory, Tests};
 use cga_frame::WorldBox;
 use cga_rule::Grammar;
 use cga_shape::{Changes, Counts, Drawn, Edit, EditRefused, FaultLine, Lot, Sources, TraceStep};
@@ -80,7 +81,7 @@ impl City {
     pub fn edit<E: Ledger, T: Ledger>(
         &mut self,
         edit: Edit,
-        expansions: &mut Steps<E>,
+        expansions: &mut Expansions<E>,
         tests: &mut Tests<T>,
     ) -> Result<(), EditRefused>
         requires warm { IsTrue self.old.warm }
@@ -130,7 +131,7 @@ impl City {
     /// told of the last accepted edit stays. Takes memory where the city is cold.
     pub fn rewarm<E: Ledger, T: Ledger>(
         &mut self,
-        expansions: &mut Steps<E>,
+        expansions: &mut Expansions<E>,
         tests: &mut Tests<T>,
     ) -> Result<(), NoMemory>
         ensures ok { OnOk result (self.new ≡ record self.old { warm = true }) }

@@ -7,7 +7,8 @@ ghost use Rattle.cga_derive.specs.Derives.{IsDerived, expanded_count};
 
 use crate::over_budget::OverBudget;
 use crate::run::Run;
-use cga_fraction::{List, NoMemory, Steps, Tests};
+use cga_expand::Expansions;
+use cga_fraction::{List, NoMemory, Tests};
 use cga_shape::{Placed, Sources};
 use std::alloc::Global;
 use std::sync::ledger::Ledger;
@@ -22,7 +23,7 @@ pub fn derive<E: Ledger, T: Ledger>(
     alloc: Global,
     sources: &Sources,
     budget: u32,
-    expansions: &mut Steps<E>,
+    expansions: &mut Expansions<E>,
     tests: &mut Tests<T>,
 ) -> Result<Result<List<Placed>, OverBudget>, NoMemory>
     requires names { NamesDiffer sources.now.lots }

@@ -14,8 +14,8 @@ ghost use Rattle.cga_derive.specs.Symbols.{IsRead};
 use crate::answers::asked;
 use crate::members::{member_of, waiting_symbol};
 use crate::symbols::Symbols;
-use cga_expand::expand;
-use cga_fraction::{List, NoMemory, Steps};
+use cga_expand::{Expansions, expand};
+use cga_fraction::{List, NoMemory};
 use cga_frame::WorldBox;
 use cga_key::{StampKey, child_key, child_path, root_key};
 use cga_rule::Grammar;
@@ -125,7 +125,7 @@ impl Run {
         sources: &Sources,
         key: StampKey,
         place: usize,
-        expansions: &mut Steps<E>,
+        expansions: &mut Expansions<E>,
     ) -> Result<TraceStep, NoMemory>
         requires names { NamesDiffer sources.now.lots }
         requires within { place < vec_len self.old.list }
@@ -167,7 +167,7 @@ impl Run {
         &mut self,
         alloc: Global,
         sources: &Sources,
-        expansions: &mut Steps<E>,
+        expansions: &mut Expansions<E>,
     ) -> Result<Option<TraceStep>, NoMemory>
         requires names { NamesDiffer sources.now.lots }
         requires underway { (n : ℕ) × IsUnderway sources.now n self.old }

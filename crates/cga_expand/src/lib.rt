@@ -19,5 +19,5 @@ mod scopes;
 mod state;
 mod walk;
 
-pub use rules::expand;
+pub use rules::{ExpandKey, Expansions, expand};
 pub use state::State;

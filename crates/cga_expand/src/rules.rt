@@ -78,6 +78,14 @@ fn expansion(
     }
 }
 
+/// What the counter of expansions is shown to rise. None can be made outside this module, so that it rises by calls
+/// of `expand`, and by nothing else.
+#[derive(Drop)]
+pub struct ExpandKey(());
+
+/// The counter of expansions.
+pub type Expansions<E> = Steps<E, ExpandKey>;
+
 /// What a shape becomes by the rules of its symbol: its children in order of emission, at most
 /// `MOST_CHILDREN`, or its first fault. No rule of the grammar is copied, and those of the symbol are
 /// found in time linear in the number of rules. Takes memory.
@@ -86,12 +94,12 @@ pub fn expand<E: Ledger>(
     grammar: &Grammar,
     shape: &Shape,
     answers: &Answers,
-    expansions: &mut Steps<E>,
+    expansions: &mut Expansions<E>,
 ) -> Result<Result<List<Emitted>, ShapeFault>, NoMemory>
     ensures value { IfOk result (λ made. made ≡ expand_of grammar.now shape.now answers.now) }
     ensures few { IfOk result (λ made. IfOk made (λ children. length children ≤ MOST_CHILDREN)) }
     ensures ticked { expansions.new ≡ expansions.old + 1 }
 {
-    expansions.tick();
+    expansions.tick(&ExpandKey(()));
     expansion(alloc, grammar, shape, answers)
 }

@@ -9,7 +9,8 @@ ghost use Rattle.std.specs.Io.KnownBytes.{Appends};
 ghost use Rattle.cga_top.specs.Hulls.{IsToldOf, usual};
 ghost use Rattle.cga_top.specs.Output.{output_of};
 
-use cga_fraction::{Steps, Tests};
+use cga_expand::Expansions;
+use cga_fraction::Tests;
 use cga_outside::{Sink, Source, StdSink, StdSource};
 use cga_top::{Status, run_with_hulls};
 use std::io::BufWriter;
@@ -34,7 +35,7 @@ fn run<S: Source, K: Sink, E: Ledger, T: Ledger>(
     ensures { result ≡ Status.Done → IfSome (S.left script.old) (λ bytes. (text : List ℕ) × IsToldOf usual bytes text
         × Appends (K.held out.old) (K.held out.new) (output_of usual bytes ++ text)) }
 {
-    let mut expansions = Steps::<E>::new(rt, expansions);
+    let mut expansions = Expansions::<E>::new(rt, expansions);
     let mut tests = Tests::<T>::new(rt, tests);
     run_with_hulls(rt.alloc(), script, out, &mut expansions, &mut tests)
 }

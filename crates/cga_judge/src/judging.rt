@@ -8,7 +8,8 @@ ghost use Rattle.cga_judge.specs.declared.limits.TheConstants.{MOST_SHAPES};
 use crate::same::is_same;
 use crate::verdict::Verdict;
 use cga_derive::Run;
-use cga_fraction::{NoMemory, Steps, Tests};
+use cga_expand::Expansions;
+use cga_fraction::{NoMemory, Tests};
 use cga_shape::{Sources, TraceStep};
 use std::alloc::Global;
 use std::sync::ledger::Ledger;
@@ -20,7 +21,7 @@ pub fn judge<E: Ledger, T: Ledger>(
     alloc: Global,
     sources: &Sources,
     steps: &[TraceStep],
-    expansions: &mut Steps<E>,
+    expansions: &mut Expansions<E>,
     tests: &mut Tests<T>,
 ) -> Result<Verdict, NoMemory>
     requires names { NamesDiffer sources.now.lots }

@@ -18,7 +18,8 @@ ghost use Rattle.std.specs.IoError.{error_kind};
 ghost use Rattle.cga_words.specs.declared.status.Status.TheVariants.{NoMemory};
 ghost use Rattle.cga_words.specs.Exits.{line_of, refusal_line, refusal_of};
 
-use cga_fraction::{Steps, Tests};
+use cga_expand::Expansions;
+use cga_fraction::Tests;
 use cga_outside::{Sink, Source, StdSink, StdSource};
 use cga_top::{Status, run_city};
 use cga_words::{Exit, OUT_OF_MEMORY, UNREADABLE, exit_of};
@@ -80,7 +81,7 @@ fn run<S: Source, K: Sink, E: Ledger, T: Ledger>(
         → (Rose (K.faults out.old) (K.faults out.new) → ⊥)
         → (result ≡ Status.Done) ⊎ (result ≡ Status.NoMemory) }
 {
-    let mut expansions = Steps::<E>::new(rt, expansions);
+    let mut expansions = Expansions::<E>::new(rt, expansions);
     let mut tests = Tests::<T>::new(rt, tests);
     run_city(rt.alloc(), words, script, out, &mut expansions, &mut tests)
 }

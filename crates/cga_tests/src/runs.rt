@@ -1,7 +1,8 @@
 //! Runs over a script in memory and a sink in memory.
 ghost use Rattle.std.specs.Prelude.{◌≡◌, ◌<◌, IsFalse};
 
-use cga_fraction::{List, NoMemory, Steps, Tests};
+use cga_expand::Expansions;
+use cga_fraction::{List, NoMemory, Tests};
 use cga_outside::{MemorySink, MemorySource, Sink, Source};
 use cga_top::{Status, run_city};
 use std::marker::Brand;
@@ -49,7 +50,7 @@ fn counted<S: Source, K: Sink, E: Ledger, T: Ledger>(
     requires tests_parts { tests.parts ≡ T.parts }
     requires tests_some { 0 < tests.parts }
 {
-    let mut expansions = Steps::<E>::new(rt, expansions);
+    let mut expansions = Expansions::<E>::new(rt, expansions);
     let mut tests = Tests::<T>::new(rt, tests);
     run_city(rt.alloc(), &[], script, out, &mut expansions, &mut tests)
 }

@@ -13,7 +13,8 @@ use crate::reports::{bill, dump, faults, grammar, print_city, print_lot, stats};
 use crate::session::Session;
 use crate::traces::trace;
 use cga_asset::AssetReader;
-use cga_fraction::{List, NoMemory, Steps, Tests};
+use cga_expand::Expansions;
+use cga_fraction::{List, NoMemory, Tests};
 use cga_parser::GrammarReader;
 use cga_script::{CityReader, ScriptCommand};
 use cga_trace::JudgeReader;
@@ -80,7 +81,7 @@ fn do_plain(session: &mut Session, command: &ScriptCommand) -> Result<List<u8>, 
 pub(crate) fn do_command<E: Ledger, T: Ledger>(
     session: &mut Session,
     command: ScriptCommand,
-    expansions: &mut Steps<E>,
+    expansions: &mut Expansions<E>,
     tests: &mut Tests<T>,
 ) -> Result<List<u8>, NoMemory>
     requires ready { IsReady session.old }

@@ -9,7 +9,8 @@ ghost use Rattle.cga_top.specs.Session.{IsAt, Did};
 ghost use Rattle.cga_top.specs.Ready.{IsReady, Tells, Works};
 
 use crate::session::{Session, accepted};
-use cga_fraction::{List, NoMemory, Steps, Tests};
+use cga_expand::Expansions;
+use cga_fraction::{List, NoMemory, Tests};
 use cga_script::{Refused, Version, refusal_text};
 use cga_shape::{Edit, EditRefused, Sources};
 use std::sync::ledger::Ledger;
@@ -18,7 +19,7 @@ use std::sync::ledger::Ledger;
 fn work_edit<E: Ledger, T: Ledger>(
     session: &mut Session,
     edit: Edit,
-    expansions: &mut Steps<E>,
+    expansions: &mut Expansions<E>,
     tests: &mut Tests<T>,
 ) -> Result<Result<(), EditRefused>, NoMemory>
     requires ready { IsReady session.old }
@@ -42,7 +43,7 @@ fn work_edit<E: Ledger, T: Ledger>(
 fn do_edit<E: Ledger, T: Ledger>(
     session: &mut Session,
     edit: Edit,
-    expansions: &mut Steps<E>,
+    expansions: &mut Expansions<E>,
     tests: &mut Tests<T>,
 ) -> Result<Result<Sources, EditRefused>, NoMemory>
     requires ready { IsReady session.old }
@@ -60,7 +61,7 @@ fn do_edit<E: Ledger, T: Ledger>(
 pub(crate) fn change<E: Ledger, T: Ledger>(
     session: &mut Session,
     edit: Edit,
-    expansions: &mut Steps<E>,
+    expansions: &mut Expansions<E>,
     tests: &mut Tests<T>,
 ) -> Result<List<u8>, NoMemory>
     requires ready { IsReady session.old }
@@ -78,7 +79,7 @@ pub(crate) fn change<E: Ledger, T: Ledger>(
 fn change_alone<E: Ledger, T: Ledger>(
     session: &mut Session,
     edit: Edit,
-    expansions: &mut Steps<E>,
+    expansions: &mut Expansions<E>,
     tests: &mut Tests<T>,
 ) -> Result<List<u8>, NoMemory>
     requires ready { IsReady session.old }
@@ -98,7 +99,7 @@ fn change_alone<E: Ledger, T: Ledger>(
 fn change_and_note<E: Ledger, T: Ledger>(
     session: &mut Session,
     edit: Edit,
-    expansions: &mut Steps<E>,
+    expansions: &mut Expansions<E>,
     tests: &mut Tests<T>,
 ) -> Result<List<u8>, NoMemory>
     requires ready { IsReady session.old }
@@ -121,7 +122,7 @@ fn change_and_note<E: Ledger, T: Ledger>(
 /// Goes back to the sources before the last edit that wasn't undone.
 pub(crate) fn undo<E: Ledger, T: Ledger>(
     session: &mut Session,
-    expansions: &mut Steps<E>,
+    expansions: &mut Expansions<E>,
     tests: &mut Tests<T>,
 ) -> Result<List<u8>, NoMemory>
     requires { IsReady session.old }
@@ -146,7 +147,7 @@ pub(crate) fn undo<E: Ledger, T: Ledger>(
 /// Goes on to the sources that the last undo left.
 pub(crate) fn redo<E: Ledger, T: Ledger>(
     session: &mut Session,
-    expansions: &mut Steps<E>,
+    expansions: &mut Expansions<E>,
     tests: &mut Tests<T>,
 ) -> Result<List<u8>, NoMemory>
     requires { IsReady session.old }

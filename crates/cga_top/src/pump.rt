@@ -17,7 +17,8 @@ ghost use Rattle.cga_top.specs.Faults.{FaultsBy};
 use crate::halt::Halt;
 use crate::session::Session;
 use crate::turns::do_line;
-use cga_fraction::{NoMemory, Steps, Tests};
+use cga_expand::Expansions;
+use cga_fraction::{NoMemory, Tests};
 use cga_outside::{Failed, Sink};
 use cga_script::Lines;
 use std::sync::ledger::Ledger;
@@ -43,7 +44,7 @@ pub(crate) fn take_line<K: Sink, E: Ledger, T: Ledger>(
     session: &mut Session,
     lines: &mut Lines,
     out: &mut K,
-    expansions: &mut Steps<E>,
+    expansions: &mut Expansions<E>,
     tests: &mut Tests<T>,
 ) -> Result<(), Halt>
     requires { IsReady session.old }
@@ -76,7 +77,7 @@ pub(crate) fn take_piece<K: Sink, E: Ledger, T: Ledger>(
     lines: &mut Lines,
     piece: &[u8],
     out: &mut K,
-    expansions: &mut Steps<E>,
+    expansions: &mut Expansions<E>,
     tests: &mut Tests<T>,
 ) -> Result<(), Halt>
     requires part { IsKeptPart lines.old }
@@ -127,7 +128,7 @@ pub(crate) fn reply_to<K: Sink, E: Ledger, T: Ledger>(
     lines: &mut Lines,
     piece: &[u8],
     out: &mut K,
-    expansions: &mut Steps<E>,
+    expansions: &mut Expansions<E>,
     tests: &mut Tests<T>,
 ) -> Result<(), Halt>
     requires part { IsKeptPart lines.old }

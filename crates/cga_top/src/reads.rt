@@ -8,7 +8,8 @@ ghost use Rattle.cga_top.specs.Reads.{ReadsTo, pending_after};
 use crate::pump::reply_to;
 use crate::read_end::ReadEnd;
 use crate::session::Session;
-use cga_fraction::{Steps, Tests};
+use cga_expand::Expansions;
+use cga_fraction::Tests;
 use cga_outside::{Failed, Sink, Source};
 use cga_script::Lines;
 use std::sync::ledger::Ledger;
@@ -36,7 +37,7 @@ pub(crate) fn read_lines<S: Source, K: Sink, E: Ledger, T: Ledger>(
     lines: &mut Lines,
     script: &mut S,
     out: &mut K,
-    expansions: &mut Steps<E>,
+    expansions: &mut Expansions<E>,
     tests: &mut Tests<T>,
 ) -> ReadEnd
     requires session { IsAt (start session.old.decimals) session.old }

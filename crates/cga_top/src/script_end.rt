@@ -14,7 +14,8 @@ ghost use Rattle.cga_top.specs.Prefixes.{AppendsSome};
 use crate::halt::Halt;
 use crate::pump::{take_line, write_all};
 use crate::session::Session;
-use cga_fraction::{NoMemory, Steps, Tests};
+use cga_expand::Expansions;
+use cga_fraction::{NoMemory, Tests};
 use cga_outside::{Failed, Sink};
 use cga_script::{Lines, Refused, refusal_text};
 use std::sync::ledger::Ledger;
@@ -24,7 +25,7 @@ fn end_line<K: Sink, E: Ledger, T: Ledger>(
     session: &mut Session,
     lines: &mut Lines,
     out: &mut K,
-    expansions: &mut Steps<E>,
+    expansions: &mut Expansions<E>,
     tests: &mut Tests<T>,
 ) -> Result<(), Halt>
     requires goes_on { lines.old.ending ≡ ending.Open }
@@ -73,7 +74,7 @@ pub(crate) fn end_script<K: Sink, E: Ledger, T: Ledger>(
     session: &mut Session,
     lines: &mut Lines,
     out: &mut K,
-    expansions: &mut Steps<E>,
+    expansions: &mut Expansions<E>,
     tests: &mut Tests<T>,
 ) -> Result<(), Halt>
     requires goes_on { lines.old.ending ≡ ending.Open }

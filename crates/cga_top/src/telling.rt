@@ -12,7 +12,8 @@ use crate::hulls::hulls_text;
 use crate::pump::write_all;
 use crate::session::{Session, new_session};
 use crate::top::{flushed, run_in};
-use cga_fraction::{NoMemory, Steps, Tests};
+use cga_expand::Expansions;
+use cga_fraction::{NoMemory, Tests};
 use cga_outside::{Failed, Sink, Source};
 use cga_words::Status;
 use std::alloc::Global;
@@ -41,7 +42,7 @@ fn run_and_tell<S: Source, K: Sink, E: Ledger, T: Ledger>(
     session: &mut Session,
     script: &mut S,
     out: &mut K,
-    expansions: &mut Steps<E>,
+    expansions: &mut Expansions<E>,
     tests: &mut Tests<T>,
 ) -> Status
     requires session { IsAt (start session.old.decimals) session.old }
@@ -63,7 +64,7 @@ fn told_of<S: Source, K: Sink, E: Ledger, T: Ledger>(
     decimals: Decimals,
     script: &mut S,
     out: &mut K,
-    expansions: &mut Steps<E>,
+    expansions: &mut Expansions<E>,
     tests: &mut Tests<T>,
 ) -> Status
     ensures told { result ≡ Status.Done → IfSome (S.left script.old) (λ bytes. (text : List ℕ)
@@ -86,7 +87,7 @@ pub fn run_with_hulls<S: Source, K: Sink, E: Ledger, T: Ledger>(
     alloc: Global,
     script: &mut S,
     out: &mut K,
-    expansions: &mut Steps<E>,
+    expansions: &mut Expansions<E>,
     tests: &mut Tests<T>,
 ) -> Status
     ensures told { result ≡ Status.Done → IfSome (S.left script.old) (λ bytes. (text : List ℕ)

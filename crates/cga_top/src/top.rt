@@ -24,7 +24,8 @@ use crate::read_end::ReadEnd;
 use crate::reads::read_lines;
 use crate::script_end::end_script;
 use crate::session::{Session, new_session};
-use cga_fraction::{NoMemory, Steps, Tests};
+use cga_expand::Expansions;
+use cga_fraction::{NoMemory, Tests};
 use cga_outside::{Failed, Sink, Source};
 use cga_script::Lines;
 use cga_words::{Status, WordsFault, read_words, town_script};
@@ -62,7 +63,7 @@ pub(crate) fn run_in<S: Source, K: Sink, E: Ledger, T: Ledger>(
     session: &mut Session,
     script: &mut S,
     out: &mut K,
-    expansions: &mut Steps<E>,
+    expansions: &mut Expansions<E>,
     tests: &mut Tests<T>,
 ) -> Status
     requires session { IsAt (start session.old.decimals) session.old }
@@ -100,7 +101,7 @@ fn run_script<S: Source, K: Sink, E: Ledger, T: Ledger>(
     decimals: Decimals,
     script: &mut S,
     out: &mut K,
-    expansions: &mut Steps<E>,
+    expansions: &mut Expansions<E>,
     tests: &mut Tests<T>,
 ) -> Status
     ensures means { StatusMeans decimals result
@@ -127,7 +128,7 @@ fn take_all<K: Sink, E: Ledger, T: Ledger>(
     lines: &mut Lines,
     script: &[u8],
     out: &mut K,
-    expansions: &mut Steps<E>,
+    expansions: &mut Expansions<E>,
     tests: &mut Tests<T>,
 ) -> Result<(), Halt>
     requires session { IsAt (start session.old.decimals) session.old }
@@ -154,7 +155,7 @@ fn given_in<K: Sink, E: Ledger, T: Ledger>(
     session: &mut Session,
     script: &[u8],
     out: &mut K,
-    expansions: &mut Steps<E>,
+    expansions: &mut Expansions<E>,
     tests: &mut Tests<T>,
 ) -> Status
     requires session { IsAt (start session.old.decimals) session.old }
@@ -179,7 +180,7 @@ fn run_given<K: Sink, E: Ledger, T: Ledger>(
     decimals: Decimals,
     script: &[u8],
     out: &mut K,
-    expansions: &mut Steps<E>,
+    expansions: &mut Expansions<E>,
     tests: &mut Tests<T>,
 ) -> Status
     ensures means { GivenMeans decimals script.now result
@@ -201,7 +202,7 @@ fn run_town<K: Sink, E: Ledger, T: Ledger>(
     decimals: Decimals,
     lots: u32,
     out: &mut K,
-    expansions: &mut Steps<E>,
+    expansions: &mut Expansions<E>,
     tests: &mut Tests<T>,
 ) -> Status
     requires { IsTown lots }
@@ -230,7 +231,7 @@ pub fn run_city<S: Source, K: Sink, E: Ledger, T: Ledger>(
     words: &[String],
     script: &mut S,
     out: &mut K,
-    expansions: &mut Steps<E>,
+    expansions: &mut Expansions<E>,
     tests: &mut Tests<T>,
 ) -> Status
     requires { IsFalse (S.ended script.old) }

@@ -10,7 +10,8 @@ ghost use Rattle.cga_top.specs.Session.{Did, IsAt};
 ghost use Rattle.cga_top.specs.Ready.{IsReady};
 
 use crate::session::Session;
-use cga_fraction::{List, NoMemory, Steps, Tests};
+use cga_expand::Expansions;
+use cga_fraction::{List, NoMemory, Tests};
 use cga_judge::{Verdict, judge};
 use cga_shape::TraceStep;
 use cga_trace::{JudgeReader, are_steps, judged_text, trace_text};
@@ -39,7 +40,7 @@ pub(crate) fn trace(session: &Session) -> Result<List<u8>, NoMemory>
 fn place<E: Ledger, T: Ledger>(
     session: &Session,
     reader: &JudgeReader,
-    expansions: &mut Steps<E>,
+    expansions: &mut Expansions<E>,
     tests: &mut Tests<T>,
 ) -> Result<Option<u32>, NoMemory>
     requires { IsReady session.now }
@@ -63,7 +64,7 @@ fn place<E: Ledger, T: Ledger>(
 pub(crate) fn judge_lines<E: Ledger, T: Ledger>(
     session: &Session,
     reader: &JudgeReader,
-    expansions: &mut Steps<E>,
+    expansions: &mut Expansions<E>,
     tests: &mut Tests<T>,
 ) -> Result<List<u8>, NoMemory>
     requires { IsReady session.now }

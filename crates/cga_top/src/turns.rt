@@ -16,8 +16,9 @@ use cga_asset::Wardrobe;
 use cga_bill::Bill;
 use cga_city::City;
 use cga_city::limits::BUDGET_TWO;
+use cga_expand::Expansions;
 use cga_form::{BlockFault, LineFault};
-use cga_fraction::{List, NoMemory, Steps, Tests};
+use cga_fraction::{List, NoMemory, Tests};
 use cga_script::{
     Refused, ScriptCommand, Version, command, ends_block, refusal_text, version_line,
 };
@@ -64,7 +65,7 @@ fn is_blank(command: &ScriptCommand) -> bool
 fn do_asked<E: Ledger, T: Ledger>(
     session: &mut Session,
     told: Result<ScriptCommand, LineFault>,
-    expansions: &mut Steps<E>,
+    expansions: &mut Expansions<E>,
     tests: &mut Tests<T>,
 ) -> Result<List<u8>, NoMemory>
     requires ready { IsReady session.old }
@@ -93,7 +94,7 @@ fn do_outside<E: Ledger, T: Ledger>(
     session: &mut Session,
     line: &[u8],
     long: bool,
-    expansions: &mut Steps<E>,
+    expansions: &mut Expansions<E>,
     tests: &mut Tests<T>,
 ) -> Result<List<u8>, NoMemory>
     requires { IsReady session.old }
@@ -112,7 +113,7 @@ fn do_outside<E: Ledger, T: Ledger>(
 fn close<E: Ledger, T: Ledger>(
     session: &mut Session,
     made: Result<Edit, BlockFault>,
-    expansions: &mut Steps<E>,
+    expansions: &mut Expansions<E>,
     tests: &mut Tests<T>,
 ) -> Result<List<u8>, NoMemory>
     requires ready { IsReady session.old }
@@ -131,7 +132,7 @@ fn close<E: Ledger, T: Ledger>(
 fn do_end<E: Ledger, T: Ledger>(
     session: &mut Session,
     block: OpenBlock,
-    expansions: &mut Steps<E>,
+    expansions: &mut Expansions<E>,
     tests: &mut Tests<T>,
 ) -> Result<List<u8>, NoMemory>
     requires ready { IsReady session.old }
@@ -153,7 +154,7 @@ pub(crate) fn do_line<E: Ledger, T: Ledger>(
     session: &mut Session,
     line: &[u8],
     long: bool,
-    expansions: &mut Steps<E>,
+    expansions: &mut Expansions<E>,
     tests: &mut Tests<T>,
 ) -> Result<List<u8>, NoMemory>
     requires { IsReady session.old }

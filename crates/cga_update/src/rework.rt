@@ -18,8 +18,9 @@ use crate::renewal::Renewal;
 use crate::update_refused::UpdateRefused;
 use crate::work::Work;
 use cga_agenda::{Ended, work};
+use cga_expand::Expansions;
 use cga_forest::Forest;
-use cga_fraction::{NoMemory, Steps, Tests};
+use cga_fraction::{NoMemory, Tests};
 use cga_shape::Changes;
 use std::alloc::Global;
 use std::mem::replace;
@@ -31,7 +32,7 @@ pub fn rework<E: Ledger, T: Ledger>(
     kept: &mut Kept,
     renewal: Renewal,
     changes: &mut Changes,
-    expansions: &mut Steps<E>,
+    expansions: &mut Expansions<E>,
     tests: &mut Tests<T>,
 ) -> Result<u64, UpdateRefused>
     requires mode { renewal.old.now.mode ≡ renewal.new.now.mode }
@@ -87,7 +88,7 @@ fn begin_work<'a, T: Ledger>(
 fn work_off<E: Ledger, T: Ledger>(
     under_way: &mut Work,
     budget: u32,
-    expansions: &mut Steps<E>,
+    expansions: &mut Expansions<E>,
     tests: &mut Tests<T>,
 ) -> Result<Ended, NoMemory>
     requires few { length under_way.now.new.now.lots ≤ budget }

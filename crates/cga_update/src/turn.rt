@@ -21,9 +21,9 @@ use crate::follow::follow;
 use crate::log::{note_came, note_went};
 use crate::work::Work;
 use cga_agenda::Turned;
-use cga_expand::expand;
+use cga_expand::{Expansions, expand};
 use cga_forest::{Forest, Node};
-use cga_fraction::{List, NoMemory, Steps, Tests};
+use cga_fraction::{List, NoMemory, Tests};
 use cga_index::NodeId;
 use cga_shape::{Answers, Emitted, Kind, ShapeFault};
 use std::sync::ledger::Ledger;
@@ -129,7 +129,7 @@ fn outcome_of<E: Ledger>(
     work: &Work,
     id: NodeId,
     answers: &Answers,
-    expansions: &mut Steps<E>,
+    expansions: &mut Expansions<E>,
 ) -> Result<Result<List<Emitted>, ShapeFault>, NoMemory>
     requires here { IsSome (node_at work.now.forest id) }
     ensures value { IfOk result (λ made. (d : Seen) → node_at work.now.forest id ≡ Some d
@@ -154,7 +154,7 @@ fn expand_at<E: Ledger, T: Ledger>(
     work: &mut Work,
     id: NodeId,
     answers: Answers,
-    expansions: &mut Steps<E>,
+    expansions: &mut Expansions<E>,
     tests: &mut Tests<T>,
 ) -> Result<Turned, NoMemory>
     requires here { (e : Seen) × (node_at work.now.forest id ≡ Some e) × (world.is_instance e.node.kind ≡ false) }
@@ -199,7 +199,7 @@ fn place_again<T: Ledger>(
 fn turn_of<E: Ledger, T: Ledger>(
     work: &mut Work,
     id: NodeId,
-    expansions: &mut Steps<E>,
+    expansions: &mut Expansions<E>,
     tests: &mut Tests<T>,
 ) -> Result<Turned, NoMemory>
     requires here { (e : Seen) × (node_at work.now.forest id ≡ Some e) × (world.is_instance e.node.kind ≡ false) }
@@ -224,7 +224,7 @@ fn turn_of<E: Ledger, T: Ledger>(
 /// One turn of the least stamp on the agenda, and none where no node is on it. Takes memory.
 pub fn turn<E: Ledger, T: Ledger>(
     work: &mut Work,
-    expansions: &mut Steps<E>,
+    expansions: &mut Expansions<E>,
     tests: &mut Tests<T>,
 ) -> Result<Option<Turned>, NoMemory>
     ensures turned { IfOk result (λ turned. TellsEach (Means work.entry.now) (Means work.exit.now) expansions.old expansions.new (children_told turned)) }

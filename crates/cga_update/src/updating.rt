@@ -11,7 +11,8 @@ use crate::kept::Kept;
 use crate::renewal::Renewal;
 use crate::rework::rework;
 use crate::update_refused::UpdateRefused;
-use cga_fraction::{NoMemory, Steps, Tests};
+use cga_expand::Expansions;
+use cga_fraction::{NoMemory, Tests};
 use cga_shape::{Changes, Sources};
 use std::alloc::Global;
 use std::mem::swap;
@@ -28,7 +29,7 @@ pub fn update<E: Ledger, T: Ledger>(
     kept: &mut Kept,
     renewal: Renewal,
     changes: &mut Changes,
-    expansions: &mut Steps<E>,
+    expansions: &mut Expansions<E>,
     tests: &mut Tests<T>,
 ) -> Result<u64, UpdateRefused>
     requires old_names { NamesDiffer renewal.old.now.lots }
@@ -50,7 +51,7 @@ fn change_mode<E: Ledger, T: Ledger>(
     kept: &mut Kept,
     renewal: Renewal,
     changes: &mut Changes,
-    expansions: &mut Steps<E>,
+    expansions: &mut Expansions<E>,
     tests: &mut Tests<T>,
 ) -> Result<u64, UpdateRefused>
     requires mode { renewal.old.now.mode ≢ renewal.new.now.mode }
@@ -73,7 +74,7 @@ fn exchange<E: Ledger, T: Ledger>(
     anew: &mut Anew,
     renewal: Renewal,
     changes: &mut Changes,
-    expansions: &mut Steps<E>,
+    expansions: &mut Expansions<E>,
     tests: &mut Tests<T>,
 ) -> Result<u64, UpdateRefused>
     requires mode { renewal.old.now.mode ≢ renewal.new.now.mode }
@@ -109,7 +110,7 @@ fn empty<E: Ledger, T: Ledger>(
     kept: &mut Kept,
     old: &Sources,
     changes: &mut Changes,
-    expansions: &mut Steps<E>,
+    expansions: &mut Expansions<E>,
     tests: &mut Tests<T>,
 ) -> Result<(), NoMemory>
     requires names { NamesDiffer old.now.lots }

@@ -2,7 +2,8 @@
 use crate::turn::turn;
 use crate::work::Work;
 use cga_agenda::{Turned, Worker};
-use cga_fraction::{NoMemory, Steps, Tests};
+use cga_expand::{ExpandKey, Expansions};
+use cga_fraction::{NoMemory, Tests};
 use std::sync::ledger::Ledger;
 
 impl<'a> Worker for Work<'a> {
@@ -14,6 +15,8 @@ impl<'a> Worker for Work<'a> {
     ghost use Rattle.cga_expand.specs.Settings.{Setting as Set};
     ghost use Rattle.cga_update.specs.Means.{KeepsBounds, Means};
     ghost use Rattle.cga_update.specs.MeansLaws as kept;
+
+    type Key = ExpandKey;
 
     ghost Shape = { Ranked Shaped };
 
@@ -31,7 +34,7 @@ impl<'a> Worker for Work<'a> {
 
     fn turn<E: Ledger, T: Ledger>(
         &mut self,
-        expansions: &mut Steps<E>,
+        expansions: &mut Expansions<E>,
         tests: &mut Tests<T>,
     ) -> Result<Option<Turned>, NoMemory> {
         turn(self, expansions, tests)
