@@ -14,4 +14,5 @@ pub mod Ratios
 pub mod Results
 pub mod Rounding
 pub mod Spelling
+pub mod Sums
 pub mod Texts
