@@ -14,6 +14,7 @@ mod Ratios
 mod Results
 mod Rounding
 mod Spelling
+mod Sums
 mod Texts
 mod Facts
 pub mod Door

@@ -1,7 +1,7 @@
 -- The texts of numbers, digit by digit.
 use Rattle.std.proofs.Common.{◌≡◌, ℕ, suc, ◌+◌, ◌-◌, ◌/◌, ◌%◌, ◌^◌, ◌<◌, List, [], ◌∷◌, ◌++◌, refl, sym, ◌∙◌, ap, arith, append_assoc, ℤ, ◌*◌}
 use Rattle.std.proofs.lemmas.List.{append-nil}
-use Rattle.std.proofs.Math.Nat.{one-le-pow}
+use Rattle.std.proofs.Math.Nat.{div-div-eq-div-mul, one-le-pow, pow-suc}
 use Rattle.cga_fraction.specs.Texts.{padded, pointed, round_of}
 use Rattle.cga_fraction.specs.Rat.{Rat}
 use Rattle.cga_fraction.specs.Arithmetic.{with_sign}
@@ -27,6 +27,32 @@ padded-zero out n = append-nil out
 
 pub padded-end : (out first : List ℕ) (left n : ℕ) → left ≡ 0 → out ++ padded left n ≡ first → out ≡ first
 padded-end out first left n z e = sym (padded-zero out n) ∙ rw (← z) e
+
+-- two digits at a time
+pair-first : (m : ℕ) → m % 100 / 10 ≡ m / 10 % 10
+pair-first m = omega arith
+
+pair-second : (m : ℕ) → m % 100 % 10 ≡ m % 10
+pair-second m = omega arith
+
+padded-two : (k n : ℕ) → padded (suc (suc k)) n ≡ (48 + n / 10 ^ k % 100 / 10) ∷ (48 + n / 10 ^ k % 100 % 10) ∷ padded k n
+padded-two k n =
+    let e : n / 10 ^ suc k ≡ n / 10 ^ k / 10 = ap (λ (z : ℕ). n / z) (pow-suc 10 k) ∙ sym (div-div-eq-div-mul n (10 ^ k) 10) in
+    padded-one (suc k) n ∙ rw (padded-one k n, e, pair-first, pair-second) refl
+
+pub padded-pair : (out first : List ℕ) (left n pair a b : ℕ) → 1 < left → pair ≡ n / 10 ^ (left - 2) % 100 → a ≡ 48 + pair / 10 → b ≡ 48 + pair % 10
+    → out ++ padded left n ≡ first → (out ++ (a ∷ b ∷ [])) ++ padded (left - 2) n ≡ first
+padded-pair out first left n pair a b some p d f e =
+    let k : suc (suc (left - 2)) ≡ left = omega arith in
+    append_assoc out (a ∷ b ∷ []) _ ∙ rw (d, f, p) (rw (← padded-two (left - 2) n) (rw k e))
+
+-- the last digit alone
+padded-digit : (n : ℕ) → padded 1 n ≡ (48 + n % 10) ∷ []
+unfolding padded
+padded-digit n = let e : n / 10 ^ 0 ≡ n = omega arith in rw e refl
+
+pub padded-last : (out first : List ℕ) (left n : ℕ) → left ≡ 1 → out ++ padded left n ≡ first → out ++ ((48 + n % 10) ∷ []) ≡ first
+padded-last out first left n z e = rw (← padded-digit n) (rw z at e)
 
 -- without places there is no point
 pub pointed-whole : (places n : ℕ) → places ≡ 0 → pointed places n ≡ decimal (n / 10 ^ places)

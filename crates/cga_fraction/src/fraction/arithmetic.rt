@@ -1,4 +1,6 @@
-ghost use Rattle.std.specs.Prelude.{◌≡◌, ◌≢◌, ◌≤◌, ◌^◌, ◌+ℤ◌, ◌*ℤ◌, neg_ℤ, pos, unsigned_abs};
+ghost use Rattle.std.specs.Prelude.{◌≡◌, ◌≢◌, ◌<◌, ◌≤◌, ◌^◌, ◌+ℤ◌, ◌*ℤ◌, neg_ℤ, pos, unsigned_abs};
+ghost use Rattle.cga_fraction.specs.Arithmetic.{reduced};
+ghost use Rattle.cga_fraction.specs.Refusals.{checked};
 ghost use Rattle.cga_fraction.specs.Results.{or_err};
 
 use super::{Fraction, product};
@@ -7,7 +9,7 @@ use crate::overflow::{DivFault, Overflow};
 impl Fraction {
     ghost use Rattle.cga_fraction.specs.Rat.{IsFraction, of_int};
     ghost use Rattle.cga_fraction.specs.Arithmetic.{plus, minus, times, negated, inverse};
-    ghost use Rattle.cga_fraction.specs.Refusals.{checked, quotient_of};
+    ghost use Rattle.cga_fraction.specs.Refusals.{quotient_of};
 
     /// n divided by d.
     pub fn new(n: i64, d: i64) -> Result<Fraction, DivFault>
@@ -22,11 +24,27 @@ impl Fraction {
         as_quotient(Fraction::in_lowest_terms(n as i128, d.unsigned_abs() as u128))
     }
 
-    #[tactic(auto, unfolding(crate::specs::Arithmetic::plus))]
     pub fn add(self, other: Fraction) -> Result<Fraction, Overflow>
         ensures value { result ≡ checked (plus self other) }
         ensures left { IsFraction self }
         ensures right { IsFraction other }
+    {
+        if other.numerator == 0 {
+            return Ok(self);
+        }
+        if self.numerator == 0 {
+            return Ok(other);
+        }
+        if self.denominator == other.denominator {
+            return over_one(self.numerator, other.numerator, self.denominator);
+        }
+        self.crossed(other)
+    }
+
+    // The sum by cross products.
+    #[tactic(auto, unfolding(crate::specs::Arithmetic::plus))]
+    fn crossed(self, other: Fraction) -> Result<Fraction, Overflow>
+        ensures { result ≡ checked (plus self other) }
     {
         let left = product(self.numerator, other.denominator);
         let right = product(other.numerator, self.denominator);
@@ -93,6 +111,14 @@ impl Fraction {
             denominator,
         }
     }
+}
+
+// The sum of two numbers over one denominator.
+fn over_one(a: i64, b: i64, d: u64) -> Result<Fraction, Overflow>
+    requires { 0 < d }
+    ensures { result ≡ checked (reduced (a +ℤ b) d) }
+{
+    Fraction::in_lowest_terms(a as i128 + b as i128, d as u128)
 }
 
 fn as_quotient(outcome: Result<Fraction, Overflow>) -> Result<Fraction, DivFault>

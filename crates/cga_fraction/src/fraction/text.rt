@@ -1,4 +1,4 @@
-ghost use Rattle.std.specs.Prelude.{◌≡◌, ◌≤◌, ◌<◌, ◌^◌, ◌++◌, OnOk, IfOk, unsigned_abs};
+ghost use Rattle.std.specs.Prelude.{◌≡◌, ◌≤◌, ◌<◌, ◌+◌, ◌*◌, ◌/◌, ◌^◌, ◌++◌, OnOk, IfOk, unsigned_abs};
 ghost use Rattle.cga_fraction.specs.Arithmetic.{with_sign};
 ghost use Rattle.cga_fraction.specs.Texts.{minus_of, padded, places_from, pointed};
 
@@ -82,9 +82,61 @@ impl Fraction {
         requires { places ≤ 17 }
         ensures { with_sign self.num result ≡ round_of self places }
     {
-        let numerator = self.numerator.unsigned_abs() as u128;
-        let denominator = self.denominator as u128;
-        (2 * (numerator * power_of_ten(places)) + denominator) / (2 * denominator)
+        let numerator = self.numerator.unsigned_abs();
+        if places <= MOST_NARROW && numerator < SMALL && self.denominator < SMALL {
+            return narrow_nearest(numerator, self.denominator, places) as u128;
+        }
+        nearest(numerator, self.denominator, places)
+    }
+}
+
+// Where both parts of a number are below this, and there are at most so many places, 64 bits are enough.
+const SMALL: u64 = 1 << 32;
+
+const MOST_NARROW: u8 = 9;
+
+const NARROW: u128 = u64::MAX as u128;
+
+// The whole number nearest to 10 ^ places times a quotient.
+fn nearest(numerator: u64, denominator: u64, places: u8) -> u128
+    requires top { numerator ≤ 2 ^ 62 }
+    requires some { 0 < denominator }
+    requires bottom { denominator ≤ 2 ^ 62 }
+    requires places { places ≤ 17 }
+    ensures { result ≡ (2 * (numerator * 10 ^ places) + denominator) / (2 * denominator) }
+{
+    let numerator = numerator as u128;
+    let denominator = denominator as u128;
+    (2 * (numerator * power_of_ten(places)) + denominator) / (2 * denominator)
+}
+
+fn narrow_nearest(numerator: u64, denominator: u64, places: u8) -> u64
+    requires top { numerator < 2 ^ 32 }
+    requires some { 0 < denominator }
+    requires bottom { denominator < 2 ^ 32 }
+    requires places { places ≤ 9 }
+    ensures { result ≡ (2 * (numerator * 10 ^ places) + denominator) / (2 * denominator) }
+{
+    (2 * (numerator * narrow_power_of_ten(places)) + denominator) / (2 * denominator)
+}
+
+fn narrow_power_of_ten(exponent: u8) -> u64
+    requires { exponent ≤ 9 }
+    ensures value { result ≡ 10 ^ exponent }
+    ensures positive { 0 < result }
+    ensures small { result ≤ 10 ^ 9 }
+{
+    match exponent {
+        0 => 1,
+        1 => 10,
+        2 => 100,
+        3 => 1_000,
+        4 => 10_000,
+        5 => 100_000,
+        6 => 1_000_000,
+        7 => 10_000_000,
+        8 => 100_000_000,
+        _ => 1_000_000_000,
     }
 }
 
@@ -125,6 +177,16 @@ fn push_pointed(out: &mut Vec<u8>, number: u128, places: u8) -> Result<(), NoMem
     requires { places ≤ 17 }
     ensures { OnOk result (out.new.items ≡ out.old.items ++ pointed places number) }
 {
+    if places <= MOST_NARROW && number <= NARROW {
+        return push_narrow(out, number as u64, places);
+    }
+    push_wide(out, number, places)
+}
+
+fn push_wide(out: &mut Vec<u8>, number: u128, places: u8) -> Result<(), NoMemory>
+    requires { places ≤ 17 }
+    ensures { OnOk result (out.new.items ≡ out.old.items ++ pointed places number) }
+{
     let whole = number / power_of_ten(places);
     out.extend_from_slice(Buffer::new().format(whole).as_bytes())?;
     if places == 0 {
@@ -146,5 +208,37 @@ fn push_padded(out: &mut Vec<u8>, number: u128, places: u8) -> Result<(), NoMemo
         let digit = number / power_of_ten(left) % 10;
         out.push(b'0' + digit as u8)?;
     }
+    Ok(())
+}
+
+fn push_narrow(out: &mut Vec<u8>, number: u64, places: u8) -> Result<(), NoMemory>
+    requires { places ≤ 9 }
+    ensures { OnOk result (out.new.items ≡ out.old.items ++ pointed places number) }
+{
+    let whole = number / narrow_power_of_ten(places);
+    out.extend_from_slice(Buffer::new().format(whole).as_bytes())?;
+    if places == 0 {
+        return Ok(());
+    }
+    out.push(b'.')?;
+    push_pairs(out, number, places)?;
+    Ok(())
+}
+
+// Appends the last so many digits of a number, two at a time.
+fn push_pairs(out: &mut Vec<u8>, number: u64, places: u8) -> Result<(), NoMemory>
+    requires { places ≤ 9 }
+    ensures { OnOk result (out.new.items ≡ out.old.items ++ padded places number) }
+{
+    let mut left = places;
+    while left > 1 {
+        left -= 2;
+        let pair = number / narrow_power_of_ten(left) % 100;
+        out.extend_from_slice(&[b'0' + (pair / 10) as u8, b'0' + (pair % 10) as u8])?;
+    }
+    if left == 0 {
+        return Ok(());
+    }
+    out.push(b'0' + (number % 10) as u8)?;
     Ok(())
 }

@@ -1,6 +1,6 @@
 use Rattle.std.proofs.Common.{◌∙◌, arith}
 use Rattle.cga_fraction.proofs.Texts.{written_whole, written_parts}
-use Rattle.cga_fraction.proofs.fraction.text.push_pointed.Goals as goal
+use Rattle.cga_fraction.proofs.fraction.text.push_wide.Goals as goal
 
 pub returns-then-places-eq0 : goal.returns-then-places-eq0
 returns-then-places-eq0 c = written_whole _ _ _ c.args.number c.args.places _ (omega arith) c.power_of_ten.ensures.value (c.as_bytes.ensures.value ∙ c.format.ensures.text) c.in_ok-extend_from_slice.ensures.items
