@@ -27,7 +27,8 @@ same_right a b f e = rw (none_right a b (fraction_lowest a f) e) (sym (checked_i
 pub same_left : (a b : Rat) → IsFraction b → a.num ≡ pos 0 → ◌≡◌ {A = Result Rat Overflow} (Ok b) (checked (plus a b))
 same_left a b f e = rw (plus_comm a b) (same_right b a f e)
 
-over_naturals : (s t pa ma pb mb d : ℕ) → s + ma + mb ≡ t + pa + pb → s * (d * d) + (ma * d + mb * d) * d ≡ (pa * d + pb * d) * d + t * (d * d)
+over_naturals : (s t pa ma pb mb d : ℕ) → s + ma + mb ≡ t + pa + pb
+    → s * (d * d) + (ma * d + mb * d) * d ≡ (pa * d + pb * d) * d + t * (d * d)
 over_naturals s t pa ma pb mb d h = let k : (s + ma + mb) * (d * d) ≡ (t + pa + pb) * (d * d) = ap (λ z. z * (d * d)) h in omega arith
 
 -- over one denominator the numerators are added
@@ -37,7 +38,8 @@ over_one a b e =
     (rw e (over_naturals _ _ (positive_part a.num) (negative_part a.num) (positive_part b.num) (negative_part b.num) (den a) (sum_parts a.num b.num)))
 
 -- the same, by the parts that the code keeps
-pub over_one_is : (a b : Rat) (m n x y : ℤ) (d : ℕ) (r : Result Rat Overflow) → by_parts m d ≡ a → by_parts n d ≡ b → 0 < d → x ≡ m → y ≡ n → r ≡ checked (reduced (x +ℤ y) d) → r ≡ checked (plus a b)
+pub over_one_is : (a b : Rat) (m n x y : ℤ) (d : ℕ) (r : Result Rat Overflow) → by_parts m d ≡ a → by_parts n d ≡ b
+    → 0 < d → x ≡ m → y ≡ n → r ≡ checked (reduced (x +ℤ y) d) → r ≡ checked (plus a b)
 over_one_is a b m n x y d r p q h e f g =
     let k : d - 1 + 1 ≡ d = omega arith in
     let s : reduced (m +ℤ n) d ≡ plus (by_parts m d) (by_parts n d) = rw k at (over_one (by_parts m d) (by_parts n d) refl) in

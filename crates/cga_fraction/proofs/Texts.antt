@@ -35,12 +35,14 @@ pair-first m = omega arith
 pair-second : (m : ℕ) → m % 100 % 10 ≡ m % 10
 pair-second m = omega arith
 
-padded-two : (k n : ℕ) → padded (suc (suc k)) n ≡ (48 + n / 10 ^ k % 100 / 10) ∷ (48 + n / 10 ^ k % 100 % 10) ∷ padded k n
+padded-two : (k n : ℕ)
+    → padded (suc (suc k)) n ≡ (48 + n / 10 ^ k % 100 / 10) ∷ (48 + n / 10 ^ k % 100 % 10) ∷ padded k n
 padded-two k n =
     let e : n / 10 ^ suc k ≡ n / 10 ^ k / 10 = ap (λ (z : ℕ). n / z) (pow-suc 10 k) ∙ sym (div-div-eq-div-mul n (10 ^ k) 10) in
     padded-one (suc k) n ∙ rw (padded-one k n, e, pair-first, pair-second) refl
 
-pub padded-pair : (out first : List ℕ) (left n pair a b : ℕ) → 1 < left → pair ≡ n / 10 ^ (left - 2) % 100 → a ≡ 48 + pair / 10 → b ≡ 48 + pair % 10
+pub padded-pair : (out first : List ℕ) (left n pair a b : ℕ) → 1 < left → pair ≡ n / 10 ^ (left - 2) % 100
+    → a ≡ 48 + pair / 10 → b ≡ 48 + pair % 10
     → out ++ padded left n ≡ first → (out ++ (a ∷ b ∷ [])) ++ padded (left - 2) n ≡ first
 padded-pair out first left n pair a b some p d f e =
     let k : suc (suc (left - 2)) ≡ left = omega arith in
@@ -51,7 +53,8 @@ padded-digit : (n : ℕ) → padded 1 n ≡ (48 + n % 10) ∷ []
 unfolding padded
 padded-digit n = let e : n / 10 ^ 0 ≡ n = omega arith in rw e refl
 
-pub padded-last : (out first : List ℕ) (left n : ℕ) → left ≡ 1 → out ++ padded left n ≡ first → out ++ ((48 + n % 10) ∷ []) ≡ first
+pub padded-last : (out first : List ℕ) (left n : ℕ) → left ≡ 1 → out ++ padded left n ≡ first
+    → out ++ ((48 + n % 10) ∷ []) ≡ first
 padded-last out first left n z e = rw (← padded-digit n) (rw z at e)
 
 -- without places there is no point
