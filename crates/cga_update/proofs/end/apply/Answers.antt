@@ -9,7 +9,7 @@ loop-entry-preserved c =
       applied = applied_next c.entry-item.result _ _ _ c.args.dependents.now c.loop-entry.dependents c.apply_one.new.dependents rest c.in_ok-apply_one.ensures.noted c.loop-entry.invariant.applied;
     }
 
-pub returns-clause-applied : goal.returns-clause-applied
-returns-clause-applied c =
+pub returns : goal.returns
+returns c =
     let none = drop_end c.args.log.now c.args.log.now refl c.loop-entry.entry-index c.loop-entry-test.false in
-    applied_end _ _ c.args.dependents.now c.loop-entry.dependents none c.loop-entry.invariant.applied
+    record { applied = applied_end _ _ c.args.dependents.now c.loop-entry.dependents none c.loop-entry.invariant.applied }
