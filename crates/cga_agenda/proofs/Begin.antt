@@ -17,7 +17,7 @@ module _ {N A B F P : Type 0} (edit : Edit N A B F P) where
 
   -- that a node is settled speaks of no sources
   pub settled_as : (one other : Side N A B F P) (nodes : Nodes) (n : N) (k : Kind F P)
-        (r : Result (List (Placed N F P)) F)
+      (r : Result (List (Placed N F P)) F)
       → IsSettled (world_of edit one) nodes n k r → IsSettled (world_of edit other) nodes n k r
   settled_as one other nodes n k (Ok cs) h = (h.0, record { all = h.1.all; only = h.1.only })
   settled_as one other nodes n k (Err f) h = (h.0, record { all = h.1.all; only = h.1.only })

@@ -120,9 +120,9 @@ module _ {N A B F P : Type 0} (edit : Edit N A B F P) (laws : IsEdit edit) (star
   module _ (now : Nodes) (queued : N → Bool) (turned worked : List N) (good : IsWorking edit start now queued turned worked) where
     -- a limit that comes after all that was done, and before what is on the agenda
     limit : (l : Option (List Rank))
-          × ((n : N) (k : Kind F P) (a : A) → Keeps now n k a → queued n ≡ true → IsBefore w l (stamp_of w n) → ⊥)
-          × ((t : N) → Among t turned → IsBefore w l (stamp_of w t))
-          × ((m : N) → Among m edit.new.roots → IsBefore w l (birth_of w m))
+        × ((n : N) (k : Kind F P) (a : A) → Keeps now n k a → queued n ≡ true → IsBefore w l (stamp_of w n) → ⊥)
+        × ((t : N) → Among t turned → IsBefore w l (stamp_of w t))
+        × ((m : N) → Among m edit.new.roots → IsBefore w l (birth_of w m))
     limit = elim (least_queued w laws.new queued now) [
       | inl none ↦ (None, (λ n k a h q b. let x : true ≡ false = sym q ∙ none n k a h in cc), (λ t i. tt), (λ m i. tt))
       | inr (s, k, a, there, q, least) ↦ (Some (stamp_of w s), (λ n j b h t e. least n j b h t e), (λ t i. good.later t i s k a there q), (λ m i. root-before edit.mode (edit.chain m) (edit.chain s) (laws.new.root m i)))

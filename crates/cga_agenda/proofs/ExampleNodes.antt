@@ -124,7 +124,7 @@ one_root (suc i) j n m h g = let x : ◌≡◌ {A = Option Five} None (Some n) =
 
 pub is_world : (children : Five → List (Placed Five ℕ ℕ))
     → ((s : Five) (i : ℕ) (m : Placed Five ℕ ℕ) → slice_get (children s) i ≡ Some m
-      → IsChild (chain s) i (chain m.shape) × IsNew m.kind)
+    → IsChild (chain s) i (chain m.shape) × IsNew m.kind)
     → IsWorld (world_of edit (side children))
 is_world children child = record {
   whole = whole;
@@ -137,7 +137,7 @@ is_world children child = record {
 
 pub outcome : (n : Five)
     → ◌≡◌ {A = Result (List (Placed Five ℕ ℕ)) ℕ} (Ok (new_children n))
-      (renewed (λ c. renew_as c.shape c.kind) (Ok (old_children n)))
+    (renewed (λ c. renew_as c.shape c.kind) (Ok (old_children n)))
 outcome r = refl
 outcome c1 = refl
 outcome c2 = refl

@@ -96,7 +96,7 @@ module _ {N A F P : Type 0} (world : World N A F P) (laws : IsWorld world) where
   pub cut : (limit : Option (List Rank)) (taken : List N) (C : Members) → Reached world taken C → Rises world taken
       → NothingWaits world limit C
       → (first : List N) × (B : Members) × Reached world first B × AllBefore world limit first
-        × NothingWaits world limit B × ((n : N) (k : Kind F P) → Has B n k → (j : Kind F P) × Has C n j)
+      × NothingWaits world limit B × ((n : N) (k : Kind F P) → Has B n k → (j : Kind F P) × Has C n j)
   cut limit [] C e rise quiet = ([], C, e, tt, quiet, λ n k h. (k, h))
   cut limit (s ∷ taken) D (C, reached, step) rise quiet = elim (before_or_not limit (stamp_of world s)) [
     | inl b ↦ (s ∷ taken, D, (C, reached, step), (b, all-before limit s taken rise.0 b), quiet, λ n k h. (k, h))
@@ -129,9 +129,9 @@ module _ {N A F P : Type 0} (world : World N A F P) (laws : IsWorld world) where
   -- of the nodes on the agenda one has the least stamp, if there is any
   pub least_queued : (queued : N → Bool) (nodes : List (Node N A F P))
       → ((n : N) (k : Kind F P) (a : A) → Keeps nodes n k a → queued n ≡ false)
-        ⊎ ((s : N) × (k : Kind F P) × (a : A) × Keeps nodes s k a × (queued s ≡ true)
-        × ((n : N) (j : Kind F P) (b : A) → Keeps nodes n j b → queued n ≡ true
-        → IsEarlier world (stamp_of world n) (stamp_of world s) → ⊥))
+      ⊎ ((s : N) × (k : Kind F P) × (a : A) × Keeps nodes s k a × (queued s ≡ true)
+      × ((n : N) (j : Kind F P) (b : A) → Keeps nodes n j b → queued n ≡ true
+      → IsEarlier world (stamp_of world n) (stamp_of world s) → ⊥))
   least_queued queued [] = inl (λ n k a h. absurd h)
   least_queued queued (m ∷ ms) = elim (either (queued m.shape)) [
     | inl on ↦ elim (least_queued queued ms) [

@@ -39,7 +39,7 @@ module _ {N A F P : Type 0} (world : World N A F P) (laws : IsWorld world) where
   -- of the members that wait one has the least rank, if any waits
   least_waiting : (ms : Members)
       → ((x : N) → Has ms x Waiting → ⊥)
-        ⊎ ((s : N) × Has ms s Waiting × ((x : N) → Has ms x Waiting → below x s ≡ false))
+      ⊎ ((s : N) × Has ms s Waiting × ((x : N) → Has ms x Waiting → below x s ≡ false))
   least_waiting [] = inl (λ x h. h)
   least_waiting (m ∷ ms) = elim (either (is_waiting m.kind)) [
     | inl on ↦

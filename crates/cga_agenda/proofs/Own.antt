@@ -63,8 +63,8 @@ module _ {N A F P : Type 0} (world : World N A F P) (laws : IsWorld world) where
 
   pub own : (taken : List N) (C : Members) (run : Reached world taken C) → NothingWaits world None C
       → ((n : N) (a : A) → AnsweredIn world taken C run n a → a ≡ answers_at world C n)
-        × ((n : N) (k : Kind F P) → Has C n k → is_instance k ≡ false
-        → AnsweredIn world taken C run n (answers_at world C n))
+      × ((n : N) (k : Kind F P) → Has C n k → is_instance k ≡ false
+      → AnsweredIn world taken C run n (answers_at world C n))
   own taken C run quiet = (
     answered taken C run,
     λ n k h i. elim (either (is_waiting k)) [

@@ -189,8 +189,8 @@ module _ {N A B F P : Type 0} (edit : Edit N A B F P) (laws : IsEdit edit) (star
 
       next_gone : (d : Drawn N P) → Among d (gone ++ went)
           → Draws start d × (Draws after d → IsMade edit reworked d.shape)
-            × ((q : N) (i : ℕ) → IsChild (edit.chain q) i (edit.chain d.shape)
-            → Kept edit (members_of start) (members_of after) q → Among q reworked)
+          × ((q : N) (i : ℕ) → IsChild (edit.chain q) i (edit.chain d.shape)
+          → Kept edit (members_of start) (members_of after) q → Among q reworked)
       next_gone d i = elim (Among-append gone went d i) [
         | inr c ↦ let g = change.each_went d c in (was_old d g.0 g.1, (λ h. absurd (g.1 h)), went_from d g.0 g.1)
         | inl c ↦

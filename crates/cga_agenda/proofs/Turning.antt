@@ -208,7 +208,7 @@ module _ {N A B F P : Type 0} (edit : Edit N A B F P) (laws : IsEdit edit) (star
   -- what had its turn is there after the turn, and was so before
   pub turned_stays : (x : N) → Among x turned
       → ((k : Kind F P) × (a : A) × Keeps after x k a × (is_instance k ≡ false)) × ((x ≡ s) → ⊥)
-        × ((k : Kind F P) (a : A) → Keeps after x k a → Keeps before x k a)
+      × ((k : Kind F P) (a : A) → Keeps after x k a → Keeps before x k a)
   turned_stays x i =
       let g = good.stays x i in
       let d : x ≡ s → ⊥ = λ e. not_turned (subst (λ y. Among y turned) e i) in

@@ -71,7 +71,7 @@ module _ {N A B F P : Type 0} (edit : Edit N A B F P) where
 
   -- two lists in which n is settled by one outcome have the same non-instances below it
   pub same_children : (side : Side N A B F P) (one other : Nodes) (n c : N) (k j : Kind F P) (i : ℕ)
-        (r : Result (List (Placed N F P)) F)
+      (r : Result (List (Placed N F P)) F)
       → ((h : Kind F P) (g : Kind F P) → Has (members_of one) c h → Has (members_of one) c g → h ≡ g)
       → IsChild (edit.chain n) i (edit.chain c) → IsSettled (world_of edit side) one n k r
       → IsSettled (world_of edit side) other n j r → NonInstance (members_of one) c → NonInstance (members_of other) c

@@ -134,4 +134,4 @@ KnowsEach {N} {A} {B} {F} {P} was now roots turns known calls since =
 abbrev pub Counts : {N A B F P : Type 0} → (Edit N A B F P → State N A F P → Type 0) → ℕ → Type 0
 Counts {N} {A} {B} {F} {P} now number =
     (edit : Edit N A B F P) (state : State N A F P) → now edit state
-        → (number ≡ length state.nodes) × StandOnce state.nodes
+    → (number ≡ length state.nodes) × StandOnce state.nodes

@@ -52,7 +52,7 @@ no_line total faces lines i all h so = sym (none_left total (drop i faces)) ∙ 
 -- one face more at the end
 pending_push : (total : ℕ) (faces : List (List ℕ)) (lines : List ℕ) (f : List ℕ) (n : ℕ) → length faces ≡ length lines
     → pending total (faces ++ f ∷ []) (lines ++ n ∷ []) ≡ and_then (pending total faces lines)
-      (λ u. cond (fits total f) (Ok tt) (Err (BadFace n)))
+    (λ u. cond (fits total f) (Ok tt) (Err (BadFace n)))
 pending_push total [] [] f n e = refl
 pending_push total [] (l ∷ ls) f n e = absurd (omega (arith, e))
 pending_push total (x ∷ xs) [] f n e = absurd (omega (arith, e))
@@ -68,7 +68,7 @@ faces_fault faces n = cond (nat_le most_faces faces) (Some (TooManyFaces n)) Non
 -- a face is read, and kept with its line even where there is no room for it
 pub face_added : (total n : ℕ) (m : SolidMesh) (lines : List ℕ) (f : List ℕ) → length m.faces ≡ length lines
     → and_then (pending total (m.faces ++ f ∷ []) (lines ++ n ∷ []))
-      (λ u. unless_faulty (faces_fault (length m.faces) n) (with_face m f))
+    (λ u. unless_faulty (faces_fault (length m.faces) n) (with_face m f))
     ≡ and_then (and_then (pending total m.faces lines) (λ u. Ok m)) (λ a. added total n a (Face (Some f)))
 face_added total n m lines f e =
     let after : Checked → Result SolidMesh AssetFault = λ (p : Checked). and_then p (λ u. unless_faulty (faces_fault (length m.faces) n) (with_face m f)) in
@@ -88,7 +88,7 @@ face_added total n m lines f e =
 
 -- the same of what the calls answered
 pub face_kept : (total n : ℕ) (m : SolidMesh) (lines : List ℕ) (f : List ℕ) (faces : List (List ℕ)) (more : List ℕ)
-      (fault kept : Option AssetFault) (s : Said) (len : ℕ)
+    (fault kept : Option AssetFault) (s : Said) (len : ℕ)
     → length m.faces ≡ length lines → kept ≡ None → s ≡ Face (Some f) → faces ≡ m.faces ++ f ∷ []
     → more ≡ lines ++ n ∷ [] → len ≡ length m.faces
     → fault ≡ cond (nat_le most_faces len) (Some (TooManyFaces n)) None

@@ -27,7 +27,7 @@ as_it_is (Err e) = refl
 -- one line more
 one_line : (total n : ℕ) (a : SolidMesh) (ls : List Line) (l : Line)
     → with_lines total n a (ls ++ l ∷ []) ≡ and_then (with_lines total n a ls)
-      (λ b. with_line total (counted (n + length ls)) b l)
+    (λ b. with_line total (counted (n + length ls)) b l)
 one_line total n a [] l = as_it_is (with_line total (counted n) a l) ∙ ap (λ (k : ℕ). with_line total (counted k) a l) (omega arith)
 one_line total n a (x ∷ ls) l =
     elim (with_line total (counted n) a x) as (λ (r : Made). and_then r (λ b. with_lines total (n + 1) b (ls ++ l ∷ [])) ≡ and_then (and_then r (λ b. with_lines total (n + 1) b ls)) (λ b. with_line total (counted (n + suc (length ls))) b l)) [
@@ -80,7 +80,7 @@ short total n a l e = ap (λ (b : Bool). cond {A = Made} b (Err (LineTooLong n))
 -- a long line is the first faulty one, or an earlier one is
 long_line : (p : Checked) (kept : Option AssetFault) (m : SolidMesh) (total n : ℕ) (l : Line) → is_long l ≡ true
     → and_then p (λ u. unless_faulty (Some (unwrap_or kept (LineTooLong n))) m) ≡ and_then
-      (and_then p (λ u. unless_faulty kept m)) (λ a. with_line total n a l)
+    (and_then p (λ u. unless_faulty kept m)) (λ a. with_line total n a l)
 long_line (Err e) kept m total n l long = refl
 long_line (Ok u) None m total n l long = sym (too_long total n m l long)
 long_line (Ok u) (Some f) m total n l long = refl
@@ -89,7 +89,7 @@ long_line (Ok u) (Some f) m total n l long = refl
 later_line : (p : Checked) (kept : Option AssetFault) (m : SolidMesh) (total n : ℕ) (l : Line) (f : AssetFault)
     → kept ≡ Some f
     → and_then p (λ u. unless_faulty kept m) ≡ and_then (and_then p (λ u. unless_faulty kept m))
-      (λ a. with_line total n a l)
+    (λ a. with_line total n a l)
 later_line (Err e) kept m total n l f is = refl
 later_line (Ok u) None m total n l f is = absurd (cc)
 later_line (Ok u) (Some g) m total n l f is = refl
@@ -98,7 +98,7 @@ later_line (Ok u) (Some g) m total n l f is = refl
 said_line : (p : Checked) (kept : Option AssetFault) (m : SolidMesh) (total n : ℕ) (l : Line) (s : Said)
     → is_long l ≡ false → kept ≡ None → s ≡ said_of (length m.vertices) (words_of l.bytes)
     → and_then (and_then p (λ u. unless_faulty kept m)) (λ a. added total n a s) ≡ and_then
-      (and_then p (λ u. unless_faulty kept m)) (λ a. with_line total n a l)
+    (and_then p (λ u. unless_faulty kept m)) (λ a. with_line total n a l)
 said_line (Err e) kept m total n l s long is said = refl
 said_line (Ok u) None m total n l s long is said = ap (added total n m) said ∙ sym (short total n m l long)
 said_line (Ok u) (Some g) m total n l s long is said = refl

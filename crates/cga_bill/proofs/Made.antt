@@ -64,7 +64,7 @@ module _ (k : List ℕ) (v : Sums) where
 
   put_found : (es : Lines) (q : List ℕ)
       → lookup (is_at (by_bytes q)) (insert_entry by_bytes es k v) ≡ cond (bytes_eq q k) (Some v)
-        (lookup (is_at (by_bytes q)) es)
+      (lookup (is_at (by_bytes q)) es)
   put_found [] q = ap (λ (b : Bool). cond b (Some v) None) (is_eq-slice_cmp q k)
   put_found (e ∷ es) q =
       let below : Lines = insert_entry by_bytes es k v in
@@ -95,7 +95,7 @@ record HasLines (lines : Lines) (some list : List Drawn) : Type 0 where
   ordered : IsStrictlySortedBy by_bytes (keys_of lines)
   sums : (s : List ℕ)
       → lookup (is_at (by_bytes s)) lines ≡ cond (list_any (λ (d : Drawn). bytes_eq s d.symbol) some)
-        (Some (sums_of (of_symbol s list))) None
+      (Some (sums_of (of_symbol s list))) None
 
 module _ (list : List Drawn) where
   abbrev with_line : Lines → Drawn → Lines
@@ -103,7 +103,7 @@ module _ (list : List Drawn) where
 
   any_more : (s : List ℕ) (done : List Drawn) (d : Drawn)
       → list_any (λ (x : Drawn). bytes_eq s x.symbol) (done ++ d ∷ []) ≡
-        (bytes_eq s d.symbol || list_any (λ (x : Drawn). bytes_eq s x.symbol) done)
+      (bytes_eq s d.symbol || list_any (λ (x : Drawn). bytes_eq s x.symbol) done)
   any_more s [] d = refl
   any_more s (x ∷ xs) d =
       ap (λ (b : Bool). bytes_eq s x.symbol || b) (any_more s xs d)
@@ -126,7 +126,7 @@ module _ (list : List Drawn) where
 
       at : (s : List ℕ) (b : Bool) → bytes_eq s d.symbol ≡ b
           → cond (bytes_eq s d.symbol) (Some (sums_of (of_symbol d.symbol list)))
-            (cond (list_any (λ (x : Drawn). bytes_eq s x.symbol) done) (Some (sums_of (of_symbol s list))) None)
+          (cond (list_any (λ (x : Drawn). bytes_eq s x.symbol) done) (Some (sums_of (of_symbol s list))) None)
           ≡ cond (bytes_eq s d.symbol || list_any (λ (x : Drawn). bytes_eq s x.symbol) done) (Some (sums_of (of_symbol s list))) None
       at s true e = rw e (ap (λ (k : List ℕ). Some (sums_of (of_symbol k list))) (sym ((bytes_eq-Decides s d.symbol).0 e)))
       at s false e = rw e refl

@@ -71,4 +71,4 @@ pub record IsBill (lines : List (List ℕ × Sums)) (list : List Drawn) : Type 0
 abbrev pub Balances : List Drawn → List Drawn → Changes → Type 0
 Balances old new changes =
     (test : Drawn → Bool)
-        → count_by test old + count_by test changes.come ≡ count_by test new + count_by test changes.gone
+    → count_by test old + count_by test changes.come ≡ count_by test new + count_by test changes.gone

@@ -90,7 +90,7 @@ module _ (g : Grammar) (symbol : List ℕ) where
       → find (is_of symbol) before ≡ None → (if b then Some x else find (is_of symbol) xs) ≡ Some f
       → each_after (rule_faults g) (before ++ x ∷ []) xs ≡ []
       → (find (is_of symbol) (before ++ x ∷ []) ≡ None → find (is_of symbol) xs ≡ Some f
-        → All (λ (e : Entry). is_of symbol e ≡ true → Agrees f e) xs)
+      → All (λ (e : Entry). is_of symbol e ≡ true → Agrees f e) xs)
       → All (λ (e : Entry). is_of symbol e ≡ true → Agrees f e) (x ∷ xs)
   agree_step f x before xs true is none found clean ih =
       let same : x ≡ f = cc in

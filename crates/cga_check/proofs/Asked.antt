@@ -39,9 +39,9 @@ module _ (p : Rule → Bool) where
     where
       by : (b : Bool)
           → list_any p (map (λ (x : Entry). x.rule) (filter (is_of symbol) es)) ≡ list_any
-            (λ (x : Entry). is_of symbol x && p x.rule) es
+          (λ (x : Entry). is_of symbol x && p x.rule) es
           → list_any p (map (λ (x : Entry). x.rule) (cond b (e ∷ filter (is_of symbol) es) (filter (is_of symbol) es)))
-            ≡ ((b && p e.rule) || list_any (λ (x : Entry). is_of symbol x && p x.rule) es)
+          ≡ ((b && p e.rule) || list_any (λ (x : Entry). is_of symbol x && p x.rule) es)
       by true h = ap (λ c. p e.rule || c) h
       by false h = h
 

@@ -2,12 +2,9 @@
 
 -- The rules of a symbol against its first
 pub use Rattle.cga_check.proofs.Agreement.{found_passes}
-
 -- A list of faults that is empty
 pub use Rattle.cga_check.proofs.Clean.{if_none, none_left, none_right}
-
 -- One layer of the uses of a tree
 pub use Rattle.cga_check.proofs.Layers.{item_Child, item_Resize, primary_Named}
-
 -- What a valid grammar has
 pub use Rattle.cga_check.proofs.Valid.{by_id_all, probabilities_add_up, symbols_agree, takes}

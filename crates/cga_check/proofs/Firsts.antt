@@ -33,7 +33,7 @@ after_more look before x xs = first_append (look before x) (each_after look (bef
 
 module _ {A : Type 0} (look : List A → A → Faults) (xs : List A) (i : ℕ) (item : A) (lt : i < length xs) (at : item ≡ get_or xs i item) where
   turn : first (each_after look (take i xs) (drop i xs)) ≡ and_then (first (look (take i xs) item))
-        (first (each_after look (take (i + 1) xs) (drop (i + 1) xs)))
+      (first (each_after look (take (i + 1) xs) (drop (i + 1) xs)))
   turn =
       at_drop_more (λ ys. first (each_after look (take i xs) ys)) xs i item lt
       ∙ ap (λ (m : A). first (each_after look (take i xs) (m ∷ drop (i + 1) xs))) (sym at)

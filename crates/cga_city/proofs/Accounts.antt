@@ -231,7 +231,7 @@ once_named name n (l ∷ names) distinct i =
 -- the members of a lot, whatever their order
 sum_lot : (f : Member → ℕ) (lot : List ℕ) (m : Member) (list : List Member)
     → sum_by f (filter (λ (m : Member). same_name m.shape.lot lot) (m ∷ list)) ≡ cond (same_name m.shape.lot lot) (f m)
-      0 + sum_by f (filter (λ (m : Member). same_name m.shape.lot lot) list)
+    0 + sum_by f (filter (λ (m : Member). same_name m.shape.lot lot) list)
 sum_lot f lot m list = elim (decide (same_name m.shape.lot lot)) [
   | inl t ↦ rw t (sum_by-cons f m (filter (λ (m : Member). same_name m.shape.lot lot) list))
   | inr e ↦ rw e (omega arith)
@@ -240,7 +240,7 @@ sum_lot f lot m list = elim (decide (same_name m.shape.lot lot)) [
 sum_lots : (f : Member → ℕ) (names : List (List ℕ)) → IsDistinct bytes_eq names → (list : List Member)
     → AllAt names list
     → sum_by (λ (lot : List ℕ). sum_by f (filter (λ (m : Member). same_name m.shape.lot lot) list)) names ≡ sum_by f
-      list
+    list
 sum_lots f names distinct [] h = sum_none names
 sum_lots f names distinct (m ∷ list) h =
     let a = sum_alike _ _ (λ lot. sum_lot f lot m list) names in
@@ -253,7 +253,7 @@ sum_lots f names distinct (m ∷ list) h =
 -- what is drawn, as reports give it and as the record of changes does
 instance_count : (test : reported.Drawn → Bool) (n : Shape) (k : Kind ShapeFault Primitive) (rest : List Member)
     → count_by test (instances (record { shape = n; kind = k } ∷ rest)) ≡ count_by test (drawn_as n k) + count_by test
-      (instances rest)
+    (instances rest)
 instance_count test n Waiting rest = omega arith
 instance_count test n Done rest = omega arith
 instance_count test n (Faulted fault) rest = omega arith
@@ -295,7 +295,7 @@ module _ (budget : ℕ) (old new : Sources) (before after : List Member) (change
   pub accounted : AreSound old → AreSound new → derived budget old ≡ Some before → derived budget new ≡ Some after
       → (test : reported.Drawn → Bool)
       → count_by test (drawn_in (names_of old.lots) before) + count_by test changes.come ≡ count_by test
-        (drawn_in (names_of new.lots) after) + count_by test changes.gone
+      (drawn_in (names_of new.lots) after) + count_by test changes.gone
   accounted sound sound' fits fits' test =
       ap (λ (n : ℕ). n + count_by test changes.come) (reports_count test (names_of old.lots) before sound.names (members_at_lots budget old before fits))
       ∙ (change.balance test

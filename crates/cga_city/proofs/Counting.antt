@@ -143,7 +143,7 @@ added t ms = record {
 
 same_tally : (a b c d e g : ℕ) → a ≡ d → b ≡ e → c ≡ g
     → ◌≡◌ {A = Tally} (record { shapes = a; instances = b; faults = c })
-      (record { shapes = d; instances = e; faults = g })
+    (record { shapes = d; instances = e; faults = g })
 same_tally a b c d e g p q r = ap (λ x. record { shapes = x; instances = b; faults = c }) p ∙ ap (λ x. record { shapes = d; instances = x; faults = c }) q ∙ ap (λ x. record { shapes = d; instances = e; faults = x }) r
 
 count_more : (test : Member → Bool) (n : ℕ) (m : Member) (ms : List Member)
@@ -171,7 +171,7 @@ tallied_added v (n ∷ ns) t = tallied_added v ns (with_seen (node_at v n) t) �
 -- what is tallied is what the list has
 pub tally_of : (v : ForestView) → IsForest v → (list : List Member) → HasNodes v list
     → tallied v (all_nodes (forest_tree v)) none ≡ record
-      { shapes = length list; instances = instance_count list; faults = fault_count list }
+    { shapes = length list; instances = instance_count list; faults = fault_count list }
 tally_of v f list has =
     tallied_added v (all_nodes (forest_tree v)) none
     ∙ same_tally _ _ _ _ _ _ (let e = same_length v f list has in omega arith) (let e = same_count v f list has (λ m. is_instance m.kind) in omega arith) (let e = same_count v f list has (λ m. is_faulted m.kind) in omega arith)

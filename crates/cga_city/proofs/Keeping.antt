@@ -163,7 +163,7 @@ successor_draws (Some items) k shape es h =
     subst AllDraw c (in_turn_keeps (map item_walk items) (all_items items) k (start shape) m at tt)
 
 pub expansion_draws : (attributes : List Attribute) (rules : List Rule) (shape : Shape) (answers : Answers)
-      (es : List Emitted)
+    (es : List Emitted)
     → expansion attributes rules shape answers ≡ Ok es → AllDraw es
 unfolding expansion
 expansion_draws attributes rules shape answers es h = elim (decide (nat_eq (length shape.path) MOST_DEPTH)) [

@@ -74,7 +74,7 @@ empty_city_is budget kept stands = record { sound = empty_sound; within = ([], e
 
 -- what an update counted is what the edit touched
 pub done_gives : (s new : Sources) (e : Edit) (budget n x y k : ℕ) (warm : Bool) (before : List Member)
-      (old changes : Changes)
+    (old changes : Changes)
     → AreSound s → derived budget s ≡ Some before → changed s e ≡ Ok new
     → IsExact s new budget n changes → y ≡ x + n → warm ≡ true
     → IsDone (record { sources = s; budget = budget; warm = warm; expanded = k; changes = old }) e (record { sources = new; budget = budget; warm = warm; expanded = n; changes = changes }) x y
@@ -100,7 +100,7 @@ now_within s new budget n changes exact = (exact.1, is_derived budget new (Some 
 pub over_gives : (s new : Sources) (e : Edit) (budget x y k : ℕ) (warm : Bool) (old : Changes) → changed s e ≡ Ok new
     → derive (derivation_of new) budget ≡ None → x ≤ y → y ≤ x + (budget + 1)
     → IsRefused (record { sources = s; budget = budget; warm = warm; expanded = k; changes = old }) e OverBudget
-      (record { sources = s; budget = budget; warm = warm; expanded = k; changes = old }) x y
+    (record { sources = s; budget = budget; warm = warm; expanded = k; changes = old }) x y
 over_gives s new e budget x y k warm old made over later most = record {
   cause = apply_over s new e budget made (is_derived budget new None over);
   same = refl;

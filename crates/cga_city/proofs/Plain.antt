@@ -92,7 +92,7 @@ same_any test alike symbol priority (e ∷ rules) = rw (alike (with_priority sym
 
 pub plain_priority : (g : Grammar) (symbol : List ℕ) (priority : ℕ) (name : List ℕ)
     → is_plain (record { attributes = g.attributes; rules = prioritized symbol priority g.rules }) name ≡ is_plain g
-      name
+    name
 plain_priority g symbol priority name =
     let a : has_rule (record { attributes = g.attributes; rules = prioritized symbol priority g.rules }) name ≡ has_rule g name =
     same_any (is_of name) (λ a b e. rw e refl) symbol priority g.rules in

@@ -32,13 +32,13 @@ module _ (symbol : List ℕ) (priority : ℕ) where
       → ((f : Entry) → rest ≡ Some f → (k : Entry) × (more ≡ Some k) × (length k.rule.params ≡ length f.rule.params))
       → (f : Entry) → (if b then Some x else rest) ≡ Some f
       → (k : Entry) × ((if b then Some (with_priority symbol priority x) else more) ≡ Some k)
-        × (length k.rule.params ≡ length f.rule.params)
+      × (length k.rule.params ≡ length f.rule.params)
   step s x rest more true ih f h = let same : x ≡ f = cc in (with_priority symbol priority x, refl, rw (same_rule x, same) refl)
   step s x rest more false ih f h = ih f h
 
   finds : (s : List ℕ) (xs : List Entry) (f : Entry) → find (is_of s) xs ≡ Some f
       → (k : Entry) × (find (is_of s) (prioritized symbol priority xs) ≡ Some k)
-        × (length k.rule.params ≡ length f.rule.params)
+      × (length k.rule.params ≡ length f.rule.params)
   finds s [] f h = cc
   finds s (x ∷ xs) f h = rw (same_rule x) (step s x (find (is_of s) xs) (find (is_of s) (prioritized symbol priority xs)) (is_of s x) (finds s xs) f h)
 

@@ -54,10 +54,10 @@ pub record IsDone (old : CityState) (e : Edit) (new : CityState) (before after :
   pub warm_then : new.warm ≡ true
   -- the touched shapes were counted, and there were as many expansions
   pub touched : CountsTouched old.sources new.sources (members old.budget old.sources) (members old.budget new.sources)
-        new.expanded
+      new.expanded
   pub spent : after ≡ before + new.expanded
   pub changed : IsChange old.sources new.sources (members old.budget old.sources) (members old.budget new.sources)
-        new.changes
+      new.changes
 
 -- it was refused for this cause, and nothing changed
 pub record IsRefused (old : CityState) (e : Edit) (refused : EditRefused) (new : CityState) (before after : ℕ) : Type 0 where
@@ -81,7 +81,7 @@ pub record IsGivenUp (old new : CityState) (before after : ℕ) : Type 0 where
 pub record IsWarmed (old : CityState) (before after : ℕ) : Type 0 where
   pub spent : after ≡ before + expanded_count (members old.budget old.sources)
   pub touched : CountsTouched (with_no_lots old.sources) old.sources (members old.budget (with_no_lots old.sources))
-        (members old.budget old.sources) (expanded_count (members old.budget old.sources))
+      (members old.budget old.sources) (expanded_count (members old.budget old.sources))
 
 -- by what the edit answers
 abbrev pub EditGives : CityState → Edit → Result (Unit {0}) EditRefused → CityState → ℕ → ℕ → Type 0

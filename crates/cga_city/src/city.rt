@@ -169,8 +169,9 @@ impl City {
                 self.warm = true;
                 Ok(())
             }
-            // Not for the budget, which the sources are within.
-            Err(_) => Err(NoMemory),
+            // the sources are within the budget
+            Err(UpdateRefused::OverBudget) => unreachable!(),
+            Err(UpdateRefused::NoMemory) => Err(NoMemory),
         }
     }
 

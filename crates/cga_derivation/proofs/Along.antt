@@ -99,7 +99,7 @@ module _ {N A F P : Type 0} (derivation : Derivation N A F P) where
 
   erase-told : (C : List (Placed (Site N) F P)) (s : Site N) (r : Result (List (Placed N F P)) F)
       → erase (run.told (world_of derivation) C s (all_sited (chain_of derivation s).priorities r)) ≡ told derivation
-        (erase C) s.shape r
+      (erase C) s.shape r
   erase-told C s (Ok cs) =
       let ps = (chain_of derivation s).priorities in
       map-append erased (map (run.become (world_of derivation) s Done) C) (map (sited ps) cs) ∙ (λ i. erase-becomes s Done C i ++ erase-sited ps cs i)
@@ -107,13 +107,13 @@ module _ {N A F P : Type 0} (derivation : Derivation N A F P) where
 
   pub asked-erase : (C : List (Placed (Site N) F P)) (s : Site N)
       → (world_of derivation).answers s (shapes_where (λ n k. true) C) (shapes_where (λ n k. is_waiting k) C) ≡ asked
-        derivation (erase C) s.shape
+      derivation (erase C) s.shape
   asked-erase C s = λ i. derivation.answers s.shape (shapes-erase (λ k. true) C i) (shapes-erase is_waiting C i)
 
   -- a step over sites, without the priorities of the ancestors, is a step of the derivation
   pub erase-step : (C : List (Placed (Site N) F P)) (s : Site N)
       → erase (run.told (world_of derivation) C s (run.outcome (world_of derivation) C s)) ≡ told derivation (erase C)
-        s.shape (outcome derivation (erase C) s.shape)
+      s.shape (outcome derivation (erase C) s.shape)
   erase-step C s =
       ap (λ a. erase (run.told (world_of derivation) C s (all_sited (chain_of derivation s).priorities (derivation.expand s.shape a)))) (asked-erase C s) ∙ erase-told C s (outcome derivation (erase C) s.shape)
 
@@ -128,8 +128,8 @@ module _ {N A F P : Type 0} (derivation : Derivation N A F P) where
 
   start-along : (ns : List N)
       → erase {N = N} {F = F} {P = P}
-        (map (λ n. record { shape = n; kind = Waiting }) (map (λ n. record { shape = n; above = [] }) ns)) ≡ map
-        (λ n. record { shape = n; kind = Waiting }) ns
+      (map (λ n. record { shape = n; kind = Waiting }) (map (λ n. record { shape = n; above = [] }) ns)) ≡ map
+      (λ n. record { shape = n; kind = Waiting }) ns
   start-along [] = refl
   start-along (n ∷ ns) = ap (λ l. record { shape = n; kind = Waiting } ∷ l) (start-along ns)
 
@@ -142,7 +142,7 @@ module _ {N A F P : Type 0} (derivation : Derivation N A F P) where
   -- the next site waits, and no rank of one that waits is smaller
   pub IsStep-next : (C : List (Placed (Site N) F P)) (m : Placed (Site N) F P) → next_site derivation C ≡ Some m
       → run.IsStep (world_of derivation) C
-        (run.told (world_of derivation) C m.shape (run.outcome (world_of derivation) C m.shape)) m.shape
+      (run.told (world_of derivation) C m.shape (run.outcome (world_of derivation) C m.shape)) m.shape
   IsStep-next C m e =
       let passes = both _ _ (first_of-passes (λ x. is_next derivation (erase C) (erased x)) C m e) in
       record {
@@ -160,7 +160,7 @@ module _ {N A F P : Type 0} (derivation : Derivation N A F P) where
   reached-by : (n : ℕ) (o : Option (Placed (Site N) F P)) → next_site derivation (sites derivation n) ≡ o
       → run.Reached (world_of derivation) (taken derivation n) (sites derivation n)
       → run.Reached (world_of derivation) (taken_by derivation o (taken derivation n))
-        (step_sites_by derivation (sites derivation n) o)
+      (step_sites_by derivation (sites derivation n) o)
   reached-by n None e r = r
   reached-by n (Some m) e r = (sites derivation n, r, IsStep-next (sites derivation n) m e)
 

@@ -157,8 +157,8 @@ module _ {N A F P : Type 0} (derivation : Derivation N A F P) where
 
     pub says : (budget : ℕ)
         → MatchOption (derive derivation budget) ((n : ℕ) × (budget < length (reached derivation n)))
-          (λ list. ((m : ℕ) → length (reached derivation m) ≤ budget)
-          × ((n : ℕ) × (n ≤ budget) × (list ≡ reached derivation n) × ((s : N) → Has list s Waiting → ⊥)))
+        (λ list. ((m : ℕ) → length (reached derivation m) ≤ budget)
+        × ((n : ℕ) × (n ≤ budget) × (list ≡ reached derivation n) × ((s : N) → Has list s Waiting → ⊥)))
     unfolding derive
     says budget = elim (nat_lt budget (length (reached derivation budget))) as (λ b. nat_lt budget (length (reached derivation budget)) ≡ b → MatchOption (cond b None (Some (reached derivation budget))) ((n : ℕ) × (budget < length (reached derivation n))) (λ list. ((m : ℕ) → length (reached derivation m) ≤ budget) × ((n : ℕ) × (n ≤ budget) × (list ≡ reached derivation n) × ((s : N) → Has list s Waiting → ⊥)))) [
       | true ↦ λ e. (budget, over budget e)

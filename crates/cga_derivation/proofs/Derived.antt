@@ -65,7 +65,7 @@ module _ {N A F P : Type 0} (derivation : Derivation N A F P) (laws : IsDerivati
   has-outcome ps k (Err f) p = p
 
   made-erased : (s t : Site N) (h : Has C t Done) (r : Result (List (Placed N F P)) F)
-        (cs : List (Placed (Site N) F P)) (j : Kind F P)
+      (cs : List (Placed (Site N) F P)) (j : Kind F P)
       → outcome_at derivation (erase C) t.shape ≡ r → all_sited (chain_of derivation t).priorities r ≡ Ok cs
       → Has cs s j → IsMade derivation (erase C) s.shape
   made-erased s t h (Ok ds) cs j e is g = (t.shape, ds, Has-erase C t Done h, e, (j, (sited-Has (chain_of derivation t).priorities ds s j (subst (λ l. Has l s j) (sym (ok_same _ cs is)) g)).0))

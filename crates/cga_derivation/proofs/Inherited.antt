@@ -33,7 +33,7 @@ module _ {N A F P : Type 0} (derivation : Derivation N A F P) (laws : IsDerivati
 
   told-kept : (list : Members) (i : ℕ) (m : Placed N F P) (r : Result Members F) → slice_get list i ≡ Some m → Q m.shape
       → ((k : Kind F P) → map (become derivation m.shape k) list ≡ slice_set list i
-        (record { shape = m.shape; kind = k }))
+      (record { shape = m.shape; kind = k }))
       → ((x : N) (k : Kind F P) → Has list x k → is_instance k ≡ false → Q x)
       → derivation.expand m.shape (asked derivation list m.shape) ≡ r → (x : N) (k : Kind F P)
       → Has (told derivation list m.shape r) x k → is_instance k ≡ false → Q x

@@ -123,7 +123,7 @@ module _ {N A F P : Type 0} (derivation : Derivation N A F P) where
   becomes-set : (s : N) (k : Kind F P) (xs : List (Placed N F P)) (i : ℕ) (m : Placed N F P) → slice_get xs i ≡ Some m
       → place_of derivation m.shape ≡ place_of derivation s
       → ((j : ℕ) (n : Placed N F P) → slice_get xs j ≡ Some n → place_of derivation n.shape ≡ place_of derivation s
-        → j ≡ i)
+      → j ≡ i)
       → map (become derivation s k) xs ≡ slice_set xs i (record { shape = m.shape; kind = k })
   becomes-set s k [] i m e at h = none_some m e
   becomes-set s k (x ∷ xs) zero m e at h =
@@ -156,7 +156,7 @@ module _ {N A F P : Type 0} (derivation : Derivation N A F P) where
     pub key-next : (C : Members) → steps.IsOrdered (world_of derivation) C → (k : K) (i : ℕ) (es : List (K × ℕ))
         → HasKeys C ((k, i) ∷ es) → All (IsLtBy cmp k) (keys_of es)
         → (m : Placed (Site N) F P) × (slice_get C i ≡ Some m) × (m.kind ≡ Waiting)
-          × (key_chain k ≡ chain_of derivation m.shape) × (next_site derivation C ≡ Some m)
+        × (key_chain k ≡ chain_of derivation m.shape) × (next_site derivation C ≡ Some m)
     key-next C good k i es has above =
         let w = has.entry k i (inl refl) in
         let m = w.1.0 in
@@ -171,8 +171,8 @@ module _ {N A F P : Type 0} (derivation : Derivation N A F P) where
         least : (m : Placed (Site N) F P) → slice_get C i ≡ Some m → mode_of k ≡ derivation.mode
             → key_chain k ≡ chain_of derivation m.shape → (s : Site N) → Has C s Waiting
             → steps.SamePlace (world_of derivation) s m.shape
-              ⊎ IsEarlier (world_of derivation) (stamp_of (world_of derivation) m.shape)
-              (stamp_of (world_of derivation) s)
+            ⊎ IsEarlier (world_of derivation) (stamp_of (world_of derivation) m.shape)
+            (stamp_of (world_of derivation) s)
         least m at mode chain s h =
             let p = Has-index C s Waiting h in
             let key = has.waits p.0 p.1 p.2 p.4 in

@@ -95,7 +95,7 @@ module _ {N A F P : Type 0} (derivation : Derivation N A F P) where
       where
         at : (n : N) (k : Kind F P) → Has (erase C) n k
             → not (is_waiting k && is_lt
-              (rank_cmp derivation.mode (rank_of derivation n) (rank_of derivation m.shape.shape))) ≡ true
+            (rank_cmp derivation.mode (rank_of derivation n) (rank_of derivation m.shape.shape))) ≡ true
         at n Waiting h =
             let w = Has-erased C n Waiting h in
             not_less _ (λ less. none_less w.0 w.1 ((λ i. rank_cmp derivation.mode ((rank-site derivation w.0 ∙ ap (rank_of derivation) w.2) i) (rank-site derivation m.shape i)) ∙ less))

@@ -75,7 +75,7 @@ module _ {N A F P : Type 0} (derivation : Derivation N A F P) where
   pub IsChild-sited : (s : Site N) (i : ℕ) (c : N) → derivation.lot c ≡ derivation.lot s.shape
       → derivation.path c ≡ derivation.path s.shape ++ i ∷ []
       → IsChild (chain_of derivation s) i
-        (chain_of derivation (record { shape = c; above = (chain_of derivation s).priorities }))
+      (chain_of derivation (record { shape = c; above = (chain_of derivation s).priorities }))
   IsChild-sited s i c lot path =
       let above = (chain_of derivation s).priorities in
       let size : length above ≡ length (derivation.path c) =

@@ -27,7 +27,7 @@ module _ {N A F P : Type 0} (derivation : Derivation N A F P) where
     -- the member at a place is found
     priority-here : (s : Site N) (k : Kind F P) → Has C s k
         → priority_at derivation (erase C) (derivation.lot s.shape) (derivation.path s.shape) ≡ derivation.priority
-          s.shape
+        s.shape
     priority-here s k h =
         let p = stands_at derivation (derivation.lot s.shape) (derivation.path s.shape) in
         let m : Placed N F P = record { shape = s.shape; kind = k } in
@@ -36,7 +36,7 @@ module _ {N A F P : Type 0} (derivation : Derivation N A F P) where
       where
         only : (n : N) (j : Kind F P) → Has (erase C) n j
             → stands_at derivation (derivation.lot s.shape) (derivation.path s.shape) (record { shape = n; kind = j })
-              ≡ true
+            ≡ true
             → (n ≡ s.shape) × (j ≡ k)
         only n j g e =
             let parts = both _ _ e in
@@ -56,15 +56,15 @@ module _ {N A F P : Type 0} (derivation : Derivation N A F P) where
     -- the own priority stands behind those of the ancestors
     down-last : (s : Site N) (k : Kind F P) → Has C s k
         → priorities_down derivation (erase C) (derivation.lot s.shape) (derivation.path s.shape)
-          (suc (length (derivation.path s.shape))) ≡ priorities_down derivation (erase C) (derivation.lot s.shape)
-          (derivation.path s.shape) (length (derivation.path s.shape)) ++ derivation.priority s.shape ∷ []
+        (suc (length (derivation.path s.shape))) ≡ priorities_down derivation (erase C) (derivation.lot s.shape)
+        (derivation.path s.shape) (length (derivation.path s.shape)) ++ derivation.priority s.shape ∷ []
     down-last s k h =
         let own : priority_at derivation (erase C) (derivation.lot s.shape) (take (length (derivation.path s.shape)) (derivation.path s.shape)) ≡ derivation.priority s.shape = ap (priority_at derivation (erase C) (derivation.lot s.shape)) (take-length (derivation.path s.shape)) ∙ priority-here s k h in
         ap (λ p. priorities_down derivation (erase C) (derivation.lot s.shape) (derivation.path s.shape) (length (derivation.path s.shape)) ++ p ∷ []) own
 
     above-is : (size : ℕ) (s : Site N) (k : Kind F P) → Has C s k → length (derivation.path s.shape) ≡ size
         → fitted (length (derivation.path s.shape)) s.above ≡ priorities_down derivation (erase C)
-          (derivation.lot s.shape) (derivation.path s.shape) (length (derivation.path s.shape))
+        (derivation.lot s.shape) (derivation.path s.shape) (length (derivation.path s.shape))
     above-is zero s k h e = ap (λ n. fitted n s.above) e ∙ sym (ap (priorities_down derivation (erase C) (derivation.lot s.shape) (derivation.path s.shape)) e)
     above-is (suc size) s k h e = elim (good.under s k h) [
       | inl root ↦ let z : 0 ≡ suc size = sym (ap length root) ∙ e in absurd (omega (arith, z))
@@ -112,7 +112,7 @@ module _ {N A F P : Type 0} (derivation : Derivation N A F P) where
       where
         by : (o : Option (Placed (Site N) F P))
             → map (λ (t : Site N). t.shape) (taken_by derivation o (taken derivation n)) ≡ taken_next derivation
-              (option_of erased o) (map (λ (t : Site N). t.shape) (taken derivation n))
+            (option_of erased o) (map (λ (t : Site N). t.shape) (taken derivation n))
         by None = refl
         by (Some m) = refl
 

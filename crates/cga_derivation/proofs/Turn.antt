@@ -39,7 +39,7 @@ module _ {N A F P : Type 0} (derivation : Derivation N A F P) (laws : IsDerivati
     good = steps.in_order (world_of derivation) (world derivation laws) (taken derivation n) (sites derivation n) (reached-sites derivation n)
 
     next : (m : Placed (Site N) F P) × (slice_get (sites derivation n) at ≡ Some m) × (m.kind ≡ Waiting)
-          × (key_chain k ≡ chain_of derivation m.shape) × (next_site derivation (sites derivation n) ≡ Some m)
+        × (key_chain k ≡ chain_of derivation m.shape) × (next_site derivation (sites derivation n) ≡ Some m)
     next = key-next derivation mode_of key_chain cmp agrees (sites derivation n) good k at entries turn.keys turn.above
 
     erase-list : erase (sites derivation n) ≡ list
@@ -47,7 +47,7 @@ module _ {N A F P : Type 0} (derivation : Derivation N A F P) (laws : IsDerivati
 
     -- the member at that place waits, and has the key's lot and path
     pub member : (x : Placed N F P) × (slice_get list at ≡ Some x) × (x.kind ≡ Waiting)
-          × ((key_chain k).lot ≡ derivation.lot x.shape) × ((key_chain k).path ≡ derivation.path x.shape)
+        × ((key_chain k).lot ≡ derivation.lot x.shape) × ((key_chain k).path ≡ derivation.path x.shape)
     member =
         let m = next in
         (erased m.0, subst (λ l. slice_get l at ≡ Some (erased m.0)) erase-list (get-map erased (sites derivation n) at m.0 m.1), m.2, ap (λ c. c.lot) m.3, ap (λ c. c.path) m.3)
@@ -84,7 +84,7 @@ module _ {N A F P : Type 0} (derivation : Derivation N A F P) (laws : IsDerivati
       -- the same of the members that know their ancestors' priorities
       sites-next : (r : Result Members F) → derivation.expand x.shape (asked derivation list x.shape) ≡ r
           → sites derivation (suc n) ≡ run.told (world_of derivation) (sites derivation n) site
-            (all_sited (chain_of derivation site).priorities r)
+          (all_sited (chain_of derivation site).priorities r)
       unfolding sites site
       sites-next r e =
           let answers = asked-erase derivation (sites derivation n) next.0.shape ∙ (λ i. asked derivation (erase-list i) (site-shape i)) in
@@ -93,7 +93,7 @@ module _ {N A F P : Type 0} (derivation : Derivation N A F P) (laws : IsDerivati
 
       pub turn-fault : (f : F) → derivation.expand x.shape (asked derivation list x.shape) ≡ Err f
           → IsAt derivation mode_of key_chain (suc n)
-            (slice_set list at (record { shape = x.shape; kind = Faulted f })) entries
+          (slice_set list at (record { shape = x.shape; kind = Faulted f })) entries
       unfolding site
       turn-fault f e = record {
         list_is = sym (reached-next (Err f) e ∙ become-set derivation list at x (Faulted f) apart there);
@@ -104,11 +104,11 @@ module _ {N A F P : Type 0} (derivation : Derivation N A F P) (laws : IsDerivati
       -- the sites before the children come, and what is left to show of the keys when they have come
       pub turn-done : (cs : Members) → derivation.expand x.shape (asked derivation list x.shape) ≡ Ok cs
           → (C : Sites) × (length C ≡ length list) × HasWaiting derivation mode_of key_chain C entries
-            × SitesApart derivation (C ++ map (sited (key_chain k).priorities) cs)
-            × ((entries' : List (K × ℕ))
-            → HasWaiting derivation mode_of key_chain (C ++ map (sited (key_chain k).priorities) cs) entries'
-            → IsAt derivation mode_of key_chain (suc n)
-            (slice_set list at (record { shape = x.shape; kind = Done }) ++ cs) entries')
+          × SitesApart derivation (C ++ map (sited (key_chain k).priorities) cs)
+          × ((entries' : List (K × ℕ))
+          → HasWaiting derivation mode_of key_chain (C ++ map (sited (key_chain k).priorities) cs) entries'
+          → IsAt derivation mode_of key_chain (suc n)
+          (slice_set list at (record { shape = x.shape; kind = Done }) ++ cs) entries')
       unfolding site
       turn-done cs e =
           let C = map (run.become (world_of derivation) next.0.shape Done) (sites derivation n) in

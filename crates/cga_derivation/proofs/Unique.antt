@@ -125,7 +125,7 @@ module _ {N A F P : Type 0} (derivation : Derivation N A F P) (laws : IsDerivati
   -- the outcome at a stamp is the same, with the ancestors' priorities
   outcome-lifts : (n : N) (k : Kind F P) → Has list n k
       → order.outcome_at W (lifts list) (site n) ≡ all_sited (chain_of derivation (site n)).priorities
-        (outcome_at derivation list n)
+      (outcome_at derivation list n)
   outcome-lifts n k h =
       let at = ap (stamp derivation.mode) (site-chain n k h) in
       let exists = shapes-lifts (order.exists_at W (site n)) (exists_at derivation list n) list (λ m j g. λ i. is_lt (stamps_cmp derivation.mode (birth derivation.mode (site-chain m j g i)) (at i))) in

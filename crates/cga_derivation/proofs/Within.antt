@@ -53,7 +53,7 @@ module _ {N A F P : Type 0} (derivation : Derivation N A F P) where
   -- a list whose places stand once, and stand in another, is no longer than that
   pub no_longer : (ms ns : List (Placed N F P)) → AllApart derivation ms
       → ((x : N) (k : Kind F P) → Has ms x k → (y : N) × (j : Kind F P) × Has ns y j
-        × (place_of derivation y ≡ place_of derivation x))
+      × (place_of derivation y ≡ place_of derivation x))
       → length ms ≤ length ns
   no_longer ms ns apart there =
       let less = length-once (places ms) (places ns) (places_once ms apart) (λ p h.
@@ -92,7 +92,7 @@ module _ {N A F P : Type 0} (derivation : Derivation N A F P) (laws : IsDerivati
 
   pub consistent_within : (budget : ℕ) → length list ≤ budget
       → (derived : List (Placed N F P)) × (derive derivation budget ≡ Some derived) × SameMembers list derived
-        × (length list ≡ length derived)
+      × (length list ≡ length derived)
   consistent_within budget fits =
       let ends = ends_within derivation laws budget (λ n. omega (arith, fits, bounded n)) in
       let n = ends.2.0 in

@@ -83,7 +83,7 @@ module _ (target : Target) (s : Shape) (list : List Member) (i : ℕ) (m : Membe
       ap (λ n. list_any p (take n list)) one ∙ (any_more p list i m within item ∙ (λ k. before k || not_this k))
 
   pub meets_more : some_meets target s (take (i + 1) list) ≡
-        (some_meets target s (take i list) || (counts target s m && meets_own s m))
+      (some_meets target s (take i list) || (counts target s m && meets_own s m))
   unfolding some_meets
   meets_more =
       let one : i + 1 ≡ suc i = omega arith in

@@ -19,7 +19,7 @@ map-id (x ∷ xs) = ap (λ l. x ∷ l) (map-id xs)
 
 pub children-push : (lot path own : List ℕ) (i : ℕ) (es : List Emitted) (e : Emitted)
     → placed_from lot path own i (es ++ e ∷ []) ≡ placed_from lot path own i es ++ placed_at lot path own
-      (i + length es) e ∷ []
+    (i + length es) e ∷ []
 children-push lot path own i [] e = let z : i + 0 ≡ i = omega arith in ap (λ n. placed_at lot path own n e ∷ []) (sym z)
 children-push lot path own i (x ∷ es) e =
     let z : suc i + length es ≡ i + length (x ∷ es) = omega arith in
@@ -40,7 +40,7 @@ module _ (sources : Sources) (parent : StampKey) (own : List ℕ) where
       now ∙ ((λ t. before t ++ placed_at parent.lot parent.path own (z t) e ∷ []) ∙ (append_assoc_one list0 (placed_from parent.lot parent.path own 0 xs) (placed_at parent.lot parent.path own (0 + length xs) e ∷ []) ∙ ap (λ l. list0 ++ l) (sym came)))
 
   pub keys-more : (xs : List Emitted) (e : Emitted) (list0 list1 : List Member) (es0 es1 es2 : List (StampKey × ℕ))
-        (i : ℕ)
+      (i : ℕ)
       → i ≡ length xs → list1 ≡ list0 ++ placed_from parent.lot parent.path own 0 xs
       → KeepsKeys sources parent (sited_children parent own 0 xs) list0 es0 es1
       → KeepsKeys sources parent (sited parent.priorities (placed_at parent.lot parent.path own i e) ∷ []) list1 es1 es2

@@ -27,8 +27,8 @@ module _ (sources : Sources) (parent : StampKey) (own : List ℕ) (index : ℕ) 
       → IsChildKey parent index (priority_of sources.grammar symbol) key → place ≡ length list
       → new ≡ insert_entry key_cmp old key place
       → KeepsKeys sources parent
-        (sited parent.priorities (placed_at parent.lot parent.path own index (Child symbol args scope seed)) ∷ []) list
-        old new
+      (sited parent.priorities (placed_at parent.lot parent.path own index (Child symbol args scope seed)) ∷ []) list
+      old new
   child-keys symbol args scope seed key place is at inserted = λ C mode size apart has.
       let x = sited parent.priorities (placed_at parent.lot parent.path own index (Child symbol args scope seed)) in
       let whole : length parent.priorities ≡ length (parent.path ++ index ∷ []) = parent.whole ∙ sym (length-append parent.path (index ∷ [])) in
@@ -41,8 +41,8 @@ module _ (sources : Sources) (parent : StampKey) (own : List ℕ) (index : ℕ) 
 
   pub solid-keys : (primitive : Primitive) (scope : Scope) (seed : ℕ) → new ≡ old
       → KeepsKeys sources parent
-        (sited parent.priorities (placed_at parent.lot parent.path own index (Solid primitive scope seed)) ∷ []) list
-        old new
+      (sited parent.priorities (placed_at parent.lot parent.path own index (Solid primitive scope seed)) ∷ []) list
+      old new
   solid-keys primitive scope seed same = λ C mode size apart has.
       let x = sited parent.priorities (placed_at parent.lot parent.path own index (Solid primitive scope seed)) in
       subst (λ es. HasKeys sources (C ++ x ∷ []) es) (sym same) (key-skip (derivation_of sources) (λ k. k.mode) chain_of_key key_cmp (agrees sources.mode) C x old has (λ e. let q : ◌≡◌ {A = Kind ShapeFault Primitive} (Instance primitive) Waiting = e in cc))
@@ -51,13 +51,13 @@ module _ (sources : Sources) (parent : StampKey) (own : List ℕ) (index : ℕ) 
   pub wait-keys : (e : Emitted) (symbol : List ℕ) → waiting_symbol e ≡ Some symbol
       → AddsKey parent index (priority_of sources.grammar symbol) (length list) old new
       → KeepsKeys sources parent (sited parent.priorities (placed_at parent.lot parent.path own index e) ∷ []) list old
-        new
+      new
   wait-keys (Child own_symbol args scope seed) symbol is added =
       child-keys own_symbol args scope seed added.0 (length list) (subst (λ n. IsChildKey parent index (priority_of sources.grammar n) added.0) (sym (some_same own_symbol symbol is)) added.1) refl added.2
   wait-keys (Solid primitive scope seed) symbol is added = none_some symbol is
 
   pub skip-keys : (e : Emitted) → waiting_symbol e ≡ None → new ≡ old
       → KeepsKeys sources parent (sited parent.priorities (placed_at parent.lot parent.path own index e) ∷ []) list old
-        new
+      new
   skip-keys (Child own_symbol args scope seed) is same = none_some own_symbol (sym is)
   skip-keys (Solid primitive scope seed) is same = solid-keys primitive scope seed same

@@ -85,7 +85,7 @@ module _ (sources : Sources) (differ : NamesDiffer sources.lots) where
 
     -- and what its expansion told is the step
     pub step-told : (y : Member) (own : List ℕ) (answers : Answers) (r : Result (List Emitted) ShapeFault)
-          (outcome : Outcome)
+        (outcome : Outcome)
         → y ≡ get_or list place y → own ≡ y.shape.symbol → answers ≡ asked (derivation_of sources) list y.shape
         → r ≡ expand_of sources.grammar y.shape answers → outcome ≡ told_by r
         → IsStepAfter sources n (record { lot = key.lot; path = key.path; symbol = own; answers = answers; outcome = outcome })
@@ -138,7 +138,7 @@ module _ (sources : Sources) (n : ℕ) (list : List Member) (es : List (StampKey
   pub ended : NothingWaits (derivation_of sources) (reached (derivation_of sources) n) → (budget : ℕ) → n ≤ budget
       → length list ≤ budget
       → (derive (derivation_of sources) budget ≡ Some list)
-        × (expanded_in list ≡ count_by (λ m. not (is_instance m.kind)) list)
+      × (expanded_in list ≡ count_by (λ m. not (is_instance m.kind)) list)
   ended quiet budget turned fits = (
     derive-some (derivation_of sources) budget n turned quiet (subst (λ l. length l ≤ budget) at.list_is fits) ∙ ap Some (sym at.list_is),
     expanded-settled list (subst (NothingWaits (derivation_of sources)) (sym at.list_is) quiet),

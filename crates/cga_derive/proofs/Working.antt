@@ -46,7 +46,7 @@ same_read xs i x y h e f = some_same x y (sym (stands_there xs i x h e) ∙ stan
 
 -- the answers by what was read of the symbol of the shape at an index
 pub asks-are : (sources : Sources) (list lent : List Member) (first second : Member) (symbol : Symbol)
-      (answers : Answers)
+    (answers : Answers)
     → first ≡ second → symbol ≡ symbol_of sources.grammar first.shape.symbol → lent ≡ list
     → answers ≡ answers_with symbol lent second.shape → answers ≡ asked (derivation_of sources) list second.shape
 asks-are sources list lent first second symbol answers same read is given =
@@ -54,7 +54,7 @@ asks-are sources list lent first second symbol answers same read is given =
 
 -- the least key was taken off
 pub in-turn : (sources : Sources) (n : ℕ) (key : StampKey) (place : ℕ) (list : List Member)
-      (old new : List (StampKey × ℕ))
+    (old new : List (StampKey × ℕ))
     → IsAfter sources n list old → old ≡ (key, place) ∷ new → All (IsLtBy key_cmp key) (keys_of new)
     → IsInTurnOf sources n key place list new
 in-turn sources n key place list old new at removal above = record {
@@ -67,7 +67,7 @@ in-turn sources n key place list old new at removal above = record {
 module _ (sources : Sources) (differ : NamesDiffer sources.lots) where
   module _ (n : ℕ) (key : StampKey) (place : ℕ) (list : List Member) (es : List (StampKey × ℕ)) (turn : IsInTurnOf sources n key place list es) where
     pub there : (x : Member) × (slice_get list place ≡ Some x) × (x.kind ≡ Waiting) × (key.lot ≡ x.shape.lot)
-          × (key.path ≡ x.shape.path)
+        × (key.path ≡ x.shape.path)
     there = turns.member (derivation_of sources) (sources_are_derivations sources differ) (λ k. k.mode) chain_of_key key_cmp (agrees sources.mode) n key place list es turn
 
     pub place_within : place < length list
@@ -76,7 +76,7 @@ module _ (sources : Sources) (differ : NamesDiffer sources.lots) where
     pub result : (y : Member) (answers : Answers) (r : Result (List Emitted) ShapeFault) → y ≡ get_or list place y
         → answers ≡ asked (derivation_of sources) list y.shape → r ≡ expand_of sources.grammar y.shape answers
         → children_of sources.grammar there.0.shape (asked (derivation_of sources) list there.0.shape) ≡ placed_by
-          there.0.shape r
+        there.0.shape r
     unfolding children_of
     result y answers r is asks gives =
         let same : y ≡ there.0 = is ∙ read list place there.0 y there.1 in
@@ -92,7 +92,7 @@ module _ (sources : Sources) (differ : NamesDiffer sources.lots) where
         subst (λ (m : Member). IsAfter sources (suc n) (slice_set list place (record { shape = m.shape; kind = Faulted f })) es) same went
 
     pub working-done : (x y : Member) (answers : Answers) (r : Result (List Emitted) ShapeFault)
-          (emitted : List Emitted) (new_list : List Member) (new_es : List (StampKey × ℕ))
+        (emitted : List Emitted) (new_list : List Member) (new_es : List (StampKey × ℕ))
         → x ≡ get_or list place x → y ≡ get_or list place y → answers ≡ asked (derivation_of sources) list y.shape
         → r ≡ expand_of sources.grammar y.shape answers → r ≡ Ok emitted
         → new_list ≡ slice_set list place (record { shape = x.shape; kind = Done }) ++ placed_from key.lot key.path y.shape.symbol 0 emitted
@@ -126,5 +126,5 @@ module _ (sources : Sources) (differ : NamesDiffer sources.lots) where
 
     pub ended-full : n ≡ budget → length list ≤ budget
         → (derive (derivation_of sources) budget ≡ Some list)
-          × (expanded_in list ≡ count_by (λ m. not (is_instance m.kind)) list)
+        × (expanded_in list ≡ count_by (λ m. not (is_instance m.kind)) list)
     ended-full same fits = turns.ends-full (derivation_of sources) (sources_are_derivations sources differ) (λ k. k.mode) chain_of_key key_cmp (agrees sources.mode) budget list es (subst (λ k. IsAfter sources k list es) same at) fits

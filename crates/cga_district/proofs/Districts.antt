@@ -168,7 +168,7 @@ module _ {N A F P : Type 0} (derivation : Derivation N A F P) (laws : IsDerivati
 
   pub apart : (n : ℕ) → NothingWaits derivation (reached derivation n)
       → SameMembers (reached (district derivation left) a ++ reached (district derivation right) b)
-        (reached derivation n)
+      (reached derivation n)
   apart n settled x k =
       let same = same_members W (world derivation laws) (xs ++ ys) joined (taken derivation n) (sites derivation n) (reached-sites derivation n) (λ w h l. settled w.shape (shape_in derivation n w Waiting h)) in (
         λ h. elim (Has-append (reached (district derivation left) a) (reached (district derivation right) b) x k h) [
@@ -222,7 +222,7 @@ module _ {N A F P : Type 0} (derivation : Derivation N A F P) (laws : IsDerivati
       parts.lots l.0 r.0 l.1 r.1 (sym l.2 ∙ (ap (λ x. x.0) (v.3 ∙ sym w.3) ∙ r.2))))
 
   pub all : (list : List (Placed N F P)) × IsDerived derivation list × SameMembers (ls ++ rs) list
-        × (length list ≡ length ls + length rs)
+      × (length list ≡ length ls + length rs)
   all =
       let list = ends.0 in
       let n = ends.1.0 in
@@ -239,7 +239,7 @@ pub districts : {N A F P : Type 0} (derivation : Derivation N A F P) → IsDeriv
     → IsDerivation (district derivation right) → (xs ys : List (Placed N F P)) → IsDerived (district derivation left) xs
     → IsDerived (district derivation right) ys → SeesNone derivation xs ys → SeesNone derivation ys xs
     → (list : List (Placed N F P)) × IsDerived derivation list × SameMembers (xs ++ ys) list
-      × (length list ≡ length xs + length ys)
+    × (length list ≡ length xs + length ys)
 districts derivation laws left right parts left_laws right_laws members others (a, e, p) (b, f, q) s t =
     subst (λ us. (list : _) × IsDerived derivation list × SameMembers (us ++ others) list × (length list ≡ length us + length others)) (sym e)
     (subst (λ vs. (list : _) × IsDerived derivation list × SameMembers (reached (district derivation left) a ++ vs) list × (length list ≡ length (reached (district derivation left) a) + length vs)) (sym f)

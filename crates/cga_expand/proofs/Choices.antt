@@ -151,7 +151,7 @@ module _ (attributes : List Attribute) (shape : Shape) (answers : Answers) where
 -- ---- one entry after the other
 
 one_more : (attributes : List Attribute) (shape : Shape) (answers : Answers) (found : Found) (b : Bool) (e : Entry)
-      (es : List Entry)
+    (es : List Entry)
     →
     tried_all attributes shape answers found (map (λ (x : Entry). x.rule) (if b then e ∷ es else es))
     ≡ tried_all attributes shape answers (if b then tried attributes shape answers found e.rule else found) (map (λ (x : Entry). x.rule) es)
@@ -160,8 +160,8 @@ one_more attributes shape answers found false e es = refl
 
 module _ (attributes : List Attribute) (shape : Shape) (answers : Answers) (symbol : List ℕ) (found : Found) (xs : List Entry) (i : ℕ) (item : Entry) (w : Found) (lt : i < length xs) (at : item ≡ get_or xs i item) (h : tried_all attributes shape answers found (rules_of (drop i xs) symbol) ≡ w) where
   here : tried_all attributes shape answers
-        (if is_of symbol item then tried attributes shape answers found item.rule else found)
-        (rules_of (drop (i + 1) xs) symbol) ≡ w
+      (if is_of symbol item then tried attributes shape answers found item.rule else found)
+      (rules_of (drop (i + 1) xs) symbol) ≡ w
   unfolding rules_of
   here =
       sym (one_more attributes shape answers found (is_of symbol item) item (filter (is_of symbol) (drop (i + 1) xs)))
@@ -180,7 +180,7 @@ module _ (attributes : List Attribute) (shape : Shape) (answers : Answers) (symb
       ap (λ (z : Found). tried_all attributes shape answers z (rules_of (drop (i + 1) xs) symbol)) (is ∙ ap (λ (b : Bool). if b then tried attributes shape answers found item.rule else found) (sym e)) ∙ here
 
 pub tried_end : (attributes : List Attribute) (shape : Shape) (answers : Answers) (symbol : List ℕ) (found : Found)
-      (xs : List Entry) (i : ℕ) (w : Found)
+    (xs : List Entry) (i : ℕ) (w : Found)
     → length xs ≤ i → tried_all attributes shape answers found (rules_of (drop i xs) symbol) ≡ w → found ≡ w
 unfolding rules_of
 tried_end attributes shape answers symbol found xs i w le h = sym (at_drop_all (λ ys. tried_all attributes shape answers found (rules_of ys symbol)) xs i le) ∙ h

@@ -75,7 +75,7 @@ chosen_step P x rule (Ok false) more p rest e = rest e
 chosen_step P x rule (Err fault) more p rest e = cc
 
 chosen_all : (P : Rule → Type 0) (attributes : List Attribute) (shape : Shape) (answers : Answers) (rules : List Rule)
-      (rule : Rule)
+    (rule : Rule)
     → All P rules → chosen attributes shape answers rules ≡ Ok rule → P rule
 chosen_all P attributes shape answers [] rule all e = cc
 chosen_all P attributes shape answers (x ∷ xs) rule all e =

@@ -2,12 +2,9 @@
 
 -- An expansion never has more children than it may have
 pub use Rattle.cga_expand.proofs.Few.{few_made}
-
 -- The derivation of sources is one of which the laws of derivations hold
 pub use Rattle.cga_expand.proofs.Instance.{root_is, sources_are_derivations}
-
 -- One layer of what the items of a successor do
 pub use Rattle.cga_expand.proofs.Layers.{body_layer, item_Child, item_Resize}
-
 -- Equal settings: the expansion reads of a grammar only the group of the symbol and the attributes that the
 pub use Rattle.cga_expand.proofs.ReadsRules.{settings_decide}

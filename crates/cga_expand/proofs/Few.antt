@@ -55,7 +55,7 @@ after_few (Err fault) f g = tt
 
 emit_step : (made : ℕ → Emitted) (k : Known) (s : State) (b : Bool) → nat_le MOST_CHILDREN (length s.children) ≡ b
     → Few (and_then (if b then Err TooManyChildren else Ok (length s.children))
-      (λ i. Ok (record s { children = s.children ++ made (child_seed_of k.seed i) ∷ [] })))
+    (λ i. Ok (record s { children = s.children ++ made (child_seed_of k.seed i) ∷ [] })))
 emit_step made k s true e = tt
 emit_step made k s false e =
     let lt : length s.children < MOST_CHILDREN = grind (arith, nat_tests) in
@@ -139,7 +139,7 @@ body_layer x = fold-roll-Body Walk Walk item_step body_step x
 
 item_few : (y : Item-F SomeItem SomeBody)
     → Keeps (item_step (map-Item Item Body Walk Walk item_walk body_walk
-      (map-Item SomeItem SomeBody Item Body (λ e. e.0) (λ e. e.0) y)))
+    (map-Item SomeItem SomeBody Item Body (λ e. e.0) (λ e. e.0) y)))
 item_few (Move x y z) k s h = rescoped_few (moved_by x y z k s.scope) s h
 item_few (Resize x y z) k s h = rescoped_few (resized_by x y z k s.scope) s h
 item_few (Rotate axis by) k s h = rescoped_few (turned_by axis by s.scope) s h
@@ -152,7 +152,7 @@ item_few (Child symbol args) k s h = grown_keeps symbol args k s h
 
 body_few : (y : Body-F SomeItem SomeBody)
     → Keeps (body_step (map-Body Item Body Walk Walk item_walk body_walk
-      (map-Body SomeItem SomeBody Item Body (λ e. e.0) (λ e. e.0) y)))
+    (map-Body SomeItem SomeBody Item Body (λ e. e.0) (λ e. e.0) y)))
 body_few y = turn_keeps _ (items_keep y.items)
 
 item_keeps : (i : Item) → Keeps (item_walk i)
@@ -200,7 +200,7 @@ unfolding expand_of
 expand_few grammar shape answers = expansion_few grammar.attributes (rules_by_id grammar shape.symbol) shape answers
 
 pub few_made : {E : Type 0} (grammar : Grammar) (shape : Shape) (answers : Answers)
-      (r : Result (Result (List Emitted) ShapeFault) E)
+    (r : Result (Result (List Emitted) ShapeFault) E)
     → IfOk r (λ made. made ≡ expand_of grammar shape answers) → IfOk r FewChildren
 few_made grammar shape answers (Ok made) is = subst FewChildren (sym is) (expand_few grammar shape answers)
 few_made grammar shape answers (Err e) is = tt

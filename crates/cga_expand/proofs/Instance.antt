@@ -76,7 +76,7 @@ first_apart x lots differ s m j is f same =
 
 apart_first : (x : Lot) (lots : List Lot) (r : Result Shape ScopeFault) → root_of x ≡ r → NamesDiffer (x ∷ lots)
     → ((i j : ℕ) (n m : Shape) → slice_get (roots_of lots) i ≡ Some n → slice_get (roots_of lots) j ≡ Some m
-      → n.lot ≡ m.lot → i ≡ j)
+    → n.lot ≡ m.lot → i ≡ j)
     → (i j : ℕ) (n m : Shape) → slice_get (made r ++ roots_of lots) i ≡ Some n
     → slice_get (made r ++ roots_of lots) j ≡ Some m → n.lot ≡ m.lot → i ≡ j
 apart_first x lots (Ok s) is differ more zero zero n m e f same = refl
@@ -125,7 +125,7 @@ module _ (lot path own : List ℕ) where
 
   placed-new : (k : ℕ) (x : Emitted)
       → ((placed_at lot path own k x).shape.lot ≡ lot) × ((placed_at lot path own k x).shape.path ≡ path ++ k ∷ [])
-        × IsNew (placed_at lot path own k x).kind
+      × IsNew (placed_at lot path own k x).kind
   placed-new k (Child symbol args scope seed) = (refl, refl, inl refl)
   placed-new k (Solid primitive scope seed) = (refl, refl, inr (primitive, refl))
 

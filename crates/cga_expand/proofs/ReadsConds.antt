@@ -99,7 +99,7 @@ module _ (k : Known) (others : List Attribute) (answers : Answers) where
 
   all_same : (tests : List SomeTest) → Agrees k others (used.all (map used.test_uses (map (λ e. e.0) tests)))
       → holds.all_hold (map holds.test_holds (map (λ e. e.0) tests)) k answers ≡ holds.all_hold
-        (map holds.test_holds (map (λ e. e.0) tests)) (with_others k others) answers
+      (map holds.test_holds (map (λ e. e.0) tests)) (with_others k others) answers
   all_same [] h = refl
   all_same (t ∷ ts) h =
       let m : holds.Holding = holds.test_holds t.0 in
@@ -111,7 +111,7 @@ module _ (k : Known) (others : List Attribute) (answers : Answers) where
 
   any_same : (conjs : List SomeConj) → Agrees k others (used.all (map used.conj_uses (map (λ e. e.0) conjs)))
       → holds.any_holds (map holds.conj_holds (map (λ e. e.0) conjs)) k answers ≡ holds.any_holds
-        (map holds.conj_holds (map (λ e. e.0) conjs)) (with_others k others) answers
+      (map holds.conj_holds (map (λ e. e.0) conjs)) (with_others k others) answers
   any_same [] h = refl
   any_same (t ∷ ts) h =
       let m : holds.Holding = holds.conj_holds t.0 in

@@ -226,7 +226,7 @@ module _ (k : Known) (others : List Attribute) where
   sums_same : (terms : List SomeAdded) → Agrees k others (used.all (map used.added_uses (map (λ e. e.0) terms)))
       → (x : Rat)
       → value.from_left added (map value.added_value (map (λ e. e.0) terms)) k x ≡ value.from_left added
-        (map value.added_value (map (λ e. e.0) terms)) (with_others k others) x
+      (map value.added_value (map (λ e. e.0) terms)) (with_others k others) x
   sums_same [] h x = refl
   sums_same (t ∷ ts) h x =
       let m : value.Marked = value.added_value t.0 in
@@ -238,7 +238,7 @@ module _ (k : Known) (others : List Attribute) where
   products_same : (factors : List SomeScaled)
       → Agrees k others (used.all (map used.scaled_uses (map (λ e. e.0) factors))) → (x : Rat)
       → value.from_left scaled (map value.scaled_value (map (λ e. e.0) factors)) k x ≡ value.from_left scaled
-        (map value.scaled_value (map (λ e. e.0) factors)) (with_others k others) x
+      (map value.scaled_value (map (λ e. e.0) factors)) (with_others k others) x
   products_same [] h x = refl
   products_same (t ∷ ts) h x =
       let m : value.Marked = value.scaled_value t.0 in
@@ -293,42 +293,42 @@ module _ (k : Known) (others : List Attribute) where
       (y.first.1 (agrees_left (used.factor_uses y.first.0) _ h)) (products_same y.rest (agrees_right (used.factor_uses y.first.0) _ h))
 
   primary_step : (x : Primary-F Primary Added Expr Factor Scaled Term)
-        (y : Primary-F SomePrimary SomeAdded SomeExpr SomeFactor SomeScaled SomeTerm)
+      (y : Primary-F SomePrimary SomeAdded SomeExpr SomeFactor SomeScaled SomeTerm)
       → primary_parts y ≡ x → Same (value.primary_value (roll-Primary x)) (used.primary_uses (roll-Primary x))
   primary_step x y is =
       subst (λ (z : Primary-F Primary Added Expr Factor Scaled Term). Same (value.primary_value (roll-Primary z)) (used.primary_uses (roll-Primary z))) is
       (rolled _ _ _ _ (primary_value (primary_parts y)) (primary_uses (primary_parts y)) (primary_case y))
 
   added_step : (x : Added-F Primary Added Expr Factor Scaled Term)
-        (y : Added-F SomePrimary SomeAdded SomeExpr SomeFactor SomeScaled SomeTerm)
+      (y : Added-F SomePrimary SomeAdded SomeExpr SomeFactor SomeScaled SomeTerm)
       → added_parts y ≡ x → SameMarked (value.added_value (roll-Added x)) (used.added_uses (roll-Added x))
   added_step x y is =
       subst (λ (z : Added-F Primary Added Expr Factor Scaled Term). SameMarked (value.added_value (roll-Added z)) (used.added_uses (roll-Added z))) is
       (rolled_marked _ _ _ _ (added_value (added_parts y)) (added_uses (added_parts y)) (added_case y))
 
   expr_step : (x : Expr-F Primary Added Expr Factor Scaled Term)
-        (y : Expr-F SomePrimary SomeAdded SomeExpr SomeFactor SomeScaled SomeTerm)
+      (y : Expr-F SomePrimary SomeAdded SomeExpr SomeFactor SomeScaled SomeTerm)
       → expr_parts y ≡ x → Same (value.expr_value (roll-Expr x)) (used.expr_uses (roll-Expr x))
   expr_step x y is =
       subst (λ (z : Expr-F Primary Added Expr Factor Scaled Term). Same (value.expr_value (roll-Expr z)) (used.expr_uses (roll-Expr z))) is
       (rolled _ _ _ _ (expr_value (expr_parts y)) (expr_uses (expr_parts y)) (expr_case y))
 
   factor_step : (x : Factor-F Primary Added Expr Factor Scaled Term)
-        (y : Factor-F SomePrimary SomeAdded SomeExpr SomeFactor SomeScaled SomeTerm)
+      (y : Factor-F SomePrimary SomeAdded SomeExpr SomeFactor SomeScaled SomeTerm)
       → factor_parts y ≡ x → Same (value.factor_value (roll-Factor x)) (used.factor_uses (roll-Factor x))
   factor_step x y is =
       subst (λ (z : Factor-F Primary Added Expr Factor Scaled Term). Same (value.factor_value (roll-Factor z)) (used.factor_uses (roll-Factor z))) is
       (rolled _ _ _ _ (factor_value (factor_parts y)) (factor_uses (factor_parts y)) (factor_case y))
 
   scaled_step : (x : Scaled-F Primary Added Expr Factor Scaled Term)
-        (y : Scaled-F SomePrimary SomeAdded SomeExpr SomeFactor SomeScaled SomeTerm)
+      (y : Scaled-F SomePrimary SomeAdded SomeExpr SomeFactor SomeScaled SomeTerm)
       → scaled_parts y ≡ x → SameMarked (value.scaled_value (roll-Scaled x)) (used.scaled_uses (roll-Scaled x))
   scaled_step x y is =
       subst (λ (z : Scaled-F Primary Added Expr Factor Scaled Term). SameMarked (value.scaled_value (roll-Scaled z)) (used.scaled_uses (roll-Scaled z))) is
       (rolled_marked _ _ _ _ (scaled_value (scaled_parts y)) (scaled_uses (scaled_parts y)) (scaled_case y))
 
   term_step : (x : Term-F Primary Added Expr Factor Scaled Term)
-        (y : Term-F SomePrimary SomeAdded SomeExpr SomeFactor SomeScaled SomeTerm)
+      (y : Term-F SomePrimary SomeAdded SomeExpr SomeFactor SomeScaled SomeTerm)
       → term_parts y ≡ x → Same (value.term_value (roll-Term x)) (used.term_uses (roll-Term x))
   term_step x y is =
       subst (λ (z : Term-F Primary Added Expr Factor Scaled Term). Same (value.term_value (roll-Term z)) (used.term_uses (roll-Term z))) is

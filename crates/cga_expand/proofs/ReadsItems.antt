@@ -52,7 +52,7 @@ followed_by (Err fault) f g h = refl
 -- three results, one after the other
 three : {A B F : Type 0} (r r' s s' t t' : Result A F) (f : A → A → A → Result B F) → r ≡ r' → s ≡ s' → t ≡ t'
     → and_then r (λ a. and_then s (λ b. and_then t (λ c. f a b c))) ≡ and_then r'
-      (λ a. and_then s' (λ b. and_then t' (λ c. f a b c)))
+    (λ a. and_then s' (λ b. and_then t' (λ c. f a b c)))
 three r r' s s' t t' f d e g =
     ap (λ o. and_then o (λ a. and_then s (λ b. and_then t (λ c. f a b c)))) d
     ∙ ap (λ o. and_then r' (λ a. and_then o (λ b. and_then t (λ c. f a b c)))) e
@@ -119,7 +119,7 @@ module _ (k : Known) (others : List Attribute) where
   bodies_same : (bodies : List SomeBody) → Agrees k others (used.all (map used.body_uses (map (λ e. e.0) bodies)))
       → (parts : List Scope) (s : State)
       → over_bodies (map body_walk (map (λ e. e.0) bodies)) parts k s ≡ over_bodies
-        (map body_walk (map (λ e. e.0) bodies)) parts Other s
+      (map body_walk (map (λ e. e.0) bodies)) parts Other s
   bodies_same [] h [] s = refl
   bodies_same [] h (p ∷ ps) s = refl
   bodies_same (b ∷ bs) h [] s = refl

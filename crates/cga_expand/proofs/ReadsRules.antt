@@ -85,7 +85,7 @@ module _ (olds news : List Attribute) (shape : Shape) (answers : Answers) where
   picked_same : (rule : Rule) (number before : ℕ) (alternatives : List Alternative)
       → Agrees (known_to olds shape rule) news (flat_map used.alternative_uses alternatives)
       → successor (picked number before alternatives) (known_to olds shape rule) shape ≡ successor
-        (picked number before alternatives) (known_to news shape rule) shape
+      (picked number before alternatives) (known_to news shape rule) shape
   picked_same rule number before [] h = refl
   picked_same rule number before (a ∷ more) h =
       picked_step (nat_lt number (before + millionths a.prob)) (known_to olds shape rule) (known_to news shape rule) a.items (picked number (before + millionths a.prob) more)
@@ -101,26 +101,26 @@ module _ (olds news : List Attribute) (shape : Shape) (answers : Answers) where
 
   rule_holds : (rule : Rule) → RuleAgrees rule
       → optional_holds rule.cond (known_to olds shape rule) answers ≡ optional_holds rule.cond
-        (known_to news shape rule) answers
+      (known_to news shape rule) answers
   unfolding used.rule_uses
   rule_holds rule h = holds_same rule rule.cond (agrees_left (known_to olds shape rule) news (used.condition_uses rule.cond) _ h)
 
   chosen_step : (rule : Rule) (o o' : Result Bool ShapeFault) (more more' : Result Rule ShapeFault) → o ≡ o'
       → becomes olds rule ≡ becomes news rule → and_then more (becomes olds) ≡ and_then more' (becomes news)
       → and_then (and_then o (λ holds. if holds then Ok rule else more)) (becomes olds) ≡ and_then
-        (and_then o' (λ holds. if holds then Ok rule else more')) (becomes news)
+      (and_then o' (λ holds. if holds then Ok rule else more')) (becomes news)
   chosen_step rule o o' more more' e here rest = ap (λ p. and_then (and_then p (λ holds. if holds then Ok rule else more)) (becomes olds)) e ∙ by_result o'
     where
       by_result : (p : Result Bool ShapeFault)
           → and_then (and_then p (λ holds. if holds then Ok rule else more)) (becomes olds) ≡ and_then
-            (and_then p (λ holds. if holds then Ok rule else more')) (becomes news)
+          (and_then p (λ holds. if holds then Ok rule else more')) (becomes news)
       by_result (Ok true) = here
       by_result (Ok false) = rest
       by_result (Err fault) = refl
 
   chosen_same : (rules : List Rule) → AllAgree rules
       → and_then (chosen olds shape answers rules) (becomes olds) ≡ and_then (chosen news shape answers rules)
-        (becomes news)
+      (becomes news)
   chosen_same [] h = refl
   chosen_same (r ∷ rs) h =
       chosen_step r (optional_holds r.cond (known_to olds shape r) answers) (optional_holds r.cond (known_to news shape r) answers) (chosen olds shape answers rs) (chosen news shape answers rs)

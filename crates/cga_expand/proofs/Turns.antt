@@ -16,12 +16,12 @@ use Rattle.cga_fraction.specs.declared.stop.Stop.TheVariants.{Fault, NoMemory}
 
 pub items_turn : (k : Known) (xs : List Item) (i : ℕ) (d : Item) (s : State) → i < length xs
     → in_turn (map item_walk (drop i xs)) k s ≡ and_then (item_walk (get_or xs i d) k s)
-      (in_turn (map item_walk (drop (i + 1) xs)) k)
+    (in_turn (map item_walk (drop (i + 1) xs)) k)
 items_turn k xs i d s h = at_drop_more (λ r. in_turn (map item_walk r) k s) xs i d h
 
 module _ (k : Known) (xs : List Item) (i : ℕ) (item : Item) (s : State) (lt : i < length xs) (at : item ≡ get_or xs i item) where
   turn : in_turn (map item_walk (drop i xs)) k s ≡ and_then (item_walk item k s)
-        (in_turn (map item_walk (drop (i + 1) xs)) k)
+      (in_turn (map item_walk (drop (i + 1) xs)) k)
   turn = items_turn k xs i item s lt ∙ ap (λ (m : Item). and_then (item_walk m k s) (in_turn (map item_walk (drop (i + 1) xs)) k)) (sym at)
 
   pub items_on : (new : State) (r : Result State ShapeFault) → item_walk item k s ≡ Ok new

@@ -38,13 +38,13 @@ at_both e k a = ap (λ (m : Holding). m k a) e
 
 pub expr_layer : (e : Expr) (k : Known)
     → expr_value e k ≡ and_then (term_value (out-Expr e).first k)
-      (from_left added (map added_value (out-Expr e).rest) k)
+    (from_left added (map added_value (out-Expr e).rest) k)
 unfolding expr_value term_value added_value
 expr_layer e = at_known (fold_out-Expr Meaning Marked Meaning Meaning Marked Meaning primary_step added_step expr_step factor_step scaled_step term_step e)
 
 pub term_layer : (t : Term) (k : Known)
     → term_value t k ≡ and_then (factor_value (out-Term t).first k)
-      (from_left scaled (map scaled_value (out-Term t).rest) k)
+    (from_left scaled (map scaled_value (out-Term t).rest) k)
 unfolding term_value factor_value scaled_value
 term_layer t = at_known (fold_out-Term Meaning Marked Meaning Meaning Marked Meaning primary_step added_step expr_step factor_step scaled_step term_step t)
 
@@ -111,7 +111,7 @@ test_Not c = at_both (ap test_holds (sym (test.rolls-Not c)) ∙ fold-roll-Test 
 
 pub test_Occ : (target : Target) (equal : Bool) (state : Answer) (k : Known) (a : Answers)
     → test_holds (test.Occ target equal state) k a ≡ Ok
-      (if equal then is_answered a target state else not (is_answered a target state))
+    (if equal then is_answered a target state else not (is_answered a target state))
 unfolding test_holds cond_holds
 test_Occ target equal state = at_both (ap test_holds (sym (test.rolls-Occ target equal state)) ∙ fold-roll-Test Holding Holding Holding test_step cond_step conj_step (part.Occ target equal state))
 

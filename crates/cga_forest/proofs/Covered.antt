@@ -114,7 +114,7 @@ pub covered_made : (xs ys : Blocks) (roots : Named) (H : ℕ → Option Hulls) (
 covered_made xs ys roots H count n made a place c h at e = let lt = ids_within roots place c at in made place h (omega (arith, lt, n)) (a place c h at e)
 
 pub covered_added : (S : ℕ → Option Seen) (roots left : Named) (H J : ℕ → Option Hulls) (us vs xs ys : Blocks)
-      (n : List ℕ) (id gap : ℕ)
+    (n : List ℕ) (id gap : ℕ)
     → HasRoots S roots → S id ≡ None → ((c : ℕ) → c ≢ id → J c ≡ H c)
     → ((place : ℕ) (h : Hulls) → place < length roots → IsHeld us place h → IsHeld vs place h) → StaysHeld vs xs
     → StaysHeld xs ys → gap ≤ length roots → left ≡ swap (roots ++ (n, id) ∷ []) gap (length roots)
@@ -199,7 +199,7 @@ covered_none xs roots H changed a none p c h at e = a p c h (λ q. absurd (none 
 pub root_at : (s : ℕ → Option Entry) (roots : Named) → HasRoots (λ c. present_of (s c)) roots → (root p : ℕ)
     → slice_get (ids roots) p ≡ Some root
     → (n : List ℕ) × (slice_get roots p ≡ Some (n, root)) × ((x : Entry) → s root ≡ Some x → x.node.shape.lot ≡ n)
-      × (s root ≡ None → ⊥)
+    × (s root ≡ None → ⊥)
 root_at s roots r root p at =
     let m = ids_at roots p root at in
     let d = r.each m.0 root (contains_at roots p (m.0, root) m.1) in

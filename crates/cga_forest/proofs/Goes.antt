@@ -138,7 +138,7 @@ module _ (s0 s1 s2 s3 : ℕ → Option Entry) (id depth n : ℕ) (marking : Bool
 
   find : (c : ℕ) → gone c ≡ true
       → (i : ℕ) × (k : ℕ) × (slice_get e.children i ≡ Some k) × (stay_of (s0 k) (slice_get news i) ≡ false)
-        × (under (λ d. kids (s0 d)) n k c ≡ true)
+      × (under (λ d. kids (s0 d)) n k c ≡ true)
   find c g = goes_find (λ d. kids (s0 d)) n (λ k w. stay_of (s0 k) w) e.children news (length e.children) c (sym (goneis c) ∙ g)
 
   here : (i k c : ℕ) → slice_get e.children i ≡ Some k → stay_of (s0 k) (slice_get news i) ≡ false

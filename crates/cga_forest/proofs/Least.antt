@@ -37,7 +37,7 @@ module _ (p : Probe) (T : ℕ → Option Seen) (H : ℕ → Option Hulls) (whole
 
   pub from_below : (n id : ℕ) (e : Seen) (h : Hulls) → T id ≡ Some e → H id ≡ Some h → 256 < e.depth + n
       → ((c : ℕ) (d : Seen) → under (λ k. children_of (T k)) n id c ≡ true → T c ≡ Some d
-        → probed p (own_hulls d.node) ≡ true)
+      → probed p (own_hulls d.node) ≡ true)
       → probed p h ≡ true
   from_below zero id e h t g deep all = let s = whole.tree.shallow id e t in absurd (omega arith)
   from_below (suc n) id e h t g deep all = right_is id e h t g ∙ over_all p H (own_hulls e.node) e.children (length e.children)

@@ -132,7 +132,7 @@ module _ (K : ℕ → List ℕ) (T : ℕ → Option Seen) (tree : IsTree T) (kid
 
     pub going_find : (m c : ℕ) → Member (going K n P olds news m) c
         → (i : ℕ) × (k : ℕ) × (i < m) × (slice_get olds i ≡ Some k) × (P k (slice_get news i) ≡ false)
-          × (under K n k c ≡ true)
+        × (under K n k c ≡ true)
     unfolding going
     going_find zero c h = absurd h
     going_find (suc m) c h = elim (in_split (going K n P olds news m) (going_at K n P (slice_get olds m) (slice_get news m)) c h) [
@@ -175,7 +175,7 @@ module _ (K : ℕ → List ℕ) (T : ℕ → Option Seen) (tree : IsTree T) (kid
 pub lists_below : (s : ℕ → Option Entry) → IsTree (λ c. present_of (s c)) → (id : ℕ) (e : Seen)
     → present_of (s id) ≡ Some e
     → Lists (λ c. present_of (s c)) (λ c. under (λ d. children_of (present_of (s d))) 257 id c ≡ true)
-      (found s (below (λ d. kids (s d)) 257 id))
+    (found s (below (λ d. kids (s d)) 257 id))
 lists_below s tree id e t =
     let K : ℕ → List ℕ = λ d. kids (s d) in
     let T : ℕ → Option Seen = λ d. present_of (s d) in

@@ -69,7 +69,7 @@ put_later e es new name id place former p = record {
 
 pub is_put : (es : Named) (name : List ℕ) (id : ℕ)
     → IsPut es (insert_entry same_name es name id) name id (position_or_len (same_name name) (names es))
-      (lookup (same_name name) es)
+    (lookup (same_name name) es)
 is_put [] name id = record { here = refl; back = refl; last = λ h. refl; front = λ n h. take_none n _ _ h; within = omega arith }
 is_put (e ∷ es) name id = elim (either (same_name name e.0)) [
   | inl y ↦ rw y (put_first e es name id (sym (name_sound name e.0 y)))

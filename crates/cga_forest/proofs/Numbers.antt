@@ -38,7 +38,7 @@ there_but old new id others here c = elim (nat_cases c id) [
 
 -- a node's children are replaced: some are set aside, some come, and its content changes
 pub kept_taken : (old dropped placed written last : ℕ → Option Entry) (id depth : ℕ) (marking : Bool) (olds : List ℕ)
-      (news : List Node) (made : List ℕ) (goes : ℕ → Bool)
+    (news : List Node) (made : List ℕ) (goes : ℕ → Bool)
     → ((c : ℕ) → dropped c ≡ flag_if (goes c) (old c)) → IsPlaced dropped placed id depth marking olds news made
     → ((c : ℕ) → c ≢ id → written c ≡ placed c) → hulls_of (written id) ≡ hulls_of (placed id)
     → ((c : ℕ) → is_some (last c) ≡ is_some (written c))

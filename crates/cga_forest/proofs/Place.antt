@@ -84,7 +84,7 @@ some_kept old now id h None q here = absurd (cc)
 some_kept old now id h (Some e) q here = h e q ∙ sym q
 
 pub same_kids : (old now : ℕ → Option Entry) (id depth : ℕ) (marking : Bool) (olds : List ℕ) (news : List Node)
-      (made : List ℕ)
+    (made : List ℕ)
     → IsPlaced old now id depth marking olds news made → IsSome (old id) → kids (now id) ≡ kids (old id)
 same_kids old now id depth marking olds news made p here = ap kids (some_kept old now id (p.rest id) (old id) refl here)
 
@@ -106,6 +106,6 @@ nothing_left [] h = refl
 nothing_left (x ∷ xs) h = absurd (omega arith)
 
 pub placed_is : (old now : ℕ → Option Entry) (id depth : ℕ) (marking : Bool) (olds : List ℕ) (news : List Node)
-      (made : List ℕ)
+    (made : List ℕ)
     → [] ≡ made → IsPlaced old now id depth marking olds news [] → IsPlaced old now id depth marking olds news made
 placed_is old now id depth marking olds news made q p = rw (← q) p

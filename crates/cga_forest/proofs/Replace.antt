@@ -25,8 +25,8 @@ module _ (S T : ℕ → Option Seen) (id : ℕ) (news : List Node) (e now : Seen
   -- a node of T but the changed one is an old one that stays, or a child that came
   pub old_or_new : (c : ℕ) (d : Seen) → T c ≡ Some d → c ≢ id → (s : Option Seen) → S c ≡ s
       → ((gone c ≡ false) × (S c ≡ Some d))
-        ⊎ ((i : ℕ) × (w : Node) × (slice_get now.children i ≡ Some c) × (slice_get news i ≡ Some w)
-        × IsNewChild T id e.depth i w c)
+      ⊎ ((i : ℕ) × (w : Node) × (slice_get now.children i ≡ Some c) × (slice_get news i ≡ Some w)
+      × IsNewChild T id e.depth i w c)
   old_or_new c d t n (Some x) q = let w = cut_some (gone c) (Some x) d (sym (r.rest c x n q) ∙ t) in inl (w.0, q ∙ w.1)
   old_or_new c d t n None q = elim (r.came c q) [
     | inl none ↦ absurd (none_some d (sym none ∙ t))

@@ -183,7 +183,7 @@ rehulled_at s d h p = let w = present_some s d p in ap (λ o. rehulled h (hulls_
 next_made : (H : ℕ → Option Hulls) (s : Option Entry) (d : Seen) (g : Option Hulls) (h : Hulls) → present_of s ≡ Some d
     → Some h ≡ hulls_next H s g
     → ((old k : Hulls) → hulls_of s ≡ Some old → g ≡ Some k
-      → alike (with_hulls old (Some k)) (over H (own_hulls d.node) d.children (length d.children)) ≡ true)
+    → alike (with_hulls old (Some k)) (over H (own_hulls d.node) d.children (length d.children)) ≡ true)
     → alike h (over H (own_hulls d.node) d.children (length d.children)) ≡ true
 next_made H s d None h p is due =
     let z : Some h ≡ Some (over H (own_hulls d.node) d.children (length d.children)) = is ∙ hulls_now_at H s d p in

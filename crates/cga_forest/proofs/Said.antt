@@ -8,13 +8,19 @@ use Rattle.cga_check.specs.Groups.{first_entry, group_with, group, group_asks, p
 use Rattle.cga_forest.specs.Placing.{setting_for, setting}
 
 by : (g : Grammar) (symbol : List ℕ) (first : Option Entry)
-    → record { priority = unwrap_or (priority_in first) 0; asks = group_asks (group_with g.rules symbol first) Noparent
-      || group_asks (group_with g.rules symbol first) Active } ≡ setting_for (group_with g.rules symbol first)
+    → record {
+      priority = unwrap_or (priority_in first) 0;
+      asks = group_asks (group_with g.rules symbol first) Noparent
+          || group_asks (group_with g.rules symbol first) Active;
+    } ≡ setting_for (group_with g.rules symbol first)
 by g symbol None = refl
 by g symbol (Some e) = refl
 
 pub setting_said : (g : Grammar) (symbol : List ℕ)
-    → record { priority = unwrap_or (priority_of g symbol) 0; asks = group_asks (group g symbol) Noparent || group_asks
-      (group g symbol) Active } ≡ setting g symbol
+    → record {
+      priority = unwrap_or (priority_of g symbol) 0;
+      asks = group_asks (group g symbol) Noparent || group_asks
+          (group g symbol) Active;
+    } ≡ setting g symbol
 unfolding setting group priority_of
 setting_said g symbol = by g symbol (first_entry g.rules symbol)

@@ -173,7 +173,7 @@ pub record IsNoted (old new : Shelf) (steps more : List Step) : Type 0 where
   pub former : undone more new ≡ undone steps old
 
 pub pushed : (es put new : Named) (shown : ℕ) (name : List ℕ) (id place : ℕ) (former : Option ℕ) (gap : ℕ)
-      (steps more : List Step)
+    (steps more : List Step)
     → put ≡ insert_entry same_name es name id → place ≡ position_or_len (same_name name) (names es)
     → former ≡ lookup (same_name name) es
     → shown ≤ length es → lookup (same_name name) (take shown es) ≡ None → gap ≤ shown
@@ -200,8 +200,8 @@ pub taken_out : (es new : Named) (shown i : ℕ) (name : List ℕ) (c : ℕ) (st
     → shown ≤ length es → slice_get (take shown es) i ≡ Some (name, c) → new ≡ swap es i (shown - 1)
     → AreUndoable steps (record { entries = es; shown = shown }) → more ≡ steps ++ Went i ∷ []
     → IsNoted (record { entries = es; shown = shown }) (record { entries = new; shown = shown - 1 }) steps more
-      × IsPermutation (take shown es) ((name, c) ∷ take (shown - 1) new)
-      × KeepsPlaces i (take shown es) (take (shown - 1) new)
+    × IsPermutation (take shown es) ((name, c) ∷ take (shown - 1) new)
+    × KeepsPlaces i (take shown es) (take (shown - 1) new)
 taken_out es new shown i name c steps more within at moved ready noting =
     let f = at_front es shown i (name, c) at in
     let back = out_undone es shown i name c f.0 within f.1 in

@@ -38,6 +38,6 @@ ListsMoved-same a b s t list p q r =
     let y : t ≡ b = same_functions t b q in rw (x, y) r
 
 pub tops_replaced : (S T : ℕ → Option Seen) (roots : Named) (id : ℕ) (state : State) (news : List Node)
-      (gone : ℕ → Bool)
+    (gone : ℕ → Bool)
     → ReplacedBy S T id state news gone → IsTree S → HasRoots S roots → HasRoots T roots
 tops_replaced S T roots id state news gone r tree tops = HasRoots-replaced S T roots tops id news r.0 _ gone r.2 refl tree

@@ -84,7 +84,7 @@ flags_none ch old now n id i at h c = h c ∙ ap (λ b. flag_if (nat_eq id c || 
 
 pub goes_step : (K : ℕ → List ℕ) (n : ℕ) (P : ℕ → Option Node → Bool) (olds : List ℕ) (news : List Node) (i c : ℕ)
     → goes K n P olds news (i + 1) c ≡
-      (goes K n P olds news i c || goes_at K n P (slice_get olds i) (slice_get news i) c)
+    (goes K n P olds news i c || goes_at K n P (slice_get olds i) (slice_get news i) c)
 unfolding goes
 goes_step K n P olds news i c = let e : i + 1 ≡ suc i = omega arith in rw e refl
 
@@ -130,11 +130,11 @@ pub goes_at_none : (K : ℕ → List ℕ) (n : ℕ) (P : ℕ → Option Node →
 goes_at_none K n P o w c h = ap (λ x. goes_at K n P x w c) h
 
 pub goes_at_stays : (K : ℕ → List ℕ) (n : ℕ) (P : ℕ → Option Node → Bool) (o : Option ℕ) (k : ℕ) (w : Option Node)
-      (c : ℕ)
+    (c : ℕ)
     → o ≡ Some k → P k w ≡ true → goes_at K n P o w c ≡ false
 goes_at_stays K n P o k w c h t = ap (λ x. goes_at K n P x w c) h ∙ ap (λ b. if b then false else under K n k c) t
 
 pub goes_at_goes : (K : ℕ → List ℕ) (n : ℕ) (P : ℕ → Option Node → Bool) (o : Option ℕ) (k : ℕ) (w : Option Node)
-      (c : ℕ)
+    (c : ℕ)
     → o ≡ Some k → P k w ≡ false → goes_at K n P o w c ≡ under K n k c
 goes_at_goes K n P o k w c h t = ap (λ x. goes_at K n P x w c) h ∙ ap (λ b. if b then false else under K n k c) t

@@ -178,7 +178,7 @@ module _ (s : ℕ → Option Entry) (T : ℕ → Option Seen) (id n : ℕ) (news
   -- what came stands at such a place
   came_to : (c : ℕ) (d : Seen) → present_of (s c) ≡ None → T c ≡ Some d
       → (i : ℕ) × (w : Node) × (slice_get now.children i ≡ Some c) × (slice_get news i ≡ Some w)
-        × (stay_child s (slice_get (kids (s id)) i) w ≡ None)
+      × (stay_child s (slice_get (kids (s id)) i) w ≡ None)
   came_to c d none t = elim (r.came c none) [
     | inl y ↦ (let z : None ≡ Some d = sym y ∙ t in absurd (cc))
     | inr at ↦ (let p = r.each at.0 c at.1 in elim p.2 [

@@ -13,7 +13,7 @@ settles e = by_flag e.aside refl
   where
     by_flag : (b : Bool) → e.aside ≡ b
         → IfSome (if b then None else Some
-          (record e { came = false; touched = false; former = None; former_hulls = None })) (IsCalm touched_of IsPlain)
+        (record e { came = false; touched = false; former = None; former_hulls = None })) (IsCalm touched_of IsPlain)
     by_flag true q = tt
     by_flag false q = record { untouched = refl; plain = record { here = q; old = refl; same = refl; hulls = refl } }
 
@@ -25,9 +25,14 @@ rolls e = by_flag e.came
   where
     by_flag : (b : Bool)
         → IfSome (if b then None else Some
-          (record (restored e e.former)
-          { hulls = former_hulls e.hulls e.former_hulls; aside = false; came = false; touched = false; former = None;
-          former_hulls = None })) (IsCalm touched_of IsPlain)
+        (record (restored e e.former) {
+          hulls = former_hulls e.hulls e.former_hulls;
+          aside = false;
+          came = false;
+          touched = false;
+          former = None;
+          former_hulls = None;
+        })) (IsCalm touched_of IsPlain)
     by_flag true = tt
     by_flag false = record { untouched = refl; plain = record { here = refl; old = refl; same = refl; hulls = refl } }
 

@@ -1,4 +1,4 @@
-ghost use Rattle.std.specs.Prelude.{◌≢◌, ◌<◌, ◌+◌, ◌*◌, ◌/◌, ◌^◌, ℕ};
+ghost use Rattle.std.specs.Prelude.{◌≡◌, ◌≢◌, ◌<◌, ◌+◌, ◌*◌, ◌/◌, ◌^◌, ℕ, max};
 ghost use Rattle.cga_forest.specs.declared.hulls.Hulls.{Hulls};
 ghost use Rattle.cga_forest.specs.Blocks.{IsHeld, StaysHeld};
 
@@ -19,7 +19,9 @@ pub struct Blocks {
 }
 
 impl Blocks {
-    pub fn new(alloc: Global) -> Blocks {
+    pub fn new(alloc: Global) -> Blocks
+        ensures { result.to ≡ 0 }
+    {
         Blocks {
             blocks: Level::new(alloc),
             groups: Level::new(alloc),
@@ -43,6 +45,7 @@ impl Blocks {
     pub fn join(&mut self, place: usize, hulls: &Hulls)
         ensures here { IsHeld self.new place hulls.now }
         ensures kept { StaysHeld self.old self.new }
+        ensures loose { self.new.to ≡ max self.old.to (place / 256 + 1) }
     {
         self.blocks.join(place, hulls);
         self.groups.join(place / 16, hulls);
@@ -63,13 +66,17 @@ impl Blocks {
     }
 
     /// The first of the groups that took hulls in, and where they end.
-    pub fn loose(&self) -> (usize, usize) {
+    pub fn loose(&self) -> (usize, usize)
+        ensures first { result.0 ≡ self.now.from }
+        ensures end { result.1 ≡ self.now.to }
+    {
         (self.from, self.to)
     }
 
     /// Forgets which they are.
     pub fn rest(&mut self)
-        ensures { StaysHeld self.old self.new }
+        ensures kept { StaysHeld self.old self.new }
+        ensures none { self.new.to ≡ 0 }
     {
         self.from = usize::MAX;
         self.to = 0;

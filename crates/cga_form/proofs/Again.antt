@@ -131,7 +131,7 @@ pub ends : {B : Type 0} {s : Lexeme → Bool} {b : B} → Leads s [] (pure b) b
 ends {s = s} {b = b} = record { leads = λ c x d r w e. let t = end_of c x d w in (refl, ap (λ z. at (z ++ r) c) t.0 ∙ ap (λ n. at r n) t.1) }
 
 pub took : {A B : Type 0} {s : Lexeme → Bool} {sp : Space} {l : Lexeme} {qs : Pieces} {f : A → Reader B} {b : B}
-      (decode : Lexeme → Option A) (a : A)
+    (decode : Lexeme → Option A) (a : A)
     → decode l ≡ Some a → Leads s qs (f a) b → Leads s (token sp l ∷ qs) (single decode >>= f) b
 took {s = s} {sp = sp} {l = l} {qs = qs} {f = f} {b = b} decode a e h = record {
   leads = λ c x d r w q.
@@ -185,7 +185,7 @@ entered_at s l qs f b zero h c y d r w q = tt
 entered_at s l qs f b (suc m) h c y d r w q = (h m refl).leads c y d r w q
 
 pub entered : {B : Type 0} {s : Lexeme → Bool} {sp : Space} {l : Lexeme} {qs : Pieces} {f : Unit {0} → Reader B}
-      {b : B} (decode : Lexeme → Option (Unit {0})) (n : ℕ)
+    {b : B} (decode : Lexeme → Option (Unit {0})) (n : ℕ)
     → decode l ≡ Some tt → ((m : ℕ) → n ≡ suc m → Leads s qs (f tt) b) →
     Leads s (token sp l ∷ qs) (enter decode n >>= f) b
 entered {s = s} {sp = sp} {l = l} {qs = qs} {f = f} {b = b} decode n e h = record {
@@ -196,7 +196,7 @@ entered {s = s} {sp = sp} {l = l} {qs = qs} {f = f} {b = b} decode n e h = recor
 }
 
 pub drew : {B : Type 0} {s : Lexeme → Bool} {qs : Pieces} {f : ℕ → Reader B} {b : B}
-      (decode : Lexeme → Option (Unit {0})) (j : ℕ)
+    (decode : Lexeme → Option (Unit {0})) (j : ℕ)
     → decode (lexeme.Keyword k.Rand) ≡ Some tt → Leads s qs (f j) b → Leads s (drawn j ∷ qs) (drawn_word decode >>= f) b
 drew {s = s} {qs = qs} {f = f} {b = b} decode j e h = record {
   leads = λ c x d r w q.
@@ -222,7 +222,7 @@ peek_no {p = p} {q = q} {b = b} test h g = record {
 
 -- the next of several forms
 pub after : {A B : Type 0} {v : A → Pieces} {t s : Lexeme → Bool} {qs : Pieces} {p : Reader A} {b : B}
-      (f : A → Reader B) (a : A)
+    (f : A → Reader B) (a : A)
     → Again v t p → Misses t qs s → Leads s qs (f a) b → Leads s (v a ++ qs) (p >>= f) b
 after {v = v} {qs = qs} {p = p} {b = b} f a again m h = record {
   leads = λ c x d r w e.
@@ -249,7 +249,7 @@ pub going_on : {B : Type 0} {s t : Lexeme → Bool} {ps : Pieces} {p : Reader B}
 going_on h g = record { leads = λ c x d r w e. g.leads c x d r w (less h r e) }
 
 then_twice : {A B C : Type 0} (g : A → Reader B) (f : B → Reader C) (o : ReadResult A) (a : A) (i : Input) (b : C)
-      (j : Input)
+    (j : Input)
     → Agrees o a i → Agrees (and_then (g a i) f) b j → Agrees (and_then (and_then o g) f) b j
 then_twice g f (Ok q) a i b j h k' = subst (λ x. Agrees (and_then (g x q.1) f) b j) (sym h.0) (subst (λ x. Agrees (and_then (g a x) f) b j) (sym h.1) k')
 then_twice g f (Err (Unexpected n)) a i b j h k' = absurd h
@@ -282,10 +282,10 @@ module _ {A : Type 0} (w : A → Pieces) (t test : Lexeme → Bool) (p : Reader 
 
 -- each of a list, and then what follows it
 pub all_of : {A B : Type 0} {w : A → Pieces} {t s : Lexeme → Bool} {qs : Pieces} {p : Reader A} {b : B}
-      (f : List A → Reader B) (test : Lexeme → Bool) (xs : List A)
+    (f : List A → Reader B) (test : Lexeme → Bool) (xs : List A)
     → Again w t p → ((a : A) → Starts test (w a)) → ((a : A) → Begun t (w a)) →
     ((so_far : List A) (i : Input) → many_after test p so_far i ≡ (if begins test i.left then (p >>= λ y. many_after test p (so_far ++ y ∷ [])) i else Ok (so_far, i)))
-        →
+    →
     Misses t qs s → Misses test qs s → Leads s qs (f xs) b → Leads s (concat (map w xs) ++ qs) (many test p >>= f) b
 unfolding many
 all_of {w = w} {t = t} {s = s} {qs = qs} {p = p} {b = b} f test xs again starting apart unroll out stop h =
@@ -300,7 +300,7 @@ few_by s ps qs p b true h c x d r w e = (h refl).leads c x d r w e
 few_by s ps qs p b false h c x d r w e = absurd (never_written c qs x d w)
 
 pub few_leads : {A B : Type 0} {s : Lexeme → Bool} {p : Reader B} {b : B} (w : A → Pieces) (qs : Pieces) (most : ℕ)
-      (xs : List A)
+    (xs : List A)
     → (nat_le (length xs) most ≡ true → Leads s (concat (map w xs) ++ qs) p b)
     → Leads s (few_pieces most w xs ++ qs) p b
 few_leads {s = s} {p = p} {b = b} w qs most xs h = record { leads = λ c x d r v e. few_by s (concat (map w xs)) qs p b (nat_le (length xs) most) h c x d r v e }
@@ -342,7 +342,7 @@ module _ {A : Type 0} (w : A → Pieces) (t test : Lexeme → Bool) (p : Reader 
 
 -- each of a list of at most so many, and then what follows it
 pub few_of : {A B : Type 0} {t s : Lexeme → Bool} {p : Reader A} {b : B} (w : A → Pieces) (qs : Pieces)
-      (f : List A → Reader B) (test : Lexeme → Bool) (most : ℕ) (xs : List A)
+    (f : List A → Reader B) (test : Lexeme → Bool) (most : ℕ) (xs : List A)
     → Again w t p → ((a : A) → Starts test (w a)) → ((a : A) → Begun t (w a)) →
     Misses t qs s → Misses test qs s → Leads s qs (f xs) b → Leads s (few_pieces most w xs ++ qs) (many_from test p most [] >>= f) b
 few_of {t = t} {s = s} {p = p} {b = b} w qs f test most xs again starting apart out stop h =

@@ -48,7 +48,7 @@ module _ {A : Type 0} (w : A → Pieces) where
     -- after a faulty line nothing changes but the number
     pub passed_over : is_some old.fault ≡ true → (lines : List Line) → StandsFor w holds old lines
         → StandsFor w holds (record { alloc = old.alloc; lines = m; gathered = old.gathered; fault = old.fault })
-          (lines ++ l ∷ [])
+        (lines ++ l ∷ [])
     passed_over q lines h = (counted lines l old.lines m h.0 e, keeps_on lines old.fault q h.1)
 
     on_ok : {T E : Type 0} (r : Result T E) (P Q : Type 0) → (P → Q) → OnOk r P → OnOk r Q

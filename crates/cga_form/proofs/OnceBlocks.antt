@@ -58,7 +58,7 @@ module _ {A : Type 0} (w : A → Pieces) (unique : (text : List Lexeme) (a b : A
   says_none (b ∷ before) l after (x ∷ all) f h k = says_none before l after all f h.1 k
 
   first_fault : (before more : List Line) (l k : Line) (after rest z : List Line) (all : List (Option A))
-        (f g : LineFault)
+      (f g : LineFault)
       → BlockTells w l (Err f) → BlockTells w k (Err g) → Say w more all → more ≡ before ++ z
       → l ∷ after ≡ z ++ (k ∷ rest) →
       (length before ≡ length more) × (f ≡ g)

@@ -398,9 +398,9 @@ module _ {A : Type 0} (L : Language A) (n : ℕ) (test : Lexeme → Bool) (p : R
 
     enough_then : (j l : ℕ) (so_far : List A) (i : Input) → length i.left ≤ suc j → length i.left ≤ suc l →
         ((q : List A) (o : Input) → length o.left ≤ j → length o.left ≤ l → many_from test p j q o ≡ many_from test p l q o)
-            →
+        →
         (o : ReadResult A) → p i ≡ o
-            → and_then o (λ x. many_from test p j (so_far ++ x ∷ [])) ≡ and_then o (λ x. many_from test p l (so_far ++ x ∷ []))
+        → and_then o (λ x. many_from test p j (so_far ++ x ∷ [])) ≡ and_then o (λ x. many_from test p l (so_far ++ x ∷ []))
     enough_then j l so_far i a b h (Ok q) e = h (so_far ++ q.0 ∷ []) q.1 (omega (arith, shortens i q.0 q.1 e)) (omega (arith, shortens i q.0 q.1 e))
     enough_then j l so_far i a b h (Err f) e = refl
 
@@ -423,7 +423,7 @@ module _ {A : Type 0} (L : Language A) (n : ℕ) (test : Lexeme → Bool) (p : R
 
     unroll_then : (so_far : List A) (i : Input) (o : ReadResult A) → p i ≡ o
         → and_then o (λ x. many_from test p (length i.left) (so_far ++ x ∷ [])) ≡ and_then o
-          (λ x. many_after test p (so_far ++ x ∷ []))
+        (λ x. many_after test p (so_far ++ x ∷ []))
     unroll_then so_far i (Ok q) e = enough (length i.left) (length q.1.left) (so_far ++ q.0 ∷ []) q.1 (omega (arith, shortens i q.0 q.1 e)) (omega arith)
     unroll_then so_far i (Err f) e = refl
 

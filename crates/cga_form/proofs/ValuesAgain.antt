@@ -49,7 +49,7 @@ divisor_again = record { all = divisor_at }
 
 read_divisor : (minus : Bool) (n d : ℕ) → 0 < d
     → Leads a_slash (sign s.Slash ∷ plain (number d) ∷ []) (b.magnitude_rest minus (of_int (pos n)) (Some n))
-      (b.with_minus minus (ratio n d))
+    (b.with_minus minus (ratio n d))
 read_divisor minus n zero h = absurd (omega arith)
 read_divisor minus n (suc d) h = peek_yes _ (starts_token refl) (plainly (after {v = divisor_pieces} _ (suc d) divisor_again misses_nothing ends))
 

@@ -55,18 +55,18 @@ itself q = record { positive = omega arith; same = omega arith }
 
 pub sum_parts : (x y : ℤ)
     → positive_part (x +ℤ y) + negative_part x + negative_part y ≡ negative_part (x +ℤ y) + positive_part x +
-      positive_part y
+    positive_part y
 sum_parts x y = omega (arith, ints)
 
 pub sub_parts : (x y : ℤ)
     → positive_part (x -ℤ y) + negative_part x + positive_part y ≡ negative_part (x -ℤ y) + positive_part x +
-      negative_part y
+    negative_part y
 sub_parts x y = omega (arith, ints)
 
 plus_parts : (a b : Rat) (p m : ℕ) → p ≡ positive_part (a.num *ℤ pos (den b) +ℤ b.num *ℤ pos (den a))
     → m ≡ negative_part (a.num *ℤ pos (den b) +ℤ b.num *ℤ pos (den a))
     → p + (negative_part a.num * den b + negative_part b.num * den a) ≡ m +
-      (positive_part a.num * den b + positive_part b.num * den a)
+    (positive_part a.num * den b + positive_part b.num * den a)
 plus_parts a b p m e f =
     let s = sum_parts (a.num *ℤ pos (den b)) (b.num *ℤ pos (den a)) in
     let x = scaled_parts a.num (den b) in
@@ -76,7 +76,7 @@ plus_parts a b p m e f =
 -- the sum, of two numbers as they show themselves
 pub plus_diff : (a b : Rat)
     → IsDiff (plus a b) (positive_part a.num * den b + positive_part b.num * den a)
-      (negative_part a.num * den b + negative_part b.num * den a) (den a * den b)
+    (negative_part a.num * den b + negative_part b.num * den a) (den a * den b)
 unfolding plus
 plus_diff a b =
     let n = a.num *ℤ pos (den b) +ℤ b.num *ℤ pos (den a) in
@@ -102,7 +102,7 @@ le_diff a b u v d w x e r s l =
 
 monotone : (pa ma da pb mb db pc mc dc : ℕ) → pb * dc + mc * db ≤ pc * db + mb * dc
     → (pa * db + pb * da) * (da * dc) + (ma * dc + mc * da) * (da * db) ≤ (pa * dc + pc * da) * (da * db) +
-      (ma * db + mb * da) * (da * dc)
+    (ma * db + mb * da) * (da * dc)
 monotone pa ma da pb mb db pc mc dc h =
     let x : (pb * dc + mc * db) * (da * da) ≤ (pc * db + mb * dc) * (da * da) = mul-le-mul_right (da * da) h in omega arith
 
@@ -121,7 +121,7 @@ together p m q s t r u v d w x e f g =
 minus_parts : (a b : Rat) (p m : ℕ) → p ≡ positive_part (a.num *ℤ pos (den b) -ℤ b.num *ℤ pos (den a))
     → m ≡ negative_part (a.num *ℤ pos (den b) -ℤ b.num *ℤ pos (den a))
     → p + (negative_part a.num * den b + positive_part b.num * den a) ≡ m +
-      (positive_part a.num * den b + negative_part b.num * den a)
+    (positive_part a.num * den b + negative_part b.num * den a)
 minus_parts a b p m e f =
     let s = sub_parts (a.num *ℤ pos (den b)) (b.num *ℤ pos (den a)) in
     let x = scaled_parts a.num (den b) in
@@ -130,7 +130,7 @@ minus_parts a b p m e f =
 
 pub minus_diff : (a b : Rat)
     → IsDiff (minus a b) (positive_part a.num * den b + negative_part b.num * den a)
-      (negative_part a.num * den b + positive_part b.num * den a) (den a * den b)
+    (negative_part a.num * den b + positive_part b.num * den a) (den a * den b)
 unfolding minus
 minus_diff a b =
     let h : 0 < den a * den b = mul-pos {m = den a} {n = den b} (omega arith) (omega arith) in
@@ -188,7 +188,7 @@ negated_diff a u v d r =
 
 product_parts : (x y : ℤ)
     → positive_part (x *ℤ y) + (positive_part x * negative_part y + negative_part x * positive_part y) ≡ negative_part
-      (x *ℤ y) + (positive_part x * positive_part y + negative_part x * negative_part y)
+    (x *ℤ y) + (positive_part x * positive_part y + negative_part x * negative_part y)
 product_parts (pos n) (pos m) = omega arith
 product_parts (pos n) (negsuc m) = let e = neg_parts (pos (n * suc m)) in rw (e.0, e.1) (omega arith)
 product_parts (negsuc n) (pos m) = let e = neg_parts (pos (suc n * m)) in rw (e.0, e.1) (omega arith)
@@ -197,7 +197,7 @@ product_parts (negsuc n) (negsuc m) = omega arith
 -- the product, of two numbers as they show themselves
 pub times_diff : (a b : Rat)
     → IsDiff (times a b) (positive_part a.num * positive_part b.num + negative_part a.num * negative_part b.num)
-      (positive_part a.num * negative_part b.num + negative_part a.num * positive_part b.num) (den a * den b)
+    (positive_part a.num * negative_part b.num + negative_part a.num * positive_part b.num) (den a * den b)
 unfolding times
 times_diff a b =
     let h : 0 < den a * den b = mul-pos {m = den a} {n = den b} (omega arith) (omega arith) in
@@ -208,7 +208,7 @@ times_diff a b =
 
 monotone_minus : (pa ma da pb mb db pc mc dc : ℕ) → pb * dc + mc * db ≤ pc * db + mb * dc
     → (pa * dc + mc * da) * (da * db) + (ma * db + pb * da) * (da * dc) ≤ (pa * db + mb * da) * (da * dc) +
-      (ma * dc + pc * da) * (da * db)
+    (ma * dc + pc * da) * (da * db)
 monotone_minus pa ma da pb mb db pc mc dc h =
     let x : (pb * dc + mc * db) * (da * da) ≤ (pc * db + mb * dc) * (da * da) = mul-le-mul_right (da * da) h in omega arith
 

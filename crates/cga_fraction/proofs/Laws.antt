@@ -83,7 +83,7 @@ same_diff a b u v d w x e p q r s h = same_value a b p q (le_diff a b u v d w x 
 
 back_naturals : (pa ma da ps ms ds : ℕ)
     → ((pa * ds + ps * da) * ds + ms * (da * ds)) * da + ma * (da * ds * ds) ≡ pa * (da * ds * ds) +
-      ((ma * ds + ms * da) * ds + ps * (da * ds)) * da
+    ((ma * ds + ms * da) * ds + ps * (da * ds)) * da
 back_naturals pa ma da ps ms ds = omega arith
 
 pub minus-plus : (a s : Rat) → IsLowest a → minus (plus a s) s ≡ a
@@ -93,7 +93,7 @@ minus-plus a s l =
 
 forth_naturals : (pa ma da ps ms ds : ℕ)
     → ((pa * ds + ms * da) * ds + ps * (da * ds)) * da + ma * (da * ds * ds) ≡ pa * (da * ds * ds) +
-      ((ma * ds + ps * da) * ds + ms * (da * ds)) * da
+    ((ma * ds + ps * da) * ds + ms * (da * ds)) * da
 forth_naturals pa ma da ps ms ds = omega arith
 
 pub plus-minus : (a s : Rat) → IsLowest a → plus (minus a s) s ≡ a
@@ -103,7 +103,7 @@ plus-minus a s l =
 
 left_naturals : (pa ma da ps ms ds : ℕ)
     → ((pa * ds + ps * da) * da + ma * (da * ds)) * ds + ms * (da * ds * da) ≡ ps * (da * ds * da) +
-      ((ma * ds + ms * da) * da + pa * (da * ds)) * ds
+    ((ma * ds + ms * da) * da + pa * (da * ds)) * ds
 left_naturals pa ma da ps ms ds = omega arith
 
 -- the difference of a sum and its first part is the second

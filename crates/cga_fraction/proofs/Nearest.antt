@@ -61,7 +61,7 @@ halves n d h =
 
 distance-parts : (a : Rat) (places : ℕ) (z : ℤ)
     → distance a places z ≡ gap (positive_part a.num * 10 ^ places + negative_part z * den a)
-      (positive_part z * den a + negative_part a.num * 10 ^ places)
+    (positive_part z * den a + negative_part a.num * 10 ^ places)
 distance-parts a places z =
     let x = scaled_parts a.num (10 ^ places) in
     let y = scaled_parts z (den a) in
@@ -76,9 +76,9 @@ half_up n x places = (2 * (n * 10 ^ places) + (x + 1)) / (2 * (x + 1))
 
 at_positive : (n x places : ℕ) (w : ℤ)
     → (distance (record { num = pos n; above = x }) places (pos (half_up n x places)) ≤ distance
-      (record { num = pos n; above = x }) places w)
-      × (distance (record { num = pos n; above = x }) places w ≡ distance (record { num = pos n; above = x }) places
-      (pos (half_up n x places)) → unsigned_abs w ≤ half_up n x places)
+    (record { num = pos n; above = x }) places w)
+    × (distance (record { num = pos n; above = x }) places w ≡ distance (record { num = pos n; above = x }) places
+    (pos (half_up n x places)) → unsigned_abs w ≤ half_up n x places)
 at_positive n x places (pos k) =
     let r = nearest (n * 10 ^ places) (x + 1) (half_up n x places) k (halves (n * 10 ^ places) (x + 1) (omega arith)) in
     let z = distance-parts (record { num = pos n; above = x }) places (pos (half_up n x places)) in
@@ -101,9 +101,9 @@ negative_distance n x places m =
 
 at_negative : (n x places : ℕ) (w : ℤ)
     → (distance (record { num = negsuc n; above = x }) places (neg_ℤ (pos (half_up (suc n) x places))) ≤ distance
-      (record { num = negsuc n; above = x }) places w)
-      × (distance (record { num = negsuc n; above = x }) places w ≡ distance (record { num = negsuc n; above = x })
-      places (neg_ℤ (pos (half_up (suc n) x places))) → unsigned_abs w ≤ half_up (suc n) x places)
+    (record { num = negsuc n; above = x }) places w)
+    × (distance (record { num = negsuc n; above = x }) places w ≡ distance (record { num = negsuc n; above = x })
+    places (neg_ℤ (pos (half_up (suc n) x places))) → unsigned_abs w ≤ half_up (suc n) x places)
 at_negative n x places (pos zero) =
     let r = nearest (suc n * 10 ^ places) (x + 1) (half_up (suc n) x places) 0 (halves (suc n * 10 ^ places) (x + 1) (omega arith)) in
     let z = negative_distance n x places (half_up (suc n) x places) in

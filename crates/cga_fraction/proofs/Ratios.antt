@@ -128,7 +128,7 @@ minus_top s t h = omega (arith, ints)
 
 le_tops : (b a : Rat) (t s : ℕ) → b.num ≡ pos t → a.num ≡ pos s
     → positive_part b.num * den a + negative_part a.num * den b ≤ positive_part a.num * den b + negative_part b.num *
-      den a
+    den a
     → t * den a ≤ s * den b
 le_tops b a t s e f h =
     let h' = subst (λ z. positive_part z * den a + negative_part a.num * den b ≤ positive_part a.num * den b + negative_part z * den a) e h in

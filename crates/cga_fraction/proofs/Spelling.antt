@@ -157,7 +157,7 @@ reads-pointed places n h few = reads_at places n h few
 
 length_at : (places n : ℕ)
     → (length (decimal (n / 10 ^ places) ++ after_point places n) ≤ length (decimal (n / 10 ^ places)) + places + 1)
-      × (places ≡ 0 → length (decimal (n / 10 ^ places) ++ after_point places n) ≤ length (decimal (n / 10 ^ places)))
+    × (places ≡ 0 → length (decimal (n / 10 ^ places) ++ after_point places n) ≤ length (decimal (n / 10 ^ places)))
 length_at zero n = let l = length-append (decimal (n / 10 ^ 0)) [] in (omega arith, λ z. omega arith)
 length_at (suc places) n =
     let l = length-append (decimal (n / 10 ^ suc places)) (after_point (suc places) n) in
@@ -166,6 +166,6 @@ length_at (suc places) n =
 
 pub length-pointed : (places n : ℕ)
     → (length (pointed places n) ≤ length (decimal (n / 10 ^ places)) + places + 1)
-      × (places ≡ 0 → length (pointed places n) ≤ length (decimal (n / 10 ^ places)))
+    × (places ≡ 0 → length (pointed places n) ≤ length (decimal (n / 10 ^ places)))
 unfolding pointed
 length-pointed places n = length_at places n

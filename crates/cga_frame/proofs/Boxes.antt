@@ -27,7 +27,7 @@ start l h e = record { from = le_refl l; to = e }
 
 holds_parts : (a b : Box) → holds a b ≡ true
     → (along_holds a.low.x a.high.x b.low.x b.high.x ≡ true) × (along_holds a.low.y a.high.y b.low.y b.high.y ≡ true)
-      × (along_holds a.low.z a.high.z b.low.z b.high.z ≡ true)
+    × (along_holds a.low.z a.high.z b.low.z b.high.z ≡ true)
 unfolding holds
 holds_parts a b e = three _ _ _ e
 
@@ -62,8 +62,8 @@ holds_itself a = holds_all a a (itself a.low.x a.high.x) (itself a.low.y a.high.
 
 touches_parts : (a b : Box) → touches a b ≡ true
     → (along_touches a.low.x a.high.x b.low.x b.high.x ≡ true)
-      × (along_touches a.low.y a.high.y b.low.y b.high.y ≡ true)
-      × (along_touches a.low.z a.high.z b.low.z b.high.z ≡ true)
+    × (along_touches a.low.y a.high.y b.low.y b.high.y ≡ true)
+    × (along_touches a.low.z a.high.z b.low.z b.high.z ≡ true)
 unfolding touches
 touches_parts a b e = three _ _ _ e
 
@@ -96,7 +96,7 @@ touches_up a b q e f =
 
 meets_parts : (a b : Box) → meets a b ≡ true
     → (along_meets a.low.x a.high.x b.low.x b.high.x ≡ true) × (along_meets a.low.y a.high.y b.low.y b.high.y ≡ true)
-      × (along_meets a.low.z a.high.z b.low.z b.high.z ≡ true)
+    × (along_meets a.low.z a.high.z b.low.z b.high.z ≡ true)
 unfolding meets
 meets_parts a b e = three _ _ _ e
 

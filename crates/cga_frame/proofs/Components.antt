@@ -38,7 +38,7 @@ fits_end : (c : Component) (o t : Signed) (near far : Rat) (size : Point) → Is
     → far ≡ moved_along o near size
     → (extent c t.axis ≡ None) ⊎ ((extent c t.axis ≡ Some o.axis) × (t.against ≡ is_high c o.axis))
     → end_of c o (flipped o.against t) near far ≡ moved (differ o.against t.against) (corner c o near far)
-      (size_by size (extent c t.axis))
+    (size_by size (extent c t.axis))
 fits_end c o t near far size l m e (inl f) = rw f (move_zero (differ o.against t.against) (if is_high c o.axis then far else near) (one_of IsLowest (is_high c o.axis) far near m l))
 fits_end c o t near far size l m e (inr f) = rw (f.0, f.1) (whole_end o.against (is_high c o.axis) near far (coordinate size o.axis) l e)
 
@@ -60,7 +60,7 @@ coordinate-sizes_of size c Z = refl
 end_at : (c : Component) (o : Signed) (near far : Rat) (size : Point) → IsFitting c → IsLowest near → IsLowest far
     → far ≡ moved_along o near size
     → end_of c o (within (turn_of c.axis c.by) o) near far ≡ moved_along (within (turn_of c.axis c.by) o)
-      (corner c o near far) (sizes_of size c)
+    (corner c o near far) (sizes_of size c)
 end_at c o near far size h l m e =
     fits_end c o (along (turn_of c.axis c.by) o.axis) near far size l m e (fits_at c h o.axis)
     ∙ ap (λ (a : Rat). moved (differ o.against (along (turn_of c.axis c.by) o.axis).against) (corner c o near far) a) (sym (coordinate-sizes_of size c (along (turn_of c.axis c.by) o.axis).axis))
@@ -72,8 +72,12 @@ same_point : (x y z a b c : Rat) → x ≡ a → y ≡ b → z ≡ c
 same_point x y z a b c e f g = rw (e, f, g) refl
 
 far_parts : (s : Scope)
-    → far_of s ≡ record { x = moved_along s.frame.x s.at.x s.size; y = moved_along s.frame.y s.at.y s.size; z =
-      moved_along s.frame.z s.at.z s.size }
+    → far_of s ≡ record {
+      x = moved_along s.frame.x s.at.x s.size;
+      y = moved_along s.frame.y s.at.y s.size;
+      z =
+          moved_along s.frame.z s.at.z s.size;
+    }
 unfolding place_of
 far_parts s = refl
 
@@ -151,8 +155,11 @@ pub component_is : (s : Scope) (c : Component) (far : Point) (f : Frame) (x y z 
     → f ≡ turned s.frame c.axis c.by → x ≡ corner c s.frame.x s.at.x far.x → y ≡ corner c s.frame.y s.at.y far.y
     → z ≡ corner c s.frame.z s.at.z far.z → u ≡ size_by s.size c.width → v ≡ size_by s.size c.height
     → w ≡ size_by s.size c.depth
-    → ◌≡◌ {A = Scope} (record { at = record { x = x; y = y; z = z }; frame = f; size = record { x = u; y = v; z = w }
-      }) (component_of s c)
+    → ◌≡◌ {A = Scope} (record {
+      at = record { x = x; y = y; z = z };
+      frame = f;
+      size = record { x = u; y = v; z = w };
+    }) (component_of s c)
 unfolding component_of
 component_is s c far f x y z u v w e g a b d h i j = rw (a, b, d, g, h, i, j, e) refl
 

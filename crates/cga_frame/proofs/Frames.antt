@@ -120,7 +120,7 @@ even_at P m e h k = h ∙ ap Some (sym k)
 composed_at : (a b c : Axis) (s t u : Bool) (g : Frame) → parity a b c ≡ Some (differ s (differ t u))
     → parity g.x.axis g.y.axis g.z.axis ≡ Some (differ g.x.against (differ g.y.against g.z.against))
     → parity (along g a).axis (along g b).axis (along g c).axis ≡ Some
-      (differ (differ s (along g a).against) (differ (differ t (along g b).against) (differ u (along g c).against)))
+    (differ (differ s (along g a).against) (differ (differ t (along g b).against) (differ u (along g c).against)))
 composed_at X Y Z s t u g h k =
     let e : differ s (differ t u) ≡ false = cc in
     even_at _ _ _ k (mixed s t u g.x.against g.y.against g.z.against ∙ ap (λ (b : Bool). differ b (differ g.x.against (differ g.y.against g.z.against))) e)
@@ -160,8 +160,12 @@ on : Axis → Bool → Signed
 on a b = record { axis = a; against = b }
 
 right_at : (a b c : Axis) (s t u : Bool) → parity a b c ≡ Some (differ s (differ t u))
-    → IsRightHanded (record { x = record { axis = a; against = s }; y = record { axis = b; against = t }; z = record
-      { axis = c; against = u } })
+    → IsRightHanded (record {
+      x = record { axis = a; against = s };
+      y = record { axis = b; against = t };
+      z = record
+          { axis = c; against = u };
+    })
 unfolding on
 right_at X Y Z s t u h = let e : differ s (differ t u) ≡ false = cc in record { third = ap (on Z) (last s t u false e); apart = refl }
 right_at Y Z X s t u h =
@@ -199,7 +203,7 @@ none_at Z false = refl
 
 half_at : (a j : Axis) (b : Bool)
     → within (composed (quarter a) (quarter a)) (record { axis = j; against = b }) ≡ within (quarter a)
-      (within (quarter a) (record { axis = j; against = b }))
+    (within (quarter a) (record { axis = j; against = b }))
 half_at X X true = refl
 half_at X X false = refl
 half_at X Y true = refl
@@ -221,7 +225,7 @@ half_at Z Z false = refl
 
 three_at : (a j : Axis) (b : Bool)
     → within (composed (composed (quarter a) (quarter a)) (quarter a)) (record { axis = j; against = b }) ≡ within
-      (quarter a) (within (quarter a) (within (quarter a) (record { axis = j; against = b })))
+    (quarter a) (within (quarter a) (within (quarter a) (record { axis = j; against = b })))
 three_at X X true = refl
 three_at X X false = refl
 three_at X Y true = refl
@@ -243,7 +247,7 @@ three_at Z Z false = refl
 
 four_at : (a j : Axis) (b : Bool)
     → within (quarter a) (within (quarter a)
-      (within (quarter a) (within (quarter a) (record { axis = j; against = b })))) ≡ record { axis = j; against = b }
+    (within (quarter a) (within (quarter a) (record { axis = j; against = b })))) ≡ record { axis = j; against = b }
 four_at X X true = refl
 four_at X X false = refl
 four_at X Y true = refl
@@ -265,11 +269,18 @@ four_at Z Z false = refl
 
 -- one axis after a quarter turn
 quarter_at : (p q r : Axis) (s t u : Bool) (a b : Axis) → parity p q r ≡ Some (differ s (differ t u))
-    → axis_of (composed (record
-      { x = record { axis = p; against = s }; y = record { axis = q; against = t }; z = record
-      { axis = r; against = u } }) (quarter a)) b ≡ seen
-      (record { x = record { axis = p; against = s }; y = record { axis = q; against = t }; z = record
-      { axis = r; against = u } }) (rule_of a b)
+    → axis_of (composed (record {
+      x = record { axis = p; against = s };
+      y = record { axis = q; against = t };
+      z = record
+          { axis = r; against = u };
+    }) (quarter a)) b ≡ seen
+    (record {
+      x = record { axis = p; against = s };
+      y = record { axis = q; against = t };
+      z = record
+          { axis = r; against = u };
+    }) (rule_of a b)
 unfolding on
 quarter_at X Y Z s t u X X h = ap (on X) (differ_comm s false)
 quarter_at X Y Z s t u X Y h = ap (on Z) (differ_comm u false)

@@ -40,5 +40,5 @@ high_within a b l = either_is (rat_le l a) (rat_le l b) (rat_le l (rat_max a b))
 
 pub span_touches : (a b lower upper : Rat)
     → along_touches (rat_min a b) (rat_max a b) lower upper ≡
-      ((rat_le a upper || rat_le b upper) && (rat_le lower a || rat_le lower b))
+    ((rat_le a upper || rat_le b upper) && (rat_le lower a || rat_le lower b))
 span_touches a b lower upper = ap (λ t. t && rat_le lower (rat_max a b)) (low_within a b upper) ∙ ap (λ t. (rat_le a upper || rat_le b upper) && t) (high_within a b lower)

@@ -131,7 +131,7 @@ pub translated_is : (s : Scope) (by at : Point) (f : Frame) (z : Point) (r : Res
 translated_is s by at f z r e g h k = rw (k, e, g, ← (point_is (place_of s.at s.frame by) at (sym h)).0) refl
 
 pub part_is : (s : Scope) (axis : Axis) (from length : Rat) (at : Point) (f : Frame) (z : Point)
-      (r : Result Scope Overflow)
+    (r : Result Scope Overflow)
     → f ≡ s.frame → z ≡ with_coordinate s.size axis length → Ok at ≡ checked_point (step_of s axis from)
     → r ≡ existing (record { at = at; frame = f; size = z }) → r ≡ existing (part_of s axis from length)
 unfolding part_of

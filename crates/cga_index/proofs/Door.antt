@@ -2,6 +2,5 @@
 
 -- The walk over a tree of hulls
 pub use Rattle.cga_index.proofs.Levels.{below_more, drop_all, drop_at, in_at, in_flat, in_left, in_right, in_some, in_split, root_in}
-
 -- The tree's nodes are those that are there
 pub use Rattle.cga_index.proofs.Local.{in_present, present_in}

@@ -68,7 +68,7 @@ below_more v (suc n) node h = let e : suc n - 1 ≡ n = omega arith in rw e refl
 
 reads_more : (v : TreeView) (by n node : ℕ) → 0 < n
     → reads v by n node ≡ cond (nat_eq node by) 0 1 + cond (touches (v.hull node) (v.own by))
-      (total (reads v by (n - 1)) (v.children node)) 0
+    (total (reads v by (n - 1)) (v.children node)) 0
 unfolding reads
 reads_more v by zero node h = absurd (omega (arith, h))
 reads_more v by (suc n) node h = let e : suc n - 1 ≡ n = omega arith in rw e refl

@@ -17,8 +17,8 @@ then_equal Greater = refl
 
 cmp_at : (m : Mode) (c d : Chain)
     → ordering_then (nat_cmp (mode_number m) (mode_number m))
-      (ordering_then (stamps_cmp Breadth (stamp_in Breadth m c) (stamp_in Breadth m d))
-      (stamps_cmp Depth (stamp_in Depth m c) (stamp_in Depth m d))) ≡ stamp_cmp m c d
+    (ordering_then (stamps_cmp Breadth (stamp_in Breadth m c) (stamp_in Breadth m d))
+    (stamps_cmp Depth (stamp_in Depth m c) (stamp_in Depth m d))) ≡ stamp_cmp m c d
 cmp_at Breadth c d = then_equal (stamp_cmp Breadth c d)
 cmp_at Depth c d = refl
 

@@ -21,7 +21,7 @@ Sets s (Err refused) new = refused ≡ NoMemory
 -- the text; set as a whole, that gives the sources back, in every city of the budget.
 pub record IsSetBack (s : Sources) (budget : ℕ) (text : List ℕ) : Type 0 where
   pub lines : text ≡ ended (codes "version 2") ++
-        (ended (codes "city") ++ (city_texts (city_said s) ++ ended (codes "end")))
+      (ended (codes "city") ++ (city_texts (city_said s) ++ ended (codes "end")))
   pub inside : All IsInside (city_said s)
   pub told : CityTells (map given (city_said s)) (Ok (in_order s))
   pub only : (t : Sources) → CityTells (map given (city_said s)) (Ok t) → t ≡ in_order s
@@ -33,5 +33,5 @@ pub record IsSetBack (s : Sources) (budget : ℕ) (text : List ℕ) : Type 0 whe
 abbrev pub DumpsAreSetBack : Type 0
 DumpsAreSetBack =
     (s : Sources) (budget : ℕ) (text : List ℕ) → IsSpelledCity s → AreSound s → IsTrue (is_within budget s)
-        → dump_of s ≡ Ok text
+    → dump_of s ≡ Ok text
     → IsSetBack s budget text

@@ -22,7 +22,7 @@ lex_head place b bs = refl
 
 pub lex_turn : (line : List ℕ) (at : ℕ) → at < length line
     → lex 0 (at + 1) (drop at line) ≡ from_front (front (drop at line)) (at + 1)
-      (λ n. lex n (at + 1 + 1) (drop (at + 1) line))
+    (λ n. lex n (at + 1 + 1) (drop (at + 1) line))
 lex_turn line at h =
     let a : lex 0 (at + 1) (drop at line) ≡ lex 0 (at + 1) (get_or line at 0 ∷ drop (at + 1) line) = at_drop_more (λ r. lex 0 (at + 1) r) line at 0 h in
     let b : front (drop at line) ≡ front (get_or line at 0 ∷ drop (at + 1) line) = at_drop_more (λ r. front r) line at 0 h in

@@ -43,7 +43,7 @@ module _ (text : List ℕ) (some : 0 < run is_ascii_digit text) where
   pointed_value : (cs : List ℕ) → drop (run is_ascii_digit text) text ≡ 46 ∷ cs → (n : ℕ)
       → run is_ascii_digit cs ≡ suc n → run is_ascii_digit text + suc n ≤ 18
       → decimal_of (take (run is_ascii_digit text + suc (suc n)) text) ≡ Ok
-        (value_of (before text) (take (suc n) (drop (run is_ascii_digit text + 1) text)))
+      (value_of (before text) (take (suc n) (drop (run is_ascii_digit text + 1) text)))
   pointed_value cs e n r few =
       let ds = take (suc n) cs in
       let l : length ds ≡ suc n = omega (arith, length-take (suc n) cs, run_within is_ascii_digit cs, r) in

@@ -6,7 +6,7 @@ use Rattle.cga_obj.specs.Lots.{Shown, instance_text, instances_text, vertex_coun
 
 instances_cons : (mesh : Shown) (decimals before : ℕ) (d : Drawn) (ds : List Drawn)
     → instances_text mesh decimals before (d ∷ ds) ≡ instance_text mesh decimals before d ++ instances_text mesh
-      decimals (before + vertex_count mesh d) ds
+    decimals (before + vertex_count mesh d) ds
 unfolding instances_text
 instances_cons mesh decimals before d ds = refl
 

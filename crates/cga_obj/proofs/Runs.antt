@@ -115,7 +115,7 @@ run_from lots i lot rest n h at distinct stands k =
 
 lots_cons : (mesh : Shown) (decimals before : ℕ) (drawn : List Drawn) (lot : List ℕ) (lots : List (List ℕ))
     → lots_text mesh decimals drawn before (lot ∷ lots) ≡ lot_text mesh decimals before lot (drawn_of lot drawn) ++
-      lots_text mesh decimals drawn (before + vertices_in mesh (drawn_of lot drawn)) lots
+    lots_text mesh decimals drawn (before + vertices_in mesh (drawn_of lot drawn)) lots
 unfolding lots_text
 lots_cons mesh decimals before drawn lot lots = refl
 
@@ -125,7 +125,7 @@ lots_none mesh decimals before drawn = refl
 
 -- one lot more, then those that are left
 pub one_lot : (mesh : Shown) (decimals before after : ℕ) (lots : List (List ℕ)) (i : ℕ) (lot : List ℕ)
-      (rest own left : List Drawn) (n : ℕ) (old new all : List ℕ)
+    (rest own left : List Drawn) (n : ℕ) (old new all : List ℕ)
     → i < length lots → get_or lots i lot ≡ lot
     → FirstRun lot (drop (i + 1) lots) rest n → own ≡ take n rest → left ≡ drop n rest
     → after ≡ before + vertices_in mesh own → new ≡ old ++ lot_text mesh decimals before lot own

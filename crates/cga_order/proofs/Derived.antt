@@ -44,7 +44,7 @@ module _ {N A F P : Type 0} (world : World N A F P) (laws : IsWorld world) where
   -- the parts of waiting at a stamp
   pub waits_at-parts : (q n : N) (k : Kind F P) → waits_at world q n k ≡ true
       → IsEarlier world (birth_of world n) (stamp_of world q) × (is_instance k ≡ false)
-        × IsEarlier world (stamp_of world q) (stamp_of world n)
+      × IsEarlier world (stamp_of world q) (stamp_of world n)
   waits_at-parts q n k e =
       let t = both_true _ _ e in
       let u = both_true _ _ t.0 in
@@ -143,7 +143,7 @@ module _ {N A F P : Type 0} (world : World N A F P) (laws : IsWorld world) where
     -- what a shape with a smaller stamp is answered stays
     pub same_answers : (n : N) → IsEarlier world (stamp_of world n) (stamp_of world s)
         → world.answers n (shapes_where (exists_at world n) C) (shapes_where (waits_at world n) C) ≡ world.answers n
-          (shapes_where (exists_at world n) D) (shapes_where (waits_at world n) D)
+        (shapes_where (exists_at world n) D) (shapes_where (waits_at world n) D)
     same_answers n before = laws.local n _ _ _ _ (sees_existing n before) (sees_waiting n before)
 
     same_outcome : (n : N) → IsEarlier world (stamp_of world n) (stamp_of world s)
@@ -187,7 +187,7 @@ module _ {N A F P : Type 0} (world : World N A F P) (laws : IsWorld world) where
 
     -- what s was answered is what it is answered at its stamp
     pub saw_answers : world.answers s (shapes_where (λ n k. true) C) (shapes_where (λ n k. is_waiting k) C) ≡
-          world.answers s (shapes_where (exists_at world s) D) (shapes_where (waits_at world s) D)
+        world.answers s (shapes_where (exists_at world s) D) (shapes_where (waits_at world s) D)
     saw_answers = laws.local s _ _ _ _ saw_existing saw_waiting
 
     saw : outcome world C s ≡ outcome_at world D s

@@ -204,7 +204,7 @@ module _ {R : Type 0} (cmp : R → R → Ordering) (o : IsTotalOrder cmp) where
   -- the same head
   both : (xs : List R) (x s : R) (A : List R) → Apart s xs
       → ((B : List R) → cmps (maxima cmp xs) B ≡ Less → cmps B (maxima cmp (xs ++ s ∷ [])) ≡ Less → (a : R) × In a B
-        × (cmp a s ≡ Less))
+      × (cmp a s ≡ Less))
       → cmps (x ∷ maxima cmp xs) A ≡ Less → cmps A (x ∷ maxima cmp (xs ++ s ∷ [])) ≡ Less
       → (a : R) × In a A × (cmp a s ≡ Less)
   both xs x s [] d go e f = let g : Greater ≡ Less = e in cc

@@ -118,7 +118,7 @@ module _ {N A F P : Type 0} (world : World N A F P) where
   pub Has-become : (s : N) (kind : Kind F P) (xs : List (Placed N F P)) (n : N) (k : Kind F P)
       → Has (map (become world s kind) xs) n k
       → ((place_of world n ≡ place_of world s → ⊥) × Has xs n k)
-        ⊎ ((place_of world n ≡ place_of world s) × (k ≡ kind) × ((j : Kind F P) × Has xs n j))
+      ⊎ ((place_of world n ≡ place_of world s) × (k ≡ kind) × ((j : Kind F P) × Has xs n j))
   Has-become s kind [] n k h = absurd h
   Has-become s kind (m ∷ xs) n k h = elim h [
     | inl e ↦ elim (either (same_place (world.chain m.shape) (world.chain s))) [

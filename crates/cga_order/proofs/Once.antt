@@ -24,7 +24,7 @@ module _ {X : Type 0} where
   -- a list without one of its elements
   without : (xs : List X) (x : X) → Among x xs
       → (ys : List X) × (length xs ≡ length ys + 1) × ((y : X) → Among y xs → (y ≡ x) ⊎ Among y ys)
-        × ((f : X → ℕ) → sum_by f xs ≡ f x + sum_by f ys)
+      × ((f : X → ℕ) → sum_by f xs ≡ f x + sum_by f ys)
   without [] x h = absurd h
   without (z ∷ xs) x h = elim h [
     | inl e ↦ (xs, omega arith, (λ y i. elim i [ inl f ↦ inl (sym f ∙ e) | inr r ↦ inr r ]), λ f. sum_cons f z xs ∙ ap (λ y. f y + sum_by f xs) e)

@@ -54,7 +54,7 @@ module _ {N A F P : Type 0} (world : World N A F P) (laws : IsWorld world) where
     -- a member of the new list was in the old at its place, or is a child
     pub came_from : (i : ℕ) (m : Placed N F P) → slice_get D i ≡ Some m
         → ((i < length C) × ((o : Placed N F P) × (slice_get C i ≡ Some o) × (o.shape ≡ m.shape)))
-          ⊎ ((k : ℕ) × (i ≡ length C + k) × IsChild (world.chain s) k (world.chain m.shape))
+        ⊎ ((k : ℕ) × (i ≡ length C + k) × IsChild (world.chain s) k (world.chain m.shape))
     came_from i m e =
         let size = length-map (become world s kind) C in
         elim (slice_get-append (map (become world s kind) C) (steps.children_of world (outcome world C s)) i m (subst (λ x. slice_get x i ≡ Some m) (step.told ∙ steps.told-is world C s (outcome world C s)) e)) [

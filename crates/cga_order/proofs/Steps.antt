@@ -73,7 +73,7 @@ module _ {N A F P : Type 0} (world : World N A F P) where
     -- the children of an expansion: below it, at places of their own, new
     pub child_of : (s : N) (a : A) (cs : Members) → world.expand s a ≡ Ok cs → (c : N) (k : Kind F P) → Has cs c k
         → (i : ℕ) × (m : Placed N F P) × (slice_get cs i ≡ Some m) × (m.shape ≡ c) × (m.kind ≡ k)
-          × IsChild (world.chain s) i (world.chain c) × ((k ≡ Waiting) ⊎ ((p : P) × (k ≡ Instance p)))
+        × IsChild (world.chain s) i (world.chain c) × ((k ≡ Waiting) ⊎ ((p : P) × (k ≡ Instance p)))
     child_of s a cs e c k h =
         let w = Has-index cs c k h in
         let law = laws.child s a cs e w.0 w.1 w.2 in (
@@ -148,7 +148,7 @@ module _ {N A F P : Type 0} (world : World N A F P) where
       -- what is known of a child that came
       pub law : (c : N) (k : Kind F P) → Has (children_of (outcome world C s)) c k
           → (kind_after (outcome world C s) ≡ Done) × ((i : ℕ) × IsChild (world.chain s) i (world.chain c))
-            × (IsExpanded k → ⊥)
+          × (IsExpanded k → ⊥)
       law c k h = elim (outcome world C s) as (λ r. outcome world C s ≡ r → Has (children_of r) c k → (kind_after r ≡ Done) × ((i : ℕ) × IsChild (world.chain s) i (world.chain c)) × (IsExpanded k → ⊥)) [
         | Ok cs ↦ λ e g. let u = child_of s _ cs e c k g in (refl, (u.0, u.5), fresh_kind s _ cs e c k g)
         | Err f ↦ λ e g. absurd g

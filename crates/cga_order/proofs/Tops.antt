@@ -99,7 +99,7 @@ In-ranks_run mode chain depth (suc n) q i = elim i [
 -- a rank at some depth ties with none that stands deeper on any chain
 TiesNone-deeper : (mode : Mode) (a b : Chain) (depth : ℕ) → IsWhole b
     → heads.TiesNone (rank_cmp mode) (rank_total mode) (rank_at a depth)
-      (maxima (rank_cmp mode) (ranks_from b (depth + 1)))
+    (maxima (rank_cmp mode) (ranks_from b (depth + 1)))
 TiesNone-deeper mode a b depth whole q i =
     let w = In-ranks_run mode b (depth + 1) (length b.priorities - (depth + 1)) q (heads.in_maxima (rank_cmp mode) (rank_total mode) q (ranks_from b (depth + 1)) i) in
     let here : length (take depth a.path) ≤ depth = omega (arith, length-take depth a.path) in
@@ -136,7 +136,7 @@ IsTop-over mode chain depth top within lt h =
 -- the maxima from one depth on are those from the next on, with one more or not
 Extends-ranks_from : (mode : Mode) (chain : Chain) (depth : ℕ)
     → heads.Extends (rank_cmp mode) (rank_total mode) (rank_at chain depth)
-      (maxima (rank_cmp mode) (ranks_from chain (depth + 1))) (maxima (rank_cmp mode) (ranks_from chain depth))
+    (maxima (rank_cmp mode) (ranks_from chain (depth + 1))) (maxima (rank_cmp mode) (ranks_from chain depth))
 Extends-ranks_from mode chain depth = elim (within_or_past depth (length chain.priorities)) [
   | inl within ↦ subst (λ rs. heads.Extends (rank_cmp mode) (rank_total mode) (rank_at chain depth) (maxima (rank_cmp mode) (ranks_from chain (depth + 1))) (maxima (rank_cmp mode) rs)) (sym (ranks_from-step chain depth within)) (heads.Extends-maxima (rank_cmp mode) (rank_total mode) (rank_at chain depth) (ranks_from chain (depth + 1)))
   | inr past ↦ inr (ap (maxima (rank_cmp mode)) (ranks_from-end chain depth past ∙ sym (ranks_from-end chain (depth + 1) (omega (arith, past)))))
@@ -157,7 +157,7 @@ none mode chain depth past = ap (maxima (rank_cmp mode)) (ranks_from-end chain d
 heads_cmp-tops : (mode : Mode) (a b : Chain) (depth : ℕ) (left right : Option ℕ) → IsTop mode a depth left
     → IsTop mode b depth right
     → heads.heads_cmp (rank_cmp mode) (rank_total mode) (maxima (rank_cmp mode) (ranks_from a depth))
-      (maxima (rank_cmp mode) (ranks_from b depth)) ≡ tops_cmp mode a left b right
+    (maxima (rank_cmp mode) (ranks_from b depth)) ≡ tops_cmp mode a left b right
 heads_cmp-tops mode a b depth None None h k = ap2 (heads.heads_cmp (rank_cmp mode) (rank_total mode)) (none mode a depth h) (none mode b depth k)
 heads_cmp-tops mode a b depth None (Some j) h k = ap2 (heads.heads_cmp (rank_cmp mode) (rank_total mode)) (none mode a depth h) k.3
 heads_cmp-tops mode a b depth (Some i) None h k = ap2 (heads.heads_cmp (rank_cmp mode) (rank_total mode)) h.3 (none mode b depth k)

@@ -64,7 +64,7 @@ module _ {N A F P : Type 0} (world : World N A F P) (laws : IsWorld world) (limi
     pub present : (bound : ℕ) (m : N) (k : Kind F P) → length (world.chain m).path < bound → Has L m k
         → IsBefore world limit (birth_of world m)
         → ((w : N) → Has C w Waiting → IsEarlier world (stamp_of world w) (birth_of world m)
-          ⊎ (stamp_of world w ≡ birth_of world m) → ⊥)
+        ⊎ (stamp_of world w ≡ birth_of world m) → ⊥)
         → (j : Kind F P) × Has C m j
     present zero m k lt h b quiet = absurd (omega arith)
     present (suc bound) m k lt h b quiet = elim (con.only m k h b) [
@@ -83,7 +83,7 @@ module _ {N A F P : Type 0} (world : World N A F P) (laws : IsWorld world) (limi
     -- one step, of a shape before the limit
     module _ (D : Members) (s : N) (step : IsStep world C D s) (before : IsBefore world limit (stamp_of world s)) where
       changes : steps.Changes world C D s (steps.kind_after world (outcome world C s))
-            (steps.children_of world (outcome world C s))
+          (steps.children_of world (outcome world C s))
       changes = steps.Changes-step world laws C D s good step
 
       least : (w : N) → Has C w Waiting → (place_of world w ≡ place_of world s → ⊥)
@@ -173,14 +173,14 @@ module _ {N A F P : Type 0} (world : World N A F P) (laws : IsWorld world) (limi
       -- the list has s as its outcome has it, and its children
       has_outcome : (k : Kind F P) → Has L s k → HasOutcome L k (outcome world C s)
           → Has L s (steps.kind_after world (outcome world C s))
-            × ((c : N) (j : Kind F P) → Has (steps.children_of world (outcome world C s)) c j → Stands L c j)
+          × ((c : N) (j : Kind F P) → Has (steps.children_of world (outcome world C s)) c j → Stands L c j)
       has_outcome k h o = elim (outcome world C s) as (λ r. HasOutcome L k r → Has L s (steps.kind_after world r) × ((c : N) (j : Kind F P) → Has (steps.children_of world r) c j → Stands L c j)) [
         | Ok cs ↦ λ g. (subst (Has L s) g.0 h, g.1)
         | Err f ↦ λ g. (subst (Has L s) g h, λ c j i. absurd i)
       ] o
 
       in_list : Has L s (steps.kind_after world (outcome world C s))
-            × ((c : N) (j : Kind F P) → Has (steps.children_of world (outcome world C s)) c j → Stands L c j)
+          × ((c : N) (j : Kind F P) → Has (steps.children_of world (outcome world C s)) c j → Stands L c j)
       in_list =
           let w = fits.waiting s step.waits in
           has_outcome w.0 w.1 (subst (HasOutcome L w.0) agree (con.each s w.0 w.1 w.2 before))

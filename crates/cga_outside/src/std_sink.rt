@@ -29,6 +29,13 @@ impl<W: Write> StdSink<W> {
             faults: 0,
         }
     }
+
+    /// The writer with all that it took. What wasn't flushed may not have been sent on.
+    pub fn into_writer(self) -> W
+        ensures { result ≡ self.writer }
+    {
+        self.writer
+    }
 }
 
 impl<W: Write> Sink for StdSink<W> {

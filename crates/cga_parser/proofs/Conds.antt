@@ -53,13 +53,13 @@ scope_bytes (scope_word.Size a) = size_word a
 
 pub cond_layer : (a : Conj) (more : List Conj)
     → cond_pieces (roll-Cond (record { conjs = a ∷ more })) ≡ conj_pieces a ++
-      (concat (map (λ c. keyword k.Or ∷ conj_pieces c) more) ++ [])
+    (concat (map (λ c. keyword k.Or ∷ conj_pieces c) more) ++ [])
 unfolding cond_pieces conj_pieces
 cond_layer a more = fold-roll-Cond Pieces Pieces Pieces test_step cond_step conj_step (record { conjs = a ∷ more }) ∙ separated_is (keyword k.Or) conj_pieces a more []
 
 pub conj_layer : (a : Test) (more : List Test)
     → conj_pieces (roll-Conj (record { tests = a ∷ more })) ≡ test_pieces a ++
-      (concat (map (λ c. keyword k.And ∷ test_pieces c) more) ++ [])
+    (concat (map (λ c. keyword k.And ∷ test_pieces c) more) ++ [])
 unfolding conj_pieces test_pieces
 conj_layer a more = fold-roll-Conj Pieces Pieces Pieces test_step cond_step conj_step (record { tests = a ∷ more }) ∙ separated_is (keyword k.And) test_pieces a more []
 
@@ -195,8 +195,8 @@ occ_pieces p = sign s.LeftRound ∷ text (target_text p.0) ∷ sign s.RightRound
 
 occ_rest : (m : ℕ)
     → Goes m (suc m) round occ_pieces
-      (single a_target >>= λ target. g.sign s.RightRound >>
-      (single an_equality >>= λ equal. single a_state >>= λ state. pure (target, equal, state)))
+    (single a_target >>= λ target. g.sign s.RightRound >>
+    (single an_equality >>= λ equal. single a_state >>= λ state. pure (target, equal, state)))
 occ_rest m = next (one_token (target_token m)) (λ a. next (close m) (λ _. next (one_token (equality_token (suc m))) (λ b. next (one_token (state_token (suc m))) (λ c. done refl))))
 
 occ_reads : (n : ℕ) (inner : Reader Cond) → Reads n n occ_pieces (g.occ_parts n inner)
@@ -220,7 +220,7 @@ module _ (n : ℕ) (inner : Reader Cond) (h : IsInner n inner) where
 
   pub sum_layer : (a : Axis) (fs : List Scaled) (ts : List Added)
       → expr_pieces (g.sum_of (g.size_factor a) fs ts) ≡
-        (scope_pieces (scope_word.Size a) ++ concat (map scaled_pieces fs)) ++ concat (map added_pieces ts)
+      (scope_pieces (scope_word.Size a) ++ concat (map scaled_pieces fs)) ++ concat (map added_pieces ts)
   sum_layer a fs ts =
       expr_layer _ ts ∙ ap (λ z. z ++ concat (map added_pieces ts)) (term_layer (g.size_factor a) fs ∙ ap (λ z. z ++ concat (map scaled_pieces fs)) (factor_layer false _ ∙ size_layer a))
 

@@ -126,7 +126,7 @@ module _ (n : ℕ) (inner : Reader Cond) (h : AgainInner n inner) (r : IsInner n
 
   compare_again : (left : Expr) (o : Relation) (right : Expr)
       → Leads goes_on (sign (relation_sign o) ∷ expr_pieces right) (g.compare_after n inner left)
-        (t.Compare left o right)
+      (t.Compare left o right)
   unfolding g.compare_after
   compare_again left o right = took a_relation o (relation_read o) (plainly (after _ right (expr_again n) (misses_end (λ l e. e)) ends))
 
@@ -175,7 +175,7 @@ module _ (n : ℕ) (inner : Reader Cond) (h : AgainInner n inner) (r : IsInner n
       (peek_no _ (missed (begun_append end b)) (after _ left (expr_again n) (missed (begun_token (relation_stops o))) (compare_again left o right)))))
 
   by_primary : (q : Primary-F Primary Added Expr Factor Scaled Term) (fs : List Scaled) (ts : List Added)
-        (o : Relation) (right : Expr)
+      (o : Relation) (right : Expr)
       → At_test (t.Compare (g.sum_of (record { minus = false; primary = roll-Primary q }) fs ts) o right)
   by_primary (layer.ScopeSize a) fs ts o right = subst (λ p. At_test (t.Compare (g.sum_of (record { minus = false; primary = p }) fs ts) o right)) (sym (rolls-ScopeSize a)) (sum_again a fs ts o right)
   by_primary (layer.Number value) fs ts o right = other_again _ o right (sum_begun _ fs ts (begun_as (factor_layer false _ ∙ ap primary_pieces (rolls-Number value) ∙ number_layer value) (begun_token refl)))
@@ -212,7 +212,7 @@ module _ (n : ℕ) (inner : Reader Cond) (h : AgainInner n inner) (r : IsInner n
 
   conj_at : (tests : List Test)
       → Leads with_and (conj_pieces (roll-Conj (record { tests = tests }))) (g.conj n inner)
-        (roll-Conj (record { tests = tests }))
+      (roll-Conj (record { tests = tests }))
   unfolding g.conj
   conj_at [] = written_as no_conjs never_leads
   conj_at (a ∷ more) =
@@ -230,7 +230,7 @@ module _ (n : ℕ) (inner : Reader Cond) (h : AgainInner n inner) (r : IsInner n
 
   cond_at : (conjs : List Conj)
       → Leads with_or (cond_pieces (roll-Cond (record { conjs = conjs }))) (g.cond_layer n inner)
-        (roll-Cond (record { conjs = conjs }))
+      (roll-Cond (record { conjs = conjs }))
   unfolding g.cond_layer
   cond_at [] = written_as no_conds never_leads
   cond_at (a ∷ more) =

@@ -2,15 +2,11 @@
 
 -- The forms of the language
 pub use Rattle.cga_parser.proofs.AreForms.{block_form}
-
 -- The text of a grammar that some lines say is read back
 pub use Rattle.cga_parser.proofs.GrammarBack.{grammar_back, spelled}
-
 -- What was read may be printed
 pub use Rattle.cga_parser.proofs.Printable.{grammar_prints}
-
 -- Rules are read exactly
 pub use Rattle.cga_parser.proofs.Rules.{rule_is, rule_reads}
-
 -- A rule is read as it is written
 pub use Rattle.cga_parser.proofs.RulesAgain.{rule_again}

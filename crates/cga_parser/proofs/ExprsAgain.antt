@@ -188,7 +188,7 @@ module _ (n : ℕ) (inside : Reader Expr) (h : AgainInside n inside) (r : IsInsi
 
   factor_at : (minus : Bool) (p : Primary)
       → Leads nothing (factor_pieces (record { minus = minus; primary = p })) (g.factor n inside)
-        (record { minus = minus; primary = p })
+      (record { minus = minus; primary = p })
   unfolding g.factor
   factor_at true p = written_as (factor_layer true p) (peek_yes _ (starts_token refl) (took (a_sign s.Minus) tt refl (plainly (after _ p primary_again misses_nothing ends))))
   factor_at false p = written_as (factor_layer false p) (peek_no _ (missed (primary_begun minus_spares p)) (plainly (after _ p primary_again misses_nothing ends)))
@@ -198,7 +198,7 @@ module _ (n : ℕ) (inside : Reader Expr) (h : AgainInside n inside) (r : IsInsi
 
   scaled_at : (divide : Bool) (f : Factor)
       → Leads nothing (scaled_pieces (record { divide = divide; factor = f })) (g.scaled n inside)
-        (record { divide = divide; factor = f })
+      (record { divide = divide; factor = f })
   unfolding g.scaled
   scaled_at divide f = written_as (scaled_layer divide f) (took a_scaling divide (scale_read divide) (plainly (after _ f factor_again misses_nothing ends)))
 
@@ -208,14 +208,14 @@ module _ (n : ℕ) (inside : Reader Expr) (h : AgainInside n inside) (r : IsInsi
   -- the factors after the first
   pub term_rest : (f : Factor) (rest : List Scaled)
       → Leads g.is_scaling (concat (map scaled_pieces rest)) (g.term_after n inside f)
-        (roll-Term (record { first = f; rest = rest }))
+      (roll-Term (record { first = f; rest = rest }))
   term_rest f rest =
       plainly (all_of _ g.is_scaling rest scaled_again scaled_starts (λ a. begun_nothing) (turned scaled_pieces n g.is_scaling (g.scaled n inside) scaled_long (scaled_reads n inside r))
       misses_nothing (misses_end (λ l e. e)) ends)
 
   term_at : (f : Factor) (rest : List Scaled)
       → Leads g.is_scaling (term_pieces (roll-Term (record { first = f; rest = rest }))) (g.term n inside)
-        (roll-Term (record { first = f; rest = rest }))
+      (roll-Term (record { first = f; rest = rest }))
   unfolding g.term
   term_at f rest = written_as (term_layer f rest) (after _ f factor_again misses_nothing (term_rest f rest))
 
@@ -224,7 +224,7 @@ module _ (n : ℕ) (inside : Reader Expr) (h : AgainInside n inside) (r : IsInsi
 
   added_at : (minus : Bool) (t : Term)
       → Leads g.is_scaling (added_pieces (roll-Added (record { minus = minus; term = t }))) (g.added n inside)
-        (roll-Added (record { minus = minus; term = t }))
+      (roll-Added (record { minus = minus; term = t }))
   unfolding g.added
   added_at minus t = written_as (added_layer minus t) (took an_addition minus (add_read minus) (plainly (after _ t term_again (misses_end (λ l e. e)) ends)))
 
@@ -234,14 +234,14 @@ module _ (n : ℕ) (inside : Reader Expr) (h : AgainInside n inside) (r : IsInsi
   -- the terms after the first
   pub expr_rest : (t : Term) (rest : List Added)
       → Leads goes_on (concat (map added_pieces rest) ++ []) (g.expr_after n inside t)
-        (roll-Expr (record { first = t; rest = rest }))
+      (roll-Expr (record { first = t; rest = rest }))
   expr_rest t rest =
       all_of _ g.is_addition rest added_again added_starts added_begun (turned added_pieces n g.is_addition (g.added n inside) added_long (added_reads n inside r))
       (misses_end no_scaling) (misses_end no_addition) ends
 
   expr_at : (t : Term) (rest : List Added)
       → Leads goes_on (expr_pieces (roll-Expr (record { first = t; rest = rest }))) (g.expr_layer n inside)
-        (roll-Expr (record { first = t; rest = rest }))
+      (roll-Expr (record { first = t; rest = rest }))
   unfolding g.expr_layer
   expr_at t rest =
       written_as (expr_layer t rest ∙ ap (λ z. term_pieces t ++ z) (sym (nil_right (concat (map added_pieces rest)))))

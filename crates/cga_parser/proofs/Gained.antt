@@ -15,7 +15,7 @@ errs : {A : Type 0} (made : Result A (Stop Fault)) (s e : Stop Fault) (P : Stop 
 errs made s e P g h p = let q : s ≡ e = cc in subst P q p
 
 pub gains_shortens : {A : Type 0} {w : A → Pieces} {n : ℕ} {p : Reader A} (h : Listing n w p) (i : Input)
-      (read : Result A (Stop Fault)) (old new : List A) (j : Input)
+    (read : Result A (Stop Fault)) (old new : List A) (j : Input)
     → Reads (p i) read j → Gains read (Ok tt) old new → length j.left < length i.left
 gains_shortens h i (Ok x) old new j q g = shortens h i x j q
 gains_shortens h i (Err s) old new j q g = absurd (cc)
@@ -53,7 +53,7 @@ fails_then stop.NoMemory o k h = tt
 fails_then (stop.Fault f) o k h = ap (λ z. and_then z k) h
 
 read_fails : {A : Type 0} (o : ReadResult A) (read : Result A (Stop Fault)) (e : Stop Fault) (old all : List A)
-      (j : Input)
+    (j : Input)
     → Reads o read j → Gains read (Err e) old all → Fails e o
 read_fails o (Ok x) e old all j q g = subst (λ s. Fails s o) (sym g) tt
 read_fails o (Err s) e old all j q g = errs {A = Unit {0}} (Err e) s e (λ z. Fails z o) g refl q
@@ -61,7 +61,7 @@ read_fails o (Err s) e old all j q g = errs {A = Unit {0}} (Err e) s e (λ z. Fa
 module _ {A B : Type 0} (test : Lexeme → Bool) (p : Reader A) (after : List A → Reader B) where
   turn : (x : A) (n : ℕ) (so_far : List A) (i : Input)
       → ((s : List A) (j : Input)
-        → and_then (many_from test p n s j) (λ more. after (x ∷ more)) ≡ and_then (many_from test p n (x ∷ s) j) after)
+      → and_then (many_from test p n s j) (λ more. after (x ∷ more)) ≡ and_then (many_from test p n (x ∷ s) j) after)
       → (b : Bool) (o : ReadResult A) →
       and_then (if b then and_then o (λ y. many_from test p n (so_far ++ y ∷ [])) else Ok (so_far, i)) (λ more. after (x ∷ more)) ≡ and_then (if b then and_then o (λ y. many_from test p n (x ∷ (so_far ++ y ∷ []))) else Ok (x ∷ so_far, i)) after
   turn x n so_far i ih true (Ok q) = ih (so_far ++ q.0 ∷ []) q.1
@@ -70,7 +70,7 @@ module _ {A B : Type 0} (test : Lexeme → Bool) (p : Reader A) (after : List A 
 
   ahead : (x : A) (n : ℕ) (so_far : List A) (i : Input)
       → and_then (many_from test p n so_far i) (λ more. after (x ∷ more)) ≡ and_then
-        (many_from test p n (x ∷ so_far) i) after
+      (many_from test p n (x ∷ so_far) i) after
   unfolding many_from
   ahead x zero so_far i = refl
   ahead x (suc n) so_far i = turn x n so_far i (ahead x n) (begins test i.left) (p i)
@@ -86,7 +86,7 @@ module _ {A B : Type 0} (test : Lexeme → Bool) (p : Reader A) (after : List A 
   begun f i (Err s) old all j e q g = absurd (cc)
 
   pub begun_fails : (f : Reader A) (i : Input) (read : Result A (Stop Fault)) (e : Stop Fault) (old all : List A)
-        (j : Input)
+      (j : Input)
       → Reads (f i) read j → Gains read (Err e) old all
       → Fails e (and_then (f i) (λ a. many test p >>= λ more. after (a ∷ more)))
   begun_fails f i read e old all j q g = fails_then e (f i) (λ a. many test p >>= λ more. after (a ∷ more)) (read_fails (f i) read e old all j q g)

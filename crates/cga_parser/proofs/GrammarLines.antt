@@ -56,7 +56,7 @@ ids_text es p from (suc n) =
 
 section_by : (es : List Entry) (p : ℕ) (t : Bool)
     → lines_text (if t then says.Priority p ∷ map rule_of (by_id es p) else []) ≡
-      (if t then priority_section es p else [])
+    (if t then priority_section es p else [])
 section_by es p true = ap (λ z. line (line_text (says.Priority p)) ++ z) (ids_text es p 0 (2 ^ 32))
 section_by es p false = refl
 
@@ -100,7 +100,7 @@ no_attribute (e ∷ es) rest = no_attribute es rest
 
 section_none : (es : List Entry) (p : ℕ) (rest : List BlockLine) (t : Bool)
     → attributes_of (somes ((if t then says.Priority p ∷ map rule_of (by_id es p) else []) ++ rest)) ≡ attributes_of
-      (somes rest)
+    (somes rest)
 unfolding attributes_of
 section_none es p rest true = no_attribute (by_id es p) rest
 section_none es p rest false = refl

@@ -90,13 +90,13 @@ subdiv_layer a sizes bodies = ap item_pieces (sym (rolls-Subdiv a sizes bodies))
 
 pub repeat_layer : (a : Axis) (length : Expr) (body : Body)
     → item_pieces (i.Repeat a length body) ≡ keyword k.Repeat ∷ sign s.LeftRound ∷ text (axis_text a) ∷ sign s.Comma ∷
-      (expr_pieces length ++ (sign s.RightRound ∷ in_curly (body_pieces body)))
+    (expr_pieces length ++ (sign s.RightRound ∷ in_curly (body_pieces body)))
 unfolding item_pieces body_pieces
 repeat_layer a length body = ap item_pieces (sym (rolls-Repeat a length body)) ∙ fold-roll-Item Pieces Pieces item_step body_step (layer.Repeat a length body)
 
 pub comp_layer : (x : Selector) (body : Body)
     → item_pieces (i.Comp x body) ≡ keyword k.Comp ∷ sign s.LeftRound ∷
-      (selector_pieces x ++ (sign s.RightRound ∷ in_curly (body_pieces body)))
+    (selector_pieces x ++ (sign s.RightRound ∷ in_curly (body_pieces body)))
 unfolding item_pieces body_pieces
 comp_layer x body = ap item_pieces (sym (rolls-Comp x body)) ∙ fold-roll-Item Pieces Pieces item_step body_step (layer.Comp x body)
 
@@ -368,8 +368,8 @@ split_pieces p = sign s.LeftRound ∷ text (axis_text p.0) ∷ preceded (sign s.
 
 split_is : (a : Axis) (x : Size) (more : List Size)
     → split_pieces (a, x ∷ more) ≡
-      (((round ++ (text (axis_text a) ∷ [])) ++ further_size_pieces x) ++ concat (map further_size_pieces more)) ++
-      (sign s.RightRound ∷ [])
+    (((round ++ (text (axis_text a) ∷ [])) ++ further_size_pieces x) ++ concat (map further_size_pieces more)) ++
+    (sign s.RightRound ∷ [])
 split_is a x more = ap (λ z. sign s.LeftRound ∷ text (axis_text a) ∷ z) (preceded_is (sign s.Comma) size_pieces x more (sign s.RightRound ∷ [])) ∙ simp append_assoc
 
 split_rest : (n m : ℕ) (p : Reader Expr) → Reads m m expr_pieces p →
@@ -386,7 +386,7 @@ repeat_pieces p = sign s.LeftRound ∷ text (axis_text p.0) ∷ sign s.Comma ∷
 
 repeat_rest : (m : ℕ) (p : Reader Expr) → Reads m m expr_pieces p
     → Goes m (suc m) round repeat_pieces
-      (single an_axis >>= λ a. g.sign s.Comma >> (p >>= λ e. g.sign s.RightRound >> pure (a, e)))
+    (single an_axis >>= λ a. g.sign s.Comma >> (p >>= λ e. g.sign s.RightRound >> pure (a, e)))
 repeat_rest m p h = next (one_token (axis_token m)) (λ a. next (comma m) (λ _. next h (λ e. next (close m) (λ _. done refl))))
 
 pub repeat_reads : (n : ℕ) (inside : Reader Expr) → IsInside n inside
@@ -441,7 +441,7 @@ at_most_is most p w xs = ap (λ n. if nat_le n most then after_each p (map w xs)
 -- arguments, one and further ones
 pub arguments_is : {A : Type 0} (w : A → Pieces) (x : A) (more : List A)
     → arguments (map w (x ∷ more)) ≡ ((round ++ w x) ++ few_pieces 3 (λ a. sign s.Comma ∷ w a) more) ++
-      (sign s.RightRound ∷ [])
+    (sign s.RightRound ∷ [])
 arguments_is w x more = ap (λ z. sign s.LeftRound ∷ (w x ++ (z ++ (sign s.RightRound ∷ [])))) (at_most_is 3 (sign s.Comma) w more) ∙ simp append_assoc
 
 abbrev pub arguments_pieces : List Expr → Pieces
@@ -539,7 +539,7 @@ braced_body_pieces b = in_curly (body_pieces b)
 
 braced_body_rest : (m : ℕ) (p : Reader Item) → Reads m m item_pieces p
     → Goes m (suc m) (sign s.LeftCurly ∷ []) braced_body_pieces
-      (g.body_by p >>= λ is. g.sign s.RightCurly >> pure (roll-Body (record { items = is })))
+    (g.body_by p >>= λ is. g.sign s.RightCurly >> pure (roll-Body (record { items = is })))
 braced_body_rest m p h = next (body_reads m p h) (λ is. next (close_curly m) (λ _. done (ap in_curly (body_layer is))))
 
 abbrev pub further_body_pieces : Body → Pieces
@@ -558,7 +558,7 @@ braced_bodies_pieces bs = sign s.LeftCurly ∷ separated (sign s.Bar) (map body_
 
 braced_bodies_is : (is : List Item) (more : List Body)
     → braced_bodies_pieces (roll-Body (record { items = is }) ∷ more) ≡
-      (((sign s.LeftCurly ∷ []) ++ list_pieces is) ++ concat (map further_body_pieces more)) ++ (sign s.RightCurly ∷ [])
+    (((sign s.LeftCurly ∷ []) ++ list_pieces is) ++ concat (map further_body_pieces more)) ++ (sign s.RightCurly ∷ [])
 braced_bodies_is is more =
     ap (λ z. sign s.LeftCurly ∷ z) (separated_is (sign s.Bar) body_pieces (roll-Body (record { items = is })) more (sign s.RightCurly ∷ []))
     ∙ ap (λ z. sign s.LeftCurly ∷ (z ++ (concat (map further_body_pieces more) ++ (sign s.RightCurly ∷ [])))) (body_layer is) ∙ simp append_assoc
@@ -570,7 +570,7 @@ braced_bodies_rest n m inside p h =
 
 pub subdiv_is : (a : Axis) (sizes : List Size) (bodies : List Body)
     → item_pieces (i.Subdiv a sizes bodies) ≡ (keyword k.Subdiv ∷ split_pieces (a, sizes)) ++ braced_bodies_pieces
-      bodies
+    bodies
 subdiv_is a [] bodies = subdiv_layer a [] bodies
 subdiv_is a (x ∷ more) bodies = subdiv_layer a (x ∷ more) bodies ∙ simp append_assoc
 

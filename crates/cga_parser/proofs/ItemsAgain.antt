@@ -324,7 +324,7 @@ module _ (n : ℕ) (inside : Reader Expr) (h : AgainInside n inside) (r : IsInsi
 
     braced_body_at : (is : List Item)
         → Leads nothing (braced_body_pieces (roll-Body (record { items = is }))) (g.braced_body n inside inner)
-          (roll-Body (record { items = is }))
+        (roll-Body (record { items = is }))
     unfolding g.braced_body
     braced_body_at is =
         written_as (ap (λ z. sign s.LeftCurly ∷ (z ++ (sign s.RightCurly ∷ []))) (body_layer is))
@@ -335,7 +335,7 @@ module _ (n : ℕ) (inside : Reader Expr) (h : AgainInside n inside) (r : IsInsi
 
     further_body_at : (m : ℕ) → n ≡ suc m → (is : List Item)
         → Leads with_item (further_body_pieces (roll-Body (record { items = is }))) (g.further_body n inside inner)
-          (roll-Body (record { items = is }))
+        (roll-Body (record { items = is }))
     unfolding g.further_body
     further_body_at m e is =
         written_as (ap (λ z. sign s.Bar ∷ z) (body_layer is)) (took (a_sign s.Bar) tt refl (plainly (after _ is (body_again m inner (hi m e) (ri m e)) (misses_end (λ l q. q)) ends)))
@@ -345,7 +345,7 @@ module _ (n : ℕ) (inside : Reader Expr) (h : AgainInside n inside) (r : IsInsi
 
     braced_bodies_of : (is : List Item) (more : List Body)
         → Leads nothing (braced_bodies_pieces (roll-Body (record { items = is }) ∷ more))
-          (g.braced_bodies n inside inner) (roll-Body (record { items = is }) ∷ more)
+        (g.braced_bodies n inside inner) (roll-Body (record { items = is }) ∷ more)
     unfolding g.braced_bodies
     braced_bodies_of is more =
         written_as (ap (λ z. sign s.LeftCurly ∷ z) (separated_is (sign s.Bar) body_pieces (roll-Body (record { items = is })) more (sign s.RightCurly ∷ [])) ∙ ap (λ z. sign s.LeftCurly ∷ (z ++ (concat (map further_body_pieces more) ++ (sign s.RightCurly ∷ [])))) (body_layer is))

@@ -34,19 +34,19 @@ term_layer f rest = fold-roll-Term Pieces Pieces Pieces Pieces Pieces Pieces pri
 
 pub added_layer : (minus : Bool) (t : Term)
     → added_pieces (roll-Added (record { minus = minus; term = t })) ≡ sign (if minus then s.Minus else s.Plus) ∷
-      term_pieces t
+    term_pieces t
 unfolding added_pieces term_pieces
 added_layer minus t = fold-roll-Added Pieces Pieces Pieces Pieces Pieces Pieces primary_step added_step expr_step factor_step scaled_step term_step (record { minus = minus; term = t })
 
 pub scaled_layer : (divide : Bool) (f : Factor)
     → scaled_pieces (record { divide = divide; factor = f }) ≡ sign (if divide then s.Slash else s.Star) ∷
-      factor_pieces f
+    factor_pieces f
 unfolding scaled_pieces factor_pieces
 scaled_layer divide f = fold_out-Scaled Pieces Pieces Pieces Pieces Pieces Pieces primary_step added_step expr_step factor_step scaled_step term_step (record { divide = divide; factor = f })
 
 pub factor_layer : (minus : Bool) (p : Primary)
     → factor_pieces (record { minus = minus; primary = p }) ≡
-      (if minus then token NoneAfter (lexeme.Sign s.Minus) ∷ primary_pieces p else primary_pieces p)
+    (if minus then token NoneAfter (lexeme.Sign s.Minus) ∷ primary_pieces p else primary_pieces p)
 unfolding factor_pieces primary_pieces
 factor_layer minus p = fold_out-Factor Pieces Pieces Pieces Pieces Pieces Pieces primary_step added_step expr_step factor_step scaled_step term_step (record { minus = minus; primary = p })
 
@@ -76,7 +76,7 @@ ceil_layer e = ap primary_pieces (sym (rolls-Ceil e)) ∙ fold-roll-Primary Piec
 
 pub rand_layer : (j : ℕ) (low high : Expr) (steps : ℕ)
     → primary_pieces (Rand j low high steps) ≡ drawn j ∷ sign s.LeftRound ∷
-      (expr_pieces low ++ (sign s.Comma ∷
-      (expr_pieces high ++ (sign s.Comma ∷ whole 1 1000000 steps ∷ sign s.RightRound ∷ []))))
+    (expr_pieces low ++ (sign s.Comma ∷
+    (expr_pieces high ++ (sign s.Comma ∷ whole 1 1000000 steps ∷ sign s.RightRound ∷ []))))
 unfolding primary_pieces expr_pieces
 rand_layer j low high steps = ap primary_pieces (sym (rolls-Rand j low high steps)) ∙ fold-roll-Primary Pieces Pieces Pieces Pieces Pieces Pieces primary_step added_step expr_step factor_step scaled_step term_step (layer.Rand j low high steps)

@@ -49,14 +49,14 @@ body_listing n h = record { long = further_body_long; reads = further_body_reads
 
 pub conj_is : (n : ℕ) (inner : Reader Cond) (i : Input)
     → g.conj n inner i ≡ and_then (g.one_test n inner i)
-      (λ a. many (is_keyword k.And) (g.further_test n inner) >>= λ more. pure (roll-Conj (record { tests = a ∷ more })))
+    (λ a. many (is_keyword k.And) (g.further_test n inner) >>= λ more. pure (roll-Conj (record { tests = a ∷ more })))
 unfolding g.conj
 conj_is n inner i = refl
 
 pub cond_is : (n : ℕ) (i : Input)
     → g.cond n i ≡ and_then (g.conj n (g.inner_of n) i)
-      (λ a. many (is_keyword k.Or) (g.further_conj n (g.inner_of n)) >>= λ more. pure
-      (roll-Cond (record { conjs = a ∷ more })))
+    (λ a. many (is_keyword k.Or) (g.further_conj n (g.inner_of n)) >>= λ more. pure
+    (roll-Cond (record { conjs = a ∷ more })))
 unfolding g.cond g.cond_layer
 cond_is zero i = refl
 cond_is (suc n) i = refl

@@ -77,13 +77,13 @@ module _ {A : Type 0} (test : Lexeme → Bool) (most : ℕ) (p : Reader A) where
 
   lengthen : (so_far : List A) (o : ReadResult A)
       → and_then o (λ y. many_from test p (most - suc (length so_far)) (so_far ++ y ∷ [])) ≡ and_then o
-        (λ y. many_from test p (most - length (so_far ++ y ∷ [])) (so_far ++ y ∷ []))
+      (λ y. many_from test p (most - length (so_far ++ y ∷ [])) (so_far ++ y ∷ []))
   lengthen so_far (Ok q) = let e : suc (length so_far) ≡ length (so_far ++ q.0 ∷ []) = omega (arith, length-append so_far (q.0 ∷ [])) in ap (λ n. many_from test p (most - n) (so_far ++ q.0 ∷ []) q.1) e
   lengthen so_far (Err f) = refl
 
   few_next : (so_far : List A) (i : Input) → (nat_lt (length so_far) most && begins test i.left) ≡ true
       → many_from test p (most - length so_far) so_far i ≡ and_then (p i)
-        (λ y. many_from test p (most - length (so_far ++ y ∷ [])) (so_far ++ y ∷ []))
+      (λ y. many_from test p (most - length (so_far ++ y ∷ [])) (so_far ++ y ∷ []))
   few_next so_far i h =
       let t = both (nat_lt (length so_far) most) (begins test i.left) h in
       let lt : length so_far < most = (let q = t.0 in grind (arith, nat_tests)) in

@@ -29,13 +29,13 @@ module _ {A B : Type 0} (p : Reader A) (k : A → A → A → B) where
 
   second_sign : (x y : A) (u : ReadResult (Unit {0}))
       → made (three x (two y (and_then u (λ _. until p s.RightRound)))) ≡ and_then (and_then u (λ _. pure y))
-        (λ y. until p s.RightRound >>= λ z. pure (k x y z))
+      (λ y. until p s.RightRound >>= λ z. pure (k x y z))
   second_sign x y (Ok q) = last x y (until p s.RightRound q.1)
   second_sign x y (Err e) = refl
 
   second : (x : A) (o : ReadResult A)
       → made (three x (and_then o (λ y i. two y (last_of p i)))) ≡ and_then (and_then o (λ y. sign s.Comma >> pure y))
-        (λ y. until p s.RightRound >>= λ z. pure (k x y z))
+      (λ y. until p s.RightRound >>= λ z. pure (k x y z))
   unfolding last_of
   second x (Ok q) = second_sign x q.0 (sign s.Comma q.1)
   second x (Err e) = refl
@@ -47,7 +47,7 @@ module _ {A B : Type 0} (p : Reader A) (k : A → A → A → B) where
 
   first : (o : ReadResult A)
       → made (and_then o (λ x i. three x (last_two p i))) ≡ and_then (and_then o (λ x. sign s.Comma >> pure x))
-        (λ x. until p s.Comma >>= λ y. until p s.RightRound >>= λ z. pure (k x y z))
+      (λ x. until p s.Comma >>= λ y. until p s.RightRound >>= λ z. pure (k x y z))
   unfolding last_two
   first (Ok q) = first_sign q.0 (sign s.Comma q.1)
   first (Err e) = refl
@@ -58,11 +58,11 @@ module _ {A B : Type 0} (p : Reader A) (k : A → A → A → B) where
 
 module _ (n : ℕ) (inside : Reader Expr) (inner : Reader Item) (j : Input) where
   pub move_is : item_rest n inside inner head.Move j ≡ and_then (enter (a_sign s.LeftRound) n j)
-        (λ _. one_by_one inside i.Move)
+      (λ _. one_by_one inside i.Move)
   unfolding move_parts
   move_is = entered inside i.Move (enter (a_sign s.LeftRound) n j)
 
   pub resize_is : item_rest n inside inner head.Resize j ≡ and_then (enter (a_sign s.LeftRound) n j)
-        (λ _. one_by_one (size n inside) i.Resize)
+      (λ _. one_by_one (size n inside) i.Resize)
   unfolding resize_parts
   resize_is = entered (size n inside) i.Resize (enter (a_sign s.LeftRound) n j)

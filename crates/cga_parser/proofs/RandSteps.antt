@@ -25,7 +25,7 @@ module _ {B : Type 0} (b : Reader ℕ) (d : Reader (Unit {0})) (h : ℕ → B) w
 
   by_sign : (u : ReadResult (Unit {0}))
       → and_then u (λ _. b >>= λ n. d >> pure (h n)) ≡ and_then (and_then u (λ _. b >>= λ n. d >> pure n))
-        (λ n. pure (h n))
+      (λ n. pure (h n))
   by_sign (Ok p) = by_number (b p.1)
   by_sign (Err e) = refl
 
@@ -38,6 +38,6 @@ with_ends low high n = (low, high, n)
 
 pub rand_fails : (low high : Expr) (i : Input) (e : Stop Fault) → Fails e (rand_steps i)
     → Fails {A = Expr × Expr × ℕ} e
-      (and_then (sign s.Comma i) (λ _. single (a_whole 1 most_steps) >>= λ n. sign s.RightRound >> pure (low, high, n)))
+    (and_then (sign s.Comma i) (λ _. single (a_whole 1 most_steps) >>= λ n. sign s.RightRound >> pure (low, high, n)))
 rand_fails low high i e f =
     subst (Fails {A = Expr × Expr × ℕ} e) (sym (by_sign (single (a_whole 1 most_steps)) (sign s.RightRound) (with_ends low high) (sign s.Comma i))) (fails_then e (rand_steps i) (λ n. pure (with_ends low high n)) f)

@@ -37,8 +37,8 @@ parameters_pieces ps = arguments (map name_pieces ps)
 
 parameters_rest : (m : ℕ)
     → Goes m (suc m) round parameters_pieces
-      (single a_name >>= λ x. many_from (is_sign s.Comma) g.further_name 3 [] >>= λ more. g.sign s.RightRound >> pure
-      (x ∷ more))
+    (single a_name >>= λ x. many_from (is_sign s.Comma) g.further_name 3 [] >>= λ more. g.sign s.RightRound >> pure
+    (x ∷ more))
 parameters_rest m = next (one_token (name_token m)) (λ x. next (limited (is_sign s.Comma) 3 (further_name_reads m)) (λ more. next (close m) (λ _. done (arguments_is name_pieces x more))))
 
 some_parameters_reads : (n : ℕ) → Reads n n parameters_pieces (g.some_parameters n)
@@ -102,7 +102,7 @@ alternative_long c x a d w = long_of c Usual (lexeme.Sign s.Arrow) (list_pieces 
 
 pub rule_is : (r : Rule)
     → rule_pieces r ≡ whole 1 999999 r.id ∷ token NoneBefore (lexeme.Sign s.Colon) ∷ named r.symbol ∷
-      (parameters_pieces r.params ++ (condition_pieces r.cond ++ nonempty (map alternative_pieces r.alternatives) []))
+    (parameters_pieces r.params ++ (condition_pieces r.cond ++ nonempty (map alternative_pieces r.alternatives) []))
 unfolding rule_pieces
 rule_is r = refl
 

@@ -115,7 +115,7 @@ probability_misses p = record { misses = λ c x d r w e. let t = piece_of c (pro
 
 alternative_at : (n : ℕ) (is : List Item) (p : Rat)
     → Leads with_more (alternative_pieces (record { items = is; prob = p })) (g.alternative n)
-      (record { items = is; prob = p })
+    (record { items = is; prob = p })
 unfolding g.alternative
 alternative_at n is p =
     written_as (alternative_is is p) (took (a_sign s.Arrow) tt refl (after _ is (body_again n (g.item n) (item_again n) (item_reads n)) (probability_misses p)

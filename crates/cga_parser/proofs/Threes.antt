@@ -16,7 +16,7 @@ one_by_one p = p >>= λ x. sign s.Comma >> (p >>= λ y. sign s.Comma >> (p >>= �
 module _ {A : Type 0} (p : Reader A) (x : A) where
   third : (y : A) (m : Input)
       → and_then {B = A × A × A} (last_of p m) (λ z. pure (x, y, z)) ≡
-        (sign s.Comma >> (p >>= λ z. sign s.RightRound >> pure (x, y, z))) m
+      (sign s.Comma >> (p >>= λ z. sign s.RightRound >> pure (x, y, z))) m
   unfolding last_of
   third y m =
       chained {C = A × A × A} (sign s.Comma m) (λ _. p >>= λ z. sign s.RightRound >> pure z) (λ z. pure (x, y, z))
@@ -25,7 +25,7 @@ module _ {A : Type 0} (p : Reader A) (x : A) where
 
   second : (j : Input)
       → and_then {B = A × A × A} (last_two p j) (λ rest. pure (x, rest.0, rest.1)) ≡
-        (sign s.Comma >> (p >>= λ y. sign s.Comma >> (p >>= λ z. sign s.RightRound >> pure (x, y, z)))) j
+      (sign s.Comma >> (p >>= λ y. sign s.Comma >> (p >>= λ z. sign s.RightRound >> pure (x, y, z)))) j
   unfolding last_two
   second j =
       chained {B = A × A} {C = A × A × A} (sign s.Comma j) (λ _. p >>= λ y. last_of p >>= λ z. pure (y, z)) (λ rest. pure (x, rest.0, rest.1))

@@ -19,7 +19,7 @@ module _ {S A B F P : Type 0} (shapes : Shapes S) where
   }
 
   pub again : (old new next : Rules S A B F P) (start now : List (Node (Ranked S) A F P)) (queued : Ranked S → Bool)
-        (turned worked : List (Ranked S))
+      (turned worked : List (Ranked S))
       → IsWorking (edit_of shapes old new) start now queued turned worked
       → ((n : Ranked S) (k : Kind F P) (a : A) → Keeps now n k a → queued n ≡ false)
       → IsStart (edit_of shapes new next) now

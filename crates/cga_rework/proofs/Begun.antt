@@ -126,7 +126,7 @@ module _ {X S A B F P : Type 0} (shapes : Shapes S) (content : Content X S A F P
 
   seen : (m : S)
       → ((c : ℕ) (d : Seen X) → T c ≡ Some d → is_instance (content.kind d.node) ≡ false → content.asks d.node ≡ true
-        → meets (content.shape d.node) m ≡ true → agenda c ≡ true)
+      → meets (content.shape d.node) m ≡ true → agenda c ≡ true)
       → (l : Ranked S) → l.shape ≡ m → SeenQueued edit nodes l queued
   seen m found l is_l n k a h solid sees =
       let y = keeps-node content T great n k a h in
@@ -176,7 +176,7 @@ module _ {X S A B F P : Type 0} (shapes : Shapes S) (content : Content X S A F P
 
   to : (m : Ranked S) (k : Kind F P) (a : A) → Keeps start m k a
       → Keeps nodes m k a ⊎ (((p : Ranked S) (i : ℕ) → IsChild (chain_of shapes p) i (chain_of shapes m)
-        → (j : Kind F P) (b : A) → Keeps start p j b → Keeps nodes p j b → ⊥) × SeenQueued edit nodes m queued)
+      → (j : Kind F P) (b : A) → Keeps start p j b → Keeps nodes p j b → ⊥) × SeenQueued edit nodes m queued)
   to m k a h =
       let y = keeps-node content V small m k a h in
       elim (bool_cases (gone y.0)) [
@@ -207,16 +207,16 @@ module _ {X S A B F P : Type 0} (shapes : Shapes S) (content : Content X S A F P
   renews : (c : ℕ) (d : Seen X) → V c ≡ Some d → T c ≡ Some d → gone c ≡ false
       → is_instance (content.kind d.node) ≡ false → agenda c ≡ false
       → renewed edit.renew (edit.old.expand (rank d.node) (content.answers d.node)) ≡ edit.old.expand (rank d.node)
-        (content.answers d.node)
+      (content.answers d.node)
   renews c d v t g solid off = by (edit.old.expand n (content.answers d.node)) refl (settled (started.right n (content.kind d.node) (content.answers d.node) (keeps_as shapes content old V was small within c d n (content.kind d.node) (content.answers d.node) v refl refl refl) solid))
     where
       n : Ranked S
       n = rank d.node
 
       settled : (false ≡ true) ⊎ IsRight (old_world edit) start (rank d.node) (content.kind d.node)
-            (content.answers d.node)
+          (content.answers d.node)
           → IsSettled (old_world edit) start (rank d.node) (content.kind d.node)
-            (edit.old.expand (rank d.node) (content.answers d.node))
+          (edit.old.expand (rank d.node) (content.answers d.node))
       settled (inl q) = let z : false ≡ true = q in absurd (cc)
       settled (inr x) = x.1
 
@@ -246,7 +246,7 @@ module _ {X S A B F P : Type 0} (shapes : Shapes S) (content : Content X S A F P
 
   changed : (n : Ranked S) (k : Kind F P) (a : A) → Keeps nodes n k a → is_instance k ≡ false
       → (queued n ≡ true) ⊎ ((edit.old.setting n ≡ edit.new.setting n)
-        × (renewed edit.renew (edit.old.expand n a) ≡ edit.old.expand n a))
+      × (renewed edit.renew (edit.old.expand n a) ≡ edit.old.expand n a))
   changed n k a h solid =
       let y = keeps-node content T great n k a h in
       let plain : is_instance (content.kind y.1.node) ≡ false = ap is_instance y.4 ∙ solid in

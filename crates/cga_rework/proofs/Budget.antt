@@ -10,14 +10,14 @@ use Rattle.cga_derivation.specs.Derivation.{Derivation, IsDerivation, reached, d
 module _ {N A F P : Type 0} (derivation : Derivation N A F P) (laws : IsDerivation derivation) where
   pub derived_or_none : (budget : ℕ)
       → (derive derivation budget ≡ None)
-        ⊎ (((m : ℕ) → length (reached derivation m) ≤ budget)
-        × ((n : ℕ) × NothingWaits derivation (reached derivation n)))
+      ⊎ (((m : ℕ) → length (reached derivation m) ≤ budget)
+      × ((n : ℕ) × NothingWaits derivation (reached derivation n)))
   derived_or_none budget = by (derive derivation budget) refl (says derivation laws budget)
     where
       by : (o : Option (List (Placed N F P))) → derive derivation budget ≡ o → Says derivation laws budget o
           → (derive derivation budget ≡ None)
-            ⊎ (((m : ℕ) → length (reached derivation m) ≤ budget)
-            × ((n : ℕ) × NothingWaits derivation (reached derivation n)))
+          ⊎ (((m : ℕ) → length (reached derivation m) ≤ budget)
+          × ((n : ℕ) × NothingWaits derivation (reached derivation n)))
       by None e h = inl e
       by (Some list) e h = inr (h.0, (h.1.0, subst (NothingWaits derivation) h.1.2 h.1.3))
 

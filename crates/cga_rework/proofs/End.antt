@@ -152,8 +152,8 @@ module _ {S A B F P : Type 0} (shapes : Shapes S) where
 
           each_gone : (d : Drawn (Ranked S) P) → Among d gone
               → Has (old_list i) d.shape.shape (Instance d.solid)
-                × ((parent : S) (l : ℕ) → NonInstance (new_list j) parent → IsBelow shapes parent l d.shape.shape
-                → Kept shapes old new (old_list i) (new_list j) parent → SameInputs shapes old new parent → ⊥)
+              × ((parent : S) (l : ℕ) → NonInstance (new_list j) parent → IsBelow shapes parent l d.shape.shape
+              → Kept shapes old new (old_list i) (new_list j) parent → SameInputs shapes old new parent → ⊥)
           each_gone d h =
               let g = done.1.each_gone d h in (
                 subst (λ x. Has x d.shape.shape (Instance d.solid)) o.3 (unranked-Has o.1 d.shape (Instance d.solid) g.0),
@@ -174,8 +174,8 @@ module _ {S A B F P : Type 0} (shapes : Shapes S) where
 
           each_come : (d : Drawn (Ranked S) P) → Among d come
               → Has (new_list j) d.shape.shape (Instance d.solid)
-                × ((parent : S) × (l : ℕ) × IsBelow shapes parent l d.shape.shape
-                × Touched shapes old new (old_list i) (new_list j) parent)
+              × ((parent : S) × (l : ℕ) × IsBelow shapes parent l d.shape.shape
+              × Touched shapes old new (old_list i) (new_list j) parent)
           each_come d h =
               let g = done.1.each_come d h in
               let t = g.1.3 in (
@@ -199,7 +199,7 @@ module _ {S A B F P : Type 0} (shapes : Shapes S) where
 
           balance : (test : Drawn S P → Bool)
               → count_by test (drawn (old_list i)) + count_by test (map unranked_drawn come) ≡ count_by test
-                (drawn (new_list j)) + count_by test (map unranked_drawn gone)
+              (drawn (new_list j)) + count_by test (map unranked_drawn gone)
           balance test =
               let law = done.1.balance (λ d. test (unranked_drawn d)) in
               let one = shape_count test o.1 (old_list i) o.3 in
@@ -224,7 +224,7 @@ module _ {S A B F P : Type 0} (shapes : Shapes S) where
           }
 
     pub rework : (start now : Nodes) (queued : Ranked S → Bool) (turned worked : List (Ranked S))
-          (gone come : List (Drawn (Ranked S) P))
+        (gone come : List (Drawn (Ranked S) P))
         → IsStart edit start → Once (shapes_of (members_of start)) → IsWorking edit start now queued turned worked
         → Once (shapes_of (members_of now)) → IsRecord edit start now worked gone come
         → ((n : Ranked S) (k : Kind F P) (a : A) → Keeps now n k a → queued n ≡ false)

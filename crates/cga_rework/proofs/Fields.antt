@@ -22,7 +22,7 @@ use Rattle.cga_rework.proofs.Went as went
 
 -- the node that was taken is the next
 pub is_next : {X S A B F P : Type 0} (shapes : Shapes S) (content : Content X S A F P) (rules : Rules S A B F P)
-      (V : View X) (city : IsCity shapes content rules V) (small id : ℕ) (e : Seen X) (agenda rest : ℕ → Bool)
+    (V : View X) (city : IsCity shapes content rules V) (small id : ℕ) (e : Seen X) (agenda rest : ℕ → Bool)
     → IsTaken shapes content V id e agenda rest → (queued : Ranked S → Bool) → AreQueued shapes content V agenda queued
     → IsNext (ranked_world shapes rules) (nodes_of content V small) (ranked_of content e.node) queued
 is_next shapes content rules V city small id e agenda rest taken queued are = record {

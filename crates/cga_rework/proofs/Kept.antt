@@ -52,7 +52,7 @@ module _ {S A B F P : Type 0} (shapes : Shapes S) (old new : Rules S A B F P) wh
 
     module _ (C D : Sited) (s : Ranked S) (good : steps.IsOrdered world C) (step : IsStep world C D s) where
       changes : steps.Changes world C D s (steps.kind_after world (outcome world C s))
-            (steps.children_of world (outcome world C s))
+          (steps.children_of world (outcome world C s))
       changes = steps.Changes-step world laws C D s good step
 
       done-stays : (p : Ranked S) → Has C p Done → Has D p Done
@@ -79,7 +79,7 @@ module _ {S A B F P : Type 0} (shapes : Shapes S) (old new : Rules S A B F P) wh
         where
           by : (t : S) (kind : Kind F P)
               → let m : Placed (Ranked S) F P = placed_as rules.priority (chain_of shapes s).priorities t kind in
-                m.shape ≡ n
+              m.shape ≡ n
               → m.kind ≡ k → ((j : ℕ) × IsChild (chain_of shapes s) j (chain_of shapes n)) → Has D s Done → SiteIs D n
           by t Waiting is kind child done = inr (s, child.0, done, child.1, sym (ap (λ x. x.priorities) is) ∙ ap (λ x. (chain_of shapes s).priorities ++ rules.priority x ∷ []) (ap (λ x. x.shape) is))
           by t Done is kind child done = inr (s, child.0, done, child.1, sym (ap (λ x. x.priorities) is) ∙ ap (λ x. (chain_of shapes s).priorities ++ rules.priority x ∷ []) (ap (λ x. x.shape) is))
@@ -181,11 +181,11 @@ module _ {S A B F P : Type 0} (shapes : Shapes S) (old new : Rules S A B F P) wh
         kept_old (suc depth) p h = h.0
 
     pub kept_shape : ((n : Ranked S) → agenda.Kept edit O W n → (i : ℕ) → i ≤ length (shapes.path n.shape)
-          → (m : Ranked S) × (shapes.lot m.shape ≡ shapes.lot n.shape)
-          × (shapes.path m.shape ≡ take i (shapes.path n.shape)) × NonInstance O m × NonInstance W m)
+        → (m : Ranked S) × (shapes.lot m.shape ≡ shapes.lot n.shape)
+        × (shapes.path m.shape ≡ take i (shapes.path n.shape)) × NonInstance O m × NonInstance W m)
         → (n : Ranked S) → NonInstance W n
         → (agenda.Kept edit O W n → Kept shapes old new (map unranked O) (map unranked W) n.shape)
-          × (Kept shapes old new (map unranked O) (map unranked W) n.shape → agenda.Kept edit O W n)
+        × (Kept shapes old new (map unranked O) (map unranked W) n.shape → agenda.Kept edit O W n)
     kept_shape prefixes n is = (
       (λ k i le.
           let m = prefixes n k i le in

@@ -40,7 +40,7 @@ module _ {S F P : Type 0} where
     where
       by : (k : Kind F P) → drawn (map unranked ms) ≡ map unranked_drawn (drawn ms)
           → drawn {N = S} {F = F} {P = P} (record { shape = m.shape.shape; kind = k } ∷ map unranked ms) ≡ map
-            unranked_drawn (drawn (record { shape = m.shape; kind = k } ∷ ms))
+          unranked_drawn (drawn (record { shape = m.shape; kind = k } ∷ ms))
       by Waiting e = e
       by Done e = e
       by (Faulted f) e = e

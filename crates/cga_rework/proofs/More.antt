@@ -85,9 +85,9 @@ module _ {S A B F P : Type 0} (shapes : Shapes S) where
     never_kept after s kept = (kept 0 (omega arith)).3.1
 
     pub from_nothing : IsRulesEdit shapes (no_lots new) new × IsDerived (derivation_of shapes (no_lots new)) []
-          × ((after : List (Placed S F P)) (s : S)
-          → (Touched shapes (no_lots new) new [] after s → NonInstance after s)
-          × (NonInstance after s → Touched shapes (no_lots new) new [] after s))
+        × ((after : List (Placed S F P)) (s : S)
+        → (Touched shapes (no_lots new) new [] after s → NonInstance after s)
+        × (NonInstance after s → Touched shapes (no_lots new) new [] after s))
     from_nothing = (nothing_is, nothing_derived, λ after s. ((λ t. t.0), λ n. (n, inl (never_kept after s))))
 
   module _ (old new : Rules S A B F P) where
@@ -106,23 +106,23 @@ module _ {S A B F P : Type 0} (shapes : Shapes S) where
 
     same_result : (above : List ℕ) (r : Result (List (Placed S F P)) F)
         → ((cs : List (Placed S F P)) → r ≡ Ok cs → (c : S) (k : Kind F P) → Has cs c k → is_instance k ≡ false
-          → old.priority c ≡ new.priority c)
+        → old.priority c ≡ new.priority c)
         → all_placed new.priority above r ≡ all_placed old.priority above r
     same_result above (Ok cs) h = ap Ok (same_all above cs (h cs refl))
     same_result above (Err f) h = refl
 
     pub unchanged : (n : Ranked S) (a : A)
         → ((cs : List (Placed S F P)) → old.expand n.shape a ≡ Ok cs → (c : S) (k : Kind F P) → Has cs c k
-          → is_instance k ≡ false → old.priority c ≡ new.priority c)
+        → is_instance k ≡ false → old.priority c ≡ new.priority c)
         → renewed (edit_of shapes old new).renew
-          (all_placed old.priority (chain_of shapes n).priorities (old.expand n.shape a)) ≡ all_placed old.priority
-          (chain_of shapes n).priorities (old.expand n.shape a)
+        (all_placed old.priority (chain_of shapes n).priorities (old.expand n.shape a)) ≡ all_placed old.priority
+        (chain_of shapes n).priorities (old.expand n.shape a)
     unchanged n a h = sym (outcome shapes old new (chain_of shapes n).priorities (old.expand n.shape a)) ∙ same_result (chain_of shapes n).priorities (old.expand n.shape a) h
 
 pub derivations_rules : {S A B F P : Type 0} (old new : Derivation S A F P) (setting : S → B) → old.mode ≡ new.mode
     → old.lot ≡ new.lot → old.path ≡ new.path
     → (derivation_of (shapes_from old) (rules_from old setting) ≡ old)
-      × (derivation_of (shapes_from old) (rules_from new setting) ≡ new)
+    × (derivation_of (shapes_from old) (rules_from new setting) ≡ new)
 derivations_rules old new setting mode lot path = (
   refl,
   λ i. record {

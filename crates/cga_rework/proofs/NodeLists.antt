@@ -39,7 +39,7 @@ module _ {X S A F P : Type 0} (content : Content X S A F P) (T : View X) where
     where
       here : (o : Option (Seen X)) → T b ≡ o → c ≡ b
           → Keeps (with_node content o (nodes_of content T b)) (ranked_of content d.node) (content.kind d.node)
-            (content.answers d.node)
+          (content.answers d.node)
       here None e q = none_some d (sym e ∙ ap T (sym q) ∙ t)
       here (Some x) e q =
           let same : x ≡ d = some_same x d (sym e ∙ ap T (sym q) ∙ t) in
@@ -48,13 +48,13 @@ module _ {X S A F P : Type 0} (content : Content X S A F P) (T : View X) where
       before : Keeps (nodes_of content T b) (ranked_of content d.node) (content.kind d.node) (content.answers d.node)
           → (o : Option (Seen X))
           → Keeps (with_node content o (nodes_of content T b)) (ranked_of content d.node) (content.kind d.node)
-            (content.answers d.node)
+          (content.answers d.node)
       before g None = g
       before g (Some x) = inr g
 
       by : (c < b → Keeps (nodes_of content T b) (ranked_of content d.node) (content.kind d.node)
-            (content.answers d.node))
+          (content.answers d.node))
           → (o : Option (Seen X)) → T b ≡ o
           → Keeps (with_node content o (nodes_of content T b)) (ranked_of content d.node) (content.kind d.node)
-            (content.answers d.node)
+          (content.answers d.node)
       by rec o e = elim (nat_cases c b) [ inl q ↦ here o e q | inr ne ↦ before (rec (omega arith)) o ]

@@ -73,7 +73,7 @@ module _ {X S A F P : Type 0} (shapes : Shapes S) (content : Content X S A F P) 
 
 -- where no node is on the agenda, nothing is queued
 pub none_queued : {X S A B F P : Type 0} (shapes : Shapes S) (content : Content X S A F P) (old new : Rules S A B F P)
-      (V : View X) (n : ℕ) (agenda : ℕ → Bool) (queued : Ranked S → Bool)
+    (V : View X) (n : ℕ) (agenda : ℕ → Bool) (queued : Ranked S → Bool)
     → AreQueued shapes content V agenda queued → ((c : ℕ) (d : Seen X) → V c ≡ Some d → agenda c ≡ false)
     → NoneQueued (edit_of shapes old new) (nodes_of content V n) queued
 none_queued shapes content old new V n agenda queued are none m k a h =

@@ -79,7 +79,7 @@ module _ {X S A B F P : Type 0} (shapes : Shapes S) (content : Content X S A F P
       → (is_instance (content.kind y) ≡ false → content.priority y ≡ rules.priority (content.shape y))
       → (is_instance (content.kind y) ≡ true → content.priority y ≡ own)
       → placed rules.priority above (placed_of content y) ≡ record
-        { shape = ranked_of content y; kind = content.kind y }
+      { shape = ranked_of content y; kind = content.kind y }
   placed_below above own ends y line new solid = by (content.kind y) refl
     where
       shown : (p : ℕ) → content.priority y ≡ p → above ++ p ∷ [] ≡ content.line y
@@ -87,7 +87,7 @@ module _ {X S A B F P : Type 0} (shapes : Shapes S) (content : Content X S A F P
 
       by : (k : Kind F P) → content.kind y ≡ k
           → ◌≡◌ {A = Placed (Ranked S) F P} (placed_as rules.priority above (content.shape y) k)
-            (record { shape = ranked_of content y; kind = k })
+          (record { shape = ranked_of content y; kind = k })
       by Waiting e = let q = shown (rules.priority (content.shape y)) (new (ap is_instance e)) in λ i. record { shape = record { shape = content.shape y; priorities = q i }; kind = Waiting }
       by Done e = let q = shown (rules.priority (content.shape y)) (new (ap is_instance e)) in λ i. record { shape = record { shape = content.shape y; priorities = q i }; kind = Done }
       by (Faulted f) e = let q = shown (rules.priority (content.shape y)) (new (ap is_instance e)) in λ i. record { shape = record { shape = content.shape y; priorities = q i }; kind = Faulted f }
@@ -100,7 +100,7 @@ module _ {X S A B F P : Type 0} (shapes : Shapes S) (content : Content X S A F P
       → (is_instance (content.kind y) ≡ false → content.priority y ≡ rules.priority (content.shape y))
       → (is_instance (content.kind y) ≡ true → content.priority y ≡ content.priority x)
       → renewed_child (edit_of shapes old rules) (ranked_of content x) (content.kind x) ≡ record
-        { shape = ranked_of content y; kind = content.kind y }
+      { shape = ranked_of content y; kind = content.kind y }
   renewed_below old above x y line_x line_y shape kind new solid =
       by (first_kind (content.kind x)) refl ∙ ap (λ k. record { shape = ranked_of content y; kind = k }) (sym kind)
     where
@@ -115,7 +115,7 @@ module _ {X S A B F P : Type 0} (shapes : Shapes S) (content : Content X S A F P
 
       by : (k : Kind F P) → first_kind (content.kind x) ≡ k
           → ◌≡◌ {A = Placed (Ranked S) F P} (renewed_as rules.priority (ranked_of content x) k)
-            (record { shape = ranked_of content y; kind = k })
+          (record { shape = ranked_of content y; kind = k })
       by Waiting e = let q = own (rules.priority (content.shape x)) (fresh (ap is_instance (kind ∙ e))) in λ i. record { shape = record { shape = back i; priorities = q i }; kind = Waiting }
       by Done e = let q = own (rules.priority (content.shape x)) (fresh (ap is_instance (kind ∙ e))) in λ i. record { shape = record { shape = back i; priorities = q i }; kind = Done }
       by (Faulted f) e = let q = own (rules.priority (content.shape x)) (fresh (ap is_instance (kind ∙ e))) in λ i. record { shape = record { shape = back i; priorities = q i }; kind = Faulted f }

@@ -146,7 +146,7 @@ module _ {S A B F P : Type 0} (shapes : Shapes S) (rules : Rules S A B F P) (are
     where
       by : (t : S) (kind : Kind F P) (i : ℕ) → shapes.path t ≡ shapes.path s.shape ++ i ∷ []
           → let m : Placed (Ranked S) F P = placed_as rules.priority (chain_of shapes s).priorities t kind in m.shape ≡
-            n
+          n
           → m.kind ≡ Waiting → rank (chain_of shapes n) ≡ rank_of derivation n.shape
       by t Waiting i path is k =
           let above = (chain_of shapes s).priorities in

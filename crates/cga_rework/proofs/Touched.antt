@@ -62,7 +62,7 @@ module _ {S A B F P : Type 0} (shapes : Shapes S) where
 
       both : (n : Ranked S) → NonInstance w.1 n
           → (agenda.Kept edit o.1 w.1 n → Kept shapes old new (map unranked o.1) (map unranked w.1) n.shape)
-            × (Kept shapes old new (map unranked o.1) (map unranked w.1) n.shape → agenda.Kept edit o.1 w.1 n)
+          × (Kept shapes old new (map unranked o.1) (map unranked w.1) n.shape → agenda.Kept edit o.1 w.1 n)
       both n is = kept_shape shapes old new laws.was laws.is o.0 w.0 o.1 w.1 o.2 w.2 (λ m k. (to_prefixes edit (make shapes old new laws) o.1 w.1 w.0 w.2 m k).2) n is
 
       to_shape : (n : Ranked S) → NonInstance w.1 n → agenda.Kept edit o.1 w.1 n
@@ -85,7 +85,7 @@ module _ {S A B F P : Type 0} (shapes : Shapes S) where
 
       pub touched : (n : Ranked S) → NonInstance w.1 n
           → (agenda.Touched edit o.1 w.1 n → Touched shapes old new before after n.shape)
-            × (Touched shapes old new before after n.shape → agenda.Touched edit o.1 w.1 n)
+          × (Touched shapes old new before after n.shape → agenda.Touched edit o.1 w.1 n)
       touched n is = (
         (λ t. (
           subst (λ x. NonInstance x n.shape) w.3 (is.0, unranked-Has w.1 n is.0 is.1, is.2),

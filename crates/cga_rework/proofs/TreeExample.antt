@@ -186,7 +186,7 @@ replaced = record {
     rest (suc (suc n)) d ne v = none_some d v
 
 turn : IsNodeTurn two_shapes content (with_priority 0) (with_priority 5) fits (λ n. false) (λ n m. false) before after
-      2 0 news (root (1 ∷ [])) (root (2 ∷ [])) (λ c. nat_eq c 1) (λ c. nat_eq c 0) (λ c. false) (λ c. nat_eq c 2) false
+    2 0 news (root (1 ∷ [])) (root (2 ∷ [])) (λ c. nat_eq c 1) (λ c. nat_eq c 0) (λ c. false) (λ c. nat_eq c 2) false
 turn = record {
   taken = record {
     here = refl;

@@ -98,7 +98,7 @@ module _ {X S A B F P : Type 0} (shapes : Shapes S) (content : Content X S A F P
   -- what of the list passes a test
   by_nodes : (n : ℕ) → IsBound T n → (test : Ranked S → Kind F P → Bool) (m : Ranked S)
       → Among m (shapes_where test (members_of (nodes_of content T n))) ↔
-        ((c : ℕ) × (d : Seen X) × (T c ≡ Some d) × (rank d.node ≡ m) × (test m (content.kind d.node) ≡ true))
+      ((c : ℕ) × (d : Seen X) × (T c ≡ Some d) × (rank d.node ≡ m) × (test m (content.kind d.node) ≡ true))
   by_nodes n b test m = (
     λ h.
         let x = Has-from_shapes_where test (members_of (nodes_of content T n)) m h in
@@ -138,9 +138,9 @@ module _ {X S A B F P : Type 0} (shapes : Shapes S) (content : Content X S A F P
         → (counted : List S) → IsCounted content rules T q.node walked counted → (m : S)
         → rules.sees (content.shape q.node) m ≡ true
         → (Among m (map (λ (r : Ranked S). r.shape) (shapes_where test (members_of (nodes_of content T n))))
-          → Among m counted)
+        → Among m counted)
         × (Among m counted → Among m
-          (map (λ (r : Ranked S). r.shape) (shapes_where test (members_of (nodes_of content T n)))))
+        (map (λ (r : Ranked S). r.shape) (shapes_where test (members_of (nodes_of content T n)))))
     counted_same test walked same counted has m sees = (
       λ h.
           let r = Among-map (λ (r : Ranked S). r.shape) (shapes_where test (members_of (nodes_of content T n))) m h in

@@ -110,9 +110,9 @@ module _ {X S A B F P : Type 0} (shapes : Shapes S) (content : Content X S A F P
     }
 
     pub turns : IsUnderway shapes content new asks T after
-          × ((requeued : Ranked S → Bool) × AreQueued shapes content T after requeued
-          × IsTurnOf (edit_of shapes old new) (nodes_of content V small) (nodes_of content T great)
-          (ranked_of content e.node) queued requeued expanded)
+        × ((requeued : Ranked S → Bool) × AreQueued shapes content T after requeued
+        × IsTurnOf (edit_of shapes old new) (nodes_of content V small) (nodes_of content T great)
+        (ranked_of content e.node) queued requeued expanded)
     turns = (
       record {
         city = city;

@@ -38,7 +38,7 @@ module _ {S A B F P : Type 0} (shapes : Shapes S) where
     child_of : (s : Ranked S) (i : ℕ) (own : ℕ) (e : S) → (shapes.lot e ≡ shapes.lot s.shape)
         → (shapes.path e ≡ shapes.path s.shape ++ i ∷ [])
         → IsChild (chain_of shapes s) i
-          (chain_of shapes (record { shape = e; priorities = (chain_of shapes s).priorities ++ own ∷ [] }))
+        (chain_of shapes (record { shape = e; priorities = (chain_of shapes s).priorities ++ own ∷ [] }))
     child_of s i own e lot path =
         let above = length-fitted (length (shapes.path s.shape) + 1) s.priorities in
         let size = length-append (chain_of shapes s).priorities (own ∷ []) in
@@ -48,7 +48,7 @@ module _ {S A B F P : Type 0} (shapes : Shapes S) where
     child_as : (s : Ranked S) (i : ℕ) (e : S) (kind : Kind F P) → IsNew kind → (shapes.lot e ≡ shapes.lot s.shape)
         → (shapes.path e ≡ shapes.path s.shape ++ i ∷ [])
         → let c : Placed (Ranked S) F P = placed_as rules.priority (chain_of shapes s).priorities e kind in IsChild
-          (chain_of shapes s) i (chain_of shapes c.shape) × IsNew c.kind
+        (chain_of shapes s) i (chain_of shapes c.shape) × IsNew c.kind
     child_as s i e Waiting fresh lot path = (child_of s i (rules.priority e) e lot path, fresh)
     child_as s i e Done fresh lot path = (child_of s i (rules.priority e) e lot path, fresh)
     child_as s i e (Faulted f) fresh lot path = (child_of s i (rules.priority e) e lot path, fresh)
@@ -99,7 +99,7 @@ module _ {S A B F P : Type 0} (shapes : Shapes S) where
 
     renew_placed : (above : List ℕ) (s : S) (kind : Kind F P)
         → let c : Placed (Ranked S) F P = placed_as old.priority above s kind in renewed_as new.priority c.shape c.kind
-          ≡ placed_as new.priority above s kind
+        ≡ placed_as new.priority above s kind
     renew_placed above s Waiting = ap (λ ps. record { shape = record { shape = s; priorities = ps }; kind = Waiting }) (with_last-snoc (new.priority s) (old.priority s) above)
     renew_placed above s Done = ap (λ ps. record { shape = record { shape = s; priorities = ps }; kind = Done }) (with_last-snoc (new.priority s) (old.priority s) above)
     renew_placed above s (Faulted f) = ap (λ ps. record { shape = record { shape = s; priorities = ps }; kind = Faulted f }) (with_last-snoc (new.priority s) (old.priority s) above)

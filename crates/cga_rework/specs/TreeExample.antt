@@ -95,5 +95,5 @@ pub record TreeTurns : Type 0 where
   pub great : IsBound after 3
   pub underway : IsUnderway two_shapes content (with_priority 5) (λ n. false) before (λ c. nat_eq c 0)
   pub turn : IsNodeTurn two_shapes content (with_priority 0) (with_priority 5) fits (λ n. false) (λ n m. false) before
-        after 2 0 ((child 5 Waiting).node ∷ []) (root (1 ∷ [])) (root (2 ∷ [])) (λ c. nat_eq c 1) (λ c. nat_eq c 0)
-        (λ c. false) (λ c. nat_eq c 2) false
+      after 2 0 ((child 5 Waiting).node ∷ []) (root (1 ∷ [])) (root (2 ∷ [])) (λ c. nat_eq c 1) (λ c. nat_eq c 0)
+      (λ c. false) (λ c. nat_eq c 2) false

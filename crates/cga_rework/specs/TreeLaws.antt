@@ -108,7 +108,7 @@ module _ (X S A B F P : Type 0) where
         → IsRulesEdit shapes old new → GoesBySymbol content new
         → (fits : X → X → Bool) (asks : S → Bool) (meets : S → S → Bool) → IsFit content fits
         → (V T : View X) (small great id : ℕ) (news : List X) (e now : Seen X) (gone agenda rest after : ℕ → Bool)
-          (expanded : Bool)
+        (expanded : Bool)
         → IsBound V small → IsBound T great
         → IsUnderway shapes content new asks V agenda
         → IsNodeTurn shapes content old new fits asks meets V T small id news e now gone agenda rest after expanded
@@ -155,15 +155,15 @@ module _ (X S A B F P : Type 0) where
         → Stands shapes content new asks T
     -- what stands is what an edit starts from
     pub start : (shapes : Shapes S) (content : Content X S A F P) (old new : Rules S A B F P) (asks : S → Bool)
-          (V : View X) (n : ℕ)
+        (V : View X) (n : ℕ)
         → IsBound V n → Stands shapes content old asks V → IsStart (edit_of shapes old new) (nodes_of content V n)
     -- put back as it was, it stands as it did
     pub back : (shapes : Shapes S) (content : Content X S A F P) (rules : Rules S A B F P) (asks : S → Bool)
-          (V T : View X)
+        (V T : View X)
         → ((c : ℕ) → T c ≡ V c) → Stands shapes content rules asks V → Stands shapes content rules asks T
     -- no node at all stands for rules without lots
     pub nothing : (shapes : Shapes S) (content : Content X S A F P) (rules : Rules S A B F P) (asks : S → Bool)
-          (V : View X)
+        (V : View X)
         → ((c : ℕ) → V c ≡ None) → Stands shapes content (no_lots rules) asks V
 
 -- the numbers that a map's entries name

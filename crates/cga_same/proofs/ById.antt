@@ -183,7 +183,7 @@ rising_same (s ∷ S) (t ∷ T) h k e =
 with_step : (b c : Bool) (e : Entry) (X Y : List Entry) (symbol : List ℕ) (id : ℕ) → nat_eq e.rule.id id ≡ c
     → map (λ (x : Entry). x.rule) X ≡ with_id id (map (λ (x : Entry). x.rule) Y)
     → map (λ (x : Entry). x.rule) (cond (b && c) (e ∷ X) X) ≡ with_id id
-      (map (λ (x : Entry). x.rule) (cond b (e ∷ Y) Y))
+    (map (λ (x : Entry). x.rule) (cond b (e ∷ Y) Y))
 with_step true true e X Y symbol id is h = ap (λ l. e.rule ∷ l) h ∙ ap (λ t. cond t (e.rule ∷ with_id id (map (λ (x : Entry). x.rule) Y)) (with_id id (map (λ (x : Entry). x.rule) Y))) (sym is)
 with_step true false e X Y symbol id is h = h ∙ ap (λ t. cond t (e.rule ∷ with_id id (map (λ (x : Entry). x.rule) Y)) (with_id id (map (λ (x : Entry). x.rule) Y))) (sym is)
 with_step false c e X Y symbol id is h = h

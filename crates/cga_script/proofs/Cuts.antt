@@ -54,7 +54,7 @@ goes_on c ys = record { lines = c.lines ++ (cut (c.rest ++ ys)).lines; rest = (c
 
 before_goes_on : (x : ℕ) (ended : List (List ℕ)) (rest ys : List ℕ) → x ≢ 10
     → before_first x (ended ++ (cut (rest ++ ys)).lines) (cut (rest ++ ys)).rest ≡ goes_on (before_first x ended rest)
-      ys
+    ys
 before_goes_on x [] rest ys other = sym (at_other x (rest ++ ys) other)
 before_goes_on x (line ∷ lines) rest ys other = refl
 

@@ -78,7 +78,7 @@ same_lines g back =
 
 whole_text : (s : Sources) → rules.ReadsBack s.grammar
     → dump_text_of s ≡ ended (codes "version 2") ++
-      (ended (codes "city") ++ (city_texts (city_said s) ++ ended (codes "end")))
+    (ended (codes "city") ++ (city_texts (city_said s) ++ ended (codes "end")))
 unfolding dump_text_of
 whole_text s back =
     let e : city_texts (map line.Block (said_of s.grammar) ++ map line.Lot s.lots) ≡ grammar_lines s.grammar ++ flat_map lot_line s.lots =
@@ -149,7 +149,7 @@ blocks_given (b ∷ bs) = ap (λ z. rules.given b ∷ z) (blocks_given bs)
 
 lines_are : (s : Sources)
     → map given (map line.Block (said_of s.grammar) ++ map line.Lot s.lots) ≡ map rules.given (said_of s.grammar) ++
-      map given (map line.Lot s.lots)
+    map given (map line.Lot s.lots)
 lines_are s = map-append given (map line.Block (said_of s.grammar)) (map line.Lot s.lots) ∙ ap (λ z. z ++ map given (map line.Lot s.lots)) (sym (blocks_given (said_of s.grammar)))
 
 say_rest : (s : Sources) (all : List (Option BlockLine)) → Say block_pieces (map rules.given (said_of s.grammar)) all

@@ -96,7 +96,7 @@ appended_by : (lot l : Lot) (ls : List Lot) (name : List ℕ) (t : Bool) (o : Op
     → here_or t o ≡ None
     → (o ≡ None → place_of name (ls ++ lot ∷ []) ≡ cond (is lot.name name) (Some (length ls)) (place_of name ls))
     → here_or (is l.name name) (place_of name (ls ++ lot ∷ [])) ≡ cond (is lot.name name) (Some (suc (length ls)))
-      (here_or (is l.name name) (place_of name ls))
+    (here_or (is l.name name) (place_of name ls))
 appended_by lot l ls name true o t e h = absurd (cc)
 appended_by lot l ls name false (Some j) t e h = absurd (cc)
 appended_by lot l ls name false None t e h =

@@ -108,8 +108,8 @@ symbol_last l t p = subst (λ z. AreRead (lex 0 p z) (lexeme.Name l.symbol ∷ [
 
 last_read : (l : Lot) → HasTokens l
     → Texts (exact_text_of l.x ++ 32 ∷
-      (exact_text_of l.z ++ 32 ∷ (exact_text_of l.width ++ 32 ∷ (exact_text_of l.depth ++ 32 ∷ l.symbol))))
-      (last_tokens l)
+    (exact_text_of l.z ++ 32 ∷ (exact_text_of l.width ++ 32 ∷ (exact_text_of l.depth ++ 32 ∷ l.symbol))))
+    (last_tokens l)
 last_read l t =
     value_then _ _ (spaced _ _ (value_then _ _ (spaced _ _ (value_then _ _ (spaced _ _ (value_then _ _ (spaced _ _ (symbol_last l t)) l.depth t.depth)) l.width t.width)) l.z t.z)) l.x t.x
 

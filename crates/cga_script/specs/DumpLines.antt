@@ -63,7 +63,7 @@ in_order s = record { grammar = record { attributes = s.grammar.attributes; rule
 -- the entries in the order of the text, which are the same entries.
 pub record IsReadBack (s : Sources) : Type 0 where
   pub text : dump_text_of s ≡ ended (codes "version 2") ++
-        (ended (codes "city") ++ (city_texts (city_said s) ++ ended (codes "end")))
+      (ended (codes "city") ++ (city_texts (city_said s) ++ ended (codes "end")))
   pub inside : All IsInside (city_said s)
   pub told : (text : List ℕ) → dump_of s ≡ Ok text → CityTells (map given (city_said s)) (Ok (in_order s))
   pub same : IsPermutation s.grammar.rules (by_rank s.grammar.rules)

@@ -73,7 +73,7 @@ in_box s c l = record {
 
 point_is : (p v : Point) (b : Bool)
     → ◌≡◌ {A = Result Point SolidFault}
-      (or_err {E = Unit.Overflow} fault.Overflow (if b then Ok p else Err (record {}))) (Ok v)
+    (or_err {E = Unit.Overflow} fault.Overflow (if b then Ok p else Err (record {}))) (Ok v)
     → p ≡ v
 point_is p v true h = same_ok p v h
 point_is p v false h = absurd (cc)

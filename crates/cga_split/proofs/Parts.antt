@@ -77,7 +77,7 @@ onto_more made p (Err e) = refl
 
 -- one part more
 pub one_more : {P : Type 0} (part : Rat → Rat → Result P SplitFault) (rest total from length next : Rat)
-      (made longer : List P) (p : P) (s : PartSize) (ss : List PartSize) (target : Result (List P) SplitFault)
+    (made longer : List P) (p : P) (s : PartSize) (ss : List PartSize) (target : Result (List P) SplitFault)
     → onto made (parts_from part rest total from (s ∷ ss)) ≡ target
     → ◌≡◌ {A = Result Rat SplitFault} (Ok length) (checked_length rest total s) → Ok p ≡ part from length
     → ◌≡◌ {A = Result Rat SplitFault} (Ok next) (within (plus from length)) → longer ≡ made ++ p ∷ []
@@ -86,5 +86,5 @@ one_more part rest total from length next made longer p s ss target h a b c e =
     rw e (sym (onto_more made p (parts_from part rest total next ss)) ∙ step ∙ h)
   where
     step : onto made (and_then (parts_from part rest total next ss) (λ ps. Ok (p ∷ ps))) ≡ onto made
-          (parts_from part rest total from (s ∷ ss))
+        (parts_from part rest total from (s ∷ ss))
     step = rw (← a) (rw (← b) (rw (← c) refl))

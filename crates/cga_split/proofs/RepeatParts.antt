@@ -48,7 +48,7 @@ repeat_end size nl dl n l h =
 -- the difference of two neighbouring multiples
 step_naturals : (p m d i : ℕ)
     → ((p * (i + 1) + m * 0) * (d * 1) + (p * 0 + m * i) * (d * 1)) * d + m * (d * 1 * (d * 1)) ≡ p * (d * 1 * (d * 1))
-      + ((p * 0 + m * (i + 1)) * (d * 1) + (p * i + m * 0) * (d * 1)) * d
+    + ((p * 0 + m * (i + 1)) * (d * 1) + (p * i + m * 0) * (d * 1)) * d
 step_naturals p m d i = omega arith
 
 step_is : (step : Rat) (i : ℕ) → IsLowest step → minus (times step (whole (i + 1))) (times step (whole i)) ≡ step
@@ -174,7 +174,7 @@ module _ {P : Type 0} (part : Rat → Rat → Result P SplitFault) (step : Rat) 
   one_repeat from longer p a b e = rw e (sym (onto_more made p (repeats_from part step (i + 1) (left - 1))) ∙ back ∙ here)
     where
       back : onto made (and_then (repeats_from part step (i + 1) (left - 1)) (λ ps. Ok (p ∷ ps))) ≡ onto made
-            (repeats_from part step i (suc (left - 1)))
+          (repeats_from part step i (suc (left - 1)))
       back = rw (← a) (rw (← b) refl)
 
   pub place_fault : (fault : SplitFault) → ◌≡◌ {A = Result Rat SplitFault} (Err fault) (within (times step (whole i)))

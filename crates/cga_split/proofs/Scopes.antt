@@ -54,14 +54,14 @@ subdiv_is s axis (size ∷ sizes) parts all h = subdivided_is (part_at s axis) (
 
 pub repeat_is : (s : Scope) (axis : Axis) (length : Rat) (parts : List Scope) → repeat_of s axis length ≡ Ok parts
     → (n : ℕ) × IsCeil (divided (coordinate s.size axis) length) (pos n)
-      × IsCut (part_of s axis) (repeat_cuts (coordinate s.size axis) n) (coordinate s.size axis) parts
+    × IsCut (part_of s axis) (repeat_cuts (coordinate s.size axis) n) (coordinate s.size axis) parts
 repeat_is s axis length parts h = repeated_is (part_at s axis) (part_of s axis) (part_is s axis) (coordinate s.size axis) length parts h
 
 -- what is answered is cut
 pub subdiv_settled : (s : Scope) (axis : Axis) (sizes : List PartSize) (made : Result (List Scope) (Stop SplitFault))
     → OnOk made (AllFractions sizes) → Makes (subdiv_of s axis sizes) made
     → IfOk (settled_of made) (λ given. IfOk given
-      (IsCut (part_of s axis) (subdiv_cuts (coordinate s.size axis) sizes) (coordinate s.size axis)))
+    (IsCut (part_of s axis) (subdiv_cuts (coordinate s.size axis) sizes) (coordinate s.size axis)))
 subdiv_settled s axis sizes (Ok parts) all h = subdiv_is s axis sizes parts all h
 subdiv_settled s axis sizes (Err (Fault f)) all h = tt
 subdiv_settled s axis sizes (Err NoMemory) all h = tt
@@ -69,8 +69,8 @@ subdiv_settled s axis sizes (Err NoMemory) all h = tt
 pub repeat_settled : (s : Scope) (axis : Axis) (length : Rat) (made : Result (List Scope) (Stop SplitFault))
     → Makes (repeat_of s axis length) made
     → IfOk (settled_of made) (λ given. IfOk given
-      (λ parts. (n : ℕ) × IsCeil (divided (coordinate s.size axis) length) (pos n)
-      × IsCut (part_of s axis) (repeat_cuts (coordinate s.size axis) n) (coordinate s.size axis) parts))
+    (λ parts. (n : ℕ) × IsCeil (divided (coordinate s.size axis) length) (pos n)
+    × IsCut (part_of s axis) (repeat_cuts (coordinate s.size axis) n) (coordinate s.size axis) parts))
 repeat_settled s axis length (Ok parts) h = repeat_is s axis length parts h
 repeat_settled s axis length (Err (Fault f)) h = tt
 repeat_settled s axis length (Err NoMemory) h = tt

@@ -29,12 +29,12 @@ record Ends (at a r : Rat) (k q : ℕ) : Type 0 where
 
 absolute_step : (na k dr q nr da n d : ℕ)
     → ((na * k * dr + q * nr * da) * d + n * (da * k * dr)) * (da * d * k * dr) ≡
-      ((na * d + n * da) * k * dr + q * nr * (da * d)) * (da * k * dr * d)
+    ((na * d + n * da) * k * dr + q * nr * (da * d)) * (da * k * dr * d)
 absolute_step na k dr q nr da n d = omega arith
 
 relative_step : (na k dr q nr da n d : ℕ)
     → ((na * k * dr + q * nr * da) * (k * d) + q * n * (da * k * dr)) * (da * k * (dr * d)) ≡
-      (na * k * (dr * d) + q * (nr * d + n * dr) * da) * (da * k * dr * (k * d))
+    (na * k * (dr * d) + q * (nr * d + n * dr) * da) * (da * k * dr * (k * d))
 relative_step na k dr q nr da n d = omega arith
 
 pos3 : (a b c : ℕ) → 0 < a → 0 < b → 0 < c → 0 < a * b * c
@@ -120,7 +120,7 @@ start k q h = record { na = 0; da = 1; nr = 0; dr = 1; a_is = zero_ratio; r_is =
 pub last_ratio : (size : Rat) (sizes : List PartSize) (nl dl nt dt : ℕ) → IsRatio size nl dl → AreRatios sizes
     → IsRatio (relative_sum zero_rat sizes) nt dt → 0 < nt → IsTrue (rat_le (absolute_sum zero_rat sizes) size)
     → IsRatio (last_of zero_rat
-      (cuts_after (minus size (absolute_sum zero_rat sizes)) (relative_sum zero_rat sizes) zero_rat sizes)) nl dl
+    (cuts_after (minus size (absolute_sum zero_rat sizes)) (relative_sum zero_rat sizes) zero_rat sizes)) nl dl
 last_ratio size sizes nl dl nt dt l s t p h =
     let a = absolute_ratio zero_rat 0 1 sizes zero_ratio s in
     let m = minus_ratio size (absolute_sum zero_rat sizes) nl dl a.0 a.1 l a.2 h in

@@ -21,7 +21,7 @@ StrictlyBetween x p = IsTrue (rat_lt p.0 x) × IsTrue (rat_lt x p.1)
 pub record Cover (cuts : List Rat) (size : Rat) : Type 0 where
   pub everywhere : (x : Rat)
       → (IsTrue (rat_le zero_rat x) × IsTrue (rat_le x size)) ↔
-        ((i : ℕ) × (p : Rat × Rat) × (slice_get (neighbours cuts) i ≡ Some p) × Between x p)
+      ((i : ℕ) × (p : Rat × Rat) × (slice_get (neighbours cuts) i ≡ Some p) × Between x p)
   pub apart : (x : Rat) (i j : ℕ) (p q : Rat × Rat) → slice_get (neighbours cuts) i ≡ Some p
       → slice_get (neighbours cuts) j ≡ Some q → StrictlyBetween x p → StrictlyBetween x q → i ≡ j
 

@@ -32,8 +32,8 @@ added_out a = fold_out-Added Pieces Pieces Pieces Pieces Pieces Pieces primary_s
 
 pub rand_out : (j : ℕ) (low high : Expr) (steps : ℕ)
     → primary_pieces (Rand j low high steps) ≡ drawn j ∷ sign s.LeftRound ∷
-      (expr_pieces low ++ (sign s.Comma ∷
-      (expr_pieces high ++ (sign s.Comma ∷ whole 1 1000000 steps ∷ sign s.RightRound ∷ []))))
+    (expr_pieces low ++ (sign s.Comma ∷
+    (expr_pieces high ++ (sign s.Comma ∷ whole 1 1000000 steps ∷ sign s.RightRound ∷ []))))
 unfolding primary_pieces expr_pieces
 rand_out j low high steps = ap primary_pieces (sym (rolls-Rand j low high steps)) ∙ fold-roll-Primary Pieces Pieces Pieces Pieces Pieces Pieces primary_step added_step expr_step factor_step scaled_step term_step (layer.Rand j low high steps)
 

@@ -31,7 +31,7 @@ each_on w ms xs i x now out lt is before e =
 
 -- the same where each stands after a token
 pub after_on : {A : Type 0} (p : Piece) (w : A → Pieces) (ms : List Mark) (xs : List A) (i : ℕ) (x : A)
-      (middle now out : List Mark)
+    (middle now out : List Mark)
     → i < length xs → x ≡ get_or xs i x →
     printed_on ms (after_each p (map w (drop i xs))) ≡ out → middle ≡ ms ++ printed_piece p → now ≡ printed_on middle (w x) →
     printed_on now (after_each p (map w (drop (i + 1) xs))) ≡ out
@@ -68,7 +68,7 @@ spread_step p false ms middle now ps pss m e =
     ap (printed_on now) (spread_later p pss) ∙ ap (λ z. printed_on z (after_each p pss)) (e ∙ ap (λ z. printed_on z ps) m) ∙ sym (on_join ms ps (after_each p pss))
 
 pub spread_on : {A : Type 0} (p : Piece) (w : A → Pieces) (some : Bool) (ms : List Mark) (xs : List A) (i : ℕ) (x : A)
-      (middle now out : List Mark)
+    (middle now out : List Mark)
     → i < length xs → x ≡ get_or xs i x →
     printed_on ms (spread p some (map w (drop i xs))) ≡ out → middle ≡ (if some then ms ++ printed_piece p else ms) → now ≡ printed_on middle (w x) →
     printed_on now (spread p true (map w (drop (i + 1) xs))) ≡ out

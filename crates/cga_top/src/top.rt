@@ -176,7 +176,7 @@ fn given_in<K: Sink, E: Ledger, T: Ledger>(
 }
 
 // The same with a session of its own.
-fn run_given<K: Sink, E: Ledger, T: Ledger>(
+pub(crate) fn run_given<K: Sink, E: Ledger, T: Ledger>(
     alloc: Global,
     decimals: Decimals,
     script: &[u8],

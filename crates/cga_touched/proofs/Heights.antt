@@ -168,7 +168,7 @@ unfolding setting_of group first_entry rules_of placed by_id
 height_is h = ap (λ t. if t then attribute_of (of_height h).attributes height else None) height_mentioned
 
 heights_differ : same_option same_rat ((setting_of (of_height one) c).values height)
-      ((setting_of (of_height two) c).values height) ≡ false
+    ((setting_of (of_height two) c).values height) ≡ false
 heights_differ = λ i. same_option same_rat (height_is one i) (height_is two i)
 
 root_setting : same_setting (of_height one) (of_height two) c ≡ false

@@ -51,7 +51,7 @@ once_touched sources names n steps old new before =
 quiet_at : (sources : Sources) → NamesDiffer sources.lots → (budget : ℕ) (list : List Member)
     → derive (derivation_of sources) budget ≡ Some list
     → (reached (derivation_of sources) budget ≡ list)
-      × NothingWaits (derivation_of sources) (reached (derivation_of sources) budget)
+    × NothingWaits (derivation_of sources) (reached (derivation_of sources) budget)
 quiet_at sources names budget list e =
     let is = derived-reached (derivation_of sources) budget list e in
     let d = within (derivation_of sources) (sources_are_derivations sources names) budget list e in

@@ -26,8 +26,8 @@ module _ (name : List ℕ) where
 
   term_value : (k : Known)
       → value.term_value (roll-Term
-        (record { first = roll-Factor (record { minus = false; primary = Named name }); rest = [] })) k ≡ Ok
-        (number_of k name)
+      (record { first = roll-Factor (record { minus = false; primary = Named name }); rest = [] })) k ≡ Ok
+      (number_of k name)
   unfolding value.primary_value value.added_value value.expr_value value.factor_value value.scaled_value value.term_value
   term_value k =
       ap (λ (m : Meaning). m k) (fold-roll-Term Meaning Marked Meaning Meaning Marked Meaning value.primary_step value.added_step value.expr_step value.factor_step value.scaled_step value.term_step (record { first = roll-Factor (record { minus = false; primary = Named name }); rest = [] }))

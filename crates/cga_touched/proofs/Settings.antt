@@ -44,7 +44,7 @@ named_or_none test (a ∷ rest) name h =
     step : (b : Bool) → same_name a.name name ≡ b → test a.name ≡ true
         → (attribute_of rest name ≡ None) ⊎ (test name ≡ true)
         → (option_map (λ (x : Attribute). x.value)
-          (cond b (Some a) (find (λ (x : Attribute). same_name x.name name) rest)) ≡ None) ⊎ (test name ≡ true)
+        (cond b (Some a) (find (λ (x : Attribute). same_name x.name name) rest)) ≡ None) ⊎ (test name ≡ true)
     step true e t more = inr (subst (λ n. test n ≡ true) ((bytes_decides a.name name).0 e) t)
     step false e t more = more
 
@@ -59,7 +59,7 @@ module _ (old new : Grammar) (symbol : List ℕ) where
       at false = refl
 
   values_same : list_all (same_value (setting_of old symbol) (setting_of new symbol))
-        (old.attributes ++ new.attributes) ≡ true
+      (old.attributes ++ new.attributes) ≡ true
       → (name : List ℕ) → (setting_of old symbol).values name ≡ (setting_of new symbol).values name
   values_same h name =
       let w = all_parts (same_value (setting_of old symbol) (setting_of new symbol)) old.attributes new.attributes h in

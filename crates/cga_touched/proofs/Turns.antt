@@ -46,13 +46,16 @@ module _ (sources : Sources) where
 
   here : (list : List Member) (o : Option Member) (turns : List Turn) (m : Member) → o ≡ Some m
       → Among (record { shape = m.shape; answers = asked (derivation_of sources) list m.shape })
-        (with_turn sources list o turns)
+      (with_turn sources list o turns)
   here list o turns m e = subst (λ p. Among (record { shape = m.shape; answers = asked (derivation_of sources) list m.shape }) (with_turn sources list p turns)) (sym e) (inl refl)
 
   -- what is taken by a step is listed after it
   taken : (n k : ℕ) (m : Member) → next_of (derivation_of sources) (reached (derivation_of sources) k) ≡ Some m → k < n
-      → Among (record { shape = m.shape; answers = asked (derivation_of sources) (reached (derivation_of sources) k)
-        m.shape }) (turns_of sources n)
+      → Among (record {
+        shape = m.shape;
+        answers = asked (derivation_of sources) (reached (derivation_of sources) k)
+            m.shape;
+      }) (turns_of sources n)
   unfolding turns_of
   taken zero k m e lt = absurd (omega (arith, lt))
   taken (suc n) k m e lt = elim (cases_lt k n) [

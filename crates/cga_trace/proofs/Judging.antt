@@ -128,12 +128,12 @@ module _ (reader : JudgeReader) (lines : List Line) (read : IsRead reader lines)
 
   pub all_there : is_headed (length run) lines ≡ true → run ≡ reader.steps
       → (length reader.steps ≤ MOST_STEPS)
-        × (judged run lines ≡ cond reader.goes_on (Some (length reader.steps + 2)) None)
+      × (judged run lines ≡ cond reader.goes_on (Some (length reader.steps + 2)) None)
   all_there headed same = by lines read headed
     where
       by : (ls : List Line) → IsRead reader ls → is_headed (length run) ls ≡ true
           → (length reader.steps ≤ MOST_STEPS)
-            × (judged run ls ≡ cond reader.goes_on (Some (length reader.steps + 2)) None)
+          × (judged run ls ≡ cond reader.goes_on (Some (length reader.steps + 2)) None)
       by [] none met = let x : false ≡ true = met in cc
       by (line ∷ ls) (first, are) met = (
         are.few,

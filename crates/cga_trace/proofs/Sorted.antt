@@ -118,7 +118,7 @@ module _ (sources : Sources) (list : List Member) where
   each_before s t at (suc n) h = by (each_before s t at n) (next n) refl
     where
       by : (AllEarlier (derivation_of sources) list s (expanded (derivation_of sources) n)
-            → AllBefore (run_to sources n) t)
+          → AllBefore (run_to sources n) t)
           → (o : Option Member) → next n ≡ o → AllBefore (run_to sources (suc n)) t
       by known None e = subst (λ l. AllBefore l t) (sym (none_more n e)) (known (subst (AllEarlier (derivation_of sources) list s) (none_taken n e) h))
       by known (Some m) e =
@@ -132,7 +132,7 @@ module _ (sources : Sources) (list : List Member) where
   run_rises (suc n) h = by (run_rises n) (next n) refl
     where
       by : (RisesIn (derivation_of sources) list (expanded (derivation_of sources) n)
-            → Rise sources list (run_to sources n))
+          → Rise sources list (run_to sources n))
           → (o : Option Member) → next n ≡ o → Rise sources list (run_to sources (suc n))
       by known None e = subst (Rise sources list) (sym (none_more n e)) (known (subst (RisesIn (derivation_of sources) list) (none_taken n e) h))
       by known (Some m) e =

@@ -6,7 +6,7 @@ use Rattle.cga_trace.specs.Text.{header, step_text, trace_text_of}
 
 each_line : (steps : List TraceStep)
     → flat_map (λ step. step_text step ++ codes "\n") steps ≡ flat_map (λ line. line ++ codes "\n")
-      (map step_text steps)
+    (map step_text steps)
 each_line [] = refl
 each_line (s ∷ steps) = ap (λ rest. (step_text s ++ codes "\n") ++ rest) (each_line steps)
 

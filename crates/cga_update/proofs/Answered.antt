@@ -177,12 +177,12 @@ module _ (v : ForestView) (f : IsForest v) (old new : Sources) (mode : v.mode �
         number_any p (forest_tree v).own counts (all_nodes (forest_tree v)) n.0 (inside v f n.0 (n.1, n.2)) (◌∙◌ {b = not (is_above T 257 n.0 by) && is_asked old new target (ranked a.node) (ranked n.1.node) n.1.node.kind} (counted n.0 n.1 n.2) (and_both (not (is_above T 257 n.0 by)) (is_asked old new target (ranked a.node) (ranked n.1.node) n.1.node.kind) apart passes)) (ap p (own_is n.0 n.1 n.2) ∙ ap (λ (m : Shape). p (box_of m.scope)) shape ∙ w.3)
 
     same : list_any p (asked (forest_tree v) by target (all_nodes (forest_tree v))) ≡ list_any p
-          (boxes_beside a.node.shape shapes)
+        (boxes_beside a.node.shape shapes)
     same = bool_same _ _ to from
 
   -- so both answer alike
   pub answer_is : answer_of ((forest_tree v).own by) (asked (forest_tree v) by target (all_nodes (forest_tree v))) ≡
-        answer_of (box_of a.node.shape.scope) (boxes_beside a.node.shape shapes)
+      answer_of (box_of a.node.shape.scope) (boxes_beside a.node.shape shapes)
   unfolding answer_of
   answer_is =
       ap (λ b. graded (list_any (λ m. meets m b && holds m b) (asked (forest_tree v) by target (all_nodes (forest_tree v)))) (list_any (λ m. meets m b) (asked (forest_tree v) by target (all_nodes (forest_tree v))))) (own_is by a here)
@@ -196,7 +196,7 @@ pub asked_is : (v : ForestView) → IsForest v → (old new : Sources) → v.mod
     → active ≡ asks_for new.grammar a.node.shape.symbol Active
     → (first second : Option Answer) → first ≡ answered v by Noparent noparent → second ≡ answered v by Active active
     → ◌≡◌ {A = Answers} (record { noparent = first; active = second })
-      (agenda.asked (the_world old new) (kept_nodes v) (ranked a.node))
+    (agenda.asked (the_world old new) (kept_nodes v) (ranked a.node))
 unfolding answers_of
 asked_is v f old new mode by a here noparent active one two first second p q = λ i. record {
   noparent = (p ∙ ap (λ b. answered v by Noparent b) one ∙ ap (λ x. if asks_for new.grammar a.node.shape.symbol Noparent then Some x else None) (answer_is v f old new mode by a here Noparent)) i;

@@ -57,7 +57,7 @@ any_more xs node c false false is at = any_behind c node xs ∙ (ap (λ b. list_
 
 module _ (old new : DependentsView) (symbol : List ℕ) (node : ℕ) where
   pub added : ((s : List ℕ) → nodes_in new s ≡
-        (if same_name symbol s then with_node (nodes_in old s) node else nodes_in old s))
+      (if same_name symbol s then with_node (nodes_in old s) node else nodes_in old s))
       → (s : List ℕ) (c : ℕ) → lists new s c ≡ (if is_pair symbol node s c then true else lists old s c)
   added nodes s c = by_test (same_name symbol s) refl
     where

@@ -157,7 +157,7 @@ module _ {old new : Sources} {first v : ForestView} {d : DependentsView} {went c
   ]
 
   is_first : theory.IsFirstAgenda (shapes_of new) content (rules_of old) (rules_of new) (asks_by new.grammar) meets_box
-        V T (on_of v a)
+      V T (on_of v a)
   is_first = record {
     came = came_on;
     went = λ b c x y vb tb tc inner asks meet. near_on (box_of x.node.shape.scope) (start.agenda.moved.near_went (moved_of b x) ((start.roots.went.each (moved_of b x)).1 (b, x, vb, tb, refl))) c y tc inner asks meet;
@@ -205,12 +205,12 @@ module _ {old new : Sources} {first v : ForestView} {d : DependentsView} {went c
 
   pub begins : tree.IsUnderway (shapes_of new) content (rules_of new) (asks_by new.grammar) T (on_of v a)
       × ((queued : Ranked Shape → Bool) × AreQueued (shapes_of new) content T (on_of v a) queued
-        × IsBegun (the_edit old new) (kept_nodes first) (kept_nodes v) queued)
+      × IsBegun (the_edit old new) (kept_nodes first) (kept_nodes v) queued)
   begins = roots_begin (shapes_of new) content (rules_of old) (rules_of new) (is_rules_edit old new start.stands.old_names start.stands.names) (asks_by old.grammar) (asks_by new.grammar) meets_box (sees_what_meets new)
       V T (length first.slots) (length v.slots) gone (on_of v a) (kept_bound first) (kept_bound v) city new_city rerooted is_first
 
   pub lost : (list : List (Drawn (Ranked Shape) Primitive)) × ListsLost content V T list
-        × (map told_ranked list ≡ drawn_of went)
+      × (map told_ranked list ≡ drawn_of went)
   lost = lists_lost V T (λ c b x y at of same. (same_node first start.first_laws c b x y at of (ap (λ (s : Shape). s.lot) same, ap (λ (s : Shape). s.path) same)).0) went start.roots.went
 
   abbrev pub first_state : State (Ranked Shape) Answers ShapeFault Primitive

@@ -130,12 +130,12 @@ keeps_self new n answers outcome inner = record {
 pub is_outcome : (new : Sources) (n : Node) (given answers : Answers) (outcome : Outcome)
     → outcome ≡ expand_of new.grammar n.shape answers
     → IsOutcome content (with_state (state_after new.grammar n given outcome) n) (children_after new.grammar n outcome)
-      ((rules_of new).expand n.shape answers)
+    ((rules_of new).expand n.shape answers)
 unfolding children_of
 is_outcome new n given answers outcome is = subst (λ o. IsOutcome content (with_state (state_after new.grammar n given outcome) n) (children_after new.grammar n outcome) (placed_by n.shape o)) is (own outcome)
   where
     own : (o : Outcome)
         → IsOutcome content (with_state (state_after new.grammar n given o) n) (children_after new.grammar n o)
-          (placed_by n.shape o)
+        (placed_by n.shape o)
     own (Ok es) = (refl, all_placed new.grammar n 0 es)
     own (Err f) = (refl, refl)

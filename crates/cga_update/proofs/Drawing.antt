@@ -152,7 +152,7 @@ module _ (V T : ℕ → Option Seen) (one : (c b : ℕ) (d e : Seen) → V c ≡
     where
       to : (x : Lost) → Among x (lost_of went)
           → (c : ℕ) × (d : Seen) × (V c ≡ Some d) × (T c ≡ None) × (ranked d.node ≡ x.shape)
-            × (d.node.kind ≡ Instance x.solid)
+          × (d.node.kind ≡ Instance x.solid)
       to x h =
           let w = lost_from went x h in
           let p = (lists.each w.0).0 w.1 in
@@ -161,6 +161,6 @@ module _ (V T : ℕ → Option Seen) (one : (c b : ℕ) (d e : Seen) → V c ≡
 
       from : (x : Lost)
           → ((c : ℕ) × (d : Seen) × (V c ≡ Some d) × (T c ≡ None) × (ranked d.node ≡ x.shape)
-            × (d.node.kind ≡ Instance x.solid))
+          × (d.node.kind ≡ Instance x.solid))
           → Among x (lost_of went)
       from x w = lost_to went x (moved_of w.0 w.1) w.1 ((lists.each (moved_of w.0 w.1)).1 (w.0, w.1, w.2, w.3, refl)) w.2 w.4 w.5

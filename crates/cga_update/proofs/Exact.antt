@@ -103,7 +103,7 @@ module _ (old new : Sources) (mode : old.mode ≡ new.mode) (before after : List
     module _ (changes : Changes) (gone_told : changes.gone ≡ map told (map unranked_drawn gone)) (come_told : changes.come ≡ map told (map unranked_drawn come)) where
       balances : (test : reported.Drawn → Bool)
           → count_by test (instances before) + count_by test changes.come ≡ count_by test (instances after) + count_by
-            test changes.gone
+          test changes.gone
       balances test =
           let a = told_count test (drawn before) in
           let b = ap (count_by test) come_told ∙ told_count test (map unranked_drawn come) in

@@ -91,7 +91,7 @@ module _ (v : ForestView) where
       }
 
   pub followed_by : (of : ℕ) (change : Change) (all_came : Bool) (first second third : List Moved)
-        (a b d e : AgendaView)
+      (a b d e : AgendaView)
       → first ≡ change.came → second ≡ change.went → third ≡ change.came
       → Grows D (λ c. (m : Moved) × Among m first × (m.id ≡ c)) a b
       → ((m : Moved) → Among m first → IsSome (D m.id) → on_of v b m.id ≡ true)

@@ -92,14 +92,14 @@ hits m s c = is_other m.primitive && (same_name m.symbol s && nat_eq m.id c)
 module _ (s : List ℕ) (c : ℕ) where
   went_step : (m : Moved) (p : Option Primitive) (rest : List Pairing) (was : Bool)
       → noted_all (paired_before (Went m.symbol m.id) p rest) s c was ≡ noted_all rest s c
-        (if is_other p && (same_name m.symbol s && nat_eq m.id c) then false else was)
+      (if is_other p && (same_name m.symbol s && nat_eq m.id c) then false else was)
   unfolding noted_all
   went_step m None rest was = refl
   went_step m (Some p) rest was = refl
 
   came_step : (m : Moved) (p : Option Primitive) (rest : List Pairing) (was : Bool)
       → noted_all (paired_before (Came m.symbol m.id) p rest) s c was ≡ noted_all rest s c
-        (if is_other p && (same_name m.symbol s && nat_eq m.id c) then true else was)
+      (if is_other p && (same_name m.symbol s && nat_eq m.id c) then true else was)
   unfolding noted_all
   came_step m None rest was = refl
   came_step m (Some p) rest was = refl

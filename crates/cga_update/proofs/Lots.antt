@@ -32,7 +32,7 @@ none_by_name lots named none = record {
 -- one lot more
 pub more_by_name : (lots : List Lot) (before after : List (List ℕ × Lot)) (n : ℕ) (x : Lot) → slice_get lots n ≡ Some x
     → ((name : List ℕ) → lookup (same_name name) after ≡ cond (same_name x.name name) (Some x)
-      (lookup (same_name name) before))
+    (lookup (same_name name) before))
     → AreByName lots n before → AreByName lots (n + 1) after
 more_by_name lots before after n x at updates named = record {
   only = λ name lot e. only name lot e (same_name x.name name) refl (updates name);

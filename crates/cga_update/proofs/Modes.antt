@@ -82,7 +82,7 @@ module _ (old new : Sources) (differ : old.mode ≢ new.mode) (before after : Li
 
     balances : (test : reported.Drawn → Bool)
         → count_by test (instances before) + count_by test both.come ≡ count_by test (instances after) + count_by test
-          both.gone
+        both.gone
     balances test =
         let a = went.balance test in
         let b = came.balance test in

@@ -112,7 +112,7 @@ module _ (v w : ForestView) (new : Sources) (id : ℕ) (news : List Node) (e now
     was_on a c x d p q h = let z = on_from (chains_of w) a c h in on_to (chains_of v) a c z.0 (sym (same_due c x d p q) ∙ z.1) z.2
 
     pub is_moved : IsMoved (shapes_of new) content meets_box (node_at v) (node_at w) e.node (on_of v was)
-          (on_of w after)
+        (on_of w after)
     is_moved = record {
       kept = λ c x d p q h. followed.kept c (still_on was c x d p q h);
       came = came_on;

@@ -42,7 +42,7 @@ not_itself x new e = let z : Equal ≡ Less = sym (tied_itself (stamp_total new.
 pub is_taken : (v : ForestView) (new : Sources) (old rest : AgendaView) (id : ℕ) (x : Chain) → old.mode ≡ new.mode
     → IsLeast (chains_of v) old rest id x
     → (e : Seen) × (is_instance e.node.kind ≡ false)
-      × IsTaken (shapes_of new) content (node_at v) id e (on_of v old) (on_of v rest)
+    × IsTaken (shapes_of new) content (node_at v) id e (on_of v old) (on_of v rest)
 is_taken v new old rest id x mode least =
     let e = due_of (node_at v id) x least.here in
     let later = λ (c : ℕ) (d : Seen) (here : node_at v c ≡ Some d) (h : on_of v rest c ≡ true). subst (λ m. stamp_cmp m (chain_kept e.0.node) (chain_kept d.node) ≡ Less) mode (subst (λ y. stamp_cmp old.mode y (chain_kept d.node) ≡ Less) (sym e.3) (least.later c (chain_kept d.node) (chain_at v rest c d here h) h)) in (

@@ -42,7 +42,7 @@ module _ (v : ForestView) (f : IsForest v) where
   -- the parent of a node, which stands right below it
   pub parent_of : (c p : ℕ) (d : Seen) → T c ≡ Some d → d.parent ≡ Some p
       → (e : Seen) × (T p ≡ Some e) × (d.depth ≡ e.depth + 1) × (slice_get e.children d.index ≡ Some c)
-        × IsBelow e.node d.index d.node
+      × IsBelow e.node d.index d.node
   parent_of c p d t up =
       let u = f.present.tree.up c p d t up in
       let w = f.present.tree.down p d.index c u.0 u.1 u.2 in

@@ -43,12 +43,12 @@ module _ (was now : Work) (rest : AgendaView) (id : ℕ) (x : Chain) (edit : The
     e = turn.node
 
     taken : (is_instance e.node.kind ≡ false)
-          × IsTaken (shapes_of new) content (node_at was.forest) id e (on_of was.forest was.agenda)
-          (on_of was.forest rest)
+        × IsTaken (shapes_of new) content (node_at was.forest) id e (on_of was.forest was.agenda)
+        (on_of was.forest rest)
     taken = taken_at was.forest new was.agenda rest id x e means.agenda_mode least turn.here
 
     quiet : IsQuietTurn (shapes_of new) content (rules_of was.old.now) (rules_of new) (asks_by new.grammar)
-          (node_at was.forest) (length was.forest.slots) id e (on_of was.forest was.agenda) (on_of was.forest rest)
+        (node_at was.forest) (length was.forest.slots) id e (on_of was.forest was.agenda) (on_of was.forest rest)
     quiet = record {
       taken = taken.1;
       inner = taken.0;
@@ -59,11 +59,11 @@ module _ (was now : Work) (rest : AgendaView) (id : ℕ) (x : Chain) (edit : The
     }
 
     result : IsUnderway (shapes_of new) content (rules_of new) (asks_by new.grammar) (node_at was.forest)
-          (on_of was.forest rest)
+        (on_of was.forest rest)
         × ((requeued : Ranked Shape → Bool)
-          × AreQueued (shapes_of new) content (node_at was.forest) (on_of was.forest rest) requeued
+        × AreQueued (shapes_of new) content (node_at was.forest) (on_of was.forest rest) requeued
         × IsTurnOf (the_edit was.old.now new) (kept_nodes was.forest) (kept_nodes was.forest) (ranked e.node) s.queued
-          requeued false)
+        requeued false)
     result = quiet_turns (shapes_of new) content (rules_of was.old.now) (rules_of new) (is_rules_edit was.old.now new means.old_names means.names) (by_symbol new) (asks_by new.grammar) (node_at was.forest) (length was.forest.slots) id e (on_of was.forest was.agenda) (on_of was.forest rest) (kept_bound was.forest) means.underway quiet s.queued means.queued
 
     abbrev after : TheState

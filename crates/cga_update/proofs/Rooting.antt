@@ -59,7 +59,7 @@ loses_more new first before after one two = record {
 abbrev pub FirstWanted : Sources → List Lot → ForestView → ℕ → Type 0
 FirstWanted new lots f n =
     (i : ℕ) (lot : Lot) → i < n → slice_get lots i ≡ Some lot → (c : ℕ) (d : Seen)
-        → IsRootNamed (node_at f) lot.name c d → IsWanted new d.node
+    → IsRootNamed (node_at f) lot.name c d → IsWanted new d.node
 
 pub wanted_more : (new : Sources) (lots : List Lot) (before after : ForestView) (n : ℕ) (x : Lot)
     → slice_get lots n ≡ Some x → Loses new before after

@@ -71,7 +71,7 @@ module _ (v : ForestView) (f : IsForest v) (old new : Sources) where
   module _ (by : ℕ) (a : Seen) (here : T by ≡ Some a) where
     born : (c : ℕ) (d : Seen) → T c ≡ Some d → (o : Option ℕ) → d.parent ≡ o
         → exists_at new.mode T o (chain_kept a.node) ≡ is_lt
-          (stamps_cmp new.mode (birth new.mode (chain_kept d.node)) (stamp new.mode (chain_kept a.node)))
+        (stamps_cmp new.mode (birth new.mode (chain_kept d.node)) (stamp new.mode (chain_kept a.node)))
     born c d t None top = ap is_lt (sym (root-before new.mode (chain_kept d.node) (chain_kept a.node) (top_of v f c d t top).path))
     born c d t (Some p) up =
         let w = parent_of v f c p d t up in
@@ -82,7 +82,7 @@ module _ (v : ForestView) (f : IsForest v) (old new : Sources) where
     -- there at the stamp of the asking node
     pub exists_is : (c : ℕ) (d : Seen) → T c ≡ Some d
         → exists_at new.mode T d.parent (chain_kept a.node) ≡ world.exists_at (the_world old new) (ranked a.node)
-          (ranked d.node) d.node.kind
+        (ranked d.node) d.node.kind
     exists_is c d t =
         born c d t d.parent refl
         ∙ ap (λ (x : Chain). is_lt (stamps_cmp new.mode (birth new.mode x) (stamp new.mode (chain_kept a.node)))) (sym (chain_is c d t))
@@ -90,8 +90,8 @@ module _ (v : ForestView) (f : IsForest v) (old new : Sources) where
 
     later_is : (c : ℕ) (d : Seen) → T c ≡ Some d
         → waits_at new.mode d (chain_kept a.node) ≡
-          (not (is_instance d.node.kind) && is_lt
-          (stamp_cmp new.mode (chain_of (shapes_of new) (ranked a.node)) (chain_of (shapes_of new) (ranked d.node))))
+        (not (is_instance d.node.kind) && is_lt
+        (stamp_cmp new.mode (chain_of (shapes_of new) (ranked a.node)) (chain_of (shapes_of new) (ranked d.node))))
     later_is c d t =
         ap (λ (x : Chain). not (is_instance d.node.kind) && is_lt (stamp_cmp new.mode x (chain_kept d.node))) (sym (chain_is by a here))
         ∙ ap (λ (x : Chain). not (is_instance d.node.kind) && is_lt (stamp_cmp new.mode (chain_of (shapes_of new) (ranked a.node)) x)) (sym (chain_is c d t))
@@ -99,7 +99,7 @@ module _ (v : ForestView) (f : IsForest v) (old new : Sources) where
     -- a node counts for a target where it isn't above the asking one, and is what the target asks about
     pub counts_is : (target : Target) (c : ℕ) (d : Seen) → T c ≡ Some d
         → counts_for target (standing_of new.mode T c by (Some d) (Some a)) ≡
-          (not (is_above T 257 c by) && is_asked old new target (ranked a.node) (ranked d.node) d.node.kind)
+        (not (is_above T 257 c by) && is_asked old new target (ranked a.node) (ranked d.node) d.node.kind)
     counts_is Noparent c d t =
         counts_noparent (is_above T 257 c by || not (exists_at new.mode T d.parent (chain_kept a.node))) (waits_at new.mode d (chain_kept a.node))
         ∙ not_or (is_above T 257 c by) (exists_at new.mode T d.parent (chain_kept a.node))

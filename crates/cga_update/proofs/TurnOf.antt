@@ -84,7 +84,7 @@ module _ (was : Work) (symbols : Symbols) where
     are = facts_are here.0 here.1 may.known
 
     asked_is : answers ≡ kept.asked (new_world (the_edit was.old.now was.new.now)) (kept_nodes was.forest)
-          (ranked here.0.node)
+        (ranked here.0.node)
     asked_is = asks was.old.now was.new.now here.0 may.mode here.1 are.noparent are.active
 
     known_now : Knows was now.symbols

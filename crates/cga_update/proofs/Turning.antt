@@ -95,7 +95,7 @@ module _ (was now : Work) (rest : AgendaView) (id : ℕ) (x : Chain) (turned : T
   news = children_after g e.node turn.outcome
 
   taken : (is_instance e.node.kind ≡ false)
-        × IsTaken (shapes_of new) content V id e (on_of was.forest was.agenda) (on_of was.forest rest)
+      × IsTaken (shapes_of new) content V id e (on_of was.forest was.agenda) (on_of was.forest rest)
   taken = taken_at was.forest new was.agenda rest id x e means.agenda_mode least turn.here
 
   inner : is_instance e.node.kind ≡ false
@@ -149,11 +149,11 @@ module _ (was now : Work) (rest : AgendaView) (id : ℕ) (x : Chain) (turned : T
   symbols c b d y t u k solid = (means.underway.city.child c b d y t u k).symbol solid
 
   told : ((turned.expanded ≡ true)
-        × theory.IsExpanded (shapes_of new) content (rules_of was.old.now) (rules_of new) V (length was.forest.slots)
-        e.node after_e.node news)
+      × theory.IsExpanded (shapes_of new) content (rules_of was.old.now) (rules_of new) V (length was.forest.slots)
+      e.node after_e.node news)
       ⊎ ((turned.expanded ≡ false)
-        × theory.IsRepriced (shapes_of new) content (rules_of was.old.now) (rules_of new) V (length was.forest.slots) e
-        after_e.node news)
+      × theory.IsRepriced (shapes_of new) content (rules_of was.old.now) (rules_of new) V (length was.forest.slots) e
+      after_e.node news)
   told = elim turn.told [
     | inl h ↦ inl (
       h.0,
@@ -176,8 +176,8 @@ module _ (was now : Work) (rest : AgendaView) (id : ℕ) (x : Chain) (turned : T
   ]
 
   node_turn : IsNodeTurn (shapes_of new) content (rules_of was.old.now) (rules_of new) fits (asks_by g) meets_box V T
-        (length was.forest.slots) id news e after_e gone (on_of was.forest was.agenda) (on_of was.forest rest)
-        (on_of now.forest now.agenda) turned.expanded
+      (length was.forest.slots) id news e after_e gone (on_of was.forest was.agenda) (on_of was.forest rest)
+      (on_of now.forest now.agenda) turned.expanded
   node_turn = record {
     taken = taken.1;
     replaced = replaced;
@@ -205,11 +205,11 @@ module _ (was now : Work) (rest : AgendaView) (id : ℕ) (x : Chain) (turned : T
   one_node v f c b d y t u same = (same_node v f c b d y t u (ap (λ (q : Shape). q.lot) same, ap (λ (q : Shape). q.path) same)).0
 
   went : (list : List (Drawn (Ranked Shape) Primitive)) × ListsLost content V T list
-        × (map told_ranked list ≡ drawn_of turn.placed.0.went)
+      × (map told_ranked list ≡ drawn_of turn.placed.0.went)
   went = lists_lost V T (one_node was.forest before) turn.placed.0.went turn.placed.1.went
 
   came : (list : List (Drawn (Ranked Shape) Primitive)) × ListsLost content T V list
-        × (map told_ranked list ≡ drawn_of turn.placed.0.came)
+      × (map told_ranked list ≡ drawn_of turn.placed.0.came)
   came = lists_lost T V (one_node now.forest turn.placed.1.forest) turn.placed.0.came turn.placed.1.came
 
   change : IsChange (kept_nodes was.forest) (kept_nodes now.forest) went.0 came.0
@@ -219,7 +219,7 @@ module _ (was now : Work) (rest : AgendaView) (id : ℕ) (x : Chain) (turned : T
   after = record { nodes = kept_nodes now.forest; queued = result.1.0; gone = s.gone ++ went.0; come = s.come ++ came.0 }
 
   children_is : turned.children ≡ children_of (the_edit was.old.now new) (kept_nodes was.forest) (ranked e.node)
-        turned.expanded
+      turned.expanded
   children_is = elim turn.told [
     | inl h ↦ h.1.count ∙ ap (λ o. length (emitted o)) (h.1.value ∙ ap (expand_of g e.node.shape) turn.asked) ∙ sym (expansion_count was.old.now new (ranked e.node) (asked (new_world (the_edit was.old.now new)) (kept_nodes was.forest) (ranked e.node))) ∙ ap (children_of (the_edit was.old.now new) (kept_nodes was.forest) (ranked e.node)) (sym h.0)
     | inr h ↦ h.1.count ∙ ap (children_of (the_edit was.old.now new) (kept_nodes was.forest) (ranked e.node)) (sym h.0)
@@ -247,7 +247,7 @@ module _ (was now : Work) (rest : AgendaView) (id : ℕ) (x : Chain) (turned : T
       kept_one false q r = let z : Some y ≡ Some d = sym u ∙ (r ∙ ap (λ h. if h then None else Some d) q) in cc
 
   log_is : IsLogged (marked_at was.forest) T
-        ((was.log.items ++ went_of turn.placed.0.went) ++ came_of turn.placed.0.came)
+      ((was.log.items ++ went_of turn.placed.0.went) ++ came_of turn.placed.0.came)
   log_is = logged_more (marked_at was.forest) V T was.log.items turn.placed.0.went turn.placed.0.came means.logged turn.placed.1.went turn.placed.1.came alike
 
   to_new : (P : Bor Sources → Type 0) → P was.new → P now.new

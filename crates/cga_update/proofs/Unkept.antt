@@ -30,6 +30,6 @@ all_came V before after still none c d here = elim (option_cases (V c)) [
 
 -- what came is on the agenda
 pub first_due : {old new : Sources} {first v : ForestView} {d : DependentsView} {went came : List Moved}
-      {a : AgendaView}
+    {a : AgendaView}
     → IsRooted old new first v d went came a → (mode : Mode) → ComersAreDue mode v a
 first_due start mode b c e x at on here unmarked solid less = came_on start c x (sym (start.roots.marked c) ∙ unmarked) here

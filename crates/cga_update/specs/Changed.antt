@@ -23,7 +23,7 @@ pub record AreFacts (old new : Grammar) (symbol : List ℕ) (facts : Facts) : Ty
 abbrev pub AreKnown : Grammar → Grammar → BTreeMap (List ℕ) Facts → Type 0
 AreKnown old new known =
     (symbol : List ℕ) (facts : Facts) → get (slice_cmp nat_cmp) known symbol ≡ Some facts
-        → AreFacts old new symbol facts
+    → AreFacts old new symbol facts
 
 -- the symbol is listed, or its setting is the old one
 abbrev pub IsNoted : Grammar → Grammar → List (List ℕ) → List ℕ → Type 0

@@ -20,7 +20,7 @@ ComesAfter v mode of c = is_later mode (chains_of v of) (chains_of v c) ≡ true
 abbrev pub HasAskers : ForestView → Mode → ℕ → Box → AgendaView → Type 0
 HasAskers v mode of area a =
     (c : ℕ) (d : Seen) → node_at v c ≡ Some d → IsSome (marked_at v c) → d.node.asks ≡ true
-        → meets (bounds d.node) area ≡ true
+    → meets (bounds d.node) area ≡ true
     → ComesAfter v mode of c → on_of v a c ≡ true
 
 -- each later one of these nodes is

@@ -34,7 +34,7 @@ told_ranked d = told (unranked_drawn d)
 abbrev pub ArePriced : Grammar → ForestView → Type 0
 ArePriced g v =
     (c : ℕ) (d : Seen) → node_at v c ≡ Some d → is_instance d.node.kind ≡ false
-        → d.node.priority ≡ priority_of g d.node.shape.symbol
+    → d.node.priority ≡ priority_of g d.node.shape.symbol
 
 pub record Means (w : Work) (edit : Edit (Ranked Shape) Answers Setting ShapeFault Primitive) (s : State (Ranked Shape) Answers ShapeFault Primitive) : Type 0 where
   pub edit_is : edit ≡ the_edit w.old.now w.new.now
@@ -45,7 +45,7 @@ pub record Means (w : Work) (edit : Edit (Ranked Shape) Answers Setting ShapeFau
   pub nodes : s.nodes ≡ kept_nodes w.forest
   -- the nodes are a city of the new roots, and what isn't right by priority or by asking is on the agenda
   pub underway : IsUnderway (shapes_of w.new.now) content (rules_of w.new.now) (asks_by w.new.now.grammar)
-        (node_at w.forest) (on_of w.forest w.agenda)
+      (node_at w.forest) (on_of w.forest w.agenda)
   pub queued : AreQueued (shapes_of w.new.now) content (node_at w.forest) (on_of w.forest w.agenda) s.queued
   pub due : ComersAreDue w.new.now.mode w.forest w.agenda
   pub all_came : w.all_came ≡ true → AllCame w.forest

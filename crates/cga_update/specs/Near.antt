@@ -42,7 +42,7 @@ module _ (v : ForestView) where
   abbrev pub HasNear : Box → AgendaView → Type 0
   HasNear area a =
       (c : ℕ) (d : Seen) → IsWorked c d → IsSome (marked_at v c) → d.node.asks ≡ true
-          → meets (box_of d.node.shape.scope) area ≡ true → on_of v a c ≡ true
+      → meets (box_of d.node.shape.scope) area ≡ true → on_of v a c ≡ true
 
   -- these nodes of a symbol are on it, or its setting is the old one
   abbrev pub IsChangedFor : Grammar → Grammar → (ℕ → Type 0) → List ℕ → AgendaView → Type 0

@@ -32,7 +32,7 @@ use Rattle.cga_update.specs.Plain.{IsPlain}
 pub record IsPlaced (was now : Work) (id : ℕ) (answers : Answers) (outcome : Outcome) (change : Change) : Type 0 where
   pub replaced : (e : Seen) → node_at was.forest id ≡ Some e
       → Replaces (node_at was.forest) (node_at now.forest) id (state_after was.new.now.grammar e.node answers outcome)
-        (children_after was.new.now.grammar e.node outcome)
+      (children_after was.new.now.grammar e.node outcome)
   pub unmarked : (c : ℕ) → node_at was.forest c ≡ None → IsSome (node_at now.forest c) → marked_at was.forest c ≡ None
   pub went : ListsMoved (node_at was.forest) (node_at now.forest) change.went
   pub came : ListsMoved (node_at now.forest) (node_at was.forest) change.came
@@ -98,7 +98,7 @@ pub record IsPlacing (was now : Work) (id : ℕ) (turned : Turned) : Type 0 wher
   pub here : node_at was.forest id ≡ Some node
   pub answers : Answers
   pub asked : answers ≡ kept.asked (new_world (the_edit was.old.now was.new.now)) (kept_nodes was.forest)
-        (ranked node.node)
+      (ranked node.node)
   pub outcome : Outcome
   pub placed : HasPlaced was now id answers outcome
   pub known : AreKnown was.old.now.grammar was.new.now.grammar now.symbols.known
@@ -111,7 +111,7 @@ pub record IsQuiet (was now : Work) (id : ℕ) (turned : Turned) : Type 0 where
   pub here : node_at was.forest id ≡ Some node
   pub done : is_waiting node.node.kind ≡ false
   pub same : SameAsked was node
-        (kept.asked (new_world (the_edit was.old.now was.new.now)) (kept_nodes was.forest) (ranked node.node))
+      (kept.asked (new_world (the_edit was.old.now was.new.now)) (kept_nodes was.forest) (ranked node.node))
   pub asks : node.node.asks ≡ asks_by was.new.now.grammar node.node.shape
   pub priced : was.priced ≡ true
   pub stays : now ≡ record was { symbols = now.symbols }

@@ -33,7 +33,7 @@ town_alone name rest b no_minus fits = let f = simp no_minus at fits in record {
 pub decimals_first : (name rest more : Text) (b c : ℕ) → nat_eq b 45 ≡ false → nat_eq c 45 ≡ false → Fits 0 9 (b ∷ rest)
     → Fits 1 200 (c ∷ more)
     → Give (name ∷ codes "--decimals" ∷ (b ∷ rest) ∷ codes "--town" ∷ (c ∷ more) ∷ []) (Some (b ∷ rest))
-      (Some (c ∷ more))
+    (Some (c ∷ more))
 unfolding clap_on_literals
 decimals_first name rest more b c no_minus no_minus_more fits fits_more =
     let f = simp no_minus at fits in let m = simp no_minus_more at fits_more in
@@ -42,7 +42,7 @@ decimals_first name rest more b c no_minus no_minus_more fits fits_more =
 pub town_first : (name rest more : Text) (b c : ℕ) → nat_eq b 45 ≡ false → nat_eq c 45 ≡ false → Fits 0 9 (b ∷ rest)
     → Fits 1 200 (c ∷ more)
     → Give (name ∷ codes "--town" ∷ (c ∷ more) ∷ codes "--decimals" ∷ (b ∷ rest) ∷ []) (Some (b ∷ rest))
-      (Some (c ∷ more))
+    (Some (c ∷ more))
 unfolding clap_on_literals
 town_first name rest more b c no_minus no_minus_more fits fits_more =
     let f = simp no_minus at fits in let m = simp no_minus_more at fits_more in
