@@ -11,7 +11,7 @@ use Rattle.cga_forest.specs.declared.node.Node.{Node}
 use Rattle.cga_forest.specs.View.{kids, flag_if}
 use Rattle.cga_forest.specs.Tree.{under, goes, goes_at, stay_of}
 use Rattle.std.specs.Prelude.{if◌then◌else◌}
-pub use Rattle.std.proofs.lemmas.List.Folds.{or-false as or_false}
+pub use Rattle.cga_fraction.proofs.Door.{or-false as or_false}
 use Rattle.cga_fraction.proofs.Door.{lt-length_from_slice_get_nat as slice_get_in}
 
 pub any_ext : {X : Type 0} (p q : X → Bool) → ((x : X) → p x ≡ q x) → (xs : List X) → list_any p xs ≡ list_any q xs

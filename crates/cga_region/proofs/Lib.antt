@@ -1,1 +1,2 @@
 mod Lots
+mod Parts

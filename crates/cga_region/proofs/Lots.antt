@@ -42,14 +42,14 @@ module _ (lot : List ℕ) (list other : List Member) (apart : AreApart list) (ot
       let w = filter_to (is_of lot) other m (sorted_from comes_before (filter (is_of lot) other) m i) in
       filter_from (is_of lot) list m (has_among list m.shape m.kind (back m.shape m.kind (among_has other m w.0))) w.1)
 
-  tell_alike : TellAlike lot list other
+  pub tell_alike : TellAlike lot list other
   unfolding drawn_in faults_in
   tell_alike = (ap (λ (ms : List Member). flat_map drawn_of ms ++ []) same_members, ap (λ (ms : List Member). flat_map fault_of ms ++ []) same_members)
 
 -- ---- two districts
 
 -- places stand once in what is derived
-places_differ : (s : Sources) → NamesDiffer s.lots → (list : List Member) → IsDerived (derivation_of s) list
+pub places_differ : (s : Sources) → NamesDiffer s.lots → (list : List Member) → IsDerived (derivation_of s) list
     → AreApart list
 places_differ s differ list ends =
     subst (AllApart (derivation_of s)) (sym ends.1) (derived_consistent (derivation_of s) (sources_are_derivations s differ) ends.0 (subst (NothingWaits (derivation_of s)) ends.1 ends.2)).apart
