@@ -1,13 +1,14 @@
 #!/usr/bin/env python3
 """Random scripts of edits for cga_live: after each line the town that is kept by what was told is the one that a fresh run
-of the same sources tells from nothing, instance by instance, and the replies alone are those of cga_city.
+of the same sources tells from nothing, instance by instance; at the end a `print` draws it; and the replies alone are those
+of cga_city.
 """
 import argparse
 import random
 import subprocess
 import sys
 
-from live_town import Town, Wrong, in_world
+from live_town import Town, Wrong, drawn_of, printed
 
 RULES = """rules
 attr h = 1
@@ -135,7 +136,7 @@ def check(program, plain, seed, lines):
     first = draw.choice(("", "\n# a comment\n")) + "version 2" * second
     edits = [first, RULES] + [edit(draw) for _ in range(lines)]
     sources, town, known = Sources(second), Town(), {}
-    script = "".join(f"{line}\n{MARK}\n{sources.asks}\n{MARK}\n" for line in edits)
+    script = "".join(f"{line}\n{MARK}\n{sources.asks}\n{MARK}\n" for line in edits) + f"print\n{MARK}\n"
     told = parts(town.take(run(program, script)))
     for line in edits:
         before, kept = town.told, dict(town.drawn)
@@ -146,10 +147,10 @@ def check(program, plain, seed, lines):
         fresh = sources.after(line, ["# refused"] if refused else reply, asked)
         if town.drawn != told_anew(program, fresh, known):
             raise Wrong(f"after {line!r} a fresh run tells another town")
-    if plain and list(Town().take(run(program, script))) != run(plain, script):
+    if printed(next(told)) != drawn_of(town):
+        raise Wrong("a print draws another town")
+    if list(Town().take(run(program, script))) != run(plain, script):
         raise Wrong("the replies differ from those of cga_city")
-    for instance in town.drawn:
-        in_world(instance)
     return len(edits), town.told
 
 

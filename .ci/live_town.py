@@ -1,4 +1,4 @@
-"""The town that a reader of cga_live keeps: how often each instance is drawn, by the text of its line."""
+"""The town that a reader of cga_live keeps: how often each instance is drawn, by the text of its line; and how it is drawn."""
 from collections import Counter
 from fractions import Fraction
 
@@ -71,3 +71,35 @@ def in_world(instance):
             point["XYZ".index(axis)] += along if sign == "+" else -along
         found.append(tuple(point))
     return lot, symbol, tuple(found)
+
+
+def decimal(number):
+    """With six decimals, halves away from 0."""
+    double = 2 * abs(number) * 10**6
+    rounded = (double.numerator + double.denominator) // (2 * double.denominator)
+    return ("-" if number < 0 and rounded else "") + f"{rounded // 10**6}.{rounded % 10**6:06}"
+
+
+def drawn_of(town):
+    """How often each lot and symbol draws which vertices, as a `print` writes them."""
+    found = Counter()
+    for instance, times in town.drawn.items():
+        lot, symbol, points = in_world(instance)
+        found[lot, symbol, tuple(" ".join(map(decimal, point)) for point in points)] += times
+    return found
+
+
+def printed(lines):
+    """The same of the lines of a `print`."""
+    found, lot, symbol, points = Counter(), None, None, []
+    for line in [*lines, "g"]:
+        if line[:1] in ("o", "g") and points:
+            found[lot, symbol, tuple(points)] += 1
+            points = []
+        if line.startswith("o "):
+            lot = line[2:]
+        elif line.startswith("g "):
+            symbol = line[2:]
+        elif line.startswith("v "):
+            points.append(line[2:])
+    return found

@@ -93,13 +93,13 @@ first_lines x y =
 
 -- the lines that an LF ends and the last one, and the end
 module _ (d : ℕ) (bytes : List ℕ) where
-  lines : List Line
+  abbrev lines : List Line
   lines = lines_of bytes
 
-  rest : List Line
+  abbrev rest : List Line
   rest = last_of (cut bytes).rest
 
-  mid_state : State
+  abbrev mid_state : State
   mid_state = (effect_of_all (start d) lines).state
 
   end_is : (at_end (effect_of_all mid_state rest).state).reply ≡ end_of d bytes

@@ -43,7 +43,7 @@ reads_none d read old mid session lines left ended failed r none = record {
 }
 
 module _ (d : ℕ) (read chunk piece : List ℕ) (old mid new : Outside) (session : Session) (lines : Pending) (few : length read ≤ limit) (first : piece ≡ take (limit - length read) chunk) (r : IsRead d read old mid session lines) (more : Consumes mid.left new.left chunk) where
-  so_far : State
+  abbrev so_far : State
   so_far = (effect_of_all (start d) (lines_of (take limit read))).state
 
   pub reads_more : (next : Session) (after : Pending)
