@@ -25,6 +25,11 @@ while [ $# -gt 0 ] && [ "$1" != -- ]; do shift; done
 shift
 case $verb-${STAND_IN-} in
   run-hangs | try-hangs) exec sleep 60 ;;
+  run-late)
+    rm out/prove.log
+    sleep 1.5
+    echo 'error: a late clause did not prove' >out/prove.log
+    exit 1 ;;
   run-fails)
     printf 'error: a clause did not prove\nlogic=unproved\n'
     exit 1 ;;
@@ -138,6 +143,10 @@ check 'a failing build' replies 1 ''
 check "the log's end is shown" says 'a clause did not prove'
 call "$city" --proved
 check 'it proves nothing' replies 1 ''
+
+call STAND_IN=late "$city" --prove
+check 'a log that comes late' replies 1 ''
+check 'and is read when it is there' says 'a late clause did not prove'
 
 # ends_by SIGNAL STATUS WORDS ..: a call that hangs, and a signal
 ends_by() {
