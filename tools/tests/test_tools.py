@@ -16,11 +16,8 @@ sys.path.insert(0, str(TESTS.parent))
 
 from lib.obj import Town, read_town  # noqa: E402
 from lib.replies import replies  # noqa: E402
-from lib.report import Report  # noqa: E402
-from lib.script import commands, is_open, lines_of, rule_in, rule_of, text_of, tokens, without  # noqa: E402
+from lib.script import commands, is_open, lines_of, rule_of, text_of, tokens, without  # noqa: E402
 from lib.session import OPEN, Session  # noqa: E402
-from lib.standing import standing  # noqa: E402
-from lib.ways import places_above  # noqa: E402
 
 TOOLS = [path for path in sorted((TOP / "tools").iterdir()) if path.is_file() and not path.name.startswith(".")]
 STAND_IN = str(TESTS / "stand_in")
@@ -72,8 +69,6 @@ class Scripts(unittest.TestCase):
         self.assertEqual(without(["quiet\r", "quiet\t", "quiet \x0b"], "quiet"), ["quiet\r", "stats", "quiet \x0b"])
 
     def test_rules_have_ids(self):
-        self.assertEqual(rule_in("put 2 7: a(n, m) : n > Scope.sx -> T(n, 0, k) b(m) I(\"cube\")"),
-                         (7, "a", ["n", "m"], ["n", ">", "Scope", ".", "sx"], {"n", "k", "b", "m"}))
         self.assertEqual([rule_of(line) for line in ("put 1 7: a -> b", "07: a(n) -> b", "attr a = 1")], [(7, "a"), (7, "a"), None])
 
 
@@ -177,28 +172,8 @@ class Lint(unittest.TestCase):
                 self.assertEqual(said, script.with_suffix(".said").read_text(encoding="utf-8"))
                 self.assertEqual(status, 0 if ": 0 refused, 0 shapes came to nothing" in said else 1)
 
-    def test_what_follows_is_folded(self):
-        """A slip in a rule, and 200 lots that are refused for it: some lines, and not three for each lot."""
-        lines = lines_of(b"rules\n1: house -> I('cube')\nend\n" + b"lot a 1 0 0 10 8 house\n" * 200)
-        answers = [["# refused BadByte at 1:13"]] + [["# refused NoSymbol house"]] * 200
-        self.assertEqual([*Report("x.cga", lines, commands(lines), answers).lines_for([])][3:],
-                         ["    200 further refusals follow from it, from line 4 on",
-                          "x.cga: 201 refused (200 of them only follow), 0 shapes came to nothing"])
-
-    def test_what_stands_after_undo(self):
-        lines = lines_of(b"version 2\ncity\nattr h=3\n1: a -> S(1r, h, 1r) b\n2: b -> NIL\nlot x 1 0 0 1 1 a\nend\n"
-                         b"lot y 1 0 0 1 -1 b\ndrop 2.0\nunlot x\nundo\nredo\nundo\nput 2 7: b -> NIL\n")
-        answers = [["# ok"]] * 2 + [["# refused BadLot y"], ["# refused UnknownSymbol 1 b"]] + [["# ok"]] * 5
-        now = standing(lines, list(zip(commands(lines), answers)))
-        self.assertEqual({number: (rule.symbol, at) for number, (rule, at) in now.rules.items()}, {1: ("a", 3), 2: ("b", 4), 7: ("b", 13)})
-        self.assertEqual((now.attributes, now.lots), ({"h": 2}, {"x": ("a", 5)}))
-
-    def test_places_above_a_path(self):
-        self.assertEqual([places_above(path) for path in ("/", "/3", "/3/0/2")], [[], ["/"], ["/", "/3", "/3/0"]])
-
     def test_each_cause_has_a_sentence(self):
-        from lib.causes import CAUSES, CODES, HELPS
-        self.assertEqual(set(HELPS), set(CODES))
+        from lib.causes import CAUSES, CODES
         for file, known in (("cga_script/src/refusals.rt", CAUSES), ("cga_obj/src/faults.rt", CODES)):
             told = set(re.findall(r'b"([A-Z][A-Za-z]+)', (TOP / "crates" / file).read_text(encoding="utf-8")))
             self.assertTrue(told)
