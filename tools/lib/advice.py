@@ -4,7 +4,9 @@ import re
 from .script import COMMANDS, COMMANDS_2, RESERVED, tokens
 
 AT_PLACE = [  # what stands at the place
+    (r"'[A-Za-z]", 'names in quotes have double ones: I("quad")'),
     (r"'", "a share of the scope is written with an r: S(1r, 6, 1r)"),
+    (r"%", "a probability stands behind its body, as a number: -> a : 0.5 -> b : 0.5"),
     (r"~", "there are no approximate sizes: write 1r in Subdiv, or take Repeat for equal parts"),
     (r"&", "conditions are joined by `and`"),
     (r"\|\|", "conditions are joined by `or`"),
@@ -19,6 +21,7 @@ AT_PLACE = [  # what stands at the place
 ]
 SOLIDS = 'I draws "cube", "quad", "shed", "gable" or "hip"; a form of another file comes by `asset` and `dress`'
 BEHIND = [  # the tokens before the place
+    (r"^PRIORITY$", "a priority is a whole number, and a smaller one goes first: PRIORITY 2:"),
     (r"\bR[xyz] \((?: -)?$", "turns are by 0, 90, 180, 270 or -90"),
     (r"\bI \($", SOLIDS),
     (r"\b(Subdiv|Repeat) \($", 'an axis is "X", "Y" or "Z"'),
@@ -69,10 +72,41 @@ def advice(cause, words, place):
         return of_names(words[-1:], place) or ("put that rule first, or both in one block" if is_first else "")
     if cause == "BadByte":
         is_file = re.search(r'\bI\(\s*"\w*$', place.line[:len(place.line) - len(place.rest)])
-        return SOLIDS if is_file else at_place(place)
+        return SOLIDS if is_file else at_place(place) or of_names(re.findall(r'(\w+) \( "(?: \w+)?$', place.before), place)
     if cause == "Unexpected":
         called = re.findall(r"(\w+) \($", place.before)
-        return of_names(called + [place.word], place) or at_place(place) or behind(place) or at_start(place) or within(place)
+        return (of_names(called + [place.word], place) or of_call(place) or at_place(place) or behind(place)
+                or at_start(place) or within(place))
+    return ""
+
+
+def calls(before):
+    """The name before the bracket that is open last, with how many commas stand in it; and the name of a call that ends."""
+    words, stack, closed = before.split(), [], ""
+    for at, word in enumerate(words):
+        closed = ""
+        if word == "(":
+            stack.append([words[at - 1] if at else "", 0])
+        elif word == ")" and stack:
+            closed = stack.pop()[0]
+        elif word == "," and stack:
+            stack[-1][1] += 1
+    return stack[-1] if stack else ["", 0], closed
+
+
+def of_call(place):
+    """Of what stands in round brackets, and of braces behind them."""
+    (name, commas), closed = calls(place.before)
+    at = place.rest[:1]
+    if closed and at == "{":
+        return OPERATIONS.get(closed) or f"{closed}(..) has no body in braces; what follows is done in its scope: S(1r, 6, 1r) mass"
+    if at == "{":
+        return "braces belong to Subdiv, Repeat and Comp; items are grouped by square brackets"
+    if name in ("T", "S") and (at == ")" and commas < 2 or at == "," and commas == 2):
+        return f"{name} takes three values: {name}(x, y, z)"
+    is_value = re.match(r"\w", place.rest, re.ASCII) and place.word not in ("and", "or", "not", "r", "rx")
+    if name and is_value and re.search(r"[\w)\"]$", place.before, re.ASCII):
+        return "a comma stands between values"
     return ""
 
 

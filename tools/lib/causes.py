@@ -1,4 +1,5 @@
-"""What each cause of a refusal and each code of a fault means, in a sentence."""
+"""What each cause of a refusal and each code of a fault means, in a sentence, and what helps against a fault."""
+import re
 
 CAUSES = {  # {0} and {1} are what is told with the cause: an id, a name, or an id and a name
     "LineTooLong": "the line has more than 4,096 bytes",
@@ -55,3 +56,24 @@ CODES = {
     "TooManyParts": "the splits and components of one shape make more than 10,000 parts",
     "TooManyChildren": "one shape has more than 4,096 children",
 }
+HELPS = {
+    "TooDeep": "a condition that ends the recursion, and a rule for the rest: 1: row(n) : n > 0 -> tile row(n - 1) and 2: row(n) -> NIL",
+    "Unmatched": "a last rule of the symbol, with a greater number and without a condition",
+    "Overflow": "smaller numbers, or fewer decimals in divisors; a rule that doubles its numbers needs an end",
+    "ZeroDivide": "a condition before it, which keeps the divisor from 0: a : Scope.sx > 0 -> ..",
+    "NegativeSize": "a condition that keeps narrow shapes away: a : Scope.sx > 2 -> S(Scope.sx - 2, 1r, 1r) b",
+    "FlatScope": 'depth before it: S(1r, 1r, 0.1) I("cube"); a face is flat along its Z, so there I("quad") draws it as it is',
+    "PartNotPositive": "a rule before it for the shapes where the size comes to 0 or less: a : Scope.sx < 2 -> wall",
+    "SubdivSum": "one size with an r, which takes what the others leave; and a rule before it for shapes that are too narrow: a : Scope.sx < 8 -> wall",
+    "RepeatCount": "a greater length, or two steps: Repeat(\"X\", 100) { row } and in `row` the smaller one",
+    "TooManyParts": "a symbol of its own for what is in the parts, with a rule that splits on",
+    "TooManyChildren": "a symbol of its own for what is in the parts, with a rule that splits on",
+}
+INWARDS = re.compile(r"\bS\s*\([^()]*,\s*-[^(),]*\)", re.ASCII)
+
+
+def help_for(code, rules):
+    """What helps against a fault, where one of the symbol's rules stands in these lines."""
+    if code == "NegativeSize" and any(INWARDS.search(rule) for rule in rules):
+        return "to go inwards from a face by d: T(0, 0, -d) S(1r, 1r, d); a size is never below 0"
+    return HELPS.get(code, "")

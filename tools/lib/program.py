@@ -15,7 +15,7 @@ def take_program(words):
 
 def is_proved(program):
     """Whether a call replies line by line and at once; any other program than the launcher is taken to."""
-    return program != str(LAUNCHER) or subprocess.run([program, "--proved"]).returncode == 0
+    return program != str(LAUNCHER) or subprocess.run([program, "--proved"], stdout=subprocess.DEVNULL).returncode == 0
 
 
 def run(program, script):

@@ -1,10 +1,14 @@
-"""What is refused in a script, with its place and what to write, and the shapes that came to nothing with their rules."""
+"""What is refused in a script, with its place and what to write, the shapes that came to nothing with their rules, and what
+has no effect."""
 import re
 from collections import defaultdict
 
 from .advice import Place, advice
-from .causes import CAUSES, CODES
-from .script import EDITS, rule_of, tokens
+from .causes import CAUSES, CODES, help_for
+from .follows import Follows
+from .notes import by_symbol, notes
+from .script import rule_of, tokens
+from .standing import block, standing
 
 REFUSED = re.compile(r"# refused (\w+) ?(.*)")
 PLACE = re.compile(r"at (?:(\d+):)?(\d+)")
@@ -15,18 +19,19 @@ def readable(text):
     return text.encode("latin-1").decode("utf-8", "replace")
 
 
-class Report:
-    """A script's lines, and its commands with their replies."""
+def shortened(path):
+    return path if len(path) < 60 else path[:24] + ".."
 
-    def __init__(self, path, lines, commands, replies):
-        self.path, self.lines = path, lines
+
+class Report:
+    """A script's lines, and its commands with their replies; `ways` has for a shape that came to nothing the symbols above it."""
+
+    def __init__(self, path, lines, commands, replies, ways=None):
+        self.path, self.lines, self.ways = path, lines, ways or {}
         self.answers = list(zip(commands, replies))
         self.refused = [(command, *REFUSED.fullmatch(reply[0]).groups())
                         for command, reply in self.answers if reply[0].startswith("# refused ")]
-
-    def block(self, command):
-        """The places of the lines between a block's first and last one."""
-        return range(command.first + 1, min(command.last, len(self.lines)))
+        self.cause_of = Follows(lines, self.answers).cause_of
 
     def place(self, command, cause, rest):
         """The line and the column that a refusal means, and the words that it tells; no column is 0."""
@@ -46,7 +51,7 @@ class Report:
         """The line of a block with the rule of that id, the lot of that name or symbol, or the attribute."""
         if not words:
             return command.first
-        heads = {at: [word for _, word in tokens(self.lines[at])] for at in self.block(command)}
+        heads = {at: [word for _, word in tokens(self.lines[at])] for at in block(command, self.lines)}
         if words[0].isdigit():
             found = [at for at in heads if (rule_of(self.lines[at]) or [None])[0] == int(words[0])]
         elif cause == "NoSymbol":
@@ -69,52 +74,54 @@ class Report:
         if column and len(ahead) < WIDEST:
             yield "    " + re.sub(r"[^\t]", " ", ahead) + "^"
 
-    def rules(self):
-        """For each symbol the places of its rules' lines, as they stand at the script's end."""
-        past, future, now = [], [], {}
-        for command, reply in self.answers:
-            head = command.words[0] if command.words and reply[0] == "# ok" else ""
-            if head == "undo" and past:
-                future.append(now)
-                now = past.pop()
-            elif head == "redo" and future:
-                past.append(now)
-                now = future.pop()
-            elif head in EDITS:
-                past, future, now = past + [now], [], self.edited(now, command)
+    def refusals(self):
+        """All refusals but those that follow from another; how many follow is told with that one."""
+        following = defaultdict(list)
+        for first, cause in self.cause_of.items():
+            following[cause].append(first + 1)
+        for command, cause, rest in self.refused:
+            if command.first in self.cause_of:
+                continue
+            yield from self.refusal(command, cause, rest)
+            follow = following[command.first]
+            if follow[1:]:
+                yield f"    {len(follow)} further refusals follow from it, from line {follow[0]} on"
+            elif follow:
+                yield f"    a further refusal follows from it, in line {follow[0]}"
+
+    def way(self, lot, path, symbol, rules):
+        """The rules above a shape, from its lot on; each that may have made the next one."""
+        steps = [*self.ways.get((lot, path), []), symbol]
+        for made, (above, below) in enumerate(zip(steps, steps[1:])):
+            numbers = [str(rule.number) for rule, _ in rules.get(above, []) if below in rule.names]
+            if above != below or made == 0:
+                yield f"{above} (rule {' or '.join(numbers) or '?'})"
+
+    def faults(self, faults, rules):
+        """The lines that tell, for each symbol and code, how many shapes came to nothing, one of them, its rules and what helps."""
         found = defaultdict(list)
-        for _, (symbol, at) in sorted(now.items()):
-            found[symbol].append(at)
-        return found
-
-    def edited(self, rules, command):
-        """The rules by id, each with its symbol and its line, after an accepted edit."""
-        head = command.words[0]
-        if head == "drop":
-            return {number: rule for number, rule in rules.items() if number != int(float(command.words[1]))}
-        if head not in ("rules", "city", "put"):
-            return rules
-        places = [command.first] if head == "put" else self.block(command)
-        found = [(rule_of(self.lines[at]), at) for at in places]
-        return {**(rules if head == "put" else {}), **{rule[0]: (rule[1], at) for rule, at in found if rule}}
-
-    def faults(self, faults):
-        """The lines that tell, for each symbol and code, how many shapes came to nothing, one of them, and the rules."""
-        rules, found = self.rules(), defaultdict(list)
         for fault in faults:
             _, _, lot, path, symbol, code = fault.split()
-            found[symbol, code].append(f"{path if len(path) < 60 else path[:24] + '..'} in lot {lot}")
+            found[symbol, code].append((lot, path))
         for (symbol, code), shapes in found.items():
-            lines = rules.get(symbol, [])
+            own, (lot, path) = rules.get(symbol, []), shapes[0]
             many = f"{len(shapes)} shapes of `{symbol}`, such as" if shapes[1:] else f"a shape of `{symbol}`,"
-            first = lines[0] + 1 if lines else 1
-            yield f"{self.path}:{first}:1: {code}: {many} {shapes[0]}, came to nothing: {CODES.get(code, code)}"
-            for at in lines:
+            first = own[0][1] + 1 if own else 1
+            yield f"{self.path}:{first}:1: {code}: {many} {shortened(path)} in lot {lot}, came to nothing: {CODES.get(code, code)}"
+            for _, at in own:
                 yield f"    line {at + 1}: {self.lines[at].strip()}"
+            if (lot, path) in self.ways:
+                yield f"    on its way: {' > '.join([*self.way(lot, path, symbol, rules), symbol])}"
+            yield f"    what helps: {help_for(code, [self.lines[at] for _, at in own])}"
 
     def lines_for(self, faults):
         """All that there is to tell, a sum at the end."""
-        for command, cause, rest in self.refused:
-            yield from self.refusal(command, cause, rest)
-        yield from self.faults(faults)
-        yield f"{self.path}: {len(self.refused)} refused, {len(faults)} shapes came to nothing"
+        now = standing(self.lines, self.answers)
+        yield from self.refusals()
+        yield from self.faults(faults, by_symbol(now.rules))
+        told = [] if self.refused else notes(now)
+        for at, text in told:
+            yield f"{self.path}:{at + 1}:1: note: {text}"
+        follow = f" ({many} of them only follow)" if (many := len(self.cause_of)) else ""
+        noted = f", {len(told)} note{'s' * (len(told) > 1)}" if told else ""
+        yield f"{self.path}: {len(self.refused)} refused{follow}, {len(faults)} shapes came to nothing{noted}"

@@ -10,11 +10,14 @@ EDITS = "rules put drop attr priority lot unlot order city asset dress undress".
 LONGEST = 4096
 
 TOKEN = re.compile(r'\d+(?:\.\d+)?r?(?![A-Za-z_])|[A-Za-z_]\w*|"\w*"|->|==|!=|<=|>=|[^ \t]', re.ASCII)
+NAME = re.compile(r"[A-Za-z_]\w*", re.ASCII)
 BLANK = re.compile(r"[ \t]*(#.*)?")
 END = re.compile(r"[ \t]*end[ \t]*(#.*)?")
 
 # first and last are places in the list of lines; is_block says that lines stand between them
 Command = namedtuple("Command", "first last words is_block")
+# condition is its tokens, and names are all names in the condition and the bodies
+Rule = namedtuple("Rule", "number symbol parameters condition names")
 
 
 def lines_of(data):
@@ -93,10 +96,22 @@ def text_of(lines):
     return "".join(line + ("\r\n" if line.endswith("\r") else "\n") for line in lines).encode("latin-1")
 
 
-def rule_of(line):
-    """The id and the symbol of the rule in a line of a block or behind `put P`, else None."""
+def rule_in(line):
+    """The rule in a line of a block or behind `put P`, else None."""
     words = words_of(line)
     words = words[2:] if words[:1] == ["put"] else words
-    if len(words) > 2 and words[1] == ":" and re.fullmatch(r"\d+(\.0+)?", words[0]):
-        return int(words[0].split(".")[0]), words[2]
-    return None
+    if len(words) < 3 or words[1] != ":" or not re.fullmatch(r"\d+(\.0+)?", words[0]):
+        return None
+    rest, parameters = words[3:], []
+    if rest[:1] == ["("] and ")" in rest:
+        close = rest.index(")")
+        parameters, rest = rest[1:close:2], rest[close + 1:]
+    condition = rest[1:rest.index("->")] if rest[:1] == [":"] and "->" in rest else []
+    names = {word for before, word in zip(["", *rest], rest) if before != "." and NAME.fullmatch(word) and word not in RESERVED}
+    return Rule(int(words[0].split(".")[0]), words[2], parameters, condition, names)
+
+
+def rule_of(line):
+    """The id and the symbol of the rule in a line of a block or behind `put P`, else None."""
+    rule = rule_in(line)
+    return rule and (rule.number, rule.symbol)

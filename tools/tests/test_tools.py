@@ -170,7 +170,7 @@ class Lint(unittest.TestCase):
             with self.subTest(script.name):
                 status, said, _ = call("lint", "--program", TESTS / "stored", f"lint/{script.name}", stored=script.with_suffix(".replies"))
                 self.assertEqual(said, script.with_suffix(".said").read_text(encoding="utf-8"))
-                self.assertEqual(status, 0 if said.endswith(": 0 refused, 0 shapes came to nothing\n") else 1)
+                self.assertEqual(status, 0 if ": 0 refused, 0 shapes came to nothing" in said else 1)
 
     def test_each_cause_has_a_sentence(self):
         from lib.causes import CAUSES, CODES

@@ -4,6 +4,7 @@ one reply, whether a script is given at once or grows line by line.
 
 usage: tools/tests/with_program.py [--program PATH] [NUMBER [SEED]]
 """
+import re
 import sys
 import tempfile
 from pathlib import Path
@@ -16,7 +17,7 @@ import random_scripts  # noqa: E402
 from lib.program import run, take_program  # noqa: E402
 from lib.replies import replies  # noqa: E402
 from lib.report import Report  # noqa: E402
-from lib.script import commands, is_open, lines_of, text_of, without  # noqa: E402
+from lib.script import commands, is_open, is_version, lines_of, text_of, without  # noqa: E402
 from lib.session import Session  # noqa: E402
 
 STORED = [script for folder in ("examples", "rows") for script in sorted((TOP / folder).glob("*.cga"))]
@@ -32,8 +33,13 @@ def stored(program, script):
     """The replies that the linter's test rests on are the program's."""
     lines = without(lines_of(script.read_bytes()), "quiet", "print")
     asks = [] if any(is_open(command, lines) for command in commands(lines)) else ["faults"]
-    same(script.name, "the stored replies", run(program, text_of(lines + asks))[1],
-         script.with_suffix(".replies").read_text(encoding="latin-1").split("\n")[:-1])
+    kept = script.with_suffix(".replies").read_text(encoding="latin-1").split("\n")[:-1]
+    same(script.name, "the stored replies", run(program, text_of(lines + asks))[1], kept)
+    traces = script.with_suffix(".traced")
+    if traces.exists():
+        head = [] if is_version(commands(lines)[0].words) else ["version 2"]
+        same(script.name, "the stored trace", run(program, text_of(head + lines + ["trace"]))[1],
+             traces.read_text(encoding="latin-1").split("\n")[:-1])
 
 
 def grown(program, name, data):
@@ -49,7 +55,8 @@ def grown(program, name, data):
     same(name, "the faults", faults, all_faults)
     same(name, "the town", (town.texts, town.lots), (all_town.texts, all_town.lots))
     report = list(Report(name, said, found, answers).lines_for(faults))
-    same(name, "what was refused", sum(answer[0].startswith("# refused") for answer in answers), int(report[-1].split()[-7]))
+    same(name, "what was refused", sum(answer[0].startswith("# refused") for answer in answers),
+         int(re.search(r": (\d+) refused", report[-1]).group(1)))
 
 
 def quiet(program, name, data):

@@ -1,1 +1,2 @@
 setlocal commentstring=#\ %s comments=:#
+compiler cga_lint

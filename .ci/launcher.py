@@ -1,0 +1,231 @@
+#!/usr/bin/env python3
+"""The launcher, tried in a copy with three crates and a stand-in for rt that does in a second what rt does in an hour."""
+import os
+import shutil
+import signal
+import subprocess
+import unittest
+from pathlib import Path
+
+from launcher_copy import Copy, waits_for
+
+
+class Words(Copy):
+    def test_help(self):
+        self.call("--help")
+        self.check("help", self.status == 0)
+        heads = [line.split()[0] for line in self.out.splitlines() if line.startswith("  --")]
+        self.check("help tells each word", heads == ["--decimals", "--town", "--prove", "--proved", "--help"])
+
+    def test_wrong_words(self):
+        self.call("x")
+        self.replies("a wrong word", 2, "")
+        self.check("the usage comes first", self.err.splitlines()[0] == "usage: cga_city [--decimals N] [--town N]")
+        for words, why in (("--decimals 10", "from 0 to 9, and not '10'"), ("--decimals", "from 0 to 9"), ("--decimals 1 --decimals 1", "twice"),
+                           ("--town 0", "from 1 to 200"), ("--town 201", "from 1 to 200"), ("--town 2 x", "x is none"), ("--prove x", "--prove is none")):
+            self.call(*words.split())
+            self.replies(f"wrong words: {words}", 2, "")
+            self.says(f"why: {words}", why)
+        self.call(b"\xff")
+        self.replies("words that are no text", 7, "")
+        self.check("nothing is made or run for words", not (self.main / "out").exists() and not self.calls("try") + self.calls("run"))
+
+
+class Unproved(Copy):
+    def test_no_rt(self):
+        self.call(PATH="/usr/bin:/bin")
+        self.replies("no rt in the path", 1, "")
+        self.says("it is said", "rt isn't on the PATH")
+
+    def test_replies(self):
+        self.call("--proved")
+        self.replies("nothing is proved yet", 1, "not proved: cga_main isn't built yet\n")
+        self.call("--decimals", "2")
+        self.replies("an unproved reply", 0, "unproved --decimals 2\na script\n")
+        self.says("it says so", "UNPROVED")
+        self.says("and what to do", "./cga_city --prove")
+        self.call(STAND_IN="ends5")
+        self.replies("the status of an unproved run", 5, "unproved\na script\n")
+        self.says("what the run said", "cga_city: script too long")
+
+    def test_words_that_the_program_takes(self):
+        for words in (["--decimals=+007", "--town", "200"], ["--"], ["--decimals", "0", "--"]):
+            self.call(*words)
+            self.replies(f"words: {words}", 0, f"unproved {' '.join(words)}\n" + "a script\n" * ("--town" not in words))
+
+    def test_no_answer(self):
+        for how, names, text in (("long", ("no part of a long reply", "the limit is said"), "1 MiB"),
+                                 ("slow", ("a run past its time", "the time is said"), "took too long"),
+                                 ("refused", ("sources that are refused", "why they are"), "src/main.rt:7")):
+            self.call(STAND_IN=how)
+            self.replies(names[0], 1, "")
+            self.says(names[1], text)
+
+    def test_failing_ends(self):
+        folder = os.open(self.work, os.O_RDONLY)
+        self.addCleanup(os.close, folder)
+        self.call(script=folder)
+        self.replies("a folder as the script", 3, "")
+        with open("/dev/full", "wb") as full:
+            self.call(out=full)
+        self.check("a full disk", self.status == 4)
+
+    def test_from_elsewhere(self):
+        elsewhere = self.work / "elsewhere"
+        self.call(city="../a city, with spaces/cga_city", cwd=elsewhere, CDPATH=str(self.top))
+        self.replies("from another folder, with CDPATH", 0, "unproved\na script\n")
+        (elsewhere / "city").symlink_to(self.city)
+        self.call(city=elsewhere / "city")
+        self.replies("through a symbolic link", 0, "unproved\na script\n")
+        self.check("nothing is made beside the link", not [*(elsewhere / "crates").iterdir()])
+
+
+class Builds(Copy):
+    def test_a_failing_build(self):
+        self.call("--prove", STAND_IN="fails")
+        self.replies("a failing build", 1, "")
+        self.says("the log's end is shown", "a clause did not prove")
+        self.check("it proves nothing", not self.is_proved())
+
+    def test_a_late_log(self):
+        self.call("--prove", STAND_IN="late")
+        self.replies("a log that comes late", 1, "")
+        self.says("and is read when it is there", "a late clause did not prove")
+
+    def ends_by(self, number, words):
+        pid = self.work / "pid"
+        pid.unlink(missing_ok=True)
+        job = self.begin(*words, STAND_IN="hangs")
+        waits_for(lambda: pid.exists() and pid.read_text())
+        job.send_signal(number)
+        self.end(job)
+        self.replies(f"{number.name[3:]} of a call {' '.join(words)}", 128 + number, "")
+        self.check("it ends what it began", not Path("/proc", pid.read_text()).exists())
+        self.check("and leaves nothing", not [*(self.work / "elsewhere").glob("*city*")])
+
+    def test_signals(self):
+        for words in (["--prove"], []):
+            for number in (signal.SIGTERM, signal.SIGINT, signal.SIGHUP):
+                self.ends_by(number, words)
+
+    def test_a_signal_that_is_ignored(self):
+        job = self.begin(script=subprocess.PIPE, before=lambda: signal.signal(signal.SIGHUP, signal.SIG_IGN))
+        job.send_signal(signal.SIGHUP)
+        self.end(job)
+        self.replies("a call that nohup keeps", 0, "unproved\na script\n")
+
+
+class Proved(Copy):
+    """One build after the other, in the order of the names."""
+
+    def test_1_builds(self):
+        first = self.begin("--prove", SECONDS_A_CRATE="0.8")
+        waits_for(lambda: self.calls("run"))
+        second = self.begin("--prove")
+        self.call()
+        self.replies("a call beside a build", 0, "unproved\na script\n")
+        self.end(first)
+        self.check("the build", self.status == 0)
+        for part in ("crate 1 of 3, cga_word", "crate 2 of 3, cga_top", "crate 3 of 3, cga_main"):
+            self.says(part, part)
+        self.end(second)
+        self.check("a second build waits", self.status == 0)
+        self.says("and says so", "waiting for it")
+        self.check("one build is enough", self.calls("run") == ["cga_main"])
+
+    def test_2_replies(self):
+        self.call("--proved")
+        self.replies("it is proved", 0, "proved, of these sources\n")
+        self.call("--town", "3", "--decimals", "2")
+        self.replies("a proved reply", 5, "proved --town 3 --decimals 2\na script\n")
+        self.check("without a word beside", self.err == "")
+        self.call("--prove")
+        self.check("proved already", self.calls("run") == ["cga_main"])
+        self.check("at the first word", self.status == 0)
+        self.in_terminal()
+        self.check("from a terminal", self.status == 5)
+        self.says("it says how to end", "Ctrl-D")
+        read, write = os.pipe()
+        os.close(read)
+        self.call(out=write)
+        os.close(write)
+        self.check("nobody reads what comes out", self.status == -signal.SIGPIPE)
+
+    def test_3_edits(self):
+        source = self.main / "src" / "main.rt"
+        text = source.read_text()
+        source.touch()
+        self.check("a source that is touched", self.is_proved())
+        source.write_text(text + "// an edit\n")
+        self.call()
+        self.replies("after an edit", 0, "unproved\na script\n")
+        self.says("it says why", "crates/cga_main/src/main.rt has changed")
+        self.check("and proves nothing unasked", self.calls("run") == ["cga_main"])
+        self.in_terminal()
+        self.says("unproved from a terminal", "Ctrl-D")
+        source.write_text(text)
+        self.check("an edit that is taken back", self.is_proved())
+        times = source.stat()
+        source.write_text(text.swapcase())
+        os.utime(source, ns=(times.st_atime_ns, times.st_mtime_ns))
+        self.check("an edit that has the size and the time of before", not self.is_proved())
+        source.write_text(text)
+
+    def test_4_what_counts(self):
+        for name, counts in (("src/more.rt", True), ("proofs/More.antt", True), ("src/.main.rt.swp", False), ("must-fail", False)):
+            path = self.main / name
+            path.write_text("")
+            self.check(f"a new file {name}", self.is_proved() != counts)
+            path.unlink()
+        crates = self.top / "crates.txt"
+        text = crates.read_text()
+        crates.write_text("cga_far: cga_word\n" + text)
+        self.check("a crate that it doesn't stand on", self.is_proved())
+        crates.write_text(text.replace("cga_word: rand_core", "cga_word: rand_core rand_pcg"))
+        self.check("a crate that stands on another", not self.is_proved())
+        crates.write_text(text)
+        shutil.copytree(self.top, self.work / "clone", copy_function=shutil.copyfile)
+        (self.work / "clone" / "crates" / "cga_main" / "out" / "cga_main").chmod(0o755)
+        shutil.copymode(self.city, self.work / "clone" / "cga_city")
+        self.call("--proved", city=self.work / "clone" / "cga_city")
+        self.check("a clone with the program and its sums", self.status == 0)
+        program = self.main / "out" / "cga_main"
+        whole = program.read_bytes()
+        program.write_bytes(whole[:20])
+        self.check("another program in its place", not self.is_proved())
+        program.write_bytes(whole)
+
+    def edited_during_build(self, name, *texts):
+        source, number = self.main / "src" / "main.rt", len(self.calls("run"))
+        source.write_text(f"// edit {number}\n")
+        job = self.begin("--prove", SECONDS_A_CRATE="0.3")
+        waits_for(lambda: len(self.calls("run")) > number)
+        for text in texts:
+            source.write_text(text)
+        self.end(job)
+        self.check(f"{name} is said", self.status == 1 and "a source changed while the program was built" in self.err)
+        self.check(name, not self.is_proved())
+
+    def test_5_edits_during_a_build(self):
+        self.edited_during_build("an edit during the build", "// another\n")
+        self.edited_during_build("an edit that is taken back during the build", "// another\n", f"// edit {len(self.calls('run'))}\n")
+        self.call("--prove")
+        self.check("built again", self.is_proved())
+        (self.main / "src" / "main.rt").unlink()
+        self.call("--proved")
+        self.replies("a source that went", 1, "not proved: crates/cga_main/src/main.rt is gone\n")
+
+    def test_6_further_programs(self):
+        self.add_crate("cga_hulls")
+        with open(self.top / "crates.txt", "a") as file:
+            file.write("cga_hulls: cga_top\n")
+        number = len(self.calls("run"))
+        self.call("--prove")
+        self.check("each program is built", self.calls("run")[number:] == ["cga_main", "cga_hulls"])
+        self.says("and named", "proved and built: cga_main, cga_hulls")
+        self.call("--prove")
+        self.check("and no program twice", len(self.calls("run")) == number + 2)
+
+
+if __name__ == "__main__":
+    unittest.main()
