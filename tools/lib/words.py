@@ -2,6 +2,7 @@
 with a sentence and status 1, and neither with a trace of Python."""
 import argparse
 import os
+import re
 import sys
 
 from .call import Refused
@@ -47,9 +48,19 @@ def end_of(main, words, text):
         print(text.strip())
         status = 0
     else:
-        status = main(words.parse_args()) or 0
+        status = main(words.parse_args(joined(sys.argv[1:]))) or 0
     sys.stdout.flush()
     return status
+
+
+def joined(words):
+    """The words, where a number below 0 belongs to the word before it."""
+    found = []
+    for word in words:
+        if re.match(r"-[\d.]", word) and found and re.fullmatch(r"--[a-z]+", found[-1]):
+            word = f"{found.pop()}={word}"
+        found.append(word)
+    return found
 
 
 def said(name, text, status=1):
