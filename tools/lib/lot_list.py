@@ -1,8 +1,9 @@
 """Lots as a script has them, from parcels: the root of each, its numbers and which side is its front."""
 from collections import namedtuple
+from itertools import count
 
 from .call import Refused
-from .lot_names import is_name, unlike
+from .lot_names import is_name
 from .numerals import numeral
 from .words import told
 
@@ -58,14 +59,16 @@ def named_side(place, properties, side):
 
 def roots(lots, symbols):
     """For each lot the symbol of its root, and the rules that these symbols need beside the others."""
-    symbols, found, rules = set(symbols), {}, []
+    names, found, rules = (f"parcel_{number}" for number in count(1)), {}, []
     for lot in lots:
         kind = lot.call, lot.turns
-        if kind not in found:
-            found[kind] = lot.call if kind == (lot.call, 0) and is_name(lot.call) else unlike("parcel_1", symbols)
-            if found[kind] != lot.call:
-                symbols.add(found[kind])
-                rules.append((found[kind], TURNS[lot.turns].format(lot.call)))
+        if kind in found:
+            continue
+        if lot.turns == 0 and is_name(lot.call):
+            found[kind] = lot.call
+        else:
+            found[kind] = next(name for name in names if name not in symbols)
+            rules.append((found[kind], TURNS[lot.turns].format(lot.call)))
     return [found[lot.call, lot.turns] for lot in lots], rules
 
 

@@ -31,5 +31,6 @@ def near_pairs(groups, reach):
 
 def sentences(groups, reach):
     for one, two, far, parcel, other in near_pairs(groups, reach):
-        yield (f"parcels at {one.angle:g} and at {two.angle:g} degrees come as near as {far:.2f} (`{parcel.name}`, `{other.name}`): "
-               "they don't see each other by Scope.occ")
+        how = f"come as near as {far:.2f}" if far >= 0.005 else "touch or overlap"
+        yield (f"parcels at {one.angle:g} and at {two.angle:g} degrees {how} (`{parcel.name}`, `{other.name}`), and don't see each other "
+               "by Scope.occ")

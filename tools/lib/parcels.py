@@ -10,7 +10,7 @@ from .rectangle import area, away, corners, least_angle, room, sides, turned
 from .words import told
 
 # ring is the parcel's, in the plane of the map; call is how its root is called
-Parcel = namedtuple("Parcel", "number name text seed ring call side")
+Parcel = namedtuple("Parcel", "number name text seed ring call side limit")
 Group = namedtuple("Group", "angle parcels boxes lots")  # boxes in the frame that is turned by the angle
 
 
@@ -48,7 +48,8 @@ def parcels_of(features, roots, side):
         call, seed = roots.call(place, feature.properties), seed_of(place, feature.properties, feature.number)
         if area(feature.lines[0]) < 1e-6:
             raise Refused(f"{place}: the polygon has no area: its corners lie on one line, or its sides cross")
-        found.append(Parcel(feature.number, name, text, seed, feature.lines[0], call, named_side(place, feature.properties, side)))
+        found.append(Parcel(feature.number, name, text, seed, feature.lines[0], call,
+                            named_side(place, feature.properties, side), feature.properties.get("limit")))
     return found
 
 

@@ -58,7 +58,8 @@ class Run:
 
     def close(self):
         self.process.kill()
-        self.process.communicate()
+        self.process.wait()
+        self.process.stdout.close()
 
 
 def moved(lines, angle, shift):
