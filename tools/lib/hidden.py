@@ -8,8 +8,8 @@ from .eye import NOTHING, fill
 from .progress import Progress, counted
 from .projection import Face, behind
 
-CELLS = 2000  # along the longer side of the grid on which faces are looked for
 NEAR = 1e-6
+MOST_SPLITS = 20  # of one face: more are of no use to the eye
 
 
 def extent(faces):
@@ -18,10 +18,10 @@ def extent(faces):
     return min(us), min(vs), max(us), max(vs)
 
 
-def visible(faces):
-    """The faces that are the nearest in some cell of a grid."""
+def visible(faces, cells):
+    """The faces that are the nearest in some cell of a grid with so many cells along its longer side."""
     low_u, low_v, high_u, high_v = extent(faces)
-    scale = CELLS / max(high_u - low_u, high_v - low_v, NEAR)
+    scale = cells / max(high_u - low_u, high_v - low_v, NEAR)
     width, height = (math.ceil(scale * size) + 1 for size in (high_u - low_u, high_v - low_v))
     seen, near = array("l", [NOTHING]) * (width * height), [-1e30] * (width * height)
     for number, face in enumerate(counted(faces, "faces")):
@@ -108,17 +108,19 @@ def split(face, by):
 
 
 def uncrossed(faces):
-    """The faces, those that cross others in parts."""
-    crossed = defaultdict(list)
+    """The faces; of two that cross each other the smaller one is in parts."""
+    crossed, sizes = defaultdict(list), [(far_u - u) * (far_v - v) for u, v, far_u, far_v in boxes(faces)]
     for one, other in overlapping(faces):
         if first_of(faces[one], faces[other]) == 2:
-            crossed[other].append(one)
-    parts = []
-    for number, face in enumerate(faces):
-        some = [face]
-        for other in crossed.get(number, [])[:20]:
-            some = [part for one in some for part in (split(one, faces[other]) if side(one.corners, faces[other]) == 2 else [one])]
-        parts += some
+            small, large = sorted((one, other), key=lambda number: sizes[number])
+            crossed[small].append(large)
+    return [part for number, face in enumerate(faces) for part in parts_of(face, [faces[other] for other in crossed.get(number, ())])]
+
+
+def parts_of(face, others):
+    parts = [face]
+    for other in others[:MOST_SPLITS]:
+        parts = [part for one in parts for part in (split(one, other) if side(one.corners, other) == 2 else [one])]
     return parts
 
 

@@ -10,7 +10,7 @@ from .lots_csv import lots_of
 from .numerals import numeral, on_grid
 from .parcels import Group, groups, larger, parcels_of, renamed
 from .rectangle import area, room
-from .words import told
+from .words import cell, told
 
 # comment tells what the coordinates are
 Found = namedtuple("Found", "groups comment sentences")
@@ -78,7 +78,7 @@ def write_list(file, found):
     """A row for each parcel, in the order of the map: what the lot is called, and what the parcel measures."""
     out = csv.writer(file, lineterminator="\n")
     out.writerow(["lot", "feature", "name", "root", "angle", "area", "rectangle", "limit"])
-    rows = [(parcel.number, [lot.name, parcel.number, told(parcel.text), lot.call, f"{group.angle:g}", f"{area(parcel.ring):.2f}", f"{room(box):.2f}",
+    rows = [(parcel.number, [lot.name, parcel.number, cell(told(parcel.text)), lot.call, f"{group.angle:g}", f"{area(parcel.ring):.2f}", f"{room(box):.2f}",
                              numeral(parcel.limit) or ""])
             for group in found for parcel, box, lot in zip(group.parcels, group.boxes, group.lots)]
     out.writerows(row for _, row in sorted(rows))

@@ -9,6 +9,7 @@ SCALES = (20, 50, 100, 200, 500, 1000, 2000, 5000, 10000, 20000, 50000)
 PAPER = (390.0, 250.0)  # the room for a drawing on A3
 MARGIN, FOOT = 10.0, 24.0
 LARGEST = 5000.0
+CELLS = 2000
 THIN, SEAM, THICK = 0.08, 0.2, 0.35  # the seam closes what lies between two fills that touch
 INK = "#1a1a1a"
 
@@ -43,6 +44,10 @@ class Sheet:
 
     def place(self, point):
         return (point[0] - self.box[0]) * self.mm + self.left, (point[1] - self.box[1]) * self.mm + MARGIN
+
+    def cells(self):
+        """How many cells are looked at along the longer side, four for each millimetre."""
+        return math.ceil(min(CELLS, 4 * self.mm * max(self.box[2] - self.box[0], self.box[3] - self.box[1]))) + 1
 
     def text(self, point):
         return ",".join(map(short, self.place(point)))

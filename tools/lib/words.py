@@ -75,6 +75,11 @@ def told(text):
     return shown + ".." * (len(text) > 60)
 
 
+def cell(text):
+    """A stranger's name in a table: what a spreadsheet would take for a formula stays text."""
+    return "'" + text if text[:1] in ("=", "+", "-", "@", "\t", "\r") else text
+
+
 def number_in(low, high, kind=float):
     """A reader of a word that is a number from `low` to `high`."""
     def read(word):
