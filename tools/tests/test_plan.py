@@ -171,7 +171,11 @@ class Drawings(unittest.TestCase):
 
     def test_the_mark_of_a_section(self):
         self.draw(Drawn().lot("a").solid("wall", "cube", (0, 0, 0), (10, 5, 10)), "--mark", "-2,5,12,5", "--scale", "100", "--north", "-30")
-        self.assertEqual([text for text in self.texts() if text in "AB"], ["A", "B"])
+        marks = [text for text in self.svg.iter(SVG + "text") if text.text in "AB"]
+        self.assertEqual([text.text for text in marks], ["A", "B"])
+        self.assertAlmostEqual(float(marks[1].get("x")) - float(marks[0].get("x")), 140)
+        for text in marks:
+            self.assertTrue(3 < float(text.get("x")) < float(self.svg.get("width")[:-2]) - 3)
         self.assertIn("rotate(-30)", tree.tostring(self.svg, encoding="unicode"))
 
     def test_what_can_not_be_drawn(self):
