@@ -88,8 +88,10 @@ def seen(faces, symbol, depth, is_closed):
         if len(kept) < 3:
             continue
         up = normal(kept)
-        if up[2] > 1e-6 or up[2] < -1e-6 and not is_closed:
-            yield Face(kept, symbol, up if up[2] > 0 else tuple(-part for part in up))
+        if up[2] > 1e-6:
+            yield Face(kept, symbol, up)
+        elif up[2] < -1e-6 and not is_closed:  # all go round one way, so that none makes a hole in another
+            yield Face(kept[::-1], symbol, tuple(-part for part in up))
 
 
 def project(town, view, depth, lots=None):

@@ -11,7 +11,7 @@ from in_process import called
 from lib.colours import colour_of
 from lib.hidden import ordered, split, visible
 from lib.outline import outlines
-from lib.projection import Face, across, behind, loops, normal
+from lib.projection import Face, across, behind, loops, normal, seen
 
 SVG = "{http://www.w3.org/2000/svg}"
 
@@ -35,6 +35,13 @@ class Views(unittest.TestCase):
     def test_what_lies_behind_a_plane(self):
         self.assertEqual(behind([(0, 0, 0), (4, 0, 0), (4, 0, 4)], 1), [(0, 0, 0), (4, 0, 0), (4, 0, 1), (1, 0, 1)])
         self.assertEqual(behind([(0, 0, 2), (4, 0, 2), (4, 1, 2)], 1), [])
+
+    def test_both_sides_of_a_sheet_go_round_one_way(self):
+        # fills of one path that go round in two ways would make a hole where they overlap
+        ring = [(0, 0, 0), (4, 0, 0), (4, 3, 0), (0, 3, 0)]
+        faces = [face for corners in (ring, ring[::-1]) for face in seen([corners], "wall", 1, False)]
+        self.assertEqual([face.normal for face in faces], [(0, 0, 1)] * 2)
+        self.assertEqual([normal(face.corners) for face in faces], [(0, 0, 1)] * 2)
 
     def test_rings_of_segments(self):
         self.assertEqual(len(loops([((0, 0), (1, 0)), ((1, 1), (1, 0)), ((0, 0), (1, 1))])[0]), 3)
