@@ -1,4 +1,5 @@
 """Parcels of a map as lots: rectangles around them, in groups of one angle, with coordinates on a grid."""
+import math
 from collections import namedtuple
 
 from .call import Refused
@@ -7,6 +8,7 @@ from .lot_names import lot_names
 from .numerals import on_grid
 from .progress import counted
 from .rectangle import area, away, corners, least_angle, room, sides, turned
+from .streets import Streets
 from .words import told
 
 # ring is the parcel's, in the plane of the map; call is how its root is called
@@ -55,22 +57,14 @@ def parcels_of(features, roots, side):
 
 def front(parcel, box, angle, streets):
     """How many quarter turns bring the front to the side at high Z: the nearest to a street, or the one that looks where it is said."""
-    if parcel.side is None and streets:
+    if parcel.side is None and streets.segments:
         ring = corners(box, angle)
         middles = [((a[0] + b[0]) / 2, (a[1] + b[1]) / 2) for a, b in ((ring[2], ring[3]), (ring[1], ring[2]), (ring[0], ring[1]), (ring[3], ring[0]))]
-        near = near_segments(ring, streets)
+        middle = tuple((a + b) / 2 for a, b in zip(ring[0], ring[2]))
+        near = streets.near(middle, math.dist(middle, ring[0]))
         return min(range(4), key=lambda k: round(min(away(middles[k], *segment) for segment in near), 6))
     where = turned(parcel.side or COMPASS["south"], angle)
     return max(range(4), key=lambda k: round(sum(a * b for a, b in zip(OUTWARDS[k], where)), 9))
-
-
-def near_segments(ring, streets):
-    """The segments that can be the nearest to a point of the ring's sides."""
-    middle = tuple((a + b) / 2 for a, b in zip(ring[0], ring[2]))
-    half = away(middle, ring[0], ring[0])
-    far = [(away(middle, *segment), segment) for segment in streets]
-    least = min(far)[0]
-    return [segment for distance, segment in far if distance <= least + 2 * half]
 
 
 def snapped(boxes, snap, places):
@@ -99,11 +93,10 @@ def group(angle, parcels, streets, snap, places):
 
 def groups(parcels, streets, tolerance, snap, places):
     """The parcels by their angles, the group of most parcels first."""
-    segments = [segment for feature in streets for line in feature.lines for segment in zip(line, line[1:])]
-    found = {}
+    streets, found = Streets(streets), {}
     for parcel, angle in zip(parcels, shared_angles([least_angle(parcel.ring) for parcel in parcels], tolerance)):
         found.setdefault(angle, []).append(parcel)
-    return [group(angle, some, segments, snap, places) for angle, some in sorted(found.items(), key=lambda item: (-len(item[1]), item[0]))]
+    return [group(angle, some, streets, snap, places) for angle, some in sorted(found.items(), key=lambda item: (-len(item[1]), item[0]))]
 
 
 def larger(found):

@@ -34,6 +34,7 @@ def call(main, words, text):
     except BrokenPipeError:
         # whoever read has heard enough
         os.dup2(os.open(os.devnull, os.O_WRONLY), sys.stdout.fileno())
+        status = 0
     except OSError as fault:
         said(name, f"{fault.filename or 'output'}: {fault.strerror}")
     except (MemoryError, RecursionError):
@@ -48,6 +49,7 @@ def end_of(main, words, text):
         print(text.strip())
         status = 0
     else:
+        sys.stdout.reconfigure(encoding="utf-8", newline="\n")
         status = main(words.parse_args(joined(sys.argv[1:]))) or 0
     sys.stdout.flush()
     return status

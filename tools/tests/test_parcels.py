@@ -8,11 +8,13 @@ from pathlib import Path
 
 from in_process import TESTS, TOP, called
 
+from lib.geojson import Feature
 from lib.lot_names import lot_names
 from lib.mercator import metres
 from lib.numerals import numeral
 from lib.parcels import clusters, shared_angles
 from lib.rectangle import area, corners, distance, least_angle, sides, turned
+from lib.streets import Streets
 
 CUBES = str(TESTS / "cubes")
 RULES = """version 2
@@ -73,6 +75,11 @@ class Plane(unittest.TestCase):
 
     def test_angles_on_both_sides_of_a_quarter_turn_are_one(self):
         self.assertEqual(shared_angles([89.97, 0.03, 45], 0.1), [0, 0, 45])
+
+    def test_near_streets_are_those_of_all_that_can_be_the_nearest(self):
+        streets = Streets([Feature(1, [[(0.0, 0.0), (0.0, 3000.0)], [(40.0, -20.0), (40.0, -90.0)], [(9000.0, 0.0), (9000.0, 9.0)]], {})])
+        for point, half, known in (((10.0, 5.0), 8, 1), ((30.0, -30.0), 20, 2), ((8990.0, 5.0), 5, 1), ((500.0, 1500.0), 5, 1), ((4500.0, 1500.0), 5, 1), ((4500.0, 1500.0), 150, 2)):
+            self.assertEqual(len(streets.near(point, half)), known, point)
 
     def test_names(self):
         self.assertEqual(lot_names(["a b", "a_b", "a_b", "12/4", "Zürich", "T", "日本", "x" * 40, "x" * 40]),
