@@ -78,7 +78,7 @@ class Plane(unittest.TestCase):
 
     def test_near_streets_are_those_of_all_that_can_be_the_nearest(self):
         streets = Streets([Feature(1, [[(0.0, 0.0), (0.0, 3000.0)], [(40.0, -20.0), (40.0, -90.0)], [(9000.0, 0.0), (9000.0, 9.0)]], {})])
-        for point, half, known in (((10.0, 5.0), 8, 1), ((30.0, -30.0), 20, 2), ((8990.0, 5.0), 5, 1), ((500.0, 1500.0), 5, 1), ((4500.0, 1500.0), 5, 1), ((4500.0, 1500.0), 150, 2)):
+        for point, half, known in (((10.0, 5.0), 8, 1), ((30.0, -30.0), 20, 2), ((8990.0, 5.0), 5, 1), ((500.0, 1500.0), 5, 1), ((4500.0, 1500.0), 5, 1), ((4500.0, 1500.0), 150, 3)):
             self.assertEqual(len(streets.near(point, half)), known, point)
 
     def test_names(self):
