@@ -1,0 +1,57 @@
+"""The lines of faces that are drawn: edges between faces of one symbol in one plane aren't."""
+from collections import defaultdict
+
+
+def rounded(*numbers):
+    return tuple(round(number, 4) + 0.0 for number in numbers)
+
+
+def line_of(p, q):
+    """The line through two points: a key that both directions share, and where on it the points lie."""
+    along = tuple(b - a for a, b in zip(p, q))
+    size = sum(part * part for part in along) ** 0.5
+    along = tuple(part / size for part in along)
+    if rounded(*along) < (0.0, 0.0, 0.0):
+        along = tuple(-part for part in along)
+    start, end = (sum(a * b for a, b in zip(point, along)) for point in (p, q))
+    foot = tuple(a - start * b for a, b in zip(p, along))
+    return rounded(*along, *foot), along, foot, start, end
+
+
+def edges(faces):
+    """Of each line of a plane the pieces that faces of one symbol have on either side, and each edge with its face."""
+    pieces, found = defaultdict(lambda: ([], [])), []
+    for number, face in enumerate(faces):
+        plane = rounded(*face.normal, sum(a * b for a, b in zip(face.corners[0], face.normal)))
+        for p, q in zip(face.corners, face.corners[1:] + face.corners[:1]):
+            if sum(abs(a - b) for a, b in zip(p, q)) < 1e-6:
+                continue
+            key, along, foot, start, end = line_of(p, q)
+            pieces[face.symbol, plane, key][start > end].append((min(start, end), max(start, end)))
+            found.append((number, (face.symbol, plane, key), along, foot, start, end))
+    return pieces, found
+
+
+def without(piece, others):
+    """The parts of a piece that no other covers."""
+    low, high = piece
+    for start, end in sorted(others):
+        if end <= low + 1e-6 or start >= high - 1e-6:
+            continue
+        if start > low + 1e-6:
+            yield low, start
+        low = max(low, end)
+        if low >= high - 1e-6:
+            return
+    if high > low + 1e-6:
+        yield low, high
+
+
+def outlines(faces):
+    """For each face the segments of its edges that are drawn."""
+    pieces, found = edges(faces)
+    lines = [[] for _ in faces]
+    for number, key, along, foot, start, end in found:
+        for piece in without((min(start, end), max(start, end)), pieces[key][start < end]):
+            lines[number].append(tuple(tuple(f + at * a for f, a in zip(foot, along))[:2] for at in piece))
+    return lines

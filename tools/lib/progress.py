@@ -1,0 +1,31 @@
+"""How far work is, on standard error where that is a terminal, once it has taken more than two seconds."""
+import sys
+import time
+
+
+class Progress:
+    def __init__(self, what, of=None):
+        self.what, self.of = what, of
+        self.next = time.monotonic() + 2 if sys.stderr.isatty() else float("inf")
+        self.is_shown = False
+
+    def at(self, number):
+        now = time.monotonic()
+        if now < self.next:
+            return
+        self.next, self.is_shown = now + 0.5, True
+        of = f" of {self.of:,}" if self.of else ""
+        print(f"\r\033[K{self.what}: {number:,}{of}", end="", file=sys.stderr, flush=True)
+
+    def end(self):
+        if self.is_shown:
+            print("\r\033[K", end="", file=sys.stderr, flush=True)
+
+
+def counted(things, what):
+    """The same things, with how many were taken."""
+    progress = Progress(what, len(things))
+    for number, thing in enumerate(things):
+        progress.at(number)
+        yield thing
+    progress.end()
