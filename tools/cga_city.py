@@ -32,7 +32,7 @@ from lib.refusals import (  # noqa: F401  whoever imports a City catches them
     NoUndo, NoRedo, LongDump, UnknownLine, BadVertex, BadFace, TooManyVertices, TooManyFaces, NoFace, TooManyAssets,
     TooManyDresses, ModelTooLarge, NoAsset, NoDress,
     refused)
-from lib.script import commands, is_open, lines_of, text_of
+from lib.script import commands, is_open, lines_of, text_of, words_of
 
 LIVE = LAUNCHER.parent / "crates" / "cga_live" / "out" / "cga_live"
 FENCE, FENCE_REPLY = b"unlot 0\n", "# refused Unexpected at 7"  # a line that is refused at once ends whatever reply came before it
@@ -178,13 +178,15 @@ class City:
         found = cut(command)
         if len(found) != 1:
             raise ValueError(f"one command is asked at a time, and here are {len(found)}")
+        if is_passed_over(found[0]):
+            raise ValueError("a City needs each reply, and has said its version: leave out `quiet` and `version`")
         return self._exchange(found[0])
 
     def do(self, script: str) -> List[List[str]]:
         """Does lines and blocks one after the other, and raises the first refusal; the replies, but of `quiet` and `version`."""
         replies = []
         for lines in cut(script):
-            if lines[0].split("#")[0].split() in PASSED_OVER:
+            if is_passed_over(lines):
                 continue
             replies.append(self._exchange(lines))
             if replies[-1][0].startswith("# refused "):
@@ -238,6 +240,10 @@ def built(live: bool) -> str:
     if not live and not is_proved(str(LAUNCHER)):
         raise NotBuilt(f"the program isn't proved and built yet: {LAUNCHER} --prove")
     return str(LIVE if live else LAUNCHER)
+
+
+def is_passed_over(lines: List[str]) -> bool:
+    return words_of(lines[0]) in PASSED_OVER
 
 
 def cut(script: str) -> List[List[str]]:

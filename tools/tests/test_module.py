@@ -91,6 +91,8 @@ end
         for text in ("", "# x", "stats\nstats"):
             with self.assertRaisesRegex(ValueError, "one command"):
                 city.ask(text)
+        with self.assertRaisesRegex(ValueError, "leave out `quiet`"):
+            city.ask("quiet")
 
 
 class Refusals(Told):
