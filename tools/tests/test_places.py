@@ -8,6 +8,7 @@ import sys
 import tempfile
 import unittest
 from decimal import Decimal
+from itertools import product
 from pathlib import Path
 
 TESTS = Path(__file__).resolve().parent
@@ -98,6 +99,27 @@ class PutTogether(unittest.TestCase):
             list(places(Town("o a\ng b\nv 0 0 0\nv 1 0 0\nv 0 1 0\nf 1 2 3\n".split("\n"))))
         with self.assertRaisesRegex(Refused, "mirror image"):
             list(places(Town(solid_table.text([("a", "s", "shed", (0, 0, 0), [(1, 0, 0), (0, 1, 0), (0, 0, -1)], (4, 5, 3))]).split("\n"))))
+
+
+class OtherPrograms(unittest.TestCase):
+    """The table "Axes" of docs/ENGINES.md: each program's box, scaled, turned and moved, is the place's in its own axes."""
+
+    ROWS = {  # how a point comes over, and from the place's numbers the corner, the quaternion, the sizes, and where its box begins
+        "Blender": (lambda x, y, z: (x, -z, y), lambda x, y, z, w: (x, -z, y, w), lambda w, h, d: (w, d, h), (0, -1, 0)),
+        "Unity": (lambda x, y, z: (-x, y, z), lambda x, y, z, w: (x, -y, -z, w), lambda w, h, d: (w, h, d), (-1, 0, 0)),
+        "Unreal": (lambda x, y, z: (100 * x, 100 * z, 100 * y), lambda x, y, z, w: (-x, -z, -y, w), lambda w, h, d: (100 * w, 100 * d, 100 * h), (0, 0, 0)),
+    }
+
+    def test_each_program_has_the_same_box(self):
+        corner, size = (3, 4, 5), (2, 7, 0.5)
+        for over, turned, sized, low in self.ROWS.values():
+            for frame in solid_table.frames():
+                turn = quaternion([tuple(map(float, axis)) for axis in frame])
+                box = [tuple(part * share for part, share in zip(size, shares)) for shares in product((0, 1), repeat=3)]
+                wanted = {tuple(round(part, 6) + 0.0 for part in over(*(a + b for a, b in zip(by_quaternion(turn, point), corner)))) for point in box}
+                there = [tuple((a + b) * part for a, b, part in zip(low, shares, sized(*size))) for shares in product((0, 1), repeat=3)]
+                found = {tuple(round(a + b, 6) + 0.0 for a, b in zip(by_quaternion(turned(*turn), point), over(*corner))) for point in there}
+                self.assertEqual(found, wanted)
 
 
 # rules: house -> wall gap roof; wall -> I("cube") I("cube"); gap -> NIL; roof -> ridge I("quad"); ridge -> I("gable")
