@@ -34,13 +34,32 @@ def without(thing, symbols):
     mesh.free()
 
 
+def joined(parts):
+    """One mesh of all parts, each where it stands, with their materials."""
+    made, whole = bpy.data.meshes.new(parts[0].name), bmesh.new()
+    for part in parts:
+        part.data.transform(part.matrix_world)
+        first = len(whole.faces)
+        whole.from_mesh(part.data)
+        whole.faces.ensure_lookup_table()
+        for face in whole.faces[first:]:
+            face.material_index = slot_of(made, part.data.materials, face.material_index)
+        bpy.data.meshes.remove(part.data)  # and the part with it
+    whole.to_mesh(made)
+    whole.free()
+    return made
+
+
+def slot_of(mesh, materials, at):
+    material = materials[at] if materials else None
+    if material is not None and material.name not in mesh.materials:
+        mesh.materials.append(material)
+    return mesh.materials.find(material.name) if material is not None else 0
+
+
 def asset(path):
-    """One mesh of a file, and the matrix that fits it into the unit box, both with Z up."""
-    parts = imported(path)
-    with bpy.context.temp_override(active_object=parts[0], selected_editable_objects=parts):
-        bpy.ops.object.join()
-    mesh = parts[0].data
-    bpy.data.objects.remove(parts[0])
+    """The mesh of a file, with Z up, and the matrix that fits it into the unit box with Y up."""
+    mesh = joined(imported(path))
     corners = [TURN.inverted() @ vertex.co for vertex in mesh.vertices]
     low, high = (Vector(map(bound, zip(*corners))) for bound in (min, max))
     scale = Matrix.Diagonal([1 / (b - a) if b - a > FLAT else 1 for a, b in zip(low, high)]).to_4x4()
