@@ -1,25 +1,95 @@
-"""A colour for each symbol, the same in each tool and whatever else stands in the town."""
+"""A colour and perhaps a texture for each symbol, the same in each tool: from colours.json, and from a file of one's own.
+
+A file of one's own is a JSON object that CGA_COLOURS names. A key is a symbol or a word in one, and its value a colour, as
+"d6c4a4", or an object: {"colour": "b0695a", "texture": "brick.jpg", "size": [2.4, 1.2]}. The texture lies beside the file,
+and its size is the width and height in the town's unit that it covers; 1 by 1 if none is said.
+"""
 import colorsys
+import json
+import os
 import re
 import zlib
+from collections import namedtuple
+from functools import lru_cache
+from pathlib import Path
 
-KNOWN = {
-    "wall": "d6c4a4", "facade": "d6c4a4", "mass": "d0bea0", "house": "d0b694", "shop": "d0b694", "tower": "c9bda6",
-    "party": "b5a184", "brick": "b0695a", "stone": "b9b3a6", "base": "9b9488", "plinth": "9b9488", "column": "d9d3c6",
-    "window": "3e5c78", "glass": "54769a", "pane": "54769a", "frame": "ece6da", "shutter": "4f6b52", "door": "6e4a34",
-    "roof": "aa523c", "gable": "aa523c", "hip": "aa523c", "ridge": "8c4433", "chimney": "8a5a4a", "spire": "5e7476",
-    "ledge": "e4dac6", "cornice": "e4dac6", "balcony": "8d8f92", "rail": "55585c", "sign": "c9a13b", "awning": "b8433c",
-    "ground": "b4ad9c", "court": "b4ad9c", "pavement": "a9a9a6", "street": "7d7f83", "lawn": "8aa368", "garden": "8aa368",
-    "trunk": "7a5c40", "crown": "6b8f57", "tree": "6b8f57", "water": "7ea7c0",
-}
+from .call import Refused
+
+VARIABLE = "CGA_COLOURS"
+KNOWN = Path(__file__).parent / "colours.json"
+SHORTEST_PART = 4  # so that a ship has no hip
+
+Look = namedtuple("Look", "colour texture size")  # red, green and blue, 0 to 255; a path or none; width and height
+
+
+def look_of(symbol):
+    """How a symbol looks: by its whole name, else by its last word that is known, else by its bytes alone."""
+    return looks_of(os.environ.get(VARIABLE) or None).of(symbol)
 
 
 def colour_of(symbol):
-    """Red, green and blue, 0 to 255: of the last known word in the symbol, else by its bytes."""
-    for word in reversed(re.findall("[a-z]+", symbol.lower())):
-        known = KNOWN.get(word) or KNOWN.get(word.rstrip("s"))
-        if known:
-            return tuple(bytes.fromhex(known))
-    kind = zlib.crc32(symbol.encode())
+    """Red, green and blue, 0 to 255."""
+    return look_of(symbol).colour
+
+
+class Looks:
+    def __init__(self, own):
+        self.own = {} if own is None else read(Path(own))
+        self.words = {**read(KNOWN), **{name.lower(): look for name, look in self.own.items()}}
+
+    def of(self, symbol):
+        if symbol in self.own:
+            return self.own[symbol]
+        for word in reversed(re.findall("[a-z]+", symbol.lower())):
+            known = self.word(word)
+            if known:
+                return self.words[known]
+        return Look(colour_by_bytes(symbol), None, (1.0, 1.0))
+
+    def word(self, word):
+        """The known word that this one is or is the plural of, else one that it ends with, else the longest that is in it."""
+        for whole in (word, word[:-1] if word.endswith("s") else word):
+            if whole in self.words:
+                return whole
+        parts = [known for known in self.words if len(known) >= SHORTEST_PART and known in word]
+        return max(parts, key=lambda known: (word.endswith(known), len(known), word.rindex(known)), default=None)
+
+
+looks_of = lru_cache(maxsize=None)(Looks)
+
+
+def read(path):
+    """The looks that a file of colours tells."""
+    try:
+        told = json.loads(path.read_text(encoding="utf-8"))
+    except ValueError as fault:
+        raise Refused(f"{path} is no JSON: {fault}") from None
+    if not isinstance(told, dict):
+        raise Refused(f'{path} has to be an object of colours by words: {{"roof": "aa523c"}}')
+    return {name: look(path, name, entry) for name, entry in told.items()}
+
+
+def look(path, name, entry):
+    entry = {"colour": entry} if isinstance(entry, str) else entry
+    if not isinstance(entry, dict) or set(entry) - {"colour", "texture", "size"}:
+        raise Refused(f'{path}: "{name}" has a colour, or an object with colour, texture and size')
+    colour, texture, size = entry.get("colour", "ffffff"), entry.get("texture"), entry.get("size", [1, 1])
+    if not (isinstance(colour, str) and re.fullmatch("#?[0-9a-fA-F]{6}", colour)):
+        raise Refused(f'{path}: the colour of "{name}" has to be six hexadecimal digits, as "aa523c"')
+    if not (texture is None or isinstance(texture, str) and texture):
+        raise Refused(f'{path}: the texture of "{name}" has to be the name of a picture beside the file')
+    if not (isinstance(size, list) and len(size) == 2 and all(is_length(part) for part in size)):
+        raise Refused(f'{path}: the size of "{name}" has to be a width and a height above 0, as [2.4, 1.2]')
+    place = None if texture is None else path.parent / texture
+    return Look(tuple(bytes.fromhex(colour.lstrip("#"))), place, tuple(map(float, size)))
+
+
+def is_length(part):
+    return isinstance(part, (int, float)) and not isinstance(part, bool) and 0 < part < float("inf")
+
+
+def colour_by_bytes(symbol):
+    """A colour that only tells the symbol apart."""
+    kind = zlib.crc32(symbol.encode("utf-8", "surrogateescape"))
     hue, light = kind % 360 / 360, 0.62 + kind // 360 % 4 * 0.06
     return tuple(round(255 * part) for part in colorsys.hls_to_rgb(hue, light, 0.28))

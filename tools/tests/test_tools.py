@@ -19,7 +19,7 @@ from lib.replies import replies  # noqa: E402
 from lib.script import commands, is_open, lines_of, rule_of, text_of, tokens, without  # noqa: E402
 from lib.session import OPEN, Session  # noqa: E402
 
-TOOLS = [path for path in sorted((TOP / "tools").iterdir()) if path.is_file() and not path.name.startswith(".")]
+TOOLS = [path for path in sorted((TOP / "tools").iterdir()) if path.is_file() and not path.name.startswith(".") and path.suffix != ".py"]
 STAND_IN = str(TESTS / "stand_in")
 
 
@@ -196,17 +196,6 @@ class Shown(unittest.TestCase):
         for new, status, said in (("new.obj", 1, "diff.said"), ("old.obj", 0, "same.said")):
             self.assertEqual(call("diff", "old.obj", new), (status, (TESTS / said).read_text(encoding="utf-8"), ""))
 
-    def test_merge(self):
-        merged = self.folder / "merged.obj"
-        self.assertEqual(call("merge", "old.obj", merged), (0, f"{merged}: 4 meshes of 5 solids\n", ""))
-        old, new = read_town(TESTS / "old.obj"), read_town(merged)
-        for lot in old.lots:
-            faces = [sorted((solid.symbol, face) for solid in town.lots[lot] for face in solid.faces) for town in (old, new)]
-            self.assertEqual(*faces)
-        materials = re.findall("^newmtl (.*)", merged.with_suffix(".mtl").read_text(encoding="utf-8"), re.MULTILINE)
-        self.assertEqual(set(materials), set(re.findall("^usemtl (.*)", merged.read_text(encoding="utf-8"), re.MULTILINE)))
-        self.assertEqual(call("merge", "old.obj", "old.obj")[0], 2)
-
     def test_view(self):
         target = self.folder / "page.html"
         self.assertEqual(call("view", "old.obj", target), (0, "", ""))
@@ -224,7 +213,7 @@ class Shown(unittest.TestCase):
         self.assertEqual([call("picture", "old.obj", target, *words)[0] for words in (["x"], ["top", "bird"], ["40x20", "40x20"])], [2, 2, 2])
 
     def test_nothing_drawn(self):
-        for tool in ("view", "picture", "merge"):
+        for tool in ("view", "picture"):
             self.assertEqual(call(tool, "same.said", self.folder / "x")[0], 2)
 
     def test_each_picture_can_be_made(self):
@@ -243,7 +232,7 @@ class Manners(unittest.TestCase):
                 self.assertEqual(call(tool.name, "--what")[0], 2)
 
     def test_a_file_that_is_not_there(self):
-        for tool, others in (("lint", []), ("view", ["x"]), ("picture", ["x"]), ("diff", ["x"]), ("merge", [])):
+        for tool, others in (("lint", []), ("view", ["x"]), ("picture", ["x"]), ("diff", ["x"])):
             status, said, fault = call(tool, "nowhere", *others)
             self.assertEqual((status, said, fault), (2, "", f"{tool}: nowhere: No such file or directory\n"))
 

@@ -169,9 +169,8 @@ impl City {
                 self.warm = true;
                 Ok(())
             }
-            // the sources are within the budget
-            Err(UpdateRefused::OverBudget) => unreachable!(),
-            Err(UpdateRefused::NoMemory) => Err(NoMemory),
+            // Not for the budget, which the sources are within.
+            Err(_) => Err(NoMemory),
         }
     }
 

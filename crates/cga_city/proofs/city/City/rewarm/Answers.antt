@@ -1,6 +1,3 @@
-use Rattle.std.proofs.Common.{◌∙◌, sym, None}
-use Rattle.cga_fraction.proofs.Door.{None-not-Some}
-use Rattle.cga_city.proofs.Deriving.{is_derived}
 use Rattle.cga_city.proofs.Names.{names_differ}
 use Rattle.cga_city.proofs.Valid.{sound_valid}
 use Rattle.cga_city.proofs.Warming.{warmed}
@@ -19,8 +16,3 @@ pub returns-in-Ok-clause-spent : goal.returns-in-Ok-clause-spent
 returns-in-Ok-clause-spent g c = λ cold.
     let exact = rw c.empty_sources-empty.ensures at c.in-Ok.ensures.exact in
     rw (← c.self.view_is) (warmed c.self.inside.sources c.self.inside.budget c.in-Ok.field-0 _ _ c.self.inside.expanded c.self.inside.warm c.self.inside.changes _ c.self.invariant.sound exact c.in-Ok.ensures.spent)
-
-pub unreachable-requires : goal.unreachable-requires
-unreachable-requires g c =
-    None-not-Some c.self.invariant.within.0
-    (sym (is_derived c.self.inside.budget c.self.inside.sources None c.in-Err-OverBudget.ensures.over) ∙ c.self.invariant.within.1)

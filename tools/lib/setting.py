@@ -1,0 +1,50 @@
+"""Where a town is set in another program: what is taken off its coordinates, and how long its unit is."""
+import math
+from collections import namedtuple
+from decimal import Decimal, InvalidOperation
+
+from .call import Refused
+
+FAR = 10_000  # farther out, floats of 32 bits are apart by more than a thousandth
+STEP = 1_000
+
+Setting = namedtuple("Setting", "offset metres")  # decimals: three in the town's unit, and one
+
+
+def add_words(parser):
+    parser.add_argument("--offset", nargs=3, metavar=("X", "Y", "Z"), type=number, help="what is taken off all coordinates, in the town's unit; "
+                        "if it isn't said, nothing, or of a town farther out than 10,000 its low corner in whole thousands")
+    parser.add_argument("--metres", type=number, default=Decimal(1), metavar="N", help="how many metres the town's unit is long; 1 if it isn't said")
+
+
+def number(text):
+    try:
+        value = Decimal(text)
+    except InvalidOperation:
+        value = Decimal("nan")
+    if not value.is_finite():
+        raise ValueError
+    return value
+
+
+def setting_of(town, words):
+    """The setting that the words say, or that fits the town."""
+    if words.metres <= 0:
+        raise Refused("--metres has to be above 0")
+    return Setting(tuple(words.offset) if words.offset else tuple(map(far, zip(*town.points))), words.metres)
+
+
+def far(coordinates):
+    low, high = min(coordinates), max(coordinates)
+    return Decimal(math.floor(low / STEP) * STEP if max(abs(low), abs(high)) > FAR else 0)
+
+
+def plain(value):
+    """A decimal's text, without an exponent and without zeros at its end."""
+    text = f"{value:f}"
+    text = text.rstrip("0").rstrip(".") if "." in text else text
+    return "0" if text == "-0" else text
+
+
+def told(setting):
+    return f"offset {' '.join(map(plain, setting.offset))}, 1 unit = {plain(setting.metres)} m"
