@@ -1,0 +1,49 @@
+"""Replies to a script as cga_city does, by the definitions alone, and slowly."""
+import argparse
+import os
+import sys
+
+from .output import effects_of
+from .town import town_text
+
+
+def between(least, most):
+    def number(text):
+        if not (text.isascii() and text.isdigit() and least <= int(text) <= most):
+            raise argparse.ArgumentTypeError(f"{text!r} isn't a number from {least} to {most}")
+        return int(text)
+    return number
+
+
+def words():
+    parser = argparse.ArgumentParser(prog="define", description=__doc__, epilog="A script is read as far as it goes: what is "
+                                     "refused in it, or open at its end, is replied to as the language says.")
+    parser.add_argument("script", nargs="?", default="-", metavar="SCRIPT", help="a file; standard input where none is given")
+    parser.add_argument("--decimals", type=between(0, 9), default=6, metavar="N", help="of coordinates, 0 to 9; else 6")
+    parser.add_argument("--town", type=between(1, 200), metavar="N", help="the script of a town of 1 to 200 lots, in place of one")
+    return parser.parse_args()
+
+
+def script_of(given):
+    if given.town is not None:
+        return town_text(given.town)
+    with open(0 if given.script == "-" else given.script, "rb") as file:
+        return file.read().decode("latin-1")
+
+
+def main():
+    given = words()
+    try:
+        for _, reply in effects_of(given.decimals, script_of(given)):
+            sys.stdout.buffer.write(reply.encode("latin-1"))
+            sys.stdout.buffer.flush()
+    except BrokenPipeError:
+        os.dup2(os.open(os.devnull, os.O_WRONLY), sys.stdout.fileno())
+    except OSError as fault:
+        sys.exit(f"define: {fault.filename or 'output'}: {fault.strerror}")
+    except KeyboardInterrupt:
+        sys.exit(130)
+
+
+if __name__ == "__main__":
+    main()
