@@ -33,12 +33,19 @@ def turned(frame, axis, by):
     return frame
 
 
+def moved_along(at, direction, by):
+    """A point moved along one direction."""
+    axis, sign = direction
+    world = list(at)
+    world[axis] = world[axis] + by if sign == 1 else world[axis] - by
+    return tuple(world)
+
+
 def place_of(at, frame, local):
     """The world point of local coordinates."""
-    world = list(at)
-    for (axis, sign), by in zip(frame, local):
-        world[axis] += sign * by
-    return tuple(world)
+    for direction, by in zip(frame, local):
+        at = moved_along(at, direction, by)
+    return at
 
 
 def point_in_range(point):
@@ -100,26 +107,15 @@ def turned_scope(scope, axis, by):
     return existing(Scope(scope.at, turned(scope.frame, axis, by), scope.size))
 
 
-def along(axis, value):
-    """The point with this coordinate along an axis, and 0 along the others."""
-    return tuple(value if each == axis else 0 for each in AXES)
-
-
 def part_of(scope, axis, start, length):
     """Moved along an axis, with that length along it."""
     size = tuple(length if each == axis else scope.size[each] for each in AXES)
-    return existing(Scope(place_of(scope.at, scope.frame, along(axis, start)), scope.frame, size))
+    return existing(Scope(moved_along(scope.at, scope.frame[axis], start), scope.frame, size))
 
 
 def along_meets(low, high, lower, upper):
-    """The relative interiors share a point: all that is strictly between, or the one point where both ends are one."""
-    if low == high and lower == upper:
-        return low == lower
-    if low == high:
-        return lower < low < upper
-    if lower == upper:
-        return low < lower < high
-    return low < upper and lower < high
+    """The relative interiors share a point: they overlap, or they are one, as where both are flat."""
+    return low < upper and lower < high or low == lower and high == upper
 
 
 def along_holds(low, high, lower, upper):
@@ -127,9 +123,13 @@ def along_holds(low, high, lower, upper):
 
 
 def meets(a, b):
-    return all(along_meets(a.low[axis], a.high[axis], b.low[axis], b.high[axis]) for axis in AXES)
+    return (along_meets(a.low[X], a.high[X], b.low[X], b.high[X])
+            and along_meets(a.low[Y], a.high[Y], b.low[Y], b.high[Y])
+            and along_meets(a.low[Z], a.high[Z], b.low[Z], b.high[Z]))
 
 
 def holds(a, b):
     """Each point of b lies in a."""
-    return all(along_holds(a.low[axis], a.high[axis], b.low[axis], b.high[axis]) for axis in AXES)
+    return (along_holds(a.low[X], a.high[X], b.low[X], b.high[X])
+            and along_holds(a.low[Y], a.high[Y], b.low[Y], b.high[Y])
+            and along_holds(a.low[Z], a.high[Z], b.low[Z], b.high[Z]))
