@@ -3,6 +3,7 @@ import argparse
 import os
 import sys
 
+from .clock import Clock
 from .output import effects_of
 from .town import town_text
 
@@ -31,12 +32,19 @@ def script_of(given):
         return file.read().decode("latin-1")
 
 
+def reply_to(script, decimals, clock):
+    """Writes the reply to each line before the next one."""
+    for at, (_, reply) in enumerate(effects_of(decimals, script), 1):
+        clock.at = f"{at} lines of the script"
+        sys.stdout.buffer.write(reply.encode("latin-1"))
+        sys.stdout.buffer.flush()
+
+
 def main():
     given = words()
     try:
-        for _, reply in effects_of(given.decimals, script_of(given)):
-            sys.stdout.buffer.write(reply.encode("latin-1"))
-            sys.stdout.buffer.flush()
+        with Clock("define") as clock:
+            reply_to(script_of(given), given.decimals, clock)
     except BrokenPipeError:
         os.dup2(os.open(os.devnull, os.O_WRONLY), sys.stdout.fileno())
     except OSError as fault:

@@ -122,6 +122,6 @@ def apply(sources, edit, budget):
     """The new sources, or the first refusal; the budget is the last."""
     word, said = edit
     new = EDITS[word](sources, said)
-    if derived(new, budget) is None:
+    if derived(budget, new) is None:
         raise Refused("OverBudget")
     return new

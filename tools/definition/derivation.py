@@ -95,7 +95,7 @@ class Configuration:
 
 
 @lru_cache(maxsize=4)
-def derived(sources, budget):
+def derived(budget, sources):
     """The derivation of the sources from nothing; None where a configuration with more members than the budget is reached.
     The last few are remembered, since each line asks for those of the sources before it again."""
     configuration, steps = Configuration(sources), []
@@ -104,10 +104,10 @@ def derived(sources, budget):
     return None if len(configuration.members) > budget else Derivation(configuration.members, steps)
 
 
-def members(sources, budget):
-    return derived(sources, budget).members
+def members(budget, sources):
+    return derived(budget, sources).members
 
 
 def run_to(sources, budget):
     """The steps until nothing waits."""
-    return derived(sources, budget).steps
+    return derived(budget, sources).steps

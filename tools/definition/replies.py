@@ -29,7 +29,7 @@ def budget_of(s):
 
 def derived(s):
     """The members of the derivation of the current sources."""
-    return members(s.sources, budget_of(s))
+    return members(budget_of(s), s.sources)
 
 
 # ---- edits

@@ -5,7 +5,7 @@ from .derivation import INSTANCE, members, run_to
 
 def non_instances(sources, budget):
     """By lot and path."""
-    return {(member.shape.lot, member.shape.path): member.shape for member in members(sources, budget) if member.kind != INSTANCE}
+    return {(member.shape.lot, member.shape.path): member.shape for member in members(budget, sources) if member.kind != INSTANCE}
 
 
 def answered(sources, budget):
