@@ -55,7 +55,7 @@ def why_outcome(configuration, step):
     except Fault as fault:
         return f"the outcome is {fault.code}, while the conditions of {step.shape.symbol} are tried"
     by = f"by rule {rule.id}, the first of {step.shape.symbol} whose condition holds"
-    return f"the outcome is {step.outcome}{' children' if isinstance(step.outcome, int) else ''}, {by}"
+    return f"the outcome is {step.outcome}{', the number of children' if isinstance(step.outcome, int) else ''}, {by}"
 
 
 # ---- another shape is next
