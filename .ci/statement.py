@@ -5,13 +5,12 @@ The definitions are taken from the crates' specs/ by file and name, each with th
 run_city from its source. With --check nothing is written: the exit status is 0 where the page is as the files say, else 1.
 """
 import argparse
-import re
 import sys
 from pathlib import Path
 
-TOP = Path(__file__).resolve().parent.parent
+from specs import TOP, Missing, Specs, definition
+
 PAGE = TOP / "docs" / "STATEMENT.md"
-HEAD = re.compile(r"(\s*)(?:(?:abbrev|unfoldable) pub|pub (?:record|data)|pub) (\S+)(?=[\s]|$)")
 CONTRACT = "run_city"
 
 INTRODUCTION = """# The statement
@@ -31,6 +30,8 @@ stands, down to the derivation of a town from nothing. [The guided hour](GUIDED_
 | `λ x. e` | the function that gives e of an x |
 | `A × B`, `A ⊎ B`, `⊥`, `a ≡ b` | both, one of them, never, equal |
 | `codes "text"` | the bytes of a text |
+| `derivation`, in section 8 | the one that the definitions there are about; section 9 says which it is for sources |
+| `Type 0` at the end of a type | what is defined is a statement, and not a value |
 """
 
 # each section: its title, what it says, and the definitions by file and name
@@ -79,8 +80,8 @@ SECTIONS = [
         ("cga_city/specs/Derived.antt", ("members", "is_within", "derived")),
     ]),
     ("What a derivation is", "One plain list: at each step the waiting member of least rank is taken, answered and expanded.", [
-        ("cga_derivation/specs/Derivation.antt", ("derive", "reached", "start", "step", "step_by", "next_of", "is_next", "first_of",
-                                                  "rank_of", "outcome", "asked", "told", "become", "same_place", "Derivation")),
+        ("cga_derivation/specs/Derivation.antt", ("Derivation", "derive", "reached", "start", "step", "step_by", "next_of", "is_next",
+                                                  "first_of", "rank_of", "outcome", "asked", "told", "become", "same_place")),
         ("cga_order/specs/Rank.antt", ("Rank", "rank_cmp", "by_priority", "by_depth", "by_place")),
         ("cga_order/specs/World.antt", ("is_waiting", "shapes_where")),
     ]),
@@ -104,49 +105,18 @@ SECTIONS = [
 ]
 
 
-class Missing(Exception):
-    """A definition isn't where the list says."""
+# what the headline's sentence names, and the sentence behind the page
+FIRST = [(("cga_top", "Runs"), "script_of"), (("cga_top", "Output"), "output_of"), (("cga_words", "Words"), "decimals_of"),
+         (("cga_words", "Words"), "town_of")]
+LEAVES = """
+## The leaves
 
+What the headline reaches beyond this page: how lines are read, what one expansion does, and what texts look like. Lines are
+counted without comments and empty ones. The guided hour says of each crate where to look first.
 
-def indent_of(line):
-    return len(line) - len(line.lstrip(" "))
-
-
-def head_of(lines, name):
-    """The line at which a definition of this name begins: rather one with a word before its name than a bare one."""
-    found = [(match.group(0).split()[0:2] == ["pub", name], at) for at, line in enumerate(lines)
-             for match in [HEAD.match(line)] if match and match.group(2) == name]
-    if not found:
-        raise Missing
-    return min(found)[1]
-
-
-def end_of(lines, at):
-    """Behind the last line of the definition that begins here: deeper lines, its equations, and a bracket that closes."""
-    indent, name = indent_of(lines[at]), HEAD.match(lines[at]).group(2)
-    end = at + 1
-    while end < len(lines):
-        line = lines[end].strip()
-        if line and indent_of(lines[end]) <= indent and not (line.startswith(name + " ") or line[0] in "})]"):
-            break
-        end += 1
-    while not lines[end - 1].strip():
-        end -= 1
-    return end
-
-
-def comment_above(lines, at):
-    """The first line of the comment directly above; the line itself where there is none."""
-    first = at
-    while first > 0 and lines[first - 1].startswith(" " * indent_of(lines[at]) + "-- ") and "-- ----" not in lines[first - 1]:
-        first -= 1
-    return first
-
-
-def definition(lines, name):
-    at = head_of(lines, name)
-    taken = lines[comment_above(lines, at):end_of(lines, at)]
-    return [line[indent_of(lines[at]):] for line in taken]
+| Crate | Definitions | Lines |
+|---|---|---|
+"""
 
 
 def contract():
@@ -180,13 +150,26 @@ def blocks(listed):
         yield path, "haskell", taken[:-1]
 
 
+def leaves():
+    """The table of what the output reaches and this page hasn't, by crate."""
+    specs = Specs()
+    shown = {((file.split("/")[0], Path(file).stem), name) for _, _, listed in SECTIONS for file, names in listed for name in names}
+    counts = {}
+    for file, name in specs.reached(FIRST) - shown:
+        number, lines = counts.get(file[0], (0, 0))
+        counts[file[0]] = (number + 1, lines + len(specs.text(file, name)))
+    rows = [f"| {crate} | {number} | {lines} |\n" for crate, (number, lines) in sorted(counts.items())]
+    number, lines = (sum(column) for column in zip(*counts.values()))
+    return LEAVES + "".join(rows) + f"| all | {number} | {lines} |\n"
+
+
 def page():
     text = INTRODUCTION
     for number, (title, sentence, listed) in enumerate(SECTIONS, 1):
         text += f"\n## {number}. {title}\n\n{sentence}\n"
         for path, language, lines in blocks(listed):
             text += f"\n`{path.relative_to(TOP)}`\n\n```{language}\n" + "\n".join(lines) + "\n```\n"
-    return text
+    return text + leaves()
 
 
 def main():
