@@ -23,11 +23,11 @@ import random_scripts  # noqa: E402
 from definition.output import output_of  # noqa: E402
 from definition.town import town_text  # noqa: E402
 
-LIMIT = 20  # seconds of processor for a script
-RANDOM, STREETS, EDITS = 80, 40, 25
+LIMIT = 30  # seconds of processor for a script
+RANDOM, STREETS, EDITS = 100, 50, 25
 MOST_LATE = 8  # scripts that may take longer than the limit, on a slow machine
-# they take longer than ten seconds: mostly since each shape that asks is compared with all
-LEFT_OUT = ("village", "twelve_lots_in_a_row", "office")
+# they take some twenty seconds each, since each shape that asks is compared with all
+LEFT_OUT = ("village", "twelve_lots_in_a_row")
 
 
 class Late(Exception):

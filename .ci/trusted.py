@@ -20,7 +20,8 @@ WORDS = {
              "assumed but the contracts of C functions",
     "functions": None,
     "axioms": "on the contracts of how many C functions the proof rests; they stand below, and are taken as written",
-    "target": "the processor and the system that the program is built for; nothing is proved of them",
+    "target": "the system that the program is built for; nothing is proved of it",
+    "cpu": "the processors that it is built for; likewise",
     "sum": "the sum of the program logic, the rules by which code is given its meaning; it is that of the kit",
     "native": "the checker computes with large numbers by GMP, and compares characters and texts in its own code: both are trusted",
     "logic-built": "the modules of the program logic were checked when the kit was made, and are taken from there",
@@ -84,10 +85,10 @@ def words_of(log):
 def reached_in(log):
     """The C functions that the report marks, by the crate that declares them, as many as it counts."""
     reached = {}
-    for match in re.finditer(r"^axioms (\S+): (\d+) reached of the (\d+) declared\n((?:(?!axioms |logic=).*\n)*)", log, re.MULTILINE):
-        crate, number, _, rest = match.groups()
+    for match in re.finditer(r"^axioms (\S+): (\w+) reached of the \d+ declared\n((?:  .*\n)*)", log, re.MULTILINE):
+        crate, number, rest = match.groups()
         names = [line.split()[0] for line in rest.splitlines() if re.search(r"\breached$", line)]
-        if len(names) != int(number):
+        if number != (str(len(names)) if names else "none"):
             raise Unread(f"rt counts {number} C functions of {crate} as reached, and marks {len(names)}")
         reached[crate] = names
     return reached

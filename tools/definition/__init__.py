@@ -21,6 +21,6 @@ In the order of the statement:
     touched     which shapes an edit touches
     reports     instances, faults, counts and their texts
 
-and below them the leaves: fraction, frame, split, comp, solid, word, check, lexer, form, parser, command, syntax, rule,
-asset, bill, town, fault.
+and below them the leaves: sources, rule, check, fraction, frame, split, comp, solid, word, lexer, form, parser, command,
+syntax, asset, bill, town, fault. judge and reason are tools/judge, __main__ is tools/define, and clock tells how far they are.
 """

@@ -26,7 +26,8 @@ def sums_of(drawn):
 
 def bill_of(drawn):
     """By the bytes of the symbols."""
-    return {symbol: sums_of([each for each in drawn if each.symbol == symbol]) for symbol in sorted({each.symbol for each in drawn})}
+    symbols = sorted({each.symbol for each in drawn})
+    return {symbol: sums_of([each for each in drawn if each.symbol == symbol]) for symbol in symbols}
 
 
 def bill_text_of(bill):

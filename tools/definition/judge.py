@@ -11,9 +11,9 @@ from .reason import reason_for
 from .replies import run_of
 from .run import judged
 
-EPILOG = """SCRIPT is a script of version 2. TRACE is what its sources' `trace` wrote; of a file of replies the last trace counts. The
-exit status is 0 where the trace is the run, 1 where it isn't or a file can't be taken, 2 for other words, and 3 where the
-judge ended early and hasn't judged."""
+EPILOG = """SCRIPT is a script of version 2. TRACE is what the command `trace` wrote behind it; of a file of replies the last
+trace counts. The exit status is 0 where the trace is the run, 1 where it isn't or a file can't be taken, 2 for other words,
+and 3 where the judge ended early and hasn't judged."""
 NO_TEXT = re.compile(r"[\x00-\x08\x0b\x0c\x0e-\x1f\x7f]")
 
 
@@ -66,7 +66,8 @@ def state_of(name, text, clock):
         clock.at = f"line {min(at + 1, number)} of {number} of the script"
         opened = None if state.block is None else opened or at
     if state.block is not None:
-        raise BadInput(name, opened, f"the script is open at its end: the block that `{state.block.kind}` opens here has no line `end`")
+        kind = state.block.kind
+        raise BadInput(name, opened, f"the script is open at its end: the block that `{kind}` opens here has no line `end`")
     return state
 
 

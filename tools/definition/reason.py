@@ -75,8 +75,8 @@ def not_next(configuration, following, lot, path):
         return f"{lot} {path} is an instance, and has no step; {takes}"
     if found[0].kind != WAITING:
         return f"{lot} {path} was taken by an earlier step; {takes}"
-    order = configuration.sources.mode
-    return f"{lot} {path} waits, but isn't of least rank in the order {order}, with {rank_text(configuration, found[0].shape)}; {takes}"
+    own = f"with {rank_text(configuration, found[0].shape)}"
+    return f"{lot} {path} waits, but isn't of least rank in the order {configuration.sources.mode}, {own}; {takes}"
 
 
 # ---- another answer
