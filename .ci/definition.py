@@ -7,6 +7,7 @@ work. The last line is 'N passed, M failed', and tells how many scripts were lef
 """
 import argparse
 import random
+import re
 import signal
 import subprocess
 import sys
@@ -24,7 +25,9 @@ from definition.output import output_of  # noqa: E402
 from definition.town import town_text  # noqa: E402
 
 LIMIT = 30  # seconds of processor for a script
-RANDOM, STREETS, EDITS = 100, 50, 25
+RANDOM, STREETS, EDITS, SPOILED, LINES = 100, 50, 25, 20, 60
+PIECES = """( ) [ ] { } , : | + - * / . = -> == != < <= > >= ! # "X" "front" "cube" "none" "9 " 1r 2.5 0.250r 90 3x 1.x NIL T S Rx I Scope
+occ sx rand floor not and or Comp Subdiv Repeat end attr lot order breadth version 2""".split() + ["x" * 33, "\t", "9" * 19]
 MOST_LATE = 8  # scripts that may take longer than the limit, on a slow machine
 # they take some twenty seconds each, since each shape that asks is compared with all
 LEFT_OUT = ("village", "twelve_lots_in_a_row")
@@ -80,8 +83,24 @@ def street(seed):
     return "\n".join([*lines, "print", "trace", "dump", ""]).encode()
 
 
+def spoiled(seed):
+    """Lines of which most are faulty: those of real scripts, a few of their pieces taken away, doubled or put in."""
+    draw = random.Random(seed)
+    lines = ["version 2"]
+    for _ in range(LINES):
+        line = draw.choice(["put 1 " + draw.choice(random_scripts.RULES), draw.choice(random_scripts.LINES)])
+        pieces = re.findall(r"\w+|\s|->|[<>=!]=|.", line)
+        for _ in range(draw.randrange(4)):
+            at = draw.randrange(len(pieces) + 1)
+            pieces[at:at + draw.randrange(2)] = draw.choice([[], [draw.choice(PIECES)], pieces[at:at + 1] * 2])
+        lines.append("".join(pieces))
+    return "\n".join([*lines, "end", "dump", ""]).encode("latin-1")
+
+
 def drawn():
     """Random scripts by name."""
+    for seed in range(SPOILED):
+        yield f"spoiled lines {seed}", spoiled(seed)
     for seed in range(RANDOM):
         yield f"random script {seed}", random_scripts.script(seed)
     for seed in range(STREETS):
