@@ -15,9 +15,9 @@ CONTRACT = "run_city"
 
 INTRODUCTION = """# The statement
 
-This page is made by `.ci/statement.py` from the files that it names, and the gate compares it with them. It is all that has
-to be read to know what is claimed of the replies to a script: the contract of `run_city`, and the definitions on which it
-stands, down to the derivation of a town from nothing. [The guided hour](GUIDED_HOUR.md) walks over it.
+This page is made by `.ci/statement.py` from the files that it names, and the gate compares it with them. It begins with the
+contract of `run_city`, and goes down to the derivation of a town from nothing. To know the claim on replies, read nothing
+else but the leaves that you doubt. [The guided hour](GUIDED_HOUR.md) walks over it.
 
 | To read | Means |
 |---|---|
