@@ -40,11 +40,10 @@ stands here, and on the definitions that the contracts cite, which [the statemen
 COMPILERS = """
 ## Two compilers
 
-The proof speaks of the source. A compiler makes the program of it, and nothing is proved of that step. So the gate
-has each program built twice, by LLVM and by Rattle's own compiler. It runs both, and compares what each writes with the stored
-output. The page that
-`rt doc` prints says why, under "What a verdict rests on besides the proofs": clang is known to compile some correct code
-wrongly. The program that `./cga_city --prove` leaves is LLVM's.
+The proof speaks of the source. A compiler makes the program of it, and nothing is proved of that step. So the gate has each
+program built twice, by LLVM and by Rattle's own compiler. It runs both, and compares what each writes with the stored output.
+The page that `rt doc` prints says why, under "What a verdict rests on besides the proofs": clang is known to compile some
+correct code wrongly. The program that `./cga_city --prove` leaves is LLVM's.
 """
 
 
