@@ -13,13 +13,16 @@ TOOLS = Path(__file__).resolve().parent.parent
 sys.path.insert(0, str(TOOLS))
 
 from definition import judge  # noqa: E402
+from definition.command import VERSION_1, VERSION_2  # noqa: E402
 from definition.comp import SIDES, face_of  # noqa: E402
 from definition.fault import Fault  # noqa: E402
 from definition.fraction import checked, decimal_text_of, quotient_of  # noqa: E402
 from definition.frame import BASE_FRAME, Y, Scope, scope_of, turned_scope  # noqa: E402
+from definition.lexer import RESERVED  # noqa: E402
 from definition.output import output_of  # noqa: E402
 from definition.split import repeat_of, subdiv_of  # noqa: E402
 from definition.word import word_of  # noqa: E402
+from lib import script as tools_script  # noqa: E402
 
 BOX = 'rules\n1: house -> S(1r, 6, 1r) I("cube")\nend\nlot a 1 0 0 10 8 house\n'
 WINDOW = """rules
@@ -124,6 +127,12 @@ class Parts(unittest.TestCase):
 
 
 class Lines(unittest.TestCase):
+    def test_words(self):
+        """They are those of the other tools, which are compared with the crates and the documents."""
+        self.assertEqual(RESERVED, tools_script.RESERVED)
+        self.assertEqual(set(VERSION_1), set(tools_script.COMMANDS))
+        self.assertEqual(set(VERSION_2), {*tools_script.COMMANDS, *tools_script.COMMANDS_2})
+
     def test_refused(self):
         for line, reply in [
                 ("drop 9", "NoRule 9"), ("x" * 4097, "LineTooLong"), ("put 1 2: a -> \x07", "BadByte at 15"),
