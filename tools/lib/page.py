@@ -19,7 +19,7 @@ def data_of(town, title):
     """What the page is given of a town that doesn't change."""
     meshes = Meshes()
     lines = meshes.lines(town)
-    return {"title": title, "meshes": meshes.told, "colours": colours_of(lines), "lines": [f"+ {line}" for line in lines]}
+    return {"title": title, "meshes": meshes.told, "colours": colours_of(lines), "from": "", "lines": [f"+ {line}" for line in lines]}
 
 
 def quoted(data):

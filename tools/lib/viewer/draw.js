@@ -30,7 +30,6 @@ function paint(colours) {
   town.symbols.forEach((symbol, k) => texels.set([...(colours[symbol] || [200, 200, 200]), hidden.has(symbol) ? 0 : 255], 4 * k));
   gl.activeTexture(gl.TEXTURE0 + COLOURS);
   gl.texImage2D(gl.TEXTURE_2D, 0, gl.RGBA, 256, high, 0, gl.RGBA, gl.UNSIGNED_BYTE, texels);
-  is_shadow_old = true;
 }
 
 function prepare(batch) {
@@ -82,7 +81,7 @@ function shine() {
   gl.clear(gl.DEPTH_BUFFER_BIT);
   gl.enable(gl.POLYGON_OFFSET_FILL);
   gl.polygonOffset(1.5, 4);
-  programs.shadow({sun, colours: COLOURS});
+  programs.shadow({sun, colours: COLOURS, grow: 0});
   draw_solids();
   gl.disable(gl.POLYGON_OFFSET_FILL);
   is_shadow_old = false;
@@ -129,9 +128,13 @@ function draw_ground(common) {
   gl.disable(gl.BLEND);
 }
 
+function pixel_at_centre() {
+  return 2 * view.far * view.lens / (axes().wide * parts.width);
+}
+
 function draw_picture(moment) {
   const seen = matrix(town), common = {view: seen.view, sun, shadows: SHADOWS, colours: COLOURS, fine: 1 / SIDE,
-    texel: 2 * size_of(town) / SIDE, nudge: NUDGE, now: moment, cell: cell_of()};
+    texel: 2 * size_of(town) / SIDE, grow: .2 * pixel_at_centre(), nudge: NUDGE, now: moment, cell: cell_of()};
   gl.bindFramebuffer(gl.FRAMEBUFFER, parts.drawn);
   gl.viewport(0, 0, parts.width, parts.height);
   gl.clear(gl.COLOR_BUFFER_BIT | gl.DEPTH_BUFFER_BIT);

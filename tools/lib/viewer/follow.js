@@ -1,24 +1,30 @@
 'use strict';
 // Shows what the page was given, or asks the preview for each change.
 
-// What came: a head, and the lines of what went and came behind it.
+// What came: values of the head that changed, and the lines of what went and came.
 function take(told, lines) {
-  const is_first = !told.from;
-  if (is_first) town.clear();
+  if (!told.from) town.clear();
   head = {...head, ...told};
   add_meshes(told.meshes || {});
-  const now = moment(), had_some = town.low !== null;
-  town.take(lines, had_some && !told.is_quiet ? now : -9);
-  if (lines.length && had_some && !told.is_quiet) drawn_last = now;
-  if (town.low && !is_touched && (!had_some || is_growing)) look_at(town);
-  is_growing = Boolean(told.is_busy);
-  if (told.title) document.title = told.title;
-  canvas.className = told.is_stale ? 'stale' : '';
-  tell(told.said || '');
+  const had_some = town.low !== null, lights_up = had_some && !head.is_busy, now = moment();
+  const is_changed = lines.length > 0 && take_lines(lines, lights_up ? now : -GLOW, !had_some || is_growing);
+  if (is_changed && lights_up) drawn_last = now;
+  is_growing = Boolean(head.is_busy);
+  document.title = head.title;
+  canvas.className = head.is_stale ? 'stale' : '';
+  tell(head.said || '');
+  if (is_changed || told.colours) legend();
+  if (is_changed || told.rules) pick_again();
   sliders();
-  legend();
-  pick_again();
   sums();
+}
+
+// The view stays, unless nothing was there before or the first town still grows and nobody has turned it.
+function take_lines(lines, moment, is_first) {
+  town.take(lines, moment);
+  is_shadow_old = true;
+  if (town.low && is_first && !is_touched) look_at(town);
+  return true;
 }
 let is_growing = false;
 
@@ -40,4 +46,7 @@ async function follow() {
 const given = /*TOWN*/null;
 if (!gl) tell('this browser has no WebGL 2');
 else if (given) take(given, given.lines);
-else follow();
+else {
+  ask_draw();
+  follow();
+}

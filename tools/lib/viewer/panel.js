@@ -30,6 +30,7 @@ function legend() {
   box_of('legend').replaceChildren(...rows.map(([symbol, number]) => legend_row(symbol, number)));
   show('legend', rows.length);
   paint(head.colours);
+  is_shadow_old = true;
   ask_draw();
 }
 
@@ -70,11 +71,12 @@ function slider(name, text) {
   return row;
 }
 
+// They are as the script says after each save.
 let sliders_for = '';
 function sliders() {
-  const wanted = JSON.stringify([head.attributes, head.save]);
-  if (wanted === sliders_for) return;
-  sliders_for = wanted;
+  const said = JSON.stringify([head.attributes, head.save]);
+  if (said === sliders_for) return;
+  sliders_for = said;
   box_of('sliders').replaceChildren(...Object.entries(head.attributes).map(([name, text]) => slider(name, text)));
 }
 
@@ -96,8 +98,9 @@ async function turn(name, value) {
 // ---- sums
 
 function sums() {
-  const {lots, shapes, instances, expanded} = head.stats || {}, parts = [], many = value => value.toLocaleString('en');
-  if (shapes !== undefined) parts.push(`${many(lots)} lots, ${many(instances)} solids`, `of ${many(shapes)} shapes ${many(expanded)} were worked anew`);
+  const {lots, shapes, instances, worked} = head.stats || {}, parts = [], many = value => value.toLocaleString('en');
+  if (shapes !== undefined) parts.push(`${many(lots)} lots, ${many(instances)} solids`, `${many(shapes)} shapes`);
+  if (Number.isInteger(worked)) parts[1] = `of ${parts[1]} ${many(worked)} were worked anew`;
   if (town.low && shows.ground) parts.push(`grid ${+cell_of().toPrecision(1)}`);
   if (town.offset && town.offset.some(at => Math.abs(at) >= 1000)) parts.push(`drawn from ${town.offset.map(many).join(', ')}`);
   box_of('sums').textContent = parts.join(' \u00b7 ');

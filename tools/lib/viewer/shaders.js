@@ -1,6 +1,7 @@
 'use strict';
 // The programs of the graphics processor. An instance is a corner, three axes as long as its sizes, a symbol and the
-// moment at which it came; a mesh has its corners in a box of size 1, and what bends a hip's ridge to its sizes.
+// moment at which it came; a mesh has its corners in a box of size 1, and what bends a hip's ridge to its sizes. It grows
+// by a part of a pixel, so that nothing shines through where corners of one wall stand along the side of another.
 const COLOURS = 0, SHADOWS = 1, PICTURE = 2, DEPTHS = 3; // units of textures
 const SUN = [-.3834, .7303, .5660];
 
@@ -13,11 +14,13 @@ layout(location = 4) in vec3 along_y;
 layout(location = 5) in vec3 along_z;
 layout(location = 6) in vec2 own;
 uniform sampler2D colours;
+uniform float grow;
 vec4 tone() { int number = int(own.x); return texelFetch(colours, ivec2(number & 255, number >> 8), 0); }
+vec3 side(vec3 axis, float part) { return axis == vec3(0.) ? axis : normalize(axis) * (2. * part - 1.); }
 vec3 spot() {
   float wide = length(along_x), deep = length(along_z);
   float x = corner.x + (bend.x == 0. ? 0. : bend.x * deep / wide), z = corner.z + (bend.y == 0. ? 0. : bend.y * wide / deep);
-  return place + along_x * x + along_y * corner.y + along_z * z;
+  return place + along_x * x + along_y * corner.y + along_z * z + grow * (side(along_x, corner.x) + side(along_y, corner.y) + side(along_z, corner.z));
 }
 `;
 
