@@ -5,10 +5,7 @@ from itertools import islice
 
 from .replies import replies
 from .script import text_of
-
-
-class Ended(Exception):
-    """The program ended before its replies did."""
+from .session import Ended
 
 
 class Live:

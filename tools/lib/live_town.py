@@ -4,7 +4,7 @@ from collections import Counter
 from .live import Live
 from .edits import edits
 from .script import commands, is_open
-from .session import OPEN
+from .session import OPEN, counted
 from .sources import Told, sources_of
 
 UNSENT = "quiet print stats faults grammar".split()  # they edit nothing and are never refused, and some take long
@@ -14,6 +14,7 @@ BEYOND = ("NoSymbol", "OverBudget", "TooManyLots")  # causes that may be another
 
 class LiveTown:
     """Shows what scripts come to. `held` is the sources that the program has, where they are known."""
+    is_kept = True
 
     def __init__(self, program, shown):
         self.program, self.shown = program, shown
@@ -140,12 +141,6 @@ class LiveTown:
 
 def is_refused(reply):
     return reply[0].startswith("# refused ")
-
-
-def counted(reply):
-    """What a reply to `stats` counts."""
-    words = reply[0].split()[2:]
-    return {name: int(value) for name, value in zip(words[::2], words[1::2])}
 
 
 def in_block(reply, edit):

@@ -26,6 +26,7 @@ class PrintedTown:
 
     def put(self, lines):
         lines, commands, answers, faults, town = self.session.ask(lines)
+        self.stats = self.session.stats
         is_lost = any(command.is_block and (is_open(command, lines) or answer[0].startswith("# refused")) for command, answer in zip(commands, answers))
         if not (is_lost and self.shown.drawn):
             drawn = self.meshes.lines(town)
