@@ -40,13 +40,19 @@ function candidates(eye, way) {
   return found.sort((a, b) => a.far - b.far);
 }
 
+// Solids in one plane are met in the order in which they are drawn: flat ones first, then by symbol.
+function order_of({data}, slot) {
+  const at = slot * FLOATS;
+  return (data[at + 12] & 3) + (data[at + 9] || data[at + 10] || data[at + 11] ? 0 : 4);
+}
+
 // The nearest instance on the way through a place of the window, and the point at which it is met.
 function met(x, y) {
   const {eye, way} = ray(x, y);
   let best = Infinity, found = null;
   for (const {batch, slot, far} of candidates(eye, way)) {
-    if (far > best) break;
-    const real = met_solid(eye, way, batch, slot);
+    if (far > best * (1 + 1e-5)) break;
+    const real = met_solid(eye, way, batch, slot) * (1 - 1e-6 * order_of(batch, slot));
     if (real < best) [best, found] = [real, batch.entries[slot]];
   }
   return found && {entry: found, point: along(eye, best, way)};
