@@ -42,8 +42,8 @@ function candidates(eye, way) {
 
 // Solids in one plane are met in the order in which they are drawn: flat ones first, then by symbol.
 function order_of({data}, slot) {
-  const at = slot * FLOATS;
-  return (data[at + 12] & 3) + (data[at + 9] || data[at + 10] || data[at + 11] ? 0 : 4);
+  const at = slot * FLOATS, is_flat = [3, 6, 9].some(axis => !data[at + axis] && !data[at + axis + 1] && !data[at + axis + 2]);
+  return (data[at + 12] & 3) + (is_flat ? 4 : 0);
 }
 
 // The nearest instance on the way through a place of the window, and the point at which it is met.

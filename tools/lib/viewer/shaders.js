@@ -50,7 +50,7 @@ void main() {
   vec4 shade = tone();
   at = spot();
   gl_Position = view * vec4(at, 1.);
-  float order = float(int(own.x) & 3) + (along_z == vec3(0.) ? 4. : 0.);
+  float order = float(int(own.x) & 3) + (along_x == vec3(0.) || along_y == vec3(0.) || along_z == vec3(0.) ? 4. : 0.);
   gl_Position.z -= nudge * order * gl_Position.w;
   tint = mix(shade.rgb, vec3(1., .45, .05), .75 * clamp(1. - (now - own.y), 0., 1.));
   if (shade.a < .5) gl_Position = vec4(2., 2., 2., 1.);
