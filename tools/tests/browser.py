@@ -76,7 +76,7 @@ class Browser:
         self.ask("Page.navigate", url=address)
         self.wait("document.readyState === 'complete'")
 
-    def wait(self, condition, seconds=20):
+    def wait(self, condition, seconds=120):
         end = time.monotonic() + seconds
         while not self.run(condition):
             if time.monotonic() > end:
