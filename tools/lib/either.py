@@ -1,5 +1,4 @@
 """A town that is kept by a program that tells changes, and printed as long as its script dresses symbols in assets."""
-from .script import commands
 
 
 class Either:
@@ -9,12 +8,12 @@ class Either:
     def __init__(self, live, printed):
         self.live, self.printed, self.now = live, printed, live
 
-    def show(self, lines):
-        is_dressed = any(command.words[:1] == ["dress"] for command in commands(lines))
+    def show(self, lines, found):
+        is_dressed = any(command.words[:1] == ["dress"] for command in found)
         if is_dressed:
             self.live.close()
         self.now = self.printed if is_dressed else self.live
-        return self.now.show(lines)
+        return self.now.show(lines, found)
 
     def turn(self, values):
         return self.now.turn(values)

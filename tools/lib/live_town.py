@@ -3,7 +3,7 @@ from collections import Counter
 
 from .live import Live
 from .edits import edits
-from .script import commands, is_open
+from .script import is_open
 from .session import OPEN, counted
 from .sources import Told, sources_of
 
@@ -30,9 +30,8 @@ class LiveTown:
             self.live.close()
         self.live, self.held, self.lines, self.answers = None, None, None, []
 
-    def show(self, lines):
-        """The commands of a script, the reply of each, and the shapes that came to nothing."""
-        found = commands(lines)
+    def show(self, lines, found):
+        """The reply to each command of a script, and the shapes that came to nothing."""
         left_open = found[-1:] if found and is_open(found[-1], lines) else []
         whole = found[:len(found) - len(left_open)]
         closed = lines[:left_open[0].first] if left_open else lines
@@ -46,7 +45,7 @@ class LiveTown:
         except Exception:
             self.close()
             raise
-        return found, answers + [OPEN for _ in left_open], faults
+        return answers + [OPEN for _ in left_open], faults
 
     def turn(self, values):
         """Sets attributes beside the script's values; the replies of those that are refused."""
@@ -89,7 +88,7 @@ class LiveTown:
         if not planned or len(planned) > FEW:
             self.stats = counted(self.live.ask(["stats"], 1)[0])
         if all(answer == ["# ok"] for answer in answers):
-            return self.keep(lines, found, answers)
+            return self.keep(lines, found, answers, new)
         self.lines = None
         return answers
 
@@ -116,10 +115,10 @@ class LiveTown:
 
     # ----
 
-    def keep(self, lines, found, answers):
-        """What is known of the program behind a script that was sent whole."""
+    def keep(self, lines, found, answers, sources=None):
+        """What is known of the program where it has come to a script's sources."""
         self.lines, self.answers = list(lines), answers
-        self.held = None if any(map(is_refused, answers)) else sources_of(lines, found)
+        self.held = None if any(map(is_refused, answers)) else sources or sources_of(lines, found)
         return answers
 
     def feed(self, live, lines, found):

@@ -14,14 +14,14 @@ class PrintedTown:
     def stop(self):
         self.session.stop()
 
-    def show(self, lines):
-        """The commands of a script, the reply of each, and the shapes that came to nothing."""
+    def show(self, lines, _):
+        """The reply to each command of a script, and the shapes that came to nothing."""
         self.lines = lines
         return self.put(lines)
 
     def turn(self, values):
         """Sets attributes beside the script's values; the replies of those that are refused."""
-        _, answers, _ = self.put(self.lines + [f"attr {name} = {value}" for name, value in values.items()])
+        answers, _ = self.put(self.lines + [f"attr {name} = {value}" for name, value in values.items()])
         return [f"attr {name} = {value}: {answer[0][2:]}" for (name, value), answer in zip(values.items(), answers[-len(values):]) if answer != ["# ok"]]
 
     def put(self, lines):
@@ -31,4 +31,4 @@ class PrintedTown:
         if not (is_lost and self.shown.drawn):
             drawn = self.meshes.lines(town)
             self.shown.replace(drawn, meshes=dict(self.meshes.told))
-        return commands, answers, faults
+        return answers, faults

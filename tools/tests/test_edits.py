@@ -127,7 +127,7 @@ def check(case, program, seed, saves):
     for _ in range(saves):
         lines = file.lines()
         drawn, is_well = fresh(program, lines)
-        _, answers, _ = town.show(lines)
+        answers, _ = town.show(lines, commands(lines))
         case.assertEqual(all(answer == ["# ok"] for answer in answers), is_well, lines)
         if is_well:
             case.assertEqual(shown.drawn, drawn, lines)
