@@ -23,41 +23,11 @@ const floor = gl && plane([[-1, 0, -1], [-1, 0, 1], [1, 0, -1], [1, 0, 1]]);
 const screen_ = gl && plane([[-1, -1], [1, -1], [-1, 1], [1, 1]]);
 const outline = gl && gl.createVertexArray();
 
-// ---- what the solids need: colours of symbols, and a buffer of instances for each mesh
-
 function paint(colours) {
   const high = Math.max(1, Math.ceil(town.symbols.length / 256)), texels = new Uint8Array(4 * 256 * high);
   town.symbols.forEach((symbol, k) => texels.set([...(colours[symbol] || [200, 200, 200]), hidden.has(symbol) ? 0 : 255], 4 * k));
   gl.activeTexture(gl.TEXTURE0 + COLOURS);
   gl.texImage2D(gl.TEXTURE_2D, 0, gl.RGBA, 256, high, 0, gl.RGBA, gl.UNSIGNED_BYTE, texels);
-}
-
-function prepare(batch) {
-  batch.vertices = gl.createVertexArray();
-  gl.bindVertexArray(batch.vertices);
-  const five = batch.mesh.corners.flatMap(([x, y, z, bent_x = 0, bent_z = 0]) => [x, y, z, bent_x, bent_z]);
-  attributes(new Float32Array(five), 0, [3, 2], 0);
-  batch.instances = attributes(batch.data, 2, [3, 3, 3, 3, 2], 1, gl.DYNAMIC_DRAW);
-  gl.bindBuffer(gl.ELEMENT_ARRAY_BUFFER, gl.createBuffer());
-  gl.bufferData(gl.ELEMENT_ARRAY_BUFFER, new Uint32Array(triangles_of(batch.mesh.faces)), gl.STATIC_DRAW);
-}
-
-function send(batch) {
-  if (!batch.vertices) prepare(batch);
-  if (batch.is_changed) {
-    gl.bindBuffer(gl.ARRAY_BUFFER, batch.instances);
-    gl.bufferData(gl.ARRAY_BUFFER, batch.data.subarray(0, batch.count * FLOATS), gl.DYNAMIC_DRAW);
-    batch.is_changed = false;
-  }
-  gl.bindVertexArray(batch.vertices);
-}
-
-function draw_solids() {
-  for (const batch of town.batches.values()) {
-    if (!batch.count) continue;
-    send(batch);
-    gl.drawElementsInstanced(gl.TRIANGLES, 3 * batch.triangles, gl.UNSIGNED_INT, 0, batch.count);
-  }
 }
 
 // ---- shadows
@@ -134,7 +104,7 @@ function pixel_at_centre() {
 
 function draw_picture(moment) {
   const seen = matrix(town), common = {view: seen.view, sun, shadows: SHADOWS, colours: COLOURS, fine: 1 / SIDE,
-    texel: 2 * size_of(town) / SIDE, grow: .2 * pixel_at_centre(), nudge: NUDGE, now: moment, cell: cell_of()};
+    texel: 2 * size_of(town) / SIDE, grow: .3 * pixel_at_centre(), nudge: NUDGE, now: moment, cell: cell_of()};
   gl.bindFramebuffer(gl.FRAMEBUFFER, parts.drawn);
   gl.viewport(0, 0, parts.width, parts.height);
   gl.clear(gl.COLOR_BUFFER_BIT | gl.DEPTH_BUFFER_BIT);

@@ -23,7 +23,7 @@ function columns({axes, size}) {
 // The instances of one mesh, side by side; the last one takes the place of one that goes.
 class Batch {
   constructor(mesh) {
-    Object.assign(this, {mesh, count: 0, data: new Float32Array(64 * FLOATS), entries: [], is_changed: true});
+    Object.assign(this, {mesh, count: 0, data: new Float32Array(64 * FLOATS), entries: [], changed: new Set()});
     this.triangles = triangles_of(mesh.faces).length / 3;
   }
   add(entry, values) {
@@ -36,7 +36,7 @@ class Batch {
     this.entries[this.count] = entry;
     entry.batch = this;
     entry.slot = this.count++;
-    this.is_changed = true;
+    this.changed.add(entry.slot);
   }
   remove({slot}) {
     const last = --this.count;
@@ -44,7 +44,7 @@ class Batch {
     this.entries[slot] = this.entries[last];
     this.entries[slot].slot = slot;
     this.entries.length = last;
-    this.is_changed = true;
+    this.changed.add(slot);
   }
 }
 
@@ -54,7 +54,7 @@ class Town {
     this.clear();
   }
   clear() {
-    for (const batch of this.batches.values()) Object.assign(batch, {count: 0, entries: [], is_changed: true});
+    for (const batch of this.batches.values()) Object.assign(batch, {count: 0, entries: [], changed: new Set()});
     Object.assign(this, {held: new Map(), symbols: this.symbols || [], numbers: this.numbers || new Map(), counts: [], offset: null, low: null, high: null});
   }
   // Takes lines that begin with `-`, what goes, and with `+`, what comes.
