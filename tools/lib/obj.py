@@ -51,8 +51,9 @@ class Town:
 
     def box(self):
         """The least and the greatest coordinate along each axis."""
-        used = [self.points[at] for solid in self.solids() for face in solid.faces for at in face]
-        return tuple(map(min, zip(*used))), tuple(map(max, zip(*used)))
+        used = {at for solid in self.solids() for face in solid.faces for at in face}
+        axes = list(zip(*[self.points[at] for at in used]))
+        return tuple(map(min, axes)), tuple(map(max, axes))
 
 
 def read_town(path):

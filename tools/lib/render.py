@@ -1,4 +1,6 @@
 """A picture of a town by the processor alone: parallel light from a sun with shadows, seen from afar."""
+import math
+
 from .colours import colour_of
 from .eye import NOTHING, Eye, dot, normal, unit
 
@@ -7,6 +9,7 @@ SUN = (-0.42, 0.80, 0.62)
 SKY, GROUND = (196, 211, 228), (206, 206, 198)
 FINE = 2  # rays for each pixel along each axis
 SHADOWS = 1600  # cells along each side of what the sun sees
+MOST_SLOPE = 40  # cells by which a face may go away from the sun from one cell to the next, before it counts as unlit
 
 
 class Painter:
@@ -18,7 +21,7 @@ class Painter:
         sun = Eye(SUN, town.points, SHADOWS, SHADOWS, 0.98)
         self.shadow, self.to_sun = sun.draw(triangles)[1], eye.onto(sun)
         self.tones = [[tone(colour, up, is_lit) for is_lit in (False, True)] for colour, up in looks]
-        self.faces_sun = [dot(up, SUN) > 1e-6 for _, up in looks]
+        self.biases = [bias(up) for _, up in looks]
 
     def ground(self, y):
         """How near the ground is in a row of cells, and its colours out of the sun and in it."""
@@ -35,16 +38,27 @@ class Painter:
         cells, place = [], y * width
         for number, z, x in zip(self.seen[place:place + width], self.near[place:place + width], range(width)):
             if number == NOTHING:
-                z, pair = ground, ground_tones
+                z, pair, apart = ground, ground_tones, GROUND_BIAS
             else:
-                pair = tones[number]
-                if not self.faces_sun[number]:
+                pair, apart = tones[number], self.biases[number]
+                if apart is None:
                     cells.append(pair[0])
                     continue
             u, v = int(u0 + ux * x + uz * z), int(v0 + vx * x + vz * z)
             is_inside = 0 <= u < SHADOWS and 0 <= v < SHADOWS
-            cells.append(pair[not is_inside or shadow[v * SHADOWS + u] <= w0 + wx * x + wz * z + 2.5])
+            cells.append(pair[not is_inside or shadow[v * SHADOWS + u] <= w0 + wx * x + wz * z + apart])
         return b"".join(cells)
+
+
+def bias(up):
+    """How much nearer to the sun than a face something has to be, in cells, to shade it: more where the face is steep to
+    the sun, since it goes on inside of a cell. None where the sun doesn't reach the face."""
+    to = dot(up, unit(SUN))
+    slope = math.sqrt(max(0.0, 1 - to * to)) / to if to > 0 else MOST_SLOPE
+    return None if slope >= MOST_SLOPE else 1.5 + 1.5 * slope
+
+
+GROUND_BIAS = bias((0.0, 1.0, 0.0))
 
 
 def tone(colour, up, is_lit):

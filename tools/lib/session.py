@@ -14,10 +14,16 @@ class Ended(Exception):
     """The program ended before its replies did."""
 
 
+def counted(reply):
+    """What a reply to `stats` counts."""
+    words = reply[0].split()[2:]
+    return {name: int(value) for name, value in zip(words[::2], words[1::2])}
+
+
 class Session:
     def __init__(self, program):
         self.program, self.is_kept = program, is_proved(program)
-        self.process, self.fed, self.answers = None, [], []
+        self.process, self.fed, self.answers, self.stats = None, [], [], {}
 
     def close(self):
         if self.process:
@@ -47,6 +53,7 @@ class Session:
         asks = ["faults", "print"] + ["model"] * any(command.words[:1] == ["dress"] for command in found) + ["stats"]
         got = self.kept(closed, number, asks) if self.is_kept else self.anew(closed, number, asks)
         faults, towns = got[number][1:], [reply for reply in got[number + 1:-1] if not reply[0].startswith("# refused")]
+        self.stats = counted(got[-1])
         return lines, found, got[:number] + [OPEN for _ in left_open], faults, Town(towns[-1])
 
     def kept(self, lines, number, asks):

@@ -1,32 +1,83 @@
-"""The preview, tried as a browser would with a stand-in for the program."""
+"""The preview, asked as a browser would, with stand-ins for the programs: one that prints, and one that tells changes."""
 import http.client
 import json
 import os
 import re
+import socket
+import struct
 import subprocess
 import tempfile
 import time
 import unittest
+from collections import Counter
 from pathlib import Path
 
 TESTS = Path(__file__).resolve().parent
+RULES = 'rules\nattr h = 3\nPRIORITY 1:\n1: house -> S(1r, h, 1r) I("cube")\n2: shed -> I("gable")\nend\n'
+A, B = "lot a 1 0 0 10 8 house\n", "lot b 2 20 0 10 8 house\n"
+
+
+class Page:
+    """What a browser keeps of the answers: the values of the head, and how often each instance is drawn."""
+
+    def __init__(self, port):
+        self.port, self.head, self.drawn, self.stamp, self.last = port, {}, Counter(), "", []
+
+    def get(self, path, host=None, body=None, origin=None):
+        connection = http.client.HTTPConnection("127.0.0.1", self.port, timeout=30)
+        headers = {**({"Host": host} if host else {}), **({"Origin": origin} if origin else {})}
+        connection.request("GET" if body is None else "POST", path, body=body, headers=headers)
+        answer = connection.getresponse()
+        told = answer.read().decode()
+        connection.close()
+        return answer.status, told
+
+    def follow(self):
+        head, *self.last = self.get(f"/state?{self.stamp}")[1].split("\n")
+        told = json.loads(head)
+        if not told["from"]:
+            self.drawn.clear()
+        self.stamp, self.head = told["stamp"], {**self.head, **told}
+        for line in self.last:
+            self.drawn[line[2:]] += 1 if line[0] == "+" else -1
+            assert self.drawn[line[2:]] >= 0, line
+
+    def until(self, saves):
+        """Follows up to that save; the lines that came on the way."""
+        came = []
+        while self.head.get("save", 0) < saves or self.head["is_busy"]:
+            self.follow()
+            came += self.last
+        return came
+
+    def set(self, values, origin=None):
+        return self.get("/set", body=json.dumps(values), origin=f"http://127.0.0.1:{self.port}" if origin is None else origin)[0]
 
 
 class Preview(unittest.TestCase):
+    program = "live_stand_in"
+
     def setUp(self):
         folder = tempfile.TemporaryDirectory()
         self.addCleanup(folder.cleanup)
         self.script = Path(folder.name) / "town.cga"
-        self.save("lot a 1 0 0 1 1 wall\n")
-        words = [TESTS.parent / "preview", "--program", TESTS / "stand_in", "--port", "0", self.script]
-        self.preview = subprocess.Popen(words, stdout=subprocess.PIPE, text=True)
+        self.faults = open(Path(folder.name) / "faults", "w+", encoding="utf-8")
+        self.addCleanup(self.faults.close)
+
+    def begin(self, text):
+        self.save(text)
+        words = [TESTS.parent / "preview", "--program", TESTS / self.program, "--port", "0", self.script]
+        self.preview = subprocess.Popen(words, stdout=subprocess.PIPE, stderr=self.faults, text=True)
         self.addCleanup(self.end)
-        self.port = int(re.match(r"http://127\.0\.0\.1:(\d+)/ ", self.preview.stdout.readline()).group(1))
+        self.page = Page(int(re.match(r"http://127\.0\.0\.1:(\d+)/ ", self.preview.stdout.readline()).group(1)))
+        self.page.until(1)
 
     def end(self):
         self.preview.send_signal(2)
         self.assertEqual(self.preview.wait(5), 130)
         self.preview.stdout.close()
+        self.faults.seek(0)
+        self.assertEqual(self.faults.read(), "")
 
     def save(self, text):
         """As an editor does that writes beside the file and renames."""
@@ -34,41 +85,103 @@ class Preview(unittest.TestCase):
         other.write_text(text, encoding="utf-8")
         os.replace(other, self.script)
 
-    def get(self, path, host=None):
-        connection = http.client.HTTPConnection("127.0.0.1", self.port, timeout=10)
-        connection.request("GET", path, headers={"Host": host} if host else {})
-        answer = connection.getresponse()
-        body = answer.read().decode()
-        connection.close()
-        return answer.status, body
+    def then(self, text):
+        """Saves, and follows the page; what it was told, without the order."""
+        self.save(text)
+        return sorted(self.page.until(self.page.head["save"] + 1))
 
-    def state(self, stamp):
-        """The first state behind that stamp that isn't busy."""
-        while True:
-            state = json.loads(self.get(f"/state?{stamp}")[1])
-            if not state["busy"] and state["stamp"] != stamp:
-                return state
-            stamp = state["stamp"]
+
+class Live(Preview):
+    def test_a_save_sends_what_changed_and_no_more(self):
+        self.begin(RULES + A + B)
+        self.assertEqual(sorted(self.page.drawn), ["a house cube 0 0 0 +X+Y+Z 10 3 8", "b house cube 20 0 0 +X+Y+Z 10 3 8"])
+        self.assertEqual(self.then(RULES + A + B.replace("20", "30")), ["+ b house cube 30 0 0 +X+Y+Z 10 3 8", "- b house cube 20 0 0 +X+Y+Z 10 3 8"])
+        self.assertEqual(self.page.head["stats"]["worked"], 3)
+        self.assertEqual(self.then(RULES + A), ["- b house cube 30 0 0 +X+Y+Z 10 3 8"])
+
+    def test_a_typo_leaves_the_town(self):
+        self.begin(RULES + A + B)
+        wrong = RULES.replace('h, 1r) I("cube")', 'h, 1r) I("cub")')
+        self.assertEqual(self.then(wrong + A + B), [])
+        self.assertTrue(self.page.head["is_stale"])
+        self.assertRegex(self.page.head["said"], r"town.cga:4:13: Unexpected: .*\n    1: house .*\n +\^\n.*1 refused")
+        self.assertEqual(self.then(RULES + A + B), [])
+        self.assertEqual((self.page.head["is_stale"], self.page.head["said"]), (False, ""))
+
+    def test_a_block_that_is_left_open_leaves_the_town(self):
+        self.begin(RULES + A)
+        self.assertEqual(self.then(RULES.replace("end\n", "") + A), [])
+        self.assertIn("OpenBlock", self.page.head["said"])
+
+    def test_a_slider_and_a_save_after_it(self):
+        self.begin(RULES + A)
+        self.assertEqual(self.page.head["attributes"], {"h": "3"})
+        self.assertEqual(self.page.set({"h": "4.5"}), 200)
+        self.page.follow()
+        while not self.page.last:
+            self.page.follow()
+        self.assertEqual(self.page.last, ["- a house cube 0 0 0 +X+Y+Z 10 3 8", "+ a house cube 0 0 0 +X+Y+Z 10 4.5 8"])
+        self.assertEqual(self.then(RULES + A + B), ["+ a house cube 0 0 0 +X+Y+Z 10 3 8", "+ b house cube 20 0 0 +X+Y+Z 10 3 8", "- a house cube 0 0 0 +X+Y+Z 10 4.5 8"])
+
+    def test_a_page_that_comes_later_gets_all(self):
+        self.begin(RULES + A)
+        self.then(RULES + A + B)
+        other = Page(self.page.port)
+        other.until(2)
+        self.assertEqual(other.drawn, self.page.drawn)
+        self.assertEqual(other.head["rules"], {"house": [[1, 4]], "shed": [[2, 5]]})
+
+    def test_what_no_edit_says_begins_anew_and_tells_the_difference(self):
+        self.begin(RULES + A + B)
+        self.assertEqual(self.then(RULES + "lot c 3 40 0 10 8 shed\n" + A + B), ["+ c shed gable 40 0 0 +X+Y+Z 10 1 8"])
+
+
+class Printed(Preview):
+    program = "stand_in"
 
     def test_it_follows_the_file(self):
-        self.assertIn("follow(", self.get("/")[1])
-        state = self.state("")
-        self.assertEqual((state["said"], state["town"]["counts"]), ("", [1]))
+        self.begin("lot a 1 0 0 1 1 wall\n")
+        self.assertEqual(self.page.head["said"], "")
+        self.assertEqual(list(self.page.drawn), ["a wall mesh0 0 0 0 +X+Y+Z 1 1 1"])
         saved = time.monotonic()
-        self.save("lot a 1 0 0 1 1 wall\nlot b 1 0 0 1 1 wall\nlot c 1 0 0 0 1 wall\nlot flat 1 0 0 1 1 wall\n")
-        state = self.state(state["stamp"])
+        came = self.then("lot a 1 0 0 1 1 wall\nlot b 1 3 0 1 1 wall\nlot c 1 0 0 0 1 wall\nlot flat 1 7 0 1 1 wall\n")
         self.assertLess(time.monotonic() - saved, 1 if os.getloadavg()[0] < 2 else 9)
-        self.assertEqual(state["town"]["counts"], [3])
-        self.assertRegex(state["said"], r"town.cga:3:5: BadLot: .*\n.*\n +\^\n.*: FlatScope: a shape of `wall`")
+        self.assertEqual(came, ["+ b wall mesh0 3 0 0 +X+Y+Z 1 1 1", "+ flat wall mesh0 7 0 0 +X+Y+Z 1 1 1"])
+        self.assertRegex(self.page.head["said"], r"town.cga:3:5: BadLot: .*\n.*\n +\^\n.*: FlatScope: a shape of `wall`")
         self.script.unlink()
-        self.save("# nothing\n")
-        self.assertIsNone(self.state(state["stamp"])["town"])
+        self.then("# nothing\n")
+        self.assertEqual(+self.page.drawn, Counter())
 
     def test_it_answers_this_machine_alone(self):
-        self.assertEqual(self.get("/", "elsewhere.example")[0], 404)
-        self.assertEqual(self.get("/", f"localhost:{self.port}")[0], 200)
-        self.assertEqual(self.get("/../lint")[0], 404)
+        self.begin("lot a 1 0 0 1 1 wall\n")
+        get = self.page.get
+        self.assertEqual(get("/", "elsewhere.example")[0], 404)
+        self.assertEqual(get("/", f"localhost:{self.page.port}")[0], 200)
+        self.assertIn("follow()", get("/")[1])
+        self.assertEqual(get("/../lint")[0], 404)
+        self.assertEqual(self.page.set({"h": "1"}, "http://elsewhere.example"), 404)
+        for wrong in ({"h": "1\nlot"}, {"h h": "1"}, ["h"]):
+            self.assertEqual(self.page.set(wrong), 404)
 
+    def test_a_page_that_goes_away_leaves_no_trace(self):
+        self.begin("lot a 1 0 0 1 1 wall\n")
+        gone = socket.create_connection(("127.0.0.1", self.page.port))
+        gone.setsockopt(socket.SOL_SOCKET, socket.SO_LINGER, struct.pack("ii", 1, 0))
+        gone.sendall(f"GET /state?{self.page.stamp} HTTP/1.1\r\nHost: localhost:{self.page.port}\r\n\r\n".encode())
+        time.sleep(0.1)
+        gone.close()
+        self.then("lot a 30 0 0 1 1 wall\n")
+
+
+class Words(unittest.TestCase):
+    def test_wrong_words_have_a_reason(self):
+        for words, reason in ((["--port", "70000", "x"], "70000 is no port"), ([], "required: script"), (["--what", "x"], "unrecognized arguments: --what")):
+            done = subprocess.run([TESTS.parent / "preview", *words], capture_output=True, text=True)
+            self.assertEqual(done.returncode, 2)
+            self.assertIn(reason, done.stderr)
+
+
+del Preview
 
 if __name__ == "__main__":
     unittest.main()

@@ -200,7 +200,8 @@ class Shown(unittest.TestCase):
         target = self.folder / "page.html"
         self.assertEqual(call("view", "old.obj", target), (0, "", ""))
         text = target.read_text(encoding="utf-8")
-        self.assertIn('"symbols": ["wall", "roof"]', text)
+        self.assertIn('"colours": {', text)
+        self.assertEqual(len(re.findall(r'"\+ \S+ (?:wall|roof) mesh\d+ ', text)), 5)
         self.assertEqual(re.findall(r'(?:src|href)="(?!data:)|https?://', text), [])
 
     def test_picture(self):

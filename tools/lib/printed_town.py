@@ -1,0 +1,34 @@
+"""The town of a script that is edited, by what a program prints of it: for programs that don't tell what an edit changed."""
+from .drawn import Meshes
+from .script import is_open
+from .session import Session
+
+
+class PrintedTown:
+    """Shows what scripts come to: of the whole town that is printed each time only the difference is told."""
+
+    def __init__(self, program, shown):
+        self.session, self.shown, self.meshes, self.lines, self.stats, self.worked = Session(program), shown, Meshes(), [], None, None
+        self.is_kept = self.session.is_kept
+
+    def stop(self):
+        self.session.stop()
+
+    def show(self, lines, _):
+        """The reply to each command of a script, and the shapes that came to nothing."""
+        self.lines = lines
+        return self.put(lines)
+
+    def turn(self, values):
+        """Sets attributes beside the script's values; the replies of those that are refused."""
+        answers, _ = self.put(self.lines + [f"attr {name} = {value}" for name, value in values.items()])
+        return [f"attr {name} = {value}: {answer[0][2:]}" for (name, value), answer in zip(values.items(), answers[-len(values):]) if answer != ["# ok"]]
+
+    def put(self, lines):
+        lines, commands, answers, faults, town = self.session.ask(lines)
+        self.stats = self.session.stats
+        is_lost = any(command.is_block and (is_open(command, lines) or answer[0].startswith("# refused")) for command, answer in zip(commands, answers))
+        if not (is_lost and self.shown.drawn):
+            drawn = self.meshes.lines(town)
+            self.shown.replace(drawn, meshes=dict(self.meshes.told))
+        return answers, faults

@@ -1,0 +1,52 @@
+'use strict';
+// Shows what the page was given, or asks the preview for each change.
+
+// What came: values of the head that changed, and the lines of what went and came.
+function take(told, lines) {
+  if (!told.from) town.clear();
+  head = {...head, ...told};
+  add_meshes(told.meshes || {});
+  const had_some = town.low !== null, lights_up = had_some && !head.is_busy, now = moment();
+  const is_changed = lines.length > 0 && take_lines(lines, lights_up ? now : -GLOW, !had_some || is_growing);
+  if (is_changed && lights_up) drawn_last = now;
+  is_growing = Boolean(head.is_busy);
+  document.title = head.title;
+  canvas.className = head.is_stale ? 'stale' : '';
+  tell(head.said || '');
+  if (is_changed || told.colours) legend();
+  if (is_changed || told.rules) pick_again();
+  sliders();
+  sums();
+}
+
+// The view stays, unless nothing was there before or the first town still grows and nobody has turned it.
+function take_lines(lines, moment, is_first) {
+  town.take(lines, moment);
+  is_shadow_old = true;
+  if (town.low && is_first && !is_touched) look_at(town);
+  return true;
+}
+let is_growing = false;
+
+async function follow() {
+  let stamp = '';
+  for (;;) {
+    try {
+      const answer = await (await fetch('state?' + stamp)).text(), lines = answer.split('\n'), told = JSON.parse(lines.shift());
+      stamp = told.stamp;
+      take(told, lines);
+    } catch (fault) {
+      tell('the preview has ended');
+      await new Promise(done => setTimeout(done, 1000));
+      stamp = '';
+    }
+  }
+}
+
+const given = /*TOWN*/null;
+if (!gl) tell('this browser has no WebGL 2');
+else if (given) take(given, given.lines);
+else {
+  ask_draw();
+  follow();
+}

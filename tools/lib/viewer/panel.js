@@ -1,0 +1,108 @@
+'use strict';
+// What stands over the picture: a legend that hides, what is picked, sliders, sums, and what is refused.
+let picked = null, head = {colours: {}, rules: {}, attributes: {}};
+
+function show(name, is_shown) {
+  box_of(name).style.display = is_shown ? 'block' : 'none';
+}
+
+function legend_row(symbol, number) {
+  const row = document.createElement('div'), colour = document.createElement('span'), many = document.createElement('b');
+  colour.style.background = `rgb(${head.colours[symbol]})`;
+  many.textContent = town.counts[number];
+  row.append(colour, decodeURIComponent(symbol), many);
+  row.className = hidden.has(symbol) ? 'hidden' : '';
+  row.onclick = event => {
+    event.shiftKey ? alone(symbol) : hidden.delete(symbol) || hidden.add(symbol);
+    legend();
+  };
+  return row;
+}
+
+function alone(symbol) {
+  const others = town.symbols.filter(other => other !== symbol), is_alone = !hidden.has(symbol) && others.every(other => hidden.has(other));
+  hidden.clear();
+  if (!is_alone) others.forEach(other => hidden.add(other));
+}
+
+function legend() {
+  const rows = town.symbols.map((symbol, number) => [symbol, number]).filter(([, number]) => town.counts[number] > 0);
+  box_of('legend').replaceChildren(...rows.map(([symbol, number]) => legend_row(symbol, number)));
+  show('legend', rows.length);
+  paint(head.colours);
+  is_shadow_old = true;
+  ask_draw();
+}
+
+function pick(x, y) {
+  const hit = town.low && met(x, y);
+  picked = hit ? hit.entry.line : null;
+  pick_again();
+}
+
+// Tells of what was picked for as long as it is there.
+function pick_again() {
+  const entry = picked && town.held.get(picked);
+  const [symbol, ...others] = entry ? told_of(entry.line, head.rules) : [];
+  const name = document.createElement('b');
+  name.textContent = symbol || '';
+  box_of('picked').replaceChildren(...(entry ? [name, others.join(' \u00b7 ')] : []));
+  mark(entry);
+  ask_draw();
+}
+
+// ---- sliders
+
+// Steps of one, two or five hundredths or the like, from 0 to three times the value.
+function slider(name, text) {
+  const row = document.createElement('label'), range = document.createElement('input'), told = document.createElement('output');
+  const value = number(text), most = 3 * Math.abs(value) || 1;
+  Object.assign(range, {type: 'range', min: Math.min(0, 3 * value), max: Math.max(most, 0), step: 10 ** Math.floor(Math.log10(most) - 1.7), id: 'slider_' + name});
+  range.value = value;
+  told.textContent = text;
+  row.append(name, range, told);
+  range.oninput = () => {
+    told.textContent = range.value;
+    row.className = 'turned';
+    turn(name, range.value);
+  };
+  row.ondblclick = () => { turn(name, text); range.value = value; told.textContent = text; row.className = ''; };
+  row.title = 'double click: as in the script';
+  return row;
+}
+
+// They are as the script says after each save.
+let sliders_for = '';
+function sliders() {
+  const said = JSON.stringify([head.attributes, head.save]);
+  if (said === sliders_for) return;
+  sliders_for = said;
+  box_of('sliders').replaceChildren(...Object.entries(head.attributes).map(([name, text]) => slider(name, text)));
+}
+
+// One request at a time; of the values that come meanwhile the last one is sent.
+const wanted = new Map();
+let is_turning = false;
+async function turn(name, value) {
+  wanted.set(name, value);
+  if (is_turning) return;
+  is_turning = true;
+  while (wanted.size) {
+    const values = Object.fromEntries(wanted);
+    wanted.clear();
+    await fetch('set', {method: 'POST', body: JSON.stringify(values)}).catch(() => {});
+  }
+  is_turning = false;
+}
+
+// ---- sums
+
+function sums() {
+  const {lots, shapes, instances, worked} = head.stats || {}, parts = [], many = value => value.toLocaleString('en');
+  if (shapes !== undefined) parts.push(`${many(lots)} lots, ${many(instances)} solids`, `${many(shapes)} shapes`);
+  if (Number.isInteger(worked)) parts[1] = `of ${parts[1]} ${many(worked)} were worked anew`;
+  if (town.low && shows.ground) parts.push(`grid ${+cell_of().toPrecision(1)}`);
+  if (town.offset && town.offset.some(at => Math.abs(at) >= 1000)) parts.push(`drawn from ${town.offset.map(many).join(', ')}`);
+  box_of('sums').textContent = parts.join(' \u00b7 ');
+  show('sums', parts.length && !head.said);
+}

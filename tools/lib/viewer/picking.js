@@ -1,0 +1,79 @@
+'use strict';
+// What stands under the pointer.
+
+// How far on its way a ray meets a box, or Infinity.
+function met_box(eye, way, low, high) {
+  let first = 0, last = Infinity;
+  for (let k = 0; k < 3; k++) {
+    const a = (low[k] - eye[k]) / way[k], b = (high[k] - eye[k]) / way[k];
+    if (way[k] === 0 ? eye[k] < low[k] || eye[k] > high[k] : false) return Infinity;
+    if (way[k] !== 0) [first, last] = [Math.max(first, Math.min(a, b)), Math.min(last, Math.max(a, b))];
+  }
+  return first <= last ? first : Infinity;
+}
+
+function met_triangle(eye, way, [a, b, c]) {
+  const ab = minus(b, a), ac = minus(c, a), p = cross(way, ac), det = dot(ab, p), from = minus(eye, a), q = cross(from, ab);
+  const u = dot(from, p) / det, w = dot(way, q) / det, far = dot(ac, q) / det;
+  return u >= 0 && w >= 0 && u + w <= 1 && far > 0 ? far : Infinity;
+}
+
+function met_solid(eye, way, {mesh, data}, slot) {
+  const corners = mesh.corners.map(corner => spot(corner, data, slot * FLOATS)), found = [];
+  const triangles = triangles_of(mesh.faces);
+  for (let k = 0; k < triangles.length; k += 3) found.push(met_triangle(eye, way, triangles.slice(k, k + 3).map(at => corners[at])));
+  return Math.min(...found);
+}
+
+// The instances whose boxes are met, the nearest box first.
+function candidates(eye, way) {
+  const found = [];
+  for (const batch of town.batches.values()) {
+    for (let slot = 0; slot < batch.count; slot++) {
+      const low = [Infinity, Infinity, Infinity], high = [-Infinity, -Infinity, -Infinity], at = slot * FLOATS;
+      if (hidden.has(town.symbols[batch.data[at + 12]])) continue;
+      widen(batch.data, at, low, high);
+      const far = met_box(eye, way, low, high);
+      if (far < Infinity) found.push({batch, slot, far});
+    }
+  }
+  return found.sort((a, b) => a.far - b.far);
+}
+
+// Solids in one plane are met in the order in which they are drawn: flat ones first, then by symbol.
+function order_of({data}, slot) {
+  const at = slot * FLOATS, is_flat = [3, 6, 9].some(axis => !data[at + axis] && !data[at + axis + 1] && !data[at + axis + 2]);
+  return (data[at + 12] & 3) + (is_flat ? 4 : 0);
+}
+
+// The nearest instance on the way through a place of the window, and the point at which it is met.
+function met(x, y) {
+  const {eye, way} = ray(x, y);
+  let best = Infinity, found = null;
+  for (const {batch, slot, far} of candidates(eye, way)) {
+    if (far > best * (1 + 1e-5)) break;
+    const real = met_solid(eye, way, batch, slot) * (1 - 1e-6 * order_of(batch, slot));
+    if (real < best) [best, found] = [real, batch.entries[slot]];
+  }
+  return found && {entry: found, point: along(eye, best, way)};
+}
+
+// Where a place of the window is: on a solid, or on the ground, or as far as the centre.
+function point_at(x, y) {
+  const hit = met(x, y), {eye, way} = ray(x, y);
+  if (hit) return hit.point;
+  const down = (town.low[1] - eye[1]) / way[1];
+  return along(eye, down > 0 && down < 3 * view.far * view.lens ? down : view.far * view.lens, way);
+}
+
+const neat = value => String(+value.toFixed(3));
+
+// What the picked solid is, in words.
+function told_of(line, rules) {
+  const {lot, symbol, corner, axes, size} = parsed(line);
+  const low = corner[1] + Math.min(0, ...columns({axes, size}).filter((_, k) => k % 3 === 1));
+  const high = corner[1] + Math.max(0, ...columns({axes, size}).filter((_, k) => k % 3 === 1));
+  const by = (rules[symbol] || []).map(([id, place]) => `${id} (line ${place})`).join(', ');
+  return [decodeURIComponent(symbol), `lot ${decodeURIComponent(lot)}`, `size ${size.map(neat).join(' \u00d7 ')}`,
+    low === high ? `height ${neat(low)}` : `height ${neat(low)} to ${neat(high)}`, by && `rule ${by}`].filter(Boolean);
+}

@@ -1,0 +1,184 @@
+"""What a page is given of a town, and the page in a browser without a window, where Chromium is there."""
+import json
+import re
+import sys
+import tempfile
+import unittest
+from pathlib import Path
+
+TESTS = Path(__file__).resolve().parent
+TOP = TESTS.parent.parent
+sys.path[:0] = [str(TESTS.parent), str(TESTS)]
+
+from browser import CHROMIUM, Browser  # noqa: E402
+from lib.drawn import Meshes  # noqa: E402
+from lib.obj import Town  # noqa: E402
+from lib.page import data_of, page  # noqa: E402
+
+FACES = ["f 4 3 7 8", "f 3 2 6 7", "f 2 1 5 6", "f 1 4 8 5", "f 8 7 6 5", "f 1 2 3 4"]
+
+
+def cubes(*places, symbol="wall", lot="a"):
+    """An OBJ text of cubes, each by its corner and its sizes."""
+    lines = [f"o {lot}"]
+    for number, (x, y, z, w, h, d) in enumerate(places):
+        base = [(x, z), (x + w, z), (x + w, z + d), (x, z + d)]
+        lines += [f"g {symbol}", *(f"v {a:.6f} {b:.6f} {c:.6f}" for b in (y, y + h) for a, c in base)]
+        lines += ["f " + " ".join(str(8 * number + int(at)) for at in face.split()[1:]) for face in FACES]
+    return lines
+
+
+class Data(unittest.TestCase):
+    def test_a_pane_at_map_coordinates_keeps_its_thickness(self):
+        line, = Meshes().lines(Town(cubes((2683141.123456, 0, 1247942, 1, 2, 0.06))))
+        self.assertEqual(line, "a wall mesh0 2683141.123456 0 1247942 +X+Y+Z 1 2 0.06")
+
+    def test_equal_forms_have_one_mesh(self):
+        meshes = Meshes()
+        lines = meshes.lines(Town(cubes((0, 0, 0, 1, 2, 3), (5, 0, 0, 7, 8, 9))))
+        self.assertEqual([line.split()[2] for line in lines], ["mesh0", "mesh0"])
+        self.assertEqual(list(meshes.told), ["mesh0"])
+
+    def test_names_are_only_ever_data(self):
+        lines = cubes((0, 0, 0, 1, 1, 1), symbol="<!-- <script>", lot='a b "$&')
+        line, = Meshes().lines(Town(lines))
+        self.assertEqual(line.split(), ["a%20b%20%22%24%26", "%3C%21--%20%3Cscript%3E", "mesh0", "0", "0", "0", "+X+Y+Z", "1", "1", "1"])
+
+    def test_a_title_does_not_end_the_script(self):
+        text = page(data_of(Town(cubes((0, 0, 0, 1, 1, 1))), "<!-- <script>"))
+        given, = re.findall(r"^const given = (.*);$", text, re.MULTILINE)
+        self.assertNotIn("<", given)
+        self.assertEqual(json.loads(given)["title"], "<!-- <script>")
+
+
+@unittest.skipUnless(CHROMIUM, "SKIPPED: the page isn't tried in a browser, since Chromium isn't there")
+class InBrowser(unittest.TestCase):
+    """The page as it is drawn by the processor alone, in a window of 480 by 320."""
+
+    @classmethod
+    def setUpClass(cls):
+        cls.browser = Browser(480, 320)
+        cls.addClassCleanup(cls.browser.close)
+        folder = tempfile.TemporaryDirectory()
+        cls.addClassCleanup(folder.cleanup)
+        cls.file = Path(folder.name) / "page.html"
+
+    def show(self, town, title="town"):
+        self.file.write_text(page(data_of(town, title)), encoding="utf-8")
+        self.browser.open(f"file://{self.file}")
+        self.browser.wait("is_asked === false")
+        self.assertEqual(self.browser.run("[document.getElementById('said').textContent, gl.getError()]"), ["", 0])
+
+    def run_(self, script):
+        return self.browser.run(script)
+
+    def pixel(self, x, y):
+        """Red, green and blue of a place of the window, drawn anew."""
+        return self.run_(f"(() => {{ draw(); const seen = new Uint8Array(4); gl.readPixels({x}, 319 - {y}, 1, 1, gl.RGBA, gl.UNSIGNED_BYTE, seen);"
+                         " return [...seen].slice(0, 3); })()")
+
+    def pixels(self):
+        """All pixels, drawn anew."""
+        return self.run_("(() => { draw(); const seen = new Uint8Array(4 * 480 * 320); gl.readPixels(0, 0, 480, 320, gl.RGBA, gl.UNSIGNED_BYTE, seen);"
+                         " return [...seen]; })()")
+
+    def place_of(self, *point):
+        """Where a point, beside the town's offset, comes in the window."""
+        return self.run_(f"(() => {{ const m = matrix(town).view, p = [{','.join(map(str, point))}, 1];"
+                         " const [x, y, , w] = [0, 1, 2, 3].map(r => [0, 1, 2, 3].reduce((sum, c) => sum + m[4 * c + r] * p[c], 0));"
+                         " return [Math.round((x / w + 1) * 240), Math.round((1 - y / w) * 160)]; })()")
+
+    def test_the_first_view_holds_the_whole_town(self):
+        for sizes in ((10, 300, 10), (400, 3, 10), (3, 3, 3)):
+            with self.subTest(sizes):
+                self.show(Town(cubes((5, 0, 5, *sizes))))
+                for k in range(8):
+                    x, y = self.place_of(*(size * (k >> axis & 1) for axis, size in enumerate(sizes)))
+                    self.assertTrue(0 <= x < 480 and 0 <= y < 320, (x, y))
+
+    def test_a_town_at_map_coordinates_looks_as_one_at_the_origin(self):
+        seen = []
+        for x, z in ((0, 0), (2683000, 1248000)):
+            self.show(Town(cubes((x, 0, z, 10, 6, 8), (x + 3, 2, z + 8, 2, 2, 0.06))))
+            seen.append(self.pixels())
+        different = sum(abs(a - b) > 8 for a, b in zip(*seen))
+        self.assertLess(different, len(seen[0]) / 200)
+        self.assertIn("2,683,000", self.run_("box_of('sums').textContent"))
+
+    def test_a_click_tells_what_it_is_and_a_drag_keeps_it(self):
+        self.show(Town(cubes((0, 0, 0, 10, 6, 8)) + ["g <roof>", "v 0 6 0", "v 10 6 0", "v 10 6 8", "v 0 6 8", "f 9 10 11 12"]))
+        self.browser.click(*self.place_of(5, 3, 8))
+        told = self.run_("box_of('picked').textContent")
+        self.assertEqual(told, "walllot a · size 10 × 6 × 8 · height 0 to 6")
+        self.browser.drag(200, 250, 260, 270)
+        self.assertEqual(self.run_("box_of('picked').textContent"), told)
+        self.browser.click(*self.place_of(5, 6, 4))
+        self.assertEqual(self.run_("box_of('picked').textContent"), "<roof>lot a · size 10 × 0 × 8 · height 6")
+
+    def test_the_wheel_zooms_to_the_pointer(self):
+        self.show(Town(cubes((0, 0, 0, 10, 6, 8), (40, 0, 0, 10, 6, 8))))
+        corner = (50, 6, 8)
+        before, far = self.place_of(*corner), self.run_("view.far")
+        self.browser.wheel(*before, -400)
+        self.browser.wait(f"view.far < {far} * .7")
+        after = self.place_of(*corner)
+        self.assertLess(max(abs(a - b) for a, b in zip(before, after)), 4)
+
+    def test_keys_look_from_the_sides_and_from_above(self):
+        self.show(Town(cubes((0, 0, 0, 10, 6, 8))))
+        for key, corners in (("1", ((0, 0, 8), (10, 0, 8))), ("2", ((10, 0, 8), (10, 0, 0))), ("3", ((10, 0, 0), (0, 0, 0))),
+                             ("4", ((0, 0, 0), (0, 0, 8))), ("5", ((0, 6, 8), (10, 6, 8)))):
+            self.browser.key(key)
+            (left, low), (right, other_low) = (self.place_of(*corner) for corner in corners)
+            self.assertLess(left, 240, key)
+            self.assertLess(240, right, key)
+            self.assertEqual(low, other_low, key)
+
+    def test_the_sun_throws_shadows(self):
+        self.show(Town(cubes((0, 0, 0, 4, 8, 4))))
+        self.browser.key("5")
+        self.run_("view.far *= 3")
+        # the sun stands at (-.38, .73, .57), so a top of 8 throws its shadow 4.2 to the right and 6.2 back
+        shade, sun = self.pixel(*self.place_of(7, 0, -4)), self.pixel(*self.place_of(-4, 0, 7))
+        self.assertLess(sum(shade), sum(sun) - 60)
+
+    def test_walls_back_to_back_do_not_flicker(self):
+        """Two walls in one plane, of two symbols: each pixel is of one of them, whatever the view."""
+        wall = ["g {}", "v 0 0 0", "v 10 0 0", "v 10 6 0", "v 0 6 0", "f {}"]
+        lines = ["o a", *wall, "o b", *wall]
+        town = Town("\n".join(lines).format("wall", "1 2 3 4", "roof", "8 7 6 5").split("\n"))
+        self.show(town)
+        for turn in (0.2, 0.5, 0.9):
+            self.run_(f"Object.assign(view, {{turn: {turn}, tilt: .3}}); shows.edges = false; look_at(town)")
+            seen = {tuple(self.pixel(*self.place_of(x, y, 0))) for x in range(1, 10) for y in range(1, 6)}
+            self.assertEqual(len(seen), 1)
+
+    def test_the_legend_hides(self):
+        self.show(Town(cubes((0, 0, 0, 10, 6, 8))))
+        place = self.place_of(5, 3, 8)
+        before = self.pixel(*place)
+        self.run_("document.querySelector('#legend div').click()")
+        self.assertNotEqual(self.pixel(*place), before)
+        self.run_("document.querySelector('#legend div').click()")
+        self.assertEqual(self.pixel(*place), before)
+
+    def test_it_is_not_black_before_a_town_is_there(self):
+        self.file.write_text(page(), encoding="utf-8")
+        self.browser.open(f"file://{self.file}")
+        self.browser.settled()
+        self.assertEqual(self.run_("[...(() => { const seen = new Uint8Array(4); gl.readPixels(9, 9, 1, 1, gl.RGBA, gl.UNSIGNED_BYTE, seen); return seen; })()]"),
+                         [196, 212, 227, 255])
+
+    def test_the_solids_of_the_program_are_drawn_as_it_prints_them(self):
+        """The corners of each solid are those of an example that printed it, by its unit mesh."""
+        self.show(Town(cubes((0, 0, 0, 1, 1, 1))))
+        for solid, sizes, corners in (("hip", (6, 2, 4), [(2, 2, 2), (4, 2, 2)]), ("hip", (4, 2, 6), [(2, 2, 2), (2, 2, 4)]), ("gable", (6, 2, 4), [(0, 2, 2), (6, 2, 2)]),
+                                      ("gable", (4, 2, 6), [(2, 2, 0), (2, 2, 6)]), ("shed", (6, 2, 4), [(6, 2, 4), (0, 2, 4)])):
+            with self.subTest((solid, sizes)):
+                told = self.run_(f"(() => {{ const mesh = SOLIDS[mesh_of('{solid}', {sizes[0]}, {sizes[2]})], data = [0, 0, 0, {sizes[0]}, 0, 0, 0, {sizes[1]}, 0, 0, 0, {sizes[2]}];"
+                                 " return mesh.corners.slice(4).map(corner => spot(corner, data, 0)); })()")
+                self.assertEqual([tuple(round(part, 6) for part in corner) for corner in told], corners)
+
+
+if __name__ == "__main__":
+    unittest.main()
