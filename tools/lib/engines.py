@@ -53,7 +53,7 @@ SLURM = """\
 #!/bin/sh
 # Written by tools/districts. `sh slurm [OPTION OF SBATCH ..]` submits the jobs that weren't run as one array, and behind it
 # a check, which submits the next round where there is one. THEN=join joins in the end, too. Call it again after a failure.
-cd "$(dirname "$0")" || exit 1
+[ -n "$DISTRICTS_TASK" ] || cd "$(dirname "$0")" || exit 1  # Slurm runs a copy of this from elsewhere, but in this folder
 export THEN
 if [ "$DISTRICTS_TASK" = jobs ]; then
   exec sh job $(awk -v task="$SLURM_ARRAY_TASK_ID" -v tasks="$DISTRICTS_TASKS" 'NR % tasks == task % tasks' "$DISTRICTS_TODO")
@@ -74,7 +74,7 @@ if [ "$number" -gt 0 ]; then
   after=--dependency=afterany:${{array%%;*}}
 fi
 check=$(DISTRICTS_TASK=check sbatch --parsable --job-name=check $after --output=slurm.log --open-mode=append "$@" slurm "$@") || exit
-echo "$number jobs in ${{array:-no}} array of $tasks tasks, then check ${{check%%;*}}; its end is told in slurm.log"
+echo "${{array:+$number jobs in array ${{array%%;*}} of $tasks tasks, then }}check ${{check%%;*}}; its end is told in slurm.log"
 """
 
 

@@ -70,7 +70,8 @@ class Printed:
         if not text.startswith("# ok\n" + self.rules.grammar()):
             raise self.broken("its rules are others than those of the cut")
         answers = list(replies(text.split("\n")[:-1]))[1:]
-        if not text.endswith("\n") or len(answers) != 2 + (self.job.level == 0 and "bill" in self.plan.asked):
+        number = 2 + (self.job.level == 0 and "bill" in self.plan.asked)
+        if not text.endswith("\n") or len(answers) != number or answers[1][0] != f"# faults {len(answers[1]) - 1}":
             raise self.broken("its beginning isn't whole")
         return answers
 

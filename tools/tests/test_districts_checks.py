@@ -44,8 +44,8 @@ class Checks(RegionTest):
                 ("", "its rules are others"), (whole[:whole.index("o flat")], "its end isn't that of this job"), (whole[:-1], "its end isn't"),
                 (whole.replace(end, ""), "its end isn't"), (whole.replace(end, "# job 0\n"), "its end isn't"), (whole + "# ok\n", "its end isn't"),
                 ("# refused BadLot a\n" + whole, "refused BadLot a: mend"), (whole.replace("1: wall", "2: wall"), "its rules are others"),
-                (whole.replace("# faults 1", "# faults 2"), "it has other faults than"), (whole.replace("# faults 1\n", ""), "its beginning isn't whole"),
-                (whole.replace("stats lots 4", "stats lots 3"), "it has other lots"), (whole.replace("# hull c", "# hull x"), "boxes are of other lots"),
+                (whole.replace("# faults 1", "# faults 2"), "its beginning isn't whole"), (whole.replace("# faults 1\n", ""), "its beginning isn't whole"),
+                (whole.replace("faults 1 exp", "faults 2 exp"), "it has other faults than"), (whole.replace("stats lots 4", "stats lots 3"), "it has other lots"), (whole.replace("# hull c", "# hull x"), "boxes are of other lots"),
                 (whole.replace("# hull c 20 0 0 24", "# hull c 20 0 0 19"), "ends before it begins"), (whole.replace("# hull c", "# hulls c"), "isn't one"),
                 (whole.replace("# hull c 20", "# hull c 20/0"), "isn't of numbers"), (whole.replace("# hull c 20 ", "# hull c "), "isn't one")):
             with self.subTest(told):
