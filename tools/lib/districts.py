@@ -18,6 +18,7 @@ from .program import LAUNCHER, is_proved
 from .region import Region
 from .rounds import outcome
 from .survey import Survey
+from .tiles import write_tiles
 
 MAIN, HULLS = (LAUNCHER.parent / "crates" / name / "out" / name for name in ("cga_main", "cga_hulls"))
 AGAIN = 3  # the status where jobs are to be run again
@@ -90,6 +91,17 @@ def joined(words):
         if status == 0:
             for path in join(words.folder, read_plan(words.folder), words.workers):
                 print(f"{path}: {path.stat().st_size} bytes")
+    return status
+
+
+def tiled(words):
+    with alone(words.folder):
+        status = checked(words.folder)
+        if status == 0:
+            plan = read_plan(words.folder)
+            survey = Survey(words.folder, plan, plan.jobs)
+            survey.demand()
+            print(write_tiles(words.folder, plan, survey.told, words.workers))
     return status
 
 
@@ -187,4 +199,4 @@ def refused(why):
     return 1
 
 
-DOES = {"cut": cut, "check": check, "join": joined, "status": status, "todo": names, "tidy": tidy}
+DOES = {"cut": cut, "check": check, "join": joined, "tiles": tiled, "status": status, "todo": names, "tidy": tidy}

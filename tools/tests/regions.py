@@ -35,7 +35,7 @@ def value(chance, most):
 def random_lots(chance, number, most):
     """Lots with corners anywhere, in names of random order."""
     names = chance.sample(range(1000), number)
-    sizes = [(chance.choice(["1", "4", "2.5", "7/3"]), chance.choice(["1", "3", "0.3"])) for _ in names]
+    sizes = [(chance.choice(["1", "4", "2.5", "7/3"]), chance.choice(["1", "3", "4/3"])) for _ in names]
     return [f"lot {chance.choice(['l', 'flat'])}{name} {chance.randint(0, 3)} {value(chance, most)} {value(chance, most)} {width} {depth} wall"
             for name, (width, depth) in zip(names, sizes)]
 

@@ -121,7 +121,8 @@ class Engines(RegionTest):
         self.cut(REACHING, 1)
         status, said, log = self.by_slurm(THEN="join")
         self.assertEqual((status, said), (0, "3 jobs in array 17 of 3 tasks, then check 17; its end is told in slurm.log\n"))
-        self.assertIn("1 jobs to run; run them, and check again\n1 jobs in array 17 of 1 tasks", log)
+        self.assertIn("1 jobs to run; run them, and check again\n", log)
+        self.assertIn("\n1 jobs in array 17 of 1 tasks", log)
         self.assert_whole(REACHING)
 
     def test_slurm_goes_on_after_a_task_that_was_killed(self):
