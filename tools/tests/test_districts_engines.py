@@ -3,6 +3,7 @@ import os
 import re
 import shutil
 import subprocess
+import sys
 import time
 import unittest
 
@@ -40,9 +41,16 @@ exec python3 {} <"$0.$$"
 
 
 class Engines(RegionTest):
+    def setUp(self):
+        super().setUp()
+        (self.top / "python3").symlink_to(sys.executable)  # without what else may stand before it
+
+    def environment(self, **held):
+        return {**os.environ, "PATH": f"{self.top}:{os.environ['PATH']}", **held}
+
     def make(self, *words, **environment):
         return subprocess.Popen(["make", "-j", "2", "-C", self.folder, *words], stdout=subprocess.PIPE, stderr=subprocess.PIPE, text=True,
-                                env={**os.environ, **environment})
+                                env=self.environment(**environment))
 
     def made(self, *words, **environment):
         making = self.make(*words, **environment)
@@ -104,7 +112,7 @@ class Engines(RegionTest):
     def test_a_job_that_is_killed(self):
         program = self.program(WITHOUT_DIE.format(STAND_IN))
         self.cut([*REGION, "lot die 1 90 0 1 1 wall"], 1, program=program)
-        done = subprocess.run(["sh", self.folder / "job", *self.todo()], capture_output=True, text=True)
+        done = subprocess.run(["sh", self.folder / "job", *self.todo()], capture_output=True, text=True, env=self.environment())
         self.assertEqual(done.returncode, 137)
         self.assertIn(f"job {self.todo()[0]} ended with status 137\n", done.stderr)
         self.assertEqual((len(self.todo()), self.jobs("part")), (1, []))
@@ -113,8 +121,7 @@ class Engines(RegionTest):
     def by_slurm(self, **environment):
         (self.top / "sbatch").write_text(SBATCH)
         (self.top / "sbatch").chmod(0o755)
-        path = f"{self.top}:{os.environ['PATH']}"
-        done = subprocess.run(["sh", self.folder / "slurm", "--mem=1G"], capture_output=True, text=True, env={**os.environ, "PATH": path, **environment})
+        done = subprocess.run(["sh", self.folder / "slurm", "--mem=1G"], capture_output=True, text=True, env=self.environment(**environment))
         return done.returncode, done.stdout, (self.folder / "slurm.log").read_text()
 
     def test_slurm_runs_rounds_and_joins(self):
@@ -141,7 +148,8 @@ class Engines(RegionTest):
         for lines in re.findall(r"^```sh\n(.*?)^```", text, re.MULTILINE | re.DOTALL):
             self.folder = self.top / "region"
             self.cut(REGION, 1)
-            done = subprocess.run(["bash", "-e", "-c", lines], cwd=self.top, capture_output=True, text=True)
+            done = subprocess.run(["bash", "-e", "-c", lines], cwd=self.top, capture_output=True, text=True,
+                                  env=self.environment())
             self.assertEqual(done.returncode, 0, done.stderr)
             self.assertEqual(self.todo(), [])
             self.assert_whole(REGION)
