@@ -37,7 +37,7 @@ def whole_districts(region, options, together):
     largest = max(groups, key=len)
     if len(largest) > MOST_LOTS:
         raise Refused(f"{region.path}: the district of the lot `{name(region, largest)}` has {len(largest)} lots that touch, and a run "
-                      f"takes {MOST_LOTS}: put a street through it, or cut with --rings 2, which derives a square with its neighbours")
+                      f"takes {MOST_LOTS}: put a street through it, or cut with --rings 2, which derives squares with their neighbours")
     return len(groups), by_place(region.grounds(), groups, options.most)
 
 
@@ -76,9 +76,9 @@ def with_rings(region, options, together, seen, more):
     for share in by_place(region.grounds(), groups, options.most):
         ring = ring_of(share.own, near, options.rings, more)
         if len(share.own) + len(ring) > MOST_LOTS:
-            raise Refused(f"{region.path}: the job of the lot `{name(region, share.own)}` has {len(share.own)} lots and {len(ring)} neighbours, "
-                          f"and a run takes {MOST_LOTS}: cut with fewer lots a job (--lots) or fewer --rings; where that was tried, what "
-                          "these lots ask goes too far for jobs")
+            raise Refused(f"{region.path}: the job of the lot `{name(region, share.own)}` has {len(share.own)} lots and {len(ring)} "
+                          f"neighbours, and a run takes {MOST_LOTS}: cut with fewer lots a job (--lots) or fewer --rings; where that "
+                          "was tried, what these lots ask goes too far for jobs")
         yield share._replace(ring=ring)
 
 

@@ -48,8 +48,14 @@ def cut(words):
     with alone(words.folder):
         plan, number = Cut(words.folder, program, region, heads, options).make()
         left = len(todo(words.folder, plan))
-    kind = "no rule asks" if not asks else f"{number} districts, since a rule asks" if number is not None else "jobs with their neighbours, since a rule asks"
-    print(f"{words.folder}: {len(plan.lots)} lots in {len(plan.drawn())} jobs, {left} to run; {kind}")
+    print(f"{words.folder}: {len(plan.lots)} lots in {len(plan.drawn())} jobs, {left} to run; {kind(asks, number)}")
+
+
+def kind(asks, districts):
+    """How the lots were dealt."""
+    if not asks:
+        return "no rule asks"
+    return "with their neighbours, since a rule asks" if districts is None else f"{districts} districts, since a rule asks"
 
 
 def refuse(region, words, heads):
@@ -58,7 +64,8 @@ def refuse(region, words, heads):
         if head.asks():
             raise Refused(f"{path}: rule {', '.join(head.asks())} asks by Scope.occ, which a coarser head can't")
     if words.rings and heads[0].asks() and region.counted:
-        raise Refused(f"{region.path}: `{region.counted[0]}` can't be had with --rings, where jobs tell of their neighbours, too: leave it out")
+        raise Refused(f"{region.path}: `{region.counted[0]}` can't be had with --rings, since jobs then tell of their neighbours, too: "
+                      "leave it out")
 
 
 def check(words):
@@ -153,7 +160,7 @@ def add_cut(words):
     words.add_argument("script", help="the script of the region")
     words.add_argument("folder", type=Path, help="the folder of its jobs, which is made")
     words.add_argument("--lots", type=whole(1, MOST_LOTS), default=500, help="lots of a job at most (500)")
-    words.add_argument("--reach", type=number, default="0", help="lots stand in one job whose grounds touch, each grown by so much (0)")
+    words.add_argument("--reach", type=number, default="0", help="where a rule asks, grounds are grown by so much (0)")
     words.add_argument("--rings", type=whole(0, 64), default=0, help="cut districts, too: each job derives so many rings of neighbours with it")
     words.add_argument("--decimals", type=decimals, default=[], help="of coordinates, 0 to 9 (6)")
     words.add_argument("--coarser", nargs=2, action="append", default=[], metavar=("HEAD", "ERROR"),

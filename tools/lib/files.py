@@ -4,6 +4,8 @@ import os
 import sys
 from contextlib import contextmanager
 
+from .call import Refused
+
 
 def write(path, data):
     """Gives the file these bytes, unless it has them; who reads the old ones reads on in these."""
@@ -22,6 +24,8 @@ def write(path, data):
 @contextmanager
 def alone(folder):
     """Waits until no other call works in the folder, and says so."""
+    if not folder.is_dir():
+        raise Refused(f"{folder} is no folder of a region")
     with (folder / "lock").open("w") as lock:
         try:
             fcntl.flock(lock, fcntl.LOCK_EX | fcntl.LOCK_NB)

@@ -21,7 +21,7 @@ class Traced:
     """Of each lot of a job the digest of its steps, and how many shapes it has; of the own lots the instances."""
 
     def __init__(self, folder, plan, job):
-        self.path, self.kept = folder / "jobs" / f"{job.name}.out", folder / "jobs" / f"{job.name}.steps"
+        self.printed, self.kept = Printed(folder, plan, job), folder / "jobs" / f"{job.name}.steps"
         self.names = plan.lots_of(job)
         self.own = len(job.own)
 
@@ -31,10 +31,12 @@ class Traced:
         return json.loads(self.kept.read_bytes())
 
     def made(self):
-        data = self.path.read_bytes()
-        steps = defaultdict(list)
+        data, steps = self.printed.path.read_bytes(), defaultdict(list)
         begin, end = data.rfind(b"\n# trace "), data.rfind(b"\n# stats ")
-        for line in data[begin + 1:end].split(b"\n")[1:]:
+        head, *lines = data[begin + 1:end].split(b"\n")
+        if head != b"# trace %d" % len(lines):
+            raise self.printed.broken("its steps aren't whole")
+        for line in lines:
             steps[line.split(b" ", 3)[2]].append(line)
         lots = [self.lot(steps[name.encode("latin-1")]) for name in self.names]
         return {"lots": lots, "instances": self.instances(data[data.index(OBJ):begin + 1])}
@@ -76,12 +78,11 @@ class Halos:
     def missing(self):
         """Own lots with lots of other jobs that they touch, and that weren't derived with them."""
         rings = [set(job.ring) for job in self.jobs]
-        for (one, at), (other, place) in across_jobs([boxes[:len(job.own)] for job, boxes in zip(self.jobs, self.boxes)]):
-            lot, neighbour = self.jobs[one].own[at], self.jobs[other].own[place]
-            if neighbour not in rings[one]:
-                yield lot, neighbour
-            if lot not in rings[other]:
-                yield neighbour, lot
+        for pair in across_jobs([boxes[:len(job.own)] for job, boxes in zip(self.jobs, self.boxes)]):
+            for (one, at), (other, place) in (pair, pair[::-1]):
+                lot, neighbour = self.jobs[one].own[at], self.jobs[other].own[place]
+                if neighbour not in rings[one]:
+                    yield lot, neighbour
 
     def differing(self):
         """Own lots with neighbours that they touch, and of which their own job derived something else."""

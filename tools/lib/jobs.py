@@ -10,6 +10,7 @@ from .engines import engines
 from .files import write
 from .findings import Findings, Lots
 from .plan import Job, Plan
+from .progress import told
 from .region import Region
 
 SCRIPT = "region.cga"  # a copy of the script, for the cuts that checks make
@@ -71,7 +72,7 @@ class Cut:
             yield from self.jobs(shares, ALWAYS, level)
 
     def jobs(self, shares, listed, level):
-        for share in shares:
+        for share in told(shares, "jobs written"):
             lots = [self.region.lots[at] for at in share.own + share.ring]
             script = self.heads[level].script(lots, listed)
             name = self.program.job(script)
@@ -114,3 +115,4 @@ def leftovers(folder, plan, refused):
             yield path
     yield from (path for path in folder.glob("program-*") if path.name != plan.program)
     yield from folder.glob("todo-*")
+    yield from (path for path in folder.glob("tiles/*.glb") if path.stem not in names)

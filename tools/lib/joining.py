@@ -78,7 +78,8 @@ def write_piece(given):
 def join_text(folder, plan, pool, number, text, path):
     """Writes one of the OBJ texts of the town to a file that has another name until it is whole."""
     part = path.with_name(path.name + ".part")
-    given = [(folder / f"{path.name}.{at}.piece", found) for at, found in enumerate(pieces(spans(folder, plan, pool, text), PIECES * number))]
+    runs = pieces(spans(folder, plan, pool, text), PIECES * number)
+    given = [(folder / f"{path.name}.{at}.piece", run) for at, run in enumerate(runs)]
     try:
         with part.open("wb") as file:
             file.write(OBJ)

@@ -23,7 +23,8 @@ class Survey:
         if len(self.refused) > SHOWN:
             reasons.append(f"{len(self.refused) - SHOWN} more jobs are refused: tools/districts status {self.folder} names them")
         if self.to_run:
-            reasons.append(f"{len(self.to_run)} jobs weren't run, {self.to_run[0].name} the first: make -j 4 -C {self.folder}, or sh {self.folder}/slurm")
+            reasons.append(f"{len(self.to_run)} jobs weren't run, {self.to_run[0].name} the first: make -j 4 -C {self.folder}, or "
+                           f"sh {self.folder}/slurm")
         return reasons
 
     def demand(self):

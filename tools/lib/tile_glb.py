@@ -57,8 +57,10 @@ class Glb:
         self.data, self.views, self.accessors, self.primitives = bytearray(), [], [], []
         for at, part in enumerate(parts.values()):
             least, most = part.ends()
-            places = self.accessor(part.places, VERTICES, type="VEC3", componentType=FLOAT, count=len(part.places) // 3, min=least, max=most)
-            triangles = self.accessor(part.triangles, INDICES, type="SCALAR", componentType=INDEX, count=len(part.triangles))
+            places = self.accessor(part.places, VERTICES, type="VEC3", componentType=FLOAT, count=len(part.places) // 3,
+                                   min=least, max=most)
+            triangles = self.accessor(part.triangles, INDICES, type="SCALAR", componentType=INDEX,
+                                      count=len(part.triangles))
             self.primitives.append({"attributes": {"POSITION": places}, "indices": triangles, "material": at})
         self.materials = [material(colour) for colour in parts]
 

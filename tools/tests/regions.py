@@ -5,8 +5,10 @@ import random
 import subprocess
 import sys
 import tempfile
+import time
 import unittest
 from pathlib import Path
+from unittest.mock import patch
 
 TESTS = Path(__file__).resolve().parent
 TOP = TESTS.parent.parent
@@ -15,6 +17,7 @@ sys.path[:0] = [str(TESTS), str(TESTS.parent)]
 
 import region_stand_in  # noqa: E402
 
+from lib import head, program  # noqa: E402
 from lib.districts import main  # noqa: E402
 from lib.replies import replies  # noqa: E402
 
@@ -47,6 +50,13 @@ def run(program, lines, *words):
     return done.stdout.decode("latin-1").split("\n")[:-1]
 
 
+def answered(named, script):
+    """The status and the replies of a program; the stand-in answers here, which takes no start."""
+    if named == STAND_IN:
+        return 0, region_stand_in.answer(script.decode("latin-1"))
+    return program.run(named, script)
+
+
 def whole(program, lines, *words):
     """The town, the faults and the counts of one run."""
     head = [line for line in lines if line not in ("print", "bill", "model", "stats")]
@@ -55,12 +65,22 @@ def whole(program, lines, *words):
     return town, faults, " ".join(stats[0].split()[2:10])
 
 
+def wait(is_so, seconds=20):
+    """Waits until that is so, and not for ever."""
+    end = time.monotonic() + seconds
+    while not is_so() and time.monotonic() < end:
+        time.sleep(0.02)
+
+
 class RegionTest(unittest.TestCase):
     def setUp(self):
         folder = tempfile.TemporaryDirectory()
         self.addCleanup(folder.cleanup)
         self.top = Path(folder.name)
         self.script, self.folder = self.top / "region.cga", self.top / "a region's $folder"
+        called = patch.object(head, "run", answered)
+        called.start()
+        self.addCleanup(called.stop)
 
     def call(self, *words):
         """The status of a call, what it prints, and what it tells on the other stream."""

@@ -1,10 +1,11 @@
 """How scripts are cut into jobs by place, what is refused, and what an edit costs."""
 import runpy
+import sys
 import threading
 import unittest
 from unittest.mock import patch
 
-from regions import RULES, STAND_IN, TOP, RegionTest, asking
+from regions import RULES, STAND_IN, TOP, RegionTest, asking, wait
 
 from lib import deal, districts
 from lib.call import Refused
@@ -124,7 +125,7 @@ class Cut(RegionTest):
             second = threading.Thread(target=lambda: self.answers.append(self.cut([*REGION, "lot z 1 0 0 1 1 wall"])))
             self.answers = []
             second.start()
-            second.join(0.3)
+            wait(lambda: "another call works in" in getattr(sys.stderr, "getvalue", str)())
             self.assertEqual(self.answers, [])
         second.join()
         self.assertIn("another call works in", self.answers[0][2])

@@ -4,10 +4,9 @@ import re
 import shutil
 import subprocess
 import sys
-import time
 import unittest
 
-from regions import RULES, STAND_IN, TOP, RegionTest, asking
+from regions import RULES, STAND_IN, TOP, RegionTest, asking, wait
 
 LOTS = [f"lot {name} {seed} {10 * x} 0 4 4 wall" for x, (name, seed) in enumerate([("a", 1), ("flat", 2), ("c", 0)])]
 REGION = [*RULES, *LOTS]
@@ -88,9 +87,9 @@ class Engines(RegionTest):
     def test_a_region_that_is_cut_again_while_a_job_runs(self):
         """The job ends late, and under its old name: nothing of it comes into the new region."""
         self.cut(REGION, 4096)
-        late = self.make("town.obj", REGION_SLOW="0.7")
-        time.sleep(0.35)
-        changed = [line.replace("lot flat 2", "lot flat 3") for line in [REGION[0], *REGION[1:]]][:-1]
+        late = self.make("town.obj", REGION_SLOW="1")
+        wait(lambda: self.jobs("part"))
+        changed = [line.replace("lot flat 2", "lot flat 3") for line in REGION[:-1]]
         self.cut(changed, 4096)
         _, told = late.communicate()
         self.assertIn("1 jobs weren't run", told)

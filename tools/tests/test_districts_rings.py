@@ -58,6 +58,13 @@ class Rings(RegionTest):
         self.assertEqual(self.rounds()[1][1], f"{self.folder}: lots 20 shapes 30 instances 10 faults 20\n")
         self.assert_whole(lines)
 
+    def test_steps_that_are_not_whole(self):
+        self.cut(asking(*ROW), 10, "--rings", "1")
+        self.run_jobs()
+        path = next(path for path in self.jobs("out") if "# step l09 " in path.read_text())
+        path.write_text("".join(line for line in path.read_text().splitlines(True) if not line.startswith("# step l09 ")))
+        self.assert_refused(self.call("check", self.folder), f"{path} isn't what its job prints, since its steps aren't whole")
+
     def test_bills_and_models_are_refused(self):
         for word in ("bill", "model"):
             self.assert_refused(self.cut(asking(*ROW, word), 4, "--rings", "1"), f"`{word}` can't be had with --rings")
