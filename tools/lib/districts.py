@@ -24,10 +24,12 @@ MAIN, HULLS = (LAUNCHER.parent / "crates" / name / "out" / name for name in ("cg
 AGAIN = 3  # the status where jobs are to be run again
 
 
-def chosen_program(named, asks=()):
+def chosen_program(named, asks=(), decimals=()):
     """The program of the jobs: the one that is named, else the one that tells boxes, else the proved one."""
-    if named or HULLS.exists():
-        return named or str(HULLS)
+    if named:
+        return named
+    if HULLS.exists() and (asks or not decimals):
+        return str(HULLS)
     if asks:
         raise Refused(f"rule {', '.join(asks)} asks by Scope.occ, so the jobs need the program cga_hulls, which isn't built: "
                       "run `rt run </dev/null` in crates/cga_hulls")
@@ -43,7 +45,7 @@ def cut(words):
     asks = heads[0].asks()
     refuse(region, words, heads)
     options = Options(words.lots, words.reach, words.rings if asks else 0, words.decimals, [error for _, error in words.coarser])
-    program = Program(chosen_program(words.program, asks), words.decimals)
+    program = Program(chosen_program(words.program, asks, words.decimals), words.decimals)
     words.folder.mkdir(parents=True, exist_ok=True)
     with alone(words.folder):
         plan, number = Cut(words.folder, program, region, heads, options).make()

@@ -2,6 +2,7 @@
 runs it: what another script or another program printed has another name, and what was run once isn't run again."""
 import hashlib
 import shutil
+import subprocess
 from pathlib import Path
 
 from .call import Refused
@@ -14,6 +15,7 @@ from .progress import told
 from .region import Region
 
 SCRIPT = "region.cga"  # a copy of the script, for the cuts that checks make
+CUBE = b'version 2\nrules\n1: a -> S(1r, 1, 1r) I("cube")\nend\nlot a 1 0 0 1 1 a\nprint\n'
 ALWAYS = ["grammar", "faults", "print", "stats"]  # each job is asked for these
 
 
@@ -25,6 +27,8 @@ class Program:
         if found is None:
             raise Refused(f"{path} is no program that can be run")
         self.data, self.words = Path(found).read_bytes(), words
+        if words and not takes_decimals(found, words):
+            raise Refused(f"{path} doesn't print with {' '.join(words)}: name a program that does by --program")
         self.name = f"program-{hashlib.sha256(self.data).hexdigest()[:20]}"
 
     def job(self, script):
@@ -36,6 +40,13 @@ class Program:
         path = folder / self.name
         if write(path, self.data):
             path.chmod(0o755)
+
+
+def takes_decimals(program, words):
+    """Whether the program prints as its words say; one that knows no words would print as ever."""
+    out = subprocess.run([program, *words], input=CUBE, stdout=subprocess.PIPE).stdout
+    zero = f"{0:.{words[1]}f}"
+    return f"\nv {zero} {zero} {zero}\n".encode() in out
 
 
 def asked(region, has_rings):

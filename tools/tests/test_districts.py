@@ -118,6 +118,11 @@ class Cut(RegionTest):
         self.cut(REGION, 3, "--decimals", "2")
         self.rounds(30, STAND_IN, "--decimals", "2")
         self.assert_whole(REGION, STAND_IN, "--decimals", "2")
+        deaf = self.top / "deaf"
+        deaf.write_text(f"#!/bin/sh\nexec {STAND_IN}\n")
+        deaf.chmod(0o755)
+        self.assert_refused(self.cut(REGION, 3, "--decimals", "2", program=deaf), f"{deaf} doesn't print with --decimals 2: name a program that does")
+        self.assertEqual(self.cut(REGION, 3, program=deaf)[0], 0)
 
     def test_a_second_call_in_a_folder_waits_and_says_so(self):
         self.cut(REGION)
