@@ -9,7 +9,7 @@ from .apart import Sets, touching
 from .checking import across_jobs, over_all
 from .files import write
 from .printed import OBJ, Printed
-from .progress import told as shown
+from .progress import shown
 
 LARGEST = 4  # times the rings of the cut: lots that need more have their jobs put together
 

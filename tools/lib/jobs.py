@@ -1,6 +1,7 @@
 """The folder of a region that is cut. Each file of a job is named by the digest of its script and of the program that
 runs it: what another script or another program printed has another name, and what was run once isn't run again."""
 import hashlib
+import os
 import shutil
 import subprocess
 from pathlib import Path
@@ -11,7 +12,7 @@ from .engines import engines
 from .files import write
 from .findings import Findings, Lots
 from .plan import Job, Plan
-from .progress import told
+from .progress import shown
 from .region import Region
 
 SCRIPT = "region.cga"  # a copy of the script, for the cuts that checks make
@@ -83,7 +84,7 @@ class Cut:
             yield from self.jobs(shares, ALWAYS, level)
 
     def jobs(self, shares, listed, level):
-        for share in told(shares, "jobs written"):
+        for share in shown(shares, "jobs written"):
             lots = [self.region.lots[at] for at in share.own + share.ring]
             script = self.heads[level].script(lots, listed)
             name = self.program.job(script)
@@ -100,7 +101,7 @@ class Cut:
         self.program.save(self.folder)
         write(self.folder / SCRIPT, self.region.data)
         for name, text in engines(self.program.name, self.options.words, jobs):
-            write(self.folder / name, text.encode("latin-1"))
+            write(self.folder / name, os.fsencode(text))
         plan.save(self.folder)
         return plan, number
 

@@ -5,16 +5,16 @@ import time
 FIRST, EACH = 2.0, 0.5  # seconds
 
 
-def told(items, what, number=None):
+def shown(items, what, number=None):
     """The same items; while they are worked on, it is told how many of them are done."""
     number = len(items) if number is None else number
     begun = last = time.monotonic()
-    shown = False
+    has_shown = False
     for done, item in enumerate(items):
         now = time.monotonic()
         if sys.stderr.isatty() and now - begun > FIRST and now - last > EACH:
             print(f"\r{what}: {done} of {number}", end="", file=sys.stderr, flush=True)
-            last, shown = now, True
+            last, has_shown = now, True
         yield item
-    if shown:
+    if has_shown:
         print(f"\r{what}: {number} of {number}", file=sys.stderr)

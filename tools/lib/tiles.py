@@ -4,7 +4,7 @@ import json
 from .checking import around
 from .files import write
 from .joining import workers
-from .progress import told as shown
+from .progress import shown
 from .quadtree import Quadtree
 from .tile_glb import ends_of, glb
 from .tileset import Tile, tileset, tree

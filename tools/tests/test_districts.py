@@ -146,6 +146,8 @@ class Cut(RegionTest):
                 self.assert_refused(self.call("cut", "x", "y"), "x: No such file or directory")
                 self.write(REGION)
                 self.assert_refused(self.call("cut", self.script, self.folder), "jobs need a proved program")
+        self.folder = self.top / "fol\u03bb\u00e9 'der"
+        self.assertEqual(self.cut(REGION)[0], 0, "paths are only data")
         self.assert_refused(self.cut(REGION, program=nowhere), "nowhere: No such file")
         for program, told in (("/dev/null", "isn't a program"), ("false", "no answer: false ended with status 1")):
             self.assert_refused(self.cut(REGION, program=program), told if program != "/dev/null" else "/dev/null: Permission denied")
