@@ -30,7 +30,7 @@ TOOL_CALL = """\
 cd "$(dirname "$0")" || exit 1
 word=$1
 shift
-exec {tool} "$word" . "$@"
+exec {tool} "$word" "$PWD" "$@"
 """
 
 MAKEFILE = """\

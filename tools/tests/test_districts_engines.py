@@ -138,7 +138,7 @@ class Engines(RegionTest):
         self.assertEqual(len(self.todo()), 1)
         _, said, log = self.by_slurm()
         self.assertTrue(said.startswith("1 jobs in array"))
-        self.assertEqual((self.todo(), log.split("\n")[-2]), ([], ".: lots 3 shapes 6 instances 3 faults 1"))
+        self.assertEqual((self.todo(), log.split("\n")[-2]), ([], f"{self.folder}: lots 3 shapes 6 instances 3 faults 1"))
         self.assertEqual(self.by_slurm()[1], "check 17; its end is told in slurm.log\n")
 
     def test_the_lines_of_the_document(self):
