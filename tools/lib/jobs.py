@@ -1,81 +1,130 @@
-"""The folder of a region that is cut: a script for each job, which lot stands in which, and a make file."""
+"""The folder of a region that is cut. Each file of a job is named by the digest of its script and of the program that
+runs it: what another script or another program printed has another name, and what was run once isn't run again."""
+import hashlib
 import os
-import re
 import shutil
+import subprocess
+from pathlib import Path
 
+from .call import Refused
+from .deal import coarser, singly, whole_districts, with_rings
+from .engines import engines
+from .files import write
+from .findings import Findings, Lots
+from .plan import Job, Plan
+from .progress import shown
 from .region import Region
 
-MAKEFILE = """\
-# Written by tools/districts. `make -j 8` runs the jobs that weren't run, and joins what they printed.
-PROGRAM ?= {program}
-DISTRICTS ?= {districts}
-JOBS := {jobs}
-
-town.obj: lots $(JOBS:=.out)
-	"$(DISTRICTS)" join . || {{ [ $$? = 3 ] && $(MAKE) PROGRAM="$(PROGRAM)"; }}
-
-%.out: %.cga
-	"$(PROGRAM)" <$< >$@.part
-	mv $@.part $@
-"""
+SCRIPT = "region.cga"  # a copy of the script, for the cuts that checks make
+CUBE = b'version 2\nrules\n1: a -> S(1r, 1, 1r) I("cube")\nend\nlot a 1 0 0 1 1 a\nprint\n'
+ALWAYS = ["grammar", "faults", "print", "stats"]  # each job is asked for these
 
 
-def write(path, data):
-    """Leaves a file as it is where it has these bytes; what a job of another script printed is taken away."""
-    if not path.exists() or path.read_bytes() != data:
-        path.write_bytes(data)
-        if path.suffix == ".cga":
-            path.with_suffix(".out").unlink(missing_ok=True)
+class Program:
+    """A copy of the program in the folder, named by its digest: the program may be built anew while jobs run."""
+
+    def __init__(self, path, words):
+        found = shutil.which(path)
+        if found is None:
+            raise Refused(f"{path} is no program that can be run")
+        self.data, self.words = Path(found).read_bytes(), words
+        if words and not takes_decimals(found, words):
+            raise Refused(f"{path} doesn't print with {' '.join(words)}: name a program that does by --program")
+        self.name = f"program-{hashlib.sha256(self.data).hexdigest()[:20]}"
+
+    def job(self, script):
+        """The name of a job."""
+        begin = "\0".join([self.name, *self.words, ""]).encode("latin-1")
+        return hashlib.sha256(begin + script).hexdigest()[:20]
+
+    def save(self, folder):
+        path = folder / self.name
+        if write(path, self.data):
+            path.chmod(0o755)
 
 
-class Jobs:
-    """Of each lot its job, in the script's order, and where a rule asks the district that it stands in."""
+def takes_decimals(program, words):
+    """Whether the program prints as its words say; one that knows no words would print as ever."""
+    out = subprocess.run([program, *words], input=CUBE, stdout=subprocess.PIPE).stdout
+    zero = f"{0:.{words[1]}f}"
+    return f"\nv {zero} {zero} {zero}\n".encode() in out
 
-    def __init__(self, folder):
-        self.folder, self.job_of, self.districts = folder, {}, None
 
-    def number(self):
-        return len(set(self.job_of.values()))
+def asked(region, has_rings):
+    """What each job is asked for: what a check reads stands before the town and behind it."""
+    bill = ["bill"] if "bill" in region.counted else []
+    model = ["model"] if "model" in region.counted else []
+    return ["grammar", "faults", *bill, "print", *model, *(["trace"] if has_rings else []), "stats"]
 
-    def begin(self, region, program, districts_tool, job_of, districts):
-        self.job_of, self.districts = job_of, districts
-        self.folder.mkdir(parents=True, exist_ok=True)
-        self.take_away(self.number())
-        self.write_jobs(region, range(1, self.number() + 1))
-        if districts is not None:
-            write(self.folder / "region", region.data)
-        paths = [os.path.abspath(shutil.which(program) or program), os.path.abspath(districts_tool)]
-        program, tool = (path.replace("$", "$$") for path in paths)
-        jobs = " ".join(f"job-{job}" for job in range(1, self.number() + 1))
-        write(self.folder / "Makefile", MAKEFILE.format(program=program, districts=tool, jobs=jobs).encode())
 
-    def take_away(self, number):
-        """What is there of jobs beyond so many."""
-        for path in self.folder.glob("job-*"):
-            job = re.fullmatch(r"job-(\d+)\.(cga|out|out\.part)", path.name)
-            if job and int(job.group(1)) > number:
-                path.unlink()
+class Cut:
+    """A region with all that its jobs come from."""
 
-    def write_jobs(self, region, jobs):
-        lots = {job: [] for job in jobs}
-        for name, job in self.job_of.items():
-            lots.get(job, []).append(name)
-        for job, names in lots.items():
-            write(self.folder / f"job-{job}.cga", region.script(names))
-        district = (lambda name: "") if self.districts is None else (lambda name: f" {self.districts[name]}")
-        lines = [f"{name} {job}{district(name)}\n" for name, job in self.job_of.items()]
-        write(self.folder / "lots", "".join(lines).encode("latin-1"))
+    def __init__(self, folder, program, region, heads, options):
+        self.folder, self.program, self.region, self.heads, self.options = folder, program, region, heads, options
+        self.asks = heads[0].asks()
 
-    def read(self):
-        lots = [line.split() for line in (self.folder / "lots").read_text(encoding="latin-1").splitlines()]
-        self.job_of = {name: int(job) for name, job, *_ in lots}
-        if any(len(lot) == 3 for lot in lots):
-            self.districts = {name: district for name, _, district in lots}
+    def shares(self):
+        """How many districts there are, where that is asked, and the shares of the jobs."""
+        region, options = self.region, self.options
+        if not self.asks:
+            return None, list(singly(region, options))
+        lots, findings = Lots(region), Findings(self.folder)
+        together = lots.pairs(findings.together)
+        if options.rings:
+            return None, list(with_rings(region, options, together, lots.pairs(findings.seen), lots.numbers(findings.rings)))
+        number, shares = whole_districts(region, options, together)
+        return number, list(shares)
 
-    def put_together(self, districts):
-        """Each lot goes into the job of its district's first name. Gives the jobs whose lots have changed, which are cut anew."""
-        moved = {name: self.job_of[district] for name, district in districts.items()}
-        changed = {job for name, job in moved.items() if job != self.job_of[name] for job in (job, self.job_of[name])}
-        self.job_of, self.districts = moved, districts
-        self.write_jobs(Region(self.folder / "region"), sorted(changed))
-        return sorted(changed)
+    def levels(self, shares, listed):
+        """The jobs of the town, and of each coarser head in larger squares."""
+        yield from self.jobs(shares, listed, 0)
+        for level in range(1, len(self.heads)):
+            shares = list(coarser(shares, self.options.most * 4 ** level))
+            yield from self.jobs(shares, ALWAYS, level)
+
+    def jobs(self, shares, listed, level):
+        for share in shown(shares, "jobs written"):
+            lots = [self.region.lots[at] for at in share.own + share.ring]
+            script = self.heads[level].script(lots, listed)
+            name = self.program.job(script)
+            write(self.folder / "jobs" / f"{name}.cga", script)
+            yield Job(name, share.own, share.ring, share.square, level)
+
+    def make(self):
+        """Gives the plan and the number of districts. Files that are as they are to be are left alone."""
+        (self.folder / "jobs").mkdir(parents=True, exist_ok=True)
+        number, shares = self.shares()
+        listed = asked(self.region, bool(self.asks and self.options.rings))
+        jobs = list(self.levels(shares, listed))
+        plan = Plan(self.options, self.program.name, self.heads, listed, list(self.region.names), jobs)
+        self.program.save(self.folder)
+        write(self.folder / SCRIPT, self.region.data)
+        for name, text in engines(self.program.name, self.options.words, jobs):
+            write(self.folder / name, os.fsencode(text))
+        plan.save(self.folder)
+        return plan, number
+
+
+def cut_again(folder, plan):
+    """Cuts what was cut, by what is found by now."""
+    program = Program(str(folder.absolute() / plan.program), plan.options.words)
+    return Cut(folder, program, Region(folder / SCRIPT), plan.heads, plan.options).make()[0]
+
+
+def todo(folder, plan):
+    """The names of the jobs that weren't run."""
+    names = dict.fromkeys(job.name for job in plan.jobs)
+    return [name for name in names if not (folder / "jobs" / f"{name}.out").exists()]
+
+
+def leftovers(folder, plan, refused):
+    """The files of no job of the cut, and the outputs that are refused."""
+    names = {job.name for job in plan.jobs}
+    for path in (folder / "jobs").iterdir():
+        name = path.name.partition(".")[0]
+        if name not in names or name in refused and path.suffix != ".cga" or path.suffix == ".part":
+            yield path
+    yield from (path for path in folder.glob("program-*") if path.name != plan.program)
+    yield from folder.glob("todo-*")
+    yield from (path for path in folder.glob("tiles/*.glb") if path.stem not in names)

@@ -1,92 +1,120 @@
-"""What the jobs of a region printed, each read once from front to end, and put together lot by lot."""
-from collections import defaultdict
-from itertools import takewhile
+"""What a job printed. A check reads what stands before the town and behind it, and never the town between."""
+import re
+from collections import namedtuple
 
-from .apart import hull
 from .call import Refused
+from .exact import over_one
 from .replies import replies
 
-OBJ = "# cga_city obj\n"
+OBJ = b"# cga_city obj\n"
+PIECE = 1 << 16
+AGAIN = "take it away by `tools/districts tidy`, and run the job again"
+PAST = ("past what a run takes, 400,000 shapes and 4,096 lots: cut with fewer lots a job (--lots); where its lots are of one "
+        "district, with --rings 2; a lot that is past it alone can't be helped")
+
+# of a job: its counts, its bill by symbol, and of each lot the box, as whole numbers over one; none where none are told
+Told = namedtuple("Told", "counts bill one boxes")
 
 
 def asking(grammar):
-    """The numbers of the rules that ask, off what `grammar` printed: nothing else is spelt so there."""
+    """The numbers of the rules that ask, off what `grammar` or `dump` printed: nothing else is spelt so there."""
     return [line.split(":")[0] for line in grammar if "Scope.occ" in line]
 
 
+def counted(line):
+    """The counts in a line of `stats`; that of the expanded shapes isn't one of the town's."""
+    words = line.split()
+    return {word: int(number) for word, number in zip(words[2::2], words[3::2]) if word != "expanded"}
+
+
 class Printed:
-    """Behind the reply to `version 2` the grammar and the faults by lot, then the objects as they are asked for, then the counts."""
+    """The output of a job, of which the plan says what it is to be."""
 
-    def __init__(self, file):
-        self.path, self.file, self.vertices = file.name, file, 0
-        first = [line.rstrip("\n") for line in takewhile(lambda line: line != OBJ, self.file)]
-        answers = list(replies(first))
-        self.check([answer[0] for answer in answers if answer[0].startswith("# refused ")])
-        if len(answers) != 3:
-            raise self.broken()
-        (_, self.grammar, faults), self.faults = answers, defaultdict(list)
-        for fault in faults[1:]:
-            self.faults[fault.split()[2]].append(fault + "\n")
-        self.line = next(self.file, "")
+    def __init__(self, folder, plan, job):
+        self.path, self.plan, self.job = folder / "jobs" / f"{job.name}.out", plan, job
+        self.rules = plan.heads[job.level]
 
-    def check(self, refused):
-        for cause in refused:
-            if cause in ("# refused OverBudget", "# refused TooManyLots"):
-                raise Refused(f"{self.path}: {cause[2:]}: a job has at most 400,000 shapes and 4,096 lots: cut the script into more jobs")
-            raise Refused(f"{self.path}: {cause[2:]}: mend that line, which tools/lint finds in the script, and cut it again")
+    def broken(self, why):
+        return Refused(f"{self.path} isn't what its job prints, since {why}: {AGAIN}")
 
-    def broken(self):
-        return Refused(f"{self.path} isn't what its job prints: take it away and run the job again")
+    def told(self):
+        with self.path.open("rb") as file:
+            _, faults, *bills = self.head(self.before_town(file))
+            stats, *hulls = self.behind_town(file)
+        if counted(stats).get("faults") != len(faults) - 1:
+            raise self.broken("it has other faults than it counts")
+        bill = {words[2]: words[3:] for words in map(str.split, bills[0][1:])} if bills else {}
+        return Told(counted(stats), bill, *self.boxes(hulls))
 
-    def object(self, name):
-        """The lines of the next object, which has this name."""
-        if self.line != f"o {name}\n":
-            raise self.broken()
-        yield self.line
-        self.line = next(self.file, "")
-        while self.line[:2] in ("g ", "v ", "f "):
-            self.vertices += self.line.startswith("v ")
-            yield self.line
-            self.line = next(self.file, "")
+    def faults(self):
+        """The lines of faults of the job's own lots."""
+        with self.path.open("rb") as file:
+            lines = self.head(self.before_town(file))[1][1:]
+        own = {self.plan.lots[at] for at in self.job.own}
+        return [line for line in lines if line.split()[2] in own]
 
-    def counts(self):
-        """What `stats` counted, which stands behind the last object, but for the expanded shapes, which aren't a sum."""
-        words = self.line.split()
-        if words[:2] != ["#", "stats"] or not self.line.endswith("\n"):
-            raise self.broken()
-        return {word: int(number) for word, number in zip(words[2::2], words[3::2]) if word != "expanded"}
+    def before_town(self, file):
+        text = b""
+        while OBJ not in text:
+            piece = file.read(PIECE)
+            if not piece:
+                break
+            text += piece
+        return text.partition(OBJ)[0].decode("latin-1")
 
-    def hulls(self):
-        """The box of each lot, behind the counts, where the program tells of them."""
+    def head(self, text):
+        """The replies to `grammar`, `faults` and perhaps `bill`."""
+        refused = re.search(r"^# refused (.*)", text, re.MULTILINE)
+        if refused:
+            raise Refused(f"{self.path}: {self.why(refused.group(1))}")
+        if not text.startswith("# ok\n" + self.rules.grammar()):
+            raise self.broken("its rules are others than those of the cut")
+        answers = list(replies(text.split("\n")[:-1]))[1:]
+        number = 2 + (self.job.level == 0 and "bill" in self.plan.asked)
+        if not text.endswith("\n") or len(answers) != number or answers[1][0] != f"# faults {len(answers[1]) - 1}":
+            raise self.broken("its beginning isn't whole")
+        return answers
+
+    def why(self, cause):
+        """What to do about a refusal."""
+        if cause in ("OverBudget", "TooManyLots"):
+            return f"refused {cause}: the job of the lot `{self.plan.lots[self.job.own[0]]}` is {PAST}"
+        line = re.search(r" at (\d+)", cause)
+        at = int(line.group(1)) - 1 - len(self.rules.city) if line else -1
+        lots = self.plan.lots_of(self.job)
+        named = f", in the line of the lot `{lots[at]}`" if 0 <= at < len(lots) else ""
+        return f"refused {cause}{named}: mend that line, which tools/lint finds in the script, and cut it again"
+
+    def behind_town(self, file):
+        """The lines from that of the counts on, without the one that ends the output."""
+        size, taken = file.seek(0, 2), PIECE
+        while True:
+            file.seek(max(0, size - taken))
+            text = file.read()
+            at = text.rfind(b"\n# stats ")
+            if at >= 0 or taken >= size:
+                break
+            taken *= 8
+        lines = text[at + 1:].decode("latin-1").split("\n")
+        if at < 0 or lines.pop() or lines.pop() != f"# job {self.job.name}" or not lines:
+            raise self.broken("its end isn't that of this job")
+        if counted(lines[0]).get("lots") != len(self.job.own) + len(self.job.ring):
+            raise self.broken("it has other lots")
+        return lines
+
+    def boxes(self, lines):
+        """One, and for each lot its box, X before Z before Y."""
+        if not lines:
+            return 1, []
+        words = " ".join(lines).split(" ")
+        if len(words) != 9 * len(lines) or set(words[::9]) != {"#"} or set(words[1::9]) != {"hull"}:
+            raise self.broken("a line of boxes isn't one")
+        if words[2::9] != self.plan.lots_of(self.job):
+            raise self.broken("its boxes are of other lots")
         try:
-            return {line.split()[2]: hull(line.split()) for line in self.file if self.is_hull(line)}
-        except (ValueError, ZeroDivisionError):
-            raise self.broken() from None
-
-    def is_hull(self, line):
-        if not (line.startswith("# hull ") and line.endswith("\n")):
-            raise self.broken()
-        return True
-
-
-def check_grammars(jobs):
-    """Whether a rule asks. Refused unless each job replied by one grammar."""
-    for job in jobs:
-        if job.grammar != jobs[0].grammar:
-            raise Refused(f"{job.path} and {jobs[0].path} are of two grammars: cut the script again and run all jobs")
-    return bool(asking(jobs[0].grammar))
-
-
-def moved(face, by):
-    return f"f {' '.join(str(int(word) + by) for word in face.split()[1:])}\n"
-
-
-def objects(lots):
-    """The lines of the OBJ text of these lots, each a name with the job that has it; vertices are numbered through."""
-    vertices = 0
-    yield OBJ
-    for name, job in lots:
-        by = vertices - job.vertices
-        for line in job.object(name):
-            yield moved(line, by) if by and line.startswith("f ") else line
-        vertices = by + job.vertices
+            one, columns = over_one([words[at::9] for at in (3, 6, 5, 8, 4, 7)])
+        except ValueError:
+            raise self.broken("a box isn't of numbers") from None
+        if any(low > high for at in (0, 2, 4) for low, high in zip(columns[at], columns[at + 1])):
+            raise self.broken("a box ends before it begins")
+        return one, list(zip(*columns))

@@ -1,0 +1,211 @@
+"""Cuts a script of many lots into jobs by place, for make, xargs or Slurm; checks that what the jobs print is the region;
+joins it, or makes tiles of it. docs/DISTRICTS.md says what is promised."""
+import argparse
+import os
+import sys
+from pathlib import Path
+
+from .call import Refused
+from .checking import bill_text
+from .deal import MOST_LOTS
+from .exact import parted
+from .files import alone, write
+from .head import head_of
+from .jobs import Cut, Program, cut_again, leftovers, todo
+from .joining import join
+from .plan import Options, read_plan
+from .program import LAUNCHER, is_proved
+from .region import Region
+from .rounds import outcome
+from .survey import Survey
+from .tiles import write_tiles
+
+MAIN, HULLS = (LAUNCHER.parent / "crates" / name / "out" / name for name in ("cga_main", "cga_hulls"))
+AGAIN = 3  # the status where jobs are to be run again
+
+
+def chosen_program(named, asks=(), decimals=()):
+    """The program of the jobs: the one that is named, else the one that tells boxes, else the proved one."""
+    if named:
+        return named
+    if HULLS.exists() and (asks or not decimals):
+        return str(HULLS)
+    if asks:
+        raise Refused(f"rule {', '.join(asks)} asks by Scope.occ, so the jobs need the program cga_hulls, which isn't built: "
+                      "run `rt run </dev/null` in crates/cga_hulls")
+    if not is_proved(str(LAUNCHER)):
+        raise Refused("jobs need a proved program: build one by `./cga_city --prove`, or by `rt run </dev/null` in crates/cga_hulls")
+    return str(MAIN)
+
+
+def cut(words):
+    region = Region(words.script)
+    coarse = [Region(path, has_lots=False) for path, _ in words.coarser]
+    heads = [head_of(head, chosen_program(words.program)) for head in [region, *coarse]]
+    asks = heads[0].asks()
+    refuse(region, words, heads)
+    options = Options(words.lots, words.reach, words.rings if asks else 0, words.decimals, [error for _, error in words.coarser])
+    program = Program(chosen_program(words.program, asks, words.decimals), words.decimals)
+    words.folder.mkdir(parents=True, exist_ok=True)
+    with alone(words.folder):
+        plan, number = Cut(words.folder, program, region, heads, options).make()
+        left = len(todo(words.folder, plan))
+    print(f"{words.folder}: {len(plan.lots)} lots in {len(plan.drawn())} jobs, {left} to run; {kind(asks, number)}")
+
+
+def kind(asks, districts):
+    """How the lots were dealt."""
+    if not asks:
+        return "no rule asks"
+    return "with their neighbours, since a rule asks" if districts is None else f"{districts} districts, since a rule asks"
+
+
+def refuse(region, words, heads):
+    """Refuses what can't be had together."""
+    for (path, _), head in zip(words.coarser, heads[1:]):
+        if head.asks():
+            raise Refused(f"{path}: rule {', '.join(head.asks())} asks by Scope.occ, which a coarser head can't")
+    if words.rings and heads[0].asks() and region.counted:
+        raise Refused(f"{region.path}: `{region.counted[0]}` can't be had with --rings, since jobs then tell of their neighbours, too: "
+                      "leave it out")
+
+
+def check(words):
+    with alone(words.folder):
+        return checked(words.folder)
+
+
+def checked(folder):
+    plan = read_plan(folder)
+    if (folder / "counts").exists():
+        (folder / "counts").unlink()
+    survey = Survey(folder, plan, plan.drawn())
+    survey.demand()
+    found, counts, bill = outcome(folder, plan, [survey.told[job.name] for job in plan.drawn()])
+    if found:
+        left = len(todo(folder, cut_again(folder, plan)))
+        print(f"{found}: {left} jobs to run; run them, and check again", file=sys.stderr)
+        return AGAIN
+    if "bill" in plan.asked:
+        write(folder / "town.bill", bill_text(bill).encode("latin-1"))
+    text = " ".join(f"{word} {number}" for word, number in counts.items())
+    (folder / "counts").write_text(text + "\n", encoding="latin-1")
+    print(f"{folder}: {text}")
+    return 0
+
+
+def joined(words):
+    with alone(words.folder):
+        status = checked(words.folder)
+        if status == 0:
+            for path in join(words.folder, read_plan(words.folder), words.workers):
+                print(f"{path}: {path.stat().st_size} bytes")
+    return status
+
+
+def tiled(words):
+    with alone(words.folder):
+        status = checked(words.folder)
+        if status == 0:
+            plan = read_plan(words.folder)
+            survey = Survey(words.folder, plan, plan.jobs)
+            survey.demand()
+            print(write_tiles(words.folder, plan, survey.told, words.workers))
+    return status
+
+
+def status(words):
+    plan = read_plan(words.folder)
+    survey = Survey(words.folder, plan, plan.jobs)
+    print(f"{words.folder}: {len(survey.told)} jobs run, {len(survey.to_run)} to run, {len(survey.refused)} refused")
+    for reason in survey.refused.values():
+        print(reason)
+
+
+def names(words):
+    for name in todo(words.folder, read_plan(words.folder)):
+        print(name)
+
+
+def tidy(words):
+    """Takes away outputs that are refused, and what is of no job of the cut."""
+    with alone(words.folder):
+        plan = read_plan(words.folder)
+        gone = list(leftovers(words.folder, plan, Survey(words.folder, plan, plan.jobs).refused))
+        for path in gone:
+            path.unlink()
+    print(f"{words.folder}: {len(gone)} files taken away")
+
+
+def whole(least, most):
+    def taken(word):
+        if not word.isdigit() or not least <= int(word) <= most:
+            raise argparse.ArgumentTypeError(f"{word} isn't a whole number from {least} to {most}")
+        return int(word)
+    return taken
+
+
+def decimals(word):
+    return ["--decimals", str(whole(0, 9)(word))]
+
+
+def number(word):
+    """A length as it is spelt, which is read exactly."""
+    try:
+        parted(word)
+        return word
+    except ValueError:
+        raise argparse.ArgumentTypeError(f"{word} isn't a number") from None
+
+
+def add_cut(words):
+    words.add_argument("script", help="the script of the region")
+    words.add_argument("folder", type=Path, help="the folder of its jobs, which is made")
+    words.add_argument("--lots", type=whole(1, MOST_LOTS), default=500, help="lots of a job at most (500)")
+    words.add_argument("--reach", type=number, default="0", help="where a rule asks, grounds are grown by so much (0)")
+    words.add_argument("--rings", type=whole(0, 64), default=0, help="cut districts, too: each job derives so many rings of neighbours with it")
+    words.add_argument("--decimals", type=decimals, default=[], help="of coordinates, 0 to 9 (6)")
+    words.add_argument("--coarser", nargs=2, action="append", default=[], metavar=("HEAD", "ERROR"),
+                       help="for tiles: a script whose rules draw the same lots coarser, and by how many units at most")
+    words.add_argument("--program", help="of the jobs, in place of the proved one")
+
+
+def reader():
+    """The words of the command line."""
+    top = argparse.ArgumentParser(prog="districts", description=__doc__)
+    kinds = top.add_subparsers(dest="word", required=True, metavar="WORD")
+    add_cut(kinds.add_parser("cut", help="cut a script into jobs"))
+    for word, text in (("check", "whether what the jobs printed is the region"), ("join", "check, and write town.obj and town.faults"),
+                       ("tiles", "check, and write 3D Tiles"), ("status", "which jobs were run, and which are refused"),
+                       ("todo", "the names of the jobs to run"), ("tidy", "take away what is refused, and what is of no job")):
+        one = kinds.add_parser(word, help=text)
+        one.add_argument("folder", type=Path)
+        if word in ("join", "tiles"):
+            one.add_argument("--workers", type=whole(1, 256), default=os.cpu_count() or 1, help="processes at once (all processors)")
+    return top
+
+
+def main(words=None):
+    """Does what the words say, and gives the status."""
+    given = reader().parse_args(words)
+    try:
+        status = DOES[given.word](given) or 0
+        sys.stdout.flush()
+    except BrokenPipeError:
+        os.dup2(os.open(os.devnull, os.O_WRONLY), sys.stdout.fileno())
+        status = 0
+    except Refused as refusal:
+        status = refused(refusal)
+    except OSError as fault:
+        status = refused(f"{fault.filename or 'output'}: {fault.strerror}")
+    except KeyboardInterrupt:
+        status = 130
+    return status
+
+
+def refused(why):
+    print(f"districts: {why}", file=sys.stderr)
+    return 1
+
+
+DOES = {"cut": cut, "check": check, "join": joined, "tiles": tiled, "status": status, "todo": names, "tidy": tidy}

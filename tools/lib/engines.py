@@ -1,0 +1,87 @@
+"""The files by which any engine runs the jobs of a region: one script that runs a job, and how make and Slurm call it."""
+import shlex
+from pathlib import Path
+
+TOOL = Path(__file__).resolve().parent.parent / "districts"
+
+JOB = """\
+#!/bin/sh
+# Written by tools/districts. `sh job NAME ..` runs jobs/NAME.cga where that wasn't done. What is half written has a name
+# of its own, and what is whole ends with the job's name.
+cd "$(dirname "$0")" || exit 1
+status=0
+for name in "$@"; do
+  [ ! -e "jobs/$name.out" ] || continue
+  part=jobs/$name.$(hostname).$$.part
+  if {program} <"jobs/$name.cga" >"$part" && echo "# job $name" >>"$part"; then
+    mv "$part" "jobs/$name.out"
+  else
+    status=$?
+    rm -f "$part"
+    echo "job $name ended with status $status" >&2
+  fi
+done
+exit $status
+"""
+
+TOOL_CALL = """\
+#!/bin/sh
+# Written by tools/districts, which is called with these words for this folder.
+cd "$(dirname "$0")" || exit 1
+word=$1
+shift
+exec {tool} "$word" "$PWD" "$@"
+"""
+
+MAKEFILE = """\
+# Written by tools/districts. `make -j 8` runs the jobs that weren't run, and checks what they printed; `make -j 8 town.obj`
+# joins it, too. With RUN='srun -Q -n1' each job is a step of Slurm.
+RUN =
+JOBS := {jobs}
+
+counts: plan.json $(JOBS:%=jobs/%.out)
+	@sh tool check || {{ [ $$? = 3 ] && $(MAKE) counts; }}
+
+town.obj: counts
+	sh tool join
+
+jobs/%.out: jobs/%.cga
+	$(RUN) sh job $*
+"""
+
+SLURM = """\
+#!/bin/sh
+# Written by tools/districts. `sh slurm [OPTION OF SBATCH ..]` submits the jobs that weren't run as one array, and behind it
+# a check, which submits the next round where there is one. THEN=join joins in the end, too. Call it again after a failure.
+[ -n "$DISTRICTS_TASK" ] || cd "$(dirname "$0")" || exit 1  # Slurm runs a copy of this from elsewhere, but in this folder
+export THEN
+if [ "$DISTRICTS_TASK" = jobs ]; then
+  exec sh job $(awk -v task="$SLURM_ARRAY_TASK_ID" -v tasks="$DISTRICTS_TASKS" 'NR % tasks == task % tasks' "$DISTRICTS_TODO")
+elif [ "$DISTRICTS_TASK" = check ]; then
+  export DISTRICTS_TASK=
+  sh tool check && {{ [ -z "$THEN" ] || exec sh tool "$THEN"; }} || {{ status=$?; [ $status = 3 ] && exec sh slurm "$@"; exit $status; }}
+  exit
+fi
+most=$(scontrol show config 2>/dev/null | sed -n 's/^MaxArraySize *= *//p')
+list=todo-$$.$(date +%s)
+sh tool todo >"$list" || exit
+number=$(wc -l <"$list")
+tasks=$(( number < ${{most:-1001}} ? number : ${{most:-1001}} - 1 ))
+after=
+if [ "$number" -gt 0 ]; then
+  array=$(DISTRICTS_TASK=jobs DISTRICTS_TASKS=$tasks DISTRICTS_TODO=$list sbatch --parsable --job-name=districts \\
+    --array="1-$tasks" --output="slurm-%A_%a.log" "$@" slurm) || exit
+  after=--dependency=afterany:${{array%%;*}}
+fi
+check=$(DISTRICTS_TASK=check sbatch --parsable --job-name=check $after --output=slurm.log --open-mode=append "$@" slurm "$@") || exit
+echo "${{array:+$number jobs in array ${{array%%;*}} of $tasks tasks, then }}check ${{check%%;*}}; its end is told in slurm.log"
+"""
+
+
+def engines(program, words, jobs):
+    """The files by name."""
+    call = " ".join(["./" + program, *map(shlex.quote, words)])
+    yield "job", JOB.replace("{program}", call)
+    yield "tool", TOOL_CALL.format(tool=shlex.quote(str(TOOL)))
+    yield "Makefile", MAKEFILE.format(jobs=" ".join(dict.fromkeys(job.name for job in jobs)))
+    yield "slurm", SLURM.format()

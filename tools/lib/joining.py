@@ -1,0 +1,114 @@
+"""Joins what the jobs printed to one OBJ text, in pieces that several processes write."""
+import shutil
+from collections import namedtuple
+from contextlib import contextmanager
+from multiprocessing import get_context
+
+from .printed import OBJ, Printed
+from .progress import shown
+from .towns import moved, objects
+
+PIECES = 4  # for each worker, so that none waits long for the last one
+
+# what is copied of a job's output, by how much its faces move
+Span = namedtuple("Span", "path begin end by")
+
+
+@contextmanager
+def workers(number):
+    """What maps a function over work by so many processes, which begin as copies of this one; one is this one itself."""
+    if number == 1:
+        yield map
+        return
+    with get_context("fork").Pool(number) as pool:
+        yield lambda function, given: pool.imap(function, given)
+
+
+def indexed(given):
+    path, names, text = given
+    return objects(path, names, text)
+
+
+def spans(folder, plan, pool, text):
+    """The lots in the script's order."""
+    jobs = plan.drawn()
+    given = [(folder / "jobs" / f"{job.name}.out", [plan.lots[at] for at in job.own], text) for job in jobs]
+    found = {}
+    for job, (path, *_), places in zip(jobs, given, pool(indexed, given)):
+        before = 0
+        for at, place in zip(job.own, places):
+            found[at] = path, place, before
+            before += place.vertices
+    before = 0
+    for at in range(len(plan.lots)):
+        path, place, here = found[at]
+        yield Span(path, place.begin, place.end, before - here)
+        before += place.vertices
+
+
+def pieces(found, number):
+    """The spans in so many runs of about equal size."""
+    found, sizes = list(found), 0
+    most = 1 + sum(span.end - span.begin for span in found) // number
+    runs = [[]]
+    for span in found:
+        if sizes > most * len(runs):
+            runs.append([])
+        runs[-1].append(span)
+        sizes += span.end - span.begin
+    return runs
+
+
+def write_piece(given):
+    path, found = given
+    opened, last = None, None
+    with path.open("wb") as piece:
+        for span in found:
+            if span.path != last:
+                if opened:
+                    opened.close()
+                opened, last = span.path.open("rb"), span.path
+            opened.seek(span.begin)
+            piece.write(moved(opened.read(span.end - span.begin), span.by))
+    if opened:
+        opened.close()
+    return path
+
+
+def join_text(folder, plan, pool, number, text, path):
+    """Writes one of the OBJ texts of the town to a file that has another name until it is whole."""
+    part = path.with_name(path.name + ".part")
+    runs = pieces(spans(folder, plan, pool, text), PIECES * number)
+    given = [(folder / f"{path.name}.{at}.piece", run) for at, run in enumerate(runs)]
+    try:
+        with part.open("wb") as file:
+            file.write(OBJ)
+            for piece in shown(pool(write_piece, given), "pieces joined", len(given)):
+                with piece.open("rb") as read:
+                    shutil.copyfileobj(read, file, 1 << 24)
+                piece.unlink()
+        part.replace(path)
+    finally:
+        for leftover in [part, *(piece for piece, _ in given)]:
+            if leftover.exists():
+                leftover.unlink()
+
+
+def faults(folder, plan):
+    """The text of `faults`, by the script's order of lots."""
+    listed = {}
+    for job in plan.drawn():
+        for line in Printed(folder, plan, job).faults():
+            listed.setdefault(line.split()[2], []).append(line + "\n")
+    lines = [line for name in plan.lots for line in listed.get(name, [])]
+    return f"# faults {len(lines)}\n" + "".join(lines)
+
+
+def join(folder, plan, number):
+    """Writes the town, its faults, and its model where the script asks for one. Gives the files."""
+    texts = ["town.obj", "model.obj"][:1 + ("model" in plan.asked)]
+    with workers(number) as pool:
+        for text, name in enumerate(texts):
+            join_text(folder, plan, pool, number, text, folder / name)
+    (folder / "town.faults").write_text(faults(folder, plan), encoding="latin-1")
+    return [folder / name for name in texts]

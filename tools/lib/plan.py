@@ -1,0 +1,53 @@
+"""The plan of a region that is cut: its jobs, which lots each has, and how it was cut."""
+import json
+from collections import namedtuple
+
+from .call import Refused
+from .files import write
+from .head import Head
+
+FORM = 1  # of the file; a file of another form is refused
+FILE = "plan.json"
+
+# own and ring are places in the list of lots: a job derives both, and its own are taken; level is 0, or the coarser head's
+Job = namedtuple("Job", "name own ring square level")
+
+# how a region was cut: lots of a job at most, how far grounds are grown, rings of neighbours, words for the program, and
+# the errors of the coarser heads
+Options = namedtuple("Options", "most reach rings words errors")
+
+
+class Plan:
+    def __init__(self, options, program, heads, asked, lots, jobs):
+        self.options, self.program, self.heads = options, program, heads
+        self.asked, self.lots, self.jobs = asked, lots, jobs
+
+    def save(self, folder):
+        heads = [[head.dressed, head.city] for head in self.heads]
+        write(folder / FILE, json.dumps({"form": FORM, **vars(self), "heads": heads}, separators=(",", ":")).encode())
+
+    def asks(self):
+        """The numbers of the rules that ask."""
+        return self.heads[0].asks()
+
+    def drawn(self):
+        """The jobs that are of the town itself."""
+        return [job for job in self.jobs if job.level == 0]
+
+    def lots_of(self, job):
+        return [self.lots[at] for at in [*job.own, *job.ring]]
+
+
+def read_plan(folder):
+    if not (folder / FILE).exists():
+        raise Refused(f"{folder} is no region that was cut: there is no {FILE}")
+    try:
+        held = json.loads((folder / FILE).read_bytes())
+        if held.pop("form") != FORM:
+            raise ValueError
+        plan = Plan(**held)
+        plan.options, plan.jobs = Options(*plan.options), [Job(*job) for job in plan.jobs]
+        plan.heads = [Head(*head) for head in plan.heads]
+        return plan
+    except (ValueError, TypeError, KeyError):
+        raise Refused(f"{folder / FILE} wasn't written by this tool: cut the script again") from None

@@ -1,0 +1,39 @@
+"""The next round of a region: what a check found that keeps its jobs from being, together, the region."""
+from .checking import sums, touching_districts
+from .findings import Findings, Lots
+from .halo import Halos, own_counts, traced, unsettled
+from .jobs import SCRIPT
+from .region import Region
+
+
+def outcome(folder, plan, told):
+    """A sentence of what was found, which is written down for the next cut, or none; the counts; the bill."""
+    if plan.asks() and plan.options.rings:
+        traces = traced(folder, plan)
+        return grown(folder, plan, Halos(plan, told, traces)), own_counts(folder, plan, traces), {}
+    return put_together(folder, plan, told) if plan.asks() else "", *sums(told)
+
+
+def put_together(folder, plan, told):
+    """Lots of two jobs whose boxes touch stand in one job from now on."""
+    pairs = touching_districts(plan, told)
+    if not pairs:
+        return ""
+    findings = Findings(folder)
+    findings.together += Lots(Region(folder / SCRIPT)).named(pairs)
+    findings.save()
+    return f"boxes of {len({lot for pair in pairs for lot in pair})} lots touch boxes of other jobs"
+
+
+def grown(folder, plan, halos):
+    """More rings for lots that see what their neighbours' jobs derive otherwise; in the end their jobs are put together."""
+    findings, lots = Findings(folder), Lots(Region(folder / SCRIPT))
+    found = unsettled(plan, halos, lots.numbers(findings.rings))
+    if not found.number:
+        return ""
+    findings.seen += lots.named(found.seen)
+    findings.together += lots.named(found.together)
+    findings.rings = [pair for pair in findings.rings if lots.place(pair[0]) not in found.rings]
+    findings.rings += [[lots.keys[at], rings] for at, rings in sorted(found.rings.items())]
+    findings.save()
+    return f"{found.number} lots see what other jobs derive otherwise"

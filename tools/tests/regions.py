@@ -1,0 +1,140 @@
+"""What tests of regions share: a folder, calls of the tool, jobs run by a program, and regions of random lots."""
+import contextlib
+import io
+import random
+import subprocess
+import sys
+import tempfile
+import time
+import unittest
+from pathlib import Path
+from unittest.mock import patch
+
+TESTS = Path(__file__).resolve().parent
+TOP = TESTS.parent.parent
+STAND_IN = str(TESTS / "region_stand_in.py")
+sys.path[:0] = [str(TESTS), str(TESTS.parent)]
+
+import region_stand_in  # noqa: E402
+
+from lib import head, program  # noqa: E402
+from lib.districts import main  # noqa: E402
+from lib.replies import replies  # noqa: E402
+
+RULES = ["version 2", "rules", '1: wall -> I("cube")', "end", "attr h = 3  # high"]
+ASKING = '7: wall : Scope.occ("active") == "none" -> NIL'
+
+
+def asking(*lots):
+    return [*RULES[:3], ASKING, *RULES[3:], *lots]
+
+
+def value(chance, most):
+    """A number, whole or not, negative or not, as scripts spell it."""
+    whole = chance.randint(-most, most)
+    return chance.choice([str(whole), str(whole), f"{whole}.{chance.randint(0, 99):02}", f"{whole}/{chance.choice([2, 3, 7])}"])
+
+
+def random_lots(chance, number, most):
+    """Lots with corners anywhere, in names of random order."""
+    names = chance.sample(range(1000), number)
+    sizes = [(chance.choice(["1", "4", "2.5", "7/3"]), chance.choice(["1", "3", "4/3"])) for _ in names]
+    return [f"lot {chance.choice(['l', 'flat'])}{name} {chance.randint(0, 3)} {value(chance, most)} {value(chance, most)} {width} {depth} wall"
+            for name, (width, depth) in zip(names, sizes)]
+
+
+def run(program, lines, *words):
+    if program == STAND_IN:
+        return region_stand_in.answer("".join(f"{line}\n" for line in lines), list(words))
+    done = subprocess.run([program, *words], input="".join(f"{line}\n" for line in lines).encode("latin-1"), stdout=subprocess.PIPE, check=True)
+    return done.stdout.decode("latin-1").split("\n")[:-1]
+
+
+def answered(named, script):
+    """The status and the replies of a program; the stand-in answers here, which takes no start."""
+    if named == STAND_IN:
+        return 0, region_stand_in.answer(script.decode("latin-1"))
+    return program.run(named, script)
+
+
+def whole(program, lines, *words):
+    """The town, the faults and the counts of one run."""
+    head = [line for line in lines if line not in ("print", "bill", "model", "stats")]
+    out = [line for line in run(program, [*head, "print", "faults", "stats"], *words) if not line.startswith("# hull ")]
+    *_, town, faults, stats = replies(out)
+    return town, faults, " ".join(stats[0].split()[2:10])
+
+
+def wait(is_so, seconds=20):
+    """Waits until that is so, and not for ever."""
+    end = time.monotonic() + seconds
+    while not is_so() and time.monotonic() < end:
+        time.sleep(0.02)
+
+
+class RegionTest(unittest.TestCase):
+    def setUp(self):
+        folder = tempfile.TemporaryDirectory()
+        self.addCleanup(folder.cleanup)
+        self.top = Path(folder.name)
+        self.script, self.folder = self.top / "region.cga", self.top / "a region's $folder"
+        called = patch.object(head, "run", answered)
+        called.start()
+        self.addCleanup(called.stop)
+
+    def call(self, *words):
+        """The status of a call, what it prints, and what it tells on the other stream."""
+        out, told = io.StringIO(), io.StringIO()
+        with contextlib.redirect_stdout(out), contextlib.redirect_stderr(told):
+            try:
+                status = main(list(map(str, words)))
+            except SystemExit as end:
+                status = end.code
+        return status, out.getvalue(), told.getvalue()
+
+    def write(self, lines):
+        self.script.write_text("\n".join(lines) + "\n", encoding="latin-1")
+
+    def cut(self, lines, lots=2, *words, program=STAND_IN):
+        self.write(lines)
+        return self.call("cut", self.script, self.folder, "--lots", str(lots), "--program", program, *words)
+
+    def jobs(self, kind="cga"):
+        return sorted((self.folder / "jobs").glob(f"*.{kind}"))
+
+    def todo(self):
+        return self.call("todo", self.folder)[1].split()
+
+    def run_jobs(self, program=STAND_IN, *words):
+        """Runs the jobs as the script `job` does."""
+        for name in self.todo():
+            job = self.folder / "jobs" / f"{name}.cga"
+            out = run(program, job.read_text(encoding="latin-1").split("\n"), *words)
+            job.with_suffix(".out").write_text("\n".join([*out, f"# job {name}", ""]), encoding="latin-1")
+
+    def rounds(self, most=30, program=STAND_IN, *words):
+        """Runs jobs and checks until nothing is to be run; gives the rounds that it took, and the last answer."""
+        for number in range(1, most):
+            self.run_jobs(program, *words)
+            answer = self.call("check", self.folder)
+            if answer[0] != 3:
+                return number, answer
+        self.fail("the rounds don't come to an end")
+
+    def joined(self):
+        text = [(self.folder / name).read_text(encoding="latin-1").split("\n")[:-1] for name in ("town.obj", "town.faults", "counts")]
+        return text[0], text[1], text[2][0]
+
+    def assert_whole(self, lines, program=STAND_IN, *words):
+        """What is joined is what one run prints, byte by byte."""
+        answer = self.call("join", self.folder, "--workers", "1")
+        self.assertEqual(answer[0], 0, answer)
+        self.assertEqual(self.joined(), whole(program, lines, *words))
+
+    def assert_refused(self, answer, told, status=1):
+        self.assertEqual(answer[:2], (status, ""), answer[2])
+        self.assertIn(told, answer[2])
+
+
+def chances(number, seed=0):
+    return (random.Random(1000 * seed + at) for at in range(number))

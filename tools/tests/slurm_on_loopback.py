@@ -1,0 +1,235 @@
+#!/usr/bin/env python3
+"""A region by a real Slurm of two nodes on this machine: a task that is killed, one that runs out of memory, and a node that
+goes down; in the end the region is what one run prints. It says so and ends well where Slurm isn't installed.
+
+usage: tools/tests/slurm_on_loopback.py      takes a minute or two; as root, after `apt-get install slurm-wlm munge`
+"""
+import os
+import shutil
+import signal
+import socket
+import subprocess
+import sys
+import tempfile
+import time
+from pathlib import Path
+
+TESTS = Path(__file__).resolve().parent
+sys.path[:0] = [str(TESTS), str(TESTS.parent)]
+
+from regions import STAND_IN, TOP, asking, whole  # noqa: E402
+
+NEEDED = ["munged", "slurmctld", "slurmd", "sbatch", "squeue", "scontrol"]
+CONFIG = """\
+ClusterName=loop
+SlurmctldHost={host}(127.0.0.1)
+SlurmctldPort=16817
+SlurmUser=root
+SlurmdUser=root
+AuthType=auth/munge
+AuthInfo=socket={folder}/munge.socket
+StateSaveLocation={folder}/state
+SlurmdSpoolDir={folder}/spool.%n
+SlurmctldPidFile={folder}/slurmctld.pid
+SlurmdPidFile={folder}/slurmd.%n.pid
+SlurmctldLogFile={folder}/slurmctld.log
+SlurmdLogFile={folder}/slurmd.%n.log
+ProctrackType=proctrack/linuxproc
+TaskPlugin=task/none
+SwitchType=switch/none
+MpiDefault=none
+SelectType=select/cons_tres
+SelectTypeParameters=CR_CPU_Memory
+SlurmdParameters=config_overrides
+JobAcctGatherType=jobacct_gather/linux
+JobAcctGatherFrequency=1
+JobAcctGatherParams=OverMemoryKill
+SchedulerParameters=sched_interval=1
+ReturnToService=2
+SlurmdTimeout=10
+JobRequeue=1
+KillWait=1
+MaxArraySize=5
+NodeName=one NodeHostname={host} NodeAddr=127.0.0.1 Port=16818 CPUs=2 RealMemory=2000
+NodeName=two NodeHostname={host} NodeAddr=127.0.0.1 Port=16819 CPUs=2 RealMemory=2000
+PartitionName=all Nodes=ALL Default=YES MaxTime=10 State=UP
+"""
+# takes a while, so that tasks can be killed, and 300 MB where its script has the lot `heavy`
+PROGRAM = """\
+#!/bin/sh
+exec python3 -c '
+import runpy, sys, time
+text = sys.stdin.read()
+kept = b"x" * (300 << 20) if "lot heavy" in text else b""
+time.sleep(4 if "lot heavy" in text or "lot slow" in text else 0.2)
+print(*runpy.run_path("{}")["answer"](text), sep="\\n")
+'
+"""
+REACHING = ["lot a 6 0 0 4 4 wall", "lot b 1 10 0 4 4 wall"]
+LOTS = REACHING + [f"lot l{k} 1 {20 * k} 50 4 4 wall" for k in range(9)] + ["lot heavy 1 0 90 4 4 wall", "lot slow 1 50 90 4 4 wall"]
+
+
+class Cluster:
+    def __init__(self, folder):
+        self.folder, self.started = folder, {}
+        os.environ["SLURM_CONF"] = str(folder / "slurm.conf")
+        (folder / "slurm.conf").write_text(CONFIG.format(host=socket.gethostname(), folder=folder))
+        (folder / "state").mkdir()
+        (folder / "munge.key").write_bytes(os.urandom(1024))
+        (folder / "munge.key").chmod(0o400)
+
+    def begin(self, name, *words):
+        log = (self.folder / f"{name}.out").open("w")
+        self.started[name] = subprocess.Popen(words, stdout=log, stderr=subprocess.STDOUT, start_new_session=True)
+
+    def up(self):
+        self.begin("munged", "munged", "--foreground", "--force", f"--key-file={self.folder}/munge.key", f"--socket={self.folder}/munge.socket",
+                   f"--pid-file={self.folder}/munged.pid", f"--log-file={self.folder}/munged.log", f"--seed-file={self.folder}/munged.seed")
+        wait(lambda: (self.folder / "munge.socket").exists(), "munged to answer")
+        self.begin("slurmctld", "slurmctld", "-D")
+        for node in ("one", "two"):
+            self.node_up(node)
+        wait(lambda: said("sinfo", "-h", "-o", "%T").split() == ["idle"], "both nodes to be idle")
+
+    def node_up(self, node):
+        self.begin(node, "slurmd", "-D", "-N", node)
+
+    def node_down(self, node):
+        """The node goes with all that runs there: what it began is in sessions of its own, and known by its spool."""
+        self.started.pop(node).kill()
+        for process in Path("/proc").iterdir():
+            if process.name.isdigit() and is_step(process, self.folder / f"spool.{node}"):
+                os.kill(int(process.name), signal.SIGKILL)
+
+    def down(self):
+        for node in [name for name in self.started if name in ("one", "two")]:
+            self.node_down(node)
+        for process in reversed(list(self.started.values())):
+            process.terminate()
+            process.wait()
+
+
+def is_step(process, spool):
+    """Whether a process is one that this node began: its script, or the step that watches it, works in the node's spool."""
+    try:
+        return str(spool).encode() in (process / "cmdline").read_bytes() + (process / "environ").read_bytes()
+    except OSError:
+        return False
+
+
+def said(*words):
+    return subprocess.run(words, stdout=subprocess.PIPE, stderr=subprocess.DEVNULL, text=True).stdout
+
+
+def wait(is_so, what, seconds=90):
+    end = time.monotonic() + seconds
+    while not is_so():
+        if time.monotonic() > end:
+            raise SystemExit(f"waited {seconds} seconds for {what}")
+        time.sleep(0.3)
+
+
+def ended():
+    return not said("squeue", "-h").strip()
+
+
+class Region:
+    def __init__(self, top):
+        self.top, self.folder, self.lines = top, top / "a region", asking(*LOTS)
+        (top / "program").write_text(PROGRAM.format(STAND_IN))
+        (top / "program").chmod(0o755)
+        (top / "region.cga").write_text("\n".join(self.lines) + "\n")
+        print(self.call("cut", top / "region.cga", self.folder, "--lots", "1", "--program", top / "program"), end="")
+
+    def call(self, word, *words):
+        return subprocess.run([TOP / "tools" / "districts", word, *words], stdout=subprocess.PIPE, stderr=subprocess.STDOUT, text=True).stdout
+
+    def todo(self):
+        return self.call("todo", self.folder).split()
+
+    def submit(self, *words, **environment):
+        done = subprocess.run(["sh", self.folder / "slurm", *words], stdout=subprocess.PIPE, text=True, env={**os.environ, **environment}, check=True)
+        print(done.stdout, end="")
+        return done.stdout
+
+    def job_of(self, lot):
+        return next(path.stem for path in (self.folder / "jobs").glob("*.cga") if f"lot {lot} " in path.read_text())
+
+    def task_of(self, lot):
+        """The task that runs the job of this lot, once it runs."""
+        found = []
+
+        def runs():
+            for line in said("squeue", "-h", "-r", "-t", "R", "-o", "%i %N").splitlines():
+                task, node = line.split()
+                for part in (self.folder / "jobs").glob(f"{self.job_of(lot)}.*.part"):
+                    found[:] = [task, node] if self.is_of(task, lot) else found
+            return found
+        wait(runs, f"the job of {lot} to run", 30)
+        return found
+
+    def is_of(self, task, lot):
+        listed = sorted(self.folder.glob("todo-*"), key=lambda path: path.stat().st_mtime)[-1].read_text().split()
+        tasks = min(len(listed), 4)
+        number = int(task.partition("_")[2] or 0)
+        return number and self.job_of(lot) in [name for at, name in enumerate(listed, 1) if at % tasks == number % tasks]
+
+
+def killed(region):
+    region.submit("--mem=100M")
+    task, _ = region.task_of("slow")
+    said("scancel", task)
+    wait(ended, "the queue to be empty")
+    log = (region.folder / "slurm.log").read_text()
+    expect("jobs weren't run" in log, f"the check names what is missing: {log}")
+    missing = region.todo()
+    expect(region.job_of("slow") in missing, "the job that was killed wasn't run")
+    expect(region.job_of("heavy") in missing, "nor the one that ran out of memory")
+    expect(len(region.todo()) < 10, "others were")
+
+
+def node_down(region, cluster):
+    region.submit("--mem=600M", THEN="join")
+    _, node = region.task_of("slow")
+    cluster.node_down(node)
+    print(f"node {node} goes down")
+    wait(lambda: "down" in said("sinfo", "-h", "-n", node, "-o", "%T"), f"Slurm to see that {node} is down")
+    wait(ended, "the queue to be empty", 180)
+    cluster.node_up(node)
+
+
+def expect(is_so, what):
+    if not is_so:
+        raise SystemExit(f"failed: {what}")
+    print(f"ok: {what.partition(':')[0]}")
+
+
+def main():
+    lacking = [name for name in NEEDED if not shutil.which(name)]
+    if lacking or os.geteuid():
+        print(f"SKIPPED: {', '.join(lacking) or 'root'} is missing: as root, after `apt-get install slurm-wlm munge`, this runs a region by Slurm")
+        return
+    with tempfile.TemporaryDirectory() as folder:
+        Path(folder).chmod(0o755)
+        cluster, region = Cluster(Path(folder)), Region(Path(folder))
+        try:
+            cluster.up()
+            killed(region)
+            node_down(region, cluster)
+            if region.todo() or not (region.folder / "town.obj").exists():
+                region.submit("--mem=600M", THEN="join")
+                wait(ended, "the queue to be empty", 180)
+            expect(region.todo() == [], "all jobs were run")
+            town = (region.folder / "town.obj").read_text().split("\n")[:-1]
+            expect(town == whole(STAND_IN, region.lines)[0], "what is joined is what one run prints")
+        except SystemExit:
+            print(said("squeue", "-a"), said("sinfo", "-N"), sep="\n")
+            for path in [*region.folder.glob("slurm*.log"), *cluster.folder.glob("*.log")]:
+                print(f"== the end of {path}:", *path.read_text(errors="replace").splitlines()[-8:], sep="\n")
+            raise
+        finally:
+            cluster.down()
+
+
+if __name__ == "__main__":
+    main()

@@ -1,0 +1,159 @@
+"""Jobs of regions by make, by xargs and by a stand-in for Slurm: jobs that fail, that end late, and rounds."""
+import os
+import re
+import shutil
+import subprocess
+import sys
+import unittest
+
+from regions import RULES, STAND_IN, TOP, RegionTest, asking, wait
+
+LOTS = [f"lot {name} {seed} {10 * x} 0 4 4 wall" for x, (name, seed) in enumerate([("a", 1), ("flat", 2), ("c", 0)])]
+REGION = [*RULES, *LOTS]
+REACHING = asking("lot a 6 0 0 4 4 wall", "lot b 1 10 0 4 4 wall", "lot c 1 20 0 4 4 wall")
+
+# runs what it is given at once, as Slurm does some time; the first task of each array is killed where FAIL is set
+SBATCH = """\
+#!/bin/sh
+array=
+for word in "$@"; do
+  case $word in --array=*) array=${word#--array=1-} ;; --*) ;; *) script=$word; break ;; esac
+done
+while [ "$1" != "$script" ]; do shift; done
+shift
+echo 17
+if [ -n "$array" ]; then
+  for task in $(seq "$array"); do
+    [ "$FAIL$task" = yes1 ] || SLURM_ARRAY_TASK_ID=$task sh "$script" "$@" >>tasks.log 2>&1
+  done
+else
+  sh "$script" "$@" >>slurm.log 2>&1
+fi
+exit 0
+"""
+WITHOUT_DIE = """\
+#!/bin/sh
+cat >"$0.$$"
+if grep -q "lot die" "$0.$$"; then kill -9 $$; fi
+exec python3 {} <"$0.$$"
+"""
+
+
+class Engines(RegionTest):
+    def setUp(self):
+        super().setUp()
+        (self.top / "python3").symlink_to(sys.executable)  # without what else may stand before it
+
+    def environment(self, **held):
+        return {**os.environ, "PATH": f"{self.top}:{os.environ['PATH']}", **held}
+
+    def make(self, *words, **environment):
+        return subprocess.Popen(["make", "-j", "2", "-C", self.folder, *words], stdout=subprocess.PIPE, stderr=subprocess.PIPE, text=True,
+                                env=self.environment(**environment))
+
+    def made(self, *words, **environment):
+        making = self.make(*words, **environment)
+        said, told = making.communicate()
+        return making.returncode, re.findall(r"sh job (\w+)", said), told
+
+    def program(self, text):
+        path = self.top / "a program's $file"
+        path.write_text(text)
+        path.chmod(0o755)
+        return str(path)
+
+    @unittest.skipUnless(shutil.which("make"), "make isn't there")
+    def test_make_runs_what_was_not_run_and_joins_where_it_is_asked(self):
+        self.cut(REGION, 1)
+        status, jobs, _ = self.made()
+        self.assertEqual((status, len(jobs)), (0, 3))
+        self.assertFalse((self.folder / "town.obj").exists())
+        status, jobs, _ = self.made("town.obj")
+        self.assertEqual((status, jobs), (0, []))
+        self.assert_whole(REGION)
+        self.cut([line.replace("lot c 0", "lot c 1") for line in REGION], 1)
+        status, jobs, _ = self.made("RUN=env A=1")
+        self.assertEqual((status, len(jobs)), (0, 1))
+
+    @unittest.skipUnless(shutil.which("make"), "make isn't there")
+    def test_rounds_by_make(self):
+        self.cut(REACHING, 1)
+        status, jobs, told = self.made("town.obj")
+        self.assertEqual((status, len(jobs)), (0, 4), told)
+        self.assertIn("boxes of 2 lots touch boxes of other jobs: 1 jobs to run", told)
+        self.assert_whole(REACHING)
+
+    @unittest.skipUnless(shutil.which("make"), "make isn't there")
+    def test_a_region_that_is_cut_again_while_a_job_runs(self):
+        """The job ends late, and under its old name: nothing of it comes into the new region."""
+        self.cut(REGION, 4096)
+        late = self.make("town.obj", REGION_SLOW="1")
+        wait(lambda: self.jobs("part"))
+        changed = [line.replace("lot flat 2", "lot flat 3") for line in REGION[:-1]]
+        self.cut(changed, 4096)
+        _, told = late.communicate()
+        self.assertIn("1 jobs weren't run", told)
+        self.assertEqual(len(self.jobs("out")), 1)
+        self.assertEqual(self.made("town.obj")[0], 0)
+        self.assert_whole(changed)
+        self.cut(REGION, 4096)
+        self.assertEqual(self.todo(), [], "what ended late is of use once its script is back")
+        self.assert_whole(REGION)
+
+    @unittest.skipUnless(shutil.which("make"), "make isn't there")
+    def test_two_runs_of_one_job_at_once(self):
+        self.cut(REGION, 4096)
+        both = [self.make(REGION_SLOW="0.3"), self.make(REGION_SLOW="0.4")]
+        self.assertEqual([(making.communicate(), making.returncode)[1] for making in both], [0, 0])
+        self.assertEqual(len(self.jobs("out")), 1)
+        self.assertEqual(self.jobs("part"), [])
+
+    def test_a_job_that_is_killed(self):
+        program = self.program(WITHOUT_DIE.format(STAND_IN))
+        self.cut([*REGION, "lot die 1 90 0 1 1 wall"], 1, program=program)
+        done = subprocess.run(["sh", self.folder / "job", *self.todo()], capture_output=True, text=True, env=self.environment())
+        self.assertEqual(done.returncode, 137)
+        self.assertIn(f"job {self.todo()[0]} ended with status 137\n", done.stderr)
+        self.assertEqual((len(self.todo()), self.jobs("part")), (1, []))
+        self.assert_refused(self.call("join", self.folder), "1 jobs weren't run")
+
+    def by_slurm(self, **environment):
+        (self.top / "sbatch").write_text(SBATCH)
+        (self.top / "sbatch").chmod(0o755)
+        done = subprocess.run(["sh", self.folder / "slurm", "--mem=1G"], capture_output=True, text=True, env=self.environment(**environment))
+        return done.returncode, done.stdout, (self.folder / "slurm.log").read_text()
+
+    def test_slurm_runs_rounds_and_joins(self):
+        self.cut(REACHING, 1)
+        status, said, log = self.by_slurm(THEN="join")
+        self.assertEqual((status, said), (0, "3 jobs in array 17 of 3 tasks, then check 17; its end is told in slurm.log\n"))
+        self.assertIn("1 jobs to run; run them, and check again\n", log)
+        self.assertIn("\n1 jobs in array 17 of 1 tasks", log)
+        self.assert_whole(REACHING)
+
+    def test_slurm_goes_on_after_a_task_that_was_killed(self):
+        self.cut(REGION, 1)
+        _, _, log = self.by_slurm(FAIL="yes")
+        self.assertIn("1 jobs weren't run", log)
+        self.assertEqual(len(self.todo()), 1)
+        _, said, log = self.by_slurm()
+        self.assertTrue(said.startswith("1 jobs in array"))
+        self.assertEqual((self.todo(), log.split("\n")[-2]), ([], f"{self.folder}: lots 3 shapes 6 instances 3 faults 1"))
+        self.assertEqual(self.by_slurm()[1], "check 17; its end is told in slurm.log\n")
+
+    def test_the_lines_of_the_document(self):
+        text = (TOP / "docs" / "DISTRICTS.md").read_text(encoding="utf-8")
+        (self.top / "tools").symlink_to(TOP / "tools")
+        for lines in re.findall(r"^```sh\n(.*?)^```", text, re.MULTILINE | re.DOTALL):
+            self.folder = self.top / "region"
+            self.cut(REGION, 1)
+            done = subprocess.run(["bash", "-e", "-c", lines], cwd=self.top, capture_output=True, text=True,
+                                  env=self.environment())
+            self.assertEqual(done.returncode, 0, done.stderr)
+            self.assertEqual(self.todo(), [])
+            self.assert_whole(REGION)
+            shutil.rmtree(self.folder)
+
+
+if __name__ == "__main__":
+    unittest.main()
