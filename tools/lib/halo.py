@@ -9,7 +9,7 @@ from .apart import Sets, touching
 from .checking import across_jobs, over_all
 from .files import write
 from .printed import OBJ, Printed
-from .progress import shown
+from .progress import counted
 
 LARGEST = 4  # times the rings of the cut: lots that need more have their jobs put together
 
@@ -52,7 +52,7 @@ class Traced:
 
 
 def traced(folder, plan):
-    return [Traced(folder, plan, job).read() for job in shown(plan.drawn(), "jobs compared")]
+    return [Traced(folder, plan, job).read() for job in counted(plan.drawn(), "jobs compared")]
 
 
 def own_counts(folder, plan, traces):

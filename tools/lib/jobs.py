@@ -12,7 +12,7 @@ from .engines import engines
 from .files import write
 from .findings import Findings, Lots
 from .plan import Job, Plan
-from .progress import shown
+from .progress import counted
 from .region import Region
 
 SCRIPT = "region.cga"  # a copy of the script, for the cuts that checks make
@@ -84,7 +84,7 @@ class Cut:
             yield from self.jobs(shares, ALWAYS, level)
 
     def jobs(self, shares, listed, level):
-        for share in shown(shares, "jobs written"):
+        for share in counted(shares, "jobs written"):
             lots = [self.region.lots[at] for at in share.own + share.ring]
             script = self.heads[level].script(lots, listed)
             name = self.program.job(script)

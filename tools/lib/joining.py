@@ -5,7 +5,7 @@ from contextlib import contextmanager
 from multiprocessing import get_context
 
 from .printed import OBJ, Printed
-from .progress import shown
+from .progress import counted
 from .towns import moved, objects
 
 PIECES = 4  # for each worker, so that none waits long for the last one
@@ -83,7 +83,7 @@ def join_text(folder, plan, pool, number, text, path):
     try:
         with part.open("wb") as file:
             file.write(OBJ)
-            for piece in shown(pool(write_piece, given), "pieces joined", len(given)):
+            for piece in counted(pool(write_piece, given), "pieces joined", len(given)):
                 with piece.open("rb") as read:
                     shutil.copyfileobj(read, file, 1 << 24)
                 piece.unlink()

@@ -1,7 +1,7 @@
 """How far the jobs of a region are: which were run, which weren't, and whose output is refused."""
 from .call import Refused
 from .printed import Printed
-from .progress import shown
+from .progress import counted
 
 SHOWN = 5  # refusals that are told at once
 
@@ -9,7 +9,7 @@ SHOWN = 5  # refusals that are told at once
 class Survey:
     def __init__(self, folder, plan, jobs):
         self.folder, self.told, self.to_run, self.refused = folder, {}, [], {}
-        for job in shown(jobs, "jobs read"):
+        for job in counted(jobs, "jobs read"):
             try:
                 self.told[job.name] = Printed(folder, plan, job).told()
             except FileNotFoundError:

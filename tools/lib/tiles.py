@@ -4,7 +4,7 @@ import json
 from .checking import around
 from .files import write
 from .joining import workers
-from .progress import shown
+from .progress import counted
 from .quadtree import Quadtree
 from .tile_glb import ends_of, glb
 from .tileset import Tile, tileset, tree
@@ -74,7 +74,7 @@ def write_tiles(folder, plan, told, number):
     """Makes the tiles that aren't there, and the tree over all; gives its path."""
     (folder / "tiles").mkdir(exist_ok=True)
     with workers(number) as pool:
-        for _ in shown(pool(write_glb, [(folder, plan, job) for job in plan.jobs]), "tiles made", len(plan.jobs)):
+        for _ in counted(pool(write_glb, [(folder, plan, job) for job in plan.jobs]), "tiles made", len(plan.jobs)):
             pass
     path = folder / "tiles" / "tileset.json"
     root = tree(levels(folder, plan, told), grouped)
