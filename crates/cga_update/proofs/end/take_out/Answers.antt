@@ -5,5 +5,7 @@ use Rattle.cga_update.proofs.Applying.{removed}
 use Rattle.cga_update.proofs.end.take_out.Goals as goal
 
 pub returns : goal.returns
-returns c = record { noted = removed c.args.dependents.now c.remove.new.self c.args.symbol c.args.node c.remove.result c.remove.ensures.found c.remove.ensures.gone c.remove.ensures.others c.remove.ensures.same
-    (subst (λ xs. IsDistinct nat_eq xs) c.nodes_of-nodes.ensures.nodes c.nodes_of-nodes.ensures.once) }
+returns c = record {
+  noted = removed c.args.dependents.now c.remove.new.self c.args.symbol c.args.node c.remove.result c.remove.ensures.found c.remove.ensures.gone c.remove.ensures.others c.remove.ensures.same
+      (subst (λ xs. IsDistinct nat_eq xs) c.nodes_of-nodes.ensures.nodes c.nodes_of-nodes.ensures.once);
+}
