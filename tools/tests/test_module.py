@@ -142,6 +142,7 @@ class Refusals(Told):
 
     def test_a_cause_that_is_new(self):
         self.assertEqual(type(self.refusal("stats", "# refused TooBlue a 3")), Refused)
+        self.assertEqual(self.refusal("stats", "# refused WrongArity").about, ())
 
 
 class Changing(Told):
