@@ -14,8 +14,7 @@ class Refused(Exception):
 
     def __init__(self, name: str, about: Tuple[str, ...], place: Optional[int], row: Optional[int], line: str) -> None:
         self.name, self.about, self.place, self.row, self.line = name, about, place, row, line
-        told = CAUSES.get(name, "")
-        said = told.format(*about) if told.count("{") == 0 or about else told
+        said = CAUSES.get(name, "").format(*about, "", "")  # a cause tells of two at most
         super().__init__(" ".join((name, *about)) + (f" at byte {place}" if place else "") + f": {said}; in: {line}")
 
 

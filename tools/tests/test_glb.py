@@ -73,12 +73,11 @@ class Geometry(Files):
                 self.assertLess(near, 5e-4)
 
     def test_towns_stand_where_they_were_printed(self):
-        for at in ((0, 0, 0), MAP):
-            for angle in (0, 0.4):
-                self.source.write_text(a_town(at, angle), encoding="utf-8")
-                for words in ((), ("--instances",), ("--instance", "hip0", "--instance", "gable1")):
-                    with self.subTest((at, angle, words)):
-                        self.compare(self.read(*words))
+        for at, angle in (((0, 0, 0), 0), (MAP, 0.4)):
+            self.source.write_text(a_town(at, angle), encoding="utf-8")
+            for words in ((), ("--instances",), ("--instance", "hip0", "--instance", "gable1")):
+                with self.subTest((at, angle, words)):
+                    self.compare(self.read(*words))
 
     def test_what_floats_hold_is_near(self):
         """Far from the origin as well no number in the file is so large that a float of 32 bits is a thousandth off."""

@@ -19,7 +19,7 @@ import solid_table  # noqa: E402
 from lib.call import Refused  # noqa: E402
 from lib.ids import ids, steps_in  # noqa: E402
 from lib.obj import Town, read_town  # noqa: E402
-from lib.places import places, quaternion  # noqa: E402
+from lib.places import places, quaternion, sound_town  # noqa: E402
 
 UPRIGHT = [(1, 0, 0), (0, 1, 0), (0, 0, 1)]
 SIZES = [(10.0, 6.0, 8.0), (0.9, 1.2, 0.06), (3.0, 2.0, 7.5), (4.0, 2.5, 4.0)]
@@ -51,30 +51,31 @@ def corners_of(town):
 
 class PutTogether(unittest.TestCase):
     def check(self, town):
-        far = 0.0
-        for place, points in zip(places(town), corners_of(town)):
+        far, found = 0.0, list(places(town))
+        for place, points in zip(found, corners_of(town)):
             size = tuple(map(float, place.size))
             far = max(far, apart(place.kind, tuple(map(float, place.corner)), quaternion(place.axes), size, points))
         self.assertLess(far, 5e-4)
+        return found
 
     def test_each_kind_in_each_frame(self):
         """In the 24 frames, in others, and far from the origin."""
         draw = random.Random(1)
-        for angle in (0, 0.3, 2.0):
+        for angle in (0, 2.0):
             c, s = math.cos(angle), math.sin(angle)
             made = [("a", "s", kind, [draw.uniform(-50, 50) + draw.choice((0, 2683141)) for _ in range(3)],
                      [(c * x + s * z, y, c * z - s * x) for x, y, z in frame], size)
                     for frame in solid_table.frames() for kind in solid_table.SOLIDS for size in SIZES]
             town = Town(solid_table.text(made).split("\n"))
-            self.check(town)
-            self.assertEqual([(place.kind, place.ridge) for place in places(town)],
+            found = self.check(town)
+            self.assertEqual([(place.kind, place.ridge) for place in found],
                              [(kind, solid_table.ridge(kind, size)) for _, _, kind, _, _, size in made])
-            for place, (*_, axes, size) in zip(places(town), made):
+            for place, (*_, axes, size) in zip(found, made):
                 for axis, other in zip(place.axes, axes):
                     self.assertLess(math.dist(axis, other), 1e-4)
 
     def test_stored_towns(self):
-        self.check(read_town(TOP / "examples" / "village.out"))
+        self.check(read_town(TOP / "examples" / "shops.out"))
 
     def test_the_example_of_the_language(self):
         """After Ry(90) a scope of size (10, 6, 8) reaches from (0, 0, -10) to (8, 6, 0)."""
@@ -220,9 +221,8 @@ class Tool(unittest.TestCase):
         for bad, why in (("v nan 0 0\nf 1 1 1", "three numbers"), ("v 0 0\nf 1 1 1", "three numbers"), ("v 0 0 0\nf 1 1", "three corners"),
                          ("v a 0 0\nf 1 1 1", "'a'"), ("v 0 0 0\nf 1 2 1", "vertex 2"), ("", "nothing is drawn")):
             self.source.write_text(f"o a\ng b\n{bad}\n", encoding="utf-8")
-            status, _, fault = self.call("places.csv")
-            self.assertEqual((status, fault.count("\n")), (1, 1))
-            self.assertIn(why, fault)
+            with self.assertRaisesRegex((Refused, ValueError), why):
+                sound_town(self.source)
         self.assertEqual(self.call("places.txt")[0], 2)
         self.assertEqual(self.call("places.csv", "--metres", "0")[0], 1)
         self.assertEqual(self.call("places.csv", "--offset", "a", "b", "c")[0], 2)
