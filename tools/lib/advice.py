@@ -131,7 +131,7 @@ def at_start(place):
         return f"`{place.word}` stands in no block: end this one by `end` first"
     if place.word in COMMANDS_2:
         return "it takes `version 2` as the first line"
-    if place.word not in COMMANDS + COMMANDS_2 and place.word.lower() in COMMANDS + COMMANDS_2:
+    if place.word not in [*COMMANDS, *COMMANDS_2, "PRIORITY"] and place.word.lower() in COMMANDS + COMMANDS_2:
         return f"commands are written in small letters: {place.word.lower()}"
     if place.word in ("version", "end"):
         return "no block is open" if place.word == "end" else "`version 2` is the first line of all"

@@ -23,6 +23,7 @@ HABITS = [  # a line, the column at which it is refused, and a part of the advic
     ("put 1 2: f -> w { a }", 17, "braces belong to"),
     ("rules {", 7, "`rules` stands alone"),
     ("Rules", 1, "small letters: rules"),
+    ("PRIORITY 2:", 1, "stands in a block"),
 ]
 
 
