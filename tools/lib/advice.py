@@ -105,7 +105,7 @@ def of_call(place):
     if name in ("T", "S") and (at == ")" and commas < 2 or at == "," and commas == 2):
         return f"{name} takes three values: {name}(x, y, z)"
     is_value = re.match(r"\w", place.rest, re.ASCII) and place.word not in ("and", "or", "not", "r", "rx")
-    if name and is_value and re.search(r"[\w)\"]$", place.before, re.ASCII):
+    if name[:1].isalpha() and is_value and re.search(r"[\w)\"]$", place.before, re.ASCII):
         return "a comma stands between values"
     return ""
 
