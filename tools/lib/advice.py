@@ -100,12 +100,12 @@ def of_call(place):
     at = place.rest[:1]
     if closed and at == "{":
         return OPERATIONS.get(closed) or f"{closed}(..) has no body in braces; what follows is done in its scope: S(1r, 6, 1r) mass"
-    if at == "{":
+    if at == "{" and place.is_in_rule():
         return "braces belong to Subdiv, Repeat and Comp; items are grouped by square brackets"
     if name in ("T", "S") and (at == ")" and commas < 2 or at == "," and commas == 2):
         return f"{name} takes three values: {name}(x, y, z)"
     is_value = re.match(r"\w", place.rest, re.ASCII) and place.word not in ("and", "or", "not", "r", "rx")
-    if name and is_value and re.search(r"[\w)\"]$", place.before, re.ASCII):
+    if name[:1].isalpha() and is_value and re.search(r"[\w)\"]$", place.before, re.ASCII):
         return "a comma stands between values"
     return ""
 
@@ -131,6 +131,8 @@ def at_start(place):
         return f"`{place.word}` stands in no block: end this one by `end` first"
     if place.word in COMMANDS_2:
         return "it takes `version 2` as the first line"
+    if place.word not in [*COMMANDS, *COMMANDS_2, "PRIORITY"] and place.word.lower() in COMMANDS + COMMANDS_2:
+        return f"commands are written in small letters: {place.word.lower()}"
     if place.word in ("version", "end"):
         return "no block is open" if place.word == "end" else "`version 2` is the first line of all"
     if place.is_inside:

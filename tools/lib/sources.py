@@ -36,6 +36,8 @@ def sum_of(path):
 
 
 class Program:
+    """A program of the repository, as cga_main, with what is kept of its sources."""
+
     def __init__(self, top, name):
         self.top, self.name = top, name
         self.folder = os.path.join(top, "crates", name)
@@ -75,7 +77,7 @@ class Program:
         """What is kept: the lines of crates.txt, and each file's sum and stamp."""
         with open(self.record, encoding="utf-8", errors="surrogateescape") as file:
             lines, _, files = file.read().partition("\n\n")
-        found = (line.split(" ", 4) for line in files.splitlines())
+        found = (line.split(" ", 4) for line in files.split("\n")[:-1])
         return lines.split("\n"), {path: (total, f"{size} {changed} {moved}") for total, size, changed, moved, path in found}
 
     def keep(self, lines, files):

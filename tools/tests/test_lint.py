@@ -20,6 +20,10 @@ HABITS = [  # a line, the column at which it is refused, and a part of the advic
     ("put 1 2: f -> T(1, 2) a", 21, "T takes three values"),
     ("put 1 2: f -> S(1r, 1r, 1) { a }", 28, "no body in braces"),
     ("PRIORITY high:", 10, "a priority is a whole number"),
+    ("put 1 2: f -> w { a }", 17, "braces belong to"),
+    ("rules {", 7, "`rules` stands alone"),
+    ("Rules", 1, "small letters: rules"),
+    ("PRIORITY 2:", 1, "stands in a block"),
 ]
 
 
@@ -53,6 +57,12 @@ class Worked(unittest.TestCase):
         lines = lines_of(b"rules\n1: a -> NIL\n2: a -> b\n3: b -> NIL\nend\nlot x 1 0 0 1 1 a\ndrop 2\n")
         told = [text for _, text in notes(standing(lines, [(command, ["# ok"]) for command in commands(lines)]))]
         self.assertEqual([text.split(":")[0] for text in told], ["nothing reaches `b`"])
+
+    def test_a_block_that_was_not_opened(self):
+        lines = lines_of(b"Rules\n1: a -> NIL\nend\nlot x 1 0 0 1 1 a\nlot y 1 0 0 1 1 b\n")
+        answers = [["# refused Unexpected at 1"]] * 3 + [["# refused NoSymbol a"], ["# refused NoSymbol b"]]
+        told = [line for line in Report("x.cga", lines, commands(lines), answers).lines_for([]) if not line.startswith("    ")]
+        self.assertEqual([line.split(":")[1] for line in told], ["1", "5", " 5 refused (3 of them only follow), 0 shapes came to nothing"])
 
     def test_without_lots_nothing_is_out_of_reach(self):
         lines = lines_of(b"rules\n1: a -> NIL\n3: b -> NIL\nend\n")
