@@ -42,4 +42,4 @@ returns-in-Err-tell-clause-err g c = λ s here.
     (subst (λ (k : Changes). AppendsSome (g.K.Sink.held c.write_all.new.out) (g.K.Sink.held c.tell.new.out) (delta_text_of k)) c.changes.ensures c.in-Err-tell.ensures.err)
 
 pub returns-in-Err-tell-clause-faults : goal.returns-in-Err-tell-clause-faults
-returns-in-Err-tell-clause-faults g c = faults_since c.in-Err-tell.halt _ _ _ c.in-Ok-write_all.ensures.cause c.in-Err-tell.ensures.faults
+returns-in-Err-tell-clause-faults g c = faults_since c.in-Err-tell.halt _ _ _ c.in-Ok-write_all.ensures.cause.calm c.in-Err-tell.ensures.faults
