@@ -69,12 +69,15 @@ def log_of(program):
 
 
 def verdict_in(log):
-    return re.search(r"^logic=proved .*$", log, re.MULTILINE)
+    """The last line of a check, and the report above it; crates that are checked first have lines of their own before them."""
+    *before, last = re.split(r"^(?=logic=)", log, flags=re.MULTILINE)
+    line = last.partition("\n")[0]
+    return (line, before[-1]) if before and line.startswith("logic=proved ") else None
 
 
 def words_of(log):
     """The words of the verdict, but the number of functions, which changes with the code."""
-    pairs = dict(pair.split("=", 1) for pair in verdict_in(log).group().split())
+    pairs = dict(pair.split("=", 1) for pair in verdict_in(log)[0].split())
     unknown = pairs.keys() - WORDS.keys()
     if unknown:
         raise Unread(f"rt says {' '.join(sorted(unknown))} of a program, and .ci/trusted.py has no sentence for it")
@@ -85,7 +88,7 @@ def words_of(log):
 def reached_in(log):
     """The C functions that the report marks, by the crate that declares them, as many as it counts."""
     reached = {}
-    for match in re.finditer(r"^axioms (\S+): (\w+) reached of the \d+ declared\n((?:  .*\n)*)", log, re.MULTILINE):
+    for match in re.finditer(r"^axioms (\S+): (\w+) reached of the \d+ declared\n((?:  .*\n)*)", verdict_in(log)[1], re.MULTILINE):
         crate, number, rest = match.groups()
         names = [line.split()[0] for line in rest.splitlines() if re.search(r"\breached$", line)]
         if number != (str(len(names)) if names else "none"):

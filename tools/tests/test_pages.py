@@ -129,6 +129,12 @@ class Trusted(unittest.TestCase):
         self.assertEqual(trusted.words_of(LOG), {"logic": "proved", "target": "x86", "sum": "1a2b", "native": "nat",
                                                  "logic-built": "trusted"})
 
+    def test_the_last_verdict_counts(self):
+        other = LOG.replace("native=nat", "native=none").replace("read reached", "other reached")
+        self.assertEqual(trusted.words_of(other + LOG)["native"], "nat")
+        self.assertEqual(trusted.reached_in(other + LOG)["libc"], ["libc::read", "libc::write"])
+        self.assertIsNone(trusted.verdict_in(other + "rattle: no verdict\n" + "logic=not-proved functions=1\n"))
+
     def test_an_unknown_word(self):
         with self.assertRaises(trusted.Unread):
             trusted.words_of(LOG.replace("target", "guessed"))
