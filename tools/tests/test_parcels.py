@@ -280,6 +280,7 @@ class Towns(Called):
         self.assertEqual({(x, z) for x, _, z in found[:8]}, {(50, -8), (60, -8), (50, 0), (60, 0)})
         self.assertEqual([line for line in lines if line.startswith("o ")], ["o b", "o a"])
         self.assertIn("f 12 11 15 16", lines)
+        self.assertNotIn("-0.000000", self.town.read_text())
 
     def test_groups_that_come_near_are_told_where_a_rule_asks(self):
         self.write(turned_box(1000, 2000, 10, 10, 45, name="a", symbol="yard"), box(1000 + 10 * math.sqrt(2) + 3, 1990, 20, 20, name="b", symbol="yard"),
@@ -323,6 +324,11 @@ class Tables(Called):
     def test_numbers_stay_as_they_are(self):
         self.map.write_text("name,x,z,width,depth,symbol,front,seed\na,1/3,-2.50,5/2,1e1,yard,north,9\n")
         self.assertEqual(self.lots(), ["lot a 9 1/3 -2.5 5/2 10 parcel_1"])
+
+    def test_a_list_of_lots(self):
+        self.map.write_text("name,x,z,width,depth,symbol\na,0,0,5/2,10,yard\n")
+        self.lots("--list", self.top / "list.csv")
+        self.assertEqual((self.top / "list.csv").read_text().split("\n")[1], "a,1,a,yard,0,25.00,25.00,")
 
     def test_what_is_no_table(self):
         for text, told in (
