@@ -77,8 +77,8 @@ def chosen(found, angle):
 
 def parcel_rows(group):
     for parcel, box, lot in zip(group.parcels, group.boxes, group.lots):
-        yield parcel.number, [lot.name, parcel.number, cell(told(parcel.text)), lot.call, f"{group.angle:g}", f"{area(parcel.ring):.2f}", f"{room(box):.2f}",
-                              numeral(parcel.limit) or ""]
+        sizes = [f"{group.angle:g}", f"{area(parcel.ring):.2f}", f"{room(box):.2f}"]
+        yield parcel.number, [lot.name, parcel.number, cell(told(parcel.text)), lot.call, *sizes, numeral(parcel.limit) or ""]
 
 
 def lot_rows(group):
