@@ -33,7 +33,7 @@ def of_map(word, roots):
     parcels = parcels_of([ground.placed(feature) for feature in town.parcels], roots, word.front)
     found = groups(parcels, [ground.placed(feature) for feature in town.streets], word.tolerance, word.snap, word.decimals)
     comment = f"(0, 0) is {ground.told()}; coordinates are exact multiples of {on_grid(1, word.decimals)}"
-    return Found(found, comment, [*of_others(town), *of_names(parcels), *of_rectangles(found)])
+    return Found(found, comment, [*of_others(town), *of_rectangles(found), *of_names(parcels)])
 
 
 def of_others(town):

@@ -175,6 +175,11 @@ class Maps(Called):
         self.assertEqual(said.split("\n")[:2], ["parcels: features that are neither polygons nor lines are passed over: 1, the first is feature 3",
                                                 "parcels: feature 1, 12/4 <&>: lot `p12_4`"])
 
+    def test_many_names_are_told_in_part(self):
+        self.write(*[box(1000 + 20 * k, 2000, 9, 9, name=f"{k}/a", symbol="yard") for k in range(100)])
+        said = self.call()[2].split("\n")
+        self.assertEqual((len(said), said[39:]), (42, ["parcels: feature 40, 39/a: lot `p39_a`", "parcels: and 60 more; --list LIST.csv writes the lot of each name", ""]))
+
     def test_a_rectangle_much_larger_than_its_parcel_is_told(self):
         self.write(polygon([1000, 2000], [1020, 2000], [1000, 2010], name="wedge", symbol="yard"))
         self.assertIn("1 of 1; that of feature 1 (`wedge`) is the most, by 100%", self.call()[2])
