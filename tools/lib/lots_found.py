@@ -1,6 +1,7 @@
 """The groups of lots that a map or a table gives, and what had to be changed for it, in sentences."""
 import csv
 from collections import namedtuple
+from fractions import Fraction
 
 from .call import Refused
 from .geojson import read_map
@@ -32,7 +33,7 @@ def of_map(word, roots):
     parcels = parcels_of([ground.placed(feature) for feature in town.parcels], roots, word.front)
     found = groups(parcels, [ground.placed(feature) for feature in town.streets], word.tolerance, word.snap, word.decimals)
     comment = f"(0, 0) is {ground.told()}; coordinates are exact multiples of {on_grid(1, word.decimals)}"
-    return Found(found, comment, [*of_others(town), *of_names(parcels), *of_rectangles(found)])
+    return Found(found, comment, [*of_others(town), *of_rectangles(found), *of_names(parcels)])
 
 
 def of_others(town):
@@ -74,11 +75,20 @@ def chosen(found, angle):
     return found[0]
 
 
+def parcel_rows(group):
+    for parcel, box, lot in zip(group.parcels, group.boxes, group.lots):
+        sizes = [f"{group.angle:g}", f"{area(parcel.ring):.2f}", f"{room(box):.2f}"]
+        yield parcel.number, [lot.name, parcel.number, cell(told(parcel.text)), lot.call, *sizes, numeral(parcel.limit) or ""]
+
+
+def lot_rows(group):
+    for number, lot in enumerate(group.lots, 1):
+        ground = f"{float(Fraction(lot.ground[2]) * Fraction(lot.ground[3])):.2f}"
+        yield number, [lot.name, number, cell(told(lot.text)), lot.call, "0", ground, ground, ""]
+
+
 def write_list(file, found):
     """A row for each parcel, in the order of the map: what the lot is called, and what the parcel measures."""
     out = csv.writer(file, lineterminator="\n")
     out.writerow(["lot", "feature", "name", "root", "angle", "area", "rectangle", "limit"])
-    rows = [(parcel.number, [lot.name, parcel.number, cell(told(parcel.text)), lot.call, f"{group.angle:g}", f"{area(parcel.ring):.2f}", f"{room(box):.2f}",
-                             numeral(parcel.limit) or ""])
-            for group in found for parcel, box, lot in zip(group.parcels, group.boxes, group.lots)]
-    out.writerows(row for _, row in sorted(rows))
+    out.writerows(row for _, row in sorted(row for group in found for row in (parcel_rows(group) if group.parcels else lot_rows(group))))

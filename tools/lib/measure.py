@@ -83,7 +83,8 @@ def measure(corners, faces, places):
     side = sum(length((area[0], 0, area[2])) for area in areas if 1000 * abs(area[1]) <= abs(area[0]) + abs(area[2]))
     heights = [corner[1] for corner in corners]
     scope = front_of(corners, faces)
-    return Measure(max(up), side, scope and millionths(scope[0] * scope[1], 2 * places), scope and sum(scope), abs(volume), min(heights), max(heights), closed)
+    front = scope and millionths(scope[0] * scope[1], 2 * places)
+    return Measure(max(up), side, front, scope and sum(scope), abs(volume), min(heights), max(heights), closed)
 
 
 def millionths(number, places):

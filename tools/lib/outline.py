@@ -1,9 +1,13 @@
 """The lines of faces that are drawn: edges between faces of one symbol in one plane aren't."""
 from collections import defaultdict
 
+SHIFT = 0.00317  # so that lengths of round decimals don't lie where rounding goes either way
+SLACK = 0.001  # shorter pieces of edges are no lines
+
 
 def rounded(*numbers):
-    return tuple(round(number, 4) + 0.0 for number in numbers)
+    """What is within a hundredth counts as one: in a turned town corners of one wall aren't quite in one plane."""
+    return tuple(round(number + SHIFT, 2) for number in numbers)
 
 
 def line_of(p, q):
@@ -11,7 +15,7 @@ def line_of(p, q):
     along = tuple(b - a for a, b in zip(p, q))
     size = sum(part * part for part in along) ** 0.5
     along = tuple(part / size for part in along)
-    if rounded(*along) < (0.0, 0.0, 0.0):
+    if tuple(round(part, 3) + 0.0 for part in along) < (0.0, 0.0, 0.0):
         along = tuple(-part for part in along)
     start, end = (sum(a * b for a, b in zip(point, along)) for point in (p, q))
     foot = tuple(a - start * b for a, b in zip(p, along))
@@ -36,14 +40,14 @@ def without(piece, others):
     """The parts of a piece that no other covers."""
     low, high = piece
     for start, end in sorted(others):
-        if end <= low + 1e-6 or start >= high - 1e-6:
+        if end <= low + SLACK or start >= high - SLACK:
             continue
-        if start > low + 1e-6:
+        if start > low + SLACK:
             yield low, start
         low = max(low, end)
-        if low >= high - 1e-6:
+        if low >= high - SLACK:
             return
-    if high > low + 1e-6:
+    if high > low + SLACK:
         yield low, high
 
 

@@ -59,7 +59,8 @@ def front(parcel, box, angle, streets):
     """How many quarter turns bring the front to the side at high Z: the nearest to a street, or the one that looks where it is said."""
     if parcel.side is None and streets.segments:
         ring = corners(box, angle)
-        middles = [((a[0] + b[0]) / 2, (a[1] + b[1]) / 2) for a, b in ((ring[2], ring[3]), (ring[1], ring[2]), (ring[0], ring[1]), (ring[3], ring[0]))]
+        far_sides = (ring[2], ring[3]), (ring[1], ring[2]), (ring[0], ring[1]), (ring[3], ring[0])
+        middles = [((a[0] + b[0]) / 2, (a[1] + b[1]) / 2) for a, b in far_sides]
         middle = tuple((a + b) / 2 for a, b in zip(ring[0], ring[2]))
         near = streets.near(middle, math.dist(middle, ring[0]))
         return min(range(4), key=lambda k: round(min(away(middles[k], *segment) for segment in near), 6))

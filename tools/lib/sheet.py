@@ -88,11 +88,13 @@ class Sheet:
     def ground(self, height):
         """A line along the ground, from side to side."""
         y = short(self.place((0, height))[1])
-        self.add(f'<path d="M{short(MARGIN / 2)},{y} {short(self.width - MARGIN / 2)},{y}" stroke="{INK}" stroke-width="{1.4 * THICK}"/>')
+        left, right = short(MARGIN / 2), short(self.width - MARGIN / 2)
+        self.add(f'<path d="M{left},{y} {right},{y}" stroke="{INK}" stroke-width="{1.4 * THICK:g}"/>')
 
     def label(self, point, text, size=2.5):
         x, y = map(short, self.place(point))
-        self.add(f'<text x="{x}" y="{y}" font-size="{size}" text-anchor="middle" stroke="#fff" stroke-width=".5" paint-order="stroke">{clean(text)}</text>')
+        self.add(f'<text x="{x}" y="{y}" font-size="{size}" text-anchor="middle" stroke="#fff" stroke-width=".5" paint-order="stroke">'
+                 f"{clean(text)}</text>")
 
     def mark(self, a, b):
         """Where a section goes: a line of dashes with its ends, and to which side it looks."""
@@ -105,7 +107,8 @@ class Sheet:
             tip = at[0] + 5 * look[0], at[1] + 5 * look[1]
             wings = [(at[0] + sign * 1.6 * right, at[1] + sign * 1.6 * down) for sign in (-1, 1)]
             self.add(f'<path d="M{" ".join(",".join(map(short, p)) for p in (tip, *wings))}Z" fill="#b00"/>')
-            self.add(f'<text x="{short(at[0] - 4 * look[0])}" y="{short(at[1] - 4 * look[1] + 1.2)}" font-size="4" text-anchor="middle" fill="#b00">{name}</text>')
+            x, y = short(at[0] - 4 * look[0]), short(at[1] - 4 * look[1] + 1.2)
+            self.add(f'<text x="{x}" y="{y}" font-size="4" text-anchor="middle" fill="#b00">{name}</text>')
 
     def north(self, degrees):
         """An arrow to the north, which is so many degrees clockwise from up."""
@@ -121,10 +124,12 @@ class Sheet:
 
     def bar(self, y):
         """A bar of five equal parts, of a round length that takes 25 to 62 millimetres."""
-        part = next(step * 10.0 ** power for power in range(-3, 7) for step in (1, 2, 5) if 25 <= 5 * step * 10.0 ** power * self.mm)
+        lengths = (step * 10.0 ** power for power in range(-3, 7) for step in (1, 2, 5))
+        part = next(length for length in lengths if 25 <= 5 * length * self.mm)
         wide = part * self.mm
         for k in range(5):
-            self.add(f'<rect x="{short(MARGIN + k * wide)}" y="{short(y)}" width="{short(wide)}" height="1.6" fill="{(INK, "#fff")[k % 2]}" stroke="{INK}" stroke-width=".15"/>')
+            place = f'x="{short(MARGIN + k * wide)}" y="{short(y)}" width="{short(wide)}" height="1.6"'
+            self.add(f'<rect {place} fill="{(INK, "#fff")[k % 2]}" stroke="{INK}" stroke-width=".15"/>')
         for k in (0, 1, 5):
             unit = " m" if k == 5 else ""
             self.add(f'<text x="{short(MARGIN + k * wide)}" y="{short(y + 5)}" font-size="2.8" text-anchor="middle">{k * part:g}{unit}</text>')

@@ -68,7 +68,7 @@ def moved(lines, angle, shift):
         if line.startswith("v ") and angle:
             x, y, z = line.split()[1:]
             x, z = turned((float(x), float(z)), -angle)
-            yield f"v {x + 0.0:.6f} {y} {z + 0.0:.6f}\n"
+            yield f"v {round(x, 6) + 0.0:.6f} {y} {round(z, 6) + 0.0:.6f}\n"
         elif line.startswith("f ") and shift:
             yield "f " + " ".join(str(int(word) + shift) for word in line.split()[1:]) + "\n"
         else:

@@ -16,11 +16,11 @@ class Gallery(unittest.TestCase):
         found = tool["sections"](PAGE)
         self.assertEqual("".join(part for _, part in found), PAGE)
         self.assertEqual(len({name for name, _ in found}), len(found))
-        for name, part in found[1:]:
-            with self.subTest(name):
-                self.assertEqual(len(tool["LINES"].findall(part)), 1)
-                self.assertTrue(re.search(r"\]\(gallery/", part))
-                tool["check_size"](name, part)
+        drawn = [(name, part) for name, part in found if tool["LINES"].search(part)]
+        self.assertEqual([name for name, _ in drawn], ["map", "section", "table", "lots"])
+        for name, part in drawn:
+            self.assertTrue(re.search(r"\]\(gallery/", part))
+            tool["check_size"](name, part)
 
     def test_each_picture_is_made_by_a_line(self):
         made = set(re.findall(r"docs/(gallery/\S+)", PAGE))
@@ -33,8 +33,11 @@ class Gallery(unittest.TestCase):
 
     def test_a_section_is_made_by_its_lines(self):
         part = "## A table\n\n```sh\necho 'a,b' > table.csv\n./cga_city < /dev/null >> table.csv\n```\n\n```csv\nold\n```\n"
-        with tempfile.NamedTemporaryFile("w", suffix=".sh") as program:
-            self.assertEqual(tool["made"](part.replace("./cga_city < /dev/null", "echo 1,2"), program.name), part.replace("./cga_city < /dev/null", "echo 1,2").replace("old", "a,b\n1,2"))
+        with tempfile.TemporaryDirectory() as folder:
+            program = Path(folder, "program")
+            program.write_text("#!/bin/sh\necho 1,2\n")
+            program.chmod(0o700)
+            self.assertEqual(tool["made"](part, program), part.replace("old", "a,b\n1,2"))
 
     def test_a_line_that_fails_and_a_heading_that_is_not_there(self):
         with self.assertRaisesRegex(Exception, "a line ended with a status that isn't 0"):

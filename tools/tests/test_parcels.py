@@ -175,6 +175,11 @@ class Maps(Called):
         self.assertEqual(said.split("\n")[:2], ["parcels: features that are neither polygons nor lines are passed over: 1, the first is feature 3",
                                                 "parcels: feature 1, 12/4 <&>: lot `p12_4`"])
 
+    def test_many_names_are_told_in_part(self):
+        self.write(*[box(1000 + 20 * k, 2000, 9, 9, name=f"{k}/a", symbol="yard") for k in range(100)])
+        said = self.call()[2].split("\n")
+        self.assertEqual((len(said), said[39:]), (42, ["parcels: feature 40, 39/a: lot `p39_a`", "parcels: and 60 more; --list LIST.csv writes the lot of each name", ""]))
+
     def test_a_rectangle_much_larger_than_its_parcel_is_told(self):
         self.write(polygon([1000, 2000], [1020, 2000], [1000, 2010], name="wedge", symbol="yard"))
         self.assertIn("1 of 1; that of feature 1 (`wedge`) is the most, by 100%", self.call()[2])
@@ -280,6 +285,7 @@ class Towns(Called):
         self.assertEqual({(x, z) for x, _, z in found[:8]}, {(50, -8), (60, -8), (50, 0), (60, 0)})
         self.assertEqual([line for line in lines if line.startswith("o ")], ["o b", "o a"])
         self.assertIn("f 12 11 15 16", lines)
+        self.assertNotIn("-0.000000", self.town.read_text())
 
     def test_groups_that_come_near_are_told_where_a_rule_asks(self):
         self.write(turned_box(1000, 2000, 10, 10, 45, name="a", symbol="yard"), box(1000 + 10 * math.sqrt(2) + 3, 1990, 20, 20, name="b", symbol="yard"),
@@ -323,6 +329,11 @@ class Tables(Called):
     def test_numbers_stay_as_they_are(self):
         self.map.write_text("name,x,z,width,depth,symbol,front,seed\na,1/3,-2.50,5/2,1e1,yard,north,9\n")
         self.assertEqual(self.lots(), ["lot a 9 1/3 -2.5 5/2 10 parcel_1"])
+
+    def test_a_list_of_lots(self):
+        self.map.write_text("name,x,z,width,depth,symbol\na,0,0,5/2,10,yard\n")
+        self.lots("--list", self.top / "list.csv")
+        self.assertEqual((self.top / "list.csv").read_text().split("\n")[1], "a,1,a,yard,0,25.00,25.00,")
 
     def test_what_is_no_table(self):
         for text, told in (

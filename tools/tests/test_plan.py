@@ -78,6 +78,14 @@ class Hidden(unittest.TestCase):
         left, right = split(flat(0, (0, 0), (3, 1)), by)
         self.assertEqual(({p[0] for p in left.corners}, {p[0] for p in right.corners}), ({0, 1}, {1, 3}))
 
+    def test_no_line_between_parts_of_a_turned_wall(self):
+        # two tiles of a wall that is turned by 3, 4, 5, with corners that are off by the last decimal that is printed
+        def tile(start, end, off):
+            corners = [(0.8 * start + off, 0, 0.6 * start), (0.8 * start, 3, 0.6 * start - off), (0.8 * end, 3, 0.6 * end), (0.8 * end + off, 0, 0.6 * end)]
+            return Face(corners, "wall", normal(corners))
+        lines = outlines([tile(100, 102, 1e-6), tile(102, 104, -1e-6)])
+        self.assertEqual([len(some) for some in lines], [3, 3])
+
     def test_no_line_between_parts_of_a_wall(self):
         # two tiles of one wall, beside each other, of which one is higher
         lines = [line for some in outlines([flat(0, (0, 0), (2, 2)), flat(0, (2, 0), (4, 3))]) for line in some]
