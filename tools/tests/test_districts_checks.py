@@ -153,6 +153,9 @@ class Checks(RegionTest):
         for text in ("", "{}", '{"form": 9}', "[]"):
             (self.folder / "plan.json").write_text(text)
             self.assert_refused(self.call("check", self.folder), "plan.json wasn't written by this tool: cut the script again")
+        for text in ("", "5", "[1]"):
+            (self.folder / "found.json").write_text(text)
+            self.assert_refused(self.cut(asking(*LOTS)), "found.json wasn't written by this tool: take it away")
 
 
 if __name__ == "__main__":
