@@ -62,7 +62,9 @@ def kind(asks, districts):
 
 def refuse(region, words, heads):
     """Refuses what can't be had together."""
-    for (path, _), head in zip(words.coarser, heads[1:]):
+    for (path, error), head in zip(words.coarser, heads[1:]):
+        if not is_number(error):
+            raise Refused(f"{error} isn't a number of units by which {path} may be off")
         if head.asks():
             raise Refused(f"{path}: rule {', '.join(head.asks())} asks by Scope.occ, which a coarser head can't")
     if words.rings and heads[0].asks() and region.counted:
@@ -149,13 +151,18 @@ def decimals(word):
     return ["--decimals", str(whole(0, 9)(word))]
 
 
+def is_number(word):
+    try:
+        return parted(word) is not None
+    except ValueError:
+        return False
+
+
 def number(word):
     """A length as it is spelt, which is read exactly."""
-    try:
-        parted(word)
-        return word
-    except ValueError:
-        raise argparse.ArgumentTypeError(f"{word} isn't a number") from None
+    if not is_number(word):
+        raise argparse.ArgumentTypeError(f"{word} isn't a number")
+    return word
 
 
 def add_cut(words):

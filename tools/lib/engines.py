@@ -12,7 +12,7 @@ cd "$(dirname "$0")" || exit 1
 status=0
 for name in "$@"; do
   [ ! -e "jobs/$name.out" ] || continue
-  part=jobs/$name.$(hostname).$$.part
+  part=jobs/$name.$(uname -n).$$.part
   if {program} <"jobs/$name.cga" >"$part" && echo "# job $name" >>"$part"; then
     mv "$part" "jobs/$name.out"
   else

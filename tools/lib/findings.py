@@ -19,7 +19,7 @@ class Findings:
         if self.path.exists():
             try:
                 self.together, self.seen, self.rings = json.loads(self.path.read_bytes())
-            except ValueError:
+            except (ValueError, TypeError):
                 raise Refused(f"{self.path} wasn't written by this tool: take it away; the next check finds it anew") from None
 
     def save(self):

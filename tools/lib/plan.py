@@ -48,6 +48,8 @@ def read_plan(folder):
         plan = Plan(**held)
         plan.options, plan.jobs = Options(*plan.options), [Job(*job) for job in plan.jobs]
         plan.heads = [Head(*head) for head in plan.heads]
+        if sorted(at for job in plan.drawn() for at in job.own) != list(range(len(plan.lots))):
+            raise ValueError  # not each lot in one job
         return plan
     except (ValueError, TypeError, KeyError):
         raise Refused(f"{folder / FILE} wasn't written by this tool: cut the script again") from None

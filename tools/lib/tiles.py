@@ -2,6 +2,7 @@
 import json
 
 from .checking import around
+from .exact import parted
 from .files import write
 from .joining import workers
 from .progress import counted
@@ -43,8 +44,8 @@ def drawn_box(folder, job):
 def tile_of(folder, plan, job, told):
     boxes = told.boxes[:len(job.own)]
     box = corners(around(boxes), told.one) if boxes else drawn_box(folder, job)
-    error = 0.0 if job.level == 0 else float(plan.options.errors[job.level - 1])
-    return Tile(job.square, box, error, f"{job.name}.glb")
+    units, one = parted(plan.options.errors[job.level - 1]) if job.level else (0, 1)
+    return Tile(job.square, box, units / one, f"{job.name}.glb")
 
 
 def grouped(squares):

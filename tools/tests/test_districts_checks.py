@@ -150,9 +150,15 @@ class Checks(RegionTest):
 
     def test_a_plan_that_is_no_plan(self):
         self.cut(REGION)
-        for text in ("", "{}", '{"form": 9}', "[]"):
+        plan = (self.folder / "plan.json").read_text()
+        once = plan.replace('"lots":["a",', '"lots":["a","twice",')
+        self.assertNotEqual(once, plan)
+        for text in ("", "{}", '{"form": 9}', "[]", once):
             (self.folder / "plan.json").write_text(text)
             self.assert_refused(self.call("check", self.folder), "plan.json wasn't written by this tool: cut the script again")
+        for text in ("", "5", "[1]"):
+            (self.folder / "found.json").write_text(text)
+            self.assert_refused(self.cut(asking(*LOTS)), "found.json wasn't written by this tool: take it away")
 
 
 if __name__ == "__main__":

@@ -4,6 +4,7 @@ import re
 import shutil
 import subprocess
 import sys
+import tempfile
 import unittest
 
 from regions import RULES, STAND_IN, TOP, RegionTest, asking, wait
@@ -40,12 +41,18 @@ exec python3 {} <"$0.$$"
 
 
 class Engines(RegionTest):
+    @classmethod
+    def setUpClass(cls):
+        cls.compiled = tempfile.TemporaryDirectory()  # of the tool, which is called often
+        cls.addClassCleanup(cls.compiled.cleanup)
+
     def setUp(self):
         super().setUp()
         (self.top / "python3").symlink_to(sys.executable)  # without what else may stand before it
 
     def environment(self, **held):
-        return {**os.environ, "PATH": f"{self.top}:{os.environ['PATH']}", **held}
+        return {**os.environ, "PATH": f"{self.top}:{os.environ['PATH']}", "PYTHONDONTWRITEBYTECODE": "",
+                "PYTHONPYCACHEPREFIX": self.compiled.name, **held}
 
     def make(self, *words, **environment):
         return subprocess.Popen(["make", "-j", "2", "-C", self.folder, *words], stdout=subprocess.PIPE, stderr=subprocess.PIPE, text=True,

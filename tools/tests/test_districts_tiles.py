@@ -53,7 +53,7 @@ class Tiles(RegionTest):
     def test_coarser_heads_are_levels_of_detail(self):
         coarse = self.top / "coarse.cga"
         coarse.write_text("\n".join(COARSE))
-        self.cut([*RULES, *LOTS], 2, "--coarser", coarse, "3.5", "--coarser", coarse, "20")
+        self.cut([*RULES, *LOTS], 2, "--coarser", coarse, "7/2", "--coarser", coarse, "20")
         tiles = self.tiles()
         self.assertEqual({error for _, error, _ in tiles}, {0, 3.5, 20})
         for error in (0, 3.5, 20):
@@ -83,6 +83,7 @@ class Tiles(RegionTest):
         coarse = self.top / "coarse.cga"
         coarse.write_text("\n".join(asking()))
         self.assert_refused(self.cut([*RULES, *LOTS], 4, "--coarser", coarse, "3"), "rule 7 asks by Scope.occ, which a coarser head can't")
+        self.assert_refused(self.cut([*RULES, *LOTS], 4, "--coarser", coarse, "far"), "far isn't a number of units by which")
 
 
 if __name__ == "__main__":
