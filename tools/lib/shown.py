@@ -4,7 +4,7 @@ import secrets
 import threading
 from collections import Counter, deque
 
-KEPT = 200  # changes that whoever asks may be behind
+KEPT = 5000  # changes that whoever asks may be behind
 
 
 class Shown:
