@@ -194,7 +194,7 @@ class InBrowser(unittest.TestCase):
         self.browser.key("1")
         place = self.place_of(5, 3, 8)
         before = self.pixel(*place)
-        self.run_("(() => { const line = [...town.held.keys()][0], now = performance.now(); performance.now = () => now;"
+        self.run_("(() => { const line = [...town.held.keys()][0], now = performance.now(); performance.now = () => now; head.save = 1;"
                   " take({from: 'x'}, ['- ' + line, '+ ' + line.replace('wall', 'roof')]); })()")
         lit = self.pixel(*place)
         self.run_("(() => { const later = performance.now() + 1500; performance.now = () => later; })()")

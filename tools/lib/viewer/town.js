@@ -50,7 +50,11 @@ class Batch {
 
 class Town {
   constructor() {
-    Object.assign(this, {batches: new Map(), symbols: [], numbers: new Map()}); // these stay when it is cleared
+    this.forget();
+  }
+  // Another town may come, with other meshes.
+  forget() {
+    Object.assign(this, {batches: new Map(), symbols: [], numbers: new Map()});
     this.clear();
   }
   clear() {
