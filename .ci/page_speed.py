@@ -45,7 +45,7 @@ class Town:
         self.rules = RULES + '10: kiosk -> S(1r, 3, 1r) I("gable")\n'
 
     def save(self):
-        text = "version 2\nquiet\nrules\n" + self.rules + "end\n" + "".join(self.lots) + "lot kiosk 1 -20 -20 4 4 kiosk\n"
+        text = "version 2\nquiet\nrules\n" + self.rules + "end\nlot kiosk 1 -20 -20 4 4 kiosk\n" + "".join(self.lots)
         other = self.path.with_suffix(".new")
         other.write_text(text, encoding="utf-8")
         os.replace(other, self.path)
