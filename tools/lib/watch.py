@@ -4,6 +4,7 @@ import threading
 import time
 
 from . import about
+from .call import Refused
 from .report import Report
 from .script import commands, lines_of
 from .session import Ended
@@ -63,7 +64,7 @@ class Watch:
             self.shown.put(said=SLOW, is_busy=True)
         try:
             change(words)
-        except Ended as fault:
+        except (Ended, Refused, OSError) as fault:
             self.shown.put(said=str(fault), is_busy=False, is_stale=True)
 
     def show(self, lines):
