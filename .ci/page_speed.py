@@ -33,6 +33,7 @@ WATCH = """(() => {
     noted.bytes = (noted.bytes || 0) + lines.join('\\n').length + JSON.stringify(told).length;
   };
   draw = () => { draw_was(); gl.readPixels(0, 0, 1, 1, gl.RGBA, gl.UNSIGNED_BYTE, new Uint8Array(4)); noted.drawn = now(); };
+  ask_draw();
 })()"""
 TICK = os.sysconf("SC_CLK_TCK")
 
