@@ -27,8 +27,13 @@ from speed import RULES, lot  # noqa: E402
 WATCH = """(() => {
   window.noted = {};
   const take_was = take, draw_was = draw, now = () => performance.timeOrigin + performance.now();
-  take = (told, lines) => { take_was(told, lines); if (lines.length) noted.taken = now(); noted.bytes = (noted.bytes || 0) + lines.join('\\n').length + JSON.stringify(told).length; };
+  take = (told, lines) => {
+    take_was(told, lines);
+    if (lines.length) noted.taken = now();
+    noted.bytes = (noted.bytes || 0) + lines.join('\\n').length + JSON.stringify(told).length;
+  };
   draw = () => { draw_was(); gl.readPixels(0, 0, 1, 1, gl.RGBA, gl.UNSIGNED_BYTE, new Uint8Array(4)); noted.drawn = now(); };
+  ask_draw();
 })()"""
 TICK = os.sysconf("SC_CLK_TCK")
 
@@ -37,10 +42,11 @@ class Town:
     """The script of a town, as a file that can be saved with changes."""
 
     def __init__(self, path, lots):
-        self.path, self.rules, self.lots = path, RULES.replace("7: tile -> wall", "7: tile -> wall\n10: kiosk -> S(1r, 3, 1r) I(\"gable\")"), [lot(place) for place in range(lots)]
+        self.path, self.lots = path, [lot(place) for place in range(lots)]
+        self.rules = RULES + '10: kiosk -> S(1r, 3, 1r) I("gable")\n'
 
     def save(self):
-        text = "version 2\nquiet\nrules\n" + self.rules + "end\n" + "".join(self.lots) + "lot kiosk 1 -20 -20 4 4 kiosk\n"
+        text = "version 2\nquiet\nrules\n" + self.rules + "end\nlot kiosk 1 -20 -20 4 4 kiosk\n" + "".join(self.lots)
         other = self.path.with_suffix(".new")
         other.write_text(text, encoding="utf-8")
         os.replace(other, self.path)
@@ -89,9 +95,10 @@ def saved(browser, preview, town, change, turn):
 
 
 def frame(browser):
-    """Milliseconds of a picture that is drawn anew, and its triangles."""
+    """Milliseconds of a picture that is drawn anew, the browser's processor seconds for it, and its triangles."""
+    before = browser.seconds()
     times = [browser.run("(() => { const from = performance.now(); draw(); return performance.now() - from; })()") for _ in range(3)]
-    return min(times), browser.run("town.triangles")
+    return min(times), (browser.seconds() - before) / 3, browser.run("town.triangles")
 
 
 def measure(program, folder, lots, saves):
@@ -105,9 +112,9 @@ def measure(program, folder, lots, saves):
         browser.run(WATCH)
         browser.wait("town.low !== null && !head.is_busy && noted.drawn > 0", 600)
         first, used = time.time() - begun, seconds_of(preview)
-        drawing, triangles = frame(browser)
+        drawing, worked, triangles = frame(browser)
         print(f"{lots} lots, {triangles:,} triangles: first picture {first:.2f} s, {used:.2f} processor seconds of Python, "
-              f"{browser.run('noted.bytes'):,} bytes; a picture takes {drawing:.0f} ms")
+              f"{browser.run('noted.bytes'):,} bytes; a picture takes {drawing:.0f} ms, {worked:.2f} processor seconds")
         for name, change in CHANGES.items():
             told = [saved(browser, preview, town, change, turn) for turn in range(saves)]
             taken, drawn, sent, used = zip(*told)

@@ -3,18 +3,31 @@
 A solid of an OBJ text is told by its mesh in a box of size 1, and where that box stands; equal meshes have one name.
 Names are written as in an address, so that a line always has ten words.
 """
+from functools import lru_cache
+from itertools import chain
 from urllib.parse import quote
 
 AXES = "+X+Y+Z"
+FEW = 12  # corners up to which meshes that differ by a rounding of the sixth decimal are one
 
 
+@lru_cache(maxsize=None)
 def name_of(text):
     return quote(text, safe="") or "%00"
 
 
 def number_of(value):
     """The shortest decimal that is read as the same number."""
-    return repr(value)[:-2] if repr(value).endswith(".0") else repr(value)
+    text = repr(value)
+    return text[:-2] if text.endswith(".0") else text
+
+
+def parts_of(axis, low, high):
+    """Places along an axis as parts of the way from the least to the greatest; finer where a mesh has many corners."""
+    if low == high:
+        return [0] * len(axis)
+    digits, span = 5 if len(axis) <= FEW else 9, high - low
+    return [round((value - low) / span, digits) for value in axis]
 
 
 class Meshes:
@@ -24,7 +37,7 @@ class Meshes:
         self.names, self.told = {}, {}
 
     def name(self, corners, faces):
-        key = (tuple(corners), tuple(map(tuple, faces)))
+        key = (corners, faces)
         if key not in self.names:
             self.names[key] = f"mesh{len(self.names)}"
             self.told[self.names[key]] = {"corners": corners, "faces": faces}
@@ -32,13 +45,14 @@ class Meshes:
 
     def line(self, lot, solid, points):
         """The line of a solid of a lot, whose faces name places in the points."""
-        used = sorted({at for face in solid.faces for at in face})
-        axes = list(zip(*(points[at] for at in used)))
-        low, size = [min(axis) for axis in axes], [max(axis) - min(axis) for axis in axes]
-        corners = [tuple(round((value - least) / span, 5) if span else 0 for value, least, span in zip(points[at], low, size)) for at in used]
+        used = sorted(set(chain.from_iterable(solid.faces)))
+        axes = list(zip(*[points[at] for at in used]))
+        low, high = list(map(min, axes)), list(map(max, axes))
+        corners = tuple(zip(*map(parts_of, axes, low, high)))
         places = {at: place for place, at in enumerate(used)}
-        name = self.name(corners, [[places[at] for at in face] for face in solid.faces])
-        return " ".join([name_of(lot), name_of(solid.symbol), name, *map(number_of, low), AXES, *(number_of(round(part, 9)) for part in size)])
+        name = self.name(corners, tuple([tuple([places[at] for at in face]) for face in solid.faces]))
+        size = [round(most - least, 9) for least, most in zip(low, high)]
+        return " ".join([lot, name_of(solid.symbol), name, *map(number_of, low), AXES, *map(number_of, size)])
 
     def lines(self, town):
-        return [self.line(lot, solid, town.points) for lot, solids in town.lots.items() for solid in solids]
+        return [self.line(name_of(lot), solid, town.points) for lot, solids in town.lots.items() for solid in solids]

@@ -4,7 +4,7 @@ from collections import Counter
 from .live import Live
 from .edits import edits
 from .script import is_open
-from .session import OPEN, counted
+from .session import OPEN, Ended, counted
 from .plain_script import Told, sources_of
 
 UNSENT = "quiet print stats faults grammar".split()  # they edit nothing and are never refused, and some take long
@@ -35,22 +35,29 @@ class LiveTown:
         left_open = found[-1:] if found and is_open(found[-1], lines) else []
         whole = found[:len(found) - len(left_open)]
         closed = lines[:left_open[0].first] if left_open else lines
+        answers = self.kept(closed, whole)
         try:
-            answers = self.grown(closed, whole)
-            if answers is None:
-                answers = self.edited(closed, whole)
             if answers is None:
                 answers = self.anew(closed, whole, bool(left_open))
             faults = self.live.ask(["faults"], 1)[0][1:] if self.live and self.stats.get("faults") else []
-        except Exception:
+        except Ended:
             self.close()
             raise
         return answers + [OPEN for _ in left_open], faults
 
+    def kept(self, lines, found):
+        """The replies where the program that is running can be led there; it may have ended by itself meanwhile."""
+        try:
+            answers = self.grown(lines, found)
+            return self.edited(lines, found) if answers is None else answers
+        except Ended:
+            self.close()
+            return None
+
     def turn(self, values):
         """Sets attributes beside the script's values; the replies of those that are refused."""
         self.lines, self.worked, refused = None, 0, []
-        for name, value in values.items():
+        for name, value in values.items() if self.live else ():
             reply = self.tell([f"attr {name} = {value}"])
             if reply[0] != "# ok":
                 refused.append(f"attr {name} = {value}: {reply[0][2:]}")

@@ -50,7 +50,9 @@ class Sources:
                 self.rules[rule[0]] = Rule(priority, rule[1], " ".join(words), at)
             elif self.head == "city" and words[0] == "order":
                 self.order = " ".join(words)
-            elif not (self.takes(words, self.attributes, "attr", 4, place, at) or self.head == "city" and self.takes(words, self.lots, "lot", 8, place, at)):
+            elif self.head == "city" and self.takes(words, self.lots, "lot", 8, place, at):
+                pass
+            elif not self.takes(words, self.attributes, "attr", 4, place, at):
                 return False
         self.block_attributes, self.block_lots = dict(self.attributes), dict(self.lots)
         return True

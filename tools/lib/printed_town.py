@@ -21,13 +21,15 @@ class PrintedTown:
 
     def turn(self, values):
         """Sets attributes beside the script's values; the replies of those that are refused."""
-        answers, _ = self.put(self.lines + [f"attr {name} = {value}" for name, value in values.items()])
-        return [f"attr {name} = {value}: {answer[0][2:]}" for (name, value), answer in zip(values.items(), answers[-len(values):]) if answer != ["# ok"]]
+        lines = [f"attr {name} = {value}" for name, value in values.items()]
+        answers, _ = self.put(self.lines + lines)
+        return [f"{line}: {answer[0][2:]}" for line, answer in zip(lines, answers[-len(lines):]) if answer != ["# ok"]]
 
     def put(self, lines):
         lines, commands, answers, faults, town = self.session.ask(lines)
         self.stats = self.session.stats
-        is_lost = any(command.is_block and (is_open(command, lines) or answer[0].startswith("# refused")) for command, answer in zip(commands, answers))
+        blocks = [(command, answer) for command, answer in zip(commands, answers) if command.is_block]
+        is_lost = any(is_open(command, lines) or answer[0].startswith("# refused") for command, answer in blocks)
         if not (is_lost and self.shown.drawn):
             drawn = self.meshes.lines(town)
             self.shown.replace(drawn, meshes=dict(self.meshes.told))

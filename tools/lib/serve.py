@@ -17,8 +17,8 @@ def values_of(data):
         told = json.loads(data)
     except ValueError:
         return None
-    is_right = isinstance(told, dict) and all(isinstance(value, str) and NAME.fullmatch(name) and VALUE.fullmatch(value) for name, value in told.items())
-    return told if is_right else None
+    pairs = told.items() if isinstance(told, dict) else [("", "")]
+    return told if all(isinstance(value, str) and NAME.fullmatch(name) and VALUE.fullmatch(value) for name, value in pairs) else None
 
 
 def handler(shown, turn):

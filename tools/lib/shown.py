@@ -4,7 +4,7 @@ import secrets
 import threading
 from collections import Counter, deque
 
-KEPT = 200  # changes that whoever asks may be behind
+KEPT = 5000  # changes that whoever asks may be behind
 
 
 class Shown:
@@ -17,18 +17,19 @@ class Shown:
 
     def put(self, gone=(), come=(), **head):
         """Takes lines of instances that went and came, each as often as it did, and values of the head."""
+        counts = Counter(come)
+        counts.subtract(gone)
         with self.changed:
+            changed = {name: value for name, value in head.items() if name not in self.head or self.head[name][1] != value}
+            if not changed and not any(counts.values()):
+                return
             self.number += 1
-            counts = Counter(come)
-            counts.subtract(gone)
+            self.head.update({name: (self.number, value) for name, value in changed.items()})
+            self.log.append((self.number, counts))
             self.drawn.update(counts)
-            for line, count in counts.items():
+            for line in counts:
                 if not self.drawn[line]:
                     del self.drawn[line]
-            self.log.append((self.number, counts))
-            for name, value in head.items():
-                if name not in self.head or self.head[name][1] != value:
-                    self.head[name] = (self.number, value)
             self.changed.notify_all()
 
     def replace(self, lines, **head):

@@ -6,10 +6,24 @@ import shutil
 import subprocess
 import tempfile
 import time
+from pathlib import Path
 
 CHROMIUM = shutil.which("chromium") or shutil.which("chromium-browser")
 WORDS = ["--headless=new", "--no-sandbox", "--remote-debugging-pipe", "--use-gl=angle", "--use-angle=swiftshader", "--enable-unsafe-swiftshader",
          "--no-first-run", "--disable-extensions", "--disable-background-networking", "--disable-component-update", "--hide-scrollbars"]
+
+
+TICK = os.sysconf("SC_CLK_TCK")
+
+
+def times_of(stat):
+    """A process with its parent and its processor seconds, off its file in /proc, or nothing where it has ended."""
+    try:
+        head, _, rest = stat.read_text(encoding="utf-8", errors="replace").rpartition(")")
+    except OSError:
+        return None
+    words = rest.split()
+    return int(head.split()[0]), (int(words[1]), (int(words[11]) + int(words[12])) / TICK)
 
 
 class Browser:
@@ -41,6 +55,14 @@ class Browser:
         self.words.close()
         self.answers.close()
         shutil.rmtree(self.folder, ignore_errors=True)
+
+    def seconds(self):
+        """Processor seconds of the browser's processes so far."""
+        told, below, more = dict(filter(None, map(times_of, Path("/proc").glob("[0-9]*/stat")))), set(), {self.process.pid}
+        while more:
+            below |= more
+            more = {one for one, (parent, _) in told.items() if parent in below} - below
+        return sum(told[one][1] for one in below if one in told)
 
     def ask(self, method, **words):
         self.number += 1

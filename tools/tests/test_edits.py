@@ -141,6 +141,17 @@ def check(case, program, seed, saves):
 
 
 class Towns(unittest.TestCase):
+    def test_a_program_that_ended_by_itself_is_begun_anew(self):
+        shown = Shown("a")
+        town = LiveTown(str(TESTS / "live_stand_in"), shown)
+        self.addCleanup(town.close)
+        town.show(SCRIPT, commands(SCRIPT))
+        town.live.stop()
+        town.live.process.wait()
+        new = changed((8, []))
+        self.assertEqual(town.show(new, commands(new))[0], [["# ok"]] * 2)
+        self.assertEqual(sorted(shown.drawn), ["b shed gable 20 0 0 +X+Y+Z 10 1 8", "b shed hip 20 0 0 +X+Y+Z 10 1 8"])
+
     def test_what_is_shown_is_what_a_run_from_nothing_draws(self):
         self.assertGreater(check(self, str(TESTS / "live_stand_in"), 1, 16), 6)
 

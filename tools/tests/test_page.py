@@ -15,6 +15,8 @@ from lib.drawn import Meshes  # noqa: E402
 from lib.obj import Town  # noqa: E402
 from lib.page import data_of, page  # noqa: E402
 
+if not CHROMIUM:
+    print("SKIPPED: the page isn't tried in a browser, since Chromium isn't there (apt-get install chromium)", file=sys.stderr)
 FACES = ["f 4 3 7 8", "f 3 2 6 7", "f 2 1 5 6", "f 1 4 8 5", "f 8 7 6 5", "f 1 2 3 4"]
 
 
@@ -51,7 +53,7 @@ class Data(unittest.TestCase):
         self.assertEqual(json.loads(given)["title"], "<!-- <script>")
 
 
-@unittest.skipUnless(CHROMIUM, "SKIPPED: the page isn't tried in a browser, since Chromium isn't there")
+@unittest.skipUnless(CHROMIUM, "Chromium isn't there")
 class InBrowser(unittest.TestCase):
     """The page as it is drawn by the processor alone, in a window of 480 by 320."""
 
@@ -172,12 +174,34 @@ class InBrowser(unittest.TestCase):
     def test_the_solids_of_the_program_are_drawn_as_it_prints_them(self):
         """The corners of each solid are those of an example that printed it, by its unit mesh."""
         self.show(Town(cubes((0, 0, 0, 1, 1, 1))))
-        for solid, sizes, corners in (("hip", (6, 2, 4), [(2, 2, 2), (4, 2, 2)]), ("hip", (4, 2, 6), [(2, 2, 2), (2, 2, 4)]), ("gable", (6, 2, 4), [(0, 2, 2), (6, 2, 2)]),
-                                      ("gable", (4, 2, 6), [(2, 2, 0), (2, 2, 6)]), ("shed", (6, 2, 4), [(6, 2, 4), (0, 2, 4)])):
-            with self.subTest((solid, sizes)):
-                told = self.run_(f"(() => {{ const mesh = SOLIDS[mesh_of('{solid}', {sizes[0]}, {sizes[2]})], data = [0, 0, 0, {sizes[0]}, 0, 0, 0, {sizes[1]}, 0, 0, 0, {sizes[2]}];"
+        for solid, (w, h, d), corners in (("hip", (6, 2, 4), [(2, 2, 2), (4, 2, 2)]), ("hip", (4, 2, 6), [(2, 2, 2), (2, 2, 4)]),
+                                          ("gable", (6, 2, 4), [(0, 2, 2), (6, 2, 2)]), ("gable", (4, 2, 6), [(2, 2, 0), (2, 2, 6)]),
+                                          ("shed", (6, 2, 4), [(6, 2, 4), (0, 2, 4)])):
+            with self.subTest((solid, w, h, d)):
+                told = self.run_(f"(() => {{ const mesh = SOLIDS[mesh_of('{solid}', {w}, {d})], data = [0, 0, 0, {w}, 0, 0, 0, {h}, 0, 0, 0, {d}];"
                                  " return mesh.corners.slice(4).map(corner => spot(corner, data, 0)); })()")
                 self.assertEqual([tuple(round(part, 6) for part in corner) for corner in told], corners)
+
+    def test_a_quad_stands_where_its_axes_lead(self):
+        """The right face of a box of 10 by 3 by 8: by the table of components its X leads along -Z, and its Z along X."""
+        self.show(Town(cubes((0, 0, 0, 1, 1, 1))))
+        told = self.run_("(() => { const one = parsed('a wall quad 10 0 8 -Z+Y+X 8 3 0'), data = [...one.corner, ...columns(one)];"
+                         " return SOLIDS.quad.corners.map(corner => spot(corner, data, 0).map(part => part + 0)); })()")
+        self.assertEqual(told, [[10, 0, 8], [10, 0, 0], [10, 3, 0], [10, 3, 8]])
+
+    def test_what_comes_lights_up_and_what_goes_is_gone(self):
+        self.show(Town(cubes((0, 0, 0, 10, 6, 8))))
+        self.browser.key("1")
+        place = self.place_of(5, 3, 8)
+        before = self.pixel(*place)
+        self.run_("(() => { const line = [...town.held.keys()][0], now = performance.now(); performance.now = () => now; head.save = 1;"
+                  " take({from: 'x'}, ['- ' + line, '+ ' + line.replace('wall', 'roof')]); })()")
+        lit = self.pixel(*place)
+        self.run_("(() => { const later = performance.now() + 1500; performance.now = () => later; })()")
+        after = self.pixel(*place)
+        self.assertGreater(lit[0] - lit[2], after[0] - after[2])
+        self.assertNotEqual(before, after)
+        self.assertEqual(self.run_("[town.held.size, ...town.counts]"), [1, 0, 1])
 
 
 if __name__ == "__main__":

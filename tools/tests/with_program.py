@@ -7,6 +7,7 @@ usage: tools/tests/with_program.py [--program PATH] [NUMBER [SEED]]
 import re
 import sys
 import tempfile
+import unittest
 from pathlib import Path
 
 TESTS = Path(__file__).resolve().parent
@@ -14,12 +15,14 @@ TOP = TESTS.parent.parent
 sys.path[:0] = [str(TESTS), str(TESTS.parent)]
 
 import random_scripts  # noqa: E402
+import test_edits  # noqa: E402
 from lib.program import run, take_program  # noqa: E402
 from lib.replies import replies  # noqa: E402
 from lib.report import Report  # noqa: E402
 from lib.script import commands, is_open, is_version, lines_of, text_of, without  # noqa: E402
 from lib.session import Session  # noqa: E402
 
+LIVE = TOP / "crates" / "cga_live" / "out" / "cga_live"
 STORED = [script for folder in ("examples", "rows") for script in sorted((TOP / folder).glob("*.cga"))]
 LINTED = sorted((TESTS / "lint").glob("*.cga"))
 
@@ -80,6 +83,11 @@ def main(words):
     for name, data in scripts:
         quiet(program, name, data)
         grown(program, name, data)
+    if LIVE.exists():
+        saves = sum(test_edits.check(unittest.TestCase(), str(LIVE), seed, 25) for seed in range(1, 11))
+        print(f"{saves} saves come to the town of a run from nothing")
+    else:
+        print("SKIPPED: saves sent as edits, since cga_live isn't built")
     print(f"{len(LINTED)} stored replies and {len(scripts)} scripts agree")
 
 

@@ -159,7 +159,8 @@ function draw() {
   fit_parts(wide, high);
   if (is_shadow_old) shine();
   finish(draw_picture(now));
-  if (now < drawn_last + GLOW) ask_draw();
+  const left = drawn_last + GLOW - now;
+  if (left > 0) is_slow ? setTimeout(ask_draw, 1000 * left + 20) : ask_draw();
 }
 
 let is_asked = false;

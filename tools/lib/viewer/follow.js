@@ -3,13 +3,12 @@
 
 // What came: values of the head that changed, and the lines of what went and came.
 function take(told, lines) {
-  if (!told.from) town.clear();
-  head = {...head, ...told};
+  if (!told.from) town.forget();
   add_meshes(told.meshes || {});
-  const had_some = town.low !== null, lights_up = had_some && !head.is_busy, now = moment();
-  const is_changed = lines.length > 0 && take_lines(lines, lights_up ? now : -GLOW, !had_some || is_growing);
+  const had_some = town.low !== null, lights_up = had_some && head.save > 0, now = moment();
+  const is_changed = (lines.length > 0 || !told.from) && take_lines(lines, lights_up ? now : -GLOW, !had_some || !head.save);
   if (is_changed && lights_up) drawn_last = now;
-  is_growing = Boolean(head.is_busy);
+  head = {...head, ...told};
   document.title = head.title;
   canvas.className = head.is_stale ? 'stale' : '';
   tell(head.said || '');
@@ -19,14 +18,13 @@ function take(told, lines) {
   sums();
 }
 
-// The view stays, unless nothing was there before or the first town still grows and nobody has turned it.
+// The view stays, unless nobody has turned it, and nothing was there before or the first town still grows.
 function take_lines(lines, moment, is_first) {
   town.take(lines, moment);
   is_shadow_old = true;
   if (town.low && is_first && !is_touched) look_at(town);
   return true;
 }
-let is_growing = false;
 
 async function follow() {
   let stamp = '';

@@ -9,7 +9,7 @@ function tell(text) {
   box_of('said').style.display = text ? 'block' : 'none';
 }
 
-// Drawing by the processor alone gets a smaller map of shadows and one sample for each pixel.
+// Drawing by the processor alone gets a smaller map of shadows, hard shadows and one sample for each pixel.
 function drawn_by() {
   const told = gl.getExtension('WEBGL_debug_renderer_info');
   return gl.getParameter(told ? told.UNMASKED_RENDERER_WEBGL : gl.RENDERER);

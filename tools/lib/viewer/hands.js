@@ -46,9 +46,14 @@ canvas.onpointermove = event => {
   if (moved > 4) see(() => other ? pinch(event, was, other) : event.shiftKey || event.buttons > 1 ? move(dx, dy) : turn_by(dx, dy));
 };
 
+// The point under the pointer stays there, so that it is looked for once in a turn of the wheel.
+let wheel = {x: -1, y: -1, until: 0, point: null};
 canvas.addEventListener('wheel', event => {
   event.preventDefault();
-  if (town.low) see(() => zoom(Math.exp(event.deltaY / 800), point_at(event.clientX, event.clientY)));
+  if (!town.low) return;
+  const {clientX: x, clientY: y} = event, is_same = x === wheel.x && y === wheel.y && moment() < wheel.until;
+  wheel = {x, y, until: moment() + .5, point: is_same ? wheel.point : point_at(x, y)};
+  see(() => zoom(Math.exp(event.deltaY / 800), wheel.point));
 }, {passive: false});
 
 function save_picture() {

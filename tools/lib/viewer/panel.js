@@ -56,8 +56,8 @@ function pick_again() {
 // Steps of one, two or five hundredths or the like, from 0 to three times the value.
 function slider(name, text) {
   const row = document.createElement('label'), range = document.createElement('input'), told = document.createElement('output');
-  const value = number(text), most = 3 * Math.abs(value) || 1;
-  Object.assign(range, {type: 'range', min: Math.min(0, 3 * value), max: Math.max(most, 0), step: 10 ** Math.floor(Math.log10(most) - 1.7), id: 'slider_' + name});
+  const value = number(text), most = 3 * Math.abs(value) || 1, step = 10 ** Math.floor(Math.log10(most) - 1.7);
+  Object.assign(range, {type: 'range', min: Math.min(0, 3 * value), max: value < 0 ? 0 : most, step, id: 'slider_' + name});
   range.value = value;
   told.textContent = text;
   row.append(name, range, told);
@@ -66,7 +66,12 @@ function slider(name, text) {
     row.className = 'turned';
     turn(name, range.value);
   };
-  row.ondblclick = () => { turn(name, text); range.value = value; told.textContent = text; row.className = ''; };
+  row.ondblclick = () => {
+    turn(name, text);
+    range.value = value;
+    told.textContent = text;
+    row.className = '';
+  };
   row.title = 'double click: as in the script';
   return row;
 }

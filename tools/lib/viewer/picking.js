@@ -27,11 +27,13 @@ function met_solid(eye, way, {mesh, data}, slot) {
 
 // The instances whose boxes are met, the nearest box first.
 function candidates(eye, way) {
-  const found = [];
+  const found = [], low = [0, 0, 0], high = [0, 0, 0], is_hidden = town.symbols.map(symbol => hidden.has(symbol));
   for (const batch of town.batches.values()) {
     for (let slot = 0; slot < batch.count; slot++) {
-      const low = [Infinity, Infinity, Infinity], high = [-Infinity, -Infinity, -Infinity], at = slot * FLOATS;
-      if (hidden.has(town.symbols[batch.data[at + 12]])) continue;
+      const at = slot * FLOATS;
+      if (is_hidden[batch.data[at + 12]]) continue;
+      low.fill(Infinity);
+      high.fill(-Infinity);
       widen(batch.data, at, low, high);
       const far = met_box(eye, way, low, high);
       if (far < Infinity) found.push({batch, slot, far});

@@ -24,6 +24,9 @@ vec3 spot() {
 }
 `;
 
+const SOFT = `float sum = 0.;
+  for (int i = -1; i < 2; i++) for (int j = -1; j < 2; j++) sum += texture(shadows, seen + vec3(vec2(i, j) * fine, 0.));
+  return sum / 9.;`;
 const LIT = `
 uniform sampler2DShadow shadows;
 uniform mat4 sun;
@@ -33,9 +36,7 @@ float clear_of(vec3 at) {
   vec3 seen = (sun * vec4(at, 1.)).xyz * .5 + .5;
   if (any(lessThan(seen.xy, vec2(0.))) || any(greaterThan(seen.xy, vec2(1.)))) return 1.;
   seen.z = min(seen.z, 1.);
-  float sum = 0.;
-  for (int i = -1; i < 2; i++) for (int j = -1; j < 2; j++) sum += texture(shadows, seen + vec3(vec2(i, j) * fine, 0.));
-  return sum / 9.;
+  ${is_slow ? 'return texture(shadows, seen);' : SOFT}
 }
 `;
 

@@ -50,12 +50,16 @@ class Batch {
 
 class Town {
   constructor() {
-    this.batches = new Map();
+    this.forget();
+  }
+  // Another town may come, with other meshes.
+  forget() {
+    Object.assign(this, {batches: new Map(), symbols: [], numbers: new Map()});
     this.clear();
   }
   clear() {
     for (const batch of this.batches.values()) Object.assign(batch, {count: 0, entries: [], changed: new Set()});
-    Object.assign(this, {held: new Map(), symbols: this.symbols || [], numbers: this.numbers || new Map(), counts: [], offset: null, low: null, high: null});
+    Object.assign(this, {held: new Map(), counts: [], offset: null, low: null, high: null});
   }
   // Takes lines that begin with `-`, what goes, and with `+`, what comes.
   take(lines, moment = 0) {

@@ -1,0 +1,67 @@
+"""The preview's page in a browser without a window, over saves, with a stand-in for cga_live."""
+import os
+import re
+import subprocess
+import sys
+import tempfile
+import unittest
+from pathlib import Path
+
+TESTS = Path(__file__).resolve().parent
+sys.path.insert(0, str(TESTS))
+
+from browser import CHROMIUM, Browser  # noqa: E402
+
+SCRIPT = 'rules\nattr h = 3\n1: house -> S(1r, h, 1r) I("cube")\nend\nlot a 1 0 0 10 8 house\n'
+
+
+@unittest.skipUnless(CHROMIUM, "Chromium isn't there")
+class PreviewPage(unittest.TestCase):
+    def setUp(self):
+        folder = tempfile.TemporaryDirectory()
+        self.addCleanup(folder.cleanup)
+        self.script, self.saves = Path(folder.name) / "town.cga", 1
+        self.script.write_text(SCRIPT, encoding="utf-8")
+        words = [TESTS.parent / "preview", "--program", TESTS / "live_stand_in", "--port", "0", self.script]
+        self.preview = subprocess.Popen(words, stdout=subprocess.PIPE, text=True)
+        self.browser = Browser(480, 320)
+        self.addCleanup(self.end)
+        self.browser.open(re.match(r"(http://127\.0\.0\.1:\d+/) ", self.preview.stdout.readline()).group(1))
+        self.browser.wait("head.save === 1 && is_asked === false")
+
+    def end(self):
+        self.browser.close()
+        self.preview.terminate()
+        self.preview.wait()
+        self.preview.stdout.close()
+
+    def save(self, text):
+        other = self.script.with_suffix(".new")
+        other.write_text(text, encoding="utf-8")
+        os.replace(other, self.script)
+        self.saves += 1
+        self.browser.wait(f"head.save === {self.saves}")
+
+    def test_a_session(self):
+        run = self.browser.run
+        self.browser.click(240, 160)
+        self.assertIn("rule 1 (line 3)", run("box_of('picked').textContent"))
+        self.browser.drag(240, 160, 300, 180)
+        seen = run("JSON.stringify(view)")
+        # a typo leaves the town, greyed, and the view
+        self.save(SCRIPT.replace('"cube"', '"cub"'))
+        self.assertEqual(run("[canvas.className, town.held.size, JSON.stringify(view)]"), ["stale", 1, seen])
+        self.assertIn("town.cga:3:13: Unexpected", run("box_of('said').textContent"))
+        self.save(SCRIPT)
+        self.assertEqual(run("[canvas.className, town.held.size, JSON.stringify(view), box_of('said').textContent]"), ["", 1, seen, ""])
+        # a slider changes the town, and another save sets it back
+        run("(() => { const slider = box_of('slider_h'); slider.value = 5; slider.oninput(); })()")
+        self.browser.wait("town.held.has('a house cube 0 0 0 +X+Y+Z 10 5 8')")
+        self.save(SCRIPT + "lot b 1 20 0 10 8 house\n")
+        self.assertEqual(run("[[...town.held.keys()].sort(), box_of('slider_h').value, JSON.stringify(view)]"),
+                         [["a house cube 0 0 0 +X+Y+Z 10 3 8", "b house cube 20 0 0 +X+Y+Z 10 3 8"], "3", seen])
+        self.assertIn("2 lots, 2 solids", run("box_of('sums').textContent"))
+
+
+if __name__ == "__main__":
+    unittest.main()
