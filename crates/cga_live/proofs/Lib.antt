@@ -1,5 +1,5 @@
 mod Balanced
 mod Turns
 mod Lived
-mod Reads
+mod Reading
 mod Ends
