@@ -1,5 +1,5 @@
 mod Balanced
 mod Turns
 mod Lived
-mod PiecesRead
+mod Reading
 mod Ends

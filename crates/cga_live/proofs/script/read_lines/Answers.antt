@@ -2,7 +2,7 @@ use Rattle.std.proofs.Common.{◌++◌, ◌≤◌, ◌-◌, ◌∙◌, ℕ, [], 
 use Rattle.std.proofs.lemmas.List.{length-take-le}
 use Rattle.std.specs.Io.KnownBytes.{Consumes}
 use Rattle.cga_top.proofs.Door.{faults_since, is_part}
-use Rattle.cga_live.proofs.PiecesRead.{reads_halt, reads_more, reads_none, reads_start}
+use Rattle.cga_live.proofs.Reading.{reads_halt, reads_more, reads_none, reads_start}
 use Rattle.cga_live.proofs.script.read_lines.Goals as goal
 
 pub loop-total-init : goal.loop-total-init
