@@ -109,7 +109,7 @@ pub same_line : (p : Pending) (bytes : List ℕ) (long : Bool) → bytes ≡ (re
     → long ≡ (ready_line p).long → line_of bytes long ≡ ready_line p
 same_line p bytes long b l = ap (λ (x : List ℕ). line_of x long) b ∙ ap (line_of (ready_line p).bytes) l
 
-line_effect : (s : State) (line : Line) → effect_of_all s (line ∷ []) ≡ effect s line
+pub line_effect : (s : State) (line : Line) → effect_of_all s (line ∷ []) ≡ effect s line
 line_effect s line = all_more s line [] ∙ ap (followed_by (effect s line)) (all_none (effect s line).state) ∙ followed_silent (effect s line)
 
 module _ (s : State) (line : Line) (old mid : Session) (reply : List ℕ) (i j : ℕ) (un : IsUnbegun s) (forgot : old.city.changes ≡ no_changes) (did : Did (effect s line) old.city.changes mid reply i j) where
