@@ -1,5 +1,7 @@
 -- The lines on standard error at the ends of a run.
 use Rattle.std.specs.Prelude.{ℕ, List, [], codes}
+use Rattle.std.specs.declared.io.ErrorKind.{ErrorKind}
+use Rattle.std.specs.declared.io.ErrorKind.TheVariants as kind
 use Rattle.cga_words.specs.declared.status.Status.{Status}
 use Rattle.cga_words.specs.declared.status.Status.TheVariants.{Done, Usage, ReadFault, WriteFault, TooLong, NoMemory}
 
@@ -15,3 +17,8 @@ line_of NoMemory = codes "cga_live: out of memory"
 -- where the words of the command line aren't text
 abbrev pub unreadable : List ℕ
 unreadable = codes "cga_live: cannot read the command line"
+
+-- where the system doesn't give the words: it finds no memory, or they aren't text
+abbrev pub refusal_line : ErrorKind → List ℕ
+refusal_line kind.OutOfMemory = line_of NoMemory
+refusal_line _ = unreadable

@@ -12,17 +12,21 @@ mod exit;
 mod lines;
 mod script;
 
-ghost use Rattle.std.specs.Prelude.{◌≡◌, ◌≢◌, ◌<◌, ◌⊎◌, List, ℕ, [], ◌∷◌, map, string_bytes, IfOk, IfSome, IsErr};
+ghost use Rattle.std.specs.Prelude.{◌≡◌, ◌≢◌, ◌<◌, ◌⊎◌, List, ℕ, [], ◌∷◌, map, string_bytes, IfErr, IfOk, IfSome, IsErrAnd, MatchResult};
 ghost use Rattle.std.specs.Io.KnownBytes.{Appends};
+ghost use Rattle.std.specs.IoError.{error_kind};
 ghost use Rattle.std.specs.Process.{exit_status};
 ghost use Rattle.std.specs.Vec.Iter.{into_iter_items};
+ghost use Rattle.cga_live.specs.Exits.{line_of, refusal_line};
 ghost use Rattle.cga_live.specs.Live.{IsLiveOf};
 ghost use Rattle.cga_live.specs.Means.{LiveMeans};
 ghost use Rattle.cga_outside.specs.Causes.{Rose};
 ghost use Rattle.cga_top.specs.Hulls.{usual};
 ghost use Rattle.cga_top.specs.Outside.{outside_of};
 ghost use Rattle.cga_top.specs.Statuses.{HoldsFew};
+ghost use Rattle.cga_words.specs.Exits.{refusal_of};
 ghost use Rattle.cga_words.specs.Words.{wordless_app};
+ghost use Rattle.cga_words.specs.declared.status.Status.TheVariants.{NoMemory};
 ghost use Rattle.clap.specs.Words.{fault_of};
 
 use crate::exit::{exit_of, unreadable_words};
@@ -42,7 +46,11 @@ use std::{env, io};
 
 // The words of the command line, the program's name first.
 fn words(alloc: Global, found: io::Result<Args>) -> Result<Vec<String>, Exit>
-    ensures given { IfOk found (λ given. IfOk result (λ words. words.items ≡ into_iter_items given)) }
+    ensures given { IfOk found (λ given.
+        MatchResult result (λ words. words.items ≡ into_iter_items given)
+        (λ exit. (exit.status ≡ 6) × (exit.line.now ≡ line_of NoMemory))) }
+    ensures refused { IfErr found (λ error. IsErrAnd result (λ exit.
+        (exit.status ≡ refusal_of (error_kind error)) × (exit.line.now ≡ refusal_line (error_kind error)))) }
 {
     match found {
         Ok(words) => match words.collect(alloc) {
