@@ -5,7 +5,7 @@ from itertools import count
 from .call import Refused
 from .lot_names import is_name
 from .numerals import numeral
-from .words import told
+from .strangers_text import told
 
 # place tells where it comes from, as `feature 3`; turns are the quarter turns that bring the front to the lot's high Z
 Lot = namedtuple("Lot", "place name text seed ground call turns")

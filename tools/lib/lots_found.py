@@ -11,7 +11,7 @@ from .lots_csv import lots_of
 from .numerals import numeral, on_grid
 from .parcels import Group, groups, larger, parcels_of, renamed
 from .rectangle import area, room
-from .words import cell, told
+from .strangers_text import cell, told
 
 # comment tells what the coordinates are
 Found = namedtuple("Found", "groups comment sentences")

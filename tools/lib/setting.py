@@ -11,10 +11,9 @@ STEP = 1_000
 Setting = namedtuple("Setting", "offset metres")  # decimals: three in the town's unit, and one
 
 
-def add_words(parser):
-    parser.add_argument("--offset", nargs=3, metavar=("X", "Y", "Z"), type=number, help="what is taken off all coordinates, in the town's unit; "
-                        "if it isn't said, nothing, or of a town farther out than 10,000 its low corner in whole thousands")
-    parser.add_argument("--metres", type=number, default=Decimal(1), metavar="N", help="how many metres the town's unit is long; 1 if it isn't said")
+def add_words(known):
+    known.add_argument("--offset", nargs=3, type=number)
+    known.add_argument("--metres", type=number, default=Decimal(1))
 
 
 def number(text):
