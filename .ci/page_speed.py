@@ -35,6 +35,7 @@ WATCH = """(() => {
   draw = () => { draw_was(); gl.readPixels(0, 0, 1, 1, gl.RGBA, gl.UNSIGNED_BYTE, new Uint8Array(4)); noted.drawn = now(); };
   ask_draw();
 })()"""
+SENT = "performance.getEntriesByType('resource').reduce((sum, one) => sum + one.encodedBodySize, 0)"
 TICK = os.sysconf("SC_CLK_TCK")
 
 
@@ -114,7 +115,7 @@ def measure(program, folder, lots, saves):
         first, used = time.time() - begun, seconds_of(preview)
         drawing, worked, triangles = frame(browser)
         print(f"{lots} lots, {triangles:,} triangles: first picture {first:.2f} s, {used:.2f} processor seconds of Python, "
-              f"{browser.run('noted.bytes'):,} bytes; a picture takes {drawing:.0f} ms, {worked:.2f} processor seconds")
+              f"{browser.run(SENT):,} bytes; a picture takes {drawing:.0f} ms, {worked:.2f} processor seconds")
         for name, change in CHANGES.items():
             told = [saved(browser, preview, town, change, turn) for turn in range(saves)]
             taken, drawn, sent, used = zip(*told)
