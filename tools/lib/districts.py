@@ -6,14 +6,13 @@ from pathlib import Path
 
 from .call import Refused, Words, number_in
 from .checking import bill_text
-from .deal import MOST_LOTS
 from .exact import parted
 from .files import alone, write
 from .head import head_of
 from .jobs import Cut, Program, cut_again, leftovers, todo
 from .joining import join
 from .plan import Options, read_plan
-from .program import LAUNCHER, is_proved
+from .program import LAUNCHER, MOST_LOTS, is_proved
 from .region import Region
 from .rounds import outcome
 from .strangers_text import told

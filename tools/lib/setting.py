@@ -4,6 +4,7 @@ from collections import namedtuple
 from decimal import Decimal, InvalidOperation
 
 from .call import Refused
+from .numerals import plain
 
 FAR = 10_000  # farther out, floats of 32 bits are apart by more than a thousandth
 STEP = 1_000
@@ -36,13 +37,6 @@ def setting_of(town, words):
 def far(coordinates):
     low, high = min(coordinates), max(coordinates)
     return Decimal(math.floor(low / STEP) * STEP if max(abs(low), abs(high)) > FAR else 0)
-
-
-def plain(value):
-    """A decimal's text, without an exponent and without zeros at its end."""
-    text = f"{value:f}"
-    text = text.rstrip("0").rstrip(".") if "." in text else text
-    return "0" if text == "-0" else text
 
 
 def told(setting):
