@@ -7,12 +7,18 @@ from decimal import Decimal
 from pathlib import Path
 from unittest.mock import patch
 
-TOOLS = Path(__file__).resolve().parent.parent
-sys.path.insert(0, str(TOOLS))
+TESTS = Path(__file__).resolve().parent
+TOOLS = TESTS.parent
+sys.path[:0] = [str(TESTS), str(TOOLS)]
+
+from drawn import Drawn  # noqa: E402
 
 from lib import progress  # noqa: E402
 from lib.call import Refused, Words, call, number_in  # noqa: E402
+from lib.measure import Measured  # noqa: E402
+from lib.obj import Town  # noqa: E402
 from lib.strangers_text import cell, told  # noqa: E402
+from lib.table_rows import rows_of  # noqa: E402
 
 TEXT = "\nMakes a thing.\n\nusage: tools/make THING\n"
 
@@ -108,6 +114,13 @@ class Progress(unittest.TestCase):
     def test_a_terminal_is_told_after_two_seconds(self):
         self.assertEqual(self.told(Terminal(), (0, 1.9, 2.1)), "\r\033[Klots: 1 of 1,200\r\033[K")
         self.assertEqual(self.told(Terminal(), (0, 1.8, 1.9)), "")
+
+    def test_a_table_tells_how_far_it_is(self):
+        times, stream = iter(range(0, 90, 3)), Terminal()
+        measured = Measured(Town(Drawn().lot("a").solid("x", "cube", (0, 0, 0), (1, 1, 1)).solid("x", "cube", (2, 0, 0), (1, 1, 1)).lines))
+        with patch.object(sys, "stderr", stream), patch.object(progress.time, "monotonic", lambda: next(times)):
+            rows_of(measured, "lot", {})
+        self.assertEqual(stream.getvalue(), "\r\033[Ksolids: 0 of 2\r\033[Ksolids: 1 of 2\r\033[K")
 
     def test_nothing_is_told_elsewhere(self):
         self.assertEqual(self.told(io.StringIO(), (0, 3, 6)), "")
