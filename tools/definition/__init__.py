@@ -22,5 +22,5 @@ In the order of the statement:
     reports     instances, faults, counts and their texts
 
 and below them the leaves: sources, rule, check, fraction, frame, split, comp, solid, word, lexer, form, parser, command,
-syntax, asset, bill, town, fault. judge and reason are tools/judge, __main__ is tools/define, and clock tells how far they are.
+syntax, asset, bill, town, fault. judge and reason are for tools/judge, and clock tells how far it and tools/define are.
 """

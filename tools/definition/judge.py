@@ -1,7 +1,5 @@
 """Judges a trace: whether it is the run of a script's sources, and where and why not, by the definitions alone."""
-import argparse
 import re
-import sys
 
 from .clock import Clock, TimeIsOver
 from .lexer import tokens_of
@@ -11,13 +9,10 @@ from .reason import reason_for
 from .replies import run_of
 from .run import judged
 
-EPILOG = """SCRIPT is a script of version 2. TRACE is what the command `trace` wrote behind it; of a file of replies the last
-trace counts. The exit status is 0 where the trace is the run, 1 where it isn't or a file can't be taken, 2 for other words,
-and 3 where the judge ended early and hasn't judged."""
 NO_TEXT = re.compile(r"[\x00-\x08\x0b\x0c\x0e-\x1f\x7f]")
 
 
-class BadInput(Exception):
+class BadInput(ValueError):
     """A file can't be taken: its name, a line, and why."""
 
     def __init__(self, name, line, why):
@@ -102,36 +97,14 @@ def judge(script, trace, clock):
     return f"rejected at {differs}, {trace}:{first + differs - 1}: {why_rejected(state, differs, lines)}", 1
 
 
-# ---- the command
-
-def seconds(text):
-    if not re.fullmatch("[1-9][0-9]{0,5}", text, re.ASCII):
-        raise argparse.ArgumentTypeError(f"{text!r} isn't a number of seconds, 1 to 999999")
-    return int(text)
-
-
-def main():
-    parser = argparse.ArgumentParser(prog="judge", description=__doc__, epilog=EPILOG)
-    parser.add_argument("script", metavar="SCRIPT")
-    parser.add_argument("trace", metavar="TRACE")
-    parser.add_argument("--seconds", type=seconds, metavar="N", help="ends after so many seconds, without a verdict")
-    given = parser.parse_args()
+def limited(script, trace, seconds=None):
+    """The verdict and the exit status, or why there is none."""
     try:
-        with Clock("judge", given.seconds) as clock:
-            text, status = judge(given.script, given.trace, clock)
+        with Clock("judge", seconds) as clock:
+            return judge(script, trace, clock)
     except TimeIsOver:
-        text, status = f"not judged: the limit of {given.seconds} seconds was over; give more by --seconds", 3
+        return f"not judged: the limit of {seconds} seconds was over; give more by --seconds", 3
     except MemoryError:
-        text, status = "not judged: memory was wanting", 3
+        return "not judged: memory was wanting", 3
     except KeyboardInterrupt:
-        text, status = "not judged: it was interrupted", 3
-    except BadInput as fault:
-        sys.exit(f"judge: {fault}")
-    except OSError as fault:
-        sys.exit(f"judge: {fault.filename}: {fault.strerror}")
-    print(text)
-    sys.exit(status)
-
-
-if __name__ == "__main__":
-    main()
+        return "not judged: it was interrupted", 3

@@ -1,44 +1,91 @@
-"""How each tool is called: help, wrong words and files that can't be taken end it without a trace of Python."""
+"""How each tool is called: a wrong word ends it with its reason and status 2, input that can't be taken with a sentence and
+status 1, and neither with a trace of Python."""
+import argparse
 import os
+import re
 import sys
 
+from .strangers_text import told
 
-class WrongWords(Exception):
-    """The words aren't those of the usage line."""
+PLAIN = re.compile(r"-\d+|-\d*\.\d+")  # the numbers below 0 that argparse takes for no option
 
 
 class Refused(Exception):
     """What is given can't be taken, with a sentence that says why."""
 
 
-def call(main, text):
-    words, status = sys.argv[1:], 0
-    name = os.path.basename(sys.argv[0])
+class WrongWord(Exception):
+    """A word isn't one of the tool's, with the reason."""
+
+
+class Words(argparse.ArgumentParser):
+    """The words of a tool; `--help` prints the tool's own text."""
+
+    def __init__(self, **more):
+        super().__init__(add_help=False, allow_abbrev=False, **more)
+
+    def error(self, message):
+        raise WrongWord(message)
+
+
+def number_in(low, high, kind=float):
+    """A reader of a word that is a number from `low` to `high`."""
+    def read(word):
+        try:
+            number = kind(word)
+        except ValueError:
+            number = None
+        if number is None or not low <= number <= high:
+            raise argparse.ArgumentTypeError(f"`{told(word)}` isn't a{' whole' * (kind is int)} number from {low:,} to {high:,}")
+        return number
+    return read
+
+
+def call(main, words, text, refused=1):
+    """Ends with the status of `main`, which is given the words that were read. `refused` is the status of input that can't
+    be taken, for a tool whose status 1 means something else."""
+    name, status = os.path.basename(sys.argv[0]), refused
     try:
-        if "--help" in words or "-h" in words:
-            print(text.strip())
-        else:
-            status = main(words)
-        sys.stdout.flush()
-    except WrongWords:
-        print(text.strip(), file=sys.stderr)
-        status = 2
+        status = end_of(main, words, text)
+    except WrongWord as fault:
+        status = said(name, f"{fault}; {sys.argv[0]} --help tells the words", 2)
+    except (Refused, ValueError) as fault:
+        said(name, fault)
     except BrokenPipeError:
         # whoever read has heard enough
         os.dup2(os.open(os.devnull, os.O_WRONLY), sys.stdout.fileno())
+        status = 0
     except OSError as fault:
-        print(f"{name}: {fault.filename or 'output'}: {fault.strerror}", file=sys.stderr)
-        status = 2
-    except (Refused, ValueError) as fault:
-        print(f"{name}: {fault}", file=sys.stderr)
-        status = 2
+        said(name, f"{fault.filename or 'output'}: {fault.strerror}")
+    except (MemoryError, RecursionError):
+        said(name, "the input is too large or too deeply nested for this machine's memory: cut it into parts")
     except KeyboardInterrupt:
         status = 130
-    sys.exit(status or 0)
+    sys.exit(status)
 
 
-def files(words, *numbers):
-    """The words, where they are as many files as one of the numbers says."""
-    if len(words) not in numbers or any(word.startswith("-") for word in words):
-        raise WrongWords
-    return words
+def end_of(main, words, text):
+    if {"--help", "-h"} & set(sys.argv[1:]):
+        print(text.strip())
+        status = 0
+    else:
+        sys.stdout.reconfigure(encoding="utf-8", newline="\n")
+        status = main(words.parse_args(joined(sys.argv[1:]))) or 0
+    sys.stdout.flush()
+    return status
+
+
+def joined(words):
+    """The words, where one such as -1,2 or -1e3 belongs to the option before it."""
+    found = []
+    for word in words:
+        is_value = re.match(r"-[\d.]", word) and not PLAIN.fullmatch(word)
+        if is_value and found and re.fullmatch(r"--[a-z]+", found[-1]):
+            word = f"{found.pop()}={word}"
+        found.append(word)
+    return found
+
+
+def said(name, text, status=1):
+    print(f"{name}: {text}", file=sys.stderr)
+    return status

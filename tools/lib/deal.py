@@ -3,9 +3,8 @@ from collections import defaultdict, namedtuple
 
 from .apart import Sets, touching
 from .call import Refused
+from .program import MOST_LOTS
 from .quadtree import Quadtree
-
-MOST_LOTS = 4096  # of a run
 
 # places of lots: those that the job is for, and the neighbours that it derives with them
 Share = namedtuple("Share", "own ring square")

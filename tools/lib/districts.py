@@ -1,22 +1,21 @@
-"""Cuts a script of many lots into jobs by place, for make, xargs or Slurm; checks that what the jobs print is the region;
-joins it, or makes tiles of it. docs/DISTRICTS.md says what is promised."""
+"""What tools/districts does for each of its words."""
 import argparse
 import os
 import sys
 from pathlib import Path
 
-from .call import Refused
+from .call import Refused, Words, number_in
 from .checking import bill_text
-from .deal import MOST_LOTS
 from .exact import parted
 from .files import alone, write
 from .head import head_of
 from .jobs import Cut, Program, cut_again, leftovers, todo
 from .joining import join
 from .plan import Options, read_plan
-from .program import LAUNCHER, is_proved
+from .program import LAUNCHER, MOST_LOTS, is_proved
 from .region import Region
 from .rounds import outcome
+from .strangers_text import told
 from .survey import Survey
 from .tiles import write_tiles
 
@@ -139,16 +138,8 @@ def tidy(words):
     print(f"{words.folder}: {len(gone)} files taken away")
 
 
-def whole(least, most):
-    def taken(word):
-        if not word.isdigit() or not least <= int(word) <= most:
-            raise argparse.ArgumentTypeError(f"{word} isn't a whole number from {least} to {most}")
-        return int(word)
-    return taken
-
-
 def decimals(word):
-    return ["--decimals", str(whole(0, 9)(word))]
+    return ["--decimals", str(number_in(0, 9, int)(word))]
 
 
 def is_number(word):
@@ -161,58 +152,38 @@ def is_number(word):
 def number(word):
     """A length as it is spelt, which is read exactly."""
     if not is_number(word):
-        raise argparse.ArgumentTypeError(f"{word} isn't a number")
+        raise argparse.ArgumentTypeError(f"`{told(word)}` isn't a number")
     return word
 
 
-def add_cut(words):
-    words.add_argument("script", help="the script of the region")
-    words.add_argument("folder", type=Path, help="the folder of its jobs, which is made")
-    words.add_argument("--lots", type=whole(1, MOST_LOTS), default=500, help="lots of a job at most (500)")
-    words.add_argument("--reach", type=number, default="0", help="where a rule asks, grounds are grown by so much (0)")
-    words.add_argument("--rings", type=whole(0, 64), default=0, help="cut districts, too: each job derives so many rings of neighbours with it")
-    words.add_argument("--decimals", type=decimals, default=[], help="of coordinates, 0 to 9 (6)")
-    words.add_argument("--coarser", nargs=2, action="append", default=[], metavar=("HEAD", "ERROR"),
-                       help="for tiles: a script whose rules draw the same lots coarser, and by how many units at most")
-    words.add_argument("--program", help="of the jobs, in place of the proved one")
+def add_cut(known):
+    known.add_argument("script")
+    known.add_argument("folder", type=Path)
+    known.add_argument("--lots", type=number_in(1, MOST_LOTS, int), default=500)
+    known.add_argument("--reach", type=number, default="0")
+    known.add_argument("--rings", type=number_in(0, 64, int), default=0)
+    known.add_argument("--decimals", type=decimals, default=[])
+    known.add_argument("--coarser", nargs=2, action="append", default=[])
+    known.add_argument("--program")
 
 
-def reader():
-    """The words of the command line."""
-    top = argparse.ArgumentParser(prog="districts", description=__doc__)
-    kinds = top.add_subparsers(dest="word", required=True, metavar="WORD")
-    add_cut(kinds.add_parser("cut", help="cut a script into jobs"))
-    for word, text in (("check", "whether what the jobs printed is the region"), ("join", "check, and write town.obj and town.faults"),
-                       ("tiles", "check, and write 3D Tiles"), ("status", "which jobs were run, and which are refused"),
-                       ("todo", "the names of the jobs to run"), ("tidy", "take away what is refused, and what is of no job")):
-        one = kinds.add_parser(word, help=text)
-        one.add_argument("folder", type=Path)
+def words():
+    known = Words()
+    kinds = known.add_subparsers(dest="word", required=True)
+    for word in DOES:
+        one = kinds.add_parser(word)
+        if word == "cut":
+            add_cut(one)
+        else:
+            one.add_argument("folder", type=Path)
         if word in ("join", "tiles"):
-            one.add_argument("--workers", type=whole(1, 256), default=os.cpu_count() or 1, help="processes at once (all processors)")
-    return top
+            one.add_argument("--workers", type=number_in(1, 256, int), default=os.cpu_count() or 1)
+    return known
 
 
-def main(words=None):
+def main(word):
     """Does what the words say, and gives the status."""
-    given = reader().parse_args(words)
-    try:
-        status = DOES[given.word](given) or 0
-        sys.stdout.flush()
-    except BrokenPipeError:
-        os.dup2(os.open(os.devnull, os.O_WRONLY), sys.stdout.fileno())
-        status = 0
-    except Refused as refusal:
-        status = refused(refusal)
-    except OSError as fault:
-        status = refused(f"{fault.filename or 'output'}: {fault.strerror}")
-    except KeyboardInterrupt:
-        status = 130
-    return status
-
-
-def refused(why):
-    print(f"districts: {why}", file=sys.stderr)
-    return 1
+    return DOES[word.word](word)
 
 
 DOES = {"cut": cut, "check": check, "join": joined, "tiles": tiled, "status": status, "todo": names, "tidy": tidy}

@@ -1,6 +1,7 @@
 """Which refusals only follow from an earlier one: a lot whose symbol stands in a refused block, and the like."""
 import re
 
+from .replies import is_refused
 from .script import EDITS, rule_of
 from .standing import block
 
@@ -22,10 +23,6 @@ def said_by(command, lines):
     return found
 
 
-def refused(reply):
-    return reply[0].startswith("# refused ")
-
-
 def is_end(command):
     return command.words == ["end"]
 
@@ -40,7 +37,7 @@ class Follows:
         self.is_new = True
         self.open = None  # the refused line that would have opened a block
         for number, (command, reply) in enumerate(answers):
-            if refused(reply):
+            if is_refused(reply):
                 self.refusal(command, reply[0].split()[2:], answers[number:])
             elif reply[0] == "# ok":
                 self.accepted(command)
@@ -81,5 +78,5 @@ class Follows:
             return False
         for behind, reply in rest[1:]:
             if is_end(behind) or behind.is_block:
-                return is_end(behind) and refused(reply)
+                return is_end(behind) and is_refused(reply)
         return False

@@ -6,7 +6,7 @@ from collections import namedtuple
 from decimal import Decimal
 
 from .call import Refused
-from .words import told
+from .strangers_text import told
 
 # lines are the ring of a parcel, or the lines of a street; each position is a pair of decimals
 Feature = namedtuple("Feature", "number lines properties")

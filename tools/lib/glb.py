@@ -36,20 +36,25 @@ class Glb:
         return self.add("accessors", entry)
 
     def text(self, roots):
-        told = {"asset": {"version": "2.0", "generator": "cga_city"}, "scene": 0, "scenes": [{"nodes": roots}],
-                "buffers": [{"byteLength": len(self.bytes)}], **{name: entries for name, entries in self.lists.items() if entries}}
+        told = {"asset": {"version": "2.0", "generator": "cga_city"}, "scene": 0, "scenes": [{"nodes": roots} if roots else {}],
+                **{name: entries for name, entries in self.lists.items() if entries}}
+        if self.bytes:
+            told["buffers"] = [{"byteLength": len(self.bytes)}]
         for name, names in (("extensionsUsed", self.used | self.required), ("extensionsRequired", self.required)):
             if names:
                 told[name] = sorted(names)
-        return json.dumps(told).encode()
+        return json.dumps(told, separators=(",", ":")).encode()
 
     def file(self, roots):
         """The bytes of the file, whose scene has these nodes."""
         self.bytes += bytes(-len(self.bytes) % 4)
         told = self.text(roots)
-        told += b" " * (-len(told) % 4)
-        head = struct.pack("<4sII", b"glTF", 2, 28 + len(told) + len(self.bytes))
-        return b"".join((head, struct.pack("<I4s", len(told), b"JSON"), told, struct.pack("<I4s", len(self.bytes), b"BIN\0"), self.bytes))
+        chunks = chunk(b"JSON", told + b" " * (-len(told) % 4)) + (chunk(b"BIN\0", self.bytes) if self.bytes else b"")
+        return struct.pack("<4sII", b"glTF", 2, 12 + len(chunks)) + chunks
+
+
+def chunk(kind, data):
+    return struct.pack("<I4s", len(data), kind) + data
 
 
 def little(values):

@@ -2,7 +2,7 @@
 from .call import Refused
 from .printed import asking
 from .program import run
-from .replies import replies
+from .replies import is_refused, replies
 from .script import commands, text_of
 
 
@@ -34,7 +34,7 @@ def head_of(region, program):
     if status or len(answers) < len(found):
         raise Refused(f"no answer: {program} ended with status {status}")
     for command, answer in zip(found, answers):
-        if answer[0].startswith("# refused "):
+        if is_refused(answer):
             at = (places + places[:1] + [0])[command.first - 1]
             raise region.refused(at, f"{answer[0][2:]}; tools/lint says what is wrong")
     dump = answers[len(found) - 1]

@@ -5,7 +5,7 @@ from array import array
 from collections import defaultdict
 
 from .eye import NOTHING, fill
-from .progress import Progress, counted
+from .progress import counted
 from .projection import Face, behind
 
 NEAR = 1e-6
@@ -68,9 +68,8 @@ def boxes(faces):
 def overlapping(faces):
     """The pairs of faces that overlap on paper, by a sweep along U."""
     found = boxes(faces)
-    open_ones, progress = [], Progress("faces that overlap", len(faces))
-    for done, number in enumerate(sorted(range(len(faces)), key=lambda k: found[k][0])):
-        progress.at(done)
+    open_ones = []
+    for number in counted(sorted(range(len(faces)), key=lambda k: found[k][0]), "faces that overlap"):
         box = found[number]
         open_ones = [other for other in open_ones if found[other][2] > box[0] + NEAR]
         for other in open_ones:
@@ -78,7 +77,6 @@ def overlapping(faces):
                     not (part_them(faces[other], faces[number]) or part_them(faces[number], faces[other])):
                 yield min(other, number), max(other, number)
         open_ones.append(number)
-    progress.end()
 
 
 def first_of(one, other):

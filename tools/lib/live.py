@@ -1,11 +1,10 @@
 """A town that one running program keeps: `cga_live`, which tells behind the reply to an edit what went and what came."""
 import subprocess
-import threading
 from itertools import islice
 
+from .pipe import Ended, while_written
 from .replies import replies
 from .script import text_of
-from .session import Ended
 
 
 class Live:
@@ -28,20 +27,11 @@ class Live:
 
     def ask(self, lines, number):
         """The replies to lines that have so many. Behind the last of them nothing may have changed."""
-        writer = threading.Thread(target=self.feed, args=(text_of(lines),))
-        writer.start()
-        got = list(islice(self.replies, number))
-        writer.join()
+        with while_written(self.process, text_of(lines)):
+            got = list(islice(self.replies, number))
         if len(got) < number:
             raise Ended(f"the program ended with status {self.process.wait()}")
         return got
-
-    def feed(self, text):
-        try:
-            self.process.stdin.write(text)
-            self.process.stdin.flush()
-        except OSError:
-            pass  # it has ended, which its replies show
 
     def close(self):
         self.process.kill()

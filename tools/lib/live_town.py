@@ -1,11 +1,13 @@
 """The town of a script that is edited, kept by a running program: a save is sent as edits where edits say it."""
 from collections import Counter
 
-from .live import Live
 from .edits import edits
-from .script import is_open
-from .session import OPEN, Ended, counted
+from .live import Live
+from .pipe import Ended
 from .plain_script import Told, sources_of
+from .replies import counts_of, is_refused
+from .script import is_open
+from .session import OPEN
 
 UNSENT = "quiet print stats faults grammar".split()  # they edit nothing and are never refused, and some take long
 FEW = 4  # edits of a save, up to which each is asked how much was worked anew
@@ -93,7 +95,7 @@ class LiveTown:
             else:
                 answers[edit.command] = in_block(reply, edit)
         if not planned or len(planned) > FEW:
-            self.stats = counted(self.live.ask(["stats"], 1)[0])
+            self.stats = counts_of(self.live.ask(["stats"], 1)[0])
         if all(answer == ["# ok"] for answer in answers):
             return self.keep(lines, found, answers, new)
         self.lines = None
@@ -133,20 +135,16 @@ class LiveTown:
         sent = [command for command in found if not (len(command.words) == 1 and command.words[0] in UNSENT)]
         got = iter(live.ask([line for command in sent for line in lines[command.first:command.last + 1]] + ["stats"], len(sent) + 1))
         kept = {command.first: next(got) for command in sent}
-        return [kept.get(command.first, ["# ok"]) for command in found], counted(next(got))
+        return [kept.get(command.first, ["# ok"]) for command in found], counts_of(next(got))
 
     def tell(self, lines, is_counted=True):
         """The reply to an edit; how much was worked anew for it is added up."""
         reply, *stats = self.live.ask(lines + ["stats"] * is_counted, 1 + is_counted)
         if is_counted:
-            self.stats = counted(stats[0])
+            self.stats = counts_of(stats[0])
             if self.worked is not None and reply[0] == "# ok":
                 self.worked += self.stats.get("expanded", 0)
         return reply
-
-
-def is_refused(reply):
-    return reply[0].startswith("# refused ")
 
 
 def in_block(reply, edit):

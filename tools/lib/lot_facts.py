@@ -4,7 +4,7 @@ from fractions import Fraction
 
 from .call import Refused
 from .numerals import decimal
-from .words import told
+from .strangers_text import told
 
 
 def read_facts(path):

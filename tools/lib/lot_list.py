@@ -5,11 +5,10 @@ from itertools import count
 from .call import Refused
 from .lot_names import is_name
 from .numerals import numeral
-from .words import told
+from .strangers_text import told
 
 # place tells where it comes from, as `feature 3`; turns are the quarter turns that bring the front to the lot's high Z
 Lot = namedtuple("Lot", "place name text seed ground call turns")
-MOST_LOTS = 4096
 COMPASS = {"south": (0, 1), "east": (1, 0), "north": (0, -1), "west": (-1, 0)}
 OUTWARDS = list(COMPASS.values())  # of a lot's sides, as they are counted
 TURNS = ("{}", "T(0, 0, Scope.sz) Ry(90) S(Scope.sz, 1r, Scope.sx) {}", "T(Scope.sx, 0, Scope.sz) Ry(180) {}",

@@ -6,7 +6,7 @@ from .call import Refused
 from .lot_list import COMPASS, OUTWARDS, Lot, named_side, seed_of
 from .lot_names import lot_names
 from .numerals import numeral
-from .words import told
+from .strangers_text import told
 
 NEEDED = ("name", "x", "z", "width", "depth")
 

@@ -6,12 +6,12 @@ from fractions import Fraction
 from .call import Refused
 from .geojson import read_map
 from .ground import Ground
-from .lot_list import MOST_LOTS
 from .lots_csv import lots_of
 from .numerals import numeral, on_grid
 from .parcels import Group, groups, larger, parcels_of, renamed
+from .program import MOST_LOTS
 from .rectangle import area, room
-from .words import cell, told
+from .strangers_text import cell, told
 
 # comment tells what the coordinates are
 Found = namedtuple("Found", "groups comment sentences")

@@ -5,18 +5,15 @@ from decimal import Decimal
 from functools import lru_cache
 
 from .call import Refused
+from .eye import cross, dot
+from .solids import SOLIDS
 
 # plan and side are twice an area, volume six times one; front is in millionths, and nothing where the solid is a mesh
 Measure = namedtuple("Measure", "plan side front slack volume low top is_closed")
 MILLIONTHS = 6
 MOST_PLACES = 20
 FARTHEST = 1e12
-SOLIDS = {  # the faces of docs/LANGUAGE.md, "Solids"
-    "cube": "4 3 7 8; 3 2 6 7; 2 1 5 6; 1 4 8 5; 8 7 6 5; 1 2 3 4", "shed": "4 3 5 6; 3 2 5; 2 1 6 5; 1 4 6; 1 2 3 4",
-    "gable": "4 3 6 5; 3 2 6; 2 1 5 6; 1 4 5; 1 2 3 4", "deep gable": "4 3 6; 3 2 5 6; 2 1 5; 1 4 6 5; 1 2 3 4",
-    "hip": "4 3 5; 3 2 5; 2 1 5; 1 4 5; 1 2 3 4", "quad": "1 2 3 4",
-}
-KINDS = {tuple(tuple(int(word) - 1 for word in face.split()) for face in faces.split(";")): kind for kind, faces in SOLIDS.items()}
+KINDS = {tuple(tuple(at - 1 for at in face) for face in faces): kind for faces, (kind, _) in SOLIDS.items()}
 
 
 def places_of(texts):
@@ -34,14 +31,6 @@ def whole(text, places):
 
 def minus(p, q):
     return p[0] - q[0], p[1] - q[1], p[2] - q[2]
-
-
-def cross(a, b):
-    return a[1] * b[2] - a[2] * b[1], a[2] * b[0] - a[0] * b[2], a[0] * b[1] - a[1] * b[0]
-
-
-def dot(a, b):
-    return a[0] * b[0] + a[1] * b[1] + a[2] * b[2]
 
 
 def length(a):

@@ -9,7 +9,7 @@ from .numerals import on_grid
 from .progress import counted
 from .rectangle import area, away, corners, least_angle, room, sides, turned
 from .streets import Streets
-from .words import told
+from .strangers_text import told
 
 # ring is the parcel's, in the plane of the map; call is how its root is called
 Parcel = namedtuple("Parcel", "number name text seed ring call side limit")

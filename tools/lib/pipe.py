@@ -3,7 +3,8 @@ import queue
 import subprocess
 import threading
 from collections import deque
-from typing import Deque, List, Optional
+from contextlib import contextmanager
+from typing import Deque, Iterator, List, Optional
 
 FAREWELL = 5.0  # seconds that a program has to end by itself
 PIECE = 1 << 16
@@ -13,6 +14,23 @@ Process = "subprocess.Popen[bytes]"
 
 class Ended(Exception):
     """No more replies come: the program died or fell silent, or was ended."""
+
+
+@contextmanager
+def while_written(process: Process, data: bytes) -> Iterator[None]:
+    """Writes to a program, as a thread of its own, as long as its replies are read."""
+    writer = threading.Thread(target=write_to, args=(process, data))
+    writer.start()
+    yield
+    writer.join()
+
+
+def write_to(process: Process, data: bytes) -> None:
+    try:
+        process.stdin.write(data)  # type: ignore[union-attr]
+        process.stdin.flush()  # type: ignore[union-attr]
+    except OSError:
+        pass  # it has ended, which its replies show
 
 
 class Pipe:

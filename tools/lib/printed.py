@@ -4,7 +4,7 @@ from collections import namedtuple
 
 from .call import Refused
 from .exact import over_one
-from .replies import replies
+from .replies import counts_of, replies
 
 OBJ = b"# cga_city obj\n"
 PIECE = 1 << 16
@@ -21,10 +21,9 @@ def asking(grammar):
     return [line.split(":")[0] for line in grammar if "Scope.occ" in line]
 
 
-def counted(line):
+def town_counts(line):
     """The counts in a line of `stats`; that of the expanded shapes isn't one of the town's."""
-    words = line.split()
-    return {word: int(number) for word, number in zip(words[2::2], words[3::2]) if word != "expanded"}
+    return {word: number for word, number in counts_of([line]).items() if word != "expanded"}
 
 
 class Printed:
@@ -41,10 +40,10 @@ class Printed:
         with self.path.open("rb") as file:
             _, faults, *bills = self.head(self.before_town(file))
             stats, *hulls = self.behind_town(file)
-        if counted(stats).get("faults") != len(faults) - 1:
+        if town_counts(stats).get("faults") != len(faults) - 1:
             raise self.broken("it has other faults than it counts")
         bill = {words[2]: words[3:] for words in map(str.split, bills[0][1:])} if bills else {}
-        return Told(counted(stats), bill, *self.boxes(hulls))
+        return Told(town_counts(stats), bill, *self.boxes(hulls))
 
     def faults(self):
         """The lines of faults of the job's own lots."""
@@ -98,7 +97,7 @@ class Printed:
         lines = text[at + 1:].decode("latin-1").split("\n")
         if at < 0 or lines.pop() or lines.pop() != f"# job {self.job.name}" or not lines:
             raise self.broken("its end isn't that of this job")
-        if counted(lines[0]).get("lots") != len(self.job.own) + len(self.job.ring):
+        if town_counts(lines[0]).get("lots") != len(self.job.own) + len(self.job.ring):
             raise self.broken("it has other lots")
         return lines
 

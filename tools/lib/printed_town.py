@@ -1,5 +1,6 @@
 """The town of a script that is edited, by what a program prints of it: for programs that don't tell what an edit changed."""
 from .drawn import Meshes
+from .replies import is_refused
 from .script import is_open
 from .session import Session
 
@@ -29,7 +30,7 @@ class PrintedTown:
         lines, commands, answers, faults, town = self.session.ask(lines)
         self.stats = self.session.stats
         blocks = [(command, answer) for command, answer in zip(commands, answers) if command.is_block]
-        is_lost = any(is_open(command, lines) or answer[0].startswith("# refused") for command, answer in blocks)
+        is_lost = any(is_open(command, lines) or is_refused(answer) for command, answer in blocks)
         if not (is_lost and self.shown.drawn):
             drawn = self.meshes.lines(town)
             self.shown.replace(drawn, meshes=dict(self.meshes.told))

@@ -3,6 +3,7 @@ import subprocess
 from pathlib import Path
 
 LAUNCHER = Path(__file__).resolve().parent.parent.parent / "cga_city"
+MOST_LOTS = 4096  # of a run
 
 
 def take_program(words):

@@ -28,3 +28,13 @@ def replies(lines):
             reply += islice(lines, int(counted.group(1)))
         yield reply
         line = next(lines, None) if following is None else following
+
+
+def is_refused(reply):
+    return reply[0].startswith("# refused ")
+
+
+def counts_of(reply):
+    """The counts in a reply to `stats`."""
+    words = reply[0].split()[2:]
+    return {name: int(number) for name, number in zip(words[::2], words[1::2])}

@@ -7,6 +7,7 @@ from .advice import Place, advice
 from .causes import CAUSES, CODES, help_for
 from .follows import Follows
 from .notes import by_symbol, notes
+from .replies import is_refused
 from .script import rule_of, tokens
 from .standing import block, standing
 
@@ -30,7 +31,7 @@ class Report:
         self.path, self.lines, self.ways = path, lines, ways or {}
         self.answers = list(zip(commands, replies))
         self.refused = [(command, *REFUSED.fullmatch(reply[0]).groups())
-                        for command, reply in self.answers if reply[0].startswith("# refused ")]
+                        for command, reply in self.answers if is_refused(reply)]
         self.cause_of = Follows(lines, self.answers).cause_of
 
     def place(self, command, cause, rest):

@@ -1,7 +1,7 @@
 """The rules of a script, which its lots are to be taken from elsewhere: its head, its symbols, and rules put to them."""
 from .call import Refused
 from .script import LONGEST, commands, is_open, is_version, lines_of, rule_of, words_of
-from .words import told
+from .strangers_text import told
 
 KEPT = "rules put drop attr priority order asset dress undress".split()
 LEFT_OUT = "lot unlot quiet print faults grammar stats bill trace judge dump model".split()

@@ -1,23 +1,14 @@
 """What a script comes to, by one running program that is fed what the script has grown by since it was asked last."""
 import subprocess
-import threading
+from itertools import islice
 
 from .obj import Town
+from .pipe import Ended, while_written
 from .program import is_proved
-from .replies import replies
+from .replies import counts_of, is_refused, replies
 from .script import commands, is_open, text_of, without
 
 OPEN = ["# refused OpenBlock"]
-
-
-class Ended(Exception):
-    """The program ended before its replies did."""
-
-
-def counted(reply):
-    """What a reply to `stats` counts."""
-    words = reply[0].split()[2:]
-    return {name: int(value) for name, value in zip(words[::2], words[1::2])}
 
 
 class Session:
@@ -52,36 +43,24 @@ class Session:
             return lines, found, [OPEN for _ in left_open], [], Town([])
         asks = ["faults", "print"] + ["model"] * any(command.words[:1] == ["dress"] for command in found) + ["stats"]
         got = self.kept(closed, number, asks) if self.is_kept else self.anew(closed, number, asks)
-        faults, towns = got[number][1:], [reply for reply in got[number + 1:-1] if not reply[0].startswith("# refused")]
-        self.stats = counted(got[-1])
+        faults, towns = got[number][1:], [reply for reply in got[number + 1:-1] if not is_refused(reply)]
+        self.stats = counts_of(got[-1])
         return lines, found, got[:number] + [OPEN for _ in left_open], faults, Town(towns[-1])
 
     def kept(self, lines, number, asks):
         """The replies of the running program, which is begun anew where the script didn't only grow."""
         if not self.process or self.process.poll() is not None or lines[:len(self.fed)] != self.fed:
             self.begin()
-        writer = threading.Thread(target=self.feed, args=(text_of(lines[len(self.fed):] + asks),))
-        writer.start()
-        got = []
-        for reply in self.replies:
-            got.append(reply)
-            if len(self.answers) + len(got) == number + len(asks):
-                break
-        writer.join()
-        if len(self.answers) + len(got) < number + len(asks):
+        wanted = number + len(asks) - len(self.answers)
+        with while_written(self.process, text_of(lines[len(self.fed):] + asks)):
+            got = list(islice(self.replies, wanted))
+        if len(got) < wanted:
             status = self.process.wait()
             self.close()
             raise Ended(f"the program ended with status {status}")
         cut = len(got) - len(asks)
         self.fed, self.answers = list(lines), self.answers + got[:cut]
         return self.answers + got[cut:]
-
-    def feed(self, text):
-        try:
-            self.process.stdin.write(text)
-            self.process.stdin.flush()
-        except OSError:
-            pass  # it has ended, which its replies show
 
     def anew(self, lines, number, asks):
         self.process = subprocess.Popen([self.program], stdin=subprocess.PIPE, stdout=subprocess.PIPE)

@@ -4,6 +4,7 @@ from collections import namedtuple
 from decimal import Decimal, InvalidOperation
 
 from .call import Refused
+from .numerals import plain
 
 FAR = 10_000  # farther out, floats of 32 bits are apart by more than a thousandth
 STEP = 1_000
@@ -11,10 +12,9 @@ STEP = 1_000
 Setting = namedtuple("Setting", "offset metres")  # decimals: three in the town's unit, and one
 
 
-def add_words(parser):
-    parser.add_argument("--offset", nargs=3, metavar=("X", "Y", "Z"), type=number, help="what is taken off all coordinates, in the town's unit; "
-                        "if it isn't said, nothing, or of a town farther out than 10,000 its low corner in whole thousands")
-    parser.add_argument("--metres", type=number, default=Decimal(1), metavar="N", help="how many metres the town's unit is long; 1 if it isn't said")
+def add_words(known):
+    known.add_argument("--offset", nargs=3, type=number)
+    known.add_argument("--metres", type=number, default=Decimal(1))
 
 
 def number(text):
@@ -37,13 +37,6 @@ def setting_of(town, words):
 def far(coordinates):
     low, high = min(coordinates), max(coordinates)
     return Decimal(math.floor(low / STEP) * STEP if max(abs(low), abs(high)) > FAR else 0)
-
-
-def plain(value):
-    """A decimal's text, without an exponent and without zeros at its end."""
-    text = f"{value:f}"
-    text = text.rstrip("0").rstrip(".") if "." in text else text
-    return "0" if text == "-0" else text
 
 
 def told(setting):

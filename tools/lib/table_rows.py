@@ -1,7 +1,7 @@
 """Rows of a table of a town: sums over the solids of a lot, of a symbol, or of both."""
 from fractions import Fraction
 
-from .progress import Progress
+from .progress import counted
 
 
 class Row:
@@ -48,12 +48,10 @@ def storeys_of(measure, storey, places):
 
 def rows_of(measured, by, floors):
     """The rows by lot, by symbol, or by both; `floors` has a storey's height, or none, for each symbol that floors are drawn by."""
-    rows, progress = {}, Progress("solids", len(measured.town.solids()))
-    for lot, solids in measured.town.lots.items():
-        for solid in solids:
-            measure, base = measured.solid(solid)
-            key = {"lot": (lot,), "symbol": (solid.symbol,), "both": (lot, solid.symbol)}[by]
-            storeys = storeys_of(measure, floors[solid.symbol], measured.places) if solid.symbol in floors else 0
-            rows.setdefault(key, Row(measured.places)).add(measure, base, storeys)
-    progress.end()
+    rows, drawn = {}, [(lot, solid) for lot, solids in measured.town.lots.items() for solid in solids]
+    for lot, solid in counted(drawn, "solids"):
+        measure, base = measured.solid(solid)
+        key = {"lot": (lot,), "symbol": (solid.symbol,), "both": (lot, solid.symbol)}[by]
+        storeys = storeys_of(measure, floors[solid.symbol], measured.places) if solid.symbol in floors else 0
+        rows.setdefault(key, Row(measured.places)).add(measure, base, storeys)
     return rows

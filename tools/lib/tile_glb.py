@@ -5,14 +5,8 @@ import struct
 from array import array
 
 from .colours import colour_of
-
-FLOAT, INDEX, VERTICES, INDICES = 5126, 5125, 34962, 34963
-
-
-def linear(part):
-    """A part of a colour, 0 to 255, as glTF has it, 0 to 1."""
-    part /= 255
-    return part / 12.92 if part <= 0.04045 else ((part + 0.055) / 1.055) ** 2.4
+from .glb import INDICES, VERTICES, Glb
+from .materials import linear
 
 
 class Part:
@@ -32,8 +26,11 @@ class Part:
             for at in range(1, len(corners) - 1):
                 self.triangles.extend((corners[0], corners[at], corners[at + 1]))
 
-    def ends(self):
-        return [[ends(self.places[axis::3]) for axis in range(3)] for ends in (min, max)]
+    def primitive(self, glb, colour):
+        material = glb.add("materials", {"pbrMetallicRoughness": {
+            "baseColorFactor": [*(linear(part / 255) for part in colour), 1.0], "metallicFactor": 0.0, "roughnessFactor": 1.0}})
+        return {"attributes": {"POSITION": glb.accessor(self.places, "VEC3", VERTICES, has_bounds=True)},
+                "indices": glb.accessor(self.triangles, "SCALAR", INDICES), "material": material}
 
 
 def parts_of(town, origin):
@@ -50,49 +47,11 @@ def parts_of(town, origin):
     return parts
 
 
-class Glb:
-    """The pieces of the file, and the bytes that they are views of."""
-
-    def __init__(self, parts):
-        self.data, self.views, self.accessors, self.primitives = bytearray(), [], [], []
-        for at, part in enumerate(parts.values()):
-            least, most = part.ends()
-            places = self.accessor(part.places, VERTICES, type="VEC3", componentType=FLOAT, count=len(part.places) // 3,
-                                   min=least, max=most)
-            triangles = self.accessor(part.triangles, INDICES, type="SCALAR", componentType=INDEX,
-                                      count=len(part.triangles))
-            self.primitives.append({"attributes": {"POSITION": places}, "indices": triangles, "material": at})
-        self.materials = [material(colour) for colour in parts]
-
-    def accessor(self, numbers, target, **held):
-        data = numbers.tobytes()
-        self.views.append({"buffer": 0, "byteOffset": len(self.data), "byteLength": len(data), "target": target})
-        self.data += data
-        self.accessors.append({"bufferView": len(self.views) - 1, **held})
-        return len(self.accessors) - 1
-
-    def bytes(self):
-        scene = {"asset": {"version": "2.0", "generator": "tools/districts"}, "scene": 0, "scenes": [{}]}
-        if self.primitives:
-            scene.update(scenes=[{"nodes": [0]}], nodes=[{"mesh": 0}], meshes=[{"primitives": self.primitives}], materials=self.materials,
-                         accessors=self.accessors, bufferViews=self.views, buffers=[{"byteLength": len(self.data)}])
-        chunks = chunk(b"JSON", json.dumps(scene, separators=(",", ":")).encode(), b" ")
-        if self.primitives:
-            chunks += chunk(b"BIN\0", bytes(self.data), b"\0")
-        return struct.pack("<4sII", b"glTF", 2, 12 + len(chunks)) + chunks
-
-
-def material(colour):
-    return {"pbrMetallicRoughness": {"baseColorFactor": [*map(linear, colour), 1.0], "metallicFactor": 0.0, "roughnessFactor": 1.0}}
-
-
-def chunk(kind, data, padding):
-    data += padding * (-len(data) % 4)
-    return struct.pack("<I4s", len(data), kind) + data
-
-
 def glb(town, origin):
-    return Glb(parts_of(town, origin)).bytes()
+    """The bytes of the file."""
+    made = Glb()
+    primitives = [part.primitive(made, colour) for colour, part in parts_of(town, origin).items()]
+    return made.file([made.add("nodes", {"mesh": made.add("meshes", {"primitives": primitives})})] if primitives else [])
 
 
 def ends_of(data):

@@ -4,9 +4,9 @@ import threading
 
 from .call import Refused
 from .lot_list import script_of
-from .progress import Progress
+from .progress import counted
 from .rectangle import turned
-from .replies import replies
+from .replies import is_refused, replies
 from .script import commands, text_of
 
 HELP = {"OverBudget": "a run takes 400,000 shapes: cut the map into parts of fewer parcels",
@@ -39,19 +39,16 @@ class Run:
     def towns(self):
         """Of each group its faults and the lines of its town."""
         self.check(self.reply(), "", None)
-        progress = Progress("angles", len(self.groups))
-        for number, (group, part) in enumerate(zip(self.groups, self.parts)):
-            progress.at(number)
+        for group, part in counted([*zip(self.groups, self.parts)], "angles"):
             lots = {lot.name: lot for lot in group.lots}
             answers = []
             for command in commands(["version 2"] + part)[1:]:
                 answers.append(self.reply())
                 self.check(answers[-1], " ".join(command.words), lots.get("".join(command.words[1:2])) if command.words[:1] == ["lot"] else None)
             yield group, answers[-2][1:], answers[-1][1:]
-        progress.end()
 
     def check(self, reply, line, lot):
-        if reply[0].startswith("# refused "):
+        if is_refused(reply):
             why = reply[0][10:]
             place = f"{lot.place} (lot `{lot.name}`)" if lot else f"{self.rules.path}, `{line[:40]}`"
             raise Refused(f"{place}: {why}: {HELP.get(why.split()[0], f'tools/lint {self.rules.path} says what is wrong')}")

@@ -5,9 +5,9 @@ import time
 
 from . import about
 from .call import Refused
+from .pipe import Ended
 from .report import Report
 from .script import commands, lines_of
-from .session import Ended
 
 SLOW = "the program isn't proved and built yet (./cga_city --prove does it), so what you see takes a minute or two at each save .."
 EACH = 0.02  # seconds between two looks at the file

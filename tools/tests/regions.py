@@ -1,6 +1,4 @@
 """What tests of regions share: a folder, calls of the tool, jobs run by a program, and regions of random lots."""
-import contextlib
-import io
 import random
 import subprocess
 import sys
@@ -16,9 +14,9 @@ STAND_IN = str(TESTS / "region_stand_in.py")
 sys.path[:0] = [str(TESTS), str(TESTS.parent)]
 
 import region_stand_in  # noqa: E402
+from in_process import called  # noqa: E402
 
 from lib import head, program  # noqa: E402
-from lib.districts import main  # noqa: E402
 from lib.replies import replies  # noqa: E402
 
 RULES = ["version 2", "rules", '1: wall -> I("cube")', "end", "attr h = 3  # high"]
@@ -78,19 +76,13 @@ class RegionTest(unittest.TestCase):
         self.addCleanup(folder.cleanup)
         self.top = Path(folder.name)
         self.script, self.folder = self.top / "region.cga", self.top / "a region's $folder"
-        called = patch.object(head, "run", answered)
-        called.start()
-        self.addCleanup(called.stop)
+        patched = patch.object(head, "run", answered)
+        patched.start()
+        self.addCleanup(patched.stop)
 
     def call(self, *words):
         """The status of a call, what it prints, and what it tells on the other stream."""
-        out, told = io.StringIO(), io.StringIO()
-        with contextlib.redirect_stdout(out), contextlib.redirect_stderr(told):
-            try:
-                status = main(list(map(str, words)))
-            except SystemExit as end:
-                status = end.code
-        return status, out.getvalue(), told.getvalue()
+        return called("districts", *words)
 
     def write(self, lines):
         self.script.write_text("\n".join(lines) + "\n", encoding="latin-1")

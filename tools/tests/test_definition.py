@@ -1,18 +1,17 @@
 """The definition in Python and the judge. What is expected comes from the specification's rows, or was worked out by hand."""
-import contextlib
-import io
 import subprocess
 import sys
 import tempfile
 import unittest
 from fractions import Fraction
 from pathlib import Path
-from unittest import mock
 
-TOOLS = Path(__file__).resolve().parent.parent
-sys.path.insert(0, str(TOOLS))
+TESTS = Path(__file__).resolve().parent
+TOOLS = TESTS.parent
+sys.path[:0] = [str(TESTS), str(TOOLS)]
 
-from definition import judge  # noqa: E402
+from in_process import called  # noqa: E402
+
 from definition.command import VERSION_1, VERSION_2  # noqa: E402
 from definition.comp import SIDES, face_of  # noqa: E402
 from definition.fault import Fault  # noqa: E402
@@ -224,13 +223,7 @@ class Judge(unittest.TestCase):
         """The status, and what is written to both outputs, in this process."""
         for name, text in (("a script", script), ("its <trace>", trace)):
             (self.folder / name).write_bytes(text.encode("latin-1"))
-        given = ["judge", *words, str(self.folder / "a script"), str(self.folder / "its <trace>")]
-        out, err = io.StringIO(), io.StringIO()
-        with mock.patch.object(sys, "argv", given), contextlib.redirect_stdout(out), contextlib.redirect_stderr(err):
-            with self.assertRaises(SystemExit) as ended:
-                judge.main()
-        status = ended.exception.code
-        return (1, out.getvalue(), f"{status}\n") if isinstance(status, str) else (status, out.getvalue(), err.getvalue())
+        return called("judge", *words, self.folder / "a script", self.folder / "its <trace>")
 
     def test_accepted(self):
         self.assertEqual(self.judged(FOUR, TRACE)[0], 0)

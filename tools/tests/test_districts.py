@@ -157,7 +157,7 @@ class Cut(RegionTest):
                       ["cut", "x", "y", "--reach", "1/0"], ["cut", "x", "y", "--reach", "wide"], ["cut", "x", "y", "--decimals", "10"]):
             status, said, told = self.call(*words)
             self.assertEqual((status, said), (2, ""), words)
-            self.assertIn("error: ", told)
+            self.assertIn("--help tells the words", told)
         self.assertEqual(self.call("join", self.top)[2], f"districts: {self.top} is no region that was cut: there is no plan.json\n")
         tool = runpy.run_path(str(TOP / "tools" / "districts"))
         self.assertIs(tool["main"], districts.main)

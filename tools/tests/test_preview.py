@@ -175,7 +175,7 @@ class Printed(Preview):
 
 class Words(unittest.TestCase):
     def test_wrong_words_have_a_reason(self):
-        for words, reason in ((["--port", "70000", "x"], "70000 is no port"), ([], "required: script"), (["--what", "x"], "unrecognized arguments: --what")):
+        for words, reason in ((["--port", "70000", "x"], "`70000` isn't a whole number from 0 to 65,535"), ([], "required: script"), (["--what", "x"], "unrecognized arguments: --what")):
             done = subprocess.run([TESTS.parent / "preview", *words], capture_output=True, text=True)
             self.assertEqual(done.returncode, 2)
             self.assertIn(reason, done.stderr)

@@ -19,7 +19,7 @@ from lib.replies import replies  # noqa: E402
 from lib.script import commands, is_open, lines_of, rule_of, text_of, tokens, without  # noqa: E402
 from lib.session import OPEN, Session  # noqa: E402
 
-TOOLS = [path for path in sorted((TOP / "tools").iterdir()) if path.is_file() and not path.name.startswith(".") and path.suffix != ".py"]
+TOOLS = [path for path in sorted((TOP / "tools").iterdir()) if path.is_file() and not path.name.startswith(".") and not path.suffix]
 STAND_IN = str(TESTS / "stand_in")
 
 
@@ -215,7 +215,7 @@ class Shown(unittest.TestCase):
 
     def test_nothing_drawn(self):
         for tool in ("view", "picture"):
-            self.assertEqual(call(tool, "same.said", self.folder / "x")[0], 2)
+            self.assertEqual(call(tool, "same.said", self.folder / "x")[0], 1)
 
     def test_each_picture_can_be_made(self):
         for picture in [*TOP.glob("docs/pictures/*.png"), *TOP.glob("examples/*.png")]:
@@ -232,10 +232,14 @@ class Manners(unittest.TestCase):
                 self.assertEqual(call(tool.name, "--help")[0], 0)
                 self.assertEqual(call(tool.name, "--what")[0], 2)
 
+    def test_each_module_is_in_the_readme(self):
+        rows = re.findall(r"^\| `([^|]*)` \|", (TOP / "tools" / "README.md").read_text(encoding="utf-8"), re.MULTILINE)
+        listed = [name for row in rows for name in row.split("`, `")]
+        self.assertEqual(sorted(name for name in listed if name.isidentifier()), sorted(path.stem for path in (TOP / "tools" / "lib").glob("*.py")))
+
     def test_a_file_that_is_not_there(self):
-        for tool, others in (("lint", []), ("view", ["x"]), ("picture", ["x"]), ("diff", ["x"])):
-            status, said, fault = call(tool, "nowhere", *others)
-            self.assertEqual((status, said, fault), (2, "", f"{tool}: nowhere: No such file or directory\n"))
+        for tool, others, status in (("lint", [], 2), ("view", ["x"], 1), ("picture", ["x"], 1), ("diff", ["x"], 2)):
+            self.assertEqual(call(tool, "nowhere", *others), (status, "", f"{tool}: nowhere: No such file or directory\n"))
 
 
 if __name__ == "__main__":
