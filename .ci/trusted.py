@@ -170,8 +170,6 @@ def main():
         PAGE.write_text(text, encoding="utf-8")
     elif not PAGE.exists() or PAGE.read_text(encoding="utf-8") != text:
         sys.exit("docs/TRUSTED.md isn't what is found: make it anew by .ci/trusted.py --proved, and read what has changed")
-    elif NOT_ASKED in text:
-        sys.exit("docs/TRUSTED.md has nothing yet of what rt says: .ci/trusted.py --proved asks it, where the crates are checked")
 
 
 if __name__ == "__main__":
