@@ -4,6 +4,7 @@ times are as kept isn't read again."""
 import os
 import sys
 
+PROGRAMS = ("cga_main", "cga_hulls", "cga_live")
 PARTS = ("src", "specs", "proofs")
 ENDINGS = (".rt", ".antt")
 
