@@ -1,6 +1,7 @@
 #!/usr/bin/env python3
 """Times edits of towns that are kept by a pipe: milliseconds from the line until what it changed is read, and bytes. Beside
-them a `print` of the whole, and the memory of cga_live and cga_city while a town of 1,000 lots comes from nothing.
+them a `print` of the whole, and the memory of cga_live and cga_city while a town of 1,000 lots comes from nothing. A line
+that is refused, or that cga_live tells nothing of, ends it: it says nothing of an edit.
 """
 import argparse
 import os
@@ -10,6 +11,7 @@ import sys
 import tempfile
 import time
 
+import tables
 from live_town import Town
 
 RULES = """attr storey = 3
@@ -71,24 +73,42 @@ class Kept:
         self.process.wait()
 
 
+class Told(Town):
+    """Counts what went and came, and keeps none of it."""
+
+    def count(self, line, sign, by):
+        pass
+
+
 def asked(kept, lines):
-    """The least and the middle time of some lines, and the bytes and the instances of the last."""
+    """The least and the middle time of some lines, and the bytes and the instances that were told of the last."""
     times, reply = [], []
     for line in lines:
         spent, reply = kept.ask(line)
         times.append(1000 * spent)
-    told = Town()
-    told.count = lambda line, sign, by: None
-    list(told.take(line.decode() for line in reply))
-    return f"{min(times):.2f}, {statistics.median(times):.2f} ms; {sum(map(len, reply)):,} B; {told.told:,}"
+        if reply[:1] and reply[0].startswith(b"# refused"):
+            sys.exit(line.strip() + " is " + reply[0].decode().strip("# \n"))
+    told = Told()
+    for _ in told.take(line.decode() for line in reply):
+        pass
+    return f"{min(times):.1f}, {statistics.median(times):.1f} ms", sum(map(len, reply)), told.told
 
 
 def works(lots):
+    """Edits by turns, so that each changes the town; with a longer bay there are fewer shapes, so none is refused."""
     _, size = shape_of(lots)
     yield "an edit of one lot", [lot(37 * number % lots, size, 1 + number) for number in range(20)]
     yield "an attribute of few", [f"attr spire = {value}\n" for value in (3, 2) * 5]
-    yield "an attribute of all", [f"attr bay = {value}\n" for value in ("2", "5/2") * 2]
+    yield "an attribute of all", [f"attr bay = {value}\n" for value in ("3", "5/2") * 2]
     yield "`print` of all", ["print\n"] * 3
+
+
+def row(lots, work, lines, both):
+    """A line's cells; the bytes and the instances are those of cga_live."""
+    (live, size, told), (city, _, _) = (asked(kept, lines) for kept in both)
+    if not told and not work.startswith("`"):
+        sys.exit(f"cga_live tells nothing of {lines[-1].strip()}")
+    return f"{lots:,}", work, live, city, f"{size:,}", f"{told:,}" if told else ""
 
 
 def memory(program, script):
@@ -101,25 +121,39 @@ def memory(program, script):
         return used.ru_utime, used.ru_maxrss / 1000
 
 
+def edits(live, city, sizes):
+    """A row for each town and each work."""
+    for lots in sizes:
+        both = [Kept(live), Kept(city)]
+        for kept in both:
+            _, reply = kept.ask(town(lots))
+            if b"# ok\n" not in reply[1:2]:
+                sys.exit(f"the town of {lots} lots is {reply[1].decode()}")
+        for work, lines in works(lots):
+            yield row(lots, work, lines, both)
+            print(".", end="", file=sys.stderr, flush=True)
+        for kept in both:
+            kept.end()
+
+
+def towns(programs):
+    """A row for each program: the town of 1,000 lots from nothing."""
+    for name, program in programs.items():
+        times, sizes = zip(*(memory(program, town(1000)) for _ in range(3)))
+        yield name, f"{min(times):.2f} s", f"{max(sizes):.0f} MB"
+
+
 def main():
     parser = argparse.ArgumentParser(description=__doc__)
     parser.add_argument("live", help="cga_live")
     parser.add_argument("city", help="cga_city")
     parser.add_argument("--lots", type=int, nargs="*", default=SIZES)
+    parser.add_argument("--page", help="the page, as docs/LIVE.md, into which the tables go")
     words = parser.parse_args()
-    print("| Lots | Line | cga_live: least, middle; bytes; instances told | cga_city |\n|---|---|---|---|")
-    for lots in words.lots:
-        both = [Kept(words.live), Kept(words.city)]
-        for kept in both:
-            kept.ask(town(lots))
-        for work, lines in works(lots):
-            cells = [asked(kept, lines) for kept in both]
-            print(f"| {lots:,} | {work} | {' | '.join(cells)} |", flush=True)
-        for kept in both:
-            kept.end()
-    for name, program in (("cga_live", words.live), ("cga_city", words.city)):
-        times, sizes = zip(*(memory(program, town(1000)) for _ in range(3)))
-        print(f"1,000 lots from nothing by {name}: {min(times):.2f} s, at most {max(sizes):.0f} MB")
+    head = ["Lots", "Line", "cga_live: least, middle", "cga_city", "Bytes of cga_live", "Instances told"]
+    tables.tell(tables.table(head, edits(words.live, words.city, words.lots)), words.page)
+    programs = {"cga_live": words.live, "cga_city": words.city}
+    tables.tell(tables.table(["1,000 lots from nothing by", "Processor", "Most memory"], towns(programs)), words.page)
 
 
 if __name__ == "__main__":

@@ -1,12 +1,12 @@
 #!/usr/bin/env python3
 """Times the preview in headless Chromium: from a save to the picture, bytes sent, and Python's processor seconds a save.
 
-usage: .ci/page_speed.py [--program PATH] [--saves N] LOTS ..
+usage: .ci/page_speed.py [--program PATH] [--saves N] [--page PATH] LOTS ..
 
-Each town has LOTS lots by the rules of .ci/speed.py. A save moves a lot, adds one, changes a rule that is in a few lots
-or in all, or an attribute of all. Told are the least and the middle time of N saves, in thousandths of a second: until
-the page has the change, and until its picture is drawn. Chromium draws by the processor alone here, so the second one
-says little of a graphics processor.
+Each town has LOTS lots by the rules of .ci/live_speed.py. A save moves a lot, adds one, or changes a rule or an attribute of
+few lots or of all. Told are the least and the middle time of N saves, in thousandths of a second: until the page has the
+change, and until its picture is drawn. Chromium draws by the processor alone here, so the second one says little of a
+graphics processor. With --page the tables go into that page, as docs/PREVIEW.md.
 """
 import argparse
 import os
@@ -21,8 +21,9 @@ from pathlib import Path
 TOP = Path(__file__).resolve().parent.parent
 sys.path[:0] = [str(TOP / "tools" / "tests"), str(TOP / ".ci")]
 
+import live_speed  # noqa: E402
+import tables  # noqa: E402
 from browser import Browser  # noqa: E402
-from speed import RULES, lot  # noqa: E402
 
 WATCH = """(() => {
   window.noted = {};
@@ -43,38 +44,47 @@ class Town:
     """The script of a town, as a file that can be saved with changes."""
 
     def __init__(self, path, lots):
-        self.path, self.lots = path, [lot(place) for place in range(lots)]
-        self.rules = RULES + '10: kiosk -> S(1r, 3, 1r) I("gable")\n'
+        floors, self.size = live_speed.shape_of(lots)
+        self.path, self.lots = path, [live_speed.lot(place, self.size) for place in range(lots)]
+        self.rules = live_speed.RULES.format(floors=floors)
 
     def save(self):
-        text = "version 2\nquiet\nrules\n" + self.rules + "end\nlot kiosk 1 -20 -20 4 4 kiosk\n" + "".join(self.lots)
         other = self.path.with_suffix(".new")
-        other.write_text(text, encoding="utf-8")
+        other.write_text("version 2\nquiet\nrules\n" + self.rules + "end\n" + "".join(self.lots), encoding="utf-8")
         os.replace(other, self.path)
+
+    def change(self, pattern, text):
+        self.rules, times = re.subn(pattern, text, self.rules)
+        assert times == 1, pattern
 
 
 def move(town, turn):
     place = 37 * (turn + 1) % len(town.lots)
-    town.lots[place] = lot(place, turn + 1)
+    town.lots[place] = live_speed.lot(place, town.size, turn + 1)
 
 
 def add(town, turn):
-    town.lots.append(lot(len(town.lots)))
+    town.lots.append(live_speed.lot(len(town.lots), town.size))
 
 
-def rule_of_one(town, turn):
-    town.rules = re.sub(r"(10: kiosk -> S\(1r, )\d+", rf"\g<1>{4 + turn}", town.rules)
+def rule_of_few(town, turn):
+    town.change(r"spire( \+ 0\.\d+)?, 1r\) I", f"spire + 0.{turn + 1}, 1r) I")
 
 
 def rule_of_all(town, turn):
-    town.rules = re.sub(r"(8: window -> S\(1r, 1r, )[\d.]+", rf"\g<1>0.{30 + turn}", town.rules)
+    town.change(r"(8: window -> S\(1r, 1r, )[\d.]+", rf"\g<1>0.{30 + turn}")
 
 
-def attribute(town, turn):
-    town.rules = re.sub(r"(attr bay = )[\d.]+", rf"\g<1>{2 + turn % 2 / 2}", town.rules)
+def attribute_of_few(town, turn):
+    town.change(r"attr spire = \d", f"attr spire = {3 - turn % 2}")
 
 
-CHANGES = {"a lot moved": move, "a lot added": add, "a rule of one lot": rule_of_one, "a rule of all": rule_of_all, "an attribute of all": attribute}
+def attribute_of_all(town, turn):
+    town.change(r"attr bay = [\d/]+", f"attr bay = {('3', '5/2')[turn % 2]}")
+
+
+CHANGES = {"a lot moved": move, "a lot added": add, "a rule of few": rule_of_few, "a rule of all": rule_of_all,
+           "an attribute of few": attribute_of_few, "an attribute of all": attribute_of_all}
 
 
 def seconds_of(process):
@@ -102,7 +112,12 @@ def frame(browser):
     return min(times), (browser.seconds() - before) / 3, browser.run("town.triangles")
 
 
+def both(times):
+    return f"{min(times):.0f}, {statistics.median(times):.0f} ms"
+
+
 def measure(program, folder, lots, saves):
+    """The cells of the first picture, and a row for each kind of save."""
     town = Town(Path(folder) / f"town{lots}.cga", lots)
     town.save()
     words = [TOP / "tools" / "preview", *(["--program", program] if program else []), "--port", "0", town.path]
@@ -112,15 +127,15 @@ def measure(program, folder, lots, saves):
         browser.open(re.match(r"(http://127\.0\.0\.1:\d+/) ", preview.stdout.readline()).group(1))
         browser.run(WATCH)
         browser.wait("town.low !== null && !head.is_busy && noted.drawn > 0", 600)
-        first, used = time.time() - begun, seconds_of(preview)
+        first, used, rows = time.time() - begun, seconds_of(preview), []
         drawing, worked, triangles = frame(browser)
-        print(f"{lots} lots, {triangles:,} triangles: first picture {first:.2f} s, {used:.2f} processor seconds of Python, "
-              f"{browser.run(SENT):,} bytes; a picture takes {drawing:.0f} ms, {worked:.2f} processor seconds")
+        sent = browser.run(SENT)
         for name, change in CHANGES.items():
             told = [saved(browser, preview, town, change, turn) for turn in range(saves)]
-            taken, drawn, sent, used = zip(*told)
-            print(f"  {name:20} there {min(taken):5.0f} {statistics.median(taken):5.0f}   drawn {min(drawn):5.0f} {statistics.median(drawn):5.0f}   "
-                  f"{statistics.median(sent):10,.0f} bytes   {statistics.median(used):.3f} s", flush=True)
+            taken, drawn, more, spent = zip(*told)
+            rows.append((f"{lots:,}", name, f"{statistics.median(spent):.2f} s", f"{statistics.median(more):,.0f}", both(taken), both(drawn)))
+            print(".", end="", file=sys.stderr, flush=True)
+        return (f"{lots:,}", f"{triangles:,}", f"{first:.2f} s", f"{used:.2f} s", f"{sent:,}", f"{drawing:.0f} ms"), rows
     finally:
         browser.close()
         preview.terminate()
@@ -128,14 +143,17 @@ def measure(program, folder, lots, saves):
 
 
 def main():
-    parser = argparse.ArgumentParser(usage=".ci/page_speed.py [--program PATH] [--saves N] LOTS ..", allow_abbrev=False)
+    parser = argparse.ArgumentParser(usage=".ci/page_speed.py [--program PATH] [--saves N] [--page PATH] LOTS ..", allow_abbrev=False)
     parser.add_argument("--program")
     parser.add_argument("--saves", type=int, default=5)
+    parser.add_argument("--page")
     parser.add_argument("lots", type=int, nargs="+")
     told = parser.parse_args()
     with tempfile.TemporaryDirectory() as folder:
-        for lots in told.lots:
-            measure(told.program, folder, lots, told.saves)
+        firsts, rows = zip(*(measure(told.program, folder, lots, told.saves) for lots in told.lots))
+    tables.tell(tables.table(["Lots", "Triangles", "First picture", "Python", "Bytes sent", "A picture anew"], firsts), told.page)
+    head = ["Lots", "Save", "Python", "Bytes sent", "There: least, middle", "Drawn: least, middle"]
+    tables.tell(tables.table(head, (row for some in rows for row in some)), told.page)
 
 
 if __name__ == "__main__":

@@ -7,6 +7,8 @@ from functools import lru_cache
 from itertools import chain
 from urllib.parse import quote
 
+from .progress import counted
+
 AXES = "+X+Y+Z"
 FEW = 12  # corners up to which meshes that differ by a rounding of the sixth decimal are one
 
@@ -55,4 +57,5 @@ class Meshes:
         return " ".join([lot, name_of(solid.symbol), name, *map(number_of, low), AXES, *map(number_of, size)])
 
     def lines(self, town):
-        return [self.line(name_of(lot), solid, town.points) for lot, solids in town.lots.items() for solid in solids]
+        drawn = [(lot, solid) for lot, solids in town.lots.items() for solid in solids]
+        return [self.line(name_of(lot), solid, town.points) for lot, solid in counted(drawn, "solids")]

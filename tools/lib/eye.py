@@ -2,6 +2,8 @@
 import math
 from array import array
 
+from .progress import counted
+
 NOTHING = -1
 
 
@@ -52,7 +54,7 @@ class Eye:
     def draw(self, triangles):
         """The nearest triangle for each cell, and how near it is."""
         seen, near = array("l", [NOTHING]) * (self.width * self.height), [-1e30] * (self.width * self.height)
-        for number, corners in enumerate(triangles):
+        for number, corners in enumerate(counted(triangles, "faces")):
             fill(number, sorted(map(self.see, corners), key=lambda p: p[1]), seen, near, self.width, self.height)
         return seen, near
 

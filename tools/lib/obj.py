@@ -2,6 +2,7 @@
 from collections import namedtuple
 
 from .call import Refused
+from .progress import counted
 
 Solid = namedtuple("Solid", "symbol faces")  # each face is a list of places in the town's vertices
 
@@ -58,7 +59,7 @@ class Town:
 
 def read_town(path):
     with open(path, encoding="utf-8", errors="replace") as file:
-        return Town(file)
+        return Town(counted(file, "lines read", 0))
 
 
 def drawn_town(path):

@@ -23,7 +23,10 @@ class Progress:
 
 
 def counted(things, what, number=None):
-    """The same things, with how many of them were taken."""
+    """The same things, with how many of them were taken; of how many isn't told where the number is 0."""
+    if not sys.stderr.isatty():
+        yield from things
+        return
     progress = Progress(what, len(things) if number is None else number)
     for number, thing in enumerate(things):
         progress.at(number)

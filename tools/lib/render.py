@@ -3,6 +3,7 @@ import math
 
 from .colours import colour_of
 from .eye import NOTHING, Eye, dot, normal, unit
+from .progress import counted
 
 VIEWS = {"bird": (0.55, 0.62, 1.0), "street": (0.5, 0.24, 1.0), "back": (-0.55, 0.62, -1.0), "top": (0.0, 1.0, 0.001)}
 SUN = (-0.42, 0.80, 0.62)
@@ -95,4 +96,4 @@ def render(town, view="bird", width=1280, height=800):
     """The picture's rows of red, green and blue bytes, from the top."""
     eye = Eye(VIEWS[view], town.points, FINE * width, FINE * height, 0.90)
     painter = Painter(eye, town, *triangles_of(town, eye))
-    return [smaller([painter.row(y + k) for k in range(FINE)]) for y in range(0, FINE * height, FINE)]
+    return [smaller([painter.row(y + k) for k in range(FINE)]) for y in counted(range(0, FINE * height, FINE), "rows")]

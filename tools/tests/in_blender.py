@@ -1,5 +1,5 @@
 #!/usr/bin/env python3
-"""The add-on and the placing of meshes inside Blender, where that is installed; it is no part of the quick tests.
+"""The add-on and the placing of meshes inside Blender, where that is installed; the gate runs it, and the quick tests don't.
 
 usage: tools/tests/in_blender.py
 """

@@ -2,6 +2,7 @@
 import io
 import subprocess
 import sys
+import tempfile
 import unittest
 from decimal import Decimal
 from pathlib import Path
@@ -15,8 +16,10 @@ from drawn import Drawn  # noqa: E402
 
 from lib import progress  # noqa: E402
 from lib.call import Refused, Words, call, number_in  # noqa: E402
+from lib.drawn import Meshes  # noqa: E402
 from lib.measure import Measured  # noqa: E402
-from lib.obj import Town  # noqa: E402
+from lib.obj import Town, read_town  # noqa: E402
+from lib.render import render  # noqa: E402
 from lib.strangers_text import cell, told  # noqa: E402
 from lib.table_rows import rows_of  # noqa: E402
 
@@ -115,12 +118,24 @@ class Progress(unittest.TestCase):
         self.assertEqual(self.told(Terminal(), (0, 1.9, 2.1)), "\r\033[Klots: 1 of 1,200\r\033[K")
         self.assertEqual(self.told(Terminal(), (0, 1.8, 1.9)), "")
 
-    def test_a_table_tells_how_far_it_is(self):
-        times, stream = iter(range(0, 90, 3)), Terminal()
-        measured = Measured(Town(Drawn().lot("a").solid("x", "cube", (0, 0, 0), (1, 1, 1)).solid("x", "cube", (2, 0, 0), (1, 1, 1)).lines))
+    def told_by(self, work):
+        """What a terminal is told while the clock goes on by three seconds at each look."""
+        times, stream = iter(range(0, 9000, 3)), Terminal()
         with patch.object(sys, "stderr", stream), patch.object(progress.time, "monotonic", lambda: next(times)):
-            rows_of(measured, "lot", {})
-        self.assertEqual(stream.getvalue(), "\r\033[Ksolids: 0 of 2\r\033[Ksolids: 1 of 2\r\033[K")
+            work()
+        return stream.getvalue()
+
+    def test_tools_tell_how_far_they_are(self):
+        town = Town(Drawn().lot("a").solid("x", "cube", (0, 0, 0), (1, 1, 1)).solid("x", "cube", (2, 0, 0), (1, 1, 1)).lines)
+        self.assertEqual(self.told_by(lambda: rows_of(Measured(town), "lot", {})), "\r\033[Ksolids: 0 of 2\r\033[Ksolids: 1 of 2\r\033[K")
+        self.assertIn("solids: 1 of 2", self.told_by(lambda: Meshes().lines(town)))
+        picture = self.told_by(lambda: render(town, "bird", 4, 4))
+        self.assertIn("faces: 23 of 24", picture)
+        self.assertIn("rows: 3 of 4", picture)
+        with tempfile.NamedTemporaryFile("w") as file:
+            file.write("o a\ng x\n")
+            file.flush()
+            self.assertIn("lines read: 1", self.told_by(lambda: read_town(file.name)))
 
     def test_nothing_is_told_elsewhere(self):
         self.assertEqual(self.told(io.StringIO(), (0, 3, 6)), "")
