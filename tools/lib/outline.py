@@ -1,5 +1,7 @@
-"""The lines of faces that are drawn: edges between faces of one symbol in one plane aren't."""
+"""The lines of faces that are drawn: edges between faces of one symbol in one plane, and within them, aren't."""
 from collections import defaultdict
+
+from .overlaps import Plane
 
 SHIFT = 0.00317  # so that lengths of round decimals don't lie where rounding goes either way
 SLACK = 0.001  # shorter pieces of edges are no lines
@@ -23,17 +25,20 @@ def line_of(p, q):
 
 
 def edges(faces):
-    """Of each line of a plane the pieces that faces of one symbol have on either side, and each edge with its face."""
-    pieces, found = defaultdict(lambda: ([], [])), []
+    """Of each line of a plane the pieces that faces of one symbol have on either side, each edge with its face, and the planes."""
+    pieces, found, planes = defaultdict(lambda: ([], [])), [], {}
     for number, face in enumerate(faces):
         plane = rounded(*face.normal, sum(a * b for a, b in zip(face.corners[0], face.normal)))
+        planes.setdefault((face.symbol, plane), Plane(plane)).add(face.corners)
         for p, q in zip(face.corners, face.corners[1:] + face.corners[:1]):
             if sum(abs(a - b) for a, b in zip(p, q)) < 1e-6:
                 continue
             key, along, foot, start, end = line_of(p, q)
             pieces[face.symbol, plane, key][start > end].append((min(start, end), max(start, end)))
             found.append((number, (face.symbol, plane, key), along, foot, start, end))
-    return pieces, found
+    for plane in planes.values():
+        plane.sort()
+    return pieces, found, planes
 
 
 def without(piece, others):
@@ -53,9 +58,11 @@ def without(piece, others):
 
 def outlines(faces):
     """For each face the segments of its edges that are drawn."""
-    pieces, found = edges(faces)
+    pieces, found, planes = edges(faces)
     lines = [[] for _ in faces]
     for number, key, along, foot, start, end in found:
         for piece in without((min(start, end), max(start, end)), pieces[key][start < end]):
-            lines[number].append(tuple(tuple(f + at * a for f, a in zip(foot, along))[:2] for at in piece))
+            p, q = (tuple(f + at * a for f, a in zip(foot, along)) for at in piece)
+            if not planes[key[:2]].covers(p, q):
+                lines[number].append((p[:2], q[:2]))
     return lines

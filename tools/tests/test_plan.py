@@ -92,6 +92,10 @@ class Hidden(unittest.TestCase):
         self.assertAlmostEqual(sum(abs(p[0] - q[0]) + abs(p[1] - q[1]) for p, q in lines), 4 + 2 + 3 + 2 + 2 + 1)
         self.assertEqual(len(outlines([flat(0, (0, 0), (2, 2)), flat(0, (2, 0), (4, 2), "door")])[0]), 4)
 
+    def test_no_line_where_a_wall_ends_within_another(self):
+        # the right end of the one lies within the other, and so does the left end of the other within the one
+        counts = [len(some) for some in outlines([flat(0, (0, 0), (3, 2)), flat(0, (2, 0), (5, 2)), flat(0, (4, 0), (9, 2), "door")])]
+        self.assertEqual(counts, [3, 3, 4])
 
 class Drawings(unittest.TestCase):
     def setUp(self):
