@@ -91,7 +91,7 @@ def asked(kept, lines):
     told = Told()
     for _ in told.take(line.decode() for line in reply):
         pass
-    return f"{min(times):.1f}, {statistics.median(times):.1f} ms", sum(map(len, reply)), told.told
+    return ", ".join(f"{time:.{0 if time >= 10 else 2}f}" for time in (min(times), statistics.median(times))) + " ms", sum(map(len, reply)), told.told
 
 
 def works(lots):
