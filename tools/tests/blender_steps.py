@@ -4,6 +4,7 @@ import sys
 import tempfile
 import time
 from pathlib import Path
+from types import SimpleNamespace
 
 TESTS = Path(__file__).resolve().parent
 sys.path[:0] = [str(TESTS), str(TESTS.parent), str(TESTS.parent / "blender")]
@@ -15,6 +16,29 @@ import solid_table  # noqa: E402
 UPRIGHT = [(1, 0, 0), (0, 1, 0), (0, 0, 1)]
 FAR = (2683141, 0, 1247942)
 RULES = "rules\nattr h = 3\n1: a -> I(\"cube\")\nend\n"
+
+
+class Layout:
+    """What a panel puts, one after the other."""
+
+    def __init__(self):
+        self.put = []
+
+    def prop(self, _, name, text=None, **more):
+        self.put.append(text or name)
+
+    def operator(self, name):
+        self.put.append(name)
+
+    def label(self, text):
+        self.put.append(text)
+
+
+def panel():
+    """What the panel of the sidebar shows."""
+    shown = SimpleNamespace(layout=Layout())
+    cga_city_link.Panel.draw(shown, bpy.context)
+    return shown.layout.put
 
 
 def printed(height, has_b):
@@ -101,6 +125,9 @@ def main():
     save(RULES + "lot a 1 0 0 1 1 a\nlot c 1 0 0 0 1 a\n")
     wait()
     assert "BadLot c" in follower.said and list(objects()) == ["a"], follower.said
+    script_, button, slider, counts, *refused = panel()
+    assert (script_, button, slider) == ("cga_city_script", "cga_city.stop", "h") and counts.startswith("2 lots, 3 solids, 2 shapes"), counts
+    assert len(refused) == 1 and "BadLot c" in refused[0], refused
     cga_city_link.unregister()
     print("the add-on follows")
 
