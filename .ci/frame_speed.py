@@ -72,8 +72,8 @@ def opened(triangles, folder, is_as_on_graphics):
     if is_as_on_graphics:
         browser.ask("Page.enable")
         browser.ask("Page.addScriptToEvaluateOnNewDocument", source=AS_ON_GRAPHICS)
-    browser.open(path.as_uri())
-    browser.wait("town.low !== null", 300)
+    browser.ask("Page.navigate", url=path.as_uri())
+    browser.wait("document.readyState === 'complete' && typeof town === 'object' && town.low !== null", 600)
     browser.settled()
     browser.run(WATCH)
     return browser
