@@ -8,7 +8,7 @@ from collections import Counter, defaultdict, namedtuple
 from .apart import Sets, touching
 from .checking import across_jobs, over_all
 from .files import write
-from .printed import OBJ, Printed
+from .printed import OBJ, Printed, reading
 from .progress import counted
 
 LARGEST = 4  # times the rings of the cut: lots that need more have their jobs put together
@@ -26,9 +26,17 @@ class Traced:
         self.own = len(job.own)
 
     def read(self):
-        if not self.kept.exists():
-            write(self.kept, json.dumps(self.made()).encode())
-        return json.loads(self.kept.read_bytes())
+        """What was worked out once is kept beside the output."""
+        try:
+            kept = json.loads(self.kept.read_bytes())
+            if len(kept["lots"]) == len(self.names) and kept["instances"] >= 0:
+                return {"lots": [(str(digest), int(shapes)) for digest, shapes in kept["lots"]], "instances": kept["instances"]}
+        except (OSError, ValueError, TypeError, KeyError):
+            pass
+        with reading(self.printed.path):
+            made = self.made()
+        write(self.kept, json.dumps(made).encode())
+        return made
 
     def made(self):
         data, steps = self.printed.path.read_bytes(), defaultdict(list)
