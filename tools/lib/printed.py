@@ -60,7 +60,7 @@ class Printed:
     def told(self):
         with self.path.open("rb") as file, reading(self.path):
             _, faults, *bills = self.head(self.before_town(file))
-            stats, *hulls = self.behind_town(file)
+            stats, *hulls = self.behind_town()
             if town_counts(stats).get("faults") != len(faults) - 1:
                 raise self.broken("it has other faults than it counts")
             bill = dict(map(entry, bills[0][1:])) if bills else {}
@@ -105,18 +105,22 @@ class Printed:
         named = f", in the line of the lot `{lots[at]}`" if 0 <= at < len(lots) else ""
         return f"refused {cause}{named}: mend that line, which tools/lint finds in the script, and cut it again"
 
-    def behind_town(self, file):
+    def from_last(self, mark):
+        """What stands from the last such mark on, without its line feed; nothing where there is none."""
+        with self.path.open("rb") as file:
+            size, taken = file.seek(0, 2), PIECE
+            while True:
+                file.seek(max(0, size - taken))
+                text = file.read()
+                at = text.rfind(mark)
+                if at >= 0 or taken >= size:
+                    return text[at + 1:] if at >= 0 else b""
+                taken *= 8
+
+    def behind_town(self):
         """The lines from that of the counts on, without the one that ends the output."""
-        size, taken = file.seek(0, 2), PIECE
-        while True:
-            file.seek(max(0, size - taken))
-            text = file.read()
-            at = text.rfind(b"\n# stats ")
-            if at >= 0 or taken >= size:
-                break
-            taken *= 8
-        lines = text[at + 1:].decode("latin-1").split("\n")
-        if at < 0 or lines.pop() or lines.pop() != f"# job {self.job.name}" or not lines:
+        *lines, end = self.from_last(b"\n# stats ").decode("latin-1").split("\n")
+        if end or not lines or lines.pop() != f"# job {self.job.name}" or not lines:
             raise self.broken("its end isn't that of this job")
         if town_counts(lines[0]).get("lots") != len(self.job.own) + len(self.job.ring):
             raise self.broken("it has other lots")
