@@ -156,6 +156,6 @@ async function open_tiles({title, tileset}) {
     ask_draw();
   } catch (fault) {
     tell(location.protocol === 'file:' ? 'a browser loads tiles from a server alone: type `python3 -m http.server -d FOLDER` with the folder of this page, '
-      + 'and open it at http://127.0.0.1:8000/' : `${tileset}: ${fault.message}`);
+      + 'and open it at 127.0.0.1:8000' : `${tileset}: ${fault.message}`);
   }
 }
