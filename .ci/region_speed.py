@@ -1,6 +1,7 @@
 #!/usr/bin/env python3
 """Times tools/districts on regions of shops: for each a row of the table in docs/DISTRICTS.md. Times are seconds of processor,
-user and system, of all processes of a step; the jobs are run by the program, as many at once as there are processors.
+user and system, of all processes of a step; the jobs are run by the program, as many at once as there are processors. A join
+and tiles are told without the check that they begin with.
 
 usage: .ci/region_speed.py [--program PATH] [--folder FOLDER] [ROW ..]
 
@@ -124,7 +125,7 @@ def main():
     known.add_argument("--folder", type=Path)
     known.add_argument("rows", nargs="*", choices=[[], *REGIONS], metavar="ROW", help=", ".join(REGIONS))
     words = known.parse_args()
-    print("| Region | Jobs | Cut | Jobs | Check | Join | Tiles | Joined | Most memory | of a job |")
+    print("| Region | Jobs | Cut | Run of the jobs | Check | Join | Tiles | Joined | Most memory | of a job |")
     print("|---|---|---|---|---|---|---|---|---|---|")
     with tempfile.TemporaryDirectory(dir=words.folder) as folder:
         for name in words.rows or REGIONS:
