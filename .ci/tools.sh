@@ -1,11 +1,13 @@
 #!/usr/bin/env bash
 # The tools with stored replies and a stand-in for the program, the words of the editors, the add-on where Blender is there,
-# and, where the proved program is there, a pass with it: stored and random scripts, regions in jobs.
+# and, where the proved program is there, a pass with it: stored and random scripts, regions in jobs. The tests of regions
+# refuse planted bugs of the tool.
 set -euo pipefail
 cd "$(dirname "${BASH_SOURCE[0]}")/.."
 export PYTHONDONTWRITEBYTECODE=1
 python3 -m unittest discover -s tools/tests
 tools/tests/in_blender.py
+tools/tests/planted_in_districts.py
 if ./cga_city --proved; then
   tools/tests/with_program.py
   tools/tests/regions_with_program.py

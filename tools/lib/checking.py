@@ -12,13 +12,8 @@ def sums(told):
     for job in told:
         counts.update(job.counts)
         for symbol, numbers in job.bill.items():
-            bill[symbol] = [one + whole(other) for one, other in zip(bill[symbol], numbers)]
+            bill[symbol] = [one + other for one, other in zip(bill[symbol], numbers)]
     return counts, bill
-
-
-def whole(number):
-    """A number of a bill; a front and a volume are in millionths."""
-    return int(number.replace(".", ""))
 
 
 def bill_text(bill):

@@ -18,7 +18,7 @@ for name in "$@"; do
   else
     status=$?
     rm -f "$part"
-    echo "job $name ended with status $status" >&2
+    echo "job $name ended with status $status: run it again, with more memory where that was wanting" >&2
   fi
 done
 exit $status

@@ -8,7 +8,7 @@ from collections import Counter, defaultdict, namedtuple
 from .apart import Sets, touching
 from .checking import across_jobs, over_all
 from .files import write
-from .printed import OBJ, Printed
+from .printed import Printed, reading
 from .progress import counted
 
 LARGEST = 4  # times the rings of the cut: lots that need more have their jobs put together
@@ -18,37 +18,38 @@ Unsettled = namedtuple("Unsettled", "number seen rings together")
 
 
 class Traced:
-    """Of each lot of a job the digest of its steps, and how many shapes it has; of the own lots the instances."""
+    """Of each lot of a job the digest of its steps, how many shapes it has, and how many of these are instances."""
 
     def __init__(self, folder, plan, job):
         self.printed, self.kept = Printed(folder, plan, job), folder / "jobs" / f"{job.name}.steps"
         self.names = plan.lots_of(job)
-        self.own = len(job.own)
 
     def read(self):
-        if not self.kept.exists():
-            write(self.kept, json.dumps(self.made()).encode())
-        return json.loads(self.kept.read_bytes())
+        """What was worked out once is kept beside the output."""
+        try:
+            kept = [(str(digest), int(shapes), int(instances)) for digest, shapes, instances in json.loads(self.kept.read_bytes())]
+            if len(kept) == len(self.names):
+                return kept
+        except (OSError, ValueError, TypeError):
+            pass
+        with reading(self.printed.path):
+            made = self.made()
+        write(self.kept, json.dumps(made).encode())
+        return made
 
     def made(self):
-        data, steps = self.printed.path.read_bytes(), defaultdict(list)
-        begin, end = data.rfind(b"\n# trace "), data.rfind(b"\n# stats ")
-        head, *lines = data[begin + 1:end].split(b"\n")
+        steps = defaultdict(list)
+        head, *lines = self.printed.from_last(b"\n# trace ").partition(b"\n# stats ")[0].split(b"\n")
         if head != b"# trace %d" % len(lines):
             raise self.printed.broken("its steps aren't whole")
         for line in lines:
             steps[line.split(b" ", 3)[2]].append(line)
-        lots = [self.lot(steps[name.encode("latin-1")]) for name in self.names]
-        return {"lots": lots, "instances": self.instances(data[data.index(OBJ):begin + 1])}
+        return [self.lot(steps[name.encode("latin-1")]) for name in self.names]
 
     def lot(self, steps):
+        """Each shape but an instance has one step, which tells how many children it has, or its fault."""
         shapes = 1 + sum(int(step) for step in (line.rsplit(b" ", 1)[1] for line in steps) if step.isdigit())
-        return [hashlib.sha256(b"\n".join(sorted(steps))).hexdigest()[:32], shapes]
-
-    def instances(self, town):
-        """How many instances the own lots have, which stand before the neighbours."""
-        last = town.find(b"\no %s\n" % self.names[self.own].encode("latin-1")) if self.own < len(self.names) else len(town)
-        return town.count(b"\ng ", 0, last)
+        return [hashlib.sha256(b"\n".join(sorted(steps))).hexdigest()[:32], shapes, shapes - len(steps)]
 
 
 def traced(folder, plan):
@@ -59,8 +60,8 @@ def own_counts(folder, plan, traces):
     """The counts of the town, where each job counts its neighbours, too."""
     counts = Counter(lots=len(plan.lots))
     for job, trace in zip(plan.drawn(), traces):
-        counts["shapes"] += sum(shapes for _, shapes in trace["lots"][:len(job.own)])
-        counts["instances"] += trace["instances"]
+        counts["shapes"] += sum(shapes for _, shapes, _ in trace[:len(job.own)])
+        counts["instances"] += sum(instances for *_, instances in trace[:len(job.own)])
         counts["faults"] += len(Printed(folder, plan, job).faults())
     return counts
 
@@ -70,7 +71,7 @@ class Halos:
 
     def __init__(self, plan, told, traces):
         self.jobs, self.boxes = plan.drawn(), list(over_all(told))
-        self.digests = [[digest for digest, _ in trace["lots"]] for trace in traces]
+        self.digests = [[digest for digest, *_ in trace] for trace in traces]
         self.job_of = {lot: at for at, job in enumerate(self.jobs) for lot in job.own}
         self.box = {lot: box for job, boxes in zip(self.jobs, self.boxes) for lot, box in zip(job.own, boxes)}
         self.digest = {lot: digest for job, digests in zip(self.jobs, self.digests) for lot, digest in zip(job.own, digests)}

@@ -4,7 +4,7 @@ from collections import namedtuple
 from contextlib import contextmanager
 from multiprocessing import get_context
 
-from .printed import OBJ, Printed
+from .printed import OBJ, Printed, reading
 from .progress import counted
 from .towns import moved, objects
 
@@ -69,7 +69,8 @@ def write_piece(given):
                     opened.close()
                 opened, last = span.path.open("rb"), span.path
             opened.seek(span.begin)
-            piece.write(moved(opened.read(span.end - span.begin), span.by))
+            with reading(span.path):
+                piece.write(moved(opened.read(span.end - span.begin), span.by))
     if opened:
         opened.close()
     return path

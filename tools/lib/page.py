@@ -7,7 +7,7 @@ from .colours import colour_of
 from .drawn import Meshes
 
 VIEWER = Path(__file__).parent / "viewer"
-SCRIPTS = ["gl", "shaders", "meshes", "town", "camera", "picking", "buffers", "draw", "panel", "hands", "follow"]
+SCRIPTS = ["gl", "shaders", "meshes", "town", "camera", "picking", "glb_file", "tileset", "tiles", "tile_parts", "buffers", "draw", "panel", "hands", "follow"]
 
 
 def colours_of(lines):

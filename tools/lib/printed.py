@@ -1,6 +1,7 @@
 """What a job printed. A check reads what stands before the town and behind it, and never the town between."""
 import re
 from collections import namedtuple
+from contextlib import contextmanager
 
 from .call import Refused
 from .exact import over_one
@@ -26,6 +27,26 @@ def town_counts(line):
     return {word: number for word, number in counts_of([line]).items() if word != "expanded"}
 
 
+def entry(line):
+    """A symbol of a bill with its four numbers as whole ones: the front and the volume are in millionths."""
+    _, _, symbol, *numbers = line.split()
+    number, front, volume, unmeasured = (int(number.replace(".", "")) for number in numbers)
+    return symbol, (number, front, volume, unmeasured)
+
+
+def not_printed(path, why):
+    return Refused(f"{path} isn't what its job prints, since {why}: {AGAIN}")
+
+
+@contextmanager
+def reading(path):
+    """Refuses an output of which a line can't be read."""
+    try:
+        yield
+    except (ValueError, IndexError):
+        raise not_printed(path, "a line of it can't be read") from None
+
+
 class Printed:
     """The output of a job, of which the plan says what it is to be."""
 
@@ -34,23 +55,23 @@ class Printed:
         self.rules = plan.heads[job.level]
 
     def broken(self, why):
-        return Refused(f"{self.path} isn't what its job prints, since {why}: {AGAIN}")
+        return not_printed(self.path, why)
 
     def told(self):
-        with self.path.open("rb") as file:
+        with self.path.open("rb") as file, reading(self.path):
             _, faults, *bills = self.head(self.before_town(file))
-            stats, *hulls = self.behind_town(file)
-        if town_counts(stats).get("faults") != len(faults) - 1:
-            raise self.broken("it has other faults than it counts")
-        bill = {words[2]: words[3:] for words in map(str.split, bills[0][1:])} if bills else {}
-        return Told(town_counts(stats), bill, *self.boxes(hulls))
+            stats, *hulls = self.behind_town()
+            if town_counts(stats).get("faults") != len(faults) - 1:
+                raise self.broken("it has other faults than it counts")
+            bill = dict(map(entry, bills[0][1:])) if bills else {}
+            return Told(town_counts(stats), bill, *self.boxes(hulls))
 
     def faults(self):
         """The lines of faults of the job's own lots."""
-        with self.path.open("rb") as file:
-            lines = self.head(self.before_town(file))[1][1:]
         own = {self.plan.lots[at] for at in self.job.own}
-        return [line for line in lines if line.split()[2] in own]
+        with self.path.open("rb") as file, reading(self.path):
+            lines = self.head(self.before_town(file))[1][1:]
+            return [line for line in lines if line.split()[2] in own]
 
     def before_town(self, file):
         text = b""
@@ -84,18 +105,22 @@ class Printed:
         named = f", in the line of the lot `{lots[at]}`" if 0 <= at < len(lots) else ""
         return f"refused {cause}{named}: mend that line, which tools/lint finds in the script, and cut it again"
 
-    def behind_town(self, file):
+    def from_last(self, mark):
+        """What stands from the last such mark on, without its line feed; nothing where there is none."""
+        with self.path.open("rb") as file:
+            size, taken = file.seek(0, 2), PIECE
+            while True:
+                file.seek(max(0, size - taken))
+                text = file.read()
+                at = text.rfind(mark)
+                if at >= 0 or taken >= size:
+                    return text[at + 1:] if at >= 0 else b""
+                taken *= 8
+
+    def behind_town(self):
         """The lines from that of the counts on, without the one that ends the output."""
-        size, taken = file.seek(0, 2), PIECE
-        while True:
-            file.seek(max(0, size - taken))
-            text = file.read()
-            at = text.rfind(b"\n# stats ")
-            if at >= 0 or taken >= size:
-                break
-            taken *= 8
-        lines = text[at + 1:].decode("latin-1").split("\n")
-        if at < 0 or lines.pop() or lines.pop() != f"# job {self.job.name}" or not lines:
+        *lines, end = self.from_last(b"\n# stats ").decode("latin-1").split("\n")
+        if end or not lines or lines.pop() != f"# job {self.job.name}" or not lines:
             raise self.broken("its end isn't that of this job")
         if town_counts(lines[0]).get("lots") != len(self.job.own) + len(self.job.ring):
             raise self.broken("it has other lots")

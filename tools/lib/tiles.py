@@ -1,10 +1,13 @@
 """A region as 3D Tiles: a file of glTF for each job, and tileset.json, with coarser heads as levels of detail."""
 import json
+import struct
 
+from .call import Refused
 from .checking import around
 from .exact import parted
 from .files import write
 from .joining import workers
+from .printed import reading
 from .progress import counted
 from .quadtree import Quadtree
 from .tile_glb import ends_of, glb
@@ -30,14 +33,19 @@ def write_glb(given):
         with source.open("rb") as file:
             file.seek(places[0].begin)
             town = file.read(places[-1].end - places[0].begin)
-        write(path, glb(town, (job.square[0], 0, job.square[1])))
+        with reading(source):
+            write(path, glb(town, (job.square[0], 0, job.square[1])))
     return job.name
 
 
 def drawn_box(folder, job):
     """The box of what a tile draws, or of the corner of its square where it draws nothing."""
     x, z, _ = job.square
-    low, high = ends_of((folder / "tiles" / f"{job.name}.glb").read_bytes()) or ((0, 0, 0), (0, 0, 0))
+    path = folder / "tiles" / f"{job.name}.glb"
+    try:
+        low, high = ends_of(path.read_bytes()) or ((0, 0, 0), (0, 0, 0))
+    except (ValueError, TypeError, AttributeError, LookupError, struct.error):
+        raise Refused(f"{path} isn't a tile of this tool: take it away, and make the tiles again") from None
     return tuple(tuple(number + corner for number, corner in zip(end, (x, 0, z))) for end in (low, high))
 
 

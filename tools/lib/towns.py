@@ -1,8 +1,7 @@
 """Where the lots stand in what a job printed of its town, and the lines of a lot with its vertices numbered anew."""
 from collections import namedtuple
 
-from .call import Refused
-from .printed import AGAIN, OBJ
+from .printed import OBJ, not_printed, reading
 
 # of a lot: where its lines begin and end in the file, and how many vertices they have
 Place = namedtuple("Place", "begin end vertices")
@@ -11,14 +10,15 @@ Place = namedtuple("Place", "begin end vertices")
 def objects(path, names, text=0):
     """The places of these lots in one of the OBJ texts of a file, which has them in this order; others may follow."""
     data, begin = path.read_bytes(), 0
-    for _ in range(text + 1):
-        begin = data.index(OBJ, begin) + len(OBJ)
+    with reading(path):
+        for _ in range(text + 1):
+            begin = data.index(OBJ, begin) + len(OBJ)
     last = data.index(b"\n# ", begin - 1) + 1
     places = []
     for name in names:
         head = f"o {name}\n".encode("latin-1")
         if not data.startswith(head, begin):
-            raise Refused(f"{path} isn't what its job prints, since the lot `{name}` isn't where it is to be: {AGAIN}")
+            raise not_printed(path, f"the lot `{name}` isn't where it is to be")
         end = data.find(b"\no ", begin, last) + 1 or last
         places.append(Place(begin, end, data.count(b"\nv ", begin, end)))
         begin = end

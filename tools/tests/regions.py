@@ -11,8 +11,10 @@ from unittest.mock import patch
 TESTS = Path(__file__).resolve().parent
 TOP = TESTS.parent.parent
 STAND_IN = str(TESTS / "region_stand_in.py")
+DEFINED = str(TESTS / "defined_hulls.py")  # the language itself, slowly
 sys.path[:0] = [str(TESTS), str(TESTS.parent)]
 
+import defined_hulls  # noqa: E402
 import region_stand_in  # noqa: E402
 from in_process import called  # noqa: E402
 
@@ -41,17 +43,20 @@ def random_lots(chance, number, most):
             for name, (width, depth) in zip(names, sizes)]
 
 
+ANSWERS = {STAND_IN: region_stand_in.answer, DEFINED: defined_hulls.answer}  # these answer here, which takes no start
+
+
 def run(program, lines, *words):
-    if program == STAND_IN:
-        return region_stand_in.answer("".join(f"{line}\n" for line in lines), list(words))
+    if program in ANSWERS:
+        return ANSWERS[program]("".join(f"{line}\n" for line in lines), list(words))
     done = subprocess.run([program, *words], input="".join(f"{line}\n" for line in lines).encode("latin-1"), stdout=subprocess.PIPE, check=True)
     return done.stdout.decode("latin-1").split("\n")[:-1]
 
 
 def answered(named, script):
-    """The status and the replies of a program; the stand-in answers here, which takes no start."""
-    if named == STAND_IN:
-        return 0, region_stand_in.answer(script.decode("latin-1"))
+    """The status and the replies of a program."""
+    if named in ANSWERS:
+        return 0, ANSWERS[named](script.decode("latin-1"))
     return program.run(named, script)
 
 

@@ -19,6 +19,7 @@ from regions import RegionTest, value, whole  # noqa: E402
 
 BOXES = ["version 2", "rules", '1: box -> S(1r, rand(2, 9, 7), 1r) I("cube")', '2: pair -> Subdiv("X", 3, 1r) { box | box }', "end"]
 ASKING = sorted((TESTS / "districts").glob("*.cga"))
+RANDOM = 30
 
 
 def rules(path):
@@ -53,15 +54,10 @@ def wall(side, along="8", deep="10"):
 
 
 def anywhere(seed):
-    """Shops with corners anywhere."""
+    """Shops with corners anywhere; of some regions no rule asks."""
     chance = random.Random(seed)
-    return shops(f"lot r{k} {k} {value(chance, 60)} {value(chance, 60)} 8 {chance.choice(['10', '7/3', '6.5'])} shop" for k in range(25))
-
-
-def domino(number):
-    """Each house reaches into the next one and draws only where none reaches into it."""
-    lines = rules(TESTS / "districts" / "domino.cga")
-    return [*lines, *(f"lot d{k:02} 1 {k * 10} 0 10 8 home" for k in range(number))]
+    lines = shops(f"lot r{k} {k} {value(chance, 60)} {value(chance, 60)} 8 {chance.choice(['10', '7/3', '6.5'])} shop" for k in range(25))
+    return lines if seed % 3 else [line.replace(' : Scope.occ("noparent") == "none"', "") for line in lines]
 
 
 class WithProgram(RegionTest):
@@ -90,13 +86,17 @@ def main(words):
     if not named and not districts.HULLS.exists():
         sys.exit("regions in which rules ask wait for cga_hulls: run `rt run </dev/null` in crates/cga_hulls")
     asking = [[line for line in lines_of(script.read_bytes()) if line not in ("print", "faults", "stats")] for script in ASKING]
-    for lines in [*asking, streets(), *map(anywhere, range(4))]:
+    for lines in [*asking, streets()]:
         for lots in (1, 7):
             test.region(hulls, lines, lots)
-    test.assertEqual(test.region(hulls, wall(12), 36, "--rings", "2"), 1, "a wall passes at once with two rings")
+    for seed in range(RANDOM):
+        test.region(hulls, anywhere(seed), 7, *(["--rings", "1"] if seed % 4 == 1 else []))
+    test.assertEqual(test.region(hulls, wall(60), 400, "--rings", "2"), 1, "a wall passes at once with two rings")
     test.assertGreater(test.region(hulls, wall(12), 36, "--rings", "1"), 1, "and not with one")
-    test.assertGreater(test.region(hulls, domino(20), 4, "--rings", "1"), 1, "dominoes don't settle")
-    print(f"regions are in jobs what they are in one run: {2 + len(asking) + 5 + 3} of them, and in all but 2 rules ask")
+    dominoes = [line for line in lines_of((TESTS / "districts" / "row_of_dominoes.cga").read_bytes()) if line not in ("print", "stats")]
+    for rings in ("1", "3", "9"):
+        test.assertGreater(test.region(hulls, dominoes, 4, "--rings", rings), 2, "dominoes don't settle")
+    print(f"regions are in jobs what they are in one run: {2 + len(asking) + 1 + RANDOM + 3} of them, {RANDOM} at random")
 
 
 if __name__ == "__main__":

@@ -2,8 +2,11 @@
 """A region by a real Slurm of two nodes on this machine: a task that is killed, one that runs out of memory, and a node that
 goes down; in the end the region is what one run prints. It says so and ends well where Slurm isn't installed.
 
-usage: tools/tests/slurm_on_loopback.py      takes a minute or two; as root, after `apt-get install slurm-wlm munge`
+usage: tools/tests/slurm_on_loopback.py [--program PATH]      as root, after `apt-get install slurm-wlm munge`
+
+It takes a minute or two. PATH is that of crates/cga_hulls; without it a stand-in runs the jobs.
 """
+import argparse
 import os
 import shutil
 import signal
@@ -54,19 +57,24 @@ NodeName=one NodeHostname={host} NodeAddr=127.0.0.1 Port=16818 CPUs=2 RealMemory
 NodeName=two NodeHostname={host} NodeAddr=127.0.0.1 Port=16819 CPUs=2 RealMemory=2000
 PartitionName=all Nodes=ALL Default=YES MaxTime=10 State=UP
 """
-# takes a while, so that tasks can be killed, and 300 MB where its script has the lot `heavy`
+# takes a while, so that tasks can be killed, and 300 MB where its script has the lot `heavy`; then the program runs
 PROGRAM = """\
-#!/bin/sh
-exec python3 -c '
-import runpy, sys, time
-text = sys.stdin.read()
-kept = b"x" * (300 << 20) if "lot heavy" in text else b""
-time.sleep(4 if "lot heavy" in text or "lot slow" in text else 0.2)
-print(*runpy.run_path("{}")["answer"](text), sep="\\n")
-'
+#!/usr/bin/env python3
+import subprocess, sys, time
+text = sys.stdin.buffer.read()
+kept = b"x" * (300 << 20) if b"lot heavy" in text else b""
+time.sleep(4 if b"lot heavy" in text or b"lot slow" in text else 0.2)
+sys.exit(subprocess.run([{!r}], input=text).returncode)
 """
 REACHING = ["lot a 6 0 0 4 4 wall", "lot b 1 10 0 4 4 wall"]
 LOTS = REACHING + [f"lot l{k} 1 {20 * k} 50 4 4 wall" for k in range(9)] + ["lot heavy 1 0 90 4 4 wall", "lot slow 1 50 90 4 4 wall"]
+
+
+def real_lines():
+    """Houses that ask, two of which see a shape of a third from afar."""
+    lines = (TESTS / "districts" / "far_shape_of_a_ghost.cga").read_text().split("\n")
+    names = ["lot a 1 0 0 8 8 ghost", "lot b 1 100 0 8 8 home"] + [f"lot l{k} 1 {20 * k} 50 8 8 home" for k in range(9)]
+    return lines[:lines.index("end") + 1] + names + ["lot heavy 1 0 90 8 8 home", "lot slow 1 50 90 8 8 home"]
 
 
 class Cluster:
@@ -134,9 +142,9 @@ def ended():
 
 
 class Region:
-    def __init__(self, top):
-        self.top, self.folder, self.lines = top, top / "a region", asking(*LOTS)
-        (top / "program").write_text(PROGRAM.format(STAND_IN))
+    def __init__(self, top, program, lines):
+        self.top, self.folder, self.program, self.lines = top, top / "a region", program, lines
+        (top / "program").write_text(PROGRAM.format(program))
         (top / "program").chmod(0o755)
         (top / "region.cga").write_text("\n".join(self.lines) + "\n")
         print(self.call("cut", top / "region.cga", self.folder, "--lots", "1", "--program", top / "program"), end="")
@@ -205,13 +213,16 @@ def expect(is_so, what):
 
 
 def main():
+    known = argparse.ArgumentParser()
+    known.add_argument("--program", type=os.path.abspath)
+    program = known.parse_args().program
     lacking = [name for name in NEEDED if not shutil.which(name)]
     if lacking or os.geteuid():
         print(f"SKIPPED: {', '.join(lacking) or 'root'} is missing: as root, after `apt-get install slurm-wlm munge`, this runs a region by Slurm")
         return
     with tempfile.TemporaryDirectory() as folder:
         Path(folder).chmod(0o755)
-        cluster, region = Cluster(Path(folder)), Region(Path(folder))
+        cluster, region = Cluster(Path(folder)), Region(Path(folder), program or STAND_IN, real_lines() if program else asking(*LOTS))
         try:
             cluster.up()
             killed(region)
@@ -221,7 +232,7 @@ def main():
                 wait(ended, "the queue to be empty", 180)
             expect(region.todo() == [], "all jobs were run")
             town = (region.folder / "town.obj").read_text().split("\n")[:-1]
-            expect(town == whole(STAND_IN, region.lines)[0], "what is joined is what one run prints")
+            expect(town == whole(region.program, region.lines)[0], "what is joined is what one run prints")
         except SystemExit:
             print(said("squeue", "-a"), said("sinfo", "-N"), sep="\n")
             for path in [*region.folder.glob("slurm*.log"), *cluster.folder.glob("*.log")]:

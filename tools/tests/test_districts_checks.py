@@ -2,7 +2,7 @@
 import os
 import unittest
 
-from regions import RULES, STAND_IN, RegionTest, asking
+from regions import RULES, STAND_IN, RegionTest, asking, chances
 
 LOTS = [f"lot {name} {seed} {10 * x} 0 4 4 wall" for x, (name, seed) in enumerate([("a", 1), ("flat", 2), ("c", 0), ("d", 3)])]
 REGION = [*RULES, *LOTS]
@@ -147,6 +147,39 @@ class Checks(RegionTest):
         lines = (self.folder / "model.obj").read_text().split("\n")
         self.assertEqual([line for line in lines if line.startswith("o ")], ["o a", "o flat", "o c", "o d"])
         self.assertEqual((lines.count("g wall"), lines[-2]), (12, "f 89 90 91 92"))
+
+    def spoilt(self, chance, data):
+        """The bytes with a part that went, a byte or a word that is another, or a line twice."""
+        at, lines, words = chance.randrange(len(data) + 1), data.split(b"\n"), data.split(b" ")
+        line, word = chance.randrange(len(lines)), chance.randrange(len(words))
+        other = chance.choice([b"", b"-1", b"x", b"1/0", b"9" * 25, b"#", b"0"])
+        return chance.choice([data[:at], data[:at] + bytes([chance.randrange(256)]) + data[at + 1:], b"\n".join(lines[:line] + lines[line + 1:]),
+                              b"\n".join(lines[:line] + lines[line:line + 1] + lines[line:]), b" ".join(words[:word] + [other] + words[word + 1:])])
+
+    def test_files_that_are_spoilt_are_told_of_in_words(self):
+        """Nothing of Python comes out, whatever stands in the files."""
+        for number, (lines, words) in enumerate((([*RULES, *LOTS, "bill", "model"], []), (asking(*REACHING), []), (asking(*REACHING), ["--rings", "1"]))):
+            self.folder = self.top / str(number)
+            self.cut(lines, 2, *words)
+            self.rounds()
+            self.call("tiles", self.folder, "--workers", "1")
+            kept = {path: path.read_bytes() for kind in ("jobs/*", "*.json", "region.cga", "tiles/*.glb") for path in sorted(self.folder.glob(kind))}
+            for chance in chances(25, number):
+                path = chance.choice(list(kept))
+                path.write_bytes(self.spoilt(chance, kept[path]))
+                for word in ("status", "check", "join", "tiles"):
+                    status, _, told = self.call(word, self.folder, *(["--workers", "1"] if word in ("join", "tiles") else []))
+                    self.assertIn(status, (0, 1, 3), told)
+                    self.assertNotRegex(told, r"literal|codec|unpack|Expecting|substring|Extra data|range|Unterminated|NoneType", path)
+                for other in [*self.folder.glob("jobs/*"), *self.folder.glob("found.json")]:
+                    other.unlink()
+                for other, data in kept.items():
+                    other.write_bytes(data)
+
+    def test_names_of_lots_are_only_data(self):
+        for name in ("a'b", 'a"b', "$(touch", "`touch", "a;b", "../a", "a\\b", "a/b", "-a", "*"):
+            self.assert_refused(self.cut([*RULES, f"lot {name} 1 0 0 1 1 wall"]), ":6: a lot is written `lot NAME SEED X Z WIDTH DEPTH SYMBOL`")
+        self.assertFalse(self.folder.exists())
 
     def test_a_plan_that_is_no_plan(self):
         self.cut(REGION)

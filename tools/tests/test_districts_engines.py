@@ -120,9 +120,19 @@ class Engines(RegionTest):
         self.cut([*REGION, "lot die 1 90 0 1 1 wall"], 1, program=program)
         done = subprocess.run(["sh", self.folder / "job", *self.todo()], capture_output=True, text=True, env=self.environment())
         self.assertEqual(done.returncode, 137)
-        self.assertIn(f"job {self.todo()[0]} ended with status 137\n", done.stderr)
+        self.assertIn(f"job {self.todo()[0]} ended with status 137: run it again, with more memory where that was wanting\n", done.stderr)
         self.assertEqual((len(self.todo()), self.jobs("part")), (1, []))
         self.assert_refused(self.call("join", self.folder), "1 jobs weren't run")
+
+    def test_a_job_that_runs_out_of_memory(self):
+        """It has printed something by then, and that is gone."""
+        program = self.program("#!/bin/sh\necho '# ok'\nulimit -v 40000\nexec python3 -c 'kept = b\"x\" * (300 << 20)' 2>/dev/null\n")
+        self.cut(REGION, 4096)
+        shutil.copyfile(program, next(self.folder.glob("program-*")))
+        done = subprocess.run(["sh", self.folder / "job", *self.todo()], capture_output=True, text=True, env=self.environment())
+        self.assertNotEqual(done.returncode, 0)
+        self.assertIn("run it again, with more memory", done.stderr)
+        self.assertEqual((len(self.todo()), self.jobs("part"), self.jobs("out")), (1, [], []))
 
     def by_slurm(self, **environment):
         (self.top / "sbatch").write_text(SBATCH)

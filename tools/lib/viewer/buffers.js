@@ -66,4 +66,5 @@ function draw_solids() {
     if (is_slow) gl.drawElements(gl.TRIANGLES, indices * batch.count, gl.UNSIGNED_INT, 0);
     else gl.drawElementsInstanced(gl.TRIANGLES, indices, gl.UNSIGNED_INT, 0, batch.count);
   }
+  if (tiles) tiles.draw();
 }

@@ -37,9 +37,12 @@ if (gl) gl.texImage2D(gl.TEXTURE_2D, 0, gl.DEPTH_COMPONENT24, SIDE, SIDE, 0, gl.
 const shadow_frame = gl && framebuffer([[gl.DEPTH_ATTACHMENT, shadow_map]]);
 const colour_map = gl && texture(COLOURS, gl.NEAREST);
 
+// The box that the sun's map covers.
+const lit = () => tiles && tiles.lit || town;
+
 function sun_matrix() {
-  const right = [.8281, 0, .5610].map(part => part / Math.hypot(.8281, .5610)), up = cross(SUN, right), size = 1.02 * size_of(town);
-  const middle = town.low.map((at, k) => (at + town.high[k]) / 2), deep = 1.5 * size;
+  const right = [.8281, 0, .5610].map(part => part / Math.hypot(.8281, .5610)), up = cross(SUN, right), box = lit(), size = 1.02 * size_of(box);
+  const middle = box.low.map((at, k) => (at + box.high[k]) / 2), deep = 1.5 * size;
   const rows = [0, 1, 2].flatMap(k => [right[k] / size, up[k] / size, -SUN[k] / deep, 0]);
   return new Float32Array([...rows, -dot(right, middle) / size, -dot(up, middle) / size, dot(SUN, middle) / deep, 1]);
 }
@@ -104,7 +107,7 @@ function pixel_at_centre() {
 
 function draw_picture(moment) {
   const seen = matrix(town), common = {view: seen.view, sun, shadows: SHADOWS, colours: COLOURS, fine: 1 / SIDE,
-    texel: 2 * size_of(town) / SIDE, grow: .3 * pixel_at_centre(), nudge: NUDGE, now: moment, cell: cell_of()};
+    texel: 2 * size_of(lit()) / SIDE, grow: tiles ? 0 : .3 * pixel_at_centre(), nudge: NUDGE, now: moment, cell: cell_of()};
   gl.bindFramebuffer(gl.FRAMEBUFFER, parts.drawn);
   gl.viewport(0, 0, parts.width, parts.height);
   gl.clear(gl.COLOR_BUFFER_BIT | gl.DEPTH_BUFFER_BIT);
@@ -157,6 +160,7 @@ function draw() {
   }
   gl.enable(gl.DEPTH_TEST);
   fit_parts(wide, high);
+  if (tiles) tiles.choose();
   if (is_shadow_old) shine();
   finish(draw_picture(now));
   const left = drawn_last + GLOW - now;

@@ -43,6 +43,7 @@ async function follow() {
 
 const given = /*TOWN*/null;
 if (!gl) tell('this browser has no WebGL 2');
+else if (given && given.tileset) open_tiles(given);
 else if (given) take(given, given.lines);
 else {
   ask_draw();

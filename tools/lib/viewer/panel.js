@@ -35,6 +35,7 @@ function legend() {
 }
 
 function pick(x, y) {
+  if (tiles) return tiles.pick(x, y);
   const hit = town.low && met(x, y);
   picked = hit ? hit.entry.line : null;
   pick_again();
@@ -106,6 +107,7 @@ function sums() {
   const {lots, shapes, instances, worked} = head.stats || {}, parts = [], many = value => value.toLocaleString('en');
   if (shapes !== undefined) parts.push(`${many(lots)} lots, ${many(instances)} solids`, `${many(shapes)} shapes`);
   if (Number.isInteger(worked)) parts[1] = `of ${parts[1]} ${many(worked)} were worked anew`;
+  if (tiles) parts.push(tiles.told());
   if (town.low && shows.ground) parts.push(`grid ${+cell_of().toPrecision(1)}`);
   if (town.offset && town.offset.some(at => Math.abs(at) >= 1000)) parts.push(`drawn from ${town.offset.map(many).join(', ')}`);
   box_of('sums').textContent = parts.join(' \u00b7 ');

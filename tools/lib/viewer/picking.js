@@ -51,6 +51,7 @@ function order_of({data}, slot) {
 // The nearest instance on the way through a place of the window, and the point at which it is met.
 function met(x, y) {
   const {eye, way} = ray(x, y);
+  if (tiles) return tiles.met(eye, way);
   let best = Infinity, found = null;
   for (const {batch, slot, far} of candidates(eye, way)) {
     if (far > best * (1 + 1e-5)) break;
