@@ -1,1 +1,10 @@
+mod Commands
+mod First
+mod Kept
+mod Refusing
+mod Restoring
+mod Said
+mod Spelled
+mod Staying
+mod Suffix
 mod Undoing

@@ -11,6 +11,9 @@ use Rattle.cga_script.specs.Dumps.{dump_of}
 use Rattle.cga_city.specs.City.{CityState, EditGives, HasDistinctLots}
 use Rattle.cga_city.specs.Derived.{is_within}
 use Rattle.cga_city.specs.Inside.{AreSound}
+use Rattle.cga_script.specs.Lines.{Line}
+use Rattle.cga_top.specs.Replies.{budget_of}
+use Rattle.cga_laws.specs.Undos.{state_after}
 
 -- the city has these sources, or memory was wanting
 abbrev pub Sets : Sources → Result (Unit {0}) EditRefused → CityState → Type 0
@@ -35,3 +38,13 @@ DumpsAreSetBack =
     (s : Sources) (budget : ℕ) (text : List ℕ) → IsSpelledCity s → AreSound s → IsTrue (is_within budget s)
     → dump_of s ≡ Ok text
     → IsSetBack s budget text
+
+-- whatever lines came, by `put`, by blocks or by undos, lines say each attribute, rule and lot of the sources
+abbrev pub StatesAreSpelled : Type 0
+StatesAreSpelled = (decimals : ℕ) (lines : List Line) → IsSpelledCity (state_after decimals lines).sources
+
+-- so each dump of a script is set back, in every city of its budget
+abbrev pub ScriptsAreSetBack : Type 0
+ScriptsAreSetBack =
+    (decimals : ℕ) (lines : List Line) (text : List ℕ)
+    → let s = state_after decimals lines in dump_of s.sources ≡ Ok text → IsSetBack s.sources (budget_of s.version) text

@@ -1,7 +1,10 @@
 //! What holds of lines and of the states that they come to, by the definition of the output.
 ghost use Rattle.std.specs.Prelude.{List};
 ghost use Rattle.cga_form.specs.Lines.{Line};
-ghost use Rattle.cga_laws.specs.Dumped.{DumpsAreSetBack};
+ghost use Rattle.cga_laws.specs.Dumped.{DumpsAreSetBack, ScriptsAreSetBack, StatesAreSpelled};
+ghost use Rattle.cga_laws.specs.Refusing.{RefusalsChangeNothing};
+ghost use Rattle.cga_laws.specs.Restoring.{RedosRestore, UndosRestore};
+ghost use Rattle.cga_laws.specs.Staying.{OutputsStay, RepliesBeginOutput, RepliesStay};
 ghost use Rattle.cga_laws.specs.Undos.{StatesAreWithin, UndosGoThrough, RedosGoThrough};
 ghost use Rattle.cga_parser.specs.BlockTells.{GrammarTells};
 ghost use Rattle.cga_script.specs.CityLines.{CityTells};
@@ -43,3 +46,34 @@ pub fn dumps_are_set_back()
     dump_reads_back();
     whole_sets_them();
 }
+
+/// Whatever lines came, by `put`, by blocks or by undos, lines say each part of the sources. So what is read of each dump of
+/// a script, set as a whole in any city of its budget, gives the sources back, unless memory is wanting.
+pub fn every_dump_is_set_back()
+    ensures spelled { StatesAreSpelled }
+    ensures back { ScriptsAreSetBack }
+{
+    dump_reads_back();
+    dumps_are_set_back();
+}
+
+/// A refused command, a line or a block up to its `end`, changes nothing: all other lines are replied to as without it. Only
+/// where it is the first line that isn't blank, a `version 2` behind it comes too late.
+pub fn refusals_change_nothing()
+    ensures { RefusalsChangeNothing }
+{}
+
+/// What was told stays told. Wherever a script is cut, the replies to the lines before the cut begin its output; behind an LF
+/// and outside of a block they are the output of what stands before the cut.
+pub fn what_was_told_stays()
+    ensures replies { RepliesStay }
+    ensures output { RepliesBeginOutput }
+    ensures whole { OutputsStay }
+{}
+
+/// Behind an accepted edit or `redo`, an `undo` gives the sources and every report but `stats` as they were before; behind an
+/// accepted `undo`, so does a `redo`. Nothing else is otherwise either, but what can be undone and redone.
+pub fn undo_restores()
+    ensures undo { UndosRestore }
+    ensures redo { RedosRestore }
+{}

@@ -1,5 +1,6 @@
 //! What follows from what a script is replied to: a line is taken for the one thing that it tells, every state that
-//! lines come to is within the budget, an undo is never refused, a dump read as a city gives its sources back.
+//! lines come to is within the budget, an undo is never refused and restores, a refused command changes nothing, what was
+//! told stays told, a dump read as a city gives its sources back.
 //!
 //! It must not know how bytes are read and written or what keeps a city. The crate holds definitions and laws alone,
 //! over lines and sources.
@@ -11,6 +12,7 @@
 mod laws;
 
 pub use laws::{
-    blocks_are_told, commands_are_told, dumps_are_set_back, states_are_within_the_budget,
-    undo_is_never_refused,
+    blocks_are_told, commands_are_told, dumps_are_set_back, every_dump_is_set_back,
+    refusals_change_nothing, states_are_within_the_budget, undo_is_never_refused, undo_restores,
+    what_was_told_stays,
 };
