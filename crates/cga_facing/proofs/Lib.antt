@@ -1,0 +1,5 @@
+mod Products
+mod Sides
+mod Spots
+mod Fits
+mod Facing
