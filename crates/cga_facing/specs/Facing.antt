@@ -5,10 +5,13 @@ use Rattle.cga_fraction.specs.Rat.{Rat, zero_rat}
 use Rattle.cga_fraction.specs.Arithmetic.{minus, times}
 use Rattle.cga_fraction.specs.Order.{rat_lt}
 use Rattle.cga_word.specs.declared.primitive.Primitive.{Primitive}
+use Rattle.cga_frame.specs.Axes.{IsFrame}
+use Rattle.cga_frame.specs.Scope.{Scope}
 use Rattle.cga_frame.specs.declared.point.Point.{Point}
 use Rattle.cga_solid.specs.Corners.{corners_of, point}
 use Rattle.cga_solid.specs.Faces.{edges_of, faces_of}
-use Rattle.cga_solid.specs.Solids.{form_of, lacks_size}
+use Rattle.cga_solid.specs.Solids.{form_of, lacks_size, mesh_of}
+use Rattle.cga_solid.specs.declared.solid_mesh.SolidMesh.{SolidMesh}
 
 -- the way from a to b
 abbrev pub way : Point → Point → Point
@@ -51,3 +54,10 @@ SolidsFaceOut =
     (solid : Primitive) (size : Point) → lacks_size solid size ≡ false
     → (corners : List Point) → corners_of (form_of solid size) size ≡ Ok corners
     → (face : List ℕ) → Contains (faces_of (form_of solid size)) face → LooksOut corners face
+
+-- and in the world, of each mesh that there is in a scope whose frame is right-handed
+abbrev pub MeshesFaceOut : Type 0
+MeshesFaceOut =
+    (solid : Primitive) (scope : Scope) → IsFrame scope.frame
+    → (mesh : SolidMesh) → mesh_of solid scope ≡ Ok mesh
+    → (face : List ℕ) → Contains mesh.faces face → LooksOut mesh.vertices face
