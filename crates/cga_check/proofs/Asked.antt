@@ -51,7 +51,7 @@ module _ (p : Rule → Bool) where
   any_by_id symbol es = any_all [] (rules_of es symbol) ∙ any_of symbol es
 
   -- a symbol without a first rule has none
-  none_passes : (symbol : List ℕ) (es : List Entry) → first_entry es symbol ≡ None
+  pub none_passes : (symbol : List ℕ) (es : List Entry) → first_entry es symbol ≡ None
       → list_any (λ (e : Entry). is_of symbol e && p e.rule) es ≡ false
   unfolding first_entry
   none_passes symbol [] h = refl

@@ -5,5 +5,6 @@ mod Firsts
 mod Layers
 mod Placed
 mod Sifted
+mod Telling
 mod Valid
 pub mod Door

@@ -1,6 +1,7 @@
 pub mod Faults
 pub mod Groups
 pub mod Probabilities
+pub mod Said
 pub mod Sifting
 pub mod Uses
 pub mod Validity

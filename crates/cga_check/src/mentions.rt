@@ -62,7 +62,7 @@ fn names(rule: &Rule, name: Name) -> bool
 }
 
 #[tactic(auto, using(crate::proofs::Sifted::sifted_any))]
-fn asks(rule: &Rule, target: Target) -> bool
+pub(crate) fn asks(rule: &Rule, target: Target) -> bool
     ensures { result ≡ spec.asks target rule.now }
 {
     sift_rule(rule, &Asking { target }).is_err()

@@ -1,11 +1,9 @@
-ghost use Rattle.std.specs.Prelude.{◌≡◌, ◌||◌, unwrap_or};
-ghost use Rattle.cga_check.specs.Groups.{group, group_asks, priority_of};
+ghost use Rattle.std.specs.Prelude.{◌≡◌};
 ghost use Rattle.cga_forest.specs.Placing.{setting};
-ghost use Rattle.cga_word.specs.declared.target.Target.TheVariants.{Noparent, Active};
 
-use cga_check::{symbol_asks, symbol_priority};
+use cga_check::said_of;
 use cga_rule::Grammar;
-use cga_word::{Name, Target};
+use cga_word::Name;
 
 /// What the rules of a symbol say of its nodes.
 #[derive(Clone, Copy, Debug)]
@@ -20,20 +18,9 @@ pub struct Setting {
 pub fn setting_of(grammar: &Grammar, symbol: Name) -> Setting
     ensures { result ≡ setting grammar.now symbol }
 {
+    let said = said_of(grammar, symbol);
     Setting {
-        priority: priority_of(grammar, symbol),
-        asks: asks_any(grammar, symbol),
+        priority: said.priority,
+        asks: said.noparent || said.active,
     }
-}
-
-fn priority_of(grammar: &Grammar, symbol: Name) -> u16
-    ensures { result ≡ unwrap_or (priority_of grammar.now symbol) 0 }
-{
-    symbol_priority(grammar, symbol).unwrap_or(0)
-}
-
-fn asks_any(grammar: &Grammar, symbol: Name) -> bool
-    ensures { result ≡ (group_asks (group grammar.now symbol) Noparent || group_asks (group grammar.now symbol) Active) }
-{
-    symbol_asks(grammar, symbol, Target::Noparent) || symbol_asks(grammar, symbol, Target::Active)
 }

@@ -136,6 +136,25 @@ visit_counted v by left node a b c hull area t h eh ea et f p q =
     let s : ◌≡◌ {A = ℕ} (cond (touches (v.hull node) (v.own by)) all 0) all = ap (λ x. cond x all 0) (touched v by node hull area t true eh ea et f) in
     omega (arith, p, q, s, reads_more v by left node h)
 
+-- where the node's own answer is full, so is that of all from it on
+pub visit_full : (v : TreeView) (by : ℕ) (target : Target) (left node : ℕ) (first : Answer) → 0 < left
+    → first ≡ answer_over v by target (node ∷ []) → first ≡ Full → first ≡ answer_over v by target (below v left node)
+visit_full v by target left node first h p full =
+    let rest = answer_over v by target (flat_map (below v (left - 1)) (v.children node)) in
+    full ∙ sym (ap (λ t. join t rest) full) ∙ visit_found v by target left node first rest h p refl
+
+pub visit_fewer : (v : TreeView) (by left node a b : ℕ) (hull area : Box) (t : Bool) → 0 < left → hull ≡ v.hull node
+    → area ≡ v.own by → t ≡ touches hull area → t ≡ true → b ≤ a + cond (nat_eq node by) 0 1 → b ≤ a + reads v by left node
+visit_fewer v by left node a b hull area t h eh ea et f p =
+    visit_counted v by left node a b b hull area t h eh ea et f p (omega arith)
+
+-- what is full stays so, whatever else is joined
+pub full_stays : (found rest whole : Answer) → found ≡ Full → whole ≡ join found rest → found ≡ whole
+full_stays found rest whole full is = full ∙ sym (is ∙ ap (λ t. join t rest) full)
+
+pub full_joined : (before a b : Answer) → before ≡ Full → join before a ≡ join before b
+full_joined before a b full = ap (λ t. join t a) full ∙ sym (ap (λ t. join t b) full)
+
 pub step_found : (v : TreeView) (by : ℕ) (target : Target) (m : ℕ) (cs : List ℕ) (k c : ℕ) (found one whole : Answer)
     → slice_get cs k ≡ Some c → one ≡ answer_over v by target (below v m c)
     → whole ≡ join found (answer_over v by target (flat_map (below v m) (drop k cs)))

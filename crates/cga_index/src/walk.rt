@@ -1,6 +1,7 @@
-ghost use Rattle.std.specs.Prelude.{◌≡◌, ◌≤◌, ◌+◌, ◌*◌, [], ◌∷◌, length, drop, cond, nat_eq};
+ghost use Rattle.std.specs.Prelude.{◌≡◌, ◌≤◌, ◌+◌, ◌*◌, [], ◌∷◌, length, drop, cond, nat_eq, true};
 ghost use Rattle.std.specs.List.{flat_map};
 ghost use Rattle.cga_index.specs.Occlusion.{answer_of, join};
+ghost use Rattle.cga_word.specs.declared.answer.Answer.TheVariants.{Full};
 ghost use Rattle.cga_index.specs.Tree.{IsHullTree, InTree, below, all_nodes, near, counts_for, asked, answer_over, reads, total};
 
 use crate::hull_tree::HullTree;
@@ -24,6 +25,13 @@ fn joined(first: Answer, second: Answer) -> Answer
         },
         Answer::Nothing => second,
     }
+}
+
+/// Whether nothing that is found later can change the answer.
+fn is_full(answer: Answer) -> bool
+    ensures { result ≡ true → answer ≡ Full }
+{
+    matches!(answer, Answer::Full)
 }
 
 /// Whether a node of this standing is asked about.
@@ -86,8 +94,8 @@ fn look<H: HullTree, T: Ledger>(
     compare(&own, area)
 }
 
-/// What a node and those below it answer: nothing where its hull is apart, before the node itself is looked at. `left`
-/// bounds the levels from the node on.
+/// What a node and those below it answer: nothing where its hull is apart, before the node itself is looked at. Nobody
+/// is looked at behind a full answer. `left` bounds the levels from the node on.
 #[cycle(visit)]
 fn visit<H: HullTree, T: Ledger>(
     tree: &H,
@@ -110,6 +118,9 @@ fn visit<H: HullTree, T: Ledger>(
         return Answer::Nothing;
     }
     let first = look(tree, node, by, target, area, tests);
+    if is_full(first) {
+        return first;
+    }
     let rest = visit_children(tree, node, left - 1, by, target, area, tests);
     joined(first, rest)
 }
@@ -138,6 +149,9 @@ fn visit_children<H: HullTree, T: Ledger>(
         let child = child_of(tree, node, place);
         let inner = visit(tree, child, left, by, target, area, tests);
         found = joined(found, inner);
+        if is_full(found) {
+            return found;
+        }
     }
     found
 }
@@ -159,6 +173,9 @@ fn visit_block<H: HullTree, T: Ledger>(
     ensures found { join before (answer_over (H.view tree.now) by target (flat_map (below (H.view tree.now) 257) (drop (16 * block) (H.view tree.now).roots))) ≡ join result (answer_over (H.view tree.now) by target (flat_map (below (H.view tree.now) 257) (drop (16 * (block + 1)) (H.view tree.now).roots))) }
     ensures counted { tests.new + total (reads (H.view tree.now) by 257) (drop (16 * (block + 1)) (H.view tree.now).roots) ≤ tests.old + total (reads (H.view tree.now) by 257) (drop (16 * block) (H.view tree.now).roots) }
 {
+    if is_full(before) {
+        return before;
+    }
     if !tree.block_touches(block, area) {
         return before;
     }
@@ -169,6 +186,9 @@ fn visit_block<H: HullTree, T: Ledger>(
         let root = root_of(tree, place);
         let inner = visit(tree, root, 257, by, target, area, tests);
         found = joined(found, inner);
+        if is_full(found) {
+            return found;
+        }
     }
     found
 }
@@ -190,6 +210,9 @@ fn visit_group<H: HullTree, T: Ledger>(
     ensures found { join before (answer_over (H.view tree.now) by target (flat_map (below (H.view tree.now) 257) (drop (256 * group) (H.view tree.now).roots))) ≡ join result (answer_over (H.view tree.now) by target (flat_map (below (H.view tree.now) 257) (drop (256 * (group + 1)) (H.view tree.now).roots))) }
     ensures counted { tests.new + total (reads (H.view tree.now) by 257) (drop (256 * (group + 1)) (H.view tree.now).roots) ≤ tests.old + total (reads (H.view tree.now) by 257) (drop (256 * group) (H.view tree.now).roots) }
 {
+    if is_full(before) {
+        return before;
+    }
     if !tree.group_touches(group, area) {
         return before;
     }

@@ -1,6 +1,7 @@
 -- Where two grammars agree about a symbol.
 use Rattle.std.specs.Prelude.{◌≡◌, ℕ, List, map, filter, Bool, true, ◌&&◌, nat_eq, Option}
 use Rattle.cga_rule.specs.declared.rule.Rule.{Rule}
+use Rattle.cga_rule.specs.declared.grammar.Attribute.{Attribute}
 use Rattle.cga_rule.specs.declared.grammar.Entry.{Entry}
 use Rattle.cga_rule.specs.declared.grammar.Grammar.{Grammar}
 use Rattle.cga_rule.specs.declared.grammar.Group.{Group}
@@ -22,6 +23,15 @@ AgreesAt symbol old new e = is_of symbol e ≡ true → rules_with symbol e.rule
 -- the name has the same value in both, if the group mentions it
 abbrev pub SameValue : Option Group → Grammar → Grammar → List ℕ → Type 0
 SameValue rules old new name = group_names rules name ≡ true → attribute_of old.attributes name ≡ attribute_of new.attributes name
+
+-- both lists give each name that the group mentions the same value, or none
+abbrev pub AgreeOn : Option Group → List Attribute → List Attribute → Type 0
+AgreeOn rules old new = (name : List ℕ) → group_names rules name ≡ true → attribute_of old name ≡ attribute_of new name
+
+-- two attributes of one name, with one value if the group mentions it
+pub record IsAlike (rules : Option Group) (a b : Attribute) : Type 0 where
+  pub name : a.name ≡ b.name
+  pub value : group_names rules a.name ≡ true → a.value ≡ b.value
 
 -- both have the same values of the attributes that the group mentions
 abbrev pub SameValues : Option Group → Grammar → Grammar → Type 0

@@ -2,7 +2,7 @@
 ghost use Rattle.std.specs.Prelude.{◌≡◌, ◌↔◌, IsTrue, All};
 ghost use Rattle.cga_check.specs.Groups.{group};
 ghost use Rattle.cga_expr.specs.Names.{attribute_of};
-ghost use Rattle.cga_same.specs.Agreement.{IsSameSetting, SameValue, SameValues};
+ghost use Rattle.cga_same.specs.Agreement.{AgreeOn, IsAlike, IsSameSetting, SameValue, SameValues};
 
 use crate::group::same_group;
 use cga_check::symbol_names;
@@ -18,8 +18,41 @@ pub fn same_setting(old: &Grammar, new: &Grammar, symbol: Name) -> bool
     same_group(old, new, symbol) && same_values(old, new, symbol)
 }
 
-// Whether the attributes that the new group mentions have the same values in both grammars, or none in both.
+// Whether the attributes that the new group mentions have the same values in both grammars, or none in both. An edit of
+// a value leaves the names in their order, and one walk of both lists answers.
 fn same_values(old: &Grammar, new: &Grammar, symbol: Name) -> bool
+    ensures { IsTrue result ↔ SameValues (group new.now symbol) old.now new.now }
+{
+    same_in_order(
+        old.attributes.as_slice(),
+        new.attributes.as_slice(),
+        new,
+        symbol,
+    ) || same_by_name(old, new, symbol)
+}
+
+// Whether both lists have the same names in the same order, and the group mentions none whose values differ.
+fn same_in_order(old: &[Attribute], new: &[Attribute], grammar: &Grammar, symbol: Name) -> bool
+    ensures { IsTrue result → AgreeOn (group grammar.now symbol) old.now new.now }
+{
+    let Some((a, old_rest)) = old.split_first() else {
+        return new.is_empty();
+    };
+    let Some((b, new_rest)) = new.split_first() else {
+        return false;
+    };
+    is_alike(a, b, grammar, symbol) && same_in_order(old_rest, new_rest, grammar, symbol)
+}
+
+// Whether both have one name, and one value if the group mentions it.
+fn is_alike(a: &Attribute, b: &Attribute, grammar: &Grammar, symbol: Name) -> bool
+    ensures { IsTrue result → IsAlike (group grammar.now symbol) a.now b.now }
+{
+    a.name == b.name && (a.value == b.value || !symbol_names(grammar, symbol, a.name))
+}
+
+// As `same_values`, for names in any order. Each name is looked up in both lists.
+fn same_by_name(old: &Grammar, new: &Grammar, symbol: Name) -> bool
     ensures { IsTrue result ↔ SameValues (group new.now symbol) old.now new.now }
 {
     same_among(old.attributes.as_slice(), old, new, symbol)

@@ -11,3 +11,8 @@ pub returns-then-not-group_touches-clause-counted : goal.returns-then-not-group_
 returns-then-not-group_touches-clause-counted g c =
     let v = g.H.HullTree.view c.args.tree.now in
     run_counted (reads v c.args.by 257) v.roots (256 * c.args.group) 256 (256 * (c.args.group + 1)) _ (omega arith)
+
+pub returns-then-is_full-clause-counted : goal.returns-then-is_full-clause-counted
+returns-then-is_full-clause-counted g c =
+    let v = g.H.HullTree.view c.args.tree.now in
+    run_counted (reads v c.args.by 257) v.roots (256 * c.args.group) 256 (256 * (c.args.group + 1)) _ (omega arith)

@@ -1,6 +1,6 @@
 use Rattle.cga_check.specs.Groups.{group}
 use Rattle.cga_same.proofs.Values.{values_decided}
-use Rattle.cga_same.proofs.setting.same_values.Goals as goal
+use Rattle.cga_same.proofs.setting.same_by_name.Goals as goal
 
 pub returns-then-same_among : goal.returns-then-same_among
 returns-then-same_among c =
