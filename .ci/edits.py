@@ -14,7 +14,7 @@ NAME = re.compile(r"[a-z0-9_]+\.edit")
 SIGN = re.compile(r"#\s*\[[^]]*\btest\b")
 TESTED = re.compile(r"#\[cfg\(test\)\]\n(?:pub )?mod (\w+);")
 # a law's body is {}, or cites other laws
-CITES = re.compile(r"^\{\n(?:    \w+\(\);\n)+\}$", re.M)
+CITES = re.compile(r"^\{\n(?:    \w+(?:::<[\w, ]+>)?\(\);\n)+\}$", re.M)
 # as rt fmt lays it out, the body of a function that does something begins in one of these two ways
 BODY = re.compile(r"^\s*(?:(?:pub(?:\(\w+\))? )?(?:const )?fn .*\{|\{)$", re.M)
 

@@ -19,6 +19,7 @@ In the order of the statement:
     values      values and conditions
     run         the steps in order, their text, and what a block of them is judged to be
     touched     which shapes an edit touches
+    jobs        jobs that derive lots round their own, and whether they are the town
     reports     instances, faults, counts and their texts
 
 and below them the leaves: sources, rule, check, fraction, frame, split, comp, solid, word, lexer, form, parser, command,

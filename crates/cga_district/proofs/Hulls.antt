@@ -1,5 +1,5 @@
 -- Lots whose boxes don't touch have no shapes that meet.
-use Rattle.std.proofs.Common.{◌≡◌, ℕ, List, [], ◌∷◌, Bool, true, false, refl, sym, ap, ◌∙◌, subst}
+use Rattle.std.proofs.Common.{◌≡◌, ℕ, List, [], ◌∷◌, true, false, sym, ap, ◌∙◌, subst}
 use Rattle.cga_word.specs.declared.primitive.Primitive.{Primitive}
 use Rattle.cga_frame.specs.Box.{Box, box_of, holds, is_box, meets, touches}
 use Rattle.cga_frame.specs.Meeting.{Touches}
@@ -37,7 +37,7 @@ module _ (h g : Box) (s t : Scope) (in_h : holds h (box_of s) ≡ true) (in_g : 
   far_first : touches h g ≡ false → meets (box_of s) (box_of t) ≡ false
   far_first off = no_point (meets (box_of s) (box_of t)) (λ e. let on = points_touch h g (shared e) in let no : true ≡ false = sym on ∙ off in absurd (cc))
 
-  far_second : touches g h ≡ false → meets (box_of s) (box_of t) ≡ false
+  pub far_second : touches g h ≡ false → meets (box_of s) (box_of t) ≡ false
   far_second off = no_point (meets (box_of s) (box_of t)) (λ e. let p = shared e in let on = points_touch g h (record { point = p.point; first = p.second; second = p.first }) in let no : true ≡ false = sym on ∙ off in absurd (cc))
 
 -- ---- two parts

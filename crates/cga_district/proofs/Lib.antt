@@ -1,5 +1,12 @@
+mod Lists
 mod Districts
+mod Halos
+mod Turns
+mod Alike
 mod Towns
 mod Parts
+mod Jobs
 mod Hulls
+mod Steps
+mod Told
 pub mod Door

@@ -11,15 +11,8 @@ use Rattle.cga_expand.specs.Children.{Member}
 use Rattle.cga_expand.specs.Derivation.{derivation_of}
 use Rattle.cga_district.specs.Towns.{with_lots, AreLots, NoneAsks, MeetsNone}
 use Rattle.cga_district.specs.Parts.{joined, total, ArePartsOf, AreDerived, MeetsNoOther, AllMeetNone, PartsAreApart}
+use Rattle.cga_district.proofs.Lists.{Among-left, Among-right}
 use Rattle.cga_district.proofs.Towns.{differ_right, towns}
-
-pub Among-left : (xs ys : List Lot) (x : Lot) → Among x xs → Among x (xs ++ ys)
-Among-left [] ys x h = absurd h
-Among-left (z ∷ xs) ys x h = elim h [ inl e ↦ inl e | inr r ↦ inr (Among-left xs ys x r) ]
-
-pub Among-right : (xs ys : List Lot) (x : Lot) → Among x ys → Among x (xs ++ ys)
-Among-right [] ys x h = h
-Among-right (z ∷ xs) ys x h = inr (Among-right xs ys x h)
 
 -- a town without lots
 empty : (lots : List Lot) → ((x : Lot) → Among x lots → ⊥) → lots ≡ []

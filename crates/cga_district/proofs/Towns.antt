@@ -1,6 +1,5 @@
 -- Districts of a town are derived apart.
-use Rattle.std.proofs.Common.{◌≡◌, ℕ, zero, suc, ◌+◌, List, [], ◌∷◌, ◌++◌, length, Bool, true, false, refl, sym, ap, ◌∙◌, subst, ◌⊎◌, inl, inr, Result, Ok, Err, Some, arith, not, ◌&&◌, ◌||◌}
-use Rattle.std.specs.Prelude.{slice_get}
+use Rattle.std.proofs.Common.{◌≡◌, ◌+◌, List, [], ◌∷◌, ◌++◌, length, Bool, true, false, refl, sym, ap, ◌∙◌, subst, ◌⊎◌, inl, inr, Result, Ok, Err, arith, not, ◌&&◌, ◌||◌}
 use Rattle.cga_word.specs.declared.target.Target.{Target}
 use Rattle.cga_word.specs.declared.target.Target.TheVariants.{Noparent, Active}
 use Rattle.cga_frame.specs.Box.{box_of, meets}
@@ -19,6 +18,7 @@ use Rattle.cga_expand.specs.Derivation.{derivation_of, NamesDiffer, roots_of, ma
 use Rattle.cga_district.specs.Districts.{AreParts, SeesNone}
 use Rattle.cga_district.specs.Towns.{with_lots, AreLots, NoneAsks, MeetsNone, LotsAreApart}
 use Rattle.cga_district.proofs.Districts.{districts}
+use Rattle.cga_district.proofs.Lists.{get-left, get-right}
 use Rattle.std.proofs.lemmas.Bool.{or_cases as either_asks}
 
 -- ---- roots and their lots
@@ -41,7 +41,7 @@ behind : (r : Result Shape ScopeFault) (ns : List Shape) (n : Shape) → Among n
 behind (Ok s) ns n h = inr h
 behind (Err f) ns n h = h
 
-root_of_lot : (lots : List Lot) (x : Lot) (n : Shape) → Among x lots → root_of x ≡ Ok n → Among n (roots_of lots)
+pub root_of_lot : (lots : List Lot) (x : Lot) (n : Shape) → Among x lots → root_of x ≡ Ok n → Among n (roots_of lots)
 root_of_lot [] x n h e = absurd h
 root_of_lot (y ∷ lots) x n h e = elim h [
   | inl q ↦ subst (λ r. Among n (made r ++ roots_of lots)) (sym (ap root_of q ∙ e)) (inl refl)
@@ -49,17 +49,6 @@ root_of_lot (y ∷ lots) x n h e = elim h [
 ]
 
 -- ---- names
-
-get-left : (xs ys : List Lot) (i : ℕ) (x : Lot) → slice_get xs i ≡ Some x → slice_get (xs ++ ys) i ≡ Some x
-get-left [] ys i x e = cc
-get-left (z ∷ xs) ys zero x e = e
-get-left (z ∷ xs) ys (suc i) x e = get-left xs ys i x e
-
-get-right : (xs ys : List Lot) (i j : ℕ) (y : Lot) → slice_get ys j ≡ Some y → i ≡ length xs + j
-    → slice_get (xs ++ ys) i ≡ Some y
-get-right [] ys i j y e q = let same : i ≡ j = omega (arith, q) in ap (slice_get ys) same ∙ e
-get-right (z ∷ xs) ys zero j y e q = absurd (omega (arith, q))
-get-right (z ∷ xs) ys (suc i) j y e q = get-right xs ys i j y e (omega (arith, q))
 
 pub differ_left : (xs ys : List Lot) → NamesDiffer (xs ++ ys) → NamesDiffer xs
 differ_left xs ys differ i j a b e f = differ i j a b (get-left xs ys i a e) (get-left xs ys j b f)
