@@ -25,7 +25,8 @@ last_found : {X : Type 0} (p : X → Bool) (xs : List X) (x : X) (b : Bool) → 
 last_found p [] x b is none = ap (λ c. cond c (Some x) None) is
 last_found p (y ∷ xs) x b is none = by (p y) none (last_found p xs x b is)
   where
-    by : (c : Bool) → cond c (Some y) (find p xs) ≡ None → (find p xs ≡ None → find p (xs ++ x ∷ []) ≡ cond b (Some x) None)
+    by : (c : Bool) → cond c (Some y) (find p xs) ≡ None
+        → (find p xs ≡ None → find p (xs ++ x ∷ []) ≡ cond b (Some x) None)
         → cond c (Some y) (find p (xs ++ x ∷ [])) ≡ cond b (Some x) None
     by true h more = absurd (cc)
     by false h more = more h
@@ -49,14 +50,16 @@ or_none true = refl
 or_none false = refl
 
 any_last : (symbol : List ℕ) (target : Target) (xs : List Entry) (x : Entry) (b : Bool) → is_of symbol x ≡ b
-    → list_any (is_asking symbol target) (xs ++ x ∷ []) ≡ (list_any (is_asking symbol target) xs || (b && asks target x.rule))
+    → list_any (is_asking symbol target) (xs ++ x ∷ [])
+    ≡ (list_any (is_asking symbol target) xs || (b && asks target x.rule))
 any_last symbol target xs x b is =
     list_any-append (is_asking symbol target) xs (x ∷ [])
     ∙ (or_last (list_any (is_asking symbol target) xs) (is_of symbol x && asks target x.rule)
     ∙ ap (λ c. list_any (is_asking symbol target) xs || (c && asks target x.rule)) is)
 
 -- an entry of another symbol says nothing
-pub told_other : (symbol : List ℕ) (xs : List Entry) (x : Entry) → is_of symbol x ≡ false → said_among symbol (xs ++ x ∷ []) ≡ said_among symbol xs
+pub told_other : (symbol : List ℕ) (xs : List Entry) (x : Entry) → is_of symbol x ≡ false
+    → said_among symbol (xs ++ x ∷ []) ≡ said_among symbol xs
 unfolding said_among first_entry
 told_other symbol xs x is = by (find (is_of symbol) xs) refl
   where
@@ -64,7 +67,8 @@ told_other symbol xs x is = by (find (is_of symbol) xs) refl
     same target =
         any_last symbol target xs x false is ∙ or_none (list_any (is_asking symbol target) xs)
     by : (first : Option Entry) → find (is_of symbol) xs ≡ first
-        → option_map (in_all (xs ++ x ∷ []) symbol) (find (is_of symbol) (xs ++ x ∷ [])) ≡ option_map (in_all xs symbol) (find (is_of symbol) xs)
+        → option_map (in_all (xs ++ x ∷ []) symbol) (find (is_of symbol) (xs ++ x ∷ []))
+        ≡ option_map (in_all xs symbol) (find (is_of symbol) xs)
     by None h = ap (option_map (in_all (xs ++ x ∷ []) symbol)) (last_found (is_of symbol) xs x false is h) ∙ sym (ap (option_map (in_all xs symbol)) h)
     by (Some e) h =
         ap (option_map (in_all (xs ++ x ∷ []) symbol)) (still_found (is_of symbol) xs x e h)
@@ -77,10 +81,12 @@ pub told_own : (symbol : List ℕ) (xs : List Entry) (x : Entry) → is_of symbo
 unfolding said_among first_entry
 told_own symbol xs x is = by (find (is_of symbol) xs) refl
   where
-    more : (target : Target) → list_any (is_asking symbol target) (xs ++ x ∷ []) ≡ (list_any (is_asking symbol target) xs || asks target x.rule)
+    more : (target : Target) → list_any (is_asking symbol target) (xs ++ x ∷ [])
+        ≡ (list_any (is_asking symbol target) xs || asks target x.rule)
     more target =
         any_last symbol target xs x true is
-    alone : (target : Target) → find (is_of symbol) xs ≡ None → list_any (is_asking symbol target) (xs ++ x ∷ []) ≡ asks target x.rule
+    alone : (target : Target) → find (is_of symbol) xs ≡ None
+        → list_any (is_asking symbol target) (xs ++ x ∷ []) ≡ asks target x.rule
     alone target h =
         more target ∙ ap (λ b. b || asks target x.rule) (none_passes (asks target) symbol xs h)
     by : (first : Option Entry) → find (is_of symbol) xs ≡ first
@@ -97,13 +103,15 @@ told_own symbol xs x is = by (find (is_of symbol) xs) refl
 
 -- ---- the walk
 
-up_to : (es : List Entry) (i : ℕ) (x : Entry) → i < length es → x ≡ get_or es i x → take (i + 1) es ≡ take i es ++ x ∷ []
+up_to : (es : List Entry) (i : ℕ) (x : Entry)
+    → i < length es → x ≡ get_or es i x → take (i + 1) es ≡ take i es ++ x ∷ []
 up_to es i x within at =
     let on : i + 1 ≡ suc i = omega arith in
     ap (λ n. take n es) on ∙ (take-suc es i x within ∙ ap (λ y. take i es ++ y ∷ []) (sym at))
 
 pub walk_own : (symbol : List ℕ) (es : List Entry) (i : ℕ) (x : Entry) (before : Option Said) (after : Said)
-    → i < length es → x ≡ get_or es i x → is_of symbol x ≡ true → before ≡ said_among symbol (take i es) → after ≡ with_rule before x
+    → i < length es → x ≡ get_or es i x → is_of symbol x ≡ true → before ≡ said_among symbol (take i es)
+    → after ≡ with_rule before x
     → Some after ≡ said_among symbol (take (i + 1) es)
 walk_own symbol es i x before after within at is kept made =
     ap Some (made ∙ ap (λ o. with_rule o x) kept) ∙ sym (ap (said_among symbol) (up_to es i x within at) ∙ told_own symbol (take i es) x is)
@@ -135,7 +143,8 @@ said_is g symbol = by (first_entry g.rules symbol) refl
     none target h =
         sym (none_passes (asks target) symbol g.rules h) ∙ asked target
     by : (first : Option Entry) → first_entry g.rules symbol ≡ first
-        → unwrap_or (option_map (in_all g.rules symbol) (first_entry g.rules symbol)) (record { priority = 0; noparent = false; active = false })
+        → unwrap_or (option_map (in_all g.rules symbol) (first_entry g.rules symbol))
+        (record { priority = 0; noparent = false; active = false })
         ≡ record { priority = unwrap_or (priority_in (first_entry g.rules symbol)) 0; noparent = group_asks (group g symbol) Noparent; active = group_asks (group g symbol) Active }
     by None h =
         ap (λ o. unwrap_or (option_map (in_all g.rules symbol) o) (record { priority = 0; noparent = false; active = false })) h

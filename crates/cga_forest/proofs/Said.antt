@@ -18,6 +18,7 @@ by g symbol None = refl
 by g symbol (Some e) = refl
 
 pub setting_said : (g : Grammar) (symbol : List ℕ)
-    → record { priority = (said g symbol).priority; asks = (said g symbol).noparent || (said g symbol).active } ≡ setting g symbol
+    → record { priority = (said g symbol).priority; asks = (said g symbol).noparent || (said g symbol).active }
+    ≡ setting g symbol
 unfolding setting group priority_of said
 setting_said g symbol = by g symbol (first_entry g.rules symbol)

@@ -144,7 +144,8 @@ visit_full v by target left node first h p full =
     full ∙ sym (ap (λ t. join t rest) full) ∙ visit_found v by target left node first rest h p refl
 
 pub visit_fewer : (v : TreeView) (by left node a b : ℕ) (hull area : Box) (t : Bool) → 0 < left → hull ≡ v.hull node
-    → area ≡ v.own by → t ≡ touches hull area → t ≡ true → b ≤ a + cond (nat_eq node by) 0 1 → b ≤ a + reads v by left node
+    → area ≡ v.own by → t ≡ touches hull area → t ≡ true → b ≤ a + cond (nat_eq node by) 0 1
+    → b ≤ a + reads v by left node
 visit_fewer v by left node a b hull area t h eh ea et f p =
     visit_counted v by left node a b b hull area t h eh ea et f p (omega arith)
 

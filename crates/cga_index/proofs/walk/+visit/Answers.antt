@@ -34,22 +34,28 @@ visit_children-returns-clause-found g t c =
 pub visit-returns-then-is_full-clause-found : goal.visit-returns-then-is_full-clause-found
 visit-returns-then-is_full-clause-found g t c =
     let low = c.requires.laws.shallow c.args.node c.requires.node in
-    visit_full (g.H.HullTree.view c.args.tree.now) c.args.by c.args.target c.args.left c.args.node c.look-first.result (omega (arith, low, c.requires.left)) c.look-first.ensures.found (c.is_full.ensures c.if-is_full.true)
+    visit_full (g.H.HullTree.view c.args.tree.now) c.args.by c.args.target c.args.left c.args.node c.look-first.result
+    (omega (arith, low, c.requires.left)) c.look-first.ensures.found (c.is_full.ensures c.if-is_full.true)
 
 pub visit-returns-then-is_full-clause-counted : goal.visit-returns-then-is_full-clause-counted
 visit-returns-then-is_full-clause-counted g t c =
     let low = c.requires.laws.shallow c.args.node c.requires.node in
-    visit_fewer (g.H.HullTree.view c.args.tree.now) c.args.by c.args.left c.args.node _ _ _ c.args.area.now c.touches.result (omega (arith, low, c.requires.left)) refl c.requires.area c.touches.ensures c.if-not-touches.false c.look-first.ensures.counted
+    visit_fewer (g.H.HullTree.view c.args.tree.now) c.args.by c.args.left c.args.node _ _ _ c.args.area.now c.touches.result
+    (omega (arith, low, c.requires.left)) refl c.requires.area c.touches.ensures c.if-not-touches.false c.look-first.ensures.counted
 
 pub visit_children-returns-then-is_full-clause-found : goal.visit_children-returns-then-is_full-clause-found
 visit_children-returns-then-is_full-clause-found g t c =
     let v = g.H.HullTree.view c.args.tree.now in
     let inv = c.loop-place.invariant in
-    full_stays c.joined-found.result (answer_over v c.args.by c.args.target (flat_map (below v c.args.left) (drop (c.loop-place.place + 1) (v.children c.args.node)))) (answer_over v c.args.by c.args.target (flat_map (below v c.args.left) (v.children c.args.node))) (c.is_full.ensures c.if-is_full.true)
-    (rw c.joined-found.ensures (step_found v c.args.by c.args.target c.args.left (v.children c.args.node) c.loop-place.place c.child_of-child.result c.loop-place.found c.visit-inner.result _ c.child_of-child.ensures.at c.visit-inner.ensures.found inv.0))
+    let cs = v.children c.args.node in
+    full_stays c.joined-found.result (answer_over v c.args.by c.args.target (flat_map (below v c.args.left) (drop (c.loop-place.place + 1) cs)))
+    (answer_over v c.args.by c.args.target (flat_map (below v c.args.left) cs)) (c.is_full.ensures c.if-is_full.true)
+    (rw c.joined-found.ensures (step_found v c.args.by c.args.target c.args.left cs c.loop-place.place c.child_of-child.result
+    c.loop-place.found c.visit-inner.result _ c.child_of-child.ensures.at c.visit-inner.ensures.found inv.0))
 
 pub visit_children-returns-then-is_full-clause-counted : goal.visit_children-returns-then-is_full-clause-counted
 visit_children-returns-then-is_full-clause-counted g t c =
     let v = g.H.HullTree.view c.args.tree.now in
     let inv = c.loop-place.invariant in
-    omega (arith, step_counted (reads v c.args.by c.args.left) (v.children c.args.node) c.loop-place.place c.child_of-child.result c.loop-place.tests _ _ c.child_of-child.ensures.at c.visit-inner.ensures.counted inv.1)
+    omega (arith, step_counted (reads v c.args.by c.args.left) (v.children c.args.node) c.loop-place.place c.child_of-child.result
+    c.loop-place.tests _ _ c.child_of-child.ensures.at c.visit-inner.ensures.counted inv.1)
