@@ -1,12 +1,12 @@
 #!/usr/bin/env python3
-"""Runs a command that proves and builds the programs, as `rt ci`, and keeps the sums of their sources beside them, as
-`./cga_city --prove` does, so that no call proves them again. A program that the command didn't make is refused, and so is
-each of them where a source changed meanwhile.
+"""Keeps the sums of the sources beside the programs that a gate's run has proved and built, as `./cga_city --prove` does,
+so that no call proves them again. Called twice: before the run, to note in a file what is there, and behind it. A program
+that the run didn't make is refused, and so is each of them where a source changed meanwhile.
 
-usage: .ci/built.py COMMAND WORD .."""
+usage: .ci/built.py before|after FILE"""
+import json
 import os
 import pathlib
-import subprocess
 import sys
 import tempfile
 
@@ -22,39 +22,50 @@ def clock():
         return os.stat(file.name).st_mtime_ns
 
 
-def fault_of(program, begun, before, crates, stamps):
-    """Why the command isn't known to have made the program of these sources; nothing where it is."""
+def programs():
+    return [Program(TOP, name) for name in PROGRAMS if os.path.isdir(os.path.join(TOP, "crates", name))]
+
+
+def seen(program):
+    """What is there of a program: itself, the lines of its crates, and its sources."""
+    crates = program.crates()
+    own = program.own() if os.path.exists(program.path) else {}
+    return {"own": own, "crates": crates, "sources": program.stamps(crates)}
+
+
+def fault_of(program, begun, before, now):
+    """Why the run isn't known to have made the program of these sources; nothing where it is."""
     if not os.access(program.path, os.X_OK):
         return "it isn't there"
-    if os.stat(program.path).st_mtime_ns < begun or program.own() == before:
+    if os.stat(program.path).st_mtime_ns < begun or now["own"] == before["own"]:
         return "it is older than this run, so nobody knows of which sources it was made"
-    if program.crates() != crates or program.stamps(crates) != stamps:
+    if any(now[part] != before[part] for part in ("crates", "sources")):
         return "a source changed while it was built"
     return ""
 
 
-def main():
-    command = sys.argv[1:]
-    if not command or command[0].startswith("-"):
-        sys.exit(__doc__)
-    programs = [Program(TOP, name) for name in PROGRAMS if os.path.isdir(os.path.join(TOP, "crates", name))]
-    seen = []
-    for program in programs:
-        crates = program.crates()
-        stamps = program.stamps(crates)
-        before = program.own() if os.path.exists(program.path) else {}
-        seen.append((program, before, crates, stamps, program.sums(stamps)))
-    begun = clock()
-    status = subprocess.call(command)
-    if status:
-        sys.exit(status if status > 0 else 128 - status)
-    faults = [f"{program.path}: {fault}" for program, before, crates, stamps, _ in seen
-              if (fault := fault_of(program, begun, before, crates, stamps))]
+def note(path):
+    with open(path, "w", encoding="utf-8") as file:
+        json.dump({"begun": clock(), "programs": {program.name: seen(program) for program in programs()}}, file)
+
+
+def keep(path):
+    with open(path, encoding="utf-8") as file:
+        noted = json.load(file)
+    made = [(program, noted["programs"][program.name], seen(program)) for program in programs()]
+    faults = [f"{program.path}: {fault}" for program, before, now in made if (fault := fault_of(program, noted["begun"], before, now))]
     if faults:
         sys.exit("\n".join(f"built.py: {fault}" for fault in faults))
-    for program, _, crates, _, sums in seen:
-        program.keep(crates.values(), {**sums, **program.sums(program.own())})
+    for program, _, now in made:
+        program.keep(now["crates"].values(), program.sums({**now["sources"], **now["own"]}))
     print("the programs are those of these sources")
+
+
+def main():
+    calls = {"before": note, "after": keep}
+    if len(sys.argv) != 3 or sys.argv[1] not in calls:
+        sys.exit(__doc__)
+    calls[sys.argv[1]](sys.argv[2])
 
 
 if __name__ == "__main__":

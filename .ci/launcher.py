@@ -228,7 +228,7 @@ class Proved(Copy):
 
 
 class Stamps(Copy):
-    """What `.ci/built.py` takes for built by the command that it runs."""
+    """Which programs `.ci/built.py` takes for built by the run between its two calls."""
 
     MAKES = 'echo "echo made" >"$2"; chmod +x "$2"'
 
@@ -240,19 +240,25 @@ class Stamps(Copy):
         cls.program, cls.source = cls.main / "out" / "cga_main", cls.main / "src" / "main.rt"
         cls.program.parent.mkdir()
 
-    def stamp(self, does):
-        """Calls it with a shell that is given a source and the program."""
-        self.call("sh", "-c", does, "sh", self.source, self.program, city=self.top / ".ci" / "built.py", script=subprocess.DEVNULL)
+    def built(self, *words):
+        self.call(*words, city=self.top / ".ci" / "built.py", script=subprocess.DEVNULL)
         return self.status == 0
 
+    def run_of(self, does):
+        """A run by a shell, which is given a source and the program."""
+        noted = self.work / "noted"
+        self.assertTrue(self.built("before", noted), self.err)
+        subprocess.run(["sh", "-c", does, "sh", self.source, self.program], check=True)
+        return self.built("after", noted)
+
     def refused(self, name, does, why):
-        self.check(name, not self.stamp(does) and why in self.err)
+        self.check(name, not self.run_of(does) and why in self.err)
         self.check(f"{name} is not proved", not self.is_proved())
 
     def test_1_refused(self):
-        self.refused("no command", "", "it isn't there")
-        self.call(city=self.top / ".ci" / "built.py")
-        self.check("no word", self.status == 1 and "usage" in self.err)
+        self.refused("a run that makes none", ":", "it isn't there")
+        self.check("no word", not self.built() and "usage" in self.err)
+        self.check("a wrong word", not self.built("since", self.work / "noted") and "usage" in self.err)
         subprocess.run(["sh", "-c", self.MAKES, "sh", self.source, self.program], check=True)
         self.refused("a program that was there", ":", "older than this run")
         self.refused("one that a source is newer than", 'echo "fn main() { }" >"$1"', "older than this run")
@@ -260,11 +266,9 @@ class Stamps(Copy):
         self.refused("one that is copied with its times", 'cp -p "$2" "$2.old"; rm "$2"; cp -p "$2.old" "$2"', "older than this run")
         self.refused("a source that changes after it", f'{self.MAKES}; echo "fn main() {{}}" >"$1"', "a source changed")
         self.refused("a new source", f'{self.MAKES}; echo >"$1.more.rt"', "a source changed")
-        self.check("a command that fails", not self.stamp(f"{self.MAKES}; exit 7") and self.status == 7)
-        self.check("keeps nothing", not self.is_proved())
 
     def test_2_taken(self):
-        self.check("a program that the command makes", self.stamp(self.MAKES))
+        self.check("a program that the run makes", self.run_of(self.MAKES))
         self.check("is proved", self.is_proved())
         self.refused("the next run that makes none", 'echo "fn other() {}" >"$1"', "older than this run")
 
