@@ -1,2 +1,3 @@
 mod Lots
 mod Parts
+mod Jobs

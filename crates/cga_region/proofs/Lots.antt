@@ -26,7 +26,7 @@ use Rattle.cga_region.specs.Lots.{LotsAreTheirDistricts, TellAlike}
 
 module _ (lot : List ℕ) (list other : List Member) (apart : AreApart list) (other_apart : AreApart other)
     (into : (s : Shape) (k : Kind ShapeFault Primitive) → Has list s k → s.lot ≡ lot → Has other s k)
-    (back : (s : Shape) (k : Kind ShapeFault Primitive) → Has other s k → Has list s k) where
+    (back : (s : Shape) (k : Kind ShapeFault Primitive) → Has other s k → s.lot ≡ lot → Has list s k) where
   own : (m : Member) → is_of lot m ≡ true → m.shape.lot ≡ lot
   own m t = (bytes_eq-Decides m.shape.lot lot).0 t
 
@@ -40,7 +40,7 @@ module _ (lot : List ℕ) (list other : List Member) (apart : AreApart list) (ot
       sorted_to comes_before (filter (is_of lot) other) m (filter_from (is_of lot) other m has w.1))
       (λ m i.
       let w = filter_to (is_of lot) other m (sorted_from comes_before (filter (is_of lot) other) m i) in
-      filter_from (is_of lot) list m (has_among list m.shape m.kind (back m.shape m.kind (among_has other m w.0))) w.1)
+      filter_from (is_of lot) list m (has_among list m.shape m.kind (back m.shape m.kind (among_has other m w.0) (own m w.1))) w.1)
 
   pub tell_alike : TellAlike lot list other
   unfolding drawn_in faults_in
@@ -67,11 +67,11 @@ lots_are_their_districts sources differ left right lots xs ys left_ends right_en
             | inl l ↦ l
             | inr r ↦ (let y = lot_among sources right right_differ ys right_ends s k r in absurd (two_names left right lots.differ x y.0 h y.1 (sym e ∙ y.2)))
           ])
-          (λ s k i. (w.2 s k).0 (Has-left xs ys s k i))),
+          (λ s k i e. (w.2 s k).0 (Has-left xs ys s k i))),
       (λ x h. tell_alike x.name w.0 ys apart (places_differ (with_lots sources right) right_differ ys right_ends)
           (λ s k i e. elim (Has-append xs ys s k ((w.2 s k).1 i)) [
             | inl l ↦ (let y = lot_among sources left left_differ xs left_ends s k l in absurd (two_names left right lots.differ y.0 x y.1 h (sym y.2 ∙ e)))
             | inr r ↦ r
           ])
-          (λ s k i. (w.2 s k).0 (Has-right xs ys s k i))),
+          (λ s k i e. (w.2 s k).0 (Has-right xs ys s k i))),
     )

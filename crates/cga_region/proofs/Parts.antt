@@ -53,7 +53,7 @@ module _ (sources : Sources) (list : List Member) (apart : AreApart list) where
               | inl l ↦ l
               | inr r ↦ (let y = lot_of_joined sources parts rest lists derived.1 s k r in absurd (two_names part (joined parts) differ x y.0 h y.1 (sym e ∙ y.2)))
             ])
-            (λ s k i. back s k (Has-left xs (joined lists) s k i))),
+            (λ s k i e. back s k (Has-left xs (joined lists) s k i))),
         each_tells parts rest lists derived.1
             (λ s k x i h e. elim (Has-append xs (joined lists) s k (into s k x i (Among-right part (joined parts) x h) e)) [
               | inl l ↦ (let y = lot_among sources part own xs derived.0 s k l in absurd (two_names part (joined parts) differ y.0 x y.1 h (sym y.2 ∙ e)))
@@ -63,7 +63,7 @@ module _ (sources : Sources) (list : List Member) (apart : AreApart list) where
       )
 
 -- what is derived stands once in the list
-once_of : (list : List Member) → AreApart list → Once list
+pub once_of : (list : List Member) → AreApart list → Once list
 once_of list apart = Once-index list (λ m i j e f. apart i j m m e f refl)
 
 -- no member stands in the lists of two parts
@@ -86,7 +86,7 @@ count_joined : (test : Member → Bool) (lists : List (List Member)) → count_b
 count_joined test [] = refl
 count_joined test (xs ∷ lists) = count_append test xs (joined lists) ∙ ap (λ n. count_by test xs + n) (count_joined test lists)
 
-sums : (lists : List (List Member)) (list : List Member) → Once (joined lists) → Once list
+pub sums : (lists : List (List Member)) (list : List Member) → Once (joined lists) → Once list
     → SameMembers (joined lists) list → AreSums lists list
 sums lists list one other same test =
     count-once test list (joined lists) other one

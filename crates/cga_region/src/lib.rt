@@ -8,4 +8,4 @@
 
 mod laws;
 
-pub use laws::{lots_are_their_districts, region_is_its_parts};
+pub use laws::{lots_are_their_districts, region_is_its_jobs, region_is_its_parts};
