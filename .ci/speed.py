@@ -66,12 +66,17 @@ def chains():
     return city(f"{rules}lot a 1 0 0 10 10 c\nlot b 1 20 0 10 10 c\n") + "lot b 1 5 0 10 10 c\n"
 
 
+def judged(lots):
+    """A town, and a block that is to be judged: its trace, as a program writes it."""
+    return lambda program: "judge\n" + reply(program, town(lots) + "trace\n") + "end\n"
+
+
 def names(lots):
     """More lots than a city takes, each of a name of its own."""
     return city("1: a -> NIL\n" + "".join(f"lot n{number} 1 0 0 1 1 a\n" for number in range(lots)))
 
 
-# each work: its script, the script that comes before it, and how often it is done
+# each work: its script (or how it comes from a program), the script that comes before it, and how often it is done
 WORKS = {
     "20 lots from nothing": (town(20), "", 1),
     "100 lots from nothing": (town(100), "", 1),
@@ -88,7 +93,16 @@ WORKS = {
     "two chains of depth 256 that ask": (chains(), "", 1),
     "a block of 20,000 names": (names(20_000), "", 1),
     "a block of 80,000 names": (names(80_000), "", 1),
+    "a judged trace, 12 lots": (judged(12), town(12), 1),
+    "a judged trace, 50 lots": (judged(50), town(50), 1),
+    "a judged trace, 200 lots": (judged(200), town(200), 1),
+    "stats, 100 lots": ("stats\n" * EDITS, town(100), EDITS),
+    "64 MiB of blank lines": ("\n" * 2**26, "", 1),
 }
+
+
+def reply(program, script):
+    return subprocess.run([program], input=script.encode(), stdout=subprocess.PIPE, check=True).stdout.decode()
 
 
 def run(program, script):
@@ -112,6 +126,8 @@ def main():
         sys.exit(__doc__)
     print("| Work |" + "".join(f" {program} |" for program in programs) + "\n|---|" + "---|" * len(programs))
     for work, (script, before, times) in WORKS.items():
+        if callable(script):
+            script = script(programs[0])
         cells = []
         for program in programs:
             time, size = least(program, before + script)

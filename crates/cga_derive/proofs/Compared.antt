@@ -1,12 +1,14 @@
 -- One walk of the members compares the boxes that the definition collects first.
-use Rattle.std.proofs.Common.{◌≡◌, ℕ, zero, suc, ◌+◌, ◌<◌, List, [], ◌∷◌, length, get_or, take, map, Bool, true, false, cond, not, ◌&&◌, ◌||◌, refl, sym, ap, ◌∙◌, arith}
-use Rattle.std.specs.Prelude.{filter}
-use Rattle.cga_word.specs.declared.answer.Answer.TheVariants.{Full}
+use Rattle.std.proofs.Common.{◌≡◌, ℕ, zero, suc, ◌-◌, ◌<◌, ◌≤◌, List, [], ◌∷◌, length, drop, get_or, map, Bool, true, false, Some, cond, not, ◌&&◌, ◌||◌, refl, sym, ap, ◌∙◌, arith}
+use Rattle.std.specs.Prelude.{filter, slice_get}
+use Rattle.cga_word.specs.declared.answer.Answer.{Answer}
+use Rattle.cga_word.specs.declared.answer.Answer.TheVariants.{Nothing, Part, Full}
 use Rattle.std.specs.List.{list_any}
+use Rattle.std.proofs.lemmas.List.{drop_all}
 use Rattle.cga_word.specs.declared.target.Target.{Target}
 use Rattle.cga_word.specs.declared.target.Target.TheVariants.{Noparent, Active}
 use Rattle.cga_frame.specs.Box.{Box, box_of, meets, holds}
-use Rattle.cga_index.specs.Occlusion.{graded, answer_of}
+use Rattle.cga_index.specs.Occlusion.{graded, answer_of, join}
 use Rattle.cga_order.specs.World.{is_waiting}
 use Rattle.cga_derivation.specs.Derivation.{asked}
 use Rattle.cga_shape.specs.declared.shape.Shape.{Shape}
@@ -15,10 +17,9 @@ use Rattle.cga_expand.specs.Asked.{on_path, boxes_beside, answers_of}
 use Rattle.cga_expand.specs.Children.{Member}
 use Rattle.cga_expand.specs.Derivation.{derivation_of}
 use Rattle.cga_derive.specs.declared.symbol.Symbol.{Symbol}
-use Rattle.cga_derive.specs.Compared.{counts, meets_own, holds_own, some_meets, some_fills, compared, targeted, answers_with}
+use Rattle.cga_derive.specs.Compared.{counts, meets_own, holds_own, some_meets, some_fills, one_compared, compared, targeted, answers_with}
 use Rattle.cga_derive.specs.Symbols.{symbol_of}
-pub use Rattle.cga_fraction.proofs.Door.{and-false as and_false}
-use Rattle.cga_fraction.proofs.Door.{or-false as or_false, or-assoc as or_assoc}
+use Rattle.cga_fraction.proofs.Door.{None-not-Some as none_some, and-false as and_false, or-true as or_true, same_Some as some_same, slice_get_from_get_or as there}
 
 -- a member that the target compares has a box that passes
 abbrev some_box : (Box → Bool) → Target → Shape → List Member → Bool
@@ -54,63 +55,85 @@ pub answers-are : (sources : Sources) (symbol : Symbol) (list : List Member) (s 
 unfolding answers_of symbol_of
 answers-are sources symbol list s is = ap (λ y. answers_with y list s) is
 
--- ---- one member more
+-- ---- some of the last members
 
-any_more : {X : Type 0} (p : X → Bool) (xs : List X) (i : ℕ) (x : X) → i < length xs → x ≡ get_or xs i x
-    → list_any p (take (suc i) xs) ≡ (list_any p (take i xs) || p x)
-any_more p [] i x h e = absurd (omega (arith, h))
-any_more p (y ∷ xs) zero x h e = or_false (p y) ∙ ap p (sym e)
-any_more p (y ∷ xs) (suc i) x h e = ap (λ b. p y || b) (any_more p xs i x (omega (arith, h)) e) ∙ or_assoc (p y) (list_any p (take i xs)) (p x)
+any_one : {X : Type 0} (p : X → Bool) (xs : List X) (i : ℕ) (x : X) → slice_get xs i ≡ Some x
+    → list_any p (drop i xs) ≡ (p x || list_any p (drop (suc i) xs))
+any_one p [] i x e = none_some x e
+any_one p (y ∷ xs) zero x e = ap (λ z. p z || list_any p xs) (some_same y x e)
+any_one p (y ∷ xs) (suc i) x e = any_one p xs i x e
 
-any_found : {X : Type 0} (p : X → Bool) (xs : List X) (i : ℕ) (x : X) → i < length xs → x ≡ get_or xs i x → p x ≡ true
-    → list_any p xs ≡ true
-any_found p [] i x h e passes = absurd (omega (arith, h))
-any_found p (y ∷ xs) zero x h e passes = ap (λ b. b || list_any p xs) (ap p (sym e) ∙ passes)
-any_found p (y ∷ xs) (suc i) x h e passes = ap (λ b. p y || b) (any_found p xs i x (omega (arith, h)) e passes) ∙ or_true (p y)
-  where
-    or_true : (a : Bool) → (a || true) ≡ true
-    or_true true = refl
-    or_true false = refl
+any_past : {X : Type 0} (p : X → Bool) (xs : List X) (first left : ℕ) → first ≤ left → left ≤ length xs
+    → ((i : ℕ) (x : X) → first ≤ i → i < left → slice_get xs i ≡ Some x → p x ≡ false)
+    → list_any p (drop first xs) ≡ list_any p (drop left xs)
+any_past p [] zero zero h w none = refl
+any_past p [] (suc first) zero h w none = refl
+any_past p [] first (suc left) h w none = absurd (omega (arith, w))
+any_past p (x ∷ xs) zero zero h w none = refl
+any_past p (x ∷ xs) zero (suc left) h w none =
+    ap (λ b. b || list_any p xs) (none 0 x (omega arith) (omega arith) refl)
+    ∙ any_past p xs 0 left (omega arith) (omega (arith, w)) (λ i y from to there. none (suc i) y (omega arith) (omega (arith, to)) there)
+any_past p (x ∷ xs) (suc first) zero h w none = absurd (omega (arith, h))
+any_past p (x ∷ xs) (suc first) (suc left) h w none =
+    any_past p xs first left (omega (arith, h)) (omega (arith, w)) (λ i y from to there. none (suc i) y (omega (arith, from)) (omega (arith, to)) there)
 
-module _ (target : Target) (s : Shape) (list : List Member) (i : ℕ) (m : Member) (within : i < length list) (item : m ≡ get_or list i m) where
-  pub fills_more : some_fills target s (take i list) ≡ false
-      → (counts target s m && (meets_own s m && holds_own s m)) ≡ false
-      → some_fills target s (take (i + 1) list) ≡ false
-  unfolding some_fills
-  fills_more before not_this =
-      let one : i + 1 ≡ suc i = omega arith in
-      let p : Member → Bool = λ n. counts target s n && (meets_own s n && holds_own s n) in
-      ap (λ n. list_any p (take n list)) one ∙ (any_more p list i m within item ∙ (λ k. before k || not_this k))
+any_of : {X : Type 0} (p : X → Bool) (xs : List X) (i : ℕ) → list_any p (drop i xs) ≡ true → list_any p xs ≡ true
+any_of p xs zero e = e
+any_of p [] (suc i) e = e
+any_of p (x ∷ xs) (suc i) e = ap (λ b. p x || b) (any_of p xs i e) ∙ or_true (p x)
 
-  pub meets_more : some_meets target s (take (i + 1) list) ≡
-      (some_meets target s (take i list) || (counts target s m && meets_own s m))
-  unfolding some_meets
-  meets_more =
-      let one : i + 1 ≡ suc i = omega arith in
-      let p : Member → Bool = λ n. counts target s n && meets_own s n in
-      ap (λ n. list_any p (take n list)) one ∙ any_more p list i m within item
+graded_or : (a b c d : Bool) → graded (a || c) (b || d) ≡ join (graded a b) (graded c d)
+graded_or true b c d = refl
+graded_or false true true d = refl
+graded_or false true false true = refl
+graded_or false true false false = refl
+graded_or false false c d = refl
 
-  pub meets_now : (counts target s m && meets_own s m) ≡ true → some_meets target s (take (i + 1) list) ≡ true
-  meets_now this = meets_more ∙ (ap (λ b. some_meets target s (take i list) || b) this ∙ or_true (some_meets target s (take i list)))
-    where
-      or_true : (a : Bool) → (a || true) ≡ true
-      or_true true = refl
-      or_true false = refl
+graded_full : (a b : Bool) → graded a b ≡ Full → a ≡ true
+graded_full true b e = refl
+graded_full false true e = let wrong : Part ≡ Full = e in absurd (cc)
+graded_full false false e = let wrong : Nothing ≡ Full = e in absurd (cc)
 
-  pub meets_same : (counts target s m && meets_own s m) ≡ false
-      → some_meets target s (take (i + 1) list) ≡ some_meets target s (take i list)
-  meets_same not_this = meets_more ∙ (ap (λ b. some_meets target s (take i list) || b) not_this ∙ or_false _)
+module _ (target : Target) (s : Shape) (list : List Member) where
+  -- one member more
+  compared_one : (i : ℕ) (m : Member) → slice_get list i ≡ Some m
+      → compared target s (drop i list) ≡ join (one_compared target s m) (compared target s (drop (suc i) list))
+  unfolding some_fills some_meets
+  compared_one i m there =
+      let full = any_one (λ m. counts target s m && (meets_own s m && holds_own s m)) list i m there in
+      let part = any_one (λ m. counts target s m && meets_own s m) list i m there in
+      (λ k. graded (full k) (part k))
+      ∙ graded_or (counts target s m && (meets_own s m && holds_own s m)) (counts target s m && meets_own s m) _ _
 
-  pub fills_now : (counts target s m && (meets_own s m && holds_own s m)) ≡ true → Full ≡ compared target s list
-  unfolding some_fills
-  fills_now this =
-      let p : Member → Bool = λ n. counts target s n && (meets_own s n && holds_own s n) in
-      sym (ap (λ b. graded b (some_meets target s list)) (any_found p list i m within item this))
+  pub compared_joined : (left : ℕ) (m : Member) (one found joined : Answer) → 0 < left → left ≤ length list
+      → m ≡ get_or list (left - 1) m → one ≡ one_compared target s m → found ≡ compared target s (drop left list)
+      → joined ≡ join one found → joined ≡ compared target s (drop (left - 1) list)
+  compared_joined left m one found joined some inside is alone before both =
+      let e : suc (left - 1) ≡ left = omega (arith, some) in
+      let at = there list (left - 1) m (omega (arith, some, inside)) is in
+      both ∙ ((λ k. join (alone k) (before k)) ∙ (ap (λ n. join (one_compared target s m) (compared target s (drop n list))) (sym e) ∙ sym (compared_one (left - 1) m at)))
 
-pub fills_none : (target : Target) (s : Shape) → some_fills target s [] ≡ false
-unfolding some_fills
-fills_none target s = refl
+  -- members that don't meet the box
+  pub compared_past : (first left : ℕ) → first ≤ left → left ≤ length list
+      → ((i : ℕ) (m : Member) → first ≤ i → i < left → slice_get list i ≡ Some m → meets_own s m ≡ false)
+      → compared target s (drop first list) ≡ compared target s (drop left list)
+  unfolding some_fills some_meets
+  compared_past first left h w none =
+      let full = any_past (λ m. counts target s m && (meets_own s m && holds_own s m)) list first left h w
+      (λ i m from to there. ap (λ b. counts target s m && (b && holds_own s m)) (none i m from to there) ∙ and_false (counts target s m)) in
+      let part = any_past (λ m. counts target s m && meets_own s m) list first left h w
+      (λ i m from to there. ap (λ b. counts target s m && b) (none i m from to there) ∙ and_false (counts target s m)) in
+      λ k. graded (full k) (part k)
 
-pub meets_none : (target : Target) (s : Shape) → false ≡ some_meets target s []
-unfolding some_meets
-meets_none target s = refl
+  -- where some of the last fill the box
+  pub compared_full : (left : ℕ) → compared target s (drop left list) ≡ Full → Full ≡ compared target s list
+  unfolding some_fills some_meets
+  compared_full left e =
+      let p : Member → Bool = λ m. counts target s m && (meets_own s m && holds_own s m) in
+      let found = any_of p list left (graded_full (list_any p (drop left list)) (list_any (λ m. counts target s m && meets_own s m) (drop left list)) e) in
+      sym (ap (λ b. graded b (list_any (λ m. counts target s m && meets_own s m) list)) found)
+
+  -- none of them
+  pub compared_none : (n : ℕ) → length list ≤ n → Nothing ≡ compared target s (drop n list)
+  unfolding some_fills some_meets
+  compared_none n h = sym (ap (compared target s) (drop_all n list h))

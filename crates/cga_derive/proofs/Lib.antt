@@ -4,5 +4,5 @@ mod Placing
 mod PlaceAll
 mod Working
 mod Starting
-mod Boxes
+mod Streaks
 mod Stepping

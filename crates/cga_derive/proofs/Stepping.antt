@@ -1,6 +1,6 @@
 -- What a turn tells, and whether one comes.
 use Rattle.std.proofs.Common.{◌≡◌, ℕ, zero, suc, ◌<◌, ◌≤◌, List, [], ◌∷◌, length, map, Bool, not, refl, sym, ap, ◌∙◌, subst, inl, inr, arith, Result, Ok, Err, Option, Some, None, true, false, get_or}
-use Rattle.std.specs.Prelude.{slice_get, count_by, is_some, IsSome, ◌↔◌}
+use Rattle.std.specs.Prelude.{slice_get, count_by, is_some, ◌↔◌}
 use Rattle.cga_word.specs.declared.answers.Answers.{Answers}
 use Rattle.cga_order.specs.declared.placed.Kind.TheVariants.{Waiting}
 use Rattle.cga_order.specs.World.{Has, is_instance}

@@ -1,5 +1,5 @@
 -- One turn in code is one step of the definition, and where the loop stops the list is the derivation.
-use Rattle.std.proofs.Common.{◌≡◌, ℕ, zero, suc, ◌<◌, ◌≤◌, List, [], ◌∷◌, ◌++◌, length, map, not, refl, sym, ap, ◌∙◌, subst, Result, Ok, Err, Some, None, arith, get_or}
+use Rattle.std.proofs.Common.{◌≡◌, ℕ, suc, ◌<◌, ◌≤◌, List, [], ◌∷◌, ◌++◌, length, map, not, refl, sym, ap, ◌∙◌, subst, Result, Ok, Err, Some, None, arith, get_or}
 use Rattle.std.specs.Prelude.{slice_get, slice_set, count_by}
 use Rattle.std.specs.List.{All}
 use Rattle.std.specs.Map.{keys_of}
@@ -16,7 +16,7 @@ use Rattle.cga_derivation.specs.Stamps.{StandsInOrder, RisesIn}
 use Rattle.cga_derivation.specs.Derivation.{expanded}
 use Rattle.cga_derivation.proofs.Door.{derived-reached, in_order, rises}
 use Rattle.cga_expand.proofs.Door.{sources_are_derivations}
-use Rattle.cga_fraction.proofs.Door.{None-not-Some as none_some, lt-length_from_slice_get as within, same_Some as some_same}
+use Rattle.cga_fraction.proofs.Door.{lt-length_from_slice_get as within, same_Some as some_same}
 use Rattle.cga_key.proofs.Door.{agrees}
 use Rattle.cga_derivation.proofs.Door as turns
 use Rattle.cga_shape.specs.declared.sources.Sources.{Sources}

@@ -1,21 +1,17 @@
 -- One scan of the members: which of them a target compares with a shape.
-use Rattle.std.specs.Prelude.{◌≡◌, List, map, Bool, true, not, ◌&&◌}
+use Rattle.std.specs.Prelude.{List, Bool, true, not, ◌&&◌}
 use Rattle.std.specs.List.{list_any}
 use Rattle.cga_word.specs.declared.answer.Answer.{Answer}
 use Rattle.cga_word.specs.declared.answers.Answers.{Answers}
 use Rattle.cga_word.specs.declared.target.Target.{Target}
 use Rattle.cga_word.specs.declared.target.Target.TheVariants.{Noparent, Active}
-use Rattle.cga_frame.specs.Box.{Box, box_of, meets, holds}
+use Rattle.cga_frame.specs.Box.{box_of, meets, holds}
 use Rattle.cga_index.specs.Occlusion.{graded}
 use Rattle.cga_order.specs.World.{is_waiting, shapes_where}
 use Rattle.cga_shape.specs.declared.shape.Shape.{Shape}
 use Rattle.cga_expand.specs.Asked.{on_path, answer_if}
 use Rattle.cga_expand.specs.Children.{Member}
 use Rattle.cga_derive.specs.declared.symbol.Symbol.{Symbol}
-
--- box i is that of member i
-abbrev pub IsBoxed : List Member → List Box → Type 0
-IsBoxed list boxes = boxes ≡ map (λ (m : Member). box_of m.shape.scope) list
 
 -- the target is about members of this kind
 abbrev pub is_about : Target → Member → Bool
@@ -39,6 +35,10 @@ some_meets target s list = list_any (λ m. counts target s m && meets_own s m) l
 -- and holds it too
 unfoldable pub some_fills : Target → Shape → List Member → Bool
 some_fills target s list = list_any (λ m. counts target s m && (meets_own s m && holds_own s m)) list
+
+-- what one member comes to
+abbrev pub one_compared : Target → Shape → Member → Answer
+one_compared target s m = graded (counts target s m && (meets_own s m && holds_own s m)) (counts target s m && meets_own s m)
 
 abbrev pub compared : Target → Shape → List Member → Answer
 compared target s list = graded (some_fills target s list) (some_meets target s list)

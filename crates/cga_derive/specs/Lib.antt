@@ -1,5 +1,6 @@
 pub mod Symbols
 pub mod Compared
+pub mod Streaks
 pub mod Run
 pub mod Underway
 pub mod Derives

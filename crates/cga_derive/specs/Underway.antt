@@ -7,7 +7,7 @@ use Rattle.cga_expand.specs.Children.{Member}
 use Rattle.cga_expand.specs.Derivation.{derivation_of}
 use Rattle.cga_expand.specs.Run.{traced}
 use Rattle.cga_derive.specs.declared.run.Run.{Run}
-use Rattle.cga_derive.specs.Compared.{IsBoxed}
+use Rattle.cga_derive.specs.Streaks.{IsBoxed}
 use Rattle.cga_derive.specs.Run.{IsAfter}
 use Rattle.cga_derive.specs.Symbols.{IsRead}
 
@@ -15,7 +15,7 @@ use Rattle.cga_derive.specs.Symbols.{IsRead}
 pub record IsUnderway (sources : Sources) (n : ℕ) (run : Run) : Type 0 where
   pub after : IsAfter sources n run.list.items run.waiting.entries
   pub read : IsRead sources.grammar run.symbols.read
-  pub boxed : IsBoxed run.list.items run.boxes.items
+  pub boxed : IsBoxed run.list.items run.streaks.items
 
 -- what the expansion of the member that is next after n turns tells
 abbrev pub IsStepAfter : Sources → ℕ → TraceStep → Type 0

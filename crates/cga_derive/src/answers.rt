@@ -1,72 +1,113 @@
 //! What a shape is answered, over the whole list.
-ghost use Rattle.std.specs.Prelude.{◌≡◌};
+ghost use Rattle.std.specs.Prelude.{◌≡◌, ◌↔◌, IsTrue};
 ghost use Rattle.cga_frame.specs.Box.{box_of};
+ghost use Rattle.cga_index.specs.Occlusion.{join};
 ghost use Rattle.cga_order.specs.World.{is_waiting};
 ghost use Rattle.cga_expand.specs.Asked.{answer_if, on_path};
-ghost use Rattle.cga_derive.specs.Compared.{IsBoxed, answers_with, compared, is_about, targeted};
+ghost use Rattle.cga_derive.specs.Compared.{answers_with, compared, is_about, one_compared, targeted};
+ghost use Rattle.cga_derive.specs.Streaks.{IsBoxed};
 
+use crate::streak::Streak;
 use crate::symbol::Symbol;
 use cga_frame::WorldBox;
 use cga_shape::{Answers, Kind, Placed, Shape};
 use cga_word::{Answer, Target};
 
-/// The answers of a shape of this symbol. The boxes are those of the members.
-pub fn asked(symbol: Symbol, list: &[Placed], boxes: &[WorldBox], shape: &Shape) -> Answers
-    requires { IsBoxed list.now boxes.now }
+/// The answers of a shape of this symbol. The streaks are those of the members.
+pub fn asked(symbol: Symbol, list: &[Placed], streaks: &[Streak], shape: &Shape) -> Answers
+    requires { IsBoxed list.now streaks.now }
     ensures { result ≡ answers_with symbol list.now shape.now }
 {
     Answers {
-        noparent: answer(symbol.noparent, list, boxes, shape, Target::Noparent),
-        active: answer(symbol.active, list, boxes, shape, Target::Active),
+        noparent: answer(symbol.noparent, list, streaks, shape, Target::Noparent),
+        active: answer(symbol.active, list, streaks, shape, Target::Active),
     }
 }
 
 fn answer(
     mentioned: bool,
     list: &[Placed],
-    boxes: &[WorldBox],
+    streaks: &[Streak],
     shape: &Shape,
     target: Target,
 ) -> Option<Answer>
-    requires { IsBoxed list.now boxes.now }
+    requires { IsBoxed list.now streaks.now }
     ensures { result ≡ answer_if mentioned shape.now (targeted target list.now) }
 {
     if mentioned {
-        Some(compared(list, boxes, shape, &shape.scope.world_box(), target))
+        Some(compared(list, streaks, shape, &shape.scope.world_box(), target))
     } else {
         None
     }
 }
 
-// One walk, which stops at the first member that fills the box. Most members don't meet it, so that is
-// looked at before their paths.
+// One walk from the last member to the first, which stops at a member that fills the box. A streak whose
+// hull doesn't touch the box is passed in one step.
 fn compared(
     list: &[Placed],
-    boxes: &[WorldBox],
+    streaks: &[Streak],
     shape: &Shape,
     own: &WorldBox,
     target: Target,
 ) -> Answer
-    requires boxed { IsBoxed list.now boxes.now }
+    requires boxed { IsBoxed list.now streaks.now }
     requires own { own.now ≡ box_of shape.now.scope }
     ensures { result ≡ compared target shape.now list.now }
 {
-    let mut meets = false;
-    for at in 0..list.len() {
-        let member = &list[at];
-        if is_about(target, member) {
-            let other = &boxes[at];
-            if other.meets(own) {
-                if !is_on_path(&member.shape, shape) {
-                    if other.holds(own) {
-                        return Answer::Full;
-                    }
-                    meets = true;
-                }
+    let mut found = Answer::Nothing;
+    let mut left = list.len();
+    while left > 0 {
+        let streak = &streaks[left - 1];
+        if streak.hull.touches(own) {
+            left -= 1;
+            found = joined(one_compared(&list[left], shape, own, target), found);
+            if is_full(found) {
+                return Answer::Full;
+            }
+        } else {
+            left = streak.first;
+        }
+    }
+    found
+}
+
+fn is_full(answer: Answer) -> bool
+    ensures { IsTrue result ↔ (answer ≡ Answer.Full) }
+{
+    matches!(answer, Answer::Full)
+}
+
+fn joined(one: Answer, others: Answer) -> Answer
+    ensures { result ≡ join one others }
+{
+    match one {
+        Answer::Full => Answer::Full,
+        Answer::Part => match others {
+            Answer::Full => Answer::Full,
+            Answer::Part | Answer::Nothing => Answer::Part,
+        },
+        Answer::Nothing => others,
+    }
+}
+
+// What the member alone comes to. Most members don't meet the box, so that is looked at before their paths.
+fn one_compared(member: &Placed, shape: &Shape, own: &WorldBox, target: Target) -> Answer
+    requires { own.now ≡ box_of shape.now.scope }
+    ensures { result ≡ one_compared target shape.now member.now }
+{
+    if is_about(target, member) {
+        let bounds = member.shape.scope.world_box();
+        if bounds.meets(own) {
+            if !is_on_path(&member.shape, shape) {
+                return if bounds.holds(own) {
+                    Answer::Full
+                } else {
+                    Answer::Part
+                };
             }
         }
     }
-    if meets { Answer::Part } else { Answer::Nothing }
+    Answer::Nothing
 }
 
 fn is_about(target: Target, member: &Placed) -> bool

@@ -18,7 +18,7 @@ use std::sync::ledger::Ledger;
 ///
 /// Each expansion ticks `expansions`. `tests` counts boxes that a walk of hulls reads, and there is
 /// none here. Takes memory for the list and for the shapes that wait. The time goes by the number of
-/// shapes, and for each that asks by the length of the list.
+/// shapes, and for each that asks by the streaks that touch its box.
 pub fn derive<E: Ledger, T: Ledger>(
     alloc: Global,
     sources: &Sources,

@@ -6,17 +6,17 @@ ghost use Rattle.cga_expand.specs.Children.{placed_at, placed_from};
 ghost use Rattle.cga_expand.specs.Derivation.{derivation_of, NamesDiffer, priority_of};
 ghost use Rattle.cga_expand.specs.Validity.{RootsExist};
 ghost use Rattle.cga_expand.specs.declared.limits.TheConstants.{MOST_CHILDREN};
-ghost use Rattle.cga_derive.specs.Compared.{IsBoxed};
+ghost use Rattle.cga_derive.specs.Streaks.{IsBoxed};
 ghost use Rattle.cga_derive.specs.Run.{AddsKey, IsAfter, IsInTurnOf, KeepsKeys, sited_children};
 ghost use Rattle.cga_derive.specs.Underway.{IsNext, IsStepAfter, IsUnderway, turned};
 ghost use Rattle.cga_derive.specs.Symbols.{IsRead};
 
 use crate::answers::asked;
 use crate::members::{member_of, waiting_symbol};
+use crate::streak::{Streak, next_streak};
 use crate::symbols::Symbols;
 use cga_expand::{Expansions, expand};
 use cga_fraction::{List, NoMemory};
-use cga_frame::WorldBox;
 use cga_key::{StampKey, child_key, child_path, root_key};
 use cga_rule::Grammar;
 use cga_shape::{Answers, Emitted, Kind, Outcome, Placed, Sources, TraceStep, root_shape};
@@ -25,12 +25,12 @@ use std::alloc::Global;
 use std::collections::BTreeMap;
 use std::sync::ledger::Ledger;
 
-/// A derivation under way: the list so far with the box of each member, and the place in it of each
-/// waiting member, by stamp.
+/// A derivation under way: the list so far with the streak that ends with each member, and the
+/// place in it of each waiting member, by stamp.
 #[derive(Drop)]
 pub struct Run {
     pub list: Vec<Placed>,
-    pub boxes: Vec<WorldBox>,
+    pub streaks: Vec<Streak>,
     pub waiting: BTreeMap<StampKey, usize>,
     pub symbols: Symbols,
 }
@@ -49,7 +49,7 @@ impl Run {
         ensures key { OnOk result (AddsKey parent.now index (priority_of grammar.now symbol)
             (length self.old.list.items) self.old.waiting.entries self.new.waiting.entries) }
         ensures list { self.new.list ≡ self.old.list }
-        ensures boxes { self.new.boxes ≡ self.old.boxes }
+        ensures streaks { self.new.streaks ≡ self.old.streaks }
         ensures read { OnOk result (IsRead grammar.now self.new.symbols.read) }
     {
         let found = self.symbols.of(grammar, symbol)?;
@@ -70,23 +70,23 @@ impl Run {
         emitted: Emitted,
     ) -> Result<(), NoMemory>
         requires read { IsRead sources.now.grammar self.old.symbols.read }
-        requires boxed { IsBoxed self.old.list.items self.old.boxes.items }
+        requires boxed { IsBoxed self.old.list.items self.old.streaks.items }
         ensures list { OnOk result (self.new.list.items ≡ self.old.list.items
             ++ placed_at parent.now.lot parent.now.path own index emitted ∷ []) }
         ensures keys { OnOk result (KeepsKeys sources.now parent.now
             (sited parent.now.priorities (placed_at parent.now.lot parent.now.path own index emitted) ∷ [])
             self.old.list.items self.old.waiting.entries self.new.waiting.entries) }
         ensures read { OnOk result (IsRead sources.now.grammar self.new.symbols.read) }
-        ensures boxed { OnOk result (IsBoxed self.new.list.items self.new.boxes.items) }
+        ensures boxed { OnOk result (IsBoxed self.new.list.items self.new.streaks.items) }
     {
         let path = child_path(alloc, &parent.path, index)?;
         if let Some(symbol) = waiting_symbol(&emitted) {
             self.wait(alloc, &sources.grammar, parent, index, symbol)?;
         }
         let member = member_of(alloc, parent, path, own, index, emitted);
-        let bounds = member.shape.scope.world_box();
+        let streak = next_streak(self.streaks.as_slice(), member.shape.scope.world_box());
         self.list.push(member)?;
-        self.boxes.push(bounds)?;
+        self.streaks.push(streak)?;
         Ok(())
     }
 
@@ -101,14 +101,14 @@ impl Run {
     ) -> Result<(), NoMemory>
         requires few { length emitted ≤ MOST_CHILDREN }
         requires read { IsRead sources.now.grammar self.old.symbols.read }
-        requires boxed { IsBoxed self.old.list.items self.old.boxes.items }
+        requires boxed { IsBoxed self.old.list.items self.old.streaks.items }
         ensures list { OnOk result (self.new.list.items ≡ self.old.list.items
             ++ placed_from parent.now.lot parent.now.path own 0 emitted) }
         ensures keys { OnOk result (KeepsKeys sources.now parent.now
             (sited_children parent.now own 0 emitted)
             self.old.list.items self.old.waiting.entries self.new.waiting.entries) }
         ensures read { OnOk result (IsRead sources.now.grammar self.new.symbols.read) }
-        ensures boxed { OnOk result (IsBoxed self.new.list.items self.new.boxes.items) }
+        ensures boxed { OnOk result (IsBoxed self.new.list.items self.new.streaks.items) }
     {
         let mut index: u16 = 0;
         for child in emitted.into_vec() {
@@ -130,7 +130,7 @@ impl Run {
         requires names { NamesDiffer sources.now.lots }
         requires within { place < vec_len self.old.list }
         requires read { IsRead sources.now.grammar self.old.symbols.read }
-        requires boxed { IsBoxed self.old.list.items self.old.boxes.items }
+        requires boxed { IsBoxed self.old.list.items self.old.streaks.items }
         ensures turn { OnOk result ((n : ℕ)
             → IsInTurnOf sources.now n key place self.old.list.items self.old.waiting.entries
             → IsAfter sources.now (suc n) self.new.list.items self.new.waiting.entries) }
@@ -138,7 +138,7 @@ impl Run {
             → IsInTurnOf sources.now n key place self.old.list.items self.old.waiting.entries
             → IsStepAfter sources.now n step) }
         ensures read { OnOk result (IsRead sources.now.grammar self.new.symbols.read) }
-        ensures boxed { OnOk result (IsBoxed self.new.list.items self.new.boxes.items) }
+        ensures boxed { OnOk result (IsBoxed self.new.list.items self.new.streaks.items) }
         ensures ticks { OnOk result (expansions.new ≡ expansions.old + 1) }
         ensures counted { expansions.old ≤ expansions.new }
         ensures most { expansions.new ≤ expansions.old + 1 }
@@ -146,7 +146,7 @@ impl Run {
         let own = self.list[place].shape.symbol;
         let symbol = self.symbols.of(&sources.grammar, own)?;
         let shape = &self.list[place].shape;
-        let answers = asked(symbol, self.list.as_slice(), self.boxes.as_slice(), shape);
+        let answers = asked(symbol, self.list.as_slice(), self.streaks.as_slice(), shape);
         match expand(alloc, &sources.grammar, shape, &answers, expansions)? {
             Ok(emitted) => {
                 let grown = Outcome::Grew(emitted.len() as u16);
@@ -201,7 +201,7 @@ impl Run {
         ensures { IfOk result (λ run. IsUnderway sources.now 0 run) }
     {
         let mut list = Vec::new(alloc);
-        let mut boxes = Vec::new(alloc);
+        let mut streaks = Vec::new(alloc);
         let mut waiting = BTreeMap::new(alloc);
         let mut symbols = Symbols::new(alloc);
         for lot in sources.lots.as_slice() {
@@ -210,16 +210,16 @@ impl Run {
             let place = list.len();
             waiting.insert(key, place)?;
             let shape = root_shape(alloc, lot);
-            let bounds = shape.scope.world_box();
+            let streak = next_streak(streaks.as_slice(), shape.scope.world_box());
             list.push(Placed {
                 shape,
                 kind: Kind::Waiting,
             })?;
-            boxes.push(bounds)?;
+            streaks.push(streak)?;
         }
         Ok(Run {
             list,
-            boxes,
+            streaks,
             waiting,
             symbols,
         })
@@ -230,7 +230,7 @@ impl Run {
     {
         let Run {
             list,
-            boxes: _,
+            streaks: _,
             waiting: _,
             symbols: _,
         } = self;

@@ -1,64 +1,59 @@
-use Rattle.std.proofs.Common.{not, ◌&&◌, sym, ◌∙◌}
-use Rattle.cga_frame.specs.Box.{meets, holds}
-use Rattle.cga_expand.specs.Asked.{on_path}
-use Rattle.cga_derive.specs.Compared.{meets_own, holds_own}
-use Rattle.cga_derive.proofs.Boxes.{box_there}
-use Rattle.cga_derive.proofs.Compared.{fills_none, meets_none, fills_more, meets_now, meets_same, fills_now, and_false}
-use Rattle.cga_derive.proofs.answers.compared.Goals.{then-is_about+then-meets+then-not-is_on_path+else-holds, then-is_about+then-meets+else-not-is_on_path, then-is_about+else-meets, else-is_about}
+use Rattle.std.proofs.Common.{◌-◌, length, sym, ap, ◌∙◌, arith}
+use Rattle.cga_frame.specs.Box.{box_of, touches}
+use Rattle.cga_derive.proofs.Compared.{compared_full, compared_joined, compared_none, compared_past}
+use Rattle.cga_derive.proofs.Streaks.{none_meets, streak_there}
 use Rattle.cga_derive.proofs.answers.compared.Goals as goal
 
-pub loop-at-init : goal.loop-at-init
-loop-at-init c = record {
-  fills = fills_none c.args.target c.args.shape.now;
-  meets = meets_none c.args.target c.args.shape.now;
+pub loop-left-init : goal.loop-left-init
+loop-left-init c = record {
+  within = omega arith;
+  found = compared_none c.args.target c.args.shape.now c.args.list.now (length c.args.list.now) (omega arith);
 }
 
-pub returns-then-holds : goal.returns-then-holds
-returns-then-holds c =
-    let p = sym c.is_about.ensures ∙ c.if-is_about.true in
-    let o = sym c.is_on_path.ensures ∙ c.if-not-is_on_path.true in
-    let box = box_there c.args.list.now c.args.boxes.now c.loop-at.at c.index-list-at.result c.index-boxes-at.result c.requires.boxed c.loop-at-test.true c.index-list-at.is c.index-boxes-at.is in
-    let q = sym (c.meets.ensures.value ∙ (λ k. meets (box k) (c.requires.own k))) ∙ c.if-meets.true in
-    let r = sym (c.holds.ensures.value ∙ (λ k. holds (box k) (c.requires.own k))) ∙ c.if-holds.true in
-    fills_now c.args.target c.args.shape.now c.args.list.now c.loop-at.at c.index-list-at.result c.loop-at-test.true c.index-list-at.is (λ k. (p k && not (o k)) && (q k && r k))
-
-pub loop-at-preserved : goal.loop-at-preserved
-loop-at-preserved c =
+pub returns-then-is_full : goal.returns-then-is_full
+returns-then-is_full c =
     let t = c.args.target in
     let s = c.args.shape.now in
     let list = c.args.list.now in
-    let i = c.loop-at.at in
-    let m = c.index-list-at.result in
-    let within = c.loop-at-test.true in
-    let item = c.index-list-at.is in
-    let before = c.loop-at.invariant in
-    let off = not (on_path m.shape s) in
-    elim c.if-is_about.branch [
-      | then-is_about+then-meets+then-not-is_on_path+else-holds w ↦
-          let p = sym c.is_about.ensures ∙ w.if-is_about.true in
-          let o = sym w.is_on_path.ensures ∙ w.if-not-is_on_path.true in
-          let box = box_there list c.args.boxes.now i m w.index-boxes-at.result c.requires.boxed within item w.index-boxes-at.is in
-          let q = sym (w.meets.ensures.value ∙ (λ k. meets (box k) (c.requires.own k))) ∙ w.if-meets.true in
-          let r = sym (w.holds.ensures.value ∙ (λ k. holds (box k) (c.requires.own k))) ∙ w.if-holds.false in record {
-            fills = fills_more t s list i m within item before.fills (λ k. (p k && not (o k)) && (q k && r k));
-            meets = w.meets-is ∙ sym (meets_now t s list i m within item (λ k. (p k && not (o k)) && q k));
-          }
-      | then-is_about+then-meets+else-not-is_on_path w ↦
-          let p = sym c.is_about.ensures ∙ w.if-is_about.true in
-          let o = sym w.is_on_path.ensures ∙ w.if-not-is_on_path.false in record {
-            fills = fills_more t s list i m within item before.fills (λ k. (p k && not (o k)) && (meets_own s m && holds_own s m));
-            meets = w.meets-is ∙ (before.meets ∙ sym (meets_same t s list i m within item (λ k. (p k && not (o k)) && meets_own s m)));
-          }
-      | then-is_about+else-meets w ↦
-          let p = sym c.is_about.ensures ∙ w.if-is_about.true in
-          let box = box_there list c.args.boxes.now i m w.index-boxes-at.result c.requires.boxed within item w.index-boxes-at.is in
-          let q = sym (w.meets.ensures.value ∙ (λ k. meets (box k) (c.requires.own k))) ∙ w.if-meets.false in record {
-            fills = fills_more t s list i m within item before.fills ((λ k. (p k && off) && (q k && holds_own s m)) ∙ and_false off);
-            meets = w.meets-is ∙ (before.meets ∙ sym (meets_same t s list i m within item ((λ k. (p k && off) && q k) ∙ and_false off)));
-          }
-      | else-is_about w ↦
-          let p = sym c.is_about.ensures ∙ w.if-is_about.false in record {
-            fills = fills_more t s list i m within item before.fills (λ k. (p k && off) && (meets_own s m && holds_own s m));
-            meets = w.meets-is ∙ (before.meets ∙ sym (meets_same t s list i m within item (λ k. (p k && off) && meets_own s m)));
-          }
-    ]
+    let left = c.loop-left.left in
+    let inv = c.loop-left.invariant in
+    let joined = compared_joined t s list left c.index-list-left.result c.one_compared.result c.loop-left.found c.joined-found.result
+    c.loop-left-test.true inv.within c.index-list-left.is c.one_compared.ensures inv.found c.joined-found.ensures in
+    compared_full t s list (left - 1) (sym joined ∙ c.is_full.ensures.0 c.if-is_full.true)
+
+pub loop-left-smaller : goal.loop-left-smaller
+loop-left-smaller c =
+    let some = c.loop-left-test.true in
+    let inv = c.loop-left.invariant in
+    let there = streak_there c.args.list.now c.args.streaks.now c.loop-left.left c.index-streaks-left.result c.requires.boxed some
+    inv.within c.index-streaks-left.is in
+    omega (arith, there.1, some)
+
+pub loop-left-preserved-else-is_full : goal.loop-left-preserved-else-is_full
+loop-left-preserved-else-is_full c =
+    let t = c.args.target in
+    let s = c.args.shape.now in
+    let list = c.args.list.now in
+    let left = c.loop-left.left in
+    let inv = c.loop-left.invariant in record {
+      within = omega (arith, inv.within);
+      found = compared_joined t s list left c.index-list-left.result c.one_compared.result c.loop-left.found c.joined-found.result
+          c.loop-left-test.true inv.within c.index-list-left.is c.one_compared.ensures inv.found c.joined-found.ensures;
+    }
+
+pub loop-left-preserved : goal.loop-left-preserved
+loop-left-preserved c =
+    let list = c.args.list.now in
+    let streaks = c.args.streaks.now in
+    let s = c.args.shape.now in
+    let left = c.loop-left.left in
+    let streak = c.index-streaks-left.result in
+    let inside = c.loop-left.invariant.within in
+    let there = streak_there list streaks left streak c.requires.boxed c.loop-left-test.true inside c.index-streaks-left.is in
+    let off = ap (touches streak.hull) (sym c.requires.own) ∙ (sym c.touches.ensures.value ∙ c.if-touches.false) in
+    let apart = none_meets list streaks (left - 1) streak (box_of s.scope) c.requires.boxed there.0 off in record {
+      within = omega (arith, there.1, inside);
+      found = c.loop-left.invariant.found
+          ∙ sym (compared_past c.args.target s list streak.first left (omega (arith, there.1)) inside
+          (λ i m from to at. apart i m from (omega (arith, to)) at));
+    }

@@ -2,10 +2,10 @@ use Rattle.std.proofs.Common.{[], ◌∷◌, sym, ap, subst, ◌∙◌}
 use Rattle.cga_derivation.specs.Sites.{sited}
 use Rattle.cga_expand.specs.Children.{placed_at}
 use Rattle.cga_derive.specs.declared.run.Run.{Run}
-use Rattle.cga_derive.specs.Compared.{IsBoxed}
+use Rattle.cga_derive.specs.Streaks.{IsBoxed}
 use Rattle.cga_derive.specs.Run.{KeepsKeys}
 use Rattle.cga_derive.specs.Symbols.{IsRead}
-use Rattle.cga_derive.proofs.Boxes.{boxed_came, boxed_still}
+use Rattle.cga_derive.proofs.Streaks.{boxed_came, boxed_lent, boxed_still}
 use Rattle.cga_derive.proofs.Placing.{wait-keys, skip-keys}
 use Rattle.cga_derive.proofs.run.Run.place.Goals.{in-Some+in_ok-wait, in_default}
 use Rattle.cga_derive.proofs.run.Run.place.Goals as goal
@@ -32,17 +32,32 @@ returns-clause-read c = elim c.match-waiting_symbol.branch [
   | in_default w ↦ subst (IsRead c.args.sources.now.grammar) (sym (ap (λ (r : Run). r.symbols.read) w.self-is)) c.requires.read
 ]
 
+pub next_streak-streak-requires : goal.next_streak-streak-requires
+next_streak-streak-requires c =
+    let old = c.args.self.now in
+    let now = c.match-waiting_symbol.self in
+    let still : IsBoxed now.list.items now.streaks.items = elim c.match-waiting_symbol.branch [
+      | in-Some+in_ok-wait w ↦
+          boxed_still old.list.items now.list.items old.streaks.items now.streaks.items c.requires.boxed
+          (ap (λ (r : Run). r.list.items) w.self-is ∙ ap (λ l. l.items) w.in_ok-wait.ensures.list)
+          (ap (λ (r : Run). r.streaks.items) w.self-is ∙ ap (λ l. l.items) w.in_ok-wait.ensures.streaks)
+      | in_default w ↦
+          boxed_still old.list.items now.list.items old.streaks.items now.streaks.items c.requires.boxed
+          (ap (λ (r : Run). r.list.items) w.self-is) (ap (λ (r : Run). r.streaks.items) w.self-is)
+    ] in
+    boxed_lent now.list.items now.streaks.items c.as_slice.result.now still c.as_slice.ensures.value
+
 pub returns-clause-boxed : goal.returns-clause-boxed
 returns-clause-boxed c =
     let old = c.args.self.now in
     let now = c.match-waiting_symbol.self in
-    let still : IsBoxed now.list.items now.boxes.items = elim c.match-waiting_symbol.branch [
+    let still : IsBoxed now.list.items now.streaks.items = elim c.match-waiting_symbol.branch [
       | in-Some+in_ok-wait w ↦
-          boxed_still old.list.items now.list.items old.boxes.items now.boxes.items c.requires.boxed
+          boxed_still old.list.items now.list.items old.streaks.items now.streaks.items c.requires.boxed
           (ap (λ (r : Run). r.list.items) w.self-is ∙ ap (λ l. l.items) w.in_ok-wait.ensures.list)
-          (ap (λ (r : Run). r.boxes.items) w.self-is ∙ ap (λ l. l.items) w.in_ok-wait.ensures.boxes)
+          (ap (λ (r : Run). r.streaks.items) w.self-is ∙ ap (λ l. l.items) w.in_ok-wait.ensures.streaks)
       | in_default w ↦
-          boxed_still old.list.items now.list.items old.boxes.items now.boxes.items c.requires.boxed
-          (ap (λ (r : Run). r.list.items) w.self-is) (ap (λ (r : Run). r.boxes.items) w.self-is)
+          boxed_still old.list.items now.list.items old.streaks.items now.streaks.items c.requires.boxed
+          (ap (λ (r : Run). r.list.items) w.self-is) (ap (λ (r : Run). r.streaks.items) w.self-is)
     ] in
-    boxed_came now.list.items c.push.new.self.items now.boxes.items c.push-2.new.self.items c.member_of-member.result c.world_box-bounds.result still c.in_ok-push.ensures.items c.in_ok-push-2.ensures.items c.world_box-bounds.ensures.value
+    boxed_came now.list.items c.push.new.self.items now.streaks.items c.as_slice.result.now c.push-2.new.self.items c.member_of-member.result c.world_box.result c.next_streak-streak.result still c.as_slice.ensures.value c.in_ok-push.ensures.items c.in_ok-push-2.ensures.items c.world_box.ensures.value c.next_streak-streak.ensures

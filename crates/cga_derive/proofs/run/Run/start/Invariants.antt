@@ -1,5 +1,5 @@
 use Rattle.std.proofs.Common.{◌≡◌}
-use Rattle.cga_derive.specs.Compared.{IsBoxed}
+use Rattle.cga_derive.specs.Streaks.{IsBoxed}
 use Rattle.cga_derive.specs.Run.{HasKeys}
 use Rattle.cga_derive.specs.Symbols.{IsRead}
 use Rattle.cga_derive.proofs.Starting.{roots_up, root_sites_up}
@@ -10,5 +10,5 @@ invariant-loop-lot l = record {
   list : l.list.items ≡ roots_up l.sources.lots l.lot-index;
   keys : HasKeys l.sources (root_sites_up l.sources.lots l.lot-index) l.waiting.entries;
   read : IsRead l.sources.grammar l.symbols.read;
-  boxed : IsBoxed l.list.items l.boxes.items;
+  boxed : IsBoxed l.list.items l.streaks.items;
 }

@@ -6,7 +6,7 @@ use Rattle.cga_shape.specs.declared.trace_step.Outcome.TheVariants.{Grew}
 use Rattle.cga_expand.specs.Children.{Member, placed_from}
 use Rattle.cga_derive.specs.Run.{KeepsKeys, sited_children}
 use Rattle.cga_derive.specs.Underway.{IsStepAfter}
-use Rattle.cga_derive.proofs.Boxes.{boxed_set, boxed_still}
+use Rattle.cga_derive.proofs.Streaks.{boxed_set, boxed_still}
 use Rattle.cga_derive.proofs.Stepping.{step-told, told_by}
 use Rattle.cga_derive.proofs.Working.{asks-are, working-fault, working-done, same_read}
 use Rattle.cga_derive.proofs.run.Run.turn.Goals as goal
@@ -37,15 +37,15 @@ returns-in-Err-clause-turn g c = λ n turn.
 
 pub asked-answers-requires : goal.asked-answers-requires
 asked-answers-requires g c =
-    boxed_still c.args.self.now.list.items c.as_slice.result.now c.args.self.now.boxes.items c.as_slice-2.result.now c.requires.boxed c.as_slice.ensures.value c.as_slice-2.ensures.value
+    boxed_still c.args.self.now.list.items c.as_slice.result.now c.args.self.now.streaks.items c.as_slice-2.result.now c.requires.boxed c.as_slice.ensures.value c.as_slice-2.ensures.value
 
 pub place_all-requires-clause-boxed : goal.place_all-requires-clause-boxed
 place_all-requires-clause-boxed g c =
-    boxed_set c.args.self.now.list.items c.args.self.now.boxes.items c.args.place c.index_mut.result.now Done c.index_mut.ensures.value c.requires.boxed
+    boxed_set c.args.self.now.list.items c.args.self.now.streaks.items c.args.place c.index_mut.result.now Done c.index_mut.ensures.value c.requires.boxed
 
 pub returns-in-Err-clause-boxed : goal.returns-in-Err-clause-boxed
 returns-in-Err-clause-boxed g c =
-    boxed_set c.args.self.now.list.items c.args.self.now.boxes.items c.args.place c.index_mut-in-Err.result.now (Faulted c.in-Err.fault) c.index_mut-in-Err.ensures.value c.requires.boxed
+    boxed_set c.args.self.now.list.items c.args.self.now.streaks.items c.args.place c.index_mut-in-Err.result.now (Faulted c.in-Err.fault) c.index_mut-in-Err.ensures.value c.requires.boxed
 
 pub returns-in_ok-place_all-in-Ok-clause-told : goal.returns-in_ok-place_all-in-Ok-clause-told
 returns-in_ok-place_all-in-Ok-clause-told g c = λ n turn.
