@@ -4,9 +4,8 @@ ghost use Rattle.cga_forest.specs.Tree.{marked_at, node_at};
 ghost use Rattle.cga_update.specs.Begun.{HasBegun, HasMoved, IsBetween, IsFresh, StandsMarked};
 
 use crate::changed::Symbols;
-use crate::due::add_moved;
 use crate::log::{note_came, note_went};
-use crate::queue::{queue_changed, queue_near};
+use crate::queue::{add_moved, queue_changed, queue_near};
 use crate::renewal::Renewal;
 use crate::roots::{add_roots, remove_roots};
 use crate::work::Work;

@@ -16,15 +16,16 @@ ghost use Rattle.cga_update.specs.Turned.{HasPlaced, IsAgain, IsTurned, MayTurn}
 use crate::again::outcome_again;
 use crate::asked::asked;
 use crate::changed::Facts;
-use crate::due::take;
 use crate::follow::follow;
 use crate::log::{note_came, note_went};
 use crate::work::Work;
+use crate::worked::Worked;
 use cga_agenda::Turned;
 use cga_expand::{Expansions, expand};
 use cga_forest::{Forest, Node};
 use cga_fraction::{List, NoMemory, Tests};
 use cga_index::NodeId;
+use cga_queue::take;
 use cga_shape::{Answers, Emitted, Kind, ShapeFault};
 use std::sync::ledger::Ledger;
 
@@ -234,7 +235,10 @@ pub fn turn<E: Ledger, T: Ledger>(
     ensures once { expansions.new ≤ expansions.old + 1 }
 {
     work.forest.laws();
-    match take(&mut work.agenda, &work.forest) {
+    let worked = Worked {
+        forest: &work.forest,
+    };
+    match take(&mut work.agenda, &worked) {
         None => Ok(None),
         Some(id) => Ok(Some(turn_of(work, id, expansions, tests)?)),
     }
