@@ -4,8 +4,7 @@ ghost use Rattle.cga_city.specs.Nodes.{AreOfLot};
 
 use cga_forest::Forest;
 use cga_fraction::NoMemory;
-use cga_index::NodeId;
-use cga_trace::list_from;
+use cga_index::{NodeId, nodes_from};
 use cga_word::Name;
 use std::alloc::Global;
 
@@ -18,9 +17,8 @@ pub(crate) fn nodes_of_lot(
     ensures { IfOk result (λ nodes. AreOfLot forest.now lot nodes.items) }
 {
     forest.laws();
-    let mut nodes = Vec::new(alloc);
-    if let Some(root) = forest.root_of(lot) {
-        list_from(forest, root, 257, &mut nodes)?;
+    match forest.root_of(lot) {
+        Some(root) => nodes_from(alloc, forest, root),
+        None => Ok(Vec::new(alloc)),
     }
-    Ok(nodes)
 }

@@ -4,4 +4,7 @@ mod Over
 mod Levels
 mod Blocks
 mod TwoRoots
+mod NearAskers
+mod NodeList
+mod Widening
 pub mod Door

@@ -1,4 +1,6 @@
+pub mod Around
 pub mod Local
+pub mod Near
 pub mod Occlusion
 pub mod Tree
 pub mod TwoRoots

@@ -8,9 +8,12 @@
 //! pair; who asks is not who is answered.
 #![tactic(auto)]
 
+mod around;
 mod hull_tree;
 mod listing;
+mod near;
 mod node_id;
+mod nodes;
 mod standing;
 mod steps;
 #[cfg(test)]
@@ -19,7 +22,9 @@ mod walk;
 
 pub use hull_tree::HullTree;
 pub use listing::queriers_meeting;
+pub use near::queriers_near;
 pub use node_id::NodeId;
+pub use nodes::{all_nodes, nodes_from};
 pub use standing::Standing;
 pub use steps::{child_of, root_of};
 pub use walk::answer;

@@ -2,5 +2,7 @@
 
 -- Small cases
 pub use Rattle.cga_queue.proofs.Cases.{not_false}
+-- What holds where a call found memory
+pub use Rattle.cga_queue.proofs.Later.{on_ok, on_ok_both}
 -- Which nodes are on the agenda, and what putting one on it and taking one off it does
-pub use Rattle.cga_queue.proofs.OnIt.{due_from, grows_by, grows_on, is_least, least_after, none_after, none_on, on_from, on_to, passed_over, put_grows, put_there, same_on}
+pub use Rattle.cga_queue.proofs.OnIt.{due_from, grows_by, grows_not, grows_on, on_from, on_to}

@@ -1,6 +1,6 @@
 -- The agenda: numbers of nodes by the stamps at which they are to be looked at. An entry stays when its node goes, and
 -- says nothing then.
-use Rattle.std.specs.Prelude.{◌≡◌, ◌⊎◌, ℕ, List, Option, Some, None, Bool, true, false, ◌&&◌, nat_eq}
+use Rattle.std.specs.Prelude.{◌≡◌, ◌⊎◌, ℕ, List, Option, Some, None, Bool, true, false, ◌&&◌, nat_eq, slice_get}
 use Rattle.std.specs.declared.cmp.Ordering.TheVariants.{Less, Equal}
 use Rattle.std.specs.List.{list_any}
 use Rattle.std.specs.Ordering.{is_eq, is_lt}
@@ -89,3 +89,11 @@ abbrev pub is_later : Mode → Option Chain → Option Chain → Bool
 is_later mode None y = false
 is_later mode (Some x) None = false
 is_later mode (Some x) (Some y) = is_lt (stamp_cmp mode x y)
+
+-- the node comes later than another
+abbrev pub ComesAfter : Chains → Mode → ℕ → ℕ → Type 0
+ComesAfter D mode of c = is_later mode (D of) (D c) ≡ true
+
+-- each of these nodes that comes later than another is on it
+abbrev pub HasLater : Chains → Mode → ℕ → List ℕ → AgendaView → Type 0
+HasLater D mode of ids a = (j c : ℕ) → slice_get ids j ≡ Some c → ComesAfter D mode of c → on D a c ≡ true

@@ -8,6 +8,10 @@
 #![tactic(auto)]
 
 mod agenda;
+mod chained;
+mod due;
 mod lines;
 
 pub use agenda::Agenda;
+pub use chained::Chained;
+pub use due::{add, add_later, take};

@@ -5,7 +5,6 @@ mod LineWords
 mod Sorted
 mod Kept
 mod Places
-mod Listing
 mod Entries
 mod Turning
 mod Tells

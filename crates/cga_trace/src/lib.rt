@@ -1,5 +1,4 @@
-//! The run of a derivation: told from the forest that is kept, written as text, and read again; with the walk over the
-//! forest that it goes by, which reports go by too.
+//! The run of a derivation: told from the forest that is kept, written as text, and read again.
 //!
 //! It must not know how a derivation goes or what is judged.
 //!
@@ -16,7 +15,6 @@ mod reading;
 mod step_words;
 mod text;
 mod tracing;
-mod walk;
 mod words;
 
 pub use fields::are_steps;
@@ -24,4 +22,3 @@ pub use judge_reader::JudgeReader;
 pub use reading::read_step;
 pub use text::{judged_text, trace_text};
 pub use tracing::trace;
-pub use walk::list_from;

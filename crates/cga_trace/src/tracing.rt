@@ -10,10 +10,9 @@ ghost use Rattle.cga_forest.specs.Walked.{forest_tree};
 ghost use Rattle.cga_trace.specs.Kept.{outcome_from, step_of_node};
 ghost use Rattle.cga_trace.specs.Order.{AreInside, AreOf, IsAdded, IsKnown};
 
-use crate::walk::all_nodes;
 use cga_forest::{Forest, Node};
 use cga_fraction::{List, NoMemory};
-use cga_index::{HullTree, NodeId};
+use cga_index::{HullTree, NodeId, all_nodes};
 use cga_key::StampKey;
 use cga_shape::{Kind, Outcome, TraceStep};
 use std::alloc::Global;

@@ -50,5 +50,5 @@ count_is (x ∷ xs) = from_front (λ c. present_of (slot (x ∷ xs) c)) (length 
 pub counts : (w : Work) (number : ℕ) → number ≡ tally is_shown w.forest.slots → Counts (Means w) number
 counts w number is edit s means = (
   is ∙ sym (count_is w.forest.slots) ∙ sym ((lists_are_views {B = Setting}).size content (node_at w.forest) (length w.forest.slots)) ∙ sym (ap length means.nodes),
-  subst StandOnce (sym means.nodes) (lists_are_views.once (shapes_of w.new.now) content (rules_of w.new.now) (node_at w.forest) (length w.forest.slots) means.underway.city),
+  subst StandOnce (sym means.nodes) (lists_are_views.once (shapes_of w.renewal.new.now) content (rules_of w.renewal.new.now) (node_at w.forest) (length w.forest.slots) means.underway.city),
 )

@@ -109,12 +109,13 @@ module _ (w : Work) (edit : Edit (Ranked Shape) Answers Setting ShapeFault Primi
 
   working_is : (start : Nodes) (turned worked : List (Ranked Shape))
       → IsWorking edit start s.nodes s.queued turned worked
-      → IsWorking (the_edit w.old.now w.new.now) start (kept_nodes w.forest) s.queued turned worked
+      → IsWorking (the_edit w.renewal.old.now w.renewal.new.now) start (kept_nodes w.forest) s.queued turned worked
   working_is start turned worked h =
       subst (λ e. IsWorking e start (kept_nodes w.forest) s.queued turned worked) means.edit_is
       (subst (λ ns. IsWorking edit start ns s.queued turned worked) means.nodes h)
 
-  none_is : NoneQueued edit s.nodes s.queued → NoneQueued (the_edit w.old.now w.new.now) (kept_nodes w.forest) s.queued
+  none_is : NoneQueued edit s.nodes s.queued
+      → NoneQueued (the_edit w.renewal.old.now w.renewal.new.now) (kept_nodes w.forest) s.queued
   none_is h =
       subst (λ e. NoneQueued e (kept_nodes w.forest) s.queued) means.edit_is
       (subst (λ ns. NoneQueued edit ns s.queued) means.nodes h)
@@ -122,10 +123,11 @@ module _ (w : Work) (edit : Edit (Ranked Shape) Answers Setting ShapeFault Primi
   -- the nodes stand when nothing is on the agenda
   nodes_stand : (start : Nodes) (turned worked : List (Ranked Shape))
       → IsWorking edit start s.nodes s.queued turned worked → NoneQueued edit s.nodes s.queued
-      → tree.Stands (shapes_of w.new.now) content (rules_of w.new.now) (asks_by w.new.now.grammar) (node_at w.forest)
+      → tree.Stands (shapes_of w.renewal.new.now) content (rules_of w.renewal.new.now)
+      (asks_by w.renewal.new.now.grammar) (node_at w.forest)
   nodes_stand start turned worked working none =
       let again : StandsAgain Node Shape Answers Setting ShapeFault Primitive = stands_again in
-      again.done (shapes_of w.new.now) content (rules_of w.old.now) (rules_of w.new.now) (asks_by w.new.now.grammar) (node_at w.forest) (length w.forest.slots) start (on_of w.forest w.agenda) s.queued turned worked
+      again.done (shapes_of w.renewal.new.now) content (rules_of w.renewal.old.now) (rules_of w.renewal.new.now) (asks_by w.renewal.new.now.grammar) (node_at w.forest) (length w.forest.slots) start (on_of w.forest w.agenda) s.queued turned worked
       (kept_bound w.forest) means.underway means.queued (working_is start turned worked working) (none_is none)
 
   -- what the end of the work leaves stands for the new sources
@@ -133,16 +135,16 @@ module _ (w : Work) (edit : Edit (Ranked Shape) Answers Setting ShapeFault Primi
       → (v : ForestView) (d : DependentsView) → ((c : ℕ) → node_at v c ≡ node_at w.forest c) → v.marking ≡ false
       → v.mode ≡ w.forest.mode
       → ListsView d (node_at w.forest)
-      → Stands w.new.now (record { forest = v; dependents = d })
+      → Stands w.renewal.new.now (record { forest = v; dependents = d })
   stands_done start budget calls since is_done v d same unmarked mode listed = record {
     forest = record {
       mode = mode ∙ means.mode;
       unmarked = unmarked;
-      nodes = same_stands w.new.now w.forest v same (nodes_stand start is_done.turned is_done.worked is_done.working is_done.none_queued);
+      nodes = same_stands w.renewal.new.now w.forest v same (nodes_stand start is_done.turned is_done.worked is_done.working is_done.none_queued);
       silent = λ c x at. means.silent c x (sym (same c) ∙ at);
       plain = λ c x at. means.plain c x (sym (same c) ∙ at);
     };
-    dependents = dependents_stand w.new.now v d (node_at w.forest) same listed;
+    dependents = dependents_stand w.renewal.new.now v d (node_at w.forest) same listed;
   }
 
 -- put back, a forest stands as it did

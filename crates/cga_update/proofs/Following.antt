@@ -7,8 +7,8 @@ use Rattle.cga_word.specs.declared.mode.Mode.{Mode}
 use Rattle.cga_forest.specs.declared.change.Change.{Change}
 use Rattle.cga_forest.specs.declared.moved.Moved.{Moved}
 use Rattle.cga_forest.specs.Tree.{ForestView}
-use Rattle.cga_queue.specs.Agenda.{AgendaView, Chains, Grows}
-use Rattle.cga_update.specs.Due.{ComesAfter, HasAskers}
+use Rattle.cga_queue.specs.Agenda.{AgendaView, Chains, ComesAfter, Grows}
+use Rattle.cga_update.specs.Due.{HasAskers}
 use Rattle.cga_update.specs.Follow.{IsComer, IsFollowed}
 use Rattle.cga_update.specs.Queue.{chains_of, on_of}
 use Rattle.cga_fraction.proofs.Door.{lt_or_eq_below_suc as below_or}
@@ -54,9 +54,9 @@ module _ (v : ForestView) where
       → HasAskers v is of area a
   askers_mode was is of area a e has = subst (λ m. HasAskers v m of area a) e has
 
-  pub grows_mode : (was is : Mode) (of : ℕ) (a b : AgendaView) → was ≡ is → Grows D (ComesAfter v was of) a b
-      → Grows D (ComesAfter v is of) a b
-  grows_mode was is of a b e g = subst (λ m. Grows D (ComesAfter v m of) a b) e g
+  pub grows_mode : (was is : Mode) (of : ℕ) (a b : AgendaView) → was ≡ is → Grows D (ComesAfter D was of) a b
+      → Grows D (ComesAfter D is of) a b
+  grows_mode was is of a b e g = subst (λ m. Grows D (ComesAfter D m of) a b) e g
 
   -- one node more that came
   pub came_more : (first a b : AgendaView) (came : List Moved) (n : ℕ) (y : Moved) → slice_get came n ≡ Some y
@@ -66,9 +66,9 @@ module _ (v : ForestView) where
 
   pub followed : (of : ℕ) (change : Change) (all_came : Bool) (a b d e : AgendaView) → Grows D (IsComer change) a b
       → ((m : Moved) → Among m change.came → IsSome (D m.id) → on_of v b m.id ≡ true)
-      → Grows D (ComesAfter v b.mode of) b d
+      → Grows D (ComesAfter D b.mode of) b d
       → ((m : Moved) → Among m change.went → HasAskers v b.mode of (box_of m.scope) d)
-      → Grows D (ComesAfter v d.mode of) d e
+      → Grows D (ComesAfter D d.mode of) d e
       → ((m : Moved) → Among m change.came → HasAskers v d.mode of (box_of m.scope) e)
       → IsFollowed v of change all_came a e
   followed of change all_came a b d e came there went met come seen =
@@ -79,7 +79,7 @@ module _ (v : ForestView) where
         mode = come.mode ∙ second;
         kept = λ c h. come.kept c (went.kept c (came.kept c h));
         came = λ m h s. come.kept m.id (went.kept m.id (there m h s));
-        met_went = λ not m h. askers_stay (ComesAfter v a.mode of) a.mode of (box_of m.scope) d e last (askers_mode b.mode a.mode of (box_of m.scope) d came.mode (met m h));
+        met_went = λ not m h. askers_stay (ComesAfter D a.mode of) a.mode of (box_of m.scope) d e last (askers_mode b.mode a.mode of (box_of m.scope) d came.mode (met m h));
         met_came = λ not m h. askers_mode d.mode a.mode of (box_of m.scope) e second (seen m h);
         only = λ c h. elim (last.only c h) [
           | inl x ↦ elim (more.only c x) [
@@ -95,8 +95,8 @@ module _ (v : ForestView) where
       → first ≡ change.came → second ≡ change.went → third ≡ change.came
       → Grows D (λ c. (m : Moved) × Among m first × (m.id ≡ c)) a b
       → ((m : Moved) → Among m first → IsSome (D m.id) → on_of v b m.id ≡ true)
-      → Grows D (ComesAfter v b.mode of) b d → ((m : Moved) → Among m second → HasAskers v b.mode of (box_of m.scope) d)
-      → Grows D (ComesAfter v d.mode of) d e → ((m : Moved) → Among m third → HasAskers v d.mode of (box_of m.scope) e)
+      → Grows D (ComesAfter D b.mode of) b d → ((m : Moved) → Among m second → HasAskers v b.mode of (box_of m.scope) d)
+      → Grows D (ComesAfter D d.mode of) d e → ((m : Moved) → Among m third → HasAskers v d.mode of (box_of m.scope) e)
       → IsFollowed v of change all_came a e
   followed_by of change all_came first second third a b d e one two three came there went met come seen =
       followed of change all_came a b d e (subst (λ l. Grows D (λ c. (m : Moved) × Among m l × (m.id ≡ c)) a b) one came) (subst (λ l. (m : Moved) → Among m l → IsSome (D m.id) → on_of v b m.id ≡ true) one there)

@@ -27,6 +27,7 @@ mod Lots
 mod Losing
 mod Adding
 mod Rooting
+mod NearMoved
 mod Nearby
 mod Changing
 mod Drawing
@@ -42,6 +43,4 @@ mod Renewing
 mod Turning
 mod Quiet
 mod Idle
-mod Widening
-mod NearAskers
 pub mod Door

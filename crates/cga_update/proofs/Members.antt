@@ -1,11 +1,9 @@
 -- Members of lists.
-use Rattle.std.proofs.Common.{◌≡◌, ◌⊎◌, inl, inr, ℕ, List, [], ◌∷◌, ◌++◌, Bool, true, false, ◌||◌, suc, refl, sym, ap, ◌∙◌, Some, slice_get}
-use Rattle.std.specs.List.{list_any}
+use Rattle.std.proofs.Common.{◌≡◌, ◌⊎◌, inl, inr, ℕ, List, [], ◌∷◌, ◌++◌, suc, refl, ap, Some, slice_get}
 use Rattle.cga_index.specs.Tree.{Apart, Member}
 use Rattle.cga_order.specs.World.{Among}
 use Rattle.cga_forest.specs.declared.moved.Moved.{Moved}
 use Rattle.cga_forest.specs.Moved.{ids_of}
-use Rattle.std.proofs.lemmas.Bool.{or_right as or_true}
 
 pub among_left : {X : Type 0} (xs ys : List X) (x : X) → Among x xs → Among x (xs ++ ys)
 among_left [] ys x h = absurd h
@@ -46,21 +44,6 @@ id_of (x ∷ xs) n h = elim h [
   | inl e ↦ (x, inl refl, e)
   | inr r ↦ (let w = id_of xs n r in (w.0, inr w.1, w.2))
 ]
-
-any_first : {X : Type 0} (p : X → Bool) (x : X) (xs : List X)
-    → ((list_any p xs ≡ true) → (y : X) × Among y xs × (p y ≡ true)) → (b : Bool) → p x ≡ b → list_any p (x ∷ xs) ≡ true
-    → (y : X) × Among y (x ∷ xs) × (p y ≡ true)
-any_first p x xs more true is h = (x, inl refl, is)
-any_first p x xs more false is h = let w = more (ap (λ b. b || list_any p xs) (sym is) ∙ h) in (w.0, inr w.1, w.2)
-
-pub any_from : {X : Type 0} (p : X → Bool) (xs : List X) → list_any p xs ≡ true → (x : X) × Among x xs × (p x ≡ true)
-any_from p [] h = let z : false ≡ true = h in absurd (cc)
-any_from p (x ∷ xs) h = any_first p x xs (any_from p xs) (p x) refl h
-
-pub any_to : {X : Type 0} (p : X → Bool) (xs : List X) (x : X) → Among x xs → p x ≡ true → list_any p xs ≡ true
-any_to p [] x h is = absurd h
-any_to p (y ∷ xs) x (inl e) is = ap (λ b. b || list_any p xs) (ap p e ∙ is)
-any_to p (y ∷ xs) x (inr h) is = or_true (p y) (list_any p xs) (any_to p xs x h is)
 
 pub among_at : {X : Type 0} (xs : List X) (x : X) → Among x xs → (i : ℕ) × (slice_get xs i ≡ Some x)
 among_at [] x h = absurd h

@@ -21,8 +21,8 @@ use Rattle.cga_forest.specs.Node.{bounds, chain_kept, fits}
 use Rattle.cga_forest.specs.View.{Seen}
 use Rattle.cga_forest.specs.Tree.{ForestView, marked_at, node_at}
 use Rattle.cga_rework.specs.Agenda.{IsMoved}
-use Rattle.cga_queue.specs.Agenda.{AgendaView, is_later}
-use Rattle.cga_update.specs.Due.{AllCame, ComersAreDue, ComesAfter, HasAskers}
+use Rattle.cga_queue.specs.Agenda.{AgendaView, ComesAfter, is_later}
+use Rattle.cga_update.specs.Due.{AllCame, ComersAreDue, HasAskers}
 use Rattle.cga_update.specs.Edit.{content, meets_box, shapes_of}
 use Rattle.cga_update.specs.Follow.{IsComer, IsFollowed}
 use Rattle.cga_update.specs.Queue.{chains_of, due_chain, on_of}
@@ -66,11 +66,12 @@ module _ (v w : ForestView) (new : Sources) (id : ℕ) (news : List Node) (e now
   module _ (was after : AgendaView) (mode : was.mode ≡ new.mode) (change : Change) (went : ListsMoved (node_at v) (node_at w) change.went) (came : ListsMoved (node_at w) (node_at v) change.came) (all_came : Bool) (followed : IsFollowed w id change all_came was after)
       (comers : (c : ℕ) (d : Seen) → node_at v c ≡ Some d → marked_at w c ≡ None → is_instance d.node.kind ≡ false → IsAfter d → on_of v was c ≡ true) (all : all_came ≡ true → AllCame w) where
     later_in : (c : ℕ) (d : Seen) → node_at w c ≡ Some d → is_instance d.node.kind ≡ false
-        → stamp_cmp new.mode (chain_kept e.node) (chain_kept d.node) ≡ Less → ComesAfter w was.mode id c
+        → stamp_cmp new.mode (chain_kept e.node) (chain_kept d.node) ≡ Less → ComesAfter (chains_of w) was.mode id c
     later_in c d here solid less =
         (λ i. is_later (mode i) (due_is (node_at w id) now replaced.is still i) (due_is (node_at w c) d here solid i)) ∙ ap (λ y. is_lt (stamp_cmp new.mode y (chain_kept d.node))) chain ∙ ap is_lt less
 
-    later_out : (c : ℕ) (d : Seen) → node_at w c ≡ Some d → is_instance d.node.kind ≡ false → ComesAfter w was.mode id c
+    later_out : (c : ℕ) (d : Seen) → node_at w c ≡ Some d → is_instance d.node.kind ≡ false
+        → ComesAfter (chains_of w) was.mode id c
         → stamp_cmp new.mode (chain_kept e.node) (chain_kept d.node) ≡ Less
     later_out c d here solid late =
         lt_is (stamp_cmp new.mode (chain_kept e.node) (chain_kept d.node)) (sym (ap (λ y. is_lt (stamp_cmp new.mode y (chain_kept d.node))) chain) ∙ sym (λ i. is_later (mode i) (due_is (node_at w id) now replaced.is still i) (due_is (node_at w c) d here solid i)) ∙ late)

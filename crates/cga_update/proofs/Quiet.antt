@@ -36,7 +36,7 @@ module _ (was now : Work) (rest : AgendaView) (id : ℕ) (x : Chain) (edit : The
   passed = record was { agenda = rest }
 
   abbrev new : Sources
-  new = was.new.now
+  new = was.renewal.new.now
 
   module _ (turned : Turned) (turn : IsQuiet passed now id turned) where
     abbrev e : Seen
@@ -47,7 +47,7 @@ module _ (was now : Work) (rest : AgendaView) (id : ℕ) (x : Chain) (edit : The
         (on_of was.forest rest)
     taken = taken_at was.forest new was.agenda rest id x e means.agenda_mode least turn.here
 
-    quiet : IsQuietTurn (shapes_of new) content (rules_of was.old.now) (rules_of new) (asks_by new.grammar)
+    quiet : IsQuietTurn (shapes_of new) content (rules_of was.renewal.old.now) (rules_of new) (asks_by new.grammar)
         (node_at was.forest) (length was.forest.slots) id e (on_of was.forest was.agenda) (on_of was.forest rest)
     quiet = record {
       taken = taken.1;
@@ -62,16 +62,17 @@ module _ (was now : Work) (rest : AgendaView) (id : ℕ) (x : Chain) (edit : The
         (on_of was.forest rest)
         × ((requeued : Ranked Shape → Bool)
         × AreQueued (shapes_of new) content (node_at was.forest) (on_of was.forest rest) requeued
-        × IsTurnOf (the_edit was.old.now new) (kept_nodes was.forest) (kept_nodes was.forest) (ranked e.node) s.queued
+        × IsTurnOf (the_edit was.renewal.old.now new) (kept_nodes was.forest) (kept_nodes was.forest) (ranked e.node) s.queued
         requeued false)
-    result = quiet_turns (shapes_of new) content (rules_of was.old.now) (rules_of new) (is_rules_edit was.old.now new means.old_names means.names) (by_symbol new) (asks_by new.grammar) (node_at was.forest) (length was.forest.slots) id e (on_of was.forest was.agenda) (on_of was.forest rest) (kept_bound was.forest) means.underway quiet s.queued means.queued
+    result = quiet_turns (shapes_of new) content (rules_of was.renewal.old.now) (rules_of new) (is_rules_edit was.renewal.old.now new means.old_names means.names) (by_symbol new) (asks_by new.grammar) (node_at was.forest) (length was.forest.slots) id e (on_of was.forest was.agenda) (on_of was.forest rest) (kept_bound was.forest) means.underway quiet s.queued means.queued
 
     abbrev after : TheState
     after = record { nodes = kept_nodes was.forest; queued = result.1.0; gone = s.gone; come = s.come }
 
     -- ---- a turn with no call, in which nothing went or came
 
-    no_children : turned.children ≡ children_of (the_edit was.old.now new) (kept_nodes was.forest) (ranked e.node) false
+    no_children : turned.children
+        ≡ children_of (the_edit was.renewal.old.now new) (kept_nodes was.forest) (ranked e.node) false
     no_children = ap (λ (t : Turned). t.children) turn.told
 
     no_calls : (calls since : ℕ) → since ≡ calls + calls_of turned.expanded → since ≡ calls + calls_of false
@@ -80,14 +81,14 @@ module _ (was now : Work) (rest : AgendaView) (id : ℕ) (x : Chain) (edit : The
     turns : (calls since : ℕ) → since ≡ calls + calls_of turned.expanded
         → Turns edit s after calls since turned.children
     turns calls since ticks =
-        let first : Turns (the_edit was.old.now new) (record { nodes = kept_nodes was.forest; queued = s.queued; gone = s.gone; come = s.come }) after calls since turned.children =
+        let first : Turns (the_edit was.renewal.old.now new) (record { nodes = kept_nodes was.forest; queued = s.queued; gone = s.gone; come = s.come }) after calls since turned.children =
         (ranked e.node, false, result.1.2, ([], [], (lists_are_changes {B = Setting}).quiet content (node_at was.forest) (length was.forest.slots), sym (append-nil s.gone), sym (append-nil s.come)), no_children, no_calls calls since ticks) in
-        let here : Turns (the_edit was.old.now new) s after calls since turned.children = subst (λ (st : TheState). Turns (the_edit was.old.now new) st after calls since turned.children) (λ i. record { nodes = sym means.nodes i; queued = s.queued; gone = s.gone; come = s.come }) first in
+        let here : Turns (the_edit was.renewal.old.now new) s after calls since turned.children = subst (λ (st : TheState). Turns (the_edit was.renewal.old.now new) st after calls since turned.children) (λ i. record { nodes = sym means.nodes i; queued = s.queued; gone = s.gone; come = s.come }) first in
         subst (λ (ed : TheEdit). Turns ed s after calls since turned.children) (sym means.edit_is) here
 
     -- ---- what it means then
 
-    still_means : (symbols : Symbols) → AreKnown was.old.now.grammar new.grammar symbols.known
+    still_means : (symbols : Symbols) → AreKnown was.renewal.old.now.grammar new.grammar symbols.known
         → Means (record passed { symbols = symbols }) edit after
     still_means symbols known = record {
       edit_is = means.edit_is;

@@ -89,7 +89,7 @@ lots_over new names exist budget more =
 -- ---- where the work ended
 
 pub has_ended : (old new : Sources) (v : ForestView) (was now : Work) (roots budget calls since : ℕ) (e : Ended)
-    → Ends (Means was) (Means now) roots budget calls since e → roots ≡ length was.new.now.lots
+    → Ends (Means was) (Means now) roots budget calls since e → roots ≡ length was.renewal.new.now.lots
     → RootsExist new.lots → IsBetween old new was → HasBegun old new v was → HasEnded old new v now budget calls since e
 has_ended old new v was now roots budget calls since e ends size exist between begun =
     let number : length (the_edit old new).new.roots ≡ roots = as_many_roots old new exist ∙ sym (size ∙ ap (λ (x : Sources). length x.lots) between.1) in
@@ -128,10 +128,10 @@ module _ (old new : Sources) (mode : old.mode ≡ new.mode) (olds : NamesDiffer 
       (begun.0, begun.1, subst (λ nodes. IsReady (the_edit old new) nodes begun.0 (length (the_edit old new).new.roots)) same begun.2)
 
   module _ (was w : Work) (budget calls since : ℕ) (between : IsBetween old new was) (bounds : KeepsBounds was w) (at_first : (c : ℕ) → marked_at was.forest c ≡ node_at kept.forest c) where
-    still_old : w.old.now ≡ old
+    still_old : w.renewal.old.now ≡ old
     still_old = ap (λ r. r.now) bounds.old ∙ between.0
 
-    still_new : w.new.now ≡ new
+    still_new : w.renewal.new.now ≡ new
     still_new = ap (λ r. r.now) bounds.new ∙ between.1
 
     module _ (e : Ended) (ended : HasEnded old new kept.forest w budget calls since e) where

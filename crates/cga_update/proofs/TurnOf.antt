@@ -24,10 +24,10 @@ use Rattle.cga_update.specs.Plain.{IsPlain}
 use Rattle.cga_update.specs.Turned.{HasPlaced, IsAgain, IsTurned, MayTurn}
 
 abbrev Knows : Work → Symbols → Type 0
-Knows w s = AreKnown w.old.now.grammar w.new.now.grammar s.known
+Knows w s = AreKnown w.renewal.old.now.grammar w.renewal.new.now.grammar s.known
 
 abbrev HasFacts : Work → ℕ → Facts → Type 0
-HasFacts w id facts = (d : Seen) → node_at w.forest id ≡ Some d → Knows w w.symbols → AreFacts w.old.now.grammar w.new.now.grammar d.node.shape.symbol facts
+HasFacts w id facts = (d : Seen) → node_at w.forest id ≡ Some d → Knows w w.symbols → AreFacts w.renewal.old.now.grammar w.renewal.new.now.grammar d.node.shape.symbol facts
 
 abbrev AsksOf : Work → ℕ → Facts → Answers → Type 0
 AsksOf w id facts answers = (old new : Sources) (d : Seen) → w.forest.mode ≡ new.mode → node_at w.forest id ≡ Some d
@@ -46,7 +46,7 @@ RightOf w id facts right = (d : Seen) → node_at w.forest id ≡ Some d → rig
 
 abbrev ExpandsAt : Work → Work → ℕ → Answers → Turned → Type 0
 ExpandsAt w now id answers turned = (outcome : Outcome) × HasPlaced w now id answers outcome
-    × ((d : Seen) → node_at w.forest id ≡ Some d → outcome ≡ expand_of w.new.now.grammar d.node.shape answers)
+    × ((d : Seen) → node_at w.forest id ≡ Some d → outcome ≡ expand_of w.renewal.new.now.grammar d.node.shape answers)
     × (turned.expanded ≡ true) × (turned.children ≡ length (emitted outcome))
 
 abbrev PlacesAt : Work → Work → ℕ → Answers → Turned → Type 0
@@ -80,12 +80,12 @@ module _ (was : Work) (symbols : Symbols) where
   )
 
   module _ (now : Work) (id : ℕ) (facts : Facts) (answers : Answers) (must : Bool) (turned : Turned) (here : IsHere was id) (facts_are : HasFacts was id facts) (known : Knows was was.symbols → Knows was symbols) (asks : AsksOf mid id facts answers) (same_symbols : now.symbols ≡ symbols) (may : MayTurn was) where
-    are : AreFacts was.old.now.grammar was.new.now.grammar here.0.node.shape.symbol facts
+    are : AreFacts was.renewal.old.now.grammar was.renewal.new.now.grammar here.0.node.shape.symbol facts
     are = facts_are here.0 here.1 may.known
 
-    asked_is : answers ≡ kept.asked (new_world (the_edit was.old.now was.new.now)) (kept_nodes was.forest)
-        (ranked here.0.node)
-    asked_is = asks was.old.now was.new.now here.0 may.mode here.1 are.noparent are.active
+    asked_is : answers ≡ kept.asked (new_world (the_edit was.renewal.old.now was.renewal.new.now))
+        (kept_nodes was.forest) (ranked here.0.node)
+    asked_is = asks was.renewal.old.now was.renewal.new.now here.0 may.mode here.1 are.noparent are.active
 
     known_now : Knows was now.symbols
     known_now = subst (λ s. Knows was s) (sym same_symbols) (known may.known)

@@ -77,7 +77,7 @@ is_fit = record {
 -- one turn: was and now are the work before and after it
 module _ (was now : Work) (rest : AgendaView) (id : ℕ) (x : Chain) (turned : Turned) (edit : TheEdit) (s : TheState) (means : Means was edit s) (before : IsForest was.forest) (least : IsLeast (chains_of was.forest) was.agenda rest id x) (turn : IsPlacing (record was { agenda = rest }) now id turned) where
   abbrev new : Sources
-  new = was.new.now
+  new = was.renewal.new.now
 
   abbrev V : ℕ → Option Seen
   V = node_at was.forest
@@ -89,7 +89,7 @@ module _ (was now : Work) (rest : AgendaView) (id : ℕ) (x : Chain) (turned : T
   e = turn.node
 
   abbrev g : Grammar
-  g = was.new.now.grammar
+  g = was.renewal.new.now.grammar
 
   abbrev news : List Node
   news = children_after g e.node turn.outcome
@@ -149,10 +149,10 @@ module _ (was now : Work) (rest : AgendaView) (id : ℕ) (x : Chain) (turned : T
   symbols c b d y t u k solid = (means.underway.city.child c b d y t u k).symbol solid
 
   told : ((turned.expanded ≡ true)
-      × theory.IsExpanded (shapes_of new) content (rules_of was.old.now) (rules_of new) V (length was.forest.slots)
-      e.node after_e.node news)
+      × theory.IsExpanded (shapes_of new) content (rules_of was.renewal.old.now) (rules_of new) V
+      (length was.forest.slots) e.node after_e.node news)
       ⊎ ((turned.expanded ≡ false)
-      × theory.IsRepriced (shapes_of new) content (rules_of was.old.now) (rules_of new) V (length was.forest.slots) e
+      × theory.IsRepriced (shapes_of new) content (rules_of was.renewal.old.now) (rules_of new) V (length was.forest.slots) e
       after_e.node news)
   told = elim turn.told [
     | inl h ↦ inl (
@@ -175,8 +175,8 @@ module _ (was now : Work) (rest : AgendaView) (id : ℕ) (x : Chain) (turned : T
     )
   ]
 
-  node_turn : IsNodeTurn (shapes_of new) content (rules_of was.old.now) (rules_of new) fits (asks_by g) meets_box V T
-      (length was.forest.slots) id news e after_e gone (on_of was.forest was.agenda) (on_of was.forest rest)
+  node_turn : IsNodeTurn (shapes_of new) content (rules_of was.renewal.old.now) (rules_of new) fits (asks_by g)
+      meets_box V T (length was.forest.slots) id news e after_e gone (on_of was.forest was.agenda) (on_of was.forest rest)
       (on_of now.forest now.agenda) turned.expanded
   node_turn = record {
     taken = taken.1;
@@ -193,10 +193,10 @@ module _ (was now : Work) (rest : AgendaView) (id : ℕ) (x : Chain) (turned : T
   Result =
       IsUnderway (shapes_of new) content (rules_of new) (asks_by g) T (on_of now.forest now.agenda)
       × ((requeued : Ranked Shape → Bool) × AreQueued (shapes_of new) content T (on_of now.forest now.agenda) requeued
-      × IsTurnOf (the_edit was.old.now new) (kept_nodes was.forest) (kept_nodes now.forest) (ranked e.node) s.queued requeued turned.expanded)
+      × IsTurnOf (the_edit was.renewal.old.now new) (kept_nodes was.forest) (kept_nodes now.forest) (ranked e.node) s.queued requeued turned.expanded)
 
   result : Result
-  result = node_turns (shapes_of new) content (rules_of was.old.now) (rules_of new) (is_rules_edit was.old.now new means.old_names means.names) (by_symbol new) fits (asks_by g) meets_box is_fit (sees_what_meets new) V T (length was.forest.slots) (length now.forest.slots) id news e after_e gone (on_of was.forest was.agenda) (on_of was.forest rest) (on_of now.forest now.agenda) turned.expanded (kept_bound was.forest) (kept_bound now.forest) means.underway node_turn s.queued means.queued
+  result = node_turns (shapes_of new) content (rules_of was.renewal.old.now) (rules_of new) (is_rules_edit was.renewal.old.now new means.old_names means.names) (by_symbol new) fits (asks_by g) meets_box is_fit (sees_what_meets new) V T (length was.forest.slots) (length now.forest.slots) id news e after_e gone (on_of was.forest was.agenda) (on_of was.forest rest) (on_of now.forest now.agenda) turned.expanded (kept_bound was.forest) (kept_bound now.forest) means.underway node_turn s.queued means.queued
 
   -- ---- the record
 
@@ -213,22 +213,22 @@ module _ (was now : Work) (rest : AgendaView) (id : ℕ) (x : Chain) (turned : T
   came = lists_lost T V (one_node now.forest turn.placed.1.forest) turn.placed.0.came turn.placed.1.came
 
   change : IsChange (kept_nodes was.forest) (kept_nodes now.forest) went.0 came.0
-  change = lists_are_changes.turn (shapes_of new) content (rules_of was.old.now) (rules_of new) (is_rules_edit was.old.now new means.old_names means.names) (by_symbol new) fits (asks_by g) meets_box is_fit V T (length was.forest.slots) (length now.forest.slots) id news e after_e gone (on_of was.forest was.agenda) (on_of was.forest rest) (on_of now.forest now.agenda) turned.expanded (kept_bound was.forest) (kept_bound now.forest) means.underway node_turn went.0 came.0 went.1 came.1
+  change = lists_are_changes.turn (shapes_of new) content (rules_of was.renewal.old.now) (rules_of new) (is_rules_edit was.renewal.old.now new means.old_names means.names) (by_symbol new) fits (asks_by g) meets_box is_fit V T (length was.forest.slots) (length now.forest.slots) id news e after_e gone (on_of was.forest was.agenda) (on_of was.forest rest) (on_of now.forest now.agenda) turned.expanded (kept_bound was.forest) (kept_bound now.forest) means.underway node_turn went.0 came.0 went.1 came.1
 
   abbrev after : TheState
   after = record { nodes = kept_nodes now.forest; queued = result.1.0; gone = s.gone ++ went.0; come = s.come ++ came.0 }
 
-  children_is : turned.children ≡ children_of (the_edit was.old.now new) (kept_nodes was.forest) (ranked e.node)
+  children_is : turned.children ≡ children_of (the_edit was.renewal.old.now new) (kept_nodes was.forest) (ranked e.node)
       turned.expanded
   children_is = elim turn.told [
-    | inl h ↦ h.1.count ∙ ap (λ o. length (emitted o)) (h.1.value ∙ ap (expand_of g e.node.shape) turn.asked) ∙ sym (expansion_count was.old.now new (ranked e.node) (asked (new_world (the_edit was.old.now new)) (kept_nodes was.forest) (ranked e.node))) ∙ ap (children_of (the_edit was.old.now new) (kept_nodes was.forest) (ranked e.node)) (sym h.0)
-    | inr h ↦ h.1.count ∙ ap (children_of (the_edit was.old.now new) (kept_nodes was.forest) (ranked e.node)) (sym h.0)
+    | inl h ↦ h.1.count ∙ ap (λ o. length (emitted o)) (h.1.value ∙ ap (expand_of g e.node.shape) turn.asked) ∙ sym (expansion_count was.renewal.old.now new (ranked e.node) (asked (new_world (the_edit was.renewal.old.now new)) (kept_nodes was.forest) (ranked e.node))) ∙ ap (children_of (the_edit was.renewal.old.now new) (kept_nodes was.forest) (ranked e.node)) (sym h.0)
+    | inr h ↦ h.1.count ∙ ap (children_of (the_edit was.renewal.old.now new) (kept_nodes was.forest) (ranked e.node)) (sym h.0)
   ]
 
   turns : (calls since : ℕ) → since ≡ calls + calls_of turned.expanded → Turns edit s after calls since turned.children
   turns calls since ticks =
-      let first : Turns (the_edit was.old.now new) (record { nodes = kept_nodes was.forest; queued = s.queued; gone = s.gone; come = s.come }) after calls since turned.children = (ranked e.node, turned.expanded, result.1.2, (went.0, came.0, change, refl, refl), children_is, ticks) in
-      let here : Turns (the_edit was.old.now new) s after calls since turned.children = subst (λ (st : TheState). Turns (the_edit was.old.now new) st after calls since turned.children) (λ i. record { nodes = sym means.nodes i; queued = s.queued; gone = s.gone; come = s.come }) first in
+      let first : Turns (the_edit was.renewal.old.now new) (record { nodes = kept_nodes was.forest; queued = s.queued; gone = s.gone; come = s.come }) after calls since turned.children = (ranked e.node, turned.expanded, result.1.2, (went.0, came.0, change, refl, refl), children_is, ticks) in
+      let here : Turns (the_edit was.renewal.old.now new) s after calls since turned.children = subst (λ (st : TheState). Turns (the_edit was.renewal.old.now new) st after calls since turned.children) (λ i. record { nodes = sym means.nodes i; queued = s.queued; gone = s.gone; come = s.come }) first in
       subst (λ (ed : TheEdit). Turns ed s after calls since turned.children) (sym means.edit_is) here
 
   -- ---- what it means then
@@ -250,10 +250,10 @@ module _ (was now : Work) (rest : AgendaView) (id : ℕ) (x : Chain) (turned : T
       ((was.log.items ++ went_of turn.placed.0.went) ++ came_of turn.placed.0.came)
   log_is = logged_more (marked_at was.forest) V T was.log.items turn.placed.0.went turn.placed.0.came means.logged turn.placed.1.went turn.placed.1.came alike
 
-  to_new : (P : Bor Sources → Type 0) → P was.new → P now.new
+  to_new : (P : Bor Sources → Type 0) → P was.renewal.new → P now.renewal.new
   to_new P h = subst P (sym turn.placed.1.bounds.new) h
 
-  to_old : (P : Bor Sources → Type 0) → P was.old → P now.old
+  to_old : (P : Bor Sources → Type 0) → P was.renewal.old → P now.renewal.old
   to_old P h = subst P (sym turn.placed.1.bounds.old) h
 
   due_now : ComersAreDue new.mode now.forest now.agenda
@@ -263,7 +263,7 @@ module _ (was now : Work) (rest : AgendaView) (id : ℕ) (x : Chain) (turned : T
 
   means_now : Means now edit after
   means_now = record {
-    edit_is = to_new (λ b. edit ≡ the_edit now.old.now b.now) (to_old (λ b. edit ≡ the_edit b.now new) means.edit_is);
+    edit_is = to_new (λ b. edit ≡ the_edit now.renewal.old.now b.now) (to_old (λ b. edit ≡ the_edit b.now new) means.edit_is);
     old_names = to_old (λ b. NamesDiffer b.now.lots) means.old_names;
     names = to_new (λ b. NamesDiffer b.now.lots) means.names;
     mode = to_new (λ b. now.forest.mode ≡ b.now.mode) (turn.placed.1.bounds.mode ∙ means.mode);
@@ -278,7 +278,7 @@ module _ (was now : Work) (rest : AgendaView) (id : ℕ) (x : Chain) (turned : T
     plain = still_plain was.forest now.forest before g id turn.outcome e after_e gone replaced refl means.plain;
     gone = turn.placed.1.gone ∙ (λ i. means.gone i ++ sym went.2 i) ∙ sym (map_both told_ranked s.gone went.0);
     come = turn.placed.1.come ∙ (λ i. means.come i ++ sym came.2 i) ∙ sym (map_both told_ranked s.come came.0);
-    known = to_new (λ b. AreKnown now.old.now.grammar b.now.grammar now.symbols.known) (to_old (λ b. AreKnown b.now.grammar new.grammar now.symbols.known) turn.known);
+    known = to_new (λ b. AreKnown now.renewal.old.now.grammar b.now.grammar now.symbols.known) (to_old (λ b. AreKnown b.now.grammar new.grammar now.symbols.known) turn.known);
     marked = turn.placed.1.bounds.mark.0 ∙ means.marked;
     logged = λ name c. log_is name c ∙ (λ i. noted_all (sym turn.placed.1.log i) name c (is_of (sym (turn.placed.1.bounds.mark.1 means.marked c) i) name));
   }

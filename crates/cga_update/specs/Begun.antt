@@ -42,12 +42,12 @@ pub record StandsMarked (old new : Sources) (v : ForestView) (d : DependentsView
 
 -- the work is from these sources to those
 abbrev pub IsBetween : Sources → Sources → Work → Type 0
-IsBetween old new w = (w.old.now ≡ old) × (w.new.now ≡ new)
+IsBetween old new w = (w.renewal.old.now ≡ old) × (w.renewal.new.now ≡ new)
 
 -- nothing of the work is done yet
 pub record IsFresh (w : Work) : Type 0 where
-  pub mode : w.agenda.mode ≡ w.new.now.mode
-  pub symbols : AreKnown w.old.now.grammar w.new.now.grammar w.symbols.known
+  pub mode : w.agenda.mode ≡ w.renewal.new.now.mode
+  pub symbols : AreKnown w.renewal.old.now.grammar w.renewal.new.now.grammar w.symbols.known
   pub log : w.log.items ≡ []
   pub gone : w.gone.items ≡ []
   pub come : w.come.items ≡ []

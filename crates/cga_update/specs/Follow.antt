@@ -5,8 +5,8 @@ use Rattle.cga_order.specs.World.{Among}
 use Rattle.cga_forest.specs.declared.change.Change.{Change}
 use Rattle.cga_forest.specs.declared.moved.Moved.{Moved}
 use Rattle.cga_forest.specs.Tree.{ForestView}
-use Rattle.cga_queue.specs.Agenda.{AgendaView}
-use Rattle.cga_update.specs.Due.{ComesAfter, HasAskers}
+use Rattle.cga_queue.specs.Agenda.{AgendaView, ComesAfter}
+use Rattle.cga_update.specs.Due.{HasAskers}
 use Rattle.cga_update.specs.Queue.{chains_of, on_of}
 
 -- the node is one of those that came
@@ -21,4 +21,5 @@ pub record IsFollowed (v : ForestView) (of : ℕ) (change : Change) (all_came : 
   pub came : (m : Moved) → Among m change.came → IsSome (chains_of v m.id) → on_of v new m.id ≡ true
   pub met_went : all_came ≡ false → (m : Moved) → Among m change.went → HasAskers v old.mode of (box_of m.scope) new
   pub met_came : all_came ≡ false → (m : Moved) → Among m change.came → HasAskers v old.mode of (box_of m.scope) new
-  pub only : (c : ℕ) → on_of v new c ≡ true → (on_of v old c ≡ true) ⊎ (IsComer change c ⊎ ComesAfter v old.mode of c)
+  pub only : (c : ℕ) → on_of v new c ≡ true
+      → (on_of v old c ≡ true) ⊎ (IsComer change c ⊎ ComesAfter (chains_of v) old.mode of c)

@@ -18,5 +18,4 @@ pub mod Turned
 pub mod MeansLaws
 pub mod Begun
 pub mod Reworked
-pub mod Around
 pub mod Askers

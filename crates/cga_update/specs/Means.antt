@@ -37,33 +37,33 @@ ArePriced g v =
     → d.node.priority ≡ priority_of g d.node.shape.symbol
 
 pub record Means (w : Work) (edit : Edit (Ranked Shape) Answers Setting ShapeFault Primitive) (s : State (Ranked Shape) Answers ShapeFault Primitive) : Type 0 where
-  pub edit_is : edit ≡ the_edit w.old.now w.new.now
-  pub old_names : NamesDiffer w.old.now.lots
-  pub names : NamesDiffer w.new.now.lots
-  pub mode : w.forest.mode ≡ w.new.now.mode
-  pub agenda_mode : w.agenda.mode ≡ w.new.now.mode
+  pub edit_is : edit ≡ the_edit w.renewal.old.now w.renewal.new.now
+  pub old_names : NamesDiffer w.renewal.old.now.lots
+  pub names : NamesDiffer w.renewal.new.now.lots
+  pub mode : w.forest.mode ≡ w.renewal.new.now.mode
+  pub agenda_mode : w.agenda.mode ≡ w.renewal.new.now.mode
   pub nodes : s.nodes ≡ kept_nodes w.forest
   -- the nodes are a city of the new roots, and what isn't right by priority or by asking is on the agenda
-  pub underway : IsUnderway (shapes_of w.new.now) content (rules_of w.new.now) (asks_by w.new.now.grammar)
-      (node_at w.forest) (on_of w.forest w.agenda)
-  pub queued : AreQueued (shapes_of w.new.now) content (node_at w.forest) (on_of w.forest w.agenda) s.queued
-  pub due : ComersAreDue w.new.now.mode w.forest w.agenda
+  pub underway : IsUnderway (shapes_of w.renewal.new.now) content (rules_of w.renewal.new.now)
+      (asks_by w.renewal.new.now.grammar) (node_at w.forest) (on_of w.forest w.agenda)
+  pub queued : AreQueued (shapes_of w.renewal.new.now) content (node_at w.forest) (on_of w.forest w.agenda) s.queued
+  pub due : ComersAreDue w.renewal.new.now.mode w.forest w.agenda
   pub all_came : w.all_came ≡ true → AllCame w.forest
-  pub priced : w.priced ≡ true → ArePriced w.new.now.grammar w.forest
+  pub priced : w.priced ≡ true → ArePriced w.renewal.new.now.grammar w.forest
   -- an instance doesn't ask
   pub silent : (c : ℕ) (d : Seen) → node_at w.forest c ≡ Some d → is_instance d.node.kind ≡ true → d.node.asks ≡ false
   pub plain : (c : ℕ) (d : Seen) → node_at w.forest c ≡ Some d → IsPlain d
   pub gone : w.gone.items ≡ map told_ranked s.gone
   pub come : w.come.items ≡ map told_ranked s.come
-  pub known : AreKnown w.old.now.grammar w.new.now.grammar w.symbols.known
+  pub known : AreKnown w.renewal.old.now.grammar w.renewal.new.now.grammar w.symbols.known
   -- the log makes the nodes of each symbol of those at the mark
   pub marked : w.forest.marking ≡ true
   pub logged : IsLogged (marked_at w.forest) (node_at w.forest) w.log.items
 
 -- the sources, the mode and the mark are as they were, and so is whether all nodes came and are priced
 pub record KeepsBounds (was now : Work) : Type 0 where
-  pub old : now.old ≡ was.old
-  pub new : now.new ≡ was.new
+  pub old : now.renewal.old ≡ was.renewal.old
+  pub new : now.renewal.new ≡ was.renewal.new
   pub mode : now.forest.mode ≡ was.forest.mode
   pub mark : KeepsMark was.forest now.forest
   pub all_came : now.all_came ≡ was.all_came

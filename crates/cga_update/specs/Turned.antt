@@ -31,8 +31,8 @@ use Rattle.cga_update.specs.Plain.{IsPlain}
 -- the node has the outcome and these answers now, and what went and came is noted and followed
 pub record IsPlaced (was now : Work) (id : ℕ) (answers : Answers) (outcome : Outcome) (change : Change) : Type 0 where
   pub replaced : (e : Seen) → node_at was.forest id ≡ Some e
-      → Replaces (node_at was.forest) (node_at now.forest) id (state_after was.new.now.grammar e.node answers outcome)
-      (children_after was.new.now.grammar e.node outcome)
+      → Replaces (node_at was.forest) (node_at now.forest) id
+      (state_after was.renewal.new.now.grammar e.node answers outcome) (children_after was.renewal.new.now.grammar e.node outcome)
   pub unmarked : (c : ℕ) → node_at was.forest c ≡ None → IsSome (node_at now.forest c) → marked_at was.forest c ≡ None
   pub went : ListsMoved (node_at was.forest) (node_at now.forest) change.went
   pub came : ListsMoved (node_at now.forest) (node_at was.forest) change.came
@@ -77,12 +77,12 @@ IsAgain v e outcome = (kind_after outcome ≡ e.node.kind) × AreEmitted v e (le
 -- setting and answers are the old ones
 abbrev pub SameAsked : Work → Seen → Answers → Type 0
 SameAsked w e answers =
-    (setting_of w.old.now.grammar e.node.shape.symbol ≡ setting_of w.new.now.grammar e.node.shape.symbol) × (e.node.answers ≡ answers)
+    (setting_of w.renewal.old.now.grammar e.node.shape.symbol ≡ setting_of w.renewal.new.now.grammar e.node.shape.symbol) × (e.node.answers ≡ answers)
 
 -- it waits or is asked otherwise, and has what it is expanded to
 pub record IsExpanded (was : Work) (e : Seen) (answers : Answers) (outcome : Outcome) (children : ℕ) : Type 0 where
   pub must : (e.node.kind ≡ Waiting) ⊎ (SameAsked was e answers → ⊥)
-  pub value : outcome ≡ expand_of was.new.now.grammar e.node.shape answers
+  pub value : outcome ≡ expand_of was.renewal.new.now.grammar e.node.shape answers
   pub count : children ≡ length (emitted outcome)
 
 -- it is asked as before, and has what it had
@@ -97,11 +97,11 @@ pub record IsPlacing (was now : Work) (id : ℕ) (turned : Turned) : Type 0 wher
   pub node : Seen
   pub here : node_at was.forest id ≡ Some node
   pub answers : Answers
-  pub asked : answers ≡ kept.asked (new_world (the_edit was.old.now was.new.now)) (kept_nodes was.forest)
-      (ranked node.node)
+  pub asked : answers ≡ kept.asked (new_world (the_edit was.renewal.old.now was.renewal.new.now))
+      (kept_nodes was.forest) (ranked node.node)
   pub outcome : Outcome
   pub placed : HasPlaced was now id answers outcome
-  pub known : AreKnown was.old.now.grammar was.new.now.grammar now.symbols.known
+  pub known : AreKnown was.renewal.old.now.grammar was.renewal.new.now.grammar now.symbols.known
   pub told : ((turned.expanded ≡ true) × IsExpanded was node answers outcome turned.children)
       ⊎ ((turned.expanded ≡ false) × IsPlacedAgain was node answers outcome turned.children)
 
@@ -111,11 +111,11 @@ pub record IsQuiet (was now : Work) (id : ℕ) (turned : Turned) : Type 0 where
   pub here : node_at was.forest id ≡ Some node
   pub done : is_waiting node.node.kind ≡ false
   pub same : SameAsked was node
-      (kept.asked (new_world (the_edit was.old.now was.new.now)) (kept_nodes was.forest) (ranked node.node))
-  pub asks : node.node.asks ≡ asks_by was.new.now.grammar node.node.shape
+      (kept.asked (new_world (the_edit was.renewal.old.now was.renewal.new.now)) (kept_nodes was.forest) (ranked node.node))
+  pub asks : node.node.asks ≡ asks_by was.renewal.new.now.grammar node.node.shape
   pub priced : was.priced ≡ true
   pub stays : now ≡ record was { symbols = now.symbols }
-  pub known : AreKnown was.old.now.grammar was.new.now.grammar now.symbols.known
+  pub known : AreKnown was.renewal.old.now.grammar was.renewal.new.now.grammar now.symbols.known
   pub told : turned ≡ record { children = 0; expanded = false }
 
 -- the turn of a node
@@ -124,6 +124,6 @@ IsTurned was now id turned = IsPlacing was now id turned ⊎ IsQuiet was now id 
 
 -- what a turn rests on
 pub record MayTurn (w : Work) : Type 0 where
-  pub mode : w.forest.mode ≡ w.new.now.mode
-  pub known : AreKnown w.old.now.grammar w.new.now.grammar w.symbols.known
+  pub mode : w.forest.mode ≡ w.renewal.new.now.mode
+  pub known : AreKnown w.renewal.old.now.grammar w.renewal.new.now.grammar w.symbols.known
   pub plain : (c : ℕ) (d : Seen) → node_at w.forest c ≡ Some d → IsPlain d

@@ -4,9 +4,8 @@ ghost use Rattle.cga_forest.specs.Tree.{marked_at, node_at};
 ghost use Rattle.cga_update.specs.Begun.{HasBegun, HasMoved, IsBetween, IsFresh, StandsMarked};
 
 use crate::changed::Symbols;
-use crate::due::add_moved;
 use crate::log::{note_came, note_went};
-use crate::queue::{queue_changed, queue_near};
+use crate::queue::{add_moved, queue_changed, queue_near};
 use crate::renewal::Renewal;
 use crate::roots::{add_roots, remove_roots};
 use crate::work::Work;
@@ -39,22 +38,17 @@ fn queue_rooted<T: Ledger>(
 /// memory.
 fn begin<T: Ledger>(
     work: &mut Work,
-    budget: u32,
     dependents: &Dependents,
     tests: &mut Tests<T>,
 ) -> Result<(), NoMemory>
-    requires stands { StandsMarked work.now.old.now work.now.new.now work.now.forest dependents.now }
+    requires stands { StandsMarked work.now.renewal.old.now work.now.renewal.new.now work.now.forest dependents.now }
     requires fresh { IsFresh work.now }
-    ensures begun { OnOk result (HasBegun work.entry.now.old.now work.entry.now.new.now work.entry.now.forest work.exit.now) }
+    ensures begun { OnOk result (HasBegun work.entry.now.renewal.old.now work.entry.now.renewal.new.now work.entry.now.forest work.exit.now) }
     ensures mark { OnOk result ((c : ℕ) → marked_at work.exit.now.forest c ≡ node_at work.entry.now.forest c) }
-    ensures sources { OnOk result (IsBetween work.entry.now.old.now work.entry.now.new.now work.exit.now) }
+    ensures sources { OnOk result (IsBetween work.entry.now.renewal.old.now work.entry.now.renewal.new.now work.exit.now) }
 {
     let alloc = work.alloc;
-    let renewal = Renewal {
-        old: work.old,
-        new: work.new,
-        budget,
-    };
+    let renewal = work.renewal;
     let mut went = Vec::new(alloc);
     work.forest.laws();
     remove_roots(
@@ -65,7 +59,7 @@ fn begin<T: Ledger>(
         &mut went,
     )?;
     work.all_came = work.forest.count() == 0;
-    let came = add_roots(alloc, &mut work.forest, work.new)?;
+    let came = add_roots(alloc, &mut work.forest, renewal.new)?;
     let went_nodes = went.as_slice();
     let came_nodes = came.as_slice();
     note_went(went_nodes, &mut work.log, &mut work.gone)?;
@@ -113,10 +107,9 @@ pub fn begun<'a, T: Ledger>(
         log: Vec::new(alloc),
         gone: Vec::new(alloc),
         come: Vec::new(alloc),
-        old: renewal.old,
-        new: renewal.new,
+        renewal,
     };
-    match begin(&mut work, renewal.budget, dependents, tests) {
+    match begin(&mut work, dependents, tests) {
         Ok(()) => Ok(work),
         Err(NoMemory) => {
             drop(work);

@@ -3,17 +3,18 @@ ghost use Rattle.std.specs.Prelude.{OnOk};
 ghost use Rattle.cga_frame.specs.Box.{box_of};
 ghost use Rattle.cga_order.specs.World.{Among};
 ghost use Rattle.cga_forest.specs.declared.moved.Moved.{Moved as Mover};
-ghost use Rattle.cga_queue.specs.Agenda.{Grows, OneEach};
-ghost use Rattle.cga_update.specs.Due.{ComesAfter, HasAskers};
+ghost use Rattle.cga_queue.specs.Agenda.{ComesAfter, Grows, OneEach};
+ghost use Rattle.cga_update.specs.Due.{HasAskers};
 ghost use Rattle.cga_update.specs.Follow.{IsFollowed};
 ghost use Rattle.cga_update.specs.Queue.{chains_of};
 
 use crate::askers::askers_near;
-use crate::due::{add_each, add_moved};
+use crate::queue::add_moved;
+use crate::worked::Worked;
 use cga_forest::{Change, Forest, Moved};
 use cga_fraction::{NoMemory, Tests};
 use cga_index::NodeId;
-use cga_queue::Agenda;
+use cga_queue::{Agenda, add_later};
 use std::sync::ledger::Ledger;
 
 /// Puts the nodes of the mark on it that ask, meet one of the moved and come later than another. Takes memory.
@@ -25,11 +26,11 @@ fn add_met<T: Ledger>(
     tests: &mut Tests<T>,
 ) -> Result<(), NoMemory>
     requires one { OneEach (chains_of forest.now) }
-    ensures grows { OnOk result (Grows (chains_of forest.now) (ComesAfter forest.now agenda.old.mode of) agenda.old agenda.new) }
+    ensures grows { OnOk result (Grows (chains_of forest.now) (ComesAfter (chains_of forest.now) agenda.old.mode of) agenda.old agenda.new) }
     ensures there { OnOk result ((m : Mover) → Among m moved.now → HasAskers forest.now agenda.old.mode of (box_of m.scope) agenda.new) }
 {
     let askers = askers_near(agenda.alloc(), forest, moved, tests)?;
-    add_each(agenda, forest, of, askers.as_slice())
+    add_later(agenda, &Worked { forest }, of, askers.as_slice())
 }
 
 /// Puts on the agenda what came, and who of the mark asks near what went or came and comes later than the node whose

@@ -9,12 +9,10 @@
 
 mod again;
 mod anew;
-mod around;
 mod asked;
 mod askers;
 mod begin;
 mod changed;
-mod due;
 mod end;
 mod follow;
 mod kept;
@@ -28,6 +26,7 @@ mod turn;
 mod update_refused;
 mod updating;
 mod work;
+mod worked;
 mod worker;
 
 pub use kept::Kept;

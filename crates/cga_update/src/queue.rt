@@ -1,22 +1,24 @@
 //! Nodes are put on the agenda, whatever their stamps.
-ghost use Rattle.std.specs.Prelude.{◌≡◌, ℕ, List, true, IfOk, OnOk};
+ghost use Rattle.std.specs.Prelude.{◌≡◌, ℕ, List, true, IfOk, IsSome, OnOk};
 ghost use Rattle.cga_frame.specs.Box.{box_of};
-ghost use Rattle.cga_forest.specs.declared.moved.Moved.{Moved};
+ghost use Rattle.cga_forest.specs.declared.moved.Moved.{Moved as Mover};
 ghost use Rattle.cga_index.specs.Tree.{Member};
 ghost use Rattle.cga_order.specs.World.{Among};
 ghost use Rattle.cga_update.specs.Changed.{AreKnown};
 ghost use Rattle.cga_update.specs.Near.{HasNear, HasParents, HasThese, IsChangedFor, IsPricedFor, KeepsOn, KeepsPriorities, KeepsPriority};
 ghost use Rattle.cga_depend.specs.Pairs.{nodes_in};
+ghost use Rattle.cga_queue.specs.Agenda.{Grows, OneEach};
+ghost use Rattle.cga_update.specs.Queue.{chains_of, on_of};
 
 use crate::askers::askers_near;
 use crate::changed::Symbols;
-use crate::due::add_worked;
 use crate::renewal::Renewal;
+use crate::worked::Worked;
 use cga_depend::Dependents;
 use cga_forest::{Forest, Moved};
 use cga_fraction::{NoMemory, Tests};
 use cga_index::NodeId;
-use cga_queue::Agenda;
+use cga_queue::{Agenda, add};
 use cga_word::Name;
 use std::sync::ledger::Ledger;
 
@@ -26,7 +28,19 @@ pub fn queue(agenda: &mut Agenda, forest: &Forest, id: NodeId) -> Result<(), NoM
     ensures there { OnOk result (HasThese forest.now (λ c. c ≡ id) agenda.new) }
 {
     forest.laws();
-    add_worked(agenda, forest, id)
+    add(agenda, &Worked { forest }, id)
+}
+
+/// Puts these nodes on it, where they are there and are no instances. Takes memory.
+pub fn add_moved(agenda: &mut Agenda, forest: &Forest, moved: &[Moved]) -> Result<(), NoMemory>
+    requires one { OneEach (chains_of forest.now) }
+    ensures grows { OnOk result (Grows (chains_of forest.now) (λ c. (m : Mover) × Among m moved.now × (m.id ≡ c)) agenda.old agenda.new) }
+    ensures there { OnOk result ((m : Mover) → Among m moved.now → IsSome (chains_of forest.now m.id) → on_of forest.now agenda.new m.id ≡ true) }
+{
+    for node in moved {
+        add(agenda, &Worked { forest }, node.id)?;
+    }
+    Ok(())
 }
 
 /// Puts nodes on it, those that are there and are no instances. Takes memory.
@@ -48,7 +62,7 @@ pub fn queue_near<T: Ledger>(
     tests: &mut Tests<T>,
 ) -> Result<(), NoMemory>
     ensures kept { OnOk result (KeepsOn forest.now agenda.old agenda.new) }
-    ensures there { OnOk result ((m : Moved) → Among m moved.now → HasNear forest.now (box_of m.scope) agenda.new) }
+    ensures there { OnOk result ((m : Mover) → Among m moved.now → HasNear forest.now (box_of m.scope) agenda.new) }
 {
     let askers = askers_near(agenda.alloc(), forest, moved, tests)?;
     queue_all(agenda, forest, askers.as_slice())

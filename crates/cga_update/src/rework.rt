@@ -91,7 +91,7 @@ fn work_off<E: Ledger, T: Ledger>(
     expansions: &mut Expansions<E>,
     tests: &mut Tests<T>,
 ) -> Result<Ended, NoMemory>
-    requires few { length under_way.now.new.now.lots ≤ budget }
+    requires few { length under_way.now.renewal.new.now.lots ≤ budget }
     ensures ended { IfOk result (λ ended. (old new : Sources) (v : ForestView) → RootsExist new.lots
         → IsBetween old new under_way.entry.now → HasBegun old new v under_way.entry.now
         → HasEnded old new v under_way.exit.now budget expansions.old expansions.new ended) }
@@ -100,6 +100,6 @@ fn work_off<E: Ledger, T: Ledger>(
     ensures counted { expansions.old ≤ expansions.new }
     ensures most { expansions.new ≤ expansions.old + (budget + 1) }
 {
-    let roots = under_way.new.lots.len() as u32;
+    let roots = under_way.renewal.new.lots.len() as u32;
     work(under_way, roots, budget, expansions, tests)
 }

@@ -16,15 +16,16 @@ ghost use Rattle.cga_update.specs.Turned.{HasPlaced, IsAgain, IsTurned, MayTurn}
 use crate::again::outcome_again;
 use crate::asked::asked;
 use crate::changed::Facts;
-use crate::due::take;
 use crate::follow::follow;
 use crate::log::{note_came, note_went};
 use crate::work::Work;
+use crate::worked::Worked;
 use cga_agenda::Turned;
 use cga_expand::{Expansions, expand};
 use cga_forest::{Forest, Node};
 use cga_fraction::{List, NoMemory, Tests};
 use cga_index::NodeId;
+use cga_queue::take;
 use cga_shape::{Answers, Emitted, Kind, ShapeFault};
 use std::sync::ledger::Ledger;
 
@@ -47,7 +48,7 @@ fn place<T: Ledger>(
     ensures bounds { KeepsBounds work.entry.now work.exit.now }
     ensures symbols { work.exit.now.symbols ≡ work.entry.now.symbols }
 {
-    let grammar = &work.new.grammar;
+    let grammar = &work.renewal.new.grammar;
     let change = work.forest.replace_children(id, answers, outcome, grammar)?;
     work.forest.laws();
     note_went(change.went.as_slice(), &mut work.log, &mut work.gone)?;
@@ -66,18 +67,17 @@ fn place<T: Ledger>(
 fn facts_at(work: &mut Work, id: NodeId) -> Result<Facts, NoMemory>
     requires here { IsSome (node_at work.now.forest id) }
     ensures facts { IfOk result (λ facts. (d : Seen) → node_at work.entry.now.forest id ≡ Some d
-        → AreKnown work.entry.now.old.now.grammar work.entry.now.new.now.grammar work.entry.now.symbols.known
-        → AreFacts work.entry.now.old.now.grammar work.entry.now.new.now.grammar d.node.shape.symbol facts) }
-    ensures known { OnOk result (AreKnown work.entry.now.old.now.grammar work.entry.now.new.now.grammar work.entry.now.symbols.known
-        → AreKnown work.entry.now.old.now.grammar work.entry.now.new.now.grammar work.exit.now.symbols.known) }
+        → AreKnown work.entry.now.renewal.old.now.grammar work.entry.now.renewal.new.now.grammar work.entry.now.symbols.known
+        → AreFacts work.entry.now.renewal.old.now.grammar work.entry.now.renewal.new.now.grammar d.node.shape.symbol facts) }
+    ensures known { OnOk result (AreKnown work.entry.now.renewal.old.now.grammar work.entry.now.renewal.new.now.grammar work.entry.now.symbols.known
+        → AreKnown work.entry.now.renewal.old.now.grammar work.entry.now.renewal.new.now.grammar work.exit.now.symbols.known) }
     ensures rest { work.exit.now ≡ record work.entry.now { symbols = work.exit.now.symbols } }
 {
     let symbol = match work.forest.node(id) {
         Some(node) => node.shape.symbol,
         None => unreachable!(),
     };
-    work.symbols
-        .of(&work.old.grammar, &work.new.grammar, symbol)
+    work.symbols.of(&work.renewal.old.grammar, &work.renewal.new.grammar, symbol)
 }
 
 /// Whether a node waits, or its inputs differ.
@@ -133,14 +133,14 @@ fn outcome_of<E: Ledger>(
 ) -> Result<Result<List<Emitted>, ShapeFault>, NoMemory>
     requires here { IsSome (node_at work.now.forest id) }
     ensures value { IfOk result (λ made. (d : Seen) → node_at work.now.forest id ≡ Some d
-        → made ≡ expand_of work.now.new.now.grammar d.node.shape answers.now) }
+        → made ≡ expand_of work.now.renewal.new.now.grammar d.node.shape answers.now) }
     ensures few { IfOk result (λ made. length (emitted made) ≤ MOST_CHILDREN) }
     ensures ticked { expansions.new ≡ expansions.old + 1 }
 {
     match work.forest.node(id) {
         Some(node) => expand(
             work.alloc,
-            &work.new.grammar,
+            &work.renewal.new.grammar,
             &node.shape,
             answers,
             expansions,
@@ -159,7 +159,7 @@ fn expand_at<E: Ledger, T: Ledger>(
 ) -> Result<Turned, NoMemory>
     requires here { (e : Seen) × (node_at work.now.forest id ≡ Some e) × (world.is_instance e.node.kind ≡ false) }
     ensures placed { IfOk result (λ turned. (outcome : Outcome) × HasPlaced work.entry.now work.exit.now id answers outcome
-        × ((d : Seen) → node_at work.entry.now.forest id ≡ Some d → outcome ≡ expand_of work.entry.now.new.now.grammar d.node.shape answers)
+        × ((d : Seen) → node_at work.entry.now.forest id ≡ Some d → outcome ≡ expand_of work.entry.now.renewal.new.now.grammar d.node.shape answers)
         × (turned.expanded ≡ true) × (turned.children ≡ length (emitted outcome))) }
     ensures ticked { expansions.new ≡ expansions.old + 1 }
     ensures bounds { KeepsBounds work.entry.now work.exit.now }
@@ -234,7 +234,10 @@ pub fn turn<E: Ledger, T: Ledger>(
     ensures once { expansions.new ≤ expansions.old + 1 }
 {
     work.forest.laws();
-    match take(&mut work.agenda, &work.forest) {
+    let worked = Worked {
+        forest: &work.forest,
+    };
+    match take(&mut work.agenda, &worked) {
         None => Ok(None),
         Some(id) => Ok(Some(turn_of(work, id, expansions, tests)?)),
     }

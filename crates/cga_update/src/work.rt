@@ -1,8 +1,9 @@
 use crate::changed::Symbols;
 use crate::log::Pairing;
+use crate::renewal::Renewal;
 use cga_forest::Forest;
 use cga_queue::Agenda;
-use cga_shape::{Drawn, Sources};
+use cga_shape::Drawn;
 use std::alloc::Global;
 
 /// An update under way.
@@ -21,6 +22,5 @@ pub struct Work<'a> {
     pub(crate) log: Vec<Pairing>,
     pub(crate) gone: Vec<Drawn>,
     pub(crate) come: Vec<Drawn>,
-    pub(crate) old: &'a Sources,
-    pub(crate) new: &'a Sources,
+    pub(crate) renewal: Renewal<'a>,
 }

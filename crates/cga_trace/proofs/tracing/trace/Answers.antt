@@ -1,7 +1,11 @@
 use Rattle.std.proofs.Common.{length, sym, ◌∙◌, subst}
 use Rattle.cga_expand.specs.Run.{IsRun}
+use Rattle.cga_forest.proofs.Door.{keeps_laws}
 use Rattle.cga_trace.proofs.Turning.{are_inside, begins, turn, ends, none_left}
 use Rattle.cga_trace.proofs.tracing.trace.Goals as goal
+
+pub all_nodes-requires : goal.all_nodes-requires
+all_nodes-requires c = record { laws = keeps_laws c.args.forest.now c.laws.ensures }
 
 pub order_of-requires : goal.order_of-requires
 order_of-requires c = record {

@@ -1,19 +1,17 @@
-use Rattle.std.proofs.Common.{◌≡◌, [], eqb-true, length, subst, sym}
-use Rattle.std.proofs.lemmas.List.{nil_from_length}
-use Rattle.cga_update.specs.Askers.{AddsThese, AsksNear, ListsNear, boxes_of}
-use Rattle.cga_update.proofs.NearAskers.{all_done, cut, one_piece}
+use Rattle.std.proofs.Common.{◌∙◌, subst}
+use Rattle.cga_fraction.proofs.Door.{IfOk-map}
+use Rattle.cga_index.specs.Near.{ListsNear}
+use Rattle.cga_forest.specs.Walked.{lasting_tree}
+use Rattle.cga_forest.proofs.Door.{lasting_laws}
+use Rattle.cga_update.proofs.NearMoved.{lists_askers}
 use Rattle.cga_update.proofs.askers.askers_near.Goals as goal
 
-pub loop-rest-preserved : goal.loop-rest-preserved
-loop-rest-preserved g c =
-    let v = c.args.forest.now in
-    let whole = cut c.loop-rest.rest.now c.min.result c.split_at.result.0.now c.split_at.result.1.now c.split_at.ensures.front c.split_at.ensures.back in
-    one_piece v c.args.moved.now c.loop-rest.rest.now c.split_at.result.0.now c.split_at.result.1.now c.in_ok-areas.areas c.loop-rest.near.items c.add_near.new.near.items whole c.in_ok-areas.ensures c.loop-rest.invariant
-    (subst (λ l. AddsThese (AsksNear v l) c.loop-rest.near.items c.add_near.new.near.items) c.as_slice.ensures c.in_ok-add_near.ensures)
+pub queriers_near-requires : goal.queriers_near-requires
+queriers_near-requires g c = record { laws = lasting_laws c.args.forest.now c.laws.ensures }
 
 pub returns : goal.returns
 returns g c =
     let v = c.args.forest.now in
-    let rest = c.loop-rest.rest.now in
-    let none : rest ≡ [] = nil_from_length rest (eqb-true (length rest) 0 (sym c.loop-rest-test.ensures)) in
-    subst (ListsNear v (boxes_of c.args.moved.now)) (sym c.from_vec.ensures) (all_done v c.args.moved.now rest c.loop-rest.near.items none c.loop-rest.invariant)
+    IfOk-map c.queriers_near.result
+    (λ list lists. lists_askers v c.laws.ensures c.args.moved.now list (subst (λ boxes. ListsNear (lasting_tree v) boxes list) (c.as_slice.ensures ∙ c.in_ok-areas.ensures) lists))
+    c.queriers_near.ensures

@@ -17,13 +17,13 @@ remove_roots-requires g c = record {
   known = c.requires.fresh.symbols;
   names = c.requires.stands.names;
   scopes = c.requires.stands.scopes;
-  lots = proof.has_old_lots c.args.work.now.old.now c.args.work.now.new.now c.args.work.now.forest c.args.dependents.now c.requires.stands;
+  lots = proof.has_old_lots c.args.work.now.renewal.old.now c.args.work.now.renewal.new.now c.args.work.now.forest c.args.dependents.now c.requires.stands;
 }
 
 pub returns-clause-begun : goal.returns-clause-begun
 returns-clause-begun g c =
-    let old = c.args.work.now.old.now in
-    let new = c.args.work.now.new.now in
+    let old = c.args.work.now.renewal.old.now in
+    let new = c.args.work.now.renewal.new.now in
     let first = c.args.work.now.forest in
     let d = c.args.dependents.now in
     let stands = c.requires.stands in
@@ -91,5 +91,5 @@ pub returns-clause-mark : goal.returns-clause-mark
 returns-clause-mark g c =
     let first = c.args.work.now.forest in
     let lost : HasLost (node_at first) c.remove_roots.new.forest c.remove_roots.new.went.items =
-    c.in_ok-remove_roots.ensures.lost (node_at first) (proof.nothing_lost c.args.work.now.old.now c.args.work.now.new.now first c.args.dependents.now c.new-went.result.items c.new-went.ensures.items c.requires.stands c.laws.ensures) in
+    c.in_ok-remove_roots.ensures.lost (node_at first) (proof.nothing_lost c.args.work.now.renewal.old.now c.args.work.now.renewal.new.now first c.args.dependents.now c.new-went.result.items c.new-went.ensures.items c.requires.stands c.laws.ensures) in
     λ k. c.in_ok-came.ensures.gains.marked lost.marking k ∙ lost.marked k

@@ -1,4 +1,4 @@
-use Rattle.cga_update.proofs.DueNodes.{on_ok_both}
+use Rattle.cga_queue.proofs.Door.{on_ok_both}
 use Rattle.cga_update.proofs.Following.{followed_by, followed_due}
 use Rattle.cga_update.proofs.follow.follow.Goals as goal
 

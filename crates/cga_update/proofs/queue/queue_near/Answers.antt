@@ -1,5 +1,5 @@
-use Rattle.cga_update.proofs.DueNodes.{on_ok}
-use Rattle.cga_update.proofs.NearAskers.{has_near}
+use Rattle.cga_queue.proofs.Door.{on_ok}
+use Rattle.cga_update.proofs.NearMoved.{has_near}
 use Rattle.cga_update.proofs.queue.queue_near.Goals as goal
 
 pub returns-clause-there : goal.returns-clause-there

@@ -1,6 +1,6 @@
 use Rattle.std.proofs.Common.{sym, ◌∙◌, refl, [], None}
 use Rattle.cga_forest.specs.View.{Seen}
-use Rattle.cga_update.proofs.DueNodes.{on_ok}
+use Rattle.cga_queue.proofs.Door.{on_ok}
 use Rattle.cga_update.proofs.Adding.{root_there, no_root_there, gains_at, came_at}
 use Rattle.cga_update.proofs.Lots.{root_name}
 use Rattle.cga_update.proofs.roots.add_root.Goals as goal

@@ -10,7 +10,7 @@ pub returns-clause-facts : goal.returns-clause-facts
 returns-clause-facts c = on_value c.of.result (λ facts are d here known.
     let found : Some c.in-Some.node.now ≡ Some d.node = ap option_copied (sym c.in-Some.is) ∙ c.node.ensures ∙ ap content_of here in
     let same : c.in-Some.node.now ≡ d.node = cc in
-    subst (λ (n : Node). AreFacts c.args.work.now.old.now.grammar c.args.work.now.new.now.grammar n.shape.symbol facts) same (are known)) c.of.ensures.facts
+    subst (λ (n : Node). AreFacts c.args.work.now.renewal.old.now.grammar c.args.work.now.renewal.new.now.grammar n.shape.symbol facts) same (are known)) c.of.ensures.facts
 
 pub returns-clause-known : goal.returns-clause-known
 returns-clause-known c = c.of.ensures.known
