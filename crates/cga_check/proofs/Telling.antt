@@ -66,6 +66,7 @@ told_other symbol xs x is = by (find (is_of symbol) xs) refl
     same : (target : Target) → list_any (is_asking symbol target) (xs ++ x ∷ []) ≡ list_any (is_asking symbol target) xs
     same target =
         any_last symbol target xs x false is ∙ or_none (list_any (is_asking symbol target) xs)
+
     by : (first : Option Entry) → find (is_of symbol) xs ≡ first
         → option_map (in_all (xs ++ x ∷ []) symbol) (find (is_of symbol) (xs ++ x ∷ []))
         ≡ option_map (in_all xs symbol) (find (is_of symbol) xs)
@@ -85,10 +86,12 @@ told_own symbol xs x is = by (find (is_of symbol) xs) refl
         ≡ (list_any (is_asking symbol target) xs || asks target x.rule)
     more target =
         any_last symbol target xs x true is
+
     alone : (target : Target) → find (is_of symbol) xs ≡ None
         → list_any (is_asking symbol target) (xs ++ x ∷ []) ≡ asks target x.rule
     alone target h =
         more target ∙ ap (λ b. b || asks target x.rule) (none_passes (asks target) symbol xs h)
+
     by : (first : Option Entry) → find (is_of symbol) xs ≡ first
         → option_map (in_all (xs ++ x ∷ []) symbol) (find (is_of symbol) (xs ++ x ∷ []))
         ≡ Some (with_rule (option_map (in_all xs symbol) (find (is_of symbol) xs)) x)
@@ -139,9 +142,11 @@ said_is g symbol = by (first_entry g.rules symbol) refl
   where
     asked : (target : Target) → list_any (is_asking symbol target) g.rules ≡ group_asks (group g symbol) target
     asked target = asked_is target symbol g
+
     none : (target : Target) → first_entry g.rules symbol ≡ None → false ≡ group_asks (group g symbol) target
     none target h =
         sym (none_passes (asks target) symbol g.rules h) ∙ asked target
+
     by : (first : Option Entry) → first_entry g.rules symbol ≡ first
         → unwrap_or (option_map (in_all g.rules symbol) (first_entry g.rules symbol))
         (record { priority = 0; noparent = false; active = false })

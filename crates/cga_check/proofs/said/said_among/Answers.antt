@@ -13,7 +13,7 @@ loop-entry-preserved c =
     let x = c.entry-item.result in
     elim c.if-eq.branch [
       | then-eq w ↦ w.said-is
-        ∙ walk_own c.args.symbol es i x c.loop-entry.said w.with_rule.result c.loop-entry-test.true c.entry-item.is (sym c.eq.ensures ∙ w.if-eq.true) c.loop-entry.invariant w.with_rule.ensures
+          ∙ walk_own c.args.symbol es i x c.loop-entry.said w.with_rule.result c.loop-entry-test.true c.entry-item.is (sym c.eq.ensures ∙ w.if-eq.true) c.loop-entry.invariant w.with_rule.ensures
       | else-eq w ↦ w.said-is ∙ walk_other c.args.symbol es i x c.loop-entry.said c.loop-entry-test.true c.entry-item.is (sym c.eq.ensures ∙ w.if-eq.false) c.loop-entry.invariant
     ]
 

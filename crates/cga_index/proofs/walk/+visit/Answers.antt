@@ -57,5 +57,8 @@ pub visit_children-returns-then-is_full-clause-counted : goal.visit_children-ret
 visit_children-returns-then-is_full-clause-counted g t c =
     let v = g.H.HullTree.view c.args.tree.now in
     let inv = c.loop-place.invariant in
-    omega (arith, step_counted (reads v c.args.by c.args.left) (v.children c.args.node) c.loop-place.place c.child_of-child.result
-    c.loop-place.tests _ _ c.child_of-child.ensures.at c.visit-inner.ensures.counted inv.1)
+    omega (
+      arith,
+      step_counted (reads v c.args.by c.args.left) (v.children c.args.node) c.loop-place.place c.child_of-child.result
+          c.loop-place.tests _ _ c.child_of-child.ensures.at c.visit-inner.ensures.counted inv.1,
+    )

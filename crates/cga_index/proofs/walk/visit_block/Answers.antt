@@ -66,6 +66,10 @@ returns-then-is_full-2-clause-counted g c =
     let most = c.block_end-place-end.ensures.most in
     let left = 16 * (c.args.block + 1) - (c.loop-place.place + 1) in
     let more = run_counted (reads v c.args.by 257) v.roots (c.loop-place.place + 1) left (16 * (c.args.block + 1)) c.visit-inner.new.tests
-        (omega (arith, here, most)) in
-    omega (arith, more, step_counted (reads v c.args.by 257) v.roots c.loop-place.place c.root_of-root.result c.loop-place.tests _ _
-    c.root_of-root.ensures.at c.visit-inner.ensures.counted inv.1)
+    (omega (arith, here, most)) in
+    omega (
+      arith,
+      more,
+      step_counted (reads v c.args.by 257) v.roots c.loop-place.place c.root_of-root.result c.loop-place.tests _ _
+          c.root_of-root.ensures.at c.visit-inner.ensures.counted inv.1,
+    )
