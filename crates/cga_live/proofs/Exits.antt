@@ -31,6 +31,7 @@ wanting texts o number line n l = record {
   number_is = n;
   line_is = l;
   means = none_means usual o;
+  given = λ zero. absurd (omega (arith, n, zero));
   headline = λ zero. absurd (omega (arith, n, zero));
   usage = λ e. absurd (memory_not_used e);
   refused = λ fault. inr refl;

@@ -1,5 +1,5 @@
 -- What the program's exit status and its line on standard error say.
-use Rattle.std.specs.Prelude.{◌≡◌, ◌≢◌, ◌⊎◌, ℕ, List, [], ◌∷◌, IfSome}
+use Rattle.std.specs.Prelude.{◌≡◌, ◌≢◌, ◌⊎◌, ℕ, List, [], ◌∷◌, ◌++◌, IfSome}
 use Rattle.std.specs.Io.KnownBytes.{Appends}
 use Rattle.cga_live.specs.Exits.{line_of}
 use Rattle.cga_live.specs.Live.{IsLiveOf}
@@ -21,6 +21,8 @@ pub record IsEnd (texts : List Text) (old new : Outside) (number : ℕ) (line : 
   pub number_is : number ≡ number_of status
   pub line_is : line ≡ line_of status
   pub means : LiveMeans usual status old new
+  pub given : number ≡ 0 → (bytes : List ℕ) × (text : List ℕ) × (new.given ≡ old.given ++ bytes)
+      × IsLiveOf usual bytes text × Appends old.held new.held text
   pub headline : number ≡ 0 → IfSome old.left (λ bytes. (text : List ℕ) × IsLiveOf usual bytes text
       × Appends old.held new.held text)
   pub usage : status ≡ Usage → fault_of wordless_app texts ≢ []

@@ -12,7 +12,7 @@ mod exit;
 mod lines;
 mod script;
 
-ghost use Rattle.std.specs.Prelude.{◌≡◌, ◌≢◌, ◌<◌, ◌⊎◌, List, ℕ, [], ◌∷◌, map, string_bytes, IfErr, IfOk, IfSome, IsErrAnd, MatchResult};
+ghost use Rattle.std.specs.Prelude.{◌≡◌, ◌≢◌, ◌<◌, ◌⊎◌, ◌++◌, List, ℕ, [], ◌∷◌, map, string_bytes, IfErr, IfOk, IfSome, IsErrAnd, MatchResult};
 ghost use Rattle.std.specs.Io.KnownBytes.{Appends};
 ghost use Rattle.std.specs.IoError.{error_kind};
 ghost use Rattle.std.specs.Process.{exit_status};
@@ -79,7 +79,14 @@ fn run<S: Source, K: Sink, E: Ledger, T: Ledger>(
     requires tests_parts { tests.parts ≡ T.parts }
     requires tests_some { 0 < tests.parts }
 
-    // Where all was done, what was written is each line's reply and behind it what the line changed.
+    // Where all was done, what was written is each line's reply and behind it what the line changed, of the bytes that the
+    // source gave.
+    ensures given { result ≡ Status.Done → (bytes : List ℕ) × (text : List ℕ)
+        × (S.given script.new ≡ S.given script.old ++ bytes)
+        × IsLiveOf usual bytes text
+        × Appends (K.held out.old) (K.held out.new) text }
+
+    // Where the source tells what is left, those bytes are the script.
     ensures headline { result ≡ Status.Done → IfSome (S.left script.old) (λ bytes. (text : List ℕ)
         × IsLiveOf usual bytes text
         × Appends (K.held out.old) (K.held out.new) text) }

@@ -1,13 +1,9 @@
 -- How the program ends.
 use Rattle.std.proofs.Common.{◌≡◌, ◌≢◌, ◌⊎◌, inl, inr, ℕ, List, [], Option, None, Some, Result, Ok, Err, refl, sym, subst, ◌∙◌, arith}
 use Rattle.std.specs.Prelude.{IfOk}
-use Rattle.cga_top.proofs.Door.{by_bytes, some_nothing}
+use Rattle.cga_top.proofs.Door.{no_memory}
 use Rattle.cga_top.specs.Outside.{Outside}
-use Rattle.cga_top.specs.Output.{output_of}
-use Rattle.cga_top.specs.Prefixes.{AppendsSome}
-use Rattle.cga_top.specs.Runs.{RunMeans}
 use Rattle.cga_words.specs.Exits.{line_of, number_of}
-use Rattle.cga_words.specs.Town.{town_text}
 use Rattle.cga_words.specs.Words.{decimals_of, town_of}
 use Rattle.cga_words.specs.declared.status.Status.{Status}
 use Rattle.cga_words.specs.declared.status.Status.TheVariants.{Done, NoMemory, ReadFault, TooLong, Usage, WriteFault}
@@ -23,13 +19,6 @@ zero_is_done WriteFault number e zero = absurd (omega (arith, e, zero))
 zero_is_done TooLong number e zero = absurd (omega (arith, e, zero))
 zero_is_done NoMemory number e zero = absurd (omega (arith, e, zero))
 
-no_memory : (d : ℕ) (town : Option ℕ) (o : Outside) → RunMeans d town NoMemory o o
-no_memory d None o = (
-  record { reads = refl; writes = refl },
-  by_bytes (λ bytes. AppendsSome o.held o.held (output_of d bytes)) o.left (λ bytes told. some_nothing o.held (output_of d bytes)),
-)
-no_memory d (Some lots) o = ((refl, some_nothing o.held (output_of d (town_text lots))), record { left = refl; ended = refl; reads = refl })
-
 memory_not_used : NoMemory ≢ Usage
 memory_not_used e = cc
 
@@ -41,6 +30,7 @@ wanting texts o number line n l = record {
   number_is = n;
   line_is = l;
   means = no_memory (decimals_of texts) (town_of texts) o;
+  given = λ zero. absurd (omega (arith, n, zero));
   headline = λ zero. absurd (omega (arith, n, zero));
   usage = λ e. absurd (memory_not_used e);
   refused = λ fault. inr refl;

@@ -7,14 +7,14 @@
 //! output to `program`, and the exit to `end`.
 #![tactic(auto)]
 
-ghost use Rattle.std.specs.Prelude.{◌≡◌, ◌≢◌, ◌<◌, ◌⊎◌, [], ℕ, map, string_bytes, IfSome, IsFalse, IfOk, IfErr, IsErrAnd, MatchResult};
+ghost use Rattle.std.specs.Prelude.{◌≡◌, ◌≢◌, ◌<◌, ◌⊎◌, [], List, ℕ, map, string_bytes, IfSome, IsFalse, IfOk, IfErr, IsErrAnd, MatchResult};
 ghost use Rattle.std.specs.Io.KnownBytes.{Appends};
 ghost use Rattle.std.specs.Process.{exit_status};
 ghost use Rattle.cga_main.specs.Program.{Ends};
 ghost use Rattle.cga_outside.specs.Causes.{Rose};
 ghost use Rattle.cga_top.specs.Output.{output_of};
 ghost use Rattle.cga_top.specs.Outside.{outside_of};
-ghost use Rattle.cga_top.specs.Runs.{HoldsFewOr, RunMeans, script_of};
+ghost use Rattle.cga_top.specs.Runs.{HoldsFewOr, IsScript, RunMeans, script_of};
 ghost use Rattle.cga_words.specs.Words.{command_app, decimals_of, town_of};
 ghost use Rattle.clap.specs.Words.{fault_of};
 ghost use Rattle.std.specs.Vec.Iter.{into_iter_items};
@@ -69,6 +69,9 @@ fn run<S: Source, K: Sink, E: Ledger, T: Ledger>(
     requires tests_name { tests.name ≡ T.name }
     requires tests_parts { tests.parts ≡ T.parts }
     requires tests_some { 0 < tests.parts }
+    ensures given { let texts = map string_bytes words.now in result ≡ Status.Done → (bytes : List ℕ)
+        × IsScript (town_of texts) (S.given script.old) (S.given script.new) bytes
+        × Appends (K.held out.old) (K.held out.new) (output_of (decimals_of texts) bytes) }
     ensures headline { let texts = map string_bytes words.now in result ≡ Status.Done
         → IfSome (script_of (town_of texts) (S.left script.old)) (λ bytes.
         Appends (K.held out.old) (K.held out.new) (output_of (decimals_of texts) bytes)) }

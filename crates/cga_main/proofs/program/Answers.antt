@@ -20,6 +20,7 @@ returns-in-Ok-clause-given g c =
         number_is = e.status;
         line_is = e.line;
         means = r.means.1;
+        given = λ zero. r.given (zero_is_done c.run-status.result c.exit_of.result.status e.status zero);
         headline = λ zero. r.headline (zero_is_done c.run-status.result c.exit_of.result.status e.status zero);
         usage = r.usage;
         refused = r.refused;
