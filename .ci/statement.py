@@ -36,12 +36,12 @@ else but the leaves that you doubt. [The guided hour](GUIDED_HOUR.md) walks over
 
 # each section: its title, what it says, and the definitions by file and name
 SECTIONS = [
-    ("The contract", "Where the status is Done, what the sink holds is what it held, and then `output_of` the script's bytes.", [
+    ("The contract", "Where the status is Done, what the sink holds is what it held, and then `output_of` the bytes that the source gave.", [
         (CONTRACT, ()),
-        ("cga_top/specs/Runs.antt", ("script_of", "RunMeans", "GivenMeans", "IsUnread", "HoldsFewOr")),
+        ("cga_top/specs/Runs.antt", ("IsScript", "script_of", "RunMeans", "GivenMeans", "IsUnread", "HoldsFewOr")),
         ("cga_top/specs/Statuses.antt", ("StatusMeans", "HoldsFew", "WritesAll", "WritesReplies", "WritesPrefix", "Spent")),
         ("cga_top/specs/Prefixes.antt", ("AppendsSome",)),
-        ("cga_top/specs/Outside.antt", ("Outside", "IsCalm")),
+        ("cga_top/specs/Outside.antt", ("Outside", "Gave", "IsCalm")),
     ]),
     ("From bytes to lines", "The output is the replies to the lines, one after the other, and to the end.", [
         ("cga_top/specs/Output.antt", ("output_of", "replies_of", "effect_of_script", "effect_of_lines", "last_effect", "last_line",

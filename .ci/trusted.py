@@ -131,7 +131,9 @@ def escapes_section():
             raise Unread(f"the word {word} stands in {files[0]}, and this page says that it stands nowhere")
     return ("\n## What is taken out of the proof\n\nNothing: in no file of `crates/*/src` stands the word `unsafe`, and none "
             "declares a C function, by the word `extern`.\nThe file HANDLES allows no function that ends the process, waits, or starts "
-            "threads.\n")
+            "threads.\n\nWhat standard input gave and standard output took is a record that no code holds (`Tape` of cga_outside). It says what "
+            "the clauses of `StdSource` and\n`StdSink` tie it to, the buffer of each read and the piece of each write. That the "
+            "system's calls move just these bytes is trusted.\n")
 
 
 def bare_section():

@@ -6,9 +6,12 @@
 //! What callers get wrong: without the exit status 0 not all of the boxes are there.
 #![tactic(auto)]
 
-ghost use Rattle.std.specs.Prelude.{◌≡◌, ◌<◌, ◌++◌, ◌⊎◌, ◌↔◌, List, ℕ, IfSome};
+mod exit;
+
+ghost use Rattle.std.specs.Prelude.{◌≡◌, ◌<◌, ◌++◌, ◌⊎◌, List, ℕ, IfSome};
 ghost use Rattle.std.specs.Io.KnownBytes.{Appends};
 ghost use Rattle.std.specs.Process.{exit_status};
+ghost use Rattle.cga_hulls.specs.Program.{IsEnd};
 ghost use Rattle.cga_outside.specs.Causes.{Rose};
 ghost use Rattle.cga_top.specs.Hulls.{IsToldOf, usual};
 ghost use Rattle.cga_top.specs.Output.{output_of};
@@ -16,10 +19,12 @@ ghost use Rattle.cga_top.specs.Outside.{outside_of};
 ghost use Rattle.cga_top.specs.Statuses.{HoldsFew};
 ghost use Rattle.cga_top.specs.Telling.{TellingMeans};
 
+use crate::exit::exit_of;
 use cga_expand::Expansions;
 use cga_fraction::Tests;
 use cga_outside::{Sink, Source, StdSink, StdSource};
 use cga_top::{Status, run_with_hulls};
+use cga_words::Exit;
 use std::io::BufWriter;
 use std::marker::Brand;
 use std::process::ExitCode;
@@ -54,25 +59,50 @@ fn run<S: Source, K: Sink, E: Ledger, T: Ledger>(
     run_with_hulls(rt.alloc(), script, out, &mut expansions, &mut tests)
 }
 
-// The exit status is 0 exactly where all was written.
-fn end(rt: &HostRuntime, status: Status) -> ExitCode
-    ensures { (exit_status result ≡ 0) ↔ (status ≡ Status.Done) }
+// The whole program but for the system's own part: replies to the script, tells of its lots, and says how that ended.
+fn program<S: Source, K: Sink, E: Ledger, T: Ledger>(
+    rt: &mut HostRuntime,
+    script: &mut S,
+    out: &mut K,
+    expansions: Blank,
+    tests: Blank,
+) -> Exit
+    requires expansions_name { expansions.name ≡ E.name }
+    requires expansions_parts { expansions.parts ≡ E.parts }
+    requires expansions_some { 0 < expansions.parts }
+    requires tests_name { tests.name ≡ T.name }
+    requires tests_parts { tests.parts ≡ T.parts }
+    requires tests_some { 0 < tests.parts }
+    ensures { (expanded : ℕ) × IsEnd (outside_of S.Source K.Sink script.old out.old 0)
+        (outside_of S.Source K.Sink script.new out.new expanded) result.status result.line.now }
 {
-    if status == Status::Done {
-        return ExitCode::from(0);
+    let status = run::<S, K, E, T>(rt, script, out, expansions, tests);
+    exit_of(status)
+}
+
+fn end(rt: &HostRuntime, exit: Exit) -> ExitCode
+    ensures { exit_status result ≡ exit.status }
+{
+    if !exit.line.is_empty() {
+        let _ = eprintln!(rt; "{}", exit.line);
     }
-    let _ = eprintln!(rt; "cga_hulls: {status:?}");
-    ExitCode::from(1)
+    ExitCode::from(exit.status)
 }
 
 fn main(mut rt: HostRuntime) -> ExitCode {
-    let status = match BufWriter::new(rt.alloc(), rt.stdout()) {
+    let exit = match BufWriter::new(rt.alloc(), rt.stdout()) {
         Ok(writer) => {
             let mut script = StdSource::new(rt.reader());
             let mut out = StdSink::new(writer);
-            run::<_, _, Brand, Brand>(&mut rt, &mut script, &mut out, Blank::new(1), Blank::new(1))
+            program::<_, _, Brand, Brand>(
+                &mut rt,
+                &mut script,
+                &mut out,
+                Blank::new(1),
+                Blank::new(1),
+            )
         }
-        Err(_) => Status::NoMemory,
+        Err(_) => exit_of(Status::NoMemory),
     };
-    end(&rt, status)
+    end(&rt, exit)
 }

@@ -9,7 +9,8 @@ use Rattle.cga_script.specs.Lines.{Line, clipped, cut, lines_of}
 use Rattle.cga_script.specs.Pending.{Pending, kept_of, ready_line}
 use Rattle.cga_script.specs.declared.ending.Ending.TheVariants.{End}
 use Rattle.cga_top.proofs.Door.{IsFlushed, SameSource, all_append, all_none, all_taken, appends_more, by_bytes}
-use Rattle.cga_top.proofs.Door.{flushed_as, followed_assoc, not_so_long, some_after, some_more, some_nothing}
+use Rattle.cga_top.proofs.Door.{few_given, flushed_as, followed_assoc, gave_nothing, gave_same, of_left, same_more}
+use Rattle.cga_top.proofs.Door.{some_after, some_more, some_nothing}
 use Rattle.cga_top.proofs.Door.{spent_more, spent_then}
 use Rattle.cga_fraction.proofs.Door.{all_of_it}
 use Rattle.cga_top.specs.Effect.{Effect, HasSpent, followed_by, silent}
@@ -29,7 +30,7 @@ use Rattle.cga_words.specs.declared.status.Status.TheVariants.{Done, NoMemory, R
 use Rattle.cga_live.proofs.Lived.{both_and_left, both_lines, both_text, both_told, begun_all, begun_rest, finished_some, line_effect}
 use Rattle.cga_live.proofs.Turns.{follows, replies_all}
 use Rattle.cga_live.specs.Live.{AreTold, IsLiveOf, Turn, all_lines, end_of, last_of, lines_in, replies_of, text_of}
-use Rattle.cga_live.specs.Means.{LiveMeans, TellsAll, TellsLines, TellsSome, behind_all}
+use Rattle.cga_live.specs.Means.{LiveMeans, TellsAll, TellsLines, TellsPrefix, TellsSome, behind_all}
 use Rattle.cga_live.specs.Runs.{Begun, Finished, IsHalted, IsRead, Lived, Unfinished}
 
 -- ---- the last line
@@ -168,17 +169,20 @@ some_known d (Some bytes) (Some later) read old new taken p =
     some_first d bytes (take limit read) (drop limit read ++ later) old new
     (taken ∙ ap (λ (r : List ℕ). r ++ later) (sym (take-append-drop limit read)) ∙ append_assoc (take limit read) (drop limit read) later) p
 
+-- likewise of what is told of what was read
+some_read : (d : ℕ) (read : List ℕ) (old new : Outside)
+    → Begun (start d) (lines_of (take limit read)) old.held new.held → TellsSome d read old new
+some_read d read old new p = some_first d read (take limit read) (drop limit read) old new (sym (take-append-drop limit read)) p
+
 -- ---- by the end
 
 -- what was told when reading failed or went too far
-lines_told : (d : ℕ) (read bytes : List ℕ) (old mid new : Outside) (session : Session) (pending : Pending)
-    → old.left ≡ Some bytes
+lines_told : (d : ℕ) (read : List ℕ) (old mid new : Outside) (session : Session) (pending : Pending)
     → IsRead d read old mid session pending → SameSource mid new → new.expanded ≡ mid.expanded
-    → Keeps mid.held new.held → TellsLines d read bytes old new
-lines_told d read bytes old mid new session pending known r source expanded keeps =
-    let taken : Consumes old.left new.left read = subst (λ (left : Option (List ℕ)). Consumes old.left left read) (sym source.left) r.taken in
+    → Keeps mid.held new.held → TellsLines d read old new
+lines_told d read old mid new session pending r source expanded keeps =
     record {
-      taken = subst (λ (left : Option (List ℕ)). Consumes left new.left read) known taken;
+      gave = gave_same read old mid new r.gave source;
       turns = r.lived.turns;
       lines = r.lived.lines_are;
       told = r.lived.told;
@@ -187,10 +191,16 @@ lines_told d read bytes old mid new session pending known r source expanded keep
     }
 
 read_some : (d : ℕ) (read : List ℕ) (old mid new : Outside) (session : Session) (pending : Pending)
-    → IsRead d read old mid session pending → Keeps mid.held new.held
-    → IfSome old.left (λ bytes. TellsSome d bytes old new)
-read_some d read old mid new session pending r keeps =
-    some_known d old.left mid.left read old new r.taken (begun_all (start d) (lines_of (take limit read)) session old.held mid.held new.held old.expanded mid.expanded r.lived keeps)
+    → IsRead d read old mid session pending → SameSource mid new → Keeps mid.held new.held → TellsPrefix d old new
+read_some d read old mid new session pending r source keeps =
+    let begun : Begun (start d) (lines_of (take limit read)) old.held new.held =
+    begun_all (start d) (lines_of (take limit read)) session old.held mid.held new.held old.expanded mid.expanded r.lived keeps in
+    record {
+      read = read;
+      gave = gave_same read old mid new r.gave source;
+      begins = some_read d read old new begun;
+      of_all = some_known d old.left mid.left read old new r.gave.taken begun;
+    }
 
 pub failed_means : (d : ℕ) (status : Status) (old mid new : Outside) (session : Session) (pending : Pending)
     (read : List ℕ)
@@ -203,10 +213,9 @@ failed_means d status old mid new session pending read r few rose f =
       subst (Rose old.reads_failed) (sym f.source.reads) rose,
       flushed,
       calm,
-      by_bytes (λ bytes. (x : List ℕ) × (length x ≤ limit) × TellsLines d x bytes old new) old.left
-          (λ bytes known. (read, few, lines_told d read bytes old mid new session pending known r f.source f.expanded f.held)),
+      (read, few, lines_told d read old mid new session pending r f.source f.expanded f.held),
     ))
-    (λ failed. (failed, read_some d read old mid new session pending r f.held))
+    (λ failed. (failed, read_some d read old mid new session pending r f.source f.held))
 
 pub too_long_means : (d : ℕ) (status : Status) (old mid new : Outside) (session : Session) (pending : Pending)
     (read : List ℕ)
@@ -218,30 +227,33 @@ too_long_means d status old mid new session pending read r many most reads f =
     (λ flushed calm. (
       flushed,
       record { reads = f.source.reads ∙ reads; writes = calm },
-      by_bytes (λ bytes. (x : List ℕ) × (limit < length x) × (length x ≤ limit + read_limit) × TellsLines d x bytes old new) old.left
-          (λ bytes known. (read, many, most, lines_told d read bytes old mid new session pending known r f.source f.expanded f.held)),
+      (read, many, most, lines_told d read old mid new session pending r f.source f.expanded f.held),
     ))
-    (λ failed. (failed, read_some d read old mid new session pending r f.held))
+    (λ failed. (failed, read_some d read old mid new session pending r f.source f.held))
 
 -- the whole script was read
 module _ (d : ℕ) (read : List ℕ) (old mid : Outside) (session : Session) (pending : Pending) (r : IsRead d read old mid session pending) (few : length read ≤ limit) (at_end : IsAtEnd mid.left) where
   all_read : (bytes : List ℕ) → old.left ≡ Some bytes → take limit read ≡ bytes
-  all_read bytes known = take_all limit read few ∙ all_taken read bytes mid.left (subst (λ (left : Option (List ℕ)). Consumes left mid.left read) known r.taken) at_end
+  all_read bytes known = take_all limit read few ∙ all_taken read bytes mid.left (subst (λ (left : Option (List ℕ)). Consumes left mid.left read) known r.gave.taken) at_end
 
-  pub end_some : (new : Outside)
+  pub end_some : (new : Outside) → SameSource mid new
       → Unfinished (effect_of_lines d (take limit read)).state (last_of (cut (take limit read)).rest) mid.held
-      new.held → IfSome old.left (λ bytes. TellsSome d bytes old new)
-  end_some new u =
-      by_bytes (λ bytes. TellsSome d bytes old new) old.left
-      (λ bytes known. subst (λ (x : List ℕ). TellsSome d x old new) (all_read bytes known)
-      (all_some d (take limit read) session mid.held old.expanded mid.expanded old new r.lived u))
+      new.held → TellsPrefix d old new
+  end_some new source u =
+      let some : TellsSome d (take limit read) old new = all_some d (take limit read) session mid.held old.expanded mid.expanded old new r.lived u in
+      record {
+        read = read;
+        gave = gave_same read old mid new r.gave source;
+        begins = subst (λ (x : List ℕ). TellsSome d x old new) (take_all limit read few) some;
+        of_all = by_bytes (λ bytes. TellsSome d bytes old new) old.left (λ bytes known. subst (λ (x : List ℕ). TellsSome d x old new) (all_read bytes known) some);
+      }
 
-  all_told : (last new : Outside) (bytes : List ℕ) → old.left ≡ Some bytes
+  all_told : (last new : Outside)
       → Finished (effect_of_lines d (take limit read)).state (last_of (cut (take limit read)).rest) mid.held
       last.held mid.expanded last.expanded
-      → new.expanded ≡ last.expanded → Keeps last.held new.held → TellsAll d bytes old new
-  all_told last new bytes known q expanded keeps =
-      let is : take limit read ≡ bytes = all_read bytes known in
+      → new.expanded ≡ last.expanded → Keeps last.held new.held → TellsAll d read old new
+  all_told last new q expanded keeps =
+      let is : take limit read ≡ read = take_all limit read few in
       let live = all_live d (take limit read) session old.held mid.held last.held old.expanded mid.expanded last.expanded r.lived q in
       let all : TellsAll d (take limit read) old new = record {
         few = subst (λ (x : List ℕ). length x ≤ limit) (sym (take_all limit read few)) few;
@@ -259,46 +271,54 @@ module _ (d : ℕ) (read : List ℕ) (old mid : Outside) (session : Session) (pe
       → LiveMeans d status old new
   done_means status last new ended reads q source writes f =
       let other : Done ≢ WriteFault = λ e. cc in
-      let over : IsTrue new.ended = rw (f.source.ended ∙ source.ended) ended in
+      let same : SameSource mid new = same_more mid last new source f.source in
+      let over : IsTrue new.ended = rw same.ended ended in
       flushed_as (λ (s : Status). LiveMeans d s old new) status Done old last new other f (writes ∙ r.calm)
       (λ flushed calm. (
         over,
         flushed,
-        record { reads = f.source.reads ∙ source.reads ∙ reads; writes = calm },
-        by_bytes (λ bytes. TellsAll d bytes old new) old.left (λ bytes known. all_told last new bytes known q f.expanded f.held),
+        record { reads = same.reads ∙ reads; writes = calm },
+        (read, gave_same read old mid new r.gave same, subst IsAtEnd (sym same.left) at_end, all_told last new q f.expanded f.held),
       ))
-      (λ failed. (failed, end_some new (finished_some (effect_of_lines d (take limit read)).state (last_of (cut (take limit read)).rest) mid.held last.held new.held mid.expanded last.expanded q f.held)))
+      (λ failed. (failed, end_some new same (finished_some (effect_of_lines d (take limit read)).state (last_of (cut (take limit read)).rest) mid.held last.held new.held mid.expanded last.expanded q f.held)))
 
 pub halted_means : (d : ℕ) (halt : Halt) (status : Status) (old new : Outside)
     → (halt ≡ cause.WriteFault → status ≡ WriteFault) → (halt ≡ cause.NoMemory → status ≡ NoMemory)
     → FaultsAt halt old.writes_failed new.writes_failed → new.reads_failed ≡ old.reads_failed
-    → IfSome old.left (λ bytes. TellsSome d bytes old new) → LiveMeans d status old new
+    → TellsPrefix d old new → LiveMeans d status old new
 halted_means d cause.WriteFault status old new write memory faults reads some = subst (λ (s : Status). LiveMeans d s old new) (sym (write refl)) (faults, some)
 halted_means d cause.NoMemory status old new write memory faults reads some = subst (λ (s : Status). LiveMeans d s old new) (sym (memory refl)) (record { reads = reads; writes = faults }, some)
 
-pub halted_some : (d : ℕ) (read : List ℕ) (old new : Outside) → IsHalted d read old new
-    → IfSome old.left (λ bytes. TellsSome d bytes old new)
-halted_some d read old new h = some_known d old.left new.left read old new h.taken h.begun
+pub halted_some : (d : ℕ) (read : List ℕ) (old new : Outside) → IsHalted d read old new → TellsPrefix d old new
+halted_some d read old new h = record {
+  read = read;
+  gave = h.gave;
+  begins = some_read d read old new h.begun;
+  of_all = some_known d old.left new.left read old new h.gave.taken h.begun;
+}
 
 -- no memory at the start
+none_told : (d : ℕ) (o : Outside) (bytes : List ℕ) → TellsSome d bytes o o
+none_told d o bytes = record {
+  turns = [];
+  left = all_lines bytes;
+  lines = refl;
+  told = tt;
+  written = some_nothing o.held (behind_all (all_lines bytes) (end_of d bytes));
+}
+
 pub none_means : (d : ℕ) (o : Outside) → LiveMeans d NoMemory o o
 none_means d o = (
   record { reads = refl; writes = refl },
-  by_bytes (λ bytes. TellsSome d bytes o o) o.left (λ bytes known. record {
-    turns = [];
-    left = all_lines bytes;
-    lines = refl;
-    told = tt;
-    written = some_nothing o.held (behind_all (all_lines bytes) (end_of d bytes));
-  }),
+  record {
+    read = [];
+    gave = gave_nothing o;
+    begins = none_told d o [];
+    of_all = by_bytes (λ bytes. TellsSome d bytes o o) o.left (λ bytes known. none_told d o bytes);
+  },
 )
 
 -- ---- completeness
-
-too_long : (d : ℕ) (script : Option (List ℕ)) (old new : Outside) → old.left ≡ script → HoldsFew script
-    → LiveMeans d TooLong old new → ⊥
-too_long d None old new e few m = few
-too_long d (Some bytes) old new e few m = let t = rw e at m.2 in not_so_long bytes t.0 new.left t.3.taken t.1 few
 
 pub live_complete : (d : ℕ) (status : Status) (old new : Outside) → LiveMeans d status old new → HoldsFew old.left
     → (Rose old.reads_failed new.reads_failed → ⊥) → (Rose old.writes_failed new.writes_failed → ⊥) → status ≢ Usage
@@ -307,16 +327,22 @@ live_complete d Done old new m few calm silent used = inl refl
 live_complete d NoMemory old new m few calm silent used = inr refl
 live_complete d ReadFault old new m few calm silent used = absurd (calm m.0)
 live_complete d WriteFault old new m few calm silent used = absurd (silent m.0)
-live_complete d TooLong old new m few calm silent used = absurd (too_long d old.left old new refl few m)
+live_complete d TooLong old new m few calm silent used = absurd (few_given old.left new.left m.2.0 m.2.3.gave.taken few m.2.1)
 live_complete d Usage old new m few calm silent used = absurd (used refl)
 
 -- ---- the headline
 
-told_text : (d : ℕ) (script : Option (List ℕ)) (old new : Outside) → IfSome script (λ bytes. TellsAll d bytes old new)
-    → IfSome script (λ bytes. (text : List ℕ) × IsLiveOf d bytes text × Appends old.held new.held text)
-told_text d None old new all = tt
-told_text d (Some bytes) old new all = (all.text, all.live, all.written)
-
 pub live_headline : (d : ℕ) (status : Status) (old new : Outside) → LiveMeans d status old new → status ≡ Done
     → IfSome old.left (λ bytes. (text : List ℕ) × IsLiveOf d bytes text × Appends old.held new.held text)
-live_headline d status old new means done = let all = subst (λ (s : Status). LiveMeans d s old new) done means in told_text d old.left old new all.3
+live_headline d status old new means done =
+    let all = subst (λ (s : Status). LiveMeans d s old new) done means in
+    of_left (λ bytes. (text : List ℕ) × IsLiveOf d bytes text × Appends old.held new.held text) old.left new.left
+    all.3.0 all.3.1.taken all.3.2 (all.3.3.text, all.3.3.live, all.3.3.written)
+
+-- likewise of what was given
+pub live_given : (d : ℕ) (status : Status) (old new : Outside) → LiveMeans d status old new → status ≡ Done
+    → (bytes : List ℕ) × (text : List ℕ) × (new.given ≡ old.given ++ bytes) × IsLiveOf d bytes text
+    × Appends old.held new.held text
+live_given d status old new means done =
+    let all = subst (λ (s : Status). LiveMeans d s old new) done means in
+    (all.3.0, all.3.3.text, all.3.1.given, all.3.3.live, all.3.3.written)

@@ -3,3 +3,4 @@ mod Turns
 mod Lived
 mod Reading
 mod Ends
+mod Exits

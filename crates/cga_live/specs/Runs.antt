@@ -1,6 +1,6 @@
 -- How far a run has come.
 use Rattle.std.specs.Prelude.{◌≡◌, ℕ, ◌+◌, ◌≤◌, ◌<◌, List, ◌++◌, length, take, true, Option, None, IsTrue}
-use Rattle.std.specs.Io.KnownBytes.{Appends, Consumes, IsAtEnd}
+use Rattle.std.specs.Io.KnownBytes.{Appends, IsAtEnd}
 use Rattle.cga_city.specs.City.{empty_sources}
 use Rattle.cga_outside.specs.Causes.{Rose}
 use Rattle.cga_script.specs.Lines.{Line, lines_of}
@@ -9,7 +9,7 @@ use Rattle.cga_top.specs.Changed.{no_changes}
 use Rattle.cga_top.specs.Effect.{HasSpent}
 use Rattle.cga_top.specs.Faults.{FaultsAt}
 use Rattle.cga_top.specs.Output.{effect_of_all}
-use Rattle.cga_top.specs.Outside.{Outside}
+use Rattle.cga_top.specs.Outside.{Gave, Outside}
 use Rattle.cga_top.specs.Prefixes.{AppendsSome}
 use Rattle.cga_top.specs.Reads.{limit, pending_after, read_limit}
 use Rattle.cga_top.specs.Replies.{at_end}
@@ -72,14 +72,14 @@ pub record Unfinished (s : State) (lines : List Line) (old new : Option (List �
 
 -- so much of a script was read, its lines within the limit were done, and what is kept is what stands after the last LF
 pub record IsRead (decimals : ℕ) (read : List ℕ) (old new : Outside) (session : Session) (lines : Pending) : Type 0 where
-  pub taken : Consumes old.left new.left read
+  pub gave : Gave read old new
   pub lived : Lived (start decimals) (lines_of (take limit read)) session old.held new.held old.expanded new.expanded
   pub lines_are : lines ≡ pending_after (take limit read)
   pub calm : new.writes_failed ≡ old.writes_failed
 
 -- some of what is told of the lines that were read was written, and no read failed
 pub record IsHalted (decimals : ℕ) (read : List ℕ) (old new : Outside) : Type 0 where
-  pub taken : Consumes old.left new.left read
+  pub gave : Gave read old new
   pub begun : Begun (start decimals) (lines_of (take limit read)) old.held new.held
   pub calm : new.reads_failed ≡ old.reads_failed
 

@@ -12,7 +12,7 @@ mod exit;
 mod lines;
 mod script;
 
-ghost use Rattle.std.specs.Prelude.{◌≡◌, ◌≢◌, ◌<◌, ◌⊎◌, List, ℕ, [], ◌∷◌, map, string_bytes, IfErr, IfOk, IfSome, IsErrAnd, MatchResult};
+ghost use Rattle.std.specs.Prelude.{◌≡◌, ◌≢◌, ◌<◌, ◌⊎◌, ◌++◌, List, ℕ, [], ◌∷◌, map, string_bytes, IfErr, IfOk, IfSome, IsErrAnd, MatchResult};
 ghost use Rattle.std.specs.Io.KnownBytes.{Appends};
 ghost use Rattle.std.specs.IoError.{error_kind};
 ghost use Rattle.std.specs.Process.{exit_status};
@@ -20,6 +20,7 @@ ghost use Rattle.std.specs.Vec.Iter.{into_iter_items};
 ghost use Rattle.cga_live.specs.Exits.{line_of, refusal_line};
 ghost use Rattle.cga_live.specs.Live.{IsLiveOf};
 ghost use Rattle.cga_live.specs.Means.{LiveMeans};
+ghost use Rattle.cga_live.specs.Program.{Ends};
 ghost use Rattle.cga_outside.specs.Causes.{Rose};
 ghost use Rattle.cga_top.specs.Hulls.{usual};
 ghost use Rattle.cga_top.specs.Outside.{outside_of};
@@ -78,7 +79,14 @@ fn run<S: Source, K: Sink, E: Ledger, T: Ledger>(
     requires tests_parts { tests.parts ≡ T.parts }
     requires tests_some { 0 < tests.parts }
 
-    // Where all was done, what was written is each line's reply and behind it what the line changed.
+    // Where all was done, what was written is each line's reply and behind it what the line changed, of the bytes that the
+    // source gave.
+    ensures given { result ≡ Status.Done → (bytes : List ℕ) × (text : List ℕ)
+        × (S.given script.new ≡ S.given script.old ++ bytes)
+        × IsLiveOf usual bytes text
+        × Appends (K.held out.old) (K.held out.new) text }
+
+    // Where the source tells what is left, those bytes are the script.
     ensures headline { result ≡ Status.Done → IfSome (S.left script.old) (λ bytes. (text : List ℕ)
         × IsLiveOf usual bytes text
         × Appends (K.held out.old) (K.held out.new) text) }
@@ -112,6 +120,39 @@ fn run<S: Source, K: Sink, E: Ledger, T: Ledger>(
     run_live(rt.alloc(), script, out, &mut expansions, &mut tests)
 }
 
+// The whole program but for the system's own part: reads the words, replies to the script and tells it, and says how it
+// ended. Where the system doesn't give the words, nothing is read or written.
+fn program<S: Source, K: Sink, E: Ledger, T: Ledger>(
+    rt: &mut HostRuntime,
+    found: io::Result<Args>,
+    script: &mut S,
+    out: &mut K,
+    expansions: Blank,
+    tests: Blank,
+) -> Exit
+    requires expansions_name { expansions.name ≡ E.name }
+    requires expansions_parts { expansions.parts ≡ E.parts }
+    requires expansions_some { 0 < expansions.parts }
+    requires tests_name { tests.name ≡ T.name }
+    requires tests_parts { tests.parts ≡ T.parts }
+    requires tests_some { 0 < tests.parts }
+    ensures given { IfOk found (λ given. Ends (map string_bytes (into_iter_items given))
+        (outside_of S.Source K.Sink script.old out.old 0)
+        (λ expanded. outside_of S.Source K.Sink script.new out.new expanded) result.status result.line.now) }
+    ensures refused { IfErr found (λ error. (result.status ≡ refusal_of (error_kind error))
+        × (result.line.now ≡ refusal_line (error_kind error))
+        × (outside_of S.Source K.Sink script.new out.new 0 ≡ outside_of S.Source K.Sink script.old out.old 0)) }
+{
+    match words(rt.alloc(), found) {
+        Ok(words) => {
+            let texts = words.as_slice();
+            let status = run::<S, K, E, T>(rt, texts, script, out, expansions, tests);
+            exit_of(status)
+        }
+        Err(exit) => exit,
+    }
+}
+
 fn end(rt: &HostRuntime, exit: Exit) -> ExitCode
     ensures { exit_status result ≡ exit.status }
 {
@@ -122,23 +163,21 @@ fn end(rt: &HostRuntime, exit: Exit) -> ExitCode
 }
 
 fn main(mut rt: HostRuntime) -> ExitCode {
-    let exit = match words(rt.alloc(), env::args(&rt)) {
-        Ok(words) => match BufWriter::new(rt.alloc(), rt.stdout()) {
-            Ok(writer) => {
-                let mut script = StdSource::new(rt.reader());
-                let mut out = StdSink::new(writer);
-                exit_of(run::<_, _, Brand, Brand>(
-                    &mut rt,
-                    words.as_slice(),
-                    &mut script,
-                    &mut out,
-                    Blank::new(1),
-                    Blank::new(1),
-                ))
-            }
-            Err(_) => exit_of(Status::NoMemory),
-        },
-        Err(exit) => exit,
+    let found = env::args(&rt);
+    let exit = match BufWriter::new(rt.alloc(), rt.stdout()) {
+        Ok(writer) => {
+            let mut script = StdSource::new(rt.reader());
+            let mut out = StdSink::new(writer);
+            program::<_, _, Brand, Brand>(
+                &mut rt,
+                found,
+                &mut script,
+                &mut out,
+                Blank::new(1),
+                Blank::new(1),
+            )
+        }
+        Err(_) => exit_of(Status::NoMemory),
     };
     end(&rt, exit)
 }

@@ -3,16 +3,18 @@
 //! It must not know lines, rules or lots. Replies go through a buffer that is flushed after each read, so that a person
 //! who types is answered at once and a long script isn't written line by line.
 //!
-//! What callers get wrong: that `main` alone has no contract, so it only hands on what the other functions answer.
+//! What callers get wrong: that `main` alone has no contract. It makes the buffer, hands the words, the input and the
+//! output to `program`, and the exit to `end`.
 #![tactic(auto)]
 
-ghost use Rattle.std.specs.Prelude.{◌≡◌, ◌≢◌, ◌<◌, ◌⊎◌, [], ℕ, map, string_bytes, IfSome, IsFalse, IfOk, IfErr, IsErrAnd, MatchResult};
+ghost use Rattle.std.specs.Prelude.{◌≡◌, ◌≢◌, ◌<◌, ◌⊎◌, [], List, ℕ, map, string_bytes, IfSome, IsFalse, IfOk, IfErr, IsErrAnd, MatchResult};
 ghost use Rattle.std.specs.Io.KnownBytes.{Appends};
 ghost use Rattle.std.specs.Process.{exit_status};
+ghost use Rattle.cga_main.specs.Program.{Ends};
 ghost use Rattle.cga_outside.specs.Causes.{Rose};
 ghost use Rattle.cga_top.specs.Output.{output_of};
 ghost use Rattle.cga_top.specs.Outside.{outside_of};
-ghost use Rattle.cga_top.specs.Runs.{HoldsFewOr, RunMeans, script_of};
+ghost use Rattle.cga_top.specs.Runs.{HoldsFewOr, IsScript, RunMeans, script_of};
 ghost use Rattle.cga_words.specs.Words.{command_app, decimals_of, town_of};
 ghost use Rattle.clap.specs.Words.{fault_of};
 ghost use Rattle.std.specs.Vec.Iter.{into_iter_items};
@@ -67,6 +69,9 @@ fn run<S: Source, K: Sink, E: Ledger, T: Ledger>(
     requires tests_name { tests.name ≡ T.name }
     requires tests_parts { tests.parts ≡ T.parts }
     requires tests_some { 0 < tests.parts }
+    ensures given { let texts = map string_bytes words.now in result ≡ Status.Done → (bytes : List ℕ)
+        × IsScript (town_of texts) (S.given script.old) (S.given script.new) bytes
+        × Appends (K.held out.old) (K.held out.new) (output_of (decimals_of texts) bytes) }
     ensures headline { let texts = map string_bytes words.now in result ≡ Status.Done
         → IfSome (script_of (town_of texts) (S.left script.old)) (λ bytes.
         Appends (K.held out.old) (K.held out.new) (output_of (decimals_of texts) bytes)) }
@@ -88,6 +93,40 @@ fn run<S: Source, K: Sink, E: Ledger, T: Ledger>(
     run_city(rt.alloc(), words, script, out, &mut expansions, &mut tests)
 }
 
+// The whole program but for the system's own part: reads the words, replies to the script, and says how it ended. Where
+// the system doesn't give the words, nothing is read or written.
+fn program<S: Source, K: Sink, E: Ledger, T: Ledger>(
+    rt: &mut HostRuntime,
+    found: io::Result<Args>,
+    script: &mut S,
+    out: &mut K,
+    expansions: Blank,
+    tests: Blank,
+) -> Exit
+    requires open { IsFalse (S.ended script.old) }
+    requires expansions_name { expansions.name ≡ E.name }
+    requires expansions_parts { expansions.parts ≡ E.parts }
+    requires expansions_some { 0 < expansions.parts }
+    requires tests_name { tests.name ≡ T.name }
+    requires tests_parts { tests.parts ≡ T.parts }
+    requires tests_some { 0 < tests.parts }
+    ensures given { IfOk found (λ given. Ends (map string_bytes (into_iter_items given))
+        (outside_of S.Source K.Sink script.old out.old 0)
+        (λ expanded. outside_of S.Source K.Sink script.new out.new expanded) result.status result.line.now) }
+    ensures refused { IfErr found (λ error. (result.status ≡ refusal_of (error_kind error))
+        × (result.line.now ≡ refusal_line (error_kind error))
+        × (outside_of S.Source K.Sink script.new out.new 0 ≡ outside_of S.Source K.Sink script.old out.old 0)) }
+{
+    match words(rt.alloc(), found) {
+        Ok(words) => {
+            let texts = words.as_slice();
+            let status = run::<S, K, E, T>(rt, texts, script, out, expansions, tests);
+            exit_of(status)
+        }
+        Err(exit) => exit,
+    }
+}
+
 fn end(rt: &HostRuntime, exit: Exit) -> ExitCode
     ensures { exit_status result ≡ exit.status }
 {
@@ -98,23 +137,21 @@ fn end(rt: &HostRuntime, exit: Exit) -> ExitCode
 }
 
 fn main(mut rt: HostRuntime) -> ExitCode {
-    let exit = match words(rt.alloc(), env::args(&rt)) {
-        Ok(words) => match BufWriter::new(rt.alloc(), rt.stdout()) {
-            Ok(writer) => {
-                let mut script = StdSource::new(rt.reader());
-                let mut out = StdSink::new(writer);
-                exit_of(run::<_, _, Brand, Brand>(
-                    &mut rt,
-                    words.as_slice(),
-                    &mut script,
-                    &mut out,
-                    Blank::new(1),
-                    Blank::new(1),
-                ))
-            }
-            Err(_) => OUT_OF_MEMORY,
-        },
-        Err(exit) => exit,
+    let found = env::args(&rt);
+    let exit = match BufWriter::new(rt.alloc(), rt.stdout()) {
+        Ok(writer) => {
+            let mut script = StdSource::new(rt.reader());
+            let mut out = StdSink::new(writer);
+            program::<_, _, Brand, Brand>(
+                &mut rt,
+                found,
+                &mut script,
+                &mut out,
+                Blank::new(1),
+                Blank::new(1),
+            )
+        }
+        Err(_) => OUT_OF_MEMORY,
     };
     end(&rt, exit)
 }

@@ -1,5 +1,5 @@
 -- What a read, a write and a flush say beside the bytes that they move.
-use Rattle.std.specs.Prelude.{◌≡◌, ℕ, ◌+◌, ◌-◌, ◌^◌, ◌<◌, ◌≤◌, ◌↔◌, min, List, [], length, Bool, ◌&&◌, ◌||◌, nat_eq, nat_lt, OnErr, OnOk, IfOk, ⊤, None, Some, Ok, Err}
+use Rattle.std.specs.Prelude.{◌≡◌, ℕ, ◌+◌, ◌-◌, ◌^◌, ◌<◌, ◌≤◌, ◌↔◌, min, List, [], ◌++◌, length, take, Bool, ◌&&◌, ◌||◌, nat_eq, nat_lt, OnErr, OnOk, IfOk, ⊤, None, Some, Ok, Err}
 use Rattle.std.specs.declared.result.Result.{Result}
 use Rattle.std.specs.declared.option.Option.{Option}
 
@@ -16,6 +16,11 @@ pub record HasCause {T E : Type 0} (before now : ℕ) (result : Result T E) : Ty
 -- a count one greater, which stays at its end
 abbrev pub risen : ℕ → ℕ
 risen n = min (n + 1) (2 ^ 64 - 1)
+
+-- the bytes given grow by those that a read put at the front of the buffer, and by none where it failed
+abbrev pub Gives : {E : Type 0} → List ℕ → List ℕ → Result ℕ E → List ℕ → Type 0
+Gives old new (Ok n) buf = new ≡ old ++ take n buf
+Gives old new (Err e) buf = new ≡ old
 
 -- where the bytes left are told, a read with room gives 0 exactly where none is left
 abbrev pub IsZeroAtEnd : {E : Type 0} → Option (List ℕ) → Result ℕ E → List ℕ → Type 0

@@ -1,9 +1,10 @@
 -- A source and a sink in memory, as contracts see them.
 use Rattle.std.specs.Prelude.{ℕ, ◌≤◌, ◌<◌, List, length, Bool, ◌-◌, min}
 
--- a source: the bytes that are left, the most that a read gives, the numbers of the reads that fail, the number
--- of the next read, whether a read met the end, and how often one failed
+-- a source: the bytes that it gave and those that are left, the most that a read gives, the numbers of the reads that
+-- fail, the number of the next read, whether a read met the end, and how often one failed
 pub record Reading : Type 0 where
+  pub given : List ℕ
   pub left : List ℕ
   pub most : ℕ
   pub fails : List ℕ

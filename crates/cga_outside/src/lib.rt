@@ -8,17 +8,21 @@
 #![tactic(auto)]
 
 mod failed;
+mod list_sink;
 mod memory_sink;
 mod memory_source;
 mod sink;
 mod source;
 mod std_sink;
 mod std_source;
+mod tape;
 
 pub use failed::Failed;
+pub use list_sink::ListSink;
 pub use memory_sink::MemorySink;
 pub use memory_source::MemorySource;
 pub use sink::Sink;
 pub use source::Source;
 pub use std_sink::StdSink;
 pub use std_source::StdSource;
+pub use tape::Tape;

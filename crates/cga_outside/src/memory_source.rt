@@ -1,7 +1,7 @@
-ghost use Rattle.std.specs.Prelude.{◌≡◌, ◌↔◌, ◌<◌, ◌≤◌, length, Contains, Some, false, IsErr, IfOk, take, min, is_ok, if◌then◌else◌};
+ghost use Rattle.std.specs.Prelude.{◌≡◌, ◌↔◌, ◌<◌, ◌≤◌, ◌++◌, [], length, Contains, Some, false, IsErr, IfOk, take, min, is_ok, if◌then◌else◌};
 ghost use Rattle.std.specs.Io.{ReadsAtMost};
 ghost use Rattle.std.specs.Io.KnownBytes.{ReadConsumes};
-ghost use Rattle.cga_outside.specs.Causes.{HasCause, IsZeroAtEnd, ended_after, risen};
+ghost use Rattle.cga_outside.specs.Causes.{Gives, HasCause, IsZeroAtEnd, ended_after, risen};
 ghost use Rattle.cga_outside.specs.Memory.{read_count};
 
 use crate::failed::Failed;
@@ -23,12 +23,13 @@ pub struct MemorySource {
 }
 
 impl Model for MemorySource {
-    ghost use Rattle.std.specs.Prelude.{◌<◌, ◌≤◌, length, drop};
+    ghost use Rattle.std.specs.Prelude.{◌<◌, ◌≤◌, length, drop, take};
     ghost use Rattle.cga_outside.specs.Memory.{Reading};
 
     ghost Value = { Reading };
 
     ghost view = { λ s. record {
+      given = take s.taken s.bytes;
       left = drop s.taken s.bytes;
       most = s.most;
       fails = s.fails;
@@ -45,6 +46,7 @@ impl MemorySource {
     pub fn new(bytes: List<u8>, most: usize, fails: List<u64>) -> MemorySource
         requires { 0 < most }
         ensures { result ≡ record {
+          given = [];
           left = bytes;
           most = most;
           fails = fails;
@@ -76,6 +78,8 @@ fn copy_some(bytes: &[u8], most: usize, buf: &mut [u8]) -> usize
 }
 
 impl Source for MemorySource {
+    ghost given = { λ s. s.given };
+
     ghost left = { λ s. Some s.left };
 
     ghost ended = { λ s. s.ended };
@@ -84,6 +88,7 @@ impl Source for MemorySource {
 
     fn read(&mut self, buf: &mut [u8]) -> Result<usize, Failed>
         ensures bound { ReadsAtMost result buf.new }
+        ensures gave { Gives self.old.given self.new.given result buf.new }
         ensures bytes { ReadConsumes (Some self.old.left) (Some self.new.left) result buf.new }
         ensures end { IsZeroAtEnd (Some self.old.left) result buf.new }
         ensures mark { self.new.ended ≡ ended_after self.old.ended result buf.new }
@@ -94,6 +99,7 @@ impl Source for MemorySource {
         ensures count { IfOk result (λ n. n ≡ read_count self.old buf.old) }
         ensures number { self.new.number ≡ risen self.old.number }
         ensures same { (self.new.fails ≡ self.old.fails) × (self.new.most ≡ self.old.most) }
+        ensures whole { self.new.given ++ self.new.left ≡ self.old.given ++ self.old.left }
     {
         let number = self.number;
         self.number = self.number.saturating_add(1);

@@ -1,19 +1,21 @@
-ghost use Rattle.std.specs.Prelude.{◌≡◌, ◌<◌, false, length, IfOk, is_ok, if◌then◌else◌};
+ghost use Rattle.std.specs.Prelude.{◌≡◌, ◌<◌, [], Some, false, length, IfOk, is_ok, if◌then◌else◌};
 ghost use Rattle.std.specs.Io.{WritesAtMost};
 ghost use Rattle.std.specs.Io.KnownBytes.{WriteAppends, Keeps};
 ghost use Rattle.cga_outside.specs.Causes.{HasCause, flushed_after, risen};
 
 use crate::failed::Failed;
 use crate::sink::Sink;
+use crate::tape::Tape;
 use std::io::Write;
 
-/// A sink over one of std's writers. It tells of its bytes what the writer tells, which is nothing for
-/// standard output. Any error of the writer counts as a fault, and so does a write that takes nothing.
+/// A sink over one of std's writers. It tells the bytes that the writer took since, also where the writer tells nothing,
+/// as standard output does. Any error of the writer counts as a fault, and so does a write that takes nothing.
 #[derive(Drop)]
 pub struct StdSink<W: Write> {
     writer: W,
     flushed: bool,
     faults: u64,
+    tape: Tape,
 }
 
 impl<W: Write> StdSink<W> {
@@ -22,24 +24,19 @@ impl<W: Write> StdSink<W> {
         ensures writer { result.writer ≡ writer }
         ensures unflushed { result.flushed ≡ false }
         ensures faults { result.faults ≡ 0 }
+        ensures took { result.tape.bytes ≡ [] }
     {
         StdSink {
             writer,
             flushed: false,
             faults: 0,
+            tape: Tape::new(),
         }
-    }
-
-    /// The writer with all that it took. What wasn't flushed may not have been sent on.
-    pub fn into_writer(self) -> W
-        ensures { result ≡ self.writer }
-    {
-        self.writer
     }
 }
 
 impl<W: Write> Sink for StdSink<W> {
-    ghost held = { λ s. W.contents s.writer };
+    ghost held = { λ s. Some s.tape.bytes };
 
     ghost flushed = { λ s. s.flushed };
 
@@ -48,7 +45,8 @@ impl<W: Write> Sink for StdSink<W> {
     fn write(&mut self, piece: &[u8]) -> Result<usize, Failed>
         ensures within { WritesAtMost result piece.now }
         ensures some { IfOk result (λ n. 0 < length piece.now → 0 < n) }
-        ensures bytes { WriteAppends (W.contents self.old.writer)
+        ensures bytes { WriteAppends (Some self.old.tape.bytes) (Some self.new.tape.bytes) result piece.now }
+        ensures contents { WriteAppends (W.contents self.old.writer)
             (W.contents self.new.writer) result piece.now }
         ensures mark { self.new.flushed ≡ flushed_after self.old.flushed piece.now }
         ensures cause { HasCause self.old.faults self.new.faults result }
@@ -60,7 +58,10 @@ impl<W: Write> Sink for StdSink<W> {
         }
         self.flushed = false;
         match self.writer.write(piece) {
-            Ok(count) if count > 0 => Ok(count),
+            Ok(count) if count > 0 => {
+                self.tape = Tape::with(&self.tape, &piece[..count]);
+                Ok(count)
+            }
             _ => {
                 self.faults = self.faults.saturating_add(1);
                 Err(Failed)
@@ -70,7 +71,8 @@ impl<W: Write> Sink for StdSink<W> {
 
     fn flush(&mut self) -> Result<(), Failed>
         ensures mark { self.new.flushed ≡ is_ok result }
-        ensures bytes { Keeps (W.contents self.old.writer) (W.contents self.new.writer) }
+        ensures bytes { Keeps (Some self.old.tape.bytes) (Some self.new.tape.bytes) }
+        ensures contents { Keeps (W.contents self.old.writer) (W.contents self.new.writer) }
         ensures cause { HasCause self.old.faults self.new.faults result }
         ensures faults { self.new.faults ≡
             (if is_ok result then self.old.faults else risen self.old.faults) }

@@ -1,7 +1,7 @@
 //! A source that gives a line a read, and a sink, which share a count of the bytes that were flushed.
 ghost use Rattle.std.specs.Prelude.{◌≡◌, None, false};
 
-use cga_outside::{Failed, Sink, Source};
+use cga_outside::{Failed, Sink, Source, Tape};
 use std::cell::Cell;
 
 // Notes how many bytes had been flushed before each of its first reads.
@@ -12,6 +12,7 @@ pub(crate) struct LineByLine<'a> {
     pub(crate) flushed_before: [usize; 5],
     number: usize,
     ended: bool,
+    tape: Tape,
 }
 
 impl<'a> LineByLine<'a> {
@@ -24,11 +25,13 @@ impl<'a> LineByLine<'a> {
             flushed_before: [0; 5],
             number: 0,
             ended: false,
+            tape: Tape::new(),
         }
     }
 
     fn note(&mut self)
-        ensures { self.new.ended ≡ self.old.ended }
+        ensures ended { self.new.ended ≡ self.old.ended }
+        ensures tape { self.new.tape ≡ self.old.tape }
     {
         if let Some(place) = self.flushed_before.get_mut(self.number) {
             *place = self.flushed.get();
@@ -45,6 +48,8 @@ fn line_end(bytes: &[u8]) -> usize {
 }
 
 impl Source for LineByLine<'_> {
+    ghost given = { λ s. s.tape.bytes };
+
     ghost left = { λ s. None };
 
     ghost ended = { λ s. s.ended };
@@ -56,6 +61,7 @@ impl Source for LineByLine<'_> {
         let count = line_end(self.left).min(self.left.len()).min(buf.len());
         let (line, left) = self.left.split_at(count);
         buf[..count].copy_from_slice(line);
+        self.tape = Tape::with(&self.tape, &buf[..count]);
         self.left = left;
         if count == 0 && !buf.is_empty() {
             self.ended = true;

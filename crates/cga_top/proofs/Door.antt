@@ -6,14 +6,18 @@ pub use Rattle.cga_top.proofs.Asks.{asks_written, city_is, city_told, city_writt
 pub use Rattle.cga_top.proofs.Numbers.{distinct}
 -- The bill goes with the changes of an edit
 pub use Rattle.cga_top.proofs.Bills.{nothing_drawn}
--- Completeness, from what the statuses mean
-pub use Rattle.cga_top.proofs.Complete.{not_so_long, done_not_used, long_not_used, not_used, read_not_used}
+-- Completeness and the headline, from what the statuses mean
+pub use Rattle.cga_top.proofs.Complete.{done_not_used, few_given, long_not_used, not_used, of_left, read_not_used}
 -- Lines one after another
 pub use Rattle.cga_top.proofs.Effects.{all_append, all_none, followed_assoc, some_after, some_more, some_nothing, spent_more, spent_then, all_more, followed_silent}
 -- The end of a script
 pub use Rattle.cga_top.proofs.Ends.{IsFlushed, SameSource, all_taken, by_bytes, flushed_as, start_pending}
--- Known bytes that are taken or appended in several steps
-pub use Rattle.cga_top.proofs.Known.{appends_more, appends_all, appends_nothing, consumes_more, consumes_nothing}
+-- What a source gave, over several reads
+pub use Rattle.cga_top.proofs.Gives.{gave_kept, gave_more, gave_none, gave_nothing, gave_same, same_more}
+-- The run that wants memory at once
+pub use Rattle.cga_top.proofs.Given.{no_memory}
+-- Known bytes that are appended in several steps
+pub use Rattle.cga_top.proofs.Known.{appends_more, appends_all, appends_nothing}
 -- One more read
 pub use Rattle.cga_top.proofs.Reading.{lines_more, pending_is, is_part}
 -- Counts of faults over several calls

@@ -26,7 +26,9 @@ use Rattle.cga_top.specs.Faults.{FaultsAt}
 use Rattle.cga_top.specs.Reads.{limit, read_limit, pending_after, IsRead, IsHalted}
 use Rattle.cga_top.specs.Session.{IsAt}
 use Rattle.cga_top.specs.Statuses.{WritesAll, WritesReplies, WritesPrefix, StatusMeans}
-use Rattle.cga_top.proofs.Effects.{spent_then, all_append, some_more, some_after, wrote_more}
+use Rattle.cga_top.proofs.Gives.{gave_nothing, gave_same, same_more}
+pub use Rattle.cga_top.proofs.Gives.{SameSource}
+use Rattle.cga_top.proofs.Effects.{spent_then, all_append, some_more, some_after, some_nothing, wrote_more}
 pub use Rattle.cga_fraction.proofs.Door.{all_of_it}
 
 nothing_kept : (x : ℕ) (xs : List ℕ) → take 4098 (x ∷ xs) ≡ [] → ⊥
@@ -64,6 +66,11 @@ prefix_of d (Some bytes) None a c read n p s = absurd p
 prefix_of d (Some bytes) (Some rest) a c read n p s =
     some_output d bytes (take n read) (drop n read ++ rest) a c (p ∙ ap (λ (r : List ℕ). r ++ rest) (sym (take-append-drop n read)) ∙ append_assoc (take n read) (drop n read) rest) s
 
+-- likewise of the output of what was read
+given_prefix : (d : ℕ) (read : List ℕ) (n : ℕ) (a c : Option (List ℕ)) → AppendsSome a c (replies_of d (take n read))
+    → AppendsSome a c (output_of d read)
+given_prefix d read n a c s = some_output d read (take n read) (drop n read) a c (sym (take-append-drop n read)) s
+
 pub some_kept : (a b c : Option (List ℕ)) (text : List ℕ) → Appends a b text → Keeps b c → AppendsSome a c text
 some_kept a b c text p q = (length text, let e : take (length text) text ≡ text = take_all (length text) text (omega arith) in rw e (all_of_it a b c text p q))
 
@@ -72,12 +79,6 @@ pub by_bytes : (P : List ℕ → Type 0) (known : Option (List ℕ)) → ((bytes
     → IfSome known P
 by_bytes P None each = tt
 by_bytes P (Some bytes) each = each bytes refl
-
--- nothing more was read
-pub record SameSource (old new : Outside) : Type 0 where
-  pub left : new.left ≡ old.left
-  pub ended : new.ended ≡ old.ended
-  pub reads : new.reads_failed ≡ old.reads_failed
 
 -- a flush gave the wanted status, or a write fault
 pub record IsFlushed (status wanted : Status) (old new : Outside) : Type 0 where
@@ -107,23 +108,28 @@ flushed_means d status wanted old mid new other f calm means prefix =
     flushed_as (λ (s : Status). StatusMeans d s old new) status wanted old mid new other f calm means (λ rose. (rose, prefix))
 
 -- what was replied when reading failed or went too far
-replies_written : (d : ℕ) (read bytes : List ℕ) (old mid new : Outside) (session : Session) (lines : Pending)
-    → old.left ≡ Some bytes
+replies_written : (d : ℕ) (read : List ℕ) (old mid new : Outside) (session : Session) (lines : Pending)
     → IsRead d read old mid session lines → SameSource mid new → new.expanded ≡ mid.expanded → Keeps mid.held new.held
-    → WritesReplies d read bytes old new
+    → WritesReplies d read old new
 unfolding replies_of
-replies_written d read bytes old mid new session lines told r source expanded keeps =
-    let taken : Consumes old.left new.left read = subst (λ (left : Option (List ℕ)). Consumes old.left left read) (sym source.left) r.taken in
+replies_written d read old mid new session lines r source expanded keeps =
     record {
-      taken = subst (λ (left : Option (List ℕ)). Consumes left new.left read) told taken;
+      gave = gave_same read old mid new r.gave source;
       replies = all_of_it old.held mid.held new.held _ r.wrote.written keeps;
       spent = record { by = spent_then (effect_of_lines d (take limit read)).works old.expanded mid.expanded new.expanded expanded r.wrote.spent };
     }
 
 read_prefix : (d : ℕ) (read : List ℕ) (old mid new : Outside) (session : Session) (lines : Pending)
-    → IsRead d read old mid session lines → Keeps mid.held new.held → WritesPrefix d old new
+    → IsRead d read old mid session lines → SameSource mid new → Keeps mid.held new.held → WritesPrefix d old new
 unfolding replies_of
-read_prefix d read old mid new session lines r keeps = prefix_of d old.left mid.left old.held new.held read limit r.taken (some_kept old.held mid.held new.held _ r.wrote.written keeps)
+read_prefix d read old mid new session lines r source keeps =
+    let some : AppendsSome old.held new.held (replies_of d (take limit read)) = some_kept old.held mid.held new.held _ r.wrote.written keeps in
+    record {
+      read = read;
+      gave = gave_same read old mid new r.gave source;
+      begins = given_prefix d read limit old.held new.held some;
+      of_all = prefix_of d old.left mid.left old.held new.held read limit r.gave.taken some;
+    }
 
 pub failed_means : (d : ℕ) (status : Status) (old mid new : Outside) (session : Session) (lines : Pending)
     (read : List ℕ)
@@ -136,10 +142,9 @@ failed_means d status old mid new session lines read r few rose f =
       subst (Rose old.reads_failed) (sym f.source.reads) rose,
       flushed,
       calm,
-      by_bytes (λ bytes. (x : List ℕ) × (length x ≤ limit) × WritesReplies d x bytes old new) old.left
-          (λ bytes told. (read, few, replies_written d read bytes old mid new session lines told r f.source f.expanded f.held)),
+      (read, few, replies_written d read old mid new session lines r f.source f.expanded f.held),
     ))
-    (read_prefix d read old mid new session lines r f.held)
+    (read_prefix d read old mid new session lines r f.source f.held)
 
 pub too_long_means : (d : ℕ) (status : Status) (old mid new : Outside) (session : Session) (lines : Pending)
     (read : List ℕ)
@@ -151,10 +156,9 @@ too_long_means d status old mid new session lines read r many most reads f =
     (λ flushed calm. (
       flushed,
       record { reads = f.source.reads ∙ reads; writes = calm },
-      by_bytes (λ bytes. (x : List ℕ) × (limit < length x) × (length x ≤ limit + read_limit) × WritesReplies d x bytes old new) old.left
-          (λ bytes told. (read, many, most, replies_written d read bytes old mid new session lines told r f.source f.expanded f.held)),
+      (read, many, most, replies_written d read old mid new session lines r f.source f.expanded f.held),
     ))
-    (read_prefix d read old mid new session lines r f.held)
+    (read_prefix d read old mid new session lines r f.source f.held)
 
 -- the whole script was read
 pub all_taken : (read bytes : List ℕ) (left : Option (List ℕ)) → Consumes (Some bytes) left read → IsAtEnd left
@@ -164,7 +168,7 @@ all_taken read bytes (Some rest) taken at_end = sym (taken ∙ ap (λ (x : List 
 
 pub ended_bytes : (d : ℕ) (read bytes : List ℕ) (old mid : Outside) (session : Session) (lines : Pending)
     → old.left ≡ Some bytes → IsRead d read old mid session lines → IsAtEnd mid.left → read ≡ bytes
-ended_bytes d read bytes old mid session lines told r at_end = all_taken read bytes mid.left (subst (λ (left : Option (List ℕ)). Consumes left mid.left read) told r.taken) at_end
+ended_bytes d read bytes old mid session lines told r at_end = all_taken read bytes mid.left (subst (λ (left : Option (List ℕ)). Consumes left mid.left read) told r.gave.taken) at_end
 
 all_written : (d : ℕ) (read bytes : List ℕ) (old mid last new : Outside) (session next : Session) (lines : Pending)
     → read ≡ bytes
@@ -197,13 +201,17 @@ end_some d read bytes old mid new session lines is r few s =
     subst (λ (x : List ℕ). AppendsSome old.held new.held (effect_of_script d x).reply) same (some_after old.held mid.held new.held _ _ r.wrote.written s)
 
 pub end_prefix : (d : ℕ) (read : List ℕ) (old mid new : Outside) (session : Session) (lines : Pending)
-    → IsRead d read old mid session lines → length read ≤ limit → IsAtEnd mid.left
+    → IsRead d read old mid session lines → length read ≤ limit → IsAtEnd mid.left → SameSource mid new
     → AppendsSome mid.held new.held
     (last_effect (effect_of_lines d (take limit read)).state (cut (take limit read)).rest).reply
     → WritesPrefix d old new
-end_prefix d read old mid new session lines r few at_end s =
-    by_bytes (λ bytes. AppendsSome old.held new.held (output_of d bytes)) old.left
-    (λ bytes told. end_some d read bytes old mid new session lines (ended_bytes d read bytes old mid session lines told r at_end) r few s)
+end_prefix d read old mid new session lines r few at_end source s = record {
+  read = read;
+  gave = gave_same read old mid new r.gave source;
+  begins = end_some d read read old mid new session lines refl r few s;
+  of_all = by_bytes (λ bytes. AppendsSome old.held new.held (output_of d bytes)) old.left
+      (λ bytes told. end_some d read bytes old mid new session lines (ended_bytes d read bytes old mid session lines told r at_end) r few s);
+}
 
 pub done_means : (d : ℕ) (status : Status) (old mid last new : Outside) (session next : Session) (lines : Pending)
     (read : List ℕ)
@@ -215,25 +223,29 @@ pub done_means : (d : ℕ) (status : Status) (old mid last new : Outside) (sessi
     → StatusMeans d status old new
 done_means d status old mid last new session next lines read r few at_end ended reads w source writes f =
     let other : Done ≢ WriteFault = λ e. cc in
-    let over : IsTrue new.ended = rw (f.source.ended ∙ source.ended) ended in
+    let same : SameSource mid new = same_more mid last new source f.source in
+    let over : IsTrue new.ended = rw same.ended ended in
     flushed_means d status Done old last new other f (writes ∙ r.calm)
     (λ flushed calm. (
       over,
       flushed,
-      record { reads = f.source.reads ∙ source.reads ∙ reads; writes = calm },
-      by_bytes (λ bytes. WritesAll d bytes old new) old.left
-          (λ bytes told. all_written d read bytes old mid last new session next lines (ended_bytes d read bytes old mid session lines told r at_end) r few w f.expanded f.held),
+      record { reads = same.reads ∙ reads; writes = calm },
+      (
+        read,
+        gave_same read old mid new r.gave same,
+        subst IsAtEnd (sym same.left) at_end,
+        all_written d read read old mid last new session next lines refl r few w f.expanded f.held,
+      ),
     ))
-    (end_prefix d read old mid new session lines r few at_end (some_kept mid.held last.held new.held _ w.written f.held))
+    (end_prefix d read old mid new session lines r few at_end same (some_kept mid.held last.held new.held _ w.written f.held))
 
 -- and so the session has come to the state of the whole script
-pub left_at : (d : ℕ) (read : List ℕ) (old mid : Outside) (session next : Session) (lines : Pending)
-    → IsRead d read old mid session lines → length read ≤ limit → IsAtEnd mid.left
+pub came_to : (d : ℕ) (read : List ℕ) (old mid : Outside) (session next : Session) (lines : Pending)
+    → IsRead d read old mid session lines → length read ≤ limit
     → IsAt (last_effect (effect_of_lines d (take limit read)).state (cut (take limit read)).rest).state next
-    → IfSome old.left (λ bytes. IsAt (effect_of_script d bytes).state next)
-left_at d read old mid session next lines r few at_end is =
-    by_bytes (λ bytes. IsAt (effect_of_script d bytes).state next) old.left
-    (λ bytes told. subst (λ (x : List ℕ). IsAt (effect_of_script d x).state next) (take_all limit read few ∙ ended_bytes d read bytes old mid session lines told r at_end) is)
+    → (bytes : List ℕ) × (mid.given ≡ old.given ++ bytes) × IsAt (effect_of_script d bytes).state next
+came_to d read old mid session next lines r few is =
+    (read, r.gave.given, subst (λ (x : List ℕ). IsAt (effect_of_script d x).state next) (take_all limit read few) is)
 
 pub halted_means : (d : ℕ) (halt : Halt) (status : Status) (old new : Outside)
     → (halt ≡ cause.WriteFault → status ≡ WriteFault) → (halt ≡ cause.NoMemory → status ≡ NoMemory)
@@ -242,8 +254,25 @@ pub halted_means : (d : ℕ) (halt : Halt) (status : Status) (old new : Outside)
 halted_means d cause.WriteFault status old new write memory faults reads prefix = subst (λ (s : Status). StatusMeans d s old new) (sym (write refl)) (faults, prefix)
 halted_means d cause.NoMemory status old new write memory faults reads prefix = subst (λ (s : Status). StatusMeans d s old new) (sym (memory refl)) (record { reads = reads; writes = faults }, prefix)
 
+-- nothing was begun, for want of memory
+pub unbegun_means : (d : ℕ) (o : Outside) → StatusMeans d NoMemory o o
+unbegun_means d o = (
+  record { reads = refl; writes = refl },
+  record {
+    read = [];
+    gave = gave_nothing o;
+    begins = some_nothing o.held (output_of d []);
+    of_all = by_bytes (λ bytes. AppendsSome o.held o.held (output_of d bytes)) o.left (λ bytes told. some_nothing o.held (output_of d bytes));
+  },
+)
+
 pub halted_prefix : (d : ℕ) (read : List ℕ) (old new : Outside) → IsHalted d read old new → WritesPrefix d old new
-halted_prefix d read old new h = prefix_of d old.left new.left old.held new.held read limit h.taken h.wrote
+halted_prefix d read old new h = record {
+  read = read;
+  gave = h.gave;
+  begins = given_prefix d read limit old.held new.held h.wrote;
+  of_all = prefix_of d old.left new.left old.held new.held read limit h.gave.taken h.wrote;
+}
 
 pub start_pending : (p : Pending) → p ≡ record { kept = []; ending = Open } → p ≡ pending_after []
 start_pending p e = e ∙ ap (λ (k : List ℕ). record { kept = kept_of k; ending = Open }) (sym (rest_of_part [] (All-nil (λ (b : ℕ). b ≢ 10))))

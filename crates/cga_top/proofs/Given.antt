@@ -20,11 +20,12 @@ use Rattle.cga_top.specs.Outside.{Outside}
 use Rattle.cga_top.specs.Faults.{FaultsAt}
 use Rattle.cga_top.specs.Prefixes.{AppendsSome}
 use Rattle.cga_top.specs.Reads.{pending_after}
-use Rattle.cga_top.specs.Runs.{GivenMeans, RunMeans, HoldsFewOr, script_of}
+use Rattle.cga_top.specs.Runs.{GivenMeans, RunMeans, HoldsFewOr, IsScript, script_of}
 use Rattle.cga_top.specs.Wrote.{Wrote}
-use Rattle.cga_top.proofs.Complete.{complete_of, headline_of}
+use Rattle.cga_top.proofs.Complete.{complete_of, given_of, headline_of}
 use Rattle.cga_top.proofs.Effects.{spent_then, some_after, some_more, some_nothing}
 use Rattle.cga_top.proofs.Ends.{IsFlushed, all_of_it, some_kept}
+use Rattle.cga_top.proofs.Gives.{gave_nothing}
 
 pub none_kept : (p : Pending) → p ≡ pending_after [] → p.kept ≡ []
 none_kept p e = ap (λ (q : Pending). q.kept) e ∙ ap kept_of (rest_of_part [] (All-nil (λ (b : ℕ). b ≢ 10))) ∙ take-nil 4098
@@ -81,16 +82,16 @@ given_halted d bytes cause.NoMemory status old new write memory faults some = su
 -- ---- by the town
 
 pub no_memory : (d : ℕ) (town : Option ℕ) (o : Outside) → RunMeans d town NoMemory o o
-no_memory d None o = (record { reads = refl; writes = refl }, for_any o.left)
+no_memory d None o = (record { reads = refl; writes = refl }, record { read = []; gave = gave_nothing o; begins = some_nothing o.held (output_of d []); of_all = for_any o.left })
   where
     for_any : (left : Option (List ℕ)) → IfSome left (λ bytes. AppendsSome o.held o.held (output_of d bytes))
     for_any None = tt
     for_any (Some bytes) = some_nothing o.held (output_of d bytes)
-no_memory d (Some lots) o = ((refl, some_nothing o.held (output_of d (town_text lots))), record { left = refl; ended = refl; reads = refl })
+no_memory d (Some lots) o = ((refl, some_nothing o.held (output_of d (town_text lots))), record { given = refl; left = refl; ended = refl; reads = refl })
 
 pub usage : (d : ℕ) (town : Option ℕ) (o : Outside) → RunMeans d town Usage o o
 usage d None o = refl
-usage d (Some lots) o = (refl, record { left = refl; ended = refl; reads = refl })
+usage d (Some lots) o = (refl, record { given = refl; left = refl; ended = refl; reads = refl })
 
 given_headline : (d : ℕ) (bytes : List ℕ) (status : Status) (old new : Outside) → GivenMeans d bytes status old new
     → status ≡ Done → Appends old.held new.held (output_of d bytes)
@@ -100,6 +101,12 @@ pub run_headline : (d : ℕ) (town : Option ℕ) (status : Status) (old new : Ou
     → status ≡ Done → IfSome (script_of town old.left) (λ bytes. Appends old.held new.held (output_of d bytes))
 run_headline d None status old new m is = headline_of d status old new m is
 run_headline d (Some lots) status old new m is = given_headline d (town_text lots) status old new m.0 is
+
+pub run_given_headline : (d : ℕ) (town : Option ℕ) (status : Status) (old new : Outside)
+    → RunMeans d town status old new → status ≡ Done
+    → (bytes : List ℕ) × IsScript town old.given new.given bytes × Appends old.held new.held (output_of d bytes)
+run_given_headline d None status old new m is = given_of d status old new m is
+run_given_headline d (Some lots) status old new m is = (town_text lots, refl, given_headline d (town_text lots) status old new m.0 is)
 
 given_complete : (d : ℕ) (bytes : List ℕ) (status : Status) (old new : Outside) → GivenMeans d bytes status old new
     → (Rose old.writes_failed new.writes_failed → ⊥) → status ≢ Usage → (status ≡ Done) ⊎ (status ≡ NoMemory)

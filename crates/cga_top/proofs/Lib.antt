@@ -12,6 +12,7 @@ mod Steps
 mod Clothes
 mod Outsides
 mod Known
+mod Gives
 mod Faults
 mod Effects
 mod Pieces

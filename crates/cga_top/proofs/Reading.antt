@@ -2,9 +2,9 @@
 use Rattle.std.proofs.Common.{◌≡◌, ◌≢◌, ℕ, ◌-◌, ◌≤◌, List, [], ◌++◌, length, take, Option, Bool, refl, sym, ap, subst, ◌∙◌}
 use Rattle.std.specs.Prelude.{IsTrue}
 use Rattle.std.proofs.Math.Seq.{take-nil}
-use Rattle.std.proofs.lemmas.List.{take_all, append-nil}
+use Rattle.std.proofs.lemmas.List.{take_all}
 use Rattle.std.proofs.lemmas.List.Elements.{All-nil}
-use Rattle.std.specs.Io.KnownBytes.{Consumes}
+use Rattle.std.specs.Io.KnownBytes.{Consumes, Keeps}
 use Rattle.cga_script.specs.Lines.{IsOneLine, cut, lines_of}
 use Rattle.cga_script.specs.Pending.{Pending, kept_of}
 use Rattle.cga_script.specs.declared.ending.Ending.TheVariants.{Open}
@@ -17,9 +17,9 @@ use Rattle.cga_top.specs.Session.{IsAt}
 use Rattle.cga_top.specs.Wrote.{Wrote}
 use Rattle.cga_top.specs.KeptPart.{IsKeptPart}
 use Rattle.cga_top.specs.Prefixes.{AppendsSome}
-use Rattle.cga_top.specs.Outside.{Outside}
+use Rattle.cga_top.specs.Outside.{Gave, Outside}
 use Rattle.cga_top.specs.Reads.{limit, pending_after, IsRead, IsHalted}
-use Rattle.cga_top.proofs.Known.{consumes_nothing, consumes_more}
+use Rattle.cga_top.proofs.Gives.{gave_kept, gave_more, gave_none, gave_nothing}
 use Rattle.cga_top.proofs.Effects.{all_none, all_append, wrote_nothing, wrote_more, some_after}
 use Rattle.cga_top.proofs.Pieces.{part_kept}
 
@@ -32,7 +32,7 @@ reads_start d session lines o at_it e =
     let none : take limit [] ≡ [] = take-nil limit in
     let still : effect_of_lines d (take limit []) ≡ silent (start d) = ap (effect_of_lines d) none ∙ ap (effect_of_all (start d)) (no_lines [] nothing) ∙ all_none (start d) in
     record {
-      taken = consumes_nothing o.left;
+      gave = gave_nothing o;
       wrote = subst (λ (t : Effect). Wrote t session o.held o.held o.expanded o.expanded) (sym still) (wrote_nothing (start d) session o.held o.expanded at_it);
       lines_are = e ∙ ap pending_after (sym none);
       flushed = λ some. absurd (some refl);
@@ -76,14 +76,14 @@ module _ (d : ℕ) (read chunk piece : List ℕ) (lines : Pending) (few : length
 pub reads_more : (d : ℕ) (read chunk piece : List ℕ) (old mid new : Outside) (session next : Session)
     (lines after : Pending)
     → length read ≤ limit → piece ≡ take (limit - length read) chunk
-    → IsRead d read old mid session lines → Consumes mid.left new.left chunk
+    → IsRead d read old mid session lines → Gave chunk mid new
     → ((s : State) → IsAt s session
     → Wrote (effect_of_all s (lines_of (lines.kept ++ piece))) next mid.held new.held mid.expanded new.expanded)
     → after ≡ record { kept = kept_of (cut (lines.kept ++ piece)).rest; ending = Open }
     → IsTrue new.flushed → new.writes_failed ≡ mid.writes_failed
     → IsRead d (read ++ chunk) old new next after
 reads_more d read chunk piece old mid new session next lines after few first r more each e flushed calm = record {
-  taken = consumes_more old.left mid.left new.left read chunk r.taken more;
+  gave = gave_more old mid new read chunk r.gave more;
   wrote = subst (λ (t : Effect). Wrote t next old.held new.held old.expanded new.expanded) (sym (effects_are d read chunk piece lines few first r.lines_are))
       (wrote_more _ _ session next old.held mid.held new.held old.expanded mid.expanded new.expanded r.wrote (each _ r.wrote.is_at));
   lines_are = e ∙ pending_is d read chunk piece lines few first r.lines_are;
@@ -91,13 +91,26 @@ reads_more d read chunk piece old mid new session next lines after few first r m
   calm = calm ∙ r.calm;
 }
 
--- a read that took nothing
+-- a read that gave nothing, at the end
 pub reads_none : (d : ℕ) (read : List ℕ) (old mid : Outside) (session : Session) (lines : Pending)
-    (left : Option (List ℕ)) (ended : Bool) (failed : ℕ)
-    → IsRead d read old mid session lines → Consumes mid.left left []
-    → IsRead d read old (record mid { left = left; ended = ended; reads_failed = failed }) session lines
-reads_none d read old mid session lines left ended failed r none = record {
-  taken = subst (Consumes old.left left) (append-nil read) (consumes_more old.left mid.left left read [] r.taken none);
+    (given : List ℕ) (left : Option (List ℕ)) (ended : Bool) (failed : ℕ)
+    → IsRead d read old mid session lines → given ≡ mid.given ++ [] → Consumes mid.left left []
+    → IsRead d read old (record mid { given = given; left = left; ended = ended; reads_failed = failed }) session lines
+reads_none d read old mid session lines given left ended failed r none taken = record {
+  gave = gave_none read old mid (record mid { given = given; left = left; ended = ended; reads_failed = failed }) r.gave none taken;
+  wrote = r.wrote;
+  lines_are = r.lines_are;
+  flushed = r.flushed;
+  calm = r.calm;
+}
+
+-- and one that failed
+pub reads_kept : (d : ℕ) (read : List ℕ) (old mid : Outside) (session : Session) (lines : Pending)
+    (given : List ℕ) (left : Option (List ℕ)) (ended : Bool) (failed : ℕ)
+    → IsRead d read old mid session lines → given ≡ mid.given → Keeps mid.left left
+    → IsRead d read old (record mid { given = given; left = left; ended = ended; reads_failed = failed }) session lines
+reads_kept d read old mid session lines given left ended failed r none keeps = record {
+  gave = gave_kept read old mid (record mid { given = given; left = left; ended = ended; reads_failed = failed }) r.gave none keeps;
   wrote = r.wrote;
   lines_are = r.lines_are;
   flushed = r.flushed;
@@ -106,13 +119,13 @@ reads_none d read old mid session lines left ended failed r none = record {
 
 pub reads_halt : (d : ℕ) (read chunk piece : List ℕ) (old mid new : Outside) (session : Session) (lines : Pending)
     → length read ≤ limit → piece ≡ take (limit - length read) chunk
-    → IsRead d read old mid session lines → Consumes mid.left new.left chunk
+    → IsRead d read old mid session lines → Gave chunk mid new
     → ((s : State) → IsAt s session
     → AppendsSome mid.held new.held (effect_of_all s (lines_of (lines.kept ++ piece))).reply)
     → new.reads_failed ≡ old.reads_failed → IsHalted d (read ++ chunk) old new
 unfolding replies_of
 reads_halt d read chunk piece old mid new session lines few first r more each calm = record {
-  taken = consumes_more old.left mid.left new.left read chunk r.taken more;
+  gave = gave_more old mid new read chunk r.gave more;
   wrote = subst (λ (t : Effect). AppendsSome old.held new.held t.reply) (sym (effects_are d read chunk piece lines few first r.lines_are))
       (some_after old.held mid.held new.held _ _ r.wrote.written (each _ r.wrote.is_at));
   calm = calm;

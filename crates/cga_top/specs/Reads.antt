@@ -1,6 +1,6 @@
 -- How reading a script ended.
 use Rattle.std.specs.Prelude.{◌≡◌, ◌≢◌, ℕ, ◌+◌, ◌≤◌, ◌<◌, List, [], length, take, IsTrue}
-use Rattle.std.specs.Io.KnownBytes.{Consumes, IsAtEnd}
+use Rattle.std.specs.Io.KnownBytes.{IsAtEnd}
 use Rattle.cga_outside.specs.Causes.{Rose}
 use Rattle.cga_script.specs.Lines.{cut}
 use Rattle.cga_script.specs.Pending.{Pending, kept_of}
@@ -9,7 +9,7 @@ use Rattle.cga_top.specs.declared.session.Session.{Session}
 use Rattle.cga_top.specs.declared.read_end.ReadEnd.{ReadEnd}
 use Rattle.cga_top.specs.declared.read_end.ReadEnd.TheVariants.{Ended, Failed, TooLong, Halted}
 use Rattle.cga_top.specs.Output.{effect_of_lines, replies_of}
-use Rattle.cga_top.specs.Outside.{Outside}
+use Rattle.cga_top.specs.Outside.{Gave, Outside}
 use Rattle.cga_top.specs.Faults.{FaultsAt}
 use Rattle.cga_top.specs.Wrote.{Wrote}
 use Rattle.cga_top.specs.Prefixes.{AppendsSome}
@@ -28,7 +28,7 @@ pending_after read = record { kept = kept_of (cut read).rest; ending = Open }
 
 -- what was read so far was replied to, up to the limit, and flushed; no write and no flush failed
 pub record IsRead (decimals : ℕ) (read : List ℕ) (old new : Outside) (session : Session) (lines : Pending) : Type 0 where
-  pub taken : Consumes old.left new.left read
+  pub gave : Gave read old new
   pub wrote : Wrote (effect_of_lines decimals (take limit read)) session old.held new.held old.expanded new.expanded
   pub lines_are : lines ≡ pending_after (take limit read)
   pub flushed : read ≢ [] → IsTrue new.flushed
@@ -36,7 +36,7 @@ pub record IsRead (decimals : ℕ) (read : List ℕ) (old new : Outside) (sessio
 
 -- some of the replies to what was read were written, and no read failed
 pub record IsHalted (decimals : ℕ) (read : List ℕ) (old new : Outside) : Type 0 where
-  pub taken : Consumes old.left new.left read
+  pub gave : Gave read old new
   pub wrote : AppendsSome old.held new.held (replies_of decimals (take limit read))
   pub calm : new.reads_failed ≡ old.reads_failed
 

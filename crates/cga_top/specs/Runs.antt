@@ -1,5 +1,5 @@
 -- What the statuses of a run mean, by the words of the command line.
-use Rattle.std.specs.Prelude.{◌≡◌, ℕ, List, false, Option, Some, None, IsTrue}
+use Rattle.std.specs.Prelude.{◌≡◌, ℕ, List, [], ◌++◌, false, Option, Some, None, IsTrue}
 use Rattle.std.specs.Io.KnownBytes.{Appends}
 use Rattle.cga_outside.specs.Causes.{Rose}
 use Rattle.cga_outside.specs.declared.sink.Sink as sink
@@ -16,9 +16,15 @@ abbrev pub script_of : Option ℕ → Option (List ℕ) → Option (List ℕ)
 script_of None left = left
 script_of (Some lots) left = Some (town_text lots)
 
+-- the script that was done: that of the town, or what the source gave since
+abbrev pub IsScript : Option ℕ → List ℕ → List ℕ → List ℕ → Type 0
+IsScript None old new bytes = new ≡ old ++ bytes
+IsScript (Some lots) old new bytes = bytes ≡ town_text lots
+
 -- a sink and a counter, beside a source of which nothing is asked
 abbrev pub sunk_in : {K : Type 0} → sink.Ghosts K → K → ℕ → Outside
 sunk_in sink out expanded = record {
+  given = [];
   left = None;
   ended = false;
   reads_failed = 0;
@@ -40,6 +46,7 @@ GivenMeans decimals bytes TooLong old new = ⊥
 
 -- the source is as it was
 pub record IsUnread (old new : Outside) : Type 0 where
+  pub given : new.given ≡ old.given
   pub left : new.left ≡ old.left
   pub ended : new.ended ≡ old.ended
   pub reads : new.reads_failed ≡ old.reads_failed

@@ -1,13 +1,13 @@
 -- What the statuses of a run mean that tells more behind the output.
 use Rattle.std.specs.Prelude.{◌≡◌, ◌⊎◌, ℕ, ◌≤◌, List, ◌++◌, length, IsTrue, IfSome}
-use Rattle.std.specs.Io.KnownBytes.{Appends}
+use Rattle.std.specs.Io.KnownBytes.{Appends, IsAtEnd}
 use Rattle.cga_outside.specs.Causes.{Rose}
 use Rattle.cga_outside.specs.declared.sink.Sink as sink
 use Rattle.cga_words.specs.declared.status.Status.{Status}
 use Rattle.cga_words.specs.declared.status.Status.TheVariants.{Done, Usage, ReadFault, WriteFault, TooLong, NoMemory}
 use Rattle.cga_top.specs.Hulls.{IsToldOf}
 use Rattle.cga_top.specs.Output.{effect_of_script, output_of}
-use Rattle.cga_top.specs.Outside.{Outside, IsCalm}
+use Rattle.cga_top.specs.Outside.{Gave, Outside, IsCalm}
 use Rattle.cga_top.specs.Prefixes.{AppendsSome}
 use Rattle.cga_top.specs.Reads.{limit}
 use Rattle.cga_top.specs.Statuses.{Spent, StatusMeans}
@@ -25,10 +25,18 @@ abbrev pub TellsSome : ℕ → List ℕ → Outside → Outside → Type 0
 TellsSome decimals bytes old new = AppendsSome old.held new.held (output_of decimals bytes)
     ⊎ ((text : List ℕ) × IsToldOf decimals bytes text × AppendsSome old.held new.held (output_of decimals bytes ++ text))
 
+-- so of the bytes that were given, and of all that were left, where the source tells them
+pub record TellsPrefix (decimals : ℕ) (old new : Outside) : Type 0 where
+  pub read : List ℕ
+  pub gave : Gave read old new
+  pub begins : TellsSome decimals read old new
+  pub of_all : IfSome old.left (λ bytes. TellsSome decimals bytes old new)
+
 -- one row for each status: they are those of a run that tells nothing more, but where more was told
 abbrev pub TellingMeans : ℕ → Status → Outside → Outside → Type 0
-TellingMeans decimals Done old new = IsTrue new.ended × IsTrue new.flushed × IsCalm old new × IfSome old.left (λ bytes. TellsAll decimals bytes old new)
-TellingMeans decimals WriteFault old new = Rose old.writes_failed new.writes_failed × IfSome old.left (λ bytes. TellsSome decimals bytes old new)
+TellingMeans decimals Done old new = IsTrue new.ended × IsTrue new.flushed × IsCalm old new
+    × ((bytes : List ℕ) × Gave bytes old new × IsAtEnd new.left × TellsAll decimals bytes old new)
+TellingMeans decimals WriteFault old new = Rose old.writes_failed new.writes_failed × TellsPrefix decimals old new
 TellingMeans decimals ReadFault old new = StatusMeans decimals ReadFault old new
 TellingMeans decimals TooLong old new = StatusMeans decimals TooLong old new
 TellingMeans decimals NoMemory old new = StatusMeans decimals NoMemory old new

@@ -1,4 +1,4 @@
-ghost use Rattle.std.specs.Prelude.{◌≡◌, ◌≢◌, ◌⊎◌, List, ℕ, Bool, Option, [], map, string_bytes, unwrap_or, OnOk, OnErr, IfSome, IsTrue, IsFalse};
+ghost use Rattle.std.specs.Prelude.{◌≡◌, ◌≢◌, ◌⊎◌, ◌++◌, List, ℕ, Bool, Option, [], map, string_bytes, unwrap_or, OnOk, OnErr, IfSome, IsTrue, IsFalse};
 ghost use Rattle.std.specs.Io.KnownBytes.{Keeps, Appends};
 ghost use Rattle.cga_outside.specs.Causes.{Rose};
 ghost use Rattle.clap.specs.Words.{fault_of};
@@ -15,7 +15,7 @@ ghost use Rattle.cga_top.specs.Wrote.{Wrote};
 ghost use Rattle.cga_top.specs.Prefixes.{AppendsSome};
 ghost use Rattle.cga_top.specs.Reads.{pending_after};
 ghost use Rattle.cga_top.specs.Statuses.{StatusMeans, HoldsFew};
-ghost use Rattle.cga_top.specs.Runs.{GivenMeans, RunMeans, HoldsFewOr, script_of, sunk_in};
+ghost use Rattle.cga_top.specs.Runs.{GivenMeans, RunMeans, HoldsFewOr, IsScript, script_of, sunk_in};
 
 use crate::decimals::Decimals;
 use crate::halt::Halt;
@@ -78,8 +78,9 @@ pub(crate) fn run_in<S: Source, K: Sink, E: Ledger, T: Ledger>(
         → (Rose (K.faults out.old) (K.faults out.new) → ⊥)
         → (result ≡ Status.Done) ⊎ (result ≡ Status.NoMemory) }
     ensures warm { result ≡ Status.Done → IsTrue session.new.city.warm }
-    ensures left { result ≡ Status.Done → IfSome (S.left script.old) (λ bytes.
-        IsAt (effect_of_script session.old.decimals bytes).state session.new) }
+    ensures came { result ≡ Status.Done → (bytes : List ℕ)
+        × (S.given script.new ≡ S.given script.old ++ bytes)
+        × IsAt (effect_of_script session.old.decimals bytes).state session.new }
 {
     let mut lines = match Lines::new(session.alloc) {
         Ok(lines) => lines,
@@ -237,7 +238,12 @@ pub fn run_city<S: Source, K: Sink, E: Ledger, T: Ledger>(
 ) -> Status
     requires { IsFalse (S.ended script.old) }
 
-    // Where all was done, what the sink holds is what it held and the output.
+    // Where all was done, what the sink holds is what it held and the output of what the source gave.
+    ensures given { let texts = map string_bytes words.now in result ≡ Status.Done → (bytes : List ℕ)
+        × IsScript (town_of texts) (S.given script.old) (S.given script.new) bytes
+        × Appends (K.held out.old) (K.held out.new) (output_of (decimals_of texts) bytes) }
+
+    // Where the source tells what is left, that is the script.
     ensures headline { let texts = map string_bytes words.now in result ≡ Status.Done
         → IfSome (script_of (town_of texts) (S.left script.old)) (λ bytes.
         Appends (K.held out.old) (K.held out.new) (output_of (decimals_of texts) bytes)) }

@@ -5,7 +5,7 @@ use crate::decimals::Decimals;
 use crate::top::run_given;
 use cga_expand::Expansions;
 use cga_fraction::{List, NoMemory, Tests};
-use cga_outside::StdSink;
+use cga_outside::ListSink;
 use cga_words::Status;
 use std::alloc::Global;
 use std::sync::ledger::Ledger;
@@ -21,9 +21,9 @@ pub fn reply<E: Ledger, T: Ledger>(
 ) -> Result<List<u8>, NoMemory>
     ensures { IfOk result (λ text. text ≡ output_of decimals script.now) }
 {
-    let mut out = StdSink::new(Vec::new(alloc));
+    let mut out = ListSink::new(alloc);
     match run_given(alloc, decimals, script, &mut out, expansions, tests) {
-        Status::Done => Ok(List::from_vec(out.into_writer())),
+        Status::Done => Ok(out.into_list()),
         _ => Err(NoMemory),
     }
 }

@@ -1,5 +1,8 @@
-use Rattle.cga_live.proofs.Ends.{live_headline, none_means}
+use Rattle.cga_live.proofs.Ends.{live_given, live_headline, none_means}
 use Rattle.cga_live.proofs.run.Goals as goal
+
+pub returns-clause-given : goal.returns-clause-given
+returns-clause-given g c = λ done. live_given _ _ _ _ c.run_live.ensures.means done
 
 pub returns-clause-headline : goal.returns-clause-headline
 returns-clause-headline g c = λ done. live_headline _ _ _ _ c.run_live.ensures.means done

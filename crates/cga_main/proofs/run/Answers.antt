@@ -1,5 +1,8 @@
 use Rattle.cga_main.proofs.run.Goals as goal
 
+pub returns-clause-given : goal.returns-clause-given
+returns-clause-given g c = c.run_city.ensures.given
+
 pub returns-clause-headline : goal.returns-clause-headline
 returns-clause-headline g c = c.run_city.ensures.headline
 

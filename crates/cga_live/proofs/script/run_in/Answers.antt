@@ -16,8 +16,8 @@ returns-in-Ok-end_script-clause-means g c =
     let q = c.in-Ok-end_script.ensures.ok _ _ r.1.lived.here (ap (λ p. p.kept) r.1.lines_are) in
     let f = c.flushed.ensures in
     let last = outside_of g.S.Source g.K.Sink c.read_lines.new.script c.end_script.new.out c.end_script.new.expansions in
-    done_means _ r.0 _ _ _ _ r.1 r.2 r.3 _ last _ r.4 r.5 q (record { left = refl; ended = refl; reads = refl }) c.in-Ok-end_script.ensures.faults
-    (record { source = record { left = refl; ended = refl; reads = refl }; expanded = refl; held = f.bytes; answers = f.answers; done = f.done; fault = f.fault; calm = f.calm })
+    done_means _ r.0 _ _ _ _ r.1 r.2 r.3 _ last _ r.4 r.5 q (record { given = refl; left = refl; ended = refl; reads = refl }) c.in-Ok-end_script.ensures.faults
+    (record { source = record { given = refl; left = refl; ended = refl; reads = refl }; expanded = refl; held = f.bytes; answers = f.answers; done = f.done; fault = f.fault; calm = f.calm })
 
 pub returns-in-Ended-clause-means : goal.returns-in-Ended-clause-means
 returns-in-Ended-clause-means g c =
@@ -25,21 +25,22 @@ returns-in-Ended-clause-means g c =
     let u = c.in-Err-end_script.ensures.err _ _ r.1.lived.here (ap (λ p. p.kept) r.1.lines_are) in
     halted_means _ c.in-Err-end_script.halt _ _ _ c.status_of.ensures.write c.status_of.ensures.memory
     (faults_since c.in-Err-end_script.halt _ _ _ r.1.calm c.in-Err-end_script.ensures.faults) r.5
-    (end_some _ r.0 _ _ _ _ r.1 r.2 r.3 (outside_of g.S.Source g.K.Sink c.read_lines.new.script c.end_script.new.out c.end_script.new.expansions) u)
+    (end_some _ r.0 _ _ _ _ r.1 r.2 r.3 (outside_of g.S.Source g.K.Sink c.read_lines.new.script c.end_script.new.out c.end_script.new.expansions)
+    (record { given = refl; left = refl; ended = refl; reads = refl }) u)
 
 pub returns-in-Failed-clause-means : goal.returns-in-Failed-clause-means
 returns-in-Failed-clause-means g c =
     let r = c.in-Failed.ensures.end in
     let f = c.flushed-in-Failed.ensures in
     failed_means _ _ _ _ _ _ _ r.0 r.1 r.2 r.3
-    (record { source = record { left = refl; ended = refl; reads = refl }; expanded = refl; held = f.bytes; answers = f.answers; done = f.done; fault = f.fault; calm = f.calm })
+    (record { source = record { given = refl; left = refl; ended = refl; reads = refl }; expanded = refl; held = f.bytes; answers = f.answers; done = f.done; fault = f.fault; calm = f.calm })
 
 pub returns-in-TooLong-clause-means : goal.returns-in-TooLong-clause-means
 returns-in-TooLong-clause-means g c =
     let r = c.in-TooLong.ensures.end in
     let f = c.flushed-in-TooLong.ensures in
     too_long_means _ _ _ _ _ _ _ r.0 r.1 r.2 r.3 r.4
-    (record { source = record { left = refl; ended = refl; reads = refl }; expanded = refl; held = f.bytes; answers = f.answers; done = f.done; fault = f.fault; calm = f.calm })
+    (record { source = record { given = refl; left = refl; ended = refl; reads = refl }; expanded = refl; held = f.bytes; answers = f.answers; done = f.done; fault = f.fault; calm = f.calm })
 
 pub returns-clause-means : goal.returns-clause-means
 returns-clause-means g c =

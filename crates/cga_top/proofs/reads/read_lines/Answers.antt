@@ -1,7 +1,8 @@
-use Rattle.std.proofs.Common.{◌++◌, ◌≤◌, ◌-◌, ◌∙◌, ℕ, [], length, take, refl, sym, subst, ap, arith, rules, length-append}
+use Rattle.std.proofs.Common.{◌≡◌, ◌++◌, ◌≤◌, ◌-◌, ◌∙◌, ℕ, [], length, take, refl, sym, subst, ap, arith, rules, length-append}
 use Rattle.std.proofs.lemmas.List.{length-take-le}
 use Rattle.std.specs.Io.KnownBytes.{Consumes}
-use Rattle.cga_top.proofs.Reading.{reads_start, is_part, reads_none, reads_more, reads_halt}
+use Rattle.cga_top.proofs.Reading.{reads_start, is_part, reads_none, reads_kept, reads_more, reads_halt}
+use Rattle.cga_outside.specs.Causes.{Rose}
 use Rattle.cga_top.proofs.Faults.{faults_since}
 use Rattle.cga_top.proofs.reads.read_lines.Goals as goal
 
@@ -24,17 +25,28 @@ returns-in-Err-reply_to-clause-end g c =
     let first = c.first-piece.ensures ∙ ap (λ (n : ℕ). take (67108864 - n) (take c.in-Ok.count c.read.new.buf)) (sym inv.so_far.2) in
     let halt = c.in-Err-reply_to.ensures in (
       read ++ take c.in-Ok.count c.read.new.buf,
-      reads_halt _ read _ _ _ _ _ _ _ few first inv.so_far.1 c.in-Ok.ensures.bytes.0 halt.err (c.in-Ok.ensures.cause.calm ∙ inv.calm),
+      reads_halt _ read _ _ _ _ _ _ _ few first inv.so_far.1 (record { given = c.in-Ok.ensures.gave; taken = c.in-Ok.ensures.bytes.0 }) halt.err (c.in-Ok.ensures.cause.calm ∙ inv.calm),
       faults_since c.in-Err-reply_to.halt _ _ _ inv.so_far.1.calm halt.faults,
+    )
+
+pub returns-in-Err-clause-end : goal.returns-in-Err-clause-end
+returns-in-Err-clause-end g c =
+    let inv = c.loop-total.invariant in
+    let failed = c.in-Err.ensures in (
+      inv.so_far.0,
+      reads_kept _ inv.so_far.0 _ _ _ _ _ _ _ _ inv.so_far.1 failed.gave failed.bytes,
+      omega (arith, inv.so_far.2, c.loop-total-test.true),
+      subst (λ (n : ℕ). Rose n (g.S.Source.faults c.read.new.self)) inv.calm failed.cause.failed,
     )
 
 pub returns-in-Ok-eq0-clause-end : goal.returns-in-Ok-eq0-clause-end
 returns-in-Ok-eq0-clause-end g c =
     let inv = c.loop-total.invariant in
     let got = c.in-Ok-eq0.ensures {u = tt} in
-    let none = subst (λ (n : ℕ). Consumes (g.S.Source.left c.loop-total.script) (g.S.Source.left c.read.new.self) (take n c.read.new.buf)) c.in-Ok-eq0.field-0-test got.bytes.0 in (
+    let none = subst (λ (n : ℕ). Consumes (g.S.Source.left c.loop-total.script) (g.S.Source.left c.read.new.self) (take n c.read.new.buf)) c.in-Ok-eq0.field-0-test got.bytes.0 in
+    let still = subst (λ (n : ℕ). g.S.Source.given c.read.new.self ≡ g.S.Source.given c.loop-total.script ++ take n c.read.new.buf) c.in-Ok-eq0.field-0-test got.gave in (
       inv.so_far.0,
-      reads_none _ inv.so_far.0 _ _ _ _ _ _ _ inv.so_far.1 none,
+      reads_none _ inv.so_far.0 _ _ _ _ _ _ _ _ inv.so_far.1 still none,
       omega (arith, inv.so_far.2, c.loop-total-test.true),
       search rules,
       search rules,
@@ -54,7 +66,7 @@ loop-total-preserved g c =
       calm = c.in-Ok.ensures.cause.calm ∙ inv.calm;
       so_far = (
         read ++ take c.in-Ok.count c.read.new.buf,
-        reads_more _ read _ _ _ _ _ _ _ _ _ few first inv.so_far.1 c.in-Ok.ensures.bytes.0 done.ok done.lines done.flushed done.faults,
+        reads_more _ read _ _ _ _ _ _ _ _ _ few first inv.so_far.1 (record { given = c.in-Ok.ensures.gave; taken = c.in-Ok.ensures.bytes.0 }) done.ok done.lines done.flushed done.faults,
         omega (arith, length-append read (take c.in-Ok.count c.read.new.buf), length-take-le c.in-Ok.count c.read.new.buf c.in-Ok.ensures.bound.0, inv.so_far.2),
       );
     }

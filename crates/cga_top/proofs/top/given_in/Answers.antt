@@ -11,7 +11,7 @@ pub returns-in-Ok-take_all-clause-means : goal.returns-in-Ok-take_all-clause-mea
 returns-in-Ok-take_all-clause-means g c =
     let f = c.flushed.ensures in
     given_done _ _ _ (sunk_in g.K.Sink c.args.out.now c.args.expansions.now) (sunk_in g.K.Sink c.take_all.new.out c.take_all.new.expansions) _ _ c.in-Ok-take_all.ensures.ok c.in-Ok-take_all.ensures.faults
-    (record { source = record { left = refl; ended = refl; reads = refl }; expanded = refl; held = f.bytes; answers = f.answers; done = f.done; fault = f.fault; calm = f.calm })
+    (record { source = record { given = refl; left = refl; ended = refl; reads = refl }; expanded = refl; held = f.bytes; answers = f.answers; done = f.done; fault = f.fault; calm = f.calm })
 
 pub returns-clause-means : goal.returns-clause-means
 returns-clause-means g c =

@@ -1,6 +1,6 @@
 use Rattle.std.proofs.Common.{ap, refl}
 use Rattle.cga_top.specs.Outside.{outside_of}
-use Rattle.cga_top.proofs.Ends.{start_pending, done_means, failed_means, too_long_means, halted_means, halted_prefix, end_prefix, left_at}
+use Rattle.cga_top.proofs.Ends.{start_pending, done_means, failed_means, too_long_means, halted_means, halted_prefix, end_prefix, came_to, unbegun_means}
 use Rattle.cga_top.proofs.Faults.{faults_since}
 use Rattle.cga_top.proofs.Complete.{complete_of, not_used, done_not_used, read_not_used, long_not_used, not_done, read_not_done, long_not_done}
 use Rattle.cga_top.proofs.top.run_in.Goals as goal
@@ -8,14 +8,18 @@ use Rattle.cga_top.proofs.top.run_in.Goals as goal
 pub read_lines-requires-clause-lines : goal.read_lines-requires-clause-lines
 read_lines-requires-clause-lines g c = start_pending _ c.in-Ok.ensures
 
+pub returns-in-Err-clause-means : goal.returns-in-Err-clause-means
+returns-in-Err-clause-means g c =
+    unbegun_means _ (outside_of g.S.Source g.K.Sink c.args.script.now c.args.out.now c.args.expansions.now)
+
 pub returns-in-Ok-end_script-clause-means : goal.returns-in-Ok-end_script-clause-means
 returns-in-Ok-end_script-clause-means g c =
     let r = (c.in-Ended.ensures.end) in
     let w = c.in-Ok-end_script.ensures.ok _ _ r.1.wrote.is_at (ap (λ p. p.kept) r.1.lines_are) in
     let f = c.flushed.ensures in
     let last = outside_of g.S.Source g.K.Sink c.read_lines.new.script c.end_script.new.out c.end_script.new.expansions in
-    done_means _ _ _ _ last _ _ _ _ r.0 r.1 r.2 r.3 r.4 r.5 w (record { left = refl; ended = refl; reads = refl }) c.in-Ok-end_script.ensures.faults
-    (record { source = record { left = refl; ended = refl; reads = refl }; expanded = refl; held = f.bytes; answers = f.answers; done = f.done; fault = f.fault; calm = f.calm })
+    done_means _ _ _ _ last _ _ _ _ r.0 r.1 r.2 r.3 r.4 r.5 w (record { given = refl; left = refl; ended = refl; reads = refl }) c.in-Ok-end_script.ensures.faults
+    (record { source = record { given = refl; left = refl; ended = refl; reads = refl }; expanded = refl; held = f.bytes; answers = f.answers; done = f.done; fault = f.fault; calm = f.calm })
 
 pub returns-in-Ended-clause-means : goal.returns-in-Ended-clause-means
 returns-in-Ended-clause-means g c =
@@ -23,21 +27,22 @@ returns-in-Ended-clause-means g c =
     let s = c.in-Err-end_script.ensures.err _ _ r.1.wrote.is_at (ap (λ p. p.kept) r.1.lines_are) in
     halted_means _ c.in-Err-end_script.halt _ _ _ c.status_of.ensures.write c.status_of.ensures.memory
     (faults_since c.in-Err-end_script.halt _ _ _ r.1.calm c.in-Err-end_script.ensures.faults) r.5
-    (end_prefix _ r.0 _ _ (outside_of g.S.Source g.K.Sink c.read_lines.new.script c.end_script.new.out c.end_script.new.expansions) _ _ r.1 r.2 r.3 s)
+    (end_prefix _ r.0 _ _ (outside_of g.S.Source g.K.Sink c.read_lines.new.script c.end_script.new.out c.end_script.new.expansions) _ _ r.1 r.2 r.3
+    (record { given = refl; left = refl; ended = refl; reads = refl }) s)
 
 pub returns-in-Failed-clause-means : goal.returns-in-Failed-clause-means
 returns-in-Failed-clause-means g c =
     let r = c.in-Failed.ensures.end in
     let f = c.flushed-in-Failed.ensures in
     failed_means _ _ _ _ _ _ _ r.0 r.1 r.2 r.3
-    (record { source = record { left = refl; ended = refl; reads = refl }; expanded = refl; held = f.bytes; answers = f.answers; done = f.done; fault = f.fault; calm = f.calm })
+    (record { source = record { given = refl; left = refl; ended = refl; reads = refl }; expanded = refl; held = f.bytes; answers = f.answers; done = f.done; fault = f.fault; calm = f.calm })
 
 pub returns-in-TooLong-clause-means : goal.returns-in-TooLong-clause-means
 returns-in-TooLong-clause-means g c =
     let r = c.in-TooLong.ensures.end in
     let f = c.flushed-in-TooLong.ensures in
     too_long_means _ _ _ _ _ _ _ r.0 r.1 r.2 r.3 r.4
-    (record { source = record { left = refl; ended = refl; reads = refl }; expanded = refl; held = f.bytes; answers = f.answers; done = f.done; fault = f.fault; calm = f.calm })
+    (record { source = record { given = refl; left = refl; ended = refl; reads = refl }; expanded = refl; held = f.bytes; answers = f.answers; done = f.done; fault = f.fault; calm = f.calm })
 
 pub returns-clause-means : goal.returns-clause-means
 returns-clause-means g c =
@@ -68,23 +73,23 @@ returns-in-Ok-end_script-clause-used g c = not_used _ _ c.flushed.ensures.answer
 pub returns-in-Failed-clause-used : goal.returns-in-Failed-clause-used
 returns-in-Failed-clause-used g c = not_used _ _ c.flushed-in-Failed.ensures.answers read_not_used
 
-pub returns-in-Ok-end_script-clause-left : goal.returns-in-Ok-end_script-clause-left
-returns-in-Ok-end_script-clause-left g c =
+pub returns-in-Ok-end_script-clause-came : goal.returns-in-Ok-end_script-clause-came
+returns-in-Ok-end_script-clause-came g c =
     let r = (c.in-Ended.ensures.end) in
     let w = c.in-Ok-end_script.ensures.ok _ _ r.1.wrote.is_at (ap (λ p. p.kept) r.1.lines_are) in
-    λ done. left_at _ r.0 _ _ _ _ _ r.1 r.2 r.3 w.is_at
+    λ done. came_to _ r.0 _ (outside_of g.S.Source g.K.Sink c.read_lines.new.script c.read_lines.new.out c.read_lines.new.expansions) _ _ _ r.1 r.2 w.is_at
 
-pub returns-in-Ended-clause-left : goal.returns-in-Ended-clause-left
-returns-in-Ended-clause-left g c = λ done. absurd (c.status_of.ensures.done done)
+pub returns-in-Ended-clause-came : goal.returns-in-Ended-clause-came
+returns-in-Ended-clause-came g c = λ done. absurd (c.status_of.ensures.done done)
 
-pub returns-in-Failed-clause-left : goal.returns-in-Failed-clause-left
-returns-in-Failed-clause-left g c = λ done. absurd (not_done _ _ c.flushed-in-Failed.ensures.answers read_not_done done)
+pub returns-in-Failed-clause-came : goal.returns-in-Failed-clause-came
+returns-in-Failed-clause-came g c = λ done. absurd (not_done _ _ c.flushed-in-Failed.ensures.answers read_not_done done)
 
-pub returns-in-TooLong-clause-left : goal.returns-in-TooLong-clause-left
-returns-in-TooLong-clause-left g c = λ done. absurd (not_done _ _ c.flushed-in-TooLong.ensures.answers long_not_done done)
+pub returns-in-TooLong-clause-came : goal.returns-in-TooLong-clause-came
+returns-in-TooLong-clause-came g c = λ done. absurd (not_done _ _ c.flushed-in-TooLong.ensures.answers long_not_done done)
 
-pub returns-clause-left : goal.returns-clause-left
-returns-clause-left g c = λ done. absurd (c.status_of-in-Halted.ensures.done done)
+pub returns-clause-came : goal.returns-clause-came
+returns-clause-came g c = λ done. absurd (c.status_of-in-Halted.ensures.done done)
 
 pub returns-in-Ok-end_script-clause-warm : goal.returns-in-Ok-end_script-clause-warm
 returns-in-Ok-end_script-clause-warm g c =
