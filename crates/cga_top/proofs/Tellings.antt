@@ -92,7 +92,7 @@ module _ (d : ℕ) (session : Session) (old mid new : Outside) (done : StatusMea
   telling_means WriteFault t = (
     subst (λ (n : ℕ). Rose n new.writes_failed) done.2.writes t.0,
     (let some : TellsSome d bytes old new = told_some t.1.0 t.1.1 t.1.2 in
-    record { read = bytes; gave = gave; begins = some; of_all = of_all (λ x. TellsSome d x old new) some }),
+        record { read = bytes; gave = gave; begins = some; of_all = of_all (λ x. TellsSome d x old new) some }),
   )
   telling_means NoMemory same = (
     record { reads = source.reads ∙ done.2.reads; writes = ap (λ (o : Outside). o.writes_failed) same ∙ done.2.writes },
@@ -111,12 +111,15 @@ known_more P Q (Some bytes) p each = each bytes p
 pub untold_means : (d : ℕ) (status : Status) (old new : Outside) → StatusMeans d status old new → status ≢ Done
     → TellingMeans d status old new
 untold_means d Done old new m other = absurd (other refl)
-untold_means d WriteFault old new m other = (m.0, record {
-  read = m.1.read;
-  gave = m.1.gave;
-  begins = inl m.1.begins;
-  of_all = known_more _ (λ bytes. TellsSome d bytes old new) old.left m.1.of_all (λ bytes some. inl some);
-})
+untold_means d WriteFault old new m other = (
+  m.0,
+  record {
+    read = m.1.read;
+    gave = m.1.gave;
+    begins = inl m.1.begins;
+    of_all = known_more _ (λ bytes. TellsSome d bytes old new) old.left m.1.of_all (λ bytes some. inl some);
+  },
+)
 untold_means d ReadFault old new m other = m
 untold_means d TooLong old new m other = m
 untold_means d NoMemory old new m other = m
