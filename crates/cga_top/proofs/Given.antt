@@ -24,8 +24,16 @@ use Rattle.cga_top.specs.Runs.{GivenMeans, RunMeans, HoldsFewOr, IsScript, scrip
 use Rattle.cga_top.specs.Wrote.{Wrote}
 use Rattle.cga_top.proofs.Complete.{complete_of, given_of, headline_of}
 use Rattle.cga_top.proofs.Effects.{spent_then, some_after, some_more, some_nothing}
-use Rattle.cga_top.proofs.Ends.{IsFlushed, all_of_it, some_kept}
+use Rattle.cga_top.proofs.Ends.{IsFlushed, all_of_it, some_kept, unbegun_means}
 use Rattle.cga_top.proofs.Gives.{gave_nothing}
+
+-- no run was begun, for want of memory
+pub unbegun_run : (d : ℕ) (town : Option ℕ) (o : Outside) → RunMeans d town NoMemory o o
+unbegun_run d None o = unbegun_means d o
+unbegun_run d (Some lots) o = (
+  (refl, some_nothing o.held (output_of d (town_text lots))),
+  record { given = refl; left = refl; ended = refl; reads = refl },
+)
 
 pub none_kept : (p : Pending) → p ≡ pending_after [] → p.kept ≡ []
 none_kept p e = ap (λ (q : Pending). q.kept) e ∙ ap kept_of (rest_of_part [] (All-nil (λ (b : ℕ). b ≢ 10))) ∙ take-nil 4098

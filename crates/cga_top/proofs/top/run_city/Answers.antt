@@ -4,6 +4,8 @@ use Rattle.cga_words.specs.Words.{command_app, decimals_of, town_of}
 use Rattle.cga_words.specs.declared.wanted.Wanted.{Wanted}
 use Rattle.cga_words.specs.declared.words_fault.WordsFault.{WordsFault}
 use Rattle.cga_words.proofs.Door.{plain_says}
+use Rattle.cga_top.specs.Outside.{outside_of}
+use Rattle.cga_top.proofs.Given.{unbegun_run}
 use Rattle.cga_top.proofs.top.run_city.Goals as goal
 
 pub returns-in-Err-Usage-clause-plain : goal.returns-in-Err-Usage-clause-plain
@@ -25,3 +27,7 @@ pub returns-in-None-clause-plain : goal.returns-in-None-clause-plain
 returns-in-None-clause-plain g c = λ name first decimals town fits words.
     let says = plain_says name first decimals town fits in
     (c.run_script.ensures.used, ap decimals_of words ∙ says.decimals_are, ap town_of words ∙ says.town_is)
+
+pub returns-in-Err-NoMemory-clause-means : goal.returns-in-Err-NoMemory-clause-means
+returns-in-Err-NoMemory-clause-means g c =
+    unbegun_run _ _ (outside_of g.S.Source g.K.Sink c.args.script.now c.args.out.now c.args.expansions.now)
