@@ -7,7 +7,7 @@ work=$(mktemp -d)
 trap 'rm -rf "$work"' EXIT
 mkdir -p "$work/crates/counter/src" "$work/crates/counter/specs" "$work/crates/counter/proofs"
 cp HANDLES "$work/"
-for crate in $(sed -n 's/^\(cga_[a-z]*\):.*/\1/p' crates.txt); do
+for crate in $(sed -n 's/^\(cga_[a-z_]*\):.*/\1/p' crates.txt); do
   mkdir -p "$work/crates/$crate"
   for folder in src specs proofs; do
     if [ -d "crates/$crate/$folder" ]; then cp -r "crates/$crate/$folder" "$work/crates/$crate/"; fi

@@ -47,17 +47,35 @@ for words in x --help --version '--decimals 3' '--town 2'; do
 done
 run "$live" '' </dev/null
 ends 'an empty word' 2 "$work/nothing" 'usage: cga_live'
-(exec -a $'\xff' "$live") </dev/null >"$work/out" 2>"$work/err"
-status=$?
-ends 'words that are no text' 7 "$work/nothing" 'cga_live: cannot read the command line'
+for words in x --help --version '--decimals 10' '--decimals x' --decimals '--decimals 3 --decimals 3' '--town 2' '--decimals 3 --town 2'; do
+  # shellcheck disable=SC2086
+  run "$hulls" $words </dev/null
+  ends "boxes for the words $words" 2 "$work/nothing" 'usage: cga_hulls [--decimals N]'
+done
+for program in "$live" "$hulls"; do
+  (exec -a $'\xff' "$program") </dev/null >"$work/out" 2>"$work/err"
+  status=$?
+  ends 'words that are no text' 7 "$work/nothing" "${program##*/}: cannot read the command line"
+done
 run "$live" <.
 ends 'a folder as the script' 3 "$work/nothing" 'cga_live: cannot read'
 full "$live"
 ends 'a full disk' 4 "$work/nothing" 'cga_live: cannot write'
 run "$hulls" <.
-ends 'boxes of a folder' 1 "$work/nothing" 'cga_hulls: ReadFault'
+ends 'boxes of a folder' 3 "$work/nothing" 'cga_hulls: cannot read'
 full "$hulls"
-ends 'boxes on a full disk' 1 "$work/nothing" 'cga_hulls: WriteFault'
+ends 'boxes on a full disk' 4 "$work/nothing" 'cga_hulls: cannot write'
+
+# a vertex of decimals that are said, and of six
+printf '%s\n' 'version 2' rules '1: a -> S(1r, 1, 1r) I("cube")' end 'lot a 1 1/3 0 1 1 a' print >"$work/third"
+for words in '' '--decimals 0' '--decimals 3' '--decimals=9'; do
+  # shellcheck disable=SC2086
+  run crates/cga_main/out/cga_main $words <"$work/third"
+  { cat "$work/out" && echo '# hull a 1/3 0 0 4/3 1 1'; } >"$work/boxes"
+  # shellcheck disable=SC2086
+  run "$hulls" $words <"$work/third"
+  ends "boxes behind coordinates by the words $words" 0 "$work/boxes" ''
+done
 
 # one line of 64 MiB with its line feed, and the same with one byte more
 echo '# refused LineTooLong' >"$work/refused"
@@ -71,7 +89,7 @@ printf y >>"$work/long"
 run "$live" <"$work/long"
 ends '64 MiB and a byte' 5 "$work/refused" 'cga_live: script too long'
 run "$hulls" <"$work/long"
-ends 'boxes of 64 MiB and a byte' 1 "$work/refused" 'cga_hulls: TooLong'
+ends 'boxes of 64 MiB and a byte' 5 "$work/refused" 'cga_hulls: script too long'
 rm "$work/long"
 echo "$passed passed, $failed failed"
 

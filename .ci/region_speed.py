@@ -1,11 +1,11 @@
 #!/usr/bin/env python3
 """Times tools/districts on regions of shops: for each a row of the table in docs/DISTRICTS.md. Times are seconds of processor,
-user and system, of all processes of a step; the jobs are run by the program, as many at once as there are processors. A join
+user and system, of all processes of a step; the jobs are run by the program, as many at once as there are workers. A join
 and tiles are told without the check that they begin with.
 
-usage: .ci/region_speed.py [--program PATH] [--folder FOLDER] [ROW ..]
+usage: .ci/region_speed.py [--program PATH] [--folder FOLDER] [--workers N] [ROW ..]
 
-PROGRAM is that of crates/cga_hulls, and FOLDER is for the files, of which a row needs up to 7 GB; a row's are taken away after it. A ROW
+PROGRAM is that of crates/cga_hulls, N is the number of processors if it isn't said, and FOLDER is for the files, of which a row needs up to 7 GB; a row's are taken away after it. A ROW
 is a word of those that --help lists; without one all rows are printed, which takes half an hour.
 """
 import argparse
@@ -79,34 +79,35 @@ def run(*words, accepted=(0,)):
     return Spent(usage.ru_utime + usage.ru_stime, usage.ru_maxrss, text)
 
 
-def run_jobs(folder):
+def run_jobs(folder, workers):
     """Runs what is to be run, some jobs for each call of a shell."""
     with (folder / "names").open("w", encoding="ascii") as file:
         file.write(run(DISTRICTS, "todo", folder).said)
-    return run("sh", "-c", 'xargs -P "$1" -n 4 sh "$0/job" <"$0/names"', folder, os.cpu_count() or 1)
+    return run("sh", "-c", 'xargs -P "$1" -n 4 sh "$0/job" <"$0/names"', folder, workers)
 
 
-def measured(region, script, folder, program):
+def measured(region, script, folder, program, workers):
     """The steps of a region by name, each with what it took. A check that isn't content runs the next round."""
     spent = {"cut": run(DISTRICTS, "cut", script, folder, "--program", program, *region.words)}
     said = spent["cut"].said
-    spent["jobs"] = run_jobs(folder)
+    spent["jobs"] = run_jobs(folder, workers)
     for step in region.steps[2:]:
-        spent[step] = run(DISTRICTS, step, folder, accepted=(0, 3))
+        words = [DISTRICTS, step, folder, *(["--workers", workers] if step in ALL[3:] else [])]
+        spent[step] = run(*words, accepted=(0, 3))
         if spent[step].said == "":
             said = "more than one round: " + said
-            run_jobs(folder)
-            spent[step] = run(DISTRICTS, step, folder)
+            run_jobs(folder, workers)
+            spent[step] = run(*words)
     return spent, said
 
 
-def row(name, top, program):
+def row(name, top, program, workers):
     region, script, folder = REGIONS[name], top / f"{name}.cga", top / name
     write_script(region, script)
     if region.form == "edit":
-        measured(region._replace(steps=ALL[:3]), script, folder, program)
+        measured(region._replace(steps=ALL[:3]), script, folder, program, workers)
         write_script(region, script, seeds={region.lots // 2})
-    spent, said = measured(region, script, folder, program)
+    spent, said = measured(region, script, folder, program, workers)
     less = spent["check"].seconds if "check" in spent else 0  # a join and tiles begin with a check
     cells = [f"{spent[step].seconds - (less if step in ALL[3:] else 0):.1f}" if step in spent else "" for step in ALL]
     town = folder / "town.obj"
@@ -123,13 +124,14 @@ def main():
     known = argparse.ArgumentParser(description=__doc__, formatter_class=argparse.RawDescriptionHelpFormatter)
     known.add_argument("--program", default=HULLS)
     known.add_argument("--folder", type=Path)
+    known.add_argument("--workers", type=int, default=os.cpu_count() or 1)
     known.add_argument("rows", nargs="*", choices=[[], *REGIONS], metavar="ROW", help=", ".join(REGIONS))
     words = known.parse_args()
     print("| Region | Jobs | Cut | Run of the jobs | Check | Join | Tiles | Joined | Most memory | of a job |")
     print("|---|---|---|---|---|---|---|---|---|---|")
     with tempfile.TemporaryDirectory(dir=words.folder) as folder:
         for name in words.rows or REGIONS:
-            row(name, Path(folder), Path(words.program).resolve())
+            row(name, Path(folder), Path(words.program).resolve(), words.workers)
 
 
 if __name__ == "__main__":

@@ -5,6 +5,10 @@
 set -euo pipefail
 cd "$(dirname "${BASH_SOURCE[0]}")/.."
 export PYTHONDONTWRITEBYTECODE=1
+# Python with nothing installed beside it, as the tools need it: the tests begin it some hundred times
+alone=$(mktemp -d)
+trap 'rm -rf "$alone"' EXIT
+if python3 -m venv --without-pip "$alone"; then PATH=$alone/bin:$PATH; fi
 python3 -m unittest discover -s tools/tests
 tools/tests/in_blender.py
 tools/tests/planted_in_districts.py

@@ -26,7 +26,7 @@ def touching(boxes):
     if len(boxes) < 2:
         return
     along, across = longer_axis(boxes)
-    width = 1 + 2 * sum(box[across + 1] - box[across] for box in boxes) // len(boxes)
+    width = 1 + 2 * sum(abs(box[across + 1] - box[across]) for box in boxes) // len(boxes)
     strips = [(box[across] // width, box[across + 1] // width) for box in boxes]
     wide = {at for at, (first, last) in enumerate(strips) if last - first >= MOST_STRIPS}
     yield from swept(boxes, along, strips, wide)

@@ -13,6 +13,7 @@ from .jobs import Cut, Program, cut_again, leftovers, todo
 from .joining import join
 from .plan import Options, read_plan
 from .program import LAUNCHER, MOST_LOTS, is_proved
+from .quadtree import EDGE
 from .region import Region
 from .rounds import outcome
 from .strangers_text import told
@@ -23,11 +24,11 @@ MAIN, HULLS = (LAUNCHER.parent / "crates" / name / "out" / name for name in ("cg
 AGAIN = 3  # the status where jobs are to be run again
 
 
-def chosen_program(named, asks=(), decimals=()):
+def chosen_program(named, asks=()):
     """The program of the jobs: the one that is named, else the one that tells boxes, else the proved one."""
     if named:
         return named
-    if HULLS.exists() and (asks or not decimals):
+    if HULLS.exists():
         return str(HULLS)
     if asks:
         raise Refused(f"rule {', '.join(asks)} asks by Scope.occ, so the jobs need the program cga_hulls, which isn't built: "
@@ -44,7 +45,7 @@ def cut(words):
     asks = heads[0].asks()
     refuse(region, words, heads)
     options = Options(words.lots, words.reach, words.rings if asks else 0, words.decimals, [error for _, error in words.coarser])
-    program = Program(chosen_program(words.program, asks, words.decimals), words.decimals)
+    program = Program(chosen_program(words.program, asks), words.decimals)
     words.folder.mkdir(parents=True, exist_ok=True)
     with alone(words.folder):
         plan, number = Cut(words.folder, program, region, heads, options).make()
@@ -62,7 +63,7 @@ def kind(asks, districts):
 def refuse(region, words, heads):
     """Refuses what can't be had together."""
     for (path, error), head in zip(words.coarser, heads[1:]):
-        if not is_number(error):
+        if not is_length(error):
             raise Refused(f"{error} isn't a number of units by which {path} may be off")
         if head.asks():
             raise Refused(f"{path}: rule {', '.join(head.asks())} asks by Scope.occ, which a coarser head can't")
@@ -90,7 +91,7 @@ def checked(folder):
     if "bill" in plan.asked:
         write(folder / "town.bill", bill_text(bill).encode("latin-1"))
     text = " ".join(f"{word} {number}" for word, number in counts.items())
-    (folder / "counts").write_text(text + "\n", encoding="latin-1")
+    write(folder / "counts", (text + "\n").encode())
     print(f"{folder}: {text}")
     return 0
 
@@ -129,7 +130,7 @@ def names(words):
 
 
 def tidy(words):
-    """Takes away outputs that are refused, and what is of no job of the cut."""
+    """Takes away outputs that are refused, what is half written, and what is of no job of the cut."""
     with alone(words.folder):
         plan = read_plan(words.folder)
         gone = list(leftovers(words.folder, plan, Survey(words.folder, plan, plan.jobs).refused))
@@ -142,17 +143,19 @@ def decimals(word):
     return ["--decimals", str(number_in(0, 9, int)(word))]
 
 
-def is_number(word):
+def is_length(word):
+    """Whether it spells a number from 0 on that isn't beyond all numbers of scripts."""
     try:
-        return parted(word) is not None
+        numerator, denominator = parted(word)
     except ValueError:
         return False
+    return 0 <= numerator < EDGE * denominator
 
 
-def number(word):
+def length(word):
     """A length as it is spelt, which is read exactly."""
-    if not is_number(word):
-        raise argparse.ArgumentTypeError(f"`{told(word)}` isn't a number")
+    if not is_length(word):
+        raise argparse.ArgumentTypeError(f"`{told(word)}` isn't a number from 0 on that scripts can have")
     return word
 
 
@@ -160,7 +163,7 @@ def add_cut(known):
     known.add_argument("script")
     known.add_argument("folder", type=Path)
     known.add_argument("--lots", type=number_in(1, MOST_LOTS, int), default=500)
-    known.add_argument("--reach", type=number, default="0")
+    known.add_argument("--reach", type=length, default="0")
     known.add_argument("--rings", type=number_in(0, 64, int), default=0)
     known.add_argument("--decimals", type=decimals, default=[])
     known.add_argument("--coarser", nargs=2, action="append", default=[])

@@ -13,13 +13,10 @@ status=0
 for name in "$@"; do
   [ ! -e "jobs/$name.out" ] || continue
   part=jobs/$name.$(uname -n).$$.part
-  if {program} <"jobs/$name.cga" >"$part" && echo "# job $name" >>"$part"; then
-    mv "$part" "jobs/$name.out"
-  else
-    status=$?
-    rm -f "$part"
-    echo "job $name ended with status $status: run it again, with more memory where that was wanting" >&2
-  fi
+  { {program} <"jobs/$name.cga" && echo "# job $name"; } >"$part" && mv "$part" "jobs/$name.out" && continue
+  status=$?
+  rm -f "$part"
+  echo "job $name ended with status $status: run it again, with more memory where that was wanting" >&2
 done
 exit $status
 """

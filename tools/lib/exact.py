@@ -7,8 +7,8 @@ def parted(text):
     upper, _, lower = text.partition("/")
     whole, _, decimals = upper.partition(".")
     numerator, denominator = int(whole + decimals), int(lower or 1) * 10 ** len(decimals)
-    if denominator == 0:
-        raise ValueError(f"{text} divides by zero")
+    if denominator <= 0:
+        raise ValueError(f"{text} divides by no number above 0")
     return numerator, denominator
 
 

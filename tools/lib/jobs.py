@@ -17,6 +17,7 @@ from .region import Region
 
 SCRIPT = "region.cga"  # a copy of the script, for the cuts that checks make
 CUBE = b'version 2\nrules\n1: a -> S(1r, 1, 1r) I("cube")\nend\nlot a 1 0 0 1 1 a\nprint\n'
+HALF_WRITTEN = (".part", ".piece", ".new")  # until they are whole, files end so
 ALWAYS = ["grammar", "faults", "print", "stats"]  # each job is asked for these
 
 
@@ -119,12 +120,13 @@ def todo(folder, plan):
 
 
 def leftovers(folder, plan, refused):
-    """The files of no job of the cut, and the outputs that are refused."""
+    """The files of no job of the cut, the outputs that are refused, and what is half written."""
     names = {job.name for job in plan.jobs}
     for path in (folder / "jobs").iterdir():
         name = path.name.partition(".")[0]
-        if name not in names or name in refused and path.suffix != ".cga" or path.suffix == ".part":
+        if name not in names or name in refused and path.suffix != ".cga" or path.suffix in HALF_WRITTEN:
             yield path
     yield from (path for path in folder.glob("program-*") if path.name != plan.program)
     yield from folder.glob("todo-*")
     yield from (path for path in folder.glob("tiles/*.glb") if path.stem not in names)
+    yield from (path for path in [*folder.glob("*.*.*"), *folder.glob("tiles/*.*.*")] if path.suffix in HALF_WRITTEN)

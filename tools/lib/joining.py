@@ -1,9 +1,12 @@
 """Joins what the jobs printed to one OBJ text, in pieces that several processes write."""
 import shutil
-from collections import namedtuple
+import signal
+from collections import deque, namedtuple
 from contextlib import contextmanager
-from multiprocessing import get_context
+from functools import partial
 
+from .call import Refused
+from .files import write
 from .printed import OBJ, Printed, reading
 from .progress import counted
 from .towns import moved, objects
@@ -20,8 +23,24 @@ def workers(number):
     if number == 1:
         yield map
         return
-    with get_context("fork").Pool(number) as pool:
-        yield lambda function, given: pool.imap(function, given)
+    from concurrent.futures.process import BrokenProcessPool, ProcessPoolExecutor  # they take long to load, and most calls need none
+    from multiprocessing import get_context
+    ended = (signal.SIGINT, signal.SIG_DFL)  # Ctrl-C ends them without a word
+    pool = ProcessPoolExecutor(number, get_context("fork"), signal.signal, ended)
+    try:
+        yield partial(over, pool)
+    except BrokenProcessPool:
+        raise Refused("a process was killed, perhaps for want of memory: call it again with fewer --workers") from None
+    finally:
+        pool.shutdown(cancel_futures=True)
+
+
+def over(pool, function, given):
+    """The results in order. The pool's own `map` cancels what waits once one has failed, while a thread of the pool tells the
+    same futures that a process is gone: that thread then ends with a trace, and the other processes are never ended."""
+    waiting = deque([pool.submit(function, each) for each in given])
+    while waiting:
+        yield waiting.popleft().result()
 
 
 def indexed(given):
@@ -111,5 +130,5 @@ def join(folder, plan, number):
     with workers(number) as pool:
         for text, name in enumerate(texts):
             join_text(folder, plan, pool, number, text, folder / name)
-    (folder / "town.faults").write_text(faults(folder, plan), encoding="latin-1")
+    write(folder / "town.faults", faults(folder, plan).encode("latin-1"))
     return [folder / name for name in texts]

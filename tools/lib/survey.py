@@ -1,4 +1,6 @@
 """How far the jobs of a region are: which were run, which weren't, and whose output is refused."""
+from shlex import quote
+
 from .call import Refused
 from .printed import Printed
 from .progress import counted
@@ -19,12 +21,12 @@ class Survey:
 
     def reasons(self):
         """Why the jobs can't be taken together, one sentence a line."""
-        reasons = list(self.refused.values())[:SHOWN]
+        reasons, folder = list(self.refused.values())[:SHOWN], quote(str(self.folder))
         if len(self.refused) > SHOWN:
-            reasons.append(f"{len(self.refused) - SHOWN} more jobs are refused: tools/districts status {self.folder} names them")
+            reasons.append(f"{len(self.refused) - SHOWN} more jobs are refused: tools/districts status {folder} names them")
         if self.to_run:
-            reasons.append(f"{len(self.to_run)} jobs weren't run, {self.to_run[0].name} the first: make -j 4 -C {self.folder}, or "
-                           f"sh {self.folder}/slurm")
+            reasons.append(f"{len(self.to_run)} jobs weren't run, {self.to_run[0].name} the first: make -j 4 -C {folder}, or "
+                           f"sh {folder}/slurm")
         return reasons
 
     def demand(self):

@@ -55,6 +55,7 @@ def told():
 
 
 def main():
+    bpy.ops.wm.read_factory_settings()
     folder = Path(tempfile.mkdtemp())
     script, replies = folder / "town.cga", folder / "told"
     replies.write_text(told(), encoding="utf-8")

@@ -1,7 +1,9 @@
 """A browser without a window, driven through two pipes: pages are opened, asked, clicked and pictured."""
+import atexit
 import base64
 import json
 import os
+import select
 import shutil
 import subprocess
 import tempfile
@@ -11,6 +13,17 @@ from pathlib import Path
 CHROMIUM = shutil.which("chromium") or shutil.which("chromium-browser")
 WORDS = ["--headless=new", "--no-sandbox", "--remote-debugging-pipe", "--use-gl=angle", "--use-angle=swiftshader", "--enable-unsafe-swiftshader",
          "--no-first-run", "--disable-extensions", "--disable-background-networking", "--disable-component-update", "--hide-scrollbars"]
+
+
+SHARED = []  # the one browser of all tests in a process
+
+
+def shared():
+    """A browser with a window of 480 by 320, which is begun once and ends with the tests."""
+    if not SHARED:
+        SHARED.append(Browser(480, 320))
+        atexit.register(SHARED[0].close)
+    return SHARED[0]
 
 
 TICK = os.sysconf("SC_CLK_TCK")
@@ -27,7 +40,8 @@ def times_of(stat):
 
 
 class Browser:
-    def __init__(self, width=640, height=400):
+    def __init__(self, width=640, height=400, patience=300):
+        self.patience = patience  # seconds for an answer
         self.folder, self.size, self.number = tempfile.mkdtemp(), (width, height), 0
         ours, its = os.pipe(), os.pipe()
         words = [CHROMIUM, *WORDS, f"--user-data-dir={self.folder}", f"--window-size={width},{height}", "about:blank"]
@@ -35,7 +49,7 @@ class Browser:
                                         close_fds=False, preexec_fn=lambda: self.placed(ours[0], its[1]))
         os.close(ours[0])
         os.close(its[1])
-        self.words, self.answers = os.fdopen(ours[1], "wb"), os.fdopen(its[0], "rb")
+        self.words, self.answers = os.fdopen(ours[1], "wb"), os.fdopen(its[0], "rb", buffering=0)
         self.held, self.page = b"", None
         targets = self.ask("Target.getTargets")["targetInfos"]
         target = next(one["targetId"] for one in targets if one["type"] == "page")
@@ -80,7 +94,9 @@ class Browser:
 
     def answer(self):
         while b"\0" not in self.held:
-            piece = self.answers.read1(1 << 20)
+            if not select.select([self.answers], [], [], self.patience)[0]:
+                raise AssertionError(f"the browser said nothing for {self.patience} seconds")
+            piece = os.read(self.answers.fileno(), 1 << 20)
             if not piece:
                 raise AssertionError("the browser has ended")
             self.held += piece

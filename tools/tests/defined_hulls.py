@@ -3,6 +3,7 @@
 the least box that holds all of its shapes. It is slow, and needs no proof.
 """
 import sys
+from functools import lru_cache
 from pathlib import Path
 
 sys.path.insert(0, str(Path(__file__).resolve().parent.parent))
@@ -23,6 +24,12 @@ def hulls(state):
 
 def answer(script, words=()):
     """The lines that it prints."""
+    return list(lines_of(script, tuple(words)))
+
+
+@lru_cache(maxsize=None)
+def lines_of(script, words):
+    """The lines of a script, worked out once: several tests ask for one region as a whole."""
     replies = []
     for state, reply in effects_of(int(words[1]) if words else 6, script):
         replies.append(reply)

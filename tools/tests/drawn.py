@@ -1,6 +1,7 @@
 """OBJ texts as the program prints them, of solids in scopes that aren't turned, by docs/LANGUAGE.md, "Solids"."""
 from decimal import Decimal
 from fractions import Fraction
+from functools import lru_cache
 
 # the corners of solids in a scope of size (1, 1, 1), and their faces
 BASE = [(0, 0, 0), (1, 0, 0), (1, 0, 1), (0, 0, 1)]
@@ -13,6 +14,7 @@ SOLIDS = {
 }
 
 
+@lru_cache(maxsize=None)
 def decimal(number, places):
     """A fraction as the program prints it: halves away from zero."""
     steps = int(abs(number) * 10 ** places + Fraction(1, 2))

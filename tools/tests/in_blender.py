@@ -13,6 +13,7 @@ import solid_table
 
 TESTS = Path(__file__).resolve().parent
 TOOLS = TESTS.parent
+TOLD = ["the places are taken", "the add-on follows"]
 UPRIGHT = [(1, 0, 0), (0, 1, 0), (0, 0, 1)]
 TOWN = solid_table.text([("a", "window", "cube", (0, 0, 0), [(0, 0, -1), (0, 1, 0), (1, 0, 0)], (10, 6, 8)),
                          ("a", "wall", "quad", (0, 0, 0), UPRIGHT, (1, 1, 0))])
@@ -32,21 +33,23 @@ f 4 5 6
 """
 
 
-def blender(said, *words):
-    """Whether a run of Blender said so and went well; else what it said is shown."""
+def blender(*words):
+    """Whether a run of Blender told all that the steps tell; else what it said is shown."""
     words = [shutil.which("blender"), "--background", "--factory-startup", "--python-exit-code", "1", *words]
     done = subprocess.run(words, stdout=subprocess.PIPE, stderr=subprocess.STDOUT, text=True)
-    is_well = done.returncode == 0 and said in done.stdout
-    print(said if is_well else done.stdout)
+    is_well = done.returncode == 0 and all(told in done.stdout for told in TOLD)
+    print("; ".join(TOLD) if is_well else done.stdout)
     return is_well
 
 
-def places(folder):
+def steps(folder):
+    """The places first, and then, in a scene of its own, what the add-on does: one start is enough for both."""
     for name, text in (("town.obj", TOWN), ("window.obj", MESH), ("window.mtl", "newmtl pane\nnewmtl frame\n")):
         (folder / name).write_text(text, encoding="utf-8")
     for tool, target in (("merge", "town.merged.obj"), ("places", "town.csv")):
         subprocess.run([TOOLS / tool, folder / "town.obj", folder / target], check=True, stdout=subprocess.DEVNULL)
-    return blender("the places are taken", "--python", TOOLS / "blender/place.py", "--python", TESTS / "blender_places.py", "--",
+    scripts = [TOOLS / "blender/place.py", TESTS / "blender_places.py", TESTS / "blender_steps.py"]
+    return blender(*(word for script in scripts for word in ("--python", script)), "--",
                    folder / "town.merged.obj", folder / "town.csv", folder / "town.blend", f"window={folder / 'window.obj'}")
 
 
@@ -55,8 +58,7 @@ def main():
         print("SKIPPED: nothing was tried in Blender, since blender isn't on the PATH")
         return 0
     with tempfile.TemporaryDirectory() as folder:
-        found = [blender("the add-on follows", "--python", TESTS / "blender_steps.py"), places(Path(folder))]
-    return 0 if all(found) else 1
+        return 0 if steps(Path(folder)) else 1
 
 
 sys.exit(main())

@@ -3,10 +3,13 @@
 
 usage: tools/tests/planted_in_districts.py [WORD ..]      of the bugs whose names have one of these words
 """
+import argparse, compileall, decimal, fractions, hashlib, json, random, runpy, threading, unittest.mock  # noqa: F401, E401: each try has them
+import os
+import py_compile
 import shutil
-import subprocess
 import sys
 import tempfile
+import unittest
 from pathlib import Path
 
 TOP = Path(__file__).resolve().parent.parent.parent
@@ -20,6 +23,7 @@ BUGS = [
     ("boxes that share a face are apart", "apart.py", "one[0] > other[1] or other[0] > one[1]", "one[0] >= other[1] or other[0] >= one[1]",
      CHECKS + "boxes_that_share_a_face_touch"),
     ("the sweep forgets too early", "apart.py", "boxes[other][end] >= low", "boxes[other][end] > low", CUT + "where_a_rule_asks_lots_that_touch_stand_in_one_job"),
+    ("a box across many strips is left out", "apart.py", "for at in wide:\n", "for at in []:\n", CUT + "which_boxes_touch_is_what_each_two_tell"),
     ("names without the program", "jobs.py", 'begin = "\\0".join([self.name, *self.words, ""])', 'begin = ""', CUT + "another_program_or_other_decimals_are_other_jobs"),
     ("a late job writes to a new name", "engines.py", 'mv "$part" "jobs/$name.out"', 'for late in jobs/*.cga; do cp "$part" "${late%.cga}.out"; done',
      "test_districts_engines.Engines.test_a_region_that_is_cut_again_while_a_job_runs"),
@@ -38,23 +42,53 @@ BUGS = [
 ]
 
 
-def is_refused(file, old, new, test):
-    """Whether the test fails with the bug, and not without."""
-    with tempfile.TemporaryDirectory() as folder:
-        for part in ("tools", "docs"):
-            shutil.copytree(TOP / part, Path(folder) / part, ignore=shutil.ignore_patterns("__pycache__", "pictures"))
-        path = Path(folder) / "tools" / "lib" / file
-        text = path.read_text(encoding="utf-8")
-        if text.count(old) != 1:
-            sys.exit(f"`{old}` stands {text.count(old)} times in {file}")
-        path.write_text(text.replace(old, new), encoding="utf-8")
-        done = subprocess.run([sys.executable, "-B", "-m", "unittest", test], cwd=Path(folder) / "tools" / "tests", capture_output=True, text=True)
-        return done.returncode != 0 and "FAILED" in done.stderr and "ImportError" not in done.stderr
+def copied(folder):
+    """A copy of the tool and its tests; what was compiled of a file counts as long as the file is the same."""
+    for part in ("tools", "docs"):
+        shutil.copytree(TOP / part, folder / part, ignore=shutil.ignore_patterns("__pycache__", "pictures", "gallery"))
+    compileall.compile_dir(folder / "tools", quiet=2, invalidation_mode=py_compile.PycInvalidationMode.CHECKED_HASH)
+
+
+def fails(folder, test):
+    """Whether the test runs and fails, in a process of its own that has loaded nothing of the tool."""
+    child = os.fork()
+    if child == 0:
+        status = 2
+        try:
+            status = tried(folder, test)
+        finally:
+            os._exit(status)
+    return os.waitstatus_to_exitcode(os.waitpid(child, 0)[1]) == 1
+
+
+def tried(folder, test):
+    """1 where the test fails, and 0 where it passes or can't be loaded."""
+    os.chdir(folder / "tools" / "tests")
+    sys.path.insert(0, os.getcwd())
+    sys.dont_write_bytecode, result = True, unittest.TestResult()
+    unittest.defaultTestLoader.loadTestsFromName(test).run(result)
+    told = "".join(text for _, text in result.failures + result.errors)
+    return 1 if told and "ImportError" not in told else 0
+
+
+def is_refused(folder, file, old, new, test):
+    """Whether the test fails with the bug."""
+    path = folder / "tools" / "lib" / file
+    text = path.read_text(encoding="utf-8")
+    if text.count(old) != 1:
+        sys.exit(f"`{old}` stands {text.count(old)} times in {file}")
+    path.write_text(text.replace(old, new), encoding="utf-8")
+    try:
+        return fails(folder, test)
+    finally:
+        path.write_text(text, encoding="utf-8")
 
 
 def main(words):
     chosen = [bug for bug in BUGS if not words or any(word in bug[0] for word in words)]
-    missed = [name for name, *bug in chosen if not is_refused(*bug)]
+    with tempfile.TemporaryDirectory() as folder:
+        copied(Path(folder))
+        missed = [name for name, *bug in chosen if not is_refused(Path(folder), *bug)]
     for name in missed:
         print(f"not refused: {name}")
     print(f"{len(chosen) - len(missed)} of {len(chosen)} planted bugs are refused")

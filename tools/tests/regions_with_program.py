@@ -63,14 +63,15 @@ def anywhere(seed):
 class WithProgram(RegionTest):
     """The steps of the other tests, by a program that is called."""
 
-    def region(self, program, lines, lots, *words):
+    def region(self, program, lines, lots, *words, said=()):
+        """What was said to the program is said to `cut`, too."""
         self.setUp()
         try:
-            status, _, told = self.cut(lines, lots, *words, program=program)
+            status, _, told = self.cut(lines, lots, *words, *said, program=program)
             self.assertEqual(status, 0, told)
-            number, answer = self.rounds(30, program)
+            number, answer = self.rounds(30, program, *said)
             self.assertEqual(answer[0], 0, answer)
-            self.assert_whole(lines, program)
+            self.assert_whole(lines, program, *said)
             return number
         finally:
             self.doCleanups()
@@ -89,6 +90,7 @@ def main(words):
     for lines in [*asking, streets()]:
         for lots in (1, 7):
             test.region(hulls, lines, lots)
+    test.region(hulls, streets(), 7, said=("--decimals", "3"))
     for seed in range(RANDOM):
         test.region(hulls, anywhere(seed), 7, *(["--rings", "1"] if seed % 4 == 1 else []))
     test.assertEqual(test.region(hulls, wall(60), 400, "--rings", "2"), 1, "a wall passes at once with two rings")
@@ -96,7 +98,7 @@ def main(words):
     dominoes = [line for line in lines_of((TESTS / "districts" / "row_of_dominoes.cga").read_bytes()) if line not in ("print", "stats")]
     for rings in ("1", "3", "9"):
         test.assertGreater(test.region(hulls, dominoes, 4, "--rings", rings), 2, "dominoes don't settle")
-    print(f"regions are in jobs what they are in one run: {2 + len(asking) + 1 + RANDOM + 3} of them, {RANDOM} at random")
+    print(f"regions are in jobs what they are in one run: {2 + len(asking) + 2 + RANDOM + 3} of them, {RANDOM} at random")
 
 
 if __name__ == "__main__":

@@ -4,7 +4,7 @@ goes down; in the end the region is what one run prints. It says so and ends wel
 
 usage: tools/tests/slurm_on_loopback.py [--program PATH]      as root, after `apt-get install slurm-wlm munge`
 
-It takes a minute or two. PATH is that of crates/cga_hulls; without it a stand-in runs the jobs.
+It takes a minute or two where nothing else runs. PATH is that of crates/cga_hulls; without it a stand-in runs the jobs.
 """
 import argparse
 import os
@@ -15,6 +15,7 @@ import subprocess
 import sys
 import tempfile
 import time
+from contextlib import suppress
 from pathlib import Path
 
 TESTS = Path(__file__).resolve().parent
@@ -103,11 +104,14 @@ class Cluster:
         self.begin(node, "slurmd", "-D", "-N", node)
 
     def node_down(self, node):
-        """The node goes with all that runs there: what it began is in sessions of its own, and known by its spool."""
-        self.started.pop(node).kill()
+        """The node goes with all that runs there: what it began is in sessions of its own."""
+        daemon = self.started.pop(node)
+        daemon.kill()
+        daemon.wait()
         for process in Path("/proc").iterdir():
-            if process.name.isdigit() and is_step(process, self.folder / f"spool.{node}"):
-                os.kill(int(process.name), signal.SIGKILL)
+            if process.name.isdigit() and is_step(process, self.folder, node):
+                with suppress(ProcessLookupError):
+                    os.kill(int(process.name), signal.SIGKILL)
 
     def down(self):
         for node in [name for name in self.started if name in ("one", "two")]:
@@ -117,10 +121,12 @@ class Cluster:
             process.wait()
 
 
-def is_step(process, spool):
-    """Whether a process is one that this node began: its script, or the step that watches it, works in the node's spool."""
+def is_step(process, folder, node):
+    """Whether a process is one that this node began: its script works in the node's spool, and what watches it writes the node's log."""
+    spool, log = os.fsencode(folder / f"spool.{node}"), folder / f"slurmd.{node}.log"
     try:
-        return str(spool).encode() in (process / "cmdline").read_bytes() + (process / "environ").read_bytes()
+        return (spool in (process / "cmdline").read_bytes() + (process / "environ").read_bytes()
+                or any(Path(os.readlink(opened)) == log for opened in (process / "fd").iterdir()))
     except OSError:
         return False
 
@@ -129,7 +135,7 @@ def said(*words):
     return subprocess.run(words, stdout=subprocess.PIPE, stderr=subprocess.DEVNULL, text=True).stdout
 
 
-def wait(is_so, what, seconds=90):
+def wait(is_so, what, seconds=300):
     end = time.monotonic() + seconds
     while not is_so():
         if time.monotonic() > end:
@@ -173,7 +179,7 @@ class Region:
                 for part in (self.folder / "jobs").glob(f"{self.job_of(lot)}.*.part"):
                     found[:] = [task, node] if self.is_of(task, lot) else found
             return found
-        wait(runs, f"the job of {lot} to run", 30)
+        wait(runs, f"the job of {lot} to run")
         return found
 
     def is_of(self, task, lot):
@@ -202,7 +208,7 @@ def node_down(region, cluster):
     cluster.node_down(node)
     print(f"node {node} goes down")
     wait(lambda: "down" in said("sinfo", "-h", "-n", node, "-o", "%T"), f"Slurm to see that {node} is down")
-    wait(ended, "the queue to be empty", 180)
+    wait(ended, "the queue to be empty", 900)
     cluster.node_up(node)
 
 
@@ -229,7 +235,7 @@ def main():
             node_down(region, cluster)
             if region.todo() or not (region.folder / "town.obj").exists():
                 region.submit("--mem=600M", THEN="join")
-                wait(ended, "the queue to be empty", 180)
+                wait(ended, "the queue to be empty", 900)
             expect(region.todo() == [], "all jobs were run")
             town = (region.folder / "town.obj").read_text().split("\n")[:-1]
             expect(town == whole(region.program, region.lines)[0], "what is joined is what one run prints")

@@ -1,5 +1,4 @@
 """The definition in Python and the judge. What is expected comes from the specification's rows, or was worked out by hand."""
-import subprocess
 import sys
 import tempfile
 import unittest
@@ -215,10 +214,6 @@ class Judge(unittest.TestCase):
         self.addCleanup(folder.cleanup)
         self.folder = Path(folder.name)
 
-    def call(self, tool, *words):
-        done = subprocess.run([str(TOOLS / tool), *words], stdout=subprocess.PIPE, stderr=subprocess.PIPE, timeout=60)
-        return done.returncode, done.stdout.decode(), done.stderr.decode()
-
     def judged(self, script, trace, *words):
         """The status, and what is written to both outputs, in this process."""
         for name, text in (("a script", script), ("its <trace>", trace)):
@@ -270,10 +265,10 @@ class Judge(unittest.TestCase):
 
     def test_words(self):
         for words in (["judge", "a"], ["judge", "--seconds", "0", "a", "b"], ["define", "--town", "x"]):
-            status, _, fault = self.call(*words)
+            status, _, fault = called(*words)
             self.assertEqual((status, "Traceback" in fault), (2, False))
         for words in (["judge", "/nowhere", "/nowhere"], ["define", "/"]):
-            status, _, fault = self.call(*words)
+            status, _, fault = called(*words)
             self.assertEqual((status, fault.count("\n")), (1, 1))
 
 

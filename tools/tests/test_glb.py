@@ -1,7 +1,6 @@
 """glTF files of towns, read again by their specification and compared with the OBJ."""
 import json
 import math
-import subprocess
 import sys
 import tempfile
 import time
@@ -15,6 +14,7 @@ sys.path[:0] = [str(TESTS), str(TESTS.parent)]
 
 import solid_table  # noqa: E402
 from glb_reader import Reader  # noqa: E402
+from in_process import called  # noqa: E402
 from lib.glb import Glb  # noqa: E402
 from lib.obj import read_town  # noqa: E402
 from lib.png import png  # noqa: E402
@@ -44,8 +44,7 @@ class Files(unittest.TestCase):
         self.source, self.target = self.folder / "town.obj", self.folder / "town.glb"
 
     def call(self, *words):
-        done = subprocess.run([TOP / "examples/pipeline/glb", *words, self.source, self.target], capture_output=True, text=True)
-        return done.returncode, done.stdout, done.stderr
+        return called(TOP / "examples/pipeline/glb", *words, self.source, self.target)
 
     def read(self, *words):
         status, self.said, fault = self.call(*words)

@@ -2,17 +2,16 @@
 import json
 import math
 import re
-import subprocess
 import sys
 import tempfile
 import unittest
 from pathlib import Path
 
 TESTS = Path(__file__).resolve().parent
-TOP = TESTS.parent.parent
 sys.path[:0] = [str(TESTS), str(TESTS.parent)]
 
 import solid_table  # noqa: E402
+from in_process import called  # noqa: E402
 from lib.obj import read_town  # noqa: E402
 
 UPRIGHT = [(1, 0, 0), (0, 1, 0), (0, 0, 1)]
@@ -26,8 +25,7 @@ class Merge(unittest.TestCase):
         self.source, self.merged = self.folder / "town.obj", self.folder / "merged.obj"
 
     def call(self, *words):
-        done = subprocess.run([TOP / "tools/merge", *words], capture_output=True, text=True)
-        return done.returncode, done.stdout, done.stderr
+        return called("merge", *words)
 
     def test_the_same_faces(self):
         old = TESTS / "old.obj"

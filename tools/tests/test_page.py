@@ -10,7 +10,7 @@ TESTS = Path(__file__).resolve().parent
 TOP = TESTS.parent.parent
 sys.path[:0] = [str(TESTS.parent), str(TESTS)]
 
-from browser import CHROMIUM, Browser  # noqa: E402
+from browser import CHROMIUM, shared  # noqa: E402
 from lib.drawn import Meshes  # noqa: E402
 from lib.obj import Town  # noqa: E402
 from lib.page import data_of, page  # noqa: E402
@@ -59,8 +59,7 @@ class InBrowser(unittest.TestCase):
 
     @classmethod
     def setUpClass(cls):
-        cls.browser = Browser(480, 320)
-        cls.addClassCleanup(cls.browser.close)
+        cls.browser = shared()
         folder = tempfile.TemporaryDirectory()
         cls.addClassCleanup(folder.cleanup)
         cls.file = Path(folder.name) / "page.html"
@@ -74,15 +73,19 @@ class InBrowser(unittest.TestCase):
     def run_(self, script):
         return self.browser.run(script)
 
-    def pixel(self, x, y):
-        """Red, green and blue of a place of the window, drawn anew."""
-        return self.run_(f"(() => {{ draw(); const seen = new Uint8Array(4); gl.readPixels({x}, 319 - {y}, 1, 1, gl.RGBA, gl.UNSIGNED_BYTE, seen);"
-                         " return [...seen].slice(0, 3); })()")
+    def pixels(self, places):
+        """Red, green and blue of places of the window, drawn anew."""
+        return self.run_(f"(() => {{ draw(); const seen = new Uint8Array(4); return {json.dumps(places)}.map(([x, y]) => {{"
+                         " gl.readPixels(x, 319 - y, 1, 1, gl.RGBA, gl.UNSIGNED_BYTE, seen); return [...seen].slice(0, 3); }); })()")
 
-    def pixels(self):
-        """All pixels, drawn anew."""
-        return self.run_("(() => { draw(); const seen = new Uint8Array(4 * 480 * 320); gl.readPixels(0, 0, 480, 320, gl.RGBA, gl.UNSIGNED_BYTE, seen);"
-                         " return [...seen]; })()")
+    def pixel(self, x, y):
+        return self.pixels([[x, y]])[0]
+
+    def all_pixels(self):
+        """All bytes of the picture, drawn anew."""
+        return bytes.fromhex(self.run_("(() => { draw(); const seen = new Uint8Array(4 * 480 * 320);"
+                                       " gl.readPixels(0, 0, 480, 320, gl.RGBA, gl.UNSIGNED_BYTE, seen);"
+                                       " return Array.from(seen, one => one.toString(16).padStart(2, '0')).join(''); })()"))
 
     def place_of(self, *point):
         """Where a point, beside the town's offset, comes in the window."""
@@ -102,7 +105,7 @@ class InBrowser(unittest.TestCase):
         seen = []
         for x, z in ((0, 0), (2683000, 1248000)):
             self.show(Town(cubes((x, 0, z, 10, 6, 8), (x + 3, 2, z + 8, 2, 2, 0.06))))
-            seen.append(self.pixels())
+            seen.append(self.all_pixels())
         different = sum(abs(a - b) > 8 for a, b in zip(*seen))
         self.assertLess(different, len(seen[0]) / 200)
         self.assertIn("2,683,000", self.run_("box_of('sums').textContent"))
@@ -152,7 +155,7 @@ class InBrowser(unittest.TestCase):
         self.show(town)
         for turn in (0.2, 0.5, 0.9):
             self.run_(f"Object.assign(view, {{turn: {turn}, tilt: .3}}); shows.edges = false; look_at(town)")
-            seen = {tuple(self.pixel(*self.place_of(x, y, 0))) for x in range(1, 10) for y in range(1, 6)}
+            seen = set(map(tuple, self.pixels([self.place_of(x, y, 0) for x in range(1, 10) for y in range(1, 6)])))
             self.assertEqual(len(seen), 1)
 
     def test_the_legend_hides(self):
@@ -163,6 +166,36 @@ class InBrowser(unittest.TestCase):
         self.assertNotEqual(self.pixel(*place), before)
         self.run_("document.querySelector('#legend div').click()")
         self.assertEqual(self.pixel(*place), before)
+
+    def test_keys_take_edges_and_the_ground_away(self):
+        self.show(Town(cubes((0, 0, 0, 10, 6, 8))))
+        seen = [self.all_pixels()]
+        for key in "eegg":
+            self.browser.key(key)
+            seen.append(self.all_pixels())
+            self.assertEqual(len(re.findall(r"grid [\d.]+", self.run_("box_of('sums').textContent"))), 0 if len(seen) == 4 else 1)
+        self.assertTrue(seen[0] == seen[2] == seen[4] and len({seen[0], seen[1], seen[3]}) == 3)
+
+    def test_a_cell_of_the_grid_is_as_long_as_is_told(self):
+        self.show(Town(cubes((0, 0, 0, 10, 6, 8))))
+        for far in (1, 7):
+            self.browser.key("5")
+            self.run_(f"see(() => {{ view.far *= {far}; }})")
+            cell = float(re.search(r"grid ([\d.]+)", self.run_("box_of('sums').textContent")).group(1))
+            (left, _), (right, _) = self.place_of(0, 0, 0), self.place_of(cell, 0, 0)
+            self.assertTrue(20 < right - left < 130, (cell, left, right))
+
+    def test_the_picture_is_saved(self):
+        self.show(Town(cubes((0, 0, 0, 10, 6, 8))), "region/town")
+        self.run_("(() => { window.saved = []; const was = URL.createObjectURL; HTMLAnchorElement.prototype.click = function () { saved.push(this.download); };"
+                  " URL.createObjectURL = blob => { saved.push(blob); return was(blob); }; })()")
+        self.browser.key("s")
+        self.browser.wait("saved.length === 2")
+        name, size, colours = self.run_("createImageBitmap(saved[0]).then(image => { const plain = document.createElement('canvas').getContext('2d');"
+                                        " plain.drawImage(image, 0, 0); const {data} = plain.getImageData(0, 0, 300, 150);"
+                                        " return [saved[1], [image.width, image.height], new Set(new Uint32Array(data.buffer)).size]; })")
+        self.assertEqual((name, size), ("town.png", [480, 320]))
+        self.assertGreater(colours, 9)
 
     def test_it_is_not_black_before_a_town_is_there(self):
         self.file.write_text(page(), encoding="utf-8")

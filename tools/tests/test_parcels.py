@@ -5,9 +5,11 @@ import tempfile
 import unittest
 from decimal import Decimal
 from pathlib import Path
+from unittest import mock
 
 from in_process import TESTS, TOP, called
 
+from lib import lots_found
 from lib.geojson import Feature
 from lib.lot_names import lot_names
 from lib.mercator import metres
@@ -196,9 +198,11 @@ class Maps(Called):
         self.refused("511 kinds of parcels", "at most 512: round the numbers")
 
     def test_more_lots_than_a_run_takes(self):
-        self.write(*[box(10 * (k % 100), 2000 + 10 * (k // 100), 10, 8, symbol="yard") for k in range(4097)])
-        self.refused("feature 4097: is lot 4,097 at 0 degrees, and a run takes 4,096", "--region")
-        self.assertEqual(len(self.lots("--region")), 4097)
+        self.assertEqual(lots_found.MOST_LOTS, 4096)
+        self.write(*[box(10 * (k % 100), 2000 + 10 * (k // 100), 10, 8, symbol="yard") for k in range(1235)])
+        with mock.patch.object(lots_found, "MOST_LOTS", 1234):
+            self.refused("feature 1235: is lot 1,235 at 0 degrees, and a run takes 1,234", "--region")
+            self.assertEqual(len(self.lots("--region")), 1235)
 
     def test_what_is_no_map(self):
         for text, told in (

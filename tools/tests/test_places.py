@@ -3,7 +3,6 @@ import csv
 import json
 import math
 import random
-import subprocess
 import sys
 import tempfile
 import unittest
@@ -16,6 +15,7 @@ TOP = TESTS.parent.parent
 sys.path[:0] = [str(TESTS), str(TESTS.parent)]
 
 import solid_table  # noqa: E402
+from in_process import called  # noqa: E402
 from lib.call import Refused  # noqa: E402
 from lib.ids import ids, steps_in  # noqa: E402
 from lib.obj import Town, read_town  # noqa: E402
@@ -177,8 +177,7 @@ class Tool(unittest.TestCase):
         self.source = self.folder / "town.obj"
 
     def call(self, target, *words):
-        done = subprocess.run([TOP / "tools/places", *words, self.source, self.folder / target], capture_output=True, text=True)
-        return done.returncode, done.stdout, done.stderr
+        return called("places", *words, self.source, self.folder / target)
 
     def test_a_table(self):
         self.source.write_text(solid_table.text(DRAWN) + TRACE, encoding="utf-8")

@@ -3,6 +3,7 @@ import re
 import tempfile
 import unittest
 import xml.etree.ElementTree as tree
+from fractions import Fraction
 from pathlib import Path
 
 from drawn import Drawn
@@ -198,7 +199,7 @@ class Drawings(unittest.TestCase):
         self.assertIn("rotate(-30)", tree.tostring(self.svg, encoding="unicode"))
 
     def test_what_can_not_be_drawn(self):
-        self.town.write_text("\n".join(Drawn().lot("a").solid("x", "cube", (0, 0, 0), (1, 1, 1)).lines))
+        self.town.write_text("\n".join(Drawn().lot("a").solid("x", "cube", (0, 0, 0), (Fraction(1, 10),) * 3).lines))
         for words, told in ((["--lot", "b"], "no lot `b`"), (["--plan", "-1"], "nothing lies on the plane or behind it"), (["--lot", "a", "--scale", "1"], None)):
             status, out, said = called("plan", self.town, *words)
             self.assertEqual((status, said.count("\n")), (1, 1) if told else (0, 0))

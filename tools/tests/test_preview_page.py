@@ -10,7 +10,7 @@ from pathlib import Path
 TESTS = Path(__file__).resolve().parent
 sys.path.insert(0, str(TESTS))
 
-from browser import CHROMIUM, Browser  # noqa: E402
+from browser import CHROMIUM, shared  # noqa: E402
 
 SCRIPT = 'rules\nattr h = 3\n1: house -> S(1r, h, 1r) I("cube")\nend\nlot a 1 0 0 10 8 house\n'
 
@@ -24,13 +24,13 @@ class PreviewPage(unittest.TestCase):
         self.script.write_text(SCRIPT, encoding="utf-8")
         words = [TESTS.parent / "preview", "--program", TESTS / "live_stand_in", "--port", "0", self.script]
         self.preview = subprocess.Popen(words, stdout=subprocess.PIPE, text=True)
-        self.browser = Browser(480, 320)
+        self.browser = shared()
         self.addCleanup(self.end)
         self.browser.open(re.match(r"(http://127\.0\.0\.1:\d+/) ", self.preview.stdout.readline()).group(1))
         self.browser.wait("head.save === 1 && is_asked === false")
 
     def end(self):
-        self.browser.close()
+        self.browser.open("about:blank")  # which asks the preview for nothing more
         self.preview.terminate()
         self.preview.wait()
         self.preview.stdout.close()

@@ -10,7 +10,7 @@ from pathlib import Path
 TESTS = Path(__file__).resolve().parent
 sys.path[:0] = [str(TESTS), str(TESTS.parent)]
 
-from browser import CHROMIUM, Browser  # noqa: E402
+from browser import CHROMIUM, shared  # noqa: E402
 from in_process import called  # noqa: E402
 from regions import RULES, RegionTest  # noqa: E402
 
@@ -53,8 +53,7 @@ class Data(Pages):
 class InBrowser(Pages):
     @classmethod
     def setUpClass(cls):
-        cls.browser = Browser(480, 320)
-        cls.addClassCleanup(cls.browser.close)
+        cls.browser = shared()
 
     def serve(self, folder):
         """The address of a folder, and the files that it was asked for."""

@@ -2,18 +2,19 @@
 import os
 import re
 import struct
-import subprocess
 import sys
 import tempfile
 import threading
 import unittest
 import zlib
 from pathlib import Path
+from unittest import mock
 
 TESTS = Path(__file__).resolve().parent
 TOP = TESTS.parent.parent
-sys.path.insert(0, str(TESTS.parent))
+sys.path[:0] = [str(TESTS), str(TESTS.parent)]
 
+from in_process import called  # noqa: E402
 from lib.obj import Town, read_town  # noqa: E402
 from lib.replies import replies  # noqa: E402
 from lib.script import commands, is_open, lines_of, rule_of, text_of, tokens, without  # noqa: E402
@@ -24,9 +25,9 @@ STAND_IN = str(TESTS / "stand_in")
 
 
 def call(tool, *words, stored=None):
-    env = {**os.environ, "STORED": str(stored)}
-    done = subprocess.run([TOP / "tools" / tool, *words], capture_output=True, text=True, env=env, cwd=TESTS)
-    return done.returncode, done.stdout, done.stderr
+    """A call in the folder of the tests, where the program of that name replies as is stored."""
+    with mock.patch.dict(os.environ, {"STORED": str(stored)}):
+        return called(tool, *words, folder=TESTS)
 
 
 class Scripts(unittest.TestCase):
@@ -229,6 +230,7 @@ class Manners(unittest.TestCase):
                 text = tool.read_text(encoding="utf-8")
                 self.assertLessEqual(text.count("\n"), 150)
                 self.assertRegex(text, f'"""[^\n]+\n\nusage: tools/{tool.name} ')
+                self.assertTrue(os.access(tool, os.X_OK) and text.startswith("#!/usr/bin/env python3\n"))
                 self.assertEqual(call(tool.name, "--help")[0], 0)
                 self.assertEqual(call(tool.name, "--what")[0], 2)
 

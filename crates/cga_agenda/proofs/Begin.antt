@@ -113,6 +113,7 @@ module _ {N A B F P : Type 0} (edit : Edit N A B F P) where
       | inr came ↦ let x : true ≡ false = sym (ap is_waiting came.1) ∙ done in cc
     ]
 
+    -- where the work of an edit has begun, what holds between turns holds, with no turn taken and nothing expanded
     pub begins : IsWorking edit start nodes queued [] []
     begins = record {
       tree = begun.tree;

@@ -139,6 +139,7 @@ module _ {N A B F P : Type 0} (edit : Edit N A B F P) (laws : IsEdit edit) (star
       size : length (shapes_of reached) ≡ length reached
       size = length-map (λ m. m.shape) reached
 
+      -- where the new derivation has ended, the shapes known of it between turns are no more than its members
       pub known_derived : (known : List N) → IsKnown edit now worked known → length known ≤ length reached
       known_derived known knows =
           let bound = length-once known (shapes_of reached) knows.once (λ m i.
@@ -151,6 +152,7 @@ module _ {N A B F P : Type 0} (edit : Edit N A B F P) (laws : IsEdit edit) (star
           ])) in
           omega (arith, bound, size)
 
+      -- where the new derivation has ended, the shapes that had their turn are no more than its members
       pub turned_derived : length turned ≤ length reached
       turned_derived =
           let bound = length-once turned (shapes_of reached) good.turns_once (λ t i.
@@ -161,6 +163,7 @@ module _ {N A B F P : Type 0} (edit : Edit N A B F P) (laws : IsEdit edit) (star
       pub worked_turned : length worked ≤ length turned
       worked_turned = length-once worked turned good.once (λ x i. (good.expanded x i).0)
 
+      -- where nothing waits or is queued, and roots and nodes stand once, the nodes have the new members, as many
       pub all_derived : NoneQueued edit now queued → Once edit.new.roots → Once (shapes_of (members_of now))
           → SameMembers (members_of now) reached × (length now ≡ length reached)
       all_derived empty roots once =

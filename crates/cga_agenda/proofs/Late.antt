@@ -15,12 +15,14 @@ module _ {N A B F P : Type 0} (edit : Edit N A B F P) (laws : IsEdit edit) where
   order : IsTotalOrder (stamps_cmp edit.mode)
   order = stamps_total edit.mode
 
+  -- a child is not made before its parent's stamp
   pub child : (s m : N) (i : ℕ) → IsChild (edit.chain s) i (edit.chain m) → IsEarlier w (birth_of w m) (stamp_of w s)
       → ⊥
   child s m i below e =
       let birth = birth-child edit.mode (edit.chain s) i (edit.chain m) (laws.new.whole s) below in
       stamps.not_self (stamps_cmp edit.mode) order (stamp_of w s) (subst (λ b. IsEarlier w b (stamp_of w s)) birth e)
 
+  -- where a parent is not made before the stamp of a shape, its child is not either
   pub further : (s p m : N) (i : ℕ) → IsChild (edit.chain p) i (edit.chain m)
       → (IsEarlier w (birth_of w p) (stamp_of w s) → ⊥) → IsEarlier w (birth_of w m) (stamp_of w s) → ⊥
   further s p m i below late e =

@@ -8,10 +8,12 @@ use Rattle.cga_order.proofs.Door.{Once-index}
 use Rattle.cga_agenda.specs.Known.{shapes_of}
 
 module _ {N F P : Type 0} where
+  -- the shape of a member is among the members' shapes
   pub Has-Among : (ms : List (Placed N F P)) (n : N) (k : Kind F P) → Has ms n k → Among n (shapes_of ms)
   Has-Among [] n k h = absurd h
   Has-Among (m ∷ ms) n k h = elim h [ inl e ↦ inl e.0 | inr r ↦ inr (Has-Among ms n k r) ]
 
+  -- a shape that is among the members' shapes is a member, of some kind
   pub Among-Has : (ms : List (Placed N F P)) (n : N) → Among n (shapes_of ms) → (k : Kind F P) × Has ms n k
   Among-Has [] n h = absurd h
   Among-Has (m ∷ ms) n h = elim h [ inl e ↦ (m.kind, inl (e, refl)) | inr r ↦ let w = Among-Has ms n r in (w.0, inr w.1) ]

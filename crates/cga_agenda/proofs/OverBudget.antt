@@ -151,6 +151,7 @@ module _ {N A B F P : Type 0} (edit : Edit N A B F P) (laws : IsEdit edit) (star
         nodes : length (members_of now) ≡ length now
         nodes = length-map (λ m. record { shape = m.shape; kind = m.kind }) now
 
+    -- where nothing is queued and roots and nodes stand once, a configuration is over a budget just where the nodes are
     pub late : (budget : ℕ)
         → (IsOverBudget w budget → budget < length now) × (budget < length now → IsOverBudget w budget)
     late budget = (

@@ -24,6 +24,7 @@ module _ {N A F P : Type 0} (world : World N A F P) (laws : IsWorld world) where
   abbrev Members : Type 0
   Members = List (Placed N F P)
 
+  -- a shape that got answers in a run was taken in it
   pub taken-in : (taken : List N) (C : Members) (run : Reached world taken C) (n : N) (a : A)
       → AnsweredIn world taken C run n a → Among n taken
   taken-in [] C run n a h = absurd h
@@ -61,6 +62,7 @@ module _ {N A F P : Type 0} (world : World N A F P) (laws : IsWorld world) where
         ]
       ]
 
+  -- where nothing waits, answers got in a run are those at the shape's stamp, and each member but instances got them
   pub own : (taken : List N) (C : Members) (run : Reached world taken C) → NothingWaits world None C
       → ((n : N) (a : A) → AnsweredIn world taken C run n a → a ≡ answers_at world C n)
       × ((n : N) (k : Kind F P) → Has C n k → is_instance k ≡ false

@@ -61,5 +61,6 @@ module _ {N A B F P : Type 0} (edit : Edit N A B F P) (laws : IsEdit edit) (old 
         (m.0, m.1 ∙ sym p.2.lot, m.2 ∙ sym (prefix_up p.0 n p.1 i p.2 within), m.3, m.4)
   ]
 
+  -- where a shape is kept, it and a shape at each prefix of its path in its lot are non-instances of both lists
   pub to_prefixes : (n : N) → Kept edit old new n → KeptByPrefix edit old new n
   to_prefixes n h = let b = both h.0 n h.1 in (b.0, b.1, named h.0 n h.1)

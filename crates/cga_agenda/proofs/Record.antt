@@ -22,6 +22,7 @@ told_true : {N : Type 0} (s : N) (worked : List N) (expanded : Bool) → expande
     → next_worked s expanded worked ≡ s ∷ worked
 told_true s worked expanded e = ap (λ b. next_worked s b worked) e
 
+-- joined lists have as many elements that pass a test as both have together
 pub count_append : {X : Type 0} (test : X → Bool) (xs ys : List X)
     → count_by test (xs ++ ys) ≡ count_by test xs + count_by test ys
 count_append test xs ys = sum_by-append (λ x. cond (test x) 1 0) xs ys

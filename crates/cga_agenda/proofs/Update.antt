@@ -58,6 +58,7 @@ module _ {N A F P : Type 0} (world : World N A F P) (laws : IsWorld world) where
 
 -- the instances of a list are its members that are instances
 module _ {N F P : Type 0} where
+  -- what is among the instances of a list is a member of it, of that shape and solid
   pub drawn-Has : (ms : List (Placed N F P)) (d : Drawn N P) → Among d (drawn ms) → Has ms d.shape (Instance d.solid)
   drawn-Has [] d h = absurd h
   drawn-Has (m ∷ ms) d h = by m.kind refl (drawn-Has ms d) h
@@ -72,6 +73,7 @@ module _ {N F P : Type 0} where
         | inr r ↦ inr (rest r)
       ]
 
+  -- a member that is an instance is among the instances of the list, with its solid
   pub Has-drawn : (ms : List (Placed N F P)) (d : Drawn N P) → Has ms d.shape (Instance d.solid) → Among d (drawn ms)
   Has-drawn [] d h = absurd h
   Has-drawn (m ∷ ms) d h = elim h [
@@ -87,6 +89,7 @@ module _ {N F P : Type 0} where
       more (Faulted f) i = i
       more (Instance p) i = inr i
 
+  -- where each shape of the members stands once, each of their instances does
   pub once-drawn : (ms : List (Placed N F P)) → Once (shapes_of ms) → Once (drawn ms)
   once-drawn [] o = tt
   once-drawn (m ∷ ms) o = by m.kind (once-drawn ms o.1)
@@ -158,6 +161,7 @@ module _ {N A B F P : Type 0} (edit : Edit N A B F P) (laws : IsEdit edit) where
     record_done : IsExactRecord edit start now gone come
     record_done = record_exact edit laws start started now queued turned worked good gone come kept empty
 
+    -- where work and both runs are over, each root and node once, nodes have the new members, and the work is an update
     pub update : SameMembers (members_of now) new × IsUpdate edit old new worked gone come
     update = (
       news,

@@ -15,6 +15,7 @@ use Rattle.cga_agenda.specs.Edit.{Side, Edit, IsEdit, world_of, old_world, new_w
 use Rattle.cga_agenda.specs.Work.{first_kind, renewed_child, HasRenewed, IsStart}
 use Rattle.cga_agenda.proofs.Lists.{Has-map, map-Has}
 
+-- a list that ends with an element is not empty
 pub path_not_empty : {X : Type 0} (xs : List X) (x : X) → xs ++ x ∷ [] ≡ [] → ⊥
 path_not_empty [] x e = cc
 path_not_empty (y ∷ xs) x e = cc

@@ -30,6 +30,7 @@ passes_step : {A : Type 0} (p : A → Bool) (x f : A) (b : Bool) (rest : Option 
 passes_step p x f true rest is e ih = let k : x ≡ f = cc in subst (λ z. p z ≡ true) k (sym is)
 passes_step p x f false rest is e ih = ih e
 
+-- what a test finds in a list passes the test
 pub found_passes : {A : Type 0} (p : A → Bool) (xs : List A) (f : A) → find p xs ≡ Some f → p f ≡ true
 found_passes p [] f e = cc
 found_passes p (x ∷ xs) f e = passes_step p x f (p x) (find p xs) refl e (found_passes p xs f)

@@ -6,14 +6,17 @@ use Rattle.cga_rule.specs.declared.check_fault.CheckFault.{CheckFault}
 use Rattle.cga_rule.specs.declared.grammar.Grammar.{Grammar}
 use Rattle.cga_check.specs.Faults.{Faults, first, fault_if, each_after, faults, check_fault, rule_faults, attribute_faults, IsValid}
 
+-- where two lists joined are empty, the first is
 pub none_left : {A : Type 0} (xs ys : List A) → xs ++ ys ≡ [] → xs ≡ []
 none_left [] ys e = refl
 none_left (x ∷ xs) ys e = cc
 
+-- where two lists joined are empty, the second is
 pub none_right : {A : Type 0} (xs ys : List A) → xs ++ ys ≡ [] → ys ≡ []
 none_right [] ys e = e
 none_right (x ∷ xs) ys e = cc
 
+-- where a test gives no fault, it is false
 pub if_none : (bad : Bool) (fault : CheckFault) → fault_if bad fault ≡ [] → bad ≡ false
 if_none true fault e = cc
 if_none false fault e = refl

@@ -66,6 +66,7 @@ pub primary_Number : (n : Rat) → primary_uses (p.Number n) ≡ []
 unfolding primary_uses
 primary_Number n = ap primary_uses (sym (p.rolls-Number n)) ∙ fold-roll-Primary Uses Uses Uses Uses Uses Uses primary_step added_step expr_step factor_step scaled_step term_step (primary.Number n)
 
+-- a name in an expression uses that name alone
 pub primary_Named : (name : List ℕ) → primary_uses (p.Named name) ≡ only (Named name)
 unfolding primary_uses
 primary_Named name = ap primary_uses (sym (p.rolls-Named name)) ∙ fold-roll-Primary Uses Uses Uses Uses Uses Uses primary_step added_step expr_step factor_step scaled_step term_step (primary.Named name)
@@ -129,6 +130,7 @@ pub item_Move : (x y z : Expr) → item_uses (i.Move x y z) ≡ expr_uses x ++ (
 unfolding item_uses
 item_Move x y z = ap item_uses (sym (i.rolls-Move x y z)) ∙ fold-roll-Item Uses Uses item_step body_step (item.Move x y z)
 
+-- a change of size uses what its three sizes use, in their order
 pub item_Resize : (x y z : Size) → item_uses (i.Resize x y z) ≡ size_uses x ++ (size_uses y ++ size_uses z)
 unfolding item_uses
 item_Resize x y z = ap item_uses (sym (i.rolls-Resize x y z)) ∙ fold-roll-Item Uses Uses item_step body_step (item.Resize x y z)
@@ -167,6 +169,7 @@ pub item_Comp : (selector : Selector) (body : Body) → item_uses (i.Comp select
 unfolding item_uses body_uses
 item_Comp selector body = ap item_uses (sym (i.rolls-Comp selector body)) ∙ fold-roll-Item Uses Uses item_step body_step (item.Comp selector body)
 
+-- a child uses its symbol with the number of its arguments, and then what the arguments use
 pub item_Child : (symbol : List ℕ) (args : List Expr)
     → item_uses (i.Child symbol args) ≡ only (Child symbol (length args)) ++ flat_map expr_uses args
 unfolding item_uses

@@ -19,6 +19,7 @@ use Rattle.cga_check.proofs.Clean.{none_left, none_right, if_none, valid_rules, 
 use Rattle.cga_check.proofs.Agreement.{agree_all}
 use Rattle.cga_fraction.proofs.Door.{eq_from_nat_eq as numbers}
 
+-- in a valid grammar each rule of a symbol has the priority and the number of parameters of the symbol's first
 pub symbols_agree : SymbolsAgree
 unfolding first_entry
 symbols_agree g valid symbol f found = agree_all g symbol f [] g.rules refl found (valid_rules g valid)
@@ -108,6 +109,7 @@ unfolding rule_faults head_faults
 rule_adds_up g e (b, clean) =
     adds_up e.rule.alternatives (if_none _ _ (none_right (each_after (param_faults g e.rule.id) [] e.rule.params) _ (none_right (symbol_faults b e) _ (none_left (head_faults g b e) _ clean))))
 
+-- in a valid grammar each rule's probabilities are whole millionths above 0, and together a million
 pub probabilities_add_up : ProbabilitiesAddUp
 probabilities_add_up g valid =
     All-weaker (λ (e : Entry). (b : List Entry) × (rule_faults g b e ≡ [])) (λ (e : Entry). AddUp e.rule.alternatives) (rule_adds_up g) g.rules
@@ -124,6 +126,7 @@ placed_all_all P ranked (r ∷ rs) a b =
     let at : ℕ = place_of r.id ranked in
     placed_all_all P (placed r ranked) rs (All-append P _ (r ∷ _) (All-take P at ranked a) (All-cons P r _ (All-head P r rs b) (All-drop P at ranked a))) (All-tail P r rs b)
 
+-- what holds of each of some rules holds of each of them by rising id
 pub by_id_all : (P : Rule → Type 0) (rules : List Rule) → All P rules → All P (by_id rules)
 unfolding by_id
 by_id_all P rules b = placed_all_all P [] rules (All-nil P) b

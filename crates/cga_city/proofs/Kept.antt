@@ -26,7 +26,7 @@ use Rattle.cga_city.proofs.Deriving.{apply_ok, apply_over, empty_derived, few_me
 use Rattle.cga_city.proofs.Drawable.{AllSound, derived_sound}
 use Rattle.cga_city.proofs.Names.{names_differ}
 
-the_list : (budget : ℕ) (s : Sources) (list : List Member) → derived budget s ≡ Some list
+pub the_list : (budget : ℕ) (s : Sources) (list : List Member) → derived budget s ≡ Some list
     → derive (derivation_of s) budget ≡ Some list
 unfolding derived
 the_list budget s list h = h

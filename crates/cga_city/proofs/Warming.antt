@@ -1,6 +1,6 @@
 -- What making a cold city warm expands: each member but the instances.
-use Rattle.std.proofs.Common.{◌≡◌, ◌↔◌, ℕ, ◌+◌, List, [], ◌∷◌, length, Bool, true, false, not, Some, refl, sym, ap, ◌∙◌, subst, inl, arith}
-use Rattle.std.specs.Prelude.{cond}
+use Rattle.std.proofs.Common.{◌≡◌, ◌↔◌, ℕ, ◌+◌, List, [], ◌∷◌, length, Bool, true, false, not, Some, None, Ok, Err, Result, refl, sym, ap, ◌∙◌, subst, inl, arith}
+use Rattle.std.specs.Prelude.{cond, IfOk}
 use Rattle.std.proofs.lemmas.List.Sums.{sum_by-cons}
 use Rattle.cga_order.specs.World.{Among, is_instance, shapes_where}
 use Rattle.cga_agenda.proofs.Door.{Has-Among}
@@ -11,19 +11,21 @@ use Rattle.cga_order.proofs.Door.{Among-shapes_where, Has-from_shapes_where, Onc
 use Rattle.cga_shape.specs.declared.changes.Changes.{Changes}
 use Rattle.cga_shape.specs.declared.shape.Shape.{Shape}
 use Rattle.cga_shape.specs.declared.sources.Sources.{Sources}
-use Rattle.cga_derivation.specs.Derivation.{place_of, reached}
+use Rattle.cga_derivation.specs.Derivation.{derive, place_of, reached}
 use Rattle.cga_agenda.specs.Known.{shapes_of}
 use Rattle.cga_order.specs.Once.{Once}
 use Rattle.cga_expand.specs.Children.{Member}
 use Rattle.cga_expand.specs.Derivation.{derivation_of}
 use Rattle.cga_expand.specs.Touched.{Kept, NonInstance, Touched}
-use Rattle.cga_update.specs.Updates.{CountsTouched, IsExact, with_no_lots}
+use Rattle.cga_update.specs.Updates.{CountsTouched, IsExact, WhereOver, with_no_lots}
+use Rattle.cga_update.specs.declared.update_refused.UpdateRefused.{UpdateRefused}
+use Rattle.cga_update.specs.declared.update_refused.UpdateRefused.TheVariants.{OverBudget, NoMemory}
 use Rattle.cga_city.specs.City.{IsWarmed, empty_in}
-use Rattle.cga_city.specs.Derived.{members}
+use Rattle.cga_city.specs.Derived.{derived, members}
 use Rattle.cga_city.specs.Inside.{AreSound}
 use Rattle.cga_city.specs.Reports.{expanded_count}
 use Rattle.cga_city.proofs.Deriving.{bare_derived, bare_reached, is_derived, members_are}
-use Rattle.cga_city.proofs.Kept.{derived_is}
+use Rattle.cga_city.proofs.Kept.{derived_is, the_list}
 use Rattle.cga_city.proofs.Names.{names_differ}
 
 -- ---- the shapes that expand
@@ -102,3 +104,23 @@ warmed s budget n x y k warm old changes sound exact spent =
       spent = spent ∙ ap (λ c. x + c) number;
       touched = rw (← number, members_are budget (with_no_lots s) [] (bare_derived s.grammar s.mode budget), all) touched;
     }
+
+-- the same by what it answered
+pub warmed_by : (told : Result ℕ UpdateRefused) (empty s : Sources) (budget n x y k : ℕ) (warm : Bool)
+    (old changes : Changes)
+    → AreSound s → empty ≡ empty_in s.mode → told ≡ Ok n → IfOk told (λ m. IsExact empty s budget m changes)
+    → IfOk told (λ m. y ≡ x + m)
+    → IsWarmed (record { sources = s; budget = budget; warm = warm; expanded = k; changes = old }) x y
+warmed_by told empty s budget n x y k warm old changes sound none is exact spent =
+    let whole : IsExact empty s budget n changes = subst (λ (r : Result ℕ UpdateRefused). IfOk r (λ m. IsExact empty s budget m changes)) is exact in
+    let more : y ≡ x + n = subst (λ (r : Result ℕ UpdateRefused). IfOk r (λ m. y ≡ x + m)) is spent in
+    warmed s budget n x y k warm old changes sound (subst (λ (e : Sources). IsExact e s budget n changes) none whole) more
+
+-- ---- what the budget refuses
+
+-- sources within the budget aren't refused for it
+pub never_over : {A : Type 0} (told : Result A UpdateRefused) (s : Sources) (budget : ℕ) (list : List Member)
+    → derived budget s ≡ Some list → WhereOver told (derive (derivation_of s) budget ≡ None) → WhereOver told ⊥
+never_over (Ok n) s budget list fits over = tt
+never_over (Err OverBudget) s budget list fits over = let z : Some list ≡ None = sym (the_list budget s list fits) ∙ over in cc
+never_over (Err NoMemory) s budget list fits over = tt

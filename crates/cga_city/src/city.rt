@@ -1,5 +1,5 @@
 //! The city.
-ghost use Rattle.std.specs.Prelude.{◌≡◌, ◌+◌, ◌<◌, ◌≤◌, [], IfOk, IfSome, IsOk, OnErr, OnOk, IsFalse, IsTrue, Some, bytes_eq, length, slice_get, true};
+ghost use Rattle.std.specs.Prelude.{◌≡◌, ◌+◌, ◌<◌, ◌≤◌, [], IfOk, IfSome, IsOk, OnErr, OnOk, IsFalse, IsTrue, Ok, Some, bytes_eq, length, slice_get, true};
 ghost use Rattle.std.specs.List.{IsDistinct};
 ghost use Rattle.cga_expand.specs.Run.{IsRun};
 ghost use Rattle.cga_obj.specs.Lots.{AreSolid, StandsBy};
@@ -9,6 +9,8 @@ ghost use Rattle.cga_city.specs.Hulls.{IsHullOf};
 ghost use Rattle.cga_city.specs.Inside.{AreSound};
 ghost use Rattle.cga_city.specs.Lots.{names_of};
 ghost use Rattle.cga_city.specs.Reports as spec;
+ghost use Rattle.cga_trace.specs.Text.{AreSteps};
+ghost use Rattle.cga_update.specs.Updates.{WhereOver};
 
 use crate::edits::changed_sources;
 use crate::empty::{empty_sources, no_changes, no_shapes};
@@ -164,14 +166,9 @@ impl City {
         );
         drop(changes);
         drop(empty);
-        match told {
-            Ok(_) => {
-                self.warm = true;
-                Ok(())
-            }
-            // Not for the budget, which the sources are within.
-            Err(_) => Err(NoMemory),
-        }
+        within_budget(told)?;
+        self.warm = true;
+        Ok(())
     }
 
     /// What is drawn, of all lots or of the one that is named, by the order of the lots and in a lot by paths. Takes
@@ -201,7 +198,8 @@ impl City {
     /// The run of the sources: what the expansion of each shape told, in order. Takes memory.
     pub fn trace(&self) -> Result<List<TraceStep>, NoMemory>
         requires { IsTrue self.now.warm }
-        ensures { IfOk result (IsRun self.now.sources) }
+        ensures run { IfOk result (IsRun self.now.sources) }
+        ensures fields { IfOk result AreSteps }
     {
         trace(self.alloc, &self.kept.forest)
     }
@@ -281,5 +279,17 @@ impl City {
         ensures { result ≡ self.now.sources.mode }
     {
         self.sources.mode
+    }
+}
+
+/// What an update answers whose new sources are within the budget.
+fn within_budget(told: Result<u64, UpdateRefused>) -> Result<u64, NoMemory>
+    requires within { WhereOver told ⊥ }
+    ensures same { IfOk result (λ count. told ≡ Ok count) }
+{
+    match told {
+        Ok(count) => Ok(count),
+        Err(UpdateRefused::NoMemory) => Err(NoMemory),
+        Err(UpdateRefused::OverBudget) => unreachable!(),
     }
 }

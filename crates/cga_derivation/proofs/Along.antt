@@ -17,12 +17,14 @@ use Rattle.cga_derivation.proofs.Sites.{rank-site}
 pub use Rattle.std.proofs.lemmas.Bool.{and_parts as both}
 pub use Rattle.cga_fraction.proofs.Door.{length-map, map-append}
 
+-- to map a list twice is to map it once by one function after the other
 pub map-map : {X Y Z : Type 0} (f : Y → Z) (g : X → Y) (xs : List X) → map f (map g xs) ≡ map (λ x. f (g x)) xs
 map-map f g [] = refl
 map-map f g (x ∷ xs) = ap (λ l. f (g x) ∷ l) (map-map f g xs)
 
 -- what the first that passes says
 module _ {X : Type 0} where
+  -- what is found as the first to pass a test passes it
   pub first_of-passes : (p : X → Bool) (xs : List X) (x : X) → first_of p xs ≡ Some x → p x ≡ true
   first_of-passes p [] x e = let f : ◌≡◌ {A = Option X} None (Some x) = e in cc
   first_of-passes p (y ∷ xs) x e = elim (either (p y)) [
@@ -34,6 +36,7 @@ module _ {X : Type 0} where
   ]
 
 module _ {X Y : Type 0} where
+  -- the function's value where there is an element, and none where there is none
   abbrev pub option_of : (X → Y) → Option X → Option Y
   option_of f None = None
   option_of f (Some x) = Some (f x)
@@ -46,6 +49,7 @@ module _ {X Y : Type 0} where
     | false ↦ first_of-map f p xs
   ]
 
+-- where all members pass a test, a member with its shape and kind passes it
 pub list_all-at : {N F P : Type 0} (p : Placed N F P → Bool) (xs : List (Placed N F P)) (n : N) (k : Kind F P)
     → list_all p xs ≡ true → Has xs n k → p (record { shape = n; kind = k }) ≡ true
 list_all-at p [] n k e h = absurd h
@@ -56,6 +60,7 @@ list_all-at p (x ∷ xs) n k e h =
       | inr r ↦ list_all-at p xs n k parts.1 r
     ]
 
+-- the first member that passes a test is a member of the list, with its shape and kind
 pub first_of-Has : {N F P : Type 0} (p : Placed N F P → Bool) (xs : List (Placed N F P)) (x : Placed N F P)
     → first_of p xs ≡ Some x → Has xs x.shape x.kind
 first_of-Has p [] x e = let f : ◌≡◌ {A = Option (Placed _ _ _)} None (Some x) = e in cc
@@ -68,6 +73,7 @@ first_of-Has p (y ∷ xs) x e = elim (either (p y)) [
 ]
 
 module _ {N F P : Type 0} where
+  -- where a site is a member, its shape is a member of the erased list, of the same kind
   pub Has-erase : (xs : List (Placed (Site N) F P)) (s : Site N) (k : Kind F P) → Has xs s k → Has (erase xs) s.shape k
   Has-erase [] s k h = absurd h
   Has-erase (x ∷ xs) s k h = elim h [
@@ -122,6 +128,7 @@ module _ {N A F P : Type 0} (derivation : Derivation N A F P) where
   step-along C None = refl
   step-along C (Some m) = erase-step C m.shape
 
+  -- the next member of the erased list is the next site, erased
   pub next-along : (C : List (Placed (Site N) F P))
       → next_of derivation (erase C) ≡ option_of erased (next_site derivation C)
   next-along C = first_of-map erased (is_next derivation (erase C)) C
@@ -133,6 +140,7 @@ module _ {N A F P : Type 0} (derivation : Derivation N A F P) where
   start-along [] = refl
   start-along (n ∷ ns) = ap (λ l. record { shape = n; kind = Waiting } ∷ l) (start-along ns)
 
+  -- after any number of steps the sites, erased, are the configuration of the derivation
   pub erase-sites : (n : ℕ) → erase (sites derivation n) ≡ reached derivation n
   unfolding sites reached step
   erase-sites zero = start-along derivation.roots
@@ -164,6 +172,7 @@ module _ {N A F P : Type 0} (derivation : Derivation N A F P) where
   reached-by n None e r = r
   reached-by n (Some m) e r = (sites derivation n, r, IsStep-next (sites derivation n) m e)
 
+  -- after any number of steps the sites are what the run of the world reaches by the sites taken
   pub reached-sites : (n : ℕ) → run.Reached (world_of derivation) (taken derivation n) (sites derivation n)
   unfolding sites taken
   reached-sites zero = refl

@@ -92,5 +92,6 @@ module _ {N A F P : Type 0} (derivation : Derivation N A F P) where
         let q : place_of derivation b.0.shape.shape ≡ place_of derivation n.shape = ap (λ (x : Placed N F P). place_of derivation x.shape) b.2 in
         apart i j a.0 b.0 a.1 b.1 (p ∙ (same ∙ sym q))
 
+    -- after any number of steps, members at two indices stand at two places
     pub apart-reached : (n : ℕ) → AllApart derivation (reached derivation n)
     apart-reached n = subst (AllApart derivation) (erase-sites derivation n) (apart-erase (sites derivation n) (apart-sites n))

@@ -155,6 +155,7 @@ module _ {N A F P : Type 0} (derivation : Derivation N A F P) where
           omega (arith, same, fits)
     ]
 
+    -- without a list some configuration is over the budget; with one none is, and it ends the run within so many steps
     pub says : (budget : ℕ)
         → MatchOption (derive derivation budget) ((n : ℕ) × (budget < length (reached derivation n)))
         (λ list. ((m : ℕ) → length (reached derivation m) ≤ budget)

@@ -86,5 +86,6 @@ module _ {N A F P : Type 0} (derivation : Derivation N A F P) (laws : IsDerivati
         ];
   }
 
+  -- where nothing waits, the configuration that was reached is a consistent list
   pub derived_consistent : IsConsistent derivation (reached derivation n)
   derived_consistent = subst (IsConsistent derivation) (erase-sites derivation n) consistent-erased

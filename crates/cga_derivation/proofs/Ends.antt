@@ -30,6 +30,7 @@ module _ {N A F P : Type 0} (derivation : Derivation N A F P) where
   start-sites : run.start (world_of derivation) ≡ map rooted derivation.roots
   start-sites = map-map (λ (s : Site N). record { shape = s; kind = Waiting }) (λ (n : N). record { shape = n; above = [] }) derivation.roots
 
+  -- where sites at two indices of joined lists have two places, those of the first list have
   pub apart-left : (xs ys : List (Placed (Site N) F P)) → SitesApart derivation (xs ++ ys) → SitesApart derivation xs
   apart-left xs ys apart i j m n e f = apart i j m n (slice_get-left xs ys i m e) (slice_get-left xs ys j n f)
 
@@ -95,11 +96,13 @@ module _ {N A F P : Type 0} (derivation : Derivation N A F P) where
         → (derive derivation budget ≡ Some list) × (expanded_in list ≡ count_by (λ m. not (is_instance m.kind)) list)
     ends-empty budget n list at turns fits = ends budget n list [] at turns fits (settled-empty n list at)
 
+    -- a list within the budget after as many turns is derived, and as many members had their turn as aren't instances
     pub ends-full : (budget : ℕ) (list : List (Placed N F P)) (es : List (K × ℕ))
         → IsAt derivation mode_of key_chain budget list es → length list ≤ budget
         → (derive derivation budget ≡ Some list) × (expanded_in list ≡ count_by (λ m. not (is_instance m.kind)) list)
     ends-full budget list es at fits = ends budget budget list es at (omega arith) fits (settled-full budget list es at fits)
 
+    -- where a list after no more turns than the budget is longer than that, the derivation gives none
     pub ends-over : (budget n : ℕ) (list : List (Placed N F P)) (es : List (K × ℕ))
         → IsAt derivation mode_of key_chain n list es → n ≤ budget → budget < length list
         → derive derivation budget ≡ None

@@ -49,6 +49,7 @@ module _ {N A F P : Type 0} (derivation : Derivation N A F P) (laws : IsDerivati
     | inr q ↦ before x k q plainly
   ]
 
+  -- where roots have a property, and what has it passes it to its children, each reached member but instances has it
   pub kept : (n : ℕ) (x : N) (k : Kind F P) → Has (reached derivation n) x k → is_instance k ≡ false → Q x
   unfolding reached step
   kept zero x k h plainly = roots x (Has-roots derivation.roots x k h)

@@ -20,6 +20,7 @@ use Rattle.cga_derivation.proofs.Sites.{rank-site}
 use Rattle.cga_derivation.proofs.Along.{both, list_all-at, Has-erase}
 pub use Rattle.std.proofs.lemmas.Bool.{and_from as both_make}
 
+-- where the test for waiting passes, the kind is that of what waits
 pub waiting_kind : {F P : Type 0} (k : Kind F P) → is_waiting k ≡ true → k ≡ Waiting
 waiting_kind Waiting e = refl
 waiting_kind Done e = let x : false ≡ true = e in cc
@@ -52,6 +53,7 @@ first_of-only p (x ∷ xs) m h e only = elim (either (p x)) [
 ]
 
 module _ {N F P : Type 0} where
+  -- each member of an erased list is the shape of a site of the list, of the same kind
   pub Has-erased : (xs : List (Placed (Site N) F P)) (n : N) (k : Kind F P) → Has (erase xs) n k
       → (s : Site N) × Has xs s k × (s.shape ≡ n)
   Has-erased [] n k h = absurd h

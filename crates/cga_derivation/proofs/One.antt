@@ -22,6 +22,7 @@ module _ {N A F P : Type 0} (derivation : Derivation N A F P) (laws : IsDerivati
         sym (sym (settled-reached derivation m (n - m) quiet_m) ∙ ap (reached derivation) gap)
   ]
 
+  -- two lists in which a derivation ends are equal
   pub one : (list other : List (Placed N F P)) → IsDerived derivation list → IsDerived derivation other → list ≡ other
   one list other (n, e, q) (m, f, r) = e ∙ (same_end n m (subst (NothingWaits derivation) e q) (subst (NothingWaits derivation) f r) ∙ sym f)
 
@@ -32,6 +33,7 @@ module _ {N A F P : Type 0} (derivation : Derivation N A F P) (laws : IsDerivati
       ((n : ℕ) × (budget < length (reached derivation n)))
       (λ list. ((m : ℕ) → length (reached derivation m) ≤ budget) × ((n : ℕ) × (n ≤ budget) × (list ≡ reached derivation n) × NothingWaits derivation list))
 
+  -- the list that a derivation gives within a budget is one in which it ends
   pub within : (budget : ℕ) (list : List (Placed N F P)) → derive derivation budget ≡ Some list
       → IsDerived derivation list
   within budget list e =

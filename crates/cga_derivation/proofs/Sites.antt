@@ -11,11 +11,13 @@ use Rattle.cga_derivation.proofs.Lists.{ok_same, err_ok}
 use Rattle.cga_derivation.specs.Derivation.{Derivation, IsDerivation, place_of, rank_of, SameSeen}
 use Rattle.cga_derivation.specs.Sites.{Site, fitted, sited, all_sited, chain_of, world_of}
 
+-- a list fitted to a length has that length
 pub length-fitted : (n : ℕ) (xs : List ℕ) → length (fitted n xs) ≡ n
 length-fitted zero xs = refl
 length-fitted (suc n) [] = let e = length-fitted n [] in omega (arith, e)
 length-fitted (suc n) (x ∷ xs) = let e = length-fitted n xs in omega (arith, e)
 
+-- a list that has the length already stays the same when it is fitted
 pub fitted-same : (n : ℕ) (xs : List ℕ) → length xs ≡ n → fitted n xs ≡ xs
 fitted-same zero [] e = refl
 fitted-same zero (x ∷ xs) e = absurd (omega (arith, e))
@@ -33,6 +35,7 @@ module _ {N : Type 0} where
   abbrev rooted : N → Site N
   rooted n = record { shape = n; above = [] }
 
+  -- where a site is among those of some roots, its shape is among the roots, and it is that root's site
   pub Among-rooted : (ns : List N) (s : Site N) → Among s (map rooted ns) → Among s.shape ns × (s ≡ rooted s.shape)
   Among-rooted [] s h = absurd h
   Among-rooted (n ∷ ns) s h = elim h [
@@ -100,6 +103,7 @@ module _ {N A F P : Type 0} (derivation : Derivation N A F P) where
           subst (λ x. Among x (map (λ m. m.shape) xs)) w.2 (shapes-Among xs w.0 ((h w.0 seen).1 w.1)),
     )
 
+    -- where the laws of derivations hold, the derivation over sites is a world
     pub world : IsWorld (world_of derivation)
     world = record {
       whole = whole;

@@ -79,6 +79,7 @@ module _ {N A F P : Type 0} (derivation : Derivation N A F P) where
           front ∙ (whole ∙ (sym same ∙ (λ t. priorities_down derivation (erase C) (sym u.3.lot t) (sym u.3.path t) (sym long t))))
     ]
 
+    -- in a configuration in order, a site's chain is the one that is told from the erased list
     pub chain-is : (s : Site N) (k : Kind F P) → Has C s k
         → chain_of derivation s ≡ chain_in derivation (erase C) s.shape
     chain-is s k h =
@@ -100,6 +101,7 @@ module _ {N A F P : Type 0} (derivation : Derivation N A F P) where
             (subst (λ c. IsEarlier derivation (stamp derivation.mode c) (stamp_in derivation (erase C) s.shape)) (chain-is t a.0 a.1) (subst (λ c. IsEarlier derivation (stamp derivation.mode (chain_of derivation t)) (stamp derivation.mode c)) (chain-is s b.0 b.1) h.0), all ts (λ u i. in_list u (inr i)) h.1)
 
   module _ (laws : IsDerivation derivation) where
+    -- after any number of steps the sites are in order
     pub good-at : (n : ℕ) → steps.IsOrdered (world_of derivation) (sites derivation n)
     good-at n = steps.in_order (world_of derivation) (world derivation laws) (taken derivation n) (sites derivation n) (reached-sites derivation n)
 

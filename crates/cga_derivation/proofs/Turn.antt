@@ -52,6 +52,7 @@ module _ {N A F P : Type 0} (derivation : Derivation N A F P) (laws : IsDerivati
         let m = next in
         (erased m.0, subst (λ l. slice_get l at ≡ Some (erased m.0)) erase-list (get-map erased (sites derivation n) at m.0 m.1), m.2, ap (λ c. c.lot) m.3, ap (λ c. c.path) m.3)
 
+    -- the key that was taken is of the derivation's mode
     pub mode_is : mode_of k ≡ derivation.mode
     mode_is = (turn.keys.entry k at (inl refl)).0
 
@@ -91,6 +92,7 @@ module _ {N A F P : Type 0} (derivation : Derivation N A F P) (laws : IsDerivati
           let result : derivation.expand next.0.shape.shape ((world_of derivation).answers next.0.shape (worlds.shapes_where (λ n k. true) (sites derivation n)) (worlds.shapes_where (λ n k. worlds.is_waiting k) (sites derivation n))) ≡ r = (λ i. derivation.expand (site-shape i) (answers i)) ∙ e in
           ap (step_sites_by derivation (sites derivation n)) next.4 ∙ ap (λ q. run.told (world_of derivation) (sites derivation n) next.0.shape (all_sited (chain_of derivation next.0.shape).priorities q)) result
 
+      -- where the taken member expands to a fault, the list with that in its place and the keys left are one turn on
       pub turn-fault : (f : F) → derivation.expand x.shape (asked derivation list x.shape) ≡ Err f
           → IsAt derivation mode_of key_chain (suc n)
           (slice_set list at (record { shape = x.shape; kind = Faulted f })) entries

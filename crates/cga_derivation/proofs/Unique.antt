@@ -26,6 +26,7 @@ use Rattle.cga_derivation.proofs.Along.{both, Has-erase, erase-sites, reached-si
 use Rattle.cga_derivation.proofs.Least.{both_make, first_of-only, Has-erased}
 
 module _ {N : Type 0} where
+  -- where a shape is among some, its site with no priorities above it is among theirs
   pub rooted-Among : (ns : List N) (n : N) → Among n ns
       → Among {N = Site N} (record { shape = n; above = [] }) (map (λ (r : N). record { shape = r; above = [] }) ns)
   rooted-Among [] n h = absurd h

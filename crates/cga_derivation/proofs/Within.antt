@@ -25,14 +25,17 @@ use Rattle.cga_derivation.proofs.Unique as unique
 -- ---- the places of members
 
 module _ {N A F P : Type 0} (derivation : Derivation N A F P) where
+  -- the places of the members, in their order
   abbrev pub places : List (Placed N F P) → List (List ℕ × List ℕ)
   places ms = map (λ m. place_of derivation m.shape) ms
 
+  -- the place of a member is among the places
   pub Has-places : (ms : List (Placed N F P)) (x : N) (k : Kind F P) → Has ms x k
       → Among (place_of derivation x) (places ms)
   Has-places [] x k h = absurd h
   Has-places (m ∷ ms) x k h = elim h [ inl e ↦ inl (ap (place_of derivation) e.0) | inr r ↦ inr (Has-places ms x k r) ]
 
+  -- each of the places is that of a member
   pub places-Has : (ms : List (Placed N F P)) (p : List ℕ × List ℕ) → Among p (places ms)
       → (x : N) × (k : Kind F P) × Has ms x k × (place_of derivation x ≡ p)
   places-Has [] p h = absurd h
@@ -41,12 +44,14 @@ module _ {N A F P : Type 0} (derivation : Derivation N A F P) where
     | inr r ↦ let w = places-Has ms p r in (w.0, w.1, inr w.2, w.3)
   ]
 
+  -- where members at two indices have two places, each place stands once
   pub places_once : (ms : List (Placed N F P)) → AllApart derivation ms → Once (places ms)
   places_once ms apart = Once-index (places ms) (λ p i j a b.
       let v = slice_get-map (λ m. place_of derivation m.shape) ms i p a in
       let w = slice_get-map (λ m. place_of derivation m.shape) ms j p b in
       apart i j v.0 w.0 v.1 w.1 (v.2 ∙ sym w.2))
 
+  -- there are as many places as members
   pub length-places : (ms : List (Placed N F P)) → length (places ms) ≡ length ms
   length-places ms = length-map (λ m. place_of derivation m.shape) ms
 

@@ -1,6 +1,8 @@
 -- One walk of the members compares the boxes that the definition collects first.
 use Rattle.std.proofs.Common.{◌≡◌, ℕ, zero, suc, ◌-◌, ◌<◌, ◌≤◌, List, [], ◌∷◌, length, drop, get_or, map, Bool, true, false, Some, cond, not, ◌&&◌, ◌||◌, refl, sym, ap, ◌∙◌, arith}
 use Rattle.std.specs.Prelude.{filter, slice_get}
+use Rattle.cga_check.specs.Said.{said}
+use Rattle.cga_check.specs.declared.said.Said.{Said}
 use Rattle.cga_word.specs.declared.answer.Answer.{Answer}
 use Rattle.cga_word.specs.declared.answer.Answer.TheVariants.{Nothing, Part, Full}
 use Rattle.std.specs.List.{list_any}
@@ -13,12 +15,11 @@ use Rattle.cga_order.specs.World.{is_waiting}
 use Rattle.cga_derivation.specs.Derivation.{asked}
 use Rattle.cga_shape.specs.declared.shape.Shape.{Shape}
 use Rattle.cga_shape.specs.declared.sources.Sources.{Sources}
-use Rattle.cga_expand.specs.Asked.{on_path, boxes_beside, answers_of}
+use Rattle.cga_expand.specs.Asked.{on_path, boxes_beside, answer_if, answers_of}
 use Rattle.cga_expand.specs.Children.{Member}
 use Rattle.cga_expand.specs.Derivation.{derivation_of}
-use Rattle.cga_derive.specs.declared.symbol.Symbol.{Symbol}
 use Rattle.cga_derive.specs.Compared.{counts, meets_own, holds_own, some_meets, some_fills, one_compared, compared, targeted, answers_with}
-use Rattle.cga_derive.specs.Symbols.{symbol_of}
+use Rattle.cga_derive.proofs.Reading.{said_noparent, said_active}
 use Rattle.cga_fraction.proofs.Door.{None-not-Some as none_some, and-false as and_false, or-true as or_true, same_Some as some_same, slice_get_from_get_or as there}
 
 -- a member that the target compares has a box that passes
@@ -50,10 +51,14 @@ compared-is target s list =
     λ i. graded (full i) (part i)
 
 -- the answers by what was read of the symbol are those of the derivation
-pub answers-are : (sources : Sources) (symbol : Symbol) (list : List Member) (s : Shape)
-    → symbol ≡ symbol_of sources.grammar s.symbol → answers_with symbol list s ≡ asked (derivation_of sources) list s
-unfolding answers_of symbol_of
-answers-are sources symbol list s is = ap (λ y. answers_with y list s) is
+pub answers-are : (sources : Sources) (read : Said) (list : List Member) (s : Shape)
+    → read ≡ said sources.grammar s.symbol → answers_with read list s ≡ asked (derivation_of sources) list s
+unfolding answers_of
+answers-are sources read list s is =
+    ap (λ y. answers_with y list s) is ∙ λ i. record {
+      noparent = answer_if (said_noparent sources.grammar s.symbol i) s (targeted Noparent list);
+      active = answer_if (said_active sources.grammar s.symbol i) s (targeted Active list);
+    }
 
 -- ---- some of the last members
 

@@ -1,5 +1,4 @@
--- What is read of a group is what the definitions say of its symbol.
-use Rattle.std.specs.Prelude.{unwrap_or}
+-- What is said of a symbol is what the derivation's definitions say of it, and what was read stays right.
 use Rattle.std.proofs.Common.{◌≡◌, ℕ, List, Bool, true, false, cond, refl, sym, ap, ◌∙◌, Option, Some, None}
 use Rattle.std.specs.Ordering.{nat_cmp, is_eq}
 use Rattle.std.specs.Cmp.Lexicographic.{slice_cmp}
@@ -10,10 +9,11 @@ use Rattle.cga_word.specs.declared.target.Target.TheVariants.{Noparent, Active}
 use Rattle.cga_rule.specs.declared.grammar.Grammar.{Grammar}
 use Rattle.cga_rule.specs.declared.grammar.Group.{Group}
 use Rattle.cga_check.specs.Groups as groups
+use Rattle.cga_check.specs.Said.{said}
+use Rattle.cga_check.specs.declared.said.Said.{Said}
 use Rattle.cga_expand.specs.Asked.{group_asks, asks_for}
 use Rattle.cga_expand.specs.Derivation.{priority_of}
-use Rattle.cga_derive.specs.declared.symbol.Symbol.{Symbol}
-use Rattle.cga_derive.specs.Symbols.{symbol_of, IsRead}
+use Rattle.cga_derive.specs.Symbols.{IsRead}
 use Rattle.cga_fraction.proofs.Door.{Equal_from_is_eq as equal_here, same_Some as some_same}
 
 -- both definitions of what a group asks for say the same
@@ -21,31 +21,30 @@ same_asks : (o : Option Group) (target : Target) → groups.group_asks o target 
 same_asks None target = refl
 same_asks (Some group) target = refl
 
--- what is read of a symbol
-pub read_is : (grammar : Grammar) (name : List ℕ) (priority : ℕ) (noparent active : Bool)
-    → priority ≡ unwrap_or (groups.priority_of grammar name) 0
-    → noparent ≡ groups.group_asks (groups.group grammar name) Noparent
-    → active ≡ groups.group_asks (groups.group grammar name) Active
-    → record { priority = priority; noparent = noparent; active = active } ≡ symbol_of grammar name
-unfolding symbol_of priority_of asks_for
-read_is grammar name priority noparent active p n a =
-    let group = groups.group grammar name in λ i. record {
-      priority = p i;
-      noparent = (n ∙ same_asks group Noparent) i;
-      active = (a ∙ same_asks group Active) i;
-    }
+pub said_priority : (grammar : Grammar) (name : List ℕ) → (said grammar name).priority ≡ priority_of grammar name
+unfolding said priority_of
+said_priority grammar name = refl
+
+pub said_noparent : (grammar : Grammar) (name : List ℕ)
+    → (said grammar name).noparent ≡ asks_for grammar name Noparent
+unfolding said asks_for
+said_noparent grammar name = same_asks (groups.group grammar name) Noparent
+
+pub said_active : (grammar : Grammar) (name : List ℕ) → (said grammar name).active ≡ asks_for grammar name Active
+unfolding said asks_for
+said_active grammar name = same_asks (groups.group grammar name) Active
 
 -- what was read is right, and so is the rest
-pub still_read : (grammar : Grammar) (old new : BTreeMap (List ℕ) Symbol) (symbol : List ℕ) (read : Symbol)
-    → read ≡ symbol_of grammar symbol → IsRead grammar old → Updates (slice_cmp nat_cmp) old new symbol (Some read)
+pub still_read : (grammar : Grammar) (old new : BTreeMap (List ℕ) Said) (symbol : List ℕ) (read : Said)
+    → read ≡ said grammar symbol → IsRead grammar old → Updates (slice_cmp nat_cmp) old new symbol (Some read)
     → IsRead grammar new
 still_read grammar old new symbol read is before updates = λ name found e. at name found e (is_eq (slice_cmp nat_cmp symbol name)) refl (updates.0 name)
   where
-    at : (name : List ℕ) (found : Symbol) → get (slice_cmp nat_cmp) new name ≡ Some found → (b : Bool)
+    at : (name : List ℕ) (found : Said) → get (slice_cmp nat_cmp) new name ≡ Some found → (b : Bool)
         → is_eq (slice_cmp nat_cmp symbol name) ≡ b
         → get (slice_cmp nat_cmp) new name ≡ cond b (Some read) (get (slice_cmp nat_cmp) old name)
-        → found ≡ symbol_of grammar name
+        → found ≡ said grammar name
     at name found e true here q =
         let same : symbol ≡ name = slice_cmp-IsAntisymmetric nat_cmp-IsAntisymmetric symbol name (equal_here _ here) in
-        sym (some_same read found (sym q ∙ e)) ∙ (is ∙ ap (symbol_of grammar) same)
+        sym (some_same read found (sym q ∙ e)) ∙ (is ∙ ap (said grammar) same)
     at name found e false here q = before name found (sym q ∙ e)

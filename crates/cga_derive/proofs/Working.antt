@@ -28,9 +28,9 @@ use Rattle.cga_expand.specs.Children.{Member, placed_from, placed_by}
 use Rattle.cga_expand.specs.Derivation.{children_of, derivation_of, NamesDiffer}
 use Rattle.cga_key.specs.Key.{chain_of_key, key_cmp}
 use Rattle.cga_derive.specs.Run.{Sites, HasKeys, KeepsKeys, sited_children, IsAfter, IsInTurnOf}
-use Rattle.cga_derive.specs.declared.symbol.Symbol.{Symbol}
+use Rattle.cga_check.specs.Said.{said}
+use Rattle.cga_check.specs.declared.said.Said.{Said}
 use Rattle.cga_derive.specs.Compared.{answers_with}
-use Rattle.cga_derive.specs.Symbols.{symbol_of}
 use Rattle.cga_derive.proofs.Compared.{answers-are}
 pub use Rattle.cga_fraction.proofs.Door.{slice_get_from_get_or as stands_there}
 use Rattle.std.proofs.lemmas.Option.{get_or_from_slice_get as read}
@@ -45,12 +45,12 @@ pub same_read : {X : Type 0} (xs : List X) (i : ℕ) (x y : X) → i < length xs
 same_read xs i x y h e f = some_same x y (sym (stands_there xs i x h e) ∙ stands_there xs i y h f)
 
 -- the answers by what was read of the symbol of the shape at an index
-pub asks-are : (sources : Sources) (list lent : List Member) (first second : Member) (symbol : Symbol)
+pub asks-are : (sources : Sources) (list lent : List Member) (first second : Member) (read : Said)
     (answers : Answers)
-    → first ≡ second → symbol ≡ symbol_of sources.grammar first.shape.symbol → lent ≡ list
-    → answers ≡ answers_with symbol lent second.shape → answers ≡ asked (derivation_of sources) list second.shape
-asks-are sources list lent first second symbol answers same read is given =
-    given ∙ (ap (λ l. answers_with symbol l second.shape) is ∙ answers-are sources symbol list second.shape (read ∙ ap (λ (m : Member). symbol_of sources.grammar m.shape.symbol) same))
+    → first ≡ second → read ≡ said sources.grammar first.shape.symbol → lent ≡ list
+    → answers ≡ answers_with read lent second.shape → answers ≡ asked (derivation_of sources) list second.shape
+asks-are sources list lent first second read answers same reads is given =
+    given ∙ (ap (λ l. answers_with read l second.shape) is ∙ answers-are sources read list second.shape (reads ∙ ap (λ (m : Member). said sources.grammar m.shape.symbol) same))
 
 -- the least key was taken off
 pub in-turn : (sources : Sources) (n : ℕ) (key : StampKey) (place : ℕ) (list : List Member)

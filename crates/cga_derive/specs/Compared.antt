@@ -6,12 +6,12 @@ use Rattle.cga_word.specs.declared.answers.Answers.{Answers}
 use Rattle.cga_word.specs.declared.target.Target.{Target}
 use Rattle.cga_word.specs.declared.target.Target.TheVariants.{Noparent, Active}
 use Rattle.cga_frame.specs.Box.{box_of, meets, holds}
+use Rattle.cga_check.specs.declared.said.Said.{Said}
 use Rattle.cga_index.specs.Occlusion.{graded}
 use Rattle.cga_order.specs.World.{is_waiting, shapes_where}
 use Rattle.cga_shape.specs.declared.shape.Shape.{Shape}
 use Rattle.cga_expand.specs.Asked.{on_path, answer_if}
 use Rattle.cga_expand.specs.Children.{Member}
-use Rattle.cga_derive.specs.declared.symbol.Symbol.{Symbol}
 
 -- the target is about members of this kind
 abbrev pub is_about : Target → Member → Bool
@@ -48,9 +48,9 @@ abbrev pub targeted : Target → List Member → List Shape
 targeted Noparent list = shapes_where (λ n kind. true) list
 targeted Active list = shapes_where (λ n kind. is_waiting kind) list
 
--- the answers of a shape of such a symbol
-abbrev pub answers_with : Symbol → List Member → Shape → Answers
-answers_with symbol list s = record {
-  noparent = answer_if symbol.noparent s (targeted Noparent list);
-  active = answer_if symbol.active s (targeted Active list);
+-- the answers of a shape of whose symbol this is said
+abbrev pub answers_with : Said → List Member → Shape → Answers
+answers_with said list s = record {
+  noparent = answer_if said.noparent s (targeted Noparent list);
+  active = answer_if said.active s (targeted Active list);
 }

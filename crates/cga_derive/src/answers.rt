@@ -1,26 +1,26 @@
 //! What a shape is answered, over the whole list.
-ghost use Rattle.std.specs.Prelude.{◌≡◌, ◌↔◌, IsTrue};
+ghost use Rattle.std.specs.Prelude.{◌≡◌};
 ghost use Rattle.cga_frame.specs.Box.{box_of};
-ghost use Rattle.cga_index.specs.Occlusion.{join};
 ghost use Rattle.cga_order.specs.World.{is_waiting};
 ghost use Rattle.cga_expand.specs.Asked.{answer_if, on_path};
 ghost use Rattle.cga_derive.specs.Compared.{answers_with, compared, is_about, one_compared, targeted};
 ghost use Rattle.cga_derive.specs.Streaks.{IsBoxed};
 
 use crate::streak::Streak;
-use crate::symbol::Symbol;
+use cga_check::Said;
 use cga_frame::WorldBox;
+use cga_index::{is_full, joined};
 use cga_shape::{Answers, Kind, Placed, Shape};
 use cga_word::{Answer, Target};
 
-/// The answers of a shape of this symbol. The streaks are those of the members.
-pub fn asked(symbol: Symbol, list: &[Placed], streaks: &[Streak], shape: &Shape) -> Answers
+/// The answers of a shape of whose symbol this is said. The streaks are those of the members.
+pub fn asked(said: Said, list: &[Placed], streaks: &[Streak], shape: &Shape) -> Answers
     requires { IsBoxed list.now streaks.now }
-    ensures { result ≡ answers_with symbol list.now shape.now }
+    ensures { result ≡ answers_with said list.now shape.now }
 {
     Answers {
-        noparent: answer(symbol.noparent, list, streaks, shape, Target::Noparent),
-        active: answer(symbol.active, list, streaks, shape, Target::Active),
+        noparent: answer(said.noparent, list, streaks, shape, Target::Noparent),
+        active: answer(said.active, list, streaks, shape, Target::Active),
     }
 }
 
@@ -69,25 +69,6 @@ fn compared(
         }
     }
     found
-}
-
-fn is_full(answer: Answer) -> bool
-    ensures { IsTrue result ↔ (answer ≡ Answer.Full) }
-{
-    matches!(answer, Answer::Full)
-}
-
-fn joined(one: Answer, others: Answer) -> Answer
-    ensures { result ≡ join one others }
-{
-    match one {
-        Answer::Full => Answer::Full,
-        Answer::Part => match others {
-            Answer::Full => Answer::Full,
-            Answer::Part | Answer::Nothing => Answer::Part,
-        },
-        Answer::Nothing => others,
-    }
 }
 
 // What the member alone comes to. Most members don't meet the box, so that is looked at before their paths.

@@ -14,7 +14,6 @@ mod members;
 mod over_budget;
 mod run;
 mod streak;
-mod symbol;
 mod symbols;
 
 pub use derivation::derive;

@@ -144,9 +144,9 @@ impl Run {
         ensures most { expansions.new ≤ expansions.old + 1 }
     {
         let own = self.list[place].shape.symbol;
-        let symbol = self.symbols.of(&sources.grammar, own)?;
+        let said = self.symbols.of(&sources.grammar, own)?;
         let shape = &self.list[place].shape;
-        let answers = asked(symbol, self.list.as_slice(), self.streaks.as_slice(), shape);
+        let answers = asked(said, self.list.as_slice(), self.streaks.as_slice(), shape);
         match expand(alloc, &sources.grammar, shape, &answers, expansions)? {
             Ok(emitted) => {
                 let grown = Outcome::Grew(emitted.len() as u16);

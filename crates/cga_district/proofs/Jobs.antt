@@ -30,7 +30,8 @@ use Rattle.cga_district.specs.Jobs.{AreJobsOf, AreSettled, HaveAlike, JobsAreThe
 use Rattle.cga_district.specs.Parts.{joined}
 use Rattle.cga_district.specs.Towns.{with_lots}
 use Rattle.cga_district.proofs.Districts.{lot_in}
-use Rattle.cga_district.proofs.Halos.{apart, back, chain_same, into, lot_of, own_from, root_in, whole, zs}
+use Rattle.cga_district.proofs.Owned.{chain_same, lot_of, own_from, root_in}
+use Rattle.cga_district.proofs.Halos.{apart, back, into, whole, zs}
 use Rattle.cga_district.proofs.Lists.{Among-left, Among-right, filter-Has, map_from, map_to}
 use Rattle.cga_district.proofs.Towns.{differ_right, lot_of_root, name_of, root_of_lot, two_names}
 

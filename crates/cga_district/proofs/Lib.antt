@@ -1,5 +1,6 @@
 mod Lists
 mod Districts
+mod Owned
 mod Halos
 mod Turns
 mod Alike

@@ -199,6 +199,7 @@ expand_few : (grammar : Grammar) (shape : Shape) (answers : Answers) → FewChil
 unfolding expand_of
 expand_few grammar shape answers = expansion_few grammar.attributes (rules_by_id grammar shape.symbol) shape answers
 
+-- where an answer is what the shape expands to, it has no more children than the most that there may be
 pub few_made : {E : Type 0} (grammar : Grammar) (shape : Shape) (answers : Answers)
     (r : Result (Result (List Emitted) ShapeFault) E)
     → IfOk r (λ made. made ≡ expand_of grammar shape answers) → IfOk r FewChildren

@@ -39,6 +39,7 @@ root_by : (lot : Lot) (r : Result Scope ScopeFault) (n : Shape) → root_scope l
 root_by lot (Ok scope) n is e = (scope, ok_same {F = ScopeFault} (root_in lot scope) n (rw is at e))
 root_by lot (Err fault) n is e = err_ok fault n (rw is at e)
 
+-- where a lot has a root, that is the lot's root in some scope
 pub root_is : (lot : Lot) (n : Shape) → root_of lot ≡ Ok n → (scope : Scope) × (root_in lot scope ≡ n)
 root_is lot n e = root_by lot (root_scope lot) n refl e
 
@@ -225,6 +226,7 @@ module _ (sources : Sources) where
       let off = (both _ _ (both _ _ e).1).1 in
       not_true _ off (on_path-same m n (ap (λ p. p.0) same) (ap (λ p. p.1) same))
 
+-- where lot names differ, the laws of derivations hold of the sources
 pub sources_are_derivations : SourcesAreDerivations
 sources_are_derivations sources differ = record {
   root = roots_top sources.lots;

@@ -28,6 +28,7 @@ pub gives_at : (r r' : Result State ShapeFault) (new : State) (result : Result (
     → Gives r new result → Gives r' new result
 gives_at r r' new result e g = subst (λ r. Gives r new result) (sym e) g
 
+-- a body does what its items do, one after the other
 pub body_layer : (b : Body) → body_walk b ≡ in_turn (map item_walk (out-Body b).items)
 unfolding body_walk item_walk
 body_layer b = fold_out-Body Walk Walk item_step body_step b
@@ -40,6 +41,7 @@ pub item_Move : (x y z : Expr) → item_walk (item.Move x y z) ≡ item_step (la
 unfolding item_walk body_walk
 item_Move x y z = ap item_walk (sym (item.rolls-Move x y z)) ∙ fold-roll-Item Walk Walk item_step body_step (layer.Move x y z)
 
+-- a change of size does what the step for its three sizes does
 pub item_Resize : (x y z : Size) → item_walk (item.Resize x y z) ≡ item_step (layer.Resize x y z)
 unfolding item_walk body_walk
 item_Resize x y z = ap item_walk (sym (item.rolls-Resize x y z)) ∙ fold-roll-Item Walk Walk item_step body_step (layer.Resize x y z)
@@ -67,6 +69,7 @@ pub item_Comp : (selector : Selector) (body : Body)
 unfolding item_walk body_walk
 item_Comp selector body = ap item_walk (sym (item.rolls-Comp selector body)) ∙ fold-roll-Item Walk Walk item_step body_step (layer.Comp selector body)
 
+-- a child does what the step for its symbol and arguments does
 pub item_Child : (symbol : List ℕ) (args : List Expr)
     → item_walk (item.Child symbol args) ≡ item_step (layer.Child symbol args)
 unfolding item_walk body_walk

@@ -249,5 +249,6 @@ module _ (old new : Grammar) (s : Shape) (same : setting_of old s.symbol ≡ set
   unfolding children_of
   children_same answers = ap (placed_by s) (expands_same answers)
 
+-- where two grammars give a shape's symbol one setting, the shape has the same answers, expansion and children
 pub settings_decide : SettingsDecide
 settings_decide old new s same = (answers_same old new s same, expands_same old new s same, children_same old new s same)

@@ -65,6 +65,7 @@ pub primary_Number : (n : Rat) (k : Known) → primary_value (Number n) k ≡ Ok
 unfolding primary_value expr_value
 primary_Number n = at_known (ap primary_value (sym (rolls-Number n)) ∙ fold-roll-Primary Meaning Marked Meaning Meaning Marked Meaning primary_step added_step expr_step factor_step scaled_step term_step (layer.Number n))
 
+-- a name comes to the number that it stands for
 pub primary_Named : (name : List ℕ) (k : Known) → primary_value (Named name) k ≡ Ok (number_of k name)
 unfolding primary_value expr_value
 primary_Named name = at_known (ap primary_value (sym (rolls-Named name)) ∙ fold-roll-Primary Meaning Marked Meaning Meaning Marked Meaning primary_step added_step expr_step factor_step scaled_step term_step (layer.Named name))

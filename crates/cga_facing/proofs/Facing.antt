@@ -16,10 +16,12 @@ use Rattle.cga_facing.proofs.Products.{Shows}
 use Rattle.cga_facing.proofs.Sides.{IsOver, Whole, before, behind, in_plane, is_behind, product, side_shows}
 use Rattle.cga_facing.proofs.Spots.{ArePositive, Spot, all_right, level_is, lower_is, numbered, stands, stands_at, whole_of}
 use Rattle.cga_facing.proofs.Spots.{cube, shed, gable_x, gable_z, hip_x, hip_z, pyramid, quad}
-use Rattle.cga_facing.proofs.Fits.{AreSpots, at_least, fits_at, three_sizes, two_sizes, cube_fits, shed_fits, gable_x_fits}
+use Rattle.cga_facing.proofs.Measures.{at_least, three_sizes, two_sizes}
+use Rattle.cga_facing.proofs.Fits.{AreSpots, fits_at}
+use Rattle.cga_facing.proofs.Table.{cube_fits, shed_fits, gable_x_fits, gable_z_fits, hip_x_fits, hip_z_fits, pyramid_fits}
+use Rattle.cga_facing.proofs.Table.{quad_fits}
 use Rattle.cga_facing.proofs.Placed.{mesh_is, placed_at}
 use Rattle.cga_facing.proofs.World.{placed_shows}
-use Rattle.cga_facing.proofs.Fits.{gable_z_fits, hip_x_fits, hip_z_fits, pyramid_fits, quad_fits}
 
 -- the point that the spot of a number is
 abbrev whole_at : List Spot → ℕ → ℕ → ℕ → ℕ → Whole

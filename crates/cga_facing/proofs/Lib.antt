@@ -2,6 +2,8 @@ mod Products
 mod Sides
 mod World
 mod Spots
+mod Measures
 mod Fits
+mod Table
 mod Placed
 mod Facing

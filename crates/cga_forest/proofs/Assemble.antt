@@ -1,5 +1,5 @@
 -- The steps of a replacement together.
-use Rattle.std.proofs.Common.{◌≡◌, ◌≢◌, ℕ, ◌+◌, ◌-◌, ◌<◌, List, length, Bool, true, false, refl, ap, sym, ◌∙◌, subst}
+use Rattle.std.proofs.Common.{◌≡◌, ◌≢◌, ℕ, ◌+◌, ◌-◌, ◌<◌, ◌≤◌, List, length, Bool, true, false, refl, ap, sym, ◌∙◌, subst}
 use Rattle.std.specs.Prelude.{Option, Some, None, is_some, slice_get}
 use Rattle.cga_forest.specs.declared.entry.Entry.{Entry}
 use Rattle.cga_forest.specs.declared.node.Node.{Node}
@@ -7,12 +7,13 @@ use Rattle.cga_forest.specs.declared.node.State.{State}
 use Rattle.cga_forest.specs.Node.{fits, with_state}
 use Rattle.cga_forest.specs.View.{Seen, kids, flag_if, present_of, marked_of, hulls_of, marked_hulls_of, rewritten}
 use Rattle.cga_forest.proofs.Places.{InPlace-replaced}
-use Rattle.cga_forest.specs.Tree.{InPlace, IsInner, IsWhole, RightBut, depth_at, goes, stay_of, IsPlaced}
+use Rattle.cga_forest.specs.Tree.{InPlace, IsInner, IsWhole, HaveFew, RightBut, depth_at, goes, stay_of, IsPlaced}
 use Rattle.cga_tree.specs.Tree.{IsTree}
 use Rattle.cga_tree.specs.Replaced.{IsReplaced}
 use Rattle.cga_forest.proofs.Under.{kids_flag}
 use Rattle.cga_forest.proofs.Right.{present_some, kids_present, depth_present}
 use Rattle.cga_forest.proofs.Replace.{IsTree-replaced}
+use Rattle.cga_forest.proofs.Few.{few-replaced}
 use Rattle.cga_forest.proofs.Goes.{vacant, replaced, right_but, mark_kept, mark_hulls_kept}
 
 some_flag : (b : Bool) (s : Option Entry) → is_some (flag_if b s) ≡ is_some s
@@ -65,6 +66,9 @@ module _ (s0 s1 s2 s3 : ℕ → Option Entry) (id depth n : ℕ) (marking : Bool
 
   pub places_after : IsInner e state news → InPlace (λ c. present_of (s3 c))
   places_after inner = InPlace-replaced (λ c. present_of (s0 c)) (λ c. present_of (s3 c)) id state news made e gone assembled whole.tree tree_after whole.places inner
+
+  pub few_after : length news ≤ 4096 → HaveFew (λ c. present_of (s3 c))
+  few_after few = few-replaced (λ c. present_of (s0 c)) (λ c. present_of (s3 c)) id news e (record e { node = with_state state e.node; children = made }) gone assembled whole.tree few whole.few
 
   pub here_after : is_some (present_of (s3 id)) ≡ true
   here_after = ap is_some assembled.is

@@ -1,46 +1,27 @@
 -- Blocks that hold the hulls of the roots.
-use Rattle.std.proofs.Common.{◌≡◌, ◌≢◌, ◌⊎◌, inl, inr, ℕ, zero, suc, ◌+◌, ◌*◌, ◌/◌, ◌%◌, ◌<◌, ◌≤◌, List, [], ◌∷◌, ◌++◌, length, set, swap, true, false, refl, ap, sym, subst, ◌∙◌, arith}
+use Rattle.std.proofs.Common.{◌≡◌, ◌≢◌, ◌⊎◌, inl, inr, ℕ, zero, suc, ◌+◌, ◌*◌, ◌/◌, ◌<◌, ◌≤◌, List, [], ◌∷◌, ◌++◌, length, swap, true, false, refl, ap, sym, subst, ◌∙◌, arith}
 use Rattle.std.specs.Prelude.{Option, Some, None, slice_get}
 use Rattle.std.proofs.lemmas.List.{length_push}
-use Rattle.std.proofs.lemmas.Option.{slice_get_within}
 use Rattle.cga_frame.specs.Box.{Box, touches}
 use Rattle.cga_fraction.proofs.Door.{eq_or_ne as nat_cases}
 use Rattle.cga_frame.proofs.Door.{touches_up}
 use Rattle.std.proofs.lemmas.Bool.{and_parts as both, cases_Bool as bool_cases}
 use Rattle.cga_index.specs.Tree.{IsFarRun, IsQuietRun}
-use Rattle.cga_forest.specs.declared.blocks.Blocks.{Blocks}
+use Rattle.cga_kept_hulls.specs.declared.blocks.Blocks.{Blocks}
 use Rattle.cga_forest.specs.declared.entry.Entry.{Entry}
-use Rattle.cga_forest.specs.declared.hulls.Hulls.{Hulls}
-use Rattle.cga_forest.specs.Blocks.{Level, AreCovered, AreCoveredBut, IsCovered, IsHeld, IsIn, IsWithBlocks, StaysHeld, StaysIn, block_asks, block_holds, block_touches, opt_touches}
-use Rattle.cga_forest.specs.Hull.{with_hulls, opt_within, holds_hulls}
-use Rattle.cga_forest.specs.Roots.{HasRoots, KeepsPlaces, Named, ids, root_under}
+use Rattle.cga_kept_hulls.specs.declared.hulls.Hulls.{Hulls}
+use Rattle.cga_kept_hulls.specs.Blocks.{Level, IsHeld, IsIn, StaysHeld, block_asks, block_holds, block_touches, opt_touches}
+use Rattle.cga_forest.specs.Blocks.{AreCovered, AreCoveredBut, IsCovered, IsWithBlocks}
+use Rattle.cga_kept_hulls.specs.Hull.{opt_within}
+use Rattle.cga_forest.specs.Roots.{HasRoots}
+use Rattle.cga_marked.specs.Map.{KeepsPlaces, Named, ids, id_under}
 use Rattle.cga_forest.specs.Tree.{ForestView, hulls_at}
 use Rattle.cga_forest.specs.View.{Seen, present_of}
 use Rattle.cga_forest.specs.Walked.{all_of, asking_of, forest_tree}
-use Rattle.cga_forest.proofs.Alike.{holds_from, probed_apart, probed_chain}
-use Rattle.cga_forest.proofs.Names.{contains_at, contains_under, place_once}
+use Rattle.cga_marked.proofs.Door.{contains_at, contains_under, place_once, swap_kept}
 use Rattle.cga_forest.proofs.Right.{present_some}
-use Rattle.cga_forest.proofs.Swaps.{swap_kept}
 
 -- ---- lists
-
-module _ {X : Type 0} where
-  get_set : (xs : List X) (i : ℕ) (y : X) → i < length xs → slice_get (set xs i y) i ≡ Some y
-  get_set [] i y h = absurd (omega (arith, h))
-  get_set (x ∷ xs) zero y h = refl
-  get_set (x ∷ xs) (suc i) y h = get_set xs i y (omega (arith, h))
-
-  get_other : (xs : List X) (i j : ℕ) (y : X) → j ≢ i → slice_get (set xs i y) j ≡ slice_get xs j
-  get_other [] i j y n = refl
-  get_other (x ∷ xs) zero zero y n = absurd (n refl)
-  get_other (x ∷ xs) zero (suc j) y n = refl
-  get_other (x ∷ xs) (suc i) zero y n = refl
-  get_other (x ∷ xs) (suc i) (suc j) y n = get_other xs i j y (λ e. n (ap (λ k. suc k) e))
-
-  get_left : (xs ys : List X) (i : ℕ) → i < length xs → slice_get (xs ++ ys) i ≡ slice_get xs i
-  get_left [] ys i h = absurd (omega (arith, h))
-  get_left (x ∷ xs) ys zero h = refl
-  get_left (x ∷ xs) ys (suc i) h = get_left xs ys i (omega (arith, h))
 
 -- the roots' ids by their places
 pub ids_within : (es : Named) (i c : ℕ) → slice_get (ids es) i ≡ Some c → i < length es
@@ -66,36 +47,6 @@ pushed_ids (e ∷ es) n id zero c h = inl h
 pushed_ids (e ∷ es) n id (suc i) c h = elim (pushed_ids es n id i c h) [ inl w ↦ inl w | inr q ↦ inr (omega (arith, q)) ]
 
 -- ---- what an entry of a level holds
-
-with_self : (h : Hulls) (o : Option Hulls) → holds_hulls (with_hulls h o) h ≡ true
-with_self h None = holds_from h h (λ p t. t)
-with_self h (Some k) = holds_from (with_hulls h (Some k)) h (λ p t. (probed_apart p h k t).0)
-
-with_other : (h k x : Hulls) → holds_hulls k x ≡ true → holds_hulls (with_hulls h (Some k)) x ≡ true
-with_other h k x e = holds_from (with_hulls h (Some k)) x (λ p t. probed_chain p k x e (probed_apart p h k t).1)
-
-still_one : (o : Option Hulls) (h x : Hulls) → block_holds (Some o) x ≡ true
-    → block_holds (Some (Some (with_hulls h o))) x ≡ true
-still_one None h x e = let z : false ≡ true = e in absurd (cc)
-still_one (Some k) h x e = with_other h k x e
-
-pub held_here : (xs : Level) (place : ℕ) (o : Option Hulls) (h : Hulls) → place / 16 < length xs
-    → IsIn (set xs (place / 16) (Some (with_hulls h o))) place h
-held_here xs place o h lt = ap (λ b. block_holds b h) (get_set xs (place / 16) (Some (with_hulls h o)) lt) ∙ with_self h o
-
-pub held_still : (xs : Level) (i : ℕ) (o : Option Hulls) (h : Hulls) → slice_get xs i ≡ Some o
-    → StaysIn xs (set xs i (Some (with_hulls h o)))
-held_still xs i o h at place x e = elim (nat_cases (place / 16) i) [
-  | inl q ↦ (
-      let was : block_holds (Some o) x ≡ true = ap (λ b. block_holds b x) (sym (ap (slice_get xs) q ∙ at)) ∙ e in
-      ap (λ b. block_holds b x) (ap (slice_get (set xs i (Some (with_hulls h o)))) q ∙ get_set xs i (Some (with_hulls h o)) (slice_get_within xs i o at)) ∙ still_one o h x was)
-  | inr n ↦ ap (λ b. block_holds b x) (get_other xs i (place / 16) (Some (with_hulls h o)) n) ∙ e
-]
-
--- an entry more, behind all places
-pub room_made : (xs : Level) (o : Option Hulls) (roots place : ℕ) (h : Hulls) → roots % 16 ≡ 0 → roots / 16 ≡ length xs
-    → place < roots → IsIn xs place h → IsIn (xs ++ o ∷ []) place h
-room_made xs o roots place h whole full lt e = ap (λ b. block_holds b h) (get_left xs (o ∷ []) (place / 16) (omega (arith, whole, full, lt))) ∙ e
 
 -- ---- the roots' hulls are held
 
@@ -220,11 +171,11 @@ place_is s roots r root place id p x name here named there at =
 
 pub place_there : (s : ℕ → Option Entry) (roots : Named) → HasRoots (λ c. present_of (s c)) roots
     → (root p : ℕ) (x : Entry) (name : List ℕ) → s root ≡ Some x → name ≡ x.node.shape.lot
-    → None ≡ root_under roots name → slice_get (ids roots) p ≡ Some root → ⊥
+    → None ≡ id_under roots name → slice_get (ids roots) p ≡ Some root → ⊥
 place_there s roots r root p x name here named none at =
     let w = root_at s roots r root p at in
     let same : name ≡ w.0 = named ∙ w.2 x here in
-    let z : None ≡ Some root = none ∙ ap (root_under roots) same ∙ contains_under roots w.0 p root r.apart w.1 in absurd (cc)
+    let z : None ≡ Some root = none ∙ ap (id_under roots) same ∙ contains_under roots w.0 p root r.apart w.1 in absurd (cc)
 
 -- ---- a block that doesn't touch
 

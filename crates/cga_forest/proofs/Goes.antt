@@ -6,14 +6,15 @@ use Rattle.cga_forest.specs.declared.entry.Entry.{Entry}
 use Rattle.cga_forest.specs.declared.node.Node.{Node}
 use Rattle.cga_forest.specs.declared.node.State.{State}
 use Rattle.cga_forest.specs.Node.{fits, with_state}
-use Rattle.cga_forest.specs.declared.hulls.Hulls.{Hulls}
-use Rattle.cga_forest.specs.Hull.{over, own_hulls, hulls_known}
+use Rattle.cga_kept_hulls.specs.declared.hulls.Hulls.{Hulls}
+use Rattle.cga_kept_hulls.specs.Hull.{over}
+use Rattle.cga_forest.specs.Hull.{own_hulls, hulls_known}
 use Rattle.cga_forest.proofs.Known.{known_own}
 use Rattle.cga_forest.specs.View.{Seen, kids, flag_if, present_of, marked_of, hulls_of, marked_hulls_of, rewritten, IsNewEntry, seen, restored, former_hulls}
 use Rattle.cga_forest.specs.Tree.{IsRight, AllRight, RightBut, under, goes, goes_at, stay_of, IsPlaced, IsPlacedChild}
 use Rattle.cga_tree.specs.Tree.{IsTree}
 use Rattle.cga_tree.specs.Replaced.{fits_at, IsReplaced, IsNewChild}
-use Rattle.cga_fraction.proofs.Door.{eq_or_ne as nat_cases}
+use Rattle.cga_fraction.proofs.Door.{eq_or_ne as nat_cases, or-true as or_true}
 use Rattle.std.proofs.lemmas.Bool.{cases_Bool as bool_cases}
 use Rattle.cga_forest.proofs.Under.{stay_flag}
 use Rattle.cga_forest.proofs.Tree.{cut_some}
@@ -22,7 +23,6 @@ use Rattle.cga_forest.proofs.Right.{right_exact, present_some, kids_present, rig
 use Rattle.cga_forest.proofs.Marks.{present_flag, marked_flag, hulls_flag, marked_hulls_flag}
 use Rattle.cga_forest.proofs.Replace.{old_or_new}
 pub use Rattle.cga_fraction.proofs.Door.{lt-length_from_slice_get as get_within}
-use Rattle.cga_fraction.proofs.Door.{or-true as or_true}
 
 at_find : (K : ℕ → List ℕ) (n : ℕ) (P : ℕ → Option Node → Bool) (o : Option ℕ) (w : Option Node) (c : ℕ)
     → goes_at K n P o w c ≡ true → (k : ℕ) × (o ≡ Some k) × (P k w ≡ false) × (under K n k c ≡ true)

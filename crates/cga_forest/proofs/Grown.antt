@@ -1,6 +1,6 @@
 -- Children placed one after the other.
 use Rattle.std.proofs.Common.{◌≡◌, ℕ, zero, suc, ◌+◌, ◌<◌, ◌≤◌, List, [], ◌∷◌, ◌++◌, length, drop, get_or, refl, sym, ap, subst, ◌∙◌, arith, Option, Some, None, slice_get, false, true≢false}
-use Rattle.std.specs.Prelude.{Result, Ok, Err, IsOk}
+use Rattle.std.specs.Prelude.{Result, Ok, Err, IsOk, OnOk}
 use Rattle.std.proofs.lemmas.List.{append_assoc, append-nil, length_push, at_drop_more, at_drop_all}
 use Rattle.cga_rule.specs.declared.grammar.Grammar.{Grammar}
 use Rattle.cga_word.specs.declared.answers.Answers.{Answers}
@@ -68,6 +68,7 @@ may_grow g e answers o deep m = record {
   low = λ h. let l = m.low (let n = children_long g e.node (emitted o) 0 in omega (arith, h, n)) in omega (arith, l, deep);
   was = m.inner;
   is = no_instance o;
+  few = let n = children_long g e.node (emitted o) 0 in let f = m.few in omega (arith, n, f);
   children = λ i w h.
       let z : 0 + i ≡ i = omega arith in
       subst (λ k. IsBelow (with_state (state_after g e.node answers o) e.node) k w) z (children_below g e.node (state_after g e.node answers o) (no_instance o) (emitted o) 0 i w h);
@@ -120,3 +121,8 @@ module _ (T : ℕ → Option Seen) (tree : IsTree T) (places : InPlace T) where
 
   pub path_deep : (c : ℕ) (d : Seen) → T c ≡ Some d → d.depth ≡ length d.node.shape.path
   path_deep c d h = sym (at_depth d.depth c d h refl d.parent refl)
+
+-- what holds where all went well, by what held there
+pub OnOk-map : {X E : Type 0} (r : Result X E) (P Q : Type 0) → (P → Q) → OnOk r P → OnOk r Q
+OnOk-map (Ok x) P Q f h = f h
+OnOk-map (Err e) P Q f h = tt

@@ -1,24 +1,28 @@
 -- Hulls by what is kept of them.
 use Rattle.std.proofs.Common.{◌≡◌, ◌≢◌, ◌∙◌, inl, inr, ℕ, refl, ap, sym}
 use Rattle.std.specs.Prelude.{Option, Some, None}
+use Rattle.cga_frame.specs.Box.{Box}
+use Rattle.cga_index.specs.Tree.{touches_some}
+use Rattle.cga_kept_hulls.specs.Blocks.{opt_touches}
 use Rattle.cga_forest.specs.declared.entry.Entry.{Entry}
 use Rattle.cga_forest.specs.declared.former.Former.{Former}
-use Rattle.cga_forest.specs.declared.kept_hulls.KeptHulls.{KeptHulls}
-use Rattle.cga_forest.specs.declared.kept_hulls.KeptHulls.TheVariants.{Own, Other}
+use Rattle.cga_kept_hulls.specs.declared.kept_hulls.KeptHulls.{KeptHulls}
+use Rattle.cga_kept_hulls.specs.declared.kept_hulls.KeptHulls.TheVariants.{Own, Other}
 use Rattle.cga_forest.specs.declared.node.Node.{Node}
 use Rattle.cga_forest.specs.declared.node.State.{State}
-use Rattle.cga_forest.specs.Hull.{hulls_alone, hulls_known, own_hulls}
+use Rattle.cga_forest.specs.Hull.{hulls_known, own_hulls}
 use Rattle.cga_forest.specs.Node.{bounds, with_state}
 use Rattle.cga_forest.specs.View.{restored}
 use Rattle.cga_fraction.proofs.Door.{eq_or_ne as nat_cases}
 
-state_bounds : (s : State) (n : Node) → bounds (with_state s n) ≡ bounds n
-unfolding bounds
-state_bounds s n = refl
+-- whether hulls touch an area, as a walk asks it
+pub touches_same : (a : Option Box) (b : Box) → opt_touches a b ≡ touches_some a b
+touches_same None b = refl
+touches_same (Some a) b = refl
 
 -- another state changes no hulls
 pub known_state : (s : State) (n : Node) (k : KeptHulls) → hulls_known (with_state s n) k ≡ hulls_known n k
-known_state s n (Own asks) = ap (λ b. hulls_alone b asks) (state_bounds s n)
+known_state s n (Own asks) = refl
 known_state s n (Other h) = refl
 
 pub known_restored : (e : Entry) (f : Option Former) (k : KeptHulls)
@@ -28,6 +32,7 @@ known_restored e (Some f) k = known_state f.state e.node k
 
 -- those of a node that came
 pub known_own : (e : Entry) (w : Node) → e.node ≡ w → e.hulls ≡ Own w.asks → hulls_known e.node e.hulls ≡ own_hulls w
+unfolding bounds
 known_own e w n h = λ i. hulls_known (n i) (h i)
 
 -- what is the same of one slot is of all, where no other changes

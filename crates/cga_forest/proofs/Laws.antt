@@ -4,15 +4,16 @@ use Rattle.std.specs.Prelude.{Option, Some, None, is_some, not, slice_get, if◌
 use Rattle.std.specs.List.{flat_map}
 use Rattle.cga_frame.specs.Box.{Box, holds, is_box}
 use Rattle.cga_frame.specs.Scope.{far_of}
-use Rattle.cga_fraction.proofs.Door.{cases_Option as opt_two}
+use Rattle.cga_fraction.proofs.Door.{cases_Option as opt_two, lt-length_from_slice_get_nat as within}
 use Rattle.cga_frame.proofs.Door.{corners_box, holds_itself}
 use Rattle.cga_index.proofs.Door.{in_present, present_in}
 use Rattle.cga_index.specs.Tree.{TreeView, Member, Apart, InTree, IsHullTree, IsQuietRun, LiesIn, all_nodes, below}
 use Rattle.cga_index.specs.Local.{IsLocalTree}
-use Rattle.cga_forest.specs.declared.hulls.Hulls.{Hulls}
+use Rattle.cga_kept_hulls.specs.declared.hulls.Hulls.{Hulls}
 use Rattle.cga_forest.specs.declared.node.Node.{Node}
 use Rattle.cga_forest.specs.Node.{bounds}
-use Rattle.cga_forest.specs.Hull.{over, own_hulls}
+use Rattle.cga_kept_hulls.specs.Hull.{over}
+use Rattle.cga_forest.specs.Hull.{own_hulls}
 use Rattle.cga_forest.specs.declared.entry.Entry.{Entry}
 use Rattle.cga_forest.specs.declared.former.Former.{Former}
 use Rattle.cga_forest.specs.View.{Seen, kids, marked_of, restored, seen}
@@ -20,10 +21,11 @@ use Rattle.cga_forest.proofs.Marks.{marked_plain}
 use Rattle.cga_forest.proofs.Right.{is_there, kids_present, parent_present, present_some}
 use Rattle.cga_forest.specs.Tree.{ForestView, IsForest, slot_at, node_at, marked_at, hulls_at, children_at, children_of, parent_of}
 use Rattle.cga_forest.specs.Walked.{forest_tree, lasting_tree, own_of, asks_of, depth_of, all_of, asking_of}
-use Rattle.cga_forest.specs.Roots.{ids}
-use Rattle.cga_forest.proofs.Names.{at_contains, contains_at, id_named, named_id, ids_once}
+use Rattle.cga_marked.specs.Map.{ids}
+use Rattle.cga_marked.proofs.Door.{at_contains, contains_at}
+use Rattle.cga_forest.proofs.Ids.{id_named, named_id, ids_once}
 use Rattle.cga_forest.proofs.Tops.{member_at, at_member}
-use Rattle.cga_forest.proofs.Alike.{Every, Asking, Nobody, Probe, probed, opt_holds, alike_probed, over_own, over_child, within}
+use Rattle.cga_kept_hulls.proofs.Door.{Every, Asking, Nobody, Probe, probed, opt_holds, alike_probed, over_own, over_child}
 use Rattle.cga_forest.proofs.Least.{own_asks, own_none, none_is}
 use Rattle.cga_forest.proofs.Moves.{apart_by_place}
 

@@ -3,13 +3,15 @@ use Rattle.std.proofs.Common.{◌≡◌, inl, inr, ℕ, zero, suc, ◌+◌, ◌<
 use Rattle.std.specs.Prelude.{Option, Some, None, is_some, not, slice_get, if◌then◌else◌, ◌↔◌, IfSome}
 use Rattle.cga_frame.specs.Box.{Box, holds}
 use Rattle.cga_forest.specs.declared.node.Node.{Node}
-use Rattle.cga_forest.specs.declared.hulls.Hulls.{Hulls}
+use Rattle.cga_kept_hulls.specs.declared.hulls.Hulls.{Hulls}
 use Rattle.cga_forest.specs.Node.{bounds}
-use Rattle.cga_forest.specs.Hull.{over, own_hulls}
+use Rattle.cga_kept_hulls.specs.Hull.{over}
+use Rattle.cga_forest.specs.Hull.{own_hulls}
 use Rattle.cga_forest.specs.View.{Seen}
 use Rattle.cga_forest.specs.Tree.{ForestView, IsWhole, under, children_of, node_at, hulls_at, IsLeastHull, IsLeastAsking, NoneAsks}
 use Rattle.std.proofs.lemmas.Bool.{cases_Bool as bool_cases}
-use Rattle.cga_forest.proofs.Alike.{Every, Asking, Nobody, Probe, probed, opt_holds, alike_probed, over_own, over_child, over_all, within}
+use Rattle.cga_kept_hulls.proofs.Door.{Every, Asking, Nobody, Probe, probed, opt_holds, alike_probed, over_own, over_child, over_all}
+use Rattle.cga_fraction.proofs.Door.{lt-length_from_slice_get_nat as within}
 use Rattle.cga_forest.proofs.Walk.{under_cases, under_none, under_self, under_child}
 
 module _ (p : Probe) (T : ℕ → Option Seen) (H : ℕ → Option Hulls) (whole : IsWhole T H) where

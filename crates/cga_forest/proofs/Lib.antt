@@ -8,7 +8,6 @@ mod Walk
 mod Place
 mod Replace
 mod Places
-mod Alike
 mod Right
 mod Marks
 mod Goes
@@ -22,13 +21,12 @@ mod Moves
 mod WentCame
 mod Above
 mod Laws
-mod Names
 mod ByName
-mod Swaps
-mod Shelf
 mod Grown
 mod Said
 mod Numbers
 mod Covered
 mod Heads
+mod Few
+mod Ids
 pub mod Door

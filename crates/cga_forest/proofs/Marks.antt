@@ -2,22 +2,25 @@
 use Rattle.std.proofs.Common.{◌≡◌, ◌≢◌, ℕ, List, [], ◌∷◌, ◌++◌, length, Bool, true, false, refl, ap, sym, subst, ◌∙◌, rules, inl, inr, arith}
 use Rattle.std.specs.Prelude.{Option, Some, None, if◌then◌else◌}
 use Rattle.cga_forest.specs.declared.entry.Entry.{Entry}
-use Rattle.cga_forest.specs.declared.hulls.Hulls.{Hulls}
+use Rattle.cga_kept_hulls.specs.declared.hulls.Hulls.{Hulls}
 use Rattle.cga_forest.specs.declared.node.Node.{Node}
-use Rattle.cga_forest.specs.Hull.{over, own_hulls, hulls_known}
+use Rattle.cga_kept_hulls.specs.Hull.{over}
+use Rattle.cga_forest.specs.Hull.{own_hulls, hulls_known}
 use Rattle.cga_forest.proofs.Known.{known_own, known_restored}
 use Rattle.cga_forest.specs.View.{Seen, IsPlain, IsNewEntry, last_from, kids, flag_if, present_of, marked_of, hulls_of, marked_hulls_of, settled, rolled, restored, former_hulls, seen}
 use Rattle.cga_forest.specs.Node.{IsTop}
 use Rattle.cga_forest.proofs.Places.{InPlace-same, InPlace-part, InPlace-root}
-use Rattle.cga_forest.specs.Tree.{ForestView, IsForest, InPlace, IsWhole, IsRight, AllRight, slot_at, node_at, marked_at, hulls_at, marked_hulls_at, children_at, under}
+use Rattle.cga_forest.proofs.Few.{few-part, few-root}
+use Rattle.cga_forest.specs.Tree.{ForestView, IsForest, InPlace, IsWhole, IsRight, AllRight, HaveFew, slot_at, node_at, marked_at, hulls_at, marked_hulls_at, children_at, under}
 use Rattle.cga_tree.specs.Tree.{IsTree}
 use Rattle.cga_fraction.proofs.Door.{eq_or_ne as nat_cases}
 use Rattle.std.proofs.lemmas.Bool.{cases_Bool as bool_cases}
 use Rattle.cga_forest.proofs.Tree.{IsTree-same, IsTree-cut, IsTree-root, cut_some}
 use Rattle.cga_forest.proofs.Walk.{under_into, under_onto, under_same, under_self}
-use Rattle.cga_forest.proofs.Names.{apart_moved}
+use Rattle.cga_marked.proofs.Door.{apart_moved}
 use Rattle.cga_forest.proofs.Tops.{HasRoots-same, HasRoots-added, HasRoots-cut, HasRoots-moved, under_parent}
-use Rattle.cga_forest.specs.Roots.{HasRoots, Named, AreApart}
+use Rattle.cga_forest.specs.Roots.{HasRoots}
+use Rattle.cga_marked.specs.Map.{Named, AreApart}
 use Rattle.std.specs.List.Sorted.{IsPermutation}
 use Rattle.cga_forest.proofs.Right.{AllRight-part, right_exact, right_same, over_zero, kids_present}
 
@@ -84,6 +87,7 @@ IsWhole-same S T H J t h w = record {
   tree = IsTree-same S T t w.tree;
   places = InPlace-same S T t w.places;
   right = AllRight-part S T H J (λ c e x. sym (t c) ∙ x) h w.tree w.right;
+  few = few-part S T (λ c e x. sym (t c) ∙ x) w.few;
 }
 
 pub IsForest-settled : (old new : ForestView) → ((c : ℕ) → slot_at new c ≡ settled (slot_at old c))
@@ -134,8 +138,13 @@ IsForest-marked old new f whole on still same hulls tops kept = record {
 }
 
 pub IsWhole-from : (S T : ℕ → Option Seen) (J : ℕ → Option Hulls) → ((c : ℕ) → T c ≡ S c) → AllRight T J → InPlace S
-    → IsTree S → IsWhole T J
-IsWhole-from S T J t r p s = record { tree = IsTree-same S T t s; places = InPlace-same S T t p; right = r }
+    → IsTree S → HaveFew S → IsWhole T J
+IsWhole-from S T J t r p s f = record {
+  tree = IsTree-same S T t s;
+  places = InPlace-same S T t p;
+  right = r;
+  few = few-part S T (λ c e x. sym (t c) ∙ x) f;
+}
 
 pub new_root : (s : Option Entry) (node : Node) (marking : Bool) → IsTop node
     → IsNewEntry s None node (length node.shape.path) (last_from 0 node.shape.path) marking
@@ -182,6 +191,7 @@ module _ (old new : ForestView) (id : ℕ) (node : Node) (fresh : slot_at old id
       | inl q ↦ leaf_right c d q t
       | inr n ↦ (let u = sym (ap present_of (others c n)) ∙ t in right_same (node_at old) (hulls_at old) (hulls_at new) (λ k x w. ap hulls_of (others k (apart k x w))) f.present.tree c d u (f.present.right c d u))
     ];
+    few = few-root (node_at old) (node_at new) id (seen made.entry) added_here made.leaf (λ c n. ap present_of (others c n)) f.present.few;
   }
 
   pub IsForest-added : IsForest new
@@ -220,6 +230,7 @@ module _ (old new : ForestView) (id : ℕ) (root : Seen) (is : node_at old id �
         f.present.tree;
     places = InPlace-part (node_at old) (node_at new) (λ c e t. (cut_some _ (node_at old c) e (sym (cut_present c) ∙ t)).1) f.present.places;
     right = AllRight-part (node_at old) (node_at new) (hulls_at old) (hulls_at new) (λ c e t. (cut_some _ (node_at old c) e (sym (cut_present c) ∙ t)).1) (λ c e t. ap hulls_of (h c) ∙ hulls_flag _ (slot_at old c)) f.present.tree f.present.right;
+    few = few-part (node_at old) (node_at new) (λ c e t. (cut_some _ (node_at old c) e (sym (cut_present c) ∙ t)).1) f.present.few;
   }
 
   pub marks_kept : (c : ℕ) → marked_at new c ≡ marked_at old c

@@ -2,14 +2,15 @@
 use Rattle.std.proofs.Common.{◌≡◌, ◌≢◌, inl, inr, ℕ, zero, suc, ◌+◌, ◌<◌, List, [], ◌∷◌, ◌++◌, length, Bool, true, false, refl, ap, sym, ◌∙◌, arith}
 use Rattle.std.specs.Prelude.{Option, Some, None, is_some, slice_get, if◌then◌else◌}
 use Rattle.cga_forest.specs.declared.entry.Entry.{Entry}
-use Rattle.cga_forest.specs.declared.hulls.Hulls.{Hulls}
-use Rattle.cga_forest.specs.Hull.{over, own_hulls, hulls_known, with_hulls, at_hulls, holds_hulls, alike, grown_from}
+use Rattle.cga_kept_hulls.specs.declared.hulls.Hulls.{Hulls}
+use Rattle.cga_kept_hulls.specs.Hull.{over, with_hulls, at_hulls, holds_hulls, alike, grown_from}
+use Rattle.cga_forest.specs.Hull.{own_hulls, hulls_known}
 use Rattle.cga_forest.specs.View.{Seen, seen, last_from, flag_if, hulls_of, present_of, rehulled, kids}
 use Rattle.cga_forest.specs.Tree.{IsRight, AllRight, RightBut, IsDue, hulls_now, hulls_next, parent_of, depth_at}
 use Rattle.cga_tree.specs.Tree.{IsTree}
 use Rattle.cga_fraction.proofs.Door.{eq_or_ne as nat_cases}
 use Rattle.std.proofs.lemmas.Bool.{cases_Bool as bool_cases}
-use Rattle.cga_forest.proofs.Alike.{alike_itself, alike_turned, grown_alike}
+use Rattle.cga_kept_hulls.proofs.Door.{alike_itself, alike_turned, grown_alike}
 use Rattle.cga_forest.proofs.Tree.{IsTree-same}
 pub use Rattle.cga_fraction.proofs.Door.{Some_from_is_some as is_there}
 

@@ -6,7 +6,8 @@ use Rattle.cga_forest.specs.declared.node.State.{State}
 use Rattle.cga_forest.specs.View.{Seen}
 use Rattle.cga_forest.specs.Tree.{Replaces, ReplacedBy}
 use Rattle.cga_tree.specs.Tree.{IsTree}
-use Rattle.cga_forest.specs.Roots.{HasRoots, Named}
+use Rattle.cga_forest.specs.Roots.{HasRoots}
+use Rattle.cga_marked.specs.Map.{Named}
 use Rattle.cga_forest.proofs.Tops.{HasRoots-replaced}
 use Rattle.cga_forest.specs.declared.moved.Moved.{Moved}
 use Rattle.cga_forest.specs.Moved.{ListsMoved}

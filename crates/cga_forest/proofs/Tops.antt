@@ -8,8 +8,9 @@ use Rattle.std.specs.Prelude.{Option, Some, None, slice_get, if◌then◌else◌
 use Rattle.cga_index.specs.Tree.{Member}
 use Rattle.cga_forest.specs.declared.node.Node.{Node}
 use Rattle.cga_forest.specs.View.{Seen}
-use Rattle.cga_forest.specs.Roots.{HasRoots, Named, AreApart}
-use Rattle.cga_forest.proofs.Names.{apart_out, out_still, out_left, none_among}
+use Rattle.cga_forest.specs.Roots.{HasRoots}
+use Rattle.cga_marked.specs.Map.{Named, AreApart}
+use Rattle.cga_marked.proofs.Door.{apart_out, out_still, out_left, none_among}
 use Rattle.cga_forest.specs.Tree.{under}
 use Rattle.cga_forest.specs.Node.{fits}
 use Rattle.cga_tree.specs.Tree.{IsTree}

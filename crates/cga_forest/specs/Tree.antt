@@ -1,17 +1,19 @@
 -- The nodes of a forest as a tree, and what each change makes of it.
-use Rattle.std.specs.Prelude.{◌≡◌, ◌≢◌, ◌⊎◌, ◌↔◌, ℕ, zero, suc, ◌<◌, List, [], length, Option, Some, None, Bool, true, false, ◌||◌, nat_eq, slice_get, if◌then◌else◌}
+use Rattle.std.specs.Prelude.{◌≡◌, ◌≢◌, ◌⊎◌, ◌↔◌, ℕ, zero, suc, ◌<◌, ◌≤◌, List, [], length, Option, Some, None, Bool, true, false, ◌||◌, nat_eq, slice_get, if◌then◌else◌}
 use Rattle.std.specs.List.{list_any}
 use Rattle.cga_frame.specs.Box.{Box, holds}
 use Rattle.cga_forest.specs.declared.entry.Entry.{Entry}
 use Rattle.cga_forest.specs.declared.node.Node.{Node}
-use Rattle.cga_forest.specs.declared.hulls.Hulls.{Hulls}
+use Rattle.cga_kept_hulls.specs.declared.hulls.Hulls.{Hulls}
 use Rattle.cga_forest.specs.declared.node.State.{State}
 use Rattle.cga_forest.specs.Node.{bounds, chain_kept, fits, with_state, IsBelow, IsTop}
-use Rattle.cga_forest.specs.Hull.{own_hulls, hulls_known, over, with_hulls, alike}
+use Rattle.cga_forest.specs.Hull.{own_hulls, hulls_known}
+use Rattle.cga_kept_hulls.specs.Hull.{over, with_hulls, alike}
 use Rattle.cga_word.specs.declared.mode.Mode.{Mode}
 use Rattle.cga_order.specs.Chain as order
 use Rattle.cga_order.specs.World.{is_instance}
-use Rattle.cga_forest.specs.Roots.{HasRoots, Named}
+use Rattle.cga_forest.specs.Roots.{HasRoots}
+use Rattle.cga_marked.specs.Map.{Named}
 use Rattle.cga_tree.specs.Tree.{IsTree}
 use Rattle.cga_tree.specs.Replaced.{fits_at, IsReplaced}
 use Rattle.cga_forest.specs.View.{Seen, IsPlain, IsNewEntry, last_from, slot, present_of, marked_of, hulls_of, marked_hulls_of}
@@ -42,10 +44,15 @@ pub record InPlace (T : ℕ → Option Seen) : Type 0 where
   pub child : (c p : ℕ) (d e : Seen) → T c ≡ Some d → d.parent ≡ Some p → T p ≡ Some e → IsBelow e.node d.index d.node
   pub chain : (c : ℕ) (d : Seen) → T c ≡ Some d → order.IsWhole (chain_kept d.node)
 
+-- no node has more children than one expansion makes
+abbrev pub HaveFew : (ℕ → Option Seen) → Type 0
+HaveFew T = (c : ℕ) (e : Seen) → T c ≡ Some e → length e.children ≤ 4096
+
 pub record IsWhole (T : ℕ → Option Seen) (H : ℕ → Option Hulls) : Type 0 where
   pub tree : IsTree T
   pub places : InPlace T
   pub right : AllRight T H
+  pub few : HaveFew T
 
 pub record ForestView : Type 0 where
   pub slots : List (Option Entry)
@@ -139,11 +146,12 @@ abbrev pub depth_at : Option Entry → ℕ
 depth_at None = 0
 depth_at (Some e) = length e.node.shape.path
 
--- the node isn't an instance, nor in that state, and these are children of it
+-- the node isn't an instance, nor in that state, and these few are children of it
 pub record IsInner (e : Seen) (state : State) (news : List Node) : Type 0 where
   pub low : 0 < length news → e.depth < 256
   pub was : is_instance e.node.kind ≡ false
   pub is : is_instance state.kind ≡ false
+  pub few : length news ≤ 4096
   pub children : (i : ℕ) (w : Node) → slice_get news i ≡ Some w → IsBelow (with_state state e.node) i w
 
 -- there is a node, and it may have such children

@@ -6,11 +6,11 @@ use Rattle.cga_tree.specs.Tree as tree
 use Rattle.cga_forest.specs.declared.entry.Entry.{Entry}
 use Rattle.cga_forest.specs.declared.former.Former.{Former}
 use Rattle.cga_forest.specs.declared.node.Node.{Node}
-use Rattle.cga_forest.specs.declared.hulls.Hulls.{Hulls}
+use Rattle.cga_kept_hulls.specs.declared.hulls.Hulls.{Hulls}
 use Rattle.cga_forest.specs.declared.node.State.{State}
 use Rattle.cga_forest.specs.Node.{with_state}
-use Rattle.cga_forest.specs.declared.kept_hulls.KeptHulls.{KeptHulls}
-use Rattle.cga_forest.specs.declared.kept_hulls.KeptHulls.TheVariants.{Own}
+use Rattle.cga_kept_hulls.specs.declared.kept_hulls.KeptHulls.{KeptHulls}
+use Rattle.cga_kept_hulls.specs.declared.kept_hulls.KeptHulls.TheVariants.{Own}
 use Rattle.cga_forest.specs.Hull.{hulls_known}
 
 abbrev pub slot : List (Option Entry) → ℕ → Option Entry

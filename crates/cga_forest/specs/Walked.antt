@@ -2,9 +2,9 @@
 use Rattle.std.specs.Prelude.{ℕ, Option, Some, None, Bool, false, ◌&&◌, is_some, pos, if◌then◌else◌}
 use Rattle.cga_frame.specs.Box.{Box}
 use Rattle.cga_index.specs.Tree.{TreeView}
-use Rattle.cga_forest.specs.declared.hulls.Hulls.{Hulls}
+use Rattle.cga_kept_hulls.specs.declared.hulls.Hulls.{Hulls}
 use Rattle.cga_forest.specs.Node.{bounds}
-use Rattle.cga_forest.specs.Roots.{ids}
+use Rattle.cga_marked.specs.Map.{ids}
 use Rattle.cga_forest.specs.View.{Seen}
 use Rattle.cga_forest.specs.Standing.{standing_of}
 use Rattle.cga_forest.specs.Tree.{ForestView, node_at, marked_at, hulls_at, children_at}

@@ -1,15 +1,17 @@
 //! How the blocks are kept up with the roots.
 ghost use Rattle.std.specs.Prelude.{◌≡◌, ◌≤◌, ◌<◌, ℕ, Some, slice_get};
-ghost use Rattle.cga_forest.specs.Blocks.{AreCovered, AreCoveredBut, IsCovered, StaysHeld};
-ghost use Rattle.cga_forest.specs.Roots.{HasRoots, ids};
+ghost use Rattle.cga_forest.specs.Blocks.{AreCovered, AreCoveredBut, IsCovered};
+ghost use Rattle.cga_kept_hulls.specs.Blocks.{StaysHeld};
+ghost use Rattle.cga_forest.specs.Roots.{HasRoots};
+ghost use Rattle.cga_marked.specs.Map.{ids};
 ghost use Rattle.cga_forest.specs.View.{at, hulls_of, present_of};
 
-use crate::blocks::Blocks;
-use crate::roots::Roots;
 use crate::store::Store;
+use cga_kept_hulls::Blocks;
+use cga_marked::MarkedMap;
 
 /// Takes the hulls of the root at a place into its block and its group.
-pub fn cover_place(blocks: &mut Blocks, store: &Store, roots: &Roots, place: usize)
+pub fn cover_place(blocks: &mut Blocks, store: &Store, roots: &MarkedMap, place: usize)
     ensures here { IsCovered blocks.new roots.now.list (λ c. hulls_of (at store.now c)) place }
     ensures kept { StaysHeld blocks.old blocks.new }
 {
@@ -21,7 +23,7 @@ pub fn cover_place(blocks: &mut Blocks, store: &Store, roots: &Roots, place: usi
 }
 
 /// The same for places in a row.
-fn cover_places(blocks: &mut Blocks, store: &Store, roots: &Roots, from: usize, to: usize)
+fn cover_places(blocks: &mut Blocks, store: &Store, roots: &MarkedMap, from: usize, to: usize)
     ensures here { (place : ℕ) → from ≤ place → place < to → IsCovered blocks.new roots.now.list (λ c. hulls_of (at store.now c)) place }
     ensures kept { StaysHeld blocks.old blocks.new }
 {
@@ -31,7 +33,7 @@ fn cover_places(blocks: &mut Blocks, store: &Store, roots: &Roots, from: usize, 
 }
 
 /// Makes all blocks anew.
-pub fn cover_all(blocks: &mut Blocks, store: &Store, roots: &Roots)
+pub fn cover_all(blocks: &mut Blocks, store: &Store, roots: &MarkedMap)
     ensures { AreCovered blocks.new roots.now.list (λ c. hulls_of (at store.now c)) }
 {
     blocks.clear();
@@ -39,7 +41,7 @@ pub fn cover_all(blocks: &mut Blocks, store: &Store, roots: &Roots)
 }
 
 /// Makes a group and its blocks anew.
-fn renew(blocks: &mut Blocks, store: &Store, roots: &Roots, group: usize)
+fn renew(blocks: &mut Blocks, store: &Store, roots: &MarkedMap, group: usize)
     requires { AreCovered blocks.old roots.now.list (λ c. hulls_of (at store.now c)) }
     ensures { AreCovered blocks.new roots.now.list (λ c. hulls_of (at store.now c)) }
 {
@@ -57,7 +59,7 @@ fn renew(blocks: &mut Blocks, store: &Store, roots: &Roots, group: usize)
 }
 
 /// Makes the groups anew that took hulls in, so that they and their blocks hold no more than they have to.
-pub fn tighten(blocks: &mut Blocks, store: &Store, roots: &Roots)
+pub fn tighten(blocks: &mut Blocks, store: &Store, roots: &MarkedMap)
     requires { AreCovered blocks.old roots.now.list (λ c. hulls_of (at store.now c)) }
     ensures { AreCovered blocks.new roots.now.list (λ c. hulls_of (at store.now c)) }
 {
@@ -69,7 +71,7 @@ pub fn tighten(blocks: &mut Blocks, store: &Store, roots: &Roots)
 }
 
 /// The place of a root.
-fn place_of(store: &Store, roots: &Roots, root: usize) -> Option<usize>
+fn place_of(store: &Store, roots: &MarkedMap, root: usize) -> Option<usize>
     requires tops { HasRoots (λ c. present_of (at store.now c)) roots.now.list }
     ensures { (place : ℕ) → slice_get (ids roots.now.list) place ≡ Some root → result ≡ Some place }
 {
@@ -79,7 +81,7 @@ fn place_of(store: &Store, roots: &Roots, root: usize) -> Option<usize>
 }
 
 /// Takes the hulls of a root into its block, where they changed.
-pub fn cover_root(blocks: &mut Blocks, store: &Store, roots: &Roots, changed: Option<usize>)
+pub fn cover_root(blocks: &mut Blocks, store: &Store, roots: &MarkedMap, changed: Option<usize>)
     requires tops { HasRoots (λ c. present_of (at store.now c)) roots.now.list }
     requires others { AreCoveredBut changed blocks.old roots.now.list (λ c. hulls_of (at store.now c)) }
     ensures { AreCovered blocks.new roots.now.list (λ c. hulls_of (at store.now c)) }

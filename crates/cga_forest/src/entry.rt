@@ -1,16 +1,11 @@
 ghost use Rattle.std.specs.Prelude.{◌≡◌, true, Some};
-ghost use Rattle.cga_frame.specs.Box.{touches};
-ghost use Rattle.cga_index.specs.Tree.{touches_some};
 ghost use Rattle.cga_forest.specs.Hull.{hulls_known};
 ghost use Rattle.cga_forest.specs.View.{rewritten, present_of, marked_of, hulls_of, marked_hulls_of, KeepsBooks};
 
 use crate::former::Former;
 use crate::former_box::FormerBox;
-use crate::hulls::Hulls;
-use crate::hulls_box::HullsBox;
-use crate::kept_hulls::KeptHulls;
 use crate::node::{Node, State};
-use cga_frame::WorldBox;
+use cga_kept_hulls::{Hulls, HullsBox, KeptHulls};
 
 #[derive(Drop, Debug)]
 pub struct Entry {
@@ -29,33 +24,7 @@ impl Entry {
     pub fn known_hulls(&self) -> Hulls
         ensures { result ≡ hulls_known self.now.node self.now.hulls }
     {
-        self.hulls.of(&self.node)
-    }
-
-    pub fn hull(&self) -> WorldBox
-        ensures { result ≡ (hulls_known self.now.node self.now.hulls).all }
-    {
-        self.hulls.all(&self.node)
-    }
-
-    pub fn asking_hull(&self) -> Option<WorldBox>
-        ensures { result ≡ (hulls_known self.now.node self.now.hulls).asking }
-    {
-        self.hulls.asking(&self.node)
-    }
-
-    /// Whether the box round all touches an area.
-    pub fn touches(&self, area: &WorldBox) -> bool
-        ensures { result ≡ touches (hulls_known self.now.node self.now.hulls).all area.now }
-    {
-        self.hulls.touches(&self.node, area)
-    }
-
-    /// Whether the box round those that ask does, where there is one.
-    pub fn asks_near(&self, area: &WorldBox) -> bool
-        ensures { result ≡ touches_some (hulls_known self.now.node self.now.hulls).asking area.now }
-    {
-        self.hulls.ask_near(&self.node, area)
+        self.hulls.of(&self.node.shape.scope)
     }
 
     /// Takes no memory but the spare box.

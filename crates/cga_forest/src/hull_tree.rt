@@ -54,15 +54,19 @@ impl HullTree for Forest {
     }
 
     fn hull(&self, node: NodeId) -> WorldBox {
-        self.store.entry(node.number() as usize).hull()
+        let entry = self.store.entry(node.number() as usize);
+        entry.hulls.hull(&entry.node.shape.scope)
     }
 
     fn touches(&self, node: NodeId, area: &WorldBox) -> bool {
-        self.store.entry(node.number() as usize).touches(area)
+        let entry = self.store.entry(node.number() as usize);
+        entry.hulls.touches(&entry.node.shape.scope, area)
     }
 
+    #[tactic(auto, using(crate::proofs::Known::touches_same))]
     fn asks_near(&self, node: NodeId, area: &WorldBox) -> bool {
-        self.store.entry(node.number() as usize).asks_near(area)
+        let entry = self.store.entry(node.number() as usize);
+        entry.hulls.asks_near(&entry.node.shape.scope, area)
     }
 
     fn standing(&self, node: NodeId, by: NodeId) -> Standing {
@@ -79,7 +83,8 @@ impl HullTree for Forest {
     }
 
     fn asking_hull(&self, node: NodeId) -> Option<WorldBox> {
-        self.store.entry(node.number() as usize).asking_hull()
+        let entry = self.store.entry(node.number() as usize);
+        entry.hulls.asking_hull(&entry.node.shape.scope)
     }
 }
 

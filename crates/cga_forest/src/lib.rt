@@ -9,7 +9,6 @@
 #![tactic(auto)]
 
 mod below;
-mod blocks;
 mod change;
 mod covering;
 mod entry;
@@ -19,12 +18,8 @@ mod former;
 mod former_box;
 mod holds;
 mod hull_tree;
-mod hulls;
-mod hulls_box;
-mod kept_hulls;
 mod last_setting;
 mod lasting_askers;
-mod level;
 mod listing;
 mod lots;
 mod mark;
@@ -34,12 +29,9 @@ mod new_hulls;
 mod node;
 mod placing;
 mod plan;
-mod roots;
 mod setting;
 mod slots;
-mod spares;
 mod standing;
-mod step;
 mod store;
 mod tree_law;
 
@@ -54,10 +46,11 @@ ghost use Rattle.cga_forest.specs.Numbers.{KeepsNumbers};
 ghost use Rattle.cga_forest.specs.Placing.{MayGrow, children_after, state_after};
 ghost use Rattle.cga_forest.specs.Tree.{ForestView, HasInner, content_of, above, IsLeastHull, IsLeastAsking, NoneAsks, Replaces, node_at, marked_at, KeepsMark};
 
-use blocks::Blocks;
 use cga_fraction::{List, NoMemory};
 use cga_frame::WorldBox;
 use cga_index::NodeId;
+use cga_kept_hulls::{Blocks, Spares};
+use cga_marked::MarkedMap;
 use cga_order::Chain;
 use cga_rule::Grammar;
 use cga_shape::{Answers, Emitted, ShapeFault};
@@ -71,10 +64,8 @@ pub use moved::Moved;
 pub use node::{Node, State};
 use placing::{children_after, kind_after};
 use plan::Plan;
-use roots::Roots;
 use setting::setting_of;
 use slots::{depth_of, parent_at, replace};
-use spares::Spares;
 use std::alloc::Global;
 use std::marker::Model;
 use store::Store;
@@ -84,7 +75,7 @@ pub use tree_law::forests_are_hull_trees;
 #[derive(Drop)]
 pub struct Forest {
     store: Store,
-    roots: Roots,
+    roots: MarkedMap,
     blocks: Blocks,
     spares: Spares,
     marking: bool,
@@ -109,7 +100,7 @@ impl Forest {
     {
         Forest {
             store: Store::new(alloc),
-            roots: Roots::new(alloc),
+            roots: MarkedMap::new(alloc),
             blocks: Blocks::new(alloc),
             spares: Spares::new(alloc),
             marking: false,
@@ -167,7 +158,8 @@ impl Forest {
         requires here { IsSome (node_at self.now id) }
         ensures least { IsLeastHull self.now id result }
     {
-        self.store.entry(slot_of(id)).hull()
+        let entry = self.store.entry(slot_of(id));
+        entry.hulls.hull(&entry.node.shape.scope)
     }
 
     /// The same for those of them that ask, if any does.
@@ -176,7 +168,8 @@ impl Forest {
         ensures least { IfSome result (λ h. IsLeastAsking self.now id h) }
         ensures none { (result ≡ None) ↔ NoneAsks self.now id }
     {
-        self.store.entry(slot_of(id)).asking_hull()
+        let entry = self.store.entry(slot_of(id));
+        entry.hulls.asking_hull(&entry.node.shape.scope)
     }
 
     /// Gives a node the outcome of its expansion and the answers that it was asked with. An old child stays with its

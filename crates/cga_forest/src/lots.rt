@@ -9,13 +9,13 @@ ghost use Rattle.cga_forest.specs.Tree.{HasNoLot, IsRootOf, IsWithout, KeepsMark
 
 use crate::Forest;
 use crate::covering::cover_place;
-use crate::hulls::Hulls;
 use crate::node::Node;
 use crate::placing::root_node;
 use crate::slots::set_aside;
 use crate::store::add_node;
 use cga_fraction::NoMemory;
 use cga_index::NodeId;
+use cga_kept_hulls::Hulls;
 use cga_rule::Grammar;
 use cga_shape::Lot;
 use cga_word::Name;
@@ -46,7 +46,7 @@ impl Forest {
     {
         let (alloc, marking, name) = (self.alloc, self.marking, node.lot());
         let last = self.roots.len();
-        self.blocks.make_room(last, &Hulls::own(&node))?;
+        self.blocks.make_room(last, &node.own_hulls())?;
         self.store.reserve(1)?;
         self.roots.reserve()?;
         let id = add_node(&mut self.store, alloc, marking, node, None);

@@ -1,6 +1,5 @@
 use crate::entry::Entry;
-use crate::hulls::Hulls;
-use crate::hulls_box::HullsBox;
+use cga_kept_hulls::{Hulls, HullsBox};
 use cga_marked::Change;
 
 /// Other hulls for a node, with a box for them. Under a mark the first such change keeps the former ones.

@@ -3,6 +3,7 @@ ghost use Rattle.cga_order.specs.Head.{IsHead};
 use crate::fitting::are_alike;
 use cga_fraction::List;
 use cga_frame::WorldBox;
+use cga_kept_hulls::Hulls;
 use cga_order::Chain;
 use cga_shape::{Answers, Kind, Shape};
 use cga_word::Name;
@@ -36,6 +37,7 @@ impl Node {
     ghost use Rattle.std.specs.Prelude.{◌≡◌, ◌↔◌, IsTrue};
     ghost use Rattle.cga_frame.specs.Box.{touches};
     ghost use Rattle.cga_order.specs.Seen.{chain_of};
+    ghost use Rattle.cga_forest.specs.Hull.{own_hulls};
     ghost use Rattle.cga_forest.specs.Node.{AreAlike, bounds, chain_kept, fits, state_of, with_state};
 
     pub fn lot(&self) -> Name
@@ -57,6 +59,13 @@ impl Node {
         ensures { result ≡ touches (bounds self.now) area.now }
     {
         self.shape.scope.touches(area)
+    }
+
+    /// Its hulls, where nothing stands below it.
+    pub fn own_hulls(&self) -> Hulls
+        ensures { result ≡ own_hulls self.now }
+    {
+        Hulls::alone(self.bounds(), self.asks)
     }
 
     /// Where it stands, with the priorities kept on the way there.

@@ -7,7 +7,7 @@ ghost use Rattle.cga_forest.specs.Placing.{IsRootNode, IsSaid, child_asks, child
 use crate::last_setting::LastSetting;
 use crate::node::Node;
 use crate::setting::{Setting, setting_of};
-use cga_fraction::{Fraction, List, NoMemory};
+use cga_fraction::{List, NoMemory};
 use cga_order::child_head;
 use cga_rule::Grammar;
 use cga_shape::{Answers, Emitted, Kind, Lot, Shape, ShapeFault, root_shape};
@@ -158,7 +158,7 @@ fn child_shape(
             lot,
             path,
             symbol: *symbol,
-            args: copied(alloc, args.as_slice())?,
+            args: List::from_vec(Vec::from_slice(alloc, args.as_slice())?),
             scope: *scope,
             seed: *seed,
         }),
@@ -171,12 +171,6 @@ fn child_shape(
             seed: *seed,
         }),
     }
-}
-
-fn copied(alloc: Global, args: &[Fraction]) -> Result<List<Fraction>, NoMemory>
-    ensures { IfOk result (λ made. made ≡ args.now) }
-{
-    Ok(List::from_vec(Vec::from_slice(alloc, args)?))
 }
 
 fn child_kind(emitted: &Emitted) -> Kind

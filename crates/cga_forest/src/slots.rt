@@ -1,5 +1,5 @@
 ghost use Rattle.std.specs.Prelude.{IfSome, IsSome, [], true, false, ◌≢◌, ◌≡◌, ◌<◌, ◌≤◌, ◌+◌, ◌-◌, ℕ, length, IfOk, OnOk, OnErr, slice_get, Some, None, is_some, option_copied};
-ghost use Rattle.cga_forest.specs.Hull.{at_hulls};
+ghost use Rattle.cga_kept_hulls.specs.Hull.{at_hulls};
 ghost use Rattle.cga_forest.specs.View.{Seen, at, HasRoom, KeepsRoom, present_of, marked_of, hulls_of, marked_hulls_of, kids, flag_if};
 ghost use Rattle.cga_forest.specs.Tree.{IsWhole, AllRight, RightBut, IsDue, HasInner, ReplacedBy, IsAt, IsPlaced, depth_at, parent_of, under, goes, stay_of, stay_child, hulls_now, hulls_next, above};
 ghost use Rattle.cga_forest.specs.declared.node.Node.{Node};
@@ -7,10 +7,9 @@ ghost use Rattle.cga_forest.specs.Numbers.{StaysTaken};
 ghost use Rattle.cga_tree.specs.Tree.{IsTree};
 
 use crate::former_box::FormerBox;
-use crate::hulls::Hulls;
 use crate::node::{Node, State};
-use crate::spares::Spares;
 use crate::store::{Store, add_node, child_count, flag, rewrite, set_hulls};
+use cga_kept_hulls::{Hulls, Spares};
 use std::alloc::Global;
 
 pub fn child_at(store: &Store, id: usize, place: usize) -> Option<usize>
@@ -145,7 +144,7 @@ fn child_hulls(store: &Store, id: usize, place: usize) -> Option<Hulls>
 fn hulls_over(store: &Store, id: usize) -> Option<Hulls>
     ensures { result ≡ hulls_now (λ c. hulls_of (at store.now c)) (at store.now id) }
 {
-    let mut hulls = Hulls::own(&store.get(id)?.node);
+    let mut hulls = store.get(id)?.node.own_hulls();
     for place in 0..child_count(store, id) {
         hulls = hulls.with(&child_hulls(store, id, place));
     }

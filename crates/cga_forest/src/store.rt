@@ -3,12 +3,10 @@ ghost use Rattle.cga_forest.specs.View.{at, HasRoom, KeepsRoom, IsNewEntry, last
 
 use crate::entry::Entry;
 use crate::former_box::FormerBox;
-use crate::hulls::Hulls;
-use crate::hulls_box::HullsBox;
-use crate::kept_hulls::KeptHulls;
 use crate::new_content::NewContent;
 use crate::new_hulls::NewHulls;
 use crate::node::{Node, State};
+use cga_kept_hulls::{Hulls, HullsBox, KeptHulls};
 use cga_marked::MarkedSlab;
 use std::alloc::Global;
 

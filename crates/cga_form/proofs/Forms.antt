@@ -28,6 +28,7 @@ module _ {A B : Type 0} (v : A → Pieces) (w : B → Pieces) (ps : Pieces) wher
   seq_after c x b d h =
       (v h.2 ++ h.6.0, h.6.1 ∙ append_assoc ps (v h.2) h.6.0, subst (λ z. Writes c (v h.2 ++ h.6.0) z d) (sym h.4) (join (v h.2) h.6.0 h.0 h.1 c h.3 d (of_after v c h.0 h.2 h.3 h.5) h.6.2))
 
+-- where a reader takes the next part, and those behind it all that follows, one after the other they take both
 pub next : {A B : Type 0} {v : A → Pieces} {w : B → Pieces} {n m l : ℕ} {ps : Pieces} {p : Reader A} {f : A → Reader B}
     →
     Reads n m v p → ((a : A) → Goes m l (ps ++ v a) w (f a)) → Goes n l ps w (p >>= f)
@@ -38,6 +39,7 @@ next {v = v} {w = w} {n = n} {m = m} {l = l} {ps = ps} {p = p} {f = f} g h = rec
       (s.0 ++ t.0, t.1, t.2, seq_after v w ps c (s.0 ++ t.0) t.1 t.2 (s.0, t.0, s.1, s.2, refl, s.3, t.3));
 }
 
+-- where all pieces of a value stand already, a reader that reads nothing and gives it is right
 pub done : {B : Type 0} {w : B → Pieces} {n : ℕ} {ps : Pieces} {b : B} → w b ≡ ps → Goes n n ps w (pure b)
 done {w = w} {n = n} {ps = ps} {b = b} e = record {
   runs = pure_runs {L = After ps w} n b (λ c. ([], e ∙ append_nil ps, nothing c));
@@ -60,6 +62,7 @@ one_after : {A : Type 0} (w : A → Pieces) (s : Space) (l : Lexeme) (a : A) →
     → After [] w c (l ∷ []) a c
 one_after w s l a e c = (token s l ∷ [], e, token_first c s l [] [] c (nothing c))
 
+-- where what a token stands for is written as that token, the reader of one token takes it
 pub one_token : {A : Type 0} {n m : ℕ} {w : A → Pieces} {decode : Lexeme → Option A} → Token n m w decode
     → Reads n m w (single decode)
 one_token {n = n} {m = m} {w = w} {decode = decode} t =
@@ -110,6 +113,7 @@ rand_piece j = drawn j ∷ []
 drawn_after : (c : ℕ) → After [] rand_piece c (lexeme.Keyword k.Rand ∷ []) (c + 1) (c + 1)
 drawn_after c = (rand_piece (c + 1), refl, one c (drawn (c + 1)) [] (lexeme.Keyword k.Rand ∷ []) [] (c + 1) (c + 1) (refl, refl, refl) (nothing (c + 1)))
 
+-- where a token is taken only as the word of a rand, its reader takes that with its number
 pub one_rand : {decode : Lexeme → Option (Unit {0})} → ((l : Lexeme) → decode l ≡ Some tt → l ≡ lexeme.Keyword k.Rand)
     → (n : ℕ) → Reads n n rand_piece (drawn_word decode)
 one_rand {decode = decode} is n = record {
@@ -123,6 +127,7 @@ pub either : {A : Type 0} {n m : ℕ} {ps : Pieces} {w : A → Pieces} {p q : Re
     → Goes n m ps w p → Goes n m ps w q → Goes n m ps w (peeked test p q)
 either {n = n} {m = m} {ps = ps} {w = w} {p = p} {q = q} test g h = record { runs = peeked_runs (After ps w) n m test p q g.runs h.runs; some = g.some }
 
+-- where some text goes on after the pieces, a reader that refuses the next token is right there
 pub refusing : {A : Type 0} {n m : ℕ} {ps : Pieces} {w : A → Pieces} → Some_text (After ps w) → Goes n m ps w refuse
 refusing {n = n} {m = m} {ps = ps} {w = w} s = record { runs = refuse_runs {L = After ps w} n m s; some = s }
 
@@ -151,6 +156,7 @@ each_of w c x (a ∷ xs) d h = (h.0, h.1, h.2, h.3, of_after w c h.0 a h.2 h.4, 
 abbrev pub Long : {A : Type 0} → (A → Pieces) → Type 0
 Long {A} w = (c : ℕ) (x : List Lexeme) (a : A) (d : ℕ) → Writes c (w a) x d → 1 ≤ length x
 
+-- where no value is written as nothing and a reader takes each, reading while a test passes takes lists of them
 pub listed : {A : Type 0} {w : A → Pieces} {n : ℕ} {p : Reader A} (test : Lexeme → Bool) → Long w → Reads n n w p
     → Reads n n (all_pieces w) (many test p)
 listed {w = w} {n = n} {p = p} test long g = record {
@@ -174,6 +180,7 @@ few_is : {A : Type 0} (most : ℕ) (w : A → Pieces) (xs : List A) → length x
     → few_pieces most w xs ≡ concat (map w xs)
 few_is most w xs h = let e : nat_le (length xs) most ≡ true = grind (arith, nat_tests) in ap (λ b. if b then concat (map w xs) else never ∷ []) e
 
+-- where a reader takes each value, reading at most so many while a test passes takes lists of at most so many
 pub limited : {A : Type 0} {w : A → Pieces} {n : ℕ} {p : Reader A} (test : Lexeme → Bool) (most : ℕ) → Reads n n w p
     → Reads n n (few_pieces most w) (many_from test p most [])
 limited {w = w} {n = n} {p = p} test most g = record {
@@ -185,6 +192,7 @@ limited {w = w} {n = n} {p = p} test most g = record {
   some = λ c. ([], [], c, (few_pieces most w [], refl, subst (λ z. Writes c z [] c) (sym (few_is most w [] (omega arith))) (nothing c)));
 }
 
+-- where no value is written as nothing and a reader takes each, fewer tokens are left behind one
 pub shorter : {A : Type 0} (w : A → Pieces) (n : ℕ) (p : Reader A) → Long w → Reads n n w p
     → (i : Input) (x : A) (j : Input) → p i ≡ Ok (x, j) → length j.left < length i.left
 shorter w n p long g = shortens (After [] w) n (λ _. false) p g.runs (λ c x a d h. long c x a d (of_after w c x a d h))

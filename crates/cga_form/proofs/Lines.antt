@@ -79,6 +79,7 @@ module _ {A : Type 0} (w : A → Pieces) (p : ℕ → Reader A) (form : IsForm w
       → Tells w n text (Ok a)
   form_found n text a o e = judged_as n text (Ok (a, o)) e
 
+  -- where a line isn't read as a member of a form, the fault is what its tokens tell
   pub form_refused : (n : ℕ) (text : List Lexeme) (f : Fault) → complete n (at text 0) ≡ Err f → Tells w n text (Err f)
   form_refused n text f e = judged_as n text (Err f) e
 

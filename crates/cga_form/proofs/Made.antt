@@ -12,17 +12,21 @@ use Rattle.cga_form.proofs.Singles.{name_token, whole_token, word_token, name_re
 use Rattle.cga_form.proofs.Values.{value_pieces, value_reads}
 use Rattle.cga_form.proofs.ValuesAgain.{a_slash, value_again}
 
+-- where a word is taken as itself, it is a form
 abbrev pub word_part : (bytes : List ℕ) → a_word bytes (lexeme.Name bytes) ≡ Some tt
     → IsForm (word_pieces bytes) (λ n. single (a_word bytes))
 word_part bytes e = record { follows = nothing; exact = λ n. one_token (word_token bytes n e); again = λ n. record { all = λ u. took_last (a_word bytes) u e } }
 
+-- names are a form
 abbrev pub name_part : IsForm name_pieces (λ n. name)
 name_part = record { follows = nothing; exact = λ n. one_token (name_token n); again = λ n. record { all = λ x. by_name x (λ e. took_last a_name x (name_read x e)) } }
 
+-- where the lower bound is taken as itself, whole numbers within both bounds are a form
 abbrev pub whole_part : (low high : ℕ) → a_whole low high (number low) ≡ Some low
     → IsForm (whole_pieces low high) (λ n. whole_between low high)
 whole_part low high e = record { follows = nothing; exact = λ n. one_token (whole_token low high n e); again = λ n. record { all = λ x. whole_leads low high x (λ e. took_last (a_whole low high) x e) } }
 
+-- values are a form
 abbrev pub value_part : IsForm value_pieces (λ n. value)
 value_part = record { follows = a_slash; exact = value_reads; again = λ n. value_again }
 

@@ -25,6 +25,7 @@ module _ {A : Type 0} (w : A → Pieces) (unique : (text : List Lexeme) (a b : A
   once_short bytes true f g h k = h ∙ sym k
   once_short bytes false f g h k = once_said (length bytes + 1) (tokens_of bytes) f g h k
 
+  -- where no text spells two members, a line of a block tells one thing
   pub once_block : (l : Line) (f g : Found A) → BlockTells w l f → BlockTells w l g → f ≡ g
   once_block l f g h k = once_short l.bytes (is_long l) f g h k
 
@@ -84,6 +85,7 @@ module _ {A : Type 0} (w : A → Pieces) (unique : (text : List Lexeme) (a b : A
       → IsFaulty w lines f → ⊥
   good_or_faulty lines all f h k = says_none k.0 k.1 k.2 all f.fault (subst (λ z. Say w z all) k.4 h) k.6
 
+  -- where no text spells two members, the lines of a block tell one thing
   pub once_lines : {B : Type 0} (says : List (Option A) → B) (lines : List Line) (f g : Result B BlockFault)
       → AllTells w says lines f → AllTells w says lines g → f ≡ g
   once_lines says lines (Ok a) (Ok b) h k = ap Ok (h.2 ∙ ap says (once_say lines h.0 k.0 h.1 k.1) ∙ sym k.2)

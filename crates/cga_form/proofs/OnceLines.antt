@@ -14,6 +14,7 @@ use Rattle.cga_form.proofs.Once.{one_telling}
 -- ---- one line
 
 module _ {A : Type 0} (w : A → Pieces) (unique : (text : List Lexeme) (a b : A) → Spelled w text a → Spelled w text b → a ≡ b) where
+  -- where no text spells two members, the tokens of a line, or the lexer's fault, tell one thing
   pub once_tokens : (end : ℕ) (o : Result (List Token) LexFault) (f g : Result A LineFault) → by_tokens w end o f
       → by_tokens w end o g → f ≡ g
   once_tokens end (Err e) f g h k = h ∙ sym k
@@ -24,5 +25,6 @@ module _ {A : Type 0} (w : A → Pieces) (unique : (text : List Lexeme) (a b : A
   once_length bytes true f g h k = h ∙ sym k
   once_length bytes false f g h k = once_tokens (length bytes + 1) (tokens_of bytes) f g h k
 
+  -- where no text spells two members, the bytes of a line tell one thing
   pub once_line : (bytes : List ℕ) (f g : Result A LineFault) → LineTells w bytes f → LineTells w bytes g → f ≡ g
   once_line bytes f g h k = once_length bytes _ f g h k

@@ -128,15 +128,19 @@ passed false a e = absurd (cc)
 
 -- ---- the tokens of signs and keywords
 
+-- a token that is taken as a sign is that sign
 pub a_sign_is : (x : Sign) (l : Lexeme) (a : Unit {0}) → a_sign x l ≡ Some a → l ≡ lexeme.Sign x
 a_sign_is x l a e = sign_is x l (passed (is_sign x l) a e)
 
+-- a token that is taken as a reserved word is that word
 pub a_keyword_is : (x : Keyword) (l : Lexeme) (a : Unit {0}) → a_keyword x l ≡ Some a → l ≡ lexeme.Keyword x
 a_keyword_is x l a e = keyword_is x l (passed (is_keyword x l) a e)
 
+-- the one piece of a token with its space
 abbrev pub as_token : Space → Lexeme → Unit {0} → Pieces
 as_token sp l _ = token sp l ∷ []
 
+-- where a sign is taken as itself and counts brackets so, what is taken as it is written as its token
 pub sign_token : (sp : Space) (x : Sign) (n m : ℕ) → a_sign x (lexeme.Sign x) ≡ Some tt
     → counted (bracket_of_sign x) n ≡ Some m → Token n m (as_token sp (lexeme.Sign x)) (a_sign x)
 sign_token sp x n m r h = record {
@@ -145,6 +149,7 @@ sign_token sp x n m r h = record {
   some = (lexeme.Sign x, tt, r);
 }
 
+-- where a reserved word is taken as itself, what is taken as it is written as its token
 pub keyword_token : (x : Keyword) (n : ℕ) → a_keyword x (lexeme.Keyword x) ≡ Some tt
     → Token n n (as_token Usual (lexeme.Keyword x)) (a_keyword x)
 keyword_token x n r = record {
@@ -153,6 +158,7 @@ keyword_token x n r = record {
   some = (lexeme.Keyword x, tt, r);
 }
 
+-- where a sign is taken as itself and opens, it is an opening bracket
 pub opening : (x : Sign) → a_sign x (lexeme.Sign x) ≡ Some tt → bracket_of_sign x ≡ opens
     → Opening (as_token Usual (lexeme.Sign x)) (a_sign x)
 opening x r h = record {
@@ -200,6 +206,7 @@ name_counts n _ a e = absurd (cc)
 abbrev pub name_pieces : List ℕ → Pieces
 name_pieces a = named a ∷ []
 
+-- what is taken as a name is written as its token
 pub name_token : (n : ℕ) → Token n n name_pieces a_name
 unfolding keyword_of
 name_token n = record { means = name_means; counts = name_counts n; some = (lexeme.Name (97 ∷ []), 97 ∷ [], refl) }
@@ -235,6 +242,7 @@ whole_counts low high n _ a e = absurd (cc)
 abbrev pub whole_pieces : ℕ → ℕ → ℕ → Pieces
 whole_pieces low high a = whole low high a ∷ []
 
+-- where the lower bound is taken as itself, what is taken as a whole number in bounds is written as its token
 pub whole_token : (low high n : ℕ) → a_whole low high (number low) ≡ Some low
     → Token n n (whole_pieces low high) (a_whole low high)
 whole_token low high n r = record { means = whole_means low high; counts = whole_counts low high n; some = (number low, low, r) }
@@ -244,6 +252,7 @@ number_is : (l : Lexeme) (a : Rat) → a_number l ≡ Some a → l ≡ lexeme.Nu
 number_is (lexeme.Number value) a e = let q : value ≡ a = cc in ap lexeme.Number q
 number_is _ a e = absurd (cc)
 
+-- what is taken as a number is written as its token
 pub number_token : (n : ℕ) → Token n n (λ a. plain (lexeme.Number a) ∷ []) a_number
 number_token n = by_token Usual lexeme.Number a_number n number_is (λ a. refl) (of_int (pos 1)) refl
 
@@ -265,9 +274,11 @@ pub pick : {A : Type 0} (enc : A → List ℕ) (name : List ℕ) (x : A) (t : Bo
 pick enc name x true rest a e h q = let p : x ≡ a = cc in is_true name (enc x) e ∙ ap enc p
 pick enc name x false rest a e h q = h q
 
+-- where no word is left to pick, whatever is picked has the name's bytes
 pub no_more : {A : Type 0} (enc : A → List ℕ) (name : List ℕ) (a : A) → ◌≡◌ {A = Option A} None (Some a) → name ≡ enc a
 no_more enc name a e = absurd (cc)
 
+-- a token that passes the test for a word is the name of its bytes
 pub word_is : (bytes : List ℕ) (l : Lexeme) → is_word bytes l ≡ true → l ≡ lexeme.Name bytes
 word_is bytes (lexeme.Name name) e = ap lexeme.Name (is_true name bytes e)
 word_is bytes _ e = absurd (let q : false ≡ true = e in cc)
@@ -291,5 +302,6 @@ word_token bytes n r = record {
   some = (lexeme.Name bytes, tt, r);
 }
 
+-- where a name isn't reserved, its token is taken as it
 pub name_read : (name : List ℕ) → is_reserved name ≡ false → a_name (lexeme.Name name) ≡ Some name
 name_read name e = ap (λ t. unless t name) e

@@ -48,6 +48,7 @@ module _ {A : Type 0} (w : A → Pieces) where
     pub told : (x : List Lexeme) (a : A) (m : ℕ) → Spelled w x a → walk 32 x ≡ Some m → Tells w 32 x (Ok a)
     told x a m s h = told_as x a m s h (line (at x 0)) refl
 
+-- where tokens spell a member of a form, with never more than 32 brackets open, they tell it
 pub form_told : {A : Type 0} (w : A → Pieces) (p : ℕ → Reader A) → IsForm w p → (x : List Lexeme) (a : A) (m : ℕ)
     → Spelled w x a → walk 32 x ≡ Some m → Tells w 32 x (Ok a)
 form_told w p form = told w (complete (p 32)) (form_unique w p form) (form_found w p form 32) (form_refused w p form 32)

@@ -136,6 +136,7 @@ magnitude_text minus c = (number 1 ∷ [], b.with_minus minus (of_int (pos 1)), 
 
 -- ---- values
 
+-- the one piece of a value
 abbrev pub value_pieces : Rat → Pieces
 value_pieces v = valued v ∷ []
 
@@ -152,6 +153,7 @@ negative c x a d h =
     let t = one_of (as_token Usual (lexeme.Sign s.Minus)) (lexeme.Sign s.Minus) c h.0 h.2 h.3 refl h.5 in
     written c x a d (inr (h.6.0, h.1, h.4 ∙ ap (λ z. z ++ h.1) t.0, h.6.1, h.6.2)) (t.1 ∙ h.6.3)
 
+-- the reader of values takes exactly what is written as a value
 pub value_reads : (n : ℕ) → Reads n n value_pieces b.value
 unfolding b.value
 value_reads n = record {

@@ -7,6 +7,7 @@ use Rattle.cga_syntax.specs.Pieces.{Piece, token, Pieces, concat, IsWritten, Wri
 use Rattle.cga_form.proofs.Runs.{Language, Each}
 pub use Rattle.std.proofs.Common.{append-nil as nil_right}
 
+-- no pieces are written as no tokens, and the count of rands stays
 pub nothing : (c : ℕ) → Writes c [] [] c
 unfolding Writes
 nothing c = (refl, refl)
@@ -16,6 +17,7 @@ pub one : (c : ℕ) (p : Piece) (ps : Pieces) (x y : List Lexeme) (e d : ℕ) �
 unfolding Writes
 one c p ps x y e d w h = (x, y, e, refl, w, h)
 
+-- where pieces are written as a text, a token's piece before them is written as the token before it
 pub token_first : (c : ℕ) (s : Space) (k : Lexeme) (ps : Pieces) (y : List Lexeme) (d : ℕ) → Writes c ps y d
     → Writes c (token s k ∷ ps) (k ∷ y) d
 token_first c s k ps y d h = one c (token s k) ps (k ∷ []) y c d (refl, refl) h
@@ -29,6 +31,7 @@ join [] qs x y c e d w h =
 join (p ∷ ps) qs x y c e d w h =
     (w.0, w.1 ++ y, w.2, ap (λ z. z ++ y) w.3 ∙ append_assoc w.0 w.1 y, w.4, join ps qs w.1 y w.2 e d w.5 h)
 
+-- where joined pieces are written as a text, it is cut into what the first and what the second are written as
 pub cut : (ps qs : Pieces) (z : List Lexeme) (c d : ℕ) → Writes c (ps ++ qs) z d
     → (x : List Lexeme) × (y : List Lexeme) × (e : ℕ) × (z ≡ x ++ y) × Writes c ps x e × Writes e qs y d
 unfolding Writes
@@ -54,6 +57,7 @@ pub head_of : (c : ℕ) (s : Space) (k : Lexeme) (ps : Pieces) (x : List Lexeme)
 unfolding Writes
 head_of c s k ps x d w = (w.1, w.3 ∙ ap (λ z. z ++ w.1) w.4.0, subst (λ n. Writes n ps w.1 d) (sym w.4.1) w.5)
 
+-- where no pieces are written as a text, it is empty, and the count of rands stays
 pub end_of : (c : ℕ) (x : List Lexeme) (d : ℕ) → Writes c [] x d → (x ≡ []) × (c ≡ d)
 unfolding Writes
 end_of c x d w = w
@@ -65,9 +69,11 @@ piece_of c p x d w =
     let e : w.0 ≡ x = sym (w.3 ∙ ap (λ z. w.0 ++ z) w.5.0 ∙ nil_right w.0) in
     subst (λ z. IsWritten c p z d) e (subst (λ n. IsWritten c p w.0 n) w.5.1 w.4)
 
+-- where a piece is written as a text, so is the list of it alone
 pub piece_written : (c : ℕ) (p : Piece) (x : List Lexeme) (d : ℕ) → IsWritten c p x d → Writes c (p ∷ []) x d
 piece_written c p x d w = subst (λ z. Writes c (p ∷ []) z d) (nil_right x) (one c p [] x [] d d w (nothing d))
 
+-- what begins with a token's piece is written as at least one token
 pub long_of : (c : ℕ) (s : Space) (k : Lexeme) (ps : Pieces) (x : List Lexeme) (d : ℕ) → Writes c (token s k ∷ ps) x d
     → 1 ≤ length x
 long_of c s k ps x d w = let t = head_of c s k ps x d w in omega (arith, ap length t.1)

@@ -95,6 +95,7 @@ orders p m q s t r u v d w x e h k f g l =
     let z : (p * r + t * q) * (d * e) ≤ (s * q + m * r) * (d * e) = omega arith in
     le_of_mul-le-mul_right z (mul-pos h k)
 
+-- where two numbers are differences whose cross products are in order, the first is at most the second
 pub le_diff : (a b : Rat) (u v d w x e : ℕ) → IsDiff a u v d → IsDiff b w x e → u * e + x * d ≤ w * d + v * e
     → IsTrue (rat_le a b)
 le_diff a b u v d w x e r s l =
@@ -128,6 +129,7 @@ minus_parts a b p m e f =
     let y = scaled_parts b.num (den a) in
     omega (arith, e, f, s, x.0, x.1, y.0, y.1)
 
+-- the difference of two numbers is that of their cross products over the product of the denominators
 pub minus_diff : (a b : Rat)
     → IsDiff (minus a b) (positive_part a.num * den b + negative_part b.num * den a)
     (negative_part a.num * den b + positive_part b.num * den a) (den a * den b)
@@ -139,6 +141,7 @@ minus_diff a b =
     let k' = ap (λ z. z * (den a * den b)) k in
     like (minus a b) _ _ _ (positive_part a.num * den b + negative_part b.num * den a) (negative_part a.num * den b + positive_part b.num * den a) (den a * den b) r (omega (arith, k')) h
 
+-- where two numbers are differences over naturals, the first minus the second is that of the cross products over both
 pub minus_of : (a b : Rat) (u v d w x e : ℕ) → IsDiff a u v d → IsDiff b w x e
     → IsDiff (minus a b) (u * e + x * d) (v * e + w * d) (d * e)
 minus_of a b u v d w x e r s =
@@ -167,6 +170,7 @@ pub diff_le : (a b : Rat) (u v d w x e : ℕ) → IsDiff a u v d → IsDiff b w 
 diff_le a b u v d w x e r s l =
     diff_naturals (positive_part a.num) (negative_part a.num) (den a) (positive_part b.num) (negative_part b.num) (den b) u v d w x e (omega arith) (omega arith) r.same s.same (le_fact a b l)
 
+-- where two numbers are differences whose cross products are strictly in order, the first is below the second
 pub lt_diff : (a b : Rat) (u v d w x e : ℕ) → IsDiff a u v d → IsDiff b w x e → u * e + x * d < w * d + v * e
     → IsTrue (rat_lt a b)
 lt_diff a b u v d w x e r s l = not_le_lt a b (λ k. let m = diff_le b a w x e u v d s r k in omega arith)
@@ -179,6 +183,7 @@ diff_lt a b u v d w x e r s l =
 pub zero_diff : IsDiff zero_rat 0 0 1
 zero_diff = record { positive = omega arith; same = refl }
 
+-- a whole number is what it has above 0 minus what it has below, over 1
 pub of_int_diff : (z : ℤ) → IsDiff (of_int z) (positive_part z) (negative_part z) 1
 of_int_diff z = itself (of_int z)
 

@@ -9,9 +9,11 @@ use Rattle.std.proofs.Math.Nat.{pow-suc, pow-le-pow_right, mul-le-mul_right, one
 use Rattle.std.proofs.lemmas.Nat.{pow-add}
 use Rattle.std.proofs.lemmas.Bool.{and_parts as both}
 
+-- a digit is one of the bytes from 48 to 57, and its value is what it has above 48
 pub digit_range : (c : ℕ) → is_ascii_digit c ≡ true → (48 ≤ c) × (c ≤ 57) × (digit_value c ≡ c - 48)
 digit_range c e = (grind (arith, nat_tests), grind (arith, nat_tests), grind (arith, nat_tests))
 
+-- where all bytes of a text are digits, the byte at each index in it is
 pub digit_at : (ds : List ℕ) (i : ℕ) → list_all is_ascii_digit ds ≡ true → i < length ds
     → is_ascii_digit (get_or ds i 0) ≡ true
 digit_at [] i e h = absurd (omega arith)

@@ -11,6 +11,7 @@ gcd_within-IsGcd zero a b h = absurd (omega arith)
 gcd_within-IsGcd (suc steps) a zero h = IsGcd-from_zero a 0 refl
 gcd_within-IsGcd (suc steps) a (suc b) h = IsGcd-from_mod a (suc b) _ (gcd_within-IsGcd steps (suc b) (a % suc b) (omega arith))
 
+-- what Euclid's algorithm gives of two numbers is their greatest common divisor
 pub gcd-IsGcd : (a b : ℕ) → IsGcd a b (gcd a b)
 unfolding gcd
 gcd-IsGcd a b = gcd_within-IsGcd (suc b) a b (omega arith)
@@ -22,6 +23,7 @@ gcd-step a b = same_from_IsGcd a b _ _ (gcd-IsGcd a b) (IsGcd-from_mod a b _ (gc
 pub gcd-zero : (a b : ℕ) → b ≡ 0 → gcd a b ≡ a
 gcd-zero a b e = same_from_IsGcd a b _ _ (gcd-IsGcd a b) (IsGcd-from_zero a b e)
 
+-- the greatest common divisor of a number and 1 is 1
 pub gcd-one : (a : ℕ) → gcd a 1 ≡ 1
 gcd-one a = let e : a % 1 ≡ 0 = omega arith in gcd-step a 1 ∙ gcd-zero 1 (a % 1) e
 

@@ -19,6 +19,7 @@ use Rattle.std.proofs.lemmas.Bool.{and_parts as in_both}
 pub record IsLowest (a : Rat) : Type 0 where
   pub coprime : gcd (unsigned_abs a.num) (den a) ≡ 1
 
+-- a fraction is in lowest terms
 pub fraction_lowest : (a : Rat) → IsFraction a → IsLowest a
 fraction_lowest a h = record { coprime = h.lowest }
 
@@ -36,10 +37,12 @@ pub plus_lowest : (a b : Rat) → IsLowest (plus a b)
 unfolding plus
 plus_lowest a b = reduced_lowest _ (den a * den b) (dens_positive a b)
 
+-- a difference is in lowest terms
 pub minus_lowest : (a b : Rat) → IsLowest (minus a b)
 unfolding minus
 minus_lowest a b = reduced_lowest _ (den a * den b) (dens_positive a b)
 
+-- a product is in lowest terms
 pub times_lowest : (a b : Rat) → IsLowest (times a b)
 unfolding times
 times_lowest a b = reduced_lowest _ (den a * den b) (dens_positive a b)
@@ -86,6 +89,7 @@ back_naturals : (pa ma da ps ms ds : ℕ)
     ((ma * ds + ms * da) * ds + ps * (da * ds)) * da
 back_naturals pa ma da ps ms ds = omega arith
 
+-- where a number is in lowest terms, a second added to it and taken away again gives it back
 pub minus-plus : (a s : Rat) → IsLowest a → minus (plus a s) s ≡ a
 minus-plus a s l =
     same_diff (minus (plus a s) s) a _ _ _ _ _ _ (minus_lowest (plus a s) s) l (minus_of (plus a s) s _ _ _ _ _ _ (plus_diff a s) (itself s)) (itself a)
@@ -96,6 +100,7 @@ forth_naturals : (pa ma da ps ms ds : ℕ)
     ((ma * ds + ps * da) * ds + ms * (da * ds)) * da
 forth_naturals pa ma da ps ms ds = omega arith
 
+-- where a number is in lowest terms, a second taken away from it and added again gives it back
 pub plus-minus : (a s : Rat) → IsLowest a → plus (minus a s) s ≡ a
 plus-minus a s l =
     same_diff (plus (minus a s) s) a _ _ _ _ _ _ (plus_lowest (minus a s) s) l (plus_of (minus a s) s _ _ _ _ _ _ (minus_diff a s) (itself s)) (itself a)
@@ -112,9 +117,11 @@ minus-plus_left a s l =
     same_diff (minus (plus a s) a) s _ _ _ _ _ _ (minus_lowest (plus a s) a) l (minus_of (plus a s) a _ _ _ _ _ _ (plus_diff a s) (itself a)) (itself s)
     (left_naturals (positive_part a.num) (negative_part a.num) (den a) (positive_part s.num) (negative_part s.num) (den s))
 
+-- where a number is in lowest terms, 0 added to it gives it
 pub plus-zero : (a : Rat) → IsLowest a → plus a zero_rat ≡ a
 plus-zero a l = same_diff (plus a zero_rat) a _ _ _ _ _ _ (plus_lowest a zero_rat) l (plus_of a zero_rat _ _ _ _ _ _ (itself a) zero_diff) (itself a) (omega arith)
 
+-- where a number is in lowest terms, 0 taken away from it gives it
 pub minus-zero : (a : Rat) → IsLowest a → minus a zero_rat ≡ a
 minus-zero a l = same_diff (minus a zero_rat) a _ _ _ _ _ _ (minus_lowest a zero_rat) l (minus_of a zero_rat _ _ _ _ _ _ (itself a) zero_diff) (itself a) (omega arith)
 
@@ -131,6 +138,7 @@ negated-negated a = same_parts (negated (negated a)) a (neg-neg a.num) refl
 
 -- ---- what a result that isn't refused says
 
+-- a result that isn't refused is the exact one
 pub checked_is : (r a : Rat) → checked r ≡ Ok a → r ≡ a
 unfolding checked
 checked_is r a h = grind arith
@@ -147,12 +155,15 @@ out_of_range_at : (r : Rat) (o : Overflow) (t : Bool) → in_range r ≡ t → c
 out_of_range_at r o true e h = absurd (let k = checked_at r true e in cc)
 out_of_range_at r o false e h = e
 
+-- where a result isn't refused, it is in range
 pub in_range_from_ok : (r a : Rat) → checked r ≡ Ok a → in_range r ≡ true
 in_range_from_ok r a h = in_range_at r a (in_range r) refl h
 
+-- where a result is refused, it is out of range
 pub out_of_range_from_err : (r : Rat) (e : Overflow) → checked r ≡ Err e → in_range r ≡ false
 out_of_range_from_err r e h = out_of_range_at r e (in_range r) refl h
 
+-- where a result is in range, it is given as it is
 pub checked_in_range : (r : Rat) → in_range r ≡ true → checked r ≡ Ok r
 checked_in_range r h = checked_at r true h
 
@@ -167,6 +178,7 @@ fraction_from_ok r a l h =
       denominator = grind (arith, leb_tells (den r) (2 ^ 62));
     })
 
+-- a fraction is in range
 pub fraction_in_range : (a : Rat) → IsFraction a → in_range a ≡ true
 fraction_in_range a h =
     let x : nat_le (unsigned_abs a.num) (2 ^ 62) ≡ true = let k = h.numerator in grind (arith, leb_tells (unsigned_abs a.num) (2 ^ 62)) in
@@ -196,6 +208,7 @@ either : (P : Rat → Type 0) (a b : Rat) (t : Bool) → P a → P b → P (if t
 either P a b true p q = p
 either P a b false p q = q
 
+-- a number that is at most each of two is at most the least of them
 pub min_greatest : (x a b : Rat) → IsTrue (rat_le x a) → IsTrue (rat_le x b) → IsTrue (rat_le x (rat_min a b))
 unfolding rat_min
 min_greatest x a b h k = either (λ z. IsTrue (rat_le x z)) a b (rat_le a b) h k
@@ -205,14 +218,17 @@ pub max_above : (a b : Rat) → IsTrue (rat_le a (rat_max a b)) × IsTrue (rat_l
 unfolding rat_max
 max_above a b = max_at a b (rat_le a b) refl
 
+-- a number that is at least each of two is at least the greatest of them
 pub max_least : (x a b : Rat) → IsTrue (rat_le a x) → IsTrue (rat_le b x) → IsTrue (rat_le (rat_max a b) x)
 unfolding rat_max
 max_least x a b h k = either (λ z. IsTrue (rat_le z x)) b a (rat_le a b) k h
 
+-- a number below each of two is below the least of them
 pub lt_min : (x a b : Rat) → IsTrue (rat_lt x a) → IsTrue (rat_lt x b) → IsTrue (rat_lt x (rat_min a b))
 unfolding rat_min
 lt_min x a b h k = either (λ z. IsTrue (rat_lt x z)) a b (rat_le a b) h k
 
+-- a number above each of two is above the greatest of them
 pub max_lt : (x a b : Rat) → IsTrue (rat_lt a x) → IsTrue (rat_lt b x) → IsTrue (rat_lt (rat_max a b) x)
 unfolding rat_max
 max_lt x a b h k = either (λ z. IsTrue (rat_lt z x)) b a (rat_le a b) k h
@@ -223,6 +239,7 @@ max_lt x a b h k = either (λ z. IsTrue (rat_lt z x)) b a (rat_le a b) k h
 pub mediant : Rat → Rat → Rat
 mediant a b = record { num = a.num +ℤ b.num; above = a.above + b.above + 1 }
 
+-- where a number is below another, their mediant is above the one and below the other
 pub between : (a b : Rat) → IsTrue (rat_lt a b) → IsTrue (rat_lt a (mediant a b)) × IsTrue (rat_lt (mediant a b) b)
 unfolding mediant
 between a b h =

@@ -82,6 +82,7 @@ read_position text (Some i) a h =
     let t = length-take i text in
     read_parts text (take i text) (drop (i + 1) text) a n.1 (omega arith) (λ k. omega arith) s.1
 
+-- where a text is read as a number, at most 18 digits write it, which with their point are no longer than the text
 pub reads : (text : List ℕ) (a : Rat) → decimal_of text ≡ Ok a → Reads text a
 unfolding decimal_of
 reads text a h = read_position text (position is_point text) a h
@@ -170,6 +171,7 @@ literal_short text a r =
     let l = length-pointed (least_places a) (unsigned_abs a.num * 10 ^ least_places a / den a) in
     short (least_places a) (length r.places) (length (decimal (unsigned_abs a.num * 10 ^ least_places a / den a / 10 ^ least_places a))) (length r.whole) _ (length text) f.fewer f.front l.0 l.1 r.alone r.pointed
 
+-- where some text is read as a number, the literal text is, and no shorter one
 pub literal_is_shortest : (a : Rat) → IsLiteral a → IsShortest a (literal_text_of a)
 literal_is_shortest a l = record {
   reads = literal_reads l.0 a (reads l.0 a l.1);

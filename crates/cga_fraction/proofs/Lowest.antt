@@ -30,6 +30,7 @@ coprime a d g is some = (
       let both : k * g ∣ 1 * g = rw one-mul (is.2 (k * g) whole below) in dvd_of_mul-dvd-mul_right _ some both,
 )
 
+-- where a number is above 0, so is its quotient by each of its divisors
 pub quotient_positive : (d g : ℕ) → g ∣ d → 0 < d → 0 < d / g
 quotient_positive d g divides h = let e = mul-div_cancel' g divides in grind (arith, e)
 
@@ -39,6 +40,7 @@ unfolding reduced
 den-reduced n d h =
     let p : 0 < d / gcd (unsigned_abs n) d = quotient_positive d _ (gcd-IsGcd (unsigned_abs n) d).1 h in omega arith
 
+-- where the second of two numbers is above 0, both divided by their greatest common divisor have 1 as theirs
 pub lowest : (a d : ℕ) → 0 < d → gcd (a / gcd a d) (d / gcd a d) ≡ 1
 lowest a d h = same_from_IsGcd _ _ _ _ (gcd-IsGcd _ _) (coprime a d (gcd a d) (gcd-IsGcd a d) (gcd_positive a d h))
 
@@ -48,6 +50,7 @@ pub reduced-parts : (n : ℤ) (d g : ℕ) → g ≡ gcd (unsigned_abs n) d
 unfolding reduced
 reduced-parts n d g e = rw e refl
 
+-- where neither numerator nor denominator is above 2 to the 62, a result isn't refused
 pub checked-in : (a : Rat) → unsigned_abs a.num ≤ 2 ^ 62 → den a ≤ 2 ^ 62 → checked a ≡ Ok a
 unfolding checked
 checked-in a p q = grind (arith, leb_tells (unsigned_abs a.num) (2 ^ 62), leb_tells (den a) (2 ^ 62))

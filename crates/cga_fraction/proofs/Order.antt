@@ -24,9 +24,11 @@ le_test a b h = grind (arith, nat_tests)
 
 -- ---- laws
 
+-- a number is at most itself
 pub le_refl : (a : Rat) → IsTrue (rat_le a a)
 le_refl a = le_test a a (omega arith)
 
+-- of two numbers one is at most the other
 pub le_total : (a b : Rat) → IsTrue (rat_le a b) ⊎ IsTrue (rat_le b a)
 unfolding rat_le
 le_total a b = grind (arith, nat_tests)
@@ -40,39 +42,49 @@ chain p m q n r k d e f h x y =
     let z : (p * f + k * d) * e ≤ (r * d + m * f) * e = omega arith in
     le_of_mul-le-mul_right z h
 
+-- where a number is at most a second and that at most a third, the first is at most the third
 pub le_trans : (a b c : Rat) → IsTrue (rat_le a b) → IsTrue (rat_le b c) → IsTrue (rat_le a c)
 le_trans a b c h k =
     le_test a c (chain (positive_part a.num) (negative_part a.num) (positive_part b.num) (negative_part b.num) (positive_part c.num) (negative_part c.num) (den a) (den b) (den c) (omega arith) (le_fact a b h) (le_fact b c k))
 
+-- where a number is below another, the other isn't at most it
 pub lt_not_le : (a b : Rat) → IsTrue (rat_lt a b) → IsTrue (rat_le b a) → ⊥
 lt_not_le a b h k = grind arith
 
+-- where a number isn't at most another, the other is below it
 pub not_le_lt : (a b : Rat) → (IsTrue (rat_le b a) → ⊥) → IsTrue (rat_lt a b)
 not_le_lt a b h = grind arith
 
+-- where a number is below another, its side of their cross products is below the other's
 pub lt_fact : (a b : Rat) → IsTrue (rat_lt a b) → cross a b < cross b a
 unfolding rat_le
 lt_fact a b h = grind (arith, nat_tests)
 
+-- where a number's side of the cross products with another is below the other's, it is below the other
 pub lt_test : (a b : Rat) → cross a b < cross b a → IsTrue (rat_lt a b)
 unfolding rat_le
 lt_test a b h = grind (arith, nat_tests)
 
+-- where a number is below another, it is at most it
 pub lt_le : (a b : Rat) → IsTrue (rat_lt a b) → IsTrue (rat_le a b)
 lt_le a b h = elim (le_total a b) [ inl k ↦ k | inr k ↦ absurd (lt_not_le a b h k) ]
 
+-- where a number is at most a second and that below a third, the first is below the third
 pub lt_of_le_lt : (a b c : Rat) → IsTrue (rat_le a b) → IsTrue (rat_lt b c) → IsTrue (rat_lt a c)
 lt_of_le_lt a b c h k = not_le_lt a c (λ w. lt_not_le b c k (le_trans c a b w h))
 
+-- where a number is below a second and that at most a third, the first is below the third
 pub lt_of_lt_le : (a b c : Rat) → IsTrue (rat_lt a b) → IsTrue (rat_le b c) → IsTrue (rat_lt a c)
 lt_of_lt_le a b c h k = not_le_lt a c (λ w. lt_not_le a b h (le_trans b c a k w))
 
+-- where a number is below a second and that below a third, the first is below the third
 pub lt_trans : (a b c : Rat) → IsTrue (rat_lt a b) → IsTrue (rat_lt b c) → IsTrue (rat_lt a c)
 lt_trans a b c h k = lt_of_le_lt a b c (lt_le a b h) k
 
 pub lt_irrefl : (a : Rat) → IsTrue (rat_lt a a) → ⊥
 lt_irrefl a h = lt_not_le a a h (le_refl a)
 
+-- no two numbers are each below the other
 pub lt_asym : (a b : Rat) → IsTrue (rat_lt a b) → IsTrue (rat_lt b a) → ⊥
 lt_asym a b h k = lt_not_le a b h (lt_le b a k)
 
@@ -196,6 +208,7 @@ pub negative_is : (a : Rat) (x : ℤ) → x ≡ a.num → lt_z x (pos 0) ≡ rat
 unfolding rat_le
 negative_is a x e = rw e (negative_at a.num (den a) (omega arith))
 
+-- the test whether the numerator is above 0 is the test whether the number is
 pub positive_is : (a : Rat) (x : ℤ) → x ≡ a.num → lt_z (pos 0) x ≡ rat_lt zero_rat a
 unfolding rat_le
 positive_is a x e = rw e (positive_at a.num (den a) (omega arith))

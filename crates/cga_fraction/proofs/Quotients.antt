@@ -108,6 +108,7 @@ minus_one-scaled (pos zero) = refl
 minus_one-scaled (pos (suc n)) = let e : suc n * suc 0 ≡ suc n = omega arith in ap (λ k. neg_ℤ (pos k)) e
 minus_one-scaled (negsuc n) = let e : suc n * suc 0 ≡ suc n = omega arith in ap pos e
 
+-- a whole number over one above 0, in lowest terms and refused out of range, is the quotient of the two
 pub by_positive : (n : ℤ) (d : ℕ) (m : Result Rat Overflow) (r : Result Rat DivFault) → m ≡ checked (reduced n (suc d))
     → r ≡ or_err fault.Overflow m → r ≡ quotient_of (of_int n) (of_int (pos (suc d)))
 unfolding times

@@ -37,6 +37,7 @@ swap_ends t d n q e m p h k =
     let c : t * e * d ≡ m * q * d = omega arith in
     eq_of_mul-eq-mul_right d p (t * e) (m * q) c
 
+-- where a number is a ratio, it is each one of equal cross products whose denominator is above 0
 pub like : (q : Rat) (n d m e : ℕ) → IsRatio q n d → n * e ≡ m * d → 0 < e → IsRatio q m e
 like q n d m e r k p = record { positive = p; top = r.top; is = r.is; same = swap_ends r.top d n (den q) e m r.positive r.same k }
 
@@ -46,6 +47,7 @@ sums s t a b d e n m h k =
     let y : t * e * (a * d) ≡ m * b * (a * d) = ap (λ x. x * (a * d)) k in
     omega arith
 
+-- the sum of two ratios is that of their cross products over the product of the denominators
 pub plus_ratio : (a b : Rat) (n d m e : ℕ) → IsRatio a n d → IsRatio b m e → IsRatio (plus a b) (n * e + m * d) (d * e)
 unfolding plus
 plus_ratio a b n d m e r s =
@@ -59,6 +61,7 @@ products s t a b d e n m h k =
     let y : n * a * (t * e) ≡ n * a * (m * b) = ap (λ x. n * a * x) k in
     omega arith
 
+-- the product of two ratios is that of the numerators over that of the denominators
 pub times_ratio : (a b : Rat) (n d m e : ℕ) → IsRatio a n d → IsRatio b m e → IsRatio (times a b) (n * m) (d * e)
 unfolding times
 times_ratio a b n d m e r s =
@@ -77,6 +80,7 @@ inverse_parts (negsuc n) t x m e i s h = absurd (cc)
 pub inverse_ratio : (b : Rat) (m e : ℕ) → IsRatio b m e → 0 < m → IsRatio (inverse b) e m
 inverse_ratio b m e s h = inverse_parts b.num s.top b.above m e s.is s.same h
 
+-- where the second of two ratios is above 0, their quotient is the ratio of their cross products
 pub divided_ratio : (a b : Rat) (n d m e : ℕ) → IsRatio a n d → IsRatio b m e → 0 < m
     → IsRatio (divided a b) (n * e) (d * m)
 unfolding divided
@@ -101,6 +105,7 @@ orders s t a b d e n m p q h k l =
     let w : s * b * (d * e) ≤ t * a * (d * e) = omega arith in
     le_of_mul-le-mul_right w (mul-pos p q)
 
+-- where the cross products of two ratios are in order, the first is at most the second
 pub le_ratio : (a b : Rat) (n d m e : ℕ) → IsRatio a n d → IsRatio b m e → n * e ≤ m * d → IsTrue (rat_le a b)
 le_ratio a b n d m e r s l =
     let w = orders r.top s.top (den a) (den b) d e n m r.positive s.positive r.same s.same l in
@@ -135,6 +140,7 @@ le_tops b a t s e f h =
     let h'' = subst (λ z. t * den a + negative_part z * den b ≤ positive_part z * den b + 0 * den a) f h' in
     omega arith
 
+-- where the second of two ratios is at most the first, their difference is that of the cross products over both
 pub minus_ratio : (a b : Rat) (n d m e : ℕ) → IsRatio a n d → IsRatio b m e → IsTrue (rat_le b a)
     → (k : ℕ) × (k + m * d ≡ n * e) × IsRatio (minus a b) k (d * e)
 unfolding minus
@@ -150,9 +156,11 @@ minus_ratio a b n d m e r s l =
     let v = like _ _ _ (n * e - m * d) (d * e) w (omega arith) (mul-pos r.positive s.positive) in
     (n * e - m * d, k, rw (r.is, s.is) (rw (minus_top (r.top * den b) (s.top * den a) f') v))
 
+-- 0 is the ratio of 0 to 1
 pub zero_ratio : IsRatio zero_rat 0 1
 zero_ratio = record { positive = omega arith; top = 0; is = refl; same = refl }
 
+-- a whole number that isn't below 0 is its ratio to 1
 pub whole_ratio : (n : ℕ) → IsRatio (of_int (pos n)) n 1
 whole_ratio n = record { positive = omega arith; top = n; is = refl; same = omega arith }
 
@@ -167,5 +175,6 @@ top_of q (negsuc t) e h =
 pub shown_ratio : (q : Rat) → IsTrue (rat_le zero_rat q) → (n : ℕ) × IsRatio q n (den q)
 shown_ratio q h = let t = top_of q q.num refl h in (t.0, record { positive = omega arith; top = t.0; is = t.1; same = refl })
 
+-- where the first of two ratios is at most the second, their cross products are in that order
 pub ratio_le : (a b : Rat) (n d m e : ℕ) → IsRatio a n d → IsRatio b m e → IsTrue (rat_le a b) → n * e ≤ m * d
 ratio_le a b n d m e r s l = back r.top s.top (den a) (den b) d e n m (omega arith) (omega arith) r.same s.same (le_tops a b r.top s.top r.is s.is (le_fact a b l))

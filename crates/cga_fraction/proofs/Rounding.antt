@@ -32,6 +32,7 @@ is_floor a = floor_at a.num a.above
 turn_le : (p m d u v : ℕ) → u * d + p * 1 ≤ m * 1 + v * d → p * 1 + u * d ≤ v * d + m * 1
 turn_le p m d u v h = omega arith
 
+-- a number rounded up is the least whole number that is at least it
 pub is_ceil : (a : Rat) → IsCeil a (ceil_of a)
 is_ceil a =
     let f = is_floor (negated a) in

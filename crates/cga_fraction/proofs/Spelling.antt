@@ -27,6 +27,7 @@ use Rattle.cga_fraction.proofs.Facts.{nat_le_18 as few_digits, nat_lt-same as no
 tells : IsDigitsTest (λ ds. list_all is_ascii_digit ds ≡ true)
 tells = search rules
 
+-- texts of digits with their decimal value are numerals as the standard library knows them
 pub own : IsNumeralModel (λ ds. list_all is_ascii_digit ds ≡ true) (digits_value 10)
 own = numerals_by_value (λ ds. list_all is_ascii_digit ds ≡ true) tells
 
@@ -114,6 +115,7 @@ numeral : (ds : List ℕ) → 0 < length ds → list_all is_ascii_digit ds ≡ t
 numeral ds h e =
     let z : (length ds == 0) ≡ false = grind (arith, eqb_tells (length ds) 0) in rw (z, e) refl
 
+-- where a text is digits, from 1 to 18, it is read as the whole number that they write
 pub reads_whole : (ds : List ℕ) → 0 < length ds → list_all is_ascii_digit ds ≡ true → length ds ≤ 18
     → decimal_of ds ≡ Ok (reduced (pos (digits_value 10 ds)) 1)
 unfolding decimal_of
@@ -121,6 +123,7 @@ reads_whole ds h e few =
     let k : length ds + 0 ≤ 18 = omega arith in
     rw (position_alone ds e, numeral ds h e, few_digits (length ds + 0) k, append-nil ds) refl
 
+-- where digits stand before and after a point, at most 18, they are read as what they write with so many places
 pub reads_parts : (ds ps : List ℕ) → 0 < length ds → list_all is_ascii_digit ds ≡ true → 0 < length ps
     → list_all is_ascii_digit ps ≡ true → length ds + length ps ≤ 18
     → decimal_of (ds ++ 46 ∷ ps) ≡ Ok (reduced (pos (digits_value 10 (ds ++ ps))) (10 ^ length ps))
@@ -150,6 +153,7 @@ reads_at (suc places) n h few =
     reads_parts (decimal (n / 10 ^ suc places)) (padded (suc places) n) (length_decimal_some (n / 10 ^ suc places) h) (digits_decimal own (n / 10 ^ suc places) h) (omega arith) (digits-padded (suc places) n) (omega arith)
     ∙ ap (λ (k : ℕ). Ok (reduced (pos k) (10 ^ length (padded (suc places) n)))) t ∙ ap (λ (k : ℕ). Ok (reduced (pos n) (10 ^ k))) l
 
+-- where a number is written with some places in at most 18 digits, its whole part in 64 bits, the text is read as it
 pub reads-pointed : (places n : ℕ) → n / 10 ^ places < 2 ^ 64 → length (decimal (n / 10 ^ places)) + places ≤ 18
     → decimal_of (pointed places n) ≡ Ok (reduced (pos n) (10 ^ places))
 unfolding pointed

@@ -8,6 +8,7 @@ use Rattle.cga_fraction.specs.Arithmetic.{with_sign}
 use Rattle.cga_fraction.proofs.Order.{by_parts}
 use Rattle.std.specs.Prelude.{decimal, unsigned_abs}
 
+-- a power of ten is above 0
 pub ten_positive : (p k : ℕ) → p ≡ 10 ^ k → 0 < p
 ten_positive p k e = rw e (one-le-pow k 10 (omega arith))
 
@@ -15,6 +16,7 @@ padded-one : (places n : ℕ) → padded (suc places) n ≡ (48 + n / 10 ^ place
 unfolding padded
 padded-one places n = refl
 
+-- where digits are left to write, with the next one behind what is written the text in all is the same
 pub padded-step : (out first : List ℕ) (left n digit : ℕ) → 0 < left → digit ≡ 48 + n / 10 ^ (left - 1) % 10
     → out ++ padded left n ≡ first → (out ++ digit ∷ []) ++ padded (left - 1) n ≡ first
 padded-step out first left n digit some d e =
@@ -25,6 +27,7 @@ padded-zero : (out : List ℕ) (n : ℕ) → out ++ padded 0 n ≡ out
 unfolding padded
 padded-zero out n = append-nil out
 
+-- where no digit is left to write, what is written is the text in all
 pub padded-end : (out first : List ℕ) (left n : ℕ) → left ≡ 0 → out ++ padded left n ≡ first → out ≡ first
 padded-end out first left n z e = sym (padded-zero out n) ∙ rw (← z) e
 

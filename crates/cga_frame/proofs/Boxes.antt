@@ -37,6 +37,7 @@ holds_all : (a b : Box) → along_holds a.low.x a.high.x b.low.x b.high.x ≡ tr
 unfolding holds
 holds_all a b e f g = all_three _ _ _ e f g
 
+-- where a box holds another by their bounds, each point of the other lies in it
 pub holds_points : (a b : Box) → holds a b ≡ true → Holds a b
 holds_points a b e p i =
     let h = holds_parts a b e in
@@ -49,12 +50,14 @@ points_hold a b e h =
     let high = h b.high (record { x = record { from = s.0; to = le_refl b.high.x }; y = record { from = s.1; to = le_refl b.high.y }; z = record { from = s.2; to = le_refl b.high.z } }) in
     holds_all a b (holds_from _ _ _ _ low.x high.x) (holds_from _ _ _ _ low.y high.y) (holds_from _ _ _ _ low.z high.z)
 
+-- where a box holds a second and that a third, the first holds the third
 pub holds_trans : (a b c : Box) → holds a b ≡ true → holds b c ≡ true → holds a c ≡ true
 holds_trans a b c e f =
     let p = holds_parts a b e in
     let q = holds_parts b c f in
     holds_all a c (holds_chain _ _ _ _ _ _ p.0 q.0) (holds_chain _ _ _ _ _ _ p.1 q.1) (holds_chain _ _ _ _ _ _ p.2 q.2)
 
+-- a box holds itself
 pub holds_itself : (a : Box) → holds a a ≡ true
 holds_itself a = holds_all a a (itself a.low.x a.high.x) (itself a.low.y a.high.y) (itself a.low.z a.high.z)
 
@@ -73,6 +76,7 @@ touches_all : (a b : Box) → along_touches a.low.x a.high.x b.low.x b.high.x �
 unfolding touches
 touches_all a b e f g = all_three _ _ _ e f g
 
+-- where two boxes of ordered bounds touch by these, they share a point
 pub touches_points : (a b : Box) → is_box a ≡ true → is_box b ≡ true → touches a b ≡ true → Touches a b
 touches_points a b p q e =
     let s = sides a p in
@@ -83,9 +87,11 @@ touches_points a b p q e =
     let z = touches_at a.low.z a.high.z b.low.z b.high.z s.2 t.2 h.2 in
     record { point = point_max a.low b.low; first = record { x = x.0; y = y.0; z = z.0 }; second = record { x = x.1; y = y.1; z = z.1 } }
 
+-- where two boxes share a point, they touch by their bounds
 pub points_touch : (a b : Box) → Touches a b → touches a b ≡ true
 points_touch a b t = touches_all a b (touches_from t.point.x _ _ _ _ t.first.x t.second.x) (touches_from t.point.y _ _ _ _ t.first.y t.second.y) (touches_from t.point.z _ _ _ _ t.first.z t.second.z)
 
+-- where a box touches another, each box that holds it does
 pub touches_up : (a b q : Box) → holds b a ≡ true → touches a q ≡ true → touches b q ≡ true
 touches_up a b q e f =
     let h = holds_parts b a e in
@@ -119,12 +125,14 @@ meets_points a b p q e =
 pub points_meet : (a b : Box) → Meets a b → meets a b ≡ true
 points_meet a b m = meets_all a b (meets_from m.point.x _ _ _ _ m.first.x m.second.x) (meets_from m.point.y _ _ _ _ m.first.y m.second.y) (meets_from m.point.z _ _ _ _ m.first.z m.second.z)
 
+-- where a box of ordered bounds meets another, it touches it
 pub meets_touches : (a b : Box) → is_box a ≡ true → meets a b ≡ true → touches a b ≡ true
 meets_touches a b p e =
     let s = sides a p in
     let h = meets_parts a b e in
     touches_all a b (meets_touches_at _ _ _ _ s.0 h.0) (meets_touches_at _ _ _ _ s.1 h.1) (meets_touches_at _ _ _ _ s.2 h.2)
 
+-- a box of ordered bounds touches itself
 pub touches_itself : (a : Box) → is_box a ≡ true → touches a a ≡ true
 touches_itself a p =
     let s = sides a p in
@@ -139,6 +147,7 @@ hull_in c a b e f =
     let q = holds_parts c b f in
     holds_all c _ (hull_least _ _ _ _ _ _ p.0 q.0) (hull_least _ _ _ _ _ _ p.1 q.1) (hull_least _ _ _ _ _ _ p.2 q.2)
 
+-- the hull of two boxes holds both, and each box that holds both holds it
 pub is_hull : (a b : Box) → IsHull a b (hull a b)
 unfolding hull
 is_hull a b = record {
@@ -153,6 +162,7 @@ hull_is_box a b p =
     let t = three (rat_le a.low.x a.high.x) (rat_le a.low.y a.high.y) (rat_le a.low.z a.high.z) p in
     all_three _ _ _ (hull_ordered a.low.x a.high.x b.low.x b.high.x t.0) (hull_ordered a.low.y a.high.y b.low.y b.high.y t.1) (hull_ordered a.low.z a.high.z b.low.z b.high.z t.2)
 
+-- the least and the greatest coordinates of two points are bounds of a box, in order
 pub corners_box : (p q : Point) → is_box (record { low = point_min p q; high = point_max p q }) ≡ true
 corners_box p q = all_three _ _ _ (ordered_at p.x q.x) (ordered_at p.y q.y) (ordered_at p.z q.z)
 

@@ -17,6 +17,7 @@ use Rattle.cga_index.proofs.Over.{over_append, over_none, over_apart}
 
 -- members
 
+-- a member of two lists joined is one of the first or of the second
 pub in_split : (xs ys : List ℕ) (n : ℕ) → Member (xs ++ ys) n → Member xs n ⊎ Member ys n
 in_split [] ys n h = inr h
 in_split (x ∷ xs) ys n h = elim h [
@@ -24,14 +25,17 @@ in_split (x ∷ xs) ys n h = elim h [
   | inr t ↦ elim (in_split xs ys n t) [ inl a ↦ inl (inr a) | inr b ↦ inr b ]
 ]
 
+-- a member of the first list is one of both joined
 pub in_left : (xs ys : List ℕ) (n : ℕ) → Member xs n → Member (xs ++ ys) n
 in_left [] ys n h = absurd h
 in_left (x ∷ xs) ys n h = elim h [ inl e ↦ inl e | inr t ↦ inr (in_left xs ys n t) ]
 
+-- a member of the second list is one of both joined
 pub in_right : (xs ys : List ℕ) (n : ℕ) → Member ys n → Member (xs ++ ys) n
 in_right [] ys n h = h
 in_right (x ∷ xs) ys n h = inr (in_right xs ys n h)
 
+-- a member of all the lists that elements give, one after the other, is in the list of some element
 pub in_some : (f : ℕ → List ℕ) (xs : List ℕ) (n : ℕ) → Member (flat_map f xs) n → (x : ℕ) × Member xs x × Member (f x) n
 in_some f [] n h = absurd h
 in_some f (x ∷ xs) n h = elim (in_split (f x) (flat_map f xs) n h) [
@@ -39,6 +43,7 @@ in_some f (x ∷ xs) n h = elim (in_split (f x) (flat_map f xs) n h) [
   | inr b ↦ let w = in_some f xs n b in (w.0, inr w.1, w.2)
 ]
 
+-- what is in the list that an element gives is in all these lists, one after the other
 pub in_flat : (f : ℕ → List ℕ) (xs : List ℕ) (x n : ℕ) → Member xs x → Member (f x) n → Member (flat_map f xs) n
 in_flat f [] x n h t = absurd h
 in_flat f (y ∷ ys) x n h t = elim h [
@@ -46,11 +51,13 @@ in_flat f (y ∷ ys) x n h t = elim h [
   | inr r ↦ in_right (f y) (flat_map f ys) n (in_flat f ys x n r t)
 ]
 
+-- the element at an index is a member
 pub in_at : (xs : List ℕ) (k x : ℕ) → slice_get xs k ≡ Some x → Member xs x
 in_at [] k x e = cc
 in_at (y ∷ ys) zero x e = inl cc
 in_at (y ∷ ys) (suc k) x e = inr (in_at ys k x e)
 
+-- from an index with an element on, a list is that element and what comes after it
 pub drop_at : (xs : List ℕ) (k x : ℕ) → slice_get xs k ≡ Some x → drop k xs ≡ x ∷ drop (k + 1) xs
 drop_at xs k x e =
     let w = slice_get_within xs k x e in
@@ -60,6 +67,7 @@ drop_at xs k x e =
 
 -- levels
 
+-- where a level is left, a node and all below it are the node, and its children with all below them, a level less
 pub below_more : (v : TreeView) (n node : ℕ) → 0 < n
     → below v n node ≡ node ∷ flat_map (below v (n - 1)) (v.children node)
 unfolding below
@@ -73,6 +81,7 @@ unfolding reads
 reads_more v by zero node h = absurd (omega (arith, h))
 reads_more v by (suc n) node h = let e : suc n - 1 ≡ n = omega arith in rw e refl
 
+-- each root is in the tree
 pub root_in : (v : TreeView) (r : ℕ) → Member v.roots r → InTree v r
 unfolding all_nodes
 root_in v r h = in_flat (below v 257) v.roots r r h (subst (λ t. Member t r) (sym (below_more v 257 r (omega arith))) (inl refl))
@@ -173,6 +182,7 @@ step_counted f cs k c a b whole e p q =
     let t : total f (drop k cs) ≡ f c + total f (drop (k + 1) cs) = ap (total f) (drop_at cs k c e) in
     omega (arith, p, q, t)
 
+-- where as many are dropped as a list has, or more, nothing is left
 pub drop_all : (cs : List ℕ) (k : ℕ) → length cs ≤ k → drop k cs ≡ []
 drop_all [] zero h = refl
 drop_all [] (suc k) h = refl

@@ -14,6 +14,7 @@ mod listing;
 mod near;
 mod node_id;
 mod nodes;
+mod of_two;
 mod standing;
 mod steps;
 #[cfg(test)]
@@ -25,6 +26,7 @@ pub use listing::queriers_meeting;
 pub use near::queriers_near;
 pub use node_id::NodeId;
 pub use nodes::{all_nodes, nodes_from};
+pub use of_two::{is_full, joined};
 pub use standing::Standing;
 pub use steps::{child_of, root_of};
 pub use walk::answer;

@@ -1,38 +1,17 @@
-ghost use Rattle.std.specs.Prelude.{◌≡◌, ◌≤◌, ◌+◌, ◌*◌, [], ◌∷◌, length, drop, cond, nat_eq, true};
+ghost use Rattle.std.specs.Prelude.{◌≡◌, ◌≤◌, ◌+◌, ◌*◌, [], ◌∷◌, length, drop, cond, nat_eq};
 ghost use Rattle.std.specs.List.{flat_map};
 ghost use Rattle.cga_index.specs.Occlusion.{answer_of, join};
-ghost use Rattle.cga_word.specs.declared.answer.Answer.TheVariants.{Full};
 ghost use Rattle.cga_index.specs.Tree.{IsHullTree, InTree, below, all_nodes, near, counts_for, asked, answer_over, reads, total};
 
 use crate::hull_tree::HullTree;
 use crate::node_id::NodeId;
+use crate::of_two::{is_full, joined};
 use crate::standing::Standing;
 use crate::steps::{block_end, child_of, root_of};
 use cga_fraction::Tests;
 use cga_frame::WorldBox;
 use cga_word::{Answer, Target};
 use std::sync::ledger::Ledger;
-
-// Of two answers the stronger one.
-fn joined(first: Answer, second: Answer) -> Answer
-    ensures { result ≡ join first second }
-{
-    match first {
-        Answer::Full => Answer::Full,
-        Answer::Part => match second {
-            Answer::Full => Answer::Full,
-            Answer::Part | Answer::Nothing => Answer::Part,
-        },
-        Answer::Nothing => second,
-    }
-}
-
-/// Whether nothing that is found later can change the answer.
-fn is_full(answer: Answer) -> bool
-    ensures { result ≡ true → answer ≡ Full }
-{
-    matches!(answer, Answer::Full)
-}
 
 /// Whether a node of this standing is asked about.
 fn counts_for(target: Target, standing: Standing) -> bool

@@ -22,6 +22,7 @@ cmp_at : (m : Mode) (c d : Chain)
 cmp_at Breadth c d = then_equal (stamp_cmp Breadth c d)
 cmp_at Depth c d = refl
 
+-- keys of one mode compare as their chains' stamps in that mode
 pub agrees : (mode : Mode) (a b : StampKey) → a.mode ≡ mode → b.mode ≡ mode
     → key_cmp a b ≡ stamp_cmp mode (chain_of_key a) (chain_of_key b)
 agrees mode a b p q =

@@ -9,17 +9,20 @@ use Rattle.cga_lexer.specs.declared.front.Front.TheVariants.{Token as Found}
 use Rattle.cga_lexer.specs.Line.{lex, from_front, behind, with_found, Rise}
 use Rattle.cga_lexer.specs.Front.{front}
 
+-- where a token goes on for so many bytes that are left, the tokens are those from the place behind them on
 pub lex_skip : (n place : ℕ) (bs : List ℕ) → n ≤ length bs → lex n place bs ≡ lex 0 (place + n) (drop n bs)
 unfolding lex
 lex_skip zero place bs h = let e : place ≡ place + 0 = omega arith in ap (λ p. lex 0 p bs) e
 lex_skip (suc n) place [] h = absurd (omega arith)
 lex_skip (suc n) place (b ∷ bs) h = let e : place + 1 + n ≡ place + suc n = omega arith in lex_skip n (place + 1) bs (omega arith) ∙ ap (λ p. lex 0 p (drop n bs)) e
 
+-- where a byte is left and no token goes on, the tokens are what the front there makes of the rest
 pub lex_head : (place b : ℕ) (bs : List ℕ)
     → lex 0 place (b ∷ bs) ≡ from_front (front (b ∷ bs)) place (λ n. lex n (place + 1) bs)
 unfolding lex
 lex_head place b bs = refl
 
+-- at a place within a line the tokens from there on are what the front there makes of the rest
 pub lex_turn : (line : List ℕ) (at : ℕ) → at < length line
     → lex 0 (at + 1) (drop at line) ≡ from_front (front (drop at line)) (at + 1)
     (λ n. lex n (at + 1 + 1) (drop (at + 1) line))
@@ -58,6 +61,7 @@ lex_nil : (place : ℕ) → lex 0 place [] ≡ Ok []
 unfolding lex
 lex_nil place = refl
 
+-- past the end of a line the tokens are those that were found
 pub ended : (line : List ℕ) (at : ℕ) → length line ≤ at → (xs : List Token)
     → with_found xs (lex 0 (at + 1) (drop at line)) ≡ Ok xs
 ended line at h xs =

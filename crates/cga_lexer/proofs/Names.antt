@@ -19,6 +19,7 @@ all_run_step : (test : ℕ → Bool) (b : ℕ) (bs : List ℕ) (t : Bool) → te
 all_run_step test b bs true e h = ap (λ t. t && list_all test (take (run test bs) bs)) e ∙ h
 all_run_step test b bs false e h = refl
 
+-- each byte of the run at the front passes the test
 pub all_run : (test : ℕ → Bool) (text : List ℕ) → list_all test (take (run test text) text) ≡ true
 unfolding run
 all_run test [] = refl
@@ -72,12 +73,14 @@ begun_step : (b : ℕ) (bs : List ℕ) → is_ascii_digit b ≡ false → (t : B
 begun_step b bs d true e h = continues-begins b d e
 begun_step b bs d false e h = absurd (omega arith)
 
+-- where a text begins with bytes of names and with no digit, the run of them begins as a name
 pub begun : (text : List ℕ) → 0 < length (take (run continues_name text) text) → begins is_ascii_digit text ≡ false
     → begins begins_name (take (run continues_name text) text) ≡ true
 unfolding run
 begun [] h d = absurd (omega arith)
 begun (b ∷ bs) h d = begun_step b bs d (continues_name b) refl h
 
+-- where a text begins as a name, the run of bytes of names at its front does
 pub word_begun : (text : List ℕ) → begins begins_name text ≡ true
     → begins begins_name (take (run continues_name text) text) ≡ true
 unfolding run

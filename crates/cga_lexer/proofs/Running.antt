@@ -27,6 +27,7 @@ within_step : (test : ℕ → Bool) (b : ℕ) (bs : List ℕ) (t : Bool) → tes
 within_step test b bs true e h = omega (arith, run_step test b bs true e)
 within_step test b bs false e h = omega (arith, run_step test b bs false e)
 
+-- a run is no longer than the text
 pub run_within : (test : ℕ → Bool) (text : List ℕ) → run test text ≤ length text
 run_within test [] = omega (arith, run_nil test)
 run_within test (b ∷ bs) = within_step test b bs (test b) refl (run_within test bs)

@@ -3,4 +3,4 @@ mod Turns
 mod Lived
 mod Reading
 mod Ends
-mod Exits
+mod Wanting

@@ -1,5 +1,4 @@
 pub mod Live
 pub mod Means
 pub mod Runs
-pub mod Exits
 pub mod Program

@@ -8,16 +8,13 @@
 //! What callers get wrong: without the exit status 0 the last of what was told may be there in part.
 #![tactic(auto)]
 
-mod exit;
 mod lines;
 mod script;
 
-ghost use Rattle.std.specs.Prelude.{◌≡◌, ◌≢◌, ◌<◌, ◌⊎◌, ◌++◌, List, ℕ, [], ◌∷◌, map, string_bytes, IfErr, IfOk, IfSome, IsErrAnd, MatchResult};
+ghost use Rattle.std.specs.Prelude.{◌≡◌, ◌≢◌, ◌<◌, ◌⊎◌, ◌++◌, List, ℕ, [], ◌∷◌, map, string_bytes, IfErr, IfOk, IfSome};
 ghost use Rattle.std.specs.Io.KnownBytes.{Appends};
 ghost use Rattle.std.specs.IoError.{error_kind};
-ghost use Rattle.std.specs.Process.{exit_status};
 ghost use Rattle.std.specs.Vec.Iter.{into_iter_items};
-ghost use Rattle.cga_live.specs.Exits.{line_of, refusal_line};
 ghost use Rattle.cga_live.specs.Live.{IsLiveOf};
 ghost use Rattle.cga_live.specs.Means.{LiveMeans};
 ghost use Rattle.cga_live.specs.Program.{Ends};
@@ -25,43 +22,22 @@ ghost use Rattle.cga_outside.specs.Causes.{Rose};
 ghost use Rattle.cga_top.specs.Hulls.{usual};
 ghost use Rattle.cga_top.specs.Outside.{outside_of};
 ghost use Rattle.cga_top.specs.Statuses.{HoldsFew};
-ghost use Rattle.cga_words.specs.Exits.{refusal_of};
+ghost use Rattle.cga_words.specs.Exits.{line_in, refusal_line, refusal_of};
 ghost use Rattle.cga_words.specs.Words.{wordless_app};
-ghost use Rattle.cga_words.specs.declared.status.Status.TheVariants.{NoMemory};
 ghost use Rattle.clap.specs.Words.{fault_of};
 
-use crate::exit::{exit_of, unreadable_words};
 use crate::script::run_live;
 use cga_expand::Expansions;
 use cga_fraction::Tests;
 use cga_outside::{Sink, Source, StdSink, StdSource};
 use cga_top::Status;
-use cga_words::{Exit, WordsFault, read_none};
-use std::alloc::Global;
+use cga_words::{Exit, ProgramName, WordsFault, end, exit_of, given_words, read_none};
 use std::env::Args;
-use std::io::{BufWriter, ErrorKind};
+use std::io::BufWriter;
 use std::marker::Brand;
 use std::process::ExitCode;
 use std::sync::ledger::{Blank, Ledger};
 use std::{env, io};
-
-// The words of the command line, the program's name first.
-fn words(alloc: Global, found: io::Result<Args>) -> Result<Vec<String>, Exit>
-    ensures given { IfOk found (λ given.
-        MatchResult result (λ words. words.items ≡ into_iter_items given)
-        (λ exit. (exit.status ≡ 6) × (exit.line.now ≡ line_of NoMemory))) }
-    ensures refused { IfErr found (λ error. IsErrAnd result (λ exit.
-        (exit.status ≡ refusal_of (error_kind error)) × (exit.line.now ≡ refusal_line (error_kind error)))) }
-{
-    match found {
-        Ok(words) => match words.collect(alloc) {
-            Ok(words) => Ok(words),
-            Err(_) => Err(exit_of(Status::NoMemory)),
-        },
-        Err(error) if error.kind() == ErrorKind::OutOfMemory => Err(exit_of(Status::NoMemory)),
-        Err(_) => Err(unreadable_words()),
-    }
-}
 
 // Replies to the script, and tells what its edits change, where there is no word.
 fn run<S: Source, K: Sink, E: Ledger, T: Ledger>(
@@ -138,28 +114,19 @@ fn program<S: Source, K: Sink, E: Ledger, T: Ledger>(
     requires tests_some { 0 < tests.parts }
     ensures given { IfOk found (λ given. Ends (map string_bytes (into_iter_items given))
         (outside_of S.Source K.Sink script.old out.old 0)
-        (λ expanded. outside_of S.Source K.Sink script.new out.new expanded) result.status result.line.now) }
+        (λ expanded. outside_of S.Source K.Sink script.new out.new expanded) result.status (line_in result)) }
     ensures refused { IfErr found (λ error. (result.status ≡ refusal_of (error_kind error))
-        × (result.line.now ≡ refusal_line (error_kind error))
+        × (line_in result ≡ refusal_line ProgramName.Live (error_kind error))
         × (outside_of S.Source K.Sink script.new out.new 0 ≡ outside_of S.Source K.Sink script.old out.old 0)) }
 {
-    match words(rt.alloc(), found) {
+    match given_words(rt.alloc(), ProgramName::Live, found) {
         Ok(words) => {
             let texts = words.as_slice();
             let status = run::<S, K, E, T>(rt, texts, script, out, expansions, tests);
-            exit_of(status)
+            exit_of(ProgramName::Live, status)
         }
         Err(exit) => exit,
     }
-}
-
-fn end(rt: &HostRuntime, exit: Exit) -> ExitCode
-    ensures { exit_status result ≡ exit.status }
-{
-    if !exit.line.is_empty() {
-        let _ = eprintln!(rt; "{}", exit.line);
-    }
-    ExitCode::from(exit.status)
 }
 
 fn main(mut rt: HostRuntime) -> ExitCode {
@@ -177,7 +144,7 @@ fn main(mut rt: HostRuntime) -> ExitCode {
                 Blank::new(1),
             )
         }
-        Err(_) => exit_of(Status::NoMemory),
+        Err(_) => exit_of(ProgramName::Live, Status::NoMemory),
     };
     end(&rt, exit)
 }

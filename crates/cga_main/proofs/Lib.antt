@@ -1,1 +1,1 @@
-mod Ends
+mod Wanting

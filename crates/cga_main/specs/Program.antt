@@ -7,6 +7,7 @@ use Rattle.cga_top.specs.Output.{output_of}
 use Rattle.cga_top.specs.Runs.{HoldsFewOr, IsScript, RunMeans, script_of}
 use Rattle.cga_words.specs.Exits.{line_of, number_of}
 use Rattle.cga_words.specs.Words.{command_app, decimals_of, town_of}
+use Rattle.cga_words.specs.declared.program_name.ProgramName.TheVariants.{City}
 use Rattle.cga_words.specs.declared.status.Status.{Status}
 use Rattle.cga_words.specs.declared.status.Status.TheVariants.{Done, NoMemory, Usage}
 use Rattle.clap.specs.Words.{Text, fault_of}
@@ -16,7 +17,7 @@ use Rattle.clap.specs.Words.{Text, fault_of}
 pub record IsEnd (texts : List Text) (old new : Outside) (number : ℕ) (line : List ℕ) : Type 0 where
   pub status : Status
   pub number_is : number ≡ number_of status
-  pub line_is : line ≡ line_of status
+  pub line_is : line ≡ line_of City status
   pub means : RunMeans (decimals_of texts) (town_of texts) status old new
   pub given : number ≡ 0 → (bytes : List ℕ) × IsScript (town_of texts) old.given new.given bytes
       × Appends old.held new.held (output_of (decimals_of texts) bytes)

@@ -7,9 +7,8 @@
 //! output to `program`, and the exit to `end`.
 #![tactic(auto)]
 
-ghost use Rattle.std.specs.Prelude.{◌≡◌, ◌≢◌, ◌<◌, ◌⊎◌, [], List, ℕ, map, string_bytes, IfSome, IsFalse, IfOk, IfErr, IsErrAnd, MatchResult};
+ghost use Rattle.std.specs.Prelude.{◌≡◌, ◌≢◌, ◌<◌, ◌⊎◌, [], List, ℕ, map, string_bytes, IfSome, IsFalse, IfOk, IfErr};
 ghost use Rattle.std.specs.Io.KnownBytes.{Appends};
-ghost use Rattle.std.specs.Process.{exit_status};
 ghost use Rattle.cga_main.specs.Program.{Ends};
 ghost use Rattle.cga_outside.specs.Causes.{Rose};
 ghost use Rattle.cga_top.specs.Output.{output_of};
@@ -19,39 +18,19 @@ ghost use Rattle.cga_words.specs.Words.{command_app, decimals_of, town_of};
 ghost use Rattle.clap.specs.Words.{fault_of};
 ghost use Rattle.std.specs.Vec.Iter.{into_iter_items};
 ghost use Rattle.std.specs.IoError.{error_kind};
-ghost use Rattle.cga_words.specs.declared.status.Status.TheVariants.{NoMemory};
-ghost use Rattle.cga_words.specs.Exits.{line_of, refusal_line, refusal_of};
+ghost use Rattle.cga_words.specs.Exits.{line_in, refusal_line, refusal_of};
 
 use cga_expand::Expansions;
 use cga_fraction::Tests;
 use cga_outside::{Sink, Source, StdSink, StdSource};
 use cga_top::{Status, run_city};
-use cga_words::{Exit, OUT_OF_MEMORY, UNREADABLE, exit_of};
-use std::alloc::Global;
+use cga_words::{Exit, ProgramName, end, exit_of, given_words};
 use std::env::Args;
-use std::io::{BufWriter, ErrorKind};
+use std::io::BufWriter;
 use std::marker::Brand;
 use std::process::ExitCode;
 use std::sync::ledger::{Blank, Ledger};
 use std::{env, io};
-
-// The words of the command line, the program's name first.
-fn words(alloc: Global, found: io::Result<Args>) -> Result<Vec<String>, Exit>
-    ensures given { IfOk found (λ given.
-        MatchResult result (λ words. words.items ≡ into_iter_items given)
-        (λ exit. (exit.status ≡ 6) × (exit.line.now ≡ line_of NoMemory))) }
-    ensures refused { IfErr found (λ error. IsErrAnd result (λ exit.
-        (exit.status ≡ refusal_of (error_kind error)) × (exit.line.now ≡ refusal_line (error_kind error)))) }
-{
-    match found {
-        Ok(words) => match words.collect(alloc) {
-            Ok(words) => Ok(words),
-            Err(_) => Err(OUT_OF_MEMORY),
-        },
-        Err(error) if error.kind() == ErrorKind::OutOfMemory => Err(OUT_OF_MEMORY),
-        Err(_) => Err(UNREADABLE),
-    }
-}
 
 // Replies to a script, with counters over these ledgers, which begin at 0.
 fn run<S: Source, K: Sink, E: Ledger, T: Ledger>(
@@ -112,28 +91,19 @@ fn program<S: Source, K: Sink, E: Ledger, T: Ledger>(
     requires tests_some { 0 < tests.parts }
     ensures given { IfOk found (λ given. Ends (map string_bytes (into_iter_items given))
         (outside_of S.Source K.Sink script.old out.old 0)
-        (λ expanded. outside_of S.Source K.Sink script.new out.new expanded) result.status result.line.now) }
+        (λ expanded. outside_of S.Source K.Sink script.new out.new expanded) result.status (line_in result)) }
     ensures refused { IfErr found (λ error. (result.status ≡ refusal_of (error_kind error))
-        × (result.line.now ≡ refusal_line (error_kind error))
+        × (line_in result ≡ refusal_line ProgramName.City (error_kind error))
         × (outside_of S.Source K.Sink script.new out.new 0 ≡ outside_of S.Source K.Sink script.old out.old 0)) }
 {
-    match words(rt.alloc(), found) {
+    match given_words(rt.alloc(), ProgramName::City, found) {
         Ok(words) => {
             let texts = words.as_slice();
             let status = run::<S, K, E, T>(rt, texts, script, out, expansions, tests);
-            exit_of(status)
+            exit_of(ProgramName::City, status)
         }
         Err(exit) => exit,
     }
-}
-
-fn end(rt: &HostRuntime, exit: Exit) -> ExitCode
-    ensures { exit_status result ≡ exit.status }
-{
-    if !exit.line.is_empty() {
-        let _ = eprintln!(rt; "{}", exit.line);
-    }
-    ExitCode::from(exit.status)
 }
 
 fn main(mut rt: HostRuntime) -> ExitCode {
@@ -151,7 +121,7 @@ fn main(mut rt: HostRuntime) -> ExitCode {
                 Blank::new(1),
             )
         }
-        Err(_) => OUT_OF_MEMORY,
+        Err(_) => exit_of(ProgramName::City, Status::NoMemory),
     };
     end(&rt, exit)
 }

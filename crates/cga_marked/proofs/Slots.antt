@@ -1,17 +1,18 @@
 -- What of a slot follows from what its entry is.
-use Rattle.std.proofs.Common.{◌≡◌, ◌≢◌, ◌⊎◌, inl, inr, ℕ, zero, suc, List, [], ◌∷◌, ◌++◌, length, Bool, true, false, refl, ap, sym, ◌∙◌, nat_eq, eq-eqb, subst}
-use Rattle.std.proofs.lemmas.Bool.{eqb-true}
+use Rattle.std.proofs.Common.{◌≡◌, inl, inr, ℕ, zero, suc, List, [], ◌∷◌, ◌++◌, length, Bool, true, false, refl, ap, sym, ◌∙◌, subst}
 use Rattle.std.specs.Prelude.{Option, Some, None, is_some, not, option_map, slice_get}
 use Rattle.cga_marked.specs.Marked.{KeepsBooks}
 use Rattle.cga_marked.specs.Slab.{Relates, passes, touch_when, OnlyTouched}
 use Rattle.cga_marked.proofs.Count.{bool_cases}
 pub use Rattle.cga_fraction.proofs.Door.{eq_or_ne as nat_cases}
 
+-- what stands at an index stands there with one more element behind the list
 pub get_kept : (xs : List ℕ) (k i c : ℕ) → slice_get xs i ≡ Some c → slice_get (xs ++ k ∷ []) i ≡ Some c
 get_kept [] k i c h = absurd (cc)
 get_kept (x ∷ xs) k zero c h = h
 get_kept (x ∷ xs) k (suc i) c h = get_kept xs k i c h
 
+-- an element behind a list stands at the index of the list's length
 pub get_last : (xs : List ℕ) (k : ℕ) → slice_get (xs ++ k ∷ []) (length xs) ≡ Some k
 get_last [] k = refl
 get_last (x ∷ xs) k = get_last xs k

@@ -1,3 +1,4 @@
 pub mod Count
 pub mod Marked
 pub mod Slab
+pub mod Map

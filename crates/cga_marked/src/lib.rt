@@ -1,18 +1,21 @@
-//! A slab with a mark: entries under numbers, with a list of those that the mark's end has to look at, so that it takes
-//! the time of what changed.
+//! A slab and a map with a mark: entries under numbers and ids under names, each with a list of what the mark's end has
+//! to look at, so that it takes the time of what changed.
 //!
-//! It must not know what an entry holds or what it keeps for the mark. Room is taken ahead, so that no change and no
-//! way back takes memory.
+//! It must not know what an entry or an id holds, or what an entry keeps for the mark. Room is taken ahead, so that no
+//! change and no way back takes memory.
 //!
 //! What callers get wrong: an entry that is set aside is still under its number, and shows in `get`, until the mark's
-//! end.
+//! end. A name that goes leaves its place to the last one.
 #![tactic(auto)]
 
 mod change;
 mod entries;
 mod marked;
+mod marked_map;
 mod marked_slab;
+mod step;
 
 pub use change::Change;
 pub use marked::Marked;
+pub use marked_map::MarkedMap;
 pub use marked_slab::MarkedSlab;

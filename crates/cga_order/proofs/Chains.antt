@@ -72,6 +72,7 @@ ranks_above-child parent i child whole h =
     let size : length child.path ≡ suc (length parent.path) = ap length h.path ∙ (length-append parent.path (i ∷ []) ∙ omega arith) in
     ap (ranks_down child) size ∙ ranks_down-child parent i child whole h (suc (length parent.path)) (omega arith)
 
+-- where the parent's chain is whole, the birth of a child is the stamp of the parent
 pub birth-child : (mode : Mode) (parent : Chain) (i : ℕ) (child : Chain) → IsWhole parent → IsChild parent i child
     → birth mode child ≡ stamp mode parent
 birth-child mode parent i child whole h = ap (maxima (rank_cmp mode)) (ranks_above-child parent i child whole h)

@@ -18,6 +18,7 @@ by_own priorities head own false e h = record {
   deepest = λ depth d k. grind (arith, common_steps);
 }
 
+-- where a depth is the head of some priorities, the child's head is that of these with its own behind
 pub child_is_head : (priorities : List ℕ) (head own : ℕ) → IsHead priorities head
     → IsHead (priorities ++ own ∷ []) (child_head priorities head own)
 child_is_head priorities head own h = by_own priorities head own (nat_le (slice_index priorities head) own) refl h

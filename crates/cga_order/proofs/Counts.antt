@@ -95,5 +95,6 @@ module _ {N A F P : Type 0} (world : World N A F P) (laws : IsWorld world) where
   count-taken [] C e = omega arith
   count-taken (s ∷ taken) D (C, reached, step) = omega (arith, count-taken taken C reached, count-step C D s (steps.in_order world laws taken C reached) step)
 
+  -- a configuration has at least as many members as shapes were taken
   pub length-taken : (taken : List N) (C : Members) → Reached world taken C → length taken ≤ length C
   length-taken taken C reached = omega (arith, count-taken taken C reached, expanded_count-bound C)

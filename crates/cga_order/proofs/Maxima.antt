@@ -26,9 +26,11 @@ module _ {R : Type 0} (cmp : R → R → Ordering) (o : IsTotalOrder cmp) where
   Apart-push r q [] a h = (h, tt)
   Apart-push r q (x ∷ xs) a h = (a.0, Apart-push r q xs a.1 h)
 
+  -- where the test for less is false, the comparison isn't less
   pub less_not : (a : Ordering) → is_lt a ≡ false → a ≡ Less → ⊥
   less_not a e l = cc
 
+  -- where the test for less is true, the comparison is less
   pub less_is : (a : Ordering) → is_lt a ≡ true → a ≡ Less
   less_is Less e = refl
   less_is Equal e = cc
@@ -42,9 +44,11 @@ module _ {R : Type 0} (cmp : R → R → Ordering) (o : IsTotalOrder cmp) where
     | Greater ↦ λ e. inr (inr (o.antisymm y x ∙ ap ordering_reverse e))
   ] refl
 
+  -- no two elements are each less than the other
   pub not_both : (x y : R) → cmp x y ≡ Less → cmp y x ≡ Less → ⊥
   not_both x y a b = let e = o.antisymm x y ∙ ap ordering_reverse b in cc
 
+  -- no element is less than itself
   pub not_self : (x : R) → cmp x x ≡ Less → ⊥
   not_self x a = let e = tied_itself o x in cc
 

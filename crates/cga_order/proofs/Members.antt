@@ -30,14 +30,17 @@ Among-index (m ∷ ns) n h = elim h [
 ]
 
 module _ {N F P : Type 0} where
+  -- a member of the first list is one of both joined
   pub Has-left : (xs ys : List (Placed N F P)) (n : N) (k : Kind F P) → Has xs n k → Has (xs ++ ys) n k
   Has-left [] ys n k h = absurd h
   Has-left (x ∷ xs) ys n k h = elim h [ inl e ↦ inl e | inr r ↦ inr (Has-left xs ys n k r) ]
 
+  -- a member of the second list is one of both joined
   pub Has-right : (xs ys : List (Placed N F P)) (n : N) (k : Kind F P) → Has ys n k → Has (xs ++ ys) n k
   Has-right [] ys n k h = h
   Has-right (x ∷ xs) ys n k h = inr (Has-right xs ys n k h)
 
+  -- a member of two lists joined is one of the first or of the second, of the same kind
   pub Has-append : (xs ys : List (Placed N F P)) (n : N) (k : Kind F P) → Has (xs ++ ys) n k → Has xs n k ⊎ Has ys n k
   Has-append [] ys n k h = inr h
   Has-append (x ∷ xs) ys n k h = elim h [
@@ -54,6 +57,7 @@ module _ {N F P : Type 0} where
     | inr r ↦ let w = Has-index xs n k r in (suc w.0, w.1, w.2, w.3, w.4)
   ]
 
+  -- where the test for waiting passes of a member's kind, the member waits
   pub waits : (xs : List (Placed N F P)) (n : N) (k : Kind F P) → Has xs n k → is_waiting k ≡ true → Has xs n Waiting
   waits xs n k h e = elim k as (λ v. Has xs n v → is_waiting v ≡ true → Has xs n Waiting) [
     | Waiting ↦ λ g f. g
@@ -62,6 +66,7 @@ module _ {N F P : Type 0} where
     | Instance y ↦ λ g f. let x : false ≡ true = f in cc
   ] h e
 
+  -- a member that passes a test is among the shapes of those that do
   pub Among-shapes_where : (test : N → Kind F P → Bool) (ms : List (Placed N F P)) (n : N) (k : Kind F P) → Has ms n k
       → test n k ≡ true → Among n (shapes_where test ms)
   Among-shapes_where test [] n k h e = absurd h
@@ -75,6 +80,7 @@ module _ {N F P : Type 0} where
     ]
   ]
 
+  -- a shape among those that pass a test is a member, of a kind with which it passes
   pub Has-from_shapes_where : (test : N → Kind F P → Bool) (ms : List (Placed N F P)) (n : N)
       → Among n (shapes_where test ms) → (k : Kind F P) × Has ms n k × (test n k ≡ true)
   Has-from_shapes_where test [] n h = absurd h
@@ -87,12 +93,14 @@ module _ {N F P : Type 0} where
   ]
 
 module _ {N A F P : Type 0} (world : World N A F P) where
+  -- two shapes stand at one place, or they don't
   pub place_dec : (n m : N) → (place_of world n ≡ place_of world m) ⊎ (place_of world n ≡ place_of world m → ⊥)
   place_dec n m = elim (either (same_place (world.chain n) (world.chain m))) [
     | inl e ↦ inl (same_place-is (world.chain n) (world.chain m) e)
     | inr e ↦ inr (same_place-not (world.chain n) (world.chain m) e)
   ]
 
+  -- a member of a list of shapes that all wait is one of the shapes, and waits
   pub Has-start : (xs : List N) (n : N) (k : Kind F P) → Has (map (λ r. record { shape = r; kind = Waiting }) xs) n k
       → Among n xs × (k ≡ Waiting)
   Has-start [] n k h = absurd h

@@ -6,6 +6,7 @@ use Rattle.cga_order.specs.World.{Among}
 use Rattle.cga_order.specs.Once.{Once}
 
 module _ {X : Type 0} where
+  -- an element of two lists joined is one of the first or of the second
   pub Among-append : (xs ys : List X) (x : X) → Among x (xs ++ ys) → Among x xs ⊎ Among x ys
   Among-append [] ys x h = inr h
   Among-append (z ∷ xs) ys x h = elim h [
@@ -13,6 +14,7 @@ module _ {X : Type 0} where
     | inr r ↦ elim (Among-append xs ys x r) [ inl a ↦ inl (inr a) | inr b ↦ inr b ]
   ]
 
+  -- where two lists have each element once and share none, joined they have each once
   pub Once-append : (xs ys : List X) → Once xs → Once ys → ((x : X) → Among x xs → Among x ys → ⊥) → Once (xs ++ ys)
   Once-append [] ys o p d = p
   Once-append (z ∷ xs) ys o p d =
@@ -48,6 +50,7 @@ module _ {X : Type 0} where
       let other = sum-once (λ x. cond (test x) 1 0) ys xs p from in
       omega (arith, one, other)
 
+  -- a list with each element once is no longer than a list that has all its elements
   pub length-once : (xs ys : List X) → Once xs → ((x : X) → Among x xs → Among x ys) → length xs ≤ length ys
   length-once [] ys o h = omega arith
   length-once (x ∷ xs) ys o h =

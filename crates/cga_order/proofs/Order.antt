@@ -17,13 +17,16 @@ by_priority_total = on_total (λ r. r.priority) nat_cmp_total
 by_place_total : IsTotalOrder by_place
 by_place_total = then_total (on_total (λ r. r.lot) nat_list_cmp_total) (on_total (λ r. r.path) nat_list_cmp_total)
 
+-- in each mode ranks are in a total order
 pub rank_total : (mode : Mode) → IsTotalOrder (rank_cmp mode)
 rank_total Breadth = then_total by_priority_total (then_total (on_total (λ r. length r.path) nat_cmp_total) by_place_total)
 rank_total Depth = then_total by_priority_total by_place_total
 
+-- in each mode lists of ranks, compared as stamps, are in a total order
 pub stamps_total : (mode : Mode) → IsTotalOrder (stamps_cmp mode)
 stamps_total mode = lists_total (rank_total mode)
 
+-- in each mode chains, compared by their stamps, are in a total order
 pub stamp_total : (mode : Mode) → IsTotalOrder (stamp_cmp mode)
 stamp_total mode = on_total (stamp mode) (stamps_total mode)
 

@@ -19,12 +19,14 @@ module _ {X : Type 0} where
     | inr h ↦ inr (h.0, omega (arith, h.1), h.2)
   ]
 
+  -- what stands at an index of a mapped list is the image of what stands there in the list
   pub slice_get-map : {Y : Type 0} (f : Y → X) (ys : List Y) (i : ℕ) (x : X) → slice_get (map f ys) i ≡ Some x
       → (y : Y) × (slice_get ys i ≡ Some y) × (f y ≡ x)
   slice_get-map f [] i x e = none_some x e
   slice_get-map f (y ∷ ys) zero x e = (y, refl, some_same (f y) x e)
   slice_get-map f (y ∷ ys) (suc i) x e = slice_get-map f ys i x e
 
+  -- an index with an element is below the length of the list
   pub slice_get-within : (xs : List X) (i : ℕ) (x : X) → slice_get xs i ≡ Some x → i < length xs
   slice_get-within [] i x e = none_some x e
   slice_get-within (y ∷ xs) zero x e = omega arith
@@ -37,6 +39,7 @@ module _ {N A F P : Type 0} (world : World N A F P) (laws : IsWorld world) where
   become-shape : (s : N) (k : Kind F P) (m : Placed N F P) → (become world s k m).shape ≡ m.shape
   become-shape s k m = elim (same_place (world.chain m.shape) (world.chain s)) as (λ b. (cond b (record { shape = m.shape; kind = k }) m).shape ≡ m.shape) [ true ↦ refl | false ↦ refl ]
 
+  -- what stands at an index is a member, with its shape and kind
   pub slice_get-Has : (xs : Members) (i : ℕ) (m : Placed N F P) → slice_get xs i ≡ Some m → Has xs m.shape m.kind
   slice_get-Has [] i m e = none_some m e
   slice_get-Has (x ∷ xs) zero m e = let is = some_same x m e in inl (ap (λ y. y.shape) is, ap (λ y. y.kind) is)

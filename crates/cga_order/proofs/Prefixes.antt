@@ -9,6 +9,7 @@ use Rattle.std.specs.FinMap.{nat_cmp-IsAntisymmetric}
 use Rattle.std.specs.Cmp.Lexicographic.{slice_cmp}
 use Rattle.cga_fraction.proofs.Door.{nat_cmp-same}
 
+-- where a number is below another, it compares as less
 pub nat_cmp-less : (m n : ℕ) → m < n → nat_cmp m n ≡ Less
 nat_cmp-less m n h = sym (nat_cmp_is m n Less h)
 

@@ -18,6 +18,7 @@ module _ {N A F P : Type 0} (world : World N A F P) where
   abbrev pub Members : Type 0
   Members = List (Placed N F P)
 
+  -- both shapes have one lot and one path
   abbrev pub SamePlace : N → N → Type 0
   SamePlace n m = place_of world n ≡ place_of world m
 
@@ -34,22 +35,27 @@ module _ {N A F P : Type 0} (world : World N A F P) where
   kind_after (Ok children) = Done
   kind_after (Err fault) = Faulted fault
 
+  -- the children that came with an outcome: none with a fault
   abbrev pub children_of : Result Members F → Members
   children_of (Ok children) = children
   children_of (Err fault) = []
 
+  -- a configuration after a step is that before with the shape's new kind, and the children that came behind it
   pub told-is : (C : Members) (s : N) (r : Result Members F)
       → told world C s r ≡ map (become world s (kind_after r)) C ++ children_of r
   told-is C s (Ok children) = refl
   told-is C s (Err fault) = sym (append-nil (map (become world s (Faulted fault)) C))
 
+  -- it is done, or has a fault
   abbrev pub IsExpanded : Kind F P → Type 0
   IsExpanded k = (k ≡ Done) ⊎ ((f : F) × (k ≡ Faulted f))
 
+  -- after its step a shape is done, or has a fault
   pub expanded_after : (r : Result Members F) → IsExpanded (kind_after r)
   expanded_after (Ok children) = inl refl
   expanded_after (Err fault) = inr (fault, refl)
 
+  -- what was expanded doesn't wait
   pub not_waiting : (k : Kind F P) → IsExpanded k → k ≡ Waiting → ⊥
   not_waiting k x e = elim x [ inl d ↦ let y : Done ≡ Waiting = sym d ∙ e in cc | inr f ↦ let y : Faulted f.0 ≡ Waiting = sym f.1 ∙ e in cc ]
 
@@ -165,6 +171,7 @@ module _ {N A F P : Type 0} (world : World N A F P) where
           → IsEarlier world (stamp_of world s) (stamp_of world w)
       least = least_stamp C s good step.waits step.least
 
+      -- the birth of a child that came in a step is the stamp of the shape that was taken
       pub child_birth : (c : N) (k : Kind F P) → Has (children_of (outcome world C s)) c k
           → birth_of world c ≡ stamp_of world s
       child_birth c k h = let l = law c k h in birth-child world.mode (world.chain s) l.1.0 (world.chain c) (laws.whole s) l.1.1

@@ -17,11 +17,13 @@ use Rattle.cga_order.proofs.Maxima.{either}
 use Rattle.cga_order.proofs.Maxima as stamps
 
 module _ {N A F P : Type 0} where
+  -- a node is a member, of the same kind
   pub Has-Keeps : (nodes : List (Node N A F P)) (n : N) (k : Kind F P) (a : A) → Keeps nodes n k a
       → Has (members_of nodes) n k
   Has-Keeps [] n k a h = absurd h
   Has-Keeps (m ∷ ms) n k a h = elim h [ inl e ↦ inl (e.0, e.1) | inr r ↦ inr (Has-Keeps ms n k a r) ]
 
+  -- a member of the nodes is a node of the same kind, with some answers
   pub Keeps-Has : (nodes : List (Node N A F P)) (n : N) (k : Kind F P) → Has (members_of nodes) n k
       → (a : A) × Keeps nodes n k a
   Keeps-Has [] n k h = absurd h
@@ -163,6 +165,7 @@ module _ {N A F P : Type 0} (world : World N A F P) (laws : IsWorld world) where
         (h.0, children_stay m k a children had has apart (λ c j g. let u = steps.child_of world laws m a children e c j g in (u.0, u.5)) h.1)
     settled_stays m k a had has apart (Err fault) e h = (h.0, children_stay m k a [] had has apart (λ c j g. absurd g) h.1)
 
+    -- where each node but instances is right or on the agenda before a turn, each is after it
     pub still_right : AllRight world before queued → AllRight world after requeued
     still_right all n k a h y = elim (where_from n k a h) [
       | inl q ↦
@@ -198,6 +201,7 @@ module _ {N A F P : Type 0} (world : World N A F P) (laws : IsWorld world) where
         (s, children, Has-Keeps nodes s Done b (subst (λ x. Keeps nodes s x b) h.0 has), e, h.1.only n k a there i child)
     made_of s n j k b a i has there child (Err fault) e h = absurd (h.1.only n k a there i child).1
 
+    -- where a tree's nodes off the agenda are right and none on it is before the limit, it is consistent so far
     pub right_consistent : IsConsistent world limit (members_of nodes)
     right_consistent = record {
       distinct = λ n m k j h g e.

@@ -243,10 +243,12 @@ module _ {N A F P : Type 0} (world : World N A F P) (laws : IsWorld world) (limi
   fits-reached [] C e b = subst Fits (sym e) fits-start
   fits-reached (s ∷ taken) D (C, reached, step) b = next C (steps.in_order world laws taken C reached) (fits-reached taken C reached b.1) D s step b.0
 
+  -- where all that was taken is before the limit, a list consistent so far has the configuration's members
   pub has_members : (taken : List N) (C : Members) → Reached world taken C → AllBefore world limit taken
       → HasMembers L C
   has_members taken C r b = listed C (steps.in_order world laws taken C r) (fits-reached taken C r b)
 
+  -- where all taken and no waiting shapes are before the limit, what a list consistent so far made before it is reached
   pub has_made : (taken : List N) (C : Members) → Reached world taken C → AllBefore world limit taken
       → NothingWaits world limit C → HasMade world limit C L
   has_made taken C r b quiet n k h e =

@@ -1,4 +1,4 @@
-ghost use Rattle.std.specs.Prelude.{◌≡◌, ◌<◌, [], Some, false, length, IfOk, is_ok, if◌then◌else◌};
+ghost use Rattle.std.specs.Prelude.{◌≡◌, ◌<◌, [], Some, false, length, IfOk, IsOk, is_ok, if◌then◌else◌};
 ghost use Rattle.std.specs.Io.{WritesAtMost};
 ghost use Rattle.std.specs.Io.KnownBytes.{WriteAppends, Keeps};
 ghost use Rattle.cga_outside.specs.Causes.{HasCause, flushed_after, risen};
@@ -20,6 +20,8 @@ impl ListSink {
     /// An empty sink. Takes no memory.
     pub fn new(alloc: Global) -> ListSink
         ensures bytes { result.bytes.items ≡ [] }
+        ensures unflushed { result.flushed ≡ false }
+        ensures faults { result.faults ≡ 0 }
     {
         ListSink {
             bytes: Vec::new(alloc),
@@ -68,6 +70,7 @@ impl Sink for ListSink {
         ensures mark { self.new.flushed ≡ is_ok result }
         ensures bytes { Keeps (Some self.old.bytes.items) (Some self.new.bytes.items) }
         ensures cause { HasCause self.old.faults self.new.faults result }
+        ensures never { IsOk result }
     {
         self.flushed = true;
         Ok(())

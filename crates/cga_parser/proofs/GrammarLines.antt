@@ -1,5 +1,5 @@
 -- The lines of the text of a grammar, and what they say.
-use Rattle.std.proofs.Common.{◌≡◌, ℕ, zero, suc, ◌+◌, ◌^◌, ◌&&◌, ◌||◌, nat_eq, Bool, true, false, List, [], ◌∷◌, ◌++◌, map, append_assoc, Option, Some, arith, ap, sym, ◌∙◌, refl, codes, if◌then◌else◌}
+use Rattle.std.proofs.Common.{◌≡◌, ℕ, zero, suc, ◌+◌, ◌^◌, ◌&&◌, nat_eq, Bool, true, false, List, [], ◌∷◌, ◌++◌, map, append_assoc, Option, Some, arith, ap, sym, ◌∙◌, refl, codes, if◌then◌else◌}
 use Rattle.std.proofs.lemmas.Bool.Decides.{nat_tests}
 use Rattle.cga_syntax.specs.GrammarText.{line, attribute_lines, rule_line, each_from, has, priorities, rules_with, priority_section, section_at, grammar_text}
 use Rattle.cga_rule.specs.declared.grammar.Attribute.{Attribute}

@@ -5,7 +5,12 @@ mod Lists
 mod Conds
 mod CondsAgain
 mod Threes
+mod ItemLayers
+mod ItemTokens
+mod ItemParts
 mod Items
+mod ItemFronts
+mod ItemPartsAgain
 mod ItemsAgain
 mod Rules
 mod RulesAgain

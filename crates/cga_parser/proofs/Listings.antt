@@ -8,9 +8,9 @@ use Rattle.cga_form.specs.Tokens.{is_keyword}
 use Rattle.cga_syntax.specs.Pieces.{scaled_pieces, added_pieces}
 use Rattle.cga_parser.specs.Grammar as g
 use Rattle.cga_syntax.specs.Pieces.{item_pieces}
-use Rattle.cga_parser.proofs.Items.{further_size_pieces, further_size_long, further_size_reads}
-use Rattle.cga_parser.proofs.Items.{further_argument_pieces, further_argument_long, further_argument_reads, item_long}
-use Rattle.cga_parser.proofs.Items.{item_reads, inner_item_reads, further_body_pieces, further_body_long}
+use Rattle.cga_parser.proofs.ItemParts.{further_size_pieces, further_size_long, further_size_reads}
+use Rattle.cga_parser.proofs.ItemParts.{further_argument_pieces, further_argument_long, further_argument_reads}
+use Rattle.cga_parser.proofs.Items.{item_long, item_reads, inner_item_reads, further_body_pieces, further_body_long}
 use Rattle.cga_parser.proofs.Items.{further_body_reads}
 use Rattle.cga_parser.proofs.Loops.{Listing}
 use Rattle.cga_parser.proofs.Conds.{inner_reads, further_test_pieces, further_test_long, further_test_reads, further_conj_pieces, further_conj_long, further_conj_reads}

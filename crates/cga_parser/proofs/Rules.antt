@@ -18,7 +18,9 @@ use Rattle.cga_form.specs.Laws.{After, Goes, Reads}
 use Rattle.std.proofs.Common.{append-nil as nil_right}
 use Rattle.cga_parser.proofs.Exprs.{comma, close, round, in_round}
 use Rattle.cga_parser.proofs.Conds.{cond_reads}
-use Rattle.cga_parser.proofs.Items.{list_pieces, body_reads, item_reads, arguments_is}
+use Rattle.cga_parser.proofs.ItemLayers.{list_pieces}
+use Rattle.cga_parser.proofs.ItemParts.{arguments_is}
+use Rattle.cga_parser.proofs.Items.{body_reads, item_reads}
 
 -- ---- parameters
 

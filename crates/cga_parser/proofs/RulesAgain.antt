@@ -21,8 +21,10 @@ use Rattle.cga_form.proofs.Door.{whole_leads, written_as}
 use Rattle.cga_form.specs.Laws.{Again, Agrees, Leads, nothing}
 use Rattle.cga_parser.proofs.ExprsAgain.{neither}
 use Rattle.cga_parser.proofs.CondsAgain.{with_or, cond_again}
-use Rattle.cga_parser.proofs.Items.{at_most_is, item_reads}
-use Rattle.cga_parser.proofs.ItemsAgain.{with_bracket, with_item, body_again, item_again}
+use Rattle.cga_parser.proofs.ItemParts.{at_most_is}
+use Rattle.cga_parser.proofs.Items.{item_reads}
+use Rattle.cga_parser.proofs.ItemFronts.{with_bracket, with_item}
+use Rattle.cga_parser.proofs.ItemsAgain.{body_again, item_again}
 use Rattle.cga_parser.proofs.Rules.{further_name_pieces, parameters_pieces, given_pieces, probability_pieces, alternative_is, alternative_long, alternative_reads, rule_is}
 
 -- ---- parameters

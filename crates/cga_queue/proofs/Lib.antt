@@ -3,6 +3,7 @@ mod Entries
 mod OnIt
 mod TwoLines
 mod Later
+mod OneByOne
 mod LinesTold
 mod Stamped
 pub mod Door

@@ -37,6 +37,7 @@ module _ {E : Type 0} (p : E → Bool) where
     | inr b ↦ or_after (p x) (list_any p es) (any_to es e b t)
   ]
 
+-- where a node is due at a key, it has a chain, whose stamp equals the key's
 pub due_from : (mode : Mode) (k : StampKey) (o : Option Chain) → is_due mode k o ≡ true
     → (x : Chain) × (o ≡ Some x) × (stamp_cmp mode (chain_of_key k) x ≡ Equal)
 due_from mode k None e = let x : false ≡ true = e in cc
@@ -56,6 +57,7 @@ module _ (D : Chains) where
       let due = due_from a.mode z.0.0 (D c) (and_right (nat_eq z.0.1 c) _ z.2) in
       (due.0, due.1, (z.0.0, subst (λ i. Among (z.0.0, i) a.entries) same z.1, due.2))
 
+  -- where an entry at the stamp of a node's chain names it, the node is on the agenda
   pub on_to : (a : AgendaView) (c : ℕ) (x : Chain) → D c ≡ Some x → Names a x c → on D a c ≡ true
   unfolding on
   on_to a c x e h =
@@ -70,9 +72,11 @@ module _ (D : Chains) where
   pub same_itself : (a : AgendaView) → SameOn D a a
   same_itself a = record { mode = refl; there = λ c h. h; back = λ c h. h }
 
+  -- an agenda that stays the same grows, whatever may come on it
   pub grows_not : (P : ℕ → Type 0) (a : AgendaView) → Grows D P a a
   grows_not P a = record { mode = refl; kept = λ c h. h; only = λ c h. inl h }
 
+  -- where an agenda grows twice by nodes of one property, it grows so in all
   pub grows_on : (P : ℕ → Type 0) (a b d : AgendaView) → Grows D P a b → Grows D P b d → Grows D P a d
   grows_on P a b d g h = record {
     mode = h.mode ∙ g.mode;
@@ -80,6 +84,7 @@ module _ (D : Chains) where
     only = λ c x. elim (h.only c x) [ inl y ↦ g.only c y | inr p ↦ inr p ];
   }
 
+  -- where an agenda grows by nodes of one property, and these have another, it grows by nodes of the other
   pub grows_by : (P Q : ℕ → Type 0) (a b : AgendaView) → ((c : ℕ) → P c → Q c) → Grows D P a b → Grows D Q a b
   grows_by P Q a b f g = record {
     mode = g.mode;

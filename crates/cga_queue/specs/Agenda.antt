@@ -1,6 +1,6 @@
 -- The agenda: numbers of nodes by the stamps at which they are to be looked at. An entry stays when its node goes, and
 -- says nothing then.
-use Rattle.std.specs.Prelude.{◌≡◌, ◌⊎◌, ℕ, List, Option, Some, None, Bool, true, false, ◌&&◌, nat_eq, slice_get}
+use Rattle.std.specs.Prelude.{◌≡◌, ◌⊎◌, ℕ, List, Option, Some, None, IsSome, Bool, true, false, ◌&&◌, nat_eq}
 use Rattle.std.specs.declared.cmp.Ordering.TheVariants.{Less, Equal}
 use Rattle.std.specs.List.{list_any}
 use Rattle.std.specs.Ordering.{is_eq, is_lt}
@@ -94,6 +94,6 @@ is_later mode (Some x) (Some y) = is_lt (stamp_cmp mode x y)
 abbrev pub ComesAfter : Chains → Mode → ℕ → ℕ → Type 0
 ComesAfter D mode of c = is_later mode (D of) (D c) ≡ true
 
--- each of these nodes that comes later than another is on it
-abbrev pub HasLater : Chains → Mode → ℕ → List ℕ → AgendaView → Type 0
-HasLater D mode of ids a = (j c : ℕ) → slice_get ids j ≡ Some c → ComesAfter D mode of c → on D a c ≡ true
+-- each of these nodes that may be on it is
+abbrev pub HasAll : Chains → (ℕ → Type 0) → AgendaView → Type 0
+HasAll D These a = (c : ℕ) → These c → IsSome (D c) → on D a c ≡ true

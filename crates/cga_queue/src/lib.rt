@@ -14,4 +14,4 @@ mod lines;
 
 pub use agenda::Agenda;
 pub use chained::Chained;
-pub use due::{add, add_later, take};
+pub use due::{add, add_all, add_later, take};

@@ -77,6 +77,7 @@ module _ {X S A B F P : Type 0} (shapes : Shapes S) (content : Content X S A F P
       tops = tops;
     }
 
+-- where a city is rerooted to a tree, what came stands on top and the roots are the new rules', it is a city again
 pub rerooted_is_city : {X S A B F P : Type 0} → RerootedIsCity X S A B F P
 rerooted_is_city shapes content old new V T gone was tree r came tops = rerooted shapes content old new V T gone was r tree came tops
 
@@ -271,6 +272,7 @@ module _ {X S A B F P : Type 0} (shapes : Shapes S) (content : Content X S A F P
   pub begun : IsBegun edit start nodes queued
   begun = record { tree = is_tree shapes content new T city great within'; from = from; to = to; changed = changed }
 
+-- where a tree that stands is rerooted, with the first agenda, it is underway, and the work of the edit has begun
 pub roots_begin : {X S A B F P : Type 0} → RootsBegin X S A B F P
 roots_begin {A = A} {F = F} {P = P} shapes content old new laws was asks meets sees_is V T small great gone agenda within within' stood city r first =
     let queued = queued_by shapes content T agenda great in

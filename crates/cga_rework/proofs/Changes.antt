@@ -172,6 +172,7 @@ module _ {X S A B F P : Type 0} (shapes : Shapes S) (content : Content X S A F P
       let z = keeps-node content T great x.shape (Instance x.solid) g.0 g.1 in
       inl (keeps_drawn shapes content old V was small within z.0 z.1 x (was_there z.0 z.1 x.solid z.2 z.4) z.3 z.4))
 
+-- the instances that went and came in a turn, or went with roots, are a change; nothing is one where nothing changes
 pub lists_are_changes : {X S A B F P : Type 0} → ListsAreChanges X S A B F P
 lists_are_changes = record {
   turn = λ shapes content old new laws by_symbol fits asks meets is_fit V T small great id news e now gone agenda rest after expanded within within' under turn went came lost found.

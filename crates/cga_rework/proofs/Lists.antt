@@ -12,10 +12,12 @@ use Rattle.cga_agenda.specs.Record.{drawn}
 use Rattle.cga_rework.specs.Ranked.{unranked_drawn}
 
 module _ {X Y : Type 0} (f : X → Y) where
+  -- an element of a mapped list is the image of an element of the list
   pub Among-map : (xs : List X) (y : Y) → Among y (map f xs) → (x : X) × Among x xs × (f x ≡ y)
   Among-map [] y h = absurd h
   Among-map (x ∷ xs) y h = elim h [ inl e ↦ (x, inl refl, e) | inr r ↦ let w = Among-map xs y r in (w.0, inr w.1, w.2) ]
 
+  -- the image of an element is an element of the mapped list
   pub map-Among : (xs : List X) (x : X) → Among x xs → Among (f x) (map f xs)
   map-Among [] x h = absurd h
   map-Among (z ∷ xs) x h = elim h [ inl e ↦ inl (ap f e) | inr r ↦ inr (map-Among xs x r) ]
@@ -27,6 +29,7 @@ module _ {X Y : Type 0} (f : X → Y) where
     Once-map xs o.1 (λ y z g h e. same y z (inr g) (inr h) e),
   )
 
+  -- as many elements of a mapped list pass a test as elements of the list have images that do
   pub count-map : (test : Y → Bool) (xs : List X) → count_by test (map f xs) ≡ count_by (λ x. test (f x)) xs
   count-map test [] = refl
   count-map test (x ∷ xs) =

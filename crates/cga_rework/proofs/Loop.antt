@@ -18,6 +18,7 @@ module _ {S A B F P : Type 0} (shapes : Shapes S) (old new : Rules S A B F P) (l
       (after : List (Placed S F P)) × (derive (derivation_of shapes new) budget ≡ Some after)
       × ((worked : List (Ranked S)) × IsExactRework shapes old new last.nodes worked last.gone last.come before after × (since ≡ calls + length worked))
 
+  -- when the loop has ended, the new derivation is within budget, the rework exact, and each expanded shape took a call
   pub loop_done : Exact
   loop_done = by (derive (derivation_of shapes new) budget) refl
     where

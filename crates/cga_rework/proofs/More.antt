@@ -46,6 +46,7 @@ module _ {S A B F P : Type 0} (shapes : Shapes S) where
         let size : length w.1 ≡ length (reached (derivation_of shapes rules) j) = sym (length-map unranked w.1) ∙ ap length w.3 in
         omega (arith, bound, length-map (λ m. m.shape) C, length-map (λ m. m.shape) w.1, size)
 
+    -- where a configuration of ranked shapes is over the budget, the derivation gives none
     pub over_none : (budget : ℕ) → IsOverBudget world budget → derive (derivation_of shapes rules) budget ≡ None
     over_none budget (taken, C, run, lt) = elim (derived_or_none (derivation_of shapes rules) are budget) [
       | inl none ↦ none
@@ -55,6 +56,7 @@ module _ {S A B F P : Type 0} (shapes : Shapes S) where
           absurd (omega (arith, le, most, lt))
     ]
 
+    -- where the derivation gives none, a configuration of ranked shapes is over the budget
     pub none_over : (budget : ℕ) → derive (derivation_of shapes rules) budget ≡ None → IsOverBudget world budget
     none_over budget none =
         let h : Says (derivation_of shapes rules) are budget None = subst (Says (derivation_of shapes rules) are budget) none (says (derivation_of shapes rules) are budget) in
@@ -111,6 +113,7 @@ module _ {S A B F P : Type 0} (shapes : Shapes S) where
     same_result above (Ok cs) h = ap Ok (same_all above cs (h cs refl))
     same_result above (Err f) h = refl
 
+    -- where each child but instances has its old priority, renewing the children changes nothing
     pub unchanged : (n : Ranked S) (a : A)
         → ((cs : List (Placed S F P)) → old.expand n.shape a ≡ Ok cs → (c : S) (k : Kind F P) → Has cs c k
         → is_instance k ≡ false → old.priority c ≡ new.priority c)

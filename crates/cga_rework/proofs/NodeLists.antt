@@ -15,6 +15,7 @@ module _ {X S A F P : Type 0} (content : Content X S A F P) (T : View X) where
   IsNodeOf b n k a =
       (c : ℕ) × (d : Seen X) × (T c ≡ Some d) × (ranked_of content d.node ≡ n) × (content.kind d.node ≡ k) × (content.answers d.node ≡ a) × (c < b)
 
+  -- a node of the list up to a bound is one under some number below it, with its kind and answers
   pub keeps-node : (b : ℕ) (n : Ranked S) (k : Kind F P) (a : A) → Keeps (nodes_of content T b) n k a → IsNodeOf b n k a
   unfolding nodes_of
   keeps-node zero n k a h = absurd h

@@ -26,6 +26,7 @@ module _ {X S A B F P : Type 0} (shapes : Shapes S) (content : Content X S A F P
   abbrev pub w : World (Ranked S) A F P
   w = ranked_world shapes rules
 
+  -- what a node holds, as a ranked shape
   abbrev pub rank : X → Ranked S
   rank x = ranked_of content x
 
@@ -141,6 +142,7 @@ module _ {X S A B F P : Type 0} (shapes : Shapes S) (content : Content X S A F P
       ]
     ]
 
+    -- in a city two nodes at one place have one number, and are one
     pub same_node : (c b : ℕ) (d e : Seen X) → T c ≡ Some d → T b ≡ Some e → SamePlaces d.node e.node
         → (c ≡ b) × (d ≡ e)
     same_node c b d e t u same =
@@ -183,6 +185,7 @@ module _ {X S A B F P : Type 0} (shapes : Shapes S) (content : Content X S A F P
       abbrev pub nodes : List (Node (Ranked S) A F P)
       nodes = nodes_of content T bound
 
+      -- where all numbers are below the bound, each node is in the list, with its kind and answers
       pub keeps : (c : ℕ) (d : Seen X) → T c ≡ Some d
           → Keeps nodes (rank d.node) (content.kind d.node) (content.answers d.node)
       keeps c d t = node-keeps content T bound c d (bounded c d t) t

@@ -31,11 +31,13 @@ index-snoc : (xs : List ℕ) (x : ℕ) → slice_index (xs ++ x ∷ []) (length 
 index-snoc xs x = get_or-append_seam xs x [] 0
 
 module _ {S F P : Type 0} where
+  -- where a ranked shape is a member, its shape is one without the priorities on paths, of the same kind
   pub unranked-Has : (ms : List (Placed (Ranked S) F P)) (n : Ranked S) (k : Kind F P) → Has ms n k
       → Has (map unranked ms) n.shape k
   unranked-Has [] n k h = absurd h
   unranked-Has (m ∷ ms) n k h = elim h [ inl e ↦ inl (ap shape_of e.0, e.1) | inr r ↦ inr (unranked-Has ms n k r) ]
 
+  -- each member without the priorities on paths is the shape of a ranked one, of the same kind
   pub Has-unranked : (ms : List (Placed (Ranked S) F P)) (s : S) (k : Kind F P) → Has (map unranked ms) s k
       → (n : Ranked S) × Has ms n k × (n.shape ≡ s)
   Has-unranked [] s k h = absurd h

@@ -66,6 +66,7 @@ module _ {S A B F P : Type 0} (shapes : Shapes S) (rules : Rules S A B F P) (are
       priorities = priorities;
     }
 
+  -- where the old derivation ends in a list, what an edit starts from stands for that list
   pub start_stands : (new : Rules S A B F P) (start : List (Node (Ranked S) A F P))
       → IsStart (edit_of shapes rules new) start → (derived : List (Placed S F P))
       → IsDerived (derivation_of shapes rules) derived → StandsFor shapes rules start derived

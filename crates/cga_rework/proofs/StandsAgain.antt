@@ -75,6 +75,7 @@ module _ {X S A B F P : Type 0} (shapes : Shapes S) (content : Content X S A F P
       nothing : {Y : Type 0} (c : ℕ) (d : Seen X) → V c ≡ Some d → Y
       nothing c d v = none_some d (sym (none c) ∙ v)
 
+-- what work leaves stands; what stands starts an edit; put back, it stands; no nodes stand for rules without lots
 pub stands_again : {X S A B F P : Type 0} → StandsAgain X S A B F P
 stands_again = record {
   done = λ shapes content old new asks T n start agenda queued turned worked bound under are working none. done shapes content old new asks T n start agenda queued turned worked bound under are working none;

@@ -162,6 +162,7 @@ walk_asks shapes content old new laws T n bounded city c q u existing waiting ex
     (λ m v. counted_same shapes content new T city n bounded c q u (exists_at w (ranked_of content q.node)) (exists_then shapes content T q.node) (λ b d t. exists_same shapes content new T city b c d q t u) existing ex m v)
     (λ m v. counted_same shapes content new T city n bounded c q u (waits_at w (ranked_of content q.node)) (waits_then shapes content T q.node) (λ b d t. waits_same shapes content new T city b c d q t u) waiting wt m v)
 
+-- equal views have equal lists; a list is as long as its view has nodes; in a city each node stands once
 pub lists_are_views : {X S A B F P : Type 0} → ListsAreViews X S A B F P
 lists_are_views = record {
   same = λ content V T n m same b c. same_list content V T n m same b c;

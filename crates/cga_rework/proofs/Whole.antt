@@ -122,6 +122,7 @@ module _ {X S A B F P : Type 0} (shapes : Shapes S) (content : Content X S A F P
       (requeued, are', is_turn),
     )
 
+-- where a tree is underway, a turn of it is a turn of the work, and leaves it underway
 pub node_turns : {X S A B F P : Type 0} → NodeTurns X S A B F P
 node_turns shapes content old new laws by_symbol fits asks meets is_fit sees_is V T small great id news e now gone agenda rest after expanded within within' under turn queued are =
     turns shapes content old new laws by_symbol fits asks meets is_fit V T small great id news e now gone agenda rest after expanded within within' under turn sees_is queued are
@@ -237,6 +238,7 @@ module _ {X S A B F P : Type 0} (shapes : Shapes S) (content : Content X S A F P
           );
     }
 
+-- where a tree is underway, a turn that changes only the agenda is a turn of the work, and leaves it underway
 pub quiet_turns : {X S A B F P : Type 0} → QuietTurns X S A B F P
 quiet_turns shapes content old new laws by_symbol asks V small id e agenda rest within under turn queued are = (
   under_still shapes content old new asks V small id e agenda rest within under turn,
@@ -247,6 +249,7 @@ quiet_turns shapes content old new laws by_symbol asks V small id e agenda rest 
   ),
 )
 
+-- where no node is on the agenda, nothing is queued
 pub empty_is_none : {X S A B F P : Type 0} → EmptyIsNone X S A B F P
 empty_is_none shapes content old new V n agenda queued bound are none = none_queued shapes content old new V n agenda queued are none
 

@@ -75,6 +75,7 @@ module _ {S A B F P : Type 0} (shapes : Shapes S) where
         let w = Among-map shape_of xs t h in
         subst (λ x. Among x (map shape_of ys)) w.2 (map-Among shape_of ys w.0 (same w.0 (subst (λ x. rules.sees n.shape x ≡ true) (sym w.2) v) w.1))
 
+    -- where rules make a derivation, ranked shapes make a world by them
     pub is_world : IsWorld world
     is_world = record {
       whole = whole;
@@ -128,6 +129,7 @@ module _ {S A B F P : Type 0} (shapes : Shapes S) where
     solids n (Faulted f) e = let x : false ≡ true = e in cc
     solids n (Instance p) e = refl
 
+    -- old and new rules that meet what an edit needs make an edit over ranked shapes
     pub make : IsRulesEdit shapes old new → IsEdit edit
     make laws = record {
       old = is_world old laws.was;

@@ -39,9 +39,11 @@ group_sound a b h =
     let rules = list_sound same_rule rule_sound a.rules b.rules (second_so (nat_eq a.priority b.priority) _ u) in
     λ i. record { symbol = symbol i; priority = priority i; rules = rules i }
 
+-- the test of two rules is true just where they are equal
 pub rule_equal : (a b : Rule) → (same_rule a b ≡ true) ↔ (a ≡ b)
 rule_equal a b = (rule_sound a b, λ e. subst (λ c. same_rule a c ≡ true) e (rule.laws-law.refl a))
 
+-- the test of two groups is true just where they are equal
 pub group_equal : (a b : Group) → (same_group a b ≡ true) ↔ (a ≡ b)
 group_equal a b = (group_sound a b, λ e. subst (λ c. same_group a c ≡ true) e (group.laws-law.refl a))
 

@@ -20,6 +20,7 @@ Sound {A} same x = (y : A) → same x y ≡ true → x ≡ y
 one_less : (a b : ℕ) → a + 1 ≡ b + 1 → a ≡ b
 one_less a b h = omega arith
 
+-- numbers of which the test for equal ones is true are equal
 pub fraction_sound : (a : Rat) → Sound (fraction.ghosts).eq a
 fraction_sound a b h =
     let n : a.num ≡ b.num = (signed_Decides a.num b.num).0 (first_so _ _ h) in
@@ -41,6 +42,7 @@ option_sound same each None None h = refl
 option_sound same each (Some a) (Some b) h = ap Some (each a b h)
 option_sound same each a b h = not_so h
 
+-- where a test is true of equal elements only, tested element by element only equal lists pass
 pub list_sound : {A : Type 0} (same : A → A → Bool) → ((x : A) → Sound same x) → (xs : List A)
     → Sound (pointwise same) xs
 list_sound same each [] [] h = refl

@@ -66,5 +66,6 @@ city_at n (line.Block b) =
     peek_no (is_word (codes "lot")) (missed (no_lot b))
     (peek_no (is_word (codes "order")) (missed (no_order b)) (plainly (after {v = block_pieces} _ b (block_form.again n) (misses_end (no_more _)) ends)))
 
+-- the lines of a block of a whole city are a form
 pub city_form : IsForm city_pieces city
 city_form = record { follows = any; exact = city_reads; again = λ n. record { all = city_at n } }

@@ -186,5 +186,6 @@ command_at v n c.Redo = by_further v n further.Redo ends
 command_at v n c.Trace = by_further v n further.Trace ends
 command_at v n c.JudgeBlock = by_further v n further.Judge ends
 
+-- the commands of each version are a form
 pub command_form : (v : Version) → IsForm (command_pieces v) (command v)
 command_form v = record { follows = any; exact = command_reads v; again = λ n. record { all = command_at v n } }

@@ -82,6 +82,7 @@ no_rest : IsOneLine (cut []).rest
 unfolding cut
 no_rest = All-nil (λ (b : ℕ). b ≢ 10)
 
+-- the rest behind the last LF has none
 pub rest_is_one : (xs : List ℕ) → IsOneLine (cut xs).rest
 rest_is_one [] = no_rest
 rest_is_one (x ∷ xs) = elim (lf_or_other x) [
@@ -130,6 +131,7 @@ line_kept x = elim (le_or 4098 (length x)) [
   | inr ge ↦ ap (λ (t : List ℕ). clipped (without_cr t)) (take_all 4098 x ge)
 ]
 
+-- the line read from what is kept of some bytes is the line read from all of them
 pub last_kept : (x : List ℕ) → clipped (kept_of x) ≡ clipped x
 last_kept x = elim (le_or 4098 (length x)) [
   | inl le ↦ let n = length-take-le 4098 x le in clipped_long (take 4098 x) (omega (arith, n)) ∙ ap (λ (t : List ℕ). record { bytes = t; long = true }) (take_twice 4096 4098 x (omega arith)) ∙ sym (clipped_long x (omega arith))
@@ -163,6 +165,7 @@ lines_append read piece =
     ∙ map-append (λ line. clipped (without_cr line)) (cut read).lines (cut ((cut read).rest ++ piece)).lines
     ∙ ap (λ (ls : List Line). lines_of read ++ ls) (sym (lines_kept (cut read).rest piece (rest_is_one read)))
 
+-- after one more piece, what is kept of the rest follows from the piece and what was kept of the rest before
 pub kept_append : (read piece : List ℕ)
     → kept_of (cut (kept_of (cut read).rest ++ piece)).rest ≡ kept_of (cut (read ++ piece)).rest
 kept_append read piece = rest_kept (cut read).rest piece (rest_is_one read) ∙ ap (λ (c : Cut). kept_of c.rest) (sym (cut_append read piece))

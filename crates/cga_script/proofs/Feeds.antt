@@ -23,6 +23,7 @@ pub record TakesLine (now more : List ℕ) (line : Line) : Type 0 where
   pub lines : lines_of now ≡ line ∷ lines_of more
   pub left : (cut now).rest ≡ (cut more).rest
 
+-- where the first LF of a piece ends the line that is kept, that line comes first, and then those behind it
 pub takes_line : (kept rest more : List ℕ) (n : ℕ) (p : Pending) → IsOneLine kept → 0 < n → n ≤ length rest
     → get_or rest (n - 1) 0 ≡ 10 → IsOneLine (take (n - 1) rest) → more ≡ drop n rest
     → p ≡ record { kept = kept_of (kept ++ take (n - 1) rest); ending = Lf }
@@ -40,15 +41,19 @@ takes_line kept rest more n p one some most lf part others is =
 pub no_lines : (part : List ℕ) → IsOneLine part → lines_of part ≡ []
 no_lines part one = ap (λ (c : Cut). map (λ (l : List ℕ). clipped (without_cr l)) c.lines) (cut_part part one)
 
+-- a part without an LF is all rest
 pub rest_of_part : (part : List ℕ) → IsOneLine part → (cut part).rest ≡ part
 rest_of_part part one = ap (λ (c : Cut). c.rest) (cut_part part one)
 
+-- what is kept of a part without an LF has none
 pub kept_one : (part : List ℕ) → IsOneLine part → IsOneLine (kept_of part)
 kept_one part one = All-take IsByte 4098 part one
 
+-- what is kept of what is kept is all of that
 pub kept_twice : (part : List ℕ) → kept_of (kept_of part) ≡ kept_of part
 kept_twice part = take_twice 4098 4098 part (omega arith)
 
+-- two parts without an LF have none when joined
 pub one_more : (kept part : List ℕ) → IsOneLine kept → IsOneLine part → IsOneLine (kept ++ part)
 one_more kept part a b = All-append IsByte kept part a b
 

@@ -15,6 +15,7 @@ by_its_length : (v : Version) (bytes : List ℕ) (long : Bool) (a b : Result Scr
 by_its_length v bytes true a b h k = h ∙ sym k
 by_its_length v bytes false a b h k = once_tokens (command_pieces v) (form_unique (command_pieces v) (command v) (command_form v)) (length bytes + 1) (tokens_of bytes) a b h k
 
+-- two results that a line tells in one version are equal
 pub one_command : (v : Version) (line : Line) (a b : Result ScriptCommand LineFault) → CommandTells v line a
     → CommandTells v line b → a ≡ b
 one_command v line a b h k = by_its_length v line.bytes (is_long line) a b h k

@@ -55,12 +55,14 @@ put_by : (v : Version) (p : ℕ) (r : Rule) (bytes : List ℕ) (long : Bool)
 put_by v p r bytes true h = absurd (cc)
 put_by v p r bytes false h = put_lexed v p r bytes (tokens_of bytes) refl h
 
+-- where a line tells that a rule is put, each number that the rule is printed with has a text
 pub put_prints : (v : Version) (l : Line) (p : ℕ) (r : Rule) → CommandTells v l (Ok (put p r))
     → HaveTexts (printed (rule_pieces r))
 put_prints v l p r h = put_by v p r l.bytes (is_long l) h
 
 -- ---- a whole city
 
+-- where lines tell sources, each rule of their grammar may be printed
 pub city_prints : (lines : List Line) (s : Sources) → CityTells lines (Ok s) → ArePrintable s.grammar.rules
 city_prints lines s h =
     let ls = rule_lines lines h.0 h.1 in

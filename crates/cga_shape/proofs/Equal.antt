@@ -64,5 +64,6 @@ shape_sound a b h =
     let scope = scope_sound a.scope b.scope (first_so ((scope.ghosts).eq a.scope b.scope) _ w) in
     λ i. record { lot = lot i; path = path i; symbol = symbol i; args = args i; scope = scope i; seed = seed i }
 
+-- the test of two shapes is true just where they are equal
 pub shape_equal : (a b : Shape) → (same_shape a b ≡ true) ↔ (a ≡ b)
 shape_equal a b = (shape_sound a b, λ e. subst (λ c. same_shape a c ≡ true) e (shape.laws-law.refl a))

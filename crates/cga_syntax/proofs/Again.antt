@@ -16,6 +16,7 @@ use Rattle.cga_syntax.specs.declared.print.mark.Mark.{Mark}
 use Rattle.cga_syntax.proofs.Exact.{whole_literal, exact}
 use Rattle.std.proofs.lemmas.Bool.{and_parts as both}
 
+-- the tokens, without their spaces
 abbrev pub lexemes : List Mark → List Lexeme
 lexemes ms = map (λ m. m.lexeme) ms
 
@@ -29,6 +30,7 @@ walk_twice : (f g : ℕ → Option ℕ) (o : Option ℕ) → walk_on g (walk_on 
 walk_twice f g None = refl
 walk_twice f g (Some n) = refl
 
+-- the brackets left after joined texts are those left by the second after what the first leaves
 pub walk_join : (x y : List Lexeme) (n : ℕ) → walk n (x ++ y) ≡ walk_on (λ m. walk m y) (walk n x)
 unfolding walk
 walk_join [] y n = refl
@@ -187,6 +189,7 @@ again_step n c m p ps x here rest e a g =
           ∙ ap (walk_on (λ k. walk k rest)) (a.brackets i) ∙ sym (walk_join here rest i) ∙ ap (walk i) (sym e);
     }
 
+-- where pieces are written as tokens such as a line has, so are they as they are printed, with the same brackets
 pub again : (n : ℕ) (ps : Pieces) (x : List Lexeme) (m : ℕ) → AreTokens x → Writes n ps x m → Again n ps x m
 unfolding Writes
 again n [] x m t w = record { tokens = tt; written = (refl, w.1); brackets = λ i. ap (walk i) (sym w.0) }
@@ -204,6 +207,7 @@ has_text (lexeme.Name name) t = tt
 has_text (lexeme.Text name) t = tt
 has_text (lexeme.Sign sign) t = tt
 
+-- where tokens are such as a line has, each has a text
 pub have_texts : (ms : List Mark) → AreTokens (lexemes ms) → HaveTexts ms
 have_texts [] t = All-nil (λ (m : Mark). HasText m.lexeme)
 have_texts (m ∷ ms) t = All-cons (λ (m : Mark). HasText m.lexeme) m ms (has_text m.lexeme t.0) (have_texts ms t.1)

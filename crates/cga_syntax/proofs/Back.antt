@@ -152,6 +152,7 @@ primary_sign : (sign : Sign) (rest : List ℕ) → begins_primary (lexeme.Sign s
 primary_sign s.LeftRound rest h = refl
 primary_sign _ rest h = absurd (let q : false ≡ true = h in cc)
 
+-- where a token such as a line has begins a primary, its text begins with no second byte of a sign
 pub primary_apart : (l : Lexeme) (rest : List ℕ) → IsToken l → begins_primary l ≡ true
     → begins second (lexeme_bytes l ++ rest) ≡ false
 primary_apart (lexeme.Number value) rest t h = number_apart (literal_text_of value) rest (shape (literal_text_of value) value (literal_is_shortest value t).reads)
@@ -295,6 +296,7 @@ lex_blank : (place : ℕ) (rest : List ℕ) → lex 0 place (32 ∷ rest) ≡ le
 unfolding lex front
 lex_blank place rest = refl
 
+-- no bytes have no tokens
 pub lex_nil : (place : ℕ) → lex 0 place [] ≡ Ok []
 unfolding lex
 lex_nil place = refl
@@ -308,6 +310,7 @@ token_read l rest place ls t e h =
     subst (λ o. AreRead o (l ∷ ls)) (sym (some_bytes (lexeme_bytes l) rest place f.kind f.there (bytes_some l t)))
     (front_first at (lex 0 (place + length (lexeme_bytes l)) rest) l ls f.is (h (place + length (lexeme_bytes l))))
 
+-- where a text is read as tokens at every place, it is with a space before it too, or with none
 pub space_read : (c : Bool) (text : List ℕ) (place : ℕ) (ls : List Lexeme) → ((p : ℕ) → AreRead (lex 0 p text) ls)
     → AreRead (lex 0 place ((if c then [] else 32 ∷ []) ++ text)) ls
 space_read true text place ls h = h place
@@ -325,6 +328,7 @@ marks_read last (m ∷ ms) place t =
     before_read last m (lexeme_bytes m.lexeme ++ text_after (Some m) ms) place (m.lexeme ∷ map (λ n. n.lexeme) ms)
     (λ p. token_read m.lexeme (text_after (Some m) ms) p (map (λ n. n.lexeme) ms) t.0 (followed_by m ms t.1) (λ q. marks_read (Some m) ms q t.1))
 
+-- where tokens are such as a line has, their text is read as them
 pub text_read : (ms : List Mark) → AreTokens (map (λ m. m.lexeme) ms)
     → AreRead (tokens_of (text_of ms)) (map (λ m. m.lexeme) ms)
 text_read ms t = marks_read None ms 1 t

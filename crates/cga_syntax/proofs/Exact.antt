@@ -61,6 +61,7 @@ whole_literal n h =
     let l : length (decimal (n / 10 ^ 0)) ≤ 18 = length-decimal-le 18 (n / 10 ^ 0) (omega arith) (omega arith) (omega arith) in
     (pointed 0 n, reads-pointed 0 n (omega arith) (omega arith) ∙ ap Ok (whole_reduced n))
 
+-- a whole number that some text is read as is below 10 to the 18
 pub whole_small : (n : ℕ) → IsLiteral (of_int (pos n)) → n < 10 ^ 18
 whole_small n h =
     let s = literal_small (of_int (pos n)) h in

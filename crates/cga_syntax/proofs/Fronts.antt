@@ -222,6 +222,7 @@ pub record Named (name : List ℕ) : Type 0 where
 continues : (b : ℕ) → begins_name b ≡ true → continues_name b ≡ true
 continues b h = grind (arith, nat_tests)
 
+-- where bytes are a name, they begin and go on as one, and are at most 32 and at least one
 pub named_of : (name : List ℕ) → is_name name ≡ true → Named name
 named_of [] h = absurd (let q : false ≡ true = h in cc)
 named_of (b ∷ bs) h =

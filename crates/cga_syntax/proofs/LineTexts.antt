@@ -26,6 +26,7 @@ use Rattle.std.proofs.Common.{append-nil as nil_right}
 
 -- ---- whole numbers
 
+-- the literal text of a natural number is its decimal text
 pub whole_text : (n : ℕ) → literal_text_of (of_int (pos n)) ≡ decimal n
 unfolding literal_text_of places_from pointed
 whole_text n =
@@ -51,6 +52,7 @@ whole_apart n rest t = ap (λ z. begins second (z ++ rest)) (sym (whole_text n))
 abbrev pub below : ℕ → List ℕ
 below above = if above == 0 then [] else (47 ∷ decimal (above + 1))
 
+-- a denominator above 1 is written behind a slash
 pub below_more : (above : ℕ) → below (suc above) ≡ 47 ∷ decimal (suc above + 1)
 below_more above =
     let e : (suc above == 0) ≡ false = grind (arith, nat_tests) in
@@ -65,6 +67,7 @@ magnitude_read n (suc above) place t =
     (whole_read n (47 ∷ decimal (suc above + 1)) place (lexeme.Sign s.Slash ∷ number (suc above + 1) ∷ []) t.0 (refl, refl)
     (λ p. token_read (lexeme.Sign s.Slash) (decimal (suc above + 1)) p (number (suc above + 1) ∷ []) tt (inr apart) (λ q. whole_last (suc above + 1) q t.1.1.0)))
 
+-- where the tokens of a magnitude are such as a line has, its first number is such a token
 pub first_whole : (n above : ℕ) → AreTokens (lexemes (magnitude n above)) → IsToken (number n)
 first_whole n zero t = t.0
 first_whole n (suc above) t = t.0
@@ -99,6 +102,7 @@ priority_token = (refl, refl)
 abbrev pub attribute_tokens : Attribute → List Lexeme
 attribute_tokens a = lexeme.Name (codes "attr") ∷ lexeme.Name a.name ∷ lexeme.Sign s.Assign ∷ lexemes (exactly a.value.num a.value.above)
 
+-- where the tokens of an attribute are such as a line has, its line is read as them
 pub attribute_read : (a : Attribute) → AreTokens (attribute_tokens a)
     → AreRead (tokens_of (codes "attr " ++ (a.name ++ (codes " = " ++ exact_text_of a.value)))) (attribute_tokens a)
 attribute_read a t =
@@ -116,6 +120,7 @@ attribute_read a t =
 abbrev pub priority_tokens : ℕ → List Lexeme
 priority_tokens n = lexeme.Name (codes "PRIORITY") ∷ number n ∷ lexeme.Sign s.Colon ∷ []
 
+-- the line of a priority below 2 to the 16 is read as its tokens
 pub priority_read : (n : ℕ) → n < 2 ^ 16
     → AreRead (tokens_of (codes "PRIORITY " ++ (decimal n ++ codes ":"))) (priority_tokens n)
 priority_read n h =
@@ -148,11 +153,13 @@ exact_short : (v : Rat) → AreTokens (lexemes (exactly v.num v.above)) → leng
 unfolding exact_text_of
 exact_short v t = signed_short v.num v.above t
 
+-- where the tokens of an attribute are such as a line has, its line has at most 4,096 bytes
 pub attribute_short : (a : Attribute) → AreTokens (attribute_tokens a)
     → length (codes "attr " ++ (a.name ++ (codes " = " ++ exact_text_of a.value))) ≤ 4096
 attribute_short a t =
     let n = (named_of a.name t.1.0.0).few in
     omega (arith, n, exact_short a.value t.1.1.1, length-append a.name (codes " = " ++ exact_text_of a.value))
 
+-- the line of a priority below 2 to the 16 has at most 4,096 bytes
 pub priority_short : (n : ℕ) → n < 2 ^ 16 → length (codes "PRIORITY " ++ (decimal n ++ codes ":")) ≤ 4096
 priority_short n h = omega (arith, whole_short n (whole_literal n (omega arith)), length-append (decimal n) (codes ":"))

@@ -171,5 +171,6 @@ lex_is n place [] ts h = subst (λ z. AreTokens (seen_of z)) (same_list [] ts h)
 lex_is zero place (b ∷ bs) ts h = from_front_is (front (b ∷ bs)) place (λ n. lex n (place + 1) bs) ts h (front_is b bs) (λ m us e. lex_is m (place + 1) bs us e)
 lex_is (suc n) place (b ∷ bs) ts h = lex_is n (place + 1) bs ts h
 
+-- where a line is read as tokens, each number is one that some text is read as, each name and quoted name is a name
 pub line_tokens : (line : List ℕ) (ts : List Read) → tokens_of line ≡ Ok ts → AreTokens (seen_of ts)
 line_tokens line ts h = lex_is 0 1 line ts h

@@ -139,13 +139,16 @@ all_seen : (text : List ℕ) → IsVisible text → All (λ c. 32 ≤ c) text
 all_seen [] h = All-nil (λ c. 32 ≤ c)
 all_seen (c ∷ text) h = let b = both (visible c) (list_all visible text) h in All-cons (λ i. 32 ≤ i) c text (seen_in c b.0) (all_seen text b.1)
 
+-- where tokens are such as a line has, no byte of their text is below 32
 pub text_visible : (ms : List Mark) → AreTokens (lexemes ms) → All (λ c. 32 ≤ c) (text_of ms)
 text_visible ms t = all_seen (text_of ms) (after_visible None ms t)
 
+-- where the tokens of an attribute are such as a line has, no byte of its line is below 32
 pub attribute_visible : (a : Attribute) → AreTokens (attribute_tokens a)
     → All (λ c. 32 ≤ c) (codes "attr " ++ (a.name ++ (codes " = " ++ exact_text_of a.value)))
 attribute_visible a t =
     all_seen (codes "attr " ++ (a.name ++ (codes " = " ++ exact_text_of a.value))) (join a.name (codes " = " ++ exact_text_of a.value) (name_visible a.name t.1.0.0) (value_visible a.value t.1.1.1))
 
+-- no byte of the line of a priority below 2 to the 16 is below 32
 pub priority_visible : (n : ℕ) → n < 2 ^ 16 → All (λ c. 32 ≤ c) (codes "PRIORITY " ++ (decimal n ++ codes ":"))
 priority_visible n h = all_seen (codes "PRIORITY " ++ (decimal n ++ codes ":")) (join (decimal n) (codes ":") (whole_visible n (whole_literal n (omega arith))) refl)

@@ -15,7 +15,7 @@ pub use Rattle.cga_top.proofs.Ends.{IsFlushed, SameSource, all_taken, by_bytes, 
 -- What a source gave, over several reads
 pub use Rattle.cga_top.proofs.Gives.{gave_kept, gave_more, gave_none, gave_nothing, gave_same, same_more}
 -- The run that wants memory at once
-pub use Rattle.cga_top.proofs.Given.{no_memory}
+pub use Rattle.cga_top.proofs.Given.{unbegun_run}
 -- Known bytes that are appended in several steps
 pub use Rattle.cga_top.proofs.Known.{appends_more, appends_all, appends_nothing}
 -- One more read

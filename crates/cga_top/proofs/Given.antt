@@ -89,14 +89,6 @@ given_halted d bytes cause.NoMemory status old new write memory faults some = su
 
 -- ---- by the town
 
-pub no_memory : (d : ℕ) (town : Option ℕ) (o : Outside) → RunMeans d town NoMemory o o
-no_memory d None o = (record { reads = refl; writes = refl }, record { read = []; gave = gave_nothing o; begins = some_nothing o.held (output_of d []); of_all = for_any o.left })
-  where
-    for_any : (left : Option (List ℕ)) → IfSome left (λ bytes. AppendsSome o.held o.held (output_of d bytes))
-    for_any None = tt
-    for_any (Some bytes) = some_nothing o.held (output_of d bytes)
-no_memory d (Some lots) o = ((refl, some_nothing o.held (output_of d (town_text lots))), record { given = refl; left = refl; ended = refl; reads = refl })
-
 pub usage : (d : ℕ) (town : Option ℕ) (o : Outside) → RunMeans d town Usage o o
 usage d None o = refl
 usage d (Some lots) o = (refl, record { given = refl; left = refl; ended = refl; reads = refl })

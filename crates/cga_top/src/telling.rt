@@ -1,8 +1,8 @@
-ghost use Rattle.std.specs.Prelude.{◌≡◌, ◌≢◌, ◌⊎◌, ◌++◌, List, ℕ, IfSome, IsTrue};
+ghost use Rattle.std.specs.Prelude.{◌≡◌, ◌≢◌, ◌⊎◌, ◌≤◌, ◌++◌, List, ℕ, Option, None, map, string_bytes, true, unwrap_or, IfSome, IsTrue};
 ghost use Rattle.std.specs.Io.KnownBytes.{Appends};
 ghost use Rattle.cga_city.specs.Derived.{members};
 ghost use Rattle.cga_outside.specs.Causes.{Rose};
-ghost use Rattle.cga_top.specs.Hulls.{IsHullText, IsToldOf, usual};
+ghost use Rattle.cga_top.specs.Hulls.{IsHullText, IsToldOf};
 ghost use Rattle.cga_top.specs.Output.{output_of};
 ghost use Rattle.cga_top.specs.Outside.{Outside, outside_of};
 ghost use Rattle.cga_top.specs.Ready.{IsReady};
@@ -10,6 +10,8 @@ ghost use Rattle.cga_top.specs.Session.{IsAt};
 ghost use Rattle.cga_top.specs.State.{start};
 ghost use Rattle.cga_top.specs.Statuses.{HoldsFew};
 ghost use Rattle.cga_top.specs.Telling.{TellMeans, TellingMeans, sunk_at};
+ghost use Rattle.cga_words.specs.Plain.{plain_words};
+ghost use Rattle.cga_words.specs.Words.{IsTownless, decimals_of};
 
 use crate::decimals::Decimals;
 use crate::hulls::hulls_text;
@@ -19,7 +21,7 @@ use crate::top::{flushed, run_in};
 use cga_expand::Expansions;
 use cga_fraction::{NoMemory, Tests};
 use cga_outside::{Failed, Sink, Source};
-use cga_words::Status;
+use cga_words::{Status, WordsFault, read_decimals};
 use std::alloc::Global;
 use std::sync::ledger::Ledger;
 
@@ -101,29 +103,51 @@ fn told_of<S: Source, K: Sink, E: Ledger, T: Ledger>(
     status
 }
 
-/// Replies to a script as `run_city` does without words, and behind all replies writes for each lot the least box that
-/// holds the boxes of all its shapes, drawn or not, as exact numbers. Only Done says that all was written. Takes memory.
-///
-/// `means` says when each status comes, and what was read and written then: as that of `run_city`, with what is told
-/// behind the output.
+/// Replies to a script as `run_city` does, and behind all replies writes for each lot the least box that holds the boxes
+/// of all its shapes, drawn or not, as exact numbers. The words are the whole command line, the program's name first:
+/// `--decimals N`, 0 to 9. Only Done says that all was written. Takes memory.
 pub fn run_with_hulls<S: Source, K: Sink, E: Ledger, T: Ledger>(
     alloc: Global,
+    words: &[String],
     script: &mut S,
     out: &mut K,
     expansions: &mut Expansions<E>,
     tests: &mut Tests<T>,
 ) -> Status
-    ensures told { result ≡ Status.Done → IfSome (S.left script.old) (λ bytes. (text : List ℕ)
-        × IsToldOf usual bytes text
-        × Appends (K.held out.old) (K.held out.new) (output_of usual bytes ++ text)) }
-    ensures means { TellingMeans usual result
+    // Where all was done, what was written is the output and behind it the boxes.
+    ensures told { let texts = map string_bytes words.now in result ≡ Status.Done → IfSome (S.left script.old) (λ bytes. (text : List ℕ)
+        × IsToldOf (decimals_of texts) bytes text
+        × Appends (K.held out.old) (K.held out.new) (output_of (decimals_of texts) bytes ++ text)) }
+
+    // When each status comes, and what was read and written then: as that of `run_city`, with what is told behind the output.
+    ensures means { TellingMeans (decimals_of (map string_bytes words.now)) result
         (outside_of S.Source K.Sink script.old out.old expansions.old)
         (outside_of S.Source K.Sink script.new out.new expansions.new) }
-    ensures used { result ≢ Status.Usage }
-    ensures complete { HoldsFew (S.left script.old)
+
+    // Usage comes where `clap` refuses the words or they ask for a town, and then nothing else does, but for memory.
+    ensures usage { result ≡ Status.Usage → IsTownless (map string_bytes words.now) → ⊥ }
+    ensures refused { (IsTownless (map string_bytes words.now) → ⊥)
+        → (result ≡ Status.Usage) ⊎ (result ≡ Status.NoMemory) }
+
+    // Words that are written plainly aren't refused, and say what they seem to.
+    ensures plain { (name : List ℕ) (decimals : Option ℕ)
+        → IfSome decimals (λ n. n ≤ 9)
+        → map string_bytes words.now ≡ plain_words name true decimals None
+        → (result ≢ Status.Usage)
+        × (decimals_of (map string_bytes words.now) ≡ unwrap_or decimals 6) }
+
+    // Nothing but a fault, a script that is too long and want of memory keeps a script from being done.
+    ensures complete { IsTownless (map string_bytes words.now)
+        → HoldsFew (S.left script.old)
         → (Rose (S.faults script.old) (S.faults script.new) → ⊥)
         → (Rose (K.faults out.old) (K.faults out.new) → ⊥)
         → (result ≡ Status.Done) ⊎ (result ≡ Status.NoMemory) }
 {
-    told_of(alloc, Decimals::new(6), script, out, expansions, tests)
+    let decimals = match read_decimals(alloc, words) {
+        Ok(decimals) => decimals,
+        Err(WordsFault::Usage) => return Status::Usage,
+        Err(WordsFault::NoMemory) => return Status::NoMemory,
+    };
+    let decimals = Decimals::new(decimals);
+    told_of(alloc, decimals, script, out, expansions, tests)
 }

@@ -2,7 +2,7 @@ ghost use Rattle.std.specs.Prelude.{◌≡◌, IfOk, List, length};
 ghost use Rattle.cga_form.specs.Lines.{Line};
 ghost use Rattle.cga_trace.specs.Judged.{judged};
 ghost use Rattle.cga_trace.specs.JudgeLines.{IsRead};
-ghost use Rattle.cga_trace.specs.Text.{trace_text_of};
+ghost use Rattle.cga_trace.specs.Text.{AreSteps, trace_text_of};
 ghost use Rattle.cga_top.specs.State.{State};
 ghost use Rattle.cga_top.specs.Effect.{SpentJudging};
 ghost use Rattle.cga_top.specs.Replies.{judged_by, run_of};
@@ -14,13 +14,14 @@ use cga_expand::Expansions;
 use cga_fraction::{List, NoMemory, Tests};
 use cga_judge::{Verdict, judge};
 use cga_shape::TraceStep;
-use cga_trace::{JudgeReader, are_steps, judged_text, trace_text};
+use cga_trace::{JudgeReader, judged_text, trace_text};
 use std::sync::ledger::Ledger;
 
 // The run of the city's sources, which are sound and within its budget.
 fn run(session: &Session) -> Result<List<TraceStep>, NoMemory>
     requires { IsReady session.now }
-    ensures { (s : State) → IsAt s session.now → IfOk result (λ run. run ≡ run_of s) }
+    ensures value { (s : State) → IsAt s session.now → IfOk result (λ run. run ≡ run_of s) }
+    ensures fields { IfOk result AreSteps }
 {
     let _sources = session.city.sources();
     session.city.trace()
@@ -49,7 +50,6 @@ fn place<E: Ledger, T: Ledger>(
         × SpentJudging place (length (run_of s)) (length lines) expansions.old expansions.new) }
 {
     let run = run(session)?;
-    are_steps(run.as_slice());
     if !reader.is_headed(run.len())? {
         return Ok(Some(1));
     }

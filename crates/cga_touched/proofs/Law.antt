@@ -77,6 +77,7 @@ counted budget old new before after names others was is =
       refl,
     )
 
+-- where lot names differ and both derivations are within the budget, the count is the number of touched shapes
 pub touched_is_counted : TouchedIsCounted
 touched_is_counted budget old new before after names others was is =
     let right = counted budget old new before after names others was is in

@@ -1,6 +1,6 @@
 -- A node keeps what its turn told: its answers, and its kind with the number of its children.
-use Rattle.std.proofs.Common.{◌≡◌, ℕ, zero, suc, ◌<◌, ◌≤◌, ◌^◌, List, [], ◌∷◌, length, map, refl, sym, ap, ◌∙◌, subst, inl, inr, Result, Ok, Err, Option, Some, None, true, false, arith}
-use Rattle.std.specs.Prelude.{slice_get, IfOk}
+use Rattle.std.proofs.Common.{◌≡◌, ℕ, zero, suc, ◌<◌, ◌≤◌, List, [], ◌∷◌, length, map, refl, sym, ap, ◌∙◌, subst, inl, inr, Result, Ok, Err, Option, Some, None, true, false, arith}
+use Rattle.std.specs.Prelude.{slice_get}
 use Rattle.cga_word.specs.declared.answers.Answers.{Answers}
 use Rattle.cga_word.specs.declared.primitive.Primitive.{Primitive}
 use Rattle.cga_order.specs.Agenda.{Keeps, members_of, IsSettled, HasChildren, IsRight}
@@ -9,7 +9,7 @@ use Rattle.cga_order.specs.Chain.{IsChild}
 use Rattle.cga_order.specs.World.{World, IsWorld, Has, is_instance}
 use Rattle.cga_order.specs.declared.placed.Placed.{Placed}
 use Rattle.cga_order.specs.declared.placed.Kind.{Kind}
-use Rattle.cga_expand.proofs.Door.{few_made, sources_are_derivations}
+use Rattle.cga_expand.proofs.Door.{sources_are_derivations}
 use Rattle.cga_fraction.proofs.Door.{length-map, lt-length_from_slice_get as within}
 use Rattle.cga_order.proofs.Door.{Has-index, snoc-same}
 use Rattle.cga_rework.proofs.Door.{child_is, child_rank, is_world, keeps, keeps-node, rank, start_stands}
@@ -18,10 +18,7 @@ use Rattle.cga_shape.specs.declared.shape.Shape.{Shape}
 use Rattle.cga_shape.specs.declared.shape_fault.ShapeFault.{ShapeFault}
 use Rattle.cga_shape.specs.declared.sources.Sources.{Sources}
 use Rattle.cga_shape.specs.declared.trace_step.Outcome.TheVariants as trace
-use Rattle.cga_shape.specs.declared.emitted.Emitted.{Emitted}
-use Rattle.cga_expand.specs.Children.{Member, placed_by, placed_from}
-use Rattle.cga_expand.specs.Expand.{expand_of}
-use Rattle.cga_expand.specs.declared.limits.TheConstants.{MOST_CHILDREN}
+use Rattle.cga_expand.specs.Children.{Member}
 use Rattle.cga_expand.specs.Derivation.{children_of, derivation_of, NamesDiffer}
 use Rattle.cga_expand.specs.Run.{outcome_of, traced}
 use Rattle.cga_rework.specs.Nodes.{nodes_of, IsBound}
@@ -32,9 +29,6 @@ use Rattle.cga_forest.specs.View.{Seen, slot, present_of}
 use Rattle.cga_forest.specs.Tree.{ForestView, node_at}
 use Rattle.cga_trace.specs.Kept.{shapes_of, rules_of, content, NodesStand, outcome_from, step_of_node, NodesAreTold}
 use Rattle.cga_trace.specs.Sorted.{IsTold}
-
-abbrev FewChildren : Result (List Emitted) ShapeFault → Type 0
-FewChildren made = IfOk made (λ children. length children ≤ MOST_CHILDREN)
 
 -- ---- lists
 
@@ -48,10 +42,6 @@ get-Has : {N F P : Type 0} (xs : List (Placed N F P)) (i : ℕ) (x : Placed N F 
 get-Has [] i x e = let z : None ≡ Some x = e in cc
 get-Has (y ∷ xs) zero x e = let same : y ≡ x = cc in inl (ap (λ z. z.shape) same, ap (λ z. z.kind) same)
 get-Has (y ∷ xs) (suc i) x e = inr (get-Has xs i x e)
-
-length-placed : (lot path own : List ℕ) (i : ℕ) (es : List Emitted) → length (placed_from lot path own i es) ≡ length es
-length-placed lot path own i [] = refl
-length-placed lot path own i (e ∷ es) = ap suc (length-placed lot path own (suc i) es)
 
 pub keeps_of : {N A F P : Type 0} (nodes : List (agenda.Node N A F P)) (n : N) (k : Kind F P)
     → Has (members_of nodes) n k → (a : A) × Keeps nodes n k a
@@ -140,31 +130,6 @@ module _ (sources : Sources) (differ : NamesDiffer sources.lots) (v : ForestView
           let made : W.expand own d.node.answers ≡ Err f = ap (all_placed (rules_of sources).priority above) e in
           let settled = subst (IsSettled W nodes own d.node.kind) made right.1 in
           ap (λ k. outcome_from k (length d.children)) settled.0
-
-      few_by : (r : Result (List Emitted) ShapeFault) → expand_of sources.grammar d.node.shape d.node.answers ≡ r
-          → FewChildren r → length d.children < 2 ^ 16
-      unfolding own children_of
-      few_by (Ok es) e few =
-          let above = (W.chain own).priorities in
-          let cs = placed_from d.node.shape.lot d.node.shape.path d.node.shape.symbol 0 es in
-          let made : W.expand own d.node.answers ≡ Ok (map (placed (rules_of sources).priority above) cs) = ap (λ r. all_placed (rules_of sources).priority above (placed_by d.node.shape r)) e in
-          let settled = subst (IsSettled W nodes own d.node.kind) made right.1 in
-          let size = count d.node.answers (map (placed (rules_of sources).priority above) cs) made settled.1 ∙ (length-map (placed (rules_of sources).priority above) cs ∙ length-placed d.node.shape.lot d.node.shape.path d.node.shape.symbol 0 es) in
-          omega (arith, size, few)
-      few_by (Err f) e few =
-          let above = (W.chain own).priorities in
-          let made : W.expand own d.node.answers ≡ Err f = ap (λ r. all_placed (rules_of sources).priority above (placed_by d.node.shape r)) e in
-          let settled = subst (IsSettled W nodes own d.node.kind) made right.1 in
-          let none = long_by d.children 0 (λ i b h.
-          let w = stands.city.tree.down c i b d t h in
-          let below = child_rank (shapes_of sources) content (rules_of sources) (node_at v) stands.city b c w.0 d w.1 w.2 t in
-          let kept = keeps (shapes_of sources) content (rules_of sources) (node_at v) stands.city top bounded b w.0 w.1 in
-          absurd (settled.1.only (rank (shapes_of sources) content (rules_of sources) w.0.node) w.0.node.kind w.0.node.answers kept w.0.index below).1) in
-          omega (arith, none)
-
-      -- it has no more children than an expansion makes
-      pub children_few : length d.children < 2 ^ 16
-      children_few = few_by (expand_of sources.grammar d.node.shape d.node.answers) refl (few_made {E = Unit {0}} sources.grammar d.node.shape d.node.answers (Ok (expand_of sources.grammar d.node.shape d.node.answers)) refl)
 
       told : (end : ℕ) → NothingWaits (derivation_of sources) (reached (derivation_of sources) end)
           → (n : ℕ) × IsTold sources n (step_of_node d)

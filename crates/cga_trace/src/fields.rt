@@ -1,5 +1,5 @@
-//! What the fields of steps are, by their types: names are names, and numbers fit.
-ghost use Rattle.cga_trace.specs.Text.{AreFew, AreSteps, IsFew, IsStep};
+//! What the fields of a step are, by their types: names are names, and numbers fit.
+ghost use Rattle.cga_trace.specs.Text.{AreFew, IsFew, IsStep};
 
 use cga_shape::{Outcome, TraceStep};
 
@@ -15,21 +15,12 @@ fn is_few(outcome: Outcome)
     }
 }
 
-fn is_step(step: &TraceStep)
+/// Does nothing: its contract is what the types keep.
+pub fn is_step(step: &TraceStep)
     ensures { IsStep step.now }
 {
     let _lot = step.lot.bytes();
     let _symbol = step.symbol.bytes();
     are_few(step.path.as_slice());
     is_few(step.outcome);
-}
-
-/// Each of the steps has a text that no other step has. Changes nothing: its contract is what the types
-/// keep. The time goes by the number of steps.
-pub fn are_steps(steps: &[TraceStep])
-    ensures { AreSteps steps.now }
-{
-    for step in steps {
-        is_step(step);
-    }
 }

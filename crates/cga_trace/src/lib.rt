@@ -17,7 +17,6 @@ mod text;
 mod tracing;
 mod words;
 
-pub use fields::are_steps;
 pub use judge_reader::JudgeReader;
 pub use reading::read_step;
 pub use text::{judged_text, trace_text};

@@ -1,5 +1,5 @@
 //! The run that a kept forest tells.
-ghost use Rattle.std.specs.Prelude.{◌≡◌, ◌<◌, ◌^◌, ℕ, IfOk, IsSome, OnOk, Some, length};
+ghost use Rattle.std.specs.Prelude.{◌≡◌, ◌≤◌, ℕ, IfOk, IsSome, OnOk, Some};
 ghost use Rattle.cga_order.specs.World.{is_instance};
 ghost use Rattle.cga_shape.specs.declared.sources.Sources.{Sources};
 ghost use Rattle.cga_expand.specs.Run.{IsRun};
@@ -9,7 +9,9 @@ ghost use Rattle.cga_forest.specs.Tree.{node_at};
 ghost use Rattle.cga_forest.specs.Walked.{forest_tree};
 ghost use Rattle.cga_trace.specs.Kept.{outcome_from, step_of_node};
 ghost use Rattle.cga_trace.specs.Order.{AreInside, AreOf, IsAdded, IsKnown};
+ghost use Rattle.cga_trace.specs.Text.{AreSteps};
 
+use crate::fields::is_step;
 use cga_forest::{Forest, Node};
 use cga_fraction::{List, NoMemory};
 use cga_index::{HullTree, NodeId, all_nodes};
@@ -24,18 +26,19 @@ fn is_instance(node: &Node) -> bool
     matches!(node.kind, Kind::Instance(_))
 }
 
-// Where it has fewer than 65,536 children, as after each expansion.
 fn outcome_from(kind: Kind, children: usize) -> Outcome
-    ensures { children < 2 ^ 16 → result ≡ outcome_from kind children }
+    requires few { children ≤ 4096 }
+    ensures { result ≡ outcome_from kind children }
 {
     match kind {
         Kind::Faulted(fault) => Outcome::Faulted(fault),
-        _ => Outcome::Grew(children.min(65_535) as u16),
+        _ => Outcome::Grew(children as u16),
     }
 }
 
 fn step_of(alloc: Global, node: &Node, children: usize) -> Result<TraceStep, NoMemory>
-    ensures { IfOk result (λ step. children < 2 ^ 16 → step ≡ record {
+    requires few { children ≤ 4096 }
+    ensures { IfOk result (λ step. step ≡ record {
       lot = node.now.shape.lot;
       path = node.now.shape.path;
       symbol = node.now.shape.symbol;
@@ -57,9 +60,9 @@ fn step_of(alloc: Global, node: &Node, children: usize) -> Result<TraceStep, NoM
 fn step_at(alloc: Global, forest: &Forest, id: NodeId) -> Result<TraceStep, NoMemory>
     requires here { IsSome (node_at forest.now id) }
     requires inside { InTree (forest_tree forest.now) id }
-    ensures { IfOk result (λ step. (d : Seen) → node_at forest.now id ≡ Some d
-        → length d.children < 2 ^ 16 → step ≡ step_of_node d) }
+    ensures { IfOk result (λ step. (d : Seen) → node_at forest.now id ≡ Some d → step ≡ step_of_node d) }
 {
+    forest.laws();
     let children = forest.children(id);
     match forest.node(id) {
         Some(node) => step_of(alloc, node, children),
@@ -113,16 +116,18 @@ fn order_of(
     Ok(order)
 }
 
-/// The run of sources for which the forest stands. Takes memory. The time goes by the number of nodes.
+/// The run of sources for which the forest stands. Each of its steps has a text that no other step has. Takes memory. The
+/// time goes by the number of nodes.
 pub fn trace(alloc: Global, forest: &Forest) -> Result<List<TraceStep>, NoMemory>
-    ensures { IfOk result (λ steps. (sources : Sources) (end : ℕ) → IsKnown sources end forest.now
-        → IsRun sources steps) }
+    ensures run { IfOk result (λ steps. (sources : Sources) (end : ℕ) → IsKnown sources end forest.now → IsRun sources steps) }
+    ensures fields { IfOk result AreSteps }
 {
     forest.laws();
     let nodes = all_nodes(alloc, forest)?;
     let mut order = order_of(alloc, forest, nodes.as_slice())?;
     let mut steps = Vec::new(alloc);
     while let Some((_key, step)) = order.pop_first() {
+        is_step(&step);
         steps.push(step)?;
     }
     Ok(List::from_vec(steps))

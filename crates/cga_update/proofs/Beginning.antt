@@ -4,7 +4,7 @@ use Rattle.std.specs.Prelude.{is_some, nat_eq, if◌then◌else◌}
 use Rattle.std.specs.List.{list_any}
 use Rattle.std.proofs.lemmas.Option.{slice_get_within}
 use lib.Pointwise.{bytes_decides}
-use Rattle.cga_frame.specs.Box.{Box, box_of, meets}
+use Rattle.cga_frame.specs.Box.{box_of, meets}
 use Rattle.cga_word.specs.declared.mode.Mode.{Mode}
 use Rattle.cga_word.specs.declared.answers.Answers.{Answers}
 use Rattle.cga_word.specs.declared.primitive.Primitive.{Primitive}
@@ -12,7 +12,6 @@ use Rattle.cga_word.specs.declared.target.Target.{Target}
 use Rattle.cga_word.specs.declared.target.Target.TheVariants.{Noparent, Active}
 use Rattle.cga_rule.specs.declared.grammar.Grammar.{Grammar}
 use Rattle.cga_check.specs.Uses.{same_name}
-use Rattle.cga_index.specs.Tree.{Member}
 use Rattle.cga_order.specs.World.{Among, is_instance}
 use Rattle.cga_agenda.specs.Loop.{IsReady, State}
 use Rattle.cga_agenda.specs.Record.{Drawn}
@@ -37,18 +36,21 @@ use Rattle.cga_shape.specs.declared.shape_fault.ShapeFault.{ShapeFault}
 use Rattle.cga_shape.specs.declared.sources.Sources.{Sources}
 use Rattle.cga_forest.specs.declared.moved.Moved.{Moved}
 use Rattle.cga_forest.specs.Moved.{ListsMoved, moved_of, primitive_of}
+use Rattle.cga_forest.specs.Node.{bounds}
 use Rattle.cga_forest.specs.View.{Seen}
 use Rattle.cga_forest.specs.Tree.{ForestView, IsForest, marked_at, node_at}
-use Rattle.cga_queue.specs.Agenda.{AgendaView}
+use Rattle.cga_queue.specs.Agenda.{AgendaView, HasAll}
+use Rattle.cga_update.specs.Askers.{IsAsker}
 use Rattle.cga_update.specs.Begun.{StandsMarked}
 use Rattle.cga_update.specs.Edit.{asks_by, content, kept_nodes, meets_box, rules_of, shapes_of, the_edit}
 use Rattle.cga_update.specs.Log.{came_of, drawn_before, drawn_of, is_of, IsLogged, noted_all, StayAlike, went_of}
 use Rattle.cga_update.specs.Means.{ArePriced, told_ranked}
-use Rattle.cga_update.specs.Near.{HasNear, KeepsPriorities}
+use Rattle.cga_update.specs.Near.{KeepsPriorities}
 use Rattle.cga_update.specs.Plain.{IsPlain}
-use Rattle.cga_update.specs.Queue.{on_of}
+use Rattle.cga_update.specs.Queue.{chains_of, on_of}
 use Rattle.cga_update.specs.Roots.{Gains, HasLost, HasOldLots, IsRerooted, Loses}
 use Rattle.cga_update.proofs.Adding.{none_came}
+use Rattle.cga_update.proofs.DueNodes.{may_be_on}
 use Rattle.cga_update.proofs.RootShapes.{among_root, root_among}
 use Rattle.cga_update.proofs.Rooting.{IsRooted, rerooted as roots_changed, still}
 use Rattle.cga_update.proofs.Drawing.{lists_lost}
@@ -75,12 +77,12 @@ asks_by_same old new s e =
 shapes_same : (old new : Sources) → old.mode ≡ new.mode → shapes_of old ≡ shapes_of new
 shapes_same old new e = ap (λ (m : Mode). record { mode = m; lot = λ (s : Shape). s.lot; path = λ (s : Shape). s.path }) e
 
-member_first : (x : ℕ) (xs : List ℕ) (c : ℕ) → (list_any (nat_eq c) xs ≡ true → Member xs c) → (b : Bool)
-    → nat_eq c x ≡ b → list_any (nat_eq c) (x ∷ xs) ≡ true → Member (x ∷ xs) c
+member_first : (x : ℕ) (xs : List ℕ) (c : ℕ) → (list_any (nat_eq c) xs ≡ true → Among c xs) → (b : Bool)
+    → nat_eq c x ≡ b → list_any (nat_eq c) (x ∷ xs) ≡ true → Among c (x ∷ xs)
 member_first x xs c more true is h = inl (sym (same_number c x is))
 member_first x xs c more false is h = inr (more (ap (λ b. b || list_any (nat_eq c) xs) (sym is) ∙ h))
 
-member_of : (xs : List ℕ) (c : ℕ) → list_any (nat_eq c) xs ≡ true → Member xs c
+member_of : (xs : List ℕ) (c : ℕ) → list_any (nat_eq c) xs ≡ true → Among c xs
 member_of [] c h = let z : false ≡ true = h in absurd (cc)
 member_of (x ∷ xs) c h = member_first x xs c (member_of xs c) (nat_eq c x) refl h
 
@@ -129,18 +131,22 @@ module _ {old new : Sources} {first v : ForestView} {d : DependentsView} {went c
 
   pub came_on : (c : ℕ) (x : Seen) → V c ≡ None → T c ≡ Some x → on_of v a c ≡ true
   came_on c x none at =
-      start.agenda.moved.roots (moved_of c x) ((start.listed.each (moved_of c x)).1 (c, x, at, none, refl)) c x refl (at, ap is_instance (start.roots.came c x none at).waits)
+      start.agenda.moved.roots c (moved_of c x, (start.listed.each (moved_of c x)).1 (c, x, at, none, refl), refl) (may_be_on v c x at (ap is_instance (start.roots.came c x none at).waits))
 
   -- who asks near is on the agenda: it came, or was there at the mark
-  near_on : (area : Box) → HasNear v area a → (c : ℕ) (x : Seen) → T c ≡ Some x → is_instance x.node.kind ≡ false
-      → x.node.asks ≡ true → meets (box_of x.node.shape.scope) area ≡ true → on_of v a c ≡ true
-  near_on area near c x at inner asks meet = elim (was_there c x at (V c) refl) [
+  near_on : (list : List Moved) (m : Moved) → Among m list → HasAll (chains_of v) (IsAsker v list) a
+      → (c : ℕ) (x : Seen) → T c ≡ Some x → is_instance x.node.kind ≡ false → x.node.asks ≡ true
+      → meets (box_of x.node.shape.scope) (box_of m.scope) ≡ true → on_of v a c ≡ true
+  unfolding bounds
+  near_on list m among near c x at inner asks meet = elim (was_there c x at (V c) refl) [
     | inl none ↦ came_on c x none at
-    | inr vc ↦ near c x (at, inner) (ap is_some (start.roots.marked c ∙ vc)) asks meet
+    | inr vc ↦
+        let k : IsAsker v list c = record { seen = x; there = at; marked = ap is_some (start.roots.marked c ∙ vc); asks = asks; one = m; among = among; near = meet } in
+        near c k (may_be_on v c x at inner)
   ]
 
   listed_under : (c : ℕ) (x : Seen) → V c ≡ Some x → is_instance x.node.kind ≡ false
-      → Member (nodes_in d x.node.shape.symbol) c
+      → Among c (nodes_in d x.node.shape.symbol)
   listed_under c x vc inner = member_of (nodes_in d x.node.shape.symbol) c
       (start.stands.dependents x.node.shape.symbol c
       ∙ (ap (λ o. is_of o x.node.shape.symbol) vc
@@ -151,7 +157,7 @@ module _ {old new : Sources} {first v : ForestView} {d : DependentsView} {went c
   changed_on c x at inner = elim (was_there c x at (V c) refl) [
     | inl none ↦ inl (came_on c x none at)
     | inr vc ↦ elim (start.agenda.changed x.node.shape.symbol) [
-      | inl these ↦ inl (these c x (listed_under c x vc inner) (at, inner))
+      | inl these ↦ inl (these c (listed_under c x vc inner) (may_be_on v c x at inner))
       | inr same ↦ inr same
     ]
   ]
@@ -160,13 +166,13 @@ module _ {old new : Sources} {first v : ForestView} {d : DependentsView} {went c
       V T (on_of v a)
   is_first = record {
     came = came_on;
-    went = λ b c x y vb tb tc inner asks meet. near_on (box_of x.node.shape.scope) (start.agenda.moved.near_went (moved_of b x) ((start.roots.went.each (moved_of b x)).1 (b, x, vb, tb, refl))) c y tc inner asks meet;
-    arrived = λ b c x y vb tb tc inner asks meet. near_on (box_of x.node.shape.scope) (start.agenda.moved.near_came (moved_of b x) ((start.listed.each (moved_of b x)).1 (b, x, tb, vb, refl))) c y tc inner asks meet;
+    went = λ b c x y vb tb tc inner asks meet. near_on went (moved_of b x) ((start.roots.went.each (moved_of b x)).1 (b, x, vb, tb, refl)) start.agenda.moved.near_went c y tc inner asks meet;
+    arrived = λ b c x y vb tb tc inner asks meet. near_on came (moved_of b x) ((start.listed.each (moved_of b x)).1 (b, x, tb, vb, refl)) start.agenda.moved.near_came c y tc inner asks meet;
     changed = changed_on;
     priced = λ c p x e tc up te inner. elim (was_there c x tc (V c) refl) [
       | inl none ↦ none_some p (sym (start.roots.came c x none tc).top ∙ up)
       | inr vc ↦ elim (start.agenda.priced x.node.shape.symbol) [
-        | inl parents ↦ inl (parents c p x e (listed_under c x vc inner) tc up (te, (start.laws.present.places.child c p x e tc up te).inner))
+        | inl parents ↦ inl (parents p (c, listed_under c x vc inner, (x, tc, up)) (may_be_on v p e te (start.laws.present.places.child c p x e tc up te).inner))
         | inr same ↦ inr (city.priced c x vc inner ∙ same)
       ]
     ];

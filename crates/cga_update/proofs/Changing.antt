@@ -7,16 +7,16 @@ use Rattle.cga_rule.specs.declared.grammar.Grammar.{Grammar}
 use Rattle.cga_rule.specs.declared.grammar.Group.{Group}
 use Rattle.cga_check.specs.Groups as groups
 use Rattle.cga_depend.specs.Pairs.{DependentsView, nodes_in}
-use Rattle.cga_index.specs.Tree.{Member}
 use Rattle.cga_fraction.proofs.Door.{lt_or_eq_from_lt_suc as at_or_below, same_Some as some_same}
 use Rattle.cga_expand.specs.Derivation.{priority_of}
 use Rattle.cga_expand.specs.Settings.{Setting, setting_of}
 use Rattle.cga_forest.specs.Tree.{ForestView}
-use Rattle.cga_queue.specs.Agenda.{AgendaView}
+use Rattle.cga_queue.specs.Agenda.{AgendaView, Grows, HasAll}
+use Rattle.cga_queue.proofs.Door.{all_kept}
 use Rattle.cga_update.specs.Changed.{IsNoted}
-use Rattle.cga_update.specs.Near.{HasThese, IsChangedFor, IsPricedFor, KeepsOn, KeepsPriority}
+use Rattle.cga_update.specs.Near.{IsAny, IsChangedFor, IsParentOf, IsPricedFor, KeepsPriority}
+use Rattle.cga_update.specs.Queue.{chains_of}
 use Rattle.cga_update.proofs.Members.{among_at}
-use Rattle.cga_update.proofs.Nearby.{parents_kept}
 
 abbrev priority_by : Option Group → ℕ
 priority_by None = 0
@@ -51,21 +51,24 @@ pub names_end : (P : List ℕ → Type 0) (names lent : List (List ℕ)) (n : �
     → NamesHave P names n → (s : List ℕ) → Among s names → P s
 names_end P names lent n same le first s h = let x = among_at names s h in let z = slice_get_within names x.0 s x.1 in let y = ap length same in first x.0 s (omega (arith, z, le, y)) x.1
 
-pub priced_kept : (v : ForestView) (old new : Grammar) (These : ℕ → Type 0) (s : List ℕ) (a b : AgendaView)
-    → KeepsOn v a b → IsPricedFor v old new These s a → IsPricedFor v old new These s b
-priced_kept v old new These s a b kept priced = elim priced [ inl p ↦ inl (parents_kept v a b kept These p) | inr e ↦ inr e ]
+pub priced_kept : (v : ForestView) (old new : Grammar) (nodes s : List ℕ) (a b : AgendaView)
+    → Grows (chains_of v) IsAny a b → IsPricedFor v old new nodes s a → IsPricedFor v old new nodes s b
+priced_kept v old new nodes s a b grows priced = elim priced [
+  | inl p ↦ inl (all_kept (chains_of v) (IsParentOf v nodes) IsAny a b grows p)
+  | inr e ↦ inr e
+]
 
 pub all_changed : (v : ForestView) (old new : Grammar) (d : DependentsView) (names : List (List ℕ)) (a : AgendaView)
-    → ((s : List ℕ) → Among s names → HasThese v (λ c. Member (nodes_in d s) c) a)
-    → (s : List ℕ) → IsNoted old new names s → IsChangedFor v old new (λ c. Member (nodes_in d s) c) s a
+    → ((s : List ℕ) → Among s names → HasAll (chains_of v) (λ c. Among c (nodes_in d s)) a)
+    → (s : List ℕ) → IsNoted old new names s → IsChangedFor v old new (nodes_in d s) s a
 all_changed v old new d names a each s noted = elim noted [ inl h ↦ inl (each s h) | inr e ↦ inr e ]
 
 pub all_priced : (v : ForestView) (old new : Grammar) (d : DependentsView) (names : List (List ℕ)) (a : AgendaView)
-    → ((s : List ℕ) → Among s names → IsPricedFor v old new (λ c. Member (nodes_in d s) c) s a)
-    → (s : List ℕ) → IsNoted old new names s → IsPricedFor v old new (λ c. Member (nodes_in d s) c) s a
+    → ((s : List ℕ) → Among s names → IsPricedFor v old new (nodes_in d s) s a)
+    → (s : List ℕ) → IsNoted old new names s → IsPricedFor v old new (nodes_in d s) s a
 all_priced v old new d names a each s noted = elim noted [ inl h ↦ each s h | inr e ↦ inr (priority_same old new s e) ]
 
-pub all_kept : (old new : Grammar) (d : DependentsView) (names : List (List ℕ))
+pub all_keep : (old new : Grammar) (d : DependentsView) (names : List (List ℕ))
     → ((s : List ℕ) → Among s names → KeepsPriority old new (nodes_in d s) s)
     → (s : List ℕ) → IsNoted old new names s → KeepsPriority old new (nodes_in d s) s
-all_kept old new d names each s noted = elim noted [ inl h ↦ each s h | inr e ↦ λ c h. priority_same old new s e ]
+all_keep old new d names each s noted = elim noted [ inl h ↦ each s h | inr e ↦ λ c h. priority_same old new s e ]

@@ -1,5 +1,5 @@
 -- The nodes of a forest that may be on the agenda: one at each stamp.
-use Rattle.std.proofs.Common.{◌≡◌, refl, sym, ap, ◌∙◌, subst, Option, Some, None, true, false}
+use Rattle.std.proofs.Common.{◌≡◌, ℕ, refl, sym, ap, ◌∙◌, subst, Option, Some, None, true, false}
 use Rattle.std.specs.Prelude.{IsSome, IfSome, is_some, if◌then◌else◌}
 use Rattle.cga_order.specs.Chain.{Chain}
 use Rattle.cga_order.specs.World.{is_instance}
@@ -23,6 +23,11 @@ due_of (Some d) x e = elim (is_instance d.node.kind) as (λ b. is_instance d.nod
 pub due_is : (o : Option Seen) (d : Seen) → o ≡ Some d → is_instance d.node.kind ≡ false
     → due_chain o ≡ Some (chain_kept d.node)
 due_is o d e i = ap due_chain e ∙ ap (λ b. if b then None else Some (chain_kept d.node)) i
+
+-- a node that is there and is no instance may be on the agenda
+pub may_be_on : (v : ForestView) (c : ℕ) (d : Seen) → node_at v c ≡ Some d → is_instance d.node.kind ≡ false
+    → IsSome (chains_of v c)
+may_be_on v c d at inner = subst IsSome (sym (due_is (node_at v c) d at inner)) refl
 
 due_some : (o : Option Seen) → IsSome (due_chain o) → (d : Seen) × (o ≡ Some d) × (is_instance d.node.kind ≡ false)
 due_some None h = let z : false ≡ true = h in cc

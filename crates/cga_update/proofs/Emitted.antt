@@ -1,11 +1,12 @@
 -- What was emitted for the children of a node is an outcome that places them where they stand.
-use Rattle.std.proofs.Common.{◌≡◌, ◌<◌, ◌+◌, ℕ, zero, suc, List, [], ◌∷◌, ◌++◌, length, refl, sym, ap, ◌∙◌, subst, ◌⊎◌, inl, inr, Option, Some, None, true, false, Ok, Err, arith, length-append}
+use Rattle.std.proofs.Common.{◌≡◌, ◌<◌, ◌≤◌, ◌+◌, ℕ, zero, suc, List, [], ◌∷◌, ◌++◌, length, refl, sym, ap, ◌∙◌, subst, ◌⊎◌, inl, inr, Option, Some, None, true, false, Ok, Err, arith, length-append}
 use Rattle.std.specs.Prelude.{IsSome, slice_get}
 use Rattle.cga_index.specs.Tree.{InTree}
 use Rattle.cga_word.specs.declared.primitive.Primitive.{Primitive}
 use Rattle.cga_order.specs.World.{is_instance, is_waiting}
 use Rattle.cga_order.specs.declared.placed.Kind.{Kind}
 use Rattle.cga_order.specs.declared.placed.Kind.TheVariants.{Waiting, Done, Faulted, Instance}
+use Rattle.cga_expand.specs.declared.limits.TheConstants.{MOST_CHILDREN}
 use Rattle.cga_shape.specs.declared.emitted.Emitted.{Emitted}
 use Rattle.cga_shape.specs.declared.shape_fault.ShapeFault.{ShapeFault}
 use Rattle.cga_forest.specs.View.{Seen}
@@ -87,6 +88,16 @@ child_there v f id place b here at =
 
 pub in_tree : (v : ForestView) → IsForest v → (id : ℕ) → IsSome (node_at v id) → InTree (forest_tree v) id
 in_tree v f id here = inside v f id (seen_some (node_at v id) here)
+
+-- a node has no more children than an expansion makes
+pub few_emitted : (v : ForestView) → IsForest v → (id n count : ℕ) (made list : List Emitted) → IsSome (node_at v id)
+    → length made ≡ n → list ≡ made → count ≡ length (children_at v id) → n ≡ count → length list ≤ MOST_CHILDREN
+few_emitted v f id n count made list here sized same counted whole =
+    let e = seen_some (node_at v id) here in
+    let few = f.present.few id e.0 e.1 in
+    let children = ap (λ o. length (children_of o)) e.1 in
+    let long = ap length same in
+    omega (arith, few, children, long)
 
 pub emitted_next : (v : ForestView) (id n b : ℕ) (made : List Emitted) (y : Emitted)
     → ((e : Seen) → node_at v id ≡ Some e → AreEmitted v e n made) → slice_get (children_at v id) n ≡ Some b

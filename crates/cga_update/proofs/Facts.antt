@@ -1,7 +1,7 @@
 -- The facts of a symbol, once they are known.
 use Rattle.std.proofs.Common.{◌≡◌, ◌⊎◌, inl, inr, ℕ, suc, List, [], ◌∷◌, ◌++◌, Bool, true, false, ◌||◌, cond, refl, sym, ap, ◌∙◌, subst, Option, Some, None, slice_get, ◌+◌, ◌<◌, ◌≤◌, length, arith}
 use Rattle.std.proofs.lemmas.Option.{slice_get_within}
-use Rattle.std.specs.Prelude.{find, if◌then◌else◌, Result, Ok, Err, IfOk}
+use Rattle.std.specs.Prelude.{unwrap_or, find, if◌then◌else◌, Result, Ok, Err, IfOk}
 use Rattle.std.specs.List.{list_any}
 use lib.Pointwise.{bytes_decides}
 use Rattle.std.specs.Ordering.{nat_cmp, is_eq}
@@ -19,9 +19,12 @@ use Rattle.cga_expand.specs.Settings.{mentions, setting_of}
 use Rattle.cga_rule.specs.declared.grammar.Grammar.{Grammar}
 use Rattle.cga_rule.specs.declared.grammar.Group.{Group}
 use Rattle.cga_word.specs.declared.target.Target.{Target}
+use Rattle.cga_word.specs.declared.target.Target.TheVariants.{Noparent, Active}
 use Rattle.cga_check.specs.Groups as groups
 use Rattle.cga_check.specs.Groups.{first_entry, group, group_with, is_of}
+use Rattle.cga_check.specs.Said.{said}
 use Rattle.cga_expand.specs.Asked.{group_asks, asks_for}
+use Rattle.cga_expand.specs.Derivation.{priority_of}
 use Rattle.cga_update.specs.declared.changed.Facts.{Facts}
 use Rattle.cga_update.specs.Changed.{AreFacts, AreKnown, IsNoted, KeepsNoted}
 use Rattle.cga_update.proofs.Members.{among_left, among_right}
@@ -43,15 +46,28 @@ still_known old new before after symbol facts are known updates = λ name found 
         subst (λ (x : Facts). AreFacts old new name x) is (subst (λ (s : List ℕ). AreFacts old new s facts) same are)
     at name found e false here q = known name found (sym q ∙ e)
 
--- a symbol's group asks by the one name and by the other
-pub asked_is : (grammar : Grammar) (symbol : List ℕ) (target : Target)
-    → groups.group_asks (group grammar symbol) target ≡ asks_for grammar symbol target
-unfolding asks_for
-asked_is grammar symbol target = by (group grammar symbol)
-  where
-    by : (found : Option Group) → groups.group_asks found target ≡ group_asks found target
-    by None = refl
-    by (Some g) = refl
+-- ---- what is said of a symbol
+
+-- a group asks by the one name and by the other
+same_asks : (found : Option Group) (target : Target) → groups.group_asks found target ≡ group_asks found target
+same_asks None target = refl
+same_asks (Some g) target = refl
+
+pub said_noparent : (g : Grammar) (symbol : List ℕ) → (said g symbol).noparent ≡ asks_for g symbol Noparent
+unfolding said asks_for
+said_noparent g symbol = same_asks (group g symbol) Noparent
+
+pub said_active : (g : Grammar) (symbol : List ℕ) → (said g symbol).active ≡ asks_for g symbol Active
+unfolding said asks_for
+said_active g symbol = same_asks (group g symbol) Active
+
+pub said_priority : (g : Grammar) (symbol : List ℕ) → (said g symbol).priority ≡ priority_of g symbol
+unfolding said priority_of
+said_priority g symbol = refl
+
+pub first_priority : (g : Grammar) (symbol : List ℕ) → unwrap_or (groups.priority_of g symbol) 0 ≡ priority_of g symbol
+unfolding priority_of
+first_priority g symbol = refl
 
 -- ---- which symbols changed
 

@@ -50,7 +50,12 @@ among_at [] x h = absurd h
 among_at (y ∷ xs) x (inl e) = (0, ap Some e)
 among_at (y ∷ xs) x (inr h) = let w = among_at xs x h in (suc w.0, w.1)
 
-pub member_at : (xs : List ℕ) (n : ℕ) → Member xs n → (i : ℕ) × (slice_get xs i ≡ Some n)
-member_at [] n h = absurd h
-member_at (y ∷ xs) n (inl e) = (0, ap Some e)
-member_at (y ∷ xs) n (inr h) = let w = member_at xs n h in (suc w.0, w.1)
+pub member_among : (xs : List ℕ) (n : ℕ) → Member xs n → Among n xs
+member_among [] n h = h
+member_among (y ∷ xs) n (inl e) = inl e
+member_among (y ∷ xs) n (inr h) = inr (member_among xs n h)
+
+pub among_member : (xs : List ℕ) (n : ℕ) → Among n xs → Member xs n
+among_member [] n h = h
+among_member (y ∷ xs) n (inl e) = inl e
+among_member (y ∷ xs) n (inr h) = inr (among_member xs n h)

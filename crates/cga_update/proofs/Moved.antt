@@ -1,16 +1,16 @@
 -- The agenda after a turn, in the words of the theory: what was on it and stays, what came, and who meets what changed.
 use Rattle.std.proofs.Common.{◌≡◌, ℕ, List, refl, sym, ap, ◌∙◌, subst, inl, inr, Some, None, Bool, true, false}
-use Rattle.std.specs.Prelude.{IsSome, is_some, if◌then◌else◌}
+use Rattle.std.specs.Prelude.{is_some, if◌then◌else◌}
 use Rattle.std.specs.declared.cmp.Ordering.TheVariants.{Less, Equal, Greater}
 use Rattle.std.specs.declared.cmp.Ordering.{Ordering}
 use Rattle.std.specs.Ordering.{is_lt}
-use Rattle.cga_frame.specs.Box.{Box, box_of, meets}
+use Rattle.cga_frame.specs.Box.{box_of, meets}
 use Rattle.cga_fraction.proofs.Door.{Less_from_is_lt as lt_is, cases_Option as option_cases, eq_or_ne as nat_cases}
 use Rattle.cga_order.proofs.Door.{stamp_total}
 use Rattle.cga_queue.proofs.Door.{on_from, on_to}
 use Rattle.std.proofs.lemmas.Bool.{cases_Bool as bool_cases}
 use Rattle.cga_order.specs.Stamp.{stamp_cmp}
-use Rattle.cga_order.specs.World.{is_instance}
+use Rattle.cga_order.specs.World.{Among, is_instance}
 use Rattle.cga_shape.specs.declared.sources.Sources.{Sources}
 use Rattle.cga_tree.specs.Replaced.{IsReplaced}
 use Rattle.cga_forest.specs.declared.change.Change.{Change}
@@ -21,12 +21,13 @@ use Rattle.cga_forest.specs.Node.{bounds, chain_kept, fits}
 use Rattle.cga_forest.specs.View.{Seen}
 use Rattle.cga_forest.specs.Tree.{ForestView, marked_at, node_at}
 use Rattle.cga_rework.specs.Agenda.{IsMoved}
-use Rattle.cga_queue.specs.Agenda.{AgendaView, ComesAfter, is_later}
-use Rattle.cga_update.specs.Due.{AllCame, ComersAreDue, HasAskers}
+use Rattle.cga_queue.specs.Agenda.{AgendaView, ComesAfter, HasAll, is_later}
+use Rattle.cga_update.specs.Askers.{IsAsker, IsOneOf}
+use Rattle.cga_update.specs.Due.{AllCame, ComersAreDue}
 use Rattle.cga_update.specs.Edit.{content, meets_box, shapes_of}
-use Rattle.cga_update.specs.Follow.{IsComer, IsFollowed}
+use Rattle.cga_update.specs.Follow.{IsFollowed}
 use Rattle.cga_update.specs.Queue.{chains_of, due_chain, on_of}
-use Rattle.cga_update.proofs.DueNodes.{due_is, due_of}
+use Rattle.cga_update.proofs.DueNodes.{due_is, due_of, may_be_on}
 use Rattle.cga_update.proofs.Moves.{chain_at, not_itself, some_one}
 
 -- S and T are two forests, before and after the children of a node were replaced
@@ -82,7 +83,7 @@ module _ (v w : ForestView) (new : Sources) (id : ℕ) (news : List Node) (e now
 
     came_on : (c : ℕ) (d : Seen) → node_at v c ≡ None → node_at w c ≡ Some d → is_instance d.node.kind ≡ false
         → on_of w after c ≡ true
-    came_on c d none here solid = followed.came (moved_of c d) ((came.each (moved_of c d)).1 (c, d, here, none, refl)) (subst IsSome (sym (due_is (node_at w c) d here solid)) refl)
+    came_on c d none here solid = followed.came c (moved_of c d, (came.each (moved_of c d)).1 (c, d, here, none, refl), refl) (may_be_on w c d here solid)
 
     -- so it is on it after, as is what comes now
     comer_on : (c : ℕ) (d : Seen) → node_at w c ≡ Some d → marked_at w c ≡ None → is_instance d.node.kind ≡ false
@@ -91,20 +92,25 @@ module _ (v w : ForestView) (new : Sources) (id : ℕ) (news : List Node) (e now
       | inl none ↦ came_on c d none here solid
       | inr p ↦
           let there : node_at v c ≡ Some d = p.1 ∙ ap Some (same_later c p.0 d p.1 here less) in
-          followed.kept c (still_on was c d d there here (comers c d there unmarked solid less))
+          followed.grows.kept c (still_on was c d d there here (comers c d there unmarked solid less))
     ]
 
     -- who asks and meets the box of one of the moved is on the agenda: it came, or was there at the mark
-    seen_by : (b : Box) → (all_came ≡ false → HasAskers w was.mode id b after) → (c : ℕ) (d : Seen)
-        → node_at w c ≡ Some d → is_instance d.node.kind ≡ false → d.node.asks ≡ true
-        → meets (box_of d.node.shape.scope) b ≡ true → stamp_cmp new.mode (chain_kept e.node) (chain_kept d.node) ≡ Less
+    seen_by : (list : List moved.Moved) (m : moved.Moved) → Among m list
+        → (all_came ≡ false
+        → HasAll (chains_of w) (λ c. IsAsker w list c × ComesAfter (chains_of w) was.mode id c) after)
+        → (c : ℕ) (d : Seen) → node_at w c ≡ Some d → is_instance d.node.kind ≡ false → d.node.asks ≡ true
+        → meets (box_of d.node.shape.scope) (box_of m.scope) ≡ true
+        → stamp_cmp new.mode (chain_kept e.node) (chain_kept d.node) ≡ Less
         → on_of w after c ≡ true
     unfolding bounds
-    seen_by b has c d here solid asks meet less = elim (option_cases (marked_at w c)) [
+    seen_by list m among has c d here solid asks meet less = elim (option_cases (marked_at w c)) [
       | inl unmarked ↦ comer_on c d here unmarked solid less
       | inr p ↦ elim (bool_cases all_came) [
         | inl is ↦ (let z : None ≡ Some p.0 = sym (all is c d here) ∙ p.1 in absurd (cc))
-        | inr not ↦ has not c d here (ap is_some p.1) asks meet (later_in c d here solid less)
+        | inr not ↦
+            let k : IsAsker w list c = record { seen = d; there = here; marked = ap is_some p.1; asks = asks; one = m; among = among; near = meet } in
+            has not c (k, later_in c d here solid less) (may_be_on w c d here solid)
       ]
     ]
 
@@ -115,15 +121,15 @@ module _ (v w : ForestView) (new : Sources) (id : ℕ) (news : List Node) (e now
     pub is_moved : IsMoved (shapes_of new) content meets_box (node_at v) (node_at w) e.node (on_of v was)
         (on_of w after)
     is_moved = record {
-      kept = λ c x d p q h. followed.kept c (still_on was c x d p q h);
+      kept = λ c x d p q h. followed.grows.kept c (still_on was c x d p q h);
       came = came_on;
       went = λ b c x d there none here solid asks meet less.
-          seen_by (box_of x.node.shape.scope) (λ not. followed.met_went not (moved_of b x) ((went.each (moved_of b x)).1 (b, x, there, none, refl))) c d here solid asks meet less;
+          seen_by change.went (moved_of b x) ((went.each (moved_of b x)).1 (b, x, there, none, refl)) followed.met_went c d here solid asks meet less;
       arrived = λ b c x d none there here solid asks meet less.
-          seen_by (box_of x.node.shape.scope) (λ not. followed.met_came not (moved_of b x) ((came.each (moved_of b x)).1 (b, x, there, none, refl))) c d here solid asks meet less;
+          seen_by change.came (moved_of b x) ((came.each (moved_of b x)).1 (b, x, there, none, refl)) followed.met_came c d here solid asks meet less;
       only = λ c d here h. elim (option_cases (node_at v c)) [
         | inl none ↦ inr (inl none)
-        | inr p ↦ elim (followed.only c h) [
+        | inr p ↦ elim (followed.grows.only c h) [
           | inl y ↦ inl (p.0, p.1, was_on was c p.0 d p.1 here y)
           | inr r ↦ elim r [
             | inl m ↦ inr (inl (came_none c m))
@@ -133,7 +139,7 @@ module _ (v w : ForestView) (new : Sources) (id : ℕ) (news : List Node) (e now
       ];
     }
       where
-        came_none : (c : ℕ) → IsComer change c → node_at v c ≡ None
+        came_none : (c : ℕ) → IsOneOf change.came c → node_at v c ≡ None
         came_none c m = let z = (came.each m.0).0 m.1 in ap (node_at v) (sym m.2 ∙ ap (λ (x : moved.Moved). x.id) z.4) ∙ z.3
 
         solid_at : (c : ℕ) (d : Seen) → node_at w c ≡ Some d → on_of w after c ≡ true → is_instance d.node.kind ≡ false

@@ -1,24 +1,18 @@
--- Who asks near what moved is on the agenda.
-use Rattle.std.proofs.Common.{◌≡◌, inl, inr, ℕ, List, [], ◌∷◌, Some, true, sym, ap, subst, ◌∙◌}
-use Rattle.std.specs.Prelude.{IsSome, is_some}
+-- Who asks near what moved.
+use Rattle.std.proofs.Common.{◌≡◌, inl, inr, ℕ, List, [], ◌∷◌, Bool, true, false, ◌||◌, Option, Some, None, refl, sym, ap, subst, ◌∙◌}
+use Rattle.std.specs.Prelude.{is_some}
 use Rattle.std.specs.List.{list_any}
-use Rattle.std.proofs.lemmas.Bool.{and_from, or_left, or_right}
+use Rattle.std.proofs.lemmas.Bool.{and_from, and_parts, or_left, or_right}
 use Rattle.cga_frame.specs.Box.{Box, box_of, meets}
-use Rattle.cga_word.specs.declared.mode.Mode.{Mode}
 use Rattle.cga_order.specs.World.{Among}
 use Rattle.cga_index.specs.Near.{ListsNear}
-use Rattle.cga_index.specs.Tree.{Member}
 use Rattle.cga_forest.specs.declared.moved.Moved.{Moved}
-use Rattle.cga_forest.specs.Node.{bounds}
+use Rattle.cga_forest.specs.View.{Seen}
 use Rattle.cga_forest.specs.Tree.{ForestView, IsForest, marked_at, node_at}
 use Rattle.cga_forest.specs.Walked.{asks_of, lasting_tree, own_of}
 use Rattle.cga_forest.proofs.Door.{in_lasting, inside}
-use Rattle.cga_queue.specs.Agenda.{AgendaView, HasLater}
-use Rattle.cga_update.specs.Askers.{ListsAskersOf, boxes_of}
-use Rattle.cga_update.specs.Due.{HasAskers}
-use Rattle.cga_update.specs.Near.{HasNear, HasThese}
-use Rattle.cga_update.specs.Queue.{chains_of}
-use Rattle.cga_update.proofs.Members.{member_at}
+use Rattle.cga_update.specs.Askers.{IsAsker, ListsAskers, boxes_of}
+use Rattle.cga_update.proofs.Members.{among_member, member_among}
 
 near_some : (own : Box) (moved : List Moved) (m : Moved) → Among m moved → meets own (box_of m.scope) ≡ true
     → list_any (meets own) (boxes_of moved) ≡ true
@@ -28,23 +22,52 @@ near_some own (x ∷ xs) m (inl s) e =
 near_some own (x ∷ xs) m (inr h) e =
     or_right (meets own (box_of x.scope)) (list_any (meets own) (boxes_of xs)) (near_some own xs m h e)
 
+near_first : (own : Box) (x : Moved) (xs : List Moved)
+    → (list_any (meets own) (boxes_of xs) ≡ true → (m : Moved) × Among m xs × (meets own (box_of m.scope) ≡ true))
+    → (b : Bool) → meets own (box_of x.scope) ≡ b → list_any (meets own) (boxes_of (x ∷ xs)) ≡ true
+    → (m : Moved) × Among m (x ∷ xs) × (meets own (box_of m.scope) ≡ true)
+near_first own x xs more true is h = (x, inl refl, is)
+near_first own x xs more false is h =
+    let w = more (ap (λ b. b || list_any (meets own) (boxes_of xs)) (sym is) ∙ h) in (w.0, inr w.1, w.2)
+
+near_one : (own : Box) (moved : List Moved) → list_any (meets own) (boxes_of moved) ≡ true
+    → (m : Moved) × Among m moved × (meets own (box_of m.scope) ≡ true)
+near_one own [] h = let z : false ≡ true = h in absurd (cc)
+near_one own (x ∷ xs) h = near_first own x xs (near_one own xs) (meets own (box_of x.scope)) refl h
+
+-- who asks is there
+asking : (o : Option Seen) → asks_of o ≡ true → (d : Seen) × (o ≡ Some d) × (d.node.asks ≡ true)
+asking None h = let z : false ≡ true = h in absurd (cc)
+asking (Some d) h = (d, refl, h)
+
 pub lists_askers : (v : ForestView) → IsForest v → (moved : List Moved) (list : List ℕ)
-    → ListsNear (lasting_tree v) (boxes_of moved) list → ListsAskersOf v moved list
-lists_askers v f moved list lists m c d h at marked asks near =
-    lists.all c (record {
-      inside = in_lasting v c (inside v f c (d, at));
-      asks = and_from (is_some (marked_at v c)) (asks_of (node_at v c)) marked (ap asks_of at ∙ asks);
-      near = near_some (own_of (node_at v c)) moved m h (ap (λ o. meets (own_of o) (box_of m.scope)) at ∙ near);
-    })
+    → ListsNear (lasting_tree v) (boxes_of moved) list → ListsAskers v moved list
+lists_askers v f moved list lists = record {
+  all = λ c k. member_among list c (lists.all c (record {
+    inside = in_lasting v c (inside v f c (k.seen, k.there));
+    asks = and_from (is_some (marked_at v c)) (asks_of (node_at v c)) k.marked (ap asks_of k.there ∙ k.asks);
+    near = near_some (own_of (node_at v c)) moved k.one k.among
+        (ap (λ o. meets (own_of o) (box_of k.one.scope)) k.there ∙ k.near);
+  }));
+  only = λ c h.
+      let k = lists.only c (among_member list c h) in
+      let both = and_parts (is_some (marked_at v c)) (asks_of (node_at v c)) k.asks in
+      let d = asking (node_at v c) both.1 in
+      let m = near_one (own_of (node_at v c)) moved k.near in record {
+        seen = d.0;
+        there = d.1;
+        marked = both.0;
+        asks = d.2;
+        one = m.0;
+        among = m.1;
+        near = ap (λ o. meets (own_of o) (box_of m.0.scope)) (sym d.1) ∙ m.2;
+      };
+}
 
-module _ (v : ForestView) (moved : List Moved) (list lent : List ℕ) (same : lent ≡ list) (lists : ListsAskersOf v moved list) where
-  pub has_later : (mode : Mode) (of : ℕ) (a : AgendaView) → HasLater (chains_of v) mode of lent a → (m : Moved)
-      → Among m moved → HasAskers v mode of (box_of m.scope) a
-  has_later mode of a has m h c d at marked asks near late =
-      let z = member_at lent c (subst (λ l. Member l c) (sym same) (lists m c d h at marked asks near)) in has z.0 c z.1 late
+-- the list is lent
+module _ (v : ForestView) (moved : List Moved) (list lent : List ℕ) (same : lent ≡ list) (lists : ListsAskers v moved list) where
+  pub asker_from : (c : ℕ) → Among c lent → IsAsker v moved c
+  asker_from c h = lists.only c (subst (λ l. Among c l) same h)
 
-  pub has_near : (a : AgendaView) → HasThese v (λ c. Member lent c) a → (m : Moved) → Among m moved
-      → HasNear v (box_of m.scope) a
-  unfolding bounds
-  has_near a has m h c d w marked asks near =
-      has c d (subst (λ l. Member l c) (sym same) (lists m c d h w.0 marked asks near)) w
+  pub asker_in : (c : ℕ) → IsAsker v moved c → Among c lent
+  asker_in c k = subst (λ l. Among c l) (sym same) (lists.all c k)

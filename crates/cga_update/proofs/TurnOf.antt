@@ -31,8 +31,8 @@ HasFacts w id facts = (d : Seen) → node_at w.forest id ≡ Some d → Knows w 
 
 abbrev AsksOf : Work → ℕ → Facts → Answers → Type 0
 AsksOf w id facts answers = (old new : Sources) (d : Seen) → w.forest.mode ≡ new.mode → node_at w.forest id ≡ Some d
-    → facts.noparent ≡ asks_for new.grammar d.node.shape.symbol Noparent
-    → facts.active ≡ asks_for new.grammar d.node.shape.symbol Active
+    → facts.said.noparent ≡ asks_for new.grammar d.node.shape.symbol Noparent
+    → facts.said.active ≡ asks_for new.grammar d.node.shape.symbol Active
     → answers ≡ kept.asked (new_world (the_edit old new)) (kept_nodes w.forest) (ranked d.node)
 
 abbrev ChangedOf : Work → ℕ → Facts → Answers → Bool → Type 0
@@ -42,7 +42,7 @@ abbrev SameOf : Work → ℕ → Facts → Answers → Bool → Type 0
 SameOf w id facts answers must = (d : Seen) → node_at w.forest id ≡ Some d → must ≡ false → (is_waiting d.node.kind ≡ false) × (facts.same_setting ≡ true) × (d.node.answers ≡ answers)
 
 abbrev RightOf : Work → ℕ → Facts → Bool → Type 0
-RightOf w id facts right = (d : Seen) → node_at w.forest id ≡ Some d → right ≡ true → d.node.asks ≡ (facts.noparent || facts.active)
+RightOf w id facts right = (d : Seen) → node_at w.forest id ≡ Some d → right ≡ true → d.node.asks ≡ (facts.said.noparent || facts.said.active)
 
 abbrev ExpandsAt : Work → Work → ℕ → Answers → Turned → Type 0
 ExpandsAt w now id answers turned = (outcome : Outcome) × HasPlaced w now id answers outcome
@@ -132,7 +132,7 @@ module _ (was : Work) (symbols : Symbols) where
     })
 
     quiet_is : SameOf mid id facts answers must → must ≡ false → was.priced ≡ true
-        → here.0.node.asks ≡ (facts.noparent || facts.active) → now ≡ mid
+        → here.0.node.asks ≡ (facts.said.noparent || facts.said.active) → now ≡ mid
         → turned ≡ record { children = 0; expanded = false } → IsTurned was now id turned
     quiet_is same so priced right stays told = inr (record {
       node = here.0;

@@ -267,7 +267,7 @@ module _ (was now : Work) (rest : AgendaView) (id : ℕ) (x : Chain) (turned : T
     old_names = to_old (λ b. NamesDiffer b.now.lots) means.old_names;
     names = to_new (λ b. NamesDiffer b.now.lots) means.names;
     mode = to_new (λ b. now.forest.mode ≡ b.now.mode) (turn.placed.1.bounds.mode ∙ means.mode);
-    agenda_mode = to_new (λ b. now.agenda.mode ≡ b.now.mode) (turn.placed.1.followed.mode ∙ least.mode ∙ means.agenda_mode);
+    agenda_mode = to_new (λ b. now.agenda.mode ≡ b.now.mode) (turn.placed.1.followed.grows.mode ∙ least.mode ∙ means.agenda_mode);
     nodes = refl;
     underway = to_new (λ b. IsUnderway (shapes_of b.now) content (rules_of b.now) (asks_by b.now.grammar) T (on_of now.forest now.agenda)) result.0;
     queued = to_new (λ b. AreQueued (shapes_of b.now) content T (on_of now.forest now.agenda) result.1.0) result.1.1;

@@ -2,7 +2,6 @@
 use Rattle.std.specs.Prelude.{◌≡◌, ℕ, List, Some, IsSome, true, map}
 use Rattle.cga_frame.specs.Box.{Box, box_of, meets}
 use Rattle.cga_order.specs.World.{Among}
-use Rattle.cga_index.specs.Tree.{Member}
 use Rattle.cga_forest.specs.declared.moved.Moved.{Moved}
 use Rattle.cga_forest.specs.Node.{bounds}
 use Rattle.cga_forest.specs.View.{Seen}
@@ -12,8 +11,21 @@ use Rattle.cga_forest.specs.Tree.{ForestView, marked_at, node_at}
 abbrev pub boxes_of : List Moved → List Box
 boxes_of moved = map (λ (m : Moved). box_of m.scope) moved
 
--- the list has each node that was there at the mark and asks, and whose box meets that of one of these
-abbrev pub ListsAskersOf : ForestView → List Moved → List ℕ → Type 0
-ListsAskersOf v moved list =
-    (m : Moved) (c : ℕ) (d : Seen) → Among m moved → node_at v c ≡ Some d → IsSome (marked_at v c)
-    → d.node.asks ≡ true → meets (bounds d.node) (box_of m.scope) ≡ true → Member list c
+-- the node is one of these
+abbrev pub IsOneOf : List Moved → ℕ → Type 0
+IsOneOf moved c = (m : Moved) × Among m moved × (m.id ≡ c)
+
+-- the node was there at the mark and asks, and its box meets that of one of these
+pub record IsAsker (v : ForestView) (moved : List Moved) (c : ℕ) : Type 0 where
+  pub seen : Seen
+  pub there : node_at v c ≡ Some seen
+  pub marked : IsSome (marked_at v c)
+  pub asks : seen.node.asks ≡ true
+  pub one : Moved
+  pub among : Among one moved
+  pub near : meets (bounds seen.node) (box_of one.scope) ≡ true
+
+-- the list has each such node, and no other
+pub record ListsAskers (v : ForestView) (moved : List Moved) (list : List ℕ) : Type 0 where
+  pub all : (c : ℕ) → IsAsker v moved c → Among c list
+  pub only : (c : ℕ) → Among c list → IsAsker v moved c

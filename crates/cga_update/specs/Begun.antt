@@ -1,8 +1,6 @@
 -- What an update begins with, and where it stands then.
 use Rattle.std.specs.Prelude.{◌≡◌, ℕ, List, [], length, Some, true, false}
-use Rattle.cga_frame.specs.Box.{box_of}
-use Rattle.cga_index.specs.Tree.{Member}
-use Rattle.cga_order.specs.World.{Among, is_instance}
+use Rattle.cga_order.specs.World.{is_instance}
 use Rattle.cga_agenda.specs.Loop.{IsReady, State}
 use Rattle.cga_word.specs.declared.answers.Answers.{Answers}
 use Rattle.cga_word.specs.declared.primitive.Primitive.{Primitive}
@@ -18,13 +16,15 @@ use Rattle.cga_forest.specs.declared.moved.Moved.{Moved}
 use Rattle.cga_forest.specs.View.{Seen}
 use Rattle.cga_forest.specs.Tree.{ForestView, marked_at, node_at}
 use Rattle.cga_update.specs.declared.work.Work.{Work}
-use Rattle.cga_queue.specs.Agenda.{AgendaView}
+use Rattle.cga_queue.specs.Agenda.{AgendaView, HasAll}
 use Rattle.cga_update.specs.Applied.{ListsView}
+use Rattle.cga_update.specs.Askers.{IsAsker, IsOneOf}
 use Rattle.cga_update.specs.Changed.{AreKnown}
 use Rattle.cga_update.specs.Edit.{asks_by, content, kept_nodes, rules_of, shapes_of, the_edit}
 use Rattle.cga_update.specs.Means.{Means}
 use Rattle.cga_update.specs.Plain.{IsPlain}
-use Rattle.cga_update.specs.Near.{HasNear, HasThese, IsChangedFor, IsPricedFor}
+use Rattle.cga_update.specs.Near.{IsChangedFor, IsPricedFor}
+use Rattle.cga_update.specs.Queue.{chains_of}
 
 -- the forest stands for the old sources, and is marked as it stands; so do the dependents
 pub record StandsMarked (old new : Sources) (v : ForestView) (d : DependentsView) : Type 0 where
@@ -54,15 +54,15 @@ pub record IsFresh (w : Work) : Type 0 where
 
 -- the roots that came are on the agenda, and those of the mark that ask near what went or came
 pub record HasMoved (v : ForestView) (went came : List Moved) (a : AgendaView) : Type 0 where
-  pub roots : (m : Moved) → Among m came → HasThese v (λ c. c ≡ m.id) a
-  pub near_went : (m : Moved) → Among m went → HasNear v (box_of m.scope) a
-  pub near_came : (m : Moved) → Among m came → HasNear v (box_of m.scope) a
+  pub roots : HasAll (chains_of v) (IsOneOf came) a
+  pub near_went : HasAll (chains_of v) (IsAsker v went) a
+  pub near_came : HasAll (chains_of v) (IsAsker v came) a
 
 -- the first agenda: these, and the nodes of changed symbols
 pub record IsFirst (old new : Sources) (v : ForestView) (d : DependentsView) (went came : List Moved) (a : AgendaView) : Type 0 where
   pub moved : HasMoved v went came a
-  pub changed : (symbol : List ℕ) → IsChangedFor v old.grammar new.grammar (λ c. Member (nodes_in d symbol) c) symbol a
-  pub priced : (symbol : List ℕ) → IsPricedFor v old.grammar new.grammar (λ c. Member (nodes_in d symbol) c) symbol a
+  pub changed : (symbol : List ℕ) → IsChangedFor v old.grammar new.grammar (nodes_in d symbol) symbol a
+  pub priced : (symbol : List ℕ) → IsPricedFor v old.grammar new.grammar (nodes_in d symbol) symbol a
 
 -- the work is ready for its first turn, from the nodes of the mark
 abbrev pub HasBegun : Sources → Sources → ForestView → Work → Type 0

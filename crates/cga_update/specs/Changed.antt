@@ -13,9 +13,9 @@ use Rattle.cga_update.specs.declared.changed.Facts.{Facts}
 
 -- the facts are those of the symbol
 pub record AreFacts (old new : Grammar) (symbol : List ℕ) (facts : Facts) : Type 0 where
-  pub noparent : facts.noparent ≡ asks_for new symbol Noparent
-  pub active : facts.active ≡ asks_for new symbol Active
-  pub priority : facts.priority ≡ priority_of new symbol
+  pub noparent : facts.said.noparent ≡ asks_for new symbol Noparent
+  pub active : facts.said.active ≡ asks_for new symbol Active
+  pub priority : facts.said.priority ≡ priority_of new symbol
   pub setting : IsTrue facts.same_setting ↔ (setting_of old symbol ≡ setting_of new symbol)
   pub priorities : IsTrue facts.same_priority ↔ (priority_of old symbol ≡ priority_of new symbol)
 

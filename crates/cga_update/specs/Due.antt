@@ -1,23 +1,14 @@
--- Which nodes are on the agenda: of those that were there at the mark who asks near a box, and of those that came since
--- whichever comes later than one that is on it.
-use Rattle.std.specs.Prelude.{◌≡◌, ℕ, Some, None, IsSome, true, false}
+-- Which of the nodes that came since the mark are on the agenda: whichever comes later than one that is on it.
+use Rattle.std.specs.Prelude.{◌≡◌, ℕ, Some, None, true, false}
 use Rattle.std.specs.declared.cmp.Ordering.TheVariants.{Less}
-use Rattle.cga_frame.specs.Box.{Box, meets}
 use Rattle.cga_word.specs.declared.mode.Mode.{Mode}
 use Rattle.cga_order.specs.Stamp.{stamp_cmp}
 use Rattle.cga_order.specs.World.{is_instance}
-use Rattle.cga_forest.specs.Node.{bounds, chain_kept}
+use Rattle.cga_forest.specs.Node.{chain_kept}
 use Rattle.cga_forest.specs.View.{Seen}
 use Rattle.cga_forest.specs.Tree.{ForestView, marked_at, node_at}
-use Rattle.cga_queue.specs.Agenda.{AgendaView, ComesAfter}
-use Rattle.cga_update.specs.Queue.{chains_of, on_of}
-
--- each later node that was there at the mark, asks and meets the box is on the agenda
-abbrev pub HasAskers : ForestView → Mode → ℕ → Box → AgendaView → Type 0
-HasAskers v mode of area a =
-    (c : ℕ) (d : Seen) → node_at v c ≡ Some d → IsSome (marked_at v c) → d.node.asks ≡ true
-    → meets (bounds d.node) area ≡ true
-    → ComesAfter (chains_of v) mode of c → on_of v a c ≡ true
+use Rattle.cga_queue.specs.Agenda.{AgendaView}
+use Rattle.cga_update.specs.Queue.{on_of}
 
 -- each node that came since the mark, is no instance and comes later than one on the agenda is on it, too
 abbrev pub ComersAreDue : Mode → ForestView → AgendaView → Type 0

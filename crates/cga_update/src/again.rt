@@ -8,7 +8,6 @@ ghost use Rattle.cga_forest.specs.View.{Seen};
 ghost use Rattle.cga_forest.specs.Tree.{node_at};
 ghost use Rattle.cga_update.specs.Turned.{AreEmitted, IsAgain, emitted_of, fault_in};
 
-use cga_expand::limits::MOST_CHILDREN;
 use cga_forest::{Forest, Node};
 use cga_fraction::{List, NoMemory};
 use cga_index::{HullTree, NodeId};
@@ -53,10 +52,6 @@ fn children_again(alloc: Global, forest: &Forest, id: NodeId) -> Result<List<Emi
 {
     forest.laws();
     let count = forest.children(id);
-    // No node has more.
-    if count > MOST_CHILDREN {
-        return Err(NoMemory);
-    }
     let mut made = Vec::new(alloc);
     for place in 0..count {
         let child = forest.child(id, place);

@@ -10,6 +10,7 @@ ghost use Rattle.cga_forest.specs.Tree.{node_at};
 ghost use Rattle.cga_update.specs.Asked.{answered};
 ghost use Rattle.cga_update.specs.Edit.{the_edit, kept_nodes, ranked};
 
+use cga_check::Said;
 use cga_forest::Forest;
 use cga_fraction::Tests;
 use cga_index::NodeId;
@@ -17,24 +18,18 @@ use cga_shape::Answers;
 use cga_word::{Answer, Target};
 use std::sync::ledger::Ledger;
 
-/// The answers of a node by the kept stamps, for the targets that its symbol's group mentions.
-pub fn asked<T: Ledger>(
-    forest: &Forest,
-    id: NodeId,
-    noparent: bool,
-    active: bool,
-    tests: &mut Tests<T>,
-) -> Answers
+/// The answers of a node by the kept stamps, for the targets for which the rules of its symbol are said to ask.
+pub fn asked<T: Ledger>(forest: &Forest, id: NodeId, said: Said, tests: &mut Tests<T>) -> Answers
     requires here { IsSome (node_at forest.now id) }
     // It is what the theory asks, of any sources in whose mode the forest stands.
     ensures { (old new : Sources) (d : Seen) → forest.now.mode ≡ new.mode → node_at forest.now id ≡ Some d
-        → noparent ≡ asks_for new.grammar d.node.shape.symbol Noparent
-        → active ≡ asks_for new.grammar d.node.shape.symbol Active
+        → said.noparent ≡ asks_for new.grammar d.node.shape.symbol Noparent
+        → said.active ≡ asks_for new.grammar d.node.shape.symbol Active
         → result ≡ kept.asked (new_world (the_edit old new)) (kept_nodes forest.now) (ranked d.node) }
 {
     forest.laws();
-    let noparent = answered(forest, id, Target::Noparent, noparent, tests);
-    let active = answered(forest, id, Target::Active, active, tests);
+    let noparent = answered(forest, id, Target::Noparent, said.noparent, tests);
+    let active = answered(forest, id, Target::Active, said.active, tests);
     Answers { noparent, active }
 }
 

@@ -1,6 +1,6 @@
 //! Who asks near what moved, of the nodes that were there at the mark.
 ghost use Rattle.std.specs.Prelude.{◌≡◌, IfOk};
-ghost use Rattle.cga_update.specs.Askers.{ListsAskersOf, boxes_of};
+ghost use Rattle.cga_update.specs.Askers.{ListsAskers, boxes_of};
 
 use cga_forest::{Forest, LastingAskers, Moved};
 use cga_fraction::{List, NoMemory, Tests};
@@ -9,14 +9,14 @@ use cga_index::{NodeId, queriers_near};
 use std::alloc::Global;
 use std::sync::ledger::Ledger;
 
-/// The nodes of the mark that ask and whose boxes meet that of one of these. Takes memory.
+/// The nodes of the mark that ask and whose boxes meet that of one of these, and only they. Takes memory.
 pub fn askers_near<T: Ledger>(
     alloc: Global,
     forest: &Forest,
     moved: &[Moved],
     tests: &mut Tests<T>,
 ) -> Result<List<NodeId>, NoMemory>
-    ensures { IfOk result (ListsAskersOf forest.now moved.now) }
+    ensures { IfOk result (ListsAskers forest.now moved.now) }
 {
     forest.laws();
     let areas = boxes_of(alloc, moved)?;
@@ -27,7 +27,7 @@ pub fn askers_near<T: Ledger>(
 fn boxes_of(alloc: Global, moved: &[Moved]) -> Result<List<WorldBox>, NoMemory>
     ensures { IfOk result (λ boxes. boxes ≡ boxes_of moved.now) }
 {
-    let mut boxes = Vec::new(alloc);
+    let mut boxes = Vec::with_capacity(alloc, moved.len())?;
     for node in moved {
         boxes.push(node.bounds())?;
     }

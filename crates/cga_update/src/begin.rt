@@ -1,6 +1,8 @@
 //! The beginning of an update: the roots that go and come, and the first agenda.
 ghost use Rattle.std.specs.Prelude.{◌≡◌, ℕ, IfOk, OnOk};
 ghost use Rattle.cga_forest.specs.Tree.{marked_at, node_at};
+ghost use Rattle.cga_queue.specs.Agenda.{OneEach};
+ghost use Rattle.cga_update.specs.Queue.{chains_of};
 ghost use Rattle.cga_update.specs.Begun.{HasBegun, HasMoved, IsBetween, IsFresh, StandsMarked};
 
 use crate::changed::Symbols;
@@ -24,10 +26,10 @@ fn queue_rooted<T: Ledger>(
     came: &[Moved],
     tests: &mut Tests<T>,
 ) -> Result<(), NoMemory>
+    requires one { OneEach (chains_of forest.now) }
     ensures moved { OnOk result (HasMoved forest.now went.now came.now agenda.new) }
     ensures mode { OnOk result (agenda.new.mode ≡ agenda.old.mode) }
 {
-    forest.laws();
     add_moved(agenda, forest, came)?;
     queue_near(agenda, forest, went, tests)?;
     queue_near(agenda, forest, came, tests)?;
@@ -64,6 +66,7 @@ fn begin<T: Ledger>(
     let came_nodes = came.as_slice();
     note_went(went_nodes, &mut work.log, &mut work.gone)?;
     note_came(came_nodes, &mut work.log, &mut work.come)?;
+    work.forest.laws();
     queue_rooted(
         &mut work.agenda,
         &work.forest,
@@ -79,7 +82,6 @@ fn begin<T: Ledger>(
         dependents,
     )?;
     work.priced = priced;
-    work.forest.laws();
     Ok(())
 }
 

@@ -2,27 +2,21 @@
 ghost use Rattle.std.specs.Prelude.{◌≡◌, ◌↔◌, IsTrue};
 ghost use Rattle.std.specs.List.{list_any};
 ghost use Rattle.cga_check.specs.Uses.{same_name};
-ghost use Rattle.cga_expand.specs.Asked.{asks_for};
-ghost use Rattle.cga_expand.specs.Derivation.{priority_of};
 ghost use Rattle.cga_expand.specs.Settings.{setting_of};
 ghost use Rattle.cga_update.specs.Changed.{AreFacts};
 
-use cga_check::{symbol_asks, symbol_priority};
+use cga_check::{Said, said_of, symbol_priority};
 use cga_fraction::NoMemory;
 use cga_rule::{Entry, Grammar};
 use cga_same::same_setting;
-use cga_word::{Name, Target};
+use cga_word::Name;
 use std::alloc::Global;
 use std::collections::BTreeMap;
 
 /// What the new grammar says of the shapes of a symbol, and whether the old one says the same.
 #[derive(Clone, Copy)]
 pub struct Facts {
-    /// Whether the group mentions the target.
-    pub noparent: bool,
-    pub active: bool,
-    /// 0 where the symbol has no rule.
-    pub priority: u16,
+    pub said: Said,
     /// Whether the group and the attributes that it mentions are the old ones.
     pub same_setting: bool,
     pub same_priority: bool,
@@ -136,32 +130,13 @@ fn has_name(names: &[Name], name: Name) -> bool
 fn facts_of(old: &Grammar, new: &Grammar, symbol: Name) -> Facts
     ensures { AreFacts old.now new.now symbol result }
 {
-    let same_setting = has_same_setting(old, new, symbol);
-    let priority = priority_in(new, symbol);
-    let old_priority = priority_in(old, symbol);
+    let said = said_of(new, symbol);
+    let before = symbol_priority(old, symbol).unwrap_or(0);
     Facts {
-        noparent: asks(new, symbol, Target::Noparent),
-        active: asks(new, symbol, Target::Active),
-        priority,
-        same_setting,
-        same_priority: old_priority == priority,
+        said,
+        same_setting: has_same_setting(old, new, symbol),
+        same_priority: before == said.priority,
     }
-}
-
-/// Whether the symbol's group mentions the target.
-#[tactic(auto, using(crate::proofs::Facts::asked_is))]
-fn asks(grammar: &Grammar, symbol: Name, target: Target) -> bool
-    ensures { result ≡ asks_for grammar.now symbol target }
-{
-    symbol_asks(grammar, symbol, target)
-}
-
-/// The symbol's priority, 0 where it has no rule.
-#[tactic(auto, unfolding(cga_expand::specs::Derivation::priority_of))]
-fn priority_in(grammar: &Grammar, symbol: Name) -> u16
-    ensures { result ≡ priority_of grammar.now symbol }
-{
-    symbol_priority(grammar, symbol).unwrap_or(0)
 }
 
 /// Whether the symbol's group and the values of the attributes that it mentions are the old ones.

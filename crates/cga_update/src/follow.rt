@@ -1,10 +1,7 @@
 //! What the agenda becomes after the turn of a node.
 ghost use Rattle.std.specs.Prelude.{OnOk};
-ghost use Rattle.cga_frame.specs.Box.{box_of};
-ghost use Rattle.cga_order.specs.World.{Among};
-ghost use Rattle.cga_forest.specs.declared.moved.Moved.{Moved as Mover};
-ghost use Rattle.cga_queue.specs.Agenda.{ComesAfter, Grows, OneEach};
-ghost use Rattle.cga_update.specs.Due.{HasAskers};
+ghost use Rattle.cga_queue.specs.Agenda.{ComesAfter, Grows, HasAll, OneEach};
+ghost use Rattle.cga_update.specs.Askers.{IsAsker};
 ghost use Rattle.cga_update.specs.Follow.{IsFollowed};
 ghost use Rattle.cga_update.specs.Queue.{chains_of};
 
@@ -26,8 +23,8 @@ fn add_met<T: Ledger>(
     tests: &mut Tests<T>,
 ) -> Result<(), NoMemory>
     requires one { OneEach (chains_of forest.now) }
-    ensures grows { OnOk result (Grows (chains_of forest.now) (ComesAfter (chains_of forest.now) agenda.old.mode of) agenda.old agenda.new) }
-    ensures there { OnOk result ((m : Mover) → Among m moved.now → HasAskers forest.now agenda.old.mode of (box_of m.scope) agenda.new) }
+    ensures grows { OnOk result (Grows (chains_of forest.now) (λ c. IsAsker forest.now moved.now c × ComesAfter (chains_of forest.now) agenda.old.mode of c) agenda.old agenda.new) }
+    ensures there { OnOk result (HasAll (chains_of forest.now) (λ c. IsAsker forest.now moved.now c × ComesAfter (chains_of forest.now) agenda.old.mode of c) agenda.new) }
 {
     let askers = askers_near(agenda.alloc(), forest, moved, tests)?;
     add_later(agenda, &Worked { forest }, of, askers.as_slice())

@@ -1,14 +1,12 @@
 //! Nodes are put on the agenda, whatever their stamps.
-ghost use Rattle.std.specs.Prelude.{◌≡◌, ℕ, List, true, IfOk, IsSome, OnOk};
-ghost use Rattle.cga_frame.specs.Box.{box_of};
-ghost use Rattle.cga_forest.specs.declared.moved.Moved.{Moved as Mover};
-ghost use Rattle.cga_index.specs.Tree.{Member};
+ghost use Rattle.std.specs.Prelude.{◌≡◌, ℕ, List, true, IfOk, OnOk};
 ghost use Rattle.cga_order.specs.World.{Among};
+ghost use Rattle.cga_update.specs.Askers.{IsAsker, IsOneOf};
 ghost use Rattle.cga_update.specs.Changed.{AreKnown};
-ghost use Rattle.cga_update.specs.Near.{HasNear, HasParents, HasThese, IsChangedFor, IsPricedFor, KeepsOn, KeepsPriorities, KeepsPriority};
+ghost use Rattle.cga_update.specs.Near.{IsAny, IsChangedFor, IsParent, IsParentOf, IsPricedFor, KeepsPriorities, KeepsPriority};
 ghost use Rattle.cga_depend.specs.Pairs.{nodes_in};
-ghost use Rattle.cga_queue.specs.Agenda.{Grows, OneEach};
-ghost use Rattle.cga_update.specs.Queue.{chains_of, on_of};
+ghost use Rattle.cga_queue.specs.Agenda.{Grows, HasAll, OneEach};
+ghost use Rattle.cga_update.specs.Queue.{chains_of};
 
 use crate::askers::askers_near;
 use crate::changed::Symbols;
@@ -18,38 +16,18 @@ use cga_depend::Dependents;
 use cga_forest::{Forest, Moved};
 use cga_fraction::{NoMemory, Tests};
 use cga_index::NodeId;
-use cga_queue::{Agenda, add};
+use cga_queue::{Agenda, add, add_all};
 use cga_word::Name;
 use std::sync::ledger::Ledger;
-
-/// Puts a node on it, where it is there and is no instance. Takes memory.
-pub fn queue(agenda: &mut Agenda, forest: &Forest, id: NodeId) -> Result<(), NoMemory>
-    ensures kept { OnOk result (KeepsOn forest.now agenda.old agenda.new) }
-    ensures there { OnOk result (HasThese forest.now (λ c. c ≡ id) agenda.new) }
-{
-    forest.laws();
-    add(agenda, &Worked { forest }, id)
-}
 
 /// Puts these nodes on it, where they are there and are no instances. Takes memory.
 pub fn add_moved(agenda: &mut Agenda, forest: &Forest, moved: &[Moved]) -> Result<(), NoMemory>
     requires one { OneEach (chains_of forest.now) }
-    ensures grows { OnOk result (Grows (chains_of forest.now) (λ c. (m : Mover) × Among m moved.now × (m.id ≡ c)) agenda.old agenda.new) }
-    ensures there { OnOk result ((m : Mover) → Among m moved.now → IsSome (chains_of forest.now m.id) → on_of forest.now agenda.new m.id ≡ true) }
+    ensures grows { OnOk result (Grows (chains_of forest.now) (IsOneOf moved.now) agenda.old agenda.new) }
+    ensures there { OnOk result (HasAll (chains_of forest.now) (IsOneOf moved.now) agenda.new) }
 {
     for node in moved {
         add(agenda, &Worked { forest }, node.id)?;
-    }
-    Ok(())
-}
-
-/// Puts nodes on it, those that are there and are no instances. Takes memory.
-pub fn queue_all(agenda: &mut Agenda, forest: &Forest, ids: &[NodeId]) -> Result<(), NoMemory>
-    ensures kept { OnOk result (KeepsOn forest.now agenda.old agenda.new) }
-    ensures there { OnOk result (HasThese forest.now (λ c. Member ids.now c) agenda.new) }
-{
-    for id in ids {
-        queue(agenda, forest, *id)?;
     }
     Ok(())
 }
@@ -61,31 +39,34 @@ pub fn queue_near<T: Ledger>(
     moved: &[Moved],
     tests: &mut Tests<T>,
 ) -> Result<(), NoMemory>
-    ensures kept { OnOk result (KeepsOn forest.now agenda.old agenda.new) }
-    ensures there { OnOk result ((m : Mover) → Among m moved.now → HasNear forest.now (box_of m.scope) agenda.new) }
+    requires one { OneEach (chains_of forest.now) }
+    ensures grows { OnOk result (Grows (chains_of forest.now) (IsAsker forest.now moved.now) agenda.old agenda.new) }
+    ensures there { OnOk result (HasAll (chains_of forest.now) (IsAsker forest.now moved.now) agenda.new) }
 {
     let askers = askers_near(agenda.alloc(), forest, moved, tests)?;
-    queue_all(agenda, forest, askers.as_slice())
+    add_all(agenda, &Worked { forest }, askers.as_slice())
 }
 
 /// Puts the parent of a node on it, where there is one. Takes memory.
 fn queue_parent(agenda: &mut Agenda, forest: &Forest, id: NodeId) -> Result<(), NoMemory>
-    ensures kept { OnOk result (KeepsOn forest.now agenda.old agenda.new) }
-    ensures there { OnOk result (HasParents forest.now (λ c. c ≡ id) agenda.new) }
+    requires one { OneEach (chains_of forest.now) }
+    ensures grows { OnOk result (Grows (chains_of forest.now) (IsParent forest.now id) agenda.old agenda.new) }
+    ensures there { OnOk result (HasAll (chains_of forest.now) (IsParent forest.now id) agenda.new) }
 {
     if forest.node(id).is_none() {
         return Ok(());
     }
     match forest.parent(id) {
-        Some(parent) => queue(agenda, forest, parent),
+        Some(parent) => add(agenda, &Worked { forest }, parent),
         None => Ok(()),
     }
 }
 
 /// Puts the parents of nodes on it, where there are any. Takes memory.
 pub fn queue_parents(agenda: &mut Agenda, forest: &Forest, ids: &[NodeId]) -> Result<(), NoMemory>
-    ensures kept { OnOk result (KeepsOn forest.now agenda.old agenda.new) }
-    ensures there { OnOk result (HasParents forest.now (λ c. Member ids.now c) agenda.new) }
+    requires one { OneEach (chains_of forest.now) }
+    ensures grows { OnOk result (Grows (chains_of forest.now) (IsParentOf forest.now ids.now) agenda.old agenda.new) }
+    ensures there { OnOk result (HasAll (chains_of forest.now) (IsParentOf forest.now ids.now) agenda.new) }
 {
     for id in ids {
         queue_parent(agenda, forest, *id)?;
@@ -103,15 +84,16 @@ fn queue_symbol(
     nodes: &[NodeId],
     symbol: Name,
 ) -> Result<bool, NoMemory>
-    requires { AreKnown renewal.old.now.grammar renewal.new.now.grammar symbols.old.known }
+    requires one { OneEach (chains_of forest.now) }
+    requires known { AreKnown renewal.old.now.grammar renewal.new.now.grammar symbols.old.known }
     ensures known { OnOk result (AreKnown renewal.entry.old.now.grammar renewal.entry.new.now.grammar symbols.new.known) }
-    ensures kept { OnOk result (KeepsOn forest.now agenda.old agenda.new) }
-    ensures there { OnOk result (HasThese forest.now (λ c. Member nodes.now c) agenda.new) }
-    ensures parents { OnOk result (IsPricedFor forest.now renewal.entry.old.now.grammar renewal.entry.new.now.grammar (λ c. Member nodes.now c) symbol agenda.new) }
+    ensures grows { OnOk result (Grows (chains_of forest.now) IsAny agenda.old agenda.new) }
+    ensures there { OnOk result (HasAll (chains_of forest.now) (λ c. Among c nodes.now) agenda.new) }
+    ensures parents { OnOk result (IsPricedFor forest.now renewal.entry.old.now.grammar renewal.entry.new.now.grammar nodes.now symbol agenda.new) }
     ensures priced { IfOk result (λ kept. kept ≡ true → KeepsPriority renewal.entry.old.now.grammar renewal.entry.new.now.grammar nodes.now symbol) }
 {
     let facts = symbols.of(&renewal.old.grammar, &renewal.new.grammar, symbol)?;
-    queue_all(agenda, forest, nodes)?;
+    add_all(agenda, &Worked { forest }, nodes)?;
     if facts.same_priority {
         return Ok(true);
     }
@@ -128,11 +110,12 @@ pub fn queue_changed(
     renewal: Renewal,
     dependents: &Dependents,
 ) -> Result<bool, NoMemory>
-    requires { AreKnown renewal.old.now.grammar renewal.new.now.grammar symbols.old.known }
+    requires one { OneEach (chains_of forest.now) }
+    requires known { AreKnown renewal.old.now.grammar renewal.new.now.grammar symbols.old.known }
     ensures known { OnOk result (AreKnown renewal.entry.old.now.grammar renewal.entry.new.now.grammar symbols.new.known) }
-    ensures kept { OnOk result (KeepsOn forest.now agenda.old agenda.new) }
-    ensures there { OnOk result ((symbol : List ℕ) → IsChangedFor forest.now renewal.entry.old.now.grammar renewal.entry.new.now.grammar (λ c. Member (nodes_in dependents.now symbol) c) symbol agenda.new) }
-    ensures parents { OnOk result ((symbol : List ℕ) → IsPricedFor forest.now renewal.entry.old.now.grammar renewal.entry.new.now.grammar (λ c. Member (nodes_in dependents.now symbol) c) symbol agenda.new) }
+    ensures grows { OnOk result (Grows (chains_of forest.now) IsAny agenda.old agenda.new) }
+    ensures there { OnOk result ((symbol : List ℕ) → IsChangedFor forest.now renewal.entry.old.now.grammar renewal.entry.new.now.grammar (nodes_in dependents.now symbol) symbol agenda.new) }
+    ensures parents { OnOk result ((symbol : List ℕ) → IsPricedFor forest.now renewal.entry.old.now.grammar renewal.entry.new.now.grammar (nodes_in dependents.now symbol) symbol agenda.new) }
     ensures priced { IfOk result (λ kept. kept ≡ true → KeepsPriorities renewal.entry.old.now.grammar renewal.entry.new.now.grammar dependents.now) }
 {
     let changed = symbols.changed(agenda.alloc(), &renewal.old.grammar, &renewal.new.grammar)?;

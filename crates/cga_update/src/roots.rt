@@ -63,7 +63,7 @@ fn is_wanted(
     };
     let facts = symbols.of(&renewal.old.grammar, &renewal.new.grammar, lot.symbol)?;
     match forest.root_of(name) {
-        Some(root) => Ok(is_root_at(alloc, forest, root, lot, facts.priority)),
+        Some(root) => Ok(is_root_at(alloc, forest, root, lot, facts.said.priority)),
         None => Ok(true),
     }
 }

@@ -21,6 +21,7 @@ use crate::log::{note_came, note_went};
 use crate::work::Work;
 use crate::worked::Worked;
 use cga_agenda::Turned;
+use cga_check::Said;
 use cga_expand::{Expansions, expand};
 use cga_forest::{Forest, Node};
 use cga_fraction::{List, NoMemory, Tests};
@@ -114,12 +115,12 @@ fn child_count(outcome: &Result<List<Emitted>, ShapeFault>) -> u16
 }
 
 /// Whether a node asks what its symbol asks for today.
-fn asks_right(forest: &Forest, id: NodeId, facts: Facts) -> bool
+fn asks_right(forest: &Forest, id: NodeId, said: Said) -> bool
     requires here { IsSome (node_at forest.now id) }
-    ensures { (d : Seen) → node_at forest.now id ≡ Some d → result ≡ true → d.node.asks ≡ (facts.noparent || facts.active) }
+    ensures { (d : Seen) → node_at forest.now id ≡ Some d → result ≡ true → d.node.asks ≡ (said.noparent || said.active) }
 {
     match forest.node(id) {
-        Some(node) => node.asks == (facts.noparent || facts.active),
+        Some(node) => node.asks == (said.noparent || said.active),
         None => unreachable!(),
     }
 }
@@ -210,12 +211,12 @@ fn turn_of<E: Ledger, T: Ledger>(
     ensures once { expansions.new ≤ expansions.old + 1 }
 {
     let facts = facts_at(work, id)?;
-    let answers = asked(&work.forest, id, facts.noparent, facts.active, tests);
+    let answers = asked(&work.forest, id, facts.said, tests);
     if must_expand(&work.forest, id, facts.same_setting, &answers) {
         return expand_at(work, id, answers, expansions, tests);
     }
     // Its children would all stay.
-    if work.priced && asks_right(&work.forest, id, facts) {
+    if work.priced && asks_right(&work.forest, id, facts.said) {
         return Ok(NOT_EXPANDED);
     }
     place_again(work, id, answers, tests)

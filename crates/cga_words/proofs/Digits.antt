@@ -1,5 +1,5 @@
 -- The numbers of plain words, one by one.
-use Rattle.std.proofs.Common.{◌≡◌, ◌∙◌, ap, refl, ℕ, zero, suc, ◌<◌, ◌≤◌, ◌≢◌, ◌⊎◌, inl, inr, Bool, not, ◌&&◌, arith, true, false, [], ◌∷◌}
+use Rattle.std.proofs.Common.{◌≡◌, ◌∙◌, ap, refl, ℕ, zero, suc, ◌<◌, ◌≤◌, inl, inr, Bool, not, ◌&&◌, arith, true, false, [], ◌∷◌}
 use Rattle.std.specs.Prelude.{pos, nat_eq}
 use Rattle.std.proofs.lemmas.Bool.Decides.{nat_tests}
 use Rattle.std.specs.Fmt.{decimal, digits}

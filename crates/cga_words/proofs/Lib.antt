@@ -4,4 +4,5 @@ mod Digits
 mod Plain
 mod Says
 mod Within
+mod Endings
 pub mod Door

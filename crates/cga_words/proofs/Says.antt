@@ -1,9 +1,9 @@
 -- What plain words say.
 use Rattle.std.proofs.Common.{◌≡◌, ◌∙◌, ap, refl, ℕ, ◌≤◌, arith, codes, true, false, Bool, List, [], ◌∷◌, Option, Some, None, min, max}
-use Rattle.std.specs.Prelude.{option_and_then, option_map, unwrap_or, if◌then◌else◌}
+use Rattle.std.specs.Prelude.{IfSome, option_and_then, option_map, unwrap_or, if◌then◌else◌}
 use Rattle.std.specs.Fmt.{decimal}
 use Rattle.clap.specs.Words.{Text, fault_of}
-use Rattle.cga_words.specs.Words.{command_app, decimals_of, town_of, number_in}
+use Rattle.cga_words.specs.Words.{IsTownless, command_app, decimals_of, town_of, number_in}
 use Rattle.cga_words.specs.Plain.{IsPlain, plain_words}
 use Rattle.cga_words.proofs.Digits.{Writes, writes, written, decimals_written, town_written}
 use Rattle.cga_words.proofs.Plain.{Give, name_alone, decimals_alone, town_alone, decimals_first, town_first}
@@ -71,6 +71,7 @@ both_says false name (b ∷ rest) (c ∷ more) n k low some high e f =
     let v = written 1 200 4294967295 k c more f in
     says _ (Some (b ∷ rest)) (Some (c ∷ more)) n (Some k) (town_first name rest more b c w.no_minus v.no_minus w.in_range v.in_range) (read_decimals n b rest w) low (read_town k c more some high v)
 
+-- where each number is in its range, plain words pass and say them, with 6 decimals where none are given
 pub plain_says : (name : Text) (first : Bool) (decimals town : Option ℕ) → IsPlain decimals town
     → Says (plain_words name first decimals town) (unwrap_or decimals 6) town
 plain_says name true None None p = alone_says name
@@ -83,3 +84,16 @@ plain_says name true (Some n) (Some k) p =
     both_says true name (decimal n) (decimal k) n k p.decimals_fit p.town_some p.town_fits (decimals_written n p.decimals_fit) (town_written k p.town_some p.town_fits)
 plain_says name false (Some n) (Some k) p =
     both_says false name (decimal n) (decimal k) n k p.decimals_fit p.town_some p.town_fits (decimals_written n p.decimals_fit) (town_written k p.town_some p.town_fits)
+
+-- where there is no town
+module _ (words : List Text) (name : Text) (decimals : Option ℕ) (few : IfSome decimals (λ n. n ≤ 9)) (plain : words ≡ plain_words name true decimals None) where
+  fits : IsPlain decimals None
+  fits = record { decimals_fit = few; town_some = tt; town_fits = tt }
+
+  pub plain_townless : IsTownless words
+  plain_townless =
+      let says = plain_says name true decimals None fits in
+      record { taken = ap (fault_of command_app) plain ∙ says.pass; town = ap town_of plain ∙ says.town_is }
+
+  pub townless_says : decimals_of words ≡ unwrap_or decimals 6
+  townless_says = ap decimals_of plain ∙ (plain_says name true decimals None fits).decimals_are

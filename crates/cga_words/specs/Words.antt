@@ -1,7 +1,7 @@
 -- The command, and what its words ask for.
-use Rattle.std.specs.Prelude.{ℕ, ◌≤◌, List, [], ◌∷◌, codes, pos, Option, Some, None, true, false, min, max, unwrap_or, option_and_then, option_map, if◌then◌else◌}
+use Rattle.std.specs.Prelude.{◌≡◌, ℕ, ◌≤◌, List, [], ◌∷◌, codes, pos, Option, Some, None, true, false, min, max, unwrap_or, option_and_then, option_map, if◌then◌else◌}
 use Rattle.std.specs.Str.Parse.{digits_value, without_leading_plus}
-use Rattle.clap.specs.Words.{App, Rule, Text, new_app, new_rule, with_rule, matches_of}
+use Rattle.clap.specs.Words.{App, Rule, Text, new_app, new_rule, with_rule, fault_of, matches_of}
 use Rattle.clap.specs.Simple.{on_top}
 use Rattle.clap.specs.Walk.{one_of}
 use Rattle.clap.specs.ValueTests.{accepts}
@@ -55,3 +55,8 @@ town_of words = option_map (λ n. min (max n 1) 200) (option_and_then (number_in
 pub record IsTown (n : ℕ) : Type 0 where
   pub some : 1 ≤ n
   pub few : n ≤ 200
+
+-- they are taken, and ask for no town
+pub record IsTownless (words : List Text) : Type 0 where
+  pub taken : fault_of command_app words ≡ []
+  pub town : town_of words ≡ None

@@ -1,4 +1,4 @@
-//! What the program shares with the shell: the words of the command line, the script of the town, which the words may
+//! What the programs share with the shell: the words of the command line, the script of the town, which the words may
 //! ask for, and how a run ends, with its exit status and its line on standard error.
 //!
 //! It must not know what a script says.
@@ -7,18 +7,26 @@
 //! and only an absent town is None.
 #![tactic(auto)]
 
+mod ending;
 mod exit;
+mod given;
+mod program_name;
 mod read;
 mod status;
 mod town;
+mod townless;
 mod wanted;
 mod wordless;
 mod words_fault;
 
-pub use exit::{Exit, OUT_OF_MEMORY, UNREADABLE, exit_of};
+pub use ending::end;
+pub use exit::{Exit, exit_of};
+pub use given::given_words;
+pub use program_name::ProgramName;
 pub use read::read_words;
 pub use status::Status;
 pub use town::town_script;
+pub use townless::read_decimals;
 pub use wanted::Wanted;
 pub use wordless::read_none;
 pub use words_fault::WordsFault;

@@ -1,8 +1,10 @@
 use Rattle.std.proofs.Common.{◌≡◌, ◌∙◌, map, string_bytes}
 use Rattle.std.specs.Vec.Iter.{into_iter_items}
-use Rattle.cga_main.proofs.Ends.{if_ok, of_words, wanting, zero_is_done}
+use Rattle.cga_main.proofs.Wanting.{wanting}
 use Rattle.cga_main.specs.Program.{Ends}
 use Rattle.cga_top.specs.Outside.{outside_of}
+use Rattle.cga_words.proofs.Door.{if_ok, of_words, zero_is_done}
+use Rattle.cga_words.specs.Exits.{line_in}
 use Rattle.cga_main.proofs.program.Goals as goal
 
 pub returns-in-Ok-clause-given : goal.returns-in-Ok-clause-given
@@ -11,9 +13,9 @@ returns-in-Ok-clause-given g c =
     let e = c.exit_of.ensures in
     let same : c.as_slice-texts.result.now ≡ c.in-Ok.words.items = c.as_slice-texts.ensures.value in
     let old = outside_of g.S.Source g.K.Sink c.args.script.now c.args.out.now 0 in
-    of_words (λ words. Ends (map string_bytes words) old (λ expanded. outside_of g.S.Source g.K.Sink c.run-status.new.script c.run-status.new.out expanded) c.exit_of.result.status c.exit_of.result.line.now)
+    of_words (λ words. Ends (map string_bytes words) old (λ expanded. outside_of g.S.Source g.K.Sink c.run-status.new.script c.run-status.new.out expanded) c.exit_of.result.status (line_in c.exit_of.result))
     (λ given. into_iter_items given) c.args.found c.as_slice-texts.result.now
-    (if_ok _ (λ given. c.as_slice-texts.result.now ≡ into_iter_items given) c.args.found c.in-Ok.ensures.given (λ given is. same ∙ is)) (
+    (if_ok c.args.found c.in-Ok.ensures.given (λ given is. same ∙ is)) (
       r.means.0,
       record {
         status = c.run-status.result;
@@ -30,4 +32,4 @@ returns-in-Ok-clause-given g c =
 
 pub returns-in-Err-clause-given : goal.returns-in-Err-clause-given
 returns-in-Err-clause-given g c =
-    if_ok _ _ c.args.found c.in-Err.ensures.given (λ given exit. (0, wanting (map string_bytes (into_iter_items given)) _ _ _ exit.0 exit.1))
+    if_ok c.args.found c.in-Err.ensures.given (λ given exit. (0, wanting (map string_bytes (into_iter_items given)) _ _ _ exit.0 exit.1))

@@ -19,7 +19,7 @@ returns-then-is_full c =
     let inv = c.loop-left.invariant in
     let joined = compared_joined t s list left c.index-list-left.result c.one_compared.result c.loop-left.found c.joined-found.result
     c.loop-left-test.true inv.within c.index-list-left.is c.one_compared.ensures inv.found c.joined-found.ensures in
-    compared_full t s list (left - 1) (sym joined ∙ c.is_full.ensures.0 c.if-is_full.true)
+    compared_full t s list (left - 1) (sym joined ∙ c.is_full.ensures.full c.if-is_full.true)
 
 pub loop-left-smaller : goal.loop-left-smaller
 loop-left-smaller c =

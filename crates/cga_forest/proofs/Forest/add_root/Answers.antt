@@ -3,15 +3,14 @@ use Rattle.std.specs.Prelude.{Option, if◌then◌else◌}
 use Rattle.cga_forest.specs.declared.entry.Entry.{Entry}
 use Rattle.std.proofs.lemmas.List.{length_push}
 use Rattle.std.proofs.lemmas.List.Sorted.{IsPermutation-swap}
-use Rattle.cga_forest.specs.Roots.{AreApart, Named}
-use Rattle.cga_forest.specs.Tree.{IsForest}
+use Rattle.cga_marked.specs.Map.{AreApart, Named}
+use Rattle.cga_forest.specs.Tree.{IsForest, node_at, hulls_at}
 use Rattle.cga_forest.proofs.ByName.{no_root}
 use Rattle.cga_forest.proofs.Marks.{IsForest-added, new_root}
 use Rattle.cga_forest.proofs.Forest.add_root.Goals as goal
 use Rattle.cga_forest.specs.View.{hulls_of, present_of, slot}
 use Rattle.cga_forest.proofs.Covered.{covered_added, covered_made}
 use Rattle.cga_forest.specs.Numbers.{StaysTaken}
-use Rattle.cga_forest.specs.Tree.{node_at, hulls_at}
 use Rattle.cga_forest.proofs.Numbers.{taken_added}
 
 pub push-place-requires-clause-absent : goal.push-place-requires-clause-absent

@@ -7,12 +7,12 @@ use Rattle.cga_forest.proofs.Right.{is_there, slot_there}
 use Rattle.cga_forest.proofs.Least.{least_all}
 use Rattle.cga_forest.proofs.Forest.hull.Goals as goal
 
-pub entry-requires : goal.entry-requires
-entry-requires c = record { here = rw c.slot_of.ensures (slot_there (slot c.self.inside.store.slots c.args.id) (ap (λ (v : ForestView). is_some (node_at v c.args.id)) c.self.view_is ∙ c.requires.here)) }
+pub entry-entry-requires : goal.entry-entry-requires
+entry-entry-requires c = record { here = rw c.slot_of.ensures (slot_there (slot c.self.inside.store.slots c.args.id) (ap (λ (v : ForestView). is_some (node_at v c.args.id)) c.self.view_is ∙ c.requires.here)) }
 
 pub returns : goal.returns
 returns c = rw (← c.self.view_is, c.hull.ensures) (record {
   least =
       let e = is_there (node_at (record { slots = c.self.inside.store.slots; marking = c.self.inside.marking; roots = c.self.inside.roots.list; marked_roots = c.self.inside.roots.former; mode = c.self.inside.mode }) c.args.id) (ap (λ (v : ForestView). is_some (node_at v c.args.id)) c.self.view_is ∙ c.requires.here) in
-      least_all (record { slots = c.self.inside.store.slots; marking = c.self.inside.marking; roots = c.self.inside.roots.list; marked_roots = c.self.inside.roots.former; mode = c.self.inside.mode }) c.args.id e.0 (hulls_known c.entry.result.now.node c.entry.result.now.hulls) c.self.invariant.forest.present e.1 (rw (← c.slot_of.ensures) (ap hulls_of c.entry.ensures));
+      least_all (record { slots = c.self.inside.store.slots; marking = c.self.inside.marking; roots = c.self.inside.roots.list; marked_roots = c.self.inside.roots.former; mode = c.self.inside.mode }) c.args.id e.0 (hulls_known c.entry-entry.result.now.node c.entry-entry.result.now.hulls) c.self.invariant.forest.present e.1 (rw (← c.slot_of.ensures) (ap hulls_of c.entry-entry.ensures));
 })

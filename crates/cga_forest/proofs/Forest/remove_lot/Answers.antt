@@ -2,7 +2,7 @@ use Rattle.std.proofs.Common.{◌≡◌, ◌∙◌, true, refl, sym, ap, subst}
 use Rattle.std.specs.Prelude.{Option, if◌then◌else◌}
 use Rattle.cga_forest.specs.declared.entry.Entry.{Entry}
 use Rattle.cga_forest.specs.Numbers.{StaysTaken}
-use Rattle.cga_forest.specs.Roots.{KeepsPlaces}
+use Rattle.cga_marked.specs.Map.{KeepsPlaces}
 use Rattle.cga_forest.specs.View.{hulls_of, present_of, slot}
 use Rattle.cga_forest.specs.Tree.{ForestView, IsRootOf, hulls_at, node_at}
 use Rattle.cga_forest.proofs.Covered.{covered_out, covered_part}
@@ -15,7 +15,7 @@ use Rattle.cga_forest.proofs.Numbers.{taken_cut}
 pub invariant_of-self : goal.invariant_of-self
 invariant_of-self c = record {
   forest =
-      let r = root_from (record { slots = c.self.inside.store.slots; marking = c.self.inside.marking; roots = c.self.inside.roots.list; marked_roots = c.self.inside.roots.former; mode = c.self.inside.mode }) c.self.invariant.forest c.args.name c.in-Some.root (sym c.in-Some.ensures.root) in
+      let r = root_from (record { slots = c.self.inside.store.slots; marking = c.self.inside.marking; roots = c.self.inside.roots.list; marked_roots = c.self.inside.roots.former; mode = c.self.inside.mode }) c.self.invariant.forest c.args.name c.in-Some.root (sym c.in-Some.ensures.id) in
       IsForest-settled (record { slots = c.set_aside.new.store.slots; marking = c.self.inside.marking; roots = c.self.inside.roots.list; marked_roots = c.self.inside.roots.former; mode = c.self.inside.mode }) _ (λ k. c.settle.ensures k) c.if-not-self.true
       (without_root (record { slots = c.self.inside.store.slots; marking = c.self.inside.marking; roots = c.self.inside.roots.list; marked_roots = c.self.inside.roots.former; mode = c.self.inside.mode }) (record { slots = c.set_aside.new.store.slots; marking = c.self.inside.marking; roots = c.self.inside.roots.list; marked_roots = c.self.inside.roots.former; mode = c.self.inside.mode }) c.in-Some.root r.0 r.1 r.2 c.set_aside.ensures.pointwise c.self.invariant.forest)
       (rw c.settle_unless.ensures.list (tops_left (record { slots = c.self.inside.store.slots; marking = c.self.inside.marking; roots = c.self.inside.roots.list; marked_roots = c.self.inside.roots.former; mode = c.self.inside.mode }) (record { slots = c.set_aside.new.store.slots; marking = c.self.inside.marking; roots = c.self.inside.roots.list; marked_roots = c.self.inside.roots.former; mode = c.self.inside.mode }) c.in-Some.root r.0 r.1 r.2 c.set_aside.ensures.pointwise c.self.invariant.forest c.args.name c.take_out.new.self.list c.in-Some.ensures.gone c.take_out.ensures.apart))
@@ -28,7 +28,7 @@ invariant_of-self c = record {
 pub invariant_of-self-else-not-self : goal.invariant_of-self-else-not-self
 invariant_of-self-else-not-self c = record {
   forest =
-      let r = root_from (record { slots = c.self.inside.store.slots; marking = c.self.inside.marking; roots = c.self.inside.roots.list; marked_roots = c.self.inside.roots.former; mode = c.self.inside.mode }) c.self.invariant.forest c.args.name c.in-Some.root (sym c.in-Some.ensures.root) in
+      let r = root_from (record { slots = c.self.inside.store.slots; marking = c.self.inside.marking; roots = c.self.inside.roots.list; marked_roots = c.self.inside.roots.former; mode = c.self.inside.mode }) c.self.invariant.forest c.args.name c.in-Some.root (sym c.in-Some.ensures.id) in
       IsForest-without_root (record { slots = c.self.inside.store.slots; marking = c.self.inside.marking; roots = c.self.inside.roots.list; marked_roots = c.self.inside.roots.former; mode = c.self.inside.mode }) _ c.in-Some.root r.0 r.1 r.2 c.set_aside.ensures.pointwise c.self.invariant.forest c.if-not-self.false c.if-not-self.false
       (rw c.settle_unless.ensures.list (tops_left (record { slots = c.self.inside.store.slots; marking = c.self.inside.marking; roots = c.self.inside.roots.list; marked_roots = c.self.inside.roots.former; mode = c.self.inside.mode }) (record { slots = c.set_aside.new.store.slots; marking = c.self.inside.marking; roots = c.self.inside.roots.list; marked_roots = c.self.inside.roots.former; mode = c.self.inside.mode }) c.in-Some.root r.0 r.1 r.2 c.set_aside.ensures.pointwise c.self.invariant.forest c.args.name c.take_out.new.self.list c.in-Some.ensures.gone c.take_out.ensures.apart))
       (c.settle_unless.ensures.former ∙ ap (λ b. if b then c.take_out.new.self.former else c.take_out.new.self.list) c.if-not-self.false ∙ c.take_out.ensures.former);
@@ -39,7 +39,7 @@ invariant_of-self-else-not-self c = record {
 
 pub returns-then-not-self-clause-there : goal.returns-then-not-self-clause-there
 returns-then-not-self-clause-there c = λ _.
-    let r = root_from (record { slots = c.self.inside.store.slots; marking = c.self.inside.marking; roots = c.self.inside.roots.list; marked_roots = c.self.inside.roots.former; mode = c.self.inside.mode }) c.self.invariant.forest c.args.name c.in-Some.root (sym c.in-Some.ensures.root) in (
+    let r = root_from (record { slots = c.self.inside.store.slots; marking = c.self.inside.marking; roots = c.self.inside.roots.list; marked_roots = c.self.inside.roots.former; mode = c.self.inside.mode }) c.self.invariant.forest c.args.name c.in-Some.root (sym c.in-Some.ensures.id) in (
       c.in-Some.root,
       subst (λ (v : ForestView). IsRootOf (node_at v) c.args.name c.in-Some.root) c.self.view_is r,
       λ k.
@@ -48,7 +48,7 @@ returns-then-not-self-clause-there c = λ _.
 
 pub returns-else-not-self-clause-there : goal.returns-else-not-self-clause-there
 returns-else-not-self-clause-there c = λ _.
-    let r = root_from (record { slots = c.self.inside.store.slots; marking = c.self.inside.marking; roots = c.self.inside.roots.list; marked_roots = c.self.inside.roots.former; mode = c.self.inside.mode }) c.self.invariant.forest c.args.name c.in-Some.root (sym c.in-Some.ensures.root) in (
+    let r = root_from (record { slots = c.self.inside.store.slots; marking = c.self.inside.marking; roots = c.self.inside.roots.list; marked_roots = c.self.inside.roots.former; mode = c.self.inside.mode }) c.self.invariant.forest c.args.name c.in-Some.root (sym c.in-Some.ensures.id) in (
       c.in-Some.root,
       subst (λ (v : ForestView). IsRootOf (node_at v) c.args.name c.in-Some.root) c.self.view_is r,
       λ k.
@@ -56,7 +56,7 @@ returns-else-not-self-clause-there c = λ _.
     )
 
 pub returns-in-None-clause-absent : goal.returns-in-None-clause-absent
-returns-in-None-clause-absent c = λ _. no_lot (record { slots = c.self.inside.store.slots; marking = c.self.inside.marking; roots = c.self.inside.roots.list; marked_roots = c.self.inside.roots.former; mode = c.self.inside.mode }) c.args.self.now c.self.view_is c.self.invariant.forest c.args.name c.in-None.ensures.root
+returns-in-None-clause-absent c = λ _. no_lot (record { slots = c.self.inside.store.slots; marking = c.self.inside.marking; roots = c.self.inside.roots.list; marked_roots = c.self.inside.roots.former; mode = c.self.inside.mode }) c.args.self.now c.self.view_is c.self.invariant.forest c.args.name c.in-None.ensures.id
 
 pub returns-else-not-self-clause-numbers : goal.returns-else-not-self-clause-numbers
 returns-else-not-self-clause-numbers c on k =

@@ -1,12 +1,11 @@
 use Rattle.std.proofs.Common.{◌≡◌, ◌∙◌, ℕ, List, Some, sym, ap, subst}
-use Rattle.indexmap.proofs.MapLemmas.{OnOk-map}
 use Rattle.cga_forest.specs.declared.node.Node.{Node}
 use Rattle.cga_forest.specs.declared.node.State.{State}
 use Rattle.cga_forest.specs.declared.setting.Setting.{Setting}
 use Rattle.cga_forest.specs.View.{Seen, at, present_of}
 use Rattle.cga_forest.specs.Tree.{ForestView, IsInner, Replaces, node_at}
 use Rattle.cga_forest.specs.Placing.{children_after, setting, state_after}
-use Rattle.cga_forest.proofs.Grown.{entry_node, may_grow, path_deep}
+use Rattle.cga_forest.proofs.Grown.{OnOk-map, entry_node, may_grow, path_deep}
 use Rattle.cga_forest.proofs.Forest.replace_children.Goals as goal
 
 pub replace_with-requires : goal.replace_with-requires

@@ -1,5 +1,6 @@
 use Rattle.std.proofs.Common.{ℕ, ◌≤◌, ◌<◌}
-use Rattle.cga_forest.specs.Blocks.{IsCovered, StaysHeld}
+use Rattle.cga_forest.specs.Blocks.{IsCovered}
+use Rattle.cga_kept_hulls.specs.Blocks.{StaysHeld}
 use Rattle.cga_forest.specs.View.{at, hulls_of}
 use Rattle.cga_forest.proofs.covering.cover_places.Given as goal
 

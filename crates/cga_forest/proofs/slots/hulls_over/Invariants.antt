@@ -1,5 +1,5 @@
 use Rattle.std.proofs.Common.{◌≡◌}
-use Rattle.cga_forest.specs.Hull.{over}
+use Rattle.cga_kept_hulls.specs.Hull.{over}
 use Rattle.cga_forest.specs.View.{at, kids, hulls_of}
 use Rattle.cga_forest.proofs.slots.hulls_over.Given as goal
 

@@ -3,7 +3,7 @@ use Rattle.cga_forest.specs.View.{at, last_from, present_of}
 use Rattle.std.proofs.lemmas.List.{length_push}
 use Rattle.cga_forest.proofs.Right.{depth_present, path_present, depth_flag, last_push}
 use Rattle.cga_forest.specs.Tree.{depth_at}
-use Rattle.cga_forest.proofs.Assemble.{kids_there, assembled_slots, vacant_after, tree_after, places_after, here_after, depth_after, right_after, mark_after, mark_hulls_after}
+use Rattle.cga_forest.proofs.Assemble.{kids_there, assembled_slots, vacant_after, tree_after, places_after, few_after, here_after, depth_after, right_after, mark_after, mark_hulls_after}
 use Rattle.cga_forest.proofs.Marks.{IsWhole-from}
 use Rattle.cga_forest.proofs.Through.{ReplacedBy-same}
 use Rattle.cga_forest.proofs.slots.replace.Goals as goal
@@ -65,10 +65,16 @@ returns-clause-whole c =
     IsWhole-from (λ k. present_of (at c.rewrite.new.store k)) _ _ c.refresh.ensures.present c.refresh.ensures.right (places_after (λ k. at c.args.store.now k) (λ k. at c.drop_children.new.store k) (λ k. at c.place_children.new.store k) (λ k. at c.rewrite.new.store k)
     c.args.id (depth_at (at c.drop_children.new.store c.args.id) + 1) (256 - c.depth_of-depth.result) c.args.marking c.place_children.new.made.items c.args.news.items c.args.state c.requires.here.0
     c.requires.here.1 c.requires.here.2.low (ap (λ x. x + 1) (f ∙ d)) (ap (λ x. 256 - x) d) c.requires.whole
-    (λ k. rw (← c.as_slice.ensures.value) (c.drop_children.ensures.pointwise k)) c.place_children.ensures.placed c.place_children.ensures.length c.rewrite.ensures.others c.rewrite.ensures.present c.requires.here.2) (tree_after (λ k. at c.args.store.now k) (λ k. at c.drop_children.new.store k) (λ k. at c.place_children.new.store k) (λ k. at c.rewrite.new.store k)
+    (λ k. rw (← c.as_slice.ensures.value) (c.drop_children.ensures.pointwise k)) c.place_children.ensures.placed c.place_children.ensures.length c.rewrite.ensures.others
+    c.rewrite.ensures.present c.requires.here.2) (tree_after (λ k. at c.args.store.now k) (λ k. at c.drop_children.new.store k) (λ k. at c.place_children.new.store k) (λ k. at c.rewrite.new.store k)
     c.args.id (depth_at (at c.drop_children.new.store c.args.id) + 1) (256 - c.depth_of-depth.result) c.args.marking c.place_children.new.made.items c.args.news.items c.args.state c.requires.here.0
     c.requires.here.1 c.requires.here.2.low (ap (λ x. x + 1) (f ∙ d)) (ap (λ x. 256 - x) d) c.requires.whole
-    (λ k. rw (← c.as_slice.ensures.value) (c.drop_children.ensures.pointwise k)) c.place_children.ensures.placed c.place_children.ensures.length c.rewrite.ensures.others c.rewrite.ensures.present)
+    (λ k. rw (← c.as_slice.ensures.value) (c.drop_children.ensures.pointwise k)) c.place_children.ensures.placed c.place_children.ensures.length c.rewrite.ensures.others
+    c.rewrite.ensures.present) (few_after (λ k. at c.args.store.now k) (λ k. at c.drop_children.new.store k) (λ k. at c.place_children.new.store k) (λ k. at c.rewrite.new.store k)
+    c.args.id (depth_at (at c.drop_children.new.store c.args.id) + 1) (256 - c.depth_of-depth.result) c.args.marking c.place_children.new.made.items c.args.news.items c.args.state c.requires.here.0
+    c.requires.here.1 c.requires.here.2.low (ap (λ x. x + 1) (f ∙ d)) (ap (λ x. 256 - x) d) c.requires.whole
+    (λ k. rw (← c.as_slice.ensures.value) (c.drop_children.ensures.pointwise k)) c.place_children.ensures.placed c.place_children.ensures.length c.rewrite.ensures.others
+    c.rewrite.ensures.present c.requires.here.2.few)
 
 pub returns-clause-replaced : goal.returns-clause-replaced
 returns-clause-replaced c =

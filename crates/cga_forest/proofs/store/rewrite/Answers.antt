@@ -1,6 +1,6 @@
 use Rattle.std.proofs.Common.{refl}
 use Rattle.std.specs.Prelude.{Option}
-use Rattle.cga_forest.specs.declared.hulls.Hulls.{Hulls}
+use Rattle.cga_kept_hulls.specs.declared.hulls.Hulls.{Hulls}
 use Rattle.cga_forest.specs.View.{Seen, at, IsRewritten, rewritten, present_of, marked_of, hulls_of, marked_hulls_of}
 use Rattle.cga_forest.proofs.Books.{when_present, when_marked, when_hulls, when_marked_hulls}
 use Rattle.cga_forest.proofs.Changed.{changed}

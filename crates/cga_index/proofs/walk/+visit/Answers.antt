@@ -35,7 +35,7 @@ pub visit-returns-then-is_full-clause-found : goal.visit-returns-then-is_full-cl
 visit-returns-then-is_full-clause-found g t c =
     let low = c.requires.laws.shallow c.args.node c.requires.node in
     visit_full (g.H.HullTree.view c.args.tree.now) c.args.by c.args.target c.args.left c.args.node c.look-first.result
-    (omega (arith, low, c.requires.left)) c.look-first.ensures.found (c.is_full.ensures c.if-is_full.true)
+    (omega (arith, low, c.requires.left)) c.look-first.ensures.found (c.is_full.ensures.full c.if-is_full.true)
 
 pub visit-returns-then-is_full-clause-counted : goal.visit-returns-then-is_full-clause-counted
 visit-returns-then-is_full-clause-counted g t c =
@@ -49,7 +49,7 @@ visit_children-returns-then-is_full-clause-found g t c =
     let inv = c.loop-place.invariant in
     let cs = v.children c.args.node in
     full_stays c.joined-found.result (answer_over v c.args.by c.args.target (flat_map (below v c.args.left) (drop (c.loop-place.place + 1) cs)))
-    (answer_over v c.args.by c.args.target (flat_map (below v c.args.left) cs)) (c.is_full.ensures c.if-is_full.true)
+    (answer_over v c.args.by c.args.target (flat_map (below v c.args.left) cs)) (c.is_full.ensures.full c.if-is_full.true)
     (rw c.joined-found.ensures (step_found v c.args.by c.args.target c.args.left cs c.loop-place.place c.child_of-child.result
     c.loop-place.found c.visit-inner.result _ c.child_of-child.ensures.at c.visit-inner.ensures.found inv.0))
 

@@ -56,7 +56,7 @@ returns-then-is_full-2-clause-found g c =
     rw c.joined-found.ensures (step_found v c.args.by c.args.target 257 v.roots c.loop-place.place c.root_of-root.result
     c.loop-place.found c.visit-inner.result _ c.root_of-root.ensures.at c.visit-inner.ensures.found inv.0)
     ∙ full_joined c.joined-found.result (answer_over v c.args.by c.args.target (flat_map (below v 257) (drop (c.loop-place.place + 1) v.roots)))
-    (answer_over v c.args.by c.args.target (flat_map (below v 257) (drop (16 * (c.args.block + 1)) v.roots))) (c.is_full-in-loop-place.ensures c.if-is_full-2.true)
+    (answer_over v c.args.by c.args.target (flat_map (below v 257) (drop (16 * (c.args.block + 1)) v.roots))) (c.is_full-in-loop-place.ensures.full c.if-is_full-2.true)
 
 pub returns-then-is_full-2-clause-counted : goal.returns-then-is_full-2-clause-counted
 returns-then-is_full-2-clause-counted g c =

@@ -5,4 +5,4 @@ use Rattle.cga_top.proofs.traces.trace.Goals as goal
 
 pub returns : goal.returns
 returns c = λ s at.
-    IfOk-weaker c.trace_text.result _ _ (λ text is. is ∙ ap trace_text_of (c.as_slice.ensures ∙ c.in_ok-run.ensures s at)) c.trace_text.ensures
+    IfOk-weaker c.trace_text.result _ _ (λ text is. is ∙ ap trace_text_of (c.as_slice.ensures ∙ c.in_ok-run.ensures.value s at)) c.trace_text.ensures

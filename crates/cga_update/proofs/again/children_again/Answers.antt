@@ -4,7 +4,7 @@ use Rattle.cga_forest.specs.View.{Seen}
 use Rattle.cga_forest.specs.Tree.{node_at}
 use Rattle.std.proofs.Common.{Some}
 use Rattle.cga_update.specs.Turned.{AreEmitted}
-use Rattle.cga_update.proofs.Emitted.{all_emitted, child_there, emitted_next, in_tree}
+use Rattle.cga_update.proofs.Emitted.{all_emitted, child_there, emitted_next, few_emitted, in_tree}
 use Rattle.cga_update.proofs.again.children_again.Goals as goal
 
 pub children-count-requires : goal.children-count-requires
@@ -28,3 +28,9 @@ pub returns-clause-emitted : goal.returns-clause-emitted
 returns-clause-emitted c =
     let end : c.loop-place.place ≡ c.children-count.result = omega (arith, c.loop-place-test.false, c.loop-place.auto.place-end) in
     all_emitted c.args.forest.now c.args.id c.loop-place.place c.children-count.result c.loop-place.made.items c.from_vec.result c.loop-place.invariant.emitted c.from_vec.ensures c.children-count.ensures end
+
+pub returns-clause-few : goal.returns-clause-few
+returns-clause-few c =
+    let end : c.loop-place.place ≡ c.children-count.result = omega (arith, c.loop-place-test.false, c.loop-place.auto.place-end) in
+    few_emitted c.args.forest.now c.laws.ensures c.args.id c.loop-place.place c.children-count.result c.loop-place.made.items c.from_vec.result
+    c.requires.here c.loop-place.invariant.sized c.from_vec.ensures c.children-count.ensures end

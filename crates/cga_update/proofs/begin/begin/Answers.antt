@@ -4,8 +4,10 @@ use Rattle.cga_forest.specs.Tree.{marked_at, node_at}
 use Rattle.cga_update.specs.declared.log.Pairing.{Pairing}
 use Rattle.cga_update.specs.Begun.{HasMoved, IsFirst}
 use Rattle.cga_update.specs.Log.{IsLogged}
+use Rattle.cga_update.specs.Near.{IsAny}
 use Rattle.cga_update.specs.Roots.{HasLost}
 use Rattle.cga_update.proofs.Beginning as proof
+use Rattle.cga_update.proofs.DueNodes.{one_each}
 use Rattle.cga_update.proofs.Logged.{drawn_from, log_from}
 use Rattle.cga_update.proofs.Nearby.{moved_kept}
 use Rattle.cga_update.proofs.Rooting.{IsRooted, still, wanted_after}
@@ -19,6 +21,12 @@ remove_roots-requires g c = record {
   scopes = c.requires.stands.scopes;
   lots = proof.has_old_lots c.args.work.now.renewal.old.now c.args.work.now.renewal.new.now c.args.work.now.forest c.args.dependents.now c.requires.stands;
 }
+
+pub queue_rooted-requires : goal.queue_rooted-requires
+queue_rooted-requires g c = record { one = one_each c.add_roots.new.forest c.laws-2.ensures }
+
+pub queue_changed-requires-clause-one : goal.queue_changed-requires-clause-one
+queue_changed-requires-clause-one g c = one_each c.add_roots.new.forest c.laws-2.ensures
 
 pub returns-clause-begun : goal.returns-clause-begun
 returns-clause-begun g c =
@@ -43,7 +51,7 @@ returns-clause-begun g c =
     let wanted = wanted_after new before v c.in_ok-remove_roots.ensures.wanted gains in
     let there = c.in_ok-came.ensures.there in
     let moved : HasMoved v went came a =
-    moved_kept v c.queue_rooted.new.agenda a c.in_ok-priced.ensures.kept went came
+    moved_kept v IsAny c.queue_rooted.new.agenda a c.in_ok-priced.ensures.grows went came
     (subst (λ (list : List Moved). HasMoved v list came c.queue_rooted.new.agenda) c.as_slice-went_nodes.ensures.value
     (subst (λ (list : List Moved). HasMoved v c.as_slice-went_nodes.result.now list c.queue_rooted.new.agenda) c.as_slice-came_nodes.ensures.value c.in_ok-queue_rooted.ensures.moved)) in
     let agenda : IsFirst old new v d went came a = record { moved = moved; changed = c.in_ok-priced.ensures.there; priced = c.in_ok-priced.ensures.parents } in
@@ -65,7 +73,7 @@ returns-clause-begun g c =
         old_names = stands.old_names;
         names = stands.names;
         mode = c.in_ok-came.ensures.mode ∙ (c.in_ok-remove_roots.ensures.mode ∙ stands.mode);
-        agenda_mode = c.in_ok-priced.ensures.kept.mode ∙ c.in_ok-queue_rooted.ensures.mode ∙ c.requires.fresh.mode;
+        agenda_mode = c.in_ok-priced.ensures.grows.mode ∙ c.in_ok-queue_rooted.ensures.mode ∙ c.requires.fresh.mode;
         nodes = refl;
         underway = begins.0;
         queued = begins.1.1;

@@ -10,4 +10,4 @@ returns g c =
     c.add_met-2.ensures.grows c.add_met-2.ensures.there
 
 pub returns-then-all_came : goal.returns-then-all_came
-returns-then-all_came g c = followed_due c.args.forest.now c.args.of c.args.change.now c.as_slice.result.now c.args.all_came c.args.agenda.now c.add_moved.new.agenda c.as_slice.ensures c.if-all_came.true c.in_ok-add_moved.ensures.grows c.in_ok-add_moved.ensures.there
+returns-then-all_came g c = followed_due c.args.forest.now c.args.of c.args.change.now c.args.all_came c.as_slice.result.now c.args.agenda.now c.add_moved.new.agenda c.as_slice.ensures c.if-all_came.true c.in_ok-add_moved.ensures.grows c.in_ok-add_moved.ensures.there

@@ -1,20 +1,31 @@
-use Rattle.std.proofs.Common.{◌≡◌, true}
-use Rattle.std.specs.Prelude.{IsSome}
-use Rattle.cga_forest.specs.declared.moved.Moved.{Moved}
-use Rattle.cga_update.specs.Queue.{chains_of, on_of}
+use Rattle.std.proofs.Common.{◌≡◌, arith}
 use Rattle.cga_fraction.proofs.Door.{slice_get_from_get_or}
-use Rattle.cga_update.proofs.Following.{at_more, came_more, each_among}
+use Rattle.cga_forest.specs.declared.moved.Moved.{Moved}
+use Rattle.cga_queue.proofs.Door.{first_all, first_more, grows_not, one_grows}
+use Rattle.cga_update.specs.Askers.{IsOneOf}
+use Rattle.cga_update.specs.Queue.{chains_of}
 use Rattle.cga_update.proofs.queue.add_moved.Goals as goal
+
+pub loop-node-init : goal.loop-node-init
+loop-node-init c = record {
+  grows = grows_not (chains_of c.args.forest.now) (IsOneOf c.args.moved.now) c.args.agenda.now;
+  there = λ j m lt. absurd (omega (arith, lt));
+}
 
 pub loop-node-preserved : goal.loop-node-preserved
 loop-node-preserved c =
-    let v = c.args.forest.now in
-    let at = slice_get_from_get_or c.args.moved.now c.loop-node.node-index c.node-item.result c.loop-node-test.true c.node-item.is in
-    let more = c.in_ok-add.ensures in
-    record {
-      grows = came_more v c.args.agenda.now c.loop-node.agenda c.add.new.agenda c.args.moved.now c.loop-node.node-index c.node-item.result at c.loop-node.invariant.grows more.grows;
-      there = at_more (λ (m : Moved). IsSome (chains_of v m.id) → on_of v c.loop-node.agenda m.id ≡ true) (λ (m : Moved). IsSome (chains_of v m.id) → on_of v c.add.new.agenda m.id ≡ true) c.args.moved.now c.loop-node.node-index c.node-item.result at (λ m h s. more.grows.kept m.id (h s)) more.there c.loop-node.invariant.there;
+    let D = chains_of c.args.forest.now in
+    let moved = c.args.moved.now in
+    let n = c.loop-node.node-index in
+    let node = c.node-item.result in
+    let a = c.loop-node.agenda in
+    let b = c.add.new.agenda in
+    let at = slice_get_from_get_or moved n node c.loop-node-test.true c.node-item.is in
+    let more = c.in_ok-add.ensures in record {
+      grows = one_grows D (λ (m : Moved) k. m.id ≡ k) moved n node a b at more.grows c.args.agenda.now c.loop-node.invariant.grows;
+      there = first_more D (λ (m : Moved) k. m.id ≡ k) moved n node a b at more.grows more.there c.loop-node.invariant.there;
     }
 
 pub returns-clause-there : goal.returns-clause-there
-returns-clause-there c = each_among (λ (m : Moved). IsSome (chains_of c.args.forest.now m.id) → on_of c.args.forest.now c.loop-node.agenda m.id ≡ true) c.args.moved.now c.loop-node.node-index c.loop-node-test.false c.loop-node.invariant.there
+returns-clause-there c =
+    first_all (chains_of c.args.forest.now) (λ (m : Moved) k. m.id ≡ k) c.args.moved.now c.loop-node.node-index c.loop-node.agenda c.loop-node-test.false c.loop-node.invariant.there

@@ -1,21 +1,31 @@
-use Rattle.std.proofs.Common.{refl, arith}
-use Rattle.cga_update.proofs.InLoops.{item_at}
-use Rattle.cga_update.proofs.Nearby.{keeps_itself, keeps_on, parents_more, parents_end}
+use Rattle.std.proofs.Common.{arith}
+use Rattle.cga_fraction.proofs.Door.{slice_get_from_get_or}
+use Rattle.cga_queue.proofs.Door.{first_all, first_more, grows_not, one_grows}
+use Rattle.cga_update.specs.Near.{IsParent, IsParentOf}
+use Rattle.cga_update.specs.Queue.{chains_of}
 use Rattle.cga_update.proofs.queue.queue_parents.Goals as goal
 
 pub loop-id-init : goal.loop-id-init
 loop-id-init c = record {
-  kept = keeps_itself c.args.forest.now c.args.agenda.now;
-  there = λ k p d e f was up w. absurd (let z = f.1 in omega (arith, z));
+  grows = grows_not (chains_of c.args.forest.now) (IsParentOf c.args.forest.now c.args.ids.now) c.args.agenda.now;
+  there = λ j id lt. absurd (omega (arith, lt));
 }
 
 pub loop-id-preserved : goal.loop-id-preserved
 loop-id-preserved c =
+    let v = c.args.forest.now in
+    let D = chains_of v in
     let ids = c.args.ids.now in
-    let item = item_at ids ids refl c.loop-id.id-index c.id-item.result c.loop-id-test.true c.id-item.is in record {
-      kept = keeps_on c.args.forest.now c.args.agenda.now c.loop-id.agenda c.queue_parent.new.agenda c.loop-id.invariant.kept c.in_ok-queue_parent.ensures.kept;
-      there = parents_more c.args.forest.now ids c.loop-id.id-index c.id-item.result c.loop-id.agenda c.queue_parent.new.agenda item c.in_ok-queue_parent.ensures.kept c.in_ok-queue_parent.ensures.there c.loop-id.invariant.there;
+    let n = c.loop-id.id-index in
+    let id = c.id-item.result in
+    let a = c.loop-id.agenda in
+    let b = c.queue_parent.new.agenda in
+    let at = slice_get_from_get_or ids n id c.loop-id-test.true c.id-item.is in
+    let more = c.in_ok-queue_parent.ensures in record {
+      grows = one_grows D (IsParent v) ids n id a b at more.grows c.args.agenda.now c.loop-id.invariant.grows;
+      there = first_more D (IsParent v) ids n id a b at more.grows more.there c.loop-id.invariant.there;
     }
 
 pub returns-clause-there : goal.returns-clause-there
-returns-clause-there c = parents_end c.args.forest.now c.args.ids.now c.loop-id.id-index c.loop-id.agenda c.loop-id-test.false c.loop-id.invariant.there
+returns-clause-there c =
+    first_all (chains_of c.args.forest.now) (IsParent c.args.forest.now) c.args.ids.now c.loop-id.id-index c.loop-id.agenda c.loop-id-test.false c.loop-id.invariant.there

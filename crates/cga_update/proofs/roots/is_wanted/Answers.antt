@@ -20,7 +20,7 @@ pub returns-in-Some-root_of-clause-wanted : goal.returns-in-Some-root_of-clause-
 returns-in-Some-root_of-clause-wanted c = λ t k d w.
     let found = c.requires.lots.only c.args.name c.in-Some.lot.now (sym c.get.ensures.value ∙ ap option_copied c.in-Some.is) in
     let same : k ≡ c.in-Some-root_of.root = some_same k c.in-Some-root_of.root (sym ((c.root_of.ensures k).1 (d, w.0, w.1, w.2)) ∙ c.in-Some-root_of.is) in
-    wanted_by c.args.renewal.new.now found.1.0 c.in-Some.lot.now found.1.1 c.in_ok-facts.facts.priority (c.in_ok-facts.ensures.facts c.requires.known).priority d.node
+    wanted_by c.args.renewal.new.now found.1.0 c.in-Some.lot.now found.1.1 c.in_ok-facts.facts.said.priority (c.in_ok-facts.ensures.facts c.requires.known).priority d.node
     (c.is_root_at.ensures.sound t d (ap (node_at c.args.forest.now) (sym same) ∙ w.0))
 
 pub returns-in-Some-root_of-clause-unwanted : goal.returns-in-Some-root_of-clause-unwanted

@@ -1,6 +1,6 @@
 use Rattle.cga_city.proofs.Names.{names_differ}
 use Rattle.cga_city.proofs.Valid.{sound_valid}
-use Rattle.cga_city.proofs.Warming.{warmed}
+use Rattle.cga_city.proofs.Warming.{never_over, warmed_by}
 use Rattle.cga_city.proofs.city.City.rewarm.Goals as goal
 
 pub update-told-requires-clause-names : goal.update-told-requires-clause-names
@@ -12,7 +12,12 @@ update-told-requires-clause-roots g c = (sound_valid c.self.inside.sources c.sel
 pub update-told-requires-clause-stands : goal.update-told-requires-clause-stands
 update-told-requires-clause-stands g c = rw (c.empty_sources-empty.ensures, c.replace.ensures.after) c.no_shapes.ensures
 
-pub returns-in-Ok-clause-spent : goal.returns-in-Ok-clause-spent
-returns-in-Ok-clause-spent g c = λ cold.
-    let exact = rw c.empty_sources-empty.ensures at c.in-Ok.ensures.exact in
-    rw (← c.self.view_is) (warmed c.self.inside.sources c.self.inside.budget c.in-Ok.field-0 _ _ c.self.inside.expanded c.self.inside.warm c.self.inside.changes _ c.self.invariant.sound exact c.in-Ok.ensures.spent)
+pub within_budget-requires : goal.within_budget-requires
+within_budget-requires g c = record {
+  within = never_over c.update-told.result c.self.inside.sources c.self.inside.budget c.self.invariant.within.0 c.self.invariant.within.1 c.update-told.ensures.over;
+}
+
+pub returns-clause-spent : goal.returns-clause-spent
+returns-clause-spent g c = λ cold.
+    rw (← c.self.view_is) (warmed_by c.update-told.result c.empty_sources-empty.result c.self.inside.sources c.self.inside.budget c.in_ok-within_budget.field-0 _ _ c.self.inside.expanded c.self.inside.warm
+    c.self.inside.changes _ c.self.invariant.sound c.empty_sources-empty.ensures c.in_ok-within_budget.ensures.same c.update-told.ensures.exact c.update-told.ensures.spent)

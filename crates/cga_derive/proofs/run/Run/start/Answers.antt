@@ -1,13 +1,12 @@
 use Rattle.std.proofs.Common.{◌≡◌, ◌<◌, ◌≤◌, length, get_or, ap, ◌∙◌, subst}
-use Rattle.cga_derive.specs.declared.symbol.Symbol.{Symbol}
+use Rattle.cga_check.specs.declared.said.Said.{Said}
 use Rattle.cga_key.specs.Children.{IsRootKey}
-use Rattle.cga_derive.specs.Symbols.{symbol_of}
+use Rattle.cga_derive.proofs.Reading.{said_priority}
 use Rattle.cga_derive.proofs.Streaks.{boxed_came, boxed_lent}
 use Rattle.cga_derive.proofs.Starting.{roots-more, keys-more, started}
 use Rattle.cga_derive.proofs.run.Run.start.Goals as goal
 
 pub loop-lot-preserved : goal.loop-lot-preserved
-unfolding symbol_of
 loop-lot-preserved c =
     let sources = c.args.sources.now in
     let lots = c.as_slice-lot-items.ensures in
@@ -15,7 +14,7 @@ loop-lot-preserved c =
     let lot = c.lot-item.result in
     let within : i < length sources.lots = subst (λ l. i < length l) lots c.loop-lot-test.true in
     let item : lot ≡ get_or sources.lots i lot = c.lot-item.is ∙ ap (λ l. get_or l i lot) lots in
-    let priority = ap (λ (s : Symbol). s.priority) c.in_ok-found.ensures.value in record {
+    let priority = ap (λ (s : Said). s.priority) c.in_ok-found.ensures.value ∙ said_priority sources.grammar lot.symbol in record {
       list = c.in_ok-push.ensures.items ∙ roots-more sources c.requires.names i lot within item c.root_shape-shape.result c.root_shape-shape.ensures c.loop-lot.list.items c.loop-lot.invariant.list;
       keys = keys-more sources c.requires.names i lot within item c.root_shape-shape.result c.root_shape-shape.ensures c.loop-lot.waiting.entries c.insert.new.self.entries c.in_ok-key.key c.len-place.result c.loop-lot.list.items c.loop-lot.invariant.list c.loop-lot.invariant.keys (subst (λ n. IsRootKey sources.mode lot.name n c.in_ok-key.key) priority c.in_ok-key.ensures) (c.len-place.ensures ∙ c.loop-lot.list.ok.0) c.in_ok-insert.ensures.entries;
       read = c.in_ok-found.ensures.read;

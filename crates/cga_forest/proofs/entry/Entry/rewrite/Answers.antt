@@ -1,7 +1,7 @@
 use Rattle.std.proofs.Common.{◌≡◌, ◌∙◌, ap, sym, Option, Some, None, length, if◌then◌else◌}
 use Rattle.cga_forest.specs.declared.former.Former.{Former}
 use Rattle.cga_forest.specs.declared.node.Node.{Node}
-use Rattle.cga_forest.specs.declared.hulls.Hulls.{Hulls}
+use Rattle.cga_kept_hulls.specs.declared.hulls.Hulls.{Hulls}
 use Rattle.cga_forest.specs.Hull.{hulls_known}
 use Rattle.cga_forest.specs.Node.{state_of, with_state}
 use Rattle.cga_forest.specs.View.{former_hulls, last_from, restored, seen}

@@ -1,5 +1,5 @@
 use Rattle.cga_forest.proofs.Laws.{slot_inside}
 use Rattle.cga_forest.proofs.hull_tree.ForestHullTree.touches.Goals as goal
 
-pub entry-requires : goal.entry-requires
-entry-requires c = record { here = slot_inside (record { slots = c.self.inside.store.slots; marking = c.self.inside.marking; roots = c.self.inside.roots.list; marked_roots = c.self.inside.roots.former; mode = c.self.inside.mode }) c.args.self.now c.self.view_is c.self.invariant.forest c.args.node c.number.result c.number.ensures c.requires }
+pub entry-entry-requires : goal.entry-entry-requires
+entry-entry-requires c = record { here = slot_inside (record { slots = c.self.inside.store.slots; marking = c.self.inside.marking; roots = c.self.inside.roots.list; marked_roots = c.self.inside.roots.former; mode = c.self.inside.mode }) c.args.self.now c.self.view_is c.self.invariant.forest c.args.node c.number.result c.number.ensures c.requires }

@@ -1,0 +1,28 @@
+//! Two answers taken together.
+ghost use Rattle.std.specs.Prelude.{◌≡◌, true};
+ghost use Rattle.cga_index.specs.Occlusion.{join};
+ghost use Rattle.cga_word.specs.declared.answer.Answer.TheVariants.{Full};
+
+use cga_word::Answer;
+
+/// Of two answers the stronger one.
+pub fn joined(first: Answer, second: Answer) -> Answer
+    ensures { result ≡ join first second }
+{
+    match first {
+        Answer::Full => Answer::Full,
+        Answer::Part => match second {
+            Answer::Full => Answer::Full,
+            Answer::Part | Answer::Nothing => Answer::Part,
+        },
+        Answer::Nothing => second,
+    }
+}
+
+/// Whether nothing that is found later can change the answer.
+pub fn is_full(answer: Answer) -> bool
+    ensures full { result ≡ true → answer ≡ Full }
+    ensures other { answer ≡ Full → result ≡ true }
+{
+    matches!(answer, Answer::Full)
+}

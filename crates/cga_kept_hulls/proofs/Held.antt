@@ -1,0 +1,57 @@
+-- What an entry of a level holds.
+use Rattle.std.proofs.Common.{◌≡◌, ◌≢◌, inl, inr, ℕ, zero, suc, ◌+◌, ◌/◌, ◌%◌, ◌<◌, List, [], ◌∷◌, ◌++◌, length, set, true, false, refl, ap, sym, ◌∙◌, arith}
+use Rattle.std.specs.Prelude.{Option, Some, None, slice_get}
+use Rattle.std.proofs.lemmas.Option.{slice_get_within}
+use Rattle.cga_fraction.proofs.Door.{eq_or_ne as nat_cases}
+use Rattle.cga_kept_hulls.specs.declared.hulls.Hulls.{Hulls}
+use Rattle.cga_kept_hulls.specs.Blocks.{Level, IsIn, StaysIn, block_holds}
+use Rattle.cga_kept_hulls.specs.Hull.{with_hulls, holds_hulls}
+use Rattle.cga_kept_hulls.proofs.Alike.{holds_from, probed_apart, probed_chain}
+
+module _ {X : Type 0} where
+  get_set : (xs : List X) (i : ℕ) (y : X) → i < length xs → slice_get (set xs i y) i ≡ Some y
+  get_set [] i y h = absurd (omega (arith, h))
+  get_set (x ∷ xs) zero y h = refl
+  get_set (x ∷ xs) (suc i) y h = get_set xs i y (omega (arith, h))
+
+  get_other : (xs : List X) (i j : ℕ) (y : X) → j ≢ i → slice_get (set xs i y) j ≡ slice_get xs j
+  get_other [] i j y n = refl
+  get_other (x ∷ xs) zero zero y n = absurd (n refl)
+  get_other (x ∷ xs) zero (suc j) y n = refl
+  get_other (x ∷ xs) (suc i) zero y n = refl
+  get_other (x ∷ xs) (suc i) (suc j) y n = get_other xs i j y (λ e. n (ap (λ k. suc k) e))
+
+  get_left : (xs ys : List X) (i : ℕ) → i < length xs → slice_get (xs ++ ys) i ≡ slice_get xs i
+  get_left [] ys i h = absurd (omega (arith, h))
+  get_left (x ∷ xs) ys zero h = refl
+  get_left (x ∷ xs) ys (suc i) h = get_left xs ys i (omega (arith, h))
+
+with_self : (h : Hulls) (o : Option Hulls) → holds_hulls (with_hulls h o) h ≡ true
+with_self h None = holds_from h h (λ p t. t)
+with_self h (Some k) = holds_from (with_hulls h (Some k)) h (λ p t. (probed_apart p h k t).0)
+
+with_other : (h k x : Hulls) → holds_hulls k x ≡ true → holds_hulls (with_hulls h (Some k)) x ≡ true
+with_other h k x e = holds_from (with_hulls h (Some k)) x (λ p t. probed_chain p k x e (probed_apart p h k t).1)
+
+still_one : (o : Option Hulls) (h x : Hulls) → block_holds (Some o) x ≡ true
+    → block_holds (Some (Some (with_hulls h o))) x ≡ true
+still_one None h x e = let z : false ≡ true = e in absurd (cc)
+still_one (Some k) h x e = with_other h k x e
+
+pub held_here : (xs : Level) (place : ℕ) (o : Option Hulls) (h : Hulls) → place / 16 < length xs
+    → IsIn (set xs (place / 16) (Some (with_hulls h o))) place h
+held_here xs place o h lt = ap (λ b. block_holds b h) (get_set xs (place / 16) (Some (with_hulls h o)) lt) ∙ with_self h o
+
+pub held_still : (xs : Level) (i : ℕ) (o : Option Hulls) (h : Hulls) → slice_get xs i ≡ Some o
+    → StaysIn xs (set xs i (Some (with_hulls h o)))
+held_still xs i o h at place x e = elim (nat_cases (place / 16) i) [
+  | inl q ↦ (
+      let was : block_holds (Some o) x ≡ true = ap (λ b. block_holds b x) (sym (ap (slice_get xs) q ∙ at)) ∙ e in
+      ap (λ b. block_holds b x) (ap (slice_get (set xs i (Some (with_hulls h o)))) q ∙ get_set xs i (Some (with_hulls h o)) (slice_get_within xs i o at)) ∙ still_one o h x was)
+  | inr n ↦ ap (λ b. block_holds b x) (get_other xs i (place / 16) (Some (with_hulls h o)) n) ∙ e
+]
+
+-- an entry more, behind all places
+pub room_made : (xs : Level) (o : Option Hulls) (roots place : ℕ) (h : Hulls) → roots % 16 ≡ 0 → roots / 16 ≡ length xs
+    → place < roots → IsIn xs place h → IsIn (xs ++ o ∷ []) place h
+room_made xs o roots place h whole full lt e = ap (λ b. block_holds b h) (get_left xs (o ∷ []) (place / 16) (omega (arith, whole, full, lt))) ∙ e

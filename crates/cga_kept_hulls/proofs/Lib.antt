@@ -1,0 +1,3 @@
+mod Alike
+mod Held
+pub mod Door

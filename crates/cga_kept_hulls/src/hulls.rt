@@ -1,0 +1,79 @@
+ghost use Rattle.std.specs.Prelude.{◌≡◌};
+ghost use Rattle.cga_kept_hulls.specs.Hull.{hulls_alone, joined, with_hulls, opt_within, holds_hulls, alike, grown_from};
+
+use cga_frame::WorldBox;
+
+/// The least box that holds the boxes of a node and of all below it, and of those of them that ask.
+#[derive(Clone, Copy, Debug)]
+pub struct Hulls {
+    pub all: WorldBox,
+    pub asking: Option<WorldBox>,
+}
+
+impl Hulls {
+    /// Those of one box, which asks or not.
+    pub fn alone(bounds: WorldBox, asks: bool) -> Hulls
+        ensures { result ≡ hulls_alone bounds asks }
+    {
+        Hulls {
+            all: bounds,
+            asking: if asks { Some(bounds) } else { None },
+        }
+    }
+
+    pub fn with(&self, other: &Option<Hulls>) -> Hulls
+        ensures { result ≡ with_hulls self.now other.now }
+    {
+        match other {
+            None => *self,
+            Some(other) => Hulls {
+                all: self.all.hull(&other.all),
+                asking: joined(&self.asking, &other.asking),
+            },
+        }
+    }
+
+    pub fn holds(&self, other: &Hulls) -> bool
+        ensures { result ≡ holds_hulls self.now other.now }
+    {
+        self.all.holds(&other.all) && within(&self.asking, &other.asking)
+    }
+
+    /// Whether each holds the other.
+    pub fn is_like(&self, other: &Hulls) -> bool
+        ensures { result ≡ alike self.now other.now }
+    {
+        self.holds(other) && other.holds(self)
+    }
+
+    /// These, where they only grew.
+    pub fn grown_from(&self, old: &Hulls) -> Option<Hulls>
+        ensures { result ≡ grown_from self.now old.now }
+    {
+        if self.holds(old) { Some(*self) } else { None }
+    }
+}
+
+fn within(outer: &Option<WorldBox>, inner: &Option<WorldBox>) -> bool
+    ensures { result ≡ opt_within outer.now inner.now }
+{
+    match inner {
+        None => true,
+        Some(b) => match outer {
+            None => false,
+            Some(a) => a.holds(b),
+        },
+    }
+}
+
+fn joined(first: &Option<WorldBox>, second: &Option<WorldBox>) -> Option<WorldBox>
+    ensures { result ≡ joined first.now second.now }
+{
+    match first {
+        None => *second,
+        Some(a) => match second {
+            None => Some(*a),
+            Some(b) => Some(a.hull(b)),
+        },
+    }
+}

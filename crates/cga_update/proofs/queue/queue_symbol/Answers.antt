@@ -1,0 +1,26 @@
+use Rattle.cga_order.specs.World.{Among}
+use Rattle.cga_queue.proofs.Door.{all_kept, grows_on}
+use Rattle.cga_update.specs.Near.{IsAny, IsParentOf}
+use Rattle.cga_update.specs.Queue.{chains_of}
+use Rattle.cga_update.proofs.Nearby.{grows_any}
+use Rattle.cga_update.proofs.queue.queue_symbol.Goals as goal
+
+pub returns-then-facts-clause-grows : goal.returns-then-facts-clause-grows
+returns-then-facts-clause-grows c =
+    grows_any (chains_of c.args.forest.now) (λ k. Among k c.args.nodes.now) c.args.agenda.now c.add_all.new.agenda c.in_ok-add_all.ensures.grows
+
+pub returns-clause-grows : goal.returns-clause-grows
+returns-clause-grows c =
+    let v = c.args.forest.now in
+    let D = chains_of v in
+    let nodes = c.args.nodes.now in
+    let mid = c.add_all.new.agenda in
+    grows_on D IsAny c.args.agenda.now mid c.queue_parents.new.agenda
+    (grows_any D (λ k. Among k nodes) c.args.agenda.now mid c.in_ok-add_all.ensures.grows)
+    (grows_any D (IsParentOf v nodes) mid c.queue_parents.new.agenda c.in_ok-queue_parents.ensures.grows)
+
+pub returns-clause-there : goal.returns-clause-there
+returns-clause-there c =
+    let v = c.args.forest.now in
+    let nodes = c.args.nodes.now in
+    all_kept (chains_of v) (λ k. Among k nodes) (IsParentOf v nodes) c.add_all.new.agenda c.queue_parents.new.agenda c.in_ok-queue_parents.ensures.grows c.in_ok-add_all.ensures.there

@@ -1,0 +1,7 @@
+/// The names of the programs.
+#[derive(Clone, Copy, Debug, PartialEq, Eq)]
+pub enum ProgramName {
+    City,
+    Hulls,
+    Live,
+}
