@@ -10,6 +10,7 @@ use std::sync::ledger::Ledger;
 
 /// The tree in which only those nodes ask that last. Where the parent of each of them does, too, nobody asks below one that
 /// doesn't: a walk for who asks passes by all of it.
+#[derive_where(Clone, Copy)]
 pub struct LastingAskers<'a, T> {
     pub tree: &'a T,
 }
