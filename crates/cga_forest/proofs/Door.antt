@@ -3,7 +3,7 @@
 -- When an old child stays, as a fact
 pub use Rattle.cga_forest.proofs.Equal.{fits_sound, fits_whole}
 -- A forest keeps the laws of a tree of boxes; also one in which only those nodes ask that were there at the mark
-pub use Rattle.cga_forest.proofs.Laws.{in_forest, in_lasting, inside, keeps_laws, lasting_laws, local, there}
+pub use Rattle.cga_forest.proofs.Laws.{inside, keeps_laws, lasting_laws, local, there}
 -- The list of roots, under each change
 pub use Rattle.cga_forest.proofs.Tops.{at_member, under_parent}
 -- What is below a node, and flags

@@ -1,13 +1,13 @@
 -- A forest keeps the laws of a tree of boxes; also one in which only those nodes ask that were there at the mark.
-use Rattle.std.proofs.Common.{◌≡◌, ◌⊎◌, inl, inr, ℕ, zero, suc, ◌+◌, List, ◌∷◌, length, Bool, true, false, ◌&&◌, refl, ap, sym, ◌∙◌, arith, subst}
+use Rattle.std.proofs.Common.{◌≡◌, ◌⊎◌, inl, inr, ℕ, ◌+◌, List, length, Bool, true, false, refl, ap, sym, ◌∙◌, arith, subst}
 use Rattle.std.specs.Prelude.{Option, Some, None, is_some, not, slice_get, if◌then◌else◌}
-use Rattle.std.specs.List.{flat_map}
 use Rattle.cga_frame.specs.Box.{Box, holds, is_box}
 use Rattle.cga_frame.specs.Scope.{far_of}
 use Rattle.cga_fraction.proofs.Door.{cases_Option as opt_two, lt-length_from_slice_get_nat as within}
 use Rattle.cga_frame.proofs.Door.{corners_box, holds_itself}
-use Rattle.cga_index.proofs.Door.{in_present, present_in}
-use Rattle.cga_index.specs.Tree.{TreeView, Member, Apart, InTree, IsHullTree, IsQuietRun, LiesIn, all_nodes, below}
+use Rattle.cga_index.proofs.Door.{in_present, present_in, lasting_laws as tree_laws}
+use Rattle.cga_index.specs.Lasting.{ParentsLast}
+use Rattle.cga_index.specs.Tree.{TreeView, Member, Apart, InTree, IsHullTree, LiesIn}
 use Rattle.cga_index.specs.Local.{IsLocalTree}
 use Rattle.cga_kept_hulls.specs.declared.hulls.Hulls.{Hulls}
 use Rattle.cga_forest.specs.declared.node.Node.{Node}
@@ -20,7 +20,7 @@ use Rattle.cga_forest.specs.View.{Seen, kids, marked_of, restored, seen}
 use Rattle.cga_forest.proofs.Marks.{marked_plain}
 use Rattle.cga_forest.proofs.Right.{is_there, kids_present, parent_present, present_some}
 use Rattle.cga_forest.specs.Tree.{ForestView, IsForest, slot_at, node_at, marked_at, hulls_at, children_at, children_of, parent_of}
-use Rattle.cga_forest.specs.Walked.{forest_tree, lasting_tree, own_of, asks_of, depth_of, all_of, asking_of}
+use Rattle.cga_forest.specs.Walked.{forest_tree, lasting_tree, was_marked, own_of, asks_of, depth_of, all_of, asking_of}
 use Rattle.cga_marked.specs.Map.{ids}
 use Rattle.cga_marked.proofs.Door.{at_contains, contains_at}
 use Rattle.cga_forest.proofs.Ids.{id_named, named_id, ids_once}
@@ -196,42 +196,7 @@ pub in_inside : (v w : ForestView) → v ≡ w → IsForest v → (n : ℕ) → 
     → InTree (forest_tree w) n
 in_inside v w same f n h = subst (λ (x : ForestView). InTree (forest_tree x) n) same (inside v f n (is_there (node_at v n) (ap (λ (x : ForestView). is_some (node_at x n)) same ∙ h)))
 
--- ---- in which only those nodes ask that were there at the mark: it has the same nodes
-
-below_same : (v : ForestView) (n node : ℕ) → below (lasting_tree v) n node ≡ below (forest_tree v) n node
-unfolding below
-below_same v zero node = refl
-below_same v (suc n) node = λ i. node ∷ flat_map (λ c. below_same v n c i) (children_at v node)
-
-nodes_same : (v : ForestView) → all_nodes (lasting_tree v) ≡ all_nodes (forest_tree v)
-unfolding all_nodes
-nodes_same v = λ i. flat_map (λ c. below_same v 257 c i) (ids v.roots)
-
-pub in_forest : (v : ForestView) (n : ℕ) → InTree (lasting_tree v) n → InTree (forest_tree v) n
-in_forest v n m = subst (λ l. Member l n) (nodes_same v) m
-
-pub in_lasting : (v : ForestView) (n : ℕ) → InTree (forest_tree v) n → InTree (lasting_tree v) n
-in_lasting v n m = subst (λ l. Member l n) (sym (nodes_same v)) m
-
--- who asks in it asks in the forest
-pub quiet_too : (v : ForestView) (from count : ℕ) (area : Box) → IsQuietRun (forest_tree v) from count area
-    → IsQuietRun (lasting_tree v) from count area
-quiet_too v from count area quiet place c h within at is = quiet place c h within at (asks_still (is_some (marked_at v c)) is)
-  where
-    asks_still : (lasts : Bool) {hull : Option Box} → (if lasts then hull else None) ≡ Some h → hull ≡ Some h
-    asks_still true e = e
-    asks_still false e = let z : None ≡ Some h = e in absurd (cc)
-
-own_lies : (lasts asks : Bool) (hull : Option Box) (own : Box) → (asks ≡ true → LiesIn hull own)
-    → (lasts && asks) ≡ true → LiesIn (if lasts then hull else None) own
-own_lies true asks hull own lies on = lies on
-own_lies false asks hull own lies on = let z : false ≡ true = on in absurd (cc)
-
-child_lies : (lasts child : Bool) (hull below : Option Box) (h : Box) → (child ≡ true → lasts ≡ true)
-    → (below ≡ Some h → LiesIn hull h) → (if child then below else None) ≡ Some h
-    → LiesIn (if lasts then hull else None) h
-child_lies lasts true hull below h up lies is = subst (λ b. LiesIn (if b then hull else None) h) (sym (up refl)) (lies is)
-child_lies lasts false hull below h up lies is = let z : None ≡ Some h = is in absurd (cc)
+-- ---- in which only those nodes ask that were there at the mark
 
 -- a node has the parent that it had at the mark
 marked_parent : (s : Option Entry) (b : Seen) → marked_of s ≡ Some b → b.parent ≡ parent_of s
@@ -245,9 +210,8 @@ marked_parent (Some x) b m = by_books x.came x.former m
     by_books false (Some f) e = let z : Some (seen (restored x (Some f))) ≡ Some b = e in let y : seen (restored x (Some f)) ≡ b = (cc) in ap (λ (d : Seen). d.parent) (sym y)
 
 module _ (v : ForestView) (f : IsForest v) where
-  parent_lasts : (n c : ℕ) → InTree (forest_tree v) n → Member (children_at v n) c → is_some (marked_at v c) ≡ true
-      → is_some (marked_at v n) ≡ true
-  parent_lasts n c m k on =
+  parents_last : ParentsLast (forest_tree v) (was_marked v)
+  parents_last n c m k on =
       let p = there v f n m in
       let w = kid v f n c p.0 p.1 k in
       let b = is_there (marked_at v c) on in
@@ -259,19 +223,4 @@ module _ (v : ForestView) (f : IsForest v) where
       by_mark d h b q up false is = ap is_some (marked_plain (slot_at v n) (f.plain is n) ∙ h)
 
   pub lasting_laws : IsHullTree (lasting_tree v)
-  lasting_laws =
-      let k = keeps_laws v f in
-      let to = in_forest v in record {
-        roots_once = k.roots_once;
-        children_once = λ n m. k.children_once n (to n m);
-        one_parent = λ a b c ma mb ca cb. k.one_parent a b c (to a ma) (to b mb) ca cb;
-        at_root = k.at_root;
-        at_child = λ n c m h. k.at_child n c (to n m) h;
-        closed = λ n c m h. in_lasting v c (k.closed n c (to n m) h);
-        shallow = λ n m. k.shallow n (to n m);
-        boxed = λ n m. k.boxed n (to n m);
-        holds_own = λ n m. k.holds_own n (to n m);
-        holds_children = λ n c m h. k.holds_children n c (to n m) h;
-        asks_own = λ n m on. own_lies (is_some (marked_at v n)) _ _ _ (k.asks_own n (to n m)) on;
-        asks_below = λ n c b m h is. child_lies (is_some (marked_at v n)) (is_some (marked_at v c)) _ _ b (parent_lasts n c (to n m) h) (k.asks_below n c b (to n m) h) is;
-      }
+  lasting_laws = tree_laws (forest_tree v) (was_marked v) (keeps_laws v f) parents_last

@@ -1,6 +1,7 @@
 -- A forest as a tree of boxes.
-use Rattle.std.specs.Prelude.{ℕ, Option, Some, None, Bool, false, ◌&&◌, is_some, pos, if◌then◌else◌}
+use Rattle.std.specs.Prelude.{ℕ, Option, Some, None, Bool, false, is_some, pos}
 use Rattle.cga_frame.specs.Box.{Box}
+use Rattle.cga_index.specs.Lasting as index
 use Rattle.cga_index.specs.Tree.{TreeView}
 use Rattle.cga_kept_hulls.specs.declared.hulls.Hulls.{Hulls}
 use Rattle.cga_forest.specs.Node.{bounds}
@@ -44,9 +45,9 @@ forest_tree v = record {
   asking_hull = λ n. asking_of (hulls_at v n);
 }
 
+abbrev pub was_marked : ForestView → ℕ → Bool
+was_marked v n = is_some (marked_at v n)
+
 -- the same tree, in which only those nodes ask that were there at the mark
 abbrev pub lasting_tree : ForestView → TreeView
-lasting_tree v = record (forest_tree v) {
-  asks = λ n. is_some (marked_at v n) && asks_of (node_at v n);
-  asking_hull = λ n. if is_some (marked_at v n) then asking_of (hulls_at v n) else None;
-}
+lasting_tree v = index.lasting_tree (forest_tree v) (was_marked v)

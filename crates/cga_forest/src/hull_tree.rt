@@ -2,14 +2,14 @@ ghost use Rattle.std.specs.Prelude.{◌≡◌, ◌≤◌, ◌+◌, IsSome};
 ghost use Rattle.cga_index.specs.Occlusion.{answer_of};
 ghost use Rattle.cga_index.specs.Tree.{asked, all_nodes, near};
 ghost use Rattle.cga_forest.specs.Tree.{node_at};
-ghost use Rattle.cga_forest.specs.Walked.{forest_tree};
+ghost use Rattle.cga_forest.specs.Walked.{forest_tree, was_marked};
 
 use crate::Forest;
 use crate::standing::standing_of;
 use crate::store::child_count;
 use cga_fraction::Tests;
 use cga_frame::WorldBox;
-use cga_index::{HullTree, NodeId, Standing, answer};
+use cga_index::{HullTree, Lasting, NodeId, Standing, answer};
 use cga_word::{Answer, Target};
 use std::sync::ledger::Ledger;
 
@@ -85,6 +85,18 @@ impl HullTree for Forest {
     fn asking_hull(&self, node: NodeId) -> Option<WorldBox> {
         let entry = self.store.entry(node.number() as usize);
         entry.hulls.asking_hull(&entry.node.shape.scope)
+    }
+}
+
+impl Lasting for Forest {
+    ghost lasts = { was_marked };
+
+    /// Whether a node was there at the mark. What stands below one that came since came since, too.
+    fn lasts(&self, node: NodeId) -> bool {
+        match self.store.get(node.number() as usize) {
+            Some(entry) => !entry.came,
+            None => false,
+        }
     }
 }
 

@@ -3,7 +3,7 @@
 ghost use Rattle.cga_forest.specs.Laws.{ForestsAreHullTrees, LastingAreHullTrees, LastingHaveNodes, TreesHaveNodes};
 
 /// What holds of each forest (`Forest::laws`) gives the laws of `HullTree`, over the nodes that are there; also where only
-/// those ask that were there at the mark (`LastingAskers`).
+/// those ask that were there at the mark (`LastingAskers` of cga_index).
 pub fn forests_are_hull_trees()
     ensures laws { ForestsAreHullTrees }
     ensures nodes { TreesHaveNodes }

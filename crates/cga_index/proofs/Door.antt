@@ -4,3 +4,5 @@
 pub use Rattle.cga_index.proofs.Levels.{below_more, drop_all, drop_at, in_at, in_flat, in_left, in_right, in_some, in_split, root_in}
 -- The tree's nodes are those that are there
 pub use Rattle.cga_index.proofs.Local.{in_present, present_in}
+-- A tree in which only those nodes ask that last has the same nodes, and keeps the laws
+pub use Rattle.cga_index.proofs.LastingTree.{in_lasting, in_whole, lasting_laws}

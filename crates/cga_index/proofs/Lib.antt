@@ -1,4 +1,5 @@
 mod Askers
+mod LastingTree
 mod Local
 mod Over
 mod Levels

@@ -1,14 +1,13 @@
 -- Who asks near boxes, piece by piece.
-use Rattle.std.proofs.Common.{◌≡◌, ◌⊎◌, inl, inr, ℕ, zero, suc, ◌+◌, ◌<◌, ◌≤◌, List, [], ◌∷◌, ◌++◌, length, take, drop, Bool, true, false, refl, sym, ap, subst, ◌∙◌, Some, arith}
-use Rattle.std.specs.Prelude.{◌||◌, slice_get}
+use Rattle.std.proofs.Common.{◌≡◌, ◌⊎◌, inl, inr, ℕ, suc, ◌+◌, ◌<◌, ◌≤◌, List, [], ◌∷◌, ◌++◌, length, take, drop, Bool, true, false, refl, sym, ap, subst, ◌∙◌, Some, arith}
+use Rattle.std.specs.Prelude.{slice_get}
 use Rattle.std.specs.List.{list_any}
 use Rattle.std.proofs.lemmas.Bool.{or_cases, or_left, or_right}
 use Rattle.std.proofs.lemmas.List.{append_assoc, append-nil, take-append-drop}
 use Rattle.std.proofs.lemmas.List.Folds.{list_any-append}
-use Rattle.std.proofs.lemmas.Map.Keys.{any_passes_from_place}
 use Rattle.std.proofs.lemmas.Option.{slice_get_within}
 use Rattle.cga_fraction.proofs.Door.{lt_or_eq_from_lt_suc as at_or_below, same_Some}
-use Rattle.cga_frame.specs.Box.{Box, is_box, meets}
+use Rattle.cga_frame.specs.Box.{Box, meets}
 use Rattle.cga_index.specs.Around.{IsAround}
 use Rattle.cga_index.specs.Near.{AddsThese, AsksNear, AsksWithin, ListsNear}
 use Rattle.cga_index.specs.Tree.{InTree, IsHullTree, ListsAskers, Member, TreeView}

@@ -1,4 +1,5 @@
 pub mod Around
+pub mod Lasting
 pub mod Local
 pub mod Near
 pub mod Occlusion

@@ -10,6 +10,8 @@
 
 mod around;
 mod hull_tree;
+mod lasting;
+mod lasting_askers;
 mod listing;
 mod near;
 mod node_id;
@@ -22,6 +24,8 @@ mod tests;
 mod walk;
 
 pub use hull_tree::HullTree;
+pub use lasting::Lasting;
+pub use lasting_askers::LastingAskers;
 pub use listing::queriers_meeting;
 pub use near::queriers_near;
 pub use node_id::NodeId;

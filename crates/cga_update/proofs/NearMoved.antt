@@ -6,11 +6,12 @@ use Rattle.std.proofs.lemmas.Bool.{and_from, and_parts, or_left, or_right}
 use Rattle.cga_frame.specs.Box.{Box, box_of, meets}
 use Rattle.cga_order.specs.World.{Among}
 use Rattle.cga_index.specs.Near.{ListsNear}
+use Rattle.cga_index.proofs.Door.{in_lasting}
 use Rattle.cga_forest.specs.declared.moved.Moved.{Moved}
 use Rattle.cga_forest.specs.View.{Seen}
 use Rattle.cga_forest.specs.Tree.{ForestView, IsForest, marked_at, node_at}
-use Rattle.cga_forest.specs.Walked.{asks_of, lasting_tree, own_of}
-use Rattle.cga_forest.proofs.Door.{in_lasting, inside}
+use Rattle.cga_forest.specs.Walked.{asks_of, forest_tree, lasting_tree, own_of, was_marked}
+use Rattle.cga_forest.proofs.Door.{inside}
 use Rattle.cga_update.specs.Askers.{IsAsker, ListsAskers, boxes_of}
 use Rattle.cga_update.proofs.Members.{among_member, member_among}
 
@@ -44,7 +45,7 @@ pub lists_askers : (v : ForestView) → IsForest v → (moved : List Moved) (lis
     → ListsNear (lasting_tree v) (boxes_of moved) list → ListsAskers v moved list
 lists_askers v f moved list lists = record {
   all = λ c k. member_among list c (lists.all c (record {
-    inside = in_lasting v c (inside v f c (k.seen, k.there));
+    inside = in_lasting (forest_tree v) (was_marked v) c (inside v f c (k.seen, k.there));
     asks = and_from (is_some (marked_at v c)) (asks_of (node_at v c)) k.marked (ap asks_of k.there ∙ k.asks);
     near = near_some (own_of (node_at v c)) moved k.one k.among
         (ap (λ o. meets (own_of o) (box_of k.one.scope)) k.there ∙ k.near);

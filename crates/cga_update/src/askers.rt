@@ -2,10 +2,10 @@
 ghost use Rattle.std.specs.Prelude.{◌≡◌, IfOk};
 ghost use Rattle.cga_update.specs.Askers.{ListsAskers, boxes_of};
 
-use cga_forest::{Forest, LastingAskers, Moved};
+use cga_forest::{Forest, Moved};
 use cga_fraction::{List, NoMemory, Tests};
 use cga_frame::WorldBox;
-use cga_index::{NodeId, queriers_near};
+use cga_index::{LastingAskers, NodeId, queriers_near};
 use std::alloc::Global;
 use std::sync::ledger::Ledger;
 
@@ -20,7 +20,12 @@ pub fn askers_near<T: Ledger>(
 {
     forest.laws();
     let areas = boxes_of(alloc, moved)?;
-    queriers_near(alloc, &LastingAskers { forest }, areas.as_slice(), tests)
+    queriers_near(
+        alloc,
+        &LastingAskers { tree: forest },
+        areas.as_slice(),
+        tests,
+    )
 }
 
 /// Their boxes. Takes memory.

@@ -1,4 +1,4 @@
-use Rattle.std.proofs.Common.{refl, sym, subst}
+use Rattle.std.proofs.Common.{sym, subst}
 use Rattle.cga_fraction.proofs.Door.{slice_get_from_get_or}
 use Rattle.std.specs.Prelude.{IfSome}
 use Rattle.cga_index.specs.Around.{IsAround}
