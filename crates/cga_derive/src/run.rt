@@ -220,7 +220,7 @@ impl<'a> Run<'a> {
     }
 
     pub fn into_list(self) -> List<Placed>
-        ensures { result ≡ self.list.items }
+        ensures { result ≡ self.entry.list.items }
     {
         let Run {
             list,

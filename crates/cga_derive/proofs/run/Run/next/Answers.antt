@@ -1,4 +1,4 @@
-use Rattle.std.proofs.Common.{length, arith}
+use Rattle.std.proofs.Common.{length, arith, ◌∙◌}
 use Rattle.cga_derive.proofs.Stepping.{nothing-waits, none_left}
 use Rattle.cga_derive.proofs.Working.{in-turn, place_within}
 use Rattle.cga_derive.proofs.run.Run.next.Goals as goal
