@@ -4,6 +4,7 @@ mod Clean
 mod Firsts
 mod Layers
 mod Placed
+mod Reading
 mod Sifted
 mod Telling
 mod Valid

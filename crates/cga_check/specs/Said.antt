@@ -12,6 +12,10 @@ use Rattle.cga_check.specs.declared.said.Said.{Said}
 unfoldable pub said : Grammar → List ℕ → Said
 said g symbol = record { priority = unwrap_or (priority_of g symbol) 0; noparent = group_asks (group g symbol) Noparent; active = group_asks (group g symbol) Active }
 
+-- a condition asks for a target
+abbrev pub asks_any : Said → Bool
+asks_any s = s.noparent || s.active
+
 -- ---- as it is found, entry by entry
 
 -- the entry is a rule of the symbol, and asks for the target

@@ -12,9 +12,11 @@ pub mod laws;
 mod mentions;
 mod said;
 mod sieve;
+mod symbols;
 mod usage;
 
 pub use checks::{MOST_ATTRIBUTES, MOST_RULES, check};
 pub use groups::{group_of, symbol_priority};
 pub use mentions::{mentions_attribute, mentions_target, symbol_asks, symbol_names};
 pub use said::{Said, said_of};
+pub use symbols::Symbols;

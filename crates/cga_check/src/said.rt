@@ -1,6 +1,6 @@
 //! What the rules of a symbol say of its shapes.
 ghost use Rattle.std.specs.Prelude.{◌≡◌, Some};
-ghost use Rattle.cga_check.specs.Said.{said, said_among, with_rule};
+ghost use Rattle.cga_check.specs.Said.{asks_any, said, said_among, with_rule};
 
 use crate::mentions::asks;
 use cga_rule::{Entry, Grammar};
@@ -14,6 +14,15 @@ pub struct Said {
     /// Whether a condition asks for the target.
     pub noparent: bool,
     pub active: bool,
+}
+
+impl Said {
+    /// Whether a condition asks for any target.
+    pub fn asks(self) -> bool
+        ensures { result ≡ asks_any self }
+    {
+        self.noparent || self.active
+    }
 }
 
 const NOTHING: Said = Said {

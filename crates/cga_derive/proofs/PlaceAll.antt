@@ -25,11 +25,7 @@ children-push lot path own i (x ∷ es) e =
     let z : suc i + length es ≡ i + length (x ∷ es) = omega arith in
     ap (λ l. placed_at lot path own i x ∷ l) (children-push lot path own (suc i) es e ∙ ap (λ n. placed_from lot path own (suc i) es ++ placed_at lot path own n e ∷ []) z)
 
-module _ (sources : Sources) (parent : StampKey) (own : List ℕ) where
-  pub keys-none : (list : List Member) (es : List (StampKey × ℕ))
-      → KeepsKeys sources parent (sited_children parent own 0 []) list es es
-  keys-none list es = λ C mode size apart has. subst (λ D. HasKeys sources D es) (sym (append-nil C)) has
-
+module _ (parent : StampKey) (own : List ℕ) where
   pub list-more : (xs : List Emitted) (e : Emitted) (list0 list1 list2 : List Member) (i : ℕ) → i ≡ length xs
       → list1 ≡ list0 ++ placed_from parent.lot parent.path own 0 xs
       → list2 ≡ list1 ++ placed_at parent.lot parent.path own i e ∷ []
@@ -38,6 +34,11 @@ module _ (sources : Sources) (parent : StampKey) (own : List ℕ) where
       let z : i ≡ 0 + length xs = at ∙ omega arith in
       let came = children-push parent.lot parent.path own 0 xs e in
       now ∙ ((λ t. before t ++ placed_at parent.lot parent.path own (z t) e ∷ []) ∙ (append_assoc_one list0 (placed_from parent.lot parent.path own 0 xs) (placed_at parent.lot parent.path own (0 + length xs) e ∷ []) ∙ ap (λ l. list0 ++ l) (sym came)))
+
+module _ (sources : Sources) (parent : StampKey) (own : List ℕ) where
+  pub keys-none : (list : List Member) (es : List (StampKey × ℕ))
+      → KeepsKeys sources parent (sited_children parent own 0 []) list es es
+  keys-none list es = λ C mode size apart has. subst (λ D. HasKeys sources D es) (sym (append-nil C)) has
 
   pub keys-more : (xs : List Emitted) (e : Emitted) (list0 list1 : List Member) (es0 es1 es2 : List (StampKey × ℕ))
       (i : ℕ)

@@ -1,4 +1,3 @@
-pub mod Symbols
 pub mod Compared
 pub mod Streaks
 pub mod Run

@@ -9,12 +9,11 @@ use Rattle.cga_expand.specs.Run.{traced}
 use Rattle.cga_derive.specs.declared.run.Run.{Run}
 use Rattle.cga_derive.specs.Streaks.{IsBoxed}
 use Rattle.cga_derive.specs.Run.{IsAfter}
-use Rattle.cga_derive.specs.Symbols.{IsRead}
 
 -- after n turns
 pub record IsUnderway (sources : Sources) (n : ℕ) (run : Run) : Type 0 where
   pub after : IsAfter sources n run.list.items run.waiting.entries
-  pub read : IsRead sources.grammar run.symbols.read
+  pub symbols : run.symbols ≡ sources.grammar
   pub boxed : IsBoxed run.list.items run.streaks.items
 
 -- what the expansion of the member that is next after n turns tells

@@ -14,7 +14,6 @@ mod members;
 mod over_budget;
 mod run;
 mod streak;
-mod symbols;
 
 pub use derivation::derive;
 pub use over_budget::OverBudget;

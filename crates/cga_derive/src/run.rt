@@ -9,16 +9,14 @@ ghost use Rattle.cga_expand.specs.declared.limits.TheConstants.{MOST_CHILDREN};
 ghost use Rattle.cga_derive.specs.Streaks.{IsBoxed};
 ghost use Rattle.cga_derive.specs.Run.{AddsKey, IsAfter, IsInTurnOf, KeepsKeys, sited_children};
 ghost use Rattle.cga_derive.specs.Underway.{IsNext, IsStepAfter, IsUnderway, turned};
-ghost use Rattle.cga_derive.specs.Symbols.{IsRead};
 
 use crate::answers::asked;
 use crate::members::{member_of, waiting_symbol};
 use crate::streak::{Streak, next_streak};
-use crate::symbols::Symbols;
+use cga_check::Symbols;
 use cga_expand::{Expansions, expand};
 use cga_fraction::{List, NoMemory};
 use cga_key::{StampKey, child_key, child_path, root_key};
-use cga_rule::Grammar;
 use cga_shape::{Answers, Emitted, Kind, Outcome, Placed, Sources, TraceStep, root_shape};
 use cga_word::Name;
 use std::alloc::Global;
@@ -28,31 +26,29 @@ use std::sync::ledger::Ledger;
 /// A derivation under way: the list so far with the streak that ends with each member, and the
 /// place in it of each waiting member, by stamp.
 #[derive(Drop)]
-pub struct Run {
+pub struct Run<'a> {
     pub list: Vec<Placed>,
     pub streaks: Vec<Streak>,
     pub waiting: BTreeMap<StampKey, usize>,
-    pub symbols: Symbols,
+    pub symbols: Symbols<'a>,
 }
 
-impl Run {
+impl<'a> Run<'a> {
     /// The key of child `index` of the shape of a key, for the place behind the list.
     fn wait(
         &mut self,
         alloc: Global,
-        grammar: &Grammar,
         parent: &StampKey,
         index: u16,
         symbol: Name,
     ) -> Result<(), NoMemory>
-        requires { IsRead grammar.now self.old.symbols.read }
-        ensures key { OnOk result (AddsKey parent.now index (priority_of grammar.now symbol)
+        ensures key { OnOk result (AddsKey parent.now index (priority_of self.old.symbols symbol)
             (length self.old.list.items) self.old.waiting.entries self.new.waiting.entries) }
         ensures list { self.new.list ≡ self.old.list }
         ensures streaks { self.new.streaks ≡ self.old.streaks }
-        ensures read { OnOk result (IsRead grammar.now self.new.symbols.read) }
+        ensures symbols { self.new.symbols ≡ self.old.symbols }
     {
-        let found = self.symbols.of(grammar, symbol)?;
+        let found = self.symbols.of(symbol)?;
         let key = child_key(alloc, parent, index, found.priority)?;
         let place = self.list.len();
         self.waiting.insert(key, place)?;
@@ -63,25 +59,24 @@ impl Run {
     fn place(
         &mut self,
         alloc: Global,
-        sources: &Sources,
         parent: &StampKey,
         own: Name,
         index: u16,
         emitted: Emitted,
     ) -> Result<(), NoMemory>
-        requires read { IsRead sources.now.grammar self.old.symbols.read }
         requires boxed { IsBoxed self.old.list.items self.old.streaks.items }
         ensures list { OnOk result (self.new.list.items ≡ self.old.list.items
             ++ placed_at parent.now.lot parent.now.path own index emitted ∷ []) }
-        ensures keys { OnOk result (KeepsKeys sources.now parent.now
+        ensures keys { OnOk result ((sources : Sources) → self.old.symbols ≡ sources.grammar
+            → KeepsKeys sources parent.now
             (sited parent.now.priorities (placed_at parent.now.lot parent.now.path own index emitted) ∷ [])
             self.old.list.items self.old.waiting.entries self.new.waiting.entries) }
-        ensures read { OnOk result (IsRead sources.now.grammar self.new.symbols.read) }
+        ensures symbols { self.new.symbols ≡ self.old.symbols }
         ensures boxed { OnOk result (IsBoxed self.new.list.items self.new.streaks.items) }
     {
         let path = child_path(alloc, &parent.path, index)?;
         if let Some(symbol) = waiting_symbol(&emitted) {
-            self.wait(alloc, &sources.grammar, parent, index, symbol)?;
+            self.wait(alloc, parent, index, symbol)?;
         }
         let member = member_of(alloc, parent, path, own, index, emitted);
         let streak = next_streak(self.streaks.as_slice(), member.shape.scope.world_box());
@@ -94,25 +89,24 @@ impl Run {
     fn place_all(
         &mut self,
         alloc: Global,
-        sources: &Sources,
         parent: &StampKey,
         own: Name,
         emitted: List<Emitted>,
     ) -> Result<(), NoMemory>
         requires few { length emitted ≤ MOST_CHILDREN }
-        requires read { IsRead sources.now.grammar self.old.symbols.read }
         requires boxed { IsBoxed self.old.list.items self.old.streaks.items }
         ensures list { OnOk result (self.new.list.items ≡ self.old.list.items
             ++ placed_from parent.now.lot parent.now.path own 0 emitted) }
-        ensures keys { OnOk result (KeepsKeys sources.now parent.now
+        ensures keys { OnOk result ((sources : Sources) → self.old.symbols ≡ sources.grammar
+            → KeepsKeys sources parent.now
             (sited_children parent.now own 0 emitted)
             self.old.list.items self.old.waiting.entries self.new.waiting.entries) }
-        ensures read { OnOk result (IsRead sources.now.grammar self.new.symbols.read) }
+        ensures symbols { self.new.symbols ≡ self.old.symbols }
         ensures boxed { OnOk result (IsBoxed self.new.list.items self.new.streaks.items) }
     {
         let mut index: u16 = 0;
         for child in emitted.into_vec() {
-            self.place(alloc, sources, parent, own, index, child)?;
+            self.place(alloc, parent, own, index, child)?;
             index += 1;
         }
         Ok(())
@@ -129,7 +123,7 @@ impl Run {
     ) -> Result<TraceStep, NoMemory>
         requires names { NamesDiffer sources.now.lots }
         requires within { place < vec_len self.old.list }
-        requires read { IsRead sources.now.grammar self.old.symbols.read }
+        requires symbols { self.old.symbols ≡ sources.now.grammar }
         requires boxed { IsBoxed self.old.list.items self.old.streaks.items }
         ensures turn { OnOk result ((n : ℕ)
             → IsInTurnOf sources.now n key place self.old.list.items self.old.waiting.entries
@@ -137,21 +131,21 @@ impl Run {
         ensures told { IfOk result (λ step. (n : ℕ)
             → IsInTurnOf sources.now n key place self.old.list.items self.old.waiting.entries
             → IsStepAfter sources.now n step) }
-        ensures read { OnOk result (IsRead sources.now.grammar self.new.symbols.read) }
+        ensures symbols { self.new.symbols ≡ self.old.symbols }
         ensures boxed { OnOk result (IsBoxed self.new.list.items self.new.streaks.items) }
         ensures ticks { OnOk result (expansions.new ≡ expansions.old + 1) }
         ensures counted { expansions.old ≤ expansions.new }
         ensures most { expansions.new ≤ expansions.old + 1 }
     {
         let own = self.list[place].shape.symbol;
-        let said = self.symbols.of(&sources.grammar, own)?;
+        let said = self.symbols.of(own)?;
         let shape = &self.list[place].shape;
         let answers = asked(said, self.list.as_slice(), self.streaks.as_slice(), shape);
         match expand(alloc, &sources.grammar, shape, &answers, expansions)? {
             Ok(emitted) => {
                 let grown = Outcome::Grew(emitted.len() as u16);
                 self.list[place].kind = Kind::Done;
-                self.place_all(alloc, sources, &key, own, emitted)?;
+                self.place_all(alloc, &key, own, emitted)?;
                 Ok(told(key, own, answers, grown))
             }
             Err(fault) => {
@@ -195,7 +189,7 @@ impl Run {
     }
 
     /// The roots, all waiting.
-    pub fn start(alloc: Global, sources: &Sources) -> Result<Run, NoMemory>
+    pub fn start(alloc: Global, sources: &'a Sources) -> Result<Run<'a>, NoMemory>
         requires names { NamesDiffer sources.now.lots }
         requires roots { RootsExist sources.now.lots }
         ensures { IfOk result (λ run. IsUnderway sources.now 0 run) }
@@ -203,9 +197,9 @@ impl Run {
         let mut list = Vec::new(alloc);
         let mut streaks = Vec::new(alloc);
         let mut waiting = BTreeMap::new(alloc);
-        let mut symbols = Symbols::new(alloc);
+        let mut symbols = Symbols::new(alloc, &sources.grammar);
         for lot in sources.lots.as_slice() {
-            let found = symbols.of(&sources.grammar, lot.symbol)?;
+            let found = symbols.of(lot.symbol)?;
             let key = root_key(alloc, sources.mode, lot.name, found.priority)?;
             let place = list.len();
             waiting.insert(key, place)?;
@@ -226,7 +220,7 @@ impl Run {
     }
 
     pub fn into_list(self) -> List<Placed>
-        ensures { result ≡ self.list.items }
+        ensures { result ≡ self.entry.list.items }
     {
         let Run {
             list,

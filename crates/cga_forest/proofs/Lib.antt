@@ -23,7 +23,6 @@ mod Above
 mod Laws
 mod ByName
 mod Grown
-mod Said
 mod Numbers
 mod Covered
 mod Heads

@@ -1,11 +1,10 @@
 -- What a node is when a grammar places it: the root of a lot, and the children of an expansion.
-use Rattle.std.specs.Prelude.{◌≡◌, ◌≤◌, ◌<◌, ◌+◌, ℕ, List, [], ◌∷◌, ◌++◌, length, Bool, false, ◌||◌, Option, None, Some, Result, Ok, Err}
+use Rattle.std.specs.Prelude.{◌≡◌, ◌≤◌, ◌<◌, ◌+◌, ℕ, List, [], ◌∷◌, ◌++◌, length, Bool, false, None, Result, Ok, Err}
 use Rattle.cga_rule.specs.declared.grammar.Grammar.{Grammar}
-use Rattle.cga_rule.specs.declared.grammar.Group.{Group}
-use Rattle.cga_check.specs.Groups.{group, mentions_target}
+use Rattle.cga_check.specs.Said.{asks_any, said}
+use Rattle.cga_check.specs.declared.said.Said.{Said}
 use Rattle.cga_word.specs.declared.answers.Answers.{Answers}
 use Rattle.cga_word.specs.declared.primitive.Primitive.{Primitive}
-use Rattle.cga_word.specs.declared.target.Target.TheVariants.{Noparent, Active}
 use Rattle.cga_order.specs.Head.{child_head}
 use Rattle.cga_order.specs.World.{is_instance}
 use Rattle.cga_order.specs.declared.placed.Kind.{Kind}
@@ -17,27 +16,9 @@ use Rattle.cga_shape.specs.declared.emitted.Emitted.{Emitted}
 use Rattle.cga_shape.specs.declared.emitted.Emitted.TheVariants.{Child, Solid}
 use Rattle.cga_shape.specs.declared.shape.Shape.{Shape}
 use Rattle.cga_shape.specs.declared.shape_fault.ShapeFault.{ShapeFault}
-use Rattle.cga_forest.specs.declared.last_setting.LastSetting.{LastSetting}
 use Rattle.cga_forest.specs.declared.node.Node.{Node}
 use Rattle.cga_forest.specs.declared.node.State.{State}
-use Rattle.cga_forest.specs.declared.setting.Setting.{Setting}
 use Rattle.cga_forest.specs.View.{Seen}
-
--- the priority of a group, and whether it mentions a target
-abbrev pub group_setting : Group → Setting
-group_setting g = record { priority = g.priority; asks = mentions_target g Noparent || mentions_target g Active }
-
-abbrev pub setting_for : Option Group → Setting
-setting_for None = record { priority = 0; asks = false }
-setting_for (Some g) = group_setting g
-
--- those of a symbol's group
-unfoldable pub setting : Grammar → List ℕ → Setting
-setting g symbol = setting_for (group g symbol)
-
--- what is kept of a symbol is what the grammar says
-abbrev pub IsSaid : Grammar → LastSetting → Type 0
-IsSaid g last = last.setting ≡ setting g last.symbol
 
 abbrev pub unasked : Answers
 unasked = record { noparent = None; active = None }
@@ -46,8 +27,8 @@ unasked = record { noparent = None; active = None }
 pub record IsRootNode (g : Grammar) (lot : Lot) (n : Node) : Type 0 where
   pub shape : root_of lot ≡ Ok n.shape
   pub kind : n.kind ≡ Waiting
-  pub priority : n.priority ≡ (setting g lot.symbol).priority
-  pub asks : n.asks ≡ (setting g lot.symbol).asks
+  pub priority : n.priority ≡ (said g lot.symbol).priority
+  pub asks : n.asks ≡ asks_any (said g lot.symbol)
   pub answers : n.answers ≡ unasked
   pub line : n.line ≡ n.priority ∷ []
 
@@ -62,12 +43,12 @@ child_kind (Child symbol args scope seed) = Waiting
 child_kind (Solid primitive scope seed) = Instance primitive
 
 -- an instance asks nothing
-abbrev pub child_asks : Setting → Emitted → Bool
-child_asks s (Child symbol args scope seed) = s.asks
+abbrev pub child_asks : Said → Emitted → Bool
+child_asks s (Child symbol args scope seed) = asks_any s
 child_asks s (Solid primitive scope seed) = false
 
-abbrev pub with_setting : Node → Shape → Emitted → Setting → Node
-with_setting n shape e s = record {
+abbrev pub with_said : Node → Shape → Emitted → Said → Node
+with_said n shape e s = record {
   shape = shape;
   kind = child_kind e;
   priority = s.priority;
@@ -80,7 +61,7 @@ with_setting n shape e s = record {
 
 -- child i of a node
 abbrev pub child_node : Grammar → Node → ℕ → Emitted → Node
-child_node g n i e = with_setting n (child_shape n i e) e (setting g (child_shape n i e).symbol)
+child_node g n i e = with_said n (child_shape n i e) e (said g (child_shape n i e).symbol)
 
 -- the children from number i on
 abbrev pub children_from : Grammar → Node → ℕ → List Emitted → List Node
@@ -100,7 +81,7 @@ kind_after (Err fault) = Faulted fault
 
 -- a node with its outcome and the answers that it was given
 abbrev pub state_after : Grammar → Node → Answers → Outcome → State
-state_after g n answers outcome = record { kind = kind_after outcome; answers = answers; asks = (setting g n.shape.symbol).asks }
+state_after g n answers outcome = record { kind = kind_after outcome; answers = answers; asks = asks_any (said g n.shape.symbol) }
 
 -- its children
 abbrev pub children_after : Grammar → Node → Outcome → List Node

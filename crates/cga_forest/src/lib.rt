@@ -18,7 +18,6 @@ mod former;
 mod former_box;
 mod holds;
 mod hull_tree;
-mod last_setting;
 mod listing;
 mod lots;
 mod mark;
@@ -28,7 +27,6 @@ mod new_hulls;
 mod node;
 mod placing;
 mod plan;
-mod setting;
 mod slots;
 mod standing;
 mod store;
@@ -45,13 +43,13 @@ ghost use Rattle.cga_forest.specs.Numbers.{KeepsNumbers};
 ghost use Rattle.cga_forest.specs.Placing.{MayGrow, children_after, state_after};
 ghost use Rattle.cga_forest.specs.Tree.{ForestView, HasInner, content_of, above, IsLeastHull, IsLeastAsking, NoneAsks, Replaces, node_at, marked_at, KeepsMark};
 
+use cga_check::Symbols;
 use cga_fraction::{List, NoMemory};
 use cga_frame::WorldBox;
 use cga_index::NodeId;
 use cga_kept_hulls::{Blocks, Spares};
 use cga_marked::MarkedMap;
 use cga_order::Chain;
-use cga_rule::Grammar;
 use cga_shape::{Answers, Emitted, ShapeFault};
 use cga_word::Mode;
 pub use change::Change;
@@ -62,7 +60,6 @@ pub use moved::Moved;
 pub use node::{Node, State};
 use placing::{children_after, kind_after};
 use plan::Plan;
-use setting::setting_of;
 use slots::{depth_of, parent_at, replace};
 use std::alloc::Global;
 use std::marker::Model;
@@ -179,10 +176,10 @@ impl Forest {
         node: NodeId,
         answers: Answers,
         outcome: &Result<List<Emitted>, ShapeFault>,
-        grammar: &Grammar,
+        symbols: &mut Symbols,
     ) -> Result<Change, NoMemory>
         requires here { (e : Seen) × (node_at self.old node ≡ Some e) × MayGrow e outcome.now }
-        ensures replaced { OnOk result ((e : Seen) → node_at self.old node ≡ Some e → Replaces (node_at self.old) (node_at self.new) node (state_after grammar.now e.node answers outcome.now) (children_after grammar.now e.node outcome.now)) }
+        ensures replaced { OnOk result ((e : Seen) → node_at self.old node ≡ Some e → Replaces (node_at self.old) (node_at self.new) node (state_after symbols.old e.node answers outcome.now) (children_after symbols.old e.node outcome.now)) }
         ensures unmarked { OnOk result ((c : ℕ) → node_at self.old c ≡ None → IsSome (node_at self.new c) → marked_at self.old c ≡ None) }
         ensures went { IfOk result (λ change. ListsMoved (node_at self.old) (node_at self.new) change.went) }
         ensures came { IfOk result (λ change. ListsMoved (node_at self.new) (node_at self.old) change.came) }
@@ -190,15 +187,16 @@ impl Forest {
         ensures numbers { KeepsNumbers self.old self.new }
         ensures mode { self.new.mode ≡ self.old.mode }
         ensures err { OnErr result (self.new ≡ self.old) }
+        ensures symbols { symbols.new ≡ symbols.old }
     {
         let id = slot_of(node);
         let parent = &self.store.entry(id).node;
-        let setting = setting_of(grammar, parent.shape.symbol);
-        let news = children_after(self.alloc, parent, outcome, grammar)?;
+        let said = symbols.of(parent.shape.symbol)?;
+        let news = children_after(self.alloc, parent, outcome, symbols)?;
         let state = State {
             kind: kind_after(outcome),
             answers,
-            asks: setting.asks,
+            asks: said.asks(),
         };
         self.replace_with(id, state, news)
     }

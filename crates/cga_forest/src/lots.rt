@@ -13,10 +13,10 @@ use crate::node::Node;
 use crate::placing::root_node;
 use crate::slots::set_aside;
 use crate::store::add_node;
+use cga_check::Symbols;
 use cga_fraction::NoMemory;
 use cga_index::NodeId;
 use cga_kept_hulls::Hulls;
-use cga_rule::Grammar;
 use cga_shape::Lot;
 use cga_word::Name;
 
@@ -58,19 +58,20 @@ impl Forest {
     }
 
     /// Adds the waiting root of a lot. Its number is none of a node that went since the mark, if one stands. Takes memory.
-    pub fn add_lot(&mut self, lot: &Lot, grammar: &Grammar) -> Result<NodeId, NoMemory>
+    pub fn add_lot(&mut self, lot: &Lot, symbols: &mut Symbols) -> Result<NodeId, NoMemory>
         requires new { HasNoLot self.old lot.now.name }
         requires scope { IsOk (root_scope lot.now) }
         ensures fresh { IfOk result (λ id. node_at self.old id ≡ None) }
         ensures unmarked { IfOk result (λ id. marked_at self.old id ≡ None) }
-        ensures root { IfOk result (λ id. (n : Node) × IsRootNode grammar.now lot.now n × (node_at self.new id ≡ Some (record { node = n; depth = 0; parent = None; index = 0; children = [] }))) }
+        ensures root { IfOk result (λ id. (n : Node) × IsRootNode symbols.old lot.now n × (node_at self.new id ≡ Some (record { node = n; depth = 0; parent = None; index = 0; children = [] }))) }
         ensures others { IfOk result (λ id. (other : ℕ) → other ≢ id → node_at self.new other ≡ node_at self.old other) }
         ensures mark { KeepsMark self.old self.new }
         ensures numbers { KeepsNumbers self.old self.new }
         ensures mode { self.new.mode ≡ self.old.mode }
         ensures err { OnErr result (self.new ≡ self.old) }
+        ensures symbols { symbols.new ≡ symbols.old }
     {
-        let node = root_node(self.alloc, lot, grammar)?;
+        let node = root_node(self.alloc, lot, symbols)?;
         let root = self.add_root(node)?;
         Ok(NodeId::new(root as u64))
     }

@@ -2,14 +2,12 @@
 ghost use Rattle.std.specs.Prelude.{◌≡◌, ◌<◌, ◌≤◌, ◌++◌, [], ◌∷◌, length, IfOk, IsOk};
 ghost use Rattle.cga_order.specs.Head.{child_head};
 ghost use Rattle.cga_shape.specs.Root.{root_scope};
-ghost use Rattle.cga_forest.specs.Placing.{IsRootNode, IsSaid, child_asks, child_kind, child_node, child_shape, children_after, children_from, emitted, kind_after, unasked};
+ghost use Rattle.cga_forest.specs.Placing.{IsRootNode, child_asks, child_kind, child_node, child_shape, children_after, children_from, emitted, kind_after, unasked};
 
-use crate::last_setting::LastSetting;
 use crate::node::Node;
-use crate::setting::{Setting, setting_of};
+use cga_check::{Said, Symbols};
 use cga_fraction::{List, NoMemory};
 use cga_order::child_head;
-use cga_rule::Grammar;
 use cga_shape::{Answers, Emitted, Kind, Lot, Shape, ShapeFault, root_shape};
 use std::alloc::Global;
 
@@ -23,19 +21,20 @@ fn unasked() -> Answers
 }
 
 /// The waiting root of a lot. Takes memory.
-pub fn root_node(alloc: Global, lot: &Lot, grammar: &Grammar) -> Result<Node, NoMemory>
+pub fn root_node(alloc: Global, lot: &Lot, symbols: &mut Symbols) -> Result<Node, NoMemory>
     requires scope { IsOk (root_scope lot.now) }
-    ensures { IfOk result (λ made. IsRootNode grammar.now lot.now made) }
+    ensures made { IfOk result (λ made. IsRootNode symbols.old lot.now made) }
+    ensures symbols { symbols.new ≡ symbols.old }
 {
-    let setting = setting_of(grammar, lot.symbol);
-    let line = extended(alloc, &[], setting.priority)?;
+    let said = symbols.of(lot.symbol)?;
+    let line = extended(alloc, &[], said.priority)?;
     Ok(Node {
         shape: root_shape(alloc, lot),
         kind: Kind::Waiting,
-        priority: setting.priority,
+        priority: said.priority,
         head: 0,
         answers: unasked(),
-        asks: setting.asks,
+        asks: said.asks(),
         line,
     })
 }
@@ -65,14 +64,15 @@ pub fn children_after(
     alloc: Global,
     parent: &Node,
     outcome: &Result<List<Emitted>, ShapeFault>,
-    grammar: &Grammar,
+    symbols: &mut Symbols,
 ) -> Result<Vec<Node>, NoMemory>
     requires few { length (emitted outcome.now) ≤ 4096 }
     requires low { 0 < length (emitted outcome.now) → length parent.now.line ≤ 256 }
-    ensures { IfOk result (λ made. made.items ≡ children_after grammar.now parent.now outcome.now) }
+    ensures made { IfOk result (λ made. made.items ≡ children_after symbols.old parent.now outcome.now) }
+    ensures symbols { symbols.new ≡ symbols.old }
 {
     match outcome {
-        Ok(emitted) => children(alloc, parent, emitted.as_slice(), grammar),
+        Ok(emitted) => children(alloc, parent, emitted.as_slice(), symbols),
         Err(_) => Ok(Vec::new(alloc)),
     }
 }
@@ -81,23 +81,16 @@ fn children(
     alloc: Global,
     parent: &Node,
     emitted: &[Emitted],
-    grammar: &Grammar,
+    symbols: &mut Symbols,
 ) -> Result<Vec<Node>, NoMemory>
     requires few { length emitted.now ≤ 4096 }
     requires low { 0 < length emitted.now → length parent.now.line ≤ 256 }
-    ensures { IfOk result (λ made. made.items ≡ children_from grammar.now parent.now 0 emitted.now) }
+    ensures made { IfOk result (λ made. made.items ≡ children_from symbols.old parent.now 0 emitted.now) }
+    ensures symbols { symbols.new ≡ symbols.old }
 {
     let mut made = Vec::with_capacity(alloc, emitted.len())?;
-    let mut last = LastSetting::of(grammar, parent.shape.symbol);
     for index in 0..emitted.len() {
-        let new = child(
-            alloc,
-            parent,
-            index as u16,
-            &emitted[index],
-            grammar,
-            &mut last,
-        )?;
+        let new = child(alloc, parent, index as u16, &emitted[index], symbols)?;
         made.push(new)?;
     }
     Ok(made)
@@ -108,24 +101,22 @@ fn child(
     parent: &Node,
     index: u16,
     emitted: &Emitted,
-    grammar: &Grammar,
-    last: &mut LastSetting,
+    symbols: &mut Symbols,
 ) -> Result<Node, NoMemory>
     requires low { length parent.now.line ≤ 256 }
-    requires said { IsSaid grammar.now last.old }
-    ensures made { IfOk result (λ made. made ≡ child_node grammar.now parent.now index emitted.now) }
-    ensures said { IsSaid grammar.now last.new }
+    ensures made { IfOk result (λ made. made ≡ child_node symbols.old parent.now index emitted.now) }
+    ensures symbols { symbols.new ≡ symbols.old }
 {
     let shape = child_shape(alloc, parent, index, emitted)?;
-    let setting = last.next(grammar, shape.symbol);
-    let line = extended(alloc, parent.line.as_slice(), setting.priority)?;
+    let said = symbols.of(shape.symbol)?;
+    let line = extended(alloc, parent.line.as_slice(), said.priority)?;
     Ok(Node {
         shape,
         kind: child_kind(emitted),
-        priority: setting.priority,
-        head: head_below(parent, setting.priority),
+        priority: said.priority,
+        head: head_below(parent, said.priority),
         answers: unasked(),
-        asks: child_asks(&setting, emitted),
+        asks: child_asks(said, emitted),
         line,
     })
 }
@@ -182,11 +173,11 @@ fn child_kind(emitted: &Emitted) -> Kind
     }
 }
 
-fn child_asks(setting: &Setting, emitted: &Emitted) -> bool
-    ensures { result ≡ child_asks setting.now emitted.now }
+fn child_asks(said: Said, emitted: &Emitted) -> bool
+    ensures { result ≡ child_asks said emitted.now }
 {
     match emitted {
-        Emitted::Child { .. } => setting.asks,
+        Emitted::Child { .. } => said.asks(),
         Emitted::Solid { .. } => false,
     }
 }

@@ -3,35 +3,30 @@ use Rattle.std.proofs.Common.{◌≡◌, ◌≢◌, ◌⊎◌, inl, inr, ℕ, Li
 use Rattle.std.specs.Prelude.{◌↔◌, is_some, nat_eq, slice_get}
 use Rattle.cga_index.specs.Tree.{Apart, Member}
 use Rattle.cga_order.specs.World.{Among}
-use Rattle.cga_rule.specs.declared.grammar.Entry.{Entry}
 use Rattle.cga_rule.specs.declared.grammar.Grammar.{Grammar}
-use Rattle.cga_check.specs.Groups as groups
 use Rattle.cga_fraction.proofs.Door.{None-not-Some as none_some, eq_or_ne as nat_cases, lt_or_eq_from_lt_suc as at_or_below, same_Some as some_same}
 use Rattle.cga_expand.specs.Derivation.{priority_of}
 use Rattle.cga_forest.specs.declared.moved.Moved.{Moved}
 use Rattle.cga_forest.specs.declared.node.Node.{Node}
 use Rattle.cga_forest.specs.Moved.{ListsMoved, ids_of, moved_of}
-use Rattle.cga_forest.specs.Placing.{IsRootNode, setting}
+use Rattle.cga_forest.specs.Placing.{IsRootNode}
 use Rattle.cga_forest.specs.View.{Seen}
 use Rattle.cga_forest.specs.Tree.{ForestView, HasNoLot, IsRootOf, KeepsMark, node_at, marked_at}
 use Rattle.cga_shape.specs.declared.lot.Lot.{Lot}
 use Rattle.cga_shape.specs.declared.sources.Sources.{Sources}
 use Rattle.cga_update.specs.Roots.{View, AreThere, AreWithin, Gains, IsGained, IsRootNamed}
+use Rattle.cga_update.proofs.Facts.{said_priority}
 use Rattle.cga_update.proofs.Lots.{root_name}
 use Rattle.cga_update.proofs.Members.{among_either, among_left, among_right, apart_join, ids_join, id_of}
 
-priority_first : (g : Grammar) (symbol : List ℕ) (o : Option Entry) → groups.first_entry g.rules symbol ≡ o
-    → (setting g symbol).priority ≡ priority_of g symbol
-unfolding setting priority_of groups.group groups.priority_of
-priority_first g symbol None is = rw is refl
-priority_first g symbol (Some e) is = rw is refl
-
--- a node is placed with its symbol's priority
-pub priority_set : (g : Grammar) (symbol : List ℕ) → (setting g symbol).priority ≡ priority_of g symbol
-priority_set g symbol = priority_first g symbol (groups.first_entry g.rules symbol) refl
-
 abbrev top_seen : Node → Seen
 top_seen n = record { node = n; depth = 0; parent = None; index = 0; children = [] }
+
+-- a root by a table of this grammar
+pub root_by : (symbols g : Grammar) (v : ForestView) (lot : Lot) (id : ℕ) → symbols ≡ g
+    → (n : Node) × IsRootNode symbols lot n × (node_at v id ≡ Some (top_seen n))
+    → (n : Node) × IsRootNode g lot n × (node_at v id ≡ Some (top_seen n))
+root_by symbols g v lot id same root = (root.0, subst (λ h. IsRootNode h lot root.0) same root.1, root.2)
 
 pub nothing_gained : (new : Sources) (v : ForestView) → Gains new v v
 nothing_gained new v = record {
@@ -58,7 +53,7 @@ module _ (new : Sources) (old now : ForestView) (lot : Lot) (listed : (i : ℕ) 
     top = refl;
     leaf = refl;
     waits = root.kind;
-    wanted = record { place = listed.0; lot = lot; listed = listed.1; root = record { shape = root.shape; priority = root.priority ∙ priority_set new.grammar lot.symbol } };
+    wanted = record { place = listed.0; lot = lot; listed = listed.1; root = record { shape = root.shape; priority = root.priority ∙ said_priority new.grammar lot.symbol } };
     unmarked = λ m. unmarked;
     first = λ b x w. absent b (x, w.0, w.1, w.2 ∙ named_now);
   }

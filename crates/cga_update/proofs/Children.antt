@@ -1,48 +1,25 @@
 -- The children that a forest makes of an outcome are those of the derivation, at their places and with their symbols'
 -- priorities.
 use Rattle.std.proofs.Common.{◌≡◌, ◌+◌, ℕ, zero, suc, List, [], ◌∷◌, map, refl, sym, ap, ◌∙◌, subst, inl, inr, Option, Some, None, true, false, Ok, Err, add-one, arith}
-use Rattle.std.specs.Prelude.{◌||◌, slice_get, unwrap_or}
+use Rattle.std.specs.Prelude.{slice_get}
 use Rattle.cga_word.specs.declared.answers.Answers.{Answers}
-use Rattle.cga_word.specs.declared.target.Target.TheVariants.{Noparent, Active}
-use Rattle.cga_rule.specs.declared.grammar.Entry.{Entry}
 use Rattle.cga_rule.specs.declared.grammar.Grammar.{Grammar}
-use Rattle.cga_rule.specs.declared.grammar.Group.{Group}
-use Rattle.cga_check.specs.Groups as groups
 use Rattle.cga_order.specs.World.{IsNew, is_instance}
 use Rattle.cga_shape.specs.declared.emitted.Emitted.{Emitted}
 use Rattle.cga_shape.specs.declared.emitted.Emitted.TheVariants.{Child, Solid}
 use Rattle.cga_shape.specs.declared.shape.Shape.{Shape}
 use Rattle.cga_shape.specs.declared.sources.Sources.{Sources}
-use Rattle.cga_expand.specs.Asked.{asks_for, group_asks}
 use Rattle.cga_expand.specs.Children.{placed_at, placed_from, placed_by}
 use Rattle.cga_expand.specs.Derivation.{children_of, priority_of}
 use Rattle.cga_expand.specs.Expand.{expand_of}
 use Rattle.cga_forest.specs.declared.node.Node.{Node}
 use Rattle.cga_forest.specs.Node.{with_state}
-use Rattle.cga_forest.specs.Placing.{Outcome, child_node, children_after, children_from, setting, setting_for, state_after}
+use Rattle.cga_forest.specs.Placing.{Outcome, child_node, children_after, children_from, state_after}
 use Rattle.cga_rework.specs.City.{StandsBelow}
 use Rattle.cga_rework.specs.Nodes.{placed_of}
 use Rattle.cga_rework.specs.Turn.{AreNews, IsOutcome, KeepsSelf}
-use Rattle.cga_update.specs.Edit.{asks_by, content, rules_of, shapes_of}
-
--- ---- a symbol's setting in the forest is what the derivation knows of it
-
-unwrapped : (g : Grammar) (symbol : List ℕ) (o : Option Entry) → groups.first_entry g.rules symbol ≡ o
-    → (setting_for (groups.group_with g.rules symbol o)).priority ≡ unwrap_or (groups.priority_in o) 0
-unwrapped g symbol None e = refl
-unwrapped g symbol (Some x) e = refl
-
-pub setting_priority : (g : Grammar) (symbol : List ℕ) → (setting g symbol).priority ≡ priority_of g symbol
-unfolding setting priority_of groups.group groups.priority_of
-setting_priority g symbol = unwrapped g symbol (groups.first_entry g.rules symbol) refl
-
-asked_by : (o : Option Group) → (setting_for o).asks ≡ (group_asks o Noparent || group_asks o Active)
-asked_by None = refl
-asked_by (Some group) = refl
-
-pub setting_asks : (g : Grammar) (s : Shape) → (setting g s.symbol).asks ≡ asks_by g s
-unfolding setting asks_for
-setting_asks g s = asked_by (groups.group g s.symbol)
+use Rattle.cga_update.specs.Edit.{content, rules_of, shapes_of}
+use Rattle.cga_update.proofs.Facts.{said_priority}
 
 -- ---- the children
 
@@ -92,8 +69,8 @@ module _ (g : Grammar) (n : Node) where
 
   pub priced_is : (i : ℕ) (e : Emitted)
       → (child_node g n i e).priority ≡ priority_of g (child_node g n i e).shape.symbol
-  priced_is i (Child symbol args scope seed) = setting_priority g symbol
-  priced_is i (Solid primitive scope seed) = setting_priority g n.shape.symbol
+  priced_is i (Child symbol args scope seed) = said_priority g symbol
+  priced_is i (Solid primitive scope seed) = said_priority g n.shape.symbol
 
 -- the contents that the forest is asked for stand where they must
 pub are_news : (new : Sources) (n : Node) (outcome : Outcome) → is_instance n.kind ≡ false

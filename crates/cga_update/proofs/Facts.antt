@@ -1,4 +1,4 @@
--- The facts of a symbol, once they are known.
+-- What is said of a symbol, and its facts, once they are known.
 use Rattle.std.proofs.Common.{◌≡◌, ◌⊎◌, inl, inr, ℕ, suc, List, [], ◌∷◌, ◌++◌, Bool, true, false, ◌||◌, cond, refl, sym, ap, ◌∙◌, subst, Option, Some, None, slice_get, ◌+◌, ◌<◌, ◌≤◌, length, arith}
 use Rattle.std.proofs.lemmas.Option.{slice_get_within}
 use Rattle.std.specs.Prelude.{unwrap_or, find, if◌then◌else◌, Result, Ok, Err, IfOk}
@@ -22,11 +22,14 @@ use Rattle.cga_word.specs.declared.target.Target.{Target}
 use Rattle.cga_word.specs.declared.target.Target.TheVariants.{Noparent, Active}
 use Rattle.cga_check.specs.Groups as groups
 use Rattle.cga_check.specs.Groups.{first_entry, group, group_with, is_of}
-use Rattle.cga_check.specs.Said.{said}
+use Rattle.cga_check.specs.Said.{asks_any, said}
+use Rattle.cga_check.specs.declared.said.Said.{Said}
+use Rattle.cga_shape.specs.declared.shape.Shape.{Shape}
 use Rattle.cga_expand.specs.Asked.{group_asks, asks_for}
 use Rattle.cga_expand.specs.Derivation.{priority_of}
 use Rattle.cga_update.specs.declared.changed.Facts.{Facts}
 use Rattle.cga_update.specs.Changed.{AreFacts, AreKnown, IsNoted, KeepsNoted}
+use Rattle.cga_update.specs.Edit.{asks_by}
 use Rattle.cga_update.proofs.Members.{among_left, among_right}
 pub use Rattle.cga_fraction.proofs.Door.{IfOk-map as on_value}
 
@@ -64,6 +67,15 @@ said_active g symbol = same_asks (group g symbol) Active
 pub said_priority : (g : Grammar) (symbol : List ℕ) → (said g symbol).priority ≡ priority_of g symbol
 unfolding said priority_of
 said_priority g symbol = refl
+
+pub said_asks : (g : Grammar) (s : Shape) → asks_any (said g s.symbol) ≡ asks_by g s
+said_asks g s = λ i. said_noparent g s.symbol i || said_active g s.symbol i
+
+-- what a table of a grammar tells is the priority
+pub priority_told : (symbols g : Grammar) (symbol : List ℕ) (told : Said) → told ≡ said symbols symbol → symbols ≡ g
+    → told.priority ≡ priority_of g symbol
+priority_told symbols g symbol told is same =
+    ap (λ (t : Said). t.priority) is ∙ (said_priority symbols symbol ∙ ap (λ h. priority_of h symbol) same)
 
 pub first_priority : (g : Grammar) (symbol : List ℕ) → unwrap_or (groups.priority_of g symbol) 0 ≡ priority_of g symbol
 unfolding priority_of

@@ -18,10 +18,8 @@ use Rattle.cga_expand.specs.Settings.{Setting}
 use Rattle.cga_forest.specs.Node.{chain_kept}
 use Rattle.cga_forest.specs.View.{Seen}
 use Rattle.cga_forest.specs.Tree.{node_at}
-use Rattle.cga_update.specs.declared.changed.Symbols.{Symbols}
 use Rattle.cga_update.specs.declared.work.Work.{Work}
 use Rattle.cga_queue.specs.Agenda.{AgendaView, IsLeast}
-use Rattle.cga_update.specs.Changed.{AreKnown}
 use Rattle.cga_update.specs.Edit.{asks_by, content, kept_nodes, ranked, rules_of, shapes_of, the_edit}
 use Rattle.cga_update.specs.Means.{Means}
 use Rattle.cga_update.specs.Queue.{chains_of, on_of}
@@ -88,9 +86,8 @@ module _ (was now : Work) (rest : AgendaView) (id : ℕ) (x : Chain) (edit : The
 
     -- ---- what it means then
 
-    still_means : (symbols : Symbols) → AreKnown was.renewal.old.now.grammar new.grammar symbols.known
-        → Means (record passed { symbols = symbols }) edit after
-    still_means symbols known = record {
+    still_means : Means passed edit after
+    still_means = record {
       edit_is = means.edit_is;
       old_names = means.old_names;
       names = means.names;
@@ -106,11 +103,12 @@ module _ (was now : Work) (rest : AgendaView) (id : ℕ) (x : Chain) (edit : The
       plain = means.plain;
       gone = means.gone;
       come = means.come;
-      known = known;
+      symbols = means.symbols;
+      grammars = means.grammars;
       marked = means.marked;
       logged = means.logged;
     }
 
     pub quiet_means : (calls since : ℕ) → since ≡ calls + calls_of turned.expanded
         → (last : TheState) × Means now edit last × Turns edit s last calls since turned.children
-    quiet_means calls since ticks = (after, subst (λ (w : Work). Means w edit after) (sym turn.stays) (still_means now.symbols turn.known), turns calls since ticks)
+    quiet_means calls since ticks = (after, subst (λ (w : Work). Means w edit after) (sym turn.stays) still_means, turns calls since ticks)

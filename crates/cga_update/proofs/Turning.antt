@@ -36,7 +36,7 @@ use Rattle.cga_rework.specs.Changes.{ListsLost}
 use Rattle.cga_rework.specs.Turn as theory
 use Rattle.cga_update.specs.declared.work.Work.{Work}
 use Rattle.cga_queue.specs.Agenda.{AgendaView, IsLeast}
-use Rattle.cga_update.specs.Changed.{AreKnown}
+use Rattle.cga_update.specs.Both.{both}
 use Rattle.cga_update.specs.Due.{AllCame, ComersAreDue}
 use Rattle.cga_update.specs.Edit.{asks_by, content, kept_nodes, meets_box, ranked, rules_of, shapes_of, the_edit}
 use Rattle.cga_check.specs.Uses.{same_name}
@@ -46,7 +46,8 @@ use Rattle.cga_update.specs.Log.{IsLogged, StayAlike, came_of, drawn_of, is_of, 
 use Rattle.cga_update.specs.Means.{ArePriced, Means, told_ranked}
 use Rattle.cga_update.specs.Queue.{chains_of, on_of}
 use Rattle.cga_update.specs.Turned.{IsPlacing, MayTurn}
-use Rattle.cga_update.proofs.Children.{are_news, is_outcome, keeps_self, setting_asks}
+use Rattle.cga_update.proofs.Children.{are_news, is_outcome, keeps_self}
+use Rattle.cga_update.proofs.Facts.{said_asks}
 use Rattle.cga_update.proofs.Edits.{by_symbol, is_rules_edit}
 use Rattle.cga_update.proofs.Idle.{TheEdit, TheState}
 use Rattle.cga_update.proofs.Moved.{is_moved, still_due}
@@ -60,7 +61,7 @@ use Rattle.cga_update.proofs.Renewing.{are_again, count_made, still_plain, still
 
 pub may_turn : (w : Work) (rest : AgendaView) (edit : TheEdit) (s : TheState) → Means w edit s
     → MayTurn (record w { agenda = rest })
-may_turn w rest edit s means = record { mode = means.mode; known = means.known; plain = means.plain }
+may_turn w rest edit s means = record { mode = means.mode; symbols = means.symbols; grammars = means.grammars; plain = means.plain }
 
 -- an expansion makes as many children as were emitted
 expansion_count : (old new : Sources) (n : Ranked Shape) (a : Answers)
@@ -102,7 +103,7 @@ module _ (was now : Work) (rest : AgendaView) (id : ℕ) (x : Chain) (turned : T
   inner = taken.0
 
   replaces : Replaces V T id (state_after g e.node turn.answers turn.outcome) news
-  replaces = turn.placed.1.replaced e turn.here
+  replaces = subst (λ h. Replaces V T id (state_after h e.node turn.answers turn.outcome) (children_after h e.node turn.outcome)) means.symbols (turn.placed.1.replaced e turn.here)
 
   abbrev gone : ℕ → Bool
   gone = replaces.2
@@ -183,7 +184,7 @@ module _ (was now : Work) (rest : AgendaView) (id : ℕ) (x : Chain) (turned : T
     replaced = replaced;
     tree = turn.placed.1.forest.present.tree;
     self = keeps_self new e.node turn.answers turn.outcome inner;
-    self_asks = setting_asks g e.node.shape;
+    self_asks = said_asks g e.node.shape;
     are = are_news new e.node turn.outcome inner;
     outcome = told;
     moved = is_moved was.forest now.forest new id news e after_e gone replaced inner still refl rest now.agenda (least.mode ∙ means.agenda_mode) turn.placed.0 turn.placed.1.went turn.placed.1.came was.all_came turn.placed.1.followed comers all_came;
@@ -278,7 +279,8 @@ module _ (was now : Work) (rest : AgendaView) (id : ℕ) (x : Chain) (turned : T
     plain = still_plain was.forest now.forest before g id turn.outcome e after_e gone replaced refl means.plain;
     gone = turn.placed.1.gone ∙ (λ i. means.gone i ++ sym went.2 i) ∙ sym (map_both told_ranked s.gone went.0);
     come = turn.placed.1.come ∙ (λ i. means.come i ++ sym came.2 i) ∙ sym (map_both told_ranked s.come came.0);
-    known = to_new (λ b. AreKnown now.renewal.old.now.grammar b.now.grammar now.symbols.known) (to_old (λ b. AreKnown b.now.grammar new.grammar now.symbols.known) turn.known);
+    symbols = to_new (λ b. now.symbols ≡ b.now.grammar) (turn.placed.1.bounds.symbols ∙ means.symbols);
+    grammars = to_new (λ b. now.grammars ≡ both now.renewal.old.now.grammar b.now.grammar) (to_old (λ b. now.grammars ≡ both b.now.grammar g) (turn.placed.1.bounds.grammars ∙ means.grammars));
     marked = turn.placed.1.bounds.mark.0 ∙ means.marked;
     logged = λ name c. log_is name c ∙ (λ i. noted_all (sym turn.placed.1.log i) name c (is_of (sym (turn.placed.1.bounds.mark.1 means.marked c) i) name));
   }

@@ -19,7 +19,7 @@ use Rattle.cga_update.specs.declared.work.Work.{Work}
 use Rattle.cga_queue.specs.Agenda.{AgendaView, HasAll}
 use Rattle.cga_update.specs.Applied.{ListsView}
 use Rattle.cga_update.specs.Askers.{IsAsker, IsOneOf}
-use Rattle.cga_update.specs.Changed.{AreKnown}
+use Rattle.cga_update.specs.Both.{both}
 use Rattle.cga_update.specs.Edit.{asks_by, content, kept_nodes, rules_of, shapes_of, the_edit}
 use Rattle.cga_update.specs.Means.{Means}
 use Rattle.cga_update.specs.Plain.{IsPlain}
@@ -47,7 +47,8 @@ IsBetween old new w = (w.renewal.old.now ≡ old) × (w.renewal.new.now ≡ new)
 -- nothing of the work is done yet
 pub record IsFresh (w : Work) : Type 0 where
   pub mode : w.agenda.mode ≡ w.renewal.new.now.mode
-  pub symbols : AreKnown w.renewal.old.now.grammar w.renewal.new.now.grammar w.symbols.known
+  pub symbols : w.symbols ≡ w.renewal.new.now.grammar
+  pub grammars : w.grammars ≡ both w.renewal.old.now.grammar w.renewal.new.now.grammar
   pub log : w.log.items ≡ []
   pub gone : w.gone.items ≡ []
   pub come : w.come.items ≡ []

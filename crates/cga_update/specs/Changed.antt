@@ -1,21 +1,16 @@
--- What the old and the new grammar of an edit say of a symbol.
+-- Whether the old and the new grammar of an edit say the same of a symbol.
 use Rattle.std.specs.Prelude.{◌≡◌, ◌↔◌, ◌⊎◌, ℕ, List, Some, IsTrue}
 use Rattle.std.specs.BTreeMap.{BTreeMap, get}
 use Rattle.std.specs.Ordering.{nat_cmp}
 use Rattle.std.specs.Cmp.Lexicographic.{slice_cmp}
 use Rattle.cga_order.specs.World.{Among}
-use Rattle.cga_word.specs.declared.target.Target.TheVariants.{Noparent, Active}
 use Rattle.cga_rule.specs.declared.grammar.Grammar.{Grammar}
-use Rattle.cga_expand.specs.Asked.{asks_for}
 use Rattle.cga_expand.specs.Derivation.{priority_of}
 use Rattle.cga_expand.specs.Settings.{setting_of}
 use Rattle.cga_update.specs.declared.changed.Facts.{Facts}
 
 -- the facts are those of the symbol
 pub record AreFacts (old new : Grammar) (symbol : List ℕ) (facts : Facts) : Type 0 where
-  pub noparent : facts.said.noparent ≡ asks_for new symbol Noparent
-  pub active : facts.said.active ≡ asks_for new symbol Active
-  pub priority : facts.said.priority ≡ priority_of new symbol
   pub setting : IsTrue facts.same_setting ↔ (setting_of old symbol ≡ setting_of new symbol)
   pub priorities : IsTrue facts.same_priority ↔ (priority_of old symbol ≡ priority_of new symbol)
 

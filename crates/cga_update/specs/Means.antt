@@ -18,7 +18,7 @@ use Rattle.cga_expand.specs.Settings.{Setting}
 use Rattle.cga_forest.specs.View.{Seen}
 use Rattle.cga_forest.specs.Tree.{ForestView, KeepsMark, marked_at, node_at}
 use Rattle.cga_update.specs.declared.work.Work.{Work}
-use Rattle.cga_update.specs.Changed.{AreKnown}
+use Rattle.cga_update.specs.Both.{both}
 use Rattle.cga_update.specs.Due.{AllCame, ComersAreDue}
 use Rattle.cga_update.specs.Edit.{asks_by, content, kept_nodes, rules_of, shapes_of, the_edit}
 use Rattle.cga_update.specs.Log.{IsLogged}
@@ -55,16 +55,19 @@ pub record Means (w : Work) (edit : Edit (Ranked Shape) Answers Setting ShapeFau
   pub plain : (c : ℕ) (d : Seen) → node_at w.forest c ≡ Some d → IsPlain d
   pub gone : w.gone.items ≡ map told_ranked s.gone
   pub come : w.come.items ≡ map told_ranked s.come
-  pub known : AreKnown w.renewal.old.now.grammar w.renewal.new.now.grammar w.symbols.known
+  pub symbols : w.symbols ≡ w.renewal.new.now.grammar
+  pub grammars : w.grammars ≡ both w.renewal.old.now.grammar w.renewal.new.now.grammar
   -- the log makes the nodes of each symbol of those at the mark
   pub marked : w.forest.marking ≡ true
   pub logged : IsLogged (marked_at w.forest) (node_at w.forest) w.log.items
 
--- the sources, the mode and the mark are as they were, and so is whether all nodes came and are priced
+-- the sources and their grammars, the mode and the mark are as they were, and so is whether all nodes came and are priced
 pub record KeepsBounds (was now : Work) : Type 0 where
   pub old : now.renewal.old ≡ was.renewal.old
   pub new : now.renewal.new ≡ was.renewal.new
   pub mode : now.forest.mode ≡ was.forest.mode
   pub mark : KeepsMark was.forest now.forest
+  pub symbols : now.symbols ≡ was.symbols
+  pub grammars : now.grammars ≡ was.grammars
   pub all_came : now.all_came ≡ was.all_came
   pub priced : now.priced ≡ was.priced

@@ -21,7 +21,7 @@ use Rattle.cga_forest.specs.Placing.{Outcome, children_after, emitted, kind_afte
 use Rattle.cga_forest.specs.View.{Seen}
 use Rattle.cga_forest.specs.Tree.{ForestView, IsForest, Replaces, marked_at, node_at}
 use Rattle.cga_update.specs.declared.work.Work.{Work}
-use Rattle.cga_update.specs.Changed.{AreKnown}
+use Rattle.cga_update.specs.Both.{both}
 use Rattle.cga_update.specs.Edit.{asks_by, kept_nodes, ranked, the_edit}
 use Rattle.cga_update.specs.Follow.{IsFollowed}
 use Rattle.cga_update.specs.Log.{came_of, drawn_of, went_of}
@@ -32,7 +32,7 @@ use Rattle.cga_update.specs.Plain.{IsPlain}
 pub record IsPlaced (was now : Work) (id : ℕ) (answers : Answers) (outcome : Outcome) (change : Change) : Type 0 where
   pub replaced : (e : Seen) → node_at was.forest id ≡ Some e
       → Replaces (node_at was.forest) (node_at now.forest) id
-      (state_after was.renewal.new.now.grammar e.node answers outcome) (children_after was.renewal.new.now.grammar e.node outcome)
+      (state_after was.symbols e.node answers outcome) (children_after was.symbols e.node outcome)
   pub unmarked : (c : ℕ) → node_at was.forest c ≡ None → IsSome (node_at now.forest c) → marked_at was.forest c ≡ None
   pub went : ListsMoved (node_at was.forest) (node_at now.forest) change.went
   pub came : ListsMoved (node_at now.forest) (node_at was.forest) change.came
@@ -101,7 +101,6 @@ pub record IsPlacing (was now : Work) (id : ℕ) (turned : Turned) : Type 0 wher
       (kept_nodes was.forest) (ranked node.node)
   pub outcome : Outcome
   pub placed : HasPlaced was now id answers outcome
-  pub known : AreKnown was.renewal.old.now.grammar was.renewal.new.now.grammar now.symbols.known
   pub told : ((turned.expanded ≡ true) × IsExpanded was node answers outcome turned.children)
       ⊎ ((turned.expanded ≡ false) × IsPlacedAgain was node answers outcome turned.children)
 
@@ -114,8 +113,7 @@ pub record IsQuiet (was now : Work) (id : ℕ) (turned : Turned) : Type 0 where
       (kept.asked (new_world (the_edit was.renewal.old.now was.renewal.new.now)) (kept_nodes was.forest) (ranked node.node))
   pub asks : node.node.asks ≡ asks_by was.renewal.new.now.grammar node.node.shape
   pub priced : was.priced ≡ true
-  pub stays : now ≡ record was { symbols = now.symbols }
-  pub known : AreKnown was.renewal.old.now.grammar was.renewal.new.now.grammar now.symbols.known
+  pub stays : now ≡ was
   pub told : turned ≡ record { children = 0; expanded = false }
 
 -- the turn of a node
@@ -125,5 +123,6 @@ IsTurned was now id turned = IsPlacing was now id turned ⊎ IsQuiet was now id 
 -- what a turn rests on
 pub record MayTurn (w : Work) : Type 0 where
   pub mode : w.forest.mode ≡ w.renewal.new.now.mode
-  pub known : AreKnown w.renewal.old.now.grammar w.renewal.new.now.grammar w.symbols.known
+  pub symbols : w.symbols ≡ w.renewal.new.now.grammar
+  pub grammars : w.grammars ≡ both w.renewal.old.now.grammar w.renewal.new.now.grammar
   pub plain : (c : ℕ) (d : Seen) → node_at w.forest c ≡ Some d → IsPlain d

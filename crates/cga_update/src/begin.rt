@@ -5,12 +5,13 @@ ghost use Rattle.cga_queue.specs.Agenda.{OneEach};
 ghost use Rattle.cga_update.specs.Queue.{chains_of};
 ghost use Rattle.cga_update.specs.Begun.{HasBegun, HasMoved, IsBetween, IsFresh, StandsMarked};
 
-use crate::changed::Symbols;
+use crate::changed::Grammars;
 use crate::log::{note_came, note_went};
 use crate::queue::{add_moved, queue_changed, queue_near};
 use crate::renewal::Renewal;
 use crate::roots::{add_roots, remove_roots};
 use crate::work::Work;
+use cga_check::Symbols;
 use cga_depend::Dependents;
 use cga_forest::{Forest, Moved};
 use cga_fraction::{NoMemory, Tests};
@@ -61,7 +62,7 @@ fn begin<T: Ledger>(
         &mut went,
     )?;
     work.all_came = work.forest.count() == 0;
-    let came = add_roots(alloc, &mut work.forest, renewal.new)?;
+    let came = add_roots(alloc, &mut work.forest, &mut work.symbols, renewal.new)?;
     let went_nodes = went.as_slice();
     let came_nodes = came.as_slice();
     note_went(went_nodes, &mut work.log, &mut work.gone)?;
@@ -77,8 +78,7 @@ fn begin<T: Ledger>(
     let priced = queue_changed(
         &mut work.agenda,
         &work.forest,
-        &mut work.symbols,
-        renewal,
+        &mut work.grammars,
         dependents,
     )?;
     work.priced = priced;
@@ -105,7 +105,8 @@ pub fn begun<'a, T: Ledger>(
         agenda: Agenda::new(alloc, renewal.new.mode),
         all_came: false,
         priced: false,
-        symbols: Symbols::new(alloc),
+        symbols: Symbols::new(alloc, &renewal.new.grammar),
+        grammars: Grammars::new(alloc, &renewal.old.grammar, &renewal.new.grammar),
         log: Vec::new(alloc),
         gone: Vec::new(alloc),
         come: Vec::new(alloc),

@@ -1,115 +1,118 @@
-//! What the two grammars of an edit say of a symbol, and for which symbols they differ.
+//! For which symbols the two grammars of an edit differ.
 ghost use Rattle.std.specs.Prelude.{◌≡◌, ◌↔◌, IsTrue};
 ghost use Rattle.std.specs.List.{list_any};
 ghost use Rattle.cga_check.specs.Uses.{same_name};
 ghost use Rattle.cga_expand.specs.Settings.{setting_of};
 ghost use Rattle.cga_update.specs.Changed.{AreFacts};
 
-use cga_check::{Said, said_of, symbol_priority};
+use cga_check::symbol_priority;
 use cga_fraction::NoMemory;
 use cga_rule::{Entry, Grammar};
 use cga_same::same_setting;
 use cga_word::Name;
 use std::alloc::Global;
 use std::collections::BTreeMap;
+use std::marker::Model;
 
-/// What the new grammar says of the shapes of a symbol, and whether the old one says the same.
+/// Whether the two grammars of an edit say the same of the shapes of a symbol.
 #[derive(Clone, Copy)]
 pub struct Facts {
-    pub said: Said,
     /// Whether the group and the attributes that it mentions are the old ones.
     pub same_setting: bool,
     pub same_priority: bool,
 }
 
-/// The facts of the symbols that were asked for so far.
+/// The two grammars of an edit, with the facts of the symbols that were asked for so far.
 #[derive(Drop)]
-pub struct Symbols {
-    pub known: BTreeMap<Name, Facts>,
+pub struct Grammars<'a> {
+    before: &'a Grammar,
+    after: &'a Grammar,
+    known: BTreeMap<Name, Facts>,
 }
 
-impl Symbols {
+impl<'a> Model for Grammars<'a> {
+    ghost use Rattle.std.specs.Prelude.{refl};
+    ghost use Rattle.std.specs.Coded.{code_by, coded×};
+    ghost use Rattle.cga_rule.specs.declared.grammar.Grammar.{Grammar};
+    ghost use Rattle.cga_rule.specs.contracts.grammar.Grammar as of_grammar;
+    ghost use Rattle.cga_update.specs.Both.{BothGrammars};
+
+    ghost Value = { BothGrammars };
+
+    ghost coded = { code_by (Grammar × Grammar) (coded× of_grammar.the_row.coded of_grammar.the_row.coded) (λ g. (g.before, g.after)) (λ p. record { before = p.0; after = p.1 }) (λ _. refl) };
+
+    ghost use Rattle.cga_update.specs.Changed.{AreKnown};
+
+    ghost view = { λ g. record { before = g.before.now; after = g.after.now } };
+
+    ghost invariant = { λ g. AreKnown g.before.now g.after.now g.known };
+}
+
+impl<'a> Grammars<'a> {
     ghost use Rattle.std.specs.Prelude.{◌≡◌, ℕ, List, Some, slice_get, IfOk, OnOk};
     ghost use Rattle.cga_rule.specs.declared.grammar.Entry.{Entry};
-    ghost use Rattle.cga_rule.specs.declared.grammar.Grammar.{Grammar};
-    ghost use Rattle.cga_update.specs.Changed.{AreFacts, AreKnown, IsNoted, KeepsNoted};
+    ghost use Rattle.cga_update.specs.Both.{both};
+    ghost use Rattle.cga_update.specs.Changed.{AreFacts, IsNoted, KeepsNoted};
 
     /// Takes no memory.
-    pub fn new(alloc: Global) -> Symbols
-        ensures { (old new : Grammar) → AreKnown old new result.known }
+    pub fn new(alloc: Global, before: &'a Grammar, after: &'a Grammar) -> Grammars<'a>
+        ensures { result ≡ both before.now after.now }
     {
-        Symbols {
+        Grammars {
+            before,
+            after,
             known: BTreeMap::new(alloc),
         }
     }
 
     /// Takes memory where the symbol comes for the first time; the time goes then by the rules of both grammars.
-    pub fn of(&mut self, old: &Grammar, new: &Grammar, symbol: Name) -> Result<Facts, NoMemory>
-        ensures facts { IfOk result (λ facts. AreKnown old.now new.now self.old.known → AreFacts old.now new.now symbol facts) }
-        ensures known { OnOk result (AreKnown old.now new.now self.old.known → AreKnown old.now new.now self.new.known) }
+    pub fn of(&mut self, symbol: Name) -> Result<Facts, NoMemory>
+        ensures facts { IfOk result (λ facts. AreFacts self.old.before self.old.after symbol facts) }
+        ensures grammars { self.new ≡ self.old }
     {
         if let Some(facts) = self.known.get(&symbol) {
             return Ok(*facts);
         }
-        let facts = facts_of(old, new, symbol);
+        let facts = facts_of(self.before, self.after, symbol);
         self.known.insert(symbol, facts)?;
         Ok(facts)
     }
 
     /// The symbols whose setting changed, each once: none where the grammar is the same. Takes memory; the time goes by
     /// the square of the rules.
-    pub fn changed(
-        &mut self,
-        alloc: Global,
-        old: &Grammar,
-        new: &Grammar,
-    ) -> Result<Vec<Name>, NoMemory>
-        requires { AreKnown old.now new.now self.old.known }
-        ensures listed { IfOk result (λ list. (symbol : List ℕ) → IsNoted old.now new.now list.items symbol) }
-        ensures known { OnOk result (AreKnown old.now new.now self.new.known) }
+    pub fn changed(&mut self, alloc: Global) -> Result<Vec<Name>, NoMemory>
+        ensures listed { IfOk result (λ list. (symbol : List ℕ) → IsNoted self.old.before self.old.after list.items symbol) }
+        ensures grammars { self.new ≡ self.old }
     {
-        if *old == *new {
+        let (before, after) = (self.before, self.after);
+        if *before == *after {
             return Ok(Vec::new(alloc));
         }
         let mut list = Vec::new(alloc);
-        self.note_all(old, new, old.rules.as_slice(), &mut list)?;
-        self.note_all(old, new, new.rules.as_slice(), &mut list)?;
+        self.note_all(before.rules.as_slice(), &mut list)?;
+        self.note_all(after.rules.as_slice(), &mut list)?;
         Ok(list)
     }
 
     /// Lists the symbols of rules whose setting changed.
-    fn note_all(
-        &mut self,
-        old: &Grammar,
-        new: &Grammar,
-        entries: &[Entry],
-        list: &mut Vec<Name>,
-    ) -> Result<(), NoMemory>
-        requires { AreKnown old.now new.now self.old.known }
-        ensures noted { OnOk result ((i : ℕ) (e : Entry) → slice_get entries.now i ≡ Some e → IsNoted old.now new.now list.new.items e.rule.symbol) }
-        ensures kept { OnOk result (KeepsNoted old.now new.now list.old.items list.new.items) }
-        ensures known { OnOk result (AreKnown old.now new.now self.new.known) }
+    fn note_all(&mut self, entries: &[Entry], list: &mut Vec<Name>) -> Result<(), NoMemory>
+        ensures noted { OnOk result ((i : ℕ) (e : Entry) → slice_get entries.now i ≡ Some e → IsNoted self.old.before self.old.after list.new.items e.rule.symbol) }
+        ensures kept { OnOk result (KeepsNoted self.old.before self.old.after list.old.items list.new.items) }
+        ensures grammars { self.new ≡ self.old }
     {
         for entry in entries {
-            self.note(old, new, entry.rule.symbol, list)?;
+            self.note(entry.rule.symbol, list)?;
         }
         Ok(())
     }
 
     /// Lists a symbol, where its setting changed and it isn't there.
-    fn note(
-        &mut self,
-        old: &Grammar,
-        new: &Grammar,
-        symbol: Name,
-        list: &mut Vec<Name>,
-    ) -> Result<(), NoMemory>
-        requires { AreKnown old.now new.now self.old.known }
-        ensures noted { OnOk result (IsNoted old.now new.now list.new.items symbol) }
-        ensures kept { OnOk result (KeepsNoted old.now new.now list.old.items list.new.items) }
-        ensures known { OnOk result (AreKnown old.now new.now self.new.known) }
+    fn note(&mut self, symbol: Name, list: &mut Vec<Name>) -> Result<(), NoMemory>
+        ensures noted { OnOk result (IsNoted self.old.before self.old.after list.new.items symbol) }
+        ensures kept { OnOk result (KeepsNoted self.old.before self.old.after list.old.items list.new.items) }
+        ensures grammars { self.new ≡ self.old }
     {
-        let facts = self.of(old, new, symbol)?;
+        let facts = self.of(symbol)?;
         if facts.same_setting {
             return Ok(());
         }
@@ -130,12 +133,11 @@ fn has_name(names: &[Name], name: Name) -> bool
 fn facts_of(old: &Grammar, new: &Grammar, symbol: Name) -> Facts
     ensures { AreFacts old.now new.now symbol result }
 {
-    let said = said_of(new, symbol);
     let before = symbol_priority(old, symbol).unwrap_or(0);
+    let after = symbol_priority(new, symbol).unwrap_or(0);
     Facts {
-        said,
         same_setting: has_same_setting(old, new, symbol),
-        same_priority: before == said.priority,
+        same_priority: before == after,
     }
 }
 

@@ -2,15 +2,13 @@
 ghost use Rattle.std.specs.Prelude.{◌≡◌, ℕ, List, true, IfOk, OnOk};
 ghost use Rattle.cga_order.specs.World.{Among};
 ghost use Rattle.cga_update.specs.Askers.{IsAsker, IsOneOf};
-ghost use Rattle.cga_update.specs.Changed.{AreKnown};
 ghost use Rattle.cga_update.specs.Near.{IsAny, IsChangedFor, IsParent, IsParentOf, IsPricedFor, KeepsPriorities, KeepsPriority};
 ghost use Rattle.cga_depend.specs.Pairs.{nodes_in};
 ghost use Rattle.cga_queue.specs.Agenda.{Grows, HasAll, OneEach};
 ghost use Rattle.cga_update.specs.Queue.{chains_of};
 
 use crate::askers::askers_near;
-use crate::changed::Symbols;
-use crate::renewal::Renewal;
+use crate::changed::Grammars;
 use crate::worked::Worked;
 use cga_depend::Dependents;
 use cga_forest::{Forest, Moved};
@@ -79,20 +77,18 @@ pub fn queue_parents(agenda: &mut Agenda, forest: &Forest, ids: &[NodeId]) -> Re
 fn queue_symbol(
     agenda: &mut Agenda,
     forest: &Forest,
-    symbols: &mut Symbols,
-    renewal: Renewal,
+    grammars: &mut Grammars,
     nodes: &[NodeId],
     symbol: Name,
 ) -> Result<bool, NoMemory>
     requires one { OneEach (chains_of forest.now) }
-    requires known { AreKnown renewal.old.now.grammar renewal.new.now.grammar symbols.old.known }
-    ensures known { OnOk result (AreKnown renewal.entry.old.now.grammar renewal.entry.new.now.grammar symbols.new.known) }
+    ensures grammars { grammars.new ≡ grammars.old }
     ensures grows { OnOk result (Grows (chains_of forest.now) IsAny agenda.old agenda.new) }
     ensures there { OnOk result (HasAll (chains_of forest.now) (λ c. Among c nodes.now) agenda.new) }
-    ensures parents { OnOk result (IsPricedFor forest.now renewal.entry.old.now.grammar renewal.entry.new.now.grammar nodes.now symbol agenda.new) }
-    ensures priced { IfOk result (λ kept. kept ≡ true → KeepsPriority renewal.entry.old.now.grammar renewal.entry.new.now.grammar nodes.now symbol) }
+    ensures parents { OnOk result (IsPricedFor forest.now grammars.old.before grammars.old.after nodes.now symbol agenda.new) }
+    ensures priced { IfOk result (λ kept. kept ≡ true → KeepsPriority grammars.old.before grammars.old.after nodes.now symbol) }
 {
-    let facts = symbols.of(&renewal.old.grammar, &renewal.new.grammar, symbol)?;
+    let facts = grammars.of(symbol)?;
     add_all(agenda, &Worked { forest }, nodes)?;
     if facts.same_priority {
         return Ok(true);
@@ -106,23 +102,21 @@ fn queue_symbol(
 pub fn queue_changed(
     agenda: &mut Agenda,
     forest: &Forest,
-    symbols: &mut Symbols,
-    renewal: Renewal,
+    grammars: &mut Grammars,
     dependents: &Dependents,
 ) -> Result<bool, NoMemory>
     requires one { OneEach (chains_of forest.now) }
-    requires known { AreKnown renewal.old.now.grammar renewal.new.now.grammar symbols.old.known }
-    ensures known { OnOk result (AreKnown renewal.entry.old.now.grammar renewal.entry.new.now.grammar symbols.new.known) }
+    ensures grammars { grammars.new ≡ grammars.old }
     ensures grows { OnOk result (Grows (chains_of forest.now) IsAny agenda.old agenda.new) }
-    ensures there { OnOk result ((symbol : List ℕ) → IsChangedFor forest.now renewal.entry.old.now.grammar renewal.entry.new.now.grammar (nodes_in dependents.now symbol) symbol agenda.new) }
-    ensures parents { OnOk result ((symbol : List ℕ) → IsPricedFor forest.now renewal.entry.old.now.grammar renewal.entry.new.now.grammar (nodes_in dependents.now symbol) symbol agenda.new) }
-    ensures priced { IfOk result (λ kept. kept ≡ true → KeepsPriorities renewal.entry.old.now.grammar renewal.entry.new.now.grammar dependents.now) }
+    ensures there { OnOk result ((symbol : List ℕ) → IsChangedFor forest.now grammars.old.before grammars.old.after (nodes_in dependents.now symbol) symbol agenda.new) }
+    ensures parents { OnOk result ((symbol : List ℕ) → IsPricedFor forest.now grammars.old.before grammars.old.after (nodes_in dependents.now symbol) symbol agenda.new) }
+    ensures priced { IfOk result (λ kept. kept ≡ true → KeepsPriorities grammars.old.before grammars.old.after dependents.now) }
 {
-    let changed = symbols.changed(agenda.alloc(), &renewal.old.grammar, &renewal.new.grammar)?;
+    let changed = grammars.changed(agenda.alloc())?;
     let mut priced = true;
     for symbol in changed.as_slice() {
         let nodes = dependents.nodes_of(*symbol);
-        let kept = queue_symbol(agenda, forest, symbols, renewal, nodes, *symbol)?;
+        let kept = queue_symbol(agenda, forest, grammars, nodes, *symbol)?;
         priced = priced && kept;
     }
     Ok(priced)

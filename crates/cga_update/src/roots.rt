@@ -6,11 +6,10 @@ ghost use Rattle.cga_forest.specs.Moved.{ListsMoved, moved_of};
 ghost use Rattle.cga_forest.specs.View.{Seen};
 ghost use Rattle.cga_forest.specs.Tree.{node_at};
 ghost use Rattle.cga_shape.specs.Root.{root_scope};
-ghost use Rattle.cga_update.specs.Changed.{AreKnown};
 ghost use Rattle.cga_update.specs.Roots.{AllWanted, AreByName, AreThere, AreWithin, Gains, HasLost, HasOldLots, IsRootFor, IsRootNamed, IsWanted, Loses, View};
 
-use crate::changed::Symbols;
 use crate::renewal::Renewal;
+use cga_check::Symbols;
 use cga_forest::{Forest, Moved, Node};
 use cga_fraction::NoMemory;
 use cga_index::NodeId;
@@ -49,11 +48,11 @@ fn is_wanted(
     renewal: Renewal,
     name: Name,
 ) -> Result<bool, NoMemory>
-    requires known { AreKnown renewal.old.now.grammar renewal.new.now.grammar symbols.old.known }
+    requires symbols { symbols.old ≡ renewal.new.now.grammar }
     requires lots { AreByName renewal.new.now.lots (length renewal.new.now.lots) lots.now.entries }
     requires names { NamesDiffer renewal.new.now.lots }
     requires scopes { RootsExist renewal.new.now.lots }
-    ensures known { OnOk result (AreKnown renewal.entry.old.now.grammar renewal.entry.new.now.grammar symbols.new.known) }
+    ensures symbols { symbols.new ≡ symbols.old }
     ensures wanted { IfOk result (λ is. is ≡ true → (c : ℕ) (d : Seen) → IsRootNamed (node_at forest.now) name c d → IsWanted renewal.entry.new.now d.node) }
     ensures unwanted { IfOk result (λ is. is ≡ false → (c : ℕ) (d : Seen) → IsRootNamed (node_at forest.now) name c d → IsWanted renewal.entry.new.now d.node → ⊥) }
 {
@@ -61,9 +60,9 @@ fn is_wanted(
     let Some(lot) = lots.get(&name) else {
         return Ok(false);
     };
-    let facts = symbols.of(&renewal.old.grammar, &renewal.new.grammar, lot.symbol)?;
+    let said = symbols.of(lot.symbol)?;
     match forest.root_of(name) {
-        Some(root) => Ok(is_root_at(alloc, forest, root, lot, facts.said.priority)),
+        Some(root) => Ok(is_root_at(alloc, forest, root, lot, said.priority)),
         None => Ok(true),
     }
 }
@@ -108,11 +107,11 @@ fn clear_root(
     name: Name,
     went: &mut Vec<Moved>,
 ) -> Result<(), NoMemory>
-    requires known { AreKnown renewal.old.now.grammar renewal.new.now.grammar symbols.old.known }
+    requires symbols { symbols.old ≡ renewal.new.now.grammar }
     requires lots { AreByName renewal.new.now.lots (length renewal.new.now.lots) lots.now.entries }
     requires names { NamesDiffer renewal.new.now.lots }
     requires scopes { RootsExist renewal.new.now.lots }
-    ensures known { OnOk result (AreKnown renewal.entry.old.now.grammar renewal.entry.new.now.grammar symbols.new.known) }
+    ensures symbols { symbols.new ≡ symbols.old }
     ensures lost { OnOk result ((V : View) → HasLost V forest.old went.old.items → HasLost V forest.new went.new.items) }
     ensures wanted { OnOk result ((c : ℕ) (d : Seen) → IsRootNamed (node_at forest.new) name c d → IsWanted renewal.entry.new.now d.node) }
     ensures loses { OnOk result (Loses renewal.entry.new.now forest.old forest.new) }
@@ -133,11 +132,11 @@ pub fn remove_roots(
     renewal: Renewal,
     went: &mut Vec<Moved>,
 ) -> Result<(), NoMemory>
-    requires known { AreKnown renewal.old.now.grammar renewal.new.now.grammar symbols.old.known }
+    requires symbols { symbols.old ≡ renewal.new.now.grammar }
     requires names { NamesDiffer renewal.new.now.lots }
     requires scopes { RootsExist renewal.new.now.lots }
     requires lots { HasOldLots renewal.old.now.lots forest.old }
-    ensures known { OnOk result (AreKnown renewal.entry.old.now.grammar renewal.entry.new.now.grammar symbols.new.known) }
+    ensures symbols { symbols.new ≡ symbols.old }
     ensures lost { OnOk result ((V : View) → HasLost V forest.old went.old.items → HasLost V forest.new went.new.items) }
     ensures wanted { OnOk result (AllWanted renewal.entry.new.now forest.new) }
     ensures loses { OnOk result (Loses renewal.entry.new.now forest.old forest.new) }
@@ -153,21 +152,24 @@ pub fn remove_roots(
 /// Adds the root of a lot, where it has none, and lists it. Takes memory.
 fn add_root(
     forest: &mut Forest,
+    symbols: &mut Symbols,
     new: &Sources,
     lot: &Lot,
     came: &mut Vec<Moved>,
 ) -> Result<(), NoMemory>
+    requires symbols { symbols.old ≡ new.now.grammar }
     requires listed { (i : ℕ) × (slice_get new.now.lots i ≡ Some lot.now) }
     requires scope { IsOk (root_scope lot.now) }
     ensures gains { OnOk result (Gains new.now forest.old forest.new) }
     ensures there { OnOk result ((c : ℕ) × (d : Seen) × IsRootNamed (node_at forest.new) lot.now.name c d) }
     ensures came { OnOk result ((W : View) → AreWithin W (node_at forest.old) → ListsMoved (node_at forest.old) W came.old.items → ListsMoved (node_at forest.new) W came.new.items) }
     ensures mode { forest.new.mode ≡ forest.old.mode }
+    ensures symbols { symbols.new ≡ symbols.old }
 {
     if forest.root_of(lot.name).is_some() {
         return Ok(());
     }
-    let root = forest.add_lot(lot, &new.grammar)?;
+    let root = forest.add_lot(lot, symbols)?;
     list_node(forest, root, came)
 }
 
@@ -182,16 +184,23 @@ fn list_node(forest: &Forest, id: NodeId, list: &mut Vec<Moved>) -> Result<(), N
 }
 
 /// Adds the roots of lots that have none, and answers them. Takes memory.
-pub fn add_roots(alloc: Global, forest: &mut Forest, new: &Sources) -> Result<Vec<Moved>, NoMemory>
+pub fn add_roots(
+    alloc: Global,
+    forest: &mut Forest,
+    symbols: &mut Symbols,
+    new: &Sources,
+) -> Result<Vec<Moved>, NoMemory>
+    requires symbols { symbols.old ≡ new.now.grammar }
     requires scopes { RootsExist new.now.lots }
     ensures gains { OnOk result (Gains new.now forest.old forest.new) }
     ensures there { OnOk result (AreThere new.now forest.new (length new.now.lots)) }
     ensures came { IfOk result (λ came. ListsMoved (node_at forest.new) (node_at forest.old) came.items) }
     ensures mode { forest.new.mode ≡ forest.old.mode }
+    ensures symbols { symbols.new ≡ symbols.old }
 {
     let mut came = Vec::new(alloc);
     for lot in new.lots.as_slice() {
-        add_root(forest, new, lot, &mut came)?;
+        add_root(forest, symbols, new, lot, &mut came)?;
     }
     Ok(came)
 }

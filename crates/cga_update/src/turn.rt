@@ -1,5 +1,5 @@
 //! One turn of the agenda.
-ghost use Rattle.std.specs.Prelude.{◌≡◌, ◌+◌, ◌≤◌, ◌⊎◌, ◌||◌, length, true, false, Some, IfOk, IsSome, OnOk};
+ghost use Rattle.std.specs.Prelude.{◌≡◌, ◌+◌, ◌≤◌, ◌⊎◌, length, true, false, Some, IfOk, IsSome, OnOk};
 ghost use Rattle.cga_order.specs.World as world;
 ghost use Rattle.cga_order.specs.declared.placed.Kind.TheVariants.{Waiting};
 ghost use Rattle.cga_agenda.specs.Loop.{TellsEach, calls_of, calls_told, children_told};
@@ -8,7 +8,8 @@ ghost use Rattle.cga_expand.specs.declared.limits.TheConstants.{MOST_CHILDREN};
 ghost use Rattle.cga_forest.specs.Placing.{MayGrow, Outcome, emitted};
 ghost use Rattle.cga_forest.specs.View.{Seen};
 ghost use Rattle.cga_forest.specs.Tree.{node_at};
-ghost use Rattle.cga_update.specs.Changed.{AreFacts, AreKnown};
+ghost use Rattle.cga_check.specs.Said.{asks_any, said};
+ghost use Rattle.cga_update.specs.Changed.{AreFacts};
 ghost use Rattle.cga_update.specs.Means.{KeepsBounds, Means};
 ghost use Rattle.cga_update.specs.Plain.{IsPlain};
 ghost use Rattle.cga_update.specs.Turned.{HasPlaced, IsAgain, IsTurned, MayTurn};
@@ -28,6 +29,7 @@ use cga_fraction::{List, NoMemory, Tests};
 use cga_index::NodeId;
 use cga_queue::take;
 use cga_shape::{Answers, Emitted, Kind, ShapeFault};
+use cga_word::Name;
 use std::sync::ledger::Ledger;
 
 /// What a turn comes to where nothing is expanded.
@@ -47,10 +49,9 @@ fn place<T: Ledger>(
     requires here { (e : Seen) × (node_at work.now.forest id ≡ Some e) × MayGrow e outcome.now }
     ensures placed { OnOk result (HasPlaced work.entry.now work.exit.now id answers outcome.now) }
     ensures bounds { KeepsBounds work.entry.now work.exit.now }
-    ensures symbols { work.exit.now.symbols ≡ work.entry.now.symbols }
 {
-    let grammar = &work.renewal.new.grammar;
-    let change = work.forest.replace_children(id, answers, outcome, grammar)?;
+    let symbols = &mut work.symbols;
+    let change = work.forest.replace_children(id, answers, outcome, symbols)?;
     work.forest.laws();
     note_went(change.went.as_slice(), &mut work.log, &mut work.gone)?;
     note_came(change.came.as_slice(), &mut work.log, &mut work.come)?;
@@ -64,21 +65,37 @@ fn place<T: Ledger>(
     )
 }
 
-/// What both grammars say of a node's symbol. Takes memory where the symbol comes for the first time.
+/// The symbol of the node of an id.
+fn symbol_at(forest: &Forest, id: NodeId) -> Name
+    requires here { IsSome (node_at forest.now id) }
+    ensures { (d : Seen) → node_at forest.now id ≡ Some d → result ≡ d.node.shape.symbol }
+{
+    match forest.node(id) {
+        Some(node) => node.shape.symbol,
+        None => unreachable!(),
+    }
+}
+
+/// What the new grammar says of a node's symbol. Takes memory where the symbol comes for the first time.
+fn said_at(work: &mut Work, id: NodeId) -> Result<Said, NoMemory>
+    requires here { IsSome (node_at work.now.forest id) }
+    ensures told { IfOk result (λ told. (d : Seen) → node_at work.entry.now.forest id ≡ Some d
+        → told ≡ said work.entry.now.symbols d.node.shape.symbol) }
+    ensures same { work.exit.now ≡ work.entry.now }
+{
+    let symbol = symbol_at(&work.forest, id);
+    work.symbols.of(symbol)
+}
+
+/// Whether the old grammar says the same of it. Takes memory where the symbol comes for the first time.
 fn facts_at(work: &mut Work, id: NodeId) -> Result<Facts, NoMemory>
     requires here { IsSome (node_at work.now.forest id) }
     ensures facts { IfOk result (λ facts. (d : Seen) → node_at work.entry.now.forest id ≡ Some d
-        → AreKnown work.entry.now.renewal.old.now.grammar work.entry.now.renewal.new.now.grammar work.entry.now.symbols.known
-        → AreFacts work.entry.now.renewal.old.now.grammar work.entry.now.renewal.new.now.grammar d.node.shape.symbol facts) }
-    ensures known { OnOk result (AreKnown work.entry.now.renewal.old.now.grammar work.entry.now.renewal.new.now.grammar work.entry.now.symbols.known
-        → AreKnown work.entry.now.renewal.old.now.grammar work.entry.now.renewal.new.now.grammar work.exit.now.symbols.known) }
-    ensures rest { work.exit.now ≡ record work.entry.now { symbols = work.exit.now.symbols } }
+        → AreFacts work.entry.now.grammars.before work.entry.now.grammars.after d.node.shape.symbol facts) }
+    ensures same { work.exit.now ≡ work.entry.now }
 {
-    let symbol = match work.forest.node(id) {
-        Some(node) => node.shape.symbol,
-        None => unreachable!(),
-    };
-    work.symbols.of(&work.renewal.old.grammar, &work.renewal.new.grammar, symbol)
+    let symbol = symbol_at(&work.forest, id);
+    work.grammars.of(symbol)
 }
 
 /// Whether a node waits, or its inputs differ.
@@ -117,10 +134,10 @@ fn child_count(outcome: &Result<List<Emitted>, ShapeFault>) -> u16
 /// Whether a node asks what its symbol asks for today.
 fn asks_right(forest: &Forest, id: NodeId, said: Said) -> bool
     requires here { IsSome (node_at forest.now id) }
-    ensures { (d : Seen) → node_at forest.now id ≡ Some d → result ≡ true → d.node.asks ≡ (said.noparent || said.active) }
+    ensures { (d : Seen) → node_at forest.now id ≡ Some d → result ≡ true → d.node.asks ≡ asks_any said }
 {
     match forest.node(id) {
-        Some(node) => node.asks == (said.noparent || said.active),
+        Some(node) => node.asks == said.asks(),
         None => unreachable!(),
     }
 }
@@ -164,7 +181,6 @@ fn expand_at<E: Ledger, T: Ledger>(
         × (turned.expanded ≡ true) × (turned.children ≡ length (emitted outcome))) }
     ensures ticked { expansions.new ≡ expansions.old + 1 }
     ensures bounds { KeepsBounds work.entry.now work.exit.now }
-    ensures symbols { work.exit.now.symbols ≡ work.entry.now.symbols }
 {
     let outcome = outcome_of(work, id, &answers, expansions)?;
     let children = child_count(&outcome);
@@ -188,7 +204,6 @@ fn place_again<T: Ledger>(
         × ((d : Seen) → node_at work.entry.now.forest id ≡ Some d → world.is_waiting d.node.kind ≡ false → IsPlain d → IsAgain work.entry.now.forest d outcome)
         × (turned.expanded ≡ false) × (turned.children ≡ 0)) }
     ensures bounds { KeepsBounds work.entry.now work.exit.now }
-    ensures symbols { work.exit.now.symbols ≡ work.entry.now.symbols }
 {
     let outcome = outcome_again(work.alloc, &work.forest, id)?;
     work.forest.laws();
@@ -210,13 +225,14 @@ fn turn_of<E: Ledger, T: Ledger>(
     ensures counted { expansions.old ≤ expansions.new }
     ensures once { expansions.new ≤ expansions.old + 1 }
 {
+    let said = said_at(work, id)?;
     let facts = facts_at(work, id)?;
-    let answers = asked(&work.forest, id, facts.said, tests);
+    let answers = asked(&work.forest, id, said, tests);
     if must_expand(&work.forest, id, facts.same_setting, &answers) {
         return expand_at(work, id, answers, expansions, tests);
     }
     // Its children would all stay.
-    if work.priced && asks_right(&work.forest, id, facts.said) {
+    if work.priced && asks_right(&work.forest, id, said) {
         return Ok(NOT_EXPANDED);
     }
     place_again(work, id, answers, tests)

@@ -1,6 +1,7 @@
-use crate::changed::Symbols;
+use crate::changed::Grammars;
 use crate::log::Pairing;
 use crate::renewal::Renewal;
+use cga_check::Symbols;
 use cga_forest::Forest;
 use cga_queue::Agenda;
 use cga_shape::Drawn;
@@ -17,7 +18,9 @@ pub struct Work<'a> {
     pub(crate) all_came: bool,
     /// Whether each node has the priority that its symbol has today: then one that is asked as before is done.
     pub(crate) priced: bool,
-    pub(crate) symbols: Symbols,
+    /// The new grammar, with what was read of it.
+    pub(crate) symbols: Symbols<'a>,
+    pub(crate) grammars: Grammars<'a>,
     /// What came and went that is no instance, for the dependents.
     pub(crate) log: Vec<Pairing>,
     pub(crate) gone: Vec<Drawn>,

@@ -1,10 +1,12 @@
-use Rattle.std.proofs.Common.{◌∙◌, refl, sym, subst, List}
+use Rattle.std.proofs.Common.{◌∙◌, refl, sym, subst, List, ℕ}
 use Rattle.cga_forest.specs.declared.moved.Moved.{Moved}
 use Rattle.cga_forest.specs.Tree.{marked_at, node_at}
 use Rattle.cga_update.specs.declared.log.Pairing.{Pairing}
+use Rattle.cga_depend.specs.Pairs.{nodes_in}
 use Rattle.cga_update.specs.Begun.{HasMoved, IsFirst}
+use Rattle.cga_update.specs.Both.{BothGrammars}
 use Rattle.cga_update.specs.Log.{IsLogged}
-use Rattle.cga_update.specs.Near.{IsAny}
+use Rattle.cga_update.specs.Near.{IsAny, IsChangedFor, IsPricedFor, KeepsPriorities}
 use Rattle.cga_update.specs.Roots.{HasLost}
 use Rattle.cga_update.proofs.Beginning as proof
 use Rattle.cga_update.proofs.DueNodes.{one_each}
@@ -16,11 +18,14 @@ use Rattle.cga_update.proofs.begin.begin.Goals as goal
 
 pub remove_roots-requires : goal.remove_roots-requires
 remove_roots-requires g c = record {
-  known = c.requires.fresh.symbols;
+  symbols = c.requires.fresh.symbols;
   names = c.requires.stands.names;
   scopes = c.requires.stands.scopes;
   lots = proof.has_old_lots c.args.work.now.renewal.old.now c.args.work.now.renewal.new.now c.args.work.now.forest c.args.dependents.now c.requires.stands;
 }
+
+pub add_roots-requires-clause-symbols : goal.add_roots-requires-clause-symbols
+add_roots-requires-clause-symbols g c = c.remove_roots.ensures.symbols ∙ c.requires.fresh.symbols
 
 pub queue_rooted-requires : goal.queue_rooted-requires
 queue_rooted-requires g c = record { one = one_each c.add_roots.new.forest c.laws-2.ensures }
@@ -54,7 +59,12 @@ returns-clause-begun g c =
     moved_kept v IsAny c.queue_rooted.new.agenda a c.in_ok-priced.ensures.grows went came
     (subst (λ (list : List Moved). HasMoved v list came c.queue_rooted.new.agenda) c.as_slice-went_nodes.ensures.value
     (subst (λ (list : List Moved). HasMoved v c.as_slice-went_nodes.result.now list c.queue_rooted.new.agenda) c.as_slice-came_nodes.ensures.value c.in_ok-queue_rooted.ensures.moved)) in
-    let agenda : IsFirst old new v d went came a = record { moved = moved; changed = c.in_ok-priced.ensures.there; priced = c.in_ok-priced.ensures.parents } in
+    let grammars = c.requires.fresh.grammars in
+    let agenda : IsFirst old new v d went came a = record {
+      moved = moved;
+      changed = subst (λ (g : BothGrammars). (symbol : List ℕ) → IsChangedFor v g.before g.after (nodes_in d symbol) symbol a) grammars c.in_ok-priced.ensures.there;
+      priced = subst (λ (g : BothGrammars). (symbol : List ℕ) → IsPricedFor v g.before g.after (nodes_in d symbol) symbol a) grammars c.in_ok-priced.ensures.parents;
+    } in
     let start : IsRooted old new first v d went came a = record {
       stands = stands;
       roots = r;
@@ -79,13 +89,14 @@ returns-clause-begun g c =
         queued = begins.1.1;
         due = first_due start new.mode;
         all_came = λ is k x there. r.marked k ∙ all_came (node_at first) before v keeps (is_zero c.count.result _ c.count.ensures is) k x there;
-        priced = λ is. proof.priced_now start (c.in_ok-priced.ensures.priced is);
+        priced = λ is. proof.priced_now start (subst (λ (g : BothGrammars). KeepsPriorities g.before g.after d) grammars (c.in_ok-priced.ensures.priced is));
         silent = proof.silent_now start;
         plain = proof.plain_now start;
         gone = drawn_from c.note_went.new.gone.items c.args.work.now.gone.items c.as_slice-went_nodes.result.now went c.in_ok-note_went.ensures.gone c.requires.fresh.gone c.as_slice-went_nodes.ensures.value ∙ sym lost_list.2;
         come = drawn_from c.note_came.new.come.items c.args.work.now.come.items c.as_slice-came_nodes.result.now came c.in_ok-note_came.ensures.come c.requires.fresh.come c.as_slice-came_nodes.ensures.value
             ∙ proof.came_drawn start;
-        known = c.in_ok-priced.ensures.known;
+        symbols = c.add_roots.ensures.symbols ∙ (c.remove_roots.ensures.symbols ∙ c.requires.fresh.symbols);
+        grammars = c.queue_changed.ensures.grammars ∙ grammars;
         marked = r.marking;
         logged = subst (λ (log : List Pairing). IsLogged (marked_at v) (node_at v) log)
             (sym (log_from c.note_came.new.log.items c.note_went.new.log.items c.args.work.now.log.items c.as_slice-went_nodes.result.now c.as_slice-came_nodes.result.now went came

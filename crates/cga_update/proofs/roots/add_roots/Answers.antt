@@ -11,6 +11,7 @@ loop-lot-init c = record {
   there = λ i lot le. absurd (omega (arith, le));
   came = subst (λ list. ListsMoved (node_at c.args.forest.now) (node_at c.args.forest.now) list) (sym c.new-came.ensures.items) (none_came (node_at c.args.forest.now));
   mode = refl;
+  symbols = refl;
 }
 
 pub add_root-requires-clause-listed : goal.add_root-requires-clause-listed
@@ -28,6 +29,7 @@ loop-lot-preserved c =
       there = there_more new before after c.loop-lot.lot-index c.lot-item.result item one.gains one.there c.loop-lot.invariant.there;
       came = one.came (node_at first) c.loop-lot.invariant.gains.more c.loop-lot.invariant.came;
       mode = one.mode ∙ c.loop-lot.invariant.mode;
+      symbols = c.add_root.ensures.symbols ∙ c.loop-lot.invariant.symbols;
     }
 
 pub returns-clause-there : goal.returns-clause-there

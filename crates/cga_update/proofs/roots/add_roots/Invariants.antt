@@ -10,4 +10,5 @@ invariant-loop-lot l = record {
   there : AreThere l.new l.forest l.lot-index;
   came : ListsMoved (node_at l.forest) (node_at l.fn.forest) l.came.items;
   mode : l.forest.mode ≡ l.fn.forest.mode;
+  symbols : l.symbols ≡ l.fn.symbols;
 }

@@ -1,19 +1,12 @@
-use Rattle.std.proofs.Common.{◌≡◌, Some, ap, refl, subst, sym, ◌∙◌}
-use Rattle.std.specs.Option.{option_copied}
-use Rattle.cga_forest.specs.Tree.{content_of}
-use Rattle.cga_forest.specs.declared.node.Node.{Node}
+use Rattle.std.proofs.Common.{ap, subst}
+use Rattle.cga_update.specs.Both.{BothGrammars}
 use Rattle.cga_update.specs.Changed.{AreFacts}
+use Rattle.cga_update.specs.declared.work.Work.{Work}
 use Rattle.cga_update.proofs.Facts.{on_value}
 use Rattle.cga_update.proofs.turn.facts_at.Goals as goal
 
 pub returns-clause-facts : goal.returns-clause-facts
-returns-clause-facts c = on_value c.of.result (λ facts are d here known.
-    let found : Some c.in-Some.node.now ≡ Some d.node = ap option_copied (sym c.in-Some.is) ∙ c.node.ensures ∙ ap content_of here in
-    let same : c.in-Some.node.now ≡ d.node = cc in
-    subst (λ (n : Node). AreFacts c.args.work.now.renewal.old.now.grammar c.args.work.now.renewal.new.now.grammar n.shape.symbol facts) same (are known)) c.of.ensures.facts
+returns-clause-facts c = on_value c.of.result (λ facts are d here. subst (λ symbol. AreFacts c.args.work.now.grammars.before c.args.work.now.grammars.after symbol facts) (c.symbol_at-symbol.ensures d here) are) c.of.ensures.facts
 
-pub returns-clause-known : goal.returns-clause-known
-returns-clause-known c = c.of.ensures.known
-
-pub returns-clause-rest : goal.returns-clause-rest
-returns-clause-rest c = refl
+pub returns-clause-same : goal.returns-clause-same
+returns-clause-same c = ap (λ (g : BothGrammars). record c.args.work.now { grammars = g }) c.of.ensures.grammars

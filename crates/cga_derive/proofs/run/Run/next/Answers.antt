@@ -1,4 +1,4 @@
-use Rattle.std.proofs.Common.{length, arith}
+use Rattle.std.proofs.Common.{length, arith, ◌∙◌}
 use Rattle.cga_derive.proofs.Stepping.{nothing-waits, none_left}
 use Rattle.cga_derive.proofs.Working.{in-turn, place_within}
 use Rattle.cga_derive.proofs.run.Run.next.Goals as goal
@@ -23,6 +23,6 @@ returns-clause-step g c = λ n under.
 pub returns-clause-underway : goal.returns-clause-underway
 returns-clause-underway g c = λ n under. record {
   after = c.in_ok-step.ensures.turn n (in-turn c.args.sources.now n c.in-Some.key c.in-Some.place c.args.self.now.list.items c.args.self.now.waiting.entries c.pop_first.new.self.entries under.after c.in-Some.ensures.removal c.in-Some.ensures.all_above);
-  read = c.in_ok-step.ensures.read;
+  symbols = c.turn.ensures.symbols ∙ under.symbols;
   boxed = c.in_ok-step.ensures.boxed;
 }

@@ -1,18 +1,17 @@
-use Rattle.std.proofs.Common.{[], ◌∷◌, sym, ap, subst, ◌∙◌}
+use Rattle.std.proofs.Common.{[], ◌∷◌, length, sym, ap, subst, ◌∙◌}
 use Rattle.cga_derivation.specs.Sites.{sited}
 use Rattle.cga_expand.specs.Children.{placed_at}
 use Rattle.cga_derive.specs.declared.run.Run.{Run}
 use Rattle.cga_derive.specs.Streaks.{IsBoxed}
-use Rattle.cga_derive.specs.Run.{KeepsKeys}
-use Rattle.cga_derive.specs.Symbols.{IsRead}
+use Rattle.cga_expand.specs.Derivation.{priority_of}
+use Rattle.cga_derive.specs.Run.{AddsKey, KeepsKeys}
 use Rattle.cga_derive.proofs.Streaks.{boxed_came, boxed_lent, boxed_still}
 use Rattle.cga_derive.proofs.Placing.{wait-keys, skip-keys}
 use Rattle.cga_derive.proofs.run.Run.place.Goals.{in-Some+in_ok-wait, in_default}
 use Rattle.cga_derive.proofs.run.Run.place.Goals as goal
 
 pub returns-clause-keys : goal.returns-clause-keys
-returns-clause-keys c =
-    let sources = c.args.sources.now in
+returns-clause-keys c = λ sources reads.
     let parent = c.args.parent.now in
     let list = c.args.self.now.list.items in
     let old = c.args.self.now.waiting.entries in
@@ -21,15 +20,15 @@ returns-clause-keys c =
       | in-Some+in_ok-wait w ↦
           let entries = ap (λ (r : Run). r.waiting.entries) w.self-is in
           subst (KeepsKeys sources parent came list old) (sym entries)
-          (wait-keys sources parent c.args.own c.args.index list old w.wait.new.self.waiting.entries c.args.emitted w.in-Some.symbol (sym c.waiting_symbol.ensures ∙ w.in-Some.is) w.in_ok-wait.ensures.key)
+          (wait-keys sources parent c.args.own c.args.index list old w.wait.new.self.waiting.entries c.args.emitted w.in-Some.symbol (sym c.waiting_symbol.ensures ∙ w.in-Some.is) (subst (λ g. AddsKey parent c.args.index (priority_of g w.in-Some.symbol) (length list) old w.wait.new.self.waiting.entries) reads w.in_ok-wait.ensures.key))
       | in_default w ↦
           skip-keys sources parent c.args.own c.args.index list old c.match-waiting_symbol.self.waiting.entries c.args.emitted (sym c.waiting_symbol.ensures ∙ w.in_default.is) (ap (λ (r : Run). r.waiting.entries) w.self-is)
     ]
 
-pub returns-clause-read : goal.returns-clause-read
-returns-clause-read c = elim c.match-waiting_symbol.branch [
-  | in-Some+in_ok-wait w ↦ subst (IsRead c.args.sources.now.grammar) (sym (ap (λ (r : Run). r.symbols.read) w.self-is)) w.in_ok-wait.ensures.read
-  | in_default w ↦ subst (IsRead c.args.sources.now.grammar) (sym (ap (λ (r : Run). r.symbols.read) w.self-is)) c.requires.read
+pub returns-clause-symbols : goal.returns-clause-symbols
+returns-clause-symbols c = elim c.match-waiting_symbol.branch [
+  | in-Some+in_ok-wait w ↦ ap (λ (r : Run). r.symbols) w.self-is ∙ w.wait.ensures.symbols
+  | in_default w ↦ ap (λ (r : Run). r.symbols) w.self-is
 ]
 
 pub next_streak-streak-requires : goal.next_streak-streak-requires

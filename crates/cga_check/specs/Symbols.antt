@@ -1,4 +1,4 @@
--- What a derivation reads of the rules of a symbol.
+-- What was read of the rules of a grammar.
 use Rattle.std.specs.Prelude.{◌≡◌, ℕ, List, Some}
 use Rattle.std.specs.BTreeMap.{BTreeMap, get}
 use Rattle.std.specs.Ordering.{nat_cmp}
@@ -7,7 +7,7 @@ use Rattle.cga_rule.specs.declared.grammar.Grammar.{Grammar}
 use Rattle.cga_check.specs.Said.{said}
 use Rattle.cga_check.specs.declared.said.Said.{Said}
 
--- what stands in the map was read of the grammar
+-- what stands in the table is what the grammar's rules say
 abbrev pub IsRead : Grammar → BTreeMap (List ℕ) Said → Type 0
 IsRead grammar read =
     (name : List ℕ) (found : Said) → get (slice_cmp nat_cmp) read name ≡ Some found → found ≡ said grammar name

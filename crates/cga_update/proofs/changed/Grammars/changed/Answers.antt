@@ -3,7 +3,7 @@ use Rattle.cga_rule.specs.declared.grammar.Grammar.{Grammar}
 use Rattle.cga_expand.specs.Settings.{setting_of}
 use Rattle.cga_update.proofs.Grammars.{grammar_told}
 use Rattle.cga_update.proofs.Facts.{all_noted, noted_in}
-use Rattle.cga_update.proofs.changed.Symbols.changed.Goals as goal
+use Rattle.cga_update.proofs.changed.Grammars.changed.Goals as goal
 
 pub returns-then-eq-clause-listed : goal.returns-then-eq-clause-listed
 returns-then-eq-clause-listed c = λ symbol. inr (ap (λ (g : Grammar). setting_of g symbol) (grammar_told c.args.old.now c.args.new.now c.eq.result c.eq.ensures c.if-eq.true))

@@ -1,0 +1,59 @@
+//! What the rules of symbols say, read once for each symbol.
+ghost use Rattle.std.specs.Prelude.{◌≡◌, IfOk};
+ghost use Rattle.cga_check.specs.Said.{said};
+
+use crate::said::{Said, said_of};
+use cga_fraction::NoMemory;
+use cga_rule::Grammar;
+use cga_word::Name;
+use std::alloc::Global;
+use std::collections::BTreeMap;
+use std::marker::Model;
+
+/// A grammar, with what its rules say of the symbols that were asked for so far.
+#[derive(Drop)]
+pub struct Symbols<'a> {
+    grammar: &'a Grammar,
+    read: BTreeMap<Name, Said>,
+}
+
+impl<'a> Model for Symbols<'a> {
+    ghost use Rattle.cga_rule.specs.declared.grammar.Grammar.{Grammar};
+    ghost use Rattle.cga_rule.specs.contracts.grammar.Grammar as of_grammar;
+
+    ghost Value = { Grammar };
+
+    ghost coded = { of_grammar.the_row.coded };
+
+    ghost use Rattle.cga_check.specs.Symbols.{IsRead};
+
+    ghost view = { λ s. s.grammar.now };
+
+    ghost invariant = { λ s. IsRead s.grammar.now s.read };
+}
+
+impl<'a> Symbols<'a> {
+    /// Takes no memory.
+    pub fn new(alloc: Global, grammar: &'a Grammar) -> Symbols<'a>
+        ensures { result ≡ grammar.now }
+    {
+        Symbols {
+            grammar,
+            read: BTreeMap::new(alloc),
+        }
+    }
+
+    /// What the rules of a symbol say. Takes memory where the symbol comes for the first time; the time goes then by the
+    /// rules.
+    pub fn of(&mut self, symbol: Name) -> Result<Said, NoMemory>
+        ensures value { IfOk result (λ found. found ≡ said self.old symbol) }
+        ensures grammar { self.new ≡ self.old }
+    {
+        if let Some(found) = self.read.get(&symbol) {
+            return Ok(*found);
+        }
+        let found = said_of(self.grammar, symbol);
+        self.read.insert(symbol, found)?;
+        Ok(found)
+    }
+}
