@@ -6,6 +6,6 @@ mod Levels
 mod Blocks
 mod TwoRoots
 mod NearAskers
-mod NodeList
+mod Visiting
 mod Widening
 pub mod Door
