@@ -50,7 +50,8 @@ module _ (was : Work) (rest : AgendaView) (edit : TheEdit) (s : TheState) (means
     plain = means.plain;
     gone = means.gone;
     come = means.come;
-    known = means.known;
+    symbols = means.symbols;
+    grammars = means.grammars;
     marked = means.marked;
     logged = means.logged;
   }

@@ -1,5 +1,5 @@
 -- The turn of a node, from what each of its steps tells.
-use Rattle.std.proofs.Common.{◌≡◌, ℕ, length, refl, sym, ap, ◌∙◌, subst, ◌⊎◌, inl, inr, Bool, true, false, Result, Ok, Err}
+use Rattle.std.proofs.Common.{◌≡◌, ℕ, List, length, refl, sym, ap, ◌∙◌, subst, ◌⊎◌, inl, inr, Bool, true, false, Result, Ok, Err}
 use Rattle.std.specs.Prelude.{IfOk, Some}
 use Rattle.cga_fraction.specs.declared.memory.NoMemory.{NoMemory}
 use Rattle.cga_word.specs.declared.answers.Answers.{Answers}
@@ -30,10 +30,10 @@ use Rattle.cga_update.proofs.Facts.{said_active, said_asks, said_noparent}
 abbrev IsToldOf : Work → ℕ → Said → Type 0
 IsToldOf w id told = (d : Seen) → node_at w.forest id ≡ Some d → told ≡ said w.symbols d.node.shape.symbol
 
-abbrev HasFacts : Work → ℕ → Facts → Type 0
+abbrev pub HasFacts : Work → ℕ → Facts → Type 0
 HasFacts w id facts = (d : Seen) → node_at w.forest id ≡ Some d → AreFacts w.grammars.before w.grammars.after d.node.shape.symbol facts
 
-abbrev AsksOf : Work → ℕ → Said → Answers → Type 0
+abbrev pub AsksOf : Work → ℕ → Said → Answers → Type 0
 AsksOf w id told answers = (old new : Sources) (d : Seen) → w.forest.mode ≡ new.mode → node_at w.forest id ≡ Some d
     → told.noparent ≡ asks_for new.grammar d.node.shape.symbol Noparent
     → told.active ≡ asks_for new.grammar d.node.shape.symbol Active

@@ -30,8 +30,8 @@ add_roots-requires-clause-symbols g c = c.remove_roots.ensures.symbols ∙ c.req
 pub queue_rooted-requires : goal.queue_rooted-requires
 queue_rooted-requires g c = record { one = one_each c.add_roots.new.forest c.laws-2.ensures }
 
-pub queue_changed-requires-clause-one : goal.queue_changed-requires-clause-one
-queue_changed-requires-clause-one g c = one_each c.add_roots.new.forest c.laws-2.ensures
+pub queue_changed-requires : goal.queue_changed-requires
+queue_changed-requires g c = record { one = one_each c.add_roots.new.forest c.laws-2.ensures }
 
 pub returns-clause-begun : goal.returns-clause-begun
 returns-clause-begun g c =

@@ -1,4 +1,4 @@
-use Rattle.std.proofs.Common.{ap, subst, sym, ◌∙◌}
+use Rattle.std.proofs.Common.{ap, refl, subst, sym, ◌∙◌}
 use Rattle.std.specs.Prelude.{IsSome}
 use Rattle.cga_forest.specs.Tree.{node_at}
 use Rattle.cga_update.specs.declared.work.Work.{Work}
@@ -6,7 +6,7 @@ use Rattle.cga_update.proofs.TurnOf.{AsksOf, HasFacts, expanded_turn, placed_tur
 use Rattle.cga_update.proofs.turn.turn_of.Goals as goal
 
 pub facts_at-requires : goal.facts_at-requires
-facts_at-requires g c = record { here = subst (λ (w : Work). IsSome (node_at w.forest c.args.id)) (sym c.said_at.ensures.same) (rw c.requires.here.1 tt) }
+facts_at-requires g c = record { here = subst (λ (w : Work). IsSome (node_at w.forest c.args.id)) (sym c.said_at.ensures.same) (rw c.requires.here.1 refl) }
 
 pub expand_at-requires : goal.expand_at-requires
 expand_at-requires g c =

@@ -1,14 +1,29 @@
-use Rattle.std.proofs.Common.{inr, ap}
+use Rattle.std.proofs.Common.{◌≡◌, ◌∙◌, ℕ, Some, ap, inr, slice_get, subst}
+use Rattle.cga_rule.specs.declared.grammar.Entry.{Entry}
 use Rattle.cga_rule.specs.declared.grammar.Grammar.{Grammar}
 use Rattle.cga_expand.specs.Settings.{setting_of}
+use Rattle.cga_update.specs.Both.{BothGrammars}
+use Rattle.cga_update.specs.Changed.{IsNoted, KeepsNoted}
 use Rattle.cga_update.proofs.Grammars.{grammar_told}
 use Rattle.cga_update.proofs.Facts.{all_noted, noted_in}
 use Rattle.cga_update.proofs.changed.Grammars.changed.Goals as goal
 
 pub returns-then-eq-clause-listed : goal.returns-then-eq-clause-listed
-returns-then-eq-clause-listed c = λ symbol. inr (ap (λ (g : Grammar). setting_of g symbol) (grammar_told c.args.old.now c.args.new.now c.eq.result c.eq.ensures c.if-eq.true))
+returns-then-eq-clause-listed c = λ symbol.
+    let same = grammar_told c.self.inside.before.now c.self.inside.after.now c.eq.result c.eq.ensures c.if-eq.true in
+    inr (subst (λ (g : BothGrammars). setting_of g.before symbol ≡ setting_of g.after symbol) c.self.view_is
+    (ap (λ (g : Grammar). setting_of g symbol) same))
 
 pub returns-clause-listed : goal.returns-clause-listed
-returns-clause-listed c = all_noted c.args.old.now c.args.new.now c.note_all-2.new.list.items
-    (λ i e at. c.in_ok-note_all-2.ensures.kept e.rule.symbol (noted_in c.args.old.now c.args.new.now c.args.old.now.rules _ c.note_all.new.list.items c.as_slice.ensures c.in_ok-note_all.ensures.noted i e at))
-    (noted_in c.args.old.now c.args.new.now c.args.new.now.rules _ c.note_all-2.new.list.items c.as_slice-2.ensures c.in_ok-note_all-2.ensures.noted)
+returns-clause-listed c =
+    let both = c.args.self.now in
+    let first = c.note_all.new.list.items in
+    let list = c.note_all-2.new.list.items in
+    let same = c.note_all.ensures.grammars in
+    let kept = subst (λ (g : BothGrammars). KeepsNoted g.before g.after first list) same c.in_ok-note_all-2.ensures.kept in
+    let noted = subst (λ (g : BothGrammars). (i : ℕ) (e : Entry) → slice_get c.as_slice-2.result.now i ≡ Some e → IsNoted g.before g.after list e.rule.symbol) same c.in_ok-note_all-2.ensures.noted in
+    let before = c.as_slice.ensures ∙ ap (λ (g : BothGrammars). g.before.rules) c.self.view_is in
+    let after = c.as_slice-2.ensures ∙ ap (λ (g : BothGrammars). g.after.rules) c.self.view_is in
+    all_noted both.before both.after list
+    (λ i e at. kept e.rule.symbol (noted_in both.before both.after both.before.rules _ first before c.in_ok-note_all.ensures.noted i e at))
+    (noted_in both.before both.after both.after.rules _ list after noted)
