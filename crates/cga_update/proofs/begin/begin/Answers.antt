@@ -17,8 +17,6 @@ use Rattle.cga_update.proofs.begin.begin.Goals as goal
 pub remove_roots-requires : goal.remove_roots-requires
 remove_roots-requires g c = record {
   known = c.requires.fresh.symbols;
-  names = c.requires.stands.names;
-  scopes = c.requires.stands.scopes;
   lots = proof.has_old_lots c.args.work.now.renewal.old.now c.args.work.now.renewal.new.now c.args.work.now.forest c.args.dependents.now c.requires.stands;
 }
 
@@ -56,6 +54,8 @@ returns-clause-begun g c =
     (subst (λ (list : List Moved). HasMoved v c.as_slice-went_nodes.result.now list c.queue_rooted.new.agenda) c.as_slice-came_nodes.ensures.value c.in_ok-queue_rooted.ensures.moved)) in
     let agenda : IsFirst old new v d went came a = record { moved = moved; changed = c.in_ok-priced.ensures.there; priced = c.in_ok-priced.ensures.parents } in
     let start : IsRooted old new first v d went came a = record {
+      old_names = c.args.work.now.renewal.old_names;
+      names = c.args.work.now.renewal.names;
       stands = stands;
       roots = r;
       listed = listed;
@@ -70,8 +70,6 @@ returns-clause-begun g c =
       proof.first_state start,
       record {
         edit_is = refl;
-        old_names = stands.old_names;
-        names = stands.names;
         mode = c.in_ok-came.ensures.mode ∙ (c.in_ok-remove_roots.ensures.mode ∙ stands.mode);
         agenda_mode = c.in_ok-priced.ensures.grows.mode ∙ c.in_ok-queue_rooted.ensures.mode ∙ c.requires.fresh.mode;
         nodes = refl;
