@@ -198,7 +198,7 @@ module _ {old new : Sources} {first v : ForestView} {d : DependentsView} {went c
         let within = slice_get_within new.lots q.0 q.1 q.2 in
         let t = start.there q.0 q.1 within q.2 in
         let w = start.wanted t.0 t.1 t.2.0 t.2.1 in
-        let same : w.lot ≡ q.1 = same_lot new.lots start.stands.names w.place q.0 w.lot q.1 w.listed q.2 (sym (root_name w.lot t.1.node.shape w.root.shape) ∙ t.2.2) in
+        let same : w.lot ≡ q.1 = same_lot new.lots start.names w.place q.0 w.lot q.1 w.listed q.2 (sym (root_name w.lot t.1.node.shape w.root.shape) ∙ t.2.2) in
         (t.0, t.1, t.2.0, t.2.1, ok_same {F = ScopeFault} t.1.node.shape s (sym w.root.shape ∙ (ap root_of same ∙ q.3)));
     one_top = λ c b x y tc tb up up' lots.
         (same_node v start.laws c b x y tc tb (lots, (start.laws.present.places.root c x tc up).path ∙ sym (start.laws.present.places.root b y tb up').path)).0;
@@ -212,7 +212,7 @@ module _ {old new : Sources} {first v : ForestView} {d : DependentsView} {went c
   pub begins : tree.IsUnderway (shapes_of new) content (rules_of new) (asks_by new.grammar) T (on_of v a)
       × ((queued : Ranked Shape → Bool) × AreQueued (shapes_of new) content T (on_of v a) queued
       × IsBegun (the_edit old new) (kept_nodes first) (kept_nodes v) queued)
-  begins = roots_begin (shapes_of new) content (rules_of old) (rules_of new) (is_rules_edit old new start.stands.old_names start.stands.names) (asks_by old.grammar) (asks_by new.grammar) meets_box (sees_what_meets new)
+  begins = roots_begin (shapes_of new) content (rules_of old) (rules_of new) (is_rules_edit old new start.old_names start.names) (asks_by old.grammar) (asks_by new.grammar) meets_box (sees_what_meets new)
       V T (length first.slots) (length v.slots) gone (on_of v a) (kept_bound first) (kept_bound v) city new_city rerooted is_first
 
   pub lost : (list : List (Drawn (Ranked Shape) Primitive)) × ListsLost content V T list
@@ -224,7 +224,7 @@ module _ {old new : Sources} {first v : ForestView} {d : DependentsView} {went c
 
   pub is_ready : IsReady (the_edit old new) (kept_nodes first) first_state (length (the_edit old new).new.roots)
   is_ready = record {
-    laws = is_edit old new start.stands.old_names start.stands.names;
+    laws = is_edit old new start.old_names start.names;
     started = stands_again.start (shapes_of new) content (rules_of old) (rules_of new) (asks_by old.grammar) V (length first.slots) (kept_bound first) city;
     begun = begins.1.2;
     gone = lists_are_changes.roots (shapes_of new) content (rules_of old) (rules_of new) V T (length first.slots) (length v.slots) gone (kept_bound first) (kept_bound v) city.city new_city rerooted lost.0 lost.1;

@@ -32,8 +32,6 @@ module _ (was : Work) (rest : AgendaView) (edit : TheEdit) (s : TheState) (means
   still_means : Means passed edit s
   still_means = record {
     edit_is = means.edit_is;
-    old_names = means.old_names;
-    names = means.names;
     mode = means.mode;
     agenda_mode = same.mode ∙ means.agenda_mode;
     nodes = means.nodes;

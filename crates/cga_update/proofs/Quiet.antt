@@ -62,7 +62,7 @@ module _ (was now : Work) (rest : AgendaView) (id : ℕ) (x : Chain) (edit : The
         × AreQueued (shapes_of new) content (node_at was.forest) (on_of was.forest rest) requeued
         × IsTurnOf (the_edit was.renewal.old.now new) (kept_nodes was.forest) (kept_nodes was.forest) (ranked e.node) s.queued
         requeued false)
-    result = quiet_turns (shapes_of new) content (rules_of was.renewal.old.now) (rules_of new) (is_rules_edit was.renewal.old.now new means.old_names means.names) (by_symbol new) (asks_by new.grammar) (node_at was.forest) (length was.forest.slots) id e (on_of was.forest was.agenda) (on_of was.forest rest) (kept_bound was.forest) means.underway quiet s.queued means.queued
+    result = quiet_turns (shapes_of new) content (rules_of was.renewal.old.now) (rules_of new) (is_rules_edit was.renewal.old.now new was.renewal.old_names was.renewal.names) (by_symbol new) (asks_by new.grammar) (node_at was.forest) (length was.forest.slots) id e (on_of was.forest was.agenda) (on_of was.forest rest) (kept_bound was.forest) means.underway quiet s.queued means.queued
 
     abbrev after : TheState
     after = record { nodes = kept_nodes was.forest; queued = result.1.0; gone = s.gone; come = s.come }
@@ -89,8 +89,6 @@ module _ (was now : Work) (rest : AgendaView) (id : ℕ) (x : Chain) (edit : The
     still_means : Means passed edit after
     still_means = record {
       edit_is = means.edit_is;
-      old_names = means.old_names;
-      names = means.names;
       mode = means.mode;
       agenda_mode = least.mode ∙ means.agenda_mode;
       nodes = refl;

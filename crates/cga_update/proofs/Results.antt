@@ -71,16 +71,18 @@ module _ (r : Renewal) (before after : Kept) (was now : Changes) (calls since : 
       counted = counted;
     }
 
--- what is refused on the way from nothing is refused
-pub refused_anew : (r : Renewal) (nothing : Bor Sources) → nothing.now.mode ≡ r.new.now.mode → (before : Kept)
+-- what is refused on the way from elsewhere to the same is refused
+pub refused_anew : (r other : Renewal) → other.new ≡ r.new → other.budget ≡ r.budget
+    → other.old.now.mode ≡ other.new.now.mode → (before : Kept)
     → Stands r.old.now before → (was : Changes) (calls since : ℕ)
     → (anew made : Kept) (come all : Changes) (e : UpdateRefused)
-    → IsUpdate (record r { old = nothing }) anew made come all calls since (Err e)
+    → IsUpdate other anew made come all calls since (Err e)
     → (result : Result ℕ UpdateRefused) → IsErrAnd result (λ x. x ≡ e)
     → IsUpdate r before before was was calls since result
-refused_anew r nothing same before stood was calls since anew made come all e u (Ok n) none = absurd none
-refused_anew r nothing same before stood was calls since anew made come all OverBudget u (Err x) is =
+refused_anew r other to within same before stood was calls since anew made come all e u (Ok n) none = absurd none
+refused_anew r other to within same before stood was calls since anew made come all OverBudget u (Err x) is =
     subst (λ y. IsUpdate r before before was was calls since (Err y)) (sym is)
-    (refused r before before was was calls since u.counted u.most u.over (record { stands = stood; nodes = λ k. refl }) refl refl)
-refused_anew r nothing same before stood was calls since anew made come all NoMemory u (Err x) is =
-    given_up_within r before before was was calls since u.counted (u.bounded_within same) (Err x) is
+    (refused r before before was was calls since u.counted (subst (λ b. since ≤ calls + (b + 1)) within u.most)
+    (subst (λ b. derive (derivation_of r.new.now) b ≡ None) within (subst (λ (s : Bor Sources). derive (derivation_of s.now) other.budget ≡ None) to u.over)) (record { stands = stood; nodes = λ k. refl }) refl refl)
+refused_anew r other to within same before stood was calls since anew made come all NoMemory u (Err x) is =
+    given_up_within r before before was was calls since u.counted (subst (λ b. since ≤ calls + (b + 1)) within (u.bounded_within same)) (Err x) is

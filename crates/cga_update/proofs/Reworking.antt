@@ -90,8 +90,9 @@ lots_over new names exist budget more =
 
 pub has_ended : (old new : Sources) (v : ForestView) (was now : Work) (roots budget calls since : ℕ) (e : Ended)
     → Ends (Means was) (Means now) roots budget calls since e → roots ≡ length was.renewal.new.now.lots
-    → RootsExist new.lots → IsBetween old new was → HasBegun old new v was → HasEnded old new v now budget calls since e
-has_ended old new v was now roots budget calls since e ends size exist between begun =
+    → IsBetween old new was → HasBegun old new v was → HasEnded old new v now budget calls since e
+has_ended old new v was now roots budget calls since e ends size between begun =
+    let exist = subst (λ (x : Sources). RootsExist x.lots) between.1 was.renewal.roots in
     let number : length (the_edit old new).new.roots ≡ roots = as_many_roots old new exist ∙ sym (size ∙ ap (λ (x : Sources). length x.lots) between.1) in
     ends (the_edit old new) begun.0 begun.1 (kept_nodes v) (subst (λ n. IsReady (the_edit old new) (kept_nodes v) begun.0 n) number begun.2)
 
@@ -101,14 +102,10 @@ told_twice (d ∷ list) = ap (λ rest. told_ranked d ∷ rest) (told_twice list)
 
 module _ (old new : Sources) (mode : old.mode ≡ new.mode) (olds : NamesDiffer old.lots) (names : NamesDiffer new.lots) (kept : Kept) (stood : Stands old kept) where
   -- marked, the forest stands as it did
-  pub marked_stands : RootsExist new.lots → (m : ForestView) → m.marking ≡ true
-      → ((c : ℕ) → node_at m c ≡ node_at kept.forest c)
+  pub marked_stands : (m : ForestView) → m.marking ≡ true → ((c : ℕ) → node_at m c ≡ node_at kept.forest c)
       → ((c : ℕ) → marked_at m c ≡ node_at kept.forest c) → m.mode ≡ kept.forest.mode
       → StandsMarked old new m kept.dependents
-  marked_stands exist m marking present marked moded = record {
-    old_names = olds;
-    names = names;
-    scopes = exist;
+  marked_stands m marking present marked moded = record {
     old_mode = mode;
     mode = moded ∙ (stood.forest.mode ∙ mode);
     marking = marking;

@@ -3,6 +3,7 @@ use Rattle.std.proofs.Common.{◌≡◌, ◌⊎◌, inl, inr, ℕ, ◌+◌, ◌<
 use Rattle.std.specs.Prelude.{is_some}
 use Rattle.std.proofs.lemmas.Option.{slice_get_within}
 use Rattle.cga_shape.specs.declared.lot.Lot.{Lot}
+use Rattle.cga_expand.specs.Derivation.{NamesDiffer}
 use Rattle.cga_fraction.proofs.Door.{None-not-Some as none_some, lt_or_eq_from_lt_suc as at_or_below, same_Some as some_same}
 use Rattle.cga_forest.specs.declared.moved.Moved.{Moved}
 use Rattle.cga_forest.specs.declared.node.Node.{Node}
@@ -19,6 +20,8 @@ use Rattle.cga_update.specs.Roots.{View, AllWanted, AreThere, Gains, HasLost, Ha
 
 -- an update at its beginning: how its roots were changed, and what is on its agenda
 pub record IsRooted (old new : Sources) (first v : ForestView) (d : DependentsView) (went came : List Moved) (a : AgendaView) : Type 0 where
+  pub old_names : NamesDiffer old.lots
+  pub names : NamesDiffer new.lots
   pub stands : StandsMarked old new first d
   pub roots : IsRerooted (node_at first) v went
   pub listed : ListsMoved (node_at v) (node_at first) came

@@ -22,7 +22,6 @@ use Rattle.cga_shape.specs.declared.shape.Shape.{Shape}
 use Rattle.cga_shape.specs.declared.sources.Sources.{Sources}
 use Rattle.cga_tree.specs.Replaced.{IsReplaced}
 use Rattle.cga_expand.specs.Derivation as expansion
-use Rattle.cga_expand.specs.Derivation.{NamesDiffer}
 use Rattle.cga_forest.specs.Node.{chain_kept, fits, with_state}
 use Rattle.cga_forest.specs.Placing.{children_after, emitted, state_after}
 use Rattle.cga_forest.specs.View.{Seen}
@@ -197,7 +196,7 @@ module _ (was now : Work) (rest : AgendaView) (id : ℕ) (x : Chain) (turned : T
       × IsTurnOf (the_edit was.renewal.old.now new) (kept_nodes was.forest) (kept_nodes now.forest) (ranked e.node) s.queued requeued turned.expanded)
 
   result : Result
-  result = node_turns (shapes_of new) content (rules_of was.renewal.old.now) (rules_of new) (is_rules_edit was.renewal.old.now new means.old_names means.names) (by_symbol new) fits (asks_by g) meets_box is_fit (sees_what_meets new) V T (length was.forest.slots) (length now.forest.slots) id news e after_e gone (on_of was.forest was.agenda) (on_of was.forest rest) (on_of now.forest now.agenda) turned.expanded (kept_bound was.forest) (kept_bound now.forest) means.underway node_turn s.queued means.queued
+  result = node_turns (shapes_of new) content (rules_of was.renewal.old.now) (rules_of new) (is_rules_edit was.renewal.old.now new was.renewal.old_names was.renewal.names) (by_symbol new) fits (asks_by g) meets_box is_fit (sees_what_meets new) V T (length was.forest.slots) (length now.forest.slots) id news e after_e gone (on_of was.forest was.agenda) (on_of was.forest rest) (on_of now.forest now.agenda) turned.expanded (kept_bound was.forest) (kept_bound now.forest) means.underway node_turn s.queued means.queued
 
   -- ---- the record
 
@@ -214,7 +213,7 @@ module _ (was now : Work) (rest : AgendaView) (id : ℕ) (x : Chain) (turned : T
   came = lists_lost T V (one_node now.forest turn.placed.1.forest) turn.placed.0.came turn.placed.1.came
 
   change : IsChange (kept_nodes was.forest) (kept_nodes now.forest) went.0 came.0
-  change = lists_are_changes.turn (shapes_of new) content (rules_of was.renewal.old.now) (rules_of new) (is_rules_edit was.renewal.old.now new means.old_names means.names) (by_symbol new) fits (asks_by g) meets_box is_fit V T (length was.forest.slots) (length now.forest.slots) id news e after_e gone (on_of was.forest was.agenda) (on_of was.forest rest) (on_of now.forest now.agenda) turned.expanded (kept_bound was.forest) (kept_bound now.forest) means.underway node_turn went.0 came.0 went.1 came.1
+  change = lists_are_changes.turn (shapes_of new) content (rules_of was.renewal.old.now) (rules_of new) (is_rules_edit was.renewal.old.now new was.renewal.old_names was.renewal.names) (by_symbol new) fits (asks_by g) meets_box is_fit V T (length was.forest.slots) (length now.forest.slots) id news e after_e gone (on_of was.forest was.agenda) (on_of was.forest rest) (on_of now.forest now.agenda) turned.expanded (kept_bound was.forest) (kept_bound now.forest) means.underway node_turn went.0 came.0 went.1 came.1
 
   abbrev after : TheState
   after = record { nodes = kept_nodes now.forest; queued = result.1.0; gone = s.gone ++ went.0; come = s.come ++ came.0 }
@@ -265,8 +264,6 @@ module _ (was now : Work) (rest : AgendaView) (id : ℕ) (x : Chain) (turned : T
   means_now : Means now edit after
   means_now = record {
     edit_is = to_new (λ b. edit ≡ the_edit now.renewal.old.now b.now) (to_old (λ b. edit ≡ the_edit b.now new) means.edit_is);
-    old_names = to_old (λ b. NamesDiffer b.now.lots) means.old_names;
-    names = to_new (λ b. NamesDiffer b.now.lots) means.names;
     mode = to_new (λ b. now.forest.mode ≡ b.now.mode) (turn.placed.1.bounds.mode ∙ means.mode);
     agenda_mode = to_new (λ b. now.agenda.mode ≡ b.now.mode) (turn.placed.1.followed.grows.mode ∙ least.mode ∙ means.agenda_mode);
     nodes = refl;

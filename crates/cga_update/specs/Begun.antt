@@ -5,8 +5,6 @@ use Rattle.cga_agenda.specs.Loop.{IsReady, State}
 use Rattle.cga_word.specs.declared.answers.Answers.{Answers}
 use Rattle.cga_word.specs.declared.primitive.Primitive.{Primitive}
 use Rattle.cga_depend.specs.Pairs.{DependentsView, nodes_in}
-use Rattle.cga_expand.specs.Derivation.{NamesDiffer}
-use Rattle.cga_expand.specs.Validity.{RootsExist}
 use Rattle.cga_rework.specs.City as tree
 use Rattle.cga_rework.specs.Ranked.{Ranked}
 use Rattle.cga_shape.specs.declared.shape.Shape.{Shape}
@@ -28,9 +26,6 @@ use Rattle.cga_update.specs.Queue.{chains_of}
 
 -- the forest stands for the old sources, and is marked as it stands; so do the dependents
 pub record StandsMarked (old new : Sources) (v : ForestView) (d : DependentsView) : Type 0 where
-  pub old_names : NamesDiffer old.lots
-  pub names : NamesDiffer new.lots
-  pub scopes : RootsExist new.lots
   pub old_mode : old.mode ≡ new.mode
   pub mode : v.mode ≡ new.mode
   pub marking : v.marking ≡ true

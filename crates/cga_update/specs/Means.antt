@@ -13,7 +13,7 @@ use Rattle.cga_rework.specs.Agenda.{AreQueued}
 use Rattle.cga_rework.specs.City.{IsUnderway}
 use Rattle.cga_rework.specs.Ranked.{Ranked, unranked_drawn}
 use Rattle.cga_rule.specs.declared.grammar.Grammar.{Grammar}
-use Rattle.cga_expand.specs.Derivation.{NamesDiffer, priority_of}
+use Rattle.cga_expand.specs.Derivation.{priority_of}
 use Rattle.cga_expand.specs.Settings.{Setting}
 use Rattle.cga_forest.specs.View.{Seen}
 use Rattle.cga_forest.specs.Tree.{ForestView, KeepsMark, marked_at, node_at}
@@ -38,8 +38,6 @@ ArePriced g v =
 
 pub record Means (w : Work) (edit : Edit (Ranked Shape) Answers Setting ShapeFault Primitive) (s : State (Ranked Shape) Answers ShapeFault Primitive) : Type 0 where
   pub edit_is : edit ≡ the_edit w.renewal.old.now w.renewal.new.now
-  pub old_names : NamesDiffer w.renewal.old.now.lots
-  pub names : NamesDiffer w.renewal.new.now.lots
   pub mode : w.forest.mode ≡ w.renewal.new.now.mode
   pub agenda_mode : w.agenda.mode ≡ w.renewal.new.now.mode
   pub nodes : s.nodes ≡ kept_nodes w.forest

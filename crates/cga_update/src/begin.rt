@@ -62,7 +62,7 @@ fn begin<T: Ledger>(
         &mut went,
     )?;
     work.all_came = work.forest.count() == 0;
-    let came = add_roots(alloc, &mut work.forest, &mut work.symbols, renewal.new)?;
+    let came = add_roots(alloc, &mut work.forest, &mut work.symbols, renewal)?;
     let went_nodes = went.as_slice();
     let came_nodes = came.as_slice();
     note_went(went_nodes, &mut work.log, &mut work.gone)?;

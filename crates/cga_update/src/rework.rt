@@ -1,8 +1,6 @@
 //! The update within one mode.
 ghost use Rattle.std.specs.Prelude.{◌≡◌, ◌+◌, ◌≤◌, ℕ, IfOk, length};
 ghost use Rattle.cga_agenda.specs.Loop.{HasCalled};
-ghost use Rattle.cga_expand.specs.Derivation.{NamesDiffer};
-ghost use Rattle.cga_expand.specs.Validity.{RootsExist};
 ghost use Rattle.cga_shape.specs.declared.sources.Sources.{Sources};
 ghost use Rattle.cga_forest.specs.Tree.{ForestView, marked_at, node_at};
 ghost use Rattle.cga_update.specs.Begun.{HasBegun, IsBetween};
@@ -36,9 +34,6 @@ pub fn rework<E: Ledger, T: Ledger>(
     tests: &mut Tests<T>,
 ) -> Result<u64, UpdateRefused>
     requires mode { renewal.old.now.mode ≡ renewal.new.now.mode }
-    requires old_names { NamesDiffer renewal.old.now.lots }
-    requires names { NamesDiffer renewal.new.now.lots }
-    requires roots { RootsExist renewal.new.now.lots }
     requires stands { Stands renewal.old.now kept.old }
     ensures { IsUpdate renewal.entry kept.old kept.new changes.old changes.new expansions.old expansions.new result }
 {
@@ -70,9 +65,6 @@ fn begin_work<'a, T: Ledger>(
     tests: &mut Tests<T>,
 ) -> Result<Work<'a>, NoMemory>
     requires mode { renewal.old.now.mode ≡ renewal.new.now.mode }
-    requires old_names { NamesDiffer renewal.old.now.lots }
-    requires names { NamesDiffer renewal.new.now.lots }
-    requires roots { RootsExist renewal.new.now.lots }
     requires stands { Stands renewal.old.now kept.old }
     ensures begun { IfOk result (λ work. HasBegun renewal.entry.old.now renewal.entry.new.now kept.old.forest work) }
     ensures sources { IfOk result (λ work. IsBetween renewal.entry.old.now renewal.entry.new.now work) }
@@ -92,8 +84,8 @@ fn work_off<E: Ledger, T: Ledger>(
     tests: &mut Tests<T>,
 ) -> Result<Ended, NoMemory>
     requires few { length under_way.now.renewal.new.now.lots ≤ budget }
-    ensures ended { IfOk result (λ ended. (old new : Sources) (v : ForestView) → RootsExist new.lots
-        → IsBetween old new under_way.entry.now → HasBegun old new v under_way.entry.now
+    ensures ended { IfOk result (λ ended. (old new : Sources) (v : ForestView) → IsBetween old new under_way.entry.now
+        → HasBegun old new v under_way.entry.now
         → HasEnded old new v under_way.exit.now budget expansions.old expansions.new ended) }
     ensures called { IfOk result (λ ended. HasCalled expansions.old expansions.new ended) }
     ensures bounds { KeepsBounds under_way.entry.now under_way.exit.now }

@@ -1,7 +1,6 @@
 //! The roots that go and come when an edit begins.
 ghost use Rattle.std.specs.Prelude.{◌≡◌, ℕ, ◌∷◌, ◌++◌, [], slice_get, Some, None, true, false, IfOk, OnOk, IsOk, length};
-ghost use Rattle.cga_expand.specs.Derivation.{priority_of, NamesDiffer};
-ghost use Rattle.cga_expand.specs.Validity.{RootsExist};
+ghost use Rattle.cga_expand.specs.Derivation.{priority_of};
 ghost use Rattle.cga_forest.specs.Moved.{ListsMoved, moved_of};
 ghost use Rattle.cga_forest.specs.View.{Seen};
 ghost use Rattle.cga_forest.specs.Tree.{node_at};
@@ -50,8 +49,6 @@ fn is_wanted(
 ) -> Result<bool, NoMemory>
     requires symbols { symbols.old ≡ renewal.new.now.grammar }
     requires lots { AreByName renewal.new.now.lots (length renewal.new.now.lots) lots.now.entries }
-    requires names { NamesDiffer renewal.new.now.lots }
-    requires scopes { RootsExist renewal.new.now.lots }
     ensures symbols { symbols.new ≡ symbols.old }
     ensures wanted { IfOk result (λ is. is ≡ true → (c : ℕ) (d : Seen) → IsRootNamed (node_at forest.now) name c d → IsWanted renewal.entry.new.now d.node) }
     ensures unwanted { IfOk result (λ is. is ≡ false → (c : ℕ) (d : Seen) → IsRootNamed (node_at forest.now) name c d → IsWanted renewal.entry.new.now d.node → ⊥) }
@@ -109,8 +106,6 @@ fn clear_root(
 ) -> Result<(), NoMemory>
     requires symbols { symbols.old ≡ renewal.new.now.grammar }
     requires lots { AreByName renewal.new.now.lots (length renewal.new.now.lots) lots.now.entries }
-    requires names { NamesDiffer renewal.new.now.lots }
-    requires scopes { RootsExist renewal.new.now.lots }
     ensures symbols { symbols.new ≡ symbols.old }
     ensures lost { OnOk result ((V : View) → HasLost V forest.old went.old.items → HasLost V forest.new went.new.items) }
     ensures wanted { OnOk result ((c : ℕ) (d : Seen) → IsRootNamed (node_at forest.new) name c d → IsWanted renewal.entry.new.now d.node) }
@@ -133,8 +128,6 @@ pub fn remove_roots(
     went: &mut Vec<Moved>,
 ) -> Result<(), NoMemory>
     requires symbols { symbols.old ≡ renewal.new.now.grammar }
-    requires names { NamesDiffer renewal.new.now.lots }
-    requires scopes { RootsExist renewal.new.now.lots }
     requires lots { HasOldLots renewal.old.now.lots forest.old }
     ensures symbols { symbols.new ≡ symbols.old }
     ensures lost { OnOk result ((V : View) → HasLost V forest.old went.old.items → HasLost V forest.new went.new.items) }
@@ -188,19 +181,18 @@ pub fn add_roots(
     alloc: Global,
     forest: &mut Forest,
     symbols: &mut Symbols,
-    new: &Sources,
+    renewal: Renewal,
 ) -> Result<Vec<Moved>, NoMemory>
-    requires symbols { symbols.old ≡ new.now.grammar }
-    requires scopes { RootsExist new.now.lots }
-    ensures gains { OnOk result (Gains new.now forest.old forest.new) }
-    ensures there { OnOk result (AreThere new.now forest.new (length new.now.lots)) }
+    requires symbols { symbols.old ≡ renewal.new.now.grammar }
+    ensures gains { OnOk result (Gains renewal.entry.new.now forest.old forest.new) }
+    ensures there { OnOk result (AreThere renewal.entry.new.now forest.new (length renewal.entry.new.now.lots)) }
     ensures came { IfOk result (λ came. ListsMoved (node_at forest.new) (node_at forest.old) came.items) }
     ensures mode { forest.new.mode ≡ forest.old.mode }
     ensures symbols { symbols.new ≡ symbols.old }
 {
     let mut came = Vec::new(alloc);
-    for lot in new.lots.as_slice() {
-        add_root(forest, symbols, new, lot, &mut came)?;
+    for lot in renewal.new.lots.as_slice() {
+        add_root(forest, symbols, renewal.new, lot, &mut came)?;
     }
     Ok(came)
 }

@@ -1,8 +1,6 @@
 //! The update.
 ghost use Rattle.std.specs.Prelude.{◌≡◌, ◌≢◌, ◌+◌, ◌≤◌, OnOk};
 ghost use Rattle.cga_update.specs.Anew.{IsAnew};
-ghost use Rattle.cga_expand.specs.Derivation.{NamesDiffer};
-ghost use Rattle.cga_expand.specs.Validity.{RootsExist};
 ghost use Rattle.cga_update.specs.Stands.{Stands};
 ghost use Rattle.cga_update.specs.Updates.{IsExact, IsUpdate, with_no_lots};
 
@@ -13,7 +11,7 @@ use crate::rework::rework;
 use crate::update_refused::UpdateRefused;
 use cga_expand::Expansions;
 use cga_fraction::{NoMemory, Tests};
-use cga_shape::{Changes, Sources};
+use cga_shape::Changes;
 use std::alloc::Global;
 use std::mem::swap;
 use std::sync::ledger::Ledger;
@@ -32,9 +30,6 @@ pub fn update<E: Ledger, T: Ledger>(
     expansions: &mut Expansions<E>,
     tests: &mut Tests<T>,
 ) -> Result<u64, UpdateRefused>
-    requires old_names { NamesDiffer renewal.old.now.lots }
-    requires names { NamesDiffer renewal.new.now.lots }
-    requires roots { RootsExist renewal.new.now.lots }
     requires stands { Stands renewal.old.now kept.old }
     ensures { IsUpdate renewal.entry kept.old kept.new changes.old changes.new expansions.old expansions.new result }
 {
@@ -55,9 +50,6 @@ fn change_mode<E: Ledger, T: Ledger>(
     tests: &mut Tests<T>,
 ) -> Result<u64, UpdateRefused>
     requires mode { renewal.old.now.mode ≢ renewal.new.now.mode }
-    requires old_names { NamesDiffer renewal.old.now.lots }
-    requires names { NamesDiffer renewal.new.now.lots }
-    requires roots { RootsExist renewal.new.now.lots }
     requires stands { Stands renewal.old.now kept.old }
     ensures { IsUpdate renewal.entry kept.old kept.new changes.old changes.new expansions.old expansions.new result }
 {
@@ -78,9 +70,6 @@ fn exchange<E: Ledger, T: Ledger>(
     tests: &mut Tests<T>,
 ) -> Result<u64, UpdateRefused>
     requires mode { renewal.old.now.mode ≢ renewal.new.now.mode }
-    requires old_names { NamesDiffer renewal.old.now.lots }
-    requires names { NamesDiffer renewal.new.now.lots }
-    requires roots { RootsExist renewal.new.now.lots }
     requires stands { Stands renewal.old.now kept.old }
     requires anew { IsAnew renewal.new.now anew.old }
     ensures { IsUpdate renewal.entry kept.old kept.new changes.old changes.new expansions.old expansions.new result }
@@ -98,31 +87,30 @@ fn exchange<E: Ledger, T: Ledger>(
         expansions,
         tests,
     )?;
-    empty(alloc, kept, renewal.old, changes, expansions, tests)?;
+    empty(alloc, kept, renewal, changes, expansions, tests)?;
     swap(kept, &mut anew.kept);
     swap(&mut changes.come, &mut anew.made.come);
     Ok(touched)
 }
 
-/// Takes all lots away: `changes` tells the instances that go.
+/// Takes all old lots away: `changes` tells the instances that go.
 fn empty<E: Ledger, T: Ledger>(
     alloc: Global,
     kept: &mut Kept,
-    old: &Sources,
+    renewal: Renewal,
     changes: &mut Changes,
     expansions: &mut Expansions<E>,
     tests: &mut Tests<T>,
 ) -> Result<(), NoMemory>
-    requires names { NamesDiffer old.now.lots }
-    requires stands { Stands old.now kept.old }
-    ensures exact { OnOk result (IsExact old.now (with_no_lots old.now) 0 0 changes.new) }
+    requires stands { Stands renewal.old.now kept.old }
+    ensures exact { OnOk result (IsExact renewal.entry.old.now (with_no_lots renewal.entry.old.now) 0 0 changes.new) }
     ensures spent { OnOk result (expansions.new ≡ expansions.old) }
     ensures bounded { expansions.new ≤ expansions.old + 1 }
     ensures counted { expansions.old ≤ expansions.new }
 {
-    let nothing = without_lots(alloc, old)?;
+    let nothing = without_lots(alloc, renewal.old)?;
     let to_nothing = Renewal {
-        old,
+        old: renewal.old,
         new: &nothing,
         budget: 0,
     };

@@ -19,8 +19,6 @@ use Rattle.cga_update.proofs.begin.begin.Goals as goal
 pub remove_roots-requires : goal.remove_roots-requires
 remove_roots-requires g c = record {
   symbols = c.requires.fresh.symbols;
-  names = c.requires.stands.names;
-  scopes = c.requires.stands.scopes;
   lots = proof.has_old_lots c.args.work.now.renewal.old.now c.args.work.now.renewal.new.now c.args.work.now.forest c.args.dependents.now c.requires.stands;
 }
 
@@ -66,6 +64,8 @@ returns-clause-begun g c =
       priced = subst (λ (g : BothGrammars). (symbol : List ℕ) → IsPricedFor v g.before g.after (nodes_in d symbol) symbol a) grammars c.in_ok-priced.ensures.parents;
     } in
     let start : IsRooted old new first v d went came a = record {
+      old_names = c.args.work.now.renewal.old_names;
+      names = c.args.work.now.renewal.names;
       stands = stands;
       roots = r;
       listed = listed;
@@ -80,8 +80,6 @@ returns-clause-begun g c =
       proof.first_state start,
       record {
         edit_is = refl;
-        old_names = stands.old_names;
-        names = stands.names;
         mode = c.in_ok-came.ensures.mode ∙ (c.in_ok-remove_roots.ensures.mode ∙ stands.mode);
         agenda_mode = c.in_ok-priced.ensures.grows.mode ∙ c.in_ok-queue_rooted.ensures.mode ∙ c.requires.fresh.mode;
         nodes = refl;

@@ -7,7 +7,7 @@ use Rattle.cga_update.proofs.roots.add_roots.Goals as goal
 
 pub loop-lot-init : goal.loop-lot-init
 loop-lot-init c = record {
-  gains = nothing_gained c.args.new.now c.args.forest.now;
+  gains = nothing_gained c.args.renewal.new.now c.args.forest.now;
   there = λ i lot le. absurd (omega (arith, le));
   came = subst (λ list. ListsMoved (node_at c.args.forest.now) (node_at c.args.forest.now) list) (sym c.new-came.ensures.items) (none_came (node_at c.args.forest.now));
   mode = refl;
@@ -15,11 +15,11 @@ loop-lot-init c = record {
 }
 
 pub add_root-requires-clause-listed : goal.add_root-requires-clause-listed
-add_root-requires-clause-listed c = (c.loop-lot.lot-index, item_at c.args.new.now.lots _ c.as_slice-lot-items.ensures c.loop-lot.lot-index c.lot-item.result c.loop-lot-test.true c.lot-item.is)
+add_root-requires-clause-listed c = (c.loop-lot.lot-index, item_at c.args.renewal.new.now.lots _ c.as_slice-lot-items.ensures c.loop-lot.lot-index c.lot-item.result c.loop-lot-test.true c.lot-item.is)
 
 pub loop-lot-preserved : goal.loop-lot-preserved
 loop-lot-preserved c =
-    let new = c.args.new.now in
+    let new = c.args.renewal.new.now in
     let first = c.args.forest.now in
     let before = c.loop-lot.forest in
     let after = c.add_root.new.forest in
@@ -33,4 +33,4 @@ loop-lot-preserved c =
     }
 
 pub returns-clause-there : goal.returns-clause-there
-returns-clause-there c = there_end c.args.new.now c.loop-lot.forest _ c.loop-lot.lot-index c.as_slice-lot-items.ensures c.loop-lot-test.false c.loop-lot.invariant.there
+returns-clause-there c = there_end c.args.renewal.new.now c.loop-lot.forest _ c.loop-lot.lot-index c.as_slice-lot-items.ensures c.loop-lot-test.false c.loop-lot.invariant.there

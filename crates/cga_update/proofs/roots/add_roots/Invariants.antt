@@ -6,8 +6,8 @@ use Rattle.cga_update.proofs.roots.add_roots.Given as goal
 
 abbrev pub invariant-loop-lot : goal.invariant-loop-lot
 invariant-loop-lot l = record {
-  gains : Gains l.new l.fn.forest l.forest;
-  there : AreThere l.new l.forest l.lot-index;
+  gains : Gains l.renewal.new.now l.fn.forest l.forest;
+  there : AreThere l.renewal.new.now l.forest l.lot-index;
   came : ListsMoved (node_at l.forest) (node_at l.fn.forest) l.came.items;
   mode : l.forest.mode ≡ l.fn.forest.mode;
   symbols : l.symbols ≡ l.fn.symbols;

@@ -8,15 +8,15 @@ use Rattle.cga_update.proofs.Modes.{empties, never_over}
 use Rattle.cga_update.proofs.updating.empty.Goals as goal
 
 pub returns-in-Ok-clause-exact : goal.returns-in-Ok-clause-exact
-returns-in-Ok-clause-exact g c = (empties c.args.old.now c.in_ok-nothing.nothing c.in_ok-nothing.ensures c.in-Ok._touched c.rework.new.changes c.in-Ok.ensures.exact).1
+returns-in-Ok-clause-exact g c = (empties c.args.renewal.old.now c.in_ok-nothing.nothing c.in_ok-nothing.ensures c.in-Ok._touched c.rework.new.changes c.in-Ok.ensures.exact).1
 
 pub returns-in-Ok-clause-spent : goal.returns-in-Ok-clause-spent
 returns-in-Ok-clause-spent g c =
-    let none = (empties c.args.old.now c.in_ok-nothing.nothing c.in_ok-nothing.ensures c.in-Ok._touched c.rework.new.changes c.in-Ok.ensures.exact).0 in
+    let none = (empties c.args.renewal.old.now c.in_ok-nothing.nothing c.in_ok-nothing.ensures c.in-Ok._touched c.rework.new.changes c.in-Ok.ensures.exact).0 in
     let spent = c.in-Ok.ensures.spent in
     omega (arith, none, spent)
 
 pub unreachable-requires : goal.unreachable-requires
 unreachable-requires g c =
-    never_over c.args.old.now c.in_ok-nothing.nothing c.in_ok-nothing.ensures
+    never_over c.args.renewal.old.now c.in_ok-nothing.nothing c.in_ok-nothing.ensures
     (subst (λ (e : UpdateRefused). WhereOver {A = ℕ} (Err e) (derive (derivation_of c.in_ok-nothing.nothing) 0 ≡ None)) c.in-Err-OverBudget.field-0-is c.in-Err-OverBudget.ensures.over)

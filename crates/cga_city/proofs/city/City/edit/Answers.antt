@@ -14,14 +14,14 @@ returns-in-Err g c =
     let sources_are : c.self.inside.sources ≡ c.args.self.now.sources = ap (λ (v : CityState). v.sources) c.self.view_is in
     refused_gives c.args.self.now c.args.edit c.args.expansions.now c.in-Err.refused (subst (λ (s : Sources). Changes (changed s c.args.edit) (Err c.in-Err.refused)) sources_are c.in-Err.ensures)
 
-pub update-requires-clause-old_names : goal.update-requires-clause-old_names
-update-requires-clause-old_names g c = names_differ c.self.inside.sources.lots c.self.invariant.sound.names
-
-pub update-requires-clause-names : goal.update-requires-clause-names
-update-requires-clause-names g c = names_differ c.in-Ok.new.lots (changed_sound c.self.inside.sources c.in-Ok.new c.args.edit c.self.invariant.sound c.requires.lots c.in-Ok.ensures).names
-
-pub update-requires-clause-roots : goal.update-requires-clause-roots
-update-requires-clause-roots g c = (sound_valid c.in-Ok.new (changed_sound c.self.inside.sources c.in-Ok.new c.args.edit c.self.invariant.sound c.requires.lots c.in-Ok.ensures)).roots
+pub invariant_of-renewal : goal.invariant_of-renewal
+invariant_of-renewal g c =
+    let sound = changed_sound c.self.inside.sources c.in-Ok.new c.args.edit c.self.invariant.sound c.requires.lots c.in-Ok.ensures in
+    record {
+      old_names = names_differ c.self.inside.sources.lots c.self.invariant.sound.names;
+      names = names_differ c.in-Ok.new.lots sound.names;
+      roots = (sound_valid c.in-Ok.new sound).roots;
+    }
 
 pub invariant_of-self : goal.invariant_of-self
 invariant_of-self g c = record {

@@ -3,11 +3,11 @@ use Rattle.cga_city.proofs.Valid.{sound_valid}
 use Rattle.cga_city.proofs.Warming.{never_over, warmed_by}
 use Rattle.cga_city.proofs.city.City.rewarm.Goals as goal
 
-pub update-told-requires-clause-names : goal.update-told-requires-clause-names
-update-told-requires-clause-names g c = names_differ c.self.inside.sources.lots c.self.invariant.sound.names
+pub invariant_of-renewal-clause-names : goal.invariant_of-renewal-clause-names
+invariant_of-renewal-clause-names g c = names_differ c.self.inside.sources.lots c.self.invariant.sound.names
 
-pub update-told-requires-clause-roots : goal.update-told-requires-clause-roots
-update-told-requires-clause-roots g c = (sound_valid c.self.inside.sources c.self.invariant.sound).roots
+pub invariant_of-renewal-clause-roots : goal.invariant_of-renewal-clause-roots
+invariant_of-renewal-clause-roots g c = (sound_valid c.self.inside.sources c.self.invariant.sound).roots
 
 pub update-told-requires-clause-stands : goal.update-told-requires-clause-stands
 update-told-requires-clause-stands g c = rw (c.empty_sources-empty.ensures, c.replace.ensures.after) c.no_shapes.ensures
