@@ -1,22 +1,22 @@
 //! The city.
-ghost use Rattle.std.specs.Prelude.{◌≡◌, ◌+◌, ◌<◌, ◌≤◌, [], IfOk, IfSome, IsOk, OnErr, OnOk, IsFalse, IsTrue, Ok, Some, bytes_eq, length, slice_get, true};
+ghost use Rattle.std.specs.Prelude.{◌≡◌, ◌+◌, ◌<◌, ◌≤◌, [], IfOk, IfSome, IsOk, OnErr, OnOk, IsFalse, IsTrue, Some, bytes_eq, length, slice_get, true};
 ghost use Rattle.std.specs.List.{IsDistinct};
 ghost use Rattle.cga_expand.specs.Run.{IsRun};
 ghost use Rattle.cga_obj.specs.Lots.{AreSolid, StandsBy};
-ghost use Rattle.cga_city.specs.City.{EditGives, HasDistinctLots, IsWarmed, empty_city};
+ghost use Rattle.cga_city.specs.City.{EditGives, HandsOut, HasDistinctLots, IsWarmed, empty_city};
 ghost use Rattle.cga_city.specs.Derived.{derived, members};
 ghost use Rattle.cga_city.specs.Hulls.{IsHullOf};
 ghost use Rattle.cga_city.specs.Inside.{AreSound};
 ghost use Rattle.cga_city.specs.Lots.{names_of};
 ghost use Rattle.cga_city.specs.Reports as spec;
 ghost use Rattle.cga_trace.specs.Text.{AreSteps};
-ghost use Rattle.cga_update.specs.Updates.{WhereOver};
 
 use crate::edits::changed_sources;
 use crate::empty::{empty_sources, no_changes, no_shapes};
 use crate::no_lot::NoLot;
 use crate::reports::{all_faults, told};
 use crate::tally::tally_all;
+use crate::within::within_budget;
 use cga_expand::Expansions;
 use cga_fraction::{List, NoMemory, Tests};
 use cga_frame::WorldBox;
@@ -90,6 +90,23 @@ impl City {
         requires lots { HasDistinctLots edit }
         ensures { EditGives self.old edit result self.new expansions.old expansions.new }
     {
+        match self.hand_out(edit, expansions, tests) {
+            Ok(_former) => Ok(()),
+            Err(refused) => Err(refused),
+        }
+    }
+
+    /// The same, and gives the former sources, which it doesn't copy: what an undo goes back to.
+    pub fn hand_out<E: Ledger, T: Ledger>(
+        &mut self,
+        edit: Edit,
+        expansions: &mut Expansions<E>,
+        tests: &mut Tests<T>,
+    ) -> Result<Sources, EditRefused>
+        requires warm { IsTrue self.old.warm }
+        requires lots { HasDistinctLots edit }
+        ensures { HandsOut self.old edit result self.new expansions.old expansions.new }
+    {
         let new = match changed_sources(self.alloc, &self.sources, edit) {
             Ok(new) => new,
             Err(refused) => return Err(refused),
@@ -109,10 +126,9 @@ impl City {
             tests,
         ) {
             Ok(count) => {
-                self.sources = new;
                 self.changes = changes;
                 self.expanded = count;
-                Ok(())
+                Ok(replace(&mut self.sources, new))
             }
             Err(UpdateRefused::OverBudget) => Err(EditRefused::OverBudget),
             Err(UpdateRefused::NoMemory) => {
@@ -279,17 +295,5 @@ impl City {
         ensures { result ≡ self.now.sources.mode }
     {
         self.sources.mode
-    }
-}
-
-/// What an update answers whose new sources are within the budget.
-fn within_budget(told: Result<u64, UpdateRefused>) -> Result<u64, NoMemory>
-    requires within { WhereOver told ⊥ }
-    ensures same { IfOk result (λ count. told ≡ Ok count) }
-{
-    match told {
-        Ok(count) => Ok(count),
-        Err(UpdateRefused::NoMemory) => Err(NoMemory),
-        Err(UpdateRefused::OverBudget) => unreachable!(),
     }
 }

@@ -17,6 +17,7 @@ mod no_lot;
 mod reports;
 mod tally;
 mod walk;
+mod within;
 
 pub use cga_shape::{Counts, Edit, EditRefused};
 pub use city::City;

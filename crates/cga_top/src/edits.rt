@@ -49,9 +49,14 @@ fn do_edit<E: Ledger, T: Ledger>(
     requires lots { HasDistinctLots edit }
     ensures { IfOk result (λ told. Tells session.old edit told session.new expansions.old expansions.new) }
 {
-    let before = session.city.sources().copy(session.alloc)?;
-    match work_edit(session, edit, expansions, tests)? {
-        Ok(()) => Ok(Ok(before)),
+    // They are sound and within the budget.
+    let _before = session.city.sources();
+    match session.city.hand_out(edit, expansions, tests) {
+        Ok(former) => {
+            session.bill.apply(session.city.changes())?;
+            Ok(Ok(former))
+        }
+        Err(EditRefused::NoMemory) => Err(NoMemory),
         Err(refused) => Ok(Err(refused)),
     }
 }

@@ -22,8 +22,8 @@ remove_roots-requires g c = record {
   lots = proof.has_old_lots c.args.work.now.renewal.old.now c.args.work.now.renewal.new.now c.args.work.now.forest c.args.dependents.now c.requires.stands;
 }
 
-pub add_roots-requires-clause-symbols : goal.add_roots-requires-clause-symbols
-add_roots-requires-clause-symbols g c = c.remove_roots.ensures.symbols ∙ c.requires.fresh.symbols
+pub add_roots-requires : goal.add_roots-requires
+add_roots-requires g c = record { symbols = c.remove_roots.ensures.symbols ∙ c.requires.fresh.symbols }
 
 pub queue_rooted-requires : goal.queue_rooted-requires
 queue_rooted-requires g c = record { one = one_each c.add_roots.new.forest c.laws-2.ensures }

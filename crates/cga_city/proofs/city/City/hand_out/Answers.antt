@@ -7,7 +7,7 @@ use Rattle.cga_city.proofs.Sound.{changed_sound}
 use Rattle.cga_city.proofs.Valid.{sound_valid}
 use Rattle.cga_city.proofs.Deriving.{refused_gives}
 use Rattle.cga_city.proofs.Kept.{done_gives, over_gives, now_within, warm_inside}
-use Rattle.cga_city.proofs.city.City.edit.Goals as goal
+use Rattle.cga_city.proofs.city.City.hand_out.Goals as goal
 
 pub returns-in-Err : goal.returns-in-Err
 returns-in-Err g c =
@@ -32,8 +32,9 @@ invariant_of-self g c = record {
 
 pub returns-in-Ok-update : goal.returns-in-Ok-update
 returns-in-Ok-update g c =
-    rw (← c.self.view_is) (done_gives c.self.inside.sources c.in-Ok.new c.args.edit c.self.inside.budget c.in-Ok-update.count _ _ c.self.inside.expanded c.self.inside.warm c.self.invariant.within.0 c.self.inside.changes _
-    c.self.invariant.sound c.self.invariant.within.1 c.in-Ok.ensures c.in-Ok-update.ensures.exact c.in-Ok-update.ensures.spent (warm_inside _ c.args.self.now c.self.view_is c.requires.warm))
+    let former : c.self.inside.sources ≡ c.args.self.now.sources = ap (λ (v : CityState). v.sources) c.self.view_is in
+    (former, rw (← c.self.view_is) (done_gives c.self.inside.sources c.in-Ok.new c.args.edit c.self.inside.budget c.in-Ok-update.count _ _ c.self.inside.expanded c.self.inside.warm c.self.invariant.within.0 c.self.inside.changes _
+    c.self.invariant.sound c.self.invariant.within.1 c.in-Ok.ensures c.in-Ok-update.ensures.exact c.in-Ok-update.ensures.spent (warm_inside _ c.args.self.now c.self.view_is c.requires.warm)))
 
 pub returns-in-Err-OverBudget : goal.returns-in-Err-OverBudget
 returns-in-Err-OverBudget g c =
