@@ -1,5 +1,5 @@
 -- Who asks near what moved.
-use Rattle.std.proofs.Common.{◌≡◌, inl, inr, ℕ, List, [], ◌∷◌, Bool, true, false, ◌||◌, Option, Some, None, refl, sym, ap, subst, ◌∙◌}
+use Rattle.std.proofs.Common.{◌≡◌, inl, inr, ℕ, List, [], ◌∷◌, ◌++◌, Bool, true, false, ◌||◌, Option, Some, None, refl, sym, ap, subst, ◌∙◌}
 use Rattle.std.specs.Prelude.{is_some}
 use Rattle.std.specs.List.{list_any}
 use Rattle.std.proofs.lemmas.Bool.{and_from, and_parts, or_left, or_right}
@@ -13,7 +13,7 @@ use Rattle.cga_forest.specs.Tree.{ForestView, IsForest, marked_at, node_at}
 use Rattle.cga_forest.specs.Walked.{asks_of, forest_tree, lasting_tree, own_of, was_marked}
 use Rattle.cga_forest.proofs.Door.{inside}
 use Rattle.cga_update.specs.Askers.{IsAsker, ListsAskers, boxes_of}
-use Rattle.cga_update.proofs.Members.{among_member, member_among}
+use Rattle.cga_update.proofs.Members.{among_left, among_member, among_right, member_among}
 
 near_some : (own : Box) (moved : List Moved) (m : Moved) → Among m moved → meets own (box_of m.scope) ≡ true
     → list_any (meets own) (boxes_of moved) ≡ true
@@ -64,6 +64,35 @@ lists_askers v f moved list lists = record {
         near = ap (λ o. meets (own_of o) (box_of m.0.scope)) (sym d.1) ∙ m.2;
       };
 }
+
+-- the boxes of both lists
+pub boxes_join : (went came : List Moved) → boxes_of (went ++ came) ≡ boxes_of went ++ boxes_of came
+boxes_join [] came = refl
+boxes_join (m ∷ went) came = ap (λ (boxes : List Box). box_of m.scope ∷ boxes) (boxes_join went came)
+
+-- who asks near what went or near what came asks near either
+module _ (v : ForestView) (went came : List Moved) (c : ℕ) where
+  pub asker_went : IsAsker v went c → IsAsker v (went ++ came) c
+  asker_went k = record {
+    seen = k.seen;
+    there = k.there;
+    marked = k.marked;
+    asks = k.asks;
+    one = k.one;
+    among = among_left went came k.one k.among;
+    near = k.near;
+  }
+
+  pub asker_came : IsAsker v came c → IsAsker v (went ++ came) c
+  asker_came k = record {
+    seen = k.seen;
+    there = k.there;
+    marked = k.marked;
+    asks = k.asks;
+    one = k.one;
+    among = among_right went came k.one k.among;
+    near = k.near;
+  }
 
 -- the list is lent
 module _ (v : ForestView) (moved : List Moved) (list lent : List ℕ) (same : lent ≡ list) (lists : ListsAskers v moved list) where

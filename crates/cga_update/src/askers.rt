@@ -1,5 +1,5 @@
 //! Who asks near what moved, of the nodes that were there at the mark.
-ghost use Rattle.std.specs.Prelude.{◌≡◌, IfOk};
+ghost use Rattle.std.specs.Prelude.{◌≡◌, ◌++◌, IfOk, OnOk};
 ghost use Rattle.cga_update.specs.Askers.{ListsAskers, boxes_of};
 
 use cga_forest::{Forest, Moved};
@@ -9,17 +9,21 @@ use cga_index::{LastingAskers, NodeId, queriers_near};
 use std::alloc::Global;
 use std::sync::ledger::Ledger;
 
-/// The nodes of the mark that ask and whose boxes meet that of one of these, and only they. Takes memory.
+/// The nodes of the mark that ask and whose boxes meet that of one of these, which went or came, and only they. One walk
+/// serves both lists. Takes memory.
 pub fn askers_near<T: Ledger>(
     alloc: Global,
     forest: &Forest,
-    moved: &[Moved],
+    went: &[Moved],
+    came: &[Moved],
     tests: &mut Tests<T>,
 ) -> Result<List<NodeId>, NoMemory>
-    ensures { IfOk result (ListsAskers forest.now moved.now) }
+    ensures { IfOk result (ListsAskers forest.now (went.now ++ came.now)) }
 {
     forest.laws();
-    let areas = boxes_of(alloc, moved)?;
+    let mut areas = Vec::with_capacity(alloc, went.len() + came.len())?;
+    add_boxes(went, &mut areas)?;
+    add_boxes(came, &mut areas)?;
     queriers_near(
         alloc,
         &LastingAskers { tree: forest },
@@ -28,13 +32,12 @@ pub fn askers_near<T: Ledger>(
     )
 }
 
-/// Their boxes. Takes memory.
-fn boxes_of(alloc: Global, moved: &[Moved]) -> Result<List<WorldBox>, NoMemory>
-    ensures { IfOk result (λ boxes. boxes ≡ boxes_of moved.now) }
+/// Appends their boxes. Takes memory.
+fn add_boxes(moved: &[Moved], boxes: &mut Vec<WorldBox>) -> Result<(), NoMemory>
+    ensures { OnOk result (boxes.new.items ≡ boxes.old.items ++ boxes_of moved.now) }
 {
-    let mut boxes = Vec::with_capacity(alloc, moved.len())?;
     for node in moved {
         boxes.push(node.bounds())?;
     }
-    Ok(List::from_vec(boxes))
+    Ok(())
 }

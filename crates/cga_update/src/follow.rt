@@ -1,5 +1,5 @@
 //! What the agenda becomes after the turn of a node.
-ghost use Rattle.std.specs.Prelude.{OnOk};
+ghost use Rattle.std.specs.Prelude.{◌++◌, OnOk};
 ghost use Rattle.cga_queue.specs.Agenda.{ComesAfter, Grows, HasAll, OneEach};
 ghost use Rattle.cga_update.specs.Askers.{IsAsker};
 ghost use Rattle.cga_update.specs.Follow.{IsFollowed};
@@ -14,19 +14,20 @@ use cga_index::NodeId;
 use cga_queue::{Agenda, add_later};
 use std::sync::ledger::Ledger;
 
-/// Puts the nodes of the mark on it that ask, meet one of the moved and come later than another. Takes memory.
+/// Puts the nodes of the mark on it that ask, meet what went or came and come later than another. Takes memory.
 fn add_met<T: Ledger>(
     agenda: &mut Agenda,
     forest: &Forest,
     of: NodeId,
-    moved: &[Moved],
+    went: &[Moved],
+    came: &[Moved],
     tests: &mut Tests<T>,
 ) -> Result<(), NoMemory>
     requires one { OneEach (chains_of forest.now) }
-    ensures grows { OnOk result (Grows (chains_of forest.now) (λ c. IsAsker forest.now moved.now c × ComesAfter (chains_of forest.now) agenda.old.mode of c) agenda.old agenda.new) }
-    ensures there { OnOk result (HasAll (chains_of forest.now) (λ c. IsAsker forest.now moved.now c × ComesAfter (chains_of forest.now) agenda.old.mode of c) agenda.new) }
+    ensures grows { OnOk result (Grows (chains_of forest.now) (λ c. IsAsker forest.now (went.now ++ came.now) c × ComesAfter (chains_of forest.now) agenda.old.mode of c) agenda.old agenda.new) }
+    ensures there { OnOk result (HasAll (chains_of forest.now) (λ c. IsAsker forest.now (went.now ++ came.now) c × ComesAfter (chains_of forest.now) agenda.old.mode of c) agenda.new) }
 {
-    let askers = askers_near(agenda.alloc(), forest, moved, tests)?;
+    let askers = askers_near(agenda.alloc(), forest, went, came, tests)?;
     add_later(agenda, &Worked { forest }, of, askers.as_slice())
 }
 
@@ -43,10 +44,10 @@ pub fn follow<T: Ledger>(
     requires one { OneEach (chains_of forest.now) }
     ensures { OnOk result (IsFollowed forest.now of change.now all_came agenda.old agenda.new) }
 {
-    add_moved(agenda, forest, change.came.as_slice())?;
+    let came = change.came.as_slice();
+    add_moved(agenda, forest, came)?;
     if all_came {
         return Ok(());
     }
-    add_met(agenda, forest, of, change.went.as_slice(), tests)?;
-    add_met(agenda, forest, of, change.came.as_slice(), tests)
+    add_met(agenda, forest, of, change.went.as_slice(), came, tests)
 }

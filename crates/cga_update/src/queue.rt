@@ -1,5 +1,5 @@
 //! Nodes are put on the agenda, whatever their stamps.
-ghost use Rattle.std.specs.Prelude.{◌≡◌, ℕ, List, true, IfOk, OnOk};
+ghost use Rattle.std.specs.Prelude.{◌≡◌, ◌++◌, ℕ, List, true, IfOk, OnOk};
 ghost use Rattle.cga_order.specs.World.{Among};
 ghost use Rattle.cga_update.specs.Askers.{IsAsker, IsOneOf};
 ghost use Rattle.cga_update.specs.Near.{IsAny, IsChangedFor, IsParent, IsParentOf, IsPricedFor, KeepsPriorities, KeepsPriority};
@@ -30,18 +30,19 @@ pub fn add_moved(agenda: &mut Agenda, forest: &Forest, moved: &[Moved]) -> Resul
     Ok(())
 }
 
-/// Puts the nodes of the mark on it that ask and whose boxes meet that of one of these. Takes memory.
+/// Puts the nodes of the mark on it that ask and meet what went or came. Takes memory.
 pub fn queue_near<T: Ledger>(
     agenda: &mut Agenda,
     forest: &Forest,
-    moved: &[Moved],
+    went: &[Moved],
+    came: &[Moved],
     tests: &mut Tests<T>,
 ) -> Result<(), NoMemory>
     requires one { OneEach (chains_of forest.now) }
-    ensures grows { OnOk result (Grows (chains_of forest.now) (IsAsker forest.now moved.now) agenda.old agenda.new) }
-    ensures there { OnOk result (HasAll (chains_of forest.now) (IsAsker forest.now moved.now) agenda.new) }
+    ensures grows { OnOk result (Grows (chains_of forest.now) (IsAsker forest.now (went.now ++ came.now)) agenda.old agenda.new) }
+    ensures there { OnOk result (HasAll (chains_of forest.now) (IsAsker forest.now (went.now ++ came.now)) agenda.new) }
 {
-    let askers = askers_near(agenda.alloc(), forest, moved, tests)?;
+    let askers = askers_near(agenda.alloc(), forest, went, came, tests)?;
     add_all(agenda, &Worked { forest }, askers.as_slice())
 }
 

@@ -1,9 +1,10 @@
-use Rattle.std.proofs.Common.{◌∙◌, subst}
+use Rattle.std.proofs.Common.{◌++◌, ◌∙◌, ap, sym, subst}
 use Rattle.cga_fraction.proofs.Door.{IfOk-map}
 use Rattle.cga_index.specs.Near.{ListsNear}
 use Rattle.cga_forest.specs.Walked.{lasting_tree}
 use Rattle.cga_forest.proofs.Door.{lasting_laws}
-use Rattle.cga_update.proofs.NearMoved.{lists_askers}
+use Rattle.cga_update.specs.Askers.{boxes_of}
+use Rattle.cga_update.proofs.NearMoved.{boxes_join, lists_askers}
 use Rattle.cga_update.proofs.askers.askers_near.Goals as goal
 
 pub queriers_near-requires : goal.queriers_near-requires
@@ -12,6 +13,11 @@ queriers_near-requires g c = record { laws = lasting_laws c.args.forest.now c.la
 pub returns : goal.returns
 returns g c =
     let v = c.args.forest.now in
+    let went = c.args.went.now in
+    let came = c.args.came.now in
+    let none = ap (λ l. l ++ boxes_of went) c.in_ok-areas.ensures.items in
+    let first = ap (λ l. l ++ boxes_of came) (c.in_ok-add_boxes.ensures ∙ none) in
+    let all = c.as_slice.ensures.value ∙ c.in_ok-add_boxes-2.ensures ∙ first ∙ sym (boxes_join went came) in
     IfOk-map c.queriers_near.result
-    (λ list lists. lists_askers v c.laws.ensures c.args.moved.now list (subst (λ boxes. ListsNear (lasting_tree v) boxes list) (c.as_slice.ensures ∙ c.in_ok-areas.ensures) lists))
+    (λ list lists. lists_askers v c.laws.ensures (went ++ came) list (subst (λ boxes. ListsNear (lasting_tree v) boxes list) all lists))
     c.queriers_near.ensures

@@ -1,3 +1,4 @@
+use Rattle.std.proofs.Common.{◌++◌}
 use Rattle.cga_queue.specs.Agenda.{ComesAfter}
 use Rattle.cga_order.specs.World.{Among}
 use Rattle.cga_queue.proofs.Door.{grows_by, on_ok}
@@ -9,7 +10,7 @@ use Rattle.cga_update.proofs.follow.add_met.Goals as goal
 pub returns-clause-grows : goal.returns-clause-grows
 returns-clause-grows g c =
     let v = c.args.forest.now in
-    let moved = c.args.moved.now in
+    let moved = c.args.went.now ++ c.args.came.now in
     let lent = c.as_slice.result.now in
     let late = ComesAfter (chains_of v) c.args.agenda.now.mode c.args.of in
     on_ok c.add_later.result
@@ -20,5 +21,5 @@ returns-clause-grows g c =
 pub returns-clause-there : goal.returns-clause-there
 returns-clause-there g c =
     on_ok c.add_later.result
-    (λ has k p here. has k (asker_in c.args.forest.now c.args.moved.now c.in_ok-askers.askers c.as_slice.result.now c.as_slice.ensures c.in_ok-askers.ensures k p.0, p.1) here)
+    (λ has k p here. has k (asker_in c.args.forest.now (c.args.went.now ++ c.args.came.now) c.in_ok-askers.askers c.as_slice.result.now c.as_slice.ensures c.in_ok-askers.ensures k p.0, p.1) here)
     c.add_later.ensures.there
