@@ -9,8 +9,8 @@ invariant_of-renewal-clause-names g c = names_differ c.self.inside.sources.lots 
 pub invariant_of-renewal-clause-roots : goal.invariant_of-renewal-clause-roots
 invariant_of-renewal-clause-roots g c = (sound_valid c.self.inside.sources c.self.invariant.sound).roots
 
-pub update-told-requires-clause-stands : goal.update-told-requires-clause-stands
-update-told-requires-clause-stands g c = rw (c.empty_sources-empty.ensures, c.replace.ensures.after) c.no_shapes.ensures
+pub update-told-requires : goal.update-told-requires
+update-told-requires g c = record { stands = rw (c.empty_sources-empty.ensures, c.replace.ensures.after) c.no_shapes.ensures }
 
 pub within_budget-requires : goal.within_budget-requires
 within_budget-requires g c = record {
