@@ -1,7 +1,8 @@
-use Rattle.std.proofs.Common.{◌≡◌, ap, Err, subst}
+use Rattle.std.proofs.Common.{◌≡◌, ◌∙◌, ap, Err, subst, sym}
 use Rattle.cga_shape.specs.declared.sources.Sources.{Sources}
 use Rattle.cga_city.specs.Apply.{changed}
-use Rattle.cga_city.specs.City.{Changes, CityState}
+use Rattle.cga_city.specs.City.{Changes, CityState, IsDone}
+use Rattle.cga_city.specs.Kept.{IsCity}
 use Rattle.cga_city.proofs.Names.{names_differ}
 use Rattle.cga_city.proofs.Sound.{changed_sound}
 use Rattle.cga_city.proofs.Valid.{sound_valid}
@@ -24,17 +25,20 @@ invariant_of-renewal g c =
     }
 
 pub invariant_of-self : goal.invariant_of-self
-invariant_of-self g c = record {
+invariant_of-self g c = subst (λ (s : Sources). IsCity s c.self.inside.budget c.self.inside.warm c.update.new.kept) (sym c.replace.ensures.after) (record {
   sound = changed_sound c.self.inside.sources c.in-Ok.new c.args.edit c.self.invariant.sound c.requires.lots c.in-Ok.ensures;
   within = now_within c.self.inside.sources c.in-Ok.new c.self.inside.budget c.in-Ok-update.count _ c.in-Ok-update.ensures.exact;
   stands = λ on. c.in-Ok-update.ensures.stands;
-}
+})
 
 pub returns-in-Ok-update : goal.returns-in-Ok-update
 returns-in-Ok-update g c =
     let former : c.self.inside.sources ≡ c.args.self.now.sources = ap (λ (v : CityState). v.sources) c.self.view_is in
-    (former, rw (← c.self.view_is) (done_gives c.self.inside.sources c.in-Ok.new c.args.edit c.self.inside.budget c.in-Ok-update.count _ _ c.self.inside.expanded c.self.inside.warm c.self.invariant.within.0 c.self.inside.changes _
-    c.self.invariant.sound c.self.invariant.within.1 c.in-Ok.ensures c.in-Ok-update.ensures.exact c.in-Ok-update.ensures.spent (warm_inside _ c.args.self.now c.self.view_is c.requires.warm)))
+    let new : Sources → CityState = λ s. record { sources = s; budget = c.self.inside.budget; warm = c.self.inside.warm; expanded = c.in-Ok-update.count; changes = c.update.new.changes } in
+    let done : IsDone c.args.self.now c.args.edit (new c.in-Ok.new) c.args.expansions.now c.update.new.expansions =
+    rw (← c.self.view_is) (done_gives c.self.inside.sources c.in-Ok.new c.args.edit c.self.inside.budget c.in-Ok-update.count _ _ c.self.inside.expanded c.self.inside.warm c.self.invariant.within.0 c.self.inside.changes _
+    c.self.invariant.sound c.self.invariant.within.1 c.in-Ok.ensures c.in-Ok-update.ensures.exact c.in-Ok-update.ensures.spent (warm_inside _ c.args.self.now c.self.view_is c.requires.warm)) in
+    (c.replace.ensures.value ∙ former, subst (λ (s : Sources). IsDone c.args.self.now c.args.edit (new s) c.args.expansions.now c.update.new.expansions) (sym c.replace.ensures.after) done)
 
 pub returns-in-Err-OverBudget : goal.returns-in-Err-OverBudget
 returns-in-Err-OverBudget g c =
