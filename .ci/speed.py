@@ -1,11 +1,12 @@
 #!/usr/bin/env python3
-"""Times programs on scripts of one kind of work each: the least user time of three runs, and the most memory. A program
-reads a script on standard input. Of work that is repeated in one script, the time of one is told, and of reports the bytes
-of a second. Memory of less than some 20 MB is told as that, which this script itself takes. What a program doesn't take has
-a dash. "Times plain" is how often a time is that of the plain program, which derives all anew after each edit.
+"""Times programs on scripts of one kind of work each: the least user time of three runs, or the mean of ten short ones, and
+the most memory. A program reads a script on standard input. Of work that is repeated in one script, the time of one is told,
+and of reports the bytes of a second. Memory of less than some 20 MB is told as that, which this script itself takes. What a
+program doesn't take has a dash. "Times plain" is how often a time is that of the plain program, which derives all anew.
 """
 import argparse
 import os
+import statistics
 import subprocess
 import sys
 import tempfile
@@ -15,6 +16,7 @@ from pathlib import Path
 from works import EDIT, REPORT, town, works
 
 PLAIN = Path(__file__).resolve().parent / "plain" / "main.rs"
+SHORT = 0.05  # seconds of which the user's part is known by few ticks of a clock
 PLAIN_EDITS = 4  # so many are enough for a program that derives all anew for each
 
 Spent = namedtuple("Spent", "seconds megabytes")
@@ -35,8 +37,15 @@ def run(program, script):
 
 
 def least(program, script):
+    """The least of three runs, or the mean of ten that are short."""
     runs = [run(program, script) for _ in range(3)]
-    return None if None in runs else Spent(min(one.seconds for one in runs), max(one.megabytes for one in runs))
+    if None in runs:
+        return None
+    seconds = min(one.seconds for one in runs)
+    if seconds < SHORT:
+        runs += [run(program, script) for _ in range(7)]
+        seconds = statistics.mean(one.seconds for one in runs)
+    return Spent(seconds, max(one.megabytes for one in runs))
 
 
 class Programs:
