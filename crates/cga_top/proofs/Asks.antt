@@ -32,6 +32,7 @@ use Rattle.cga_top.proofs.Apart.{lots_differ}
 
 -- ---- what lines tell
 
+-- A line tells its command.
 pub command_told : (v : Version) (line : Line) → CommandTells v line (command_of v line)
 command_told v line = line_tells (command_pieces v) (command v) (command_form v) line
 
@@ -39,15 +40,18 @@ pub command_is : (v : Version) (line : Line) (told : Result ScriptCommand LineFa
     → told ≡ command_of v line
 command_is v line told h = one_command v line told (command_of v line) h (command_told v line)
 
+-- The lines of a block of rules tell its grammar.
 pub rules_told : (lines : List Line) → GrammarTells lines (rules_of lines)
 rules_told lines = block_tells block_pieces block block_form grammar_of lines
 
 pub rules_is : (lines : List Line) (told : Result Grammar BlockFault) → GrammarTells lines told → told ≡ rules_of lines
 rules_is lines told h = once_lines block_pieces (form_unique block_pieces block block_form) grammar_of lines told (rules_of lines) h (rules_told lines)
 
+-- The lines of a city block tell that value.
 pub city_told : (lines : List Line) → CityTells lines (city_of lines)
 city_told lines = block_tells city_pieces city city_form sources_of lines
 
+-- What the lines of a city block tell is one value.
 pub city_is : (lines : List Line) (told : Result Sources BlockFault) → CityTells lines told → told ≡ city_of lines
 city_is lines told h = once_lines city_pieces (form_unique city_pieces city city_form) sources_of lines told (city_of lines) h (city_told lines)
 
@@ -79,6 +83,7 @@ asks_edit v line (edit.Unlot name) h = tt
 asks_edit v line (edit.SetOrder mode) h = tt
 asks_edit v line (edit.Whole s) h = absurd (never_told v (c.Change (edit.Whole s)) line.bytes (is_long line) refl h)
 
+-- A command that a line tells has its sources written out.
 pub asks_written : (v : Version) (line : Line) (a : ScriptCommand) → CommandTells v line (Ok a) → AsksWritten a
 asks_written v line (c.Change e) h = asks_edit v line e h
 asks_written v line _ h = tt
@@ -86,5 +91,6 @@ asks_written v line _ h = tt
 pub rules_written : (lines : List Line) (g : Grammar) → GrammarTells lines (Ok g) → IsWritten (edit.Rules g)
 rules_written lines g h = grammar_prints lines g h
 
+-- The sources that a city block tells are written out.
 pub city_written : (lines : List Line) (s : Sources) → CityTells lines (Ok s) → IsWritten (edit.Whole s)
 city_written lines s h = record { printable = city_prints lines s h; names = subst (λ (x : Sources). IsDistinct bytes_eq (names_of x.lots)) (sym h.2) (lots_differ h.0) }

@@ -16,6 +16,7 @@ not_so_long : (bytes read : List ℕ) (left : Option (List ℕ)) → Consumes (S
 not_so_long bytes read None p h few = p
 not_so_long bytes read (Some rest) p h few = omega (arith, ap length p, length-append read rest)
 
+-- A source that holds a short script doesn't give more bytes than the limit.
 pub few_given : (script left : Option (List ℕ)) (read : List ℕ) → Consumes script left read → HoldsFew script
     → limit < length read → ⊥
 few_given None left read p few many = few
@@ -55,12 +56,15 @@ given_of d status old new means done =
 pub not_used : (r status : Status) → (r ≡ status) ⊎ (r ≡ WriteFault) → status ≢ Usage → r ≢ Usage
 not_used r status or other = elim or [ inl is ↦ λ e. other (sym is ∙ e) | inr is ↦ λ e. let bad : WriteFault ≡ Usage = sym is ∙ e in cc ]
 
+-- Done is another status than Usage.
 pub done_not_used : Done ≢ Usage
 done_not_used e = cc
 
+-- ReadFault is another status than Usage.
 pub read_not_used : ReadFault ≢ Usage
 read_not_used e = cc
 
+-- TooLong is another status than Usage.
 pub long_not_used : TooLong ≢ Usage
 long_not_used e = cc
 

@@ -274,6 +274,7 @@ halted_prefix d read old new h = record {
   of_all = prefix_of d old.left new.left old.held new.held read limit h.gave.taken h.wrote;
 }
 
+-- Nothing kept is what is pending before the first byte.
 pub start_pending : (p : Pending) → p ≡ record { kept = []; ending = Open } → p ≡ pending_after []
 start_pending p e = e ∙ ap (λ (k : List ℕ). record { kept = kept_of k; ending = Open }) (sym (rest_of_part [] (All-nil (λ (b : ℕ). b ≢ 10))))
 

@@ -6,9 +6,11 @@ use Rattle.std.specs.Io.KnownBytes.{Consumes, Keeps}
 use Rattle.cga_top.specs.Outside.{Gave, Outside}
 use Rattle.cga_top.proofs.Known.{consumes_more, consumes_nothing}
 
+-- Who stays as it is gives nothing.
 pub gave_nothing : (o : Outside) → Gave [] o o
 gave_nothing o = record { given = sym (append-nil o.given); taken = consumes_nothing o.left }
 
+-- Who gives some bytes and then others gives both.
 pub gave_more : (old mid new : Outside) (xs ys : List ℕ) → Gave xs old mid → Gave ys mid new → Gave (xs ++ ys) old new
 gave_more old mid new xs ys p q = record {
   given = q.given ∙ ap (λ (l : List ℕ). l ++ ys) p.given ∙ append_assoc old.given xs ys;
@@ -22,9 +24,11 @@ pub record SameSource (old new : Outside) : Type 0 where
   pub ended : new.ended ≡ old.ended
   pub reads : new.reads_failed ≡ old.reads_failed
 
+-- What stays the same twice stays the same.
 pub same_more : (a b c : Outside) → SameSource a b → SameSource b c → SameSource a c
 same_more a b c p q = record { given = q.given ∙ p.given; left = q.left ∙ p.left; ended = q.ended ∙ p.ended; reads = q.reads ∙ p.reads }
 
+-- A source that stays the same has given what it gave.
 pub gave_same : (read : List ℕ) (old mid new : Outside) → Gave read old mid → SameSource mid new → Gave read old new
 gave_same read old mid new g same = record {
   given = same.given ∙ g.given;
@@ -38,6 +42,7 @@ consumes_kept (Some xs) None c read p q = absurd p
 consumes_kept (Some xs) (Some ys) None read p q = absurd q
 consumes_kept (Some xs) (Some ys) (Some zs) read p q = p ∙ ap (λ (l : List ℕ). read ++ l) (sym q)
 
+-- Where a source gives nothing more, what it gave stays.
 pub gave_kept : (read : List ℕ) (old mid new : Outside) → Gave read old mid → new.given ≡ mid.given
     → Keeps mid.left new.left → Gave read old new
 gave_kept read old mid new g given keeps = record { given = given ∙ g.given; taken = consumes_kept old.left mid.left new.left read g.taken keeps }

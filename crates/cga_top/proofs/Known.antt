@@ -17,10 +17,12 @@ consumes_more (Some xs0) None c xs ys p q = absurd p
 consumes_more (Some xs0) (Some ys0) None xs ys p q = absurd q
 consumes_more (Some xs0) (Some ys0) (Some zs0) xs ys p q = rw (p, q) (sym (append_assoc xs ys zs0))
 
+-- Who stays as it is appends nothing.
 pub appends_nothing : (known : Option (List ℕ)) → Appends known known []
 appends_nothing None = tt
 appends_nothing (Some xs) = sym (append-nil xs)
 
+-- Who appends one text and then another appends both.
 pub appends_more : (a b c : Option (List ℕ)) (xs ys : List ℕ) → Appends a b xs → Appends b c ys → Appends a c (xs ++ ys)
 appends_more None b c xs ys p q = tt
 appends_more (Some xs0) None c xs ys p q = absurd p

@@ -64,6 +64,7 @@ progress_err s all now more line session a b c i j e p each =
 pub part_cleared : (p : Pending) → p ≡ record { kept = []; ending = Open } → IsKeptPart p
 part_cleared p e = subst IsKeptPart (sym e) (record { open_line = refl; one = All-nil (λ (b : ℕ). b ≢ 10); short = refl })
 
+-- What is kept of a line is a part of one line.
 pub part_kept : (p : Pending) (part : List ℕ) → p ≡ record { kept = kept_of part; ending = Open } → IsOneLine part
     → IsKeptPart p
 part_kept p part e one = subst IsKeptPart (sym e) (record { open_line = refl; one = kept_one part one; short = kept_twice part })
@@ -80,11 +81,13 @@ left_kept p part more e none one =
     ap (λ (q : Pending). kept_of (cut (q.kept ++ more)).rest) e ∙ ap (λ (m : List ℕ). kept_of (cut (kept_of part ++ m)).rest) none ∙ ap (λ (m : List ℕ). kept_of (cut m).rest) (append-nil (kept_of part))
     ∙ ap kept_of (rest_of_part (kept_of part) (kept_one part one)) ∙ kept_twice part ∙ ap kept_of (sym (rest_of_part part one))
 
+-- A part of a line with nothing behind it ends no line.
 pub lines_kept_none : (p : Pending) (part more : List ℕ) → p ≡ record { kept = kept_of part; ending = Open } → more ≡ []
     → IsOneLine part → lines_of part ≡ lines_of (p.kept ++ more)
 lines_kept_none p part more e none one =
     no_lines part one ∙ sym (ap (λ (q : Pending). lines_of (q.kept ++ more)) e ∙ ap (λ (m : List ℕ). lines_of (kept_of part ++ m)) none ∙ ap lines_of (append-nil (kept_of part)) ∙ no_lines (kept_of part) (kept_one part one))
 
+-- Nothing is left behind the end.
 pub nothing_left : (rest more : List ℕ) (n : ℕ) → n ≡ length rest → more ≡ drop n rest → more ≡ []
 nothing_left rest more n e d = d ∙ ap (λ (k : ℕ). drop k rest) e ∙ drop-length rest
 
@@ -92,6 +95,7 @@ nothing_left rest more n e d = d ∙ ap (λ (k : ℕ). drop k rest) e ∙ drop-l
 pub no_more_lines : (kept rest : List ℕ) → rest ≡ [] → IsOneLine kept → lines_of (kept ++ rest) ≡ []
 no_more_lines kept rest none one = ap (λ (r : List ℕ). lines_of (kept ++ r)) none ∙ ap lines_of (append-nil kept) ∙ no_lines kept one
 
+-- Where all of a piece was fed, what is kept is the rest of all.
 pub no_more_left : (p : Pending) (rest all : List ℕ) → rest ≡ [] → IsKeptPart p
     → kept_of (cut (p.kept ++ rest)).rest ≡ kept_of (cut all).rest
     → p ≡ record { kept = kept_of (cut all).rest; ending = Open }

@@ -39,6 +39,7 @@ reads_start d session lines o at_it e =
       calm = refl;
     }
 
+-- What is pending is a part of a line.
 pub is_part : (read : List ℕ) (p : Pending) → p ≡ pending_after read → IsKeptPart p
 is_part read p e = part_kept p (cut read).rest e (rest_is_one read)
 
@@ -53,6 +54,7 @@ module _ (d : ℕ) (read chunk piece : List ℕ) (lines : Pending) (few : length
   kept_is : lines.kept ≡ kept_of (cut read).rest
   kept_is = ap (λ (p : Pending). p.kept) are ∙ ap (λ (r : List ℕ). kept_of (cut r).rest) all_read
 
+  -- The lines of what was read with one more piece are those before, and those that the piece ends.
   pub lines_more : lines_of (take limit (read ++ chunk)) ≡ lines_of (take limit read) ++ lines_of (lines.kept ++ piece)
   lines_more =
       ap lines_of more_read ∙ lines_append read piece ∙ ap (λ (k : List ℕ). lines_of read ++ lines_of (k ++ piece)) (sym kept_is)
@@ -68,6 +70,7 @@ module _ (d : ℕ) (read chunk piece : List ℕ) (lines : Pending) (few : length
       ∙ ap (λ (k : List ℕ). followed_by (effect_of_lines d read) (effect_of_all (effect_of_lines d read).state (lines_of (k ++ piece)))) (sym kept_is)
       ∙ ap (λ (r : List ℕ). followed_by (effect_of_lines d r) (effect_of_all (effect_of_lines d r).state (lines_of (lines.kept ++ piece)))) (sym all_read)
 
+  -- What a piece leaves is what is pending after all that was read.
   pub pending_is : record { kept = kept_of (cut (lines.kept ++ piece)).rest; ending = Open } ≡ pending_after (take limit (read ++ chunk))
   pending_is =
       ap (λ (k : List ℕ). record { kept = kept_of (cut (k ++ piece)).rest; ending = Open }) kept_is
