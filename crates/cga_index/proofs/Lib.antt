@@ -5,6 +5,6 @@ mod Levels
 mod Blocks
 mod TwoRoots
 mod NearAskers
-mod NodeList
+mod Visiting
 mod Widening
 pub mod Door

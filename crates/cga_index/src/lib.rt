@@ -19,6 +19,8 @@ mod standing;
 mod steps;
 #[cfg(test)]
 mod tests;
+mod visitor;
+mod visits;
 mod walk;
 
 pub use hull_tree::HullTree;
@@ -29,4 +31,6 @@ pub use nodes::{all_nodes, nodes_from};
 pub use of_two::{is_full, joined};
 pub use standing::Standing;
 pub use steps::{child_of, root_of};
+pub use visitor::Visitor;
+pub use visits::visit_all;
 pub use walk::answer;
