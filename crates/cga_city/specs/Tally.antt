@@ -1,12 +1,9 @@
 -- How many nodes there are of each sort.
-use Rattle.std.specs.Prelude.{◌≡◌, ℕ, length, drop, ◌+◌, ◌<◌, ◌≤◌, ◌^◌, List, [], ◌∷◌, Option, Some, None, if◌then◌else◌}
+use Rattle.std.specs.Prelude.{ℕ, ◌+◌, ◌<◌, ◌≤◌, ◌^◌, List, [], ◌∷◌, Option, Some, None, if◌then◌else◌}
 use Rattle.cga_word.specs.declared.primitive.Primitive.{Primitive}
 use Rattle.cga_order.specs.World.{is_instance}
 use Rattle.cga_order.specs.declared.placed.Kind.{Kind}
 use Rattle.cga_shape.specs.declared.shape_fault.ShapeFault.{ShapeFault}
-use Rattle.std.specs.List.{flat_map}
-use Rattle.cga_index.specs.Tree.{below}
-use Rattle.cga_forest.specs.Walked.{forest_tree}
 use Rattle.cga_forest.specs.View.{Seen}
 use Rattle.cga_forest.specs.Tree.{ForestView, node_at}
 use Rattle.cga_city.specs.declared.tally.Tally.{Tally}
@@ -37,8 +34,3 @@ pub record HasRoom (t : Tally) (more : ℕ) : Type 0 where
   pub shapes : t.shapes + more < 2 ^ 64
   pub instances : t.instances ≤ t.shapes
   pub faults : t.faults ≤ t.shapes
-
--- what of these nodes' lists from one on is still to be counted fits, and makes the whole
-pub record IsCounting (v : ForestView) (left : ℕ) (cs : List ℕ) (k : ℕ) (sum whole : Tally) : Type 0 where
-  pub room : HasRoom sum (length (flat_map (below (forest_tree v) left) (drop k cs)))
-  pub rest : tallied v (flat_map (below (forest_tree v) left) (drop k cs)) sum ≡ whole
