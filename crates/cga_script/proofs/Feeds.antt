@@ -1,11 +1,12 @@
 -- What a piece does to the lines that are read.
-use Rattle.std.proofs.Common.{◌≡◌, ◌≢◌, ℕ, suc, ◌+◌, ◌-◌, ◌<◌, ◌≤◌, List, [], ◌∷◌, ◌++◌, length, take, drop, get_or, map, refl, sym, ap, ap₂, ◌∙◌, arith, append_assoc, drop-cons, Bool}
+use Rattle.std.proofs.Common.{◌≡◌, ◌≢◌, ℕ, suc, ◌+◌, ◌-◌, ◌<◌, ◌≤◌, List, [], ◌∷◌, ◌++◌, length, take, drop, get_or, map, refl, sym, ap, ap₂, subst, ◌∙◌, arith, append_assoc, drop-cons, Bool, true}
 use Rattle.std.specs.Prelude.{◌↔◌, IsFalse}
 use Rattle.std.proofs.Math.Seq.{take-nil}
 use Rattle.std.proofs.lemmas.List.{take-append-drop}
 use Rattle.std.proofs.lemmas.List.Elements.{All-append, All-take}
 use Rattle.cga_script.specs.Lines.{Cut, cut, IsOneLine, Line, clipped, without_cr, lines_of}
-use Rattle.cga_script.specs.Pending.{Pending, IsPart, kept_of, ready_line}
+use Rattle.cga_script.specs.Ends.{is_blank_line}
+use Rattle.cga_script.specs.Pending.{Pending, IsBlankFront, IsPart, kept_of, ready_line}
 use Rattle.cga_script.specs.declared.ending.Ending.TheVariants.{Open, Lf, End}
 use Rattle.cga_script.proofs.Cuts.{cut_line, cut_part, line_kept, last_kept, lines_kept, kept_again, take_twice}
 
@@ -36,6 +37,26 @@ takes_line kept rest more n p one some most lf part others is =
       lines = ap (λ (c : Cut). map (λ (l : List ℕ). clipped (without_cr l)) c.lines) cut_is ∙ ap (λ (l : Line). l ∷ lines_of more) (sym (line_kept line) ∙ sym (ap ready_line is));
       left = ap (λ (c : Cut). c.rest) cut_is;
     }
+
+-- a piece that begins with a line and its LF
+pub begins_line : (piece : List ℕ) (end : ℕ) → end < length piece → get_or piece end 0 ≡ 10 → IsOneLine (take end piece)
+    → TakesLine piece (drop (end + 1) piece) (clipped (without_cr (take end piece)))
+begins_line piece end within lf one =
+    let back : end + 1 - 1 ≡ end = omega arith in
+    let split : piece ≡ take end piece ++ 10 ∷ drop (end + 1) piece = rw back at (split_lf piece (end + 1) (omega arith) (omega arith) (rw back lf)) in
+    let cut_is = ap cut split ∙ cut_line (take end piece) (drop (end + 1) piece) one in
+    record {
+      lines = ap (λ (c : Cut). map (λ (l : List ℕ). clipped (without_cr l)) c.lines) cut_is;
+      left = ap (λ (c : Cut). c.rest) cut_is;
+    }
+
+-- and is blank
+pub blank_begins : (piece : List ℕ) (end taken : ℕ) → end < length piece → get_or piece end 0 ≡ 10
+    → IsOneLine (take end piece) → is_blank_line (clipped (without_cr (take end piece))) ≡ true → taken ≡ end + 1
+    → IsBlankFront piece taken
+blank_begins piece end taken within lf one blank is =
+    let t = begins_line piece end within lf one in
+    subst (IsBlankFront piece) (sym is) (record { line = clipped (without_cr (take end piece)); blank = blank; lines = t.lines; rest = t.left })
 
 -- a piece with no LF
 pub no_lines : (part : List ℕ) → IsOneLine part → lines_of part ≡ []

@@ -1,4 +1,4 @@
--- Lines that are told by one or two words: the end of a block, and the first line of a script of version 2.
+-- Lines that are told by their few words: the end of a block, the first line of a script of version 2, and a blank line.
 use Rattle.std.specs.Prelude.{◌&&◌, Bool, true, false, not, [], ◌∷◌, Ok, is_some, codes}
 use Rattle.cga_lexer.specs.Line.{Lexed, tokens_of}
 use Rattle.cga_syntax.specs.declared.lexeme.Lexeme.{Lexeme}
@@ -28,12 +28,16 @@ are_version _ = false
 abbrev pub is_version_line : Line → Bool
 is_version_line l = not (is_long l) && are_version (tokens_of l.bytes)
 
--- ---- how the end of a block is looked for
-
 -- no token is left
 abbrev pub are_none : Lexed → Bool
 are_none (Ok []) = true
 are_none _ = false
+
+-- a line that is blank: it isn't long, and has no tokens
+abbrev pub is_blank_line : Line → Bool
+is_blank_line l = not (is_long l) && are_none (tokens_of l.bytes)
+
+-- ---- how the end of a block is looked for
 
 -- what is still to come, where the word `end` was read or wasn't
 abbrev pub ends_after : Bool → Lexed → Bool

@@ -1,7 +1,8 @@
 -- What is kept of the line that is being read.
-use Rattle.std.specs.Prelude.{◌≡◌, ℕ, List, [], ◌∷◌, ◌++◌, take, drop}
+use Rattle.std.specs.Prelude.{◌≡◌, ℕ, true, List, [], ◌∷◌, ◌++◌, take, drop}
 use Rattle.std.specs.Bool.{MatchBool}
-use Rattle.cga_script.specs.Lines.{Line, IsOneLine, clipped, without_cr, lines_of}
+use Rattle.cga_script.specs.Ends.{is_blank_line}
+use Rattle.cga_script.specs.Lines.{Line, IsOneLine, clipped, cut, without_cr, lines_of}
 use Rattle.cga_script.specs.declared.fed.Fed.{Fed}
 use Rattle.cga_script.specs.declared.ending.Ending.{Ending}
 use Rattle.cga_script.specs.declared.ending.Ending.TheVariants.{Open, Lf, End}
@@ -40,3 +41,10 @@ abbrev pub CutsLine : List ℕ → List ℕ → Fed → Pending → Type 0
 CutsLine rest piece fed new = MatchBool fed.ready
     (lines_of (rest ++ piece) ≡ ready_line new ∷ lines_of (drop fed.taken piece))
     ((lines_of (rest ++ piece) ≡ []) × IsPart (rest ++ piece) new)
+
+-- the first so many bytes of a piece are a blank line with its LF
+pub record IsBlankFront (piece : List ℕ) (taken : ℕ) : Type 0 where
+  pub line : Line
+  pub blank : is_blank_line line ≡ true
+  pub lines : lines_of piece ≡ line ∷ lines_of (drop taken piece)
+  pub rest : (cut piece).rest ≡ (cut (drop taken piece)).rest

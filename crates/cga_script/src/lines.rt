@@ -1,10 +1,12 @@
 ghost use Rattle.std.specs.Prelude.{◌≡◌, ◌↔◌, List, ℕ, ◌<◌, ◌≤◌, ◌-◌, ◌+◌, ◌++◌, ◌∷◌, [], length, take, slice_index, IfOk, IsTrue, IsFalse, MatchOption, nat_lt, vec_len, vec_capacity};
 ghost use Rattle.cga_form.specs.Limits.{line_limit};
+ghost use Rattle.cga_script.specs.Ends.{is_blank_line};
 ghost use Rattle.cga_script.specs.Lines.{IsOneLine, without_cr, clipped};
-ghost use Rattle.cga_script.specs.Pending.{Pending, kept_of, kept_limit, ready_line, IsPart, CutsLine};
+ghost use Rattle.cga_script.specs.Pending.{Pending, kept_of, kept_limit, ready_line, IsPart, CutsLine, IsBlankFront};
 
 use crate::ending::Ending;
 use crate::fed::Fed;
+use crate::telling_lines::is_blank;
 use cga_form::limits::LINE_LIMIT;
 use cga_fraction::NoMemory;
 use std::alloc::Global;
@@ -56,6 +58,24 @@ fn without_return(bytes: &[u8]) -> &[u8]
     match bytes.strip_suffix(b"\r".as_slice()) {
         Some(line) => line,
         None => bytes,
+    }
+}
+
+// Whether a whole line is blank.
+fn is_blank_whole(line: &[u8]) -> bool
+    ensures { result ≡ is_blank_line (clipped line.now) }
+{
+    line.len() <= LINE_LIMIT && is_blank(line)
+}
+
+/// How many bytes the first line takes with its LF, where it is seen at once to be blank; otherwise 0. Takes no memory.
+pub fn blank_front(piece: &[u8]) -> usize
+    ensures within { result ≤ length piece.now }
+    ensures blank { 0 < result → IsBlankFront piece.now result }
+{
+    match line_end(piece) {
+        Some(end) if is_blank_whole(without_return(&piece[..end])) => end + 1,
+        _ => 0,
     }
 }
 
@@ -180,6 +200,13 @@ impl Lines {
     {
         self.ending = Ending::End;
         !self.kept.is_empty()
+    }
+
+    /// Whether no byte of the next line came yet.
+    pub fn is_empty(&self) -> bool
+        ensures { IsTrue result ↔ (self.now.kept ≡ []) }
+    {
+        self.kept.is_empty()
     }
 
     /// Begins the next line. Takes no memory.

@@ -1,5 +1,5 @@
-//! Lines that are told by one or two words.
-ghost use Rattle.std.specs.Prelude.{◌≡◌, ◌↔◌, ◌≤◌, IfOk, IsTrue, Ok};
+//! Lines that are told by their few words.
+ghost use Rattle.std.specs.Prelude.{◌≡◌, ◌↔◌, ◌≤◌, ◌==◌, ◌||◌, IfOk, IsTrue, Ok};
 ghost use Rattle.cga_form.specs.Tokens.{is_word};
 ghost use Rattle.cga_lexer.specs.Line.{tokens_of};
 ghost use Rattle.cga_parser.specs.BlockTells.{EndsBlock};
@@ -85,4 +85,25 @@ pub fn ends_block(line: &[u8], long: bool) -> bool
     ensures ends { IsTrue result ↔ EndsBlock (record { bytes = line.now; long = long }) }
 {
     !long && line.len() <= LINE_LIMIT && are_end(line)
+}
+
+fn is_space(byte: u8) -> bool
+    ensures { result ≡ (byte == 32 || byte == 9) }
+{
+    byte == b' ' || byte == b'\t'
+}
+
+/// Whether a line has no tokens: it is blanks, or blanks and a comment. Takes no memory.
+pub fn is_blank(line: &[u8]) -> bool
+    ensures { result ≡ spec.are_none (tokens_of line.now) }
+{
+    for byte in line {
+        if *byte == b'#' {
+            return true;
+        }
+        if !is_space(*byte) {
+            return false;
+        }
+    }
+    true
 }

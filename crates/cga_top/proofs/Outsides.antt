@@ -1,19 +1,24 @@
 -- What a line outside a block does.
-use Rattle.std.proofs.Common.{◌≡◌, ◌∙◌, ap, sym, subst, Bool, true, false, ◌&&◌, Result, Ok, Err, refl, Option, Some, None, ℕ, List, []}
+use Rattle.std.proofs.Common.{◌≡◌, ℕ, ◌+◌, ◌∙◌, ap, sym, subst, Bool, true, false, not, ◌&&◌, Result, Ok, Err, refl, Option, Some, None, List, [], ◌∷◌, length}
 use Rattle.std.specs.Prelude.{if◌then◌else◌, IfOk}
-use Rattle.cga_form.specs.Lines.{Line}
+use Rattle.cga_lexer.specs.Line.{Lexed, tokens_of}
+use Rattle.cga_form.specs.Limits.{most_open}
+use Rattle.cga_form.specs.Lines.{Line, is_long}
+use Rattle.cga_form.specs.Parts.{finish}
 use Rattle.cga_form.specs.declared.line_fault.LineFault.{LineFault}
-use Rattle.cga_script.specs.Commands.{CommandTells}
-use Rattle.cga_script.specs.Ends.{is_end_line, is_version_line}
+use Rattle.cga_form.specs.declared.line_fault.LineFault.TheVariants.{LineTooLong}
+use Rattle.cga_script.specs.Commands.{CommandTells, command}
+use Rattle.cga_script.specs.Ends.{are_none, are_version, is_blank_line, is_end_line, is_version_line}
 use Rattle.cga_script.specs.declared.script_command.ScriptCommand.{ScriptCommand}
+use Rattle.cga_script.specs.declared.script_command.ScriptCommand.TheVariants.{Blank}
 use Rattle.cga_script.specs.declared.version.Version.{Version}
 use Rattle.cga_top.specs.State.{Block, State}
 use Rattle.cga_top.specs.Session.{IsAt, IsOpen, IsOpenAs, Did}
 use Rattle.cga_top.specs.declared.open_block.OpenBlock.{OpenBlock}
 use Rattle.cga_top.specs.declared.session.Session.{Session}
-use Rattle.cga_top.specs.Effect.{Effect}
+use Rattle.cga_top.specs.Effect.{Effect, silent}
 use Rattle.cga_top.specs.Replies.{outside, asked, second, in_block, ended, opened, with_line, effect, effect_by}
-use Rattle.cga_top.specs.Told.{command_of}
+use Rattle.cga_top.specs.Told.{command_of, line_told, told_of}
 use Rattle.cga_top.specs.Written.{AsksWritten}
 use Rattle.cga_top.proofs.Asks.{command_is, asks_written}
 
@@ -98,3 +103,38 @@ line_did s old x line new reply n at b e is none =
       spent = refl;
       changed = λ e. e;
     })
+
+-- ---- a blank line
+
+both : (a b : Bool) → (not a && b) ≡ true → (a ≡ false) × (b ≡ true)
+both true b e = absurd (let q : false ≡ true = e in cc)
+both false b e = (refl, e)
+
+no_tokens : (found : Lexed) → are_none found ≡ true → found ≡ Ok []
+no_tokens (Ok []) e = refl
+no_tokens (Ok (t ∷ ts)) e = absurd (let q : false ≡ true = e in cc)
+no_tokens (Err f) e = absurd (let q : false ≡ true = e in cc)
+
+no_version : (b : Bool) → (b && false) ≡ false
+no_version true = refl
+no_version false = refl
+
+reads_blank : (v : Version) (end : ℕ) → told_of (command v most_open) end (Ok []) ≡ Ok Blank
+unfolding command finish
+reads_blank v end = refl
+
+tells_blank : (v : Version) (line : Line) → is_long line ≡ false → tokens_of line.bytes ≡ Ok []
+    → command_of v line ≡ Ok Blank
+unfolding line_told
+tells_blank v line short none =
+    ap (λ (b : Bool). if b then Err LineTooLong else told_of (command v most_open) (length line.bytes + 1) (tokens_of line.bytes)) short
+    ∙ ap (told_of (command v most_open) (length line.bytes + 1)) none ∙ reads_blank v (length line.bytes + 1)
+
+-- outside of a block it does nothing
+pub effect_blank : (s : State) (line : Line) → s.block ≡ None → is_blank_line line ≡ true → effect s line ≡ silent s
+effect_blank s line none blank =
+    let p = both (is_long line) (are_none (tokens_of line.bytes)) blank in
+    let empty = no_tokens (tokens_of line.bytes) p.1 in
+    let first : is_version_line line ≡ false = ap (λ (b : Bool). not b && are_version (tokens_of line.bytes)) p.0 ∙ ap are_version empty in
+    let test : (s.fresh && is_version_line line) ≡ false = ap (λ (b : Bool). s.fresh && b) first ∙ no_version s.fresh in
+    effect_none s line none ∙ by_test (s.fresh && is_version_line line) false s line test ∙ ap (asked s) (tells_blank s.version line p.0 empty)

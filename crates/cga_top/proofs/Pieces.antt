@@ -1,10 +1,11 @@
 -- The lines of a piece, one after another.
-use Rattle.std.proofs.Common.{◌≡◌, ℕ, ◌≢◌, List, [], ◌∷◌, ◌++◌, length, drop, Option, refl, sym, ap, subst, ◌∙◌}
+use Rattle.std.proofs.Common.{◌≡◌, ℕ, ◌≢◌, List, [], ◌∷◌, ◌++◌, length, drop, true, Option, None, refl, sym, ap, subst, ◌∙◌}
 use Rattle.std.proofs.lemmas.List.{append-nil}
 use Rattle.std.proofs.Math.Seq.{drop-length}
 use Rattle.std.proofs.lemmas.List.Elements.{All-nil}
 use Rattle.cga_script.specs.Lines.{Line, IsOneLine, cut, lines_of}
-use Rattle.cga_script.specs.Pending.{Pending, kept_of}
+use Rattle.cga_script.specs.Ends.{is_blank_line}
+use Rattle.cga_script.specs.Pending.{IsBlankFront, Pending, kept_of}
 use Rattle.cga_script.specs.declared.ending.Ending.{Ending}
 use Rattle.cga_script.specs.declared.ending.Ending.TheVariants.{Open}
 use Rattle.cga_script.proofs.Door.{kept_one, kept_twice, no_lines, rest_of_part}
@@ -13,11 +14,12 @@ use Rattle.cga_top.specs.State.{State}
 use Rattle.cga_top.specs.Effect.{Effect, followed_by, silent}
 use Rattle.cga_top.specs.Replies.{effect}
 use Rattle.cga_top.specs.Output.{effect_of_all}
-use Rattle.cga_top.specs.Session.{IsAt}
+use Rattle.cga_top.specs.Session.{IsAt, IsOpen}
 use Rattle.cga_top.specs.Wrote.{Wrote}
 use Rattle.cga_top.specs.KeptPart.{IsKeptPart}
 use Rattle.cga_top.specs.Prefixes.{AppendsSome}
 use Rattle.cga_top.specs.Progress.{Progress}
+use Rattle.cga_top.proofs.Outsides.{none_open, effect_blank}
 use Rattle.cga_top.proofs.Effects.{followed_assoc, followed_silent, silent_followed, all_none, all_more, wrote_more, wrote_nothing, some_after, some_more}
 
 pub progress_start : (s : State) (all : List ℕ) (session : Session) (a : Option (List ℕ)) (i : ℕ) → IsAt s session
@@ -40,6 +42,31 @@ progress_line s all now more line session new a b c i j k e p each =
       wrote = wrote_more d u session new a b c i j k p.wrote (each d.state p.wrote.is_at);
       left = followed_assoc d u (effect_of_all u.state (lines_of more)) ∙ ap (followed_by d) (sym (all_more d.state line (lines_of more)) ∙ ap (effect_of_all d.state) (sym e)) ∙ p.left;
     }
+
+-- a line that does nothing
+pub progress_blank : (s : State) (all now more : List ℕ) (line : Line) (session : Session) (a b : Option (List ℕ))
+    (i j : ℕ)
+    → lines_of now ≡ line ∷ lines_of more → session.block ≡ None → is_blank_line line ≡ true
+    → Progress s all now session a b i j → Progress s all more session a b i j
+progress_blank s all now more line session a b i j e none blank p =
+    let d = p.done in
+    let closed = none_open d.state.block (subst (IsOpen d.state.block) none p.wrote.is_at.block) in
+    let same : effect_of_all d.state (line ∷ lines_of more) ≡ effect_of_all d.state (lines_of more) =
+    all_more d.state line (lines_of more) ∙ ap (λ (t : Effect). followed_by t (effect_of_all t.state (lines_of more))) (effect_blank d.state line closed blank) in
+    record { done = d; wrote = p.wrote; left = ap (followed_by d) (sym same ∙ ap (effect_of_all d.state) (sym e)) ∙ p.left }
+
+-- where nothing is kept
+pub blank_first : (kept rest more : List ℕ) (n : ℕ) → kept ≡ [] → more ≡ drop n rest → (f : IsBlankFront rest n)
+    → lines_of (kept ++ rest) ≡ f.line ∷ lines_of (kept ++ more)
+blank_first kept rest more n none d f =
+    ap (λ (k : List ℕ). lines_of (k ++ rest)) none ∙ f.lines ∙ ap (λ (m : List ℕ). f.line ∷ lines_of m) (sym d)
+    ∙ ap (λ (k : List ℕ). f.line ∷ lines_of (k ++ more)) (sym none)
+
+pub blank_left : (kept rest more : List ℕ) (n : ℕ) → kept ≡ [] → more ≡ drop n rest → IsBlankFront rest n
+    → kept_of (cut (kept ++ more)).rest ≡ kept_of (cut (kept ++ rest)).rest
+blank_left kept rest more n none d f =
+    ap (λ (k : List ℕ). kept_of (cut (k ++ more)).rest) none ∙ ap (λ (m : List ℕ). kept_of (cut m).rest) d
+    ∙ ap kept_of (sym f.rest) ∙ ap (λ (k : List ℕ). kept_of (cut (k ++ rest)).rest) (sym none)
 
 -- no line is left
 pub progress_end : (s : State) (all now : List ℕ) (session : Session) (a b : Option (List ℕ)) (i j : ℕ)

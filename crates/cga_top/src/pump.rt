@@ -1,8 +1,8 @@
-ghost use Rattle.std.specs.Prelude.{◌≡◌, ◌++◌, OnOk, OnErr, IsTrue, []};
+ghost use Rattle.std.specs.Prelude.{◌≡◌, ◌<◌, ◌≤◌, ◌++◌, None, OnOk, OnErr, IsTrue, [], length};
 ghost use Rattle.std.specs.Io.KnownBytes.{Appends, Keeps};
 ghost use Rattle.cga_outside.specs.Causes.{HasCause};
 ghost use Rattle.cga_script.specs.Lines.{cut, lines_of};
-ghost use Rattle.cga_script.specs.Pending.{kept_of, ready_line};
+ghost use Rattle.cga_script.specs.Pending.{IsBlankFront, kept_of, ready_line};
 ghost use Rattle.cga_script.specs.declared.ending.Ending.TheVariants as ending;
 ghost use Rattle.cga_top.specs.State.{State};
 ghost use Rattle.cga_top.specs.Replies.{effect};
@@ -20,7 +20,7 @@ use crate::turns::do_line;
 use cga_expand::Expansions;
 use cga_fraction::{NoMemory, Tests};
 use cga_outside::{Failed, Sink};
-use cga_script::Lines;
+use cga_script::{Lines, blank_front};
 use std::sync::ledger::Ledger;
 
 /// Writes all of the bytes.
@@ -72,6 +72,19 @@ pub(crate) fn take_line<K: Sink, E: Ledger, T: Ledger>(
     }
 }
 
+// How many bytes at the front of a piece are a line that asks for nothing, seen before it is cut and read: a blank one
+// outside of a block, of which nothing is kept yet. Otherwise 0.
+fn passed_over(session: &Session, lines: &Lines, piece: &[u8]) -> usize
+    ensures within { result ≤ length piece.now }
+    ensures blank { 0 < result → (lines.now.kept ≡ []) × (session.now.block ≡ None) × IsBlankFront piece.now result }
+{
+    if lines.is_empty() && session.block.is_none() {
+        blank_front(piece)
+    } else {
+        0
+    }
+}
+
 /// Does what the lines of a piece ask for, each as it is complete, and writes the replies.
 pub(crate) fn take_piece<K: Sink, E: Ledger, T: Ledger>(
     session: &mut Session,
@@ -99,6 +112,11 @@ pub(crate) fn take_piece<K: Sink, E: Ledger, T: Ledger>(
 {
     let mut rest = piece;
     while !rest.is_empty() {
+        let passed = passed_over(session, lines, rest);
+        if passed > 0 {
+            rest = rest.split_at(passed).1;
+            continue;
+        }
         let fed = lines.feed(rest);
         rest = rest.split_at(fed.taken).1;
         if fed.ready {

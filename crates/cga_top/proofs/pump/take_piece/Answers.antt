@@ -3,7 +3,8 @@ use Rattle.std.proofs.lemmas.List.{nil_from_length}
 use Rattle.cga_script.specs.Pending.{Pending}
 use Rattle.cga_script.proofs.Door.{one_more, takes_line}
 use Rattle.cga_top.specs.Progress.{Progress}
-use Rattle.cga_top.proofs.Pieces.{progress_start, progress_same, progress_line, progress_end, progress_err}
+use Rattle.cga_top.proofs.Pieces.{progress_start, progress_same, progress_line, progress_blank, progress_end, progress_err}
+use Rattle.cga_top.proofs.Pieces.{blank_first, blank_left}
 use Rattle.cga_top.proofs.Pieces.{part_cleared, part_kept, left_cleared, left_kept, lines_kept_none, nothing_left}
 use Rattle.cga_top.proofs.Pieces.{no_more_lines, no_more_left}
 use Rattle.cga_top.proofs.Faults.{faults_since}
@@ -45,6 +46,19 @@ loop-rest-preserved g c =
       calm = inv.calm;
       each = λ s st. progress_same s _ _ _ _ _ _ _ _ (lines_kept_none _ _ _ f.2 none one) (inv.each s st);
       kept = left_kept _ _ _ f.2 none one ∙ inv.kept;
+    }
+
+pub loop-rest-preserved-then-passed-gt0 : goal.loop-rest-preserved-then-passed-gt0
+loop-rest-preserved-then-passed-gt0 g c =
+    let inv = c.loop-rest.invariant in
+    let b = c.passed_over-passed.ensures.blank c.if-passed-gt0.true in
+    let more = c.split_at.ensures.back in
+    record {
+      part = inv.part;
+      ready = inv.ready;
+      calm = inv.calm;
+      each = λ s st. progress_blank s _ _ _ b.2.line _ _ _ _ _ (blank_first _ _ _ _ b.0 more b.2) b.1 b.2.blank (inv.each s st);
+      kept = blank_left _ _ _ _ b.0 more b.2 ∙ inv.kept;
     }
 
 pub returns-in-Err-clause-err : goal.returns-in-Err-clause-err
