@@ -30,6 +30,7 @@ pub bare_derived : (g : Grammar) (mode : Mode) (budget : ℕ) → derived budget
 unfolding derived derive
 bare_derived g mode budget = rw (bare_reached g mode budget, none_below budget) refl
 
+-- The empty sources derive to no shapes, whatever the budget.
 pub empty_derived : (budget : ℕ) → derived budget empty_sources ≡ Some []
 empty_derived budget = bare_derived empty_sources.grammar empty_sources.mode budget
 
@@ -44,6 +45,7 @@ pub members_are : (budget : ℕ) (s : Sources) (list : List Member) → derived 
     → members budget s ≡ list
 members_are budget s list h = rw h refl
 
+-- A derivation within a budget has at most so many shapes.
 pub few_members : (budget : ℕ) (s : Sources) (list : List Member) → derived budget s ≡ Some list → length list ≤ budget
 unfolding derived derive
 few_members budget s list h = elim (decide (nat_lt budget (length (reached (derivation_of s) budget)))) [

@@ -63,6 +63,7 @@ pub nothing_stands : (mode : Mode)
     → Stands (empty_in mode) (record { forest = no_nodes mode; dependents = record { nodes = [] } })
 nothing_stands mode = fresh_stands (empty_in mode) (no_nodes mode) refl (record { nodes = [] }) refl
 
+-- The empty sources are sound.
 pub empty_sound : AreSound empty_sources
 unfolding IsDistinct check_fault each_after
 empty_sound = record { grammar = refl; rising = tt; few = omega arith; names = tt; good = λ k d h. absurd (omega arith); plain = λ k d h. absurd (omega arith) }

@@ -27,6 +27,7 @@ clash name (m ∷ ms) all zero b at e =
     let f : bytes_eq name m.name ≡ false = all.0 in cc
 clash name (m ∷ ms) all (suc j) b at e = clash name ms all.1 j b at e
 
+-- Where lots are apart, no two places have one name.
 pub names_differ : (lots : List Lot) → AreApart lots → (i j : ℕ) (a b : Lot) → slice_get lots i ≡ Some a
     → slice_get lots j ≡ Some b → a.name ≡ b.name → i ≡ j
 unfolding IsDistinct

@@ -43,6 +43,7 @@ path_beside : (p : List ℕ) (i j : ℕ) (s t : List ℕ) → i < j → slice_cm
 path_beside [] i j s t h = ap (λ o. ordering_then o (slice_cmp nat_cmp s t)) (nat_cmp-less i j h)
 path_beside (x ∷ p) i j s t h = ap (λ o. ordering_then o (slice_cmp nat_cmp (p ++ i ∷ s) (p ++ j ∷ t))) (nat_same x) ∙ path_beside p i j s t h
 
+-- The order of a report is strict.
 pub before_strict : IsStrict comes_before
 before_strict = strict_by nat_list_cmp_total (λ (m : Member). m.shape.path)
 
@@ -242,6 +243,7 @@ module _ {X : Type 0} (test : X → Bool) where
   cases true = inl refl
   cases false = inr refl
 
+  -- What a filter leaves was a member and passes the test.
   pub filter_to : (xs : List X) (x : X) → Among x (filter test xs) → Among x xs × (test x ≡ true)
   filter_to [] x h = absurd h
   filter_to (y ∷ ys) x h = elim (cases (test y)) [
@@ -249,6 +251,7 @@ module _ {X : Type 0} (test : X → Bool) where
     | inr f ↦ (let k = rw f at h in let w = filter_to ys x k in (inr w.0, w.1))
   ]
 
+  -- A member that passes the test is left by the filter.
   pub filter_from : (xs : List X) (x : X) → Among x xs → test x ≡ true → Among x (filter test xs)
   filter_from [] x h t = absurd h
   filter_from (y ∷ ys) x h t = elim h [
@@ -260,10 +263,12 @@ among_index : {X : Type 0} (xs : List X) (x : X) → Among x xs → (i : ℕ) ×
 among_index [] x h = absurd h
 among_index (z ∷ xs) x h = elim h [ inl e ↦ (0, ap (λ y. Some y) e) | inr r ↦ let w = among_index xs x r in (suc w.0, w.1) ]
 
+-- A member of a list gives its shape and its kind to the list.
 pub among_has : (list : List Member) (m : Member) → Among m list → Has list m.shape m.kind
 among_has [] m h = absurd h
 among_has (x ∷ xs) m h = elim h [ inl e ↦ inl (ap (λ (y : Member). y.shape) e, ap (λ (y : Member). y.kind) e) | inr r ↦ inr (among_has xs m r) ]
 
+-- A shape and a kind that a list has are those of a member.
 pub has_among : (list : List Member) (s : Shape) (k : Kind ShapeFault Primitive) → Has list s k
     → Among (record { shape = s; kind = k }) list
 has_among [] s k h = absurd h
@@ -282,6 +287,7 @@ module _ (lot : List ℕ) where
     | inr r ↦ elim r [ inl e ↦ absurd (h (slice_cmp-IsAntisymmetric nat_cmp-IsAntisymmetric m.shape.path n.shape.path e)) | inr g ↦ inr (ap is_lt g) ]
   ]
 
+  -- The members of one lot differ in the order of a report.
   pub lot_differs : (list : List Member) → AreApart list → Differ comes_before (filter is_of list)
   lot_differs [] apart = tt
   lot_differs (m ∷ ms) apart =

@@ -51,6 +51,7 @@ symbol_met g valid symbol plain =
     let (k, at, passes, none) = found_in (is_of symbol) (λ (e : Entry). (is_of symbol e && nat_lt 0 (length e.rule.params)) ≡ false) g.rules has (none_any _ g.rules plainly) in
     (subst (λ (o : Option Entry). IsSome o) (sym at) refl, subst (λ (n : ℕ). Takes g symbol n) (takes_none (is_of symbol k) (length k.rule.params) passes none) (takes g valid symbol k at))
 
+-- Sound sources are valid.
 pub sound_valid : (s : Sources) → AreSound s → IsValid s
 sound_valid s sound = record {
   grammar = sound.grammar;

@@ -30,6 +30,7 @@ sort_whole (Instance p) l e s = not_so (sym e)
 sort_whole k (Instance q) e s = not_so e
 sort_whole k l e s = refl
 
+-- Nodes that fit are alike.
 pub fits_sound : (x y : Node) → fits x y ≡ true → AreAlike x y
 unfolding fits
 fits_sound x y h =
@@ -38,6 +39,7 @@ fits_sound x y h =
     let k = sort_sound x.kind y.kind s.0 in
     record { shape = (shape_equal x.shape y.shape).0 s.1; priority = eqb-true x.priority y.priority p.0; instances = k.0; primitive = k.1 }
 
+-- Nodes that are alike fit.
 pub fits_whole : (x y : Node) → AreAlike x y → fits x y ≡ true
 unfolding fits
 fits_whole x y a =

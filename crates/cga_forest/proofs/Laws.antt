@@ -68,6 +68,7 @@ module _ (v : ForestView) (f : IsForest v) where
       let y : a.0 ≡ b.0 = (cc) in
       sym a.3 ∙ ap (λ (x : Seen). x.node.shape.lot) y ∙ b.3
 
+  -- In the tree of a forest each law can be checked at one node.
   pub local : IsLocalTree (forest_tree v) There
   local = record {
     root_present = λ r m. let w = root_there r m in (w.0, w.1);
@@ -78,9 +79,11 @@ module _ (v : ForestView) (f : IsForest v) where
     shallow = λ n p. let b = ap depth_of p.1 in let s = f.present.tree.shallow n p.0 p.1 in omega arith;
   }
 
+  -- A node of the forest's tree is there.
   pub there : (n : ℕ) → InTree (forest_tree v) n → There n
   there n m = in_present (forest_tree v) There local n m
 
+  -- A node that is there is in the forest's tree.
   pub inside : (n : ℕ) → There n → InTree (forest_tree v) n
   inside n p = present_in (forest_tree v) There local n p
 
@@ -151,6 +154,7 @@ module _ (v : ForestView) (f : IsForest v) where
       let w : x.0 ≡ y.0 = (cc) in
       let p : Some a ≡ Some b = sym x.2 ∙ ap (λ (s : Seen). s.parent) w ∙ y.2 in (cc)
 
+  -- The tree of a forest keeps the laws of `HullTree`.
   pub keeps_laws : IsHullTree (forest_tree v)
   keeps_laws = record {
     roots_once = ids_once v.roots f.tops.apart named_once;
@@ -222,5 +226,6 @@ module _ (v : ForestView) (f : IsForest v) where
       by_mark d h b q up true is = ap is_some ((f.marked is).tree.up c n b q up).1
       by_mark d h b q up false is = ap is_some (marked_plain (slot_at v n) (f.plain is n) ∙ h)
 
+  -- So does the tree in which only those ask that were there at the mark.
   pub lasting_laws : IsHullTree (lasting_tree v)
   lasting_laws = tree_laws (forest_tree v) (was_marked v) (keeps_laws v f) parents_last

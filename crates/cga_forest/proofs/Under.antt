@@ -28,6 +28,7 @@ unfolding under
 under_zero a zero id c h = refl
 under_zero a (suc n) id c h = absurd (omega arith)
 
+-- What is below a node is the node, or below one of its children.
 pub under_step : (a : ℕ → List ℕ) (n id c : ℕ) → 0 < n
     → under a n id c ≡ (nat_eq id c || list_any (λ k. under a (n - 1) k c) (a id))
 unfolding under

@@ -21,11 +21,13 @@ any_here p [] i k h y = absurd (cc)
 any_here p (x ∷ xs) zero k h y = let q : x ≡ k = (cc) in ap (λ z. p z || list_any p xs) q ∙ ap (λ b. b || list_any p xs) y
 any_here p (x ∷ xs) (suc i) k h y = elim (p x) as (λ b. (b || list_any p xs) ≡ true) [ true ↦ refl | false ↦ any_here p xs i k h y ]
 
+-- A node is below itself.
 pub under_self : (K : ℕ → List ℕ) (n id : ℕ) → 0 < n → under K n id id ≡ true
 unfolding under
 under_self K zero id h = absurd (omega arith)
 under_self K (suc n) id h = ap (λ b. b || list_any (λ k. under K n k id) (K id)) (eq-eqb id id refl)
 
+-- What is below a child is below its parent.
 pub under_child : (K : ℕ → List ℕ) (n id i k c : ℕ) → slice_get (K id) i ≡ Some k → under K n k c ≡ true
     → under K (suc n) id c ≡ true
 unfolding under
@@ -40,6 +42,7 @@ under_cases K n id c h = elim (bool_cases (nat_eq id c)) [
   | inr ne ↦ inr (any_find (λ k. under K n k c) (K id) (sym (ap (λ b. b || list_any (λ k. under K n k c) (K id)) ne) ∙ h))
 ]
 
+-- Nothing is below a node within no steps.
 pub under_none : (K : ℕ → List ℕ) (id c : ℕ) → under K 0 id c ≡ false
 unfolding under
 under_none K id c = refl

@@ -1,6 +1,5 @@
-//! What follows from what a script is replied to: a line is taken for the one thing that it tells, every state that
-//! lines come to is within the budget, an undo is never refused and restores, a refused command changes nothing, what was
-//! told stays told, a dump read as a city gives its sources back.
+//! Laws of the output: a line is one command, states are within the budget, an undo is never refused and restores,
+//! refusals change nothing, told replies stay, and a dump read back gives its sources.
 //!
 //! It must not know how bytes are read and written or what keeps a city. The crate holds definitions and laws alone,
 //! over lines and sources.

@@ -1,5 +1,5 @@
-//! A slab and a map with a mark: entries under numbers and ids under names, each with a list of what the mark's end has
-//! to look at, so that it takes the time of what changed.
+//! A slab and a map that can go back to a mark: entries under numbers, and ids under names. Going back, or dropping the
+//! mark, takes the time of what changed.
 //!
 //! It must not know what an entry or an id holds, or what an entry keeps for the mark. Room is taken ahead, so that no
 //! change and no way back takes memory.

@@ -1,11 +1,10 @@
-//! An edit, over any type of shapes: which shapes it touches, said over the lists of the derivations before and after
-//! it, and that a rework by an agenda ends in the new list, expands just those that are touched, and records just what
-//! went and came.
+//! An edit, over any type of shapes: which shapes it touches, by the derivations before and after it. A rework by an
+//! agenda ends in the new one, expands just the touched shapes, and records just what went and came.
 //!
 //! It must not know geometry, rules or how nodes are stored. Old and new rules share the shapes, their lots and paths,
-//! and the mode; a crate above says what its shapes and their settings are. And what a kept tree, a walk of it and an
-//! agenda of numbers have to tell of a change, whatever the nodes hold, so that it is a turn of that work. It computes
-//! nothing.
+//! and the mode; a crate above says what its shapes and their settings are. It also says what a kept tree, a walk of it
+//! and an agenda of numbers have to tell of a change, whatever the nodes hold, so that it is a turn of that work. It
+//! computes nothing.
 //!
 //! What callers get wrong: a shape whose symbol's priority changed isn't kept, even if nothing else of it changed, so
 //! it is touched, and so is all that stands below it; its parent isn't, and it is the parent whose turn places it anew.

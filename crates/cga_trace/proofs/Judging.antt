@@ -108,6 +108,7 @@ agree n (s ∷ steps) (line ∷ lines) others of =
     ∙ (agree (suc n) steps lines others of.1 ∙ ap (λ k. cond (are_some others) (Some k) None) next)
 
 module _ (reader : JudgeReader) (lines : List Line) (read : IsRead reader lines) (run : List TraceStep) (fields : AreSteps run) (few : length run < MOST_STEPS) where
+  -- The first step that differs is told at its place.
   pub wrong_there : is_headed (length run) lines ≡ true → (place : ℕ) → AgreeBefore run reader.steps (Some place)
       → (place ≤ MOST_STEPS) × (judged run lines ≡ Some (place + 1))
   wrong_there headed place wrong = by lines read headed

@@ -39,6 +39,7 @@ fresh_pairs sources d none = record {
   );
 }
 
+-- A forest without nodes stands for sources without lots.
 pub fresh_stands : (sources : Sources) (v : ForestView) → v ≡ no_nodes sources.mode
     → (d : DependentsView) → d.nodes ≡ [] → Stands (with_no_lots sources) (record { forest = v; dependents = d })
 fresh_stands sources v new d none =

@@ -30,6 +30,7 @@ pub nodes_stand : (sources : Sources) (v : ForestView) → NamesDiffer sources.l
 nodes_stand sources v names stands list derived =
     start_stands (shapes_of sources) (rules_of sources) (is_derivation sources sources names) (rules_of sources) (kept_nodes v) (is_start sources v stands) list derived
 
+-- What stands for sources is what is derived from them.
 pub standing_is_derived : StandingIsDerived
 standing_is_derived sources v names stands list derived s k =
     let same = (nodes_stand sources v names stands list derived).members in (
