@@ -32,7 +32,8 @@ fn queue_rooted<T: Ledger>(
     ensures mode { OnOk result (agenda.new.mode ≡ agenda.old.mode) }
 {
     add_moved(agenda, forest, came)?;
-    queue_near(agenda, forest, went, came, tests)
+    queue_near(agenda, forest, went, &[], tests)?;
+    queue_near(agenda, forest, &[], came, tests)
 }
 
 /// Takes the roots that go away, puts those that come there, and puts on the agenda what the change may reach. Takes
