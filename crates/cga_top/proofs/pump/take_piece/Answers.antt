@@ -23,13 +23,13 @@ pub loop-rest-preserved-in-Ok : goal.loop-rest-preserved-in-Ok
 loop-rest-preserved-in-Ok g c =
     let inv = c.loop-rest.invariant in
     let f = c.feed-fed.ensures.some c.if-fed.true in
-    let t = takes_line c.loop-rest.lines.kept c.loop-rest.rest.now c.split_at.result.1.now c.feed-fed.result.taken c.feed-fed.new.self inv.part.one f.0 f.1 f.2 f.3 c.split_at.ensures.back f.4 in
+    let t = takes_line c.loop-rest.lines.kept c.loop-rest.rest.now c.split_at-in-loop-rest.result.1.now c.feed-fed.result.taken c.feed-fed.new.self inv.part.one f.0 f.1 f.2 f.3 c.split_at-in-loop-rest.ensures.back f.4 in
     let done = c.in-Ok.ensures in
     record {
       part = part_cleared _ done.lines;
       ready = done.ready;
       calm = done.faults ∙ inv.calm;
-      each = λ s st. subst (λ (q : Pending). Progress s (c.args.lines.now.kept ++ c.args.piece.now) (q.kept ++ c.split_at.result.1.now) c.take_line.new.session (g.K.Sink.held c.args.out.now) (g.K.Sink.held c.take_line.new.out) c.args.expansions.now c.take_line.new.expansions)
+      each = λ s st. subst (λ (q : Pending). Progress s (c.args.lines.now.kept ++ c.args.piece.now) (q.kept ++ c.split_at-in-loop-rest.result.1.now) c.take_line.new.session (g.K.Sink.held c.args.out.now) (g.K.Sink.held c.take_line.new.out) c.args.expansions.now c.take_line.new.expansions)
           (sym done.lines) (progress_line s _ _ _ _ _ _ _ _ _ _ _ _ t.lines (inv.each s st) (λ u su. done.ok u su));
       kept = left_cleared _ _ _ done.lines t.left ∙ inv.kept;
     }
@@ -39,7 +39,7 @@ loop-rest-preserved g c =
     let inv = c.loop-rest.invariant in
     let f = c.feed-fed.ensures.none c.if-fed.false in
     let one = one_more _ _ inv.part.one f.0 in
-    let none = nothing_left _ _ _ f.1 c.split_at.ensures.back in
+    let none = nothing_left _ _ _ f.1 c.split_at-in-loop-rest.ensures.back in
     record {
       part = part_kept _ _ f.2 one;
       ready = inv.ready;
@@ -65,7 +65,7 @@ pub returns-in-Err-clause-err : goal.returns-in-Err-clause-err
 returns-in-Err-clause-err g c = λ s st.
     let inv = c.loop-rest.invariant in
     let f = c.feed-fed.ensures.some c.if-fed.true in
-    let t = takes_line c.loop-rest.lines.kept c.loop-rest.rest.now c.split_at.result.1.now c.feed-fed.result.taken c.feed-fed.new.self inv.part.one f.0 f.1 f.2 f.3 c.split_at.ensures.back f.4 in
+    let t = takes_line c.loop-rest.lines.kept c.loop-rest.rest.now c.split_at-in-loop-rest.result.1.now c.feed-fed.result.taken c.feed-fed.new.self inv.part.one f.0 f.1 f.2 f.3 c.split_at-in-loop-rest.ensures.back f.4 in
     progress_err s _ _ _ _ _ _ _ _ _ _ t.lines (inv.each s st) (λ u su. c.in-Err.ensures.err u su)
 
 pub returns-in-Err-clause-faults : goal.returns-in-Err-clause-faults
