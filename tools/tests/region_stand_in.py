@@ -9,11 +9,18 @@ environment each call sleeps so many seconds before it answers.
 import os
 import sys
 import time
-from fractions import Fraction
 from itertools import product
 
 CORNERS = [(0, 0, 0), (1, 0, 0), (1, 0, 1), (0, 0, 1), (0, 1, 0), (1, 1, 0), (1, 1, 1), (0, 1, 1)]
 FACES = ["4 3 7 8", "3 2 6 7", "2 1 5 6", "1 4 8 5", "8 7 6 5", "1 2 3 4"]
+
+
+def number_of(text):
+    """A whole number stays one: without fractions, which load long, a start takes half as long."""
+    if text.lstrip("-").isdigit():
+        return int(text)
+    from fractions import Fraction
+    return Fraction(text)
 
 
 class City:
@@ -25,7 +32,7 @@ class City:
 
     def box(self, name):
         seed, x, z, width, depth, _ = self.lots[name]
-        return x, x + width + seed, Fraction(0), Fraction(seed), z, z + depth
+        return x, x + width + seed, 0, seed, z, z + depth
 
     def drawing(self):
         """The lots that draw."""
@@ -92,7 +99,7 @@ class City:
             if is_city and words[:1] == ["lot"]:
                 if "0" in words[5:7] or words[1].startswith("huge"):
                     return [f"# refused BadLot {words[1]}" if "0" in words[5:7] else "# refused OverBudget"]
-                lots[words[1]] = (int(words[2]), *map(Fraction, words[3:7]), words[7])
+                lots[words[1]] = (int(words[2]), *map(number_of, words[3:7]), words[7])
             elif words[:1] == ["nonsense"]:
                 return [f"# refused Unexpected at {at}:1"]
             elif words and words[0] != "order":

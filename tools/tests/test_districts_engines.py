@@ -7,6 +7,7 @@ import subprocess
 import sys
 import tempfile
 import unittest
+from pathlib import Path
 from unittest.mock import patch
 
 from regions import RULES, STAND_IN, TOP, RegionTest, asking, wait
@@ -72,17 +73,14 @@ def killed(given):
 class Engines(RegionTest):
     @classmethod
     def setUpClass(cls):
-        cls.compiled = tempfile.TemporaryDirectory()  # of the tool, which is called often
-        cls.addClassCleanup(cls.compiled.cleanup)
-
-    def setUp(self):
-        super().setUp()
-        (self.top / "python3").write_text(f'#!/bin/sh\nexec "{sys.executable}" "$@"\n')  # without what else may stand before it
-        (self.top / "python3").chmod(0o755)
+        folder = tempfile.TemporaryDirectory()
+        cls.addClassCleanup(folder.cleanup)
+        cls.compiled = os.environ.get("PYTHONPYCACHEPREFIX", folder.name)  # of the tool, which is called often
 
     def environment(self, **held):
-        return {**os.environ, "PATH": f"{self.top}:{os.environ['PATH']}", "PYTHONDONTWRITEBYTECODE": "",
-                "PYTHONPYCACHEPREFIX": self.compiled.name, **held}
+        """With this Python before any other."""
+        return {**os.environ, "PATH": f"{self.top}:{Path(sys.executable).parent}:{os.environ['PATH']}", "PYTHONDONTWRITEBYTECODE": "",
+                "PYTHONPYCACHEPREFIX": self.compiled, **held}
 
     def make(self, *words, **environment):
         return subprocess.Popen(["make", "-j", "2", "-C", self.folder, *words], stdout=subprocess.PIPE, stderr=subprocess.PIPE, text=True,
