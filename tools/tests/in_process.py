@@ -4,7 +4,6 @@ import os
 import runpy
 import signal
 import sys
-from multiprocessing import get_context
 from pathlib import Path
 
 TESTS = Path(__file__).resolve().parent
@@ -34,6 +33,7 @@ def called(tool, *words, folder=None):
 
 def begun(tool, *words, out, err):
     """A process that does a call, and writes to these files; a signal to it is one to the tool."""
+    from multiprocessing import get_context  # it takes long to load, and most tests need none
     process = get_context("fork").Process(target=copied, args=(tool, words, out, err))
     process.start()
     return process

@@ -202,7 +202,7 @@ class Words(unittest.TestCase):
 
     def test_colours_that_are_not_there_are_told_at_once(self):
         words = [TESTS.parent / "preview", "--program", TESTS / "live_stand_in", "--port", "0", "town.cga"]
-        done = subprocess.run(words, capture_output=True, text=True, timeout=60, env={**os.environ, "CGA_COLOURS": "/nowhere.json"})
+        done = subprocess.run(words, capture_output=True, text=True, timeout=PATIENCE, env={**os.environ, "CGA_COLOURS": "/nowhere.json"})
         self.assertEqual((done.returncode, done.stdout, done.stderr), (1, "", "preview: /nowhere.json: No such file or directory\n"))
 
 
