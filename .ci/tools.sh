@@ -4,10 +4,12 @@
 # refuse planted bugs of the tool.
 set -euo pipefail
 cd "$(dirname "${BASH_SOURCE[0]}")/.."
-export PYTHONDONTWRITEBYTECODE=1
-# Python with nothing installed beside it, as the tools need it: the tests begin it some hundred times
+# Python with nothing installed beside it, as the tools need it: the tests begin it some hundred times. What is compiled of a
+# file is kept for the next start, and not in this folder.
 alone=$(mktemp -d)
 trap 'rm -rf "$alone"' EXIT
+unset PYTHONDONTWRITEBYTECODE
+export PYTHONPYCACHEPREFIX=$alone/compiled
 if python3 -m venv --without-pip "$alone"; then PATH=$alone/bin:$PATH; fi
 python3 -m unittest discover -s tools/tests
 tools/tests/in_blender.py

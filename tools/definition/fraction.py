@@ -42,8 +42,7 @@ def decimal_of(text):
 
 def round_of(a, places):
     """The whole number nearest to a * 10^places, and of two equally near ones the one farther from zero."""
-    scaled = abs(a) * 10 ** places
-    nearest = floor_of(scaled + Fraction(1, 2))
+    nearest = (2 * abs(a.numerator) * 10 ** places + a.denominator) // (2 * a.denominator)
     return -nearest if a < 0 else nearest
 
 

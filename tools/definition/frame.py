@@ -35,6 +35,8 @@ def turned(frame, axis, by):
 
 def moved_along(at, direction, by):
     """A point moved along one direction."""
+    if not by:
+        return at
     axis, sign = direction
     world = list(at)
     world[axis] = world[axis] + by if sign == 1 else world[axis] - by
@@ -63,6 +65,11 @@ class Box:
     low: Tuple
     high: Tuple
 
+    @cached_property
+    def rough(self):
+        """The corners as floats, which are much quicker: what is less is less there, too, or the same."""
+        return (*map(float, self.low), *map(float, self.high))
+
 
 @dataclass(frozen=True)
 class Scope:
@@ -70,6 +77,10 @@ class Scope:
     at: Tuple
     frame: Tuple
     size: Tuple
+
+    @cached_property
+    def far(self):
+        return far_of(self)
 
     @cached_property
     def box(self):
@@ -82,13 +93,12 @@ def far_of(scope):
 
 
 def box_of(scope):
-    far = far_of(scope)
-    return Box(tuple(map(min, scope.at, far)), tuple(map(max, scope.at, far)))
+    return Box(tuple(map(min, scope.at, scope.far)), tuple(map(max, scope.at, scope.far)))
 
 
 def existing(scope):
     """The scope, or Overflow where a coordinate of its box leaves the range."""
-    if not (point_in_range(scope.at) and point_in_range(far_of(scope))):
+    if not (point_in_range(scope.at) and point_in_range(scope.far)):
         raise Fault("Overflow")
     return scope
 
@@ -122,8 +132,17 @@ def along_holds(low, high, lower, upper):
     return low <= lower and upper <= high
 
 
+def are_apart(a, b):
+    """Floats tell it of most boxes that don't meet; where they don't, nothing is told."""
+    x, y, z, far_x, far_y, far_z = a.rough
+    other_x, other_y, other_z, other_far_x, other_far_y, other_far_z = b.rough
+    return (far_x < other_x or other_far_x < x or far_z < other_z or other_far_z < z
+            or far_y < other_y or other_far_y < y)
+
+
 def meets(a, b):
-    return (along_meets(a.low[X], a.high[X], b.low[X], b.high[X])
+    return (not are_apart(a, b)
+            and along_meets(a.low[X], a.high[X], b.low[X], b.high[X])
             and along_meets(a.low[Y], a.high[Y], b.low[Y], b.high[Y])
             and along_meets(a.low[Z], a.high[Z], b.low[Z], b.high[Z]))
 

@@ -1,27 +1,33 @@
 """Jobs of a town that derive lots round those that they answer for, and whether they are the town (cga_district)."""
+from collections import defaultdict
 from dataclasses import dataclass, replace
-from typing import Tuple
+from functools import lru_cache
+from typing import Dict, Tuple
 
 from .asked import on_path
 from .check import group, mentions_target
 from .derivation import INSTANCE, derived
-from .frame import meets
+from .frame import Box, meets
 from .run import step_text
 
 
 @dataclass(frozen=True)
 class Job:
-    """Names of lots, the members as pairs of a shape and what it is, and the texts of the steps."""
+    """Names of lots, and by these the members, each a shape with what it is, and the texts of the steps in their order."""
     own: Tuple
     ring: Tuple
-    members: frozenset
-    steps: Tuple
+    members: Dict
+    steps: Dict
 
 
 class Jobs:
     def __init__(self, sources, budget, shares):
         self.sources, self.budget = sources, budget
+        groups = {entry.rule.symbol: group(sources.grammar, entry.rule.symbol) for entry in sources.grammar.rules}
+        self.priorities = {symbol: rules.priority for symbol, rules in groups.items()}
+        self.asking = {symbol for symbol, rules in groups.items() if any(mentions_target(rules, target) for target in ("noparent", "active"))}
         self.jobs = [self.job(own, ring) for own, ring in shares]
+        self.together = frozenset().union(*map(own_of, self.jobs))
 
     def derived(self, names):
         lots = tuple(lot for lot in self.sources.lots if lot.name in names)
@@ -29,38 +35,31 @@ class Jobs:
 
     def job(self, own, ring):
         derivation = self.derived(own + ring)
-        return Job(own, ring, members_of(derivation), tuple((step.shape.lot, step_text(step)) for step in derivation.steps))
-
-    def own_members(self):
-        return frozenset().union(*(own_of(job) for job in self.jobs))
+        return Job(own, ring, members_of(derivation), by_lot(derivation.steps, step_text))
 
     def are_the_town(self):
         names = [lot.name for lot in self.sources.lots]
-        return self.own_members() == members_of(self.derived(names))
+        return self.together == all_of(members_of(self.derived(names)))
 
-    def asks(self, symbol):
-        rules = group(self.sources.grammar, symbol)
-        return any(mentions_target(rules, target) for target in ("noparent", "active"))
-
-    def sees(self, shape, other):
-        return self.asks(shape.symbol) and meets(other.scope.box, shape.scope.box) and not on_path(other, shape)
+    def asks_among(self, members):
+        """The shapes that ask."""
+        return [shape for shape, kind, _ in members if kind != INSTANCE and shape.symbol in self.asking]
 
     def chains(self, members):
         """The priorities on the path of each shape, its own the last."""
-        priorities = {(shape.lot, shape.path): group(self.sources.grammar, shape.symbol).priority for shape, *_ in members}
+        priorities = {(shape.lot, shape.path): self.priorities[shape.symbol] for shape, *_ in members}
         return {place: [priorities[place[0], place[1][:i]] for i in range(len(place[1]) + 1)] for place in priorities}
 
     def sees_alike(self, job):
         """What an own member compares stands in the job's list as in those of the jobs that answer for it."""
-        together = self.own_members()
-        mine, theirs = self.chains(job.members), self.chains(together)
-        return all(member in job.members and member in together and mine[place_of(member)] == theirs[place_of(member)]
-                   for shape, kind, _ in own_of(job) if kind != INSTANCE
-                   for member in job.members | together if self.sees(shape, member[0]))
+        here = all_of(job.members)
+        mine, theirs = self.chains(here), self.chains(self.together)
+        unlike = [shape for shape, *_ in here & self.together if mine[place_of(shape)] != theirs[place_of(shape)]]
+        unlike += [shape for shape, *_ in here ^ self.together]
+        return not any(sees(shape, other) for shape in self.asks_among(own_of(job)) for other in unlike)
 
     def meets_none(self, lot, other, xs, ys):
-        return not any(kind != INSTANCE and self.asks(shape.symbol) and meets(met.scope.box, shape.scope.box)
-                       for shape, kind, _ in of(lot, xs) for met, *_ in of(other, ys))
+        return not any(meets(met.scope.box, shape.scope.box) for shape in self.asks_among(of(lot, xs)) for met, *_ in of(other, ys))
 
     def is_settled(self, job, other, x, y):
         """Both derived the second lot alike, or it meets no shape of the first that asks."""
@@ -69,7 +68,7 @@ class Jobs:
 
     def agree_on(self, job, other, x, y):
         """As far as they tell it by steps and boxes."""
-        if y in job.own + job.ring and steps_of(y, job) == steps_of(y, other):
+        if y in job.own + job.ring and sorted(job.steps[y]) == sorted(other.steps[y]):
             return True
         return not boxes_touch(x, y, job.members, other.members) and not boxes_touch(x, y, job.members, job.members)
 
@@ -77,35 +76,50 @@ class Jobs:
         return all(test(job, other, x, y) for job in self.jobs for other in self.jobs for x in job.own for y in other.own)
 
 
+def by_lot(found, made):
+    """What is made of each thing that is found, by the lot of its shape."""
+    kept = defaultdict(list)
+    for one in found:
+        kept[one.shape.lot].append(made(one))
+    return kept
+
+
 def members_of(derivation):
-    return frozenset((member.shape, member.kind, member.which) for member in derivation.members)
-
-
-def own_of(job):
-    return {member for member in job.members if member[0].lot in job.own}
-
-
-def place_of(member):
-    return member[0].lot, member[0].path
+    found = by_lot(derivation.members, lambda member: (member.shape, member.kind, member.which))
+    return {lot: frozenset(members) for lot, members in found.items()}
 
 
 def of(lot, members):
-    return {member for member in members if member[0].lot == lot}
+    return members.get(lot, frozenset())
 
 
-def steps_of(lot, job):
-    return sorted(text for name, text in job.steps if name == lot)
+def all_of(members):
+    return frozenset().union(*members.values())
 
 
-def hull_of(lot, members):
-    """The least box that holds those of all shapes of the lot; None where it has none."""
-    boxes = [shape.scope.box for shape, *_ in of(lot, members)]
+def own_of(job):
+    return frozenset().union(*(of(lot, job.members) for lot in job.own))
+
+
+def place_of(shape):
+    return shape.lot, shape.path
+
+
+def sees(shape, other):
+    """Where the shape asks."""
+    return meets(other.scope.box, shape.scope.box) and not on_path(other, shape)
+
+
+@lru_cache(maxsize=256)
+def hull_of(members):
+    """The least box that holds those of all shapes; None where there are none."""
+    boxes = [shape.scope.box for shape, *_ in members]
     if not boxes:
         return None
-    return type(boxes[0])(tuple(map(min, zip(*(box.low for box in boxes)))), tuple(map(max, zip(*(box.high for box in boxes)))))
+    return Box(tuple(map(min, zip(*(box.low for box in boxes)))), tuple(map(max, zip(*(box.high for box in boxes)))))
 
 
 def boxes_touch(lot, other, xs, ys):
-    one, two = hull_of(lot, xs), hull_of(other, ys)
+    one, two = hull_of(of(lot, xs)), hull_of(of(other, ys))
     return one is not None and two is not None and all(
         a <= d and c <= b for a, b, c, d in zip(one.low, one.high, two.low, two.high))

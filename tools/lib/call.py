@@ -18,14 +18,34 @@ class WrongWord(Exception):
     """A word isn't one of the tool's, with the reason."""
 
 
+class Narrow(argparse.HelpFormatter):
+    """It is made for each word and prints nothing. Else it would look up the terminal's width, by a module that loads long."""
+
+    def __init__(self, prog):
+        super().__init__(prog, width=80)
+
+
 class Words(argparse.ArgumentParser):
     """The words of a tool; `--help` prints the tool's own text."""
 
     def __init__(self, **more):
-        super().__init__(add_help=False, allow_abbrev=False, **more)
+        super().__init__(add_help=False, allow_abbrev=False, formatter_class=Narrow, **more)
 
     def error(self, message):
         raise WrongWord(message)
+
+
+class FirstWord(Words):
+    """The words of a tool whose first one says which others there are. By it, `adding` gives what adds these."""
+
+    def __init__(self, adding):
+        super().__init__()
+        self.adding = adding
+        self.add_argument("word", choices=adding)
+
+    def parse_args(self, words):
+        self.adding[super().parse_args(words[:1]).word](self)
+        return super().parse_args(words)
 
 
 def number_in(low, high, kind=float):

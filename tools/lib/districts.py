@@ -1,16 +1,15 @@
-"""What tools/districts does for each of its words."""
+"""What tools/districts does for each of its words. It is called often, so what one word alone needs is loaded for that word."""
 import argparse
 import os
 import sys
 from pathlib import Path
 
-from .call import Refused, Words, number_in
+from .call import FirstWord, Refused, number_in
 from .checking import bill_text
 from .exact import parted
 from .files import alone, write
 from .head import head_of
 from .jobs import Cut, Program, cut_again, leftovers, todo
-from .joining import join
 from .plan import Options, read_plan
 from .program import LAUNCHER, MOST_LOTS, is_proved
 from .quadtree import EDGE
@@ -18,7 +17,6 @@ from .region import Region
 from .rounds import outcome
 from .strangers_text import told
 from .survey import Survey
-from .tiles import write_tiles
 
 MAIN, HULLS = (LAUNCHER.parent / "crates" / name / "out" / name for name in ("cga_main", "cga_hulls"))
 AGAIN = 3  # the status where jobs are to be run again
@@ -97,6 +95,7 @@ def checked(folder):
 
 
 def joined(words):
+    from .joining import join
     with alone(words.folder):
         status = checked(words.folder)
         if status == 0:
@@ -106,6 +105,7 @@ def joined(words):
 
 
 def tiled(words):
+    from .tiles import write_tiles
     with alone(words.folder):
         status = checked(words.folder)
         if status == 0:
@@ -159,9 +159,13 @@ def length(word):
     return word
 
 
+def add_folder(known):
+    known.add_argument("folder", type=Path)
+
+
 def add_cut(known):
     known.add_argument("script")
-    known.add_argument("folder", type=Path)
+    add_folder(known)
     known.add_argument("--lots", type=number_in(1, MOST_LOTS, int), default=500)
     known.add_argument("--reach", type=length, default="0")
     known.add_argument("--rings", type=number_in(0, 64, int), default=0)
@@ -170,18 +174,14 @@ def add_cut(known):
     known.add_argument("--program")
 
 
+def add_workers(known):
+    add_folder(known)
+    known.add_argument("--workers", type=number_in(1, 256, int), default=os.cpu_count() or 1)
+
+
 def words():
-    known = Words()
-    kinds = known.add_subparsers(dest="word", required=True)
-    for word in DOES:
-        one = kinds.add_parser(word)
-        if word == "cut":
-            add_cut(one)
-        else:
-            one.add_argument("folder", type=Path)
-        if word in ("join", "tiles"):
-            one.add_argument("--workers", type=number_in(1, 256, int), default=os.cpu_count() or 1)
-    return known
+    others = {"cut": add_cut, "join": add_workers, "tiles": add_workers}
+    return FirstWord({word: others.get(word, add_folder) for word in DOES})
 
 
 def main(word):

@@ -1,7 +1,6 @@
 """Jobs that derive their neighbours with them. What a job's own lots see of a neighbour must be what the neighbour's own
 job derived: then the own lots of all jobs are, together, the town. Two jobs derived the same of a lot where its steps are
 the same, each with its answers: a step's shape and answers say all that comes of it."""
-import hashlib
 import json
 from collections import Counter, defaultdict, namedtuple
 
@@ -48,8 +47,9 @@ class Traced:
 
     def lot(self, steps):
         """Each shape but an instance has one step, which tells how many children it has, or its fault."""
+        from hashlib import sha256
         shapes = 1 + sum(int(step) for step in (line.rsplit(b" ", 1)[1] for line in steps) if step.isdigit())
-        return [hashlib.sha256(b"\n".join(sorted(steps))).hexdigest()[:32], shapes, shapes - len(steps)]
+        return [sha256(b"\n".join(sorted(steps))).hexdigest()[:32], shapes, shapes - len(steps)]
 
 
 def traced(folder, plan):

@@ -1,9 +1,6 @@
 """The folder of a region that is cut. Each file of a job is named by the digest of its script and of the program that
 runs it: what another script or another program printed has another name, and what was run once isn't run again."""
-import hashlib
 import os
-import shutil
-import subprocess
 from pathlib import Path
 
 from .call import Refused
@@ -25,18 +22,19 @@ class Program:
     """A copy of the program in the folder, named by its digest: the program may be built anew while jobs run."""
 
     def __init__(self, path, words):
-        found = shutil.which(path)
+        from shutil import which  # it takes long to load, and a cut alone needs it
+        found = which(path)
         if found is None:
             raise Refused(f"{path} is no program that can be run")
         self.data, self.words = Path(found).read_bytes(), words
         if words and not takes_decimals(found, words):
             raise Refused(f"{path} doesn't print with {' '.join(words)}: name a program that does by --program")
-        self.name = f"program-{hashlib.sha256(self.data).hexdigest()[:20]}"
+        self.name = f"program-{digest(self.data)}"
 
     def job(self, script):
         """The name of a job."""
         begin = "\0".join([self.name, *self.words, ""]).encode("latin-1")
-        return hashlib.sha256(begin + script).hexdigest()[:20]
+        return digest(begin + script)
 
     def save(self, folder):
         path = folder / self.name
@@ -44,8 +42,14 @@ class Program:
             path.chmod(0o755)
 
 
+def digest(data):
+    from hashlib import sha256  # it takes long to load, too
+    return sha256(data).hexdigest()[:20]
+
+
 def takes_decimals(program, words):
     """Whether the program prints as its words say; one that knows no words would print as ever."""
+    import subprocess
     out = subprocess.run([program, *words], input=CUBE, stdout=subprocess.PIPE).stdout
     zero = f"{0:.{words[1]}f}"
     return f"\nv {zero} {zero} {zero}\n".encode() in out

@@ -1,6 +1,7 @@
 """Joins what the jobs printed to one OBJ text, in pieces that several processes write."""
 import shutil
 import signal
+import sys
 from collections import deque, namedtuple
 from contextlib import contextmanager
 from functools import partial
@@ -25,20 +26,29 @@ def workers(number):
         return
     from concurrent.futures.process import BrokenProcessPool, ProcessPoolExecutor  # they take long to load, and most calls need none
     from multiprocessing import get_context
-    ended = (signal.SIGINT, signal.SIG_DFL)  # Ctrl-C ends them without a word
-    pool = ProcessPoolExecutor(number, get_context("fork"), signal.signal, ended)
+    pool = ProcessPoolExecutor(number, get_context("fork"), ended_quietly)
     try:
         yield partial(over, pool)
     except BrokenProcessPool:
         raise Refused("a process was killed, perhaps for want of memory: call it again with fewer --workers") from None
     finally:
-        pool.shutdown(cancel_futures=True)
+        pool.shutdown(**{"cancel_futures": True} if sys.version_info >= (3, 9) else {})
+
+
+def ended_quietly():
+    """Ctrl-C ends a process of the pool without a word, also where it came while the process began."""
+    signal.signal(signal.SIGINT, signal.SIG_DFL)
+    signal.pthread_sigmask(signal.SIG_UNBLOCK, {signal.SIGINT})
 
 
 def over(pool, function, given):
     """The results in order. The pool's own `map` cancels what waits once one has failed, while a thread of the pool tells the
     same futures that a process is gone: that thread then ends with a trace, and the other processes are never ended."""
-    waiting = deque([pool.submit(function, each) for each in given])
+    before = signal.pthread_sigmask(signal.SIG_BLOCK, {signal.SIGINT})  # the first work begins the processes
+    try:
+        waiting = deque([pool.submit(function, each) for each in given])
+    finally:
+        signal.pthread_sigmask(signal.SIG_SETMASK, before)
     while waiting:
         yield waiting.popleft().result()
 

@@ -46,7 +46,7 @@ def tells_changes(program):
     """Whether a program is one that tells what an edit changed."""
     script = b'rules\n1: a -> S(1r, 1, 1r) I("cube")\nend\nlot a 1 0 0 1 1 a\nstats\n'
     try:
-        done = subprocess.run([program], input=script, stdout=subprocess.PIPE, stderr=subprocess.DEVNULL, timeout=10)
+        done = subprocess.run([program], input=script, stdout=subprocess.PIPE, stderr=subprocess.DEVNULL, timeout=60)
     except subprocess.TimeoutExpired:
         return False
     return b"\n# changed 0 1\n" in done.stdout

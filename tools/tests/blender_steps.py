@@ -71,7 +71,7 @@ def main():
     follower = cga_city_link.follow(str(script), program=str(TESTS / "told"))
 
     def wait():
-        for _ in range(600):
+        for _ in range(3000):
             if follower.tick():
                 return
             time.sleep(0.1)

@@ -12,7 +12,10 @@ from pathlib import Path
 
 CHROMIUM = shutil.which("chromium") or shutil.which("chromium-browser")
 WORDS = ["--headless=new", "--no-sandbox", "--remote-debugging-pipe", "--use-gl=angle", "--use-angle=swiftshader", "--enable-unsafe-swiftshader",
-         "--no-first-run", "--disable-extensions", "--disable-background-networking", "--disable-component-update", "--hide-scrollbars"]
+         "--no-first-run", "--disable-extensions", "--disable-background-networking", "--disable-component-update", "--hide-scrollbars",
+         "--disable-sync", "--disable-default-apps", "--disable-breakpad", "--disable-domain-reliability", "--no-default-browser-check",
+         "--disable-component-extensions-with-background-pages", "--mute-audio", "--metrics-recording-only",
+         "--disable-features=Translate,OptimizationHints,MediaRouter"]
 
 
 SHARED = []  # the one browser of all tests in a process
@@ -65,7 +68,7 @@ class Browser:
 
     def close(self):
         self.process.terminate()
-        self.process.wait(10)
+        self.process.wait(120)
         self.words.close()
         self.answers.close()
         shutil.rmtree(self.folder, ignore_errors=True)

@@ -10,6 +10,7 @@ import tempfile
 from pathlib import Path
 
 import solid_table
+from in_process import called
 
 TESTS = Path(__file__).resolve().parent
 TOOLS = TESTS.parent
@@ -47,7 +48,9 @@ def steps(folder):
     for name, text in (("town.obj", TOWN), ("window.obj", MESH), ("window.mtl", "newmtl pane\nnewmtl frame\n")):
         (folder / name).write_text(text, encoding="utf-8")
     for tool, target in (("merge", "town.merged.obj"), ("places", "town.csv")):
-        subprocess.run([TOOLS / tool, folder / "town.obj", folder / target], check=True, stdout=subprocess.DEVNULL)
+        status, _, said = called(tool, folder / "town.obj", folder / target)
+        if status:
+            sys.exit(said)
     scripts = [TOOLS / "blender/place.py", TESTS / "blender_places.py", TESTS / "blender_steps.py"]
     return blender(*(word for script in scripts for word in ("--python", script)), "--",
                    folder / "town.merged.obj", folder / "town.csv", folder / "town.blend", f"window={folder / 'window.obj'}")

@@ -1,7 +1,8 @@
-"""Calls a tool without a process of its own, so that many calls are quick."""
+"""Calls a tool without a process of its own, or in one that is a copy of this one: neither takes a start of Python."""
 import io
 import os
 import runpy
+import signal
 import sys
 from pathlib import Path
 
@@ -28,6 +29,23 @@ def called(tool, *words, folder=None):
             os.environ.update(held)
     out.flush()
     return status, out.buffer.getvalue().decode("utf-8"), said.getvalue()
+
+
+def begun(tool, *words, out, err):
+    """A process that does a call, and writes to these files; a signal to it is one to the tool."""
+    from multiprocessing import get_context  # it takes long to load, and most tests need none
+    process = get_context("fork").Process(target=copied, args=(tool, words, out, err))
+    process.start()
+    return process
+
+
+def copied(tool, words, out, err):
+    signal.signal(signal.SIGINT, signal.default_int_handler)
+    for given, own in ((out, 1), (err, 2)):
+        os.dup2(given.fileno(), own)
+    sys.stdout, sys.stderr = open(1, "w", encoding="utf-8", closefd=False), open(2, "w", encoding="utf-8", closefd=False)
+    sys.argv = [str(TOP / "tools" / tool), *map(str, words)]
+    runpy.run_path(sys.argv[0], run_name="__main__")
 
 
 def proved_program():

@@ -44,9 +44,12 @@ BUGS = [
 
 def copied(folder):
     """A copy of the tool and its tests; what was compiled of a file counts as long as the file is the same."""
-    for part in ("tools", "docs"):
-        shutil.copytree(TOP / part, folder / part, ignore=shutil.ignore_patterns("__pycache__", "pictures", "gallery"))
-    compileall.compile_dir(folder / "tools", quiet=2, invalidation_mode=py_compile.PycInvalidationMode.CHECKED_HASH)
+    for part in ("lib", "tests"):
+        shutil.copytree(TOP / "tools" / part, folder / "tools" / part, ignore=shutil.ignore_patterns("__pycache__", "viewer"))
+    shutil.copy(TOP / "tools" / "districts", folder / "tools")
+    used = ["regions", "region_stand_in", "in_process", *{bug[-1].partition(".")[0] for bug in BUGS}]
+    for path in [*(folder / "tools" / "lib").glob("*.py"), *(folder / "tools" / "tests" / f"{name}.py" for name in used)]:
+        compileall.compile_file(path, quiet=2, invalidation_mode=py_compile.PycInvalidationMode.CHECKED_HASH)
 
 
 def fails(folder, test):

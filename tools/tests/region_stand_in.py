@@ -3,17 +3,24 @@
 
 A lot has as many cubes as its seed says, in a row from its corner; its box is its ground, longer by its seed along X, and as
 high as that. Where a rule asks, lots decide by their names, and one draws nothing that meets an earlier one that draws.
-A lot `flat..` has a fault, one `huge..` is past the budget, and one without width is refused. With REGION_SLOW in the
-environment each call sleeps so many seconds before it answers.
+A lot `flat..` has a fault, one `huge..` is past the budget, and one without width is refused. With REGION_HELD in the
+environment each call waits before it answers, as long as a file of that name is there.
 """
 import os
 import sys
 import time
-from fractions import Fraction
 from itertools import product
 
 CORNERS = [(0, 0, 0), (1, 0, 0), (1, 0, 1), (0, 0, 1), (0, 1, 0), (1, 1, 0), (1, 1, 1), (0, 1, 1)]
 FACES = ["4 3 7 8", "3 2 6 7", "2 1 5 6", "1 4 8 5", "8 7 6 5", "1 2 3 4"]
+
+
+def number_of(text):
+    """A whole number stays one: without fractions, which load long, a start takes half as long."""
+    if text.lstrip("-").isdigit():
+        return int(text)
+    from fractions import Fraction
+    return Fraction(text)
 
 
 class City:
@@ -25,7 +32,7 @@ class City:
 
     def box(self, name):
         seed, x, z, width, depth, _ = self.lots[name]
-        return x, x + width + seed, Fraction(0), Fraction(seed), z, z + depth
+        return x, x + width + seed, 0, seed, z, z + depth
 
     def drawing(self):
         """The lots that draw."""
@@ -92,7 +99,7 @@ class City:
             if is_city and words[:1] == ["lot"]:
                 if "0" in words[5:7] or words[1].startswith("huge"):
                     return [f"# refused BadLot {words[1]}" if "0" in words[5:7] else "# refused OverBudget"]
-                lots[words[1]] = (int(words[2]), *map(Fraction, words[3:7]), words[7])
+                lots[words[1]] = (int(words[2]), *map(number_of, words[3:7]), words[7])
             elif words[:1] == ["nonsense"]:
                 return [f"# refused Unexpected at {at}:1"]
             elif words and words[0] != "order":
@@ -136,7 +143,8 @@ def answer(script, words=()):
 
 
 def main():
-    time.sleep(float(os.environ.get("REGION_SLOW", "0")))
+    while os.path.exists(os.environ.get("REGION_HELD", "")):
+        time.sleep(0.02)
     print(*answer(sys.stdin.read(), sys.argv[1:]), sep="\n")
 
 

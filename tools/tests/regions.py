@@ -14,7 +14,6 @@ STAND_IN = str(TESTS / "region_stand_in.py")
 DEFINED = str(TESTS / "defined_hulls.py")  # the language itself, slowly
 sys.path[:0] = [str(TESTS), str(TESTS.parent)]
 
-import defined_hulls  # noqa: E402
 import region_stand_in  # noqa: E402
 from in_process import called  # noqa: E402
 
@@ -43,21 +42,26 @@ def random_lots(chance, number, most):
             for name, (width, depth) in zip(names, sizes)]
 
 
-ANSWERS = {STAND_IN: region_stand_in.answer, DEFINED: defined_hulls.answer}  # these answer here, which takes no start
+def answering(named):
+    """What answers here in the place of a program, which takes no start; None for any other program."""
+    if named == DEFINED:
+        from defined_hulls import answer  # few tests need it
+        return answer
+    return region_stand_in.answer if named == STAND_IN else None
 
 
 def run(program, lines, *words):
-    if program in ANSWERS:
-        return ANSWERS[program]("".join(f"{line}\n" for line in lines), list(words))
+    answer = answering(program)
+    if answer:
+        return answer("".join(f"{line}\n" for line in lines), list(words))
     done = subprocess.run([program, *words], input="".join(f"{line}\n" for line in lines).encode("latin-1"), stdout=subprocess.PIPE, check=True)
     return done.stdout.decode("latin-1").split("\n")[:-1]
 
 
 def answered(named, script):
     """The status and the replies of a program."""
-    if named in ANSWERS:
-        return 0, ANSWERS[named](script.decode("latin-1"))
-    return program.run(named, script)
+    answer = answering(named)
+    return (0, answer(script.decode("latin-1"))) if answer else program.run(named, script)
 
 
 def whole(program, lines, *words):
@@ -68,10 +72,12 @@ def whole(program, lines, *words):
     return town, faults, " ".join(stats[0].split()[2:10])
 
 
-def wait(is_so, seconds=20):
+def wait(is_so, seconds=300):
     """Waits until that is so, and not for ever."""
     end = time.monotonic() + seconds
-    while not is_so() and time.monotonic() < end:
+    while not is_so():
+        if time.monotonic() > end:
+            raise AssertionError(f"it didn't come to be in {seconds} seconds")
         time.sleep(0.02)
 
 
@@ -101,6 +107,12 @@ class RegionTest(unittest.TestCase):
 
     def todo(self):
         return self.call("todo", self.folder)[1].split()
+
+    def held(self):
+        """A file that holds programs up as long as it is there, as REGION_HELD says to them."""
+        path = self.top / "held"
+        path.touch()
+        return path
 
     def run_jobs(self, program=STAND_IN, *words):
         """Runs the jobs as the script `job` does."""

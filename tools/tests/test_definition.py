@@ -4,6 +4,7 @@ import tempfile
 import unittest
 from fractions import Fraction
 from pathlib import Path
+from unittest.mock import patch
 
 TESTS = Path(__file__).resolve().parent
 TOOLS = TESTS.parent
@@ -11,6 +12,8 @@ sys.path[:0] = [str(TESTS), str(TOOLS)]
 
 from in_process import called  # noqa: E402
 
+from definition import judge  # noqa: E402
+from definition.clock import Clock  # noqa: E402
 from definition.command import VERSION_1, VERSION_2  # noqa: E402
 from definition.comp import SIDES, face_of  # noqa: E402
 from definition.fault import Fault  # noqa: E402
@@ -260,7 +263,8 @@ class Judge(unittest.TestCase):
 
     def test_limit(self):
         cells = 'version 2\nrules\n1: a -> Repeat("X", 1) { b }\n2: b -> Repeat("Z", 1) { c }\n3: c -> NIL\nend\nlot p 1 0 0 600 300 a\n'
-        status, said, fault = self.judged(cells, TRACE, "--seconds", "1")
+        with patch.object(judge, "Clock", lambda name, seconds: Clock(name, seconds / 10)):
+            status, said, fault = self.judged(cells, TRACE, "--seconds", "1")
         self.assertEqual((status, said[:10], fault), (3, "not judged", ""))
 
     def test_words(self):

@@ -9,14 +9,13 @@ from pathlib import Path
 TESTS = Path(__file__).resolve().parent
 sys.path[:0] = [str(TESTS.parent)]
 
+from definition.apply import whole  # noqa: E402
 from definition.jobs import Jobs  # noqa: E402
-from definition.output import effects_of  # noqa: E402
+from definition.told import city_of  # noqa: E402
 
 BUDGET = 10 ** 6
 # an arm of a home may reach past the next one, at any of two priorities
-ARMS = """version 2
-rules
-attr wide = {wide}
+ARMS = """attr wide = {wide}
 PRIORITY 1:
 1: home -> S(1r, 2, 1r) probe T(0, 2, 0) S(1r, 2, 1r) above : 0.5 -> S(1r, 3, 1r) late : 0.5
 PRIORITY 2:
@@ -28,13 +27,13 @@ PRIORITY 3:
 6: late -> probe
 PRIORITY 4:
 7: arm -> NIL
-end
 order {order}
 """
 
 
 def sources_of(text):
-    return list(effects_of(6, text))[-1][0].sources
+    """Those of a block `city` with these lines."""
+    return whole(None, city_of(text.split("\n")))
 
 
 def ground(lot):
@@ -69,8 +68,9 @@ def answers(jobs):
 
 
 def stored(name, lots):
-    text = (TESTS / "districts" / name).read_text().split("\nlot ")[0]
-    return text + "\n" + "".join(line + "\n" for line in lots)
+    """The rules of a stored script, and these lots."""
+    rules = (TESTS / "districts" / name).read_text().partition("\nrules\n")[2].partition("\nend\n")[0]
+    return "\n".join([rules, *lots])
 
 
 def arms(r):

@@ -77,8 +77,8 @@ class Cut(RegionTest):
 
     def test_which_boxes_touch_is_what_each_two_tell(self):
         """Two of them lie across all strips."""
-        for chance in chances(12, 6):
-            axes, number = chance.choice([2, 3]), 200
+        for chance in chances(6, 6):
+            axes, number = chance.choice([2, 3]), 150
             sizes = [chance.choice([0, 0, 1, 9, 30]) for _ in range(number - 2)] + [4000] * 2
             lows = [[chance.randint(-100, 100) for _ in range(axes)] for _ in range(number)]
             boxes = [tuple(end for at in corner for end in (at, at + size)) for corner, size in zip(lows, chance.sample(sizes, number))]

@@ -186,7 +186,7 @@ class Checks(RegionTest):
             for chance in chances(25, number):
                 path = chance.choice(list(kept))
                 path.write_bytes(self.spoilt(chance, kept[path]))
-                for word in ("status", "check", "join", "tiles"):
+                for word in ("status", "join", "tiles"):  # the last two begin with a check
                     status, _, told = self.call(word, self.folder, *(["--workers", "1"] if word in ("join", "tiles") else []))
                     self.assertIn(status, (0, 1, 3), told)
                     self.assertNotRegex(told, r"literal|codec|unpack|Expecting|substring|Extra data|range|Unterminated|NoneType", path)

@@ -1,4 +1,5 @@
-"""Districts that are cut, derived by the definitions of the language: what each lot asks is asked by its rules."""
+"""Districts that are cut, derived by the definitions of the language: what each lot asks is asked by its rules. Rules and lots
+stand in a block, which is derived once, and not at each lot."""
 import json
 import unittest
 from pathlib import Path
@@ -8,14 +9,20 @@ from regions import DEFINED, RegionTest
 EXAMPLES = Path(__file__).resolve().parent / "districts"
 
 
-def lines_of(name):
-    return [line for line in (EXAMPLES / name).read_text().split("\n")[:-1] if line not in ("print", "stats", "faults")]
+def rules_and_lots(name):
+    lines = (EXAMPLES / name).read_text().split("\n")
+    at = lines.index("end")
+    return lines[lines.index("rules") + 1:at], [line for line in lines[at:] if line.startswith(("lot ", "order "))]
+
+
+def block(rules, lots):
+    return ["version 2", "city", *rules, *lots, "end"]
 
 
 def wall(side):
-    """A square of shops that touch on all sides; each looks for its neighbours."""
-    lines = lines_of("row_of_shops.cga")
-    return lines[:lines.index("end") + 1] + [f"lot w{k} {k} {k % side * 8} {k // side * 10} 8 10 shop" for k in range(side * side)]
+    """A square of shops that touch on all sides; each looks for its neighbours. Their windows are wide, so that they are few."""
+    rules = [rule.replace('Repeat("X", 2)', 'Repeat("X", 8)') for rule in rules_and_lots("row_of_shops.cga")[0]]
+    return block(rules, [f"lot w{k} {k} {k % side * 8} {k // side * 10} 8 10 shop" for k in range(side * side)])
 
 
 class Defined(RegionTest):
@@ -40,15 +47,15 @@ class Defined(RegionTest):
 
     def test_dominoes_do_not_settle_and_are_merged(self):
         """Whether a house draws depends on all before it, so no number of rings is enough."""
-        rounds, jobs = self.jobs_of(lines_of("row_of_dominoes.cga"), 24, "--rings", "1")
+        rounds, jobs = self.jobs_of(block(*rules_and_lots("row_of_dominoes.cga")), 24, "--rings", "1")
         self.assertGreater(rounds, 3)
         self.assertGreater(max(jobs), 24, "jobs are put together")
 
     def test_a_ghost_far_away(self):
-        rounds, jobs = self.jobs_of(lines_of("far_shape_of_a_ghost.cga"), 1)
+        rounds, jobs = self.jobs_of(block(*rules_and_lots("far_shape_of_a_ghost.cga")), 1)
         self.assertEqual((rounds, jobs), (2, [2]))
         self.folder = self.top / "rings"
-        rounds, jobs = self.jobs_of(lines_of("far_shape_of_a_ghost.cga"), 1, "--rings", "1")
+        rounds, jobs = self.jobs_of(block(*rules_and_lots("far_shape_of_a_ghost.cga")), 1, "--rings", "1")
         self.assertEqual((rounds, jobs), (2, [1, 1]))
 
 

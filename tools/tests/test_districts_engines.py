@@ -7,6 +7,7 @@ import subprocess
 import sys
 import tempfile
 import unittest
+from pathlib import Path
 from unittest.mock import patch
 
 from regions import RULES, STAND_IN, TOP, RegionTest, asking, wait
@@ -44,7 +45,7 @@ exec python3 {} <"$0.$$"
 """
 
 
-# a tool that is interrupted while its processes work
+# a tool that is interrupted while its processes work, and perhaps while they begin
 INTERRUPTED = """\
 import os, signal, sys, time
 sys.path.insert(0, sys.argv.pop(1))
@@ -53,7 +54,6 @@ from lib.joining import workers
 
 def work(at):
     if at == 1:
-        time.sleep(0.5)
         os.killpg(0, signal.SIGINT)
     time.sleep(60)
 
@@ -72,17 +72,14 @@ def killed(given):
 class Engines(RegionTest):
     @classmethod
     def setUpClass(cls):
-        cls.compiled = tempfile.TemporaryDirectory()  # of the tool, which is called often
-        cls.addClassCleanup(cls.compiled.cleanup)
-
-    def setUp(self):
-        super().setUp()
-        (self.top / "python3").write_text(f'#!/bin/sh\nexec "{sys.executable}" "$@"\n')  # without what else may stand before it
-        (self.top / "python3").chmod(0o755)
+        folder = tempfile.TemporaryDirectory()
+        cls.addClassCleanup(folder.cleanup)
+        cls.compiled = os.environ.get("PYTHONPYCACHEPREFIX", folder.name)  # of the tool, which is called often
 
     def environment(self, **held):
-        return {**os.environ, "PATH": f"{self.top}:{os.environ['PATH']}", "PYTHONDONTWRITEBYTECODE": "",
-                "PYTHONPYCACHEPREFIX": self.compiled.name, **held}
+        """With this Python before any other."""
+        return {**os.environ, "PATH": f"{self.top}:{Path(sys.executable).parent}:{os.environ['PATH']}", "PYTHONDONTWRITEBYTECODE": "",
+                "PYTHONPYCACHEPREFIX": self.compiled, **held}
 
     def make(self, *words, **environment):
         return subprocess.Popen(["make", "-j", "2", "-C", self.folder, *words], stdout=subprocess.PIPE, stderr=subprocess.PIPE, text=True,
@@ -132,10 +129,12 @@ class Engines(RegionTest):
     def test_a_region_that_is_cut_again_while_a_job_runs(self):
         """The job ends late, and under its old name: nothing of it comes into the new region."""
         self.cut(REGION, 4096)
-        late = self.make("town.obj", REGION_SLOW="1")
+        held = self.held()
+        late = self.make("town.obj", REGION_HELD=str(held))
         wait(lambda: self.jobs("part"))
         changed = [line.replace("lot flat 2", "lot flat 3") for line in REGION[:-1]]
         self.cut(changed, 4096)
+        held.unlink()
         _, told = late.communicate()
         self.assertIn("1 jobs weren't run", told)
         self.assertEqual(len(self.jobs("out")), 1)
@@ -148,7 +147,10 @@ class Engines(RegionTest):
     @unittest.skipUnless(shutil.which("make"), "make isn't there")
     def test_two_runs_of_one_job_at_once(self):
         self.cut(REGION, 4096)
-        both = [self.make(REGION_SLOW="0.3"), self.make(REGION_SLOW="0.4")]
+        held = self.held()
+        both = [self.make(REGION_HELD=str(held)) for _ in range(2)]
+        wait(lambda: len(self.jobs("part")) == 2)
+        held.unlink()
         self.assertEqual([(making.communicate(), making.returncode)[1] for making in both], [0, 0])
         self.assertEqual(len(self.jobs("out")), 1)
         self.assertEqual(self.jobs("part"), [])
@@ -164,9 +166,12 @@ class Engines(RegionTest):
 
     def test_a_job_whose_half_written_output_is_taken_away_is_to_be_run_again(self):
         self.cut(REGION, 4096)
-        running = subprocess.Popen(["sh", self.folder / "job", *self.todo()], stderr=subprocess.PIPE, text=True, env=self.environment(REGION_SLOW="1"))
+        held = self.held()
+        running = subprocess.Popen(["sh", self.folder / "job", *self.todo()], stderr=subprocess.PIPE, text=True,
+                                   env=self.environment(REGION_HELD=str(held)))
         wait(lambda: self.jobs("part"))
         self.assertEqual(self.call("tidy", self.folder)[1], f"{self.folder}: 1 files taken away\n")
+        held.unlink()
         self.assertIn("run it again", running.communicate()[1])
         self.assertNotEqual(running.returncode, 0)
         self.assertEqual((len(self.todo()), self.jobs("part"), self.jobs("out")), (1, [], []))
@@ -193,7 +198,7 @@ class Engines(RegionTest):
         self.assert_whole(REGION)
 
     def test_processes_that_are_interrupted_say_nothing(self):
-        done = subprocess.run([sys.executable, "-c", INTERRUPTED, TOP / "tools"], capture_output=True, text=True, start_new_session=True, timeout=30)
+        done = subprocess.run([sys.executable, "-c", INTERRUPTED, TOP / "tools"], capture_output=True, text=True, start_new_session=True, timeout=300)
         self.assertEqual((done.returncode, done.stdout, done.stderr), (130, "", ""))
 
     def by_slurm(self, **environment):

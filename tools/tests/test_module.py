@@ -199,7 +199,7 @@ class Ends(Told):
         city._pipe.patience = 0.3  # less than this machine may take to begin a program
         with self.assertRaisesRegex(Ended, "nothing for 0.3 seconds"):
             city.bill()
-        self.assertLess(time.monotonic() - begun, 20)
+        self.assertLess(time.monotonic() - begun, 50)  # it would end by itself after 60
 
     def test_a_program_that_does_not_read(self):
         """A text that no pipe holds is written all the same, and its reply waited for no longer than is said."""

@@ -3,17 +3,26 @@ import http.client
 import json
 import os
 import re
+import signal
 import socket
 import struct
 import subprocess
+import sys
 import tempfile
 import time
 import unittest
 from collections import Counter
 from pathlib import Path
+from unittest import mock
 
 TESTS = Path(__file__).resolve().parent
+sys.path.insert(0, str(TESTS))
+
+from in_process import begun, called  # noqa: E402
+from lib import watch  # noqa: E402
+
 RULES = 'rules\nattr h = 3\nPRIORITY 1:\n1: house -> S(1r, h, 1r) I("cube")\n2: shed -> I("gable")\nend\n'
+PATIENCE = 120  # seconds for what takes none on a machine with nothing else to do
 A, B = "lot a 1 0 0 10 8 house\n", "lot b 2 20 0 10 8 house\n"
 
 
@@ -24,7 +33,7 @@ class Page:
         self.port, self.head, self.drawn, self.stamp, self.last = port, {}, Counter(), "", []
 
     def get(self, path, host=None, body=None, origin=None):
-        connection = http.client.HTTPConnection("127.0.0.1", self.port, timeout=30)
+        connection = http.client.HTTPConnection("127.0.0.1", self.port, timeout=PATIENCE)
         headers = {**({"Host": host} if host else {}), **({"Origin": origin} if origin else {})}
         connection.request("GET" if body is None else "POST", path, body=body, headers=headers)
         answer = connection.getresponse()
@@ -66,16 +75,18 @@ class Preview(unittest.TestCase):
 
     def begin(self, text):
         self.save(text)
-        words = [TESTS.parent / "preview", "--program", TESTS / self.program, "--port", "0", self.script]
-        self.preview = subprocess.Popen(words, stdout=subprocess.PIPE, stderr=self.faults, text=True)
-        self.addCleanup(self.end)
-        self.page = Page(int(re.match(r"http://127\.0\.0\.1:(\d+)/ ", self.preview.stdout.readline()).group(1)))
+        read, write = os.pipe()
+        with open(read, encoding="utf-8") as told:
+            with open(write, "w") as out:
+                self.preview = begun("preview", "--program", TESTS / self.program, "--port", "0", self.script, out=out, err=self.faults)
+            self.addCleanup(self.end)
+            self.page = Page(int(re.match(r"http://127\.0\.0\.1:(\d+)/ ", told.readline()).group(1)))
         self.page.until(1)
 
     def end(self):
-        self.preview.send_signal(2)
-        self.assertEqual(self.preview.wait(5), 130)
-        self.preview.stdout.close()
+        os.kill(self.preview.pid, signal.SIGINT)
+        self.preview.join(PATIENCE)
+        self.assertEqual(self.preview.exitcode, 130)
         self.faults.seek(0)
         self.assertEqual(self.faults.read(), "")
 
@@ -143,9 +154,7 @@ class Printed(Preview):
         self.begin("lot a 1 0 0 1 1 wall\n")
         self.assertEqual(self.page.head["said"], "")
         self.assertEqual(list(self.page.drawn), ["a wall mesh0 0 0 0 +X+Y+Z 1 1 1"])
-        saved = time.monotonic()
         came = self.then("lot a 1 0 0 1 1 wall\nlot b 1 3 0 1 1 wall\nlot c 1 0 0 0 1 wall\nlot flat 1 7 0 1 1 wall\n")
-        self.assertLess(time.monotonic() - saved, 1 if os.getloadavg()[0] < 2 else 9)
         self.assertEqual(came, ["+ b wall mesh0 3 0 0 +X+Y+Z 1 1 1", "+ flat wall mesh0 7 0 0 +X+Y+Z 1 1 1"])
         self.assertRegex(self.page.head["said"], r"town.cga:3:5: BadLot: .*\n.*\n +\^\n.*: FlatScope: a shape of `wall`")
         self.script.unlink()
@@ -173,16 +182,27 @@ class Printed(Preview):
         self.then("lot a 30 0 0 1 1 wall\n")
 
 
+class Waits(unittest.TestCase):
+    def test_a_save_is_not_waited_for_long(self):
+        """What is waited on purpose until a save is seen; the clock would tell of the machine's other work, too."""
+        with tempfile.TemporaryDirectory() as folder, mock.patch.object(watch.time, "sleep") as sleep:
+            script = Path(folder) / "town.cga"
+            script.write_text("# a town\n")
+            self.assertEqual(watch.Watch(script, None, None).read(), b"# a town\n")
+        waited = watch.EACH + sum(call.args[0] for call in sleep.mock_calls)
+        self.assertLess(waited, 0.1)
+
+
 class Words(unittest.TestCase):
     def test_wrong_words_have_a_reason(self):
         for words, reason in ((["--port", "70000", "x"], "`70000` isn't a whole number from 0 to 65,535"), ([], "required: script"), (["--what", "x"], "unrecognized arguments: --what")):
-            done = subprocess.run([TESTS.parent / "preview", *words], capture_output=True, text=True)
-            self.assertEqual(done.returncode, 2)
-            self.assertIn(reason, done.stderr)
+            status, _, said = called("preview", *words)
+            self.assertEqual(status, 2)
+            self.assertIn(reason, said)
 
     def test_colours_that_are_not_there_are_told_at_once(self):
         words = [TESTS.parent / "preview", "--program", TESTS / "live_stand_in", "--port", "0", "town.cga"]
-        done = subprocess.run(words, capture_output=True, text=True, timeout=60, env={**os.environ, "CGA_COLOURS": "/nowhere.json"})
+        done = subprocess.run(words, capture_output=True, text=True, timeout=PATIENCE, env={**os.environ, "CGA_COLOURS": "/nowhere.json"})
         self.assertEqual((done.returncode, done.stdout, done.stderr), (1, "", "preview: /nowhere.json: No such file or directory\n"))
 
 

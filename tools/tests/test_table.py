@@ -55,12 +55,12 @@ class Tables(Written):
         self.assertEqual([(row["lot"], row["symbol"], row["front"]) for row in self.rows("--by", "both")], [("a", "wall", "12"), ("a", "roof", "4"), ("b", "wall", "6")])
 
     def test_sums_are_exact(self):
-        # 1,000 times a tenth of a tenth: floats would come to 9.99999999999983
-        drawn = Drawn().lot("a")
-        for number in range(1000):
-            drawn.solid("tile", "cube", (Fraction(number, 10), 0, 0), (Fraction(1, 10), 1, Fraction(1, 10)))
+        # beside 10^14 the squares of ten thousandths are nothing to floats, which would come to 100000000000000
+        drawn = Drawn().lot("a").solid("field", "cube", (0, 0, 0), (10 ** 7, 1, 10 ** 7))
+        for number in range(10):
+            drawn.solid("tile", "cube", (number, 0, -1), (Fraction(1, 1000), 1, Fraction(1, 1000)))
         self.write(drawn)
-        self.assertEqual((self.row("--decimals", "12")["plan"], self.row("--decimals", "0")["plan"]), ("10", "10"))
+        self.assertEqual((self.row("--decimals", "12")["plan"], self.row("--decimals", "0")["plan"]), ("100000000000000.00001", "100000000000000"))
 
     def test_gross_floor_area(self):
         self.write(Drawn().lot("a").solid("slab", "cube", (0, 0, 0), (10, Fraction(1, 5), 8)).solid("slab", "cube", (0, 3, 0), (10, Fraction(1, 5), 8))
