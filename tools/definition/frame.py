@@ -65,11 +65,6 @@ class Box:
     low: Tuple
     high: Tuple
 
-    @cached_property
-    def rough(self):
-        """The corners as floats, which are much quicker: what is less is less there, too, or the same."""
-        return (*map(float, self.low), *map(float, self.high))
-
 
 @dataclass(frozen=True)
 class Scope:
@@ -132,17 +127,8 @@ def along_holds(low, high, lower, upper):
     return low <= lower and upper <= high
 
 
-def are_apart(a, b):
-    """Floats tell it of most boxes that don't meet; where they don't, nothing is told."""
-    x, y, z, far_x, far_y, far_z = a.rough
-    other_x, other_y, other_z, other_far_x, other_far_y, other_far_z = b.rough
-    return (far_x < other_x or other_far_x < x or far_z < other_z or other_far_z < z
-            or far_y < other_y or other_far_y < y)
-
-
 def meets(a, b):
-    return (not are_apart(a, b)
-            and along_meets(a.low[X], a.high[X], b.low[X], b.high[X])
+    return (along_meets(a.low[X], a.high[X], b.low[X], b.high[X])
             and along_meets(a.low[Y], a.high[Y], b.low[Y], b.high[Y])
             and along_meets(a.low[Z], a.high[Z], b.low[Z], b.high[Z]))
 
