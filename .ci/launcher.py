@@ -119,16 +119,20 @@ class Proved(Copy):
     """One build after the other, in the order of the names."""
 
     def test_1_builds(self):
-        first = self.begin("--prove", SECONDS_A_CRATE="0.8")
-        waits_for(lambda: self.calls("run"))
-        second = self.begin("--prove")
+        held, told, other = self.held(), self.work / "told", self.work / "other"
+        with told.open("wb") as said, other.open("wb") as said_second:
+            first = self.begin("--prove", err=said, SAID=str(told), HELD=str(held))
+            waits_for(lambda: self.calls("run"))
+            second = self.begin("--prove", err=said_second)
         self.call()
         self.replies("a call beside a build", 0, "unproved\na script\n")
-        self.end(first)
+        waits_for(other.read_text)
+        held.unlink()
+        self.end(first, said=told)
         self.check("the build", self.status == 0)
         for part in ("crate 1 of 3, cga_word", "crate 2 of 3, cga_top", "crate 3 of 3, cga_main"):
             self.says(part, part)
-        self.end(second)
+        self.end(second, said=other)
         self.check("a second build waits", self.status == 0)
         self.says("and says so", "waiting for it")
         self.check("one build is enough", self.calls("run") == ["cga_main"])
@@ -198,10 +202,12 @@ class Proved(Copy):
     def edited_during_build(self, name, *texts):
         source, number = self.main / "src" / "main.rt", len(self.calls("run"))
         source.write_text(f"// edit {number}\n")
-        job = self.begin("--prove", SECONDS_A_CRATE="0.3")
+        held = self.held()
+        job = self.begin("--prove", HELD=str(held))
         waits_for(lambda: len(self.calls("run")) > number)
         for text in texts:
             source.write_text(text)
+        held.unlink()
         self.end(job)
         self.check(f"{name} is said", self.status == 1 and "a source changed while the program was built" in self.err)
         self.check(name, not self.is_proved())

@@ -12,10 +12,11 @@ TOP = Path(__file__).resolve().parent.parent
 CRATES = {"cga_word": "rand_core", "cga_top": "cga_word", "cga_main": "cga_top clap"}
 
 
-def waits_for(holds):
-    for _ in range(200):
-        if holds():
-            return
+def waits_for(holds, seconds=300):
+    end = time.monotonic() + seconds
+    while not holds():
+        if time.monotonic() > end:
+            raise AssertionError(f"it didn't come to hold in {seconds} seconds")
         time.sleep(0.03)
 
 
@@ -45,13 +46,20 @@ class Copy(unittest.TestCase):
             (cls.top / "crates" / name / part).mkdir(parents=True)
         (cls.top / "crates" / name / "src" / "main.rt").write_text("fn main() {}\n")
 
-    def begin(self, *words, city=None, cwd=None, script=subprocess.DEVNULL, out=subprocess.PIPE, before=None, **env):
-        return subprocess.Popen([city or self.city, *words], stdin=script, stdout=out, stderr=subprocess.PIPE, cwd=cwd,
+    def held(self):
+        """A file that holds a build up as long as it is there."""
+        path = self.work / "held"
+        path.touch()
+        return path
+
+    def begin(self, *words, city=None, cwd=None, script=subprocess.DEVNULL, out=subprocess.PIPE, err=subprocess.PIPE, before=None, **env):
+        return subprocess.Popen([city or self.city, *words], stdin=script, stdout=out, stderr=err, cwd=cwd,
                                 preexec_fn=before, env={**self.env, **env})
 
-    def end(self, job, script=b"a script\n"):
+    def end(self, job, script=b"a script\n", said=None):
+        """What it said comes from a file, where it was sent there."""
         out, err = job.communicate(script if job.stdin else None)
-        self.status, self.out, self.err = job.returncode, (out or b"").decode(), err.decode()
+        self.status, self.out, self.err = job.returncode, (out or b"").decode(), (said.read_bytes() if said else err).decode()
 
     def call(self, *words, script=subprocess.PIPE, **more):
         self.end(self.begin(*words, script=script, **more))

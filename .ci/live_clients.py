@@ -23,7 +23,7 @@ def says(kind, code, program):
     with tempfile.TemporaryDirectory() as folder:
         client = pathlib.Path(folder) / f"client{ending}"
         client.write_text(code)
-        done = subprocess.run([command, client, program], stdout=subprocess.PIPE, timeout=60)
+        done = subprocess.run([command, client, program], stdout=subprocess.PIPE, timeout=600)
     return done.stdout.decode()
 
 

@@ -15,10 +15,18 @@ class Signalled(BaseException):
     """A signal came that ends this call."""
 
 
+class Beginning:
+    """A signal that comes while a process is begun waits until that is known, so that it is ended, too."""
+    is_now, came = False, None
+
+
 def heed(number, _):
     for each in SIGNALS:
         signal.signal(each, signal.SIG_IGN)
-    raise Signalled(signal.Signals(number))
+    if Beginning.is_now:
+        Beginning.came = number
+    else:
+        raise Signalled(signal.Signals(number))
 
 
 @contextmanager
@@ -38,11 +46,16 @@ def heeding_signals():
 @contextmanager
 def begun(words, **streams):
     """A process that doesn't outlive this call."""
-    job = subprocess.Popen(words, **streams)
+    Beginning.is_now, job = True, None
     try:
+        job = subprocess.Popen(words, **streams)
+        Beginning.is_now = False
+        if Beginning.came:
+            raise Signalled(signal.Signals(Beginning.came))
         yield job
     finally:
-        if job.poll() is None:
+        Beginning.is_now = False
+        if job is not None and job.poll() is None:
             job.terminate()
             job.wait()
 

@@ -4,6 +4,7 @@ import os
 import re
 import subprocess
 import time
+from contextlib import suppress
 
 from .begun import USUAL, begun, fail, heeding_signals, last_lines, need_rt
 from .sources import say
@@ -42,7 +43,8 @@ def follow(job, log, crates):
         if at != was or time.monotonic() >= told + SILENCE:
             say(f"{at}; {so_far()} so far")
             was, told = at, time.monotonic()
-        time.sleep(PAUSE)
+        with suppress(subprocess.TimeoutExpired):
+            job.wait(PAUSE)
 
 
 def build(program):

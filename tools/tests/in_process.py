@@ -1,14 +1,23 @@
 """Calls a tool without a process of its own, or in one that is a copy of this one: neither takes a start of Python."""
 import io
 import os
-import runpy
 import signal
 import sys
+from functools import lru_cache
 from pathlib import Path
 
 TESTS = Path(__file__).resolve().parent
 TOP = TESTS.parent.parent
 sys.path.insert(0, str(TESTS.parent))
+
+
+@lru_cache(maxsize=None)
+def code_of(path):
+    return compile(Path(path).read_bytes(), path, "exec")
+
+
+def do(path):
+    exec(code_of(path), {"__name__": "__main__", "__file__": path})
 
 
 def called(tool, *words, folder=None):
@@ -18,7 +27,7 @@ def called(tool, *words, folder=None):
     sys.argv, sys.stdout, sys.stderr = [str(TOP / "tools" / tool), *map(str, words)], out, said
     os.chdir(folder or here)
     try:
-        runpy.run_path(sys.argv[0], run_name="__main__")
+        do(sys.argv[0])
     except SystemExit as end:
         status = end.code
     finally:
@@ -45,7 +54,7 @@ def copied(tool, words, out, err):
         os.dup2(given.fileno(), own)
     sys.stdout, sys.stderr = open(1, "w", encoding="utf-8", closefd=False), open(2, "w", encoding="utf-8", closefd=False)
     sys.argv = [str(TOP / "tools" / tool), *map(str, words)]
-    runpy.run_path(sys.argv[0], run_name="__main__")
+    do(sys.argv[0])
 
 
 def proved_program():

@@ -199,10 +199,10 @@ class Maps(Called):
 
     def test_more_lots_than_a_run_takes(self):
         self.assertEqual(lots_found.MOST_LOTS, 4096)
-        self.write(*[box(10 * (k % 100), 2000 + 10 * (k // 100), 10, 8, symbol="yard") for k in range(1235)])
-        with mock.patch.object(lots_found, "MOST_LOTS", 1234):
-            self.refused("feature 1235: is lot 1,235 at 0 degrees, and a run takes 1,234", "--region")
-            self.assertEqual(len(self.lots("--region")), 1235)
+        self.write(*[box(10 * (k % 100), 2000 + 10 * (k // 100), 10, 8, symbol="yard") for k in range(1001)])
+        with mock.patch.object(lots_found, "MOST_LOTS", 1000):
+            self.refused("feature 1001: is lot 1,001 at 0 degrees, and a run takes 1,000", "--region")
+            self.assertEqual(len(self.lots("--region")), 1001)
 
     def test_what_is_no_map(self):
         for text, told in (
