@@ -15,7 +15,7 @@ python3 -m unittest discover -s tools/tests
 tools/tests/in_blender.py
 tools/tests/planted_in_districts.py
 if ./cga_city --proved; then
-  tools/tests/with_program.py
+  tools/tests/with_program.py --program crates/cga_main/out/cga_main  # itself: the launcher looks at each file at each call
   tools/tests/regions_with_program.py
 else
   echo "the pass with the program waits for a proved one: ./cga_city --prove"

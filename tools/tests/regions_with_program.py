@@ -19,7 +19,7 @@ from regions import RegionTest, value, whole  # noqa: E402
 
 BOXES = ["version 2", "rules", '1: box -> S(1r, rand(2, 9, 7), 1r) I("cube")', '2: pair -> Subdiv("X", 3, 1r) { box | box }', "end"]
 ASKING = sorted((TESTS / "districts").glob("*.cga"))
-RANDOM = 30
+RANDOM = 15
 
 
 def rules(path):
