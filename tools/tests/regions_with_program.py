@@ -19,7 +19,7 @@ from regions import RegionTest, value, whole  # noqa: E402
 
 BOXES = ["version 2", "rules", '1: box -> S(1r, rand(2, 9, 7), 1r) I("cube")', '2: pair -> Subdiv("X", 3, 1r) { box | box }', "end"]
 ASKING = sorted((TESTS / "districts").glob("*.cga"))
-RANDOM = 15
+RANDOM = 30
 
 
 def rules(path):
@@ -93,7 +93,7 @@ def main(words):
     test.region(hulls, streets(), 7, said=("--decimals", "3"))
     for seed in range(RANDOM):
         test.region(hulls, anywhere(seed), 7, *(["--rings", "1"] if seed % 4 == 1 else []))
-    test.assertEqual(test.region(hulls, wall(60), 400, "--rings", "2"), 1, "a wall passes at once with two rings")
+    test.assertEqual(test.region(hulls, wall(30), 100, "--rings", "2"), 1, "a wall passes at once with two rings")
     test.assertGreater(test.region(hulls, wall(12), 36, "--rings", "1"), 1, "and not with one")
     dominoes = [line for line in lines_of((TESTS / "districts" / "row_of_dominoes.cga").read_bytes()) if line not in ("print", "stats")]
     for rings in ("1", "3", "9"):
