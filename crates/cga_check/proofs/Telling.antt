@@ -1,5 +1,5 @@
 -- What the rules of a symbol say, entry by entry.
-use Rattle.std.proofs.Common.{◌≡◌, ℕ, List, [], ◌∷◌, ◌++◌, Bool, true, false, ◌&&◌, ◌||◌, cond, refl, sym, ap, ◌∙◌, subst, Some, None, take, get_or, length, ◌<◌, ◌≤◌, ◌+◌, suc, arith}
+use Rattle.std.proofs.Common.{◌≡◌, ℕ, List, [], ◌∷◌, ◌++◌, Bool, true, false, ◌&&◌, ◌||◌, cond, refl, sym, ap, ◌∙◌, Some, None, take, get_or, length, ◌<◌, ◌≤◌, ◌+◌, suc, arith}
 use Rattle.std.specs.Prelude.{Option, find, unwrap_or}
 use Rattle.std.specs.List.{list_any}
 use Rattle.std.specs.Option.{option_map}

@@ -1,5 +1,5 @@
 -- What the rules of a symbol say of its shapes: its priority, and for which targets a condition asks.
-use Rattle.std.specs.Prelude.{ℕ, List, Bool, ◌&&◌, ◌||◌, false, Option, Some, None, unwrap_or}
+use Rattle.std.specs.Prelude.{ℕ, List, Bool, ◌&&◌, ◌||◌, Option, Some, None, unwrap_or}
 use Rattle.std.specs.List.{list_any}
 use Rattle.std.specs.Option.{option_map}
 use Rattle.cga_word.specs.declared.target.Target.{Target}

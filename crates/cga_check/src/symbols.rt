@@ -15,6 +15,7 @@ use std::marker::Model;
 pub struct Symbols<'a> {
     grammar: &'a Grammar,
     read: BTreeMap<Name, Said>,
+    latest: Option<(Name, Said)>,
 }
 
 impl<'a> Model for Symbols<'a> {
@@ -25,11 +26,11 @@ impl<'a> Model for Symbols<'a> {
 
     ghost coded = { of_grammar.the_row.coded };
 
-    ghost use Rattle.cga_check.specs.Symbols.{IsRead};
+    ghost use Rattle.cga_check.specs.Symbols.{AreRead};
 
     ghost view = { λ s. s.grammar.now };
 
-    ghost invariant = { λ s. IsRead s.grammar.now s.read };
+    ghost invariant = { λ s. AreRead s.grammar.now s.read s.latest };
 }
 
 impl<'a> Symbols<'a> {
@@ -40,12 +41,27 @@ impl<'a> Symbols<'a> {
         Symbols {
             grammar,
             read: BTreeMap::new(alloc),
+            latest: None,
         }
     }
 
     /// What the rules of a symbol say. Takes memory where the symbol comes for the first time; the time goes then by the
-    /// rules.
+    /// rules. A symbol that was asked for last is told without a look at the table.
     pub fn of(&mut self, symbol: Name) -> Result<Said, NoMemory>
+        ensures value { IfOk result (λ found. found ≡ said self.old symbol) }
+        ensures grammar { self.new ≡ self.old }
+    {
+        if let Some((name, found)) = self.latest
+            && name == symbol
+        {
+            return Ok(found);
+        }
+        let found = self.read(symbol)?;
+        self.latest = Some((symbol, found));
+        Ok(found)
+    }
+
+    fn read(&mut self, symbol: Name) -> Result<Said, NoMemory>
         ensures value { IfOk result (λ found. found ≡ said self.old symbol) }
         ensures grammar { self.new ≡ self.old }
     {

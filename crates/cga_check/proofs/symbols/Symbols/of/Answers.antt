@@ -1,5 +1,0 @@
-use Rattle.cga_check.proofs.Reading.{still_read}
-use Rattle.cga_check.proofs.symbols.Symbols.of.Goals as goal
-
-pub invariant_of-self-2 : goal.invariant_of-self-2
-invariant_of-self-2 c = still_read c.self.inside.grammar.now c.self.inside.read c.insert.new.self c.args.symbol c.said_of-found.result c.said_of-found.ensures c.self.invariant c.in_ok-insert.ensures.updates
