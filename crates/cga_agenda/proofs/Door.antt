@@ -22,3 +22,5 @@ pub use Rattle.cga_agenda.proofs.Record.{count_append}
 pub use Rattle.cga_agenda.proofs.Update.{Has-drawn, IsUpdate, answers_same, drawn-Has, once-drawn, update}
 -- What holds between turns, of nodes and their children
 pub use Rattle.cga_agenda.proofs.Working.{path_not_empty}
+-- A town of one lot
+pub use Rattle.cga_agenda.proofs.OneLot.{one_index}

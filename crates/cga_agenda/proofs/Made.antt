@@ -20,6 +20,7 @@ use Rattle.cga_order.specs.Once.{Once}
 use Rattle.cga_agenda.specs.Known.{shapes_of}
 use Rattle.cga_agenda.proofs.Lists.{Has-Among, Among-Has}
 pub use Rattle.cga_fraction.proofs.Door.{None-not-Some as none_some, length-map, map-append, same_Some as some_same}
+use Rattle.cga_fraction.proofs.Door.{Less_from_is_lt}
 
 module _ {N A F P : Type 0} (world : World N A F P) (laws : IsWorld world) where
   abbrev pub Members : Type 0
@@ -78,7 +79,7 @@ module _ {N A F P : Type 0} (world : World N A F P) (laws : IsWorld world) where
       → IsBefore world limit b ⊎ (IsBefore world limit b → ⊥)
   before_or_not None b = inl tt
   before_or_not (Some l) b = elim (either (is_lt (stamps_cmp world.mode b l))) [
-    | inl e ↦ inl (stamps.less_is (stamps_cmp world.mode) order _ e)
+    | inl e ↦ inl (Less_from_is_lt _ e)
     | inr e ↦ inr (stamps.less_not (stamps_cmp world.mode) order _ e)
   ]
 
@@ -148,7 +149,7 @@ module _ {N A F P : Type 0} (world : World N A F P) (laws : IsWorld world) where
       )
       | inr (s, k, a, there, q, least) ↦ elim (either (is_lt (stamps_cmp world.mode (stamp_of world m.shape) (stamp_of world s)))) [
         | inl less ↦
-            let below = stamps.less_is (stamps_cmp world.mode) order _ less in
+            let below = Less_from_is_lt _ less in
             inr (
               m.shape,
               m.kind,

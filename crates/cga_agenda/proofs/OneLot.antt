@@ -33,7 +33,8 @@ no_member : {X : Type 0} (i : ℕ) (c : Placed ℕ ℕ ℕ) (cs : List (Placed �
 no_member i c [] e g = let x : ◌≡◌ {A = Option (Placed ℕ ℕ ℕ)} None (Some c) = g in cc
 no_member i c (d ∷ ds) e g = cc
 
-one_index : (i j : ℕ) (n m : ℕ) → slice_get (0 ∷ []) i ≡ Some n → slice_get (0 ∷ []) j ≡ Some m → i ≡ j
+-- a list of one element has one index
+pub one_index : (i j : ℕ) (n m : ℕ) → slice_get (0 ∷ []) i ≡ Some n → slice_get (0 ∷ []) j ≡ Some m → i ≡ j
 one_index zero zero n m h g = refl
 one_index zero (suc j) n m h g = let x : ◌≡◌ {A = Option ℕ} None (Some m) = g in cc
 one_index (suc i) j n m h g = let x : ◌≡◌ {A = Option ℕ} None (Some n) = h in cc

@@ -10,9 +10,9 @@ use Rattle.cga_order.specs.declared.placed.Placed.{Placed}
 use Rattle.cga_order.specs.declared.placed.Kind.{Kind}
 use Rattle.cga_order.specs.declared.placed.Kind.TheVariants.{Waiting}
 use Rattle.cga_order.specs.Run.{outcome, told, start, IsStep, Reached}
-use Rattle.cga_order.specs.Consistent.{AllBefore, NothingWaits}
+use Rattle.cga_order.specs.Consistent.{NothingWaits}
 use Rattle.cga_order.specs.Agenda.{Node, members_of, Keeps}
-use Rattle.cga_order.proofs.Door.{has_members, length-once, length-taken, rank_total, right_consistent, waits}
+use Rattle.cga_order.proofs.Door.{all_before, has_members, length-once, length-taken, rank_total, right_consistent, waits}
 use Rattle.std.proofs.lemmas.Bool.{cases_Bool as either}
 use Rattle.cga_order.proofs.Door as stamps
 use Rattle.cga_agenda.specs.Edit.{Edit, IsEdit, new_world}
@@ -22,6 +22,7 @@ use Rattle.cga_agenda.specs.Known.{shapes_of, IsOverBudget, IsKnown}
 use Rattle.cga_agenda.proofs.Lists.{Has-Among, Among-Has}
 use Rattle.cga_agenda.proofs.Made.{length-map, once-reached}
 use Rattle.cga_agenda.proofs.Budget.{known_derived, turned_derived, all_derived}
+use Rattle.cga_fraction.proofs.Door.{Less_from_is_lt}
 
 module _ {N A F P : Type 0} (world : World N A F P) (laws : IsWorld world) where
   abbrev Members : Type 0
@@ -74,7 +75,7 @@ module _ {N A F P : Type 0} (world : World N A F P) (laws : IsWorld world) where
   ]
     where
       is : (x y : N) → Below x y → rank_cmp world.mode (rank (world.chain x)) (rank (world.chain y)) ≡ Less
-      is x y e = stamps.less_is (rank_cmp world.mode) order _ e
+      is x y e = Less_from_is_lt _ e
 
       self : (x : N) → below x x ≡ false
       self x = elim (either (below x x)) [ inl e ↦ absurd (stamps.not_self (rank_cmp world.mode) order (rank (world.chain x)) (is x x e)) | inr e ↦ e ]
@@ -122,10 +123,6 @@ module _ {N A F P : Type 0} (world : World N A F P) (laws : IsWorld world) where
         ],
       )
 
-  all-before : (taken : List N) → AllBefore world None taken
-  all-before [] = tt
-  all-before (s ∷ taken) = (tt, all-before taken)
-
 module _ {N A B F P : Type 0} (edit : Edit N A B F P) (laws : IsEdit edit) (start : List (Node N A F P)) (started : IsStart edit start) (now : List (Node N A F P)) (queued : N → Bool) (turned worked : List N) (good : IsWorking edit start now queued turned worked) where
   abbrev w : World N A F P
   w = new_world edit
@@ -141,7 +138,7 @@ module _ {N A B F P : Type 0} (edit : Edit N A B F P) (laws : IsEdit edit) (star
     within : (taken : List N) (C : List (Placed N F P)) → Reached w taken C → length C ≤ length now
     within taken C run =
         let con = right_consistent w laws.new now queued None good.tree good.right (λ n k a h q b. let x : true ≡ false = sym q ∙ empty n k a h in cc) in
-        let has = has_members w laws.new None (members_of now) con taken C run (all-before w laws.new taken) in
+        let has = has_members w laws.new None (members_of now) con taken C run (all_before w taken) in
         let bound = length-once (shapes_of C) (shapes_of (members_of now)) (once-reached w laws.new taken C run roots) (λ m i.
         let g = Among-Has C m i in
         let h = has m g.0 g.1 in

@@ -3,7 +3,6 @@ use Rattle.std.proofs.Common.{◌≡◌, List, [], ◌∷◌, true, false, refl,
 use Rattle.cga_order.specs.World.{World, IsWorld, Has, Among, shapes_where, is_waiting, is_instance}
 use Rattle.cga_order.specs.declared.placed.Placed.{Placed}
 use Rattle.cga_order.specs.declared.placed.Kind.{Kind}
-use Rattle.cga_order.specs.declared.placed.Kind.TheVariants.{Waiting, Done, Faulted, Instance}
 use Rattle.cga_order.specs.Run.{Reached}
 use Rattle.cga_order.specs.Consistent.{NothingWaits}
 use Rattle.cga_order.proofs.Door.{Has-start, waits}
@@ -42,12 +41,6 @@ module _ {N A F P : Type 0} (world : World N A F P) (laws : IsWorld world) where
             answered taken run.0 run.1 n a r ∙ steps.same_answers world laws run.0 D s good run.2 n (good.done n s done.0 done.1 done.2 run.2.waits)
       ]
 
-  expanded_kind : (k : Kind F P) → is_waiting k ≡ false → is_instance k ≡ false → steps.IsExpanded world k
-  expanded_kind Waiting e f = let x : true ≡ false = e in cc
-  expanded_kind Done e f = inl refl
-  expanded_kind (Faulted y) e f = inr (y, refl)
-  expanded_kind (Instance y) e f = let x : true ≡ false = f in cc
-
   -- what is expanded was taken
   was_taken : (taken : List N) (C : Members) (run : Reached world taken C) (n : N) (k : Kind F P) → Has C n k
       → steps.IsExpanded world k → (a : A) × AnsweredIn world taken C run n a
@@ -72,7 +65,7 @@ module _ {N A F P : Type 0} (world : World N A F P) (laws : IsWorld world) where
     λ n k h i. elim (either (is_waiting k)) [
       | inl y ↦ absurd (quiet n (waits C n k h y) tt)
       | inr y ↦
-          let w = was_taken taken C run n k h (expanded_kind k y i) in
+          let w = was_taken taken C run n k h (steps.expanded_kind world k y i) in
           subst (AnsweredIn world taken C run n) (answered taken C run n w.0 w.1) w.1
     ],
   )

@@ -1,10 +1,10 @@
 -- How large sums get.
-use Rattle.std.proofs.Common.{◌≡◌, ℕ, ◌+◌, ◌*◌, ◌/◌, ◌^◌, ◌≤◌, List, [], ◌∷◌, length, refl, sym, arith, Bool, true, false, cond, subst, ℤ, pos, negsuc, unsigned_abs, zero, suc}
+use Rattle.std.proofs.Common.{◌≡◌, ℕ, ◌+◌, ◌*◌, ◌/◌, ◌^◌, ◌≤◌, List, [], ◌∷◌, length, refl, sym, arith, Bool, true, false, cond, subst, unsigned_abs}
 use Rattle.std.specs.Prelude.{Result, Ok, Err, bytes_eq, nat_le, sum_by, ◌&&◌}
 use Rattle.std.proofs.Math.Nat.{div-le_self}
 use Rattle.std.proofs.lemmas.Grind.{common_steps}
 use Rattle.std.proofs.lemmas.List.Sums.{count_by-le-length, length-filter, sum_by-cons}
-use Rattle.cga_fraction.specs.Arithmetic.{times, with_sign}
+use Rattle.cga_fraction.specs.Arithmetic.{times}
 use Rattle.cga_fraction.specs.Rat.{Rat, den}
 use Rattle.cga_fraction.specs.Refusals.{checked, in_range}
 use Rattle.cga_fraction.specs.Results.{and_then}
@@ -20,15 +20,11 @@ use Rattle.cga_bill.specs.Lines.{sums_at}
 use Rattle.cga_bill.specs.declared.sums.Sums.{Sums}
 use Rattle.cga_bill.proofs.Steps.{at_symbol}
 use Rattle.std.proofs.lemmas.Bool.{and_parts as both}
-
-pub with_sign_size : (z : ℤ) (m : ℕ) → unsigned_abs (with_sign z m) ≡ m
-with_sign_size (pos n) m = refl
-with_sign_size (negsuc n) zero = refl
-with_sign_size (negsuc n) (suc m) = refl
+use Rattle.cga_fraction.proofs.Door.{abs-with_sign}
 
 pub millionths_are : (a : Rat) → millionths_of a ≡ (2 * (unsigned_abs a.num * 10 ^ 6) + den a) / (2 * den a)
 unfolding round_of
-millionths_are a = with_sign_size a.num ((2 * (unsigned_abs a.num * 10 ^ 6) + den a) / (2 * den a))
+millionths_are a = abs-with_sign a.num ((2 * (unsigned_abs a.num * 10 ^ 6) + den a) / (2 * den a))
 
 pub millionths_from : (a : Rat) (n d : ℕ) → n ≡ unsigned_abs a.num → d ≡ den a
     → (2 * (n * 1000000) + d) / (2 * d) ≡ millionths_of a

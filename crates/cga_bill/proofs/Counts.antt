@@ -4,7 +4,7 @@ use Rattle.std.specs.Prelude.{count_by, sum_by, nat_lt}
 use Rattle.std.specs.List.{filter}
 use Rattle.std.proofs.lemmas.List.Sums.{sum_by-cons, sum_by-append}
 use Rattle.std.proofs.lemmas.Grind.{common_steps}
-use Rattle.cga_fraction.proofs.Door.{nat_lt_from_lt as yes}
+use Rattle.cga_fraction.proofs.Door.{nat_lt_from_lt as yes, sum_by-plus, sum_by-zeros}
 
 -- a number cut at m
 abbrev cut : ℕ → ℕ → ℕ
@@ -27,31 +27,18 @@ cut_whole n (suc m) h =
     ] refl
 
 module _ {X : Type 0} where
-  sum_zero : (xs : List X) → sum_by (λ (x : X). 0) xs ≡ 0
-  sum_zero [] = refl
-  sum_zero (x ∷ xs) = sum_by-cons (λ (x : X). 0) x xs ∙ (ap (λ (n : ℕ). 0 + n) (sum_zero xs) ∙ omega arith)
-
-  sum_both : (f g : X → ℕ) (xs : List X) → sum_by (λ (x : X). f x + g x) xs ≡ sum_by f xs + sum_by g xs
-  sum_both f g [] = refl
-  sum_both f g (x ∷ xs) =
-      let a = sum_by-cons (λ (x : X). f x + g x) x xs in
-      let b = sum_by-cons f x xs in
-      let c = sum_by-cons g x xs in
-      let d = sum_both f g xs in
-      omega (arith, a, b, c, d)
-
   -- each test passes as often in both
   abbrev pub SameCounts : List X → List X → Type 0
   SameCounts xs ys = (test : X → Bool) → count_by test xs ≡ count_by test ys
 
   cut_same : (f : X → ℕ) (xs ys : List X) → SameCounts xs ys → (m : ℕ)
       → sum_by (λ (x : X). cut (f x) m) xs ≡ sum_by (λ (x : X). cut (f x) m) ys
-  cut_same f xs ys h zero = sum_zero xs ∙ sym (sum_zero ys)
+  cut_same f xs ys h zero = sum_by-zeros xs ∙ sym (sum_by-zeros ys)
   cut_same f xs ys h (suc m) =
       let test : X → Bool = λ (x : X). nat_lt m (f x) in
       let g : X → ℕ = λ (x : X). cut (f x) m in
       let o : X → ℕ = λ (x : X). cond (test x) 1 0 in
-      sum_both g o xs ∙ (ap (λ (n : ℕ). n + sum_by o xs) (cut_same f xs ys h m) ∙ (ap (λ (n : ℕ). sum_by g ys + n) (h test) ∙ sym (sum_both g o ys)))
+      sum_by-plus g o xs ∙ (ap (λ (n : ℕ). n + sum_by o xs) (cut_same f xs ys h m) ∙ (ap (λ (n : ℕ). sum_by g ys + n) (h test) ∙ sym (sum_by-plus g o ys)))
 
   cut_all : (f : X → ℕ) (m : ℕ) (xs : List X) → sum_by f xs ≤ m → sum_by (λ (x : X). cut (f x) m) xs ≡ sum_by f xs
   cut_all f m [] h = refl

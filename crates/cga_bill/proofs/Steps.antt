@@ -14,17 +14,13 @@ use Rattle.cga_bill.specs.Lines.{left, sums_at}
 use Rattle.cga_bill.specs.declared.sums.Sums.{Sums}
 use Rattle.cga_bill.proofs.Counts.{SameCounts, appended_same}
 use Rattle.cga_bill.proofs.Summed.{found_or_nothing, holds_one, left_of, none_alike, same_sums, some_with_last, sums_append, taken_out}
-use Rattle.std.proofs.lemmas.Bool.{false_from_ne_true as not_true}
+use Rattle.cga_fraction.proofs.Door.{bytes_eq-false_back}
 
 same_names : (a b : List ℕ) → bytes_eq a b ≡ true → a ≡ b
 same_names a b e = (bytes_eq-Decides a b).0 e
 
 eq_self : (a : List ℕ) → bytes_eq a a ≡ true
 eq_self a = (bytes_eq-Decides a a).1 refl
-
--- two names differ either way round
-apart : (a b : List ℕ) → bytes_eq a b ≡ false → bytes_eq b a ≡ false
-apart a b e = not_true (bytes_eq b a) (λ t. let q : true ≡ false = sym ((bytes_eq-Decides a b).1 (sym (same_names b a t))) ∙ e in cc)
 
 test_of : List ℕ → Drawn → Bool
 test_of s d = bytes_eq s d.symbol
@@ -60,7 +56,7 @@ module _ (before after : BTreeMap (List ℕ) Sums) where
           → get by_bytes after s ≡ cond (bytes_eq d.symbol s) w (get by_bytes before s)
           → get by_bytes after s ≡ sums_or_none (of_symbol s new)
       at s true e g = (g ∙ ap (λ (b : Bool). cond b w (get by_bytes before s)) e) ∙ (here ∙ ap (λ (k : List ℕ). sums_or_none (of_symbol k new)) (same_names d.symbol s e))
-      at s false e g = (g ∙ ap (λ (b : Bool). cond b w (get by_bytes before s)) e) ∙ (h.sums s ∙ ap sums_or_none (there s (apart d.symbol s e)))
+      at s false e g = (g ∙ ap (λ (b : Bool). cond b w (get by_bytes before s)) e) ∙ (h.sums s ∙ ap sums_or_none (there s (bytes_eq-false_back d.symbol s e)))
 
   -- an instance was added
   pub added : (d : Drawn) (list : List Drawn) → IsBill before.entries list

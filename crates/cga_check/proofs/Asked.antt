@@ -8,6 +8,7 @@ use Rattle.cga_rule.specs.declared.rule.Rule.{Rule}
 use Rattle.cga_rule.specs.declared.grammar.Entry.{Entry}
 use Rattle.cga_rule.specs.declared.grammar.Grammar.{Grammar}
 use Rattle.cga_check.specs.Groups.{is_of, first_entry, rules_of, place_of, placed, placed_all, by_id, group_with, group, names, asks, mentions_attribute, mentions_target, group_asks, group_names}
+use Rattle.cga_fraction.proofs.Door.{or-false}
 
 or_none : (b c : Bool) → (b || (false || c)) ≡ (b || c)
 or_none b c = refl
@@ -24,11 +25,7 @@ module _ (p : Rule → Bool) where
   any_placed r rs = sym (list_any-IsPermutation p (r ∷ rs) (insert rs (place_of r.id rs) r) (IsPermutation-insert rs (place_of r.id rs) r))
 
   any_all : (rs more : List Rule) → list_any p (placed_all rs more) ≡ (list_any p rs || list_any p more)
-  any_all rs [] = sym (or_false (list_any p rs))
-    where
-      or_false : (b : Bool) → (b || false) ≡ b
-      or_false true = refl
-      or_false false = refl
+  any_all rs [] = sym (or-false (list_any p rs))
   any_all rs (r ∷ more) = any_all (placed r rs) more ∙ (ap (λ b. b || list_any p more) (any_placed r rs) ∙ or_swap (p r) (list_any p rs) (list_any p more))
 
   any_of : (symbol : List ℕ) (es : List Entry)

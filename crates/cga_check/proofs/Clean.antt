@@ -21,7 +21,8 @@ pub if_none : (bad : Bool) (fault : CheckFault) → fault_if bad fault ≡ [] �
 if_none true fault e = cc
 if_none false fault e = refl
 
-first_none : (fs : Faults) → first fs ≡ Ok tt → fs ≡ []
+-- where no fault is first, there is none
+pub first_none : (fs : Faults) → first fs ≡ Ok tt → fs ≡ []
 first_none [] e = refl
 first_none (f ∷ fs) e = cc
 

@@ -3,8 +3,10 @@
 -- The rules of a symbol against its first
 pub use Rattle.cga_check.proofs.Agreement.{found_passes}
 -- A list of faults that is empty
-pub use Rattle.cga_check.proofs.Clean.{if_none, none_left, none_right}
+pub use Rattle.cga_check.proofs.Clean.{first_none, if_none, none_left, none_right}
 -- One layer of the uses of a tree
 pub use Rattle.cga_check.proofs.Layers.{item_Child, item_Resize, primary_Named}
 -- What a valid grammar has
 pub use Rattle.cga_check.proofs.Valid.{by_id_all, probabilities_add_up, symbols_agree, takes}
+-- A rule put among rules by rising id
+pub use Rattle.cga_check.proofs.Rising.{Rising, least_first, placed_cons, placed_nil, rising_placed}

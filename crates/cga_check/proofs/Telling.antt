@@ -5,7 +5,7 @@ use Rattle.std.specs.List.{list_any}
 use Rattle.std.specs.Option.{option_map}
 use Rattle.std.proofs.Math.Seq.{take-suc}
 use Rattle.std.proofs.lemmas.List.Folds.{list_any-append}
-use Rattle.cga_fraction.proofs.Door.{take-all as taken}
+use Rattle.cga_fraction.proofs.Door.{or-false, take-all as taken}
 use Rattle.cga_word.specs.declared.target.Target.{Target}
 use Rattle.cga_word.specs.declared.target.Target.TheVariants.{Noparent, Active}
 use Rattle.cga_rule.specs.declared.grammar.Entry.{Entry}
@@ -45,10 +45,6 @@ or_last true b = refl
 or_last false true = refl
 or_last false false = refl
 
-or_none : (a : Bool) → (a || false) ≡ a
-or_none true = refl
-or_none false = refl
-
 any_last : (symbol : List ℕ) (target : Target) (xs : List Entry) (x : Entry) (b : Bool) → is_of symbol x ≡ b
     → list_any (is_asking symbol target) (xs ++ x ∷ [])
     ≡ (list_any (is_asking symbol target) xs || (b && asks target x.rule))
@@ -65,7 +61,7 @@ told_other symbol xs x is = by (find (is_of symbol) xs) refl
   where
     same : (target : Target) → list_any (is_asking symbol target) (xs ++ x ∷ []) ≡ list_any (is_asking symbol target) xs
     same target =
-        any_last symbol target xs x false is ∙ or_none (list_any (is_asking symbol target) xs)
+        any_last symbol target xs x false is ∙ or-false (list_any (is_asking symbol target) xs)
 
     by : (first : Option Entry) → find (is_of symbol) xs ≡ first
         → option_map (in_all (xs ++ x ∷ []) symbol) (find (is_of symbol) (xs ++ x ∷ []))

@@ -17,7 +17,7 @@ use Rattle.cga_check.specs.Faults.{IsValid, each_after, rule_faults, head_faults
 use Rattle.cga_check.specs.Validity.{SymbolsAgree, Agrees, Takes, IsMet, ChildrenHaveRules, AddUp, ProbabilitiesAddUp}
 use Rattle.cga_check.proofs.Clean.{none_left, none_right, if_none, valid_rules, each_clean, flat_clean}
 use Rattle.cga_check.proofs.Agreement.{agree_all}
-use Rattle.cga_fraction.proofs.Door.{eq_from_nat_eq as numbers}
+use Rattle.cga_fraction.proofs.Door.{and_first, and_second, eq_from_nat_eq as numbers}
 
 -- in a valid grammar each rule of a symbol has the priority and the number of parameters of the symbol's first
 pub symbols_agree : SymbolsAgree
@@ -88,15 +88,7 @@ and_right false b e = cc
 
 all_true : {A : Type 0} (p : A → Bool) (xs : List A) → list_all p xs ≡ true → All (λ (x : A). IsTrue (p x)) xs
 all_true p [] e = All-nil _
-all_true {A = A} p (x ∷ xs) e = All-cons (λ (y : A). IsTrue (p y)) x xs (both_left (p x) (list_all p xs) e) (all_true p xs (both_right (p x) (list_all p xs) e))
-  where
-    both_left : (a b : Bool) → (a && b) ≡ true → IsTrue a
-    both_left true b e = refl
-    both_left false b e = cc
-
-    both_right : (a b : Bool) → (a && b) ≡ true → b ≡ true
-    both_right true b e = e
-    both_right false b e = cc
+all_true {A = A} p (x ∷ xs) e = All-cons (λ (y : A). IsTrue (p y)) x xs (and_first (p x) (list_all p xs) e) (all_true p xs (and_second (p x) (list_all p xs) e))
 
 adds_up : (alternatives : List Alternative) → not (are_probabilities alternatives) ≡ false → AddUp alternatives
 adds_up alternatives e = record {

@@ -1,3 +1,3 @@
-mod Names
 mod Places
 mod Removed
+pub mod Door

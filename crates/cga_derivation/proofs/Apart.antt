@@ -30,7 +30,7 @@ module _ {N A F P : Type 0} (derivation : Derivation N A F P) where
 
     child-Has : (C : Members) (s : Site N) (i : ℕ) (m : Placed (Site N) F P) → slice_get C i ≡ Some m
         → Has C m.shape m.kind
-    child-Has C s i m e = steps.slice_get-Has (world_of derivation) (world derivation laws) C i m e
+    child-Has C s i m e = steps.slice_get-Has C i m e
 
     module _ (C D : Members) (s : Site N) (good : steps.IsOrdered (world_of derivation) C) (step : run.IsStep (world_of derivation) C D s) where
       -- a child of s does not stand where a member stood

@@ -1,5 +1,5 @@
 -- How many members are expanded.
-use Rattle.std.proofs.Common.{◌≡◌, ℕ, zero, suc, ◌+◌, ◌<◌, ◌≤◌, List, [], ◌∷◌, ◌++◌, length, true, cond, not, refl, sym, ap, ◌∙◌, inl, inr, Some, arith}
+use Rattle.std.proofs.Common.{◌≡◌, ℕ, zero, suc, ◌+◌, ◌<◌, ◌≤◌, List, [], ◌∷◌, ◌++◌, length, map, true, cond, not, refl, sym, ap, ◌∙◌, inl, inr, Some, arith}
 use Rattle.std.specs.Prelude.{slice_get, slice_set, count_by}
 use Rattle.std.proofs.lemmas.List.Sums.{sum_by-append, sum_by-cons}
 use Rattle.cga_order.specs.declared.placed.Placed.{Placed}
@@ -18,6 +18,12 @@ one-bound Waiting = omega arith
 one-bound Done = omega arith
 one-bound (Faulted f) = omega arith
 one-bound (Instance p) = omega arith
+
+-- where all members wait, none is expanded
+pub expanded-waiting : {N : Type 0} (F P : Type 0) (rs : List N)
+    → expanded_in {F = F} {P = P} (map (λ n. record { shape = n; kind = Waiting }) rs) ≡ 0
+expanded-waiting F P [] = refl
+expanded-waiting F P (r ∷ rs) = expanded-waiting F P rs
 
 module _ {N F P : Type 0} where
   pub expanded-cons : (x : Placed N F P) (xs : List (Placed N F P)) → expanded_in (x ∷ xs) ≡ one x.kind + expanded_in xs

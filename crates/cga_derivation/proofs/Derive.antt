@@ -1,5 +1,5 @@
 -- `derive` in the words of its definition.
-use Rattle.std.proofs.Common.{◌≡◌, ℕ, zero, suc, ◌+◌, ◌-◌, ◌<◌, ◌≤◌, List, [], ◌∷◌, ◌++◌, length, map, Bool, true}
+use Rattle.std.proofs.Common.{◌≡◌, ℕ, zero, suc, ◌+◌, ◌-◌, ◌<◌, ◌≤◌, List, [], ◌∷◌, ◌++◌, length, Bool, true}
 use Rattle.std.proofs.Common.{false, not, ◌&&◌, cond, refl, sym, ap, ◌∙◌, subst, ◌⊎◌, inl, inr, Result, Ok, Err}
 use Rattle.std.proofs.Common.{Option, Some, None, arith}
 use Rattle.std.specs.Prelude.{slice_get, slice_set, nat_lt, MatchOption}
@@ -20,7 +20,7 @@ use Rattle.cga_derivation.proofs.Along.{both, first_of-passes, first_of-Has}
 use Rattle.cga_derivation.proofs.Least.{list_all-by, not_less, waiting_kind}
 use Rattle.cga_derivation.proofs.Apart.{apart-reached}
 use Rattle.cga_derivation.proofs.Budget.{reached-longer, settled-reached}
-use Rattle.cga_derivation.proofs.Counts.{expanded-set, expanded-append, expanded-new, expanded-below}
+use Rattle.cga_derivation.proofs.Counts.{expanded-waiting, expanded-set, expanded-append, expanded-new, expanded-below}
 use Rattle.cga_derivation.proofs.Keys.{become-set}
 
 waits_or : {F P : Type 0} (k : Kind F P) → (k ≡ Waiting) ⊎ (k ≡ Waiting → ⊥)
@@ -109,14 +109,10 @@ module _ {N A F P : Type 0} (derivation : Derivation N A F P) where
         let there : slice_get list i.0 ≡ Some m = i.2 ∙ (λ t. Some (record { shape = i.3 t; kind = i.4 t })) in
         ap expanded_in (become-set derivation list i.0 m (Faulted f) apart there) ∙ expanded-set list i.0 m (record { shape = m.shape; kind = Faulted f }) there w refl
 
-    none-start : (rs : List N) → expanded_in {F = F} {P = P} (map (λ n. record { shape = n; kind = Waiting }) rs) ≡ 0
-    none-start [] = refl
-    none-start (r ∷ rs) = none-start rs
-
     -- while something waits, each step has expanded one member
     count-reached : (n : ℕ) (s : N) → Has (reached derivation n) s Waiting → expanded_in (reached derivation n) ≡ n
     unfolding reached step
-    count-reached zero s h = none-start derivation.roots
+    count-reached zero s h = expanded-waiting F P derivation.roots
     count-reached (suc n) s h = by (λ t g. count-reached n t g) (next_of derivation (reached derivation n)) refl h
       where
         by : ((t : N) → Has (reached derivation n) t Waiting → expanded_in (reached derivation n) ≡ n)

@@ -15,9 +15,9 @@ pub use Rattle.cga_derivation.proofs.Derived.{derived_consistent}
 -- How a run begins, and how it ends
 pub use Rattle.cga_derivation.proofs.Ends.{apart-left, ends-full, ends-over, start-all, start-push}
 -- What holds of the roots, and of the children of what it holds of, holds of each member that is no instance
-pub use Rattle.cga_derivation.proofs.Inherited.{kept}
+pub use Rattle.cga_derivation.proofs.Inherited.{kept, Has-set}
 -- A map from the stamps of the waiting members: its least key is that of the next member
-pub use Rattle.cga_derivation.proofs.Keys.{become-set, key-next, key-push, key-skip}
+pub use Rattle.cga_derivation.proofs.Keys.{become-set, key-next, key-push, key-skip, same_place-is}
 -- The waiting member of least stamp is the next one
 pub use Rattle.cga_derivation.proofs.Least.{Has-erased, waiting_kind}
 -- Equal options and results have equal contents

@@ -19,9 +19,10 @@ use Rattle.cga_derivation.proofs.Along.{erase-sites, length-map, map-map, map-ap
 use Rattle.cga_derivation.proofs.Least.{Has-erased}
 use Rattle.cga_derivation.proofs.Apart.{apart-start}
 use Rattle.cga_derivation.proofs.Budget.{derive-some, derive-none}
-use Rattle.cga_derivation.proofs.Counts.{expanded-below, expanded-settled}
-use Rattle.cga_derivation.proofs.Keys.{key-push, slice_get-left}
+use Rattle.cga_derivation.proofs.Counts.{expanded-below, expanded-waiting, expanded-settled}
+use Rattle.cga_derivation.proofs.Keys.{key-push}
 pub use Rattle.std.proofs.Common.{append_assoc as append_assoc_one}
+use Rattle.cga_fraction.proofs.Door.{slice_get-append_left}
 
 module _ {N A F P : Type 0} (derivation : Derivation N A F P) where
   abbrev rooted : N → Placed (Site N) F P
@@ -32,7 +33,7 @@ module _ {N A F P : Type 0} (derivation : Derivation N A F P) where
 
   -- where sites at two indices of joined lists have two places, those of the first list have
   pub apart-left : (xs ys : List (Placed (Site N) F P)) → SitesApart derivation (xs ++ ys) → SitesApart derivation xs
-  apart-left xs ys apart i j m n e f = apart i j m n (slice_get-left xs ys i m e) (slice_get-left xs ys j n f)
+  apart-left xs ys apart i j m n e f = apart i j m n (slice_get-append_left xs ys i m e) (slice_get-append_left xs ys j n f)
 
   module _ (laws : IsDerivation derivation) {K : Type 0} (mode_of : K → Mode) (key_chain : K → Chain) (cmp : K → K → Ordering) (agrees : (a b : K) → mode_of a ≡ derivation.mode → mode_of b ≡ derivation.mode → cmp a b ≡ stamp_cmp derivation.mode (key_chain a) (key_chain b)) where
     -- no root, no key
@@ -58,12 +59,8 @@ module _ {N A F P : Type 0} (derivation : Derivation N A F P) where
     start-all es has = record {
       list_is = refl;
       keys = subst (λ C. HasWaiting derivation mode_of key_chain C es) (sym start-sites) has;
-      count = none derivation.roots;
+      count = expanded-waiting F P derivation.roots;
     }
-      where
-        none : (rs : List N) → expanded_in {F = F} {P = P} (map (λ n. record { shape = n; kind = Waiting }) rs) ≡ 0
-        none [] = refl
-        none (r ∷ rs) = none rs
 
     -- where no key is left nothing waits
     settled-empty : (n : ℕ) (list : List (Placed N F P)) → IsAt derivation mode_of key_chain n list []

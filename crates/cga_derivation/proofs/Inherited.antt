@@ -13,8 +13,9 @@ use Rattle.cga_derivation.proofs.Apart.{apart-reached}
 use Rattle.cga_derivation.proofs.Keys.{become-set}
 
 module _ {N F P : Type 0} where
-  Has-set : (xs : List (Placed N F P)) (i : ℕ) (v : Placed N F P) (x : N) (k : Kind F P) → Has (slice_set xs i v) x k
-      → ((v.shape ≡ x) × (v.kind ≡ k)) ⊎ Has xs x k
+  -- a member of a list in which one was replaced is that one, or a member of the list
+  pub Has-set : (xs : List (Placed N F P)) (i : ℕ) (v : Placed N F P) (x : N) (k : Kind F P)
+      → Has (slice_set xs i v) x k → ((v.shape ≡ x) × (v.kind ≡ k)) ⊎ Has xs x k
   Has-set [] i v x k h = absurd h
   Has-set (y ∷ xs) zero v x k h = elim h [ inl e ↦ inl e | inr r ↦ inr (inr r) ]
   Has-set (y ∷ xs) (suc i) v x k h = elim h [

@@ -1,5 +1,5 @@
 -- A map from the stamps of the waiting members: its least key is that of the next member.
-use Rattle.std.proofs.Common.{◌≡◌, ℕ, zero, suc, ◌+◌, ◌<◌, List, [], ◌∷◌, ◌++◌, length, map, true, false, cond, refl, sym, ap, ◌∙◌, subst, ◌⊎◌, inl, inr, Some, arith, get_or}
+use Rattle.std.proofs.Common.{◌≡◌, ℕ, zero, suc, ◌+◌, List, [], ◌∷◌, ◌++◌, length, map, true, false, cond, refl, sym, ap, ◌∙◌, subst, ◌⊎◌, inl, inr, Some, arith}
 use Rattle.std.specs.Prelude.{slice_get, slice_set}
 use Rattle.std.specs.List.{All}
 use Rattle.std.specs.declared.cmp.Ordering.{Ordering}
@@ -19,7 +19,7 @@ use Rattle.cga_order.specs.declared.placed.Kind.TheVariants.{Waiting}
 use Rattle.cga_order.specs.World.{Has, Among, IsEarlier, stamp_of}
 use Rattle.cga_order.specs.Run as run
 use Rattle.cga_order.proofs.Door as steps
-use Rattle.cga_order.proofs.Door.{Has-index, slice_get-append, slice_get-map, slice_get-within, stamp_total, stamps-place}
+use Rattle.cga_order.proofs.Door.{Among-All, Has-index, slice_get-Has, slice_get-append, slice_get-map, slice_get-within, stamp_total, stamps-place}
 use Rattle.std.proofs.lemmas.Bool.{cases_Bool as either}
 use Rattle.cga_derivation.proofs.Lists.{some_same, none_some}
 use Rattle.cga_derivation.specs.Derivation.{Derivation, place_of, same_place, become, AllApart}
@@ -27,22 +27,12 @@ use Rattle.cga_derivation.specs.Sites.{Site, chain_of, world_of, next_site, Site
 use Rattle.cga_derivation.specs.Turns.{HasWaiting}
 use Rattle.cga_derivation.proofs.Along.{both}
 use Rattle.cga_derivation.proofs.Least.{next-is, both_make}
+use Rattle.cga_fraction.proofs.Door.{slice_get-append_left, slice_get-map_Some}
 
 module _ {X : Type 0} where
-  pub slice_get-left : (xs ys : List X) (i : ℕ) (x : X) → slice_get xs i ≡ Some x → slice_get (xs ++ ys) i ≡ Some x
-  slice_get-left [] ys i x e = none_some x e
-  slice_get-left (z ∷ xs) ys zero x e = e
-  slice_get-left (z ∷ xs) ys (suc i) x e = slice_get-left xs ys i x e
-
   pub slice_get-seam : (xs ys : List X) (x : X) → slice_get (xs ++ x ∷ ys) (length xs) ≡ Some x
   slice_get-seam [] ys x = refl
   slice_get-seam (z ∷ xs) ys x = slice_get-seam xs ys x
-
-  slice_get-map-some : {Y : Type 0} (f : Y → X) (ys : List Y) (i : ℕ) (y : Y) → slice_get ys i ≡ Some y
-      → slice_get (map f ys) i ≡ Some (f y)
-  slice_get-map-some f [] i y e = none_some y e
-  slice_get-map-some f (z ∷ ys) zero y e = ap (λ x. Some (f x)) (some_same z y e)
-  slice_get-map-some f (z ∷ ys) (suc i) y e = slice_get-map-some f ys i y e
 
 module _ {K X : Type 0} (cmp : K → K → Ordering) where
   -- what is among the entries after an insertion
@@ -78,23 +68,12 @@ module _ {K X : Type 0} (cmp : K → K → Ordering) where
     | Greater ↦ λ c. elim h [ inl a ↦ inl a | inr r ↦ inr (kept-Among k v es q w (λ a b i. new a b (inr i)) r) ]
   ] refl
 
-  -- what holds of each key holds of the key of each entry
-  Among-key : (es : List (K × X)) (q : K) (w : X) → Among (q, w) es
-      → (j : ℕ) × (j < length (keys_of es)) × (get_or (keys_of es) j q ≡ q)
-  Among-key [] q w h = absurd h
-  Among-key (e ∷ es) q w h = elim h [
-    | inl a ↦ (0, omega arith, ap (λ p. p.0) a)
-    | inr r ↦ let i = Among-key es q w r in (suc i.0, omega (arith, i.1), i.2)
-  ]
-
-  Among-All : (P : K → Type 0) (es : List (K × X)) (q : K) (w : X) → All P (keys_of es) → Among (q, w) es → P q
-  Among-All P es q w all h = let i = Among-key es q w h in subst P i.2 (all i.0 q i.1)
-
 module _ {N A F P : Type 0} (derivation : Derivation N A F P) where
   abbrev Members : Type 0
   Members = List (Placed (Site N) F P)
 
-  same_place-is : (n m : N) → same_place derivation n m ≡ true → place_of derivation n ≡ place_of derivation m
+  -- where the test for one place is true, the places are equal
+  pub same_place-is : (n m : N) → same_place derivation n m ≡ true → place_of derivation n ≡ place_of derivation m
   same_place-is n m e =
       let parts = both _ _ e in
       λ i. ((bytes_decides (derivation.lot n) (derivation.lot m)).0 parts.0 i, (bytes_decides (derivation.path n) (derivation.path m)).0 parts.1 i)
@@ -160,14 +139,9 @@ module _ {N A F P : Type 0} (derivation : Derivation N A F P) where
     key-next C good k i es has above =
         let w = has.entry k i (inl refl) in
         let m = w.1.0 in
-        let was : Has C m.shape Waiting = subst (Has C m.shape) w.1.2 (index-Has C i m w.1.1) in
+        let was : Has C m.shape Waiting = subst (Has C m.shape) w.1.2 (slice_get-Has C i m w.1.1) in
         (m, w.1.1, w.1.2, w.1.3, next-is derivation C good m was (least m w.1.1 w.0 w.1.3) w.1.2)
       where
-        index-Has : (xs : Members) (j : ℕ) (n : Placed (Site N) F P) → slice_get xs j ≡ Some n → Has xs n.shape n.kind
-        index-Has [] j n e = none_some n e
-        index-Has (x ∷ xs) zero n e = let is = some_same x n e in inl (ap (λ y. y.shape) is, ap (λ y. y.kind) is)
-        index-Has (x ∷ xs) (suc j) n e = inr (index-Has xs j n e)
-
         least : (m : Placed (Site N) F P) → slice_get C i ≡ Some m → mode_of k ≡ derivation.mode
             → key_chain k ≡ chain_of derivation m.shape → (s : Site N) → Has C s Waiting
             → steps.SamePlace (world_of derivation) s m.shape
@@ -182,7 +156,7 @@ module _ {N A F P : Type 0} (derivation : Derivation N A F P) where
                   let one = some_same m p.1 (sym at ∙ (ap (slice_get C) index ∙ p.2)) in
                   inl (ap (λ (x : Site N). place_of derivation x.shape) (sym p.3 ∙ ap (λ (x : Placed (Site N) F P). x.shape) (sym one)))
               | inr r ↦
-                  let less = Among-All cmp (IsLtBy cmp k) es key.0 p.0 above r in
+                  let less = Among-All (IsLtBy cmp k) es key.0 p.0 above r in
                   let w = has.entry key.0 p.0 (inr r) in
                   let one = some_same w.1.0 p.1 (sym w.1.1 ∙ p.2) in
                   let chains : key_chain key.0 ≡ chain_of derivation s = w.1.3 ∙ ap (chain_of derivation) (ap (λ (x : Placed (Site N) F P). x.shape) one ∙ p.3) in
@@ -209,7 +183,7 @@ module _ {N A F P : Type 0} (derivation : Derivation N A F P) where
           let other : place_of derivation w.1.0.shape.shape ≡ place_of derivation m.shape.shape → ⊥ =
           (λ same. let index : j ≡ i = apart j i w.1.0 m w.1.1 at same in clash q j h index) in
           let stays = become-site m.shape kind w.1.0 other in
-          (w.0, (w.1.0, slice_get-map-some (run.become (world_of derivation) m.shape kind) C j w.1.0 w.1.1 ∙ ap Some stays, w.1.2, w.1.3));
+          (w.0, (w.1.0, slice_get-map_Some (run.become (world_of derivation) m.shape kind) C j w.1.0 w.1.1 ∙ ap Some stays, w.1.2, w.1.3));
       waits = λ j n e wait.
           let w = slice_get-map (run.become (world_of derivation) m.shape kind) C j n e in
           elim (either (same_place derivation w.0.shape.shape m.shape.shape)) [
@@ -233,7 +207,7 @@ module _ {N A F P : Type 0} (derivation : Derivation N A F P) where
       where
         clash : (q : K) (j : ℕ) → Among (q, j) es → j ≡ i → ⊥
         clash q j h index =
-            let less = Among-All cmp (IsLtBy cmp k) es q j above h in
+            let less = Among-All (IsLtBy cmp k) es q j above h in
             let a = has.entry k i (inl refl) in
             let b = has.entry q j (inr h) in
             let one = some_same b.1.0 a.1.0 (sym b.1.1 ∙ (ap (slice_get C) index ∙ a.1.1)) in
@@ -252,7 +226,7 @@ module _ {N A F P : Type 0} (derivation : Derivation N A F P) where
           ap mode_of (sym (ap (λ p. p.0) e)) ∙ mode,
           (x, subst (λ n. slice_get (C ++ x ∷ []) n ≡ Some x) (ap (λ p. p.1) e) (slice_get-seam C [] x), wait, ap key_chain (sym (ap (λ p. p.0) e)) ∙ chain),
         )
-        | inr r ↦ let w = has.entry q j r in (w.0, (w.1.0, slice_get-left C (x ∷ []) j w.1.0 w.1.1, w.1.2, w.1.3))
+        | inr r ↦ let w = has.entry q j r in (w.0, (w.1.0, slice_get-append_left C (x ∷ []) j w.1.0 w.1.1, w.1.2, w.1.3))
       ];
       waits = λ j n e w. elim (slice_get-append C (x ∷ []) j n e) [
         | inl a ↦ let key = has.waits j n a.1 w in (key.0, kept-Among cmp k (length C) es key.0 j new key.1)
@@ -269,7 +243,7 @@ module _ {N A F P : Type 0} (derivation : Derivation N A F P) where
             let w = has.entry a b h in
             let tie = sym (agrees-at k a x.shape w.1.0.shape mode w.0 chain w.1.3) ∙ e in
             let same = stamps-place derivation.mode (chain_of derivation x.shape) (chain_of derivation w.1.0.shape) tie in
-            let index = apart (length C) b x w.1.0 (slice_get-seam C [] x) (slice_get-left C (x ∷ []) b w.1.0 w.1.1) same in
+            let index = apart (length C) b x w.1.0 (slice_get-seam C [] x) (slice_get-append_left C (x ∷ []) b w.1.0 w.1.1) same in
             let within = slice_get-within C b w.1.0 w.1.1 in
             omega (arith, index, within)
 
@@ -277,7 +251,7 @@ module _ {N A F P : Type 0} (derivation : Derivation N A F P) where
     pub key-skip : (C : Members) (x : Placed (Site N) F P) → (es : List (K × ℕ)) → HasKeys C es → (x.kind ≡ Waiting → ⊥)
         → HasKeys (C ++ x ∷ []) es
     key-skip C x es has done = record {
-      entry = λ q j h. let w = has.entry q j h in (w.0, (w.1.0, slice_get-left C (x ∷ []) j w.1.0 w.1.1, w.1.2, w.1.3));
+      entry = λ q j h. let w = has.entry q j h in (w.0, (w.1.0, slice_get-append_left C (x ∷ []) j w.1.0 w.1.1, w.1.2, w.1.3));
       waits = λ j n e w. elim (slice_get-append C (x ∷ []) j n e) [
         | inl a ↦ has.waits j n a.1 w
         | inr b ↦ last b.0 n b.2 w

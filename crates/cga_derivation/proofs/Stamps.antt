@@ -1,6 +1,5 @@
 -- The stamps that are told from the list are those of the world.
 use Rattle.std.proofs.Common.{◌≡◌, ℕ, zero, suc, ◌+◌, ◌≤◌, List, [], ◌∷◌, ◌++◌, length, take, map, true, refl, sym, ap, ◌∙◌, subst, inl, inr, Option, Some, None, arith, length-append}
-use Rattle.std.specs.Prelude.{slice_get}
 use Rattle.std.proofs.Math.Seq.{take-length}
 use Rattle.std.proofs.lemmas.List.{take-append-le}
 use lib.Pointwise.{bytes_decides}
@@ -10,8 +9,7 @@ use Rattle.cga_order.specs.declared.placed.Kind.{Kind}
 use Rattle.cga_order.specs.World.{Has, Among}
 use Rattle.cga_order.specs.Run as run
 use Rattle.cga_order.proofs.Door as steps
-use Rattle.cga_order.proofs.Door.{slice_get-map, snoc-same, stands-reached}
-use Rattle.cga_derivation.proofs.Lists.{some_same, none_some}
+use Rattle.cga_order.proofs.Door.{slice_get-Has, slice_get-map, snoc-same, stands-reached}
 use Rattle.cga_derivation.specs.Derivation.{Derivation, IsDerivation, next_of, reached, taken_next, expanded}
 use Rattle.cga_derivation.specs.Sites.{Site, erased, erase, fitted, chain_of, world_of, next_site, sites, taken, taken_by}
 use Rattle.cga_derivation.specs.Stamps.{stands_at, priority_found, priority_at, priorities_down, chain_in, stamp_in, birth_in, StandsInOrder, AllEarlier, RisesIn, IsEarlier}
@@ -135,8 +133,8 @@ module _ {N A F P : Type 0} (derivation : Derivation N A F P) where
         let is-n : b.0.shape.shape ≡ n.shape = ap (λ (x : Placed N F P). x.shape) b.2 in
         elim (order i j a.0 b.0 a.1 b.1 lt roots) [
           | inl before ↦
-              let p = ap (birth derivation.mode) (chain-is C good a.0.shape a.0.kind (index-Has C i a.0 a.1)) ∙ ap (birth_in derivation (erase C)) is-m in
-              let q = ap (birth derivation.mode) (chain-is C good b.0.shape b.0.kind (index-Has C j b.0 b.1)) ∙ ap (birth_in derivation (erase C)) is-n in
+              let p = ap (birth derivation.mode) (chain-is C good a.0.shape a.0.kind (slice_get-Has C i a.0 a.1)) ∙ ap (birth_in derivation (erase C)) is-m in
+              let q = ap (birth derivation.mode) (chain-is C good b.0.shape b.0.kind (slice_get-Has C j b.0 b.1)) ∙ ap (birth_in derivation (erase C)) is-n in
               inl (sym (λ t. stamps_cmp derivation.mode (p t) (q t)) ∙ before)
           | inr u ↦ inr (
             derivation.path u.0.shape,
@@ -148,11 +146,6 @@ module _ {N A F P : Type 0} (derivation : Derivation N A F P) where
             u.5,
           )
         ]
-      where
-        index-Has : (xs : Members) (l : ℕ) (x : Placed (Site N) F P) → slice_get xs l ≡ Some x → Has xs x.shape x.kind
-        index-Has [] l x g = none_some x g
-        index-Has (y ∷ xs) zero x g = let is = some_same y x g in inl (ap (λ z. z.shape) is, ap (λ z. z.kind) is)
-        index-Has (y ∷ xs) (suc l) x g = inr (index-Has xs l x g)
 
     -- the members after the roots stand by their parents' stamps, and then by their indices
     pub in_order : (n : ℕ) → StandsInOrder derivation (reached derivation n)

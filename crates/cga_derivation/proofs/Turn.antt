@@ -1,5 +1,5 @@
 -- One turn: the member of the least key is the next, and what is written and appended is the next configuration.
-use Rattle.std.proofs.Common.{◌≡◌, ℕ, zero, suc, ◌+◌, List, [], ◌∷◌, ◌++◌, length, map, true, refl, sym, ap, ◌∙◌, subst, inl, Result, Ok, Err, Some, arith}
+use Rattle.std.proofs.Common.{◌≡◌, ℕ, suc, ◌+◌, List, [], ◌++◌, length, map, true, refl, sym, ap, ◌∙◌, subst, inl, Result, Ok, Err, Some, arith}
 use Rattle.std.specs.Prelude.{slice_get, slice_set}
 use Rattle.std.specs.declared.cmp.Ordering.{Ordering}
 use Rattle.cga_word.specs.declared.mode.Mode.{Mode}
@@ -11,7 +11,7 @@ use Rattle.cga_order.proofs.Door as steps
 use Rattle.cga_order.specs.declared.placed.Placed.{Placed}
 use Rattle.cga_order.specs.declared.placed.Kind.{Kind}
 use Rattle.cga_order.specs.declared.placed.Kind.TheVariants.{Waiting, Done, Faulted}
-use Rattle.cga_derivation.proofs.Lists.{some_same, none_some}
+use Rattle.cga_derivation.proofs.Lists.{some_same}
 use Rattle.cga_derivation.specs.Derivation.{Derivation, IsDerivation, told, asked, step_by, step, reached, next_of, AllApart}
 use Rattle.cga_derivation.specs.Sites.{Site, erased, erase, sited, all_sited, chain_of, world_of, next_site, step_sites_by, sites, taken, SitesApart}
 use Rattle.cga_derivation.specs.Turns.{HasWaiting, IsAt, IsInTurn}
@@ -20,12 +20,7 @@ use Rattle.cga_derivation.proofs.Along.{reached-sites, erase-sites, next-along, 
 use Rattle.cga_derivation.proofs.Apart.{apart-sites, apart-reached}
 use Rattle.cga_derivation.proofs.Counts.{expanded-set, expanded-append, expanded-new}
 use Rattle.cga_derivation.proofs.Keys.{become-set, key-next, key-pop}
-
-get-map : {X Y : Type 0} (f : Y → X) (ys : List Y) (i : ℕ) (y : Y) → slice_get ys i ≡ Some y
-    → slice_get (map f ys) i ≡ Some (f y)
-get-map f [] i y e = none_some y e
-get-map f (z ∷ ys) zero y e = ap (λ x. Some (f x)) (some_same z y e)
-get-map f (z ∷ ys) (suc i) y e = get-map f ys i y e
+use Rattle.cga_fraction.proofs.Door.{slice_get-map_Some}
 
 module _ {N A F P : Type 0} (derivation : Derivation N A F P) (laws : IsDerivation derivation) {K : Type 0} (mode_of : K → Mode) (key_chain : K → Chain) (cmp : K → K → Ordering) (agrees : (a b : K) → mode_of a ≡ derivation.mode → mode_of b ≡ derivation.mode → cmp a b ≡ stamp_cmp derivation.mode (key_chain a) (key_chain b)) where
   abbrev Members : Type 0
@@ -50,7 +45,7 @@ module _ {N A F P : Type 0} (derivation : Derivation N A F P) (laws : IsDerivati
         × ((key_chain k).lot ≡ derivation.lot x.shape) × ((key_chain k).path ≡ derivation.path x.shape)
     member =
         let m = next in
-        (erased m.0, subst (λ l. slice_get l at ≡ Some (erased m.0)) erase-list (get-map erased (sites derivation n) at m.0 m.1), m.2, ap (λ c. c.lot) m.3, ap (λ c. c.path) m.3)
+        (erased m.0, subst (λ l. slice_get l at ≡ Some (erased m.0)) erase-list (slice_get-map_Some erased (sites derivation n) at m.0 m.1), m.2, ap (λ c. c.lot) m.3, ap (λ c. c.path) m.3)
 
     -- the key that was taken is of the derivation's mode
     pub mode_is : mode_of k ≡ derivation.mode

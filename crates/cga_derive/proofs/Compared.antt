@@ -19,8 +19,9 @@ use Rattle.cga_expand.specs.Asked.{on_path, boxes_beside, answer_if, answers_of}
 use Rattle.cga_expand.specs.Children.{Member}
 use Rattle.cga_expand.specs.Derivation.{derivation_of}
 use Rattle.cga_derive.specs.Compared.{counts, meets_own, holds_own, some_meets, some_fills, one_compared, compared, targeted, answers_with}
-use Rattle.cga_derive.proofs.Reading.{said_noparent, said_active}
+use Rattle.cga_expand.proofs.Door.{said_noparent, said_active}
 use Rattle.cga_fraction.proofs.Door.{None-not-Some as none_some, and-false as and_false, or-true as or_true, same_Some as some_same, slice_get_from_get_or as there}
+use Rattle.cga_index.proofs.Door.{graded_or}
 
 -- a member that the target compares has a box that passes
 abbrev some_box : (Box → Bool) → Target → Shape → List Member → Bool
@@ -86,13 +87,6 @@ any_of : {X : Type 0} (p : X → Bool) (xs : List X) (i : ℕ) → list_any p (d
 any_of p xs zero e = e
 any_of p [] (suc i) e = e
 any_of p (x ∷ xs) (suc i) e = ap (λ b. p x || b) (any_of p xs i e) ∙ or_true (p x)
-
-graded_or : (a b c d : Bool) → graded (a || c) (b || d) ≡ join (graded a b) (graded c d)
-graded_or true b c d = refl
-graded_or false true true d = refl
-graded_or false true false true = refl
-graded_or false true false false = refl
-graded_or false false c d = refl
 
 graded_full : (a b : Bool) → graded a b ≡ Full → a ≡ true
 graded_full true b e = refl

@@ -1,5 +1,4 @@
 mod Compared
-mod Reading
 mod Placing
 mod PlaceAll
 mod Working

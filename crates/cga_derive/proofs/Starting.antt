@@ -1,8 +1,8 @@
 -- The loop over the lots.
-use Rattle.std.proofs.Common.{◌≡◌, ℕ, zero, suc, ◌+◌, ◌<◌, ◌≤◌, List, [], ◌∷◌, ◌++◌, length, map, take, drop, refl, sym, ap, ◌∙◌, subst, arith, get_or, Ok}
+use Rattle.std.proofs.Common.{◌≡◌, ℕ, zero, suc, ◌+◌, ◌<◌, ◌≤◌, List, [], ◌∷◌, ◌++◌, length, map, take, drop, sym, ap, ◌∙◌, subst, arith, get_or, Ok}
 use Rattle.std.specs.BTreeMap.{insert_entry}
 use Rattle.cga_order.specs.declared.placed.Kind.TheVariants.{Waiting}
-use Rattle.cga_expand.proofs.Door.{root_is, sources_are_derivations}
+use Rattle.cga_expand.proofs.Door.{root_is, roots_of-append, sources_are_derivations}
 use Rattle.cga_fraction.proofs.Door.{length-map, map-append, take-all}
 use Rattle.cga_key.proofs.Door.{agrees}
 use Rattle.cga_derivation.specs.Sites.{chain_of}
@@ -18,7 +18,6 @@ use Rattle.cga_expand.specs.Derivation.{made, roots_of, derivation_of, NamesDiff
 use Rattle.cga_key.specs.Key.{chain_of_key, key_cmp}
 use Rattle.cga_derive.specs.Run.{Sites, HasKeys, IsAfter}
 use Rattle.cga_key.specs.Children.{IsRootKey}
-use Rattle.std.proofs.Common.{append_assoc}
 
 -- the roots of so many lots, all waiting, and the same as sites
 abbrev pub roots_up : List Lot → ℕ → List Member
@@ -26,10 +25,6 @@ roots_up lots n = map (λ r. record { shape = r; kind = Waiting }) (roots_of (ta
 
 abbrev pub root_sites_up : List Lot → ℕ → Sites
 root_sites_up lots n = map (λ r. record { shape = record { shape = r; above = [] }; kind = Waiting }) (roots_of (take n lots))
-
-roots-append : (xs ys : List Lot) → roots_of (xs ++ ys) ≡ roots_of xs ++ roots_of ys
-roots-append [] ys = refl
-roots-append (x ∷ xs) ys = ap (λ l. made (root_of x) ++ l) (roots-append xs ys) ∙ sym (append_assoc (made (root_of x)) (roots_of xs) (roots_of ys))
 
 split : {X : Type 0} (xs : List X) (i : ℕ) (x : X) → i < length xs → x ≡ get_or xs i x
     → (take (suc i) xs ≡ take i xs ++ x ∷ []) × (xs ≡ take i xs ++ x ∷ drop (suc i) xs)
@@ -45,12 +40,12 @@ module _ (sources : Sources) (differ : NamesDiffer sources.lots) where
     first_roots =
         let w = split sources.lots i lot within item in
         let one : i + 1 ≡ suc i = omega arith in
-        ap roots_of (ap (λ n. take n sources.lots) one ∙ w.0) ∙ (roots-append (take i sources.lots) (lot ∷ []) ∙ ap (λ r. roots_of (take i sources.lots) ++ (made r ++ [])) is)
+        ap roots_of (ap (λ n. take n sources.lots) one ∙ w.0) ∙ (roots_of-append (take i sources.lots) (lot ∷ []) ∙ ap (λ r. roots_of (take i sources.lots) ++ (made r ++ [])) is)
 
     all_roots : roots_of sources.lots ≡ roots_of (take i sources.lots) ++ root ∷ roots_of (drop (suc i) sources.lots)
     all_roots =
         let w = split sources.lots i lot within item in
-        ap roots_of w.1 ∙ (roots-append (take i sources.lots) (lot ∷ drop (suc i) sources.lots) ∙ ap (λ r. roots_of (take i sources.lots) ++ (made r ++ roots_of (drop (suc i) sources.lots))) is)
+        ap roots_of w.1 ∙ (roots_of-append (take i sources.lots) (lot ∷ drop (suc i) sources.lots) ∙ ap (λ r. roots_of (take i sources.lots) ++ (made r ++ roots_of (drop (suc i) sources.lots))) is)
 
     pub roots-more : (list : List Member) → list ≡ roots_up sources.lots i
         → list ++ record { shape = root; kind = Waiting } ∷ [] ≡ roots_up sources.lots (i + 1)

@@ -1,15 +1,15 @@
 -- What a turn tells, and whether one comes.
-use Rattle.std.proofs.Common.{◌≡◌, ℕ, zero, suc, ◌<◌, ◌≤◌, List, [], ◌∷◌, length, map, Bool, not, refl, sym, ap, ◌∙◌, subst, inl, inr, arith, Result, Ok, Err, Option, Some, None, true, false, get_or}
+use Rattle.std.proofs.Common.{◌≡◌, ℕ, zero, suc, ◌<◌, ◌≤◌, List, [], ◌∷◌, length, Bool, not, refl, sym, ap, ◌∙◌, subst, inl, arith, Result, Ok, Err, Option, Some, None, true, false, get_or}
 use Rattle.std.specs.Prelude.{slice_get, count_by, is_some, ◌↔◌}
 use Rattle.cga_word.specs.declared.answers.Answers.{Answers}
 use Rattle.cga_order.specs.declared.placed.Kind.TheVariants.{Waiting}
 use Rattle.cga_order.specs.World.{Has, is_instance}
 use Rattle.cga_order.proofs.Door as steps
 use Rattle.cga_derivation.proofs.Door.{Has-erased, derive-some, erase-sites, expanded-settled, key-next, next-along, option_of, reached-sites, world}
-use Rattle.cga_expand.proofs.Door.{sources_are_derivations}
-use Rattle.cga_fraction.proofs.Door.{None-not-Some as none_some, same_Some as some_same}
+use Rattle.cga_expand.proofs.Door.{length-placed_from, sources_are_derivations}
+use Rattle.cga_fraction.proofs.Door.{None-not-Some as none_some, same_Some as some_same, slice_get-map_Some}
 use Rattle.cga_key.proofs.Door.{agrees}
-use Rattle.cga_order.proofs.Door.{Has-index}
+use Rattle.cga_order.proofs.Door.{Has-index, slice_get-Has}
 use Rattle.cga_derivation.specs.Derivation.{asked, derive, next_of, reached, NothingWaits}
 use Rattle.cga_derivation.specs.Sites.{erased, erase, sites, taken, world_of}
 use Rattle.cga_derivation.specs.Turns.{expanded_in}
@@ -21,7 +21,7 @@ use Rattle.cga_shape.specs.declared.trace_step.Outcome.{Outcome}
 use Rattle.cga_shape.specs.declared.trace_step.Outcome.TheVariants.{Grew, Faulted}
 use Rattle.cga_key.specs.declared.stamp_key.StampKey.{StampKey}
 use Rattle.cga_key.specs.Key.{chain_of_key, key_cmp}
-use Rattle.cga_expand.specs.Children.{Member, placed_from, placed_by}
+use Rattle.cga_expand.specs.Children.{Member, placed_by}
 use Rattle.cga_expand.specs.Derivation.{derivation_of, NamesDiffer}
 use Rattle.cga_expand.specs.Expand.{expand_of}
 use Rattle.cga_expand.specs.Run.{outcome_of, traced}
@@ -35,29 +35,14 @@ abbrev pub told_by : Result (List Emitted) ShapeFault → Outcome
 told_by (Ok emitted) = Grew (length emitted)
 told_by (Err fault) = Faulted fault
 
-length-placed : (lot path own : List ℕ) (i : ℕ) (es : List Emitted) → length (placed_from lot path own i es) ≡ length es
-length-placed lot path own i [] = refl
-length-placed lot path own i (e ∷ es) = ap suc (length-placed lot path own (suc i) es)
-
 told-is : (s : Shape) (r : Result (List Emitted) ShapeFault) → outcome_of (placed_by s r) ≡ told_by r
-told-is s (Ok es) = ap Grew (length-placed s.lot s.path s.symbol 0 es)
+told-is s (Ok es) = ap Grew (length-placed_from s.lot s.path s.symbol 0 es)
 told-is s (Err f) = refl
-
-get-map : {X Y : Type 0} (f : Y → X) (ys : List Y) (i : ℕ) (y : Y) → slice_get ys i ≡ Some y
-    → slice_get (map f ys) i ≡ Some (f y)
-get-map f [] i y e = none_some y e
-get-map f (z ∷ ys) zero y e = ap (λ x. Some (f x)) (some_same z y e)
-get-map f (z ∷ ys) (suc i) y e = get-map f ys i y e
 
 reads : {X : Type 0} (xs : List X) (i : ℕ) (m d : X) → slice_get xs i ≡ Some m → d ≡ get_or xs i d → d ≡ m
 reads [] i m d e f = none_some m e
 reads (x ∷ xs) zero m d e f = f ∙ some_same x m e
 reads (x ∷ xs) (suc i) m d e f = reads xs i m d e f
-
-get-has : (list : List Member) (i : ℕ) (m : Member) → slice_get list i ≡ Some m → Has list m.shape m.kind
-get-has [] i m e = none_some m e
-get-has (x ∷ list) zero m e = let is = some_same x m e in inl (ap (λ y. y.shape) is, ap (λ y. y.kind) is)
-get-has (x ∷ list) (suc i) m e = inr (get-has list i m e)
 
 -- what is_none tells
 pub none_by : {X : Type 0} (o : Option X) (none : Bool) → is_some o ≡ not none → none ≡ true → o ≡ None
@@ -79,7 +64,7 @@ module _ (sources : Sources) (differ : NamesDiffer sources.lots) where
         let m = key-next d (λ k. k.mode) chain_of_key key_cmp (agrees sources.mode) (sites d n) good key place es turn.keys turn.above in
         let whole : erase (sites d n) ≡ list = erase-sites d n ∙ sym turn.list_is in
         let found : next_of d list ≡ Some (erased m.0) = ap (next_of d) (sym whole) ∙ (next-along d (sites d n) ∙ ap (option_of erased) m.4) in
-        let here : slice_get list place ≡ Some (erased m.0) = subst (λ l. slice_get l place ≡ Some (erased m.0)) whole (get-map erased (sites d n) place m.0 m.1) in
+        let here : slice_get list place ≡ Some (erased m.0) = subst (λ l. slice_get l place ≡ Some (erased m.0)) whole (slice_get-map_Some erased (sites d n) place m.0 m.1) in
         let x = there sources differ n key place list es turn in
         found ∙ (sym here ∙ x.1)
 
@@ -123,7 +108,7 @@ module _ (sources : Sources) (n : ℕ) (list : List Member) (es : List (StampKey
   some-waits ((key, place) ∷ e) keys some quiet =
       let d = derivation_of sources in
       let m = (keys.entry key place (inl refl)).1 in
-      let here = get-has (erase (sites d n)) place (erased m.0) (get-map erased (sites d n) place m.0 m.1) in
+      let here = slice_get-Has (erase (sites d n)) place (erased m.0) (slice_get-map_Some erased (sites d n) place m.0 m.1) in
       quiet (erased m.0).shape (subst (λ l. Has l (erased m.0).shape Waiting) (erase-sites d n) (subst (Has (erase (sites d n)) (erased m.0).shape) m.2 here))
 
   -- no key is left exactly where nothing waits

@@ -6,8 +6,7 @@ use Rattle.std.proofs.lemmas.Bool.Decides.{nat_tests}
 use Rattle.cga_fraction.proofs.Door.{None-not-Some as none_some, length-map, lt-length_from_slice_get as within, map-append, slice_get_from_get_or as there, same_Some as some_same}
 use Rattle.cga_frame.specs.Box.{Box, box_of, holds, is_box, meets, touches}
 use Rattle.cga_frame.specs.Meeting.{IsHull}
-use Rattle.cga_frame.specs.Scope.{Scope, far_of}
-use Rattle.cga_frame.proofs.Door.{corners_box, holds_itself, holds_trans, meets_touches, touches_up}
+use Rattle.cga_frame.proofs.Door.{box_of_boxed, holds_itself, holds_trans, meets_touches, touches_up}
 use Rattle.cga_order.specs.declared.placed.Kind.{Kind}
 use Rattle.cga_word.specs.declared.primitive.Primitive.{Primitive}
 use Rattle.cga_shape.specs.declared.shape_fault.ShapeFault.{ShapeFault}
@@ -156,9 +155,6 @@ streak_there list streaks left streak are some inside is =
 
 -- ---- a hull that doesn't touch a box
 
-is_box_of : (s : Scope) → is_box (box_of s) ≡ true
-is_box_of s = corners_box s.at (far_of s)
-
 apart : (hull b own : Box) → is_box b ≡ true → holds hull b ≡ true → touches hull own ≡ false → meets b own ≡ false
 apart hull b own good held off = elim (either (meets b own)) [
   | inl t ↦
@@ -174,4 +170,4 @@ pub none_meets : (list : List Member) (streaks : List Streak) (last : ℕ) (stre
     → meets (box_of m.shape.scope) own ≡ false
 none_meets list streaks last streak own are here off i m from to there =
     let held = (are.each last streak here).held i (box_in m) from to (get_map box_in list i m there) in
-    apart streak.hull (box_in m) own (is_box_of m.shape.scope) held off
+    apart streak.hull (box_in m) own (box_of_boxed m.shape.scope) held off

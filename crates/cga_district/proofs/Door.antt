@@ -6,7 +6,5 @@ pub use Rattle.cga_district.proofs.Hulls.{hulls_tell_apart, lot_among}
 pub use Rattle.cga_district.proofs.Towns.{differ_left, differ_right, towns, two_names}
 -- Any number of districts of a town are derived apart: by two at a time
 pub use Rattle.cga_district.proofs.Parts.{parts_are_apart}
--- Lists that stand one behind the other
-pub use Rattle.cga_district.proofs.Lists.{Among-left, Among-right}
 -- Places stand once in what jobs answer for
 pub use Rattle.cga_district.proofs.Jobs.{own_apart}

@@ -17,7 +17,9 @@ use Rattle.cga_derivation.specs.Stamps.{chain_in}
 use Rattle.cga_derivation.proofs.Door.{derived_consistent, within}
 use Rattle.cga_district.specs.Districts.{district}
 use Rattle.cga_district.specs.Halos.{AreJobs, Job, SeesAlike, all_own, is_lot_of, own_of}
-use Rattle.cga_district.proofs.Lists.{Among-left, Among-right, Has-filter, get-left, get-right}
+use Rattle.cga_district.proofs.Lists.{Has-filter, get-right}
+use Rattle.cga_order.proofs.Door.{Among-left, Among-right}
+use Rattle.cga_fraction.proofs.Door.{slice_get-append_left}
 use Rattle.cga_district.proofs.Owned.{apart_of, chain_same, lot_of, root_in, own_in, own_from, one_job, own_once}
 
 module _ {N A F P : Type 0} (derivation : Derivation N A F P) (laws : IsDerivation derivation) (jobs : List (Job N N F P)) (are : AreJobs derivation jobs) where
@@ -116,7 +118,7 @@ module _ {N A F P : Type 0} (derivation : Derivation N A F P) (laws : IsDerivati
           let b = Among-index job.ring n g in
           let below = slice_get-within job.own a.0 r.0 a.1 in
           let path = law.root r.0 (Among-left job.own job.ring r.0 r.1) ∙ sym (law.root n (Among-right job.own job.ring n g)) in
-          let at = law.roots_apart a.0 (length job.own + b.0) r.0 n (get-left job.own job.ring a.0 r.0 a.1) (get-right job.own job.ring _ b.0 n b.1 refl) (λ i. (r.2 i, path i)) in
+          let at = law.roots_apart a.0 (length job.own + b.0) r.0 n (slice_get-append_left job.own job.ring a.0 r.0 a.1) (get-right job.own job.ring _ b.0 n b.1 refl) (λ i. (r.2 i, path i)) in
           omega (arith, below, at)
 
       only : (n : N) (k : Kind F P) → Has job.members n k → IsOwn n → Among n derivation.roots ⊎ IsMade derivation zs n

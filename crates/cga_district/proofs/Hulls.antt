@@ -1,11 +1,11 @@
 -- Lots whose boxes don't touch have no shapes that meet.
 use Rattle.std.proofs.Common.{◌≡◌, ℕ, List, [], ◌∷◌, true, false, sym, ap, ◌∙◌, subst}
 use Rattle.cga_word.specs.declared.primitive.Primitive.{Primitive}
-use Rattle.cga_frame.specs.Box.{Box, box_of, holds, is_box, meets, touches}
+use Rattle.cga_frame.specs.Box.{Box, box_of, holds, meets, touches}
 use Rattle.cga_frame.specs.Meeting.{Touches}
-use Rattle.cga_frame.specs.Scope.{Scope, far_of}
+use Rattle.cga_frame.specs.Scope.{Scope}
 use Rattle.cga_expand.proofs.Door.{sources_are_derivations}
-use Rattle.cga_frame.proofs.Door.{corners_box, holds_points, meets_touches, points_touch, touches_points}
+use Rattle.cga_frame.proofs.Door.{box_of_boxed, holds_points, meets_touches, points_touch, touches_points}
 use Rattle.cga_order.specs.declared.placed.Kind.{Kind}
 use Rattle.cga_order.specs.World.{Has, Among}
 use Rattle.cga_shape.specs.declared.lot.Lot.{Lot}
@@ -24,14 +24,11 @@ use Rattle.std.proofs.lemmas.Bool.{false_from_ne_true as no_point}
 
 -- ---- boxes in boxes
 
-scope_boxed : (s : Scope) → is_box (box_of s) ≡ true
-scope_boxed s = corners_box s.at (far_of s)
-
 module _ (h g : Box) (s t : Scope) (in_h : holds h (box_of s) ≡ true) (in_g : holds g (box_of t) ≡ true) where
   -- a point in which the two inner ones meet lies in both outer ones
   shared : meets (box_of s) (box_of t) ≡ true → Touches h g
   shared e =
-      let p = touches_points (box_of s) (box_of t) (scope_boxed s) (scope_boxed t) (meets_touches (box_of s) (box_of t) (scope_boxed s) e) in
+      let p = touches_points (box_of s) (box_of t) (box_of_boxed s) (box_of_boxed t) (meets_touches (box_of s) (box_of t) (box_of_boxed s) e) in
       record { point = p.point; first = holds_points h (box_of s) in_h p.point p.first; second = holds_points g (box_of t) in_g p.point p.second }
 
   far_first : touches h g ≡ false → meets (box_of s) (box_of t) ≡ false
@@ -82,6 +79,7 @@ module _ (hull : List ℕ → Box) (sources : Sources) where
       let two = two_meet_none hull sources part other differ (differ_left other (joined parts) apart) xs ys ends derived.0 held all.0 far.0 in
       (two.0, two.1, one_far part xs differ ends held parts lists (differ_right other (joined parts) apart) derived.1 all.1 far.1)
 
+-- districts whose hulls don't touch have no shapes that meet
 pub hulls_tell_apart : HullsTellApart
 hulls_tell_apart sources [] differ [] derived hull held far = tt
 hulls_tell_apart sources [] differ (ys ∷ lists) derived hull held far = absurd derived

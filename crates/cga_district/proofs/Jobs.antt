@@ -1,5 +1,5 @@
 -- Jobs of a town that are settled see alike, and so they are the town.
-use Rattle.std.proofs.Common.{◌≡◌, ℕ, List, [], ◌∷◌, ◌++◌, map, true, false, not, ◌&&◌, ◌||◌, refl, sym, ap, ◌∙◌, subst, ◌⊎◌, inl, inr, Result, Ok, Err, Some}
+use Rattle.std.proofs.Common.{◌≡◌, ℕ, List, [], ◌∷◌, ◌++◌, map, true, false, not, ◌&&◌, ◌||◌, refl, sym, ap, ◌∙◌, subst, ◌⊎◌, inl, inr, Ok, Some}
 use Rattle.std.specs.Prelude.{slice_get}
 use Rattle.std.proofs.lemmas.Bool.{and_parts as both, or_cases}
 use Rattle.cga_word.specs.declared.answers.Answers.{Answers}
@@ -7,7 +7,6 @@ use Rattle.cga_word.specs.declared.primitive.Primitive.{Primitive}
 use Rattle.cga_word.specs.declared.target.Target.{Target}
 use Rattle.cga_word.specs.declared.target.Target.TheVariants.{Noparent, Active}
 use Rattle.cga_frame.specs.Box.{box_of, meets}
-use Rattle.cga_frame.specs.declared.scope_fault.ScopeFault.{ScopeFault}
 use Rattle.cga_order.specs.World.{Among, Has, is_instance}
 use Rattle.cga_order.specs.declared.placed.Kind.{Kind}
 use Rattle.cga_order.proofs.Door.{Among-append, Among-index}
@@ -22,8 +21,8 @@ use Rattle.cga_derivation.specs.Laws.{ConsistentIsWithin}
 use Rattle.cga_derivation.specs.Stamps.{chain_in}
 use Rattle.cga_expand.specs.Asked.{asks_for, on_path, sees}
 use Rattle.cga_expand.specs.Children.{Member}
-use Rattle.cga_expand.specs.Derivation.{derivation_of, made, roots_of, NamesDiffer}
-use Rattle.cga_expand.proofs.Door.{sources_are_derivations}
+use Rattle.cga_expand.specs.Derivation.{derivation_of, roots_of, NamesDiffer}
+use Rattle.cga_expand.proofs.Door.{roots_of-append, sources_are_derivations}
 use Rattle.cga_district.specs.Districts.{district}
 use Rattle.cga_district.specs.Halos.{AreJobs, Job, LotsDiffer, SeesAlike, is_lot_of}
 use Rattle.cga_district.specs.Jobs.{AreJobsOf, AreSettled, HaveAlike, JobsAreTheTown, LotJob, lots_of, own_members, rooted}
@@ -32,18 +31,11 @@ use Rattle.cga_district.specs.Towns.{with_lots}
 use Rattle.cga_district.proofs.Districts.{lot_in}
 use Rattle.cga_district.proofs.Owned.{chain_same, lot_of, own_from, root_in}
 use Rattle.cga_district.proofs.Halos.{apart, back, into, whole, zs}
-use Rattle.cga_district.proofs.Lists.{Among-left, Among-right, filter-Has, map_from, map_to}
+use Rattle.cga_district.proofs.Lists.{filter-Has}
+use Rattle.cga_order.proofs.Door.{Among-left, Among-map, Among-right, map-Among}
 use Rattle.cga_district.proofs.Towns.{differ_right, lot_of_root, name_of, root_of_lot, two_names}
 
 -- ---- roots of lots that stand one behind the other
-
-made_first : (r : Result Shape ScopeFault) (xs ys zs : List Shape) → zs ≡ xs ++ ys → made r ++ zs ≡ (made r ++ xs) ++ ys
-made_first (Ok s) xs ys all e = ap (λ l. s ∷ l) e
-made_first (Err f) xs ys all e = e
-
-roots_append : (xs ys : List Lot) → roots_of (xs ++ ys) ≡ roots_of xs ++ roots_of ys
-roots_append [] ys = refl
-roots_append (x ∷ xs) ys = made_first (root_of x) (roots_of xs) (roots_of ys) (roots_of (xs ++ ys)) (roots_append xs ys)
 
 -- ---- the lots of jobs
 
@@ -68,7 +60,7 @@ lots_differ : (sources : Sources) (jobs : List LotJob) → NamesDiffer (joined (
 lots_differ sources [] differ = tt
 lots_differ sources (job ∷ jobs) differ = (
   (λ other n m o h g same.
-      let w = map_from rooted jobs other o in
+      let w = Among-map rooted jobs other o in
       let x = lot_of_root job.own n h in
       let y = lot_of_root w.0.own m (subst (λ (j : Job Shape Shape ShapeFault Primitive). Among m j.own) (sym w.2) g) in
       two_names job.own (joined (map (λ (job : LotJob). job.own) jobs)) differ x.0 y.0 x.1 (in_joined jobs w.0 y.0 w.1 y.1) (sym (name_of x.0 n x.2) ∙ (same ∙ name_of y.0 m y.2))),
@@ -114,10 +106,10 @@ module _ (sources : Sources) (differ : NamesDiffer sources.lots) (jobs : List Lo
   roots_are job = roots_of job.own ++ roots_of job.ring
 
   job_laws : (job : LotJob) → Among job jobs → IsDerivation (district D (roots_are job))
-  job_laws job j = subst (λ rs. IsDerivation (district D rs)) (roots_append job.own job.ring) (sources_are_derivations (with_lots sources (lots_of job)) (are.differ job j))
+  job_laws job j = subst (λ rs. IsDerivation (district D rs)) (roots_of-append job.own job.ring) (sources_are_derivations (with_lots sources (lots_of job)) (are.differ job j))
 
   job_derived : (job : LotJob) → Among job jobs → IsDerived (district D (roots_are job)) job.members
-  job_derived job j = subst (λ rs. IsDerived (district D rs) job.members) (roots_append job.own job.ring) (are.derived job j)
+  job_derived job j = subst (λ rs. IsDerived (district D rs) job.members) (roots_of-append job.own job.ring) (are.derived job j)
 
   laws : IsDerivation D
   laws = sources_are_derivations sources differ
@@ -127,14 +119,14 @@ module _ (sources : Sources) (differ : NamesDiffer sources.lots) (jobs : List Lo
     each = λ n h.
         let x = lot_of_root sources.lots n h in
         let w = job_of_lot jobs x.0 ((are.parts.same x.0).0 x.1) in
-        (rooted w.0, map_to rooted jobs w.0 w.1, root_of_lot w.0.own x.0 n w.2 x.2);
+        (rooted w.0, map-Among rooted jobs w.0 w.1, root_of_lot w.0.own x.0 n w.2 x.2);
     roots = λ job n j h.
-        let w = map_from rooted jobs job j in
+        let w = Among-map rooted jobs job j in
         let x = lot_of_root w.0.own n (subst (λ (y : Rooted). Among n y.own) (sym w.2) h) in
         root_of_lot sources.lots x.0 n ((are.parts.same x.0).1 (in_joined jobs w.0 x.0 w.1 x.1)) x.2;
     lots = lots_differ sources jobs are.parts.differ;
-    laws = λ job j. let w = map_from rooted jobs job j in subst (λ (y : Rooted). IsDerivation (district D (y.own ++ y.ring))) w.2 (job_laws w.0 w.1);
-    derived = λ job j. let w = map_from rooted jobs job j in subst (λ (y : Rooted). IsDerived (district D (y.own ++ y.ring)) y.members) w.2 (job_derived w.0 w.1);
+    laws = λ job j. let w = Among-map rooted jobs job j in subst (λ (y : Rooted). IsDerivation (district D (y.own ++ y.ring))) w.2 (job_laws w.0 w.1);
+    derived = λ job j. let w = Among-map rooted jobs job j in subst (λ (y : Rooted). IsDerived (district D (y.own ++ y.ring)) y.members) w.2 (job_derived w.0 w.1);
   }
 
   -- the lot of a member of a job is one of its lots, and has a root
@@ -166,8 +158,8 @@ module _ (sources : Sources) (differ : NamesDiffer sources.lots) (jobs : List Lo
         → Has other.members m i
         → Has job.members m i × Has list m i × (chain_in D job.members m ≡ chain_in D list m)
     as_derived other o y own alike m i e h =
-        let to = into D laws (map rooted jobs) roots_are_jobs (rooted other) (map_to rooted jobs other o) in
-        let from = back D laws (map rooted jobs) roots_are_jobs (rooted other) (map_to rooted jobs other o) in
+        let to = into D laws (map rooted jobs) roots_are_jobs (rooted other) (map-Among rooted jobs other o) in
+        let from = back D laws (map rooted jobs) roots_are_jobs (rooted other) (map-Among rooted jobs other o) in
         let is_own : (n : Shape) → n.lot ≡ y → is_lot_of D (roots_of other.own) n.lot ≡ true = λ n q. ap (is_lot_of D (roots_of other.own)) q ∙ own in
         let chain = chain_same D job.members list m (apart D laws (map rooted jobs) roots_are_jobs)
         (λ n k q g. to n k (is_own n (q ∙ e)) ((alike n k (q ∙ e)).0 g))
@@ -209,7 +201,7 @@ module _ (sources : Sources) (differ : NamesDiffer sources.lots) (jobs : List Lo
               by_lots o.0 o.1 x.0 z.0 x.1 o.2 own n m k i mine.0 x.2 plain v lot (inl g)
           | inr g ↦
               let w = own_from D (map rooted jobs) m i g in
-              let o = map_from rooted jobs w.0 w.1 in
+              let o = Among-map rooted jobs w.0 w.1 in
               let own : is_lot_of D (roots_of o.0.own) m.lot ≡ true = subst (λ (y : Rooted). is_lot_of D y.own m.lot ≡ true) (sym o.2) w.3 in
               let y = own_lot o.0 m.lot own in
               by_lots o.0 o.1 x.0 y.0 x.1 y.1 (ap (is_lot_of D (roots_of o.0.own)) (sym y.2) ∙ own) n m k i mine.0 x.2 plain v y.2 (inr (subst (λ (y : Rooted). Has y.members m i) (sym o.2) w.2))
@@ -228,14 +220,14 @@ module _ (sources : Sources) (differ : NamesDiffer sources.lots) (jobs : List Lo
   -- of its own lots a job derived what stands in the list
   own_alike : (job : LotJob) (x : Lot) → Among job jobs → Among x job.own → HaveAlike x.name whole_list job.members
   own_alike job x j h s k e =
-      let there = map_to rooted jobs job j in
+      let there = map-Among rooted jobs job j in
       let by_root : (z : Lot) (r : Shape) → Among z sources.lots → root_of z ≡ Ok r → s.lot ≡ r.lot → is_lot_of D (roots_of job.own) s.lot ≡ true =
       λ z r town root lot.
       let is = one_lot sources.lots differ z x town (of_town job j x (Among-left job.own job.ring x h)) (sym (name_of z r root) ∙ (sym lot ∙ e)) in
       ap (is_lot_of D (roots_of job.own)) lot ∙ lot_of D (roots_of job.own) r (root_of_lot job.own x r h (ap root_of (sym is) ∙ root)) in (
         λ g.
             let w = own_from D (map rooted jobs) s k g in
-            let o = map_from rooted jobs w.0 w.1 in
+            let o = Among-map rooted jobs w.0 w.1 in
             let r = root_in D (roots_of o.0.own) s.lot (subst (λ (y : Rooted). is_lot_of D y.own s.lot ≡ true) (sym o.2) w.3) in
             let z = lot_of_root o.0.own r.0 r.1 in
             back D laws (map rooted jobs) roots_are_jobs (rooted job) there s k (by_root z.0 r.0 (of_town o.0 o.1 z.0 (Among-left o.0.own o.0.ring z.0 z.1)) z.2 (sym r.2)) g,
@@ -248,7 +240,7 @@ pub jobs_are_the_town : ConsistentIsWithin Shape Answers ShapeFault Primitive �
 jobs_are_the_town bound sources differ jobs are settled =
     let w = whole (derivation_of sources) (sources_are_derivations sources differ) (map rooted jobs) (roots_are_jobs sources differ jobs are)
     (λ job j.
-    let w = map_from rooted jobs job j in
+    let w = Among-map rooted jobs job j in
     subst (SeesAlike (derivation_of sources) (map rooted jobs)) w.2 (sees_alike sources differ jobs are settled w.0 w.1))
     bound in (
       w.0,

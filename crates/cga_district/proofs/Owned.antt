@@ -16,6 +16,7 @@ use Rattle.cga_derivation.proofs.Door.{Has-places, first_of-Has, first_of-passes
 use Rattle.cga_district.specs.Halos.{Job, LotsDiffer, all_own, is_lot_of, own_of}
 use Rattle.cga_district.proofs.Lists.{filter-Has}
 use Rattle.cga_district.proofs.Turns.{one_member}
+use Rattle.std.proofs.lemmas.Bool.{or_right}
 
 -- ---- places, and the priorities that are found there
 
@@ -105,10 +106,6 @@ module _ {N A F P : Type 0} (derivation : Derivation N A F P) where
       λ i. record { lot = derivation.lot n; path = derivation.path n; priorities = ps i }
 
   -- ---- the lots of roots
-
-  or_right : (a b : Bool) → b ≡ true → (a || b) ≡ true
-  or_right true b e = refl
-  or_right false b e = e
 
   pub lot_of : (roots : List N) (r : N) → Among r roots → is_lot_of derivation roots (derivation.lot r) ≡ true
   lot_of [] r h = absurd h

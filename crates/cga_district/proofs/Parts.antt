@@ -11,7 +11,7 @@ use Rattle.cga_expand.specs.Children.{Member}
 use Rattle.cga_expand.specs.Derivation.{derivation_of}
 use Rattle.cga_district.specs.Towns.{with_lots, AreLots, NoneAsks, MeetsNone}
 use Rattle.cga_district.specs.Parts.{joined, total, ArePartsOf, AreDerived, MeetsNoOther, AllMeetNone, PartsAreApart}
-use Rattle.cga_district.proofs.Lists.{Among-left, Among-right}
+use Rattle.cga_order.proofs.Door.{Among-left, Among-right}
 use Rattle.cga_district.proofs.Towns.{differ_right, towns}
 
 -- a town without lots
@@ -66,6 +66,7 @@ behind : (grammar : Grammar) (xs : List Member) (lists : List (List Member))
 behind grammar xs lists (inl quiet) = inl quiet
 behind grammar xs lists (inr far) = inr far.1
 
+-- any number of districts that are apart are derived apart
 pub parts_are_apart : PartsAreApart
 parts_are_apart sources differ [] all [] derived far =
     let none = empty sources.lots (λ x h. (all.same x).0 h) in

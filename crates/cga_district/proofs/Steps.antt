@@ -18,7 +18,7 @@ use Rattle.cga_expand.specs.Run.{IsRun, run_to, step_of, traced}
 use Rattle.cga_expand.proofs.Door.{sources_are_derivations}
 use Rattle.cga_district.specs.Towns.{with_lots}
 use Rattle.cga_district.proofs.Jobs.{one_lot}
-use Rattle.cga_district.proofs.Lists.{Among-left, Among-right}
+use Rattle.cga_order.proofs.Door.{Among-left, Among-right}
 use Rattle.cga_district.proofs.Towns.{lot_of_root, name_of, root_of_lot}
 use Rattle.cga_district.proofs.Alike.{has_there}
 use Rattle.cga_district.proofs.Turns.{before_end}

@@ -16,7 +16,7 @@ use Rattle.cga_district.specs.Told.{AgreeOn, HaveSameSteps, IsToldOf, Told, Told
 use Rattle.cga_district.specs.Towns.{with_lots}
 use Rattle.cga_district.proofs.Hulls.{far_second, lot_among}
 use Rattle.cga_district.proofs.Jobs.{of_town, one_lot}
-use Rattle.cga_district.proofs.Lists.{Among-left}
+use Rattle.cga_order.proofs.Door.{Among-left}
 use Rattle.cga_district.proofs.Steps.{IsEnded, lot_there}
 
 module _ (sources : Sources) (differ : NamesDiffer sources.lots) (jobs : List LotJob) (are : AreJobsOf sources jobs) where

@@ -5,7 +5,7 @@ use Rattle.cga_word.specs.declared.target.Target.TheVariants.{Noparent, Active}
 use Rattle.cga_frame.specs.Box.{box_of, meets}
 use Rattle.cga_frame.specs.declared.scope_fault.ScopeFault.{ScopeFault}
 use Rattle.cga_order.specs.World.{Among}
-use Rattle.cga_expand.proofs.Door.{root_is, sources_are_derivations}
+use Rattle.cga_expand.proofs.Door.{among_behind_made, root_is, sources_are_derivations}
 use Rattle.cga_order.proofs.Door.{Among-index, slice_get-within}
 use Rattle.cga_rule.specs.declared.grammar.Grammar.{Grammar}
 use Rattle.cga_shape.specs.declared.lot.Lot.{Lot}
@@ -18,8 +18,9 @@ use Rattle.cga_expand.specs.Derivation.{derivation_of, NamesDiffer, roots_of, ma
 use Rattle.cga_district.specs.Districts.{AreParts, SeesNone}
 use Rattle.cga_district.specs.Towns.{with_lots, AreLots, NoneAsks, MeetsNone, LotsAreApart}
 use Rattle.cga_district.proofs.Districts.{districts}
-use Rattle.cga_district.proofs.Lists.{get-left, get-right}
+use Rattle.cga_district.proofs.Lists.{get-right}
 use Rattle.std.proofs.lemmas.Bool.{or_cases as either_asks}
+use Rattle.cga_fraction.proofs.Door.{slice_get-append_left}
 
 -- ---- roots and their lots
 
@@ -37,34 +38,33 @@ pub lot_of_root : (lots : List Lot) (n : Shape) → Among n (roots_of lots)
 lot_of_root [] n h = absurd h
 lot_of_root (x ∷ lots) n h = from_first x lots (root_of x) refl n (lot_of_root lots) h
 
-behind : (r : Result Shape ScopeFault) (ns : List Shape) (n : Shape) → Among n ns → Among n (made r ++ ns)
-behind (Ok s) ns n h = inr h
-behind (Err f) ns n h = h
-
 pub root_of_lot : (lots : List Lot) (x : Lot) (n : Shape) → Among x lots → root_of x ≡ Ok n → Among n (roots_of lots)
 root_of_lot [] x n h e = absurd h
 root_of_lot (y ∷ lots) x n h e = elim h [
   | inl q ↦ subst (λ r. Among n (made r ++ roots_of lots)) (sym (ap root_of q ∙ e)) (inl refl)
-  | inr r ↦ behind (root_of y) (roots_of lots) n (root_of_lot lots x n r e)
+  | inr r ↦ among_behind_made (root_of y) (roots_of lots) n (root_of_lot lots x n r e)
 ]
 
 -- ---- names
 
+-- where the names of lots differ, so do those of the first of them
 pub differ_left : (xs ys : List Lot) → NamesDiffer (xs ++ ys) → NamesDiffer xs
-differ_left xs ys differ i j a b e f = differ i j a b (get-left xs ys i a e) (get-left xs ys j b f)
+differ_left xs ys differ i j a b e f = differ i j a b (slice_get-append_left xs ys i a e) (slice_get-append_left xs ys j b f)
 
+-- where the names of lots differ, so do those of the last of them
 pub differ_right : (xs ys : List Lot) → NamesDiffer (xs ++ ys) → NamesDiffer ys
 differ_right xs ys differ i j a b e f same =
     let h = differ (length xs + i) (length xs + j) a b (get-right xs ys _ i a e refl) (get-right xs ys _ j b f refl) same in
     omega (arith, h)
 
+-- where the names of lots differ, none of the first has the name of one of the last
 pub two_names : (xs ys : List Lot) → NamesDiffer (xs ++ ys) → (x y : Lot) → Among x xs → Among y ys → x.name ≡ y.name
     → ⊥
 two_names xs ys differ x y h g same =
     let i = Among-index xs x h in
     let j = Among-index ys y g in
     let below = slice_get-within xs i.0 x i.1 in
-    let at = differ i.0 (length xs + j.0) x y (get-left xs ys i.0 x i.1) (get-right xs ys _ j.0 y j.1 refl) same in
+    let at = differ i.0 (length xs + j.0) x y (slice_get-append_left xs ys i.0 x i.1) (get-right xs ys _ j.0 y j.1 refl) same in
     omega (arith, below, at)
 
 pub name_of : (x : Lot) (n : Shape) → root_of x ≡ Ok n → n.lot ≡ x.name
@@ -103,6 +103,7 @@ module _ (sources : Sources) (differ : NamesDiffer sources.lots) (left right : L
     | inr far ↦ far n m k j target a p e b
   ])
 
+-- two districts that are apart are derived apart
 pub towns : LotsAreApart
 towns sources differ left right lots xs ys ends_left ends_right far =
     districts (derivation_of sources) (sources_are_derivations sources differ) (roots_of left) (roots_of right) (parts sources differ left right lots)

@@ -10,7 +10,7 @@ use Rattle.cga_order.specs.World.{Has, is_instance, is_waiting}
 use Rattle.cga_order.specs.Consistent.{Stands}
 use Rattle.cga_order.proofs.Door.{Has-append, Has-index, Has-left, Has-right}
 use Rattle.cga_derivation.specs.Derivation.{AllApart, Derivation, IsDerivation, NothingWaits, asked, become, is_next, next_of, outcome, place_of, reached, same_place, step, step_by, told}
-use Rattle.cga_derivation.proofs.Door.{apart-reached, first_of-Has, first_of-passes, settled-reached, waiting_kind}
+use Rattle.cga_derivation.proofs.Door.{apart-reached, first_of-Has, first_of-passes, same_place-is, settled-reached, waiting_kind}
 
 -- the kind that a turn leaves
 abbrev pub kind_of : {N F P : Type 0} → Result (List (Placed N F P)) F → Kind F P
@@ -35,11 +35,6 @@ module _ {N A F P : Type 0} (derivation : Derivation N A F P) where
       let one : Some a.1 ≡ Some b.1 = sym a.2 ∙ (ap (slice_get list) index ∙ b.2) in
       let is : a.1 ≡ b.1 = cc in
       (sym a.3 ∙ (ap (λ (x : Placed N F P). x.shape) is ∙ b.3), sym a.4 ∙ (ap (λ (x : Placed N F P). x.kind) is ∙ b.4))
-
-  place_same : (n m : N) → same_place derivation n m ≡ true → place_of derivation n ≡ place_of derivation m
-  place_same n m e =
-      let parts = both _ _ e in
-      λ i. ((bytes_decides (derivation.lot n) (derivation.lot m)).0 parts.0 i, (bytes_decides (derivation.path n) (derivation.path m)).0 parts.1 i)
 
   same_self : (n : N) → same_place derivation n n ≡ true
   same_self n =
@@ -142,7 +137,7 @@ module _ {N A F P : Type 0} (derivation : Derivation N A F P) where
         by None e = inl (subst (λ l. Has l x k) (sym (quiet n e)) h)
         by (Some m) e = elim (either (same_place derivation x m.shape)) [
           | inl t ↦
-              let one = one_member (reached derivation n) (apart-reached derivation laws n) x m.shape k Waiting h (taken_waits n m e) (place_same x m.shape t) in
+              let one = one_member (reached derivation n) (apart-reached derivation laws n) x m.shape k Waiting h (taken_waits n m e) (same_place-is derivation x m.shape t) in
               let now = kind_of (came n m) in
               let there = told_left (reached derivation n) m.shape (came n m) x now (become_at m.shape now (reached derivation n) x k h t) in
               inr (one.1, (now, subst (λ l. Has l x now) (sym (turned n m e)) there, kind_plain (came n m)))
@@ -201,7 +196,7 @@ module _ {N A F P : Type 0} (derivation : Derivation N A F P) where
           | inl g ↦ elim (become_from m.shape (kind_of (came n m)) (reached derivation n) x k g) [
             | inl a ↦ inl a
             | inr a ↦
-                let one = one_member (reached derivation n) (apart-reached derivation laws n) x m.shape a.2.0 Waiting a.2.1 (taken_waits n m e) (place_same x m.shape a.0) in
+                let one = one_member (reached derivation n) (apart-reached derivation laws n) x m.shape a.2.0 Waiting a.2.1 (taken_waits n m e) (same_place-is derivation x m.shape a.0) in
                 inr (m, e, inl (sym one.0, a.1))
           ]
           | inr g ↦ inr (m, e, inr g)

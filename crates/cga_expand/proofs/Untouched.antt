@@ -9,7 +9,7 @@ use Rattle.cga_order.specs.declared.placed.Placed.{Placed}
 use Rattle.cga_order.specs.declared.placed.Kind.{Kind}
 use Rattle.cga_order.specs.declared.placed.Kind.TheVariants.{Waiting, Done, Faulted, Instance}
 use Rattle.cga_order.specs.World.{Has, Among, IsNew, is_instance}
-use Rattle.cga_derivation.proofs.Door.{apart-reached, become-set, derived_consistent, first_of-Has}
+use Rattle.cga_derivation.proofs.Door.{Has-set, apart-reached, become-set, derived_consistent, first_of-Has}
 use Rattle.cga_order.proofs.Door.{Has-append, Has-index}
 use Rattle.std.proofs.lemmas.Bool.{cases_Bool as either}
 use Rattle.cga_derivation.specs.Consistent.{IsConsistent, IsMade}
@@ -21,15 +21,6 @@ use Rattle.cga_expand.specs.Touched as touched
 use Rattle.cga_expand.proofs.Instance.{sources_are_derivations}
 
 module _ {N F P : Type 0} where
-  Has-set : (xs : List (Placed N F P)) (i : ℕ) (v : Placed N F P) (x : N) (k : Kind F P) → Has (slice_set xs i v) x k
-      → ((v.shape ≡ x) × (v.kind ≡ k)) ⊎ Has xs x k
-  Has-set [] i v x k h = absurd h
-  Has-set (y ∷ xs) zero v x k h = elim h [ inl e ↦ inl e | inr r ↦ inr (inr r) ]
-  Has-set (y ∷ xs) (suc i) v x k h = elim h [
-    | inl e ↦ inr (inl e)
-    | inr r ↦ elim (Has-set xs i v x k r) [ inl e ↦ inl e | inr q ↦ inr (inr q) ]
-  ]
-
   all_wait : (rs : List N) (x : N) (k : Kind F P) → Has (map (λ n. record { shape = n; kind = Waiting }) rs) x k
       → k ≡ Waiting
   all_wait [] x k h = absurd h

@@ -16,12 +16,13 @@ use Rattle.cga_facing.proofs.Products.{Shows}
 use Rattle.cga_facing.proofs.Sides.{IsOver, Whole, before, behind, in_plane, is_behind, product, side_shows}
 use Rattle.cga_facing.proofs.Spots.{ArePositive, Spot, all_right, level_is, lower_is, numbered, stands, stands_at, whole_of}
 use Rattle.cga_facing.proofs.Spots.{cube, shed, gable_x, gable_z, hip_x, hip_z, pyramid, quad}
-use Rattle.cga_facing.proofs.Measures.{at_least, three_sizes, two_sizes}
+use Rattle.cga_facing.proofs.Measures.{three_sizes, two_sizes}
 use Rattle.cga_facing.proofs.Fits.{AreSpots, fits_at}
 use Rattle.cga_facing.proofs.Table.{cube_fits, shed_fits, gable_x_fits, gable_z_fits, hip_x_fits, hip_z_fits, pyramid_fits}
 use Rattle.cga_facing.proofs.Table.{quad_fits}
 use Rattle.cga_facing.proofs.Placed.{mesh_is, placed_at}
 use Rattle.cga_facing.proofs.World.{placed_shows}
+use Rattle.cga_fraction.proofs.Door.{true_from_not}
 
 -- the point that the spot of a number is
 abbrev whole_at : List Spot → ℕ → ℕ → ℕ → ℕ → Whole
@@ -158,8 +159,8 @@ module _ (vertices : List Point) (corners : List Point) (see : (spots : List Spo
       (rat_lt size.z size.x) (λ e made is. looks hip_x ridge_along_x (hip_x_fits size corners m e made) refl is)
       (λ e. by_case (λ form. corners_of form size ≡ Ok corners → Contains (faces_of form) face → LooksOut vertices face) _ _
       (rat_lt size.x size.z) (λ f made is. looks hip_z ridge_along_z (hip_z_fits size corners m f made) refl is)
-      (λ f made is. looks pyramid to_a_point (pyramid_fits size corners m (at_least (rat_le size.x size.z) e)
-      (at_least (rat_le size.z size.x) f) made) refl is)) made is
+      (λ f made is. looks pyramid to_a_point (pyramid_fits size corners m (true_from_not (rat_le size.x size.z) e)
+      (true_from_not (rat_le size.z size.x) f) made) refl is)) made is
 
 pub solids_face_out : SolidsFaceOut
 solids_face_out kind size some corners made face is =

@@ -1,19 +1,19 @@
 -- Sizes above 0 as whole numbers over one denominator.
-use Rattle.std.proofs.Common.{◌≡◌, ℕ, zero, suc, ◌+◌, ◌-◌, ◌*◌, ◌<◌, ◌≤◌, arith, Bool, true, false, refl, ap, subst, Ok}
-use Rattle.std.specs.Prelude.{IsTrue, not, ◌||◌}
+use Rattle.std.proofs.Common.{◌≡◌, ℕ, zero, suc, ◌+◌, ◌-◌, ◌*◌, ◌<◌, ◌≤◌, arith, false, ap, subst, Ok}
+use Rattle.std.specs.Prelude.{IsTrue, ◌||◌}
 use Rattle.std.proofs.Math.Nat.{mul-pos, mul-le-mul_right, le_of_mul-le-mul_right}
 use Rattle.cga_fraction.specs.Rat.{Rat, den, zero_rat}
 use Rattle.cga_fraction.specs.Order.{rat_le, rat_lt}
 use Rattle.cga_fraction.specs.Arithmetic.{minus, divided}
-use Rattle.cga_fraction.specs.Refusals.{checked}
-use Rattle.cga_fraction.proofs.Door.{IsRatio, checked_is, divided_ratio, le_ratio, like, lt_le, lt_not_le, minus_ratio}
-use Rattle.cga_fraction.proofs.Door.{or_err-ok, or_false_first, or_false_second, ratio_le, shown_ratio, whole_ratio}
+use Rattle.cga_fraction.proofs.Door.{IsRatio, divided_ratio, le_ratio, like, lt_le, lt_not_le, minus_ratio}
+use Rattle.cga_fraction.proofs.Door.{or_false_first, or_false_second, ratio_le, shown_ratio, whole_ratio}
 use Rattle.cga_fraction.proofs.Door.{zero_ratio}
 use Rattle.cga_frame.specs.declared.point.Point.{Point}
 use Rattle.cga_solid.specs.Corners.{half_of, two}
 use Rattle.cga_solid.specs.Faults.{within}
 use Rattle.cga_solid.specs.Solids.{is_flat}
-use Rattle.cga_solid.specs.declared.solid_fault.SolidFault.TheVariants.{Overflow}
+use Rattle.cga_solid.proofs.Door.{within_is}
+use Rattle.cga_fraction.proofs.Door.{true_from_not}
 
 -- a size above 0, as a ratio
 pub record IsSize (a : Rat) : Type 0 where
@@ -23,21 +23,13 @@ pub record IsSize (a : Rat) : Type 0 where
 
 size_is : (a : Rat) → is_flat a ≡ false → IsSize a
 size_is a f =
-    let l : IsTrue (rat_lt zero_rat a) = positive (rat_lt zero_rat a) f in
+    let l : IsTrue (rat_lt zero_rat a) = true_from_not (rat_lt zero_rat a) f in
     let r = shown_ratio a (lt_le zero_rat a l) in
     record { top = r.0; above = above_zero r.0 r.1 l; ratio = r.1 }
   where
-    positive : (b : Bool) → not b ≡ false → b ≡ true
-    positive true h = refl
-    positive false h = absurd (cc)
-
     above_zero : (n : ℕ) → IsRatio a n (den a) → IsTrue (rat_lt zero_rat a) → 0 < n
     above_zero zero r l = absurd (lt_not_le zero_rat a l (le_ratio a zero_rat 0 (den a) 0 1 r zero_ratio (omega arith)))
     above_zero (suc n) r l = omega arith
-
--- what is in range is the number
-within_is : (a q : Rat) → within a ≡ Ok q → a ≡ q
-within_is a q h = checked_is a q (or_err-ok Overflow (checked a) q h)
 
 pub half_ratio : (a m : Rat) (n d : ℕ) → half_of a ≡ Ok m → IsRatio a (n * 2) (d * 2) → IsRatio m n (d * 2)
 half_ratio a m n d h r =
@@ -104,10 +96,6 @@ less a b n m d r s l =
 
 pub at_most : (a b : Rat) (n m d : ℕ) → IsRatio a n d → IsRatio b m d → IsTrue (rat_le a b) → n ≤ m
 at_most a b n m d r s l = le_of_mul-le-mul_right (ratio_le a b n d m d r s l) r.positive
-
-pub at_least : (a : Bool) → not a ≡ false → a ≡ true
-at_least true h = refl
-at_least false h = absurd (cc)
 
 pub three_sizes : (size : Point) → (is_flat size.x || is_flat size.y || is_flat size.z) ≡ false
     → Measures size.x size.y size.z

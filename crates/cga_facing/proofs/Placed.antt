@@ -1,29 +1,16 @@
 -- What a mesh that is given was made of: corners, each of them placed.
-use Rattle.std.proofs.Common.{◌≡◌, ℕ, zero, suc, List, [], ◌∷◌, Bool, true, false, refl, subst, sym, ◌∙◌, Ok, Err, Some, Result}
-use Rattle.std.specs.Prelude.{if◌then◌else◌, slice_get}
-use Rattle.cga_fraction.specs.Results.{err_if, or_err}
+use Rattle.std.proofs.Common.{◌≡◌, ℕ, zero, suc, List, [], ◌∷◌, false, refl, subst, sym, ◌∙◌, Ok, Some}
+use Rattle.std.specs.Prelude.{slice_get}
 use Rattle.cga_fraction.specs.declared.overflow.Overflow as Unit
-use Rattle.cga_fraction.proofs.Door.{None-not-Some, and_then-ok, same_Ok, same_Some}
+use Rattle.cga_fraction.proofs.Door.{None-not-Some, and_then-ok, err_if-ok, same_Ok, same_Some}
 use Rattle.cga_word.specs.declared.primitive.Primitive.{Primitive}
-use Rattle.cga_frame.specs.Points.{checked_point, point_in_range}
 use Rattle.cga_frame.specs.Scope.{Scope, place_of}
 use Rattle.cga_frame.specs.declared.point.Point.{Point}
 use Rattle.cga_solid.specs.Corners.{corners_of}
 use Rattle.cga_solid.specs.Solids.{all_placed, form_of, lacks_size, mesh_in, mesh_of, placed, vertices_of}
-use Rattle.cga_solid.specs.declared.solid_fault.SolidFault.{SolidFault}
 use Rattle.cga_solid.specs.declared.solid_fault.SolidFault.TheVariants as fault
 use Rattle.cga_solid.specs.declared.solid_mesh.SolidMesh.{SolidMesh}
-
-point_is : (p v : Point) (b : Bool)
-    → ◌≡◌ {A = Result Point SolidFault}
-    (or_err {E = Unit.Overflow} fault.Overflow (if b then Ok p else Err (record {}))) (Ok v)
-    → p ≡ v
-point_is p v true h = same_Ok p v h
-point_is p v false h = absurd (cc)
-
-placed_is : (s : Scope) (c v : Point) → placed s c ≡ Ok v → place_of s.at s.frame c ≡ v
-unfolding checked_point
-placed_is s c v h = point_is (place_of s.at s.frame c) v (point_in_range (place_of s.at s.frame c)) h
+use Rattle.cga_solid.proofs.Door.{placed_is}
 
 -- each vertex is the corner at its place, placed
 at_first : (s : Scope) (c : Point) (cs vs : List Point) → all_placed s (c ∷ cs) ≡ Ok vs
@@ -47,11 +34,6 @@ placed_at s (c ∷ cs) vs (suc k) v h g =
     let e = subst (λ (l : List Point). slice_get l (suc k) ≡ Some v) f.4 g in
     placed_at s cs f.1 k v f.3 e
 
-not_refused : {A F : Type 0} (test : Bool) (fault : F) (more : Result A F) (y : A) → err_if test fault more ≡ Ok y
-    → (test ≡ false) × (more ≡ Ok y)
-not_refused true fault more y h = absurd (cc)
-not_refused false fault more y h = (refl, h)
-
 pub record IsMade (kind : Primitive) (s : Scope) (mesh : SolidMesh) : Type 0 where
   pub some : lacks_size kind s.size ≡ false
   pub corners : List Point
@@ -63,7 +45,7 @@ pub record IsMade (kind : Primitive) (s : Scope) (mesh : SolidMesh) : Type 0 whe
 pub mesh_is : (kind : Primitive) (s : Scope) (mesh : SolidMesh) → mesh_of kind s ≡ Ok mesh → IsMade kind s mesh
 unfolding mesh_of
 mesh_is kind s mesh h =
-    let n = not_refused (lacks_size kind s.size) _ _ mesh h in
+    let n = err_if-ok (lacks_size kind s.size) _ _ mesh h in
     let a = and_then-ok (vertices_of (form_of kind s.size) s) _ mesh n.1 in
     let b = and_then-ok (corners_of (form_of kind s.size) s.size) _ a.0 a.1 in
     record { some = n.0; corners = b.0; made = b.1; vertices = a.0; placed = b.2; same = same_Ok _ mesh a.2 }

@@ -1,27 +1,19 @@
 -- Numbers that are each shown as a difference of naturals over a natural: what their differences and products are.
 use Rattle.std.proofs.Common.{◌≡◌, ℕ, ◌+◌, ◌*◌, ◌<◌, arith, ap}
-use Rattle.std.proofs.Math.Nat.{mul-pos, eq_of_mul-eq-mul_right}
+use Rattle.std.proofs.Math.Nat.{mul-pos}
 use Rattle.cga_fraction.specs.Rat.{Rat, den}
 use Rattle.cga_fraction.specs.Arithmetic.{minus, times}
 use Rattle.cga_fraction.specs.Order.{positive_part, negative_part}
-use Rattle.cga_fraction.proofs.Door.{IsRatio, minus_of, times_diff}
+use Rattle.cga_fraction.proofs.Door.{IsRatio, cross_trans, minus_of, times_diff}
 
 -- q is (u - v) / d
 pub record Shows (q : Rat) (u v d : ℕ) : Type 0 where
   pub positive : 0 < d
   pub same : positive_part q.num * d + v * den q ≡ u * den q + negative_part q.num * d
 
-swap : (p m q u v d w x e : ℕ) → 0 < d → p * d + v * q ≡ u * q + m * d → u * e + x * d ≡ w * d + v * e
-    → p * e + x * q ≡ w * q + m * e
-swap p m q u v d w x e h s k =
-    let a : (p * d + v * q) * e ≡ (u * q + m * d) * e = ap (λ z. z * e) s in
-    let b : (u * e + x * d) * q ≡ (w * d + v * e) * q = ap (λ z. z * q) k in
-    let c : (p * e + x * q) * d ≡ (w * q + m * e) * d = omega arith in
-    eq_of_mul-eq-mul_right d h (p * e + x * q) (w * q + m * e) c
-
 -- the same number by other naturals
 pub shown : (q : Rat) (u v d w x e : ℕ) → Shows q u v d → u * e + x * d ≡ w * d + v * e → 0 < e → Shows q w x e
-shown q u v d w x e r k h = record { positive = h; same = swap (positive_part q.num) (negative_part q.num) (den q) u v d w x e r.positive r.same k }
+shown q u v d w x e r k h = record { positive = h; same = cross_trans (positive_part q.num) (negative_part q.num) (den q) u v d w x e r.positive r.same k }
 
 over : (u v w x d : ℕ) → u + x ≡ w + v → u * d + x * d ≡ w * d + v * d
 over u v w x d h = let k : (u + x) * d ≡ (w + v) * d = ap (λ z. z * d) h in omega arith

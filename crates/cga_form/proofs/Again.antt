@@ -38,10 +38,12 @@ pub record Misses (test : Lexeme → Bool) (ps : Pieces) (s : Lexeme → Bool) :
 
 -- ---- beginnings
 
+-- a token first is none that the test passes, if it doesn't pass it
 pub begun_token : {test : Lexeme → Bool} {sp : Space} {l : Lexeme} {qs : Pieces} → test l ≡ false
     → Begun test (token sp l ∷ qs)
 begun_token {test = test} {sp = sp} {l = l} {qs = qs} e = record { begun = λ c x d r w. ap (λ z. begins test (z ++ r)) (head_of c sp l qs x d w).1 ∙ e }
 
+-- a token first is one that the test passes, if it does
 pub starts_token : {test : Lexeme → Bool} {sp : Space} {l : Lexeme} {qs : Pieces} → test l ≡ true
     → Starts test (token sp l ∷ qs)
 starts_token {test = test} {sp = sp} {l = l} {qs = qs} e = record { starts = λ c x d r w. ap (λ z. begins test (z ++ r)) (head_of c sp l qs x d w).1 ∙ e }
@@ -51,10 +53,12 @@ rand_of : (c j : ℕ) (ps : Pieces) (x : List Lexeme) (d : ℕ) → Writes c (dr
 unfolding Writes
 rand_of c j ps x d w = (w.1, w.3 ∙ ap (λ z. z ++ w.1) w.4.0, w.4.1, subst (λ n. Writes n ps w.1 d) w.4.2 w.5)
 
+-- what is never written isn't written
 pub never_written : (c : ℕ) (ps : Pieces) (x : List Lexeme) (d : ℕ) → Writes c (never ∷ ps) x d → ⊥
 unfolding Writes
 never_written c ps x d w = w.4
 
+-- a drawn word first is no token that the test passes, if it doesn't pass `rand`
 pub begun_drawn : {test : Lexeme → Bool} {j : ℕ} {qs : Pieces} → test (lexeme.Keyword k.Rand) ≡ false
     → Begun test (drawn j ∷ qs)
 begun_drawn {test = test} {j = j} {qs = qs} e = record { begun = λ c x d r w. ap (λ z. begins test (z ++ r)) (rand_of c j qs x d w).1 ∙ e }
@@ -65,10 +69,12 @@ named_by : (test : Lexeme → Bool) (name : List ℕ) (qs : Pieces) → test (le
 named_by test name qs e true c x d r w = absurd (never_written c qs x d w)
 named_by test name qs e false c x d r w = (begun_token e).begun c x d r w
 
+-- a name first is no token that the test passes, if it doesn't pass the name
 pub begun_named : {test : Lexeme → Bool} {qs : Pieces} (name : List ℕ) → test (lexeme.Name name) ≡ false
     → Begun test (named name ∷ qs)
 begun_named {test = test} {qs = qs} name e = record { begun = λ c x d r w. named_by test name qs e (is_reserved name) c x d r w }
 
+-- pieces that begin with no token that the test passes don't with more behind them, either
 pub begun_append : {test : Lexeme → Bool} {ps : Pieces} (qs : Pieces) → Begun test ps → Begun test (ps ++ qs)
 begun_append {test = test} {ps = ps} qs h = record {
   begun = λ c x d r w.
@@ -83,16 +89,19 @@ starts_append {test = test} {ps = ps} qs h = record {
       ap (begins test) (ap (λ z. z ++ r) t.3 ∙ append_assoc t.0 t.1 r) ∙ h.starts c t.0 t.2 (t.1 ++ r) t.4;
 }
 
+-- pieces that begin with no token that the test passes miss it, whatever comes behind them
 pub missed : {test s : Lexeme → Bool} {ps : Pieces} → Begun test ps → Misses test ps s
 missed h = record { misses = λ c x d r w e. h.begun c x d r w }
 
-less : {test s : Lexeme → Bool} → ((l : Lexeme) → s l ≡ false → test l ≡ false) → (r : List Lexeme) → begins s r ≡ false
-    → begins test r ≡ false
-less h [] e = refl
-less h (l ∷ r) e = h l e
+-- what begins with no lexeme of one test begins with none of a test that passes of less
+pub begins_weaker : {test s : Lexeme → Bool} → ((l : Lexeme) → s l ≡ false → test l ≡ false) → (r : List Lexeme)
+    → begins s r ≡ false → begins test r ≡ false
+begins_weaker h [] e = refl
+begins_weaker h (l ∷ r) e = h l e
 
+-- the end misses a test, if what may come behind it passes none
 pub misses_end : {test s : Lexeme → Bool} → ((l : Lexeme) → s l ≡ false → test l ≡ false) → Misses test [] s
-misses_end {test = test} {s = s} h = record { misses = λ c x d r w e. ap (λ z. begins test (z ++ r)) (end_of c x d w).0 ∙ less h r e }
+misses_end {test = test} {s = s} h = record { misses = λ c x d r w e. ap (λ z. begins test (z ++ r)) (end_of c x d w).0 ∙ begins_weaker h r e }
 
 misses_all : {A : Type 0} {test s : Lexeme → Bool} {w : A → Pieces} {qs : Pieces} → ((a : A) → Begun test (w a))
     → Misses test qs s → (xs : List A) → (c : ℕ) (x : List Lexeme) (d : ℕ) (r : List Lexeme)
@@ -100,6 +109,7 @@ misses_all : {A : Type 0} {test s : Lexeme → Bool} {w : A → Pieces} {qs : Pi
 misses_all h g [] c x d r v e = g.misses c x d r v e
 misses_all {w = w} {qs = qs} h g (a ∷ xs) c x d r v e = (begun_append (concat (map w xs) ++ qs) (h a)).begun c x d r (subst (λ z. Writes c z x d) (append_assoc (w a) (concat (map w xs)) qs) v)
 
+-- a list misses a test that none of its members begins with and that what is behind it misses
 pub misses_each : {A : Type 0} {test s : Lexeme → Bool} {w : A → Pieces} {qs : Pieces} (xs : List A)
     → ((a : A) → Begun test (w a)) → Misses test qs s → Misses test (concat (map w xs) ++ qs) s
 misses_each xs h g = record { misses = λ c x d r w e. misses_all h g xs c x d r w e }
@@ -108,12 +118,15 @@ nothing_begins : (z : List Lexeme) → begins nothing z ≡ false
 nothing_begins [] = refl
 nothing_begins (l ∷ z) = refl
 
+-- all pieces miss the test that passes no token
 pub misses_nothing : {s : Lexeme → Bool} {qs : Pieces} → Misses nothing qs s
 misses_nothing {s = s} {qs = qs} = record { misses = λ c x d r w e. nothing_begins (x ++ r) }
 
+-- no pieces begin with a token of the test that passes none
 pub begun_nothing : {qs : Pieces} → Begun nothing qs
 begun_nothing {qs = qs} = record { begun = λ c x d r w. nothing_begins (x ++ r) }
 
+-- a drawn word first is a token that the test passes, if it passes `rand`
 pub starts_drawn : {test : Lexeme → Bool} {j : ℕ} {qs : Pieces} → test (lexeme.Keyword k.Rand) ≡ true
     → Starts test (drawn j ∷ qs)
 starts_drawn {test = test} {j = j} {qs = qs} e = record { starts = λ c x d r w. ap (λ z. begins test (z ++ r)) (rand_of c j qs x d w).1 ∙ e }
@@ -122,14 +135,17 @@ starts_drawn {test = test} {j = j} {qs = qs} e = record { starts = λ c x d r w.
 pub begun_as : {test : Lexeme → Bool} {ps qs : Pieces} → ps ≡ qs → Begun test qs → Begun test ps
 begun_as {test = test} e h = subst (λ z. Begun test z) (sym e) h
 
+-- equal pieces start alike
 pub starts_as : {test : Lexeme → Bool} {ps qs : Pieces} → ps ≡ qs → Starts test qs → Starts test ps
 starts_as {test = test} e h = subst (λ z. Starts test z) (sym e) h
 
 -- ---- steps
 
+-- no pieces are read by a reader that takes none
 pub ends : {B : Type 0} {s : Lexeme → Bool} {b : B} → Leads s [] (pure b) b
 ends {s = s} {b = b} = record { leads = λ c x d r w e. let t = end_of c x d w in (refl, ap (λ z. at (z ++ r) c) t.0 ∙ ap (λ n. at r n) t.1) }
 
+-- a token is read as it is written, and then what is read behind it
 pub took : {A B : Type 0} {s : Lexeme → Bool} {sp : Space} {l : Lexeme} {qs : Pieces} {f : A → Reader B} {b : B}
     (decode : Lexeme → Option A) (a : A)
     → decode l ≡ Some a → Leads s qs (f a) b → Leads s (token sp l ∷ qs) (single decode >>= f) b
@@ -184,6 +200,7 @@ entered_at : {B : Type 0} (s : Lexeme → Bool) (l : Lexeme) (qs : Pieces) (f : 
 entered_at s l qs f b zero h c y d r w q = tt
 entered_at s l qs f b (suc m) h c y d r w q = (h m refl).leads c y d r w q
 
+-- a bracket is read as it is written, if the depth allows it, and then what is read behind it
 pub entered : {B : Type 0} {s : Lexeme → Bool} {sp : Space} {l : Lexeme} {qs : Pieces} {f : Unit {0} → Reader B}
     {b : B} (decode : Lexeme → Option (Unit {0})) (n : ℕ)
     → decode l ≡ Some tt → ((m : ℕ) → n ≡ suc m → Leads s qs (f tt) b) →
@@ -195,6 +212,7 @@ entered {s = s} {sp = sp} {l = l} {qs = qs} {f = f} {b = b} decode n e h = recor
       (subst (λ o. Agrees (and_then (entering n o (at (l ∷ (t.0 ++ r)) c)) f) b (at r d)) (sym e) (entered_at s l qs f b n h c t.0 d r t.2 q));
 }
 
+-- a drawn word is read as it is written, and then what is read behind it
 pub drew : {B : Type 0} {s : Lexeme → Bool} {qs : Pieces} {f : ℕ → Reader B} {b : B}
     (decode : Lexeme → Option (Unit {0})) (j : ℕ)
     → decode (lexeme.Keyword k.Rand) ≡ Some tt → Leads s qs (f j) b → Leads s (drawn j ∷ qs) (drawn_word decode >>= f) b
@@ -206,6 +224,7 @@ drew {s = s} {qs = qs} {f = f} {b = b} decode j e h = record {
       (subst (λ i. Agrees (f i (at (t.0 ++ r) (c + 1))) b (at r d)) t.2 (h.leads (c + 1) t.0 d r t.3 q)));
 }
 
+-- where the next token passes the test, the first way is taken
 pub peek_yes : {B : Type 0} {s : Lexeme → Bool} {ps : Pieces} {p q : Reader B} {b : B} (test : Lexeme → Bool)
     → Starts test ps → Leads s ps p b → Leads s ps (peeked test p q) b
 peek_yes {p = p} {q = q} {b = b} test h g = record {
@@ -213,6 +232,7 @@ peek_yes {p = p} {q = q} {b = b} test h g = record {
       subst (λ t. Agrees (cond t (p (at (x ++ r) c)) (q (at (x ++ r) c))) b (at r d)) (sym (h.starts c x d r w)) (g.leads c x d r w e);
 }
 
+-- where the next token doesn't pass the test, the other way is taken
 pub peek_no : {B : Type 0} {s : Lexeme → Bool} {ps : Pieces} {p q : Reader B} {b : B} (test : Lexeme → Bool)
     → Misses test ps s → Leads s ps q b → Leads s ps (peeked test p q) b
 peek_no {p = p} {q = q} {b = b} test h g = record {
@@ -234,6 +254,7 @@ after {v = v} {qs = qs} {p = p} {b = b} f a again m h = record {
       (h.leads t.2 t.1 d r t.5 e));
 }
 
+-- pieces with nothing behind them are read as the pieces
 pub plainly : {B : Type 0} {s : Lexeme → Bool} {ps : Pieces} {p : Reader B} {b : B} → Leads s (ps ++ []) p b
     → Leads s ps p b
 plainly {s = s} {ps = ps} {p = p} {b = b} h = subst (λ z. Leads s z p b) (nil_right ps) h
@@ -246,7 +267,7 @@ written_as {s = s} {p = p} {b = b} e h = subst (λ z. Leads s z p b) (sym e) h
 -- fewer tokens go on with it
 pub going_on : {B : Type 0} {s t : Lexeme → Bool} {ps : Pieces} {p : Reader B} {b : B}
     → ((l : Lexeme) → s l ≡ false → t l ≡ false) → Leads t ps p b → Leads s ps p b
-going_on h g = record { leads = λ c x d r w e. g.leads c x d r w (less h r e) }
+going_on h g = record { leads = λ c x d r w e. g.leads c x d r w (begins_weaker h r e) }
 
 then_twice : {A B C : Type 0} (g : A → Reader B) (f : B → Reader C) (o : ReadResult A) (a : A) (i : Input) (b : C)
     (j : Input)
@@ -311,6 +332,7 @@ few_misses_by : (test s : Lexeme → Bool) (ps qs : Pieces) (t : Bool) → (t �
 few_misses_by test s ps qs true h c x d r w e = (h refl).misses c x d r w e
 few_misses_by test s ps qs false h c x d r w e = absurd (never_written c qs x d w)
 
+-- a list of at most so many members misses a test as a list of any number does
 pub few_misses : {A : Type 0} {test s : Lexeme → Bool} (w : A → Pieces) (qs : Pieces) (most : ℕ) (xs : List A)
     → Misses test (concat (map w xs) ++ qs) s → Misses test (few_pieces most w xs ++ qs) s
 few_misses {test = test} {s = s} w qs most xs h = record { misses = λ c x d r v e. few_misses_by test s (concat (map w xs)) qs (nat_le (length xs) most) (λ q. h) c x d r v e }
@@ -354,6 +376,7 @@ starts_named_by : (test : Lexeme → Bool) (name : List ℕ) (qs : Pieces) (t : 
 starts_named_by test name qs true h c x d r w = absurd (never_written c qs x d w)
 starts_named_by test name qs false h c x d r w = (starts_token (h refl)).starts c x d r w
 
+-- a name first is a token that the test passes, if it passes the name where that isn't reserved
 pub starts_named : {test : Lexeme → Bool} {qs : Pieces} (name : List ℕ)
     → (is_reserved name ≡ false → test (lexeme.Name name) ≡ true) → Starts test (named name ∷ qs)
 starts_named {test = test} {qs = qs} name h = record { starts = λ c x d r w. starts_named_by test name qs (is_reserved name) h c x d r w }

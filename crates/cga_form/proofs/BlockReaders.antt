@@ -15,6 +15,7 @@ use Rattle.cga_form.specs.LineTells.{with_place}
 use Rattle.cga_form.specs.Lines.{Line}
 use Rattle.cga_form.specs.BlockTells.{as_line, unless_blank, BlockTells, Say, line_number, IsFaulty, Keeps, StandsFor}
 use Rattle.cga_form.proofs.OnceBlocks.{good_or_faulty}
+use Rattle.cga_fraction.proofs.Door.{OnOk-map}
 
 counted : (lines : List Line) (l : Line) (n m : ℕ) → n ≡ line_number (length lines) → m ≡ min (n + 1) 4294967295
     → m ≡ line_number (length (lines ++ l ∷ []))
@@ -51,24 +52,20 @@ module _ {A : Type 0} (w : A → Pieces) where
         (lines ++ l ∷ [])
     passed_over q lines h = (counted lines l old.lines m h.0 e, keeps_on lines old.fault q h.1)
 
-    on_ok : {T E : Type 0} (r : Result T E) (P Q : Type 0) → (P → Q) → OnOk r P → OnOk r Q
-    on_ok (Ok x) P Q f h = f h
-    on_ok (Err x) P Q f h = h
-
     module _ (new : G) (said : Option A) (h : BlockTells w l (Ok said)) where
       keeps_more : {T E : Type 0} (r : Result T E)
           → ((all : List (Option A)) → holds old.gathered all → OnOk r (holds new (all ++ said ∷ [])))
           → (lines : List Line) (o : Option BlockFault) → is_some o ≡ false → Keeps w holds old.gathered lines o
           → OnOk r (Keeps w holds new (lines ++ l ∷ []) o)
       keeps_more r add lines (Some f) q k = absurd (let g : true ≡ false = q in cc)
-      keeps_more r add lines None q k = on_ok r _ _ (λ n. (k.0 ++ said ∷ [], say_more lines k.0 l said k.1 h, n)) (add k.0 k.2)
+      keeps_more r add lines None q k = OnOk-map r _ _ (λ n. (k.0 ++ said ∷ [], say_more lines k.0 l said k.1 h, n)) (add k.0 k.2)
 
       -- a line that says something, or is blank
       pub one_more : {T E : Type 0} (r : Result T E) → is_some old.fault ≡ false
           → ((all : List (Option A)) → holds old.gathered all → OnOk r (holds new (all ++ said ∷ [])))
           → (lines : List Line) → StandsFor w holds old lines →
           OnOk r (StandsFor w holds (record { alloc = old.alloc; lines = m; gathered = new; fault = old.fault }) (lines ++ l ∷ []))
-      one_more r q add lines k = on_ok r _ _ (λ n. (counted lines l old.lines m k.0 e, n)) (keeps_more r add lines old.fault q k.1)
+      one_more r q add lines k = OnOk-map r _ _ (λ n. (counted lines l old.lines m k.0 e, n)) (keeps_more r add lines old.fault q k.1)
 
     -- the first faulty line
     keeps_first : (lines : List Line) (f : BlockFault) → f.line ≡ m → BlockTells w l (Err f.fault)

@@ -5,7 +5,7 @@ pub use Rattle.cga_form.proofs.Again.{Begun, Misses, Starts, after, all_of, begu
 pub use Rattle.cga_form.proofs.Again.{begun_named, begun_nothing, begun_token, by_name, drew, ends, entered}
 pub use Rattle.cga_form.proofs.Again.{few_misses, few_of, missed, misses_each, misses_end, misses_nothing}
 pub use Rattle.cga_form.proofs.Again.{never_leads, never_written, peek_no, peek_yes, plainly, starts_as, starts_drawn}
-pub use Rattle.cga_form.proofs.Again.{starts_named, starts_token, took, whole_leads, written_as}
+pub use Rattle.cga_form.proofs.Again.{starts_named, starts_token, took, whole_leads, written_as, begins_weaker}
 -- Each form's reader takes what is written so, and stops at the first token with which nothing is
 pub use Rattle.cga_form.proofs.Forms.{Long, Token, bracketed, done, either, few_pieces, limited, listed, next, one_rand, one_token, refusing, shorter, translated, turned}
 -- A line that is a member of a form
@@ -27,6 +27,6 @@ pub use Rattle.cga_form.proofs.Told.{form_told}
 -- Values are read exactly, and again as they are written
 pub use Rattle.cga_form.proofs.Values.{value_pieces, value_reads}
 -- A value is read as it is written
-pub use Rattle.cga_form.proofs.ValuesAgain.{a_slash, begun_valued, value_again}
+pub use Rattle.cga_form.proofs.ValuesAgain.{a_slash, begun_valued, value_again, written_plainly}
 -- What pieces are written as, joined and cut
 pub use Rattle.cga_form.proofs.Written.{cut, end_of, head_of, long_of, nothing, piece_of, piece_written, plain_written, token_first}

@@ -3,12 +3,13 @@ use Rattle.std.proofs.Common.{◌≡◌, ℕ, suc, List, [], ◌∷◌, ◌++◌
 use Rattle.cga_syntax.specs.declared.lexeme.Lexeme.{Lexeme}
 use Rattle.cga_syntax.specs.Pieces.{Pieces}
 use Rattle.cga_syntax.specs.Spelling.{Spelled, Begins, Stops}
-use Rattle.cga_syntax.specs.Brackets.{walk, walk_on, counted, bracket_of, Bracket, opens, IsOpening}
+use Rattle.cga_syntax.specs.Brackets.{walk, IsOpening}
 use Rattle.cga_form.specs.declared.fault.Fault.{Fault}
 use Rattle.cga_form.specs.declared.fault.Fault.TheVariants.{Unexpected, TooNested}
 use Rattle.cga_form.specs.Tells.{Tells}
 use Rattle.cga_form.proofs.Runs.{walk_append}
 use Rattle.cga_form.proofs.Written.{nil_right}
+use Rattle.cga_form.proofs.Told.{one_too_many}
 
 head_same : {X : Type 0} (a b : X) (x y : List X) → a ∷ x ≡ b ∷ y → a ≡ b
 head_same a b x y e = cc
@@ -30,17 +31,10 @@ compared [] y r s e = inl (y, refl, e)
 compared (a ∷ x) [] r s e = inr (a ∷ x, refl, sym e)
 compared (a ∷ x) (b ∷ y) r s e = grown a b x y r s (head_same a b (x ++ r) (y ++ s) e) (compared x y r s (tail_same a b (x ++ r) (y ++ s) e))
 
-opened : (b : Bracket) (f : ℕ → Option ℕ) → b ≡ opens → walk_on f (counted b 0) ≡ None
-opened b f e = ap (λ z. walk_on f (counted z 0)) e
-
-stuck : (j : Lexeme) (r : List Lexeme) → IsOpening j → walk 0 (j ∷ r) ≡ None
-unfolding walk
-stuck j r e = opened (bracket_of j) (λ m. walk m r) e
-
 -- after a bracket too many
 blocked : (n : ℕ) (x : List Lexeme) (j : Lexeme) (r : List Lexeme) → walk n x ≡ Some 0 → IsOpening j
     → walk n (x ++ j ∷ r) ≡ None
-blocked n x j r e o = walk_append n x (j ∷ r) 0 e ∙ stuck j r o
+blocked n x j r e o = walk_append n x (j ∷ r) 0 e ∙ one_too_many j r o
 
 open_none : (o : Option ℕ) (m : ℕ) → o ≡ None → o ≡ Some m → ⊥
 open_none o m e f = let q : None ≡ Some m = sym e ∙ f in cc

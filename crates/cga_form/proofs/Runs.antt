@@ -28,6 +28,7 @@ weaker n m h e c text =
     let r = e c text in
     record { front = r.front; rest = r.rest; verdict = r.verdict; split = r.split; same = r.same; means = weaker_means n m h c r.front r.rest r.verdict r.means }
 
+-- a reader that takes nothing reads a language of nothing exactly
 pub pure_runs : {A : Type 0} {L : Language A} (n : ℕ) (a : A) → ((c : ℕ) → L c [] a c) → Exact n n L (pure a)
 unfolding walk
 pure_runs n a h c text = record { front = []; rest = text; verdict = found a c; split = refl; same = λ b e. refl; means = (h c, refl) }

@@ -16,7 +16,7 @@ use Rattle.cga_syntax.specs.Brackets.{counted, bracket_of, bracket_of_sign, open
 use Rattle.cga_form.specs.Tokens.{sign_number, keyword_number, is_sign, is_keyword, passing, a_sign, a_keyword, unless, when, a_name, whole_of, whole_parts, bounded, a_whole, a_number, is_word}
 use Rattle.cga_form.specs.Parts.{a_word}
 use Rattle.cga_form.proofs.Forms.{Token, Opening}
-use Rattle.std.proofs.lemmas.Bool.{and_parts as both}
+use Rattle.cga_fraction.proofs.Door.{eq_from_pointwise}
 
 sign_at : ℕ → Sign
 sign_at n =
@@ -258,20 +258,10 @@ number_token n = by_token Usual lexeme.Number a_number n number_is (λ a. refl) 
 
 -- ---- words that forms name
 
-pub is_true : (a b : List ℕ) → is a b ≡ true → a ≡ b
-is_true [] [] e = refl
-is_true [] (b ∷ bs) e = absurd (let q : false ≡ true = e in cc)
-is_true (a ∷ as') [] e = absurd (let q : false ≡ true = e in cc)
-is_true (a ∷ as') (b ∷ bs) e =
-    let t = both (a == b) (is as' bs) e in
-    let p = eqb-true a b t.0 in
-    let q = is_true as' bs t.1 in
-    cc
-
 -- the first of several words
 pub pick : {A : Type 0} (enc : A → List ℕ) (name : List ℕ) (x : A) (t : Bool) (rest : Option A) (a : A)
     → is name (enc x) ≡ t → (rest ≡ Some a → name ≡ enc a) → (if t then Some x else rest) ≡ Some a → name ≡ enc a
-pick enc name x true rest a e h q = let p : x ≡ a = cc in is_true name (enc x) e ∙ ap enc p
+pick enc name x true rest a e h q = let p : x ≡ a = cc in eq_from_pointwise name (enc x) e ∙ ap enc p
 pick enc name x false rest a e h q = h q
 
 -- where no word is left to pick, whatever is picked has the name's bytes
@@ -280,15 +270,11 @@ no_more enc name a e = absurd (cc)
 
 -- a token that passes the test for a word is the name of its bytes
 pub word_is : (bytes : List ℕ) (l : Lexeme) → is_word bytes l ≡ true → l ≡ lexeme.Name bytes
-word_is bytes (lexeme.Name name) e = ap lexeme.Name (is_true name bytes e)
+word_is bytes (lexeme.Name name) e = ap lexeme.Name (eq_from_pointwise name bytes e)
 word_is bytes _ e = absurd (let q : false ≡ true = e in cc)
 
-passed_word : (t : Bool) (a : Unit {0}) → passing t ≡ Some a → t ≡ true
-passed_word true a e = refl
-passed_word false a e = absurd (cc)
-
 a_word_is : (bytes : List ℕ) (l : Lexeme) (a : Unit {0}) → a_word bytes l ≡ Some a → l ≡ lexeme.Name bytes
-a_word_is bytes l a e = word_is bytes l (passed_word (is_word bytes l) a e)
+a_word_is bytes l a e = word_is bytes l (passed (is_word bytes l) a e)
 
 abbrev pub word_pieces : List ℕ → Unit {0} → Pieces
 word_pieces bytes _ = word bytes ∷ []

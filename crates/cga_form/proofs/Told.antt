@@ -15,7 +15,7 @@ use Rattle.cga_form.proofs.Lines.{form_unique, form_found, form_refused}
 use Rattle.cga_form.proofs.Written.{nil_right}
 
 -- after 32 open brackets no further one is opened
-one_too_many : (j : Lexeme) (r : List Lexeme) → IsOpening j → walk 0 (j ∷ r) ≡ None
+pub one_too_many : (j : Lexeme) (r : List Lexeme) → IsOpening j → walk 0 (j ∷ r) ≡ None
 unfolding walk
 one_too_many j r h = ap (λ b. walk_on (λ m. walk m r) (counted b 0)) h
 

@@ -60,7 +60,8 @@ read_double minus n d h = took a_number (of_int (pos n)) refl (read_divisor minu
 
 -- ---- magnitudes and values
 
-written_plainly : (c : ℕ) (x : List Lexeme) (d : ℕ) (ls : List Lexeme) → x ≡ ls → c ≡ d
+-- a list of lexemes is written plainly as itself
+pub written_plainly : (c : ℕ) (x : List Lexeme) (d : ℕ) (ls : List Lexeme) → x ≡ ls → c ≡ d
     → Writes c (map (token Usual) ls) x d
 written_plainly c x d ls e q = subst (λ z. Writes c (map (token Usual) ls) z d) (sym e) (subst (λ m. Writes c (map (token Usual) ls) ls m) q (plain_written c ls))
 
@@ -94,6 +95,7 @@ value_at v c x d r (inr h) q e =
     subst (λ z. Agrees (b.value (at (z ++ r) c)) v (at r d)) (sym h.2)
     (minus_at v c h.1 d r (subst (λ z. Agrees (b.magnitude true (at (h.1 ++ r) c)) z (at r d)) (sym h.4) (magnitude_at true h.0 c h.1 d r h.3 q e)))
 
+-- a value is read again as it is written
 pub value_again : Again value_pieces a_slash b.value
 value_again = record { all = λ v. record { leads = λ c x d r w e. let t = piece_of c (valued v) x d w in value_at v c x d r t.0 t.1 e } }
 

@@ -1,8 +1,7 @@
 -- Decimal texts as the code reads them.
-use Rattle.std.proofs.Common.{◌≡◌, ℕ, ◌+◌, ◌^◌, ◌≤◌, List, ◌++◌, take, drop, length, refl, sym, ap, ◌∙◌, arith, true, false, Some, Ok, Err, Result, pos}
-use Rattle.std.specs.Prelude.{position, nat_le}
+use Rattle.std.proofs.Common.{◌≡◌, ℕ, ◌+◌, ◌^◌, ◌≤◌, List, ◌++◌, take, drop, length, refl, sym, ap, ◌∙◌, true, false, Some, Ok, Err, Result, pos}
+use Rattle.std.specs.Prelude.{position}
 use Rattle.std.specs.Str.Parse.{digits_value_after}
-use Rattle.std.proofs.lemmas.Bool.Decides.{leb_tells}
 use Rattle.cga_fraction.specs.Rat.{Rat}
 use Rattle.cga_fraction.specs.Arithmetic.{reduced}
 use Rattle.cga_fraction.specs.Decimals.{decimal_of, is_point, is_numeral, read_of}

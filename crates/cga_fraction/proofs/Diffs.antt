@@ -37,9 +37,10 @@ reduced_diff (negsuc n) d h =
     let m = neg_parts (pos (suc n / gcd (suc n) d)) in
     record { positive = h; same = rw (k, m.0, m.1) (omega arith) }
 
-swap : (p m q u v d w x e : ℕ) → 0 < d → p * d + v * q ≡ u * q + m * d → u * e + x * d ≡ w * d + v * e
+-- where a first difference over a natural equals a second, and that a third, the first equals the third
+pub cross_trans : (p m q u v d w x e : ℕ) → 0 < d → p * d + v * q ≡ u * q + m * d → u * e + x * d ≡ w * d + v * e
     → p * e + x * q ≡ w * q + m * e
-swap p m q u v d w x e h s k =
+cross_trans p m q u v d w x e h s k =
     let a : (p * d + v * q) * e ≡ (u * q + m * d) * e = ap (λ z. z * e) s in
     let b : (u * e + x * d) * q ≡ (w * d + v * e) * q = ap (λ z. z * q) k in
     let c : (p * e + x * q) * d ≡ (w * q + m * e) * d = omega arith in
@@ -47,7 +48,7 @@ swap p m q u v d w x e h s k =
 
 -- the same number by other naturals
 pub like : (q : Rat) (u v d w x e : ℕ) → IsDiff q u v d → u * e + x * d ≡ w * d + v * e → 0 < e → IsDiff q w x e
-like q u v d w x e r k h = record { positive = h; same = swap (positive_part q.num) (negative_part q.num) (den q) u v d w x e r.positive r.same k }
+like q u v d w x e r k h = record { positive = h; same = cross_trans (positive_part q.num) (negative_part q.num) (den q) u v d w x e r.positive r.same k }
 
 -- every number is the difference that it shows
 pub itself : (q : Rat) → IsDiff q (positive_part q.num) (negative_part q.num) (den q)

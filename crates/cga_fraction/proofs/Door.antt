@@ -1,7 +1,7 @@
 -- What other crates may cite of cga_fraction. All other pages of its proofs are its own.
 
 -- Arithmetic of rational numbers, each said to be a difference of naturals over a natural. An identity of
-pub use Rattle.cga_fraction.proofs.Diffs.{itself, le_diff, lt_diff, minus_diff, minus_le, minus_of, of_int_diff, plus_diff, plus_le, plus_of, times_diff}
+pub use Rattle.cga_fraction.proofs.Diffs.{itself, le_diff, lt_diff, minus_diff, minus_le, minus_of, of_int_diff, plus_diff, plus_le, plus_of, times_diff, cross_trans}
 -- Numbers that digits write
 pub use Rattle.cga_fraction.proofs.Digits.{after-more, digit_at, digit_range}
 -- Facts of tests, options, lists and numbers that the standard library lacks. No word of this project stands here
@@ -16,7 +16,7 @@ pub use Rattle.cga_fraction.proofs.Facts.{lt_or_eq_from_lt_suc, map-append, nat_
 pub use Rattle.cga_fraction.proofs.Facts.{nat_le_18, nat_lt-same, nat_lt-zero, nat_lt_from_lt, not-and-true}
 pub use Rattle.cga_fraction.proofs.Facts.{or_false_first, or_false_second, same_Ok, same_Some, same_from_both_ways}
 pub use Rattle.cga_fraction.proofs.Facts.{slice_get_along, slice_get_from_get_or, take-all, true-and-false}
-pub use Rattle.cga_fraction.proofs.Facts.{true-not-false, true_from_not, within_4096}
+pub use Rattle.cga_fraction.proofs.Facts.{true-not-false, true_from_not, within_4096, le_or_ge, not-and_parts}
 -- The greatest common divisor
 pub use Rattle.cga_fraction.proofs.Gcds.{gcd-IsGcd, gcd-one}
 -- Laws of numbers in lowest terms, and of the least and the greatest
@@ -26,9 +26,9 @@ pub use Rattle.cga_fraction.proofs.Laws.{mediant, min_below, min_greatest, minus
 pub use Rattle.cga_fraction.proofs.Laws.{minus_lowest, out_of_range_from_err, plus-minus, plus-zero, same_diff}
 pub use Rattle.cga_fraction.proofs.Laws.{times_lowest}
 -- The shortest text that is read as a number
-pub use Rattle.cga_fraction.proofs.Literals.{literal_is_shortest, reads}
+pub use Rattle.cga_fraction.proofs.Literals.{literal_is_shortest, reads, numeral_parts}
 -- Numbers brought to lowest terms
-pub use Rattle.cga_fraction.proofs.Lowest.{checked-in, den-reduced, lowest, quotient_positive, reduced-parts}
+pub use Rattle.cga_fraction.proofs.Lowest.{checked-in, den-reduced, lowest, quotient_positive, reduced-parts, abs-with_sign}
 -- The order of rational numbers: it is total, and the tests of the code are its tests
 pub use Rattle.cga_fraction.proofs.Order.{le_refl, le_total, le_trans, lt_asym, lt_fact, lt_le, lt_not_le, lt_of_le_lt, lt_of_lt_le, lt_test, lt_trans, not_le_lt, positive_is}
 -- Differences and quotients by what the code forms
@@ -36,10 +36,14 @@ pub use Rattle.cga_fraction.proofs.Quotients.{by_positive}
 -- Arithmetic of rational numbers that aren't below zero, each said to be a ratio of naturals
 pub use Rattle.cga_fraction.proofs.Ratios.{IsRatio, both, divided_ratio, le_ratio, like, minus_ratio, plus_ratio, ratio_le, shown_ratio, times_ratio, whole_ratio, zero_ratio}
 -- Steps that may be refused
-pub use Rattle.cga_fraction.proofs.Results.{and_then-ok, or_err-err_as, or_err-ok, or_err-ok_as}
+pub use Rattle.cga_fraction.proofs.Results.{and_then-ok, or_err-err_as, or_err-ok, or_err-ok_as, OnOk-map, err_if-ok, if_err-ok, option_map_or-ok}
 -- What is rounded down is the greatest whole number below, and what is rounded up the least above
 pub use Rattle.cga_fraction.proofs.Rounding.{is_ceil}
 -- Texts with a point, read as the numbers that they show
 pub use Rattle.cga_fraction.proofs.Spelling.{own, reads-pointed, reads_parts, reads_whole}
 -- The texts of numbers, digit by digit
 pub use Rattle.cga_fraction.proofs.Texts.{padded-end, padded-step, ten_positive}
+-- Facts of lists, and of texts byte by byte, that the standard library lacks
+pub use Rattle.cga_fraction.proofs.Lists.{bytes_eq-false_back, slice_get_from_Contains, slice_get-append_left}
+pub use Rattle.cga_fraction.proofs.Lists.{slice_get-map_Some, sum_by-zeros, sum_by-plus, eq_from_pointwise}
+pub use Rattle.cga_fraction.proofs.Lists.{pointwise-same, pointwise-order}

@@ -259,3 +259,14 @@ and-false false = refl
 pub or-assoc : (a b c : Bool) → (a || (b || c)) ≡ ((a || b) || c)
 or-assoc true b c = refl
 or-assoc false b c = refl
+
+-- of two numbers one is at most the other
+pub le_or_ge : (a b : ℕ) → (a ≤ b) ⊎ (b ≤ a)
+le_or_ge zero b = inl (omega arith)
+le_or_ge (suc a) zero = inr (omega arith)
+le_or_ge (suc a) (suc b) = elim (le_or_ge a b) [ inl h ↦ inl (omega (arith, h)) | inr h ↦ inr (omega (arith, h)) ]
+
+-- where the negation of a test and another test are true, the one is false and the other true
+pub not-and_parts : (a b : Bool) → (not a && b) ≡ true → (a ≡ false) × (b ≡ true)
+not-and_parts true b e = let x : false ≡ true = e in cc
+not-and_parts false b e = (refl, e)

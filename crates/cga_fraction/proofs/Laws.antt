@@ -1,5 +1,5 @@
 -- Laws of numbers in lowest terms, and of the least and the greatest.
-use Rattle.std.proofs.Common.{◌≡◌, ℕ, zero, suc, ◌+◌, ◌*◌, ◌/◌, ◌≤◌, ◌<◌, arith, refl, ap, ◌∙◌, ℤ, pos, negsuc, true, false, Bool, ◌&&◌, ◌^◌, Ok, Err, inl, inr}
+use Rattle.std.proofs.Common.{◌≡◌, ℕ, zero, suc, ◌+◌, ◌*◌, ◌/◌, ◌≤◌, ◌<◌, arith, refl, ap, ◌∙◌, ℤ, pos, negsuc, true, false, Bool, ◌^◌, Ok, Err, inl, inr}
 use Rattle.std.specs.Prelude.{IsTrue, unsigned_abs, neg_ℤ, nat_le, ◌+ℤ◌, if◌then◌else◌}
 use Rattle.std.proofs.lemmas.Bool.Decides.{leb_tells}
 use Rattle.std.proofs.Math.Nat.{mul-pos, eq_of_mul-eq-mul_right}

@@ -3,6 +3,7 @@ mod Diffs
 mod Digits
 mod Gcds
 mod Laws
+mod Lists
 mod Literals
 mod Lowest
 mod Naturals

@@ -1,8 +1,8 @@
 -- The shortest text that is read as a number.
 use Rattle.std.proofs.Common.{◌≡◌, ℕ, zero, suc, ◌+◌, ◌-◌, ◌*◌, ◌/◌, ◌%◌, ◌^◌, ◌<◌, ◌≤◌, ◌==◌, List, [], ◌∷◌, ◌++◌}
-use Rattle.std.proofs.Common.{take, drop, length, refl, sym, ap, ◌∙◌, subst, arith, true, false, Bool, Some, None}
-use Rattle.std.proofs.Common.{Option, Ok, Err, Result, ℤ, pos}
-use Rattle.std.specs.Prelude.{position, decimal, unsigned_abs, if◌then◌else◌, nat_le, not}
+use Rattle.std.proofs.Common.{take, drop, length, refl, sym, ap, ◌∙◌, subst, arith, true, Some, None}
+use Rattle.std.proofs.Common.{Option, Ok, Result, ℤ, pos}
+use Rattle.std.specs.Prelude.{position, decimal, unsigned_abs, nat_le, not}
 use Rattle.std.specs.Char.{is_ascii_digit, digit_value}
 use Rattle.std.specs.List.{list_all}
 use Rattle.std.specs.Str.Parse.{digits_value_after, digits_value}
@@ -29,6 +29,7 @@ use Rattle.cga_fraction.proofs.Digits.{after-append}
 use Rattle.cga_fraction.proofs.Order.{by_parts}
 use Rattle.cga_fraction.proofs.Places.{least_exact}
 use Rattle.cga_fraction.proofs.Spelling.{own, both, reduced_like, reads-pointed, length-pointed}
+use Rattle.cga_fraction.proofs.Results.{if_err-ok}
 
 -- ---- what a text that is read as a number looks like
 
@@ -43,24 +44,20 @@ pub record Reads (text : List ℕ) (a : Rat) : Type 0 where
   pub alone : length whole ≤ length text
   pub pointed : 0 < length places → length whole + length places + 1 ≤ length text
 
-if_ok : (b : Bool) (x : Result Rat DecimalFault) (e : DecimalFault) (a : Rat) → (if b then x else Err e) ≡ Ok a
-    → (b ≡ true) × (x ≡ Ok a)
-if_ok true x e a h = (refl, h)
-if_ok false x e a h = absurd (cc)
-
 ok_same : (x a : Rat) → ◌≡◌ {A = Result Rat DecimalFault} (Ok x) (Ok a) → a ≡ x
 ok_same x a h = cc
 
-numeral_parts : (ds : List ℕ) → is_numeral ds ≡ true → (0 < length ds) × (list_all is_ascii_digit ds ≡ true)
+-- a numeral has a digit, and digits alone
+pub numeral_parts : (ds : List ℕ) → is_numeral ds ≡ true → (0 < length ds) × (list_all is_ascii_digit ds ≡ true)
 numeral_parts ds h =
     let b = both (not (length ds == 0)) (list_all is_ascii_digit ds) h in (grind (arith, eqb_tells (length ds) 0), b.1)
 
 read_parts : (text whole places : List ℕ) (a : Rat) → list_all is_ascii_digit places ≡ true → length whole ≤ length text
     → (0 < length places → length whole + length places + 1 ≤ length text) → read_of whole places ≡ Ok a → Reads text a
 read_parts text whole places a m l p h =
-    let s = if_ok (is_numeral whole) (limited whole places) NotNumber a h in
+    let s = if_err-ok (is_numeral whole) (limited whole places) NotNumber a h in
     let n = numeral_parts whole s.0 in
-    let t = if_ok (nat_le (length whole + length places) 18) (Ok (value_of whole places)) TooManyDigits a s.1 in
+    let t = if_err-ok (nat_le (length whole + length places) 18) (Ok (value_of whole places)) TooManyDigits a s.1 in
     record {
       whole = whole;
       places = places;
@@ -76,7 +73,7 @@ read_parts text whole places a m l p h =
 read_position : (text : List ℕ) (o : Option ℕ) (a : Rat) → read_at text o ≡ Ok a → Reads text a
 read_position text None a h = read_parts text text [] a refl (omega arith) (λ k. absurd (omega arith)) h
 read_position text (Some i) a h =
-    let s = if_ok (is_numeral (drop (i + 1) text)) (read_of (take i text) (drop (i + 1) text)) NotNumber a h in
+    let s = if_err-ok (is_numeral (drop (i + 1) text)) (read_of (take i text) (drop (i + 1) text)) NotNumber a h in
     let n = numeral_parts (drop (i + 1) text) s.0 in
     let d = length-drop (i + 1) text in
     let t = length-take i text in

@@ -14,6 +14,7 @@ use Rattle.cga_fraction.specs.Refusals.{checked, in_range}
 use Rattle.cga_fraction.specs.declared.overflow.Overflow.{Overflow}
 use Rattle.cga_fraction.proofs.Gcds.{gcd-IsGcd, gcd-one, gcd_positive}
 
+-- a number that is given the sign of another has its own size
 pub abs-with_sign : (n : ℤ) (m : ℕ) → unsigned_abs (with_sign n m) ≡ m
 abs-with_sign (pos n) m = refl
 abs-with_sign (negsuc n) zero = refl

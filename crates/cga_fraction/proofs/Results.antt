@@ -1,7 +1,8 @@
 -- Steps that may be refused.
-use Rattle.std.proofs.Common.{◌≡◌, refl, Ok, Err, Result}
-use Rattle.std.specs.Prelude.{IfOk}
-use Rattle.cga_fraction.specs.Results.{and_then, or_err}
+use Rattle.std.proofs.Common.{◌≡◌, Bool, true, false, refl, Ok, Err, None, Option, Result, Some, if◌then◌else◌}
+use Rattle.std.specs.Option.{option_map_or}
+use Rattle.std.specs.Prelude.{IfOk, OnOk}
+use Rattle.cga_fraction.specs.Results.{and_then, err_if, or_err}
 use Rattle.cga_fraction.specs.Stops.{settled_of}
 use Rattle.cga_fraction.specs.declared.stop.Stop.{Stop}
 use Rattle.cga_fraction.specs.declared.stop.Stop.TheVariants.{Fault, NoMemory}
@@ -33,3 +34,26 @@ pub settled_of-each : {A F : Type 0} (P : A → Type 0) (made : Result A (Stop F
 settled_of-each P (Ok x) each = each x refl
 settled_of-each P (Err (Fault f)) each = tt
 settled_of-each P (Err NoMemory) each = tt
+
+-- what is tested first isn't refused where all succeeds
+pub err_if-ok : {A F : Type 0} (test : Bool) (fault : F) (more : Result A F) (y : A) → err_if test fault more ≡ Ok y
+    → (test ≡ false) × (more ≡ Ok y)
+err_if-ok true fault more y h = absurd (cc)
+err_if-ok false fault more y h = (refl, h)
+
+-- where what is made of an element that may lack succeeds, the element is there
+pub option_map_or-ok : {A B F : Type 0} (f : A → Result B F) (o : Option A) (e : F) (y : B)
+    → option_map_or f o (Err e) ≡ Ok y → (x : A) × (o ≡ Some x) × (f x ≡ Ok y)
+option_map_or-ok f None e y h = absurd (cc)
+option_map_or-ok f (Some x) e y h = (x, refl, h)
+
+-- where a test decides between a result and a refusal, and the answer is a success, the test passed
+pub if_err-ok : {A F : Type 0} (test : Bool) (more : Result A F) (fault : F) (y : A)
+    → (if test then more else Err fault) ≡ Ok y → (test ≡ true) × (more ≡ Ok y)
+if_err-ok true more fault y h = (refl, h)
+if_err-ok false more fault y h = absurd (cc)
+
+-- where one property leads to another, and the one holds if a result is a success, so does the other
+pub OnOk-map : {X E : Type 0} (r : Result X E) (P Q : Type 0) → (P → Q) → OnOk r P → OnOk r Q
+OnOk-map (Ok x) P Q f h = f h
+OnOk-map (Err e) P Q f h = h

@@ -1,14 +1,14 @@
 -- Texts with a point, read as the numbers that they show.
-use Rattle.std.proofs.Common.{◌≡◌, ℕ, zero, suc, ◌+◌, ◌*◌, ◌/◌, ◌%◌, ◌^◌, ◌<◌, ◌≤◌, ◌&&◌, ◌==◌, List, [], ◌∷◌, ◌++◌}
-use Rattle.std.proofs.Common.{drop, length, refl, sym, ap, ◌∙◌, arith, rules, true, false, Bool, Some, None, Ok, pos}
-use Rattle.std.specs.Prelude.{position, decimal, nat_le, nat_lt}
+use Rattle.std.proofs.Common.{◌≡◌, ℕ, zero, suc, ◌+◌, ◌*◌, ◌/◌, ◌%◌, ◌^◌, ◌<◌, ◌≤◌, ◌==◌, List, [], ◌∷◌, ◌++◌}
+use Rattle.std.proofs.Common.{drop, length, refl, sym, ap, ◌∙◌, arith, rules, true, false, Some, None, Ok, pos}
+use Rattle.std.specs.Prelude.{position, decimal}
 use Rattle.std.specs.Char.{is_ascii_digit, digit_value}
 use Rattle.std.specs.List.{list_all, position_or_len}
 use Rattle.std.specs.Str.Parse.{digits_value_after, digits_value}
 use Rattle.std.proofs.lemmas.Str.Parse.{IsDigitsTest, IsNumeralModel, numerals_by_value}
-use Rattle.std.proofs.lemmas.Fmt.{digits_decimal, digits_value-decimal, decimal_nonempty}
+use Rattle.std.proofs.lemmas.Fmt.{digits_decimal, digits_value-decimal}
 use Rattle.std.proofs.lemmas.List.{length-append, append-nil}
-use Rattle.std.proofs.lemmas.Bool.Decides.{leb_tells, eqb_tells, nat_tests}
+use Rattle.std.proofs.lemmas.Bool.Decides.{eqb_tells, nat_tests}
 use Rattle.std.proofs.lemmas.Nat.{mod-mul-add}
 use Rattle.std.proofs.Math.Nat.{pow-suc, one-le-pow, mul-le-mul_right}
 use Rattle.std.proofs.Math.Seq.{take-append_seam}
@@ -21,6 +21,7 @@ use Rattle.cga_fraction.proofs.Digits.{after-append}
 pub use Rattle.std.proofs.lemmas.Bool.{and_parts as both}
 use Rattle.std.proofs.lemmas.Fmt.{decimal_nonempty as length_decimal_some}
 use Rattle.cga_fraction.proofs.Facts.{nat_le_18 as few_digits, nat_lt-same as not_below, nat_lt_from_lt as below_it}
+use Rattle.cga_fraction.proofs.Texts.{padded-one}
 
 -- ---- digits
 
@@ -31,17 +32,13 @@ tells = search rules
 pub own : IsNumeralModel (λ ds. list_all is_ascii_digit ds ≡ true) (digits_value 10)
 own = numerals_by_value (λ ds. list_all is_ascii_digit ds ≡ true) tells
 
-padded-cons : (places n : ℕ) → padded (suc places) n ≡ (48 + n / 10 ^ places % 10) ∷ padded places n
-unfolding padded
-padded-cons places n = refl
-
 padded-nil : (n : ℕ) → padded 0 n ≡ []
 unfolding padded
 padded-nil n = refl
 
 length-padded : (places n : ℕ) → length (padded places n) ≡ places
 length-padded zero n = rw (padded-nil n) refl
-length-padded (suc places) n = rw (padded-cons places n) (ap suc (length-padded places n))
+length-padded (suc places) n = rw (padded-one places n) (ap suc (length-padded places n))
 
 a_digit : (k : ℕ) → k < 10 → is_ascii_digit (48 + k) ≡ true
 a_digit k h = grind (arith, nat_tests)
@@ -50,7 +47,7 @@ digits-padded : (places n : ℕ) → list_all is_ascii_digit (padded places n) �
 digits-padded zero n = rw (padded-nil n) refl
 digits-padded (suc places) n =
     let d : n / 10 ^ places % 10 < 10 = omega arith in
-    rw (padded-cons places n) (rw (a_digit (n / 10 ^ places % 10) d) (digits-padded places n))
+    rw (padded-one places n) (rw (a_digit (n / 10 ^ places % 10) d) (digits-padded places n))
 
 value_of_digit : (k : ℕ) → k < 10 → digit_value (48 + k) ≡ k
 value_of_digit k h = grind (arith, nat_tests)
@@ -73,7 +70,7 @@ value-padded (suc places) n v =
     let d : n / 10 ^ places % 10 < 10 = omega arith in
     let p : 0 < 10 ^ places = one-le-pow places 10 (omega arith) in
     let t = tail_mod n (10 ^ places) p in
-    rw (padded-cons places n)
+    rw (padded-one places n)
     (ap (λ (k : ℕ). digits_value_after 10 (v * 10 + k) (padded places n)) (value_of_digit (n / 10 ^ places % 10) d) ∙ value-padded places n (v * 10 + n / 10 ^ places % 10) ∙ rw (pow-suc 10 places) (omega (arith, t)))
 
 -- ---- points

@@ -1,5 +1,5 @@
 -- Sums that need no cross products.
-use Rattle.std.proofs.Common.{◌≡◌, ℕ, ◌+◌, ◌-◌, ◌*◌, ◌<◌, arith, refl, ap, sym, ◌∙◌, ℤ, pos, Ok, Result}
+use Rattle.std.proofs.Common.{◌≡◌, ℕ, ◌+◌, ◌-◌, ◌*◌, ◌<◌, arith, refl, ap, sym, ℤ, pos, Ok, Result}
 use Rattle.std.specs.Prelude.{◌+ℤ◌}
 use Rattle.cga_fraction.specs.Rat.{Rat, den, IsFraction}
 use Rattle.cga_fraction.specs.Arithmetic.{reduced, plus}

@@ -12,7 +12,8 @@ use Rattle.std.specs.Prelude.{decimal, unsigned_abs}
 pub ten_positive : (p k : ℕ) → p ≡ 10 ^ k → 0 < p
 ten_positive p k e = rw e (one-le-pow k 10 (omega arith))
 
-padded-one : (places n : ℕ) → padded (suc places) n ≡ (48 + n / 10 ^ places % 10) ∷ padded places n
+-- the first digit, and then the others
+pub padded-one : (places n : ℕ) → padded (suc places) n ≡ (48 + n / 10 ^ places % 10) ∷ padded places n
 unfolding padded
 padded-one places n = refl
 

@@ -5,13 +5,14 @@ use Rattle.cga_fraction.specs.Rat.{Rat}
 use Rattle.cga_fraction.specs.Order.{rat_le}
 use Rattle.cga_fraction.proofs.Door.{le_refl}
 use Rattle.cga_frame.specs.Points.{point_min, point_max}
-use Rattle.cga_frame.specs.Box.{Box, is_box, meets, holds, touches, hull, along_meets, along_holds, along_touches}
+use Rattle.cga_frame.specs.Box.{Box, box_of, is_box, meets, holds, touches, hull, along_meets, along_holds, along_touches}
 use Rattle.cga_frame.specs.Meeting.{IsBetween, Meets, Holds, Touches, IsHull}
 use Rattle.cga_frame.specs.declared.point.Point.{Point}
 use Rattle.cga_frame.proofs.Flags.{told, tells, pair, three, all_three}
 use Rattle.cga_frame.proofs.Intervals.{holds_at, holds_from, holds_chain, touches_at, touches_from, meets_at}
 use Rattle.cga_frame.proofs.Intervals.{meets_from, meets_touches_at, touches_up_at, hull_first, hull_second}
 use Rattle.cga_frame.proofs.Intervals.{hull_least, hull_ordered, ordered_at}
+use Rattle.cga_frame.specs.Scope.{Scope, far_of}
 
 sides : (b : Box) → is_box b ≡ true
     → IsTrue (rat_le b.low.x b.high.x) × IsTrue (rat_le b.low.y b.high.y) × IsTrue (rat_le b.low.z b.high.z)
@@ -169,3 +170,7 @@ corners_box p q = all_three _ _ _ (ordered_at p.x q.x) (ordered_at p.y q.y) (ord
 pub hull_is : (a b : Box) → IsHull a b (record { low = point_min a.low b.low; high = point_max a.high b.high })
 unfolding hull
 hull_is a b = is_hull a b
+
+-- the box of a scope is one
+pub box_of_boxed : (s : Scope) → is_box (box_of s) ≡ true
+box_of_boxed s = corners_box s.at (far_of s)

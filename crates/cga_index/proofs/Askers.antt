@@ -99,16 +99,16 @@ nobody_near v laws area m r h far = nobody_far v laws area m r h (λ hull here. 
 
 pub ruleset nobody = (nobody_near)
 
--- each node stands once
-
-apart_join : (xs ys : List ℕ) → Apart xs → Apart ys → ((n : ℕ) → Member xs n → Member ys n → ⊥) → Apart (xs ++ ys)
+-- two lists joined have each member once where each has, and they share none
+pub apart_join : (xs ys : List ℕ) → Apart xs → Apart ys → ((n : ℕ) → Member xs n → Member ys n → ⊥) → Apart (xs ++ ys)
 apart_join [] ys a b h = b
 apart_join (x ∷ xs) ys a b h = (
   (λ w. elim (in_split xs ys x w) [ inl i ↦ a.0 i | inr j ↦ h x (inl refl) j ]),
   apart_join xs ys a.1 b (λ n i j. h n (inr i) j),
 )
 
-apart_flat : (f : ℕ → List ℕ) (cs : List ℕ) → Apart cs → ((c : ℕ) → Member cs c → Apart (f c))
+-- so have the lists of all members of a list
+pub apart_flat : (f : ℕ → List ℕ) (cs : List ℕ) → Apart cs → ((c : ℕ) → Member cs c → Apart (f c))
     → ((a b n : ℕ) → Member cs a → Member cs b → Member (f a) n → Member (f b) n → a ≡ b) → Apart (flat_map f cs)
 apart_flat f [] a e s = tt
 apart_flat f (c ∷ cs) a e s = apart_join (f c) (flat_map f cs) (e c (inl refl)) (apart_flat f cs a.1 (λ d i. e d (inr i)) (λ x y n i j. s x y n (inr i) (inr j))) (λ n i j.

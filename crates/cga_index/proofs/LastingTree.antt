@@ -31,9 +31,11 @@ module _ (t : TreeView) (lasts : ℕ → Bool) where
   unfolding all_nodes
   nodes_same = λ i. flat_map (λ c. below_same 257 c i) t.roots
 
+  -- and the other way round
   pub in_whole : (n : ℕ) → InTree (lasting_tree t lasts) n → InTree t n
   in_whole n m = subst (λ l. Member l n) nodes_same m
 
+  -- a node of the tree is one of the tree in which those ask that last
   pub in_lasting : (n : ℕ) → InTree t n → InTree (lasting_tree t lasts) n
   in_lasting n m = subst (λ l. Member l n) (sym nodes_same) m
 
@@ -43,6 +45,7 @@ module _ (t : TreeView) (lasts : ℕ → Bool) where
   quiet_too from count area quiet place c h within at is =
       quiet place c h within at (asks_still (lasts c) (t.asking_hull c) h is)
 
+  -- where the parents of what lasts last, that tree keeps the laws of hulls
   pub lasting_laws : IsHullTree t → ParentsLast t lasts → IsHullTree (lasting_tree t lasts)
   lasting_laws k up = record {
     roots_once = k.roots_once;

@@ -23,7 +23,7 @@ any_at p (x ∷ xs) h = elim (or_cases (p x) (list_any p xs) h) [
 ]
 
 -- a member stands somewhere
-member_at : (xs : List ℕ) (n : ℕ) → Member xs n → (i : ℕ) × (slice_get xs i ≡ Some n)
+pub member_at : (xs : List ℕ) (n : ℕ) → Member xs n → (i : ℕ) × (slice_get xs i ≡ Some n)
 member_at [] n h = absurd h
 member_at (y ∷ xs) n (inl e) = (0, ap Some e)
 member_at (y ∷ xs) n (inr h) = let w = member_at xs n h in (suc w.0, w.1)

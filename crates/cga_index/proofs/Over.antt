@@ -11,7 +11,8 @@ use Rattle.cga_frame.specs.Box.{meets, holds}
 use Rattle.cga_index.specs.Occlusion.{graded, answer_of, join}
 use Rattle.cga_index.specs.Tree.{TreeView, Member, counts_for, asked, answer_over}
 
-graded_or : (a b c d : Bool) → graded (a || c) (b || d) ≡ join (graded a b) (graded c d)
+-- what two lists together answer is what they answer, joined
+pub graded_or : (a b c d : Bool) → graded (a || c) (b || d) ≡ join (graded a b) (graded c d)
 graded_or true b c d = refl
 graded_or false true true d = refl
 graded_or false true false true = refl

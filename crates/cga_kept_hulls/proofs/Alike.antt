@@ -17,6 +17,7 @@ all_both : (b : Box) (h k : Hulls) → holds b h.all ≡ true → holds b k.all 
     → holds b (with_hulls h (Some k)).all ≡ true
 all_both b h k s t = (is_hull h.all k.all).least b s t
 
+-- a box holds another that may lack
 abbrev pub opt_holds : Box → Option Box → Bool
 opt_holds b None = true
 opt_holds b (Some a) = holds b a
@@ -60,6 +61,7 @@ pub data Probe : Type 0 where
   Asking : Box → Probe
   Nobody : Probe
 
+-- what a probe answers of hulls
 abbrev pub probed : Probe → Hulls → Bool
 probed (Every b) h = holds b h.all
 probed (Asking b) h = opt_holds b h.asking
@@ -83,6 +85,7 @@ probed_chain (Every b) h k e t = holds_trans b h.all k.all t (both _ _ e).0
 probed_chain (Asking b) h k e t = opt_chain b h.asking k.asking (both _ _ e).1 t
 probed_chain Nobody h k e t = none_chain h.asking k.asking (both _ _ e).1 t
 
+-- hulls that are alike answer each probe alike
 pub alike_probed : (p : Probe) (h k : Hulls) → alike h k ≡ true → probed p h ≡ probed p k
 alike_probed p h k e = let r = both _ _ e in bool_same (probed p h) (probed p k) (probed_chain p h k r.0) (probed_chain p k h r.1)
 
@@ -99,9 +102,11 @@ holds_from h k f = pair _ _ (f (Every h.all) (holds_itself h.all)) (opt_from h.a
 pub probed_alike : (h k : Hulls) → ((p : Probe) → probed p h ≡ probed p k) → alike h k ≡ true
 probed_alike h k f = pair _ _ (holds_from h k (λ p t. sym (f p) ∙ t)) (holds_from k h (λ p t. f p ∙ t))
 
+-- hulls are like themselves
 pub alike_itself : (h : Hulls) → alike h h ≡ true
 alike_itself h = probed_alike h h (λ p. refl)
 
+-- hulls that are both like the same are like each other
 pub alike_turned : (h k m : Hulls) → alike h k ≡ true → alike h m ≡ true → alike k m ≡ true
 alike_turned h k m e f = probed_alike k m (λ p. sym (alike_probed p h k e) ∙ alike_probed p h m f)
 
@@ -123,12 +128,14 @@ module _ (p : Probe) where
   with_both h None t w = t
   with_both h (Some j) t w = probed_both p h j t (w j refl)
 
+  -- what holds of the hulls over a node and its children holds of the node's own
   pub over_own : (H : ℕ → Option Hulls) (own : Hulls) (xs : List ℕ) (n : ℕ) → probed p (over H own xs n) ≡ true
       → probed p own ≡ true
   unfolding over
   over_own H own xs zero t = t
   over_own H own xs (suc n) t = over_own H own xs n (with_apart (over H own xs n) (at_hulls H (slice_get xs n)) t).0
 
+  -- what holds of the hulls over a node and its children holds of each child
   pub over_child : (H : ℕ → Option Hulls) (own : Hulls) (xs : List ℕ) (n : ℕ) → probed p (over H own xs n) ≡ true
       → (i k : ℕ) (h : Hulls) → i < n → slice_get xs i ≡ Some k → H k ≡ Some h → probed p h ≡ true
   unfolding over
@@ -140,6 +147,7 @@ module _ (p : Probe) where
         | inr ne ↦ over_child H own xs n r.0 i k h (omega arith) at e
       ]
 
+  -- what holds a probe of a node and of each child holds it of the hulls over them
   pub over_all : (H : ℕ → Option Hulls) (own : Hulls) (xs : List ℕ) (n : ℕ) → probed p own ≡ true
       → ((i k : ℕ) (h : Hulls) → slice_get xs i ≡ Some k → H k ≡ Some h → probed p h ≡ true)
       → probed p (over H own xs n) ≡ true

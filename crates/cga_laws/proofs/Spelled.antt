@@ -1,5 +1,5 @@
 -- The sources of every state that lines come to are spelled by lines.
-use Rattle.std.proofs.Common.{◌≡◌, ℕ, suc, ◌≤◌, take, drop, length, List, [], ◌∷◌, ◌++◌, Bool, true, false, not, nat_lt, Option, Some, None, Result, Ok, Err, refl, subst, if◌then◌else◌}
+use Rattle.std.proofs.Common.{◌≡◌, ℕ, suc, ◌≤◌, take, drop, length, List, [], ◌∷◌, ◌++◌, Bool, true, false, not, nat_lt, Option, Some, None, Ok, Err, subst, if◌then◌else◌}
 use Rattle.std.proofs.lemmas.List.Elements.{All-nil, All-cons, All-append, All-set, All-take, All-drop, All-head, All-tail}
 use Rattle.std.specs.List.{AllByRecursion, IsDistinct}
 use Rattle.std.specs.Option.{option_map_or}
@@ -10,7 +10,6 @@ use Rattle.cga_city.specs.Derived.{is_within}
 use Rattle.cga_city.specs.Grammars.{attribute_place, has_rule, is_plain, new_place, prioritized, ranked, rule_place, with_priority, with_rule, with_rules}
 use Rattle.cga_city.specs.Lots.{accepted, finds_no_room, is_bad, lot_place, names_of, rooted, with_lot}
 use Rattle.cga_city.specs.declared.limits.TheConstants.{MOST_LOTS}
-use Rattle.cga_fraction.specs.Results.{and_then, err_if}
 use Rattle.cga_parser.proofs.Door.{spelled}
 use Rattle.cga_parser.specs.GrammarLines.{IsSaid, IsSpelled, rule_of}
 use Rattle.cga_parser.specs.declared.block_line.BlockLine.TheVariants as says
@@ -32,25 +31,12 @@ use Rattle.cga_laws.specs.Undos.{state_after}
 use Rattle.cga_laws.proofs.Kept.{AreKept, states_settled}
 use Rattle.cga_laws.proofs.Said.{AreSaid, IsSaidEdit, command_said}
 use Rattle.cga_laws.proofs.Undoing.{settled}
+use Rattle.cga_fraction.proofs.Door.{and_then-ok, err_if-ok, option_map_or-ok}
 
 -- ---- what was done where nothing was refused
 
-and_then_ok : {A B F : Type 0} (r : Result A F) (f : A → Result B F) (y : B) → and_then r f ≡ Ok y
-    → (x : A) × (r ≡ Ok x) × (f x ≡ Ok y)
-and_then_ok (Ok x) f y h = (x, refl, h)
-and_then_ok (Err e) f y h = absurd (cc)
-
-err_if_ok : {A F : Type 0} (t : Bool) (e : F) (r : Result A F) (y : A) → err_if t e r ≡ Ok y → r ≡ Ok y
-err_if_ok true e r y h = absurd (cc)
-err_if_ok false e r y h = h
-
-map_or_ok : {A B F : Type 0} (f : A → Result B F) (o : Option A) (e : F) (y : B) → option_map_or f o (Err e) ≡ Ok y
-    → (x : A) × (o ≡ Some x) × (f x ≡ Ok y)
-map_or_ok f None e y h = absurd (cc)
-map_or_ok f (Some x) e y h = (x, refl, h)
-
 within_ok : (budget : ℕ) (r : Changed) (new : Sources) → within budget r ≡ Ok new → r ≡ Ok new
-within_ok budget (Ok made) new h = err_if_ok (not (is_within budget made)) OverBudget (Ok made) new h
+within_ok budget (Ok made) new h = (err_if-ok (not (is_within budget made)) OverBudget (Ok made) new h).1
 within_ok budget (Err e) new h = absurd (cc)
 
 -- ---- lists as edits change them
@@ -143,27 +129,27 @@ module _ (symbol : List ℕ) (priority : ℕ) where
 
 with_said : (s new : Sources) (g : Grammar) → AreSaid s → IsSpelled g → with_grammar s g ≡ Ok new → AreSaid new
 with_said s new g said h made =
-    let (u, fine, left) = and_then_ok (rooted g s.lots) _ new made in
+    let (u, fine, left) = and_then-ok (rooted g s.lots) _ new made in
     let e : record { grammar = g; lots = s.lots; mode = s.mode } ≡ new = cc in
     subst AreSaid e (record { grammar = h; lots = said.lots })
 
 checked_said : (s new : Sources) (g : Grammar) → AreSaid s → IsSpelled g → with_checked s g ≡ Ok new → AreSaid new
-checked_said s new g said h made = let (u, fine, left) = and_then_ok (checked g) _ new made in with_said s new g said h left
+checked_said s new g said h made = let (u, fine, left) = and_then-ok (checked g) _ new made in with_said s new g said h left
 
 whole_said : (s new other : Sources) → AreSaid other → changed s (edit.Whole other) ≡ Ok new → AreSaid new
 whole_said s new other said made =
-    let (u, fine, a) = and_then_ok (checked other.grammar) _ new made in
-    let b = err_if_ok (nat_lt MOST_LOTS (length other.lots)) TooManyLots _ new a in
-    let (v, good, left) = and_then_ok (accepted (ranked other.grammar) other.lots) _ new b in
+    let (u, fine, a) = and_then-ok (checked other.grammar) _ new made in
+    let b = (err_if-ok (nat_lt MOST_LOTS (length other.lots)) TooManyLots _ new a).1 in
+    let (v, good, left) = and_then-ok (accepted (ranked other.grammar) other.lots) _ new b in
     let e : record { grammar = ranked other.grammar; lots = other.lots; mode = other.mode } ≡ new = cc in
     subst AreSaid e (record { grammar = ranked_spelled other.grammar said.grammar; lots = said.lots })
 
 lot_said : (s new : Sources) (lot : Lot) → AreSaid s → IsSaidLot lot → changed s (edit.SetLot lot) ≡ Ok new
     → AreSaid new
 lot_said s new lot said h made =
-    let a = err_if_ok (not (is_plain s.grammar lot.symbol)) (NoSymbol lot.symbol) _ new made in
-    let b = err_if_ok (is_bad lot) (BadLot lot.name) _ new a in
-    let q = err_if_ok (finds_no_room lot s.lots) TooManyLots _ new b in
+    let a = (err_if-ok (not (is_plain s.grammar lot.symbol)) (NoSymbol lot.symbol) _ new made).1 in
+    let b = (err_if-ok (is_bad lot) (BadLot lot.name) _ new a).1 in
+    let q = (err_if-ok (finds_no_room lot s.lots) TooManyLots _ new b).1 in
     let e : record { grammar = s.grammar; lots = with_lot lot s.lots; mode = s.mode } ≡ new = cc in
     subst AreSaid e (record {
       grammar = said.grammar;
@@ -173,14 +159,14 @@ lot_said s new lot said h made =
 
 changed_said : (s new : Sources) (e : Edit) → AreSaid s → IsSaidEdit e → changed s e ≡ Ok new → AreSaid new
 changed_said s new (edit.Rules g) said h made =
-    let (u, fine, left) = and_then_ok (checked g) _ new made in with_said s new (ranked g) said (ranked_spelled g h) left
+    let (u, fine, left) = and_then-ok (checked g) _ new made in with_said s new (ranked g) said (ranked_spelled g h) left
 changed_said s new (edit.Put priority rule) said h made =
     checked_said s new _ said (ruled_spelled s.grammar (record { priority = priority; rule = rule }) said.grammar h.1 h.0) made
 changed_said s new (edit.Drop id) said h made =
-    let (i, there, left) = map_or_ok _ (rule_place id s.grammar.rules) (NoRule id) new made in
+    let (i, there, left) = option_map_or-ok _ (rule_place id s.grammar.rules) (NoRule id) new made in
     checked_said s new _ said (less_spelled s.grammar i said.grammar) left
 changed_said s new (edit.SetAttribute name value) said h made =
-    let (i, there, left) = map_or_ok _ (attribute_place name s.grammar.attributes) (NoAttribute name) new made in
+    let (i, there, left) = option_map_or-ok _ (attribute_place name s.grammar.attributes) (NoAttribute name) new made in
     let e : valued s name value i ≡ new = cc in
     subst AreSaid e (record {
       grammar = record {
@@ -191,7 +177,7 @@ changed_said s new (edit.SetAttribute name value) said h made =
       lots = said.lots;
     })
 changed_said s new (edit.SetPriority symbol priority) said h made =
-    let q = err_if_ok (not (has_rule s.grammar symbol)) (NoSymbol symbol) _ new made in
+    let q = (err_if-ok (not (has_rule s.grammar symbol)) (NoSymbol symbol) _ new made).1 in
     let e : repriced s symbol priority ≡ new = cc in
     subst AreSaid e (record {
       grammar = record {
@@ -203,7 +189,7 @@ changed_said s new (edit.SetPriority symbol priority) said h made =
     })
 changed_said s new (edit.SetLot lot) said h made = lot_said s new lot said h made
 changed_said s new (edit.Unlot name) said h made =
-    let (i, there, left) = map_or_ok _ (lot_place name s.lots) (NoLot name) new made in
+    let (i, there, left) = option_map_or-ok _ (lot_place name s.lots) (NoLot name) new made in
     let e : record { grammar = s.grammar; lots = remove s.lots i; mode = s.mode } ≡ new = cc in
     subst AreSaid e (record { grammar = said.grammar; lots = all_less IsSaidLot s.lots i said.lots })
 changed_said s new (edit.SetOrder mode) said h made =

@@ -57,7 +57,8 @@ module _ (line : List ℕ) (at : ℕ) (h : at < length line) (xs : List Token) (
 pub all_found : (xs : List Token) → with_found xs (Ok []) ≡ Ok xs
 all_found xs = ap Ok (nil_right xs)
 
-lex_nil : (place : ℕ) → lex 0 place [] ≡ Ok []
+-- no bytes have no tokens
+pub lex_nil : (place : ℕ) → lex 0 place [] ≡ Ok []
 unfolding lex
 lex_nil place = refl
 

@@ -43,6 +43,7 @@ going_on : (digit upper lower line : Bool) → ((upper || lower) || line) ≡ tr
 going_on true upper lower line h = refl
 going_on false upper lower line h = h
 
+-- a byte that begins a name continues one
 pub begins-continues : (b : ℕ) → begins_name b ≡ true → continues_name b ≡ true
 begins-continues b h = going_on (is_in_range 48 57 b) (is_in_range 65 90 b) (is_in_range 97 122 b) (nat_eq b 95) h
 

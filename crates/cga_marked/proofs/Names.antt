@@ -9,18 +9,12 @@ use Rattle.std.proofs.lemmas.List.Sorted.{IsPermutation-map, IsPermutation-sym, 
 use Rattle.std.proofs.lemmas.List.Elements.{Contains-append_right}
 use Rattle.std.proofs.lemmas.Map.Keys.{IsDistinct-head, IsDistinct-IsPermutation}
 use Rattle.std.proofs.lemmas.Map.Made.{Contains-tail, lookup_key_passes}
-use Rattle.std.proofs.lemmas.Option.{slice_get_within, slice_get-get_or, get_or_from_slice_get}
+use Rattle.std.proofs.lemmas.Option.{slice_get_within, get_or_from_slice_get}
 use Rattle.indexmap.specs.IndexMap.{insert_entry}
-use lib.Pointwise.{bytes_decides}
 use Rattle.cga_marked.specs.Map.{Named, same_name, names, AreApart, put_back}
 use Rattle.std.proofs.lemmas.Bool.{cases_Bool as either}
-use Rattle.cga_fraction.proofs.Door.{cases_Option_nat as opt_cases, same_from_both_ways as same_bools}
-
-pub name_sound : (a b : List ℕ) → same_name a b ≡ true → a ≡ b
-name_sound a b h = (bytes_decides a b).0 h
-
-pub name_own : (a : List ℕ) → same_name a a ≡ true
-name_own a = (bytes_decides a a).1 refl
+pub use Rattle.cga_fraction.proofs.Door.{slice_get_from_Contains as at_contains}
+use Rattle.cga_fraction.proofs.Door.{cases_Option_nat as opt_cases, eq_from_pointwise as name_sound, pointwise-order as name_order, pointwise-same as name_own}
 
 -- ---- the entries once an id is put under a name
 
@@ -105,6 +99,7 @@ under_contains (e ∷ es) name c h = elim (either (same_name name e.0)) [
   | inr n ↦ (let w = under_contains es name c (sym (ap (λ b. cond b (Some e.1) (lookup (same_name name) es)) n) ∙ h) in (suc w.0, w.1))
 ]
 
+-- where no name is the given one, no entry of it stands at an index
 pub none_later : (es : Named) (name : List ℕ) (i c : ℕ) → AllByRecursion (λ y. same_name name y ≡ false) (names es)
     → slice_get es i ≡ Some (name, c) → ⊥
 none_later [] name i c a h = let x : None ≡ Some (name, c) = h in absurd (cc)
@@ -208,24 +203,15 @@ none_front (e ∷ es) (suc n) name h = elim (either (same_name name e.0)) [
   | inr f ↦ ap (λ b. cond b (Some e.1) (lookup (same_name name) (take n es))) f ∙ none_front es n name (sym (ap (λ b. cond b (Some e.1) (lookup (same_name name) es)) f) ∙ h)
 ]
 
-name_flip : (a b : List ℕ) → same_name a b ≡ true → same_name b a ≡ true
-name_flip a b h = subst (λ c. same_name c a ≡ true) (name_sound a b h) (name_own a)
-
-pub name_order : (a b : List ℕ) → same_name a b ≡ same_name b a
-name_order a b = same_bools (same_name a b) (same_name b a) (name_flip a b) (name_flip b a)
-
 -- ---- members
 
+-- the entry at an index is contained
 pub contains_at : (es : Named) (i : ℕ) (e : List ℕ × ℕ) → slice_get es i ≡ Some e → Contains es e
 contains_at es i e h = (i, slice_get_within es i e h, get_or_from_slice_get es i e e h)
 
-pub at_contains : (es : Named) (e : List ℕ × ℕ) → Contains es e → (i : ℕ) × (slice_get es i ≡ Some e)
-at_contains es e h = (h.0, slice_get-get_or es h.0 e h.1 ∙ ap Some h.2)
-
--- ---- the ids alone
-
 -- ---- a member more, or less
 
+-- names that stand apart do in any order
 pub apart_moved : (es rest : Named) → AreApart rest → IsPermutation es rest → AreApart es
 apart_moved es rest a p = IsDistinct-IsPermutation same_name name_order (names rest) (names es) (IsPermutation-map (λ (e : List ℕ × ℕ). e.0) rest es (IsPermutation-sym es rest p)) a
 
@@ -234,14 +220,17 @@ pub apart_out : (es rest : Named) (name : List ℕ) (c : ℕ) → AreApart es �
     → AllByRecursion (λ y. same_name name y ≡ false) (names rest)
 apart_out es rest name c a p = IsDistinct-head same_name name (names rest) (IsDistinct-IsPermutation same_name name_order (names es) (names ((name, c) ∷ rest)) (IsPermutation-map (λ (e : List ℕ × ℕ). e.0) es ((name, c) ∷ rest) p) a)
 
+-- an entry that is left was there
 pub out_still : (es rest : Named) (gone : List ℕ × ℕ) → IsPermutation es (gone ∷ rest) → (e : List ℕ × ℕ)
     → Contains rest e → Contains es e
 out_still es rest gone p e m = Contains-permutation (gone ∷ rest) es e (IsPermutation-sym es (gone ∷ rest) p) (Contains-append_right (gone ∷ []) rest e m)
 
+-- an entry that isn't the one taken out is left
 pub out_left : (es rest : Named) (gone : List ℕ × ℕ) → IsPermutation es (gone ∷ rest) → (e : List ℕ × ℕ)
     → (gone ≡ e → ⊥) → Contains es e → Contains rest e
 out_left es rest gone p e apart m = Contains-tail gone rest e apart (Contains-permutation es (gone ∷ rest) e p m)
 
+-- where no name is the given one, no entry of it is contained
 pub none_among : (es : Named) (name : List ℕ) (c : ℕ) → AllByRecursion (λ y. same_name name y ≡ false) (names es)
     → Contains es (name, c) → ⊥
 none_among es name c a m = let w = at_contains es (name, c) m in none_later es name w.0 c a w.1

@@ -7,11 +7,7 @@ use Rattle.std.proofs.lemmas.Slice.Eq.{bytes_eq-Decides}
 use Rattle.std.specs.Prelude.{bytes_eq}
 use Rattle.cga_shape.specs.declared.drawn.Drawn.{Drawn}
 use Rattle.cga_obj.specs.Lots.{Shown, StandsBy, drawn_of, is_of, lot_text, lots_text, vertices_in}
-use Rattle.std.proofs.lemmas.Bool.{false_from_ne_true as not_true}
-
--- two names differ either way round
-apart : (a b : List ℕ) → bytes_eq a b ≡ false → bytes_eq b a ≡ false
-apart a b e = not_true (bytes_eq b a) (λ t. let q : true ≡ false = sym ((bytes_eq-Decides a b).1 (sym ((bytes_eq-Decides b a).0 t))) ∙ e in cc)
+use Rattle.cga_fraction.proofs.Door.{bytes_eq-false_back}
 
 module _ (p : Drawn → Bool) where
   filter_all : (xs : List Drawn) → AllByRecursion (λ x. p x ≡ true) xs → filter p xs ≡ xs
@@ -60,7 +56,7 @@ others_same : (lot : List ℕ) (lots : List (List ℕ)) (own rest : List Drawn)
     → AllByRecursion (λ l. drawn_of l (own ++ rest) ≡ drawn_of l rest) lots
 others_same lot [] own rest a h = tt
 others_same lot (l ∷ ls) own rest a h =
-    (filter-append (is_of l) own rest ∙ ap (λ (t : List Drawn). t ++ drawn_of l rest) (filter_none (is_of l) own (others_fail l lot own (apart lot l a.0) h)), others_same lot ls own rest a.1 h)
+    (filter-append (is_of l) own rest ∙ ap (λ (t : List Drawn). t ++ drawn_of l rest) (filter_none (is_of l) own (others_fail l lot own (bytes_eq-false_back lot l a.0) h)), others_same lot ls own rest a.1 h)
 
 texts_same : (mesh : Shown) (decimals before : ℕ) (lots : List (List ℕ)) (xs ys : List Drawn)
     → AllByRecursion (λ l. drawn_of l xs ≡ drawn_of l ys) lots

@@ -1,5 +1,5 @@
 -- What a derivation gives is a consistent list: what a shape sees at its stamp was made before it.
-use Rattle.std.proofs.Common.{◌≡◌, List, [], ◌∷◌, Bool, true, false, refl, sym, ap, ◌∙◌, subst, ◌⊎◌, inl, inr, ◌&&◌, Result, Ok, Err, None}
+use Rattle.std.proofs.Common.{◌≡◌, List, [], ◌∷◌, true, false, refl, sym, ap, ◌∙◌, subst, ◌⊎◌, inl, inr, ◌&&◌, Result, Ok, Err, None}
 use Rattle.std.specs.Prelude.{not}
 use Rattle.std.specs.Ordering.{is_lt}
 use Rattle.std.specs.Cmp.{IsTotalOrder}
@@ -13,6 +13,8 @@ use Rattle.cga_order.proofs.Order.{stamps_total}
 use Rattle.cga_order.proofs.Members.{waits, place_dec, Has-start, start-Has, Among-shapes_where, Has-from_shapes_where}
 use Rattle.cga_order.proofs.Steps as steps
 use Rattle.cga_order.proofs.Maxima as stamps
+use Rattle.cga_fraction.proofs.Door.{Less_from_is_lt, false_from_not}
+use Rattle.std.proofs.lemmas.Bool.{and_parts}
 
 module _ {N A F P : Type 0} (world : World N A F P) (laws : IsWorld world) where
   abbrev Members : Type 0
@@ -22,7 +24,7 @@ module _ {N A F P : Type 0} (world : World N A F P) (laws : IsWorld world) where
   order = stamps_total world.mode
 
   is_earlier : (a b : List Rank) → is_lt (stamps_cmp world.mode a b) ≡ true → IsEarlier world a b
-  is_earlier a b e = stamps.less_is (stamps_cmp world.mode) order _ e
+  is_earlier a b e = Less_from_is_lt _ e
 
   not_self : (a : List Rank) → IsEarlier world a a → ⊥
   not_self a e = stamps.not_self (stamps_cmp world.mode) order a e
@@ -33,22 +35,14 @@ module _ {N A F P : Type 0} (world : World N A F P) (laws : IsWorld world) where
     pub only : (n : N) (k : Kind F P) → Has C n k → Among n world.roots ⊎ IsMade world C n
     pub roots : (n : N) → Among n world.roots → Stands C n Waiting
 
-  both_true : (a b : Bool) → (a && b) ≡ true → (a ≡ true) × (b ≡ true)
-  both_true true b e = (refl, e)
-  both_true false b e = let x : false ≡ true = e in cc
-
-  not_true : (a : Bool) → not a ≡ true → a ≡ false
-  not_true true e = let x : false ≡ true = e in cc
-  not_true false e = refl
-
   -- the parts of waiting at a stamp
   pub waits_at-parts : (q n : N) (k : Kind F P) → waits_at world q n k ≡ true
       → IsEarlier world (birth_of world n) (stamp_of world q) × (is_instance k ≡ false)
       × IsEarlier world (stamp_of world q) (stamp_of world n)
   waits_at-parts q n k e =
-      let t = both_true _ _ e in
-      let u = both_true _ _ t.0 in
-      (is_earlier _ _ u.0, not_true _ u.1, is_earlier _ _ t.1)
+      let t = and_parts _ _ e in
+      let u = and_parts _ _ t.0 in
+      (is_earlier _ _ u.0, false_from_not _ u.1, is_earlier _ _ t.1)
 
   pub waits_at-true : (q n : N) (k : Kind F P) → IsEarlier world (birth_of world n) (stamp_of world q)
       → is_instance k ≡ false → IsEarlier world (stamp_of world q) (stamp_of world n) → waits_at world q n k ≡ true

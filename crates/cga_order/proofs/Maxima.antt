@@ -9,6 +9,7 @@ use Rattle.std.specs.Cmp.Lexicographic.{slice_cmp}
 use Rattle.std.specs.List.{list_all}
 use Rattle.cga_order.specs.Stamp.{maxima}
 pub use Rattle.std.proofs.lemmas.Bool.{cases_Bool as either}
+use Rattle.cga_fraction.proofs.Door.{Less_from_is_lt}
 
 module _ {R : Type 0} (cmp : R → R → Ordering) (o : IsTotalOrder cmp) where
   abbrev pub under : R → R → Bool
@@ -29,12 +30,6 @@ module _ {R : Type 0} (cmp : R → R → Ordering) (o : IsTotalOrder cmp) where
   -- where the test for less is false, the comparison isn't less
   pub less_not : (a : Ordering) → is_lt a ≡ false → a ≡ Less → ⊥
   less_not a e l = cc
-
-  -- where the test for less is true, the comparison is less
-  pub less_is : (a : Ordering) → is_lt a ≡ true → a ≡ Less
-  less_is Less e = refl
-  less_is Equal e = cc
-  less_is Greater e = cc
 
   -- three ways for two
   pub split : (x y : R) → (cmp x y ≡ Less) ⊎ ((cmp x y ≡ Equal) ⊎ (cmp y x ≡ Less))
@@ -66,7 +61,7 @@ module _ {R : Type 0} (cmp : R → R → Ordering) (o : IsTotalOrder cmp) where
   under_all r [] e q i = absurd i
   under_all r (x ∷ rs) e q i = elim (either (under r x)) [
     | inl h ↦ elim i [
-      | inl s ↦ subst (λ y. cmp y r ≡ Less) s (less_is _ h)
+      | inl s ↦ subst (λ y. cmp y r ≡ Less) s (Less_from_is_lt _ h)
       | inr j ↦ under_all r rs (sym (ap (λ b. b && list_all (under r) rs) h) ∙ e) q j
     ]
     | inr h ↦ let f : false ≡ true = sym (ap (λ b. b && list_all (under r) rs) h) ∙ e in cc

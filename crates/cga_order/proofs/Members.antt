@@ -1,5 +1,7 @@
 -- Members of lists, and what a step makes of them.
-use Rattle.std.proofs.Common.{◌≡◌, ℕ, suc, List, [], ◌∷◌, ◌++◌, map, Bool, true, false, cond, refl, sym, ap, ◌∙◌, subst, ◌⊎◌, inl, inr, ◌&&◌, Some}
+use Rattle.std.proofs.Common.{◌≡◌, ◌<◌, ℕ, zero, suc, arith, get_or, length, List, [], ◌∷◌, ◌++◌, map, Bool, true, false, cond, refl, sym, ap, ◌∙◌, subst, ◌⊎◌, inl, inr, ◌&&◌, Some}
+use Rattle.std.specs.List.{All}
+use Rattle.std.specs.Map.{keys_of}
 use Rattle.std.specs.Prelude.{slice_get, nat_eq}
 use lib.Pointwise.{pointwise, bytes_decides}
 use Rattle.cga_order.specs.Chain.{Chain}
@@ -8,6 +10,7 @@ use Rattle.cga_order.specs.Run.{same_place, become}
 use Rattle.cga_order.proofs.Chains.{place}
 use Rattle.cga_order.proofs.Maxima.{either}
 use Rattle.std.proofs.lemmas.Bool.{and_parts as both_true}
+use Rattle.cga_fraction.proofs.Door.{None-not-Some, same_Some}
 
 pub same_place-is : (a b : Chain) → same_place a b ≡ true → place a ≡ place b
 same_place-is a b e =
@@ -29,7 +32,50 @@ Among-index (m ∷ ns) n h = elim h [
   | inr r ↦ let w = Among-index ns n r in (suc w.0, w.1)
 ]
 
+module _ {X : Type 0} where
+  -- an element of the first list is one of both joined
+  pub Among-left : (xs ys : List X) (x : X) → Among x xs → Among x (xs ++ ys)
+  Among-left [] ys x h = absurd h
+  Among-left (y ∷ xs) ys x h = elim h [ inl e ↦ inl e | inr r ↦ inr (Among-left xs ys x r) ]
+
+  -- an element of the second list is one of both joined
+  pub Among-right : (xs ys : List X) (x : X) → Among x ys → Among x (xs ++ ys)
+  Among-right [] ys x h = h
+  Among-right (y ∷ xs) ys x h = inr (Among-right xs ys x h)
+
+module _ {X Y : Type 0} (f : X → Y) where
+  -- an element of a mapped list is the image of an element of the list
+  pub Among-map : (xs : List X) (y : Y) → Among y (map f xs) → (x : X) × Among x xs × (f x ≡ y)
+  Among-map [] y h = absurd h
+  Among-map (x ∷ xs) y h = elim h [ inl e ↦ (x, inl refl, e) | inr r ↦ let w = Among-map xs y r in (w.0, inr w.1, w.2) ]
+
+  -- the image of an element is an element of the mapped list
+  pub map-Among : (xs : List X) (x : X) → Among x xs → Among (f x) (map f xs)
+  map-Among [] x h = absurd h
+  map-Among (z ∷ xs) x h = elim h [ inl e ↦ inl (ap f e) | inr r ↦ inr (map-Among xs x r) ]
+
+module _ {K X : Type 0} where
+  -- the key of an entry stands at some index
+  pub Among-key : (es : List (K × X)) (q : K) (w : X) → Among (q, w) es
+      → (j : ℕ) × (j < length (keys_of es)) × (get_or (keys_of es) j q ≡ q)
+  Among-key [] q w h = absurd h
+  Among-key (e ∷ es) q w h = elim h [
+    | inl a ↦ (0, omega arith, ap (λ p. p.0) a)
+    | inr r ↦ let i = Among-key es q w r in (suc i.0, omega (arith, i.1), i.2)
+  ]
+
+  -- what holds of each key holds of the key of each entry
+  pub Among-All : (P : K → Type 0) (es : List (K × X)) (q : K) (w : X) → All P (keys_of es) → Among (q, w) es → P q
+  Among-All P es q w all h = let i = Among-key es q w h in subst P i.2 (all i.0 q i.1)
+
 module _ {N F P : Type 0} where
+  -- what stands at an index is a member, with its shape and kind
+  pub slice_get-Has : (xs : List (Placed N F P)) (i : ℕ) (m : Placed N F P) → slice_get xs i ≡ Some m
+      → Has xs m.shape m.kind
+  slice_get-Has [] i m e = None-not-Some m e
+  slice_get-Has (x ∷ xs) zero m e = let is = same_Some x m e in inl (ap (λ y. y.shape) is, ap (λ y. y.kind) is)
+  slice_get-Has (x ∷ xs) (suc i) m e = inr (slice_get-Has xs i m e)
+
   -- a member of the first list is one of both joined
   pub Has-left : (xs ys : List (Placed N F P)) (n : N) (k : Kind F P) → Has xs n k → Has (xs ++ ys) n k
   Has-left [] ys n k h = absurd h

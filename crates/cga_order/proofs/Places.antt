@@ -1,12 +1,13 @@
 -- In which order members stand in a configuration that was reached.
-use Rattle.std.proofs.Common.{◌≡◌, ℕ, zero, suc, ◌+◌, ◌<◌, List, [], ◌∷◌, ◌++◌, length, map, true, false, cond, refl, sym, ap, ◌∙◌, subst, ◌⊎◌, inl, inr, Result, Ok, Err, Option, Some, None, arith}
+use Rattle.std.proofs.Common.{◌≡◌, ℕ, zero, suc, ◌+◌, ◌<◌, List, [], ◌∷◌, ◌++◌, length, map, true, false, cond, refl, sym, ap, ◌∙◌, subst, ◌⊎◌, inl, inr, Result, Ok, Err, Some, arith}
 use Rattle.std.specs.Prelude.{slice_get}
 use Rattle.cga_order.specs.Chain.{IsChild}
-use Rattle.cga_order.specs.World.{World, IsWorld, Placed, Kind, Waiting, Has, stamp_of, birth_of, IsEarlier}
+use Rattle.cga_order.specs.World.{World, IsWorld, Placed, Kind, Waiting, stamp_of, birth_of, IsEarlier}
 use Rattle.cga_order.specs.Run.{same_place, become, outcome, start, IsStep, Reached, AreSiblings, StandsByBirth}
 use Rattle.cga_order.proofs.Chains.{birth-child}
 use Rattle.cga_order.proofs.Steps as steps
 use Rattle.cga_fraction.proofs.Door.{None-not-Some as none_some, length-map, same_Some as some_same}
+use Rattle.cga_order.proofs.Members.{slice_get-Has}
 
 module _ {X : Type 0} where
   -- what stands in a list that is put together stands in its first part, or in its second
@@ -38,12 +39,6 @@ module _ {N A F P : Type 0} (world : World N A F P) (laws : IsWorld world) where
 
   become-shape : (s : N) (k : Kind F P) (m : Placed N F P) → (become world s k m).shape ≡ m.shape
   become-shape s k m = elim (same_place (world.chain m.shape) (world.chain s)) as (λ b. (cond b (record { shape = m.shape; kind = k }) m).shape ≡ m.shape) [ true ↦ refl | false ↦ refl ]
-
-  -- what stands at an index is a member, with its shape and kind
-  pub slice_get-Has : (xs : Members) (i : ℕ) (m : Placed N F P) → slice_get xs i ≡ Some m → Has xs m.shape m.kind
-  slice_get-Has [] i m e = none_some m e
-  slice_get-Has (x ∷ xs) zero m e = let is = some_same x m e in inl (ap (λ y. y.shape) is, ap (λ y. y.kind) is)
-  slice_get-Has (x ∷ xs) (suc i) m e = inr (slice_get-Has xs i m e)
 
   module _ (C D : Members) (s : N) (good : steps.IsOrdered world C) (step : IsStep world C D s) where
     abbrev pub kind : Kind F P

@@ -45,7 +45,7 @@ slice_cmp-within (suc common) (x ∷ xs) (y ∷ ys) (suc i) (suc j) same left ri
     ap (λ c. ordering_then c (slice_cmp nat_cmp (take i xs) (take j ys))) (nat_cmp-same x y heads.0) ∙ (tails ∙ sym (nat_cmp-suc i j))
 
 -- the first, where it decides
-then_decided : (a b : Ordering) → (a ≡ Equal → ⊥) → ordering_then a b ≡ a
+pub then_decided : (a b : Ordering) → (a ≡ Equal → ⊥) → ordering_then a b ≡ a
 then_decided Less b h = refl
 then_decided Equal b h = absurd (h refl)
 then_decided Greater b h = refl

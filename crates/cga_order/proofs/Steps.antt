@@ -7,12 +7,13 @@ use Rattle.std.proofs.lemmas.List.{append-nil}
 use Rattle.cga_order.specs.Rank.{Rank, rank_cmp}
 use Rattle.cga_order.specs.Chain.{IsChild, rank}
 use Rattle.cga_order.specs.Stamp.{stamps_cmp}
-use Rattle.cga_order.specs.World.{World, IsWorld, Placed, Kind, Waiting, Done, Faulted, Instance, Has, Among, place_of, stamp_of, birth_of, IsEarlier}
+use Rattle.cga_order.specs.World.{World, IsWorld, Placed, Kind, Waiting, Done, Faulted, Instance, Has, Among, place_of, stamp_of, birth_of, IsEarlier, is_waiting, is_instance}
 use Rattle.cga_order.specs.Run.{become, told, outcome, start, IsStep, Reached, AllEarlier, Rises}
 use Rattle.cga_order.proofs.Order.{stamps_total}
 use Rattle.cga_order.proofs.Chains.{stamps-place, rank-before, root-before, birth-stamp, birth-child, stamp-child, snoc-same}
 use Rattle.cga_order.proofs.Members.{Has-left, Has-right, Has-append, Has-index, Among-index, Has-start, Has-become, become-Has_elsewhere, become-Has_there}
 use Rattle.cga_order.proofs.Maxima as stamps
+use Rattle.std.proofs.Common.{false, true}
 
 module _ {N A F P : Type 0} (world : World N A F P) where
   abbrev pub Members : Type 0
@@ -58,6 +59,13 @@ module _ {N A F P : Type 0} (world : World N A F P) where
   -- what was expanded doesn't wait
   pub not_waiting : (k : Kind F P) → IsExpanded k → k ≡ Waiting → ⊥
   not_waiting k x e = elim x [ inl d ↦ let y : Done ≡ Waiting = sym d ∙ e in cc | inr f ↦ let y : Faulted f.0 ≡ Waiting = sym f.1 ∙ e in cc ]
+
+  -- what neither waits nor is an instance is expanded
+  pub expanded_kind : (k : Kind F P) → is_waiting k ≡ false → is_instance k ≡ false → IsExpanded k
+  expanded_kind Waiting e f = let x : true ≡ false = e in cc
+  expanded_kind Done e f = inl refl
+  expanded_kind (Faulted y) e f = inr (y, refl)
+  expanded_kind (Instance y) e f = let x : true ≡ false = f in cc
 
   -- what a configuration that was reached keeps
   pub record IsOrdered (C : Members) : Type 0 where

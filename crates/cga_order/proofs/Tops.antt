@@ -1,10 +1,10 @@
 -- The greatest rank of a chain from some depth on.
-use Rattle.std.proofs.Common.{◌≡◌, ℕ, zero, suc, ◌+◌, ◌-◌, ◌<◌, ◌≤◌, List, [], ◌∷◌, ◌++◌, length, take, refl, sym, ap, ◌∙◌, ◌⊎◌, inl, inr, subst, arith, append_assoc}
+use Rattle.std.proofs.Common.{◌≡◌, ℕ, zero, suc, ◌+◌, ◌-◌, ◌<◌, ◌≤◌, [], ◌∷◌, ◌++◌, length, take, refl, sym, ap, ◌∙◌, ◌⊎◌, inl, inr, subst, arith, append_assoc}
 use Rattle.std.specs.Prelude.{slice_index, Option, Some, None}
 use Rattle.std.specs.declared.cmp.Ordering.{Ordering}
 use Rattle.std.specs.declared.cmp.Ordering.TheVariants.{Less, Equal, Greater}
 use Rattle.std.specs.Ordering.{nat_cmp, ordering_then, MatchOrdering}
-use Rattle.std.specs.Cmp.{nat_cmp_is, ranked}
+use Rattle.std.specs.Cmp.{ranked}
 use Rattle.std.proofs.lemmas.Cmp.{tied_itself, nat_list_cmp_total}
 use Rattle.std.proofs.lemmas.List.{length-take, length-take-le}
 use Rattle.cga_word.specs.declared.mode.Mode.{Mode}
@@ -20,6 +20,7 @@ use Rattle.cga_order.proofs.Heads as heads
 use Rattle.cga_order.proofs.Maxima as stamps
 use Rattle.std.proofs.Common.{append-nil}
 use Rattle.cga_fraction.proofs.Door.{nat_cmp-same}
+use Rattle.cga_order.proofs.Prefixes.{then_decided}
 
 -- the order of the stamps of the ranks from this depth on
 abbrev pub order_from : Mode → Chain → Chain → ℕ → Ordering
@@ -222,9 +223,4 @@ pub order_from-decided : (mode : Mode) (a b : Chain) (left right : Option ℕ) �
     → IsTop mode a 0 left → IsTop mode b 0 right → (tops_cmp mode a left b right ≡ Equal → ⊥)
     → tops_cmp mode a left b right ≡ stamp_cmp mode a b
 order_from-decided mode a b left right whole_a whole_b h k differ =
-    sym (kept _ _ differ) ∙ sym (stamps_cmp-step mode a b 0 left right whole_a whole_b h k) ∙ order_from-all mode a b whole_a whole_b
-  where
-    kept : (x y : Ordering) → (x ≡ Equal → ⊥) → ordering_then x y ≡ x
-    kept Less y h = refl
-    kept Equal y h = absurd (h refl)
-    kept Greater y h = refl
+    sym (then_decided _ _ differ) ∙ sym (stamps_cmp-step mode a b 0 left right whole_a whole_b h k) ∙ order_from-all mode a b whole_a whole_b

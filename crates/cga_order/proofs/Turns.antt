@@ -15,6 +15,7 @@ use Rattle.cga_order.proofs.Steps as steps
 use Rattle.cga_order.proofs.Derived as derived
 use Rattle.cga_order.proofs.Maxima.{either}
 use Rattle.cga_order.proofs.Maxima as stamps
+use Rattle.cga_fraction.proofs.Door.{Less_from_is_lt}
 
 module _ {N A F P : Type 0} where
   -- a node is a member, of the same kind
@@ -46,7 +47,7 @@ module _ {N A F P : Type 0} (world : World N A F P) (laws : IsWorld world) where
   existing-on n xs ys same m v h =
       let w = Has-from_shapes_where (exists_at world n) (members_of xs) m h in
       let g = Keeps-Has xs m w.0 w.1 in
-      let u = same m w.0 g.0 v (stamps.less_is (stamps_cmp world.mode) order _ w.2) g.1 in
+      let u = same m w.0 g.0 v (Less_from_is_lt _ w.2) g.1 in
       Among-shapes_where (exists_at world n) (members_of ys) m u.0 (Has-Keeps ys m u.0 u.1 u.2) w.2
 
   waiting-on : (n : N) (xs ys : Nodes) → SameAt n xs ys → (m : N) → world.sees n m ≡ true

@@ -1,5 +1,5 @@
 -- A list that is consistent, as far as a limit, has the members of the derivation that far.
-use Rattle.std.proofs.Common.{◌≡◌, ℕ, zero, suc, ◌+◌, ◌<◌, List, [], ◌∷◌, length, Bool, true, false, refl, sym, ap, ◌∙◌, subst, ◌⊎◌, inl, inr, ◌&&◌, Ok, Err, Option, Some, None, arith, length-append}
+use Rattle.std.proofs.Common.{◌≡◌, ℕ, zero, suc, ◌+◌, ◌<◌, List, [], ◌∷◌, length, true, false, refl, sym, ap, ◌∙◌, subst, ◌⊎◌, inl, inr, ◌&&◌, Ok, Err, Option, Some, None, arith, length-append}
 use Rattle.std.specs.Prelude.{not}
 use Rattle.std.specs.Ordering.{is_lt}
 use Rattle.std.specs.Cmp.{IsTotalOrder}
@@ -14,6 +14,8 @@ use Rattle.cga_order.proofs.Members.{waits, place_dec, Has-start, start-Has, Amo
 use Rattle.cga_order.proofs.Steps as steps
 use Rattle.cga_order.proofs.Maxima.{either}
 use Rattle.cga_order.proofs.Maxima as stamps
+use Rattle.cga_fraction.proofs.Door.{Less_from_is_lt, false_from_not}
+use Rattle.std.proofs.lemmas.Bool.{and_parts}
 
 module _ {N A F P : Type 0} (world : World N A F P) (laws : IsWorld world) (limit : Option (List Rank)) (L : List (Placed N F P)) (con : IsConsistent world limit L) where
   abbrev Members : Type 0
@@ -114,21 +116,13 @@ module _ {N A F P : Type 0} (world : World N A F P) (laws : IsWorld world) (limi
       sees_existing n v = (
         (λ h.
             let w = Has-from_shapes_where (exists_at world s) L n h in
-            let f = made_before n w.0 w.1 (stamps.less_is (stamps_cmp world.mode) order _ w.2) in
+            let f = made_before n w.0 w.1 (Less_from_is_lt _ w.2) in
             Among-shapes_where (λ m k. true) C n f.0 f.1 refl),
         (λ h.
             let w = Has-from_shapes_where (λ m k. true) C n h in
             let g = listed n w.0 w.1 in
             Among-shapes_where (exists_at world s) L n g.0 g.1 (ap is_lt (good.born n s w.0 w.1 step.waits))),
       )
-
-      both_true : (a b : Bool) → (a && b) ≡ true → (a ≡ true) × (b ≡ true)
-      both_true true b e = (refl, e)
-      both_true false b e = let x : false ≡ true = e in cc
-
-      not_true : (a : Bool) → not a ≡ true → a ≡ false
-      not_true true e = let x : false ≡ true = e in cc
-      not_true false e = refl
 
       waits_at-true : (n : N) (k : Kind F P) → IsEarlier world (birth_of world n) (stamp_of world s)
           → is_instance k ≡ false → IsEarlier world (stamp_of world s) (stamp_of world n) → waits_at world s n k ≡ true
@@ -137,27 +131,21 @@ module _ {N A F P : Type 0} (world : World N A F P) (laws : IsWorld world) (limi
           ∙ ap (λ x. not x && is_lt (stamps_cmp world.mode (stamp_of world s) (stamp_of world n))) i
           ∙ ap is_lt e
 
-      expanded_kind : (k : Kind F P) → is_waiting k ≡ false → is_instance k ≡ false → steps.IsExpanded world k
-      expanded_kind Waiting e f = let x : true ≡ false = e in cc
-      expanded_kind Done e f = inl refl
-      expanded_kind (Faulted y) e f = inr (y, refl)
-      expanded_kind (Instance y) e f = let x : true ≡ false = f in cc
-
       sees_waiting : SameSeen world s (shapes_where (waits_at world s) L) (shapes_where (λ n kind. is_waiting kind) C)
       sees_waiting n v = (
         (λ h.
             let w = Has-from_shapes_where (waits_at world s) L n h in
-            let t = both_true _ _ w.2 in
-            let u = both_true _ _ t.0 in
-            let above = stamps.less_is (stamps_cmp world.mode) order _ t.1 in
-            let f = made_before n w.0 w.1 (stamps.less_is (stamps_cmp world.mode) order _ u.0) in
+            let t = and_parts _ _ w.2 in
+            let u = and_parts _ _ t.0 in
+            let above = Less_from_is_lt _ t.1 in
+            let f = made_before n w.0 w.1 (Less_from_is_lt _ u.0) in
             elim (either (is_waiting f.0)) [
               | inl y ↦ Among-shapes_where (λ m k. is_waiting k) C n f.0 f.1 y
               | inr y ↦
                   let has = settled-kind n f.0 w.0 f.1 y w.1 in
                   let kind = (good.distinct n n f.0 w.0 f.1 has refl).1 in
                   absurd (stamps.not_both (stamps_cmp world.mode) order (stamp_of world s) (stamp_of world n) above
-                  (good.done n s w.0 has (expanded_kind w.0 (subst (λ k. is_waiting k ≡ false) kind y) (not_true _ u.1)) step.waits))
+                  (good.done n s w.0 has (steps.expanded_kind world w.0 (subst (λ k. is_waiting k ≡ false) kind y) (false_from_not _ u.1)) step.waits))
             ]),
         (λ h.
             let w = Has-from_shapes_where (λ m k. is_waiting k) C n h in
@@ -199,7 +187,7 @@ module _ {N A F P : Type 0} (world : World N A F P) (laws : IsWorld world) (limi
           let there = in_list.1 c k h in
           elim (either (is_instance k)) [
             | inl i ↦ subst (Has L c) (there.3 i) there.1
-            | inr i ↦ absurd ((steps.law world laws C D s good step c k h).2 (expanded_kind k y i))
+            | inr i ↦ absurd ((steps.law world laws C D s good step c k h).2 (steps.expanded_kind world k y i))
           ]
 
       pub next : Fits D
@@ -255,22 +243,24 @@ module _ {N A F P : Type 0} (world : World N A F P) (laws : IsWorld world) (limi
       present C (steps.in_order world laws taken C r) (fits-reached taken C r b) (length (world.chain n).path + 1) n k (omega arith) h e
       (λ w g o. quiet w g (elim o [ inl l ↦ before-earlier _ _ l e | inr q ↦ subst (IsBefore world limit) (sym q) e ]))
 
-module _ {N A F P : Type 0} (world : World N A F P) (laws : IsWorld world) (L : List (Placed N F P)) (con : IsConsistent world None L) where
-  all_before : (taken : List N) → AllBefore world None taken
+module _ {N A F P : Type 0} (world : World N A F P) where
+  -- every stamp is before no limit
+  pub all_before : (taken : List N) → AllBefore world None taken
   all_before [] = tt
   all_before (s ∷ taken) = (tt, all_before taken)
 
+module _ {N A F P : Type 0} (world : World N A F P) (laws : IsWorld world) (L : List (Placed N F P)) (con : IsConsistent world None L) where
   -- where nothing waits, the configuration has the members of the list
   pub same_members : (taken : List N) (C : List (Placed N F P)) → Reached world taken C → NothingWaits world None C
       → SameMembers L C
   same_members taken C r quiet n k =
       let settled : (j : Kind F P) → Has C n j → is_waiting j ≡ false = λ j g. elim (either (is_waiting j)) [ inl y ↦ absurd (quiet n (waits C n j g y) tt) | inr y ↦ y ] in (
         (λ h.
-            let c = has_made world laws None L con taken C r (all_before taken) quiet n k h tt in
-            let there = has_members world laws None L con taken C r (all_before taken) n c.0 c.1 in
+            let c = has_made world laws None L con taken C r (all_before world taken) quiet n k h tt in
+            let there = has_members world laws None L con taken C r (all_before world taken) n c.0 c.1 in
             subst (Has C n) (same_kind there.0 c.0 k (there.2 (settled c.0 c.1)) (con.distinct n n there.0 k there.1 h refl).1) c.1),
         (λ h.
-            let there = has_members world laws None L con taken C r (all_before taken) n k h in
+            let there = has_members world laws None L con taken C r (all_before world taken) n k h in
             subst (Has L n) (there.2 (settled k h)) there.1),
       )
     where

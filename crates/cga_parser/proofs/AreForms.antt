@@ -17,6 +17,7 @@ use Rattle.cga_parser.proofs.BlocksAgain.{with_line, block_again}
 pub rule_form : IsForm rule_pieces rule
 rule_form = record { follows = with_rule; exact = rule_reads; again = rule_again }
 
+-- the lines of a block are a form
 pub block_form : IsForm block_pieces block
 block_form = record { follows = with_line; exact = block_reads; again = block_again }
 

@@ -1,7 +1,6 @@
 -- A line of a block is read as it is written.
-use Rattle.std.proofs.Common.{◌≡◌, ℕ, ◌||◌, ◌&&◌, List, ◌∷◌, ◌++◌, Bool, true, false, Some, nat_le, refl, ap, codes, if◌then◌else◌}
+use Rattle.std.proofs.Common.{◌≡◌, ℕ, ◌||◌, ◌&&◌, List, ◌∷◌, ◌++◌, Bool, true, false, nat_le, refl, codes, if◌then◌else◌}
 use Rattle.cga_lexer.specs.declared.sign.Sign.TheVariants as s
-use Rattle.cga_syntax.specs.Lexemes.{is_reserved}
 use Rattle.cga_syntax.specs.declared.lexeme.Lexeme.{Lexeme}
 use Rattle.cga_syntax.specs.declared.lexeme.Lexeme.TheVariants as lexeme
 use Rattle.cga_rule.specs.declared.grammar.Attribute.{Attribute}
@@ -11,7 +10,7 @@ use Rattle.cga_syntax.specs.Pieces.{Pieces, token, never, number, whole, rule_pi
 use Rattle.cga_parser.specs.declared.block_line.BlockLine.{BlockLine}
 use Rattle.cga_parser.specs.declared.block_line.BlockLine.TheVariants as line
 use Rattle.cga_form.specs.Reader.{begins}
-use Rattle.cga_form.specs.Tokens.{a_sign, a_name, a_whole, unless}
+use Rattle.cga_form.specs.Tokens.{a_sign, a_name, a_whole}
 use Rattle.cga_form.specs.Parts.{a_word}
 use Rattle.cga_parser.specs.Blocks as b
 use Rattle.cga_parser.proofs.ExprsAgain.{neither}
@@ -21,9 +20,7 @@ use Rattle.cga_form.proofs.Door.{Begun, a_slash, after, begun_as, begun_token, b
 use Rattle.cga_form.proofs.Door.{never_written, peek_no, peek_yes, plainly, starts_token, took, value_again}
 use Rattle.cga_form.proofs.Door.{value_pieces, whole_leads}
 use Rattle.cga_form.specs.Laws.{Again, Leads, nothing}
-
-name_read : (name : List ℕ) → is_reserved name ≡ false → a_name (lexeme.Name name) ≡ Some name
-name_read name e = ap (λ t. unless t name) e
+use Rattle.cga_form.proofs.Door.{name_read}
 
 attribute_at : (a : Attribute) → Leads a_slash (b.attribute_pieces a) b.attribute a
 unfolding b.attribute
@@ -43,17 +40,20 @@ priority_again = record { all = priority_at }
 
 -- ---- what a rule begins with
 
+-- a number is written as its lexeme, where it is in range
 whole_begun_by : (test : Lexeme → Bool) (l : Lexeme) (qs : Pieces) → test l ≡ false → (t : Bool)
     → (c : ℕ) (x : List Lexeme) (d : ℕ) (r : List Lexeme) → Writes c ((if t then token Usual l else never) ∷ qs) x d
     → begins test (x ++ r) ≡ false
 whole_begun_by test l qs e true c x d r w = (begun_token e).begun c x d r w
 whole_begun_by test l qs e false c x d r w = absurd (never_written c qs x d w)
 
+-- what begins with a number begins with its lexeme
 begun_whole : {test : Lexeme → Bool} {qs : Pieces} (low high n : ℕ) → test (number n) ≡ false
     → Begun test (whole low high n ∷ qs)
 begun_whole {test = test} {qs = qs} low high n e = record { begun = λ c x d r w. whole_begun_by test (number n) qs e (nat_le low n && nat_le n high) c x d r w }
 
-rule_begun : {test : Lexeme → Bool} (r : Rule) → test (number r.id) ≡ false → Begun test (rule_pieces r)
+-- what a rule is written as begins with its id
+pub rule_begun : {test : Lexeme → Bool} (r : Rule) → test (number r.id) ≡ false → Begun test (rule_pieces r)
 rule_begun r e = begun_as (rule_is r) (begun_whole 1 999999 r.id e)
 
 -- ---- lines

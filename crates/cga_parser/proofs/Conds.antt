@@ -36,14 +36,13 @@ use Rattle.cga_form.specs.Words.{a_relation, relation_of, an_equality, equality_
 use Rattle.cga_parser.specs.Grammar as g
 use Rattle.cga_form.specs.declared.heads.ScopeWord.{ScopeWord}
 use Rattle.cga_form.specs.declared.heads.ScopeWord.TheVariants as scope_word
-use Rattle.cga_form.proofs.Door.{Long, Token, a_sign_is, as_token, bracketed, by_token, done, either, keyword_token}
+use Rattle.cga_form.proofs.Door.{Long, Token, a_sign_is, bracketed, by_token, done, either, keyword_token}
 use Rattle.cga_form.proofs.Door.{listed, long_of, next, no_more, one_token, opening, pick, plain_written, refusing}
-use Rattle.cga_form.proofs.Door.{sign_token}
 use Rattle.cga_form.specs.Laws.{After, Goes, Reads, Some_text}
 use Rattle.std.proofs.Common.{append-nil as nil_right}
 use Rattle.cga_parser.proofs.Layers.{expr_layer, term_layer, factor_layer, size_layer}
 use Rattle.cga_parser.proofs.Lists.{separated_is}
-use Rattle.cga_parser.proofs.Exprs.{dot, close, round, in_round, some_as, expr_reads, inside_reads, scaled_long, scaled_reads, added_long, added_reads}
+use Rattle.cga_parser.proofs.Exprs.{dot, close, close_square, round, in_round, some_as, expr_reads, inside_reads, scaled_long, scaled_reads, added_long, added_reads}
 
 abbrev pub scope_bytes : ScopeWord → List ℕ
 scope_bytes scope_word.Occ = codes "occ"
@@ -178,9 +177,6 @@ IsInner n inner = (m : ℕ) → n ≡ suc m → Reads m m cond_pieces inner
 
 abbrev pub square_pieces : Cond → Pieces
 square_pieces c = squared (cond_pieces c)
-
-close_square : (n : ℕ) → Reads n (suc n) (as_token Usual (lexeme.Sign s.RightSquare)) (g.sign s.RightSquare)
-close_square n = one_token (sign_token Usual s.RightSquare n (suc n) refl refl)
 
 square_rest : (m : ℕ) (p : Reader Cond) → Reads m m cond_pieces p
     → Goes m (suc m) (sign s.LeftSquare ∷ []) square_pieces (p >>= λ c. g.sign s.RightSquare >> pure c)

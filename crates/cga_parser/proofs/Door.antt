@@ -10,3 +10,5 @@ pub use Rattle.cga_parser.proofs.Printable.{grammar_prints}
 pub use Rattle.cga_parser.proofs.Rules.{rule_is, rule_reads}
 -- A rule is read as it is written
 pub use Rattle.cga_parser.proofs.RulesAgain.{rule_again}
+-- Rules are told apart from other lines by how they begin
+pub use Rattle.cga_parser.proofs.BlocksAgain.{rule_begun}

@@ -43,6 +43,9 @@ dot n = one_token (sign_token Usual s.Dot n n refl refl)
 pub close : (n : ℕ) → Reads n (suc n) (as_token Usual (lexeme.Sign s.RightRound)) (g.sign s.RightRound)
 close n = one_token (sign_token Usual s.RightRound n (suc n) refl refl)
 
+pub close_square : (n : ℕ) → Reads n (suc n) (as_token Usual (lexeme.Sign s.RightSquare)) (g.sign s.RightSquare)
+close_square n = one_token (sign_token Usual s.RightSquare n (suc n) refl refl)
+
 abbrev pub round : Pieces
 round = sign s.LeftRound ∷ []
 

@@ -48,7 +48,9 @@ module _ {A : Type 0} (test : Lexeme → Bool) (most : ℕ) (p : Reader A) (so_f
 
 -- ---- one or more, and what comes of them
 
-fails_then : {A B : Type 0} (e : Stop Fault) (o : ReadResult A) (k : A → Reader B) → Fails e o → Fails e (and_then o k)
+-- what fails still does, with a reader behind it
+pub fails_then : {A B : Type 0} (e : Stop Fault) (o : ReadResult A) (k : A → Reader B) → Fails e o
+    → Fails e (and_then o k)
 fails_then stop.NoMemory o k h = tt
 fails_then (stop.Fault f) o k h = ap (λ z. and_then z k) h
 

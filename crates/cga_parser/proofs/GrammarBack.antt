@@ -71,6 +71,7 @@ said_spelled : (lines : List Line) (all : List (Option BlockLine)) → Say block
     → IsSpelled (grammar_of all)
 said_spelled lines all h = record { attributes = attributes_are lines all h; rules = rules_are 1 lines all h; priorities = few_are 1 lines all (omega arith) h }
 
+-- a grammar that lines tell is spelled by lines
 pub spelled : (lines : List Line) (grammar : Grammar) → GrammarTells lines (Ok grammar) → IsSpelled grammar
 spelled lines grammar h = subst IsSpelled (sym h.2) (said_spelled lines h.0 h.1)
 
@@ -148,6 +149,7 @@ module _ (g : Grammar) (attributes : Every SaysAttribute g.attributes) (rules : 
   said_told : AreShort g.rules → Every IsTold (said_of g)
   said_told s = said_all IsTold (λ a h. attribute_back a h.0 h.1) priority_back g attributes (rules_told g.rules rules s)
 
+-- the text of a grammar that lines spell is read back as it
 pub grammar_back : (grammar : Grammar) → IsSpelled grammar → ReadsBack grammar
 grammar_back g h =
     let a = every_of SaysAttribute g.attributes h.attributes in

@@ -1,5 +1,5 @@
 -- The parts of an item are read as they are written.
-use Rattle.std.proofs.Common.{◌≡◌, ℕ, suc, List, [], ◌∷◌, ◌++◌, map, false, Some, refl, ap, sym, subst, inl, inr}
+use Rattle.std.proofs.Common.{◌≡◌, ℕ, suc, List, [], ◌∷◌, ◌++◌, false, Some, refl, ap, subst, inl, inr}
 use Rattle.cga_lexer.specs.declared.sign.Sign.TheVariants as s
 use Rattle.cga_word.specs.declared.axis.Axis.{Axis}
 use Rattle.cga_word.specs.declared.axis.Axis.TheVariants as axis
@@ -16,8 +16,7 @@ use Rattle.cga_syntax.specs.declared.lexeme.Lexeme.TheVariants as lexeme
 use Rattle.cga_rule.specs.declared.expr.Expr.{Expr}
 use Rattle.cga_rule.specs.declared.item.Size.{Size}
 use Rattle.cga_rule.specs.declared.item.Size.TheVariants as size
-use Rattle.cga_syntax.specs.declared.print.space.Space.TheVariants.{Usual}
-use Rattle.cga_syntax.specs.Pieces.{token, turned, plain, number, sign, text, Pieces, IsTurn, Writes, axis_text}
+use Rattle.cga_syntax.specs.Pieces.{turned, plain, number, sign, text, Pieces, IsTurn, axis_text}
 use Rattle.cga_syntax.specs.Pieces.{solid_text, side_text, selector_pieces, size_pieces, expr_pieces}
 use Rattle.cga_form.specs.Reader.{Reader, at, begins}
 use Rattle.cga_form.specs.Tokens.{a_sign, is_sign, a_whole}
@@ -26,7 +25,7 @@ use Rattle.cga_parser.specs.Grammar as g
 use Rattle.cga_parser.proofs.Threes.{threes_are}
 use Rattle.cga_form.specs.declared.heads.SelectorHead.TheVariants as choice
 use Rattle.cga_form.proofs.Door.{after, all_of, begun_token, ends, entered, few_misses, few_of, missed, misses_each}
-use Rattle.cga_form.proofs.Door.{misses_end, misses_nothing, never_leads, peek_no, peek_yes, piece_of, plain_written}
+use Rattle.cga_form.proofs.Door.{misses_end, misses_nothing, never_leads, peek_no, peek_yes, piece_of}
 use Rattle.cga_form.proofs.Door.{plainly, starts_token, took, turned as unrolled, whole_leads, written_as}
 use Rattle.cga_form.specs.Laws.{Again, Agrees, Leads, nothing}
 use Rattle.cga_parser.proofs.Lists.{preceded_is}
@@ -38,6 +37,7 @@ use Rattle.cga_parser.proofs.ItemParts.{solid_pieces, further_size_pieces, furth
 use Rattle.cga_parser.proofs.ItemParts.{split_pieces, repeat_pieces, selector_part_pieces, further_argument_pieces}
 use Rattle.cga_parser.proofs.ItemParts.{at_most_is, arguments_pieces}
 use Rattle.cga_parser.proofs.ItemFronts.{with_bracket}
+use Rattle.cga_form.proofs.Door.{written_plainly}
 
 relative_spares : Spares is_relative
 relative_spares = record { number = λ v. refl; name = λ n. refl; bracket = refl; scope = refl; floor = refl; ceil = refl; rand = refl }
@@ -82,10 +82,6 @@ turn_minus : Leads nothing (sign s.Minus ∷ plain (number 90) ∷ []) g.quarter
 unfolding g.quarter_turn
 turn_minus =
     peek_yes _ (starts_token refl) (plainly (after {v = λ (_ : Unit {0}). sign s.Minus ∷ plain (number 90) ∷ []} _ tt (record { all = λ u. minus_again }) misses_nothing ends))
-
-written_plainly : (c : ℕ) (x : List Lexeme) (d : ℕ) (ls : List Lexeme) → x ≡ ls → c ≡ d
-    → Writes c (map (token Usual) ls) x d
-written_plainly c x d ls e q = subst (λ z. Writes c (map (token Usual) ls) z d) (sym e) (subst (λ m. Writes c (map (token Usual) ls) ls m) q (plain_written c ls))
 
 turn_at : (a : Turn) (c : ℕ) (x : List Lexeme) (d : ℕ) (r : List Lexeme) → IsTurn a x → c ≡ d → begins nothing r ≡ false
     → Agrees (g.quarter_turn (at (x ++ r) c)) a (at r d)

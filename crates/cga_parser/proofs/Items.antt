@@ -29,7 +29,7 @@ use Rattle.cga_form.proofs.Door.{Long, a_sign_is, as_token, bracketed, done, eit
 use Rattle.cga_form.proofs.Door.{never_written, next, one_token, opening, plain_written, refusing, sign_token}
 use Rattle.cga_form.specs.Laws.{After, Goes, Reads, Some_text}
 use Rattle.cga_parser.proofs.Lists.{separated_is}
-use Rattle.cga_parser.proofs.Exprs.{IsInside, inside_reads}
+use Rattle.cga_parser.proofs.Exprs.{IsInside, close_square, inside_reads}
 use Rattle.cga_parser.proofs.ItemLayers.{move_layer, resize_layer, rotate_layer, scoped_layer, solid_layer}
 use Rattle.cga_parser.proofs.ItemLayers.{subdiv_layer, repeat_layer, comp_layer, child_layer, list_pieces, body_layer}
 use Rattle.cga_parser.proofs.ItemTokens.{head_pieces, head_token}
@@ -90,9 +90,6 @@ pub scoped_is : (is : List Item)
     → scoped_pieces is ≡ ((sign s.LeftSquare ∷ []) ++ some_pieces is) ++ (sign s.RightSquare ∷ [])
 scoped_is [] = refl
 scoped_is (a ∷ more) = simp append_assoc
-
-close_square : (n : ℕ) → Reads n (suc n) (as_token Usual (lexeme.Sign s.RightSquare)) (g.sign s.RightSquare)
-close_square n = one_token (sign_token Usual s.RightSquare n (suc n) refl refl)
 
 close_curly : (n : ℕ) → Reads n (suc n) (as_token Usual (lexeme.Sign s.RightCurly)) (g.sign s.RightCurly)
 close_curly n = one_token (sign_token Usual s.RightCurly n (suc n) refl refl)

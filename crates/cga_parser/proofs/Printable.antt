@@ -22,17 +22,15 @@ use Rattle.cga_parser.specs.Blocks.{block_pieces}
 use Rattle.cga_form.specs.Cursor.{seen}
 use Rattle.cga_form.specs.LineTells.{with_place, by_tokens, by_length, LineTells}
 use Rattle.cga_parser.proofs.ReadBack.{rule_back}
+use Rattle.cga_fraction.proofs.Door.{same_Ok}
 
 -- ---- a rule
-
-same_value : {A : Type 0} (a b : A) → ◌≡◌ {A = Result A LineFault} (Ok a) (Ok b) → b ≡ a
-same_value a b h = cc
 
 module _ {A : Type 0} (w : A → Pieces) (a : A) where
   placed_value : (end : ℕ) (ts : List Token) (found : Result A Fault)
       → ◌≡◌ {A = Result A LineFault} (Ok a) (with_place end ts found) → Tells w 32 (map seen ts) found
       → Tells w 32 (map seen ts) (Ok a)
-  placed_value end ts (Ok b) e h = subst (λ z. Tells w 32 (map seen ts) (Ok z)) (same_value a b e) h
+  placed_value end ts (Ok b) e h = subst (λ z. Tells w 32 (map seen ts) (Ok z)) (sym (same_Ok a b e)) h
   placed_value end ts (Err f) e h = absurd (cc)
 
 from_tokens : (r : Rule) (end : ℕ) (o : Lexed) → by_tokens rule_pieces end o (Ok r) → few_brackets o r
@@ -103,6 +101,7 @@ lines_print p (l ∷ ls) (Some line.End ∷ all) h = lines_print p ls all h.1
 lines_print p (l ∷ ls) (Some (line.Rule r) ∷ all) h =
     All-cons (λ (e : Entry). HaveTexts (printed (rule_pieces e.rule))) (record { priority = p; rule = r }) (entries_from p all) (line_prints l r h.0) (lines_print p ls all h.1)
 
+-- the rules of a grammar that lines tell may be printed
 pub grammar_prints : (lines : List Line) (grammar : Grammar) → GrammarTells lines (Ok grammar)
     → ArePrintable grammar.rules
 grammar_prints lines grammar h = subst (λ (g : Grammar). ArePrintable g.rules) (sym h.2) (lines_print 1 lines h.0 h.1)

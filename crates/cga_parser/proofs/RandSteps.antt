@@ -1,5 +1,5 @@
 -- The steps of a rand, read after its ends.
-use Rattle.std.proofs.Common.{◌≡◌, ℕ, Ok, Err, refl, ap, sym, subst}
+use Rattle.std.proofs.Common.{◌≡◌, ℕ, Ok, Err, refl, sym, subst}
 use Rattle.cga_lexer.specs.declared.sign.Sign.TheVariants as s
 use Rattle.cga_syntax.specs.Limits.{most_steps}
 use Rattle.cga_form.specs.declared.fault.Fault.{Fault}
@@ -11,6 +11,7 @@ use Rattle.cga_form.specs.Tokens.{a_whole}
 use Rattle.cga_rule.specs.declared.expr.Expr.{Expr}
 use Rattle.cga_parser.specs.Grammar.{sign}
 use Rattle.cga_parser.specs.Portions.{rand_steps}
+use Rattle.cga_parser.proofs.Gained.{fails_then}
 
 module _ {B : Type 0} (b : Reader ℕ) (d : Reader (Unit {0})) (h : ℕ → B) where
   by_end : (n : ℕ) (w : ReadResult (Unit {0}))
@@ -28,10 +29,6 @@ module _ {B : Type 0} (b : Reader ℕ) (d : Reader (Unit {0})) (h : ℕ → B) w
       (λ n. pure (h n))
   by_sign (Ok p) = by_number (b p.1)
   by_sign (Err e) = refl
-
-fails_then : {A B : Type 0} (e : Stop Fault) (o : ReadResult A) (k : A → Reader B) → Fails e o → Fails e (and_then o k)
-fails_then stop.NoMemory o k h = tt
-fails_then (stop.Fault f) o k h = ap (λ z. and_then z k) h
 
 abbrev with_ends : Expr → Expr → ℕ → Expr × Expr × ℕ
 with_ends low high n = (low, high, n)

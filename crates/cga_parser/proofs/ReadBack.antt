@@ -1,6 +1,5 @@
 -- The text of a printed rule tells the rule.
-use Rattle.std.proofs.Common.{◌≡◌, ℕ, ◌+◌, ◌≤◌, nat_lt, false, List, length, map, Some, Ok, Err, arith, refl, sym, ◌∙◌, subst}
-use Rattle.std.proofs.lemmas.Bool.Decides.{nat_tests}
+use Rattle.std.proofs.Common.{◌≡◌, ℕ, ◌+◌, List, length, map, Some, Ok, Err, refl, sym, ◌∙◌, subst}
 use Rattle.cga_lexer.specs.Line.{tokens_of, Lexed}
 use Rattle.cga_syntax.specs.declared.lexeme.Lexeme.{Lexeme}
 use Rattle.cga_rule.specs.declared.rule.Rule.{Rule}
@@ -17,6 +16,7 @@ use Rattle.cga_form.specs.Cursor.{seen}
 use Rattle.cga_parser.specs.Grammar.{rule}
 use Rattle.cga_form.specs.LineTells.{by_tokens, by_length}
 use Rattle.cga_parser.proofs.AreForms.{rule_form}
+use Rattle.cga_fraction.proofs.Door.{within_4096}
 
 -- a text that spells a rule, with few enough brackets, tells the rule
 rule_told : (x : List Lexeme) (r : Rule) (m : ℕ) → Spelled rule_pieces x r → walk 32 x ≡ Some m
@@ -29,9 +29,6 @@ module _ (r : Rule) where
   by_read (Ok ts) ls end e a = (Ok r, subst (λ z. Tells rule_pieces 32 z (Ok r)) (sym e) a, refl)
   by_read (Err f) ls end e a = absurd e
 
-  short_enough : (text : List ℕ) → length text ≤ 4096 → nat_lt 4096 (length text) ≡ false
-  short_enough text h = grind (arith, nat_tests)
-
   read_back : (line : List ℕ) (o : Lexed) → tokens_of line ≡ o → few_brackets o r → IsReadBack r
   read_back line (Ok ts) e h =
       let text : List ℕ = text_of (printed (rule_pieces r)) in
@@ -39,7 +36,7 @@ module _ (r : Rule) where
       let a = rule_told (lexemes (printed (rule_pieces r))) r h.1.0 (h.0.0, g.written) (g.brackets 32 ∙ h.1.1) in (
         have_texts (printed (rule_pieces r)) g.tokens,
         λ few.
-            subst (λ t. by_length rule_pieces text t (Ok r)) (sym (short_enough text few))
+            subst (λ t. by_length rule_pieces text t (Ok r)) (sym (within_4096 text few))
             (by_read (tokens_of text) (lexemes (printed (rule_pieces r))) (length text + 1) (text_read (printed (rule_pieces r)) g.tokens) a),
       )
   read_back line (Err f) e h = absurd h

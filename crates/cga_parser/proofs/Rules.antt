@@ -102,12 +102,14 @@ alternative_reads n = next (one_token (sign_token Usual s.Arrow n n refl refl)) 
 pub alternative_long : Long alternative_pieces
 alternative_long c x a d w = long_of c Usual (lexeme.Sign s.Arrow) (list_pieces a.items ++ (probability a.prob ∷ [])) x d (subst (λ ps. Writes c ps x d) (alternative_is a.items a.prob) w)
 
+-- the pieces of a rule, one after the other
 pub rule_is : (r : Rule)
     → rule_pieces r ≡ whole 1 999999 r.id ∷ token NoneBefore (lexeme.Sign s.Colon) ∷ named r.symbol ∷
     (parameters_pieces r.params ++ (condition_pieces r.cond ++ nonempty (map alternative_pieces r.alternatives) []))
 unfolding rule_pieces
 rule_is r = refl
 
+-- a rule is read exactly
 pub rule_reads : (n : ℕ) → Reads n n rule_pieces (g.rule n)
 unfolding g.rule
 rule_reads n =

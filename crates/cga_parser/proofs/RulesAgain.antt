@@ -1,22 +1,21 @@
 -- A rule is read as it is written.
-use Rattle.std.proofs.Common.{◌≡◌, ℕ, ◌||◌, inl, inr, List, [], ◌∷◌, ◌++◌, map, append_assoc, Bool, false, Option, Some, None, refl, ap, sym, ◌∙◌, subst, pos}
+use Rattle.std.proofs.Common.{◌≡◌, ℕ, ◌||◌, inl, inr, List, [], ◌∷◌, ◌++◌, append_assoc, Bool, false, Option, Some, None, refl, ap, sym, ◌∙◌, subst, pos}
 use Rattle.cga_fraction.specs.Rat.{Rat, of_int}
 use Rattle.cga_lexer.specs.declared.sign.Sign.TheVariants as s
-use Rattle.cga_syntax.specs.Lexemes.{is_reserved}
 use Rattle.cga_syntax.specs.declared.lexeme.Lexeme.{Lexeme}
 use Rattle.cga_syntax.specs.declared.lexeme.Lexeme.TheVariants as lexeme
 use Rattle.cga_rule.specs.declared.cond.Cond.{Cond}
 use Rattle.cga_rule.specs.declared.item.Item.{Item}
 use Rattle.cga_rule.specs.declared.rule.Alternative.{Alternative}
-use Rattle.cga_syntax.specs.declared.print.space.Space.TheVariants.{Usual, NoneBefore}
+use Rattle.cga_syntax.specs.declared.print.space.Space.TheVariants.{NoneBefore}
 use Rattle.cga_syntax.specs.Pieces.{token, never, sign, named, whole, Pieces, probability, IsProbability, Writes, condition_pieces, alternative_pieces, rule_pieces}
 use Rattle.cga_form.specs.Reader.{at, begins}
-use Rattle.cga_form.specs.Tokens.{a_sign, is_sign, a_name, a_whole, a_number, unless}
+use Rattle.cga_form.specs.Tokens.{a_sign, is_sign, a_name, a_whole, a_number}
 use Rattle.cga_parser.specs.Grammar as g
 use Rattle.cga_form.proofs.Door.{Begun, Misses, Starts, after, all_of, begun_append, begun_as, begun_nothing}
 use Rattle.cga_form.proofs.Door.{begun_token, by_name, cut, ends, entered, few_of, missed, misses_each, misses_end}
 use Rattle.cga_form.proofs.Door.{misses_nothing, name_pieces, never_written, peek_no, peek_yes, piece_of}
-use Rattle.cga_form.proofs.Door.{plain_written, plainly, starts_as, starts_token, took, turned as unrolled}
+use Rattle.cga_form.proofs.Door.{plainly, starts_as, starts_token, took, turned as unrolled}
 use Rattle.cga_form.proofs.Door.{whole_leads, written_as}
 use Rattle.cga_form.specs.Laws.{Again, Agrees, Leads, nothing}
 use Rattle.cga_parser.proofs.ExprsAgain.{neither}
@@ -26,11 +25,11 @@ use Rattle.cga_parser.proofs.Items.{item_reads}
 use Rattle.cga_parser.proofs.ItemFronts.{with_bracket, with_item}
 use Rattle.cga_parser.proofs.ItemsAgain.{body_again, item_again}
 use Rattle.cga_parser.proofs.Rules.{further_name_pieces, parameters_pieces, given_pieces, probability_pieces, alternative_is, alternative_long, alternative_reads, rule_is}
+use Rattle.cga_form.proofs.Door.{name_read}
+use Rattle.cga_form.proofs.Door.{written_plainly}
+use Rattle.cga_form.proofs.Door.{begins_weaker}
 
 -- ---- parameters
-
-name_read : (name : List ℕ) → is_reserved name ≡ false → a_name (lexeme.Name name) ≡ Some name
-name_read name e = ap (λ b. unless b name) e
 
 further_name_at : (a : List ℕ) → Leads nothing (further_name_pieces a) g.further_name a
 unfolding g.further_name
@@ -83,10 +82,6 @@ one_by : Leads a_colon [] g.probability (of_int (pos 1))
 unfolding g.probability
 one_by = peek_no _ (misses_end (λ l e. e)) ends
 
-written_plainly : (c : ℕ) (x : List Lexeme) (d : ℕ) (ls : List Lexeme) → x ≡ ls → c ≡ d
-    → Writes c (map (token Usual) ls) x d
-written_plainly c x d ls e q = subst (λ z. Writes c (map (token Usual) ls) z d) (sym e) (subst (λ m. Writes c (map (token Usual) ls) ls m) q (plain_written c ls))
-
 probability_by : (p : Rat) (c : ℕ) (x : List Lexeme) (d : ℕ) (r : List Lexeme) → IsProbability p x → c ≡ d
     → begins a_colon r ≡ false → Agrees (g.probability (at (x ++ r) c)) p (at r d)
 probability_by p c x d r (inl h) q e = (given_by p).leads c x d r (written_plainly c x d (lexeme.Sign s.Colon ∷ lexeme.Number p ∷ []) h q) e
@@ -101,16 +96,11 @@ probability_again = record { all = λ p. record { leads = λ c x d r w e. let t 
 abbrev with_more : Lexeme → Bool
 with_more l = with_item l || a_colon l
 
-fewer : {test s : Lexeme → Bool} → ((l : Lexeme) → s l ≡ false → test l ≡ false) → (r : List Lexeme)
-    → begins s r ≡ false → begins test r ≡ false
-fewer h [] e = refl
-fewer h (l ∷ r) e = h l e
-
 starts_probability : (test : Lexeme → Bool) (p : Rat) (x r : List Lexeme) → test (lexeme.Sign s.Colon) ≡ false
     → ((l : Lexeme) → with_more l ≡ false → test l ≡ false) → IsProbability p x → begins with_more r ≡ false
     → begins test (x ++ r) ≡ false
 starts_probability test p x r h g' (inl q) e = ap (λ z. begins test (z ++ r)) q ∙ h
-starts_probability test p x r h g' (inr q) e = ap (λ z. begins test (z ++ r)) q.1 ∙ fewer g' r e
+starts_probability test p x r h g' (inr q) e = ap (λ z. begins test (z ++ r)) q.1 ∙ begins_weaker g' r e
 
 probability_misses : (p : Rat) → Misses with_item (probability p ∷ []) with_more
 probability_misses p = record { misses = λ c x d r w e. let t = piece_of c (probability p) x d w in starts_probability with_item p x r refl (λ l q. (neither (with_item l) (a_colon l) q).0) t.0 e }
@@ -175,5 +165,6 @@ rule_at : (n id : ℕ) (name : List ℕ) (ps : List (List ℕ)) (c : Option Cond
 rule_at n id name ps c [] = record { leads = λ k x d r w e. absurd (rule_none id name ps c k x d w) }
 rule_at n id name ps c (a ∷ more) = rule_of n id name ps c a more
 
+-- a rule is read again as it is written
 pub rule_again : (n : ℕ) → Again rule_pieces with_rule (g.rule n)
 rule_again n = record { all = λ r. rule_at n r.id r.symbol r.params r.cond r.alternatives }

@@ -1,7 +1,5 @@
 -- What stands among the entries of a map after an insertion, also where the key was there.
-use Rattle.std.proofs.Common.{◌≡◌, ◌<◌, ℕ, suc, List, [], ◌∷◌, length, get_or, refl, sym, ap, ◌∙◌, subst, ◌⊎◌, inl, inr, arith}
-use Rattle.std.specs.List.{All}
-use Rattle.std.specs.Map.{keys_of}
+use Rattle.std.proofs.Common.{◌≡◌, List, [], ◌∷◌, refl, sym, ap, ◌∙◌, ◌⊎◌, inl, inr}
 use Rattle.std.specs.declared.cmp.Ordering.{Ordering}
 use Rattle.std.specs.declared.cmp.Ordering.TheVariants.{Less, Equal, Greater}
 use Rattle.std.specs.Ordering.{match_ordering}
@@ -53,16 +51,3 @@ module _ {K X : Type 0} (cmp : K → K → Ordering) where
       | inr r ↦ elim (still_there k v es q w r) [ inl a ↦ inl a | inr b ↦ inr (inr b) ]
     ]
   ] refl
-
-module _ {K X : Type 0} where
-  among_key : (es : List (K × X)) (q : K) (w : X) → Among (q, w) es
-      → (j : ℕ) × (j < length (keys_of es)) × (get_or (keys_of es) j q ≡ q)
-  among_key [] q w h = absurd h
-  among_key (e ∷ es) q w h = elim h [
-    | inl a ↦ (0, omega arith, ap (λ p. p.0) a)
-    | inr r ↦ let i = among_key es q w r in (suc i.0, omega (arith, i.1), i.2)
-  ]
-
-  -- what holds of each key holds of the key of each entry
-  pub all_keys : (P : K → Type 0) (es : List (K × X)) (q : K) (w : X) → All P (keys_of es) → Among (q, w) es → P q
-  all_keys P es q w all h = let i = among_key es q w h in subst P i.2 (all i.0 q i.1)

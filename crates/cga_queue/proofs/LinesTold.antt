@@ -11,7 +11,7 @@ use Rattle.std.specs.List.{All}
 use Rattle.std.specs.Ordering.{is_gt, is_lt, ordering_reverse}
 use Rattle.std.proofs.lemmas.Cmp.{alike_right}
 use Rattle.cga_queue.specs.Lines.{AllBefore, AllBehind, Rises, FirstsCompare, FirstCompares, IsTakenOut}
-use Rattle.cga_queue.proofs.Entries.{all_keys}
+use Rattle.cga_order.proofs.Door.{Among-All}
 use Rattle.cga_queue.proofs.TwoLines.{behind_front, true_false}
 
 module _ {K X : Type 0} (cmp : K → K → Ordering) (o : IsTotalOrder cmp) where
@@ -19,7 +19,7 @@ module _ {K X : Type 0} (cmp : K → K → Ordering) (o : IsTotalOrder cmp) wher
   cons_head x y xs ys e = cc
 
   pub above_behind : (es : List (K × X)) (k : K) → All (IsLtBy cmp k) (keys_of es) → AllBehind cmp k es
-  above_behind es k h q i x = all_keys (IsLtBy cmp k) es q i h x
+  above_behind es k h q i x = Among-All (IsLtBy cmp k) es q i h x
 
   -- the map's first was taken: it came before the second line's, or at it
   pub map_taken : (es ls es' ls' : List (K × X)) (p : K × X) → Rises cmp ls → FirstsCompare cmp es ls Less
@@ -37,7 +37,7 @@ module _ {K X : Type 0} (cmp : K → K → Ordering) (o : IsTotalOrder cmp) wher
     | Less ↦ λ e f. true_false f
     | Equal ↦ λ e f. sym (o.congr x q k e) ∙ l
     | Greater ↦ λ e f. o.trans q x k (o.antisymm q x ∙ ap ordering_reverse e) l
-  ] refl (all_keys (λ q. is_lt (cmp x q) ≡ false) es q i h a)
+  ] refl (Among-All (λ q. is_lt (cmp x q) ≡ false) es q i h a)
 
   -- the first of a map, compared with a key
   pub compared : (es r : List (K × X)) (e : K × X) (k : K) (order : Ordering) → es ≡ e ∷ r
@@ -51,7 +51,7 @@ module _ {K X : Type 0} (cmp : K → K → Ordering) (o : IsTotalOrder cmp) wher
         | Less ↦ λ x f. o.trans k e.0 q before x
         | Equal ↦ λ x f. sym (alike_right o e.0 q k x) ∙ before
         | Greater ↦ λ x f. true_false f
-      ] refl (all_keys (IsLeBy cmp e.0) es q i h a)
+      ] refl (Among-All (IsLeBy cmp e.0) es q i h a)
 
 -- a list by its first element
 pub opened : {E : Type 0} (xs : List E) (x : E) → 0 < length xs → x ≡ slice_index_or xs 0 x

@@ -17,6 +17,7 @@ use Rattle.cga_key.specs.Key.{chain_of_key}
 use Rattle.cga_queue.specs.Agenda.{AgendaView, Names, IsPut, IsPopped, NamesNone, NoneOn, Chains, is_due, on, OneEach, Grows, IsLeast, SameOn}
 use Rattle.cga_queue.proofs.Cases.{and_left, and_right, and_both, or_either}
 pub use Rattle.cga_fraction.proofs.Door.{Equal_from_is_eq as is_eq_is}
+use Rattle.std.proofs.lemmas.Bool.{or_right}
 
 module _ {E : Type 0} (p : E → Bool) where
   pub any_from : (es : List E) → list_any p es ≡ true → (e : E) × Among e es × (p e ≡ true)
@@ -26,15 +27,11 @@ module _ {E : Type 0} (p : E → Bool) where
     | inr b ↦ let z = any_from es b in (z.0, inr z.1, z.2)
   ]
 
-  or_after : (a b : Bool) → b ≡ true → (a || b) ≡ true
-  or_after true b e = refl
-  or_after false b e = e
-
   pub any_to : (es : List E) (e : E) → Among e es → p e ≡ true → list_any p es ≡ true
   any_to [] e h t = absurd h
   any_to (x ∷ es) e h t = elim h [
     | inl a ↦ ap (λ b. b || list_any p es) (ap p a ∙ t)
-    | inr b ↦ or_after (p x) (list_any p es) (any_to es e b t)
+    | inr b ↦ or_right (p x) (list_any p es) (any_to es e b t)
   ]
 
 -- where a node is due at a key, it has a chain, whose stamp equals the key's

@@ -27,16 +27,19 @@ module _ {X : Type 0} (D : Chains) (P : X → ℕ → Type 0) (xs : List X) wher
   HasFirst n a = (j : ℕ) (x : X) → j < n → slice_get xs j ≡ Some x → HasAll D (P x) a
 
   module _ (n : ℕ) (x : X) (a b : AgendaView) (at : slice_get xs n ≡ Some x) (more : Grows D (P x) a b) where
+    -- what grew by nodes of the list has, with those of one of its things more
     pub one_grows : (first : AgendaView) → Grows D (OfOne P xs) first a → Grows D (OfOne P xs) first b
     one_grows first g =
         grows_on D (OfOne P xs) first a b g (grows_by D (P x) (OfOne P xs) a b (λ c p. (x, among_from xs n x at, p)) more)
 
+    -- with the nodes of the next thing on it, those of one more are
     pub first_more : HasAll D (P x) b → HasFirst n a → HasFirst (n + 1) b
     first_more own has j y lt e = elim (below_or n j lt) [
       | inl l ↦ all_kept D (P y) (P x) a b more (has j y l e)
       | inr s ↦ subst (λ z. HasAll D (P z) b) (same_Some x y (sym at ∙ (ap (slice_get xs) (sym s) ∙ e))) own
     ]
 
+  -- where the nodes of as many things as the list has are on it, all of its nodes are
   pub first_all : (n : ℕ) (a : AgendaView) → length xs ≤ n → HasFirst n a → HasAll D (OfOne P xs) a
   first_all n a whole has c p here =
       let w = Among-index xs p.0 p.1 in

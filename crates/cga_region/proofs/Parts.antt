@@ -17,11 +17,12 @@ use Rattle.cga_expand.specs.Children.{Member}
 use Rattle.cga_expand.specs.Derivation.{derivation_of, NamesDiffer}
 use Rattle.cga_city.proofs.Door.{among_has, has_among}
 use Rattle.cga_city.specs.Nodes.{AreApart}
-use Rattle.cga_district.proofs.Door.{Among-left, Among-right, differ_left, differ_right, hulls_tell_apart, lot_among, parts_are_apart, two_names}
+use Rattle.cga_district.proofs.Door.{differ_left, differ_right, hulls_tell_apart, lot_among, parts_are_apart, two_names}
 use Rattle.cga_district.specs.Parts.{AllMeetNone, AreDerived, joined}
 use Rattle.cga_district.specs.Towns.{NoneAsks, with_lots}
 use Rattle.cga_region.specs.Parts.{AllTellAlike, AreSums, HullsAreApart, RegionIsItsParts, total_by}
 use Rattle.cga_region.proofs.Lots.{places_differ, tell_alike}
+use Rattle.cga_order.proofs.Door.{Among-left, Among-right}
 
 -- a member's lot is one of all lots
 lot_of_joined : (sources : Sources) (parts : List (List Lot)) → NamesDiffer (joined parts)

@@ -1,12 +1,12 @@
 -- The record of a turn, and of the roots that went.
-use Rattle.std.proofs.Common.{◌≡◌, ◌≢◌, ℕ, List, [], ◌∷◌, ◌++◌, Bool, true, false, ◌⊎◌, inl, inr, refl, ap, sym, ◌∙◌}
+use Rattle.std.proofs.Common.{◌≡◌, ◌≢◌, ℕ, List, [], ◌++◌, Bool, true, false, ◌⊎◌, inl, inr, refl, ap, sym, ◌∙◌}
 use Rattle.std.specs.Prelude.{Some, None, if◌then◌else◌}
 use Rattle.cga_tree.specs.Tree.{Seen, View}
 use Rattle.cga_order.specs.World.{Among, is_instance}
 use Rattle.cga_order.specs.declared.placed.Kind.TheVariants.{Instance}
 use Rattle.cga_order.specs.Agenda.{Node, members_of}
 use Rattle.cga_agenda.proofs.Door.{Has-drawn, count_append, drawn-Has, once-drawn}
-use Rattle.cga_order.proofs.Door.{Among-append, Has-Keeps, Keeps-Has, Once-append, count-once}
+use Rattle.cga_order.proofs.Door.{Among-append, Among-left, Among-right, Has-Keeps, Keeps-Has, Once-append, count-once}
 use Rattle.cga_order.specs.Once.{Once}
 use Rattle.cga_agenda.specs.Known.{shapes_of}
 use Rattle.cga_agenda.specs.Record.{Drawn, drawn, Draws, IsChange}
@@ -24,14 +24,6 @@ use Rattle.cga_rework.proofs.Replaced.{Replacing, comer, where_from, rank_old, s
 use Rattle.cga_rework.proofs.Went.{gone_away, not_there}
 use Rattle.cga_rework.proofs.Whole.{replacing}
 use Rattle.cga_rework.proofs.Begun.{stays, there}
-
-among-left : {X : Type 0} (xs ys : List X) (x : X) → Among x xs → Among x (xs ++ ys)
-among-left [] ys x h = absurd h
-among-left (y ∷ xs) ys x h = elim h [ inl e ↦ inl e | inr r ↦ inr (among-left xs ys x r) ]
-
-among-right : {X : Type 0} (xs ys : List X) (x : X) → Among x ys → Among x (xs ++ ys)
-among-right [] ys x h = h
-among-right (y ∷ xs) ys x h = inr (among-right xs ys x h)
 
 module _ {N A F P : Type 0} (before after : List (Node N A F P)) (gone come : List (Drawn N P)) where
   draws : (nodes : List (Node N A F P)) (d : Drawn N P) → Among d (drawn (members_of nodes)) → Draws nodes d
@@ -59,12 +51,12 @@ module _ {N A F P : Type 0} (before after : List (Node N A F P)) (gone come : Li
         let oy : Once (ys ++ gone) = Once-append ys gone (once-drawn (members_of after) oa) og (λ d i j. (each_gone d j).1 (draws after d i)) in
         let one = count-once test (xs ++ come) (ys ++ gone) ox oy
         (λ d h. elim (Among-append xs come d h) [
-          | inl i ↦ elim (lost d (draws before d i)) [ inl s ↦ among-left ys gone d (drawn_there after d s) | inr g ↦ among-right ys gone d g ]
-          | inr c ↦ among-left ys gone d (drawn_there after d (each_come d c).0)
+          | inl i ↦ elim (lost d (draws before d i)) [ inl s ↦ Among-left ys gone d (drawn_there after d s) | inr g ↦ Among-right ys gone d g ]
+          | inr c ↦ Among-left ys gone d (drawn_there after d (each_come d c).0)
         ])
         (λ d h. elim (Among-append ys gone d h) [
-          | inl i ↦ elim (found d (draws after d i)) [ inl s ↦ among-left xs come d (drawn_there before d s) | inr g ↦ among-right xs come d g ]
-          | inr g ↦ among-left xs come d (drawn_there before d (each_gone d g).0)
+          | inl i ↦ elim (found d (draws after d i)) [ inl s ↦ Among-left xs come d (drawn_there before d s) | inr g ↦ Among-right xs come d g ]
+          | inr g ↦ Among-left xs come d (drawn_there before d (each_gone d g).0)
         ]) in
         sym (count_append test xs come) ∙ one ∙ count_append test ys gone;
   }

@@ -10,6 +10,7 @@ use Rattle.cga_derivation.specs.Derivation.{IsDerivation, reached, step, IsDeriv
 use Rattle.cga_rework.specs.Rules.{derivation_of}
 use Rattle.cga_rework.specs.Touched.{Answered, Kept}
 use Rattle.cga_rework.specs.Example.{path_of, children_of, two_shapes, with_priority, both_done, PriorityTouchesTheChild}
+use Rattle.cga_agenda.proofs.Door.{one_index}
 
 child_at : (s i : ℕ) (c : Placed ℕ ℕ ℕ) → slice_get (children_of s) i ≡ Some c
     → (path_of c.shape ≡ path_of s ++ i ∷ []) × (c.kind ≡ Waiting)
@@ -22,18 +23,13 @@ child_at (suc s) i c e = none c e
 is_derivation : (p : ℕ) → IsDerivation (derivation_of two_shapes (with_priority p))
 is_derivation p = record {
   root = λ n h. elim h [ inl e ↦ ap path_of (sym e) | inr r ↦ absurd r ];
-  roots_apart = λ i j n m e f same. by i j n m e f;
+  roots_apart = λ i j n m e f same. one_index i j n m e f;
   child = λ s a cs e i c g.
       let w = child_at s i c (subst (λ l. slice_get l i ≡ Some c) (sym (ok_same (children_of s) cs e)) g) in
       (refl, w.0, inl w.1);
   unseen = λ n m e. let x : false ≡ true = e in cc;
   local = λ n a b c d e f. refl;
 }
-  where
-    by : (i j : ℕ) (n m : ℕ) → slice_get (0 ∷ []) i ≡ Some n → slice_get (0 ∷ []) j ≡ Some m → i ≡ j
-    by zero zero n m e f = refl
-    by zero (suc j) n m e f = none m f
-    by (suc i) j n m e f = none n e
 
 settled : (s : ℕ) → Has both_done s Waiting → ⊥
 settled s h = elim h [

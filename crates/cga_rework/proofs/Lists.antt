@@ -10,22 +10,13 @@ use Rattle.cga_rework.specs.Ranked.{Ranked, unranked}
 use Rattle.cga_order.specs.Once.{Once}
 use Rattle.cga_agenda.specs.Record.{drawn}
 use Rattle.cga_rework.specs.Ranked.{unranked_drawn}
+pub use Rattle.cga_order.proofs.Door.{Among-map, map-Among}
 
 module _ {X Y : Type 0} (f : X → Y) where
-  -- an element of a mapped list is the image of an element of the list
-  pub Among-map : (xs : List X) (y : Y) → Among y (map f xs) → (x : X) × Among x xs × (f x ≡ y)
-  Among-map [] y h = absurd h
-  Among-map (x ∷ xs) y h = elim h [ inl e ↦ (x, inl refl, e) | inr r ↦ let w = Among-map xs y r in (w.0, inr w.1, w.2) ]
-
-  -- the image of an element is an element of the mapped list
-  pub map-Among : (xs : List X) (x : X) → Among x xs → Among (f x) (map f xs)
-  map-Among [] x h = absurd h
-  map-Among (z ∷ xs) x h = elim h [ inl e ↦ inl (ap f e) | inr r ↦ inr (map-Among xs x r) ]
-
   pub Once-map : (xs : List X) → Once xs → ((x y : X) → Among x xs → Among y xs → f x ≡ f y → x ≡ y) → Once (map f xs)
   Once-map [] o same = tt
   Once-map (x ∷ xs) o same = (
-    (λ h. let w = Among-map xs (f x) h in o.0 (subst (λ y. Among y xs) (same w.0 x (inr w.1) (inl refl) w.2) w.1)),
+    (λ h. let w = Among-map f xs (f x) h in o.0 (subst (λ y. Among y xs) (same w.0 x (inr w.1) (inl refl) w.2) w.1)),
     Once-map xs o.1 (λ y z g h e. same y z (inr g) (inr h) e),
   )
 

@@ -10,7 +10,7 @@ use Rattle.cga_order.specs.declared.placed.Kind.{Kind}
 use Rattle.cga_order.specs.declared.placed.Kind.TheVariants.{Waiting, Done, Faulted, Instance}
 use Rattle.cga_order.specs.Consistent.{Stands}
 use Rattle.cga_order.specs.Agenda.{Node, Keeps, members_of, HasChildren, IsSettled}
-use Rattle.cga_order.proofs.Door.{Has-Keeps, Has-index, slice_get-map}
+use Rattle.cga_order.proofs.Door.{Has-Keeps, Has-index, slice_get-Has, slice_get-map}
 use Rattle.cga_agenda.specs.Edit.{Edit}
 use Rattle.cga_agenda.specs.Work.{Expands, HasRenewed, Places, renewed_child, first_kind}
 use Rattle.cga_rework.specs.Rules.{Shapes, Rules}
@@ -22,12 +22,6 @@ use Rattle.cga_rework.proofs.NodeLists.{some_same, none_some, keeps-node}
 use Rattle.cga_rework.proofs.Place.{chain_line, child_rank, child_is, same_ranked, keeps, keeps_as}
 use Rattle.cga_rework.proofs.Replaced.{Replacing, get_along, stayed, stays_fit, rank_old, rank_self, city_after}
 use Rattle.cga_rework.proofs.Renewed.{ends_with, placed_below, renewed_below}
-
-pub index-Has : {N F P : Type 0} (xs : List (Placed N F P)) (i : ℕ) (m : Placed N F P) → slice_get xs i ≡ Some m
-    → Has xs m.shape m.kind
-index-Has [] i m h = none_some m h
-index-Has (x ∷ xs) zero m h = let q : x ≡ m = some_same x m h in inl (ap (λ y. y.shape) q, ap (λ y. y.kind) q)
-index-Has (x ∷ xs) (suc i) m h = inr (index-Has xs i m h)
 
 module _ {X S A B F P : Type 0} (shapes : Shapes S) (content : Content X S A F P) (old rules : Rules S A B F P) (t : Replacing shapes content rules)
     (small great : ℕ) (within : IsBound t.V small) (within' : IsBound t.T great) where
@@ -154,7 +148,7 @@ module _ {X S A B F P : Type 0} (shapes : Shapes S) (content : Content X S A F P
         let x = wanted_there c k a i h below in
         let at : slice_get (map child (map (placed_of content) t.news)) i ≡ Some (child (placed_of content x.0)) = get_map child (map (placed_of content) t.news) i (placed_of content x.0) (get_map (placed_of content) t.news i x.0 x.1) in
         let at' : slice_get (map child children) i ≡ Some (record { shape = rank x.0; kind = content.kind x.0 }) = ap (λ l. slice_get (map child l) i) (sym are) ∙ at ∙ ap Some (placed_is i x.0 x.1) in
-        (content.kind x.0, subst (λ l. Has (map child children) l (content.kind x.0)) x.2 (index-Has (map child children) i (record { shape = rank x.0; kind = content.kind x.0 }) at'));
+        (content.kind x.0, subst (λ l. Has (map child children) l (content.kind x.0)) x.2 (slice_get-Has (map child children) i (record { shape = rank x.0; kind = content.kind x.0 }) at'));
   }
     where
       get_map : {Y Z : Type 0} (f : Y → Z) (xs : List Y) (i : ℕ) (x : Y) → slice_get xs i ≡ Some x

@@ -1,5 +1,5 @@
 -- The answers of a shape at its own step, in a run of so many steps that nothing waits.
-use Rattle.std.proofs.Common.{◌≡◌, ℕ, zero, suc, ◌+◌, ◌-◌, ◌≤◌, ◌<◌, true, false, sym, ap, ◌∙◌, subst, inl, inr, Some, arith}
+use Rattle.std.proofs.Common.{◌≡◌, ℕ, zero, suc, ◌+◌, ◌-◌, ◌≤◌, ◌<◌, false, sym, ap, ◌∙◌, subst, inl, inr, Some, arith}
 use Rattle.std.specs.Prelude.{nat_lt}
 use Rattle.std.proofs.lemmas.Bool.Decides.{nat_tests}
 use Rattle.cga_order.specs.World.{Has}
@@ -11,6 +11,7 @@ use Rattle.std.proofs.lemmas.Bool.{and_parts as both, cases_Bool as either}
 use Rattle.cga_derivation.specs.Derivation.{Derivation, is_next, next_of, asked, reached, NothingWaits}
 use Rattle.cga_rework.specs.Touched.{Answered}
 use Rattle.cga_rework.proofs.Runs.{AnsweredTo}
+use Rattle.cga_fraction.proofs.Door.{lt_from_nat_lt}
 
 module _ {N A F P : Type 0} (derivation : Derivation N A F P) where
   pub answered_at : (n : ℕ) (s : N) (a : A) → AnsweredTo derivation n s a → Answered derivation s a
@@ -33,7 +34,7 @@ module _ {N A F P : Type 0} (derivation : Derivation N A F P) where
   pub answered_by : (n : ℕ) → NothingWaits derivation (reached derivation n) → (s : N) (a : A) → Answered derivation s a
       → AnsweredTo derivation n s a
   answered_by n quiet s a (k, m, e, f, g) = elim (either (nat_lt k n)) [
-    | inl t ↦ within n k (less k n t) s a m e f g
+    | inl t ↦ within n k (lt_from_nat_lt k n t) s a m e f g
     | inr t ↦
         let gap : (k - n) + n ≡ k = more k n t in
         let same : reached derivation k ≡ reached derivation n = ap (reached derivation) (sym gap) ∙ settled-reached derivation n (k - n) quiet in
@@ -42,8 +43,5 @@ module _ {N A F P : Type 0} (derivation : Derivation N A F P) where
         absurd (quiet m.shape (subst (λ l. Has l m.shape Waiting) same here))
   ]
     where
-      less : (i j : ℕ) → nat_lt i j ≡ true → i < j
-      less i j t = grind (arith, nat_tests)
-
       more : (i j : ℕ) → nat_lt i j ≡ false → (i - j) + j ≡ i
       more i j t = let le : j ≤ i = grind (arith, nat_tests) in omega arith

@@ -1,5 +1,5 @@
 -- The list of a view, and what a walk of it tells.
-use Rattle.std.proofs.Common.{◌≡◌, ℕ, zero, suc, ◌+◌, ◌≤◌, List, [], ◌∷◌, map, length, Bool, true, ◌&&◌, ◌⊎◌, inl, inr, refl, ap, sym, ◌∙◌, subst, arith}
+use Rattle.std.proofs.Common.{◌≡◌, ℕ, zero, suc, ◌+◌, ◌≤◌, List, [], ◌∷◌, map, length, Bool, true, ◌&&◌, inl, inr, refl, ap, sym, ◌∙◌, subst, arith}
 use Rattle.std.specs.Prelude.{Option, Some, None, not, ◌↔◌}
 use Rattle.std.specs.Ordering.{is_lt}
 use Rattle.cga_tree.specs.Tree.{Seen, View}
@@ -21,6 +21,7 @@ use Rattle.cga_rework.specs.TreeLaws.{ListsAreViews, WalkAsks}
 use Rattle.cga_rework.proofs.Lists.{Among-map, map-Among}
 use Rattle.cga_rework.proofs.NodeLists.{nat_cases, option_cases, keeps-node, node-keeps}
 use Rattle.cga_rework.proofs.Place.{parent_of, keyed, child_rank, same_ranked}
+use Rattle.cga_fraction.proofs.Door.{le_or_ge}
 
 module _ {X S A F P : Type 0} (content : Content X S A F P) where
   none_more : (V : View X) (n m : ℕ) → IsBound V n → n ≤ m → nodes_of content V m ≡ nodes_of content V n
@@ -34,13 +35,8 @@ module _ {X S A F P : Type 0} (content : Content X S A F P) where
     ]
   ]
 
-  either : (n m : ℕ) → (n ≤ m) ⊎ (m ≤ n)
-  either zero m = inl (omega arith)
-  either (suc n) zero = inr (omega arith)
-  either (suc n) (suc m) = elim (either n m) [ inl a ↦ inl (omega (arith, a)) | inr b ↦ inr (omega (arith, b)) ]
-
   pub same_bound : (V : View X) (n m : ℕ) → IsBound V n → IsBound V m → nodes_of content V m ≡ nodes_of content V n
-  same_bound V n m b c = elim (either n m) [
+  same_bound V n m b c = elim (le_or_ge n m) [
     | inl le ↦ none_more V n m b le
     | inr le ↦ sym (none_more V m n c le)
   ]

@@ -1,86 +1,26 @@
 -- Rules by rising id are the same exactly where the rules of each id are.
-use Rattle.std.proofs.Common.{◌≡◌, ◌↔◌, IsTrue, ℕ, suc, ◌+◌, ◌<◌, ◌≤◌, ◌⊎◌, inl, inr, List, [], ◌∷◌, ◌++◌, All, take}
+use Rattle.std.proofs.Common.{◌≡◌, ◌↔◌, IsTrue, ℕ, ◌+◌, ◌<◌, ◌≤◌, ◌⊎◌, inl, inr, List, [], ◌∷◌, ◌++◌, All}
 use Rattle.std.proofs.Common.{drop, get_or, map, filter, refl, ap, sym, ◌∙◌, subst, arith, cond, Bool, true, false}
-use Rattle.std.proofs.Common.{not, nat_lt, nat_eq, ◌&&◌, if◌then◌else◌, Some, None, append_assoc}
+use Rattle.std.proofs.Common.{nat_lt, nat_eq, ◌&&◌, if◌then◌else◌, Some, None, append_assoc}
 use Rattle.std.specs.Prelude.{Option, position, unwrap_or}
-use Rattle.std.specs.List.{position_or_len}
 use Rattle.std.proofs.lemmas.List.{append-nil}
-use Rattle.std.proofs.lemmas.List.Sums.{prefix_len-le-length}
-use Rattle.std.proofs.lemmas.List.Elements.{All-nil, All-cons, All-head, All-tail, All-weaker, filter-append}
+use Rattle.std.proofs.lemmas.List.Elements.{All-nil, All-cons, All-head, All-tail, filter-append}
 use Rattle.std.proofs.lemmas.Bool.Decides.{nat_tests}
 use Rattle.cga_rule.specs.declared.grammar.Entry.{Entry}
 use Rattle.cga_rule.specs.declared.rule.Rule.{Rule}
-use Rattle.cga_check.specs.Groups.{is_of, rules_of, place_of, placed, placed_all, by_id}
+use Rattle.cga_check.specs.Groups.{is_of, rules_of, placed, placed_all, by_id}
 use Rattle.cga_same.specs.Agreement.{is_one, rules_with, AgreesAt}
 use Rattle.cga_same.proofs.Lists.{behind, all_behind, filter_none, filter_first, filter_some}
-use Rattle.cga_fraction.proofs.Door.{eq_from_nat_eq as equal, le_from_nat_lt as above, least_of_some as or_end, lt_from_nat_lt as below, nat_eq-same as is_self}
-
--- each rule has no greater id than those behind it
-abbrev Rising : List Rule → Type 0
-Rising [] = Unit {0}
-Rising (x ∷ xs) = All (λ (y : Rule). x.id ≤ y.id) xs × Rising xs
+use Rattle.cga_fraction.proofs.Door.{eq_from_nat_eq as equal, le_from_nat_lt as above, lt_from_nat_lt as below, nat_eq-same as is_self}
+use Rattle.cga_check.proofs.Door.{Rising, least_first, placed_cons, placed_nil, rising_placed}
 
 abbrev with_id : ℕ → List Rule → List Rule
 with_id id rules = filter (λ (r : Rule). nat_eq r.id id) rules
 
 -- ---- a rule put among others
 
-place_is : (id : ℕ) (rules : List Rule) → place_of id rules ≡ position_or_len (λ (x : Rule). nat_lt id x.id) rules
-place_is id rules = or_end _ _ (prefix_len-le-length (λ (x : Rule). not (nat_lt id x.id)) rules)
-
-placed_nil : (r : Rule) → placed r [] ≡ r ∷ []
-unfolding placed
-placed_nil r = refl
-
-abbrev put_at : Rule → List Rule → ℕ → List Rule
-put_at r rules i = take i rules ++ r ∷ drop i rules
-
-cons_step : (r x : Rule) (xs : List Rule) (b : Bool) (n : ℕ)
-    → put_at r (x ∷ xs) (cond (not b) (1 + n) 0) ≡ if b then r ∷ x ∷ xs else x ∷ put_at r xs n
-cons_step r x xs true n = refl
-cons_step r x xs false n = let e : 1 + n ≡ suc n = omega arith in ap (put_at r (x ∷ xs)) e
-
-placed_cons : (r x : Rule) (xs : List Rule)
-    → placed r (x ∷ xs) ≡ if nat_lt r.id x.id then r ∷ x ∷ xs else x ∷ placed r xs
-unfolding placed
-placed_cons r x xs =
-    ap (put_at r (x ∷ xs)) (place_is r.id (x ∷ xs))
-    ∙ cons_step r x xs (nat_lt r.id x.id) (position_or_len (λ (y : Rule). nat_lt r.id y.id) xs)
-    ∙ ap (λ (n : ℕ). if nat_lt r.id x.id then r ∷ x ∷ xs else x ∷ put_at r xs n) (sym (place_is r.id xs))
-
-all_step : (P : Rule → Type 0) (r x : Rule) (xs more : List Rule) (b : Bool) → P r → P x → All P xs → All P more
-    → All P (if b then r ∷ x ∷ xs else x ∷ more)
-all_step P r x xs more true pr px pxs pmore = All-cons P r (x ∷ xs) pr (All-cons P x xs px pxs)
-all_step P r x xs more false pr px pxs pmore = All-cons P x more px pmore
-
-all_placed : (P : Rule → Type 0) (r : Rule) (xs : List Rule) → P r → All P xs → All P (placed r xs)
-all_placed P r [] p h = subst (All P) (sym (placed_nil r)) (All-cons P r [] p h)
-all_placed P r (x ∷ xs) p h =
-    subst (All P) (sym (placed_cons r x xs))
-    (all_step P r x xs (placed r xs) (nat_lt r.id x.id) p (All-head P x xs h) (All-tail P x xs h) (all_placed P r xs p (All-tail P x xs h)))
-
 is_other : (id n m : ℕ) → id < n → n ≤ m → nat_eq m id ≡ false
 is_other id n m h k = grind (arith, nat_tests)
-
-least_first : (r x : Rule) (xs : List Rule) → r.id ≤ x.id → Rising (x ∷ xs) → All (λ (y : Rule). r.id ≤ y.id) (x ∷ xs)
-least_first r x xs first h =
-    All-cons (λ (y : Rule). r.id ≤ y.id) x xs first (All-weaker (λ (y : Rule). x.id ≤ y.id) (λ (y : Rule). r.id ≤ y.id) (λ y le. omega arith) xs h.0)
-
-rising_step : (r x : Rule) (xs more : List Rule) (b : Bool) → nat_lt r.id x.id ≡ b → Rising (x ∷ xs)
-    → (x.id ≤ r.id → All (λ (y : Rule). x.id ≤ y.id) more) → Rising more
-    → Rising (if b then r ∷ x ∷ xs else x ∷ more)
-rising_step r x xs more true e h least rising =
-    let lt = below r.id x.id e in
-    let le : r.id ≤ x.id = omega (arith, lt) in
-    (least_first r x xs le h, h)
-rising_step r x xs more false e h least rising = (least (above r.id x.id e), rising)
-
-rising_placed : (r : Rule) (xs : List Rule) → Rising xs → Rising (placed r xs)
-rising_placed r [] h = subst Rising (sym (placed_nil r)) (All-nil (λ (y : Rule). r.id ≤ y.id), tt)
-rising_placed r (x ∷ xs) h =
-    subst Rising (sym (placed_cons r x xs))
-    (rising_step r x xs (placed r xs) (nat_lt r.id x.id) refl h
-    (λ le. all_placed (λ (y : Rule). x.id ≤ y.id) r xs le h.0) (rising_placed r xs h.1))
 
 -- ---- the rules of an id among rules by rising id
 

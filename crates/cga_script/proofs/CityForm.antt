@@ -1,16 +1,12 @@
 -- The lines of a block of a whole city are a form.
-use Rattle.std.proofs.Common.{◌≡◌, ℕ, ◌&&◌, Bool, true, false, List, ◌∷◌, ◌++◌, refl, codes, nat_le, if◌then◌else◌}
-use Rattle.cga_syntax.specs.declared.lexeme.Lexeme.{Lexeme}
-use Rattle.cga_syntax.specs.declared.print.space.Space.TheVariants.{Usual}
-use Rattle.cga_syntax.specs.Pieces.{Pieces, token, never, number, whole, rule_pieces, Writes}
+use Rattle.std.proofs.Common.{ℕ, refl, codes}
 use Rattle.cga_rule.specs.declared.rule.Rule.{Rule}
 use Rattle.cga_form.specs.Laws.{IsForm, Leads}
 use Rattle.cga_form.specs.Parts.{any}
-use Rattle.cga_form.specs.Reader.{begins}
 use Rattle.cga_form.specs.Tokens.{is_word}
-use Rattle.cga_form.proofs.Door.{Begun, after, begun_as, begun_token, done, either, ends, missed, misses_end, never_written, next, peek_no, peek_yes, plainly, starts_token}
+use Rattle.cga_form.proofs.Door.{Begun, after, begun_token, done, either, ends, missed, misses_end, next, peek_no, peek_yes, plainly, starts_token}
 use Rattle.cga_form.specs.Laws.{Reads}
-use Rattle.cga_parser.proofs.Door.{block_form, rule_is}
+use Rattle.cga_parser.proofs.Door.{block_form, rule_begun}
 use Rattle.cga_parser.specs.Blocks.{block_pieces}
 use Rattle.cga_parser.specs.declared.block_line.BlockLine.{BlockLine}
 use Rattle.cga_parser.specs.declared.block_line.BlockLine.TheVariants as said
@@ -30,19 +26,6 @@ city_reads n =
     (either (is_word (codes "order")) (next (order_form.exact n) (λ m. done refl)) (next (block_form.exact n) (λ b. done refl)))
 
 -- ---- a line of a block of rules is no lot and no order
-
-id_begun_by : (test : Lexeme → Bool) (l : Lexeme) (qs : Pieces) → test l ≡ false → (t : Bool)
-    → (c : ℕ) (x : List Lexeme) (d : ℕ) (r : List Lexeme) → Writes c ((if t then token Usual l else never) ∷ qs) x d
-    → begins test (x ++ r) ≡ false
-id_begun_by test l qs e true c x d r w = (begun_token e).begun c x d r w
-id_begun_by test l qs e false c x d r w = absurd (never_written c qs x d w)
-
-id_begun : {test : Lexeme → Bool} {qs : Pieces} (low high n : ℕ) → test (number n) ≡ false
-    → Begun test (whole low high n ∷ qs)
-id_begun {test = test} {qs = qs} low high n e = record { begun = λ c x d r w. id_begun_by test (number n) qs e (nat_le low n && nat_le n high) c x d r w }
-
-rule_begun : {test : Lexeme → Bool} (r : Rule) → test (number r.id) ≡ false → Begun test (rule_pieces r)
-rule_begun r e = begun_as (rule_is r) (id_begun 1 999999 r.id e)
 
 no_lot : (b : BlockLine) → Begun (is_word (codes "lot")) (block_pieces b)
 no_lot (said.Attribute a) = begun_token refl

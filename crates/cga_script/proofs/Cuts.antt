@@ -1,6 +1,6 @@
 -- How a list of bytes is cut into lines, piece by piece.
 use Rattle.std.proofs.Common.{◌≡◌, ◌≢◌, ℕ, zero, suc, ◌-◌, ◌<◌, ◌≤◌, ◌⊎◌, inl, inr, List, [], ◌∷◌, ◌++◌, length, take, drop, map, subst, refl, sym, ap, ◌∙◌, arith, true, false, Bool}
-use Rattle.std.specs.Prelude.{nat_eq, nat_le, nat_lt, bytes_eq, if◌then◌else◌}
+use Rattle.std.specs.Prelude.{nat_eq, nat_lt, bytes_eq, if◌then◌else◌}
 use Rattle.std.proofs.lemmas.Bool.Decides.{nat_tests}
 use Rattle.std.proofs.lemmas.List.Elements.{All-head, All-tail, All-cons, All-nil, All-take}
 use Rattle.std.proofs.lemmas.List.{take-append-le, take-append-drop, length-take-le, append-nil}
@@ -8,6 +8,7 @@ use Rattle.std.proofs.Math.Seq.{take-nil}
 use Rattle.std.proofs.lemmas.List.{map-append}
 use Rattle.cga_script.specs.Lines.{Cut, cut, before_first, IsOneLine, Line, clipped, without_cr, lines_of}
 use Rattle.cga_script.specs.Pending.{kept_of}
+use Rattle.cga_fraction.proofs.Door.{le_or_ge}
 
 at_lf : (x : ℕ) (xs : List ℕ) → x ≡ 10 → cut (x ∷ xs) ≡ record { lines = [] ∷ (cut xs).lines; rest = (cut xs).rest }
 unfolding cut
@@ -90,23 +91,20 @@ rest_is_one (x ∷ xs) = elim (lf_or_other x) [
   | inr other ↦ subst (λ (c : Cut). IsOneLine c.rest) (sym (at_other x xs other)) (before_is_one x (cut xs).lines (cut xs).rest other (rest_is_one xs))
 ]
 
-pub le_or : (a b : ℕ) → (a ≤ b) ⊎ (b ≤ a)
-le_or a b = elim (nat_le a b) as (λ t. (nat_le a b ≡ t) → (a ≤ b) ⊎ (b ≤ a)) [ true ↦ λ e. inl (grind (arith, nat_tests)) | false ↦ λ e. inr (grind (arith, nat_tests)) ] refl
-
 pub take_all : (n : ℕ) (r : List ℕ) → length r ≤ n → take n r ≡ r
 take_all n [] h = take-nil n
 take_all zero (x ∷ xs) h = absurd (omega arith)
 take_all (suc n) (x ∷ xs) h = ap (λ (t : List ℕ). x ∷ t) (take_all n xs (omega arith))
 
 pub take_twice : (m n : ℕ) (r : List ℕ) → m ≤ n → take m (take n r) ≡ take m r
-take_twice m n r le = elim (le_or n (length r)) [
+take_twice m n r le = elim (le_or_ge n (length r)) [
   | inl short ↦ let e = length-take-le n r short in sym (take-append-le m (take n r) (drop n r) (omega (arith, e))) ∙ ap (take m) (take-append-drop n r)
   | inr all ↦ ap (take m) (take_all n r all)
 ]
 
 -- what is kept tells all that is asked
 pub kept_again : (n : ℕ) (r s : List ℕ) → take n (take n r ++ s) ≡ take n (r ++ s)
-kept_again n r s = elim (le_or n (length r)) [
+kept_again n r s = elim (le_or_ge n (length r)) [
   | inl le ↦ let e = length-take-le n r le in take-append-le n (take n r) s (omega (arith, e)) ∙ take_twice n n r (omega arith) ∙ sym (take-append-le n r s le)
   | inr ge ↦ ap (λ (t : List ℕ). take n (t ++ s)) (take_all n r ge)
 ]
@@ -126,14 +124,14 @@ line_long z h = elim (without_cr_cases z) [
 ]
 
 pub line_kept : (x : List ℕ) → clipped (without_cr (kept_of x)) ≡ clipped (without_cr x)
-line_kept x = elim (le_or 4098 (length x)) [
+line_kept x = elim (le_or_ge 4098 (length x)) [
   | inl le ↦ let n = length-take-le 4098 x le in line_long (take 4098 x) (omega (arith, n)) ∙ ap (λ (t : List ℕ). record { bytes = t; long = true }) (take_twice 4096 4098 x (omega arith)) ∙ sym (line_long x le)
   | inr ge ↦ ap (λ (t : List ℕ). clipped (without_cr t)) (take_all 4098 x ge)
 ]
 
 -- the line read from what is kept of some bytes is the line read from all of them
 pub last_kept : (x : List ℕ) → clipped (kept_of x) ≡ clipped x
-last_kept x = elim (le_or 4098 (length x)) [
+last_kept x = elim (le_or_ge 4098 (length x)) [
   | inl le ↦ let n = length-take-le 4098 x le in clipped_long (take 4098 x) (omega (arith, n)) ∙ ap (λ (t : List ℕ). record { bytes = t; long = true }) (take_twice 4096 4098 x (omega arith)) ∙ sym (clipped_long x (omega arith))
   | inr ge ↦ ap clipped (take_all 4098 x ge)
 ]
@@ -148,14 +146,15 @@ after_part_kept : (ended : List (List ℕ)) (rest r : List ℕ)
 after_part_kept [] rest r = (refl, kept_again 4098 r rest)
 after_part_kept (line ∷ lines) rest r = (ap (λ (l : Line). l ∷ as_lines lines) (sym (line_kept (kept_of r ++ line)) ∙ ap (λ (t : List ℕ). clipped (without_cr t)) (kept_again 4098 r line) ∙ line_kept (r ++ line)), refl)
 
-kept_is_one : (r : List ℕ) → IsOneLine r → IsOneLine (kept_of r)
-kept_is_one r all = All-take (λ (b : ℕ). b ≢ 10) 4098 r all
+-- what is kept of a part without an LF has none
+pub kept_one : (r : List ℕ) → IsOneLine r → IsOneLine (kept_of r)
+kept_one r all = All-take (λ (b : ℕ). b ≢ 10) 4098 r all
 
 pub lines_kept : (r ys : List ℕ) → IsOneLine r → lines_of (kept_of r ++ ys) ≡ lines_of (r ++ ys)
-lines_kept r ys all = ap (λ (c : Cut). as_lines c.lines) (cut_after (kept_of r) ys (kept_is_one r all)) ∙ (after_part_kept (cut ys).lines (cut ys).rest r).0 ∙ ap (λ (c : Cut). as_lines c.lines) (sym (cut_after r ys all))
+lines_kept r ys all = ap (λ (c : Cut). as_lines c.lines) (cut_after (kept_of r) ys (kept_one r all)) ∙ (after_part_kept (cut ys).lines (cut ys).rest r).0 ∙ ap (λ (c : Cut). as_lines c.lines) (sym (cut_after r ys all))
 
 pub rest_kept : (r ys : List ℕ) → IsOneLine r → kept_of (cut (kept_of r ++ ys)).rest ≡ kept_of (cut (r ++ ys)).rest
-rest_kept r ys all = ap (λ (c : Cut). kept_of c.rest) (cut_after (kept_of r) ys (kept_is_one r all)) ∙ (after_part_kept (cut ys).lines (cut ys).rest r).1 ∙ ap (λ (c : Cut). kept_of c.rest) (sym (cut_after r ys all))
+rest_kept r ys all = ap (λ (c : Cut). kept_of c.rest) (cut_after (kept_of r) ys (kept_one r all)) ∙ (after_part_kept (cut ys).lines (cut ys).rest r).1 ∙ ap (λ (c : Cut). kept_of c.rest) (sym (cut_after r ys all))
 
 -- one more piece: the lines so far, then those that it ends
 pub lines_append : (read piece : List ℕ)

@@ -3,12 +3,12 @@ use Rattle.std.proofs.Common.{◌≡◌, ◌≢◌, ℕ, suc, ◌+◌, ◌-◌, 
 use Rattle.std.specs.Prelude.{◌↔◌, IsFalse}
 use Rattle.std.proofs.Math.Seq.{take-nil}
 use Rattle.std.proofs.lemmas.List.{take-append-drop}
-use Rattle.std.proofs.lemmas.List.Elements.{All-append, All-take}
+use Rattle.std.proofs.lemmas.List.Elements.{All-append}
 use Rattle.cga_script.specs.Lines.{Cut, cut, IsOneLine, Line, clipped, without_cr, lines_of}
 use Rattle.cga_script.specs.Ends.{is_blank_line}
 use Rattle.cga_script.specs.Pending.{Pending, IsBlankFront, IsPart, kept_of, ready_line}
 use Rattle.cga_script.specs.declared.ending.Ending.TheVariants.{Open, Lf, End}
-use Rattle.cga_script.proofs.Cuts.{cut_line, cut_part, line_kept, last_kept, lines_kept, kept_again, take_twice}
+use Rattle.cga_script.proofs.Cuts.{kept_one, cut_line, cut_part, line_kept, last_kept, lines_kept, kept_again, take_twice}
 
 abbrev IsByte : ℕ → Type 0
 IsByte b = b ≢ 10
@@ -66,10 +66,6 @@ no_lines part one = ap (λ (c : Cut). map (λ (l : List ℕ). clipped (without_c
 pub rest_of_part : (part : List ℕ) → IsOneLine part → (cut part).rest ≡ part
 rest_of_part part one = ap (λ (c : Cut). c.rest) (cut_part part one)
 
--- what is kept of a part without an LF has none
-pub kept_one : (part : List ℕ) → IsOneLine part → IsOneLine (kept_of part)
-kept_one part one = All-take IsByte 4098 part one
-
 -- what is kept of what is kept is all of that
 pub kept_twice : (part : List ℕ) → kept_of (kept_of part) ≡ kept_of part
 kept_twice part = take_twice 4098 4098 part (omega arith)
@@ -101,7 +97,8 @@ goes_on rest piece old new part one is =
       record { one = both; kept = is ∙ ap (λ (k : List ℕ). record { kept = kept_of (k ++ piece); ending = Open }) kept ∙ ap (λ (k : List ℕ). record { kept = k; ending = Open }) (kept_again 4098 rest piece) },
     )
 
-nothing_kept : (byte : ℕ) (bytes : List ℕ) → kept_of (byte ∷ bytes) ≡ [] → ⊥
+-- of a part with a byte something is kept
+pub nothing_kept : (byte : ℕ) (bytes : List ℕ) → kept_of (byte ∷ bytes) ≡ [] → ⊥
 nothing_kept byte bytes e = let bad : byte ∷ take 4097 bytes ≡ [] = e in cc
 
 none_kept : (rest : List ℕ) → (kept_of rest ≡ []) ↔ (rest ≡ [])

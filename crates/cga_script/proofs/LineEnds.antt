@@ -17,6 +17,7 @@ use Rattle.cga_form.specs.Lines.{Line, is_long}
 use Rattle.cga_form.specs.Tokens.{is_word}
 use Rattle.cga_parser.specs.BlockTells.{EndsBlock}
 use Rattle.cga_script.specs.Ends.{are_end, ends_after, is_end_line}
+use Rattle.cga_fraction.proofs.Door.{not-and_parts}
 
 -- ---- a turn of the loop
 
@@ -89,10 +90,6 @@ module _ (line : List ℕ) (at : ℕ) (found r : Bool) (read : r ≡ ends_after 
 
 -- ---- what the end is
 
-both_true : (a b : Bool) → (not a && b) ≡ true → (a ≡ false) × (b ≡ true)
-both_true true b e = absurd (let q : false ≡ true = e in cc)
-both_true false b e = (refl, e)
-
 just_end : (o : Lexed) → are_end o ≡ true → (t : Token) × (o ≡ Ok (t ∷ [])) × (seen t ≡ lexeme.Name (codes "end"))
 just_end (Ok []) e = absurd (let q : false ≡ true = e in cc)
 just_end (Ok (t ∷ [])) e = (t, refl, word_is (codes "end") (seen t) e)
@@ -105,7 +102,7 @@ end_again l h =
 
 end_only : (l : Line) → is_end_line l ≡ true → EndsBlock l
 end_only l e =
-    let p = both_true (is_long l) (are_end (tokens_of l.bytes)) e in
+    let p = not-and_parts (is_long l) (are_end (tokens_of l.bytes)) e in
     let q = just_end (tokens_of l.bytes) p.1 in
     (q.0, p.0, q.1, q.2)
 

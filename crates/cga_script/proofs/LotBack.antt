@@ -1,11 +1,9 @@
 -- A lot that some line says is told by its text.
-use Rattle.std.proofs.Common.{◌≡◌, ℕ, zero, suc, ◌+◌, ◌≤◌, nat_le, nat_lt, ◌&&◌, Bool, true, false, List, [], ◌∷◌}
-use Rattle.std.proofs.Common.{◌++◌, length, length-append, map, ℤ, pos, negsuc, Some, Ok, Err, arith, ap, sym, ◌∙◌}
+use Rattle.std.proofs.Common.{◌≡◌, ℕ, ◌+◌, ◌≤◌, nat_le, nat_lt, ◌&&◌, Bool, true, false, List, [], ◌∷◌}
+use Rattle.std.proofs.Common.{◌++◌, length, length-append, map, pos, Some, Ok, Err, arith, ap, sym, ◌∙◌}
 use Rattle.std.proofs.Common.{refl, subst, codes, decimal, if◌then◌else◌}
-use Rattle.std.specs.Fmt.{signed_decimal}
 use Rattle.std.specs.List.{All}
 use Rattle.std.proofs.lemmas.Bool.Decides.{nat_tests}
-use Rattle.std.proofs.lemmas.Fmt.{length-decimal-le}
 use Rattle.std.proofs.lemmas.List.{map-append}
 use Rattle.std.proofs.lemmas.List.Elements.{All-head, All-tail, All-cons, All-nil, All-append}
 use Rattle.cga_fraction.specs.Rat.{Rat, of_int}
@@ -15,14 +13,14 @@ use Rattle.cga_lexer.specs.declared.token.Token.{Token}
 use Rattle.cga_rule.specs.declared.grammar.Attribute.{Attribute}
 use Rattle.cga_syntax.specs.Lexemes.{keyword_of, is_reserved}
 use Rattle.cga_syntax.specs.Pieces.{Pieces, token, never, number, word, whole, named, valued, Writes}
-use Rattle.cga_syntax.specs.Printing.{printed, exactly, magnitude}
+use Rattle.cga_syntax.specs.Printing.{printed, exactly}
 use Rattle.cga_syntax.specs.Reading.{IsToken, AreTokens, AreRead}
 use Rattle.cga_syntax.specs.declared.lexeme.Lexeme.{Lexeme}
 use Rattle.cga_syntax.specs.declared.lexeme.Lexeme.TheVariants as lexeme
 use Rattle.cga_syntax.specs.declared.print.space.Space.TheVariants.{Usual}
 use Rattle.cga_form.proofs.Door.{head_of, never_written}
 use Rattle.cga_fraction.proofs.Door.{within_4096 as short_enough}
-use Rattle.cga_syntax.proofs.Door.{again, attribute_visible, below, below_more, lexemes, line_tokens, named_of, whole_small}
+use Rattle.cga_syntax.proofs.Door.{again, attribute_visible, lexemes, line_tokens, named_of}
 use Rattle.cga_form.specs.BlockTells.{unless_blank, unless_long, BlockTells}
 use Rattle.cga_form.specs.Cursor.{seen}
 use Rattle.cga_form.specs.Tells.{Tells}
@@ -37,6 +35,10 @@ use Rattle.cga_script.specs.Lots.{lot_pieces}
 use Rattle.cga_script.proofs.LotTexts.{last_tokens, lot_tokens, flat_text, lot_flat, HasTokens, lot_read}
 use Rattle.cga_script.proofs.Said.{line_says}
 use Rattle.std.proofs.Common.{append-nil as nil_right}
+use Rattle.cga_syntax.proofs.Door.{whole_short}
+use Rattle.cga_syntax.proofs.Door.{signed_short}
+use Rattle.cga_syntax.proofs.Door.{tokens_front}
+use Rattle.cga_syntax.proofs.Door.{tokens_rest}
 
 -- ---- what the pieces of a lot are
 
@@ -102,30 +104,22 @@ tokens_are l p =
     (joined _ (exactly l.width.num l.width.above) _ ∙ ap (λ z. lexemes (exactly l.width.num l.width.above) ++ z)
     (joined _ (exactly l.depth.num l.depth.above) _))))
 
-left_tokens : (xs ys : List Lexeme) → AreTokens (xs ++ ys) → AreTokens xs
-left_tokens [] ys t = tt
-left_tokens (x ∷ xs) ys t = (t.0, left_tokens xs ys t.1)
-
-right_tokens : (xs ys : List Lexeme) → AreTokens (xs ++ ys) → AreTokens ys
-right_tokens [] ys t = t
-right_tokens (x ∷ xs) ys t = right_tokens xs ys t.1
-
 abbrev of_value : Rat → List Lexeme
 of_value v = lexemes (exactly v.num v.above)
 
 has_tokens : (l : Lot) → AreTokens (lot_tokens l) → HasTokens l
 has_tokens l t =
-    let z = right_tokens (of_value l.x) _ t.1.1.1 in
-    let w = right_tokens (of_value l.z) _ z in
-    let d = right_tokens (of_value l.width) _ w in
+    let z = tokens_rest (of_value l.x) _ t.1.1.1 in
+    let w = tokens_rest (of_value l.z) _ z in
+    let d = tokens_rest (of_value l.width) _ w in
     record {
       name = t.1.0;
       seed = t.1.1.0;
-      x = left_tokens (of_value l.x) _ t.1.1.1;
-      z = left_tokens (of_value l.z) _ z;
-      width = left_tokens (of_value l.width) _ w;
-      depth = left_tokens (of_value l.depth) _ d;
-      symbol = (right_tokens (of_value l.depth) _ d).0;
+      x = tokens_front (of_value l.x) _ t.1.1.1;
+      z = tokens_front (of_value l.z) _ z;
+      width = tokens_front (of_value l.width) _ w;
+      depth = tokens_front (of_value l.depth) _ d;
+      symbol = (tokens_rest (of_value l.depth) _ d).0;
     }
 
 pub record Told (l : Lot) : Type 0 where
@@ -144,20 +138,9 @@ told_lot l h =
 
 -- ---- the length of the text
 
-whole_few : (n : ℕ) → IsToken (number n) → length (decimal n) ≤ 18
-whole_few n t = let b = whole_small n t in length-decimal-le 18 n (omega arith) b (omega arith)
-
-magnitude_few : (n above : ℕ) → AreTokens (lexemes (magnitude n above)) → length (decimal n ++ below above) ≤ 37
-magnitude_few n zero t = omega (arith, whole_few n t.0, ap length (nil_right (decimal n)))
-magnitude_few n (suc above) t = omega (arith, whole_few n t.0, whole_few (suc above + 1) t.1.1.0, length-append (decimal n) (below (suc above)), ap length (below_more above))
-
-signed_few : (z : ℤ) (above : ℕ) → AreTokens (lexemes (exactly z above)) → length (signed_decimal z ++ below above) ≤ 38
-signed_few (pos n) above t = omega (arith, magnitude_few n above t)
-signed_few (negsuc n) above t = omega (arith, magnitude_few (suc n) above t.1)
-
 value_few : (v : Rat) → AreTokens (of_value v) → length (exact_text_of v) ≤ 38
 unfolding exact_text_of
-value_few v t = signed_few v.num v.above t
+value_few v t = signed_short v.num v.above t
 
 more_by : (xs ys : List ℕ) (n m : ℕ) → length xs ≤ n → length ys ≤ m → length (xs ++ 32 ∷ ys) ≤ n + (m + 1)
 more_by xs ys n m a b = omega (arith, length-append xs (32 ∷ ys))
@@ -170,7 +153,7 @@ lot_few l t =
     let w = more_by (exact_text_of l.width) _ 38 71 (value_few l.width t.width) d in
     let z = more_by (exact_text_of l.z) _ 38 110 (value_few l.z t.z) w in
     let x = more_by (exact_text_of l.x) _ 38 149 (value_few l.x t.x) z in
-    let e = more_by (decimal l.seed) _ 18 188 (whole_few l.seed t.seed) x in
+    let e = more_by (decimal l.seed) _ 18 188 (whole_short l.seed t.seed) x in
     let f = more_by l.name _ 32 207 n e in
     omega (arith, f, ap length (lot_flat l))
 

@@ -1,7 +1,7 @@
 -- A lot in the place of the one of its name, and where the lots stand then.
 use Rattle.std.proofs.Common.{◌≡◌, ℕ, suc, ◌+◌, ◌<◌, Bool, true, false, cond, List, [], ◌∷◌, ◌++◌, length, Option, Some, None, refl, ap, sym, ◌∙◌, arith, if◌then◌else◌, true≢false}
 use Rattle.std.specs.BTreeMap.{BTreeMap, Updates, get}
-use Rattle.std.specs.Cmp.Lexicographic.{slice_cmp, bytes_decides, texts_ties}
+use Rattle.std.specs.Cmp.Lexicographic.{slice_cmp, texts_ties}
 use Rattle.std.specs.Map.{lookup}
 use Rattle.std.specs.Ordering.{is_eq, nat_cmp}
 use Rattle.std.specs.Prelude.{slice_set}
@@ -9,6 +9,7 @@ use Rattle.cga_syntax.specs.Lexemes.{is}
 use Rattle.cga_shape.specs.declared.lot.Lot.{Lot}
 use Rattle.cga_script.specs.CityLines.{with_lot}
 use Rattle.cga_script.specs.Places.{ArePlaces, further_by, place_of}
+use Rattle.cga_fraction.proofs.Door.{eq_from_pointwise as name_sound, pointwise-same as name_own}
 
 abbrev here_or : Bool → Option ℕ → Option ℕ
 here_or t o = if t then Some 0 else further_by 1 o
@@ -59,12 +60,6 @@ within name [] i e = absurd (cc)
 within name (l ∷ ls) i e = within_by (length ls) (place_of name ls) i (is l.name name) e (λ j q. within name ls j q)
 
 -- ---- where the lots stand, once one is put
-
-name_sound : (a b : List ℕ) → is a b ≡ true → a ≡ b
-name_sound a b h = (bytes_decides a b).0 h
-
-name_own : (a : List ℕ) → is a a ≡ true
-name_own a = (bytes_decides a a).1 refl
 
 not_both : (a b c : List ℕ) → is a b ≡ false → is a c ≡ true → is b c ≡ true → ⊥
 not_both a b c f p q =

@@ -12,10 +12,12 @@ use Rattle.cga_syntax.specs.Printing.{exactly, magnitude}
 use Rattle.cga_syntax.specs.Reading.{IsToken, AreTokens, AreRead}
 use Rattle.cga_syntax.specs.declared.lexeme.Lexeme.{Lexeme}
 use Rattle.cga_syntax.specs.declared.lexeme.Lexeme.TheVariants as lexeme
-use Rattle.cga_syntax.proofs.Door.{Ends, below, below_more, first_whole, lex_nil, lexemes, primary_apart, second, space_read, token_read, whole_text}
+use Rattle.cga_syntax.proofs.Door.{Ends, below, below_more, first_whole, lexemes, second, space_read, token_read, whole_text}
 use Rattle.cga_shape.specs.declared.lot.Lot.{Lot}
 use Rattle.cga_script.specs.Dumps.{lot_text}
 use Rattle.std.proofs.Common.{append-nil as nil_right}
+use Rattle.cga_syntax.proofs.Door.{whole_apart}
+use Rattle.cga_lexer.proofs.Door.{lex_nil}
 
 -- from each place the text is lexed as these tokens
 abbrev Texts : List ℕ → List Lexeme → Type 0
@@ -27,9 +29,6 @@ spaced text ls h p = space_read false text p ls h
 whole_then : (n : ℕ) (rest : List ℕ) (ls : List Lexeme) → IsToken (number n) → Ends (number n) rest → Texts rest ls
     → Texts (decimal n ++ rest) (number n ∷ ls)
 whole_then n rest ls t e more p = subst (λ z. AreRead (lex 0 p (z ++ rest)) (number n ∷ ls)) (whole_text n) (token_read (number n) rest p ls t e more)
-
-whole_apart : (n : ℕ) (rest : List ℕ) → IsToken (number n) → begins second (decimal n ++ rest) ≡ false
-whole_apart n rest t = ap (λ z. begins second (z ++ rest)) (sym (whole_text n)) ∙ primary_apart (number n) rest t refl
 
 -- ---- a value and a space after it
 

@@ -1,5 +1,5 @@
 -- What a line says as a line of one kind of block, it says as one of another where both are written alike.
-use Rattle.std.proofs.Common.{◌≡◌, ℕ, ◌+◌, Bool, true, false, List, [], ◌∷◌, length, map, Option, Some, None, Result, Ok, Err, refl, subst}
+use Rattle.std.proofs.Common.{◌≡◌, ℕ, ◌+◌, Bool, true, false, List, [], ◌∷◌, length, map, Option, Some, None, Result, Ok, Err, refl, subst, sym}
 use Rattle.cga_lexer.specs.Line.{Lexed, lex, tokens_of}
 use Rattle.cga_lexer.specs.declared.token.Token.{Token}
 use Rattle.cga_syntax.specs.declared.lexeme.Lexeme.{Lexeme}
@@ -15,9 +15,7 @@ use Rattle.cga_parser.specs.Blocks.{block_pieces}
 use Rattle.cga_script.specs.declared.city_line.CityLine.{CityLine}
 use Rattle.cga_script.specs.declared.city_line.CityLine.TheVariants as line
 use Rattle.cga_script.specs.CityLines.{city_pieces, rules_part}
-
-same_value : {A : Type 0} (a b : A) → ◌≡◌ {A = Result A LineFault} (Ok a) (Ok b) → b ≡ a
-same_value a b h = cc
+use Rattle.cga_fraction.proofs.Door.{same_Ok}
 
 same_line : {A : Type 0} (a b : A) → ◌≡◌ {A = Found A} (Ok (Some a)) (Ok (Some b)) → b ≡ a
 same_line a b h = cc
@@ -26,7 +24,7 @@ module _ {A : Type 0} (v : A → Pieces) (a : A) where
   placed_value : (end : ℕ) (ts : List Token) (found : Result A Fault)
       → ◌≡◌ {A = Result A LineFault} (Ok a) (with_place end ts found) → Tells v 32 (map seen ts) found
       → Tells v 32 (map seen ts) (Ok a)
-  placed_value end ts (Ok b) e h = subst (λ z. Tells v 32 (map seen ts) (Ok z)) (same_value a b e) h
+  placed_value end ts (Ok b) e h = subst (λ z. Tells v 32 (map seen ts) (Ok z)) (sym (same_Ok a b e)) h
   placed_value end ts (Err f) e h = absurd (cc)
 
   -- what the tokens of a line tell that is a member

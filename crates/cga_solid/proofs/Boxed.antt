@@ -8,7 +8,7 @@ use Rattle.cga_fraction.specs.declared.stop.Stop.TheVariants.{Fault, NoMemory}
 use Rattle.cga_fraction.specs.Rat.{Rat, zero_rat}
 use Rattle.cga_fraction.specs.Order.{rat_le, rat_lt, rat_min, rat_max}
 use Rattle.cga_fraction.specs.Arithmetic.{plus, minus}
-use Rattle.cga_fraction.proofs.Door.{and_then-ok, itself, le_diff, le_trans, max_above, min_below, minus_diff, minus_le, plus_diff, plus_le}
+use Rattle.cga_fraction.proofs.Door.{and_then-ok, err_if-ok, itself, le_diff, le_trans, max_above, min_below, minus_diff, minus_le, plus_diff, plus_le}
 use Rattle.cga_word.specs.declared.axis.Axis.{Axis}
 use Rattle.cga_word.specs.declared.axis.Axis.TheVariants.{X, Y, Z}
 use Rattle.cga_word.specs.declared.primitive.Primitive.{Primitive}
@@ -19,7 +19,7 @@ use Rattle.cga_frame.specs.Points.{coordinate, checked_point, point_in_range}
 use Rattle.cga_frame.specs.Scope.{Scope, has_negative, moved, moved_along, place_of}
 use Rattle.cga_frame.specs.declared.point.Point.{Point}
 use Rattle.cga_frame.specs.declared.signed.Signed.{Signed}
-use Rattle.cga_fraction.specs.Results.{err_if, or_err}
+use Rattle.cga_fraction.specs.Results.{or_err}
 use Rattle.cga_fraction.specs.declared.overflow.Overflow as Unit
 use Rattle.cga_solid.specs.declared.solid_fault.SolidFault.TheVariants as fault
 use Rattle.cga_solid.specs.Corners.{corners_of}
@@ -78,7 +78,8 @@ point_is : (p v : Point) (b : Bool)
 point_is p v true h = same_ok p v h
 point_is p v false h = absurd (cc)
 
-placed_is : (s : Scope) (c v : Point) → placed s c ≡ Ok v → place_of s.at s.frame c ≡ v
+-- a point that is placed is placed where the scope says
+pub placed_is : (s : Scope) (c v : Point) → placed s c ≡ Ok v → place_of s.at s.frame c ≡ v
 unfolding checked_point
 placed_is s c v h = point_is (place_of s.at s.frame c) v (point_in_range (place_of s.at s.frame c)) h
 
@@ -94,17 +95,12 @@ all_in s (c ∷ cs) vs l h =
 
 -- ---- of meshes
 
-not_refused : {A F : Type 0} (test : Bool) (fault : F) (more : Result A F) (y : A) → err_if test fault more ≡ Ok y
-    → more ≡ Ok y
-not_refused true fault more y h = absurd (cc)
-not_refused false fault more y h = h
-
 -- a mesh that is given has the vertices and the faces of its form
 mesh_is : (kind : Primitive) (s : Scope) (m : SolidMesh) → mesh_of kind s ≡ Ok m
     → (vs : List Point) × (vertices_of (form_of kind s.size) s ≡ Ok vs) × (mesh_in (form_of kind s.size) vs ≡ m)
 unfolding mesh_of
 mesh_is kind s m h =
-    let a = and_then-ok (vertices_of (form_of kind s.size) s) _ m (not_refused (lacks_size kind s.size) _ _ m h) in (a.0, a.1, same_ok _ m a.2)
+    let a = and_then-ok (vertices_of (form_of kind s.size) s) _ m (err_if-ok (lacks_size kind s.size) _ _ m h).1 in (a.0, a.1, same_ok _ m a.2)
 
 gable_solid : (b : Bool) → ◌≡◌ {A = Form} (if b then form.GableAlongX else form.GableAlongZ) form.Quad → ⊥
 gable_solid true h = cc

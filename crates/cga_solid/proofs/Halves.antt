@@ -30,6 +30,7 @@ half_err a b f e h = or_err-err_as div.Overflow f Overflow (checked (divided a t
 
 -- ---- what is in range is the number
 
+-- what is in range is the number
 pub within_is : (a q : Rat) → within a ≡ Ok q → a ≡ q
 within_is a q h = checked_is a q (or_err-ok Overflow (checked a) q h)
 

@@ -2,3 +2,4 @@ mod Boxed
 mod Closed
 mod Halves
 mod Local
+pub mod Door

@@ -6,9 +6,9 @@ use Rattle.cga_fraction.specs.Rat.{Rat, den, zero_rat, of_int}
 use Rattle.cga_fraction.specs.Order.{rat_le, rat_lt, positive_part, negative_part}
 use Rattle.cga_fraction.specs.Arithmetic.{minus, times, divided}
 use Rattle.cga_fraction.specs.Rounding.{IsCeil, ceil_of}
-use Rattle.cga_fraction.proofs.Door.{IsLowest, IsRatio, and_then-ok, divided_ratio, is_ceil, itself, le_ratio, like}
+use Rattle.cga_fraction.proofs.Door.{IsLowest, IsRatio, and_then-ok, divided_ratio, err_if-ok, is_ceil, itself, le_ratio, like}
 use Rattle.cga_fraction.proofs.Door.{lt_fact, lt_of_lt_le, lt_test, minus_lowest, minus_of, same_diff, times_diff}
-use Rattle.cga_fraction.proofs.Door.{times_lowest, times_ratio, zero_ratio}
+use Rattle.cga_fraction.proofs.Door.{times_ratio, zero_ratio}
 use Rattle.cga_fraction.specs.Results.{and_then, onto}
 use Rattle.cga_split.specs.Faults.{within}
 use Rattle.cga_split.specs.Cuts.{Cover, IsCut, parts_of}
@@ -16,7 +16,7 @@ use Rattle.cga_split.specs.Repeat.{whole, multiples, repeat_cuts, count_of, repe
 use Rattle.cga_split.specs.declared.split_fault.SplitFault.{SplitFault}
 use Rattle.cga_split.proofs.Covers.{Rises, last_of, covers}
 use Rattle.cga_split.proofs.Parts.{within_is, joined}
-use Rattle.cga_split.proofs.Subdivs.{positive, not_refused, not_true}
+use Rattle.cga_split.proofs.Subdivs.{divided_lowest, positive, not_true}
 
 -- ---- the multiples of a part
 
@@ -118,16 +118,12 @@ repeat_covers size nl dl n l =
     (subst (λ (x : Rat). IsTrue (rat_le x size)) (sym end) (le_ratio (times part (whole (suc n))) size nl dl nl dl last l (omega arith)))
     (subst (λ (x : Rat). IsTrue (rat_le size x)) (sym end) (le_ratio size (times part (whole (suc n))) nl dl nl dl l last (omega arith)))
 
-divided_lowest : (a b : Rat) → IsLowest (divided a b)
-unfolding divided
-divided_lowest a b = times_lowest _ _
-
 counted_is : {P : Type 0} (part : Rat → Rat → Result P SplitFault) (place : Rat → Rat → P)
     → ((a len : Rat) (p : P) → part a len ≡ Ok p → p ≡ place a len)
     → (size : Rat) (n : ℕ) (ps : List P) → counted part size n ≡ Ok ps → ps ≡ parts_of place (repeat_cuts size n)
 unfolding repeat_cuts
 counted_is part place exact size n ps h =
-    let few = not_refused (nat_lt 10000 n) _ _ ps h in
+    let few = err_if-ok (nat_lt 10000 n) _ _ ps h in
     let a = and_then-ok (within (divided size (whole n))) _ ps few.1 in
     let step : divided size (whole n) ≡ a.0 = within_is (divided size (whole n)) a.0 a.1 in
     let low : IsLowest a.0 = subst IsLowest step (divided_lowest size (whole n)) in
@@ -140,8 +136,8 @@ pub repeated_is : {P : Type 0} (part : Rat → Rat → Result P SplitFault) (pla
     → (n : ℕ) × IsCeil (divided size length) (pos n) × IsCut place (repeat_cuts size n) size ps
 unfolding repeated
 repeated_is part place exact size length ps h =
-    let flat = not_refused (not (rat_lt zero_rat size)) _ _ ps h in
-    let short = not_refused (not (rat_lt zero_rat length)) _ _ ps flat.1 in
+    let flat = err_if-ok (not (rat_lt zero_rat size)) _ _ ps h in
+    let short = err_if-ok (not (rat_lt zero_rat length)) _ _ ps flat.1 in
     let q = and_then-ok (within (divided size length)) _ ps short.1 in
     let l = positive size (not_true _ flat.0) in
     let s = positive length (not_true _ short.0) in

@@ -1,15 +1,14 @@
 -- The parts of Subdiv are those of its cuts, which cover the axis.
 use Rattle.std.proofs.Common.{◌≡◌, ℕ, zero, suc, ◌+◌, ◌*◌, ◌<◌, List, [], ◌∷◌, Bool, true, false, inl, inr, refl, sym, ap, ◌∙◌, subst, arith, Ok, pos, negsuc, ℤ}
-use Rattle.std.specs.Prelude.{Result, IsTrue, not, ◌&&◌, ◌||◌, if◌then◌else◌}
+use Rattle.std.specs.Prelude.{Result, IsTrue, not, ◌||◌, if◌then◌else◌}
 use Rattle.std.specs.List.{list_all, list_any}
 use Rattle.std.proofs.Math.Nat.{mul-pos}
 use Rattle.cga_fraction.specs.Rat.{Rat, den, zero_rat}
 use Rattle.cga_fraction.specs.Order.{rat_le, rat_lt, positive_part, negative_part}
 use Rattle.cga_fraction.specs.Arithmetic.{plus, minus, times, divided}
-use Rattle.cga_fraction.proofs.Door.{IsLowest, IsRatio, and_second as and_right, and_then-ok, fraction_lowest}
+use Rattle.cga_fraction.proofs.Door.{IsLowest, IsRatio, and_first, and_second as and_right, and_then-ok, err_if-ok, fraction_lowest}
 use Rattle.cga_fraction.proofs.Door.{le_ratio, le_refl, le_total, lt_fact, lt_le, minus_ratio, not_le_lt, plus_ratio}
 use Rattle.cga_fraction.proofs.Door.{times_lowest, zero_ratio}
-use Rattle.cga_fraction.specs.Results.{err_if}
 use Rattle.cga_split.specs.Faults.{within}
 use Rattle.cga_split.specs.Cuts.{Cover, IsCut, parts_of}
 use Rattle.cga_split.specs.declared.split_fault.SplitFault.{SplitFault}
@@ -42,23 +41,13 @@ positive x h =
     let top = above x.num (den x) (lt_fact zero_rat x h) in
     record { n = suc top.0; d = den x; ratio = record { positive = omega arith; top = suc top.0; is = top.1; same = refl }; some = omega arith }
 
-and_left : (a b : Bool) → (a && b) ≡ true → IsTrue a
-and_left true b h = refl
-and_left false b h = cc
-
--- what is not refused
-pub not_refused : {A F : Type 0} (test : Bool) (fault : F) (more : Result A F) (y : A) → err_if test fault more ≡ Ok y
-    → (test ≡ false) × (more ≡ Ok y)
-not_refused true fault more y h = absurd (cc)
-not_refused false fault more y h = (refl, h)
-
 -- sizes above 0 are ratios
 pub are_ratios : (sizes : List PartSize) → list_all is_positive sizes ≡ true → AreRatios sizes
 are_ratios [] h = tt
 are_ratios (Absolute x ∷ sizes) h =
-    let p = positive x (and_left (rat_lt zero_rat x) _ h) in (p.n, p.d, p.ratio, are_ratios sizes (and_right (rat_lt zero_rat x) _ h))
+    let p = positive x (and_first (rat_lt zero_rat x) _ h) in (p.n, p.d, p.ratio, are_ratios sizes (and_right (rat_lt zero_rat x) _ h))
 are_ratios (Relative r ∷ sizes) h =
-    let p = positive r (and_left (rat_lt zero_rat r) _ h) in (p.n, p.d, p.ratio, are_ratios sizes (and_right (rat_lt zero_rat r) _ h))
+    let p = positive r (and_first (rat_lt zero_rat r) _ h) in (p.n, p.d, p.ratio, are_ratios sizes (and_right (rat_lt zero_rat r) _ h))
 
 -- the sum of the factors is above 0 where there is one
 relative_more : (r : Rat) (n d : ℕ) (sizes : List PartSize) → IsRatio r n d → 0 < n → list_all is_positive sizes ≡ true
@@ -66,7 +55,7 @@ relative_more : (r : Rat) (n d : ℕ) (sizes : List PartSize) → IsRatio r n d 
 relative_more r n d [] is some h = record { n = n; d = d; ratio = is; some = some }
 relative_more r n d (Absolute x ∷ sizes) is some h = relative_more r n d sizes is some (and_right (rat_lt zero_rat x) _ h)
 relative_more r n d (Relative f ∷ sizes) is some h =
-    let p = positive f (and_left (rat_lt zero_rat f) _ h) in
+    let p = positive f (and_first (rat_lt zero_rat f) _ h) in
     relative_more (plus r f) (n * p.d + p.n * d) (d * p.d) sizes (plus_ratio r f n d p.n p.d is p.ratio) (let s = mul-pos some p.ratio.positive in omega (arith, s)) (and_right (rat_lt zero_rat f) _ h)
 
 pub relative_some : (r : Rat) (n d : ℕ) (sizes : List PartSize) → IsRatio r n d → list_any is_relative sizes ≡ true
@@ -74,7 +63,7 @@ pub relative_some : (r : Rat) (n d : ℕ) (sizes : List PartSize) → IsRatio r 
 relative_some r n d [] is one h = cc
 relative_some r n d (Absolute x ∷ sizes) is one h = relative_some r n d sizes is one (and_right (rat_lt zero_rat x) _ h)
 relative_some r n d (Relative f ∷ sizes) is one h =
-    let p = positive f (and_left (rat_lt zero_rat f) _ h) in
+    let p = positive f (and_first (rat_lt zero_rat f) _ h) in
     relative_more (plus r f) (n * p.d + p.n * d) (d * p.d) sizes (plus_ratio r f n d p.n p.d is p.ratio) (let s = mul-pos p.some is.positive in omega (arith, s)) (and_right (rat_lt zero_rat f) _ h)
 
 -- with no relative size the last cut is the sum of the absolute ones
@@ -90,7 +79,8 @@ absolute_shares rest total [] none are = tt
 absolute_shares rest total (Absolute x ∷ sizes) none are = (are.0, are.1, are.2, absolute_shares rest total sizes none are.3)
 absolute_shares rest total (Relative r ∷ sizes) none are = cc
 
-divided_lowest : (a b : Rat) → IsLowest (divided a b)
+-- a quotient is in lowest terms
+pub divided_lowest : (a b : Rat) → IsLowest (divided a b)
 unfolding divided
 divided_lowest a b = times_lowest _ _
 
@@ -162,11 +152,11 @@ pub subdivided_is : {P : Type 0} (part : Rat → Rat → Result P SplitFault) (p
     → subdivided part size (s ∷ ss) ≡ Ok ps → IsCut place (subdiv_cuts size (s ∷ ss)) size ps
 unfolding subdivided
 subdivided_is part place exact size s ss ps low h =
-    let flat = not_refused (not (rat_lt zero_rat size)) _ _ ps h in
-    let few = not_refused (not (list_all is_positive (s ∷ ss))) _ _ ps flat.1 in
+    let flat = err_if-ok (not (rat_lt zero_rat size)) _ _ ps h in
+    let few = err_if-ok (not (list_all is_positive (s ∷ ss))) _ _ ps flat.1 in
     let a = and_then-ok (absolute_total zero_rat (s ∷ ss)) _ ps few.1 in
     let r = and_then-ok (relative_total zero_rat (s ∷ ss)) _ ps a.2 in
-    let off = not_refused (is_off size a.0 (s ∷ ss)) _ _ ps r.2 in
+    let off = err_if-ok (is_off size a.0 (s ∷ ss)) _ _ ps r.2 in
     let rest = and_then-ok (within (minus size a.0)) _ ps off.1 in
     let sum : absolute_sum zero_rat (s ∷ ss) ≡ a.0 = absolute_is zero_rat (s ∷ ss) a.0 a.1 in
     let factors : relative_sum zero_rat (s ∷ ss) ≡ r.0 = relative_is zero_rat (s ∷ ss) r.0 r.1 in

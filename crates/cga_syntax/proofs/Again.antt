@@ -155,11 +155,13 @@ tokens_join : (x y : List Lexeme) → AreTokens x → AreTokens y → AreTokens 
 tokens_join [] y a b = b
 tokens_join (l ∷ x) y a b = (a.0, tokens_join x y a.1 b)
 
-tokens_front : (x y : List Lexeme) → AreTokens (x ++ y) → AreTokens x
+-- the first of tokens are tokens
+pub tokens_front : (x y : List Lexeme) → AreTokens (x ++ y) → AreTokens x
 tokens_front [] y a = tt
 tokens_front (l ∷ x) y a = (a.0, tokens_front x y a.1)
 
-tokens_rest : (x y : List Lexeme) → AreTokens (x ++ y) → AreTokens y
+-- the last of tokens are tokens
+pub tokens_rest : (x y : List Lexeme) → AreTokens (x ++ y) → AreTokens y
 tokens_rest [] y a = a
 tokens_rest (l ∷ x) y a = tokens_rest x y a.1
 

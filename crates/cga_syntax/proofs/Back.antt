@@ -11,7 +11,7 @@ use Rattle.cga_fraction.specs.Rat.{Rat}
 use Rattle.cga_fraction.specs.Decimals.{is_point, IsLiteral}
 use Rattle.cga_fraction.specs.Texts.{literal_text_of}
 use Rattle.cga_fraction.proofs.Door.{literal_is_shortest}
-use Rattle.cga_lexer.proofs.Door.{lex_head, lex_skip}
+use Rattle.cga_lexer.proofs.Door.{lex_head, lex_nil, lex_skip}
 use Rattle.cga_lexer.specs.Bytes.{begins}
 use Rattle.cga_lexer.specs.Front.{front}
 use Rattle.cga_lexer.specs.Line.{Lexed, lex, from_front, behind, tokens_of}
@@ -295,11 +295,6 @@ bytes_some (lexeme.Sign sign) t = sign_some sign
 lex_blank : (place : ℕ) (rest : List ℕ) → lex 0 place (32 ∷ rest) ≡ lex 0 (place + 1) rest
 unfolding lex front
 lex_blank place rest = refl
-
--- no bytes have no tokens
-pub lex_nil : (place : ℕ) → lex 0 place [] ≡ Ok []
-unfolding lex
-lex_nil place = refl
 
 -- a token's bytes and what is printed behind it
 pub token_read : (l : Lexeme) (rest : List ℕ) (place : ℕ) (ls : List Lexeme) → IsToken l → Ends l rest

@@ -1,18 +1,17 @@
 -- What stands at the front of a text that begins with the bytes of a number, a word or a quoted name.
 use Rattle.std.proofs.Common.{◌≡◌, ℕ, suc, ◌+◌, ◌<◌, ◌≤◌, ◌==◌, ◌&&◌, Bool, true, false, not, nat_lt, nat_le, List}
 use Rattle.std.proofs.Common.{[], ◌∷◌, ◌++◌, length, take, drop, get_or, length-append, append_assoc, Option, Some}
-use Rattle.std.proofs.Common.{None, Result, Ok, Err, arith, ap, sym, ◌∙◌, refl, subst, if◌then◌else◌}
+use Rattle.std.proofs.Common.{None, Ok, arith, ap, sym, ◌∙◌, refl, subst, if◌then◌else◌}
 use Rattle.std.specs.Prelude.{position}
 use Rattle.std.specs.List.{list_all}
 use Rattle.std.specs.Char.{is_ascii_digit}
-use Rattle.std.proofs.lemmas.Bool.Decides.{nat_tests, leb_tells, eqb_tells}
+use Rattle.std.proofs.lemmas.Bool.Decides.{nat_tests, leb_tells}
 use Rattle.std.proofs.lemmas.List.{take-append-drop, drop_more}
 use Rattle.std.proofs.lemmas.List.Quantifiers.{position-Some}
 use Rattle.std.proofs.Math.Seq.{take-append_seam}
 use Rattle.cga_word.specs.Name.{begins_name, continues_name, is_name}
 use Rattle.cga_fraction.specs.Rat.{Rat}
 use Rattle.cga_fraction.specs.Decimals.{decimal_of, is_point, is_numeral, read_of, read_at, limited, value_of}
-use Rattle.cga_fraction.specs.declared.fraction.decimal.DecimalFault.{DecimalFault}
 use Rattle.cga_fraction.specs.declared.fraction.decimal.DecimalFault.TheVariants.{NotNumber, TooManyDigits}
 use Rattle.cga_lexer.specs.Bytes.{run, begins}
 use Rattle.cga_lexer.specs.Front.{front, number, word, quoted, closed, enclosed, followed, valued, decimals, with_point, number_len, digit_count}
@@ -20,6 +19,8 @@ use Rattle.cga_lexer.specs.declared.token.TokenKind.TheVariants as kind
 use Rattle.cga_lexer.specs.declared.front.Front.TheVariants.{Token, BadNumber, LongName, BadByte}
 use Rattle.std.proofs.lemmas.Bool.{and_parts as both}
 use Rattle.std.proofs.Common.{append-nil as nil_right}
+use Rattle.cga_lexer.proofs.Door.{begins-continues}
+use Rattle.cga_fraction.proofs.Door.{if_err-ok, numeral_parts}
 
 -- ---- runs
 
@@ -56,21 +57,12 @@ pub record Shape (text : List ℕ) : Type 0 where
   pub few : length whole + length places ≤ 18
   pub split : text ≡ whole ++ dotted places
 
-if_ok : (b : Bool) (x : Result Rat DecimalFault) (e : DecimalFault) (a : Rat) → (if b then x else Err e) ≡ Ok a
-    → (b ≡ true) × (x ≡ Ok a)
-if_ok true x e a h = (refl, h)
-if_ok false x e a h = absurd (cc)
-
-numeral_parts : (ds : List ℕ) → is_numeral ds ≡ true → (0 < length ds) × (list_all is_ascii_digit ds ≡ true)
-numeral_parts ds h =
-    let b = both (not (length ds == 0)) (list_all is_ascii_digit ds) h in (grind (arith, eqb_tells (length ds) 0), b.1)
-
 shaped : (text whole places : List ℕ) (a : Rat) → list_all is_ascii_digit places ≡ true → text ≡ whole ++ dotted places
     → read_of whole places ≡ Ok a → Shape text
 shaped text whole places a m e h =
-    let s = if_ok (is_numeral whole) (limited whole places) NotNumber a h in
+    let s = if_err-ok (is_numeral whole) (limited whole places) NotNumber a h in
     let n = numeral_parts whole s.0 in
-    let t = if_ok (nat_le (length whole + length places) 18) (Ok (value_of whole places)) TooManyDigits a s.1 in
+    let t = if_err-ok (nat_le (length whole + length places) 18) (Ok (value_of whole places)) TooManyDigits a s.1 in
     record { whole = whole; places = places; some = n.0; digits = n.1; more = m; few = grind (arith, leb_tells (length whole + length places) 18); split = e }
 
 is_point_46 : (c : ℕ) → is_point c ≡ true → c ≡ 46
@@ -83,7 +75,7 @@ dotted_some (p ∷ ps) h = refl
 shape_at : (text : List ℕ) (o : Option ℕ) (a : Rat) → position is_point text ≡ o → read_at text o ≡ Ok a → Shape text
 shape_at text None a p h = shaped text text [] a refl (sym (nil_right text)) h
 shape_at text (Some i) a p h =
-    let s = if_ok (is_numeral (drop (i + 1) text)) (read_of (take i text) (drop (i + 1) text)) NotNumber a h in
+    let s = if_err-ok (is_numeral (drop (i + 1) text)) (read_of (take i text) (drop (i + 1) text)) NotNumber a h in
     let n = numeral_parts (drop (i + 1) text) s.0 in
     let q = position-Some is_point text i 0 p in
     let cut : drop i text ≡ 46 ∷ drop (i + 1) text = drop_more text i 0 q.0 ∙ ap (λ c. c ∷ drop (i + 1) text) (is_point_46 (get_or text i 0) q.1) in
@@ -219,16 +211,13 @@ pub record Named (name : List ℕ) : Type 0 where
   pub few : length name ≤ 32
   pub some : 0 < length name
 
-continues : (b : ℕ) → begins_name b ≡ true → continues_name b ≡ true
-continues b h = grind (arith, nat_tests)
-
 -- where bytes are a name, they begin and go on as one, and are at most 32 and at least one
 pub named_of : (name : List ℕ) → is_name name ≡ true → Named name
 named_of [] h = absurd (let q : false ≡ true = h in cc)
 named_of (b ∷ bs) h =
     let p = both (begins_name b && nat_lt (length bs) 32) (list_all continues_name bs) h in
     let q = both (begins_name b) (nat_lt (length bs) 32) p.0 in
-    record { begun = q.0; going = rw (continues b q.0, p.1) refl; few = grind (arith, nat_tests); some = omega arith }
+    record { begun = q.0; going = rw (begins-continues b q.0, p.1) refl; few = grind (arith, nat_tests); some = omega arith }
 
 name_front_by : (name rest : List ℕ) → Named name → front (name ++ rest) ≡ word (name ++ rest)
 name_front_by [] rest n = absurd (let q : false ≡ true = n.begun in cc)

@@ -18,11 +18,12 @@ use Rattle.cga_rule.specs.declared.grammar.Attribute.{Attribute}
 use Rattle.cga_syntax.specs.declared.lexeme.Lexeme.{Lexeme}
 use Rattle.cga_syntax.specs.declared.lexeme.Lexeme.TheVariants as lexeme
 use Rattle.cga_syntax.proofs.Again.{lexemes}
-use Rattle.cga_syntax.proofs.Back.{primary_apart, lex_nil, token_read, space_read}
+use Rattle.cga_syntax.proofs.Back.{primary_apart, token_read, space_read}
 use Rattle.cga_syntax.proofs.Exact.{whole_literal, whole_small}
 use Rattle.cga_syntax.proofs.Fronts.{named_of}
 use Rattle.cga_syntax.proofs.Signs.{second, Ends}
 use Rattle.std.proofs.Common.{append-nil as nil_right}
+use Rattle.cga_lexer.proofs.Door.{lex_nil}
 
 -- ---- whole numbers
 
@@ -43,7 +44,8 @@ whole_read n rest place ls t e more = subst (λ z. AreRead (lex 0 place (z ++ re
 whole_last : (n place : ℕ) → IsToken (number n) → AreRead (lex 0 place (decimal n)) (number n ∷ [])
 whole_last n place t = subst (λ z. AreRead (lex 0 place z) (number n ∷ [])) (nil_right (decimal n)) (whole_read n [] place [] t (refl, refl) nothing_read)
 
-whole_apart : (n : ℕ) (rest : List ℕ) → IsToken (number n) → begins second (decimal n ++ rest) ≡ false
+-- behind a whole number no token goes on
+pub whole_apart : (n : ℕ) (rest : List ℕ) → IsToken (number n) → begins second (decimal n ++ rest) ≡ false
 whole_apart n rest t = ap (λ z. begins second (z ++ rest)) (sym (whole_text n)) ∙ primary_apart (number n) rest t refl
 
 -- ---- values
@@ -136,15 +138,18 @@ end_read = token_read (lexeme.Name (codes "end")) [] 1 [] (refl, refl) refl noth
 
 -- ---- their lengths
 
-whole_short : (n : ℕ) → IsToken (number n) → length (decimal n) ≤ 18
+-- a whole number has at most 18 digits
+pub whole_short : (n : ℕ) → IsToken (number n) → length (decimal n) ≤ 18
 whole_short n t = let b = whole_small n t in length-decimal-le 18 n (omega arith) b (omega arith)
 
+-- a magnitude has at most 37 bytes
 magnitude_short : (n above : ℕ) → AreTokens (lexemes (magnitude n above)) → length (decimal n ++ below above) ≤ 37
 magnitude_short n zero t = omega (arith, whole_short n t.0, ap length (nil_right (decimal n)))
 magnitude_short n (suc above) t =
     omega (arith, whole_short n t.0, whole_short (suc above + 1) t.1.1.0, length-append (decimal n) (below (suc above)), ap length (below_more above))
 
-signed_short : (z : ℤ) (above : ℕ) → AreTokens (lexemes (exactly z above))
+-- a number has at most 38 bytes
+pub signed_short : (z : ℤ) (above : ℕ) → AreTokens (lexemes (exactly z above))
     → length (signed_decimal z ++ below above) ≤ 38
 signed_short (pos n) above t = omega (arith, magnitude_short n above t)
 signed_short (negsuc n) above t = omega (arith, magnitude_short (suc n) above t.1)

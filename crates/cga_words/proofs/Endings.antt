@@ -14,6 +14,7 @@ zero_is_done WriteFault number e zero = absurd (omega (arith, e, zero))
 zero_is_done TooLong number e zero = absurd (omega (arith, e, zero))
 zero_is_done NoMemory number e zero = absurd (omega (arith, e, zero))
 
+-- want of memory isn't a fault of usage
 pub memory_not_used : NoMemory ≢ Usage
 memory_not_used e = cc
 

@@ -90,10 +90,12 @@ module _ (words : List Text) (name : Text) (decimals : Option ℕ) (few : IfSome
   fits : IsPlain decimals None
   fits = record { decimals_fit = few; town_some = tt; town_fits = tt }
 
+  -- plain words without a town are taken, and name none
   pub plain_townless : IsTownless words
   plain_townless =
       let says = plain_says name true decimals None fits in
       record { taken = ap (fault_of command_app) plain ∙ says.pass; town = ap town_of plain ∙ says.town_is }
 
+  -- the decimals are those that the words name, or 6
   pub townless_says : decimals_of words ≡ unwrap_or decimals 6
   townless_says = ap decimals_of plain ∙ (plain_says name true decimals None fits).decimals_are

@@ -2,7 +2,7 @@ use Rattle.std.proofs.Common.{◌≡◌, ◌<◌, ◌≤◌, length, get_or, ap,
 use Rattle.cga_check.specs.declared.said.Said.{Said}
 use Rattle.cga_expand.specs.Derivation.{priority_of}
 use Rattle.cga_key.specs.Children.{IsRootKey}
-use Rattle.cga_derive.proofs.Reading.{said_priority}
+use Rattle.cga_expand.proofs.Door.{said_priority}
 use Rattle.cga_derive.proofs.Streaks.{boxed_came, boxed_lent}
 use Rattle.cga_derive.proofs.Starting.{roots-more, keys-more, started}
 use Rattle.cga_derive.proofs.run.Run.start.Goals as goal
