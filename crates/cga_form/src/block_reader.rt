@@ -1,4 +1,4 @@
-ghost use Rattle.std.specs.Prelude.{◌≡◌, ◌++◌, ◌∷◌, [], List, OnOk, IsOk, Err};
+ghost use Rattle.std.specs.Prelude.{◌≡◌, ◌++◌, ◌∷◌, [], List, IfOk, OnOk, IsOk, Err};
 ghost use Rattle.cga_form.specs.declared.block_fault.BlockFault.{BlockFault};
 ghost use Rattle.cga_form.specs.Lines.{Line};
 ghost use Rattle.cga_form.specs.BlockTells.{AllTells, StandsFor, IsFaulty, line_number};
@@ -56,18 +56,19 @@ impl<G: Gather + Drop> BlockReader<G> {
         }
     }
 
-    /// What the lines say, or the first faulty one. Takes no memory.
-    pub fn finish(self) -> Result<G::All, BlockFault>
-        ensures { (lines : List Line) → StandsFor G.pieces G.holds self lines → AllTells G.pieces G.says lines result }
+    /// What the lines say, or the first faulty one. May take memory, where no line is faulty.
+    pub fn finish(self) -> Result<Result<G::All, BlockFault>, NoMemory>
+        ensures { (lines : List Line) → StandsFor G.pieces G.holds self lines → IfOk result (AllTells G.pieces G.says lines) }
     {
         let BlockReader {
+            alloc,
             gathered,
             fault,
             ..
         } = self;
         match fault {
-            None => Ok(gathered.finish()),
-            Some(fault) => Err(fault),
+            None => Ok(Ok(gathered.finish(alloc)?)),
+            Some(fault) => Ok(Err(fault)),
         }
     }
 }

@@ -1,4 +1,4 @@
-ghost use Rattle.std.specs.Prelude.{◌≡◌, ◌++◌, ◌∷◌, [], List, Option, OnOk};
+ghost use Rattle.std.specs.Prelude.{◌≡◌, ◌++◌, ◌∷◌, [], List, Option, IfOk, OnOk};
 
 use crate::form::Form;
 use cga_fraction::NoMemory;
@@ -22,7 +22,7 @@ pub trait Gather: Form {
     fn add(&mut self, said: Option<Self::Member>) -> Result<(), NoMemory>
         ensures { (all : List (Option Self.Member)) → holds self.old all → OnOk result (holds self.new (all ++ said ∷ [])) };
 
-    /// Takes no memory.
-    fn finish(self) -> Self::All
-        ensures { (all : List (Option Self.Member)) → holds self all → result ≡ says all };
+    /// May take memory, once.
+    fn finish(self, alloc: Global) -> Result<Self::All, NoMemory>
+        ensures { (all : List (Option Self.Member)) → holds self all → IfOk result (λ said. said ≡ says all) };
 }

@@ -1,6 +1,6 @@
-//! Exact fractions, and the small types that every crate above shares: lists and boxes that contracts see as what they
-//! hold, texts that grow, the answers for want of memory and for an early stop, and counters of expansions and
-//! of box tests.
+//! Exact fractions, and the small types that every crate above shares: lists, lists with several owners and boxes that
+//! contracts see as what they hold, texts that grow, the answers for want of memory and for an early stop, and counters
+//! of expansions and of box tests.
 //!
 //! It must not know shapes or scopes.
 //!
@@ -14,6 +14,7 @@ mod gcd;
 mod list;
 mod memory;
 mod overflow;
+mod shared;
 mod steps;
 mod stop;
 mod text;
@@ -24,6 +25,7 @@ pub use fraction::{DecimalFault, Fraction};
 pub use list::List;
 pub use memory::NoMemory;
 pub use overflow::{DivFault, Overflow};
+pub use shared::Shared;
 pub use steps::Steps;
 pub use stop::{Stop, settled};
 pub use text::Text;

@@ -1,6 +1,6 @@
 use crate::copy::rule::{copy_entries, copy_slice};
 use crate::rule::Rule;
-use cga_fraction::{Fraction, List, NoMemory};
+use cga_fraction::{Fraction, List, NoMemory, Shared};
 use cga_word::Name;
 use std::alloc::Global;
 
@@ -18,11 +18,12 @@ pub struct Entry {
     pub rule: Rule,
 }
 
-/// Attributes and rules, in the order of their lines. Nothing says that they are valid.
+/// Attributes and rules, in the order of their lines. Nothing says that they are valid. Equal grammars may share
+/// their rules.
 #[derive(Debug, Drop, PartialEq, Eq)]
 pub struct Grammar {
     pub attributes: List<Attribute>,
-    pub rules: List<Entry>,
+    pub rules: Shared<Entry>,
 }
 
 /// The rules of one symbol by rising id, with its priority.
@@ -36,12 +37,19 @@ pub struct Group {
 impl Grammar {
     ghost use Rattle.std.specs.Prelude.{◌≡◌, IfOk};
 
-    /// An equal grammar.
+    /// An equal grammar, which shares the rules. Takes memory for the attributes alone.
     pub fn copy(&self, alloc: Global) -> Result<Grammar, NoMemory>
         ensures { IfOk result (λ copy. copy ≡ self.now) }
     {
-        let rules = copy_entries(alloc, self.rules.as_slice())?;
+        let rules = self.rules.share()?;
         let attributes = copy_slice(alloc, self.attributes.as_slice())?;
         Ok(Grammar { attributes, rules })
+    }
+
+    /// Each of the rules, copied. Takes memory.
+    pub fn copy_rules(&self, alloc: Global) -> Result<Vec<Entry>, NoMemory>
+        ensures { IfOk result (λ copy. copy.items ≡ self.now.rules) }
+    {
+        Ok(copy_entries(alloc, self.rules.as_slice())?.into_vec())
     }
 }
