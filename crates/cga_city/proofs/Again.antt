@@ -10,9 +10,10 @@ use Rattle.cga_city.specs.Apply.{Changed, apply, changed, within}
 use Rattle.cga_city.specs.City.{HasDistinctLots}
 use Rattle.cga_city.specs.Derived.{is_within}
 use Rattle.cga_city.specs.Inside.{AreSound}
-use Rattle.cga_city.proofs.Plain.{good_accepted, err_if_ok, plain_if}
+use Rattle.cga_city.proofs.Plain.{good_accepted, plain_if}
 use Rattle.cga_city.proofs.Rising.{ranked_same}
 use Rattle.cga_city.proofs.Sound.{changed_sound}
+use Rattle.cga_fraction.proofs.Door.{err_if-ok as err_if_ok}
 
 pub fits : (n : ℕ) → n ≤ MOST_LOTS → nat_lt MOST_LOTS n ≡ false
 fits n h = grind (arith, nat_tests)

@@ -24,6 +24,7 @@ use Rattle.cga_city.specs.Tally.{none, tallied, with_seen}
 use Rattle.cga_city.specs.declared.tally.Tally.{Tally}
 use Rattle.cga_city.proofs.Sorting.{Rises, all_at}
 use Rattle.cga_city.proofs.Nodes.{among_to, among_from, among_both, among_has, has_among, root_own, nodes_below, nodes_rise, Below, nodes_from, before_strict}
+use Rattle.cga_fraction.proofs.Door.{slice_get_from_Contains as found_at}
 
 -- ---- one root a lot
 
@@ -44,9 +45,6 @@ distinct_one (e ∷ es) h zero zero n c d a b = refl
 distinct_one (e ∷ es) h zero (suc j) n c d a b = let q : e ≡ (n, c) = cc in absurd (alike e.0 n (ap (λ (x : List ℕ × ℕ). x.0) q) (all_named (λ y. same_name e.0 y ≡ false) es j n d h.0 b))
 distinct_one (e ∷ es) h (suc i) zero n c d a b = let q : e ≡ (n, d) = cc in absurd (alike e.0 n (ap (λ (x : List ℕ × ℕ). x.0) q) (all_named (λ y. same_name e.0 y ≡ false) es i n c h.0 a))
 distinct_one (e ∷ es) h (suc i) (suc j) n c d a b = ap suc (distinct_one es h.1 i j n c d a b)
-
-found_at : (es : Named) (x : List ℕ × ℕ) → Contains es x → (i : ℕ) × (slice_get es i ≡ Some x)
-found_at es x w = (w.0, slice_get-get_or es w.0 x w.1 ∙ ap (λ y. Some y) w.2)
 
 module _ (v : ForestView) (f : IsForest v) where
   one_root : (lot : List ℕ) (r s : ℕ) → IsRootOf (node_at v) lot r → IsRootOf (node_at v) lot s → r ≡ s

@@ -15,7 +15,7 @@ use Rattle.cga_check.specs.Probabilities.{are_probabilities}
 use Rattle.cga_check.specs.Faults.{Faults, first, fault_if, each_after, attribute_faults, id_is_taken}
 use Rattle.cga_check.specs.Faults.{splits_priority, differs_in_arity, symbol_faults, param_faults, head_faults}
 use Rattle.cga_check.specs.Faults.{use_faults, rule_faults, faults, check_fault, IsValid}
-use Rattle.cga_check.proofs.Door.{if_none, none_left, none_right}
+use Rattle.cga_check.proofs.Door.{if_none, none_left, none_right, first_none as no_first}
 use Rattle.cga_fraction.proofs.Door.{nat_eq_from_ne as untaken, or_false_first as or_left, or_false_second as or_right}
 use Rattle.std.proofs.lemmas.Bool.{or_from as or_none}
 
@@ -176,10 +176,6 @@ pub record IsFaultless (g : Grammar) : Type 0 where
 from_none : (xs : List Entry) → DifferFrom [] xs
 from_none [] = tt
 from_none (x ∷ xs) = (tt, from_none xs)
-
-no_first : (fs : Faults) → first fs ≡ Ok tt → fs ≡ []
-no_first [] e = refl
-no_first (f ∷ fs) e = cc
 
 pub faultless : (g : Grammar) → IsValid g → IsFaultless g
 unfolding check_fault

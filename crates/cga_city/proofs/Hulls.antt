@@ -16,7 +16,8 @@ use Rattle.cga_expand.specs.Children.{Member}
 use Rattle.cga_expand.specs.Derivation.{made, roots_of}
 use Rattle.cga_index.specs.Tree as trees
 use Rattle.cga_index.specs.Tree.{below}
-use Rattle.cga_forest.proofs.Door.{at_member, under_cases, under_child, under_none, under_self}
+use Rattle.cga_index.proofs.Door.{member_at as at_member}
+use Rattle.cga_forest.proofs.Door.{under_cases, under_child, under_none, under_self}
 use Rattle.cga_index.proofs.Door.{in_at, in_flat, in_some}
 use Rattle.cga_forest.specs.Node.{bounds}
 use Rattle.cga_forest.specs.Tree.{ForestView, IsForest, IsLeastHull, IsRootOf, children_at, node_at, under}
@@ -30,6 +31,7 @@ use Rattle.cga_city.specs.Lots.{is_bad}
 use Rattle.cga_city.specs.Nodes.{AreOfLot, HasNodes, from_root, member_of}
 use Rattle.cga_city.proofs.Nodes.{among_from, among_has, has_among, lot_listed, lot_to}
 use Rattle.cga_city.proofs.Plain.{good_root}
+use Rattle.cga_expand.proofs.Door.{among_behind_made as behind, root_among}
 
 -- ---- what is listed below a node is under it, and the other way round
 
@@ -70,18 +72,6 @@ module _ (v : ForestView) (f : IsForest v) (list : List Member) (has : HasNodes 
   )
 
 -- ---- the root of each lot
-
-behind : (r : Result Shape ScopeFault) (ns : List Shape) (n : Shape) → Among n ns → Among n (made r ++ ns)
-behind (Ok s) ns n h = inr h
-behind (Err f) ns n h = h
-
-root_among : (lots : List Lot) (i : ℕ) (lot : Lot) (n : Shape) → slice_get lots i ≡ Some lot → root_of lot ≡ Ok n
-    → Among n (roots_of lots)
-root_among [] i lot n at is = cc
-root_among (x ∷ lots) zero lot n at is =
-    let same : x ≡ lot = cc in
-    subst (λ q. Among n (made q ++ roots_of lots)) (sym (ap root_of same ∙ is)) (inl refl)
-root_among (x ∷ lots) (suc i) lot n at is = behind (root_of x) (roots_of lots) n (root_among lots i lot n at is)
 
 root_by : (lot : Lot) (r : Result Scope ScopeFault) → root_scope lot ≡ r → IsOk r
     → (n : Shape) × (root_of lot ≡ Ok n) × (n.lot ≡ lot.name)

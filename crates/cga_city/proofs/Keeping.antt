@@ -27,7 +27,7 @@ use Rattle.cga_expand.proofs.Door.{body_layer}
 use Rattle.cga_expand.specs.Faults.{faulted, of_solid}
 use Rattle.cga_expand.specs.Walk.{Walk, with_scope, next_index, emit, count_parts, drawn, rescoped, in_turn, over_body, over_bodies, restored, over, item_step, body_step, item_walk, body_walk}
 use Rattle.cga_city.proofs.Sorting.{decide}
-use Rattle.cga_city.proofs.Plain.{and_then_ok}
+use Rattle.cga_fraction.proofs.Door.{and_then-ok as and_then_ok}
 
 abbrev pub CanDraw : Emitted → Type 0
 CanDraw (emitted.Child symbol args scope seed) = Unit {0}

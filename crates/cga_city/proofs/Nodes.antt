@@ -17,7 +17,7 @@ use Rattle.cga_order.specs.World.{Among, Has}
 use Rattle.cga_order.specs.declared.placed.Kind.{Kind}
 use Rattle.cga_forest.proofs.Door.{inside, local, there}
 use Rattle.cga_index.proofs.Door.{in_some, root_in}
-use Rattle.cga_order.proofs.Door.{nat_cmp-less, split}
+use Rattle.cga_order.proofs.Door.{nat_cmp-less, split, Among-index as among_index}
 use Rattle.cga_shape.specs.declared.shape.Shape.{Shape}
 use Rattle.cga_shape.specs.declared.shape_fault.ShapeFault.{ShapeFault}
 use Rattle.cga_expand.specs.Children.{Member}
@@ -258,10 +258,6 @@ module _ {X : Type 0} (test : X → Bool) where
     | inl e ↦ (let u : test y ≡ true = ap test e ∙ t in rw u (inl e))
     | inr r ↦ elim (cases (test y)) [ inl u ↦ rw u (inr (filter_from ys x r t)) | inr f ↦ rw f (filter_from ys x r t) ]
   ]
-
-among_index : {X : Type 0} (xs : List X) (x : X) → Among x xs → (i : ℕ) × (slice_get xs i ≡ Some x)
-among_index [] x h = absurd h
-among_index (z ∷ xs) x h = elim h [ inl e ↦ (0, ap (λ y. Some y) e) | inr r ↦ let w = among_index xs x r in (suc w.0, w.1) ]
 
 -- A member of a list gives its shape and its kind to the list.
 pub among_has : (list : List Member) (m : Member) → Among m list → Has list m.shape m.kind

@@ -14,24 +14,9 @@ use Rattle.cga_city.specs.Grammars.{has_rule, has_parameters, is_plain, with_pri
 use Rattle.cga_city.specs.Lots.{is_bad, rooted, accepted}
 use Rattle.cga_city.proofs.Sorting.{decide}
 pub use Rattle.cga_fraction.proofs.Door.{true_from_not as plain_if}
-use Rattle.cga_fraction.proofs.Door.{true_from_not as not_false}
+use Rattle.cga_fraction.proofs.Door.{true_from_not as not_false, err_if-ok as err_if_ok}
 
 -- ---- what was done where nothing was refused
-
-pub and_then_ok : {A B F : Type 0} (r : Result A F) (f : A → Result B F) (y : B) → and_then r f ≡ Ok y
-    → (x : A) × (r ≡ Ok x) × (f x ≡ Ok y)
-and_then_ok (Ok x) f y h = (x, refl, h)
-and_then_ok (Err e) f y h = cc
-
-pub err_if_ok : {A F : Type 0} (t : Bool) (e : F) (r : Result A F) (y : A) → err_if t e r ≡ Ok y
-    → (t ≡ false) × (r ≡ Ok y)
-err_if_ok true e r y h = cc
-err_if_ok false e r y h = (refl, h)
-
-pub map_or_ok : {A B F : Type 0} (f : A → Result B F) (o : Option A) (e : F) (y : B) → option_map_or f o (Err e) ≡ Ok y
-    → (x : A) × (o ≡ Some x) × (f x ≡ Ok y)
-map_or_ok f None e y h = cc
-map_or_ok f (Some x) e y h = (x, refl, h)
 
 -- ---- lots
 

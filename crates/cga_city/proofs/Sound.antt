@@ -24,7 +24,8 @@ use Rattle.cga_city.proofs.Names.{AreApart, apart_less, apart_set, apart_new}
 use Rattle.cga_city.proofs.Ranked.{ranked_valid}
 use Rattle.cga_city.proofs.Valued.{prioritized_valid, valued_valid}
 use Rattle.cga_city.proofs.Rising.{with_rule_rises, ranked_rises, remove_rises, prioritized_rises}
-use Rattle.cga_city.proofs.Plain.{ArePlain, AreFit, and_then_ok, err_if_ok, map_or_ok, plain_if, rooted_plain, accepted_good, plain_priority}
+use Rattle.cga_city.proofs.Plain.{ArePlain, AreFit, plain_if, rooted_plain, accepted_good, plain_priority}
+use Rattle.cga_fraction.proofs.Door.{and_then-ok as and_then_ok, err_if-ok as err_if_ok, option_map_or-ok as map_or_ok}
 
 by_check_ok : (r : Result (Unit {0}) CheckFault) (u : Unit {0}) → by_check r ≡ Ok u → r ≡ Ok tt
 by_check_ok (Ok v) u h = refl

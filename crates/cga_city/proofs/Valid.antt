@@ -18,21 +18,14 @@ use Rattle.cga_expand.specs.Validity.{IsValid}
 use Rattle.cga_city.specs.Grammars.{has_rule, has_parameters, is_plain}
 use Rattle.cga_city.specs.Lots.{is_bad}
 use Rattle.cga_city.specs.Inside.{AreSound}
+use Rattle.cga_fraction.proofs.Door.{or_false_first, or_false_second}
 use Rattle.cga_city.proofs.Plain.{good_root}
 use Rattle.cga_city.proofs.Names.{names_differ}
 use Rattle.cga_city.proofs.Ranked.{found_in}
 
 none_any : (p : Entry → Bool) (xs : List Entry) → list_any p xs ≡ false → AllByRecursion (λ (x : Entry). p x ≡ false) xs
 none_any p [] h = tt
-none_any p (x ∷ xs) h = (left (p x) (list_any p xs) h, none_any p xs (right (p x) (list_any p xs) h))
-  where
-    left : (a b : Bool) → (a || b) ≡ false → a ≡ false
-    left true b e = cc
-    left false b e = refl
-
-    right : (a b : Bool) → (a || b) ≡ false → b ≡ false
-    right true b e = cc
-    right false b e = e
+none_any p (x ∷ xs) h = (or_false_first (p x) (list_any p xs) h, none_any p xs (or_false_second (p x) (list_any p xs) h))
 
 has_one : (a b : Bool) → (a && not b) ≡ true → (a ≡ true) × (b ≡ false)
 has_one true true h = cc

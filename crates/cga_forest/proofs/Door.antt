@@ -5,7 +5,7 @@ pub use Rattle.cga_forest.proofs.Equal.{fits_sound, fits_whole}
 -- A forest keeps the laws of a tree of boxes; also one in which only those nodes ask that were there at the mark
 pub use Rattle.cga_forest.proofs.Laws.{inside, keeps_laws, lasting_laws, local, there}
 -- The list of roots, under each change
-pub use Rattle.cga_forest.proofs.Tops.{at_member, under_parent}
+pub use Rattle.cga_forest.proofs.Tops.{under_parent}
 -- What is below a node, and flags
 pub use Rattle.cga_forest.proofs.Under.{under_step}
 -- What is below a node of a tree holds the parents of its members, and their children

@@ -121,8 +121,3 @@ module _ (T : ℕ → Option Seen) (tree : IsTree T) (places : InPlace T) where
 
   pub path_deep : (c : ℕ) (d : Seen) → T c ≡ Some d → d.depth ≡ length d.node.shape.path
   path_deep c d h = sym (at_depth d.depth c d h refl d.parent refl)
-
--- what holds where all went well, by what held there
-pub OnOk-map : {X E : Type 0} (r : Result X E) (P Q : Type 0) → (P → Q) → OnOk r P → OnOk r Q
-OnOk-map (Ok x) P Q f h = f h
-OnOk-map (Err e) P Q f h = tt

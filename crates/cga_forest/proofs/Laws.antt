@@ -5,7 +5,7 @@ use Rattle.cga_frame.specs.Box.{Box, holds, is_box}
 use Rattle.cga_frame.specs.Scope.{far_of}
 use Rattle.cga_fraction.proofs.Door.{cases_Option as opt_two, lt-length_from_slice_get_nat as within}
 use Rattle.cga_frame.proofs.Door.{corners_box, holds_itself}
-use Rattle.cga_index.proofs.Door.{in_present, present_in, lasting_laws as tree_laws}
+use Rattle.cga_index.proofs.Door.{in_present, present_in, lasting_laws as tree_laws, in_at as member_at, member_at as at_member}
 use Rattle.cga_index.specs.Lasting.{ParentsLast}
 use Rattle.cga_index.specs.Tree.{TreeView, Member, Apart, InTree, IsHullTree, LiesIn}
 use Rattle.cga_index.specs.Local.{IsLocalTree}
@@ -24,7 +24,6 @@ use Rattle.cga_forest.specs.Walked.{forest_tree, lasting_tree, was_marked, own_o
 use Rattle.cga_marked.specs.Map.{ids}
 use Rattle.cga_marked.proofs.Door.{at_contains, contains_at}
 use Rattle.cga_forest.proofs.Ids.{id_named, named_id, ids_once}
-use Rattle.cga_forest.proofs.Tops.{member_at, at_member}
 use Rattle.cga_kept_hulls.proofs.Door.{Every, Asking, Nobody, Probe, probed, opt_holds, alike_probed, over_own, over_child}
 use Rattle.cga_forest.proofs.Least.{own_asks, own_none, none_is}
 use Rattle.cga_forest.proofs.Moves.{apart_by_place}

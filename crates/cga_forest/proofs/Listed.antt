@@ -103,13 +103,6 @@ module _ (s : ℕ → Option Entry) where
 
 -- ---- each once
 
-pub apart_join : (xs ys : List ℕ) → Apart xs → Apart ys → ((n : ℕ) → Member xs n → Member ys n → ⊥) → Apart (xs ++ ys)
-apart_join [] ys a b h = b
-apart_join (x ∷ xs) ys a b h = (
-  (λ w. elim (in_split xs ys x w) [ inl i ↦ a.0 i | inr j ↦ h x (inl refl) j ]),
-  apart_join xs ys a.1 b (λ n i j. h n (inr i) j),
-)
-
 -- ---- the steps of the walks
 
 pub below_zero : (K : ℕ → List ℕ) (n id : ℕ) → n ≤ 0 → below K n id ≡ []

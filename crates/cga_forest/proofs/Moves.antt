@@ -4,7 +4,7 @@ use Rattle.std.specs.List.{flat_map}
 use Rattle.std.specs.Prelude.{Option, Some, None, slice_get, if◌then◌else◌}
 use Rattle.cga_index.specs.Tree.{Member, Apart}
 use Rattle.cga_fraction.proofs.Door.{eq_or_ne as nat_cases}
-use Rattle.cga_index.proofs.Door.{in_at, in_flat, in_left, in_right, in_some, in_split}
+use Rattle.cga_index.proofs.Door.{in_at, in_flat, in_left, in_right, in_some, in_split, member_at as at_member, apart_join, apart_flat}
 use Rattle.std.proofs.lemmas.Bool.{cases_Bool as bool_cases}
 use Rattle.cga_order.specs.World.{Among}
 use Rattle.cga_tree.specs.Tree.{IsTree}
@@ -18,8 +18,7 @@ use Rattle.cga_forest.specs.Tree.{children_of, under}
 use Rattle.cga_forest.proofs.Right.{present_some, kids_present}
 use Rattle.cga_forest.proofs.Goes.{under_deep}
 use Rattle.cga_forest.proofs.Walk.{under_cases, under_child, under_self, under_none, under_same}
-use Rattle.cga_forest.proofs.Tops.{at_member}
-use Rattle.cga_forest.proofs.Listed.{apart_join, found_in, found_has, found_once}
+use Rattle.cga_forest.proofs.Listed.{found_in, found_has, found_once}
 
 pub apart_by_place : (xs : List ℕ) → ((i j c : ℕ) → slice_get xs i ≡ Some c → slice_get xs j ≡ Some c → i ≡ j)
     → Apart xs
@@ -28,14 +27,6 @@ apart_by_place (x ∷ xs) h = (
   (λ m. let w = at_member xs x m in let z : 0 ≡ suc w.0 = h 0 (suc w.0) x refl w.1 in absurd (omega arith)),
   apart_by_place xs (λ i j c p q. let z : suc i ≡ suc j = h (suc i) (suc j) c p q in omega arith),
 )
-
-pub apart_flat : (f : ℕ → List ℕ) (cs : List ℕ) → Apart cs → ((c : ℕ) → Member cs c → Apart (f c))
-    → ((a b n : ℕ) → Member cs a → Member cs b → Member (f a) n → Member (f b) n → a ≡ b) → Apart (flat_map f cs)
-apart_flat f [] a e s = tt
-apart_flat f (c ∷ cs) a e s = apart_join (f c) (flat_map f cs) (e c (inl refl)) (apart_flat f cs a.1 (λ d i. e d (inr i)) (λ x y n i j. s x y n (inr i) (inr j))) (λ n i j.
-    let p = in_some f cs n j in
-    let q = s c p.0 n (inl refl) (inr p.1) i p.2 in
-    a.0 (subst (Member cs) (sym q) p.1))
 
 -- ---- below a node
 

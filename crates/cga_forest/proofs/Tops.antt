@@ -130,13 +130,3 @@ under_parent K T tree same (suc n) id c e d t u top h = elim (under_cases K n id
       let y : d ≡ x.0 = (cc) in
       let v : None ≡ Some id = sym top ∙ ap (λ (s : Seen). s.parent) y ∙ x.2 in absurd (cc))
 ]
-
-pub member_at : (xs : List ℕ) (j c : ℕ) → slice_get xs j ≡ Some c → Member xs c
-member_at [] j c h = absurd (cc)
-member_at (x ∷ xs) zero c h = let q : x ≡ c = (cc) in inl q
-member_at (x ∷ xs) (suc j) c h = inr (member_at xs j c h)
-
--- A member of a list stands at a place of it.
-pub at_member : (xs : List ℕ) (c : ℕ) → Member xs c → (j : ℕ) × (slice_get xs j ≡ Some c)
-at_member [] c m = absurd m
-at_member (x ∷ xs) c m = elim m [ inl e ↦ (0, ap (λ k. Some k) e) | inr r ↦ (let w = at_member xs c r in (suc w.0, w.1)) ]

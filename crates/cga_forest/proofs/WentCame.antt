@@ -3,7 +3,7 @@ use Rattle.std.proofs.Common.{◌≡◌, ◌≢◌, inl, inr, ℕ, zero, suc, �
 use Rattle.std.specs.Prelude.{Option, Some, None, is_some, not, slice_get, if◌then◌else◌}
 use Rattle.cga_index.specs.Tree.{Member, Apart}
 use Rattle.cga_fraction.proofs.Door.{eq_or_ne as nat_cases}
-use Rattle.cga_index.proofs.Door.{in_flat, in_left, in_right, in_some, in_split}
+use Rattle.cga_index.proofs.Door.{in_flat, in_left, in_right, in_some, in_split, apart_join, apart_flat}
 use Rattle.std.proofs.lemmas.Bool.{cases_Bool as bool_cases}
 use Rattle.cga_order.specs.World.{Among}
 use Rattle.cga_tree.specs.Tree.{IsTree}
@@ -20,8 +20,8 @@ use Rattle.cga_forest.proofs.Right.{present_some, kids_present}
 use Rattle.cga_forest.proofs.Place.{stay_some}
 use Rattle.cga_forest.proofs.Goes.{goes_find, goes_here, under_deep, stay_seen, get_within}
 use Rattle.cga_forest.proofs.Replace.{IsTree-replaced}
-use Rattle.cga_forest.proofs.Listed.{apart_join, found_in, found_has, found_once, opt_cases}
-use Rattle.cga_forest.proofs.Moves.{apart_flat, going_find, going_has, going_once}
+use Rattle.cga_forest.proofs.Listed.{found_in, found_has, found_once, opt_cases}
+use Rattle.cga_forest.proofs.Moves.{going_find, going_has, going_once}
 
 -- ---- the places where one comes
 

@@ -40,6 +40,7 @@ use Rattle.cga_top.specs.State.{Block, State, of_asset, of_city, of_judge, of_ru
 use Rattle.cga_undo.specs.History.{Kept, Step, redone, undone}
 use Rattle.cga_live.specs.Live.{drawn_at}
 use Rattle.cga_live.specs.Runs.{IsUnbegun}
+use Rattle.cga_fraction.proofs.Door.{and_first as first_of}
 
 -- what an effect changed accounts for what is drawn before and after it, and it is the first line as before
 record IsFair (s : State) (e : Effect) : Type 0 where
@@ -147,10 +148,6 @@ asked_right s (Ok command) un =
     either_right s (is_blank command) _ (done_by (begun s) command) (λ yes. record { balance = nothing_changed (drawn_at s); unbegun = un })
     (λ off. right_of s (begun s) (done_by (begun s) command) refl refl (command_fair (begun s) command))
 asked_right s (Err fault) un = record { balance = nothing_changed (drawn_at s); unbegun = never_fresh (begun s) refl }
-
-first_of : (a b : Bool) → (a && b) ≡ true → a ≡ true
-first_of true b h = refl
-first_of false b h = h
 
 -- nothing is drawn before and after the line that makes the version 2
 second_right : (s : State) → IsUnbegun s → s.fresh ≡ true → IsRight s (second s)

@@ -4,7 +4,7 @@ use Rattle.std.proofs.lemmas.List.{append-nil, take_all, take-append-drop}
 use Rattle.std.specs.Prelude.{IfSome, IsTrue}
 use Rattle.std.specs.Io.KnownBytes.{Appends, Consumes, IsAtEnd, Keeps}
 use Rattle.cga_outside.specs.Causes.{Rose}
-use Rattle.cga_script.proofs.Door.{last_kept, lines_append}
+use Rattle.cga_script.proofs.Door.{last_kept, lines_append, nothing_kept}
 use Rattle.cga_script.specs.Lines.{Line, clipped, cut, lines_of}
 use Rattle.cga_script.specs.Pending.{Pending, kept_of, ready_line}
 use Rattle.cga_script.specs.declared.ending.Ending.TheVariants.{End}
@@ -34,9 +34,6 @@ use Rattle.cga_live.specs.Means.{LiveMeans, TellsAll, TellsLines, TellsPrefix, T
 use Rattle.cga_live.specs.Runs.{Begun, Finished, IsHalted, IsRead, Lived, Unfinished}
 
 -- ---- the last line
-
-nothing_kept : (x : ℕ) (xs : List ℕ) → kept_of (x ∷ xs) ≡ [] → ⊥
-nothing_kept x xs e = let bad : x ∷ take 4097 xs ≡ [] = e in cc
 
 pub line_at_end : (rest : List ℕ) (p : Pending) (kept : List ℕ) → p ≡ record { kept = kept; ending = End }
     → kept ≡ kept_of rest → (kept ≡ [] → ⊥) → ready_line p ∷ [] ≡ last_of rest

@@ -21,6 +21,7 @@ use Rattle.cga_top.specs.Replies.{outside, asked, second, in_block, ended, opene
 use Rattle.cga_top.specs.Told.{command_of, line_told, told_of}
 use Rattle.cga_top.specs.Written.{AsksWritten}
 use Rattle.cga_top.proofs.Asks.{command_is, asks_written}
+use Rattle.cga_fraction.proofs.Door.{not-and_parts as both, and-false as no_version}
 
 by_test : (b c : Bool) (s : State) (line : Line) → b ≡ c
     → (if b then second s else asked s (command_of s.version line)) ≡
@@ -106,18 +107,10 @@ line_did s old x line new reply n at b e is none =
 
 -- ---- a blank line
 
-both : (a b : Bool) → (not a && b) ≡ true → (a ≡ false) × (b ≡ true)
-both true b e = absurd (let q : false ≡ true = e in cc)
-both false b e = (refl, e)
-
 no_tokens : (found : Lexed) → are_none found ≡ true → found ≡ Ok []
 no_tokens (Ok []) e = refl
 no_tokens (Ok (t ∷ ts)) e = absurd (let q : false ≡ true = e in cc)
 no_tokens (Err f) e = absurd (let q : false ≡ true = e in cc)
-
-no_version : (b : Bool) → (b && false) ≡ false
-no_version true = refl
-no_version false = refl
 
 reads_blank : (v : Version) (end : ℕ) → told_of (command v most_open) end (Ok []) ≡ Ok Blank
 unfolding command finish

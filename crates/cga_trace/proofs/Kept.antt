@@ -11,7 +11,7 @@ use Rattle.cga_order.specs.declared.placed.Placed.{Placed}
 use Rattle.cga_order.specs.declared.placed.Kind.{Kind}
 use Rattle.cga_expand.proofs.Door.{sources_are_derivations}
 use Rattle.cga_fraction.proofs.Door.{length-map, lt-length_from_slice_get as within}
-use Rattle.cga_order.proofs.Door.{Has-index, snoc-same}
+use Rattle.cga_order.proofs.Door.{Has-index, snoc-same, slice_get-Has as get-Has}
 use Rattle.cga_rework.proofs.Door.{child_is, child_rank, is_world, keeps, keeps-node, rank, start_stands}
 use Rattle.cga_derivation.specs.Derivation.{IsDerivation, outcome, reached, NothingWaits}
 use Rattle.cga_shape.specs.declared.shape.Shape.{Shape}
@@ -36,12 +36,6 @@ long_by : {X : Type 0} (xs : List X) (n : ℕ) → ((i : ℕ) (x : X) → slice_
 long_by [] n h = omega arith
 long_by (x ∷ xs) zero h = let z = h 0 x refl in absurd (omega (arith, z))
 long_by (x ∷ xs) (suc n) h = let r = long_by xs n (λ i y e. let z = h (suc i) y e in omega (arith, z)) in omega (arith, r)
-
-get-Has : {N F P : Type 0} (xs : List (Placed N F P)) (i : ℕ) (x : Placed N F P) → slice_get xs i ≡ Some x
-    → Has xs x.shape x.kind
-get-Has [] i x e = let z : None ≡ Some x = e in cc
-get-Has (y ∷ xs) zero x e = let same : y ≡ x = cc in inl (ap (λ z. z.shape) same, ap (λ z. z.kind) same)
-get-Has (y ∷ xs) (suc i) x e = inr (get-Has xs i x e)
 
 pub keeps_of : {N A F P : Type 0} (nodes : List (agenda.Node N A F P)) (n : N) (k : Kind F P)
     → Has (members_of nodes) n k → (a : A) × Keeps nodes n k a

@@ -5,8 +5,9 @@ use Rattle.cga_check.specs.Said.{asks_any, said}
 use Rattle.cga_forest.specs.View.{Seen, at, present_of}
 use Rattle.cga_forest.specs.Tree.{ForestView, IsInner, Replaces, node_at}
 use Rattle.cga_forest.specs.Placing.{children_after, state_after}
-use Rattle.cga_forest.proofs.Grown.{OnOk-map, entry_node, may_grow, path_deep}
+use Rattle.cga_forest.proofs.Grown.{entry_node, may_grow, path_deep}
 use Rattle.cga_forest.proofs.Forest.replace_children.Goals as goal
+use Rattle.cga_fraction.proofs.Door.{OnOk-map}
 
 pub replace_with-requires : goal.replace_with-requires
 replace_with-requires c =
