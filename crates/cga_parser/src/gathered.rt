@@ -10,7 +10,7 @@ use crate::limits::{KEPT_ATTRIBUTES, KEPT_RULES};
 use cga_form::fault::Fault;
 use cga_form::tokens::Tokens;
 use cga_form::{BlockFault, BlockReader, Form, Gather, LineFault};
-use cga_fraction::{List, NoMemory, Stop};
+use cga_fraction::{List, NoMemory, Shared, Stop};
 use cga_syntax::{Attribute, Entry, Grammar};
 use std::alloc::Global;
 
@@ -85,13 +85,14 @@ impl Gather for Gathered {
         self.take(said)
     }
 
-    fn finish(self) -> Grammar
-        ensures { (all : List (Option BlockLine)) → Holds self all → result ≡ kept_of all }
+    fn finish(self, alloc: Global) -> Result<Grammar, NoMemory>
+        ensures { (all : List (Option BlockLine)) → Holds self all → IfOk result (λ grammar. grammar ≡ kept_of all) }
     {
-        Grammar {
+        let rules = Shared::from_vec(alloc, self.rules.into_vec())?;
+        Ok(Grammar {
             attributes: self.attributes,
-            rules: self.rules,
-        }
+            rules,
+        })
     }
 }
 
