@@ -15,9 +15,11 @@ use Rattle.cga_forest.specs.Tree.{ForestView, HasNoLot, IsRootOf, KeepsMark, nod
 use Rattle.cga_shape.specs.declared.lot.Lot.{Lot}
 use Rattle.cga_shape.specs.declared.sources.Sources.{Sources}
 use Rattle.cga_update.specs.Roots.{View, AreThere, AreWithin, Gains, IsGained, IsRootNamed}
-use Rattle.cga_update.proofs.Facts.{said_priority}
 use Rattle.cga_update.proofs.Lots.{root_name}
-use Rattle.cga_update.proofs.Members.{among_either, among_left, among_right, apart_join, ids_join, id_of}
+use Rattle.cga_update.proofs.Members.{among_either, ids_join, id_of}
+use Rattle.cga_order.proofs.Door.{Among-left as among_left, Among-right as among_right}
+use Rattle.cga_index.proofs.Door.{apart_join}
+use Rattle.cga_expand.proofs.Door.{said_priority}
 
 abbrev top_seen : Node → Seen
 top_seen n = record { node = n; depth = 0; parent = None; index = 0; children = [] }

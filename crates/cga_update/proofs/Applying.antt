@@ -12,6 +12,7 @@ use Rattle.cga_update.specs.declared.log.Pairing.{Pairing}
 use Rattle.cga_update.specs.Applied.{IsApplied, ListsView, lists}
 use Rattle.cga_update.specs.Log.{IsLogged, is_pair, noted, noted_all}
 use Rattle.cga_forest.specs.View.{Seen}
+use Rattle.cga_fraction.proofs.Door.{or-assoc, or-false, or-true}
 pub use Rattle.cga_fraction.proofs.Door.{eq_from_nat_eq as same_number, nat_eq-same as own_number}
 
 flip_number : (a b : ℕ) → nat_eq a b ≡ nat_eq b a
@@ -29,31 +30,15 @@ none_of node (y ∷ ys) all = ap (λ b. b || list_any (nat_eq node) ys) all.0 �
 
 any_behind : (c node : ℕ) (xs : List ℕ)
     → list_any (nat_eq c) (xs ++ node ∷ []) ≡ (list_any (nat_eq c) xs || nat_eq c node)
-any_behind c node [] = or_false (nat_eq c node)
-  where
-    or_false : (b : Bool) → (b || false) ≡ b
-    or_false true = refl
-    or_false false = refl
-any_behind c node (x ∷ xs) = ap (λ b. nat_eq c x || b) (any_behind c node xs) ∙ or_assoc (nat_eq c x) (list_any (nat_eq c) xs) (nat_eq c node)
-  where
-    or_assoc : (a b d : Bool) → (a || (b || d)) ≡ ((a || b) || d)
-    or_assoc true b d = refl
-    or_assoc false b d = refl
+any_behind c node [] = or-false (nat_eq c node)
+any_behind c node (x ∷ xs) = ap (λ b. nat_eq c x || b) (any_behind c node xs) ∙ or-assoc (nat_eq c x) (list_any (nat_eq c) xs) (nat_eq c node)
 
 any_more : (xs : List ℕ) (node c : ℕ) (known here : Bool) → list_any (nat_eq node) xs ≡ known → nat_eq node c ≡ here
     → list_any (nat_eq c) (if known then xs else (xs ++ node ∷ [])) ≡ (if here then true else list_any (nat_eq c) xs)
 any_more xs node c true true is at = ap (λ n. list_any (nat_eq n) xs) (sym (same_number node c at)) ∙ is
 any_more xs node c true false is at = refl
-any_more xs node c false true is at = any_behind c node xs ∙ (ap (λ b. list_any (nat_eq c) xs || b) (flip_number c node ∙ at) ∙ or_true (list_any (nat_eq c) xs))
-  where
-    or_true : (b : Bool) → (b || true) ≡ true
-    or_true true = refl
-    or_true false = refl
-any_more xs node c false false is at = any_behind c node xs ∙ (ap (λ b. list_any (nat_eq c) xs || b) (flip_number c node ∙ at) ∙ or_false (list_any (nat_eq c) xs))
-  where
-    or_false : (b : Bool) → (b || false) ≡ b
-    or_false true = refl
-    or_false false = refl
+any_more xs node c false true is at = any_behind c node xs ∙ (ap (λ b. list_any (nat_eq c) xs || b) (flip_number c node ∙ at) ∙ or-true (list_any (nat_eq c) xs))
+any_more xs node c false false is at = any_behind c node xs ∙ (ap (λ b. list_any (nat_eq c) xs || b) (flip_number c node ∙ at) ∙ or-false (list_any (nat_eq c) xs))
 
 module _ (old new : DependentsView) (symbol : List ℕ) (node : ℕ) where
   pub added : ((s : List ℕ) → nodes_in new s ≡

@@ -17,7 +17,7 @@ use Rattle.cga_agenda.specs.Loop.{IsReady, State}
 use Rattle.cga_agenda.specs.Record.{Drawn}
 use Rattle.cga_agenda.specs.Work.{IsBegun}
 use Rattle.cga_depend.specs.Pairs.{DependentsView, nodes_in}
-use Rattle.cga_expand.proofs.Door.{root_is}
+use Rattle.cga_expand.proofs.Door.{root_is, root_among}
 use Rattle.cga_fraction.proofs.Door.{None-not-Some as none_some, eq_from_nat_eq as same_number, same_Ok as ok_same}
 use Rattle.cga_rework.proofs.Door.{lists_are_changes, rerooted_is_city, roots_begin, stands_again}
 use Rattle.cga_expand.specs.Asked.{asks_for, group_asks}
@@ -51,7 +51,7 @@ use Rattle.cga_update.specs.Queue.{chains_of, on_of}
 use Rattle.cga_update.specs.Roots.{Gains, HasLost, HasOldLots, IsRerooted, Loses}
 use Rattle.cga_update.proofs.Adding.{none_came}
 use Rattle.cga_update.proofs.DueNodes.{may_be_on}
-use Rattle.cga_update.proofs.RootShapes.{among_root, root_among}
+use Rattle.cga_update.proofs.RootShapes.{among_root}
 use Rattle.cga_update.proofs.Rooting.{IsRooted, rerooted as roots_changed, still}
 use Rattle.cga_update.proofs.Drawing.{lists_lost}
 use Rattle.cga_update.proofs.Edits.{is_edit, is_rules_edit}

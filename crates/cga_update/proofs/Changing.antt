@@ -16,7 +16,7 @@ use Rattle.cga_queue.proofs.Door.{all_kept}
 use Rattle.cga_update.specs.Changed.{IsNoted}
 use Rattle.cga_update.specs.Near.{IsAny, IsChangedFor, IsParentOf, IsPricedFor, KeepsPriority}
 use Rattle.cga_update.specs.Queue.{chains_of}
-use Rattle.cga_update.proofs.Members.{among_at}
+use Rattle.cga_order.proofs.Door.{Among-index as among_at}
 
 abbrev priority_by : Option Group → ℕ
 priority_by None = 0

@@ -19,7 +19,7 @@ use Rattle.cga_rework.specs.City.{StandsBelow}
 use Rattle.cga_rework.specs.Nodes.{placed_of}
 use Rattle.cga_rework.specs.Turn.{AreNews, IsOutcome, KeepsSelf}
 use Rattle.cga_update.specs.Edit.{content, rules_of, shapes_of}
-use Rattle.cga_update.proofs.Facts.{said_priority}
+use Rattle.cga_expand.proofs.Door.{said_priority}
 
 -- ---- the children
 

@@ -30,7 +30,8 @@ use Rattle.cga_expand.specs.Derivation.{priority_of}
 use Rattle.cga_update.specs.declared.changed.Facts.{Facts}
 use Rattle.cga_update.specs.Changed.{AreFacts, AreKnown, IsNoted, KeepsNoted}
 use Rattle.cga_update.specs.Edit.{asks_by}
-use Rattle.cga_update.proofs.Members.{among_left, among_right}
+use Rattle.cga_order.proofs.Door.{Among-left as among_left, Among-right as among_right}
+use Rattle.cga_expand.proofs.Door.{group_asks_same as same_asks, said_active, said_priority}
 pub use Rattle.cga_fraction.proofs.Door.{IfOk-map as on_value}
 
 -- what was known is right, and so is the rest
@@ -51,22 +52,9 @@ still_known old new before after symbol facts are known updates = λ name found 
 
 -- ---- what is said of a symbol
 
--- a group asks by the one name and by the other
-same_asks : (found : Option Group) (target : Target) → groups.group_asks found target ≡ group_asks found target
-same_asks None target = refl
-same_asks (Some g) target = refl
-
 pub said_noparent : (g : Grammar) (symbol : List ℕ) → (said g symbol).noparent ≡ asks_for g symbol Noparent
 unfolding said asks_for
 said_noparent g symbol = same_asks (group g symbol) Noparent
-
-pub said_active : (g : Grammar) (symbol : List ℕ) → (said g symbol).active ≡ asks_for g symbol Active
-unfolding said asks_for
-said_active g symbol = same_asks (group g symbol) Active
-
-pub said_priority : (g : Grammar) (symbol : List ℕ) → (said g symbol).priority ≡ priority_of g symbol
-unfolding said priority_of
-said_priority g symbol = refl
 
 pub said_asks : (g : Grammar) (s : Shape) → asks_any (said g s.symbol) ≡ asks_by g s
 said_asks g s = λ i. said_noparent g s.symbol i || said_active g s.symbol i

@@ -11,7 +11,9 @@ use Rattle.cga_forest.specs.View.{Seen}
 use Rattle.cga_forest.specs.Tree.{ForestView, IsForest, IsRootOf, IsWithout, HasNoLot, KeepsMark, children_at, children_of, node_at, under}
 use Rattle.cga_forest.proofs.Door as walk
 use Rattle.cga_update.specs.Roots.{View, HasLost, IsRootNamed}
-use Rattle.cga_update.proofs.Members.{among_either, among_left, among_right, apart_join, ids_join, id_of}
+use Rattle.cga_update.proofs.Members.{among_either, ids_join, id_of}
+use Rattle.cga_order.proofs.Door.{Among-left as among_left, Among-right as among_right}
+use Rattle.cga_index.proofs.Door.{apart_join}
 
 -- ---- one slot
 

@@ -13,7 +13,8 @@ use Rattle.cga_forest.specs.Tree.{ForestView, IsForest, marked_at, node_at}
 use Rattle.cga_forest.specs.Walked.{asks_of, forest_tree, lasting_tree, own_of, was_marked}
 use Rattle.cga_forest.proofs.Door.{inside}
 use Rattle.cga_update.specs.Askers.{IsAsker, ListsAskers, boxes_of}
-use Rattle.cga_update.proofs.Members.{among_left, among_member, among_right, member_among}
+use Rattle.cga_update.proofs.Members.{among_member, member_among}
+use Rattle.cga_order.proofs.Door.{Among-left as among_left, Among-right as among_right}
 
 near_some : (own : Box) (moved : List Moved) (m : Moved) → Among m moved → meets own (box_of m.scope) ≡ true
     → list_any (meets own) (boxes_of moved) ≡ true

@@ -28,6 +28,7 @@ use Rattle.cga_update.specs.Means.{ArePriced}
 use Rattle.cga_update.specs.Plain.{IsPlain}
 use Rattle.cga_update.specs.Turned.{IsAgain, emitted_as, emitted_of}
 use Rattle.cga_update.proofs.Children.{child_at, priced_is}
+use Rattle.cga_expand.proofs.Door.{length-placed_from as length_placed}
 
 length_from : (g : Grammar) (n : Node) (k : ℕ) (es : List Emitted) → length (children_from g n k es) ≡ length es
 length_from g n k [] = refl
@@ -184,10 +185,6 @@ module _ (v w : ForestView) (f : IsForest v) (g : Grammar) (id : ℕ) (outcome :
   ]
 
 -- ---- how many children an expansion makes
-
-length_placed : (lot path own : List ℕ) (i : ℕ) (es : List Emitted) → length (placed_from lot path own i es) ≡ length es
-length_placed lot path own i [] = refl
-length_placed lot path own i (e ∷ es) = let z = length_placed lot path own (suc i) es in omega (arith, z)
 
 pub count_made : (priority : Shape → ℕ) (above : List ℕ) (s : Shape) (o : Outcome)
     → length (made_by (all_placed priority above (placed_by s o))) ≡ length (emitted o)

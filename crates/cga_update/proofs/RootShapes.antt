@@ -19,12 +19,6 @@ behind_root x lots s h = by_root (root_of x)
     by_root (Ok y) = inr h
     by_root (Err f) = h
 
-pub root_among : (lots : List Lot) (i : ℕ) (lot : Lot) (s : Shape) → slice_get lots i ≡ Some lot → root_of lot ≡ Ok s
-    → Among s (roots_of lots)
-root_among [] i lot s at is = none_some lot at
-root_among (x ∷ lots) zero lot s at is = root_first x lots s (ap root_of (some_same x lot at) ∙ is)
-root_among (x ∷ lots) (suc i) lot s at is = behind_root x lots s (root_among lots i lot s at is)
-
 -- the root of one of the lots
 abbrev RootIn : List Lot → Shape → Type 0
 RootIn lots s = (i : ℕ) × (lot : Lot) × (slice_get lots i ≡ Some lot) × (root_of lot ≡ Ok s)

@@ -25,7 +25,8 @@ use Rattle.cga_update.specs.Changed.{AreFacts}
 use Rattle.cga_update.specs.Edit.{asks_by, kept_nodes, ranked, the_edit}
 use Rattle.cga_update.specs.Plain.{IsPlain}
 use Rattle.cga_update.specs.Turned.{HasPlaced, IsAgain, IsTurned, MayTurn}
-use Rattle.cga_update.proofs.Facts.{said_active, said_asks, said_noparent}
+use Rattle.cga_update.proofs.Facts.{said_asks, said_noparent}
+use Rattle.cga_expand.proofs.Door.{said_active}
 
 abbrev IsToldOf : Work → ℕ → Said → Type 0
 IsToldOf w id told = (d : Seen) → node_at w.forest id ≡ Some d → told ≡ said w.symbols d.node.shape.symbol
