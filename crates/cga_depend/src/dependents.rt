@@ -1,4 +1,4 @@
-ghost use Rattle.std.specs.Prelude.{◌≡◌, ℕ, List, [], ◌∷◌, true, false, None, nat_eq, OnOk, OnErr, if◌then◌else◌};
+ghost use Rattle.std.specs.Prelude.{◌≡◌, ℕ, List, [], ◌∷◌, true, false, None, nat_eq, OnOk, OnErr, length, option_map, slice_get, if◌then◌else◌};
 ghost use Rattle.std.specs.List.{list_any, IsDistinct};
 ghost use Rattle.std.specs.List.Sorted.{IsPermutation};
 ghost use Rattle.std.specs.Map.{lookup};
@@ -55,6 +55,23 @@ impl Dependents {
         ensures same { result ≡ false → self.new ≡ self.old }
     {
         take_out(&mut self.nodes, symbol, node)
+    }
+
+    /// Of how many symbols there are nodes, or were some.
+    pub fn symbols(&self) -> usize
+        ensures { result ≡ length self.now.nodes }
+    {
+        self.nodes.len()
+    }
+
+    /// One of these symbols, and its nodes.
+    pub fn entry(&self, place: usize) -> Option<(Name, &[NodeId])>
+        ensures { option_map (λ p. (p.0, p.1.now)) result ≡ slice_get self.now.nodes place }
+    {
+        match self.nodes.get_index(place) {
+            Some((symbol, nodes)) => Some((*symbol, nodes.as_slice())),
+            None => None,
+        }
     }
 
     /// The nodes of a symbol, each once, in any order.

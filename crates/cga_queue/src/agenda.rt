@@ -59,6 +59,11 @@ impl Agenda {
         self.alloc
     }
 
+    /// How many entries it keeps. Two of them may be of one stamp.
+    pub fn len(&self) -> usize {
+        self.entries.len().saturating_add(self.late.len())
+    }
+
     /// Puts a number on it, at the stamp of a chain. Takes memory for the key.
     pub fn put(&mut self, chain: &Chain, id: NodeId) -> Result<(), NoMemory>
         requires whole { IsWhole (chain_of chain.now) }
