@@ -58,7 +58,7 @@ fn sources_of(alloc: Global, lines: &str) -> Result<Option<Sources>, NoMemory> {
     for line in lines.split('\n') {
         reader.line(line.as_bytes(), false)?;
     }
-    Ok(reader.finish().ok())
+    Ok(reader.finish()?.ok())
 }
 
 // One lot, or two of two names, whose roots exist.

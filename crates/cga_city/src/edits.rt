@@ -1,5 +1,5 @@
 //! Edits of sources.
-ghost use Rattle.cga_city.specs.Apply.{with_checked, with_grammar};
+ghost use Rattle.cga_city.specs.Apply.{ruled, with_checked, with_grammar};
 ghost use Rattle.cga_city.specs.City.{ChangeGives, Changes};
 
 use crate::grammars::{
@@ -7,7 +7,7 @@ use crate::grammars::{
 };
 use crate::limits::MOST_LOTS;
 use crate::lots::{accepted, copied, finds_no_room, is_bad, lot_place, put_lot, rooted};
-use cga_fraction::{Fraction, List};
+use cga_fraction::{Fraction, List, Shared};
 use cga_rule::{Attribute, Entry, Grammar, Rule};
 use cga_shape::{Edit, EditRefused, Lot, Sources};
 use cga_word::{Mode, Name};
@@ -18,20 +18,28 @@ fn with_grammar(alloc: Global, sources: &Sources, grammar: Grammar) -> Result<So
     ensures { Changes (with_grammar sources.now grammar) result }
 {
     rooted(&grammar, sources.lots.as_slice())?;
-    let lots = copied(alloc, &sources.lots)?;
     Ok(Sources {
         grammar,
-        lots: List::from_vec(lots),
+        lots: sources.lots.share()?,
         mode: sources.mode,
     })
 }
 
-// The sources with other rules.
-fn ruled(alloc: Global, sources: &Sources, grammar: Grammar) -> Result<Sources, EditRefused>
+// The sources with another grammar.
+fn with_checked(alloc: Global, sources: &Sources, grammar: Grammar) -> Result<Sources, EditRefused>
     ensures { Changes (with_checked sources.now grammar) result }
 {
     checked(&grammar)?;
     with_grammar(alloc, sources, grammar)
+}
+
+// The sources with other rules.
+fn ruled(alloc: Global, sources: &Sources, rules: Vec<Entry>) -> Result<Sources, EditRefused>
+    ensures { Changes (ruled sources.now rules.items) result }
+{
+    let rules = Shared::from_vec(alloc, rules)?;
+    let Grammar { attributes, .. } = sources.grammar.copy(alloc)?;
+    with_checked(alloc, sources, Grammar { attributes, rules })
 }
 
 fn rules(alloc: Global, sources: &Sources, given: Grammar) -> Result<Sources, EditRefused>
@@ -45,11 +53,9 @@ fn rules(alloc: Global, sources: &Sources, given: Grammar) -> Result<Sources, Ed
 fn put(alloc: Global, sources: &Sources, priority: u16, rule: Rule) -> Result<Sources, EditRefused>
     ensures { ChangeGives sources.now (Edit.Put priority rule) result }
 {
-    let Grammar { attributes, rules } = sources.grammar.copy(alloc)?;
-    let mut entries = rules.into_vec();
-    put_rule(&mut entries, Entry { priority, rule })?;
-    let rules = List::from_vec(entries);
-    ruled(alloc, sources, Grammar { attributes, rules })
+    let mut rules = sources.grammar.copy_rules(alloc)?;
+    put_rule(&mut rules, Entry { priority, rule })?;
+    ruled(alloc, sources, rules)
 }
 
 fn drop_rule(alloc: Global, sources: &Sources, id: u32) -> Result<Sources, EditRefused>
@@ -58,11 +64,9 @@ fn drop_rule(alloc: Global, sources: &Sources, id: u32) -> Result<Sources, EditR
     let Some(place) = rule_place(sources.grammar.rules.as_slice(), id) else {
         return Err(EditRefused::NoRule(id));
     };
-    let Grammar { attributes, rules } = sources.grammar.copy(alloc)?;
-    let mut entries = rules.into_vec();
-    entries.remove(place);
-    let rules = List::from_vec(entries);
-    ruled(alloc, sources, Grammar { attributes, rules })
+    let mut rules = sources.grammar.copy_rules(alloc)?;
+    rules.remove(place);
+    ruled(alloc, sources, rules)
 }
 
 fn set_attribute(
@@ -104,10 +108,9 @@ fn set_priority(
         return Err(EditRefused::NoSymbol(symbol));
     }
     let grammar = reprioritized(alloc, &sources.grammar, symbol, priority)?;
-    let lots = copied(alloc, &sources.lots)?;
     Ok(Sources {
         grammar,
-        lots: List::from_vec(lots),
+        lots: sources.lots.share()?,
         mode: sources.mode,
     })
 }
@@ -125,7 +128,7 @@ fn set_lot(alloc: Global, sources: &Sources, lot: Lot) -> Result<Sources, EditRe
         return Err(EditRefused::TooManyLots);
     }
     let grammar = sources.grammar.copy(alloc)?;
-    let lots = put_lot(copied(alloc, &sources.lots)?, lot)?;
+    let lots = put_lot(alloc, copied(alloc, &sources.lots)?, lot)?;
     Ok(Sources {
         grammar,
         lots,
@@ -144,7 +147,7 @@ fn unlot(alloc: Global, sources: &Sources, name: Name) -> Result<Sources, EditRe
     lots.remove(place);
     Ok(Sources {
         grammar,
-        lots: List::from_vec(lots),
+        lots: Shared::from_vec(alloc, lots)?,
         mode: sources.mode,
     })
 }

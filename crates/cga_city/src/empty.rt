@@ -5,7 +5,7 @@ ghost use Rattle.cga_city.specs.City.{empty_in};
 
 use cga_depend::Dependents;
 use cga_forest::Forest;
-use cga_fraction::List;
+use cga_fraction::{List, Shared};
 use cga_rule::Grammar;
 use cga_shape::{Changes, Sources};
 use cga_update::Kept;
@@ -19,9 +19,9 @@ pub(crate) fn empty_sources(alloc: Global, mode: Mode) -> Sources
     Sources {
         grammar: Grammar {
             attributes: List::new(alloc),
-            rules: List::new(alloc),
+            rules: Shared::new(),
         },
-        lots: List::new(alloc),
+        lots: Shared::new(),
         mode,
     }
 }

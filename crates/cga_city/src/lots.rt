@@ -4,7 +4,7 @@ ghost use Rattle.cga_city.specs.Lots as spec;
 
 use crate::grammars::is_plain;
 use crate::limits::MOST_LOTS;
-use cga_fraction::{List, NoMemory};
+use cga_fraction::{NoMemory, Shared};
 use cga_rule::Grammar;
 use cga_shape::{EditRefused, Lot};
 use cga_word::Name;
@@ -29,14 +29,14 @@ pub(crate) fn finds_no_room(lot: &Lot, lots: &[Lot]) -> bool
     lot_place(lots, lot.name).is_none() && lots.len() >= MOST_LOTS
 }
 
-pub(crate) fn copied(alloc: Global, lots: &List<Lot>) -> Result<Vec<Lot>, NoMemory>
+pub(crate) fn copied(alloc: Global, lots: &Shared<Lot>) -> Result<Vec<Lot>, NoMemory>
     ensures { IfOk result (λ copy. copy.items ≡ lots.now) }
 {
     Ok(Vec::from_slice(alloc, lots.as_slice())?)
 }
 
 /// A lot in the place of the one of its name, or behind all others.
-pub(crate) fn put_lot(lots: Vec<Lot>, lot: Lot) -> Result<List<Lot>, NoMemory>
+pub(crate) fn put_lot(alloc: Global, lots: Vec<Lot>, lot: Lot) -> Result<Shared<Lot>, NoMemory>
     ensures { IfOk result (λ new. new ≡ spec.with_lot lot lots.items) }
 {
     let mut members = lots;
@@ -48,7 +48,7 @@ pub(crate) fn put_lot(lots: Vec<Lot>, lot: Lot) -> Result<List<Lot>, NoMemory>
             members.push(lot)?;
         }
     }
-    Ok(List::from_vec(members))
+    Shared::from_vec(alloc, members)
 }
 
 /// The first lot whose symbol has no rules without parameters.

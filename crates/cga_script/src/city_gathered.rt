@@ -1,4 +1,4 @@
-ghost use Rattle.std.specs.Prelude.{◌≡◌, ◌++◌, ◌∷◌, [], List, Option, OnOk};
+ghost use Rattle.std.specs.Prelude.{◌≡◌, ◌++◌, ◌∷◌, [], List, Option, IfOk, OnOk};
 ghost use Rattle.cga_form.specs.Cursor.{input_of, Reads};
 ghost use Rattle.cga_script.specs.CityLines as spec;
 ghost use Rattle.cga_script.specs.CityLines.{Adds, Holds, kept_of};
@@ -11,7 +11,7 @@ use crate::named_lots::NamedLots;
 use cga_form::fault::Fault;
 use cga_form::tokens::Tokens;
 use cga_form::{BlockReader, Form, Gather};
-use cga_fraction::{NoMemory, Stop};
+use cga_fraction::{NoMemory, Shared, Stop};
 use cga_parser::Gathered;
 use cga_parser::block::block;
 use cga_shape::Sources;
@@ -88,14 +88,16 @@ impl Gather for CityGathered {
         self.take(said)
     }
 
-    fn finish(self) -> Sources
-        ensures { (all : List (Option CityLine)) → Holds self all → result ≡ kept_of all }
+    fn finish(self, alloc: Global) -> Result<Sources, NoMemory>
+        ensures { (all : List (Option CityLine)) → Holds self all → IfOk result (λ sources. sources ≡ kept_of all) }
     {
-        Sources {
-            grammar: self.rules.finish(),
-            lots: self.lots.into_list(),
+        let grammar = self.rules.finish(alloc)?;
+        let lots = Shared::from_vec(alloc, self.lots.into_vec())?;
+        Ok(Sources {
+            grammar,
+            lots,
             mode: self.mode,
-        }
+        })
     }
 }
 

@@ -2,7 +2,7 @@ ghost use Rattle.std.specs.Prelude.{◌≡◌, ◌≤◌, [], length, take, OnOk
 ghost use Rattle.cga_script.specs.CityLines.{with_lot};
 ghost use Rattle.cga_script.specs.Places.{ArePlaces};
 
-use cga_fraction::{List, NoMemory};
+use cga_fraction::NoMemory;
 use cga_shape::Lot;
 use cga_word::Name;
 use std::alloc::Global;
@@ -71,10 +71,10 @@ impl NamedLots {
     }
 
     /// Takes no memory.
-    pub fn into_list(self) -> List<Lot>
-        ensures { result ≡ self }
+    pub fn into_vec(self) -> Vec<Lot>
+        ensures { result.items ≡ self }
     {
         let NamedLots { lots, places: _ } = self;
-        List::from_vec(lots)
+        lots
     }
 }

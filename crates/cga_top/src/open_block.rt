@@ -63,28 +63,28 @@ impl OpenBlock {
     }
 }
 
-/// An edit that does what the one of a block of rules does, or its first faulty line.
-pub(crate) fn rules_edit(reader: GrammarReader) -> Result<Edit, BlockFault>
+/// An edit that does what the one of a block of rules does, or its first faulty line. Takes memory.
+pub(crate) fn rules_edit(reader: GrammarReader) -> Result<Result<Edit, BlockFault>, NoMemory>
     requires { (lines : List Line) × RulesRead reader lines }
-    ensures told { (lines : List Line) → RulesRead reader lines → DoesAs (grammar_told lines) result }
-    ensures written { IfOk result IsWritten }
+    ensures told { (lines : List Line) → RulesRead reader lines → IfOk result (DoesAs (grammar_told lines)) }
+    ensures written { IfOk result (λ made. IfOk made IsWritten) }
 {
     one_too_many_is_refused_as_all();
-    match reader.finish() {
-        Ok(grammar) => Ok(Edit::Rules(grammar)),
-        Err(fault) => Err(fault),
+    match reader.finish()? {
+        Ok(grammar) => Ok(Ok(Edit::Rules(grammar))),
+        Err(fault) => Ok(Err(fault)),
     }
 }
 
-/// An edit that does what the one of a block of a whole city does, or its first faulty line.
-pub(crate) fn city_edit(reader: CityReader) -> Result<Edit, BlockFault>
+/// An edit that does what the one of a block of a whole city does, or its first faulty line. Takes memory.
+pub(crate) fn city_edit(reader: CityReader) -> Result<Result<Edit, BlockFault>, NoMemory>
     requires { (lines : List Line) × SourcesRead reader lines }
-    ensures told { (lines : List Line) → SourcesRead reader lines → DoesAs (sources_told lines) result }
-    ensures written { IfOk result IsWritten }
+    ensures told { (lines : List Line) → SourcesRead reader lines → IfOk result (DoesAs (sources_told lines)) }
+    ensures written { IfOk result (λ made. IfOk made IsWritten) }
 {
     one_too_many_is_refused_as_all();
-    match reader.finish() {
-        Ok(sources) => Ok(Edit::Whole(sources)),
-        Err(fault) => Err(fault),
+    match reader.finish()? {
+        Ok(sources) => Ok(Ok(Edit::Whole(sources))),
+        Err(fault) => Ok(Err(fault)),
     }
 }

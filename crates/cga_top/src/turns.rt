@@ -142,8 +142,8 @@ fn do_end<E: Ledger, T: Ledger>(
     ensures ready { OnOk result (IsReady session.new) }
 {
     match block {
-        OpenBlock::Rules(reader) => close(session, rules_edit(reader), expansions, tests),
-        OpenBlock::City(reader) => close(session, city_edit(reader), expansions, tests),
+        OpenBlock::Rules(reader) => close(session, rules_edit(reader)?, expansions, tests),
+        OpenBlock::City(reader) => close(session, city_edit(reader)?, expansions, tests),
         OpenBlock::Asset(name, reader) => keep_asset(session, name, reader.finish()),
         OpenBlock::Judge(reader) => judge_lines(session, &reader, expansions, tests),
     }

@@ -7,7 +7,7 @@ ghost use Rattle.cga_update.specs.Updates.{with_no_lots};
 use crate::kept::Kept;
 use cga_depend::Dependents;
 use cga_forest::Forest;
-use cga_fraction::{List, NoMemory};
+use cga_fraction::{List, NoMemory, Shared};
 use cga_shape::{Changes, Sources};
 use std::alloc::Global;
 
@@ -55,7 +55,7 @@ pub fn without_lots(alloc: Global, sources: &Sources) -> Result<Sources, NoMemor
     let grammar = sources.grammar.copy(alloc)?;
     Ok(Sources {
         grammar,
-        lots: List::new(alloc),
+        lots: Shared::new(),
         mode: sources.mode,
     })
 }
