@@ -7,6 +7,8 @@ mod Ranked
 mod Valued
 mod Rising
 mod Sound
+mod Places
+mod Differing
 mod Valid
 mod Again
 mod Deriving

@@ -5,6 +5,7 @@ pub mod Apply
 pub mod Order
 pub mod Reports
 pub mod City
+pub mod Edited
 pub mod Inside
 pub mod Nodes
 pub mod Tally

@@ -1,5 +1,6 @@
 -- Lots as edits change them.
 use Rattle.std.specs.Prelude.{ℕ, List, [], ◌∷◌, ◌++◌, length, map, position, slice_set, Bool, not, ◌&&◌, ◌||◌, nat_lt, Option, Result, Ok, is_err, is_none}
+use Rattle.std.specs.List.{list_any}
 use Rattle.std.specs.Option.{option_map_or}
 use Rattle.cga_fraction.specs.Rat.{zero_rat}
 use Rattle.cga_fraction.specs.Order.{rat_lt}
@@ -18,6 +19,10 @@ names_of lots = map (λ (lot : Lot). lot.name) lots
 
 abbrev pub lot_place : List ℕ → List Lot → Option ℕ
 lot_place name lots = position (λ (lot : Lot). same_name lot.name name) lots
+
+-- one of the lots has the symbol
+abbrev pub has_symbol : List ℕ → List Lot → Bool
+has_symbol symbol lots = list_any (λ (lot : Lot). same_name lot.symbol symbol) lots
 
 -- an extent isn't above 0, or the far end leaves the range, so that the root has no scope
 abbrev pub is_bad : Lot → Bool

@@ -11,7 +11,8 @@ ghost use Rattle.cga_city.specs.Lots.{names_of};
 ghost use Rattle.cga_city.specs.Reports as spec;
 ghost use Rattle.cga_trace.specs.Text.{AreSteps};
 
-use crate::edits::changed_sources;
+use crate::changed_sources::changed_sources;
+use crate::edited::Edited;
 use crate::empty::{empty_sources, no_changes, no_shapes};
 use crate::no_lot::NoLot;
 use crate::reports::{all_faults, told};
@@ -23,7 +24,7 @@ use cga_frame::WorldBox;
 use cga_rule::Grammar;
 use cga_shape::{Changes, Counts, Drawn, Edit, EditRefused, FaultLine, Lot, Sources, TraceStep};
 use cga_trace::trace;
-use cga_update::{Kept, Renewal, UpdateRefused, update};
+use cga_update::{ChangedLots, Kept, Renewal, UpdateRefused, update};
 use cga_word::{Mode, Name};
 use std::alloc::Global;
 use std::marker::Model;
@@ -107,13 +108,14 @@ impl City {
         requires lots { HasDistinctLots edit }
         ensures { HandsOut self.old edit result self.new expansions.old expansions.new }
     {
-        let new = match changed_sources(self.alloc, &self.sources, edit) {
-            Ok(new) => new,
+        let Edited { sources, lots } = match changed_sources(self.alloc, &self.sources, edit) {
+            Ok(edited) => edited,
             Err(refused) => return Err(refused),
         };
         let renewal = Renewal {
             old: &self.sources,
-            new: &new,
+            new: &sources,
+            changed: lots,
             budget: self.budget,
         };
         let mut changes = no_changes(self.alloc);
@@ -128,7 +130,7 @@ impl City {
             Ok(count) => {
                 self.changes = changes;
                 self.expanded = count;
-                Ok(replace(&mut self.sources, new))
+                Ok(replace(&mut self.sources, sources))
             }
             Err(UpdateRefused::OverBudget) => Err(EditRefused::OverBudget),
             Err(UpdateRefused::NoMemory) => {
@@ -168,19 +170,13 @@ impl City {
         let renewal = Renewal {
             old: &empty,
             new: &self.sources,
+            changed: ChangedLots::All,
             budget: self.budget,
         };
-        let mut changes = no_changes(alloc);
+        let mut made = no_changes(alloc);
         drop(replace(&mut self.kept, no_shapes(alloc, mode)));
-        let told = update(
-            alloc,
-            &mut self.kept,
-            renewal,
-            &mut changes,
-            expansions,
-            tests,
-        );
-        drop(changes);
+        let told = update(alloc, &mut self.kept, renewal, &mut made, expansions, tests);
+        drop(made);
         drop(empty);
         within_budget(told)?;
         self.warm = true;

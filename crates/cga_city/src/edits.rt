@@ -1,12 +1,14 @@
-//! Edits of sources.
+//! Sources as edits change them.
 ghost use Rattle.cga_city.specs.Apply.{ruled, with_checked, with_grammar};
 ghost use Rattle.cga_city.specs.City.{ChangeGives, Changes};
+ghost use Rattle.cga_city.specs.Lots.{lot_place};
+ghost use Rattle.std.specs.Prelude.{◌≡◌};
 
 use crate::grammars::{
     attribute_place, checked, has_rule, is_plain, put_rule, ranked, reprioritized, rule_place,
 };
 use crate::limits::MOST_LOTS;
-use crate::lots::{accepted, copied, finds_no_room, is_bad, lot_place, put_lot, rooted};
+use crate::lots::{accepted, copied, finds_no_room, is_bad, put_lot, rooted};
 use cga_fraction::{Fraction, List, Shared};
 use cga_rule::{Attribute, Entry, Grammar, Rule};
 use cga_shape::{Edit, EditRefused, Lot, Sources};
@@ -42,7 +44,11 @@ fn ruled(alloc: Global, sources: &Sources, rules: Vec<Entry>) -> Result<Sources,
     with_checked(alloc, sources, Grammar { attributes, rules })
 }
 
-fn rules(alloc: Global, sources: &Sources, given: Grammar) -> Result<Sources, EditRefused>
+pub(crate) fn rules(
+    alloc: Global,
+    sources: &Sources,
+    given: Grammar,
+) -> Result<Sources, EditRefused>
     ensures { ChangeGives sources.now (Edit.Rules given) result }
 {
     checked(&given)?;
@@ -50,7 +56,12 @@ fn rules(alloc: Global, sources: &Sources, given: Grammar) -> Result<Sources, Ed
     with_grammar(alloc, sources, grammar)
 }
 
-fn put(alloc: Global, sources: &Sources, priority: u16, rule: Rule) -> Result<Sources, EditRefused>
+pub(crate) fn put(
+    alloc: Global,
+    sources: &Sources,
+    priority: u16,
+    rule: Rule,
+) -> Result<Sources, EditRefused>
     ensures { ChangeGives sources.now (Edit.Put priority rule) result }
 {
     let mut rules = sources.grammar.copy_rules(alloc)?;
@@ -58,7 +69,7 @@ fn put(alloc: Global, sources: &Sources, priority: u16, rule: Rule) -> Result<So
     ruled(alloc, sources, rules)
 }
 
-fn drop_rule(alloc: Global, sources: &Sources, id: u32) -> Result<Sources, EditRefused>
+pub(crate) fn drop_rule(alloc: Global, sources: &Sources, id: u32) -> Result<Sources, EditRefused>
     ensures { ChangeGives sources.now (Edit.Drop id) result }
 {
     let Some(place) = rule_place(sources.grammar.rules.as_slice(), id) else {
@@ -69,7 +80,7 @@ fn drop_rule(alloc: Global, sources: &Sources, id: u32) -> Result<Sources, EditR
     ruled(alloc, sources, rules)
 }
 
-fn set_attribute(
+pub(crate) fn set_attribute(
     alloc: Global,
     sources: &Sources,
     name: Name,
@@ -96,7 +107,7 @@ fn set_attribute(
     })
 }
 
-fn set_priority(
+pub(crate) fn set_priority(
     alloc: Global,
     sources: &Sources,
     symbol: Name,
@@ -115,7 +126,14 @@ fn set_priority(
     })
 }
 
-fn set_lot(alloc: Global, sources: &Sources, lot: Lot) -> Result<Sources, EditRefused>
+// A lot, with the place of the one of its name.
+pub(crate) fn set_lot(
+    alloc: Global,
+    sources: &Sources,
+    lot: Lot,
+    place: Option<usize>,
+) -> Result<Sources, EditRefused>
+    requires place { place ≡ lot_place lot.name sources.now.lots }
     ensures { ChangeGives sources.now (Edit.SetLot lot) result }
 {
     if !is_plain(&sources.grammar, lot.symbol) {
@@ -124,11 +142,11 @@ fn set_lot(alloc: Global, sources: &Sources, lot: Lot) -> Result<Sources, EditRe
     if is_bad(&lot) {
         return Err(EditRefused::BadLot(lot.name));
     }
-    if finds_no_room(&lot, sources.lots.as_slice()) {
+    if finds_no_room(&lot, sources.lots.as_slice(), place) {
         return Err(EditRefused::TooManyLots);
     }
     let grammar = sources.grammar.copy(alloc)?;
-    let lots = put_lot(alloc, copied(alloc, &sources.lots)?, lot)?;
+    let lots = put_lot(alloc, copied(alloc, &sources.lots)?, lot, place)?;
     Ok(Sources {
         grammar,
         lots,
@@ -136,10 +154,17 @@ fn set_lot(alloc: Global, sources: &Sources, lot: Lot) -> Result<Sources, EditRe
     })
 }
 
-fn unlot(alloc: Global, sources: &Sources, name: Name) -> Result<Sources, EditRefused>
+// Without the lot of a name, with its place.
+pub(crate) fn unlot(
+    alloc: Global,
+    sources: &Sources,
+    name: Name,
+    place: Option<usize>,
+) -> Result<Sources, EditRefused>
+    requires place { place ≡ lot_place name sources.now.lots }
     ensures { ChangeGives sources.now (Edit.Unlot name) result }
 {
-    let Some(place) = lot_place(sources.lots.as_slice(), name) else {
+    let Some(place) = place else {
         return Err(EditRefused::NoLot(name));
     };
     let grammar = sources.grammar.copy(alloc)?;
@@ -152,7 +177,11 @@ fn unlot(alloc: Global, sources: &Sources, name: Name) -> Result<Sources, EditRe
     })
 }
 
-fn set_order(alloc: Global, sources: &Sources, mode: Mode) -> Result<Sources, EditRefused>
+pub(crate) fn set_order(
+    alloc: Global,
+    sources: &Sources,
+    mode: Mode,
+) -> Result<Sources, EditRefused>
     ensures { ChangeGives sources.now (Edit.SetOrder mode) result }
 {
     let mut new = sources.copy(alloc)?;
@@ -160,7 +189,11 @@ fn set_order(alloc: Global, sources: &Sources, mode: Mode) -> Result<Sources, Ed
     Ok(new)
 }
 
-fn whole(alloc: Global, sources: &Sources, other: Sources) -> Result<Sources, EditRefused>
+pub(crate) fn whole(
+    alloc: Global,
+    sources: &Sources,
+    other: Sources,
+) -> Result<Sources, EditRefused>
     ensures { ChangeGives sources.now (Edit.Whole other) result }
 {
     let Sources {
@@ -179,26 +212,4 @@ fn whole(alloc: Global, sources: &Sources, other: Sources) -> Result<Sources, Ed
         lots,
         mode,
     })
-}
-
-/// The new sources, or the first refusal but for the budget. Refusals come before any copy is made, but for those of a
-/// grammar that is changed by one rule.
-pub(crate) fn changed_sources(
-    alloc: Global,
-    sources: &Sources,
-    edit: Edit,
-) -> Result<Sources, EditRefused>
-    ensures { ChangeGives sources.now edit result }
-{
-    match edit {
-        Edit::Rules(grammar) => rules(alloc, sources, grammar),
-        Edit::Put(priority, rule) => put(alloc, sources, priority, rule),
-        Edit::Drop(id) => drop_rule(alloc, sources, id),
-        Edit::SetAttribute(name, value) => set_attribute(alloc, sources, name, value),
-        Edit::SetPriority(symbol, priority) => set_priority(alloc, sources, symbol, priority),
-        Edit::SetLot(lot) => set_lot(alloc, sources, lot),
-        Edit::Unlot(name) => unlot(alloc, sources, name),
-        Edit::SetOrder(mode) => set_order(alloc, sources, mode),
-        Edit::Whole(other) => whole(alloc, sources, other),
-    }
 }

@@ -6,7 +6,9 @@
 //! cold, and then no report may be asked for.
 #![tactic(auto)]
 
+mod changed_sources;
 mod city;
+mod edited;
 mod edits;
 mod empty;
 mod grammars;

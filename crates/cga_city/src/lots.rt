@@ -22,11 +22,19 @@ pub(crate) fn is_bad(lot: &Lot) -> bool
     !lot.width.is_positive() || !lot.depth.is_positive() || lot.root_scope().is_err()
 }
 
-/// Whether it would be one lot too many.
-pub(crate) fn finds_no_room(lot: &Lot, lots: &[Lot]) -> bool
+/// Whether a lot has the symbol.
+pub(crate) fn has_symbol(lots: &[Lot], symbol: Name) -> bool
+    ensures { result ≡ spec.has_symbol symbol lots.now }
+{
+    lots.iter().any(|lot| lot.symbol == symbol)
+}
+
+/// Whether a lot, whose place is given, would be one too many.
+pub(crate) fn finds_no_room(lot: &Lot, lots: &[Lot], place: Option<usize>) -> bool
+    requires place { place ≡ spec.lot_place lot.now.name lots.now }
     ensures { result ≡ spec.finds_no_room lot.now lots.now }
 {
-    lot_place(lots, lot.name).is_none() && lots.len() >= MOST_LOTS
+    place.is_none() && lots.len() >= MOST_LOTS
 }
 
 pub(crate) fn copied(alloc: Global, lots: &Shared<Lot>) -> Result<Vec<Lot>, NoMemory>
@@ -35,12 +43,18 @@ pub(crate) fn copied(alloc: Global, lots: &Shared<Lot>) -> Result<Vec<Lot>, NoMe
     Ok(Vec::from_slice(alloc, lots.as_slice())?)
 }
 
-/// A lot in the place of the one of its name, or behind all others.
-pub(crate) fn put_lot(alloc: Global, lots: Vec<Lot>, lot: Lot) -> Result<Shared<Lot>, NoMemory>
+/// A lot in the place of the one of its name, which is given, or behind all others.
+pub(crate) fn put_lot(
+    alloc: Global,
+    lots: Vec<Lot>,
+    lot: Lot,
+    place: Option<usize>,
+) -> Result<Shared<Lot>, NoMemory>
+    requires place { place ≡ spec.lot_place lot.name lots.items }
     ensures { IfOk result (λ new. new ≡ spec.with_lot lot lots.items) }
 {
     let mut members = lots;
-    match lot_place(members.as_slice(), lot.name) {
+    match place {
         Some(place) => {
             members[place] = lot;
         }

@@ -1,5 +1,5 @@
 -- The roots that went and came, and the first agenda, are the beginning of the work.
-use Rattle.std.proofs.Common.{◌≡◌, ◌⊎◌, inl, inr, ℕ, List, [], ◌∷◌, ◌++◌, map, length, Bool, true, false, not, ◌||◌, refl, sym, ap, ◌∙◌, subst, ◌&&◌, Option, Some, None, arith}
+use Rattle.std.proofs.Common.{◌≡◌, ◌⊎◌, inl, inr, ℕ, List, [], ◌∷◌, ◌++◌, map, length, Bool, true, false, not, ◌||◌, refl, sym, ap, ◌∙◌, subst, ◌&&◌, Option, Some, None, Ok, arith}
 use Rattle.std.specs.Prelude.{is_some, nat_eq, if◌then◌else◌}
 use Rattle.std.specs.List.{list_any}
 use Rattle.std.proofs.lemmas.Option.{slice_get_within}
@@ -23,6 +23,7 @@ use Rattle.cga_rework.proofs.Door.{lists_are_changes, rerooted_is_city, roots_be
 use Rattle.cga_expand.specs.Asked.{asks_for, group_asks}
 use Rattle.cga_expand.specs.Derivation.{priority_of}
 use Rattle.cga_expand.specs.Settings.{Setting, setting_of}
+use Rattle.cga_expand.specs.Validity.{RootsExist}
 use Rattle.cga_rework.specs.Agenda.{AreQueued}
 use Rattle.cga_rework.specs.Begin as theory
 use Rattle.cga_rework.specs.Changes.{ListsLost}
@@ -48,7 +49,10 @@ use Rattle.cga_update.specs.Means.{ArePriced, told_ranked}
 use Rattle.cga_update.specs.Near.{KeepsPriorities}
 use Rattle.cga_update.specs.Plain.{IsPlain}
 use Rattle.cga_update.specs.Queue.{chains_of, on_of}
-use Rattle.cga_update.specs.Roots.{Gains, HasLost, HasOldLots, IsRerooted, Loses}
+use Rattle.cga_update.specs.ChangedLots.{AreChanged, DifferAt}
+use Rattle.cga_update.specs.declared.changed_lots.ChangedLots.{ChangedLots}
+use Rattle.cga_update.specs.declared.changed_lots.ChangedLots.TheVariants as lots
+use Rattle.cga_update.specs.Roots.{AllWanted, AreThereBut, AreThereStill, Gains, HasLost, IsRerooted, IsRootFor, IsWanted, Loses}
 use Rattle.cga_update.proofs.Adding.{none_came}
 use Rattle.cga_update.proofs.DueNodes.{may_be_on}
 use Rattle.cga_update.proofs.RootShapes.{among_root}
@@ -56,7 +60,7 @@ use Rattle.cga_update.proofs.Rooting.{IsRooted, rerooted as roots_changed, still
 use Rattle.cga_update.proofs.Drawing.{lists_lost}
 use Rattle.cga_update.proofs.Edits.{is_edit, is_rules_edit}
 use Rattle.cga_update.proofs.Logged.{logged_more}
-use Rattle.cga_update.proofs.Lots.{root_name, same_lot}
+use Rattle.cga_update.proofs.Lots.{root_exists, root_name, same_lot, scope_of_lot}
 use Rattle.cga_update.proofs.Meeting.{sees_what_meets}
 use Rattle.cga_update.proofs.Nodes.{kept_bound}
 use Rattle.cga_update.proofs.Places.{same_node}
@@ -271,12 +275,36 @@ module _ {old new : Sources} {first v : ForestView} {d : DependentsView} {went c
 
 -- ---- before any root goes
 
--- each root is of an old lot
-pub has_old_lots : (old new : Sources) (first : ForestView) (d : DependentsView) → StandsMarked old new first d
-    → HasOldLots old.lots first
-has_old_lots old new first d stands c x at up =
-    let w = among_root old.lots x.node.shape (stands.nodes.city.tops.top c x at up).0 in
-    (w.0, w.1, w.2, sym (root_name w.1 x.node.shape w.3))
+-- each root is that of an old lot
+pub old_wanted : (old new : Sources) (first : ForestView) (d : DependentsView) → StandsMarked old new first d
+    → AllWanted old first
+old_wanted old new first d stands c x at up =
+    let top = stands.nodes.city.tops.top c x at up in
+    let w = among_root old.lots x.node.shape top.0 in
+    let z = root_is w.1 x.node.shape w.3 in
+    record { place = w.0; lot = w.1; listed = w.2; root = record { shape = w.3; priority = top.1 ∙ ap (priority_of old.grammar) (ap (λ (s : Shape). s.symbol) (sym z.1)) } }
+
+-- of a lot that stands in both the root is there still
+there_but : (old new : Sources) (first before : ForestView) (d : DependentsView) → StandsMarked old new first d
+    → RootsExist new.lots → (gone come : Option ℕ) → DifferAt old new gone come → Loses new first before
+    → AreThereBut come new before
+there_but old new first before d stands exist gone come differ loses i lot at other =
+    let stood = differ.stood i lot at other in
+    let r = root_exists lot (scope_of_lot new.lots exist i lot at) in
+    let t = stands.nodes.city.tops.tops r.0 (root_among old.lots stood.0 lot r.0 stood.1.listed r.1) in
+    let z = root_is lot r.0 r.1 in
+    let shape : root_of lot ≡ Ok t.1.node.shape = r.1 ∙ ap Ok (sym t.4) in
+    let symbol : t.1.node.shape.symbol ≡ lot.symbol = ap (λ (s : Shape). s.symbol) (t.4 ∙ sym z.1) in
+    let root : IsRootFor lot (priority_of new.grammar lot.symbol) t.1.node = record { shape = shape; priority = (stands.nodes.city.tops.top t.0 t.1 t.2 t.3).1 ∙ (ap (priority_of old.grammar) symbol ∙ sym stood.1.priority) } in
+    let wanted : IsWanted new t.1.node = record { place = i; lot = lot; listed = at; root = root } in
+    (t.0, t.1, (loses.wanted t.0 t.1 t.2 t.3 wanted, t.3, root_name lot t.1.node.shape shape))
+
+pub there_still : (changed : ChangedLots) (old new : Sources) (first before : ForestView) (d : DependentsView)
+    → StandsMarked old new first d → RootsExist new.lots → AreChanged changed old new → Loses new first before
+    → AreThereStill changed new before
+there_still lots.Nothing old new first before d stands exist told loses = there_but old new first before d stands exist None None told loses
+there_still (lots.One gone come) old new first before d stands exist told loses = there_but old new first before d stands exist gone come told loses
+there_still lots.All old new first before d stands exist told loses = tt
 
 pub parent_there : (first : ForestView) → IsForest first → (c p : ℕ) (x : Seen) → node_at first c ≡ Some x
     → x.parent ≡ Some p → (e : Seen) × (node_at first p ≡ Some e)

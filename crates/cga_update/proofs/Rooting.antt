@@ -16,7 +16,9 @@ use Rattle.cga_shape.specs.declared.sources.Sources.{Sources}
 use Rattle.std.proofs.Common.{List}
 use Rattle.cga_queue.specs.Agenda.{AgendaView}
 use Rattle.cga_update.specs.Begun.{IsFirst, StandsMarked}
-use Rattle.cga_update.specs.Roots.{View, AllWanted, AreThere, Gains, HasLost, HasOldLots, IsNewRoot, IsRerooted, IsRootNamed, IsWanted, Loses}
+use Rattle.cga_update.specs.ChangedLots.{DifferAt}
+use Rattle.cga_update.specs.Roots.{View, AllWanted, AreThere, AreThereBut, Gains, HasLost, IsNewRoot, IsRerooted, IsRootNamed, IsWanted, Loses, lot_at}
+use Rattle.cga_update.proofs.Lots.{place_cases, root_name}
 
 -- an update at its beginning: how its roots were changed, and what is on its agenda
 pub record IsRooted (old new : Sources) (first v : ForestView) (d : DependentsView) (went came : List Moved) (a : AgendaView) : Type 0 where
@@ -75,13 +77,50 @@ wanted_more new lots before after n x at loses here first i lot lt is c d w = el
       here c d (w.0, w.1, w.2 ∙ ap (λ (l : Lot). l.name) (sym z)))
 ]
 
-pub all_wanted : (new : Sources) (lots lent : List Lot) (first f : ForestView) (n : ℕ) → lent ≡ lots → length lent ≤ n
-    → HasOldLots lots first → Loses new first f → FirstWanted new lots f n → AllWanted new f
-all_wanted new lots lent first f n same le has loses wanted c d at up =
-    let w = has c d (loses.less c d at) up in
-    let z = slice_get_within lots w.0 w.1 w.2 in
+pub all_wanted : (old new : Sources) (lent : List Lot) (first f : ForestView) (n : ℕ) → lent ≡ old.lots
+    → length lent ≤ n → AllWanted old first → Loses new first f → FirstWanted new old.lots f n → AllWanted new f
+all_wanted old new lent first f n same le was loses wanted c d at up =
+    let w = was c d (loses.less c d at) up in
+    let z = slice_get_within old.lots w.place w.lot w.listed in
     let y = ap length same in
-    wanted w.0 w.1 (omega (arith, z, y, le)) w.2 c d (at, up, sym w.3)
+    wanted w.place w.lot (omega (arith, z, y, le)) w.listed c d (at, up, root_name w.lot d.node.shape w.root.shape)
+
+-- ---- one lot changed, or none
+
+pub keeps_roots : (new : Sources) (f : ForestView) → Loses new f f
+keeps_roots new f = record { less = λ c d at. at; wanted = λ c d at up w. at }
+
+-- the root of a lot that stands in both is wanted still
+pub still_wanted : (old new : Sources) (gone come : Option ℕ) → DifferAt old new gone come → (first f : ForestView)
+    → AllWanted old first → Loses new first f
+    → ((was : Lot) → lot_at old.lots gone ≡ Some was → (c : ℕ) (d : Seen) → IsRootNamed (node_at f) was.name c d
+    → IsWanted new d.node)
+    → AllWanted new f
+still_wanted old new gone come differ first f was loses here c d at up =
+    let w = was c d (loses.less c d at) up in
+    elim (place_cases gone w.place) [
+      | inl is ↦ here w.lot (ap (lot_at old.lots) is ∙ w.listed) c d (at, up, root_name w.lot d.node.shape w.root.shape)
+      | inr other ↦ (
+          let stays = differ.stay w.place w.lot w.listed other in
+          record { place = stays.0; lot = w.lot; listed = stays.1.listed; root = record { shape = w.root.shape; priority = w.root.priority ∙ stays.1.priority } })
+    ]
+
+-- no lot stands at the place of the one that came
+pub there_all : (new : Sources) (come : Option ℕ) (f : ForestView) → AreThereBut come new f
+    → lot_at new.lots come ≡ None → AreThere new f (length new.lots)
+there_all new come f there none i lot lt at = there i lot at (λ is. none_some lot (sym none ∙ (ap (lot_at new.lots) is ∙ at)))
+
+-- its root came
+pub there_now : (new : Sources) (come : Option ℕ) (before after : ForestView) → AreThereBut come new before
+    → Gains new before after → (x : Lot) → lot_at new.lots come ≡ Some x
+    → (c : ℕ) × (d : Seen) × IsRootNamed (node_at after) x.name c d
+    → AreThere new after (length new.lots)
+there_now new come before after there gains x is here i lot lt at = elim (place_cases come i) [
+  | inl same ↦ (
+      let z : x ≡ lot = some_same x lot (sym is ∙ (ap (lot_at new.lots) same ∙ at)) in
+      (here.0, here.1, (here.2.0, here.2.1, here.2.2 ∙ ap (λ (l : Lot). l.name) z)))
+  | inr other ↦ (let w = there i lot at other in (w.0, w.1, (gains.more w.0 w.1 w.2.0, w.2.1, w.2.2)))
+]
 
 module _ (new : Sources) (V : View) (first before after : ForestView) (went : List Moved)
     (is : (c : ℕ) → node_at first c ≡ V c) (up : (c p : ℕ) (d : Seen) → V c ≡ Some d → d.parent ≡ Some p → (e : Seen) × (V p ≡ Some e))

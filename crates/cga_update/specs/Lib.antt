@@ -12,6 +12,7 @@ pub mod Changed
 pub mod Log
 pub mod Applied
 pub mod Near
+pub mod ChangedLots
 pub mod Roots
 pub mod Plain
 pub mod Means

@@ -1,5 +1,5 @@
 -- The roots that go and come when an edit begins.
-use Rattle.std.specs.Prelude.{◌≡◌, ◌⊎◌, ℕ, ◌<◌, List, [], Option, Some, None, Ok, true, is_some, slice_get}
+use Rattle.std.specs.Prelude.{◌≡◌, ◌⊎◌, ℕ, ◌<◌, List, [], Option, Some, None, Ok, true, is_some, slice_get, if◌then◌else◌}
 use Rattle.std.specs.Map.{lookup}
 use Rattle.cga_check.specs.Uses.{same_name}
 use Rattle.cga_order.specs.declared.placed.Kind.TheVariants.{Waiting}
@@ -12,6 +12,8 @@ use Rattle.cga_forest.specs.declared.node.Node.{Node}
 use Rattle.cga_forest.specs.Moved.{ListsMoved}
 use Rattle.cga_forest.specs.View.{Seen}
 use Rattle.cga_forest.specs.Tree.{ForestView, node_at, marked_at}
+use Rattle.cga_update.specs.declared.changed_lots.ChangedLots.{ChangedLots}
+use Rattle.cga_update.specs.declared.changed_lots.ChangedLots.TheVariants as changed
 
 abbrev pub View : Type 0
 View = ℕ → Option Seen
@@ -34,6 +36,21 @@ pub record AreByName (lots : List Lot) (n : ℕ) (named : List (List ℕ × Lot)
       → (lot.name ≡ name) × ((i : ℕ) × (slice_get lots i ≡ Some lot))
   pub all : (i : ℕ) (lot : Lot) → i < n → slice_get lots i ≡ Some lot
       → (other : Lot) × (lookup (same_name lot.name) named ≡ Some other)
+
+-- the lot of that name among these, where there is one
+pub record IsLotNamed (lots : List Lot) (name : List ℕ) (found : Option Lot) : Type 0 where
+  pub only : (lot : Lot) → found ≡ Some lot → (lot.name ≡ name) × ((i : ℕ) × (slice_get lots i ≡ Some lot))
+  pub none : found ≡ None → (i : ℕ) (lot : Lot) → slice_get lots i ≡ Some lot → lot.name ≡ name → ⊥
+
+-- the lot at a place, where there is one
+abbrev pub lot_at : List Lot → Option ℕ → Option Lot
+lot_at lots None = None
+lot_at lots (Some i) = slice_get lots i
+
+-- the lot, where it has the name
+abbrev pub if_named : List ℕ → Option Lot → Option Lot
+if_named name None = None
+if_named name (Some lot) = if same_name lot.name name then Some lot else None
 
 -- the node is there and is a root, of the lot of that name
 abbrev pub IsRootNamed : View → List ℕ → ℕ → Seen → Type 0
@@ -75,17 +92,23 @@ pub record Loses (sources : Sources) (before after : ForestView) : Type 0 where
 abbrev pub AllWanted : Sources → ForestView → Type 0
 AllWanted sources f = (c : ℕ) (d : Seen) → node_at f c ≡ Some d → d.parent ≡ None → IsWanted sources d.node
 
+-- of each lot there is the root but maybe of the one at a place
+abbrev pub AreThereBut : Option ℕ → Sources → ForestView → Type 0
+AreThereBut place sources f =
+    (i : ℕ) (lot : Lot) → slice_get sources.lots i ≡ Some lot → (place ≡ Some i → ⊥)
+    → (c : ℕ) × (d : Seen) × IsRootNamed (node_at f) lot.name c d
+
+-- of each lot that an edit didn't change there is the root
+abbrev pub AreThereStill : ChangedLots → Sources → ForestView → Type 0
+AreThereStill changed.Nothing sources f = AreThereBut None sources f
+AreThereStill (changed.One _ come) sources f = AreThereBut come sources f
+AreThereStill changed.All sources f = Unit {0}
+
 -- of each of the first n lots there is the root
 abbrev pub AreThere : Sources → ForestView → ℕ → Type 0
 AreThere sources f n =
     (i : ℕ) (lot : Lot) → i < n → slice_get sources.lots i ≡ Some lot
     → (c : ℕ) × (d : Seen) × IsRootNamed (node_at f) lot.name c d
-
--- each root is of a lot with the name of an old one
-abbrev pub HasOldLots : List Lot → ForestView → Type 0
-HasOldLots lots f =
-    (c : ℕ) (d : Seen) → node_at f c ≡ Some d → d.parent ≡ None
-    → (i : ℕ) × (lot : Lot) × (slice_get lots i ≡ Some lot) × (lot.name ≡ d.node.shape.lot)
 
 -- the nodes of the first view are nodes of the second
 abbrev pub AreWithin : View → View → Type 0

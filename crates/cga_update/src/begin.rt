@@ -61,7 +61,8 @@ fn begin<T: Ledger>(
         &mut went,
     )?;
     work.all_came = work.forest.count() == 0;
-    let came = add_roots(alloc, &mut work.forest, &mut work.symbols, renewal)?;
+    let mut came = Vec::new(alloc);
+    add_roots(&mut work.forest, &mut work.symbols, renewal, &mut came)?;
     let went_nodes = went.as_slice();
     let came_nodes = came.as_slice();
     note_went(went_nodes, &mut work.log, &mut work.gone)?;

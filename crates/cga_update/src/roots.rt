@@ -1,12 +1,16 @@
 //! The roots that go and come when an edit begins.
 ghost use Rattle.std.specs.Prelude.{◌≡◌, ℕ, ◌∷◌, ◌++◌, [], slice_get, Some, None, true, false, IfOk, OnOk, IsOk, length};
+ghost use Rattle.std.specs.Option.{option_copied};
 ghost use Rattle.cga_expand.specs.Derivation.{priority_of};
 ghost use Rattle.cga_forest.specs.Moved.{ListsMoved, moved_of};
 ghost use Rattle.cga_forest.specs.View.{Seen};
 ghost use Rattle.cga_forest.specs.Tree.{node_at};
 ghost use Rattle.cga_shape.specs.Root.{root_scope};
-ghost use Rattle.cga_update.specs.Roots.{AllWanted, AreByName, AreThere, AreWithin, Gains, HasLost, HasOldLots, IsRootFor, IsRootNamed, IsWanted, Loses, View};
+ghost use Rattle.cga_update.specs.ChangedLots.{DifferAt};
+ghost use Rattle.cga_update.specs.Roots.{AllWanted, AreThere, AreThereBut, AreThereStill, AreWithin, Gains, HasLost, IsLotNamed, IsRootFor, IsRootNamed, IsWanted, Loses, View};
 
+use crate::changed_lots::ChangedLots;
+use crate::lookup::{lot_at, lot_named, lots_by_name};
 use crate::renewal::Renewal;
 use cga_check::Symbols;
 use cga_forest::{Forest, Moved, Node};
@@ -14,19 +18,7 @@ use cga_fraction::NoMemory;
 use cga_index::NodeId;
 use cga_shape::{Lot, Sources, equal_exactly, root_shape};
 use cga_word::Name;
-use indexmap::IndexMap;
 use std::alloc::Global;
-
-/// Lots by their names. Takes memory.
-pub fn lots_by_name(alloc: Global, lots: &[Lot]) -> Result<IndexMap<Name, Lot>, NoMemory>
-    ensures { IfOk result (λ named. AreByName lots.now (length lots.now) named.entries) }
-{
-    let mut named = IndexMap::new(alloc);
-    for lot in lots {
-        named.insert(lot.name, *lot)?;
-    }
-    Ok(named)
-}
 
 /// Whether a root is that of a lot, with this priority. Takes no memory.
 pub fn is_root_for(alloc: Global, root: &Node, lot: &Lot, priority: u16) -> bool
@@ -42,19 +34,19 @@ pub fn is_root_for(alloc: Global, root: &Node, lot: &Lot, priority: u16) -> bool
 fn is_wanted(
     alloc: Global,
     forest: &Forest,
-    lots: &IndexMap<Name, Lot>,
+    lot: Option<&Lot>,
     symbols: &mut Symbols,
     renewal: Renewal,
     name: Name,
 ) -> Result<bool, NoMemory>
     requires symbols { symbols.old ≡ renewal.new.now.grammar }
-    requires lots { AreByName renewal.new.now.lots (length renewal.new.now.lots) lots.now.entries }
+    requires lot { IsLotNamed renewal.new.now.lots name (option_copied lot) }
     ensures symbols { symbols.new ≡ symbols.old }
     ensures wanted { IfOk result (λ is. is ≡ true → (c : ℕ) (d : Seen) → IsRootNamed (node_at forest.now) name c d → IsWanted renewal.entry.new.now d.node) }
     ensures unwanted { IfOk result (λ is. is ≡ false → (c : ℕ) (d : Seen) → IsRootNamed (node_at forest.now) name c d → IsWanted renewal.entry.new.now d.node → ⊥) }
 {
     forest.laws();
-    let Some(lot) = lots.get(&name) else {
+    let Some(lot) = lot else {
         return Ok(false);
     };
     let said = symbols.of(lot.symbol)?;
@@ -98,24 +90,76 @@ fn remove_root(forest: &mut Forest, name: Name, went: &mut Vec<Moved>) -> Result
 fn clear_root(
     alloc: Global,
     forest: &mut Forest,
-    lots: &IndexMap<Name, Lot>,
+    lot: Option<&Lot>,
     symbols: &mut Symbols,
     renewal: Renewal,
     name: Name,
     went: &mut Vec<Moved>,
 ) -> Result<(), NoMemory>
     requires symbols { symbols.old ≡ renewal.new.now.grammar }
-    requires lots { AreByName renewal.new.now.lots (length renewal.new.now.lots) lots.now.entries }
+    requires lot { IsLotNamed renewal.new.now.lots name (option_copied lot) }
     ensures symbols { symbols.new ≡ symbols.old }
     ensures lost { OnOk result ((V : View) → HasLost V forest.old went.old.items → HasLost V forest.new went.new.items) }
     ensures wanted { OnOk result ((c : ℕ) (d : Seen) → IsRootNamed (node_at forest.new) name c d → IsWanted renewal.entry.new.now d.node) }
     ensures loses { OnOk result (Loses renewal.entry.new.now forest.old forest.new) }
     ensures mode { forest.new.mode ≡ forest.old.mode }
 {
-    if is_wanted(alloc, forest, lots, symbols, renewal, name)? {
+    if is_wanted(alloc, forest, lot, symbols, renewal, name)? {
         return Ok(());
     }
     remove_root(forest, name, went)?;
+    Ok(())
+}
+
+/// Removes the root of the old lot at a place, with all below it, where it isn't wanted any more, and lists these.
+/// `come` is the place of the one new lot that isn't an old one. Takes memory.
+fn remove_changed(
+    alloc: Global,
+    forest: &mut Forest,
+    symbols: &mut Symbols,
+    renewal: Renewal,
+    gone: Option<usize>,
+    come: Option<usize>,
+    went: &mut Vec<Moved>,
+) -> Result<(), NoMemory>
+    requires symbols { symbols.old ≡ renewal.new.now.grammar }
+    requires wanted { AllWanted renewal.old.now forest.old }
+    requires differ { DifferAt renewal.old.now renewal.new.now gone come }
+    ensures symbols { symbols.new ≡ symbols.old }
+    ensures lost { OnOk result ((V : View) → HasLost V forest.old went.old.items → HasLost V forest.new went.new.items) }
+    ensures wanted { OnOk result (AllWanted renewal.entry.new.now forest.new) }
+    ensures loses { OnOk result (Loses renewal.entry.new.now forest.old forest.new) }
+    ensures mode { forest.new.mode ≡ forest.old.mode }
+{
+    let Some(lot) = lot_at(renewal.old.lots.as_slice(), gone) else {
+        return Ok(());
+    };
+    let again = lot_named(renewal.new.lots.as_slice(), come, lot.name);
+    clear_root(alloc, forest, again, symbols, renewal, lot.name, went)?;
+    Ok(())
+}
+
+/// Removes the roots of all old lots that aren't wanted any more, with all below them, and lists these. Takes memory.
+fn remove_all(
+    alloc: Global,
+    forest: &mut Forest,
+    symbols: &mut Symbols,
+    renewal: Renewal,
+    went: &mut Vec<Moved>,
+) -> Result<(), NoMemory>
+    requires symbols { symbols.old ≡ renewal.new.now.grammar }
+    requires wanted { AllWanted renewal.old.now forest.old }
+    ensures symbols { symbols.new ≡ symbols.old }
+    ensures lost { OnOk result ((V : View) → HasLost V forest.old went.old.items → HasLost V forest.new went.new.items) }
+    ensures wanted { OnOk result (AllWanted renewal.entry.new.now forest.new) }
+    ensures loses { OnOk result (Loses renewal.entry.new.now forest.old forest.new) }
+    ensures mode { forest.new.mode ≡ forest.old.mode }
+{
+    let lots = lots_by_name(alloc, renewal.new.lots.as_slice())?;
+    for lot in renewal.old.lots.as_slice() {
+        let again = lots.get(&lot.name);
+        clear_root(alloc, forest, again, symbols, renewal, lot.name, went)?;
+    }
     Ok(())
 }
 
@@ -128,18 +172,20 @@ pub fn remove_roots(
     went: &mut Vec<Moved>,
 ) -> Result<(), NoMemory>
     requires symbols { symbols.old ≡ renewal.new.now.grammar }
-    requires lots { HasOldLots renewal.old.now.lots forest.old }
+    requires wanted { AllWanted renewal.old.now forest.old }
     ensures symbols { symbols.new ≡ symbols.old }
     ensures lost { OnOk result ((V : View) → HasLost V forest.old went.old.items → HasLost V forest.new went.new.items) }
     ensures wanted { OnOk result (AllWanted renewal.entry.new.now forest.new) }
     ensures loses { OnOk result (Loses renewal.entry.new.now forest.old forest.new) }
     ensures mode { forest.new.mode ≡ forest.old.mode }
 {
-    let lots = lots_by_name(alloc, renewal.new.lots.as_slice())?;
-    for lot in renewal.old.lots.as_slice() {
-        clear_root(alloc, forest, &lots, symbols, renewal, lot.name, went)?;
+    match renewal.changed {
+        ChangedLots::Nothing => Ok(()),
+        ChangedLots::One(gone, come) => {
+            remove_changed(alloc, forest, symbols, renewal, gone, come, went)
+        }
+        ChangedLots::All => remove_all(alloc, forest, symbols, renewal, went),
     }
-    Ok(())
 }
 
 /// Adds the root of a lot, where it has none, and lists it. Takes memory.
@@ -176,23 +222,67 @@ fn list_node(forest: &Forest, id: NodeId, list: &mut Vec<Moved>) -> Result<(), N
     Ok(())
 }
 
-/// Adds the roots of lots that have none, and answers them. Takes memory.
-pub fn add_roots(
-    alloc: Global,
+/// Adds the root of the new lot at a place, where it has none, and lists it. Takes memory.
+fn add_changed(
     forest: &mut Forest,
     symbols: &mut Symbols,
     renewal: Renewal,
-) -> Result<Vec<Moved>, NoMemory>
+    come: Option<usize>,
+    came: &mut Vec<Moved>,
+) -> Result<(), NoMemory>
     requires symbols { symbols.old ≡ renewal.new.now.grammar }
+    requires there { AreThereBut come renewal.new.now forest.old }
     ensures gains { OnOk result (Gains renewal.entry.new.now forest.old forest.new) }
     ensures there { OnOk result (AreThere renewal.entry.new.now forest.new (length renewal.entry.new.now.lots)) }
-    ensures came { IfOk result (λ came. ListsMoved (node_at forest.new) (node_at forest.old) came.items) }
+    ensures came { OnOk result ((W : View) → AreWithin W (node_at forest.old) → ListsMoved (node_at forest.old) W came.old.items → ListsMoved (node_at forest.new) W came.new.items) }
     ensures mode { forest.new.mode ≡ forest.old.mode }
     ensures symbols { symbols.new ≡ symbols.old }
 {
-    let mut came = Vec::new(alloc);
+    let Some(lot) = lot_at(renewal.new.lots.as_slice(), come) else {
+        return Ok(());
+    };
+    add_root(forest, symbols, renewal.new, lot, came)?;
+    Ok(())
+}
+
+/// Adds the roots of all lots that have none, and lists them. Takes memory.
+fn add_all(
+    forest: &mut Forest,
+    symbols: &mut Symbols,
+    renewal: Renewal,
+    came: &mut Vec<Moved>,
+) -> Result<(), NoMemory>
+    requires symbols { symbols.old ≡ renewal.new.now.grammar }
+    ensures gains { OnOk result (Gains renewal.entry.new.now forest.old forest.new) }
+    ensures there { OnOk result (AreThere renewal.entry.new.now forest.new (length renewal.entry.new.now.lots)) }
+    ensures came { OnOk result ((W : View) → AreWithin W (node_at forest.old) → ListsMoved (node_at forest.old) W came.old.items → ListsMoved (node_at forest.new) W came.new.items) }
+    ensures mode { forest.new.mode ≡ forest.old.mode }
+    ensures symbols { symbols.new ≡ symbols.old }
+{
     for lot in renewal.new.lots.as_slice() {
-        add_root(forest, symbols, renewal.new, lot, &mut came)?;
+        add_root(forest, symbols, renewal.new, lot, came)?;
     }
-    Ok(came)
+    Ok(())
+}
+
+/// Adds the roots of lots that have none, and lists them. Takes memory.
+pub fn add_roots(
+    forest: &mut Forest,
+    symbols: &mut Symbols,
+    renewal: Renewal,
+    came: &mut Vec<Moved>,
+) -> Result<(), NoMemory>
+    requires symbols { symbols.old ≡ renewal.new.now.grammar }
+    requires there { AreThereStill renewal.changed renewal.new.now forest.old }
+    ensures gains { OnOk result (Gains renewal.entry.new.now forest.old forest.new) }
+    ensures there { OnOk result (AreThere renewal.entry.new.now forest.new (length renewal.entry.new.now.lots)) }
+    ensures came { OnOk result ((W : View) → AreWithin W (node_at forest.old) → ListsMoved (node_at forest.old) W came.old.items → ListsMoved (node_at forest.new) W came.new.items) }
+    ensures mode { forest.new.mode ≡ forest.old.mode }
+    ensures symbols { symbols.new ≡ symbols.old }
+{
+    match renewal.changed {
+        ChangedLots::Nothing => Ok(()),
+        ChangedLots::One(_, come) => add_changed(forest, symbols, renewal, come, came),
+        ChangedLots::All => add_all(forest, symbols, renewal, came),
+    }
 }

@@ -5,6 +5,7 @@ ghost use Rattle.cga_update.specs.Stands.{Stands};
 ghost use Rattle.cga_update.specs.Updates.{IsExact, IsUpdate, with_no_lots};
 
 use crate::anew::{Anew, without_lots};
+use crate::changed_lots::ChangedLots;
 use crate::kept::Kept;
 use crate::renewal::Renewal;
 use crate::rework::rework;
@@ -77,6 +78,7 @@ fn exchange<E: Ledger, T: Ledger>(
     let from_nothing = Renewal {
         old: &anew.nothing,
         new: renewal.new,
+        changed: ChangedLots::All,
         budget: renewal.budget,
     };
     let touched = rework(
@@ -112,6 +114,7 @@ fn empty<E: Ledger, T: Ledger>(
     let to_nothing = Renewal {
         old: renewal.old,
         new: &nothing,
+        changed: ChangedLots::All,
         budget: 0,
     };
     match rework(alloc, kept, to_nothing, changes, expansions, tests) {

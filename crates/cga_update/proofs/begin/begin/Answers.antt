@@ -1,5 +1,6 @@
 use Rattle.std.proofs.Common.{◌∙◌, refl, sym, subst, List, ℕ}
 use Rattle.cga_forest.specs.declared.moved.Moved.{Moved}
+use Rattle.cga_forest.specs.Moved.{ListsMoved}
 use Rattle.cga_forest.specs.Tree.{marked_at, node_at}
 use Rattle.cga_update.specs.declared.log.Pairing.{Pairing}
 use Rattle.cga_depend.specs.Pairs.{nodes_in}
@@ -8,6 +9,7 @@ use Rattle.cga_update.specs.Both.{BothGrammars}
 use Rattle.cga_update.specs.Log.{IsLogged}
 use Rattle.cga_update.specs.Near.{IsAny, IsChangedFor, IsPricedFor, KeepsPriorities}
 use Rattle.cga_update.specs.Roots.{HasLost}
+use Rattle.cga_update.proofs.Adding.{none_came}
 use Rattle.cga_update.proofs.Beginning as proof
 use Rattle.cga_update.proofs.DueNodes.{one_each}
 use Rattle.cga_update.proofs.Logged.{drawn_from, log_from}
@@ -19,11 +21,15 @@ use Rattle.cga_update.proofs.begin.begin.Goals as goal
 pub remove_roots-requires : goal.remove_roots-requires
 remove_roots-requires g c = record {
   symbols = c.requires.fresh.symbols;
-  lots = proof.has_old_lots c.args.work.now.renewal.old.now c.args.work.now.renewal.new.now c.args.work.now.forest c.args.dependents.now c.requires.stands;
+  wanted = proof.old_wanted c.args.work.now.renewal.old.now c.args.work.now.renewal.new.now c.args.work.now.forest c.args.dependents.now c.requires.stands;
 }
 
 pub add_roots-requires : goal.add_roots-requires
-add_roots-requires g c = record { symbols = c.remove_roots.ensures.symbols ∙ c.requires.fresh.symbols }
+add_roots-requires g c = record {
+  symbols = c.remove_roots.ensures.symbols ∙ c.requires.fresh.symbols;
+  there = proof.there_still c.args.work.now.renewal.changed c.args.work.now.renewal.old.now c.args.work.now.renewal.new.now c.args.work.now.forest c.remove_roots.new.forest c.args.dependents.now
+      c.requires.stands c.args.work.now.renewal.roots c.args.work.now.renewal.told c.in_ok-remove_roots.ensures.loses;
+}
 
 pub queue_rooted-requires : goal.queue_rooted-requires
 queue_rooted-requires g c = record { one = one_each c.add_roots.new.forest c.laws-2.ensures }
@@ -42,17 +48,18 @@ returns-clause-begun g c =
     let v = c.add_roots.new.forest in
     let a = c.queue_changed.new.agenda in
     let went = c.remove_roots.new.went.items in
-    let came = c.in_ok-came.came.items in
+    let came = c.add_roots.new.came.items in
     let first_laws = c.laws.ensures in
     let laws = c.laws-2.ensures in
     let lost : HasLost (node_at first) before went = c.in_ok-remove_roots.ensures.lost (node_at first) (proof.nothing_lost old new first d c.new-went.result.items c.new-went.ensures.items stands first_laws) in
-    let gains = c.in_ok-came.ensures.gains in
+    let gains = c.in_ok-add_roots.ensures.gains in
     let loses = c.in_ok-remove_roots.ensures.loses in
     let r = proof.now_rerooted old new first before v d went stands first_laws lost loses gains in
     let keeps = still new (node_at first) first before v went (λ k. refl) (proof.parent_there first first_laws) lost loses gains in
-    let listed = proof.came_since (node_at first) before v went came lost keeps c.in_ok-came.ensures.came in
+    let listed = proof.came_since (node_at first) before v went came lost keeps (c.in_ok-add_roots.ensures.came (node_at before) (λ k x at. at)
+    (subst (λ (list : List Moved). ListsMoved (node_at before) (node_at before) list) (sym c.new-came.ensures.items) (none_came (node_at before)))) in
     let wanted = wanted_after new before v c.in_ok-remove_roots.ensures.wanted gains in
-    let there = c.in_ok-came.ensures.there in
+    let there = c.in_ok-add_roots.ensures.there in
     let moved : HasMoved v went came a =
     moved_kept v IsAny c.queue_rooted.new.agenda a c.in_ok-priced.ensures.grows went came
     (subst (λ (list : List Moved). HasMoved v list came c.queue_rooted.new.agenda) c.as_slice-went_nodes.ensures.value
@@ -80,7 +87,7 @@ returns-clause-begun g c =
       proof.first_state start,
       record {
         edit_is = refl;
-        mode = c.in_ok-came.ensures.mode ∙ (c.in_ok-remove_roots.ensures.mode ∙ stands.mode);
+        mode = c.in_ok-add_roots.ensures.mode ∙ (c.in_ok-remove_roots.ensures.mode ∙ stands.mode);
         agenda_mode = c.in_ok-priced.ensures.grows.mode ∙ c.in_ok-queue_rooted.ensures.mode ∙ c.requires.fresh.mode;
         nodes = refl;
         underway = begins.0;
@@ -109,4 +116,4 @@ returns-clause-mark g c =
     let first = c.args.work.now.forest in
     let lost : HasLost (node_at first) c.remove_roots.new.forest c.remove_roots.new.went.items =
     c.in_ok-remove_roots.ensures.lost (node_at first) (proof.nothing_lost c.args.work.now.renewal.old.now c.args.work.now.renewal.new.now first c.args.dependents.now c.new-went.result.items c.new-went.ensures.items c.requires.stands c.laws.ensures) in
-    λ k. c.in_ok-came.ensures.gains.marked lost.marking k ∙ lost.marked k
+    λ k. c.in_ok-add_roots.ensures.gains.marked lost.marking k ∙ lost.marked k

@@ -1,36 +1,17 @@
-use Rattle.std.proofs.Common.{refl, sym, ◌∙◌, subst, arith}
-use Rattle.cga_forest.specs.Moved.{ListsMoved}
-use Rattle.cga_forest.specs.Tree.{node_at}
-use Rattle.cga_update.proofs.InLoops.{item_at}
-use Rattle.cga_update.proofs.Adding.{none_came, gains_more, there_more, there_end, nothing_gained}
+use Rattle.std.proofs.Common.{None, refl, subst}
+use Rattle.cga_update.specs.Roots.{AreThereStill}
+use Rattle.cga_update.specs.declared.changed_lots.ChangedLots.{ChangedLots}
+use Rattle.cga_update.proofs.Adding.{nothing_gained}
+use Rattle.cga_update.proofs.Rooting.{there_all}
 use Rattle.cga_update.proofs.roots.add_roots.Goals as goal
 
-pub loop-lot-init : goal.loop-lot-init
-loop-lot-init c = record {
-  gains = nothing_gained c.args.renewal.new.now c.args.forest.now;
-  there = λ i lot le. absurd (omega (arith, le));
-  came = subst (λ list. ListsMoved (node_at c.args.forest.now) (node_at c.args.forest.now) list) (sym c.new-came.ensures.items) (none_came (node_at c.args.forest.now));
-  mode = refl;
-  symbols = refl;
-}
+pub returns-in-Nothing-clause-gains : goal.returns-in-Nothing-clause-gains
+returns-in-Nothing-clause-gains c = nothing_gained c.args.renewal.new.now c.args.forest.now
 
-pub add_root-requires-clause-listed : goal.add_root-requires-clause-listed
-add_root-requires-clause-listed c = (c.loop-lot.lot-index, item_at c.args.renewal.new.now.lots _ c.as_slice-lot-items.ensures c.loop-lot.lot-index c.lot-item.result c.loop-lot-test.true c.lot-item.is)
+pub returns-in-Nothing-clause-there : goal.returns-in-Nothing-clause-there
+returns-in-Nothing-clause-there c =
+    there_all c.args.renewal.new.now None c.args.forest.now
+    (subst (λ (lots : ChangedLots). AreThereStill lots c.args.renewal.new.now c.args.forest.now) c.in-Nothing.is c.requires.there) refl
 
-pub loop-lot-preserved : goal.loop-lot-preserved
-loop-lot-preserved c =
-    let new = c.args.renewal.new.now in
-    let first = c.args.forest.now in
-    let before = c.loop-lot.forest in
-    let after = c.add_root.new.forest in
-    let item = item_at new.lots _ c.as_slice-lot-items.ensures c.loop-lot.lot-index c.lot-item.result c.loop-lot-test.true c.lot-item.is in
-    let one = c.in_ok-add_root.ensures in record {
-      gains = gains_more new first before after c.loop-lot.invariant.gains one.gains;
-      there = there_more new before after c.loop-lot.lot-index c.lot-item.result item one.gains one.there c.loop-lot.invariant.there;
-      came = one.came (node_at first) c.loop-lot.invariant.gains.more c.loop-lot.invariant.came;
-      mode = one.mode ∙ c.loop-lot.invariant.mode;
-      symbols = c.add_root.ensures.symbols ∙ c.loop-lot.invariant.symbols;
-    }
-
-pub returns-clause-there : goal.returns-clause-there
-returns-clause-there c = there_end c.args.renewal.new.now c.loop-lot.forest _ c.loop-lot.lot-index c.as_slice-lot-items.ensures c.loop-lot-test.false c.loop-lot.invariant.there
+pub add_changed-requires-clause-there : goal.add_changed-requires-clause-there
+add_changed-requires-clause-there c = subst (λ (lots : ChangedLots). AreThereStill lots c.args.renewal.new.now c.args.forest.now) c.in-One.is c.requires.there

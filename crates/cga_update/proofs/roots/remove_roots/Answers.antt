@@ -1,19 +1,18 @@
-use Rattle.std.proofs.Common.{◌∙◌}
-use Rattle.cga_update.proofs.InLoops.{item_at}
-use Rattle.cga_update.proofs.Rooting.{loses_more, wanted_more, all_wanted}
+use Rattle.std.proofs.Common.{None, subst}
+use Rattle.cga_fraction.proofs.Door.{None-not-Some as none_some}
+use Rattle.cga_update.specs.ChangedLots.{AreChanged}
+use Rattle.cga_update.specs.declared.changed_lots.ChangedLots.{ChangedLots}
+use Rattle.cga_update.proofs.Rooting.{keeps_roots, still_wanted}
 use Rattle.cga_update.proofs.roots.remove_roots.Goals as goal
 
-pub loop-lot-preserved : goal.loop-lot-preserved
-loop-lot-preserved c =
-    let new = c.args.renewal.new.now in
-    let item = item_at c.args.renewal.old.now.lots _ c.as_slice-lot-items.ensures c.loop-lot.lot-index c.lot-item.result c.loop-lot-test.true c.lot-item.is in
-    let one = c.in_ok-clear_root.ensures in record {
-      symbols = c.clear_root.ensures.symbols ∙ c.loop-lot.invariant.symbols;
-      lost = λ V l. one.lost V (c.loop-lot.invariant.lost V l);
-      wanted = wanted_more new c.args.renewal.old.now.lots c.loop-lot.forest c.clear_root.new.forest c.loop-lot.lot-index c.lot-item.result item one.loses one.wanted c.loop-lot.invariant.wanted;
-      loses = loses_more new c.args.forest.now c.loop-lot.forest c.clear_root.new.forest c.loop-lot.invariant.loses one.loses;
-      mode = one.mode ∙ c.loop-lot.invariant.mode;
-    }
+pub returns-in-Nothing-clause-wanted : goal.returns-in-Nothing-clause-wanted
+returns-in-Nothing-clause-wanted c =
+    still_wanted c.args.renewal.old.now c.args.renewal.new.now None None
+    (subst (λ (lots : ChangedLots). AreChanged lots c.args.renewal.old.now c.args.renewal.new.now) c.in-Nothing.is c.args.renewal.told)
+    c.args.forest.now c.args.forest.now c.requires.wanted (keeps_roots c.args.renewal.new.now c.args.forest.now) (λ was is. none_some was is)
 
-pub returns-clause-wanted : goal.returns-clause-wanted
-returns-clause-wanted c = all_wanted c.args.renewal.new.now c.args.renewal.old.now.lots _ c.args.forest.now c.loop-lot.forest c.loop-lot.lot-index c.as_slice-lot-items.ensures c.loop-lot-test.false c.requires.lots c.loop-lot.invariant.loses c.loop-lot.invariant.wanted
+pub returns-in-Nothing-clause-loses : goal.returns-in-Nothing-clause-loses
+returns-in-Nothing-clause-loses c = keeps_roots c.args.renewal.new.now c.args.forest.now
+
+pub remove_changed-requires-clause-differ : goal.remove_changed-requires-clause-differ
+remove_changed-requires-clause-differ c = subst (λ (lots : ChangedLots). AreChanged lots c.args.renewal.old.now c.args.renewal.new.now) c.in-One.is c.args.renewal.told

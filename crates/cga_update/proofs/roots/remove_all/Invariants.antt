@@ -3,7 +3,7 @@ use Rattle.cga_shape.specs.declared.lot.Lot.{Lot}
 use Rattle.cga_forest.specs.View.{Seen}
 use Rattle.cga_forest.specs.Tree.{node_at}
 use Rattle.cga_update.specs.Roots.{View, HasLost, IsRootNamed, IsWanted, Loses}
-use Rattle.cga_update.proofs.roots.remove_roots.Given as goal
+use Rattle.cga_update.proofs.roots.remove_all.Given as goal
 
 abbrev pub invariant-loop-lot : goal.invariant-loop-lot
 invariant-loop-lot l = record {

@@ -1,7 +1,7 @@
 use Rattle.std.proofs.Common.{refl}
 use Rattle.cga_update.proofs.InLoops.{item_at}
 use Rattle.cga_update.proofs.Lots.{more_by_name, none_by_name, all_by_name}
-use Rattle.cga_update.proofs.roots.lots_by_name.Goals as goal
+use Rattle.cga_update.proofs.lookup.lots_by_name.Goals as goal
 
 pub loop-lot-init : goal.loop-lot-init
 loop-lot-init c = none_by_name c.args.lots.now c.new-named.result.entries c.new-named.ensures.empty
