@@ -14,6 +14,7 @@ pub mod Applied
 pub mod Near
 pub mod Roots
 pub mod Plain
+pub mod Last
 pub mod Means
 pub mod Turned
 pub mod MeansLaws
