@@ -112,7 +112,13 @@ fn asking_nodes<'a>(
     ensures after { after.new ≡ after.old }
 {
     match dependents.entry(place) {
-        Some((symbol, nodes)) => { if asks(before, after, symbol)? { Ok(nodes) } else { Ok(&[]) } }
+        Some((symbol, nodes)) => {
+            if asks(before, after, symbol)? {
+                Ok(nodes)
+            } else {
+                Ok(&[])
+            }
+        }
         None => Ok(&[]),
     }
 }

@@ -64,14 +64,7 @@ fn place<T: Ledger>(
     work.forest.laws();
     note_went(change.went.as_slice(), &mut work.log, &mut work.gone)?;
     note_came(change.came.as_slice(), &mut work.log, &mut work.come)?;
-    follow(
-        &mut work.agenda,
-        &work.forest,
-        id,
-        &change,
-        nobody,
-        tests,
-    )
+    follow(&mut work.agenda, &work.forest, id, &change, nobody, tests)
 }
 
 /// The symbol of the node of an id.

@@ -20,11 +20,11 @@ loop-place-preserved c =
           (EntryUpTo c.args.mode D c.args.before.now c.args.after.now c.last_among-last.result) c.args.dependents.now.nodes c.loop-place.place
           (λ e up asks k x among is. more.kept x (up asks k x among is))
           (λ e here asks k x among is.
-            let asks_here = subst (λ (g : Grammar). asks_in g c.loop-place.after e.0 ≡ true) (sym c.loop-place.invariant.before) (subst (λ (g : Grammar). asks_in c.args.before.now g e.0 ≡ true) (sym c.loop-place.invariant.after) asks) in
-            more.all k x (subst (Among k) (sym (c.in_ok-ids.ensures.nodes e here asks_here)) among) is)
+          let asks_here = subst (λ (g : Grammar). asks_in g c.loop-place.after e.0 ≡ true) (sym c.loop-place.invariant.before) (subst (λ (g : Grammar). asks_in c.args.before.now g e.0 ≡ true) (sym c.loop-place.invariant.after) asks) in
+          more.all k x (subst (Among k) (sym (c.in_ok-ids.ensures.nodes e here asks_here)) among) is)
           c.loop-place.invariant.all;
     }
 
 pub returns-clause-all : goal.returns-clause-all
 returns-clause-all c =
-    first_each (EntryUpTo c.args.mode (chains_of c.args.nodes.now.forest.now) c.args.before.now c.args.after.now c.loop-place.last) c.args.dependents.now.nodes c.loop-place.place (omega (arith, c.symbols.ensures, c.loop-place-test.false)) c.loop-place.invariant.all
+    first_each (EntryUpTo c.args.mode (chains_of c.args.nodes.now.forest.now) c.args.before.now c.args.after.now c.loop-place.last) c.args.dependents.now.nodes c.loop-place.place (omega (arith, c.symbols-place-end.ensures, c.loop-place-test.false)) c.loop-place.invariant.all
