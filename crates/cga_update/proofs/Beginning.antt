@@ -109,7 +109,7 @@ module _ {old new : Sources} {first v : ForestView} {d : DependentsView} {went c
   abbrev gone : ℕ → Bool
   gone c = not (is_some (T c))
 
-  city : tree.Stands (shapes_of new) content (rules_of old) (asks_by old.grammar) V
+  pub city : tree.Stands (shapes_of new) content (rules_of old) (asks_by old.grammar) V
   city = subst (λ (s : Shapes Shape). tree.Stands s content (rules_of old) (asks_by old.grammar) V) (shapes_same old new start.stands.old_mode) start.stands.nodes
 
   rerooted : theory.IsRerooted content V T gone
@@ -126,7 +126,7 @@ module _ {old new : Sources} {first v : ForestView} {d : DependentsView} {went c
   }
 
   -- a node that was there is as it was
-  was_there : (c : ℕ) (x : Seen) → T c ≡ Some x → (o : Option Seen) → V c ≡ o → (V c ≡ None) ⊎ (V c ≡ Some x)
+  pub was_there : (c : ℕ) (x : Seen) → T c ≡ Some x → (o : Option Seen) → V c ≡ o → (V c ≡ None) ⊎ (V c ≡ Some x)
   was_there c x at None is = inl is
   was_there c x at (Some y) is = elim (start.roots.rest c y is) [
     | inl t ↦ inr (is ∙ (sym t ∙ at))
@@ -149,7 +149,7 @@ module _ {old new : Sources} {first v : ForestView} {d : DependentsView} {went c
         near c k (may_be_on v c x at inner)
   ]
 
-  listed_under : (c : ℕ) (x : Seen) → V c ≡ Some x → is_instance x.node.kind ≡ false
+  pub listed_under : (c : ℕ) (x : Seen) → V c ≡ Some x → is_instance x.node.kind ≡ false
       → Among c (nodes_in d x.node.shape.symbol)
   listed_under c x vc inner = member_of (nodes_in d x.node.shape.symbol) c
       (start.stands.dependents x.node.shape.symbol c

@@ -11,7 +11,7 @@ use Rattle.cga_update.specs.Follow.{IsFollowed}
 use Rattle.cga_update.specs.Queue.{chains_of}
 use Rattle.cga_update.proofs.NearMoved.{asker_came, asker_went}
 
-module _ (v : ForestView) (of : ℕ) (change : Change) (all_came : Bool) where
+module _ (v : ForestView) (of : ℕ) (change : Change) (nobody : Bool) where
   abbrev D : Chains
   D = chains_of v
 
@@ -27,7 +27,7 @@ module _ (v : ForestView) (of : ℕ) (change : Change) (all_came : Bool) where
   both = change.went ++ change.came
 
   followed : (a b d : AgendaView) → Grows D (IsOneOf change.came) a b → HasAll D (IsOneOf change.came) b
-      → Grows D (IsMet both b.mode) b d → HasAll D (IsMet both b.mode) d → IsFollowed v of change all_came a d
+      → Grows D (IsMet both b.mode) b d → HasAll D (IsMet both b.mode) d → IsFollowed v of change nobody a d
   followed a b d came there met seen =
       let last = subst (λ (m : Mode). Grows D (IsMet both m) b d) came.mode met in
       let has = subst (λ (m : Mode). HasAll D (IsMet both m) d) came.mode seen in
@@ -43,15 +43,15 @@ module _ (v : ForestView) (of : ℕ) (change : Change) (all_came : Bool) where
   pub followed_by : (first second : List Moved) (a b d : AgendaView) → first ≡ change.came → second ≡ change.went
       → Grows D (IsOneOf first) a b → HasAll D (IsOneOf first) b
       → Grows D (IsMet (second ++ first) b.mode) b d → HasAll D (IsMet (second ++ first) b.mode) d
-      → IsFollowed v of change all_came a d
+      → IsFollowed v of change nobody a d
   followed_by first second a b d one two came there met seen =
       let same : second ++ first ≡ both = λ i. two i ++ one i in
       followed a b d (subst (λ l. Grows D (IsOneOf l) a b) one came) (subst (λ l. HasAll D (IsOneOf l) b) one there)
       (subst (λ l. Grows D (IsMet l b.mode) b d) same met) (subst (λ l. HasAll D (IsMet l b.mode) d) same seen)
 
-  -- where all nodes came, only what came is added
-  pub followed_due : (first : List Moved) (a b : AgendaView) → first ≡ change.came → all_came ≡ true
-      → Grows D (IsOneOf first) a b → HasAll D (IsOneOf first) b → IsFollowed v of change all_came a b
+  -- where nobody is looked for, only what came is added
+  pub followed_due : (first : List Moved) (a b : AgendaView) → first ≡ change.came → nobody ≡ true
+      → Grows D (IsOneOf first) a b → HasAll D (IsOneOf first) b → IsFollowed v of change nobody a b
   followed_due first a b same is came there = record {
     grows = grows_by D (IsOneOf change.came) (MayCome a.mode) a b (λ c p. inl p) (subst (λ l. Grows D (IsOneOf l) a b) same came);
     came = subst (λ l. HasAll D (IsOneOf l) b) same there;

@@ -44,6 +44,7 @@ module _ (was : Work) (rest : AgendaView) (edit : TheEdit) (s : TheState) (means
     due = λ b c x d there on here came solid less. same.there c (means.due b c x d there (same.back b on) here came solid less);
     all_came = means.all_came;
     priced = means.priced;
+    last = means.last;
     silent = means.silent;
     plain = means.plain;
     gone = means.gone;

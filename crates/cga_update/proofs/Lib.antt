@@ -9,6 +9,7 @@ mod Places
 mod DueNodes
 mod Following
 mod Grammars
+mod Bounding
 mod Moves
 mod Moved
 mod Children
@@ -35,6 +36,7 @@ mod Meeting
 mod RootShapes
 mod Beginning
 mod Unkept
+mod Lasting
 mod Reworking
 mod Emitted
 mod Growing

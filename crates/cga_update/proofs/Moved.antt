@@ -23,10 +23,11 @@ use Rattle.cga_forest.specs.Tree.{ForestView, marked_at, node_at}
 use Rattle.cga_rework.specs.Agenda.{IsMoved}
 use Rattle.cga_queue.specs.Agenda.{AgendaView, ComesAfter, HasAll, is_later}
 use Rattle.cga_update.specs.Askers.{IsAsker, IsOneOf}
-use Rattle.cga_update.specs.Due.{AllCame, ComersAreDue}
+use Rattle.cga_update.specs.Due.{ComersAreDue}
 use Rattle.cga_update.specs.Edit.{content, meets_box, shapes_of}
 use Rattle.cga_update.specs.Follow.{IsFollowed}
 use Rattle.cga_update.specs.Queue.{chains_of, due_chain, on_of}
+use Rattle.cga_update.proofs.Bounding.{NobodyLeft}
 use Rattle.cga_update.proofs.DueNodes.{due_is, due_of, may_be_on}
 use Rattle.cga_update.proofs.Moves.{chain_at, not_itself, some_one}
 
@@ -64,8 +65,8 @@ module _ (v w : ForestView) (new : Sources) (id : ℕ) (news : List Node) (e now
       kept_same false f r = some_one (node_at w c) x d (r ∙ ap (λ h. if h then None else Some x) f) b
 
   -- comers: what came since the mark and comes later is on the agenda before
-  module _ (was after : AgendaView) (mode : was.mode ≡ new.mode) (change : Change) (went : ListsMoved (node_at v) (node_at w) change.went) (came : ListsMoved (node_at w) (node_at v) change.came) (all_came : Bool) (followed : IsFollowed w id change all_came was after)
-      (comers : (c : ℕ) (d : Seen) → node_at v c ≡ Some d → marked_at w c ≡ None → is_instance d.node.kind ≡ false → IsAfter d → on_of v was c ≡ true) (all : all_came ≡ true → AllCame w) where
+  module _ (was after : AgendaView) (mode : was.mode ≡ new.mode) (change : Change) (went : ListsMoved (node_at v) (node_at w) change.went) (came : ListsMoved (node_at w) (node_at v) change.came) (nobody : Bool) (followed : IsFollowed w id change nobody was after)
+      (comers : (c : ℕ) (d : Seen) → node_at v c ≡ Some d → marked_at w c ≡ None → is_instance d.node.kind ≡ false → IsAfter d → on_of v was c ≡ true) (left : nobody ≡ true → NobodyLeft w IsAfter) where
     later_in : (c : ℕ) (d : Seen) → node_at w c ≡ Some d → is_instance d.node.kind ≡ false
         → stamp_cmp new.mode (chain_kept e.node) (chain_kept d.node) ≡ Less → ComesAfter (chains_of w) was.mode id c
     later_in c d here solid less =
@@ -97,7 +98,7 @@ module _ (v w : ForestView) (new : Sources) (id : ℕ) (news : List Node) (e now
 
     -- who asks and meets the box of one of the moved is on the agenda: it came, or was there at the mark
     seen_by : (list : List moved.Moved) (m : moved.Moved) → Among m list
-        → (all_came ≡ false
+        → (nobody ≡ false
         → HasAll (chains_of w) (λ c. IsAsker w list c × ComesAfter (chains_of w) was.mode id c) after)
         → (c : ℕ) (d : Seen) → node_at w c ≡ Some d → is_instance d.node.kind ≡ false → d.node.asks ≡ true
         → meets (box_of d.node.shape.scope) (box_of m.scope) ≡ true
@@ -106,8 +107,8 @@ module _ (v w : ForestView) (new : Sources) (id : ℕ) (news : List Node) (e now
     unfolding bounds
     seen_by list m among has c d here solid asks meet less = elim (option_cases (marked_at w c)) [
       | inl unmarked ↦ comer_on c d here unmarked solid less
-      | inr p ↦ elim (bool_cases all_came) [
-        | inl is ↦ (let z : None ≡ Some p.0 = sym (all is c d here) ∙ p.1 in absurd (cc))
+      | inr p ↦ elim (bool_cases nobody) [
+        | inl is ↦ absurd (left is c d here (ap is_some p.1) solid asks less)
         | inr not ↦
             let k : IsAsker w list c = record { seen = d; there = here; marked = ap is_some p.1; asks = asks; one = m; among = among; near = meet } in
             has not c (k, later_in c d here solid less) (may_be_on w c d here solid)

@@ -97,6 +97,7 @@ module _ (was now : Work) (rest : AgendaView) (id : ℕ) (x : Chain) (edit : The
       due = λ b c y d there on here came solid less. comers_stay was.forest new was.agenda rest id x e least turn.here means.due c d here came solid ((stamp_total new.mode).trans (chain_kept e.node) (chain_kept y.node) (chain_kept d.node) (taken.1.left b y there on).2 less);
       all_came = means.all_came;
       priced = means.priced;
+      last = means.last;
       silent = means.silent;
       plain = means.plain;
       gone = means.gone;

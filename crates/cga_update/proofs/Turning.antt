@@ -41,14 +41,17 @@ use Rattle.cga_update.specs.Edit.{asks_by, content, kept_nodes, meets_box, ranke
 use Rattle.cga_check.specs.Uses.{same_name}
 use Rattle.cga_rule.specs.declared.grammar.Grammar.{Grammar}
 use Rattle.cga_expand.specs.Expand.{expand_of}
+use Rattle.cga_update.specs.Last.{AskersAreUpTo}
 use Rattle.cga_update.specs.Log.{IsLogged, StayAlike, came_of, drawn_of, is_of, noted_all, went_of}
 use Rattle.cga_update.specs.Means.{ArePriced, Means, told_ranked}
 use Rattle.cga_update.specs.Queue.{chains_of, on_of}
 use Rattle.cga_update.specs.Turned.{IsPlacing, MayTurn}
+use Rattle.cga_update.proofs.Bounding.{NobodyLeft}
 use Rattle.cga_update.proofs.Children.{are_news, is_outcome, keeps_self}
 use Rattle.cga_update.proofs.Facts.{said_asks}
 use Rattle.cga_update.proofs.Edits.{by_symbol, is_rules_edit}
 use Rattle.cga_update.proofs.Idle.{TheEdit, TheState}
+use Rattle.cga_update.proofs.Lasting.{turn_up_to}
 use Rattle.cga_update.proofs.Moved.{is_moved, still_due}
 use Rattle.cga_update.proofs.Moves.{comers_stay, some_one, taken_at}
 use Rattle.cga_update.proofs.Nodes.{kept_bound}
@@ -132,6 +135,18 @@ module _ (was now : Work) (rest : AgendaView) (id : ℕ) (x : Chain) (turned : T
     | inr p ↦ means.all_came is c p.0 p.1
   ]
 
+  up_to : AskersAreUpTo new.mode was.last g now.forest
+  up_to = turn_up_to was.forest now.forest g id e after_e turn.here replaced.is gone replaced.rest inner refl
+      (λ is. sym (said_asks g e.node.shape) ∙ is) refl marks_stay turn.placed.1.unmarked new.mode was.last means.last
+
+  left : turn.placed.1.nobody ≡ true → NobodyLeft now.forest IsAfter
+  left is c d here marked solid asks less = elim (turn.placed.1.nobody_left is) [
+    | inl all ↦
+        let z : false ≡ true = ap is_some (sym (all_came all c d here)) ∙ marked in
+        cc
+    | inr past ↦ past e turn.here (chain_kept d.node) (up_to c d here marked solid (inl asks)) less
+  ]
+
   -- what came is a child of the node, and so comes later
   born_later : (c : ℕ) (d : Seen) → V c ≡ None → T c ≡ Some d → IsAfter d
   born_later c d none here = elim (replaced.came c none) [
@@ -186,7 +201,7 @@ module _ (was now : Work) (rest : AgendaView) (id : ℕ) (x : Chain) (turned : T
     self_asks = said_asks g e.node.shape;
     are = are_news new e.node turn.outcome inner;
     outcome = told;
-    moved = is_moved was.forest now.forest new id news e after_e gone replaced inner still refl rest now.agenda (least.mode ∙ means.agenda_mode) turn.placed.0 turn.placed.1.went turn.placed.1.came was.all_came turn.placed.1.followed comers all_came;
+    moved = is_moved was.forest now.forest new id news e after_e gone replaced inner still refl rest now.agenda (least.mode ∙ means.agenda_mode) turn.placed.0 turn.placed.1.went turn.placed.1.came turn.placed.1.nobody turn.placed.1.followed comers left;
   }
 
   abbrev Result : Type 0
@@ -258,7 +273,7 @@ module _ (was now : Work) (rest : AgendaView) (id : ℕ) (x : Chain) (turned : T
 
   due_now : ComersAreDue new.mode now.forest now.agenda
   due_now =
-      still_due was.forest now.forest new id news e after_e gone replaced inner still refl rest now.agenda (least.mode ∙ means.agenda_mode) turn.placed.0 turn.placed.1.went turn.placed.1.came was.all_came turn.placed.1.followed comers all_came
+      still_due was.forest now.forest new id news e after_e gone replaced inner still refl rest now.agenda (least.mode ∙ means.agenda_mode) turn.placed.0 turn.placed.1.went turn.placed.1.came turn.placed.1.nobody turn.placed.1.followed comers left
       born_later (λ c x there on. (taken.1.left c x there on).2)
 
   means_now : Means now edit after
@@ -272,6 +287,7 @@ module _ (was now : Work) (rest : AgendaView) (id : ℕ) (x : Chain) (turned : T
     due = to_new (λ b. ComersAreDue b.now.mode now.forest now.agenda) due_now;
     all_came = λ is. all_came (sym turn.placed.1.bounds.all_came ∙ is);
     priced = λ is. to_new (λ b. ArePriced b.now.grammar now.forest) (still_priced was.forest now.forest before g id turn.outcome e after_e gone replaced refl turn.here refl refl inner (means.priced (sym turn.placed.1.bounds.priced ∙ is)));
+    last = to_new (λ b. AskersAreUpTo b.now.mode now.last b.now.grammar now.forest) (subst (λ l. AskersAreUpTo new.mode l g now.forest) (sym turn.placed.1.bounds.last) up_to);
     silent = still_silent was.forest now.forest before g id turn.outcome e after_e gone replaced refl means.silent;
     plain = still_plain was.forest now.forest before g id turn.outcome e after_e gone replaced refl means.plain;
     gone = turn.placed.1.gone ∙ (λ i. means.gone i ++ sym went.2 i) ∙ sym (map_both told_ranked s.gone went.0);

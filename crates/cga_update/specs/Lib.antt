@@ -15,6 +15,7 @@ pub mod Near
 pub mod ChangedLots
 pub mod Roots
 pub mod Plain
+pub mod Last
 pub mod Means
 pub mod Turned
 pub mod MeansLaws

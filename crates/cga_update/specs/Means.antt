@@ -21,6 +21,7 @@ use Rattle.cga_update.specs.declared.work.Work.{Work}
 use Rattle.cga_update.specs.Both.{both}
 use Rattle.cga_update.specs.Due.{AllCame, ComersAreDue}
 use Rattle.cga_update.specs.Edit.{asks_by, content, kept_nodes, rules_of, shapes_of, the_edit}
+use Rattle.cga_update.specs.Last.{AskersAreUpTo}
 use Rattle.cga_update.specs.Log.{IsLogged}
 use Rattle.cga_update.specs.Plain.{IsPlain}
 use Rattle.cga_update.specs.Queue.{on_of}
@@ -48,6 +49,7 @@ pub record Means (w : Work) (edit : Edit (Ranked Shape) Answers Setting ShapeFau
   pub due : ComersAreDue w.renewal.new.now.mode w.forest w.agenda
   pub all_came : w.all_came ≡ true → AllCame w.forest
   pub priced : w.priced ≡ true → ArePriced w.renewal.new.now.grammar w.forest
+  pub last : AskersAreUpTo w.renewal.new.now.mode w.last w.renewal.new.now.grammar w.forest
   -- an instance doesn't ask
   pub silent : (c : ℕ) (d : Seen) → node_at w.forest c ≡ Some d → is_instance d.node.kind ≡ true → d.node.asks ≡ false
   pub plain : (c : ℕ) (d : Seen) → node_at w.forest c ≡ Some d → IsPlain d
@@ -59,7 +61,8 @@ pub record Means (w : Work) (edit : Edit (Ranked Shape) Answers Setting ShapeFau
   pub marked : w.forest.marking ≡ true
   pub logged : IsLogged (marked_at w.forest) (node_at w.forest) w.log.items
 
--- the sources and their grammars, the mode and the mark are as they were, and so is whether all nodes came and are priced
+-- the sources and their grammars, the mode and the mark are as they were, and so is whether all nodes came and are priced,
+-- and the last that asks
 pub record KeepsBounds (was now : Work) : Type 0 where
   pub old : now.renewal.old ≡ was.renewal.old
   pub new : now.renewal.new ≡ was.renewal.new
@@ -69,3 +72,4 @@ pub record KeepsBounds (was now : Work) : Type 0 where
   pub grammars : now.grammars ≡ was.grammars
   pub all_came : now.all_came ≡ was.all_came
   pub priced : now.priced ≡ was.priced
+  pub last : now.last ≡ was.last

@@ -1,5 +1,5 @@
 -- What the turn of a node does to the work.
-use Rattle.std.specs.Prelude.{◌≡◌, ◌⊎◌, ℕ, List, ◌++◌, length, Option, None, Some, IsSome, true, false, slice_get}
+use Rattle.std.specs.Prelude.{◌≡◌, ◌⊎◌, ℕ, List, ◌++◌, length, Option, None, Some, IsSome, Bool, true, false, slice_get}
 use Rattle.cga_word.specs.declared.answers.Answers.{Answers}
 use Rattle.cga_word.specs.declared.primitive.Primitive.{Primitive}
 use Rattle.cga_order.specs.World.{is_waiting}
@@ -17,6 +17,7 @@ use Rattle.cga_expand.specs.Settings.{setting_of}
 use Rattle.cga_forest.specs.declared.change.Change.{Change}
 use Rattle.cga_forest.specs.declared.node.Node.{Node}
 use Rattle.cga_forest.specs.Moved.{ListsMoved}
+use Rattle.cga_forest.specs.Node.{chain_kept}
 use Rattle.cga_forest.specs.Placing.{Outcome, children_after, emitted, kind_after, state_after}
 use Rattle.cga_forest.specs.View.{Seen}
 use Rattle.cga_forest.specs.Tree.{ForestView, IsForest, Replaces, marked_at, node_at}
@@ -24,9 +25,16 @@ use Rattle.cga_update.specs.declared.work.Work.{Work}
 use Rattle.cga_update.specs.Both.{both}
 use Rattle.cga_update.specs.Edit.{asks_by, kept_nodes, ranked, the_edit}
 use Rattle.cga_update.specs.Follow.{IsFollowed}
+use Rattle.cga_update.specs.Last.{IsPast}
 use Rattle.cga_update.specs.Log.{came_of, drawn_of, went_of}
 use Rattle.cga_update.specs.Means.{KeepsBounds}
 use Rattle.cga_update.specs.Plain.{IsPlain}
+
+-- each node came since the mark, or none of the mark that asks comes later than the node
+abbrev pub HasNobodyLeft : Work → ℕ → Type 0
+HasNobodyLeft w id =
+    (w.all_came ≡ true)
+    ⊎ ((e : Seen) → node_at w.forest id ≡ Some e → IsPast w.renewal.new.now.mode w.last (chain_kept e.node))
 
 -- the node has the outcome and these answers now, and what went and came is noted and followed
 pub record IsPlaced (was now : Work) (id : ℕ) (answers : Answers) (outcome : Outcome) (change : Change) : Type 0 where
@@ -36,7 +44,9 @@ pub record IsPlaced (was now : Work) (id : ℕ) (answers : Answers) (outcome : O
   pub unmarked : (c : ℕ) → node_at was.forest c ≡ None → IsSome (node_at now.forest c) → marked_at was.forest c ≡ None
   pub went : ListsMoved (node_at was.forest) (node_at now.forest) change.went
   pub came : ListsMoved (node_at now.forest) (node_at was.forest) change.came
-  pub followed : IsFollowed now.forest id change was.all_came was.agenda now.agenda
+  pub nobody : Bool
+  pub nobody_left : nobody ≡ true → HasNobodyLeft was id
+  pub followed : IsFollowed now.forest id change nobody was.agenda now.agenda
   pub log : now.log.items ≡ (was.log.items ++ went_of change.went) ++ came_of change.came
   pub gone : now.gone.items ≡ was.gone.items ++ drawn_of change.went
   pub come : now.come.items ≡ was.come.items ++ drawn_of change.came

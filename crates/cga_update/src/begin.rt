@@ -5,7 +5,9 @@ ghost use Rattle.cga_queue.specs.Agenda.{OneEach};
 ghost use Rattle.cga_update.specs.Queue.{chains_of};
 ghost use Rattle.cga_update.specs.Begun.{HasBegun, HasMoved, IsBetween, IsFresh, StandsMarked};
 
+use crate::asking::last_asker;
 use crate::changed::Grammars;
+use crate::last::Last;
 use crate::log::{note_came, note_went};
 use crate::queue::{add_moved, queue_changed, queue_near};
 use crate::renewal::Renewal;
@@ -82,6 +84,15 @@ fn begin<T: Ledger>(
         dependents,
     )?;
     work.priced = priced;
+    let last = last_asker(
+        alloc,
+        &work.agenda,
+        &work.forest,
+        dependents,
+        &renewal.old.grammar,
+        &mut work.symbols,
+    )?;
+    work.last = last;
     Ok(())
 }
 
@@ -105,6 +116,7 @@ pub fn begun<'a, T: Ledger>(
         agenda: Agenda::new(alloc, renewal.new.mode),
         all_came: false,
         priced: false,
+        last: Last::Unknown,
         symbols: Symbols::new(alloc, &renewal.new.grammar),
         grammars: Grammars::new(alloc, &renewal.old.grammar, &renewal.new.grammar),
         log: Vec::new(alloc),

@@ -32,21 +32,22 @@ fn add_met<T: Ledger>(
 }
 
 /// Puts on the agenda what came, and who of the mark asks near what went or came and comes later than the node whose
-/// children were replaced. What came since the mark and comes later is on it anyway. Takes memory.
+/// children were replaced, unless it is known that nobody does. What came since the mark and comes later is on it anyway.
+/// Takes memory.
 pub fn follow<T: Ledger>(
     agenda: &mut Agenda,
     forest: &Forest,
     of: NodeId,
     change: &Change,
-    all_came: bool,
+    nobody: bool,
     tests: &mut Tests<T>,
 ) -> Result<(), NoMemory>
     requires one { OneEach (chains_of forest.now) }
-    ensures { OnOk result (IsFollowed forest.now of change.now all_came agenda.old agenda.new) }
+    ensures { OnOk result (IsFollowed forest.now of change.now nobody agenda.old agenda.new) }
 {
     let came = change.came.as_slice();
     add_moved(agenda, forest, came)?;
-    if all_came {
+    if nobody {
         return Ok(());
     }
     add_met(agenda, forest, of, change.went.as_slice(), came, tests)

@@ -12,7 +12,7 @@ ghost use Rattle.cga_check.specs.Said.{asks_any, said};
 ghost use Rattle.cga_update.specs.Changed.{AreFacts};
 ghost use Rattle.cga_update.specs.Means.{KeepsBounds, Means};
 ghost use Rattle.cga_update.specs.Plain.{IsPlain};
-ghost use Rattle.cga_update.specs.Turned.{HasPlaced, IsAgain, IsTurned, MayTurn};
+ghost use Rattle.cga_update.specs.Turned.{HasNobodyLeft, HasPlaced, IsAgain, IsTurned, MayTurn};
 
 use crate::again::outcome_again;
 use crate::asked::asked;
@@ -38,6 +38,14 @@ const NOT_EXPANDED: Turned = Turned {
     expanded: false,
 };
 
+/// Whether each node came since the mark, or none of the mark asks later than this one.
+fn has_nobody_left(work: &Work, id: NodeId) -> bool
+    requires here { IsSome (node_at work.now.forest id) }
+    ensures { result ≡ true → HasNobodyLeft work.now id }
+{
+    work.all_came || work.last.is_past(work.renewal.new.mode, &work.forest, id)
+}
+
 /// Gives a node its outcome, notes what went and came, and follows it on the agenda. Takes memory.
 fn place<T: Ledger>(
     work: &mut Work,
@@ -50,19 +58,13 @@ fn place<T: Ledger>(
     ensures placed { OnOk result (HasPlaced work.entry.now work.exit.now id answers outcome.now) }
     ensures bounds { KeepsBounds work.entry.now work.exit.now }
 {
+    let nobody = has_nobody_left(work, id);
     let symbols = &mut work.symbols;
     let change = work.forest.replace_children(id, answers, outcome, symbols)?;
     work.forest.laws();
     note_went(change.went.as_slice(), &mut work.log, &mut work.gone)?;
     note_came(change.came.as_slice(), &mut work.log, &mut work.come)?;
-    follow(
-        &mut work.agenda,
-        &work.forest,
-        id,
-        &change,
-        work.all_came,
-        tests,
-    )
+    follow(&mut work.agenda, &work.forest, id, &change, nobody, tests)
 }
 
 /// The symbol of the node of an id.

@@ -1,4 +1,5 @@
 use crate::changed::Grammars;
+use crate::last::Last;
 use crate::log::Pairing;
 use crate::renewal::Renewal;
 use cga_check::Symbols;
@@ -18,6 +19,8 @@ pub struct Work<'a> {
     pub(crate) all_came: bool,
     /// Whether each node has the priority that its symbol has today: then one that is asked as before is done.
     pub(crate) priced: bool,
+    /// When the last node of the mark is looked at that asks: then nobody has to be looked for behind it.
+    pub(crate) last: Last,
     /// The new grammar, with what was read of it.
     pub(crate) symbols: Symbols<'a>,
     pub(crate) grammars: Grammars<'a>,

@@ -1,4 +1,5 @@
 use Rattle.std.proofs.Common.{◌∙◌, refl, sym, subst, List, ℕ}
+use Rattle.cga_rule.specs.declared.grammar.Grammar.{Grammar}
 use Rattle.cga_forest.specs.declared.moved.Moved.{Moved}
 use Rattle.cga_forest.specs.Moved.{ListsMoved}
 use Rattle.cga_forest.specs.Tree.{marked_at, node_at}
@@ -6,12 +7,14 @@ use Rattle.cga_update.specs.declared.log.Pairing.{Pairing}
 use Rattle.cga_depend.specs.Pairs.{nodes_in}
 use Rattle.cga_update.specs.Begun.{HasMoved, IsFirst}
 use Rattle.cga_update.specs.Both.{BothGrammars}
+use Rattle.cga_update.specs.Last.{AskersAreUpTo, IsTold}
 use Rattle.cga_update.specs.Log.{IsLogged}
 use Rattle.cga_update.specs.Near.{IsAny, IsChangedFor, IsPricedFor, KeepsPriorities}
 use Rattle.cga_update.specs.Roots.{HasLost}
 use Rattle.cga_update.proofs.Adding.{none_came}
 use Rattle.cga_update.proofs.Beginning as proof
 use Rattle.cga_update.proofs.DueNodes.{one_each}
+use Rattle.cga_update.proofs.Lasting.{first_up_to}
 use Rattle.cga_update.proofs.Logged.{drawn_from, log_from}
 use Rattle.cga_update.proofs.Nearby.{moved_kept}
 use Rattle.cga_update.proofs.Rooting.{IsRooted, still, wanted_after}
@@ -65,6 +68,7 @@ returns-clause-begun g c =
     (subst (λ (list : List Moved). HasMoved v list came c.queue_rooted.new.agenda) c.as_slice-went_nodes.ensures.value
     (subst (λ (list : List Moved). HasMoved v c.as_slice-went_nodes.result.now list c.queue_rooted.new.agenda) c.as_slice-came_nodes.ensures.value c.in_ok-queue_rooted.ensures.moved)) in
     let grammars = c.requires.fresh.grammars in
+    let known = c.add_roots.ensures.symbols ∙ (c.remove_roots.ensures.symbols ∙ c.requires.fresh.symbols) in
     let agenda : IsFirst old new v d went came a = record {
       moved = moved;
       changed = subst (λ (g : BothGrammars). (symbol : List ℕ) → IsChangedFor v g.before g.after (nodes_in d symbol) symbol a) grammars c.in_ok-priced.ensures.there;
@@ -95,12 +99,14 @@ returns-clause-begun g c =
         due = first_due start new.mode;
         all_came = λ is k x there. r.marked k ∙ all_came (node_at first) before v keeps (is_zero c.count.result _ c.count.ensures is) k x there;
         priced = λ is. proof.priced_now start (subst (λ (g : BothGrammars). KeepsPriorities g.before g.after d) grammars (c.in_ok-priced.ensures.priced is));
+        last = subst (λ mode. AskersAreUpTo mode c.in_ok-last.last new.grammar v) (c.in_ok-priced.ensures.grows.mode ∙ c.in_ok-queue_rooted.ensures.mode ∙ c.requires.fresh.mode)
+            (first_up_to start a.mode c.in_ok-last.last (subst (λ (g : Grammar). IsTold a.mode v d old.grammar g c.in_ok-last.last) known c.in_ok-last.ensures.told));
         silent = proof.silent_now start;
         plain = proof.plain_now start;
         gone = drawn_from c.note_went.new.gone.items c.args.work.now.gone.items c.as_slice-went_nodes.result.now went c.in_ok-note_went.ensures.gone c.requires.fresh.gone c.as_slice-went_nodes.ensures.value ∙ sym lost_list.2;
         come = drawn_from c.note_came.new.come.items c.args.work.now.come.items c.as_slice-came_nodes.result.now came c.in_ok-note_came.ensures.come c.requires.fresh.come c.as_slice-came_nodes.ensures.value
             ∙ proof.came_drawn start;
-        symbols = c.add_roots.ensures.symbols ∙ (c.remove_roots.ensures.symbols ∙ c.requires.fresh.symbols);
+        symbols = c.last_asker.ensures.symbols ∙ known;
         grammars = c.queue_changed.ensures.grammars ∙ grammars;
         marked = r.marking;
         logged = subst (λ (log : List Pairing). IsLogged (marked_at v) (node_at v) log)
