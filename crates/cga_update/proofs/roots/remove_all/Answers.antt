@@ -1,4 +1,6 @@
-use Rattle.std.proofs.Common.{◌∙◌, sym}
+use Rattle.std.proofs.Common.{◌∙◌, List, length, sym, subst}
+use Rattle.cga_shape.specs.declared.lot.Lot.{Lot}
+use Rattle.cga_update.specs.Roots.{AreByName}
 use Rattle.cga_update.proofs.InLoops.{item_at}
 use Rattle.cga_update.proofs.Lots.{found_by_name}
 use Rattle.cga_update.proofs.Rooting.{loses_more, wanted_more, all_wanted}
@@ -17,7 +19,9 @@ loop-lot-preserved c =
     }
 
 pub clear_root-requires-clause-lot : goal.clear_root-requires-clause-lot
-clear_root-requires-clause-lot c = found_by_name c.args.renewal.new.now.lots c.in_ok-lots.lots.entries c.in_ok-lots.ensures c.lot-item.result.name _ (sym c.get-again.ensures.value)
+clear_root-requires-clause-lot c =
+    let by_name = subst (λ (lots : List Lot). AreByName lots (length lots) c.in_ok-lots.lots.entries) c.as_slice.ensures c.in_ok-lots.ensures in
+    found_by_name c.args.renewal.new.now.lots c.in_ok-lots.lots.entries by_name c.lot-item.result.name _ (sym c.get-again.ensures.value)
 
 pub returns-clause-wanted : goal.returns-clause-wanted
 returns-clause-wanted c = all_wanted c.args.renewal.old.now c.args.renewal.new.now _ c.args.forest.now c.loop-lot.forest c.loop-lot.lot-index c.as_slice-lot-items.ensures c.loop-lot-test.false c.requires.wanted c.loop-lot.invariant.loses c.loop-lot.invariant.wanted
