@@ -27,7 +27,7 @@ use Rattle.cga_update.specs.declared.last.Last.{Last}
 use Rattle.cga_update.specs.declared.last.Last.TheVariants.{At}
 use Rattle.cga_update.specs.Last.{IsBound, IsPast, IsTold, IsUpTo, asks_in, chain_at, is_after, is_next}
 use Rattle.cga_update.specs.Queue.{chains_of}
-use Rattle.cga_update.proofs.Members.{among_at}
+use Rattle.cga_order.proofs.Door.{Among-index as among_at}
 
 -- no node of the mark asks and is one of these
 abbrev pub NobodyLeft : ForestView → (Seen → Type 0) → Type 0

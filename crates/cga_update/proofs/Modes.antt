@@ -14,6 +14,7 @@ use Rattle.cga_expand.specs.Children.{Member}
 use Rattle.cga_shape.specs.declared.lot.Lot.{Lot}
 use Rattle.cga_expand.specs.Derivation.{derivation_of, NamesDiffer}
 use Rattle.cga_expand.specs.Touched.{Touched}
+use Rattle.cga_expand.specs.Validity.{RootsExist}
 use Rattle.cga_update.specs.Updates.{told, instances, CountsTouched, IsChange, IsExact, with_no_lots}
 
 -- no lots derive to nothing, in no step
@@ -29,6 +30,16 @@ never_over sources nothing is h =
 
 no_names : (sources : Sources) → NamesDiffer (with_no_lots sources).lots
 no_names sources i j a b p q same = none_some {X = Lot} a p
+
+no_roots : (sources : Sources) → RootsExist (with_no_lots sources).lots
+no_roots sources k d within = absurd (omega (arith, within))
+
+-- sources that are others without lots
+pub names_of_none : (sources nothing : Sources) → nothing ≡ with_no_lots sources → NamesDiffer nothing.lots
+names_of_none sources nothing is = subst (λ (x : Sources). NamesDiffer x.lots) (sym is) (no_names sources)
+
+pub roots_of_none : (sources nothing : Sources) → nothing ≡ with_no_lots sources → RootsExist nothing.lots
+roots_of_none sources nothing is = subst (λ (x : Sources). RootsExist x.lots) (sym is) (no_roots sources)
 
 no_lots_end : (sources : Sources) → IsDerived (derivation_of (with_no_lots sources)) []
 unfolding reached

@@ -3,9 +3,17 @@ use Rattle.cga_shape.specs.declared.drawn.Drawn.{Drawn}
 use Rattle.cga_update.specs.declared.kept.Kept.{Kept}
 use Rattle.cga_shape.specs.declared.sources.Sources.{Sources}
 use Rattle.cga_update.specs.Updates.{IsExact, IsUpdate}
-use Rattle.cga_update.proofs.Modes.{changes_mode}
+use Rattle.cga_update.proofs.Modes.{changes_mode, names_of_none}
 use Rattle.cga_update.proofs.Results.{done, given_up, refused_anew}
 use Rattle.cga_update.proofs.updating.exchange.Goals as goal
+
+pub invariant_of-from_nothing : goal.invariant_of-from_nothing
+invariant_of-from_nothing g c = record {
+  old_names = names_of_none c.args.renewal.new.now c.args.anew.now.nothing c.requires.anew.nothing;
+  names = c.args.renewal.names;
+  roots = c.args.renewal.roots;
+  told = tt;
+}
 
 pub returns-in_err-touched : goal.returns-in_err-touched
 returns-in_err-touched g c =
