@@ -1,5 +1,5 @@
 //! Edits of sources.
-ghost use Rattle.cga_city.specs.Apply.{ruled, with_checked, with_grammar};
+ghost use Rattle.cga_city.specs.Apply.{ruled, with_accepted, with_checked, with_grammar};
 ghost use Rattle.cga_city.specs.City.{ChangeGives, Changes};
 
 use crate::grammars::{
@@ -160,25 +160,28 @@ fn set_order(alloc: Global, sources: &Sources, mode: Mode) -> Result<Sources, Ed
     Ok(new)
 }
 
-fn whole(alloc: Global, sources: &Sources, other: Sources) -> Result<Sources, EditRefused>
-    ensures { ChangeGives sources.now (Edit.Whole other) result }
+// The sources with another grammar, which was checked, if each lot is accepted.
+fn with_accepted(sources: &Sources, grammar: Grammar) -> Result<Sources, EditRefused>
+    ensures { Changes (with_accepted sources.now grammar) result }
 {
-    let Sources {
-        grammar,
-        lots,
-        mode,
-    } = other;
-    checked(&grammar)?;
-    if lots.len() > MOST_LOTS {
-        return Err(EditRefused::TooManyLots);
-    }
-    let grammar = ranked(alloc, &grammar)?;
-    accepted(&grammar, lots.as_slice())?;
+    accepted(&grammar, sources.lots.as_slice())?;
+    let lots = sources.lots.share()?;
     Ok(Sources {
         grammar,
         lots,
-        mode,
+        mode: sources.mode,
     })
+}
+
+fn whole(alloc: Global, sources: &Sources, other: Sources) -> Result<Sources, EditRefused>
+    ensures { ChangeGives sources.now (Edit.Whole other) result }
+{
+    checked(&other.grammar)?;
+    if other.lots.len() > MOST_LOTS {
+        return Err(EditRefused::TooManyLots);
+    }
+    let grammar = ranked(alloc, &other.grammar)?;
+    with_accepted(&other, grammar)
 }
 
 /// The new sources, or the first refusal but for the budget. Refusals come before any copy is made, but for those of a
