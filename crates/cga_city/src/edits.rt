@@ -1,5 +1,5 @@
 //! Sources as edits change them.
-ghost use Rattle.cga_city.specs.Apply.{ruled, with_checked, with_grammar};
+ghost use Rattle.cga_city.specs.Apply.{ruled, with_accepted, with_checked, with_grammar};
 ghost use Rattle.cga_city.specs.City.{ChangeGives, Changes};
 ghost use Rattle.cga_city.specs.Lots.{lot_place};
 ghost use Rattle.std.specs.Prelude.{◌≡◌};
@@ -189,6 +189,19 @@ pub(crate) fn set_order(
     Ok(new)
 }
 
+// The sources with another grammar, which was checked, if each lot is accepted.
+fn with_accepted(sources: &Sources, grammar: Grammar) -> Result<Sources, EditRefused>
+    ensures { Changes (with_accepted sources.now grammar) result }
+{
+    accepted(&grammar, sources.lots.as_slice())?;
+    let lots = sources.lots.share()?;
+    Ok(Sources {
+        grammar,
+        lots,
+        mode: sources.mode,
+    })
+}
+
 pub(crate) fn whole(
     alloc: Global,
     sources: &Sources,
@@ -196,20 +209,10 @@ pub(crate) fn whole(
 ) -> Result<Sources, EditRefused>
     ensures { ChangeGives sources.now (Edit.Whole other) result }
 {
-    let Sources {
-        grammar,
-        lots,
-        mode,
-    } = other;
-    checked(&grammar)?;
-    if lots.len() > MOST_LOTS {
+    checked(&other.grammar)?;
+    if other.lots.len() > MOST_LOTS {
         return Err(EditRefused::TooManyLots);
     }
-    let grammar = ranked(alloc, &grammar)?;
-    accepted(&grammar, lots.as_slice())?;
-    Ok(Sources {
-        grammar,
-        lots,
-        mode,
-    })
+    let grammar = ranked(alloc, &other.grammar)?;
+    with_accepted(&other, grammar)
 }
