@@ -13,12 +13,23 @@ def write(path, data):
         return False
     new = path.with_name(f"{path.name}.{os.getpid()}.new")
     try:
-        new.write_bytes(data)
-        new.replace(path)
+        with naming(path):
+            new.write_bytes(data)
+            new.replace(path)
     finally:
         if new.exists():
             new.unlink()
     return True
+
+
+@contextmanager
+def naming(path):
+    """Where a disk is full, the system doesn't say for which file."""
+    try:
+        yield
+    except OSError as fault:
+        fault.filename = fault.filename or str(path)
+        raise
 
 
 @contextmanager

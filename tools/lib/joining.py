@@ -5,9 +5,10 @@ import sys
 from collections import deque, namedtuple
 from contextlib import contextmanager
 from functools import partial
+from itertools import groupby
 
 from .call import Refused
-from .files import write
+from .files import naming, write
 from .printed import OBJ, Printed, reading
 from .progress import counted
 from .towns import moved, objects
@@ -90,18 +91,12 @@ def pieces(found, number):
 
 def write_piece(given):
     path, found = given
-    opened, last = None, None
-    with path.open("wb") as piece:
-        for span in found:
-            if span.path != last:
-                if opened:
-                    opened.close()
-                opened, last = span.path.open("rb"), span.path
-            opened.seek(span.begin)
-            with reading(span.path):
-                piece.write(moved(opened.read(span.end - span.begin), span.by))
-    if opened:
-        opened.close()
+    with naming(path), path.open("wb") as piece:
+        for source, spans_of in groupby(found, lambda span: span.path):
+            with source.open("rb") as opened, reading(source):
+                for span in spans_of:
+                    opened.seek(span.begin)
+                    piece.write(moved(opened.read(span.end - span.begin), span.by))
     return path
 
 
@@ -111,7 +106,7 @@ def join_text(folder, plan, pool, number, text, path):
     runs = pieces(spans(folder, plan, pool, text), PIECES * number)
     given = [(folder / f"{path.name}.{at}.piece", run) for at, run in enumerate(runs)]
     try:
-        with part.open("wb") as file:
+        with naming(path), part.open("wb") as file:
             file.write(OBJ)
             for piece in counted(pool(write_piece, given), "pieces joined", len(given)):
                 with piece.open("rb") as read:

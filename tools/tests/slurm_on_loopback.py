@@ -1,6 +1,7 @@
 #!/usr/bin/env python3
 """A region by a real Slurm of two nodes on this machine: a task that is killed, one that runs out of memory, and a node that
-goes down; in the end the region is what one run prints. It says so and ends well where Slurm isn't installed.
+goes down; in the end the region is what one run prints. Then two edits by make. It says so and ends well where Slurm isn't
+installed.
 
 usage: tools/tests/slurm_on_loopback.py [--program PATH]      as root, after `apt-get install slurm-wlm munge`
 
@@ -8,6 +9,7 @@ It takes a minute or two where nothing else runs. PATH is that of crates/cga_hul
 """
 import argparse
 import os
+import shlex
 import shutil
 import signal
 import socket
@@ -152,8 +154,11 @@ class Region:
         self.top, self.folder, self.program, self.lines = top, top / "a region", program, lines
         (top / "program").write_text(PROGRAM.format(program))
         (top / "program").chmod(0o755)
-        (top / "region.cga").write_text("\n".join(self.lines) + "\n")
-        print(self.call("cut", top / "region.cga", self.folder, "--lots", "1", "--program", top / "program"), end="")
+        self.cut()
+
+    def cut(self):
+        (self.top / "region.cga").write_text("\n".join(self.lines) + "\n")
+        print(self.call("cut", self.top / "region.cga", self.folder, "--lots", "1", "--program", self.top / "program"), end="")
 
     def call(self, word, *words):
         return subprocess.run([TOP / "tools" / "districts", word, *words], stdout=subprocess.PIPE, stderr=subprocess.STDOUT, text=True).stdout
@@ -165,6 +170,11 @@ class Region:
         done = subprocess.run(["sh", self.folder / "slurm", *words], stdout=subprocess.PIPE, text=True, env={**os.environ, **environment}, check=True)
         print(done.stdout, end="")
         return done.stdout
+
+    def is_joined(self):
+        """Whether all jobs were run, and what is joined is what one run prints."""
+        town = (self.folder / "town.obj").read_text().split("\n")[:-1]
+        return self.todo() == [] and town == whole(self.program, self.lines)[0]
 
     def job_of(self, lot):
         return next(path.stem for path in (self.folder / "jobs").glob("*.cga") if f"lot {lot} " in path.read_text())
@@ -212,6 +222,17 @@ def node_down(region, cluster):
     cluster.node_up(node)
 
 
+def by_make(region):
+    """Each job is a step of Slurm, and then make itself is a job. Each time one lot is another."""
+    make = ["make", "-s", "-j", "2", "-C", region.folder, "town.obj"]
+    in_job = ["sbatch", "--wait", "-c", "2", "--output=/dev/null", "--wrap", shlex.join(map(str, make))]
+    for lot, words, told in (("l1", [*make, "RUN=srun -Q -n 1 --mem=600M"], "make whose jobs are steps"), ("l2", in_job, "a job that is make")):
+        region.lines = [line.replace(f"lot {lot} 1 ", f"lot {lot} 2 ") for line in region.lines]
+        region.cut()
+        done = subprocess.run(words, stdout=subprocess.PIPE, stderr=subprocess.STDOUT, text=True)
+        expect(done.returncode == 0 and region.is_joined(), f"what {told} joins is what one run prints: {done.stdout}")
+
+
 def expect(is_so, what):
     if not is_so:
         raise SystemExit(f"failed: {what}")
@@ -236,9 +257,8 @@ def main():
             if region.todo() or not (region.folder / "town.obj").exists():
                 region.submit("--mem=600M", THEN="join")
                 wait(ended, "the queue to be empty", 900)
-            expect(region.todo() == [], "all jobs were run")
-            town = (region.folder / "town.obj").read_text().split("\n")[:-1]
-            expect(town == whole(region.program, region.lines)[0], "what is joined is what one run prints")
+            expect(region.is_joined(), "what is joined is what one run prints")
+            by_make(region)
         except SystemExit:
             print(said("squeue", "-a"), said("sinfo", "-N"), sep="\n")
             for path in [*region.folder.glob("slurm*.log"), *cluster.folder.glob("*.log")]:

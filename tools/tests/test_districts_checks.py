@@ -1,5 +1,6 @@
 """What a check refuses, what it puts together, and how rounds come to their end."""
 import os
+import resource
 import unittest
 
 from regions import RULES, STAND_IN, RegionTest, asking, chances
@@ -101,6 +102,25 @@ class Checks(RegionTest):
         for name in ("town.obj.part", "town.obj.3.piece", "plan.json.17.new", f"jobs/{self.jobs()[0].name}.17.new", "tiles/tileset.json.17.new"):
             (self.folder / name).write_text("half")
         self.assertEqual(self.call("tidy", self.folder)[1], f"{self.folder}: 5 files taken away\n")
+
+    def limited(self, *words):
+        """A call that can't write more than 100 bytes to a file."""
+        kept = resource.getrlimit(resource.RLIMIT_FSIZE)
+        resource.setrlimit(resource.RLIMIT_FSIZE, (100, kept[1]))
+        try:
+            return self.call(*words)
+        finally:
+            resource.setrlimit(resource.RLIMIT_FSIZE, kept)
+
+    def test_a_file_that_has_no_room_is_named(self):
+        self.write(REGION)
+        self.assert_refused(self.limited("cut", self.script, self.folder, "--lots", "1", "--program", STAND_IN), ".cga: File too large")
+        self.cut(REGION, 1)
+        self.run_jobs()
+        for word, named in (("join", "town.obj.0.piece"), ("tiles", ".glb")):
+            status, _, told = self.limited(word, self.folder, "--workers", "1")
+            self.assertEqual((status, told.endswith(f"{named}: File too large\n")), (1, True), told)
+        self.assertEqual([path.name for path in self.folder.rglob("*.*") if "town" in path.name or path.suffix in (".new", ".glb")], [])
 
     def test_a_refused_lot_is_named(self):
         self.cut([*REGION, "lot thin 1 50 0 0 4 wall"], 4096)

@@ -5,3 +5,5 @@ mod Made
 mod Bounds
 mod Lists
 mod Unique
+mod Parts
+pub mod Door

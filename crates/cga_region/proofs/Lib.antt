@@ -1,3 +1,4 @@
 mod Lots
+mod Bills
 mod Parts
 mod Jobs

@@ -21,6 +21,7 @@ use Rattle.cga_district.proofs.Door.{differ_left, differ_right, hulls_tell_apart
 use Rattle.cga_district.specs.Parts.{AllMeetNone, AreDerived, joined}
 use Rattle.cga_district.specs.Towns.{NoneAsks, with_lots}
 use Rattle.cga_region.specs.Parts.{AllTellAlike, AreSums, HullsAreApart, RegionIsItsParts, total_by}
+use Rattle.cga_region.proofs.Bills.{bills_are_sums}
 use Rattle.cga_region.proofs.Lots.{places_differ, tell_alike}
 use Rattle.cga_order.proofs.Door.{Among-left, Among-right}
 
@@ -105,9 +106,11 @@ far_by sources parts differ lists derived (inr (hull, held, far)) = inr (hulls_t
 pub region_is_its_parts : RegionIsItsParts
 region_is_its_parts sources differ parts all lists derived far =
     let w = parts_are_apart sources differ parts all lists derived (far_by sources parts all.differ lists derived far) in
-    let apart = places_differ sources differ w.0 w.1 in (
+    let apart = places_differ sources differ w.0 w.1 in
+    let tell = each_tells sources w.0 apart parts all.differ lists derived (λ s k x h g e. (w.2 s k).1 h) (λ s k h. (w.2 s k).0 h) in (
       w.0,
       w.1,
-      each_tells sources w.0 apart parts all.differ lists derived (λ s k x h g e. (w.2 s k).1 h) (λ s k h. (w.2 s k).0 h),
+      tell,
       sums lists w.0 (once_joined sources parts all.differ lists derived) (once_of w.0 apart) w.2,
+      bills_are_sums sources differ parts all lists w.0 tell,
     )

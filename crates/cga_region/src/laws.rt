@@ -12,7 +12,7 @@ pub fn lots_are_their_districts()
 {}
 
 /// For any number of parts, of which no rule asks or the told boxes don't touch: the instances and the faults of each lot
-/// are those of its part, and counts are sums.
+/// are those of its part, and counts and bills are sums.
 pub fn region_is_its_parts()
     ensures { RegionIsItsParts }
 {}
