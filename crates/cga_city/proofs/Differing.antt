@@ -22,7 +22,7 @@ use Rattle.cga_city.specs.Edited.{lots_of, priced}
 use Rattle.cga_city.specs.Grammars.{attribute_place, has_rule, is_plain, prioritized, with_priority}
 use Rattle.cga_city.specs.Lots.{finds_no_room, has_symbol, is_bad, lot_place, with_lot}
 use Rattle.cga_city.proofs.Places.{Kept, all_kept, kept_less, kept_more, kept_set, less_kept, more_kept, set_kept}
-use Rattle.cga_city.proofs.Plain.{err_if_ok, map_or_ok}
+use Rattle.cga_fraction.proofs.Door.{err_if-ok as err_if_ok, option_map_or-ok as map_or_ok}
 use Rattle.cga_city.proofs.Valued.{same_rule}
 
 -- ---- priorities
