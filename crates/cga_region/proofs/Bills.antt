@@ -1,5 +1,5 @@
 -- The bill of a region in any number of parts: what is drawn, each as often.
-use Rattle.std.proofs.Common.{◌≡◌, ℕ, List, [], ◌∷◌, ◌++◌, inl, inr, refl, sym, ap, ◌∙◌, arith, Bool}
+use Rattle.std.proofs.Common.{◌≡◌, ℕ, ◌+◌, List, [], ◌∷◌, ◌++◌, inl, inr, refl, sym, ap, ◌∙◌, arith, Bool}
 use Rattle.std.specs.Prelude.{count_by, flat_map, sum_by}
 use Rattle.std.proofs.lemmas.Grind.{flat_map-append}
 use Rattle.std.proofs.lemmas.List.{append-nil, map-append}
@@ -68,6 +68,7 @@ module _ (test : Drawn → Bool) (list : List Member) where
   of_lot lot = count_by test (drawn_in (lot.name ∷ []) list)
 
   count_lots : (lots : List Lot) → count_by test (drawn_in (names_of lots) list) ≡ sum_by of_lot lots
+  unfolding of_lot
   count_lots [] = ap (count_by test) (nothing list)
   count_lots (lot ∷ lots) =
       let one : List Drawn = drawn_in (lot.name ∷ []) list in
