@@ -36,5 +36,5 @@ returns-clause-wanted c =
     ap (λ (lots : List Lot). lot_at lots c.args.gone) (sym c.as_slice.ensures) ∙ (sym c.lot_at.ensures ∙ ap option_copied c.in-Some.is) in
     still_wanted old new c.args.gone c.args.come c.requires.differ c.args.forest.now c.clear_root.new.forest c.requires.wanted c.in_ok-clear_root.ensures.loses
     (λ was is k d w.
-        let same : c.in-Some.lot.now ≡ was = some_same c.in-Some.lot.now was (sym at ∙ is) in
-        c.in_ok-clear_root.ensures.wanted k d (w.0, w.1, w.2 ∙ ap (λ (l : Lot). l.name) (sym same)))
+    let same : c.in-Some.lot.now ≡ was = some_same c.in-Some.lot.now was (sym at ∙ is) in
+    c.in_ok-clear_root.ensures.wanted k d (w.0, w.1, w.2 ∙ ap (λ (l : Lot). l.name) (sym same)))
