@@ -23,7 +23,8 @@ use Rattle.cga_city.specs.Reports.{is_faulted, instance_count, fault_count}
 use Rattle.cga_city.specs.Tally.{none, tallied, with_seen}
 use Rattle.cga_city.specs.declared.tally.Tally.{Tally}
 use Rattle.cga_city.proofs.Sorting.{Rises, all_at}
-use Rattle.cga_city.proofs.Nodes.{among_to, among_from, among_both, among_has, has_among, root_own, nodes_below, nodes_rise, Below, nodes_from, before_strict}
+use Rattle.cga_city.proofs.LotNodes.{among_to, among_from, among_both, root_own, nodes_below, nodes_rise, Below, nodes_from, before_strict}
+use Rattle.cga_city.proofs.Nodes.{among_has, has_among}
 use Rattle.cga_fraction.proofs.Door.{slice_get_from_Contains as found_at}
 
 -- ---- one root a lot

@@ -11,7 +11,8 @@ pub use Rattle.cga_city.proofs.Kept.{empty_sound}
 -- The names of lots: they stay apart as lots come and go
 pub use Rattle.cga_city.proofs.Names.{names_differ}
 -- The nodes of a lot in the order of their paths, and a list of members that has them
-pub use Rattle.cga_city.proofs.Nodes.{among_has, before_strict, filter_from, filter_to, has_among, is_of, lot_differs}
+pub use Rattle.cga_city.proofs.LotNodes.{before_strict}
+pub use Rattle.cga_city.proofs.Nodes.{among_has, filter_from, filter_to, has_among, is_of, lot_differs}
 -- Lists that rise by an order: a list of the same elements in order is that list
 pub use Rattle.cga_city.proofs.Sorting.{sorted_from, sorted_is, sorted_rises, sorted_to}
 -- The sources of a city are valid

@@ -29,7 +29,8 @@ use Rattle.cga_city.specs.Hulls.{IsHullOf}
 use Rattle.cga_city.specs.Inside.{AreSound}
 use Rattle.cga_city.specs.Lots.{is_bad}
 use Rattle.cga_city.specs.Nodes.{AreOfLot, HasNodes, from_root, member_of}
-use Rattle.cga_city.proofs.Nodes.{among_from, among_has, has_among, lot_listed, lot_to}
+use Rattle.cga_city.proofs.LotNodes.{among_from, lot_listed, lot_to}
+use Rattle.cga_city.proofs.Nodes.{among_has, has_among}
 use Rattle.cga_city.proofs.Plain.{good_root}
 use Rattle.cga_expand.proofs.Door.{among_behind_made as behind, root_among}
 

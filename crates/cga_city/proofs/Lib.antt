@@ -15,12 +15,14 @@ mod Deriving
 mod Standing
 mod Keeping
 mod Drawable
+mod LotNodes
 mod Nodes
 mod Tallies
 mod Counting
 mod Kept
 mod Tracing
 mod Warming
+mod InLots
 mod Accounts
 mod Reordered
 mod Hulls

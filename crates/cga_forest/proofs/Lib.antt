@@ -10,6 +10,7 @@ mod Replace
 mod Places
 mod Right
 mod Marks
+mod GoesBelow
 mod Goes
 mod Assemble
 mod Through

@@ -18,7 +18,8 @@ use Rattle.cga_forest.specs.Gathered.{found, going, coming, coming_at, listed, c
 use Rattle.cga_forest.specs.Tree.{goes, stay_of, stay_child}
 use Rattle.cga_forest.proofs.Right.{present_some, kids_present}
 use Rattle.cga_forest.proofs.Place.{stay_some}
-use Rattle.cga_forest.proofs.Goes.{goes_find, goes_here, under_deep, stay_seen, get_within}
+use Rattle.cga_forest.proofs.GoesBelow.{goes_find, goes_here, under_deep, stay_seen}
+use Rattle.cga_forest.proofs.Goes.{get_within}
 use Rattle.cga_forest.proofs.Replace.{IsTree-replaced}
 use Rattle.cga_forest.proofs.Listed.{found_in, found_has, found_once, opt_cases}
 use Rattle.cga_forest.proofs.Moves.{going_find, going_has, going_once}

@@ -12,8 +12,10 @@ use Rattle.cga_syntax.specs.Brackets.{counted, bracket_of, opens}
 use Rattle.cga_form.specs.Reader.{Reader, ◌>>=◌, pure, refuse, single, enter, drawn_word, peeked, begins, many_from, many_after, many, Input}
 use Rattle.std.proofs.lemmas.Bool.Decides.{nat_tests}
 pub use Rattle.cga_form.specs.Laws.{After, Goes, Reads}
-use Rattle.cga_form.proofs.Runs.{Language, Some_text, Seq, Each, Grown, weaker, pure_runs, refuse_runs, bind_runs}
-use Rattle.cga_form.proofs.Runs.{single_runs, enter_runs, drawn_runs, peeked_runs, closed_runs, many_runs, Limited}
+use Rattle.cga_form.proofs.Taking.{Seq, weaker, pure_runs, refuse_runs, bind_runs}
+use Rattle.cga_form.proofs.Runs.{Language, Some_text, Each, Grown}
+use Rattle.cga_form.proofs.Taking.{drawn_runs, closed_runs}
+use Rattle.cga_form.proofs.Runs.{single_runs, enter_runs, peeked_runs, many_runs, Limited}
 use Rattle.cga_form.proofs.Runs.{limited_runs, unroll, shortens}
 use Rattle.cga_form.proofs.Written.{nothing, token_first, join, one, Of, each_writes}
 use Rattle.std.proofs.Common.{append-nil as nil_right}

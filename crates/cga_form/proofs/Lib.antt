@@ -1,6 +1,8 @@
+mod Taking
 mod Runs
 mod Written
 mod Forms
+mod Beginnings
 mod Again
 mod Singles
 mod Complete

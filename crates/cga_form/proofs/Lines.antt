@@ -14,7 +14,8 @@ use Rattle.cga_form.specs.Parts.{any, finish}
 use Rattle.cga_form.proofs.Forms.{Reads, next, done, either, refusing}
 use Rattle.cga_form.specs.Laws.{IsForm}
 use Rattle.cga_form.proofs.Written.{nothing, nil_right}
-use Rattle.cga_form.proofs.Again.{Again, ends, after, plainly, misses_end, peek_no}
+use Rattle.cga_form.proofs.Beginnings.{misses_end}
+use Rattle.cga_form.proofs.Again.{Again, ends, after, plainly, peek_no}
 use Rattle.cga_form.proofs.Complete.{Judges, judged, unique}
 
 abbrev nowhere : Unit {0} → Pieces

@@ -7,7 +7,8 @@ use Rattle.cga_form.specs.Tokens.{a_name, a_whole}
 use Rattle.cga_form.specs.Parts.{a_word, name, whole_between, value, pair}
 use Rattle.cga_form.specs.Laws.{IsForm, Leads, nothing}
 use Rattle.cga_form.proofs.Forms.{next, done, one_token}
-use Rattle.cga_form.proofs.Again.{Begun, missed, misses_end, ends, took_last, by_name, whole_leads, after, plainly}
+use Rattle.cga_form.proofs.Beginnings.{Begun, missed, misses_end}
+use Rattle.cga_form.proofs.Again.{ends, took_last, by_name, whole_leads, after, plainly}
 use Rattle.cga_form.proofs.Singles.{name_token, whole_token, word_token, name_read, word_pieces, name_pieces, whole_pieces}
 use Rattle.cga_form.proofs.Values.{value_pieces, value_reads}
 use Rattle.cga_form.proofs.ValuesAgain.{a_slash, value_again}

@@ -7,7 +7,7 @@ use Rattle.cga_syntax.specs.Brackets.{walk, IsOpening}
 use Rattle.cga_form.specs.declared.fault.Fault.{Fault}
 use Rattle.cga_form.specs.declared.fault.Fault.TheVariants.{Unexpected, TooNested}
 use Rattle.cga_form.specs.Tells.{Tells}
-use Rattle.cga_form.proofs.Runs.{walk_append}
+use Rattle.cga_form.proofs.Taking.{walk_append}
 use Rattle.cga_form.proofs.Written.{nil_right}
 use Rattle.cga_form.proofs.Told.{one_too_many}
 

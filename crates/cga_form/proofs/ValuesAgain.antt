@@ -10,7 +10,8 @@ use Rattle.cga_form.specs.Reader.{at, begins, ◌>>=◌, single}
 use Rattle.cga_form.specs.Tokens.{a_sign, is_sign, a_number, whole_of}
 use Rattle.cga_form.specs.Parts as b
 use Rattle.cga_form.proofs.Written.{piece_of, plain_written, cut}
-use Rattle.cga_form.proofs.Again.{Agrees, Leads, Again, Begun, starts_token, misses_end, nothing, misses_nothing, never_leads, ends, took, peek_yes, peek_no, after, plainly}
+use Rattle.cga_form.proofs.Beginnings.{Begun, starts_token, misses_end, misses_nothing}
+use Rattle.cga_form.proofs.Again.{Agrees, Leads, Again, nothing, never_leads, ends, took, peek_yes, peek_no, after, plainly}
 use Rattle.cga_form.proofs.Values.{value_pieces, ratio}
 
 -- the token that goes on with a value

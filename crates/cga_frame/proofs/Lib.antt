@@ -2,6 +2,7 @@ mod Boxes
 mod Components
 mod Flags
 mod Frames
+mod Turns
 mod Inside
 mod Intervals
 mod Spans

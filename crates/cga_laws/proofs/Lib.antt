@@ -2,6 +2,7 @@ mod Commands
 mod First
 mod Kept
 mod Refusing
+mod Histories
 mod Restoring
 mod Said
 mod Spelled

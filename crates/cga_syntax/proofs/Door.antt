@@ -3,7 +3,8 @@
 -- What is printed is written as the same pieces as the tokens of some line
 pub use Rattle.cga_syntax.proofs.Again.{again, have_texts, lexemes, walk_join, tokens_front, tokens_rest}
 -- The text of printed tokens is lexed as these tokens
-pub use Rattle.cga_syntax.proofs.Back.{primary_apart, space_read, text_read, token_read}
+pub use Rattle.cga_syntax.proofs.Apart.{primary_apart}
+pub use Rattle.cga_syntax.proofs.Back.{space_read, text_read, token_read}
 -- The value of an attribute, as it is printed
 pub use Rattle.cga_syntax.proofs.Exact.{whole_small}
 -- What stands at the front of a text that begins with the bytes of a number, a word or a quoted name

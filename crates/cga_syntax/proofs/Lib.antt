@@ -7,6 +7,7 @@ mod CondLayers
 mod ItemLayers
 mod Fronts
 mod Signs
+mod Apart
 mod Back
 mod Sections
 mod Tokens

@@ -18,7 +18,8 @@ use Rattle.cga_rule.specs.declared.grammar.Attribute.{Attribute}
 use Rattle.cga_syntax.specs.declared.lexeme.Lexeme.{Lexeme}
 use Rattle.cga_syntax.specs.declared.lexeme.Lexeme.TheVariants as lexeme
 use Rattle.cga_syntax.proofs.Again.{lexemes}
-use Rattle.cga_syntax.proofs.Back.{primary_apart, token_read, space_read}
+use Rattle.cga_syntax.proofs.Apart.{primary_apart}
+use Rattle.cga_syntax.proofs.Back.{token_read, space_read}
 use Rattle.cga_syntax.proofs.Exact.{whole_literal, whole_small}
 use Rattle.cga_syntax.proofs.Fronts.{named_of}
 use Rattle.cga_syntax.proofs.Signs.{second, Ends}

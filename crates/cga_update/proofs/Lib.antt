@@ -35,6 +35,7 @@ mod Drawing
 mod Meeting
 mod RootShapes
 mod Beginning
+mod RootsGo
 mod Unkept
 mod Lasting
 mod Reworking

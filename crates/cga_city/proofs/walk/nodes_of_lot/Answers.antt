@@ -1,7 +1,7 @@
 use Rattle.std.proofs.Common.{refl, arith, Some}
 use Rattle.cga_fraction.proofs.Door.{IfOk-map}
 use Rattle.cga_forest.proofs.Door.{inside, keeps_laws}
-use Rattle.cga_city.proofs.Nodes.{root_deep}
+use Rattle.cga_city.proofs.LotNodes.{root_deep}
 use Rattle.cga_city.proofs.walk.nodes_of_lot.Goals as goal
 
 pub nodes_from-requires : goal.nodes_from-requires

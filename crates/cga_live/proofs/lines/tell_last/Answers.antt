@@ -1,7 +1,7 @@
 use Rattle.std.proofs.Common.{◌≡◌, List, [], sym, subst}
 use Rattle.cga_script.specs.Lines.{Line}
 use Rattle.cga_live.specs.Runs.{Begun, Lived}
-use Rattle.cga_live.proofs.Ends.{line_at_end, no_line_at_end}
+use Rattle.cga_live.proofs.FirstLines.{line_at_end, no_line_at_end}
 use Rattle.cga_live.proofs.Lived.{lived_nothing}
 use Rattle.cga_live.proofs.lines.tell_last.Goals as goal
 

@@ -13,6 +13,7 @@ use Rattle.cga_update.specs.Near.{IsAny, IsChangedFor, IsPricedFor, KeepsPriorit
 use Rattle.cga_update.specs.Roots.{HasLost}
 use Rattle.cga_update.proofs.Adding.{none_came}
 use Rattle.cga_update.proofs.Beginning as proof
+use Rattle.cga_update.proofs.RootsGo as roots_go
 use Rattle.cga_update.proofs.DueNodes.{one_each}
 use Rattle.cga_update.proofs.Lasting.{first_up_to}
 use Rattle.cga_update.proofs.Logged.{drawn_from, log_from}
@@ -24,13 +25,13 @@ use Rattle.cga_update.proofs.begin.begin.Goals as goal
 pub remove_roots-requires : goal.remove_roots-requires
 remove_roots-requires g c = record {
   symbols = c.requires.fresh.symbols;
-  wanted = proof.old_wanted c.args.work.now.renewal.old.now c.args.work.now.renewal.new.now c.args.work.now.forest c.args.dependents.now c.requires.stands;
+  wanted = roots_go.old_wanted c.args.work.now.renewal.old.now c.args.work.now.renewal.new.now c.args.work.now.forest c.args.dependents.now c.requires.stands;
 }
 
 pub add_roots-requires : goal.add_roots-requires
 add_roots-requires g c = record {
   symbols = c.remove_roots.ensures.symbols ∙ c.requires.fresh.symbols;
-  there = proof.there_still c.args.work.now.renewal.changed c.args.work.now.renewal.old.now c.args.work.now.renewal.new.now c.args.work.now.forest c.remove_roots.new.forest c.args.dependents.now
+  there = roots_go.there_still c.args.work.now.renewal.changed c.args.work.now.renewal.old.now c.args.work.now.renewal.new.now c.args.work.now.forest c.remove_roots.new.forest c.args.dependents.now
       c.requires.stands c.args.work.now.renewal.roots c.args.work.now.renewal.told c.in_ok-remove_roots.ensures.loses;
 }
 
@@ -54,12 +55,12 @@ returns-clause-begun g c =
     let came = c.add_roots.new.came.items in
     let first_laws = c.laws.ensures in
     let laws = c.laws-2.ensures in
-    let lost : HasLost (node_at first) before went = c.in_ok-remove_roots.ensures.lost (node_at first) (proof.nothing_lost old new first d c.new-went.result.items c.new-went.ensures.items stands first_laws) in
+    let lost : HasLost (node_at first) before went = c.in_ok-remove_roots.ensures.lost (node_at first) (roots_go.nothing_lost old new first d c.new-went.result.items c.new-went.ensures.items stands first_laws) in
     let gains = c.in_ok-add_roots.ensures.gains in
     let loses = c.in_ok-remove_roots.ensures.loses in
-    let r = proof.now_rerooted old new first before v d went stands first_laws lost loses gains in
-    let keeps = still new (node_at first) first before v went (λ k. refl) (proof.parent_there first first_laws) lost loses gains in
-    let listed = proof.came_since (node_at first) before v went came lost keeps (c.in_ok-add_roots.ensures.came (node_at before) (λ k x at. at)
+    let r = roots_go.now_rerooted old new first before v d went stands first_laws lost loses gains in
+    let keeps = still new (node_at first) first before v went (λ k. refl) (roots_go.parent_there first first_laws) lost loses gains in
+    let listed = roots_go.came_since (node_at first) before v went came lost keeps (c.in_ok-add_roots.ensures.came (node_at before) (λ k x at. at)
     (subst (λ (list : List Moved). ListsMoved (node_at before) (node_at before) list) (sym c.new-came.ensures.items) (none_came (node_at before)))) in
     let wanted = wanted_after new before v c.in_ok-remove_roots.ensures.wanted gains in
     let there = c.in_ok-add_roots.ensures.there in
@@ -121,5 +122,5 @@ pub returns-clause-mark : goal.returns-clause-mark
 returns-clause-mark g c =
     let first = c.args.work.now.forest in
     let lost : HasLost (node_at first) c.remove_roots.new.forest c.remove_roots.new.went.items =
-    c.in_ok-remove_roots.ensures.lost (node_at first) (proof.nothing_lost c.args.work.now.renewal.old.now c.args.work.now.renewal.new.now first c.args.dependents.now c.new-went.result.items c.new-went.ensures.items c.requires.stands c.laws.ensures) in
+    c.in_ok-remove_roots.ensures.lost (node_at first) (roots_go.nothing_lost c.args.work.now.renewal.old.now c.args.work.now.renewal.new.now first c.args.dependents.now c.new-went.result.items c.new-went.ensures.items c.requires.stands c.laws.ensures) in
     λ k. c.in_ok-add_roots.ensures.gains.marked lost.marking k ∙ lost.marked k

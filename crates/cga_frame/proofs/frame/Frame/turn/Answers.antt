@@ -1,4 +1,5 @@
-use Rattle.cga_frame.proofs.Frames.{right_handed, turning}
+use Rattle.cga_frame.proofs.Frames.{right_handed}
+use Rattle.cga_frame.proofs.Turns.{turning}
 use Rattle.cga_frame.proofs.frame.Frame.turn.Goals as goal
 
 pub returns-clause-right_handed : goal.returns-clause-right_handed
