@@ -24,11 +24,11 @@ pub record Begun (test : Lexeme → Bool) (ps : Pieces) : Type 0 where
 
 -- it begins with one of them
 pub record Starts (test : Lexeme → Bool) (ps : Pieces) : Type 0 where
-  starts : (c : ℕ) (x : List Lexeme) (d : ℕ) (r : List Lexeme) → Writes c ps x d → begins test (x ++ r) ≡ true
+  pub starts : (c : ℕ) (x : List Lexeme) (d : ℕ) (r : List Lexeme) → Writes c ps x d → begins test (x ++ r) ≡ true
 
 -- what is written and what follows it begin with none of the tokens
 pub record Misses (test : Lexeme → Bool) (ps : Pieces) (s : Lexeme → Bool) : Type 0 where
-  misses : (c : ℕ) (x : List Lexeme) (d : ℕ) (r : List Lexeme) → Writes c ps x d → begins s r ≡ false
+  pub misses : (c : ℕ) (x : List Lexeme) (d : ℕ) (r : List Lexeme) → Writes c ps x d → begins s r ≡ false
       → begins test (x ++ r) ≡ false
 
 -- ---- beginnings

@@ -96,11 +96,11 @@ abbrev Stepping : Type 0
 Stepping = Kept → Sources → Option Step
 
 pub record LeadsBack (s u : State) (step : Stepping) : Type 0 where
-  new : Sources
-  kept : Kept
-  number : ℕ
-  is : u ≡ moved s new kept number
-  takes : Takes s.sources (step kept new)
+  pub new : Sources
+  pub kept : Kept
+  pub number : ℕ
+  pub is : u ≡ moved s new kept number
+  pub takes : Takes s.sources (step kept new)
 
 pub not_done : (works : List Work) → works ≡ [] → IsDone works → ⊥
 not_done works e h = let bad : IsDone [] = subst IsDone e h in bad

@@ -29,9 +29,9 @@ use Rattle.std.proofs.lemmas.Bool.{and_parts as both}
 
 -- no token goes on with what follows
 pub record Closed (rest : List ℕ) : Type 0 where
-  word : begins continues_name rest ≡ false
-  point : begins is_point rest ≡ false
-  sign : begins second rest ≡ false
+  pub word : begins continues_name rest ≡ false
+  pub point : begins is_point rest ≡ false
+  pub sign : begins second rest ≡ false
 
 pub closed_ends : (l : Lexeme) (rest : List ℕ) → Closed rest → Ends l rest
 closed_ends (lexeme.Number value) rest c = (c.word, c.point)
