@@ -15,7 +15,7 @@ use Rattle.cga_order.proofs.Door.{Among-shapes_where, Has-append, Has-from_shape
 use Rattle.cga_order.proofs.Door as derived
 use Rattle.cga_derivation.specs.Derivation.{Derivation, IsDerivation, place_of, reached, NothingWaits, IsDerived}
 use Rattle.cga_derivation.specs.Sites.{Site, world_of, sites, taken}
-use Rattle.cga_district.specs.Districts.{district, AreParts, SeesNone}
+use Rattle.cga_district.specs.Districts.{district, AreParts, DistrictsAreApart, SeesNone}
 use Rattle.cga_order.specs.Once.{Once}
 
 -- a list that is consistent for some of the roots, in a longer one of which it sees no more
@@ -77,57 +77,80 @@ module _ {N A F P : Type 0} (derivation : Derivation N A F P) (n : ℕ) where
       → order.IsConsistent (world_of derivation) None (sites derivation n)
   sites_consistent laws settled = derived.consistent-reached (world_of derivation) (world derivation laws) (taken derivation n) (sites derivation n) (reached-sites derivation n) (λ w h b. settled w.shape (shape_in w Waiting h))
 
-module _ {N A F P : Type 0} (derivation : Derivation N A F P) (laws : IsDerivation derivation) (left right : List N) (parts : AreParts derivation left right) (left_laws : IsDerivation (district derivation left)) (right_laws : IsDerivation (district derivation right)) (a b : ℕ) (left_ends : NothingWaits (district derivation left) (reached (district derivation left) a)) (right_ends : NothingWaits (district derivation right) (reached (district derivation right) b)) (left_sees : SeesNone derivation (reached (district derivation left) a) (reached (district derivation right) b)) (right_sees : SeesNone derivation (reached (district derivation right) b) (reached (district derivation left) a)) where
+-- a part of the roots, from which a derivation ends
+record Part {N A F P : Type 0} (derivation : Derivation N A F P) : Type 0 where
+  roots : List N
+  laws : IsDerivation (district derivation roots)
+  rounds : ℕ
+  settled : NothingWaits (district derivation roots) (reached (district derivation roots) rounds)
+
+-- the members that it ends with
+abbrev members_of : {N A F P : Type 0} {derivation : Derivation N A F P} → Part derivation → List (Placed N F P)
+members_of {derivation = derivation} part = reached (district derivation part.roots) part.rounds
+
+module _ {N A F P : Type 0} (derivation : Derivation N A F P) (laws : IsDerivation derivation) (left right : Part derivation) (parts : AreParts derivation left.roots right.roots) (left_sees : SeesNone derivation (members_of left) (members_of right)) (right_sees : SeesNone derivation (members_of right) (members_of left)) where
   abbrev W : World (Site N) A F P
   W = world_of derivation
+
+  abbrev from_left : Derivation N A F P
+  from_left = district derivation left.roots
+
+  abbrev from_right : Derivation N A F P
+  from_right = district derivation right.roots
+
+  abbrev ls : List (Placed N F P)
+  ls = members_of left
+
+  abbrev rs : List (Placed N F P)
+  rs = members_of right
 
   abbrev Members : Type 0
   Members = List (Placed (Site N) F P)
 
   abbrev xs : Members
-  xs = sites (district derivation left) a
+  xs = sites from_left left.rounds
 
   abbrev ys : Members
-  ys = sites (district derivation right) b
+  ys = sites from_right right.rounds
 
-  left_good : order.IsConsistent (world_of (district derivation left)) None xs
-  left_good = sites_consistent (district derivation left) a left_laws left_ends
+  left_good : order.IsConsistent (world_of from_left) None xs
+  left_good = sites_consistent from_left left.rounds left.laws left.settled
 
-  right_good : order.IsConsistent (world_of (district derivation right)) None ys
-  right_good = sites_consistent (district derivation right) b right_laws right_ends
+  right_good : order.IsConsistent (world_of from_right) None ys
+  right_good = sites_consistent from_right right.rounds right.laws right.settled
 
   not_seen : {X : Type 0} (v : Bool) → v ≡ false → v ≡ true → X
   not_seen v e f = let x : false ≡ true = sym e ∙ f in cc
 
-  rooted_left : (s : Site N) → Among s (world_of (district derivation left)).roots → Among s W.roots
+  rooted_left : (s : Site N) → Among s (world_of from_left).roots → Among s W.roots
   rooted_left s h =
-      let w = Among-rooted left s h in
+      let w = Among-rooted left.roots s h in
       subst (λ x. Among x W.roots) (sym w.1) (rooted-Among derivation.roots s.shape (parts.left_roots s.shape w.0))
 
-  rooted_right : (s : Site N) → Among s (world_of (district derivation right)).roots → Among s W.roots
+  rooted_right : (s : Site N) → Among s (world_of from_right).roots → Among s W.roots
   rooted_right s h =
-      let w = Among-rooted right s h in
+      let w = Among-rooted right.roots s h in
       subst (λ x. Among x W.roots) (sym w.1) (rooted-Among derivation.roots s.shape (parts.right_roots s.shape w.0))
 
   left_seen : (s t : Site N) (k j : Kind F P) → Has xs s k → is_instance k ≡ false → Has (xs ++ ys) t j
       → W.sees s t ≡ true → Has xs t j
   left_seen s t k j h p g v = elim (Has-append xs ys t j g) [
     | inl q ↦ q
-    | inr q ↦ not_seen (derivation.sees s.shape t.shape) (left_sees s.shape t.shape k j (shape_in (district derivation left) a s k h) p (shape_in (district derivation right) b t j q)) v
+    | inr q ↦ not_seen (derivation.sees s.shape t.shape) (left_sees s.shape t.shape k j (shape_in from_left left.rounds s k h) p (shape_in from_right right.rounds t j q)) v
   ]
 
   right_seen : (s t : Site N) (k j : Kind F P) → Has ys s k → is_instance k ≡ false → Has (xs ++ ys) t j
       → W.sees s t ≡ true → Has ys t j
   right_seen s t k j h p g v = elim (Has-append xs ys t j g) [
-    | inl q ↦ not_seen (derivation.sees s.shape t.shape) (right_sees s.shape t.shape k j (shape_in (district derivation right) b s k h) p (shape_in (district derivation left) a t j q)) v
+    | inl q ↦ not_seen (derivation.sees s.shape t.shape) (right_sees s.shape t.shape k j (shape_in from_right right.rounds s k h) p (shape_in from_left left.rounds t j q)) v
     | inr q ↦ q
   ]
 
   two_lots : (s t : Site N) (k j : Kind F P) → Has xs s k → Has ys t j → derivation.lot s.shape ≡ derivation.lot t.shape
       → ⊥
   two_lots s t k j h g same =
-      let l = lot_in (district derivation left) left_laws a left_ends s.shape k (shape_in (district derivation left) a s k h) in
-      let r = lot_in (district derivation right) right_laws b right_ends t.shape j (shape_in (district derivation right) b t j g) in
+      let l = lot_in from_left left.laws left.rounds left.settled s.shape k (shape_in from_left left.rounds s k h) in
+      let r = lot_in from_right right.laws right.rounds right.settled t.shape j (shape_in from_right right.rounds t j g) in
       parts.lots l.0 r.0 l.1 r.1 (sym l.2 ∙ (same ∙ r.2))
 
   distinct : (s t : Site N) (k j : Kind F P) → Has (xs ++ ys) s k → Has (xs ++ ys) t j
@@ -150,52 +173,46 @@ module _ {N A F P : Type 0} (derivation : Derivation N A F P) (laws : IsDerivati
         let w = Among-rooted derivation.roots s h in
         elim (parts.each s.shape w.0) [
           | inl l ↦
-              let e = left_good.roots s (subst (λ x. Among x (world_of (district derivation left)).roots) (sym w.1) (rooted-Among left s.shape l)) in
+              let e = left_good.roots s (subst (λ x. Among x (world_of from_left).roots) (sym w.1) (rooted-Among left.roots s.shape l)) in
               (e.0, Has-left xs ys s e.0 e.1, e.2, e.3)
           | inr r ↦
-              let e = right_good.roots s (subst (λ x. Among x (world_of (district derivation right)).roots) (sym w.1) (rooted-Among right s.shape r)) in
+              let e = right_good.roots s (subst (λ x. Among x (world_of from_right).roots) (sym w.1) (rooted-Among right.roots s.shape r)) in
               (e.0, Has-right xs ys s e.0 e.1, e.2, e.3)
         ];
     each = λ s k h p l. elim (Has-append xs ys s k h) [
-      | inl q ↦ each W (world derivation laws) (world_of (district derivation left)).roots rooted_left xs (xs ++ ys) (Has-left xs ys) left_seen left_good s k q p
-      | inr q ↦ each W (world derivation laws) (world_of (district derivation right)).roots rooted_right ys (xs ++ ys) (Has-right xs ys) right_seen right_good s k q p
+      | inl q ↦ each W (world derivation laws) (world_of from_left).roots rooted_left xs (xs ++ ys) (Has-left xs ys) left_seen left_good s k q p
+      | inr q ↦ each W (world derivation laws) (world_of from_right).roots rooted_right ys (xs ++ ys) (Has-right xs ys) right_seen right_good s k q p
     ];
     only = λ s k h l. elim (Has-append xs ys s k h) [
-      | inl q ↦ only W (world derivation laws) (world_of (district derivation left)).roots rooted_left xs (xs ++ ys) (Has-left xs ys) left_seen left_good s k q
-      | inr q ↦ only W (world derivation laws) (world_of (district derivation right)).roots rooted_right ys (xs ++ ys) (Has-right xs ys) right_seen right_good s k q
+      | inl q ↦ only W (world derivation laws) (world_of from_left).roots rooted_left xs (xs ++ ys) (Has-left xs ys) left_seen left_good s k q
+      | inr q ↦ only W (world derivation laws) (world_of from_right).roots rooted_right ys (xs ++ ys) (Has-right xs ys) right_seen right_good s k q
     ];
   }
 
-  pub apart : (n : ℕ) → NothingWaits derivation (reached derivation n)
-      → SameMembers (reached (district derivation left) a ++ reached (district derivation right) b)
+  apart : (n : ℕ) → NothingWaits derivation (reached derivation n)
+      → SameMembers (ls ++ rs)
       (reached derivation n)
   apart n settled x k =
       let same = same_members W (world derivation laws) (xs ++ ys) joined (taken derivation n) (sites derivation n) (reached-sites derivation n) (λ w h l. settled w.shape (shape_in derivation n w Waiting h)) in (
-        λ h. elim (Has-append (reached (district derivation left) a) (reached (district derivation right) b) x k h) [
+        λ h. elim (Has-append ls rs x k h) [
           | inl q ↦
-              let w = site_in (district derivation left) a x k q in
+              let w = site_in from_left left.rounds x k q in
               subst (λ y. Has (reached derivation n) y k) w.2 (shape_in derivation n w.0 k ((same w.0 k).0 (Has-left xs ys w.0 k w.1)))
           | inr q ↦
-              let w = site_in (district derivation right) b x k q in
+              let w = site_in from_right right.rounds x k q in
               subst (λ y. Has (reached derivation n) y k) w.2 (shape_in derivation n w.0 k ((same w.0 k).0 (Has-right xs ys w.0 k w.1)))
         ],
         λ h.
             let w = site_in derivation n x k h in
             elim (Has-append xs ys w.0 k ((same w.0 k).1 w.1)) [
-              | inl q ↦ Has-left (reached (district derivation left) a) (reached (district derivation right) b) x k (subst (λ y. Has (reached (district derivation left) a) y k) w.2 (shape_in (district derivation left) a w.0 k q))
-              | inr q ↦ Has-right (reached (district derivation left) a) (reached (district derivation right) b) x k (subst (λ y. Has (reached (district derivation right) b) y k) w.2 (shape_in (district derivation right) b w.0 k q))
+              | inl q ↦ Has-left ls rs x k (subst (λ y. Has ls y k) w.2 (shape_in from_left left.rounds w.0 k q))
+              | inr q ↦ Has-right ls rs x k (subst (λ y. Has rs y k) w.2 (shape_in from_right right.rounds w.0 k q))
             ],
       )
 
   all_before : (seen : List (Site N)) → order.AllBefore W None seen
   all_before [] = tt
   all_before (s ∷ seen) = (tt, all_before seen)
-
-  abbrev ls : List (Placed N F P)
-  ls = reached (district derivation left) a
-
-  abbrev rs : List (Placed N F P)
-  rs = reached (district derivation right) b
 
   -- no configuration has more members
   bounded : (n : ℕ) → length (reached derivation n) ≤ length ls + length rs
@@ -204,8 +221,8 @@ module _ {N A F P : Type 0} (derivation : Derivation N A F P) (laws : IsDerivati
       let s = site_in derivation n x k h in
       let found = has_members W (world derivation laws) None (xs ++ ys) joined (taken derivation n) (sites derivation n) (reached-sites derivation n) (all_before (taken derivation n)) s.0 k s.1 in
       let has : Has (ls ++ rs) s.0.shape found.0 = elim (Has-append xs ys s.0 found.0 found.1) [
-        | inl q ↦ Has-left ls rs s.0.shape found.0 (shape_in (district derivation left) a s.0 found.0 q)
-        | inr q ↦ Has-right ls rs s.0.shape found.0 (shape_in (district derivation right) b s.0 found.0 q)
+        | inl q ↦ Has-left ls rs s.0.shape found.0 (shape_in from_left left.rounds s.0 found.0 q)
+        | inr q ↦ Has-right ls rs s.0.shape found.0 (shape_in from_right right.rounds s.0 found.0 q)
       ] in
       (s.0.shape, found.0, has, ap (place_of derivation) s.2)) in
       omega (arith, there, length-append ls rs)
@@ -214,14 +231,14 @@ module _ {N A F P : Type 0} (derivation : Derivation N A F P) (laws : IsDerivati
   ends = let e = ends_within derivation laws (length ls + length rs) bounded in (e.0, e.2)
 
   both_once : Once (places derivation (ls ++ rs))
-  both_once = subst Once (sym (map-append (λ (m : Placed N F P). place_of derivation m.shape) ls rs)) (Once-append (places derivation ls) (places derivation rs) (places_once derivation ls (apart-reached (district derivation left) left_laws a)) (places_once derivation rs (apart-reached (district derivation right) right_laws b)) (λ p h g.
+  both_once = subst Once (sym (map-append (λ (m : Placed N F P). place_of derivation m.shape) ls rs)) (Once-append (places derivation ls) (places derivation rs) (places_once derivation ls (apart-reached from_left left.laws left.rounds)) (places_once derivation rs (apart-reached from_right right.laws right.rounds)) (λ p h g.
       let v = places-Has derivation ls p h in
       let w = places-Has derivation rs p g in
-      let l = lot_in (district derivation left) left_laws a left_ends v.0 v.1 v.2 in
-      let r = lot_in (district derivation right) right_laws b right_ends w.0 w.1 w.2 in
+      let l = lot_in from_left left.laws left.rounds left.settled v.0 v.1 v.2 in
+      let r = lot_in from_right right.laws right.rounds right.settled w.0 w.1 w.2 in
       parts.lots l.0 r.0 l.1 r.1 (sym l.2 ∙ (ap (λ x. x.0) (v.3 ∙ sym w.3) ∙ r.2))))
 
-  pub all : (list : List (Placed N F P)) × IsDerived derivation list × SameMembers (ls ++ rs) list
+  all : (list : List (Placed N F P)) × IsDerived derivation list × SameMembers (ls ++ rs) list
       × (length list ≡ length ls + length rs)
   all =
       let list = ends.0 in
@@ -234,15 +251,21 @@ module _ {N A F P : Type 0} (derivation : Derivation N A F P) (laws : IsDerivati
       let more : length list ≤ length ls + length rs = subst (λ l. length l ≤ length ls + length rs) (sym is) (bounded n) in
       (list, ends.1, same, omega (arith, less, more, length-places derivation list, length-places derivation (ls ++ rs), length-append ls rs))
 
-pub districts : {N A F P : Type 0} (derivation : Derivation N A F P) → IsDerivation derivation → (left right : List N)
-    → AreParts derivation left right → IsDerivation (district derivation left)
-    → IsDerivation (district derivation right) → (xs ys : List (Placed N F P)) → IsDerived (district derivation left) xs
-    → IsDerived (district derivation right) ys → SeesNone derivation xs ys → SeesNone derivation ys xs
-    → (list : List (Placed N F P)) × IsDerived derivation list × SameMembers (xs ++ ys) list
-    × (length list ≡ length xs + length ys)
+pub districts : {N A F P : Type 0} → DistrictsAreApart N A F P
 districts derivation laws left right parts left_laws right_laws members others (a, e, p) (b, f, q) s t =
+    let one : Part derivation = record {
+      roots = left;
+      laws = left_laws;
+      rounds = a;
+      settled = subst (NothingWaits (district derivation left)) e p;
+    } in
+    let two : Part derivation = record {
+      roots = right;
+      laws = right_laws;
+      rounds = b;
+      settled = subst (NothingWaits (district derivation right)) f q;
+    } in
     subst (λ us. (list : _) × IsDerived derivation list × SameMembers (us ++ others) list × (length list ≡ length us + length others)) (sym e)
-    (subst (λ vs. (list : _) × IsDerived derivation list × SameMembers (reached (district derivation left) a ++ vs) list × (length list ≡ length (reached (district derivation left) a) + length vs)) (sym f)
-    (all derivation laws left right parts left_laws right_laws a b (subst (NothingWaits (district derivation left)) e p) (subst (NothingWaits (district derivation right)) f q)
-    (subst (λ vs. SeesNone derivation (reached (district derivation left) a) vs) f (subst (λ us. SeesNone derivation us others) e s))
-    (subst (λ us. SeesNone derivation us (reached (district derivation left) a)) f (subst (λ vs. SeesNone derivation others vs) e t))))
+    (subst (λ vs. (list : _) × IsDerived derivation list × SameMembers (members_of one ++ vs) list × (length list ≡ length (members_of one) + length vs)) (sym f)
+    (all derivation laws one two parts (subst (SeesNone derivation (members_of one)) f (subst (λ us. SeesNone derivation us others) e s))
+    (subst (λ us. SeesNone derivation us (members_of one)) f (subst (SeesNone derivation others) e t))))

@@ -35,8 +35,6 @@ use Rattle.cga_district.proofs.Lists.{filter-Has}
 use Rattle.cga_order.proofs.Door.{Among-left, Among-map, Among-right, map-Among}
 use Rattle.cga_district.proofs.Towns.{differ_right, lot_of_root, name_of, root_of_lot, two_names}
 
--- ---- roots of lots that stand one behind the other
-
 -- ---- the lots of jobs
 
 pub in_joined : (jobs : List LotJob) (job : LotJob) (x : Lot) → Among job jobs → Among x job.own
@@ -148,32 +146,38 @@ module _ (sources : Sources) (differ : NamesDiffer sources.lots) (jobs : List Lo
       let x = lot_of_root job.own r.0 r.1 in
       (x.0, x.1, sym r.2 ∙ name_of x.0 r.0 x.2)
 
+  -- a lot that has a root, and the job that answers for it
+  record Answered : Type 0 where
+    job : LotJob
+    there : Among job jobs
+    lot : Lot
+    own : Among lot job.own
+    rooted : is_lot_of D (roots_of job.own) lot.name ≡ true
+
   module _ (settled : AreSettled sources.grammar jobs) (job : LotJob) (j : Among job jobs) where
     abbrev list : List Member
     list = zs D laws (map rooted jobs) roots_are_jobs
 
     -- of a lot that both jobs derived alike, the list has what they have
-    as_derived : (other : LotJob) → Among other jobs → (y : List ℕ) → is_lot_of D (roots_of other.own) y ≡ true
-        → HaveAlike y job.members other.members → (m : Shape) (i : Kind ShapeFault Primitive) → m.lot ≡ y
-        → Has other.members m i
+    as_derived : (a : Answered) → HaveAlike a.lot.name job.members a.job.members → (m : Shape)
+        (i : Kind ShapeFault Primitive) → m.lot ≡ a.lot.name → Has a.job.members m i
         → Has job.members m i × Has list m i × (chain_in D job.members m ≡ chain_in D list m)
-    as_derived other o y own alike m i e h =
-        let to = into D laws (map rooted jobs) roots_are_jobs (rooted other) (map-Among rooted jobs other o) in
-        let from = back D laws (map rooted jobs) roots_are_jobs (rooted other) (map-Among rooted jobs other o) in
-        let is_own : (n : Shape) → n.lot ≡ y → is_lot_of D (roots_of other.own) n.lot ≡ true = λ n q. ap (is_lot_of D (roots_of other.own)) q ∙ own in
+    as_derived a alike m i e h =
+        let to = into D laws (map rooted jobs) roots_are_jobs (rooted a.job) (map-Among rooted jobs a.job a.there) in
+        let from = back D laws (map rooted jobs) roots_are_jobs (rooted a.job) (map-Among rooted jobs a.job a.there) in
+        let is_own : (n : Shape) → n.lot ≡ a.lot.name → is_lot_of D (roots_of a.job.own) n.lot ≡ true = λ n q. ap (is_lot_of D (roots_of a.job.own)) q ∙ a.rooted in
         let chain = chain_same D job.members list m (apart D laws (map rooted jobs) roots_are_jobs)
         (λ n k q g. to n k (is_own n (q ∙ e)) ((alike n k (q ∙ e)).0 g))
         (λ n k q g. (alike n k (q ∙ e)).1 (from n k (is_own n (q ∙ e)) g)) in
         ((alike m i e).1 h, to m i (is_own m e) h, chain)
 
     -- a lot of the job sees a lot that another answers for
-    by_lots : (other : LotJob) → Among other jobs → (x y : Lot) → Among x job.own → Among y other.own
-        → is_lot_of D (roots_of other.own) y.name ≡ true → (n m : Shape) (k i : Kind ShapeFault Primitive)
+    by_lots : (x : Lot) → Among x job.own → (a : Answered) (n m : Shape) (k i : Kind ShapeFault Primitive)
         → Has job.members n k → n.lot ≡ x.name → is_instance k ≡ false → sees sources.grammar n m ≡ true
-        → m.lot ≡ y.name → Has job.members m i ⊎ Has other.members m i
+        → m.lot ≡ a.lot.name → Has job.members m i ⊎ Has a.job.members m i
         → Has job.members m i × Has list m i × (chain_in D job.members m ≡ chain_in D list m)
-    by_lots other o x y in_job in_other own n m k i h e plain v f some = elim (settled job other x y j o in_job in_other) [
-      | inl alike ↦ as_derived other o y.name own alike m i f (elim some [ inl g ↦ (alike m i f).0 g | inr g ↦ g ])
+    by_lots x mine a n m k i h e plain v f some = elim (settled job a.job x a.lot j a.there mine a.own) [
+      | inl alike ↦ as_derived a alike m i f (elim some [ inl g ↦ (alike m i f).0 g | inr g ↦ g ])
       | inr far ↦
           let s = saw sources.grammar n m v in
           let off : meets (box_of m.scope) (box_of n.scope) ≡ false = elim some [
@@ -198,13 +202,16 @@ module _ (sources : Sources) (differ : NamesDiffer sources.lots) (jobs : List Lo
               let lot : m.lot ≡ z.0.name = z.4 ∙ name_of z.0 z.1 z.3 in
               let root = root_of_lot o.0.own z.0 z.1 o.2 z.3 in
               let own : is_lot_of D (roots_of o.0.own) z.0.name ≡ true = ap (is_lot_of D (roots_of o.0.own)) (sym (name_of z.0 z.1 z.3)) ∙ lot_of D (roots_of o.0.own) z.1 root in
-              by_lots o.0 o.1 x.0 z.0 x.1 o.2 own n m k i mine.0 x.2 plain v lot (inl g)
+              let answered : Answered = record { job = o.0; there = o.1; lot = z.0; own = o.2; rooted = own } in
+              by_lots x.0 x.1 answered n m k i mine.0 x.2 plain v lot (inl g)
           | inr g ↦
               let w = own_from D (map rooted jobs) m i g in
               let o = Among-map rooted jobs w.0 w.1 in
               let own : is_lot_of D (roots_of o.0.own) m.lot ≡ true = subst (λ (y : Rooted). is_lot_of D y.own m.lot ≡ true) (sym o.2) w.3 in
               let y = own_lot o.0 m.lot own in
-              by_lots o.0 o.1 x.0 y.0 x.1 y.1 (ap (is_lot_of D (roots_of o.0.own)) (sym y.2) ∙ own) n m k i mine.0 x.2 plain v y.2 (inr (subst (λ (y : Rooted). Has y.members m i) (sym o.2) w.2))
+              let rooted_y = ap (is_lot_of D (roots_of o.0.own)) (sym y.2) ∙ own in
+              let answered : Answered = record { job = o.0; there = o.1; lot = y.0; own = y.1; rooted = rooted_y } in
+              by_lots x.0 x.1 answered n m k i mine.0 x.2 plain v y.2 (inr (subst (λ (y : Rooted). Has y.members m i) (sym o.2) w.2))
         ]
 
   -- a lot of a job is one of the town

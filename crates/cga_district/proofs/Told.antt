@@ -1,17 +1,15 @@
 -- Jobs that tell the same of what they see are settled.
 use Rattle.std.proofs.Common.{◌≡◌, ℕ, List, false, sym, ap, ◌∙◌, subst, inl, inr}
 use Rattle.cga_word.specs.declared.primitive.Primitive.{Primitive}
-use Rattle.cga_frame.specs.Box.{Box, box_of, meets, touches}
+use Rattle.cga_frame.specs.Box.{touches}
 use Rattle.cga_order.specs.World.{Among, Has}
 use Rattle.cga_order.specs.declared.placed.Kind.{Kind}
 use Rattle.cga_shape.specs.declared.lot.Lot.{Lot}
 use Rattle.cga_shape.specs.declared.shape.Shape.{Shape}
 use Rattle.cga_shape.specs.declared.shape_fault.ShapeFault.{ShapeFault}
 use Rattle.cga_shape.specs.declared.sources.Sources.{Sources}
-use Rattle.cga_expand.specs.Children.{Member}
 use Rattle.cga_expand.specs.Derivation.{NamesDiffer}
-use Rattle.cga_district.specs.Hulls.{AreHeld}
-use Rattle.cga_district.specs.Jobs.{AreJobsOf, HaveAlike, IsSettled, LotJob, lots_of}
+use Rattle.cga_district.specs.Jobs.{AreJobsOf, HaveAlike, IsSettled, LotJob, LotMeetsNone, lots_of}
 use Rattle.cga_district.specs.Told.{AgreeOn, HaveSameSteps, IsToldOf, Told, ToldIsSettled}
 use Rattle.cga_district.specs.Towns.{with_lots}
 use Rattle.cga_district.proofs.Hulls.{far_second, lot_among}
@@ -37,13 +35,14 @@ module _ (sources : Sources) (differ : NamesDiffer sources.lots) (jobs : List Lo
             (λ t f h. (same t f).1 h) n k e,
       )
 
-  -- boxes of lots that don't touch hold shapes that don't meet
-  off : (hull seen : List ℕ → Box) (xs ys : List Member) (x y : List ℕ) → AreHeld hull xs → AreHeld seen ys
-      → touches (hull x) (seen y) ≡ false → (n m : Shape) (k i : Kind ShapeFault Primitive) → Has xs n k → n.lot ≡ x
-      → Has ys m i → m.lot ≡ y → meets (box_of m.scope) (box_of n.scope) ≡ false
-  off hull seen xs ys x y held also far n m k i h e g f =
-      let lots = ap (λ (l : List ℕ). touches (hull l) (seen m.lot)) e ∙ ap (λ (l : List ℕ). touches (hull x) (seen l)) f in
-      far_second (seen m.lot) (hull n.lot) m.scope n.scope (also m i g) (held n k h) (lots ∙ far)
+  -- where the boxes of two lots don't touch, no shape of the one meets one of the other
+  off : (job other : LotJob) (told seen : Told) (x y : List ℕ) → IsToldOf sources job told → IsToldOf sources other seen
+      → ((m : Shape) (i : Kind ShapeFault Primitive) → Has other.members m i → m.lot ≡ y
+      → touches (told.hull x) (seen.hull y) ≡ false)
+      → LotMeetsNone sources.grammar x y job.members other.members
+  off job other told seen x y is also far n m k i target h e plain asks g f =
+      let lots = ap (λ (l : List ℕ). touches (told.hull l) (seen.hull m.lot)) e ∙ ap (λ (l : List ℕ). touches (told.hull x) (seen.hull l)) f in
+      far_second (seen.hull m.lot) (told.hull n.lot) m.scope n.scope (also.held m i g) (is.held n k h) (lots ∙ far m i g f)
 
   -- a job's lot of the name of one of the town is that one
   derived_too : (job : LotJob) → Among job jobs → (y : Lot) → Among y sources.lots → (m : Shape)
@@ -61,10 +60,8 @@ module _ (sources : Sources) (differ : NamesDiffer sources.lots) (jobs : List Lo
   settled job other told seen x y j o is also own (inr (far, near)) =
       let town = of_town sources differ jobs are other o y (Among-left other.own other.ring y own) in
       inr (
-        (λ n m k i target h e plain a g f.
-            let touching = near (derived_too job j y town m i g f) in
-            off told.hull told.hull job.members job.members x.name y.name is.held is.held touching n m k i h e g f),
-        (λ n m k i target h e plain a g f. off told.hull seen.hull job.members other.members x.name y.name is.held also.held far n m k i h e g f),
+        off job job told told x.name y.name is is (λ m i g f. near (derived_too job j y town m i g f)),
+        off job other told seen x.name y.name is also (λ m i g f. far),
       )
 
 pub told_is_settled : ToldIsSettled

@@ -5,7 +5,7 @@ use Rattle.cga_fraction.specs.Order.{rat_le, rat_lt}
 use Rattle.cga_word.specs.declared.primitive.Primitive.{Primitive}
 use Rattle.cga_word.specs.declared.primitive.Primitive.TheVariants as primitive
 use Rattle.cga_frame.specs.Axes.{IsFrame}
-use Rattle.cga_frame.specs.Scope.{Scope}
+use Rattle.cga_frame.specs.Scope.{Scope, place_of}
 use Rattle.cga_frame.specs.declared.point.Point.{Point}
 use Rattle.cga_solid.specs.Corners.{corners_of}
 use Rattle.cga_solid.specs.Faces.{edges_of, faces_of, four, ridge_along_x, ridge_along_z, three}
@@ -13,8 +13,8 @@ use Rattle.cga_solid.specs.Solids.{all_placed, form_of, lacks_size}
 use Rattle.cga_solid.specs.declared.solid_mesh.SolidMesh.{SolidMesh}
 use Rattle.cga_facing.specs.Facing.{IsCorner, LooksOut, MeshesFaceOut, SolidsFaceOut, is_of, side_of}
 use Rattle.cga_facing.proofs.Products.{Shows}
-use Rattle.cga_facing.proofs.Sides.{IsOver, Whole, before, behind, in_plane, is_behind, product, side_shows}
-use Rattle.cga_facing.proofs.Spots.{ArePositive, Spot, all_right, level_is, lower_is, numbered, stands, stands_at, whole_of}
+use Rattle.cga_facing.proofs.Sides.{IsOver, in_plane, is_behind, side_shows}
+use Rattle.cga_facing.proofs.Spots.{ArePositive, Lengths, Spot, all_right, before_of, behind_of, level_is, lower_is, numbered, stands, stands_at, whole_of}
 use Rattle.cga_facing.proofs.Spots.{cube, shed, gable_x, gable_z, hip_x, hip_z, pyramid, quad}
 use Rattle.cga_facing.proofs.Measures.{three_sizes, two_sizes}
 use Rattle.cga_facing.proofs.Fits.{AreSpots, fits_at}
@@ -24,103 +24,96 @@ use Rattle.cga_facing.proofs.Placed.{mesh_is, placed_at}
 use Rattle.cga_facing.proofs.World.{placed_shows}
 use Rattle.cga_fraction.proofs.Door.{true_from_not}
 
--- the point that the spot of a number is
-abbrev whole_at : List Spot → ℕ → ℕ → ℕ → ℕ → Whole
-whole_at spots s h e n = whole_of s h e (numbered spots n)
+-- a corner, and its number
+record Corner (corners : List Point) : Type 0 where
+  number : ℕ
+  at : Point
+  is : IsCorner corners number at
+
+abbrev corner : {corners : List Point} (number : ℕ) (at : Point) → IsCorner corners number at → Corner corners
+corner number at is = record { number = number; at = at; is = is }
+
+abbrev spot_of : {corners : List Point} → List Spot → Corner corners → Spot
+spot_of spots c = numbered spots c.number
 
 -- how the sides of vertices are told by spots over some lengths
 record AreSeen (spots : List Spot) (vertices : List Point) : Type 0 where
-  d : ℕ
-  s : ℕ
-  h : ℕ
-  e : ℕ
-  positive : ArePositive s h e
-  short : (n : ℕ) (v : Point) (there : IsCorner vertices n v) → there.0 < length spots
-  shows : (i j k n : ℕ) (a b c v : Point) → IsCorner vertices i a → IsCorner vertices j b → IsCorner vertices k c
-      → IsCorner vertices n v
-      → Shows (side_of a b c v)
-      (before product (whole_at spots s h e i) (whole_at spots s h e j) (whole_at spots s h e k) (whole_at spots s h e n))
-      (behind product (whole_at spots s h e i) (whole_at spots s h e j) (whole_at spots s h e k) (whole_at spots s h e n))
-      (d * (d * d))
+  lengths : Lengths
+  positive : ArePositive lengths
+  short : (v : Corner vertices) → v.is.0 < length spots
+  shows : (a b c v : Corner vertices)
+      → Shows (side_of a.at b.at c.at v.at)
+      (before_of lengths (spot_of spots a) (spot_of spots b) (spot_of spots c) (spot_of spots v))
+      (behind_of lengths (spot_of spots a) (spot_of spots b) (spot_of spots c) (spot_of spots v))
+      (lengths.over * (lengths.over * lengths.over))
 
 -- a corner by its number is the spot of that number
-numbered_at : (spots : List Spot) (corners : List Point) (are : AreSpots spots corners) (n : ℕ) (p : Point)
-    → IsCorner corners n p → IsOver are.d p (whole_of are.s are.h are.e (numbered spots n))
-numbered_at spots corners are n p c =
-    let there = fits_at are.d are.s are.h are.e spots corners c.0 p are.fits c.2 in
-    subst (λ (k : ℕ). IsOver are.d p (whole_of are.s are.h are.e (numbered spots k))) (sym c.1) there.1
+numbered_at : (spots : List Spot) (corners : List Point) (are : AreSpots spots corners) (c : Corner corners)
+    → IsOver are.lengths.over c.at (whole_of are.lengths (spot_of spots c))
+numbered_at spots corners are c =
+    let there = fits_at are.lengths spots corners c.is.0 c.at are.fits c.is.2 in
+    subst (λ (k : ℕ). IsOver are.lengths.over c.at (whole_of are.lengths (numbered spots k))) (sym c.is.1) there.1
 
 -- in the scope's own coordinates
 seen : (spots : List Spot) (corners : List Point) → AreSpots spots corners → AreSeen spots corners
 seen spots corners are = record {
-  d = are.d;
-  s = are.s;
-  h = are.h;
-  e = are.e;
+  lengths = are.lengths;
   positive = are.positive;
-  short = λ n v c. (fits_at are.d are.s are.h are.e spots corners c.0 v are.fits c.2).0;
-  shows = λ i j k n a b c v p q r s.
-      let at = numbered_at spots corners are in
-      side_shows are.d a b c v _ _ _ _ (at i a p) (at j b q) (at k c r) (at n v s);
+  short = λ v. (fits_at are.lengths spots corners v.is.0 v.at are.fits v.is.2).0;
+  shows = λ a b c v.
+      let is = numbered_at spots corners are in
+      side_shows are.lengths.over a.at b.at c.at v.at _ _ _ _ (is a) (is b) (is c) (is v);
 }
 
 -- and in the world, where each vertex is a corner that is placed
-seen_placed : (spots : List Spot) (corners vertices : List Point) (scope : Scope) → IsFrame scope.frame
-    → AreSpots spots corners → all_placed scope corners ≡ Ok vertices → AreSeen spots vertices
-seen_placed spots corners vertices scope frame are placed = record {
-  d = are.d;
-  s = are.s;
-  h = are.h;
-  e = are.e;
-  positive = are.positive;
-  short = λ n v c.
-      let x = placed_at scope corners vertices c.0 v placed c.2 in
-      (fits_at are.d are.s are.h are.e spots corners c.0 x.0 are.fits x.1).0;
-  shows = λ i j k n a b c v p q r s.
-      let w = placed_at scope corners vertices p.0 a placed p.2 in
-      let x = placed_at scope corners vertices q.0 b placed q.2 in
-      let y = placed_at scope corners vertices r.0 c placed r.2 in
-      let z = placed_at scope corners vertices s.0 v placed s.2 in
-      let at = numbered_at spots corners are in
-      let l = at i w.0 (p.0, p.1, w.1) in
-      let m = at j x.0 (q.0, q.1, x.1) in
-      let o = at k y.0 (r.0, r.1, y.1) in
-      let u = at n z.0 (s.0, s.1, z.1) in
-      rw (sym w.2, sym x.2, sym y.2, sym z.2)
-      (placed_shows are.d scope.at scope.frame frame w.0 x.0 y.0 z.0 _ _ _ _ l m o u);
-}
+module _ (spots : List Spot) (corners vertices : List Point) (scope : Scope) (placed : all_placed scope corners ≡ Ok vertices) where
+  abbrev placed_from : Corner vertices → Corner corners
+  placed_from v = let c = placed_at scope corners vertices v.is.0 v.at placed v.is.2 in corner v.number c.0 (v.is.0, v.is.1, c.1)
+
+  lies : (v : Corner vertices) → place_of scope.at scope.frame (placed_from v).at ≡ v.at
+  lies v = (placed_at scope corners vertices v.is.0 v.at placed v.is.2).2
+
+  seen_placed : IsFrame scope.frame → AreSpots spots corners → AreSeen spots vertices
+  seen_placed frame are = record {
+    lengths = are.lengths;
+    positive = are.positive;
+    short = λ v. (fits_at are.lengths spots corners v.is.0 (placed_from v).at are.fits (placed_from v).is.2).0;
+    shows = λ a b c v.
+        let is : (v : Corner vertices) → IsOver are.lengths.over (placed_from v).at (whole_of are.lengths (spot_of spots v)) = λ v. numbered_at spots corners are (placed_from v) in
+        rw (sym (lies a), sym (lies b), sym (lies c), sym (lies v))
+        (placed_shows are.lengths.over scope.at scope.frame frame _ _ _ _ _ _ _ _ (is a) (is b) (is c) (is v));
+  }
 
 module _ (spots : List Spot) (vertices : List Point) (seen : AreSeen spots vertices) (faces : List (List ℕ)) (right : all_right spots faces ≡ true) (face : List ℕ) (is : Contains faces face) where
-  -- the test of a corner by its number
-  test_at : (i j k n : ℕ) (v : Point) → Contains (edges_of face) (i, j) → Contains (edges_of face) (j, k)
-      → IsCorner vertices n v
-      → stands (is_of face n) (numbered spots i) (numbered spots j) (numbered spots k) (numbered spots n) ≡ true
-  test_at i j k n v g h c =
-      let test = stands_at spots faces face i j k c.0 right is g h (seen.short n v c) in
-      let a = numbered spots i in
-      let b = numbered spots j in
-      subst (λ (x : ℕ). stands (is_of face x) a b (numbered spots k) (numbered spots x) ≡ true) (sym c.1) test
+  -- the test of a corner, by two edges of the face that follow one another
+  test_at : (a b c v : Corner vertices) → Contains (edges_of face) (a.number, b.number)
+      → Contains (edges_of face) (b.number, c.number)
+      → stands (is_of face v.number) (spot_of spots a) (spot_of spots b) (spot_of spots c) (spot_of spots v) ≡ true
+  test_at a b c v g h =
+      let test = stands_at spots faces face a.number b.number c.number v.is.0 right is g h (seen.short v) in
+      subst (λ (n : ℕ). stands (is_of face n) (spot_of spots a) (spot_of spots b) (spot_of spots c) (numbered spots n) ≡ true) (sym v.is.1) test
 
-  flat : (i j k n : ℕ) (a b c v : Point) → Contains (edges_of face) (i, j) → Contains (edges_of face) (j, k)
-      → IsCorner vertices i a → IsCorner vertices j b → IsCorner vertices k c → IsCorner vertices n v
-      → is_of face n ≡ true → side_of a b c v ≡ zero_rat
-  flat i j k n a b c v g h p q r s own =
-      let t = test_at i j k n v g h s in
-      let level = subst (λ (o : Bool). stands o (numbered spots i) (numbered spots j) (numbered spots k) (numbered spots n) ≡ true) own t in
-      in_plane _ a b c v _ _ (seen.shows i j k n a b c v p q r s)
-      (level_is seen.s seen.h seen.e (numbered spots i) (numbered spots j) (numbered spots k) (numbered spots n) level)
+  flat : (a b c v : Corner vertices) → Contains (edges_of face) (a.number, b.number)
+      → Contains (edges_of face) (b.number, c.number) → is_of face v.number ≡ true
+      → side_of a.at b.at c.at v.at ≡ zero_rat
+  flat a b c v g h own =
+      let level = subst (λ (o : Bool). stands o (spot_of spots a) (spot_of spots b) (spot_of spots c) (spot_of spots v) ≡ true) own (test_at a b c v g h) in
+      in_plane _ a.at b.at c.at v.at _ _ (seen.shows a b c v)
+      (level_is seen.lengths (spot_of spots a) (spot_of spots b) (spot_of spots c) (spot_of spots v) level)
 
-  others : (i j k n : ℕ) (a b c v : Point) → Contains (edges_of face) (i, j) → Contains (edges_of face) (j, k)
-      → IsCorner vertices i a → IsCorner vertices j b → IsCorner vertices k c → IsCorner vertices n v
-      → is_of face n ≡ false → rat_lt (side_of a b c v) zero_rat ≡ true
-  others i j k n a b c v g h p q r s other =
-      let t = test_at i j k n v g h s in
-      let lower = subst (λ (o : Bool). stands o (numbered spots i) (numbered spots j) (numbered spots k) (numbered spots n) ≡ true) other t in
-      is_behind _ a b c v _ _ (seen.shows i j k n a b c v p q r s)
-      (lower_is seen.s seen.h seen.e (numbered spots i) (numbered spots j) (numbered spots k) (numbered spots n) seen.positive lower)
+  others : (a b c v : Corner vertices) → Contains (edges_of face) (a.number, b.number)
+      → Contains (edges_of face) (b.number, c.number) → is_of face v.number ≡ false
+      → rat_lt (side_of a.at b.at c.at v.at) zero_rat ≡ true
+  others a b c v g h other =
+      let lower = subst (λ (o : Bool). stands o (spot_of spots a) (spot_of spots b) (spot_of spots c) (spot_of spots v) ≡ true) other (test_at a b c v g h) in
+      is_behind _ a.at b.at c.at v.at _ _ (seen.shows a b c v)
+      (lower_is seen.lengths (spot_of spots a) (spot_of spots b) (spot_of spots c) (spot_of spots v) seen.positive lower)
 
   looks_out : LooksOut vertices face
-  looks_out = record { flat = flat; behind = others }
+  looks_out = record {
+    flat = λ i j k n a b c v g h p q r s. flat (corner i a p) (corner j b q) (corner k c r) (corner n v s) g h;
+    behind = λ i j k n a b c v g h p q r s. others (corner i a p) (corner j b q) (corner k c r) (corner n v s) g h;
+  }
 
 -- of two cases by a test each is proved with what the test says
 by_case : {F : Type 0} (P : F → Type 0) (x y : F) (b : Bool) → (b ≡ true → P x) → (b ≡ false → P y)
@@ -170,5 +163,5 @@ pub meshes_face_out : MeshesFaceOut
 meshes_face_out kind scope frame mesh made face is =
     let m = mesh_is kind scope mesh made in
     let here = subst (λ (k : SolidMesh). Contains k.faces face) (sym m.same) is in
-    let out = face_out m.vertices m.corners (λ spots are. seen_placed spots m.corners m.vertices scope frame are m.placed) face in
+    let out = face_out m.vertices m.corners (λ spots are. seen_placed spots m.corners m.vertices scope m.placed frame are) face in
     subst (λ (k : SolidMesh). LooksOut k.vertices face) m.same (out kind scope.size m.some m.made here)

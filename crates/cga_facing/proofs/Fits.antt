@@ -5,61 +5,56 @@ use Rattle.std.specs.Prelude.{slice_get}
 use Rattle.cga_fraction.specs.Rat.{Rat, zero_rat}
 use Rattle.cga_fraction.proofs.Door.{IsRatio, same_Ok, same_Some}
 use Rattle.cga_frame.specs.declared.point.Point.{Point}
-use Rattle.cga_solid.specs.Corners.{over_base, point}
+use Rattle.cga_solid.specs.Corners.{over_base}
 use Rattle.cga_solid.specs.declared.solid_fault.SolidFault.{SolidFault}
 use Rattle.cga_facing.proofs.Sides.{IsOver}
-use Rattle.cga_facing.proofs.Spots.{ArePositive, Spot, base, origin, spot, whole_of}
+use Rattle.cga_facing.proofs.Spots.{ArePositive, Lengths, Spot, base, origin, whole_of}
 use Rattle.cga_facing.proofs.Measures.{none}
 
 -- each point is the spot at its place
-unfoldable pub Fits : ℕ → ℕ → ℕ → ℕ → List Spot → List Point → Type 0
-Fits d s h e [] [] = Unit {0}
-Fits d s h e (p ∷ ps) (c ∷ cs) = IsOver d c (whole_of s h e p) × Fits d s h e ps cs
-Fits d s h e ps cs = ⊥
+unfoldable pub Fits : Lengths → List Spot → List Point → Type 0
+Fits l [] [] = Unit {0}
+Fits l (p ∷ ps) (c ∷ cs) = IsOver l.over c (whole_of l p) × Fits l ps cs
+Fits l ps cs = ⊥
 
-pub fits_at : (d s h e : ℕ) (ps : List Spot) (cs : List Point) (k : ℕ) (c : Point) → Fits d s h e ps cs
-    → slice_get cs k ≡ Some c → (k < length ps) × IsOver d c (whole_of s h e (get_or ps k origin))
+pub fits_at : (l : Lengths) (ps : List Spot) (cs : List Point) (k : ℕ) (c : Point) → Fits l ps cs
+    → slice_get cs k ≡ Some c → (k < length ps) × IsOver l.over c (whole_of l (get_or ps k origin))
 unfolding Fits
-fits_at d s h e [] [] k c f g = absurd (cc)
-fits_at d s h e [] (x ∷ cs) k c f g = absurd f
-fits_at d s h e (p ∷ ps) [] k c f g = absurd f
-fits_at d s h e (p ∷ ps) (x ∷ cs) zero c f g =
-    (omega arith, subst (λ (y : Point). IsOver d y (whole_of s h e p)) (same_Some x c g) f.0)
-fits_at d s h e (p ∷ ps) (x ∷ cs) (suc k) c f g = let r = fits_at d s h e ps cs k c f.1 g in (omega (arith, r.0), r.1)
+fits_at l [] [] k c f g = absurd (cc)
+fits_at l [] (x ∷ cs) k c f g = absurd f
+fits_at l (p ∷ ps) [] k c f g = absurd f
+fits_at l (p ∷ ps) (x ∷ cs) zero c f g =
+    (omega arith, subst (λ (y : Point). IsOver l.over y (whole_of l p)) (same_Some x c g) f.0)
+fits_at l (p ∷ ps) (x ∷ cs) (suc k) c f g = let r = fits_at l ps cs k c f.1 g in (omega (arith, r.0), r.1)
 
 -- the corners fit spots over lengths above 0
 pub record AreSpots (spots : List Spot) (corners : List Point) : Type 0 where
-  pub d : ℕ
-  pub s : ℕ
-  pub h : ℕ
-  pub e : ℕ
-  pub positive : ArePositive s h e
-  pub fits : Fits d s h e spots corners
+  pub lengths : Lengths
+  pub positive : ArePositive lengths
+  pub fits : Fits lengths spots corners
 
--- the number is this multiple of s and that of e, over d
-abbrev pub Is : ℕ → ℕ → ℕ → Rat → ℕ → ℕ → Type 0
-Is d s e q qs qe = IsRatio q (qs * s + qe * e) d
+-- the number is this multiple of the first length and that of the second
+abbrev pub Is : Lengths → Rat → ℕ → ℕ → Type 0
+Is l q first second = IsRatio q (first * l.first + second * l.second) l.over
 
-pub ended : (d s h e : ℕ) → Fits d s h e [] []
+pub ended : (l : Lengths) → Fits l [] []
 unfolding Fits
-ended d s h e = tt
+ended l = tt
 
 -- one more corner, in front
-pub next : (d s h e xs xe y zs ze : ℕ) (a b c : Rat) (ps : List Spot) (cs : List Point) → Is d s e a xs xe
-    → IsRatio b (y * h) d → Is d s e c zs ze → Fits d s h e ps cs
-    → Fits d s h e (spot xs xe y zs ze ∷ ps) (point a b c ∷ cs)
+pub next : (l : Lengths) (p : Spot) (c : Point) (ps : List Spot) (cs : List Point) → Is l c.x p.xs p.xe
+    → IsRatio c.y (p.y * l.height) l.over → Is l c.z p.zs p.ze → Fits l ps cs → Fits l (p ∷ ps) (c ∷ cs)
 unfolding Fits
-next d s h e xs xe y zs ze a b c ps cs f g k rest = (record { x = f; y = g; z = k }, rest)
+next l p c ps cs x y z rest = (record { x = x; y = y; z = z }, rest)
 
-pub base_fits : (d s h e ws we ds de : ℕ) (size : Point) (ps : List Spot) (cs : List Point) → 0 < d
-    → Is d s e size.x ws we → Is d s e size.z ds de → Fits d s h e ps cs
-    → Fits d s h e (base ws we ds de ps) (over_base size cs)
-base_fits d s h e ws we ds de size ps cs p x z f =
-    let a : Is d s e zero_rat 0 0 = none (0 * s + 0 * e) d (omega arith) p in
-    let b : IsRatio zero_rat (0 * h) d = none (0 * h) d (omega arith) p in
-    let put = next d s h e in
-    put 0 0 0 0 0 _ _ _ _ _ a b a
-    (put ws we 0 0 0 _ _ _ _ _ x b a (put ws we 0 ds de _ _ _ _ _ x b z (put 0 0 0 ds de _ _ _ _ _ a b z f)))
+pub base_fits : (l : Lengths) (far : Spot) (size : Point) (ps : List Spot) (cs : List Point) → 0 < l.over
+    → Is l size.x far.xs far.xe → Is l size.z far.zs far.ze → Fits l ps cs
+    → Fits l (base far ps) (over_base size cs)
+base_fits l far size ps cs p x z rest =
+    let a : Is l zero_rat 0 0 = none (0 * l.first + 0 * l.second) l.over (omega arith) p in
+    let b : IsRatio zero_rat (0 * l.height) l.over = none (0 * l.height) l.over (omega arith) p in
+    let put = next l in
+    put _ _ _ _ a b a (put _ _ _ _ x b a (put _ _ _ _ x b z (put _ _ _ _ a b z rest)))
 
 pub given : (spots : List Spot) (xs cs : List Point) → AreSpots spots xs
     → ◌≡◌ {A = Result (List Point) SolidFault} (Ok xs) (Ok cs) → AreSpots spots cs

@@ -1,14 +1,12 @@
 -- What a mesh that is given was made of: corners, each of them placed.
 use Rattle.std.proofs.Common.{◌≡◌, ℕ, zero, suc, List, [], ◌∷◌, false, refl, subst, sym, ◌∙◌, Ok, Some}
 use Rattle.std.specs.Prelude.{slice_get}
-use Rattle.cga_fraction.specs.declared.overflow.Overflow as Unit
 use Rattle.cga_fraction.proofs.Door.{None-not-Some, and_then-ok, err_if-ok, same_Ok, same_Some}
 use Rattle.cga_word.specs.declared.primitive.Primitive.{Primitive}
 use Rattle.cga_frame.specs.Scope.{Scope, place_of}
 use Rattle.cga_frame.specs.declared.point.Point.{Point}
 use Rattle.cga_solid.specs.Corners.{corners_of}
 use Rattle.cga_solid.specs.Solids.{all_placed, form_of, lacks_size, mesh_in, mesh_of, placed, vertices_of}
-use Rattle.cga_solid.specs.declared.solid_fault.SolidFault.TheVariants as fault
 use Rattle.cga_solid.specs.declared.solid_mesh.SolidMesh.{SolidMesh}
 use Rattle.cga_solid.proofs.Door.{placed_is}
 

@@ -10,7 +10,20 @@ use Rattle.cga_solid.specs.Faces.{edges_of}
 use Rattle.cga_facing.specs.Facing.{is_of}
 use Rattle.cga_facing.proofs.Sides.{Whole, before, behind, product}
 
--- a corner: x and z are multiples of two lengths s and e, and y is one of h
+-- three lengths, each a whole number over one denominator
+pub record Lengths : Type 0 where
+  pub over : ℕ
+  pub first : ℕ
+  pub height : ℕ
+  pub second : ℕ
+
+-- the three lengths are above 0
+pub record ArePositive (lengths : Lengths) : Type 0 where
+  pub first : 0 < lengths.first
+  pub height : 0 < lengths.height
+  pub second : 0 < lengths.second
+
+-- a corner: x and z are multiples of the first length (s) and of the second (e), and y is one of the height
 pub record Spot : Type 0 where
   pub xs : ℕ
   pub xe : ℕ
@@ -24,40 +37,63 @@ spot xs xe y zs ze = record { xs = xs; xe = xe; y = y; zs = zs; ze = ze }
 abbrev pub origin : Spot
 origin = spot 0 0 0 0 0
 
--- the base, whose sides are these multiples, and the further corners
-abbrev pub base : ℕ → ℕ → ℕ → ℕ → List Spot → List Spot
-base ws we ds de more = origin ∷ spot ws we 0 0 0 ∷ spot ws we 0 ds de ∷ spot 0 0 0 ds de ∷ more
+-- the base from the origin to the corner opposite, and the further corners
+abbrev pub base : Spot → List Spot → List Spot
+base far more =
+    origin ∷ spot far.xs far.xe 0 0 0 ∷ spot far.xs far.xe 0 far.zs far.ze ∷ spot 0 0 0 far.zs far.ze ∷ more
 
--- the corners of each form: s and e are half of the sides, or of the shorter side and of what the longer has more
+-- the base whose sides are twice the two lengths
+abbrev pub two_by_two : Spot
+two_by_two = spot 2 0 0 0 2
+
+-- the corners of each form: the lengths are half of the sides, or of the shorter side and of what the longer has more
 abbrev pub cube : List Spot
-cube = base 2 0 0 2 (spot 0 0 2 0 0 ∷ spot 2 0 2 0 0 ∷ spot 2 0 2 0 2 ∷ spot 0 0 2 0 2 ∷ [])
+cube = base two_by_two (spot 0 0 2 0 0 ∷ spot 2 0 2 0 0 ∷ spot 2 0 2 0 2 ∷ spot 0 0 2 0 2 ∷ [])
 
 abbrev pub shed : List Spot
-shed = base 2 0 0 2 (spot 2 0 2 0 2 ∷ spot 0 0 2 0 2 ∷ [])
+shed = base two_by_two (spot 2 0 2 0 2 ∷ spot 0 0 2 0 2 ∷ [])
 
 abbrev pub gable_x : List Spot
-gable_x = base 2 0 0 2 (spot 0 0 2 0 1 ∷ spot 2 0 2 0 1 ∷ [])
+gable_x = base two_by_two (spot 0 0 2 0 1 ∷ spot 2 0 2 0 1 ∷ [])
 
 abbrev pub gable_z : List Spot
-gable_z = base 2 0 0 2 (spot 1 0 2 0 0 ∷ spot 1 0 2 0 2 ∷ [])
+gable_z = base two_by_two (spot 1 0 2 0 0 ∷ spot 1 0 2 0 2 ∷ [])
 
 abbrev pub hip_x : List Spot
-hip_x = base 2 2 2 0 (spot 1 0 2 1 0 ∷ spot 1 2 2 1 0 ∷ [])
+hip_x = base (spot 2 2 0 2 0) (spot 1 0 2 1 0 ∷ spot 1 2 2 1 0 ∷ [])
 
 abbrev pub hip_z : List Spot
-hip_z = base 2 0 2 2 (spot 1 0 2 1 0 ∷ spot 1 0 2 1 2 ∷ [])
+hip_z = base (spot 2 0 0 2 2) (spot 1 0 2 1 0 ∷ spot 1 0 2 1 2 ∷ [])
 
 abbrev pub pyramid : List Spot
-pyramid = base 2 0 2 0 (spot 1 0 2 1 0 ∷ [])
+pyramid = base (spot 2 0 0 2 0) (spot 1 0 2 1 0 ∷ [])
 
 abbrev pub quad : List Spot
 quad = origin ∷ spot 2 0 0 0 0 ∷ spot 2 0 2 0 0 ∷ spot 0 0 2 0 0 ∷ []
 
 -- the point that a spot is, for these lengths
-abbrev pub whole_of : ℕ → ℕ → ℕ → Spot → Whole
-whole_of s h e p = record { x = p.xs * s + p.xe * e; y = p.y * h; z = p.zs * s + p.ze * e }
+abbrev pub whole_of : Lengths → Spot → Whole
+whole_of l p = record { x = p.xs * l.first + p.xe * l.second; y = p.y * l.height; z = p.zs * l.first + p.ze * l.second }
 
--- ---- products of coordinates are multiples of s s h, s e h and e e h
+-- what the side of v has above 0, and below it, for these lengths
+abbrev pub before_of : Lengths → Spot → Spot → Spot → Spot → ℕ
+before_of l a b c v = before product (whole_of l a) (whole_of l b) (whole_of l c) (whole_of l v)
+
+abbrev pub behind_of : Lengths → Spot → Spot → Spot → Spot → ℕ
+behind_of l a b c v = behind product (whole_of l a) (whole_of l b) (whole_of l c) (whole_of l v)
+
+-- ---- products of coordinates are volumes
+
+-- a volume: so many times each product of the height with s s, s e and e e
+pub record Volume : Type 0 where
+  pub ss : ℕ
+  pub se : ℕ
+  pub ee : ℕ
+
+-- how large a volume is, for these lengths
+abbrev pub size_of : Lengths → Volume → ℕ
+size_of l v =
+    v.ss * (l.first * l.first * l.height) + v.se * (l.first * l.second * l.height) + v.ee * (l.second * l.second * l.height)
 
 abbrev pub of_ss : Spot → Spot → Spot → ℕ
 of_ss p q r = p.xs * q.y * r.zs
@@ -68,30 +104,31 @@ of_se p q r = (p.xs * r.ze + p.xe * r.zs) * q.y
 abbrev pub of_ee : Spot → Spot → Spot → ℕ
 of_ee p q r = p.xe * q.y * r.ze
 
-abbrev whole_product : ℕ → ℕ → ℕ → Spot → Spot → Spot → ℕ
-whole_product s h e p q r = product (whole_of s h e p) (whole_of s h e q) (whole_of s h e r)
+-- the volumes of both
+abbrev pub volume_before : Spot → Spot → Spot → Spot → Volume
+volume_before a b c v = record { ss = before of_ss a b c v; se = before of_se a b c v; ee = before of_ee a b c v }
 
-product_is : (s h e : ℕ) (p q r : Spot)
-    → whole_product s h e p q r ≡ of_ss p q r * (s * s * h) + of_se p q r * (s * e * h) + of_ee p q r * (e * e * h)
-product_is s h e p q r = omega arith
+abbrev pub volume_behind : Spot → Spot → Spot → Spot → Volume
+volume_behind a b c v = record { ss = behind of_ss a b c v; se = behind of_se a b c v; ee = behind of_ee a b c v }
 
 -- ---- the tests
 
+-- the volumes are the same
+abbrev pub is_same : Volume → Volume → Bool
+is_same v w = nat_eq v.ss w.ss && (nat_eq v.se w.se && nat_eq v.ee w.ee)
+
+-- in nothing is the first more, and in something it is less
+abbrev pub is_less : Volume → Volume → Bool
+is_less v w =
+    nat_le v.ss w.ss && (nat_le v.se w.se && (nat_le v.ee w.ee && nat_lt (v.ss + v.se + v.ee) (w.ss + w.se + w.ee)))
+
 -- as much is before as behind
 abbrev pub is_level : Spot → Spot → Spot → Spot → Bool
-is_level a b c v =
-    nat_eq (before of_ss a b c v) (behind of_ss a b c v)
-    && (nat_eq (before of_se a b c v) (behind of_se a b c v)
-    && nat_eq (before of_ee a b c v) (behind of_ee a b c v))
+is_level a b c v = is_same (volume_before a b c v) (volume_behind a b c v)
 
 -- nothing is before, and something is behind
 abbrev pub is_lower : Spot → Spot → Spot → Spot → Bool
-is_lower a b c v =
-    nat_le (before of_ss a b c v) (behind of_ss a b c v)
-    && (nat_le (before of_se a b c v) (behind of_se a b c v)
-    && (nat_le (before of_ee a b c v) (behind of_ee a b c v)
-    && nat_lt (before of_ss a b c v + before of_se a b c v + before of_ee a b c v)
-    (behind of_ss a b c v + behind of_se a b c v + behind of_ee a b c v)))
+is_lower a b c v = is_less (volume_before a b c v) (volume_behind a b c v)
 
 abbrev pub stands : Bool → Spot → Spot → Spot → Spot → Bool
 stands own a b c v = if own then is_level a b c v else is_lower a b c v
@@ -153,76 +190,68 @@ stands_at spots faces face i j k m right f g h l =
     let z = contained (right_edges spots face (i, j)) (edges_of face) (j, k) y h in
     below_at (right_of spots face i j k) (length spots) m (meeting j _ z) l
 
-level_naturals : (u w a b c f g h x y z : ℕ) → u ≡ a * x + b * y + c * z → w ≡ f * x + g * y + h * z → a ≡ f → b ≡ g
-    → c ≡ h → u ≡ w
-level_naturals u w a b c f g h x y z p q i j k = p ∙ rw (i, j, k) (sym q)
+-- ---- what they tell of points
 
-lower_naturals : (u w a b c f g h x y z : ℕ) → u ≡ a * x + b * y + c * z → w ≡ f * x + g * y + h * z → a ≤ f → b ≤ g
-    → c ≤ h → a + b + c < f + g + h → 0 < x → 0 < y → 0 < z → u < w
-lower_naturals u w a b c f g h x y z p q i j k l r s t =
-    let d : ℕ = f - a in
-    let m : ℕ = g - b in
-    let n : ℕ = h - c in
-    let ex : 1 * d ≤ x * d = mul-le-mul_right d r in
-    let ey : 1 * m ≤ y * m = mul-le-mul_right m s in
-    let ez : 1 * n ≤ z * n = mul-le-mul_right n t in
-    let fx : f * x ≡ (a + d) * x = ap (λ w. w * x) (omega arith) in
-    let fy : g * y ≡ (b + m) * y = ap (λ w. w * y) (omega arith) in
-    let fz : h * z ≡ (c + n) * z = ap (λ w. w * z) (omega arith) in
-    omega arith
+before_is : (l : Lengths) (a b c v : Spot)
+    → before_of l a b c v ≡ size_of l (volume_before a b c v)
+before_is l a b c v = omega arith
 
-before_is : (s h e : ℕ) (a b c v : Spot)
-    → before product (whole_of s h e a) (whole_of s h e b) (whole_of s h e c) (whole_of s h e v)
-    ≡ before of_ss a b c v * (s * s * h) + before of_se a b c v * (s * e * h) + before of_ee a b c v * (e * e * h)
-before_is s h e a b c v = omega arith
+behind_is : (l : Lengths) (a b c v : Spot)
+    → behind_of l a b c v ≡ size_of l (volume_behind a b c v)
+behind_is l a b c v = omega arith
 
-behind_is : (s h e : ℕ) (a b c v : Spot)
-    → behind product (whole_of s h e a) (whole_of s h e b) (whole_of s h e c) (whole_of s h e v)
-    ≡ behind of_ss a b c v * (s * s * h) + behind of_se a b c v * (s * e * h) + behind of_ee a b c v * (e * e * h)
-behind_is s h e a b c v = omega arith
-
--- the three lengths are above 0
-pub record ArePositive (s h e : ℕ) : Type 0 where
-  pub first : 0 < s
-  pub height : 0 < h
-  pub second : 0 < e
-
-equal_three : (a b c f g h : ℕ) → (nat_eq a f && (nat_eq b g && nat_eq c h)) ≡ true → (a ≡ f) × (b ≡ g) × (c ≡ h)
-equal_three a b c f g h t =
-    let more = and_second (nat_eq a f) (nat_eq b g && nat_eq c h) t in
-    let x = eq_from_nat_eq a f (and_first (nat_eq a f) (nat_eq b g && nat_eq c h) t) in
-    let y = eq_from_nat_eq b g (and_first (nat_eq b g) (nat_eq c h) more) in
-    (x, y, eq_from_nat_eq c h (and_second (nat_eq b g) (nat_eq c h) more))
+same_size : (l : Lengths) (v w : Volume) → is_same v w ≡ true → size_of l v ≡ size_of l w
+same_size l v w t =
+    let more = and_second (nat_eq v.ss w.ss) (nat_eq v.se w.se && nat_eq v.ee w.ee) t in
+    let x = eq_from_nat_eq v.ss w.ss (and_first (nat_eq v.ss w.ss) (nat_eq v.se w.se && nat_eq v.ee w.ee) t) in
+    let y = eq_from_nat_eq v.se w.se (and_first (nat_eq v.se w.se) (nat_eq v.ee w.ee) more) in
+    let z = eq_from_nat_eq v.ee w.ee (and_second (nat_eq v.se w.se) (nat_eq v.ee w.ee) more) in
+    rw (x, y, z) refl
 
 le_from_nat_le : (a b : ℕ) → nat_le a b ≡ true → a ≤ b
 le_from_nat_le a b h = grind (arith, leb_tells a b)
 
-lower_three : (a b c f g h : ℕ)
-    → (nat_le a f && (nat_le b g && (nat_le c h && nat_lt (a + b + c) (f + g + h)))) ≡ true
-    → (a ≤ f) × (b ≤ g) × (c ≤ h) × (a + b + c < f + g + h)
-lower_three a b c f g h t =
-    let some = nat_lt (a + b + c) (f + g + h) in
-    let p = and_second (nat_le a f) (nat_le b g && (nat_le c h && some)) t in
-    let q = and_second (nat_le b g) (nat_le c h && some) p in
-    let x = le_from_nat_le a f (and_first (nat_le a f) (nat_le b g && (nat_le c h && some)) t) in
-    let y = le_from_nat_le b g (and_first (nat_le b g) (nat_le c h && some) p) in
-    let z = le_from_nat_le c h (and_first (nat_le c h) some q) in
-    (x, y, z, lt_from_nat_lt (a + b + c) (f + g + h) (and_second (nat_le c h) some q))
+-- the volume is less in all
+record IsLess (v w : Volume) : Type 0 where
+  ss : v.ss ≤ w.ss
+  se : v.se ≤ w.se
+  ee : v.ee ≤ w.ee
+  all : v.ss + v.se + v.ee < w.ss + w.se + w.ee
 
-pub level_is : (s h e : ℕ) (a b c v : Spot) → is_level a b c v ≡ true
-    → before product (whole_of s h e a) (whole_of s h e b) (whole_of s h e c) (whole_of s h e v)
-    ≡ behind product (whole_of s h e a) (whole_of s h e b) (whole_of s h e c) (whole_of s h e v)
-level_is s h e a b c v t =
-    let k = equal_three (before of_ss a b c v) (before of_se a b c v) (before of_ee a b c v) _ _ _ t in
-    level_naturals _ _ (before of_ss a b c v) (before of_se a b c v) (before of_ee a b c v) _ _ _
-    (s * s * h) (s * e * h) (e * e * h) (before_is s h e a b c v) (behind_is s h e a b c v) k.0 k.1 k.2
+less_tells : (v w : Volume) → is_less v w ≡ true → IsLess v w
+less_tells v w t =
+    let some = nat_lt (v.ss + v.se + v.ee) (w.ss + w.se + w.ee) in
+    let p = and_second (nat_le v.ss w.ss) (nat_le v.se w.se && (nat_le v.ee w.ee && some)) t in
+    let q = and_second (nat_le v.se w.se) (nat_le v.ee w.ee && some) p in
+    record {
+      ss = le_from_nat_le v.ss w.ss (and_first (nat_le v.ss w.ss) (nat_le v.se w.se && (nat_le v.ee w.ee && some)) t);
+      se = le_from_nat_le v.se w.se (and_first (nat_le v.se w.se) (nat_le v.ee w.ee && some) p);
+      ee = le_from_nat_le v.ee w.ee (and_first (nat_le v.ee w.ee) some q);
+      all = lt_from_nat_lt (v.ss + v.se + v.ee) (w.ss + w.se + w.ee) (and_second (nat_le v.ee w.ee) some q);
+    }
 
-pub lower_is : (s h e : ℕ) (a b c v : Spot) → ArePositive s h e → is_lower a b c v ≡ true
-    → before product (whole_of s h e a) (whole_of s h e b) (whole_of s h e c) (whole_of s h e v)
-    < behind product (whole_of s h e a) (whole_of s h e b) (whole_of s h e c) (whole_of s h e v)
-lower_is s h e a b c v p t =
-    let k = lower_three (before of_ss a b c v) (before of_se a b c v) (before of_ee a b c v) _ _ _ t in
-    lower_naturals _ _ (before of_ss a b c v) (before of_se a b c v) (before of_ee a b c v) _ _ _
-    (s * s * h) (s * e * h) (e * e * h) (before_is s h e a b c v) (behind_is s h e a b c v) k.0 k.1 k.2 k.3
-    (mul-pos (mul-pos p.first p.first) p.height) (mul-pos (mul-pos p.first p.second) p.height)
-    (mul-pos (mul-pos p.second p.second) p.height)
+-- by how much a multiple grows, at least
+grown : (m n x : ℕ) → m ≤ n → 0 < x → m * x + (n - m) ≤ n * x
+grown m n x l p =
+    let e : 1 * (n - m) ≤ x * (n - m) = mul-le-mul_right (n - m) p in
+    let f : n * x ≡ (m + (n - m)) * x = ap (λ k. k * x) (omega arith) in
+    omega arith
+
+less_size : (l : Lengths) (v w : Volume) → ArePositive l → is_less v w ≡ true → size_of l v < size_of l w
+less_size l v w p t =
+    let k = less_tells v w t in
+    let x = grown v.ss w.ss _ k.ss (mul-pos (mul-pos p.first p.first) p.height) in
+    let y = grown v.se w.se _ k.se (mul-pos (mul-pos p.first p.second) p.height) in
+    let z = grown v.ee w.ee _ k.ee (mul-pos (mul-pos p.second p.second) p.height) in
+    omega (arith, k.ss, k.se, k.ee, k.all)
+
+pub level_is : (l : Lengths) (a b c v : Spot) → is_level a b c v ≡ true
+    → before_of l a b c v ≡ behind_of l a b c v
+level_is l a b c v t =
+    before_is l a b c v ∙ (same_size l (volume_before a b c v) (volume_behind a b c v) t ∙ sym (behind_is l a b c v))
+
+pub lower_is : (l : Lengths) (a b c v : Spot) → ArePositive l → is_lower a b c v ≡ true
+    → before_of l a b c v < behind_of l a b c v
+lower_is l a b c v p t =
+    let k = less_size l (volume_before a b c v) (volume_behind a b c v) p t in
+    rw (before_is l a b c v, behind_is l a b c v) k
