@@ -28,6 +28,12 @@ set_kept xs i x j y at other = (j, get_set xs i j x (λ e. other (ap Some e)) �
 pub kept_set : {X : Type 0} (xs : List X) (i : ℕ) (x : X) → Kept (slice_set xs i x) (Some i) xs (Some i)
 kept_set xs i x j y at other = (j, sym (get_set xs i j x (λ e. other (ap Some e))) ∙ at, other)
 
+-- one that stands at the place already
+pub set_same : {X : Type 0} (xs : List X) (i : ℕ) (x : X) → slice_get xs i ≡ Some x → slice_set xs i x ≡ xs
+set_same {X} [] i x at = absurd (cc)
+set_same {X} (y ∷ ys) zero x at = let e : y ≡ x = (cc) in ap (λ (z : X). z ∷ ys) (sym e)
+set_same {X} (y ∷ ys) (suc i) x at = ap (λ (zs : List X). y ∷ zs) (set_same ys i x at)
+
 -- ---- one behind all others
 
 get_more : {X : Type 0} (xs : List X) (x : X) (j : ℕ) (y : X) → slice_get xs j ≡ Some y

@@ -146,7 +146,7 @@ pub(crate) fn set_lot(
         return Err(EditRefused::TooManyLots);
     }
     let grammar = sources.grammar.copy(alloc)?;
-    let lots = put_lot(alloc, copied(alloc, &sources.lots)?, lot, place)?;
+    let lots = put_lot(alloc, &sources.lots, lot, place)?;
     Ok(Sources {
         grammar,
         lots,

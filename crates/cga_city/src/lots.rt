@@ -1,5 +1,5 @@
 //! Lots as edits change them.
-ghost use Rattle.std.specs.Prelude.{◌≡◌, IfOk};
+ghost use Rattle.std.specs.Prelude.{◌≡◌, ℕ, Some, IfOk, slice_get, true};
 ghost use Rattle.cga_city.specs.Lots as spec;
 
 use crate::grammars::is_plain;
@@ -43,17 +43,47 @@ pub(crate) fn copied(alloc: Global, lots: &Shared<Lot>) -> Result<Vec<Lot>, NoMe
     Ok(Vec::from_slice(alloc, lots.as_slice())?)
 }
 
-/// A lot in the place of the one of its name, which is given, or behind all others.
+/// Whether two lots are the same.
+fn same_lot(a: &Lot, b: &Lot) -> bool
+    ensures { result ≡ true → a.now ≡ b.now }
+{
+    a.name == b.name
+        && a.seed == b.seed
+        && a.x == b.x
+        && a.z == b.z
+        && a.width == b.width
+        && a.depth == b.depth
+        && a.symbol == b.symbol
+}
+
+/// Whether a lot stands at a place already.
+fn stands_at(lots: &[Lot], lot: &Lot, place: Option<usize>) -> bool
+    ensures { result ≡ true → (i : ℕ) × (place ≡ Some i) × (slice_get lots.now i ≡ Some lot.now) }
+{
+    match place {
+        Some(place) => match lots.get(place) {
+            Some(other) => same_lot(other, lot),
+            None => false,
+        },
+        None => false,
+    }
+}
+
+/// A lot in the place of the one of its name, which is given, or behind all others. A list that has it there is shared
+/// and not copied.
 pub(crate) fn put_lot(
     alloc: Global,
-    lots: Vec<Lot>,
+    lots: &Shared<Lot>,
     lot: Lot,
     place: Option<usize>,
 ) -> Result<Shared<Lot>, NoMemory>
-    requires place { place ≡ spec.lot_place lot.name lots.items }
-    ensures { IfOk result (λ new. new ≡ spec.with_lot lot lots.items) }
+    requires place { place ≡ spec.lot_place lot.name lots.now }
+    ensures { IfOk result (λ new. new ≡ spec.with_lot lot lots.now) }
 {
-    let mut members = lots;
+    if stands_at(lots.as_slice(), &lot, place) {
+        return lots.share();
+    }
+    let mut members = copied(alloc, lots)?;
     match place {
         Some(place) => {
             members[place] = lot;

@@ -109,16 +109,25 @@ covered_next xs ys roots H from to a kept here p low lt c h at e = elim (nat_cas
 ]
 
 -- a group is emptied, and its places are gone over
-pub covered_anew : (xs ys zs : Blocks) (roots : Named) (H : ℕ → Option Hulls) (group from to count : ℕ)
-    → count ≡ length roots → from ≡ 256 * group → ((p : ℕ) → p < count → p < from + 256 → p < to)
-    → ((place : ℕ) (h : Hulls) → place / 256 ≢ group → IsHeld xs place h → IsHeld ys place h) → StaysHeld ys zs
-    → ((p : ℕ) → from ≤ p → p < to → IsCovered zs roots H p) → AreCovered xs roots H → AreCovered zs roots H
-covered_anew xs ys zs roots H group from to count n f reach others kept here a place c h at e =
+-- one block is made anew, of the places from its first to the last of them that has a root
+pub covered_anew : (xs ys zs : Blocks) (roots : Named) (H : ℕ → Option Hulls) (block to : ℕ)
+    → ((p : ℕ) → p < length roots → p < 16 * block + 16 → p < to)
+    → ((place : ℕ) (h : Hulls) → place / 16 ≢ block → IsHeld xs place h → IsHeld ys place h) → StaysHeld ys zs
+    → ((p : ℕ) → 16 * block ≤ p → p < to → IsCovered zs roots H p) → AreCovered xs roots H → AreCovered zs roots H
+covered_anew xs ys zs roots H block to reach others kept here a place c h at e =
     let lt = ids_within roots place c at in
-    elim (nat_cases (place / 256) group) [
-      | inl q ↦ here place (omega (arith, f, q)) (reach place (omega (arith, n, lt)) (omega (arith, f, q))) c h at e
+    elim (nat_cases (place / 16) block) [
+      | inl q ↦ here place (omega (arith, q)) (reach place lt (omega (arith, q))) c h at e
       | inr ne ↦ kept place h (others place h ne (a place c h at e))
     ]
+
+-- a group is made anew of its blocks, where each root has one
+pub covered_gathered : (xs ys : Blocks) (roots : Named) (H : ℕ → Option Hulls)
+    → ((place : ℕ) → place < length roots → place / 16 < length xs.blocks.hulls.items)
+    → ((place : ℕ) (h : Hulls) → place / 16 < length xs.blocks.hulls.items → IsHeld xs place h → IsHeld ys place h)
+    → AreCovered xs roots H → AreCovered ys roots H
+covered_gathered xs ys roots H there kept a place c h at e =
+    kept place h (there place (ids_within roots place c at)) (a place c h at e)
 
 -- ---- one root's hulls change
 

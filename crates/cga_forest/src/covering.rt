@@ -1,5 +1,5 @@
 //! How the blocks are kept up with the roots.
-ghost use Rattle.std.specs.Prelude.{◌≡◌, ◌≤◌, ◌<◌, ℕ, Some, slice_get};
+ghost use Rattle.std.specs.Prelude.{◌≡◌, ◌≤◌, ◌<◌, ◌+◌, ◌*◌, ◌/◌, ◌^◌, ℕ, Some, length, slice_get, true};
 ghost use Rattle.cga_forest.specs.Blocks.{AreCovered, AreCoveredBut, IsCovered};
 ghost use Rattle.cga_kept_hulls.specs.Blocks.{StaysHeld};
 ghost use Rattle.cga_forest.specs.Roots.{HasRoots};
@@ -38,34 +38,67 @@ pub fn cover_all(blocks: &mut Blocks, store: &Store, roots: &MarkedMap)
 {
     blocks.clear();
     cover_places(blocks, store, roots, 0, roots.len());
+    blocks.rest();
 }
 
-/// Makes a group and its blocks anew.
-fn renew(blocks: &mut Blocks, store: &Store, roots: &MarkedMap, group: usize)
+/// Makes a block anew.
+fn renew(blocks: &mut Blocks, store: &Store, roots: &MarkedMap, block: usize)
     requires { AreCovered blocks.old roots.now.list (λ c. hulls_of (at store.now c)) }
     ensures { AreCovered blocks.new roots.now.list (λ c. hulls_of (at store.now c)) }
 {
     let count = roots.len();
-    if group <= count / 256 {
-        blocks.empty(group);
-        let from = 256 * group;
-        let to = if count - from < 256 {
-            count
-        } else {
-            from + 256
-        };
+    if block <= count / 16 {
+        blocks.empty(block);
+        let from = 16 * block;
+        let to = if count - from < 16 { count } else { from + 16 };
         cover_places(blocks, store, roots, from, to);
     }
 }
 
-/// Makes the groups anew that took hulls in, so that they and their blocks hold no more than they have to.
+/// Makes the blocks of a group anew that took hulls in. Answers whether there were some.
+fn renew_loose(blocks: &mut Blocks, store: &Store, roots: &MarkedMap, group: usize) -> bool
+    requires group { 16 * group + 16 < 2 ^ 64 }
+    requires covered { AreCovered blocks.old roots.now.list (λ c. hulls_of (at store.now c)) }
+    ensures { AreCovered blocks.new roots.now.list (λ c. hulls_of (at store.now c)) }
+{
+    let mut some = false;
+    for block in 16 * group..16 * group + 16 {
+        if blocks.is_loose(block) {
+            renew(blocks, store, roots, block);
+            some = true;
+        }
+    }
+    some
+}
+
+/// Whether each root has a block.
+fn has_blocks(blocks: &Blocks, roots: &MarkedMap) -> bool
+    ensures { result ≡ true → (place : ℕ) → place < length roots.now.list → place / 16 < length blocks.now.blocks.hulls.items }
+{
+    let count = roots.len();
+    count == 0 || blocks.has_block(count - 1)
+}
+
+/// Makes the blocks of a group anew that took hulls in, and then the group of its blocks.
+#[tactic(auto, using(crate::proofs::Covered::covered_gathered))]
+fn tighten_group(blocks: &mut Blocks, store: &Store, roots: &MarkedMap, group: usize)
+    requires group { 16 * group + 16 < 2 ^ 64 }
+    requires covered { AreCovered blocks.old roots.now.list (λ c. hulls_of (at store.now c)) }
+    ensures { AreCovered blocks.new roots.now.list (λ c. hulls_of (at store.now c)) }
+{
+    if renew_loose(blocks, store, roots, group) && has_blocks(blocks, roots) {
+        blocks.gather(group);
+    }
+}
+
+/// Makes the blocks anew that took hulls in, and their groups, so that they hold no more than they have to. The time
+/// goes by their number; of the other blocks, each sixteen roots have one, no more than that is asked.
 pub fn tighten(blocks: &mut Blocks, store: &Store, roots: &MarkedMap)
     requires { AreCovered blocks.old roots.now.list (λ c. hulls_of (at store.now c)) }
     ensures { AreCovered blocks.new roots.now.list (λ c. hulls_of (at store.now c)) }
 {
-    let (from, to) = blocks.loose();
-    for group in from..to {
-        renew(blocks, store, roots, group);
+    for group in 0..roots.len() / 256 + 1 {
+        tighten_group(blocks, store, roots, group);
     }
     blocks.rest();
 }

@@ -27,6 +27,7 @@ mod new_hulls;
 mod node;
 mod placing;
 mod plan;
+mod replacement;
 mod slots;
 mod standing;
 mod store;
@@ -60,6 +61,7 @@ pub use moved::Moved;
 pub use node::{Node, State};
 use placing::{children_after, kind_after};
 use plan::Plan;
+use replacement::Replacement;
 use slots::{depth_of, parent_at, replace};
 use std::alloc::Global;
 use std::marker::Model;
@@ -231,10 +233,12 @@ impl Forest {
             self.alloc,
             id,
             self.marking,
-            state,
-            news,
-            made,
-            spare,
+            Replacement {
+                state,
+                news,
+                made,
+                spare,
+            },
         );
         cover_root(&mut self.blocks, &self.store, &self.roots, changed);
         list_children(&self.store, id, places.as_slice(), &mut came);

@@ -6,8 +6,8 @@ ghost use Rattle.cga_forest.specs.declared.node.Node.{Node};
 ghost use Rattle.cga_forest.specs.Numbers.{StaysTaken};
 ghost use Rattle.cga_tree.specs.Tree.{IsTree};
 
-use crate::former_box::FormerBox;
-use crate::node::{Node, State};
+use crate::node::Node;
+use crate::replacement::Replacement;
 use crate::store::{Store, add_node, child_count, flag, rewrite, set_hulls};
 use cga_kept_hulls::{Hulls, Spares};
 use std::alloc::Global;
@@ -208,33 +208,35 @@ pub fn refresh(
     None
 }
 
-/// Gives a node another state and these children. The room is there already. Answers the root, where its hulls changed.
+/// Gives a node another state and other children. The room is there already. Answers the root, where its hulls changed.
 pub fn replace(
     store: &mut Store,
     spares: &mut Spares,
     alloc: Global,
     id: usize,
     marking: bool,
-    state: State,
-    news: Vec<Node>,
-    made: Vec<usize>,
-    spare: FormerBox,
+    new: Replacement,
 ) -> Option<usize>
-    requires room { HasRoom store.old (length news.items) }
-    requires empty { made.items ≡ [] }
-    requires space { length news.items ≤ made.cap }
+    requires room { HasRoom store.old (length new.news.items) }
+    requires empty { new.made.items ≡ [] }
+    requires space { length new.news.items ≤ new.made.cap }
     requires whole { IsWhole (λ c. present_of (at store.old c)) (λ c. hulls_of (at store.old c)) }
-    requires here { HasInner (present_of (at store.old id)) state news.items }
+    requires here { HasInner (present_of (at store.old id)) new.state new.news.items }
     requires spares { depth_at (at store.old id) < length spares.old.boxes.items }
     ensures whole { IsWhole (λ c. present_of (at store.new c)) (λ c. hulls_of (at store.new c)) }
-    ensures replaced { ReplacedBy (λ c. present_of (at store.old c)) (λ c. present_of (at store.new c)) id state news.items (λ c. goes (λ d. kids (at store.old d)) (256 - depth_at (at store.old id)) (λ k w. stay_of (at store.old k) w) (kids (at store.old id)) news.items (length (kids (at store.old id))) c) }
+    ensures replaced { ReplacedBy (λ c. present_of (at store.old c)) (λ c. present_of (at store.new c)) id new.state new.news.items (λ c. goes (λ d. kids (at store.old d)) (256 - depth_at (at store.old id)) (λ k w. stay_of (at store.old k) w) (kids (at store.old id)) new.news.items (length (kids (at store.old id))) c) }
     ensures vacant { (c : ℕ) (d : Seen) → present_of (at store.old c) ≡ None → present_of (at store.new c) ≡ Some d → at store.old c ≡ None }
     ensures taken { (c : ℕ) → StaysTaken (at store.old c) (at store.new c) }
     ensures marked { marking ≡ true → (c : ℕ) → marked_of (at store.new c) ≡ marked_of (at store.old c) }
     ensures marked_hulls { marking ≡ true → (c : ℕ) → marked_hulls_of (at store.new c) ≡ marked_hulls_of (at store.old c) }
     ensures others { (c : ℕ) (d : Seen) → present_of (at store.old c) ≡ Some d → d.parent ≡ None → result ≢ Some c → hulls_of (at store.new c) ≡ hulls_of (at store.old c) }
 {
-    let mut made = made;
+    let Replacement {
+        state,
+        news,
+        mut made,
+        spare,
+    } = new;
     let depth = depth_of(store, id);
     drop_children(store, id, 256 - depth, news.as_slice());
     place_children(store, alloc, id, marking, news, &mut made);

@@ -1,10 +1,10 @@
 -- What an entry of a level holds.
-use Rattle.std.proofs.Common.{◌≡◌, ◌≢◌, inl, inr, ℕ, zero, suc, ◌+◌, ◌/◌, ◌%◌, ◌<◌, List, [], ◌∷◌, ◌++◌, length, set, true, false, refl, ap, sym, ◌∙◌, arith}
+use Rattle.std.proofs.Common.{◌≡◌, ◌≢◌, inl, inr, ℕ, zero, suc, ◌+◌, ◌/◌, ◌%◌, ◌<◌, List, [], ◌∷◌, ◌++◌, length, set, true, false, refl, ap, subst, sym, ◌∙◌, arith}
 use Rattle.std.specs.Prelude.{Option, Some, None, slice_get}
 use Rattle.std.proofs.lemmas.Option.{slice_get_within}
 use Rattle.cga_fraction.proofs.Door.{eq_or_ne as nat_cases}
 use Rattle.cga_kept_hulls.specs.declared.hulls.Hulls.{Hulls}
-use Rattle.cga_kept_hulls.specs.Blocks.{Level, IsIn, StaysIn, block_holds}
+use Rattle.cga_kept_hulls.specs.Blocks.{Level, IsIn, StaysIn, block_holds, known_hulls}
 use Rattle.cga_kept_hulls.specs.Hull.{with_hulls, holds_hulls}
 use Rattle.cga_kept_hulls.proofs.Alike.{holds_from, probed_apart, probed_chain}
 
@@ -55,3 +55,28 @@ held_still xs i o h at place x e = elim (nat_cases (place / 16) i) [
 pub room_made : (xs : Level) (o : Option Hulls) (roots place : ℕ) (h : Hulls) → roots % 16 ≡ 0 → roots / 16 ≡ length xs
     → place < roots → IsIn xs place h → IsIn (xs ++ o ∷ []) place h
 room_made xs o roots place h whole full lt e = ap (λ b. block_holds b h) (get_left xs (o ∷ []) (place / 16) (omega (arith, whole, full, lt))) ∙ e
+
+-- what holds hulls holds those that they hold
+held_through : (o : Option (Option Hulls)) (k h : Hulls) → block_holds o k ≡ true → holds_hulls k h ≡ true
+    → block_holds o h ≡ true
+held_through None k h e f = refl
+held_through (Some None) k h e f = let z : false ≡ true = e in absurd (cc)
+held_through (Some (Some g)) k h e f = holds_from g h (λ p t. probed_chain p k h f (probed_chain p g k e t))
+
+-- an entry that is there and holds hulls has some, and what holds these holds them
+pub held_by : (xs : Level) (i : ℕ) (h : Hulls) (outer : Option (Option Hulls)) → i < length xs
+    → block_holds (slice_get xs i) h ≡ true → ((k : Hulls) → known_hulls (slice_get xs i) ≡ Some k → block_holds outer k ≡ true)
+    → block_holds outer h ≡ true
+held_by [] i h outer lt e f = absurd (omega (arith, lt))
+held_by (None ∷ xs) zero h outer lt e f = absurd (cc)
+held_by (Some k ∷ xs) zero h outer lt e f = held_through outer k h (f k refl) e
+held_by (x ∷ xs) (suc i) h outer lt e f = held_by xs i h outer (omega (arith, lt)) e f
+
+-- what the entry of a place holds is held where all is that the entry of its number holds
+pub held_next : (xs ys zs : Level) (i block : ℕ) (h : Hulls) → ys ≡ xs → i ≡ block → i < length xs
+    → block_holds (slice_get xs i) h ≡ true
+    → (block < length ys → block_holds (slice_get ys block) h ≡ true → IsIn zs block h) → IsIn zs i h
+held_next xs ys zs i block h same q lt e f =
+    let there : block < length ys = subst (λ (l : Level). block < length l) (sym same) (subst (λ (j : ℕ). j < length xs) q lt) in
+    let holds : block_holds (slice_get ys block) h ≡ true = ap (λ (l : Level). block_holds (slice_get l block) h) same ∙ (ap (λ (j : ℕ). block_holds (slice_get xs j) h) (sym q) ∙ e) in
+    subst (λ (j : ℕ). IsIn zs j h) (sym q) (f there holds)

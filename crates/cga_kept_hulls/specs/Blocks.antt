@@ -1,5 +1,5 @@
 -- Hulls over runs of roots: a block is sixteen places of their list in a row, and a group sixteen blocks.
-use Rattle.std.specs.Prelude.{◌≡◌, ℕ, ◌/◌, List, Option, Some, None, Bool, true, false, slice_get}
+use Rattle.std.specs.Prelude.{◌≡◌, ℕ, ◌/◌, List, Option, Some, None, Bool, true, false, get_or, slice_get}
 use Rattle.cga_frame.specs.Box.{Box, touches}
 use Rattle.cga_kept_hulls.specs.declared.blocks.Blocks.{Blocks}
 use Rattle.cga_kept_hulls.specs.declared.hulls.Hulls.{Hulls}
@@ -14,6 +14,11 @@ abbrev pub block_holds : Option (Option Hulls) → Hulls → Bool
 block_holds None h = true
 block_holds (Some None) h = false
 block_holds (Some (Some k)) h = holds_hulls k h
+
+-- the hulls of an entry, if it is there and holds some
+abbrev pub known_hulls : Option (Option Hulls) → Option Hulls
+known_hulls None = None
+known_hulls (Some known) = known
 
 abbrev pub known_touches : Option Hulls → Box → Bool
 known_touches None area = false
@@ -51,3 +56,7 @@ IsHeld blocks place h = IsIn blocks.blocks.hulls.items place h × IsIn blocks.gr
 -- all that was held is
 abbrev pub StaysHeld : Blocks → Blocks → Type 0
 StaysHeld old new = (place : ℕ) (h : Hulls) → IsHeld old place h → IsHeld new place h
+
+-- whether the block took hulls in since the blocks were last at rest
+abbrev pub is_loose : Blocks → ℕ → Bool
+is_loose blocks block = get_or blocks.loose.items block false

@@ -1,6 +1,6 @@
-ghost use Rattle.std.specs.Prelude.{◌≡◌, ◌≢◌, ◌<◌, ◌+◌, ◌*◌, ◌/◌, ◌^◌, ℕ, max};
+ghost use Rattle.std.specs.Prelude.{◌≡◌, ◌≢◌, ◌<◌, ◌+◌, ◌*◌, ◌/◌, ◌^◌, ℕ, length, slice_get, true, false};
 ghost use Rattle.cga_kept_hulls.specs.declared.hulls.Hulls.{Hulls};
-ghost use Rattle.cga_kept_hulls.specs.Blocks.{IsHeld, StaysHeld};
+ghost use Rattle.cga_kept_hulls.specs.Blocks.{IsHeld, IsIn, StaysHeld, StaysIn, block_holds, is_loose};
 
 use crate::hulls::Hulls;
 use crate::level::Level;
@@ -13,20 +13,16 @@ use std::alloc::Global;
 pub struct Blocks {
     pub blocks: Level,
     pub groups: Level,
-    /// Which groups took hulls in since they were last made anew.
-    from: usize,
-    to: usize,
+    /// Which blocks took hulls in since they were last made anew.
+    loose: Vec<bool>,
 }
 
 impl Blocks {
-    pub fn new(alloc: Global) -> Blocks
-        ensures { result.to ≡ 0 }
-    {
+    pub fn new(alloc: Global) -> Blocks {
         Blocks {
             blocks: Level::new(alloc),
             groups: Level::new(alloc),
-            from: usize::MAX,
-            to: 0,
+            loose: Vec::new(alloc),
         }
     }
 
@@ -38,6 +34,9 @@ impl Blocks {
         if roots % 16 == 0 {
             self.groups.make_room(roots / 16, hulls)?;
         }
+        if roots / 16 >= self.loose.len() {
+            self.loose.push(false)?;
+        }
         Ok(())
     }
 
@@ -45,41 +44,69 @@ impl Blocks {
     pub fn join(&mut self, place: usize, hulls: &Hulls)
         ensures here { IsHeld self.new place hulls.now }
         ensures kept { StaysHeld self.old self.new }
-        ensures loose { self.new.to ≡ max self.old.to (place / 256 + 1) }
+        ensures loose { place / 16 < length self.old.loose.items → is_loose self.new (place / 16) ≡ true }
     {
         self.blocks.join(place, hulls);
         self.groups.join(place / 16, hulls);
-        let group = place / 256;
-        self.from = self.from.min(group);
-        self.to = self.to.max(group + 1);
-    }
-
-    /// Empties a group and its blocks, if they are there.
-    pub fn empty(&mut self, group: usize)
-        requires { 16 * group + 16 < 2 ^ 64 }
-        ensures { (place : ℕ) (h : Hulls) → place / 256 ≢ group → IsHeld self.old place h → IsHeld self.new place h }
-    {
-        self.groups.empty(group);
-        for block in 16 * group..16 * group + 16 {
-            self.blocks.empty(block);
+        let block = place / 16;
+        if block < self.loose.len() {
+            self.loose[block] = true;
         }
     }
 
-    /// The first of the groups that took hulls in, and where they end.
-    pub fn loose(&self) -> (usize, usize)
-        ensures first { result.0 ≡ self.now.from }
-        ensures end { result.1 ≡ self.now.to }
+    /// Whether a block is there for a place.
+    pub fn has_block(&self, place: usize) -> bool
+        ensures there { result ≡ true → place / 16 < length self.now.blocks.hulls.items }
     {
-        (self.from, self.to)
+        self.blocks.has(place)
     }
 
-    /// Forgets which they are.
+    /// Whether a block took hulls in since the blocks were last at rest.
+    pub fn is_loose(&self, block: usize) -> bool
+        ensures { result ≡ is_loose self.now block }
+    {
+        match self.loose.get(block) {
+            Some(loose) => *loose,
+            None => false,
+        }
+    }
+
+    /// Empties a block, if it is there.
+    pub fn empty(&mut self, block: usize)
+        ensures { (place : ℕ) (h : Hulls) → place / 16 ≢ block → IsHeld self.old place h → IsHeld self.new place h }
+    {
+        self.blocks.empty(block);
+    }
+
+    /// Takes what a block holds into its group.
+    fn gather_block(&mut self, block: usize)
+        ensures blocks { self.new.blocks ≡ self.old.blocks }
+        ensures kept { StaysIn self.old.groups.hulls.items self.new.groups.hulls.items }
+        ensures here { (h : Hulls) → block < length self.old.blocks.hulls.items → block_holds (slice_get self.old.blocks.hulls.items block) h ≡ true → IsIn self.new.groups.hulls.items block h }
+    {
+        if let Some(hulls) = self.blocks.hulls(block) {
+            self.groups.join(block, &hulls);
+        }
+    }
+
+    /// Makes a group anew, of its blocks.
+    pub fn gather(&mut self, group: usize)
+        requires { 16 * group + 16 < 2 ^ 64 }
+        ensures { (place : ℕ) (h : Hulls) → place / 16 < length self.old.blocks.hulls.items → IsHeld self.old place h → IsHeld self.new place h }
+    {
+        self.groups.empty(group);
+        for block in 16 * group..16 * group + 16 {
+            self.gather_block(block);
+        }
+    }
+
+    /// Forgets which blocks took hulls in.
     pub fn rest(&mut self)
         ensures kept { StaysHeld self.old self.new }
-        ensures none { self.new.to ≡ 0 }
     {
-        self.from = usize::MAX;
-        self.to = 0;
+        for block in 0..self.loose.len() {
+            self.loose[block] = false;
+        }
     }
 
     /// Empties them all.

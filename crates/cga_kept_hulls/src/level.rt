@@ -1,6 +1,6 @@
-ghost use Rattle.std.specs.Prelude.{◌≡◌, ◌≢◌, ◌<◌, ◌/◌, ℕ, Some, slice_get};
+ghost use Rattle.std.specs.Prelude.{◌≡◌, ◌≢◌, ◌<◌, ◌/◌, ℕ, Some, length, slice_get, true};
 ghost use Rattle.cga_kept_hulls.specs.declared.hulls.Hulls.{Hulls};
-ghost use Rattle.cga_kept_hulls.specs.Blocks.{IsIn, StaysIn, block_asks, block_holds, block_touches, known_asks, known_touches};
+ghost use Rattle.cga_kept_hulls.specs.Blocks.{IsIn, StaysIn, block_asks, block_holds, block_touches, known_asks, known_hulls, known_touches};
 
 use crate::hulls::Hulls;
 use cga_fraction::NoMemory;
@@ -46,6 +46,23 @@ impl Level {
         }
         let wider = hulls.with(&self.hulls[entry]);
         self.hulls[entry] = Some(wider);
+    }
+
+    /// Whether an entry is there for a place.
+    pub fn has(&self, place: usize) -> bool
+        ensures { result ≡ true → place / 16 < length self.now.hulls.items }
+    {
+        place / 16 < self.hulls.len()
+    }
+
+    /// The hulls of an entry, if it is there and holds some.
+    pub fn hulls(&self, entry: usize) -> Option<Hulls>
+        ensures { result ≡ known_hulls (slice_get self.now.hulls.items entry) }
+    {
+        match self.hulls.get(entry) {
+            Some(known) => *known,
+            None => None,
+        }
     }
 
     /// Empties an entry, if it is there.

@@ -1,0 +1,14 @@
+use crate::former_box::FormerBox;
+use crate::node::{Node, State};
+
+/// What a node gets: another state and other children, with the memory that is taken ahead for it.
+#[derive(Drop)]
+pub struct Replacement {
+    pub state: State,
+    /// What the children are to be, in their order.
+    pub news: Vec<Node>,
+    /// Room for their numbers.
+    pub made: Vec<usize>,
+    /// A box for what the node was.
+    pub spare: FormerBox,
+}
