@@ -1,15 +1,13 @@
--- How many members of each sort a list has that has the nodes of a forest.
+-- No two nodes of a forest are one member.
 use Rattle.std.proofs.Common.{◌≡◌, ℕ, zero, suc, ◌+◌, List, [], ◌∷◌, ◌++◌, length, Bool, true, false, cond, refl, sym, ap, ◌∙◌, subst, arith, slice_get, Option, Some, None, inl, inr}
-use Rattle.std.specs.Prelude.{count_by}
 use Rattle.std.specs.List.{AllByRecursion, IsDistinct, Contains, flat_map}
-use Rattle.std.proofs.lemmas.List.Sums.{sum_by-cons}
 use Rattle.std.proofs.lemmas.Option.{slice_get-get_or}
 use Rattle.std.proofs.lemmas.Slice.Eq.{bytes_eq-Decides}
-use Rattle.cga_order.specs.World.{Among, is_instance}
+use Rattle.cga_order.specs.World.{Among}
 use Rattle.cga_order.specs.Once.{Once}
-use Rattle.cga_forest.proofs.Door.{inside, keeps_laws, there}
+use Rattle.cga_forest.proofs.Door.{inside, keeps_laws}
 use Rattle.cga_index.proofs.Door.{in_some}
-use Rattle.cga_order.proofs.Door.{Once-append, Once-index, count-once, length-once}
+use Rattle.cga_order.proofs.Door.{Once-append}
 use Rattle.cga_expand.specs.Children.{Member}
 use Rattle.cga_index.specs.Tree as trees
 use Rattle.cga_index.specs.Tree.{below, all_nodes}
@@ -17,14 +15,10 @@ use Rattle.cga_forest.specs.View.{Seen}
 use Rattle.cga_forest.specs.Roots.{Named, names, same_name}
 use Rattle.cga_forest.specs.Tree.{ForestView, IsForest, IsRootOf, node_at}
 use Rattle.cga_forest.specs.Walked.{forest_tree}
-use Rattle.cga_city.specs.Nodes.{member_of, members_at, members_among, HasNodes}
+use Rattle.cga_city.specs.Nodes.{member_of, members_at, members_among}
 use Rattle.cga_city.specs.Order.{comes_before}
-use Rattle.cga_city.specs.Reports.{is_faulted, instance_count, fault_count}
-use Rattle.cga_city.specs.Tally.{none, tallied, with_seen}
-use Rattle.cga_city.specs.declared.tally.Tally.{Tally}
 use Rattle.cga_city.proofs.Sorting.{Rises, all_at}
 use Rattle.cga_city.proofs.LotNodes.{among_to, among_from, among_both, root_own, nodes_below, nodes_rise, Below, nodes_from, before_strict}
-use Rattle.cga_city.proofs.Nodes.{among_has, has_among}
 use Rattle.cga_fraction.proofs.Door.{slice_get_from_Contains as found_at}
 
 -- ---- one root a lot
@@ -96,81 +90,32 @@ module _ (v : ForestView) (f : IsForest v) where
   unfolding all_nodes
   once_all = roots_once (forest_tree v).roots (λ r i. i) (keeps_laws v f).roots_once
 
-  module _ (list : List Member) (has : HasNodes v list) where
-    list_once : Once list
-    list_once = Once-index list (λ m i j a b. has.apart i j m m a b refl)
+  -- so no two nodes are one member
+  rest_once : (o : Option Seen) (rest : List Member) → Once (members_at o ++ rest) → Once rest
+  rest_once None rest h = h
+  rest_once (Some d) rest h = h.1
 
-    to_nodes : (m : Member) → Among m list → Among m all_members
-    to_nodes m i =
-        let x = has.only m.shape m.kind (among_has list m i) in
-        let same : member_of x.1.node ≡ m = ap (λ t. record { shape = t; kind = x.1.node.kind }) x.3 ∙ ap (λ j. record { shape = m.shape; kind = j }) x.4 in
-        subst (λ n. Among n all_members) same (among_from v (all_nodes (forest_tree v)) x.0 x.1 (inside v f x.0 (x.1, x.2)) x.2)
+  first_apart : (o : Option Seen) (rest : List Member) (d : Seen) → o ≡ Some d → Once (members_at o ++ rest)
+      → Among (member_of d.node) rest → ⊥
+  first_apart o rest d at h i =
+      (subst (λ (p : Option Seen). Once (members_at p ++ rest)) at h).0 i
 
-    from_nodes : (m : Member) → Among m all_members → Among m list
-    from_nodes m i =
-        let x = among_to v (all_nodes (forest_tree v)) m i in
-        subst (λ n. Among n list) x.4 (has_among list x.1.node.shape x.1.node.kind (has.all x.0 x.1 x.3))
+  node_apart : (ns : List ℕ) → Once (members_among v ns) → (c d : ℕ) (x y : Seen) → trees.Member ns c → trees.Member ns d
+      → node_at v c ≡ Some x → node_at v d ≡ Some y → member_of x.node ≡ member_of y.node → c ≡ d
+  unfolding members_among
+  node_apart [] h c d x y i j a b e = absurd i
+  node_apart (n ∷ ns) h c d x y i j a b e = elim i [
+    | inl p ↦ elim j [
+      | inl q ↦ sym p ∙ q
+      | inr q ↦ absurd (first_apart (node_at v n) (members_among v ns) x (ap (node_at v) p ∙ a) h (subst (λ m. Among m (members_among v ns)) (sym e) (among_from v ns d y q b)))
+    ]
+    | inr p ↦ elim j [
+      | inl q ↦ absurd (first_apart (node_at v n) (members_among v ns) y (ap (node_at v) q ∙ b) h (subst (λ m. Among m (members_among v ns)) e (among_from v ns c x p a)))
+      | inr q ↦ node_apart ns (rest_once (node_at v n) (members_among v ns) h) c d x y p q a b e
+    ]
+  ]
 
-    pub same_count : (test : Member → Bool) → count_by test all_members ≡ count_by test list
-    same_count test = count-once test all_members list once_all list_once from_nodes to_nodes
-
-    pub same_length : length all_members ≡ length list
-    same_length = let a = length-once all_members list once_all from_nodes in let b = length-once list all_members list_once to_nodes in omega arith
-
--- ---- the tally
-
-length_there : (v : ForestView) (ns : List ℕ) → ((c : ℕ) → trees.Member ns c → (d : Seen) × (node_at v c ≡ Some d))
-    → length (members_among v ns) ≡ length ns
-unfolding members_among
-length_there v [] h = refl
-length_there v (n ∷ ns) h =
-    let w = h n (inl refl) in
-    let rest = length_there v ns (λ c i. h c (inr i)) in
-    ap (λ (o : Option Seen). length (members_at o ++ members_among v ns)) w.1 ∙ ap suc rest
-
-pub few_nodes : (v : ForestView) → IsForest v → (list : List Member) → HasNodes v list
-    → length (all_nodes (forest_tree v)) ≡ length list
-few_nodes v f list has = sym (length_there v (all_nodes (forest_tree v)) (λ c i. there v f c i)) ∙ same_length v f list has
-
--- a tally with what members add to it
-abbrev added : Tally → List Member → Tally
-added t ms = record {
-  shapes = t.shapes + length ms;
-  instances = t.instances + count_by (λ m. is_instance m.kind) ms;
-  faults = t.faults + count_by (λ m. is_faulted m.kind) ms;
-}
-
-same_tally : (a b c d e g : ℕ) → a ≡ d → b ≡ e → c ≡ g
-    → ◌≡◌ {A = Tally} (record { shapes = a; instances = b; faults = c })
-    (record { shapes = d; instances = e; faults = g })
-same_tally a b c d e g p q r = ap (λ x. record { shapes = x; instances = b; faults = c }) p ∙ ap (λ x. record { shapes = d; instances = x; faults = c }) q ∙ ap (λ x. record { shapes = d; instances = e; faults = x }) r
-
-count_more : (test : Member → Bool) (n : ℕ) (m : Member) (ms : List Member)
-    → cond (test m) (n + 1) n + count_by test ms ≡ n + count_by test (m ∷ ms)
-count_more test n m ms =
-    let e = sum_by-cons (λ x. cond (test x) 1 0) m ms in
-    by (test m) e
-  where
-    by : (t : Bool) → count_by test (m ∷ ms) ≡ cond t 1 0 + count_by test ms
-        → cond t (n + 1) n + count_by test ms ≡ n + count_by test (m ∷ ms)
-    by true e = omega (arith, e)
-    by false e = omega (arith, e)
-
-added_seen : (o : Option Seen) (t : Tally) (ms : List Member) → added (with_seen o t) ms ≡ added t (members_at o ++ ms)
-added_seen None t ms = refl
-added_seen (Some d) t ms =
-    let m = member_of d.node in
-    same_tally _ _ _ _ _ _ (omega arith) (count_more (λ x. is_instance x.kind) t.instances m ms) (count_more (λ x. is_faulted x.kind) t.faults m ms)
-
-tallied_added : (v : ForestView) (ns : List ℕ) (t : Tally) → tallied v ns t ≡ added t (members_among v ns)
-unfolding tallied members_among
-tallied_added v [] t = same_tally _ _ _ _ _ _ (omega arith) (omega arith) (omega arith)
-tallied_added v (n ∷ ns) t = tallied_added v ns (with_seen (node_at v n) t) ∙ added_seen (node_at v n) t (members_among v ns)
-
--- what is tallied is what the list has
-pub tally_of : (v : ForestView) → IsForest v → (list : List Member) → HasNodes v list
-    → tallied v (all_nodes (forest_tree v)) none ≡ record
-    { shapes = length list; instances = instance_count list; faults = fault_count list }
-tally_of v f list has =
-    tallied_added v (all_nodes (forest_tree v)) none
-    ∙ same_tally _ _ _ _ _ _ (let e = same_length v f list has in omega arith) (let e = same_count v f list has (λ m. is_instance m.kind) in omega arith) (let e = same_count v f list has (λ m. is_faulted m.kind) in omega arith)
+  pub one_node : (c d : ℕ) (x y : Seen) → node_at v c ≡ Some x → node_at v d ≡ Some y
+      → member_of x.node ≡ member_of y.node → c ≡ d
+  one_node c d x y a b e =
+      node_apart (all_nodes (forest_tree v)) once_all c d x y (inside v f c (x, a)) (inside v f d (y, b)) a b e

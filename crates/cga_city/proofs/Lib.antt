@@ -17,8 +17,8 @@ mod Keeping
 mod Drawable
 mod LotNodes
 mod Nodes
-mod Tallies
 mod Counting
+mod Shown
 mod Kept
 mod Tracing
 mod Warming

@@ -43,23 +43,23 @@ before_strict = strict_by nat_list_cmp_total (λ (m : Member). m.shape.path)
 
 -- ---- members of nodes
 
+pub at_to : (o : Option Seen) (rest : List Member) (m : Member) → Among m (members_at o ++ rest)
+    → ((d : Seen) × (o ≡ Some d) × (member_of d.node ≡ m)) ⊎ Among m rest
+at_to None rest m h = inr h
+at_to (Some d) rest m h = elim h [ inl e ↦ inl (d, refl, e) | inr r ↦ inr r ]
+
+pub at_from : (o : Option Seen) (rest : List Member) (d : Seen) → o ≡ Some d
+    → Among (member_of d.node) (members_at o ++ rest)
+at_from o rest d e = subst (λ (p : Option Seen). Among (member_of d.node) (members_at p ++ rest)) (sym e) (inl refl)
+
+pub at_rest : (o : Option Seen) (rest : List Member) (m : Member) → Among m rest → Among m (members_at o ++ rest)
+at_rest None rest m h = h
+at_rest (Some d) rest m h = inr h
+
 module _ (v : ForestView) where
   pub among_both : (xs ys : List ℕ) → members_among v (xs ++ ys) ≡ members_among v xs ++ members_among v ys
   unfolding members_among
   among_both xs ys = flat_map-append (λ n. members_at (node_at v n)) xs ys
-
-  at_to : (o : Option Seen) (rest : List Member) (m : Member) → Among m (members_at o ++ rest)
-      → ((d : Seen) × (o ≡ Some d) × (member_of d.node ≡ m)) ⊎ Among m rest
-  at_to None rest m h = inr h
-  at_to (Some d) rest m h = elim h [ inl e ↦ inl (d, refl, e) | inr r ↦ inr r ]
-
-  at_from : (o : Option Seen) (rest : List Member) (d : Seen) → o ≡ Some d
-      → Among (member_of d.node) (members_at o ++ rest)
-  at_from o rest d e = subst (λ (p : Option Seen). Among (member_of d.node) (members_at p ++ rest)) (sym e) (inl refl)
-
-  at_rest : (o : Option Seen) (rest : List Member) (m : Member) → Among m rest → Among m (members_at o ++ rest)
-  at_rest None rest m h = h
-  at_rest (Some d) rest m h = inr h
 
   pub among_to : (ns : List ℕ) (m : Member) → Among m (members_among v ns)
       → (c : ℕ) × (d : Seen) × trees.Member ns c × (node_at v c ≡ Some d) × (member_of d.node ≡ m)

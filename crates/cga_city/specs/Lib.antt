@@ -8,7 +8,6 @@ pub mod City
 pub mod Edited
 pub mod Inside
 pub mod Nodes
-pub mod Tally
 pub mod Kept
 pub mod Laws
 pub mod Hulls

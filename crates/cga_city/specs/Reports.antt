@@ -10,6 +10,7 @@ use Rattle.cga_shape.specs.declared.lot.Lot.{Lot}
 use Rattle.cga_shape.specs.declared.shape.Shape.{Shape}
 use Rattle.cga_shape.specs.declared.shape_fault.ShapeFault.{ShapeFault}
 use Rattle.cga_expand.specs.Children.{Member}
+pub use Rattle.cga_forest.specs.Count.{is_faulted}
 use Rattle.cga_city.specs.declared.no_lot.NoLot.{NoLot}
 use Rattle.cga_city.specs.Lots.{lot_place, names_of}
 use Rattle.cga_city.specs.Order.{members_of}
@@ -33,12 +34,6 @@ faulted_as shape (Instance p) = []
 -- the fault of a member that has one
 abbrev pub fault_of : Member → List FaultLine
 fault_of m = faulted_as m.shape m.kind
-
-abbrev pub is_faulted : {F P : Type 0} → Kind F P → Bool
-is_faulted Waiting = false
-is_faulted Done = false
-is_faulted (Faulted fault) = true
-is_faulted (Instance p) = false
 
 -- the instances of these lots in their order, and in a lot by their paths
 unfoldable pub drawn_in : List (List ℕ) → List Member → List Drawn

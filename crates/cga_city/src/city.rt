@@ -16,7 +16,6 @@ use crate::edited::Edited;
 use crate::empty::{empty_sources, no_changes, no_shapes};
 use crate::no_lot::NoLot;
 use crate::reports::{all_faults, told};
-use crate::tally::tally_all;
 use crate::within::within_budget;
 use cga_expand::Expansions;
 use cga_fraction::{List, NoMemory, Tests};
@@ -230,8 +229,7 @@ impl City {
         }
     }
 
-    /// How many there are of each, and how many shapes the last accepted edit touched. Takes no memory; the time goes by
-    /// the shapes.
+    /// How many there are of each, and how many shapes the last accepted edit touched. Takes no memory, and no walk.
     pub fn counts(&self) -> Counts
         requires { IsTrue self.now.warm }
         ensures lots { result.lots ≡ length self.now.sources.lots }
@@ -242,12 +240,11 @@ impl City {
     {
         let _most = self.budget;
         self.kept.forest.laws();
-        let tally = tally_all(&self.kept.forest);
         Counts {
             lots: self.sources.lots.len() as u32,
-            shapes: tally.shapes as u32,
-            instances: tally.instances as u32,
-            faults: tally.faults as u32,
+            shapes: self.kept.forest.count() as u32,
+            instances: self.kept.forest.instances() as u32,
+            faults: self.kept.forest.faults() as u32,
             expanded: self.expanded,
         }
     }

@@ -17,7 +17,6 @@ pub mod limits;
 mod lots;
 mod no_lot;
 mod reports;
-mod tally;
 mod walk;
 mod within;
 

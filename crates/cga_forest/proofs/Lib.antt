@@ -29,4 +29,5 @@ mod Covered
 mod Heads
 mod Few
 mod Ids
+mod KindCounts
 pub mod Door

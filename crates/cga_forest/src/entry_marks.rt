@@ -1,14 +1,18 @@
 //! What an entry keeps for the mark.
 use crate::entry::Entry;
-use cga_marked::Marked;
+use cga_marked::{Marked, Sort};
+use cga_shape::Kind;
 
 impl Marked for Entry {
     ghost use Rattle.cga_forest.specs.View.{IsPlain, aside_of, touched_of, touched_entry, hidden_entry, settled_entry, rolled_entry};
+    ghost use Rattle.cga_forest.specs.Count.{entry_counts};
     ghost use Rattle.cga_forest.specs.Marks as entry;
 
     ghost touched = { touched_of };
 
     ghost aside = { aside_of };
+
+    ghost counts = { entry_counts };
 
     ghost plain = { IsPlain };
 
@@ -19,6 +23,17 @@ impl Marked for Entry {
     ghost settled = { settled_entry };
 
     ghost rolled = { rolled_entry };
+
+    fn counts_as(&self) -> Sort {
+        if self.aside {
+            return Sort::Other;
+        }
+        match self.node.kind {
+            Kind::Instance(_) => Sort::First,
+            Kind::Faulted(_) => Sort::Second,
+            Kind::Waiting | Kind::Done => Sort::Other,
+        }
+    }
 
     fn touch(&mut self) -> bool {
         let fresh = !self.touched;

@@ -10,6 +10,7 @@
 
 mod below;
 mod change;
+mod counts;
 mod covering;
 mod entry;
 mod entry_marks;

@@ -2,6 +2,7 @@ mod Count
 mod Slots
 mod Books
 mod Room
+mod Sorts
 mod Sweep
 mod Names
 mod Swaps

@@ -1,4 +1,5 @@
 pub mod Count
 pub mod Marked
 pub mod Slab
+pub mod Sorts
 pub mod Map

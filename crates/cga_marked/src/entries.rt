@@ -4,6 +4,7 @@ ghost use Rattle.cga_marked.specs.Marked.{KeepsBooks};
 ghost use Rattle.cga_marked.specs.Slab.{Listed, OnlyTouched, Relates, passes};
 
 use crate::change::Change;
+use crate::counted_slab::CountedSlab;
 use crate::marked::Marked;
 use slab::Slab;
 
@@ -51,7 +52,8 @@ pub fn change_entry<E: Marked, C: Change<E>>(
     }
 }
 
-fn settle_entry<E: Marked>(entries: &mut Slab<E>, id: usize)
+/// Drops what an entry keeps for the mark, or the entry if it is set aside.
+pub fn settle_entry<E: Marked>(entries: &mut Slab<E>, id: usize)
     ensures here { get entries.new id ≡ option_and_then E.settled (get entries.old id) }
     ensures others { (c : ℕ) → c ≢ id → get entries.new c ≡ get entries.old c }
     ensures capacity { entries.new.capacity ≡ entries.old.capacity }
@@ -65,7 +67,8 @@ fn settle_entry<E: Marked>(entries: &mut Slab<E>, id: usize)
     }
 }
 
-fn roll_back_entry<E: Marked>(entries: &mut Slab<E>, id: usize)
+/// Puts an entry back as it was at the mark, or drops it if it came since.
+pub fn roll_back_entry<E: Marked>(entries: &mut Slab<E>, id: usize)
     ensures here { get entries.new id ≡ option_and_then E.rolled (get entries.old id) }
     ensures others { (c : ℕ) → c ≢ id → get entries.new c ≡ get entries.old c }
     ensures capacity { entries.new.capacity ≡ entries.old.capacity }
@@ -80,23 +83,23 @@ fn roll_back_entry<E: Marked>(entries: &mut Slab<E>, id: usize)
 }
 
 /// Settles the entries on a list, which has all that are touched.
-pub fn settle_listed<E: Marked>(entries: &mut Slab<E>, list: &[usize])
+pub fn settle_listed<E: Marked>(entries: &mut CountedSlab<E>, list: &[usize])
     requires listed { Listed E.touched E.plain entries.old.slots list.now }
     ensures each { (c : ℕ) → get entries.new c ≡ option_and_then E.settled (get entries.old c) }
     ensures capacity { entries.new.capacity ≡ entries.old.capacity }
 {
     for id in list {
-        settle_entry(entries, *id);
+        entries.settle(*id);
     }
 }
 
 /// Puts the entries on such a list back as they were at the mark.
-pub fn roll_back_listed<E: Marked>(entries: &mut Slab<E>, list: &[usize])
+pub fn roll_back_listed<E: Marked>(entries: &mut CountedSlab<E>, list: &[usize])
     requires listed { Listed E.touched E.plain entries.old.slots list.now }
     ensures each { (c : ℕ) → get entries.new c ≡ option_and_then E.rolled (get entries.old c) }
     ensures capacity { entries.new.capacity ≡ entries.old.capacity }
 {
     for id in list {
-        roll_back_entry(entries, *id);
+        entries.roll_back(*id);
     }
 }

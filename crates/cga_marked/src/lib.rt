@@ -9,13 +9,17 @@
 #![tactic(auto)]
 
 mod change;
+mod counted_slab;
 mod entries;
 mod marked;
 mod marked_map;
 mod marked_slab;
+mod numbers;
+mod sort;
 mod step;
 
 pub use change::Change;
 pub use marked::Marked;
 pub use marked_map::MarkedMap;
 pub use marked_slab::MarkedSlab;
+pub use sort::Sort;

@@ -1,5 +1,8 @@
 ghost use Rattle.std.specs.Prelude.{◌≡◌, Bool, not, Option, Some, None, if◌then◌else◌};
 ghost use Rattle.cga_marked.specs.Marked.{AreMarks};
+ghost use Rattle.cga_marked.specs.declared.sort.Sort.{Sort};
+
+use crate::sort::Sort;
 
 /// An entry, which keeps for a mark what it was.
 pub trait Marked: Drop {
@@ -7,6 +10,8 @@ pub trait Marked: Drop {
     ghost touched: { Self → Bool };
 
     ghost aside: { Self → Bool };
+
+    ghost counts: { Self → Sort };
 
     // it keeps nothing for a mark, and isn't set aside
     ghost plain: { Self → Type 0 };
@@ -19,6 +24,10 @@ pub trait Marked: Drop {
     ghost settled: { Self → Option Self };
 
     ghost rolled: { Self → Option Self };
+
+    /// In which number it counts.
+    fn counts_as(&self) -> Sort
+        ensures { result ≡ counts self.now };
 
     /// True where it wasn't touched.
     fn touch(&mut self) -> bool

@@ -1,19 +1,20 @@
 ghost use Rattle.std.specs.Prelude.{true, false, ◌≢◌, ◌≡◌, ◌+◌, ℕ, OnOk, IsSome, [], Some, None, not, option_copied, option_map, option_and_then};
 ghost use Rattle.cga_marked.specs.Count.{tally};
+ghost use Rattle.cga_marked.specs.Sorts.{is_first, is_second, sorted};
 ghost use Rattle.cga_marked.specs.Slab.{SlabView, at, HasRoom, KeepsRoom, Relates, passes, touch_when};
 
 use crate::change::Change;
-use crate::entries::{change_entry, hide_entry, roll_back_listed, settle_listed, touch_entry};
+use crate::counted_slab::CountedSlab;
+use crate::entries::{roll_back_listed, settle_listed};
 use crate::marked::Marked;
 use cga_fraction::NoMemory;
-use slab::Slab;
 use std::alloc::Global;
 use std::marker::Model;
 
 /// Entries under numbers, with a list of those that the mark's end has to look at.
 #[derive(Drop)]
 pub struct MarkedSlab<E: Marked> {
-    entries: Slab<E>,
+    entries: CountedSlab<E>,
     touched: Vec<usize>,
     aside: usize,
 }
@@ -33,7 +34,7 @@ impl<E: Marked> MarkedSlab<E> {
         ensures { result.slots ≡ [] }
     {
         MarkedSlab {
-            entries: Slab::new(alloc),
+            entries: CountedSlab::new(alloc),
             touched: Vec::new(alloc),
             aside: 0,
         }
@@ -49,7 +50,7 @@ impl<E: Marked> MarkedSlab<E> {
         requires here { IsSome (at self.now id) }
         ensures { at self.now id ≡ Some result.now }
     {
-        &self.entries[id]
+        self.entries.entry(id)
     }
 
     /// How many entries aren't set aside.
@@ -57,6 +58,19 @@ impl<E: Marked> MarkedSlab<E> {
         ensures { result ≡ tally (passes (λ e. not (E.aside e))) self.now.slots }
     {
         self.entries.len() - self.aside
+    }
+
+    /// How many entries there are of the first sort.
+    pub fn first(&self) -> usize
+        ensures { result ≡ sorted is_first E.counts self.now.slots }
+    {
+        self.entries.first()
+    }
+
+    pub fn second(&self) -> usize
+        ensures { result ≡ sorted is_second E.counts self.now.slots }
+    {
+        self.entries.second()
     }
 
     /// Takes memory.
@@ -94,7 +108,7 @@ impl<E: Marked> MarkedSlab<E> {
         ensures others { (c : ℕ) → c ≢ id → at self.new c ≡ at self.old c }
         ensures room { KeepsRoom self.old self.new }
     {
-        if touch_entry(&mut self.entries, id) {
+        if self.entries.touch(id) {
             self.touched.push_reserved(id);
         }
     }
@@ -106,7 +120,7 @@ impl<E: Marked> MarkedSlab<E> {
         ensures room { KeepsRoom self.old self.new }
     {
         self.touch(id);
-        if hide_entry(&mut self.entries, id) {
+        if self.entries.hide(id) {
             self.aside += 1;
         }
     }
@@ -129,7 +143,7 @@ impl<E: Marked> MarkedSlab<E> {
         ensures room { KeepsRoom self.old self.new }
     {
         self.touch_for(id, marking);
-        change_entry(&mut self.entries, id, marking, change);
+        self.entries.change(id, marking, change);
     }
 
     /// Drops what is set aside, and what is kept for the mark.

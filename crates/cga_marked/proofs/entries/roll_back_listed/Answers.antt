@@ -11,8 +11,8 @@ pub loop-id-preserved : goal.loop-id-preserved
 loop-id-preserved g c =
     let m = g.met.E.Marked.marks in
     record {
-      swept = swept_next g.E.Marked.touched g.E.Marked.plain g.E.Marked.rolled m.rolled_calm m.rolls c.args.entries.now.slots c.loop-id.entries.slots c.args.list.now c.roll_back_entry.new.entries.slots c.loop-id.id-index _ (get_at c.args.list.now c.loop-id.id-index c.loop-id-test.true) c.loop-id.invariant.swept c.roll_back_entry.ensures.here c.roll_back_entry.ensures.others;
-      capacity = c.roll_back_entry.ensures.capacity ∙ c.loop-id.invariant.capacity;
+      swept = swept_next g.E.Marked.touched g.E.Marked.plain g.E.Marked.rolled m.rolled_calm m.rolls c.args.entries.now.slots c.loop-id.entries.slots c.args.list.now c.roll_back.new.self.slots c.loop-id.id-index _ (get_at c.args.list.now c.loop-id.id-index c.loop-id-test.true) c.loop-id.invariant.swept c.roll_back.ensures.here c.roll_back.ensures.others;
+      capacity = c.roll_back.ensures.capacity ∙ c.loop-id.invariant.capacity;
     }
 
 pub returns-clause-each : goal.returns-clause-each

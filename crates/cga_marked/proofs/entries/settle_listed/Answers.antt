@@ -11,8 +11,8 @@ pub loop-id-preserved : goal.loop-id-preserved
 loop-id-preserved g c =
     let m = g.met.E.Marked.marks in
     record {
-      swept = swept_next g.E.Marked.touched g.E.Marked.plain g.E.Marked.settled m.settled_calm m.settles c.args.entries.now.slots c.loop-id.entries.slots c.args.list.now c.settle_entry.new.entries.slots c.loop-id.id-index _ (get_at c.args.list.now c.loop-id.id-index c.loop-id-test.true) c.loop-id.invariant.swept c.settle_entry.ensures.here c.settle_entry.ensures.others;
-      capacity = c.settle_entry.ensures.capacity ∙ c.loop-id.invariant.capacity;
+      swept = swept_next g.E.Marked.touched g.E.Marked.plain g.E.Marked.settled m.settled_calm m.settles c.args.entries.now.slots c.loop-id.entries.slots c.args.list.now c.settle.new.self.slots c.loop-id.id-index _ (get_at c.args.list.now c.loop-id.id-index c.loop-id-test.true) c.loop-id.invariant.swept c.settle.ensures.here c.settle.ensures.others;
+      capacity = c.settle.ensures.capacity ∙ c.loop-id.invariant.capacity;
     }
 
 pub returns-clause-each : goal.returns-clause-each

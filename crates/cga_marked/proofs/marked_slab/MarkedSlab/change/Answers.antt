@@ -7,14 +7,14 @@ use Rattle.cga_marked.proofs.Room.{room_kept}
 use Rattle.cga_marked.proofs.Slots.{relates_some, when_touched}
 use Rattle.cga_marked.proofs.marked_slab.MarkedSlab.change.Goals as goal
 
-pub change_entry-requires : goal.change_entry-requires
-change_entry-requires g c = record { touched = λ on. subst (λ (s : Option g.row.E.Denot). OnlyTouched g.E.Marked.touched s) (sym (ap (λ (v : SlabView g.row.E.Denot). at v c.args.id) c.self.view_is ∙ c.touch_for.ensures.here)) (when_touched g.E.Marked.touched g.E.Marked.touching g.met.E.Marked.marks.touches c.args.marking (at c.args.self.now c.args.id) on) }
+pub change-requires : goal.change-requires
+change-requires g c = record { touched = λ on. subst (λ (s : Option g.row.E.Denot). OnlyTouched g.E.Marked.touched s) (sym (ap (λ (v : SlabView g.row.E.Denot). at v c.args.id) c.self.view_is ∙ c.touch_for.ensures.here)) (when_touched g.E.Marked.touched g.E.Marked.touching g.met.E.Marked.marks.touches c.args.marking (at c.args.self.now c.args.id) on) }
 
 pub invariant_of-self : goal.invariant_of-self
-invariant_of-self g c = written c.self.invariant c.change_entry.new.entries.slots c.args.id c.change_entry.ensures.others c.change_entry.ensures.books
+invariant_of-self g c = written c.self.invariant c.change.new.self.slots c.args.id c.change.ensures.others c.change.ensures.books
 
 pub returns-clause-here : goal.returns-clause-here
-returns-clause-here g c = subst (λ (s : Option g.row.E.Denot). Relates (g.C.Change.changes c.args.marking c.args.change) s (slot c.change_entry.new.entries.slots c.args.id)) (ap (λ (v : SlabView g.row.E.Denot). at v c.args.id) c.self.view_is ∙ c.touch_for.ensures.here) c.change_entry.ensures.here
+returns-clause-here g c = subst (λ (s : Option g.row.E.Denot). Relates (g.C.Change.changes c.args.marking c.args.change) s (slot c.change.new.self.slots c.args.id)) (ap (λ (v : SlabView g.row.E.Denot). at v c.args.id) c.self.view_is ∙ c.touch_for.ensures.here) c.change.ensures.here
 
 pub returns-clause-room : goal.returns-clause-room
-returns-clause-room g c more h = room_kept _ _ _ _ c.self.view_is _ _ _ (some_same c.self.invariant c.change_entry.new.entries.slots c.args.id c.change_entry.ensures.others (relates_some (KeepsBooks g.E.Marked.touched g.E.Marked.aside g.E.Marked.plain) _ _ c.change_entry.ensures.books)) c.change_entry.ensures.capacity refl more (c.touch_for.ensures.room more h)
+returns-clause-room g c more h = room_kept _ _ _ _ c.self.view_is _ _ _ (some_same c.self.invariant c.change.new.self.slots c.args.id c.change.ensures.others (relates_some (KeepsBooks g.E.Marked.touched g.E.Marked.aside g.E.Marked.plain) _ _ c.change.ensures.books)) c.change.ensures.capacity refl more (c.touch_for.ensures.room more h)

@@ -10,20 +10,20 @@ pub overflow_add-self : goal.overflow_add-self
 overflow_add-self g c =
     let m = g.met.E.Marked.marks in
     let on = subst (λ (s : Option g.row.E.Denot). OnlyTouched g.E.Marked.touched s) (sym (ap (λ (v : SlabView g.row.E.Denot). at v c.args.id) c.self.view_is ∙ c.touch.ensures.here)) (map_touched g.E.Marked.touched g.E.Marked.touching m.touches (at c.args.self.now c.args.id)) in
-    let f = hide_fits c.self.invariant c.hide_entry.new.entries.slots c.args.id c.hide_entry.ensures.others m c.hide_entry.ensures.here on (sym c.hide_entry.ensures.fresh ∙ c.if-hide_entry.true) in
+    let f = hide_fits c.self.invariant c.hide.new.self.slots c.args.id c.hide.ensures.others m c.hide.ensures.here on (sym c.hide.ensures.fresh ∙ c.if-hide.true) in
     let s = c.self.inside.touched.small in omega arith
 
 pub invariant_of-self : goal.invariant_of-self
 invariant_of-self g c =
     let m = g.met.E.Marked.marks in
     let on = subst (λ (s : Option g.row.E.Denot). OnlyTouched g.E.Marked.touched s) (sym (ap (λ (v : SlabView g.row.E.Denot). at v c.args.id) c.self.view_is ∙ c.touch.ensures.here)) (map_touched g.E.Marked.touched g.E.Marked.touching m.touches (at c.args.self.now c.args.id)) in
-    hide_books c.self.invariant c.hide_entry.new.entries.slots c.args.id c.hide_entry.ensures.others m c.hide_entry.ensures.here on (sym c.hide_entry.ensures.fresh ∙ c.if-hide_entry.true)
+    hide_books c.self.invariant c.hide.new.self.slots c.args.id c.hide.ensures.others m c.hide.ensures.here on (sym c.hide.ensures.fresh ∙ c.if-hide.true)
 
-pub invariant_of-self-else-hide_entry : goal.invariant_of-self-else-hide_entry
-invariant_of-self-else-hide_entry g c = hide_still c.self.invariant c.hide_entry.new.entries.slots c.args.id c.hide_entry.ensures.others g.met.E.Marked.marks c.hide_entry.ensures.here (sym c.hide_entry.ensures.fresh ∙ c.if-hide_entry.false)
+pub invariant_of-self-else-hide : goal.invariant_of-self-else-hide
+invariant_of-self-else-hide g c = hide_still c.self.invariant c.hide.new.self.slots c.args.id c.hide.ensures.others g.met.E.Marked.marks c.hide.ensures.here (sym c.hide.ensures.fresh ∙ c.if-hide.false)
 
-pub returns-then-hide_entry-clause-room : goal.returns-then-hide_entry-clause-room
-returns-then-hide_entry-clause-room g c more h = room_kept _ _ _ _ c.self.view_is _ _ _ (hide_room c.self.invariant c.hide_entry.new.entries.slots c.args.id c.hide_entry.ensures.others g.met.E.Marked.marks c.hide_entry.ensures.here) c.hide_entry.ensures.capacity refl more (c.touch.ensures.room more h)
+pub returns-then-hide-clause-room : goal.returns-then-hide-clause-room
+returns-then-hide-clause-room g c more h = room_kept _ _ _ _ c.self.view_is _ _ _ (hide_room c.self.invariant c.hide.new.self.slots c.args.id c.hide.ensures.others g.met.E.Marked.marks c.hide.ensures.here) c.hide.ensures.capacity refl more (c.touch.ensures.room more h)
 
-pub returns-else-hide_entry-clause-room : goal.returns-else-hide_entry-clause-room
-returns-else-hide_entry-clause-room g c more h = room_kept _ _ _ _ c.self.view_is _ _ _ (hide_room c.self.invariant c.hide_entry.new.entries.slots c.args.id c.hide_entry.ensures.others g.met.E.Marked.marks c.hide_entry.ensures.here) c.hide_entry.ensures.capacity refl more (c.touch.ensures.room more h)
+pub returns-else-hide-clause-room : goal.returns-else-hide-clause-room
+returns-else-hide-clause-room g c more h = room_kept _ _ _ _ c.self.view_is _ _ _ (hide_room c.self.invariant c.hide.new.self.slots c.args.id c.hide.ensures.others g.met.E.Marked.marks c.hide.ensures.here) c.hide.ensures.capacity refl more (c.touch.ensures.room more h)

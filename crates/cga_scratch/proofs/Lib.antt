@@ -1,0 +1,5 @@
+mod Sorting
+mod LotNodes
+mod Nodes
+mod Counting
+mod Shown
