@@ -156,7 +156,7 @@ last true false u e h = sym (not-not u) ∙ ap not h
 last false true u e h = sym (not-not u) ∙ ap not h
 last false false u e h = h
 
-pub on : Axis → Bool → Signed
+unfoldable pub on : Axis → Bool → Signed
 on a b = record { axis = a; against = b }
 
 right_at : (a b c : Axis) (s t u : Bool) → parity a b c ≡ Some (differ s (differ t u))

@@ -35,14 +35,15 @@ use Rattle.cga_rework.specs.Changes.{ListsLost}
 use Rattle.cga_rework.specs.Turn as theory
 use Rattle.cga_update.specs.declared.work.Work.{Work}
 use Rattle.cga_queue.specs.Agenda.{AgendaView, IsLeast}
-use Rattle.cga_update.specs.Both.{both}
+use Rattle.cga_same.specs.Both.{both}
 use Rattle.cga_update.specs.Due.{AllCame, ComersAreDue}
 use Rattle.cga_update.specs.Edit.{asks_by, content, kept_nodes, meets_box, ranked, rules_of, shapes_of, the_edit}
 use Rattle.cga_check.specs.Uses.{same_name}
 use Rattle.cga_rule.specs.declared.grammar.Grammar.{Grammar}
 use Rattle.cga_expand.specs.Expand.{expand_of}
 use Rattle.cga_update.specs.Last.{AskersAreUpTo}
-use Rattle.cga_update.specs.Log.{IsLogged, StayAlike, came_of, drawn_of, is_of, noted_all, went_of}
+use Rattle.cga_depend.specs.Log.{noted_all}
+use Rattle.cga_update.specs.Log.{IsLogged, StayAlike, came_of, drawn_of, is_of, went_of}
 use Rattle.cga_update.specs.Means.{ArePriced, Means, told_ranked}
 use Rattle.cga_update.specs.Queue.{chains_of, on_of}
 use Rattle.cga_update.specs.Turned.{IsPlacing, MayTurn}

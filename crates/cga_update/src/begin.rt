@@ -6,8 +6,6 @@ ghost use Rattle.cga_update.specs.Queue.{chains_of};
 ghost use Rattle.cga_update.specs.Begun.{HasBegun, HasMoved, IsBetween, IsFresh, StandsMarked};
 
 use crate::asking::last_asker;
-use crate::changed::Grammars;
-use crate::last::Last;
 use crate::log::{note_came, note_went};
 use crate::queue::{add_moved, queue_changed, queue_near};
 use crate::renewal::Renewal;
@@ -17,7 +15,8 @@ use cga_check::Symbols;
 use cga_depend::Dependents;
 use cga_forest::{Forest, Moved};
 use cga_fraction::{NoMemory, Tests};
-use cga_queue::Agenda;
+use cga_queue::{Agenda, Last};
+use cga_same::Grammars;
 use std::alloc::Global;
 use std::sync::ledger::Ledger;
 
