@@ -49,6 +49,7 @@ fn begin<T: Ledger>(
     ensures begun { OnOk result (HasBegun work.entry.now.renewal.old.now work.entry.now.renewal.new.now work.entry.now.forest work.exit.now) }
     ensures mark { OnOk result ((c : ℕ) → marked_at work.exit.now.forest c ≡ node_at work.entry.now.forest c) }
     ensures sources { OnOk result (IsBetween work.entry.now.renewal.old.now work.entry.now.renewal.new.now work.exit.now) }
+    ensures budget { OnOk result (work.exit.now.renewal.budget ≡ work.entry.now.renewal.budget) }
 {
     let alloc = work.alloc;
     let renewal = work.renewal;
@@ -108,6 +109,7 @@ pub fn begun<'a, T: Ledger>(
     ensures begun { IfOk result (λ work. HasBegun renewal.entry.old.now renewal.entry.new.now forest work) }
     ensures mark { IfOk result (λ work. (c : ℕ) → marked_at work.forest c ≡ node_at forest c) }
     ensures sources { IfOk result (λ work. IsBetween renewal.entry.old.now renewal.entry.new.now work) }
+    ensures budget { IfOk result (λ work. work.renewal.budget ≡ renewal.entry.budget) }
 {
     let mut work = Work {
         alloc,
