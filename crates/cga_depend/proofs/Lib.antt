@@ -1,3 +1,4 @@
 mod Places
 mod Removed
+mod Applying
 pub mod Door

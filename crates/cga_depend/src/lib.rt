@@ -1,4 +1,5 @@
-//! Which shapes an edit of a rule or of an attribute reaches: the nodes of each symbol.
+//! Which shapes an edit of a rule or of an attribute reaches: the nodes of each symbol, and what nodes that came and
+//! went make of them.
 //!
 //! It must not know where a node stands or what a rule does.
 //!
@@ -6,7 +7,11 @@
 //! caller takes it out by the same symbol.
 #![tactic(auto)]
 
+mod asking;
 mod dependents;
+mod log;
 mod nodes;
 
+pub use asking::asking_nodes;
 pub use dependents::Dependents;
+pub use log::{Pairing, apply};

@@ -6,4 +6,5 @@ mod Later
 mod OneByOne
 mod LinesTold
 mod Stamped
+mod Bounding
 pub mod Door

@@ -1,6 +1,6 @@
 -- Nodes that are put on an agenda for one thing of a list after the other.
-use Rattle.std.proofs.Common.{◌≡◌, ◌<◌, ◌≤◌, ◌+◌, ℕ, zero, suc, List, [], ◌∷◌, length, sym, ap, ◌∙◌, subst, inl, inr, Some, None, arith}
-use Rattle.std.specs.Prelude.{IsSome, slice_get}
+use Rattle.std.proofs.Common.{◌≡◌, ◌<◌, ◌≤◌, ◌+◌, ℕ, zero, suc, List, [], ◌∷◌, length, sym, ap, ◌∙◌, subst, inl, inr, Some, arith}
+use Rattle.std.specs.Prelude.{slice_get}
 use Rattle.cga_fraction.proofs.Door.{None-not-Some, lt-length_from_slice_get as within, lt_or_eq_below_suc as below_or, same_Some}
 use Rattle.cga_order.specs.World.{Among}
 use Rattle.cga_order.proofs.Door.{Among-index}

@@ -1,5 +1,5 @@
 //! The agenda of an edit as it is kept: numbers of nodes by the stamps at which they are to be looked at, the least
-//! first.
+//! first, and the last of some nodes.
 //!
 //! It must not know what a node is or why one is looked at again.
 //!
@@ -10,8 +10,10 @@
 mod agenda;
 mod chained;
 mod due;
+mod last;
 mod lines;
 
 pub use agenda::Agenda;
 pub use chained::Chained;
 pub use due::{add, add_all, add_later, take};
+pub use last::{Last, last_among, last_at};

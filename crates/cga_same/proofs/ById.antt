@@ -2,7 +2,7 @@
 use Rattle.std.proofs.Common.{◌≡◌, ◌↔◌, IsTrue, ℕ, ◌+◌, ◌<◌, ◌≤◌, ◌⊎◌, inl, inr, List, [], ◌∷◌, ◌++◌, All}
 use Rattle.std.proofs.Common.{drop, get_or, map, filter, refl, ap, sym, ◌∙◌, subst, arith, cond, Bool, true, false}
 use Rattle.std.proofs.Common.{nat_lt, nat_eq, ◌&&◌, if◌then◌else◌, Some, None, append_assoc}
-use Rattle.std.specs.Prelude.{Option, position, unwrap_or}
+use Rattle.std.specs.Prelude.{Option, position}
 use Rattle.std.proofs.lemmas.List.{append-nil}
 use Rattle.std.proofs.lemmas.List.Elements.{All-nil, All-cons, All-head, All-tail, filter-append}
 use Rattle.std.proofs.lemmas.Bool.Decides.{nat_tests}

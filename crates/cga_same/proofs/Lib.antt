@@ -2,3 +2,5 @@ mod Lists
 mod ById
 mod Values
 mod Groups
+mod Told
+mod Noted

@@ -3,7 +3,6 @@ use Rattle.std.proofs.Common.{◌≡◌, inl, inr, ℕ, ◌<◌, List, [], ◌�
 use Rattle.std.specs.Prelude.{Option, Some, None, filter, cond, if◌then◌else◌}
 use Rattle.std.specs.List.{list_any}
 use lib.Pointwise.{bytes_decides}
-use Rattle.cga_word.specs.declared.answer.Answer.{Answer}
 use Rattle.cga_word.specs.declared.answers.Answers.{Answers}
 use Rattle.cga_word.specs.declared.target.Target.{Target}
 use Rattle.cga_word.specs.declared.target.Target.TheVariants.{Noparent, Active}
@@ -189,16 +188,23 @@ module _ (v : ForestView) (f : IsForest v) (old new : Sources) (mode : v.mode �
       ∙ ap (λ b. graded b (list_any (λ m. meets m (box_of a.node.shape.scope)) (asked (forest_tree v) by target (all_nodes (forest_tree v))))) (same (λ m. meets m (box_of a.node.shape.scope) && holds m (box_of a.node.shape.scope)))
       ∙ ap (graded _) (same (λ m. meets m (box_of a.node.shape.scope)))
 
+-- the targets that two tests tell are those for which the rules of the symbol ask
+pub record AreAsked (grammar : Grammar) (symbol : List ℕ) (noparent active : Bool) : Type 0 where
+  pub first : noparent ≡ asks_for grammar symbol Noparent
+  pub second : active ≡ asks_for grammar symbol Active
+
+-- what a node is answered for the targets that two tests tell
+pub record AreAnswered (v : ForestView) (by : ℕ) (noparent active : Bool) (answers : Answers) : Type 0 where
+  pub first : answers.noparent ≡ answered v by Noparent noparent
+  pub second : answers.active ≡ answered v by Active active
+
 -- what the forest answers a node, for the targets that are mentioned, is what the theory asks
 pub asked_is : (v : ForestView) → IsForest v → (old new : Sources) → v.mode ≡ new.mode → (by : ℕ) (a : Seen)
-    → node_at v by ≡ Some a
-    → (noparent active : Bool) → noparent ≡ asks_for new.grammar a.node.shape.symbol Noparent
-    → active ≡ asks_for new.grammar a.node.shape.symbol Active
-    → (first second : Option Answer) → first ≡ answered v by Noparent noparent → second ≡ answered v by Active active
-    → ◌≡◌ {A = Answers} (record { noparent = first; active = second })
-    (agenda.asked (the_world old new) (kept_nodes v) (ranked a.node))
+    → node_at v by ≡ Some a → (noparent active : Bool) → AreAsked new.grammar a.node.shape.symbol noparent active
+    → (answers : Answers) → AreAnswered v by noparent active answers
+    → answers ≡ agenda.asked (the_world old new) (kept_nodes v) (ranked a.node)
 unfolding answers_of
-asked_is v f old new mode by a here noparent active one two first second p q = λ i. record {
-  noparent = (p ∙ ap (λ b. answered v by Noparent b) one ∙ ap (λ x. if asks_for new.grammar a.node.shape.symbol Noparent then Some x else None) (answer_is v f old new mode by a here Noparent)) i;
-  active = (q ∙ ap (λ b. answered v by Active b) two ∙ ap (λ x. if asks_for new.grammar a.node.shape.symbol Active then Some x else None) (answer_is v f old new mode by a here Active)) i;
+asked_is v f old new mode by a here noparent active asks answers are = λ i. record {
+  noparent = (are.first ∙ ap (λ b. answered v by Noparent b) asks.first ∙ ap (λ x. if asks_for new.grammar a.node.shape.symbol Noparent then Some x else None) (answer_is v f old new mode by a here Noparent)) i;
+  active = (are.second ∙ ap (λ b. answered v by Active b) asks.second ∙ ap (λ x. if asks_for new.grammar a.node.shape.symbol Active then Some x else None) (answer_is v f old new mode by a here Active)) i;
 }

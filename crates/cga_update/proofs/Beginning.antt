@@ -42,7 +42,8 @@ use Rattle.cga_forest.specs.Tree.{ForestView, marked_at, node_at}
 use Rattle.cga_queue.specs.Agenda.{AgendaView, HasAll}
 use Rattle.cga_update.specs.Askers.{IsAsker}
 use Rattle.cga_update.specs.Edit.{asks_by, content, kept_nodes, meets_box, rules_of, shapes_of, the_edit}
-use Rattle.cga_update.specs.Log.{came_of, drawn_before, drawn_of, is_of, IsLogged, noted_all, StayAlike, went_of}
+use Rattle.cga_depend.specs.Log.{noted_all}
+use Rattle.cga_update.specs.Log.{came_of, drawn_before, drawn_of, is_of, IsLogged, StayAlike, went_of}
 use Rattle.cga_update.specs.Means.{ArePriced, told_ranked}
 use Rattle.cga_update.specs.Near.{KeepsPriorities}
 use Rattle.cga_update.specs.Plain.{IsPlain}

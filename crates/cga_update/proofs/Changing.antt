@@ -13,7 +13,8 @@ use Rattle.cga_expand.specs.Settings.{Setting, setting_of}
 use Rattle.cga_forest.specs.Tree.{ForestView}
 use Rattle.cga_queue.specs.Agenda.{AgendaView, Grows, HasAll}
 use Rattle.cga_queue.proofs.Door.{all_kept}
-use Rattle.cga_update.specs.Changed.{IsNoted}
+use Rattle.cga_same.specs.Changed.{IsNoted, priority_at}
+use Rattle.cga_update.proofs.Agreeing.{setting_is_same}
 use Rattle.cga_update.specs.Near.{IsAny, IsChangedFor, IsParentOf, IsPricedFor, KeepsPriority}
 use Rattle.cga_update.specs.Queue.{chains_of}
 use Rattle.cga_order.proofs.Door.{Among-index as among_at}
@@ -35,6 +36,12 @@ unfolding setting_of
 priority_same old new symbol e =
     priority_first old symbol (groups.first_entry old.rules symbol) refl
     ∙ (ap (λ (s : Setting). priority_by s.group) e ∙ sym (priority_first new symbol (groups.first_entry new.rules symbol) refl))
+
+-- the priority that is told of a symbol is that of its shapes
+pub priority_told_same : (old new : Grammar) (symbol : List ℕ) → priority_at old symbol ≡ priority_at new symbol
+    → priority_of old symbol ≡ priority_of new symbol
+unfolding priority_of
+priority_told_same old new symbol same = same
 
 -- of the names of a list the first n have what P tells
 abbrev pub NamesHave : (List ℕ → Type 0) → List (List ℕ) → ℕ → Type 0
@@ -61,14 +68,14 @@ priced_kept v old new nodes s a b grows priced = elim priced [
 pub all_changed : (v : ForestView) (old new : Grammar) (d : DependentsView) (names : List (List ℕ)) (a : AgendaView)
     → ((s : List ℕ) → Among s names → HasAll (chains_of v) (λ c. Among c (nodes_in d s)) a)
     → (s : List ℕ) → IsNoted old new names s → IsChangedFor v old new (nodes_in d s) s a
-all_changed v old new d names a each s noted = elim noted [ inl h ↦ inl (each s h) | inr e ↦ inr e ]
+all_changed v old new d names a each s noted = elim noted [ inl h ↦ inl (each s h) | inr e ↦ inr (setting_is_same old new s e) ]
 
 pub all_priced : (v : ForestView) (old new : Grammar) (d : DependentsView) (names : List (List ℕ)) (a : AgendaView)
     → ((s : List ℕ) → Among s names → IsPricedFor v old new (nodes_in d s) s a)
     → (s : List ℕ) → IsNoted old new names s → IsPricedFor v old new (nodes_in d s) s a
-all_priced v old new d names a each s noted = elim noted [ inl h ↦ each s h | inr e ↦ inr (priority_same old new s e) ]
+all_priced v old new d names a each s noted = elim noted [ inl h ↦ each s h | inr e ↦ inr (priority_same old new s (setting_is_same old new s e)) ]
 
 pub all_keep : (old new : Grammar) (d : DependentsView) (names : List (List ℕ))
     → ((s : List ℕ) → Among s names → KeepsPriority old new (nodes_in d s) s)
     → (s : List ℕ) → IsNoted old new names s → KeepsPriority old new (nodes_in d s) s
-all_keep old new d names each s noted = elim noted [ inl h ↦ each s h | inr e ↦ λ c h. priority_same old new s e ]
+all_keep old new d names each s noted = elim noted [ inl h ↦ each s h | inr e ↦ λ c h. priority_same old new s (setting_is_same old new s e) ]

@@ -27,14 +27,15 @@ use Rattle.cga_forest.specs.View.{Seen}
 use Rattle.cga_forest.specs.Tree.{ForestView, node_at}
 use Rattle.cga_update.specs.declared.kept.Kept.{Kept}
 use Rattle.cga_update.specs.declared.work.Work.{Work}
-use Rattle.cga_update.specs.Applied.{ListsView, lists}
+use Rattle.cga_depend.specs.Log.{lists}
+use Rattle.cga_update.specs.Applied.{ListsView}
 use Rattle.cga_update.specs.Edit.{asks_by, content, kept_nodes, rules_of, shapes_of, the_edit}
 use Rattle.cga_update.specs.Log.{is_of}
 use Rattle.cga_update.specs.Means.{Means}
 use Rattle.cga_update.specs.Queue.{on_of}
 use Rattle.cga_update.specs.Stands.{DependentsStand, Stands}
 use Rattle.cga_update.specs.Updates.{StandAsBefore}
-use Rattle.cga_update.proofs.Applying.{own_number, same_number}
+use Rattle.cga_fraction.proofs.Door.{eq_from_nat_eq as same_number, nat_eq-same as own_number}
 use Rattle.cga_update.proofs.Nodes.{kept_bound}
 
 -- ---- membership, as a test and as a fact

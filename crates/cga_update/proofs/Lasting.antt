@@ -14,9 +14,11 @@ use Rattle.cga_forest.specs.Node.{chain_kept}
 use Rattle.cga_forest.specs.View.{Seen}
 use Rattle.cga_forest.specs.Tree.{ForestView, marked_at, node_at}
 use Rattle.cga_queue.specs.Agenda.{AgendaView}
-use Rattle.cga_update.specs.declared.last.Last.{Last}
+use Rattle.cga_depend.specs.Asking.{asks_in}
+use Rattle.cga_queue.specs.Last.{IsBound}
+use Rattle.cga_queue.specs.declared.last.Last.{Last}
 use Rattle.cga_update.specs.Edit.{asks_by}
-use Rattle.cga_update.specs.Last.{AskersAreUpTo, IsBound, IsTold, asks_in}
+use Rattle.cga_update.specs.Last.{AskersAreUpTo, IsTold}
 use Rattle.cga_update.proofs.Beginning.{city, listed_under, was_there}
 use Rattle.cga_update.proofs.DueNodes.{due_is}
 use Rattle.cga_update.proofs.Facts.{said_asks}

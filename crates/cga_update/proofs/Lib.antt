@@ -8,7 +8,6 @@ mod Nodes
 mod Places
 mod DueNodes
 mod Following
-mod Grammars
 mod Bounding
 mod Moves
 mod Moved

@@ -12,9 +12,10 @@ use Rattle.cga_shape.specs.declared.drawn.Drawn.{Drawn}
 use Rattle.cga_forest.specs.declared.moved.Moved.{Moved}
 use Rattle.cga_forest.specs.Moved.{ListsMoved, moved_of, primitive_of}
 use Rattle.cga_forest.specs.View.{Seen}
-use Rattle.cga_update.specs.declared.log.Pairing.{Pairing}
-use Rattle.cga_update.specs.declared.log.Pairing.TheVariants.{Came, Went}
-use Rattle.cga_update.specs.Log.{came_of, drawn_before, drawn_of, is_of, IsLogged, noted, noted_all, paired_before, went_of, StayAlike}
+use Rattle.cga_depend.specs.declared.log.Pairing.{Pairing}
+use Rattle.cga_depend.specs.declared.log.Pairing.TheVariants.{Came, Went}
+use Rattle.cga_depend.specs.Log.{noted, noted_all}
+use Rattle.cga_update.specs.Log.{came_of, drawn_before, drawn_of, is_of, IsLogged, paired_before, went_of, StayAlike}
 use Rattle.std.proofs.Common.{append-nil as append_none}
 
 -- ---- a list after a loop's step

@@ -68,12 +68,18 @@ taken_at v new old rest id x e mode least here =
     let z = is_taken v new old rest id x mode least in
     subst (λ (d : Seen). (is_instance d.node.kind ≡ false) × IsTaken (shapes_of new) content (node_at v) id d (on_of v old) (on_of v rest)) (some_one (node_at v id) z.0 e z.2.here here) (z.1, z.2)
 
--- what came since the mark and comes later than the node stays on the agenda when that is taken
+-- a node that came since the mark, is no instance and comes later than e
+pub record IsComer (v : ForestView) (new : Sources) (e : Seen) (c : ℕ) (d : Seen) : Type 0 where
+  pub here : node_at v c ≡ Some d
+  pub came : marked_at v c ≡ None
+  pub solid : is_instance d.node.kind ≡ false
+  pub less : stamp_cmp new.mode (chain_kept e.node) (chain_kept d.node) ≡ Less
+
+-- it stays on the agenda when e is taken
 pub comers_stay : (v : ForestView) (new : Sources) (old rest : AgendaView) (id : ℕ) (x : Chain) (e : Seen)
     → IsLeast (chains_of v) old rest id x → node_at v id ≡ Some e → ComersAreDue new.mode v old
-    → (c : ℕ) (d : Seen) → node_at v c ≡ Some d → marked_at v c ≡ None → is_instance d.node.kind ≡ false
-    → stamp_cmp new.mode (chain_kept e.node) (chain_kept d.node) ≡ Less → on_of v rest c ≡ true
-comers_stay v new old rest id x e least at due c d here came solid less = elim (least.stay c (due id c e d at least.there here came solid less)) [
-  | inl same ↦ absurd (not_itself (chain_kept e.node) new (subst (λ (y : Seen). stamp_cmp new.mode (chain_kept e.node) (chain_kept y.node) ≡ Less) (some_one (node_at v c) d e here (ap (node_at v) same ∙ at)) less))
+    → (c : ℕ) (d : Seen) → IsComer v new e c d → on_of v rest c ≡ true
+comers_stay v new old rest id x e least at due c d k = elim (least.stay c (due id c e d at least.there k.here k.came k.solid k.less)) [
+  | inl same ↦ absurd (not_itself (chain_kept e.node) new (subst (λ (y : Seen). stamp_cmp new.mode (chain_kept e.node) (chain_kept y.node) ≡ Less) (some_one (node_at v c) d e k.here (ap (node_at v) same ∙ at)) k.less))
   | inr on ↦ on
 ]

@@ -94,7 +94,8 @@ module _ (was now : Work) (rest : AgendaView) (id : ℕ) (x : Chain) (edit : The
       nodes = refl;
       underway = result.0;
       queued = result.1.1;
-      due = λ b c y d there on here came solid less. comers_stay was.forest new was.agenda rest id x e least turn.here means.due c d here came solid ((stamp_total new.mode).trans (chain_kept e.node) (chain_kept y.node) (chain_kept d.node) (taken.1.left b y there on).2 less);
+      due = λ b c y d there on here came solid less. comers_stay was.forest new was.agenda rest id x e least turn.here means.due c d
+          (record { here = here; came = came; solid = solid; less = (stamp_total new.mode).trans (chain_kept e.node) (chain_kept y.node) (chain_kept d.node) (taken.1.left b y there on).2 less });
       all_came = means.all_came;
       priced = means.priced;
       last = means.last;

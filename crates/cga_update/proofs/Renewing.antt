@@ -1,6 +1,7 @@
 -- What the children of a node are after its turn: placed anew they are those that it had, and each node is plain.
 use Rattle.std.proofs.Common.{◌≡◌, ◌+◌, ℕ, zero, suc, List, [], ◌∷◌, ◌++◌, length, map, refl, sym, ap, ◌∙◌, subst, ◌⊎◌, inl, inr, Option, Some, None, Bool, true, false, Ok, Err, arith}
 use Rattle.std.specs.Prelude.{slice_get, if◌then◌else◌}
+use Rattle.cga_word.specs.declared.answers.Answers.{Answers}
 use Rattle.cga_word.specs.declared.primitive.Primitive.{Primitive}
 use Rattle.cga_order.specs.World.{is_instance}
 use Rattle.cga_order.specs.declared.placed.Kind.{Kind}
@@ -12,18 +13,21 @@ use Rattle.cga_shape.specs.declared.emitted.Emitted.{Emitted}
 use Rattle.cga_shape.specs.declared.emitted.Emitted.TheVariants.{Child, Solid}
 use Rattle.cga_shape.specs.declared.shape.Shape.{Shape}
 use Rattle.cga_shape.specs.declared.shape_fault.ShapeFault.{ShapeFault}
+use Rattle.cga_shape.specs.declared.sources.Sources.{Sources}
 use Rattle.cga_tree.specs.Replaced.{IsChildNow, IsNewChild, IsReplaced}
 use Rattle.cga_expand.specs.Children.{placed_by, placed_from}
+use Rattle.cga_expand.specs.Derivation as expansion
 use Rattle.cga_expand.specs.Derivation.{priority_of}
+use Rattle.cga_expand.specs.Expand.{expand_of}
 use Rattle.cga_forest.specs.declared.node.Node.{Node}
 use Rattle.cga_forest.specs.Node.{IsBelow, fits}
 use Rattle.cga_forest.specs.Placing.{Outcome, child_kind, child_node, child_shape, children_after, children_from, emitted, kind_after}
 use Rattle.cga_forest.specs.View.{Seen}
 use Rattle.cga_forest.specs.Tree.{ForestView, IsForest, node_at}
 use Rattle.cga_fraction.proofs.Door.{cases_Option as option_cases, eq_or_ne as nat_cases, length-map as length_mapped, slice_get_along as emitted_there}
-use Rattle.cga_rework.specs.Ranked.{all_placed}
+use Rattle.cga_rework.specs.Ranked.{Ranked, all_placed}
 use Rattle.cga_rework.specs.Turn.{AreAgain}
-use Rattle.cga_update.specs.Edit.{content}
+use Rattle.cga_update.specs.Edit.{content, the_edit}
 use Rattle.cga_update.specs.Means.{ArePriced}
 use Rattle.cga_update.specs.Plain.{IsPlain}
 use Rattle.cga_update.specs.Turned.{IsAgain, emitted_as, emitted_of}
@@ -186,7 +190,13 @@ module _ (v w : ForestView) (f : IsForest v) (g : Grammar) (id : ℕ) (outcome :
 
 -- ---- how many children an expansion makes
 
-pub count_made : (priority : Shape → ℕ) (above : List ℕ) (s : Shape) (o : Outcome)
+count_made : (priority : Shape → ℕ) (above : List ℕ) (s : Shape) (o : Outcome)
     → length (made_by (all_placed priority above (placed_by s o))) ≡ length (emitted o)
 count_made priority above s (Ok es) = length_mapped _ _ ∙ length_mapped _ _ ∙ length_placed s.lot s.path s.symbol 0 es
 count_made priority above s (Err fault) = refl
+
+-- an expansion makes as many children as were emitted
+pub expansion_count : (old new : Sources) (n : Ranked Shape) (a : Answers)
+    → length (made_by ((the_edit old new).new.expand n a)) ≡ length (emitted (expand_of new.grammar n.shape a))
+unfolding expansion.children_of
+expansion_count old new n a = count_made _ _ n.shape (expand_of new.grammar n.shape a)

@@ -71,18 +71,29 @@ module _ (r : Renewal) (before after : Kept) (was now : Changes) (calls since : 
       counted = counted;
     }
 
+-- the second comes from elsewhere to the same, within one mode and the same budget
+pub record ComesToSame (r other : Renewal) : Type 0 where
+  pub to : other.new ≡ r.new
+  pub within : other.budget ≡ r.budget
+  pub mode : other.old.now.mode ≡ other.new.now.mode
+
+-- an update by a renewal was refused
+pub record IsRefusedBy (r : Renewal) (calls since : ℕ) (e : UpdateRefused) : Type 0 where
+  pub before : Kept
+  pub after : Kept
+  pub was : Changes
+  pub now : Changes
+  pub update : IsUpdate r before after was now calls since (Err e)
+
 -- what is refused on the way from elsewhere to the same is refused
-pub refused_anew : (r other : Renewal) → other.new ≡ r.new → other.budget ≡ r.budget
-    → other.old.now.mode ≡ other.new.now.mode → (before : Kept)
-    → Stands r.old.now before → (was : Changes) (calls since : ℕ)
-    → (anew made : Kept) (come all : Changes) (e : UpdateRefused)
-    → IsUpdate other anew made come all calls since (Err e)
+pub refused_anew : (r other : Renewal) → ComesToSame r other → (before : Kept) → Stands r.old.now before
+    → (was : Changes) (calls since : ℕ) (e : UpdateRefused) → IsRefusedBy other calls since e
     → (result : Result ℕ UpdateRefused) → IsErrAnd result (λ x. x ≡ e)
     → IsUpdate r before before was was calls since result
-refused_anew r other to within same before stood was calls since anew made come all e u (Ok n) none = absurd none
-refused_anew r other to within same before stood was calls since anew made come all OverBudget u (Err x) is =
+refused_anew r other way before stood was calls since e u (Ok n) none = absurd none
+refused_anew r other way before stood was calls since OverBudget u (Err x) is =
     subst (λ y. IsUpdate r before before was was calls since (Err y)) (sym is)
-    (refused r before before was was calls since u.counted (subst (λ b. since ≤ calls + (b + 1)) within u.most)
-    (subst (λ b. derive (derivation_of r.new.now) b ≡ None) within (subst (λ (s : Bor Sources). derive (derivation_of s.now) other.budget ≡ None) to u.over)) (record { stands = stood; nodes = λ k. refl }) refl refl)
-refused_anew r other to within same before stood was calls since anew made come all NoMemory u (Err x) is =
-    given_up_within r before before was was calls since u.counted (subst (λ b. since ≤ calls + (b + 1)) within (u.bounded_within same)) (Err x) is
+    (refused r before before was was calls since u.update.counted (subst (λ b. since ≤ calls + (b + 1)) way.within u.update.most)
+    (subst (λ b. derive (derivation_of r.new.now) b ≡ None) way.within (subst (λ (s : Bor Sources). derive (derivation_of s.now) other.budget ≡ None) way.to u.update.over)) (record { stands = stood; nodes = λ k. refl }) refl refl)
+refused_anew r other way before stood was calls since NoMemory u (Err x) is =
+    given_up_within r before before was was calls since u.update.counted (subst (λ b. since ≤ calls + (b + 1)) way.within (u.update.bounded_within way.mode)) (Err x) is

@@ -18,13 +18,14 @@ use Rattle.cga_expand.specs.Expand.{expand_of}
 use Rattle.cga_forest.specs.Placing.{Outcome, emitted}
 use Rattle.cga_forest.specs.View.{Seen}
 use Rattle.cga_forest.specs.Tree.{node_at}
-use Rattle.cga_update.specs.declared.changed.Facts.{Facts}
+use Rattle.cga_same.specs.declared.changed.Facts.{Facts}
 use Rattle.cga_update.specs.declared.work.Work.{Work}
-use Rattle.cga_update.specs.Both.{BothGrammars}
-use Rattle.cga_update.specs.Changed.{AreFacts}
+use Rattle.cga_same.specs.Both.{BothGrammars}
+use Rattle.cga_same.specs.Changed.{AreFacts}
 use Rattle.cga_update.specs.Edit.{asks_by, kept_nodes, ranked, the_edit}
 use Rattle.cga_update.specs.Plain.{IsPlain}
 use Rattle.cga_update.specs.Turned.{HasPlaced, IsAgain, IsTurned, MayTurn}
+use Rattle.cga_update.proofs.Agreeing.{same_is_setting, setting_is_same}
 use Rattle.cga_update.proofs.Facts.{said_asks, said_noparent}
 use Rattle.cga_expand.proofs.Door.{said_active}
 
@@ -92,7 +93,7 @@ module _ (was : Work) (id : ℕ) (told : Said) (facts : Facts) (answers : Answer
       told = inl (
         p.3,
         record {
-          must = elim (changed here.0 here.1 so) [ inl w ↦ inl w | inr f ↦ inr (λ s. f (are.setting.1 s.0, s.1)) ];
+          must = elim (changed here.0 here.1 so) [ inl w ↦ inl w | inr f ↦ inr (λ s. f (are.setting.1 (same_is_setting was.renewal.old.now.grammar g symbol s.0), s.1)) ];
           value = p.2 here.0 here.1;
           count = p.4;
         },
@@ -113,7 +114,7 @@ module _ (was : Work) (id : ℕ) (told : Said) (facts : Facts) (answers : Answer
         record {
           count = p.4;
           done = (same here.0 here.1 so).0;
-          same = (are.setting.0 (same here.0 here.1 so).1, (same here.0 here.1 so).2);
+          same = (setting_is_same was.renewal.old.now.grammar g symbol (are.setting.0 (same here.0 here.1 so).1), (same here.0 here.1 so).2);
           again = p.2 here.0 here.1 (same here.0 here.1 so).0 (may.plain id here.0 here.1);
         },
       );
@@ -142,7 +143,7 @@ module _ (was : Work) (id : ℕ) (told : Said) (facts : Facts) (answers : Answer
           node = here.0;
           here = here.1;
           done = still.0;
-          same = ((are may).setting.0 still.1, still.2 ∙ asked_is may);
+          same = (setting_is_same was.renewal.old.now.grammar (g may) (symbol may) ((are may).setting.0 still.1), still.2 ∙ asked_is may);
           asks = subst (λ w. RightOf w id told right) rest asking here.0 here.1 is ∙ (ap asks_any (told_is may) ∙ said_asks (g may) here.0.node.shape);
           priced = sym (ap (λ w. w.priced) rest) ∙ priced;
           stays = rest;

@@ -1,7 +1,6 @@
 -- A turn in code is a turn of the work of the theory.
 use Rattle.std.proofs.Common.{◌≡◌, ℕ, List, [], ◌∷◌, ◌++◌, ◌+◌, length, map, refl, sym, ap, ◌∙◌, subst, ◌⊎◌, inl, inr, Option, Some, None, Bool, true, false, not, Bor}
 use Rattle.std.specs.Prelude.{◌&&◌, is_some, if◌then◌else◌}
-use Rattle.cga_word.specs.declared.answers.Answers.{Answers}
 use Rattle.cga_word.specs.declared.primitive.Primitive.{Primitive}
 use Rattle.std.specs.declared.cmp.Ordering.TheVariants.{Less}
 use Rattle.cga_forest.proofs.Door.{fits_sound, fits_whole}
@@ -16,12 +15,10 @@ use Rattle.cga_agenda.specs.declared.turned.Turned.{Turned}
 use Rattle.cga_agenda.specs.Edit.{new_world}
 use Rattle.cga_agenda.specs.Loop.{Turns, calls_of, children_of}
 use Rattle.cga_agenda.specs.Record.{Drawn, IsChange}
-use Rattle.cga_agenda.specs.Known.{made_by}
 use Rattle.cga_agenda.specs.Work.{IsTurnOf}
 use Rattle.cga_shape.specs.declared.shape.Shape.{Shape}
 use Rattle.cga_shape.specs.declared.sources.Sources.{Sources}
 use Rattle.cga_tree.specs.Replaced.{IsReplaced}
-use Rattle.cga_expand.specs.Derivation as expansion
 use Rattle.cga_forest.specs.Node.{chain_kept, fits, with_state}
 use Rattle.cga_forest.specs.Placing.{children_after, emitted, state_after}
 use Rattle.cga_forest.specs.View.{Seen}
@@ -35,14 +32,15 @@ use Rattle.cga_rework.specs.Changes.{ListsLost}
 use Rattle.cga_rework.specs.Turn as theory
 use Rattle.cga_update.specs.declared.work.Work.{Work}
 use Rattle.cga_queue.specs.Agenda.{AgendaView, IsLeast}
-use Rattle.cga_update.specs.Both.{both}
+use Rattle.cga_same.specs.Both.{both}
 use Rattle.cga_update.specs.Due.{AllCame, ComersAreDue}
 use Rattle.cga_update.specs.Edit.{asks_by, content, kept_nodes, meets_box, ranked, rules_of, shapes_of, the_edit}
 use Rattle.cga_check.specs.Uses.{same_name}
 use Rattle.cga_rule.specs.declared.grammar.Grammar.{Grammar}
 use Rattle.cga_expand.specs.Expand.{expand_of}
 use Rattle.cga_update.specs.Last.{AskersAreUpTo}
-use Rattle.cga_update.specs.Log.{IsLogged, StayAlike, came_of, drawn_of, is_of, noted_all, went_of}
+use Rattle.cga_depend.specs.Log.{noted_all}
+use Rattle.cga_update.specs.Log.{IsLogged, StayAlike, came_of, drawn_of, is_of, went_of}
 use Rattle.cga_update.specs.Means.{ArePriced, Means, told_ranked}
 use Rattle.cga_update.specs.Queue.{chains_of, on_of}
 use Rattle.cga_update.specs.Turned.{IsPlacing, MayTurn}
@@ -59,17 +57,11 @@ use Rattle.cga_update.proofs.Drawing.{lists_lost}
 use Rattle.cga_update.proofs.Logged.{logged_more}
 use Rattle.cga_update.proofs.Meeting.{sees_what_meets}
 use Rattle.cga_update.proofs.Places.{same_node}
-use Rattle.cga_update.proofs.Renewing.{are_again, count_made, still_plain, still_priced, still_silent}
+use Rattle.cga_update.proofs.Renewing.{are_again, expansion_count, still_plain, still_priced, still_silent}
 
 pub may_turn : (w : Work) (rest : AgendaView) (edit : TheEdit) (s : TheState) → Means w edit s
     → MayTurn (record w { agenda = rest })
 may_turn w rest edit s means = record { mode = means.mode; symbols = means.symbols; grammars = means.grammars; plain = means.plain }
-
--- an expansion makes as many children as were emitted
-expansion_count : (old new : Sources) (n : Ranked Shape) (a : Answers)
-    → length (made_by ((the_edit old new).new.expand n a)) ≡ length (emitted (expand_of new.grammar n.shape a))
-unfolding expansion.children_of
-expansion_count old new n a = count_made _ _ n.shape (expand_of new.grammar n.shape a)
 
 is_fit : IsFit content fits
 is_fit = record {
@@ -127,7 +119,8 @@ module _ (was now : Work) (rest : AgendaView) (id : ℕ) (x : Chain) (turned : T
 
   comers : (c : ℕ) (d : Seen) → V c ≡ Some d → marked_at now.forest c ≡ None → is_instance d.node.kind ≡ false
       → IsAfter d → on_of was.forest rest c ≡ true
-  comers c d here came = comers_stay was.forest new was.agenda rest id x e least turn.here means.due c d here (sym (marks_stay c) ∙ came)
+  comers c d here came solid less = comers_stay was.forest new was.agenda rest id x e least turn.here means.due c d
+      (record { here = here; came = sym (marks_stay c) ∙ came; solid = solid; less = less })
 
   all_came : was.all_came ≡ true → AllCame now.forest
   all_came is c d here = marks_stay c ∙ elim (option_cases (V c)) [

@@ -17,7 +17,7 @@ use Rattle.cga_update.specs.declared.work.Work.{Work}
 use Rattle.cga_queue.specs.Agenda.{AgendaView, HasAll}
 use Rattle.cga_update.specs.Applied.{ListsView}
 use Rattle.cga_update.specs.Askers.{IsAsker, IsOneOf}
-use Rattle.cga_update.specs.Both.{both}
+use Rattle.cga_same.specs.Both.{both}
 use Rattle.cga_update.specs.Edit.{asks_by, content, kept_nodes, rules_of, shapes_of, the_edit}
 use Rattle.cga_update.specs.Means.{Means}
 use Rattle.cga_update.specs.Plain.{IsPlain}

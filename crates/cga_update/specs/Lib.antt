@@ -7,8 +7,6 @@ pub mod Laws
 pub mod Queue
 pub mod Due
 pub mod Follow
-pub mod Both
-pub mod Changed
 pub mod Log
 pub mod Applied
 pub mod Near

@@ -1,28 +1,16 @@
 -- What a log of nodes that came and went makes of the nodes of each symbol.
-use Rattle.std.specs.Prelude.{◌≡◌, ℕ, List, [], ◌∷◌, Bool, true, false, not, ◌&&◌, nat_eq, Option, Some, None, if◌then◌else◌}
+use Rattle.std.specs.Prelude.{◌≡◌, ℕ, List, [], ◌∷◌, Bool, false, not, ◌&&◌, Option, Some, None}
 use Rattle.cga_check.specs.Uses.{same_name}
+use Rattle.cga_depend.specs.Log.{noted_all}
 use Rattle.cga_order.specs.World.{is_instance}
 use Rattle.cga_word.specs.declared.primitive.Primitive.{Primitive}
 use Rattle.cga_shape.specs.declared.drawn.Drawn.{Drawn}
 use Rattle.cga_forest.specs.declared.moved.Moved.{Moved}
 use Rattle.cga_forest.specs.View.{Seen}
-use Rattle.cga_update.specs.declared.log.Pairing.{Pairing}
-use Rattle.cga_update.specs.declared.log.Pairing.TheVariants.{Came, Went}
+use Rattle.cga_depend.specs.declared.log.Pairing.{Pairing}
+use Rattle.cga_depend.specs.declared.log.Pairing.TheVariants.{Came, Went}
 
 -- ---- what the log says
-
-abbrev pub is_pair : List ℕ → ℕ → List ℕ → ℕ → Bool
-is_pair symbol id s c = same_name symbol s && nat_eq id c
-
--- whether node c is one of symbol s after an entry, where it was or wasn't before
-abbrev pub noted : Pairing → List ℕ → ℕ → Bool → Bool
-noted (Came symbol id) s c was = if is_pair symbol id s c then true else was
-noted (Went symbol id) s c was = if is_pair symbol id s c then false else was
-
--- the same after all entries
-unfoldable pub noted_all : List Pairing → List ℕ → ℕ → Bool → Bool
-noted_all [] s c was = was
-noted_all (x ∷ xs) s c was = noted_all xs s c (noted x s c was)
 
 -- the node is there, isn't an instance, and has this symbol
 abbrev pub is_of : Option Seen → List ℕ → Bool

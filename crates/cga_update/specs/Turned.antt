@@ -22,10 +22,10 @@ use Rattle.cga_forest.specs.Placing.{Outcome, children_after, emitted, kind_afte
 use Rattle.cga_forest.specs.View.{Seen}
 use Rattle.cga_forest.specs.Tree.{ForestView, IsForest, Replaces, marked_at, node_at}
 use Rattle.cga_update.specs.declared.work.Work.{Work}
-use Rattle.cga_update.specs.Both.{both}
+use Rattle.cga_same.specs.Both.{both}
 use Rattle.cga_update.specs.Edit.{asks_by, kept_nodes, ranked, the_edit}
 use Rattle.cga_update.specs.Follow.{IsFollowed}
-use Rattle.cga_update.specs.Last.{IsPast}
+use Rattle.cga_queue.specs.Last.{IsPast}
 use Rattle.cga_update.specs.Log.{came_of, drawn_of, went_of}
 use Rattle.cga_update.specs.Means.{KeepsBounds}
 use Rattle.cga_update.specs.Plain.{IsPlain}

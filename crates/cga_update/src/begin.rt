@@ -6,8 +6,6 @@ ghost use Rattle.cga_update.specs.Queue.{chains_of};
 ghost use Rattle.cga_update.specs.Begun.{HasBegun, HasMoved, IsBetween, IsFresh, StandsMarked};
 
 use crate::asking::last_asker;
-use crate::changed::Grammars;
-use crate::last::Last;
 use crate::log::{note_came, note_went};
 use crate::queue::{add_moved, queue_changed, queue_near};
 use crate::renewal::Renewal;
@@ -17,7 +15,8 @@ use cga_check::Symbols;
 use cga_depend::Dependents;
 use cga_forest::{Forest, Moved};
 use cga_fraction::{NoMemory, Tests};
-use cga_queue::Agenda;
+use cga_queue::{Agenda, Last};
+use cga_same::Grammars;
 use std::alloc::Global;
 use std::sync::ledger::Ledger;
 
@@ -50,6 +49,7 @@ fn begin<T: Ledger>(
     ensures begun { OnOk result (HasBegun work.entry.now.renewal.old.now work.entry.now.renewal.new.now work.entry.now.forest work.exit.now) }
     ensures mark { OnOk result ((c : ℕ) → marked_at work.exit.now.forest c ≡ node_at work.entry.now.forest c) }
     ensures sources { OnOk result (IsBetween work.entry.now.renewal.old.now work.entry.now.renewal.new.now work.exit.now) }
+    ensures budget { OnOk result (work.exit.now.renewal.budget ≡ work.entry.now.renewal.budget) }
 {
     let alloc = work.alloc;
     let renewal = work.renewal;
@@ -109,6 +109,7 @@ pub fn begun<'a, T: Ledger>(
     ensures begun { IfOk result (λ work. HasBegun renewal.entry.old.now renewal.entry.new.now forest work) }
     ensures mark { IfOk result (λ work. (c : ℕ) → marked_at work.forest c ≡ node_at forest c) }
     ensures sources { IfOk result (λ work. IsBetween renewal.entry.old.now renewal.entry.new.now work) }
+    ensures budget { IfOk result (λ work. work.renewal.budget ≡ renewal.entry.budget) }
 {
     let mut work = Work {
         alloc,

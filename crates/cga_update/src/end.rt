@@ -1,55 +1,15 @@
 //! The end of an update within the budget: what the log says is made of the dependents.
-ghost use Rattle.std.specs.Prelude.{◌≡◌, ℕ, List, OnOk, if◌then◌else◌, true, false};
+ghost use Rattle.std.specs.Prelude.{◌≡◌, ℕ, OnOk, true, false};
 ghost use Rattle.cga_forest.specs.Tree.{marked_at, node_at};
-ghost use Rattle.cga_update.specs.Applied.{IsApplied, ListsView, lists};
-ghost use Rattle.cga_update.specs.Log.{IsLogged, is_pair, noted};
+ghost use Rattle.cga_update.specs.Applied.{ListsView};
+ghost use Rattle.cga_update.specs.Log.{IsLogged};
 
 use crate::kept::Kept;
-use crate::log::Pairing;
 use crate::work::Work;
-use cga_depend::Dependents;
+use cga_depend::apply;
 use cga_fraction::{List, NoMemory};
-use cga_index::NodeId;
 use cga_shape::Changes;
-use cga_word::Name;
 use std::mem::{replace, swap};
-
-/// Makes the nodes of each symbol what a log says. Takes memory.
-pub fn apply(dependents: &mut Dependents, log: &[Pairing]) -> Result<(), NoMemory>
-    ensures applied { OnOk result (IsApplied log.now dependents.old dependents.new) }
-{
-    for entry in log {
-        apply_one(dependents, *entry)?;
-    }
-    Ok(())
-}
-
-fn apply_one(dependents: &mut Dependents, entry: Pairing) -> Result<(), NoMemory>
-    ensures noted { OnOk result ((s : List ℕ) (c : ℕ) → lists dependents.new s c ≡ noted entry s c (lists dependents.old s c)) }
-{
-    match entry {
-        Pairing::Came(symbol, node) => add(dependents, symbol, node),
-        Pairing::Went(symbol, node) => {
-            take_out(dependents, symbol, node);
-            Ok(())
-        }
-    }
-}
-
-fn add(dependents: &mut Dependents, symbol: Name, node: NodeId) -> Result<(), NoMemory>
-    ensures noted { OnOk result ((s : List ℕ) (c : ℕ) → lists dependents.new s c ≡ (if is_pair symbol node s c then true else lists dependents.old s c)) }
-{
-    dependents.add(symbol, node)?;
-    Ok(())
-}
-
-/// Takes a node out of those of a symbol, where it is one.
-fn take_out(dependents: &mut Dependents, symbol: Name, node: NodeId)
-    ensures noted { (s : List ℕ) (c : ℕ) → lists dependents.new s c ≡ (if is_pair symbol node s c then false else lists dependents.old s c) }
-{
-    let _nodes = dependents.nodes_of(symbol);
-    dependents.remove(symbol, node);
-}
 
 /// Keeps a worked forest and what it means for the dependents, and puts its record into the changes. Takes memory.
 pub fn done(work: Work, kept: &mut Kept, changes: &mut Changes) -> Result<(), NoMemory>

@@ -1,20 +1,13 @@
 //! What came and went since the mark.
 ghost use Rattle.std.specs.Prelude.{◌≡◌, ◌++◌, [], OnOk};
+ghost use Rattle.cga_depend.specs.declared.log.Pairing.TheVariants.{Came, Went};
 ghost use Rattle.cga_update.specs.Log.{came_of, drawn_as, drawn_before, drawn_of, paired_before, went_of};
-ghost use Rattle.cga_update.specs.declared.log.Pairing.TheVariants.{Came, Went};
 
+use cga_depend::Pairing;
 use cga_forest::Moved;
 use cga_fraction::NoMemory;
-use cga_index::NodeId;
 use cga_shape::Drawn;
-use cga_word::{Name, Primitive};
-
-/// A node that isn't an instance came, or went: its symbol and its id.
-#[derive(Clone, Copy)]
-pub enum Pairing {
-    Came(Name, NodeId),
-    Went(Name, NodeId),
-}
+use cga_word::Primitive;
 
 /// Notes nodes that went: the instances among what is gone, the others in the log. Takes memory.
 pub fn note_went(

@@ -8,13 +8,13 @@ ghost use Rattle.cga_queue.specs.Agenda.{Grows, HasAll, OneEach};
 ghost use Rattle.cga_update.specs.Queue.{chains_of};
 
 use crate::askers::askers_near;
-use crate::changed::Grammars;
 use crate::worked::Worked;
 use cga_depend::Dependents;
 use cga_forest::{Forest, Moved};
 use cga_fraction::{NoMemory, Tests};
 use cga_index::NodeId;
 use cga_queue::{Agenda, add, add_all};
+use cga_same::Grammars;
 use cga_word::Name;
 use std::sync::ledger::Ledger;
 

@@ -41,7 +41,7 @@ pub fn rework<E: Ledger, T: Ledger>(
         return Err(UpdateRefused::OverBudget);
     }
     let mut under_way = begin_work(alloc, kept, renewal, tests)?;
-    match work_off(&mut under_way, renewal.budget, expansions, tests) {
+    match work_off(&mut under_way, expansions, tests) {
         Ok(Ended::Within(touched)) => {
             done(under_way, kept, changes)?;
             Ok(u64::from(touched))
@@ -68,6 +68,7 @@ fn begin_work<'a, T: Ledger>(
     requires stands { Stands renewal.old.now kept.old }
     ensures begun { IfOk result (λ work. HasBegun renewal.entry.old.now renewal.entry.new.now kept.old.forest work) }
     ensures sources { IfOk result (λ work. IsBetween renewal.entry.old.now renewal.entry.new.now work) }
+    ensures budget { IfOk result (λ work. work.renewal.budget ≡ renewal.entry.budget) }
     ensures mark { IfOk result (λ work. (c : ℕ) → marked_at work.forest c ≡ node_at kept.old.forest c) }
     ensures dependents { kept.new.dependents ≡ kept.old.dependents }
 {
@@ -79,19 +80,19 @@ fn begin_work<'a, T: Ledger>(
 /// Works until nothing is on the agenda, or the budget is spent. Takes memory.
 fn work_off<E: Ledger, T: Ledger>(
     under_way: &mut Work,
-    budget: u32,
     expansions: &mut Expansions<E>,
     tests: &mut Tests<T>,
 ) -> Result<Ended, NoMemory>
-    requires few { length under_way.now.renewal.new.now.lots ≤ budget }
+    requires few { length under_way.now.renewal.new.now.lots ≤ under_way.now.renewal.budget }
     ensures ended { IfOk result (λ ended. (old new : Sources) (v : ForestView) → IsBetween old new under_way.entry.now
         → HasBegun old new v under_way.entry.now
-        → HasEnded old new v under_way.exit.now budget expansions.old expansions.new ended) }
+        → HasEnded old new v under_way.exit.now under_way.entry.now.renewal.budget expansions.old expansions.new ended) }
     ensures called { IfOk result (λ ended. HasCalled expansions.old expansions.new ended) }
     ensures bounds { KeepsBounds under_way.entry.now under_way.exit.now }
     ensures counted { expansions.old ≤ expansions.new }
-    ensures most { expansions.new ≤ expansions.old + (budget + 1) }
+    ensures most { expansions.new ≤ expansions.old + (under_way.entry.now.renewal.budget + 1) }
 {
+    let budget = under_way.renewal.budget;
     let roots = under_way.renewal.new.lots.len() as u32;
     work(under_way, roots, budget, expansions, tests)
 }

@@ -9,14 +9,13 @@ ghost use Rattle.cga_forest.specs.Placing.{MayGrow, Outcome, emitted};
 ghost use Rattle.cga_forest.specs.View.{Seen};
 ghost use Rattle.cga_forest.specs.Tree.{node_at};
 ghost use Rattle.cga_check.specs.Said.{asks_any, said};
-ghost use Rattle.cga_update.specs.Changed.{AreFacts};
+ghost use Rattle.cga_same.specs.Changed.{AreFacts};
 ghost use Rattle.cga_update.specs.Means.{KeepsBounds, Means};
 ghost use Rattle.cga_update.specs.Plain.{IsPlain};
 ghost use Rattle.cga_update.specs.Turned.{HasNobodyLeft, HasPlaced, IsAgain, IsTurned, MayTurn};
 
 use crate::again::outcome_again;
 use crate::asked::asked;
-use crate::changed::Facts;
 use crate::follow::follow;
 use crate::log::{note_came, note_went};
 use crate::work::Work;
@@ -28,6 +27,7 @@ use cga_forest::{Forest, Node};
 use cga_fraction::{List, NoMemory, Tests};
 use cga_index::NodeId;
 use cga_queue::take;
+use cga_same::Facts;
 use cga_shape::{Answers, Emitted, Kind, ShapeFault};
 use cga_word::Name;
 use std::sync::ledger::Ledger;
@@ -43,7 +43,11 @@ fn has_nobody_left(work: &Work, id: NodeId) -> bool
     requires here { IsSome (node_at work.now.forest id) }
     ensures { result ≡ true → HasNobodyLeft work.now id }
 {
-    work.all_came || work.last.is_past(work.renewal.new.mode, &work.forest, id)
+    if work.all_came {
+        return true;
+    }
+    let mode = work.renewal.new.mode;
+    work.last.is_past(mode, &work.forest.chain(id))
 }
 
 /// Gives a node its outcome, notes what went and came, and follows it on the agenda. Takes memory.

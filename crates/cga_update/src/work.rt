@@ -1,10 +1,9 @@
-use crate::changed::Grammars;
-use crate::last::Last;
-use crate::log::Pairing;
 use crate::renewal::Renewal;
 use cga_check::Symbols;
+use cga_depend::Pairing;
 use cga_forest::Forest;
-use cga_queue::Agenda;
+use cga_queue::{Agenda, Last};
+use cga_same::Grammars;
 use cga_shape::Drawn;
 use std::alloc::Global;
 

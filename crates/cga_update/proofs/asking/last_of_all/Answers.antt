@@ -2,9 +2,10 @@ use Rattle.std.proofs.Common.{◌≡◌, ◌∙◌, ℕ, List, Some, true, refl,
 use Rattle.cga_order.specs.Chain.{Chain}
 use Rattle.cga_order.specs.World.{Among}
 use Rattle.cga_rule.specs.declared.grammar.Grammar.{Grammar}
-use Rattle.cga_update.specs.Last.{asks_in}
+use Rattle.cga_depend.specs.Asking.{asks_in}
 use Rattle.cga_update.specs.Queue.{chains_of}
-use Rattle.cga_update.proofs.Bounding.{EntryUpTo, first_each, first_next}
+use Rattle.cga_queue.proofs.Door.{first_each, first_next}
+use Rattle.cga_update.proofs.Bounding.{EntryUpTo}
 use Rattle.cga_update.proofs.asking.last_of_all.Goals as goal
 
 pub loop-place-init : goal.loop-place-init

@@ -1,9 +1,9 @@
 use Rattle.std.proofs.Common.{◌≡◌, ℕ, List, Some, true}
 use Rattle.cga_order.specs.Chain.{Chain}
 use Rattle.cga_order.specs.World.{Among}
-use Rattle.cga_update.specs.Last.{IsUpTo, asks_in, chain_at}
 use Rattle.cga_update.specs.Queue.{chains_of}
-use Rattle.cga_update.proofs.Bounding.{EntryUpTo, FirstHave}
+use Rattle.cga_queue.proofs.Door.{FirstHave}
+use Rattle.cga_update.proofs.Bounding.{EntryUpTo}
 use Rattle.cga_update.proofs.asking.last_of_all.Given as goal
 
 abbrev pub invariant-loop-place : goal.invariant-loop-place

@@ -3,10 +3,10 @@ use Rattle.cga_rule.specs.declared.grammar.Grammar.{Grammar}
 use Rattle.cga_forest.specs.declared.moved.Moved.{Moved}
 use Rattle.cga_forest.specs.Moved.{ListsMoved}
 use Rattle.cga_forest.specs.Tree.{marked_at, node_at}
-use Rattle.cga_update.specs.declared.log.Pairing.{Pairing}
+use Rattle.cga_depend.specs.declared.log.Pairing.{Pairing}
 use Rattle.cga_depend.specs.Pairs.{nodes_in}
 use Rattle.cga_update.specs.Begun.{HasMoved, IsFirst}
-use Rattle.cga_update.specs.Both.{BothGrammars}
+use Rattle.cga_same.specs.Both.{BothGrammars}
 use Rattle.cga_update.specs.Last.{AskersAreUpTo, IsTold}
 use Rattle.cga_update.specs.Log.{IsLogged}
 use Rattle.cga_update.specs.Near.{IsAny, IsChangedFor, IsPricedFor, KeepsPriorities}

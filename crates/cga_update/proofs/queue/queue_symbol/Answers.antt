@@ -1,13 +1,21 @@
+use Rattle.std.proofs.Common.{inr}
 use Rattle.cga_order.specs.World.{Among}
 use Rattle.cga_queue.proofs.Door.{all_kept, grows_on}
 use Rattle.cga_update.specs.Near.{IsAny, IsParentOf}
 use Rattle.cga_update.specs.Queue.{chains_of}
+use Rattle.cga_update.proofs.Changing.{priority_told_same}
 use Rattle.cga_update.proofs.Nearby.{grows_any}
 use Rattle.cga_update.proofs.queue.queue_symbol.Goals as goal
 
 pub returns-then-facts-clause-grows : goal.returns-then-facts-clause-grows
 returns-then-facts-clause-grows c =
     grows_any (chains_of c.args.forest.now) (λ k. Among k c.args.nodes.now) c.args.agenda.now c.add_all.new.agenda c.in_ok-add_all.ensures.grows
+
+pub returns-then-facts-clause-parents : goal.returns-then-facts-clause-parents
+returns-then-facts-clause-parents c = inr (priority_told_same c.args.grammars.now.before c.args.grammars.now.after c.args.symbol (c.in_ok-facts.ensures.facts.priorities.0 c.if-facts.true))
+
+pub returns-then-facts-clause-priced : goal.returns-then-facts-clause-priced
+returns-then-facts-clause-priced c = λ is k among. priority_told_same c.args.grammars.now.before c.args.grammars.now.after c.args.symbol (c.in_ok-facts.ensures.facts.priorities.0 c.if-facts.true)
 
 pub returns-clause-grows : goal.returns-clause-grows
 returns-clause-grows c =

@@ -1,4 +1,4 @@
-use Rattle.std.proofs.Common.{◌≡◌, ◌∙◌, ◌<◌, length, refl, ap, sym, subst, arith, Bor}
+use Rattle.std.proofs.Common.{◌≡◌, ◌∙◌, ◌+◌, ◌<◌, ◌≤◌, length, refl, ap, sym, subst, arith, Bor}
 use Rattle.cga_depend.specs.Pairs.{DependentsView}
 use Rattle.cga_shape.specs.declared.sources.Sources.{Sources}
 use Rattle.cga_agenda.specs.Loop.{HasCalled}
@@ -22,19 +22,22 @@ pub done-requires-clause-listed : goal.done-requires-clause-listed
 done-requires-clause-listed g c =
     let e = c.in-Ok-Within.ensures.ended c.args.renewal.old.now c.args.renewal.new.now c.args.kept.now.forest c.in_ok-under_way.ensures.sources c.in_ok-under_way.ensures.begun in
     proof.listed c.args.renewal.old.now c.args.renewal.new.now c.requires.mode c.args.renewal.old_names c.args.renewal.names c.args.kept.now c.requires.stands
-    c.in_ok-under_way.under_way c.work_off.new.under_way c.args.renewal.budget c.args.expansions.now c.work_off.new.expansions c.in_ok-under_way.ensures.sources c.work_off.ensures.bounds c.in_ok-under_way.ensures.mark _ e
+    c.in_ok-under_way.under_way c.work_off.new.under_way c.in_ok-under_way.under_way.renewal.budget c.args.expansions.now c.work_off.new.expansions c.in_ok-under_way.ensures.sources c.work_off.ensures.bounds c.in_ok-under_way.ensures.mark _ e
     c.begin_work.new.kept.dependents c.begin_work.ensures.dependents
 
 pub returns-in-Err : goal.returns-in-Err
 returns-in-Err g c =
-    given_up_within c.args.renewal c.args.kept.now c.begin_work.new.kept c.args.changes.now c.args.changes.now c.args.expansions.now c.work_off.new.expansions c.work_off.ensures.counted c.work_off.ensures.most _ refl
+    let most = subst (λ b. c.work_off.new.expansions ≤ c.args.expansions.now + (b + 1)) c.in_ok-under_way.ensures.budget c.work_off.ensures.most in
+    given_up_within c.args.renewal c.args.kept.now c.begin_work.new.kept c.args.changes.now c.args.changes.now c.args.expansions.now c.work_off.new.expansions c.work_off.ensures.counted most _ refl
 
 pub returns-in_ok-done-in-Ok-Within : goal.returns-in_ok-done-in-Ok-Within
 returns-in_ok-done-in-Ok-Within g c =
-    let e = c.in-Ok-Within.ensures.ended c.args.renewal.old.now c.args.renewal.new.now c.args.kept.now.forest c.in_ok-under_way.ensures.sources c.in_ok-under_way.ensures.begun in
+    let most = subst (λ b. c.work_off.new.expansions ≤ c.args.expansions.now + (b + 1)) c.in_ok-under_way.ensures.budget c.work_off.ensures.most in
+    let e = subst (λ b. HasEnded c.args.renewal.old.now c.args.renewal.new.now c.args.kept.now.forest c.work_off.new.under_way b c.args.expansions.now c.work_off.new.expansions _) c.in_ok-under_way.ensures.budget
+    (c.in-Ok-Within.ensures.ended c.args.renewal.old.now c.args.renewal.new.now c.args.kept.now.forest c.in_ok-under_way.ensures.sources c.in_ok-under_way.ensures.begun) in
     let ended = subst (λ x. HasEnded c.args.renewal.old.now c.args.renewal.new.now c.args.kept.now.forest c.work_off.new.under_way c.args.renewal.budget c.args.expansions.now c.work_off.new.expansions x) c.in-Ok-Within.field-0-is e in
     let called = subst (λ x. HasCalled c.args.expansions.now c.work_off.new.expansions x) c.in-Ok-Within.field-0-is c.in-Ok-Within.ensures.called in
-    done c.args.renewal c.args.kept.now c.done.new.kept c.args.changes.now c.done.new.changes c.args.expansions.now c.work_off.new.expansions c.work_off.ensures.counted c.work_off.ensures.most _
+    done c.args.renewal c.args.kept.now c.done.new.kept c.args.changes.now c.done.new.changes c.args.expansions.now c.work_off.new.expansions c.work_off.ensures.counted most _
     (proof.settled c.args.renewal.old.now c.args.renewal.new.now c.requires.mode c.args.renewal.old_names c.args.renewal.names c.args.kept.now c.requires.stands
     c.in_ok-under_way.under_way c.work_off.new.under_way c.args.renewal.budget c.args.expansions.now c.work_off.new.expansions c.in_ok-under_way.ensures.sources c.work_off.ensures.bounds c.in_ok-under_way.ensures.mark c.in-Ok-Within.touched ended
     c.done.new.kept.forest c.done.new.kept.dependents c.in_ok-done-in-Ok-Within.ensures.nodes c.in_ok-done-in-Ok-Within.ensures.unmarked c.in_ok-done-in-Ok-Within.ensures.mode c.in_ok-done-in-Ok-Within.ensures.listed)
@@ -46,9 +49,11 @@ returns-in_ok-done-in-Ok-Within g c =
 
 pub returns-in-Ok-OverBudget : goal.returns-in-Ok-OverBudget
 returns-in-Ok-OverBudget g c =
-    let e = c.in-Ok-OverBudget.ensures.ended c.args.renewal.old.now c.args.renewal.new.now c.args.kept.now.forest c.in_ok-under_way.ensures.sources c.in_ok-under_way.ensures.begun in
+    let most = subst (λ b. c.work_off.new.expansions ≤ c.args.expansions.now + (b + 1)) c.in_ok-under_way.ensures.budget c.work_off.ensures.most in
+    let e = subst (λ b. HasEnded c.args.renewal.old.now c.args.renewal.new.now c.args.kept.now.forest c.work_off.new.under_way b c.args.expansions.now c.work_off.new.expansions _) c.in_ok-under_way.ensures.budget
+    (c.in-Ok-OverBudget.ensures.ended c.args.renewal.old.now c.args.renewal.new.now c.args.kept.now.forest c.in_ok-under_way.ensures.sources c.in_ok-under_way.ensures.begun) in
     let ended = subst (λ x. HasEnded c.args.renewal.old.now c.args.renewal.new.now c.args.kept.now.forest c.work_off.new.under_way c.args.renewal.budget c.args.expansions.now c.work_off.new.expansions x) c.in-Ok-OverBudget.field-0-is e in
-    refused c.args.renewal c.args.kept.now c.put_back.new.kept c.args.changes.now c.args.changes.now c.args.expansions.now c.work_off.new.expansions c.work_off.ensures.counted c.work_off.ensures.most
+    refused c.args.renewal c.args.kept.now c.put_back.new.kept c.args.changes.now c.args.changes.now c.args.expansions.now c.work_off.new.expansions c.work_off.ensures.counted most
     (proof.over c.args.renewal.old.now c.args.renewal.new.now c.requires.mode c.args.renewal.old_names c.args.renewal.names c.args.kept.now c.requires.stands
     c.in_ok-under_way.under_way c.work_off.new.under_way c.args.renewal.budget c.args.expansions.now c.work_off.new.expansions c.in_ok-under_way.ensures.sources c.work_off.ensures.bounds c.in_ok-under_way.ensures.mark ended)
     (proof.put_back c.args.renewal.old.now c.args.renewal.new.now c.requires.mode c.args.renewal.old_names c.args.renewal.names c.args.kept.now c.requires.stands

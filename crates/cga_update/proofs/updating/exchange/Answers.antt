@@ -17,8 +17,9 @@ invariant_of-from_nothing g c = record {
 
 pub returns-in_err-touched : goal.returns-in_err-touched
 returns-in_err-touched g c =
-    refused_anew c.args.renewal _ refl refl (ap (λ (s : Sources). s.mode) c.requires.anew.nothing) c.args.kept.now c.requires.stands c.args.changes.now c.args.expansions.now c.rework.new.expansions
-    _ _ _ _ c.in_err-touched.field-0.0 c.in_err-touched.ensures c.from_residual.result c.from_residual.ensures.1
+    refused_anew c.args.renewal _ (record { to = refl; within = refl; mode = ap (λ (s : Sources). s.mode) c.requires.anew.nothing })
+    c.args.kept.now c.requires.stands c.args.changes.now c.args.expansions.now c.rework.new.expansions c.in_err-touched.field-0.0
+    (record { before = _; after = _; was = _; now = _; update = c.in_err-touched.ensures }) c.from_residual.result c.from_residual.ensures.1
 
 pub returns-in_err-empty : goal.returns-in_err-empty
 returns-in_err-empty g c =

@@ -1,0 +1,15 @@
+use Rattle.std.proofs.Common.{◌∙◌, sym, ap, eq-eqb}
+use Rattle.std.specs.Prelude.{unwrap_or}
+use borrow.Author.Tests.{eqb-true}
+use Rattle.cga_same.proofs.changed.facts_of.Goals as goal
+
+pub returns : goal.returns
+returns c =
+    let before = c.unwrap_or-before.ensures ∙ ap (λ o. unwrap_or o 0) c.symbol_priority.ensures in
+    let after = c.unwrap_or-after.ensures ∙ ap (λ o. unwrap_or o 0) c.symbol_priority-2.ensures in record {
+      setting = c.same_setting.ensures;
+      priorities = (
+        λ same. sym before ∙ (eqb-true c.unwrap_or-before.result c.unwrap_or-after.result same ∙ after),
+        λ same. eq-eqb c.unwrap_or-before.result c.unwrap_or-after.result (before ∙ (same ∙ sym after)),
+      );
+    }

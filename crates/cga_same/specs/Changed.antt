@@ -1,0 +1,32 @@
+-- Whether the old and the new grammar of an edit say the same of a symbol.
+use Rattle.std.specs.Prelude.{◌≡◌, ◌↔◌, ◌⊎◌, ℕ, List, Some, IsTrue, unwrap_or}
+use Rattle.std.specs.BTreeMap.{BTreeMap, get}
+use Rattle.std.specs.Ordering.{nat_cmp}
+use Rattle.std.specs.Cmp.Lexicographic.{slice_cmp}
+use Rattle.cga_order.specs.World.{Among}
+use Rattle.cga_rule.specs.declared.grammar.Grammar.{Grammar}
+use Rattle.cga_check.specs.Groups as groups
+use Rattle.cga_same.specs.Agreement.{IsSameSetting}
+use Rattle.cga_same.specs.declared.changed.Facts.{Facts}
+
+-- the priority of the shapes of a symbol: 0 where it has no rule
+abbrev pub priority_at : Grammar → List ℕ → ℕ
+priority_at grammar symbol = unwrap_or (groups.priority_of grammar symbol) 0
+
+-- the facts are those of the symbol
+pub record AreFacts (old new : Grammar) (symbol : List ℕ) (facts : Facts) : Type 0 where
+  pub setting : IsTrue facts.same_setting ↔ IsSameSetting old new symbol
+  pub priorities : IsTrue facts.same_priority ↔ (priority_at old symbol ≡ priority_at new symbol)
+
+-- what stands in the map are the facts of its symbol
+abbrev pub AreKnown : Grammar → Grammar → BTreeMap (List ℕ) Facts → Type 0
+AreKnown old new known =
+    (symbol : List ℕ) (facts : Facts) → get (slice_cmp nat_cmp) known symbol ≡ Some facts
+    → AreFacts old new symbol facts
+
+-- the symbol is listed, or its setting is the old one
+abbrev pub IsNoted : Grammar → Grammar → List (List ℕ) → List ℕ → Type 0
+IsNoted old new list symbol = Among symbol list ⊎ IsSameSetting old new symbol
+
+abbrev pub KeepsNoted : Grammar → Grammar → List (List ℕ) → List (List ℕ) → Type 0
+KeepsNoted old new before after = (symbol : List ℕ) → IsNoted old new before symbol → IsNoted old new after symbol

@@ -1,5 +1,0 @@
-use Rattle.cga_update.proofs.Applying.{added}
-use Rattle.cga_update.proofs.end.add.Goals as goal
-
-pub returns : goal.returns
-returns c = record { noted = added c.args.dependents.now c.add.new.self c.args.symbol c.args.node c.in_ok-add.ensures.nodes }
