@@ -15,7 +15,8 @@ pub use Rattle.cga_form.specs.Laws.{After, Goes, Reads}
 use Rattle.cga_form.proofs.Taking.{Seq, weaker, pure_runs, refuse_runs, bind_runs}
 use Rattle.cga_form.proofs.Runs.{Language, Some_text, Each, Grown}
 use Rattle.cga_form.proofs.Taking.{drawn_runs, closed_runs}
-use Rattle.cga_form.proofs.Runs.{single_runs, enter_runs, peeked_runs, many_runs, Limited}
+use Rattle.cga_form.proofs.Runs.{peeked_runs, many_runs, Limited}
+use Rattle.cga_form.proofs.Taking.{single_runs, enter_runs}
 use Rattle.cga_form.proofs.Runs.{limited_runs, unroll, shortens}
 use Rattle.cga_form.proofs.Written.{nothing, token_first, join, one, Of, each_writes}
 use Rattle.std.proofs.Common.{append-nil as nil_right}

@@ -12,7 +12,8 @@ use Rattle.cga_form.specs.Reader.{◌>>=◌, pure, single}
 use Rattle.cga_form.specs.Tokens.{a_sign, is_sign, a_number, whole_of}
 use Rattle.cga_form.specs.Parts as b
 use Rattle.cga_form.proofs.Taking.{Seq, weaker, pure_runs, bind_runs}
-use Rattle.cga_form.proofs.Runs.{Language, Exact, Some_text, single_runs, peeked_runs}
+use Rattle.cga_form.proofs.Runs.{Language, Exact, Some_text, peeked_runs}
+use Rattle.cga_form.proofs.Taking.{single_runs}
 use Rattle.cga_form.proofs.Written.{head_of, end_of, nil_right, piece_written}
 use Rattle.cga_form.proofs.Forms.{After, Reads, one_token}
 use Rattle.cga_form.proofs.Singles.{sign_token, number_token, as_token, whole_value}

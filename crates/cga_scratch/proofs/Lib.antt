@@ -1,5 +1,0 @@
-mod Sorting
-mod LotNodes
-mod Nodes
-mod Counting
-mod Shown
