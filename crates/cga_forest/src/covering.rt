@@ -91,8 +91,8 @@ fn tighten_group(blocks: &mut Blocks, store: &Store, roots: &MarkedMap, group: u
     }
 }
 
-/// Makes the blocks anew that took hulls in, and their groups, so that they hold no more than they have to. The time
-/// goes by their number; of the other blocks, each sixteen roots have one, no more than that is asked.
+/// Makes the blocks anew that took hulls in, and their groups, so that they hold no more than they have to. Each other
+/// block is asked for its note alone.
 pub fn tighten(blocks: &mut Blocks, store: &Store, roots: &MarkedMap)
     requires { AreCovered blocks.old roots.now.list (λ c. hulls_of (at store.now c)) }
     ensures { AreCovered blocks.new roots.now.list (λ c. hulls_of (at store.now c)) }
