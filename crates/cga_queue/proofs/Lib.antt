@@ -2,6 +2,7 @@ mod Cases
 mod Entries
 mod OnIt
 mod TwoLines
+mod NoEntry
 mod Later
 mod OneByOne
 mod LinesTold

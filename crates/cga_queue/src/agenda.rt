@@ -1,4 +1,4 @@
-ghost use Rattle.std.specs.Prelude.{◌≡◌, [], suc, length, IfSome, IfNone, OnOk};
+ghost use Rattle.std.specs.Prelude.{◌≡◌, ◌↔◌, [], suc, length, IfSome, IfNone, OnOk};
 ghost use Rattle.cga_order.specs.Chain.{IsWhole};
 ghost use Rattle.cga_order.specs.Seen.{chain_of};
 ghost use Rattle.cga_key.specs.Key.{chain_of_key};
@@ -60,7 +60,9 @@ impl Agenda {
     }
 
     /// How many entries it keeps. Two of them may be of one stamp.
-    pub fn len(&self) -> usize {
+    pub fn len(&self) -> usize
+        ensures none { (result ≡ 0) ↔ (self.now.entries ≡ []) }
+    {
         self.entries.len().saturating_add(self.late.len())
     }
 
