@@ -100,8 +100,8 @@ module _ (v : ForestView) (f : IsForest v) where
   first_apart o rest d at h i =
       (subst (λ (p : Option Seen). Once (members_at p ++ rest)) at h).0 i
 
-  node_apart : (ns : List ℕ) → Once (members_among v ns) → (c d : ℕ) (x y : Seen) → trees.Member ns c → trees.Member ns d
-      → node_at v c ≡ Some x → node_at v d ≡ Some y → member_of x.node ≡ member_of y.node → c ≡ d
+  node_apart : (ns : List ℕ) → Once (members_among v ns) → (c d : ℕ) (x y : Seen) → trees.Member ns c
+      → trees.Member ns d → node_at v c ≡ Some x → node_at v d ≡ Some y → member_of x.node ≡ member_of y.node → c ≡ d
   unfolding members_among
   node_apart [] h c d x y i j a b e = absurd i
   node_apart (n ∷ ns) h c d x y i j a b e = elim i [

@@ -67,7 +67,8 @@ module _ (test : Kind ShapeFault Primitive → Bool) where
   count_one None = refl
   count_one (Some e) = by_flag e.aside
     where
-      by_flag : (b : Bool) → count_by passes (members_at (if b then None else Some (seen e))) ≡ cond (not b && test e.node.kind) 1 0
+      by_flag : (b : Bool)
+          → count_by passes (members_at (if b then None else Some (seen e))) ≡ cond (not b && test e.node.kind) 1 0
       by_flag true = refl
       by_flag false = let one = sum_by-cons (λ m. cond (passes m) 1 0) (member_of e.node) [] in omega (arith, one)
 
@@ -83,11 +84,13 @@ shown_length : (slots : List (Option Entry)) → length (shown slots) ≡ tally 
 shown_length [] = refl
 shown_length (s ∷ rest) = let a = first s in let b = shown_length rest in omega (arith, a, b)
   where
-    by_flag : (e : Entry) (b : Bool) → length (members_at (if b then None else Some (seen e)) ++ shown rest) ≡ cond (not b) 1 0 + length (shown rest)
+    by_flag : (e : Entry) (b : Bool)
+        → length (members_at (if b then None else Some (seen e)) ++ shown rest) ≡ cond (not b) 1 0 + length (shown rest)
     by_flag e true = refl
     by_flag e false = omega arith
 
-    first : (s : Option Entry) → length (members_at (present_of s) ++ shown rest) ≡ cond (is_shown s) 1 0 + length (shown rest)
+    first : (s : Option Entry)
+        → length (members_at (present_of s) ++ shown rest) ≡ cond (is_shown s) 1 0 + length (shown rest)
     first None = refl
     first (Some e) = by_flag e e.aside
 

@@ -37,8 +37,10 @@ module _ (number : Sort → Bool) (none : number Other ≡ false) (test : Kind S
   all_counted : (slots : List (Option Entry)) → sorted number entry_counts slots ≡ tally (is_shown_as test) slots
   all_counted slots = ap (λ (p : Option Entry → Bool). tally p slots) (λ i s. counted s i)
 
-pub first_are : (slots : List (Option Entry)) → sorted is_first entry_counts slots ≡ tally (is_shown_as is_instance) slots
+pub first_are : (slots : List (Option Entry))
+    → sorted is_first entry_counts slots ≡ tally (is_shown_as is_instance) slots
 first_are = all_counted is_first refl is_instance first_kind
 
-pub second_are : (slots : List (Option Entry)) → sorted is_second entry_counts slots ≡ tally (is_shown_as is_faulted) slots
+pub second_are : (slots : List (Option Entry))
+    → sorted is_second entry_counts slots ≡ tally (is_shown_as is_faulted) slots
 second_are = all_counted is_second refl is_faulted second_kind

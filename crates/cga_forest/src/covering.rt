@@ -71,14 +71,6 @@ fn renew_loose(blocks: &mut Blocks, store: &Store, roots: &MarkedMap, group: usi
     some
 }
 
-/// Whether each root has a block.
-fn has_blocks(blocks: &Blocks, roots: &MarkedMap) -> bool
-    ensures { result ≡ true → (place : ℕ) → place < length roots.now.list → place / 16 < length blocks.now.blocks.hulls.items }
-{
-    let count = roots.len();
-    count == 0 || blocks.has_block(count - 1)
-}
-
 /// Makes the blocks of a group anew that took hulls in, and then the group of its blocks.
 #[tactic(auto, using(crate::proofs::Covered::covered_gathered))]
 fn tighten_group(blocks: &mut Blocks, store: &Store, roots: &MarkedMap, group: usize)
@@ -86,7 +78,7 @@ fn tighten_group(blocks: &mut Blocks, store: &Store, roots: &MarkedMap, group: u
     requires covered { AreCovered blocks.old roots.now.list (λ c. hulls_of (at store.now c)) }
     ensures { AreCovered blocks.new roots.now.list (λ c. hulls_of (at store.now c)) }
 {
-    if renew_loose(blocks, store, roots, group) && has_blocks(blocks, roots) {
+    if renew_loose(blocks, store, roots, group) && blocks.reaches(roots.len()) {
         blocks.gather(group);
     }
 }

@@ -6,13 +6,6 @@ use crate::Forest;
 use crate::covering::{cover_all, tighten};
 
 impl Forest {
-    /// Whether a mark stands.
-    pub fn is_marked(&self) -> bool
-        ensures { result ≡ self.now.marking }
-    {
-        self.marking
-    }
-
     /// Makes the mark the nodes as they stand.
     pub fn begin(&mut self)
         requires unmarked { self.old.marking ≡ false }

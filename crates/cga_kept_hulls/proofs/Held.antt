@@ -65,7 +65,8 @@ held_through (Some (Some g)) k h e f = holds_from g h (λ p t. probed_chain p k 
 
 -- an entry that is there and holds hulls has some, and what holds these holds them
 pub held_by : (xs : Level) (i : ℕ) (h : Hulls) (outer : Option (Option Hulls)) → i < length xs
-    → block_holds (slice_get xs i) h ≡ true → ((k : Hulls) → known_hulls (slice_get xs i) ≡ Some k → block_holds outer k ≡ true)
+    → block_holds (slice_get xs i) h ≡ true
+    → ((k : Hulls) → known_hulls (slice_get xs i) ≡ Some k → block_holds outer k ≡ true)
     → block_holds outer h ≡ true
 held_by [] i h outer lt e f = absurd (omega (arith, lt))
 held_by (None ∷ xs) zero h outer lt e f = absurd (cc)

@@ -54,11 +54,11 @@ impl Blocks {
         }
     }
 
-    /// Whether a block is there for a place.
-    pub fn has_block(&self, place: usize) -> bool
-        ensures there { result ≡ true → place / 16 < length self.now.blocks.hulls.items }
+    /// Whether a block is there for each of so many roots.
+    pub fn reaches(&self, roots: usize) -> bool
+        ensures { result ≡ true → (place : ℕ) → place < roots → place / 16 < length self.now.blocks.hulls.items }
     {
-        self.blocks.has(place)
+        roots == 0 || self.blocks.has(roots - 1)
     }
 
     /// Whether a block took hulls in since the blocks were last at rest.

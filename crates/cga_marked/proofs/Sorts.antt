@@ -47,9 +47,10 @@ module _ {E : Type 0} (sort : E → Sort) (test : Sort → Bool) (none : test Ot
       (omega (arith, right, s.0), omega (arith, right, s.1))
 
   -- and what is made of it is right after it
-  pub sorted_from : (old now : List (Option E)) (id : ℕ) → ((c : ℕ) → c ≢ id → slot now c ≡ slot old c) → (was is : Sort)
-      → was ≡ sort_of sort (slot old id) → is ≡ sort_of sort (slot now id) → (n : ℕ) → n ≡ sorted test sort old
-      → (m : ℕ) (a b : Bool) → a ≡ test was → b ≡ test is → m + cond a 1 0 ≡ n + cond b 1 0 → m ≡ sorted test sort now
+  pub sorted_from : (old now : List (Option E)) (id : ℕ) → ((c : ℕ) → c ≢ id → slot now c ≡ slot old c)
+      → (was is : Sort) → was ≡ sort_of sort (slot old id) → is ≡ sort_of sort (slot now id)
+      → (n : ℕ) → n ≡ sorted test sort old → (m : ℕ) (a b : Bool) → a ≡ test was → b ≡ test is
+      → m + cond a 1 0 ≡ n + cond b 1 0 → m ≡ sorted test sort now
   sorted_from old now id others was is before after n right m a b out in_ made =
       let r = recount old now id others was is before after n right in
       let one : Bool → ℕ = λ t. cond t 1 0 in

@@ -84,7 +84,8 @@ left_sign s.LeftRound rest h = refl
 left_sign s.Dot rest h = refl
 left_sign _ rest h = absurd (let q : false ≡ true = h in cc)
 
-pub left_first : (l : Lexeme) (rest : List ℕ) → is_left l ≡ true → begins continues_name (lexeme_bytes l ++ rest) ≡ false
+pub left_first : (l : Lexeme) (rest : List ℕ) → is_left l ≡ true
+    → begins continues_name (lexeme_bytes l ++ rest) ≡ false
 left_first (lexeme.Number value) rest h = absurd (let q : false ≡ true = h in cc)
 left_first (lexeme.Relative value) rest h = absurd (let q : false ≡ true = h in cc)
 left_first (lexeme.Keyword word) rest h = absurd (let q : false ≡ true = h in cc)

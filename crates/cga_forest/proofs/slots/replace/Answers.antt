@@ -27,7 +27,8 @@ refresh-requires-clause-tree c =
     let d : c.depth_of-depth.result ≡ c.requires.here.0.depth = c.depth_of-depth.ensures ∙ depth_present (at c.args.store.now c.args.id) c.requires.here.0 c.requires.here.1 in
     let f : depth_at (at c.drop_children.new.store c.args.id) ≡ c.depth_of-depth.result = ap depth_at (c.drop_children.ensures.pointwise c.args.id) ∙ depth_flag _ (at c.args.store.now c.args.id) ∙ sym c.depth_of-depth.ensures in
     tree_after (λ k. at c.args.store.now k) (λ k. at c.drop_children.new.store k) (λ k. at c.place_children.new.store k) (λ k. at c.rewrite.new.store k)
-    c.args.id (depth_at (at c.drop_children.new.store c.args.id) + 1) (256 - c.depth_of-depth.result) c.args.marking c.place_children.new.made.items c.args.new.news.items c.args.new.state c.requires.here.0
+    c.args.id (depth_at (at c.drop_children.new.store c.args.id) + 1) (256 - c.depth_of-depth.result)
+    c.args.marking c.place_children.new.made.items c.args.new.news.items c.args.new.state c.requires.here.0
     c.requires.here.1 c.requires.here.2.low (ap (λ x. x + 1) (f ∙ d)) (ap (λ x. 256 - x) d) c.requires.whole
     (λ k. rw (← c.as_slice.ensures.value) (c.drop_children.ensures.pointwise k)) c.place_children.ensures.placed c.place_children.ensures.length c.rewrite.ensures.others c.rewrite.ensures.present
 
@@ -36,7 +37,8 @@ refresh-requires-clause-here c =
     let d : c.depth_of-depth.result ≡ c.requires.here.0.depth = c.depth_of-depth.ensures ∙ depth_present (at c.args.store.now c.args.id) c.requires.here.0 c.requires.here.1 in
     let f : depth_at (at c.drop_children.new.store c.args.id) ≡ c.depth_of-depth.result = ap depth_at (c.drop_children.ensures.pointwise c.args.id) ∙ depth_flag _ (at c.args.store.now c.args.id) ∙ sym c.depth_of-depth.ensures in
     here_after (λ k. at c.args.store.now k) (λ k. at c.drop_children.new.store k) (λ k. at c.place_children.new.store k) (λ k. at c.rewrite.new.store k)
-    c.args.id (depth_at (at c.drop_children.new.store c.args.id) + 1) (256 - c.depth_of-depth.result) c.args.marking c.place_children.new.made.items c.args.new.news.items c.args.new.state c.requires.here.0
+    c.args.id (depth_at (at c.drop_children.new.store c.args.id) + 1) (256 - c.depth_of-depth.result)
+    c.args.marking c.place_children.new.made.items c.args.new.news.items c.args.new.state c.requires.here.0
     c.requires.here.1 c.requires.here.2.low (ap (λ x. x + 1) (f ∙ d)) (ap (λ x. 256 - x) d) c.requires.whole
     (λ k. rw (← c.as_slice.ensures.value) (c.drop_children.ensures.pointwise k)) c.place_children.ensures.placed c.place_children.ensures.length c.rewrite.ensures.others c.rewrite.ensures.present
 
@@ -45,7 +47,8 @@ refresh-requires-clause-right c =
     let d : c.depth_of-depth.result ≡ c.requires.here.0.depth = c.depth_of-depth.ensures ∙ depth_present (at c.args.store.now c.args.id) c.requires.here.0 c.requires.here.1 in
     let f : depth_at (at c.drop_children.new.store c.args.id) ≡ c.depth_of-depth.result = ap depth_at (c.drop_children.ensures.pointwise c.args.id) ∙ depth_flag _ (at c.args.store.now c.args.id) ∙ sym c.depth_of-depth.ensures in
     right_after (λ k. at c.args.store.now k) (λ k. at c.drop_children.new.store k) (λ k. at c.place_children.new.store k) (λ k. at c.rewrite.new.store k)
-    c.args.id (depth_at (at c.drop_children.new.store c.args.id) + 1) (256 - c.depth_of-depth.result) c.args.marking c.place_children.new.made.items c.args.new.news.items c.args.new.state c.requires.here.0
+    c.args.id (depth_at (at c.drop_children.new.store c.args.id) + 1) (256 - c.depth_of-depth.result)
+    c.args.marking c.place_children.new.made.items c.args.new.news.items c.args.new.state c.requires.here.0
     c.requires.here.1 c.requires.here.2.low (ap (λ x. x + 1) (f ∙ d)) (ap (λ x. 256 - x) d) c.requires.whole
     (λ k. rw (← c.as_slice.ensures.value) (c.drop_children.ensures.pointwise k)) c.place_children.ensures.placed c.place_children.ensures.length c.rewrite.ensures.others c.rewrite.ensures.present c.rewrite.ensures.hulls
 
@@ -54,7 +57,8 @@ refresh-requires-clause-spares c =
     let d : c.depth_of-depth.result ≡ c.requires.here.0.depth = c.depth_of-depth.ensures ∙ depth_present (at c.args.store.now c.args.id) c.requires.here.0 c.requires.here.1 in
     let f : depth_at (at c.drop_children.new.store c.args.id) ≡ c.depth_of-depth.result = ap depth_at (c.drop_children.ensures.pointwise c.args.id) ∙ depth_flag _ (at c.args.store.now c.args.id) ∙ sym c.depth_of-depth.ensures in
     rw (depth_after (λ k. at c.args.store.now k) (λ k. at c.drop_children.new.store k) (λ k. at c.place_children.new.store k) (λ k. at c.rewrite.new.store k)
-    c.args.id (depth_at (at c.drop_children.new.store c.args.id) + 1) (256 - c.depth_of-depth.result) c.args.marking c.place_children.new.made.items c.args.new.news.items c.args.new.state c.requires.here.0
+    c.args.id (depth_at (at c.drop_children.new.store c.args.id) + 1) (256 - c.depth_of-depth.result)
+    c.args.marking c.place_children.new.made.items c.args.new.news.items c.args.new.state c.requires.here.0
     c.requires.here.1 c.requires.here.2.low (ap (λ x. x + 1) (f ∙ d)) (ap (λ x. 256 - x) d) c.requires.whole
     (λ k. rw (← c.as_slice.ensures.value) (c.drop_children.ensures.pointwise k)) c.place_children.ensures.placed c.place_children.ensures.length c.rewrite.ensures.others c.rewrite.ensures.present) c.requires.spares
 
@@ -63,15 +67,18 @@ returns-clause-whole c =
     let d : c.depth_of-depth.result ≡ c.requires.here.0.depth = c.depth_of-depth.ensures ∙ depth_present (at c.args.store.now c.args.id) c.requires.here.0 c.requires.here.1 in
     let f : depth_at (at c.drop_children.new.store c.args.id) ≡ c.depth_of-depth.result = ap depth_at (c.drop_children.ensures.pointwise c.args.id) ∙ depth_flag _ (at c.args.store.now c.args.id) ∙ sym c.depth_of-depth.ensures in
     IsWhole-from (λ k. present_of (at c.rewrite.new.store k)) _ _ c.refresh.ensures.present c.refresh.ensures.right (places_after (λ k. at c.args.store.now k) (λ k. at c.drop_children.new.store k) (λ k. at c.place_children.new.store k) (λ k. at c.rewrite.new.store k)
-    c.args.id (depth_at (at c.drop_children.new.store c.args.id) + 1) (256 - c.depth_of-depth.result) c.args.marking c.place_children.new.made.items c.args.new.news.items c.args.new.state c.requires.here.0
+    c.args.id (depth_at (at c.drop_children.new.store c.args.id) + 1) (256 - c.depth_of-depth.result)
+    c.args.marking c.place_children.new.made.items c.args.new.news.items c.args.new.state c.requires.here.0
     c.requires.here.1 c.requires.here.2.low (ap (λ x. x + 1) (f ∙ d)) (ap (λ x. 256 - x) d) c.requires.whole
     (λ k. rw (← c.as_slice.ensures.value) (c.drop_children.ensures.pointwise k)) c.place_children.ensures.placed c.place_children.ensures.length c.rewrite.ensures.others
     c.rewrite.ensures.present c.requires.here.2) (tree_after (λ k. at c.args.store.now k) (λ k. at c.drop_children.new.store k) (λ k. at c.place_children.new.store k) (λ k. at c.rewrite.new.store k)
-    c.args.id (depth_at (at c.drop_children.new.store c.args.id) + 1) (256 - c.depth_of-depth.result) c.args.marking c.place_children.new.made.items c.args.new.news.items c.args.new.state c.requires.here.0
+    c.args.id (depth_at (at c.drop_children.new.store c.args.id) + 1) (256 - c.depth_of-depth.result)
+    c.args.marking c.place_children.new.made.items c.args.new.news.items c.args.new.state c.requires.here.0
     c.requires.here.1 c.requires.here.2.low (ap (λ x. x + 1) (f ∙ d)) (ap (λ x. 256 - x) d) c.requires.whole
     (λ k. rw (← c.as_slice.ensures.value) (c.drop_children.ensures.pointwise k)) c.place_children.ensures.placed c.place_children.ensures.length c.rewrite.ensures.others
     c.rewrite.ensures.present) (few_after (λ k. at c.args.store.now k) (λ k. at c.drop_children.new.store k) (λ k. at c.place_children.new.store k) (λ k. at c.rewrite.new.store k)
-    c.args.id (depth_at (at c.drop_children.new.store c.args.id) + 1) (256 - c.depth_of-depth.result) c.args.marking c.place_children.new.made.items c.args.new.news.items c.args.new.state c.requires.here.0
+    c.args.id (depth_at (at c.drop_children.new.store c.args.id) + 1) (256 - c.depth_of-depth.result)
+    c.args.marking c.place_children.new.made.items c.args.new.news.items c.args.new.state c.requires.here.0
     c.requires.here.1 c.requires.here.2.low (ap (λ x. x + 1) (f ∙ d)) (ap (λ x. 256 - x) d) c.requires.whole
     (λ k. rw (← c.as_slice.ensures.value) (c.drop_children.ensures.pointwise k)) c.place_children.ensures.placed c.place_children.ensures.length c.rewrite.ensures.others
     c.rewrite.ensures.present c.requires.here.2.few)
@@ -84,7 +91,8 @@ returns-clause-replaced c =
       c.requires.here.0,
       c.place_children.new.made.items,
       rw (← c.depth_of-depth.ensures) (assembled_slots (λ k. at c.args.store.now k) (λ k. at c.drop_children.new.store k) (λ k. at c.place_children.new.store k) (λ k. at c.rewrite.new.store k)
-          c.args.id (depth_at (at c.drop_children.new.store c.args.id) + 1) (256 - c.depth_of-depth.result) c.args.marking c.place_children.new.made.items c.args.new.news.items c.args.new.state c.requires.here.0
+          c.args.id (depth_at (at c.drop_children.new.store c.args.id) + 1) (256 - c.depth_of-depth.result)
+          c.args.marking c.place_children.new.made.items c.args.new.news.items c.args.new.state c.requires.here.0
           c.requires.here.1 c.requires.here.2.low (ap (λ x. x + 1) (f ∙ d)) (ap (λ x. 256 - x) d) c.requires.whole
           (λ k. rw (← c.as_slice.ensures.value) (c.drop_children.ensures.pointwise k)) c.place_children.ensures.placed c.place_children.ensures.length c.rewrite.ensures.others c.rewrite.ensures.present),
     )
@@ -94,7 +102,8 @@ returns-clause-vacant c k x h t =
     let d : c.depth_of-depth.result ≡ c.requires.here.0.depth = c.depth_of-depth.ensures ∙ depth_present (at c.args.store.now c.args.id) c.requires.here.0 c.requires.here.1 in
     let f : depth_at (at c.drop_children.new.store c.args.id) ≡ c.depth_of-depth.result = ap depth_at (c.drop_children.ensures.pointwise c.args.id) ∙ depth_flag _ (at c.args.store.now c.args.id) ∙ sym c.depth_of-depth.ensures in
     vacant_after (λ k. at c.args.store.now k) (λ k. at c.drop_children.new.store k) (λ k. at c.place_children.new.store k) (λ k. at c.rewrite.new.store k)
-    c.args.id (depth_at (at c.drop_children.new.store c.args.id) + 1) (256 - c.depth_of-depth.result) c.args.marking c.place_children.new.made.items c.args.new.news.items c.args.new.state c.requires.here.0
+    c.args.id (depth_at (at c.drop_children.new.store c.args.id) + 1) (256 - c.depth_of-depth.result)
+    c.args.marking c.place_children.new.made.items c.args.new.news.items c.args.new.state c.requires.here.0
     c.requires.here.1 c.requires.here.2.low (ap (λ x. x + 1) (f ∙ d)) (ap (λ x. 256 - x) d) c.requires.whole
     (λ k. rw (← c.as_slice.ensures.value) (c.drop_children.ensures.pointwise k)) c.place_children.ensures.placed c.place_children.ensures.length c.rewrite.ensures.others c.rewrite.ensures.present k x h (sym (c.refresh.ensures.present k) ∙ t)
 
@@ -103,7 +112,8 @@ returns-clause-marked c on k =
     let d : c.depth_of-depth.result ≡ c.requires.here.0.depth = c.depth_of-depth.ensures ∙ depth_present (at c.args.store.now c.args.id) c.requires.here.0 c.requires.here.1 in
     let f : depth_at (at c.drop_children.new.store c.args.id) ≡ c.depth_of-depth.result = ap depth_at (c.drop_children.ensures.pointwise c.args.id) ∙ depth_flag _ (at c.args.store.now c.args.id) ∙ sym c.depth_of-depth.ensures in
     c.refresh.ensures.marked k ∙ mark_after (λ k. at c.args.store.now k) (λ k. at c.drop_children.new.store k) (λ k. at c.place_children.new.store k) (λ k. at c.rewrite.new.store k)
-    c.args.id (depth_at (at c.drop_children.new.store c.args.id) + 1) (256 - c.depth_of-depth.result) c.args.marking c.place_children.new.made.items c.args.new.news.items c.args.new.state c.requires.here.0
+    c.args.id (depth_at (at c.drop_children.new.store c.args.id) + 1) (256 - c.depth_of-depth.result)
+    c.args.marking c.place_children.new.made.items c.args.new.news.items c.args.new.state c.requires.here.0
     c.requires.here.1 c.requires.here.2.low (ap (λ x. x + 1) (f ∙ d)) (ap (λ x. 256 - x) d) c.requires.whole
     (λ k. rw (← c.as_slice.ensures.value) (c.drop_children.ensures.pointwise k)) c.place_children.ensures.placed c.place_children.ensures.length c.rewrite.ensures.others c.rewrite.ensures.present on (c.rewrite.ensures.marked on) c.rewrite.ensures.marked_hulls k
 
@@ -112,7 +122,8 @@ returns-clause-marked_hulls c on k =
     let d : c.depth_of-depth.result ≡ c.requires.here.0.depth = c.depth_of-depth.ensures ∙ depth_present (at c.args.store.now c.args.id) c.requires.here.0 c.requires.here.1 in
     let f : depth_at (at c.drop_children.new.store c.args.id) ≡ c.depth_of-depth.result = ap depth_at (c.drop_children.ensures.pointwise c.args.id) ∙ depth_flag _ (at c.args.store.now c.args.id) ∙ sym c.depth_of-depth.ensures in
     c.refresh.ensures.marked_hulls on k ∙ mark_hulls_after (λ k. at c.args.store.now k) (λ k. at c.drop_children.new.store k) (λ k. at c.place_children.new.store k) (λ k. at c.rewrite.new.store k)
-    c.args.id (depth_at (at c.drop_children.new.store c.args.id) + 1) (256 - c.depth_of-depth.result) c.args.marking c.place_children.new.made.items c.args.new.news.items c.args.new.state c.requires.here.0
+    c.args.id (depth_at (at c.drop_children.new.store c.args.id) + 1) (256 - c.depth_of-depth.result)
+    c.args.marking c.place_children.new.made.items c.args.new.news.items c.args.new.state c.requires.here.0
     c.requires.here.1 c.requires.here.2.low (ap (λ x. x + 1) (f ∙ d)) (ap (λ x. 256 - x) d) c.requires.whole
     (λ k. rw (← c.as_slice.ensures.value) (c.drop_children.ensures.pointwise k)) c.place_children.ensures.placed c.place_children.ensures.length c.rewrite.ensures.others c.rewrite.ensures.present on (c.rewrite.ensures.marked on) c.rewrite.ensures.marked_hulls k
 
@@ -120,12 +131,15 @@ pub returns-clause-taken : goal.returns-clause-taken
 returns-clause-taken c =
     taken_replaced (λ k. at c.args.store.now k) (λ k. at c.refresh.new.store k)
     (kept_taken (λ k. at c.args.store.now k) (λ k. at c.drop_children.new.store k) (λ k. at c.place_children.new.store k) (λ k. at c.rewrite.new.store k) (λ k. at c.refresh.new.store k)
-    c.args.id _ c.args.marking _ c.args.new.news.items c.place_children.new.made.items _ c.drop_children.ensures.pointwise c.place_children.ensures.placed c.rewrite.ensures.others c.rewrite.ensures.hulls c.refresh.ensures.taken)
+    c.args.id _
+    c.args.marking _ c.args.new.news.items c.place_children.new.made.items _ c.drop_children.ensures.pointwise c.place_children.ensures.placed c.rewrite.ensures.others c.rewrite.ensures.hulls c.refresh.ensures.taken)
     (returns-clause-vacant c)
 
 pub returns-clause-others : goal.returns-clause-others
 returns-clause-others c k d t top n =
     c.refresh.ensures.others k (top_written (λ i. at c.args.store.now i) (λ i. at c.drop_children.new.store i) (λ i. at c.place_children.new.store i) (λ i. at c.rewrite.new.store i)
-    c.args.id _ c.args.marking _ c.args.new.news.items c.place_children.new.made.items c.args.new.state _ c.drop_children.ensures.pointwise c.place_children.ensures.placed c.rewrite.ensures.others c.rewrite.ensures.present c.rewrite.ensures.hulls k d t top) n
+    c.args.id _
+    c.args.marking _ c.args.new.news.items c.place_children.new.made.items c.args.new.state _ c.drop_children.ensures.pointwise c.place_children.ensures.placed c.rewrite.ensures.others c.rewrite.ensures.present c.rewrite.ensures.hulls k d t top) n
     ∙ top_hulls (λ i. at c.args.store.now i) (λ i. at c.drop_children.new.store i) (λ i. at c.place_children.new.store i) (λ i. at c.rewrite.new.store i)
-    c.args.id _ c.args.marking _ c.args.new.news.items c.place_children.new.made.items c.args.new.state _ c.drop_children.ensures.pointwise c.place_children.ensures.placed c.rewrite.ensures.others c.rewrite.ensures.present c.rewrite.ensures.hulls k d t
+    c.args.id _
+    c.args.marking _ c.args.new.news.items c.place_children.new.made.items c.args.new.state _ c.drop_children.ensures.pointwise c.place_children.ensures.placed c.rewrite.ensures.others c.rewrite.ensures.present c.rewrite.ensures.hulls k d t
