@@ -1,7 +1,6 @@
 -- No two nodes of a forest are one member.
-use Rattle.std.proofs.Common.{◌≡◌, ℕ, zero, suc, ◌+◌, List, [], ◌∷◌, ◌++◌, length, Bool, true, false, cond, refl, sym, ap, ◌∙◌, subst, arith, slice_get, Option, Some, None, inl, inr}
+use Rattle.std.proofs.Common.{◌≡◌, ℕ, zero, suc, List, [], ◌∷◌, ◌++◌, true, false, refl, sym, ap, ◌∙◌, subst, slice_get, Option, Some, None, inl, inr}
 use Rattle.std.specs.List.{AllByRecursion, IsDistinct, Contains, flat_map}
-use Rattle.std.proofs.lemmas.Option.{slice_get-get_or}
 use Rattle.std.proofs.lemmas.Slice.Eq.{bytes_eq-Decides}
 use Rattle.cga_order.specs.World.{Among}
 use Rattle.cga_order.specs.Once.{Once}

@@ -86,12 +86,12 @@ shown_length (s ∷ rest) = let a = first s in let b = shown_length rest in omeg
   where
     by_flag : (e : Entry) (b : Bool)
         → length (members_at (if b then None else Some (seen e)) ++ shown rest) ≡ cond (not b) 1 0 + length (shown rest)
-    by_flag e true = refl
+    by_flag e true = omega arith
     by_flag e false = omega arith
 
     first : (s : Option Entry)
         → length (members_at (present_of s) ++ shown rest) ≡ cond (is_shown s) 1 0 + length (shown rest)
-    first None = refl
+    first None = omega arith
     first (Some e) = by_flag e e.aside
 
 -- a list that has the nodes of a forest has as many of each kind
