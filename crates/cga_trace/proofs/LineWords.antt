@@ -1,12 +1,23 @@
 -- The words that a step's line is cut into.
-use Rattle.std.proofs.Common.{◌≡◌, ℕ, List, ◌∷◌, ◌++◌, drop, refl, ap, ◌∙◌}
+use Rattle.std.proofs.Common.{◌≡◌, ℕ, List, ◌∷◌, ◌++◌, drop, true, refl, ap, ◌∙◌}
 use Rattle.cga_shape.specs.declared.trace_step.TraceStep.{TraceStep}
-use Rattle.cga_trace.specs.Cut.{cut_of}
+use Rattle.cga_trace.specs.Cut.{cut_of, lacks}
 use Rattle.cga_obj.specs.Faults.{path_text}
 use Rattle.cga_trace.specs.Words.{answer_word, outcome_word}
 use Rattle.cga_trace.specs.Text.{AreWords, IsStep, step_text, told_text}
 use Rattle.cga_trace.proofs.Cutting.{cut_word}
 use Rattle.cga_trace.proofs.Parts.{name_lacks, path_lacks, answer_lacks}
+
+-- the first word of a text, and what is behind its blank
+pub record CutWord (text : List ℕ) : Type 0 where
+  pub word : List ℕ
+  pub rest : List ℕ
+  pub front : word ≡ (cut_of 32 text).0
+  pub back : rest ≡ (cut_of 32 text).1
+
+word_is : (x y text : List ℕ) (cut : CutWord text) → lacks 32 x ≡ true → text ≡ x ++ 32 ∷ y
+    → (cut.word ≡ x) × (cut.rest ≡ y)
+word_is x y text cut l is = cut_word 32 x y text cut.word cut.rest l is cut.front cut.back
 
 module _ (s : TraceStep) where
   abbrev r4 : List ℕ
@@ -28,16 +39,16 @@ module _ (s : TraceStep) where
   unfolding step_text told_text
   behind_step = refl
 
-  pub words : IsStep s → (line t0 w1 t1 w2 t2 w3 t3 w4 t4 w5 t5 : List ℕ) → line ≡ step_text s → t0 ≡ drop 7 line
-      → w1 ≡ (cut_of 32 t0).0 → t1 ≡ (cut_of 32 t0).1 → w2 ≡ (cut_of 32 t1).0 → t2 ≡ (cut_of 32 t1).1
-      → w3 ≡ (cut_of 32 t2).0 → t3 ≡ (cut_of 32 t2).1 → w4 ≡ (cut_of 32 t3).0 → t4 ≡ (cut_of 32 t3).1
-      → w5 ≡ (cut_of 32 t4).0 → t5 ≡ (cut_of 32 t4).1 → AreWords s w1 w2 w3 w4 w5 t5
-  words is line t0 w1 t1 w2 t2 w3 t3 w4 t4 w5 t5 at e0 f1 e1 f2 e2 f3 e3 f4 e4 f5 e5 =
-      let a = cut_word 32 s.lot r1 t0 w1 t1 (name_lacks s.lot is.lot) (e0 ∙ (ap (drop 7) at ∙ behind_step)) f1 e1 in
-      let b = cut_word 32 (path_text s.path) r2 t1 w2 t2 (path_lacks s.path is.path) a.1 f2 e2 in
-      let c = cut_word 32 s.symbol r3 t2 w3 t3 (name_lacks s.symbol is.symbol) b.1 f3 e3 in
-      let d = cut_word 32 (answer_word s.answers.noparent) r4 t3 w4 t4 (answer_lacks s.answers.noparent) c.1 f4 e4 in
-      let e = cut_word 32 (answer_word s.answers.active) (outcome_word s.outcome) t4 w5 t5 (answer_lacks s.answers.active) d.1 f5 e5 in record {
+  pub words : IsStep s → (line text : List ℕ) → line ≡ step_text s → text ≡ drop 7 line
+      → (lot : CutWord text) (path : CutWord lot.rest) (symbol : CutWord path.rest) (noparent : CutWord symbol.rest)
+      (active : CutWord noparent.rest)
+      → AreWords s lot.word path.word symbol.word noparent.word active.word active.rest
+  words is line text at behind lot path symbol noparent active =
+      let a = word_is s.lot r1 text lot (name_lacks s.lot is.lot) (behind ∙ (ap (drop 7) at ∙ behind_step)) in
+      let b = word_is (path_text s.path) r2 lot.rest path (path_lacks s.path is.path) a.1 in
+      let c = word_is s.symbol r3 path.rest symbol (name_lacks s.symbol is.symbol) b.1 in
+      let d = word_is (answer_word s.answers.noparent) r4 symbol.rest noparent (answer_lacks s.answers.noparent) c.1 in
+      let e = word_is (answer_word s.answers.active) (outcome_word s.outcome) noparent.rest active (answer_lacks s.answers.active) d.1 in record {
         lot = a.0;
         path = b.0;
         symbol = c.0;

@@ -15,7 +15,7 @@ use Rattle.cga_trace.specs.Words.{answer_word, read_answer, read_fault, begins_d
 use Rattle.cga_trace.specs.Text.{AreWords, IsFew, IsStep, step_text}
 use Rattle.cga_trace.specs.Laws.{TextTellsStep}
 use Rattle.cga_trace.proofs.Again.{answer_again, code_begins, fault_again, not_both, number_begins, some_value}
-use Rattle.cga_trace.proofs.LineWords.{words}
+use Rattle.cga_trace.proofs.LineWords.{CutWord, words}
 use Rattle.cga_trace.proofs.Parts.{cut_index, path_behind, some_left}
 use Rattle.std.specs.Prelude.{Option}
 
@@ -50,25 +50,28 @@ outcome_one (Grew n) (Faulted f) h k e = let fits : n < 2 ^ 64 = omega (arith, h
 outcome_one (Faulted f) (Grew n) h k e = let fits : n < 2 ^ 64 = omega (arith, k) in absurd (not_both (sym (number_begins n fits) ∙ (ap begins_digit (sym e) ∙ code_begins f)))
 outcome_one (Faulted f) (Faulted g) h k e = ap Faulted (some_value f g (sym (fault_again f) ∙ (ap read_fault e ∙ fault_again g)))
 
+abbrev cut_word : (text : List ℕ) → CutWord text
+cut_word text = record { word = (cut_of 32 text).0; rest = (cut_of 32 text).1; front = refl; back = refl }
+
 module _ (line : List ℕ) where
-  abbrev t0 : List ℕ
-  t0 = drop 7 line
+  abbrev lot : CutWord (drop 7 line)
+  lot = cut_word (drop 7 line)
 
-  abbrev t1 : List ℕ
-  t1 = (cut_of 32 t0).1
+  abbrev path : CutWord lot.rest
+  path = cut_word lot.rest
 
-  abbrev t2 : List ℕ
-  t2 = (cut_of 32 t1).1
+  abbrev symbol : CutWord path.rest
+  symbol = cut_word path.rest
 
-  abbrev t3 : List ℕ
-  t3 = (cut_of 32 t2).1
+  abbrev noparent : CutWord symbol.rest
+  noparent = cut_word symbol.rest
 
-  abbrev t4 : List ℕ
-  t4 = (cut_of 32 t3).1
+  abbrev active : CutWord noparent.rest
+  active = cut_word noparent.rest
 
   read : (s : TraceStep) → IsStep s → line ≡ step_text s
-      → AreWords s (cut_of 32 t0).0 (cut_of 32 t1).0 (cut_of 32 t2).0 (cut_of 32 t3).0 (cut_of 32 t4).0 (cut_of 32 t4).1
-  read s is at = words s is line t0 (cut_of 32 t0).0 t1 (cut_of 32 t1).0 t2 (cut_of 32 t2).0 t3 (cut_of 32 t3).0 t4 (cut_of 32 t4).0 (cut_of 32 t4).1 at refl refl refl refl refl refl refl refl refl refl refl
+      → AreWords s lot.word path.word symbol.word noparent.word active.word active.rest
+  read s is at = words s is line (drop 7 line) at refl lot path symbol noparent active
 
 pub text_tells_step : TextTellsStep
 text_tells_step s t iss ist e =
