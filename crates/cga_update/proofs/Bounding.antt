@@ -1,5 +1,5 @@
 -- The last node of the mark that asks, by the entries of the dependents.
-use Rattle.std.proofs.Common.{◌≡◌, inl, inr, ℕ, List, [], ◌∷◌, sym, ap, subst, slice_get, Option, Some, Bool, true, false}
+use Rattle.std.proofs.Common.{◌≡◌, inl, inr, ℕ, List, [], ◌∷◌, refl, sym, ap, subst, slice_get, Option, Some, Bool, true, false}
 use Rattle.std.specs.Prelude.{IsSome, unwrap_or, if◌then◌else◌}
 use Rattle.std.specs.Map.{lookup}
 use lib.Pointwise.{bytes_decides}
