@@ -1,6 +1,7 @@
 -- Which lots differ after an edit.
 use Rattle.std.proofs.Common.{◌≡◌, ℕ, zero, suc, List, [], ◌∷◌, ◌++◌, length, Bool, true, false, not, ◌||◌, Option, Some, None, Result, Ok, slice_get, refl, sym, ap, ◌∙◌, subst, if◌then◌else◌}
 use Rattle.std.specs.Prelude.{find, remove, slice_set, unwrap_or}
+use Rattle.std.specs.Option.{option_map_or}
 use Rattle.std.proofs.lemmas.Slice.Eq.{bytes_eq-Decides}
 use Rattle.cga_check.specs.Groups as groups
 use Rattle.cga_check.specs.Groups.{first_entry, is_of, priority_in}
@@ -21,7 +22,7 @@ use Rattle.cga_city.specs.Apply.{changed, repriced, valued}
 use Rattle.cga_city.specs.Edited.{lots_of, priced}
 use Rattle.cga_city.specs.Grammars.{attribute_place, has_rule, is_plain, prioritized, with_priority}
 use Rattle.cga_city.specs.Lots.{finds_no_room, has_symbol, is_bad, lot_place, with_lot}
-use Rattle.cga_city.proofs.Places.{Kept, all_kept, kept_less, kept_more, kept_set, less_kept, more_kept, set_kept}
+use Rattle.cga_city.proofs.Places.{Kept, all_kept, kept_less, kept_more, kept_set, less_kept, more_kept, set_kept, set_same}
 use Rattle.cga_fraction.proofs.Door.{err_if-ok as err_if_ok, option_map_or-ok as map_or_ok}
 use Rattle.cga_city.proofs.Valued.{same_rule}
 
@@ -136,3 +137,11 @@ are_changed s new (edit.Unlot name) h =
     rw at (subst (AreChanged (differ.One (Some i) None) s) e (other_lots s (remove s.lots i) (Some i) None (less_kept s.lots i) (kept_less s.lots i)))
 are_changed s new (edit.SetOrder mode) h = tt
 are_changed s new (edit.Whole other) h = tt
+
+-- ---- a lot that stands as it is
+
+-- the lots with one that stands at its place are the lots
+pub with_same : (lot : Lot) (lots : List Lot) (place : Option ℕ) → place ≡ lot_place lot.name lots
+    → (i : ℕ) × (place ≡ Some i) × (slice_get lots i ≡ Some lot) → with_lot lot lots ≡ lots
+with_same lot lots place is at =
+    ap (λ (o : Option ℕ). option_map_or (λ i. slice_set lots i lot) o (lots ++ lot ∷ [])) (sym is ∙ at.1) ∙ set_same lots at.0 lot at.2
