@@ -23,9 +23,10 @@ pub use Rattle.cga_order.proofs.Places.{came_from, slice_get-append, slice_get-m
 -- Prefixes of two paths, compared by where the paths part
 pub use Rattle.cga_order.proofs.Prefixes.{nat_cmp-less}
 -- Configurations that are reached are in order: their waiting members come after all that was done
-pub use Rattle.cga_order.proofs.Steps.{Changes, Changes-step, IsExpanded, IsOrdered, SamePlace, child_birth, child_of}
-pub use Rattle.cga_order.proofs.Steps.{children_of, expanded_after, in_order, kind_after, law, not_waiting, rises}
-pub use Rattle.cga_order.proofs.Steps.{taken_done, told-is, expanded_kind}
+pub use Rattle.cga_order.proofs.Steps.{Changes-step, IsOrdered, child_birth, child_of, in_order, law, rises, taken_done}
+-- What a step makes of a configuration
+pub use Rattle.cga_order.proofs.Stepped.{Changes, IsExpanded, SamePlace, children_of, expanded_after, expanded_kind}
+pub use Rattle.cga_order.proofs.Stepped.{kind_after, not_waiting, told-is}
 -- A turn of an agenda keeps what is off it right, and a list that is right is consistent
 pub use Rattle.cga_order.proofs.Turns.{Has-Keeps, Keeps-Has, SameAt, asks_same, right_consistent, still_right}
 -- A list that is consistent, as far as a limit, has the members of the derivation that far

@@ -3,78 +3,29 @@ use Rattle.std.proofs.Common.{◌≡◌, ℕ, ◌+◌, List, [], ◌∷◌, ◌+
 use Rattle.std.specs.Prelude.{slice_get}
 use Rattle.std.specs.declared.cmp.Ordering.TheVariants.{Less}
 use Rattle.std.specs.Cmp.{IsTotalOrder}
-use Rattle.std.proofs.lemmas.List.{append-nil}
 use Rattle.cga_order.specs.Rank.{Rank, rank_cmp}
 use Rattle.cga_order.specs.Chain.{IsChild, rank}
 use Rattle.cga_order.specs.Stamp.{stamps_cmp}
-use Rattle.cga_order.specs.World.{World, IsWorld, Placed, Kind, Waiting, Done, Faulted, Instance, Has, Among, place_of, stamp_of, birth_of, IsEarlier, is_waiting, is_instance}
-use Rattle.cga_order.specs.Run.{become, told, outcome, start, IsStep, Reached, AllEarlier, Rises}
+use Rattle.cga_order.specs.World.{World, IsWorld, Placed, Kind, Waiting, Done, Faulted, Instance, Has, Among, place_of, stamp_of, birth_of, IsEarlier}
+use Rattle.cga_order.specs.Run.{become, outcome, start, IsStep, Reached, AllEarlier, Rises}
 use Rattle.cga_order.proofs.Order.{stamps_total}
 use Rattle.cga_order.proofs.Chains.{stamps-place, rank-before, root-before, birth-stamp, birth-child, stamp-child, snoc-same}
 use Rattle.cga_order.proofs.Members.{Has-left, Has-right, Has-append, Has-index, Among-index, Has-start, Has-become, become-Has_elsewhere, become-Has_there}
 use Rattle.cga_order.proofs.Maxima as stamps
-use Rattle.std.proofs.Common.{false, true}
+pub use Rattle.cga_order.proofs.Stepped.{SamePlace, Changes, kind_after, children_of, told-is, IsExpanded, expanded_after, not_waiting, expanded_kind}
 
 module _ {N A F P : Type 0} (world : World N A F P) where
   abbrev pub Members : Type 0
   Members = List (Placed N F P)
 
-  -- both shapes have one lot and one path
-  abbrev pub SamePlace : N → N → Type 0
-  SamePlace n m = place_of world n ≡ place_of world m
-
-  -- the members of D are those of C, but s has this kind, and these children came
-  pub record Changes (C D : Members) (s : N) (kind : Kind F P) (children : Members) : Type 0 where
-    pub from : (n : N) (k : Kind F P) → Has D n k
-        → ((SamePlace n s → ⊥) × Has C n k) ⊎ (((n ≡ s) × (k ≡ kind)) ⊎ Has children n k)
-    pub to : (n : N) (k : Kind F P) → (SamePlace n s → ⊥) → Has C n k → Has D n k
-    pub itself : Has D s kind
-    pub came : (n : N) (k : Kind F P) → Has children n k → Has D n k
-
-  -- the kind of a shape after its step, and the children that came
-  abbrev pub kind_after : Result Members F → Kind F P
-  kind_after (Ok children) = Done
-  kind_after (Err fault) = Faulted fault
-
-  -- the children that came with an outcome: none with a fault
-  abbrev pub children_of : Result Members F → Members
-  children_of (Ok children) = children
-  children_of (Err fault) = []
-
-  -- a configuration after a step is that before with the shape's new kind, and the children that came behind it
-  pub told-is : (C : Members) (s : N) (r : Result Members F)
-      → told world C s r ≡ map (become world s (kind_after r)) C ++ children_of r
-  told-is C s (Ok children) = refl
-  told-is C s (Err fault) = sym (append-nil (map (become world s (Faulted fault)) C))
-
-  -- it is done, or has a fault
-  abbrev pub IsExpanded : Kind F P → Type 0
-  IsExpanded k = (k ≡ Done) ⊎ ((f : F) × (k ≡ Faulted f))
-
-  -- after its step a shape is done, or has a fault
-  pub expanded_after : (r : Result Members F) → IsExpanded (kind_after r)
-  expanded_after (Ok children) = inl refl
-  expanded_after (Err fault) = inr (fault, refl)
-
-  -- what was expanded doesn't wait
-  pub not_waiting : (k : Kind F P) → IsExpanded k → k ≡ Waiting → ⊥
-  not_waiting k x e = elim x [ inl d ↦ let y : Done ≡ Waiting = sym d ∙ e in cc | inr f ↦ let y : Faulted f.0 ≡ Waiting = sym f.1 ∙ e in cc ]
-
-  -- what neither waits nor is an instance is expanded
-  pub expanded_kind : (k : Kind F P) → is_waiting k ≡ false → is_instance k ≡ false → IsExpanded k
-  expanded_kind Waiting e f = let x : true ≡ false = e in cc
-  expanded_kind Done e f = inl refl
-  expanded_kind (Faulted y) e f = inr (y, refl)
-  expanded_kind (Instance y) e f = let x : true ≡ false = f in cc
-
   -- what a configuration that was reached keeps
   pub record IsOrdered (C : Members) : Type 0 where
-    pub distinct : (n m : N) (k j : Kind F P) → Has C n k → Has C m j → SamePlace n m → (n ≡ m) × (k ≡ j)
+    pub distinct : (n m : N) (k j : Kind F P) → Has C n k → Has C m j → SamePlace world n m → (n ≡ m) × (k ≡ j)
     pub under : (n : N) (k : Kind F P) → Has C n k
         → ((world.chain n).path ≡ []) ⊎ ((e : N) × (i : ℕ) × Has C e Done × IsChild (world.chain e) i (world.chain n))
     pub born : (n w : N) (k : Kind F P) → Has C n k → Has C w Waiting
         → IsEarlier world (birth_of world n) (stamp_of world w)
-    pub done : (e w : N) (k : Kind F P) → Has C e k → IsExpanded k → Has C w Waiting
+    pub done : (e w : N) (k : Kind F P) → Has C e k → IsExpanded world k → Has C w Waiting
         → IsEarlier world (stamp_of world e) (stamp_of world w)
 
   module _ (laws : IsWorld world) where
@@ -101,7 +52,7 @@ module _ {N A F P : Type 0} (world : World N A F P) where
         )
 
     pub children_apart : (s : N) (a : A) (cs : Members) → world.expand s a ≡ Ok cs → (c d : N) (k j : Kind F P)
-        → Has cs c k → Has cs d j → SamePlace c d → (c ≡ d) × (k ≡ j)
+        → Has cs c k → Has cs d j → SamePlace world c d → (c ≡ d) × (k ≡ j)
     children_apart s a cs e c d k j h g same =
         let u = child_of s a cs e c k h in
         let v = child_of s a cs e d j g in
@@ -111,21 +62,21 @@ module _ {N A F P : Type 0} (world : World N A F P) where
         (sym u.3 ∙ (ap (λ x. x.shape) m ∙ v.3), sym u.4 ∙ (ap (λ x. x.kind) m ∙ v.4))
 
     pub fresh_kind : (s : N) (a : A) (cs : Members) → world.expand s a ≡ Ok cs → (c : N) (k : Kind F P) → Has cs c k
-        → IsExpanded k → ⊥
+        → IsExpanded world k → ⊥
     fresh_kind s a cs e c k h x =
         let u = child_of s a cs e c k h in
         elim u.6 [
-          | inl w ↦ not_waiting k x w
+          | inl w ↦ not_waiting world k x w
           | inr p ↦ elim x [ inl d ↦ let y : Done ≡ Instance p.0 = sym d ∙ p.1 in cc | inr f ↦ let y : Faulted f.0 ≡ Instance p.0 = sym f.1 ∙ p.1 in cc ]
         ]
 
     -- what a step makes of a configuration in order
     pub Changes-step : (C D : Members) (s : N) → IsOrdered C → IsStep world C D s
-        → Changes C D s (kind_after (outcome world C s)) (children_of (outcome world C s))
+        → Changes world C D s (kind_after world (outcome world C s)) (children_of world (outcome world C s))
     Changes-step C D s good step =
-        let kind = kind_after (outcome world C s) in
-        let cs = children_of (outcome world C s) in
-        let is : D ≡ map (become world s kind) C ++ cs = step.told ∙ told-is C s (outcome world C s) in
+        let kind = kind_after world (outcome world C s) in
+        let cs = children_of world (outcome world C s) in
+        let is : D ≡ map (become world s kind) C ++ cs = step.told ∙ told-is world C s (outcome world C s) in
         record {
           from = λ n k h. elim (Has-append (map (become world s kind) C) cs n k (subst (λ x. Has x n k) is h)) [
             | inl a ↦ elim (Has-become world s kind C n k a) [
@@ -142,7 +93,7 @@ module _ {N A F P : Type 0} (world : World N A F P) where
     -- the waiting shape of least rank has the least stamp
     pub least_stamp : (C : Members) (s : N) → IsOrdered C → Has C s Waiting
         → ((w : N) → Has C w Waiting → rank_cmp world.mode (rank (world.chain w)) (rank (world.chain s)) ≡ Less → ⊥)
-        → (w : N) → Has C w Waiting → (SamePlace w s → ⊥) → IsEarlier world (stamp_of world s) (stamp_of world w)
+        → (w : N) → Has C w Waiting → (SamePlace world w s → ⊥) → IsEarlier world (stamp_of world s) (stamp_of world w)
     least_stamp C s good was least w h apart = elim (stamps.split (stamps_cmp world.mode) order (stamp_of world s) (stamp_of world w)) [
       | inl l ↦ l
       | inr r ↦ elim r [
@@ -156,35 +107,35 @@ module _ {N A F P : Type 0} (world : World N A F P) where
       result : Result Members F
       result = outcome world C s
 
-      changes : Changes C D s (kind_after (outcome world C s)) (children_of (outcome world C s))
+      changes : Changes world C D s (kind_after world (outcome world C s)) (children_of world (outcome world C s))
       changes = Changes-step C D s good step
 
       -- what is known of a child that came
-      pub law : (c : N) (k : Kind F P) → Has (children_of (outcome world C s)) c k
-          → (kind_after (outcome world C s) ≡ Done) × ((i : ℕ) × IsChild (world.chain s) i (world.chain c))
-          × (IsExpanded k → ⊥)
-      law c k h = elim (outcome world C s) as (λ r. outcome world C s ≡ r → Has (children_of r) c k → (kind_after r ≡ Done) × ((i : ℕ) × IsChild (world.chain s) i (world.chain c)) × (IsExpanded k → ⊥)) [
+      pub law : (c : N) (k : Kind F P) → Has (children_of world (outcome world C s)) c k
+          → (kind_after world (outcome world C s) ≡ Done) × ((i : ℕ) × IsChild (world.chain s) i (world.chain c))
+          × (IsExpanded world k → ⊥)
+      law c k h = elim (outcome world C s) as (λ r. outcome world C s ≡ r → Has (children_of world r) c k → (kind_after world r ≡ Done) × ((i : ℕ) × IsChild (world.chain s) i (world.chain c)) × (IsExpanded world k → ⊥)) [
         | Ok cs ↦ λ e g. let u = child_of s _ cs e c k g in (refl, (u.0, u.5), fresh_kind s _ cs e c k g)
         | Err f ↦ λ e g. absurd g
       ] refl h
 
-      pub apart_children : (c d : N) (k j : Kind F P) → Has (children_of (outcome world C s)) c k
-          → Has (children_of (outcome world C s)) d j → SamePlace c d → (c ≡ d) × (k ≡ j)
-      apart_children c d k j h g same = elim (outcome world C s) as (λ r. outcome world C s ≡ r → Has (children_of r) c k → Has (children_of r) d j → (c ≡ d) × (k ≡ j)) [
+      pub apart_children : (c d : N) (k j : Kind F P) → Has (children_of world (outcome world C s)) c k
+          → Has (children_of world (outcome world C s)) d j → SamePlace world c d → (c ≡ d) × (k ≡ j)
+      apart_children c d k j h g same = elim (outcome world C s) as (λ r. outcome world C s ≡ r → Has (children_of world r) c k → Has (children_of world r) d j → (c ≡ d) × (k ≡ j)) [
         | Ok cs ↦ λ e x y. children_apart s _ cs e c d k j x y same
         | Err f ↦ λ e x y. absurd x
       ] refl h g
 
-      pub least : (w : N) → Has C w Waiting → (SamePlace w s → ⊥)
+      pub least : (w : N) → Has C w Waiting → (SamePlace world w s → ⊥)
           → IsEarlier world (stamp_of world s) (stamp_of world w)
       least = least_stamp C s good step.waits step.least
 
       -- the birth of a child that came in a step is the stamp of the shape that was taken
-      pub child_birth : (c : N) (k : Kind F P) → Has (children_of (outcome world C s)) c k
+      pub child_birth : (c : N) (k : Kind F P) → Has (children_of world (outcome world C s)) c k
           → birth_of world c ≡ stamp_of world s
       child_birth c k h = let l = law c k h in birth-child world.mode (world.chain s) l.1.0 (world.chain c) (laws.whole s) l.1.1
 
-      pub child_after : (c : N) (k : Kind F P) → Has (children_of (outcome world C s)) c k
+      pub child_after : (c : N) (k : Kind F P) → Has (children_of world (outcome world C s)) c k
           → IsEarlier world (stamp_of world s) (stamp_of world c)
       child_after c k h = let l = law c k h in stamp-child world.mode (world.chain s) l.1.0 (world.chain c) (laws.whole s) l.1.1
 
@@ -192,7 +143,7 @@ module _ {N A F P : Type 0} (world : World N A F P) where
       pub after : (w : N) → Has D w Waiting → IsEarlier world (stamp_of world s) (stamp_of world w)
       after w h = elim (changes.from w Waiting h) [
         | inl a ↦ least w a.1 a.0
-        | inr r ↦ elim r [ inl e ↦ absurd (not_waiting _ (expanded_after (outcome world C s)) (sym e.1)) | inr c ↦ child_after w Waiting c ]
+        | inr r ↦ elim r [ inl e ↦ absurd (not_waiting world _ (expanded_after world (outcome world C s)) (sym e.1)) | inr c ↦ child_after w Waiting c ]
       ]
 
       over : (a : List Rank) → IsEarlier world a (stamp_of world s) → (w : N) → Has D w Waiting
@@ -200,7 +151,8 @@ module _ {N A F P : Type 0} (world : World N A F P) where
       over a e w h = later a (stamp_of world s) (stamp_of world w) e (after w h)
 
       -- no child has the place of a member of C
-      pub fresh : (c m : N) (k j : Kind F P) → Has (children_of (outcome world C s)) c k → Has C m j → SamePlace c m → ⊥
+      pub fresh : (c m : N) (k j : Kind F P) → Has (children_of world (outcome world C s)) c k → Has C m j
+          → SamePlace world c m → ⊥
       fresh c m k j h g same =
           let l = law c k h in
           let path : (world.chain m).path ≡ (world.chain s).path ++ l.1.0 ∷ [] = ap (λ p. p.1) (sym same) ∙ l.1.1.path in
@@ -288,7 +240,7 @@ module _ {N A F P : Type 0} (world : World N A F P) where
           (one_root n m a.0 b.0 e, a.1 ∙ sym b.1);
       under = λ n k h. inl (laws.root n (Has-start world world.roots n k h).0);
       born = λ n w k h g. root-before world.mode (world.chain n) (world.chain w) (laws.root n (Has-start world world.roots n k h).0);
-      done = λ e w k h y g. absurd (not_waiting k y (Has-start world world.roots e k h).1);
+      done = λ e w k h y g. absurd (not_waiting world k y (Has-start world world.roots e k h).1);
     }
 
     -- each configuration that is reached is in order
@@ -298,16 +250,16 @@ module _ {N A F P : Type 0} (world : World N A F P) where
 
     -- what was taken is expanded
     pub taken_done : (taken : List N) (C : Members) → Reached world taken C → (t : N) → Among t taken
-        → (k : Kind F P) × Has C t k × IsExpanded k
+        → (k : Kind F P) × Has C t k × IsExpanded world k
     taken_done [] C r t h = absurd h
     taken_done (s ∷ taken) D (C, reached, step) t h =
         let good = in_order taken C reached in
         let changes = Changes-step C D s good step in
         elim h [
-          | inl e ↦ (kind_after (outcome world C s), subst (λ x. Has D x (kind_after (outcome world C s))) e changes.itself, expanded_after (outcome world C s))
+          | inl e ↦ (kind_after world (outcome world C s), subst (λ x. Has D x (kind_after world (outcome world C s))) e changes.itself, expanded_after world (outcome world C s))
           | inr g ↦
               let w = taken_done taken C reached t g in
-              (w.0, changes.to t w.0 (λ q. not_waiting w.0 w.2 (good.distinct t s w.0 Waiting w.1 step.waits q).1) w.1, w.2)
+              (w.0, changes.to t w.0 (λ q. not_waiting world w.0 w.2 (good.distinct t s w.0 Waiting w.1 step.waits q).1) w.1, w.2)
         ]
 
     all_earlier : (taken : List N) (s : N)

@@ -1,5 +1,5 @@
-ghost use Rattle.std.specs.Prelude.{◌≡◌, ℕ, ◌<◌, ◌≤◌, ◌+◌, Some, length, take};
-ghost use Rattle.std.specs.Ordering.{nat_cmp};
+ghost use Rattle.std.specs.Prelude.{◌≡◌, ℕ, ◌<◌, ◌≤◌, ◌+◌, true, Some, length, take};
+ghost use Rattle.std.specs.Ordering.{nat_cmp, ordering_then};
 ghost use Rattle.std.specs.Cmp.Lexicographic.{slice_cmp};
 ghost use Rattle.cga_word.specs.declared.mode.Mode.{Mode};
 ghost use Rattle.cga_order.specs.Chain.{IsWhole, rank_at};
@@ -21,7 +21,7 @@ struct Parting {
 }
 
 /// The order of the stamps of two shapes. Their heads, which are their greatest ranks, decide it unless
-/// they are one rank; only then both chains are walked, which takes time linear in the two paths. It
+/// they are one rank; only then both chains are looked at as a whole, which takes time linear in the two paths. It
 /// takes no memory.
 pub fn cmp_stamp(mode: Mode, a: &Chain, b: &Chain) -> Ordering
     requires left { IsWhole (chain_of a.now) }
@@ -29,9 +29,28 @@ pub fn cmp_stamp(mode: Mode, a: &Chain, b: &Chain) -> Ordering
     ensures { result ≡ stamp_cmp mode (chain_of a.now) (chain_of b.now) }
 {
     match cmp_heads(mode, a, a.head, b, b.head) {
-        Ordering::Equal => cmp_by_walk(mode, a, b),
+        Ordering::Equal => cmp_whole(mode, a, b),
         decided => decided,
     }
+}
+
+/// Whether two chains are written alike. Then they have one stamp, which no rank needs to be compared for.
+fn is_alike(a: &Chain, b: &Chain) -> bool
+    ensures { result ≡ true → chain_of a.now ≡ chain_of b.now }
+{
+    a.lot == b.lot && a.path == b.path && a.priorities == b.priorities
+}
+
+/// Two chains of one head are mostly those of one shape, and then no ranks are compared.
+fn cmp_whole(mode: Mode, a: &Chain, b: &Chain) -> Ordering
+    requires left { IsWhole (chain_of a.now) }
+    requires right { IsWhole (chain_of b.now) }
+    ensures { result ≡ stamp_cmp mode (chain_of a.now) (chain_of b.now) }
+{
+    if is_alike(a, b) {
+        return Ordering::Equal;
+    }
+    cmp_by_walk(mode, a, b)
 }
 
 /// Depths count in the mode Breadth alone.
@@ -54,7 +73,19 @@ fn cmp_heads(mode: Mode, a: &Chain, i: usize, b: &Chain, j: usize) -> Ordering
 {
     let priorities = a.priorities[i].cmp(&b.priorities[j]);
     match priorities.then(cmp_depths(mode, i, j)) {
-        Ordering::Equal => a.lot.cmp(&b.lot).then(a.path[..i].cmp(&b.path[..j])),
+        Ordering::Equal => cmp_places(a, i, b, j),
+        decided => decided,
+    }
+}
+
+/// The places at two depths: paths are looked at only within one lot.
+fn cmp_places(a: &Chain, i: usize, b: &Chain, j: usize) -> Ordering
+    requires left { i ≤ length a.now.path.now }
+    requires right { j ≤ length b.now.path.now }
+    ensures { result ≡ ordering_then (slice_cmp nat_cmp a.now.lot b.now.lot) (slice_cmp nat_cmp (take i a.now.path.now) (take j b.now.path.now)) }
+{
+    match a.lot.cmp(&b.lot) {
+        Ordering::Equal => a.path[..i].cmp(&b.path[..j]),
         decided => decided,
     }
 }

@@ -94,7 +94,7 @@ impl PartialEq for Name {
     ghost laws = { Prim.search (comparing, rules) };
 
     fn eq(&self, other: &Name) -> bool {
-        self.bytes() == other.bytes()
+        self.size == other.size && self.bytes == other.bytes
     }
 }
 
