@@ -1,18 +1,17 @@
 -- What was read of the rules of a grammar.
-use Rattle.std.specs.Prelude.{◌≡◌, ℕ, List, Option, Some, IfSome}
-use Rattle.std.specs.BTreeMap.{BTreeMap, get}
-use Rattle.std.specs.Ordering.{nat_cmp}
-use Rattle.std.specs.Cmp.Lexicographic.{slice_cmp}
+use Rattle.std.specs.Prelude.{◌≡◌, ℕ, List, Option, Some, IfSome, nat_eq}
+use Rattle.indexmap.specs.IndexMap.{IndexMap, get}
+use lib.Pointwise.{pointwise}
 use Rattle.cga_rule.specs.declared.grammar.Grammar.{Grammar}
 use Rattle.cga_check.specs.Said.{said}
 use Rattle.cga_check.specs.declared.said.Said.{Said}
 
 -- what stands in the table is what the grammar's rules say
-abbrev pub IsRead : Grammar → BTreeMap (List ℕ) Said → Type 0
+abbrev pub IsRead : {S : Type 0} → Grammar → IndexMap (List ℕ) Said S → Type 0
 IsRead grammar read =
-    (name : List ℕ) (found : Said) → get (slice_cmp nat_cmp) read name ≡ Some found → found ≡ said grammar name
+    (name : List ℕ) (found : Said) → get (pointwise nat_eq) read name ≡ Some found → found ≡ said grammar name
 
 -- so is what is kept of the symbol that was asked for last
-pub record AreRead (grammar : Grammar) (read : BTreeMap (List ℕ) Said) (last : Option (List ℕ × Said)) : Type 0 where
+pub record AreRead {S : Type 0} (grammar : Grammar) (read : IndexMap (List ℕ) Said S) (last : Option (List ℕ × Said)) : Type 0 where
   pub table : IsRead grammar read
   pub latest : IfSome last (λ l. l.1 ≡ said grammar l.0)

@@ -6,15 +6,15 @@ use crate::said::{Said, said_of};
 use cga_fraction::NoMemory;
 use cga_rule::Grammar;
 use cga_word::Name;
+use indexmap::IndexMap;
 use std::alloc::Global;
-use std::collections::BTreeMap;
 use std::marker::Model;
 
 /// A grammar, with what its rules say of the symbols that were asked for so far.
 #[derive(Drop)]
 pub struct Symbols<'a> {
     grammar: &'a Grammar,
-    read: BTreeMap<Name, Said>,
+    read: IndexMap<Name, Said>,
     latest: Option<(Name, Said)>,
 }
 
@@ -40,7 +40,7 @@ impl<'a> Symbols<'a> {
     {
         Symbols {
             grammar,
-            read: BTreeMap::new(alloc),
+            read: IndexMap::new(alloc),
             latest: None,
         }
     }

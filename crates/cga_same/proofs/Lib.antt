@@ -4,3 +4,4 @@ mod Values
 mod Groups
 mod Told
 mod Noted
+mod Rules

@@ -1,40 +1,28 @@
 -- The facts of symbols, once they are known, and which symbols changed.
-use Rattle.std.proofs.Common.{◌≡◌, inl, inr, ℕ, suc, List, [], ◌∷◌, ◌++◌, Bool, true, false, ◌||◌, cond, refl, sym, ap, ◌∙◌, subst, Option, Some, None, slice_get, ◌+◌, ◌<◌, ◌≤◌, length, arith}
+use Rattle.std.proofs.Common.{◌≡◌, inl, inr, ℕ, nat_eq, suc, List, [], ◌∷◌, ◌++◌, Bool, true, false, ◌||◌, refl, sym, ap, ◌∙◌, subst, Option, Some, None, slice_get, ◌+◌, ◌<◌, ◌≤◌, length, arith}
 use Rattle.std.proofs.lemmas.Option.{slice_get_within}
 use Rattle.std.specs.Prelude.{find, if◌then◌else◌}
 use Rattle.std.specs.List.{list_any}
-use lib.Pointwise.{bytes_decides}
-use Rattle.std.specs.Ordering.{nat_cmp, is_eq}
-use Rattle.std.specs.Cmp.Lexicographic.{slice_cmp}
-use Rattle.std.specs.FinMap.{nat_cmp-IsAntisymmetric, slice_cmp-IsAntisymmetric}
-use Rattle.std.specs.BTreeMap.{BTreeMap, get, Updates}
-use Rattle.cga_fraction.proofs.Door.{Equal_from_is_eq as equal_here, None-not-Some as none_some, lt_or_eq_from_lt_suc as at_or_below, same_Some as some_same}
+use lib.Pointwise.{pointwise, bytes_decides}
+use Rattle.indexmap.specs.IndexMap.{IndexMap, Updates}
+use Rattle.cga_fraction.proofs.Door.{None-not-Some as none_some, lt_or_eq_from_lt_suc as at_or_below, same_Some as some_same}
 use Rattle.cga_order.specs.World.{Among}
 use Rattle.cga_order.proofs.Door.{Among-left as among_left, Among-right as among_right}
 use Rattle.cga_rule.specs.declared.grammar.Entry.{Entry}
 use Rattle.cga_rule.specs.declared.grammar.Grammar.{Grammar}
 use Rattle.cga_check.specs.Uses.{same_name}
 use Rattle.cga_check.specs.Groups.{first_entry, group, group_names, group_with, is_of}
+use Rattle.cga_check.proofs.Door.{still_right}
 use Rattle.cga_expr.specs.Names.{attribute_of}
 use Rattle.cga_same.specs.Agreement.{IsSameSetting}
 use Rattle.cga_same.specs.Changed.{AreFacts, AreKnown, IsNoted, KeepsNoted}
 use Rattle.cga_same.specs.declared.changed.Facts.{Facts}
 
 -- what was known is right, and so is the rest
-pub still_known : (old new : Grammar) (before after : BTreeMap (List ℕ) Facts) (symbol : List ℕ) (facts : Facts)
-    → AreFacts old new symbol facts → AreKnown old new before
-    → Updates (slice_cmp nat_cmp) before after symbol (Some facts) → AreKnown old new after
-still_known old new before after symbol facts are known updates = λ name found e. at name found e (is_eq (slice_cmp nat_cmp symbol name)) refl (updates.0 name)
-  where
-    at : (name : List ℕ) (found : Facts) → get (slice_cmp nat_cmp) after name ≡ Some found → (b : Bool)
-        → is_eq (slice_cmp nat_cmp symbol name) ≡ b
-        → get (slice_cmp nat_cmp) after name ≡ cond b (Some facts) (get (slice_cmp nat_cmp) before name)
-        → AreFacts old new name found
-    at name found e true here q =
-        let same : symbol ≡ name = slice_cmp-IsAntisymmetric nat_cmp-IsAntisymmetric symbol name (equal_here _ here) in
-        let is : facts ≡ found = some_same facts found (sym q ∙ e) in
-        subst (λ (x : Facts). AreFacts old new name x) is (subst (λ (s : List ℕ). AreFacts old new s facts) same are)
-    at name found e false here q = known name found (sym q ∙ e)
+pub still_known : {S : Type 0} (old new : Grammar) (before after : IndexMap (List ℕ) Facts S) (symbol : List ℕ)
+    (facts : Facts) → AreFacts old new symbol facts → AreKnown old new before
+    → Updates (pointwise nat_eq) before after symbol (Some facts) → AreKnown old new after
+still_known old new before after symbol facts are known updates = still_right (AreFacts old new) before after symbol facts are known updates
 
 -- ---- which symbols changed
 

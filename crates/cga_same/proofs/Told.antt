@@ -1,5 +1,5 @@
--- Grammars that pass `==` are equal.
-use Rattle.std.proofs.Common.{◌≡◌, Bool, true, sym, ◌∙◌, eqb-true, nat_eq}
+-- Lists of rules and of attributes that pass `==` are equal.
+use Rattle.std.proofs.Common.{◌≡◌, Bool, true, List, sym, ◌∙◌, eqb-true, nat_eq}
 use Rattle.std.specs.Cmp.{first_so, second_so}
 use lib.Pointwise.{pointwise, bytes_decides}
 use Rattle.cga_rule.specs.declared.grammar.Attribute.{Attribute}
@@ -7,7 +7,6 @@ use Rattle.cga_rule.specs.declared.grammar.Entry.{Entry}
 use Rattle.cga_rule.specs.declared.grammar.Grammar.{Grammar}
 use Rattle.cga_rule.specs.contracts.grammar.AttributePartialEq.TheImpl as attribute
 use Rattle.cga_rule.specs.contracts.grammar.EntryPartialEq.TheImpl as entry
-use Rattle.cga_rule.specs.contracts.grammar.GrammarPartialEq.TheImpl as grammar
 use Rattle.cga_rule.proofs.Door.{Sound, fraction_sound, list_sound, rule_equal}
 
 attribute_sound : (a : Attribute) → Sound (attribute.ghosts).eq a
@@ -22,11 +21,16 @@ entry_sound a b h =
     let rule = (rule_equal a.rule b.rule).0 (second_so (nat_eq a.priority b.priority) _ h) in
     λ i. record { priority = priority i; rule = rule i }
 
-grammar_sound : (a : Grammar) → Sound (grammar.ghosts).eq a
-grammar_sound a b h =
-    let attributes = list_sound (attribute.ghosts).eq attribute_sound a.attributes b.attributes (first_so (pointwise (attribute.ghosts).eq a.attributes b.attributes) _ h) in
-    let rules = list_sound (entry.ghosts).eq entry_sound a.rules b.rules (second_so (pointwise (attribute.ghosts).eq a.attributes b.attributes) _ h) in
-    λ i. record { attributes = attributes i; rules = rules i }
+pub attributes_told : (a b : List Attribute) (r : Bool) → r ≡ pointwise (attribute.ghosts).eq a b → r ≡ true → a ≡ b
+attributes_told a b r is told = list_sound (attribute.ghosts).eq attribute_sound a b (sym is ∙ told)
 
-pub grammar_told : (a b : Grammar) (r : Bool) → r ≡ (grammar.ghosts).eq a b → r ≡ true → a ≡ b
-grammar_told a b r is told = grammar_sound a b (sym is ∙ told)
+pub rules_told : (a b : List Entry) (r : Bool) → r ≡ pointwise (entry.ghosts).eq a b → r ≡ true → a ≡ b
+rules_told a b r is told = list_sound (entry.ghosts).eq entry_sound a b (sym is ∙ told)
+
+-- grammars of one list of rules are one where their attributes pass `==`
+pub grammar_told : (a b : Grammar) (same_rules r : Bool) → (same_rules ≡ true → a.rules ≡ b.rules)
+    → r ≡ pointwise (attribute.ghosts).eq a.attributes b.attributes → same_rules ≡ true → r ≡ true → a ≡ b
+grammar_told a b same_rules r rules is said told =
+    let attributes = attributes_told a.attributes b.attributes r is told in
+    let same = rules said in
+    λ i. record { attributes = attributes i; rules = same i }

@@ -1,8 +1,7 @@
 -- Whether the old and the new grammar of an edit say the same of a symbol.
-use Rattle.std.specs.Prelude.{◌≡◌, ◌↔◌, ◌⊎◌, ℕ, List, Some, IsTrue, unwrap_or}
-use Rattle.std.specs.BTreeMap.{BTreeMap, get}
-use Rattle.std.specs.Ordering.{nat_cmp}
-use Rattle.std.specs.Cmp.Lexicographic.{slice_cmp}
+use Rattle.std.specs.Prelude.{◌≡◌, ◌↔◌, ◌⊎◌, ℕ, List, Some, IsTrue, Bool, true, nat_eq, unwrap_or}
+use Rattle.indexmap.specs.IndexMap.{IndexMap, get}
+use lib.Pointwise.{pointwise}
 use Rattle.cga_order.specs.World.{Among}
 use Rattle.cga_rule.specs.declared.grammar.Grammar.{Grammar}
 use Rattle.cga_check.specs.Groups as groups
@@ -19,10 +18,15 @@ pub record AreFacts (old new : Grammar) (symbol : List ℕ) (facts : Facts) : Ty
   pub priorities : IsTrue facts.same_priority ↔ (priority_at old symbol ≡ priority_at new symbol)
 
 -- what stands in the map are the facts of its symbol
-abbrev pub AreKnown : Grammar → Grammar → BTreeMap (List ℕ) Facts → Type 0
+abbrev pub AreKnown : {S : Type 0} → Grammar → Grammar → IndexMap (List ℕ) Facts S → Type 0
 AreKnown old new known =
-    (symbol : List ℕ) (facts : Facts) → get (slice_cmp nat_cmp) known symbol ≡ Some facts
+    (symbol : List ℕ) (facts : Facts) → get (pointwise nat_eq) known symbol ≡ Some facts
     → AreFacts old new symbol facts
+
+-- the grammars have one list of rules where that is said, and what stands in the map is right
+pub record AreCompared {S : Type 0} (old new : Grammar) (same_rules : Bool) (known : IndexMap (List ℕ) Facts S) : Type 0 where
+  pub rules : same_rules ≡ true → old.rules ≡ new.rules
+  pub facts : AreKnown old new known
 
 -- the symbol is listed, or its setting is the old one
 abbrev pub IsNoted : Grammar → Grammar → List (List ℕ) → List ℕ → Type 0

@@ -1,16 +1,16 @@
 //! For which symbols the two grammars of an edit differ.
-ghost use Rattle.std.specs.Prelude.{◌≡◌};
+ghost use Rattle.std.specs.Prelude.{◌≡◌, true};
 ghost use Rattle.std.specs.List.{list_any};
 ghost use Rattle.cga_check.specs.Uses.{same_name};
 ghost use Rattle.cga_same.specs.Changed.{AreFacts};
 
-use crate::setting::same_setting;
+use crate::setting::{same_setting, same_values};
 use cga_check::symbol_priority;
 use cga_fraction::NoMemory;
 use cga_rule::{Entry, Grammar};
 use cga_word::Name;
+use indexmap::IndexMap;
 use std::alloc::Global;
-use std::collections::BTreeMap;
 use std::marker::Model;
 
 /// Whether the two grammars of an edit say the same of the shapes of a symbol.
@@ -26,7 +26,9 @@ pub struct Facts {
 pub struct Grammars<'a> {
     before: &'a Grammar,
     after: &'a Grammar,
-    known: BTreeMap<Name, Facts>,
+    /// Whether both have one list of rules, as where an attribute or a lot is edited: then no group is compared.
+    same_rules: bool,
+    known: IndexMap<Name, Facts>,
 }
 
 impl<'a> Model for Grammars<'a> {
@@ -40,11 +42,11 @@ impl<'a> Model for Grammars<'a> {
 
     ghost coded = { code_by (Grammar × Grammar) (coded× of_grammar.the_row.coded of_grammar.the_row.coded) (λ g. (g.before, g.after)) (λ p. record { before = p.0; after = p.1 }) (λ _. refl) };
 
-    ghost use Rattle.cga_same.specs.Changed.{AreKnown};
+    ghost use Rattle.cga_same.specs.Changed.{AreCompared};
 
     ghost view = { λ g. record { before = g.before.now; after = g.after.now } };
 
-    ghost invariant = { λ g. AreKnown g.before.now g.after.now g.known };
+    ghost invariant = { λ g. AreCompared g.before.now g.after.now g.same_rules g.known };
 }
 
 impl<'a> Grammars<'a> {
@@ -53,18 +55,20 @@ impl<'a> Grammars<'a> {
     ghost use Rattle.cga_same.specs.Both.{both};
     ghost use Rattle.cga_same.specs.Changed.{AreFacts, IsNoted, KeepsNoted};
 
-    /// Takes no memory.
+    /// Takes no memory; the time goes by the rules, which are compared.
     pub fn new(alloc: Global, before: &'a Grammar, after: &'a Grammar) -> Grammars<'a>
         ensures { result ≡ both before.now after.now }
     {
         Grammars {
             before,
             after,
-            known: BTreeMap::new(alloc),
+            same_rules: before.rules == after.rules,
+            known: IndexMap::new(alloc),
         }
     }
 
-    /// Takes memory where the symbol comes for the first time; the time goes then by the rules of both grammars.
+    /// Takes memory where the symbol comes for the first time; the time goes then by the rules of both grammars, or where
+    /// they are the same by the attributes.
     pub fn of(&mut self, symbol: Name) -> Result<Facts, NoMemory>
         ensures facts { IfOk result (λ facts. AreFacts self.old.before self.old.after symbol facts) }
         ensures grammars { self.new ≡ self.old }
@@ -72,19 +76,19 @@ impl<'a> Grammars<'a> {
         if let Some(facts) = self.known.get(&symbol) {
             return Ok(*facts);
         }
-        let facts = facts_of(self.before, self.after, symbol);
+        let facts = facts_of(self.before, self.after, self.same_rules, symbol);
         self.known.insert(symbol, facts)?;
         Ok(facts)
     }
 
     /// The symbols whose setting changed, each once: none where the grammar is the same. Takes memory; the time goes by
-    /// the square of the rules.
+    /// the square of the rules where they differ.
     pub fn changed(&mut self, alloc: Global) -> Result<Vec<Name>, NoMemory>
         ensures listed { IfOk result (λ list. (symbol : List ℕ) → IsNoted self.old.before self.old.after list.items symbol) }
         ensures grammars { self.new ≡ self.old }
     {
         let (before, after) = (self.before, self.after);
-        if *before == *after {
+        if self.same_rules && before.attributes == after.attributes {
             return Ok(Vec::new(alloc));
         }
         let mut list = Vec::new(alloc);
@@ -129,9 +133,16 @@ fn has_name(names: &[Name], name: Name) -> bool
     names.iter().any(|other| name == *other)
 }
 
-fn facts_of(old: &Grammar, new: &Grammar, symbol: Name) -> Facts
+fn facts_of(old: &Grammar, new: &Grammar, same_rules: bool, symbol: Name) -> Facts
+    requires rules { same_rules ≡ true → old.now.rules ≡ new.now.rules }
     ensures { AreFacts old.now new.now symbol result }
 {
+    if same_rules {
+        return Facts {
+            same_setting: same_values(old, new, symbol),
+            same_priority: true,
+        };
+    }
     let before = symbol_priority(old, symbol).unwrap_or(0);
     let after = symbol_priority(new, symbol).unwrap_or(0);
     Facts {

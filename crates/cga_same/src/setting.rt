@@ -18,9 +18,9 @@ pub fn same_setting(old: &Grammar, new: &Grammar, symbol: Name) -> bool
     same_group(old, new, symbol) && same_values(old, new, symbol)
 }
 
-// Whether the attributes that the new group mentions have the same values in both grammars, or none in both. An edit of
-// a value leaves the names in their order, and one walk of both lists answers.
-fn same_values(old: &Grammar, new: &Grammar, symbol: Name) -> bool
+/// Whether the attributes that the new group mentions have the same values in both grammars, or none in both. An edit of
+/// a value leaves the names in their order, and one walk of both lists answers.
+pub(crate) fn same_values(old: &Grammar, new: &Grammar, symbol: Name) -> bool
     ensures { IsTrue result ↔ SameValues (group new.now symbol) old.now new.now }
 {
     same_in_order(

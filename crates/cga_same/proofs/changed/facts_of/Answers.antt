@@ -1,7 +1,15 @@
-use Rattle.std.proofs.Common.{◌∙◌, sym, ap, eq-eqb}
+use Rattle.std.proofs.Common.{◌∙◌, sym, ap, eq-eqb, rules}
 use Rattle.std.specs.Prelude.{unwrap_or}
 use borrow.Author.Tests.{eqb-true}
+use Rattle.cga_same.proofs.Rules.{same_priority, with_same_rules}
 use Rattle.cga_same.proofs.changed.facts_of.Goals as goal
+
+pub returns-then-same_rules : goal.returns-then-same_rules
+returns-then-same_rules c =
+    let same = c.requires.rules c.if-same_rules.true in record {
+      setting = with_same_rules c.args.old.now c.args.new.now c.args.symbol same c.same_values.result c.same_values.ensures;
+      priorities = (λ h. ap (λ o. unwrap_or o 0) (same_priority c.args.old.now c.args.new.now c.args.symbol same), λ h. search rules);
+    }
 
 pub returns : goal.returns
 returns c =

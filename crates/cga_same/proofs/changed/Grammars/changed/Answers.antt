@@ -9,7 +9,7 @@ use Rattle.cga_same.proofs.changed.Grammars.changed.Goals as goal
 
 pub returns-then-eq-clause-listed : goal.returns-then-eq-clause-listed
 returns-then-eq-clause-listed c = λ symbol.
-    let same = grammar_told c.self.inside.before.now c.self.inside.after.now c.eq.result c.eq.ensures c.if-eq.true in
+    let same = grammar_told c.self.inside.before.now c.self.inside.after.now c.self.inside.same_rules c.eq.result c.self.invariant.rules c.eq.ensures c.if-self.true c.if-eq.true in
     inr (subst (λ (g : BothGrammars). IsSameSetting g.before g.after symbol) c.self.view_is
     (same_itself c.self.inside.before.now c.self.inside.after.now same symbol))
 

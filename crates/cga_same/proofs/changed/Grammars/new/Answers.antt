@@ -1,11 +1,14 @@
-use Rattle.std.proofs.Common.{◌≡◌, ap, sym, ◌∙◌, None, Some}
-use Rattle.std.specs.BTreeMap.{get, is_at}
+use Rattle.std.proofs.Common.{◌≡◌, ap, sym, ◌∙◌, nat_eq, None, Some}
+use lib.Pointwise.{pointwise}
+use Rattle.indexmap.specs.IndexMap.{get}
 use Rattle.std.specs.Map.{lookup}
-use Rattle.std.specs.Ordering.{nat_cmp}
-use Rattle.std.specs.Cmp.Lexicographic.{slice_cmp}
+use Rattle.cga_same.proofs.Told.{rules_told}
 use Rattle.cga_same.proofs.changed.Grammars.new.Goals as goal
 
 pub invariant_of-result : goal.invariant_of-result
-invariant_of-result c = λ symbol facts found.
-    let none : get (slice_cmp nat_cmp) c.new.result symbol ≡ None = ap (lookup (is_at (slice_cmp nat_cmp symbol))) c.new.ensures.empty in
-    absurd (let bad : None ≡ Some facts = sym none ∙ found in cc)
+invariant_of-result c = record {
+  rules = rules_told c.args.before.now.rules c.args.after.now.rules c.eq.result c.eq.ensures;
+  facts = λ symbol facts found.
+      let none : get (pointwise nat_eq) c.new.result symbol ≡ None = ap (lookup (pointwise nat_eq symbol)) c.new.ensures.empty in
+      absurd (let bad : None ≡ Some facts = sym none ∙ found in cc);
+}
