@@ -1,12 +1,13 @@
 -- What an entry of a level holds.
-use Rattle.std.proofs.Common.{◌≡◌, ◌≢◌, inl, inr, ℕ, zero, suc, ◌+◌, ◌/◌, ◌%◌, ◌<◌, List, [], ◌∷◌, ◌++◌, length, set, true, false, refl, ap, subst, sym, ◌∙◌, arith}
+use Rattle.std.proofs.Common.{◌≡◌, ◌≢◌, inl, inr, ℕ, zero, suc, ◌/◌, ◌%◌, ◌<◌, ◌≤◌, List, [], ◌∷◌, ◌++◌, length, set, true, false, refl, ap, subst, sym, ◌∙◌, arith}
 use Rattle.std.specs.Prelude.{Option, Some, None, slice_get}
+use Rattle.std.proofs.Math.ListN.{length-set}
 use Rattle.std.proofs.lemmas.Option.{slice_get_within}
 use Rattle.cga_fraction.proofs.Door.{eq_or_ne as nat_cases}
 use Rattle.cga_kept_hulls.specs.declared.hulls.Hulls.{Hulls}
-use Rattle.cga_kept_hulls.specs.Blocks.{Level, IsIn, StaysIn, block_holds, known_hulls}
+use Rattle.cga_kept_hulls.specs.Blocks.{Level, HoldsKnown, IsEmptied, IsIn, StaysIn, block_holds, known_hulls}
 use Rattle.cga_kept_hulls.specs.Hull.{with_hulls, holds_hulls}
-use Rattle.cga_kept_hulls.proofs.Alike.{holds_from, probed_apart, probed_chain}
+use Rattle.cga_kept_hulls.proofs.Alike.{holds_from, probed_apart, probed_both, probed_chain}
 
 module _ {X : Type 0} where
   get_set : (xs : List X) (i : ℕ) (y : X) → i < length xs → slice_get (set xs i y) i ≡ Some y
@@ -14,12 +15,17 @@ module _ {X : Type 0} where
   get_set (x ∷ xs) zero y h = refl
   get_set (x ∷ xs) (suc i) y h = get_set xs i y (omega (arith, h))
 
-  get_other : (xs : List X) (i j : ℕ) (y : X) → j ≢ i → slice_get (set xs i y) j ≡ slice_get xs j
+  pub get_other : (xs : List X) (i j : ℕ) (y : X) → j ≢ i → slice_get (set xs i y) j ≡ slice_get xs j
   get_other [] i j y n = refl
   get_other (x ∷ xs) zero zero y n = absurd (n refl)
   get_other (x ∷ xs) zero (suc j) y n = refl
   get_other (x ∷ xs) (suc i) zero y n = refl
   get_other (x ∷ xs) (suc i) (suc j) y n = get_other xs i j y (λ e. n (ap (λ k. suc k) e))
+
+  get_past : (xs : List X) (i : ℕ) → length xs ≤ i → slice_get xs i ≡ None
+  get_past [] i h = refl
+  get_past (x ∷ xs) zero h = absurd (omega (arith, h))
+  get_past (x ∷ xs) (suc i) h = get_past xs i (omega (arith, h))
 
   get_left : (xs ys : List X) (i : ℕ) → i < length xs → slice_get (xs ++ ys) i ≡ slice_get xs i
   get_left [] ys i h = absurd (omega (arith, h))
@@ -51,6 +57,34 @@ held_still xs i o h at place x e = elim (nat_cases (place / 16) i) [
   | inr n ↦ ap (λ b. block_holds b x) (get_other xs i (place / 16) (Some (with_hulls h o)) n) ∙ e
 ]
 
+-- what holds what the entry knew and the hulls holds both together
+within_both : (outer : Option (Option Hulls)) (o : Option Hulls) (h : Hulls)
+    → ((g : Hulls) → o ≡ Some g → block_holds outer g ≡ true) → block_holds outer h ≡ true
+    → block_holds outer (with_hulls h o) ≡ true
+within_both None o h f e = refl
+within_both (Some None) o h f e = let z : false ≡ true = e in absurd (cc)
+within_both (Some (Some k)) None h f e = e
+within_both (Some (Some k)) (Some g) h f e = holds_from k (with_hulls h (Some g)) (λ p t. probed_both p h g (probed_chain p k h e t) (probed_chain p k g (f g refl) t))
+
+-- an entry that took hulls in is the least that holds them and what it knew
+pub least_taken : (xs : Level) (i : ℕ) (o : Option Hulls) (h : Hulls) (outer : Option (Option Hulls))
+    → slice_get xs i ≡ Some o → HoldsKnown outer (slice_get xs i) → block_holds outer h ≡ true
+    → HoldsKnown outer (slice_get (set xs i (Some (with_hulls h o))) i)
+least_taken xs i o h outer at f e x is =
+    let z : Some (with_hulls h o) ≡ Some x = sym (ap known_hulls (get_set xs i (Some (with_hulls h o)) (slice_get_within xs i o at))) ∙ is in
+    let q : with_hulls h o ≡ x = (cc) in
+    subst (λ (y : Hulls). block_holds outer y ≡ true) q (within_both outer o h (λ g u. f g (ap known_hulls at ∙ u)) e)
+
+pub emptied_there : (xs : Level) (i : ℕ) → i < length xs → IsEmptied xs (set xs i None) i
+emptied_there xs i lt = record {
+  empty = ap known_hulls (get_set xs i None lt);
+  others = λ j n. get_other xs i j None n;
+  count = length-set xs i None;
+}
+
+pub emptied_past : (xs : Level) (i : ℕ) → length xs ≤ i → IsEmptied xs xs i
+emptied_past xs i le = record { empty = ap known_hulls (get_past xs i le); others = λ j n. refl; count = refl }
+
 -- an entry more, behind all places
 pub room_made : (xs : Level) (o : Option Hulls) (roots place : ℕ) (h : Hulls) → roots % 16 ≡ 0 → roots / 16 ≡ length xs
     → place < roots → IsIn xs place h → IsIn (xs ++ o ∷ []) place h
@@ -81,3 +115,8 @@ held_next xs ys zs i block h same q lt e f =
     let there : block < length ys = subst (λ (l : Level). block < length l) (sym same) (subst (λ (j : ℕ). j < length xs) q lt) in
     let holds : block_holds (slice_get ys block) h ≡ true = ap (λ (l : Level). block_holds (slice_get l block) h) same ∙ (ap (λ (j : ℕ). block_holds (slice_get xs j) h) (sym q) ∙ e) in
     subst (λ (j : ℕ). IsIn zs j h) (sym q) (f there holds)
+
+-- what an entry knows, the entry of its number knows in the same level
+pub known_next : (xs ys : Level) (i block : ℕ) (h : Hulls) → ys ≡ xs → i ≡ block → known_hulls (slice_get xs i) ≡ Some h
+    → known_hulls (slice_get ys block) ≡ Some h
+known_next xs ys i block h same q is = ap (λ (l : Level). known_hulls (slice_get l block)) same ∙ ap (λ (j : ℕ). known_hulls (slice_get xs j)) (sym q) ∙ is

@@ -1,5 +1,5 @@
 -- Hulls over runs of roots: a block is sixteen places of their list in a row, and a group sixteen blocks.
-use Rattle.std.specs.Prelude.{◌≡◌, ℕ, ◌/◌, List, Option, Some, None, Bool, true, false, get_or, slice_get}
+use Rattle.std.specs.Prelude.{◌≡◌, ◌≢◌, ℕ, ◌*◌, ◌/◌, List, [], ◌∷◌, ◌++◌, Option, Some, None, Bool, true, false, get_or, slice_get, length}
 use Rattle.cga_frame.specs.Box.{Box, touches}
 use Rattle.cga_kept_hulls.specs.declared.blocks.Blocks.{Blocks}
 use Rattle.cga_kept_hulls.specs.declared.hulls.Hulls.{Hulls}
@@ -60,3 +60,28 @@ StaysHeld old new = (place : ℕ) (h : Hulls) → IsHeld old place h → IsHeld 
 -- whether the block took hulls in since the blocks were last at rest
 abbrev pub is_loose : Blocks → ℕ → Bool
 is_loose blocks block = get_or blocks.loose.items block false
+
+-- an entry holds what another knows
+abbrev pub HoldsKnown : Option (Option Hulls) → Option (Option Hulls) → Type 0
+HoldsKnown outer inner = (h : Hulls) → known_hulls inner ≡ Some h → block_holds outer h ≡ true
+
+-- what holds all that the first two entries know holds what the third knows
+abbrev pub IsLeast : Option (Option Hulls) → Option (Option Hulls) → Option (Option Hulls) → Type 0
+IsLeast old more new = (outer : Option (Option Hulls)) → HoldsKnown outer old → HoldsKnown outer more → HoldsKnown outer new
+
+-- an entry knows no hulls, and the others are as they were
+pub record IsEmptied (old new : Level) (entry : ℕ) : Type 0 where
+  pub empty : known_hulls (slice_get new entry) ≡ None
+  pub others : (other : ℕ) → other ≢ entry → slice_get new other ≡ slice_get old other
+  pub count : length new ≡ length old
+
+-- the entry of a group is the least that holds what its blocks know
+pub record IsGathered (blocks : Level) (group : ℕ) (made : Option (Option Hulls)) : Type 0 where
+  pub holds : (block : ℕ) → block / 16 ≡ group → HoldsKnown made (slice_get blocks block)
+  pub least : (outer : Option (Option Hulls))
+      → ((block : ℕ) → block / 16 ≡ group → HoldsKnown outer (slice_get blocks block)) → HoldsKnown outer made
+
+-- one entry more, with these hulls, where so many places fill those that are there
+pub record HasRoom (old new : Level) (places : ℕ) (hulls : Hulls) : Type 0 where
+  pub full : places ≡ 16 * length old → new ≡ old ++ (Some hulls ∷ [])
+  pub enough : places ≢ 16 * length old → new ≡ old

@@ -1,6 +1,6 @@
-ghost use Rattle.std.specs.Prelude.{◌≡◌, ◌≢◌, ◌<◌, ◌+◌, ◌*◌, ◌/◌, ◌^◌, ℕ, length, slice_get, true, false};
+ghost use Rattle.std.specs.Prelude.{◌≡◌, ◌≢◌, ◌<◌, ◌≤◌, ◌+◌, ◌*◌, ◌/◌, ◌^◌, ℕ, length, slice_get, true, false};
 ghost use Rattle.cga_kept_hulls.specs.declared.hulls.Hulls.{Hulls};
-ghost use Rattle.cga_kept_hulls.specs.Blocks.{IsHeld, IsIn, StaysHeld, StaysIn, block_holds, is_loose};
+ghost use Rattle.cga_kept_hulls.specs.Blocks.{HoldsKnown, IsEmptied, IsGathered, IsHeld, IsIn, IsLeast, StaysHeld, StaysIn, block_holds, is_loose};
 
 use crate::hulls::Hulls;
 use crate::level::Level;
@@ -56,7 +56,8 @@ impl Blocks {
 
     /// Whether a block is there for each of so many roots.
     pub fn reaches(&self, roots: usize) -> bool
-        ensures { result ≡ true → (place : ℕ) → place < roots → place / 16 < length self.now.blocks.hulls.items }
+        ensures there { result ≡ true → (place : ℕ) → place < roots → place / 16 < length self.now.blocks.hulls.items }
+        ensures lacking { result ≡ false → (place : ℕ) × (place < roots) × (length self.now.blocks.hulls.items ≤ place / 16) }
     {
         roots == 0 || self.blocks.has(roots - 1)
     }
@@ -73,7 +74,10 @@ impl Blocks {
 
     /// Empties a block, if it is there.
     pub fn empty(&mut self, block: usize)
-        ensures { (place : ℕ) (h : Hulls) → place / 16 ≢ block → IsHeld self.old place h → IsHeld self.new place h }
+        ensures others { (place : ℕ) (h : Hulls) → place / 16 ≢ block → IsHeld self.old place h → IsHeld self.new place h }
+        ensures emptied { IsEmptied self.old.blocks.hulls.items self.new.blocks.hulls.items block }
+        ensures groups { self.new.groups ≡ self.old.groups }
+        ensures loose { self.new.loose ≡ self.old.loose }
     {
         self.blocks.empty(block);
     }
@@ -83,6 +87,11 @@ impl Blocks {
         ensures blocks { self.new.blocks ≡ self.old.blocks }
         ensures kept { StaysIn self.old.groups.hulls.items self.new.groups.hulls.items }
         ensures here { (h : Hulls) → block < length self.old.blocks.hulls.items → block_holds (slice_get self.old.blocks.hulls.items block) h ≡ true → IsIn self.new.groups.hulls.items block h }
+        ensures known { HoldsKnown (slice_get self.new.groups.hulls.items (block / 16)) (slice_get self.old.blocks.hulls.items block) }
+        ensures least { IsLeast (slice_get self.old.groups.hulls.items (block / 16)) (slice_get self.old.blocks.hulls.items block) (slice_get self.new.groups.hulls.items (block / 16)) }
+        ensures others { (group : ℕ) → group ≢ block / 16 → slice_get self.new.groups.hulls.items group ≡ slice_get self.old.groups.hulls.items group }
+        ensures count { length self.new.groups.hulls.items ≡ length self.old.groups.hulls.items }
+        ensures loose { self.new.loose ≡ self.old.loose }
     {
         if let Some(hulls) = self.blocks.hulls(block) {
             self.groups.join(block, &hulls);
@@ -92,7 +101,12 @@ impl Blocks {
     /// Makes a group anew, of its blocks.
     pub fn gather(&mut self, group: usize)
         requires { 16 * group + 16 < 2 ^ 64 }
-        ensures { (place : ℕ) (h : Hulls) → place / 16 < length self.old.blocks.hulls.items → IsHeld self.old place h → IsHeld self.new place h }
+        ensures kept { (place : ℕ) (h : Hulls) → place / 16 < length self.old.blocks.hulls.items → IsHeld self.old place h → IsHeld self.new place h }
+        ensures gathered { IsGathered self.old.blocks.hulls.items group (slice_get self.new.groups.hulls.items group) }
+        ensures others { (other : ℕ) → other ≢ group → slice_get self.new.groups.hulls.items other ≡ slice_get self.old.groups.hulls.items other }
+        ensures count { length self.new.groups.hulls.items ≡ length self.old.groups.hulls.items }
+        ensures blocks { self.new.blocks ≡ self.old.blocks }
+        ensures loose { self.new.loose ≡ self.old.loose }
     {
         self.groups.empty(group);
         for block in 16 * group..16 * group + 16 {
@@ -103,6 +117,10 @@ impl Blocks {
     /// Forgets which blocks took hulls in.
     pub fn rest(&mut self)
         ensures kept { StaysHeld self.old self.new }
+        ensures rested { (block : ℕ) → is_loose self.new block ≡ false }
+        ensures blocks { self.new.blocks ≡ self.old.blocks }
+        ensures groups { self.new.groups ≡ self.old.groups }
+        ensures count { length self.new.loose.items ≡ length self.old.loose.items }
     {
         for block in 0..self.loose.len() {
             self.loose[block] = false;

@@ -1,6 +1,6 @@
-ghost use Rattle.std.specs.Prelude.{◌≡◌, ◌≢◌, ◌<◌, ◌/◌, ℕ, Some, length, slice_get, true};
+ghost use Rattle.std.specs.Prelude.{◌≡◌, ◌≢◌, ◌<◌, ◌/◌, ◌↔◌, IsTrue, OnErr, OnOk, ℕ, Some, length, slice_get, true};
 ghost use Rattle.cga_kept_hulls.specs.declared.hulls.Hulls.{Hulls};
-ghost use Rattle.cga_kept_hulls.specs.Blocks.{IsIn, StaysIn, block_asks, block_holds, block_touches, known_asks, known_hulls, known_touches};
+ghost use Rattle.cga_kept_hulls.specs.Blocks.{HasRoom, IsEmptied, IsIn, IsLeast, StaysIn, block_asks, block_holds, block_touches, known_asks, known_hulls, known_touches};
 
 use crate::hulls::Hulls;
 use cga_fraction::NoMemory;
@@ -23,7 +23,9 @@ impl Level {
 
     /// Makes an entry with these hulls for one more place, where so many fill those that are there. Takes memory.
     pub fn make_room(&mut self, places: usize, hulls: &Hulls) -> Result<(), NoMemory>
-        ensures { (place : ℕ) (h : Hulls) → place < places → IsIn self.old.hulls.items place h → IsIn self.new.hulls.items place h }
+        ensures kept { (place : ℕ) (h : Hulls) → place < places → IsIn self.old.hulls.items place h → IsIn self.new.hulls.items place h }
+        ensures room { OnOk result (HasRoom self.old.hulls.items self.new.hulls.items places hulls.now) }
+        ensures err { OnErr result (self.new.hulls.items ≡ self.old.hulls.items) }
     {
         if places % 16 == 0 && places / 16 == self.hulls.len() {
             self.hulls.reserve(1)?;
@@ -36,6 +38,9 @@ impl Level {
     pub fn join(&mut self, place: usize, hulls: &Hulls)
         ensures here { IsIn self.new.hulls.items place hulls.now }
         ensures kept { StaysIn self.old.hulls.items self.new.hulls.items }
+        ensures least { IsLeast (slice_get self.old.hulls.items (place / 16)) (Some (Some hulls.now)) (slice_get self.new.hulls.items (place / 16)) }
+        ensures others { (entry : ℕ) → entry ≢ place / 16 → slice_get self.new.hulls.items entry ≡ slice_get self.old.hulls.items entry }
+        ensures count { length self.new.hulls.items ≡ length self.old.hulls.items }
     {
         let entry = place / 16;
         if entry >= self.hulls.len() {
@@ -50,7 +55,7 @@ impl Level {
 
     /// Whether an entry is there for a place.
     pub fn has(&self, place: usize) -> bool
-        ensures { result ≡ true → place / 16 < length self.now.hulls.items }
+        ensures { IsTrue result ↔ (place / 16 < length self.now.hulls.items) }
     {
         place / 16 < self.hulls.len()
     }
@@ -66,8 +71,10 @@ impl Level {
     }
 
     /// Empties an entry, if it is there.
+    #[tactic(auto, using(crate::proofs::Held::emptied_there, crate::proofs::Held::emptied_past))]
     pub fn empty(&mut self, entry: usize)
-        ensures { (place : ℕ) (h : Hulls) → place / 16 ≢ entry → IsIn self.old.hulls.items place h → IsIn self.new.hulls.items place h }
+        ensures others { (place : ℕ) (h : Hulls) → place / 16 ≢ entry → IsIn self.old.hulls.items place h → IsIn self.new.hulls.items place h }
+        ensures emptied { IsEmptied self.old.hulls.items self.new.hulls.items entry }
     {
         if entry < self.hulls.len() {
             self.hulls[entry] = None;
