@@ -1,4 +1,4 @@
-ghost use Rattle.std.specs.Prelude.{◌≡◌, ◌≤◌, ◌<◌, ◌+◌, ◌*◌, ◌/◌, ◌^◌, ◌++◌, OnOk, IfOk, unsigned_abs};
+ghost use Rattle.std.specs.Prelude.{◌≡◌, ◌≤◌, ◌<◌, ◌+◌, ◌*◌, ◌/◌, ◌^◌, ◌∷◌, ◌++◌, OnOk, IfOk, unsigned_abs};
 ghost use Rattle.cga_fraction.specs.Arithmetic.{with_sign};
 ghost use Rattle.cga_fraction.specs.Texts.{minus_of, padded, places_from, pointed};
 
@@ -220,25 +220,36 @@ fn push_narrow(out: &mut Vec<u8>, number: u64, places: u8) -> Result<(), NoMemor
     if places == 0 {
         return Ok(());
     }
-    out.push(b'.')?;
-    push_pairs(out, number, places)?;
+    push_places(out, number, places)?;
     Ok(())
 }
 
-// Appends the last so many digits of a number, two at a time.
-fn push_pairs(out: &mut Vec<u8>, number: u64, places: u8) -> Result<(), NoMemory>
+// Appends a point and the last so many digits of a number, as one piece.
+fn push_places(out: &mut Vec<u8>, number: u64, places: u8) -> Result<(), NoMemory>
     requires { places ≤ 9 }
-    ensures { OnOk result (out.new.items ≡ out.old.items ++ padded places number) }
+    ensures { OnOk result (out.new.items ≡ out.old.items ++ (46 ∷ padded places number)) }
 {
-    let mut left = places;
-    while left > 1 {
-        left -= 2;
-        let pair = number / narrow_power_of_ten(left) % 100;
-        out.extend_from_slice(&[b'0' + (pair / 10) as u8, b'0' + (pair % 10) as u8])?;
-    }
-    if left == 0 {
-        return Ok(());
-    }
-    out.push(b'0' + (number % 10) as u8)?;
+    let mut digits = last_ten(number);
+    let point = 9 - places as usize;
+    digits[point] = b'.';
+    out.extend_from_slice(&digits[point..])?;
     Ok(())
+}
+
+fn last_ten(number: u64) -> [u8; 10]
+    ensures { result ≡ padded 10 number }
+{
+    let [a, b] = last_two(number / 100_000_000);
+    let [c, d] = last_two(number / 1_000_000);
+    let [e, f] = last_two(number / 10_000);
+    let [g, h] = last_two(number / 100);
+    let [i, j] = last_two(number);
+    [a, b, c, d, e, f, g, h, i, j]
+}
+
+fn last_two(number: u64) -> [u8; 2]
+    ensures { result ≡ padded 2 number }
+{
+    let pair = number % 100;
+    [b'0' + (pair / 10) as u8, b'0' + (pair % 10) as u8]
 }

@@ -6,4 +6,4 @@ pub returns-then-places-eq0 : goal.returns-then-places-eq0
 returns-then-places-eq0 c = written_whole _ _ _ c.args.number c.args.places _ (omega arith) c.narrow_power_of_ten.ensures.value (c.as_bytes.ensures.value ∙ c.format.ensures.text) c.in_ok-extend_from_slice.ensures.items
 
 pub returns : goal.returns
-returns c = written_parts _ _ _ _ _ c.args.number c.args.places _ (omega arith) c.narrow_power_of_ten.ensures.value (c.as_bytes.ensures.value ∙ c.format.ensures.text) c.in_ok-extend_from_slice.ensures.items c.in_ok-push.ensures.items c.in_ok-push_pairs.ensures
+returns c = written_parts _ _ _ _ c.args.number c.args.places _ (omega arith) c.narrow_power_of_ten.ensures.value (c.as_bytes.ensures.value ∙ c.format.ensures.text) c.in_ok-extend_from_slice.ensures.items c.in_ok-push_places.ensures

@@ -1,9 +1,9 @@
 use Rattle.std.proofs.Common.{◌∙◌, arith}
-use Rattle.cga_fraction.proofs.Texts.{written_whole, written_parts}
+use Rattle.cga_fraction.proofs.Texts.{written_behind, written_parts, written_whole}
 use Rattle.cga_fraction.proofs.fraction.text.push_wide.Goals as goal
 
 pub returns-then-places-eq0 : goal.returns-then-places-eq0
 returns-then-places-eq0 c = written_whole _ _ _ c.args.number c.args.places _ (omega arith) c.power_of_ten.ensures.value (c.as_bytes.ensures.value ∙ c.format.ensures.text) c.in_ok-extend_from_slice.ensures.items
 
 pub returns : goal.returns
-returns c = written_parts _ _ _ _ _ c.args.number c.args.places _ (omega arith) c.power_of_ten.ensures.value (c.as_bytes.ensures.value ∙ c.format.ensures.text) c.in_ok-extend_from_slice.ensures.items c.in_ok-push.ensures.items c.in_ok-push_padded.ensures
+returns c = written_parts _ _ _ _ c.args.number c.args.places _ (omega arith) c.power_of_ten.ensures.value (c.as_bytes.ensures.value ∙ c.format.ensures.text) c.in_ok-extend_from_slice.ensures.items (written_behind _ _ _ c.args.places c.args.number c.in_ok-push.ensures.items c.in_ok-push_padded.ensures)
