@@ -8,7 +8,6 @@ use Rattle.cga_asset.specs.Lines.{added, fits, most_faces, with_face}
 use Rattle.cga_asset.specs.Pending.{pending, unless_faulty}
 use Rattle.cga_asset.specs.declared.fault.AssetFault.{AssetFault}
 use Rattle.cga_asset.specs.declared.fault.AssetFault.TheVariants.{BadFace, TooManyFaces}
-use Rattle.cga_asset.specs.declared.said.Said.{Said}
 use Rattle.cga_asset.specs.declared.said.Said.TheVariants.{Face}
 
 abbrev Checked : Type 0
@@ -85,21 +84,3 @@ face_added total n m lines f e =
                 ]
           ]
     ]
-
--- the same of what the calls answered
-pub face_kept : (total n : ℕ) (m : SolidMesh) (lines : List ℕ) (f : List ℕ) (faces : List (List ℕ)) (more : List ℕ)
-    (fault kept : Option AssetFault) (s : Said) (len : ℕ)
-    → length m.faces ≡ length lines → kept ≡ None → s ≡ Face (Some f) → faces ≡ m.faces ++ f ∷ []
-    → more ≡ lines ++ n ∷ [] → len ≡ length m.faces
-    → fault ≡ cond (nat_le most_faces len) (Some (TooManyFaces n)) None
-    → and_then (pending total faces more) (λ u. unless_faulty fault (record { vertices = m.vertices; faces = faces }))
-    ≡ and_then (and_then (pending total m.faces lines) (λ u. unless_faulty kept m)) (λ a. added total n a s)
-face_kept total n m lines f faces more fault kept s len e none said more_faces more_lines l is =
-    let left : List (List ℕ) → List ℕ → Option AssetFault → Result SolidMesh AssetFault = λ (x : List (List ℕ)). λ (y : List ℕ). λ (z : Option AssetFault). and_then (pending total x y) (λ u. unless_faulty z (record { vertices = m.vertices; faces = x })) in
-    let right : Option AssetFault → Said → Result SolidMesh AssetFault = λ (x : Option AssetFault). λ (y : Said). and_then (and_then (pending total m.faces lines) (λ u. unless_faulty x m)) (λ a. added total n a y) in
-    let here : fault ≡ faces_fault (length m.faces) n = is ∙ ap (λ (k : ℕ). faces_fault k n) l in
-    ap (λ (x : List (List ℕ)). left x more fault) more_faces
-    ∙ (ap (λ (x : List ℕ). left (m.faces ++ f ∷ []) x fault) more_lines
-    ∙ (ap (left (m.faces ++ f ∷ []) (lines ++ n ∷ [])) here
-    ∙ (face_added total n m lines f e
-    ∙ (ap (λ (x : Option AssetFault). right x (Face (Some f))) (sym none) ∙ ap (right kept) (sym said)))))

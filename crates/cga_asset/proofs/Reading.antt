@@ -146,19 +146,15 @@ later_read r s lines l f long h number vertices mesh face_lines fault is =
     (λ total. made_alike total s.mesh r.mesh s.face_lines r.face_lines s.fault r.fault mesh face_lines fault
     ∙ later_line (pending total r.mesh.faces r.face_lines) r.fault r.mesh total s.lines l f is)
 
--- n and v are what the counts of the reader r became, and s is the reader then
-pub said_read : (r s : AssetReader) (lines : List Line) (l : Line) (said : Said) (n v : ℕ) → is_long l ≡ false
-    → StandsFor r lines → n ≡ counted (r.lines + 1)
-    → v ≡ next_count (begins_vertex (words_of l.bytes)) r.vertex_lines → r.fault ≡ None
-    → said ≡ said_of (length r.mesh.vertices) (words_of l.bytes)
-    → s.lines ≡ n → s.vertex_lines ≡ v → length s.mesh.faces ≡ length s.face_lines
-    → ((total : ℕ) → outcome s total ≡ and_then (outcome r total) (λ a. added total n a said))
+pub said_read : (r s : AssetReader) (lines : List Line) (l : Line) (said : Said) → is_long l ≡ false
+    → StandsFor r lines → s.lines ≡ counted (r.lines + 1)
+    → s.vertex_lines ≡ next_count (begins_vertex (words_of l.bytes)) r.vertex_lines → r.fault ≡ None
+    → said ≡ said_of (length r.mesh.vertices) (words_of l.bytes) → length s.mesh.faces ≡ length s.face_lines
+    → ((total : ℕ) → outcome s total ≡ and_then (outcome r total) (λ a. added total s.lines a said))
     → StandsFor s (lines ++ l ∷ [])
-said_read r s lines l said n v long h number vertices none is same_lines same_vertices paired gives =
-    next_line r s lines l h (same_lines ∙ number) (same_vertices ∙ (vertices ∙ sym (ap (λ (b : Bool). next_count b r.vertex_lines) (by_word l long)))) paired
-    (λ total. gives total
-    ∙ (said_line (pending total r.mesh.faces r.face_lines) r.fault r.mesh total n l said long none is
-    ∙ ap (λ (k : ℕ). and_then (outcome r total) (λ a. with_line total k a l)) (sym same_lines)))
+said_read r s lines l said long h number vertices none is paired gives =
+    next_line r s lines l h number (vertices ∙ sym (ap (λ (b : Bool). next_count b r.vertex_lines) (by_word l long))) paired
+    (λ total. gives total ∙ said_line (pending total r.mesh.faces r.face_lines) r.fault r.mesh total s.lines l said long none is)
 
 -- the end
 pub at_end : (r : AssetReader) (lines : List Line) → StandsFor r lines

@@ -157,6 +157,18 @@ then_twice g f (Err (TooNested n)) a i b j h k' = tt
 
 -- ---- lists
 
+-- the members of a list: each is read again, begins as the test tells, and not as a member may go on
+pub record AreMembers {A : Type 0} (w : A → Pieces) (t test : Lexeme → Bool) (p : Reader A) : Type 0 where
+  pub again : Again w t p
+  pub starting : (a : A) → Starts test (w a)
+  pub apart : (a : A) → Begun t (w a)
+
+-- what stands behind a list: it is neither more of the last member nor another one, and is read on
+pub record StandsBehind {B : Type 0} (t test s : Lexeme → Bool) (qs : Pieces) (p : Reader B) (b : B) : Type 0 where
+  pub no_more : Misses t qs s
+  pub no_member : Misses test qs s
+  pub leads : Leads s qs p b
+
 module _ {A : Type 0} (w : A → Pieces) (t test : Lexeme → Bool) (p : Reader A) (again : Again w t p) (starting : (a : A) → Starts test (w a)) (apart : (a : A) → Begun t (w a))
     (unroll : (so_far : List A) (i : Input) → many_after test p so_far i ≡ (if begins test i.left then (p >>= λ y. many_after test p (so_far ++ y ∷ [])) i else Ok (so_far, i))) where
   module _ {B : Type 0} (s : Lexeme → Bool) (qs : Pieces) (f : List A → Reader B) (b : B) (out : Misses t qs s) (stop : Misses test qs s) where
@@ -182,14 +194,13 @@ module _ {A : Type 0} (w : A → Pieces) (t test : Lexeme → Bool) (p : Reader 
 
 -- each of a list, and then what follows it
 pub all_of : {A B : Type 0} {w : A → Pieces} {t s : Lexeme → Bool} {qs : Pieces} {p : Reader A} {b : B}
-    (f : List A → Reader B) (test : Lexeme → Bool) (xs : List A)
-    → Again w t p → ((a : A) → Starts test (w a)) → ((a : A) → Begun t (w a)) →
-    ((so_far : List A) (i : Input) → many_after test p so_far i ≡ (if begins test i.left then (p >>= λ y. many_after test p (so_far ++ y ∷ [])) i else Ok (so_far, i)))
-    →
-    Misses t qs s → Misses test qs s → Leads s qs (f xs) b → Leads s (concat (map w xs) ++ qs) (many test p >>= f) b
+    (f : List A → Reader B) (test : Lexeme → Bool) (xs : List A) → AreMembers w t test p
+    → ((so_far : List A) (i : Input) → many_after test p so_far i ≡ (if begins test i.left then (p >>= λ y. many_after test p (so_far ++ y ∷ [])) i else Ok (so_far, i)))
+    → StandsBehind t test s qs (f xs) b
+    → Leads s (concat (map w xs) ++ qs) (many test p >>= f) b
 unfolding many
-all_of {w = w} {t = t} {s = s} {qs = qs} {p = p} {b = b} f test xs again starting apart unroll out stop h =
-    record { leads = λ c x d r v e. many_on w t test p again starting apart unroll s qs f b out stop xs [] h c x d r v e }
+all_of {w = w} {t = t} {s = s} {qs = qs} {p = p} {b = b} f test xs are unroll behind =
+    record { leads = λ c x d r v e. many_on w t test p are.again are.starting are.apart unroll s qs f b behind.no_more behind.no_member xs [] behind.leads c x d r v e }
 
 -- ---- lists of at most so many
 
@@ -243,11 +254,11 @@ module _ {A : Type 0} (w : A → Pieces) (t test : Lexeme → Bool) (p : Reader 
 
 -- each of a list of at most so many, and then what follows it
 pub few_of : {A B : Type 0} {t s : Lexeme → Bool} {p : Reader A} {b : B} (w : A → Pieces) (qs : Pieces)
-    (f : List A → Reader B) (test : Lexeme → Bool) (most : ℕ) (xs : List A)
-    → Again w t p → ((a : A) → Starts test (w a)) → ((a : A) → Begun t (w a)) →
-    Misses t qs s → Misses test qs s → Leads s qs (f xs) b → Leads s (few_pieces most w xs ++ qs) (many_from test p most [] >>= f) b
-few_of {t = t} {s = s} {p = p} {b = b} w qs f test most xs again starting apart out stop h =
-    few_leads w qs most xs (λ q. record { leads = λ c x d r v e. few_on w t test p again starting apart s qs f b out stop xs most [] (let l : length xs ≤ most = grind (arith, nat_tests) in l) h c x d r v e })
+    (f : List A → Reader B) (test : Lexeme → Bool) (most : ℕ) (xs : List A) → AreMembers w t test p
+    → StandsBehind t test s qs (f xs) b
+    → Leads s (few_pieces most w xs ++ qs) (many_from test p most [] >>= f) b
+few_of {t = t} {s = s} {p = p} {b = b} w qs f test most xs are behind =
+    few_leads w qs most xs (λ q. record { leads = λ c x d r v e. few_on w t test p are.again are.starting are.apart s qs f b behind.no_more behind.no_member xs most [] (let l : length xs ≤ most = grind (arith, nat_tests) in l) behind.leads c x d r v e })
 
 starts_named_by : (test : Lexeme → Bool) (name : List ℕ) (qs : Pieces) (t : Bool)
     → (t ≡ false → test (lexeme.Name name) ≡ true) → (c : ℕ) (x : List Lexeme) (d : ℕ) (r : List Lexeme)

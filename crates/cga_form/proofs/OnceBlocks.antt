@@ -58,17 +58,16 @@ module _ {A : Type 0} (w : A → Pieces) (unique : (text : List Lexeme) (a b : A
   says_none (b ∷ before) l after [] f h k = h
   says_none (b ∷ before) l after (x ∷ all) f h k = says_none before l after all f h.1 k
 
-  first_fault : (before more : List Line) (l k : Line) (after rest z : List Line) (all : List (Option A))
-      (f g : LineFault)
-      → BlockTells w l (Err f) → BlockTells w k (Err g) → Say w more all → more ≡ before ++ z
-      → l ∷ after ≡ z ++ (k ∷ rest) →
-      (length before ≡ length more) × (f ≡ g)
-  first_fault before more l k after rest [] all f g h i s e q =
+  -- before a faulty line no other one is faulty
+  first_fault : (before : List Line) (l k : Line) (after rest z : List Line) (all : List (Option A)) (f g : LineFault)
+      → BlockTells w l (Err f) → BlockTells w k (Err g) → Say w (before ++ z) all → l ∷ after ≡ z ++ (k ∷ rest)
+      → (length before ≡ length (before ++ z)) × (f ≡ g)
+  first_fault before l k after rest [] all f g h i s q =
       let p : l ≡ k = cc in
-      (let r : before ++ [] ≡ more = sym e in ap length (sym (nil_right before)) ∙ ap length r, same_err f g (once_block k (Err f) (Err g) (subst (λ z. BlockTells w z (Err f)) p h) i))
-  first_fault before more l k after rest (x ∷ z) all f g h i s e q =
+      (ap length (sym (nil_right before)), same_err f g (once_block k (Err f) (Err g) (subst (λ z. BlockTells w z (Err f)) p h) i))
+  first_fault before l k after rest (x ∷ z) all f g h i s q =
       let p : l ≡ x = cc in
-      absurd (says_none before l z all f (subst (λ t. Say w t all) (e ∙ ap (λ t. before ++ t ∷ z) (sym p)) s) h)
+      absurd (says_none before l z all f (subst (λ t. Say w t all) (ap (λ t. before ++ t ∷ z) (sym p)) s) h)
 
   same_fault : (a b : BlockFault) → a.line ≡ b.line → a.fault ≡ b.fault → a ≡ b
   same_fault a b e f = ap (λ z. record { line = z; fault = a.fault }) e ∙ ap (λ z. record { line = b.line; fault = z }) f
@@ -77,8 +76,12 @@ module _ {A : Type 0} (w : A → Pieces) (unique : (text : List Lexeme) (a b : A
       → (a.line ≡ b.line) × (a.fault ≡ b.fault)
   both_faulty lines a b h k =
       elim (compared h.0 k.0 (h.1 ∷ h.2) (k.1 ∷ k.2) (sym h.4 ∙ k.4)) [
-        | inl s ↦ let t = first_fault h.0 k.0 h.1 k.1 h.2 k.2 s.0 k.3 a.fault b.fault h.6 k.6 k.5 s.1 s.2 in (h.7 ∙ ap (λ z. line_number (suc z)) t.0 ∙ sym k.7, t.1)
-        | inr s ↦ let t = first_fault k.0 h.0 k.1 h.1 k.2 h.2 s.0 h.3 b.fault a.fault k.6 h.6 h.5 s.1 s.2 in (h.7 ∙ ap (λ z. line_number (suc z)) (sym t.0) ∙ sym k.7, sym t.1)
+        | inl s ↦
+            let t = first_fault h.0 h.1 k.1 h.2 k.2 s.0 k.3 a.fault b.fault h.6 k.6 (subst (λ z. Say w z k.3) s.1 k.5) s.2 in
+            (h.7 ∙ ap (λ z. line_number (suc z)) (t.0 ∙ ap length (sym s.1)) ∙ sym k.7, t.1)
+        | inr s ↦
+            let t = first_fault k.0 k.1 h.1 k.2 h.2 s.0 h.3 b.fault a.fault k.6 h.6 (subst (λ z. Say w z h.3) s.1 h.5) s.2 in
+            (h.7 ∙ ap (λ z. line_number (suc z)) (ap length s.1 ∙ sym t.0) ∙ sym k.7, sym t.1)
       ]
 
   pub good_or_faulty : (lines : List Line) (all : List (Option A)) (f : BlockFault) → Say w lines all

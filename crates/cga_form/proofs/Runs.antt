@@ -1,5 +1,5 @@
 -- What a reader does on a text: it takes a front of it, and gives the same however the text goes on after the next token.
-use Rattle.std.proofs.Common.{◌≡◌, ℕ, zero, suc, ◌+◌, ◌-◌, Bool, true, false, List, [], ◌∷◌, ◌++◌, length}
+use Rattle.std.proofs.Common.{◌≡◌, ℕ, zero, suc, Bool, true, false, List, [], ◌∷◌, ◌++◌, length}
 use Rattle.std.proofs.Common.{append_assoc, ◌≤◌, ◌<◌, length-append, refl, sym, ap, ◌∙◌, Ok, Err}
 use Rattle.std.proofs.Common.{if◌then◌else◌, cond, arith}
 use Rattle.cga_syntax.specs.declared.lexeme.Lexeme.{Lexeme}
@@ -10,7 +10,7 @@ use Rattle.cga_form.specs.Reader.{many_after, many}
 pub use Rattle.cga_form.specs.Laws.{Language, Verdict, found, unexpected, nested, told, Means, Run, Exact, Some_text}
 use Rattle.cga_syntax.specs.Brackets.{walk}
 use Rattle.cga_fraction.proofs.Door.{append-nil_back as append_nil}
-use Rattle.cga_form.proofs.Taking.{first_same, weaker_means, pure_runs, Seq, after, bind_run, bind_runs}
+use Rattle.cga_form.proofs.Taking.{first_same, weaker_means, pure_runs, Seq, bind_run, bind_runs}
 
 -- ---- lists
 

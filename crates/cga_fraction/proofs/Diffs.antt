@@ -1,6 +1,6 @@
 -- Arithmetic of rational numbers, each said to be a difference of naturals over a natural. An identity of
 -- numbers becomes one of naturals, which `omega arith` proves by multiplying out.
-use Rattle.std.proofs.Common.{◌≡◌, ℕ, suc, ◌+◌, ◌*◌, ◌/◌, ◌-◌, ◌≤◌, ◌<◌, arith, refl, ap, ℤ, pos, negsuc}
+use Rattle.std.proofs.Common.{◌≡◌, ℕ, suc, ◌+◌, ◌*◌, ◌/◌, ◌-◌, ◌≤◌, ◌<◌, arith, refl, sym, ap, ℤ, pos, negsuc}
 use Rattle.std.specs.Prelude.{IsTrue, ◌-ℤ◌, ◌+ℤ◌, ◌*ℤ◌}
 use Rattle.std.proofs.Math.Nat.{div-mul_cancel, mul-pos, mul-le-mul_right, le_of_mul-le-mul_right, eq_of_mul-eq-mul_right}
 use Rattle.std.proofs.lemmas.Int.{ints}
@@ -87,20 +87,35 @@ plus_diff a b =
     let k' = ap (λ z. z * (den a * den b)) k in
     like (plus a b) _ _ _ (positive_part a.num * den b + positive_part b.num * den a) (negative_part a.num * den b + negative_part b.num * den a) (den a * den b) r (omega (arith, k')) h
 
-orders : (p m q s t r u v d w x e : ℕ) → 0 < d → 0 < e → p * d + v * q ≡ u * q + m * d → s * e + x * r ≡ w * r + t * e
-    → u * e + x * d ≤ w * d + v * e → p * r + t * q ≤ s * q + m * r
-orders p m q s t r u v d w x e h k f g l =
-    let a : (p * d + v * q) * (r * e) ≡ (u * q + m * d) * (r * e) = ap (λ z. z * (r * e)) f in
-    let b : (s * e + x * r) * (q * d) ≡ (w * r + t * e) * (q * d) = ap (λ z. z * (q * d)) g in
-    let c : (u * e + x * d) * (q * r) ≤ (w * d + v * e) * (q * r) = mul-le-mul_right (q * r) l in
-    let z : (p * r + t * q) * (d * e) ≤ (s * q + m * r) * (d * e) = omega arith in
+-- up minus down, over a natural
+record Difference : Type 0 where
+  up : ℕ
+  down : ℕ
+  over : ℕ
+
+-- a number as it shows itself
+shown : Rat → Difference
+shown q = record { up = positive_part q.num; down = negative_part q.num; over = den q }
+
+-- two differences are in the order of two others that are the same numbers
+orders : (a b c d : Difference) → 0 < c.over → 0 < d.over
+    → a.up * c.over + c.down * a.over ≡ c.up * a.over + a.down * c.over
+    → b.up * d.over + d.down * b.over ≡ d.up * b.over + b.down * d.over
+    → c.up * d.over + d.down * c.over ≤ d.up * c.over + c.down * d.over
+    → a.up * b.over + b.down * a.over ≤ b.up * a.over + a.down * b.over
+orders a b c d h k f g l =
+    let x : (a.up * c.over + c.down * a.over) * (b.over * d.over) ≡ (c.up * a.over + a.down * c.over) * (b.over * d.over) = ap (λ z. z * (b.over * d.over)) f in
+    let y : (b.up * d.over + d.down * b.over) * (a.over * c.over) ≡ (d.up * b.over + b.down * d.over) * (a.over * c.over) = ap (λ z. z * (a.over * c.over)) g in
+    let w : (c.up * d.over + d.down * c.over) * (a.over * b.over) ≤ (d.up * c.over + c.down * d.over) * (a.over * b.over) = mul-le-mul_right (a.over * b.over) l in
+    let z : (a.up * b.over + b.down * a.over) * (c.over * d.over) ≤ (b.up * a.over + a.down * b.over) * (c.over * d.over) = omega arith in
     le_of_mul-le-mul_right z (mul-pos h k)
 
 -- where two numbers are differences whose cross products are in order, the first is at most the second
 pub le_diff : (a b : Rat) (u v d w x e : ℕ) → IsDiff a u v d → IsDiff b w x e → u * e + x * d ≤ w * d + v * e
     → IsTrue (rat_le a b)
+unfolding shown
 le_diff a b u v d w x e r s l =
-    le_test a b (orders (positive_part a.num) (negative_part a.num) (den a) (positive_part b.num) (negative_part b.num) (den b) u v d w x e r.positive s.positive r.same s.same l)
+    le_test a b (orders (shown a) (shown b) (record { up = u; down = v; over = d }) (record { up = w; down = x; over = e }) r.positive s.positive r.same s.same l)
 
 monotone : (pa ma da pb mb db pc mc dc : ℕ) → pb * dc + mc * db ≤ pc * db + mb * dc
     → (pa * db + pb * da) * (da * dc) + (ma * dc + mc * da) * (da * db) ≤ (pa * dc + pc * da) * (da * db) +
@@ -156,20 +171,12 @@ plus_of a b u v d w x e r s =
     like (plus a b) _ _ _ (u * e + w * d) (v * e + x * d) (d * e) (plus_diff a b)
     (together (positive_part a.num) (negative_part a.num) (den a) (positive_part b.num) (negative_part b.num) (den b) u v d w x e r.same s.same) (mul-pos r.positive s.positive)
 
-diff_naturals : (p m q s t r u v d w x e : ℕ) → 0 < q → 0 < r → p * d + v * q ≡ u * q + m * d
-    → s * e + x * r ≡ w * r + t * e → p * r + t * q ≤ s * q + m * r → u * e + x * d ≤ w * d + v * e
-diff_naturals p m q s t r u v d w x e h k f g l =
-    let a : (p * d + v * q) * (r * e) ≡ (u * q + m * d) * (r * e) = ap (λ z. z * (r * e)) f in
-    let b : (s * e + x * r) * (q * d) ≡ (w * r + t * e) * (q * d) = ap (λ z. z * (q * d)) g in
-    let c : (p * r + t * q) * (d * e) ≤ (s * q + m * r) * (d * e) = mul-le-mul_right (d * e) l in
-    let z : (u * e + x * d) * (q * r) ≤ (w * d + v * e) * (q * r) = omega arith in
-    le_of_mul-le-mul_right z (mul-pos h k)
-
 -- what the test says, by the naturals
 pub diff_le : (a b : Rat) (u v d w x e : ℕ) → IsDiff a u v d → IsDiff b w x e → IsTrue (rat_le a b)
     → u * e + x * d ≤ w * d + v * e
+unfolding shown
 diff_le a b u v d w x e r s l =
-    diff_naturals (positive_part a.num) (negative_part a.num) (den a) (positive_part b.num) (negative_part b.num) (den b) u v d w x e (omega arith) (omega arith) r.same s.same (le_fact a b l)
+    orders (record { up = u; down = v; over = d }) (record { up = w; down = x; over = e }) (shown a) (shown b) (omega arith) (omega arith) (sym r.same) (sym s.same) (le_fact a b l)
 
 -- where two numbers are differences whose cross products are strictly in order, the first is below the second
 pub lt_diff : (a b : Rat) (u v d w x e : ℕ) → IsDiff a u v d → IsDiff b w x e → u * e + x * d < w * d + v * e

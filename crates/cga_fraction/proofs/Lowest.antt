@@ -60,57 +60,54 @@ checked-out : (a : Rat) → in_range a ≡ false → checked a ≡ Err (record {
 unfolding checked
 checked-out a e = rw e refl
 
--- both parts are within the limit
-within : (n : ℤ) (d u v g : ℕ) (z : ℤ) → u ≡ unsigned_abs n → v ≡ unsigned_abs n → g ≡ gcd u d → z ≡ with_sign n (v / g)
-    → v / g ≤ 2 ^ 62 → d / g ≤ 2 ^ 62 → 0 < d
-    → ◌≡◌ {A = Result Rat Overflow} (Ok (record { num = z; above = d / g - 1 })) (checked (reduced n d))
-within n d u v g z eu ev eg ez a b h =
-    let e : g ≡ gcd (unsigned_abs n) d = eg ∙ ap (λ k. gcd k d) eu in
-    let p : 0 < d / g = rw e (quotient_positive d _ (gcd-IsGcd (unsigned_abs n) d).1 h) in
-    let k : d / g - 1 + 1 ≤ 2 ^ 62 = omega arith in
-    let m : unsigned_abs z ≤ 2 ^ 62 = rw (ez, abs-with_sign) a in
-    let same : ◌≡◌ {A = Rat} (record { num = z; above = d / g - 1 }) (reduced n d) = rw (ez, ev) (sym (reduced-parts n d g e)) in
-    rw (← same) (sym (checked-in (record { num = z; above = d / g - 1 }) m k))
+-- ---- the parts of a number in lowest terms, by quotients that were formed
 
-within_is : (n : ℤ) (d u v g : ℕ) (z : ℤ) → u ≡ unsigned_abs n → v ≡ unsigned_abs n → g ≡ gcd u d
-    → z ≡ with_sign n (v / g) → v / g ≤ 2 ^ 62 → d / g ≤ 2 ^ 62 → 0 < d
-    → IsReduced z (d / g)
-within_is n d u v g z eu ev eg ez a b h =
-    let e : g ≡ gcd (unsigned_abs n) d = eg ∙ ap (λ k. gcd k d) eu in
+-- q and e are the size of n and the number d, each over the greatest common divisor of both
+pub record AreQuotients (n : ℤ) (d q e : ℕ) : Type 0 where
+  pub numerator : q ≡ unsigned_abs n / gcd (unsigned_abs n) d
+  pub denominator : e ≡ d / gcd (unsigned_abs n) d
+
+pub quotients : (n : ℤ) (d u v g q e : ℕ) → u ≡ unsigned_abs n → v ≡ unsigned_abs n → g ≡ gcd u d → q ≡ v / g
+    → e ≡ d / g → AreQuotients n d q e
+quotients n d u v g q e eu ev eg eq ee =
+    let same : g ≡ gcd (unsigned_abs n) d = eg ∙ ap (λ k. gcd k d) eu in
     record {
-      positive = rw e (quotient_positive d _ (gcd-IsGcd (unsigned_abs n) d).1 h);
-      lowest = rw (ez, ev, abs-with_sign, e) (lowest (unsigned_abs n) d h);
-      numerator = rw (ez, abs-with_sign) a;
-      denominator = b;
+      numerator = rw (eq, ev, same) refl;
+      denominator = rw (ee, same) refl;
     }
 
--- one part is above it
-beyond : (n : ℤ) (d u v g : ℕ) → u ≡ unsigned_abs n → v ≡ unsigned_abs n → g ≡ gcd u d
-    → ((2 ^ 62 < v / g) ⊎ (2 ^ 62 < d / g)) → 0 < d
-    → ◌≡◌ {A = Result Rat Overflow} (Err (record {})) (checked (reduced n d))
-beyond n d u v g eu ev eg above h =
-    let e : g ≡ gcd (unsigned_abs n) d = eg ∙ ap (λ k. gcd k d) eu in
-    let p : 0 < d / g = rw e (quotient_positive d _ (gcd-IsGcd (unsigned_abs n) d).1 h) in
-    let k : d / g - 1 + 1 ≡ d / g = omega arith in
-    let out : in_range (record { num = with_sign n (unsigned_abs n / g); above = d / g - 1 }) ≡ false = rw (abs-with_sign, ← ev, k) (grind (arith, leb_tells (v / g) (2 ^ 62), leb_tells (d / g) (2 ^ 62))) in
-    rw (reduced-parts n d g e) (sym (checked-out _ out))
+denominator_positive : (n : ℤ) (d q e : ℕ) → AreQuotients n d q e → 0 < d → 0 < e
+denominator_positive n d q e is h = rw is.denominator (quotient_positive d _ (gcd-IsGcd (unsigned_abs n) d).1 h)
 
--- ---- the same, by quotients that were formed
-
-pub formed : (n : ℤ) (d u v g q e : ℕ) (z : ℤ) → u ≡ unsigned_abs n → v ≡ unsigned_abs n → g ≡ gcd u d → q ≡ v / g
-    → e ≡ d / g → z ≡ with_sign n q → q ≤ 2 ^ 62 → e ≤ 2 ^ 62 → 0 < d
+-- both parts are within the limit
+pub formed : (n : ℤ) (d q e : ℕ) (z : ℤ) → AreQuotients n d q e → z ≡ with_sign n q → q ≤ 2 ^ 62 → e ≤ 2 ^ 62 → 0 < d
     → ◌≡◌ {A = Result Rat Overflow} (Ok (record { num = z; above = e - 1 })) (checked (reduced n d))
-formed n d u v g q e z eu ev eg eq ee ez a b h = rw ee (within n d u v g z eu ev eg (ez ∙ ap (λ (k : ℕ). with_sign n k) eq) (rw eq at a) (rw ee at b) h)
+formed n d q e z is ez a b h =
+    let p : 0 < e = denominator_positive n d q e is h in
+    let k : e - 1 + 1 ≤ 2 ^ 62 = omega arith in
+    let m : unsigned_abs z ≤ 2 ^ 62 = rw (ez, abs-with_sign) a in
+    let same : ◌≡◌ {A = Rat} (record { num = z; above = e - 1 }) (reduced n d) = rw (ez, is.numerator, is.denominator) (sym (reduced-parts n d _ refl)) in
+    rw (← same) (sym (checked-in (record { num = z; above = e - 1 }) m k))
 
-pub formed_is : (n : ℤ) (d u v g q e : ℕ) (z : ℤ) → u ≡ unsigned_abs n → v ≡ unsigned_abs n → g ≡ gcd u d → q ≡ v / g
-    → e ≡ d / g → z ≡ with_sign n q → q ≤ 2 ^ 62 → e ≤ 2 ^ 62 → 0 < d
-    → IsReduced z e
-formed_is n d u v g q e z eu ev eg eq ee ez a b h = rw ee (within_is n d u v g z eu ev eg (ez ∙ ap (λ (k : ℕ). with_sign n k) eq) (rw eq at a) (rw ee at b) h)
+pub formed_is : (n : ℤ) (d q e : ℕ) (z : ℤ) → AreQuotients n d q e → z ≡ with_sign n q → q ≤ 2 ^ 62 → e ≤ 2 ^ 62
+    → 0 < d → IsReduced z e
+formed_is n d q e z is ez a b h = record {
+  positive = denominator_positive n d q e is h;
+  lowest = rw (ez, abs-with_sign, is.numerator, is.denominator) (lowest (unsigned_abs n) d h);
+  numerator = rw (ez, abs-with_sign) a;
+  denominator = b;
+}
 
-pub formed_beyond : (n : ℤ) (d u v g q e : ℕ) → u ≡ unsigned_abs n → v ≡ unsigned_abs n → g ≡ gcd u d → q ≡ v / g
-    → e ≡ d / g → ((2 ^ 62 < q) ⊎ (2 ^ 62 < e)) → 0 < d
+-- one part is above it
+pub formed_beyond : (n : ℤ) (d q e : ℕ) → AreQuotients n d q e → ((2 ^ 62 < q) ⊎ (2 ^ 62 < e)) → 0 < d
     → ◌≡◌ {A = Result Rat Overflow} (Err (record {})) (checked (reduced n d))
-formed_beyond n d u v g q e eu ev eg eq ee above h = beyond n d u v g eu ev eg (rw (eq, ee) at above) h
+formed_beyond n d q e is above h =
+    let g = gcd (unsigned_abs n) d in
+    let beyond : (2 ^ 62 < unsigned_abs n / g) ⊎ (2 ^ 62 < d / g) = rw (is.numerator, is.denominator) at above in
+    let p : 0 < d / g = quotient_positive d _ (gcd-IsGcd (unsigned_abs n) d).1 h in
+    let k : d / g - 1 + 1 ≡ d / g = omega arith in
+    let out : in_range (record { num = with_sign n (unsigned_abs n / g); above = d / g - 1 }) ≡ false = rw (abs-with_sign, k) (grind (arith, leb_tells (unsigned_abs n / g) (2 ^ 62), leb_tells (d / g) (2 ^ 62))) in
+    rw (reduced-parts n d _ refl) (sym (checked-out _ out))
 
 pub whole_is_reduced : (n : ℤ) → unsigned_abs n ≤ 2 ^ 62 → IsReduced n 1
 whole_is_reduced n h = record {
@@ -130,7 +127,7 @@ narrow_is n d g e a b h =
     let k : n / g ≤ n = div-le_self n g in
     let j : d / g ≤ d = div-le_self d g in
     let f : n / g < 2 ^ hbits w64 = omega arith in
-    rw (to_z_pos w64 (n / g) f) (within_is (pos n) d n n g (pos (n / g)) refl refl e refl (omega arith) (omega arith) h)
+    rw (to_z_pos w64 (n / g) f) (formed_is (pos n) d (n / g) (d / g) (pos (n / g)) (quotients (pos n) d n n g _ _ refl refl e refl refl) refl (omega arith) (omega arith) h)
 
 pub narrow : (n d g : ℕ) → g ≡ gcd n d → n ≤ 2 ^ 62
     → ◌≡◌ {A = Rat} (record { num = to_z w64 (n / g); above = d / g - 1 }) (reduced (pos n) d)

@@ -47,12 +47,11 @@ fits_at c h X = h.x
 fits_at c h Y = h.y
 fits_at c h Z = h.z
 
-sizes_of : Point → Component → Point
+abbrev pub sizes_of : Point → Component → Point
 sizes_of size c = record { x = size_by size c.width; y = size_by size c.height; z = size_by size c.depth }
 
 coordinate-sizes_of : (size : Point) (c : Component) (a : Axis)
     → coordinate (sizes_of size c) a ≡ size_by size (extent c a)
-unfolding sizes_of
 coordinate-sizes_of size c X = refl
 coordinate-sizes_of size c Y = refl
 coordinate-sizes_of size c Z = refl
@@ -67,7 +66,7 @@ end_at c o near far size h l m e =
 
 -- ---- the three axes together
 
-same_point : (x y z a b c : Rat) → x ≡ a → y ≡ b → z ≡ c
+pub same_point : (x y z a b c : Rat) → x ≡ a → y ≡ b → z ≡ c
     → ◌≡◌ {A = Point} (record { x = x; y = y; z = z }) (record { x = a; y = b; z = c })
 same_point x y z a b c e f g = rw (e, f, g) refl
 
@@ -81,13 +80,17 @@ far_parts : (s : Scope)
 unfolding place_of
 far_parts s = refl
 
--- the ends of a component, of which the scope's far corner is handed in
+-- the corner at which a component begins, of which the scope's far corner is handed in
+abbrev pub corner_of : Scope → Component → Point → Point
+corner_of s c far = record { x = corner c s.frame.x s.at.x far.x; y = corner c s.frame.y s.at.y far.y; z = corner c s.frame.z s.at.z far.z }
+
+-- and its ends
 abbrev pub ends_of : Scope → Component → Point → Point
 ends_of s c far = record { x = end_of c s.frame.x (turned s.frame c.axis c.by).x s.at.x far.x; y = end_of c s.frame.y (turned s.frame c.axis c.by).y s.at.y far.y; z = end_of c s.frame.z (turned s.frame c.axis c.by).z s.at.z far.z }
 
 pub component_far : (s : Scope) (c : Component) → IsFitting c → Exists s
     → ends_of s c (far_of s) ≡ far_of (component_of s c)
-unfolding component_of place_of turned sizes_of
+unfolding component_of place_of turned
 component_far s c h e =
     let p = ap (λ (p : Point). p.x) (far_parts s) in
     same_point _ _ _ _ _ _
@@ -151,21 +154,8 @@ component_stands s t c far ends h k e f =
       exists = component_exists s c k h.exists;
     })
 
-pub component_is : (s : Scope) (c : Component) (far : Point) (f : Frame) (x y z u v w : Rat) → far ≡ far_of s
-    → f ≡ turned s.frame c.axis c.by → x ≡ corner c s.frame.x s.at.x far.x → y ≡ corner c s.frame.y s.at.y far.y
-    → z ≡ corner c s.frame.z s.at.z far.z → u ≡ size_by s.size c.width → v ≡ size_by s.size c.height
-    → w ≡ size_by s.size c.depth
-    → ◌≡◌ {A = Scope} (record {
-      at = record { x = x; y = y; z = z };
-      frame = f;
-      size = record { x = u; y = v; z = w };
-    }) (component_of s c)
+pub component_is : (s : Scope) (c : Component) (far : Point) (f : Frame) (at size : Point) → far ≡ far_of s
+    → f ≡ turned s.frame c.axis c.by → at ≡ corner_of s c far → size ≡ sizes_of s.size c
+    → ◌≡◌ {A = Scope} (record { at = at; frame = f; size = size }) (component_of s c)
 unfolding component_of
-component_is s c far f x y z u v w e g a b d h i j = rw (a, b, d, g, h, i, j, e) refl
-
-pub ends_are : (s : Scope) (c : Component) (far : Point) (x y z : Rat)
-    → x ≡ end_of c s.frame.x (turned s.frame c.axis c.by).x s.at.x far.x
-    → y ≡ end_of c s.frame.y (turned s.frame c.axis c.by).y s.at.y far.y
-    → z ≡ end_of c s.frame.z (turned s.frame c.axis c.by).z s.at.z far.z
-    → ◌≡◌ {A = Point} (record { x = x; y = y; z = z }) (ends_of s c far)
-ends_are s c far x y z a b d = same_point x y z _ _ _ a b d
+component_is s c far f at size e g h k = rw (g, h, k, e) refl

@@ -1,5 +1,5 @@
 -- Tests that hold together.
-use Rattle.std.proofs.Common.{◌≡◌, refl, Bool, true, false, ◌&&◌, ◌||◌, ◌⊎◌, inl, inr}
+use Rattle.std.proofs.Common.{◌≡◌, Bool, true, ◌&&◌}
 use Rattle.std.specs.Prelude.{IsTrue}
 pub use Rattle.std.proofs.lemmas.Bool.{and_from as pair, and_parts as both, or_cases as either, or_left as first_of_two, or_right as second_of_two}
 

@@ -133,16 +133,17 @@ visit_found v by target left node first rest h p q =
     ∙ sym (over_append v by target (node ∷ []) (flat_map (below v (left - 1)) (v.children node)))
     ∙ ap (answer_over v by target) (sym (below_more v left node h))
 
-touched : (v : TreeView) (by r : ℕ) (hull area : Box) (t seen : Bool) → hull ≡ v.hull r → area ≡ v.own by
-    → t ≡ touches hull area → t ≡ seen → touches (v.hull r) (v.own by) ≡ seen
-touched v by r hull area t seen p q e f = ap (λ s. touches s (v.own by)) (sym p) ∙ ap (touches hull) (sym q) ∙ sym e ∙ f
+-- what a test of a node's hull against the asking box told, where the box was handed in
+pub touched : (v : TreeView) (by node : ℕ) (area : Box) (t seen : Bool) → area ≡ v.own by
+    → t ≡ touches (v.hull node) area → t ≡ seen → touches (v.hull node) (v.own by) ≡ seen
+touched v by node area t seen is tested told = ap (touches (v.hull node)) (sym is) ∙ sym tested ∙ told
 
-pub visit_counted : (v : TreeView) (by left node a b c : ℕ) (hull area : Box) (t : Bool) → 0 < left → hull ≡ v.hull node
-    → area ≡ v.own by → t ≡ touches hull area → t ≡ true → b ≤ a + cond (nat_eq node by) 0 1
-    → c ≤ b + total (reads v by (left - 1)) (v.children node) → c ≤ a + reads v by left node
-visit_counted v by left node a b c hull area t h eh ea et f p q =
+pub visit_counted : (v : TreeView) (by left node a b c : ℕ) → 0 < left → touches (v.hull node) (v.own by) ≡ true
+    → b ≤ a + cond (nat_eq node by) 0 1 → c ≤ b + total (reads v by (left - 1)) (v.children node)
+    → c ≤ a + reads v by left node
+visit_counted v by left node a b c h touch p q =
     let all = total (reads v by (left - 1)) (v.children node) in
-    let s : ◌≡◌ {A = ℕ} (cond (touches (v.hull node) (v.own by)) all 0) all = ap (λ x. cond x all 0) (touched v by node hull area t true eh ea et f) in
+    let s : ◌≡◌ {A = ℕ} (cond (touches (v.hull node) (v.own by)) all 0) all = ap (λ x. cond x all 0) touch in
     omega (arith, p, q, s, reads_more v by left node h)
 
 -- where the node's own answer is full, so is that of all from it on
@@ -152,11 +153,9 @@ visit_full v by target left node first h p full =
     let rest = answer_over v by target (flat_map (below v (left - 1)) (v.children node)) in
     full ∙ sym (ap (λ t. join t rest) full) ∙ visit_found v by target left node first rest h p refl
 
-pub visit_fewer : (v : TreeView) (by left node a b : ℕ) (hull area : Box) (t : Bool) → 0 < left → hull ≡ v.hull node
-    → area ≡ v.own by → t ≡ touches hull area → t ≡ true → b ≤ a + cond (nat_eq node by) 0 1
-    → b ≤ a + reads v by left node
-visit_fewer v by left node a b hull area t h eh ea et f p =
-    visit_counted v by left node a b b hull area t h eh ea et f p (omega arith)
+pub visit_fewer : (v : TreeView) (by left node a b : ℕ) → 0 < left → touches (v.hull node) (v.own by) ≡ true
+    → b ≤ a + cond (nat_eq node by) 0 1 → b ≤ a + reads v by left node
+visit_fewer v by left node a b h touch p = visit_counted v by left node a b b h touch p (omega arith)
 
 -- what is full stays so, whatever else is joined
 pub full_stays : (found rest whole : Answer) → found ≡ Full → whole ≡ join found rest → found ≡ whole
@@ -293,8 +292,3 @@ root_depth v laws k r e = laws.at_root r (in_at v.roots k r e)
 pub reads_within : (v : TreeView) → IsHullTree v → (by a b k : ℕ) → InTree v by → length v.roots ≤ k
     → b + total (reads v by 257) (drop k v.roots) ≤ a + 1 + total (reads v by 257) v.roots → b ≤ a + near v by
 reads_within v laws by a b k h e q = omega (arith, q, reads_near v laws by h)
-
-pub none_seen : (v : TreeView) → IsHullTree v → (by : ℕ) (target : Target) (m r : ℕ) (hull area : Box) (t : Bool)
-    → InTree v r → hull ≡ v.hull r → area ≡ v.own by → t ≡ touches hull area → t ≡ false
-    → Nothing ≡ answer_over v by target (below v m r)
-none_seen v laws by target m r hull area t h p q e f = sym (none_below v laws by target m r h (touched v by r hull area t false p q e f))

@@ -64,43 +64,80 @@ unfolding AreUndoable undone
 undone_within [] s w a = w
 undone_within (x ∷ xs) s w a = undo_within x (undone xs s) a.0
 
+-- from the old shelf to the new one, whose first steps are the old ones
+pub record IsNoted (old new : Shelf) (steps more : List Step) : Type 0 where
+  pub within : new.shown ≤ length new.entries
+  pub ready : AreUndoable more new
+  pub former : undone more new ≡ undone steps old
+
 -- ---- a name comes
 
-pub put_at : (es new : Named) (name : List ℕ) (id place : ℕ) (former : Option ℕ)
-    → new ≡ insert_entry same_name es name id → place ≡ position_or_len (same_name name) (names es)
-    → former ≡ lookup (same_name name) es → IsPut es new name id place former
-put_at es new name id place former e i o = rw (e, i, o) (is_put es name id)
+-- the name is not among those that are there, and put has the id under it: at its place it had the former id, or none
+pub record Comes (s : Shelf) (put : Named) (name : List ℕ) (id place : ℕ) (former : Option ℕ) : Type 0 where
+  pub stands : IsPut s.entries put name id place former
+  pub within : s.shown ≤ length s.entries
+  pub behind : s.shown ≤ place
 
-module _ (es put : Named) (shown : ℕ) (name : List ℕ) (id place : ℕ) (former : Option ℕ) (p : IsPut es put name id place former) (within : shown ≤ length es) (after : shown ≤ place) (gap : ℕ) (low : gap ≤ shown) where
+pub comes : (s : Shelf) (put : Named) (name : List ℕ) (id place : ℕ) (former : Option ℕ)
+    → put ≡ insert_entry same_name s.entries name id → place ≡ position_or_len (same_name name) (names s.entries)
+    → former ≡ lookup (same_name name) s.entries → s.shown ≤ length s.entries
+    → lookup (same_name name) (listed s) ≡ None → Comes s put name id place former
+comes s put name id place former e i o within free = record {
+  stands = rw (e, i, o) (is_put s.entries name id);
+  within = within;
+  behind = subst (λ k. s.shown ≤ k) (sym i) (place_after s.entries name s.shown within free);
+}
+
+module _ (s : Shelf) (put : Named) (name : List ℕ) (id place : ℕ) (former : Option ℕ) (c : Comes s put name id place former) (gap : ℕ) (low : gap ≤ s.shown) where
   abbrev brought : Named
-  brought = swap put shown place
+  brought = swap put s.shown place
 
   abbrev filled : Named
-  filled = swap brought gap shown
+  filled = swap brought gap s.shown
 
-  long : shown < length brought
-  long = let n = length-swap put shown place in let w = p.within in omega (arith, n, w, after)
+  abbrev pushed_shelf : Shelf
+  pushed_shelf = record { entries = filled; shown = s.shown + 1 }
 
-  pub push_listed : take (shown + 1) filled ≡ swap (take shown es ++ (name, id) ∷ []) gap shown
+  long : s.shown < length brought
+  long = let n = length-swap put s.shown place in let w = c.stands.within in let a = c.behind in omega (arith, n, w, a)
+
+  push_listed : take (s.shown + 1) filled ≡ swap (listed s ++ (name, id) ∷ []) gap s.shown
   push_listed =
-      take_swap brought (shown + 1) gap shown (name, id) (omega (arith, low)) (omega arith) (omega (arith, long))
-      ∙ ap (λ l. swap l gap shown) (take_brought put shown place (name, id) after p.within (sym (get_or_from_slice_get put place (name, id) (name, id) p.here)) ∙ ap (λ l. l ++ (name, id) ∷ []) (p.front shown after))
+      take_swap brought (s.shown + 1) gap s.shown (name, id) (omega (arith, low)) (omega arith) (omega (arith, long))
+      ∙ ap (λ l. swap l gap s.shown) (take_brought put s.shown place (name, id) c.behind c.stands.within (sym (get_or_from_slice_get put place (name, id) (name, id) c.stands.here)) ∙ ap (λ l. l ++ (name, id) ∷ []) (c.stands.front s.shown c.behind))
 
-  pub push_undone : undo (Came place former gap) (record { entries = filled; shown = shown + 1 }) ≡ record { entries = es; shown = shown }
+  push_undone : undo (Came place former gap) pushed_shelf ≡ s
   push_undone =
-      let less : shown + 1 - 1 ≡ shown = omega arith in
-      let w = p.within in
-      let same : put_back former place (swap (swap filled gap (shown + 1 - 1)) (shown + 1 - 1) place) ≡ es =
-      ap (λ k. put_back former place (swap (swap filled gap k) k place)) less ∙ ap (λ l. put_back former place (swap l shown place)) (swap_twice brought gap shown (omega (arith, low, long)) long)
-      ∙ ap (put_back former place) (swap_twice put shown place (omega (arith, w, after)) w) ∙ p.back in
+      let less : s.shown + 1 - 1 ≡ s.shown = omega arith in
+      let w = c.stands.within in
+      let same : put_back former place (swap (swap filled gap (s.shown + 1 - 1)) (s.shown + 1 - 1) place) ≡ s.entries =
+      ap (λ k. put_back former place (swap (swap filled gap k) k place)) less ∙ ap (λ l. put_back former place (swap l s.shown place)) (swap_twice brought gap s.shown (omega (arith, low, long)) long)
+      ∙ ap (put_back former place) (swap_twice put s.shown place (let a = c.behind in omega (arith, w, a)) w) ∙ c.stands.back in
       λ i. record { entries = same i; shown = less i }
 
-  pub push_undoable : IsUndoable (Came place former gap) (record { entries = filled; shown = shown + 1 })
+  push_undoable : IsUndoable (Came place former gap) pushed_shelf
   push_undoable =
-      let n = length-swap put shown place in
-      let m = length-swap brought gap shown in
-      let w = p.within in
-      (omega (arith, low), omega (arith, after), omega (arith, n, m, w), λ none. p.last none ∙ sym n ∙ sym m)
+      let n = length-swap put s.shown place in
+      let m = length-swap brought gap s.shown in
+      let w = c.stands.within in
+      let a = c.behind in
+      (omega (arith, low), omega (arith, a), omega (arith, n, m, w), λ none. c.stands.last none ∙ sym n ∙ sym m)
+
+  pub pushed : (steps : List Step) → AreUndoable steps s
+      → IsNoted s pushed_shelf steps (steps ++ Came place former gap ∷ [])
+      × (take (s.shown + 1) filled ≡ swap (listed s ++ (name, id) ∷ []) gap s.shown)
+  pushed steps ready =
+      let n = length-swap put s.shown place in
+      let m = length-swap brought gap s.shown in
+      let w = c.stands.within in
+      let a = c.behind in (
+        record {
+          within = omega (arith, n, m, w, a);
+          ready = noted_ready steps (Came place former gap) s pushed_shelf push_undone push_undoable ready;
+          former = noted steps (Came place former gap) s pushed_shelf push_undone;
+        },
+        push_listed,
+      )
 
 -- ---- a name goes
 
@@ -163,38 +200,6 @@ no_steps xs s e = ap (λ l. undone l s) e
 
 pub no_steps_listed : (xs : List Step) (s : Shelf) → xs ≡ [] → listed (undone xs s) ≡ listed s
 no_steps_listed xs s e = ap listed (no_steps xs s e)
-
--- ---- a change, with its step noted
-
--- from the old shelf to the new one, whose first steps are the old ones
-pub record IsNoted (old new : Shelf) (steps more : List Step) : Type 0 where
-  pub within : new.shown ≤ length new.entries
-  pub ready : AreUndoable more new
-  pub former : undone more new ≡ undone steps old
-
-pub pushed : (es put new : Named) (shown : ℕ) (name : List ℕ) (id place : ℕ) (former : Option ℕ) (gap : ℕ)
-    (steps more : List Step)
-    → put ≡ insert_entry same_name es name id → place ≡ position_or_len (same_name name) (names es)
-    → former ≡ lookup (same_name name) es
-    → shown ≤ length es → lookup (same_name name) (take shown es) ≡ None → gap ≤ shown
-    → new ≡ swap (swap put shown place) gap shown → AreUndoable steps (record { entries = es; shown = shown })
-    → more ≡ steps ++ Came place former gap ∷ []
-    → IsNoted (record { entries = es; shown = shown }) (record { entries = new; shown = shown + 1 }) steps more × (take (shown + 1) new ≡ swap (take shown es ++ (name, id) ∷ []) gap shown)
-pushed es put new shown name id place former gap steps more e i o within free low moved ready noting =
-    let p = put_at es put name id place former e i o in
-    let after : shown ≤ place = subst (λ k. shown ≤ k) (sym i) (place_after es name shown within free) in
-    let back = push_undone es put shown name id place former p within after gap low in
-    let n = length-swap put shown place in
-    let m = length-swap (swap put shown place) gap shown in
-    let w = p.within in
-    rw (moved, noting) (
-      record {
-        within = omega (arith, n, m, w, after);
-        ready = noted_ready steps (Came place former gap) (record { entries = es; shown = shown }) (record { entries = swap (swap put shown place) gap shown; shown = shown + 1 }) back (push_undoable es put shown name id place former p within after gap low) ready;
-        former = noted steps (Came place former gap) (record { entries = es; shown = shown }) (record { entries = swap (swap put shown place) gap shown; shown = shown + 1 }) back;
-      },
-      push_listed es put shown name id place former p within after gap low,
-    )
 
 pub taken_out : (es new : Named) (shown i : ℕ) (name : List ℕ) (c : ℕ) (steps more : List Step)
     → shown ≤ length es → slice_get (take shown es) i ≡ Some (name, c) → new ≡ swap es i (shown - 1)

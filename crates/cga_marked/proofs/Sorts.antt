@@ -49,11 +49,8 @@ module _ {E : Type 0} (sort : E → Sort) (test : Sort → Bool) (none : test Ot
   -- and what is made of it is right after it
   pub sorted_from : (old now : List (Option E)) (id : ℕ) → ((c : ℕ) → c ≢ id → slot now c ≡ slot old c)
       → (was is : Sort) → was ≡ sort_of sort (slot old id) → is ≡ sort_of sort (slot now id)
-      → (n : ℕ) → n ≡ sorted test sort old → (m : ℕ) (a b : Bool) → a ≡ test was → b ≡ test is
-      → m + cond a 1 0 ≡ n + cond b 1 0 → m ≡ sorted test sort now
-  sorted_from old now id others was is before after n right m a b out in_ made =
+      → (n : ℕ) → n ≡ sorted test sort old → (m : ℕ) → m + cond (test was) 1 0 ≡ n + cond (test is) 1 0
+      → m ≡ sorted test sort now
+  sorted_from old now id others was is before after n right m made =
       let r = recount old now id others was is before after n right in
-      let one : Bool → ℕ = λ t. cond t 1 0 in
-      let x : one a ≡ one (test was) = ap one out in
-      let y : one b ≡ one (test is) = ap one in_ in
-      omega (arith, r.1, made, x, y)
+      omega (arith, r.1, made)

@@ -15,16 +15,16 @@ unfolding instances_text
 instances_none mesh decimals before = refl
 
 -- one instance more, then those that are left
-pub one_more : (mesh : Shown) (decimals before n : ℕ) (xs : List Drawn) (i : ℕ) (d : Drawn) (old new all : List ℕ)
+pub one_more : (mesh : Shown) (decimals before n : ℕ) (xs : List Drawn) (i : ℕ) (d : Drawn) (old new : List ℕ)
     → i < length xs → get_or xs i d ≡ d
     → n ≡ vertex_count mesh d → new ≡ old ++ instance_text mesh decimals before d
-    → old ++ instances_text mesh decimals before (drop i xs) ≡ all
-    → new ++ instances_text mesh decimals (before + n) (drop (i + 1) xs) ≡ all
-one_more mesh decimals before n xs i d old new all h at k e f =
+    → new ++ instances_text mesh decimals (before + n) (drop (i + 1) xs)
+    ≡ old ++ instances_text mesh decimals before (drop i xs)
+one_more mesh decimals before n xs i d old new h at k e =
     let left : old ++ instances_text mesh decimals before (drop i xs) ≡ old ++ instances_text mesh decimals before (d ∷ drop (i + 1) xs) =
     at_drop_more (λ (r : List Drawn). old ++ instances_text mesh decimals before r) xs i d h ∙ ap (λ (m : Drawn). old ++ instances_text mesh decimals before (m ∷ drop (i + 1) xs)) at in
     rw (e, k) (append_assoc old (instance_text mesh decimals before d) (instances_text mesh decimals (before + vertex_count mesh d) (drop (i + 1) xs))
-    ∙ ap (λ (t : List ℕ). old ++ t) (sym (instances_cons mesh decimals before d (drop (i + 1) xs))) ∙ sym left ∙ f)
+    ∙ ap (λ (t : List ℕ). old ++ t) (sym (instances_cons mesh decimals before d (drop (i + 1) xs))) ∙ sym left)
 
 -- none is left
 pub no_more : (mesh : Shown) (decimals before : ℕ) (xs : List Drawn) (i : ℕ) (old all : List ℕ) → length xs ≤ i

@@ -66,37 +66,37 @@ texts_same mesh decimals before [] xs ys h = refl
 texts_same mesh decimals before (l ∷ ls) xs ys h =
     rw h.0 (ap (λ (t : List ℕ). lot_text mesh decimals before l (drawn_of l ys) ++ t) (texts_same mesh decimals (before + vertices_in mesh (drawn_of l ys)) ls xs ys h.1))
 
--- the first n are those of the first lot, and the others stand by the order of the other lots
-pub record FirstRun (lot : List ℕ) (lots : List (List ℕ)) (drawn : List Drawn) (n : ℕ) : Type 0 where
-  pub own : take n drawn ≡ drawn_of lot drawn
-  pub order : StandsBy lots (drop n drawn)
+-- own are those of the first lot, which stand first, and those that are left stand by the order of the other lots
+pub record FirstRun (lot : List ℕ) (lots : List (List ℕ)) (drawn own left : List Drawn) : Type 0 where
+  pub own_are : own ≡ drawn_of lot drawn
+  pub order : StandsBy lots left
   pub distinct : IsDistinct bytes_eq lots
   pub texts : (mesh : Shown) (decimals before : ℕ)
-      → lots_text mesh decimals drawn before lots ≡ lots_text mesh decimals (drop n drawn) before lots
+      → lots_text mesh decimals drawn before lots ≡ lots_text mesh decimals left before lots
 
 run_at : (lot : List ℕ) (lots : List (List ℕ)) (own rest : List Drawn)
     → AllByRecursion (λ y. bytes_eq lot y ≡ false) lots → IsDistinct bytes_eq lots
-    → AllByRecursion (λ d. d.lot ≡ lot) own → StandsBy lots rest → FirstRun lot lots (own ++ rest) (length own)
+    → AllByRecursion (λ d. d.lot ≡ lot) own → StandsBy lots rest → FirstRun lot lots (own ++ rest) own rest
 run_at lot lots own rest a distinct h stands =
     let passed : drawn_of lot (own ++ rest) ≡ own = filter-append (is_of lot) own rest ∙ ap (λ (t : List Drawn). t ++ drawn_of lot rest) (filter_all (is_of lot) own (own_pass lot own h))
     ∙ ap (λ (t : List Drawn). own ++ t) (filter_none (is_of lot) rest (rest_fail lot lots rest a stands)) ∙ append-nil own in
-    let left : drop (length own) (own ++ rest) ≡ rest = drop_at own rest (length own) refl in
     record {
-      own = take_at own rest (length own) refl ∙ sym passed;
-      order = rw left stands;
+      own_are = sym passed;
+      order = stands;
       distinct = distinct;
-      texts = λ mesh decimals before. rw left (texts_same mesh decimals before lots (own ++ rest) rest (others_same lot lots own rest a h));
+      texts = λ mesh decimals before. texts_same mesh decimals before lots (own ++ rest) rest (others_same lot lots own rest a h);
     }
 
 pub first_run : (lot : List ℕ) (lots : List (List ℕ)) (drawn : List Drawn) (n : ℕ) → IsDistinct bytes_eq (lot ∷ lots)
-    → StandsBy (lot ∷ lots) drawn → n ≡ prefix_len (is_of lot) drawn → FirstRun lot lots drawn n
+    → StandsBy (lot ∷ lots) drawn → n ≡ prefix_len (is_of lot) drawn
+    → FirstRun lot lots drawn (take n drawn) (drop n drawn)
 unfolding IsDistinct
 first_run lot lots drawn n distinct (own, rest, e, all, stands) k =
     let h : AllByRecursion (λ (d : Drawn). d.lot ≡ lot) own = recursion_from_All _ own all in
     let m : n ≡ length own = k ∙ ap (prefix_len (is_of lot)) e ∙ prefix_run (is_of lot) own rest (own_pass lot own h) (rest_fail lot lots rest distinct.0 stands) in
-    rw (m, e) (run_at lot lots own rest distinct.0 distinct.1 h stands)
+    rw (m, e, take_at own rest (length own) refl, drop_at own rest (length own) refl) (run_at lot lots own rest distinct.0 distinct.1 h stands)
 
-drop_first : (lots : List (List ℕ)) (i : ℕ) (lot : List ℕ) → i < length lots → get_or lots i lot ≡ lot
+pub drop_first : (lots : List (List ℕ)) (i : ℕ) (lot : List ℕ) → i < length lots → get_or lots i lot ≡ lot
     → drop i lots ≡ lot ∷ drop (i + 1) lots
 drop_first lots i lot h at = drop_more lots i lot h ∙ ap (λ (l : List ℕ). l ∷ drop (i + 1) lots) at
 
@@ -104,7 +104,7 @@ drop_first lots i lot h at = drop_more lots i lot h ∙ ap (λ (l : List ℕ). l
 pub run_from : (lots : List (List ℕ)) (i : ℕ) (lot : List ℕ) (rest : List Drawn) (n : ℕ) → i < length lots
     → get_or lots i lot ≡ lot
     → IsDistinct bytes_eq (drop i lots) → StandsBy (drop i lots) rest → n ≡ prefix_len (is_of lot) rest
-    → FirstRun lot (drop (i + 1) lots) rest n
+    → FirstRun lot (drop (i + 1) lots) rest (take n rest) (drop n rest)
 run_from lots i lot rest n h at distinct stands k =
     let e : drop i lots ≡ lot ∷ drop (i + 1) lots = drop_first lots i lot h at in
     first_run lot (drop (i + 1) lots) rest n (subst (IsDistinct bytes_eq) e distinct) (subst (λ (l : List (List ℕ)). StandsBy l rest) e stands) k
@@ -120,20 +120,17 @@ unfolding lots_text
 lots_none mesh decimals before drawn = refl
 
 -- one lot more, then those that are left
-pub one_lot : (mesh : Shown) (decimals before after : ℕ) (lots : List (List ℕ)) (i : ℕ) (lot : List ℕ)
-    (rest own left : List Drawn) (n : ℕ) (old new all : List ℕ)
-    → i < length lots → get_or lots i lot ≡ lot
-    → FirstRun lot (drop (i + 1) lots) rest n → own ≡ take n rest → left ≡ drop n rest
-    → after ≡ before + vertices_in mesh own → new ≡ old ++ lot_text mesh decimals before lot own
-    → old ++ lots_text mesh decimals rest before (drop i lots) ≡ all
-    → new ++ lots_text mesh decimals left after (drop (i + 1) lots) ≡ all
-one_lot mesh decimals before after lots i lot rest own left n old new all h at run o l a e f =
-    let mine : own ≡ drawn_of lot rest = o ∙ run.own in
-    let more : List (List ℕ) = drop (i + 1) lots in
-    let text : old ++ lots_text mesh decimals rest before (drop i lots) ≡ old ++ (lot_text mesh decimals before lot (drawn_of lot rest) ++ lots_text mesh decimals rest (before + vertices_in mesh (drawn_of lot rest)) more) =
-    ap (λ (t : List (List ℕ)). old ++ lots_text mesh decimals rest before t) (drop_first lots i lot h at) ∙ ap (λ (t : List ℕ). old ++ t) (lots_cons mesh decimals before rest lot more) in
-    rw (e, a, mine, l) (append_assoc old (lot_text mesh decimals before lot (drawn_of lot rest)) (lots_text mesh decimals (drop n rest) (before + vertices_in mesh (drawn_of lot rest)) more)
-    ∙ ap (λ (t : List ℕ). old ++ (lot_text mesh decimals before lot (drawn_of lot rest) ++ t)) (sym (run.texts mesh decimals (before + vertices_in mesh (drawn_of lot rest)))) ∙ sym text ∙ f)
+pub one_lot : (mesh : Shown) (decimals before : ℕ) (these : List (List ℕ)) (lot : List ℕ) (lots : List (List ℕ))
+    (rest own left : List Drawn) (old new : List ℕ)
+    → these ≡ lot ∷ lots → FirstRun lot lots rest own left → new ≡ old ++ lot_text mesh decimals before lot own
+    → new ++ lots_text mesh decimals left (before + vertices_in mesh own) lots
+    ≡ old ++ lots_text mesh decimals rest before these
+one_lot mesh decimals before these lot lots rest own left old new is run e =
+    let first = lot_text mesh decimals before lot (drawn_of lot rest) in
+    let after = before + vertices_in mesh (drawn_of lot rest) in
+    rw (e, is, run.own_are) (append_assoc old first (lots_text mesh decimals left after lots)
+    ∙ ap (λ (t : List ℕ). old ++ (first ++ t)) (sym (run.texts mesh decimals after))
+    ∙ ap (λ (t : List ℕ). old ++ t) (sym (lots_cons mesh decimals before rest lot lots)))
 
 -- no lot is left
 pub no_lot : (mesh : Shown) (decimals before : ℕ) (lots : List (List ℕ)) (i : ℕ) (rest : List Drawn) (old all : List ℕ)

@@ -2,7 +2,6 @@
 use Rattle.std.proofs.Common.{◌≡◌, ℕ, ◌||◌, ◌&&◌, List, ◌∷◌, ◌++◌, Bool, true, false, nat_le, refl, codes, if◌then◌else◌}
 use Rattle.cga_lexer.specs.declared.sign.Sign.TheVariants as s
 use Rattle.cga_syntax.specs.declared.lexeme.Lexeme.{Lexeme}
-use Rattle.cga_syntax.specs.declared.lexeme.Lexeme.TheVariants as lexeme
 use Rattle.cga_rule.specs.declared.grammar.Attribute.{Attribute}
 use Rattle.cga_rule.specs.declared.rule.Rule.{Rule}
 use Rattle.cga_syntax.specs.declared.print.space.Space.TheVariants.{Usual}

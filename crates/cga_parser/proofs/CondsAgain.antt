@@ -157,13 +157,20 @@ module _ (n : ℕ) (inner : Reader Cond) (h : AgainInner n inner) (r : IsInner n
       written_as (compare_layer left o right ∙ ap (λ z. z ++ end) (sum_layer n inner r a fs ts) ∙ ap (λ z. keyword k.Scope ∷ sign s.Dot ∷ word (scope_bytes (scope_word.Size a)) ∷ z) (append_assoc (concat (map scaled_pieces fs)) (concat (map added_pieces ts)) end))
       (peek_no _ (missed (begun_token refl)) (peek_no _ (missed (begun_token refl)) (peek_yes _ (starts_token refl)
       (took (a_keyword k.Scope) tt refl (took (a_sign s.Dot) tt refl (took a_scope_word (scope_word.Size a) (size_read a)
-      (all_of _ g.is_scaling fs (scaled_again n (g.inside_of n) (inside_again n) (inside_reads n)) scaled_starts (λ z. begun_nothing)
+      (all_of _ g.is_scaling fs (record { again = scaled_again n (g.inside_of n) (inside_again n) (inside_reads n); starting = scaled_starts; apart = λ z. begun_nothing })
       (turned scaled_pieces n g.is_scaling (g.scaled n (g.inside_of n)) scaled_long (scaled_reads n (g.inside_of n) (inside_reads n)))
-      misses_nothing (misses_each ts added_begun (missed (begun_token (no_scaling (lexeme.Sign (relation_sign o)) (relation_stops o)))))
-      (all_of _ g.is_addition ts (added_again n (g.inside_of n) (inside_again n) (inside_reads n)) added_starts added_begun
-      (turned added_pieces n g.is_addition (g.added n (g.inside_of n)) added_long (added_reads n (g.inside_of n) (inside_reads n)))
-      (missed (begun_token (no_scaling (lexeme.Sign (relation_sign o)) (relation_stops o)))) (missed (begun_token (no_addition (lexeme.Sign (relation_sign o)) (relation_stops o))))
-      (compare_again left o right)))))))))
+      (record {
+        no_more = misses_nothing;
+        no_member = misses_each ts added_begun (missed (begun_token (no_scaling (lexeme.Sign (relation_sign o)) (relation_stops o))));
+        leads =
+            all_of _ g.is_addition ts (record { again = added_again n (g.inside_of n) (inside_again n) (inside_reads n); starting = added_starts; apart = added_begun })
+            (turned added_pieces n g.is_addition (g.added n (g.inside_of n)) added_long (added_reads n (g.inside_of n) (inside_reads n)))
+            (record {
+              no_more = missed (begun_token (no_scaling (lexeme.Sign (relation_sign o)) (relation_stops o)));
+              no_member = missed (begun_token (no_addition (lexeme.Sign (relation_sign o)) (relation_stops o)));
+              leads = compare_again left o right;
+            });
+      }))))))))
 
   -- one that doesn't
   other_again : (left : Expr) (o : Relation) (right : Expr) → Begun (is_keyword k.Scope) (expr_pieces left)
@@ -218,8 +225,9 @@ module _ (n : ℕ) (inner : Reader Cond) (h : AgainInner n inner) (r : IsInner n
   conj_at (a ∷ more) =
       let stop : (l : Lexeme) → with_and l ≡ false → goes_on l ≡ false = λ l e. (neither (goes_on l) (is_keyword k.And l) e).0 in
       written_as (conj_layer a more) (after _ a test_again (misses_each more (λ z. begun_token refl) (misses_end stop))
-      (all_of _ (is_keyword k.And) more further_test_again (λ z. starts_token refl) (λ z. begun_token refl) (turned further_test_pieces n (is_keyword k.And) (g.further_test n inner) (further_test_long n inner r) (further_test_reads n inner r))
-      (misses_end stop) (misses_end (λ l e. (neither (goes_on l) (is_keyword k.And l) e).1)) ends))
+      (all_of _ (is_keyword k.And) more (record { again = further_test_again; starting = λ z. starts_token refl; apart = λ z. begun_token refl })
+      (turned further_test_pieces n (is_keyword k.And) (g.further_test n inner) (further_test_long n inner r) (further_test_reads n inner r))
+      (record { no_more = misses_end stop; no_member = misses_end (λ l e. (neither (goes_on l) (is_keyword k.And l) e).1); leads = ends })))
 
   conj_again : Again conj_pieces with_and (g.conj n inner)
   conj_again = record { all = λ c. subst (λ z. Leads with_and (conj_pieces z) (g.conj n inner) z) (roll-out-Conj c) (conj_at (out-Conj c).tests) }
@@ -236,8 +244,9 @@ module _ (n : ℕ) (inner : Reader Cond) (h : AgainInner n inner) (r : IsInner n
   cond_at (a ∷ more) =
       let stop : (l : Lexeme) → with_or l ≡ false → with_and l ≡ false = λ l e. (neither (with_and l) (is_keyword k.Or l) e).0 in
       written_as (cond_layer a more) (after _ a conj_again (misses_each more (λ z. begun_token refl) (misses_end stop))
-      (all_of _ (is_keyword k.Or) more further_conj_again (λ z. starts_token refl) (λ z. begun_token refl) (turned further_conj_pieces n (is_keyword k.Or) (g.further_conj n inner) (further_conj_long n inner r) (further_conj_reads n inner r))
-      (misses_end stop) (misses_end (λ l e. (neither (with_and l) (is_keyword k.Or l) e).1)) ends))
+      (all_of _ (is_keyword k.Or) more (record { again = further_conj_again; starting = λ z. starts_token refl; apart = λ z. begun_token refl })
+      (turned further_conj_pieces n (is_keyword k.Or) (g.further_conj n inner) (further_conj_long n inner r) (further_conj_reads n inner r))
+      (record { no_more = misses_end stop; no_member = misses_end (λ l e. (neither (with_and l) (is_keyword k.Or l) e).1); leads = ends })))
 
   pub layer_again : Again cond_pieces with_or (g.cond_layer n inner)
   layer_again = record { all = λ c. subst (λ z. Leads with_or (cond_pieces z) (g.cond_layer n inner) z) (roll-out-Cond c) (cond_at (out-Cond c).conjs) }

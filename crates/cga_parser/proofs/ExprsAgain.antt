@@ -210,8 +210,9 @@ module _ (n : ℕ) (inside : Reader Expr) (h : AgainInside n inside) (r : IsInsi
       → Leads g.is_scaling (concat (map scaled_pieces rest)) (g.term_after n inside f)
       (roll-Term (record { first = f; rest = rest }))
   term_rest f rest =
-      plainly (all_of _ g.is_scaling rest scaled_again scaled_starts (λ a. begun_nothing) (turned scaled_pieces n g.is_scaling (g.scaled n inside) scaled_long (scaled_reads n inside r))
-      misses_nothing (misses_end (λ l e. e)) ends)
+      plainly (all_of _ g.is_scaling rest (record { again = scaled_again; starting = scaled_starts; apart = λ a. begun_nothing })
+      (turned scaled_pieces n g.is_scaling (g.scaled n inside) scaled_long (scaled_reads n inside r))
+      (record { no_more = misses_nothing; no_member = misses_end (λ l e. e); leads = ends }))
 
   term_at : (f : Factor) (rest : List Scaled)
       → Leads g.is_scaling (term_pieces (roll-Term (record { first = f; rest = rest }))) (g.term n inside)
@@ -236,8 +237,9 @@ module _ (n : ℕ) (inside : Reader Expr) (h : AgainInside n inside) (r : IsInsi
       → Leads goes_on (concat (map added_pieces rest) ++ []) (g.expr_after n inside t)
       (roll-Expr (record { first = t; rest = rest }))
   expr_rest t rest =
-      all_of _ g.is_addition rest added_again added_starts added_begun (turned added_pieces n g.is_addition (g.added n inside) added_long (added_reads n inside r))
-      (misses_end no_scaling) (misses_end no_addition) ends
+      all_of _ g.is_addition rest (record { again = added_again; starting = added_starts; apart = added_begun })
+      (turned added_pieces n g.is_addition (g.added n inside) added_long (added_reads n inside r))
+      (record { no_more = misses_end no_scaling; no_member = misses_end no_addition; leads = ends })
 
   expr_at : (t : Term) (rest : List Added)
       → Leads goes_on (expr_pieces (roll-Expr (record { first = t; rest = rest }))) (g.expr_layer n inside)

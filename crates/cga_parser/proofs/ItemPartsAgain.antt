@@ -152,9 +152,9 @@ module _ (n : ℕ) (inside : Reader Expr) (h : AgainInside n inside) (r : IsInsi
       written_as (ap (λ z. sign s.LeftRound ∷ text (axis_text a) ∷ z) (preceded_is (sign s.Comma) size_pieces x more (sign s.RightRound ∷ [])))
       (entered (a_sign s.LeftRound) n refl (λ m e. took an_axis a (axis_read a)
       (after {v = further_size_pieces} _ x (further_size_again m e) (misses_each more (λ z. begun_token refl) (missed (begun_token refl)))
-      (all_of _ (is_sign s.Comma) more (further_size_again m e) (λ z. starts_token refl) (λ z. begun_token refl)
+      (all_of _ (is_sign s.Comma) more (record { again = further_size_again m e; starting = λ z. starts_token refl; apart = λ z. begun_token refl })
       (unrolled further_size_pieces m (is_sign s.Comma) (g.further_size n inside) further_size_long (further_size_reads n m inside (r m e)))
-      (missed (begun_token refl)) (missed (begun_token refl)) (took (a_sign s.RightRound) tt refl ends)))))
+      (record { no_more = missed (begun_token refl); no_member = missed (begun_token refl); leads = took (a_sign s.RightRound) tt refl ends })))))
 
   pub split_again : Again split_pieces nothing (g.split_parts n inside)
   split_again = record { all = λ p. split_at p.0 p.1 }
@@ -177,7 +177,8 @@ module _ (n : ℕ) (inside : Reader Expr) (h : AgainInside n inside) (r : IsInsi
   some_arguments_at x more =
       written_as (ap (λ z. sign s.LeftRound ∷ (expr_pieces x ++ (z ++ (sign s.RightRound ∷ [])))) (at_most_is 3 (sign s.Comma) expr_pieces more))
       (entered (a_sign s.LeftRound) n refl (λ m e. after _ x (h m e) (few_misses further_argument_pieces (sign s.RightRound ∷ []) 3 more (misses_each more (λ z. begun_token refl) (missed (begun_token refl))))
-      (few_of further_argument_pieces (sign s.RightRound ∷ []) _ (is_sign s.Comma) 3 more (further_argument_again m e) (λ z. starts_token refl) (λ z. begun_token refl) (missed (begun_token refl)) (missed (begun_token refl)) (took (a_sign s.RightRound) tt refl ends))))
+      (few_of further_argument_pieces (sign s.RightRound ∷ []) _ (is_sign s.Comma) 3 more (record { again = further_argument_again m e; starting = λ z. starts_token refl; apart = λ z. begun_token refl })
+      (record { no_more = missed (begun_token refl); no_member = missed (begun_token refl); leads = took (a_sign s.RightRound) tt refl ends }))))
 
   arguments_at : (es : List Expr) → Leads with_bracket (arguments_pieces es) (g.arguments n inside) es
   unfolding g.arguments

@@ -66,7 +66,8 @@ module _ (m : ℕ) (p : Reader Item) (h : Again item_pieces with_bracket p) (r :
       → Leads with_item (item_pieces a ++ (concat (map item_pieces more) ++ [])) (g.items_by p) (a ∷ more)
   items_rest a more =
       after _ a h (misses_each more (item_begun bracket_spares) (misses_end stops_bracket))
-      (all_of _ g.begins_item more h item_starts (item_begun bracket_spares) (unrolled item_pieces m g.begins_item p item_long r) (misses_end stops_bracket) (misses_end stops_item) ends)
+      (all_of _ g.begins_item more (record { again = h; starting = item_starts; apart = item_begun bracket_spares }) (unrolled item_pieces m g.begins_item p item_long r)
+      (record { no_more = misses_end stops_bracket; no_member = misses_end stops_item; leads = ends }))
 
   items_at : (is : List Item) → Leads with_item (some_pieces is) (g.items_by p) is
   items_at [] = never_leads
@@ -117,9 +118,9 @@ module _ (n : ℕ) (inside : Reader Expr) (h : AgainInside n inside) (r : IsInsi
   braced_bodies_of is more =
       written_as (ap (λ z. sign s.LeftCurly ∷ z) (separated_is (sign s.Bar) body_pieces (roll-Body (record { items = is })) more (sign s.RightCurly ∷ [])) ∙ ap (λ z. sign s.LeftCurly ∷ (z ++ (concat (map further_body_pieces more) ++ (sign s.RightCurly ∷ [])))) (body_layer is))
       (entered (a_sign s.LeftCurly) n refl (λ m e. after _ is (body_again m inner (hi m e) (ri m e)) (misses_each more (λ z. begun_token refl) (missed (begun_token refl)))
-      (all_of _ (is_sign s.Bar) more (further_body_again m e) (λ z. starts_token refl) (λ z. begun_token refl)
+      (all_of _ (is_sign s.Bar) more (record { again = further_body_again m e; starting = λ z. starts_token refl; apart = λ z. begun_token refl })
       (unrolled further_body_pieces m (is_sign s.Bar) (g.further_body n inside inner) further_body_long (further_body_reads n m inside inner (ri m e)))
-      (missed (begun_token refl)) (missed (begun_token refl)) (took (a_sign s.RightCurly) tt refl ends))))
+      (record { no_more = missed (begun_token refl); no_member = missed (begun_token refl); leads = took (a_sign s.RightCurly) tt refl ends }))))
 
   braced_bodies_at : (bs : List Body) → Leads nothing (braced_bodies_pieces bs) (g.braced_bodies n inside inner) bs
   unfolding g.braced_bodies

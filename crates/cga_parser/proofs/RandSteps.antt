@@ -4,7 +4,6 @@ use Rattle.cga_lexer.specs.declared.sign.Sign.TheVariants as s
 use Rattle.cga_syntax.specs.Limits.{most_steps}
 use Rattle.cga_form.specs.declared.fault.Fault.{Fault}
 use Rattle.cga_fraction.specs.declared.stop.Stop.{Stop}
-use Rattle.cga_fraction.specs.declared.stop.Stop.TheVariants as stop
 use Rattle.cga_form.specs.Reader.{Input, Reader, ReadResult, ◌>>=◌, ◌>>◌, and_then, pure, single}
 use Rattle.cga_form.specs.Cursor.{Fails}
 use Rattle.cga_form.specs.Tokens.{a_whole}

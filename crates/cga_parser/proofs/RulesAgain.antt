@@ -44,7 +44,8 @@ unfolding g.some_parameters
 some_parameters_at n x more =
     written_as (ap (λ z. sign s.LeftRound ∷ (name_pieces x ++ (z ++ (sign s.RightRound ∷ [])))) (at_most_is 3 (sign s.Comma) name_pieces more))
     (entered (a_sign s.LeftRound) n refl (λ m e. by_name x (λ q. took a_name x (name_read x q)
-    (few_of further_name_pieces (sign s.RightRound ∷ []) _ (is_sign s.Comma) 3 more further_name_again (λ z. starts_token refl) (λ z. begun_nothing) misses_nothing (missed (begun_token refl)) (took (a_sign s.RightRound) tt refl ends)))))
+    (few_of further_name_pieces (sign s.RightRound ∷ []) _ (is_sign s.Comma) 3 more (record { again = further_name_again; starting = λ z. starts_token refl; apart = λ z. begun_nothing })
+    (record { no_more = misses_nothing; no_member = missed (begun_token refl); leads = took (a_sign s.RightRound) tt refl ends })))))
 
 parameters_at : (n : ℕ) (ps : List (List ℕ)) → Leads with_bracket (parameters_pieces ps) (g.parameters n) ps
 unfolding g.parameters
@@ -147,8 +148,9 @@ rule_of n id name ps c a more =
     (after {v = parameters_pieces} _ ps (parameters_again n) (condition_begun refl refl c a _)
     (after {v = condition_pieces} _ c (condition_again n) (missed (begun_append _ (alternative_begun refl a)))
     (after _ a (alternative_again n) (misses_each more (alternative_begun refl) (misses_end stop))
-    (all_of _ (is_sign s.Arrow) more (alternative_again n) alternative_starts (alternative_begun refl) (unrolled alternative_pieces n (is_sign s.Arrow) (g.alternative n) alternative_long (alternative_reads n))
-    (misses_end stop) (misses_end (λ l e. (neither (with_more l) (is_sign s.Arrow l) e).1)) ends)))))))))
+    (all_of _ (is_sign s.Arrow) more (record { again = alternative_again n; starting = alternative_starts; apart = alternative_begun refl })
+    (unrolled alternative_pieces n (is_sign s.Arrow) (g.alternative n) alternative_long (alternative_reads n))
+    (record { no_more = misses_end stop; no_member = misses_end (λ l e. (neither (with_more l) (is_sign s.Arrow l) e).1); leads = ends }))))))))))
 
 -- a rule without one isn't written
 rule_none : (id : ℕ) (name : List ℕ) (ps : List (List ℕ)) (c : Option Cond) (n : ℕ) (x : List Lexeme) (d : ℕ)

@@ -14,6 +14,8 @@ pub use Rattle.cga_rework.proofs.More.{none_over, over_none, unchanged}
 pub use Rattle.cga_rework.proofs.NodeLists.{keeps-node}
 -- Where the nodes of a kept tree stand
 pub use Rattle.cga_rework.proofs.Place.{child_is, child_rank, keeps, parent_of, rank, same_node}
+-- Where no node is on the agenda, nothing is queued
+pub use Rattle.cga_rework.proofs.Queue.{empty_is_none}
 -- A derivation is that of a run over ranked shapes
 pub use Rattle.cga_rework.proofs.Runs.{Has-unranked, unranked-Has}
 -- What an edit starts from stands for the old derivation
@@ -23,6 +25,6 @@ pub use Rattle.cga_rework.proofs.StandsAgain.{stands_again}
 -- The list of a view, and what a walk of it tells
 pub use Rattle.cga_rework.proofs.Views.{lists_are_views}
 -- A turn of a kept tree is a turn of the work of an edit
-pub use Rattle.cga_rework.proofs.Whole.{empty_is_none, node_turns, quiet_turns}
+pub use Rattle.cga_rework.proofs.Whole.{node_turns, quiet_turns}
 -- Rules make worlds and edits over ranked shapes
 pub use Rattle.cga_rework.proofs.Worlds.{is_world, make}

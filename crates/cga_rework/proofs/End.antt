@@ -17,9 +17,10 @@ use Rattle.cga_agenda.specs.Work.{IsWorking, IsStart}
 use Rattle.cga_agenda.specs.Record.{Drawn, drawn, IsRecord}
 use Rattle.cga_agenda.specs.Known.{shapes_of, IsKnown}
 use Rattle.cga_rework.proofs.Lists.{Among-map, map-Among, Once-map, count-map, drawn-unranked}
-use Rattle.cga_derivation.specs.Derivation.{IsDerivation, reached, derive, NothingWaits, IsDerived}
+use Rattle.cga_derivation.specs.Derivation.{IsDerivation, reached, derive, NothingWaits}
 use Rattle.cga_rework.specs.Rules.{Shapes, Rules, IsRulesEdit, derivation_of}
 use Rattle.cga_rework.specs.Touched.{Kept, SameInputs, Touched}
+use Rattle.cga_rework.specs.Laws.{ReworkIsExact}
 use Rattle.cga_rework.specs.Exact.{IsBelow, IsExactWork, IsExactRework}
 use Rattle.cga_rework.proofs.Worlds.{is_world, make, root_ranked, shape_of}
 use Rattle.cga_rework.proofs.Runs.{RankedRun, ranked_run, unranked-Has, Has-unranked}
@@ -223,15 +224,10 @@ module _ {S A B F P : Type 0} (shapes : Shapes S) where
             balance = balance;
           }
 
-    pub rework : (start now : Nodes) (queued : Ranked S → Bool) (turned worked : List (Ranked S))
-        (gone come : List (Drawn (Ranked S) P))
-        → IsStart edit start → Once (shapes_of (members_of start)) → IsWorking edit start now queued turned worked
-        → Once (shapes_of (members_of now)) → IsRecord edit start now worked gone come
-        → ((n : Ranked S) (k : Kind F P) (a : A) → Keeps now n k a → queued n ≡ false)
-        → (before after : List (Placed S F P)) → IsDerived (derivation_of shapes old) before
-        → IsDerived (derivation_of shapes new) after → IsExactRework shapes old new now worked gone come before after
-    rework start now queued turned worked gone come started start_once good now_once kept empty list other (i, e, was) (j, f, is) =
-        let settled_old = subst (NothingWaits (derivation_of shapes old)) e was in
-        let settled_new = subst (NothingWaits (derivation_of shapes new)) f is in
-        let all = end start started now queued turned worked good gone come kept empty start_once now_once i j settled_old settled_new (ranked_run shapes old laws.was i) (ranked_run shapes new laws.is j) in
-        subst (λ l. IsExactRework shapes old new now worked gone come l other) (sym e) (subst (IsExactRework shapes old new now worked gone come (reached (derivation_of shapes old) i)) (sym f) all)
+-- when nothing is on the agenda, the rework is exact
+pub rework : {S A B F P : Type 0} → ReworkIsExact S A B F P
+rework shapes old new laws start now queued turned worked gone come started start_once good now_once kept empty list other (i, e, was) (j, f, is) =
+    let settled_old = subst (NothingWaits (derivation_of shapes old)) e was in
+    let settled_new = subst (NothingWaits (derivation_of shapes new)) f is in
+    let all = end shapes old new laws start started now queued turned worked good gone come kept empty start_once now_once i j settled_old settled_new (ranked_run shapes old laws.was i) (ranked_run shapes new laws.is j) in
+    subst (λ l. IsExactRework shapes old new now worked gone come l other) (sym e) (subst (IsExactRework shapes old new now worked gone come (reached (derivation_of shapes old) i)) (sym f) all)

@@ -1,5 +1,5 @@
 -- A priority edit touches the child whose priority changes, and not its parent.
-use Rattle.std.proofs.Common.{◌≡◌, ℕ, zero, suc, [], ◌∷◌, ◌++◌, take, length, true, false, refl, sym, ap, subst, inl, inr, Option, Some, None, arith}
+use Rattle.std.proofs.Common.{◌≡◌, ℕ, zero, suc, [], ◌∷◌, ◌++◌, take, length, true, false, refl, sym, ap, subst, inl, inr, Some, arith}
 use Rattle.std.specs.Prelude.{slice_get}
 use Rattle.cga_order.specs.World.{Has}
 use Rattle.cga_order.specs.declared.placed.Placed.{Placed}

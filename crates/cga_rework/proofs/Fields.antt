@@ -20,23 +20,23 @@ use Rattle.cga_rework.proofs.Place.{keyed, earlier, later, same_node, keeps_as, 
 use Rattle.cga_rework.proofs.Replaced.{Replacing, IsComer, comer, where_from, below_before, both, child_priced, rank_old, rank_self, stayed, city_after}
 use Rattle.cga_rework.proofs.Went as went
 
--- the node that was taken is the next
-pub is_next : {X S A B F P : Type 0} (shapes : Shapes S) (content : Content X S A F P) (rules : Rules S A B F P)
-    (V : View X) (city : IsCity shapes content rules V) (small id : ℕ) (e : Seen X) (agenda rest : ℕ → Bool)
-    → IsTaken shapes content V id e agenda rest → (queued : Ranked S → Bool) → AreQueued shapes content V agenda queued
-    → IsNext (ranked_world shapes rules) (nodes_of content V small) (ranked_of content e.node) queued
-is_next shapes content rules V city small id e agenda rest taken queued are = record {
-  there = (are id e taken.here).1 taken.there;
-  first = λ m k a h q apart.
-      let w = ranked_world shapes rules in
-      let y = keeps-node content V small m k a h in
-      let other : y.0 ≢ id = λ i.
-      let d : y.1 ≡ e = some_same y.1 e (sym y.2 ∙ ap V i ∙ taken.here) in
-      apart (ap (place_of w) (sym y.3 ∙ ap (λ (z : Seen _). ranked_of content z.node) d)) in
-      let on = taken.stay y.0 y.1 y.2 ((are y.0 y.1 y.2).0 (ap queued y.3 ∙ q)) other in
-      subst (λ l. IsEarlier w (stamp_of w (ranked_of content e.node)) (stamp_of w l)) y.3
-      (earlier shapes content rules e.node y.1.node (keyed shapes content rules V city id e taken.here) (keyed shapes content rules V city y.0 y.1 y.2) (taken.left y.0 y.1 y.2 on).2);
-}
+module _ {X S A B F P : Type 0} (shapes : Shapes S) (content : Content X S A F P) (rules : Rules S A B F P) (V : View X) (city : IsCity shapes content rules V) where
+  -- the node that was taken is the next
+  pub is_next : (small id : ℕ) (e : Seen X) (agenda rest : ℕ → Bool) → IsTaken shapes content V id e agenda rest
+      → (queued : Ranked S → Bool) → AreQueued shapes content V agenda queued
+      → IsNext (ranked_world shapes rules) (nodes_of content V small) (ranked_of content e.node) queued
+  is_next small id e agenda rest taken queued are = record {
+    there = (are id e taken.here).1 taken.there;
+    first = λ m k a h q apart.
+        let w = ranked_world shapes rules in
+        let y = keeps-node content V small m k a h in
+        let other : y.0 ≢ id = λ i.
+        let d : y.1 ≡ e = some_same y.1 e (sym y.2 ∙ ap V i ∙ taken.here) in
+        apart (ap (place_of w) (sym y.3 ∙ ap (λ (z : Seen _). ranked_of content z.node) d)) in
+        let on = taken.stay y.0 y.1 y.2 ((are y.0 y.1 y.2).0 (ap queued y.3 ∙ q)) other in
+        subst (λ l. IsEarlier w (stamp_of w (ranked_of content e.node)) (stamp_of w l)) y.3
+        (earlier shapes content rules e.node y.1.node (keyed shapes content rules V city id e taken.here) (keyed shapes content rules V city y.0 y.1 y.2) (taken.left y.0 y.1 y.2 on).2);
+  }
 
 module _ {X S A B F P : Type 0} (shapes : Shapes S) (content : Content X S A F P) (old rules : Rules S A B F P) (laws : IsRulesEdit shapes old rules) (t : Replacing shapes content rules)
     (small great : ℕ) (within : IsBound t.V small) (within' : IsBound t.T great)

@@ -1,15 +1,14 @@
 -- Told of numbers, an agenda can be told of ranked shapes; and the numbers that a map's entries name.
-use Rattle.std.proofs.Common.{◌≡◌, ℕ, zero, suc, ◌<◌, List, [], ◌∷◌, Bool, true, false, ◌&&◌, ◌||◌, ◌⊎◌, inl, inr, refl, ap, sym, ◌∙◌, arith, eqb-true, eq-eqb}
+use Rattle.std.proofs.Common.{◌≡◌, ℕ, zero, suc, ◌<◌, List, [], ◌∷◌, Bool, true, false, ◌&&◌, ◌||◌, inl, inr, refl, ap, sym, ◌∙◌, arith, eqb-true, eq-eqb}
 use Rattle.std.specs.Prelude.{Option, Some, None, nat_eq}
 use lib.Pointwise.{pointwise, bytes_decides}
 use Rattle.cga_tree.specs.Tree.{Seen, View}
 use Rattle.cga_rework.specs.Rules.{Shapes, Rules}
-use Rattle.cga_rework.specs.Ranked.{Ranked, edit_of}
-use Rattle.cga_agenda.specs.Work.{NoneQueued}
-use Rattle.cga_rework.specs.Nodes.{Content, ranked_of, nodes_of, IsBound}
+use Rattle.cga_rework.specs.Ranked.{Ranked}
+use Rattle.cga_rework.specs.Nodes.{Content, ranked_of, IsBound}
 use Rattle.cga_rework.specs.City.{IsCity}
 use Rattle.cga_rework.specs.Agenda.{AreQueued, numbered}
-use Rattle.cga_rework.specs.TreeLaws.{EntriesNumber}
+use Rattle.cga_rework.specs.TreeLaws.{EmptyIsNone, EntriesNumber}
 use Rattle.cga_rework.proofs.NodeLists.{bool_cases, nat_cases, true_false, keeps-node}
 use Rattle.cga_rework.proofs.Place.{same_node}
 use Rattle.std.proofs.lemmas.Bool.{and_from as and_true, and_parts as and_cases, or_cases, or_left, or_right}
@@ -72,11 +71,8 @@ module _ {X S A F P : Type 0} (shapes : Shapes S) (content : Content X S A F P) 
   )
 
 -- where no node is on the agenda, nothing is queued
-pub none_queued : {X S A B F P : Type 0} (shapes : Shapes S) (content : Content X S A F P) (old new : Rules S A B F P)
-    (V : View X) (n : ℕ) (agenda : ℕ → Bool) (queued : Ranked S → Bool)
-    → AreQueued shapes content V agenda queued → ((c : ℕ) (d : Seen X) → V c ≡ Some d → agenda c ≡ false)
-    → NoneQueued (edit_of shapes old new) (nodes_of content V n) queued
-none_queued shapes content old new V n agenda queued are none m k a h =
+pub empty_is_none : {X S A B F P : Type 0} → EmptyIsNone X S A B F P
+empty_is_none shapes content old new V n agenda queued bound are none m k a h =
     let y = keeps-node content V n m k a h in
     elim (bool_cases (queued m)) [
       | inl q ↦ true_false (agenda y.0) ((are y.0 y.1 y.2).0 (ap queued y.3 ∙ q)) (none y.0 y.1 y.2)

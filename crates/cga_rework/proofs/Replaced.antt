@@ -1,7 +1,6 @@
 -- What a replacement of children makes of a city.
 use Rattle.std.proofs.Common.{◌≡◌, ◌≢◌, ℕ, zero, suc, ◌<◌, List, [], ◌∷◌, ◌++◌, length, Bool, true, false, ◌⊎◌, inl, inr, refl, ap, sym, ◌∙◌, subst, arith}
 use Rattle.std.specs.Prelude.{Some, None, slice_get, not, if◌then◌else◌}
-use Rattle.std.proofs.lemmas.Option.{slice_get_within}
 use Rattle.cga_tree.specs.Tree.{Seen, View, IsTree}
 use Rattle.cga_tree.specs.Replaced.{fits_at, IsReplaced}
 use Rattle.cga_order.specs.World.{Among, is_instance}

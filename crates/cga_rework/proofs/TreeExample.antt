@@ -1,5 +1,5 @@
 -- The premises of a kept tree's turn, met.
-use Rattle.std.proofs.Common.{◌≡◌, ◌≢◌, ℕ, zero, suc, ◌+◌, ◌<◌, List, [], ◌∷◌, Bool, true, false, ◌&&◌, ◌⊎◌, inl, inr, refl, ap, sym, ◌∙◌, subst, arith, ◌≤◌, eqb-true, eq-eqb}
+use Rattle.std.proofs.Common.{◌≡◌, ◌≢◌, ℕ, zero, suc, ◌+◌, ◌<◌, List, [], ◌∷◌, true, false, ◌&&◌, ◌⊎◌, inl, inr, refl, ap, sym, ◌∙◌, subst, arith, ◌≤◌, eqb-true, eq-eqb}
 use Rattle.std.specs.Prelude.{Some, None, nat_eq, not, slice_get, if◌then◌else◌}
 use Rattle.cga_tree.specs.Tree.{Seen, IsTree}
 use Rattle.cga_tree.specs.Replaced.{fits_at, IsReplaced}

@@ -20,11 +20,11 @@ use Rattle.cga_rework.specs.Nodes.{Content, ranked_of, nodes_of, IsBound}
 use Rattle.cga_rework.specs.City.{IsCity, IsUnderway}
 use Rattle.cga_rework.specs.Agenda.{AreQueued}
 use Rattle.cga_rework.specs.Turn.{IsFit, SeesWhatMeets, IsNodeTurn, IsQuietTurn}
-use Rattle.cga_rework.specs.TreeLaws.{GoesBySymbol, NodeTurns, QuietTurns, TakenIsPriced, EmptyIsNone, AgendaIsQueued}
+use Rattle.cga_rework.specs.TreeLaws.{GoesBySymbol, NodeTurns, QuietTurns, TakenIsPriced, AgendaIsQueued}
 use Rattle.cga_rework.proofs.NodeLists.{nat_cases, option_cases, some_same, keeps-node}
 use Rattle.cga_rework.proofs.Place.{parent_of, keyed, earlier, child_rank, child_is, same_node, same_ranked, keeps, is_tree}
 use Rattle.cga_rework.proofs.Replaced.{Replacing, city_after}
-use Rattle.cga_rework.proofs.Queue.{queued_by, are_queued, none_queued}
+use Rattle.cga_rework.proofs.Queue.{queued_by, are_queued}
 use Rattle.cga_rework.proofs.Fields as fields
 use Rattle.cga_rework.proofs.Outcome.{expands, places}
 use Rattle.cga_rework.proofs.Renewed.{ends_with, renew_same, first_alike, first_same, first_plain}
@@ -248,10 +248,6 @@ quiet_turns shapes content old new laws by_symbol asks V small id e agenda rest 
     quiet_turn shapes content old new asks V small id e agenda rest within under turn queued are,
   ),
 )
-
--- where no node is on the agenda, nothing is queued
-pub empty_is_none : {X S A B F P : Type 0} → EmptyIsNone X S A B F P
-empty_is_none shapes content old new V n agenda queued bound are none = none_queued shapes content old new V n agenda queued are none
 
 pub agenda_is_queued : {X S A B F P : Type 0} → AgendaIsQueued X S A B F P
 agenda_is_queued shapes content rules V n agenda bound city = (queued_by shapes content V agenda n, are_queued shapes content V agenda rules city n bound)

@@ -75,16 +75,16 @@ onto_more : {P F : Type 0} (made : List P) (p : P) (r : Result (List P) F)
 onto_more made p (Ok ps) = ap Ok (sym (append_assoc made (p ∷ []) ps))
 onto_more made p (Err e) = refl
 
+-- the size s gives the part p of this length, which begins at from, and the next part begins at next
+pub record GivesPart {P : Type 0} (part : Rat → Rat → Result P SplitFault) (rest total from : Rat) (s : PartSize) (length next : Rat) (p : P) : Type 0 where
+  pub long : ◌≡◌ {A = Result Rat SplitFault} (Ok length) (checked_length rest total s)
+  pub made : Ok p ≡ part from length
+  pub ends : ◌≡◌ {A = Result Rat SplitFault} (Ok next) (within (plus from length))
+
 -- one part more
 pub one_more : {P : Type 0} (part : Rat → Rat → Result P SplitFault) (rest total from length next : Rat)
-    (made longer : List P) (p : P) (s : PartSize) (ss : List PartSize) (target : Result (List P) SplitFault)
-    → onto made (parts_from part rest total from (s ∷ ss)) ≡ target
-    → ◌≡◌ {A = Result Rat SplitFault} (Ok length) (checked_length rest total s) → Ok p ≡ part from length
-    → ◌≡◌ {A = Result Rat SplitFault} (Ok next) (within (plus from length)) → longer ≡ made ++ p ∷ []
-    → onto longer (parts_from part rest total next ss) ≡ target
-one_more part rest total from length next made longer p s ss target h a b c e =
-    rw e (sym (onto_more made p (parts_from part rest total next ss)) ∙ step ∙ h)
-  where
-    step : onto made (and_then (parts_from part rest total next ss) (λ ps. Ok (p ∷ ps))) ≡ onto made
-        (parts_from part rest total from (s ∷ ss))
-    step = rw (← a) (rw (← b) (rw (← c) refl))
+    (made : List P) (p : P) (s : PartSize) (ss : List PartSize) → GivesPart part rest total from s length next p
+    → onto (made ++ p ∷ []) (parts_from part rest total next ss)
+    ≡ onto made (parts_from part rest total from (s ∷ ss))
+one_more part rest total from length next made p s ss h =
+    sym (onto_more made p (parts_from part rest total next ss)) ∙ rw (← h.long) (rw (← h.made) (rw (← h.ends) refl))

@@ -1,5 +1,5 @@
 -- Splits of scopes.
-use Rattle.std.proofs.Common.{◌≡◌, ℕ, ◌<◌, List, [], ◌∷◌, length, true, false, pos, Ok, Err}
+use Rattle.std.proofs.Common.{◌≡◌, ℕ, List, [], ◌∷◌, length, true, false, pos, Ok, Err}
 use Rattle.std.specs.Prelude.{if◌then◌else◌, Bool, not, ◌||◌, Result, IfOk, OnOk}
 use Rattle.cga_fraction.specs.Stops.{Makes, settled_of}
 use Rattle.cga_fraction.specs.declared.stop.Stop.{Stop}

@@ -104,15 +104,6 @@ absolute_ratio a n d [] r s = (n, d, r)
 absolute_ratio a n d (Absolute x ∷ sizes) r s = absolute_ratio (plus a x) _ _ sizes (plus_ratio a x _ _ _ _ r s.2) s.3
 absolute_ratio a n d (Relative f ∷ sizes) r s = absolute_ratio a n d sizes r s.3
 
--- the end of the sum is the size, over plain numbers
-finish : (size a total last : Rat) (nl dl nt dt np dp : ℕ) → IsRatio size nl dl → IsTrue (rat_le a size)
-    → IsRatio (minus size a) np dp → IsRatio total nt dt → Ends last a total (dp * nt) (np * dt) → IsRatio last nl dl
-finish size a total last nl dl nt dt np dp l h r t e =
-    let m = minus_ratio size a nl dl e.na e.da l e.a_is h in
-    let x = both total e.nr e.dr nt dt e.r_is t in
-    let y = both (minus size a) np dp m.0 (dl * e.da) r m.2 in
-    like last _ _ nl dl e.at_is (whole_step e.na e.da e.nr e.dr np dp nt dt nl dl m.0 x m.1 y) l.positive
-
 start : (k q : ℕ) → 0 < k → Ends zero_rat zero_rat zero_rat k q
 start k q h = record { na = 0; da = 1; nr = 0; dr = 1; a_is = zero_ratio; r_is = zero_ratio; at_is = like zero_rat 0 1 (0 * k * 1 + q * 0 * 1) (1 * k * 1) zero_ratio (omega arith) (omega arith) }
 
@@ -122,12 +113,17 @@ pub last_ratio : (size : Rat) (sizes : List PartSize) (nl dl nt dt : ℕ) → Is
     → IsRatio (last_of zero_rat
     (cuts_after (minus size (absolute_sum zero_rat sizes)) (relative_sum zero_rat sizes) zero_rat sizes)) nl dl
 last_ratio size sizes nl dl nt dt l s t p h =
+    let sum = absolute_sum zero_rat sizes in
+    let total = relative_sum zero_rat sizes in
     let a = absolute_ratio zero_rat 0 1 sizes zero_ratio s in
-    let m = minus_ratio size (absolute_sum zero_rat sizes) nl dl a.0 a.1 l a.2 h in
+    let m = minus_ratio size sum nl dl a.0 a.1 l a.2 h in
     let k : 0 < dl * a.1 * nt = mul-pos m.2.positive p in
-    finish size (absolute_sum zero_rat sizes) (relative_sum zero_rat sizes) _ nl dl nt dt m.0 (dl * a.1) l h m.2 t
-    (ends (minus size (absolute_sum zero_rat sizes)) (relative_sum zero_rat sizes) zero_rat zero_rat zero_rat (dl * a.1 * nt) (m.0 * dt) sizes k
-    (shares_of (minus size (absolute_sum zero_rat sizes)) (relative_sum zero_rat sizes) m.0 (dl * a.1) nt dt sizes m.2 t p s) (start (dl * a.1 * nt) (m.0 * dt) k))
+    let e = ends (minus size sum) total zero_rat zero_rat zero_rat (dl * a.1 * nt) (m.0 * dt) sizes k
+    (shares_of (minus size sum) total m.0 (dl * a.1) nt dt sizes m.2 t p s) (start (dl * a.1 * nt) (m.0 * dt) k) in
+    let n = minus_ratio size sum nl dl e.na e.da l e.a_is h in
+    let x = both total e.nr e.dr nt dt e.r_is t in
+    let y = both (minus size sum) m.0 (dl * a.1) n.0 (dl * e.da) m.2 n.2 in
+    like _ _ _ nl dl e.at_is (whole_step e.na e.da e.nr e.dr m.0 (dl * a.1) nt dt nl dl n.0 x n.1 y) l.positive
 
 -- the cuts rise
 plus_rises : (at x : Rat) (n d m e : ℕ) → IsRatio at n d → IsRatio x m e → IsTrue (rat_le at (plus at x))

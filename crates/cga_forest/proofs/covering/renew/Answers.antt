@@ -12,4 +12,4 @@ returns-after-count-from-lt16 c =
       | else-count-from-lt16 w ↦ λ p a b. let t = w.to-is in omega (arith, a, b, t, n)
     ] in
     covered_anew c.args.blocks.now c.empty.new.self c.cover_places.new.blocks c.args.roots.now.list (λ k. hulls_of (at c.args.store.now k)) c.args.block c.if-count-from-lt16.to
-    reach c.empty.ensures c.cover_places.ensures.kept c.cover_places.ensures.here c.requires
+    reach c.empty.ensures.others c.cover_places.ensures.kept c.cover_places.ensures.here c.requires

@@ -1,7 +1,7 @@
-use Rattle.std.proofs.Common.{◌∙◌, ◌+◌, arith, refl, drop}
+use Rattle.std.proofs.Common.{◌∙◌, ◌+◌, arith, sym, drop}
 use Rattle.std.specs.List.{flat_map}
 use Rattle.cga_index.specs.Tree.{answer_over, below, reads}
-use Rattle.cga_index.proofs.Levels.{visit_found, visit_counted, visit_full, visit_fewer, full_stays, none_seen, step_found, step_counted, end_found}
+use Rattle.cga_index.proofs.Levels.{visit_found, visit_counted, visit_full, visit_fewer, full_stays, none_below, touched, step_found, step_counted, end_found}
 use Rattle.cga_index.proofs.walk.+visit.Goals as goal
 
 pub visit-returns-clause-found : goal.visit-returns-clause-found
@@ -12,11 +12,13 @@ visit-returns-clause-found g t c =
 pub visit-returns-clause-counted : goal.visit-returns-clause-counted
 visit-returns-clause-counted g t c =
     let low = c.requires.laws.shallow c.args.node c.requires.node in
-    visit_counted (g.H.HullTree.view c.args.tree.now) c.args.by c.args.left c.args.node _ _ _ _ c.args.area.now c.touches.result (omega (arith, low, c.requires.left)) refl c.requires.area c.touches.ensures c.if-not-touches.false c.look-first.ensures.counted c.visit_children-rest.ensures.counted
+    visit_counted (g.H.HullTree.view c.args.tree.now) c.args.by c.args.left c.args.node _ _ _ (omega (arith, low, c.requires.left))
+    (touched (g.H.HullTree.view c.args.tree.now) c.args.by c.args.node c.args.area.now c.touches.result _ c.requires.area c.touches.ensures c.if-not-touches.false) c.look-first.ensures.counted c.visit_children-rest.ensures.counted
 
 pub visit-returns-then-not-touches-clause-found : goal.visit-returns-then-not-touches-clause-found
 visit-returns-then-not-touches-clause-found g t c =
-    none_seen (g.H.HullTree.view c.args.tree.now) c.requires.laws c.args.by c.args.target c.args.left c.args.node _ c.args.area.now c.touches.result c.requires.node refl c.requires.area c.touches.ensures c.if-not-touches.true
+    sym (none_below (g.H.HullTree.view c.args.tree.now) c.requires.laws c.args.by c.args.target c.args.left c.args.node c.requires.node
+    (touched (g.H.HullTree.view c.args.tree.now) c.args.by c.args.node c.args.area.now c.touches.result _ c.requires.area c.touches.ensures c.if-not-touches.true))
 
 pub visit_children-loop-place-preserved : goal.visit_children-loop-place-preserved
 visit_children-loop-place-preserved g t c =
@@ -40,8 +42,8 @@ visit-returns-then-is_full-clause-found g t c =
 pub visit-returns-then-is_full-clause-counted : goal.visit-returns-then-is_full-clause-counted
 visit-returns-then-is_full-clause-counted g t c =
     let low = c.requires.laws.shallow c.args.node c.requires.node in
-    visit_fewer (g.H.HullTree.view c.args.tree.now) c.args.by c.args.left c.args.node _ _ _ c.args.area.now c.touches.result
-    (omega (arith, low, c.requires.left)) refl c.requires.area c.touches.ensures c.if-not-touches.false c.look-first.ensures.counted
+    visit_fewer (g.H.HullTree.view c.args.tree.now) c.args.by c.args.left c.args.node _ _ (omega (arith, low, c.requires.left))
+    (touched (g.H.HullTree.view c.args.tree.now) c.args.by c.args.node c.args.area.now c.touches.result _ c.requires.area c.touches.ensures c.if-not-touches.false) c.look-first.ensures.counted
 
 pub visit_children-returns-then-is_full-clause-found : goal.visit_children-returns-then-is_full-clause-found
 visit_children-returns-then-is_full-clause-found g t c =

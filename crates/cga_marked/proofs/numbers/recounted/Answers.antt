@@ -34,6 +34,6 @@ counted-requires-2-clause-fits g c =
 
 pub returns : goal.returns
 returns g c = record {
-  first = sorted_from g.E.Marked.counts is_first refl c.requires.old c.args.entries.now.slots c.args.id c.requires.others c.args.was c.sort_at-is.result c.requires.before c.sort_at-is.ensures c.args.numbers.first c.requires.counted.first _ _ _ c.is_first.ensures c.is_first-2.ensures c.counted.ensures;
-  second = sorted_from g.E.Marked.counts is_second refl c.requires.old c.args.entries.now.slots c.args.id c.requires.others c.args.was c.sort_at-is.result c.requires.before c.sort_at-is.ensures c.args.numbers.second c.requires.counted.second _ _ _ c.is_second.ensures c.is_second-2.ensures c.counted-2.ensures;
+  first = sorted_from g.E.Marked.counts is_first refl c.requires.old c.args.entries.now.slots c.args.id c.requires.others c.args.was c.sort_at-is.result c.requires.before c.sort_at-is.ensures c.args.numbers.first c.requires.counted.first _ (rw (c.is_first.ensures, c.is_first-2.ensures) at c.counted.ensures);
+  second = sorted_from g.E.Marked.counts is_second refl c.requires.old c.args.entries.now.slots c.args.id c.requires.others c.args.was c.sort_at-is.result c.requires.before c.sort_at-is.ensures c.args.numbers.second c.requires.counted.second _ (rw (c.is_second.ensures, c.is_second-2.ensures) at c.counted-2.ensures);
 }

@@ -1,4 +1,4 @@
-use Rattle.cga_rework.proofs.Whole as proof
+use Rattle.cga_rework.proofs.Queue as proof
 use Rattle.cga_rework.proofs.laws.empty_is_none.Goals as goal
 
 pub returns : goal.returns

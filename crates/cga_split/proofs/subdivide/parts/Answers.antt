@@ -14,9 +14,10 @@ loop-size-preserved c =
     let next : drop c.loop-size.size-index c.args.sizes.now ≡ item ∷ drop (c.loop-size.size-index + 1) c.args.sizes.now =
     rw add-one (drop-cons c.args.sizes.now c.loop-size.size-index item c.loop-size-test.true ∙ ap (λ (s : PartSize). s ∷ drop (suc c.loop-size.size-index) c.args.sizes.now) (sym c.size-item.is)) in
     record {
-      made = one_more (part_at c.args.scope.now c.args.axis) c.args.rest c.args.total c.loop-size.from c.in_ok-length.length c.in_ok-from.from c.loop-size.made c.push.new.self c.in_ok-one.one item _ _
-          (ap (λ (ss : List PartSize). onto c.loop-size.made (parts_from (part_at c.args.scope.now c.args.axis) c.args.rest c.args.total c.loop-size.from ss)) (sym next) ∙ inv.made)
-          (c.in_ok-length.ensures {u = tt}).value (c.in_ok-one.ensures {u = tt}) (c.in_ok-from.ensures {u = tt}) (c.in_ok-push.ensures {u = tt}).ok;
+      made = rw (c.in_ok-push.ensures {u = tt}).ok
+          (one_more (part_at c.args.scope.now c.args.axis) c.args.rest c.args.total c.loop-size.from c.in_ok-length.length c.in_ok-from.from c.loop-size.made c.in_ok-one.one item _
+          (record { long = (c.in_ok-length.ensures {u = tt}).value; made = c.in_ok-one.ensures {u = tt}; ends = c.in_ok-from.ensures {u = tt} })
+          ∙ ap (λ (ss : List PartSize). onto c.loop-size.made (parts_from (part_at c.args.scope.now c.args.axis) c.args.rest c.args.total c.loop-size.from ss)) (sym next) ∙ inv.made);
       some = all_more _ _ item next inv.some;
       total = λ h. inv.total (any_more _ _ item next h);
     }

@@ -31,6 +31,11 @@ returns-in-Err g c =
     let most = subst (λ b. c.work_off.new.expansions ≤ c.args.expansions.now + (b + 1)) c.in_ok-under_way.ensures.budget c.work_off.ensures.most in
     given_up_within c.args.renewal c.args.kept.now c.begin_work.new.kept c.args.changes.now c.args.changes.now c.args.expansions.now c.work_off.new.expansions c.work_off.ensures.counted most _ refl
 
+pub returns-in_err-done-in-Ok-Within : goal.returns-in_err-done-in-Ok-Within
+returns-in_err-done-in-Ok-Within g c =
+    let most = subst (λ b. c.work_off.new.expansions ≤ c.args.expansions.now + (b + 1)) c.in_ok-under_way.ensures.budget c.work_off.ensures.most in
+    given_up_within c.args.renewal c.args.kept.now c.done.new.kept c.args.changes.now c.done.new.changes c.args.expansions.now c.work_off.new.expansions c.work_off.ensures.counted most _ c.from_residual-in_err-done-in-Ok-Within.ensures.1
+
 pub returns-in_ok-done-in-Ok-Within : goal.returns-in_ok-done-in-Ok-Within
 returns-in_ok-done-in-Ok-Within g c =
     let most = subst (λ b. c.work_off.new.expansions ≤ c.args.expansions.now + (b + 1)) c.in_ok-under_way.ensures.budget c.work_off.ensures.most in

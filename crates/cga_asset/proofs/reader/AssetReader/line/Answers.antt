@@ -26,5 +26,5 @@ returns c = λ lines h.
     let said = c.in_ok-said-in-None.ensures ∙ (ap (λ (n : ℕ). said_of n (texts c.as_slice-in-None.result.now)) c.len-before.ensures ∙ ap (said_of (length c.args.self.now.mesh.vertices)) (ap texts c.as_slice-in-None.ensures.value ∙ c.in_ok-words.ensures)) in
     let more = c.next_if-self.ensures ∙ ap (λ (b : Bool). cond b (counted (c.args.self.now.vertex_lines + 1)) c.args.self.now.vertex_lines) (c.begins_vertex.ensures ∙ ap begins_vertex (ap texts c.as_slice.ensures.value ∙ c.in_ok-words.ensures)) in
     on_ok c.add.result _ _ _
-    (λ gives paired. said_read c.args.self.now c.add.new.self lines (record { bytes = c.args.bytes.now; long = c.args.long }) c.in_ok-said-in-None.said c.next-self.result c.next_if-self.result (sym c.is_long.ensures ∙ c.if-is_long.false) h c.next-self.ensures more c.in-None.is said c.add.ensures.lines c.add.ensures.vertices paired gives)
+    (λ gives paired. said_read c.args.self.now c.add.new.self lines (record { bytes = c.args.bytes.now; long = c.args.long }) c.in_ok-said-in-None.said (sym c.is_long.ensures ∙ c.if-is_long.false) h (c.add.ensures.lines ∙ c.next-self.ensures) (c.add.ensures.vertices ∙ more) c.in-None.is said paired (rw c.add.ensures.lines gives))
     (c.add.ensures.gives h.paired) (c.add.ensures.paired h.paired)
