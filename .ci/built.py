@@ -2,8 +2,8 @@
 """Keeps the sums of the sources beside the programs that a gate's run has proved and built, as `./cga_city --prove` does,
 so that no call proves them again. Called twice: before the run, to note in a file what is there, and behind it. A program
 that the run didn't make is refused, and so is each of them where a source changed meanwhile.
-
-usage: .ci/built.py before|after FILE"""
+"""
+import argparse
 import json
 import os
 import pathlib
@@ -63,9 +63,11 @@ def keep(path):
 
 def main():
     calls = {"before": note, "after": keep}
-    if len(sys.argv) != 3 or sys.argv[1] not in calls:
-        sys.exit(__doc__)
-    calls[sys.argv[1]](sys.argv[2])
+    parser = argparse.ArgumentParser(description=__doc__, formatter_class=argparse.RawDescriptionHelpFormatter)
+    parser.add_argument("call", choices=calls)
+    parser.add_argument("file")
+    words = parser.parse_args()
+    calls[words.call](words.file)
 
 
 if __name__ == "__main__":

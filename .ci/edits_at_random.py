@@ -1,8 +1,9 @@
 #!/usr/bin/env python3
-"""edits_at_random.py PROGRAM..: drives the program through random edits of a street. After each edit it prints what
-a fresh run prints that is given the dumped sources; a refused edit changes nothing, and undo and redo go over the
-dumps of before. The seeds are fixed. The last line is 'N passed, M failed'.
+"""Drives a program through random edits of a street. After each edit the program prints what a fresh run prints that is
+given the dumped sources; a refused edit changes nothing, and undo and redo go over the dumps of before. The seeds are
+fixed. The last line is 'N passed, M failed'.
 """
+import argparse
 import random
 import re
 import subprocess
@@ -133,9 +134,13 @@ def faults(program, seed):
 
 
 def main():
-    program, passed, failed = sys.argv[1:], 0, 0
-    for seed in range(1, 9):
-        told = list(faults(program, seed))
+    parser = argparse.ArgumentParser(description=__doc__, formatter_class=argparse.RawDescriptionHelpFormatter)
+    parser.add_argument("program", nargs="+", help="the program, and words that it is given")
+    parser.add_argument("--scripts", type=int, default=8, help="how many scripts (8)")
+    parser.add_argument("--first", type=int, default=1, help="the first seed (1)")
+    words, passed, failed = parser.parse_args(), 0, 0
+    for seed in range(words.first, words.first + words.scripts):
+        told = list(faults(words.program, seed))
         for fault in told:
             print(fault)
         passed, failed = passed + (not told), failed + bool(told)

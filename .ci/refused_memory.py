@@ -1,8 +1,9 @@
 #!/usr/bin/env python3
-"""refused_memory.py PROGRAM: runs rows with less and less room, a page apart, so that each growth is refused in turn.
+"""Runs rows with less and less room, a page apart, so that each growth is refused in turn.
 Whatever is refused, the program replies as ever, or it ends with status 6 and its line, and what it wrote begins the
 replies. The last line is 'N passed, M failed'.
 """
+import argparse
 import os
 import pathlib
 import resource
@@ -43,7 +44,9 @@ def started(program, script):
 
 
 def main():
-    program, passed, failed = sys.argv[1], 0, 0
+    parser = argparse.ArgumentParser(description=__doc__, formatter_class=argparse.RawDescriptionHelpFormatter)
+    parser.add_argument("program")
+    program, passed, failed = parser.parse_args().program, 0, 0
     for row in ROWS:
         script, replies = TOP / f"rows/{row}.cga", (TOP / f"rows/{row}.out").read_bytes()
         room, refused = started(program, script), 0

@@ -1,13 +1,14 @@
 #!/usr/bin/env python3
-"""scripts.py FOLDER [--small]: copies each script that has stored replies into FOLDER.
+"""Copies each script that has stored replies into a folder.
 
 A script is examples/NAME.cga or rows/NAME.cga with NAME.out beside it, and NAME.args where the program is given
 words, one a line; or a block ```script of a document with a block behind it: ```replies, which has the replies,
 ```replies FILE, which names the file that has them, or ```counts, which says how many lines of each kind come:
 lines 'NUMBER KIND', where a kind is a line's first word, or its first two where the first is '#'.
-FOLDER gets NAME, the script, NAME.stdout, NAME.args, and NAME.counts. With --small those of rows/large are left out.
+The folder gets NAME, the script, NAME.stdout, NAME.args, and NAME.counts. With --small those of rows/large are left out.
 A script without replies is named, and then the status is 1.
 """
+import argparse
 import pathlib
 import re
 import shutil
@@ -62,9 +63,12 @@ def documented(folder):
 
 
 def main():
-    folder = pathlib.Path(sys.argv[1])
-    folder.mkdir(parents=True, exist_ok=True)
-    lacking = [*stored(folder, "--small" in sys.argv), *documented(folder)]
+    parser = argparse.ArgumentParser(description=__doc__, formatter_class=argparse.RawDescriptionHelpFormatter)
+    parser.add_argument("folder", type=pathlib.Path)
+    parser.add_argument("--small", action="store_true", help="without rows/large")
+    words = parser.parse_args()
+    words.folder.mkdir(parents=True, exist_ok=True)
+    lacking = [*stored(words.folder, words.small), *documented(words.folder)]
     for name in lacking:
         print(f"no replies are stored: {name}")
     sys.exit(1 if lacking else 0)
