@@ -10,8 +10,6 @@ use Rattle.cga_rule.specs.declared.expr.Added.{Added, Added-F, roll-Added}
 use Rattle.cga_rule.specs.declared.expr.Scaled.{Scaled, Scaled-F, roll-Scaled}
 use Rattle.cga_rule.specs.declared.expr.Factor.{Factor, Factor-F, roll-Factor}
 use Rattle.cga_rule.specs.declared.expr.Primary.{Primary, Primary-F, roll-Primary}
-use Rattle.cga_rule.specs.declared.expr.Primary.TheFolds.{fold-roll-Expr, fold-roll-Term, fold-roll-Added}
-use Rattle.cga_rule.specs.declared.expr.Primary.TheFolds.{fold-roll-Scaled, fold-roll-Factor, fold-roll-Primary}
 use Rattle.cga_rule.specs.declared.expr.Primary.TheFolds.{map-Expr, map-Term, map-Added, map-Scaled, map-Factor}
 use Rattle.cga_rule.specs.declared.expr.Primary.TheFolds.{map-Primary, ind-Expr}
 use Rattle.cga_rule.specs.declared.expr.Primary.TheOpen.{Number, Named, ScopeSize, Group, Floor, Ceil, Rand}
@@ -22,6 +20,8 @@ use Rattle.cga_check.specs.Uses as used
 use Rattle.cga_expr.specs.Names.{Known, number_of}
 use Rattle.cga_expr.specs.Arithmetic.{added, scaled, signed, floored, ceiled, drawn}
 use Rattle.cga_expr.specs.Value as value
+use Rattle.cga_expand.proofs.ExprLayers.{primary_meant, primary_used, primary_value, primary_uses, added_meant, added_used, added_value, added_uses, expr_meant, expr_used, expr_value, expr_uses}
+use Rattle.cga_expand.proofs.ExprLayers.{factor_meant, factor_used, factor_value, factor_uses, scaled_meant, scaled_used, scaled_value, scaled_uses, term_meant, term_used, term_value, term_uses}
 
 -- what is known, with other attributes
 abbrev pub with_others : Known → List Attribute → Known
@@ -87,133 +87,25 @@ module _ (k : Known) (others : List Attribute) where
       → Primary-F Primary Added Expr Factor Scaled Term
   primary_parts y = map-Primary SomePrimary SomeAdded SomeExpr SomeFactor SomeScaled SomeTerm Primary Added Expr Factor Scaled Term (λ e. e.0) (λ e. e.0) (λ e. e.0) (λ e. e.0) (λ e. e.0) (λ e. e.0) y
 
-  abbrev primary_meant : Primary-F Primary Added Expr Factor Scaled Term
-      → Primary-F value.Meaning value.Marked value.Meaning value.Meaning value.Marked value.Meaning
-  primary_meant x = map-Primary Primary Added Expr Factor Scaled Term value.Meaning value.Marked value.Meaning value.Meaning value.Marked value.Meaning value.primary_value value.added_value value.expr_value value.factor_value value.scaled_value value.term_value x
-
-  abbrev primary_used : Primary-F Primary Added Expr Factor Scaled Term
-      → Primary-F (List Use) (List Use) (List Use) (List Use) (List Use) (List Use)
-  primary_used x = map-Primary Primary Added Expr Factor Scaled Term (List Use) (List Use) (List Use) (List Use) (List Use) (List Use) used.primary_uses used.added_uses used.expr_uses used.factor_uses used.scaled_uses used.term_uses x
-
-  primary_value : (x : Primary-F Primary Added Expr Factor Scaled Term)
-      → value.primary_value (roll-Primary x) ≡ value.primary_step (primary_meant x)
-  unfolding value.primary_value value.added_value value.expr_value value.factor_value value.scaled_value value.term_value
-  primary_value x = fold-roll-Primary value.Meaning value.Marked value.Meaning value.Meaning value.Marked value.Meaning value.primary_step value.added_step value.expr_step value.factor_step value.scaled_step value.term_step x
-
-  primary_uses : (x : Primary-F Primary Added Expr Factor Scaled Term)
-      → used.primary_uses (roll-Primary x) ≡ used.primary_step (primary_used x)
-  unfolding used.primary_uses used.added_uses used.expr_uses used.factor_uses used.scaled_uses used.term_uses
-  primary_uses x = fold-roll-Primary (List Use) (List Use) (List Use) (List Use) (List Use) (List Use) used.primary_step used.added_step used.expr_step used.factor_step used.scaled_step used.term_step x
-
   abbrev added_parts : Added-F SomePrimary SomeAdded SomeExpr SomeFactor SomeScaled SomeTerm
       → Added-F Primary Added Expr Factor Scaled Term
   added_parts y = map-Added SomePrimary SomeAdded SomeExpr SomeFactor SomeScaled SomeTerm Primary Added Expr Factor Scaled Term (λ e. e.0) (λ e. e.0) (λ e. e.0) (λ e. e.0) (λ e. e.0) (λ e. e.0) y
-
-  abbrev added_meant : Added-F Primary Added Expr Factor Scaled Term
-      → Added-F value.Meaning value.Marked value.Meaning value.Meaning value.Marked value.Meaning
-  added_meant x = map-Added Primary Added Expr Factor Scaled Term value.Meaning value.Marked value.Meaning value.Meaning value.Marked value.Meaning value.primary_value value.added_value value.expr_value value.factor_value value.scaled_value value.term_value x
-
-  abbrev added_used : Added-F Primary Added Expr Factor Scaled Term
-      → Added-F (List Use) (List Use) (List Use) (List Use) (List Use) (List Use)
-  added_used x = map-Added Primary Added Expr Factor Scaled Term (List Use) (List Use) (List Use) (List Use) (List Use) (List Use) used.primary_uses used.added_uses used.expr_uses used.factor_uses used.scaled_uses used.term_uses x
-
-  added_value : (x : Added-F Primary Added Expr Factor Scaled Term)
-      → value.added_value (roll-Added x) ≡ value.added_step (added_meant x)
-  unfolding value.primary_value value.added_value value.expr_value value.factor_value value.scaled_value value.term_value
-  added_value x = fold-roll-Added value.Meaning value.Marked value.Meaning value.Meaning value.Marked value.Meaning value.primary_step value.added_step value.expr_step value.factor_step value.scaled_step value.term_step x
-
-  added_uses : (x : Added-F Primary Added Expr Factor Scaled Term)
-      → used.added_uses (roll-Added x) ≡ used.added_step (added_used x)
-  unfolding used.primary_uses used.added_uses used.expr_uses used.factor_uses used.scaled_uses used.term_uses
-  added_uses x = fold-roll-Added (List Use) (List Use) (List Use) (List Use) (List Use) (List Use) used.primary_step used.added_step used.expr_step used.factor_step used.scaled_step used.term_step x
 
   abbrev expr_parts : Expr-F SomePrimary SomeAdded SomeExpr SomeFactor SomeScaled SomeTerm
       → Expr-F Primary Added Expr Factor Scaled Term
   expr_parts y = map-Expr SomePrimary SomeAdded SomeExpr SomeFactor SomeScaled SomeTerm Primary Added Expr Factor Scaled Term (λ e. e.0) (λ e. e.0) (λ e. e.0) (λ e. e.0) (λ e. e.0) (λ e. e.0) y
 
-  abbrev expr_meant : Expr-F Primary Added Expr Factor Scaled Term
-      → Expr-F value.Meaning value.Marked value.Meaning value.Meaning value.Marked value.Meaning
-  expr_meant x = map-Expr Primary Added Expr Factor Scaled Term value.Meaning value.Marked value.Meaning value.Meaning value.Marked value.Meaning value.primary_value value.added_value value.expr_value value.factor_value value.scaled_value value.term_value x
-
-  abbrev expr_used : Expr-F Primary Added Expr Factor Scaled Term
-      → Expr-F (List Use) (List Use) (List Use) (List Use) (List Use) (List Use)
-  expr_used x = map-Expr Primary Added Expr Factor Scaled Term (List Use) (List Use) (List Use) (List Use) (List Use) (List Use) used.primary_uses used.added_uses used.expr_uses used.factor_uses used.scaled_uses used.term_uses x
-
-  expr_value : (x : Expr-F Primary Added Expr Factor Scaled Term)
-      → value.expr_value (roll-Expr x) ≡ value.expr_step (expr_meant x)
-  unfolding value.primary_value value.added_value value.expr_value value.factor_value value.scaled_value value.term_value
-  expr_value x = fold-roll-Expr value.Meaning value.Marked value.Meaning value.Meaning value.Marked value.Meaning value.primary_step value.added_step value.expr_step value.factor_step value.scaled_step value.term_step x
-
-  expr_uses : (x : Expr-F Primary Added Expr Factor Scaled Term)
-      → used.expr_uses (roll-Expr x) ≡ used.expr_step (expr_used x)
-  unfolding used.primary_uses used.added_uses used.expr_uses used.factor_uses used.scaled_uses used.term_uses
-  expr_uses x = fold-roll-Expr (List Use) (List Use) (List Use) (List Use) (List Use) (List Use) used.primary_step used.added_step used.expr_step used.factor_step used.scaled_step used.term_step x
-
   abbrev factor_parts : Factor-F SomePrimary SomeAdded SomeExpr SomeFactor SomeScaled SomeTerm
       → Factor-F Primary Added Expr Factor Scaled Term
   factor_parts y = map-Factor SomePrimary SomeAdded SomeExpr SomeFactor SomeScaled SomeTerm Primary Added Expr Factor Scaled Term (λ e. e.0) (λ e. e.0) (λ e. e.0) (λ e. e.0) (λ e. e.0) (λ e. e.0) y
-
-  abbrev factor_meant : Factor-F Primary Added Expr Factor Scaled Term
-      → Factor-F value.Meaning value.Marked value.Meaning value.Meaning value.Marked value.Meaning
-  factor_meant x = map-Factor Primary Added Expr Factor Scaled Term value.Meaning value.Marked value.Meaning value.Meaning value.Marked value.Meaning value.primary_value value.added_value value.expr_value value.factor_value value.scaled_value value.term_value x
-
-  abbrev factor_used : Factor-F Primary Added Expr Factor Scaled Term
-      → Factor-F (List Use) (List Use) (List Use) (List Use) (List Use) (List Use)
-  factor_used x = map-Factor Primary Added Expr Factor Scaled Term (List Use) (List Use) (List Use) (List Use) (List Use) (List Use) used.primary_uses used.added_uses used.expr_uses used.factor_uses used.scaled_uses used.term_uses x
-
-  factor_value : (x : Factor-F Primary Added Expr Factor Scaled Term)
-      → value.factor_value (roll-Factor x) ≡ value.factor_step (factor_meant x)
-  unfolding value.primary_value value.added_value value.expr_value value.factor_value value.scaled_value value.term_value
-  factor_value x = fold-roll-Factor value.Meaning value.Marked value.Meaning value.Meaning value.Marked value.Meaning value.primary_step value.added_step value.expr_step value.factor_step value.scaled_step value.term_step x
-
-  factor_uses : (x : Factor-F Primary Added Expr Factor Scaled Term)
-      → used.factor_uses (roll-Factor x) ≡ used.factor_step (factor_used x)
-  unfolding used.primary_uses used.added_uses used.expr_uses used.factor_uses used.scaled_uses used.term_uses
-  factor_uses x = fold-roll-Factor (List Use) (List Use) (List Use) (List Use) (List Use) (List Use) used.primary_step used.added_step used.expr_step used.factor_step used.scaled_step used.term_step x
 
   abbrev scaled_parts : Scaled-F SomePrimary SomeAdded SomeExpr SomeFactor SomeScaled SomeTerm
       → Scaled-F Primary Added Expr Factor Scaled Term
   scaled_parts y = map-Scaled SomePrimary SomeAdded SomeExpr SomeFactor SomeScaled SomeTerm Primary Added Expr Factor Scaled Term (λ e. e.0) (λ e. e.0) (λ e. e.0) (λ e. e.0) (λ e. e.0) (λ e. e.0) y
 
-  abbrev scaled_meant : Scaled-F Primary Added Expr Factor Scaled Term
-      → Scaled-F value.Meaning value.Marked value.Meaning value.Meaning value.Marked value.Meaning
-  scaled_meant x = map-Scaled Primary Added Expr Factor Scaled Term value.Meaning value.Marked value.Meaning value.Meaning value.Marked value.Meaning value.primary_value value.added_value value.expr_value value.factor_value value.scaled_value value.term_value x
-
-  abbrev scaled_used : Scaled-F Primary Added Expr Factor Scaled Term
-      → Scaled-F (List Use) (List Use) (List Use) (List Use) (List Use) (List Use)
-  scaled_used x = map-Scaled Primary Added Expr Factor Scaled Term (List Use) (List Use) (List Use) (List Use) (List Use) (List Use) used.primary_uses used.added_uses used.expr_uses used.factor_uses used.scaled_uses used.term_uses x
-
-  scaled_value : (x : Scaled-F Primary Added Expr Factor Scaled Term)
-      → value.scaled_value (roll-Scaled x) ≡ value.scaled_step (scaled_meant x)
-  unfolding value.primary_value value.added_value value.expr_value value.factor_value value.scaled_value value.term_value
-  scaled_value x = fold-roll-Scaled value.Meaning value.Marked value.Meaning value.Meaning value.Marked value.Meaning value.primary_step value.added_step value.expr_step value.factor_step value.scaled_step value.term_step x
-
-  scaled_uses : (x : Scaled-F Primary Added Expr Factor Scaled Term)
-      → used.scaled_uses (roll-Scaled x) ≡ used.scaled_step (scaled_used x)
-  unfolding used.primary_uses used.added_uses used.expr_uses used.factor_uses used.scaled_uses used.term_uses
-  scaled_uses x = fold-roll-Scaled (List Use) (List Use) (List Use) (List Use) (List Use) (List Use) used.primary_step used.added_step used.expr_step used.factor_step used.scaled_step used.term_step x
-
   abbrev term_parts : Term-F SomePrimary SomeAdded SomeExpr SomeFactor SomeScaled SomeTerm
       → Term-F Primary Added Expr Factor Scaled Term
   term_parts y = map-Term SomePrimary SomeAdded SomeExpr SomeFactor SomeScaled SomeTerm Primary Added Expr Factor Scaled Term (λ e. e.0) (λ e. e.0) (λ e. e.0) (λ e. e.0) (λ e. e.0) (λ e. e.0) y
-
-  abbrev term_meant : Term-F Primary Added Expr Factor Scaled Term
-      → Term-F value.Meaning value.Marked value.Meaning value.Meaning value.Marked value.Meaning
-  term_meant x = map-Term Primary Added Expr Factor Scaled Term value.Meaning value.Marked value.Meaning value.Meaning value.Marked value.Meaning value.primary_value value.added_value value.expr_value value.factor_value value.scaled_value value.term_value x
-
-  abbrev term_used : Term-F Primary Added Expr Factor Scaled Term
-      → Term-F (List Use) (List Use) (List Use) (List Use) (List Use) (List Use)
-  term_used x = map-Term Primary Added Expr Factor Scaled Term (List Use) (List Use) (List Use) (List Use) (List Use) (List Use) used.primary_uses used.added_uses used.expr_uses used.factor_uses used.scaled_uses used.term_uses x
-
-  term_value : (x : Term-F Primary Added Expr Factor Scaled Term)
-      → value.term_value (roll-Term x) ≡ value.term_step (term_meant x)
-  unfolding value.primary_value value.added_value value.expr_value value.factor_value value.scaled_value value.term_value
-  term_value x = fold-roll-Term value.Meaning value.Marked value.Meaning value.Meaning value.Marked value.Meaning value.primary_step value.added_step value.expr_step value.factor_step value.scaled_step value.term_step x
-
-  term_uses : (x : Term-F Primary Added Expr Factor Scaled Term)
-      → used.term_uses (roll-Term x) ≡ used.term_step (term_used x)
-  unfolding used.primary_uses used.added_uses used.expr_uses used.factor_uses used.scaled_uses used.term_uses
-  term_uses x = fold-roll-Term (List Use) (List Use) (List Use) (List Use) (List Use) (List Use) used.primary_step used.added_step used.expr_step used.factor_step used.scaled_step used.term_step x
 
   rolled : (m n : value.Meaning) (us vs : List Use) → m ≡ n → us ≡ vs → Same n vs → Same m us
   rolled m n us vs em eu h a = ap (λ (z : value.Meaning). z k) em ∙ h (subst (Agrees k others) eu a) ∙ sym (ap (λ (z : value.Meaning). z (with_others k others)) em)

@@ -110,6 +110,6 @@ written_parts out after all text number places p h e f g i =
     ∙ ap (λ (t : List ℕ). out ++ t) (sym (pointed-parts places number h)))
 
 -- a point and then the digits
-pub written_behind : (out dotted all : List ℕ) (places n : ℕ) → dotted ≡ out ++ (46 ∷ []) → all ≡ dotted ++ padded places n
-    → all ≡ out ++ (46 ∷ padded places n)
+pub written_behind : (out dotted all : List ℕ) (places n : ℕ) → dotted ≡ out ++ (46 ∷ [])
+    → all ≡ dotted ++ padded places n → all ≡ out ++ (46 ∷ padded places n)
 written_behind out dotted all places n e f = rw (f, e) (append_assoc out (46 ∷ []) (padded places n))
