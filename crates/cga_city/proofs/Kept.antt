@@ -73,24 +73,31 @@ empty_city_is budget kept stands = record { sound = empty_sound; within = ([], e
 
 -- ---- edits
 
+-- an edit that was made of sound sources within the budget, and what the update told of it
+pub record IsEdited (s new : Sources) (e : Edit) (budget n x y : ℕ) (warm : Bool) (before : List Member) (changes : Changes) : Type 0 where
+  pub sound : AreSound s
+  pub fits : derived budget s ≡ Some before
+  pub made : changed s e ≡ Ok new
+  pub exact : IsExact s new budget n changes
+  pub spent : y ≡ x + n
+  pub on : warm ≡ true
+
 -- what an update counted is what the edit touched
 pub done_gives : (s new : Sources) (e : Edit) (budget n x y k : ℕ) (warm : Bool) (before : List Member)
-    (old changes : Changes)
-    → AreSound s → derived budget s ≡ Some before → changed s e ≡ Ok new
-    → IsExact s new budget n changes → y ≡ x + n → warm ≡ true
+    (old changes : Changes) → IsEdited s new e budget n x y warm before changes
     → IsDone (record { sources = s; budget = budget; warm = warm; expanded = k; changes = old }) e (record { sources = new; budget = budget; warm = warm; expanded = n; changes = changes }) x y
-done_gives s new e budget n x y k warm before old changes sound fits made exact spent on =
-    let after = is_derived budget new (Some exact.1) exact.3 in
-    let was : exact.0 ≡ members budget s =
-    one (derivation_of s) (sources_are_derivations s (names_differ s.lots sound.names)) exact.0 before exact.2 (derived_is s sound budget before fits) ∙ sym (members_are budget s before fits) in
-    let is = sym (members_are budget new exact.1 after) in
+done_gives s new e budget n x y k warm before old changes is =
+    let after = is_derived budget new (Some is.exact.1) is.exact.3 in
+    let was : is.exact.0 ≡ members budget s =
+    one (derivation_of s) (sources_are_derivations s (names_differ s.lots is.sound.names)) is.exact.0 before is.exact.2 (derived_is s is.sound budget before is.fits) ∙ sym (members_are budget s before is.fits) in
+    let now = sym (members_are budget new is.exact.1 after) in
     record {
-      applied = apply_ok s new e budget exact.1 made after;
+      applied = apply_ok s new e budget is.exact.1 is.made after;
       budget_stays = refl;
-      warm_then = on;
-      touched = rw (← was, ← is) exact.4;
-      spent = spent;
-      changed = rw (← was, ← is) exact.5;
+      warm_then = is.on;
+      touched = rw (← was, ← now) is.exact.4;
+      spent = is.spent;
+      changed = rw (← was, ← now) is.exact.5;
     }
 
 -- and the new sources are within the budget

@@ -105,16 +105,22 @@ warmed s budget n x y k warm old changes sound exact spent =
       touched = rw (← number, members_are budget (with_no_lots s) [] (bare_derived s.grammar s.mode budget), all) touched;
     }
 
+-- what an update of sound sources from nothing answered
+pub record IsFromNothing (told : Result ℕ UpdateRefused) (empty s : Sources) (budget n x y : ℕ) (changes : Changes) : Type 0 where
+  pub sound : AreSound s
+  pub none : empty ≡ empty_in s.mode
+  pub count : told ≡ Ok n
+  pub exact : IfOk told (λ m. IsExact empty s budget m changes)
+  pub spent : IfOk told (λ m. y ≡ x + m)
+
 -- the same by what it answered
 pub warmed_by : (told : Result ℕ UpdateRefused) (empty s : Sources) (budget n x y k : ℕ) (warm : Bool)
-    (old changes : Changes)
-    → AreSound s → empty ≡ empty_in s.mode → told ≡ Ok n → IfOk told (λ m. IsExact empty s budget m changes)
-    → IfOk told (λ m. y ≡ x + m)
+    (old changes : Changes) → IsFromNothing told empty s budget n x y changes
     → IsWarmed (record { sources = s; budget = budget; warm = warm; expanded = k; changes = old }) x y
-warmed_by told empty s budget n x y k warm old changes sound none is exact spent =
-    let whole : IsExact empty s budget n changes = subst (λ (r : Result ℕ UpdateRefused). IfOk r (λ m. IsExact empty s budget m changes)) is exact in
-    let more : y ≡ x + n = subst (λ (r : Result ℕ UpdateRefused). IfOk r (λ m. y ≡ x + m)) is spent in
-    warmed s budget n x y k warm old changes sound (subst (λ (e : Sources). IsExact e s budget n changes) none whole) more
+warmed_by told empty s budget n x y k warm old changes is =
+    let whole : IsExact empty s budget n changes = subst (λ (r : Result ℕ UpdateRefused). IfOk r (λ m. IsExact empty s budget m changes)) is.count is.exact in
+    let more : y ≡ x + n = subst (λ (r : Result ℕ UpdateRefused). IfOk r (λ m. y ≡ x + m)) is.count is.spent in
+    warmed s budget n x y k warm old changes is.sound (subst (λ (e : Sources). IsExact e s budget n changes) is.none whole) more
 
 -- ---- what the budget refuses
 

@@ -64,26 +64,37 @@ pub covered_made : (xs ys : Blocks) (roots : Named) (H : ℕ → Option Hulls) (
     → AreCovered ys roots H
 covered_made xs ys roots H count n made a place c h at e = let lt = ids_within roots place c at in made place h (omega (arith, lt, n)) (a place c h at e)
 
+-- a root that is added, where it comes to stand, and the blocks by turns: with room, with the place where it stands, and
+-- with the place at the end
+pub record IsRootAdded (S : ℕ → Option Seen) (roots left : Named) (H J : ℕ → Option Hulls) (us vs xs ys : Blocks) (n : List ℕ) (id gap : ℕ) : Type 0 where
+  pub known : HasRoots S roots
+  pub fresh : S id ≡ None
+  pub others : (c : ℕ) → c ≢ id → J c ≡ H c
+  pub made : (place : ℕ) (h : Hulls) → place < length roots → IsHeld us place h → IsHeld vs place h
+  pub kept : StaysHeld vs xs
+  pub more : StaysHeld xs ys
+  pub low : gap ≤ length roots
+  pub pushed : left ≡ swap (roots ++ (n, id) ∷ []) gap (length roots)
+  pub here : IsCovered xs left J gap
+  pub there : IsCovered ys left J (length roots)
+
 pub covered_added : (S : ℕ → Option Seen) (roots left : Named) (H J : ℕ → Option Hulls) (us vs xs ys : Blocks)
-    (n : List ℕ) (id gap : ℕ)
-    → HasRoots S roots → S id ≡ None → ((c : ℕ) → c ≢ id → J c ≡ H c)
-    → ((place : ℕ) (h : Hulls) → place < length roots → IsHeld us place h → IsHeld vs place h) → StaysHeld vs xs
-    → StaysHeld xs ys → gap ≤ length roots → left ≡ swap (roots ++ (n, id) ∷ []) gap (length roots)
-    → IsCovered xs left J gap → IsCovered ys left J (length roots) → AreCovered us roots H → AreCovered ys left J
-covered_added S roots left H J us vs xs ys n id gap r fresh others made kept more low pushed here there a place c h at e = elim (nat_cases place gap) [
-  | inl q ↦ more place h (subst (λ i. IsHeld xs i h) (sym q) (here c h (subst (λ i. slice_get (ids left) i ≡ Some c) q at) e))
+    (n : List ℕ) (id gap : ℕ) → IsRootAdded S roots left H J us vs xs ys n id gap → AreCovered us roots H
+    → AreCovered ys left J
+covered_added S roots left H J us vs xs ys n id gap is a place c h at e = elim (nat_cases place gap) [
+  | inl q ↦ is.more place h (subst (λ i. IsHeld xs i h) (sym q) (is.here c h (subst (λ i. slice_get (ids left) i ≡ Some c) q at) e))
   | inr ng ↦ elim (nat_cases place (length roots)) [
-    | inl q ↦ subst (λ i. IsHeld ys i h) (sym q) (there c h (subst (λ i. slice_get (ids left) i ≡ Some c) q at) e)
+    | inl q ↦ subst (λ i. IsHeld ys i h) (sym q) (is.there c h (subst (λ i. slice_get (ids left) i ≡ Some c) q at) e)
     | inr nl ↦ (
         let k = ids_at left place c at in
         let long = length_push roots (n, id) in
-        let still = swap_kept (roots ++ (n, id) ∷ []) gap (length roots) place (k.0, c) (omega (arith, low, long)) (omega (arith, long)) ng nl (subst (λ (l : Named). slice_get l place ≡ Some (k.0, c)) pushed k.1) in
+        let still = swap_kept (roots ++ (n, id) ∷ []) gap (length roots) place (k.0, c) (omega (arith, is.low, long)) (omega (arith, long)) ng nl (subst (λ (l : Named). slice_get l place ≡ Some (k.0, c)) is.pushed k.1) in
         elim (pushed_ids roots n id place c (at_ids (roots ++ (n, id) ∷ []) place c k.0 still)) [
           | inl w ↦ (
               let m = ids_at roots place c w in
-              let d = r.each m.0 c (contains_at roots place (m.0, c) m.1) in
-              let apart : c ≢ id = (λ q. let z : None ≡ Some d.0 = sym fresh ∙ ap S (sym q) ∙ d.1 in (cc)) in
-              more place h (kept place h (made place h (ids_within roots place c w) (a place c h w (sym (others c apart) ∙ e)))))
+              let d = is.known.each m.0 c (contains_at roots place (m.0, c) m.1) in
+              let apart : c ≢ id = (λ q. let z : None ≡ Some d.0 = sym is.fresh ∙ ap S (sym q) ∙ d.1 in (cc)) in
+              is.more place h (is.kept place h (is.made place h (ids_within roots place c w) (a place c h w (sym (is.others c apart) ∙ e)))))
           | inr q ↦ absurd (nl q)
         ])
   ]

@@ -36,20 +36,28 @@ there_but old new id others here c = elim (nat_cases c id) [
   | inr other ↦ ap is_some (others c other)
 ]
 
--- a node's children are replaced: some are set aside, some come, and its content changes
+-- the entries while a node's children are replaced: some are set aside, some come, its content changes, and then hulls do
+pub record AreReplaced (old dropped placed written last : ℕ → Option Entry) (id depth : ℕ) (marking : Bool) (olds : List ℕ) (news : List Node) (made : List ℕ) (goes : ℕ → Bool) : Type 0 where
+  pub cut : (c : ℕ) → dropped c ≡ flag_if (goes c) (old c)
+  pub placing : IsPlaced dropped placed id depth marking olds news made
+  pub others : (c : ℕ) → c ≢ id → written c ≡ placed c
+  pub here : hulls_of (written id) ≡ hulls_of (placed id)
+  pub all : (c : ℕ) → is_some (last c) ≡ is_some (written c)
+
+-- a number that is taken stays so
+abbrev pub StayThere : (ℕ → Option Entry) → (ℕ → Option Entry) → Type 0
+StayThere old last = (c : ℕ) → IsSome (old c) → IsSome (last c)
+
 pub kept_taken : (old dropped placed written last : ℕ → Option Entry) (id depth : ℕ) (marking : Bool) (olds : List ℕ)
     (news : List Node) (made : List ℕ) (goes : ℕ → Bool)
-    → ((c : ℕ) → dropped c ≡ flag_if (goes c) (old c)) → IsPlaced dropped placed id depth marking olds news made
-    → ((c : ℕ) → c ≢ id → written c ≡ placed c) → hulls_of (written id) ≡ hulls_of (placed id)
-    → ((c : ℕ) → is_some (last c) ≡ is_some (written c))
-    → (c : ℕ) → IsSome (old c) → IsSome (last c)
-kept_taken old dropped placed written last id depth marking olds news made goes cut p others here all c there =
-    let aside : is_some (dropped c) ≡ true = ap is_some (cut c) ∙ flag_there (goes c) (old c) ∙ there in
-    all c ∙ there_but placed written id others (same_hulls_there (placed id) (written id) here) c ∙ stays (dropped c) refl aside
+    → AreReplaced old dropped placed written last id depth marking olds news made goes → StayThere old last
+kept_taken old dropped placed written last id depth marking olds news made goes are c there =
+    let aside : is_some (dropped c) ≡ true = ap is_some (are.cut c) ∙ flag_there (goes c) (old c) ∙ there in
+    are.all c ∙ there_but placed written id are.others (same_hulls_there (placed id) (written id) are.here) c ∙ stays (dropped c) refl aside
   where
     stays : (x : Option Entry) → dropped c ≡ x → is_some x ≡ true → is_some (placed c) ≡ true
     stays None e h = absurd (cc)
-    stays (Some x) e h = ap is_some (p.rest c x e)
+    stays (Some x) e h = ap is_some (are.placing.rest c x e)
 
 -- ---- numbers
 

@@ -39,10 +39,18 @@ invariant_of-self-2 c =
           (subst (λ (xs : List (Option Entry)). IsForest (record { slots = xs; marking = c.self.inside.marking; roots = c.self.inside.roots.list; marked_roots = c.self.inside.roots.former; mode = c.self.inside.mode })) (sym c.in_ok-reserve.ensures.slots) c.self.invariant.forest);
       covered =
           covered_added (node_at (record { slots = c.self.inside.store.slots; marking = c.self.inside.marking; roots = c.self.inside.roots.list; marked_roots = c.self.inside.roots.former; mode = c.self.inside.mode })) c.self.inside.roots.list _ (hulls_at (record { slots = c.self.inside.store.slots; marking = c.self.inside.marking; roots = c.self.inside.roots.list; marked_roots = c.self.inside.roots.former; mode = c.self.inside.mode })) _ c.self.inside.blocks c.make_room.new.self c.cover_place.new.blocks c.cover_place-2.new.blocks c.args.node.shape.lot c.add_node-id.result c.push-place.result
-          c.self.invariant.forest.tops (ap (λ (xs : List (Option Entry)). present_of (slot xs c.add_node-id.result)) (sym c.in_ok-reserve.ensures.slots) ∙ ap present_of c.add_node-id.ensures.vacant)
-          (λ k n. ap hulls_of (c.add_node-id.ensures.others k n) ∙ ap (λ (xs : List (Option Entry)). hulls_of (slot xs k)) c.in_ok-reserve.ensures.slots)
-          (λ i h lt e. c.make_room.ensures i h (let n = c.len-last.ensures in omega (arith, lt, n)) e) c.cover_place.ensures.kept c.cover_place-2.ensures.kept low is
-          c.cover_place.ensures.here (rw (← c.len-last.ensures) c.cover_place-2.ensures.here) c.self.invariant.covered;
+          (record {
+            known = c.self.invariant.forest.tops;
+            fresh = ap (λ (xs : List (Option Entry)). present_of (slot xs c.add_node-id.result)) (sym c.in_ok-reserve.ensures.slots) ∙ ap present_of c.add_node-id.ensures.vacant;
+            others = λ k n. ap hulls_of (c.add_node-id.ensures.others k n) ∙ ap (λ (xs : List (Option Entry)). hulls_of (slot xs k)) c.in_ok-reserve.ensures.slots;
+            made = λ i h lt e. c.make_room.ensures i h (let n = c.len-last.ensures in omega (arith, lt, n)) e;
+            kept = c.cover_place.ensures.kept;
+            more = c.cover_place-2.ensures.kept;
+            low = low;
+            pushed = is;
+            here = c.cover_place.ensures.here;
+            there = rw (← c.len-last.ensures) c.cover_place-2.ensures.here;
+          }) c.self.invariant.covered;
     }
 
 pub returns-clause-numbers : goal.returns-clause-numbers

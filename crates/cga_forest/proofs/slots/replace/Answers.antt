@@ -132,7 +132,13 @@ returns-clause-taken c =
     taken_replaced (λ k. at c.args.store.now k) (λ k. at c.refresh.new.store k)
     (kept_taken (λ k. at c.args.store.now k) (λ k. at c.drop_children.new.store k) (λ k. at c.place_children.new.store k) (λ k. at c.rewrite.new.store k) (λ k. at c.refresh.new.store k)
     c.args.id _
-    c.args.marking _ c.args.new.news.items c.place_children.new.made.items _ c.drop_children.ensures.pointwise c.place_children.ensures.placed c.rewrite.ensures.others c.rewrite.ensures.hulls c.refresh.ensures.taken)
+    c.args.marking _ c.args.new.news.items c.place_children.new.made.items _ (record {
+      cut = c.drop_children.ensures.pointwise;
+      placing = c.place_children.ensures.placed;
+      others = c.rewrite.ensures.others;
+      here = c.rewrite.ensures.hulls;
+      all = c.refresh.ensures.taken;
+    }))
     (returns-clause-vacant c)
 
 pub returns-clause-others : goal.returns-clause-others

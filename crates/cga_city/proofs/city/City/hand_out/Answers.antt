@@ -41,7 +41,14 @@ returns-in-Ok-update g c =
     let new : Sources → CityState = λ s. record { sources = s; budget = c.self.inside.budget; warm = c.self.inside.warm; expanded = c.in-Ok-update.count; changes = c.update.new.changes } in
     let done : IsDone c.args.self.now c.args.edit (new c.in-Ok.edited.sources) c.args.expansions.now c.update.new.expansions =
     rw (← c.self.view_is) (done_gives c.self.inside.sources c.in-Ok.edited.sources c.args.edit c.self.inside.budget c.in-Ok-update.count _ _ c.self.inside.expanded c.self.inside.warm c.self.invariant.within.0 c.self.inside.changes _
-    c.self.invariant.sound c.self.invariant.within.1 c.in-Ok.ensures.0 c.in-Ok-update.ensures.exact c.in-Ok-update.ensures.spent (warm_inside _ c.args.self.now c.self.view_is c.requires.warm)) in
+    (record {
+      sound = c.self.invariant.sound;
+      fits = c.self.invariant.within.1;
+      made = c.in-Ok.ensures.0;
+      exact = c.in-Ok-update.ensures.exact;
+      spent = c.in-Ok-update.ensures.spent;
+      on = warm_inside _ c.args.self.now c.self.view_is c.requires.warm;
+    })) in
     (c.replace.ensures.value ∙ former, subst (λ (s : Sources). IsDone c.args.self.now c.args.edit (new s) c.args.expansions.now c.update.new.expansions) (sym c.replace.ensures.after) done)
 
 pub returns-in-Err-OverBudget : goal.returns-in-Err-OverBudget

@@ -20,4 +20,10 @@ within_budget-requires g c = record {
 pub returns-clause-spent : goal.returns-clause-spent
 returns-clause-spent g c = λ cold.
     rw (← c.self.view_is) (warmed_by c.update-told.result c.empty_sources-empty.result c.self.inside.sources c.self.inside.budget c.in_ok-within_budget.field-0 _ _ c.self.inside.expanded c.self.inside.warm
-    c.self.inside.changes _ c.self.invariant.sound c.empty_sources-empty.ensures c.in_ok-within_budget.ensures.same c.update-told.ensures.exact c.update-told.ensures.spent)
+    c.self.inside.changes _ (record {
+      sound = c.self.invariant.sound;
+      none = c.empty_sources-empty.ensures;
+      count = c.in_ok-within_budget.ensures.same;
+      exact = c.update-told.ensures.exact;
+      spent = c.update-told.ensures.spent;
+    }))
