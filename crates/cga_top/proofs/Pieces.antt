@@ -30,17 +30,21 @@ pub progress_same : (s : State) (all now more : List ℕ) (session : Session) (a
     → lines_of now ≡ lines_of more → Progress s all now session a b i j → Progress s all more session a b i j
 progress_same s all now more session a b i j e p = record { done = p.done; wrote = p.wrote; left = ap (λ (ls : List Line). followed_by p.done (effect_of_all p.done.state ls)) (sym e) ∙ p.left }
 
+-- some of the lines were done, and then the first of those that are left, with its reply written
+pub record TakesLine (s : State) (all now more : List ℕ) (line : Line) (session new : Session) (a b c : Option (List ℕ)) (i j k : ℕ) : Type 0 where
+  pub first : lines_of now ≡ line ∷ lines_of more
+  pub before : Progress s all now session a b i j
+  pub wrote : (t : State) → IsAt t session → Wrote (effect t line) new b c j k
+
 pub progress_line : (s : State) (all now more : List ℕ) (line : Line) (session new : Session) (a b c : Option (List ℕ))
     (i j k : ℕ)
-    → lines_of now ≡ line ∷ lines_of more
-    → Progress s all now session a b i j → ((t : State) → IsAt t session → Wrote (effect t line) new b c j k)
-    → Progress s all more new a c i k
-progress_line s all now more line session new a b c i j k e p each =
-    let d = p.done in let u = effect d.state line in
+    → TakesLine s all now more line session new a b c i j k → Progress s all more new a c i k
+progress_line s all now more line session new a b c i j k l =
+    let p = l.before in let d = p.done in let u = effect d.state line in
     record {
       done = followed_by d u;
-      wrote = wrote_more d u session new a b c i j k p.wrote (each d.state p.wrote.is_at);
-      left = followed_assoc d u (effect_of_all u.state (lines_of more)) ∙ ap (followed_by d) (sym (all_more d.state line (lines_of more)) ∙ ap (effect_of_all d.state) (sym e)) ∙ p.left;
+      wrote = wrote_more d u session new a b c i j k p.wrote (l.wrote d.state p.wrote.is_at);
+      left = followed_assoc d u (effect_of_all u.state (lines_of more)) ∙ ap (followed_by d) (sym (all_more d.state line (lines_of more)) ∙ ap (effect_of_all d.state) (sym l.first)) ∙ p.left;
     }
 
 -- a line that does nothing

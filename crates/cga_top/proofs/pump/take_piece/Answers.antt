@@ -30,7 +30,7 @@ loop-rest-preserved-in-Ok g c =
       ready = done.ready;
       calm = done.faults ∙ inv.calm;
       each = λ s st. subst (λ (q : Pending). Progress s (c.args.lines.now.kept ++ c.args.piece.now) (q.kept ++ c.split_at-in-loop-rest.result.1.now) c.take_line.new.session (g.K.Sink.held c.args.out.now) (g.K.Sink.held c.take_line.new.out) c.args.expansions.now c.take_line.new.expansions)
-          (sym done.lines) (progress_line s _ _ _ _ _ _ _ _ _ _ _ _ t.lines (inv.each s st) (λ u su. done.ok u su));
+          (sym done.lines) (progress_line s _ _ _ _ _ _ _ _ _ _ _ _ (record { first = t.lines; before = inv.each s st; wrote = λ u su. done.ok u su }));
       kept = left_cleared _ _ _ done.lines t.left ∙ inv.kept;
     }
 
