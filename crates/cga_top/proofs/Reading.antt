@@ -76,23 +76,35 @@ module _ (d : ℕ) (read chunk piece : List ℕ) (lines : Pending) (few : length
       ap (λ (k : List ℕ). record { kept = kept_of (cut (k ++ piece)).rest; ending = Open }) kept_is
       ∙ ap (λ (k : List ℕ). record { kept = k; ending = Open }) (kept_append read piece) ∙ ap pending_after (sym more_read)
 
+-- what was read so far is within the limit and was replied to, and then a chunk was given, of which this piece is looked at
+pub record ReadsChunk (d : ℕ) (read chunk piece : List ℕ) (old mid new : Outside) (session : Session) (lines : Pending) : Type 0 where
+  pub few : length read ≤ limit
+  pub within : piece ≡ take (limit - length read) chunk
+  pub before : IsRead d read old mid session lines
+  pub gave : Gave chunk mid new
+
+-- the replies to the lines that a piece ends were written and flushed, and its rest is pending
+pub record TakesPiece (piece : List ℕ) (mid new : Outside) (session next : Session) (lines after : Pending) : Type 0 where
+  pub wrote : (s : State) → IsAt s session
+      → Wrote (effect_of_all s (lines_of (lines.kept ++ piece))) next mid.held new.held mid.expanded new.expanded
+  pub lines_are : after ≡ record { kept = kept_of (cut (lines.kept ++ piece)).rest; ending = Open }
+  pub flushed : IsTrue new.flushed
+  pub calm : new.writes_failed ≡ mid.writes_failed
+
 pub reads_more : (d : ℕ) (read chunk piece : List ℕ) (old mid new : Outside) (session next : Session)
     (lines after : Pending)
-    → length read ≤ limit → piece ≡ take (limit - length read) chunk
-    → IsRead d read old mid session lines → Gave chunk mid new
-    → ((s : State) → IsAt s session
-    → Wrote (effect_of_all s (lines_of (lines.kept ++ piece))) next mid.held new.held mid.expanded new.expanded)
-    → after ≡ record { kept = kept_of (cut (lines.kept ++ piece)).rest; ending = Open }
-    → IsTrue new.flushed → new.writes_failed ≡ mid.writes_failed
-    → IsRead d (read ++ chunk) old new next after
-reads_more d read chunk piece old mid new session next lines after few first r more each e flushed calm = record {
-  gave = gave_more old mid new read chunk r.gave more;
-  wrote = subst (λ (t : Effect). Wrote t next old.held new.held old.expanded new.expanded) (sym (effects_are d read chunk piece lines few first r.lines_are))
-      (wrote_more _ _ session next old.held mid.held new.held old.expanded mid.expanded new.expanded r.wrote (each _ r.wrote.is_at));
-  lines_are = e ∙ pending_is d read chunk piece lines few first r.lines_are;
-  flushed = λ some. flushed;
-  calm = calm ∙ r.calm;
-}
+    → ReadsChunk d read chunk piece old mid new session lines
+    → TakesPiece piece mid new session next lines after → IsRead d (read ++ chunk) old new next after
+reads_more d read chunk piece old mid new session next lines after c p =
+    let r = c.before in
+    record {
+      gave = gave_more old mid new read chunk r.gave c.gave;
+      wrote = subst (λ (t : Effect). Wrote t next old.held new.held old.expanded new.expanded) (sym (effects_are d read chunk piece lines c.few c.within r.lines_are))
+          (wrote_more _ _ session next old.held mid.held new.held old.expanded mid.expanded new.expanded r.wrote (p.wrote _ r.wrote.is_at));
+      lines_are = p.lines_are ∙ pending_is d read chunk piece lines c.few c.within r.lines_are;
+      flushed = λ some. p.flushed;
+      calm = p.calm ∙ r.calm;
+    }
 
 -- a read that gave nothing, at the end
 pub reads_none : (d : ℕ) (read : List ℕ) (old mid : Outside) (session : Session) (lines : Pending)
@@ -121,15 +133,16 @@ reads_kept d read old mid session lines given left ended failed r none keeps = r
 }
 
 pub reads_halt : (d : ℕ) (read chunk piece : List ℕ) (old mid new : Outside) (session : Session) (lines : Pending)
-    → length read ≤ limit → piece ≡ take (limit - length read) chunk
-    → IsRead d read old mid session lines → Gave chunk mid new
+    → ReadsChunk d read chunk piece old mid new session lines
     → ((s : State) → IsAt s session
     → AppendsSome mid.held new.held (effect_of_all s (lines_of (lines.kept ++ piece))).reply)
     → new.reads_failed ≡ old.reads_failed → IsHalted d (read ++ chunk) old new
 unfolding replies_of
-reads_halt d read chunk piece old mid new session lines few first r more each calm = record {
-  gave = gave_more old mid new read chunk r.gave more;
-  wrote = subst (λ (t : Effect). AppendsSome old.held new.held t.reply) (sym (effects_are d read chunk piece lines few first r.lines_are))
-      (some_after old.held mid.held new.held _ _ r.wrote.written (each _ r.wrote.is_at));
-  calm = calm;
-}
+reads_halt d read chunk piece old mid new session lines c each calm =
+    let r = c.before in
+    record {
+      gave = gave_more old mid new read chunk r.gave c.gave;
+      wrote = subst (λ (t : Effect). AppendsSome old.held new.held t.reply) (sym (effects_are d read chunk piece lines c.few c.within r.lines_are))
+          (some_after old.held mid.held new.held _ _ r.wrote.written (each _ r.wrote.is_at));
+      calm = calm;
+    }

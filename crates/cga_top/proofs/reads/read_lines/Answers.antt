@@ -25,7 +25,9 @@ returns-in-Err-reply_to-clause-end g c =
     let first = c.first-piece.ensures ∙ ap (λ (n : ℕ). take (67108864 - n) (take c.in-Ok.count c.read.new.buf)) (sym inv.so_far.2) in
     let halt = c.in-Err-reply_to.ensures in (
       read ++ take c.in-Ok.count c.read.new.buf,
-      reads_halt _ read _ _ _ _ _ _ _ few first inv.so_far.1 (record { given = c.in-Ok.ensures.gave; taken = c.in-Ok.ensures.bytes.0 }) halt.err (c.in-Ok.ensures.cause.calm ∙ inv.calm),
+      reads_halt _ read _ _ _ _ _ _ _
+          (record { few = few; within = first; before = inv.so_far.1; gave = record { given = c.in-Ok.ensures.gave; taken = c.in-Ok.ensures.bytes.0 } })
+          halt.err (c.in-Ok.ensures.cause.calm ∙ inv.calm),
       faults_since c.in-Err-reply_to.halt _ _ _ inv.so_far.1.calm halt.faults,
     )
 
@@ -66,7 +68,9 @@ loop-total-preserved g c =
       calm = c.in-Ok.ensures.cause.calm ∙ inv.calm;
       so_far = (
         read ++ take c.in-Ok.count c.read.new.buf,
-        reads_more _ read _ _ _ _ _ _ _ _ _ few first inv.so_far.1 (record { given = c.in-Ok.ensures.gave; taken = c.in-Ok.ensures.bytes.0 }) done.ok done.lines done.flushed done.faults,
+        reads_more _ read _ _ _ _ _ _ _ _ _
+            (record { few = few; within = first; before = inv.so_far.1; gave = record { given = c.in-Ok.ensures.gave; taken = c.in-Ok.ensures.bytes.0 } })
+            (record { wrote = done.ok; lines_are = done.lines; flushed = done.flushed; calm = done.faults }),
         omega (arith, length-append read (take c.in-Ok.count c.read.new.buf), length-take-le c.in-Ok.count c.read.new.buf c.in-Ok.ensures.bound.0, inv.so_far.2),
       );
     }
