@@ -114,17 +114,26 @@ noted_in : (s : State) (old : Session) (v : Version) → IsAt s old → old.vers
     → noted_by v s.kept s.sources ≡ noted_by s.version s.kept s.sources
 noted_in s old v at is = ap (λ (w : Version). noted_by w s.kept s.sources) (sym is ∙ at.version)
 
+-- at the state the edit was done, this history is left, and the text, where there was memory for it, says that it was done
+pub record AcceptedAt (s : State) (old new : Session) (history left : Kept) (e : Edit) (before : Sources) (text : Result (List ℕ) NoMemory) (i j : ℕ) : Type 0 where
+  pub is_at : IsAt s old
+  pub apart : HasDistinctLots e
+  pub accepts : Accepts old e before new i j
+  pub kept : history ≡ left
+  pub reply : IfOk text (λ t. t ≡ ok_reply new.quiet)
+
 -- the sources before an edit that was done are noted
 pub change_did : (s : State) (old new : Session) (history : Kept) (e : Edit) (before : Sources)
     (text : Result (List ℕ) NoMemory) (i j : ℕ)
-    → IsAt s old → old.version ≡ Two → HasDistinctLots e → Accepts old e before new i j
-    → history ≡ noted new.history before → IfOk text (λ t. t ≡ ok_reply new.quiet)
+    → old.version ≡ Two → AcceptedAt s old new history (noted new.history before) e before text i j
     → IfOk text (λ reply. Did (edited s e) old.city.changes (record new { history = history }) reply i j)
-change_did s old new history e before (Err none) i j at two apart a h r = tt
-change_did s old new history e before (Ok reply) i j at two apart a h r =
+change_did s old new history e before (Err none) i j two h = tt
+change_did s old new history e before (Ok reply) i j two h =
+    let at = h.is_at in
+    let a = h.accepts in
     let k : history ≡ noted s.kept s.sources =
-    h ∙ ap (λ (k : Kept). noted k before) (ap (λ (x : Session). x.history) a.others ∙ at.kept) ∙ ap (noted s.kept) (a.before_is ∙ at.sources) in
-    subst (λ (k : Kept). Did (changed s k (applied s e)) old.city.changes (record new { history = history }) reply i j) (k ∙ noted_in s old Two at two) (changed_did s old new history e before reply i j at apart a r)
+    h.kept ∙ ap (λ (k : Kept). noted k before) (ap (λ (x : Session). x.history) a.others ∙ at.kept) ∙ ap (noted s.kept) (a.before_is ∙ at.sources) in
+    subst (λ (k : Kept). Did (changed s k (applied s e)) old.city.changes (record new { history = history }) reply i j) (k ∙ noted_in s old Two at two) (changed_did s old new history e before reply i j at h.apart a h.reply)
 
 -- and in version 1 they aren't
 pub alone_did : (s : State) (old new : Session) (e : Edit) (text : Result (List ℕ) NoMemory) (i j : ℕ)

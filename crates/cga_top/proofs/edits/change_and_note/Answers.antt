@@ -14,8 +14,14 @@ do_edit-requires-clause-lots g c = distinct c.args.edit c.requires.written
 
 pub returns-in-Ok-clause-did : goal.returns-in-Ok-clause-did
 returns-in-Ok-clause-did g c = λ s st.
-    change_did s c.args.session.now c.do_edit.new.session c.note.new.self c.args.edit c.in-Ok.before c.accepted.result _ _ st c.requires.two (distinct c.args.edit c.requires.written)
-    (accepts_of _ _ _ _ _ _ _ c.in-Ok.is (c.in_ok-told.ensures {u = tt})) c.note.ensures c.accepted.ensures
+    change_did s c.args.session.now c.do_edit.new.session c.note.new.self c.args.edit c.in-Ok.before c.accepted.result _ _ c.requires.two
+    (record {
+      is_at = st;
+      apart = distinct c.args.edit c.requires.written;
+      accepts = accepts_of _ _ _ _ _ _ _ c.in-Ok.is (c.in_ok-told.ensures {u = tt});
+      kept = c.note.ensures;
+      reply = c.accepted.ensures;
+    })
 
 pub returns-in-Ok-clause-ready : goal.returns-in-Ok-clause-ready
 returns-in-Ok-clause-ready g c =
