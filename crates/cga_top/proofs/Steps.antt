@@ -44,6 +44,11 @@ pub some_step : (s : State) (none : Refused) (step : Option Step) (some : Step) 
     → stepped s none step ≡ changed s some.left (applied s (edit.Whole some.taken))
 some_step s none step some e = ap (stepped s none) e
 
+-- there is a step to go, and it takes these sources
+pub record IsStep (step : Option Step) (some : Step) (taken : Sources) : Type 0 where
+  pub there : step ≡ Some some
+  pub takes : taken ≡ some.taken
+
 pub undone_there : (s : State) (history : Kept) (last : Sources) → history ≡ s.kept
     → slice_get history.past (length history.past - 1) ≡ Some last
     → undone s.kept s.sources ≡ Some (record { taken = last; left = left_by history s.sources })
@@ -147,14 +152,15 @@ alone_did s old new e (Ok reply) i j at one apart a r =
 
 pub step_did : (s : State) (old new : Session) (history : Kept) (none : Refused) (step : Option Step) (some : Step)
     (taken before : Sources) (text : Result (List ℕ) NoMemory) (i j : ℕ)
-    → IsAt s old → HasDistinctLots (edit.Whole taken) → step ≡ Some some → taken ≡ some.taken
-    → Accepts old (edit.Whole taken) before new i j → history ≡ some.left → IfOk text (λ t. t ≡ ok_reply new.quiet)
+    → IsStep step some taken → AcceptedAt s old new history some.left (edit.Whole taken) before text i j
     → IfOk text (λ reply. Did (stepped s none step) old.city.changes (record new { history = history }) reply i j)
-step_did s old new history none step some taken before (Err e) i j at apart is t a h r = tt
-step_did s old new history none step some taken before (Ok reply) i j at apart is t a h r =
-    let did : Did (changed s history (applied s (edit.Whole taken))) old.city.changes (record new { history = history }) reply i j = changed_did s old new history (edit.Whole taken) before reply i j at apart a r in
+step_did s old new history none step some taken before (Err e) i j known h = tt
+step_did s old new history none step some taken before (Ok reply) i j known h =
+    let did : Did (changed s history (applied s (edit.Whole taken))) old.city.changes (record new { history = history }) reply i j =
+    changed_did s old new history (edit.Whole taken) before reply i j h.is_at h.apart h.accepts h.reply in
     subst (λ (e : Effect). Did e old.city.changes (record new { history = history }) reply i j)
-    (ap (λ (x : Sources). changed s history (applied s (edit.Whole x))) t ∙ ap (λ (k : Kept). changed s k (applied s (edit.Whole some.taken))) h ∙ sym (some_step s none step some is)) did
+    (ap (λ (x : Sources). changed s history (applied s (edit.Whole x))) known.takes ∙ ap (λ (k : Kept). changed s k (applied s (edit.Whole some.taken))) h.kept
+    ∙ sym (some_step s none step some known.there)) did
 
 -- ---- what an edit answered
 

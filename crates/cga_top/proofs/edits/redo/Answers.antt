@@ -34,9 +34,15 @@ returns-in-Ok-clause-did g c = λ s st.
     let accepts = accepts_of _ _ _ _ _ _ _ c.in-Ok.is (c.in_ok-told.ensures {u = tt}) in
     let gives : StepGives (redone history before) history before c.redo.result c.redo.new.self = subst (λ (k : Kept). StepGives (redone k before) k before c.redo.result c.redo.new.self) (history_same _ _ _ _ _ _ accepts) c.redo.ensures in
     let kept = kept_after _ _ _ _ _ _ (redone_some history before c.in-Some.last.now last) gives in
-    step_did s c.args.session.now c.do_edit.new.session c.redo.new.self refused.NoRedo (redone s.kept s.sources) _ c.in_ok-taken.taken before c.accepted.result _ _ st taken.names
-    (redone_there s history c.in-Some.last.now st.kept last) (c.in_ok-taken.ensures {u = tt}) accepts
-    (kept ∙ ap (λ (n : Sources). turned (left_by (turned history) n)) (accepts.before_is ∙ st.sources)) c.accepted.ensures
+    step_did s c.args.session.now c.do_edit.new.session c.redo.new.self refused.NoRedo (redone s.kept s.sources) _ c.in_ok-taken.taken before c.accepted.result _ _
+    (record { there = redone_there s history c.in-Some.last.now st.kept last; takes = c.in_ok-taken.ensures {u = tt} })
+    (record {
+      is_at = st;
+      apart = taken.names;
+      accepts = accepts;
+      kept = kept ∙ ap (λ (n : Sources). turned (left_by (turned history) n)) (accepts.before_is ∙ st.sources);
+      reply = c.accepted.ensures;
+    })
 
 pub returns-in-Ok-clause-ready : goal.returns-in-Ok-clause-ready
 returns-in-Ok-clause-ready g c =
