@@ -212,15 +212,20 @@ refused_did s old new kept e refused (Ok reply) i j at h is =
       changed = subst (λ (x : Session). old.city.changes ≡ no_changes → x.city.changes ≡ no_changes) (sym h.same) (λ none. none);
     })
 
+-- at the state the edit was refused, and the text, where there was memory for it, tells why
+pub record RefusedAt (s : State) (old new : Session) (e : Edit) (refused : EditRefused) (text : Result (List ℕ) NoMemory) (i j : ℕ) : Type 0 where
+  pub is_at : IsAt s old
+  pub refusal : Refuses old e refused new i j
+  pub reply : IfOk text (λ t. t ≡ refusal_text_of (told.Edit refused))
+
 pub step_refused : (s : State) (old new : Session) (none : Refused) (step : Option Step) (some : Step)
     (taken : Sources) (refused : EditRefused) (text : Result (List ℕ) NoMemory) (i j : ℕ)
-    → IsAt s old → step ≡ Some some → taken ≡ some.taken → Refuses old (edit.Whole taken) refused new i j
-    → IfOk text (λ t. t ≡ refusal_text_of (told.Edit refused))
+    → IsStep step some taken → RefusedAt s old new (edit.Whole taken) refused text i j
     → IfOk text (λ reply. Did (stepped s none step) old.city.changes new reply i j)
-step_refused s old new none step some taken refused text i j at is t h says =
+step_refused s old new none step some taken refused text i j known h =
     subst (λ (e : Effect). IfOk text (λ reply. Did e old.city.changes new reply i j))
-    (ap (λ (x : Sources). changed s some.left (applied s (edit.Whole x))) t ∙ sym (some_step s none step some is))
-    (refused_did s old new some.left (edit.Whole taken) refused text i j at h says)
+    (ap (λ (x : Sources). changed s some.left (applied s (edit.Whole x))) known.takes ∙ sym (some_step s none step some known.there))
+    (refused_did s old new some.left (edit.Whole taken) refused text i j h.is_at h.refusal h.reply)
 
 -- ---- the next line
 

@@ -62,5 +62,10 @@ pub returns-in-Err-clause-did : goal.returns-in-Err-clause-did
 returns-in-Err-clause-did g c = λ s st.
     let history = c.args.session.now.history in
     let last : slice_get history.past (length history.past - 1) ≡ Some c.in-Some.last.now = subst (λ (p : List Sources). slice_get p (length p - 1) ≡ Some c.in-Some.last.now) c.past.ensures.value (sym (c.in-Some.ensures {u = tt}).value) in
-    step_refused s c.args.session.now c.do_edit.new.session refused.NoUndo (undone s.kept s.sources) _ c.in_ok-taken.taken c.in-Err.refused c.refusal_text-in-Err.result _ _ st
-    (undone_there s history c.in-Some.last.now st.kept last) (c.in_ok-taken.ensures {u = tt}) (refuses_of _ _ _ _ _ _ _ c.in-Err.is (c.in_ok-told.ensures {u = tt})) c.refusal_text-in-Err.ensures
+    step_refused s c.args.session.now c.do_edit.new.session refused.NoUndo (undone s.kept s.sources) _ c.in_ok-taken.taken c.in-Err.refused c.refusal_text-in-Err.result _ _
+    (record { there = undone_there s history c.in-Some.last.now st.kept last; takes = c.in_ok-taken.ensures {u = tt} })
+    (record {
+      is_at = st;
+      refusal = refuses_of _ _ _ _ _ _ _ c.in-Err.is (c.in_ok-told.ensures {u = tt});
+      reply = c.refusal_text-in-Err.ensures;
+    })
