@@ -170,23 +170,36 @@ pub ended_bytes : (d : ℕ) (read bytes : List ℕ) (old mid : Outside) (session
     → old.left ≡ Some bytes → IsRead d read old mid session lines → IsAtEnd mid.left → read ≡ bytes
 ended_bytes d read bytes old mid session lines told r at_end = all_taken read bytes mid.left (subst (λ (left : Option (List ℕ)). Consumes left mid.left read) told r.gave.taken) at_end
 
-all_written : (d : ℕ) (read bytes : List ℕ) (old mid last new : Outside) (session next : Session) (lines : Pending)
-    → read ≡ bytes
-    → IsRead d read old mid session lines → length read ≤ limit
-    → Wrote (last_effect (effect_of_lines d (take limit read)).state (cut (take limit read)).rest) next mid.held
-    last.held mid.expanded last.expanded
-    → new.expanded ≡ last.expanded → Keeps last.held new.held → WritesAll d bytes old new
+-- all that the source gave was read and replied to: it is within the limit, the source has ended, and no read failed
+pub record IsReadWhole (d : ℕ) (read : List ℕ) (old mid : Outside) (session : Session) (lines : Pending) : Type 0 where
+  pub replied : IsRead d read old mid session lines
+  pub few : length read ≤ limit
+  pub at_end : IsAtEnd mid.left
+  pub ended : IsTrue mid.ended
+  pub reads : mid.reads_failed ≡ old.reads_failed
+
+-- behind what was read, the replies of the end were written with no fault and nothing more read, and then there was a flush
+pub record IsEnded (d : ℕ) (status : Status) (read : List ℕ) (mid last new : Outside) (next : Session) : Type 0 where
+  pub wrote : Wrote (last_effect (effect_of_lines d (take limit read)).state (cut (take limit read)).rest) next
+      mid.held last.held mid.expanded last.expanded
+  pub source : SameSource mid last
+  pub calm : last.writes_failed ≡ mid.writes_failed
+  pub flushed : IsFlushed status Done last new
+
+all_written : (d : ℕ) (status : Status) (old mid last new : Outside) (session next : Session) (lines : Pending)
+    (read : List ℕ)
+    → IsReadWhole d read old mid session lines → IsEnded d status read mid last new next → WritesAll d read old new
 unfolding output_of
-all_written d read bytes old mid last new session next lines is r few w expanded keeps =
-    let same : take limit read ≡ bytes = take_all limit read few ∙ is in
+all_written d status old mid last new session next lines read r e =
+    let same : take limit read ≡ read = take_all limit read r.few in
     let both : Wrote (effect_of_script d (take limit read)) next old.held last.held old.expanded last.expanded =
     wrote_more (effect_of_lines d (take limit read)) (last_effect (effect_of_lines d (take limit read)).state (cut (take limit read)).rest) session next
-    old.held mid.held last.held old.expanded mid.expanded last.expanded r.wrote w in
-    let all : Wrote (effect_of_script d bytes) next old.held last.held old.expanded last.expanded = subst (λ (x : List ℕ). Wrote (effect_of_script d x) next old.held last.held old.expanded last.expanded) same both in
+    old.held mid.held last.held old.expanded mid.expanded last.expanded r.replied.wrote e.wrote in
+    let all : Wrote (effect_of_script d read) next old.held last.held old.expanded last.expanded = subst (λ (x : List ℕ). Wrote (effect_of_script d x) next old.held last.held old.expanded last.expanded) same both in
     record {
-      few = subst (λ (x : List ℕ). length x ≤ limit) is few;
-      output = all_of_it old.held last.held new.held _ all.written keeps;
-      spent = record { by = spent_then (effect_of_script d bytes).works old.expanded last.expanded new.expanded expanded all.spent };
+      few = r.few;
+      output = all_of_it old.held last.held new.held _ all.written e.flushed.held;
+      spent = record { by = spent_then (effect_of_script d read).works old.expanded last.expanded new.expanded e.flushed.expanded all.spent };
     }
 
 -- all was replied to, or some of it
@@ -215,29 +228,26 @@ end_prefix d read old mid new session lines r few at_end source s = record {
 
 pub done_means : (d : ℕ) (status : Status) (old mid last new : Outside) (session next : Session) (lines : Pending)
     (read : List ℕ)
-    → IsRead d read old mid session lines → length read ≤ limit → IsAtEnd mid.left → IsTrue mid.ended
-    → mid.reads_failed ≡ old.reads_failed
-    → Wrote (last_effect (effect_of_lines d (take limit read)).state (cut (take limit read)).rest) next mid.held
-    last.held mid.expanded last.expanded
-    → SameSource mid last → last.writes_failed ≡ mid.writes_failed → IsFlushed status Done last new
+    → IsReadWhole d read old mid session lines → IsEnded d status read mid last new next
     → StatusMeans d status old new
-done_means d status old mid last new session next lines read r few at_end ended reads w source writes f =
+done_means d status old mid last new session next lines read r e =
+    let f = e.flushed in
     let other : Done ≢ WriteFault = λ e. cc in
-    let same : SameSource mid new = same_more mid last new source f.source in
-    let over : IsTrue new.ended = rw same.ended ended in
-    flushed_means d status Done old last new other f (writes ∙ r.calm)
+    let same : SameSource mid new = same_more mid last new e.source f.source in
+    let over : IsTrue new.ended = rw same.ended r.ended in
+    flushed_means d status Done old last new other f (e.calm ∙ r.replied.calm)
     (λ flushed calm. (
       over,
       flushed,
-      record { reads = same.reads ∙ reads; writes = calm },
+      record { reads = same.reads ∙ r.reads; writes = calm },
       (
         read,
-        gave_same read old mid new r.gave same,
-        subst IsAtEnd (sym same.left) at_end,
-        all_written d read read old mid last new session next lines refl r few w f.expanded f.held,
+        gave_same read old mid new r.replied.gave same,
+        subst IsAtEnd (sym same.left) r.at_end,
+        all_written d status old mid last new session next lines read r e,
       ),
     ))
-    (end_prefix d read old mid new session lines r few at_end same (some_kept mid.held last.held new.held _ w.written f.held))
+    (end_prefix d read old mid new session lines r.replied r.few r.at_end same (some_kept mid.held last.held new.held _ e.wrote.written f.held))
 
 -- and so the session has come to the state of the whole script
 pub came_to : (d : ℕ) (read : List ℕ) (old mid : Outside) (session next : Session) (lines : Pending)

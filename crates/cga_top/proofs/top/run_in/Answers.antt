@@ -18,8 +18,13 @@ returns-in-Ok-end_script-clause-means g c =
     let w = c.in-Ok-end_script.ensures.ok _ _ r.1.wrote.is_at (ap (λ p. p.kept) r.1.lines_are) in
     let f = c.flushed.ensures in
     let last = outside_of g.S.Source g.K.Sink c.read_lines.new.script c.end_script.new.out c.end_script.new.expansions in
-    done_means _ _ _ _ last _ _ _ _ r.0 r.1 r.2 r.3 r.4 r.5 w (record { given = refl; left = refl; ended = refl; reads = refl }) c.in-Ok-end_script.ensures.faults
-    (record { source = record { given = refl; left = refl; ended = refl; reads = refl }; expanded = refl; held = f.bytes; answers = f.answers; done = f.done; fault = f.fault; calm = f.calm })
+    done_means _ _ _ _ last _ _ _ _ r.0 (record { replied = r.1; few = r.2; at_end = r.3; ended = r.4; reads = r.5 })
+    (record {
+      wrote = w;
+      source = record { given = refl; left = refl; ended = refl; reads = refl };
+      calm = c.in-Ok-end_script.ensures.faults;
+      flushed = record { source = record { given = refl; left = refl; ended = refl; reads = refl }; expanded = refl; held = f.bytes; answers = f.answers; done = f.done; fault = f.fault; calm = f.calm };
+    })
 
 pub returns-in-Ended-clause-means : goal.returns-in-Ended-clause-means
 returns-in-Ended-clause-means g c =
