@@ -5,7 +5,7 @@ mod LineWords
 mod Sorted
 mod Kept
 mod Places
-mod Entries
+mod Once
 mod Turning
 mod Tells
 mod TraceLines

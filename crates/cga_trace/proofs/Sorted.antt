@@ -67,7 +67,7 @@ module _ (sources : Sources) (list : List Member) where
 
   -- ---- one more at the end
 
-  abbrev pub AllBefore : List TraceStep → TraceStep → Type 0
+  abbrev AllBefore : List TraceStep → TraceStep → Type 0
   AllBefore [] t = Unit {0}
   AllBefore (x ∷ xs) t = B x t × AllBefore xs t
 
@@ -80,7 +80,7 @@ module _ (sources : Sources) (list : List Member) where
   before_snoc x [] t h b = (b, tt)
   before_snoc x (y ∷ xs) t h b = (h.0, before_snoc x xs t h.1 b)
 
-  pub rise_snoc : (xs : List TraceStep) (t : TraceStep) → Rise sources list xs → AllBefore xs t
+  rise_snoc : (xs : List TraceStep) (t : TraceStep) → Rise sources list xs → AllBefore xs t
       → Rise sources list (xs ++ t ∷ [])
   rise_snoc [] t h b = (tt, tt)
   rise_snoc (x ∷ xs) t h b = (before_snoc x xs t h.0 b.0, rise_snoc xs t h.1 b.1)
@@ -141,15 +141,15 @@ module _ (sources : Sources) (list : List Member) where
           subst (Rise sources list) (sym (one_more n m e)) (rise_snoc (run_to sources n) t (known all.1) (each_before m.shape t refl n all.0))
 
 module _ (sources : Sources) where
-  pub among_left : (xs ys : List TraceStep) (t : TraceStep) → Among t xs → Among t (xs ++ ys)
+  among_left : (xs ys : List TraceStep) (t : TraceStep) → Among t xs → Among t (xs ++ ys)
   among_left [] ys t i = absurd i
   among_left (x ∷ xs) ys t i = elim i [ inl e ↦ inl e | inr r ↦ inr (among_left xs ys t r) ]
 
-  pub among_last : (xs : List TraceStep) (t : TraceStep) → Among t (xs ++ t ∷ [])
+  among_last : (xs : List TraceStep) (t : TraceStep) → Among t (xs ++ t ∷ [])
   among_last [] t = inl refl
   among_last (x ∷ xs) t = inr (among_last xs t)
 
-  pub among_snoc : (xs : List TraceStep) (x t : TraceStep) → Among t (xs ++ x ∷ []) → Among t xs ⊎ (x ≡ t)
+  among_snoc : (xs : List TraceStep) (x t : TraceStep) → Among t (xs ++ x ∷ []) → Among t xs ⊎ (x ≡ t)
   among_snoc [] x t i = elim i [ inl e ↦ inr e | inr r ↦ absurd r ]
   among_snoc (y ∷ xs) x t i = elim i [ inl e ↦ inl (inl e) | inr r ↦ elim (among_snoc xs x t r) [ inl l ↦ inl (inr l) | inr e ↦ inr e ] ]
 

@@ -15,6 +15,8 @@ mod reading;
 mod step_words;
 mod text;
 mod tracing;
+mod turn;
+mod turns;
 mod words;
 
 pub use judge_reader::JudgeReader;

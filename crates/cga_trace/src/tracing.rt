@@ -1,30 +1,22 @@
 //! The run that a kept forest tells.
-ghost use Rattle.std.specs.Prelude.{◌≡◌, ◌≤◌, ℕ, IfOk, IsSome, OnOk, Some};
-ghost use Rattle.cga_order.specs.World.{is_instance};
+ghost use Rattle.std.specs.Prelude.{◌≡◌, ◌≤◌, ℕ, All, IfOk, IsSome, Some};
+ghost use Rattle.std.specs.List.{AllZip};
 ghost use Rattle.cga_shape.specs.declared.sources.Sources.{Sources};
 ghost use Rattle.cga_expand.specs.Run.{IsRun};
-ghost use Rattle.cga_index.specs.Tree.{IsHullTree, InTree, all_nodes};
 ghost use Rattle.cga_forest.specs.View.{Seen};
 ghost use Rattle.cga_forest.specs.Tree.{node_at};
-ghost use Rattle.cga_forest.specs.Walked.{forest_tree};
 ghost use Rattle.cga_trace.specs.Kept.{outcome_from, step_of_node};
-ghost use Rattle.cga_trace.specs.Order.{AreInside, AreOf, IsAdded, IsKnown};
+ghost use Rattle.cga_trace.specs.Order.{IsKnown, IsStepOf, IsTurn};
 ghost use Rattle.cga_trace.specs.Text.{AreSteps};
 
 use crate::fields::is_step;
+use crate::turn::Turn;
+use crate::turns::{sort_turns, turns_of};
 use cga_forest::{Forest, Node};
 use cga_fraction::{List, NoMemory};
 use cga_index::{HullTree, NodeId, all_nodes};
-use cga_key::StampKey;
 use cga_shape::{Kind, Outcome, TraceStep};
 use std::alloc::Global;
-use std::collections::BTreeMap;
-
-fn is_instance(node: &Node) -> bool
-    ensures { result ≡ is_instance node.now.kind }
-{
-    matches!(node.kind, Kind::Instance(_))
-}
 
 fn outcome_from(kind: Kind, children: usize) -> Outcome
     requires few { children ≤ 4096 }
@@ -59,7 +51,6 @@ fn step_of(alloc: Global, node: &Node, children: usize) -> Result<TraceStep, NoM
 // The step that a node is kept of.
 fn step_at(alloc: Global, forest: &Forest, id: NodeId) -> Result<TraceStep, NoMemory>
     requires here { IsSome (node_at forest.now id) }
-    requires inside { InTree (forest_tree forest.now) id }
     ensures { IfOk result (λ step. (d : Seen) → node_at forest.now id ≡ Some d → step ≡ step_of_node d) }
 {
     forest.laws();
@@ -70,50 +61,19 @@ fn step_at(alloc: Global, forest: &Forest, id: NodeId) -> Result<TraceStep, NoMe
     }
 }
 
-fn is_instance_at(forest: &Forest, id: NodeId) -> bool
-    requires here { IsSome (node_at forest.now id) }
-    ensures { (d : Seen) → node_at forest.now id ≡ Some d → result ≡ is_instance d.node.kind }
+// The steps of these turns, one after the other.
+fn steps_of(alloc: Global, forest: &Forest, turns: &[Turn<'_>]) -> Result<Vec<TraceStep>, NoMemory>
+    requires turns { All (IsTurn forest.now) turns.now }
+    ensures steps { IfOk result (λ steps. AllZip (IsStepOf forest.now) turns.now steps.items) }
+    ensures fields { IfOk result (λ steps. AreSteps steps.items) }
 {
-    match forest.node(id) {
-        Some(node) => is_instance(node),
-        None => unreachable!(),
+    let mut steps = Vec::with_capacity(alloc, turns.len())?;
+    for turn in turns {
+        let step = step_at(alloc, forest, turn.id)?;
+        is_step(&step);
+        steps.push(step)?;
     }
-}
-
-// The step of the node comes to the order, if it isn't an instance.
-fn add(
-    alloc: Global,
-    forest: &Forest,
-    id: NodeId,
-    order: &mut BTreeMap<StampKey, TraceStep>,
-) -> Result<(), NoMemory>
-    requires here { IsSome (node_at forest.now id) }
-    requires inside { InTree (forest_tree forest.now) id }
-    ensures { OnOk result (IsAdded forest.now id order.old.entries order.new.entries) }
-{
-    if is_instance_at(forest, id) {
-        return Ok(());
-    }
-    let key = StampKey::of(alloc, forest.mode(), &forest.chain(id))?;
-    let step = step_at(alloc, forest, id)?;
-    order.insert(key, step)?;
-    Ok(())
-}
-
-// The steps of these nodes, by their stamps.
-fn order_of(
-    alloc: Global,
-    forest: &Forest,
-    nodes: &[NodeId],
-) -> Result<BTreeMap<StampKey, TraceStep>, NoMemory>
-    requires inside { AreInside forest.now nodes.now }
-    ensures { IfOk result (λ order. AreOf forest.now nodes.now order.entries) }
-{
-    let mut order = BTreeMap::new(alloc);
-    for id in nodes {
-        add(alloc, forest, *id, &mut order)?;
-    }
-    Ok(order)
+    Ok(steps)
 }
 
 /// The run of sources for which the forest stands. Each of its steps has a text that no other step has. Takes memory. The
@@ -124,11 +84,8 @@ pub fn trace(alloc: Global, forest: &Forest) -> Result<List<TraceStep>, NoMemory
 {
     forest.laws();
     let nodes = all_nodes(alloc, forest)?;
-    let mut order = order_of(alloc, forest, nodes.as_slice())?;
-    let mut steps = Vec::new(alloc);
-    while let Some((_key, step)) = order.pop_first() {
-        is_step(&step);
-        steps.push(step)?;
-    }
+    let mut turns = turns_of(alloc, forest, nodes.as_slice())?;
+    sort_turns(forest.mode(), &mut turns);
+    let steps = steps_of(alloc, forest, turns.as_slice())?;
     Ok(List::from_vec(steps))
 }

@@ -1,7 +1,13 @@
 use Rattle.std.proofs.Common.{ap, ◌∙◌, arith, length}
+use Rattle.cga_forest.proofs.Door.{inside}
 use Rattle.cga_forest.specs.Tree.{children_of}
-use Rattle.cga_trace.proofs.Entries.{some_of}
+use Rattle.cga_trace.proofs.Turning.{some_of}
 use Rattle.cga_trace.proofs.tracing.step_at.Goals as goal
+
+pub children-children-requires : goal.children-children-requires
+children-children-requires c =
+    let n = some_of _ c.requires.here in
+    inside c.args.forest.now c.laws.ensures c.args.id (n.0, n.1)
 
 pub step_of-requires : goal.step_of-requires
 step_of-requires c =
