@@ -39,7 +39,7 @@ fn push_amount(text: &mut Text, number: u128) -> Result<(), NoMemory>
     ensures { OnOk result (text.new ≡ text.old ++ pointed 6 number) }
 {
     text.push_whole(number / MILLION)?;
-    text.push(b".")?;
+    text.push_byte(b'.')?;
     push_padded(text, number)
 }
 
@@ -49,15 +49,15 @@ fn push_line(text: &mut Text, symbol: &Name, sums: &Sums) -> Result<(), NoMemory
 {
     text.push(b"# bill ")?;
     text.push(symbol.bytes())?;
-    text.push(b" ")?;
+    text.push_byte(b' ')?;
     text.push_whole(u128::from(sums.number))?;
-    text.push(b" ")?;
+    text.push_byte(b' ')?;
     push_amount(text, sums.front)?;
-    text.push(b" ")?;
+    text.push_byte(b' ')?;
     push_amount(text, sums.volume)?;
-    text.push(b" ")?;
+    text.push_byte(b' ')?;
     text.push_whole(u128::from(sums.unmeasured))?;
-    text.push(b"\n")
+    text.push_byte(b'\n')
 }
 
 fn push_lines(text: &mut Text, lines: &Lines) -> Result<(), NoMemory>
@@ -75,6 +75,6 @@ pub fn push_bill(text: &mut Text, lines: &Lines) -> Result<(), NoMemory>
 {
     text.push(b"# bill ")?;
     text.push_whole(lines.len() as u128)?;
-    text.push(b"\n")?;
+    text.push_byte(b'\n')?;
     push_lines(text, lines)
 }

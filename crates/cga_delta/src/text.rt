@@ -12,11 +12,11 @@ use std::alloc::Global;
 fn push_point(text: &mut Text, point: Point) -> Result<(), NoMemory>
     ensures { OnOk result (text.new ≡ text.old ++ point_text point) }
 {
-    text.push(b" ")?;
+    text.push_byte(b' ')?;
     text.push_exact(point.x)?;
-    text.push(b" ")?;
+    text.push_byte(b' ')?;
     text.push_exact(point.y)?;
-    text.push(b" ")?;
+    text.push_byte(b' ')?;
     text.push_exact(point.z)
 }
 
@@ -24,7 +24,7 @@ fn push_point(text: &mut Text, point: Point) -> Result<(), NoMemory>
 fn push_axes(text: &mut Text, frame: Frame) -> Result<(), NoMemory>
     ensures { OnOk result (text.new ≡ text.old ++ axes_text frame) }
 {
-    text.push(b" ")?;
+    text.push_byte(b' ')?;
     text.push(direction_word(frame.axis(Axis::X)))?;
     text.push(direction_word(frame.axis(Axis::Y)))?;
     text.push(direction_word(frame.axis(Axis::Z)))
@@ -35,9 +35,9 @@ fn push_drawn(text: &mut Text, drawn: &Drawn) -> Result<(), NoMemory>
     ensures { OnOk result (text.new ≡ text.old ++ drawn_text drawn.now) }
 {
     text.push(drawn.lot.bytes())?;
-    text.push(b" ")?;
+    text.push_byte(b' ')?;
     text.push(drawn.symbol.bytes())?;
-    text.push(b" ")?;
+    text.push_byte(b' ')?;
     text.push(primitive_word(drawn.primitive))?;
     push_point(text, drawn.scope.at())?;
     push_axes(text, drawn.scope.frame())?;
@@ -50,7 +50,7 @@ fn push_line(text: &mut Text, sign: &[u8], drawn: &Drawn) -> Result<(), NoMemory
 {
     text.push(sign)?;
     push_drawn(text, drawn)?;
-    text.push(b"\n")
+    text.push_byte(b'\n')
 }
 
 fn push_all(text: &mut Text, sign: &[u8], all: &[Drawn]) -> Result<(), NoMemory>
@@ -68,9 +68,9 @@ fn push_header(text: &mut Text, gone: usize, come: usize) -> Result<(), NoMemory
 {
     text.push(b"# changed ")?;
     text.push_whole(gone as u128)?;
-    text.push(b" ")?;
+    text.push_byte(b' ')?;
     text.push_whole(come as u128)?;
-    text.push(b"\n")
+    text.push_byte(b'\n')
 }
 
 #[tactic(auto, unfolding(crate::specs::Text::told_text))]

@@ -1,4 +1,4 @@
-ghost use Rattle.std.specs.Prelude.{◌≡◌, ◌≤◌, [], ◌++◌, OnOk, decimal};
+ghost use Rattle.std.specs.Prelude.{◌≡◌, ◌≤◌, [], ◌∷◌, ◌++◌, OnOk, decimal};
 ghost use Rattle.cga_fraction.specs.Decimals.{IsLiteral};
 ghost use Rattle.cga_fraction.specs.Texts.{decimal_text_of, exact_text_of, literal_text_of};
 
@@ -47,6 +47,14 @@ impl Text {
         ensures { OnOk result (self.new ≡ self.old ++ bytes.now) }
     {
         self.bytes.extend_from_slice(bytes)?;
+        Ok(())
+    }
+
+    /// Adds one byte, in less time than a slice of one takes.
+    pub fn push_byte(&mut self, byte: u8) -> Result<(), NoMemory>
+        ensures { OnOk result (self.new ≡ self.old ++ byte ∷ []) }
+    {
+        self.bytes.push(byte)?;
         Ok(())
     }
 

@@ -10,7 +10,7 @@ use std::alloc::Global;
 fn push_index(text: &mut Text, index: u16) -> Result<(), NoMemory>
     ensures { OnOk result (text.new ≡ text.old ++ index_text index) }
 {
-    text.push(b"/")?;
+    text.push_byte(b'/')?;
     text.push_whole(u128::from(index))
 }
 
@@ -29,7 +29,7 @@ pub fn push_path(text: &mut Text, path: &[u16]) -> Result<(), NoMemory>
     ensures { OnOk result (text.new ≡ text.old ++ path_text path.now) }
 {
     match path {
-        [] => text.push(b"/"),
+        [] => text.push_byte(b'/'),
         _ => push_indices(text, path),
     }
 }
@@ -60,13 +60,13 @@ fn push_fault(text: &mut Text, line: &FaultLine) -> Result<(), NoMemory>
 {
     text.push(b"# fault ")?;
     text.push(line.lot.bytes())?;
-    text.push(b" ")?;
+    text.push_byte(b' ')?;
     push_path(text, line.path.as_slice())?;
-    text.push(b" ")?;
+    text.push_byte(b' ')?;
     text.push(line.symbol.bytes())?;
-    text.push(b" ")?;
+    text.push_byte(b' ')?;
     text.push(fault_code(line.fault))?;
-    text.push(b"\n")
+    text.push_byte(b'\n')
 }
 
 fn push_faults(text: &mut Text, faults: &[FaultLine]) -> Result<(), NoMemory>
@@ -86,7 +86,7 @@ pub fn fault_text(alloc: Global, faults: &[FaultLine]) -> Result<List<u8>, NoMem
     let mut text = Text::new(alloc);
     text.push(b"# faults ")?;
     text.push_whole(faults.len() as u128)?;
-    text.push(b"\n")?;
+    text.push_byte(b'\n')?;
     push_faults(&mut text, faults)?;
     Ok(text.into_list())
 }

@@ -12,11 +12,11 @@ fn push_vertex(text: &mut Text, decimals: u8, vertex: &Point) -> Result<(), NoMe
 {
     text.push(b"v ")?;
     text.push_decimal(vertex.x, decimals)?;
-    text.push(b" ")?;
+    text.push_byte(b' ')?;
     text.push_decimal(vertex.y, decimals)?;
-    text.push(b" ")?;
+    text.push_byte(b' ')?;
     text.push_decimal(vertex.z, decimals)?;
-    text.push(b"\n")
+    text.push_byte(b'\n')
 }
 
 fn push_vertices(text: &mut Text, decimals: u8, vertices: &[Point]) -> Result<(), NoMemory>
@@ -35,7 +35,7 @@ fn push_corner(text: &mut Text, before: u128, corner: u32) -> Result<(), NoMemor
     requires { before + 2 ^ 64 ≤ 2 ^ 128 }
     ensures { OnOk result (text.new ≡ text.old ++ corner_text before corner) }
 {
-    text.push(b" ")?;
+    text.push_byte(b' ')?;
     text.push_whole(before + u128::from(corner))
 }
 
@@ -55,9 +55,9 @@ fn push_face(text: &mut Text, before: u128, corners: &[u32]) -> Result<(), NoMem
     requires { before + 2 ^ 64 ≤ 2 ^ 128 }
     ensures { OnOk result (text.new ≡ text.old ++ face_line before corners.now) }
 {
-    text.push(b"f")?;
+    text.push_byte(b'f')?;
     push_corners(text, before, corners)?;
-    text.push(b"\n")
+    text.push_byte(b'\n')
 }
 
 fn push_faces(text: &mut Text, before: u128, faces: &[List<u32>]) -> Result<(), NoMemory>

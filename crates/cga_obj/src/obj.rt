@@ -17,7 +17,7 @@ fn push_name(text: &mut Text, word: &[u8], name: &Name) -> Result<(), NoMemory>
 {
     text.push(word)?;
     text.push(name.bytes())?;
-    text.push(b"\n")
+    text.push_byte(b'\n')
 }
 
 // Adds an instance, and gives the number of its vertices.

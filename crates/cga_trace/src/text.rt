@@ -23,11 +23,11 @@ fn push_outcome(text: &mut Text, outcome: Outcome) -> Result<(), NoMemory>
 fn push_told(text: &mut Text, step: &TraceStep) -> Result<(), NoMemory>
     ensures { OnOk result (text.new ≡ text.old ++ told_text step.now) }
 {
-    text.push(b" ")?;
+    text.push_byte(b' ')?;
     text.push(answer_word(step.answers.noparent))?;
-    text.push(b" ")?;
+    text.push_byte(b' ')?;
     text.push(answer_word(step.answers.active))?;
-    text.push(b" ")?;
+    text.push_byte(b' ')?;
     push_outcome(text, step.outcome)
 }
 
@@ -38,9 +38,9 @@ pub fn push_step(text: &mut Text, step: &TraceStep) -> Result<(), NoMemory>
 {
     text.push(b"# step ")?;
     text.push(step.lot.bytes())?;
-    text.push(b" ")?;
+    text.push_byte(b' ')?;
     push_path(text, step.path.as_slice())?;
-    text.push(b" ")?;
+    text.push_byte(b' ')?;
     text.push(step.symbol.bytes())?;
     push_told(text, step)
 }
@@ -49,7 +49,7 @@ fn push_line(text: &mut Text, step: &TraceStep) -> Result<(), NoMemory>
     ensures { OnOk result (text.new ≡ text.old ++ (step_text step.now ++ codes "\n")) }
 {
     push_step(text, step)?;
-    text.push(b"\n")
+    text.push_byte(b'\n')
 }
 
 fn push_lines(text: &mut Text, steps: &[TraceStep]) -> Result<(), NoMemory>
@@ -77,7 +77,7 @@ pub fn trace_text(alloc: Global, steps: &[TraceStep]) -> Result<List<u8>, NoMemo
 {
     let mut text = Text::new(alloc);
     push_header(&mut text, steps.len())?;
-    text.push(b"\n")?;
+    text.push_byte(b'\n')?;
     push_lines(&mut text, steps)?;
     Ok(text.into_list())
 }
@@ -94,6 +94,6 @@ pub fn judged_text(alloc: Global, place: Option<u32>) -> Result<List<u8>, NoMemo
     };
     text.push(b"# rejected at ")?;
     text.push_whole(u128::from(line))?;
-    text.push(b"\n")?;
+    text.push_byte(b'\n')?;
     Ok(text.into_list())
 }

@@ -31,7 +31,7 @@ impl Fraction {
         ensures { OnOk result (text.new.items ≡ text.old.items ++ decimal_text_of self places) }
     {
         let magnitude = self.rounded_magnitude(places);
-        text.extend_from_slice(minus(self.numerator, magnitude))?;
+        push_minus(text, self.numerator, magnitude)?;
         push_pointed(text, magnitude, places)
     }
 
@@ -140,15 +140,14 @@ fn narrow_power_of_ten(exponent: u8) -> u64
     }
 }
 
-// A minus before a number below 0, and none before zero.
-fn minus(numerator: i64, magnitude: u128) -> &'static [u8]
-    ensures { result.now ≡ minus_of (with_sign numerator magnitude) }
+// Appends a minus before a number below 0, and none before zero.
+fn push_minus(out: &mut Vec<u8>, numerator: i64, magnitude: u128) -> Result<(), NoMemory>
+    ensures { OnOk result (out.new.items ≡ out.old.items ++ minus_of (with_sign numerator magnitude)) }
 {
     if numerator < 0 && magnitude != 0 {
-        b"-"
-    } else {
-        b""
+        out.push(b'-')?;
     }
+    Ok(())
 }
 
 #[tactic(auto, using(crate::proofs::Texts::ten_positive))]
