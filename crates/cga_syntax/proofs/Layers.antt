@@ -38,21 +38,21 @@ unfolding primary_pieces expr_pieces
 rand_out j low high steps = ap primary_pieces (sym (rolls-Rand j low high steps)) ∙ fold-roll-Primary Pieces Pieces Pieces Pieces Pieces Pieces primary_step added_step expr_step factor_step scaled_step term_step (layer.Rand j low high steps)
 
 -- the tokens of a rand, one part after the other
-pub rand_on : (p : Primary) (ms m2 m3 m4 : List Mark) (j : ℕ) (x y low high : Expr) (steps : ℕ)
-    → p ≡ Rand j low high steps → x ≡ low → y ≡ high →
-    m2 ≡ printed_on ms (drawn j ∷ sign s.LeftRound ∷ []) →
-    m3 ≡ printed_on (printed_on m2 (expr_pieces x)) (sign s.Comma ∷ []) →
-    m4 ≡ printed_on (printed_on m3 (expr_pieces y)) (sign s.Comma ∷ []) →
-    printed_on m4 (whole 1 1000000 steps ∷ sign s.RightRound ∷ []) ≡ printed_on ms (primary_pieces p)
-rand_on p ms m2 m3 m4 j x y low high steps is e f h2 h3 h4 =
-    let a : Pieces = expr_pieces x in
-    let b : Pieces = expr_pieces y in
-    let end : Pieces = whole 1 1000000 steps ∷ sign s.RightRound ∷ [] in
-    ap (λ z. printed_on z end) h4
-    ∙ sym (on_join m3 b (sign s.Comma ∷ end))
-    ∙ ap (λ z. printed_on z (b ++ (sign s.Comma ∷ end))) h3
-    ∙ sym (on_join m2 a (sign s.Comma ∷ (b ++ (sign s.Comma ∷ end))))
-    ∙ ap (λ z. printed_on z (a ++ (sign s.Comma ∷ (b ++ (sign s.Comma ∷ end))))) h2
-    ∙ ap (λ z. printed_on ms (drawn j ∷ sign s.LeftRound ∷ (expr_pieces z ++ (sign s.Comma ∷ (b ++ (sign s.Comma ∷ end)))))) e
-    ∙ ap (λ z. printed_on ms (drawn j ∷ sign s.LeftRound ∷ (expr_pieces low ++ (sign s.Comma ∷ (expr_pieces z ++ (sign s.Comma ∷ end)))))) f
-    ∙ ap (printed_on ms) (sym (ap primary_pieces is ∙ rand_out j low high steps))
+module _ (p : Primary) (j : ℕ) (low high : Expr) (steps : ℕ) (is : p ≡ Rand j low high steps) where
+  pub rand_on : (ms m2 m3 m4 : List Mark) (x y : Expr) → x ≡ low → y ≡ high →
+      m2 ≡ printed_on ms (drawn j ∷ sign s.LeftRound ∷ []) →
+      m3 ≡ printed_on (printed_on m2 (expr_pieces x)) (sign s.Comma ∷ []) →
+      m4 ≡ printed_on (printed_on m3 (expr_pieces y)) (sign s.Comma ∷ []) →
+      printed_on m4 (whole 1 1000000 steps ∷ sign s.RightRound ∷ []) ≡ printed_on ms (primary_pieces p)
+  rand_on ms m2 m3 m4 x y e f h2 h3 h4 =
+      let a : Pieces = expr_pieces x in
+      let b : Pieces = expr_pieces y in
+      let end : Pieces = whole 1 1000000 steps ∷ sign s.RightRound ∷ [] in
+      ap (λ z. printed_on z end) h4
+      ∙ sym (on_join m3 b (sign s.Comma ∷ end))
+      ∙ ap (λ z. printed_on z (b ++ (sign s.Comma ∷ end))) h3
+      ∙ sym (on_join m2 a (sign s.Comma ∷ (b ++ (sign s.Comma ∷ end))))
+      ∙ ap (λ z. printed_on z (a ++ (sign s.Comma ∷ (b ++ (sign s.Comma ∷ end))))) h2
+      ∙ ap (λ z. printed_on ms (drawn j ∷ sign s.LeftRound ∷ (expr_pieces z ++ (sign s.Comma ∷ (b ++ (sign s.Comma ∷ end)))))) e
+      ∙ ap (λ z. printed_on ms (drawn j ∷ sign s.LeftRound ∷ (expr_pieces low ++ (sign s.Comma ∷ (expr_pieces z ++ (sign s.Comma ∷ end)))))) f
+      ∙ ap (printed_on ms) (sym (ap primary_pieces is ∙ rand_out j low high steps))

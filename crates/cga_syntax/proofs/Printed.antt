@@ -30,17 +30,18 @@ each_on w ms xs i x now out lt is before e =
     ∙ before
 
 -- the same where each stands after a token
-pub after_on : {A : Type 0} (p : Piece) (w : A → Pieces) (ms : List Mark) (xs : List A) (i : ℕ) (x : A)
-    (middle now out : List Mark)
-    → i < length xs → x ≡ get_or xs i x →
-    printed_on ms (after_each p (map w (drop i xs))) ≡ out → middle ≡ ms ++ printed_piece p → now ≡ printed_on middle (w x) →
-    printed_on now (after_each p (map w (drop (i + 1) xs))) ≡ out
-after_on p w ms xs i x middle now out lt is before m e =
-    ap (λ z. printed_on z (after_each p (map w (drop (i + 1) xs)))) (e ∙ ap (λ z. printed_on z (w x)) m)
-    ∙ sym (on_join (ms ++ printed_piece p) (w x) (after_each p (map w (drop (i + 1) xs))))
-    ∙ ap (λ y. printed_on ms (p ∷ (w y ++ after_each p (map w (drop (i + 1) xs))))) is
-    ∙ sym (at_drop_more (λ r. printed_on ms (after_each p (map w r))) xs i x lt)
-    ∙ before
+module _ {A : Type 0} (p : Piece) (w : A → Pieces) where
+  pub after_on : (ms : List Mark) (xs : List A) (i : ℕ) (x : A)
+      (middle now out : List Mark)
+      → i < length xs → x ≡ get_or xs i x →
+      printed_on ms (after_each p (map w (drop i xs))) ≡ out → middle ≡ ms ++ printed_piece p → now ≡ printed_on middle (w x) →
+      printed_on now (after_each p (map w (drop (i + 1) xs))) ≡ out
+  after_on ms xs i x middle now out lt is before m e =
+      ap (λ z. printed_on z (after_each p (map w (drop (i + 1) xs)))) (e ∙ ap (λ z. printed_on z (w x)) m)
+      ∙ sym (on_join (ms ++ printed_piece p) (w x) (after_each p (map w (drop (i + 1) xs))))
+      ∙ ap (λ y. printed_on ms (p ∷ (w y ++ after_each p (map w (drop (i + 1) xs))))) is
+      ∙ sym (at_drop_more (λ r. printed_on ms (after_each p (map w r))) xs i x lt)
+      ∙ before
 
 -- ---- lists with tokens between
 
@@ -67,16 +68,17 @@ spread_step p true ms middle now ps pss m e =
 spread_step p false ms middle now ps pss m e =
     ap (printed_on now) (spread_later p pss) ∙ ap (λ z. printed_on z (after_each p pss)) (e ∙ ap (λ z. printed_on z ps) m) ∙ sym (on_join ms ps (after_each p pss))
 
-pub spread_on : {A : Type 0} (p : Piece) (w : A → Pieces) (some : Bool) (ms : List Mark) (xs : List A) (i : ℕ) (x : A)
-    (middle now out : List Mark)
-    → i < length xs → x ≡ get_or xs i x →
-    printed_on ms (spread p some (map w (drop i xs))) ≡ out → middle ≡ (if some then ms ++ printed_piece p else ms) → now ≡ printed_on middle (w x) →
-    printed_on now (spread p true (map w (drop (i + 1) xs))) ≡ out
-spread_on p w some ms xs i x middle now out lt is before m e =
-    spread_step p some ms middle now (w x) (map w (drop (i + 1) xs)) m e
-    ∙ ap (λ y. printed_on ms (spread p some (w y ∷ map w (drop (i + 1) xs)))) is
-    ∙ sym (at_drop_more (λ r. printed_on ms (spread p some (map w r))) xs i x lt)
-    ∙ before
+module _ {A : Type 0} (p : Piece) (w : A → Pieces) where
+  pub spread_on : (some : Bool) (ms : List Mark) (xs : List A) (i : ℕ) (x : A)
+      (middle now out : List Mark)
+      → i < length xs → x ≡ get_or xs i x →
+      printed_on ms (spread p some (map w (drop i xs))) ≡ out → middle ≡ (if some then ms ++ printed_piece p else ms) → now ≡ printed_on middle (w x) →
+      printed_on now (spread p true (map w (drop (i + 1) xs))) ≡ out
+  spread_on some ms xs i x middle now out lt is before m e =
+      spread_step p some ms middle now (w x) (map w (drop (i + 1) xs)) m e
+      ∙ ap (λ y. printed_on ms (spread p some (w y ∷ map w (drop (i + 1) xs)))) is
+      ∙ sym (at_drop_more (λ r. printed_on ms (spread p some (map w r))) xs i x lt)
+      ∙ before
 
 pub separated_cut : (p : Piece) (ms : List Mark) (pss : List Pieces) (end : Pieces)
     → printed_on ms (separated p pss end) ≡ printed_on (printed_on ms (separated p pss [])) end

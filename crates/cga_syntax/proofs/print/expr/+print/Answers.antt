@@ -14,6 +14,6 @@ push_all_scaled-loop-more-preserved t c = each_on scaled_pieces c.loop-more.mark
 
 pub push_primary-returns-in_ok-push_bound-in-Rand-2 : goal.push_primary-returns-in_ok-push_bound-in-Rand-2
 push_primary-returns-in_ok-push_bound-in-Rand-2 t c =
-    let e = rand_on c.args.primary.now c.args.marks.now _ _ _ c.in-Rand.number _ _ c.in-Rand.low c.in-Rand.high c.in-Rand.steps c.in-Rand.is c.get-in-Rand.ensures c.get-in-Rand-2.ensures
-    c.in_ok-push_opened-in-Rand.ensures c.in_ok-push_bound-in-Rand.ensures c.in_ok-push_bound-in-Rand-2.ensures in
+    let e = rand_on c.args.primary.now c.in-Rand.number c.in-Rand.low c.in-Rand.high c.in-Rand.steps c.in-Rand.is
+    c.args.marks.now _ _ _ _ _ c.get-in-Rand.ensures c.get-in-Rand-2.ensures c.in_ok-push_opened-in-Rand.ensures c.in_ok-push_bound-in-Rand.ensures c.in_ok-push_bound-in-Rand-2.ensures in
     subst (λ (z : List Mark). OnOk c.push_steps.result (c.push_steps.new.marks ≡ z)) e c.push_steps.ensures
