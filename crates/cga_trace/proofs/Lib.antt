@@ -5,7 +5,6 @@ mod LineWords
 mod Sorted
 mod Kept
 mod Places
-mod Once
 mod Turning
 mod Tells
 mod TraceLines
