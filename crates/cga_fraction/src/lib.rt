@@ -1,6 +1,6 @@
-//! Exact fractions, and the small types that every crate above shares: lists, lists with several owners and boxes that
-//! contracts see as what they hold, texts that grow, the answers for want of memory and for an early stop, and counters
-//! of expansions and of box tests.
+//! Exact fractions, and the small types that every crate above shares. Lists, lists with several owners and boxes are
+//! such types, which contracts see as what they hold, and so are texts that grow and counters of expansions and of box
+//! tests. The answers for want of memory and for an early stop stand here, too.
 //!
 //! It must not know shapes or scopes.
 //!
