@@ -5,6 +5,7 @@ mod TwoLines
 mod NoEntry
 mod Later
 mod OneByOne
+mod Sorting
 mod LinesTold
 mod Stamped
 mod Bounding

@@ -7,7 +7,7 @@ use Rattle.cga_order.proofs.Door.{Among-index}
 use Rattle.cga_queue.specs.Agenda.{AgendaView, Chains, Grows, HasAll}
 use Rattle.cga_queue.proofs.OnIt.{grows_by, grows_on}
 
-among_from : {X : Type 0} (xs : List X) (j : ℕ) (x : X) → slice_get xs j ≡ Some x → Among x xs
+pub among_from : {X : Type 0} (xs : List X) (j : ℕ) (x : X) → slice_get xs j ≡ Some x → Among x xs
 among_from [] j x h = None-not-Some x h
 among_from (y ∷ xs) zero x h = inl (same_Some y x h)
 among_from (y ∷ xs) (suc j) x h = inr (among_from xs j x h)

@@ -1,6 +1,7 @@
 -- The agenda: numbers of nodes by the stamps at which they are to be looked at. An entry stays when its node goes, and
 -- says nothing then.
 use Rattle.std.specs.Prelude.{◌≡◌, ◌⊎◌, ℕ, List, Option, Some, None, IsSome, Bool, true, false, ◌&&◌, nat_eq}
+use Rattle.std.specs.declared.cmp.Ordering.{Ordering}
 use Rattle.std.specs.declared.cmp.Ordering.TheVariants.{Less, Equal}
 use Rattle.std.specs.List.{list_any}
 use Rattle.std.specs.Ordering.{is_eq, is_lt}
@@ -89,6 +90,12 @@ abbrev pub is_later : Mode → Option Chain → Option Chain → Bool
 is_later mode None y = false
 is_later mode (Some x) None = false
 is_later mode (Some x) (Some y) = is_lt (stamp_cmp mode x y)
+
+-- how two nodes compare by their stamps, where both have one
+abbrev pub both_cmp : Mode → Option Chain → Option Chain → Ordering
+both_cmp mode None y = Equal
+both_cmp mode (Some x) None = Equal
+both_cmp mode (Some x) (Some y) = stamp_cmp mode x y
 
 -- the node comes later than another
 abbrev pub ComesAfter : Chains → Mode → ℕ → ℕ → Type 0

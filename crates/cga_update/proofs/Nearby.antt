@@ -1,14 +1,16 @@
 -- Nodes that are put on the agenda, whatever their stamps.
-use Rattle.std.proofs.Common.{◌≡◌, ℕ, List, refl, sym, ap, ◌∙◌, Option, Some, None}
-use Rattle.cga_fraction.proofs.Door.{None-not-Some as none_some, same_Some as some_same}
+use Rattle.std.proofs.Common.{◌≡◌, ◌⊎◌, inl, inr, ℕ, ◌+◌, ◌<◌, ◌≤◌, List, [], ◌∷◌, ◌++◌, length, refl, sym, ap, ◌∙◌, subst, Option, Some, None, slice_get, arith}
+use Rattle.cga_fraction.proofs.Door.{None-not-Some as none_some, lt-length_from_slice_get as within, lt_or_eq_below_suc as below_or, same_Some as some_same}
+use Rattle.cga_order.specs.World.{Among}
+use Rattle.cga_order.proofs.Door.{Among-append, Among-index, Among-left, Among-right}
 use Rattle.cga_forest.specs.declared.moved.Moved.{Moved}
 use Rattle.cga_forest.specs.View.{Seen}
 use Rattle.cga_forest.specs.Tree.{ForestView, above, node_at}
-use Rattle.cga_queue.specs.Agenda.{AgendaView, Chains, Grows, HasAll}
-use Rattle.cga_queue.proofs.Door.{all_kept, grows_by, grows_not}
+use Rattle.cga_queue.specs.Agenda.{AgendaView, Chains, Grows}
+use Rattle.cga_queue.proofs.Door.{all_kept, among_from, grows_by}
 use Rattle.cga_update.specs.Askers.{IsAsker, IsOneOf}
 use Rattle.cga_update.specs.Begun.{HasMoved}
-use Rattle.cga_update.specs.Near.{IsAny, IsParent}
+use Rattle.cga_update.specs.Near.{IsAny, IsParent, IsParentOf}
 use Rattle.cga_update.specs.Queue.{chains_of}
 
 pub grows_any : (D : Chains) (P : ℕ → Type 0) (a b : AgendaView) → Grows D P a b → Grows D IsAny a b
@@ -20,24 +22,54 @@ above_is : (o : Option Seen) (p : ℕ) → above o ≡ Some p → (d : Seen) × 
 above_is None p h = none_some p h
 above_is (Some d) p h = (d, refl, h)
 
-module _ (v : ForestView) (id : ℕ) (a b : AgendaView) where
-  abbrev D : Chains
-  D = chains_of v
-
+module _ (v : ForestView) (id : ℕ) where
   above_of : (p : ℕ) → IsParent v id p → above (node_at v id) ≡ Some p
   above_of p w = ap above w.1 ∙ w.2
 
-  pub parent_grows : (parent : ℕ) → above (node_at v id) ≡ Some parent → Grows D (λ c. parent ≡ c) a b
-      → Grows D (IsParent v id) a b
-  parent_grows parent is g =
-      grows_by D (λ c. parent ≡ c) (IsParent v id) a b (λ c e. let w = above_is (node_at v id) parent is in (w.0, w.1, w.2 ∙ ap Some e)) g
+  pub no_parent : (p : ℕ) → above (node_at v id) ≡ None → IsParent v id p → ⊥
+  no_parent p is w = none_some p (sym is ∙ above_of p w)
 
-  pub parent_there : (parent : ℕ) → above (node_at v id) ≡ Some parent → HasAll D (λ c. parent ≡ c) b
-      → HasAll D (IsParent v id) b
-  parent_there parent is has c w here = has c (some_same parent c (sym is ∙ above_of c w)) here
+  -- the parent was put behind a list
+  module _ (a b : List ℕ) (parent : ℕ) (is : above (node_at v id) ≡ Some parent) (e : b ≡ a ++ parent ∷ []) where
+    pub parent_among : (p : ℕ) → IsParent v id p → Among p b
+    parent_among p w =
+        let same = some_same parent p (sym is ∙ above_of p w) in
+        subst (Among p) (sym e) (Among-right a (parent ∷ []) p (inl same))
 
-  pub no_parent : above (node_at v id) ≡ None → HasAll D (IsParent v id) b
-  no_parent is c w here = none_some c (sym is ∙ above_of c w)
+    pub parent_last : (p : ℕ) → Among p b → Among p a ⊎ IsParent v id p
+    parent_last p m = elim (Among-append a (parent ∷ []) p (subst (Among p) e m)) [
+      | inl l ↦ inl l
+      | inr r ↦ elim r [
+        | inl s ↦ let w = above_is (node_at v id) parent is in inr (w.0, w.1, w.2 ∙ ap Some s)
+        | inr z ↦ absurd z
+      ]
+    ]
+
+pub among_kept : (a b : List ℕ) (x : ℕ) → b ≡ a ++ x ∷ [] → (p : ℕ) → Among p a → Among p b
+among_kept a b x e p m = subst (Among p) (sym e) (Among-left a (x ∷ []) p m)
+
+-- the parents of the first nodes of a list
+module _ (v : ForestView) (ids : List ℕ) (n : ℕ) where
+  abbrev FirstParents : ℕ → List ℕ → Type 0
+  FirstParents m parents = (j c p : ℕ) → j < m → slice_get ids j ≡ Some c → IsParent v c p → Among p parents
+
+  module _ (id : ℕ) (a b : List ℕ) (at : slice_get ids n ≡ Some id) where
+    pub parents_more : ((p : ℕ) → Among p a → Among p b) → ((p : ℕ) → IsParent v id p → Among p b)
+        → FirstParents n a → FirstParents (n + 1) b
+    parents_more kept there has j c p lt e w = elim (below_or n j lt) [
+      | inl l ↦ kept p (has j c p l e w)
+      | inr s ↦ there p (subst (λ z. IsParent v z p) (some_same c id (sym e ∙ (ap (slice_get ids) s ∙ at))) w)
+    ]
+
+    pub parents_only : ((p : ℕ) → Among p b → Among p a ⊎ IsParent v id p)
+        → ((p : ℕ) → Among p a → IsParentOf v ids p) → (p : ℕ) → Among p b → IsParentOf v ids p
+    parents_only only has p m = elim (only p m) [ inl l ↦ has p l | inr w ↦ (id, among_from ids n id at, w) ]
+
+  pub parents_all : (parents : List ℕ) → length ids ≤ n → FirstParents n parents
+      → (p : ℕ) → IsParentOf v ids p → Among p parents
+  parents_all parents whole has p w =
+      let i = Among-index ids w.0 w.1 in
+      let below = within ids i.0 w.0 i.1 in has i.0 w.0 p (omega (arith, below, whole)) i.1 w.2
 
 -- what is on the agenda of what moved stays on it
 pub moved_kept : (v : ForestView) (P : ℕ → Type 0) (a b : AgendaView) → Grows (chains_of v) P a b

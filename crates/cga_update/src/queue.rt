@@ -1,5 +1,5 @@
 //! Nodes are put on the agenda, whatever their stamps.
-ghost use Rattle.std.specs.Prelude.{◌≡◌, ◌++◌, ℕ, List, true, IfOk, OnOk};
+ghost use Rattle.std.specs.Prelude.{◌≡◌, ◌⊎◌, ◌++◌, ℕ, List, true, IfOk, OnOk};
 ghost use Rattle.cga_order.specs.World.{Among};
 ghost use Rattle.cga_update.specs.Askers.{IsAsker, IsOneOf};
 ghost use Rattle.cga_update.specs.Near.{IsAny, IsChangedFor, IsParent, IsParentOf, IsPricedFor, KeepsPriorities, KeepsPriority};
@@ -11,7 +11,7 @@ use crate::askers::askers_near;
 use crate::worked::Worked;
 use cga_depend::Dependents;
 use cga_forest::{Forest, Moved};
-use cga_fraction::{NoMemory, Tests};
+use cga_fraction::{List, NoMemory, Tests};
 use cga_index::NodeId;
 use cga_queue::{Agenda, add, add_all};
 use cga_same::Grammars;
@@ -46,17 +46,17 @@ pub fn queue_near<T: Ledger>(
     add_all(agenda, &Worked { forest }, askers.as_slice())
 }
 
-/// Puts the parent of a node on it, where there is one. Takes memory.
-fn queue_parent(agenda: &mut Agenda, forest: &Forest, id: NodeId) -> Result<(), NoMemory>
-    requires one { OneEach (chains_of forest.now) }
-    ensures grows { OnOk result (Grows (chains_of forest.now) (IsParent forest.now id) agenda.old agenda.new) }
-    ensures there { OnOk result (HasAll (chains_of forest.now) (IsParent forest.now id) agenda.new) }
+/// Adds the parent of a node to a list, where there is one. Takes memory.
+fn note_parent(parents: &mut List<NodeId>, forest: &Forest, id: NodeId) -> Result<(), NoMemory>
+    ensures kept { OnOk result ((p : ℕ) → Among p parents.old → Among p parents.new) }
+    ensures there { OnOk result ((p : ℕ) → IsParent forest.now id p → Among p parents.new) }
+    ensures only { OnOk result ((p : ℕ) → Among p parents.new → Among p parents.old ⊎ IsParent forest.now id p) }
 {
     if forest.node(id).is_none() {
         return Ok(());
     }
     match forest.parent(id) {
-        Some(parent) => add(agenda, &Worked { forest }, parent),
+        Some(parent) => parents.push(parent),
         None => Ok(()),
     }
 }
@@ -67,10 +67,11 @@ pub fn queue_parents(agenda: &mut Agenda, forest: &Forest, ids: &[NodeId]) -> Re
     ensures grows { OnOk result (Grows (chains_of forest.now) (IsParentOf forest.now ids.now) agenda.old agenda.new) }
     ensures there { OnOk result (HasAll (chains_of forest.now) (IsParentOf forest.now ids.now) agenda.new) }
 {
+    let mut parents = List::new(agenda.alloc());
     for id in ids {
-        queue_parent(agenda, forest, *id)?;
+        note_parent(&mut parents, forest, *id)?;
     }
-    Ok(())
+    add_all(agenda, &Worked { forest }, parents.as_slice())
 }
 
 /// Puts the nodes of a symbol on it, and their parents where the symbol has another priority. Answers whether each of
@@ -90,11 +91,13 @@ fn queue_symbol(
     ensures priced { IfOk result (λ kept. kept ≡ true → KeepsPriority grammars.old.before grammars.old.after nodes.now symbol) }
 {
     let facts = grammars.of(symbol)?;
-    add_all(agenda, &Worked { forest }, nodes)?;
     if facts.same_priority {
+        add_all(agenda, &Worked { forest }, nodes)?;
         return Ok(true);
     }
+    // Parents come first, since they stand before their children.
     queue_parents(agenda, forest, nodes)?;
+    add_all(agenda, &Worked { forest }, nodes)?;
     Ok(nodes.is_empty())
 }
 

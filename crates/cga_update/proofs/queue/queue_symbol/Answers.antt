@@ -1,4 +1,4 @@
-use Rattle.std.proofs.Common.{inr}
+use Rattle.std.proofs.Common.{inl, inr}
 use Rattle.cga_order.specs.World.{Among}
 use Rattle.cga_queue.proofs.Door.{all_kept, grows_on}
 use Rattle.cga_update.specs.Near.{IsAny, IsParentOf}
@@ -22,13 +22,13 @@ returns-clause-grows c =
     let v = c.args.forest.now in
     let D = chains_of v in
     let nodes = c.args.nodes.now in
-    let mid = c.add_all.new.agenda in
-    grows_on D IsAny c.args.agenda.now mid c.queue_parents.new.agenda
-    (grows_any D (λ k. Among k nodes) c.args.agenda.now mid c.in_ok-add_all.ensures.grows)
-    (grows_any D (IsParentOf v nodes) mid c.queue_parents.new.agenda c.in_ok-queue_parents.ensures.grows)
+    let mid = c.queue_parents.new.agenda in
+    grows_on D IsAny c.args.agenda.now mid c.add_all-2.new.agenda
+    (grows_any D (IsParentOf v nodes) c.args.agenda.now mid c.in_ok-queue_parents.ensures.grows)
+    (grows_any D (λ k. Among k nodes) mid c.add_all-2.new.agenda c.in_ok-add_all-2.ensures.grows)
 
-pub returns-clause-there : goal.returns-clause-there
-returns-clause-there c =
+pub returns-clause-parents : goal.returns-clause-parents
+returns-clause-parents c =
     let v = c.args.forest.now in
     let nodes = c.args.nodes.now in
-    all_kept (chains_of v) (λ k. Among k nodes) (IsParentOf v nodes) c.add_all.new.agenda c.queue_parents.new.agenda c.in_ok-queue_parents.ensures.grows c.in_ok-add_all.ensures.there
+    inl (all_kept (chains_of v) (IsParentOf v nodes) (λ k. Among k nodes) c.queue_parents.new.agenda c.add_all-2.new.agenda c.in_ok-add_all-2.ensures.grows c.in_ok-queue_parents.ensures.there)
