@@ -1,8 +1,7 @@
 -- Where a text is cut.
-use Rattle.std.proofs.Common.{◌≡◌, ℕ, zero, suc, ◌+◌, ◌<◌, ◌≤◌, List, [], ◌∷◌, ◌++◌, length, take, drop, Bool, true}
-use Rattle.std.proofs.Common.{false, not, nat_eq, nat_lt, refl, ap, ◌∙◌, Option, Some, None, arith, length-append}
+use Rattle.std.proofs.Common.{◌≡◌, ℕ, zero, suc, ◌+◌, ◌<◌, ◌≤◌, List, [], ◌∷◌, ◌++◌, length, take, drop, true}
+use Rattle.std.proofs.Common.{not, nat_eq, refl, ap, ◌∙◌, Option, Some, None, arith, length-append}
 use Rattle.std.specs.List.{position_or_len}
-use Rattle.std.proofs.lemmas.Bool.Decides.{nat_tests}
 use Rattle.cga_trace.specs.Cut.{lacks, place_of, cut_at, cut_of}
 use Rattle.cga_trace.proofs.Again.{both}
 pub use Rattle.cga_fraction.proofs.Door.{false_from_not as not_true}

@@ -1,8 +1,8 @@
 -- Where lines differ from the text of a run.
 use Rattle.std.proofs.Common.{◌≡◌, ℕ, zero, suc, ◌+◌, ◌<◌, ◌≤◌, List, [], ◌∷◌, ◌++◌, length, map, take, Bool, true}
-use Rattle.std.proofs.Common.{false, not, ◌&&◌, cond, refl, sym, ap, ◌∙◌, subst, ◌⊎◌, inl, inr, Option, Some, None}
+use Rattle.std.proofs.Common.{false, not, ◌&&◌, cond, refl, sym, ap, ◌∙◌, subst, ◌⊎◌, inl, inr, Some, None}
 use Rattle.std.proofs.Common.{arith, length-append}
-use Rattle.std.specs.Prelude.{slice_get, bytes_eq, is_some, nat_lt}
+use Rattle.std.specs.Prelude.{slice_get, bytes_eq, nat_lt}
 use Rattle.std.proofs.lemmas.Bool.Decides.{nat_tests}
 use Rattle.std.proofs.lemmas.Slice.Eq.{bytes_eq-Decides}
 use Rattle.cga_form.specs.Lines.{Line, is_long}

@@ -1,4 +1,4 @@
-use Rattle.std.proofs.Common.{◌≡◌, ◌<◌, ◌++◌, ◌∷◌, [], refl, sym, ◌∙◌, subst, inl, inr, true, false}
+use Rattle.std.proofs.Common.{◌≡◌, ◌++◌, ◌∷◌, [], refl, sym, ◌∙◌, subst, inl, inr, false}
 use Rattle.std.specs.Prelude.{IfSome, IsSome}
 use Rattle.cga_form.specs.Lines.{Line}
 use Rattle.cga_shape.specs.declared.trace_step.TraceStep.{TraceStep}
