@@ -8,6 +8,7 @@ ghost use Rattle.cga_expand.specs.Rules.{chosen, known_to, optional_holds};
 use crate::choice::Choice;
 use crate::faults::or_expr;
 use cga_expr::{Names, holds};
+use cga_fraction::SharedBox;
 use cga_rule::{Attribute, Cond, Grammar, Rule};
 use cga_shape::{Answers, Shape, ShapeFault};
 
@@ -27,12 +28,16 @@ pub(crate) fn names_of<'a>(
     }
 }
 
-fn optional_holds(cond: &Option<Cond>, names: &Names, answers: &Answers) -> Result<bool, ShapeFault>
+fn optional_holds(
+    cond: &Option<SharedBox<Cond>>,
+    names: &Names,
+    answers: &Answers,
+) -> Result<bool, ShapeFault>
     ensures { result ≡ optional_holds cond.now (seen names.now) answers.now }
 {
     match cond {
         None => Ok(true),
-        Some(cond) => or_expr(holds(cond, names, answers)),
+        Some(cond) => or_expr(holds(cond.get(), names, answers)),
     }
 }
 

@@ -1,6 +1,6 @@
-//! Exact fractions, and the small types that every crate above shares. Lists, lists with several owners and boxes are
-//! such types, which contracts see as what they hold, and so are texts that grow and counters of expansions and of box
-//! tests. The answers for want of memory and for an early stop stand here, too.
+//! Exact fractions, and the small types that every crate above shares. Lists and boxes, with one owner or with several,
+//! are such types, which contracts see as what they hold, and so are texts that grow and counters of expansions and of
+//! box tests. The answers for want of memory and for an early stop stand here, too.
 //!
 //! It must not know shapes or scopes.
 //!
@@ -15,6 +15,7 @@ mod list;
 mod memory;
 mod overflow;
 mod shared;
+mod shared_box;
 mod steps;
 mod stop;
 mod text;
@@ -26,6 +27,7 @@ pub use list::List;
 pub use memory::NoMemory;
 pub use overflow::{DivFault, Overflow};
 pub use shared::Shared;
+pub use shared_box::SharedBox;
 pub use steps::Steps;
 pub use stop::{Stop, settled};
 pub use text::Text;

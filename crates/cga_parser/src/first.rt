@@ -6,7 +6,7 @@ ghost use Rattle.cga_parser.specs.Grammar as spec;
 
 use cga_form::fault::Fault;
 use cga_form::tokens::Tokens;
-use cga_fraction::{Boxed, List, NoMemory, Stop};
+use cga_fraction::{Boxed, List, NoMemory, Shared, SharedBox, Stop};
 use cga_lexer::Sign;
 use std::alloc::Global;
 
@@ -64,6 +64,26 @@ pub(crate) fn boxed<T: Drop>(
     ensures { (o : ReadResult T) (i : Input) → Reads o read i → Reads o result i }
 {
     Ok(Boxed::new(alloc, read?)?)
+}
+
+/// The list that was read, so that several may share it. Takes memory.
+pub(crate) fn shared<T: Drop>(
+    alloc: Global,
+    read: Result<List<T>, Stop<Fault>>,
+) -> Result<Shared<T>, Stop<Fault>>
+    ensures { (o : ReadResult (List T)) (i : Input) → Reads o read i → Reads o result i }
+{
+    Ok(Shared::from_vec(alloc, read?.into_vec())?)
+}
+
+/// What was read, in a box that several may share. Takes memory.
+pub(crate) fn shared_box<T: Drop>(
+    alloc: Global,
+    read: Result<T, Stop<Fault>>,
+) -> Result<SharedBox<T>, Stop<Fault>>
+    ensures { (o : ReadResult T) (i : Input) → Reads o read i → Reads o result i }
+{
+    Ok(SharedBox::new(alloc, read?)?)
 }
 
 /// What was read, once the sign is taken that ends it.

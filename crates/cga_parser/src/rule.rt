@@ -10,14 +10,14 @@ ghost use Rattle.cga_syntax.specs.Pieces.{rule_pieces};
 ghost use Rattle.cga_lexer.specs.declared.sign.Sign.TheVariants as sign;
 
 use crate::cond::cond;
-use crate::first::{both, closed, fitted, push_read};
+use crate::first::{both, closed, fitted, push_read, shared, shared_box};
 use crate::item::body;
 use crate::parts::goes_on;
 use cga_form::fault::Fault;
 use cga_form::numbers;
 use cga_form::parts::{finish, id, name};
 use cga_form::tokens::Tokens;
-use cga_fraction::{Fraction, List, NoMemory, Stop};
+use cga_fraction::{Fraction, List, NoMemory, SharedBox, Stop};
 use cga_lexer::{Sign, Token};
 use cga_syntax::{Alternative, Cond, Rule};
 use cga_word::Name;
@@ -68,12 +68,16 @@ fn parameters(alloc: Global, tokens: &mut Tokens<'_>, depth: u8) -> Result<List<
 }
 
 #[tactic(auto, unfolding(crate::specs::Grammar::condition))]
-fn condition(alloc: Global, tokens: &mut Tokens<'_>, depth: u8) -> Result<Option<Cond>, Stop<Fault>>
+fn condition(
+    alloc: Global,
+    tokens: &mut Tokens<'_>,
+    depth: u8,
+) -> Result<Option<SharedBox<Cond>>, Stop<Fault>>
     ensures { Reads (spec.condition depth (input_of tokens.old)) result (input_of tokens.new) }
 {
     if tokens.at_sign(Sign::Colon) {
         tokens.sign(Sign::Colon)?;
-        return Ok(Some(cond(alloc, tokens, depth)?));
+        return Ok(Some(shared_box(alloc, cond(alloc, tokens, depth))?));
     }
     Ok(None)
 }
@@ -134,9 +138,12 @@ pub fn rule(alloc: Global, tokens: &mut Tokens<'_>, depth: u8) -> Result<Rule, S
     let id = id(tokens)?;
     tokens.sign(Sign::Colon)?;
     let symbol = name(tokens)?;
-    let params = parameters(alloc, tokens, depth)?;
+    let params = shared(alloc, parameters(alloc, tokens, depth))?;
     let (params, cond) = both(params, condition(alloc, tokens, depth))?;
-    let ((params, cond), alternatives) = both((params, cond), alternatives(alloc, tokens, depth))?;
+    let ((params, cond), alternatives) = both(
+        (params, cond),
+        shared(alloc, alternatives(alloc, tokens, depth)),
+    )?;
     Ok(Rule {
         id,
         symbol,

@@ -1,4 +1,5 @@
-use crate::copy::rule::{copy_entries, copy_slice};
+ghost use Rattle.std.specs.Prelude.{◌≡◌, IfOk};
+
 use crate::rule::Rule;
 use cga_fraction::{Fraction, List, NoMemory, Shared};
 use cga_word::Name;
@@ -35,21 +36,27 @@ pub struct Group {
 }
 
 impl Grammar {
-    ghost use Rattle.std.specs.Prelude.{◌≡◌, IfOk};
-
     /// An equal grammar, which shares the rules. Takes memory for the attributes alone.
     pub fn copy(&self, alloc: Global) -> Result<Grammar, NoMemory>
         ensures { IfOk result (λ copy. copy ≡ self.now) }
     {
         let rules = self.rules.share()?;
-        let attributes = copy_slice(alloc, self.attributes.as_slice())?;
+        let attributes = List::from_vec(Vec::from_slice(alloc, self.attributes.as_slice())?);
         Ok(Grammar { attributes, rules })
     }
 
-    /// Each of the rules, copied. Takes memory.
+    /// Each of the rules, which share their parts with those of the grammar. Takes memory for the list of them alone.
     pub fn copy_rules(&self, alloc: Global) -> Result<Vec<Entry>, NoMemory>
         ensures { IfOk result (λ copy. copy.items ≡ self.now.rules) }
     {
-        Ok(copy_entries(alloc, self.rules.as_slice())?.into_vec())
+        let mut copy = Vec::with_capacity(alloc, self.rules.len())?;
+        for entry in self.rules.as_slice() {
+            let rule = entry.rule.copy()?;
+            copy.push(Entry {
+                priority: entry.priority,
+                rule,
+            })?;
+        }
+        Ok(copy)
     }
 }

@@ -1,5 +1,5 @@
 //! Rules as trees: what a rule, its condition and its bodies are made of, grammars and groups of rules, the faults of a
-//! check, and copies of trees.
+//! check, and copies of rules and grammars, which share their parts.
 //!
 //! It must not know how a tree is written or what a rule does.
 //!
@@ -9,7 +9,6 @@
 
 mod check_fault;
 mod cond;
-mod copy;
 mod expr;
 mod grammar;
 mod item;

@@ -6,6 +6,7 @@ use super::Sieve;
 use super::cond::sift_cond;
 use super::item::sift_items;
 use crate::usage::Use;
+use cga_fraction::SharedBox;
 use cga_rule::{Alternative, Cond, Rule};
 
 /// Err is the first use of the rule that the sieve catches.
@@ -18,12 +19,12 @@ pub(crate) fn sift_rule<S: Sieve>(rule: &Rule, sieve: &S) -> Result<(), Use>
 }
 
 #[tactic(auto, using(crate::proofs::Layers::items))]
-fn sift_condition<S: Sieve>(cond: &Option<Cond>, sieve: &S) -> Result<(), Use>
+fn sift_condition<S: Sieve>(cond: &Option<SharedBox<Cond>>, sieve: &S) -> Result<(), Use>
     ensures { result ≡ sifted (S.is_caught sieve.now) (spec.condition_uses cond.now) }
 {
     match cond {
         None => Ok(()),
-        Some(cond) => sift_cond(cond, sieve),
+        Some(cond) => sift_cond(cond.get(), sieve),
     }
 }
 

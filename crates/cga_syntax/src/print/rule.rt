@@ -11,7 +11,7 @@ use crate::print::list::push_params;
 use crate::print::mark::Mark;
 use crate::print::space::Space;
 use crate::print::token::{push_close, push_named, push_probability, push_sign, push_whole};
-use cga_fraction::{List, NoMemory};
+use cga_fraction::{List, NoMemory, SharedBox};
 use cga_lexer::Sign;
 use cga_rule::{Alternative, Cond, Rule};
 use cga_word::Name;
@@ -34,14 +34,14 @@ fn push_head(marks: &mut List<Mark>, id: u32, symbol: Name) -> Result<(), NoMemo
     push_named(marks, symbol)
 }
 
-fn push_condition(marks: &mut List<Mark>, cond: &Option<Cond>) -> Result<(), NoMemory>
+fn push_condition(marks: &mut List<Mark>, cond: &Option<SharedBox<Cond>>) -> Result<(), NoMemory>
     ensures { OnOk result (marks.new ≡ printed_on marks.old (spec.condition_pieces cond.now)) }
 {
     match cond {
         None => Ok(()),
         Some(cond) => {
             push_sign(marks, Sign::Colon)?;
-            push_cond(marks, cond)
+            push_cond(marks, cond.get())
         }
     }
 }
