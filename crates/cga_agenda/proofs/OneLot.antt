@@ -156,19 +156,3 @@ turn_from calls = (
 
 pub comes : ALotComes
 comes = record { ready = ready; turn = turn_from 0; idle = record { same = refl; none_queued = λ n k a h. refl; no_call = refl } }
-
--- what a worker tells of its one turn, and then
-pub turn_tells : (calls : ℕ) → TellsEach (means_one_lot false) (means_one_lot true) calls (calls + 1) (Some 0)
-turn_tells calls edit before (e, b) =
-    (state_when true, (e, refl), subst (λ x. Turns x before (state_when true) calls (calls + 1) 0) (sym e) (subst (λ x. Turns one_lot x (state_when true) calls (calls + 1) 0) (sym b) (turn_from calls)))
-
-pub idle_tells : (calls : ℕ) → TellsEach (means_one_lot true) (means_one_lot true) calls calls None
-idle_tells calls edit before (e, b) =
-    (before, (e, b), subst (λ x. IsIdle x before before calls calls) (sym e) (subst (λ x. IsIdle one_lot x x calls calls) (sym b) (record { same = refl; none_queued = λ n k a h. refl; no_call = refl })))
-
-pub one_stands : (done : Bool) → Counts (means_one_lot done) 1
-one_stands done edit state (e, b) = subst (λ (x : State ℕ ℕ ℕ ℕ). (1 ≡ length x.nodes) × StandOnce x.nodes) (sym b) (size done)
-  where
-    size : (done : Bool) → (1 ≡ length (state_when done).nodes) × StandOnce (state_when done).nodes
-    size false = (refl, (λ i. i, tt))
-    size true = (refl, (λ i. i, tt))

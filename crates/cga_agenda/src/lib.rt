@@ -19,6 +19,3 @@ pub use agenda::work;
 pub use ended::Ended;
 pub use turned::Turned;
 pub use worker::Worker;
-
-#[cfg(test)]
-mod tests;

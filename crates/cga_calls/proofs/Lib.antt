@@ -1,1 +1,3 @@
 mod Lots
+mod OneLot
+mod TwoRoots

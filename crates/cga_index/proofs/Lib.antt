@@ -4,7 +4,6 @@ mod Local
 mod Over
 mod Levels
 mod Blocks
-mod TwoRoots
 mod NearAskers
 mod Visiting
 mod Widening

@@ -4,4 +4,3 @@ pub mod Local
 pub mod Near
 pub mod Occlusion
 pub mod Tree
-pub mod TwoRoots

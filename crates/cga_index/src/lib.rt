@@ -19,8 +19,6 @@ mod nodes;
 mod of_two;
 mod standing;
 mod steps;
-#[cfg(test)]
-mod tests;
 mod visitor;
 mod visits;
 mod walk;

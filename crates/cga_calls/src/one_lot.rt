@@ -1,7 +1,7 @@
 ghost use Rattle.std.specs.Prelude.{◌≡◌, ◌<◌, ℕ};
 ghost use Rattle.cga_agenda.specs.OneLot.{means_one_lot};
 
-use crate::{Ended, Turned, Worker, work};
+use cga_agenda::{Ended, Turned, Worker, work};
 use cga_fraction::{NoMemory, Steps, Tests};
 use std::marker::Brand;
 use std::sync::ledger::{Blank, Ledger};

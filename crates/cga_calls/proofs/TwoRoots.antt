@@ -4,7 +4,7 @@ use Rattle.std.specs.Prelude.{nat_lt, Option, if◌then◌else◌}
 use Rattle.cga_fraction.specs.Order.{rat_le}
 use Rattle.cga_frame.specs.Box.{Box, holds, touches, is_box}
 use Rattle.cga_index.specs.Tree.{Apart, Member, InTree, IsHullTree, LiesIn, all_nodes, below, near}
-use Rattle.cga_index.specs.TwoRoots.{two_roots, box_at, leaves_of, depth_at}
+use Rattle.cga_calls.specs.TwoRoots.{two_roots, box_at, leaves_of, depth_at}
 
 pub nodes_are : all_nodes two_roots ≡ 0 ∷ 2 ∷ 3 ∷ 1 ∷ 4 ∷ 5 ∷ []
 unfolding all_nodes below

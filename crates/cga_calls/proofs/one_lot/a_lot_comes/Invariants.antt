@@ -1,4 +1,4 @@
-use Rattle.cga_agenda.proofs.tests.a_lot_comes.Given as goal
+use Rattle.cga_calls.proofs.one_lot.a_lot_comes.Given as goal
 
 abbrev pub ghosts-worked-E-Ledger : goal.ghosts-worked-E-Ledger
 ghosts-worked-E-Ledger g a = record { name = a.expansions.name; parts = a.expansions.parts }

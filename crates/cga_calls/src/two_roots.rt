@@ -1,11 +1,11 @@
 // A tree of two roots, each with two leaves: what the first leaf is answered, after how many tests, and who asks near it.
 ghost use Rattle.std.specs.Prelude.{◌≡◌, ◌≤◌, ◌+◌, ◌<◌};
 ghost use Rattle.cga_index.specs.Tree.{InTree, IsHullTree};
-ghost use Rattle.cga_index.specs.TwoRoots.{box_at, standing_of, two_roots};
+ghost use Rattle.cga_calls.specs.TwoRoots.{box_at, standing_of, two_roots};
 
-use crate::{HullTree, NodeId, Standing, answer, queriers_meeting};
 use cga_fraction::{List, NoMemory, Tests};
 use cga_frame::{Point, WorldBox};
+use cga_index::{HullTree, NodeId, Standing, answer, queriers_meeting};
 use cga_word::{Answer, Target};
 use std::alloc::Global;
 use std::marker::Brand;

@@ -1,8 +1,8 @@
 use Rattle.std.proofs.Common.{◌+◌, true, Some, subst, sym}
 use Rattle.cga_agenda.specs.Loop.{TellsEach}
 use Rattle.cga_agenda.specs.OneLot.{means_one_lot}
-use Rattle.cga_agenda.proofs.OneLot.{turn_tells}
-use Rattle.cga_agenda.proofs.tests.OneLotWorker.turn.Goals as goal
+use Rattle.cga_calls.proofs.OneLot.{turn_tells}
+use Rattle.cga_calls.proofs.one_lot.OneLotWorker.turn.Goals as goal
 
 pub returns-clause-turned : goal.returns-clause-turned
 returns-clause-turned g c =
