@@ -12,7 +12,7 @@ use crate::walk::nodes_of_lot;
 use cga_forest::{Forest, Node};
 use cga_fraction::{List, NoMemory};
 use cga_index::NodeId;
-use cga_shape::{Drawn, FaultLine, Kind, Lot};
+use cga_shape::{Drawn, FaultLine, Kind, Lot, Path};
 use cga_word::Name;
 use std::alloc::Global;
 
@@ -34,10 +34,10 @@ fn push_fault(alloc: Global, faults: &mut List<FaultLine>, node: &Node) -> Resul
     ensures { OnOk result (faults.new ≡ faults.old ++ spec.fault_of (member_of node.now)) }
 {
     if let Kind::Faulted(fault) = node.kind {
-        let path = Vec::from_slice(alloc, node.shape.path.as_slice())?;
+        let path = Path::from_slice(alloc, node.shape.path.as_slice())?;
         faults.push(FaultLine {
             lot: node.shape.lot,
-            path: List::from_vec(path),
+            path,
             symbol: node.shape.symbol,
             fault,
         })?;

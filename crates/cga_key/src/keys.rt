@@ -2,7 +2,7 @@ ghost use Rattle.std.specs.Prelude.{◌≡◌, IfOk, ◌++◌, ◌∷◌, []};
 ghost use Rattle.cga_key.specs.Children.{IsChildKey, IsRootKey};
 
 use crate::stamp_key::StampKey;
-use cga_fraction::{List, NoMemory};
+use cga_fraction::NoMemory;
 use cga_order::{Path, child_head};
 use cga_word::{Mode, Name};
 use std::alloc::Global;
@@ -11,18 +11,17 @@ use std::alloc::Global;
 pub fn root_key(alloc: Global, mode: Mode, lot: Name, priority: u16) -> Result<StampKey, NoMemory>
     ensures { IfOk result (λ key. IsRootKey mode lot priority key) }
 {
-    let mut priorities = List::new(alloc);
-    priorities.push(priority)?;
+    let priorities = Path::extended(alloc, &[], priority)?;
     Ok(StampKey {
         mode,
         lot,
-        path: List::new(alloc),
+        path: Path::new(alloc),
         priorities,
         head: 0,
     })
 }
 
-/// The key of a child of a shape, whose symbol has this priority. Takes memory for both lists.
+/// The key of a child of a shape, whose symbol has this priority. Takes memory for both paths, where they are long.
 pub fn child_key(
     alloc: Global,
     parent: &StampKey,
@@ -43,11 +42,9 @@ pub fn child_key(
     })
 }
 
-/// A list with one more number behind it. Takes memory for all of it.
+/// A path with one more number behind it. Takes memory for all of it.
 pub fn child_path(alloc: Global, parent: &Path, index: u16) -> Result<Path, NoMemory>
     ensures { IfOk result (λ path. path ≡ parent.now ++ index ∷ []) }
 {
-    let mut path = Vec::from_slice(alloc, parent.as_slice())?;
-    path.push(index)?;
-    Ok(List::from_vec(path))
+    Path::extended(alloc, parent.as_slice(), index)
 }

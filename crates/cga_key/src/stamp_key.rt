@@ -1,7 +1,7 @@
 ghost use Rattle.std.specs.Prelude.{◌≡◌, ◌+◌, length};
 ghost use Rattle.cga_order.specs.Head.{IsHead};
 
-use cga_fraction::{List, NoMemory};
+use cga_fraction::NoMemory;
 use cga_order::{Chain, Path, cmp_stamp};
 use cga_word::{Mode, Name};
 use std::alloc::Global;
@@ -14,7 +14,7 @@ pub struct StampKey {
     pub mode: Mode,
     pub lot: Name,
     pub path: Path,
-    pub priorities: List<u16>,
+    pub priorities: Path,
     /// At which depth the head of its chain stands.
     pub head: usize,
     ghost whole: { length priorities ≡ length path + 1 },
@@ -27,14 +27,14 @@ impl StampKey {
     ghost use Rattle.cga_order.specs.Seen.{chain_of};
     ghost use Rattle.cga_key.specs.Key.{chain_of_key};
 
-    /// The key of a shape of this chain. Takes memory for both lists.
+    /// The key of a shape of this chain. Takes memory for both paths, where they are long.
     pub fn of(alloc: Global, mode: Mode, chain: &Chain) -> Result<StampKey, NoMemory>
         requires { IsWhole (chain_of chain.now) }
         ensures mode { IfOk result (λ key. key.mode ≡ mode) }
         ensures chain { IfOk result (λ key. chain_of_key key ≡ chain_of chain.now) }
     {
-        let path = List::from_vec(Vec::from_slice(alloc, chain.path)?);
-        let priorities = List::from_vec(Vec::from_slice(alloc, chain.priorities)?);
+        let path = Path::from_slice(alloc, chain.path)?;
+        let priorities = Path::from_slice(alloc, chain.priorities)?;
         Ok(StampKey {
             mode,
             lot: chain.lot,

@@ -7,20 +7,17 @@
 //! What callers get wrong: ranks don't rise as the derivation goes on, so what was done is told by stamps alone.
 #![tactic(auto)]
 
-use cga_fraction::List;
-
 mod chain;
 mod head;
 pub mod laws;
+mod path;
 mod placed;
 mod rank;
 mod walk;
 
 pub use chain::Chain;
 pub use head::{child_head, head_of};
+pub use path::Path;
 pub use placed::{Kind, Placed};
 pub use rank::cmp_rank;
 pub use walk::cmp_stamp;
-
-/// The indices of the children on the way from a lot's root to a shape. A root's is empty.
-pub type Path = List<u16>;

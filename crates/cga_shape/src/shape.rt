@@ -29,7 +29,7 @@ pub fn root_shape(alloc: Global, lot: &Lot) -> Shape
     match lot.root_scope() {
         Ok(scope) => Shape {
             lot: lot.name,
-            path: List::new(alloc),
+            path: Path::new(alloc),
             symbol: lot.symbol,
             args: List::new(alloc),
             scope,
