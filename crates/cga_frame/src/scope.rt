@@ -83,6 +83,7 @@ impl Scope {
     pub fn size(&self) -> Point
         ensures value { result ≡ self.now.size }
         ensures sizes { has_negative self.now.size ≡ false }
+        ensures exists { Exists self.now }
     {
         self.size
     }

@@ -2,4 +2,5 @@ mod Boxed
 mod Closed
 mod Halves
 mod Local
+mod Cornered
 pub mod Door

@@ -1,5 +1,5 @@
 -- Solids in a scope.
-use Rattle.std.specs.Prelude.{List, [], ◌∷◌, Bool, ◌||◌, not, Result, Ok, if◌then◌else◌}
+use Rattle.std.specs.Prelude.{List, [], ◌∷◌, Bool, true, false, ◌||◌, not, Result, Ok, if◌then◌else◌}
 use Rattle.cga_fraction.specs.Rat.{Rat, zero_rat}
 use Rattle.cga_fraction.specs.Order.{rat_le, rat_lt}
 use Rattle.cga_frame.specs.Points.{checked_point}
@@ -31,6 +31,13 @@ form_of primitive.Quad s = Quad
 form_of primitive.Shed s = Shed
 form_of primitive.Gable s = gable_form s.x s.z
 form_of primitive.Hip s = hip_form s.x s.z
+
+-- each corner of the form is a corner of the scope's box
+abbrev pub is_cornered : Form → Bool
+is_cornered Cube = true
+is_cornered Shed = true
+is_cornered Quad = true
+is_cornered form = false
 
 -- a size isn't above 0
 abbrev pub is_flat : Rat → Bool

@@ -17,7 +17,7 @@ pub(crate) enum Form {
 
 impl Form {
     ghost use Rattle.std.specs.Prelude.{◌≡◌};
-    ghost use Rattle.cga_solid.specs.Solids.{form_of, gable_form, hip_form};
+    ghost use Rattle.cga_solid.specs.Solids.{form_of, gable_form, hip_form, is_cornered};
 
     /// The form of a solid in a scope of this size.
     pub(crate) fn of(primitive: Primitive, size: &Point) -> Form
@@ -30,6 +30,13 @@ impl Form {
             Primitive::Gable => Form::of_gable(size.x, size.z),
             Primitive::Hip => Form::of_hip(size.x, size.z),
         }
+    }
+
+    /// Whether its corners are corners of the scope's box, of which none leaves the range.
+    pub(crate) fn is_cornered(self) -> bool
+        ensures { result ≡ is_cornered self }
+    {
+        matches!(self, Form::Cube | Form::Shed | Form::Quad)
     }
 
     fn of_gable(width: Fraction, depth: Fraction) -> Form

@@ -62,7 +62,11 @@ pub fn check_solid(primitive: Primitive, scope: &Scope) -> Result<(), SolidFault
     if lacks_size(primitive, &size) {
         return Err(SolidFault::FlatScope);
     }
-    let corners = Corners::of(Form::of(primitive, &size), &size)?;
+    let form = Form::of(primitive, &size);
+    if form.is_cornered() {
+        return Ok(());
+    }
+    let corners = Corners::of(form, &size)?;
     check_corners(scope, corners.as_slice())
 }
 
