@@ -1,6 +1,7 @@
 mod Lists
 mod ById
 mod Values
+mod Ends
 mod Groups
 mod Told
 mod Noted

@@ -5,7 +5,9 @@ use lib.Pointwise.{pointwise}
 use Rattle.cga_order.specs.World.{Among}
 use Rattle.cga_rule.specs.declared.grammar.Grammar.{Grammar}
 use Rattle.cga_check.specs.Groups as groups
+use Rattle.cga_rule.specs.declared.grammar.Attribute.{Attribute}
 use Rattle.cga_same.specs.Agreement.{IsSameSetting}
+use Rattle.cga_same.specs.Ends.{AreApart}
 use Rattle.cga_same.specs.declared.changed.Facts.{Facts}
 
 -- the priority of the shapes of a symbol: 0 where it has no rule
@@ -23,9 +25,11 @@ AreKnown old new known =
     (symbol : List ℕ) (facts : Facts) → get (pointwise nat_eq) known symbol ≡ Some facts
     → AreFacts old new symbol facts
 
--- the grammars have one list of rules where that is said, and what stands in the map is right
-pub record AreCompared {S : Type 0} (old new : Grammar) (same_rules : Bool) (known : IndexMap (List ℕ) Facts S) : Type 0 where
+-- the grammars have one list of rules where that is said, these are what their attributes don't share, and what stands in the
+-- map is right
+pub record AreCompared {S : Type 0} (old new : Grammar) (same_rules : Bool) (from to : List Attribute) (known : IndexMap (List ℕ) Facts S) : Type 0 where
   pub rules : same_rules ≡ true → old.rules ≡ new.rules
+  pub apart : AreApart old.attributes new.attributes from to
   pub facts : AreKnown old new known
 
 -- the symbol is listed, or its setting is the old one

@@ -2,8 +2,10 @@
 ghost use Rattle.std.specs.Prelude.{◌≡◌, true};
 ghost use Rattle.std.specs.List.{list_any};
 ghost use Rattle.cga_check.specs.Uses.{same_name};
+ghost use Rattle.cga_same.specs.Ends.{AreApart};
 ghost use Rattle.cga_same.specs.Changed.{AreFacts};
 
+use crate::apart::{Apart, between};
 use crate::setting::{same_setting, same_values};
 use cga_check::symbol_priority;
 use cga_fraction::NoMemory;
@@ -28,6 +30,8 @@ pub struct Grammars<'a> {
     after: &'a Grammar,
     /// Whether both have one list of rules, as where an attribute or a lot is edited: then no group is compared.
     same_rules: bool,
+    /// What the lists of attributes don't share, so that no symbol looks at what they do.
+    apart: Apart<'a>,
     known: IndexMap<Name, Facts>,
 }
 
@@ -46,7 +50,7 @@ impl<'a> Model for Grammars<'a> {
 
     ghost view = { λ g. record { before = g.before.now; after = g.after.now } };
 
-    ghost invariant = { λ g. AreCompared g.before.now g.after.now g.same_rules g.known };
+    ghost invariant = { λ g. AreCompared g.before.now g.after.now g.same_rules g.apart.old.now g.apart.new.now g.known };
 }
 
 impl<'a> Grammars<'a> {
@@ -63,6 +67,7 @@ impl<'a> Grammars<'a> {
             before,
             after,
             same_rules: before.rules == after.rules,
+            apart: between(before.attributes.as_slice(), after.attributes.as_slice()),
             known: IndexMap::new(alloc),
         }
     }
@@ -76,7 +81,7 @@ impl<'a> Grammars<'a> {
         if let Some(facts) = self.known.get(&symbol) {
             return Ok(*facts);
         }
-        let facts = facts_of(self.before, self.after, self.same_rules, symbol);
+        let facts = facts_of(self.before, self.after, self.same_rules, self.apart, symbol);
         self.known.insert(symbol, facts)?;
         Ok(facts)
     }
@@ -133,13 +138,14 @@ fn has_name(names: &[Name], name: Name) -> bool
     names.iter().any(|other| name == *other)
 }
 
-fn facts_of(old: &Grammar, new: &Grammar, same_rules: bool, symbol: Name) -> Facts
+fn facts_of(old: &Grammar, new: &Grammar, same_rules: bool, apart: Apart<'_>, symbol: Name) -> Facts
     requires rules { same_rules ≡ true → old.now.rules ≡ new.now.rules }
+    requires apart { AreApart old.now.attributes new.now.attributes apart.old.now apart.new.now }
     ensures { AreFacts old.now new.now symbol result }
 {
     if same_rules {
         return Facts {
-            same_setting: same_values(old, new, symbol),
+            same_setting: same_values(old, new, apart, symbol),
             same_priority: true,
         };
     }

@@ -6,6 +6,7 @@
 //! What callers get wrong: rules of another id are other rules, though they say the same.
 #![tactic(auto)]
 
+mod apart;
 mod changed;
 mod group;
 mod setting;

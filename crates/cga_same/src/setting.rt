@@ -2,8 +2,10 @@
 ghost use Rattle.std.specs.Prelude.{◌≡◌, ◌↔◌, IsTrue, All};
 ghost use Rattle.cga_check.specs.Groups.{group};
 ghost use Rattle.cga_expr.specs.Names.{attribute_of};
+ghost use Rattle.cga_same.specs.Ends.{AreApart};
 ghost use Rattle.cga_same.specs.Agreement.{AgreeOn, IsAlike, IsSameSetting, SameValue, SameValues};
 
+use crate::apart::{Apart, between};
 use crate::group::same_group;
 use cga_check::symbol_names;
 use cga_fraction::Fraction;
@@ -15,20 +17,17 @@ use cga_word::Name;
 pub fn same_setting(old: &Grammar, new: &Grammar, symbol: Name) -> bool
     ensures { IsTrue result ↔ IsSameSetting old.now new.now symbol }
 {
-    same_group(old, new, symbol) && same_values(old, new, symbol)
+    let apart = between(old.attributes.as_slice(), new.attributes.as_slice());
+    same_group(old, new, symbol) && same_values(old, new, apart, symbol)
 }
 
 /// Whether the attributes that the new group mentions have the same values in both grammars, or none in both. An edit of
-/// a value leaves the names in their order, and one walk of both lists answers.
-pub(crate) fn same_values(old: &Grammar, new: &Grammar, symbol: Name) -> bool
+/// a value leaves the names in their order, and one walk of what both lists don't share answers.
+pub(crate) fn same_values(old: &Grammar, new: &Grammar, apart: Apart<'_>, symbol: Name) -> bool
+    requires { AreApart old.now.attributes new.now.attributes apart.old.now apart.new.now }
     ensures { IsTrue result ↔ SameValues (group new.now symbol) old.now new.now }
 {
-    same_in_order(
-        old.attributes.as_slice(),
-        new.attributes.as_slice(),
-        new,
-        symbol,
-    ) || same_by_name(old, new, symbol)
+    same_in_order(apart.old, apart.new, new, symbol) || same_by_name(old, new, symbol)
 }
 
 // Whether both lists have the same names in the same order, and the group mentions none whose values differ.

@@ -1,13 +1,16 @@
-use Rattle.std.proofs.Common.{◌≡◌, ap, sym, ◌∙◌, nat_eq, None, Some}
+use Rattle.std.proofs.Common.{◌≡◌, ap, subst, sym, ◌∙◌, nat_eq, None, Some}
 use lib.Pointwise.{pointwise}
 use Rattle.indexmap.specs.IndexMap.{get}
 use Rattle.std.specs.Map.{lookup}
+use Rattle.cga_same.specs.Ends.{AreApart}
 use Rattle.cga_same.proofs.Told.{rules_told}
 use Rattle.cga_same.proofs.changed.Grammars.new.Goals as goal
 
 pub invariant_of-result : goal.invariant_of-result
 invariant_of-result c = record {
   rules = rules_told c.args.before.now.rules c.args.after.now.rules c.eq.result c.eq.ensures;
+  apart = subst (λ xs. AreApart xs c.args.after.now.attributes c.between.result.old.now c.between.result.new.now) c.as_slice.ensures
+      (subst (λ ys. AreApart c.as_slice.result.now ys c.between.result.old.now c.between.result.new.now) c.as_slice-2.ensures c.between.ensures);
   facts = λ symbol facts found.
       let none : get (pointwise nat_eq) c.new.result symbol ≡ None = ap (lookup (pointwise nat_eq symbol)) c.new.ensures.empty in
       absurd (let bad : None ≡ Some facts = sym none ∙ found in cc);

@@ -8,6 +8,7 @@ use Rattle.cga_same.proofs.changed.Grammars.of.Goals as goal
 pub invariant_of-self-2 : goal.invariant_of-self-2
 invariant_of-self-2 c = record {
   rules = c.self.invariant.rules;
+  apart = c.self.invariant.apart;
   facts = still_known c.self.inside.before.now c.self.inside.after.now c.self.inside.known c.insert.new.self c.args.symbol c.facts_of-facts.result c.facts_of-facts.ensures c.self.invariant.facts c.in_ok-insert.ensures.updates;
 }
 
