@@ -1,62 +1,88 @@
--- One step up in the search for an ancestor.
-use Rattle.std.proofs.Common.{◌≡◌, ℕ, zero, suc, ◌-◌, ◌+◌, ◌<◌, ◌≤◌, ◌≢◌, true, false, ◌||◌, nat_eq, refl, ap, sym, ◌∙◌, arith, eq-eqb}
-use Rattle.std.proofs.Common.{inl, inr}
-use Rattle.std.proofs.lemmas.Bool.Decides.{eqb_tells}
-use Rattle.std.specs.Prelude.{Option, Some, None}
-use Rattle.cga_forest.specs.View.{Seen}
-use Rattle.cga_forest.specs.Tree.{above}
-use Rattle.cga_forest.specs.Standing.{is_above, at_parent}
+-- A node is above another one exactly where it stands on that one's path.
+use Rattle.std.proofs.Common.{◌≡◌, ℕ, zero, suc, ◌+◌, ◌-◌, ◌<◌, ◌≤◌, ◌≢◌, List, [], ◌∷◌, length, take, get_or, Bool, true, false, IsTrue, ◌↔◌}
+use Rattle.std.proofs.Common.{inl, inr, refl, ap, sym, ◌∙◌, arith, length-append, nat_eq, eq-eqb}
+use Rattle.std.specs.Prelude.{Option, Some}
+use Rattle.std.proofs.lemmas.Bool.{eqb-true, or_cases, or_left, or_right, cases_Bool}
+use Rattle.std.proofs.lemmas.List.{get_or-take, length-take, take-append-le}
+use Rattle.std.proofs.Math.Seq.{take-length}
+use Rattle.cga_fraction.proofs.Door.{cases_Option, eq_or_ne, same_Some}
+use Rattle.cga_forest.specs.declared.entry.Entry.{Entry}
+use Rattle.cga_forest.specs.Node.{IsBelow}
+use Rattle.cga_forest.specs.View.{Seen, seen}
+use Rattle.cga_forest.specs.Tree.{InPlace, above}
+use Rattle.cga_forest.specs.Standing.{IsOnPath, StandApart, is_above, at_parent}
 use Rattle.cga_tree.specs.Tree.{IsTree}
-use Rattle.cga_forest.proofs.Books.{nat_cases}
-use Rattle.cga_fraction.proofs.Door.{nat_eq_from_ne as ne-eqb}
 
-pub is_above_zero : (T : ℕ → Option Seen) (n x c : ℕ) → n ≡ 0 → is_above T n x c ≡ false
-unfolding is_above
-is_above_zero T n x c e = ap (λ k. is_above T k x c) e
+-- a list that begins another one isn't longer
+pub begins_within : (xs ys : List ℕ) → xs ≡ take (length xs) ys → length xs ≤ length ys
+begins_within xs ys begins = omega (arith, ap length begins, length-take (length xs) ys)
 
-pub is_above_step : (T : ℕ → Option Seen) (n x c : ℕ) → 0 < n
-    → is_above T n x c ≡ (nat_eq x c || at_parent (is_above T (n - 1) x) (above (T c)))
-unfolding is_above
-is_above_step T zero x c h = absurd (omega (arith, h))
-is_above_step T (suc n) x c h = let e : suc n - 1 ≡ n = omega arith in rw e refl
+-- a path that isn't empty has the last index of what it begins at the same place
+pub last_along : (xs ys : List ℕ) → xs ≡ take (length xs) ys → length xs ≢ 0
+    → get_or xs (length xs - 1) 0 ≡ get_or ys (length xs - 1) 0
+last_along xs ys begins some = ap (λ (zs : List ℕ). get_or zs (length xs - 1) 0) begins ∙ get_or-take (length xs) ys (length xs - 1) 0 (omega arith)
 
-pub above_own : (T : ℕ → Option Seen) (n x c : ℕ) → 0 < n → x ≡ c → is_above T n x c ≡ true
-above_own T n x c h e = is_above_step T n x c h ∙ ap (λ b. b || at_parent (is_above T (n - 1) x) (above (T c))) (eq-eqb x c e)
+module _ (T : ℕ → Option Seen) (tree : IsTree T) (places : InPlace T) where
+  -- the parent of a node, with a path that is shorter by one
+  pub parent_of : (c p : ℕ) (d : Seen) → T c ≡ Some d → d.parent ≡ Some p
+      → (e : Seen) × (T p ≡ Some e) × IsBelow e.node d.index d.node
+      × (length d.node.shape.path ≡ length e.node.shape.path + 1)
+  parent_of c p d t up =
+      let u = tree.up c p d t up in
+      let b = places.child c p d u.0 t up u.1 in
+      (u.0, u.1, b, ap length b.path ∙ length-append u.0.node.shape.path (d.index ∷ []))
 
-pub above_up : (T : ℕ → Option Seen) (n x c : ℕ) → 0 < n → x ≢ c → (p : ℕ) → above (T c) ≡ Some p
-    → is_above T n x c ≡ is_above T (n - 1) x p
-above_up T n x c h e p a = is_above_step T n x c h ∙ ap (λ b. b || at_parent (is_above T (n - 1) x) (above (T c))) (ne-eqb x c e) ∙ ap (at_parent (is_above T (n - 1) x)) a
+  -- what is above a node stands on its path
+  above_path : (fuel x c : ℕ) (a d : Seen) → T x ≡ Some a → T c ≡ Some d → is_above T fuel x c ≡ true
+      → IsOnPath a.node d.node
+  unfolding is_above
+  above_path zero x c a d u t h = let z : false ≡ true = h in absurd (cc)
+  above_path (suc fuel) x c a d u t h = elim (or_cases (nat_eq x c) (at_parent (is_above T fuel x) (above (T c))) h) [
+    | inl q ↦ (
+        let same : a ≡ d = same_Some a d (sym u ∙ ap T (eqb-true x c q) ∙ t) in
+        rw same (refl, sym (take-length d.node.shape.path)))
+    | inr g ↦ elim (cases_Option d.parent) [
+      | inl top ↦ (let z : false ≡ true = ap (at_parent (is_above T fuel x)) (sym (ap above t ∙ top)) ∙ g in absurd (cc))
+      | inr up ↦ (
+          let w = parent_of c up.0 d t up.1 in
+          let on = above_path fuel x up.0 a w.0 u w.1 (ap (at_parent (is_above T fuel x)) (sym (ap above t ∙ up.1)) ∙ g) in
+          let front = take-append-le (length a.node.shape.path) w.0.node.shape.path (d.index ∷ []) (begins_within a.node.shape.path w.0.node.shape.path on.1) in
+          (on.0 ∙ sym w.2.lot, on.1 ∙ sym front ∙ ap (take (length a.node.shape.path)) (sym w.2.path)))
+    ]
+  ]
 
-pub above_none : (T : ℕ → Option Seen) (n x c : ℕ) → 0 < n → x ≢ c → above (T c) ≡ None → is_above T n x c ≡ false
-above_none T n x c h e a = is_above_step T n x c h ∙ ap (λ b. b || at_parent (is_above T (n - 1) x) (above (T c))) (ne-eqb x c e) ∙ ap (at_parent (is_above T (n - 1) x)) a
-
--- a parent stands one level above its child
-parent_higher : (T : ℕ → Option Seen) → IsTree T → (c p : ℕ) (e : Seen) → T c ≡ Some e → e.parent ≡ Some p
-    → (u : Seen) × (T p ≡ Some u) × (e.depth ≡ u.depth + 1)
-parent_higher T tree c p e here parent =
-    let u = tree.up c p e here parent in
-    let r = tree.down p e.index c u.0 u.1 u.2 in
-    let same : r.0 ≡ e = cc in
-    (u.0, u.1, ap (λ (x : Seen). x.depth) (sym same) ∙ r.3)
-
--- a node is no ancestor of another one that stands as high
-pub above_higher : (T : ℕ → Option Seen) → IsTree T → (n x c : ℕ) (d e : Seen) → T x ≡ Some d → T c ≡ Some e → x ≢ c
-    → e.depth ≤ d.depth → is_above T n x c ≡ false
-above_higher T tree zero x c d e at_x at_c differ high = is_above_zero T zero x c refl
-above_higher T tree (suc n) x c d e at_x at_c differ high = by_parent (λ p u. above_higher T tree n x p d u at_x) e.parent refl
-  where
-    Higher : Type 0
-    Higher = (p : ℕ) (u : Seen) → T p ≡ Some u → x ≢ p → u.depth ≤ d.depth → is_above T n x p ≡ false
-
-    next : Higher → (p : ℕ) (u : Seen) → T p ≡ Some u → e.depth ≡ u.depth + 1 → is_above T n x p ≡ false
-    next higher p u at_p deep = elim (nat_cases x p) [
-      | inl q ↦ (let w : T x ≡ Some u = rw q at_p in let same : d ≡ u = cc in let depths = ap (λ (k : Seen). k.depth) same in absurd (omega (arith, high, deep, depths)))
-      | inr apart ↦ higher p u at_p apart (omega (arith, high, deep))
+  module _ (apart : StandApart T) where
+    -- what stands on the path of a node is above it
+    path_above : (fuel x c : ℕ) (a d : Seen) → length d.node.shape.path < fuel → T x ≡ Some a → T c ≡ Some d
+        → IsOnPath a.node d.node → is_above T fuel x c ≡ true
+    unfolding is_above
+    path_above zero x c a d deep u t on = absurd (omega arith)
+    path_above (suc fuel) x c a d deep u t on = elim (eq_or_ne (length a.node.shape.path) (length d.node.shape.path)) [
+      | inl q ↦ (
+          let whole = on.1 ∙ ap (λ k. take k d.node.shape.path) q ∙ take-length d.node.shape.path in
+          or_left (nat_eq x c) (at_parent (is_above T fuel x) (above (T c))) (eq-eqb x c (apart x c a d u t on.0 whole)))
+      | inr shorter ↦ elim (cases_Option d.parent) [
+        | inl top ↦ (
+            let none : length d.node.shape.path ≡ 0 = ap length (places.root c d t top).path in
+            absurd (omega (arith, begins_within a.node.shape.path d.node.shape.path on.1)))
+        | inr up ↦ (
+            let w = parent_of c up.0 d t up.1 in
+            let high : length a.node.shape.path ≤ length w.0.node.shape.path = omega (arith, w.3, begins_within a.node.shape.path d.node.shape.path on.1) in
+            let front = take-append-le (length a.node.shape.path) w.0.node.shape.path (d.index ∷ []) high in
+            let on_parent : IsOnPath a.node w.0.node = (on.0 ∙ w.2.lot, on.1 ∙ ap (take (length a.node.shape.path)) w.2.path ∙ front) in
+            let next = path_above fuel x up.0 a w.0 (omega (arith, w.3)) u w.1 on_parent in
+            let parent : above (T c) ≡ Some up.0 = ap above t ∙ up.1 in
+            or_right (nat_eq x c) (at_parent (is_above T fuel x) (above (T c))) (ap (at_parent (is_above T fuel x)) parent ∙ next))
+      ]
     ]
 
-    by_parent : Higher → (p : Option ℕ) → e.parent ≡ p → is_above T (suc n) x c ≡ false
-    by_parent higher None parent = above_none T (suc n) x c (omega arith) differ (ap above at_c ∙ parent)
-    by_parent higher (Some p) parent =
-        let u = parent_higher T tree c p e at_c parent in
-        let less : suc n - 1 ≡ n = omega arith in
-        above_up T (suc n) x c (omega arith) differ p (ap above at_c ∙ parent) ∙ ap (λ k. is_above T k x p) less ∙ next higher p u.0 u.1 u.2
+    -- a test of the paths tells whether a node is above another one
+    pub above_exact : (x c : ℕ) (a d : Entry) → T x ≡ Some (seen a) → T c ≡ Some (seen d)
+        → (b : Bool) → IsTrue b ↔ IsOnPath a.node d.node → is_above T 257 x c ≡ b
+    above_exact x c a d u t true h =
+        let shallow : length d.node.shape.path ≤ 256 = tree.shallow c (seen d) t in
+        path_above 257 x c (seen a) (seen d) (omega arith) u t (h.0 refl)
+    above_exact x c a d u t false h = elim (cases_Bool (is_above T 257 x c)) [
+      | inl y ↦ (let z : false ≡ true = h.1 (above_path 257 x c (seen a) (seen d) u t y) in absurd (cc))
+      | inr n ↦ n
+    ]

@@ -4,7 +4,6 @@ use Rattle.std.specs.Prelude.{Option, Some, None}
 use Rattle.cga_marked.specs.Slab.{touch_when}
 use Rattle.cga_forest.specs.declared.entry.Entry.{Entry}
 use Rattle.cga_forest.specs.View.{touched_entry, present_of, marked_of, hulls_of, marked_hulls_of}
-pub use Rattle.cga_fraction.proofs.Door.{eq_or_ne as nat_cases}
 
 pub when_present : (m : Bool) (s : Option Entry) → present_of (touch_when touched_entry m s) ≡ present_of s
 when_present false s = refl

@@ -23,6 +23,7 @@ mod WentCame
 mod Above
 mod Laws
 mod ByName
+mod Apart
 mod Grown
 mod Numbers
 mod Covered

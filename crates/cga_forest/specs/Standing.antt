@@ -1,5 +1,5 @@
 -- What a node is to one that asks, by the stamps of the kept priorities.
-use Rattle.std.specs.Prelude.{◌≡◌, ℕ, zero, suc, Option, Some, None, Bool, true, false, not, ◌&&◌, ◌||◌, nat_eq}
+use Rattle.std.specs.Prelude.{◌≡◌, ℕ, zero, suc, length, take, Option, Some, None, Bool, true, false, not, ◌&&◌, ◌||◌, nat_eq}
 use Rattle.std.specs.Ordering.{is_lt}
 use Rattle.cga_word.specs.declared.mode.Mode.{Mode}
 use Rattle.cga_order.specs.Chain.{Chain}
@@ -7,6 +7,7 @@ use Rattle.cga_order.specs.Stamp.{stamp_cmp}
 use Rattle.cga_order.specs.World.{is_instance}
 use Rattle.cga_index.specs.declared.standing.Standing.{Standing}
 use Rattle.cga_index.specs.declared.standing.Standing.TheVariants.{Hidden, Waiting, Finished}
+use Rattle.cga_forest.specs.declared.node.Node.{Node}
 use Rattle.cga_forest.specs.Node.{chain_kept}
 use Rattle.cga_forest.specs.View.{Seen}
 use Rattle.cga_forest.specs.Tree.{above}
@@ -20,9 +21,14 @@ unfoldable pub is_above : (ℕ → Option Seen) → ℕ → ℕ → ℕ → Bool
 is_above T zero x c = false
 is_above T (suc n) x c = nat_eq x c || at_parent (is_above T n x) (above (T c))
 
--- the node is there, under so many others
-abbrev pub IsAtDepth : (ℕ → Option Seen) → ℕ → ℕ → Type 0
-IsAtDepth T x depth = (d : Seen) × (T x ≡ Some d) × (d.depth ≡ depth)
+-- of one lot, and the first one's path begins the second's
+abbrev pub IsOnPath : Node → Node → Type 0
+IsOnPath a d = (a.shape.lot ≡ d.shape.lot) × (a.shape.path ≡ take (length a.shape.path) d.shape.path)
+
+-- no two nodes have one lot and one path
+abbrev pub StandApart : (ℕ → Option Seen) → Type 0
+StandApart T = (x c : ℕ) (a d : Seen) → T x ≡ Some a → T c ≡ Some d
+    → a.node.shape.lot ≡ d.node.shape.lot → a.node.shape.path ≡ d.node.shape.path → x ≡ c
 
 -- the node's stamp comes before that of the chain
 abbrev pub is_before : Mode → Option Seen → Chain → Bool

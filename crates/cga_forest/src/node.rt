@@ -1,10 +1,9 @@
 ghost use Rattle.cga_order.specs.Head.{IsHead};
 
 use crate::fitting::are_alike;
-use cga_fraction::List;
 use cga_frame::WorldBox;
 use cga_kept_hulls::Hulls;
-use cga_order::Chain;
+use cga_order::{Chain, Path};
 use cga_shape::{Answers, Kind, Shape};
 use cga_word::Name;
 
@@ -21,7 +20,7 @@ pub struct Node {
     /// Whether its answers depend on what lies near.
     pub asks: bool,
     /// The priorities on the way from the root, its own the last.
-    pub line: List<u16>,
+    pub line: Path,
     ghost headed: { IsHead line head },
 }
 

@@ -7,7 +7,7 @@ ghost use Rattle.cga_forest.specs.Placing.{IsRootNode, child_asks, child_kind, c
 use crate::node::Node;
 use cga_check::{Said, Symbols};
 use cga_fraction::{List, NoMemory};
-use cga_order::child_head;
+use cga_order::{Path, child_head};
 use cga_shape::{Answers, Emitted, Kind, Lot, Shape, ShapeFault, root_shape};
 use std::alloc::Global;
 
@@ -27,7 +27,7 @@ pub fn root_node(alloc: Global, lot: &Lot, symbols: &mut Symbols) -> Result<Node
     ensures symbols { symbols.new ≡ symbols.old }
 {
     let said = symbols.of(lot.symbol)?;
-    let line = extended(alloc, &[], said.priority)?;
+    let line = Path::extended(alloc, &[], said.priority)?;
     Ok(Node {
         shape: root_shape(alloc, lot),
         kind: Kind::Waiting,
@@ -37,16 +37,6 @@ pub fn root_node(alloc: Global, lot: &Lot, symbols: &mut Symbols) -> Result<Node
         asks: said.asks(),
         line,
     })
-}
-
-/// A list with one more number at its end. Takes memory.
-fn extended(alloc: Global, numbers: &[u16], last: u16) -> Result<List<u16>, NoMemory>
-    ensures { IfOk result (λ made. made ≡ numbers.now ++ last ∷ []) }
-{
-    let mut all = Vec::with_capacity(alloc, numbers.len() + 1)?;
-    all.extend_from_slice(numbers)?;
-    all.push(last)?;
-    Ok(List::from_vec(all))
 }
 
 /// What becomes of a node that had this outcome.
@@ -109,7 +99,7 @@ fn child(
 {
     let shape = child_shape(alloc, parent, index, emitted)?;
     let said = symbols.of(shape.symbol)?;
-    let line = extended(alloc, parent.line.as_slice(), said.priority)?;
+    let line = Path::extended(alloc, parent.line.as_slice(), said.priority)?;
     Ok(Node {
         shape,
         kind: child_kind(emitted),
@@ -138,7 +128,7 @@ fn child_shape(
     ensures { IfOk result (λ made. made ≡ child_shape parent.now index emitted.now) }
 {
     let lot = parent.shape.lot;
-    let path = extended(alloc, parent.shape.path.as_slice(), index)?;
+    let path = Path::extended(alloc, parent.shape.path.as_slice(), index)?;
     match emitted {
         Emitted::Child {
             symbol,

@@ -1,13 +1,15 @@
 //! What a node is to one that asks, told by the stamps of the kept priorities.
-ghost use Rattle.std.specs.Prelude.{◌≡◌, ℕ, None, Some, MatchOption, false};
+ghost use Rattle.std.specs.Prelude.{◌≡◌, ◌↔◌, ℕ, None, Some, MatchOption, IsTrue, false};
 ghost use Rattle.cga_order.specs.Chain as order;
 ghost use Rattle.cga_order.specs.Seen.{chain_of};
 ghost use Rattle.cga_forest.specs.Node.{chain_kept};
-ghost use Rattle.cga_forest.specs.Standing.{IsAtDepth, is_above, is_before, exists_at, waits_at, standing_by, standing_of};
+ghost use Rattle.cga_forest.specs.Standing.{IsOnPath, StandApart, is_before, exists_at, waits_at, standing_by, standing_of};
+ghost use Rattle.cga_forest.specs.Tree.{InPlace};
 ghost use Rattle.cga_forest.specs.View.{Seen, at, present_of, seen};
 ghost use Rattle.cga_tree.specs.Tree.{IsTree};
 
 use crate::entry::Entry;
+use crate::node::Node;
 use crate::store::Store;
 use cga_index::Standing;
 use cga_order::{Chain, Kind, cmp_stamp};
@@ -23,32 +25,18 @@ pub fn present(store: &Store, id: usize) -> Option<&Entry>
     }
 }
 
-/// Whether a node, which stands at this depth, is another one or an ancestor of it: all ancestors of a node stand above
-/// it, so the search ends where it is as high as the node. `left` bounds the levels.
-fn is_above(store: &Store, left: usize, node: usize, depth: usize, other: usize) -> bool
-    requires tree { IsTree (λ c. present_of (at store.now c)) }
-    requires node { IsAtDepth (λ c. present_of (at store.now c)) node depth }
-    ensures { result ≡ is_above (λ c. present_of (at store.now c)) left node other }
+/// Whether a node is another one or an ancestor of it. Lengths and the node's last index tell most strangers apart before
+/// lots and paths are looked at.
+fn is_above(node: &Node, other: &Node) -> bool
+    ensures { IsTrue result ↔ IsOnPath node.now other.now }
 {
-    if left == 0 {
-        return false;
-    }
-    if node == other {
-        return true;
-    }
-    match present(store, other) {
-        Some(entry) => {
-            let reached = entry.node.shape.path.len();
-            if reached <= depth {
-                return false;
-            }
-            match entry.parent {
-                Some(parent) => is_above(store, left - 1, node, depth, parent),
-                None => false,
-            }
-        }
-        None => false,
-    }
+    let path = node.shape.path.as_slice();
+    let whole = other.shape.path.as_slice();
+    let depth = path.len();
+    depth <= whole.len()
+        && (depth == 0 || path[depth - 1] == whole[depth - 1])
+        && node.shape.lot == other.shape.lot
+        && whole[..depth] == path[..]
 }
 
 /// Whether a node's stamp comes before another's.
@@ -103,15 +91,16 @@ fn standing_by(waits: bool) -> Standing
 /// What a node is to another one.
 pub fn standing_of(store: &Store, mode: Mode, node: usize, by: usize) -> Standing
     requires tree { IsTree (λ c. present_of (at store.now c)) }
-    requires chains { (c : ℕ) (d : Seen) → present_of (at store.now c) ≡ Some d → order.IsWhole (chain_kept d.node) }
+    requires places { InPlace (λ c. present_of (at store.now c)) }
+    requires apart { StandApart (λ c. present_of (at store.now c)) }
     ensures { result ≡ standing_of mode (λ c. present_of (at store.now c)) node by (present_of (at store.now node)) (present_of (at store.now by)) }
 {
     match (present(store, node), present(store, by)) {
         (Some(entry), Some(asker)) => {
-            let chain = asker.node.chain();
-            if is_above(store, 257, node, entry.node.shape.path.len(), by) {
+            if is_above(&entry.node, &asker.node) {
                 return Standing::Hidden;
             }
+            let chain = asker.node.chain();
             if !exists_at(store, mode, entry.parent, &chain) {
                 return Standing::Hidden;
             }
