@@ -2,7 +2,7 @@
 -- says nothing then.
 use Rattle.std.specs.Prelude.{◌≡◌, ◌⊎◌, ℕ, List, Option, Some, None, IsSome, Bool, true, false, ◌&&◌, nat_eq}
 use Rattle.std.specs.declared.cmp.Ordering.{Ordering}
-use Rattle.std.specs.declared.cmp.Ordering.TheVariants.{Less, Equal}
+use Rattle.std.specs.declared.cmp.Ordering.TheVariants.{Less, Equal, Greater}
 use Rattle.std.specs.List.{list_any}
 use Rattle.std.specs.Ordering.{is_eq, is_lt}
 use Rattle.cga_word.specs.declared.mode.Mode.{Mode}
@@ -91,10 +91,11 @@ is_later mode None y = false
 is_later mode (Some x) None = false
 is_later mode (Some x) (Some y) = is_lt (stamp_cmp mode x y)
 
--- how two nodes compare by their stamps, where both have one
+-- how two nodes compare by their stamps, where one that may not be on it comes first
 abbrev pub both_cmp : Mode → Option Chain → Option Chain → Ordering
-both_cmp mode None y = Equal
-both_cmp mode (Some x) None = Equal
+both_cmp mode None None = Equal
+both_cmp mode None (Some y) = Less
+both_cmp mode (Some x) None = Greater
 both_cmp mode (Some x) (Some y) = stamp_cmp mode x y
 
 -- the node comes later than another

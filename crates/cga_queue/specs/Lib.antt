@@ -1,3 +1,4 @@
 pub mod Lines
 pub mod Agenda
 pub mod Last
+pub mod Remembered

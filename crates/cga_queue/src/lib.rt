@@ -1,5 +1,5 @@
 //! The agenda of an edit as it is kept: numbers of nodes by the stamps at which they are to be looked at, the least
-//! first, and the last of some nodes.
+//! first, some of those that are known to be on it, and the last of some nodes.
 //!
 //! It must not know what a node is or why one is looked at again.
 //!
@@ -12,8 +12,10 @@ mod chained;
 mod due;
 mod last;
 mod lines;
+mod remembered;
 
 pub use agenda::Agenda;
 pub use chained::Chained;
 pub use due::{add, add_all, add_later, take};
 pub use last::{Last, last_among, last_at};
+pub use remembered::Remembered;

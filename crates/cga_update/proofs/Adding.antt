@@ -1,11 +1,10 @@
 -- The root of a lot comes, where there was none of its name.
-use Rattle.std.proofs.Common.{◌≡◌, ◌≢◌, ◌⊎◌, inl, inr, ℕ, List, [], ◌∷◌, ◌++◌, Bool, true, false, refl, sym, ap, ◌∙◌, subst, Option, Some, None, arith, ◌+◌, ◌<◌, ◌≤◌, length}
-use Rattle.std.specs.Prelude.{◌↔◌, is_some, nat_eq, slice_get}
+use Rattle.std.proofs.Common.{◌≡◌, ◌≢◌, inl, inr, ℕ, List, [], ◌∷◌, ◌++◌, true, false, refl, sym, ap, ◌∙◌, subst, Option, Some, None, arith, ◌+◌, ◌≤◌, length}
+use Rattle.std.specs.Prelude.{◌↔◌, is_some, slice_get}
 use Rattle.cga_index.specs.Tree.{Apart, Member}
 use Rattle.cga_order.specs.World.{Among}
 use Rattle.cga_rule.specs.declared.grammar.Grammar.{Grammar}
 use Rattle.cga_fraction.proofs.Door.{None-not-Some as none_some, eq_or_ne as nat_cases, lt_or_eq_from_lt_suc as at_or_below, same_Some as some_same}
-use Rattle.cga_expand.specs.Derivation.{priority_of}
 use Rattle.cga_forest.specs.declared.moved.Moved.{Moved}
 use Rattle.cga_forest.specs.declared.node.Node.{Node}
 use Rattle.cga_forest.specs.Moved.{ListsMoved, ids_of, moved_of}

@@ -1,5 +1,5 @@
 -- That two grammars agree about a symbol is that its settings are equal.
-use Rattle.std.proofs.Common.{◌≡◌, ℕ, List, refl, sym, ap, ◌∙◌, Bool, true, false, true≢false, Some, None, if◌then◌else◌}
+use Rattle.std.proofs.Common.{◌≡◌, ℕ, List, refl, sym, ap, ◌∙◌, Bool, true, false, Some, None, if◌then◌else◌}
 use Rattle.std.specs.Prelude.{Option}
 use Rattle.cga_fraction.specs.Rat.{Rat}
 use Rattle.cga_rule.specs.declared.grammar.Grammar.{Grammar}

@@ -48,8 +48,6 @@ use Rattle.cga_update.specs.Means.{ArePriced, told_ranked}
 use Rattle.cga_update.specs.Near.{KeepsPriorities}
 use Rattle.cga_update.specs.Plain.{IsPlain}
 use Rattle.cga_update.specs.Queue.{chains_of, on_of}
-use Rattle.cga_update.specs.declared.changed_lots.ChangedLots.TheVariants as lots
-use Rattle.cga_update.specs.Roots.{IsRerooted}
 use Rattle.cga_update.proofs.DueNodes.{may_be_on}
 use Rattle.cga_update.proofs.RootShapes.{among_root}
 use Rattle.cga_update.proofs.Rooting.{IsRooted}

@@ -6,7 +6,7 @@ use lib.Pointwise.{bytes_decides}
 use Rattle.cga_word.specs.declared.mode.Mode.{Mode}
 use Rattle.cga_check.specs.Uses.{same_name}
 use Rattle.cga_depend.specs.Asking.{asks_in}
-use Rattle.cga_depend.specs.Pairs.{DependentsView, nodes_in, under}
+use Rattle.cga_depend.specs.Pairs.{DependentsView, under}
 use Rattle.cga_order.specs.Chain.{Chain}
 use Rattle.cga_order.specs.World.{Among, is_instance}
 use Rattle.cga_rule.specs.declared.grammar.Grammar.{Grammar}

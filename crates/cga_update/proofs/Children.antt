@@ -1,13 +1,12 @@
 -- The children that a forest makes of an outcome are those of the derivation, at their places and with their symbols'
 -- priorities.
-use Rattle.std.proofs.Common.{◌≡◌, ◌+◌, ℕ, zero, suc, List, [], ◌∷◌, map, refl, sym, ap, ◌∙◌, subst, inl, inr, Option, Some, None, true, false, Ok, Err, add-one, arith}
+use Rattle.std.proofs.Common.{◌≡◌, ◌+◌, ℕ, zero, suc, List, [], ◌∷◌, map, refl, sym, ap, ◌∙◌, subst, inl, inr, Some, None, true, false, Ok, Err, add-one, arith}
 use Rattle.std.specs.Prelude.{slice_get}
 use Rattle.cga_word.specs.declared.answers.Answers.{Answers}
 use Rattle.cga_rule.specs.declared.grammar.Grammar.{Grammar}
 use Rattle.cga_order.specs.World.{IsNew, is_instance}
 use Rattle.cga_shape.specs.declared.emitted.Emitted.{Emitted}
 use Rattle.cga_shape.specs.declared.emitted.Emitted.TheVariants.{Child, Solid}
-use Rattle.cga_shape.specs.declared.shape.Shape.{Shape}
 use Rattle.cga_shape.specs.declared.sources.Sources.{Sources}
 use Rattle.cga_expand.specs.Children.{placed_at, placed_from, placed_by}
 use Rattle.cga_expand.specs.Derivation.{children_of, priority_of}

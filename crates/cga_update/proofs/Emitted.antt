@@ -1,5 +1,5 @@
 -- What was emitted for the children of a node is an outcome that places them where they stand.
-use Rattle.std.proofs.Common.{◌≡◌, ◌<◌, ◌≤◌, ◌+◌, ℕ, zero, suc, List, [], ◌∷◌, ◌++◌, length, refl, sym, ap, ◌∙◌, subst, ◌⊎◌, inl, inr, Option, Some, None, true, false, Ok, Err, arith, length-append}
+use Rattle.std.proofs.Common.{◌≡◌, ◌≤◌, ◌+◌, ℕ, zero, suc, List, [], ◌∷◌, ◌++◌, length, refl, sym, ap, ◌∙◌, subst, ◌⊎◌, inl, inr, Option, Some, None, true, false, Ok, Err, arith, length-append}
 use Rattle.std.specs.Prelude.{IsSome, slice_get}
 use Rattle.cga_index.specs.Tree.{InTree}
 use Rattle.cga_word.specs.declared.primitive.Primitive.{Primitive}
@@ -13,7 +13,6 @@ use Rattle.cga_forest.specs.View.{Seen}
 use Rattle.cga_forest.specs.Tree.{ForestView, IsForest, children_at, children_of, node_at}
 use Rattle.cga_forest.specs.Walked.{forest_tree}
 use Rattle.cga_forest.proofs.Door.{inside}
-use Rattle.cga_fraction.proofs.Door.{lt_or_eq_below_suc as below_or}
 use Rattle.cga_update.specs.Turned.{AreEmitted, IsAgain, emitted_of, fault_in}
 
 module _ {X : Type 0} where

@@ -1,5 +1,5 @@
 -- What the work of an edit comes to, in the words of sources.
-use Rattle.std.proofs.Common.{◌≡◌, inl, inr, ℕ, ◌+◌, List, [], ◌∷◌, map, length, Bool, refl, ap, sym, ◌∙◌, subst, arith}
+use Rattle.std.proofs.Common.{◌≡◌, inl, inr, ℕ, ◌+◌, List, map, length, Bool, ap, sym, ◌∙◌, subst}
 use Rattle.std.specs.Prelude.{count_by}
 use Rattle.cga_word.specs.declared.answers.Answers.{Answers}
 use Rattle.cga_word.specs.declared.primitive.Primitive.{Primitive}

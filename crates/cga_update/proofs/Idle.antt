@@ -42,6 +42,7 @@ module _ (was : Work) (rest : AgendaView) (edit : TheEdit) (s : TheState) (means
     };
     queued = λ c d t. (λ q. same.there c ((means.queued c d t).0 q), λ q. (means.queued c d t).1 (same.back c q));
     due = λ b c x d there on here came solid less. same.there c (means.due b c x d there (same.back b on) here came solid less);
+    remembered = λ c is. same.there c (means.remembered c is);
     all_came = means.all_came;
     priced = means.priced;
     last = means.last;

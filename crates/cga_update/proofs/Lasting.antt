@@ -1,8 +1,8 @@
 -- No node of the mark that asks comes later than the last: when the work begins, and after each turn.
-use Rattle.std.proofs.Common.{◌≡◌, ◌⊎◌, inl, inr, ℕ, List, refl, sym, ap, ◌∙◌, subst, Option, Some, None, Bool, true, false, ◌||◌}
+use Rattle.std.proofs.Common.{◌≡◌, ◌⊎◌, inl, inr, ℕ, List, refl, sym, ap, ◌∙◌, subst, Some, None, Bool, true, false}
 use Rattle.std.specs.Prelude.{IsSome, is_some, if◌then◌else◌}
 use Rattle.std.proofs.lemmas.Bool.{or_left, or_right}
-use Rattle.cga_fraction.proofs.Door.{None-not-Some as none_some, cases_Option as option_cases, eq_or_ne as nat_cases}
+use Rattle.cga_fraction.proofs.Door.{cases_Option as option_cases, eq_or_ne as nat_cases}
 use Rattle.cga_word.specs.declared.mode.Mode.{Mode}
 use Rattle.cga_check.specs.Said.{asks_any, said}
 use Rattle.cga_depend.specs.Pairs.{DependentsView}

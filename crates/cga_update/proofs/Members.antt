@@ -1,10 +1,9 @@
 -- Members of lists.
-use Rattle.std.proofs.Common.{◌≡◌, ◌⊎◌, inl, inr, ℕ, List, [], ◌∷◌, ◌++◌, suc, refl, ap, Some, slice_get}
-use Rattle.cga_index.specs.Tree.{Apart, Member}
+use Rattle.std.proofs.Common.{◌≡◌, ◌⊎◌, inl, inr, ℕ, List, [], ◌∷◌, ◌++◌, refl, ap}
+use Rattle.cga_index.specs.Tree.{Member}
 use Rattle.cga_order.specs.World.{Among}
 use Rattle.cga_forest.specs.declared.moved.Moved.{Moved}
 use Rattle.cga_forest.specs.Moved.{ids_of}
-use Rattle.cga_index.proofs.Door.{in_split as member_either}
 
 pub among_either : {X : Type 0} (xs ys : List X) (x : X) → Among x (xs ++ ys) → Among x xs ⊎ Among x ys
 among_either [] ys x h = inr h

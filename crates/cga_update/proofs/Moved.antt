@@ -1,8 +1,7 @@
 -- The agenda after a turn, in the words of the theory: what was on it and stays, what came, and who meets what changed.
 use Rattle.std.proofs.Common.{◌≡◌, ℕ, List, refl, sym, ap, ◌∙◌, subst, inl, inr, Some, None, Bool, true, false}
 use Rattle.std.specs.Prelude.{is_some, if◌then◌else◌}
-use Rattle.std.specs.declared.cmp.Ordering.TheVariants.{Less, Equal, Greater}
-use Rattle.std.specs.declared.cmp.Ordering.{Ordering}
+use Rattle.std.specs.declared.cmp.Ordering.TheVariants.{Less}
 use Rattle.std.specs.Ordering.{is_lt}
 use Rattle.cga_frame.specs.Box.{box_of, meets}
 use Rattle.cga_fraction.proofs.Door.{Less_from_is_lt as lt_is, cases_Option as option_cases, eq_or_ne as nat_cases}
@@ -29,7 +28,7 @@ use Rattle.cga_update.specs.Follow.{IsFollowed}
 use Rattle.cga_update.specs.Queue.{chains_of, due_chain, on_of}
 use Rattle.cga_update.proofs.Bounding.{NobodyLeft}
 use Rattle.cga_update.proofs.DueNodes.{due_is, due_of, may_be_on}
-use Rattle.cga_update.proofs.Moves.{chain_at, not_itself, some_one}
+use Rattle.cga_update.proofs.Moves.{chain_at, not_itself, on_node, some_one}
 
 -- S and T are two forests, before and after the children of a node were replaced
 module _ (v w : ForestView) (new : Sources) (id : ℕ) (news : List Node) (e now : Seen) (gone : ℕ → Bool) (replaced : IsReplaced fits (node_at v) (node_at w) id news e now gone) (inner : is_instance e.node.kind ≡ false) (still : is_instance now.node.kind ≡ false) (chain : chain_kept now.node ≡ chain_kept e.node) where
@@ -47,6 +46,20 @@ module _ (v w : ForestView) (new : Sources) (id : ℕ) (news : List Node) (e now
           → chains_of w c ≡ chains_of v c
       kept_due true f r = let z : None ≡ Some d = sym (r ∙ ap (λ h. if h then None else Some x) f) ∙ b in cc
       kept_due false f r = ap due_chain (r ∙ ap (λ h. if h then None else Some x) f ∙ sym a)
+
+  still_on : (a : AgendaView) (c : ℕ) (x d : Seen) → node_at v c ≡ Some x → node_at w c ≡ Some d → on_of v a c ≡ true
+      → on_of w a c ≡ true
+  still_on a c x d p q h = let z = on_from (chains_of v) a c h in on_to (chains_of w) a c z.0 (same_due c x d p q ∙ z.1) z.2
+
+  -- a node that didn't go stays on an agenda
+  pub stays_on : (a : AgendaView) (went : List moved.Moved) → ListsMoved (node_at v) (node_at w) went → (c : ℕ)
+      → (IsOneOf went c → ⊥) → on_of v a c ≡ true → on_of w a c ≡ true
+  stays_on a went lists c stays on =
+      let x = on_node v a c on in
+      elim (option_cases (node_at w c)) [
+        | inl none ↦ absurd (stays (moved_of c x.0, (lists.each (moved_of c x.0)).1 (c, x.0, x.1, none, refl), refl))
+        | inr p ↦ still_on a c x.0 p.0 x.1 p.1 on
+      ]
 
   abbrev IsAfter : Seen → Type 0
   IsAfter d = stamp_cmp new.mode (chain_kept e.node) (chain_kept d.node) ≡ Less
@@ -77,10 +90,6 @@ module _ (v w : ForestView) (new : Sources) (id : ℕ) (news : List Node) (e now
         → stamp_cmp new.mode (chain_kept e.node) (chain_kept d.node) ≡ Less
     later_out c d here solid late =
         lt_is (stamp_cmp new.mode (chain_kept e.node) (chain_kept d.node)) (sym (ap (λ y. is_lt (stamp_cmp new.mode y (chain_kept d.node))) chain) ∙ sym (λ i. is_later (mode i) (due_is (node_at w id) now replaced.is still i) (due_is (node_at w c) d here solid i)) ∙ late)
-
-    still_on : (a : AgendaView) (c : ℕ) (x d : Seen) → node_at v c ≡ Some x → node_at w c ≡ Some d → on_of v a c ≡ true
-        → on_of w a c ≡ true
-    still_on a c x d p q h = let z = on_from (chains_of v) a c h in on_to (chains_of w) a c z.0 (same_due c x d p q ∙ z.1) z.2
 
     came_on : (c : ℕ) (d : Seen) → node_at v c ≡ None → node_at w c ≡ Some d → is_instance d.node.kind ≡ false
         → on_of w after c ≡ true

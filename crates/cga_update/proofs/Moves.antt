@@ -1,5 +1,5 @@
 -- What a turn takes off the agenda and puts on it, in the words of the theory.
-use Rattle.std.proofs.Common.{◌≡◌, ℕ, sym, ap, ◌∙◌, subst, inl, inr, Option, Some, None, true, false}
+use Rattle.std.proofs.Common.{◌≡◌, ◌≢◌, ℕ, sym, ap, ◌∙◌, subst, inl, inr, Option, Some, None, true, false}
 use Rattle.std.specs.declared.cmp.Ordering.TheVariants.{Less, Equal}
 use Rattle.std.proofs.lemmas.Cmp.{tied_itself}
 use Rattle.cga_order.specs.Chain.{Chain}
@@ -12,7 +12,8 @@ use Rattle.cga_forest.specs.Node.{chain_kept}
 use Rattle.cga_forest.specs.View.{Seen}
 use Rattle.cga_forest.specs.Tree.{ForestView, marked_at, node_at}
 use Rattle.cga_rework.specs.Agenda.{IsTaken}
-use Rattle.cga_queue.specs.Agenda.{AgendaView, IsLeast}
+use Rattle.cga_queue.specs.Agenda.{AgendaView, Chains, IsLeast}
+use Rattle.cga_queue.specs.Remembered.{AreOn, IsRemembered, RememberedView}
 use Rattle.cga_update.specs.Due.{ComersAreDue}
 use Rattle.cga_update.specs.Edit.{content, shapes_of}
 use Rattle.cga_update.specs.Queue.{chains_of, on_of}
@@ -83,3 +84,11 @@ comers_stay v new old rest id x e least at due c d k = elim (least.stay c (due i
   | inl same ↦ absurd (not_itself (chain_kept e.node) new (subst (λ (y : Seen). stamp_cmp new.mode (chain_kept e.node) (chain_kept y.node) ≡ Less) (some_one (node_at v c) d e k.here (ap (node_at v) same ∙ at)) k.less))
   | inr on ↦ on
 ]
+
+-- what is remembered stays on the agenda when a node is taken, which is forgotten
+pub remembered_rest : (D : Chains) (ns less : RememberedView) (old rest : AgendaView) (id : ℕ) (x : Chain)
+    → IsLeast D old rest id x → AreOn D ns old
+    → ((c : ℕ) → IsRemembered less c → (c ≢ id) × IsRemembered ns c) → AreOn D less rest
+remembered_rest D ns less old rest id x least are forgot c is =
+    let left = forgot c is in
+    elim (least.stay c (are c left.1)) [ inl same ↦ absurd (left.0 same) | inr on ↦ on ]

@@ -1,8 +1,8 @@
 -- Nodes that are put on the agenda, whatever their stamps.
-use Rattle.std.proofs.Common.{◌≡◌, ◌⊎◌, inl, inr, ℕ, ◌+◌, ◌<◌, ◌≤◌, List, [], ◌∷◌, ◌++◌, length, refl, sym, ap, ◌∙◌, subst, Option, Some, None, slice_get, arith}
-use Rattle.cga_fraction.proofs.Door.{None-not-Some as none_some, lt-length_from_slice_get as within, lt_or_eq_below_suc as below_or, same_Some as some_same}
+use Rattle.std.proofs.Common.{◌≡◌, ◌⊎◌, inl, inr, ℕ, List, [], ◌∷◌, ◌++◌, refl, sym, ap, ◌∙◌, subst, Option, Some, None, slice_get}
+use Rattle.cga_fraction.proofs.Door.{None-not-Some as none_some, same_Some as some_same}
 use Rattle.cga_order.specs.World.{Among}
-use Rattle.cga_order.proofs.Door.{Among-append, Among-index, Among-left, Among-right}
+use Rattle.cga_order.proofs.Door.{Among-append, Among-left, Among-right}
 use Rattle.cga_forest.specs.declared.moved.Moved.{Moved}
 use Rattle.cga_forest.specs.View.{Seen}
 use Rattle.cga_forest.specs.Tree.{ForestView, above, node_at}
@@ -48,28 +48,15 @@ module _ (v : ForestView) (id : ℕ) where
 pub among_kept : (a b : List ℕ) (x : ℕ) → b ≡ a ++ x ∷ [] → (p : ℕ) → Among p a → Among p b
 among_kept a b x e p m = subst (Among p) (sym e) (Among-left a (x ∷ []) p m)
 
--- the parents of the first nodes of a list
-module _ (v : ForestView) (ids : List ℕ) (n : ℕ) where
-  abbrev FirstParents : ℕ → List ℕ → Type 0
-  FirstParents m parents = (j c p : ℕ) → j < m → slice_get ids j ≡ Some c → IsParent v c p → Among p parents
+-- the list has the node's parents
+abbrev pub HasParents : ForestView → List ℕ → ℕ → Type 0
+HasParents v parents c = (p : ℕ) → IsParent v c p → Among p parents
 
-  module _ (id : ℕ) (a b : List ℕ) (at : slice_get ids n ≡ Some id) where
-    pub parents_more : ((p : ℕ) → Among p a → Among p b) → ((p : ℕ) → IsParent v id p → Among p b)
-        → FirstParents n a → FirstParents (n + 1) b
-    parents_more kept there has j c p lt e w = elim (below_or n j lt) [
-      | inl l ↦ kept p (has j c p l e w)
-      | inr s ↦ there p (subst (λ z. IsParent v z p) (some_same c id (sym e ∙ (ap (slice_get ids) s ∙ at))) w)
-    ]
-
-    pub parents_only : ((p : ℕ) → Among p b → Among p a ⊎ IsParent v id p)
-        → ((p : ℕ) → Among p a → IsParentOf v ids p) → (p : ℕ) → Among p b → IsParentOf v ids p
-    parents_only only has p m = elim (only p m) [ inl l ↦ has p l | inr w ↦ (id, among_from ids n id at, w) ]
-
-  pub parents_all : (parents : List ℕ) → length ids ≤ n → FirstParents n parents
-      → (p : ℕ) → IsParentOf v ids p → Among p parents
-  parents_all parents whole has p w =
-      let i = Among-index ids w.0 w.1 in
-      let below = within ids i.0 w.0 i.1 in has i.0 w.0 p (omega (arith, below, whole)) i.1 w.2
+-- what a list of parents gains by a node of a list is a parent of one of these
+pub parents_only : (v : ForestView) (ids : List ℕ) (n id : ℕ) (a b : List ℕ) → slice_get ids n ≡ Some id
+    → ((p : ℕ) → Among p b → Among p a ⊎ IsParent v id p) → ((p : ℕ) → Among p a → IsParentOf v ids p)
+    → (p : ℕ) → Among p b → IsParentOf v ids p
+parents_only v ids n id a b at only has p m = elim (only p m) [ inl l ↦ has p l | inr w ↦ (id, among_from ids n id at, w) ]
 
 -- what is on the agenda of what moved stays on it
 pub moved_kept : (v : ForestView) (P : ℕ → Type 0) (a b : AgendaView) → Grows (chains_of v) P a b

@@ -1,5 +1,5 @@
 -- A turn that changes nothing but the agenda is a turn of the work of the theory.
-use Rattle.std.proofs.Common.{◌≡◌, ◌+◌, ℕ, [], length, refl, sym, ap, ◌∙◌, subst, Bool, false}
+use Rattle.std.proofs.Common.{◌≡◌, ◌≢◌, ◌+◌, ℕ, [], length, refl, sym, ap, ◌∙◌, subst, Bool, false}
 use Rattle.std.proofs.lemmas.List.{append-nil}
 use Rattle.cga_order.proofs.Door.{stamp_total}
 use Rattle.cga_rework.proofs.Door.{lists_are_changes, quiet_turns}
@@ -20,18 +20,19 @@ use Rattle.cga_forest.specs.View.{Seen}
 use Rattle.cga_forest.specs.Tree.{node_at}
 use Rattle.cga_update.specs.declared.work.Work.{Work}
 use Rattle.cga_queue.specs.Agenda.{AgendaView, IsLeast}
+use Rattle.cga_queue.specs.Remembered.{IsRemembered, RememberedView}
 use Rattle.cga_update.specs.Edit.{asks_by, content, kept_nodes, ranked, rules_of, shapes_of, the_edit}
 use Rattle.cga_update.specs.Means.{Means}
 use Rattle.cga_update.specs.Queue.{chains_of, on_of}
 use Rattle.cga_update.specs.Turned.{IsQuiet}
 use Rattle.cga_update.proofs.Edits.{by_symbol, is_rules_edit}
 use Rattle.cga_update.proofs.Idle.{TheEdit, TheState}
-use Rattle.cga_update.proofs.Moves.{comers_stay, taken_at}
+use Rattle.cga_update.proofs.Moves.{comers_stay, remembered_rest, taken_at}
 use Rattle.cga_update.proofs.Nodes.{kept_bound}
 
-module _ (was now : Work) (rest : AgendaView) (id : ℕ) (x : Chain) (edit : TheEdit) (s : TheState) (means : Means was edit s) (least : IsLeast (chains_of was.forest) was.agenda rest id x) where
+module _ (was now : Work) (rest : AgendaView) (id : ℕ) (x : Chain) (edit : TheEdit) (s : TheState) (means : Means was edit s) (least : IsLeast (chains_of was.forest) was.agenda rest id x) (less : RememberedView) (forgot : (c : ℕ) → IsRemembered less c → (c ≢ id) × IsRemembered was.remembered c) where
   abbrev passed : Work
-  passed = record was { agenda = rest }
+  passed = record was { agenda = rest; remembered = less }
 
   abbrev new : Sources
   new = was.renewal.new.now
@@ -96,6 +97,7 @@ module _ (was now : Work) (rest : AgendaView) (id : ℕ) (x : Chain) (edit : The
       queued = result.1.1;
       due = λ b c y d there on here came solid less. comers_stay was.forest new was.agenda rest id x e least turn.here means.due c d
           (record { here = here; came = came; solid = solid; less = (stamp_total new.mode).trans (chain_kept e.node) (chain_kept y.node) (chain_kept d.node) (taken.1.left b y there on).2 less });
+      remembered = remembered_rest (chains_of was.forest) was.remembered less was.agenda rest id x least means.remembered forgot;
       all_came = means.all_came;
       priced = means.priced;
       last = means.last;

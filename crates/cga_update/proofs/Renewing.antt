@@ -1,5 +1,5 @@
 -- What the children of a node are after its turn: placed anew they are those that it had, and each node is plain.
-use Rattle.std.proofs.Common.{◌≡◌, ◌+◌, ℕ, zero, suc, List, [], ◌∷◌, ◌++◌, length, map, refl, sym, ap, ◌∙◌, subst, ◌⊎◌, inl, inr, Option, Some, None, Bool, true, false, Ok, Err, arith}
+use Rattle.std.proofs.Common.{◌≡◌, ◌+◌, ℕ, List, [], ◌∷◌, ◌++◌, length, refl, sym, ap, ◌∙◌, subst, ◌⊎◌, inl, inr, Option, Some, None, Bool, true, false, Ok, Err, arith}
 use Rattle.std.specs.Prelude.{slice_get, if◌then◌else◌}
 use Rattle.cga_word.specs.declared.answers.Answers.{Answers}
 use Rattle.cga_word.specs.declared.primitive.Primitive.{Primitive}
@@ -15,7 +15,7 @@ use Rattle.cga_shape.specs.declared.shape.Shape.{Shape}
 use Rattle.cga_shape.specs.declared.shape_fault.ShapeFault.{ShapeFault}
 use Rattle.cga_shape.specs.declared.sources.Sources.{Sources}
 use Rattle.cga_tree.specs.Replaced.{IsChildNow, IsNewChild, IsReplaced}
-use Rattle.cga_expand.specs.Children.{placed_by, placed_from}
+use Rattle.cga_expand.specs.Children.{placed_by}
 use Rattle.cga_expand.specs.Derivation as expansion
 use Rattle.cga_expand.specs.Derivation.{priority_of}
 use Rattle.cga_expand.specs.Expand.{expand_of}
@@ -24,7 +24,7 @@ use Rattle.cga_forest.specs.Node.{IsBelow, fits}
 use Rattle.cga_forest.specs.Placing.{Outcome, child_kind, child_node, child_shape, children_after, children_from, emitted, kind_after}
 use Rattle.cga_forest.specs.View.{Seen}
 use Rattle.cga_forest.specs.Tree.{ForestView, IsForest, node_at}
-use Rattle.cga_fraction.proofs.Door.{cases_Option as option_cases, eq_or_ne as nat_cases, length-map as length_mapped, slice_get_along as emitted_there}
+use Rattle.cga_fraction.proofs.Door.{cases_Option as option_cases, eq_or_ne as nat_cases, length-map as length_mapped}
 use Rattle.cga_rework.specs.Ranked.{Ranked, all_placed}
 use Rattle.cga_rework.specs.Turn.{AreAgain}
 use Rattle.cga_update.specs.Edit.{content, the_edit}

@@ -1,6 +1,6 @@
 -- The update within one mode, from its beginning to its end.
 use Rattle.std.proofs.Common.{◌≡◌, ℕ, ◌+◌, ◌<◌, List, [], ◌∷◌, ◌++◌, map, length, true, false, refl, sym, ap, ◌∙◌, subst, None, Result, Ok, Err, arith}
-use Rattle.std.specs.Prelude.{IfOk, IsOk}
+use Rattle.std.specs.Prelude.{IsOk}
 use Rattle.std.specs.List.{AllByRecursion}
 use Rattle.std.proofs.lemmas.List.Elements.{recursion_from_All}
 use Rattle.cga_word.specs.declared.answers.Answers.{Answers}

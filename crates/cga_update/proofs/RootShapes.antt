@@ -1,7 +1,6 @@
 -- The roots of lots among their shapes.
-use Rattle.std.proofs.Common.{◌≡◌, inl, inr, ℕ, zero, suc, List, [], ◌∷◌, ◌++◌, refl, sym, ap, ◌∙◌, subst, Some, Ok, Err, Result, slice_get}
+use Rattle.std.proofs.Common.{◌≡◌, inl, inr, ℕ, suc, List, [], ◌∷◌, ◌++◌, refl, sym, ap, ◌∙◌, subst, Some, Ok, Err, Result, slice_get}
 use Rattle.cga_order.specs.World.{Among}
-use Rattle.cga_fraction.proofs.Door.{None-not-Some as none_some, same_Some as some_same}
 use Rattle.cga_expand.specs.Derivation.{made, roots_of}
 use Rattle.cga_frame.specs.declared.scope_fault.ScopeFault.{ScopeFault}
 use Rattle.cga_shape.specs.Root.{root_of}

@@ -6,7 +6,6 @@ use Rattle.cga_expand.proofs.Door.{root_is, root_among}
 use Rattle.cga_fraction.proofs.Door.{None-not-Some as none_some}
 use Rattle.cga_expand.specs.Derivation.{priority_of}
 use Rattle.cga_expand.specs.Validity.{RootsExist}
-use Rattle.cga_rework.specs.City as tree
 use Rattle.cga_shape.specs.Root.{root_of}
 use Rattle.cga_shape.specs.declared.shape.Shape.{Shape}
 use Rattle.cga_shape.specs.declared.sources.Sources.{Sources}

@@ -22,7 +22,7 @@ use Rattle.cga_same.specs.declared.changed.Facts.{Facts}
 use Rattle.cga_update.specs.declared.work.Work.{Work}
 use Rattle.cga_same.specs.Both.{BothGrammars}
 use Rattle.cga_same.specs.Changed.{AreFacts}
-use Rattle.cga_update.specs.Edit.{asks_by, kept_nodes, ranked, the_edit}
+use Rattle.cga_update.specs.Edit.{kept_nodes, ranked, the_edit}
 use Rattle.cga_update.specs.Plain.{IsPlain}
 use Rattle.cga_update.specs.Turned.{HasPlaced, IsAgain, IsTurned, MayTurn}
 use Rattle.cga_update.proofs.Agreeing.{same_is_setting, setting_is_same}

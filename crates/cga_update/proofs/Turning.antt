@@ -1,5 +1,5 @@
 -- A turn in code is a turn of the work of the theory.
-use Rattle.std.proofs.Common.{◌≡◌, ℕ, List, [], ◌∷◌, ◌++◌, ◌+◌, length, map, refl, sym, ap, ◌∙◌, subst, ◌⊎◌, inl, inr, Option, Some, None, Bool, true, false, not, Bor}
+use Rattle.std.proofs.Common.{◌≡◌, ◌≢◌, ℕ, List, ◌++◌, ◌+◌, length, map, refl, sym, ap, ◌∙◌, subst, ◌⊎◌, inl, inr, Option, Some, None, Bool, true, false, not, Bor}
 use Rattle.std.specs.Prelude.{◌&&◌, is_some, if◌then◌else◌}
 use Rattle.cga_word.specs.declared.primitive.Primitive.{Primitive}
 use Rattle.std.specs.declared.cmp.Ordering.TheVariants.{Less}
@@ -32,12 +32,14 @@ use Rattle.cga_rework.specs.Changes.{ListsLost}
 use Rattle.cga_rework.specs.Turn as theory
 use Rattle.cga_update.specs.declared.work.Work.{Work}
 use Rattle.cga_queue.specs.Agenda.{AgendaView, IsLeast}
+use Rattle.cga_queue.specs.Remembered.{AreOn, IsRemembered, RememberedView}
 use Rattle.cga_same.specs.Both.{both}
 use Rattle.cga_update.specs.Due.{AllCame, ComersAreDue}
 use Rattle.cga_update.specs.Edit.{asks_by, content, kept_nodes, meets_box, ranked, rules_of, shapes_of, the_edit}
 use Rattle.cga_check.specs.Uses.{same_name}
 use Rattle.cga_rule.specs.declared.grammar.Grammar.{Grammar}
 use Rattle.cga_expand.specs.Expand.{expand_of}
+use Rattle.cga_update.specs.Follow.{IsFollowed}
 use Rattle.cga_update.specs.Last.{AskersAreUpTo}
 use Rattle.cga_depend.specs.Log.{noted_all}
 use Rattle.cga_update.specs.Log.{IsLogged, StayAlike, came_of, drawn_of, is_of, went_of}
@@ -50,8 +52,8 @@ use Rattle.cga_update.proofs.Facts.{said_asks}
 use Rattle.cga_update.proofs.Edits.{by_symbol, is_rules_edit}
 use Rattle.cga_update.proofs.Idle.{TheEdit, TheState}
 use Rattle.cga_update.proofs.Lasting.{turn_up_to}
-use Rattle.cga_update.proofs.Moved.{is_moved, still_due}
-use Rattle.cga_update.proofs.Moves.{comers_stay, some_one, taken_at}
+use Rattle.cga_update.proofs.Moved.{is_moved, stays_on, still_due}
+use Rattle.cga_update.proofs.Moves.{comers_stay, remembered_rest, some_one, taken_at}
 use Rattle.cga_update.proofs.Nodes.{kept_bound}
 use Rattle.cga_update.proofs.Drawing.{lists_lost}
 use Rattle.cga_update.proofs.Logged.{logged_more}
@@ -59,9 +61,9 @@ use Rattle.cga_update.proofs.Meeting.{sees_what_meets}
 use Rattle.cga_update.proofs.Places.{same_node}
 use Rattle.cga_update.proofs.Renewing.{are_again, expansion_count, still_plain, still_priced, still_silent}
 
-pub may_turn : (w : Work) (rest : AgendaView) (edit : TheEdit) (s : TheState) → Means w edit s
-    → MayTurn (record w { agenda = rest })
-may_turn w rest edit s means = record { mode = means.mode; symbols = means.symbols; grammars = means.grammars; plain = means.plain }
+pub may_turn : (w : Work) (rest : AgendaView) (less : RememberedView) (edit : TheEdit) (s : TheState) → Means w edit s
+    → MayTurn (record w { agenda = rest; remembered = less })
+may_turn w rest less edit s means = record { mode = means.mode; symbols = means.symbols; grammars = means.grammars; plain = means.plain }
 
 is_fit : IsFit content fits
 is_fit = record {
@@ -70,7 +72,7 @@ is_fit = record {
 }
 
 -- one turn: was and now are the work before and after it
-module _ (was now : Work) (rest : AgendaView) (id : ℕ) (x : Chain) (turned : Turned) (edit : TheEdit) (s : TheState) (means : Means was edit s) (before : IsForest was.forest) (least : IsLeast (chains_of was.forest) was.agenda rest id x) (turn : IsPlacing (record was { agenda = rest }) now id turned) where
+module _ (was now : Work) (rest : AgendaView) (id : ℕ) (x : Chain) (turned : Turned) (edit : TheEdit) (s : TheState) (means : Means was edit s) (before : IsForest was.forest) (least : IsLeast (chains_of was.forest) was.agenda rest id x) (less : RememberedView) (forgot : (c : ℕ) → IsRemembered less c → (c ≢ id) × IsRemembered was.remembered c) (turn : IsPlacing (record was { agenda = rest; remembered = less }) now id turned) where
   abbrev new : Sources
   new = was.renewal.new.now
 
@@ -110,6 +112,16 @@ module _ (was now : Work) (rest : AgendaView) (id : ℕ) (x : Chain) (turned : T
 
   still : is_instance after_e.node.kind ≡ false
   still = (keeps_self new e.node turn.answers turn.outcome inner).is
+
+  -- what is remembered still when its children are replaced is on the agenda
+  are_on : AreOn (chains_of now.forest) turn.placed.1.less rest
+  are_on c is =
+      let left = turn.placed.1.forgot c is in
+      let on = remembered_rest (chains_of was.forest) was.remembered less was.agenda rest id x least means.remembered forgot c left.0 in
+      stays_on was.forest now.forest new id news e after_e gone replaced inner still refl rest turn.placed.0.went turn.placed.1.went c left.1 on
+
+  followed : IsFollowed now.forest id turn.placed.0 turn.placed.1.nobody rest now.agenda
+  followed = turn.placed.1.followed are_on
 
   abbrev IsAfter : Seen → Type 0
   IsAfter d = stamp_cmp new.mode (chain_kept e.node) (chain_kept d.node) ≡ Less
@@ -194,7 +206,7 @@ module _ (was now : Work) (rest : AgendaView) (id : ℕ) (x : Chain) (turned : T
     self_asks = said_asks g e.node.shape;
     are = are_news new e.node turn.outcome inner;
     outcome = told;
-    moved = is_moved was.forest now.forest new id news e after_e gone replaced inner still refl rest now.agenda (least.mode ∙ means.agenda_mode) turn.placed.0 turn.placed.1.went turn.placed.1.came turn.placed.1.nobody turn.placed.1.followed comers left;
+    moved = is_moved was.forest now.forest new id news e after_e gone replaced inner still refl rest now.agenda (least.mode ∙ means.agenda_mode) turn.placed.0 turn.placed.1.went turn.placed.1.came turn.placed.1.nobody followed comers left;
   }
 
   abbrev Result : Type 0
@@ -266,18 +278,19 @@ module _ (was now : Work) (rest : AgendaView) (id : ℕ) (x : Chain) (turned : T
 
   due_now : ComersAreDue new.mode now.forest now.agenda
   due_now =
-      still_due was.forest now.forest new id news e after_e gone replaced inner still refl rest now.agenda (least.mode ∙ means.agenda_mode) turn.placed.0 turn.placed.1.went turn.placed.1.came turn.placed.1.nobody turn.placed.1.followed comers left
+      still_due was.forest now.forest new id news e after_e gone replaced inner still refl rest now.agenda (least.mode ∙ means.agenda_mode) turn.placed.0 turn.placed.1.went turn.placed.1.came turn.placed.1.nobody followed comers left
       born_later (λ c x there on. (taken.1.left c x there on).2)
 
   means_now : Means now edit after
   means_now = record {
     edit_is = to_new (λ b. edit ≡ the_edit now.renewal.old.now b.now) (to_old (λ b. edit ≡ the_edit b.now new) means.edit_is);
     mode = to_new (λ b. now.forest.mode ≡ b.now.mode) (turn.placed.1.bounds.mode ∙ means.mode);
-    agenda_mode = to_new (λ b. now.agenda.mode ≡ b.now.mode) (turn.placed.1.followed.grows.mode ∙ least.mode ∙ means.agenda_mode);
+    agenda_mode = to_new (λ b. now.agenda.mode ≡ b.now.mode) (followed.grows.mode ∙ least.mode ∙ means.agenda_mode);
     nodes = refl;
     underway = to_new (λ b. IsUnderway (shapes_of b.now) content (rules_of b.now) (asks_by b.now.grammar) T (on_of now.forest now.agenda)) result.0;
     queued = to_new (λ b. AreQueued (shapes_of b.now) content T (on_of now.forest now.agenda) result.1.0) result.1.1;
     due = to_new (λ b. ComersAreDue b.now.mode now.forest now.agenda) due_now;
+    remembered = turn.placed.1.remembered are_on;
     all_came = λ is. all_came (sym turn.placed.1.bounds.all_came ∙ is);
     priced = λ is. to_new (λ b. ArePriced b.now.grammar now.forest) (still_priced was.forest now.forest before g id turn.outcome e after_e gone replaced refl turn.here refl refl inner (means.priced (sym turn.placed.1.bounds.priced ∙ is)));
     last = to_new (λ b. AskersAreUpTo b.now.mode now.last b.now.grammar now.forest) (subst (λ l. AskersAreUpTo new.mode l g now.forest) (sym turn.placed.1.bounds.last) up_to);

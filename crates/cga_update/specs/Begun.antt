@@ -42,6 +42,7 @@ IsBetween old new w = (w.renewal.old.now ≡ old) × (w.renewal.new.now ≡ new)
 -- nothing of the work is done yet
 pub record IsFresh (w : Work) : Type 0 where
   pub mode : w.agenda.mode ≡ w.renewal.new.now.mode
+  pub remembered : w.remembered ≡ []
   pub symbols : w.symbols ≡ w.renewal.new.now.grammar
   pub grammars : w.grammars ≡ both w.renewal.old.now.grammar w.renewal.new.now.grammar
   pub log : w.log.items ≡ []

@@ -1,5 +1,5 @@
 -- Which lots differ between old and new sources.
-use Rattle.std.specs.Prelude.{◌≡◌, ℕ, List, Option, Some, None, refl, slice_get}
+use Rattle.std.specs.Prelude.{◌≡◌, ℕ, Option, Some, None, refl, slice_get}
 use Rattle.std.specs.Coded.{Coded-set}
 use Rattle.std.proofs.Math.Path.{PathP, to_path_p}
 use Rattle.std.proofs.Props.{props}

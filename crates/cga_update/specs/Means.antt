@@ -18,13 +18,14 @@ use Rattle.cga_expand.specs.Settings.{Setting}
 use Rattle.cga_forest.specs.View.{Seen}
 use Rattle.cga_forest.specs.Tree.{ForestView, KeepsMark, marked_at, node_at}
 use Rattle.cga_update.specs.declared.work.Work.{Work}
+use Rattle.cga_queue.specs.Remembered.{AreOn}
 use Rattle.cga_same.specs.Both.{both}
 use Rattle.cga_update.specs.Due.{AllCame, ComersAreDue}
 use Rattle.cga_update.specs.Edit.{asks_by, content, kept_nodes, rules_of, shapes_of, the_edit}
 use Rattle.cga_update.specs.Last.{AskersAreUpTo}
 use Rattle.cga_update.specs.Log.{IsLogged}
 use Rattle.cga_update.specs.Plain.{IsPlain}
-use Rattle.cga_update.specs.Queue.{on_of}
+use Rattle.cga_update.specs.Queue.{chains_of, on_of}
 use Rattle.cga_update.specs.Updates.{told}
 
 -- a ranked instance as it is reported
@@ -47,6 +48,7 @@ pub record Means (w : Work) (edit : Edit (Ranked Shape) Answers Setting ShapeFau
       (asks_by w.renewal.new.now.grammar) (node_at w.forest) (on_of w.forest w.agenda)
   pub queued : AreQueued (shapes_of w.renewal.new.now) content (node_at w.forest) (on_of w.forest w.agenda) s.queued
   pub due : ComersAreDue w.renewal.new.now.mode w.forest w.agenda
+  pub remembered : AreOn (chains_of w.forest) w.remembered w.agenda
   pub all_came : w.all_came ≡ true → AllCame w.forest
   pub priced : w.priced ≡ true → ArePriced w.renewal.new.now.grammar w.forest
   pub last : AskersAreUpTo w.renewal.new.now.mode w.last w.renewal.new.now.grammar w.forest

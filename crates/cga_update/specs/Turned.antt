@@ -26,6 +26,9 @@ use Rattle.cga_same.specs.Both.{both}
 use Rattle.cga_update.specs.Edit.{asks_by, kept_nodes, ranked, the_edit}
 use Rattle.cga_update.specs.Follow.{IsFollowed}
 use Rattle.cga_queue.specs.Last.{IsPast}
+use Rattle.cga_queue.specs.Remembered.{AreOn, IsRemembered, RememberedView}
+use Rattle.cga_update.specs.Askers.{IsOneOf}
+use Rattle.cga_update.specs.Queue.{chains_of}
 use Rattle.cga_update.specs.Log.{came_of, drawn_of, went_of}
 use Rattle.cga_update.specs.Means.{KeepsBounds}
 use Rattle.cga_update.specs.Plain.{IsPlain}
@@ -46,7 +49,12 @@ pub record IsPlaced (was now : Work) (id : ℕ) (answers : Answers) (outcome : O
   pub came : ListsMoved (node_at now.forest) (node_at was.forest) change.came
   pub nobody : Bool
   pub nobody_left : nobody ≡ true → HasNobodyLeft was id
-  pub followed : IsFollowed now.forest id change nobody was.agenda now.agenda
+  -- what is remembered of the agenda, less what went
+  pub less : RememberedView
+  pub forgot : (c : ℕ) → IsRemembered less c → IsRemembered was.remembered c × (IsOneOf change.went c → ⊥)
+  pub followed : AreOn (chains_of now.forest) less was.agenda
+      → IsFollowed now.forest id change nobody was.agenda now.agenda
+  pub remembered : AreOn (chains_of now.forest) less was.agenda → AreOn (chains_of now.forest) now.remembered now.agenda
   pub log : now.log.items ≡ (was.log.items ++ went_of change.went) ++ came_of change.came
   pub gone : now.gone.items ≡ was.gone.items ++ drawn_of change.went
   pub come : now.come.items ≡ was.come.items ++ drawn_of change.came

@@ -15,7 +15,7 @@ use cga_check::Symbols;
 use cga_depend::Dependents;
 use cga_forest::{Forest, Moved};
 use cga_fraction::{NoMemory, Tests};
-use cga_queue::{Agenda, Last};
+use cga_queue::{Agenda, Last, Remembered};
 use cga_same::Grammars;
 use std::alloc::Global;
 use std::sync::ledger::Ledger;
@@ -115,6 +115,7 @@ pub fn begun<'a, T: Ledger>(
         alloc,
         forest,
         agenda: Agenda::new(alloc, renewal.new.mode),
+        remembered: Remembered::new(alloc),
         all_came: false,
         priced: false,
         last: Last::Unknown,

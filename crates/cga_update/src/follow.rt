@@ -1,7 +1,8 @@
 //! What the agenda becomes after the turn of a node.
-ghost use Rattle.std.specs.Prelude.{◌++◌, OnOk};
+ghost use Rattle.std.specs.Prelude.{ℕ, ◌++◌, OnOk};
 ghost use Rattle.cga_queue.specs.Agenda.{ComesAfter, Grows, HasAll, OneEach};
-ghost use Rattle.cga_update.specs.Askers.{IsAsker};
+ghost use Rattle.cga_queue.specs.Remembered.{AreOn, IsRemembered};
+ghost use Rattle.cga_update.specs.Askers.{IsAsker, IsOneOf};
 ghost use Rattle.cga_update.specs.Follow.{IsFollowed};
 ghost use Rattle.cga_update.specs.Queue.{chains_of};
 
@@ -11,12 +12,13 @@ use crate::worked::Worked;
 use cga_forest::{Change, Forest, Moved};
 use cga_fraction::{NoMemory, Tests};
 use cga_index::NodeId;
-use cga_queue::{Agenda, add_later};
+use cga_queue::{Agenda, Remembered, add_later};
 use std::sync::ledger::Ledger;
 
 /// Puts the nodes of the mark on it that ask, meet what went or came and come later than another. Takes memory.
 fn add_met<T: Ledger>(
     agenda: &mut Agenda,
+    remembered: &mut Remembered,
     forest: &Forest,
     of: NodeId,
     went: &[Moved],
@@ -25,10 +27,18 @@ fn add_met<T: Ledger>(
 ) -> Result<(), NoMemory>
     requires one { OneEach (chains_of forest.now) }
     ensures grows { OnOk result (Grows (chains_of forest.now) (λ c. IsAsker forest.now (went.now ++ came.now) c × ComesAfter (chains_of forest.now) agenda.old.mode of c) agenda.old agenda.new) }
-    ensures there { OnOk result (HasAll (chains_of forest.now) (λ c. IsAsker forest.now (went.now ++ came.now) c × ComesAfter (chains_of forest.now) agenda.old.mode of c) agenda.new) }
+    ensures there { OnOk result (AreOn (chains_of forest.now) remembered.old agenda.old
+        → HasAll (chains_of forest.now) (λ c. IsAsker forest.now (went.now ++ came.now) c × ComesAfter (chains_of forest.now) agenda.old.mode of c) agenda.new) }
+    ensures remembered { OnOk result (AreOn (chains_of forest.now) remembered.old agenda.old → AreOn (chains_of forest.now) remembered.new agenda.new) }
 {
     let askers = askers_near(agenda.alloc(), forest, went, came, tests)?;
-    add_later(agenda, &Worked { forest }, of, askers.as_slice())
+    add_later(
+        agenda,
+        remembered,
+        &Worked { forest },
+        of,
+        askers.as_slice(),
+    )
 }
 
 /// Puts on the agenda what came, and who of the mark asks near what went or came and comes later than the node whose
@@ -36,6 +46,7 @@ fn add_met<T: Ledger>(
 /// Takes memory.
 pub fn follow<T: Ledger>(
     agenda: &mut Agenda,
+    remembered: &mut Remembered,
     forest: &Forest,
     of: NodeId,
     change: &Change,
@@ -43,12 +54,23 @@ pub fn follow<T: Ledger>(
     tests: &mut Tests<T>,
 ) -> Result<(), NoMemory>
     requires one { OneEach (chains_of forest.now) }
-    ensures { OnOk result (IsFollowed forest.now of change.now nobody agenda.old agenda.new) }
+    ensures followed { OnOk result (AreOn (chains_of forest.now) remembered.old agenda.old → IsFollowed forest.now of change.now nobody agenda.old agenda.new) }
+    ensures remembered { OnOk result (AreOn (chains_of forest.now) remembered.old agenda.old → AreOn (chains_of forest.now) remembered.new agenda.new) }
 {
     let came = change.came.as_slice();
     add_moved(agenda, forest, came)?;
     if nobody {
         return Ok(());
     }
-    add_met(agenda, forest, of, change.went.as_slice(), came, tests)
+    let went = change.went.as_slice();
+    add_met(agenda, remembered, forest, of, went, came, tests)
+}
+
+/// Forgets nodes that went.
+pub fn forget_all(remembered: &mut Remembered, went: &[Moved])
+    ensures { (c : ℕ) → IsRemembered remembered.new c → IsRemembered remembered.old c × (IsOneOf went.now c → ⊥) }
+{
+    for moved in went {
+        remembered.forget(moved.id);
+    }
 }

@@ -16,7 +16,7 @@ ghost use Rattle.cga_update.specs.Turned.{HasNobodyLeft, HasPlaced, IsAgain, IsT
 
 use crate::again::outcome_again;
 use crate::asked::asked;
-use crate::follow::follow;
+use crate::follow::{follow, forget_all};
 use crate::log::{note_came, note_went};
 use crate::work::Work;
 use crate::worked::Worked;
@@ -68,7 +68,16 @@ fn place<T: Ledger>(
     work.forest.laws();
     note_went(change.went.as_slice(), &mut work.log, &mut work.gone)?;
     note_came(change.came.as_slice(), &mut work.log, &mut work.come)?;
-    follow(&mut work.agenda, &work.forest, id, &change, nobody, tests)
+    forget_all(&mut work.remembered, change.went.as_slice());
+    follow(
+        &mut work.agenda,
+        &mut work.remembered,
+        &work.forest,
+        id,
+        &change,
+        nobody,
+        tests,
+    )
 }
 
 /// The symbol of the node of an id.
@@ -262,6 +271,9 @@ pub fn turn<E: Ledger, T: Ledger>(
     };
     match take(&mut work.agenda, &worked) {
         None => Ok(None),
-        Some(id) => Ok(Some(turn_of(work, id, expansions, tests)?)),
+        Some(id) => {
+            work.remembered.forget(id);
+            Ok(Some(turn_of(work, id, expansions, tests)?))
+        }
     }
 }

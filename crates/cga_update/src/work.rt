@@ -2,7 +2,7 @@ use crate::renewal::Renewal;
 use cga_check::Symbols;
 use cga_depend::Pairing;
 use cga_forest::Forest;
-use cga_queue::{Agenda, Last};
+use cga_queue::{Agenda, Last, Remembered};
 use cga_same::Grammars;
 use cga_shape::Drawn;
 use std::alloc::Global;
@@ -14,6 +14,8 @@ pub struct Work<'a> {
     /// Marked: the marked nodes are those with which the update began.
     pub(crate) forest: Forest,
     pub(crate) agenda: Agenda,
+    /// Some of the nodes that are on the agenda.
+    pub(crate) remembered: Remembered,
     /// Whether each node came since the mark: then nobody has to be looked for.
     pub(crate) all_came: bool,
     /// Whether each node has the priority that its symbol has today: then one that is asked as before is done.

@@ -1,5 +1,4 @@
-use Rattle.std.proofs.Common.{◌≡◌, ◌∙◌, ℕ, List, Some, true, refl, sym, subst, arith}
-use Rattle.cga_order.specs.Chain.{Chain}
+use Rattle.std.proofs.Common.{◌≡◌, ◌∙◌, true, refl, sym, subst, arith}
 use Rattle.cga_order.specs.World.{Among}
 use Rattle.cga_rule.specs.declared.grammar.Grammar.{Grammar}
 use Rattle.cga_depend.specs.Asking.{asks_in}

@@ -1,6 +1,4 @@
-use Rattle.std.proofs.Common.{◌≡◌, ℕ, List, Some, true}
-use Rattle.cga_order.specs.Chain.{Chain}
-use Rattle.cga_order.specs.World.{Among}
+use Rattle.std.proofs.Common.{◌≡◌}
 use Rattle.cga_update.specs.Queue.{chains_of}
 use Rattle.cga_queue.proofs.Door.{FirstHave}
 use Rattle.cga_update.proofs.Bounding.{EntryUpTo}

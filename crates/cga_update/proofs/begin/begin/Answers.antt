@@ -1,10 +1,12 @@
-use Rattle.std.proofs.Common.{◌∙◌, refl, sym, subst, List, ℕ}
+use Rattle.std.proofs.Common.{◌∙◌, refl, sym, subst, List, ℕ, Some}
+use Rattle.cga_fraction.proofs.Door.{None-not-Some}
 use Rattle.cga_rule.specs.declared.grammar.Grammar.{Grammar}
 use Rattle.cga_forest.specs.declared.moved.Moved.{Moved}
 use Rattle.cga_forest.specs.Moved.{ListsMoved}
 use Rattle.cga_forest.specs.Tree.{marked_at, node_at}
 use Rattle.cga_depend.specs.declared.log.Pairing.{Pairing}
 use Rattle.cga_depend.specs.Pairs.{nodes_in}
+use Rattle.cga_queue.specs.Remembered.{IsRemembered, RememberedView}
 use Rattle.cga_update.specs.Begun.{HasMoved, IsFirst}
 use Rattle.cga_same.specs.Both.{BothGrammars}
 use Rattle.cga_update.specs.Last.{AskersAreUpTo, IsTold}
@@ -98,6 +100,7 @@ returns-clause-begun g c =
         underway = begins.0;
         queued = begins.1.1;
         due = first_due start new.mode;
+        remembered = λ k is. None-not-Some (Some k) (subst (λ (ns : RememberedView). IsRemembered ns k) c.requires.fresh.remembered is);
         all_came = λ is k x there. r.marked k ∙ all_came (node_at first) before v keeps (is_zero c.count.result _ c.count.ensures is) k x there;
         priced = λ is. proof.priced_now start (subst (λ (g : BothGrammars). KeepsPriorities g.before g.after d) grammars (c.in_ok-priced.ensures.priced is));
         last = subst (λ mode. AskersAreUpTo mode c.in_ok-last.last new.grammar v) (c.in_ok-priced.ensures.grows.mode ∙ c.in_ok-queue_rooted.ensures.mode ∙ c.requires.fresh.mode)

@@ -21,5 +21,5 @@ returns-clause-grows g c =
 pub returns-clause-there : goal.returns-clause-there
 returns-clause-there g c =
     on_ok c.add_later.result
-    (λ has k p here. has k (asker_in c.args.forest.now (c.args.went.now ++ c.args.came.now) c.in_ok-askers.askers c.as_slice.result.now c.as_slice.ensures c.in_ok-askers.ensures k p.0, p.1) here)
+    (λ has are k p here. has are k (asker_in c.args.forest.now (c.args.went.now ++ c.args.came.now) c.in_ok-askers.askers c.as_slice.result.now c.as_slice.ensures c.in_ok-askers.ensures k p.0, p.1) here)
     c.add_later.ensures.there

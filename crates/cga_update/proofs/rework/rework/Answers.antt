@@ -1,6 +1,4 @@
-use Rattle.std.proofs.Common.{◌≡◌, ◌∙◌, ◌+◌, ◌<◌, ◌≤◌, length, refl, ap, sym, subst, arith, Bor}
-use Rattle.cga_depend.specs.Pairs.{DependentsView}
-use Rattle.cga_shape.specs.declared.sources.Sources.{Sources}
+use Rattle.std.proofs.Common.{◌∙◌, ◌+◌, ◌<◌, ◌≤◌, length, refl, sym, subst, arith}
 use Rattle.cga_agenda.specs.Loop.{HasCalled}
 use Rattle.cga_update.specs.Reworked.{HasEnded}
 use Rattle.cga_update.specs.Updates.{IsExact}

@@ -1,7 +1,6 @@
 use Rattle.std.proofs.Common.{ap, ◌∙◌}
 use Rattle.cga_check.specs.Said.{said}
 use Rattle.cga_rule.specs.declared.grammar.Grammar.{Grammar}
-use Rattle.cga_update.specs.declared.work.Work.{Work}
 use Rattle.cga_update.proofs.Facts.{on_value}
 use Rattle.cga_update.proofs.turn.said_at.Goals as goal
 

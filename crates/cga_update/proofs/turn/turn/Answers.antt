@@ -19,10 +19,12 @@ pub returns-in_ok-turn_of-in-Some-clause-turned : goal.returns-in_ok-turn_of-in-
 returns-in_ok-turn_of-in-Some-clause-turned g c = λ edit s means.
     let was = c.args.work.now in
     let rest = c.take.new.agenda in
+    let less = c.forget.new.self in
+    let forgot = c.forget.ensures in
     let least = c.in-Some.ensures.taken in
     let turned = c.in_ok-turn_of-in-Some.field-0 in
     let done = c.in_ok-turn_of-in-Some.ensures in
-    elim (done.turned (may_turn was rest edit s means)) [
-      | inl placing ↦ turn_means was c.turn_of.new.work rest c.in-Some.id least.0 turned edit s means c.laws.ensures least.1 placing c.args.expansions.now c.turn_of.new.expansions done.called
-      | inr quiet ↦ quiet_means was c.turn_of.new.work rest c.in-Some.id least.0 edit s means least.1 turned quiet c.args.expansions.now c.turn_of.new.expansions done.called
+    elim (done.turned (may_turn was rest less edit s means)) [
+      | inl placing ↦ turn_means was c.turn_of.new.work rest c.in-Some.id least.0 turned edit s means c.laws.ensures least.1 less forgot placing c.args.expansions.now c.turn_of.new.expansions done.called
+      | inr quiet ↦ quiet_means was c.turn_of.new.work rest c.in-Some.id least.0 edit s means least.1 less forgot turned quiet c.args.expansions.now c.turn_of.new.expansions done.called
     ]

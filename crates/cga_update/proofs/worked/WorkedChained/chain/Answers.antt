@@ -1,5 +1,4 @@
-use Rattle.std.proofs.Common.{◌≡◌, ◌∙◌, sym, subst}
-use Rattle.std.specs.Prelude.{IsSome}
+use Rattle.std.proofs.Common.{◌∙◌, sym}
 use Rattle.cga_order.specs.Seen.{chain_of}
 use Rattle.cga_forest.specs.Tree.{node_at}
 use Rattle.cga_update.specs.Queue.{chains_of}

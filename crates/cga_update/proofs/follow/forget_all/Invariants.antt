@@ -1,0 +1,10 @@
+use Rattle.std.proofs.Common.{◌≡◌, ℕ}
+use Rattle.cga_forest.specs.declared.moved.Moved.{Moved}
+use Rattle.cga_queue.specs.Remembered.{IsRemembered}
+use Rattle.cga_queue.proofs.Door.{FirstHave}
+use Rattle.cga_update.proofs.follow.forget_all.Given as goal
+
+abbrev pub invariant-loop-moved : goal.invariant-loop-moved
+invariant-loop-moved l =
+    (c : ℕ) → IsRemembered l.remembered c
+    → IsRemembered l.fn.remembered c × FirstHave (λ (m : Moved). m.id ≡ c → ⊥) l.went l.moved-index
