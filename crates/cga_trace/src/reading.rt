@@ -10,7 +10,7 @@ use crate::cuts::{behind, cut};
 use crate::step_words::StepWords;
 use crate::text::push_step;
 use crate::words::{read_answer, read_fault, read_number};
-use cga_fraction::{List, NoMemory, Text};
+use cga_fraction::{NoMemory, Text};
 use cga_order::Path;
 use cga_shape::{Answers, Outcome, TraceStep};
 use cga_word::Name;
@@ -59,7 +59,7 @@ fn read_indices(alloc: Global, text: &[u8]) -> Result<Option<Path>, NoMemory>
         path.push(index)?;
         rest = more;
     }
-    Ok(Some(List::from_vec(path)))
+    Ok(Some(Path::from_slice(alloc, path.as_slice())?))
 }
 
 fn read_path(alloc: Global, text: &[u8]) -> Result<Option<Path>, NoMemory>

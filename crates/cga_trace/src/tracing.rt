@@ -15,7 +15,7 @@ use crate::turns::{sort_turns, turns_of};
 use cga_forest::{Forest, Node};
 use cga_fraction::{List, NoMemory};
 use cga_index::{HullTree, NodeId, all_nodes};
-use cga_shape::{Kind, Outcome, TraceStep};
+use cga_shape::{Kind, Outcome, Path, TraceStep};
 use std::alloc::Global;
 
 fn outcome_from(kind: Kind, children: usize) -> Outcome
@@ -38,10 +38,10 @@ fn step_of(alloc: Global, node: &Node, children: usize) -> Result<TraceStep, NoM
       outcome = outcome_from node.now.kind children;
     }) }
 {
-    let path = Vec::from_slice(alloc, node.shape.path.as_slice())?;
+    let path = Path::from_slice(alloc, node.shape.path.as_slice())?;
     Ok(TraceStep {
         lot: node.shape.lot,
-        path: List::from_vec(path),
+        path,
         symbol: node.shape.symbol,
         answers: node.answers,
         outcome: outcome_from(node.kind, children),
@@ -85,7 +85,7 @@ pub fn trace(alloc: Global, forest: &Forest) -> Result<List<TraceStep>, NoMemory
     forest.laws();
     let nodes = all_nodes(alloc, forest)?;
     let mut turns = turns_of(alloc, forest, nodes.as_slice())?;
-    sort_turns(forest.mode(), &mut turns);
+    sort_turns(forest.mode(), &mut turns)?;
     let steps = steps_of(alloc, forest, turns.as_slice())?;
     Ok(List::from_vec(steps))
 }

@@ -32,7 +32,7 @@ loop-rest-preserved c = record {
 pub returns-clause-again : goal.returns-clause-again
 returns-clause-again c = λ is few at.
     let none : 0 < length c.loop-rest.rest.now → ⊥ = λ h. grind (arith, c.is_empty.ensures, c.loop-rest-test.false, h) in
-    ap Some (c.from_vec.ensures ∙ path_ends is few c.loop-rest.path.items c.loop-rest.rest.now (c.loop-rest.invariant.again is few at) none)
+    ap Some (c.in_ok-from_slice.ensures ∙ c.as_slice.ensures.value ∙ path_ends is few c.loop-rest.path.items c.loop-rest.rest.now (c.loop-rest.invariant.again is few at) none)
 
 pub returns-clause-few : goal.returns-clause-few
-returns-clause-few c = subst AreFew (sym c.from_vec.ensures) c.loop-rest.invariant.few
+returns-clause-few c = subst AreFew (sym (c.in_ok-from_slice.ensures ∙ c.as_slice.ensures.value)) c.loop-rest.invariant.few

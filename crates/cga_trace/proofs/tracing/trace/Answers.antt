@@ -24,7 +24,7 @@ returns-clause-run c = λ sources end known.
     let turns = c.sort_turns.new.turns.items in
     let steps = c.in_ok-steps.steps.items in
     let all = c.as_slice.ensures.value ∙ c.in_ok-nodes.ensures in
-    let up = subst (λ m. IsSorted (turns_cmp m) turns) c.mode.ensures c.sort_turns.ensures.sorted in
+    let up = subst (λ m. IsSorted (turns_cmp m) turns) c.mode.ensures c.in_ok-sort_turns.ensures.sorted in
     let zip = subst (λ l. AllZip (IsStepOf v) l steps) c.as_slice-2.ensures.value c.in_ok-steps.ensures.steps in
     let run = is_run sources end v known c.laws.ensures ids all c.in_ok-turns.turns.items c.in_ok-turns.ensures turns c.sort_turns.ensures.same up steps zip in
     subst (IsRun sources) (sym c.from_vec.ensures) run
