@@ -33,8 +33,9 @@ WORDS = {
 }
 HEAD = """# What is trusted
 
-This page is made by `.ci/trusted.py`, and the gate compares it. A proof says that the code meets its contracts. It rests on what
-stands here, and on the definitions that the contracts cite, which [the statement](STATEMENT.md) has.
+This page is made by `.ci/trusted.py`. The gate compares what comes from the sources. What `rt` says of each program stands here as
+it was last asked, with `--proved`. A proof says that the code meets its contracts. It rests on what stands here, and on the
+definitions that the contracts cite, which [the statement](STATEMENT.md) has.
 
 """
 COMPILERS = """
@@ -99,7 +100,7 @@ def reached_in(log):
 
 def said_section():
     logs = {program: log_of(program) for program in programs()}
-    text = SAYS + "\nThe last line of a check has these words, and the gate refuses any other.\n\n| Word | Programs | Means |\n|---|---|---|\n"
+    text = SAYS + "\nThe last line of a check has these words, and `.ci/trusted.py --proved` refuses any other.\n\n| Word | Programs | Means |\n|---|---|---|\n"
     said = {}
     for program, log in logs.items():
         for word, value in words_of(log).items():
