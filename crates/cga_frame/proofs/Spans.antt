@@ -3,7 +3,7 @@ use Rattle.std.proofs.Common.{◌≡◌, refl, ◌∙◌, ap, Bool, true, false,
 use Rattle.cga_fraction.specs.Rat.{Rat}
 use Rattle.cga_fraction.specs.Order.{rat_le, rat_min, rat_max}
 use Rattle.cga_fraction.proofs.Door.{le_trans, max_above, min_below}
-use Rattle.cga_frame.specs.Box.{along_touches}
+use Rattle.cga_frame.specs.Box.{along_holds, along_touches}
 use Rattle.cga_frame.proofs.Flags.{told, tells}
 use Rattle.std.proofs.lemmas.Bool.{cases_Bool as either}
 
@@ -42,3 +42,8 @@ pub span_touches : (a b lower upper : Rat)
     → along_touches (rat_min a b) (rat_max a b) lower upper ≡
     ((rat_le a upper || rat_le b upper) && (rat_le lower a || rat_le lower b))
 span_touches a b lower upper = ap (λ t. t && rat_le lower (rat_max a b)) (low_within a b upper) ∙ ap (λ t. (rat_le a upper || rat_le b upper) && t) (high_within a b lower)
+
+pub span_holds : (a b lower upper : Rat)
+    → along_holds (rat_min a b) (rat_max a b) lower upper ≡
+    ((rat_le a lower || rat_le b lower) && (rat_le upper a || rat_le upper b))
+span_holds a b lower upper = span_touches a b upper lower

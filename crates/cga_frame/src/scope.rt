@@ -10,7 +10,7 @@ use crate::frame::Frame;
 use crate::point::Point;
 use crate::scope_fault::ScopeFault;
 use crate::signed::Signed;
-use crate::world_box::{WorldBox, span_touches};
+use crate::world_box::{WorldBox, in_order, span_holds, span_meets, span_touches};
 use cga_fraction::{Fraction, Overflow};
 use cga_word::{Axis, Turn};
 use std::marker::Model;
@@ -48,7 +48,7 @@ impl Scope {
     ghost use Rattle.cga_fraction.specs.Order.{rat_lt};
     ghost use Rattle.cga_frame.specs.Points.{checked_point};
     ghost use Rattle.cga_frame.specs.Scope.{existing, part_of, scope_of, step_of, translated, turned_scope, Exists};
-    ghost use Rattle.cga_frame.specs.Box.{box_of, is_box, touches};
+    ghost use Rattle.cga_frame.specs.Box.{box_of, holds, is_box, meets, touches};
     ghost use Rattle.cga_frame.specs.Component.{component_of, IsFitting};
 
     /// The scope with its corner of all zero coordinates there.
@@ -94,20 +94,51 @@ impl Scope {
         ensures ordered { is_box result ≡ true }
         ensures exists { Exists self.now }
     {
+        let x = in_order(self.at.x, self.far.x);
+        let y = in_order(self.at.y, self.far.y);
+        let z = in_order(self.at.z, self.far.z);
         WorldBox {
-            low: self.at.min(self.far),
-            high: self.at.max(self.far),
+            low: Point {
+                x: x.0,
+                y: y.0,
+                z: z.0,
+            },
+            high: Point {
+                x: x.1,
+                y: y.1,
+                z: z.1,
+            },
         }
     }
 
     /// Whether that box touches another one, by the two corners: the box isn't made.
-    #[tactic(auto, unfolding(crate::specs::Box::touches))]
+    #[tactic(auto, unfolding(crate::specs::Box::touches), using(crate::proofs::Flags::last_first))]
     pub fn touches(&self, area: &WorldBox) -> bool
         ensures { result ≡ touches (box_of self.now) area.now }
     {
         span_touches(self.at.x, self.far.x, area.low.x, area.high.x)
-            && span_touches(self.at.y, self.far.y, area.low.y, area.high.y)
             && span_touches(self.at.z, self.far.z, area.low.z, area.high.z)
+            && span_touches(self.at.y, self.far.y, area.low.y, area.high.y)
+    }
+
+    /// Whether that box meets another one.
+    #[tactic(auto, unfolding(crate::specs::Box::meets), using(crate::proofs::Flags::last_first))]
+    pub fn meets(&self, area: &WorldBox) -> bool
+        ensures { result ≡ meets (box_of self.now) area.now }
+    {
+        span_meets(self.at.x, self.far.x, area.low.x, area.high.x)
+            && span_meets(self.at.z, self.far.z, area.low.z, area.high.z)
+            && span_meets(self.at.y, self.far.y, area.low.y, area.high.y)
+    }
+
+    /// Whether that box holds another one.
+    #[tactic(auto, unfolding(crate::specs::Box::holds))]
+    pub fn holds(&self, area: &WorldBox) -> bool
+        ensures { result ≡ holds (box_of self.now) area.now }
+    {
+        span_holds(self.at.x, self.far.x, area.low.x, area.high.x)
+            && span_holds(self.at.y, self.far.y, area.low.y, area.high.y)
+            && span_holds(self.at.z, self.far.z, area.low.z, area.high.z)
     }
 
     /// The scope of a component, which begins at one corner of this one and is flat or of its size along each

@@ -67,17 +67,49 @@ impl WorldBox {
             high: self.high.max(other.high),
         }
     }
+
+    /// Grows to the least box that holds both. Where it holds the other one, nothing is written.
+    #[tactic(auto, unfolding(crate::specs::Box::hull))]
+    pub fn take_in(&mut self, other: &WorldBox)
+        ensures { self.new ≡ hull self.old other.now }
+    {
+        lower(&mut self.low.x, other.low.x);
+        lower(&mut self.low.y, other.low.y);
+        lower(&mut self.low.z, other.low.z);
+        raise(&mut self.high.x, other.high.x);
+        raise(&mut self.high.y, other.high.y);
+        raise(&mut self.high.z, other.high.z);
+    }
 }
 
-#[tactic(auto, unfolding(crate::specs::Box::meets))]
+#[tactic(auto, unfolding(cga_fraction::specs::Order::rat_min))]
+fn lower(bound: &mut Fraction, by: Fraction)
+    ensures { bound.new ≡ rat_min bound.old by }
+{
+    if !bound.is_at_most(by) {
+        *bound = by;
+    }
+}
+
+#[tactic(auto, unfolding(cga_fraction::specs::Order::rat_max))]
+fn raise(bound: &mut Fraction, by: Fraction)
+    ensures { bound.new ≡ rat_max bound.old by }
+{
+    if bound.is_at_most(by) {
+        *bound = by;
+    }
+}
+
+// Height comes last, here and below: it tells the boxes of a town apart least often.
+#[tactic(auto, unfolding(crate::specs::Box::meets), using(crate::proofs::Flags::last_first))]
 fn bounds_meet(first: &WorldBox, second: &WorldBox) -> bool
     ensures value { result ≡ meets first.now second.now }
     ensures first { is_box first.now ≡ true }
     ensures second { is_box second.now ≡ true }
 {
     along_meets(first.low.x, first.high.x, second.low.x, second.high.x)
-        && along_meets(first.low.y, first.high.y, second.low.y, second.high.y)
         && along_meets(first.low.z, first.high.z, second.low.z, second.high.z)
+        && along_meets(first.low.y, first.high.y, second.low.y, second.high.y)
 }
 
 #[tactic(auto, unfolding(crate::specs::Box::holds))]
@@ -91,15 +123,15 @@ fn bounds_hold(first: &WorldBox, second: &WorldBox) -> bool
         && along_holds(first.low.z, first.high.z, second.low.z, second.high.z)
 }
 
-#[tactic(auto, unfolding(crate::specs::Box::touches))]
+#[tactic(auto, unfolding(crate::specs::Box::touches), using(crate::proofs::Flags::last_first))]
 fn bounds_touch(first: &WorldBox, second: &WorldBox) -> bool
     ensures value { result ≡ touches first.now second.now }
     ensures first { is_box first.now ≡ true }
     ensures second { is_box second.now ≡ true }
 {
     along_touches(first.low.x, first.high.x, second.low.x, second.high.x)
-        && along_touches(first.low.y, first.high.y, second.low.y, second.high.y)
         && along_touches(first.low.z, first.high.z, second.low.z, second.high.z)
+        && along_touches(first.low.y, first.high.y, second.low.y, second.high.y)
 }
 
 fn along_meets(low: Fraction, high: Fraction, lower: Fraction, upper: Fraction) -> bool
@@ -131,4 +163,37 @@ pub(crate) fn span_touches(one: Fraction, other: Fraction, low: Fraction, high: 
 {
     (one.is_at_most(high) || other.is_at_most(high))
         && (low.is_at_most(one) || low.is_at_most(other))
+}
+
+/// Whether the relative interiors of these two intervals share a point.
+#[tactic(auto, unfolding(cga_fraction::specs::Order::rat_min, cga_fraction::specs::Order::rat_max))]
+pub(crate) fn span_meets(one: Fraction, other: Fraction, low: Fraction, high: Fraction) -> bool
+    ensures { result ≡ along_meets (rat_min one other) (rat_max one other) low high }
+{
+    if one.is_at_most(other) {
+        along_meets(one, other, low, high)
+    } else {
+        along_meets(other, one, low, high)
+    }
+}
+
+/// Whether the one from low to high lies in the interval between two numbers.
+#[tactic(auto, using(crate::proofs::Spans::span_holds))]
+pub(crate) fn span_holds(one: Fraction, other: Fraction, low: Fraction, high: Fraction) -> bool
+    ensures { result ≡ along_holds (rat_min one other) (rat_max one other) low high }
+{
+    (one.is_at_most(low) || other.is_at_most(low))
+        && (high.is_at_most(one) || high.is_at_most(other))
+}
+
+/// Two numbers, the lower one first.
+#[tactic(auto, unfolding(cga_fraction::specs::Order::rat_min, cga_fraction::specs::Order::rat_max))]
+pub(crate) fn in_order(one: Fraction, other: Fraction) -> (Fraction, Fraction)
+    ensures { result ≡ (rat_min one other, rat_max one other) }
+{
+    if one.is_at_most(other) {
+        (one, other)
+    } else {
+        (other, one)
+    }
 }

@@ -5,11 +5,14 @@ use smallvec::SmallVec;
 use std::alloc::Global;
 use std::marker::Model;
 
+/// So many numbers stand in a path's value.
+const FEW: usize = 8;
+
 /// Numbers on the way from a lot's root to a shape, which contracts see as their list: the indices of children, of which
 /// a root has none, or the priorities, of which it has one. Up to eight stand in the value itself; more take memory.
 #[derive(Debug, Drop)]
 pub struct Path {
-    steps: SmallVec<u16, 8>,
+    steps: SmallVec<u16, FEW>,
 }
 
 impl Model for Path {
@@ -64,7 +67,10 @@ impl Path {
     pub fn extended(alloc: Global, steps: &[u16], last: u16) -> Result<Path, NoMemory>
         ensures { IfOk result (λ path. path ≡ steps.now ++ last ∷ []) }
     {
-        let mut all = SmallVec::with_capacity(alloc, steps.len() + 1)?;
+        if steps.len() >= FEW {
+            return extended_far(alloc, steps, last);
+        }
+        let mut all = SmallVec::new(alloc);
         all.extend_from_slice(steps)?;
         all.push(last)?;
         Ok(Path { steps: all })
@@ -81,4 +87,16 @@ impl Path {
     {
         self.steps.len()
     }
+}
+
+/// The same of many numbers, which are copied in one piece.
+fn extended_far(alloc: Global, steps: &[u16], last: u16) -> Result<Path, NoMemory>
+    ensures { IfOk result (λ path. path ≡ steps.now ++ last ∷ []) }
+{
+    let mut all = Vec::with_capacity(alloc, steps.len() + 1)?;
+    all.extend_from_slice(steps)?;
+    all.push(last)?;
+    Ok(Path {
+        steps: SmallVec::from_vec(all),
+    })
 }
