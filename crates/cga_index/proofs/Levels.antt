@@ -3,7 +3,7 @@ use Rattle.std.proofs.Common.{◌≡◌, ℕ, zero, suc, ◌+◌, ◌-◌, ◌�
 use Rattle.std.proofs.Common.{Bool, true, false, cond, refl, ap, sym, subst, ◌∙◌, arith, nat_eq, get_or, eq-eqb}
 use Rattle.std.specs.List.{flat_map}
 use Rattle.std.specs.Prelude.{slice_get, Some}
-use Rattle.std.proofs.lemmas.List.{drop_more}
+use Rattle.std.proofs.lemmas.List.{drop_more, nil_from_length}
 use Rattle.std.proofs.lemmas.Option.{slice_get_within, slice_get-get_or}
 use Rattle.cga_frame.specs.Box.{Box}
 use Rattle.cga_word.specs.declared.answer.Answer.{Answer}
@@ -145,6 +145,17 @@ visit_counted v by left node a b c h touch p q =
     let all = total (reads v by (left - 1)) (v.children node) in
     let s : ◌≡◌ {A = ℕ} (cond (touches (v.hull node) (v.own by)) all 0) all = ap (λ x. cond x all 0) touch in
     omega (arith, p, q, s, reads_more v by left node h)
+
+-- where nobody is below a node, its own answer is that of all from it on
+pub visit_leaf : (v : TreeView) (by : ℕ) (target : Target) (left node : ℕ) (first : Answer) → 0 < left
+    → length (v.children node) ≡ 0 → first ≡ answer_over v by target (node ∷ []) → first ≡ answer_over v by target (below v left node)
+visit_leaf v by target left node first h none p =
+    let e = nil_from_length (v.children node) none in
+    p ∙ ap (λ cs. answer_over v by target (node ∷ flat_map (below v (left - 1)) cs)) (sym e) ∙ ap (answer_over v by target) (sym (below_more v left node h))
+
+pub visit_alone : (v : TreeView) (by left node a b : ℕ) → 0 < left → b ≤ a + cond (nat_eq node by) 0 1
+    → b ≤ a + reads v by left node
+visit_alone v by left node a b h p = omega (arith, p, reads_more v by left node h)
 
 -- where the node's own answer is full, so is that of all from it on
 pub visit_full : (v : TreeView) (by : ℕ) (target : Target) (left node : ℕ) (first : Answer) → 0 < left

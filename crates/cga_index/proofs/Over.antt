@@ -1,6 +1,7 @@
 -- Answers over lists of nodes.
 use Rattle.std.proofs.Common.{◌≡◌, ℕ, inl, inr, List, [], ◌∷◌, ◌++◌, map, Bool, true, false, cond, ◌&&◌, ◌||◌, refl, ap, ◌∙◌}
 use Rattle.std.specs.List.{list_any, filter}
+use Rattle.std.proofs.lemmas.Bool.{cases_Bool as either}
 use Rattle.std.proofs.lemmas.List.{map-append}
 use Rattle.std.proofs.lemmas.List.Folds.{list_any-append}
 use Rattle.std.proofs.lemmas.List.Elements.{filter-append}
@@ -52,6 +53,14 @@ pub over_one_other : (v : TreeView) (by : ℕ) (target : Target) (n : ℕ) → c
     → answer_over v by target (n ∷ []) ≡ Nothing
 unfolding answer_over answer_of
 over_one_other v by target n e = ap (λ t. answer_of (v.own by) (map v.own (cond t (n ∷ []) []))) e
+
+-- a node whose box answers nothing answers nothing, whatever its standing
+pub over_nothing : (v : TreeView) (by : ℕ) (target : Target) (n : ℕ) → answer_of (v.own by) (v.own n ∷ []) ≡ Nothing
+    → answer_over v by target (n ∷ []) ≡ Nothing
+over_nothing v by target n h = elim (either (counts_for target (v.standing n by))) [
+  | inl e ↦ over_one_asked v by target n e ∙ h
+  | inr e ↦ over_one_other v by target n e
+]
 
 pub ruleset over_one = (over_one_asked, over_one_other)
 

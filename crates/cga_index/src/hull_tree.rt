@@ -1,11 +1,14 @@
-ghost use Rattle.std.specs.Prelude.{◌≡◌, ◌+◌, ◌*◌, ◌<◌, length, slice_get, Some, false};
+ghost use Rattle.std.specs.Prelude.{◌≡◌, ◌+◌, ◌*◌, ◌<◌, ◌∷◌, [], length, slice_get, Some, false};
 ghost use Rattle.cga_frame.specs.Box.{touches};
+ghost use Rattle.cga_index.specs.Occlusion.{answer_of};
 ghost use Rattle.cga_index.specs.Tree.{TreeView, InTree, IsFarRun, IsQuietRun, touches_some};
 
+use crate::compare::compare;
 use crate::node_id::NodeId;
 use crate::standing::Standing;
 use cga_fraction::Tests;
 use cga_frame::WorldBox;
+use cga_word::Answer;
 use std::sync::ledger::Ledger;
 
 /// A tree of nodes with boxes. What callers need of it beside these clauses is `IsHullTree` of its view.
@@ -57,11 +60,26 @@ pub trait HullTree {
         requires place { place < length ((view self.now).children node) }
         ensures { slice_get ((view self.now).children node) place ≡ Some result };
 
-    /// The node's own box. It is the one call that counts as a test.
+    /// The node's own box. This call and the next one count as a test, and no other does.
     fn own_box<T: Ledger>(&self, node: NodeId, tests: &mut Tests<T>) -> WorldBox
         requires node { InTree (view self.now) node }
         ensures value { result ≡ (view self.now).own node }
         ensures ticks { tests.new ≡ tests.old + 1 };
+
+    /// What that box answers for another one: a tree may tell it without the box.
+    fn compares<T: Ledger>(
+        &self,
+        node: NodeId,
+        area: &WorldBox,
+        tests: &mut Tests<T>,
+    ) -> Answer
+        requires node { InTree (view self.now) node }
+        ensures value { result ≡ answer_of area.now ((view self.now).own node ∷ []) }
+        ensures ticks { tests.new ≡ tests.old + 1 }
+    {
+        let own = self.own_box(node, tests);
+        compare(&own, area)
+    }
 
     /// A box that holds the own boxes of the node and of all below it.
     fn hull(&self, node: NodeId) -> WorldBox

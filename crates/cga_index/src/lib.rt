@@ -9,6 +9,7 @@
 #![tactic(auto)]
 
 mod around;
+mod compare;
 mod hull_tree;
 mod lasting;
 mod lasting_askers;

@@ -1,7 +1,7 @@
 //! Two answers taken together.
 ghost use Rattle.std.specs.Prelude.{◌≡◌, true};
 ghost use Rattle.cga_index.specs.Occlusion.{join};
-ghost use Rattle.cga_word.specs.declared.answer.Answer.TheVariants.{Full};
+ghost use Rattle.cga_word.specs.declared.answer.Answer.TheVariants.{Full, Nothing};
 
 use cga_word::Answer;
 
@@ -25,4 +25,11 @@ pub fn is_full(answer: Answer) -> bool
     ensures other { answer ≡ Full → result ≡ true }
 {
     matches!(answer, Answer::Full)
+}
+
+/// Whether nothing was found.
+pub fn is_nothing(answer: Answer) -> bool
+    ensures nothing { result ≡ true → answer ≡ Nothing }
+{
+    matches!(answer, Answer::Nothing)
 }

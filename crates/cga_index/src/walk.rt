@@ -3,9 +3,10 @@ ghost use Rattle.std.specs.List.{flat_map};
 ghost use Rattle.cga_index.specs.Occlusion.{answer_of, join};
 ghost use Rattle.cga_index.specs.Tree.{IsHullTree, InTree, below, all_nodes, near, counts_for, asked, answer_over, reads, total};
 
+use crate::compare::compare;
 use crate::hull_tree::HullTree;
 use crate::node_id::NodeId;
-use crate::of_two::{is_full, joined};
+use crate::of_two::{is_full, is_nothing, joined};
 use crate::standing::Standing;
 use crate::steps::{block_end, child_of, root_of};
 use cga_fraction::Tests;
@@ -31,24 +32,9 @@ fn counts_for(target: Target, standing: Standing) -> bool
     }
 }
 
-/// What one box answers for another.
-#[tactic(auto, unfolding(crate::specs::Occlusion::answer_of))]
-fn compare(own: &WorldBox, area: &WorldBox) -> Answer
-    ensures { result ≡ answer_of area.now (own.now ∷ []) }
-{
-    if own.meets(area) {
-        if own.holds(area) {
-            Answer::Full
-        } else {
-            Answer::Part
-        }
-    } else {
-        Answer::Nothing
-    }
-}
-
-/// What one node answers. The asking node's box is at hand, and isn't read again.
-#[tactic(auto, using(crate::proofs::Over::over_one))]
+/// What one node answers. The asking node's box is at hand, and isn't read again. Boxes come before the standing, since few
+/// of those that are looked at meet.
+#[tactic(auto, using(crate::proofs::Over::over_one, crate::proofs::Over::over_nothing))]
 fn look<H: HullTree, T: Ledger>(
     tree: &H,
     node: NodeId,
@@ -63,18 +49,21 @@ fn look<H: HullTree, T: Ledger>(
     ensures found { result ≡ answer_over (H.view tree.now) by target (node ∷ []) }
     ensures counted { tests.new ≤ tests.old + cond (nat_eq node by) 0 1 }
 {
-    if !counts_for(target, tree.standing(node, by)) {
-        return Answer::Nothing;
+    let found = if node.same(by) {
+        compare(area, area)
+    } else {
+        tree.compares(node, area, tests)
+    };
+    if is_nothing(found) || counts_for(target, tree.standing(node, by)) {
+        found
+    } else {
+        Answer::Nothing
     }
-    if node.same(by) {
-        return compare(area, area);
-    }
-    let own = tree.own_box(node, tests);
-    compare(&own, area)
 }
 
-/// What a node and those below it answer: nothing where its hull is apart, before the node itself is looked at. Nobody
-/// is looked at behind a full answer. `left` bounds the levels from the node on.
+/// What a node and those below it answer: nothing where its hull is apart, before the node itself is looked at, but that one
+/// with nobody below it is looked at at once. Nobody is looked at behind a full answer. `left` bounds the levels from the
+/// node on.
 #[cycle(visit)]
 fn visit<H: HullTree, T: Ledger>(
     tree: &H,
@@ -93,6 +82,9 @@ fn visit<H: HullTree, T: Ledger>(
     ensures found { result ≡ answer_over (H.view tree.now) by target (below (H.view tree.now) left node) }
     ensures counted { tests.new ≤ tests.old + reads (H.view tree.now) by left node }
 {
+    if tree.children(node) == 0 {
+        return look(tree, node, by, target, area, tests);
+    }
     if !tree.touches(node, area) {
         return Answer::Nothing;
     }

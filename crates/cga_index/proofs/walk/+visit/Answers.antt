@@ -1,7 +1,7 @@
 use Rattle.std.proofs.Common.{◌∙◌, ◌+◌, arith, sym, drop}
 use Rattle.std.specs.List.{flat_map}
 use Rattle.cga_index.specs.Tree.{answer_over, below, reads}
-use Rattle.cga_index.proofs.Levels.{visit_found, visit_counted, visit_full, visit_fewer, full_stays, none_below, touched, step_found, step_counted, end_found}
+use Rattle.cga_index.proofs.Levels.{visit_found, visit_counted, visit_full, visit_fewer, full_stays, none_below, touched, step_found, step_counted, end_found, visit_leaf, visit_alone}
 use Rattle.cga_index.proofs.walk.+visit.Goals as goal
 
 pub visit-returns-clause-found : goal.visit-returns-clause-found
@@ -19,6 +19,17 @@ pub visit-returns-then-not-touches-clause-found : goal.visit-returns-then-not-to
 visit-returns-then-not-touches-clause-found g t c =
     sym (none_below (g.H.HullTree.view c.args.tree.now) c.requires.laws c.args.by c.args.target c.args.left c.args.node c.requires.node
     (touched (g.H.HullTree.view c.args.tree.now) c.args.by c.args.node c.args.area.now c.touches.result _ c.requires.area c.touches.ensures c.if-not-touches.true))
+
+pub visit-returns-then-children-eq0-clause-found : goal.visit-returns-then-children-eq0-clause-found
+visit-returns-then-children-eq0-clause-found g t c =
+    let low = c.requires.laws.shallow c.args.node c.requires.node in
+    visit_leaf (g.H.HullTree.view c.args.tree.now) c.args.by c.args.target c.args.left c.args.node c.look.result
+    (omega (arith, low, c.requires.left)) (omega (arith, c.children.ensures, c.if-children-eq0.true)) c.look.ensures.found
+
+pub visit-returns-then-children-eq0-clause-counted : goal.visit-returns-then-children-eq0-clause-counted
+visit-returns-then-children-eq0-clause-counted g t c =
+    let low = c.requires.laws.shallow c.args.node c.requires.node in
+    visit_alone (g.H.HullTree.view c.args.tree.now) c.args.by c.args.left c.args.node _ _ (omega (arith, low, c.requires.left)) c.look.ensures.counted
 
 pub visit_children-loop-place-preserved : goal.visit_children-loop-place-preserved
 visit_children-loop-place-preserved g t c =
