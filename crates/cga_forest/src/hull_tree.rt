@@ -53,6 +53,12 @@ impl HullTree for Forest {
         self.store.entry(node.number() as usize).node.bounds()
     }
 
+    #[tactic(auto, unfolding(cga_index::specs::Occlusion::answer_of))]
+    fn compares<T: Ledger>(&self, node: NodeId, area: &WorldBox, tests: &mut Tests<T>) -> Answer {
+        tests.tick();
+        self.store.entry(node.number() as usize).node.compares(area)
+    }
+
     fn hull(&self, node: NodeId) -> WorldBox {
         let entry = self.store.entry(node.number() as usize);
         entry.hulls.hull(&entry.node.shape.scope)

@@ -5,7 +5,7 @@ use cga_frame::WorldBox;
 use cga_kept_hulls::Hulls;
 use cga_order::{Chain, Path};
 use cga_shape::{Answers, Kind, Shape};
-use cga_word::Name;
+use cga_word::{Answer, Name};
 
 /// A shape that the forest keeps, and what is known of it.
 #[derive(Drop, Debug)]
@@ -33,8 +33,9 @@ pub struct State {
 }
 
 impl Node {
-    ghost use Rattle.std.specs.Prelude.{◌≡◌, ◌↔◌, IsTrue};
+    ghost use Rattle.std.specs.Prelude.{◌≡◌, ◌↔◌, ◌∷◌, [], IsTrue};
     ghost use Rattle.cga_frame.specs.Box.{touches};
+    ghost use Rattle.cga_index.specs.Occlusion.{answer_of};
     ghost use Rattle.cga_order.specs.Seen.{chain_of};
     ghost use Rattle.cga_forest.specs.Hull.{own_hulls};
     ghost use Rattle.cga_forest.specs.Node.{AreAlike, bounds, chain_kept, fits, state_of, with_state};
@@ -58,6 +59,23 @@ impl Node {
         ensures { result ≡ touches (bounds self.now) area.now }
     {
         self.shape.scope.touches(area)
+    }
+
+    /// What that box answers for another one. The box isn't made.
+    #[tactic(auto, unfolding(crate::specs::Node::bounds, cga_index::specs::Occlusion::answer_of))]
+    pub fn compares(&self, area: &WorldBox) -> Answer
+        ensures { result ≡ answer_of area.now (bounds self.now ∷ []) }
+    {
+        let scope = &self.shape.scope;
+        if scope.meets(area) {
+            if scope.holds(area) {
+                Answer::Full
+            } else {
+                Answer::Part
+            }
+        } else {
+            Answer::Nothing
+        }
     }
 
     /// Its hulls, where nothing stands below it.

@@ -38,7 +38,7 @@ impl Plan {
     {
         let mut went = Vec::new(alloc);
         list_going(store, id, left, news, &mut went)?;
-        let mut places = Vec::new(alloc);
+        let mut places = Vec::with_capacity(alloc, news.len())?;
         list_coming(store, id, news, &mut places)?;
         let came = Vec::with_capacity(alloc, places.len())?;
         Ok(Plan { went, places, came })

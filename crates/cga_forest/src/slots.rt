@@ -1,5 +1,5 @@
 ghost use Rattle.std.specs.Prelude.{IfSome, IsSome, [], true, false, ◌≢◌, ◌≡◌, ◌<◌, ◌≤◌, ◌+◌, ◌-◌, ℕ, length, IfOk, OnOk, OnErr, slice_get, Some, None, is_some, option_copied};
-ghost use Rattle.cga_kept_hulls.specs.Hull.{at_hulls};
+ghost use Rattle.cga_kept_hulls.specs.Hull.{over, with_hulls};
 ghost use Rattle.cga_forest.specs.View.{Seen, at, HasRoom, KeepsRoom, present_of, marked_of, hulls_of, marked_hulls_of, kids, flag_if};
 ghost use Rattle.cga_forest.specs.Tree.{IsWhole, AllRight, RightBut, IsDue, HasInner, ReplacedBy, IsAt, IsPlaced, depth_at, parent_of, under, goes, stay_of, stay_child, hulls_now, hulls_next, above};
 ghost use Rattle.cga_forest.specs.declared.node.Node.{Node};
@@ -134,20 +134,31 @@ pub fn parent_at(store: &Store, id: usize) -> Option<usize>
     }
 }
 
-fn child_hulls(store: &Store, id: usize, place: usize) -> Option<Hulls>
-    ensures { result ≡ at_hulls (λ c. hulls_of (at store.now c)) (slice_get (kids (at store.now id)) place) }
+/// Takes the hulls of a node into others, where it is there.
+fn join_hulls(store: &Store, id: usize, hulls: &mut Hulls)
+    ensures { hulls.new ≡ with_hulls hulls.old (hulls_of (at store.now id)) }
 {
-    hulls_at(store, child_at(store, id, place)?)
+    if let Some(entry) = store.get(id) {
+        entry.hulls.join(&entry.node.shape.scope, hulls);
+    }
+}
+
+/// Takes those of each of these nodes in.
+fn join_all(store: &Store, ids: &[usize], hulls: &mut Hulls)
+    ensures { hulls.new ≡ over (λ c. hulls_of (at store.now c)) hulls.old ids.now (length ids.now) }
+{
+    for place in 0..ids.len() {
+        join_hulls(store, ids[place], hulls);
+    }
 }
 
 /// A node's hulls, from its content and its children's hulls.
 fn hulls_over(store: &Store, id: usize) -> Option<Hulls>
     ensures { result ≡ hulls_now (λ c. hulls_of (at store.now c)) (at store.now id) }
 {
-    let mut hulls = store.get(id)?.node.own_hulls();
-    for place in 0..child_count(store, id) {
-        hulls = hulls.with(&child_hulls(store, id, place));
-    }
+    let entry = store.get(id)?;
+    let mut hulls = entry.node.own_hulls();
+    join_all(store, entry.children.as_slice(), &mut hulls);
     Some(hulls)
 }
 

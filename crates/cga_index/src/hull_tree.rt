@@ -67,12 +67,7 @@ pub trait HullTree {
         ensures ticks { tests.new ≡ tests.old + 1 };
 
     /// What that box answers for another one: a tree may tell it without the box.
-    fn compares<T: Ledger>(
-        &self,
-        node: NodeId,
-        area: &WorldBox,
-        tests: &mut Tests<T>,
-    ) -> Answer
+    fn compares<T: Ledger>(&self, node: NodeId, area: &WorldBox, tests: &mut Tests<T>) -> Answer
         requires node { InTree (view self.now) node }
         ensures value { result ≡ answer_of area.now ((view self.now).own node ∷ []) }
         ensures ticks { tests.new ≡ tests.old + 1 }

@@ -1,5 +1,5 @@
 -- Hulls by the tests that hold of two together where they hold of each.
-use Rattle.std.proofs.Common.{◌≡◌, ◌≢◌, inl, inr, ℕ, zero, suc, ◌<◌, List, [], ◌∷◌, length, Bool, true, false, refl, ap, sym, ◌∙◌, arith}
+use Rattle.std.proofs.Common.{◌≡◌, ◌≢◌, inl, inr, ℕ, zero, suc, ◌<◌, List, length, Bool, true, refl, ap, sym, ◌∙◌, arith}
 use Rattle.std.specs.Prelude.{Option, Some, None, is_some, not, slice_get}
 use Rattle.cga_frame.specs.Box.{Box, holds, hull}
 use Rattle.cga_fraction.proofs.Door.{eq_or_ne as nat_cases, same_from_both_ways as bool_same}

@@ -1,4 +1,4 @@
-ghost use Rattle.std.specs.Prelude.{◌≡◌};
+ghost use Rattle.std.specs.Prelude.{◌≡◌, Some};
 ghost use Rattle.cga_kept_hulls.specs.Hull.{hulls_alone, joined, with_hulls, opt_within, holds_hulls, alike, grown_from};
 
 use cga_frame::WorldBox;
@@ -30,6 +30,26 @@ impl Hulls {
                 all: self.all.hull(&other.all),
                 asking: joined(&self.asking, &other.asking),
             },
+        }
+    }
+
+    /// Takes others in.
+    pub fn take_in(&mut self, other: &Hulls)
+        ensures { self.new ≡ with_hulls self.old (Some other.now) }
+    {
+        self.all.take_in(&other.all);
+        if let Some(asking) = &other.asking {
+            widen(&mut self.asking, asking);
+        }
+    }
+
+    /// Takes one box in, which asks or not.
+    pub fn take_in_box(&mut self, bounds: &WorldBox, asks: bool)
+        ensures { self.new ≡ with_hulls self.old (Some (hulls_alone bounds.now asks)) }
+    {
+        self.all.take_in(bounds);
+        if asks {
+            widen(&mut self.asking, bounds);
         }
     }
 
@@ -75,5 +95,14 @@ fn joined(first: &Option<WorldBox>, second: &Option<WorldBox>) -> Option<WorldBo
             None => Some(*a),
             Some(b) => Some(a.hull(b)),
         },
+    }
+}
+
+fn widen(hull: &mut Option<WorldBox>, by: &WorldBox)
+    ensures { hull.new ≡ joined hull.old (Some by.now) }
+{
+    match hull {
+        None => *hull = Some(*by),
+        Some(hull) => hull.take_in(by),
     }
 }

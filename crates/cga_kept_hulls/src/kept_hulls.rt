@@ -1,7 +1,7 @@
-ghost use Rattle.std.specs.Prelude.{◌≡◌};
+ghost use Rattle.std.specs.Prelude.{◌≡◌, Some};
 ghost use Rattle.cga_frame.specs.Box.{box_of, touches};
 ghost use Rattle.cga_kept_hulls.specs.Blocks.{opt_touches};
-ghost use Rattle.cga_kept_hulls.specs.Hull.{hulls_from};
+ghost use Rattle.cga_kept_hulls.specs.Hull.{hulls_from, with_hulls};
 
 use crate::hulls::Hulls;
 use crate::hulls_box::HullsBox;
@@ -23,6 +23,16 @@ impl KeptHulls {
         match self {
             KeptHulls::Own(asks) => Hulls::alone(scope.world_box(), *asks),
             KeptHulls::Other(kept) => *kept.get(),
+        }
+    }
+
+    /// Takes them into others.
+    pub fn join(&self, scope: &Scope, hulls: &mut Hulls)
+        ensures { hulls.new ≡ with_hulls hulls.old (Some (hulls_from (box_of scope.now) self.now)) }
+    {
+        match self {
+            KeptHulls::Own(asks) => hulls.take_in_box(&scope.world_box(), *asks),
+            KeptHulls::Other(kept) => hulls.take_in(kept.get()),
         }
     }
 
