@@ -136,10 +136,9 @@ right_kept T H id e old new here was made same but c d t = elim (nat_cases c id)
   | inr ne ↦ but c d ne t
 ]
 
-pub hulls_now_of : (H : ℕ → Option Hulls) (s : Option Entry) (e : Entry) (own : Hulls) (n : ℕ) (h : Hulls) → s ≡ Some e
-    → own ≡ own_hulls e.node → n ≡ length (kids s) → h ≡ over H own (kids s) n → hulls_now H s ≡ Some h
-hulls_now_of H None e own n h q o l r = absurd (cc)
-hulls_now_of H (Some x) e own n h q o l r = let z : x ≡ e = (cc) in ap (λ a. Some a) (ap (λ w. over H w x.children.items (length x.children.items)) (ap (λ (y : Entry). own_hulls y.node) z ∙ sym o) ∙ ap (over H own x.children.items) (sym l) ∙ sym r)
+pub hulls_now_of : (H : ℕ → Option Hulls) (s : Option Entry) (e : Entry) (own h : Hulls) → s ≡ Some e
+    → own ≡ own_hulls e.node → h ≡ over H own e.children.items (length e.children.items) → hulls_now H s ≡ Some h
+hulls_now_of H s e own h q o r = ap (hulls_now H) q ∙ ap (λ w. Some (over H w e.children.items (length e.children.items))) (sym o) ∙ ap (λ w. Some w) (sym r)
 
 -- ---- the same at slots
 
