@@ -1,6 +1,8 @@
 -- When an old child stays, as a fact.
-use Rattle.std.proofs.Common.{◌≡◌, Bool, true, false, ◌&&◌, refl, sym, ap, subst, ◌∙◌, nat_eq, true≢false, eqb-true, eq-eqb, IsTrue, ◌↔◌}
+use Rattle.std.proofs.Common.{◌≡◌, Bool, true, false, ◌&&◌, refl, sym, ap, subst, ◌∙◌, nat_eq, eqb-true, eq-eqb, IsTrue, ◌↔◌}
 use denote.Enum.Bare.{same_true}
+use lib.Pointwise.{pointwise}
+use Rattle.cga_fraction.specs.contracts.fraction.FractionPartialEq.TheImpl as fraction
 use Rattle.cga_word.specs.contracts.primitive.Primitive as primitive
 use Rattle.cga_word.specs.contracts.primitive.PrimitiveEq.TheImpl.Laws as equal
 use Rattle.cga_word.specs.declared.primitive.Primitive.{Primitive}
@@ -8,6 +10,8 @@ use Rattle.cga_order.specs.World.{is_instance}
 use Rattle.cga_order.specs.declared.placed.Kind.{Kind}
 use Rattle.cga_order.specs.declared.placed.Kind.TheVariants.{Instance}
 use Rattle.cga_shape.specs.Equal.{same_shape}
+use Rattle.cga_frame.specs.contracts.scope.ScopePartialEq.TheImpl as scope
+use Rattle.cga_shape.specs.declared.shape.Shape.{Shape}
 use Rattle.cga_shape.specs.declared.shape_fault.ShapeFault.{ShapeFault}
 use Rattle.cga_fraction.proofs.Door.{false-not-true as not_so}
 use Rattle.cga_shape.proofs.Door.{shape_equal}
@@ -29,6 +33,20 @@ sort_whole (Instance p) (Instance q) e s = subst (λ k. same_sort (Instance p) k
 sort_whole (Instance p) l e s = not_so (sym e)
 sort_whole k (Instance q) e s = not_so e
 sort_whole k l e s = refl
+
+early : (l s p a c d : Bool) → (c && (l && (s && (p && (a && (c && d)))))) ≡ (l && (s && (p && (a && (c && d)))))
+early l s p a true d = refl
+early false s p a false d = refl
+early true false p a false d = refl
+early true true false a false d = refl
+early true true true false false d = refl
+early true true true true false d = refl
+
+-- the scopes may be compared before the shapes as a whole
+pub scope_first : (x y : Shape) → ((scope.ghosts).eq x.scope y.scope && same_shape x y) ≡ same_shape x y
+scope_first x y =
+    early (pointwise nat_eq x.lot y.lot) (pointwise nat_eq x.symbol y.symbol) (pointwise nat_eq x.path y.path) (pointwise (fraction.ghosts).eq x.args y.args)
+    ((scope.ghosts).eq x.scope y.scope) (nat_eq x.seed y.seed)
 
 -- Nodes that fit are alike.
 pub fits_sound : (x y : Node) → fits x y ≡ true → AreAlike x y
