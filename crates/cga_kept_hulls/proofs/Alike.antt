@@ -190,3 +190,50 @@ module _ (H J : ℕ → Option Hulls) (id : ℕ) (old new : Hulls) (was : H id �
   pub grown_alike : (h : Hulls) → alike h (over H own xs (length xs)) ≡ true
       → alike (with_hulls h (Some new)) (over J own xs (length xs)) ≡ true
   grown_alike h a = probed_alike _ _ (λ p. grown_probed p h a)
+
+-- ---- one child's hulls changed, and they lie within its former ones
+
+module _ (H J : ℕ → Option Hulls) (id : ℕ) (old new : Hulls) (was : H id ≡ Some old) (is : J id ≡ Some new) (others : (c : ℕ) → c ≢ id → J c ≡ H c) (less : holds_hulls old new ≡ true)
+    (own : Hulls) (xs : List ℕ) where
+  less_probed : (p : Probe) → probed p (over H own xs (length xs)) ≡ true → (i k : ℕ) (h : Hulls) → slice_get xs i ≡ Some k
+      → J k ≡ Some h → probed p h ≡ true
+  less_probed p t i k h at e = elim (nat_cases k id) [
+    | inl q ↦ (
+        let z : Some h ≡ Some new = sym e ∙ ap J q ∙ is in
+        let y : h ≡ new = (cc) in
+        ap (probed p) y ∙ probed_chain p old new less (over_child p H own xs (length xs) t i k old (within xs i k at) at (ap H q ∙ was)))
+    | inr ne ↦ over_child p H own xs (length xs) t i k h (within xs i k at) at (sym (others k ne) ∙ e)
+  ]
+
+  -- then the old hulls of all hold the new ones of all
+  pub less_held : (h : Hulls) → alike h (over H own xs (length xs)) ≡ true → holds_hulls h (over J own xs (length xs)) ≡ true
+  less_held h a = holds_from h _ (λ p t.
+      let u : probed p (over H own xs (length xs)) ≡ true = sym (alike_probed p h (over H own xs (length xs)) a) ∙ t in
+      over_all p J own xs (length xs) (over_own p H own xs (length xs) u) (less_probed p u))
+
+-- ---- hulls of a node and some of its children
+
+module _ (H : ℕ → Option Hulls) (own : Hulls) (xs : List ℕ) where
+  abbrev whole : Hulls
+  whole = over H own xs (length xs)
+
+  -- those of all hold the node's own
+  pub part_own : holds_hulls whole own ≡ true
+  part_own = holds_from whole own (λ p t. over_own p H own xs (length xs) t)
+
+  part_one : (h : Hulls) (i : ℕ) (v : Option Hulls) → at_hulls H (slice_get xs i) ≡ v → holds_hulls whole h ≡ true
+      → holds_hulls whole (with_hulls h v) ≡ true
+  part_one h i None e held = held
+  part_one h i (Some j) e held =
+      let r = at_some H (slice_get xs i) j e in
+      holds_from whole (with_hulls h (Some j)) (λ p t.
+      probed_both p h j (probed_chain p whole h held t) (over_child p H own xs (length xs) t i r.0 j (within xs i r.0 r.1) r.1 r.2))
+
+  -- and those of one child more
+  pub part_with : (h : Hulls) (i : ℕ) → holds_hulls whole h ≡ true → holds_hulls whole (with_hulls h (at_hulls H (slice_get xs i))) ≡ true
+  part_with h i held = part_one h i (at_hulls H (slice_get xs i)) refl held
+
+  -- hulls that hold those of all, and that those of some hold, are those of all
+  pub part_alike : (old part : Hulls) → holds_hulls old whole ≡ true → holds_hulls whole part ≡ true → holds_hulls part old ≡ true
+      → alike old whole ≡ true
+  part_alike old part a b d = pair _ _ a (holds_from whole old (λ p t. probed_chain p part old d (probed_chain p whole part b t)))
