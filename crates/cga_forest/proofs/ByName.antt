@@ -1,5 +1,5 @@
 -- Lots by their names.
-use Rattle.std.proofs.Common.{◌≡◌, ◌⊎◌, ◌↔◌, inl, inr, ℕ, ◌<◌, List, [], refl, sym, subst, ◌∙◌, arith, Option, Some, None, false}
+use Rattle.std.proofs.Common.{◌≡◌, ◌↔◌, inl, inr, ℕ, ◌<◌, List, [], refl, sym, subst, ◌∙◌, arith, Option, Some, None, false}
 use Rattle.std.specs.List.{Contains, IsDistinct}
 use Rattle.cga_word.specs.declared.mode.Mode.{Mode}
 use Rattle.cga_marked.specs.Map.{AreApart, id_under}

@@ -1,5 +1,5 @@
 -- The numbers of roots, each once.
-use Rattle.std.proofs.Common.{◌≡◌, ℕ, zero, suc, ◌-◌, List, [], ◌∷◌}
+use Rattle.std.proofs.Common.{◌≡◌, ℕ, zero, suc, List, [], ◌∷◌}
 use Rattle.std.proofs.Common.{refl, sym, ap, ◌∙◌, inl, inr, Some, None}
 use Rattle.std.proofs.Common.{slice_get}
 use Rattle.std.specs.List.{IsDistinct}

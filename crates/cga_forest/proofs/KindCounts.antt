@@ -1,5 +1,5 @@
 -- The numbers of the store are those of the nodes of two kinds.
-use Rattle.std.proofs.Common.{◌≡◌, ◌∙◌, ℕ, List, Bool, true, false, refl, ap}
+use Rattle.std.proofs.Common.{◌≡◌, List, Bool, true, false, refl, ap}
 use Rattle.std.specs.Prelude.{Option, Some, None, not, ◌&&◌, if◌then◌else◌}
 use Rattle.cga_marked.specs.Sorts.{is_first, is_second, sort_of, sorted}
 use Rattle.cga_marked.specs.declared.sort.Sort.{Sort}

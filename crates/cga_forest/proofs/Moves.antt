@@ -1,6 +1,5 @@
 -- The lists of the nodes below a node, and of those that go and come, have each of them once, and no other.
 use Rattle.std.proofs.Common.{◌≡◌, inl, inr, ℕ, zero, suc, ◌+◌, ◌<◌, List, [], ◌∷◌, Bool, true, false, refl, ap, sym, ◌∙◌, arith, subst}
-use Rattle.std.specs.List.{flat_map}
 use Rattle.std.specs.Prelude.{Option, Some, None, slice_get, if◌then◌else◌}
 use Rattle.cga_index.specs.Tree.{Member, Apart}
 use Rattle.cga_fraction.proofs.Door.{eq_or_ne as nat_cases}

@@ -1,6 +1,7 @@
 pub mod Node
 pub mod Hull
 pub mod Count
+pub mod Due
 pub mod View
 pub mod Marks
 pub mod Roots

@@ -1,5 +1,5 @@
 -- What a forest has of its roots.
-use Rattle.std.specs.Prelude.{◌≡◌, ℕ, ◌-◌, List, Option, Some, None}
+use Rattle.std.specs.Prelude.{◌≡◌, ℕ, List, Option, Some, None}
 use Rattle.std.specs.List.{Contains}
 use Rattle.cga_forest.specs.View.{Seen}
 use Rattle.cga_marked.specs.Map.{AreApart}

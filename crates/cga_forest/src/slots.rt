@@ -1,15 +1,15 @@
 ghost use Rattle.std.specs.Prelude.{IfSome, IsSome, [], true, false, ◌≢◌, ◌≡◌, ◌<◌, ◌≤◌, ◌+◌, ◌-◌, ℕ, length, IfOk, OnOk, OnErr, slice_get, Some, None, is_some, option_copied};
-ghost use Rattle.cga_kept_hulls.specs.Hull.{over, with_hulls};
 ghost use Rattle.cga_forest.specs.View.{Seen, at, HasRoom, KeepsRoom, present_of, marked_of, hulls_of, marked_hulls_of, kids, flag_if};
-ghost use Rattle.cga_forest.specs.Tree.{IsWhole, AllRight, RightBut, IsDue, HasInner, ReplacedBy, IsAt, IsPlaced, depth_at, parent_of, under, goes, stay_of, stay_child, hulls_now, hulls_next, above};
+ghost use Rattle.cga_forest.specs.Tree.{IsWhole, HasInner, ReplacedBy, IsAt, IsPlaced, depth_at, parent_of, under, goes, stay_of, stay_child};
 ghost use Rattle.cga_forest.specs.declared.node.Node.{Node};
 ghost use Rattle.cga_forest.specs.Numbers.{StaysTaken};
-ghost use Rattle.cga_tree.specs.Tree.{IsTree};
 
+use crate::due::Due;
+use crate::hulls::refresh;
 use crate::node::Node;
 use crate::replacement::Replacement;
-use crate::store::{Store, add_node, child_count, flag, rewrite, set_hulls};
-use cga_kept_hulls::{Hulls, Spares};
+use crate::store::{Store, add_node, child_count, flag, rewrite};
+use cga_kept_hulls::Spares;
 use std::alloc::Global;
 
 pub fn child_at(store: &Store, id: usize, place: usize) -> Option<usize>
@@ -134,91 +134,6 @@ pub fn parent_at(store: &Store, id: usize) -> Option<usize>
     }
 }
 
-/// Takes the hulls of a node into others, where it is there.
-fn join_hulls(store: &Store, id: usize, hulls: &mut Hulls)
-    ensures { hulls.new ≡ with_hulls hulls.old (hulls_of (at store.now id)) }
-{
-    if let Some(entry) = store.get(id) {
-        entry.hulls.join(&entry.node.shape.scope, hulls);
-    }
-}
-
-/// Takes those of each of these nodes in.
-fn join_all(store: &Store, ids: &[usize], hulls: &mut Hulls)
-    ensures { hulls.new ≡ over (λ c. hulls_of (at store.now c)) hulls.old ids.now (length ids.now) }
-{
-    for place in 0..ids.len() {
-        join_hulls(store, ids[place], hulls);
-    }
-}
-
-/// A node's hulls, from its content and its children's hulls.
-fn hulls_over(store: &Store, id: usize) -> Option<Hulls>
-    ensures { result ≡ hulls_now (λ c. hulls_of (at store.now c)) (at store.now id) }
-{
-    let entry = store.get(id)?;
-    let mut hulls = entry.node.own_hulls();
-    join_all(store, entry.children.as_slice(), &mut hulls);
-    Some(hulls)
-}
-
-fn hulls_at(store: &Store, id: usize) -> Option<Hulls>
-    ensures { result ≡ hulls_of (at store.now id) }
-{
-    match store.get(id) {
-        Some(entry) => Some(entry.known_hulls()),
-        None => None,
-    }
-}
-
-/// The hulls that a node gets: its old ones with those of the child that grew, or else from all its children.
-fn next_hulls(store: &Store, id: usize, grown: &Option<Hulls>) -> Option<Hulls>
-    ensures { result ≡ hulls_next (λ c. hulls_of (at store.now c)) (at store.now id) grown.now }
-{
-    match grown {
-        Some(_) => match store.get(id) {
-            Some(entry) => Some(entry.known_hulls().with(grown)),
-            None => None,
-        },
-        None => hulls_over(store, id),
-    }
-}
-
-/// Brings the hulls up to date from a node upwards, until they are as before, where all others are right.
-/// Where only one child's hulls changed, and they grew, they are given. Answers the root, where its hulls changed.
-pub fn refresh(
-    store: &mut Store,
-    spares: &mut Spares,
-    id: usize,
-    marking: bool,
-    grown: Option<Hulls>,
-) -> Option<usize>
-    requires tree { IsTree (λ c. present_of (at store.old c)) }
-    requires here { IsSome (present_of (at store.old id)) }
-    requires right { RightBut (λ c. present_of (at store.old c)) (λ c. hulls_of (at store.old c)) id }
-    requires due { IsDue (λ c. present_of (at store.old c)) (λ c. hulls_of (at store.old c)) id grown }
-    requires spares { depth_at (at store.old id) < length spares.old.boxes.items }
-    ensures present { (c : ℕ) → present_of (at store.new c) ≡ present_of (at store.old c) }
-    ensures marked { (c : ℕ) → marked_of (at store.new c) ≡ marked_of (at store.old c) }
-    ensures marked_hulls { marking ≡ true → (c : ℕ) → marked_hulls_of (at store.new c) ≡ marked_hulls_of (at store.old c) }
-    ensures taken { (c : ℕ) → is_some (at store.new c) ≡ is_some (at store.old c) }
-    ensures right { AllRight (λ c. present_of (at store.new c)) (λ c. hulls_of (at store.new c)) }
-    ensures others { (c : ℕ) → above (present_of (at store.old c)) ≡ None → result ≢ Some c → hulls_of (at store.new c) ≡ hulls_of (at store.old c) }
-{
-    if let Some(old) = hulls_at(store, id) {
-        if let Some(new) = next_hulls(store, id, &grown) {
-            if !new.is_like(&old) {
-                set_hulls(store, id, marking, new, spares.take());
-                if let Some(parent) = parent_at(store, id) {
-                    return refresh(store, spares, parent, marking, new.grown_from(&old));
-                }
-                return Some(id);
-            }
-        }
-    }
-    None
-}
-
 /// Gives a node another state and other children. The room is there already. Answers the root, where its hulls changed.
 pub fn replace(
     store: &mut Store,
@@ -252,5 +167,5 @@ pub fn replace(
     drop_children(store, id, 256 - depth, news.as_slice());
     place_children(store, alloc, id, marking, news, &mut made);
     rewrite(store, id, marking, state, made, spare);
-    refresh(store, spares, id, marking, None)
+    refresh(store, spares, id, marking, Due::All)
 }

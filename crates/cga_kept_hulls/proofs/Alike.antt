@@ -230,10 +230,11 @@ module _ (H : ℕ → Option Hulls) (own : Hulls) (xs : List ℕ) where
       probed_both p h j (probed_chain p whole h held t) (over_child p H own xs (length xs) t i r.0 j (within xs i r.0 r.1) r.1 r.2))
 
   -- and those of one child more
-  pub part_with : (h : Hulls) (i : ℕ) → holds_hulls whole h ≡ true → holds_hulls whole (with_hulls h (at_hulls H (slice_get xs i))) ≡ true
-  part_with h i held = part_one h i (at_hulls H (slice_get xs i)) refl held
+  pub part_with : (at : List ℕ) → at ≡ xs → (h with : Hulls) (i : ℕ) → with ≡ with_hulls h (at_hulls H (slice_get at i))
+      → holds_hulls whole h ≡ true → holds_hulls whole with ≡ true
+  part_with at same h with i is held =
+      ap (holds_hulls whole) (is ∙ ap (λ ys. with_hulls h (at_hulls H (slice_get ys i))) same) ∙ part_one h i (at_hulls H (slice_get xs i)) refl held
 
-  -- hulls that hold those of all, and that those of some hold, are those of all
-  pub part_alike : (old part : Hulls) → holds_hulls old whole ≡ true → holds_hulls whole part ≡ true → holds_hulls part old ≡ true
-      → alike old whole ≡ true
-  part_alike old part a b d = pair _ _ a (holds_from whole old (λ p t. probed_chain p part old d (probed_chain p whole part b t)))
+-- what the second of three hulls holds the first holds, too
+pub held_through : (h k m : Hulls) → holds_hulls h k ≡ true → holds_hulls k m ≡ true → holds_hulls h m ≡ true
+held_through h k m a b = holds_from h m (λ p t. probed_chain p k m b (probed_chain p h k a t))

@@ -5,7 +5,7 @@ use Rattle.cga_kept_hulls.specs.declared.hulls.Hulls.{Hulls}
 use Rattle.cga_kept_hulls.specs.Hull.{at_hulls, with_hulls, over}
 use Rattle.cga_forest.specs.View.{at, hulls_of}
 use Rattle.cga_forest.proofs.Right.{over_zero, over_step}
-use Rattle.cga_forest.proofs.slots.join_all.Goals as goal
+use Rattle.cga_forest.proofs.hulls.join_all.Goals as goal
 
 pub loop-place-init : goal.loop-place-init
 loop-place-init c = sym (over_zero _ _ _)

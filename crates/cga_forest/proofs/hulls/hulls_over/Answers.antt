@@ -4,7 +4,7 @@ use Rattle.cga_kept_hulls.specs.declared.hulls.Hulls.{Hulls}
 use Rattle.cga_kept_hulls.specs.Hull.{over}
 use Rattle.cga_forest.specs.View.{at, hulls_of}
 use Rattle.cga_forest.proofs.Right.{hulls_now_of}
-use Rattle.cga_forest.proofs.slots.hulls_over.Goals as goal
+use Rattle.cga_forest.proofs.hulls.hulls_over.Goals as goal
 
 pub returns : goal.returns
 returns c =
