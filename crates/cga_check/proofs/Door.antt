@@ -8,6 +8,8 @@ pub use Rattle.cga_check.proofs.Clean.{first_none, if_none, none_left, none_righ
 pub use Rattle.cga_check.proofs.Layers.{item_Child, item_Resize, primary_Named}
 -- What was read of symbols stays right as more is read
 pub use Rattle.cga_check.proofs.Reading.{still_right}
+-- So does what is kept of the latest names
+pub use Rattle.cga_check.proofs.Remembered.{still_kept}
 -- What a valid grammar has
 pub use Rattle.cga_check.proofs.Valid.{by_id_all, probabilities_add_up, symbols_agree, takes}
 -- A rule put among rules by rising id

@@ -5,6 +5,7 @@ mod Firsts
 mod Layers
 mod Placed
 mod Reading
+mod Remembered
 mod Rising
 mod Sifted
 mod Telling

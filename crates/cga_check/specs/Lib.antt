@@ -1,5 +1,6 @@
 pub mod Faults
 pub mod Groups
+pub mod Latest
 pub mod Probabilities
 pub mod Said
 pub mod Sifting

@@ -8,6 +8,7 @@
 
 mod checks;
 mod groups;
+mod latest;
 pub mod laws;
 mod mentions;
 mod said;
@@ -17,6 +18,7 @@ mod usage;
 
 pub use checks::{MOST_ATTRIBUTES, MOST_RULES, check};
 pub use groups::{group_of, symbol_priority};
+pub use latest::Latest;
 pub use mentions::{mentions_attribute, mentions_target, symbol_asks, symbol_names};
 pub use said::{Said, said_of};
 pub use symbols::Symbols;

@@ -2,6 +2,7 @@
 ghost use Rattle.std.specs.Prelude.{◌≡◌, IfOk};
 ghost use Rattle.cga_check.specs.Said.{said};
 
+use crate::latest::Latest;
 use crate::said::{Said, said_of};
 use cga_fraction::NoMemory;
 use cga_rule::Grammar;
@@ -15,7 +16,7 @@ use std::marker::Model;
 pub struct Symbols<'a> {
     grammar: &'a Grammar,
     read: IndexMap<Name, Said>,
-    latest: Option<(Name, Said)>,
+    latest: Latest<Said>,
 }
 
 impl<'a> Model for Symbols<'a> {
@@ -41,23 +42,21 @@ impl<'a> Symbols<'a> {
         Symbols {
             grammar,
             read: IndexMap::new(alloc),
-            latest: None,
+            latest: Latest::new(),
         }
     }
 
     /// What the rules of a symbol say. Takes memory where the symbol comes for the first time; the time goes then by the
-    /// rules. A symbol that was asked for last is told without a look at the table.
+    /// rules. The latest symbols are told without a look at the table.
     pub fn of(&mut self, symbol: Name) -> Result<Said, NoMemory>
         ensures value { IfOk result (λ found. found ≡ said self.old symbol) }
         ensures grammar { self.new ≡ self.old }
     {
-        if let Some((name, found)) = self.latest
-            && name == symbol
-        {
+        if let Some(found) = self.latest.get(symbol) {
             return Ok(found);
         }
         let found = self.read(symbol)?;
-        self.latest = Some((symbol, found));
+        self.latest.note(symbol, found);
         Ok(found)
     }
 
