@@ -5,6 +5,8 @@ use lib.Pointwise.{pointwise}
 use Rattle.cga_order.specs.World.{Among}
 use Rattle.cga_rule.specs.declared.grammar.Grammar.{Grammar}
 use Rattle.cga_check.specs.Groups as groups
+use Rattle.cga_check.specs.Latest.{AreKept}
+use Rattle.cga_check.specs.declared.latest.Latest.{Latest}
 use Rattle.cga_rule.specs.declared.grammar.Attribute.{Attribute}
 use Rattle.cga_same.specs.Agreement.{IsSameSetting}
 use Rattle.cga_same.specs.Ends.{AreApart}
@@ -26,11 +28,12 @@ AreKnown old new known =
     → AreFacts old new symbol facts
 
 -- the grammars have one list of rules where that is said, these are what their attributes don't share, and what stands in the
--- map is right
-pub record AreCompared {S : Type 0} (old new : Grammar) (same_rules : Bool) (from to : List Attribute) (known : IndexMap (List ℕ) Facts S) : Type 0 where
+-- map or is kept of the latest symbols is right
+pub record AreCompared {S : Type 0} (old new : Grammar) (same_rules : Bool) (from to : List Attribute) (known : IndexMap (List ℕ) Facts S) (latest : Latest Facts) : Type 0 where
   pub rules : same_rules ≡ true → old.rules ≡ new.rules
   pub apart : AreApart old.attributes new.attributes from to
   pub facts : AreKnown old new known
+  pub kept : AreKept (AreFacts old new) latest
 
 -- the symbol is listed, or its setting is the old one
 abbrev pub IsNoted : Grammar → Grammar → List (List ℕ) → List ℕ → Type 0

@@ -7,7 +7,7 @@ ghost use Rattle.cga_same.specs.Changed.{AreFacts};
 
 use crate::apart::{Apart, between};
 use crate::setting::{same_setting, same_values};
-use cga_check::symbol_priority;
+use cga_check::{Latest, symbol_priority};
 use cga_fraction::NoMemory;
 use cga_rule::{Entry, Grammar};
 use cga_word::Name;
@@ -33,6 +33,7 @@ pub struct Grammars<'a> {
     /// What the lists of attributes don't share, so that no symbol looks at what they do.
     apart: Apart<'a>,
     known: IndexMap<Name, Facts>,
+    latest: Latest<Facts>,
 }
 
 impl<'a> Model for Grammars<'a> {
@@ -50,7 +51,7 @@ impl<'a> Model for Grammars<'a> {
 
     ghost view = { λ g. record { before = g.before.now; after = g.after.now } };
 
-    ghost invariant = { λ g. AreCompared g.before.now g.after.now g.same_rules g.apart.old.now g.apart.new.now g.known };
+    ghost invariant = { λ g. AreCompared g.before.now g.after.now g.same_rules g.apart.old.now g.apart.new.now g.known g.latest };
 }
 
 impl<'a> Grammars<'a> {
@@ -69,12 +70,25 @@ impl<'a> Grammars<'a> {
             same_rules: before.rules == after.rules,
             apart: between(before.attributes.as_slice(), after.attributes.as_slice()),
             known: IndexMap::new(alloc),
+            latest: Latest::new(),
         }
     }
 
     /// Takes memory where the symbol comes for the first time; the time goes then by the rules of both grammars, or where
-    /// they are the same by the attributes.
+    /// they are the same by the attributes. The latest symbols are told without a look at the table.
     pub fn of(&mut self, symbol: Name) -> Result<Facts, NoMemory>
+        ensures facts { IfOk result (λ facts. AreFacts self.old.before self.old.after symbol facts) }
+        ensures grammars { self.new ≡ self.old }
+    {
+        if let Some(facts) = self.latest.get(symbol) {
+            return Ok(facts);
+        }
+        let facts = self.look_up(symbol)?;
+        self.latest.note(symbol, facts);
+        Ok(facts)
+    }
+
+    fn look_up(&mut self, symbol: Name) -> Result<Facts, NoMemory>
         ensures facts { IfOk result (λ facts. AreFacts self.old.before self.old.after symbol facts) }
         ensures grammars { self.new ≡ self.old }
     {

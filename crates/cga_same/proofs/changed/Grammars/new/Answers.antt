@@ -2,6 +2,7 @@ use Rattle.std.proofs.Common.{◌≡◌, ap, subst, sym, ◌∙◌, nat_eq, None
 use lib.Pointwise.{pointwise}
 use Rattle.indexmap.specs.IndexMap.{get}
 use Rattle.std.specs.Map.{lookup}
+use Rattle.cga_check.specs.Latest.{value_of}
 use Rattle.cga_same.specs.Ends.{AreApart}
 use Rattle.cga_same.proofs.Told.{rules_told}
 use Rattle.cga_same.proofs.changed.Grammars.new.Goals as goal
@@ -14,4 +15,5 @@ invariant_of-result c = record {
   facts = λ symbol facts found.
       let none : get (pointwise nat_eq) c.new.result symbol ≡ None = ap (lookup (pointwise nat_eq symbol)) c.new.ensures.empty in
       absurd (let bad : None ≡ Some facts = sym none ∙ found in cc);
+  kept = λ name value found. absurd (let bad : None ≡ Some value = sym (ap (λ l. value_of l name) c.new-2.ensures) ∙ found in cc);
 }

@@ -1,19 +1,22 @@
-use Rattle.std.proofs.Common.{sym, ap, subst, ◌∙◌}
-use Rattle.std.specs.Option.{option_copied}
+use Rattle.std.proofs.Common.{sym, subst, ◌∙◌}
+use Rattle.cga_check.specs.Latest.{AreKept}
+use Rattle.cga_check.proofs.Door.{still_kept}
 use Rattle.cga_same.specs.Both.{BothGrammars}
 use Rattle.cga_same.specs.Changed.{AreFacts}
-use Rattle.cga_same.proofs.Noted.{still_known}
 use Rattle.cga_same.proofs.changed.Grammars.of.Goals as goal
 
-pub invariant_of-self-2 : goal.invariant_of-self-2
-invariant_of-self-2 c = record {
-  rules = c.self.invariant.rules;
-  apart = c.self.invariant.apart;
-  facts = still_known c.self.inside.before.now c.self.inside.after.now c.self.inside.known c.insert.new.self c.args.symbol c.facts_of-facts.result c.facts_of-facts.ensures c.self.invariant.facts c.in_ok-insert.ensures.updates;
-}
-
-pub returns-clause-facts : goal.returns-clause-facts
-returns-clause-facts c = subst (λ (g : BothGrammars). AreFacts g.before g.after c.args.symbol c.facts_of-facts.result) c.self.view_is c.facts_of-facts.ensures
-
 pub returns-in-Some-clause-facts : goal.returns-in-Some-clause-facts
-returns-in-Some-clause-facts c = subst (λ (g : BothGrammars). AreFacts g.before g.after c.args.symbol c.in-Some.facts.now) c.self.view_is (c.self.invariant.facts c.args.symbol c.in-Some.facts.now (sym c.get.ensures.value ∙ ap option_copied c.in-Some.is))
+returns-in-Some-clause-facts c = subst (λ (g : BothGrammars). AreFacts g.before g.after c.args.symbol c.in-Some.facts) c.self.view_is
+    (c.self.invariant.kept c.args.symbol c.in-Some.facts (sym c.in-Some.ensures))
+
+pub invariant_of-self : goal.invariant_of-self
+invariant_of-self c =
+    let old = c.self-2.inside.before.now in
+    let new = c.self-2.inside.after.now in
+    let same = c.self-2.view_is ∙ c.in_ok-facts.ensures.grammars in
+    let are = subst (λ (g : BothGrammars). AreFacts g.before g.after c.args.symbol c.in_ok-facts.facts) (sym same) c.in_ok-facts.ensures.facts in record {
+      rules = c.self-2.invariant.rules;
+      apart = c.self-2.invariant.apart;
+      facts = c.self-2.invariant.facts;
+      kept = subst (AreKept (AreFacts old new)) (sym c.note.ensures) (still_kept (AreFacts old new) c.self-2.inside.latest c.args.symbol c.in_ok-facts.facts are c.self-2.invariant.kept);
+    }
