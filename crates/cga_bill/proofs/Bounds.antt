@@ -1,6 +1,6 @@
 -- How large sums get.
 use Rattle.std.proofs.Common.{◌≡◌, ℕ, ◌+◌, ◌*◌, ◌/◌, ◌^◌, ◌≤◌, List, [], ◌∷◌, length, refl, sym, arith, Bool, true, false, cond, subst, unsigned_abs}
-use Rattle.std.specs.Prelude.{Result, Ok, Err, bytes_eq, nat_le, sum_by, ◌&&◌}
+use Rattle.std.specs.Prelude.{Result, Ok, Err, bytes_eq, nat_le, sum_by}
 use Rattle.std.proofs.Math.Nat.{div-le_self}
 use Rattle.std.proofs.lemmas.Grind.{common_steps}
 use Rattle.std.proofs.lemmas.List.Sums.{count_by-le-length, length-filter, sum_by-cons}

@@ -1,6 +1,6 @@
 -- One instance more, and one fewer.
 use Rattle.std.proofs.Common.{◌≡◌, ℕ, List, [], ◌∷◌, ◌++◌, refl, sym, ◌∙◌, ap, Bool, true, false, cond, subst}
-use Rattle.std.specs.Prelude.{Option, Some, bytes_eq, unwrap_or}
+use Rattle.std.specs.Prelude.{Option, Some, None, bytes_eq, nat_eq, unwrap_or}
 use Rattle.std.specs.BTreeMap.{BTreeMap, IsOrdered, Updates, get}
 use Rattle.std.proofs.lemmas.List.{append-nil}
 use Rattle.std.proofs.lemmas.List.Elements.{filter-append}
@@ -87,6 +87,12 @@ module _ (before after : BTreeMap (List ℕ) Sums) where
       changed d (left (minus_sums (sums_at before.entries d.symbol) one)) (xs ++ d ∷ ys) (xs ++ ys) h u o
       (ap left then ∙ (left_of (first ++ last) ∙ ap sums_or_none (sym (joined d.symbol xs ys))))
       (λ s e. joined s xs (d ∷ ys) ∙ (ap (λ (t : List Drawn). of_symbol s xs ++ t) (other s d ys e) ∙ sym (joined s xs ys)))
+
+-- the line of a symbol went, after it was looked at, where no instance is left
+pub emptied : (before read after : BTreeMap (List ℕ) Sums) (symbol : List ℕ) (rest : Sums) → rest.number ≡ 0
+    → read.entries ≡ before.entries → Updates by_bytes read after symbol None
+    → Updates by_bytes before after symbol (left rest)
+emptied before read after symbol rest none same u = rw (ap (λ n. cond (nat_eq n 0) None (Some rest)) none) (rw same at u)
 
 pub can_take : (lines : List (List ℕ × Sums)) (d : Drawn) (xs ys : List Drawn) → IsBill lines (xs ++ d ∷ ys)
     → Holds (sums_at lines d.symbol) (sums_of (d ∷ []))

@@ -16,23 +16,22 @@ use std::collections::BTreeMap;
 
 pub type Lines = BTreeMap<Name, Sums>;
 
-fn at(lines: &Lines, symbol: &Name) -> Sums
-    ensures { result ≡ sums_at lines.now.entries symbol.now }
-{
-    match lines.get(symbol) {
-        Some(sums) => *sums,
-        None => Sums::zero(),
-    }
-}
-
 fn add(lines: &mut Lines, drawn: &Drawn) -> Result<(), NoMemory>
     requires { HasRoom (sums_at lines.old.entries drawn.now.symbol) (sums_of (drawn.now ∷ [])) }
     ensures updates { OnOk result (Updates (slice_cmp nat_cmp) lines.old lines.new drawn.now.symbol (Some (plus_sums (sums_at lines.old.entries drawn.now.symbol) (sums_of (drawn.now ∷ []))))) }
     ensures ordered { IsOrdered (slice_cmp nat_cmp) lines.new }
 {
-    let sums = at(lines, &drawn.symbol).plus(sums_of(drawn));
-    lines.insert(drawn.symbol, sums)?;
-    Ok(())
+    let more = sums_of(drawn);
+    match lines.get_mut(&drawn.symbol) {
+        Some(sums) => {
+            *sums = sums.plus(more);
+            Ok(())
+        }
+        None => {
+            lines.insert(drawn.symbol, Sums::zero().plus(more))?;
+            Ok(())
+        }
+    }
 }
 
 // Takes no memory.
@@ -41,14 +40,14 @@ fn take(lines: &mut Lines, drawn: &Drawn)
     ensures updates { Updates (slice_cmp nat_cmp) lines.old lines.new drawn.now.symbol (left (minus_sums (sums_at lines.old.entries drawn.now.symbol) (sums_of (drawn.now ∷ [])))) }
     ensures ordered { IsOrdered (slice_cmp nat_cmp) lines.new }
 {
-    let sums = at(lines, &drawn.symbol).minus(sums_of(drawn));
-    if sums.number == 0 {
+    let Some(sums) = lines.get_mut(&drawn.symbol) else {
+        unreachable!();
+    };
+    let left = sums.minus(sums_of(drawn));
+    if left.number == 0 {
         lines.remove(&drawn.symbol);
-        return;
-    }
-    match lines.insert(drawn.symbol, sums) {
-        Ok(_) => {}
-        Err(_) => unreachable!(),
+    } else {
+        *sums = left;
     }
 }
 

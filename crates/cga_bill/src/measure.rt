@@ -11,6 +11,9 @@ pub struct Measure {
     pub volume: u128,
 }
 
+// Twice the millionths of a numerator below this fit in 64 bits, also with a denominator.
+const SMALL: u64 = 1 << 42;
+
 /// Refused where the area or the volume leaves the range.
 #[tactic(auto, unfolding(crate::specs::Measures::measure_of))]
 pub fn measured(scope: &Scope) -> Result<Measure, Overflow>
@@ -29,7 +32,12 @@ pub fn measured(scope: &Scope) -> Result<Measure, Overflow>
 fn millionths(number: Fraction) -> u128
     ensures { result ≡ millionths_of number }
 {
-    let numerator = number.numerator().unsigned_abs() as u128;
-    let denominator = number.denominator().unsigned_abs() as u128;
-    (2 * (numerator * 1_000_000) + denominator) / (2 * denominator)
+    let numerator = number.numerator().unsigned_abs();
+    let denominator = number.denominator().unsigned_abs();
+    if numerator < SMALL {
+        ((2 * (numerator * 1_000_000) + denominator) / (2 * denominator)) as u128
+    } else {
+        let (above, below) = (numerator as u128, denominator as u128);
+        (2 * (above * 1_000_000) + below) / (2 * below)
+    }
 }
