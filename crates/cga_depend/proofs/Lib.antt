@@ -1,4 +1,5 @@
 mod Places
 mod Removed
 mod Applying
+mod Written
 pub mod Door

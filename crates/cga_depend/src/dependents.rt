@@ -1,11 +1,12 @@
-ghost use Rattle.std.specs.Prelude.{◌≡◌, ℕ, List, [], ◌∷◌, true, false, None, nat_eq, OnOk, OnErr, length, option_map, slice_get, if◌then◌else◌};
+ghost use Rattle.std.specs.Prelude.{◌≡◌, ℕ, List, [], ◌∷◌, true, false, None, nat_eq, IfNone, IfSome, OnOk, OnErr, length, option_map, slice_get, if◌then◌else◌};
 ghost use Rattle.std.specs.List.{list_any, IsDistinct};
 ghost use Rattle.std.specs.List.Sorted.{IsPermutation};
 ghost use Rattle.std.specs.Map.{lookup};
 ghost use Rattle.cga_check.specs.Uses.{same_name};
-ghost use Rattle.cga_depend.specs.Pairs.{nodes_in, under, with_node};
+ghost use Rattle.cga_depend.specs.Pairs.{IsAt, nodes_in, under, with_node};
 
 use crate::nodes::Nodes;
+use cga_check::Latest;
 use cga_fraction::NoMemory;
 use cga_index::NodeId;
 use cga_word::Name;
@@ -17,6 +18,8 @@ use std::marker::Model;
 #[derive(Drop)]
 pub struct Dependents {
     nodes: IndexMap<Name, Nodes>,
+    /// Where the latest symbols stand, as a hint.
+    places: Latest<usize>,
     alloc: Global,
 }
 
@@ -35,6 +38,7 @@ impl Dependents {
     {
         Dependents {
             nodes: IndexMap::new(alloc),
+            places: Latest::new(),
             alloc,
         }
     }
@@ -44,7 +48,26 @@ impl Dependents {
         ensures nodes { OnOk result ((s : List ℕ) → nodes_in self.new s ≡ (if same_name symbol s then with_node (nodes_in self.old s) node else nodes_in self.old s)) }
         ensures err { OnErr result (self.new ≡ self.old) }
     {
-        add_pair(self.alloc, &mut self.nodes, symbol, node)
+        match self.place_of(symbol) {
+            Some(place) => add_at(&mut self.nodes, place, symbol, node),
+            None => add_first(self.alloc, &mut self.nodes, symbol, node),
+        }
+    }
+
+    /// Where a symbol stands. The latest symbols are found without a look at the table.
+    fn place_of(&mut self, symbol: Name) -> Option<usize>
+        ensures found { IfSome result (λ place. IsAt self.new.nodes place symbol) }
+        ensures none { IfNone result (lookup (same_name symbol) self.new.nodes ≡ None) }
+        ensures same { self.new ≡ self.old }
+    {
+        if let Some(place) = self.places.get(symbol)
+            && is_at(&self.nodes, place, symbol)
+        {
+            return Some(place);
+        }
+        let place = find(&self.nodes, symbol)?;
+        self.places.note(symbol, place);
+        Some(place)
     }
 
     /// Takes a pair out. False, and unchanged, where it isn't there.
@@ -54,7 +77,10 @@ impl Dependents {
         ensures others { (s : List ℕ) → same_name symbol s ≡ false → nodes_in self.new s ≡ nodes_in self.old s }
         ensures same { result ≡ false → self.new ≡ self.old }
     {
-        take_out(&mut self.nodes, symbol, node)
+        match self.place_of(symbol) {
+            Some(place) => take_at(&mut self.nodes, place, symbol, node),
+            None => false,
+        }
     }
 
     /// Of how many symbols there are nodes, or were some.
@@ -86,19 +112,39 @@ impl Dependents {
     }
 }
 
+fn is_at(nodes: &IndexMap<Name, Nodes>, place: usize, symbol: Name) -> bool
+    ensures { result ≡ true → IsAt nodes.now.entries place symbol }
+{
+    match nodes.get_index(place) {
+        Some((name, _)) => *name == symbol,
+        None => false,
+    }
+}
+
+fn find(nodes: &IndexMap<Name, Nodes>, symbol: Name) -> Option<usize>
+    ensures found { IfSome result (λ place. IsAt nodes.now.entries place symbol) }
+    ensures none { IfNone result (lookup (same_name symbol) nodes.now.entries ≡ None) }
+{
+    match nodes.get_full(&symbol) {
+        Some((place, _, _)) => Some(place),
+        None => None,
+    }
+}
+
 /// Adds a node to those of its symbol.
-fn add_pair(
-    alloc: Global,
+fn add_at(
     nodes: &mut IndexMap<Name, Nodes>,
+    place: usize,
     symbol: Name,
     node: NodeId,
 ) -> Result<(), NoMemory>
+    requires at { IsAt nodes.old.entries place symbol }
     ensures nodes { OnOk result ((s : List ℕ) → under nodes.new.entries s ≡ (if same_name symbol s then with_node (under nodes.old.entries s) node else under nodes.old.entries s)) }
     ensures err { OnErr result (nodes.new.entries ≡ nodes.old.entries) }
 {
-    match nodes.get_mut(&symbol) {
+    match nodes.get_index_mut(place) {
         Some(known) => known.add(node),
-        None => add_first(alloc, nodes, symbol, node),
+        None => unreachable!(),
     }
 }
 
@@ -120,14 +166,15 @@ fn add_first(
 }
 
 /// Takes a node out of those of its symbol.
-fn take_out(nodes: &mut IndexMap<Name, Nodes>, symbol: Name, node: NodeId) -> bool
+fn take_at(nodes: &mut IndexMap<Name, Nodes>, place: usize, symbol: Name, node: NodeId) -> bool
+    requires at { IsAt nodes.old.entries place symbol }
     ensures found { result ≡ list_any (nat_eq node) (under nodes.old.entries symbol) }
     ensures gone { result ≡ true → IsPermutation (under nodes.old.entries symbol) (node ∷ under nodes.new.entries symbol) }
     ensures others { (s : List ℕ) → same_name symbol s ≡ false → under nodes.new.entries s ≡ under nodes.old.entries s }
     ensures same { result ≡ false → nodes.new.entries ≡ nodes.old.entries }
 {
-    match nodes.get_mut(&symbol) {
+    match nodes.get_index_mut(place) {
         Some(known) => known.remove(node),
-        None => false,
+        None => unreachable!(),
     }
 }
