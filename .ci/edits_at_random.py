@@ -17,6 +17,7 @@ PRIORITY 1:
 8: la -> [ S(1r, h, 1r) base ] T(0, 4, 0) S(1r, 1, 1r) top
 9: lb -> T(0, 2, 0) S(1r, 1, 1r) mid
 16: eyes -> [ S(1r, 4, 1r) eye ] T(0, 0, 2) S(1r, 5, 1r) mass
+21: fence -> Repeat("X", 0.5) { post }
 PRIORITY 2:
 2: mass -> Comp("face", "front") { facade }
 10: base -> I("cube")
@@ -32,6 +33,9 @@ PRIORITY 4:
 5: window : Scope.occ("noparent") == "full" -> NIL
 6: window -> S(1r, 1r, 0.5) I("cube")
 13: bulk -> I("cube")
+22: post : Scope.occ("noparent") == "none" -> S(1r, h, 1r) rail
+23: post -> S(1r, h * 2, 1r) rail
+24: rail -> T(0, 0, w) S(1r, 1r, w) I("cube")
 PRIORITY 5:
 14: top : Scope.occ("noparent") == "none" -> I("cube")
 15: top -> NIL
@@ -41,7 +45,7 @@ PRIORITY 9:
 7: late -> S(1r, 6, 1r) mass
 end
 """
-SYMBOLS = ["early", "late", "la", "lb", "eyes"]
+SYMBOLS = ["early", "late", "la", "lb", "eyes", "fence"]
 RULES = [
     'put 4 5: window : Scope.occ("noparent") == "full" -> S(1r, 1r, 2) I("cube")',
     'put 4 5: window : Scope.occ("noparent") == "full" -> NIL',
