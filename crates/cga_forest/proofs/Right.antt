@@ -177,8 +177,8 @@ pub hulls_now_of : (H : ℕ → Option Hulls) (s : Option Entry) (e : Entry) (ow
 hulls_now_of H s e own h q o r = ap (hulls_now H) q ∙ ap (λ w. Some (over H w e.children.items (length e.children.items))) (sym o) ∙ ap (λ w. Some w) (sym r)
 
 -- what the parent of a node is told
-within_told : (grew less : Bool) (new : Hulls) (place i : ℕ) → (if grew then Grown new else (if less then Within place else All)) ≡ Within i
-    → less ≡ true
+within_told : (grew less : Bool) (new : Hulls) (place i : ℕ)
+    → (if grew then Grown new else (if less then Within place else All)) ≡ Within i → less ≡ true
 within_told true less new place i q = absurd (cc)
 within_told false true new place i q = refl
 within_told false false new place i q = absurd (cc)
@@ -189,7 +189,8 @@ grown_told true less new place = refl
 grown_told false true new place = refl
 grown_told false false new place = refl
 
-pub grown_above : (new old : Hulls) (place : ℕ) (told : Due) → told ≡ due_above new old place → grown_of told ≡ grown_from new old
+pub grown_above : (new old : Hulls) (place : ℕ) (told : Due) → told ≡ due_above new old place
+    → grown_of told ≡ grown_from new old
 grown_above new old place told q = ap grown_of q ∙ grown_told (holds_hulls new old) (holds_hulls old new) new place
 
 -- ---- the same at slots
@@ -286,7 +287,11 @@ module _ (s : ℕ → Option Entry) (id : ℕ) (g : Option Hulls) (old new : Hul
 
     pub step_within : (p : ℕ) → parent_of (t id) ≡ Some p → (place : ℕ) (told : Due) → told ≡ due_above new old place
         → HoldsAll (λ c. present_of (t c)) (λ c. hulls_of (t c)) p told
-    step_within p up place told is_told d mine i x h q = within_up (λ c. present_of (t c)) (λ c. hulls_of (s c)) (λ c. hulls_of (t c)) tree_now id e here_now (λ c n. ap hulls_of (others c n)) new written made but_now old (sym was) (within_told _ _ new place i (sym is_told ∙ q)) p (sym (parent_present (t id) e here_now) ∙ up) d mine x h
+    step_within p up place told is_told d mine i x h q =
+        let less = within_told _ _ new place i (sym is_told ∙ q) in
+        let above = sym (parent_present (t id) e here_now) ∙ up in
+        within_up (λ c. present_of (t c)) (λ c. hulls_of (s c)) (λ c. hulls_of (t c)) tree_now id e here_now (λ c n. ap hulls_of (others c n))
+        new written made but_now old (sym was) less p above d mine x h
 
     pub parent_there : (p : ℕ) → parent_of (t id) ≡ Some p → is_some (present_of (t p)) ≡ true
     parent_there p up = let u = tree_now.up id p e here_now (sym (parent_present (t id) e here_now) ∙ up) in ap is_some u.1

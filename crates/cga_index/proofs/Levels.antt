@@ -148,7 +148,8 @@ visit_counted v by left node a b c h touch p q =
 
 -- where nobody is below a node, its own answer is that of all from it on
 pub visit_leaf : (v : TreeView) (by : ℕ) (target : Target) (left node : ℕ) (first : Answer) → 0 < left
-    → length (v.children node) ≡ 0 → first ≡ answer_over v by target (node ∷ []) → first ≡ answer_over v by target (below v left node)
+    → length (v.children node) ≡ 0 → first ≡ answer_over v by target (node ∷ [])
+    → first ≡ answer_over v by target (below v left node)
 visit_leaf v by target left node first h none p =
     let e = nil_from_length (v.children node) none in
     p ∙ ap (λ cs. answer_over v by target (node ∷ flat_map (below v (left - 1)) cs)) (sym e) ∙ ap (answer_over v by target) (sym (below_more v left node h))

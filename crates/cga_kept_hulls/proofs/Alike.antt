@@ -195,8 +195,8 @@ module _ (H J : ℕ → Option Hulls) (id : ℕ) (old new : Hulls) (was : H id �
 
 module _ (H J : ℕ → Option Hulls) (id : ℕ) (old new : Hulls) (was : H id ≡ Some old) (is : J id ≡ Some new) (others : (c : ℕ) → c ≢ id → J c ≡ H c) (less : holds_hulls old new ≡ true)
     (own : Hulls) (xs : List ℕ) where
-  less_probed : (p : Probe) → probed p (over H own xs (length xs)) ≡ true → (i k : ℕ) (h : Hulls) → slice_get xs i ≡ Some k
-      → J k ≡ Some h → probed p h ≡ true
+  less_probed : (p : Probe) → probed p (over H own xs (length xs)) ≡ true → (i k : ℕ) (h : Hulls)
+      → slice_get xs i ≡ Some k → J k ≡ Some h → probed p h ≡ true
   less_probed p t i k h at e = elim (nat_cases k id) [
     | inl q ↦ (
         let z : Some h ≡ Some new = sym e ∙ ap J q ∙ is in
@@ -206,7 +206,8 @@ module _ (H J : ℕ → Option Hulls) (id : ℕ) (old new : Hulls) (was : H id �
   ]
 
   -- then the old hulls of all hold the new ones of all
-  pub less_held : (h : Hulls) → alike h (over H own xs (length xs)) ≡ true → holds_hulls h (over J own xs (length xs)) ≡ true
+  pub less_held : (h : Hulls) → alike h (over H own xs (length xs)) ≡ true
+      → holds_hulls h (over J own xs (length xs)) ≡ true
   less_held h a = holds_from h _ (λ p t.
       let u : probed p (over H own xs (length xs)) ≡ true = sym (alike_probed p h (over H own xs (length xs)) a) ∙ t in
       over_all p J own xs (length xs) (over_own p H own xs (length xs) u) (less_probed p u))

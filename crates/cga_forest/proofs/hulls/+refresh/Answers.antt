@@ -19,15 +19,25 @@ refresh-requires t c =
     let lower = climbs (λ k. at c.args.store.now k) c.args.id (grown_of c.args.due) c.in-Some.old c.in-Some-next_hulls.new e.0 e.1 c.in-Some.ensures c.in-Some-next_hulls.ensures c.requires.tree c.requires.right c.requires.due (λ k. at c.set_hulls.new.store k) c.set_hulls.ensures.others c.set_hulls.ensures.present c.set_hulls.ensures.hulls c.in-Some-parent_at.parent up in (
       omega arith,
       (
-        tree_now (λ k. at c.args.store.now k) c.args.id (grown_of c.args.due) c.in-Some.old c.in-Some-next_hulls.new e.0 e.1 c.in-Some.ensures c.in-Some-next_hulls.ensures c.requires.tree c.requires.right c.requires.due (λ k. at c.set_hulls.new.store k) c.set_hulls.ensures.others c.set_hulls.ensures.present c.set_hulls.ensures.hulls,
+        tree_now (λ k. at c.args.store.now k) c.args.id (grown_of c.args.due) c.in-Some.old c.in-Some-next_hulls.new e.0 e.1
+        c.in-Some.ensures c.in-Some-next_hulls.ensures c.requires.tree c.requires.right c.requires.due
+        (λ k. at c.set_hulls.new.store k) c.set_hulls.ensures.others c.set_hulls.ensures.present c.set_hulls.ensures.hulls,
         (
-          parent_there (λ k. at c.args.store.now k) c.args.id (grown_of c.args.due) c.in-Some.old c.in-Some-next_hulls.new e.0 e.1 c.in-Some.ensures c.in-Some-next_hulls.ensures c.requires.tree c.requires.right c.requires.due (λ k. at c.set_hulls.new.store k) c.set_hulls.ensures.others c.set_hulls.ensures.present c.set_hulls.ensures.hulls c.in-Some-parent_at.parent up,
+          parent_there (λ k. at c.args.store.now k) c.args.id (grown_of c.args.due) c.in-Some.old c.in-Some-next_hulls.new e.0 e.1
+          c.in-Some.ensures c.in-Some-next_hulls.ensures c.requires.tree c.requires.right c.requires.due
+          (λ k. at c.set_hulls.new.store k) c.set_hulls.ensures.others c.set_hulls.ensures.present c.set_hulls.ensures.hulls c.in-Some-parent_at.parent up,
           (
-            step_up (λ k. at c.args.store.now k) c.args.id (grown_of c.args.due) c.in-Some.old c.in-Some-next_hulls.new e.0 e.1 c.in-Some.ensures c.in-Some-next_hulls.ensures c.requires.tree c.requires.right c.requires.due (λ k. at c.set_hulls.new.store k) c.set_hulls.ensures.others c.set_hulls.ensures.present c.set_hulls.ensures.hulls c.in-Some-parent_at.parent up,
+            step_up (λ k. at c.args.store.now k) c.args.id (grown_of c.args.due) c.in-Some.old c.in-Some-next_hulls.new e.0 e.1
+            c.in-Some.ensures c.in-Some-next_hulls.ensures c.requires.tree c.requires.right c.requires.due
+            (λ k. at c.set_hulls.new.store k) c.set_hulls.ensures.others c.set_hulls.ensures.present c.set_hulls.ensures.hulls c.in-Some-parent_at.parent up,
             (
-              step_due (λ k. at c.args.store.now k) c.args.id (grown_of c.args.due) c.in-Some.old c.in-Some-next_hulls.new e.0 e.1 c.in-Some.ensures c.in-Some-next_hulls.ensures c.requires.tree c.requires.right c.requires.due (λ k. at c.set_hulls.new.store k) c.set_hulls.ensures.others c.set_hulls.ensures.present c.set_hulls.ensures.hulls c.in-Some-parent_at.parent up (grown_of c.above-above.result) (grown_above _ _ _ _ c.above-above.ensures),
+              step_due (λ k. at c.args.store.now k) c.args.id (grown_of c.args.due) c.in-Some.old c.in-Some-next_hulls.new e.0 e.1
+              c.in-Some.ensures c.in-Some-next_hulls.ensures c.requires.tree c.requires.right c.requires.due
+              (λ k. at c.set_hulls.new.store k) c.set_hulls.ensures.others c.set_hulls.ensures.present c.set_hulls.ensures.hulls c.in-Some-parent_at.parent up (grown_of c.above-above.result) (grown_above _ _ _ _ c.above-above.ensures),
               (
-                step_within (λ k. at c.args.store.now k) c.args.id (grown_of c.args.due) c.in-Some.old c.in-Some-next_hulls.new e.0 e.1 c.in-Some.ensures c.in-Some-next_hulls.ensures c.requires.tree c.requires.right c.requires.due (λ k. at c.set_hulls.new.store k) c.set_hulls.ensures.others c.set_hulls.ensures.present c.set_hulls.ensures.hulls c.in-Some-parent_at.parent up c.place_at.result c.above-above.result c.above-above.ensures,
+                step_within (λ k. at c.args.store.now k) c.args.id (grown_of c.args.due) c.in-Some.old c.in-Some-next_hulls.new e.0 e.1
+                c.in-Some.ensures c.in-Some-next_hulls.ensures c.requires.tree c.requires.right c.requires.due
+                (λ k. at c.set_hulls.new.store k) c.set_hulls.ensures.others c.set_hulls.ensures.present c.set_hulls.ensures.hulls c.in-Some-parent_at.parent up c.place_at.result c.above-above.result c.above-above.ensures,
                 omega arith,
               ),
             ),
@@ -44,7 +54,8 @@ returns-then-not-is_like-clause-right t c =
 pub returns-else-not-is_like-clause-right : goal.returns-else-not-is_like-clause-right
 returns-else-not-is_like-clause-right t c =
     let e = is_there _ c.requires.here in
-    step_kept (λ k. at c.args.store.now k) c.args.id (grown_of c.args.due) c.in-Some.old c.in-Some-next_hulls.new e.0 e.1 c.in-Some.ensures c.in-Some-next_hulls.ensures c.requires.tree c.requires.right c.requires.due (sym c.is_like.ensures ∙ (let w = c.if-not-is_like in (cc)))
+    step_kept (λ k. at c.args.store.now k) c.args.id (grown_of c.args.due) c.in-Some.old c.in-Some-next_hulls.new e.0 e.1
+    c.in-Some.ensures c.in-Some-next_hulls.ensures c.requires.tree c.requires.right c.requires.due (sym c.is_like.ensures ∙ (let w = c.if-not-is_like in (cc)))
 
 pub returns-in-Some-parent_at-clause-present : goal.returns-in-Some-parent_at-clause-present
 returns-in-Some-parent_at-clause-present t c k =
