@@ -5,7 +5,7 @@ use Rattle.cga_forest.specs.declared.entry.Entry.{Entry}
 use Rattle.cga_kept_hulls.specs.declared.hulls.Hulls.{Hulls}
 use Rattle.cga_kept_hulls.specs.Hull.{over, with_hulls, at_hulls, holds_hulls, alike, grown_from}
 use Rattle.cga_forest.specs.declared.due.Due.{Due}
-use Rattle.cga_forest.specs.declared.due.Due.TheVariants.{All, Grown, Within}
+use Rattle.cga_forest.specs.declared.due.Due.TheVariants.{Grown, Moved}
 use Rattle.cga_forest.specs.Due.{HoldsAll, due_above, grown_of}
 use Rattle.cga_forest.specs.Hull.{own_hulls, hulls_known}
 use Rattle.cga_forest.specs.View.{Seen, seen, last_from, flag_if, hulls_of, present_of, rehulled, kids}
@@ -13,7 +13,7 @@ use Rattle.cga_forest.specs.Tree.{IsRight, AllRight, RightBut, IsDue, hulls_now,
 use Rattle.cga_tree.specs.Tree.{IsTree}
 use Rattle.cga_fraction.proofs.Door.{eq_or_ne as nat_cases}
 use Rattle.std.proofs.lemmas.Bool.{and_from as pair, cases_Bool as bool_cases}
-use Rattle.cga_kept_hulls.proofs.Door.{alike_itself, alike_turned, grown_alike, less_held}
+use Rattle.cga_kept_hulls.proofs.Door.{alike_itself, alike_turned, grown_alike, inside_held}
 use Rattle.cga_forest.proofs.Tree.{IsTree-same}
 pub use Rattle.cga_fraction.proofs.Door.{Some_from_is_some as is_there}
 
@@ -126,25 +126,26 @@ module _ (T : ℕ → Option Seen) (H J : ℕ → Option Hulls) (tree : IsTree T
           let ne : p ≢ id = (λ s. not_own_child e.index id (ap (λ (y : Seen). slice_get y.children e.index) (sym (same_seen d p t s)) ∙ at) refl) in
           due_at old was p ne d at (but p d ne t) mine k h g
 
-      -- and what it has, where they lie within the former ones
-      within_at : (old : Hulls) → H id ≡ Some old → holds_hulls old new ≡ true → (p : ℕ) → p ≢ id → (d : Seen)
-          → (r : IsRight H p d) → (mine : Hulls) → J p ≡ Some mine
+      -- and what it has, where its own hold this node's
+      within_at : (p : ℕ) → p ≢ id → (d : Seen) → (r : IsRight H p d) → (mine : Hulls) → J p ≡ Some mine
+          → holds_hulls mine new ≡ true
           → holds_hulls mine (over J (own_hulls d.node) d.children (length d.children)) ≡ true
-      within_at old was less p ne d r mine h =
+      within_at p ne d r mine h inside =
           let y : Some mine ≡ Some r.0 = sym h ∙ others p ne ∙ r.1 in
           let m : mine ≡ r.0 = (cc) in
-          rw m (less_held H J id old new was w others less (own_hulls d.node) d.children r.0 r.2)
+          inside_held H J id new w others (own_hulls d.node) d.children mine
+          (ap (λ x. alike x (over H (own_hulls d.node) d.children (length d.children))) m ∙ r.2) inside
 
-      pub within_up : (old : Hulls) → H id ≡ Some old → holds_hulls old new ≡ true → (p : ℕ) → e.parent ≡ Some p
-          → (d : Seen) (mine : Hulls) → T p ≡ Some d → J p ≡ Some mine
+      pub within_up : (p : ℕ) → e.parent ≡ Some p → (d : Seen) (mine : Hulls) → T p ≡ Some d → J p ≡ Some mine
+          → holds_hulls mine new ≡ true
           → holds_hulls mine (over J (own_hulls d.node) d.children (length d.children)) ≡ true
-      within_up old was less p up d mine t h =
+      within_up p up d mine t h inside =
           let x = tree.up id p e here up in
           let z : Some x.0 ≡ Some d = sym x.1 ∙ t in
           let q : x.0 ≡ d = (cc) in
           let at : slice_get d.children e.index ≡ Some id = ap (λ (s : Seen). slice_get s.children e.index) (sym q) ∙ x.2 in
           let ne : p ≢ id = (λ s. not_own_child e.index id (ap (λ (y : Seen). slice_get y.children e.index) (sym (same_seen d p t s)) ∙ at) refl) in
-          within_at old was less p ne d (but p d ne t) mine h
+          within_at p ne d (but p d ne t) mine h inside
 
 -- hulls are kept that hold those of all and are held by them
 pub right_still : (T : ℕ → Option Seen) (H : ℕ → Option Hulls) (id : ℕ) (e : Seen) (old : Hulls) → T id ≡ Some e
@@ -177,21 +178,19 @@ pub hulls_now_of : (H : ℕ → Option Hulls) (s : Option Entry) (e : Entry) (ow
 hulls_now_of H s e own h q o r = ap (hulls_now H) q ∙ ap (λ w. Some (over H w e.children.items (length e.children.items))) (sym o) ∙ ap (λ w. Some w) (sym r)
 
 -- what the parent of a node is told
-within_told : (grew less : Bool) (new : Hulls) (place i : ℕ)
-    → (if grew then Grown new else (if less then Within place else All)) ≡ Within i → less ≡ true
-within_told true less new place i q = absurd (cc)
-within_told false true new place i q = refl
-within_told false false new place i q = absurd (cc)
+moved_told : (grew : Bool) (new k : Hulls) (place i : ℕ) → (if grew then Grown new else Moved place new) ≡ Moved i k
+    → new ≡ k
+moved_told true new k place i q = absurd (cc)
+moved_told false new k place i q = (cc)
 
-grown_told : (grew less : Bool) (new : Hulls) (place : ℕ)
-    → grown_of (if grew then Grown new else (if less then Within place else All)) ≡ (if grew then Some new else None)
-grown_told true less new place = refl
-grown_told false true new place = refl
-grown_told false false new place = refl
+grown_told : (grew : Bool) (new : Hulls) (place : ℕ)
+    → grown_of (if grew then Grown new else Moved place new) ≡ (if grew then Some new else None)
+grown_told true new place = refl
+grown_told false new place = refl
 
 pub grown_above : (new old : Hulls) (place : ℕ) (told : Due) → told ≡ due_above new old place
     → grown_of told ≡ grown_from new old
-grown_above new old place told q = ap grown_of q ∙ grown_told (holds_hulls new old) (holds_hulls old new) new place
+grown_above new old place told q = ap grown_of q ∙ grown_told (holds_hulls new old) new place
 
 -- ---- the same at slots
 
@@ -287,11 +286,11 @@ module _ (s : ℕ → Option Entry) (id : ℕ) (g : Option Hulls) (old new : Hul
 
     pub step_within : (p : ℕ) → parent_of (t id) ≡ Some p → (place : ℕ) (told : Due) → told ≡ due_above new old place
         → HoldsAll (λ c. present_of (t c)) (λ c. hulls_of (t c)) p told
-    step_within p up place told is_told d mine i x h q =
-        let less = within_told _ _ new place i (sym is_told ∙ q) in
+    step_within p up place told is_told d mine k i x h q inside =
+        let same = moved_told (holds_hulls new old) new k place i (sym is_told ∙ q) in
         let above = sym (parent_present (t id) e here_now) ∙ up in
         within_up (λ c. present_of (t c)) (λ c. hulls_of (s c)) (λ c. hulls_of (t c)) tree_now id e here_now (λ c n. ap hulls_of (others c n))
-        new written made but_now old (sym was) less p above d mine x h
+        new written made but_now p above d mine x h (ap (holds_hulls mine) same ∙ inside)
 
     pub parent_there : (p : ℕ) → parent_of (t id) ≡ Some p → is_some (present_of (t p)) ≡ true
     parent_there p up = let u = tree_now.up id p e here_now (sym (parent_present (t id) e here_now) ∙ up) in ap is_some u.1

@@ -3,7 +3,7 @@ use Rattle.std.specs.Prelude.{◌≡◌, ℕ, length, Option, Some, None, true, 
 use Rattle.cga_kept_hulls.specs.declared.hulls.Hulls.{Hulls}
 use Rattle.cga_kept_hulls.specs.Hull.{holds_hulls, over}
 use Rattle.cga_forest.specs.declared.due.Due.{Due}
-use Rattle.cga_forest.specs.declared.due.Due.TheVariants.{All, Grown, Within}
+use Rattle.cga_forest.specs.declared.due.Due.TheVariants.{Grown, Moved}
 use Rattle.cga_forest.specs.Hull.{own_hulls}
 use Rattle.cga_forest.specs.View.{Seen}
 
@@ -14,9 +14,9 @@ grown_of due = None
 
 -- what the parent of a node is told whose hulls changed
 abbrev pub due_above : Hulls → Hulls → ℕ → Due
-due_above new old place = if holds_hulls new old then Grown new else (if holds_hulls old new then Within place else All)
+due_above new old place = if holds_hulls new old then Grown new else Moved place new
 
--- where a child's hulls lie within its former ones, the node's own hold those of all
+-- where the node's own hulls hold those to which a child's changed, they hold those of all
 abbrev pub HoldsAll : (ℕ → Option Seen) → (ℕ → Option Hulls) → ℕ → Due → Type 0
-HoldsAll T H id due = (e : Seen) (old : Hulls) (place : ℕ) → T id ≡ Some e → H id ≡ Some old → due ≡ Within place
-    → holds_hulls old (over H (own_hulls e.node) e.children (length e.children)) ≡ true
+HoldsAll T H id due = (e : Seen) (old k : Hulls) (place : ℕ) → T id ≡ Some e → H id ≡ Some old → due ≡ Moved place k
+    → holds_hulls old k ≡ true → holds_hulls old (over H (own_hulls e.node) e.children (length e.children)) ≡ true

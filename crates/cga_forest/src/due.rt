@@ -10,8 +10,8 @@ pub enum Due {
     All,
     /// The hulls of one child alone changed, and grew to these.
     Grown(Hulls),
-    /// Those of the child at this place alone changed, and lie within its former ones.
-    Within(usize),
+    /// Those of the child at this place alone changed, to these, and not by growing.
+    Moved(usize, Hulls),
 }
 
 impl Due {
@@ -21,10 +21,8 @@ impl Due {
     {
         if new.holds(old) {
             Due::Grown(*new)
-        } else if old.holds(new) {
-            Due::Within(place)
         } else {
-            Due::All
+            Due::Moved(place, *new)
         }
     }
 }

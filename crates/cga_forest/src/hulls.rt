@@ -1,7 +1,8 @@
 //! Hulls of nodes, brought up to date from those of their children.
 ghost use Rattle.std.specs.Prelude.{IsSome, true, ◌≢◌, ◌≡◌, ◌<◌, ℕ, length, slice_get, Some, None, is_some};
+ghost use Rattle.cga_kept_hulls.specs.declared.hulls.Hulls.{Hulls};
 ghost use Rattle.cga_kept_hulls.specs.Hull.{at_hulls, holds_hulls, over, with_hulls};
-ghost use Rattle.cga_forest.specs.declared.due.Due.TheVariants.{Within};
+ghost use Rattle.cga_forest.specs.declared.due.Due.TheVariants.{Moved};
 ghost use Rattle.cga_forest.specs.declared.entry.Entry.{Entry as Kept};
 ghost use Rattle.cga_forest.specs.Due.{HoldsAll, grown_of};
 ghost use Rattle.cga_forest.specs.Hull.{own_hulls};
@@ -64,7 +65,7 @@ fn next_hulls(store: &Store, id: usize, due: &Due) -> Option<Hulls>
             Some(entry) => Some(entry.known_hulls().with(&Some(*grown))),
             None => None,
         },
-        Due::All | Due::Within(_) => hulls_over(store, id),
+        Due::All | Due::Moved(_, _) => hulls_over(store, id),
     }
 }
 
@@ -94,15 +95,15 @@ fn some_hold(store: &Store, entry: &Entry, place: usize, old: &Hulls) -> bool
     hulls.holds(old)
 }
 
-/// Whether a node's hulls are right still, though those of one child lie within its former ones now: then a few children
+/// Whether a node's hulls are right still, though those of one child changed: where they hold the new ones, a few children
 /// tell it mostly, and the others needn't be looked at.
 fn are_kept(store: &Store, id: usize, due: &Due, old: &Hulls) -> bool
-    ensures { result ≡ true → (place : ℕ) × (due.now ≡ Within place) × ((e : Kept) → at store.now id ≡ Some e
+    ensures { result ≡ true → (place : ℕ) × (k : Hulls) × (due.now ≡ Moved place k) × (holds_hulls old.now k ≡ true) × ((e : Kept) → at store.now id ≡ Some e
         → holds_hulls (over (λ c. hulls_of (at store.now c)) (own_hulls e.node) e.children.items (length e.children.items)) old.now ≡ true) }
 {
     match due {
-        Due::Within(place) => match store.get(id) {
-            Some(entry) => some_hold(store, entry, *place, old),
+        Due::Moved(place, hulls) => match store.get(id) {
+            Some(entry) => old.holds(hulls) && some_hold(store, entry, *place, old),
             None => false,
         },
         Due::All | Due::Grown(_) => false,

@@ -191,26 +191,21 @@ module _ (H J : ℕ → Option Hulls) (id : ℕ) (old new : Hulls) (was : H id �
       → alike (with_hulls h (Some new)) (over J own xs (length xs)) ≡ true
   grown_alike h a = probed_alike _ _ (λ p. grown_probed p h a)
 
--- ---- one child's hulls changed, and they lie within its former ones
+-- ---- one child's hulls changed, and lie within those of all
 
-module _ (H J : ℕ → Option Hulls) (id : ℕ) (old new : Hulls) (was : H id ≡ Some old) (is : J id ≡ Some new) (others : (c : ℕ) → c ≢ id → J c ≡ H c) (less : holds_hulls old new ≡ true)
-    (own : Hulls) (xs : List ℕ) where
-  less_probed : (p : Probe) → probed p (over H own xs (length xs)) ≡ true → (i k : ℕ) (h : Hulls)
-      → slice_get xs i ≡ Some k → J k ≡ Some h → probed p h ≡ true
-  less_probed p t i k h at e = elim (nat_cases k id) [
-    | inl q ↦ (
-        let z : Some h ≡ Some new = sym e ∙ ap J q ∙ is in
-        let y : h ≡ new = (cc) in
-        ap (probed p) y ∙ probed_chain p old new less (over_child p H own xs (length xs) t i k old (within xs i k at) at (ap H q ∙ was)))
-    | inr ne ↦ over_child p H own xs (length xs) t i k h (within xs i k at) at (sym (others k ne) ∙ e)
+module _ (H J : ℕ → Option Hulls) (id : ℕ) (new : Hulls) (is : J id ≡ Some new) (others : (c : ℕ) → c ≢ id → J c ≡ H c) (own : Hulls) (xs : List ℕ) (h : Hulls)
+    (right : alike h (over H own xs (length xs)) ≡ true) (inside : holds_hulls h new ≡ true) where
+  inside_probed : (p : Probe) → probed p h ≡ true → (i k : ℕ) (x : Hulls) → slice_get xs i ≡ Some k → J k ≡ Some x
+      → probed p x ≡ true
+  inside_probed p t i k x at e = elim (nat_cases k id) [
+    | inl q ↦ (let z : Some x ≡ Some new = sym e ∙ ap J q ∙ is in let y : x ≡ new = (cc) in ap (probed p) y ∙ probed_chain p h new inside t)
+    | inr ne ↦ over_child p H own xs (length xs) (sym (alike_probed p h (over H own xs (length xs)) right) ∙ t) i k x (within xs i k at) at (sym (others k ne) ∙ e)
   ]
 
-  -- then the old hulls of all hold the new ones of all
-  pub less_held : (h : Hulls) → alike h (over H own xs (length xs)) ≡ true
-      → holds_hulls h (over J own xs (length xs)) ≡ true
-  less_held h a = holds_from h _ (λ p t.
-      let u : probed p (over H own xs (length xs)) ≡ true = sym (alike_probed p h (over H own xs (length xs)) a) ∙ t in
-      over_all p J own xs (length xs) (over_own p H own xs (length xs) u) (less_probed p u))
+  -- then these hold the new ones of all
+  pub inside_held : holds_hulls h (over J own xs (length xs)) ≡ true
+  inside_held = holds_from h _ (λ p t.
+      over_all p J own xs (length xs) (over_own p H own xs (length xs) (sym (alike_probed p h (over H own xs (length xs)) right) ∙ t)) (inside_probed p t))
 
 -- ---- hulls of a node and some of its children
 

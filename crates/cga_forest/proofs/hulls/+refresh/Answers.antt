@@ -20,24 +20,24 @@ refresh-requires t c =
       omega arith,
       (
         tree_now (λ k. at c.args.store.now k) c.args.id (grown_of c.args.due) c.in-Some.old c.in-Some-next_hulls.new e.0 e.1
-        c.in-Some.ensures c.in-Some-next_hulls.ensures c.requires.tree c.requires.right c.requires.due
-        (λ k. at c.set_hulls.new.store k) c.set_hulls.ensures.others c.set_hulls.ensures.present c.set_hulls.ensures.hulls,
+            c.in-Some.ensures c.in-Some-next_hulls.ensures c.requires.tree c.requires.right c.requires.due
+            (λ k. at c.set_hulls.new.store k) c.set_hulls.ensures.others c.set_hulls.ensures.present c.set_hulls.ensures.hulls,
         (
           parent_there (λ k. at c.args.store.now k) c.args.id (grown_of c.args.due) c.in-Some.old c.in-Some-next_hulls.new e.0 e.1
-          c.in-Some.ensures c.in-Some-next_hulls.ensures c.requires.tree c.requires.right c.requires.due
-          (λ k. at c.set_hulls.new.store k) c.set_hulls.ensures.others c.set_hulls.ensures.present c.set_hulls.ensures.hulls c.in-Some-parent_at.parent up,
+              c.in-Some.ensures c.in-Some-next_hulls.ensures c.requires.tree c.requires.right c.requires.due
+              (λ k. at c.set_hulls.new.store k) c.set_hulls.ensures.others c.set_hulls.ensures.present c.set_hulls.ensures.hulls c.in-Some-parent_at.parent up,
           (
             step_up (λ k. at c.args.store.now k) c.args.id (grown_of c.args.due) c.in-Some.old c.in-Some-next_hulls.new e.0 e.1
-            c.in-Some.ensures c.in-Some-next_hulls.ensures c.requires.tree c.requires.right c.requires.due
-            (λ k. at c.set_hulls.new.store k) c.set_hulls.ensures.others c.set_hulls.ensures.present c.set_hulls.ensures.hulls c.in-Some-parent_at.parent up,
+                c.in-Some.ensures c.in-Some-next_hulls.ensures c.requires.tree c.requires.right c.requires.due
+                (λ k. at c.set_hulls.new.store k) c.set_hulls.ensures.others c.set_hulls.ensures.present c.set_hulls.ensures.hulls c.in-Some-parent_at.parent up,
             (
               step_due (λ k. at c.args.store.now k) c.args.id (grown_of c.args.due) c.in-Some.old c.in-Some-next_hulls.new e.0 e.1
-              c.in-Some.ensures c.in-Some-next_hulls.ensures c.requires.tree c.requires.right c.requires.due
-              (λ k. at c.set_hulls.new.store k) c.set_hulls.ensures.others c.set_hulls.ensures.present c.set_hulls.ensures.hulls c.in-Some-parent_at.parent up (grown_of c.above-above.result) (grown_above _ _ _ _ c.above-above.ensures),
+                  c.in-Some.ensures c.in-Some-next_hulls.ensures c.requires.tree c.requires.right c.requires.due
+                  (λ k. at c.set_hulls.new.store k) c.set_hulls.ensures.others c.set_hulls.ensures.present c.set_hulls.ensures.hulls c.in-Some-parent_at.parent up (grown_of c.above-above.result) (grown_above _ _ _ _ c.above-above.ensures),
               (
                 step_within (λ k. at c.args.store.now k) c.args.id (grown_of c.args.due) c.in-Some.old c.in-Some-next_hulls.new e.0 e.1
-                c.in-Some.ensures c.in-Some-next_hulls.ensures c.requires.tree c.requires.right c.requires.due
-                (λ k. at c.set_hulls.new.store k) c.set_hulls.ensures.others c.set_hulls.ensures.present c.set_hulls.ensures.hulls c.in-Some-parent_at.parent up c.place_at.result c.above-above.result c.above-above.ensures,
+                    c.in-Some.ensures c.in-Some-next_hulls.ensures c.requires.tree c.requires.right c.requires.due
+                    (λ k. at c.set_hulls.new.store k) c.set_hulls.ensures.others c.set_hulls.ensures.present c.set_hulls.ensures.hulls c.in-Some-parent_at.parent up c.place_at.result c.above-above.result c.above-above.ensures,
                 omega arith,
               ),
             ),
@@ -92,6 +92,6 @@ returns-then-are_kept-clause-right t c =
     let x = present_some (at c.args.store.now c.args.id) e.0 e.1 in
     let kept = c.are_kept.ensures c.if-are_kept.true in
     right_still (λ k. present_of (at c.args.store.now k)) H c.args.id e.0 c.in-Some.old e.1 (sym c.in-Some.ensures)
-    (c.requires.within e.0 c.in-Some.old kept.0 e.1 (sym c.in-Some.ensures) kept.1)
-    (subst (λ (s : Seen). holds_hulls (over H (own_hulls s.node) s.children (length s.children)) c.in-Some.old ≡ true) x.2 (kept.2 x.0 x.1))
+    (c.requires.within e.0 c.in-Some.old kept.1 kept.0 e.1 (sym c.in-Some.ensures) kept.2 kept.3)
+    (subst (λ (s : Seen). holds_hulls (over H (own_hulls s.node) s.children (length s.children)) c.in-Some.old ≡ true) x.2 (kept.4 x.0 x.1))
     c.requires.right

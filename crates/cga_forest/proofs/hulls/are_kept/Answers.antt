@@ -1,14 +1,16 @@
-use Rattle.std.proofs.Common.{◌≡◌, ℕ, Some, true, length, subst, ◌∙◌}
+use Rattle.std.proofs.Common.{◌≡◌, ℕ, Some, true, length, subst, sym, ◌∙◌}
 use Rattle.cga_kept_hulls.specs.Hull.{holds_hulls, over}
 use Rattle.cga_forest.specs.declared.entry.Entry.{Entry}
 use Rattle.cga_forest.specs.Hull.{own_hulls}
 use Rattle.cga_forest.specs.View.{at, hulls_of}
 use Rattle.cga_forest.proofs.hulls.are_kept.Goals as goal
 
-pub returns-in-Some : goal.returns-in-Some
-returns-in-Some c told = (
-  c.in-Within.place,
-  c.in-Within.is,
+pub returns-then-holds : goal.returns-then-holds
+returns-then-holds c told = (
+  c.in-Moved.place,
+  c.in-Moved.hulls,
+  c.in-Moved.is,
+  sym c.holds.ensures ∙ c.if-holds.true,
   λ e is.
       let z : Some c.in-Some.entry.now ≡ Some e = c.in-Some.ensures ∙ is in
       let same : c.in-Some.entry.now ≡ e = (cc) in
