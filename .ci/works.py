@@ -89,6 +89,13 @@ def ladder(levels):
     return city(f"attr h = 2\n{rules}lot l 1 0 0 4000 {levels + 1} a\n")
 
 
+def wide(lots):
+    """A lot is a row of four thousand leaves."""
+    rules = '1: a -> Repeat("X", 1) { leaf }\n2: leaf -> S(1r, h, 1r) I("cube")\n'
+    rows = "".join(f"lot l{number} 1 0 {20 * number} 4000 10 a\n" for number in range(lots))
+    return city(f"attr h = 2\n{rules}{rows}")
+
+
 def doubled(order):
     """Shapes that double until the budget is spent."""
     rules = '1: a : Scope.sx > 0.005 -> Subdiv("X", 1r, 1r) { a | a }\n2: a -> NIL\n'
@@ -132,6 +139,7 @@ def grammars():
     yield Work(EDIT, "an attribute of one shape, 512 rules, 128 attributes", large_grammar(), values)
     yield Work(LINE, "16 former sources of 2 MB of rules", "", [long_rules()])
     yield Work(EDIT, "an attribute of a ladder of 24 levels, 4,000 leaves on each", ladder(24), ["attr h = 3\n"])
+    yield Work(EDIT, "an attribute that shrinks 24 rows of 4,000 leaves", wide(24), ["attr h = 1\n"])
     for order in ("breadth", "depth"):
         yield Work(LINE, f"doubled up to the budget, {order}", "", [doubled(order)])
     yield Work(LINE, "two chains of depth 256 that ask", "", [chains()])
