@@ -6,6 +6,8 @@ pub use Rattle.cga_city.proofs.Accounts.{accounted, come_few, reported_few}
 pub use Rattle.cga_city.proofs.Again.{applied_sound, whole_applied}
 -- What a derivation within a budget comes to, and when it is refused
 pub use Rattle.cga_city.proofs.Deriving.{empty_derived, few_members}
+-- At a place of lots there is one
+pub use Rattle.cga_city.proofs.Hulls.{lot_within}
 -- What a city keeps: its forest has the members of its derivation, before and after an edit
 pub use Rattle.cga_city.proofs.Kept.{empty_sound}
 -- The names of lots: they stay apart as lots come and go

@@ -1,19 +1,16 @@
 -- A root's hull is the least box that holds the boxes of all members of its lot, and each lot has a root.
-use Rattle.std.proofs.Common.{◌≡◌, ◌↔◌, ℕ, zero, suc, List, [], ◌∷◌, ◌++◌, true, false, inl, inr, refl, sym, ap, ◌∙◌, subst, Some, Result, Ok, Err, slice_get, ◌<◌, length, arith}
-use Rattle.std.specs.Prelude.{IsOk, slice_index_or}
-use Rattle.std.proofs.lemmas.Option.{slice_get-get_or}
+use Rattle.std.proofs.Common.{◌≡◌, ◌↔◌, ℕ, zero, suc, List, [], ◌∷◌, true, false, inl, inr, refl, sym, ap, ◌∙◌, subst, None, Some, Result, Ok, Err, slice_get, ◌<◌, length, arith}
+use Rattle.std.specs.Prelude.{IsOk}
 use Rattle.std.specs.List.{AllByRecursion}
 use Rattle.std.proofs.lemmas.List.Elements.{recursion_from_All}
 use Rattle.cga_frame.specs.Box.{Box, box_of, holds}
 use Rattle.cga_frame.specs.Scope.{Scope}
 use Rattle.cga_frame.specs.declared.scope_fault.ScopeFault.{ScopeFault}
-use Rattle.cga_order.specs.World.{Among}
 use Rattle.cga_shape.specs.declared.lot.Lot.{Lot}
 use Rattle.cga_shape.specs.declared.shape.Shape.{Shape}
 use Rattle.cga_shape.specs.declared.sources.Sources.{Sources}
 use Rattle.cga_shape.specs.Root.{root_in, root_of, root_scope}
 use Rattle.cga_expand.specs.Children.{Member}
-use Rattle.cga_expand.specs.Derivation.{made, roots_of}
 use Rattle.cga_index.specs.Tree as trees
 use Rattle.cga_index.specs.Tree.{below}
 use Rattle.cga_index.proofs.Door.{member_at as at_member}
@@ -32,7 +29,7 @@ use Rattle.cga_city.specs.Nodes.{AreOfLot, HasNodes, from_root, member_of}
 use Rattle.cga_city.proofs.LotNodes.{among_from, lot_listed, lot_to}
 use Rattle.cga_city.proofs.Nodes.{among_has, has_among}
 use Rattle.cga_city.proofs.Plain.{good_root}
-use Rattle.cga_expand.proofs.Door.{among_behind_made as behind, root_among}
+use Rattle.cga_expand.proofs.Door.{root_among}
 
 -- ---- what is listed below a node is under it, and the other way round
 
@@ -93,9 +90,14 @@ has_root s sound kept stands i lot at =
     let top = stands.forest.nodes.city.tops.tops root.0 (root_among s.lots i lot root.0 at root.1) in
     (top.0, (top.1, top.2, top.3, ap (λ (n : Shape). n.lot) top.4 ∙ root.2))
 
--- the lot at a place of what is kept
-pub lot_there : (old now : CityState) → old ≡ now → (seen : List Lot) (place : ℕ) (lot : Lot) → seen ≡ old.sources.lots
-    → place < length now.sources.lots → slice_get old.sources.lots place ≡ Some (slice_index_or seen place lot)
-lot_there old now same seen place lot listed within =
-    let inside : place < length old.sources.lots = subst (λ (c : CityState). place < length c.sources.lots) (sym same) within in
-    slice_get-get_or old.sources.lots place lot inside ∙ ap (λ ls. Some (slice_index_or ls place lot)) (sym listed)
+-- at a place of lots there is one
+pub lot_within : (lots : List Lot) (place : ℕ) → place < length lots → slice_get lots place ≡ None → ⊥
+lot_within [] place within none = absurd (omega (arith, within))
+lot_within (lot ∷ lots) zero within none = absurd (cc)
+lot_within (lot ∷ lots) (suc place) within none = lot_within lots place (omega (arith, within)) none
+
+-- and so in what is kept
+pub lot_there : (old now : CityState) → old ≡ now → (place : ℕ) → place < length now.sources.lots
+    → slice_get old.sources.lots place ≡ None → ⊥
+lot_there old now same place within =
+    lot_within old.sources.lots place (subst (λ (c : CityState). place < length c.sources.lots) (sym same) within)

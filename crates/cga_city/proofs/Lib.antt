@@ -1,5 +1,6 @@
 mod Sorting
 mod Reporting
+mod Runs
 mod Names
 mod Plain
 mod Faultless

@@ -23,6 +23,11 @@ drawn_step lots list i lot old new all h at made kept =
     ∙ ap (λ (l : Lot). old ++ drawn_in (names_of (l ∷ drop (i + 1) lots)) list) at
     ∙ sym (at_drop_more (λ (r : List Lot). old ++ drawn_in (names_of r) list) lots i lot h) ∙ kept)
 
+-- no lots
+pub drawn_none : (list : List Member) (old all : List Drawn) → old ++ drawn_in (names_of []) list ≡ all → old ≡ all
+unfolding drawn_in
+drawn_none list old all kept = sym (append-nil old) ∙ kept
+
 pub drawn_end : (lots : List Lot) (list : List Member) (i : ℕ) (old all : List Drawn) → length lots ≤ i
     → old ++ drawn_in (names_of (drop i lots)) list ≡ all → old ≡ all
 unfolding drawn_in
@@ -37,6 +42,12 @@ faults_step lots list i lot old new all h at made kept =
     rw made (append_assoc old (flat_map fault_of (members_of lot.name list)) (faults_in (names_of (drop (i + 1) lots)) list)
     ∙ ap (λ (l : Lot). old ++ faults_in (names_of (l ∷ drop (i + 1) lots)) list) at
     ∙ sym (at_drop_more (λ (r : List Lot). old ++ faults_in (names_of r) list) lots i lot h) ∙ kept)
+
+-- no lots
+pub faults_none : (list : List Member) (old all : List FaultLine) → old ++ faults_in (names_of []) list ≡ all
+    → old ≡ all
+unfolding faults_in
+faults_none list old all kept = sym (append-nil old) ∙ kept
 
 pub faults_end : (lots : List Lot) (list : List Member) (i : ℕ) (old all : List FaultLine) → length lots ≤ i
     → old ++ faults_in (names_of (drop i lots)) list ≡ all → old ≡ all

@@ -9,7 +9,7 @@ use crate::edits::{
     drop_rule, put, rules, set_attribute, set_lot, set_order, set_priority, unlot, whole,
 };
 use crate::lots::{has_symbol, lot_place};
-use cga_shape::{Edit, EditRefused, Lot, Sources};
+use cga_shape::{Edit, EditRefused, Lot, Lots, Sources};
 use cga_update::ChangedLots;
 use cga_word::Name;
 use std::alloc::Global;
@@ -25,7 +25,7 @@ fn told(made: Result<Sources, EditRefused>, lots: ChangedLots) -> Result<Edited,
 }
 
 // The lots that another priority of a symbol changes.
-fn priced(lots: &[Lot], symbol: Name) -> ChangedLots
+fn priced(lots: &Lots, symbol: Name) -> ChangedLots
     ensures { result ≡ priced lots.now symbol }
 {
     if has_symbol(lots, symbol) {
@@ -38,9 +38,8 @@ fn priced(lots: &[Lot], symbol: Name) -> ChangedLots
 fn with_lot(alloc: Global, sources: &Sources, lot: Lot) -> Result<Edited, EditRefused>
     ensures { Makes sources.now (Edit.SetLot lot) result }
 {
-    let lots = sources.lots.as_slice();
-    let place = lot_place(lots, lot.name);
-    let come = place.unwrap_or(lots.len());
+    let place = lot_place(&sources.lots, lot.name);
+    let come = place.unwrap_or(sources.lots.len());
     let made = set_lot(alloc, sources, lot, place);
     told(made, ChangedLots::One(place, Some(come)))
 }
@@ -48,7 +47,7 @@ fn with_lot(alloc: Global, sources: &Sources, lot: Lot) -> Result<Edited, EditRe
 fn without_lot(alloc: Global, sources: &Sources, name: Name) -> Result<Edited, EditRefused>
     ensures { Makes sources.now (Edit.Unlot name) result }
 {
-    let place = lot_place(sources.lots.as_slice(), name);
+    let place = lot_place(&sources.lots, name);
     let made = unlot(alloc, sources, name, place);
     told(made, ChangedLots::One(place, None))
 }
@@ -71,7 +70,7 @@ pub(crate) fn changed_sources(
             told(made, ChangedLots::Nothing)
         }
         Edit::SetPriority(symbol, priority) => {
-            let lots = priced(sources.lots.as_slice(), symbol);
+            let lots = priced(&sources.lots, symbol);
             told(set_priority(alloc, sources, symbol, priority), lots)
         }
         Edit::SetLot(lot) => with_lot(alloc, sources, lot),

@@ -21,7 +21,7 @@ use cga_expand::Expansions;
 use cga_fraction::{List, NoMemory, Tests};
 use cga_frame::WorldBox;
 use cga_rule::Grammar;
-use cga_shape::{Changes, Counts, Drawn, Edit, EditRefused, FaultLine, Lot, Sources, TraceStep};
+use cga_shape::{Changes, Counts, Drawn, Edit, EditRefused, FaultLine, Lots, Sources, TraceStep};
 use cga_trace::trace;
 use cga_update::{ChangedLots, Kept, Renewal, UpdateRefused, update};
 use cga_word::{Mode, Name};
@@ -190,12 +190,7 @@ impl City {
         ensures order { IfOk result (λ told. IfOk told (λ drawn. IfOk (spec.chosen self.now.sources.lots lot) (λ lots. StandsBy lots drawn))) }
         ensures solid { IfOk result (λ told. IfOk told AreSolid) }
     {
-        told(
-            self.alloc,
-            self.sources.lots.as_slice(),
-            lot,
-            &self.kept.forest,
-        )
+        told(self.alloc, &self.sources.lots, lot, &self.kept.forest)
     }
 
     /// The shapes that have no children, and why, in the same order. Takes memory.
@@ -203,7 +198,7 @@ impl City {
         requires { IsTrue self.now.warm }
         ensures { IfOk result (λ faults. faults ≡ spec.faults_of self.now.sources.lots (members self.now.budget self.now.sources)) }
     {
-        all_faults(self.alloc, self.sources.lots.as_slice(), &self.kept.forest)
+        all_faults(self.alloc, &self.sources.lots, &self.kept.forest)
     }
 
     /// The run of the sources: what the expansion of each shape told, in order. Takes memory.
@@ -222,8 +217,10 @@ impl City {
         ensures { IfSome (slice_get self.now.sources.lots place) (λ lot. IsHullOf lot.name (members self.now.budget self.now.sources) result) }
     {
         self.kept.forest.laws();
-        let lot = self.sources.lots.as_slice()[place].name;
-        match self.kept.forest.root_of(lot) {
+        let Some(lot) = self.sources.lots.get(place) else {
+            unreachable!();
+        };
+        match self.kept.forest.root_of(lot.name) {
             Some(root) => self.kept.forest.hull(root),
             None => unreachable!(),
         }
@@ -269,11 +266,11 @@ impl City {
         &self.sources.grammar
     }
 
-    pub fn lots(&self) -> &[Lot]
+    pub fn lots(&self) -> &Lots
         ensures value { result.now ≡ self.now.sources.lots }
         ensures distinct { IsDistinct bytes_eq (names_of result.now) }
     {
-        self.sources.lots.as_slice()
+        &self.sources.lots
     }
 
     pub fn sources(&self) -> &Sources

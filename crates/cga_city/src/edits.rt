@@ -8,7 +8,7 @@ use crate::grammars::{
     attribute_place, checked, has_rule, is_plain, put_rule, ranked, reprioritized, rule_place,
 };
 use crate::limits::MOST_LOTS;
-use crate::lots::{accepted, copied, finds_no_room, is_bad, put_lot, rooted};
+use crate::lots::{accepted, finds_no_room, is_bad, put_lot, rooted};
 use cga_fraction::{Fraction, List, Shared};
 use cga_rule::{Attribute, Entry, Grammar, Rule};
 use cga_shape::{Edit, EditRefused, Lot, Sources};
@@ -19,7 +19,7 @@ use std::alloc::Global;
 fn with_grammar(alloc: Global, sources: &Sources, grammar: Grammar) -> Result<Sources, EditRefused>
     ensures { Changes (with_grammar sources.now grammar) result }
 {
-    rooted(&grammar, sources.lots.as_slice())?;
+    rooted(&grammar, &sources.lots)?;
     Ok(Sources {
         grammar,
         lots: sources.lots.share()?,
@@ -142,7 +142,7 @@ pub(crate) fn set_lot(
     if is_bad(&lot) {
         return Err(EditRefused::BadLot(lot.name));
     }
-    if finds_no_room(&lot, sources.lots.as_slice(), place) {
+    if finds_no_room(&lot, &sources.lots, place) {
         return Err(EditRefused::TooManyLots);
     }
     let grammar = sources.grammar.copy(alloc)?;
@@ -168,11 +168,9 @@ pub(crate) fn unlot(
         return Err(EditRefused::NoLot(name));
     };
     let grammar = sources.grammar.copy(alloc)?;
-    let mut lots = copied(alloc, &sources.lots)?;
-    lots.remove(place);
     Ok(Sources {
         grammar,
-        lots: Shared::from_vec(alloc, lots)?,
+        lots: sources.lots.without(alloc, place)?,
         mode: sources.mode,
     })
 }
@@ -193,7 +191,7 @@ pub(crate) fn set_order(
 fn with_accepted(sources: &Sources, grammar: Grammar) -> Result<Sources, EditRefused>
     ensures { Changes (with_accepted sources.now grammar) result }
 {
-    accepted(&grammar, sources.lots.as_slice())?;
+    accepted(&grammar, &sources.lots)?;
     let lots = sources.lots.share()?;
     Ok(Sources {
         grammar,

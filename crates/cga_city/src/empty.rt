@@ -7,7 +7,7 @@ use cga_depend::Dependents;
 use cga_forest::Forest;
 use cga_fraction::{List, Shared};
 use cga_rule::Grammar;
-use cga_shape::{Changes, Sources};
+use cga_shape::{Changes, Lots, Sources};
 use cga_update::Kept;
 use cga_word::Mode;
 use std::alloc::Global;
@@ -21,7 +21,7 @@ pub(crate) fn empty_sources(alloc: Global, mode: Mode) -> Sources
             attributes: List::new(alloc),
             rules: Shared::new(),
         },
-        lots: Shared::new(),
+        lots: Lots::new(),
         mode,
     }
 }

@@ -12,7 +12,7 @@ use crate::walk::nodes_of_lot;
 use cga_forest::{Forest, Node};
 use cga_fraction::{List, NoMemory};
 use cga_index::NodeId;
-use cga_shape::{Drawn, FaultLine, Kind, Lot, Path};
+use cga_shape::{Drawn, FaultLine, Kind, Lot, Lots, Path};
 use cga_word::Name;
 use std::alloc::Global;
 
@@ -121,13 +121,28 @@ fn push_faults_in(
     Ok(())
 }
 
+// Adds what is drawn in a run of lots.
+fn push_drawn_by(
+    alloc: Global,
+    drawn: &mut List<Drawn>,
+    forest: &Forest,
+    run: &[Lot],
+) -> Result<(), NoMemory>
+    ensures { OnOk result (ForItsMembers forest.now (λ list. drawn.new ≡ drawn.old ++ spec.drawn_in (names_of run.now) list)) }
+{
+    for lot in run {
+        push_drawn_in(alloc, drawn, forest, lot.name)?;
+    }
+    Ok(())
+}
+
 /// The instances of all lots, with no walk but over the nodes of these lots.
-fn all_drawn(alloc: Global, lots: &[Lot], forest: &Forest) -> Result<List<Drawn>, NoMemory>
+fn all_drawn(alloc: Global, lots: &Lots, forest: &Forest) -> Result<List<Drawn>, NoMemory>
     ensures { IfOk result (λ drawn. ForItsMembers forest.now (λ list. drawn ≡ spec.drawn_in (names_of lots.now) list)) }
 {
     let mut drawn = List::new(alloc);
-    for lot in lots {
-        push_drawn_in(alloc, &mut drawn, forest, lot.name)?;
+    for run in lots.runs() {
+        push_drawn_by(alloc, &mut drawn, forest, run.as_slice())?;
     }
     Ok(drawn)
 }
@@ -144,7 +159,7 @@ fn lot_drawn(alloc: Global, lot: Name, forest: &Forest) -> Result<List<Drawn>, N
 /// The instances of all lots, or of the one that is named.
 pub(crate) fn told(
     alloc: Global,
-    lots: &[Lot],
+    lots: &Lots,
     name: Option<Name>,
     forest: &Forest,
 ) -> Result<Result<List<Drawn>, NoLot>, NoMemory>
@@ -161,17 +176,32 @@ pub(crate) fn told(
     }
 }
 
+// Adds the faults of a run of lots.
+fn push_faults_by(
+    alloc: Global,
+    faults: &mut List<FaultLine>,
+    forest: &Forest,
+    run: &[Lot],
+) -> Result<(), NoMemory>
+    ensures { OnOk result (ForItsMembers forest.now (λ list. faults.new ≡ faults.old ++ spec.faults_in (names_of run.now) list)) }
+{
+    for lot in run {
+        push_faults_in(alloc, faults, forest, lot.name)?;
+    }
+    Ok(())
+}
+
 /// The faults of all lots.
 pub(crate) fn all_faults(
     alloc: Global,
-    lots: &[Lot],
+    lots: &Lots,
     forest: &Forest,
 ) -> Result<List<FaultLine>, NoMemory>
     ensures { IfOk result (λ faults. ForItsMembers forest.now (λ list. faults ≡ spec.faults_of lots.now list)) }
 {
     let mut faults = List::new(alloc);
-    for lot in lots {
-        push_faults_in(alloc, &mut faults, forest, lot.name)?;
+    for run in lots.runs() {
+        push_faults_by(alloc, &mut faults, forest, run.as_slice())?;
     }
     Ok(faults)
 }

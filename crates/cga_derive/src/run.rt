@@ -198,7 +198,8 @@ impl<'a> Run<'a> {
         let mut streaks = Vec::new(alloc);
         let mut waiting = BTreeMap::new(alloc);
         let mut symbols = Symbols::new(alloc, &sources.grammar);
-        for lot in sources.lots.as_slice() {
+        let lots = sources.lots.to_vec(alloc)?;
+        for lot in lots.as_slice() {
             let found = symbols.of(lot.symbol)?;
             let key = root_key(alloc, sources.mode, lot.name, found.priority)?;
             let place = list.len();

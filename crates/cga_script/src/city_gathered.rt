@@ -11,10 +11,10 @@ use crate::named_lots::NamedLots;
 use cga_form::fault::Fault;
 use cga_form::tokens::Tokens;
 use cga_form::{BlockReader, Form, Gather};
-use cga_fraction::{NoMemory, Shared, Stop};
+use cga_fraction::{NoMemory, Stop};
 use cga_parser::Gathered;
 use cga_parser::block::block;
-use cga_shape::Sources;
+use cga_shape::{Lots, Sources};
 use cga_word::Mode;
 use std::alloc::Global;
 
@@ -92,7 +92,7 @@ impl Gather for CityGathered {
         ensures { (all : List (Option CityLine)) → Holds self all → IfOk result (λ sources. sources ≡ kept_of all) }
     {
         let grammar = self.rules.finish(alloc)?;
-        let lots = Shared::from_vec(alloc, self.lots.into_vec())?;
+        let lots = Lots::from_vec(alloc, self.lots.into_vec())?;
         Ok(Sources {
             grammar,
             lots,

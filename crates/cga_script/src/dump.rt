@@ -11,7 +11,7 @@ ghost use Rattle.cga_syntax.specs.Printing.{printed, HaveTexts};
 use crate::long_dump::LongDump;
 use cga_form::limits::LINE_LIMIT;
 use cga_fraction::{Fraction, List, NoMemory, Text};
-use cga_shape::{Lot, Sources};
+use cga_shape::{Lot, Lots, Sources};
 use cga_syntax::{Entry, Grammar, Rule, print_grammar, print_rule};
 use cga_word::Mode;
 use std::alloc::Global;
@@ -85,11 +85,20 @@ fn push_lot(text: &mut Text, lot: &Lot) -> Result<(), NoMemory>
     text.push(b"\n")
 }
 
-fn push_lots(text: &mut Text, lots: &[Lot]) -> Result<(), NoMemory>
+fn push_run(text: &mut Text, lots: &[Lot]) -> Result<(), NoMemory>
     ensures { OnOk result (text.new ≡ text.old ++ flat_map spec.lot_line lots.now) }
 {
     for lot in lots {
         push_lot(text, lot)?;
+    }
+    Ok(())
+}
+
+fn push_lots(text: &mut Text, lots: &Lots) -> Result<(), NoMemory>
+    ensures { OnOk result (text.new ≡ text.old ++ flat_map spec.lot_line lots.now) }
+{
+    for run in lots.runs() {
+        push_run(text, run.as_slice())?;
     }
     Ok(())
 }
@@ -134,7 +143,7 @@ fn whole_text(alloc: Global, sources: &Sources) -> Result<List<u8>, NoMemory>
     text.push(b"version 2\ncity\n")?;
     push_order(&mut text, sources.mode)?;
     push_grammar(alloc, &mut text, &sources.grammar)?;
-    push_lots(&mut text, sources.lots.as_slice())?;
+    push_lots(&mut text, &sources.lots)?;
     text.push(b"end\n")?;
     Ok(text.into_list())
 }

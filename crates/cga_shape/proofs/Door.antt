@@ -2,3 +2,5 @@
 
 -- `==` of shapes tells equality
 pub use Rattle.cga_shape.proofs.Equal.{shape_equal}
+-- lists in runs, as a walk over the runs reads them
+pub use Rattle.cga_shape.proofs.Runs.{joined-drop, joined-take, run_at, run_next, runs_left, runs_read}

@@ -1,2 +1,3 @@
 mod Equal
+mod Runs
 pub mod Door

@@ -1,5 +1,5 @@
-use crate::lot::Lot;
-use cga_fraction::{NoMemory, Shared};
+use crate::lots::Lots;
+use cga_fraction::NoMemory;
 use cga_rule::Grammar;
 use cga_word::Mode;
 use std::alloc::Global;
@@ -9,7 +9,7 @@ use std::alloc::Global;
 #[derive(Debug, Drop)]
 pub struct Sources {
     pub grammar: Grammar,
-    pub lots: Shared<Lot>,
+    pub lots: Lots,
     pub mode: Mode,
 }
 

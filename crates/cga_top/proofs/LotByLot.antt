@@ -1,8 +1,6 @@
 -- The text of the lots' boxes, lot by lot.
-use Rattle.std.proofs.Common.{◌≡◌, ℕ, zero, suc, ◌<◌, ◌≤◌, arith, length, drop, List, [], ◌∷◌, ◌++◌, Some, refl, sym, ap, ◌∙◌, subst, append_assoc, slice_get}
-use Rattle.std.specs.Prelude.{slice_index_or}
+use Rattle.std.proofs.Common.{◌≡◌, ℕ, zero, suc, ◌≤◌, arith, length, drop, List, [], ◌∷◌, ◌++◌, Some, refl, sym, ap, ◌∙◌, subst, append_assoc, slice_get}
 use Rattle.std.proofs.lemmas.List.{append-nil}
-use Rattle.std.proofs.lemmas.Option.{slice_get-get_or}
 use Rattle.cga_frame.specs.Box.{Box}
 use Rattle.cga_shape.specs.declared.lot.Lot.{Lot}
 use Rattle.cga_expand.specs.Children.{Member}
@@ -42,7 +40,3 @@ pub ends : (list : List Member) (lots : List Lot) (place : ℕ) (text told : Lis
     → Continues list lots place text → IsHullText list lots told
 ends list lots place text told h is so_far =
     subst (IsHullText list lots) (append-nil text ∙ sym is) (so_far [] (subst (λ ls. IsHullText list ls []) (sym (past lots place h)) refl))
-
-pub at_place : (lots seen : List Lot) (place : ℕ) (lot : Lot) → seen ≡ lots → place < length seen
-    → slice_get lots place ≡ Some (slice_index_or seen place lot)
-at_place lots seen place lot listed within = subst (λ (ls : List Lot). slice_get ls place ≡ Some (slice_index_or seen place lot)) listed (slice_get-get_or seen place lot within)

@@ -39,7 +39,10 @@ pub(crate) fn hulls_text(alloc: Global, city: &City) -> Result<List<u8>, NoMemor
     let mut text = Text::new(alloc);
     let lots = city.lots();
     for place in 0..lots.len() {
-        push_hull(&mut text, lots[place].name, city.hull(place))?;
+        let Some(lot) = lots.get(place) else {
+            unreachable!();
+        };
+        push_hull(&mut text, lot.name, city.hull(place))?;
     }
     Ok(text.into_list())
 }

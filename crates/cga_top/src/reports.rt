@@ -1,4 +1,4 @@
-ghost use Rattle.std.specs.Prelude.{◌≡◌, IfOk, None, Some};
+ghost use Rattle.std.specs.Prelude.{◌≡◌, ◌++◌, IfOk, None, OnOk, Some};
 ghost use Rattle.cga_bill.specs.Bill.{bill_of};
 ghost use Rattle.cga_bill.specs.Texts.{bill_text_of};
 ghost use Rattle.cga_obj.specs.Faults.{fault_text_of};
@@ -18,18 +18,27 @@ use cga_city::NoLot;
 use cga_fraction::{List, NoMemory};
 use cga_obj::{fault_text, obj_text};
 use cga_script::{Refused, dump_text, refusal_text};
-use cga_shape::{EditRefused, Lot};
+use cga_shape::{EditRefused, Lot, Lots};
 use cga_syntax::print_grammar;
 use cga_word::Name;
 use std::alloc::Global;
 
+fn push_names(names: &mut List<Name>, run: &[Lot]) -> Result<(), NoMemory>
+    ensures { OnOk result (names.new ≡ names.old ++ names_of run.now) }
+{
+    for lot in run {
+        names.push(lot.name)?;
+    }
+    Ok(())
+}
+
 /// The names of lots, in their order.
-pub(crate) fn names(alloc: Global, lots: &[Lot]) -> Result<List<Name>, NoMemory>
+pub(crate) fn names(alloc: Global, lots: &Lots) -> Result<List<Name>, NoMemory>
     ensures { IfOk result (λ names. names ≡ names_of lots.now) }
 {
     let mut names = List::new(alloc);
-    for lot in lots {
-        names.push(lot.name)?;
+    for run in lots.runs() {
+        push_names(&mut names, run.as_slice())?;
     }
     Ok(names)
 }

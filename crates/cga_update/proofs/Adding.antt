@@ -1,5 +1,5 @@
 -- The root of a lot comes, where there was none of its name.
-use Rattle.std.proofs.Common.{◌≡◌, ◌≢◌, inl, inr, ℕ, List, [], ◌∷◌, ◌++◌, true, false, refl, sym, ap, ◌∙◌, subst, Option, Some, None, arith, ◌+◌, ◌≤◌, length}
+use Rattle.std.proofs.Common.{◌≡◌, ◌≢◌, inl, inr, ℕ, List, [], ◌∷◌, ◌++◌, true, false, refl, sym, ap, ◌∙◌, subst, Option, Some, None, arith, ◌+◌, ◌≤◌}
 use Rattle.std.specs.Prelude.{◌↔◌, is_some, slice_get}
 use Rattle.cga_index.specs.Tree.{Apart, Member}
 use Rattle.cga_order.specs.World.{Among}
@@ -182,6 +182,5 @@ there_more new before after n x at gains here first i lot lt is = elim (at_or_be
   | inr same ↦ there_in new after x lot (some_same x lot (sym at ∙ (ap (slice_get new.lots) (sym same) ∙ is))) here
 ]
 
-pub there_end : (new : Sources) (f : ForestView) (ys : List Lot) (n : ℕ) → ys ≡ new.lots → length ys ≤ n
-    → AreThere new f n → AreThere new f (length new.lots)
-there_end new f ys n same le first i lot lt is = let z = ap length same in first i lot (omega (arith, lt, le, z)) is
+pub there_fewer : (new : Sources) (f : ForestView) (n m : ℕ) → m ≤ n → AreThere new f n → AreThere new f m
+there_fewer new f n m le there i lot lt = there i lot (omega (arith, lt, le))

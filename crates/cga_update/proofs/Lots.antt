@@ -79,11 +79,12 @@ wanted_for new differ i lot at n w name =
     let same : w.lot ≡ lot = same_lot new.lots differ w.place i w.lot lot w.listed at (sym (root_name w.lot n.shape w.root.shape) ∙ name) in
     subst (λ (l : Lot). IsRootFor l (priority_of new.grammar l.symbol) n) same w.root
 
-pub all_by_name : (lots : List Lot) (n : ℕ) (named : List (List ℕ × Lot)) → length lots ≤ n → AreByName lots n named
-    → AreByName lots (length lots) named
-all_by_name lots n named le by_name = record {
+-- fewer lots
+pub fewer_by_name : (lots : List Lot) (n m : ℕ) (named : List (List ℕ × Lot)) → m ≤ n → AreByName lots n named
+    → AreByName lots m named
+fewer_by_name lots n m named le by_name = record {
   only = by_name.only;
-  all = λ i lot lt e. by_name.all i lot (grind (arith, lt, le)) e;
+  all = λ i lot lt e. by_name.all i lot (omega (arith, lt, le)) e;
 }
 
 -- names are equal, or aren't

@@ -1,5 +1,5 @@
 -- Roots went, and then roots came.
-use Rattle.std.proofs.Common.{◌≡◌, inl, inr, ℕ, ◌+◌, ◌<◌, ◌≤◌, length, arith, slice_get, refl, sym, ap, ◌∙◌, subst, Option, Some, None, Ok}
+use Rattle.std.proofs.Common.{◌≡◌, inl, inr, ℕ, ◌+◌, ◌≤◌, length, arith, slice_get, refl, sym, ap, ◌∙◌, subst, Option, Some, None, Ok}
 use Rattle.std.specs.Prelude.{is_some}
 use Rattle.std.proofs.lemmas.Option.{slice_get_within}
 use Rattle.cga_shape.specs.declared.lot.Lot.{Lot}
@@ -17,7 +17,7 @@ use Rattle.std.proofs.Common.{List}
 use Rattle.cga_queue.specs.Agenda.{AgendaView}
 use Rattle.cga_update.specs.Begun.{IsFirst, StandsMarked}
 use Rattle.cga_update.specs.ChangedLots.{DifferAt}
-use Rattle.cga_update.specs.Roots.{View, AllWanted, AreThere, AreThereBut, Gains, HasLost, IsNewRoot, IsRerooted, IsRootNamed, IsWanted, Loses, lot_at}
+use Rattle.cga_update.specs.Roots.{View, AllWanted, AreWanted, AreThere, AreThereBut, Gains, HasLost, IsNewRoot, IsRerooted, IsRootNamed, IsWanted, Loses, lot_at}
 use Rattle.cga_update.proofs.Lots.{place_cases, root_name}
 
 -- an update at its beginning: how its roots were changed, and what is on its agenda
@@ -60,16 +60,10 @@ loses_more new first before after one two = record {
   wanted = λ c d at up w. two.wanted c d (one.wanted c d at up w) up w;
 }
 
--- the roots of the first n lots are wanted
-abbrev pub FirstWanted : Sources → List Lot → ForestView → ℕ → Type 0
-FirstWanted new lots f n =
-    (i : ℕ) (lot : Lot) → i < n → slice_get lots i ≡ Some lot → (c : ℕ) (d : Seen)
-    → IsRootNamed (node_at f) lot.name c d → IsWanted new d.node
-
 pub wanted_more : (new : Sources) (lots : List Lot) (before after : ForestView) (n : ℕ) (x : Lot)
     → slice_get lots n ≡ Some x → Loses new before after
     → ((c : ℕ) (d : Seen) → IsRootNamed (node_at after) x.name c d → IsWanted new d.node)
-    → FirstWanted new lots before n → FirstWanted new lots after (n + 1)
+    → AreWanted new lots before n → AreWanted new lots after (n + 1)
 wanted_more new lots before after n x at loses here first i lot lt is c d w = elim (at_or_below i n lt) [
   | inl lower ↦ first i lot lower is c d (loses.less c d w.0, w.1, w.2)
   | inr same ↦ (
@@ -77,13 +71,16 @@ wanted_more new lots before after n x at loses here first i lot lt is c d w = el
       here c d (w.0, w.1, w.2 ∙ ap (λ (l : Lot). l.name) (sym z)))
 ]
 
-pub all_wanted : (old new : Sources) (lent : List Lot) (first f : ForestView) (n : ℕ) → lent ≡ old.lots
-    → length lent ≤ n → AllWanted old first → Loses new first f → FirstWanted new old.lots f n → AllWanted new f
-all_wanted old new lent first f n same le was loses wanted c d at up =
+pub wanted_fewer : (new : Sources) (lots : List Lot) (f : ForestView) (n m : ℕ) → m ≤ n → AreWanted new lots f n
+    → AreWanted new lots f m
+wanted_fewer new lots f n m le wanted i lot lt = wanted i lot (omega (arith, lt, le))
+
+pub all_wanted : (old new : Sources) (first f : ForestView) (n : ℕ) → length old.lots ≤ n → AllWanted old first
+    → Loses new first f → AreWanted new old.lots f n → AllWanted new f
+all_wanted old new first f n le was loses wanted c d at up =
     let w = was c d (loses.less c d at) up in
     let z = slice_get_within old.lots w.place w.lot w.listed in
-    let y = ap length same in
-    wanted w.place w.lot (omega (arith, z, y, le)) w.listed c d (at, up, root_name w.lot d.node.shape w.root.shape)
+    wanted w.place w.lot (omega (arith, z, le)) w.listed c d (at, up, root_name w.lot d.node.shape w.root.shape)
 
 -- ---- one lot changed, or none
 

@@ -92,6 +92,12 @@ pub record Loses (sources : Sources) (before after : ForestView) : Type 0 where
 abbrev pub AllWanted : Sources → ForestView → Type 0
 AllWanted sources f = (c : ℕ) (d : Seen) → node_at f c ≡ Some d → d.parent ≡ None → IsWanted sources d.node
 
+-- the roots of the first n of some lots are wanted
+abbrev pub AreWanted : Sources → List Lot → ForestView → ℕ → Type 0
+AreWanted sources lots f n =
+    (i : ℕ) (lot : Lot) → i < n → slice_get lots i ≡ Some lot
+    → (c : ℕ) (d : Seen) → IsRootNamed (node_at f) lot.name c d → IsWanted sources d.node
+
 -- of each lot there is the root but maybe of the one at a place
 abbrev pub AreThereBut : Option ℕ → Sources → ForestView → Type 0
 AreThereBut place sources f =

@@ -7,8 +7,8 @@ ghost use Rattle.cga_update.specs.Updates.{with_no_lots};
 use crate::kept::Kept;
 use cga_depend::Dependents;
 use cga_forest::Forest;
-use cga_fraction::{List, NoMemory, Shared};
-use cga_shape::{Changes, Sources};
+use cga_fraction::{List, NoMemory};
+use cga_shape::{Changes, Lots, Sources};
 use std::alloc::Global;
 
 /// Sources without their lots, what is kept of them, and a record of what comes.
@@ -55,7 +55,7 @@ pub fn without_lots(alloc: Global, sources: &Sources) -> Result<Sources, NoMemor
     let grammar = sources.grammar.copy(alloc)?;
     Ok(Sources {
         grammar,
-        lots: Shared::new(),
+        lots: Lots::new(),
         mode: sources.mode,
     })
 }

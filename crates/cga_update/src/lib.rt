@@ -8,6 +8,7 @@
 #![tactic(auto)]
 
 mod again;
+mod all_roots;
 mod anew;
 mod asked;
 mod askers;

@@ -9,8 +9,9 @@ ghost use Rattle.cga_shape.specs.Root.{root_scope};
 ghost use Rattle.cga_update.specs.ChangedLots.{DifferAt};
 ghost use Rattle.cga_update.specs.Roots.{AllWanted, AreThere, AreThereBut, AreThereStill, AreWithin, Gains, HasLost, IsLotNamed, IsRootFor, IsRootNamed, IsWanted, Loses, View};
 
+use crate::all_roots::{add_all, remove_all};
 use crate::changed_lots::ChangedLots;
-use crate::lookup::{lot_at, lot_named, lots_by_name};
+use crate::lookup::{lot_at, lot_named};
 use crate::renewal::Renewal;
 use cga_check::Symbols;
 use cga_forest::{Forest, Moved, Node};
@@ -87,7 +88,7 @@ fn remove_root(forest: &mut Forest, name: Name, went: &mut Vec<Moved>) -> Result
 }
 
 /// Removes the root of that name with all below it, where it isn't wanted any more, and lists them. Takes memory.
-fn clear_root(
+pub fn clear_root(
     alloc: Global,
     forest: &mut Forest,
     lot: Option<&Lot>,
@@ -131,35 +132,11 @@ fn remove_changed(
     ensures loses { OnOk result (Loses renewal.entry.new.now forest.old forest.new) }
     ensures mode { forest.new.mode ≡ forest.old.mode }
 {
-    let Some(lot) = lot_at(renewal.old.lots.as_slice(), gone) else {
+    let Some(lot) = lot_at(&renewal.old.lots, gone) else {
         return Ok(());
     };
-    let again = lot_named(renewal.new.lots.as_slice(), come, lot.name);
+    let again = lot_named(&renewal.new.lots, come, lot.name);
     clear_root(alloc, forest, again, symbols, renewal, lot.name, went)?;
-    Ok(())
-}
-
-/// Removes the roots of all old lots that aren't wanted any more, with all below them, and lists these. Takes memory.
-fn remove_all(
-    alloc: Global,
-    forest: &mut Forest,
-    symbols: &mut Symbols,
-    renewal: Renewal,
-    went: &mut Vec<Moved>,
-) -> Result<(), NoMemory>
-    requires symbols { symbols.old ≡ renewal.new.now.grammar }
-    requires wanted { AllWanted renewal.old.now forest.old }
-    ensures symbols { symbols.new ≡ symbols.old }
-    ensures lost { OnOk result ((V : View) → HasLost V forest.old went.old.items → HasLost V forest.new went.new.items) }
-    ensures wanted { OnOk result (AllWanted renewal.entry.new.now forest.new) }
-    ensures loses { OnOk result (Loses renewal.entry.new.now forest.old forest.new) }
-    ensures mode { forest.new.mode ≡ forest.old.mode }
-{
-    let lots = lots_by_name(alloc, renewal.new.lots.as_slice())?;
-    for lot in renewal.old.lots.as_slice() {
-        let again = lots.get(&lot.name);
-        clear_root(alloc, forest, again, symbols, renewal, lot.name, went)?;
-    }
     Ok(())
 }
 
@@ -189,7 +166,7 @@ pub fn remove_roots(
 }
 
 /// Adds the root of a lot, where it has none, and lists it. Takes memory.
-fn add_root(
+pub fn add_root(
     forest: &mut Forest,
     symbols: &mut Symbols,
     new: &Sources,
@@ -238,30 +215,10 @@ fn add_changed(
     ensures mode { forest.new.mode ≡ forest.old.mode }
     ensures symbols { symbols.new ≡ symbols.old }
 {
-    let Some(lot) = lot_at(renewal.new.lots.as_slice(), come) else {
+    let Some(lot) = lot_at(&renewal.new.lots, come) else {
         return Ok(());
     };
     add_root(forest, symbols, renewal.new, lot, came)?;
-    Ok(())
-}
-
-/// Adds the roots of all lots that have none, and lists them. Takes memory.
-fn add_all(
-    forest: &mut Forest,
-    symbols: &mut Symbols,
-    renewal: Renewal,
-    came: &mut Vec<Moved>,
-) -> Result<(), NoMemory>
-    requires symbols { symbols.old ≡ renewal.new.now.grammar }
-    ensures gains { OnOk result (Gains renewal.entry.new.now forest.old forest.new) }
-    ensures there { OnOk result (AreThere renewal.entry.new.now forest.new (length renewal.entry.new.now.lots)) }
-    ensures came { OnOk result ((W : View) → AreWithin W (node_at forest.old) → ListsMoved (node_at forest.old) W came.old.items → ListsMoved (node_at forest.new) W came.new.items) }
-    ensures mode { forest.new.mode ≡ forest.old.mode }
-    ensures symbols { symbols.new ≡ symbols.old }
-{
-    for lot in renewal.new.lots.as_slice() {
-        add_root(forest, symbols, renewal.new, lot, came)?;
-    }
     Ok(())
 }
 

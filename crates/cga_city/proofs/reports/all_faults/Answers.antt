@@ -1,10 +1,27 @@
-use Rattle.cga_city.proofs.Reporting.{faults_step, faults_end}
+use Rattle.std.proofs.Common.{◌+◌, ◌++◌, ◌∙◌, List, ap, drop, sym}
+use Rattle.cga_shape.proofs.Door.{joined-drop, runs_left}
+use Rattle.cga_shape.specs.declared.lot.Lot.{Lot}
+use Rattle.cga_shape.specs.Runs.{joined}
+use Rattle.cga_city.specs.Lots.{names_of}
+use Rattle.cga_city.specs.Reports.{faults_in}
+use Rattle.cga_city.proofs.Reporting.{faults_none}
+use Rattle.cga_city.proofs.Runs.{faults_more}
 use Rattle.cga_city.proofs.reports.all_faults.Goals as goal
 
-pub loop-lot-preserved : goal.loop-lot-preserved
-loop-lot-preserved c = λ list has.
-    faults_step c.args.lots.now list c.loop-lot.lot-index c.lot-item.result c.loop-lot.faults _ _ c.loop-lot-test.true c.lot-item.is
-    (c.in_ok-push_faults_in.ensures list has) (c.loop-lot.invariant list has)
+pub loop-run-init : goal.loop-run-init
+loop-run-init c = λ list has. rw c.new-faults.ensures (ap (λ (lots : List Lot). faults_in (names_of lots) list) c.runs-run-items.ensures)
+
+pub loop-run-preserved : goal.loop-run-preserved
+loop-run-preserved c = λ list has.
+    let runs = c.runs-run-items.result.now in
+    let k = c.loop-run.run-index in
+    let run = c.run-item.result in
+    let left = joined-drop runs k run c.loop-run-test.true c.run-item.is in
+    let made = rw c.as_slice.ensures at (c.in_ok-push_faults_by.ensures list has) in
+    faults_more run (joined (drop (k + 1) runs)) list c.loop-run.faults _ _ made
+    (ap (λ (lots : List Lot). c.loop-run.faults ++ faults_in (names_of lots) list) (sym left) ∙ c.loop-run.invariant list has)
 
 pub returns : goal.returns
-returns c = λ list has. faults_end c.args.lots.now list c.loop-lot.lot-index _ _ c.loop-lot-test.false (c.loop-lot.invariant list has)
+returns c = λ list has.
+    let left = runs_left c.runs-run-items.result.now c.loop-run.run-index c.loop-run-test.false in
+    faults_none list c.loop-run.faults _ (ap (λ (lots : List Lot). c.loop-run.faults ++ faults_in (names_of lots) list) (sym left) ∙ c.loop-run.invariant list has)

@@ -1,5 +1,7 @@
+use Rattle.std.proofs.Common.{length, take}
+use Rattle.cga_shape.specs.Runs.{joined}
 use Rattle.cga_update.specs.Roots.{AreByName}
 use Rattle.cga_update.proofs.lookup.lots_by_name.Given as goal
 
-abbrev pub invariant-loop-lot : goal.invariant-loop-lot
-invariant-loop-lot l = AreByName l.lots l.lot-index l.named.entries
+abbrev pub invariant-loop-run : goal.invariant-loop-run
+invariant-loop-run l = AreByName l.lots (length (joined (take l.run-index l.run-items))) l.named.entries

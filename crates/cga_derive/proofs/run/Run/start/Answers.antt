@@ -10,7 +10,7 @@ use Rattle.cga_derive.proofs.run.Run.start.Goals as goal
 pub loop-lot-preserved : goal.loop-lot-preserved
 loop-lot-preserved c =
     let sources = c.args.sources.now in
-    let lots = c.as_slice-lot-items.ensures in
+    let lots = c.as_slice-lot-items.ensures.value ∙ c.in_ok-lots.ensures in
     let i = c.loop-lot.lot-index in
     let lot = c.lot-item.result in
     let within : i < length sources.lots = subst (λ l. i < length l) lots c.loop-lot-test.true in
@@ -29,7 +29,7 @@ next_streak-streak-requires c =
 pub returns : goal.returns
 returns c =
     let sources = c.args.sources.now in
-    let end : length sources.lots ≤ c.loop-lot.lot-index = subst (λ l. length l ≤ c.loop-lot.lot-index) c.as_slice-lot-items.ensures c.loop-lot-test.false in record {
+    let end : length sources.lots ≤ c.loop-lot.lot-index = subst (λ l. length l ≤ c.loop-lot.lot-index) (c.as_slice-lot-items.ensures.value ∙ c.in_ok-lots.ensures) c.loop-lot-test.false in record {
       after = started sources c.requires.names c.loop-lot.lot-index c.loop-lot.list.items c.loop-lot.waiting.entries end c.loop-lot.invariant.list c.loop-lot.invariant.keys;
       symbols = c.loop-lot.invariant.symbols;
       boxed = c.loop-lot.invariant.boxed;
