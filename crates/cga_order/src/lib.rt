@@ -13,6 +13,7 @@ pub mod laws;
 mod path;
 mod placed;
 mod rank;
+mod runs;
 mod walk;
 
 pub use chain::Chain;
@@ -20,4 +21,5 @@ pub use head::{child_head, head_of};
 pub use path::Path;
 pub use placed::{Kind, Placed};
 pub use rank::cmp_rank;
-pub use walk::cmp_stamp;
+pub use runs::same_steps;
+pub use walk::{cmp_stamp, have_one_stamp};

@@ -1,5 +1,6 @@
 ghost use Rattle.std.specs.Prelude.{◌≡◌, [], ◌∷◌, ◌++◌, length, IfOk};
 
+use crate::runs::same_steps;
 use cga_fraction::NoMemory;
 use smallvec::SmallVec;
 use std::alloc::Global;
@@ -34,7 +35,7 @@ impl PartialEq for Path {
     ghost laws = { Prim.search (comparing, rules) };
 
     fn eq(&self, other: &Path) -> bool {
-        self.as_slice() == other.as_slice()
+        same_steps(self.as_slice(), other.as_slice())
     }
 }
 

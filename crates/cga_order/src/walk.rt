@@ -1,5 +1,5 @@
 ghost use Rattle.std.specs.Prelude.{◌≡◌, ℕ, ◌<◌, ◌≤◌, ◌+◌, true, Some, length, take};
-ghost use Rattle.std.specs.Ordering.{nat_cmp, ordering_then};
+ghost use Rattle.std.specs.Ordering.{is_eq, nat_cmp, ordering_then};
 ghost use Rattle.std.specs.Cmp.Lexicographic.{slice_cmp};
 ghost use Rattle.cga_word.specs.declared.mode.Mode.{Mode};
 ghost use Rattle.cga_order.specs.Chain.{IsWhole, rank_at};
@@ -9,6 +9,7 @@ ghost use Rattle.cga_order.specs.Stamp.{stamp_cmp};
 ghost use Rattle.cga_order.specs.Walk.{IsCommonLength, IsParting, IsTop, IsWithin, tops_cmp};
 
 use crate::chain::Chain;
+use crate::runs::{cmp_prefixes, common_length, same_steps};
 use cga_word::Mode;
 use std::cmp::Ordering;
 
@@ -34,11 +35,20 @@ pub fn cmp_stamp(mode: Mode, a: &Chain, b: &Chain) -> Ordering
     }
 }
 
+/// Whether two shapes have one stamp. Mostly one shape is compared with itself, and then no ranks are.
+pub fn have_one_stamp(mode: Mode, a: &Chain, b: &Chain) -> bool
+    requires left { IsWhole (chain_of a.now) }
+    requires right { IsWhole (chain_of b.now) }
+    ensures { result ≡ is_eq (stamp_cmp mode (chain_of a.now) (chain_of b.now)) }
+{
+    is_alike(a, b) || matches!(cmp_stamp(mode, a, b), Ordering::Equal)
+}
+
 /// Whether two chains are written alike. Then they have one stamp, which no rank needs to be compared for.
 fn is_alike(a: &Chain, b: &Chain) -> bool
     ensures { result ≡ true → chain_of a.now ≡ chain_of b.now }
 {
-    a.lot == b.lot && a.path == b.path && a.priorities == b.priorities
+    same_steps(a.path, b.path) && same_steps(a.priorities, b.priorities) && a.lot == b.lot
 }
 
 /// Two chains of one head are mostly those of one shape, and then no ranks are compared.
@@ -85,7 +95,7 @@ fn cmp_places(a: &Chain, i: usize, b: &Chain, j: usize) -> Ordering
     ensures { result ≡ ordering_then (slice_cmp nat_cmp a.now.lot b.now.lot) (slice_cmp nat_cmp (take i a.now.path.now) (take j b.now.path.now)) }
 {
     match a.lot.cmp(&b.lot) {
-        Ordering::Equal => a.path[..i].cmp(&b.path[..j]),
+        Ordering::Equal => cmp_prefixes(a.path, i, b.path, j, common_length(a.path, b.path)),
         decided => decided,
     }
 }
@@ -117,16 +127,6 @@ fn parting_of(a: &Chain, b: &Chain) -> Parting
         lots: a.lot.cmp(&b.lot),
         common: common_length(a.path, b.path),
     }
-}
-
-fn common_length(xs: &[u16], ys: &[u16]) -> usize
-    ensures { IsCommonLength xs.now ys.now result }
-{
-    let mut common = 0;
-    while common < xs.len() && common < ys.len() && xs[common] == ys[common] {
-        common += 1;
-    }
-    common
 }
 
 /// At which depth the greatest rank of those from `depth` on stands, given that of those below it.
@@ -182,17 +182,4 @@ fn cmp_ranks_at(mode: Mode, parting: Parting, a: &Chain, i: usize, b: &Chain, j:
         .then(cmp_depths(mode, i, j))
         .then(parting.lots)
         .then(cmp_prefixes(a.path, i, b.path, j, parting.common))
-}
-
-fn cmp_prefixes(xs: &[u16], i: usize, ys: &[u16], j: usize, common: usize) -> Ordering
-    requires common { IsCommonLength xs.now ys.now common }
-    requires left { i ≤ length xs.now }
-    requires right { j ≤ length ys.now }
-    ensures { result ≡ slice_cmp nat_cmp (take i xs.now) (take j ys.now) }
-{
-    if common < i && common < j {
-        xs[common].cmp(&ys[common])
-    } else {
-        i.cmp(&j)
-    }
 }

@@ -1,1 +1,3 @@
+mod Along
 mod Padding
+pub mod Door

@@ -1,6 +1,6 @@
 use Rattle.std.proofs.Common.{◌∙◌, sym, inl, inr, arith}
 use Rattle.cga_order.proofs.Prefixes.{slice_cmp-within, slice_cmp-past}
-use Rattle.cga_order.proofs.walk.cmp_prefixes.Goals as goal
+use Rattle.cga_order.proofs.runs.cmp_prefixes.Goals as goal
 
 pub returns-then-common-j : goal.returns-then-common-j
 returns-then-common-j c =

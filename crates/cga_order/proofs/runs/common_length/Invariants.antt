@@ -1,5 +1,5 @@
 use Rattle.std.proofs.Common.{length, ◌-◌, ◌≡◌, ◌≤◌, take}
-use Rattle.cga_order.proofs.walk.common_length.Given as goal
+use Rattle.cga_order.proofs.runs.common_length.Given as goal
 
 abbrev pub invariant-loop-common : goal.invariant-loop-common
 invariant-loop-common l = (l.common ≤ length l.xs) × (l.common ≤ length l.ys) × (take l.common l.xs ≡ take l.common l.ys)

@@ -1,0 +1,7 @@
+use Rattle.std.proofs.Common.{◌≡◌, nat_eq, take}
+use lib.Pointwise.{pointwise}
+use Rattle.cga_order.proofs.runs.same_steps.Given as goal
+
+-- what was looked at so far is the same or not
+abbrev pub invariant-loop-place : goal.invariant-loop-place
+invariant-loop-place l = l.same ≡ pointwise nat_eq (take l.place l.left) (take l.place l.right)
