@@ -9,7 +9,8 @@ use Rattle.cga_frame.specs.Box.{Box}
 use Rattle.cga_frame.specs.Box.{touches, meets}
 use Rattle.cga_index.specs.Tree.{TreeView, Member, Apart, LiesIn, below, all_nodes, InTree, IsHullTree, is_asker, askers, touches_some, ListsAskers}
 use Rattle.cga_frame.proofs.Door.{holds_trans, meets_touches, touches_up}
-use Rattle.cga_index.proofs.Levels.{in_split, in_some, drop_at, drop_all, below_more, root_in}
+use Rattle.cga_index.proofs.Members.{in_split, in_some, drop_at, drop_all}
+use Rattle.cga_index.proofs.Levels.{below_more, root_in}
 use Rattle.std.proofs.lemmas.Bool.{and_parts as both, cases_Bool as either}
 
 pub askers_split : (v : TreeView) (area : Box) (xs ys : List ℕ)

@@ -9,7 +9,8 @@ use Rattle.cga_word.specs.declared.target.Target.{Target}
 use Rattle.cga_index.specs.Occlusion.{join}
 use Rattle.cga_index.specs.Tree.{TreeView, below, IsHullTree, IsFarRun, IsQuietRun, answer_over, askers, total}
 use Rattle.cga_index.proofs.Askers.{askers_split, nobody_far}
-use Rattle.cga_index.proofs.Levels.{drop_at, drop_all, none_below, root_inside}
+use Rattle.cga_index.proofs.Members.{drop_at, drop_all}
+use Rattle.cga_index.proofs.Levels.{none_below, root_inside}
 use Rattle.cga_index.proofs.Over.{over_append}
 
 -- a place is within the list, or behind it

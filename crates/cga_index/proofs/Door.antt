@@ -1,7 +1,9 @@
 -- What other crates may cite of cga_index. All other pages of its proofs are its own.
 
+-- Members of lists, and lists from a place on
+pub use Rattle.cga_index.proofs.Members.{drop_all, drop_at, in_at, in_flat, in_left, in_right, in_some, in_split}
 -- The walk over a tree of hulls
-pub use Rattle.cga_index.proofs.Levels.{below_more, drop_all, drop_at, in_at, in_flat, in_left, in_right, in_some, in_split, root_in}
+pub use Rattle.cga_index.proofs.Levels.{below_more, root_in}
 -- The tree's nodes are those that are there
 pub use Rattle.cga_index.proofs.Local.{in_present, present_in}
 -- A tree in which only those nodes ask that last has the same nodes, and keeps the laws

@@ -1,6 +1,7 @@
 mod Askers
 mod LastingTree
 mod Local
+mod Members
 mod Over
 mod Levels
 mod Blocks

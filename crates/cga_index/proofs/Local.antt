@@ -2,7 +2,7 @@
 use Rattle.std.proofs.Common.{◌≡◌, ℕ, zero, suc, ◌≤◌, inl, inr, refl, sym, subst, arith}
 use Rattle.cga_index.specs.Tree.{TreeView, Member, below, all_nodes, InTree}
 use Rattle.cga_index.specs.Local.{IsLocalTree}
-use Rattle.cga_index.proofs.Levels.{in_some, in_flat}
+use Rattle.cga_index.proofs.Members.{in_some, in_flat}
 
 more : (v : TreeView) (m r p c : ℕ) → Member (below v m r) p → Member (v.children p) c → Member (below v (suc m) r) c
 unfolding below

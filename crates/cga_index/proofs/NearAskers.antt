@@ -11,7 +11,7 @@ use Rattle.cga_frame.specs.Box.{Box, meets}
 use Rattle.cga_index.specs.Around.{IsAround}
 use Rattle.cga_index.specs.Near.{AddsThese, AsksNear, AsksWithin, ListsNear}
 use Rattle.cga_index.specs.Tree.{InTree, IsHullTree, ListsAskers, Member, TreeView}
-use Rattle.cga_index.proofs.Levels.{in_at, in_left, in_right, in_split}
+use Rattle.cga_index.proofs.Members.{in_at, in_left, in_right, in_split}
 
 -- where one passes, it stands somewhere
 pub any_at : {X : Type 0} (p : X → Bool) (xs : List X) → list_any p xs ≡ true

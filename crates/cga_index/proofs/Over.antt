@@ -8,6 +8,8 @@ use Rattle.std.proofs.lemmas.List.Elements.{filter-append}
 use Rattle.cga_frame.specs.Box.{Box}
 use Rattle.cga_word.specs.declared.answer.Answer.TheVariants.{Nothing}
 use Rattle.cga_word.specs.declared.target.Target.{Target}
+use Rattle.cga_word.specs.declared.target.Target.TheVariants.{Noparent, Active}
+use Rattle.cga_index.specs.declared.standing.Standing.TheVariants.{Hidden}
 use Rattle.cga_frame.specs.Box.{meets, holds}
 use Rattle.cga_index.specs.Occlusion.{graded, answer_of, join}
 use Rattle.cga_index.specs.Tree.{TreeView, Member, counts_for, asked, answer_over}
@@ -61,6 +63,12 @@ over_nothing v by target n h = elim (either (counts_for target (v.standing n by)
   | inl e ↦ over_one_asked v by target n e ∙ h
   | inr e ↦ over_one_other v by target n e
 ]
+
+-- a hidden node answers nothing
+pub over_hidden : (v : TreeView) (by : ℕ) (target : Target) (n : ℕ) → v.standing n by ≡ Hidden
+    → answer_over v by target (n ∷ []) ≡ Nothing
+over_hidden v by Noparent n h = over_one_other v by Noparent n (ap (counts_for Noparent) h)
+over_hidden v by Active n h = over_one_other v by Active n (ap (counts_for Active) h)
 
 pub ruleset over_one = (over_one_asked, over_one_other)
 

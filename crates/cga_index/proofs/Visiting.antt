@@ -4,7 +4,8 @@ use Rattle.std.specs.List.{FoldsTo, flat_map}
 use Rattle.std.proofs.lemmas.List.{append-nil}
 use Rattle.cga_index.specs.Tree as trees
 use Rattle.cga_index.specs.Tree.{below}
-use Rattle.cga_index.proofs.Levels.{below_more, drop_all, drop_at}
+use Rattle.cga_index.proofs.Members.{drop_all, drop_at}
+use Rattle.cga_index.proofs.Levels.{below_more}
 
 module _ {P : Type 0} (R : P → ℕ → P → Type 0) where
   folds_both : (xs ys : List ℕ) (p q r : P) → FoldsTo R p xs q → FoldsTo R q ys r → FoldsTo R p (xs ++ ys) r

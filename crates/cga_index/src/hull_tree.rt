@@ -1,7 +1,8 @@
-ghost use Rattle.std.specs.Prelude.{◌≡◌, ◌+◌, ◌*◌, ◌<◌, ◌∷◌, [], length, slice_get, Some, false};
+ghost use Rattle.std.specs.Prelude.{◌≡◌, ◌+◌, ◌*◌, ◌<◌, ◌∷◌, [], length, slice_get, Some, true, false};
 ghost use Rattle.cga_frame.specs.Box.{touches};
 ghost use Rattle.cga_index.specs.Occlusion.{answer_of};
 ghost use Rattle.cga_index.specs.Tree.{TreeView, InTree, IsFarRun, IsQuietRun, touches_some};
+ghost use Rattle.cga_index.specs.declared.standing.Standing.TheVariants.{Hidden};
 
 use crate::compare::compare;
 use crate::node_id::NodeId;
@@ -113,4 +114,14 @@ pub trait HullTree {
         requires node { InTree (view self.now) node }
         requires by { InTree (view self.now) by }
         ensures { result ≡ (view self.now).standing node by };
+
+    /// Whether a node is hidden from another one, where a tree tells that sooner than what boxes answer. It may be false of
+    /// each.
+    fn hides(&self, _node: NodeId, _by: NodeId) -> bool
+        requires node { InTree (view self.now) _node }
+        requires by { InTree (view self.now) _by }
+        ensures { result ≡ true → (view self.now).standing _node _by ≡ Hidden }
+    {
+        false
+    }
 }

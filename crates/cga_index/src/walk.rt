@@ -32,9 +32,9 @@ fn counts_for(target: Target, standing: Standing) -> bool
     }
 }
 
-/// What one node answers. The asking node's box is at hand, and isn't read again. Boxes come before the standing, since few
-/// of those that are looked at meet.
-#[tactic(auto, using(crate::proofs::Over::over_one, crate::proofs::Over::over_nothing))]
+/// What one node answers. The asking node's box is at hand, and isn't read again. What is hidden at once comes first, and boxes
+/// come before the standing, since few of those that are looked at meet.
+#[tactic(auto, using(crate::proofs::Over::over_one, crate::proofs::Over::over_nothing, crate::proofs::Over::over_hidden))]
 fn look<H: HullTree, T: Ledger>(
     tree: &H,
     node: NodeId,
@@ -49,6 +49,9 @@ fn look<H: HullTree, T: Ledger>(
     ensures found { result ≡ answer_over (H.view tree.now) by target (node ∷ []) }
     ensures counted { tests.new ≤ tests.old + cond (nat_eq node by) 0 1 }
 {
+    if tree.hides(node, by) {
+        return Answer::Nothing;
+    }
     let found = if node.same(by) {
         compare(area, area)
     } else {
