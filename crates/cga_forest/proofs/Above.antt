@@ -33,7 +33,7 @@ module _ (T : ℕ → Option Seen) (tree : IsTree T) (places : InPlace T) where
       (u.0, u.1, b, ap length b.path ∙ length-append u.0.node.shape.path (d.index ∷ []))
 
   -- what is above a node stands on its path
-  above_path : (fuel x c : ℕ) (a d : Seen) → T x ≡ Some a → T c ≡ Some d → is_above T fuel x c ≡ true
+  pub above_path : (fuel x c : ℕ) (a d : Seen) → T x ≡ Some a → T c ≡ Some d → is_above T fuel x c ≡ true
       → IsOnPath a.node d.node
   unfolding is_above
   above_path zero x c a d u t h = let z : false ≡ true = h in absurd (cc)
@@ -53,7 +53,7 @@ module _ (T : ℕ → Option Seen) (tree : IsTree T) (places : InPlace T) where
 
   module _ (apart : StandApart T) where
     -- what stands on the path of a node is above it
-    path_above : (fuel x c : ℕ) (a d : Seen) → length d.node.shape.path < fuel → T x ≡ Some a → T c ≡ Some d
+    pub path_above : (fuel x c : ℕ) (a d : Seen) → length d.node.shape.path < fuel → T x ≡ Some a → T c ≡ Some d
         → IsOnPath a.node d.node → is_above T fuel x c ≡ true
     unfolding is_above
     path_above zero x c a d deep u t on = absurd (omega arith)

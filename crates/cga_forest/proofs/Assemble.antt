@@ -6,12 +6,13 @@ use Rattle.cga_forest.specs.declared.node.Node.{Node}
 use Rattle.cga_forest.specs.declared.node.State.{State}
 use Rattle.cga_forest.specs.Node.{fits, with_state}
 use Rattle.cga_forest.specs.View.{Seen, kids, flag_if, present_of, marked_of, hulls_of, marked_hulls_of, rewritten}
+use Rattle.cga_forest.proofs.Place.{some_kept}
 use Rattle.cga_forest.proofs.Places.{InPlace-replaced}
 use Rattle.cga_forest.specs.Tree.{InPlace, IsInner, IsWhole, HaveFew, RightBut, depth_at, goes, stay_of, IsPlaced}
 use Rattle.cga_tree.specs.Tree.{IsTree}
 use Rattle.cga_tree.specs.Replaced.{IsReplaced}
 use Rattle.cga_forest.proofs.Under.{kids_flag}
-use Rattle.cga_forest.proofs.Right.{present_some, kids_present, depth_present}
+use Rattle.cga_forest.proofs.Present.{present_some, kids_present, depth_present}
 use Rattle.cga_forest.proofs.Replace.{IsTree-replaced}
 use Rattle.cga_forest.proofs.Few.{few-replaced}
 use Rattle.cga_forest.proofs.Goes.{vacant, replaced, right_but, mark_kept, mark_hulls_kept}
@@ -57,6 +58,12 @@ module _ (s0 s1 s2 s3 : ℕ → Option Entry) (id depth n : ℕ) (marking : Bool
 
   pub assembled_slots : IsReplaced fits (λ c. present_of (s0 c)) (λ c. present_of (s3 c)) id news e (record e { node = with_state state e.node; children = made }) gone_slots
   assembled_slots = subst (λ (xs : List ℕ). IsReplaced fits (λ c. present_of (s0 c)) (λ c. present_of (s3 c)) id news e (record e { node = with_state state e.node; children = made }) (λ c. goes (λ d. kids (s0 d)) n (λ k w. stay_of (s0 k) w) xs news (length xs) c)) (sym (kids_present (s0 id) e was)) assembled
+
+  -- the node itself isn't set aside
+  pub still_here : s2 id ≡ s0 id
+  still_here =
+      some_kept s1 s2 id (placed.rest id) (s1 id) refl (dropped_here s0 s1 id e was whole.tree gone dropped_seen)
+      ∙ dropped_seen id ∙ ap (λ b. flag_if b (s0 id)) assembled.self
 
   pub vacant_after : (c : ℕ) (d : Seen) → present_of (s0 c) ≡ None → present_of (s3 c) ≡ Some d → s0 c ≡ None
   vacant_after c d h t = vacant s0 s1 s2 s3 id depth n marking made news state e was low deep fuel whole.tree gone (λ c. refl) dropped_seen placed_seen sized others changed c d h t

@@ -3,7 +3,7 @@ use Rattle.std.proofs.Common.{◌≡◌, Bool, true, false, refl}
 use Rattle.std.specs.Prelude.{Option, Some, None}
 use Rattle.cga_marked.specs.Slab.{touch_when}
 use Rattle.cga_forest.specs.declared.entry.Entry.{Entry}
-use Rattle.cga_forest.specs.View.{touched_entry, present_of, marked_of, hulls_of, marked_hulls_of}
+use Rattle.cga_forest.specs.View.{touched_entry, keeps_former, present_of, marked_of, hulls_of, marked_hulls_of}
 
 pub when_present : (m : Bool) (s : Option Entry) → present_of (touch_when touched_entry m s) ≡ present_of s
 when_present false s = refl
@@ -25,3 +25,9 @@ pub when_marked_hulls : (m : Bool) (s : Option Entry)
 when_marked_hulls false s = refl
 when_marked_hulls true None = refl
 when_marked_hulls true (Some e) = refl
+
+pub when_keeps : (m marking : Bool) (s : Option Entry)
+    → keeps_former marking (touch_when touched_entry m s) ≡ keeps_former marking s
+when_keeps false marking s = refl
+when_keeps true marking None = refl
+when_keeps true marking (Some e) = refl

@@ -17,3 +17,11 @@ module _ {X : Type 0} (f : Option Entry → X) (g : X → X) (none : f None ≡ 
   pub changed : (m : Bool) (s t : Option Entry) → f (touch_when touched_entry m s) ≡ f s
       → Relates R (touch_when touched_entry m s) t → f t ≡ g (f s)
   changed m s t same h = lifted (touch_when touched_entry m s) t h ∙ ap g same
+
+-- what holds of the slot before may be told with it
+pub related_with : (P : Option Entry → Type 0) (R : Entry → Entry → Type 0) (s t : Option Entry) → P s → Relates R s t
+    → Relates (λ x y. R x y × P (Some x)) s t
+related_with P R None None p h = h
+related_with P R None (Some y) p h = absurd h
+related_with P R (Some x) None p h = absurd h
+related_with P R (Some x) (Some y) p h = (h, p)

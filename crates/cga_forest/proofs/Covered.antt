@@ -19,7 +19,7 @@ use Rattle.cga_forest.specs.Tree.{ForestView, hulls_at}
 use Rattle.cga_forest.specs.View.{Seen, present_of}
 use Rattle.cga_forest.specs.Walked.{all_of, asking_of, forest_tree}
 use Rattle.cga_marked.proofs.Door.{contains_at, contains_under, place_once, swap_kept}
-use Rattle.cga_forest.proofs.Right.{present_some}
+use Rattle.cga_forest.proofs.Present.{present_some}
 
 -- ---- lists
 

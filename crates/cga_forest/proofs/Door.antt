@@ -1,5 +1,9 @@
 -- What other crates may cite of cga_forest. All other pages of its proofs are its own.
 
+-- A node is above another one exactly where it stands on that one's path
+pub use Rattle.cga_forest.proofs.Above.{above_path, path_above}
+-- No two nodes of a forest have one lot and one path
+pub use Rattle.cga_forest.proofs.Apart.{stand_apart}
 -- When an old child stays, as a fact
 pub use Rattle.cga_forest.proofs.Equal.{fits_sound, fits_whole}
 -- A forest keeps the laws of a tree of boxes; also one in which only those nodes ask that were there at the mark

@@ -18,7 +18,8 @@ use Rattle.std.proofs.lemmas.Bool.{cases_Bool as bool_cases}
 use Rattle.cga_forest.proofs.Under.{stay_flag}
 use Rattle.cga_forest.proofs.Tree.{cut_some}
 use Rattle.cga_forest.proofs.Walk.{under_into, under_onto, under_self}
-use Rattle.cga_forest.proofs.Right.{right_exact, present_some, kids_present, right_same, over_zero}
+use Rattle.cga_forest.proofs.Present.{present_some, kids_present}
+use Rattle.cga_forest.proofs.Right.{right_exact, right_same, over_zero}
 use Rattle.cga_forest.proofs.Marks.{present_flag, marked_flag, hulls_flag, marked_hulls_flag}
 use Rattle.cga_forest.proofs.Replace.{old_or_new}
 pub use Rattle.cga_fraction.proofs.Door.{lt-length_from_slice_get as get_within}

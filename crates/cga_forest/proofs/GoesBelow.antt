@@ -12,7 +12,7 @@ use Rattle.cga_tree.specs.Replaced.{fits_at}
 use Rattle.cga_fraction.proofs.Door.{eq_or_ne as nat_cases, or-true as or_true}
 use Rattle.std.proofs.lemmas.Bool.{cases_Bool as bool_cases}
 use Rattle.cga_forest.proofs.Walk.{under_cases, under_none}
-use Rattle.cga_forest.proofs.Right.{present_some}
+use Rattle.cga_forest.proofs.Present.{present_some}
 pub use Rattle.cga_fraction.proofs.Door.{lt-length_from_slice_get as get_within}
 
 at_find : (K : ℕ → List ℕ) (n : ℕ) (P : ℕ → Option Node → Bool) (o : Option ℕ) (w : Option Node) (c : ℕ)

@@ -16,7 +16,7 @@ use Rattle.cga_forest.specs.declared.node.State.{State}
 use Rattle.cga_forest.specs.Node.{IsBelow, with_state}
 use Rattle.cga_forest.specs.declared.entry.Entry.{Entry}
 use Rattle.cga_forest.specs.View.{Seen, present_of}
-use Rattle.cga_forest.proofs.Right.{present_some}
+use Rattle.cga_forest.proofs.Present.{present_some}
 use Rattle.cga_forest.specs.Tree.{IsInner, InPlace}
 use Rattle.cga_tree.specs.Tree.{IsTree}
 use Rattle.cga_forest.specs.Placing.{MayGrow, Outcome, child_node, children_after, children_from, emitted, kind_after, state_after}

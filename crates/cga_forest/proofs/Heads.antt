@@ -10,7 +10,7 @@ use Rattle.cga_forest.specs.View.{Seen, flag_if, hulls_of, present_of, rewritten
 use Rattle.cga_fraction.proofs.Door.{eq_or_ne as nat_cases}
 use Rattle.std.proofs.lemmas.Bool.{cases_Bool as bool_cases}
 use Rattle.cga_forest.proofs.Marks.{hulls_flag, present_flag}
-use Rattle.cga_forest.proofs.Right.{parent_present, present_some}
+use Rattle.cga_forest.proofs.Present.{parent_present, present_some}
 
 -- what is left once a slot is settled has its hulls
 pub settled_hulls : (s : Option Entry) (h : Hulls) → hulls_of (settled s) ≡ Some h → hulls_of s ≡ Some h

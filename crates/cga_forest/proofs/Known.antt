@@ -1,6 +1,7 @@
 -- Hulls by what is kept of them.
-use Rattle.std.proofs.Common.{◌≡◌, ◌≢◌, ◌∙◌, inl, inr, ℕ, refl, ap, sym}
-use Rattle.std.specs.Prelude.{Option, Some, None}
+use Rattle.std.proofs.Common.{◌≡◌, ◌≢◌, ◌∙◌, inl, inr, ℕ, Bool, true, false, not, refl, ap, sym}
+use Rattle.std.proofs.Math.Bool.{beq}
+use Rattle.std.specs.Prelude.{Option, Some, None, is_some}
 use Rattle.cga_frame.specs.Box.{Box}
 use Rattle.cga_index.specs.Tree.{touches_some}
 use Rattle.cga_kept_hulls.specs.Blocks.{opt_touches}
@@ -42,3 +43,13 @@ same_but f old new id others here c = elim (nat_cases c id) [
   | inl same ↦ ap (λ (n : ℕ). f (new n)) same ∙ here ∙ ap (λ (n : ℕ). f (old n)) (sym same)
   | inr other ↦ ap f (others c other)
 ]
+
+pub none_kept : (o : Option Former) → not (is_some o) ≡ true → o ≡ None
+none_kept None h = refl
+none_kept (Some f) h = absurd (cc)
+
+pub same_flags : (a b : Bool) → beq a b ≡ true → a ≡ b
+same_flags true true h = refl
+same_flags true false h = absurd (cc)
+same_flags false true h = absurd (cc)
+same_flags false false h = refl

@@ -18,7 +18,8 @@ use Rattle.cga_forest.specs.declared.entry.Entry.{Entry}
 use Rattle.cga_forest.specs.declared.former.Former.{Former}
 use Rattle.cga_forest.specs.View.{Seen, kids, marked_of, restored, seen}
 use Rattle.cga_forest.proofs.Marks.{marked_plain}
-use Rattle.cga_forest.proofs.Right.{is_there, kids_present, parent_present, present_some}
+use Rattle.cga_forest.proofs.Present.{kids_present, parent_present, present_some}
+use Rattle.cga_forest.proofs.Right.{is_there}
 use Rattle.cga_forest.specs.Tree.{ForestView, IsForest, slot_at, node_at, marked_at, hulls_at, children_at, children_of, parent_of}
 use Rattle.cga_forest.specs.Walked.{forest_tree, lasting_tree, was_marked, own_of, asks_of, depth_of, all_of, asking_of}
 use Rattle.cga_marked.specs.Map.{ids}

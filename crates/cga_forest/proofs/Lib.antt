@@ -8,6 +8,7 @@ mod Walk
 mod Place
 mod Replace
 mod Places
+mod Present
 mod Right
 mod Marks
 mod GoesBelow
@@ -20,6 +21,7 @@ mod Tops
 mod Listed
 mod Moves
 mod WentCame
+mod Comers
 mod Above
 mod Laws
 mod ByName

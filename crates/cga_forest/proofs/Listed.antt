@@ -1,7 +1,7 @@
 -- Lists of nodes that are gathered by their numbers.
 use Rattle.std.proofs.Common.{◌≡◌, inl, inr, ℕ, zero, suc, ◌+◌, ◌-◌, ◌≤◌, ◌<◌, List, [], ◌∷◌, ◌++◌, length, take, Bool, true, false, refl, ap, sym, ◌∙◌, arith, subst}
 use Rattle.std.specs.List.{flat_map}
-use Rattle.std.specs.Prelude.{Option, Some, None, is_some, slice_get, slice_index_or, if◌then◌else◌}
+use Rattle.std.specs.Prelude.{Option, Some, None, slice_get, slice_index_or, if◌then◌else◌}
 use Rattle.std.proofs.lemmas.List.{append_assoc, append-nil, take_all}
 use Rattle.std.proofs.lemmas.Option.{slice_get_cases}
 use Rattle.cga_index.specs.Tree.{Member, Apart}
@@ -10,8 +10,7 @@ use Rattle.cga_forest.specs.declared.entry.Entry.{Entry}
 use Rattle.cga_forest.specs.declared.moved.Moved.{Moved}
 use Rattle.cga_forest.specs.declared.node.Node.{Node}
 use Rattle.cga_forest.specs.Moved.{moved_node, ids_of}
-use Rattle.cga_forest.specs.Gathered.{found, found_at, below, going, going_at, coming, coming_at, listed}
-use Rattle.cga_forest.specs.Tree.{stay_child}
+use Rattle.cga_forest.specs.Gathered.{found, found_at, below, going, going_at, coming, coming_at, is_come}
 pub use Rattle.std.proofs.lemmas.Grind.{flat_map-append as flat_append}
 pub use Rattle.cga_fraction.proofs.Door.{Some_from_is_some as some_from, cases_Option as opt_cases}
 
@@ -47,24 +46,6 @@ module _ (s : ℕ → Option Entry) where
 
   pub found_none : (a : List Moved) (xs : List ℕ) → xs ≡ [] → a ≡ a ++ found s xs
   found_none a xs e = sym (ap (λ l. a ++ found s l) e ∙ append-nil a)
-
-  pub found_one : (a b : List Moved) (c : ℕ) (e : Entry) → s c ≡ Some e → b ≡ a ++ moved_node c e.node ∷ []
-      → b ≡ a ++ found s (c ∷ [])
-  found_one a b c e h p = p ∙ ap (λ l. a ++ l) (ap (λ (o : Option Entry). found_at c o ++ []) (sym h))
-
-  pub found_vacant : (a : List Moved) (c : ℕ) → s c ≡ None → a ≡ a ++ found s (c ∷ [])
-  found_vacant a c h = sym (ap (λ l. a ++ l) (ap (λ (o : Option Entry). found_at c o ++ []) h) ∙ append-nil a)
-
-  -- a child at a place, if one is there
-  pub child_none : (a : List Moved) (o : Option ℕ) → o ≡ None → a ≡ a ++ found s (listed o)
-  child_none a o h = found_none a (listed o) (ap listed h)
-
-  pub child_vacant : (a : List Moved) (o : Option ℕ) (c : ℕ) → o ≡ Some c → s c ≡ None → a ≡ a ++ found s (listed o)
-  child_vacant a o c h none = found_is a a (c ∷ []) (listed o) (sym (ap listed h)) (found_vacant a c none)
-
-  pub child_found : (a b : List Moved) (o : Option ℕ) (c : ℕ) (e : Entry) → o ≡ Some c → s c ≡ Some e
-      → b ≡ a ++ moved_node c e.node ∷ [] → b ≡ a ++ found s (listed o)
-  child_found a b o c e h here p = found_is a b (c ∷ []) (listed o) (sym (ap listed h)) (found_one a b c e here p)
 
   pub found_in : (m : Moved) (xs : List ℕ) → Among m (found s xs)
       → (c : ℕ) × (e : Entry) × Member xs c × (s c ≡ Some e) × (m ≡ moved_node c e.node)
@@ -142,44 +123,31 @@ pub going_at_goes : (K : ℕ → List ℕ) (n : ℕ) (P : ℕ → Option Node �
     → o ≡ Some k → P k w ≡ false → going_at K n P o w ≡ below K n k
 going_at_goes K n P o k w h t = ap (λ x. going_at K n P x w) h ∙ ap (λ b. if b then [] else below K n k) t
 
-pub coming_zero : (s : ℕ → Option Entry) (olds : List ℕ) (news : List Node) → coming s olds news 0 ≡ []
+pub coming_zero : (olds children : List ℕ) → coming olds children 0 ≡ []
 unfolding coming
-coming_zero s olds news = refl
+coming_zero olds children = refl
 
-pub coming_step : (s : ℕ → Option Entry) (olds : List ℕ) (news : List Node) (i : ℕ)
-    → coming s olds news (i + 1) ≡ coming s olds news i ++ coming_at s (slice_get olds i) (slice_get news i) i
+coming_step : (olds children : List ℕ) (i : ℕ)
+    → coming olds children (i + 1) ≡ coming olds children i ++ coming_at (slice_get olds i) (slice_get children i)
 unfolding coming
-coming_step s olds news i = let e : i + 1 ≡ suc i = omega arith in rw e refl
+coming_step olds children i = let e : i + 1 ≡ suc i = omega arith in rw e refl
 
-pub coming_comes : (s : ℕ → Option Entry) (o : Option ℕ) (n : Option Node) (w : Node) (i : ℕ) → n ≡ Some w
-    → stay_child s o w ≡ None → coming_at s o n i ≡ i ∷ []
-coming_comes s o n w i h q = ap (λ x. coming_at s o x i) h ∙ ap (λ (x : Option ℕ). if is_some x then [] else i ∷ []) q
+-- a child that is no old one at its place
+pub coming_more : (olds children : List ℕ) (i c : ℕ) → slice_get children i ≡ Some c
+    → is_come (slice_get olds i) c ≡ true → coming olds children i ++ c ∷ [] ≡ coming olds children (i + 1)
+coming_more olds children i c at h =
+    ap (λ l. coming olds children i ++ l) (sym (ap (coming_at (slice_get olds i)) at ∙ ap (λ b. if b then c ∷ [] else []) h))
+    ∙ sym (coming_step olds children i)
 
-pub coming_stays : (s : ℕ → Option Entry) (o : Option ℕ) (n : Option Node) (w : Node) (k i : ℕ) → n ≡ Some w
-    → stay_child s o w ≡ Some k → coming_at s o n i ≡ []
-coming_stays s o n w k i h q = ap (λ x. coming_at s o x i) h ∙ ap (λ (x : Option ℕ). if is_some x then [] else i ∷ []) q
+-- an old child that stays
+pub coming_same : (olds children : List ℕ) (i c : ℕ) → slice_get children i ≡ Some c
+    → is_come (slice_get olds i) c ≡ false → coming olds children i ≡ coming olds children (i + 1)
+coming_same olds children i c at h =
+    sym (append-nil (coming olds children i))
+    ∙ ap (λ l. coming olds children i ++ l) (sym (ap (coming_at (slice_get olds i)) at ∙ ap (λ b. if b then c ∷ [] else []) h))
+    ∙ sym (coming_step olds children i)
 
 pub got_at : {X : Type 0} (xs : List X) (i : ℕ) (d : X) → i < length xs → slice_get xs i ≡ Some (slice_index_or xs i d)
 got_at [] i d h = absurd (omega arith)
 got_at (x ∷ xs) zero d h = refl
 got_at (x ∷ xs) (suc i) d h = got_at xs i d (omega arith)
-
-pub none_from : {X : Type 0} (o : Option X) → is_some o ≡ false → o ≡ None
-none_from None h = refl
-none_from (Some x) h = absurd (cc)
-
-module _ (s : ℕ → Option Entry) (olds : List ℕ) (news : List Node) where
-  pub places_start : (a : List ℕ) → a ≡ a ++ coming s olds news 0
-  places_start a = sym (ap (λ l. a ++ l) (coming_zero s olds news) ∙ append-nil a)
-
-  pub places_more : (a b c : List ℕ) (i : ℕ) (w : Node) → slice_get news i ≡ Some w
-      → stay_child s (slice_get olds i) w ≡ None → b ≡ a ++ coming s olds news i → c ≡ b ++ i ∷ []
-      → c ≡ a ++ coming s olds news (i + 1)
-  places_more a b c i w at none p q =
-      q ∙ ap (λ l. l ++ i ∷ []) p ∙ append_assoc a (coming s olds news i) (i ∷ [])
-      ∙ ap (λ l. a ++ l) (ap (λ l. coming s olds news i ++ l) (sym (coming_comes s (slice_get olds i) (slice_get news i) w i at none)) ∙ sym (coming_step s olds news i))
-
-  pub places_same : (a b : List ℕ) (i k : ℕ) (w : Node) → slice_get news i ≡ Some w
-      → stay_child s (slice_get olds i) w ≡ Some k → b ≡ a ++ coming s olds news i → b ≡ a ++ coming s olds news (i + 1)
-  places_same a b i k w at stays p =
-      p ∙ ap (λ l. a ++ l) (sym (coming_step s olds news i ∙ ap (λ l. coming s olds news i ++ l) (coming_stays s (slice_get olds i) (slice_get news i) w k i at stays) ∙ append-nil (coming s olds news i)))

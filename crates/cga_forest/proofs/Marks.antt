@@ -22,7 +22,8 @@ use Rattle.cga_forest.proofs.Tops.{HasRoots-same, HasRoots-added, HasRoots-cut, 
 use Rattle.cga_forest.specs.Roots.{HasRoots}
 use Rattle.cga_marked.specs.Map.{Named, AreApart}
 use Rattle.std.specs.List.Sorted.{IsPermutation}
-use Rattle.cga_forest.proofs.Right.{AllRight-part, right_exact, right_same, over_zero, kids_present}
+use Rattle.cga_forest.proofs.Present.{kids_present}
+use Rattle.cga_forest.proofs.Right.{AllRight-part, right_exact, right_same, over_zero}
 
 pub present_flag : (b : Bool) (s : Option Entry) → present_of (flag_if b s) ≡ (if b then None else present_of s)
 present_flag false s = refl

@@ -14,7 +14,7 @@ use Rattle.cga_forest.specs.View.{Seen, kids, present_of}
 use Rattle.cga_forest.specs.Moved.{moved_node, moved_of, Lists}
 use Rattle.cga_forest.specs.Gathered.{found, below, going, going_at}
 use Rattle.cga_forest.specs.Tree.{children_of, under}
-use Rattle.cga_forest.proofs.Right.{present_some, kids_present}
+use Rattle.cga_forest.proofs.Present.{present_some, kids_present}
 use Rattle.cga_forest.proofs.GoesBelow.{under_deep}
 use Rattle.cga_forest.proofs.Walk.{under_cases, under_child, under_self, under_none, under_same}
 use Rattle.cga_forest.proofs.Listed.{found_in, found_has, found_once}

@@ -78,7 +78,7 @@ stay_none s (Some j) w h k q = elim (bool_cases (stay_of (s j) (Some w))) [
   | inr n ↦ (let e : j ≡ k = (cc) in ap (λ x. stay_of (s x) (Some w)) (sym e) ∙ n)
 ]
 
-some_kept : (old now : ℕ → Option Entry) (id : ℕ) → ((e : Entry) → old id ≡ Some e → now id ≡ Some e)
+pub some_kept : (old now : ℕ → Option Entry) (id : ℕ) → ((e : Entry) → old id ≡ Some e → now id ≡ Some e)
     → (s : Option Entry) → old id ≡ s → IsSome s → now id ≡ old id
 some_kept old now id h None q here = absurd (cc)
 some_kept old now id h (Some e) q here = h e q ∙ sym q

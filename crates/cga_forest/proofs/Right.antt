@@ -1,5 +1,5 @@
 -- Hulls, right at a node by its children's hulls.
-use Rattle.std.proofs.Common.{◌≡◌, ◌≢◌, inl, inr, ℕ, zero, suc, ◌+◌, ◌<◌, List, [], ◌∷◌, ◌++◌, length, Bool, true, false, refl, ap, sym, ◌∙◌, arith}
+use Rattle.std.proofs.Common.{◌≡◌, ◌≢◌, inl, inr, ℕ, zero, suc, ◌+◌, ◌<◌, List, length, Bool, true, false, refl, ap, sym, ◌∙◌, arith}
 use Rattle.std.specs.Prelude.{Option, Some, None, is_some, slice_get, if◌then◌else◌}
 use Rattle.cga_forest.specs.declared.entry.Entry.{Entry}
 use Rattle.cga_kept_hulls.specs.declared.hulls.Hulls.{Hulls}
@@ -8,13 +8,14 @@ use Rattle.cga_forest.specs.declared.due.Due.{Due}
 use Rattle.cga_forest.specs.declared.due.Due.TheVariants.{Grown, Moved}
 use Rattle.cga_forest.specs.Due.{HoldsAll, due_above, grown_of}
 use Rattle.cga_forest.specs.Hull.{own_hulls, hulls_known}
-use Rattle.cga_forest.specs.View.{Seen, seen, last_from, flag_if, hulls_of, present_of, rehulled, kids}
+use Rattle.cga_forest.specs.View.{Seen, hulls_of, present_of, rehulled, kids}
 use Rattle.cga_forest.specs.Tree.{IsRight, AllRight, RightBut, IsDue, hulls_now, hulls_next, parent_of, depth_at}
 use Rattle.cga_tree.specs.Tree.{IsTree}
 use Rattle.cga_fraction.proofs.Door.{eq_or_ne as nat_cases}
 use Rattle.std.proofs.lemmas.Bool.{and_from as pair, cases_Bool as bool_cases}
 use Rattle.cga_kept_hulls.proofs.Door.{alike_itself, alike_turned, grown_alike, inside_held}
 use Rattle.cga_forest.proofs.Tree.{IsTree-same}
+use Rattle.cga_forest.proofs.Present.{present_some, parent_present, depth_present}
 pub use Rattle.cga_fraction.proofs.Door.{Some_from_is_some as is_there}
 
 pub over_zero : (H : ℕ → Option Hulls) (own : Hulls) (xs : List ℕ) → over H own xs 0 ≡ own
@@ -194,37 +195,6 @@ grown_above new old place told q = ap grown_of q ∙ grown_told (holds_hulls new
 
 -- ---- the same at slots
 
-pub present_some : (s : Option Entry) (d : Seen) → present_of s ≡ Some d → (x : Entry) × (s ≡ Some x) × (seen x ≡ d)
-present_some None d h = absurd (cc)
-present_some (Some e) d h = elim (bool_cases e.aside) [
-  | inl y ↦ (let z : None ≡ Some d = ap (λ b. if b then None else Some (seen e)) (sym y) ∙ h in absurd (cc))
-  | inr n ↦ (let z : Some (seen e) ≡ Some d = ap (λ b. if b then None else Some (seen e)) (sym n) ∙ h in (e, refl, (cc)))
-]
-
-some_is : {X : Type 0} (o : Option X) (x : X) → o ≡ Some x → is_some o ≡ true
-some_is o x h = ap is_some h
-
-pub parent_present : (s : Option Entry) (d : Seen) → present_of s ≡ Some d → parent_of s ≡ d.parent
-parent_present s d h = let w = present_some s d h in ap parent_of w.1 ∙ ap (λ (x : Seen). x.parent) w.2
-
-pub kids_present : (s : Option Entry) (d : Seen) → present_of s ≡ Some d → kids s ≡ d.children
-kids_present s d h = let w = present_some s d h in ap kids w.1 ∙ ap (λ (x : Seen). x.children) w.2
-
-pub path_present : (s : Option Entry) (d : Seen) → present_of s ≡ Some d → depth_at s ≡ length d.node.shape.path
-path_present s d h = let w = present_some s d h in ap depth_at w.1 ∙ ap (λ (x : Seen). length x.node.shape.path) w.2
-
-pub depth_flag : (b : Bool) (s : Option Entry) → depth_at (flag_if b s) ≡ depth_at s
-depth_flag false s = refl
-depth_flag true None = refl
-depth_flag true (Some e) = refl
-
-pub last_push : (d : ℕ) (xs : List ℕ) (i : ℕ) → last_from d (xs ++ i ∷ []) ≡ i
-last_push d [] i = refl
-last_push d (x ∷ xs) i = last_push x xs i
-
-pub depth_present : (s : Option Entry) (d : Seen) → present_of s ≡ Some d → depth_at s ≡ d.depth
-depth_present s d h = let w = present_some s d h in ap depth_at w.1 ∙ ap (λ (x : Seen). x.depth) w.2
-
 pub hulls_now_at : (H : ℕ → Option Hulls) (s : Option Entry) (d : Seen) → present_of s ≡ Some d
     → hulls_now H s ≡ Some (over H (own_hulls d.node) d.children (length d.children))
 hulls_now_at H s d h = let w = present_some s d h in ap (hulls_now H) w.1 ∙ ap (λ (x : Seen). Some (over H (own_hulls x.node) x.children (length x.children))) w.2
@@ -307,7 +277,3 @@ module _ (s : ℕ → Option Entry) (id : ℕ) (g : Option Hulls) (old new : Hul
 pub none_there : (H : ℕ → Option Hulls) (s : Option Entry) → hulls_now H s ≡ None → is_some (present_of s) ≡ true → ⊥
 none_there H None h p = (cc)
 none_there H (Some e) h p = (cc)
-
-pub slot_there : (s : Option Entry) → is_some (present_of s) ≡ true → is_some s ≡ true
-slot_there None h = absurd (cc)
-slot_there (Some e) h = refl

@@ -1,18 +1,20 @@
 -- What is below a node, and flags.
-use Rattle.std.proofs.Common.{◌≡◌, ℕ, zero, suc, ◌+◌, ◌-◌, ◌≤◌, ◌<◌, List, [], ◌∷◌, length, Bool, true, false, ◌||◌, refl, ap, sym, ◌∙◌, arith, take, nat_eq}
+use Rattle.std.proofs.Common.{◌≡◌, ◌≢◌, ℕ, zero, suc, ◌+◌, ◌-◌, ◌≤◌, ◌<◌, List, [], ◌∷◌, length, Bool, true, false, ◌||◌, refl, ap, sym, ◌∙◌, arith, take, nat_eq, eq-eqb, get_or}
 use Rattle.std.specs.List.{list_any}
+use Rattle.std.proofs.lemmas.Bool.{ne_eqb}
 use Rattle.std.proofs.lemmas.List.Folds.{list_any_more}
 use Rattle.std.proofs.lemmas.List.{take_all}
 use Rattle.std.proofs.lemmas.Option.{get_or_from_slice_get, slice_get_cases}
 use Rattle.std.proofs.Common.{inl, inr}
 use Rattle.std.specs.Prelude.{slice_get, Option, Some, None}
 use Rattle.cga_forest.specs.declared.entry.Entry.{Entry}
+use Rattle.cga_forest.specs.declared.moved.Moved.{Moved}
 use Rattle.cga_forest.specs.declared.node.Node.{Node}
+use Rattle.cga_forest.specs.Moved.{is_listed}
 use Rattle.cga_forest.specs.View.{kids, flag_if}
-use Rattle.cga_forest.specs.Tree.{under, goes, goes_at, stay_of}
-use Rattle.std.specs.Prelude.{if◌then◌else◌}
+use Rattle.cga_forest.specs.Tree.{under, stay_of}
 pub use Rattle.cga_fraction.proofs.Door.{or-false as or_false}
-use Rattle.cga_fraction.proofs.Door.{lt-length_from_slice_get_nat as slice_get_in}
+use Rattle.cga_fraction.proofs.Door.{lt-length_from_slice_get_nat as slice_get_in, eq_or_ne}
 
 pub any_ext : {X : Type 0} (p q : X → Bool) → ((x : X) → p x ≡ q x) → (xs : List X) → list_any p xs ≡ list_any q xs
 any_ext p q h [] = refl
@@ -83,59 +85,28 @@ pub flags_none : (ch : ℕ → List ℕ) (old now : ℕ → Option Entry) (n id 
     → (c : ℕ) → now c ≡ flag_if (nat_eq id c || list_any (λ k. under ch n k c) (take (i + 1) (ch id))) (old c)
 flags_none ch old now n id i at h c = h c ∙ ap (λ b. flag_if (nat_eq id c || b) (old c)) (sym (any_take_none (λ k. under ch n k c) (ch id) i at))
 
-pub goes_step : (K : ℕ → List ℕ) (n : ℕ) (P : ℕ → Option Node → Bool) (olds : List ℕ) (news : List Node) (i c : ℕ)
-    → goes K n P olds news (i + 1) c ≡
-    (goes K n P olds news i c || goes_at K n P (slice_get olds i) (slice_get news i) c)
-unfolding goes
-goes_step K n P olds news i c = let e : i + 1 ≡ suc i = omega arith in rw e refl
-
-pub goes_zero : (K : ℕ → List ℕ) (n : ℕ) (P : ℕ → Option Node → Bool) (olds : List ℕ) (news : List Node) (c : ℕ)
-    → goes K n P olds news 0 c ≡ false
-unfolding goes
-goes_zero K n P olds news c = refl
-
 pub stay_flag : (b : Bool) (s : Option Entry) (w : Option Node) → stay_of (flag_if b s) w ≡ stay_of s w
 stay_flag false s w = refl
 stay_flag true None w = refl
 stay_flag true (Some e) w = refl
 
-module _ (K : ℕ → List ℕ) (olds : List ℕ) (news : List Node) (old now : ℕ → Option Entry) (n i : ℕ) (same : (d : ℕ) → kids (old d) ≡ K d) (h : (c : ℕ) → now c ≡ flag_if (goes K n (λ k w. stay_of (old k) w) olds news i c) (old c)) where
-  abbrev pub P : ℕ → Option Node → Bool
-  P k w = stay_of (old k) w
+-- one flag more, on top of what is flagged so far
+pub flag_one : (old now new : ℕ → Option Entry) (test : ℕ → Bool) (k : ℕ) → ((c : ℕ) → now c ≡ flag_if (test c) (old c))
+    → new k ≡ flag_if true (now k) → ((c : ℕ) → c ≢ k → new c ≡ now c)
+    → (c : ℕ) → new c ≡ flag_if (test c || nat_eq k c) (old c)
+flag_one old now new test k so_far here others c = elim (eq_or_ne c k) [
+  | inl q ↦ (
+      let told : nat_eq k c ≡ true = eq-eqb k c (sym q) in
+      ap new q ∙ here ∙ ap (flag_if true) (so_far k) ∙ flag_flag (test k) true (old k)
+      ∙ ap (λ d. flag_if (test d || true) (old d)) (sym q) ∙ ap (λ b. flag_if (test c || b) (old c)) (sym told))
+  | inr n ↦ (
+      let told : nat_eq k c ≡ false = ne_eqb k c (λ q. n (sym q)) in
+      others c n ∙ so_far c ∙ ap (λ b. flag_if b (old c)) (sym (or_false (test c))) ∙ ap (λ b. flag_if (test c || b) (old c)) (sym told))
+]
 
-  still : (c : ℕ) → goes_at K n P (slice_get olds i) (slice_get news i) c ≡ false
-      → now c ≡ flag_if (goes K n P olds news (i + 1) c) (old c)
-  still c off = h c ∙ ap (λ b. flag_if b (old c)) (sym (goes_step K n P olds news i c ∙ ap (λ b. goes K n P olds news i c || b) off ∙ or_false (goes K n P olds news i c)))
-
-  same_test : (k : ℕ) (w : Option Node) → stay_of (now k) w ≡ P k w
-  same_test k w = ap (λ s. stay_of s w) (h k) ∙ stay_flag _ (old k) w
-
-  pub goes_none : slice_get olds i ≡ None → (c : ℕ) → now c ≡ flag_if (goes K n P olds news (i + 1) c) (old c)
-  goes_none at c = still c (ap (λ o. goes_at K n P o (slice_get news i) c) at)
-
-  pub goes_kept : (k : ℕ) → slice_get olds i ≡ Some k → stay_of (now k) (slice_get news i) ≡ true → (c : ℕ)
-      → now c ≡ flag_if (goes K n P olds news (i + 1) c) (old c)
-  goes_kept k at on c = still c (ap (λ o. goes_at K n P o (slice_get news i) c) at ∙ ap (λ b. if b then false else under K n k c) (sym (same_test k (slice_get news i)) ∙ on))
-
-  pub goes_next : (new : ℕ → Option Entry) (k : ℕ) → slice_get olds i ≡ Some k
-      → stay_of (now k) (slice_get news i) ≡ false
-      → ((c : ℕ) → new c ≡ flag_if (under (λ d. kids (now d)) n k c) (now c))
-      → (c : ℕ) → new c ≡ flag_if (goes K n P olds news (i + 1) c) (old c)
-  goes_next new k at other called c =
-      let e1 : under (λ d. kids (now d)) n k c ≡ under K n k c = under_ext (λ d. kids (now d)) K (λ d. ap kids (h d) ∙ kids_flag _ (old d) ∙ same d) n k c in
-      called c ∙ ap (λ b. flag_if b (now c)) e1 ∙ ap (flag_if (under K n k c)) (h c) ∙ flag_flag (goes K n P olds news i c) (under K n k c) (old c)
-      ∙ ap (λ b. flag_if b (old c)) (sym (goes_step K n P olds news i c ∙ ap (λ b. goes K n P olds news i c || b) (ap (λ o. goes_at K n P o (slice_get news i) c) at ∙ ap (λ b. if b then false else under K n k c) (sym (same_test k (slice_get news i)) ∙ other))))
-
-pub goes_at_none : (K : ℕ → List ℕ) (n : ℕ) (P : ℕ → Option Node → Bool) (o : Option ℕ) (w : Option Node) (c : ℕ)
-    → o ≡ None → goes_at K n P o w c ≡ false
-goes_at_none K n P o w c h = ap (λ x. goes_at K n P x w c) h
-
-pub goes_at_stays : (K : ℕ → List ℕ) (n : ℕ) (P : ℕ → Option Node → Bool) (o : Option ℕ) (k : ℕ) (w : Option Node)
-    (c : ℕ)
-    → o ≡ Some k → P k w ≡ true → goes_at K n P o w c ≡ false
-goes_at_stays K n P o k w c h t = ap (λ x. goes_at K n P x w c) h ∙ ap (λ b. if b then false else under K n k c) t
-
-pub goes_at_goes : (K : ℕ → List ℕ) (n : ℕ) (P : ℕ → Option Node → Bool) (o : Option ℕ) (k : ℕ) (w : Option Node)
-    (c : ℕ)
-    → o ≡ Some k → P k w ≡ false → goes_at K n P o w c ≡ under K n k c
-goes_at_goes K n P o k w c h t = ap (λ x. goes_at K n P x w c) h ∙ ap (λ b. if b then false else under K n k c) t
+-- one node more of a list
+pub listed_more : (list : List Moved) (i c : ℕ) (m : Moved) → i < length list → m ≡ get_or list i m
+    → (is_listed (take i list) c || nat_eq m.id c) ≡ is_listed (take (i + 1) list) c
+listed_more list i c m here is =
+    ap (λ (x : Moved). is_listed (take i list) c || nat_eq x.id c) is
+    ∙ sym (list_any_more (λ (x : Moved). nat_eq x.id c) list i m here)

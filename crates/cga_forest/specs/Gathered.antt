@@ -1,11 +1,10 @@
 -- How the lists of a change are gathered: by the numbers of the slots, in the order of the walk.
-use Rattle.std.specs.Prelude.{ℕ, zero, suc, List, [], ◌∷◌, ◌++◌, Option, Some, None, Bool, is_some, slice_get, if◌then◌else◌}
+use Rattle.std.specs.Prelude.{ℕ, zero, suc, List, [], ◌∷◌, ◌++◌, Option, Some, None, Bool, true, not, nat_eq, slice_get, if◌then◌else◌}
 use Rattle.std.specs.List.{flat_map}
 use Rattle.cga_forest.specs.declared.entry.Entry.{Entry}
 use Rattle.cga_forest.specs.declared.moved.Moved.{Moved}
 use Rattle.cga_forest.specs.declared.node.Node.{Node}
 use Rattle.cga_forest.specs.Moved.{moved_node}
-use Rattle.cga_forest.specs.Tree.{stay_child}
 
 abbrev pub found_at : ℕ → Option Entry → List Moved
 found_at c None = []
@@ -30,19 +29,16 @@ unfoldable pub going : (ℕ → List ℕ) → ℕ → (ℕ → Option Node → B
 going K n P olds news zero = []
 going K n P olds news (suc i) = going K n P olds news i ++ going_at K n P (slice_get olds i) (slice_get news i)
 
-abbrev pub coming_at : (ℕ → Option Entry) → Option ℕ → Option Node → ℕ → List ℕ
-coming_at s old None i = []
-coming_at s old (Some new) i = if is_some (stay_child s old new) then [] else i ∷ []
+-- whether a child is no old one at its place
+abbrev pub is_come : Option ℕ → ℕ → Bool
+is_come None c = true
+is_come (Some k) c = not (nat_eq k c)
 
--- the places among the first so many of the new list where no old child stays
-unfoldable pub coming : (ℕ → Option Entry) → List ℕ → List Node → ℕ → List ℕ
-coming s olds news zero = []
-coming s olds news (suc i) = coming s olds news i ++ coming_at s (slice_get olds i) (slice_get news i) i
+abbrev pub coming_at : Option ℕ → Option ℕ → List ℕ
+coming_at old None = []
+coming_at old (Some c) = if is_come old c then c ∷ [] else []
 
-abbrev pub listed : Option ℕ → List ℕ
-listed None = []
-listed (Some c) = c ∷ []
-
--- the children at these places
-abbrev pub chosen : List ℕ → List ℕ → List ℕ
-chosen children places = flat_map (λ i. listed (slice_get children i)) places
+-- the children at the first so many places that are no old ones there
+unfoldable pub coming : List ℕ → List ℕ → ℕ → List ℕ
+coming olds children zero = []
+coming olds children (suc i) = coming olds children i ++ coming_at (slice_get olds i) (slice_get children i)

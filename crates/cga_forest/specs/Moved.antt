@@ -1,5 +1,6 @@
 -- The nodes that a change takes away or brings, and those below a node, as lists.
-use Rattle.std.specs.Prelude.{◌≡◌, ◌↔◌, ℕ, List, map, Option, Some, None, true}
+use Rattle.std.specs.Prelude.{◌≡◌, ◌↔◌, ℕ, List, map, Option, Some, None, Bool, true, nat_eq}
+use Rattle.std.specs.List.{list_any}
 use Rattle.cga_index.specs.Tree.{Apart}
 use Rattle.cga_order.specs.World.{Among}
 use Rattle.cga_order.specs.declared.placed.Kind.{Kind}
@@ -24,6 +25,10 @@ moved_of c d = moved_node c d.node
 
 abbrev pub ids_of : List Moved → List ℕ
 ids_of list = map (λ (m : Moved). m.id) list
+
+-- whether the list has a node of this number
+abbrev pub is_listed : List Moved → ℕ → Bool
+is_listed list c = list_any (λ (m : Moved). nat_eq m.id c) list
 
 -- the list has the nodes of the view under these numbers, each once, and no other
 pub record Lists (T : ℕ → Option Seen) (These : ℕ → Type 0) (list : List Moved) : Type 0 where

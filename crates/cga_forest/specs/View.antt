@@ -1,4 +1,4 @@
-use Rattle.std.specs.Prelude.{◌≡◌, ℕ, List, [], ◌∷◌, length, Option, Some, None, option_map, option_and_then, Bool, true, false, not, slice_index_or, if◌then◌else◌}
+use Rattle.std.specs.Prelude.{◌≡◌, ℕ, List, [], ◌∷◌, length, Option, Some, None, option_map, option_and_then, Bool, true, false, not, ◌&&◌, is_some, slice_index_or, if◌then◌else◌}
 use Rattle.cga_marked.specs.Marked as marked
 use Rattle.cga_marked.specs.Slab.{SlabView, passes}
 pub use Rattle.cga_marked.specs.Slab.{HasRoom, KeepsRoom}
@@ -129,10 +129,16 @@ rehulled h (Some k) = Some h
 
 -- ---- changes of an entry
 
--- it has another state and other children, and keeps what it was for the mark
-pub record IsRewritten (marking : Bool) (state : State) (children : List ℕ) (x y : Entry) : Type 0 where
+-- whether what the entry was is to be kept for the mark, where it gets other content
+abbrev pub keeps_former : Bool → Option Entry → Bool
+keeps_former marking None = false
+keeps_former marking (Some e) = marking && not e.came && not (is_some e.former)
+
+-- it has another state and other children, and keeps what it was for the mark, where there is a box for that
+pub record IsRewritten (marking has_box : Bool) (state : State) (children : List ℕ) (x y : Entry) : Type 0 where
   pub present : present_of (Some y) ≡ rewritten state children (present_of (Some x))
-  pub marked : marking ≡ true → marked_of (Some y) ≡ marked_of (Some x)
+  pub marked : marking ≡ true → (keeps_former marking (Some x) ≡ true → has_box ≡ true)
+      → marked_of (Some y) ≡ marked_of (Some x)
   pub hulls : hulls_of (Some y) ≡ hulls_of (Some x)
   pub marked_hulls : marked_hulls_of (Some y) ≡ marked_hulls_of (Some x)
 

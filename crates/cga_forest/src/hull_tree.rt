@@ -5,7 +5,7 @@ ghost use Rattle.cga_forest.specs.Tree.{node_at};
 ghost use Rattle.cga_forest.specs.Walked.{forest_tree, was_marked};
 
 use crate::Forest;
-use crate::standing::standing_of;
+use crate::standing::{is_above, standing_of};
 use crate::store::child_count;
 use cga_fraction::Tests;
 use cga_frame::WorldBox;
@@ -82,6 +82,13 @@ impl HullTree for Forest {
             node.number() as usize,
             by.number() as usize,
         )
+    }
+
+    /// A node hides from itself and from all below it.
+    fn hides(&self, node: NodeId, by: NodeId) -> bool {
+        let entry = self.store.entry(node.number() as usize);
+        let asker = self.store.entry(by.number() as usize);
+        is_above(&entry.node, &asker.node)
     }
 
     fn asks(&self, node: NodeId) -> bool {

@@ -110,6 +110,44 @@ fn are_kept(store: &Store, id: usize, due: &Due, old: &Hulls) -> bool
     }
 }
 
+/// Whether hulls hold those of a node, where it is there.
+fn holds_at(store: &Store, id: usize, hulls: &Hulls) -> bool
+    ensures { result ≡ true → (h : Hulls) → hulls_of (at store.now id) ≡ Some h → holds_hulls hulls.now h ≡ true }
+{
+    match store.get(id) {
+        Some(entry) => entry.hulls.lie_in(&entry.node.shape.scope, hulls),
+        None => true,
+    }
+}
+
+/// Whether they hold those of each of these nodes.
+fn hold_each(store: &Store, ids: &[usize], hulls: &Hulls) -> bool
+    ensures { result ≡ true → (i k : ℕ) (h : Hulls) → slice_get ids.now i ≡ Some k → hulls_of (at store.now k) ≡ Some h → holds_hulls hulls.now h ≡ true }
+{
+    for index in 0..ids.len() {
+        if !holds_at(store, ids[index], hulls) {
+            return false;
+        }
+    }
+    true
+}
+
+/// Whether a node's hulls are right still, though its children are others: where they are those of its own box alone and
+/// hold each child's, as most do.
+fn are_own(store: &Store, id: usize, due: &Due, old: &Hulls) -> bool
+    requires { hulls_of (at store.now id) ≡ Some old.now }
+    ensures { result ≡ true → (e : Kept) → at store.now id ≡ Some e
+        → (holds_hulls old.now (over (λ c. hulls_of (at store.now c)) (own_hulls e.node) e.children.items (length e.children.items)) ≡ true)
+        × (holds_hulls (over (λ c. hulls_of (at store.now c)) (own_hulls e.node) e.children.items (length e.children.items)) old.now ≡ true) }
+{
+    match (due, store.get(id)) {
+        (Due::All, Some(entry)) => {
+            entry.has_own_hulls() && hold_each(store, entry.children.as_slice(), old)
+        }
+        _ => false,
+    }
+}
+
 /// At which place of its parent's children a node stands.
 fn place_at(store: &Store, id: usize) -> usize {
     match store.get(id) {
@@ -144,6 +182,9 @@ pub fn refresh(
     ensures others { (c : ℕ) → above (present_of (at store.old c)) ≡ None → result ≢ Some c → hulls_of (at store.new c) ≡ hulls_of (at store.old c) }
 {
     if let Some(old) = hulls_at(store, id) {
+        if are_own(store, id, &due, &old) {
+            return None;
+        }
         if are_kept(store, id, &due, &old) {
             return None;
         }

@@ -58,8 +58,6 @@ use cga_shape::{Answers, Emitted, ShapeFault};
 use cga_word::Mode;
 pub use change::Change;
 use covering::cover_root;
-use former_box::FormerBox;
-use listing::list_children;
 pub use moved::Moved;
 pub use node::{Node, State};
 use placing::{children_after, kind_after};
@@ -68,7 +66,7 @@ use replacement::Replacement;
 use slots::{depth_of, parent_at, replace};
 use std::alloc::Global;
 use std::marker::Model;
-use store::Store;
+use store::{Store, spare_for};
 pub use tree_law::forests_are_hull_trees;
 
 /// Nodes under numbers, with a way back to a mark.
@@ -218,18 +216,14 @@ impl Forest {
         ensures mode { self.new.mode ≡ self.old.mode }
         ensures err { OnErr result (self.new ≡ self.old) }
     {
-        let spare = FormerBox::new(self.alloc, state)?;
+        let spare = spare_for(&self.store, self.alloc, id, self.marking, state)?;
         self.store.reserve(news.len())?;
         let depth = depth_of(&self.store, id);
         let hulls = self.store.entry(id).known_hulls();
         self.spares.provide(self.alloc, depth + 1, &hulls)?;
         let made = Vec::with_capacity(self.alloc, news.len())?;
         let left = 256 - depth;
-        let Plan {
-            went,
-            places,
-            mut came,
-        } = Plan::of(&self.store, self.alloc, id, left, news.as_slice())?;
+        let mut plan = Plan::of(&self.store, self.alloc, id, left, news.as_slice())?;
         let changed = replace(
             &mut self.store,
             &mut self.spares,
@@ -242,15 +236,15 @@ impl Forest {
                 made,
                 spare,
             },
+            &mut plan,
         );
         cover_root(&mut self.blocks, &self.store, &self.roots, changed);
-        list_children(&self.store, id, places.as_slice(), &mut came);
         if !self.marking {
             self.store.settle();
         }
         Ok(Change {
-            went: List::from_vec(went),
-            came: List::from_vec(came),
+            went: List::from_vec(plan.went),
+            came: List::from_vec(plan.came),
         })
     }
 }

@@ -2,11 +2,11 @@
 ghost use Rattle.std.specs.Prelude.{◌≡◌, ◌≤◌, ◌<◌, ◌+◌, ◌++◌, ◌∷◌, [], length, slice_get, OnOk};
 ghost use Rattle.cga_forest.specs.View.{at, kids};
 ghost use Rattle.cga_forest.specs.Tree.{stay_of};
-ghost use Rattle.cga_forest.specs.Gathered.{below, chosen, coming, found, going, listed};
+ghost use Rattle.cga_forest.specs.Gathered.{below, coming, found, going, is_come};
 
 use crate::moved::Moved;
 use crate::node::Node;
-use crate::slots::{child_at, staying, stays};
+use crate::slots::{child_at, stays};
 use crate::store::{Store, child_count};
 use cga_fraction::NoMemory;
 
@@ -59,44 +59,37 @@ pub fn list_going(
     Ok(())
 }
 
-/// Adds the places of the new children where no old one stays.
-pub fn list_coming(
-    store: &Store,
-    id: usize,
-    news: &[Node],
-    places: &mut Vec<usize>,
-) -> Result<(), NoMemory>
-    ensures { OnOk result (places.new.items ≡ places.old.items ++ coming (λ c. at store.now c) (kids (at store.now id)) news.now (length news.now)) }
-{
-    for place in 0..news.len() {
-        if staying(store, id, place, &news[place]).is_none() {
-            places.push(place)?;
-        }
-    }
-    Ok(())
-}
-
-/// Adds the child at a place, if one is there. The room is there already.
-fn list_child(store: &Store, id: usize, place: usize, list: &mut Vec<Moved>)
+/// Adds a node, if it is there. The room is there already.
+fn list_reserved(store: &Store, id: usize, list: &mut Vec<Moved>)
     requires room { length list.old.items < list.old.cap }
-    ensures items { list.new.items ≡ list.old.items ++ found (λ c. at store.now c) (listed (slice_get (kids (at store.now id)) place)) }
+    ensures items { list.new.items ≡ list.old.items ++ found (λ c. at store.now c) (id ∷ []) }
     ensures longer { length list.new.items ≤ length list.old.items + 1 }
     ensures cap { list.new.cap ≡ list.old.cap }
 {
-    if let Some(child) = child_at(store, id, place) {
-        if let Some(entry) = store.get(child) {
-            list.push_reserved(Moved::of(child, &entry.node));
-        }
+    if let Some(entry) = store.get(id) {
+        list.push_reserved(Moved::of(id, &entry.node));
     }
 }
 
-/// Adds the children at these places. The room is there already.
-pub fn list_children(store: &Store, id: usize, places: &[usize], list: &mut Vec<Moved>)
-    requires room { length list.old.items + length places.now ≤ list.old.cap }
-    ensures { list.new.items ≡ list.old.items ++ found (λ c. at store.now c) (chosen (kids (at store.now id)) places.now) }
+/// Whether a child is no old one at its place.
+fn comes(store: &Store, id: usize, place: usize, child: usize) -> bool
+    ensures { result ≡ is_come (slice_get (kids (at store.now id)) place) child }
 {
-    for index in 0..places.len() {
-        let place = places[index];
-        list_child(store, id, place, list);
+    match child_at(store, id, place) {
+        Some(old) => old != child,
+        None => true,
+    }
+}
+
+/// Adds those of a node's new children that are no old ones at their places. The room is there already.
+pub fn list_coming(store: &Store, id: usize, children: &[usize], list: &mut Vec<Moved>)
+    requires room { length list.old.items + length children.now ≤ list.old.cap }
+    ensures { list.new.items ≡ list.old.items ++ found (λ c. at store.now c) (coming (kids (at store.now id)) children.now (length children.now)) }
+{
+    for place in 0..children.len() {
+        let child = children[place];
+        if comes(store, id, place, child) {
+            list_reserved(store, child, list);
+        }
     }
 }

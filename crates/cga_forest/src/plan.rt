@@ -1,9 +1,9 @@
 ghost use Rattle.std.specs.Prelude.{◌≡◌, ◌≤◌, [], length, IfOk};
 ghost use Rattle.cga_forest.specs.View.{at, kids};
 ghost use Rattle.cga_forest.specs.Tree.{stay_of};
-ghost use Rattle.cga_forest.specs.Gathered.{coming, found, going};
+ghost use Rattle.cga_forest.specs.Gathered.{found, going};
 
-use crate::listing::{list_coming, list_going};
+use crate::listing::list_going;
 use crate::moved::Moved;
 use crate::node::Node;
 use crate::store::Store;
@@ -15,15 +15,13 @@ use std::alloc::Global;
 pub struct Plan {
     /// The nodes that will go.
     pub went: Vec<Moved>,
-    /// The places where one will come.
-    pub places: Vec<usize>,
-    /// Room for those.
+    /// Room for those that will come.
     pub came: Vec<Moved>,
 }
 
 impl Plan {
-    /// What will go and come where a node's children are replaced, with at most so many levels at and below each. Takes
-    /// memory.
+    /// What will go where a node's children are replaced, with at most so many levels at and below each, and room for what
+    /// will come. Takes memory.
     pub fn of(
         store: &Store,
         alloc: Global,
@@ -32,15 +30,12 @@ impl Plan {
         news: &[Node],
     ) -> Result<Plan, NoMemory>
         ensures went { IfOk result (λ plan. plan.went.items ≡ found (λ c. at store.now c) (going (λ d. kids (at store.now d)) left (λ k w. stay_of (at store.now k) w) (kids (at store.now id)) news.now (length (kids (at store.now id))))) }
-        ensures places { IfOk result (λ plan. plan.places.items ≡ coming (λ c. at store.now c) (kids (at store.now id)) news.now (length news.now)) }
         ensures empty { IfOk result (λ plan. plan.came.items ≡ []) }
-        ensures room { IfOk result (λ plan. length plan.places.items ≤ plan.came.cap) }
+        ensures room { IfOk result (λ plan. length news.now ≤ plan.came.cap) }
     {
         let mut went = Vec::new(alloc);
         list_going(store, id, left, news, &mut went)?;
-        let mut places = Vec::with_capacity(alloc, news.len())?;
-        list_coming(store, id, news, &mut places)?;
-        let came = Vec::with_capacity(alloc, places.len())?;
-        Ok(Plan { went, places, came })
+        let came = Vec::with_capacity(alloc, news.len())?;
+        Ok(Plan { went, came })
     }
 }

@@ -9,6 +9,6 @@ pub struct Replacement {
     pub news: Vec<Node>,
     /// Room for their numbers.
     pub made: Vec<usize>,
-    /// A box for what the node was.
-    pub spare: FormerBox,
+    /// A box for what the node was, where that is to be kept.
+    pub spare: Option<FormerBox>,
 }

@@ -1,12 +1,17 @@
-ghost use Rattle.std.specs.Prelude.{IfSome, IsSome, [], true, false, ◌≢◌, ◌≡◌, ◌<◌, ◌≤◌, ◌+◌, ◌-◌, ℕ, length, IfOk, OnOk, OnErr, slice_get, Some, None, is_some, option_copied};
-ghost use Rattle.cga_forest.specs.View.{Seen, at, HasRoom, KeepsRoom, present_of, marked_of, hulls_of, marked_hulls_of, kids, flag_if};
+ghost use Rattle.std.specs.Prelude.{IfSome, IsSome, [], true, false, ◌≢◌, ◌≡◌, ◌<◌, ◌≤◌, ◌+◌, ◌-◌, ◌++◌, ℕ, length, IfOk, OnOk, OnErr, slice_get, Some, None, is_some, option_copied};
+ghost use Rattle.cga_forest.specs.View.{Seen, at, HasRoom, KeepsRoom, present_of, marked_of, hulls_of, marked_hulls_of, keeps_former, kids, flag_if};
 ghost use Rattle.cga_forest.specs.Tree.{IsWhole, HasInner, ReplacedBy, IsAt, IsPlaced, depth_at, parent_of, under, goes, stay_of, stay_child};
 ghost use Rattle.cga_forest.specs.declared.node.Node.{Node};
+ghost use Rattle.cga_forest.specs.Gathered.{coming, found};
+ghost use Rattle.cga_forest.specs.Moved.{is_listed};
 ghost use Rattle.cga_forest.specs.Numbers.{StaysTaken};
 
 use crate::due::Due;
 use crate::hulls::refresh;
+use crate::listing::list_coming;
+use crate::moved::Moved;
 use crate::node::Node;
+use crate::plan::Plan;
 use crate::replacement::Replacement;
 use crate::store::{Store, add_node, child_count, flag, rewrite};
 use cga_kept_hulls::Spares;
@@ -58,18 +63,13 @@ pub fn stays(store: &Store, child: usize, news: &[Node], place: usize) -> bool
     }
 }
 
-/// Sets aside the children of a node, with their subtrees, that don't stay.
-pub fn drop_children(store: &mut Store, id: usize, left: usize, news: &[Node])
-    ensures pointwise { (c : ℕ) → at store.new c ≡ flag_if (goes (λ d. kids (at store.old d)) left (λ k w. stay_of (at store.old k) w) (kids (at store.old id)) news.now (length (kids (at store.old id))) c) (at store.old c) }
+/// Sets aside the nodes of a list.
+fn set_aside_all(store: &mut Store, list: &[Moved])
+    ensures pointwise { (c : ℕ) → at store.new c ≡ flag_if (is_listed list.now c) (at store.old c) }
     ensures room { KeepsRoom store.old store.new }
 {
-    let count = child_count(store, id);
-    for place in 0..count {
-        if let Some(child) = child_at(store, id, place) {
-            if !stays(store, child, news, place) {
-                set_aside(store, child, left);
-            }
-        }
+    for moved in list {
+        let _children = flag(store, moved.id.number() as usize);
     }
 }
 
@@ -134,7 +134,8 @@ pub fn parent_at(store: &Store, id: usize) -> Option<usize>
     }
 }
 
-/// Gives a node another state and other children. The room is there already. Answers the root, where its hulls changed.
+/// Gives a node another state and other children, by a plan, and lists in it what came. The room is there already. Answers
+/// the root, where its hulls changed.
 pub fn replace(
     store: &mut Store,
     spares: &mut Spares,
@@ -142,12 +143,16 @@ pub fn replace(
     id: usize,
     marking: bool,
     new: Replacement,
+    plan: &mut Plan,
 ) -> Option<usize>
     requires room { HasRoom store.old (length new.news.items) }
+    requires listed { length plan.old.came.items + length new.news.items ≤ plan.old.came.cap }
+    requires went { (c : ℕ) → is_listed plan.old.went.items c ≡ goes (λ d. kids (at store.old d)) (256 - depth_at (at store.old id)) (λ k w. stay_of (at store.old k) w) (kids (at store.old id)) new.news.items (length (kids (at store.old id))) c }
     requires empty { new.made.items ≡ [] }
     requires space { length new.news.items ≤ new.made.cap }
     requires whole { IsWhole (λ c. present_of (at store.old c)) (λ c. hulls_of (at store.old c)) }
     requires here { HasInner (present_of (at store.old id)) new.state new.news.items }
+    requires spare { keeps_former marking (at store.old id) ≡ true → is_some new.spare ≡ true }
     requires spares { depth_at (at store.old id) < length spares.old.boxes.items }
     ensures whole { IsWhole (λ c. present_of (at store.new c)) (λ c. hulls_of (at store.new c)) }
     ensures replaced { ReplacedBy (λ c. present_of (at store.old c)) (λ c. present_of (at store.new c)) id new.state new.news.items (λ c. goes (λ d. kids (at store.old d)) (256 - depth_at (at store.old id)) (λ k w. stay_of (at store.old k) w) (kids (at store.old id)) new.news.items (length (kids (at store.old id))) c) }
@@ -156,6 +161,8 @@ pub fn replace(
     ensures marked { marking ≡ true → (c : ℕ) → marked_of (at store.new c) ≡ marked_of (at store.old c) }
     ensures marked_hulls { marking ≡ true → (c : ℕ) → marked_hulls_of (at store.new c) ≡ marked_hulls_of (at store.old c) }
     ensures others { (c : ℕ) (d : Seen) → present_of (at store.old c) ≡ Some d → d.parent ≡ None → result ≢ Some c → hulls_of (at store.new c) ≡ hulls_of (at store.old c) }
+    ensures went { plan.new.went.items ≡ plan.old.went.items }
+    ensures came { plan.new.came.items ≡ plan.old.came.items ++ found (λ c. at store.new c) (coming (kids (at store.old id)) (kids (at store.new id)) (length (kids (at store.new id)))) }
 {
     let Replacement {
         state,
@@ -163,9 +170,9 @@ pub fn replace(
         mut made,
         spare,
     } = new;
-    let depth = depth_of(store, id);
-    drop_children(store, id, 256 - depth, news.as_slice());
+    set_aside_all(store, plan.went.as_slice());
     place_children(store, alloc, id, marking, news, &mut made);
+    list_coming(store, id, made.as_slice(), &mut plan.came);
     rewrite(store, id, marking, state, made, spare);
     refresh(store, spares, id, marking, Due::All)
 }

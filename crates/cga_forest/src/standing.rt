@@ -12,7 +12,7 @@ use crate::entry::Entry;
 use crate::node::Node;
 use crate::store::Store;
 use cga_index::Standing;
-use cga_order::{Chain, Kind, cmp_stamp};
+use cga_order::{Chain, Kind, cmp_stamp, same_steps};
 use cga_word::Mode;
 
 /// The entry of a node that is there.
@@ -27,7 +27,7 @@ pub fn present(store: &Store, id: usize) -> Option<&Entry>
 
 /// Whether a node is another one or an ancestor of it. Lengths and the node's last index tell most strangers apart before
 /// lots and paths are looked at.
-fn is_above(node: &Node, other: &Node) -> bool
+pub fn is_above(node: &Node, other: &Node) -> bool
     ensures { IsTrue result ↔ IsOnPath node.now other.now }
 {
     let path = node.shape.path.as_slice();
@@ -36,7 +36,7 @@ fn is_above(node: &Node, other: &Node) -> bool
     depth <= whole.len()
         && (depth == 0 || path[depth - 1] == whole[depth - 1])
         && node.shape.lot == other.shape.lot
-        && whole[..depth] == path[..]
+        && same_steps(&whole[..depth], path)
 }
 
 /// Whether a node's stamp comes before another's.

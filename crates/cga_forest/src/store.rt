@@ -1,11 +1,12 @@
-ghost use Rattle.std.specs.Prelude.{true, ◌≢◌, ◌≡◌, ◌+◌, ℕ, length, None};
-ghost use Rattle.cga_forest.specs.View.{at, HasRoom, KeepsRoom, IsNewEntry, last_from, flag_if, kids, rewritten, rehulled, present_of, marked_of, hulls_of, marked_hulls_of};
+ghost use Rattle.std.specs.Prelude.{true, ◌≢◌, ◌≡◌, ◌+◌, ℕ, length, is_some, None, IfOk};
+ghost use Rattle.cga_forest.specs.View.{at, HasRoom, KeepsRoom, IsNewEntry, last_from, flag_if, keeps_former, kids, rewritten, rehulled, present_of, marked_of, hulls_of, marked_hulls_of};
 
 use crate::entry::Entry;
 use crate::former_box::FormerBox;
 use crate::new_content::NewContent;
 use crate::new_hulls::NewHulls;
 use crate::node::{Node, State};
+use cga_fraction::NoMemory;
 use cga_kept_hulls::{Hulls, HullsBox, KeptHulls};
 use cga_marked::MarkedSlab;
 use std::alloc::Global;
@@ -63,19 +64,35 @@ pub fn child_count(store: &Store, id: usize) -> usize
     }
 }
 
-/// Gives a node another state and other children. Under a mark the first such call of a node that was there
-/// at the mark keeps the former ones.
+/// A box for what a node is, where that is to be kept for the mark. Takes memory for it.
+pub fn spare_for(
+    store: &Store,
+    alloc: Global,
+    id: usize,
+    marking: bool,
+    state: State,
+) -> Result<Option<FormerBox>, NoMemory>
+    ensures { IfOk result (λ spare. keeps_former marking (at store.now id) ≡ true → is_some spare ≡ true) }
+{
+    match store.get(id) {
+        Some(entry) if entry.keeps_former(marking) => Ok(Some(FormerBox::new(alloc, state)?)),
+        _ => Ok(None),
+    }
+}
+
+/// Gives a node another state and other children. Under a mark the first such call of a node that was there at the mark keeps
+/// the former ones, in the box.
 pub fn rewrite(
     store: &mut Store,
     id: usize,
     marking: bool,
     state: State,
     children: Vec<usize>,
-    spare: FormerBox,
+    spare: Option<FormerBox>,
 )
     ensures others { (c : ℕ) → c ≢ id → at store.new c ≡ at store.old c }
     ensures present { present_of (at store.new id) ≡ rewritten state children.items (present_of (at store.old id)) }
-    ensures marked { marking ≡ true → marked_of (at store.new id) ≡ marked_of (at store.old id) }
+    ensures marked { marking ≡ true → (keeps_former marking (at store.old id) ≡ true → is_some spare ≡ true) → marked_of (at store.new id) ≡ marked_of (at store.old id) }
     ensures hulls { hulls_of (at store.new id) ≡ hulls_of (at store.old id) }
     ensures marked_hulls { marked_hulls_of (at store.new id) ≡ marked_hulls_of (at store.old id) }
     ensures room { KeepsRoom store.old store.new }

@@ -155,6 +155,13 @@ module _ (p : Probe) where
   over_all H own xs zero t w = t
   over_all H own xs (suc n) t w = with_both (over H own xs n) (at_hulls H (slice_get xs n)) (over_all H own xs n t w) (λ h e. let r = at_some H (slice_get xs n) h e in w n r.0 h r.1 r.2)
 
+-- hulls that hold a node's own and each child's hold those of all
+pub all_held : (H : ℕ → Option Hulls) (own h : Hulls) (xs : List ℕ) → holds_hulls h own ≡ true
+    → ((i k : ℕ) (x : Hulls) → slice_get xs i ≡ Some k → H k ≡ Some x → holds_hulls h x ≡ true)
+    → holds_hulls h (over H own xs (length xs)) ≡ true
+all_held H own h xs mine each = holds_from h _ (λ p t.
+    over_all p H own xs (length xs) (probed_chain p h own mine t) (λ i k x at e. probed_chain p h x (each i k x at e) t))
+
 -- ---- one child's hulls grew
 
 module _ (H J : ℕ → Option Hulls) (id : ℕ) (old new : Hulls) (was : H id ≡ Some old) (is : J id ≡ Some new) (others : (c : ℕ) → c ≢ id → J c ≡ H c) (grew : holds_hulls new old ≡ true)

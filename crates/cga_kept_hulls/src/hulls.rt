@@ -59,6 +59,18 @@ impl Hulls {
         self.all.holds(&other.all) && within(&self.asking, &other.asking)
     }
 
+    /// Whether they hold one box, which asks or not.
+    pub fn hold_box(&self, bounds: &WorldBox, asks: bool) -> bool
+        ensures { result ≡ holds_hulls self.now (hulls_alone bounds.now asks) }
+    {
+        self.all.holds(bounds)
+            && (!asks
+                || match &self.asking {
+                    Some(hull) => hull.holds(bounds),
+                    None => false,
+                })
+    }
+
     /// Whether each holds the other.
     pub fn is_like(&self, other: &Hulls) -> bool
         ensures { result ≡ alike self.now other.now }

@@ -1,7 +1,7 @@
 ghost use Rattle.std.specs.Prelude.{◌≡◌, Some};
 ghost use Rattle.cga_frame.specs.Box.{box_of, touches};
 ghost use Rattle.cga_kept_hulls.specs.Blocks.{opt_touches};
-ghost use Rattle.cga_kept_hulls.specs.Hull.{hulls_from, with_hulls};
+ghost use Rattle.cga_kept_hulls.specs.Hull.{holds_hulls, hulls_from, with_hulls};
 
 use crate::hulls::Hulls;
 use crate::hulls_box::HullsBox;
@@ -33,6 +33,16 @@ impl KeptHulls {
         match self {
             KeptHulls::Own(asks) => hulls.take_in_box(&scope.world_box(), *asks),
             KeptHulls::Other(kept) => hulls.take_in(kept.get()),
+        }
+    }
+
+    /// Whether others hold them.
+    pub fn lie_in(&self, scope: &Scope, outer: &Hulls) -> bool
+        ensures { result ≡ holds_hulls outer.now (hulls_from (box_of scope.now) self.now) }
+    {
+        match self {
+            KeptHulls::Own(asks) => outer.hold_box(&scope.world_box(), *asks),
+            KeptHulls::Other(kept) => outer.holds(kept.get()),
         }
     }
 

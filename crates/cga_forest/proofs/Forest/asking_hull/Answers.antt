@@ -3,7 +3,8 @@ use Rattle.std.specs.Prelude.{is_some}
 use Rattle.cga_forest.specs.Hull.{hulls_known}
 use Rattle.cga_forest.specs.View.{hulls_of, slot}
 use Rattle.cga_forest.specs.Tree.{ForestView, node_at}
-use Rattle.cga_forest.proofs.Right.{is_there, slot_there}
+use Rattle.cga_forest.proofs.Present.{slot_there}
+use Rattle.cga_forest.proofs.Right.{is_there}
 use Rattle.cga_forest.proofs.Least.{least_asking_if, none_asking}
 use Rattle.cga_forest.proofs.Forest.asking_hull.Goals as goal
 

@@ -4,7 +4,8 @@ use Rattle.cga_order.specs.Chain as order
 use Rattle.cga_forest.specs.declared.entry.Entry.{Entry}
 use Rattle.cga_forest.specs.View.{Seen, present_of, slot}
 use Rattle.cga_forest.specs.Tree.{ForestView, node_at}
-use Rattle.cga_forest.proofs.Right.{is_there, present_some}
+use Rattle.cga_forest.proofs.Present.{present_some}
+use Rattle.cga_forest.proofs.Right.{is_there}
 use Rattle.cga_forest.specs.declared.node.Node.{Node}
 use Rattle.cga_forest.specs.Node.{chain_kept}
 use Rattle.cga_forest.proofs.Forest.chain.Goals as goal

@@ -1,8 +1,9 @@
 use Rattle.std.proofs.Common.{refl, true, Some, ◌≡◌, ◌++◌, ◌-◌, ℕ, List, length, sym, ◌∙◌, ap, subst, arith}
 use Rattle.std.specs.Prelude.{Option, is_some}
-use Rattle.cga_forest.proofs.Right.{is_there, slot_there, depth_present}
+use Rattle.cga_forest.proofs.Present.{slot_there, depth_present}
+use Rattle.cga_forest.proofs.Right.{is_there}
 use Rattle.cga_forest.specs.declared.entry.Entry.{Entry}
-use Rattle.cga_forest.specs.Gathered.{chosen, coming, found, going}
+use Rattle.cga_forest.specs.Gathered.{coming, found, going}
 use Rattle.cga_forest.specs.View.{at, kids, slot, present_of, marked_of, hulls_of, marked_hulls_of}
 use Rattle.cga_forest.specs.Tree.{ForestView, IsWhole, depth_at, stay_of, slot_at, node_at, hulls_at, marked_at}
 use Rattle.cga_forest.proofs.Marks.{IsWhole-same, IsForest-settled, IsForest-marked, present_settled}
@@ -10,8 +11,8 @@ use Rattle.cga_forest.proofs.Covered.{covered_but, covered_part}
 use Rattle.cga_forest.proofs.Heads.{settled_hulls}
 use Rattle.cga_forest.proofs.Through.{tops_replaced, ReplacedBy-same, Replaces-from, ListsMoved-same}
 use Rattle.cga_forest.specs.declared.moved.Moved.{Moved}
-use Rattle.cga_forest.specs.Moved.{ListsMoved}
-use Rattle.cga_forest.proofs.WentCame.{lists_went, lists_came}
+use Rattle.cga_forest.specs.Moved.{ListsMoved, is_listed}
+use Rattle.cga_forest.proofs.WentCame.{listed_goes, lists_went, lists_came}
 use Rattle.cga_forest.proofs.Tree.{IsTree-same}
 use Rattle.cga_forest.proofs.Tops.{HasRoots-same}
 use Rattle.cga_forest.proofs.Forest.replace_with.Goals as goal
@@ -45,6 +46,15 @@ replace-changed-requires-clause-spares c = let is = c.depth_of-depth.ensures in 
 
 pub replace-changed-requires-clause-whole : goal.replace-changed-requires-clause-whole
 replace-changed-requires-clause-whole c = IsWhole-same (node_at (record { slots = c.self.inside.store.slots; marking = c.self.inside.marking; roots = c.self.inside.roots.list; marked_roots = c.self.inside.roots.former; mode = c.self.inside.mode })) _ (hulls_at (record { slots = c.self.inside.store.slots; marking = c.self.inside.marking; roots = c.self.inside.roots.list; marked_roots = c.self.inside.roots.former; mode = c.self.inside.mode })) _ (λ k. ap (λ (s : List (Option Entry)). present_of (slot s k)) c.in_ok-reserve.ensures.slots) (λ k e t. ap (λ (s : List (Option Entry)). hulls_of (slot s k)) c.in_ok-reserve.ensures.slots) c.self.invariant.forest.present
+
+pub replace-changed-requires-clause-went : goal.replace-changed-requires-clause-went
+replace-changed-requires-clause-went c k =
+    let there = ap (λ (s : List (Option Entry)). present_of (slot s c.args.id)) c.in_ok-reserve.ensures.slots ∙ (ap (λ (v : ForestView). node_at v c.args.id) c.self.view_is ∙ c.requires.here.1) in
+    let whole : IsWhole (λ k. present_of (at c.reserve.new.self k)) (λ k. hulls_of (at c.reserve.new.self k)) = IsWhole-same (node_at (record { slots = c.self.inside.store.slots; marking = c.self.inside.marking; roots = c.self.inside.roots.list; marked_roots = c.self.inside.roots.former; mode = c.self.inside.mode })) _ (hulls_at (record { slots = c.self.inside.store.slots; marking = c.self.inside.marking; roots = c.self.inside.roots.list; marked_roots = c.self.inside.roots.former; mode = c.self.inside.mode })) _ (λ k. ap (λ (s : List (Option Entry)). present_of (slot s k)) c.in_ok-reserve.ensures.slots) (λ k e t. ap (λ (s : List (Option Entry)). hulls_of (slot s k)) c.in_ok-reserve.ensures.slots) c.self.invariant.forest.present in
+    let gathered : c.in_ok-plan.plan.went.items ≡ found (λ k. at c.reserve.new.self k) (going (λ d. kids (at c.reserve.new.self d)) (256 - depth_at (at c.reserve.new.self c.args.id)) (λ k w. stay_of (at c.reserve.new.self k) w) (kids (at c.reserve.new.self c.args.id)) c.args.news.items (length (kids (at c.reserve.new.self c.args.id)))) =
+    rw (← c.as_slice.ensures.value, ← c.depth_of-depth.ensures) c.in_ok-plan.ensures.went in
+    ap (λ (l : List Moved). is_listed l k) gathered
+    ∙ listed_goes (λ d. at c.reserve.new.self d) c.args.id (256 - depth_at (at c.reserve.new.self c.args.id)) c.args.news.items c.requires.here.0 whole.tree there k
 
 pub cover_root-requires-clause-tops : goal.cover_root-requires-clause-tops
 cover_root-requires-clause-tops c = tops_replaced (λ k. present_of (at c.reserve.new.self k)) (λ k. present_of (at c.replace-changed.new.store k)) c.self.inside.roots.list c.args.id c.args.state c.args.news.items _ c.replace-changed.ensures.replaced
@@ -87,11 +97,6 @@ returns-clause-replaced c =
     (λ k. ap (λ (v : ForestView). node_at v k) (sym c.self.view_is) ∙ ap (λ (s : List (Option Entry)). present_of (slot s k)) (sym c.in_ok-reserve.ensures.slots))
     now c.replace-changed.ensures.replaced)
 
-pub list_children-requires : goal.list_children-requires
-list_children-requires c = record {
-  room = (let a = ap length c.in_ok-went.ensures.empty in let b = ap length c.as_slice-2.ensures.value in let r = c.in_ok-went.ensures.room in omega arith);
-}
-
 pub returns-clause-went : goal.returns-clause-went
 returns-clause-went c =
     let now : (k : ℕ) → node_at c.if-not-self.self k ≡ present_of (at c.replace-changed.new.store k) = elim c.if-not-self.branch [
@@ -100,10 +105,10 @@ returns-clause-went c =
     ] in
     let old : (k : ℕ) → node_at c.args.self.now k ≡ present_of (at c.reserve.new.self k) = (λ k. ap (λ (v : ForestView). node_at v k) (sym c.self.view_is) ∙ ap (λ (s : List (Option Entry)). present_of (slot s k)) (sym c.in_ok-reserve.ensures.slots)) in
     let whole : IsWhole (λ k. present_of (at c.reserve.new.self k)) (λ k. hulls_of (at c.reserve.new.self k)) = IsWhole-same (node_at (record { slots = c.self.inside.store.slots; marking = c.self.inside.marking; roots = c.self.inside.roots.list; marked_roots = c.self.inside.roots.former; mode = c.self.inside.mode })) _ (hulls_at (record { slots = c.self.inside.store.slots; marking = c.self.inside.marking; roots = c.self.inside.roots.list; marked_roots = c.self.inside.roots.former; mode = c.self.inside.mode })) _ (λ k. ap (λ (s : List (Option Entry)). present_of (slot s k)) c.in_ok-reserve.ensures.slots) (λ k e t. ap (λ (s : List (Option Entry)). hulls_of (slot s k)) c.in_ok-reserve.ensures.slots) c.self.invariant.forest.present in
-    let gathered : c.in_ok-went.field-0.went.items ≡ found (λ k. at c.reserve.new.self k) (going (λ d. kids (at c.reserve.new.self d)) (256 - depth_at (at c.reserve.new.self c.args.id)) (λ k w. stay_of (at c.reserve.new.self k) w) (kids (at c.reserve.new.self c.args.id)) c.args.news.items (length (kids (at c.reserve.new.self c.args.id)))) =
-    rw (← c.as_slice.ensures.value, ← c.depth_of-depth.ensures) c.in_ok-went.ensures.went in
+    let gathered : c.in_ok-plan.plan.went.items ≡ found (λ k. at c.reserve.new.self k) (going (λ d. kids (at c.reserve.new.self d)) (256 - depth_at (at c.reserve.new.self c.args.id)) (λ k w. stay_of (at c.reserve.new.self k) w) (kids (at c.reserve.new.self c.args.id)) c.args.news.items (length (kids (at c.reserve.new.self c.args.id)))) =
+    rw (← c.as_slice.ensures.value, ← c.depth_of-depth.ensures) c.in_ok-plan.ensures.went in
     ListsMoved-same (λ k. present_of (at c.reserve.new.self k)) (λ k. present_of (at c.replace-changed.new.store k)) _ _ _ old now
-    (subst (λ (l : List Moved). ListsMoved (λ k. present_of (at c.reserve.new.self k)) (λ k. present_of (at c.replace-changed.new.store k)) l) (sym (c.from_vec.ensures ∙ gathered))
+    (subst (λ (l : List Moved). ListsMoved (λ k. present_of (at c.reserve.new.self k)) (λ k. present_of (at c.replace-changed.new.store k)) l) (sym (c.from_vec.ensures ∙ c.replace-changed.ensures.went ∙ gathered))
     (lists_went (λ k. at c.reserve.new.self k) (λ k. present_of (at c.replace-changed.new.store k)) c.args.id _ c.args.news.items c.replace-changed.ensures.replaced.0 _ whole.tree c.replace-changed.ensures.replaced.2))
 
 pub returns-clause-came : goal.returns-clause-came
@@ -115,10 +120,7 @@ returns-clause-came c =
     let old : (k : ℕ) → node_at c.args.self.now k ≡ present_of (at c.reserve.new.self k) = (λ k. ap (λ (v : ForestView). node_at v k) (sym c.self.view_is) ∙ ap (λ (s : List (Option Entry)). present_of (slot s k)) (sym c.in_ok-reserve.ensures.slots)) in
     let whole : IsWhole (λ k. present_of (at c.reserve.new.self k)) (λ k. hulls_of (at c.reserve.new.self k)) = IsWhole-same (node_at (record { slots = c.self.inside.store.slots; marking = c.self.inside.marking; roots = c.self.inside.roots.list; marked_roots = c.self.inside.roots.former; mode = c.self.inside.mode })) _ (hulls_at (record { slots = c.self.inside.store.slots; marking = c.self.inside.marking; roots = c.self.inside.roots.list; marked_roots = c.self.inside.roots.former; mode = c.self.inside.mode })) _ (λ k. ap (λ (s : List (Option Entry)). present_of (slot s k)) c.in_ok-reserve.ensures.slots) (λ k e t. ap (λ (s : List (Option Entry)). hulls_of (slot s k)) c.in_ok-reserve.ensures.slots) c.self.invariant.forest.present in
     let t = λ (k : ℕ). at c.replace-changed.new.store k in
-    let places : c.in_ok-went.field-0.places.items ≡ coming (λ k. at c.reserve.new.self k) (kids (at c.reserve.new.self c.args.id)) c.args.news.items (length c.args.news.items) =
-    rw (← c.as_slice.ensures.value) c.in_ok-went.ensures.places in
-    let gathered : c.list_children.new.list.items ≡ found t (chosen (kids (t c.args.id)) (coming (λ k. at c.reserve.new.self k) (kids (at c.reserve.new.self c.args.id)) c.args.news.items (length c.args.news.items))) =
-    c.list_children.ensures ∙ ap (λ (l : List Moved). l ++ found t (chosen (kids (t c.args.id)) c.as_slice-2.result.now)) c.in_ok-went.ensures.empty ∙ ap (λ p. found t (chosen (kids (t c.args.id)) p)) (c.as_slice-2.ensures.value ∙ places) in
+    let gathered = c.replace-changed.ensures.came ∙ ap (λ (l : List Moved). l ++ found t (coming (kids (at c.reserve.new.self c.args.id)) (kids (t c.args.id)) (length (kids (t c.args.id))))) c.in_ok-plan.ensures.empty in
     ListsMoved-same (λ k. present_of (at c.replace-changed.new.store k)) (λ k. present_of (at c.reserve.new.self k)) _ _ _ now old
     (subst (λ (l : List Moved). ListsMoved (λ k. present_of (at c.replace-changed.new.store k)) (λ k. present_of (at c.reserve.new.self k)) l) (sym (c.from_vec-2.ensures ∙ gathered))
     (lists_came (λ k. at c.reserve.new.self k) (λ k. present_of (at c.replace-changed.new.store k)) c.args.id _ c.args.news.items c.replace-changed.ensures.replaced.0 _ whole.tree c.replace-changed.ensures.replaced.2 (λ k. at c.replace-changed.new.store k) (λ k. refl)))

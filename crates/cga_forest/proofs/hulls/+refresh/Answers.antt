@@ -7,7 +7,8 @@ use Rattle.cga_kept_hulls.specs.Hull.{holds_hulls, over}
 use Rattle.cga_forest.specs.Hull.{own_hulls}
 use Rattle.cga_forest.specs.View.{Seen, at, hulls_of, present_of, marked_of, marked_hulls_of}
 use Rattle.cga_forest.proofs.Known.{same_but}
-use Rattle.cga_forest.proofs.Right.{is_there, tree_now, step_up, step_top, step_due, step_kept, step_within, grown_above, parent_there, climbs, present_some, right_still}
+use Rattle.cga_forest.proofs.Present.{present_some}
+use Rattle.cga_forest.proofs.Right.{is_there, tree_now, step_up, step_top, step_due, step_kept, step_within, grown_above, parent_there, climbs, right_still}
 use Rattle.cga_forest.proofs.hulls.+refresh.Goals as goal
 use Rattle.cga_forest.proofs.Heads.{written_above, written_here}
 use Rattle.cga_forest.proofs.Numbers.{rehulled_there, there_but}
@@ -95,3 +96,13 @@ returns-then-are_kept-clause-right t c =
     (c.requires.within e.0 c.in-Some.old kept.1 kept.0 e.1 (sym c.in-Some.ensures) kept.2 kept.3)
     (subst (λ (s : Seen). holds_hulls (over H (own_hulls s.node) s.children (length s.children)) c.in-Some.old ≡ true) x.2 (kept.4 x.0 x.1))
     c.requires.right
+
+pub returns-then-are_own-clause-right : goal.returns-then-are_own-clause-right
+returns-then-are_own-clause-right t c =
+    let H : ℕ → Option Hulls = λ k. hulls_of (at c.args.store.now k) in
+    let e = is_there _ c.requires.here in
+    let x = present_some (at c.args.store.now c.args.id) e.0 e.1 in
+    let own = c.are_own.ensures c.if-are_own.true x.0 x.1 in
+    let all = λ (s : Seen). over H (own_hulls s.node) s.children (length s.children) in
+    let holds = subst (λ (s : Seen). (holds_hulls c.in-Some.old (all s) ≡ true) × (holds_hulls (all s) c.in-Some.old ≡ true)) x.2 own in
+    right_still (λ k. present_of (at c.args.store.now k)) H c.args.id e.0 c.in-Some.old e.1 (sym c.in-Some.ensures) holds.0 holds.1 c.requires.right

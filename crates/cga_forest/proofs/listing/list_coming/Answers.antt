@@ -1,30 +1,44 @@
 use Rattle.std.proofs.Common.{◌≡◌, ◌++◌, ℕ, sym, ap, ◌∙◌, length, arith}
-use Rattle.std.specs.Prelude.{Some, not, slice_get}
 use Rattle.cga_forest.specs.View.{at, kids}
-use Rattle.cga_forest.specs.Gathered.{coming}
-use Rattle.cga_forest.proofs.Listed.{places_start, places_more, places_same, got_at, none_from, some_from}
+use Rattle.cga_forest.specs.Gathered.{coming, found}
+use Rattle.cga_forest.proofs.Listed.{coming_zero, coming_more, coming_same, found_is, found_join, found_none, got_at}
 use Rattle.cga_forest.proofs.listing.list_coming.Goals as goal
-use Rattle.cga_forest.proofs.listing.list_coming.Goals.{then-is_none+in_ok-push, else-is_none}
+use Rattle.cga_forest.proofs.listing.list_coming.Goals.{then-comes, else-comes}
 
 pub loop-place-init : goal.loop-place-init
-loop-place-init c = places_start (λ k. at c.args.store.now k) (kids (at c.args.store.now c.args.id)) c.args.news.now _
+loop-place-init c = record {
+  items = found_none (λ k. at c.args.store.now k) _ _ (coming_zero (kids (at c.args.store.now c.args.id)) c.args.children.now);
+  room = omega (arith, c.requires);
+}
+
+pub list_reserved-requires : goal.list_reserved-requires
+list_reserved-requires c =
+    let r = c.loop-place.invariant.room in
+    let t = c.loop-place-test.true in
+    record { room = omega (arith, r, t) }
 
 pub loop-place-preserved : goal.loop-place-preserved
 loop-place-preserved c =
     let s = λ (k : ℕ). at c.args.store.now k in
     let olds = kids (at c.args.store.now c.args.id) in
-    let news = c.args.news.now in
+    let children = c.args.children.now in
     let i = c.loop-place.place in
-    let first : slice_get news i ≡ Some c.index-news-place.result = got_at news i c.index-news-place.result c.loop-place-test.true ∙ ap (λ x. Some x) (sym c.index-news-place.is) in
-    elim c.if-is_none.branch [
-      | then-is_none+in_ok-push w ↦ rw w.places-is (
-          places_more s olds news _ _ _ i c.index-news-place.result first (sym c.staying.ensures ∙ none_from c.staying.result (c.is_none.ensures ∙ ap not w.if-is_none.true)) c.loop-place.invariant w.in_ok-push.ensures.items)
-      | else-is_none w ↦ rw w.places-is (
-          let k = some_from c.staying.result (c.is_none.ensures ∙ ap not w.if-is_none.false) in
-          places_same s olds news _ _ i k.0 c.index-news-place.result first (sym c.staying.ensures ∙ k.1) c.loop-place.invariant)
-    ]
+    let here = got_at children i 0 c.loop-place-test.true in
+    record {
+      items = elim c.if-comes.branch [
+        | then-comes w ↦ rw w.list-is (
+            found_is s _ _ _ _ (coming_more olds children i _ here (sym c.comes.ensures ∙ w.if-comes.true))
+            (found_join s _ _ _ (coming olds children i) _ c.loop-place.invariant.items w.list_reserved.ensures.items))
+        | else-comes w ↦ rw w.list-is (
+            found_is s _ _ _ _ (coming_same olds children i _ here (sym c.comes.ensures ∙ w.if-comes.false)) c.loop-place.invariant.items)
+      ];
+      room = elim c.if-comes.branch [
+        | then-comes w ↦ rw w.list-is (let a = c.loop-place.invariant.room in let b = w.list_reserved.ensures.longer in let k = w.list_reserved.ensures.cap in omega arith)
+        | else-comes w ↦ rw w.list-is (let a = c.loop-place.invariant.room in omega arith)
+      ];
+    }
 
 pub returns : goal.returns
 returns c =
-    let e : c.loop-place.place ≡ length c.args.news.now = (let t = c.loop-place-test.false in let u = c.loop-place.auto.place-end in omega arith) in
-    c.loop-place.invariant ∙ ap (λ n. c.args.places.now.items ++ coming (λ k. at c.args.store.now k) (kids (at c.args.store.now c.args.id)) c.args.news.now n) e
+    let e : c.loop-place.place ≡ length c.args.children.now = (let t = c.loop-place-test.false in let u = c.loop-place.auto.place-end in omega arith) in
+    c.loop-place.invariant.items ∙ ap (λ n. c.args.list.now.items ++ found (λ k. at c.args.store.now k) (coming (kids (at c.args.store.now c.args.id)) c.args.children.now n)) e
