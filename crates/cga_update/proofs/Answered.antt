@@ -31,7 +31,7 @@ use Rattle.cga_forest.specs.Walked.{forest_tree, own_of}
 use Rattle.cga_update.specs.Asked.{answered}
 use Rattle.cga_update.specs.Edit.{ranked, kept_nodes}
 use Rattle.cga_update.proofs.Nodes.{member-node, node-member, kept_bound}
-use Rattle.cga_update.proofs.Places.{path_above, above_path}
+use Rattle.cga_update.proofs.Places.{above_by_path, path_by_above}
 use Rattle.cga_update.proofs.Seen.{the_world, is_asked, counts_is}
 
 -- a shape is on the path of another
@@ -157,7 +157,7 @@ module _ (v : ForestView) (f : IsForest v) (old new : Sources) (mode : v.mode �
         let passes = and_right _ _ both in
         let off : not (on_path n.0.node.shape a.node.shape) ≡ true = not_false _ (λ on.
         let parts = on_path-parts n.0.node.shape a.node.shape on in
-        not_true _ (and_left _ _ both) (path_above v f a.depth 257 w.0 by n.0 a refl shallow n.1 here parts)) in
+        not_true _ (and_left _ _ both) (above_by_path v f w.0 by n.0 a shallow n.1 here parts)) in
         let member = node-member T (length v.slots) w.0 n.0 n.1 (kept_bound v w.0 n.0 n.1) in
         let among = Among-shapes_where (is_asked old new target (ranked a.node)) (members_of (kept_nodes v)) (ranked n.0.node) n.0.node.kind member passes in
         shape_any p a.node.shape shapes n.0.node.shape (map-Among (λ (m : Ranked Shape). m.shape) _ (ranked n.0.node) among) off (ap p (sym (own_is w.0 n.0 n.1)) ∙ w.3)
@@ -172,7 +172,7 @@ module _ (v : ForestView) (f : IsForest v) (old new : Sources) (mode : v.mode �
         let shape : n.1.node.shape ≡ w.0 = ap (λ (m : Ranked Shape). m.shape) n.3 ∙ r.2 in
         let passes : is_asked old new target (ranked a.node) (ranked n.1.node) n.1.node.kind ≡ true = ap (λ m. is_asked old new target (ranked a.node) m n.1.node.kind) n.3 ∙ ap (is_asked old new target (ranked a.node) r.0) n.4 ∙ k.2 in
         let apart : not (is_above T 257 n.0 by) ≡ true = not_false _ (λ up.
-        let on = above_path v f 257 n.0 by n.1 a n.2 here up in
+        let on = path_by_above v f n.0 by n.1 a n.2 here up in
         not_true _ w.2 (on_path-make w.0 a.node.shape (ap (λ (m : Shape). m.lot) (sym shape) ∙ on.0) (ap (λ (m : Shape). m.path) (sym shape) ∙ on.1 ∙ ap (λ (m : Shape). take (length m.path) a.node.shape.path) shape))) in
         number_any p (forest_tree v).own counts (all_nodes (forest_tree v)) n.0 (inside v f n.0 (n.1, n.2)) (◌∙◌ {b = not (is_above T 257 n.0 by) && is_asked old new target (ranked a.node) (ranked n.1.node) n.1.node.kind} (counted n.0 n.1 n.2) (and_both (not (is_above T 257 n.0 by)) (is_asked old new target (ranked a.node) (ranked n.1.node) n.1.node.kind) apart passes)) (ap p (own_is n.0 n.1 n.2) ∙ ap (λ (m : Shape). p (box_of m.scope)) shape ∙ w.3)
 

@@ -12,13 +12,21 @@ use Rattle.cga_expand.specs.Children.{placed_at, placed_from, placed_by}
 use Rattle.cga_expand.specs.Derivation.{children_of, priority_of}
 use Rattle.cga_expand.specs.Expand.{expand_of}
 use Rattle.cga_forest.specs.declared.node.Node.{Node}
-use Rattle.cga_forest.specs.Node.{with_state}
+use Rattle.cga_forest.specs.Node.{fits, with_state}
 use Rattle.cga_forest.specs.Placing.{Outcome, child_node, children_after, children_from, state_after}
 use Rattle.cga_rework.specs.City.{StandsBelow}
 use Rattle.cga_rework.specs.Nodes.{placed_of}
-use Rattle.cga_rework.specs.Turn.{AreNews, IsOutcome, KeepsSelf}
+use Rattle.cga_rework.specs.Turn.{AreNews, IsFit, IsOutcome, KeepsSelf}
 use Rattle.cga_update.specs.Edit.{content, rules_of, shapes_of}
 use Rattle.cga_expand.proofs.Door.{said_priority}
+use Rattle.cga_forest.proofs.Door.{fits_sound, fits_whole}
+
+-- how a forest compares contents is how the theory does
+pub is_fit : IsFit content fits
+is_fit = record {
+  sound = λ x y h. (let a = fits_sound x y h in record { shape = a.shape; priority = a.priority; instances = a.instances; solid = a.primitive });
+  whole = λ x y a. fits_whole x y (record { shape = a.shape; priority = a.priority; instances = a.instances; primitive = a.solid });
+}
 
 -- ---- the children
 

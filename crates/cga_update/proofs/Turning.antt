@@ -3,7 +3,6 @@ use Rattle.std.proofs.Common.{◌≡◌, ◌≢◌, ℕ, List, ◌++◌, ◌+◌
 use Rattle.std.specs.Prelude.{◌&&◌, is_some, if◌then◌else◌}
 use Rattle.cga_word.specs.declared.primitive.Primitive.{Primitive}
 use Rattle.std.specs.declared.cmp.Ordering.TheVariants.{Less}
-use Rattle.cga_forest.proofs.Door.{fits_sound, fits_whole}
 use Rattle.cga_fraction.proofs.Door.{None-not-Some as none_some, cases_Option as option_cases, eq_or_ne as nat_cases, map-append as map_both}
 use Rattle.cga_order.proofs.Door.{stamp-child}
 use Rattle.cga_rework.proofs.Door.{lists_are_changes, node_turns}
@@ -45,9 +44,9 @@ use Rattle.cga_depend.specs.Log.{noted_all}
 use Rattle.cga_update.specs.Log.{IsLogged, StayAlike, came_of, drawn_of, is_of, went_of}
 use Rattle.cga_update.specs.Means.{ArePriced, Means, told_ranked}
 use Rattle.cga_update.specs.Queue.{chains_of, on_of}
-use Rattle.cga_update.specs.Turned.{IsPlacing, MayTurn}
+use Rattle.cga_update.specs.Turned.{IsPlacing}
 use Rattle.cga_update.proofs.Bounding.{NobodyLeft}
-use Rattle.cga_update.proofs.Children.{are_news, is_outcome, keeps_self}
+use Rattle.cga_update.proofs.Children.{are_news, is_fit, is_outcome, keeps_self}
 use Rattle.cga_update.proofs.Facts.{said_asks}
 use Rattle.cga_update.proofs.Edits.{by_symbol, is_rules_edit}
 use Rattle.cga_update.proofs.Idle.{TheEdit, TheState}
@@ -60,16 +59,6 @@ use Rattle.cga_update.proofs.Logged.{logged_more}
 use Rattle.cga_update.proofs.Meeting.{sees_what_meets}
 use Rattle.cga_update.proofs.Places.{same_node}
 use Rattle.cga_update.proofs.Renewing.{are_again, expansion_count, still_plain, still_priced, still_silent}
-
-pub may_turn : (w : Work) (rest : AgendaView) (less : RememberedView) (edit : TheEdit) (s : TheState) → Means w edit s
-    → MayTurn (record w { agenda = rest; remembered = less })
-may_turn w rest less edit s means = record { mode = means.mode; symbols = means.symbols; grammars = means.grammars; plain = means.plain }
-
-is_fit : IsFit content fits
-is_fit = record {
-  sound = λ x y h. (let a = fits_sound x y h in record { shape = a.shape; priority = a.priority; instances = a.instances; solid = a.primitive });
-  whole = λ x y a. fits_whole x y (record { shape = a.shape; priority = a.priority; instances = a.instances; primitive = a.solid });
-}
 
 -- one turn: was and now are the work before and after it
 module _ (was now : Work) (rest : AgendaView) (id : ℕ) (x : Chain) (turned : Turned) (edit : TheEdit) (s : TheState) (means : Means was edit s) (before : IsForest was.forest) (least : IsLeast (chains_of was.forest) was.agenda rest id x) (less : RememberedView) (forgot : (c : ℕ) → IsRemembered less c → (c ≢ id) × IsRemembered was.remembered c) (turn : IsPlacing (record was { agenda = rest; remembered = less }) now id turned) where
