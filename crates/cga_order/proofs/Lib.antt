@@ -6,6 +6,7 @@ mod Tops
 mod ChildHeads
 mod Chains
 mod Members
+mod Along
 mod Stepped
 mod Steps
 mod Places

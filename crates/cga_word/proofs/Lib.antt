@@ -1,3 +1,1 @@
-mod Along
 mod Padding
-pub mod Door

@@ -1,5 +1,4 @@
-ghost use Rattle.std.specs.Prelude.{◌≡◌, IsTrue, nat_eq};
-ghost use lib.Pointwise.{pointwise};
+ghost use Rattle.std.specs.Prelude.{◌≡◌, IsTrue};
 ghost use Rattle.std.specs.List.{list_all};
 ghost use Rattle.cga_word.specs.Name.{begins_name, continues_name, is_name, name_of};
 
@@ -84,17 +83,6 @@ fn continues_name(byte: u8) -> bool
     byte.is_ascii_alphanumeric() || byte == b'_'
 }
 
-/// Whether all the bytes are equal. None of them ends the loop, so that it takes a few instructions on many bytes at a time.
-fn are_same(left: &[u8; 32], right: &[u8; 32]) -> bool
-    ensures { result ≡ pointwise nat_eq left.now right.now }
-{
-    let mut same = true;
-    for place in 0..32 {
-        same &= left[place] == right[place];
-    }
-    same
-}
-
 impl PartialEq for Name {
     ghost use Rattle.std.specs.Prelude.{nat_eq};
     ghost use lib.Pointwise.{pointwise};
@@ -106,7 +94,7 @@ impl PartialEq for Name {
     ghost laws = { Prim.search (comparing, rules) };
 
     fn eq(&self, other: &Name) -> bool {
-        self.size == other.size && are_same(&self.bytes, &other.bytes)
+        self.size == other.size && self.bytes == other.bytes
     }
 }
 

@@ -1,5 +1,5 @@
 use Rattle.std.proofs.Common.{◌∙◌, ◌&&◌, sym, ap, arith, nat_eq, slice_index_or}
-use Rattle.cga_word.proofs.Door.{one_further}
+use Rattle.cga_order.proofs.Along.{one_further}
 use Rattle.cga_order.proofs.runs.same_steps.Goals as goal
 
 pub loop-place-preserved : goal.loop-place-preserved
