@@ -2,7 +2,7 @@
 use Rattle.std.proofs.Common.{◌≡◌, ◌≢◌, inl, inr, ℕ, zero, suc, ◌<◌, List, [], ◌∷◌, length, Bool, true, false, refl, ap, sym, ◌∙◌, arith, subst, nat_eq, eq-eqb}
 use Rattle.std.specs.Prelude.{Option, Some, None, not, slice_get, if◌then◌else◌}
 use Rattle.cga_index.specs.Tree.{Member, Apart}
-use Rattle.cga_fraction.proofs.Door.{eq_or_ne as nat_cases}
+use Rattle.cga_fraction.proofs.Door.{eq_or_ne as nat_cases, same_from_both_ways}
 use Rattle.cga_index.proofs.Door.{in_left, in_right, in_split, apart_join}
 use Rattle.std.proofs.lemmas.Bool.{cases_Bool as bool_cases, eqb-true, ne_eqb, or_cases, or_left, or_right}
 use Rattle.cga_order.specs.World.{Among}
@@ -22,12 +22,6 @@ use Rattle.cga_forest.proofs.Goes.{get_within}
 use Rattle.cga_forest.proofs.Replace.{IsTree-replaced}
 use Rattle.cga_forest.proofs.Listed.{found_in, found_has, found_once}
 use Rattle.cga_forest.proofs.Moves.{going_find, going_has, going_once}
-
-both_ways : (x y : Bool) → (x ≡ true → y ≡ true) → (y ≡ true → x ≡ true) → x ≡ y
-both_ways true true there back = refl
-both_ways true false there back = sym (there refl)
-both_ways false true there back = back refl
-both_ways false false there back = refl
 
 -- ---- the nodes of a list by their numbers
 
@@ -136,7 +130,7 @@ module _ (s : ℕ → Option Entry) (id n : ℕ) (news : List Node) (e : Seen) (
 
   -- the list of those that go names just them
   pub listed_goes : (c : ℕ) → is_listed (found s goers) c ≡ goes_now c
-  listed_goes c = both_ways _ _
+  listed_goes c = same_from_both_ways _ _
       (λ h.
       let l = listed_in (found s goers) c h in
       let f = found_in s l.0 goers l.1 in

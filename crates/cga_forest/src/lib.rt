@@ -219,8 +219,7 @@ impl Forest {
         let spare = spare_for(&self.store, self.alloc, id, self.marking, state)?;
         self.store.reserve(news.len())?;
         let depth = depth_of(&self.store, id);
-        let hulls = self.store.entry(id).known_hulls();
-        self.spares.provide(self.alloc, depth + 1, &hulls)?;
+        self.spares.provide(self.alloc, depth + 1)?;
         let made = Vec::with_capacity(self.alloc, news.len())?;
         let left = 256 - depth;
         let mut plan = Plan::of(&self.store, self.alloc, id, left, news.as_slice())?;

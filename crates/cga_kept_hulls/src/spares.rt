@@ -3,6 +3,7 @@ ghost use Rattle.std.specs.Prelude.{◌≡◌, ◌≤◌, ◌<◌, ◌+◌, leng
 use crate::hulls::Hulls;
 use crate::hulls_box::HullsBox;
 use cga_fraction::NoMemory;
+use cga_frame::{Point, WorldBox};
 use std::alloc::Global;
 
 /// Boxes that were taken ahead, so that hulls can be written where no memory may be wanting.
@@ -18,12 +19,12 @@ impl Spares {
         }
     }
 
-    /// Sees to it that so many are there, with any hulls in them. Takes memory.
-    pub fn provide(&mut self, alloc: Global, count: usize, hulls: &Hulls) -> Result<(), NoMemory>
+    /// Sees to it that so many are there. Nobody reads what is in them. Takes memory.
+    pub fn provide(&mut self, alloc: Global, count: usize) -> Result<(), NoMemory>
         ensures { OnOk result (count ≤ length self.new.boxes.items) }
     {
         while self.boxes.len() < count {
-            self.boxes.push(HullsBox::new(alloc, *hulls)?)?;
+            self.boxes.push(HullsBox::new(alloc, of_a_point())?)?;
         }
         Ok(())
     }
@@ -34,4 +35,13 @@ impl Spares {
     {
         self.boxes.pop().unwrap()
     }
+}
+
+/// The hulls of one point.
+fn of_a_point() -> Hulls {
+    let bounds = WorldBox {
+        low: Point::whole(0, 0, 0),
+        high: Point::whole(0, 0, 0),
+    };
+    Hulls::alone(bounds, false)
 }

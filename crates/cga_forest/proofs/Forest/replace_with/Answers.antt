@@ -19,9 +19,6 @@ use Rattle.cga_forest.proofs.Forest.replace_with.Goals as goal
 use Rattle.cga_forest.proofs.Forest.replace_with.Goals.{then-not-self, else-not-self}
 use Rattle.cga_forest.specs.Numbers.{StaysTaken}
 
-pub entry-requires : goal.entry-requires
-entry-requires c = record { here = rw c.in_ok-reserve.ensures.slots (slot_there (slot c.self.inside.store.slots c.args.id) (ap (λ (v : ForestView). is_some (node_at v c.args.id)) c.self.view_is ∙ ap is_some c.requires.here.1)) }
-
 pub overflow_add-depth : goal.overflow_add-depth
 overflow_add-depth c =
     let there : node_at (record { slots = c.self.inside.store.slots; marking = c.self.inside.marking; roots = c.self.inside.roots.list; marked_roots = c.self.inside.roots.former; mode = c.self.inside.mode }) c.args.id ≡ Some c.requires.here.0 = ap (λ (v : ForestView). node_at v c.args.id) c.self.view_is ∙ c.requires.here.1 in
