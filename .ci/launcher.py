@@ -154,6 +154,9 @@ class Proved(Copy):
         self.call(out=write)
         os.close(write)
         self.check("nobody reads what comes out", self.status == -signal.SIGPIPE)
+        for name, said, told in (("large blocks go back to the system", {}, "131072"), ("or as the caller says", {"MALLOC_MMAP_THRESHOLD_": "7"}, "7")):
+            self.call(TOLD="MALLOC_MMAP_THRESHOLD_", **said)
+            self.replies(name, 5, f"proved \n{told}\na script\n")
 
     def test_3_edits(self):
         source = self.main / "src" / "main.rt"

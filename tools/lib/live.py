@@ -5,6 +5,7 @@ from itertools import islice
 from .pipe import Ended, while_written
 from .replies import replies
 from .script import text_of
+from .sources import frugal
 
 
 class Live:
@@ -12,7 +13,8 @@ class Live:
 
     def __init__(self, program, changed):
         self.changed = changed
-        self.process = subprocess.Popen([program], stdin=subprocess.PIPE, stdout=subprocess.PIPE, bufsize=1 << 16)
+        streams = {"stdin": subprocess.PIPE, "stdout": subprocess.PIPE, "bufsize": 1 << 16}
+        self.process = subprocess.Popen([program], env=frugal(), **streams)
         self.replies = replies(self.lines())
 
     def lines(self):

@@ -13,6 +13,12 @@ def say(*words):
     print("cga_city:", *words, file=sys.stderr, flush=True)
 
 
+def frugal():
+    """The environment of a program that is to give large blocks back to the system once they are free. By default the C library
+    keeps them from the second on, between small ones that came later."""
+    return {"MALLOC_MMAP_THRESHOLD_": "131072", **os.environ}
+
+
 def files_below(folder):
     """The entries of all sources in a folder; none where it isn't there."""
     try:
