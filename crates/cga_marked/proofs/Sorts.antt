@@ -38,6 +38,11 @@ module _ {E : Type 0} (sort : E → Sort) (test : Sort → Bool) (none : test Ot
   pub few_sorted : (slots : List (Option E)) → sorted test sort slots ≤ tally is_some slots
   few_sorted slots = tally_mono (λ s. test (sort_of sort s)) is_some none slots slots refl (λ c on. sorted_some (slot slots c) on)
 
+  -- lists whose slots are the same have as many of a sort
+  pub sorted_same : (old now : List (Option E)) → ((c : ℕ) → slot now c ≡ slot old c)
+      → sorted test sort now ≡ sorted test sort old
+  sorted_same old now same = tally_same (λ s. test (sort_of sort s)) none old now (λ c. ap (λ s. test (sort_of sort s)) (same c))
+
   -- a number is right before the change of a slot
   pub recount : (old now : List (Option E)) (id : ℕ) → ((c : ℕ) → c ≢ id → slot now c ≡ slot old c) → (was is : Sort)
       → was ≡ sort_of sort (slot old id) → is ≡ sort_of sort (slot now id) → (n : ℕ) → n ≡ sorted test sort old

@@ -92,6 +92,13 @@ impl<E: Marked> CountedSlab<E> {
         self.entries.reserve(more)
     }
 
+    /// Gives back the room behind the last entry. No number changes. It takes time for each number that was given out.
+    pub fn shrink(&mut self)
+        ensures { (c : ℕ) → get self.new c ≡ get self.old c }
+    {
+        self.entries.shrink_to_fit();
+    }
+
     /// Adds an entry, for which there is room.
     pub fn insert_reserved(&mut self, entry: E) -> usize
         requires { HasRoomFor self.old 1 }

@@ -103,3 +103,15 @@ pub fn roll_back_listed<E: Marked>(entries: &mut CountedSlab<E>, list: &[usize])
         entries.roll_back(*id);
     }
 }
+
+/// Gives room back where half of it is empty, and as many entries were looked at as there are: then a walk over all of it costs
+/// no more than what is done. Where each entry is made anew, the new ones take other numbers; once they go in their turn, the
+/// room behind the old numbers is empty.
+pub fn give_back<E: Marked>(entries: &mut CountedSlab<E>, looked_at: usize)
+    ensures { (c : ℕ) → get entries.new c ≡ get entries.old c }
+{
+    let count = entries.len();
+    if count <= looked_at && count <= entries.capacity() / 2 {
+        entries.shrink();
+    }
+}

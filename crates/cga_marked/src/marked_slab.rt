@@ -5,7 +5,7 @@ ghost use Rattle.cga_marked.specs.Slab.{SlabView, at, HasRoom, KeepsRoom, Relate
 
 use crate::change::Change;
 use crate::counted_slab::CountedSlab;
-use crate::entries::{roll_back_listed, settle_listed};
+use crate::entries::{give_back, roll_back_listed, settle_listed};
 use crate::marked::Marked;
 use cga_fraction::NoMemory;
 use std::alloc::Global;
@@ -146,20 +146,22 @@ impl<E: Marked> MarkedSlab<E> {
         self.entries.change(id, marking, change);
     }
 
-    /// Drops what is set aside, and what is kept for the mark.
+    /// Drops what is set aside, and what is kept for the mark. Room that is empty then may be given back.
     pub fn settle(&mut self)
         ensures { (c : ℕ) → at self.new c ≡ option_and_then E.settled (at self.old c) }
     {
         settle_listed(&mut self.entries, self.touched.as_slice());
+        give_back(&mut self.entries, self.touched.len());
         self.touched.clear();
         self.aside = 0;
     }
 
-    /// Puts the marked entries back.
+    /// Puts the marked entries back. The same of room.
     pub fn roll_back(&mut self)
         ensures { (c : ℕ) → at self.new c ≡ option_and_then E.rolled (at self.old c) }
     {
         roll_back_listed(&mut self.entries, self.touched.as_slice());
+        give_back(&mut self.entries, self.touched.len());
         self.touched.clear();
         self.aside = 0;
     }

@@ -1,6 +1,6 @@
 use Rattle.std.proofs.Common.{refl, true, Some, ◌≡◌, ◌++◌, ◌-◌, ℕ, List, length, sym, ◌∙◌, ap, subst, arith}
 use Rattle.std.specs.Prelude.{Option, is_some}
-use Rattle.cga_forest.proofs.Present.{slot_there, depth_present}
+use Rattle.cga_forest.proofs.Present.{depth_present}
 use Rattle.cga_forest.proofs.Right.{is_there}
 use Rattle.cga_forest.specs.declared.entry.Entry.{Entry}
 use Rattle.cga_forest.specs.Gathered.{coming, found, going}

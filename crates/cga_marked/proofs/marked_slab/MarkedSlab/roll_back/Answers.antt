@@ -11,7 +11,8 @@ roll_back_listed-requires g c = record { listed = subst (λ (xs : List ℕ). Lis
 pub invariant_of-self : goal.invariant_of-self
 invariant_of-self g c =
     let m = g.met.E.Marked.marks in
-    rw (c.clear.ensures.items, c.clear.ensures.capacity) (swept c.self.invariant c.roll_back_listed.new.entries.slots
-    (λ id e t. calm_after g.E.Marked.touched g.E.Marked.plain g.E.Marked.rolled m.rolled_calm m.rolls (slot c.self.inside.entries.slots id) e (sym (c.roll_back_listed.ensures.each id) ∙ t))
+    let now = λ (id : ℕ). c.give_back.ensures id ∙ c.roll_back_listed.ensures.each id in
+    rw (c.clear.ensures.items, c.clear.ensures.capacity) (swept c.self.invariant c.give_back.new.entries.slots
+    (λ id e t. calm_after g.E.Marked.touched g.E.Marked.plain g.E.Marked.rolled m.rolled_calm m.rolls (slot c.self.inside.entries.slots id) e (sym (now id) ∙ t))
     m.shown
-    (λ id h. some_after g.E.Marked.touched g.E.Marked.plain g.E.Marked.rolled m.rolled_calm m.rolls (slot c.self.inside.entries.slots id) (sym (ap is_some (c.roll_back_listed.ensures.each id)) ∙ h)))
+    (λ id h. some_after g.E.Marked.touched g.E.Marked.plain g.E.Marked.rolled m.rolled_calm m.rolls (slot c.self.inside.entries.slots id) (sym (ap is_some (now id)) ∙ h)))
