@@ -13,8 +13,7 @@ class Live:
 
     def __init__(self, program, changed):
         self.changed = changed
-        streams = {"stdin": subprocess.PIPE, "stdout": subprocess.PIPE, "bufsize": 1 << 16}
-        self.process = subprocess.Popen([program], env=frugal(), **streams)
+        self.process = subprocess.Popen([program], env=frugal(), stdin=subprocess.PIPE, stdout=subprocess.PIPE, bufsize=1 << 16)
         self.replies = replies(self.lines())
 
     def lines(self):

@@ -6,6 +6,8 @@ from collections import deque
 from contextlib import contextmanager
 from typing import Deque, Iterator, List, Optional
 
+from .sources import frugal
+
 FAREWELL = 5.0  # seconds that a program has to end by itself
 PIECE = 1 << 16
 
@@ -42,7 +44,7 @@ class Pipe:
         self._rest = b""
         self._read: "queue.Queue[bytes]" = queue.Queue()
         self._written: "queue.Queue[bytes]" = queue.Queue()
-        self._process: Optional[Process] = subprocess.Popen(words, stdin=subprocess.PIPE, stdout=subprocess.PIPE)
+        self._process: Optional[Process] = subprocess.Popen(words, env=frugal(), stdin=subprocess.PIPE, stdout=subprocess.PIPE)
         for work in (self._take, self._feed):
             threading.Thread(target=work, args=(self._process,), daemon=True).start()
 
