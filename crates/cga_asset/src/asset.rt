@@ -4,7 +4,7 @@ use cga_solid::SolidMesh;
 use std::marker::Model;
 
 /// A mesh in coordinates of its own.
-#[derive(Debug, Drop)]
+#[derive(Drop)]
 pub struct Asset {
     mesh: SolidMesh,
 }

@@ -9,7 +9,7 @@ use cga_frame::Point;
 use std::alloc::Global;
 
 /// What a line of an asset says.
-#[derive(Debug, Drop)]
+#[derive(Drop)]
 pub enum Said {
     /// It is passed over.
     Passed,

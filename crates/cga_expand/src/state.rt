@@ -4,7 +4,7 @@ use cga_shape::Emitted;
 
 /// How far an expansion has come: its current scope, what it has emitted, and how many parts its
 /// splits and components have made.
-#[derive(Debug, Drop)]
+#[derive(Drop)]
 pub struct State {
     pub scope: Scope,
     pub children: List<Emitted>,

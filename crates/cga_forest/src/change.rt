@@ -3,7 +3,7 @@ use cga_fraction::List;
 
 /// What a change of a node's children takes away and brings: each node that went, and each that came, once. An old child
 /// that stays is in neither list, nor is what stands below it.
-#[derive(Drop, Debug)]
+#[derive(Drop)]
 pub struct Change {
     pub went: List<Moved>,
     pub came: List<Moved>,

@@ -7,7 +7,7 @@ use crate::former_box::FormerBox;
 use crate::node::{Node, State};
 use cga_kept_hulls::{Hulls, HullsBox, KeptHulls};
 
-#[derive(Drop, Debug)]
+#[derive(Drop)]
 pub struct Entry {
     pub node: Node,
     pub parent: Option<usize>,

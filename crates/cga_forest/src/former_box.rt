@@ -7,7 +7,7 @@ use std::alloc::Global;
 use std::marker::Model;
 
 /// What a node was at the mark, in a box which can be taken ahead and filled later. Contracts see it as what is in it.
-#[derive(Drop, Debug)]
+#[derive(Drop)]
 pub struct FormerBox {
     inner: Box<Former>,
 }

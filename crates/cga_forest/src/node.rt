@@ -8,7 +8,7 @@ use cga_shape::{Answers, Kind, Shape};
 use cga_word::{Answer, Name};
 
 /// A shape that the forest keeps, and what is known of it.
-#[derive(Drop, Debug)]
+#[derive(Drop)]
 pub struct Node {
     pub shape: Shape,
     pub kind: Kind,

@@ -6,7 +6,7 @@ use std::marker::Model;
 
 /// A `Vec` that contracts see as the list of its items, so that a copy equals what it copies.
 /// How much room is reserved can't be named: a field that has to reserve first stays a `Vec`.
-#[derive(Debug, Drop)]
+#[derive(Drop)]
 pub struct List<T> {
     items: Vec<T>,
 }

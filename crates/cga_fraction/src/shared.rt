@@ -7,7 +7,7 @@ use std::rc::Rc;
 
 /// A list that several owners hold at once and that nobody changes. Contracts see it as the list of its items, so that
 /// what is shared equals what it is shared with. An empty one takes no memory.
-#[derive(Debug, Drop)]
+#[derive(Drop)]
 pub struct Shared<T> {
     inner: Option<Rc<Vec<T>>>,
 }

@@ -7,7 +7,7 @@ use std::rc::Rc;
 
 /// A `Boxed` that several owners hold at once and whose value nobody changes. Contracts see it as the value, so that
 /// what is shared equals what it is shared with.
-#[derive(Debug, Drop)]
+#[derive(Drop)]
 pub struct SharedBox<T> {
     inner: Rc<T>,
 }

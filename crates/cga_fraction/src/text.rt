@@ -11,7 +11,7 @@ use std::marker::Model;
 
 /// A text that grows. Contracts see it as the list of its bytes. After want of memory a part of what was pushed may
 /// stand at its end.
-#[derive(Debug, Drop)]
+#[derive(Drop)]
 pub struct Text {
     bytes: Vec<u8>,
 }

@@ -6,7 +6,7 @@ use std::alloc::Global;
 use std::marker::Model;
 
 /// Hulls in a box, which can be taken ahead and filled later. Contracts see it as the hulls.
-#[derive(Drop, Debug)]
+#[derive(Drop)]
 pub struct HullsBox {
     inner: Box<Hulls>,
 }

@@ -9,7 +9,7 @@ use cga_frame::{Scope, WorldBox};
 
 /// What is kept of a node's hulls. Most nodes have those of their own box alone, which needn't be kept. Each call is given
 /// the node's scope.
-#[derive(Drop, Debug)]
+#[derive(Drop)]
 pub enum KeptHulls {
     /// Those of the node alone, and whether it asks.
     Own(bool),

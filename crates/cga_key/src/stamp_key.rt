@@ -9,7 +9,7 @@ use std::cmp::Ordering;
 
 /// When a shape is expanded: keys of one mode are ordered by the stamps of their shapes. There is one
 /// priority for each shape from the root down to the shape itself.
-#[derive(Debug, Drop)]
+#[derive(Drop)]
 pub struct StampKey {
     pub mode: Mode,
     pub lot: Name,

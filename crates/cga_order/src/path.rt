@@ -11,7 +11,7 @@ const FEW: usize = 8;
 
 /// Numbers on the way from a lot's root to a shape, which contracts see as their list: the indices of children, of which
 /// a root has none, or the priorities, of which it has one. Up to eight stand in the value itself; more take memory.
-#[derive(Debug, Drop)]
+#[derive(Drop)]
 pub struct Path {
     steps: SmallVec<u16, FEW>,
 }

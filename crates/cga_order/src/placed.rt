@@ -9,7 +9,7 @@ pub enum Kind<F, P> {
 }
 
 /// A member of a configuration: a shape N, and what has become of it.
-#[derive(Debug, Drop)]
+#[derive(Drop)]
 pub struct Placed<N, F, P> {
     pub shape: N,
     pub kind: Kind<F, P>,

@@ -4,21 +4,21 @@ use cga_word::{Answer, Target};
 
 /// A condition: it holds where one of its conjunctions does.
 #[cycle(cond)]
-#[derive(Debug, Drop, PartialEq, Eq)]
+#[derive(Drop, PartialEq, Eq)]
 pub struct Cond {
     pub conjs: List<Conj>,
 }
 
 /// A conjunction: it holds where all of its tests do.
 #[cycle(cond)]
-#[derive(Debug, Drop, PartialEq, Eq)]
+#[derive(Drop, PartialEq, Eq)]
 pub struct Conj {
     pub tests: List<Test>,
 }
 
 /// `equal` is true for `==` and false for `!=`.
 #[cycle(cond)]
-#[derive(Debug, Drop, PartialEq, Eq)]
+#[derive(Drop, PartialEq, Eq)]
 pub enum Test {
     Group(Cond),
     Not(Cond),

@@ -3,7 +3,7 @@ use cga_word::{Axis, Name};
 
 /// A sum. Its terms are added from the left.
 #[cycle(expr)]
-#[derive(Debug, Drop, PartialEq, Eq)]
+#[derive(Drop, PartialEq, Eq)]
 pub struct Expr {
     pub first: Term,
     pub rest: List<Added>,
@@ -11,7 +11,7 @@ pub struct Expr {
 
 /// A further term of a sum, with the sign before it.
 #[cycle(expr)]
-#[derive(Debug, Drop, PartialEq, Eq)]
+#[derive(Drop, PartialEq, Eq)]
 pub struct Added {
     pub minus: bool,
     pub term: Term,
@@ -19,7 +19,7 @@ pub struct Added {
 
 /// A product. Its factors are multiplied, or divided by, from the left.
 #[cycle(expr)]
-#[derive(Debug, Drop, PartialEq, Eq)]
+#[derive(Drop, PartialEq, Eq)]
 pub struct Term {
     pub first: Factor,
     pub rest: List<Scaled>,
@@ -27,7 +27,7 @@ pub struct Term {
 
 /// A further factor of a product, with `/` or `*` before it.
 #[cycle(expr)]
-#[derive(Debug, Drop, PartialEq, Eq)]
+#[derive(Drop, PartialEq, Eq)]
 pub struct Scaled {
     pub divide: bool,
     pub factor: Factor,
@@ -35,7 +35,7 @@ pub struct Scaled {
 
 /// A value, negated where `minus` is set.
 #[cycle(expr)]
-#[derive(Debug, Drop, PartialEq, Eq)]
+#[derive(Drop, PartialEq, Eq)]
 pub struct Factor {
     pub minus: bool,
     pub primary: Primary,
@@ -45,7 +45,7 @@ pub struct Factor {
 /// of the scope along an axis. The number of a `Rand` is its place among the rands of its rule,
 /// from 1 and by the word `rand`.
 #[cycle(expr)]
-#[derive(Debug, Drop, PartialEq, Eq)]
+#[derive(Drop, PartialEq, Eq)]
 pub enum Primary {
     Number(Fraction),
     Named(Name),

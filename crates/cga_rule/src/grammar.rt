@@ -13,7 +13,7 @@ pub struct Attribute {
 }
 
 /// A rule with the priority that its symbol has by it. Smaller is taken first.
-#[derive(Debug, Drop, PartialEq, Eq)]
+#[derive(Drop, PartialEq, Eq)]
 pub struct Entry {
     pub priority: u16,
     pub rule: Rule,
@@ -21,14 +21,14 @@ pub struct Entry {
 
 /// Attributes and rules, in the order of their lines. Nothing says that they are valid. Equal grammars may share
 /// their rules.
-#[derive(Debug, Drop, PartialEq, Eq)]
+#[derive(Drop, PartialEq, Eq)]
 pub struct Grammar {
     pub attributes: List<Attribute>,
     pub rules: Shared<Entry>,
 }
 
 /// The rules of one symbol by rising id, with its priority.
-#[derive(Debug, Drop, PartialEq, Eq)]
+#[derive(Drop, PartialEq, Eq)]
 pub struct Group {
     pub symbol: Name,
     pub priority: u16,

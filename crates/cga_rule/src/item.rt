@@ -4,7 +4,7 @@ use cga_word::{Axis, Name, Primitive, Selector, Turn};
 
 /// What a split makes of one of its parts. It is `NIL` where it has no items.
 #[cycle(item)]
-#[derive(Debug, Drop, PartialEq, Eq)]
+#[derive(Drop, PartialEq, Eq)]
 pub struct Body {
     pub items: List<Item>,
 }
@@ -12,7 +12,7 @@ pub struct Body {
 /// A step of a successor. `Move`, `Resize` and `Rotate` are T, S and Rx, Ry, Rz of the paper, and
 /// `Solid` is its I. The items of a `Scoped` leave the scope as it was.
 #[cycle(item)]
-#[derive(Debug, Drop, PartialEq, Eq)]
+#[derive(Drop, PartialEq, Eq)]
 pub enum Item {
     Move(Boxed<Expr>, Boxed<Expr>, Boxed<Expr>),
     Resize(Boxed<Size>, Boxed<Size>, Boxed<Size>),
@@ -43,7 +43,7 @@ pub enum Item {
 }
 
 /// A size of a part or of a scope: a factor, as `1r`, or a value.
-#[derive(Debug, Drop, PartialEq, Eq)]
+#[derive(Drop, PartialEq, Eq)]
 pub enum Size {
     Relative(Fraction),
     Absolute(Expr),

@@ -7,7 +7,7 @@ use cga_word::Name;
 
 /// A rule: the shapes of a symbol, where the condition holds, are replaced by an alternative. Equal rules may share
 /// their parts.
-#[derive(Debug, Drop, PartialEq, Eq)]
+#[derive(Drop, PartialEq, Eq)]
 pub struct Rule {
     pub id: u32,
     pub symbol: Name,
@@ -17,7 +17,7 @@ pub struct Rule {
 }
 
 /// A successor with its probability. It is `NIL` where it has no items.
-#[derive(Debug, Drop)]
+#[derive(Drop)]
 #[derive_where(PartialEq, Eq)]
 pub struct Alternative {
     pub items: List<Item>,

@@ -5,7 +5,7 @@ use cga_rule::{Grammar, Rule};
 use cga_word::{Mode, Name};
 
 /// One change of a city's sources.
-#[derive(Debug, Drop)]
+#[derive(Drop)]
 pub enum Edit {
     /// Another grammar.
     Rules(Grammar),

@@ -4,7 +4,7 @@ use cga_word::{Name, Primitive};
 
 /// What an expansion gives, in order: shapes that wait, and solids that are drawn. Its place in the
 /// list is its index, and so the last of its path.
-#[derive(Debug, Drop)]
+#[derive(Drop)]
 pub enum Emitted {
     Child {
         symbol: Name,

@@ -3,7 +3,7 @@ use cga_order::Path;
 use cga_word::Name;
 
 /// A shape that has no children, and why.
-#[derive(Debug, Drop)]
+#[derive(Drop)]
 pub struct FaultLine {
     pub lot: Name,
     pub path: Path,

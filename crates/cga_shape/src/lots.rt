@@ -12,7 +12,7 @@ const MOST_OF_RUN: usize = 64;
 
 /// A list of lots that several owners hold at once and that nobody changes. Contracts see it as the list. The lots are
 /// kept in runs of up to 64, and a list with one lot changed shares all runs but one. An empty one takes no memory.
-#[derive(Debug, Drop)]
+#[derive(Drop)]
 pub struct Lots {
     runs: Shared<Shared<Lot>>,
     len: usize,

@@ -10,7 +10,7 @@ use std::alloc::Global;
 
 /// A shape, by all that its expansion reads of it. An instance has the symbol of the shape that
 /// emitted it, and no arguments.
-#[derive(Debug, Drop, PartialEq, Eq)]
+#[derive(Drop, PartialEq, Eq)]
 pub struct Shape {
     // The two names side by side take the least room.
     pub lot: Name,

@@ -6,7 +6,7 @@ use std::alloc::Global;
 
 /// All that a city comes of. Lots stand in the order in which their names were added. Nothing says
 /// that the grammar is valid, or that lots differ. Sources may share their rules and their lots with others.
-#[derive(Debug, Drop)]
+#[derive(Drop)]
 pub struct Sources {
     pub grammar: Grammar,
     pub lots: Lots,

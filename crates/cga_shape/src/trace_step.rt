@@ -10,7 +10,7 @@ pub enum Outcome {
 }
 
 /// The expansion of one shape, with what it was answered then.
-#[derive(Debug, Drop)]
+#[derive(Drop)]
 pub struct TraceStep {
     pub lot: Name,
     pub path: Path,
