@@ -13,7 +13,7 @@ import tempfile
 TOP = str(pathlib.Path(__file__).resolve().parent.parent)
 sys.path.insert(0, os.path.join(TOP, "tools"))
 
-from lib.sources import PROGRAMS, Program  # noqa: E402
+from cga_city_lib.sources import PROGRAMS, Program  # noqa: E402
 
 
 def clock():
@@ -53,7 +53,11 @@ def keep(path):
     with open(path, encoding="utf-8") as file:
         noted = json.load(file)
     made = [(program, noted["programs"][program.name], seen(program)) for program in programs()]
-    faults = [f"{program.path}: {fault}" for program, before, now in made if (fault := fault_of(program, noted["begun"], before, now))]
+    faults = [
+        f"{program.path}: {fault}"
+        for program, before, now in made
+        if (fault := fault_of(program, noted["begun"], before, now))
+    ]
     if faults:
         sys.exit("\n".join(f"built.py: {fault}" for fault in faults))
     for program, _, now in made:

@@ -27,7 +27,11 @@ from definition.town import town_text  # noqa: E402
 LIMIT = 30  # seconds of processor for a script
 RANDOM, STREETS, EDITS, SPOILED, LINES = 100, 50, 25, 20, 60
 PIECES = """( ) [ ] { } , : | + - * / . = -> == != < <= > >= ! # "X" "front" "cube" "none" "9 " 1r 2.5 0.250r 90 3x 1.x NIL T S Rx I Scope
-occ sx rand floor not and or Comp Subdiv Repeat end attr lot order breadth version 2""".split() + ["x" * 33, "\t", "9" * 19]
+occ sx rand floor not and or Comp Subdiv Repeat end attr lot order breadth version 2""".split() + [
+    "x" * 33,
+    "\t",
+    "9" * 19,
+]
 MOST_LATE = 8  # scripts that may take longer than the limit, on a slow machine
 # they take some twenty seconds each, since each shape that asks is compared with all
 LEFT_OUT = ("village", "twelve_lots_in_a_row")
@@ -64,6 +68,7 @@ def compared(case):
 
 # ---- the scripts
 
+
 def stored():
     """Each with its words and its stored replies."""
     with tempfile.TemporaryDirectory() as folder:
@@ -79,7 +84,10 @@ def street(seed):
     draw = random.Random(seed)
     lines = ["version 2\n" + edits_at_random.STREET.rstrip("\n")]
     for _ in range(EDITS):
-        lines += [edits_at_random.drawn_edit(draw), draw.choice(("stats", "faults", "trace", "bill", "stats", "print a"))]
+        lines += [
+            edits_at_random.drawn_edit(draw),
+            draw.choice(("stats", "faults", "trace", "bill", "stats", "print a")),
+        ]
     return "\n".join([*lines, "print", "trace", "dump", ""]).encode()
 
 
@@ -92,7 +100,7 @@ def spoiled(seed):
         pieces = re.findall(r"\w+|\s|->|[<>=!]=|.", line)
         for _ in range(draw.randrange(4)):
             at = draw.randrange(len(pieces) + 1)
-            pieces[at:at + draw.randrange(2)] = draw.choice([[], [draw.choice(PIECES)], pieces[at:at + 1] * 2])
+            pieces[at : at + draw.randrange(2)] = draw.choice([[], [draw.choice(PIECES)], pieces[at : at + 1] * 2])
         lines.append("".join(pieces))
     return "\n".join([*lines, "end", "dump", ""]).encode("latin-1")
 
@@ -113,6 +121,7 @@ def replied(program, script):
 
 # ---- the command
 
+
 def cases(program):
     for name, script, words, wanted in stored():
         if not any(left in name for left in LEFT_OUT):
@@ -124,7 +133,9 @@ def cases(program):
 
 def main():
     parser = argparse.ArgumentParser(description=__doc__, formatter_class=argparse.RawDescriptionHelpFormatter)
-    parser.add_argument("program", nargs="?", metavar="PROGRAM", help="the built program; without it stored replies alone count")
+    parser.add_argument(
+        "program", nargs="?", metavar="PROGRAM", help="the built program; without it stored replies alone count"
+    )
     program = parser.parse_args().program
     counts = {True: 0, False: 0, None: 0}
     with Pool(2) as pool:

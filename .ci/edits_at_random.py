@@ -82,7 +82,9 @@ def drawn_edit(draw):
 
 
 def run(program, script):
-    return subprocess.run(program, input=script.encode(), stdout=subprocess.PIPE, check=True, timeout=120).stdout.decode()
+    return subprocess.run(
+        program, input=script.encode(), stdout=subprocess.PIPE, check=True, timeout=120
+    ).stdout.decode()
 
 
 MARK = "print no_lot_of_that_name"

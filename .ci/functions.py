@@ -28,7 +28,7 @@ def head_end(text, at):
     depth = 0
     for place in range(at, len(text)):
         depth += (text[place] in "([") - (text[place] in ")]")
-        if depth == 0 and (text[place] in "{;" or re.match(r"\b(?:requires|ensures)\b", text[place:place + 9])):
+        if depth == 0 and (text[place] in "{;" or re.match(r"\b(?:requires|ensures)\b", text[place : place + 9])):
             return place
     return len(text)
 
@@ -68,5 +68,8 @@ def all_functions():
 def words_in_sources(word):
     """The files in which a word stands, comments aside."""
     pattern = re.compile(rf"\b{word}\b")
-    return [str(path.relative_to(TOP)) for path in sorted(TOP.glob("crates/*/src/**/*.rt"))
-            if pattern.search(without_comments(path.read_text(encoding="utf-8")))]
+    return [
+        str(path.relative_to(TOP))
+        for path in sorted(TOP.glob("crates/*/src/**/*.rt"))
+        if pattern.search(without_comments(path.read_text(encoding="utf-8")))
+    ]

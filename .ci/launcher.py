@@ -21,14 +21,24 @@ class Words(Copy):
         self.call("x")
         self.replies("a wrong word", 2, "")
         self.check("the usage comes first", self.err.splitlines()[0] == "usage: cga_city [--decimals N] [--town N]")
-        for words, why in (("--decimals 10", "from 0 to 9, and not '10'"), ("--decimals", "from 0 to 9"), ("--decimals 1 --decimals 1", "twice"),
-                           ("--town 0", "from 1 to 200"), ("--town 201", "from 1 to 200"), ("--town 2 x", "x is none"), ("--prove x", "--prove is none")):
+        for words, why in (
+            ("--decimals 10", "from 0 to 9, and not '10'"),
+            ("--decimals", "from 0 to 9"),
+            ("--decimals 1 --decimals 1", "twice"),
+            ("--town 0", "from 1 to 200"),
+            ("--town 201", "from 1 to 200"),
+            ("--town 2 x", "x is none"),
+            ("--prove x", "--prove is none"),
+        ):
             self.call(*words.split())
             self.replies(f"wrong words: {words}", 2, "")
             self.says(f"why: {words}", why)
         self.call(b"\xff")
         self.replies("words that are no text", 7, "")
-        self.check("nothing is made or run for words", not (self.main / "out").exists() and not self.calls("try") + self.calls("run"))
+        self.check(
+            "nothing is made or run for words",
+            not (self.main / "out").exists() and not self.calls("try") + self.calls("run"),
+        )
 
 
 class Unproved(Copy):
@@ -54,9 +64,11 @@ class Unproved(Copy):
             self.replies(f"words: {words}", 0, f"unproved {' '.join(words)}\n" + "a script\n" * ("--town" not in words))
 
     def test_no_answer(self):
-        for how, names, text in (("long", ("no part of a long reply", "the limit is said"), "1 MiB"),
-                                 ("slow", ("a run past its time", "the time is said"), "took too long"),
-                                 ("refused", ("sources that are refused", "why they are"), "src/main.rt:7")):
+        for how, names, text in (
+            ("long", ("no part of a long reply", "the limit is said"), "1 MiB"),
+            ("slow", ("a run past its time", "the time is said"), "took too long"),
+            ("refused", ("sources that are refused", "why they are"), "src/main.rt:7"),
+        ):
             self.call(STAND_IN=how)
             self.replies(names[0], 1, "")
             self.says(names[1], text)
@@ -154,7 +166,10 @@ class Proved(Copy):
         self.call(out=write)
         os.close(write)
         self.check("nobody reads what comes out", self.status == -signal.SIGPIPE)
-        for name, said, told in (("large blocks go back to the system", {}, "131072"), ("or as the caller says", {"MALLOC_MMAP_THRESHOLD_": "7"}, "7")):
+        for name, said, told in (
+            ("large blocks go back to the system", {}, "131072"),
+            ("or as the caller says", {"MALLOC_MMAP_THRESHOLD_": "7"}, "7"),
+        ):
             self.call(TOLD="MALLOC_MMAP_THRESHOLD_", **said)
             self.replies(name, 5, f"proved \n{told}\na script\n")
 
@@ -179,7 +194,12 @@ class Proved(Copy):
         source.write_text(text)
 
     def test_4_what_counts(self):
-        for name, counts in (("src/more.rt", True), ("proofs/More.antt", True), ("src/.main.rt.swp", False), ("must-fail", False)):
+        for name, counts in (
+            ("src/more.rt", True),
+            ("proofs/More.antt", True),
+            ("src/.main.rt.swp", False),
+            ("must-fail", False),
+        ):
             path = self.main / name
             path.write_text("")
             self.check(f"a new file {name}", self.is_proved() != counts)
@@ -217,7 +237,9 @@ class Proved(Copy):
 
     def test_5_edits_during_a_build(self):
         self.edited_during_build("an edit during the build", "// another\n")
-        self.edited_during_build("an edit that is taken back during the build", "// another\n", f"// edit {len(self.calls('run'))}\n")
+        self.edited_during_build(
+            "an edit that is taken back during the build", "// another\n", f"// edit {len(self.calls('run'))}\n"
+        )
         self.call("--prove")
         self.check("built again", self.is_proved())
         (self.main / "src" / "main.rt").unlink()
@@ -272,7 +294,11 @@ class Stamps(Copy):
         self.refused("a program that was there", ":", "older than this run")
         self.refused("one that a source is newer than", 'echo "fn main() { }" >"$1"', "older than this run")
         self.refused("one that is moved away and back", 'mv "$2" "$2.old"; mv "$2.old" "$2"', "older than this run")
-        self.refused("one that is copied with its times", 'cp -p "$2" "$2.old"; rm "$2"; cp -p "$2.old" "$2"', "older than this run")
+        self.refused(
+            "one that is copied with its times",
+            'cp -p "$2" "$2.old"; rm "$2"; cp -p "$2.old" "$2"',
+            "older than this run",
+        )
         self.refused("a source that changes after it", f'{self.MAKES}; echo "fn main() {{}}" >"$1"', "a source changed")
         self.refused("a new source", f'{self.MAKES}; echo >"$1.more.rt"', "a source changed")
 

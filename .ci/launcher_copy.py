@@ -29,16 +29,22 @@ class Copy(unittest.TestCase):
         cls.addClassCleanup(shutil.rmtree, cls.work)
         cls.top = cls.work / "a city, with spaces"
         cls.city, cls.main = cls.top / "cga_city", cls.top / "crates" / "cga_main"
-        shutil.copytree(TOP / "tools" / "lib", cls.top / "tools" / "lib")
+        shutil.copytree(TOP / "tools" / "cga_city_lib", cls.top / "tools" / "cga_city_lib")
         shutil.copy(TOP / "cga_city", cls.top)
         for name in CRATES:
             cls.add_crate(name)
-        (cls.top / "crates.txt").write_text("# NAME: what it stands on\n" + "".join(f"{name}: {low}\n" for name, low in reversed(CRATES.items())))
+        (cls.top / "crates.txt").write_text(
+            "# NAME: what it stands on\n" + "".join(f"{name}: {low}\n" for name, low in reversed(CRATES.items()))
+        )
         for name in ("bin", "elsewhere/crates"):
             (cls.work / name).mkdir(parents=True)
         shutil.copy(TOP / ".ci" / "rt_stand_in", cls.work / "bin" / "rt")
         (cls.work / "calls").touch()
-        cls.env = {"PATH": f"{cls.work}/bin:/usr/bin:/bin", "WORK": str(cls.work), "TMPDIR": str(cls.work / "elsewhere")}
+        cls.env = {
+            "PATH": f"{cls.work}/bin:/usr/bin:/bin",
+            "WORK": str(cls.work),
+            "TMPDIR": str(cls.work / "elsewhere"),
+        }
 
     @classmethod
     def add_crate(cls, name):
@@ -52,14 +58,35 @@ class Copy(unittest.TestCase):
         path.touch()
         return path
 
-    def begin(self, *words, city=None, cwd=None, script=subprocess.DEVNULL, out=subprocess.PIPE, err=subprocess.PIPE, before=None, **env):
-        return subprocess.Popen([city or self.city, *words], stdin=script, stdout=out, stderr=err, cwd=cwd,
-                                preexec_fn=before, env={**self.env, **env})
+    def begin(
+        self,
+        *words,
+        city=None,
+        cwd=None,
+        script=subprocess.DEVNULL,
+        out=subprocess.PIPE,
+        err=subprocess.PIPE,
+        before=None,
+        **env,
+    ):
+        return subprocess.Popen(
+            [city or self.city, *words],
+            stdin=script,
+            stdout=out,
+            stderr=err,
+            cwd=cwd,
+            preexec_fn=before,
+            env={**self.env, **env},
+        )
 
     def end(self, job, script=b"a script\n", said=None):
         """What it said comes from a file, where it was sent there."""
         out, err = job.communicate(script if job.stdin else None)
-        self.status, self.out, self.err = job.returncode, (out or b"").decode(), (said.read_bytes() if said else err).decode()
+        self.status, self.out, self.err = (
+            job.returncode,
+            (out or b"").decode(),
+            (said.read_bytes() if said else err).decode(),
+        )
 
     def call(self, *words, script=subprocess.PIPE, **more):
         self.end(self.begin(*words, script=script, **more))

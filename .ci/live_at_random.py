@@ -56,7 +56,19 @@ PUTS = [
     "drop 60",
     "nonsense",
 ]
-REPORTS = ["stats", "bill", "faults", "", "# a comment", "quiet", "dress mid none", "trace", "judge\nx\nend", "version 2", "print a"]
+REPORTS = [
+    "stats",
+    "bill",
+    "faults",
+    "",
+    "# a comment",
+    "quiet",
+    "dress mid none",
+    "trace",
+    "judge\nx\nend",
+    "version 2",
+    "print a",
+]
 MARK, MARKED = "print no_such_lot", "# refused NoLot no_such_lot"
 
 

@@ -19,8 +19,12 @@ def indent_of(line):
 
 def head_of(lines, name):
     """The line at which a definition of this name begins: rather one with a word before its name than a bare one."""
-    found = [(match.group(0).split()[0:2] == ["pub", name], at) for at, line in enumerate(lines)
-             for match in [HEAD.match(line)] if match and match.group(1) == name]
+    found = [
+        (match.group(0).split()[0:2] == ["pub", name], at)
+        for at, line in enumerate(lines)
+        for match in [HEAD.match(line)]
+        if match and match.group(1) == name
+    ]
     if not found:
         raise Missing
     return min(found)[1]
@@ -43,15 +47,19 @@ def end_of(lines, at):
 def comment_above(lines, at):
     """The first line of the comment directly above; the line itself where there is none."""
     first = at
-    while first > 0 and lines[first - 1].startswith(" " * indent_of(lines[at]) + "-- ") and "-- ----" not in lines[first - 1]:
+    while (
+        first > 0
+        and lines[first - 1].startswith(" " * indent_of(lines[at]) + "-- ")
+        and "-- ----" not in lines[first - 1]
+    ):
         first -= 1
     return first
 
 
 def definition(lines, name):
     at = head_of(lines, name)
-    taken = lines[comment_above(lines, at):end_of(lines, at)]
-    return [line[indent_of(lines[at]):] for line in taken]
+    taken = lines[comment_above(lines, at) : end_of(lines, at)]
+    return [line[indent_of(lines[at]) :] for line in taken]
 
 
 def is_text(line):
@@ -98,7 +106,7 @@ class Specs:
             at = head_of(self.lines[file], name)
         except Missing:
             return []
-        return [line for line in self.lines[file][at:end_of(self.lines[file], at)] if is_text(line)]
+        return [line for line in self.lines[file][at : end_of(self.lines[file], at)] if is_text(line)]
 
     def reached(self, firsts):
         """The definitions that some definitions cite, and those that these cite, themselves included."""

@@ -36,78 +36,254 @@ else but the leaves that you doubt. [The guided hour](GUIDED_HOUR.md) walks over
 
 # each section: its title, what it says, and the definitions by file and name
 SECTIONS = [
-    ("The contract", "Where the status is Done, what the sink holds is what it held, and then `output_of` the bytes that the source gave.", [
-        (CONTRACT, ()),
-        ("cga_top/specs/Runs.antt", ("IsScript", "script_of", "RunMeans", "GivenMeans", "IsUnread", "HoldsFewOr")),
-        ("cga_top/specs/Statuses.antt", ("StatusMeans", "HoldsFew", "WritesAll", "WritesReplies", "WritesPrefix", "Spent")),
-        ("cga_top/specs/Prefixes.antt", ("AppendsSome",)),
-        ("cga_top/specs/Outside.antt", ("Outside", "Gave", "IsCalm")),
-    ]),
-    ("From bytes to lines", "The output is the replies to the lines, one after the other, and to the end.", [
-        ("cga_top/specs/Output.antt", ("output_of", "replies_of", "effect_of_script", "effect_of_lines", "last_effect", "last_line",
-                                       "effect_of_all")),
-        ("cga_script/specs/Lines.antt", ("lines_of", "clipped", "without_cr", "Cut", "cut", "before_first")),
-    ]),
-    ("What a script has come to", "Sources, and no shapes: nothing of an earlier derivation is in it.", [
-        ("cga_top/specs/State.antt", ("State", "Block", "start")),
-        ("cga_city/specs/City.antt", ("empty_sources", "empty_in")),
-        ("cga_top/specs/Effect.antt", ("Effect", "says", "silent", "followed_by", "Work", "Tried", "Judging")),
-    ]),
-    ("What a line does", "A line of a block is kept until `end`; any other is asked at once.", [
-        ("cga_top/specs/Replies.antt", ("effect", "effect_by", "outside", "second", "asked", "begun", "is_blank", "done_by", "opened",
-                                        "in_block", "with_line", "ended", "closed", "at_end", "open_reply")),
-        ("cga_script/specs/Ends.antt", ("is_version_line", "are_version", "is_two", "is_end_line", "are_end")),
-        ("cga_top/specs/Told.antt", ("command_of", "grammar_told", "sources_told", "rules_of", "city_of", "line_told", "told_of",
-                                     "read_of", "block_told", "lines_found", "at_line", "line_found", "found_of")),
-    ]),
-    ("Edits", "An accepted edit takes the new sources; a refused one leaves the state as it is.", [
-        ("cga_top/specs/Replies.antt", ("edited", "applied", "noted_by", "changed", "touched_by", "stepped", "budget_of", "ok_reply",
-                                        "refuses")),
-        ("cga_undo/specs/History.antt", ("Kept", "nothing", "noted", "latest", "Step", "undone", "back_to", "redone", "turned",
-                                         "turned_step")),
-    ]),
-    ("Reports", "Of the current sources, derived from nothing.", [
-        ("cga_top/specs/Replies.antt", ("derived", "drawn_by", "printed", "text_of", "counts_of", "shown", "model_of", "modelled",
-                                        "dumped", "clothed", "stripped", "given")),
-        ("cga_top/specs/Stats.antt", ("stats_text_of", "counted")),
-    ]),
-    ("What an edit makes of the sources", "The new sources, or the first refusal; the budget is the last.", [
-        ("cga_city/specs/Apply.antt", ("apply", "within", "Changed", "changed", "checked", "by_check", "with_grammar", "with_checked",
-                                       "ruled", "valued", "repriced")),
-        ("cga_city/specs/Lots.antt", ("names_of", "lot_place", "is_bad", "with_lot", "finds_no_room", "rooted", "accepted")),
-        ("cga_city/specs/Grammars.antt", ("has_rule", "has_parameters", "is_plain", "rule_place", "new_place", "with_rule", "with_rules",
-                                          "ranked", "attribute_place", "with_priority", "prioritized")),
-        ("cga_city/specs/Derived.antt", ("members", "is_within", "derived")),
-    ]),
-    ("What a derivation is", "One plain list: at each step the waiting member of least rank is taken, answered and expanded.", [
-        ("cga_derivation/specs/Derivation.antt", ("Derivation", "derive", "reached", "start", "step", "step_by", "next_of", "is_next",
-                                                  "first_of", "rank_of", "outcome", "asked", "told", "become", "same_place")),
-        ("cga_order/specs/Rank.antt", ("Rank", "rank_cmp", "by_priority", "by_depth", "by_place")),
-        ("cga_order/specs/World.antt", ("is_waiting", "shapes_where")),
-    ]),
-    ("What shapes of sources are to a derivation", "Roots from lots, priorities from symbols, answers and children from the grammar.", [
-        ("cga_expand/specs/Derivation.antt", ("derivation_of", "priority_of", "roots_of", "made", "children_of")),
-        ("cga_shape/specs/Root.antt", ("root_of", "root_in", "root_scope")),
-        ("cga_expand/specs/Asked.antt", ("answers_of", "answer_if", "asks_for", "group_asks", "boxes_beside", "on_path", "sees")),
-        ("cga_index/specs/Occlusion.antt", ("answer_of", "graded")),
-        ("cga_expand/specs/Children.antt", ("Member", "placed_by", "placed_from", "placed_at")),
-        ("cga_expand/specs/Expand.antt", ("expand_of", "rules_by_id")),
-    ]),
-    ("A trace, and what it is judged to be", "The run of the current sources, and where a block of lines differs from its text.", [
-        ("cga_top/specs/Replies.antt", ("run_of", "judged_by")),
-        ("cga_expand/specs/Run.antt", ("run_to", "step_of", "traced", "outcome_of")),
-        ("cga_trace/specs/Judged.antt", ("judged", "differs_at", "is_line", "judged_text")),
-        ("cga_trace/specs/Text.antt", ("trace_text_of", "trace_lines", "header", "step_text", "told_text")),
-    ]),
-    ("How many shapes are expanded", "Each shape that an accepted edit touches, once, and each step of an accepted trace.", [
-        ("cga_top/specs/Effect.antt", ("HasSpent", "SpentOn", "SpentBy", "most_of", "SpentJudging")),
-    ]),
+    (
+        "The contract",
+        "Where the status is Done, what the sink holds is what it held, and then `output_of` the bytes that the source gave.",
+        [
+            (CONTRACT, ()),
+            ("cga_top/specs/Runs.antt", ("IsScript", "script_of", "RunMeans", "GivenMeans", "IsUnread", "HoldsFewOr")),
+            (
+                "cga_top/specs/Statuses.antt",
+                ("StatusMeans", "HoldsFew", "WritesAll", "WritesReplies", "WritesPrefix", "Spent"),
+            ),
+            ("cga_top/specs/Prefixes.antt", ("AppendsSome",)),
+            ("cga_top/specs/Outside.antt", ("Outside", "Gave", "IsCalm")),
+        ],
+    ),
+    (
+        "From bytes to lines",
+        "The output is the replies to the lines, one after the other, and to the end.",
+        [
+            (
+                "cga_top/specs/Output.antt",
+                (
+                    "output_of",
+                    "replies_of",
+                    "effect_of_script",
+                    "effect_of_lines",
+                    "last_effect",
+                    "last_line",
+                    "effect_of_all",
+                ),
+            ),
+            ("cga_script/specs/Lines.antt", ("lines_of", "clipped", "without_cr", "Cut", "cut", "before_first")),
+        ],
+    ),
+    (
+        "What a script has come to",
+        "Sources, and no shapes: nothing of an earlier derivation is in it.",
+        [
+            ("cga_top/specs/State.antt", ("State", "Block", "start")),
+            ("cga_city/specs/City.antt", ("empty_sources", "empty_in")),
+            ("cga_top/specs/Effect.antt", ("Effect", "says", "silent", "followed_by", "Work", "Tried", "Judging")),
+        ],
+    ),
+    (
+        "What a line does",
+        "A line of a block is kept until `end`; any other is asked at once.",
+        [
+            (
+                "cga_top/specs/Replies.antt",
+                (
+                    "effect",
+                    "effect_by",
+                    "outside",
+                    "second",
+                    "asked",
+                    "begun",
+                    "is_blank",
+                    "done_by",
+                    "opened",
+                    "in_block",
+                    "with_line",
+                    "ended",
+                    "closed",
+                    "at_end",
+                    "open_reply",
+                ),
+            ),
+            ("cga_script/specs/Ends.antt", ("is_version_line", "are_version", "is_two", "is_end_line", "are_end")),
+            (
+                "cga_top/specs/Told.antt",
+                (
+                    "command_of",
+                    "grammar_told",
+                    "sources_told",
+                    "rules_of",
+                    "city_of",
+                    "line_told",
+                    "told_of",
+                    "read_of",
+                    "block_told",
+                    "lines_found",
+                    "at_line",
+                    "line_found",
+                    "found_of",
+                ),
+            ),
+        ],
+    ),
+    (
+        "Edits",
+        "An accepted edit takes the new sources; a refused one leaves the state as it is.",
+        [
+            (
+                "cga_top/specs/Replies.antt",
+                (
+                    "edited",
+                    "applied",
+                    "noted_by",
+                    "changed",
+                    "touched_by",
+                    "stepped",
+                    "budget_of",
+                    "ok_reply",
+                    "refuses",
+                ),
+            ),
+            (
+                "cga_undo/specs/History.antt",
+                ("Kept", "nothing", "noted", "latest", "Step", "undone", "back_to", "redone", "turned", "turned_step"),
+            ),
+        ],
+    ),
+    (
+        "Reports",
+        "Of the current sources, derived from nothing.",
+        [
+            (
+                "cga_top/specs/Replies.antt",
+                (
+                    "derived",
+                    "drawn_by",
+                    "printed",
+                    "text_of",
+                    "counts_of",
+                    "shown",
+                    "model_of",
+                    "modelled",
+                    "dumped",
+                    "clothed",
+                    "stripped",
+                    "given",
+                ),
+            ),
+            ("cga_top/specs/Stats.antt", ("stats_text_of", "counted")),
+        ],
+    ),
+    (
+        "What an edit makes of the sources",
+        "The new sources, or the first refusal; the budget is the last.",
+        [
+            (
+                "cga_city/specs/Apply.antt",
+                (
+                    "apply",
+                    "within",
+                    "Changed",
+                    "changed",
+                    "checked",
+                    "by_check",
+                    "with_grammar",
+                    "with_checked",
+                    "ruled",
+                    "valued",
+                    "repriced",
+                ),
+            ),
+            (
+                "cga_city/specs/Lots.antt",
+                ("names_of", "lot_place", "is_bad", "with_lot", "finds_no_room", "rooted", "accepted"),
+            ),
+            (
+                "cga_city/specs/Grammars.antt",
+                (
+                    "has_rule",
+                    "has_parameters",
+                    "is_plain",
+                    "rule_place",
+                    "new_place",
+                    "with_rule",
+                    "with_rules",
+                    "ranked",
+                    "attribute_place",
+                    "with_priority",
+                    "prioritized",
+                ),
+            ),
+            ("cga_city/specs/Derived.antt", ("members", "is_within", "derived")),
+        ],
+    ),
+    (
+        "What a derivation is",
+        "One plain list: at each step the waiting member of least rank is taken, answered and expanded.",
+        [
+            (
+                "cga_derivation/specs/Derivation.antt",
+                (
+                    "Derivation",
+                    "derive",
+                    "reached",
+                    "start",
+                    "step",
+                    "step_by",
+                    "next_of",
+                    "is_next",
+                    "first_of",
+                    "rank_of",
+                    "outcome",
+                    "asked",
+                    "told",
+                    "become",
+                    "same_place",
+                ),
+            ),
+            ("cga_order/specs/Rank.antt", ("Rank", "rank_cmp", "by_priority", "by_depth", "by_place")),
+            ("cga_order/specs/World.antt", ("is_waiting", "shapes_where")),
+        ],
+    ),
+    (
+        "What shapes of sources are to a derivation",
+        "Roots from lots, priorities from symbols, answers and children from the grammar.",
+        [
+            ("cga_expand/specs/Derivation.antt", ("derivation_of", "priority_of", "roots_of", "made", "children_of")),
+            ("cga_shape/specs/Root.antt", ("root_of", "root_in", "root_scope")),
+            (
+                "cga_expand/specs/Asked.antt",
+                ("answers_of", "answer_if", "asks_for", "group_asks", "boxes_beside", "on_path", "sees"),
+            ),
+            ("cga_index/specs/Occlusion.antt", ("answer_of", "graded")),
+            ("cga_expand/specs/Children.antt", ("Member", "placed_by", "placed_from", "placed_at")),
+            ("cga_expand/specs/Expand.antt", ("expand_of", "rules_by_id")),
+        ],
+    ),
+    (
+        "A trace, and what it is judged to be",
+        "The run of the current sources, and where a block of lines differs from its text.",
+        [
+            ("cga_top/specs/Replies.antt", ("run_of", "judged_by")),
+            ("cga_expand/specs/Run.antt", ("run_to", "step_of", "traced", "outcome_of")),
+            ("cga_trace/specs/Judged.antt", ("judged", "differs_at", "is_line", "judged_text")),
+            ("cga_trace/specs/Text.antt", ("trace_text_of", "trace_lines", "header", "step_text", "told_text")),
+        ],
+    ),
+    (
+        "How many shapes are expanded",
+        "Each shape that an accepted edit touches, once, and each step of an accepted trace.",
+        [
+            ("cga_top/specs/Effect.antt", ("HasSpent", "SpentOn", "SpentBy", "most_of", "SpentJudging")),
+        ],
+    ),
 ]
 
 
 # what the headline's sentence names, and the sentence behind the page
-FIRST = [(("cga_top", "Runs"), "script_of"), (("cga_top", "Output"), "output_of"), (("cga_words", "Words"), "decimals_of"),
-         (("cga_words", "Words"), "town_of")]
+FIRST = [
+    (("cga_top", "Runs"), "script_of"),
+    (("cga_top", "Output"), "output_of"),
+    (("cga_words", "Words"), "decimals_of"),
+    (("cga_words", "Words"), "town_of"),
+]
 LEAVES = """
 ## The leaves
 
@@ -128,7 +304,7 @@ def contract():
             first = at
             while lines[first - 1].startswith("///"):
                 first -= 1
-            return path, lines[first:lines.index("{", at)]
+            return path, lines[first : lines.index("{", at)]
     raise Missing
 
 
@@ -153,7 +329,12 @@ def blocks(listed):
 def leaves():
     """The table of what the output reaches and this page hasn't, by crate."""
     specs = Specs()
-    shown = {((file.split("/")[0], Path(file).stem), name) for _, _, listed in SECTIONS for file, names in listed for name in names}
+    shown = {
+        ((file.split("/")[0], Path(file).stem), name)
+        for _, _, listed in SECTIONS
+        for file, names in listed
+        for name in names
+    }
     counts = {}
     for file, name in specs.reached(FIRST) - shown:
         number, lines = counts.get(file[0], (0, 0))
@@ -183,7 +364,9 @@ def main():
     if not checks:
         PAGE.write_text(text, encoding="utf-8")
     elif not PAGE.exists() or PAGE.read_text(encoding="utf-8") != text:
-        sys.exit("docs/STATEMENT.md isn't what the specs say: make it anew by .ci/statement.py, and read what has changed")
+        sys.exit(
+            "docs/STATEMENT.md isn't what the specs say: make it anew by .ci/statement.py, and read what has changed"
+        )
 
 
 if __name__ == "__main__":

@@ -5,9 +5,12 @@ what a fresh run prints that is given the dumped sources. The seeds are fixed. T
 import argparse
 import random
 import sys
+from pathlib import Path
 
-from edits_at_random import MARK, MARKED, numbers, run
-from works import lot, small_town, town
+sys.path.append(str(Path(__file__).resolve().parent.parent / "bench"))
+
+from edits_at_random import MARK, MARKED, numbers, run  # noqa: E402
+from works import lot, small_town, town  # noqa: E402
 
 PARTS, EDITS = 3, 8  # so often a town is compared, and so many edits come before each time
 RULES = [

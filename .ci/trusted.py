@@ -17,7 +17,7 @@ SAYS = "## What `rt` says of each program\n"
 NOT_ASKED = "\nIt hasn't been asked yet: `.ci/trusted.py --proved` does, where the crates are proved.\n"
 WORDS = {
     "logic": "each proof was admitted by the checker as one of the statement of its function, with no hole, and with nothing "
-             "assumed but the contracts of C functions",
+    "assumed but the contracts of C functions",
     "functions": None,
     "axioms": "on the contracts of how many C functions the proof rests; they stand below, and are taken as written",
     "target": "the system that the program is built for; nothing is proved of it",
@@ -26,7 +26,7 @@ WORDS = {
     "native": "the checker computes with large numbers by GMP, and compares characters and texts in its own code: both are trusted",
     "logic-built": "the modules of the program logic were checked when the kit was made, and are taken from there",
     "libraries-built": "the crates that it stands on were checked when they were built, those of the kit with the kit, and what "
-                       "was then written is taken",
+    "was then written is taken",
     "statements": "of those crates the statements alone are read, and their proofs not again",
     "incremental": "what an earlier check of the same files proved is taken from `out/`; a verdict of the gate is without this word",
     "batches": "several processes of the checker shared the functions, and one takes what the others wrote",
@@ -54,6 +54,7 @@ class Unread(Exception):
 
 # ---- what rt says
 
+
 def programs():
     return sorted(path.parent.parent.name for path in TOP.glob("crates/*/src/main.rt"))
 
@@ -61,8 +62,13 @@ def programs():
 def log_of(program):
     """What a check of a program prints."""
     print(f"trusted.py: rt checks {program}", file=sys.stderr)
-    done = subprocess.run(["rt", "check", "--list-axioms"], cwd=TOP / "crates" / program, stdin=subprocess.DEVNULL,
-                          stdout=subprocess.PIPE, stderr=subprocess.STDOUT)
+    done = subprocess.run(
+        ["rt", "check", "--list-axioms"],
+        cwd=TOP / "crates" / program,
+        stdin=subprocess.DEVNULL,
+        stdout=subprocess.PIPE,
+        stderr=subprocess.STDOUT,
+    )
     text = done.stdout.decode(errors="replace")
     if done.returncode != 0 or not verdict_in(text):
         raise Unread(f"rt check of {program} doesn't prove it; the last that it said: {text.strip().splitlines()[-1]}")
@@ -89,7 +95,9 @@ def words_of(log):
 def reached_in(log):
     """The C functions that the report marks, by the crate that declares them, as many as it counts."""
     reached = {}
-    for match in re.finditer(r"^axioms (\S+): (\w+) reached of the \d+ declared\n((?:  .*\n)*)", verdict_in(log)[1], re.MULTILINE):
+    for match in re.finditer(
+        r"^axioms (\S+): (\w+) reached of the \d+ declared\n((?:  .*\n)*)", verdict_in(log)[1], re.MULTILINE
+    ):
         crate, number, rest = match.groups()
         names = [line.split()[0] for line in rest.splitlines() if re.search(r"\breached$", line)]
         if number != (str(len(names)) if names else "none"):
@@ -100,7 +108,10 @@ def reached_in(log):
 
 def said_section():
     logs = {program: log_of(program) for program in programs()}
-    text = SAYS + "\nThe last line of a check has these words, and `.ci/trusted.py --proved` refuses any other.\n\n| Word | Programs | Means |\n|---|---|---|\n"
+    text = (
+        SAYS
+        + "\nThe last line of a check has these words, and `.ci/trusted.py --proved` refuses any other.\n\n| Word | Programs | Means |\n|---|---|---|\n"
+    )
     said = {}
     for program, log in logs.items():
         for word, value in words_of(log).items():
@@ -124,30 +135,37 @@ def kept_section():
 
 # ---- what the sources say
 
+
 def escapes_section():
     """No code is taken out of the proof."""
     for word in ("unsafe", "extern"):
         files = words_in_sources(word)
         if files:
             raise Unread(f"the word {word} stands in {files[0]}, and this page says that it stands nowhere")
-    return ("\n## What is taken out of the proof\n\nNothing: in no file of `crates/*/src` stands the word `unsafe`, and none "
-            "declares a C function, by the word `extern`.\nThe file HANDLES allows no function that ends the process, waits, or starts "
-            "threads.\n\nWhat standard input gave and standard output took is a record that no code holds (`Tape` of cga_outside). It says what "
-            "the clauses of `StdSource` and\n`StdSink` tie it to, the buffer of each read and the piece of each write. That the "
-            "system's calls move just these bytes is trusted.\n")
+    return (
+        "\n## What is taken out of the proof\n\nNothing: in no file of `crates/*/src` stands the word `unsafe`, and none "
+        "declares a C function, by the word `extern`.\nThe file HANDLES allows no function that ends the process, waits, or starts "
+        "threads.\n\nWhat standard input gave and standard output took is a record that no code holds (`Tape` of cga_outside). It says what "
+        "the clauses of `StdSource` and\n`StdSink` tie it to, the buffer of each read and the piece of each write. That the "
+        "system's calls move just these bytes is trusted.\n"
+    )
 
 
 def bare_section():
     bare = [function for function in all_functions() if not function.has_contract]
     own = [function for function in bare if not function.of_trait]
-    text = ("\n## Functions without a contract\n\nOf these it is proved that they return and break off nowhere, and nothing else. "
-            "Tests are left out.\n\n| Crate | File | Functions |\n|---|---|---|\n")
+    text = (
+        "\n## Functions without a contract\n\nOf these it is proved that they return and break off nowhere, and nothing else. "
+        "Tests are left out.\n\n| Crate | File | Functions |\n|---|---|---|\n"
+    )
     files = {}
     for function in own:
         files.setdefault((function.crate, function.file), []).append(f"`{function.name}`")
     text += "".join(f"| {crate} | {file} | {', '.join(names)} |\n" for (crate, file), names in files.items())
-    text += ("\nThese are written for a trait, and have the contract that the trait states.\n\n| Crate | Trait and type | Functions |\n"
-             "|---|---|---|\n")
+    text += (
+        "\nThese are written for a trait, and have the contract that the trait states.\n\n| Crate | Trait and type | Functions |\n"
+        "|---|---|---|\n"
+    )
     traits = {}
     for function in bare:
         if function.of_trait:
@@ -172,7 +190,9 @@ def main():
     if not given.check:
         PAGE.write_text(text, encoding="utf-8")
     elif not PAGE.exists() or PAGE.read_text(encoding="utf-8") != text:
-        sys.exit("docs/TRUSTED.md isn't what is found: make it anew by .ci/trusted.py --proved, and read what has changed")
+        sys.exit(
+            "docs/TRUSTED.md isn't what is found: make it anew by .ci/trusted.py --proved, and read what has changed"
+        )
 
 
 if __name__ == "__main__":

@@ -99,7 +99,9 @@ def main():
     crates = Crates((TOP / "crates.txt").read_text())
     if not crates.faults:
         crates.check()
-    crates.faults += [f"{name}: its root file lacks what it is or must not know" for name in crates.below if not head(name)]
+    crates.faults += [
+        f"{name}: its root file lacks what it is or must not know" for name in crates.below if not head(name)
+    ]
     if not crates.faults:
         old = PAGE.read_text()
         new = PART.sub(lambda part: part[1] + PRINTED[part[2]](crates) + "\n" + part[3], old)

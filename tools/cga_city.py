@@ -19,23 +19,38 @@ A City speaks version 2 from its first line on. It is of one thread at a time. P
 import re
 from decimal import Decimal
 from fractions import Fraction
-from pathlib import Path
 from types import TracebackType
 from typing import Dict, List, NamedTuple, Optional, Tuple, Type
 
-from lib.pipe import Ended, Pipe
-from lib.program import LAUNCHER, is_proved
-from lib.refusals import (  # noqa: F401  whoever imports a City catches them
+from cga_city_lib.pipe import Ended, Pipe
+from cga_city_lib.program import LAUNCHER, is_proved
+
+# fmt: off
+from cga_city_lib.refusals import (
     Refused, LineTooLong, BadByte, BadNumber, LongName, OpenText, Unexpected, TooNested, OpenBlock, NoRule,
     NoAttribute, NoLot, NoSymbol, BadLot, TooManyLots, TooManyRules, TooManyAttributes, DoubleAttribute, DoubleId,
     SplitPriority, WrongArity, DoubleName, BadProbability, UnknownSymbol, PartsDiffer, UnknownName, OverBudget,
-    NoUndo, NoRedo, LongDump, UnknownLine, BadVertex, BadFace, TooManyVertices, TooManyFaces, NoFace, TooManyAssets,
-    TooManyDresses, ModelTooLarge, NoAsset, NoDress,
-    refused)
-from lib.script import commands, is_open, lines_of, text_of, words_of
+    NoUndo, NoRedo, LongDump, UnknownLine, BadVertex, BadFace, TooManyVertices, TooManyFaces, NoFace,
+    TooManyAssets, TooManyDresses, ModelTooLarge, NoAsset, NoDress, refused)
+# fmt: on
+from cga_city_lib.script import commands, is_open, lines_of, text_of, words_of
+
+# fmt: off
+__all__ = [
+    "BadByte", "BadFace", "BadLot", "BadNumber", "BadProbability", "BadVertex", "Bill", "Changes", "City",
+    "DoubleAttribute", "DoubleId", "DoubleName", "Ended", "Fault", "Instance", "LineTooLong", "LongDump",
+    "LongName", "ModelTooLarge", "NoAsset", "NoAttribute", "NoDress", "NoFace", "NoLot", "NoRedo", "NoRule",
+    "NoSymbol", "NoUndo", "NotBuilt", "OpenBlock", "OpenText", "OverBudget", "PartsDiffer", "Refused",
+    "SplitPriority", "Stats", "Step", "TooManyAssets", "TooManyAttributes", "TooManyDresses", "TooManyFaces",
+    "TooManyLots", "TooManyRules", "TooManyVertices", "TooNested", "Unexpected", "UnknownLine", "UnknownName",
+    "UnknownSymbol", "WrongArity"]
+# fmt: on
 
 LIVE = LAUNCHER.parent / "crates" / "cga_live" / "out" / "cga_live"
-FENCE, FENCE_REPLY = b"unlot 0\n", "# refused Unexpected at 7"  # a line that is refused at once ends whatever reply came before it
+FENCE, FENCE_REPLY = (
+    b"unlot 0\n",
+    "# refused Unexpected at 7",
+)  # a line that is refused at once ends whatever reply came before it
 COUNTED = re.compile(r"# (?:faults|bill|trace) (\d+)")
 CHANGED = re.compile(r"# changed (\d+) (\d+)")
 VERSION = "version 2"
@@ -129,7 +144,9 @@ class City:
     def __enter__(self) -> "City":
         return self
 
-    def __exit__(self, kind: Optional[Type[BaseException]], fault: Optional[BaseException], trace: Optional[TracebackType]) -> None:
+    def __exit__(
+        self, kind: Optional[Type[BaseException]], fault: Optional[BaseException], trace: Optional[TracebackType]
+    ) -> None:
         self.close()
 
     def close(self) -> None:
@@ -194,7 +211,7 @@ class City:
         return replies
 
     def _report(self, command: str) -> List[str]:
-        reply, = self.do(command)
+        (reply,) = self.do(command)
         return reply
 
     def obj(self, lot: str = "") -> str:
@@ -251,5 +268,5 @@ def cut(script: str) -> List[List[str]]:
     lines = [VERSION, *lines_of(script.encode("utf-8", "surrogateescape"))]
     found = commands(lines)[1:]
     if found and is_open(found[-1], lines):
-        raise refused("# refused OpenBlock", lines[found[-1].first:])
-    return [lines[command.first:command.last + 1] for command in found]
+        raise refused("# refused OpenBlock", lines[found[-1].first :])
+    return [lines[command.first : command.last + 1] for command in found]

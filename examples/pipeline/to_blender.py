@@ -17,8 +17,10 @@ def main(words):
     bpy.ops.wm.read_factory_settings(use_empty=True)
     bpy.ops.wm.obj_import(filepath=source, forward_axis="NEGATIVE_Z", up_axis="Y")
     for thing in bpy.data.objects:
-        print(f"{thing.name}: {len(thing.data.polygons)} faces of {', '.join(slot.name for slot in thing.material_slots)}")
+        print(
+            f"{thing.name}: {len(thing.data.polygons)} faces of {', '.join(slot.name for slot in thing.material_slots)}"
+        )
     bpy.ops.wm.save_as_mainfile(filepath=target)
 
 
-main(sys.argv[sys.argv.index("--") + 1:] if "--" in sys.argv else [])
+main(sys.argv[sys.argv.index("--") + 1 :] if "--" in sys.argv else [])

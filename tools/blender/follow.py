@@ -36,7 +36,7 @@ def look():
     return None
 
 
-words = sys.argv[sys.argv.index("--") + 1:] if "--" in sys.argv else []
+words = sys.argv[sys.argv.index("--") + 1 :] if "--" in sys.argv else []
 if len(words) != 1:
     sys.exit(__doc__)
 cga_city_link.register()

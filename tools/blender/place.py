@@ -68,7 +68,11 @@ def asset(path):
 
 def matrix_of(row, fit):
     x, y, z, qx, qy, qz, qw, w, h, d = (float(row[name]) for name in "x y z qx qy qz qw w h d".split())
-    box = Matrix.Translation((x, y, z)) @ Quaternion((qw, qx, qy, qz)).to_matrix().to_4x4() @ Matrix.Diagonal((w, h, d, 1))
+    box = (
+        Matrix.Translation((x, y, z))
+        @ Quaternion((qw, qx, qy, qz)).to_matrix().to_4x4()
+        @ Matrix.Diagonal((w, h, d, 1))
+    )
     return TURN @ box @ fit
 
 
@@ -104,4 +108,4 @@ def main(words):
     bpy.ops.wm.save_as_mainfile(filepath=os.path.abspath(target))
 
 
-main(sys.argv[sys.argv.index("--") + 1:] if "--" in sys.argv else [])
+main(sys.argv[sys.argv.index("--") + 1 :] if "--" in sys.argv else [])

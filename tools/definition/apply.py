@@ -69,8 +69,10 @@ def drop(sources, rule_id):
 def set_attribute(sources, said):
     if not any(attribute.name == said.name for attribute in sources.grammar.attributes):
         raise Refused("NoAttribute", said.name)
-    attributes = tuple(Attribute(said.name, said.value) if attribute.name == said.name else attribute
-                       for attribute in sources.grammar.attributes)
+    attributes = tuple(
+        Attribute(said.name, said.value) if attribute.name == said.name else attribute
+        for attribute in sources.grammar.attributes
+    )
     return replace(sources, grammar=replace(sources.grammar, attributes=attributes))
 
 
@@ -78,7 +80,9 @@ def set_priority(sources, said):
     symbol, priority = said
     if not any(entry.rule.symbol == symbol for entry in sources.grammar.rules):
         raise Refused("NoSymbol", symbol)
-    entries = tuple(Entry(priority, entry.rule) if entry.rule.symbol == symbol else entry for entry in sources.grammar.rules)
+    entries = tuple(
+        Entry(priority, entry.rule) if entry.rule.symbol == symbol else entry for entry in sources.grammar.rules
+    )
     return replace(sources, grammar=replace(sources.grammar, rules=entries))
 
 
@@ -114,8 +118,17 @@ def whole(_, other):
     return replace(other, grammar=ranked(other.grammar))
 
 
-EDITS = {"rules": rules, "put": put, "drop": drop, "attr": set_attribute, "priority": set_priority, "lot": set_lot,
-         "unlot": unlot, "order": set_order, "whole": whole}
+EDITS = {
+    "rules": rules,
+    "put": put,
+    "drop": drop,
+    "attr": set_attribute,
+    "priority": set_priority,
+    "lot": set_lot,
+    "unlot": unlot,
+    "order": set_order,
+    "whole": whole,
+}
 
 
 def apply(sources, edit, budget):

@@ -5,7 +5,7 @@ from .frame import holds, meets
 
 def on_path(a, s):
     """The first is the second, or an ancestor of it: it has the lot, and its path begins the other's."""
-    return a.lot == s.lot and s.path[:len(a.path)] == a.path
+    return a.lot == s.lot and s.path[: len(a.path)] == a.path
 
 
 def boxes_beside(s, others):
@@ -25,5 +25,7 @@ def answer_if(mentioned, s, others):
 
 def answers_of(rules, s, existing, waiting):
     """noparent is asked of all shapes, active of those that wait."""
-    return {"noparent": answer_if(mentions_target(rules, "noparent"), s, existing),
-            "active": answer_if(mentions_target(rules, "active"), s, waiting)}
+    return {
+        "noparent": answer_if(mentions_target(rules, "noparent"), s, existing),
+        "active": answer_if(mentions_target(rules, "active"), s, waiting),
+    }

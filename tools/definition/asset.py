@@ -16,6 +16,7 @@ PASSED_WORDS = ("o", "g", "s", "l", "vn", "vt", "vp", "usemtl", "mtllib")
 
 # ---- words and lines
 
+
 def words_of(line):
     return [word for word in line.replace("\t", " ").split(" ") if word]
 
@@ -96,6 +97,7 @@ def asset_of(lines):
 
 # ---- fitting
 
+
 def span_of(points, axis):
     """The least coordinate, and the difference between the greatest and it."""
     coordinates = [point[axis] for point in points]
@@ -121,9 +123,11 @@ def fit_of(asset, scope):
 
 # ---- what is dressed
 
+
 @dataclass(frozen=True)
 class Wardrobe:
     """Assets by name, and the names of the assets that symbols are drawn as."""
+
     assets: Dict = field(default_factory=dict)
     dresses: Dict = field(default_factory=dict)
 

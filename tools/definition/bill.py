@@ -31,6 +31,8 @@ def bill_of(drawn):
 
 
 def bill_text_of(bill):
-    lines = [f"# bill {symbol} {number} {pointed(6, front)} {pointed(6, volume)} {unmeasured}\n"
-             for symbol, (number, front, volume, unmeasured) in bill.items()]
+    lines = [
+        f"# bill {symbol} {number} {pointed(6, front)} {pointed(6, volume)} {unmeasured}\n"
+        for symbol, (number, front, volume, unmeasured) in bill.items()
+    ]
     return f"# bill {len(bill)}\n" + "".join(lines)

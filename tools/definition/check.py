@@ -72,6 +72,7 @@ def use_faults(grammar, rule, use):
 @dataclass(frozen=True)
 class Group:
     """The rules of a symbol, by rising id, and their priority."""
+
     symbol: str
     priority: int
     rules: Tuple
@@ -111,5 +112,7 @@ def mentions_attribute(rules, name):
 def setting_of(grammar, symbol):
     """What the shapes of a symbol read of a grammar: the group, and the values of the attributes that it mentions."""
     rules = group(grammar, symbol)
-    values = {attribute.name: attribute.value for attribute in grammar.attributes if mentions_attribute(rules, attribute.name)}
+    values = {
+        attribute.name: attribute.value for attribute in grammar.attributes if mentions_attribute(rules, attribute.name)
+    }
     return rules, values

@@ -4,7 +4,7 @@ from .parser import rule
 from .rule import Attribute
 from .sources import BREADTH, DEPTH, Lot
 
-LAST_PRIORITY, LAST_SEED = 65535, 10 ** 18 - 1
+LAST_PRIORITY, LAST_SEED = 65535, 10**18 - 1
 
 
 def prio(r):
@@ -68,6 +68,7 @@ def with_name(word):
     def read(r):
         r.word(word)
         return r.name()
+
     return read
 
 
@@ -75,6 +76,7 @@ def with_name_or_none(word):
     def read(r):
         r.word(word)
         return name_or_none(r)
+
     return read
 
 
@@ -83,22 +85,37 @@ def dress(r):
     return r.name(), r.name()
 
 
-VERSION_1 = {"put": put, "drop": drop, "attr": attribute, "priority": priority, "lot": lot, "unlot": with_name("unlot"),
-             "print": with_name_or_none("print")}
+VERSION_1 = {
+    "put": put,
+    "drop": drop,
+    "attr": attribute,
+    "priority": priority,
+    "lot": lot,
+    "unlot": with_name("unlot"),
+    "print": with_name_or_none("print"),
+}
 VERSION_1.update({word: alone(word) for word in ("rules", "faults", "grammar", "stats", "quiet")})
-VERSION_2 = {**VERSION_1, "order": order, "asset": with_name("asset"), "dress": dress, "undress": with_name("undress"),
-             "model": with_name_or_none("model")}
+VERSION_2 = {
+    **VERSION_1,
+    "order": order,
+    "asset": with_name("asset"),
+    "dress": dress,
+    "undress": with_name("undress"),
+    "model": with_name_or_none("model"),
+}
 VERSION_2.update({word: alone(word) for word in ("city", "dump", "bill", "undo", "redo", "trace", "judge")})
 COMMANDS = {1: VERSION_1, 2: VERSION_2}
 
 
 def by_first_word(forms, otherwise):
     """By the word that comes first, if it is one of the forms'."""
+
     def read(r):
         kind, said = r.next()
         if kind == "word" and said in forms:
             return said, forms[said](r)
         return otherwise(r)
+
     return read
 
 
@@ -116,6 +133,7 @@ def command(version):
 
 
 # ---- lines of blocks
+
 
 def section(r):
     r.word("PRIORITY")

@@ -16,6 +16,7 @@ WAITING, DONE, FAULTED, INSTANCE = "waiting", "done", "faulted", "instance"
 @dataclass
 class Placed:
     """A member: its kind, with the fault of a faulted one and the solid of an instance."""
+
     shape: Shape
     kind: str
     which: str = ""
@@ -24,6 +25,7 @@ class Placed:
 @dataclass
 class TraceStep:
     """What a step told: the shape that it took, the answers, and the number of children or the fault."""
+
     shape: Shape
     answers: Dict
     outcome: object
@@ -32,6 +34,7 @@ class TraceStep:
 @dataclass
 class Derivation:
     """A configuration in which nothing waits, and the steps that led to it."""
+
     members: List
     steps: List
 

@@ -28,7 +28,7 @@ def chosen(attributes, shape, answers, rules):
 
 def drawn_number(shape):
     """The number below a million that word 0 of the shape gives."""
-    return shape_word_of(shape.seed, 0) * MILLIONTHS // 2 ** 32
+    return shape_word_of(shape.seed, 0) * MILLIONTHS // 2**32
 
 
 def picked(number, alternatives):
@@ -78,7 +78,9 @@ class Walk:
         return checked(size.factor * scope.size[axis])
 
     def resize(self, item, scope):
-        return scope_of(scope.at, scope.frame, tuple(self.size_in(scope, axis, size) for axis, size in enumerate(item.sizes)))
+        return scope_of(
+            scope.at, scope.frame, tuple(self.size_in(scope, axis, size) for axis, size in enumerate(item.sizes))
+        )
 
     def rotate(self, item, scope):
         return turned_scope(scope, item.axis, item.by)
@@ -133,5 +135,14 @@ class Walk:
         return self.over(parts, [item.body] * len(parts), scope)
 
 
-STEPS = {Move: Walk.move, Resize: Walk.resize, Rotate: Walk.rotate, Scoped: Walk.scoped, Solid: Walk.draw, Child: Walk.grow,
-         Subdiv: Walk.subdivide, Repeat: Walk.repeat, Comp: Walk.take_apart}
+STEPS = {
+    Move: Walk.move,
+    Resize: Walk.resize,
+    Rotate: Walk.rotate,
+    Scoped: Walk.scoped,
+    Solid: Walk.draw,
+    Child: Walk.grow,
+    Subdiv: Walk.subdivide,
+    Repeat: Walk.repeat,
+    Comp: Walk.take_apart,
+}

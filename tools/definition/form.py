@@ -89,7 +89,7 @@ def too_nested(tokens):
 def form_told(read, line, tokens):
     """What the tokens are read as, to their end."""
     nested = too_nested(tokens)
-    reader = Reader(tokens if nested is None else tokens[:nested + 1])
+    reader = Reader(tokens if nested is None else tokens[: nested + 1])
     try:
         said = read(reader)
         if not reader.is_at_end():

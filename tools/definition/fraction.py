@@ -4,7 +4,7 @@ from fractions import Fraction
 
 from .fault import Fault
 
-LIMIT = 2 ** 62
+LIMIT = 2**62
 ZERO = Fraction(0)
 
 
@@ -42,7 +42,7 @@ def decimal_of(text):
 
 def round_of(a, places):
     """The whole number nearest to a * 10^places, and of two equally near ones the one farther from zero."""
-    nearest = (2 * abs(a.numerator) * 10 ** places + a.denominator) // (2 * a.denominator)
+    nearest = (2 * abs(a.numerator) * 10**places + a.denominator) // (2 * a.denominator)
     return -nearest if a < 0 else nearest
 
 
@@ -63,5 +63,5 @@ def exact_text_of(a):
 
 def literal_text_of(a):
     """The shortest decimal that is read as this number."""
-    places = next(places for places in range(18) if 10 ** places % a.denominator == 0)
-    return pointed(places, a.numerator * 10 ** places // a.denominator)
+    places = next(places for places in range(18) if 10**places % a.denominator == 0)
+    return pointed(places, a.numerator * 10**places // a.denominator)

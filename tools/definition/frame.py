@@ -69,6 +69,7 @@ class Box:
 @dataclass(frozen=True)
 class Scope:
     """A position, a frame, and a size along each axis of the frame."""
+
     at: Tuple
     frame: Tuple
     size: Tuple
@@ -128,13 +129,17 @@ def along_holds(low, high, lower, upper):
 
 
 def meets(a, b):
-    return (along_meets(a.low[X], a.high[X], b.low[X], b.high[X])
-            and along_meets(a.low[Y], a.high[Y], b.low[Y], b.high[Y])
-            and along_meets(a.low[Z], a.high[Z], b.low[Z], b.high[Z]))
+    return (
+        along_meets(a.low[X], a.high[X], b.low[X], b.high[X])
+        and along_meets(a.low[Y], a.high[Y], b.low[Y], b.high[Y])
+        and along_meets(a.low[Z], a.high[Z], b.low[Z], b.high[Z])
+    )
 
 
 def holds(a, b):
     """Each point of b lies in a."""
-    return (along_holds(a.low[X], a.high[X], b.low[X], b.high[X])
-            and along_holds(a.low[Y], a.high[Y], b.low[Y], b.high[Y])
-            and along_holds(a.low[Z], a.high[Z], b.low[Z], b.high[Z]))
+    return (
+        along_holds(a.low[X], a.high[X], b.low[X], b.high[X])
+        and along_holds(a.low[Y], a.high[Y], b.low[Y], b.high[Y])
+        and along_holds(a.low[Z], a.high[Z], b.low[Z], b.high[Z])
+    )

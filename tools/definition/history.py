@@ -8,6 +8,7 @@ MOST_KEPT = 16
 @dataclass(frozen=True)
 class Kept:
     """The sources that were left by edits, and those that were left by an undo; the latest stand last."""
+
     past: Tuple = ()
     future: Tuple = ()
 

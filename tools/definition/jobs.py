@@ -14,6 +14,7 @@ from .run import step_text
 @dataclass(frozen=True)
 class Job:
     """Names of lots, and by these the members, each a shape with what it is, and the texts of the steps in their order."""
+
     own: Tuple
     ring: Tuple
     members: Dict
@@ -25,7 +26,11 @@ class Jobs:
         self.sources, self.budget = sources, budget
         groups = {entry.rule.symbol: group(sources.grammar, entry.rule.symbol) for entry in sources.grammar.rules}
         self.priorities = {symbol: rules.priority for symbol, rules in groups.items()}
-        self.asking = {symbol for symbol, rules in groups.items() if any(mentions_target(rules, target) for target in ("noparent", "active"))}
+        self.asking = {
+            symbol
+            for symbol, rules in groups.items()
+            if any(mentions_target(rules, target) for target in ("noparent", "active"))
+        }
         self.jobs = [self.job(own, ring) for own, ring in shares]
         self.together = frozenset().union(*map(own_of, self.jobs))
 
@@ -59,12 +64,17 @@ class Jobs:
         return not any(sees(shape, other) for shape in self.asks_among(own_of(job)) for other in unlike)
 
     def meets_none(self, lot, other, xs, ys):
-        return not any(meets(met.scope.box, shape.scope.box) for shape in self.asks_among(of(lot, xs)) for met, *_ in of(other, ys))
+        return not any(
+            meets(met.scope.box, shape.scope.box) for shape in self.asks_among(of(lot, xs)) for met, *_ in of(other, ys)
+        )
 
     def is_settled(self, job, other, x, y):
         """Both derived the second lot alike, or it meets no shape of the first that asks."""
-        return (of(y, job.members) == of(y, other.members)
-                or self.meets_none(x, y, job.members, job.members) and self.meets_none(x, y, job.members, other.members))
+        return (
+            of(y, job.members) == of(y, other.members)
+            or self.meets_none(x, y, job.members, job.members)
+            and self.meets_none(x, y, job.members, other.members)
+        )
 
     def agree_on(self, job, other, x, y):
         """As far as they tell it by steps and boxes."""
@@ -73,7 +83,9 @@ class Jobs:
         return not boxes_touch(x, y, job.members, other.members) and not boxes_touch(x, y, job.members, job.members)
 
     def all_are(self, test):
-        return all(test(job, other, x, y) for job in self.jobs for other in self.jobs for x in job.own for y in other.own)
+        return all(
+            test(job, other, x, y) for job in self.jobs for other in self.jobs for x in job.own for y in other.own
+        )
 
 
 def by_lot(found, made):
@@ -121,5 +133,8 @@ def hull_of(members):
 
 def boxes_touch(lot, other, xs, ys):
     one, two = hull_of(of(lot, xs)), hull_of(of(other, ys))
-    return one is not None and two is not None and all(
-        a <= d and c <= b for a, b, c, d in zip(one.low, one.high, two.low, two.high))
+    return (
+        one is not None
+        and two is not None
+        and all(a <= d and c <= b for a, b, c, d in zip(one.low, one.high, two.low, two.high))
+    )

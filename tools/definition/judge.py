@@ -25,11 +25,14 @@ def read_text(name):
     found = NO_TEXT.search(text)
     if found:
         line = text.count("\n", 0, found.start()) + 1
-        raise BadInput(name, line, f"this isn't text: it has the byte {ord(found.group())}; give the file as it was written")
+        raise BadInput(
+            name, line, f"this isn't text: it has the byte {ord(found.group())}; give the file as it was written"
+        )
     return text
 
 
 # ---- the script
+
 
 def words_of(line):
     try:
@@ -47,8 +50,13 @@ def check_version(name, text):
             return
         if words != []:
             is_other = words is not None and words[:1] == ["version"]
-            raise BadInput(name, number, "this is another version; the judge knows version 2 alone" if is_other else
-                           "this is of version 1, which has no traces; a script of version 2 begins with the line `version 2`")
+            raise BadInput(
+                name,
+                number,
+                "this is another version; the judge knows version 2 alone"
+                if is_other
+                else "this is of version 1, which has no traces; a script of version 2 begins with the line `version 2`",
+            )
     raise BadInput(name, 1, "the script is empty; it begins with the line `version 2`")
 
 
@@ -62,11 +70,14 @@ def state_of(name, text, clock):
         opened = None if state.block is None else opened or at
     if state.block is not None:
         kind = state.block.kind
-        raise BadInput(name, opened, f"the script is open at its end: the block that `{kind}` opens here has no line `end`")
+        raise BadInput(
+            name, opened, f"the script is open at its end: the block that `{kind}` opens here has no line `end`"
+        )
     return state
 
 
 # ---- the trace
+
 
 def trace_of(name, text):
     """The lines of the last trace, and the number of its first line."""
@@ -76,7 +87,7 @@ def trace_of(name, text):
     heads = [at for at, line in enumerate(lines) if line.startswith("# trace ")]
     if not heads:
         raise BadInput(name, 1, "there is no line `# trace N`; a trace is what the command `trace` writes")
-    return lines[heads[-1]:], heads[-1] + 1
+    return lines[heads[-1] :], heads[-1] + 1
 
 
 def why_rejected(state, differs, lines):

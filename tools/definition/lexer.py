@@ -16,6 +16,7 @@ ONE_SIGNS = "()[]{},:|+-*/.=<>"
 @dataclass(frozen=True)
 class Token:
     """A number, a relative, a word, a text or a sign; what it says, and the place of its first byte, from 1."""
+
     kind: str
     said: object
     place: int
@@ -45,7 +46,7 @@ def token_at(line, at):
         return word_at(line, at)
     if line[at] == '"':
         return text_at(line, at)
-    for sign in (line[at:at + 2], line[at]):
+    for sign in (line[at : at + 2], line[at]):
         if sign in TWO_SIGNS or len(sign) == 1 and sign in ONE_SIGNS:
             return Token("sign", sign, at + 1), at + len(sign)
     raise LineFault("BadByte", at + 1)
@@ -55,8 +56,8 @@ def number_at(line, at):
     """Digits, with a point and digits or without; directly behind them an r, and nothing of a name, makes it relative."""
     digits = re.compile(r"[0-9]+(?:\.[0-9]+)?").match(line, at).group()
     end = at + len(digits)
-    is_relative = line[end:end + 1] == "r" and line[end + 1:end + 2] not in [*LETTERS, *DIGITS]
-    is_bad = line[end:end + 1] in [*LETTERS] and not is_relative
+    is_relative = line[end : end + 1] == "r" and line[end + 1 : end + 2] not in [*LETTERS, *DIGITS]
+    is_bad = line[end : end + 1] in [*LETTERS] and not is_relative
     if is_bad or len(digits.replace(".", "")) > MOST_DIGITS:
         raise LineFault("BadNumber", at + 1)
     return Token("relative" if is_relative else "number", Fraction(digits), at + 1), end + is_relative
@@ -79,7 +80,7 @@ def word_at(line, at):
 def text_at(line, at):
     """A name in quotes."""
     first = at + 1
-    end = name_end(line, first) if line[first:first + 1] in [*LETTERS] else first
+    end = name_end(line, first) if line[first : first + 1] in [*LETTERS] else first
     if end == len(line):
         raise LineFault("OpenText", at + 1)
     if line[end] != '"' or end == first:

@@ -3,8 +3,37 @@ from fractions import Fraction
 
 from .comp import SIDES
 from .frame import X, Y, Z
-from .rule import (Absolute, Alternative, Ceil, Child, Comp, Compare, Cond, Conj, Expr, Factor, Floor, Grouped, Move, Named, Not,
-                   Number, Occ, Rand, Relative, Repeat, Resize, Rotate, Rule, Scoped, ScopeSize, Solid, Subdiv, Term, TestGroup)
+from .rule import (
+    Absolute,
+    Alternative,
+    Ceil,
+    Child,
+    Comp,
+    Compare,
+    Cond,
+    Conj,
+    Expr,
+    Factor,
+    Floor,
+    Grouped,
+    Move,
+    Named,
+    Not,
+    Number,
+    Occ,
+    Rand,
+    Relative,
+    Repeat,
+    Resize,
+    Rotate,
+    Rule,
+    Scoped,
+    ScopeSize,
+    Solid,
+    Subdiv,
+    Term,
+    TestGroup,
+)
 from .form import Unexpected
 
 MOST_PARAMS, LAST_ID, MOST_STEPS = 4, 999999, 1000000
@@ -40,6 +69,7 @@ def alternative(r):
 
 
 # ---- items
+
 
 def body(r):
     """NIL, or one item or more."""
@@ -90,12 +120,14 @@ def in_curly(r, read):
 
 def three(read):
     """Three members with commas between them."""
+
     def read_three(r):
         first = read(r)
         r.sign(",")
         second = read(r)
         r.sign(",")
         return first, second, read(r)
+
     return read_three
 
 
@@ -162,12 +194,22 @@ def size(r):
     return Absolute(expr(r))
 
 
-ITEMS = {"T": move, "S": resize, "Rx": rotate, "Ry": rotate, "Rz": rotate, "I": solid, "Subdiv": subdiv, "Repeat": repeat,
-         "Comp": comp}
+ITEMS = {
+    "T": move,
+    "S": resize,
+    "Rx": rotate,
+    "Ry": rotate,
+    "Rz": rotate,
+    "I": solid,
+    "Subdiv": subdiv,
+    "Repeat": repeat,
+    "Comp": comp,
+}
 RESERVED_IN_ITEMS = ("NIL", "Scope", "rand", "floor", "ceil", "and", "or", "not")
 
 
 # ---- conditions
+
 
 def cond(r):
     conjs = [conj(r)]
@@ -207,7 +249,7 @@ def test(r):
 
 def asks(r):
     """Behind the word Scope and a point stands the word occ."""
-    following = [(token.kind, token.said) for token in r.tokens[r.at + 1:r.at + 3]]
+    following = [(token.kind, token.said) for token in r.tokens[r.at + 1 : r.at + 3]]
     return following == [("sign", "."), ("word", "occ")]
 
 
@@ -221,6 +263,7 @@ def occ(r):
 
 
 # ---- expressions
+
 
 def expr(r):
     first, rest = term(r), []

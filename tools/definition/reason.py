@@ -60,6 +60,7 @@ def why_outcome(configuration, step):
 
 # ---- another shape is next
 
+
 def rank_text(configuration, shape):
     priority = configuration.groups[shape.symbol].priority
     return f"priority {priority}, depth {len(shape.path)}, lot {shape.lot}, path {path_text(shape.path)}"
@@ -81,6 +82,7 @@ def not_next(configuration, following, lot, path):
 
 # ---- another answer
 
+
 def box_text(box):
     ends = zip("XYZ", box.low, box.high)
     return ", ".join(f"{axis} {exact_text_of(low)} to {exact_text_of(high)}" for axis, low, high in ends)
@@ -91,13 +93,19 @@ def why_answered(configuration, step, target):
     answer, shape = step.answers[target], step.shape
     if answer is None:
         return f"{target} is -: no rule of {shape.symbol} asks for it"
-    compared = [member.shape for member in configuration.members
-                if not on_path(member.shape, shape) and (target == "noparent" or member.kind == WAITING)]
+    compared = [
+        member.shape
+        for member in configuration.members
+        if not on_path(member.shape, shape) and (target == "noparent" or member.kind == WAITING)
+    ]
     box = shape.scope.box
     own = f"the box of {place_text(shape)} is {box_text(box)}"
-    deciding = [other for other in compared
-                if meets(other.scope.box, box) and (answer != "full" or holds(other.scope.box, box))]
+    deciding = [
+        other for other in compared if meets(other.scope.box, box) and (answer != "full" or holds(other.scope.box, box))
+    ]
     if not deciding:
         return f"{target} is none: {own}, and none of the {len(compared)} boxes that are compared meets it"
     how = "meets and holds it" if answer == "full" else "meets it, and none that does holds it"
-    return f"{target} is {answer}: {own}, and that of {place_text(deciding[0])}, {box_text(deciding[0].scope.box)}, {how}"
+    return (
+        f"{target} is {answer}: {own}, and that of {place_text(deciding[0])}, {box_text(deciding[0].scope.box)}, {how}"
+    )

@@ -34,6 +34,7 @@ def derived(s):
 
 # ---- edits
 
+
 def changed(s, kept, edit):
     """An edit goes through, with what the history then keeps."""
     new = apply(s.sources, edit, budget_of(s))
@@ -55,6 +56,7 @@ def stepped(s, none, step):
 
 
 # ---- reports
+
 
 def asked_lots(s, name):
     """Those of the city, or the one that is named."""
@@ -94,11 +96,13 @@ REPORTS = {
 
 # ---- assets
 
+
 def clothed(s, wardrobe):
     return replace(s, wardrobe=wardrobe), ok_reply(s)
 
 
 # ---- lines outside a block
+
 
 def done_by(s, word, said):
     """What a command asks for."""
@@ -149,6 +153,7 @@ def outside(s, line):
 
 
 # ---- lines of a block
+
 
 def ended(s, block):
     """What the end of a block does: it makes an edit or an asset, or its first faulty line is refused."""

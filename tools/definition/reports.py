@@ -27,8 +27,11 @@ def in_order(lots, members):
 
 def drawn_in(lots, members):
     """The instances of these lots in their order, and in a lot by their paths."""
-    return [Drawn(member.shape.lot, member.shape.symbol, member.which, member.shape.scope)
-            for member in in_order(lots, members) if member.kind == INSTANCE]
+    return [
+        Drawn(member.shape.lot, member.shape.symbol, member.which, member.shape.scope)
+        for member in in_order(lots, members)
+        if member.kind == INSTANCE
+    ]
 
 
 def faults_in(lots, members):
@@ -36,7 +39,10 @@ def faults_in(lots, members):
 
 
 def fault_text_of(faults):
-    lines = [f"# fault {fault.shape.lot} {path_text(fault.shape.path)} {fault.shape.symbol} {fault.which}\n" for fault in faults]
+    lines = [
+        f"# fault {fault.shape.lot} {path_text(fault.shape.path)} {fault.shape.symbol} {fault.which}\n"
+        for fault in faults
+    ]
     return f"# faults {len(faults)}\n" + "".join(lines)
 
 
@@ -47,6 +53,7 @@ def stats_text_of(lots, members, expanded):
 
 
 # ---- OBJ
+
 
 def mesh_drawn(drawn):
     return mesh_of(drawn.primitive, drawn.scope)

@@ -7,6 +7,7 @@ from typing import Optional, Tuple
 
 # ---- expressions
 
+
 @dataclass(frozen=True)
 class Number:
     value: Fraction
@@ -25,6 +26,7 @@ class ScopeSize:
 @dataclass(frozen=True)
 class Grouped:
     """In round brackets."""
+
     expr: "Expr"
 
 
@@ -41,6 +43,7 @@ class Ceil:
 @dataclass(frozen=True)
 class Rand:
     """Its number in its rule, from 1, in reading order."""
+
     number: int
     low: "Expr"
     high: "Expr"
@@ -56,6 +59,7 @@ class Factor:
 @dataclass(frozen=True)
 class Term:
     """Further factors, each with whether it is divided by."""
+
     first: Factor
     rest: Tuple
 
@@ -63,11 +67,13 @@ class Term:
 @dataclass(frozen=True)
 class Expr:
     """Further terms, each with whether it is taken away."""
+
     first: Term
     rest: Tuple
 
 
 # ---- conditions
+
 
 @dataclass(frozen=True)
 class TestGroup:
@@ -104,6 +110,7 @@ class Cond:
 
 
 # ---- items
+
 
 @dataclass(frozen=True)
 class Relative:
@@ -158,6 +165,7 @@ class Repeat:
 @dataclass(frozen=True)
 class Comp:
     """A kind of components, and the side or the number of one."""
+
     selector: Tuple
     body: Tuple
 
@@ -169,6 +177,7 @@ class Child:
 
 
 # ---- rules
+
 
 @dataclass(frozen=True)
 class Alternative:
@@ -209,9 +218,14 @@ class Grammar:
 
 # ---- what a rule uses, in reading order: an Occ, a Subdiv, a Child or a Named, a whole before its parts
 
+
 def expr_uses(expr):
-    return [use for term in [expr.first] + [term for _, term in expr.rest]
-            for factor in [term.first] + [factor for _, factor in term.rest] for use in primary_uses(factor.primary)]
+    return [
+        use
+        for term in [expr.first] + [term for _, term in expr.rest]
+        for factor in [term.first] + [factor for _, factor in term.rest]
+        for use in primary_uses(factor.primary)
+    ]
 
 
 def primary_uses(primary):

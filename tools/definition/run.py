@@ -8,7 +8,9 @@ def path_text(path):
 
 def step_text(step):
     answers = [step.answers[target] or "-" for target in ("noparent", "active")]
-    return " ".join(["# step", step.shape.lot, path_text(step.shape.path), step.shape.symbol, *answers, str(step.outcome)])
+    return " ".join(
+        ["# step", step.shape.lot, path_text(step.shape.path), step.shape.symbol, *answers, str(step.outcome)]
+    )
 
 
 def trace_lines(steps):

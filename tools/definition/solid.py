@@ -23,6 +23,7 @@ FACES = {
 @dataclass(frozen=True)
 class SolidMesh:
     """Vertices, and faces by the numbers of their vertices, from 1."""
+
     vertices: Tuple
     faces: Tuple
 

@@ -34,6 +34,7 @@ EMPTY_SOURCES = Sources(Grammar((), ()), (), BREADTH)
 @dataclass(frozen=True)
 class Shape:
     """An instance has the symbol of the shape that emitted it, and no arguments."""
+
     lot: str
     path: Tuple
     symbol: str

@@ -10,6 +10,7 @@ from .sources import EMPTY_SOURCES, Sources
 @dataclass(frozen=True)
 class Block:
     """A block that is open: its kind, the name of an asset, and the lines that it has so far."""
+
     kind: str
     name: Optional[str]
     lines: Tuple = ()

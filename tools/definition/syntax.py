@@ -2,8 +2,27 @@
 from .fault import Refused
 from .fraction import exact_text_of, literal_text_of
 from .lexer import LETTERS, MOST_LINE
-from .rule import (Absolute, Ceil, Comp, Compare, Floor, Grouped, Move, Named, Not, Number, Occ, Rand, Repeat, Resize, Rotate,
-                   Scoped, ScopeSize, Solid, Subdiv)
+from .rule import (
+    Absolute,
+    Ceil,
+    Comp,
+    Compare,
+    Floor,
+    Grouped,
+    Move,
+    Named,
+    Not,
+    Number,
+    Occ,
+    Rand,
+    Repeat,
+    Resize,
+    Rotate,
+    Scoped,
+    ScopeSize,
+    Solid,
+    Subdiv,
+)
 
 # a minus that begins a factor, and the colon behind the id: between them and what comes next, or before, is no space
 MINUS, LABEL = " -", " :"
@@ -13,13 +32,14 @@ TURN_WORDS = ("Rx", "Ry", "Rz")
 
 # ---- spaces
 
+
 def is_word(token):
     return token[0] in LETTERS
 
 
 def closes_up(a, b):
     """No space stands between two neighbours."""
-    return (a in ("(", ".") or b in (")", ",", ".") or is_word(a) and b == "(" or a == MINUS or b == LABEL)
+    return a in ("(", ".") or b in (")", ",", ".") or is_word(a) and b == "(" or a == MINUS or b == LABEL
 
 
 def text_of(tokens):
@@ -30,6 +50,7 @@ def text_of(tokens):
 
 
 # ---- expressions
+
 
 def separated(members, separator):
     """The tokens of members with a separator between two of them."""
@@ -78,6 +99,7 @@ def primary_tokens(primary):
 
 # ---- conditions
 
+
 def cond_tokens(cond):
     return separated([separated([test_tokens(test) for test in conj.tests], "and") for conj in cond.conjs], "or")
 
@@ -91,6 +113,7 @@ def test_tokens(test):
 
 
 # ---- items
+
 
 def size_tokens(size):
     return expr_tokens(size.value) if isinstance(size, Absolute) else [literal_text_of(size.factor) + "r"]
@@ -133,6 +156,7 @@ def parts_tokens(item):
 
 # ---- rules
 
+
 def alternative_tokens(alternative):
     """A probability of 1 is left out."""
     prob = [] if alternative.prob == 1 else [":", literal_text_of(alternative.prob)]
@@ -168,6 +192,7 @@ def grammar_text(grammar):
 
 
 # ---- the dump
+
 
 def lot_text(lot):
     values = [exact_text_of(value) for value in (lot.x, lot.z, lot.width, lot.depth)]

@@ -5,7 +5,11 @@ from .derivation import INSTANCE, members, run_to
 
 def non_instances(sources, budget):
     """By lot and path."""
-    return {(member.shape.lot, member.shape.path): member.shape for member in members(budget, sources) if member.kind != INSTANCE}
+    return {
+        (member.shape.lot, member.shape.path): member.shape
+        for member in members(budget, sources)
+        if member.kind != INSTANCE
+    }
 
 
 def answered(sources, budget):
@@ -24,8 +28,10 @@ class Touched:
         """Whether the priorities of a symbol are equal, and whether its settings are."""
         if symbol not in self.agreed:
             first, other = first_entry(self.old.grammar, symbol), first_entry(self.new.grammar, symbol)
-            self.agreed[symbol] = (first.priority == other.priority,
-                                   setting_of(self.old.grammar, symbol) == setting_of(self.new.grammar, symbol))
+            self.agreed[symbol] = (
+                first.priority == other.priority,
+                setting_of(self.old.grammar, symbol) == setting_of(self.new.grammar, symbol),
+            )
         return self.agreed[symbol]
 
     def is_same(self, place):

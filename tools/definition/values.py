@@ -11,6 +11,7 @@ from .word import shape_word_of
 @dataclass(frozen=True)
 class Known:
     """What an expression reads beside itself."""
+
     params: Tuple
     args: Tuple
     attributes: Dict
@@ -66,7 +67,7 @@ def random_value(rand, known):
     low = expr_value(rand.low, known)
     high = expr_value(rand.high, known)
     span = checked(high - low)
-    step = shape_word_of(known.seed, rand.number) * (rand.steps + 1) // 2 ** 32
+    step = shape_word_of(known.seed, rand.number) * (rand.steps + 1) // 2**32
     share = checked(Fraction(step, rand.steps))
     return checked(low + checked(span * share))
 

@@ -15,7 +15,7 @@ import solid_table  # noqa: E402
 
 UPRIGHT = [(1, 0, 0), (0, 1, 0), (0, 0, 1)]
 FAR = (2683141, 0, 1247942)
-RULES = "rules\nattr h = 3\n1: a -> I(\"cube\")\nend\n"
+RULES = 'rules\nattr h = 3\n1: a -> I("cube")\nend\n'
 
 
 class Layout:
@@ -42,16 +42,24 @@ def panel():
 
 
 def printed(height, has_b):
-    solids = [("a", "wall", "cube", FAR, UPRIGHT, (4, height, 2)), ("a", "roof", "gable", (FAR[0], height, FAR[2]), UPRIGHT, (4, 1, 2))]
+    solids = [
+        ("a", "wall", "cube", FAR, UPRIGHT, (4, height, 2)),
+        ("a", "roof", "gable", (FAR[0], height, FAR[2]), UPRIGHT, (4, 1, 2)),
+    ]
     return solid_table.text(solids + [("b", "wall", "cube", (FAR[0] + 10, 0, FAR[2]), UPRIGHT, (1, 1, 1))] * has_b)
 
 
 def told():
     grammar = ["> grammar\nrules\nattr h = 3\nend\n"] * 2 + ["> grammar\nrules\nattr h = 9/2\nend\n"]
     towns = [(3, False), (3, True), (4.5, True), (4.5, False), (4.5, False)]
-    return "".join(["> rules\n# ok\n> lot a 1 0 0 1 1 a\n# ok\n> lot b 1 0 0 1 1 a\n# ok\n> unlot b\n# ok\n> attr h = 4.5\n# ok\n",
-                    "> lot c 1 0 0 0 1 a\n# refused BadLot c\n> stats\n# stats lots 2 shapes 9 instances 3 faults 0 expanded 2\n",
-                    *grammar, *("> print\n" + printed(*town) for town in towns)])
+    return "".join(
+        [
+            "> rules\n# ok\n> lot a 1 0 0 1 1 a\n# ok\n> lot b 1 0 0 1 1 a\n# ok\n> unlot b\n# ok\n> attr h = 4.5\n# ok\n",
+            "> lot c 1 0 0 0 1 a\n# refused BadLot c\n> stats\n# stats lots 2 shapes 9 instances 3 faults 0 expanded 2\n",
+            *grammar,
+            *("> print\n" + printed(*town) for town in towns),
+        ]
+    )
 
 
 def main():
@@ -82,7 +90,10 @@ def main():
 
     def box(thing):
         """In whole thousandths."""
-        return [(round(1000 * min(parts)), round(1000 * max(parts))) for parts in zip(*((thing.matrix_world @ v.co)[:] for v in thing.data.vertices))]
+        return [
+            (round(1000 * min(parts)), round(1000 * max(parts)))
+            for parts in zip(*((thing.matrix_world @ v.co)[:] for v in thing.data.vertices))
+        ]
 
     wait()
     bpy.context.view_layer.update()
@@ -116,7 +127,12 @@ def main():
     wait()
     bpy.context.view_layer.update()
     assert objects()["a"] == a and box(a)[2] == (5000, 10500), box(a)
-    assert [slot.name for slot in a.material_slots] == ["my walls", "my roof"] and tuple(walls.diffuse_color) == (1, 0, 0, 1)
+    assert [slot.name for slot in a.material_slots] == ["my walls", "my roof"] and tuple(walls.diffuse_color) == (
+        1,
+        0,
+        0,
+        1,
+    )
     assert holder["h"] == 4.5
 
     # a lot that goes, and then a line that is refused
@@ -127,7 +143,9 @@ def main():
     wait()
     assert "BadLot c" in follower.said and list(objects()) == ["a"], follower.said
     script_, button, slider, counts, *refused = panel()
-    assert (script_, button, slider) == ("cga_city_script", "cga_city.stop", "h") and counts.startswith("2 lots, 3 solids, 2 shapes"), counts
+    assert (script_, button, slider) == ("cga_city_script", "cga_city.stop", "h") and counts.startswith(
+        "2 lots, 3 solids, 2 shapes"
+    ), counts
     assert len(refused) == 1 and "BadLot c" in refused[0], refused
     cga_city_link.unregister()
     print("the add-on follows")

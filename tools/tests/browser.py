@@ -11,11 +11,28 @@ import time
 from pathlib import Path
 
 CHROMIUM = shutil.which("chromium") or shutil.which("chromium-browser")
-WORDS = ["--headless=new", "--no-sandbox", "--remote-debugging-pipe", "--use-gl=angle", "--use-angle=swiftshader", "--enable-unsafe-swiftshader",
-         "--no-first-run", "--disable-extensions", "--disable-background-networking", "--disable-component-update", "--hide-scrollbars",
-         "--disable-sync", "--disable-default-apps", "--disable-breakpad", "--disable-domain-reliability", "--no-default-browser-check",
-         "--disable-component-extensions-with-background-pages", "--mute-audio", "--metrics-recording-only",
-         "--disable-features=Translate,OptimizationHints,MediaRouter"]
+WORDS = [
+    "--headless=new",
+    "--no-sandbox",
+    "--remote-debugging-pipe",
+    "--use-gl=angle",
+    "--use-angle=swiftshader",
+    "--enable-unsafe-swiftshader",
+    "--no-first-run",
+    "--disable-extensions",
+    "--disable-background-networking",
+    "--disable-component-update",
+    "--hide-scrollbars",
+    "--disable-sync",
+    "--disable-default-apps",
+    "--disable-breakpad",
+    "--disable-domain-reliability",
+    "--no-default-browser-check",
+    "--disable-component-extensions-with-background-pages",
+    "--mute-audio",
+    "--metrics-recording-only",
+    "--disable-features=Translate,OptimizationHints,MediaRouter",
+]
 
 
 SHARED = []  # the one browser of all tests in a process
@@ -48,8 +65,14 @@ class Browser:
         self.folder, self.size, self.number = tempfile.mkdtemp(), (width, height), 0
         ours, its = os.pipe(), os.pipe()
         words = [CHROMIUM, *WORDS, f"--user-data-dir={self.folder}", f"--window-size={width},{height}", "about:blank"]
-        self.process = subprocess.Popen(words, stdin=subprocess.DEVNULL, stdout=subprocess.DEVNULL, stderr=subprocess.DEVNULL,
-                                        close_fds=False, preexec_fn=lambda: self.placed(ours[0], its[1]))
+        self.process = subprocess.Popen(
+            words,
+            stdin=subprocess.DEVNULL,
+            stdout=subprocess.DEVNULL,
+            stderr=subprocess.DEVNULL,
+            close_fds=False,
+            preexec_fn=lambda: self.placed(ours[0], its[1]),
+        )
         os.close(ours[0])
         os.close(its[1])
         self.words, self.answers = os.fdopen(ours[1], "wb"), os.fdopen(its[0], "rb", buffering=0)
@@ -75,7 +98,11 @@ class Browser:
 
     def seconds(self):
         """Processor seconds of the browser's processes so far."""
-        told, below, more = dict(filter(None, map(times_of, Path("/proc").glob("[0-9]*/stat")))), set(), {self.process.pid}
+        told, below, more = (
+            dict(filter(None, map(times_of, Path("/proc").glob("[0-9]*/stat")))),
+            set(),
+            {self.process.pid},
+        )
         while more:
             below |= more
             more = {one for one, (parent, _) in told.items() if parent in below} - below

@@ -18,7 +18,10 @@ def hulls(state):
     for member in derived(state):
         found[member.shape.lot].append(member.shape.scope.box)
     for name, boxes in found.items():
-        corners = [*map(min, *(box.low for box in boxes), boxes[0].low), *map(max, *(box.high for box in boxes), boxes[0].high)]
+        corners = [
+            *map(min, *(box.low for box in boxes), boxes[0].low),
+            *map(max, *(box.high for box in boxes), boxes[0].high),
+        ]
         yield " ".join(map(str, ["# hull", name, *corners]))
 
 

@@ -17,7 +17,7 @@ SOLIDS = {
 @lru_cache(maxsize=None)
 def decimal(number, places):
     """A fraction as the program prints it: halves away from zero."""
-    steps = int(abs(number) * 10 ** places + Fraction(1, 2))
+    steps = int(abs(number) * 10**places + Fraction(1, 2))
     return f"{Decimal(-steps if number < 0 else steps).scaleb(-places):f}"
 
 
@@ -32,7 +32,15 @@ class Drawn:
     def solid(self, symbol, kind, at, size):
         corners, faces = SOLIDS[kind]
         self.lines.append(f"g {symbol}")
-        self.lines += ["v " + " ".join(decimal(Fraction(p) + Fraction(c) * Fraction(s), self.places) for p, c, s in zip(at, corner, size)) for corner in corners]
-        self.lines += ["f " + " ".join(str(self.vertices + int(word)) for word in face.split()) for face in faces.split(";")]
+        self.lines += [
+            "v "
+            + " ".join(
+                decimal(Fraction(p) + Fraction(c) * Fraction(s), self.places) for p, c, s in zip(at, corner, size)
+            )
+            for corner in corners
+        ]
+        self.lines += [
+            "f " + " ".join(str(self.vertices + int(word)) for word in face.split()) for face in faces.split(";")
+        ]
         self.vertices += len(corners)
         return self

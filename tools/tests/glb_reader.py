@@ -12,15 +12,15 @@ class Reader:
         assert (mark, version, size) == (b"glTF", 2, len(data)) and size % 4 == 0
         long, kind = struct.unpack("<I4s", data[12:20])
         assert kind == b"JSON" and long % 4 == 0
-        self.told = json.loads(data[20:20 + long])
-        self.bytes = data[28 + long:]
-        assert struct.unpack("<I4s", data[20 + long:28 + long]) == (len(self.bytes), b"BIN\0")
+        self.told = json.loads(data[20 : 20 + long])
+        self.bytes = data[28 + long :]
+        assert struct.unpack("<I4s", data[20 + long : 28 + long]) == (len(self.bytes), b"BIN\0")
         assert self.told["buffers"] == [{"byteLength": len(self.bytes)}]
 
     def view(self, number):
         view = self.told["bufferViews"][number]
         assert view["byteOffset"] % 4 == 0 and view["byteOffset"] + view["byteLength"] <= len(self.bytes)
-        return self.bytes[view["byteOffset"]:view["byteOffset"] + view["byteLength"]]
+        return self.bytes[view["byteOffset"] : view["byteOffset"] + view["byteLength"]]
 
     def values(self, number):
         """The entries of an accessor, checked against its bounds."""
@@ -41,12 +41,15 @@ class Reader:
             assert len({len(field) for field in fields}) == 1
             corners, at = list(zip(*fields)), [number for number, in self.values(part["indices"])]
             for k in range(0, len(at), 3):
-                yield self.told["materials"][part["material"]]["name"], [corners[number] for number in at[k:k + 3]]
+                yield self.told["materials"][part["material"]]["name"], [corners[number] for number in at[k : k + 3]]
 
     def world(self):
         """Each triangle where it stands: the lot's name, the symbol, three corners, and what was at them before."""
-        root, = self.told["scenes"][self.told["scene"]]["nodes"]
-        offset, metres = self.told["nodes"][root]["extras"]["offset"], self.told["nodes"][root].get("scale", [1, 1, 1])[0]
+        (root,) = self.told["scenes"][self.told["scene"]]["nodes"]
+        offset, metres = (
+            self.told["nodes"][root]["extras"]["offset"],
+            self.told["nodes"][root].get("scale", [1, 1, 1])[0],
+        )
         assert metres == self.told["nodes"][root]["extras"]["metres"]
         for lot in self.told["nodes"][root]["children"]:
             node = self.told["nodes"][lot]
@@ -61,7 +64,9 @@ class Reader:
         found = list(zip(*(self.values(told[name]) for name in ("TRANSLATION", "ROTATION", "SCALE"))))
         assert len(found) == len(node["extras"]["ids"])
         for move, turn, size in found:
-            yield from self.placed(lot, node["mesh"], lambda point: add(add(turned(turn, [a * b for a, b in zip(point, size)]), move), low))
+            yield from self.placed(
+                lot, node["mesh"], lambda point: add(add(turned(turn, [a * b for a, b in zip(point, size)]), move), low)
+            )
 
     def placed(self, lot, mesh, place):
         for symbol, corners in self.triangles(mesh):
@@ -75,7 +80,9 @@ def add(a, b):
 def turned(turn, point):
     """By the matrix of a quaternion."""
     x, y, z, w = turn
-    rows = ((1 - 2 * (y * y + z * z), 2 * (x * y - z * w), 2 * (x * z + y * w)),
-            (2 * (x * y + z * w), 1 - 2 * (x * x + z * z), 2 * (y * z - x * w)),
-            (2 * (x * z - y * w), 2 * (y * z + x * w), 1 - 2 * (x * x + y * y)))
+    rows = (
+        (1 - 2 * (y * y + z * z), 2 * (x * y - z * w), 2 * (x * z + y * w)),
+        (2 * (x * y + z * w), 1 - 2 * (x * x + z * z), 2 * (y * z - x * w)),
+        (2 * (x * z - y * w), 2 * (y * z + x * w), 1 - 2 * (x * x + y * y)),
+    )
     return [sum(a * b for a, b in zip(row, point)) for row in rows]

@@ -16,8 +16,12 @@ TESTS = Path(__file__).resolve().parent
 TOOLS = TESTS.parent
 TOLD = ["the places are taken", "the add-on follows"]
 UPRIGHT = [(1, 0, 0), (0, 1, 0), (0, 0, 1)]
-TOWN = solid_table.text([("a", "window", "cube", (0, 0, 0), [(0, 0, -1), (0, 1, 0), (1, 0, 0)], (10, 6, 8)),
-                         ("a", "wall", "quad", (0, 0, 0), UPRIGHT, (1, 1, 0))])
+TOWN = solid_table.text(
+    [
+        ("a", "window", "cube", (0, 0, 0), [(0, 0, -1), (0, 1, 0), (1, 0, 0)], (10, 6, 8)),
+        ("a", "wall", "quad", (0, 0, 0), UPRIGHT, (1, 1, 0)),
+    ]
+)
 MESH = """mtllib window.mtl
 o pane
 usemtl pane
@@ -52,8 +56,14 @@ def steps(folder):
         if status:
             sys.exit(said)
     scripts = [TOOLS / "blender/place.py", TESTS / "blender_places.py", TESTS / "blender_steps.py"]
-    return blender(*(word for script in scripts for word in ("--python", script)), "--",
-                   folder / "town.merged.obj", folder / "town.csv", folder / "town.blend", f"window={folder / 'window.obj'}")
+    return blender(
+        *(word for script in scripts for word in ("--python", script)),
+        "--",
+        folder / "town.merged.obj",
+        folder / "town.csv",
+        folder / "town.blend",
+        f"window={folder / 'window.obj'}",
+    )
 
 
 def main():

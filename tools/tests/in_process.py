@@ -43,6 +43,7 @@ def called(tool, *words, folder=None):
 def begun(tool, *words, out, err):
     """A process that does a call, and writes to these files; a signal to it is one to the tool."""
     from multiprocessing import get_context  # it takes long to load, and most tests need none
+
     process = get_context("fork").Process(target=copied, args=(tool, words, out, err))
     process.start()
     return process
@@ -52,7 +53,9 @@ def copied(tool, words, out, err):
     signal.signal(signal.SIGINT, signal.default_int_handler)
     for given, own in ((out, 1), (err, 2)):
         os.dup2(given.fileno(), own)
-    sys.stdout, sys.stderr = open(1, "w", encoding="utf-8", closefd=False), open(2, "w", encoding="utf-8", closefd=False)
+    sys.stdout, sys.stderr = open(1, "w", encoding="utf-8", closefd=False), open(
+        2, "w", encoding="utf-8", closefd=False
+    )
     sys.argv = [str(TOP / "tools" / tool), *map(str, words)]
     do(sys.argv[0])
 
@@ -60,5 +63,6 @@ def copied(tool, words, out, err):
 def proved_program():
     """The program, where a proved one is there."""
     import subprocess
+
     launcher = TOP / "cga_city"
     return str(launcher) if subprocess.run([launcher, "--proved"]).returncode == 0 else None

@@ -22,7 +22,11 @@ ASKING = RULES.replace("2: yard", '3: yard : Scope.occ("noparent") == "full" -> 
 
 
 def polygon(*ring, **properties):
-    return {"type": "Feature", "properties": properties, "geometry": {"type": "Polygon", "coordinates": [[*ring, ring[0]]]}}
+    return {
+        "type": "Feature",
+        "properties": properties,
+        "geometry": {"type": "Polygon", "coordinates": [[*ring, ring[0]]]},
+    }
 
 
 def box(x, y, width, depth, **properties):
@@ -36,8 +40,13 @@ def street(*points):
 def turned_box(x, y, width, depth, degrees, **properties):
     """A box turned clockwise, as a map is drawn, about its first corner."""
     c, s = math.cos(math.radians(degrees)), math.sin(math.radians(degrees))
-    return polygon(*[[round(x + a * c + b * s, 6), round(y - a * s + b * c, 6)] for a, b in ((0, 0), (width, 0), (width, depth), (0, depth))],
-                   **properties)
+    return polygon(
+        *[
+            [round(x + a * c + b * s, 6), round(y - a * s + b * c, 6)]
+            for a, b in ((0, 0), (width, 0), (width, depth), (0, depth))
+        ],
+        **properties,
+    )
 
 
 class Called(unittest.TestCase):

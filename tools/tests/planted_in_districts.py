@@ -3,7 +3,8 @@
 
 usage: tools/tests/planted_in_districts.py [WORD ..]      of the bugs whose names have one of these words
 """
-import argparse, compileall, decimal, fractions, hashlib, json, random, runpy, threading, unittest.mock  # noqa: F401, E401: each try has them
+import compileall
+import importlib
 import os
 import py_compile
 import shutil
@@ -12,43 +13,153 @@ import tempfile
 import unittest
 from pathlib import Path
 
+# each try is a child of this process, and has them loaded
+for name in "argparse decimal fractions hashlib json random runpy threading unittest.mock".split():
+    importlib.import_module(name)
+
 TOP = Path(__file__).resolve().parent.parent.parent
-CUT, CHECKS, RINGS = "test_districts.Cut.test_", "test_districts_checks.Checks.test_", "test_districts_rings.Rings.test_"
+CUT, CHECKS, RINGS = (
+    "test_districts.Cut.test_",
+    "test_districts_checks.Checks.test_",
+    "test_districts_rings.Rings.test_",
+)
 
 # its name, the file, what stands there, what is planted, and the test
 BUGS = [
-    ("floats as grounds", "exact.py", "numerator * (one // denominator)", "numerator / denominator * one", CUT + "grounds_are_compared_exactly"),
-    ("floats as boxes", "printed.py", "return one, list(zip(*columns))", "return 1, [tuple(n / one for n in box) for box in zip(*columns)]",
-     CHECKS + "boxes_are_compared_exactly"),
-    ("boxes that share a face are apart", "apart.py", "one[0] > other[1] or other[0] > one[1]", "one[0] >= other[1] or other[0] >= one[1]",
-     CHECKS + "boxes_that_share_a_face_touch"),
-    ("the sweep forgets too early", "apart.py", "boxes[other][end] >= low", "boxes[other][end] > low", CUT + "where_a_rule_asks_lots_that_touch_stand_in_one_job"),
-    ("a box across many strips is left out", "apart.py", "for at in wide:\n", "for at in []:\n", CUT + "which_boxes_touch_is_what_each_two_tell"),
-    ("names without the program", "jobs.py", 'begin = "\\0".join([self.name, *self.words, ""])', 'begin = ""', CUT + "another_program_or_other_decimals_are_other_jobs"),
-    ("a late job writes to a new name", "engines.py", 'mv "$part" "jobs/$name.out"', 'for late in jobs/*.cga; do cp "$part" "${late%.cga}.out"; done',
-     "test_districts_engines.Engines.test_a_region_that_is_cut_again_while_a_job_runs"),
-    ("half a file is whole", "printed.py", 'lines.pop() != f"# job {self.job.name}"', 'not lines.pop()', CHECKS + "outputs_of_two_jobs_exchanged"),
-    ("boxes of other lots", "printed.py", "words[2::9] != self.plan.lots_of(self.job)", "not words[2::9]", CHECKS + "outputs_that_are_not_what_the_job_prints"),
-    ("other rules", "printed.py", 'text.startswith("# ok\\n" + self.rules.grammar())', 'text.startswith("# ok\\n")', CHECKS + "outputs_that_are_not_what_the_job_prints"),
-    ("faces that aren't moved", "towns.py", "return lines if by == 0 else", "return lines if True else", CUT + "what_is_joined_is_what_one_run_prints"),
-    ("boxes that touch are joined", "rounds.py", "    if not pairs:\n", "    if True:\n", CHECKS + "lots_whose_boxes_touch_are_put_together_and_stay_so"),
-    ("what was found is forgotten", "findings.py", "self.together, self.seen, self.rings = json.loads(self.path.read_bytes())", "pass",
-     CHECKS + "lots_whose_boxes_touch_are_put_together_and_stay_so"),
-    ("a district past a run is cut", "deal.py", "len(largest) > MOST_LOTS", "False", CUT + "a_district_past_a_run_is_refused_by_name"),
-    ("neighbours aren't compared", "halo.py", "if digests[own + at] != self.digest[lot]", "if False",
-     RINGS + "a_row_in_which_each_depends_on_the_one_before_is_put_together"),
-    ("neighbours that are missing", "halo.py", "if neighbour not in rings[one]:", "if False:", RINGS + "a_lot_that_reaches_one_far_away_is_derived_with_it"),
-    ("faults of neighbours count", "printed.py", "if line.split()[2] in own]", "if own]", RINGS + "counts_and_faults_are_those_of_the_own_lots"),
+    (
+        "floats as grounds",
+        "exact.py",
+        "numerator * (one // denominator)",
+        "numerator / denominator * one",
+        CUT + "grounds_are_compared_exactly",
+    ),
+    (
+        "floats as boxes",
+        "printed.py",
+        "return one, list(zip(*columns))",
+        "return 1, [tuple(n / one for n in box) for box in zip(*columns)]",
+        CHECKS + "boxes_are_compared_exactly",
+    ),
+    (
+        "boxes that share a face are apart",
+        "apart.py",
+        "one[0] > other[1] or other[0] > one[1]",
+        "one[0] >= other[1] or other[0] >= one[1]",
+        CHECKS + "boxes_that_share_a_face_touch",
+    ),
+    (
+        "the sweep forgets too early",
+        "apart.py",
+        "boxes[other][end] >= low",
+        "boxes[other][end] > low",
+        CUT + "where_a_rule_asks_lots_that_touch_stand_in_one_job",
+    ),
+    (
+        "a box across many strips is left out",
+        "apart.py",
+        "for at in wide:\n",
+        "for at in []:\n",
+        CUT + "which_boxes_touch_is_what_each_two_tell",
+    ),
+    (
+        "names without the program",
+        "jobs.py",
+        'begin = "\\0".join([self.name, *self.words, ""])',
+        'begin = ""',
+        CUT + "another_program_or_other_decimals_are_other_jobs",
+    ),
+    (
+        "a late job writes to a new name",
+        "engines.py",
+        'mv "$part" "jobs/$name.out"',
+        'for late in jobs/*.cga; do cp "$part" "${late%.cga}.out"; done',
+        "test_districts_engines.Engines.test_a_region_that_is_cut_again_while_a_job_runs",
+    ),
+    (
+        "half a file is whole",
+        "printed.py",
+        'lines.pop() != f"# job {self.job.name}"',
+        "not lines.pop()",
+        CHECKS + "outputs_of_two_jobs_exchanged",
+    ),
+    (
+        "boxes of other lots",
+        "printed.py",
+        "words[2::9] != self.plan.lots_of(self.job)",
+        "not words[2::9]",
+        CHECKS + "outputs_that_are_not_what_the_job_prints",
+    ),
+    (
+        "other rules",
+        "printed.py",
+        'text.startswith("# ok\\n" + self.rules.grammar())',
+        'text.startswith("# ok\\n")',
+        CHECKS + "outputs_that_are_not_what_the_job_prints",
+    ),
+    (
+        "faces that aren't moved",
+        "towns.py",
+        "return lines if by == 0 else",
+        "return lines if True else",
+        CUT + "what_is_joined_is_what_one_run_prints",
+    ),
+    (
+        "boxes that touch are joined",
+        "rounds.py",
+        "    if not pairs:\n",
+        "    if True:\n",
+        CHECKS + "lots_whose_boxes_touch_are_put_together_and_stay_so",
+    ),
+    (
+        "what was found is forgotten",
+        "findings.py",
+        "self.together, self.seen, self.rings = json.loads(self.path.read_bytes())",
+        "pass",
+        CHECKS + "lots_whose_boxes_touch_are_put_together_and_stay_so",
+    ),
+    (
+        "a district past a run is cut",
+        "deal.py",
+        "len(largest) > MOST_LOTS",
+        "False",
+        CUT + "a_district_past_a_run_is_refused_by_name",
+    ),
+    (
+        "neighbours aren't compared",
+        "halo.py",
+        "if digests[own + at] != self.digest[lot]",
+        "if False",
+        RINGS + "a_row_in_which_each_depends_on_the_one_before_is_put_together",
+    ),
+    (
+        "neighbours that are missing",
+        "halo.py",
+        "if neighbour not in rings[one]:",
+        "if False:",
+        RINGS + "a_lot_that_reaches_one_far_away_is_derived_with_it",
+    ),
+    (
+        "faults of neighbours count",
+        "printed.py",
+        "if line.split()[2] in own]",
+        "if own]",
+        RINGS + "counts_and_faults_are_those_of_the_own_lots",
+    ),
 ]
 
 
 def copied(folder):
     """A copy of the tool and its tests; what was compiled of a file counts as long as the file is the same."""
-    for part in ("lib", "tests"):
-        shutil.copytree(TOP / "tools" / part, folder / "tools" / part, ignore=shutil.ignore_patterns("__pycache__", "viewer"))
+    for part in ("cga_city_lib", "tests"):
+        shutil.copytree(
+            TOP / "tools" / part, folder / "tools" / part, ignore=shutil.ignore_patterns("__pycache__", "viewer")
+        )
     shutil.copy(TOP / "tools" / "districts", folder / "tools")
     used = ["regions", "region_stand_in", "in_process", *{bug[-1].partition(".")[0] for bug in BUGS}]
-    for path in [*(folder / "tools" / "lib").glob("*.py"), *(folder / "tools" / "tests" / f"{name}.py" for name in used)]:
+    for path in [
+        *(folder / "tools" / "cga_city_lib").glob("*.py"),
+        *(folder / "tools" / "tests" / f"{name}.py" for name in used),
+    ]:
         compileall.compile_file(path, quiet=2, invalidation_mode=py_compile.PycInvalidationMode.CHECKED_HASH)
 
 
@@ -76,7 +187,7 @@ def tried(folder, test):
 
 def is_refused(folder, file, old, new, test):
     """Whether the test fails with the bug."""
-    path = folder / "tools" / "lib" / file
+    path = folder / "tools" / "cga_city_lib" / file
     text = path.read_text(encoding="utf-8")
     if text.count(old) != 1:
         sys.exit(f"`{old}` stands {text.count(old)} times in {file}")

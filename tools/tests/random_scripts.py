@@ -18,7 +18,9 @@ RULES = """1: lot -> S(1r, 3 * storey, 1r) mass T(0, 3 * storey, 0) S(1r, 2, 1r)
 10: window -> S(1r, 1r, rand(0, 0.5, 4)) I("cube")
 11: ledge -> T(-0.2, -0.2, 0) S(Scope.sx + 0.4, Scope.sy + 0.4, 0.3) I("cube")
 12: tower(n) : n > 0 -> wall [ T(0, 2, 0) S(1r, 1r, 1r) tower(n - 1) ]
-13: tower(n) -> Subdiv("Z", 2, 1r, 2) { NIL | roof | NIL }""".split("\n")
+13: tower(n) -> Subdiv("Z", 2, 1r, 2) { NIL | roof | NIL }""".split(
+    "\n"
+)
 LINES = """put 1 20: shed -> I("shed")
 put 2 9: wall -> S(1r, 1r, 0.1) I("cube")
 put 1 7: tile -> Subdiv("X", 3, 1r, 3) { wall | window | wall }
@@ -75,15 +77,39 @@ rules x
 lot g 7 70 0 9 9 lot\r
 print\r\r
 version 2
-""".split("\n")[:-1]
-SOUP = ["(", ")", "[", "{", "|", "->", ":", "1r", "0.5", "wall", "Scope.sx", '"cube"', '"x', "floor", "#", ",", "~", ";", "999999"]
+""".split(
+    "\n"
+)[
+    :-1
+]
+SOUP = [
+    "(",
+    ")",
+    "[",
+    "{",
+    "|",
+    "->",
+    ":",
+    "1r",
+    "0.5",
+    "wall",
+    "Scope.sx",
+    '"cube"',
+    '"x',
+    "floor",
+    "#",
+    ",",
+    "~",
+    ";",
+    "999999",
+]
 
 
 def spoiled(line, chance):
     words = line.split(" ")
     at = chance.randrange(len(words))
     kind = chance.randrange(3)
-    words[at:at + (kind != 0)] = [] if kind == 1 else [chance.choice(SOUP)]
+    words[at : at + (kind != 0)] = [] if kind == 1 else [chance.choice(SOUP)]
     return " ".join(words)
 
 
@@ -91,7 +117,7 @@ def block(chance, word):
     rules = RULES if chance.random() < 0.8 else chance.sample(RULES, len(RULES) - 1)
     lines = ["attr storey = 3", "attr bay = 2.5", *rules]
     if word == "city":
-        lines += [line for line in LINES if line.startswith(("lot ", "order "))][:chance.randrange(9)]
+        lines += [line for line in LINES if line.startswith(("lot ", "order "))][: chance.randrange(9)]
     if chance.random() < 0.3:
         at = chance.randrange(len(lines))
         lines[at] = spoiled(lines[at], chance)
@@ -107,7 +133,9 @@ def script(seed):
     for _ in range(chance.randrange(4, 22)):
         luck = chance.random()
         if luck < 0.08:
-            lines += block(chance, chance.choice(["rules", "city", "asset box", "judge"] if is_second else ["rules", "city"]))
+            lines += block(
+                chance, chance.choice(["rules", "city", "asset box", "judge"] if is_second else ["rules", "city"])
+            )
         else:
             line = chance.choice(LINES)
             lines.append(spoiled(line, chance) if luck < 0.2 else line)

@@ -20,6 +20,7 @@ def number_of(text):
     if text.lstrip("-").isdigit():
         return int(text)
     from fractions import Fraction
+
     return Fraction(text)
 
 
@@ -68,7 +69,10 @@ class City:
         return {name: lot[0] * (name in drawing) for name, lot in self.lots.items()}
 
     def trace(self):
-        steps = [f"# step {name} / {self.lots[name][5]} {'none' if number else 'part'} - {number}" for name, number in sorted(self.instances().items())]
+        steps = [
+            f"# step {name} / {self.lots[name][5]} {'none' if number else 'part'} - {number}"
+            for name, number in sorted(self.instances().items())
+        ]
         return [f"# trace {len(steps)}", *steps]
 
     def bill(self):
@@ -76,12 +80,17 @@ class City:
         for name, lot in self.lots.items():
             if numbers[name]:
                 symbols[lot[5]] = symbols.get(lot[5], 0) + numbers[name]
-        return [f"# bill {len(symbols)}", *(f"# bill {symbol} {n} {n}.000001 {n}.500000 0" for symbol, n in sorted(symbols.items()))]
+        return [
+            f"# bill {len(symbols)}",
+            *(f"# bill {symbol} {n} {n}.000001 {n}.500000 0" for symbol, n in sorted(symbols.items())),
+        ]
 
     def stats(self):
         numbers = self.instances()
-        return [f"# stats lots {len(numbers)} shapes {len(numbers) + sum(numbers.values())} instances {sum(numbers.values())} "
-                f"faults {len(self.faults()) - 1} expanded {len(numbers)}"]
+        return [
+            f"# stats lots {len(numbers)} shapes {len(numbers) + sum(numbers.values())} instances {sum(numbers.values())} "
+            f"faults {len(self.faults()) - 1} expanded {len(numbers)}"
+        ]
 
     def dump(self):
         return ["version 2", "city", "order breadth", *self.rules, "end"]
@@ -118,8 +127,16 @@ class City:
 def answer(script, words=()):
     """The lines that it prints."""
     city = City(int(words[1]) if words[:1] == ["--decimals"] else 6)
-    reports = {"print": city.text, "model": lambda: city.text(2), "faults": city.faults, "trace": city.trace, "bill": city.bill,
-               "grammar": lambda: ["rules", *city.rules, "end"], "stats": city.stats, "dump": city.dump}
+    reports = {
+        "print": city.text,
+        "model": lambda: city.text(2),
+        "faults": city.faults,
+        "trace": city.trace,
+        "bill": city.bill,
+        "grammar": lambda: ["rules", *city.rules, "end"],
+        "stats": city.stats,
+        "dump": city.dump,
+    }
     lines, is_quiet, said = iter(script.split("\n")), False, []
     for line in lines:
         words, reply = line.split("#")[0].split(), []

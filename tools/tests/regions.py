@@ -17,8 +17,8 @@ sys.path[:0] = [str(TESTS), str(TESTS.parent)]
 import region_stand_in  # noqa: E402
 from in_process import called  # noqa: E402
 
-from lib import head, program  # noqa: E402
-from lib.replies import replies  # noqa: E402
+from cga_city_lib import head, program  # noqa: E402
+from cga_city_lib.replies import replies  # noqa: E402
 
 RULES = ["version 2", "rules", '1: wall -> I("cube")', "end", "attr h = 3  # high"]
 ASKING = '7: wall : Scope.occ("active") == "none" -> NIL'
@@ -31,21 +31,26 @@ def asking(*lots):
 def value(chance, most):
     """A number, whole or not, negative or not, as scripts spell it."""
     whole = chance.randint(-most, most)
-    return chance.choice([str(whole), str(whole), f"{whole}.{chance.randint(0, 99):02}", f"{whole}/{chance.choice([2, 3, 7])}"])
+    return chance.choice(
+        [str(whole), str(whole), f"{whole}.{chance.randint(0, 99):02}", f"{whole}/{chance.choice([2, 3, 7])}"]
+    )
 
 
 def random_lots(chance, number, most):
     """Lots with corners anywhere, in names of random order."""
     names = chance.sample(range(1000), number)
     sizes = [(chance.choice(["1", "4", "2.5", "7/3"]), chance.choice(["1", "3", "4/3"])) for _ in names]
-    return [f"lot {chance.choice(['l', 'flat'])}{name} {chance.randint(0, 3)} {value(chance, most)} {value(chance, most)} {width} {depth} wall"
-            for name, (width, depth) in zip(names, sizes)]
+    return [
+        f"lot {chance.choice(['l', 'flat'])}{name} {chance.randint(0, 3)} {value(chance, most)} {value(chance, most)} {width} {depth} wall"
+        for name, (width, depth) in zip(names, sizes)
+    ]
 
 
 def answering(named):
     """What answers here in the place of a program, which takes no start; None for any other program."""
     if named == DEFINED:
         from defined_hulls import answer  # few tests need it
+
         return answer
     return region_stand_in.answer if named == STAND_IN else None
 
@@ -54,7 +59,12 @@ def run(program, lines, *words):
     answer = answering(program)
     if answer:
         return answer("".join(f"{line}\n" for line in lines), list(words))
-    done = subprocess.run([program, *words], input="".join(f"{line}\n" for line in lines).encode("latin-1"), stdout=subprocess.PIPE, check=True)
+    done = subprocess.run(
+        [program, *words],
+        input="".join(f"{line}\n" for line in lines).encode("latin-1"),
+        stdout=subprocess.PIPE,
+        check=True,
+    )
     return done.stdout.decode("latin-1").split("\n")[:-1]
 
 
@@ -131,7 +141,10 @@ class RegionTest(unittest.TestCase):
         self.fail("the rounds don't come to an end")
 
     def joined(self):
-        text = [(self.folder / name).read_text(encoding="latin-1").split("\n")[:-1] for name in ("town.obj", "town.faults", "counts")]
+        text = [
+            (self.folder / name).read_text(encoding="latin-1").split("\n")[:-1]
+            for name in ("town.obj", "town.faults", "counts")
+        ]
         return text[0], text[1], text[2][0]
 
     def assert_whole(self, lines, program=STAND_IN, *words):

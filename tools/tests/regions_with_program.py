@@ -5,26 +5,31 @@ usage: tools/tests/regions_with_program.py [--program PATH]      of cga_hulls; w
 """
 import random
 import sys
-import tempfile
 from pathlib import Path
 
 TESTS = Path(__file__).resolve().parent
 TOP = TESTS.parent.parent
 sys.path[:0] = [str(TESTS), str(TESTS.parent)]
 
-from lib import districts  # noqa: E402
-from lib.program import take_program  # noqa: E402
-from lib.script import lines_of  # noqa: E402
-from regions import RegionTest, value, whole  # noqa: E402
+from cga_city_lib import districts  # noqa: E402
+from cga_city_lib.program import take_program  # noqa: E402
+from cga_city_lib.script import lines_of  # noqa: E402
+from regions import RegionTest, value  # noqa: E402
 
-BOXES = ["version 2", "rules", '1: box -> S(1r, rand(2, 9, 7), 1r) I("cube")', '2: pair -> Subdiv("X", 3, 1r) { box | box }', "end"]
+BOXES = [
+    "version 2",
+    "rules",
+    '1: box -> S(1r, rand(2, 9, 7), 1r) I("cube")',
+    '2: pair -> Subdiv("X", 3, 1r) { box | box }',
+    "end",
+]
 ASKING = sorted((TESTS / "districts").glob("*.cga"))
 RANDOM = 30
 
 
 def rules(path):
     lines = lines_of(path.read_bytes())
-    return ["version 2", "rules", *lines[lines.index("rules") + 1:lines.index("end")], "end"]
+    return ["version 2", "rules", *lines[lines.index("rules") + 1 : lines.index("end")], "end"]
 
 
 def houses():
@@ -36,7 +41,10 @@ def houses():
 
 
 def boxes(number):
-    return [*BOXES, *(f"lot b{k} {k} {k % 40 * 9} {k // 40 * 9} {2 + k % 6} 8 {('box', 'pair')[k % 2]}" for k in range(number))]
+    return [
+        *BOXES,
+        *(f"lot b{k} {k} {k % 40 * 9} {k // 40 * 9} {2 + k % 6} 8 {('box', 'pair')[k % 2]}" for k in range(number)),
+    ]
 
 
 def shops(lots):
@@ -56,7 +64,10 @@ def wall(side, along="8", deep="10"):
 def anywhere(seed):
     """Shops with corners anywhere; of some regions no rule asks."""
     chance = random.Random(seed)
-    lines = shops(f"lot r{k} {k} {value(chance, 60)} {value(chance, 60)} 8 {chance.choice(['10', '7/3', '6.5'])} shop" for k in range(25))
+    lines = shops(
+        f"lot r{k} {k} {value(chance, 60)} {value(chance, 60)} 8 {chance.choice(['10', '7/3', '6.5'])} shop"
+        for k in range(25)
+    )
     return lines if seed % 3 else [line.replace(' : Scope.occ("noparent") == "none"', "") for line in lines]
 
 
@@ -86,7 +97,10 @@ def main(words):
             number += test.region(hulls if named or districts.HULLS.exists() else str(districts.MAIN), lines, lots)
     if not named and not districts.HULLS.exists():
         sys.exit("regions in which rules ask wait for cga_hulls: run `rt run </dev/null` in crates/cga_hulls")
-    asking = [[line for line in lines_of(script.read_bytes()) if line not in ("print", "faults", "stats")] for script in ASKING]
+    asking = [
+        [line for line in lines_of(script.read_bytes()) if line not in ("print", "faults", "stats")]
+        for script in ASKING
+    ]
     for lines in [*asking, streets()]:
         for lots in (1, 7):
             test.region(hulls, lines, lots)
@@ -95,10 +109,16 @@ def main(words):
         test.region(hulls, anywhere(seed), 7, *(["--rings", "1"] if seed % 4 == 1 else []))
     test.assertEqual(test.region(hulls, wall(30), 100, "--rings", "2"), 1, "a wall passes at once with two rings")
     test.assertGreater(test.region(hulls, wall(12), 36, "--rings", "1"), 1, "and not with one")
-    dominoes = [line for line in lines_of((TESTS / "districts" / "row_of_dominoes.cga").read_bytes()) if line not in ("print", "stats")]
+    dominoes = [
+        line
+        for line in lines_of((TESTS / "districts" / "row_of_dominoes.cga").read_bytes())
+        if line not in ("print", "stats")
+    ]
     for rings in ("1", "3", "9"):
         test.assertGreater(test.region(hulls, dominoes, 4, "--rings", rings), 2, "dominoes don't settle")
-    print(f"regions are in jobs what they are in one run: {2 + len(asking) + 2 + RANDOM + 3} of them, {RANDOM} at random")
+    print(
+        f"regions are in jobs what they are in one run: {2 + len(asking) + 2 + RANDOM + 3} of them, {RANDOM} at random"
+    )
 
 
 if __name__ == "__main__":

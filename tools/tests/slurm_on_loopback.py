@@ -70,14 +70,18 @@ time.sleep(4 if b"lot heavy" in text or b"lot slow" in text else 0.2)
 sys.exit(subprocess.run([{!r}], input=text).returncode)
 """
 REACHING = ["lot a 6 0 0 4 4 wall", "lot b 1 10 0 4 4 wall"]
-LOTS = REACHING + [f"lot l{k} 1 {20 * k} 50 4 4 wall" for k in range(9)] + ["lot heavy 1 0 90 4 4 wall", "lot slow 1 50 90 4 4 wall"]
+LOTS = (
+    REACHING
+    + [f"lot l{k} 1 {20 * k} 50 4 4 wall" for k in range(9)]
+    + ["lot heavy 1 0 90 4 4 wall", "lot slow 1 50 90 4 4 wall"]
+)
 
 
 def real_lines():
     """Houses that ask, two of which see a shape of a third from afar."""
     lines = (TESTS / "districts" / "far_shape_of_a_ghost.cga").read_text().split("\n")
     names = ["lot a 1 0 0 8 8 ghost", "lot b 1 100 0 8 8 home"] + [f"lot l{k} 1 {20 * k} 50 8 8 home" for k in range(9)]
-    return lines[:lines.index("end") + 1] + names + ["lot heavy 1 0 90 8 8 home", "lot slow 1 50 90 8 8 home"]
+    return lines[: lines.index("end") + 1] + names + ["lot heavy 1 0 90 8 8 home", "lot slow 1 50 90 8 8 home"]
 
 
 class Cluster:
@@ -94,8 +98,17 @@ class Cluster:
         self.started[name] = subprocess.Popen(words, stdout=log, stderr=subprocess.STDOUT, start_new_session=True)
 
     def up(self):
-        self.begin("munged", "munged", "--foreground", "--force", f"--key-file={self.folder}/munge.key", f"--socket={self.folder}/munge.socket",
-                   f"--pid-file={self.folder}/munged.pid", f"--log-file={self.folder}/munged.log", f"--seed-file={self.folder}/munged.seed")
+        self.begin(
+            "munged",
+            "munged",
+            "--foreground",
+            "--force",
+            f"--key-file={self.folder}/munge.key",
+            f"--socket={self.folder}/munge.socket",
+            f"--pid-file={self.folder}/munged.pid",
+            f"--log-file={self.folder}/munged.log",
+            f"--seed-file={self.folder}/munged.seed",
+        )
         wait(lambda: (self.folder / "munge.socket").exists(), "munged to answer")
         self.begin("slurmctld", "slurmctld", "-D")
         for node in ("one", "two"):
@@ -127,8 +140,9 @@ def is_step(process, folder, node):
     """Whether a process is one that this node began: its script works in the node's spool, and what watches it writes the node's log."""
     spool, log = os.fsencode(folder / f"spool.{node}"), folder / f"slurmd.{node}.log"
     try:
-        return (spool in (process / "cmdline").read_bytes() + (process / "environ").read_bytes()
-                or any(Path(os.readlink(opened)) == log for opened in (process / "fd").iterdir()))
+        return spool in (process / "cmdline").read_bytes() + (process / "environ").read_bytes() or any(
+            Path(os.readlink(opened)) == log for opened in (process / "fd").iterdir()
+        )
     except OSError:
         return False
 
@@ -158,16 +172,27 @@ class Region:
 
     def cut(self):
         (self.top / "region.cga").write_text("\n".join(self.lines) + "\n")
-        print(self.call("cut", self.top / "region.cga", self.folder, "--lots", "1", "--program", self.top / "program"), end="")
+        print(
+            self.call("cut", self.top / "region.cga", self.folder, "--lots", "1", "--program", self.top / "program"),
+            end="",
+        )
 
     def call(self, word, *words):
-        return subprocess.run([TOP / "tools" / "districts", word, *words], stdout=subprocess.PIPE, stderr=subprocess.STDOUT, text=True).stdout
+        return subprocess.run(
+            [TOP / "tools" / "districts", word, *words], stdout=subprocess.PIPE, stderr=subprocess.STDOUT, text=True
+        ).stdout
 
     def todo(self):
         return self.call("todo", self.folder).split()
 
     def submit(self, *words, **environment):
-        done = subprocess.run(["sh", self.folder / "slurm", *words], stdout=subprocess.PIPE, text=True, env={**os.environ, **environment}, check=True)
+        done = subprocess.run(
+            ["sh", self.folder / "slurm", *words],
+            stdout=subprocess.PIPE,
+            text=True,
+            env={**os.environ, **environment},
+            check=True,
+        )
         print(done.stdout, end="")
         return done.stdout
 
@@ -189,6 +214,7 @@ class Region:
                 for part in (self.folder / "jobs").glob(f"{self.job_of(lot)}.*.part"):
                     found[:] = [task, node] if self.is_of(task, lot) else found
             return found
+
         wait(runs, f"the job of {lot} to run")
         return found
 
@@ -196,7 +222,9 @@ class Region:
         listed = sorted(self.folder.glob("todo-*"), key=lambda path: path.stat().st_mtime)[-1].read_text().split()
         tasks = min(len(listed), 4)
         number = int(task.partition("_")[2] or 0)
-        return number and self.job_of(lot) in [name for at, name in enumerate(listed, 1) if at % tasks == number % tasks]
+        return number and self.job_of(lot) in [
+            name for at, name in enumerate(listed, 1) if at % tasks == number % tasks
+        ]
 
 
 def killed(region):
@@ -226,7 +254,10 @@ def by_make(region):
     """Each job is a step of Slurm, and then make itself is a job. Each time one lot is another."""
     make = ["make", "-s", "-j", "2", "-C", region.folder, "town.obj"]
     in_job = ["sbatch", "--wait", "-c", "2", "--output=/dev/null", "--wrap", shlex.join(map(str, make))]
-    for lot, words, told in (("l1", [*make, "RUN=srun -Q -n 1 --mem=600M"], "make whose jobs are steps"), ("l2", in_job, "a job that is make")):
+    for lot, words, told in (
+        ("l1", [*make, "RUN=srun -Q -n 1 --mem=600M"], "make whose jobs are steps"),
+        ("l2", in_job, "a job that is make"),
+    ):
         region.lines = [line.replace(f"lot {lot} 1 ", f"lot {lot} 2 ") for line in region.lines]
         region.cut()
         done = subprocess.run(words, stdout=subprocess.PIPE, stderr=subprocess.STDOUT, text=True)
@@ -245,11 +276,15 @@ def main():
     program = known.parse_args().program
     lacking = [name for name in NEEDED if not shutil.which(name)]
     if lacking or os.geteuid():
-        print(f"SKIPPED: {', '.join(lacking) or 'root'} is missing: as root, after `apt-get install slurm-wlm munge`, this runs a region by Slurm")
+        print(
+            f"SKIPPED: {', '.join(lacking) or 'root'} is missing: as root, after `apt-get install slurm-wlm munge`, this runs a region by Slurm"
+        )
         return
     with tempfile.TemporaryDirectory() as folder:
         Path(folder).chmod(0o755)
-        cluster, region = Cluster(Path(folder)), Region(Path(folder), program or STAND_IN, real_lines() if program else asking(*LOTS))
+        cluster, region = Cluster(Path(folder)), Region(
+            Path(folder), program or STAND_IN, real_lines() if program else asking(*LOTS)
+        )
         try:
             cluster.up()
             killed(region)

@@ -5,11 +5,14 @@ BASE = [(0, 0, 0), (1, 0, 0), (1, 0, 1), (0, 0, 1)]  # in shares of width, heigh
 SOLIDS = {
     "cube": lambda w, h, d: (BASE + [(0, 1, 0), (1, 1, 0), (1, 1, 1), (0, 1, 1)], "4378 3267 2156 1485 8765 1234"),
     "shed": lambda w, h, d: (BASE + [(1, 1, 1), (0, 1, 1)], "4356 325 2165 146 1234"),
-    "gable": lambda w, h, d: (BASE + [(0, 1, .5), (1, 1, .5)], "4365 326 2156 145 1234") if w >= d
-    else (BASE + [(.5, 1, 0), (.5, 1, 1)], "436 3256 215 1465 1234"),
-    "hip": lambda w, h, d: (BASE + [(d / w / 2, 1, .5), (1 - d / w / 2, 1, .5)], "4365 326 2156 145 1234") if w > d
-    else (BASE + [(.5, 1, w / d / 2), (.5, 1, 1 - w / d / 2)], "436 3256 215 1465 1234") if w < d
-    else (BASE + [(.5, 1, .5)], "435 325 215 145 1234"),
+    "gable": lambda w, h, d: (BASE + [(0, 1, 0.5), (1, 1, 0.5)], "4365 326 2156 145 1234")
+    if w >= d
+    else (BASE + [(0.5, 1, 0), (0.5, 1, 1)], "436 3256 215 1465 1234"),
+    "hip": lambda w, h, d: (BASE + [(d / w / 2, 1, 0.5), (1 - d / w / 2, 1, 0.5)], "4365 326 2156 145 1234")
+    if w > d
+    else (BASE + [(0.5, 1, w / d / 2), (0.5, 1, 1 - w / d / 2)], "436 3256 215 1465 1234")
+    if w < d
+    else (BASE + [(0.5, 1, 0.5)], "435 325 215 145 1234"),
     "quad": lambda w, h, d: ([(0, 0, 0), (1, 0, 0), (1, 1, 0), (0, 1, 0)], "1234"),
 }
 
@@ -17,7 +20,9 @@ SOLIDS = {
 def local(kind, size):
     """The corners in a scope of this size, and the faces, from 0; the ridge goes by the sizes before they were printed."""
     shares, faces = SOLIDS[kind](*(round(part, 5) for part in size))
-    return [tuple(a * b for a, b in zip(share, size)) for share in shares], [[int(at) - 1 for at in face] for face in faces.split()]
+    return [tuple(a * b for a, b in zip(share, size)) for share in shares], [
+        [int(at) - 1 for at in face] for face in faces.split()
+    ]
 
 
 def ridge(kind, size):

@@ -14,14 +14,14 @@ sys.path[:0] = [str(TESTS), str(TOOLS)]
 
 from drawn import Drawn  # noqa: E402
 
-from lib import progress  # noqa: E402
-from lib.call import Refused, Words, call, number_in  # noqa: E402
-from lib.drawn import Meshes  # noqa: E402
-from lib.measure import Measured  # noqa: E402
-from lib.obj import Town, read_town  # noqa: E402
-from lib.render import render  # noqa: E402
-from lib.strangers_text import cell, told  # noqa: E402
-from lib.table_rows import rows_of  # noqa: E402
+from cga_city_lib import progress  # noqa: E402
+from cga_city_lib.call import Refused, Words, call, number_in  # noqa: E402
+from cga_city_lib.drawn import Meshes  # noqa: E402
+from cga_city_lib.measure import Measured  # noqa: E402
+from cga_city_lib.obj import Town, read_town  # noqa: E402
+from cga_city_lib.render import render  # noqa: E402
+from cga_city_lib.strangers_text import cell, told  # noqa: E402
+from cga_city_lib.table_rows import rows_of  # noqa: E402
 
 TEXT = "\nMakes a thing.\n\nusage: tools/make THING\n"
 
@@ -38,7 +38,9 @@ def words():
 def ended(main, *given, **more):
     """The status, and what was written to both outputs."""
     out, said = io.TextIOWrapper(io.BytesIO(), encoding="ascii"), io.StringIO()
-    with patch.object(sys, "argv", ["tools/make", *given]), patch.object(sys, "stdout", out), patch.object(sys, "stderr", said):
+    with patch.object(sys, "argv", ["tools/make", *given]), patch.object(sys, "stdout", out), patch.object(
+        sys, "stderr", said
+    ):
         try:
             call(main, words(), TEXT, **more)
         except SystemExit as end:
@@ -49,6 +51,7 @@ def ended(main, *given, **more):
 def raising(fault):
     def main(_):
         raise fault
+
     return main
 
 
@@ -62,16 +65,29 @@ class Call(unittest.TestCase):
             self.assertEqual(ended(raising(Refused), *given), (0, "Makes a thing.\n\nusage: tools/make THING\n", ""))
 
     def test_wrong_words(self):
-        for given, why in (([], "the following arguments are required: thing"), (["x", "--what"], "unrecognized arguments: --what"),
-                           (["x", "--many", "3000"], "argument --many: `3000` isn't a whole number from 1 to 2,000"),
-                           (["x", "--man", "3"], "unrecognized arguments: --man 3"), (["x", "--many", "1.5"], "`1.5` isn't a whole number")):
+        for given, why in (
+            ([], "the following arguments are required: thing"),
+            (["x", "--what"], "unrecognized arguments: --what"),
+            (["x", "--many", "3000"], "argument --many: `3000` isn't a whole number from 1 to 2,000"),
+            (["x", "--man", "3"], "unrecognized arguments: --man 3"),
+            (["x", "--many", "1.5"], "`1.5` isn't a whole number"),
+        ):
             status, out, said = ended(raising(Refused), *given, refused=7)
             self.assertEqual((status, out, said.count("\n")), (2, "", 1))
-            self.assertTrue(said.startswith("make: ") and why in said and said.endswith("; tools/make --help tells the words\n"), said)
+            self.assertTrue(
+                said.startswith("make: ") and why in said and said.endswith("; tools/make --help tells the words\n"),
+                said,
+            )
 
     def test_what_cannot_be_taken(self):
-        for fault, why in ((Refused("so not"), "so not"), (ValueError("nor so"), "nor so"), (FileNotFoundError(2, "Not there", "x"), "x: Not there"),
-                           (OSError(28, "Full"), "output: Full"), (MemoryError(), "cut it into parts"), (RecursionError(), "cut it into parts")):
+        for fault, why in (
+            (Refused("so not"), "so not"),
+            (ValueError("nor so"), "nor so"),
+            (FileNotFoundError(2, "Not there", "x"), "x: Not there"),
+            (OSError(28, "Full"), "output: Full"),
+            (MemoryError(), "cut it into parts"),
+            (RecursionError(), "cut it into parts"),
+        ):
             for more, known in (({}, 1), ({"refused": 2}, 2)):
                 status, out, said = ended(raising(fault), "x", **more)
                 self.assertEqual((status, out, said.count("\n")), (known, "", 1))
@@ -86,8 +102,12 @@ class Call(unittest.TestCase):
             self.assertEqual((tool.stderr.read(), tool.wait()), (b"", 0))
 
     def test_numbers_below_0_are_no_options(self):
-        for given, at, three in ((["--at", "-1,2"], "-1,2", None), (["--at", "-.5e3"], "-.5e3", None), (["--at", "-7"], "-7", None),
-                                 (["--three", "-1", "-2.5", "-.5"], None, [Decimal("-1"), Decimal("-2.5"), Decimal("-0.5")])):
+        for given, at, three in (
+            (["--at", "-1,2"], "-1,2", None),
+            (["--at", "-.5e3"], "-.5e3", None),
+            (["--at", "-7"], "-7", None),
+            (["--three", "-1", "-2.5", "-.5"], None, [Decimal("-1"), Decimal("-2.5"), Decimal("-0.5")]),
+        ):
             found = []
             self.assertEqual(ended(found.append, "x", *given)[0], 0)
             self.assertEqual((found[0].at, found[0].three), (at, three))
@@ -99,7 +119,10 @@ class Strangers(unittest.TestCase):
         self.assertEqual(told("x" * 61), "x" * 60 + "..")
 
     def test_a_formula_stays_text(self):
-        self.assertEqual([cell(text) for text in ("=1", "+1", "-1", "@a", "\ta", "a", "")], ["'=1", "'+1", "'-1", "'@a", "'\ta", "a", ""])
+        self.assertEqual(
+            [cell(text) for text in ("=1", "+1", "-1", "@a", "\ta", "a", "")],
+            ["'=1", "'+1", "'-1", "'@a", "'\ta", "a", ""],
+        )
 
 
 class Terminal(io.StringIO):
@@ -126,8 +149,13 @@ class Progress(unittest.TestCase):
         return stream.getvalue()
 
     def test_tools_tell_how_far_they_are(self):
-        town = Town(Drawn().lot("a").solid("x", "cube", (0, 0, 0), (1, 1, 1)).solid("x", "cube", (2, 0, 0), (1, 1, 1)).lines)
-        self.assertEqual(self.told_by(lambda: rows_of(Measured(town), "lot", {})), "\r\033[Ksolids: 0 of 2\r\033[Ksolids: 1 of 2\r\033[K")
+        town = Town(
+            Drawn().lot("a").solid("x", "cube", (0, 0, 0), (1, 1, 1)).solid("x", "cube", (2, 0, 0), (1, 1, 1)).lines
+        )
+        self.assertEqual(
+            self.told_by(lambda: rows_of(Measured(town), "lot", {})),
+            "\r\033[Ksolids: 0 of 2\r\033[Ksolids: 1 of 2\r\033[K",
+        )
         self.assertIn("solids: 1 of 2", self.told_by(lambda: Meshes().lines(town)))
         picture = self.told_by(lambda: render(town, "bird", 4, 4))
         self.assertIn("faces: 23 of 24", picture)

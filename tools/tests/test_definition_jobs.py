@@ -13,7 +13,7 @@ from definition.apply import whole  # noqa: E402
 from definition.jobs import Jobs  # noqa: E402
 from definition.told import city_of  # noqa: E402
 
-BUDGET = 10 ** 6
+BUDGET = 10**6
 # an arm of a home may reach past the next one, at any of two priorities
 ARMS = """attr wide = {wide}
 PRIORITY 1:
@@ -53,10 +53,10 @@ def jobs_of(text, most, rings):
 
     def shares():
         for at in range(0, len(names), most):
-            seen = set(names[at:at + most])
+            seen = set(names[at : at + most])
             for _ in range(rings):
                 seen |= {other for name in seen for other in near[name]}
-            own = names[at:at + most]
+            own = names[at : at + most]
             yield tuple(own), tuple(name for name in names if name in seen and name not in own)
 
     return Jobs(sources, BUDGET, shares())
@@ -64,7 +64,12 @@ def jobs_of(text, most, rings):
 
 def answers(jobs):
     """Whether what they tell agrees, whether they are settled, whether they see alike, whether they are the town."""
-    return (jobs.all_are(jobs.agree_on), jobs.all_are(jobs.is_settled), all(map(jobs.sees_alike, jobs.jobs)), jobs.are_the_town())
+    return (
+        jobs.all_are(jobs.agree_on),
+        jobs.all_are(jobs.is_settled),
+        all(map(jobs.sees_alike, jobs.jobs)),
+        jobs.are_the_town(),
+    )
 
 
 def stored(name, lots):

@@ -5,10 +5,16 @@ import unittest
 
 from regions import RULES, STAND_IN, RegionTest, asking, chances
 
-LOTS = [f"lot {name} {seed} {10 * x} 0 4 4 wall" for x, (name, seed) in enumerate([("a", 1), ("flat", 2), ("c", 0), ("d", 3)])]
+LOTS = [
+    f"lot {name} {seed} {10 * x} 0 4 4 wall"
+    for x, (name, seed) in enumerate([("a", 1), ("flat", 2), ("c", 0), ("d", 3)])
+]
 REGION = [*RULES, *LOTS]
 # a reaches b, and d reaches e; b, c and d stand apart
-REACHING = [f"lot {name} {seed} {x} 0 4 4 wall" for name, seed, x in (("a", 6, 0), ("b", 1, 10), ("c", 1, 20), ("d", 5, 30), ("e", 0, 36))]
+REACHING = [
+    f"lot {name} {seed} {x} 0 4 4 wall"
+    for name, seed, x in (("a", 6, 0), ("b", 1, 10), ("c", 1, 20), ("d", 5, 30), ("e", 0, 36))
+]
 
 
 class Checks(RegionTest):
@@ -42,13 +48,24 @@ class Checks(RegionTest):
         whole = path.read_text()
         end = f"# job {path.stem}\n"
         for text, told in (
-                ("", "its rules are others"), (whole[:whole.index("o flat")], "its end isn't that of this job"), (whole[:-1], "its end isn't"),
-                (whole.replace(end, ""), "its end isn't"), (whole.replace(end, "# job 0\n"), "its end isn't"), (whole + "# ok\n", "its end isn't"),
-                ("# refused BadLot a\n" + whole, "refused BadLot a: mend"), (whole.replace("1: wall", "2: wall"), "its rules are others"),
-                (whole.replace("# faults 1", "# faults 2"), "its beginning isn't whole"), (whole.replace("# faults 1\n", ""), "its beginning isn't whole"),
-                (whole.replace("faults 1 exp", "faults 2 exp"), "it has other faults than"), (whole.replace("stats lots 4", "stats lots 3"), "it has other lots"), (whole.replace("# hull c", "# hull x"), "boxes are of other lots"),
-                (whole.replace("# hull c 20 0 0 24", "# hull c 20 0 0 19"), "ends before it begins"), (whole.replace("# hull c", "# hulls c"), "isn't one"),
-                (whole.replace("# hull c 20", "# hull c 20/0"), "isn't of numbers"), (whole.replace("# hull c 20 ", "# hull c "), "isn't one")):
+            ("", "its rules are others"),
+            (whole[: whole.index("o flat")], "its end isn't that of this job"),
+            (whole[:-1], "its end isn't"),
+            (whole.replace(end, ""), "its end isn't"),
+            (whole.replace(end, "# job 0\n"), "its end isn't"),
+            (whole + "# ok\n", "its end isn't"),
+            ("# refused BadLot a\n" + whole, "refused BadLot a: mend"),
+            (whole.replace("1: wall", "2: wall"), "its rules are others"),
+            (whole.replace("# faults 1", "# faults 2"), "its beginning isn't whole"),
+            (whole.replace("# faults 1\n", ""), "its beginning isn't whole"),
+            (whole.replace("faults 1 exp", "faults 2 exp"), "it has other faults than"),
+            (whole.replace("stats lots 4", "stats lots 3"), "it has other lots"),
+            (whole.replace("# hull c", "# hull x"), "boxes are of other lots"),
+            (whole.replace("# hull c 20 0 0 24", "# hull c 20 0 0 19"), "ends before it begins"),
+            (whole.replace("# hull c", "# hulls c"), "isn't one"),
+            (whole.replace("# hull c 20", "# hull c 20/0"), "isn't of numbers"),
+            (whole.replace("# hull c 20 ", "# hull c "), "isn't one"),
+        ):
             with self.subTest(told):
                 path.write_text(text)
                 self.assert_not_taken(told)
@@ -70,13 +87,14 @@ class Checks(RegionTest):
         self.run_jobs()
         one, other = self.jobs("out")
         one.write_bytes(other.read_bytes())
-        self.assert_not_taken(f"{one} isn't what its job prints, since its end isn't that of this job: take it away by `tools/districts tidy`")
+        self.assert_not_taken(
+            f"{one} isn't what its job prints, since its end isn't that of this job: take it away by `tools/districts tidy`"
+        )
 
     def test_tidy_takes_away_what_is_refused_and_what_is_of_no_job(self):
         self.cut([*REGION, "lot x 1 90 0 1 1 wall"], 1)
         self.run_jobs()
         self.cut(REGION, 1)
-        one = self.output(0)
         broken = next(path for path in self.jobs("out") if path.stem in (self.folder / "plan.json").read_text())
         broken.write_text("")
         (self.folder / "jobs" / "killed.host.17.part").write_text("half")
@@ -99,7 +117,13 @@ class Checks(RegionTest):
             self.cut([line.replace("flat 2", "flat2 3") for line in [*REGION, "bill"]], 1)
         self.assertEqual({path: path.read_bytes() for path in kept}, kept)
         self.call("tidy", self.folder)
-        for name in ("town.obj.part", "town.obj.3.piece", "plan.json.17.new", f"jobs/{self.jobs()[0].name}.17.new", "tiles/tileset.json.17.new"):
+        for name in (
+            "town.obj.part",
+            "town.obj.3.piece",
+            "plan.json.17.new",
+            f"jobs/{self.jobs()[0].name}.17.new",
+            "tiles/tileset.json.17.new",
+        ):
             (self.folder / name).write_text("half")
         self.assertEqual(self.call("tidy", self.folder)[1], f"{self.folder}: 5 files taken away\n")
 
@@ -114,13 +138,18 @@ class Checks(RegionTest):
 
     def test_a_file_that_has_no_room_is_named(self):
         self.write(REGION)
-        self.assert_refused(self.limited("cut", self.script, self.folder, "--lots", "1", "--program", STAND_IN), ".cga: File too large")
+        self.assert_refused(
+            self.limited("cut", self.script, self.folder, "--lots", "1", "--program", STAND_IN), ".cga: File too large"
+        )
         self.cut(REGION, 1)
         self.run_jobs()
         for word, named in (("join", "town.obj.0.piece"), ("tiles", ".glb")):
             status, _, told = self.limited(word, self.folder, "--workers", "1")
             self.assertEqual((status, told.endswith(f"{named}: File too large\n")), (1, True), told)
-        self.assertEqual([path.name for path in self.folder.rglob("*.*") if "town" in path.name or path.suffix in (".new", ".glb")], [])
+        self.assertEqual(
+            [path.name for path in self.folder.rglob("*.*") if "town" in path.name or path.suffix in (".new", ".glb")],
+            [],
+        )
 
     def test_a_refused_lot_is_named(self):
         self.cut([*REGION, "lot thin 1 50 0 0 4 wall"], 4096)
@@ -137,7 +166,10 @@ class Checks(RegionTest):
         self.cut(lines, 1)
         self.assertEqual(len(self.todo()), 5)
         self.run_jobs()
-        self.assertEqual(self.call("check", self.folder), (3, "", "boxes of 4 lots touch boxes of other jobs: 2 jobs to run; run them, and check again\n"))
+        self.assertEqual(
+            self.call("check", self.folder),
+            (3, "", "boxes of 4 lots touch boxes of other jobs: 2 jobs to run; run them, and check again\n"),
+        )
         self.assertFalse((self.folder / "counts").exists())
         self.assertEqual(self.rounds()[0], 1)
         self.assert_whole(lines)
@@ -148,7 +180,9 @@ class Checks(RegionTest):
         self.assertEqual(len(self.todo()), 1, "an edit elsewhere costs its own job alone")
         moved = [line.replace("lot a 6 0 0", "lot a 6 0 90") for line in lines]
         self.cut(moved, 1)
-        self.assertEqual(len(self.todo()), 1, "a lot that went away stands by itself; without it b is what it was in the first round")
+        self.assertEqual(
+            len(self.todo()), 1, "a lot that went away stands by itself; without it b is what it was in the first round"
+        )
         self.cut(lines, 1)
         self.assertEqual(self.todo(), [], "and an undo costs none")
 
@@ -170,8 +204,12 @@ class Checks(RegionTest):
         self.cut(asking(*LOTS), 1)
         self.run_jobs()
         for path in self.jobs("out"):
-            path.write_text("".join(line for line in path.read_text().splitlines(True) if not line.startswith("# hull")))
-        self.assert_refused(self.call("check", self.folder), "rule 7 asks by Scope.occ, and the program of the jobs tells no boxes")
+            path.write_text(
+                "".join(line for line in path.read_text().splitlines(True) if not line.startswith("# hull"))
+            )
+        self.assert_refused(
+            self.call("check", self.folder), "rule 7 asks by Scope.occ, and the program of the jobs tells no boxes"
+        )
 
     def test_bills_are_sums(self):
         self.cut([*REGION, "bill"], 1)
@@ -192,24 +230,41 @@ class Checks(RegionTest):
         at, lines, words = chance.randrange(len(data) + 1), data.split(b"\n"), data.split(b" ")
         line, word = chance.randrange(len(lines)), chance.randrange(len(words))
         other = chance.choice([b"", b"-1", b"x", b"1/0", b"9" * 25, b"#", b"0"])
-        return chance.choice([data[:at], data[:at] + bytes([chance.randrange(256)]) + data[at + 1:], b"\n".join(lines[:line] + lines[line + 1:]),
-                              b"\n".join(lines[:line] + lines[line:line + 1] + lines[line:]), b" ".join(words[:word] + [other] + words[word + 1:])])
+        return chance.choice(
+            [
+                data[:at],
+                data[:at] + bytes([chance.randrange(256)]) + data[at + 1 :],
+                b"\n".join(lines[:line] + lines[line + 1 :]),
+                b"\n".join(lines[:line] + lines[line : line + 1] + lines[line:]),
+                b" ".join(words[:word] + [other] + words[word + 1 :]),
+            ]
+        )
 
     def test_files_that_are_spoilt_are_told_of_in_words(self):
         """Nothing of Python comes out, whatever stands in the files."""
-        for number, (lines, words) in enumerate((([*RULES, *LOTS, "bill", "model"], []), (asking(*REACHING), []), (asking(*REACHING), ["--rings", "1"]))):
+        for number, (lines, words) in enumerate(
+            (([*RULES, *LOTS, "bill", "model"], []), (asking(*REACHING), []), (asking(*REACHING), ["--rings", "1"]))
+        ):
             self.folder = self.top / str(number)
             self.cut(lines, 2, *words)
             self.rounds()
             self.call("tiles", self.folder, "--workers", "1")
-            kept = {path: path.read_bytes() for kind in ("jobs/*", "*.json", "region.cga", "tiles/*.glb") for path in sorted(self.folder.glob(kind))}
+            kept = {
+                path: path.read_bytes()
+                for kind in ("jobs/*", "*.json", "region.cga", "tiles/*.glb")
+                for path in sorted(self.folder.glob(kind))
+            }
             for chance in chances(25, number):
                 path = chance.choice(list(kept))
                 path.write_bytes(self.spoilt(chance, kept[path]))
                 for word in ("status", "join", "tiles"):  # the last two begin with a check
-                    status, _, told = self.call(word, self.folder, *(["--workers", "1"] if word in ("join", "tiles") else []))
+                    status, _, told = self.call(
+                        word, self.folder, *(["--workers", "1"] if word in ("join", "tiles") else [])
+                    )
                     self.assertIn(status, (0, 1, 3), told)
-                    self.assertNotRegex(told, r"literal|codec|unpack|Expecting|substring|Extra data|range|Unterminated|NoneType", path)
+                    self.assertNotRegex(
+                        told, r"literal|codec|unpack|Expecting|substring|Extra data|range|Unterminated|NoneType", path
+                    )
                 for other in [*self.folder.glob("jobs/*"), *self.folder.glob("found.json")]:
                     other.unlink()
                 for other, data in kept.items():
@@ -217,7 +272,10 @@ class Checks(RegionTest):
 
     def test_names_of_lots_are_only_data(self):
         for name in ("a'b", 'a"b', "$(touch", "`touch", "a;b", "../a", "a\\b", "a/b", "-a", "*"):
-            self.assert_refused(self.cut([*RULES, f"lot {name} 1 0 0 1 1 wall"]), ":6: a lot is written `lot NAME SEED X Z WIDTH DEPTH SYMBOL`")
+            self.assert_refused(
+                self.cut([*RULES, f"lot {name} 1 0 0 1 1 wall"]),
+                ":6: a lot is written `lot NAME SEED X Z WIDTH DEPTH SYMBOL`",
+            )
         self.assertFalse(self.folder.exists())
 
     def test_a_plan_that_is_no_plan(self):
@@ -227,7 +285,9 @@ class Checks(RegionTest):
         self.assertNotEqual(once, plan)
         for text in ("", "{}", '{"form": 9}', "[]", once):
             (self.folder / "plan.json").write_text(text)
-            self.assert_refused(self.call("check", self.folder), "plan.json wasn't written by this tool: cut the script again")
+            self.assert_refused(
+                self.call("check", self.folder), "plan.json wasn't written by this tool: cut the script again"
+            )
         for text in ("", "5", "[1]"):
             (self.folder / "found.json").write_text(text)
             self.assert_refused(self.cut(asking(*LOTS)), "found.json wasn't written by this tool: take it away")

@@ -12,7 +12,7 @@ EXAMPLES = Path(__file__).resolve().parent / "districts"
 def rules_and_lots(name):
     lines = (EXAMPLES / name).read_text().split("\n")
     at = lines.index("end")
-    return lines[lines.index("rules") + 1:at], [line for line in lines[at:] if line.startswith(("lot ", "order "))]
+    return lines[lines.index("rules") + 1 : at], [line for line in lines[at:] if line.startswith(("lot ", "order "))]
 
 
 def block(rules, lots):

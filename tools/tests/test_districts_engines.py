@@ -12,7 +12,7 @@ from unittest.mock import patch
 
 from regions import RULES, STAND_IN, TOP, RegionTest, asking, wait
 
-from lib import joining, tiles
+from cga_city_lib import joining, tiles
 
 LOTS = [f"lot {name} {seed} {10 * x} 0 4 4 wall" for x, (name, seed) in enumerate([("a", 1), ("flat", 2), ("c", 0)])]
 REGION = [*RULES, *LOTS]
@@ -49,8 +49,8 @@ exec python3 {} <"$0.$$"
 INTERRUPTED = """\
 import os, signal, sys, time
 sys.path.insert(0, sys.argv.pop(1))
-from lib.call import Words, call
-from lib.joining import workers
+from cga_city_lib.call import Words, call
+from cga_city_lib.joining import workers
 
 def work(at):
     if at == 1:
@@ -78,12 +78,22 @@ class Engines(RegionTest):
 
     def environment(self, **held):
         """With this Python before any other."""
-        return {**os.environ, "PATH": f"{self.top}:{Path(sys.executable).parent}:{os.environ['PATH']}", "PYTHONDONTWRITEBYTECODE": "",
-                "PYTHONPYCACHEPREFIX": self.compiled, **held}
+        return {
+            **os.environ,
+            "PATH": f"{self.top}:{Path(sys.executable).parent}:{os.environ['PATH']}",
+            "PYTHONDONTWRITEBYTECODE": "",
+            "PYTHONPYCACHEPREFIX": self.compiled,
+            **held,
+        }
 
     def make(self, *words, **environment):
-        return subprocess.Popen(["make", "-j", "2", "-C", self.folder, *words], stdout=subprocess.PIPE, stderr=subprocess.PIPE, text=True,
-                                env=self.environment(**environment))
+        return subprocess.Popen(
+            ["make", "-j", "2", "-C", self.folder, *words],
+            stdout=subprocess.PIPE,
+            stderr=subprocess.PIPE,
+            text=True,
+            env=self.environment(**environment),
+        )
 
     def made(self, *words, **environment):
         making = self.make(*words, **environment)
@@ -114,7 +124,9 @@ class Engines(RegionTest):
         self.cut(REGION, 1)
         _, _, told = self.call("check", self.folder)
         by_make, by_slurm = re.search(r"the first: (make .*), or (sh .*)\n", told).groups()
-        done = subprocess.run(["sh", "-c", f"{by_make} && ls {by_slurm[3:]}"], capture_output=True, text=True, env=self.environment())
+        done = subprocess.run(
+            ["sh", "-c", f"{by_make} && ls {by_slurm[3:]}"], capture_output=True, text=True, env=self.environment()
+        )
         self.assertEqual((done.returncode, self.todo()), (0, []), done.stderr)
 
     @unittest.skipUnless(shutil.which("make"), "make isn't there")
@@ -158,17 +170,26 @@ class Engines(RegionTest):
     def test_a_job_that_is_killed(self):
         program = self.program(WITHOUT_DIE.format(STAND_IN))
         self.cut([*REGION, "lot die 1 90 0 1 1 wall"], 1, program=program)
-        done = subprocess.run(["sh", self.folder / "job", *self.todo()], capture_output=True, text=True, env=self.environment())
+        done = subprocess.run(
+            ["sh", self.folder / "job", *self.todo()], capture_output=True, text=True, env=self.environment()
+        )
         self.assertEqual(done.returncode, 137)
-        self.assertIn(f"job {self.todo()[0]} ended with status 137: run it again, with more memory where that was wanting\n", done.stderr)
+        self.assertIn(
+            f"job {self.todo()[0]} ended with status 137: run it again, with more memory where that was wanting\n",
+            done.stderr,
+        )
         self.assertEqual((len(self.todo()), self.jobs("part")), (1, []))
         self.assert_refused(self.call("join", self.folder), "1 jobs weren't run")
 
     def test_a_job_whose_half_written_output_is_taken_away_is_to_be_run_again(self):
         self.cut(REGION, 4096)
         held = self.held()
-        running = subprocess.Popen(["sh", self.folder / "job", *self.todo()], stderr=subprocess.PIPE, text=True,
-                                   env=self.environment(REGION_HELD=str(held)))
+        running = subprocess.Popen(
+            ["sh", self.folder / "job", *self.todo()],
+            stderr=subprocess.PIPE,
+            text=True,
+            env=self.environment(REGION_HELD=str(held)),
+        )
         wait(lambda: self.jobs("part"))
         self.assertEqual(self.call("tidy", self.folder)[1], f"{self.folder}: 1 files taken away\n")
         held.unlink()
@@ -178,10 +199,14 @@ class Engines(RegionTest):
 
     def test_a_job_that_runs_out_of_memory(self):
         """It has printed something by then, and that is gone."""
-        program = self.program("#!/bin/sh\necho '# ok'\nulimit -v 40000\nexec python3 -c 'kept = b\"x\" * (300 << 20)' 2>/dev/null\n")
+        program = self.program(
+            "#!/bin/sh\necho '# ok'\nulimit -v 40000\nexec python3 -c 'kept = b\"x\" * (300 << 20)' 2>/dev/null\n"
+        )
         self.cut(REGION, 4096)
         shutil.copyfile(program, next(self.folder.glob("program-*")))
-        done = subprocess.run(["sh", self.folder / "job", *self.todo()], capture_output=True, text=True, env=self.environment())
+        done = subprocess.run(
+            ["sh", self.folder / "job", *self.todo()], capture_output=True, text=True, env=self.environment()
+        )
         self.assertNotEqual(done.returncode, 0)
         self.assertIn("run it again, with more memory", done.stderr)
         self.assertEqual((len(self.todo()), self.jobs("part"), self.jobs("out")), (1, [], []))
@@ -192,25 +217,46 @@ class Engines(RegionTest):
         self.run_jobs()
         for word, module, name in (("join", joining, "write_piece"), ("tiles", tiles, "write_glb")):
             with patch.object(module, name, killed):
-                self.assertEqual(self.call(word, self.folder, "--workers", "2")[::2], (
-                    1, "districts: a process was killed, perhaps for want of memory: call it again with fewer --workers\n"))
-            self.assertEqual([path.name for path in self.folder.glob("*") if "town" in path.name or path.suffix == ".json"], ["plan.json"])
+                self.assertEqual(
+                    self.call(word, self.folder, "--workers", "2")[::2],
+                    (
+                        1,
+                        "districts: a process was killed, perhaps for want of memory: call it again with fewer --workers\n",
+                    ),
+                )
+            self.assertEqual(
+                [path.name for path in self.folder.glob("*") if "town" in path.name or path.suffix == ".json"],
+                ["plan.json"],
+            )
         self.assert_whole(REGION)
 
     def test_processes_that_are_interrupted_say_nothing(self):
-        done = subprocess.run([sys.executable, "-c", INTERRUPTED, TOP / "tools"], capture_output=True, text=True, start_new_session=True, timeout=300)
+        done = subprocess.run(
+            [sys.executable, "-c", INTERRUPTED, TOP / "tools"],
+            capture_output=True,
+            text=True,
+            start_new_session=True,
+            timeout=300,
+        )
         self.assertEqual((done.returncode, done.stdout, done.stderr), (130, "", ""))
 
     def by_slurm(self, **environment):
         (self.top / "sbatch").write_text(SBATCH)
         (self.top / "sbatch").chmod(0o755)
-        done = subprocess.run(["sh", self.folder / "slurm", "--mem=1G"], capture_output=True, text=True, env=self.environment(**environment))
+        done = subprocess.run(
+            ["sh", self.folder / "slurm", "--mem=1G"],
+            capture_output=True,
+            text=True,
+            env=self.environment(**environment),
+        )
         return done.returncode, done.stdout, (self.folder / "slurm.log").read_text()
 
     def test_slurm_runs_rounds_and_joins(self):
         self.cut(REACHING, 1)
         status, said, log = self.by_slurm(THEN="join")
-        self.assertEqual((status, said), (0, "3 jobs in array 17 of 3 tasks, then check 17; its end is told in slurm.log\n"))
+        self.assertEqual(
+            (status, said), (0, "3 jobs in array 17 of 3 tasks, then check 17; its end is told in slurm.log\n")
+        )
         self.assertIn("1 jobs to run; run them, and check again\n", log)
         self.assertIn("\n1 jobs in array 17 of 1 tasks", log)
         self.assert_whole(REACHING)
@@ -222,7 +268,9 @@ class Engines(RegionTest):
         self.assertEqual(len(self.todo()), 1)
         _, said, log = self.by_slurm()
         self.assertTrue(said.startswith("1 jobs in array"))
-        self.assertEqual((self.todo(), log.split("\n")[-2]), ([], f"{self.folder}: lots 3 shapes 6 instances 3 faults 1"))
+        self.assertEqual(
+            (self.todo(), log.split("\n")[-2]), ([], f"{self.folder}: lots 3 shapes 6 instances 3 faults 1")
+        )
         self.assertEqual(self.by_slurm()[1], "check 17; its end is told in slurm.log\n")
 
     def test_the_lines_of_the_document(self):
@@ -231,8 +279,9 @@ class Engines(RegionTest):
         for lines in re.findall(r"^```sh\n(.*?)^```", text, re.MULTILINE | re.DOTALL):
             self.folder = self.top / "region"
             self.cut(REGION, 1)
-            done = subprocess.run(["bash", "-e", "-c", lines], cwd=self.top, capture_output=True, text=True,
-                                  env=self.environment())
+            done = subprocess.run(
+                ["bash", "-e", "-c", lines], cwd=self.top, capture_output=True, text=True, env=self.environment()
+            )
             self.assertEqual(done.returncode, 0, done.stderr)
             self.assertEqual(self.todo(), [])
             self.assert_whole(REGION)

@@ -41,7 +41,9 @@ class RandomRegions(RegionTest):
         places = chance.sample(range(first, len(lines)), 2)
         word, name, seed, *rest = lines[places[0]].split()
         changed = {places[0]: [" ".join([word, name, str(int(seed) + 1), *rest])], places[1]: []}
-        return [line for at, old in enumerate(lines) for line in changed.get(at, [old])] + ["lot new 2 -1/3 -0.5 2 2 wall"]
+        return [line for at, old in enumerate(lines) for line in changed.get(at, [old])] + [
+            "lot new 2 -1/3 -0.5 2 2 wall"
+        ]
 
     @unittest.skipUnless(shutil.which("make"), "make isn't there")
     def test_regions_that_are_cut_again_while_jobs_run(self):
@@ -50,8 +52,12 @@ class RandomRegions(RegionTest):
             lines = (asking if chance.random() < 0.7 else lambda *lots: [*RULES, *lots])(*random_lots(chance, 12, 30))
             self.cut(lines, 6)
             held = self.held()
-            late = subprocess.Popen(["make", "-s", "-j", "2", "-C", self.folder], stdout=subprocess.DEVNULL, stderr=subprocess.DEVNULL,
-                                    env={**os.environ, "REGION_HELD": str(held)})
+            late = subprocess.Popen(
+                ["make", "-s", "-j", "2", "-C", self.folder],
+                stdout=subprocess.DEVNULL,
+                stderr=subprocess.DEVNULL,
+                env={**os.environ, "REGION_HELD": str(held)},
+            )
             wait(lambda: self.jobs("part"))
             for turn in (self.edited(chance, lines), lines, self.edited(chance, lines)):
                 self.assertEqual(self.cut(turn, 6)[0], 0)

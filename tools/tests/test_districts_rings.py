@@ -2,7 +2,7 @@
 import json
 import unittest
 
-from regions import STAND_IN, RegionTest, asking
+from regions import RegionTest, asking
 
 # a lot of the stand-in draws where no earlier one that draws meets it, so in a row each depends on the one before it
 ROW = [f"lot l{k:02} 1 {k * 2} 0 2 4 wall" for k in range(20)]
@@ -12,7 +12,10 @@ class Rings(RegionTest):
     def rings(self):
         """The lots of each job, its own and its neighbours."""
         plan = json.loads((self.folder / "plan.json").read_text())
-        return {" ".join(plan["lots"][at] for at in own): " ".join(plan["lots"][at] for at in ring) for _, own, ring, *_ in plan["jobs"]}
+        return {
+            " ".join(plan["lots"][at] for at in own): " ".join(plan["lots"][at] for at in ring)
+            for _, own, ring, *_ in plan["jobs"]
+        }
 
     def test_jobs_have_their_neighbours_behind_their_own_lots(self):
         self.cut(asking(*ROW[:8]), 2, "--rings", "1")
@@ -20,7 +23,9 @@ class Rings(RegionTest):
         self.cut(asking(*ROW[:8]), 2, "--rings", "3")
         self.assertEqual(self.rings()["l02 l03"], "l00 l01 l04 l05 l06")
         text = next(path.read_text() for path in self.jobs() if ROW[2] in path.read_text().split("\n")[6:7])
-        self.assertEqual(text.split("\n")[6:8] + text.split("\n")[-6:-1], ROW[2:4] + ["grammar", "faults", "print", "trace", "stats"])
+        self.assertEqual(
+            text.split("\n")[6:8] + text.split("\n")[-6:-1], ROW[2:4] + ["grammar", "faults", "print", "trace", "stats"]
+        )
 
     def test_rows_with_gaps_settle_at_once(self):
         """Three lots in a row see no more than each other."""
@@ -37,7 +42,9 @@ class Rings(RegionTest):
         self.run_jobs()
         status, _, told = self.call("check", self.folder)
         self.assertEqual(status, 3)
-        self.assertRegex(told, r"^\d+ lots see what other jobs derive otherwise: \d+ jobs to run; run them, and check again\n$")
+        self.assertRegex(
+            told, r"^\d+ lots see what other jobs derive otherwise: \d+ jobs to run; run them, and check again\n$"
+        )
         number, answer = self.rounds()
         self.assertEqual(answer, (0, f"{self.folder}: lots 20 shapes 30 instances 10 faults 0\n", ""))
         self.assertGreater(number, 1)
@@ -46,7 +53,11 @@ class Rings(RegionTest):
         self.assertEqual(self.todo(), [], "what was put together stays so")
 
     def test_a_lot_that_reaches_one_far_away_is_derived_with_it(self):
-        lines = asking("lot a 50 0 0 2 4 wall", *(f"lot b{k} 1 {k * 2 + 40} 0 2 4 wall" for k in range(6)), "lot c 1 500 0 2 4 wall")
+        lines = asking(
+            "lot a 50 0 0 2 4 wall",
+            *(f"lot b{k} 1 {k * 2 + 40} 0 2 4 wall" for k in range(6)),
+            "lot c 1 500 0 2 4 wall",
+        )
         self.cut(lines, 2, "--rings", "2")
         self.assertNotIn("a", [name for ring in self.rings().values() for name in ring.split()])
         self.assertGreater(self.rounds()[0], 1)
@@ -62,8 +73,12 @@ class Rings(RegionTest):
         self.cut(asking(*ROW), 10, "--rings", "1")
         self.run_jobs()
         path = next(path for path in self.jobs("out") if "# step l09 " in path.read_text())
-        path.write_text("".join(line for line in path.read_text().splitlines(True) if not line.startswith("# step l09 ")))
-        self.assert_refused(self.call("check", self.folder), f"{path} isn't what its job prints, since its steps aren't whole")
+        path.write_text(
+            "".join(line for line in path.read_text().splitlines(True) if not line.startswith("# step l09 "))
+        )
+        self.assert_refused(
+            self.call("check", self.folder), f"{path} isn't what its job prints, since its steps aren't whole"
+        )
 
     def test_bills_and_models_are_refused(self):
         for word in ("bill", "model"):

@@ -1,5 +1,4 @@
 """Tiles of a region hold what is joined, in boxes that hold it, with coarser heads above."""
-import json
 import unittest
 
 from regions import RULES, RegionTest, asking, chances, random_lots
@@ -26,7 +25,10 @@ class Tiles(RegionTest):
         self.assert_whole(lines)
         drawn = {point for _, _, triangles in tiles for triangle in triangles for point in triangle}
         wanted = corners_of(self.joined()[0])
-        self.assertEqual({tuple(round(number, 3) for number in point) for point in drawn}, {tuple(round(number, 3) for number in point) for point in wanted})
+        self.assertEqual(
+            {tuple(round(number, 3) for number in point) for point in drawn},
+            {tuple(round(number, 3) for number in point) for point in wanted},
+        )
 
     def test_tiles_hold_the_town(self):
         lines = [*RULES, *LOTS]
@@ -47,7 +49,7 @@ class Tiles(RegionTest):
         """As floats of four bytes 10,000,000.25 and 10,000,000.75 are whole numbers."""
         lines = [*RULES, "lot a 1 10000000.25 -9999999.75 4 4 wall"]
         self.cut(lines)
-        (_, _, triangles), = self.tiles()
+        ((_, _, triangles),) = self.tiles()
         self.assertEqual(min(triangles[0]), (10000000.25, 9999998.75, 0.0))
 
     def test_coarser_heads_are_levels_of_detail(self):
@@ -76,15 +78,22 @@ class Tiles(RegionTest):
         self.cut([*RULES, "lot a 0 7 9 4 4 wall", "lot b 0 90 9 4 4 wall"], 1)
         self.assertEqual([triangles for _, _, triangles in self.tiles()], [[], []])
         for path in self.jobs("out"):
-            path.write_text("".join(line for line in path.read_text().splitlines(True) if not line.startswith("# hull")))
+            path.write_text(
+                "".join(line for line in path.read_text().splitlines(True) if not line.startswith("# hull"))
+            )
         self.assertEqual(len(self.tiles()), 2)
 
     def test_a_coarser_head_that_asks_is_refused(self):
         coarse = self.top / "coarse.cga"
         coarse.write_text("\n".join(asking()))
-        self.assert_refused(self.cut([*RULES, *LOTS], 4, "--coarser", coarse, "3"), "rule 7 asks by Scope.occ, which a coarser head can't")
+        self.assert_refused(
+            self.cut([*RULES, *LOTS], 4, "--coarser", coarse, "3"),
+            "rule 7 asks by Scope.occ, which a coarser head can't",
+        )
         for error in ("far", "-3", "9" * 400):
-            self.assert_refused(self.cut([*RULES, *LOTS], 4, "--coarser", coarse, error), f"{error} isn't a number of units by which")
+            self.assert_refused(
+                self.cut([*RULES, *LOTS], 4, "--coarser", coarse, error), f"{error} isn't a number of units by which"
+            )
 
 
 if __name__ == "__main__":

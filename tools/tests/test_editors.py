@@ -28,8 +28,26 @@ class Vim(unittest.TestCase):
         with tempfile.TemporaryDirectory(prefix="a script's ") as folder:
             shutil.copy(TESTS / "lint" / f"{script}.cga", folder)
             listed = 'call writefile([json_encode(map(getqflist(), {_, it -> [it.lnum, it.col, it.type == "n", it.text, bufname(it.bufnr)]}))], "listed")'
-            words = ["vim", "-es", "-u", "NONE", "-i", "NONE", "--cmd", f"set rtp^={TOP}/editor/vim", "--cmd", "filetype plugin on", *commands,
-                     f"{script}.cga", "-c", "silent make!", "-c", listed, "-c", "qa!"]
+            words = [
+                "vim",
+                "-es",
+                "-u",
+                "NONE",
+                "-i",
+                "NONE",
+                "--cmd",
+                f"set rtp^={TOP}/editor/vim",
+                "--cmd",
+                "filetype plugin on",
+                *commands,
+                f"{script}.cga",
+                "-c",
+                "silent make!",
+                "-c",
+                listed,
+                "-c",
+                "qa!",
+            ]
             env = {**os.environ, "STORED": str(TESTS / "lint" / f"{script}.replies")}
             done = subprocess.run(words, cwd=folder, env=env, capture_output=True, text=True)
             self.assertTrue((Path(folder) / "listed").exists(), done)
@@ -43,15 +61,32 @@ class Vim(unittest.TestCase):
                 self.assertEqual({one[4] for one in made}, {f"{script}.cga"})
 
     def test_the_linter_above_the_script(self):
-        words = ["vim", "-es", "-u", "NONE", "-i", "NONE", "--cmd", f"set rtp^={TOP}/editor/vim", "--cmd", "filetype plugin on",
-                 "examples/first_box.cga", "-c", "redir! > /dev/stdout | echo &makeprg | redir END", "-c", "qa!"]
+        words = [
+            "vim",
+            "-es",
+            "-u",
+            "NONE",
+            "-i",
+            "NONE",
+            "--cmd",
+            f"set rtp^={TOP}/editor/vim",
+            "--cmd",
+            "filetype plugin on",
+            "examples/first_box.cga",
+            "-c",
+            "redir! > /dev/stdout | echo &makeprg | redir END",
+            "-c",
+            "qa!",
+        ]
         said = subprocess.run(words, cwd=TOP, capture_output=True, text=True).stdout
         self.assertIn(f"'{TOP}/tools/lint' %:S", said)
 
 
 class Code(unittest.TestCase):
     def test_problem_matchers(self):
-        told = json.loads((TOP / "editor/vscode/package.json").read_text(encoding="utf-8"))["contributes"]["problemMatchers"]
+        told = json.loads((TOP / "editor/vscode/package.json").read_text(encoding="utf-8"))["contributes"][
+            "problemMatchers"
+        ]
         tasks = json.loads((TOP / "editor/vscode/tasks.json").read_text(encoding="utf-8"))["tasks"]
         self.assertEqual([f"${matcher['name']}" for matcher in told], tasks[0]["problemMatcher"])
         for script in SCRIPTS:

@@ -8,15 +8,25 @@ from pathlib import Path
 TESTS = Path(__file__).resolve().parent
 sys.path.insert(0, str(TESTS.parent))
 
-from lib.edits import edits  # noqa: E402
-from lib.live import Live  # noqa: E402
-from lib.live_town import LiveTown  # noqa: E402
-from lib.script import commands  # noqa: E402
-from lib.shown import Shown  # noqa: E402
-from lib.plain_script import sources_of  # noqa: E402
+from cga_city_lib.edits import edits  # noqa: E402
+from cga_city_lib.live import Live  # noqa: E402
+from cga_city_lib.live_town import LiveTown  # noqa: E402
+from cga_city_lib.script import commands  # noqa: E402
+from cga_city_lib.shown import Shown  # noqa: E402
+from cga_city_lib.plain_script import sources_of  # noqa: E402
 
-SCRIPT = ["rules", "attr h = 3", "PRIORITY 1:", '1: house -> S(1r, h, 1r) I("cube")', "PRIORITY 2:", '2: shed -> I("gable")', '3: shed -> I("hip")', "end",
-          "lot a 1 0 0 10 8 house", "lot b 2 20 0 10 8 shed"]
+SCRIPT = [
+    "rules",
+    "attr h = 3",
+    "PRIORITY 1:",
+    '1: house -> S(1r, h, 1r) I("cube")',
+    "PRIORITY 2:",
+    '2: shed -> I("gable")',
+    '3: shed -> I("hip")',
+    "end",
+    "lot a 1 0 0 10 8 house",
+    "lot b 2 20 0 10 8 shed",
+]
 
 
 def changed(*changes):
@@ -35,7 +45,9 @@ class Edits(unittest.TestCase):
         return None if found is None else ["\n".join(edit.lines) for edit in found]
 
     def test_nothing_is_sent_for_comments_and_blanks(self):
-        self.assertEqual(self.sent(changed((0, ["# a town", "rules"]), (3, ['1: house  ->  S(1r, h, 1r) I("cube")  # tall']))), [])
+        self.assertEqual(
+            self.sent(changed((0, ["# a town", "rules"]), (3, ['1: house  ->  S(1r, h, 1r) I("cube")  # tall']))), []
+        )
 
     def test_a_rule(self):
         new = '1: house -> S(1r, 2 * h, 1r) I("cube")'
@@ -78,7 +90,11 @@ class Files:
 
     def __init__(self, seed, is_second):
         self.draw, self.head, self.attribute = random.Random(seed), ["version 2"] * is_second, "3"
-        self.rules = {1: (1, 'house -> S(1r, h, 1r) I("cube")'), 2: (2, 'shed -> I("gable")'), 3: (2, 'shed -> I("hip")')}
+        self.rules = {
+            1: (1, 'house -> S(1r, h, 1r) I("cube")'),
+            2: (2, 'shed -> I("gable")'),
+            3: (2, 'shed -> I("hip")'),
+        }
         self.lots = {name: self.lot(name).replace(" 0 8 ", " 9 8 ") for name in "abc"}
 
     def lot(self, name):
@@ -90,7 +106,10 @@ class Files:
         if kind == 0:
             self.attribute = draw.choice(("2", "3", "7/2"))
         elif kind == 1:
-            self.rules[draw.randrange(1, 6)] = (draw.choice((1, 2)), draw.choice(('house -> S(1r, h, 1r) I("cube")', 'shed -> I("hip")', "shed -> wrong")))
+            self.rules[draw.randrange(1, 6)] = (
+                draw.choice((1, 2)),
+                draw.choice(('house -> S(1r, h, 1r) I("cube")', 'shed -> I("hip")', "shed -> wrong")),
+            )
         elif kind == 2:
             self.rules.pop(draw.randrange(2, 6), None)
         elif kind == 3:
@@ -102,7 +121,14 @@ class Files:
             self.lots[name] = self.lot(name)
 
     def lines(self):
-        rules = [line for priority in (1, 2) for line in [f"PRIORITY {priority}:", *(f"{number}: {text}" for number, (own, text) in sorted(self.rules.items()) if own == priority)]]
+        rules = [
+            line
+            for priority in (1, 2)
+            for line in [
+                f"PRIORITY {priority}:",
+                *(f"{number}: {text}" for number, (own, text) in sorted(self.rules.items()) if own == priority),
+            ]
+        ]
         return [*self.head, "rules", f"attr h = {self.attribute}", *rules, "end", *self.lots.values()]
 
 

@@ -25,7 +25,9 @@ class Gallery(unittest.TestCase):
     def test_each_picture_is_made_by_a_line(self):
         made = set(re.findall(r"docs/(gallery/\S+)", PAGE))
         self.assertEqual(made, set(re.findall(r"\]\((gallery/[^)]*)\)", PAGE)))
-        self.assertEqual({path.name for path in (TOP / "docs" / "gallery").iterdir()}, {Path(path).name for path in made})
+        self.assertEqual(
+            {path.name for path in (TOP / "docs" / "gallery").iterdir()}, {Path(path).name for path in made}
+        )
 
     def test_tables_are_there(self):
         for table in tool["TABLE"].findall(PAGE):

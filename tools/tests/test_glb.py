@@ -15,9 +15,9 @@ sys.path[:0] = [str(TESTS), str(TESTS.parent)]
 import solid_table  # noqa: E402
 from glb_reader import Reader  # noqa: E402
 from in_process import called  # noqa: E402
-from lib.glb import Glb  # noqa: E402
-from lib.obj import read_town  # noqa: E402
-from lib.png import png  # noqa: E402
+from cga_city_lib.glb import Glb  # noqa: E402
+from cga_city_lib.obj import read_town  # noqa: E402
+from cga_city_lib.png import png  # noqa: E402
 
 UPRIGHT = [(1, 0, 0), (0, 1, 0), (0, 0, 1)]
 MAP = (2683141, 402, 1247942)
@@ -31,8 +31,11 @@ def turned(angle):
 def a_town(at, angle):
     """A lot with each kind of solid, some of them twice, and a lot beside it."""
     sizes = [(10, 6, 8), (3, 2, 7.5), (4, 2.5, 4), (9, 2, 6)]
-    solids = [("a", f"{kind}{number % 2}", kind, (at[0] + 12 * number, at[1], at[2] - 9 * row), turned(angle), size)
-              for row, kind in enumerate(solid_table.SOLIDS) for number, size in enumerate(sizes)]
+    solids = [
+        ("a", f"{kind}{number % 2}", kind, (at[0] + 12 * number, at[1], at[2] - 9 * row), turned(angle), size)
+        for row, kind in enumerate(solid_table.SOLIDS)
+        for number, size in enumerate(sizes)
+    ]
     return solid_table.text(solids + [("b", "cube0", "cube", (at[0], at[1], at[2] + 20), UPRIGHT, (0.9, 1.2, 0.06))])
 
 
@@ -65,7 +68,10 @@ class Geometry(Files):
         found = {}
         for lot, symbol, corners, _ in reader.world():
             found.setdefault((lot, symbol), []).append(corners)
-        self.assertEqual(Counter({key: len(some) for key, some in found.items()}), Counter({key: len(some) for key, some in wanted.items()}))
+        self.assertEqual(
+            Counter({key: len(some) for key, some in found.items()}),
+            Counter({key: len(some) for key, some in wanted.items()}),
+        )
         for key, some in wanted.items():
             for corners in some:
                 near = min((max(math.dist(a, b) for a, b in zip(corners, other)) for other in found[key]))
@@ -83,7 +89,7 @@ class Geometry(Files):
         self.source.write_text(a_town(MAP, 0.4), encoding="utf-8")
         for words in ((), ("--instances",)):
             reader = self.read(*words)
-            root, = reader.told["scenes"][0]["nodes"]
+            (root,) = reader.told["scenes"][0]["nodes"]
             self.assertEqual(reader.told["nodes"][root]["extras"], {"offset": [2683000, 0, 1247000], "metres": 1})
             self.assertIn("offset 2683000 0 1247000, 1 unit = 1 m", self.said)
             for lot in reader.told["nodes"][root]["children"]:
@@ -109,10 +115,14 @@ class Geometry(Files):
         # two symbols for each kind; gables by the way of their ridge, hips by their share of slope as well
         names = Counter(mesh["name"] for mesh in told["meshes"])
         self.assertEqual({name for name in names if name.startswith("cube")}, {"cube0.cube", "cube1.cube"})
-        self.assertEqual({name for name in names if name.startswith("gable")}, {"gable0.gable.x", "gable1.gable.z", "gable1.gable.x"})
+        self.assertEqual(
+            {name for name in names if name.startswith("gable")}, {"gable0.gable.x", "gable1.gable.z", "gable1.gable.x"}
+        )
         told = self.read("--instance", "cube0").told
         self.assertEqual([mesh["name"] for mesh in told["meshes"]], ["a", "cube0.cube"])
-        ids = [node["extras"]["ids"] for node in told["nodes"] if "EXT_mesh_gpu_instancing" in node.get("extensions", {})]
+        ids = [
+            node["extras"]["ids"] for node in told["nodes"] if "EXT_mesh_gpu_instancing" in node.get("extensions", {})
+        ]
         self.assertEqual(ids, [["a#0", "a#2"], ["b#0"]])
 
     def test_normals_are_of_length_1_and_face_outwards(self):
@@ -135,8 +145,12 @@ class Maps(Files):
 
     def test_a_texture_runs_on_from_wall_to_wall(self):
         """Walls in one plane, of two lots, have the same u and v where they meet."""
-        walls = [("a", "wall", "quad", (0, 0, 5), UPRIGHT, (2.5, 3, 0)), ("a", "wall", "quad", (2.5, 0, 5), UPRIGHT, (4, 3, 0)),
-                 ("a", "wall", "quad", (0, 3, 5), UPRIGHT, (6.5, 2, 0)), ("b", "wall", "quad", (6.5, 0, 5), UPRIGHT, (3, 3, 0))]
+        walls = [
+            ("a", "wall", "quad", (0, 0, 5), UPRIGHT, (2.5, 3, 0)),
+            ("a", "wall", "quad", (2.5, 0, 5), UPRIGHT, (4, 3, 0)),
+            ("a", "wall", "quad", (0, 3, 5), UPRIGHT, (6.5, 2, 0)),
+            ("b", "wall", "quad", (6.5, 0, 5), UPRIGHT, (3, 3, 0)),
+        ]
         self.source.write_text(solid_table.text(walls), encoding="utf-8")
         found = {}
         for _, _, world, corners in self.read().world():
@@ -149,7 +163,14 @@ class Maps(Files):
     def test_which_way_is_up(self):
         """On each side of a cube u goes to the right as seen from outside, and v down."""
         self.source.write_text(solid_table.text([("a", "s", "cube", (0, 0, 0), UPRIGHT, (1, 1, 1))]), encoding="utf-8")
-        rights = {(0, 0, 1): (1, 0, 0), (1, 0, 0): (0, 0, -1), (0, 0, -1): (-1, 0, 0), (-1, 0, 0): (0, 0, 1), (0, 1, 0): (1, 0, 0), (0, -1, 0): (1, 0, 0)}
+        rights = {
+            (0, 0, 1): (1, 0, 0),
+            (1, 0, 0): (0, 0, -1),
+            (0, 0, -1): (-1, 0, 0),
+            (-1, 0, 0): (0, 0, 1),
+            (0, 1, 0): (1, 0, 0),
+            (0, -1, 0): (1, 0, 0),
+        }
         for _, _, _, corners in self.read().world():
             for point, normal, (u, _) in corners:
                 self.assertAlmostEqual(u, sum(a * b for a, b in zip(point, rights[tuple(map(round, normal))])))
@@ -158,8 +179,15 @@ class Maps(Files):
 class Looks(Files):
     def setUp(self):
         super().setUp()
-        self.source.write_text(solid_table.text([("a", "brick_wall", "quad", (0, 0, 0), UPRIGHT, (1, 1, 0)),
-                                                 ("a", "brick", "quad", (1, 0, 0), UPRIGHT, (1, 1, 0))]), encoding="utf-8")
+        self.source.write_text(
+            solid_table.text(
+                [
+                    ("a", "brick_wall", "quad", (0, 0, 0), UPRIGHT, (1, 1, 0)),
+                    ("a", "brick", "quad", (1, 0, 0), UPRIGHT, (1, 1, 0)),
+                ]
+            ),
+            encoding="utf-8",
+        )
         self.colours = self.folder / "colours.json"
 
     def test_textures_come_into_the_file_once(self):
@@ -168,15 +196,20 @@ class Looks(Files):
         look = {"colour": "ffffff", "texture": "brick.png", "size": [2, 0.5]}
         self.colours.write_text(json.dumps({"brick": look, "brick_wall": look}), encoding="utf-8")
         reader = self.read("--colours", self.colours)
-        image, = reader.told["images"]
+        (image,) = reader.told["images"]
         self.assertEqual((image["mimeType"], reader.view(image["bufferView"])), ("image/png", picture))
         self.assertEqual(reader.told["extensionsUsed"], ["KHR_texture_transform"])
-        self.assertEqual([material["pbrMetallicRoughness"]["baseColorTexture"] for material in reader.told["materials"]],
-                         [{"index": 0, "extensions": {"KHR_texture_transform": {"scale": [0.5, 2]}}}] * 2)
+        self.assertEqual(
+            [material["pbrMetallicRoughness"]["baseColorTexture"] for material in reader.told["materials"]],
+            [{"index": 0, "extensions": {"KHR_texture_transform": {"scale": [0.5, 2]}}}] * 2,
+        )
 
     def test_a_texture_that_cannot_be_taken(self):
         self.colours.write_text('{"brick": {"texture": "brick.png"}}', encoding="utf-8")
-        self.assertEqual(self.call("--colours", self.colours), (1, "", f"glb: {self.folder / 'brick.png'}: No such file or directory\n"))
+        self.assertEqual(
+            self.call("--colours", self.colours),
+            (1, "", f"glb: {self.folder / 'brick.png'}: No such file or directory\n"),
+        )
         (self.folder / "brick.png").write_bytes(b"GIF89a")
         status, _, fault = self.call("--colours", self.colours)
         self.assertEqual((status, fault.count("\n")), (1, 1))
@@ -185,7 +218,9 @@ class Looks(Files):
 
     def test_a_symbol_that_draws_nothing(self):
         status, _, fault = self.call("--instance", "window")
-        self.assertEqual((status, fault), (1, "glb: nothing is drawn by 'window'; symbols that draw are brick_wall, brick\n"))
+        self.assertEqual(
+            (status, fault), (1, "glb: nothing is drawn by 'window'; symbols that draw are brick_wall, brick\n")
+        )
 
 
 class Growth(unittest.TestCase):

@@ -5,13 +5,13 @@ from pathlib import Path
 
 sys.path.insert(0, str(Path(__file__).resolve().parent.parent))
 
-from lib.advice import Place, advice  # noqa: E402
-from lib.causes import CODES, HELPS, help_for  # noqa: E402
-from lib.notes import notes  # noqa: E402
-from lib.report import Report  # noqa: E402
-from lib.script import commands, lines_of, rule_in  # noqa: E402
-from lib.standing import standing  # noqa: E402
-from lib.ways import places_above  # noqa: E402
+from cga_city_lib.advice import Place, advice  # noqa: E402
+from cga_city_lib.causes import CODES, HELPS, help_for  # noqa: E402
+from cga_city_lib.notes import notes  # noqa: E402
+from cga_city_lib.report import Report  # noqa: E402
+from cga_city_lib.script import commands, lines_of, rule_in  # noqa: E402
+from cga_city_lib.standing import standing  # noqa: E402
+from cga_city_lib.ways import places_above  # noqa: E402
 
 HABITS = [  # a line, the column at which it is refused, and a part of the advice
     ("put 1 2: f -> comp(f) { side : w }", 23, 'Comp("sidefaces")'),
@@ -50,8 +50,10 @@ class Habits(unittest.TestCase):
 
 class Worked(unittest.TestCase):
     def test_a_rule_in_a_line(self):
-        self.assertEqual(rule_in('put 2 7: a(n, m) : n > Scope.sx -> T(n, 0, k) b(m) I("cube")'),
-                         (7, "a", ["n", "m"], ["n", ">", "Scope", ".", "sx"], {"n", "k", "b", "m"}))
+        self.assertEqual(
+            rule_in('put 2 7: a(n, m) : n > Scope.sx -> T(n, 0, k) b(m) I("cube")'),
+            (7, "a", ["n", "m"], ["n", ">", "Scope", ".", "sx"], {"n", "k", "b", "m"}),
+        )
 
     def test_a_rule_that_is_dropped_is_not_noted(self):
         lines = lines_of(b"rules\n1: a -> NIL\n2: a -> b\n3: b -> NIL\nend\nlot x 1 0 0 1 1 a\ndrop 2\n")
@@ -61,8 +63,15 @@ class Worked(unittest.TestCase):
     def test_a_block_that_was_not_opened(self):
         lines = lines_of(b"Rules\n1: a -> NIL\nend\nlot x 1 0 0 1 1 a\nlot y 1 0 0 1 1 b\n")
         answers = [["# refused Unexpected at 1"]] * 3 + [["# refused NoSymbol a"], ["# refused NoSymbol b"]]
-        told = [line for line in Report("x.cga", lines, commands(lines), answers).lines_for([]) if not line.startswith("    ")]
-        self.assertEqual([line.split(":")[1] for line in told], ["1", "5", " 5 refused (3 of them only follow), 0 shapes came to nothing"])
+        told = [
+            line
+            for line in Report("x.cga", lines, commands(lines), answers).lines_for([])
+            if not line.startswith("    ")
+        ]
+        self.assertEqual(
+            [line.split(":")[1] for line in told],
+            ["1", "5", " 5 refused (3 of them only follow), 0 shapes came to nothing"],
+        )
 
     def test_without_lots_nothing_is_out_of_reach(self):
         lines = lines_of(b"rules\n1: a -> NIL\n3: b -> NIL\nend\n")
@@ -72,16 +81,25 @@ class Worked(unittest.TestCase):
         """A slip in a rule, and 200 lots that are refused for it: some lines, and not three for each lot."""
         lines = lines_of(b"rules\n1: house -> I('cube')\nend\n" + b"lot a 1 0 0 10 8 house\n" * 200)
         answers = [["# refused BadByte at 1:13"]] + [["# refused NoSymbol house"]] * 200
-        self.assertEqual([*Report("x.cga", lines, commands(lines), answers).lines_for([])][3:],
-                         ["    200 further refusals follow from it, from line 4 on",
-                          "x.cga: 201 refused (200 of them only follow), 0 shapes came to nothing"])
+        self.assertEqual(
+            [*Report("x.cga", lines, commands(lines), answers).lines_for([])][3:],
+            [
+                "    200 further refusals follow from it, from line 4 on",
+                "x.cga: 201 refused (200 of them only follow), 0 shapes came to nothing",
+            ],
+        )
 
     def test_what_stands_after_undo(self):
-        lines = lines_of(b"version 2\ncity\nattr h=3\n1: a -> S(1r, h, 1r) b\n2: b -> NIL\nlot x 1 0 0 1 1 a\nend\n"
-                         b"lot y 1 0 0 1 -1 b\ndrop 2.0\nunlot x\nundo\nredo\nundo\nput 2 7: b -> NIL\n")
+        lines = lines_of(
+            b"version 2\ncity\nattr h=3\n1: a -> S(1r, h, 1r) b\n2: b -> NIL\nlot x 1 0 0 1 1 a\nend\n"
+            b"lot y 1 0 0 1 -1 b\ndrop 2.0\nunlot x\nundo\nredo\nundo\nput 2 7: b -> NIL\n"
+        )
         answers = [["# ok"]] * 2 + [["# refused BadLot y"], ["# refused UnknownSymbol 1 b"]] + [["# ok"]] * 5
         now = standing(lines, list(zip(commands(lines), answers)))
-        self.assertEqual({number: (rule.symbol, at) for number, (rule, at) in now.rules.items()}, {1: ("a", 3), 2: ("b", 4), 7: ("b", 13)})
+        self.assertEqual(
+            {number: (rule.symbol, at) for number, (rule, at) in now.rules.items()},
+            {1: ("a", 3), 2: ("b", 4), 7: ("b", 13)},
+        )
         self.assertEqual((now.attributes, now.lots), ({"h": 2}, {"x": ("a", 5)}))
 
     def test_places_above_a_path(self):

@@ -17,11 +17,11 @@ sys.path[:0] = [str(TESTS), str(TESTS.parent)]
 
 import cga_city  # noqa: E402
 from cga_city import City, Ended, Instance, NotBuilt, Refused  # noqa: E402
-from lib.causes import CAUSES  # noqa: E402
-from lib.ids import ids, key  # noqa: E402
-from lib.obj import Town  # noqa: E402
-from lib.program import LAUNCHER, is_proved  # noqa: E402
-from lib.replies import replies  # noqa: E402
+from cga_city_lib.causes import CAUSES  # noqa: E402
+from cga_city_lib.ids import ids, key  # noqa: E402
+from cga_city_lib.obj import Town  # noqa: E402
+from cga_city_lib.program import LAUNCHER, is_proved  # noqa: E402
+from cga_city_lib.replies import replies  # noqa: E402
 
 OBJ = "# cga_city obj\no a\ng wall\nv 0 0 0\nv 1 0 0\nv 0 1 0\nf 1 2 3"
 
@@ -42,7 +42,8 @@ class Told(unittest.TestCase):
 
 class Replies(Told):
     def test_each_report_is_a_value(self):
-        city = self.city(f"""> stats
+        city = self.city(
+            f"""> stats
 # stats lots 2 shapes 10 instances 4 faults 1 expanded 3
 > bill
 # bill 2
@@ -71,9 +72,12 @@ attr w = -3
 PRIORITY 1:
 1: a -> NIL
 end
-""")
+"""
+        )
         self.assertEqual(city.stats(), (2, 10, 4, 1, 3))
-        self.assertEqual(city.bill(), {"house": (2, Decimal(144), Decimal(1296), 0), "roof": (2, Decimal("48.5"), Decimal(432), 1)})
+        self.assertEqual(
+            city.bill(), {"house": (2, Decimal(144), Decimal(1296), 0), "roof": (2, Decimal("48.5"), Decimal(432), 1)}
+        )
         self.assertEqual(city.faults(), [("a", "/0/1", "door", "FlatScope")])
         self.assertEqual(city.trace(), [("p", "/", "a", "-", "-", "2"), ("p", "/1", "c", "none", "-", "Overflow")])
         self.assertEqual((city.obj(), city.obj("a")), (OBJ + "\n", OBJ + "\n"))
@@ -107,21 +111,32 @@ class Refusals(Told):
         for name in CAUSES:
             kind = getattr(cga_city, name)
             self.assertTrue(issubclass(kind, Refused) and kind.__name__ == name)
-        told = set(re.findall(r'b"([A-Z][A-Za-z]+)', (TOP / "crates/cga_script/src/refusals.rt").read_text(encoding="utf-8")))
+        told = set(
+            re.findall(r'b"([A-Z][A-Za-z]+)', (TOP / "crates/cga_script/src/refusals.rt").read_text(encoding="utf-8"))
+        )
         self.assertEqual({name for name in told if not hasattr(cga_city, name)}, set())
 
     def test_a_line(self):
         fault = self.refusal("lot a 1 0 0 0 8 house", "# refused BadLot a")
         self.assertIsInstance(fault, cga_city.BadLot)
-        self.assertEqual((fault.name, fault.about, fault.place, fault.row, fault.line), ("BadLot", ("a",), None, None, "lot a 1 0 0 0 8 house"))
+        self.assertEqual(
+            (fault.name, fault.about, fault.place, fault.row, fault.line),
+            ("BadLot", ("a",), None, None, "lot a 1 0 0 0 8 house"),
+        )
         self.assertIn("BadLot a: the width and depth of lot `a`", str(fault))
         fault = self.refusal("lot a 1 {0}", "# refused BadByte at 9")
         self.assertEqual((type(fault), fault.place, fault.row), (cga_city.BadByte, 9, None))
 
     def test_a_block(self):
         rules = "rules\nattr h = 1\n1: a -> NIL\n2: b -> c\n2: b -> NIL\nend"
-        for reply, about, place, row in (("Unexpected at 3:6", (), 6, 3), ("LineTooLong at 2", (), None, 2), ("UnknownSymbol 2 c", ("2", "c"), None, 4),
-                                         ("UnknownSymbol 1 b", ("1", "b"), None, 2), ("DoubleAttribute h", ("h",), None, 1), ("OverBudget", (), None, None)):
+        for reply, about, place, row in (
+            ("Unexpected at 3:6", (), 6, 3),
+            ("LineTooLong at 2", (), None, 2),
+            ("UnknownSymbol 2 c", ("2", "c"), None, 4),
+            ("UnknownSymbol 1 b", ("1", "b"), None, 2),
+            ("DoubleAttribute h", ("h",), None, 1),
+            ("OverBudget", (), None, None),
+        ):
             fault = self.refusal(rules, f"# refused {reply}")
             self.assertEqual((fault.name, fault.about, fault.place, fault.row), (reply.split()[0], about, place, row))
             self.assertEqual(fault.line, rules.split("\n")[row or 0])
@@ -147,7 +162,8 @@ class Refusals(Told):
 
 class Changing(Told):
     def test_changes_are_kept_until_they_are_asked(self):
-        city = self.city("""> lot a 1 0 0 5/2 3 wall
+        city = self.city(
+            """> lot a 1 0 0 5/2 3 wall
 # ok
 # changed 0 1
 + a wall quad 0 0 -1/3 +X+Y+Z 5/2 3 0
@@ -159,7 +175,9 @@ class Changing(Told):
 + a roof gable 0 3 0 +X+Y+Z 3 1 3
 > stats
 # stats lots 1
-""", live=True)
+""",
+            live=True,
+        )
         city.do("lot a 1 0 0 5/2 3 wall")
         first = Instance(*"a wall quad 0 0 -1/3 +X+Y+Z 5/2 3 0".split())
         self.assertEqual(city.changes(), ([], [first]))
@@ -205,7 +223,9 @@ class Ends(Told):
         """A text that no pipe holds is written all the same, and its reply waited for no longer than is said."""
         with tempfile.NamedTemporaryFile("w", suffix=".sh", delete=False) as program:
             self.addCleanup(os.unlink, program.name)
-            program.write("#!/bin/sh\nread line\necho '# ok'\nread line\necho '# refused Unexpected at 7'\nexec sleep 60\n")
+            program.write(
+                "#!/bin/sh\nread line\necho '# ok'\nread line\necho '# refused Unexpected at 7'\nexec sleep 60\n"
+            )
         os.chmod(program.name, 0o700)
         city = City(program.name)
         city._pipe.patience = 0.3
@@ -226,9 +246,13 @@ class Ends(Told):
         city.close()
 
     def test_where_nothing_is_built(self):
-        with mock.patch.object(cga_city, "LIVE", Path("/nowhere/cga_live")), self.assertRaisesRegex(NotBuilt, "--prove"):
+        with mock.patch.object(cga_city, "LIVE", Path("/nowhere/cga_live")), self.assertRaisesRegex(
+            NotBuilt, "--prove"
+        ):
             City(live=True)
-        with mock.patch.object(cga_city, "is_proved", lambda program: False), self.assertRaisesRegex(NotBuilt, "--prove"):
+        with mock.patch.object(cga_city, "is_proved", lambda program: False), self.assertRaisesRegex(
+            NotBuilt, "--prove"
+        ):
             City()
 
 
@@ -264,7 +288,10 @@ class Program(unittest.TestCase):
             found = []
             for edit in ("stats", "attr pitch = 1.2", "unlot n4"):
                 city.do(edit)
-                steps = [(step.lot, key(step.path), step.symbol, int(step.result) if step.result.isdigit() else 0) for step in city.trace()]
+                steps = [
+                    (step.lot, key(step.path), step.symbol, int(step.result) if step.result.isdigit() else 0)
+                    for step in city.trace()
+                ]
                 found.append({name for names in ids(Town(city.obj().split("\n")), steps).values() for name in names})
             self.assertEqual(found[0], found[1])
             self.assertTrue({name for name in found[1] if name.startswith(("road/", "s1/"))} < found[2])

@@ -11,12 +11,15 @@ TOP = TESTS.parent.parent
 sys.path[:0] = [str(TESTS.parent), str(TESTS)]
 
 from browser import CHROMIUM, shared  # noqa: E402
-from lib.drawn import Meshes  # noqa: E402
-from lib.obj import Town  # noqa: E402
-from lib.page import data_of, page  # noqa: E402
+from cga_city_lib.drawn import Meshes  # noqa: E402
+from cga_city_lib.obj import Town  # noqa: E402
+from cga_city_lib.page import data_of, page  # noqa: E402
 
 if not CHROMIUM:
-    print("SKIPPED: the page isn't tried in a browser, since Chromium isn't there (apt-get install chromium)", file=sys.stderr)
+    print(
+        "SKIPPED: the page isn't tried in a browser, since Chromium isn't there (apt-get install chromium)",
+        file=sys.stderr,
+    )
 FACES = ["f 4 3 7 8", "f 3 2 6 7", "f 2 1 5 6", "f 1 4 8 5", "f 8 7 6 5", "f 1 2 3 4"]
 
 
@@ -32,7 +35,7 @@ def cubes(*places, symbol="wall", lot="a"):
 
 class Data(unittest.TestCase):
     def test_a_pane_at_map_coordinates_keeps_its_thickness(self):
-        line, = Meshes().lines(Town(cubes((2683141.123456, 0, 1247942, 1, 2, 0.06))))
+        (line,) = Meshes().lines(Town(cubes((2683141.123456, 0, 1247942, 1, 2, 0.06))))
         self.assertEqual(line, "a wall mesh0 2683141.123456 0 1247942 +X+Y+Z 1 2 0.06")
 
     def test_equal_forms_have_one_mesh(self):
@@ -43,12 +46,15 @@ class Data(unittest.TestCase):
 
     def test_names_are_only_ever_data(self):
         lines = cubes((0, 0, 0, 1, 1, 1), symbol="<!-- <script>", lot='a b "$&')
-        line, = Meshes().lines(Town(lines))
-        self.assertEqual(line.split(), ["a%20b%20%22%24%26", "%3C%21--%20%3Cscript%3E", "mesh0", "0", "0", "0", "+X+Y+Z", "1", "1", "1"])
+        (line,) = Meshes().lines(Town(lines))
+        self.assertEqual(
+            line.split(),
+            ["a%20b%20%22%24%26", "%3C%21--%20%3Cscript%3E", "mesh0", "0", "0", "0", "+X+Y+Z", "1", "1", "1"],
+        )
 
     def test_a_title_does_not_end_the_script(self):
         text = page(data_of(Town(cubes((0, 0, 0, 1, 1, 1))), "<!-- <script>"))
-        given, = re.findall(r"^const given = (.*);$", text, re.MULTILINE)
+        (given,) = re.findall(r"^const given = (.*);$", text, re.MULTILINE)
         self.assertNotIn("<", given)
         self.assertEqual(json.loads(given)["title"], "<!-- <script>")
 
@@ -75,23 +81,31 @@ class InBrowser(unittest.TestCase):
 
     def pixels(self, places):
         """Red, green and blue of places of the window, drawn anew."""
-        return self.run_(f"(() => {{ draw(); const seen = new Uint8Array(4); return {json.dumps(places)}.map(([x, y]) => {{"
-                         " gl.readPixels(x, 319 - y, 1, 1, gl.RGBA, gl.UNSIGNED_BYTE, seen); return [...seen].slice(0, 3); }); })()")
+        return self.run_(
+            f"(() => {{ draw(); const seen = new Uint8Array(4); return {json.dumps(places)}.map(([x, y]) => {{"
+            " gl.readPixels(x, 319 - y, 1, 1, gl.RGBA, gl.UNSIGNED_BYTE, seen); return [...seen].slice(0, 3); }); })()"
+        )
 
     def pixel(self, x, y):
         return self.pixels([[x, y]])[0]
 
     def all_pixels(self):
         """All bytes of the picture, drawn anew."""
-        return bytes.fromhex(self.run_("(() => { draw(); const seen = new Uint8Array(4 * 480 * 320);"
-                                       " gl.readPixels(0, 0, 480, 320, gl.RGBA, gl.UNSIGNED_BYTE, seen);"
-                                       " return Array.from(seen, one => one.toString(16).padStart(2, '0')).join(''); })()"))
+        return bytes.fromhex(
+            self.run_(
+                "(() => { draw(); const seen = new Uint8Array(4 * 480 * 320);"
+                " gl.readPixels(0, 0, 480, 320, gl.RGBA, gl.UNSIGNED_BYTE, seen);"
+                " return Array.from(seen, one => one.toString(16).padStart(2, '0')).join(''); })()"
+            )
+        )
 
     def place_of(self, *point):
         """Where a point, beside the town's offset, comes in the window."""
-        return self.run_(f"(() => {{ const m = matrix(town).view, p = [{','.join(map(str, point))}, 1];"
-                         " const [x, y, , w] = [0, 1, 2, 3].map(r => [0, 1, 2, 3].reduce((sum, c) => sum + m[4 * c + r] * p[c], 0));"
-                         " return [Math.round((x / w + 1) * 240), Math.round((1 - y / w) * 160)]; })()")
+        return self.run_(
+            f"(() => {{ const m = matrix(town).view, p = [{','.join(map(str, point))}, 1];"
+            " const [x, y, , w] = [0, 1, 2, 3].map(r => [0, 1, 2, 3].reduce((sum, c) => sum + m[4 * c + r] * p[c], 0));"
+            " return [Math.round((x / w + 1) * 240), Math.round((1 - y / w) * 160)]; })()"
+        )
 
     def test_the_first_view_holds_the_whole_town(self):
         for sizes in ((10, 300, 10), (400, 3, 10), (3, 3, 3)):
@@ -111,7 +125,11 @@ class InBrowser(unittest.TestCase):
         self.assertIn("2,683,000", self.run_("box_of('sums').textContent"))
 
     def test_a_click_tells_what_it_is_and_a_drag_keeps_it(self):
-        self.show(Town(cubes((0, 0, 0, 10, 6, 8)) + ["g <roof>", "v 0 6 0", "v 10 6 0", "v 10 6 8", "v 0 6 8", "f 9 10 11 12"]))
+        self.show(
+            Town(
+                cubes((0, 0, 0, 10, 6, 8)) + ["g <roof>", "v 0 6 0", "v 10 6 0", "v 10 6 8", "v 0 6 8", "f 9 10 11 12"]
+            )
+        )
         self.browser.click(*self.place_of(5, 3, 8))
         told = self.run_("box_of('picked').textContent")
         self.assertEqual(told, "walllot a · size 10 × 6 × 8 · height 0 to 6")
@@ -131,8 +149,13 @@ class InBrowser(unittest.TestCase):
 
     def test_keys_look_from_the_sides_and_from_above(self):
         self.show(Town(cubes((0, 0, 0, 10, 6, 8))))
-        for key, corners in (("1", ((0, 0, 8), (10, 0, 8))), ("2", ((10, 0, 8), (10, 0, 0))), ("3", ((10, 0, 0), (0, 0, 0))),
-                             ("4", ((0, 0, 0), (0, 0, 8))), ("5", ((0, 6, 8), (10, 6, 8)))):
+        for key, corners in (
+            ("1", ((0, 0, 8), (10, 0, 8))),
+            ("2", ((10, 0, 8), (10, 0, 0))),
+            ("3", ((10, 0, 0), (0, 0, 0))),
+            ("4", ((0, 0, 0), (0, 0, 8))),
+            ("5", ((0, 6, 8), (10, 6, 8))),
+        ):
             self.browser.key(key)
             (left, low), (right, other_low) = (self.place_of(*corner) for corner in corners)
             self.assertLess(left, 240, key)
@@ -173,7 +196,9 @@ class InBrowser(unittest.TestCase):
         for key in "eegg":
             self.browser.key(key)
             seen.append(self.all_pixels())
-            self.assertEqual(len(re.findall(r"grid [\d.]+", self.run_("box_of('sums').textContent"))), 0 if len(seen) == 4 else 1)
+            self.assertEqual(
+                len(re.findall(r"grid [\d.]+", self.run_("box_of('sums').textContent"))), 0 if len(seen) == 4 else 1
+            )
         self.assertTrue(seen[0] == seen[2] == seen[4] and len({seen[0], seen[1], seen[3]}) == 3)
 
     def test_a_cell_of_the_grid_is_as_long_as_is_told(self):
@@ -187,13 +212,17 @@ class InBrowser(unittest.TestCase):
 
     def test_the_picture_is_saved(self):
         self.show(Town(cubes((0, 0, 0, 10, 6, 8))), "region/town")
-        self.run_("(() => { window.saved = []; const was = URL.createObjectURL; HTMLAnchorElement.prototype.click = function () { saved.push(this.download); };"
-                  " URL.createObjectURL = blob => { saved.push(blob); return was(blob); }; })()")
+        self.run_(
+            "(() => { window.saved = []; const was = URL.createObjectURL; HTMLAnchorElement.prototype.click = function () { saved.push(this.download); };"
+            " URL.createObjectURL = blob => { saved.push(blob); return was(blob); }; })()"
+        )
         self.browser.key("s")
         self.browser.wait("saved.length === 2")
-        name, size, colours = self.run_("createImageBitmap(saved[0]).then(image => { const plain = document.createElement('canvas').getContext('2d');"
-                                        " plain.drawImage(image, 0, 0); const {data} = plain.getImageData(0, 0, 300, 150);"
-                                        " return [saved[1], [image.width, image.height], new Set(new Uint32Array(data.buffer)).size]; })")
+        name, size, colours = self.run_(
+            "createImageBitmap(saved[0]).then(image => { const plain = document.createElement('canvas').getContext('2d');"
+            " plain.drawImage(image, 0, 0); const {data} = plain.getImageData(0, 0, 300, 150);"
+            " return [saved[1], [image.width, image.height], new Set(new Uint32Array(data.buffer)).size]; })"
+        )
         self.assertEqual((name, size), ("town.png", [480, 320]))
         self.assertGreater(colours, 9)
 
@@ -201,25 +230,37 @@ class InBrowser(unittest.TestCase):
         self.file.write_text(page(), encoding="utf-8")
         self.browser.open(f"file://{self.file}")
         self.browser.settled()
-        self.assertEqual(self.run_("[...(() => { const seen = new Uint8Array(4); gl.readPixels(9, 9, 1, 1, gl.RGBA, gl.UNSIGNED_BYTE, seen); return seen; })()]"),
-                         [196, 212, 227, 255])
+        self.assertEqual(
+            self.run_(
+                "[...(() => { const seen = new Uint8Array(4); gl.readPixels(9, 9, 1, 1, gl.RGBA, gl.UNSIGNED_BYTE, seen); return seen; })()]"
+            ),
+            [196, 212, 227, 255],
+        )
 
     def test_the_solids_of_the_program_are_drawn_as_it_prints_them(self):
         """The corners of each solid are those of an example that printed it, by its unit mesh."""
         self.show(Town(cubes((0, 0, 0, 1, 1, 1))))
-        for solid, (w, h, d), corners in (("hip", (6, 2, 4), [(2, 2, 2), (4, 2, 2)]), ("hip", (4, 2, 6), [(2, 2, 2), (2, 2, 4)]),
-                                          ("gable", (6, 2, 4), [(0, 2, 2), (6, 2, 2)]), ("gable", (4, 2, 6), [(2, 2, 0), (2, 2, 6)]),
-                                          ("shed", (6, 2, 4), [(6, 2, 4), (0, 2, 4)])):
+        for solid, (w, h, d), corners in (
+            ("hip", (6, 2, 4), [(2, 2, 2), (4, 2, 2)]),
+            ("hip", (4, 2, 6), [(2, 2, 2), (2, 2, 4)]),
+            ("gable", (6, 2, 4), [(0, 2, 2), (6, 2, 2)]),
+            ("gable", (4, 2, 6), [(2, 2, 0), (2, 2, 6)]),
+            ("shed", (6, 2, 4), [(6, 2, 4), (0, 2, 4)]),
+        ):
             with self.subTest((solid, w, h, d)):
-                told = self.run_(f"(() => {{ const mesh = SOLIDS[mesh_of('{solid}', {w}, {d})], data = [0, 0, 0, {w}, 0, 0, 0, {h}, 0, 0, 0, {d}];"
-                                 " return mesh.corners.slice(4).map(corner => spot(corner, data, 0)); })()")
+                told = self.run_(
+                    f"(() => {{ const mesh = SOLIDS[mesh_of('{solid}', {w}, {d})], data = [0, 0, 0, {w}, 0, 0, 0, {h}, 0, 0, 0, {d}];"
+                    " return mesh.corners.slice(4).map(corner => spot(corner, data, 0)); })()"
+                )
                 self.assertEqual([tuple(round(part, 6) for part in corner) for corner in told], corners)
 
     def test_a_quad_stands_where_its_axes_lead(self):
         """The right face of a box of 10 by 3 by 8: by the table of components its X leads along -Z, and its Z along X."""
         self.show(Town(cubes((0, 0, 0, 1, 1, 1))))
-        told = self.run_("(() => { const one = parsed('a wall quad 10 0 8 -Z+Y+X 8 3 0'), data = [...one.corner, ...columns(one)];"
-                         " return SOLIDS.quad.corners.map(corner => spot(corner, data, 0).map(part => part + 0)); })()")
+        told = self.run_(
+            "(() => { const one = parsed('a wall quad 10 0 8 -Z+Y+X 8 3 0'), data = [...one.corner, ...columns(one)];"
+            " return SOLIDS.quad.corners.map(corner => spot(corner, data, 0).map(part => part + 0)); })()"
+        )
         self.assertEqual(told, [[10, 0, 8], [10, 0, 0], [10, 3, 0], [10, 3, 8]])
 
     def test_what_comes_lights_up_and_what_goes_is_gone(self):
@@ -227,8 +268,10 @@ class InBrowser(unittest.TestCase):
         self.browser.key("1")
         place = self.place_of(5, 3, 8)
         before = self.pixel(*place)
-        self.run_("(() => { const line = [...town.held.keys()][0], now = performance.now(); performance.now = () => now; head.save = 1;"
-                  " take({from: 'x'}, ['- ' + line, '+ ' + line.replace('wall', 'roof')]); })()")
+        self.run_(
+            "(() => { const line = [...town.held.keys()][0], now = performance.now(); performance.now = () => now; head.save = 1;"
+            " take({from: 'x'}, ['- ' + line, '+ ' + line.replace('wall', 'roof')]); })()"
+        )
         lit = self.pixel(*place)
         self.run_("(() => { const later = performance.now() + 1500; performance.now = () => later; })()")
         after = self.pixel(*place)

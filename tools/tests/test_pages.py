@@ -84,7 +84,14 @@ class Definitions(unittest.TestCase):
         self.lines = FILE.split("\n")
 
     def test_record_with_its_fields(self):
-        found = ["-- a town", "pub record Town : Type 0 where", "  -- its lots", "  pub lots : List Lot", "", "  pub mode : Mode"]
+        found = [
+            "-- a town",
+            "pub record Town : Type 0 where",
+            "  -- its lots",
+            "  pub lots : List Lot",
+            "",
+            "  pub mode : Mode",
+        ]
         self.assertEqual(specs.definition(self.lines, "Town"), found)
 
     def test_function_with_its_equations(self):
@@ -111,23 +118,46 @@ class Definitions(unittest.TestCase):
 class Functions(unittest.TestCase):
     def test_contracts(self):
         text = functions.without_comments(CODE)
-        found = [(match.group(2), functions.has_contract(text, match.end()))
-                 for match in functions.re.finditer(r"(\b)fn (\w+)", text)]
-        self.assertEqual(found, [("plain", False), ("bound", True), ("root", False), ("child", True), ("own", False), ("a_test", False),
-                                 ("last", False)])
+        found = [
+            (match.group(2), functions.has_contract(text, match.end()))
+            for match in functions.re.finditer(r"(\b)fn (\w+)", text)
+        ]
+        self.assertEqual(
+            found,
+            [
+                ("plain", False),
+                ("bound", True),
+                ("root", False),
+                ("child", True),
+                ("own", False),
+                ("a_test", False),
+                ("last", False),
+            ],
+        )
 
     def test_tests_and_traits(self):
         path = TOP / "crates" / "cga_sample" / "src" / "sample.rt"
         with unittest.mock.patch.object(Path, "read_text", lambda *_, **__: CODE):
             found = [(function.name, function.of_trait) for function in functions.functions_of(path)]
-        self.assertEqual(found, [("plain", ""), ("bound", ""), ("root", "Tree for Forest"), ("child", "Tree for Forest"), ("own", ""),
-                                 ("last", "")])
+        self.assertEqual(
+            found,
+            [
+                ("plain", ""),
+                ("bound", ""),
+                ("root", "Tree for Forest"),
+                ("child", "Tree for Forest"),
+                ("own", ""),
+                ("last", ""),
+            ],
+        )
 
 
 class Trusted(unittest.TestCase):
     def test_words(self):
-        self.assertEqual(trusted.words_of(LOG), {"logic": "proved", "target": "x86", "sum": "1a2b", "native": "nat",
-                                                 "logic-built": "trusted"})
+        self.assertEqual(
+            trusted.words_of(LOG),
+            {"logic": "proved", "target": "x86", "sum": "1a2b", "native": "nat", "logic-built": "trusted"},
+        )
 
     def test_the_last_verdict_counts(self):
         other = LOG.replace("native=nat", "native=none").replace("read reached", "other reached")

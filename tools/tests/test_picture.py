@@ -7,9 +7,9 @@ from unittest.mock import patch
 
 sys.path.insert(0, str(Path(__file__).resolve().parent.parent))
 
-from lib.colours import colour_of  # noqa: E402
-from lib.obj import Town  # noqa: E402
-from lib.render import render, tone  # noqa: E402
+from cga_city_lib.colours import colour_of  # noqa: E402
+from cga_city_lib.obj import Town  # noqa: E402
+from cga_city_lib.render import render, tone  # noqa: E402
 
 
 def wall(turn, size=20):
@@ -21,7 +21,7 @@ def wall(turn, size=20):
 
 
 def pixels(rows):
-    return {bytes(row[at:at + 3]) for row in rows for at in range(0, len(row), 3)}
+    return {bytes(row[at : at + 3]) for row in rows for at in range(0, len(row), 3)}
 
 
 class Shadows(unittest.TestCase):
@@ -30,7 +30,7 @@ class Shadows(unittest.TestCase):
         for turn in (37, 44, 60):
             with self.subTest(turn):
                 town, normal = wall(turn)
-                with patch("lib.render.SHADOWS", 200):
+                with patch("cga_city_lib.render.SHADOWS", 200):
                     seen = pixels(render(town, "street", 60, 40))
                 lit, unlit = (tone(colour_of("wall"), normal, is_lit) for is_lit in (True, False))
                 self.assertIn(lit, seen)

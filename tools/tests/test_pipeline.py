@@ -29,14 +29,16 @@ class Pipeline(unittest.TestCase):
         self.assertEqual((status, made), (0, ["town.cga", "town.glb", "town.html", "town.obj"]))
         data = (self.folder / "town.glb").read_bytes()
         self.assertEqual(struct.unpack("<4sII", data[:12]), (b"glTF", 2, len(data)))
-        told = json.loads(data[20:20 + struct.unpack("<I", data[12:16])[0]])
+        told = json.loads(data[20 : 20 + struct.unpack("<I", data[12:16])[0]])
         self.assertEqual([node["name"] for node in told["nodes"]], ["a", "b", "town"])
         self.assertEqual([material["name"] for material in told["materials"]], ["wall", "roof"])
         self.assertEqual([accessor["count"] for accessor in told["accessors"]], [36, 24, 24, 24] * 2)
 
     def test_places_and_a_merged_town(self):
         status, _, made = self.make("lot a 1 0 0 1 1 wall\nprint\n", "town.csv", "town.merged.obj")
-        self.assertEqual((status, made), (0, ["town.cga", "town.csv", "town.merged.mtl", "town.merged.obj", "town.obj"]))
+        self.assertEqual(
+            (status, made), (0, ["town.cga", "town.csv", "town.merged.mtl", "town.merged.obj", "town.obj"])
+        )
 
     def test_a_refused_line_stops_it(self):
         status, said, made = self.make("lot a 1 0 0 0 1 wall\nprint\n")

@@ -7,13 +7,13 @@ from pathlib import Path
 
 sys.path.insert(0, str(Path(__file__).resolve().parent.parent))
 
-from lib.geojson import Feature  # noqa: E402
-from lib.lot_names import lot_names  # noqa: E402
-from lib.mercator import metres  # noqa: E402
-from lib.numerals import numeral  # noqa: E402
-from lib.parcels import clusters, shared_angles  # noqa: E402
-from lib.rectangle import area, corners, distance, least_angle, sides, turned  # noqa: E402
-from lib.streets import Streets  # noqa: E402
+from cga_city_lib.geojson import Feature  # noqa: E402
+from cga_city_lib.lot_names import lot_names  # noqa: E402
+from cga_city_lib.mercator import metres  # noqa: E402
+from cga_city_lib.numerals import numeral  # noqa: E402
+from cga_city_lib.parcels import clusters, shared_angles  # noqa: E402
+from cga_city_lib.rectangle import area, corners, distance, least_angle, sides, turned  # noqa: E402
+from cga_city_lib.streets import Streets  # noqa: E402
 
 
 class Plane(unittest.TestCase):
@@ -44,17 +44,45 @@ class Plane(unittest.TestCase):
         self.assertEqual(shared_angles([89.97, 0.03, 45], 0.1), [0, 0, 45])
 
     def test_near_streets_are_those_of_all_that_can_be_the_nearest(self):
-        streets = Streets([Feature(1, [[(0.0, 0.0), (0.0, 3000.0)], [(40.0, -20.0), (40.0, -90.0)], [(9000.0, 0.0), (9000.0, 9.0)]], {})])
-        for point, half, known in (((10.0, 5.0), 8, 1), ((30.0, -30.0), 20, 2), ((8990.0, 5.0), 5, 1), ((500.0, 1500.0), 5, 1), ((4500.0, 1500.0), 5, 1), ((4500.0, 1500.0), 150, 3)):
+        streets = Streets(
+            [
+                Feature(
+                    1, [[(0.0, 0.0), (0.0, 3000.0)], [(40.0, -20.0), (40.0, -90.0)], [(9000.0, 0.0), (9000.0, 9.0)]], {}
+                )
+            ]
+        )
+        for point, half, known in (
+            ((10.0, 5.0), 8, 1),
+            ((30.0, -30.0), 20, 2),
+            ((8990.0, 5.0), 5, 1),
+            ((500.0, 1500.0), 5, 1),
+            ((4500.0, 1500.0), 5, 1),
+            ((4500.0, 1500.0), 150, 3),
+        ):
             self.assertEqual(len(streets.near(point, half)), known, point)
 
     def test_names(self):
-        self.assertEqual(lot_names(["a b", "a_b", "a_b", "12/4", "Zürich", "T", "日本", "x" * 40, "x" * 40]),
-                         ["a_b_2", "a_b", "a_b_3", "p12_4", "Zurich", "T_", "parcel", "x" * 31, "x" * 30 + "_2"])
+        self.assertEqual(
+            lot_names(["a b", "a_b", "a_b", "12/4", "Zürich", "T", "日本", "x" * 40, "x" * 40]),
+            ["a_b_2", "a_b", "a_b_3", "p12_4", "Zurich", "T_", "parcel", "x" * 31, "x" * 30 + "_2"],
+        )
 
     def test_numerals_are_exact_or_none(self):
-        for given, known in (("7", "7"), (".5", "0.5"), ("1e3", "1000"), ("-0", "0"), (Decimal("1.2300"), "1.23"), ("5/2", "5/2"), (10 ** 17, "1" + 17 * "0"),
-                             (10 ** 18, None), ("1.0000000000000000000000000000000001", None), ("5/0", None), ("NaN", None), ("1_0", None), (True, None)):
+        for given, known in (
+            ("7", "7"),
+            (".5", "0.5"),
+            ("1e3", "1000"),
+            ("-0", "0"),
+            (Decimal("1.2300"), "1.23"),
+            ("5/2", "5/2"),
+            (10**17, "1" + 17 * "0"),
+            (10**18, None),
+            ("1.0000000000000000000000000000000001", None),
+            ("5/0", None),
+            ("NaN", None),
+            ("1_0", None),
+            (True, None),
+        ):
             self.assertEqual(numeral(given), known, given)
 
 

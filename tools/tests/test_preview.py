@@ -19,7 +19,7 @@ TESTS = Path(__file__).resolve().parent
 sys.path.insert(0, str(TESTS))
 
 from in_process import begun, called  # noqa: E402
-from lib import watch  # noqa: E402
+from cga_city_lib import watch  # noqa: E402
 
 RULES = 'rules\nattr h = 3\nPRIORITY 1:\n1: house -> S(1r, h, 1r) I("cube")\n2: shed -> I("gable")\nend\n'
 PATIENCE = 120  # seconds for what takes none on a machine with nothing else to do
@@ -60,7 +60,9 @@ class Page:
         return came
 
     def set(self, values, origin=None):
-        return self.get("/set", body=json.dumps(values), origin=f"http://127.0.0.1:{self.port}" if origin is None else origin)[0]
+        return self.get(
+            "/set", body=json.dumps(values), origin=f"http://127.0.0.1:{self.port}" if origin is None else origin
+        )[0]
 
 
 class Preview(unittest.TestCase):
@@ -78,7 +80,9 @@ class Preview(unittest.TestCase):
         read, write = os.pipe()
         with open(read, encoding="utf-8") as told:
             with open(write, "w") as out:
-                self.preview = begun("preview", "--program", TESTS / self.program, "--port", "0", self.script, out=out, err=self.faults)
+                self.preview = begun(
+                    "preview", "--program", TESTS / self.program, "--port", "0", self.script, out=out, err=self.faults
+                )
             self.addCleanup(self.end)
             self.page = Page(int(re.match(r"http://127\.0\.0\.1:(\d+)/ ", told.readline()).group(1)))
         self.page.until(1)
@@ -105,8 +109,13 @@ class Preview(unittest.TestCase):
 class Live(Preview):
     def test_a_save_sends_what_changed_and_no_more(self):
         self.begin(RULES + A + B)
-        self.assertEqual(sorted(self.page.drawn), ["a house cube 0 0 0 +X+Y+Z 10 3 8", "b house cube 20 0 0 +X+Y+Z 10 3 8"])
-        self.assertEqual(self.then(RULES + A + B.replace("20", "30")), ["+ b house cube 30 0 0 +X+Y+Z 10 3 8", "- b house cube 20 0 0 +X+Y+Z 10 3 8"])
+        self.assertEqual(
+            sorted(self.page.drawn), ["a house cube 0 0 0 +X+Y+Z 10 3 8", "b house cube 20 0 0 +X+Y+Z 10 3 8"]
+        )
+        self.assertEqual(
+            self.then(RULES + A + B.replace("20", "30")),
+            ["+ b house cube 30 0 0 +X+Y+Z 10 3 8", "- b house cube 20 0 0 +X+Y+Z 10 3 8"],
+        )
         self.assertEqual(self.page.head["stats"]["worked"], 3)
         self.assertEqual(self.then(RULES + A), ["- b house cube 30 0 0 +X+Y+Z 10 3 8"])
 
@@ -132,7 +141,14 @@ class Live(Preview):
         while not self.page.last:
             self.page.follow()
         self.assertEqual(self.page.last, ["- a house cube 0 0 0 +X+Y+Z 10 3 8", "+ a house cube 0 0 0 +X+Y+Z 10 4.5 8"])
-        self.assertEqual(self.then(RULES + A + B), ["+ a house cube 0 0 0 +X+Y+Z 10 3 8", "+ b house cube 20 0 0 +X+Y+Z 10 3 8", "- a house cube 0 0 0 +X+Y+Z 10 4.5 8"])
+        self.assertEqual(
+            self.then(RULES + A + B),
+            [
+                "+ a house cube 0 0 0 +X+Y+Z 10 3 8",
+                "+ b house cube 20 0 0 +X+Y+Z 10 3 8",
+                "- a house cube 0 0 0 +X+Y+Z 10 4.5 8",
+            ],
+        )
 
     def test_a_page_that_comes_later_gets_all(self):
         self.begin(RULES + A)
@@ -156,7 +172,9 @@ class Printed(Preview):
         self.assertEqual(list(self.page.drawn), ["a wall mesh0 0 0 0 +X+Y+Z 1 1 1"])
         came = self.then("lot a 1 0 0 1 1 wall\nlot b 1 3 0 1 1 wall\nlot c 1 0 0 0 1 wall\nlot flat 1 7 0 1 1 wall\n")
         self.assertEqual(came, ["+ b wall mesh0 3 0 0 +X+Y+Z 1 1 1", "+ flat wall mesh0 7 0 0 +X+Y+Z 1 1 1"])
-        self.assertRegex(self.page.head["said"], r"town.cga:3:5: BadLot: .*\n.*\n +\^\n.*: FlatScope: a shape of `wall`")
+        self.assertRegex(
+            self.page.head["said"], r"town.cga:3:5: BadLot: .*\n.*\n +\^\n.*: FlatScope: a shape of `wall`"
+        )
         self.script.unlink()
         self.then("# nothing\n")
         self.assertEqual(+self.page.drawn, Counter())
@@ -195,15 +213,23 @@ class Waits(unittest.TestCase):
 
 class Words(unittest.TestCase):
     def test_wrong_words_have_a_reason(self):
-        for words, reason in ((["--port", "70000", "x"], "`70000` isn't a whole number from 0 to 65,535"), ([], "required: script"), (["--what", "x"], "unrecognized arguments: --what")):
+        for words, reason in (
+            (["--port", "70000", "x"], "`70000` isn't a whole number from 0 to 65,535"),
+            ([], "required: script"),
+            (["--what", "x"], "unrecognized arguments: --what"),
+        ):
             status, _, said = called("preview", *words)
             self.assertEqual(status, 2)
             self.assertIn(reason, said)
 
     def test_colours_that_are_not_there_are_told_at_once(self):
         words = [TESTS.parent / "preview", "--program", TESTS / "live_stand_in", "--port", "0", "town.cga"]
-        done = subprocess.run(words, capture_output=True, text=True, timeout=PATIENCE, env={**os.environ, "CGA_COLOURS": "/nowhere.json"})
-        self.assertEqual((done.returncode, done.stdout, done.stderr), (1, "", "preview: /nowhere.json: No such file or directory\n"))
+        done = subprocess.run(
+            words, capture_output=True, text=True, timeout=PATIENCE, env={**os.environ, "CGA_COLOURS": "/nowhere.json"}
+        )
+        self.assertEqual(
+            (done.returncode, done.stdout, done.stderr), (1, "", "preview: /nowhere.json: No such file or directory\n")
+        )
 
 
 del Preview

@@ -53,13 +53,18 @@ class PreviewPage(unittest.TestCase):
         self.assertEqual(run("[canvas.className, town.held.size, JSON.stringify(view)]"), ["stale", 1, seen])
         self.assertIn("town.cga:3:13: Unexpected", run("box_of('said').textContent"))
         self.save(SCRIPT)
-        self.assertEqual(run("[canvas.className, town.held.size, JSON.stringify(view), box_of('said').textContent]"), ["", 1, seen, ""])
+        self.assertEqual(
+            run("[canvas.className, town.held.size, JSON.stringify(view), box_of('said').textContent]"),
+            ["", 1, seen, ""],
+        )
         # a slider changes the town, and another save sets it back
         run("(() => { const slider = box_of('slider_h'); slider.value = 5; slider.oninput(); })()")
         self.browser.wait("town.held.has('a house cube 0 0 0 +X+Y+Z 10 5 8')")
         self.save(SCRIPT + "lot b 1 20 0 10 8 house\n")
-        self.assertEqual(run("[[...town.held.keys()].sort(), box_of('slider_h').value, JSON.stringify(view)]"),
-                         [["a house cube 0 0 0 +X+Y+Z 10 3 8", "b house cube 20 0 0 +X+Y+Z 10 3 8"], "3", seen])
+        self.assertEqual(
+            run("[[...town.held.keys()].sort(), box_of('slider_h').value, JSON.stringify(view)]"),
+            [["a house cube 0 0 0 +X+Y+Z 10 3 8", "b house cube 20 0 0 +X+Y+Z 10 3 8"], "3", seen],
+        )
         self.assertIn("2 lots, 2 solids", run("box_of('sums').textContent"))
 
 

@@ -27,7 +27,7 @@ class Written(unittest.TestCase):
         return list(csv.DictReader(out.split("\n")))
 
     def row(self, *words):
-        row, = self.rows(*words)
+        (row,) = self.rows(*words)
         return row
 
     def refused(self, told, *words):
@@ -40,8 +40,13 @@ class Written(unittest.TestCase):
 class Tables(Written):
     def test_each_solid_in_a_scope_of_12_by_6_by_9(self):
         # plan, side, front and volume by hand
-        for kind, known in (("cube", ("108", "252", "72", "648")), ("shed", ("108", "126", "72", "324")), ("gable", ("108", "54", "72", "324")),
-                            ("hip", ("108", "0", "72", "216")), ("quad", ("0", "72", "72", "0"))):
+        for kind, known in (
+            ("cube", ("108", "252", "72", "648")),
+            ("shed", ("108", "126", "72", "324")),
+            ("gable", ("108", "54", "72", "324")),
+            ("hip", ("108", "0", "72", "216")),
+            ("quad", ("0", "72", "72", "0")),
+        ):
             with self.subTest(kind):
                 self.write(Drawn().lot("a").solid("x", kind, (-3, 2, 5), (12, 6, 9)))
                 row = self.row()
@@ -49,22 +54,46 @@ class Tables(Written):
                 self.assertEqual((row["solids"], row["top"]), ("1", "8"))
 
     def test_rows_by_lot_by_symbol_and_by_both(self):
-        self.write(Drawn().lot("a").solid("wall", "quad", (0, 0, 0), (4, 3, 0)).solid("roof", "shed", (0, 3, 0), (4, 1, 5)).lot("b").solid("wall", "quad", (9, 0, 0), (2, 3, 0)))
-        self.assertEqual([(row["lot"], row["solids"], row["side"], row["top"]) for row in self.rows()], [("a", "2", str(12 + 4 + 5), "4"), ("b", "1", "6", "3")])
-        self.assertEqual([(row["symbol"], row["front"], row["volume"]) for row in self.rows("--by", "symbol")], [("wall", "18", "0"), ("roof", "4", "10")])
-        self.assertEqual([(row["lot"], row["symbol"], row["front"]) for row in self.rows("--by", "both")], [("a", "wall", "12"), ("a", "roof", "4"), ("b", "wall", "6")])
+        self.write(
+            Drawn()
+            .lot("a")
+            .solid("wall", "quad", (0, 0, 0), (4, 3, 0))
+            .solid("roof", "shed", (0, 3, 0), (4, 1, 5))
+            .lot("b")
+            .solid("wall", "quad", (9, 0, 0), (2, 3, 0))
+        )
+        self.assertEqual(
+            [(row["lot"], row["solids"], row["side"], row["top"]) for row in self.rows()],
+            [("a", "2", str(12 + 4 + 5), "4"), ("b", "1", "6", "3")],
+        )
+        self.assertEqual(
+            [(row["symbol"], row["front"], row["volume"]) for row in self.rows("--by", "symbol")],
+            [("wall", "18", "0"), ("roof", "4", "10")],
+        )
+        self.assertEqual(
+            [(row["lot"], row["symbol"], row["front"]) for row in self.rows("--by", "both")],
+            [("a", "wall", "12"), ("a", "roof", "4"), ("b", "wall", "6")],
+        )
 
     def test_sums_are_exact(self):
         # beside 10^14 the squares of ten thousandths are nothing to floats, which would come to 100000000000000
-        drawn = Drawn().lot("a").solid("field", "cube", (0, 0, 0), (10 ** 7, 1, 10 ** 7))
+        drawn = Drawn().lot("a").solid("field", "cube", (0, 0, 0), (10**7, 1, 10**7))
         for number in range(10):
             drawn.solid("tile", "cube", (number, 0, -1), (Fraction(1, 1000), 1, Fraction(1, 1000)))
         self.write(drawn)
-        self.assertEqual((self.row("--decimals", "12")["plan"], self.row("--decimals", "0")["plan"]), ("100000000000000.00001", "100000000000000"))
+        self.assertEqual(
+            (self.row("--decimals", "12")["plan"], self.row("--decimals", "0")["plan"]),
+            ("100000000000000.00001", "100000000000000"),
+        )
 
     def test_gross_floor_area(self):
-        self.write(Drawn().lot("a").solid("slab", "cube", (0, 0, 0), (10, Fraction(1, 5), 8)).solid("slab", "cube", (0, 3, 0), (10, Fraction(1, 5), 8))
-                   .solid("mass", "cube", (20, 0, 0), (5, 10, 4)))
+        self.write(
+            Drawn()
+            .lot("a")
+            .solid("slab", "cube", (0, 0, 0), (10, Fraction(1, 5), 8))
+            .solid("slab", "cube", (0, 3, 0), (10, Fraction(1, 5), 8))
+            .solid("mass", "cube", (20, 0, 0), (5, 10, 4))
+        )
         self.assertEqual(self.row("--floor", "slab")["floors"], "160")
         self.assertEqual(self.row("--floor", "mass=3")["floors"], "60")
         self.assertEqual(self.row("--floor", "slab", "--floor", "mass=2.5")["floors"], "240")
@@ -75,19 +104,45 @@ class Tables(Written):
         self.assertEqual(self.row("--floor", "mass=4.666667")["floors"], "40")
 
     def test_limits_and_areas(self):
-        self.write(Drawn().lot("a").solid("mass", "cube", (0, 0, 0), (5, 10, 4)).lot("b").solid("mass", "cube", (9, 0, 0), (5, 12, 4)))
-        self.assertEqual([(row["limit"], row["above"]) for row in self.rows("--limit", "10.5")], [("10.5", "0"), ("10.5", "1.5")])
+        self.write(
+            Drawn()
+            .lot("a")
+            .solid("mass", "cube", (0, 0, 0), (5, 10, 4))
+            .lot("b")
+            .solid("mass", "cube", (9, 0, 0), (5, 12, 4))
+        )
+        self.assertEqual(
+            [(row["limit"], row["above"]) for row in self.rows("--limit", "10.5")], [("10.5", "0"), ("10.5", "1.5")]
+        )
         parcels = self.top / "list.csv"
         parcels.write_text("lot,area,limit\na,40,9\nb,30,\n")
-        self.assertEqual([(row["limit"], row["above"], row["area"], row["ratio"]) for row in self.rows("--parcels", parcels, "--floor", "mass=3", "--decimals", "3")],
-                         [("9", "1", "40", "1.5"), ("", "", "30", "2.667")])
-        for text, told in (("", "has no `lot`"), ("lot,area\na,x\n", "line 2: its `area`, x, isn't"), ('lot\n"a', "isn't a table")):
+        self.assertEqual(
+            [
+                (row["limit"], row["above"], row["area"], row["ratio"])
+                for row in self.rows("--parcels", parcels, "--floor", "mass=3", "--decimals", "3")
+            ],
+            [("9", "1", "40", "1.5"), ("", "", "30", "2.667")],
+        )
+        for text, told in (
+            ("", "has no `lot`"),
+            ("lot,area\na,x\n", "line 2: its `area`, x, isn't"),
+            ('lot\n"a', "isn't a table"),
+        ):
             parcels.write_text(text)
             self.refused(told, "--parcels", parcels)
 
     def test_names_are_only_data(self):
-        self.write(Drawn().lot('=HYPERLINK("x")').solid("+1", "quad", (0, 0, 0), (1, 1, 0)).lot("a,b").solid("c", "quad", (0, 0, 0), (1, 1, 0)))
-        self.assertEqual([(row["lot"], row["symbol"]) for row in self.rows("--by", "both")], [("'=HYPERLINK(\"x\")", "'+1"), ("a,b", "c")])
+        self.write(
+            Drawn()
+            .lot('=HYPERLINK("x")')
+            .solid("+1", "quad", (0, 0, 0), (1, 1, 0))
+            .lot("a,b")
+            .solid("c", "quad", (0, 0, 0), (1, 1, 0))
+        )
+        self.assertEqual(
+            [(row["lot"], row["symbol"]) for row in self.rows("--by", "both")],
+            [('\'=HYPERLINK("x")', "'+1"), ("a,b", "c")],
+        )
 
     def test_a_mesh_has_no_front(self):
         self.town.write_text("o a\ng m\nv 0 0 0\nv 4 0 0\nv 0 0 3\nv 0 5 0\nf 1 2 3\nf 1 4 2\nf 1 3 4\nf 2 4 3\n")
@@ -98,16 +153,29 @@ class Tables(Written):
     def test_a_turned_town(self):
         # a cube of 10 by 3 by 8 that is turned by 3, 4, 5: its sides lie along (0.8, 0.6) and (-0.6, 0.8)
         text = Drawn().lot("a").solid("x", "cube", (0, 0, 0), (10, 3, 8)).lines
-        turned = [line if line[0] != "v" else (lambda x, y, z: f"v {0.8 * x - 0.6 * z:.6f} {y} {0.6 * x + 0.8 * z:.6f}")(*map(float, line.split()[1:])) for line in text]
+        turned = [
+            line
+            if line[0] != "v"
+            else (lambda x, y, z: f"v {0.8 * x - 0.6 * z:.6f} {y} {0.6 * x + 0.8 * z:.6f}")(
+                *map(float, line.split()[1:])
+            )
+            for line in text
+        ]
         self.town.write_text("\n".join(turned))
         row = self.row("--decimals", "4")
         self.assertEqual((row["plan"], row["side"], row["front"], row["volume"]), ("80", "108", "30", "240"))
 
     def test_what_is_no_town(self):
-        for text, told in (("", "nothing is drawn"), ("<html>", "nothing is drawn"), ("o a\ng b\nv 0 nan 0\nv 1 0 0\nv 0 1 0\nf 1 2 3\n", "vertex 1 hasn't three coordinates"),
-                           ("o a\ng b\nv 0 1e300 0\nv 1 0 0\nv 0 1 0\nf 1 2 3\n", "vertex 1"), ("o a\ng b\nv 0 0\nv 1 0 0\nv 0 1 0\nf 1 2 3\n", "vertex 1"),
-                           ("o a\ng b\nv 0.1234567890123456789012 0 0\nv 1 0 0\nv 0 1 0\nf 1 2 3\n", "22 decimals"), ("o a\ng b\nv 0 0 0\nf 1 2 3\n", "vertex 2"),
-                           ("# bill 1\n# bill a x 1 1 0\no a\ng b\nv 0 0 0\nv 1 0 0\nv 0 1 0\nf 1 2 3\n", "isn't a line of a bill")):
+        for text, told in (
+            ("", "nothing is drawn"),
+            ("<html>", "nothing is drawn"),
+            ("o a\ng b\nv 0 nan 0\nv 1 0 0\nv 0 1 0\nf 1 2 3\n", "vertex 1 hasn't three coordinates"),
+            ("o a\ng b\nv 0 1e300 0\nv 1 0 0\nv 0 1 0\nf 1 2 3\n", "vertex 1"),
+            ("o a\ng b\nv 0 0\nv 1 0 0\nv 0 1 0\nf 1 2 3\n", "vertex 1"),
+            ("o a\ng b\nv 0.1234567890123456789012 0 0\nv 1 0 0\nv 0 1 0\nf 1 2 3\n", "22 decimals"),
+            ("o a\ng b\nv 0 0 0\nf 1 2 3\n", "vertex 2"),
+            ("# bill 1\n# bill a x 1 1 0\no a\ng b\nv 0 0 0\nv 1 0 0\nv 0 1 0\nf 1 2 3\n", "isn't a line of a bill"),
+        ):
             with self.subTest(told):
                 self.town.write_text(text)
                 self.refused(told)
@@ -116,7 +184,12 @@ class Tables(Written):
 
     def test_words(self):
         self.write(Drawn().lot("a").solid("x", "cube", (0, 0, 0), (1, 1, 1)))
-        for words, told in ((["--by", "street"], "invalid choice: 'street'"), (["--limit", "high"], "--limit"), (["--floor", "x=0"], "--floor"), (["--decimals", "13"], "from 0 to 12")):
+        for words, told in (
+            (["--by", "street"], "invalid choice: 'street'"),
+            (["--limit", "high"], "--limit"),
+            (["--floor", "x=0"], "--floor"),
+            (["--decimals", "13"], "from 0 to 12"),
+        ):
             status, out, said = called("table", self.town, *words)
             self.assertEqual((status, out), (2, ""))
             self.assertIn(told, said)
@@ -130,7 +203,7 @@ class Bills(Written):
         lines, found = (TOP / "rows" / f"{name}.out").read_text().split("\n"), []
         for at, line in enumerate(lines):
             if line.startswith("# bill ") and len(line.split()) == 3:
-                found.append(lines[at:at + 1 + int(line.split()[2])])
+                found.append(lines[at : at + 1 + int(line.split()[2])])
         return found[number]
 
     def assert_agrees(self, drawn, bill, off=Fraction(0)):
@@ -139,8 +212,10 @@ class Bills(Written):
         known = {line.split()[2]: line.split()[3:6] for line in bill[1:]}
         by_symbol = self.rows("--by", "symbol")
         self.assertEqual(self.said, "")
-        self.assertEqual({row["symbol"]: [Fraction(row[word]) for word in ("solids", "front", "box")] for row in by_symbol},
-                         {symbol: list(map(Fraction, numbers)) for symbol, numbers in known.items()})
+        self.assertEqual(
+            {row["symbol"]: [Fraction(row[word]) for word in ("solids", "front", "box")] for row in by_symbol},
+            {symbol: list(map(Fraction, numbers)) for symbol, numbers in known.items()},
+        )
         sums = {}
         for row in self.rows("--by", "both"):
             number, front = sums.get(row["symbol"], (0, 0))
@@ -159,20 +234,36 @@ class Bills(Written):
                 thirds.solid(symbol, kind, (Fraction(number, 3), 0, z), (Fraction(1, 3), height, 1))
         self.assert_agrees(thirds, self.bill("bills_of_thirds"))
         # rows/bills_of_windows.cga: two windows of 2 by 6, half deep, on fronts at z = 8 and at z = 14
-        self.assert_agrees(Drawn().lot("a").solid("window", "cube", (4, 0, 8), (2, 6, Fraction(1, 2))).lot("b").solid("window", "cube", (9, 0, 14), (2, 6, Fraction(1, 2))),
-                           self.bill("bills_of_windows"))
+        self.assert_agrees(
+            Drawn()
+            .lot("a")
+            .solid("window", "cube", (4, 0, 8), (2, 6, Fraction(1, 2)))
+            .lot("b")
+            .solid("window", "cube", (9, 0, 14), (2, 6, Fraction(1, 2))),
+            self.bill("bills_of_windows"),
+        )
 
     def test_an_example_with_its_bill(self):
         # examples/assets.cga draws its model before it asks for bills; the last one is of the same town
         self.town.write_text((TOP / "examples" / "assets.out").read_text())
-        self.assertEqual([(row["symbol"], row["solids"], row["front"], row["box"]) for row in self.rows("--by", "symbol")],
-                         [("house", "3", "150", "1332"), ("window", "18", "30.24", "6.048"), ("roof", "3", "50", "444")])
+        self.assertEqual(
+            [(row["symbol"], row["solids"], row["front"], row["box"]) for row in self.rows("--by", "symbol")],
+            [("house", "3", "150", "1332"), ("window", "18", "30.24", "6.048"), ("roof", "3", "50", "444")],
+        )
 
     def test_a_bill_of_another_town_is_told_and_not_taken(self):
         bill = ["# bill 1", "# bill window 2 24.000000 6.000000 0"]
-        for drawn, told in ((Drawn().lot("a").solid("window", "cube", (4, 0, 8), (2, 6, 1)), "it has 2 `window`, and 1 are drawn"),
-                            (Drawn().lot("a").solid("window", "cube", (4, 0, 8), (2, 6, 1)).solid("window", "cube", (4, 9, 8), (3, 6, 1)), "the front of `window` is 24 there, and 30 as drawn"),
-                            (Drawn().lot("a").solid("door", "cube", (4, 0, 8), (2, 6, 1)), "it has 0 `door`, and 1 are drawn")):
+        for drawn, told in (
+            (Drawn().lot("a").solid("window", "cube", (4, 0, 8), (2, 6, 1)), "it has 2 `window`, and 1 are drawn"),
+            (
+                Drawn()
+                .lot("a")
+                .solid("window", "cube", (4, 0, 8), (2, 6, 1))
+                .solid("window", "cube", (4, 9, 8), (3, 6, 1)),
+                "the front of `window` is 24 there, and 30 as drawn",
+            ),
+            (Drawn().lot("a").solid("door", "cube", (4, 0, 8), (2, 6, 1)), "it has 0 `door`, and 1 are drawn"),
+        ):
             self.write(drawn, *bill)
             self.assertNotIn("box", self.rows("--by", "symbol")[0])
             self.assertIn(told, self.said)
@@ -181,7 +272,7 @@ class Bills(Written):
         # a third times 3.0000015 is 1.0000005, which the bill rounds up; the width as it is printed, 0.333333333, gives less
         drawn = Drawn(places=9).lot("a").solid("pane", "quad", (0, 0, 0), (Fraction(1, 3), Fraction("3.0000015"), 0))
         bill = ["# bill 1", "# bill pane 1 1.000001 0.000000 0"]
-        self.assert_agrees(drawn, bill, Fraction(1, 10 ** 6))
+        self.assert_agrees(drawn, bill, Fraction(1, 10**6))
         self.assertEqual(self.row("--by", "lot")["front"], "1")
         self.assertEqual(self.row("--by", "symbol")["front"], "1.000001")
 
@@ -190,12 +281,18 @@ class Bills(Written):
         for name in ("shops", "village", "tower", "office"):
             with self.subTest(name):
                 script = (TOP / "examples" / f"{name}.cga").read_text().replace("\nprint\n", "\nbill\nprint\n")
-                run = subprocess.run([TOP / "cga_city", "--decimals", "9"], input="version 2\n" + script, capture_output=True, text=True, check=True)
+                run = subprocess.run(
+                    [TOP / "cga_city", "--decimals", "9"],
+                    input="version 2\n" + script,
+                    capture_output=True,
+                    text=True,
+                    check=True,
+                )
                 bill = [line for line in run.stdout.split("\n") if line.startswith("# bill ")]
                 drawn = Drawn()
                 drawn.lines = run.stdout.split("\n")
                 self.assertGreater(len(bill), 3)
-                self.assert_agrees(drawn, bill, Fraction(1, 10 ** 6))
+                self.assert_agrees(drawn, bill, Fraction(1, 10**6))
 
 
 if __name__ == "__main__":

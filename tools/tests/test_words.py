@@ -8,7 +8,7 @@ from pathlib import Path
 TOP = Path(__file__).resolve().parent.parent.parent
 sys.path.insert(0, str(TOP / "tools"))
 
-from lib.script import BLOCK_WORDS, COMMANDS, COMMANDS_2, RESERVED  # noqa: E402
+from cga_city_lib.script import BLOCK_WORDS, COMMANDS, COMMANDS_2, RESERVED  # noqa: E402
 
 PARTS = {"sx", "sy", "sz", "occ"}
 
@@ -25,9 +25,13 @@ def in_crate(path):
 def groups_of_vim():
     """The words of each group of the syntax file."""
     found = {}
-    for kind, group, rest in re.findall(r"^syn (keyword|match) (\w+) (.*)$", text("editor/vim/syntax/cga_city.vim"), re.MULTILINE):
+    for kind, group, rest in re.findall(
+        r"^syn (keyword|match) (\w+) (.*)$", text("editor/vim/syntax/cga_city.vim"), re.MULTILINE
+    ):
         listed = re.search(r"\\\(([A-Za-z\\|+]+)\\\)", rest)
-        words = rest.split() if kind == "keyword" else listed.group(1).replace("\\s\\+", " ").split("\\|") if listed else []
+        words = (
+            rest.split() if kind == "keyword" else listed.group(1).replace("\\s\\+", " ").split("\\|") if listed else []
+        )
         found.setdefault(group, set()).update(words)
     return found
 
@@ -37,7 +41,11 @@ def groups_of_code():
     found = {}
     for pattern in json.loads(text("editor/vscode/syntaxes/cga_city.tmLanguage.json"))["patterns"]:
         lists = re.findall(r"\(([A-Za-z|]+)\)", pattern["match"])
-        names = [pattern["name"]] if "name" in pattern else [name["name"] for _, name in sorted(pattern["captures"].items())]
+        names = (
+            [pattern["name"]]
+            if "name" in pattern
+            else [name["name"] for _, name in sorted(pattern["captures"].items())]
+        )
         for name, words in zip(names, lists):
             found.setdefault(name.split(".cga_city")[0], set()).update(words.split("|"))
     return found
@@ -58,7 +66,11 @@ class Words(unittest.TestCase):
 
     def test_commands_that_have_a_row(self):
         """Each row of a table of commands tells of commands."""
-        rows = re.findall(r"^\| (`[a-z].*?`) \|", text("docs/LANGUAGE.md").partition("## Commands")[2].partition("\n## ")[0], re.MULTILINE)
+        rows = re.findall(
+            r"^\| (`[a-z].*?`) \|",
+            text("docs/LANGUAGE.md").partition("## Commands")[2].partition("\n## ")[0],
+            re.MULTILINE,
+        )
         heads = {head for row in rows for head in re.findall(r"`([a-z]+)", row)}
         self.assertEqual(heads - set(COMMANDS + COMMANDS_2), {"end"})
 
@@ -72,7 +84,9 @@ class Words(unittest.TestCase):
 
     def test_vscode(self):
         groups = groups_of_code()
-        reserved = groups["support.function.item"] | groups["constant.language.nothing"] | groups["keyword.operator.word"]
+        reserved = (
+            groups["support.function.item"] | groups["constant.language.nothing"] | groups["keyword.operator.word"]
+        )
         self.assertEqual(reserved, set(RESERVED))
         self.assertEqual(groups["keyword.control.command"], set(COMMANDS + COMMANDS_2))
         self.assertEqual(groups["keyword.control.block"], set(BLOCK_WORDS))

@@ -23,23 +23,32 @@ def read_glb(data):
     while at < length:
         size, kind = struct.unpack_from("<I4s", data, at)
         demand(size % 4 == 0 and at + 8 + size <= length, "a chunk is aligned and within the file")
-        chunks.append((kind, data[at + 8:at + 8 + size]))
+        chunks.append((kind, data[at + 8 : at + 8 + size]))
         at += 8 + size
     demand([kind for kind, _ in chunks] in ([b"JSON"], [b"JSON", b"BIN\0"]), "the chunks in order")
     scene = json.loads(chunks[0][1])
     demand(scene["asset"]["version"] == "2.0", "the version of glTF")
-    return [corner for node in scene["scenes"][scene["scene"]].get("nodes", []) for corner in read_node(scene, node, chunks[-1][1])]
+    return [
+        corner
+        for node in scene["scenes"][scene["scene"]].get("nodes", [])
+        for corner in read_node(scene, node, chunks[-1][1])
+    ]
 
 
 def read_node(scene, node, binary):
-    demand(scene["buffers"] == [{"byteLength": len(binary)}] or 0 <= len(binary) - scene["buffers"][0]["byteLength"] < 4, "the buffer is the chunk")
+    demand(
+        scene["buffers"] == [{"byteLength": len(binary)}] or 0 <= len(binary) - scene["buffers"][0]["byteLength"] < 4,
+        "the buffer is the chunk",
+    )
     for primitive in scene["meshes"][scene["nodes"][node]["mesh"]]["primitives"]:
         colour = scene["materials"][primitive["material"]]["pbrMetallicRoughness"]["baseColorFactor"]
         demand(len(colour) == 4 and all(0 <= part <= 1 for part in colour), "a colour is four numbers from 0 to 1")
         points = read_accessor(scene, binary, primitive["attributes"]["POSITION"], 34962)
         indices = read_accessor(scene, binary, primitive["indices"], 34963)
         demand(len(indices) % 3 == 0 and max(indices) < len(points) // 3, "triangles name vertices that are there")
-        yield from (tuple(tuple(points[3 * at:3 * at + 3]) for at in indices[k:k + 3]) for k in range(0, len(indices), 3))
+        yield from (
+            tuple(tuple(points[3 * at : 3 * at + 3]) for at in indices[k : k + 3]) for k in range(0, len(indices), 3)
+        )
 
 
 def read_accessor(scene, binary, number, target):
@@ -47,7 +56,10 @@ def read_accessor(scene, binary, number, target):
     view = scene["bufferViews"][accessor["bufferView"]]
     count = accessor["count"] * COMPONENTS[accessor["type"]]
     demand(view["buffer"] == 0 and view["target"] == target and view["byteOffset"] % 4 == 0, "a view")
-    demand(4 * count <= view["byteLength"] and view["byteOffset"] + view["byteLength"] <= len(binary), "a view within the buffer")
+    demand(
+        4 * count <= view["byteLength"] and view["byteOffset"] + view["byteLength"] <= len(binary),
+        "a view within the buffer",
+    )
     numbers = struct.unpack_from(f"<{count}{KINDS[accessor['componentType']]}", binary, view["byteOffset"])
     if accessor["type"] == "VEC3":
         ends = [[end(numbers[axis::3]) for axis in range(3)] for end in (min, max)]
@@ -64,17 +76,26 @@ def read_tileset(path):
 
 
 def read_tile(folder, tile, above, depth):
-    demand(is_number(tile["geometricError"]) and tile["geometricError"] >= 0 and tile["refine"] in ("ADD", "REPLACE"), "error and refine")
+    demand(
+        is_number(tile["geometricError"]) and tile["geometricError"] >= 0 and tile["refine"] in ("ADD", "REPLACE"),
+        "error and refine",
+    )
     here = tuple(one + other for one, other in zip(above, read_transform(tile)))
     low, high = read_box(tile, here)
     if "content" in tile:
         for triangle in (triangles := placed(read_glb((folder / tile["content"]["uri"]).read_bytes()), here)):
-            demand(all(low[axis] - 1e-5 <= point[axis] <= high[axis] + 1e-5 for point in triangle for axis in range(3)), "content within its box")
+            demand(
+                all(low[axis] - 1e-5 <= point[axis] <= high[axis] + 1e-5 for point in triangle for axis in range(3)),
+                "content within its box",
+            )
         yield depth, tile["geometricError"], triangles
     for child in tile.get("children", []):
         demand(child["geometricError"] <= tile["geometricError"], "the error of a child is no greater")
         child_low, child_high = read_box(child, tuple(one + other for one, other in zip(here, read_transform(child))))
-        demand(all(low[axis] - 1e-6 <= child_low[axis] and child_high[axis] <= high[axis] + 1e-6 for axis in range(3)), "a child within its parent")
+        demand(
+            all(low[axis] - 1e-6 <= child_low[axis] and child_high[axis] <= high[axis] + 1e-6 for axis in range(3)),
+            "a child within its parent",
+        )
         yield from read_tile(folder, child, here, depth + 1)
 
 
@@ -95,4 +116,7 @@ def read_box(tile, here):
 
 def placed(triangles, here):
     """Y is up in glTF, and Z in tiles."""
-    return [tuple(tuple(number + corner for number, corner in zip((x, -z, y), here)) for x, y, z in triangle) for triangle in triangles]
+    return [
+        tuple(tuple(number + corner for number, corner in zip((x, -z, y), here)) for x, y, z in triangle)
+        for triangle in triangles
+    ]

@@ -16,11 +16,11 @@ sys.path[:0] = [str(TESTS), str(TESTS.parent)]
 
 import random_scripts  # noqa: E402
 import test_edits  # noqa: E402
-from lib.program import run, take_program  # noqa: E402
-from lib.replies import replies  # noqa: E402
-from lib.report import Report  # noqa: E402
-from lib.script import commands, is_open, is_version, lines_of, text_of, without  # noqa: E402
-from lib.session import Session  # noqa: E402
+from cga_city_lib.program import run, take_program  # noqa: E402
+from cga_city_lib.replies import replies  # noqa: E402
+from cga_city_lib.report import Report  # noqa: E402
+from cga_city_lib.script import commands, is_open, is_version, lines_of, text_of, without  # noqa: E402
+from cga_city_lib.session import Session  # noqa: E402
 
 LIVE = TOP / "crates" / "cga_live" / "out" / "cga_live"
 STORED = [script for folder in ("examples", "rows") for script in sorted((TOP / folder).glob("*.cga"))]
@@ -41,8 +41,12 @@ def stored(program, script):
     traces = script.with_suffix(".traced")
     if traces.exists():
         head = [] if is_version(commands(lines)[0].words) else ["version 2"]
-        same(script.name, "the stored trace", run(program, text_of(head + lines + ["trace"]))[1],
-             traces.read_text(encoding="latin-1").split("\n")[:-1])
+        same(
+            script.name,
+            "the stored trace",
+            run(program, text_of(head + lines + ["trace"]))[1],
+            traces.read_text(encoding="latin-1").split("\n")[:-1],
+        )
 
 
 def grown(program, name, data):
@@ -58,22 +62,29 @@ def grown(program, name, data):
     same(name, "the faults", faults, all_faults)
     same(name, "the town", (town.texts, town.lots), (all_town.texts, all_town.lots))
     report = list(Report(name, said, found, answers).lines_for(faults))
-    same(name, "what was refused", sum(answer[0].startswith("# refused") for answer in answers),
-         int(re.search(r": (\d+) refused", report[-1]).group(1)))
+    same(
+        name,
+        "what was refused",
+        sum(answer[0].startswith("# refused") for answer in answers),
+        int(re.search(r": (\d+) refused", report[-1]).group(1)),
+    )
 
 
 def quiet(program, name, data):
     """What a quiet script prints is what the loud one prints without its acceptances."""
     kept = [line for reply in replies(run(program, data)[1]) for line in reply if line != "# ok"]
     lines = lines_of(data)
-    loud = [reply for command, reply in zip(commands(lines), replies(run(program, text_of(without(lines, "quiet")))[1]))
-            if command.words != ["quiet"] and reply != ["# ok"]]
+    loud = [
+        reply
+        for command, reply in zip(commands(lines), replies(run(program, text_of(without(lines, "quiet")))[1]))
+        if command.words != ["quiet"] and reply != ["# ok"]
+    ]
     same(name, "what is printed without quiet", kept, [line for reply in loud for line in reply])
 
 
 def main(words):
     program, words = take_program(words)
-    number, seed = [*map(int, words), *[20, 1][len(words):]]
+    number, seed = [*map(int, words), *[20, 1][len(words) :]]
     for script in LINTED:
         stored(program, script)
     scripts = [(script.name, script.read_bytes()) for script in STORED]

@@ -4,8 +4,15 @@ from pathlib import Path
 
 import bpy
 
-bl_info = {"name": "cga_city link", "author": "cga_city", "version": (1, 0, 0), "blender": (3, 4, 0), "category": "Import-Export",
-           "location": "View3D > Sidebar > cga_city", "description": "Shows the town of a script, anew at each save and each move of a slider"}
+bl_info = {
+    "name": "cga_city link",
+    "author": "cga_city",
+    "version": (1, 0, 0),
+    "blender": (3, 4, 0),
+    "category": "Import-Export",
+    "location": "View3D > Sidebar > cga_city",
+    "description": "Shows the town of a script, anew at each save and each move of a slider",
+}
 
 HERE = Path(__file__).resolve().parents[3]
 following = []  # the one that is followed, if any
@@ -27,6 +34,7 @@ def follow(path, folder=str(HERE), program=None, live=False):
         raise FileNotFoundError(f"{folder} isn't the folder of cga_city")
     from .link import Link
     from .scene import Follower
+
     stop()
     following.append(Follower(Link(path, program, live)))
     if not bpy.app.timers.is_registered(tick):
@@ -51,7 +59,9 @@ def tick():
 
 class Preferences(bpy.types.AddonPreferences):
     bl_idname = __name__
-    folder: bpy.props.StringProperty(name="Folder of cga_city", subtype="DIR_PATH", default=str(HERE))
+    __annotations__ = {
+        "folder": bpy.props.StringProperty(name="Folder of cga_city", subtype="DIR_PATH", default=str(HERE))
+    }
 
     def draw(self, _):
         self.layout.prop(self, "folder")
@@ -59,6 +69,7 @@ class Preferences(bpy.types.AddonPreferences):
 
 class Follow(bpy.types.Operator):
     """Shows the town of the script, anew at each save"""
+
     bl_idname, bl_label = "cga_city.follow", "Follow"
 
     def execute(self, context):
@@ -73,6 +84,7 @@ class Follow(bpy.types.Operator):
 
 class Stop(bpy.types.Operator):
     """Leaves the town as it is"""
+
     bl_idname, bl_label = "cga_city.stop", "Stop"
 
     def execute(self, _):

@@ -2,8 +2,8 @@
 from collections import Counter
 from functools import lru_cache
 
-from lib.obj import Town
-from lib.solids import FACES, corners, ridge_of
+from cga_city_lib.obj import Town
+from cga_city_lib.solids import FACES, corners, ridge_of
 
 
 class ByChanges:
@@ -35,13 +35,19 @@ class ByChanges:
 def shape_of(kind, w, h, d):
     """The faces, from 0, and the corners in a scope of this size, as floats."""
     ridge = ridge_of(kind, (w, h, d))
-    return [[at - 1 for at in face] for face in FACES[kind, ridge]], [tuple(map(float, corner)) for corner in corners(kind, ridge, (w, h, d))]
+    return [[at - 1 for at in face] for face in FACES[kind, ridge]], [
+        tuple(map(float, corner)) for corner in corners(kind, ridge, (w, h, d))
+    ]
 
 
 def solid_of(instance):
     faces, local = shape_of(instance.kind, *instance.size)
     at, axes = tuple(map(float, instance.corner)), instance.directions
-    return instance.symbol, [tuple(at[k] + sum(part * axis[k] for part, axis in zip(corner, axes)) for k in range(3)) for corner in local], faces
+    return (
+        instance.symbol,
+        [tuple(at[k] + sum(part * axis[k] for part, axis in zip(corner, axes)) for k in range(3)) for corner in local],
+        faces,
+    )
 
 
 class ByText:

@@ -6,12 +6,22 @@ from fractions import Fraction
 from queue import Queue
 
 import cga_city
-from lib.script import words_of
+from cga_city_lib.script import words_of
 
 from .drawing import ByChanges, ByText
 
 PAUSE = 0.1  # seconds between two looks at the file
-PLAIN = ("rules", "lot", "print", "stats", "faults", "trace", "bill", "quiet", "version")  # commands that leave no history behind
+PLAIN = (
+    "rules",
+    "lot",
+    "print",
+    "stats",
+    "faults",
+    "trace",
+    "bill",
+    "quiet",
+    "version",
+)  # commands that leave no history behind
 
 # lots: the solids of each lot that is drawn otherwise; attributes: name and value; said: what was refused; seconds: what it took
 Update = namedtuple("Update", "lots attributes stats said seconds")
@@ -101,13 +111,17 @@ class Link:
 
 def written(value):
     """A number as a script has it, with at most six decimals."""
-    return str(Fraction(value).limit_denominator(10**6)) if isinstance(value, Fraction) else f"{value:.6f}".rstrip("0").rstrip(".")
+    return (
+        str(Fraction(value).limit_denominator(10**6))
+        if isinstance(value, Fraction)
+        else f"{value:.6f}".rstrip("0").rstrip(".")
+    )
 
 
 def edits_between(old, new):
     """The commands that make of what the old ones came to what the new ones come to, or none where that isn't plain to see."""
-    if new[:len(old)] == old:
-        return new[len(old):]
+    if new[: len(old)] == old:
+        return new[len(old) :]
     if not all(words_of(lines[0])[:1] and words_of(lines[0])[0] in PLAIN for lines in [*old, *new]):
         return None
     blocks, lots = zip(*((last(commands, "rules"), by_name(commands)) for commands in (old, new)))

@@ -4,10 +4,10 @@ from array import array
 
 import bpy
 
-from lib.colours import look_of
-from lib.eye import normal
-from lib.materials import linear
-from lib.uv import uvs
+from cga_city_lib.colours import look_of
+from cga_city_lib.eye import normal
+from cga_city_lib.materials import linear
+from cga_city_lib.uv import uvs
 
 COLLECTION, LOT, SYMBOL, SLOTS, LOW = "cga_city", "cga_lot", "cga_symbol", "cga_slots", "cga_low"
 
@@ -87,7 +87,15 @@ def slots(mesh, solids):
 
 def fill(mesh, solids, low, offset):
     """Puts the solids into the mesh in the place of what is there."""
-    places, points, loops, starts, totals, kinds, maps = slots(mesh, solids), array("f"), array("i"), array("i"), array("i"), array("i"), array("f")
+    places, points, loops, starts, totals, kinds, maps = (
+        slots(mesh, solids),
+        array("f"),
+        array("i"),
+        array("i"),
+        array("i"),
+        array("i"),
+        array("f"),
+    )
     for symbol, corners, faces in solids:
         first = len(points) // 3
         for point in corners:

@@ -1,7 +1,7 @@
 """The scene follows a link: what it tells is shown, and where a slider was moved the link is asked for that value."""
 import bpy
 
-from lib.setting import far
+from cga_city_lib.setting import far
 
 from . import meshes
 
@@ -26,7 +26,11 @@ class Follower:
             meshes.show(update.lots, self.offset(update.lots))
         if update.attributes is not None:
             self.put_sliders(update.attributes)
-        counts = f"{update.stats.lots} lots, {update.stats.instances:,} solids, {update.stats.expanded:,} shapes worked anew; " if update.stats else ""
+        counts = (
+            f"{update.stats.lots} lots, {update.stats.instances:,} solids, {update.stats.expanded:,} shapes worked anew; "
+            if update.stats
+            else ""
+        )
         self.said = "\n".join([f"{counts}{update.seconds:.2f} s", *update.said])
 
     def offset(self, lots):
@@ -47,7 +51,9 @@ class Follower:
             if name not in self.known or name not in holder:
                 holder[name] = number
                 ends = sorted((0.0, 2 * number)) if number else (-1.0, 1.0)
-                holder.id_properties_ui(name).update(soft_min=ends[0], soft_max=ends[1], precision=3, description="an attribute of the script")
+                holder.id_properties_ui(name).update(
+                    soft_min=ends[0], soft_max=ends[1], precision=3, description="an attribute of the script"
+                )
             elif holder[name] == self.known[name]:
                 holder[name] = number  # else it was moved since, which is asked for at the next tick
             self.known[name] = number

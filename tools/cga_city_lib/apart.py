@@ -1,0 +1,79 @@
+"""Which boxes touch, found by a sweep. A box is its least and its greatest number on each axis, one axis behind the other,
+as whole numbers over one denominator: never floats, which would tell boxes apart that touch."""
+from collections import defaultdict
+
+MOST_STRIPS = 32  # a box over more strips than that is compared with all others
+
+
+def touch(one, other):
+    """Whether two closed boxes of two or three axes share a point."""
+    if one[0] > other[1] or other[0] > one[1] or one[2] > other[3] or other[2] > one[3]:
+        return False
+    return len(one) == 4 or one[4] <= other[5] and other[4] <= one[5]
+
+
+def longer_axis(boxes):
+    """Where the axis begins along which the boxes reach further, of the first two, and where the other one does."""
+    x, z = (max(box[at + 1] for box in boxes) - min(box[at] for box in boxes) for at in (0, 2))
+    return (0, 2) if x >= z else (2, 0)
+
+
+def touching(boxes):
+    """The pairs of places in the list whose closed boxes share a point, each pair once.
+
+    The sweep goes along the longer axis, and compares what stands in the same strips across it.
+    """
+    if len(boxes) < 2:
+        return
+    along, across = longer_axis(boxes)
+    width = 1 + 2 * sum(abs(box[across + 1] - box[across]) for box in boxes) // len(boxes)
+    strips = [(box[across] // width, box[across + 1] // width) for box in boxes]
+    wide = {at for at, (first, last) in enumerate(strips) if last - first >= MOST_STRIPS}
+    yield from swept(boxes, along, strips, wide)
+    for at in wide:
+        yield from (
+            (at, other)
+            for other in range(len(boxes))
+            if (other not in wide or other > at) and touch(boxes[at], boxes[other])
+        )
+
+
+def swept(boxes, along, strips, wide):
+    """The pairs of boxes that aren't wide. Two of them are compared in the first strip that both stand in."""
+    waiting, end = defaultdict(list), along + 1
+    for at in sorted(set(range(len(boxes))) - wide, key=lambda at: boxes[at][along]):
+        box, (first, last) = boxes[at], strips[at]
+        low = box[along]
+        for strip in range(first, last + 1):
+            here = waiting[strip] = [other for other in waiting[strip] if boxes[other][end] >= low]
+            for other in here:
+                if strip == max(first, strips[other][0]) and touch(box, boxes[other]):
+                    yield other, at
+            here.append(at)
+
+
+class Sets:
+    """Places from 0 in sets that can be joined; each set goes by its least place."""
+
+    def __init__(self, number):
+        self.above = list(range(number))
+
+    def of(self, at):
+        above = self.above
+        while above[at] != at:
+            above[at] = above[above[at]]
+            at = above[at]
+        return at
+
+    def join(self, one, other):
+        """Whether these were two sets."""
+        one, other = self.of(one), self.of(other)
+        self.above[max(one, other)] = min(one, other)
+        return one != other
+
+    def members(self):
+        """The places of each set, by its least."""
+        found = defaultdict(list)
+        for at in range(len(self.above)):
+            found[self.of(at)].append(at)
+        return found

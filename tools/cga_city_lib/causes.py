@@ -1,0 +1,79 @@
+"""What each cause of a refusal and each code of a fault means, in a sentence, and what helps against a fault."""
+import re
+
+CAUSES = {  # {0} and {1} are what is told with the cause: an id, a name, or an id and a name
+    "LineTooLong": "the line has more than 4,096 bytes",
+    "BadByte": "no token begins with this character, or a name in quotes can't have it",
+    "BadNumber": "a number has at most 18 digits and no letter right behind it but an r",
+    "LongName": "a name has at most 32 bytes",
+    "OpenText": "these quotes aren't closed",
+    "Unexpected": "no line can go on like this here",
+    "TooNested": "more than 32 brackets are open here",
+    "OpenBlock": "no line `end` ends this block",
+    "NoRule": "no rule has the number {0}",
+    "NoAttribute": "no attribute `{0}` is there: a block declares it by `attr {0} = VALUE`",
+    "NoLot": "no lot has the name `{0}`",
+    "NoSymbol": "no rule has the symbol `{0}`; a lot begins with one whose rules have no parameters",
+    "BadLot": "the width and depth of lot `{0}` have to be above 0, and its corners within the range of numbers",
+    "TooManyLots": "a town has at most 4,096 lots",
+    "TooManyRules": "a grammar has at most 512 rules",
+    "TooManyAttributes": "a grammar has at most 128 attributes",
+    "DoubleAttribute": "the attribute `{0}` is declared twice",
+    "DoubleId": "an earlier rule has the number {0}",
+    "SplitPriority": "all rules of `{1}` have one priority, and rule {0} has another",
+    "WrongArity": "rule {0} gives `{1}` another number of parameters than the first rule of `{1}`",
+    "DoubleName": "the parameter `{1}` of rule {0} has the name of another one, or of an attribute",
+    "BadProbability": "the probabilities of rule {0} don't add up to 1, or one is 0 or has more than six decimals",
+    "UnknownSymbol": "rule {0} makes a `{1}`, and no rule says what becomes of it",
+    "PartsDiffer": "a Subdiv of rule {0} has another number of sizes than of bodies",
+    "UnknownName": "`{1}` in rule {0} is neither a parameter nor an attribute",
+    "OverBudget": "the town would have more than 100,000 shapes (400,000 in version 2), or a rule never ends",
+    "NoUndo": "no edit is there to go back from, or sixteen were undone",
+    "NoRedo": "no undone edit is there to go forward to",
+    "LongDump": "the printed text of rule {0} has more than 4,096 bytes",
+    "UnknownLine": "an asset has lines `v X Y Z`, `f I J K ..`, and such as are passed over",
+    "BadVertex": "a vertex is `v` and three decimals without an exponent",
+    "BadFace": "a face is `f` and 3 to 64 numbers of vertices that are there",
+    "TooManyVertices": "the asset has too many vertices",
+    "TooManyFaces": "the asset has too many faces",
+    "NoFace": "the asset has no face",
+    "TooManyAssets": "there are too many assets",
+    "TooManyDresses": "too many symbols are dressed",
+    "ModelTooLarge": "the dressed town would be too large",
+    "NoAsset": "no asset has the name `{0}`",
+    "NoDress": "the symbol `{0}` isn't dressed",
+}
+CODES = {
+    "TooDeep": "256 generations stand above it, so a rule goes on without end",
+    "Unmatched": "no rule of the symbol has a condition that holds",
+    "Overflow": "a number leaves the range",
+    "ZeroDivide": "something is divided by 0",
+    "NegativeSize": "a size comes to less than 0",
+    "FlatScope": "the scope is flat where a solid, a split or a component needs a size above 0",
+    "PartNotPositive": "a size or a length in a split isn't above 0",
+    "SubdivSum": "the sizes of a Subdiv don't fit into the scope, or leave a gap",
+    "RepeatCount": "a Repeat would make more than 10,000 parts",
+    "TooManyParts": "the splits and components of one shape make more than 10,000 parts",
+    "TooManyChildren": "one shape has more than 4,096 children",
+}
+HELPS = {
+    "TooDeep": "a condition that ends the recursion, and a rule for the rest: 1: row(n) : n > 0 -> tile row(n - 1) and 2: row(n) -> NIL",
+    "Unmatched": "a last rule of the symbol, with a greater number and without a condition",
+    "Overflow": "smaller numbers, or fewer decimals in divisors; a rule that doubles its numbers needs an end",
+    "ZeroDivide": "a condition before it, which keeps the divisor from 0: a : Scope.sx > 0 -> ..",
+    "NegativeSize": "a condition that keeps narrow shapes away: a : Scope.sx > 2 -> S(Scope.sx - 2, 1r, 1r) b",
+    "FlatScope": 'depth before it: S(1r, 1r, 0.1) I("cube"); a face is flat along its Z, so there I("quad") draws it as it is',
+    "PartNotPositive": "a rule before it for the shapes where the size comes to 0 or less: a : Scope.sx < 2 -> wall",
+    "SubdivSum": "one size with an r, which takes what the others leave; and a rule before it for shapes that are too narrow: a : Scope.sx < 8 -> wall",
+    "RepeatCount": 'a greater length, or two steps: Repeat("X", 100) { row } and in `row` the smaller one',
+    "TooManyParts": "a symbol of its own for what is in the parts, with a rule that splits on",
+    "TooManyChildren": "a symbol of its own for what is in the parts, with a rule that splits on",
+}
+INWARDS = re.compile(r"\bS\s*\([^()]*,\s*-[^(),]*\)", re.ASCII)
+
+
+def help_for(code, rules):
+    """What helps against a fault, where one of the symbol's rules stands in these lines."""
+    if code == "NegativeSize" and any(INWARDS.search(rule) for rule in rules):
+        return "to go inwards from a face by d: T(0, 0, -d) S(1r, 1r, d); a size is never below 0"
+    return HELPS.get(code, "")

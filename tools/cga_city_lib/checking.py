@@ -1,0 +1,80 @@
+"""Whether the jobs of a region are, together, the region: where a rule asks, no boxes of two jobs may touch."""
+from collections import Counter, defaultdict
+from math import gcd
+
+from .apart import Sets, touching
+from .call import Refused
+
+
+def sums(told):
+    """The counts of the town and its bill, from those of its jobs."""
+    counts, bill = Counter(), defaultdict(lambda: [0, 0, 0, 0])
+    for job in told:
+        counts.update(job.counts)
+        for symbol, numbers in job.bill.items():
+            bill[symbol] = [one + other for one, other in zip(bill[symbol], numbers)]
+    return counts, bill
+
+
+def bill_text(bill):
+    lines = [f"# bill {len(bill)}\n"]
+    for symbol, (number, front, volume, unmeasured) in sorted(bill.items()):
+        lines.append(f"# bill {symbol} {number} {millionths(front)} {millionths(volume)} {unmeasured}\n")
+    return "".join(lines)
+
+
+def millionths(number):
+    return f"{number // 10 ** 6}.{number % 10 ** 6:06}"
+
+
+def over_all(told):
+    """The boxes of each job over one denominator."""
+    one = 1
+    for job in told:
+        one = one * job.one // gcd(one, job.one)
+    for job in told:
+        by = one // job.one
+        yield job.boxes if by == 1 else [tuple(number * by for number in box) for box in job.boxes]
+
+
+def around(boxes):
+    """The least box that holds these."""
+    return tuple((min, max)[at % 2](column) for at, column in enumerate(zip(*boxes)))
+
+
+def within(boxes, area):
+    """The places of the boxes that touch an area."""
+    x, x_end, z, z_end, y, y_end = area
+    return [
+        at
+        for at, (a, b, c, d, e, f) in enumerate(boxes)
+        if a <= x_end and x <= b and c <= z_end and z <= d and e <= y_end and y <= f
+    ]
+
+
+def across_jobs(jobs):
+    """The pairs of lots of two jobs whose boxes touch; a lot is its job and its place there. Only lots are compared that
+    reach another job's box."""
+    wholes, near = list(map(around, jobs)), defaultdict(set)
+    for one, other in touching(wholes):
+        near[one].update(within(jobs[one], wholes[other]))
+        near[other].update(within(jobs[other], wholes[one]))
+    lots = [(job, at) for job, places in sorted(near.items()) for at in sorted(places)]
+    for one, other in touching([jobs[job][at] for job, at in lots]):
+        if lots[one][0] != lots[other][0]:
+            yield lots[one], lots[other]
+
+
+def touching_districts(plan, told):
+    """Pairs of lots of two jobs that are to stand in one, as few as join all that touch."""
+    jobs = plan.drawn()
+    if any(len(job.boxes) == 0 for job in told):
+        raise Refused(
+            f"rule {', '.join(plan.asks())} asks by Scope.occ, and the program of the jobs tells no boxes: cut the script again "
+            "with the program cga_hulls"
+        )
+    sets = Sets(len(plan.lots))
+    pairs = (
+        (jobs[one].own[at], jobs[other].own[place]) for (one, at), (other, place) in across_jobs(list(over_all(told)))
+    )
+    return [pair for pair in pairs if sets.join(*pair)]

@@ -1,0 +1,95 @@
+"""Deals the lots of a region to jobs by place: each job has the lots of a square of a quadtree."""
+from collections import defaultdict, namedtuple
+
+from .apart import Sets, touching
+from .call import Refused
+from .program import MOST_LOTS
+from .quadtree import Quadtree
+
+# places of lots: those that the job is for, and the neighbours that it derives with them
+Share = namedtuple("Share", "own ring square")
+
+
+def by_place(grounds, groups, most):
+    """Groups of lots in squares of at most so many lots, or of one group, each with its places in the script's order."""
+    one, boxes = grounds
+    points = [(min(boxes[at][0] for at in group) // one, min(boxes[at][2] for at in group) // one) for group in groups]
+    for square, items in Quadtree(points, list(map(len, groups)), most).leaves():
+        yield Share(sorted(at for item in items for at in groups[item]), [], square)
+
+
+def singly(region, options):
+    """Where no rule asks, each lot by itself."""
+    return by_place(region.grounds(), [[at] for at in range(len(region.lots))], options.most)
+
+
+def districts(region, options, together):
+    """Lots whose grounds touch, or that a check has put together, stay in one job."""
+    sets = Sets(len(region.lots))
+    for one, other in [*touching(region.grounds(options.reach)[1]), *together]:
+        sets.join(one, other)
+    return list(sets.members().values())
+
+
+def whole_districts(region, options, together):
+    groups = districts(region, options, together)
+    largest = max(groups, key=len)
+    if len(largest) > MOST_LOTS:
+        raise Refused(
+            f"{region.path}: the district of the lot `{name(region, largest)}` has {len(largest)} lots that touch, and a run "
+            f"takes {MOST_LOTS}: put a street through it, or cut with --rings 2, which derives squares with their neighbours"
+        )
+    return len(groups), by_place(region.grounds(), groups, options.most)
+
+
+def name(region, places):
+    return region.lots[places[0]].split()[1]
+
+
+def neighbours(region, options, seen):
+    """Of each lot those whose grounds touch its own, or that see it from afar."""
+    near = defaultdict(set)
+    for one, other in [*touching(region.grounds(options.reach)[1]), *seen]:
+        near[one].add(other)
+        near[other].add(one)
+    return near
+
+
+def ring_of(own, near, rings, more):
+    """The lots that are at most so many steps from their own, more from some."""
+    left = {at: more.get(at, rings) for at in own}  # the steps that may still be taken from a lot
+    todo = list(own)
+    while todo:
+        at = todo.pop()
+        for other in near[at] if left[at] else ():
+            if left.get(other, -1) < left[at] - 1:
+                left[other] = left[at] - 1
+                todo.append(other)
+    return sorted(left.keys() - set(own))
+
+
+def with_rings(region, options, together, seen, more):
+    """Squares with their neighbours; what a check has put together stays in one job."""
+    sets = Sets(len(region.lots))
+    for one, other in together:
+        sets.join(one, other)
+    groups, near = list(sets.members().values()), neighbours(region, options, seen)
+    for share in by_place(region.grounds(), groups, options.most):
+        ring = ring_of(share.own, near, options.rings, more)
+        if len(share.own) + len(ring) > MOST_LOTS:
+            raise Refused(
+                f"{region.path}: the job of the lot `{name(region, share.own)}` has {len(share.own)} lots and {len(ring)} "
+                f"neighbours, and a run takes {MOST_LOTS}: cut with fewer lots a job (--lots) or fewer --rings; where that "
+                "was tried, what these lots ask goes too far for jobs"
+            )
+        yield share._replace(ring=ring)
+
+
+def coarser(shares, most):
+    """Shares of one square put together, as far as they have at most so many lots: the tiles of a coarser level."""
+    tree = Quadtree([share.square[:2] for share in shares], [len(share.own) for share in shares], min(most, MOST_LOTS))
+    for square, items in tree.leaves():
+        squares = [square, *(tuple(shares[item].square) for item in items)]
+        yield Share(
+            sorted(at for item in items for at in shares[item].own), [], max(squares, key=lambda found: found[2])
+        )

@@ -1,0 +1,204 @@
+"""What tools/districts does for each of its words. It is called often, so what one word alone needs is loaded for that word."""
+import argparse
+import os
+import sys
+from pathlib import Path
+
+from .call import FirstWord, Refused, number_in
+from .checking import bill_text
+from .exact import parted
+from .files import alone, write
+from .head import head_of
+from .jobs import Cut, Program, cut_again, leftovers, todo
+from .plan import Options, read_plan
+from .program import LAUNCHER, MOST_LOTS, is_proved
+from .quadtree import EDGE
+from .region import Region
+from .rounds import outcome
+from .strangers_text import told
+from .survey import Survey
+
+MAIN, HULLS = (LAUNCHER.parent / "crates" / name / "out" / name for name in ("cga_main", "cga_hulls"))
+AGAIN = 3  # the status where jobs are to be run again
+
+
+def chosen_program(named, asks=()):
+    """The program of the jobs: the one that is named, else the one that tells boxes, else the proved one."""
+    if named:
+        return named
+    if HULLS.exists():
+        return str(HULLS)
+    if asks:
+        raise Refused(
+            f"rule {', '.join(asks)} asks by Scope.occ, so the jobs need the program cga_hulls, which isn't built: "
+            "run `rt run </dev/null` in crates/cga_hulls"
+        )
+    if not is_proved(str(LAUNCHER)):
+        raise Refused(
+            "jobs need a proved program: build one by `./cga_city --prove`, or by `rt run </dev/null` in crates/cga_hulls"
+        )
+    return str(MAIN)
+
+
+def cut(words):
+    region = Region(words.script)
+    coarse = [Region(path, has_lots=False) for path, _ in words.coarser]
+    heads = [head_of(head, chosen_program(words.program)) for head in [region, *coarse]]
+    asks = heads[0].asks()
+    refuse(region, words, heads)
+    options = Options(
+        words.lots, words.reach, words.rings if asks else 0, words.decimals, [error for _, error in words.coarser]
+    )
+    program = Program(chosen_program(words.program, asks), words.decimals)
+    words.folder.mkdir(parents=True, exist_ok=True)
+    with alone(words.folder):
+        plan, number = Cut(words.folder, program, region, heads, options).make()
+        left = len(todo(words.folder, plan))
+    print(f"{words.folder}: {len(plan.lots)} lots in {len(plan.drawn())} jobs, {left} to run; {kind(asks, number)}")
+
+
+def kind(asks, districts):
+    """How the lots were dealt."""
+    if not asks:
+        return "no rule asks"
+    return (
+        "with their neighbours, since a rule asks" if districts is None else f"{districts} districts, since a rule asks"
+    )
+
+
+def refuse(region, words, heads):
+    """Refuses what can't be had together."""
+    for (path, error), head in zip(words.coarser, heads[1:]):
+        if not is_length(error):
+            raise Refused(f"{error} isn't a number of units by which {path} may be off")
+        if head.asks():
+            raise Refused(f"{path}: rule {', '.join(head.asks())} asks by Scope.occ, which a coarser head can't")
+    if words.rings and heads[0].asks() and region.counted:
+        raise Refused(
+            f"{region.path}: `{region.counted[0]}` can't be had with --rings, since jobs then tell of their neighbours, too: "
+            "leave it out"
+        )
+
+
+def check(words):
+    with alone(words.folder):
+        return checked(words.folder)
+
+
+def checked(folder):
+    plan = read_plan(folder)
+    if (folder / "counts").exists():
+        (folder / "counts").unlink()
+    survey = Survey(folder, plan, plan.drawn())
+    survey.demand()
+    found, counts, bill = outcome(folder, plan, [survey.told[job.name] for job in plan.drawn()])
+    if found:
+        left = len(todo(folder, cut_again(folder, plan)))
+        print(f"{found}: {left} jobs to run; run them, and check again", file=sys.stderr)
+        return AGAIN
+    if "bill" in plan.asked:
+        write(folder / "town.bill", bill_text(bill).encode("latin-1"))
+    text = " ".join(f"{word} {number}" for word, number in counts.items())
+    write(folder / "counts", (text + "\n").encode())
+    print(f"{folder}: {text}")
+    return 0
+
+
+def joined(words):
+    from .joining import join
+
+    with alone(words.folder):
+        status = checked(words.folder)
+        if status == 0:
+            for path in join(words.folder, read_plan(words.folder), words.workers):
+                print(f"{path}: {path.stat().st_size} bytes")
+    return status
+
+
+def tiled(words):
+    from .tiles import write_tiles
+
+    with alone(words.folder):
+        status = checked(words.folder)
+        if status == 0:
+            plan = read_plan(words.folder)
+            survey = Survey(words.folder, plan, plan.jobs)
+            survey.demand()
+            print(write_tiles(words.folder, plan, survey.told, words.workers))
+    return status
+
+
+def status(words):
+    plan = read_plan(words.folder)
+    survey = Survey(words.folder, plan, plan.jobs)
+    print(f"{words.folder}: {len(survey.told)} jobs run, {len(survey.to_run)} to run, {len(survey.refused)} refused")
+    for reason in survey.refused.values():
+        print(reason)
+
+
+def names(words):
+    for name in todo(words.folder, read_plan(words.folder)):
+        print(name)
+
+
+def tidy(words):
+    """Takes away outputs that are refused, what is half written, and what is of no job of the cut."""
+    with alone(words.folder):
+        plan = read_plan(words.folder)
+        gone = list(leftovers(words.folder, plan, Survey(words.folder, plan, plan.jobs).refused))
+        for path in gone:
+            path.unlink()
+    print(f"{words.folder}: {len(gone)} files taken away")
+
+
+def decimals(word):
+    return ["--decimals", str(number_in(0, 9, int)(word))]
+
+
+def is_length(word):
+    """Whether it spells a number from 0 on that isn't beyond all numbers of scripts."""
+    try:
+        numerator, denominator = parted(word)
+    except ValueError:
+        return False
+    return 0 <= numerator < EDGE * denominator
+
+
+def length(word):
+    """A length as it is spelt, which is read exactly."""
+    if not is_length(word):
+        raise argparse.ArgumentTypeError(f"`{told(word)}` isn't a number from 0 on that scripts can have")
+    return word
+
+
+def add_folder(known):
+    known.add_argument("folder", type=Path)
+
+
+def add_cut(known):
+    known.add_argument("script")
+    add_folder(known)
+    known.add_argument("--lots", type=number_in(1, MOST_LOTS, int), default=500)
+    known.add_argument("--reach", type=length, default="0")
+    known.add_argument("--rings", type=number_in(0, 64, int), default=0)
+    known.add_argument("--decimals", type=decimals, default=[])
+    known.add_argument("--coarser", nargs=2, action="append", default=[])
+    known.add_argument("--program")
+
+
+def add_workers(known):
+    add_folder(known)
+    known.add_argument("--workers", type=number_in(1, 256, int), default=os.cpu_count() or 1)
+
+
+def words():
+    others = {"cut": add_cut, "join": add_workers, "tiles": add_workers}
+    return FirstWord({word: others.get(word, add_folder) for word in DOES})
+
+
+def main(word):
+    """Does what the words say, and gives the status."""
+    return DOES[word.word](word)
+
+
+DOES = {"cut": cut, "check": check, "join": joined, "tiles": tiled, "status": status, "todo": names, "tidy": tidy}

@@ -1,0 +1,55 @@
+"""What checks of a region have found, which later cuts of it begin with. Nothing is promised by it: each cut is checked.
+
+A lot is known by its name and its ground, so a finding rests while a lot stands elsewhere, and holds again once it is back.
+"""
+import json
+
+from .call import Refused
+from .files import write
+
+FILE = "found.json"
+
+
+class Findings:
+    """Pairs of lots that stand in one job, pairs that see each other from afar, and how many rings a lot needs."""
+
+    def __init__(self, folder):
+        self.path = folder / FILE
+        self.together, self.seen, self.rings = [], [], []
+        if self.path.exists():
+            try:
+                self.together, self.seen, self.rings = json.loads(self.path.read_bytes())
+            except (ValueError, TypeError):
+                raise Refused(
+                    f"{self.path} wasn't written by this tool: take it away; the next check finds it anew"
+                ) from None
+
+    def save(self):
+        write(self.path, json.dumps([self.together, self.seen, self.rings], separators=(",", ":")).encode())
+
+
+class Lots:
+    """The lots of a script as findings name them."""
+
+    def __init__(self, region):
+        self.keys = [f"{name} {' '.join(ground)}" for name, ground in zip(region.names, zip(*region.columns))]
+        self.places = {}
+
+    def place(self, key):
+        if not self.places:
+            self.places = {key: at for at, key in enumerate(self.keys)}
+        return self.places.get(key)
+
+    def pairs(self, found):
+        """The pairs that are there, by place."""
+        places = ((self.place(one), self.place(other)) for one, other in found)
+        return [(one, other) for one, other in places if one is not None and other is not None]
+
+    def numbers(self, found):
+        """The number of each lot that is there and has one, by place."""
+        places = {self.place(key): number for key, number in found}
+        places.pop(None, None)
+        return places
+
+    def named(self, pairs):
+        return [[self.keys[one], self.keys[other]] for one, other in pairs]

@@ -1,0 +1,79 @@
+"""A glTF 2.0 file in one piece: its lists, and the bytes that they are views of."""
+import json
+import struct
+from array import array
+
+FLOAT, INDEX = 5126, 5125  # of 32 bits, as arrays of kind f and I hold them
+VERTICES, INDICES = 34962, 34963
+SIZES = {"SCALAR": 1, "VEC2": 2, "VEC3": 3, "VEC4": 4}
+INSTANCING, TRANSFORM = "EXT_mesh_gpu_instancing", "KHR_texture_transform"
+
+
+class Glb:
+    def __init__(self):
+        self.bytes = bytearray()
+        self.lists = {
+            name: [] for name in "nodes meshes materials textures images samplers accessors bufferViews".split()
+        }
+        self.required, self.used = set(), set()
+
+    def add(self, name, entry):
+        """Puts an entry at a list's end, and tells its number there."""
+        self.lists[name].append(entry)
+        return len(self.lists[name]) - 1
+
+    def view(self, data, **target):
+        self.bytes += bytes(-len(self.bytes) % 4)
+        number = self.add(
+            "bufferViews", {"buffer": 0, "byteOffset": len(self.bytes), "byteLength": len(data), **target}
+        )
+        self.bytes += data
+        return number
+
+    def accessor(self, values, form, target=None, has_bounds=False):
+        """The numbers of an array as a list of this form, little-endian on every machine."""
+        view = self.view(little(values), **({"target": target} if target else {}))
+        width = SIZES[form]
+        entry = {
+            "bufferView": view,
+            "componentType": FLOAT if values.typecode == "f" else INDEX,
+            "count": len(values) // width,
+            "type": form,
+        }
+        if has_bounds:
+            entry.update(
+                min=[min(values[k::width]) for k in range(width)], max=[max(values[k::width]) for k in range(width)]
+            )
+        return self.add("accessors", entry)
+
+    def text(self, roots):
+        told = {
+            "asset": {"version": "2.0", "generator": "cga_city"},
+            "scene": 0,
+            "scenes": [{"nodes": roots} if roots else {}],
+            **{name: entries for name, entries in self.lists.items() if entries},
+        }
+        if self.bytes:
+            told["buffers"] = [{"byteLength": len(self.bytes)}]
+        for name, names in (("extensionsUsed", self.used | self.required), ("extensionsRequired", self.required)):
+            if names:
+                told[name] = sorted(names)
+        return json.dumps(told, separators=(",", ":")).encode()
+
+    def file(self, roots):
+        """The bytes of the file, whose scene has these nodes."""
+        self.bytes += bytes(-len(self.bytes) % 4)
+        told = self.text(roots)
+        chunks = chunk(b"JSON", told + b" " * (-len(told) % 4)) + (chunk(b"BIN\0", self.bytes) if self.bytes else b"")
+        return struct.pack("<4sII", b"glTF", 2, 12 + len(chunks)) + chunks
+
+
+def chunk(kind, data):
+    return struct.pack("<I4s", len(data), kind) + data
+
+
+def little(values):
+    if struct.pack("=I", 1) != struct.pack("<I", 1):
+        values = array(values.typecode, values)
+        values.byteswap()
+    return values.tobytes()

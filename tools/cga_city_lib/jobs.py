@@ -1,0 +1,141 @@
+"""The folder of a region that is cut. Each file of a job is named by the digest of its script and of the program that
+runs it: what another script or another program printed has another name, and what was run once isn't run again."""
+import os
+from pathlib import Path
+
+from .call import Refused
+from .deal import coarser, singly, whole_districts, with_rings
+from .engines import engines
+from .files import write
+from .findings import Findings, Lots
+from .plan import Job, Plan
+from .progress import counted
+from .region import Region
+
+SCRIPT = "region.cga"  # a copy of the script, for the cuts that checks make
+CUBE = b'version 2\nrules\n1: a -> S(1r, 1, 1r) I("cube")\nend\nlot a 1 0 0 1 1 a\nprint\n'
+HALF_WRITTEN = (".part", ".piece", ".new")  # until they are whole, files end so
+ALWAYS = ["grammar", "faults", "print", "stats"]  # each job is asked for these
+
+
+class Program:
+    """A copy of the program in the folder, named by its digest: the program may be built anew while jobs run."""
+
+    def __init__(self, path, words):
+        from shutil import which  # it takes long to load, and a cut alone needs it
+
+        found = which(path)
+        if found is None:
+            raise Refused(f"{path} is no program that can be run")
+        self.data, self.words = Path(found).read_bytes(), words
+        if words and not takes_decimals(found, words):
+            raise Refused(f"{path} doesn't print with {' '.join(words)}: name a program that does by --program")
+        self.name = f"program-{digest(self.data)}"
+
+    def job(self, script):
+        """The name of a job."""
+        begin = "\0".join([self.name, *self.words, ""]).encode("latin-1")
+        return digest(begin + script)
+
+    def save(self, folder):
+        path = folder / self.name
+        if write(path, self.data):
+            path.chmod(0o755)
+
+
+def digest(data):
+    from hashlib import sha256  # it takes long to load, too
+
+    return sha256(data).hexdigest()[:20]
+
+
+def takes_decimals(program, words):
+    """Whether the program prints as its words say; one that knows no words would print as ever."""
+    import subprocess
+
+    out = subprocess.run([program, *words], input=CUBE, stdout=subprocess.PIPE).stdout
+    zero = f"{0:.{words[1]}f}"
+    return f"\nv {zero} {zero} {zero}\n".encode() in out
+
+
+def asked(region, has_rings):
+    """What each job is asked for: what a check reads stands before the town and behind it."""
+    bill = ["bill"] if "bill" in region.counted else []
+    model = ["model"] if "model" in region.counted else []
+    return ["grammar", "faults", *bill, "print", *model, *(["trace"] if has_rings else []), "stats"]
+
+
+class Cut:
+    """A region with all that its jobs come from."""
+
+    def __init__(self, folder, program, region, heads, options):
+        self.folder, self.program, self.region, self.heads, self.options = folder, program, region, heads, options
+        self.asks = heads[0].asks()
+
+    def shares(self):
+        """How many districts there are, where that is asked, and the shares of the jobs."""
+        region, options = self.region, self.options
+        if not self.asks:
+            return None, list(singly(region, options))
+        lots, findings = Lots(region), Findings(self.folder)
+        together = lots.pairs(findings.together)
+        if options.rings:
+            return None, list(
+                with_rings(region, options, together, lots.pairs(findings.seen), lots.numbers(findings.rings))
+            )
+        number, shares = whole_districts(region, options, together)
+        return number, list(shares)
+
+    def levels(self, shares, listed):
+        """The jobs of the town, and of each coarser head in larger squares."""
+        yield from self.jobs(shares, listed, 0)
+        for level in range(1, len(self.heads)):
+            shares = list(coarser(shares, self.options.most * 4**level))
+            yield from self.jobs(shares, ALWAYS, level)
+
+    def jobs(self, shares, listed, level):
+        for share in counted(shares, "jobs written"):
+            lots = [self.region.lots[at] for at in share.own + share.ring]
+            script = self.heads[level].script(lots, listed)
+            name = self.program.job(script)
+            write(self.folder / "jobs" / f"{name}.cga", script)
+            yield Job(name, share.own, share.ring, share.square, level)
+
+    def make(self):
+        """Gives the plan and the number of districts. Files that are as they are to be are left alone."""
+        (self.folder / "jobs").mkdir(parents=True, exist_ok=True)
+        number, shares = self.shares()
+        listed = asked(self.region, bool(self.asks and self.options.rings))
+        jobs = list(self.levels(shares, listed))
+        plan = Plan(self.options, self.program.name, self.heads, listed, list(self.region.names), jobs)
+        self.program.save(self.folder)
+        write(self.folder / SCRIPT, self.region.data)
+        for name, text in engines(self.program.name, self.options.words, jobs):
+            write(self.folder / name, os.fsencode(text))
+        plan.save(self.folder)
+        return plan, number
+
+
+def cut_again(folder, plan):
+    """Cuts what was cut, by what is found by now."""
+    program = Program(str(folder.absolute() / plan.program), plan.options.words)
+    return Cut(folder, program, Region(folder / SCRIPT), plan.heads, plan.options).make()[0]
+
+
+def todo(folder, plan):
+    """The names of the jobs that weren't run."""
+    names = dict.fromkeys(job.name for job in plan.jobs)
+    return [name for name in names if not (folder / "jobs" / f"{name}.out").exists()]
+
+
+def leftovers(folder, plan, refused):
+    """The files of no job of the cut, the outputs that are refused, and what is half written."""
+    names = {job.name for job in plan.jobs}
+    for path in (folder / "jobs").iterdir():
+        name = path.name.partition(".")[0]
+        if name not in names or name in refused and path.suffix != ".cga" or path.suffix in HALF_WRITTEN:
+            yield path
+    yield from (path for path in folder.glob("program-*") if path.name != plan.program)
+    yield from folder.glob("todo-*")
+    yield from (path for path in folder.glob("tiles/*.glb") if path.stem not in names)
+    yield from (path for path in [*folder.glob("*.*.*"), *folder.glob("tiles/*.*.*")] if path.suffix in HALF_WRITTEN)

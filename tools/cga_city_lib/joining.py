@@ -1,0 +1,143 @@
+"""Joins what the jobs printed to one OBJ text, in pieces that several processes write."""
+import shutil
+import signal
+import sys
+from collections import deque, namedtuple
+from contextlib import contextmanager
+from functools import partial
+from itertools import groupby
+
+from .call import Refused
+from .files import naming, write
+from .printed import OBJ, Printed, reading
+from .progress import counted
+from .towns import moved, objects
+
+PIECES = 4  # for each worker, so that none waits long for the last one
+
+# what is copied of a job's output, by how much its faces move
+Span = namedtuple("Span", "path begin end by")
+
+
+@contextmanager
+def workers(number):
+    """What maps a function over work by so many processes, which begin as copies of this one; one is this one itself."""
+    if number == 1:
+        yield map
+        return
+    from concurrent.futures.process import (
+        BrokenProcessPool,
+        ProcessPoolExecutor,
+    )  # they take long to load, and most calls need none
+    from multiprocessing import get_context
+
+    pool = ProcessPoolExecutor(number, get_context("fork"), ended_quietly)
+    try:
+        yield partial(over, pool)
+    except BrokenProcessPool:
+        raise Refused("a process was killed, perhaps for want of memory: call it again with fewer --workers") from None
+    finally:
+        pool.shutdown(**{"cancel_futures": True} if sys.version_info >= (3, 9) else {})
+
+
+def ended_quietly():
+    """Ctrl-C ends a process of the pool without a word, also where it came while the process began."""
+    signal.signal(signal.SIGINT, signal.SIG_DFL)
+    signal.pthread_sigmask(signal.SIG_UNBLOCK, {signal.SIGINT})
+
+
+def over(pool, function, given):
+    """The results in order. The pool's own `map` cancels what waits once one has failed, while a thread of the pool tells the
+    same futures that a process is gone: that thread then ends with a trace, and the other processes are never ended."""
+    before = signal.pthread_sigmask(signal.SIG_BLOCK, {signal.SIGINT})  # the first work begins the processes
+    try:
+        waiting = deque([pool.submit(function, each) for each in given])
+    finally:
+        signal.pthread_sigmask(signal.SIG_SETMASK, before)
+    while waiting:
+        yield waiting.popleft().result()
+
+
+def indexed(given):
+    path, names, text = given
+    return objects(path, names, text)
+
+
+def spans(folder, plan, pool, text):
+    """The lots in the script's order."""
+    jobs = plan.drawn()
+    given = [(folder / "jobs" / f"{job.name}.out", [plan.lots[at] for at in job.own], text) for job in jobs]
+    found = {}
+    for job, (path, *_), places in zip(jobs, given, pool(indexed, given)):
+        before = 0
+        for at, place in zip(job.own, places):
+            found[at] = path, place, before
+            before += place.vertices
+    before = 0
+    for at in range(len(plan.lots)):
+        path, place, here = found[at]
+        yield Span(path, place.begin, place.end, before - here)
+        before += place.vertices
+
+
+def pieces(found, number):
+    """The spans in so many runs of about equal size."""
+    found, sizes = list(found), 0
+    most = 1 + sum(span.end - span.begin for span in found) // number
+    runs = [[]]
+    for span in found:
+        if sizes > most * len(runs):
+            runs.append([])
+        runs[-1].append(span)
+        sizes += span.end - span.begin
+    return runs
+
+
+def write_piece(given):
+    path, found = given
+    with naming(path), path.open("wb") as piece:
+        for source, spans_of in groupby(found, lambda span: span.path):
+            with source.open("rb") as opened, reading(source):
+                for span in spans_of:
+                    opened.seek(span.begin)
+                    piece.write(moved(opened.read(span.end - span.begin), span.by))
+    return path
+
+
+def join_text(folder, plan, pool, number, text, path):
+    """Writes one of the OBJ texts of the town to a file that has another name until it is whole."""
+    part = path.with_name(path.name + ".part")
+    runs = pieces(spans(folder, plan, pool, text), PIECES * number)
+    given = [(folder / f"{path.name}.{at}.piece", run) for at, run in enumerate(runs)]
+    try:
+        with naming(path), part.open("wb") as file:
+            file.write(OBJ)
+            for piece in counted(pool(write_piece, given), "pieces joined", len(given)):
+                with piece.open("rb") as read:
+                    shutil.copyfileobj(read, file, 1 << 24)
+                piece.unlink()
+        part.replace(path)
+    finally:
+        for leftover in [part, *(piece for piece, _ in given)]:
+            if leftover.exists():
+                leftover.unlink()
+
+
+def faults(folder, plan):
+    """The text of `faults`, by the script's order of lots."""
+    listed = {}
+    for job in plan.drawn():
+        for line in Printed(folder, plan, job).faults():
+            listed.setdefault(line.split()[2], []).append(line + "\n")
+    lines = [line for name in plan.lots for line in listed.get(name, [])]
+    return f"# faults {len(lines)}\n" + "".join(lines)
+
+
+def join(folder, plan, number):
+    """Writes the town, its faults, and its model where the script asks for one. Gives the files."""
+    texts = ["town.obj", "model.obj"][: 1 + ("model" in plan.asked)]
+    with workers(number) as pool:
+        for text, name in enumerate(texts):
+            join_text(folder, plan, pool, number, text, folder / name)
+    write(folder / "town.faults", faults(folder, plan).encode("latin-1"))
+    return [folder / name for name in texts]

@@ -1,0 +1,55 @@
+"""A town that one running program keeps: `cga_live`, which tells behind the reply to an edit what went and what came."""
+import subprocess
+from itertools import islice
+
+from .pipe import Ended, while_written
+from .replies import replies
+from .script import text_of
+from .sources import frugal
+
+
+class Live:
+    """What is changed is handed on as soon as it is told: the lines that went, and those that came."""
+
+    def __init__(self, program, changed):
+        self.changed = changed
+        self.process = subprocess.Popen(
+            [program], env=frugal(), stdin=subprocess.PIPE, stdout=subprocess.PIPE, bufsize=1 << 16
+        )
+        self.replies = replies(self.lines())
+
+    def lines(self):
+        """The lines of replies alone."""
+        for line in self.process.stdout:
+            if line.startswith(b"# changed "):
+                gone, come = map(int, line.split()[2:4])
+                told = [line[2:-1].decode("latin-1") for line in islice(self.process.stdout, gone + come)]
+                self.changed(told[:gone], told[gone:])
+            else:
+                yield line.decode("latin-1").rstrip("\n")
+
+    def ask(self, lines, number):
+        """The replies to lines that have so many. Behind the last of them nothing may have changed."""
+        with while_written(self.process, text_of(lines)):
+            got = list(islice(self.replies, number))
+        if len(got) < number:
+            raise Ended(f"the program ended with status {self.process.wait()}")
+        return got
+
+    def close(self):
+        self.process.kill()
+        self.process.communicate()
+
+    def stop(self):
+        """Ends the program, from whatever thread; who waits for its replies is told."""
+        self.process.terminate()
+
+
+def tells_changes(program):
+    """Whether a program is one that tells what an edit changed."""
+    script = b'rules\n1: a -> S(1r, 1, 1r) I("cube")\nend\nlot a 1 0 0 1 1 a\nstats\n'
+    try:
+        done = subprocess.run([program], input=script, stdout=subprocess.PIPE, stderr=subprocess.DEVNULL, timeout=60)
+    except subprocess.TimeoutExpired:
+        return False
+    return b"\n# changed 0 1\n" in done.stdout

@@ -1,0 +1,164 @@
+"""The town of a script that is edited, kept by a running program: a save is sent as edits where edits say it."""
+from collections import Counter
+
+from .edits import edits
+from .live import Live
+from .pipe import Ended
+from .plain_script import Told, sources_of
+from .replies import counts_of, is_refused
+from .script import is_open
+from .session import OPEN
+
+UNSENT = "quiet print stats faults grammar".split()  # they edit nothing and are never refused, and some take long
+FEW = 4  # edits of a save, up to which each is asked how much was worked anew
+BEYOND = ("NoSymbol", "OverBudget", "TooManyLots")  # causes that may be another line's in a run from nothing
+
+
+class LiveTown:
+    """Shows what scripts come to. `held` is the sources that the program has, where they are known."""
+
+    is_kept = True
+
+    def __init__(self, program, shown):
+        self.program, self.shown = program, shown
+        self.live, self.held, self.lines, self.answers = None, None, None, []
+        self.worked = self.stats = None
+
+    def stop(self):
+        if self.live:
+            self.live.stop()
+
+    def close(self):
+        if self.live:
+            self.live.close()
+        self.live, self.held, self.lines, self.answers = None, None, None, []
+
+    def show(self, lines, found):
+        """The reply to each command of a script, and the shapes that came to nothing."""
+        left_open = found[-1:] if found and is_open(found[-1], lines) else []
+        whole = found[: len(found) - len(left_open)]
+        closed = lines[: left_open[0].first] if left_open else lines
+        answers = self.kept(closed, whole)
+        try:
+            if answers is None:
+                answers = self.anew(closed, whole, bool(left_open))
+            faults = self.live.ask(["faults"], 1)[0][1:] if self.live and self.stats.get("faults") else []
+        except Ended:
+            self.close()
+            raise
+        return answers + [OPEN for _ in left_open], faults
+
+    def kept(self, lines, found):
+        """The replies where the program that is running can be led there; it may have ended by itself meanwhile."""
+        try:
+            answers = self.grown(lines, found)
+            return self.edited(lines, found) if answers is None else answers
+        except Ended:
+            self.close()
+            return None
+
+    def turn(self, values):
+        """Sets attributes beside the script's values; the replies of those that are refused."""
+        self.lines, self.worked, refused = None, 0, []
+        for name, value in values.items() if self.live else ():
+            reply = self.tell([f"attr {name} = {value}"])
+            if reply[0] != "# ok":
+                refused.append(f"attr {name} = {value}: {reply[0][2:]}")
+            elif self.held:
+                self.held = self.held.copy()
+                self.held.attributes[name] = Told(value, None, None)
+        return refused
+
+    # ---- ways to come to the script's town; each has the replies to its commands, or nothing where it doesn't lead there
+
+    def grown(self, lines, found):
+        """Where the script only grew, what is new is sent."""
+        if not self.live or self.lines is None or lines[: len(self.lines)] != self.lines:
+            return None
+        new, self.stats = self.feed(self.live, lines, found[len(self.answers) :])
+        self.worked = self.stats.get("expanded", 0) if len(new) == 1 else None
+        return self.keep(lines, found, self.answers + new)
+
+    def edited(self, lines, found):
+        """Where edits lead from the sources that are there to those of the script, these are sent."""
+        new = sources_of(lines, found)
+        planned = edits(self.held, new, lines, found) if self.live and self.held and new else None
+        if planned is None:
+            return None
+        self.worked, answers = 0 if len(planned) <= FEW else None, [["# ok"]] * len(found)
+        for edit in planned:
+            reply = self.tell(edit.lines, len(planned) <= FEW)
+            if reply[0] == "# ok":
+                self.held = self.held.copy()
+                edit.change(self.held)
+            elif reply[0].split()[2] in BEYOND:
+                return None
+            else:
+                answers[edit.command] = in_block(reply, edit)
+        if not planned or len(planned) > FEW:
+            self.stats = counts_of(self.live.ask(["stats"], 1)[0])
+        if all(answer == ["# ok"] for answer in answers):
+            return self.keep(lines, found, answers, new)
+        self.lines = None
+        return answers
+
+    def anew(self, lines, found, is_open):
+        """All is sent to another program; a block that is refused or left open leaves the town that is there."""
+        is_first, drawn = not self.shown.drawn, Counter()
+
+        def collect(gone, come):
+            drawn.subtract(gone)
+            drawn.update(come)
+
+        live = Live(self.program, self.shown.put if is_first else collect)
+        answers, stats = self.feed(live, lines, found)
+        if not is_first and (
+            is_open or any(command.is_block and is_refused(answer) for command, answer in zip(found, answers))
+        ):
+            live.close()
+            self.lines = None
+            return answers
+        self.close()
+        self.live, self.stats, self.worked = live, stats, None
+        if not is_first:
+            live.changed = self.shown.put
+            self.shown.replace((+drawn).elements())
+        return self.keep(lines, found, answers)
+
+    # ----
+
+    def keep(self, lines, found, answers, sources=None):
+        """What is known of the program where it has come to a script's sources."""
+        self.lines, self.answers = list(lines), answers
+        self.held = None if any(map(is_refused, answers)) else sources or sources_of(lines, found)
+        return answers
+
+    def feed(self, live, lines, found):
+        """Sends commands; reports that edit nothing aren't sent, and count as accepted."""
+        sent = [command for command in found if not (len(command.words) == 1 and command.words[0] in UNSENT)]
+        got = iter(
+            live.ask(
+                [line for command in sent for line in lines[command.first : command.last + 1]] + ["stats"],
+                len(sent) + 1,
+            )
+        )
+        kept = {command.first: next(got) for command in sent}
+        return [kept.get(command.first, ["# ok"]) for command in found], counts_of(next(got))
+
+    def tell(self, lines, is_counted=True):
+        """The reply to an edit; how much was worked anew for it is added up."""
+        reply, *stats = self.live.ask(lines + ["stats"] * is_counted, 1 + is_counted)
+        if is_counted:
+            self.stats = counts_of(stats[0])
+            if self.worked is not None and reply[0] == "# ok":
+                self.worked += self.stats.get("expanded", 0)
+        return reply
+
+
+def in_block(reply, edit):
+    """A refusal of a rule that was put, as the block would have it: by the line and the place in the file."""
+    head, _, place = reply[0].rpartition(" at ")
+    if not edit.place or not head:
+        return reply
+    line, before = edit.place
+    return [f"{head} at {line}:{max(1, int(place) - before)}"]

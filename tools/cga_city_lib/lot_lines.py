@@ -1,0 +1,30 @@
+"""Lot lines: a region has many of them, so lines that are spelt as usual are read by one expression."""
+import re
+
+from .script import LONGEST, words_of
+
+VALUE = r"(-?\d+(?:\.\d+|/\d+)?)"
+USUAL = re.compile(rf"lot ([A-Za-z_]\w*) (\d+(?:\.0+)?) {VALUE} {VALUE} {VALUE} {VALUE} ([A-Za-z_]\w*)", re.ASCII)
+
+
+def usual(line):
+    """The match of a line with one blank between its parts: the name, the seed, four values and the symbol; else None."""
+    return USUAL.fullmatch(line) if len(line) <= LONGEST else None
+
+
+def unusual(line):
+    """The same of a line with other blanks or a comment; None where its parts can't be told."""
+    words = words_of(line) if len(line) <= LONGEST else []
+    values, at = [], 3
+    while len(values) < 4 and at < len(words):
+        value, at = value_at(words, at)
+        values.append(value)
+    return usual(" ".join(words[:3] + values + words[at:]))
+
+
+def value_at(words, at):
+    """A value, whose sign and whose slash are words of their own, and the place behind it."""
+    last = at + (words[at] == "-")
+    if words[last + 1 : last + 2] == ["/"]:
+        last += 2
+    return "".join(words[at : last + 1]), last + 1

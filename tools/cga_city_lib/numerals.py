@@ -1,0 +1,38 @@
+"""Numbers as a script writes them: decimals without an exponent, or a quotient of whole numbers."""
+import re
+from decimal import Decimal, InvalidOperation
+
+DIGITS = 18
+
+
+def numeral(value):
+    """The text of a number, exactly; nothing where it is none, or has more digits than a script takes."""
+    if isinstance(value, bool) or not isinstance(value, (int, Decimal, str)):
+        return None
+    text = str(value).strip() if not isinstance(value, int) or abs(value) < 10**DIGITS else ""
+    if re.fullmatch(r"-?\d{1,18}/0*[1-9]\d{0,17}", text, re.ASCII):
+        return text
+    return decimal(text)
+
+
+def decimal(text):
+    try:
+        number = Decimal(text) if text.isascii() and "_" not in text else None
+    except InvalidOperation:
+        number = None
+    if number is None or not number.is_finite() or not -DIGITS < number.adjusted() < DIGITS:
+        return None
+    written = plain(number)
+    return written if sum(map(str.isdigit, written)) <= DIGITS else None
+
+
+def plain(number):
+    """A decimal without an exponent and without zeros that say nothing."""
+    text = f"{number:f}"
+    text = text.rstrip("0").rstrip(".") if "." in text else text
+    return "0" if text == "-0" else text
+
+
+def on_grid(number, places):
+    """The text of a whole number of steps of a grid, of which 10 to the number of places make 1."""
+    return plain(Decimal(number).scaleb(-places))

@@ -1,0 +1,132 @@
+"""What is refused in a script, with its place and what to write, the shapes that came to nothing with their rules, and what
+has no effect."""
+import re
+from collections import defaultdict
+
+from .advice import Place, advice
+from .causes import CAUSES, CODES, help_for
+from .follows import Follows
+from .notes import by_symbol, notes
+from .replies import is_refused
+from .script import rule_of, tokens
+from .standing import block, standing
+
+REFUSED = re.compile(r"# refused (\w+) ?(.*)")
+PLACE = re.compile(r"at (?:(\d+):)?(\d+)")
+WIDEST = 300
+
+
+def readable(text):
+    return text.encode("latin-1").decode("utf-8", "replace")
+
+
+def shortened(path):
+    return path if len(path) < 60 else path[:24] + ".."
+
+
+class Report:
+    """A script's lines, and its commands with their replies; `ways` has for a shape that came to nothing the symbols above it."""
+
+    def __init__(self, path, lines, commands, replies, ways=None):
+        self.path, self.lines, self.ways = path, lines, ways or {}
+        self.answers = list(zip(commands, replies))
+        self.refused = [
+            (command, *REFUSED.fullmatch(reply[0]).groups()) for command, reply in self.answers if is_refused(reply)
+        ]
+        self.cause_of = Follows(lines, self.answers).cause_of
+
+    def place(self, command, cause, rest):
+        """The line and the column that a refusal means, and the words that it tells; no column is 0."""
+        told = PLACE.fullmatch(rest)
+        if told:
+            line, column = told.groups()
+            if line or not command.is_block:
+                return command.first + int(line or 0), int(column), []
+            return command.first + int(column), 0, []
+        words = rest.split()
+        names = [word for word in words if not word.isdigit()]
+        line = self.line_told(command, cause, words) if command.is_block else command.first
+        columns = [column for column, word in tokens(self.lines[line]) if word in names]
+        return line, columns[-1 if cause in ("UnknownSymbol", "NoSymbol") else 0] if columns else 0, words
+
+    def line_told(self, command, cause, words):
+        """The line of a block with the rule of that id, the lot of that name or symbol, or the attribute."""
+        if not words:
+            return command.first
+        heads = {at: [word for _, word in tokens(self.lines[at])] for at in block(command, self.lines)}
+        if words[0].isdigit():
+            found = [at for at in heads if (rule_of(self.lines[at]) or [None])[0] == int(words[0])]
+        elif cause == "NoSymbol":
+            found = [at for at, head in heads.items() if head[:1] == ["lot"] and head[-1] == words[0]]
+        else:
+            found = [at for at, head in heads.items() if head[:2] in (["lot", words[0]], ["attr", words[0]])]
+        is_second = cause in ("DoubleId", "DoubleAttribute")
+        return (found[is_second:] or found or [command.first])[0]
+
+    def refusal(self, command, cause, rest):
+        """The lines that tell a refusal: its place and a sentence, the line, and a mark under the place."""
+        line, column, words = self.place(command, cause, rest)
+        text = self.lines[line]
+        told = [
+            CAUSES.get(cause, cause).format(*words, "?", "?"),
+            advice(cause, words, Place(text, column, line != command.first)),
+        ]
+        if told[1] and cause in ("Unexpected", "BadByte"):
+            told[0] = ""
+        yield f"{self.path}:{line + 1}:{column or 1}: {cause}: {'; '.join(filter(None, told))}"
+        yield "    " + readable(text)[:WIDEST]
+        ahead = readable(text[: max(column - 1, 0)])
+        if column and len(ahead) < WIDEST:
+            yield "    " + re.sub(r"[^\t]", " ", ahead) + "^"
+
+    def refusals(self):
+        """All refusals but those that follow from another; how many follow is told with that one."""
+        following = defaultdict(list)
+        for first, cause in self.cause_of.items():
+            following[cause].append(first + 1)
+        for command, cause, rest in self.refused:
+            if command.first in self.cause_of:
+                continue
+            yield from self.refusal(command, cause, rest)
+            follow = following[command.first]
+            if follow[1:]:
+                yield f"    {len(follow)} further refusals follow from it, from line {follow[0]} on"
+            elif follow:
+                yield f"    a further refusal follows from it, in line {follow[0]}"
+
+    def way(self, lot, path, symbol, rules):
+        """The rules above a shape, from its lot on; each that may have made the next one."""
+        steps = [*self.ways.get((lot, path), []), symbol]
+        for made, (above, below) in enumerate(zip(steps, steps[1:])):
+            numbers = [str(rule.number) for rule, _ in rules.get(above, []) if below in rule.names]
+            if above != below or made == 0:
+                yield f"{above} (rule {' or '.join(numbers) or '?'})"
+
+    def faults(self, faults, rules):
+        """The lines that tell, for each symbol and code, how many shapes came to nothing, one of them, its rules and what helps."""
+        found = defaultdict(list)
+        for fault in faults:
+            _, _, lot, path, symbol, code = fault.split()
+            found[symbol, code].append((lot, path))
+        for (symbol, code), shapes in found.items():
+            own, (lot, path) = rules.get(symbol, []), shapes[0]
+            many = f"{len(shapes)} shapes of `{symbol}`, such as" if shapes[1:] else f"a shape of `{symbol}`,"
+            first = own[0][1] + 1 if own else 1
+            yield f"{self.path}:{first}:1: {code}: {many} {shortened(path)} in lot {lot}, came to nothing: {CODES.get(code, code)}"
+            for _, at in own:
+                yield f"    line {at + 1}: {self.lines[at].strip()}"
+            if (lot, path) in self.ways:
+                yield f"    on its way: {' > '.join([*self.way(lot, path, symbol, rules), symbol])}"
+            yield f"    what helps: {help_for(code, [self.lines[at] for _, at in own])}"
+
+    def lines_for(self, faults):
+        """All that there is to tell, a sum at the end."""
+        now = standing(self.lines, self.answers)
+        yield from self.refusals()
+        yield from self.faults(faults, by_symbol(now.rules))
+        told = [] if self.refused else notes(now)
+        for at, text in told:
+            yield f"{self.path}:{at + 1}:1: note: {text}"
+        follow = f" ({many} of them only follow)" if (many := len(self.cause_of)) else ""
+        noted = f", {len(told)} note{'s' * (len(told) > 1)}" if told else ""
+        yield f"{self.path}: {len(self.refused)} refused{follow}, {len(faults)} shapes came to nothing{noted}"

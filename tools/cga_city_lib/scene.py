@@ -1,0 +1,107 @@
+"""A town as a glTF file: a node for each lot, with a mesh of what stands there once, and a node for each kind of instance.
+
+A lot's node is moved by whole units, which floats of 32 bits hold exactly up to 16 million; what is in it lies near it.
+"""
+import math
+from array import array
+
+from .corners import Corners
+from .glb import INSTANCING, Glb
+from .materials import Materials
+from .places import place, quaternion
+from .solids import FACES, corners
+
+FINEST = 1e-6  # the least share of a hip's length that its slope takes
+
+
+class Scene:
+    """`is_instance` says of a symbol whether each of its solids is an instance of a mesh in the unit box."""
+
+    def __init__(self, town, names, setting, is_instance):
+        self.town, self.names, self.is_instance, self.metres = town, names, is_instance, float(setting.metres)
+        self.offset = tuple(map(float, setting.offset))
+        self.points = [tuple(part - off for part, off in zip(point, self.offset)) for point in town.points]
+        self.glb = Glb()
+        self.materials, self.units = Materials(self.glb), {}
+
+    def file(self, lots):
+        """The bytes of the file of these lots, as pairs of a name and solids."""
+        nodes = [self.lot(name, solids) for name, solids in lots if solids]
+        root = {"name": "town", "children": nodes, "extras": {"offset": list(self.offset), "metres": self.metres}}
+        if self.metres != 1:
+            root["scale"] = [self.metres] * 3
+        return self.glb.file([self.glb.add("nodes", root)])
+
+    def lot(self, name, solids):
+        once, instances = {}, {}
+        for number, solid in enumerate(solids):
+            if self.is_instance(solid.symbol):
+                found = place(self.town, name, number, solid)
+                instances.setdefault((solid.symbol, found.kind, found.ridge, slope_of(found)), []).append(found)
+            else:
+                once.setdefault(solid.symbol, []).append(solid)
+        low = self.low(solids)
+        node = {"name": name, "translation": list(low)}
+        if once:
+            parts = [self.part(symbol, some, low) for symbol, some in once.items()]
+            node["mesh"] = self.glb.add("meshes", {"name": name, "primitives": parts})
+        if instances:
+            node["children"] = [self.instances(kind, some, low) for kind, some in instances.items()]
+        return self.glb.add("nodes", node)
+
+    def low(self, solids):
+        """A lot's low corner in whole units."""
+        used = [self.points[at] for at in {at for solid in solids for face in solid.faces for at in face}]
+        return tuple(float(math.floor(min(parts))) for parts in zip(*used))
+
+    def part(self, symbol, solids, low):
+        found = Corners()
+        for solid in solids:
+            for face in solid.faces:
+                found.add([self.points[at] for at in face], low)
+        return found.primitive(self.glb, self.materials.of(symbol))
+
+    def instances(self, kind, found, low):
+        moves, turns, sizes = array("f"), array("f"), array("f")
+        for each in found:
+            moves.extend(float(part) - off - at for part, off, at in zip(each.corner, self.offset, low))
+            turns.extend(quaternion(each.axes))
+            sizes.extend(map(float, each.size))
+        self.glb.required.add(INSTANCING)
+        attributes = {
+            "TRANSLATION": self.glb.accessor(moves, "VEC3"),
+            "ROTATION": self.glb.accessor(turns, "VEC4"),
+            "SCALE": self.glb.accessor(sizes, "VEC3"),
+        }
+        return self.glb.add(
+            "nodes",
+            {
+                "name": f"{found[0].lot}.{kind[0]}",
+                "mesh": self.unit(*kind),
+                "extensions": {INSTANCING: {"attributes": attributes}},
+                "extras": {"ids": [self.names[each.lot][each.number] for each in found]},
+            },
+        )
+
+    def unit(self, symbol, kind, ridge, slope):
+        """The mesh of a solid in the unit box, made once for each symbol and kind, and of hips for each share of slope."""
+        key = symbol, kind, ridge, slope
+        if key not in self.units:
+            size = (slope, 1, 1) if ridge == "z" else (1, 1, slope)
+            points = [tuple(part / whole for part, whole in zip(corner, size)) for corner in corners(kind, ridge, size)]
+            found = Corners()
+            for face in FACES[kind, ridge]:
+                found.add([points[at - 1] for at in face])
+            parts = [found.primitive(self.glb, self.materials.of(symbol))]
+            self.units[key] = self.glb.add(
+                "meshes", {"name": ".".join(filter(None, (symbol, kind, ridge))), "primitives": parts}
+            )
+        return self.units[key]
+
+
+def slope_of(found):
+    """How wide a hip with a ridge is in parts of its length; 1 for all other solids, whatever their sizes."""
+    if found.kind != "hip" or not found.ridge:
+        return 1
+    w, _, d = map(float, found.size)
+    return max(FINEST, round(w / d if found.ridge == "z" else d / w, 6)) if max(w, d) > 0 else 1

@@ -1,0 +1,94 @@
+"""A region as 3D Tiles: a file of glTF for each job, and tileset.json, with coarser heads as levels of detail."""
+import json
+import struct
+
+from .call import Refused
+from .checking import around
+from .exact import parted
+from .files import write
+from .joining import workers
+from .printed import reading
+from .progress import counted
+from .quadtree import Quadtree
+from .tile_glb import ends_of, glb
+from .tileset import Tile, tileset, tree
+from .towns import objects
+
+SMALLEST = 10**6  # boxes are rounded outwards to so many parts of a unit
+
+
+def corners(box, one):
+    """The least and the greatest corner of a box, X before Z before Y over one, as floats that lie no nearer."""
+    low = tuple((box[at] * SMALLEST // one) / SMALLEST for at in (0, 4, 2))
+    high = tuple(-(-box[at] * SMALLEST // one) / SMALLEST for at in (1, 5, 3))
+    return low, high
+
+
+def write_glb(given):
+    folder, plan, job = given
+    path = folder / "tiles" / f"{job.name}.glb"
+    if not path.exists():
+        source = folder / "jobs" / f"{job.name}.out"
+        places = objects(source, [plan.lots[at] for at in job.own])
+        with source.open("rb") as file:
+            file.seek(places[0].begin)
+            town = file.read(places[-1].end - places[0].begin)
+        with reading(source):
+            write(path, glb(town, (job.square[0], 0, job.square[1])))
+    return job.name
+
+
+def drawn_box(folder, job):
+    """The box of what a tile draws, or of the corner of its square where it draws nothing."""
+    x, z, _ = job.square
+    path = folder / "tiles" / f"{job.name}.glb"
+    try:
+        low, high = ends_of(path.read_bytes()) or ((0, 0, 0), (0, 0, 0))
+    except (ValueError, TypeError, AttributeError, LookupError, struct.error):
+        raise Refused(f"{path} isn't a tile of this tool: take it away, and make the tiles again") from None
+    return tuple(tuple(number + corner for number, corner in zip(end, (x, 0, z))) for end in (low, high))
+
+
+def tile_of(folder, plan, job, told):
+    boxes = told.boxes[: len(job.own)]
+    box = corners(around(boxes), told.one) if boxes else drawn_box(folder, job)
+    units, one = parted(plan.options.errors[job.level - 1]) if job.level else (0, 1)
+    return Tile(job.square, box, units / one, f"{job.name}.glb")
+
+
+def grouped(squares):
+    """Squares in larger ones, about four in each."""
+    most = 4
+    while True:
+        leaves = list(Quadtree([square[:2] for square in squares], [1] * len(squares), most).leaves())
+        if len(leaves) < len(squares):
+            return [
+                (max([leaf.square, *(squares[at] for at in leaf.items)], key=lambda one: one[2]), leaf.items)
+                for leaf in leaves
+            ]
+        most *= 2
+
+
+def levels(folder, plan, told):
+    """The tiles of the coarsest level, each with those that it stands for below it."""
+    tiles, below = [], {}
+    for level in range(len(plan.heads)):
+        jobs = [job for job in plan.jobs if job.level == level]
+        tiles = [tile_of(folder, plan, job, told[job.name]) for job in jobs]
+        for tile, job in zip(tiles, jobs):
+            for child in dict.fromkeys(below[at] for at in job.own) if below else ():
+                tile.take(child)
+        below = {at: tile for tile, job in zip(tiles, jobs) for at in job.own}
+    return tiles
+
+
+def write_tiles(folder, plan, told, number):
+    """Makes the tiles that aren't there, and the tree over all; gives its path."""
+    (folder / "tiles").mkdir(exist_ok=True)
+    with workers(number) as pool:
+        for _ in counted(pool(write_glb, [(folder, plan, job) for job in plan.jobs]), "tiles made", len(plan.jobs)):
+            pass
+    path = folder / "tiles" / "tileset.json"
+    root = tree(levels(folder, plan, told), grouped)
+    write(path, json.dumps(tileset(root), separators=(",", ":")).encode())
+    return path
