@@ -31,6 +31,11 @@ def colours(lines, found):
     return {symbol: colour_of(symbol) for symbol in sorted(symbols)}
 
 
+def head_of(lines, found, answers):
+    """What a page is told of a script that nothing is refused in."""
+    return {"rules": rules_that_draw(lines, found), "attributes": attributes(lines, found, answers)}
+
+
 def attributes(lines, found, answers):
     """The value of each attribute as the script leaves it, by the lines that were accepted."""
     values = {}

@@ -19,6 +19,9 @@ class Either:
     def turn(self, values):
         return self.now.turn(values)
 
+    def publish(self, **head):
+        self.now.publish(**head)
+
     def stop(self):
         self.live.stop()
         self.printed.stop()

@@ -15,7 +15,8 @@ BEYOND = ("NoSymbol", "OverBudget", "TooManyLots")  # causes that may be another
 
 
 class LiveTown:
-    """Shows what scripts come to. `held` is the sources that the program has, where they are known."""
+    """Shows what scripts come to. `held` is the sources that the program has, where they are known, and `changes` what went and
+    came since the last publication, by how often each instance is drawn."""
 
     is_kept = True
 
@@ -23,6 +24,7 @@ class LiveTown:
         self.program, self.shown = program, shown
         self.live, self.held, self.lines, self.answers = None, None, None, []
         self.worked = self.stats = None
+        self.changes, self.is_another = Counter(), False
 
     def stop(self):
         if self.live:
@@ -32,6 +34,18 @@ class LiveTown:
         if self.live:
             self.live.close()
         self.live, self.held, self.lines, self.answers = None, None, None, []
+
+    def collect(self, gone, come):
+        self.changes.subtract(gone)
+        self.changes.update(come)
+
+    def publish(self, **head):
+        """Tells the pages all that changed in one step, with values of the head."""
+        if self.is_another:
+            self.shown.replace((+self.changes).elements(), **head)
+        else:
+            self.shown.put((-self.changes).elements(), (+self.changes).elements(), **head)
+        self.changes, self.is_another = Counter(), False
 
     def show(self, lines, found):
         """The reply to each command of a script, and the shapes that came to nothing."""
@@ -58,14 +72,14 @@ class LiveTown:
             return None
 
     def turn(self, values):
-        """Sets attributes beside the script's values; the replies of those that are refused."""
-        self.lines, self.worked, refused = None, 0, []
-        for name, value in values.items() if self.live else ():
-            reply = self.tell([f"attr {name} = {value}"])
+        """Sets attributes beside the script's values; what is said of those that are refused, by their names."""
+        self.lines, refused = None, {}
+        lines = [[f"attr {name} = {value}"] for name, value in values.items()] if self.live else []
+        self.held = self.held and self.held.copy()
+        for (name, value), reply in zip(values.items(), self.tell_all(lines, len(lines) <= FEW)):
             if reply[0] != "# ok":
-                refused.append(f"attr {name} = {value}: {reply[0][2:]}")
+                refused[name] = f"attr {name} = {value}: {reply[0][2:]}"
             elif self.held:
-                self.held = self.held.copy()
                 self.held.attributes[name] = Told(value, None, None)
         return refused
 
@@ -85,18 +99,15 @@ class LiveTown:
         planned = edits(self.held, new, lines, found) if self.live and self.held and new else None
         if planned is None:
             return None
-        self.worked, answers = 0 if len(planned) <= FEW else None, [["# ok"]] * len(found)
-        for edit in planned:
-            reply = self.tell(edit.lines, len(planned) <= FEW)
+        answers, self.held = [["# ok"]] * len(found), self.held.copy()
+        for edit, reply in zip(planned, self.tell_all([edit.lines for edit in planned], len(planned) <= FEW)):
             if reply[0] == "# ok":
-                self.held = self.held.copy()
                 edit.change(self.held)
             elif reply[0].split()[2] in BEYOND:
+                self.held = None
                 return None
             else:
                 answers[edit.command] = in_block(reply, edit)
-        if not planned or len(planned) > FEW:
-            self.stats = counts_of(self.live.ask(["stats"], 1)[0])
         if all(answer == ["# ok"] for answer in answers):
             return self.keep(lines, found, answers, new)
         self.lines = None
@@ -104,25 +115,23 @@ class LiveTown:
 
     def anew(self, lines, found, is_open):
         """All is sent to another program; a block that is refused or left open leaves the town that is there."""
-        is_first, drawn = not self.shown.drawn, Counter()
+        drawn = Counter()
 
         def collect(gone, come):
             drawn.subtract(gone)
             drawn.update(come)
 
-        live = Live(self.program, self.shown.put if is_first else collect)
+        live = Live(self.program, collect)
         answers, stats = self.feed(live, lines, found)
-        if not is_first and (
-            is_open or any(command.is_block and is_refused(answer) for command, answer in zip(found, answers))
-        ):
+        is_lost = any(command.is_block and is_refused(answer) for command, answer in zip(found, answers))
+        if self.shown.drawn and (is_open or is_lost):
             live.close()
             self.lines = None
             return answers
         self.close()
+        live.changed = self.collect
         self.live, self.stats, self.worked = live, stats, None
-        if not is_first:
-            live.changed = self.shown.put
-            self.shown.replace((+drawn).elements())
+        self.changes, self.is_another = drawn, True
         return self.keep(lines, found, answers)
 
     # ----
@@ -145,14 +154,16 @@ class LiveTown:
         kept = {command.first: next(got) for command in sent}
         return [kept.get(command.first, ["# ok"]) for command in found], counts_of(next(got))
 
-    def tell(self, lines, is_counted=True):
-        """The reply to an edit; how much was worked anew for it is added up."""
-        reply, *stats = self.live.ask(lines + ["stats"] * is_counted, 1 + is_counted)
-        if is_counted:
-            self.stats = counts_of(stats[0])
-            if self.worked is not None and reply[0] == "# ok":
-                self.worked += self.stats.get("expanded", 0)
-        return reply
+    def tell_all(self, edits, is_counted):
+        """The reply to each of some edits, which are sent in one write. Where it is counted, how much was worked for them is
+        added up; else only the last counts are asked for."""
+        asked = [line for lines in edits for line in lines + ["stats"] * is_counted]
+        got = self.live.ask(asked + ["stats"], (1 + is_counted) * len(edits) + 1) if self.live else []
+        counts = [counts_of(reply) for reply in got[1:-1:2]] if is_counted else []
+        replies = got[:-1:2] if is_counted else got[:-1]
+        worked = [told.get("expanded", 0) for told, reply in zip(counts, replies) if reply[0] == "# ok"]
+        self.stats, self.worked = counts_of(got[-1]) if got else self.stats, sum(worked) if is_counted else None
+        return replies
 
 
 def in_block(reply, edit):

@@ -9,14 +9,8 @@ class PrintedTown:
     """Shows what scripts come to: of the whole town that is printed each time only the difference is told."""
 
     def __init__(self, program, shown):
-        self.session, self.shown, self.meshes, self.lines, self.stats, self.worked = (
-            Session(program),
-            shown,
-            Meshes(),
-            [],
-            None,
-            None,
-        )
+        self.session, self.shown, self.meshes = Session(program), shown, Meshes()
+        self.lines, self.stats, self.worked, self.drawn = [], None, None, None
         self.is_kept = self.session.is_kept
 
     def stop(self):
@@ -28,17 +22,24 @@ class PrintedTown:
         return self.put(lines)
 
     def turn(self, values):
-        """Sets attributes beside the script's values; the replies of those that are refused."""
+        """Sets attributes beside the script's values; what is said of those that are refused, by their names."""
         lines = [f"attr {name} = {value}" for name, value in values.items()]
         answers, _ = self.put(self.lines + lines)
-        return [f"{line}: {answer[0][2:]}" for line, answer in zip(lines, answers[-len(lines) :]) if answer != ["# ok"]]
+        told = zip(values, lines, answers[-len(lines) :])
+        return {name: f"{line}: {answer[0][2:]}" for name, line, answer in told if answer != ["# ok"]}
 
     def put(self, lines):
         lines, commands, answers, faults, town = self.session.ask(lines)
         self.stats = self.session.stats
         blocks = [(command, answer) for command, answer in zip(commands, answers) if command.is_block]
         is_lost = any(is_open(command, lines) or is_refused(answer) for command, answer in blocks)
-        if not (is_lost and self.shown.drawn):
-            drawn = self.meshes.lines(town)
-            self.shown.replace(drawn, meshes=dict(self.meshes.told))
+        self.drawn = None if is_lost and self.shown.drawn else self.meshes.lines(town)
         return answers, faults
+
+    def publish(self, **head):
+        """Tells the pages what is drawn in one step, with values of the head."""
+        if self.drawn is None:
+            self.shown.put(**head)
+        else:
+            self.shown.replace(self.drawn, meshes=dict(self.meshes.told), **head)
+        self.drawn = None

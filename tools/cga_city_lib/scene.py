@@ -35,8 +35,8 @@ class Scene:
     def lot(self, name, solids):
         once, instances = {}, {}
         for number, solid in enumerate(solids):
-            if self.is_instance(solid.symbol):
-                found = place(self.town, name, number, solid)
+            found = place(self.town, name, number, solid) if self.is_instance(solid.symbol) else None
+            if found and all(scale_of(found)):
                 instances.setdefault((solid.symbol, found.kind, found.ridge, slope_of(found)), []).append(found)
             else:
                 once.setdefault(solid.symbol, []).append(solid)
@@ -66,7 +66,7 @@ class Scene:
         for each in found:
             moves.extend(float(part) - off - at for part, off, at in zip(each.corner, self.offset, low))
             turns.extend(quaternion(each.axes))
-            sizes.extend(map(float, each.size))
+            sizes.extend(scale_of(each))
         self.glb.required.add(INSTANCING)
         attributes = {
             "TRANSLATION": self.glb.accessor(moves, "VEC3"),
@@ -97,6 +97,13 @@ class Scene:
                 "meshes", {"name": ".".join(filter(None, (symbol, kind, ridge))), "primitives": parts}
             )
         return self.units[key]
+
+
+def scale_of(found):
+    """The three sizes by which the mesh is scaled: a quad's mesh has no depth, so that 1 leaves it as it is. A solid with a
+    size of 0 is no instance, since its matrix couldn't be inverted."""
+    wide, high, deep = map(float, found.size)
+    return wide, high, 1.0 if found.kind == "quad" else deep
 
 
 def slope_of(found):

@@ -13,7 +13,7 @@ class Shown:
     def __init__(self, title):
         self.run, self.number, self.changed = secrets.token_hex(4), 0, threading.Condition()
         self.drawn, self.log, self.head = Counter(), deque(maxlen=KEPT), {}
-        self.put(title=title, said="", is_busy=True)
+        self.put(title=title, said="", is_busy=True, values={})
 
     def put(self, gone=(), come=(), **head):
         """Takes lines of instances that went and came, each as often as it did, and values of the head."""

@@ -10,7 +10,10 @@ from .report import Report
 from .script import commands, lines_of
 
 SLOW = "the program isn't proved and built yet (./cga_city --prove does it), so what you see takes a minute or two at each save .."
+GONE = "the file is gone; the town is that of its last save"
+EMPTY = "the file is empty, so there is no town"
 EACH = 0.02  # seconds between two looks at the file
+AWAY = 0.5  # seconds for which an editor that saves may take the file away
 
 
 class Watch:
@@ -19,6 +22,8 @@ class Watch:
     def __init__(self, path, town, shown):
         self.path, self.town, self.shown = path, town, shown
         self.seen, self.data, self.saves, self.wanted, self.woken = None, None, 0, {}, threading.Event()
+        self.values, self.turns = {}, 0  # of the sliders beside the script's, and how often they were set
+        self.away = None  # since when the file has been away
 
     def turn(self, values):
         self.wanted = {**self.wanted, **values}
@@ -28,9 +33,9 @@ class Watch:
         while True:
             data = self.read()
             if data is not None and data != self.data:
-                self.data, self.wanted = data, {}
+                self.data, self.wanted, self.values = data, {}, {}
                 self.tell(self.show, lines_of(data))
-            elif self.wanted and self.data is not None:
+            elif self.wanted and self.saves:
                 values, self.wanted = self.wanted, {}
                 self.tell(self.turned, values)
             self.woken.wait(EACH)
@@ -48,12 +53,23 @@ class Watch:
                 time.sleep(EACH / 2)
                 seen, was = self.look(), seen
                 if seen == was:
-                    self.seen = seen
+                    self.seen, self.away = seen, None
                     return data
         except OSError as fault:
-            if self.seen is None:
-                self.shown.put(said=f"{self.path}: {fault.strerror}")
+            self.is_away(fault)
             return None
+
+    def is_away(self, fault):
+        """Says that the file isn't there, once it has been away for longer than a save takes."""
+        self.away = self.away or time.monotonic()
+        if not self.saves:
+            self.shown.put(said=f"{self.path}: {fault.strerror}")
+        elif self.seen is not None and time.monotonic() - self.away > AWAY:
+            self.seen, self.data = None, None
+            self.shown.put(said=self.gone(), is_stale=True)
+
+    def gone(self):
+        return "" if self.seen else f"{self.path}: {GONE}"
 
     def look(self):
         told = os.stat(self.path)
@@ -70,22 +86,27 @@ class Watch:
     def show(self, lines):
         self.saves += 1
         found = commands(lines)
-        self.shown.put(colours={**self.shown.value("colours", {}), **about.colours(lines, found)})
         answers, faults = self.town.show(lines, found)
         report = Report(self.path, lines, found, answers)
-        said = "\n".join(report.lines_for(faults)) if report.refused or faults else ""
-        values = (
-            {}
-            if report.refused
-            else {"rules": about.rules_that_draw(lines, found), "attributes": about.attributes(lines, found, answers)}
-        )
-        self.shown.put(
-            said=said, is_busy=False, is_stale=bool(report.refused), save=self.saves, stats=self.stats(), **values
+        said = report.lines_for(faults) if report.refused or faults else [] if found else [f"{self.path}: {EMPTY}"]
+        head = {} if report.refused else about.head_of(lines, found, answers)
+        self.town.publish(
+            said="\n".join(said),
+            is_busy=False,
+            is_stale=bool(report.refused),
+            save=self.saves,
+            stats=self.stats(),
+            values=self.values,
+            colours={**self.shown.value("colours", {}), **about.colours(lines, found)},
+            **head,
         )
 
     def turned(self, values):
-        refused = self.town.turn(values)
-        self.shown.put(said="\n".join(refused), is_stale=bool(refused), stats=self.stats())
+        refused, self.turns = self.town.turn(values), self.turns + 1
+        self.values = {**self.values, **{name: value for name, value in values.items() if name not in refused}}
+        said = [*filter(None, [self.gone()]), *refused.values()]
+        head = {"stats": self.stats(), "values": self.values, "turns": self.turns}
+        self.town.publish(said="\n".join(said), is_stale=bool(said), **head)
 
     def stats(self):
         return {**self.town.stats, "worked": self.town.worked} if self.town.stats else None

@@ -125,6 +125,22 @@ class Geometry(Files):
         ]
         self.assertEqual(ids, [["a#0", "a#2"], ["b#0"]])
 
+    def test_no_instance_has_a_scale_of_0(self):
+        """Quads get a scale of 1 along their own Z; a cube without depth stands in the lot's mesh."""
+        solids = [
+            ("a", "wall", "quad", (0, 0, 0), UPRIGHT, (4, 3, 0)),
+            ("a", "pane", "cube", (5, 0, 0), UPRIGHT, (1, 2, 0)),
+        ]
+        self.source.write_text(solid_table.text(solids), encoding="utf-8")
+        reader = self.read("--instances")
+        self.compare(reader)
+        names = [mesh["name"] for mesh in reader.told["meshes"]]
+        self.assertEqual(sorted(names), ["a", "wall.quad"])
+        for node in reader.told["nodes"]:
+            told = node.get("extensions", {}).get("EXT_mesh_gpu_instancing", {}).get("attributes", {})
+            if told:
+                self.assertEqual(reader.values(told["SCALE"]), [(4, 3, 1)])
+
     def test_normals_are_of_length_1_and_face_outwards(self):
         self.source.write_text(a_town((0, 0, 0), 0.4), encoding="utf-8")
         for _, _, world, corners in self.read().world():

@@ -115,6 +115,15 @@ class InBrowser(unittest.TestCase):
                     x, y = self.place_of(*(size * (k >> axis & 1) for axis, size in enumerate(sizes)))
                     self.assertTrue(0 <= x < 480 and 0 <= y < 320, (x, y))
 
+    def test_the_ground_goes_on_to_the_foot_of_the_window(self):
+        """Before a wide flat town: below its low corners there is ground, as beside the town, and no bare sky."""
+        self.show(Town(cubes(*((20 * x, 0, 20 * z, 8, 3, 8) for x in range(20) for z in range(12)))))
+        self.run_("(() => { shows.ground = false; ask_draw(); })()")
+        sky = self.pixel(240, 316)
+        self.run_("(() => { shows.ground = true; ask_draw(); })()")
+        for x in (4, 240, 476):
+            self.assertGreater(max(abs(a - b) for a, b in zip(self.pixel(x, 317), sky)), 8)
+
     def test_a_town_at_map_coordinates_looks_as_one_at_the_origin(self):
         seen = []
         for x, z in ((0, 0), (2683000, 1248000)):

@@ -150,6 +150,41 @@ class Live(Preview):
             ],
         )
 
+    def test_a_slider_of_one_page_is_told_to_the_other(self):
+        self.begin(RULES + A)
+        other = Page(self.page.port)
+        other.until(1)
+        self.assertEqual(self.page.set({"h": "4.5"}), 200)
+        while not other.head["values"]:
+            other.follow()
+        self.assertEqual((other.head["values"], other.head["attributes"]), ({"h": "4.5"}, {"h": "3"}))
+        self.then(RULES + B)
+        self.assertEqual(self.page.head["values"], {})
+
+    def test_a_save_is_one_step(self):
+        """Of twelve lots six go and six others come: each town that a page is told is one that the file said."""
+        before, after = ([f"lot {name}{at} 1 {20 * at} 0 10 8 house\n" for at in range(6)] for name in "ab")
+        stays = [f"lot c{at} 1 {20 * at} 30 10 8 house\n" for at in range(6)]
+        self.begin(RULES + "".join(before + stays))
+        self.save(RULES + "".join(stays + after))
+        towns = set()
+        while self.page.head["save"] < 2:
+            self.page.follow()
+            towns.add(frozenset(line[0] for line in +self.page.drawn))
+        self.assertEqual(towns, {frozenset("bc")})
+
+    def test_a_file_that_is_gone_or_empty_is_told(self):
+        self.begin(RULES + A)
+        self.script.unlink()
+        while not self.page.head["said"]:
+            self.page.follow()
+        self.assertIn("town.cga: the file is gone; the town is that of its last save", self.page.head["said"])
+        self.assertTrue(self.page.head["is_stale"])
+        self.then(RULES + A)
+        self.assertEqual((self.page.head["said"], self.page.head["is_stale"]), ("", False))
+        self.assertEqual(self.then(""), ["- a house cube 0 0 0 +X+Y+Z 10 3 8"])
+        self.assertIn("town.cga: the file is empty, so there is no town", self.page.head["said"])
+
     def test_a_page_that_comes_later_gets_all(self):
         self.begin(RULES + A)
         self.then(RULES + A + B)

@@ -6,6 +6,7 @@ import sys
 import tempfile
 import unittest
 from pathlib import Path
+from urllib.request import Request, urlopen
 
 TESTS = Path(__file__).resolve().parent
 sys.path.insert(0, str(TESTS))
@@ -22,12 +23,16 @@ class PreviewPage(unittest.TestCase):
         self.addCleanup(folder.cleanup)
         self.script, self.saves = Path(folder.name) / "town.cga", 1
         self.script.write_text(SCRIPT, encoding="utf-8")
-        words = [TESTS.parent / "preview", "--program", TESTS / "live_stand_in", "--port", "0", self.script]
-        self.preview = subprocess.Popen(words, stdout=subprocess.PIPE, text=True)
         self.browser = shared()
         self.addCleanup(self.end)
-        self.browser.open(re.match(r"(http://127\.0\.0\.1:\d+/) ", self.preview.stdout.readline()).group(1))
+        self.browser.open(self.begin("0"))
         self.browser.wait("head.save === 1 && is_asked === false")
+
+    def begin(self, port):
+        """The address of the preview that is begun."""
+        words = [TESTS.parent / "preview", "--program", TESTS / "live_stand_in", "--port", port, self.script]
+        self.preview = subprocess.Popen(words, stdout=subprocess.PIPE, text=True)
+        return re.match(r"(http://127\.0\.0\.1:\d+/) ", self.preview.stdout.readline()).group(1)
 
     def end(self):
         self.browser.open("about:blank")  # which asks the preview for nothing more
@@ -66,6 +71,24 @@ class PreviewPage(unittest.TestCase):
             [["a house cube 0 0 0 +X+Y+Z 10 3 8", "b house cube 20 0 0 +X+Y+Z 10 3 8"], "3", seen],
         )
         self.assertIn("2 lots, 2 solids", run("box_of('sums').textContent"))
+
+    def test_a_slider_of_another_page_moves_here(self):
+        address = self.browser.run("location.href")
+        words = {"data": b'{"h": "4.5"}', "headers": {"Origin": address.rstrip("/")}}
+        urlopen(Request(address + "set", **words)).close()
+        self.browser.wait("box_of('slider_h').value === '4.5'")
+        self.assertEqual(self.browser.run("box_of('slider_h').parentNode.className"), "turned")
+
+    def test_what_a_preview_that_is_begun_again_forgot_is_said(self):
+        self.browser.run("(() => { const slider = box_of('slider_h'); slider.value = 5; slider.oninput(); })()")
+        self.browser.wait("head.values.h === '5'")
+        port = self.browser.run("location.port")
+        self.preview.terminate()
+        self.preview.wait()
+        self.preview.stdout.close()
+        self.begin(port)
+        self.browser.wait("box_of('notice').textContent.includes('forgot the sliders: h 5')")
+        self.assertEqual(self.browser.run("box_of('slider_h').value"), "3")
 
 
 if __name__ == "__main__":

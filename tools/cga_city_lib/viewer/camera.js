@@ -35,11 +35,18 @@ function look_at(box) {
   }
 }
 
-// The nearest and the farthest distance that is drawn. What is much nearer than the centre is cut away, so that far
-// things keep their order.
+// The nearest and the farthest distance that is drawn: of the town, and of the ground at the window's corners. What is much
+// nearer than the centre is cut away, so that far things keep their order.
 function reach(box, eye, near, far) {
   const places = corners_of(box).map(corner => dot(minus(eye, corner), near)), size = size_of(box);
-  return [Math.max(Math.min(...places) - .05 * size, far / view.lens / 40), Math.max(...places) + 7 * size];
+  const nearest = Math.min(Math.min(...places) - .05 * size, .95 * ground_before(box));
+  return [Math.max(nearest, far / view.lens / 40), Math.max(...places) + 7 * size];
+}
+
+// How far before the eye the ground begins that the window's corners see.
+function ground_before(box) {
+  const ways = [[0, 0], [innerWidth, 0], [0, innerHeight], [innerWidth, innerHeight]].map(([x, y]) => ray(x, y));
+  return Math.min(...ways.map(({eye, way}) => (box.low[1] - eye[1]) / way[1]).filter(far => far > 0));
 }
 
 const size_of = box => Math.max(Math.hypot(...box.low.map((at, k) => box.high[k] - at)) / 2, 1e-6);

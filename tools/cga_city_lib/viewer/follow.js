@@ -8,7 +8,7 @@ function take(told, lines) {
   const had_some = town.low !== null, lights_up = had_some && head.save > 0, now = moment();
   const is_changed = (lines.length > 0 || !told.from) && take_lines(lines, lights_up ? now : -GLOW, !had_some || !head.save);
   if (is_changed && lights_up) drawn_last = now;
-  head = {...head, ...told};
+  head = {...(told.from ? head : NOTHING), ...told};
   document.title = head.title;
   canvas.className = head.is_stale ? 'stale' : '';
   tell(head.said || '');
@@ -27,18 +27,25 @@ function take_lines(lines, moment, is_first) {
 }
 
 async function follow() {
-  let stamp = '';
+  let stamp = '', is_lost = false;
   for (;;) {
     try {
       const answer = await (await fetch('state?' + stamp)).text(), lines = answer.split('\n'), told = JSON.parse(lines.shift());
-      stamp = told.stamp;
+      if (is_lost || told.save !== undefined) notice(is_lost ? forgotten() : '');
+      [stamp, is_lost] = [told.stamp, false];
       take(told, lines);
     } catch (fault) {
       tell('the preview has ended');
       await new Promise(done => setTimeout(done, 1000));
-      stamp = '';
+      [stamp, is_lost] = ['', true];
     }
   }
+}
+
+// What a preview that was begun again doesn't know any more.
+function forgotten() {
+  const lost = Object.entries(head.values).map(([name, value]) => `${name} ${value}`).join(', ');
+  return lost && `The preview was begun again, and forgot the sliders: ${lost}. Each value is that of the script.`;
 }
 
 const given = /*TOWN*/null;

@@ -1,6 +1,11 @@
 'use strict';
 // What stands over the picture: a legend that hides, what is picked, sliders, sums, and what is refused.
-let picked = null, head = {colours: {}, rules: {}, attributes: {}};
+const NOTHING = {colours: {}, rules: {}, attributes: {}, values: {}};
+let picked = null, head = NOTHING;
+
+function notice(text) {
+  box_of('notice').textContent = text;
+}
 
 function show(name, is_shown) {
   box_of(name).style.display = is_shown ? 'block' : 'none';
@@ -59,31 +64,37 @@ function slider(name, text) {
   const row = document.createElement('label'), range = document.createElement('input'), told = document.createElement('output');
   const value = number(text), most = 3 * Math.abs(value) || 1, step = 10 ** Math.floor(Math.log10(most) - 1.7);
   Object.assign(range, {type: 'range', min: Math.min(0, 3 * value), max: value < 0 ? 0 : most, step, id: 'slider_' + name});
-  range.value = value;
-  told.textContent = text;
   row.append(name, range, told);
+  const set = said => {
+    range.value = number(said);
+    told.textContent = said;
+    row.className = said === text ? '' : 'turned';
+  };
   range.oninput = () => {
-    told.textContent = range.value;
-    row.className = 'turned';
+    set(range.value);
     turn(name, range.value);
   };
   row.ondblclick = () => {
+    set(text);
     turn(name, text);
-    range.value = value;
-    told.textContent = text;
-    row.className = '';
   };
   row.title = 'double click: as in the script';
+  shown_values.set(name, {set, text, is_held: () => is_turning || range.matches(':active')});
+  set(text);
   return row;
 }
 
-// They are as the script says after each save.
+// They are as the script says after each save, and then as any page sets them.
 let sliders_for = '';
+const shown_values = new Map();
 function sliders() {
   const said = JSON.stringify([head.attributes, head.save]);
-  if (said === sliders_for) return;
-  sliders_for = said;
-  box_of('sliders').replaceChildren(...Object.entries(head.attributes).map(([name, text]) => slider(name, text)));
+  if (said !== sliders_for) {
+    sliders_for = said;
+    shown_values.clear();
+    box_of('sliders').replaceChildren(...Object.entries(head.attributes).map(([name, text]) => slider(name, text)));
+  }
+  for (const [name, {set, text, is_held}] of shown_values) if (!is_held()) set(head.values[name] ?? text);
 }
 
 // One request at a time; of the values that come meanwhile the last one is sent.
