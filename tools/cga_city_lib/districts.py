@@ -7,9 +7,10 @@ from pathlib import Path
 from .call import FirstWord, Refused, number_in
 from .checking import bill_text
 from .exact import parted
-from .files import alone, write
+from .files import alone, can_write, write
 from .head import head_of
 from .jobs import Cut, Program, cut_again, leftovers, todo
+from .of_plan import line_of, of_others, take_others_away
 from .plan import Options, read_plan
 from .program import LAUNCHER, MOST_LOTS, is_proved
 from .quadtree import EDGE
@@ -82,35 +83,49 @@ def refuse(region, words, heads):
 
 def check(words):
     with alone(words.folder):
-        return checked(words.folder)
+        return checked(words.folder, words.folder, words.all)
 
 
-def checked(folder):
+def checked(folder, to, is_whole=False):
+    """Checks the jobs of a folder, and writes what they count to another one, or the same."""
     plan = read_plan(folder)
-    if (folder / "counts").exists():
-        (folder / "counts").unlink()
-    survey = Survey(folder, plan, plan.drawn())
+    begin_check(to, plan)
+    survey = Survey(folder, plan, plan.drawn(), is_whole)
     survey.demand()
     found, counts, bill = outcome(folder, plan, [survey.told[job.name] for job in plan.drawn()])
     if found:
         left = len(todo(folder, cut_again(folder, plan)))
         print(f"{found}: {left} jobs to run; run them, and check again", file=sys.stderr)
         return AGAIN
-    if "bill" in plan.asked:
-        write(folder / "town.bill", bill_text(bill).encode("latin-1"))
     text = " ".join(f"{word} {number}" for word, number in counts.items())
-    write(folder / "counts", (text + "\n").encode())
+    if can_write(to):
+        tell(to, {"town.bill": bill_text(bill)} if "bill" in plan.asked else {}, text, line_of(plan.digest()))
     print(f"{folder}: {text}")
     return 0
+
+
+def begin_check(to, plan):
+    """No counts are there until the check has passed, and nothing of another plan."""
+    if can_write(to):
+        take_others_away(to, plan.digest())
+        if (to / "counts").exists():
+            (to / "counts").unlink()
+
+
+def tell(to, texts, counts, end):
+    for name, text in {**texts, "counts": counts + "\n"}.items():
+        write(to / name, text.encode("latin-1") + end)
 
 
 def joined(words):
     from .joining import join
 
+    to = words.to or words.folder
+    to.mkdir(parents=True, exist_ok=True)
     with alone(words.folder):
-        status = checked(words.folder)
+        status = checked(words.folder, to)
         if status == 0:
-            for path in join(words.folder, read_plan(words.folder), words.workers):
+            for path in join(words.folder, read_plan(words.folder), words.workers, to):
                 print(f"{path}: {path.stat().st_size} bytes")
     return status
 
@@ -119,7 +134,7 @@ def tiled(words):
     from .tiles import write_tiles
 
     with alone(words.folder):
-        status = checked(words.folder)
+        status = checked(words.folder, words.folder)
         if status == 0:
             plan = read_plan(words.folder)
             survey = Survey(words.folder, plan, plan.jobs)
@@ -134,6 +149,8 @@ def status(words):
     print(f"{words.folder}: {len(survey.told)} jobs run, {len(survey.to_run)} to run, {len(survey.refused)} refused")
     for reason in survey.refused.values():
         print(reason)
+    for path in of_others(words.folder, plan.digest()):
+        print(f"{path} is of another cut: the next check takes it away")
 
 
 def names(words):
@@ -145,10 +162,21 @@ def tidy(words):
     """Takes away outputs that are refused, what is half written, and what is of no job of the cut."""
     with alone(words.folder):
         plan = read_plan(words.folder)
-        gone = list(leftovers(words.folder, plan, Survey(words.folder, plan, plan.jobs).refused))
+        survey = Survey(words.folder, plan, plan.jobs, is_whole=True)
+        gone = list(leftovers(words.folder, plan, survey.refused))
         for path in gone:
-            path.unlink()
+            take_away(path)
     print(f"{words.folder}: {len(gone)} files taken away")
+
+
+def take_away(path):
+    """A folder stands in the place of an output if somebody put it there."""
+    if path.is_dir() and not path.is_symlink():
+        from shutil import rmtree
+
+        rmtree(path)
+    else:
+        path.unlink()
 
 
 def decimals(word):
@@ -186,13 +214,23 @@ def add_cut(known):
     known.add_argument("--program")
 
 
+def add_check(known):
+    add_folder(known)
+    known.add_argument("--all", action="store_true")
+
+
 def add_workers(known):
     add_folder(known)
     known.add_argument("--workers", type=number_in(1, 256, int), default=os.cpu_count() or 1)
 
 
+def add_join(known):
+    add_workers(known)
+    known.add_argument("--to", type=Path)
+
+
 def words():
-    others = {"cut": add_cut, "join": add_workers, "tiles": add_workers}
+    others = {"cut": add_cut, "check": add_check, "join": add_join, "tiles": add_workers}
     return FirstWord({word: others.get(word, add_folder) for word in DOES})
 
 

@@ -7,16 +7,27 @@ TOOL = Path(__file__).resolve().parent.parent / "districts"
 JOB = """\
 #!/bin/sh
 # Written by tools/districts. `sh job NAME ..` runs jobs/NAME.cga where that wasn't done. What is half written has a name
-# of its own, and what is whole ends with the job's name.
+# of its own. What is whole ends with the job's name, the digest of all lines before, and that of the program.
 cd "$(dirname "$0")" || exit 1
+program=$(sha256sum <{name}) || exit 1
+if [ "program-$(printf %.20s "$program")" != {name} ]; then
+  echo "{name} isn't the program of the cut: cut the script again" >&2
+  exit 1
+fi
 status=0
 for name in "$@"; do
   [ ! -e "jobs/$name.out" ] || continue
   part=jobs/$name.$(uname -n).$$.part
-  { {program} <"jobs/$name.cga" && echo "# job $name"; } >"$part" && mv "$part" "jobs/$name.out" && continue
+  {program} <"jobs/$name.cga" >"$part" && sum=$(sha256sum <"$part") &&
+    echo "# job $name ${sum%% *} ${program%% *}" >>"$part" && mv "$part" "jobs/$name.out" && continue
   status=$?
   rm -f "$part"
-  echo "job $name ended with status $status: run it again, with more memory where that was wanting" >&2
+  case $status in
+    4) why="its output can't be written, since the disk is full or closed: make room, and run it again" ;;
+    6) why="memory was wanting: run it again, with more" ;;
+    *) why="run it again, with more memory where that was wanting" ;;
+  esac
+  echo "job $name ended with status $status: $why" >&2
 done
 exit $status
 """
@@ -78,7 +89,7 @@ echo "${{array:+$number jobs in array ${{array%%;*}} of $tasks tasks, then }}che
 def engines(program, words, jobs):
     """The files by name."""
     call = " ".join(["./" + program, *map(shlex.quote, words)])
-    yield "job", JOB.replace("{program}", call)
+    yield "job", JOB.replace("{program}", call).replace("{name}", program)
     yield "tool", TOOL_CALL.format(tool=shlex.quote(str(TOOL)))
     yield "Makefile", MAKEFILE.format(jobs=" ".join(dict.fromkeys(job.name for job in jobs)))
     yield "slurm", SLURM.format()

@@ -32,11 +32,18 @@ def naming(path):
         raise
 
 
+def can_write(folder):
+    return os.access(folder, os.W_OK)
+
+
 @contextmanager
 def alone(folder):
-    """Waits until no other call works in the folder, and says so."""
+    """Waits until no other call works in the folder, and says so. Where nothing can be written, nobody waits."""
     if not folder.is_dir():
         raise Refused(f"{folder} is no folder of a region")
+    if not can_write(folder):
+        yield
+        return
     with (folder / "lock").open("w") as lock:
         try:
             fcntl.flock(lock, fcntl.LOCK_EX | fcntl.LOCK_NB)

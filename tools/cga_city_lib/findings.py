@@ -5,7 +5,7 @@ A lot is known by its name and its ground, so a finding rests while a lot stands
 import json
 
 from .call import Refused
-from .files import write
+from .files import can_write, write
 
 FILE = "found.json"
 
@@ -25,6 +25,9 @@ class Findings:
                 ) from None
 
     def save(self):
+        folder = self.path.parent
+        if not can_write(folder):
+            raise Refused(f"the jobs aren't yet the region, and {folder} can't be written: check it where it can be")
         write(self.path, json.dumps([self.together, self.seen, self.rings], separators=(",", ":")).encode())
 
 

@@ -6,7 +6,7 @@ from collections import Counter, defaultdict, namedtuple
 
 from .apart import Sets, touching
 from .checking import across_jobs, over_all
-from .files import write
+from .files import can_write, write
 from .printed import Printed, reading
 from .progress import counted
 
@@ -36,7 +36,8 @@ class Traced:
             pass
         with reading(self.printed.path):
             made = self.made()
-        write(self.kept, json.dumps(made).encode())
+        if can_write(self.kept.parent):
+            write(self.kept, json.dumps(made).encode())
         return made
 
     def made(self):

@@ -8,7 +8,9 @@ from .deal import coarser, singly, whole_districts, with_rings
 from .engines import engines
 from .files import write
 from .findings import Findings, Lots
+from .of_plan import take_others_away
 from .plan import Job, Plan
+from .printed import PROGRAM
 from .progress import counted
 from .region import Region
 
@@ -30,7 +32,7 @@ class Program:
         self.data, self.words = Path(found).read_bytes(), words
         if words and not takes_decimals(found, words):
             raise Refused(f"{path} doesn't print with {' '.join(words)}: name a program that does by --program")
-        self.name = f"program-{digest(self.data)}"
+        self.name = PROGRAM + digest(self.data)
 
     def job(self, script):
         """The name of a job."""
@@ -113,6 +115,7 @@ class Cut:
         for name, text in engines(self.program.name, self.options.words, jobs):
             write(self.folder / name, os.fsencode(text))
         plan.save(self.folder)
+        take_others_away(self.folder, plan.digest())
         return plan, number
 
 
@@ -135,7 +138,7 @@ def leftovers(folder, plan, refused):
         name = path.name.partition(".")[0]
         if name not in names or name in refused and path.suffix != ".cga" or path.suffix in HALF_WRITTEN:
             yield path
-    yield from (path for path in folder.glob("program-*") if path.name != plan.program)
+    yield from (path for path in folder.glob(f"{PROGRAM}*") if path.name != plan.program)
     yield from folder.glob("todo-*")
     yield from (path for path in folder.glob("tiles/*.glb") if path.stem not in names)
     yield from (path for path in [*folder.glob("*.*.*"), *folder.glob("tiles/*.*.*")] if path.suffix in HALF_WRITTEN)

@@ -9,6 +9,7 @@ from itertools import groupby
 
 from .call import Refused
 from .files import naming, write
+from .of_plan import line_of
 from .printed import OBJ, Printed, reading
 from .progress import counted
 from .towns import moved, objects
@@ -104,11 +105,10 @@ def write_piece(given):
     return path
 
 
-def join_text(folder, plan, pool, number, text, path):
+def join_text(path, found, pool, number, end):
     """Writes one of the OBJ texts of the town to a file that has another name until it is whole."""
     part = path.with_name(path.name + ".part")
-    runs = pieces(spans(folder, plan, pool, text), PIECES * number)
-    given = [(folder / f"{path.name}.{at}.piece", run) for at, run in enumerate(runs)]
+    given = [(path.with_name(f"{path.name}.{at}.piece"), run) for at, run in enumerate(pieces(found, PIECES * number))]
     try:
         with naming(path), part.open("wb") as file:
             file.write(OBJ)
@@ -116,6 +116,7 @@ def join_text(folder, plan, pool, number, text, path):
                 with piece.open("rb") as read:
                     shutil.copyfileobj(read, file, 1 << 24)
                 piece.unlink()
+            file.write(end)
         part.replace(path)
     finally:
         for leftover in [part, *(piece for piece, _ in given)]:
@@ -133,11 +134,11 @@ def faults(folder, plan):
     return f"# faults {len(lines)}\n" + "".join(lines)
 
 
-def join(folder, plan, number):
-    """Writes the town, its faults, and its model where the script asks for one. Gives the files."""
-    texts = ["town.obj", "model.obj"][: 1 + ("model" in plan.asked)]
+def join(folder, plan, number, to):
+    """Writes the town, its faults, and its model where the script asks for one, to a folder. Gives the files."""
+    texts, end = ["town.obj", "model.obj"][: 1 + ("model" in plan.asked)], line_of(plan.digest())
     with workers(number) as pool:
         for text, name in enumerate(texts):
-            join_text(folder, plan, pool, number, text, folder / name)
-    write(folder / "town.faults", faults(folder, plan).encode("latin-1"))
-    return [folder / name for name in texts]
+            join_text(to / name, spans(folder, plan, pool, text), pool, number, end)
+    write(to / "town.faults", faults(folder, plan).encode("latin-1") + end)
+    return [to / name for name in texts]

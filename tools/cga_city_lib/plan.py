@@ -22,9 +22,18 @@ class Plan:
         self.options, self.program, self.heads = options, program, heads
         self.asked, self.lots, self.jobs = asked, lots, jobs
 
-    def save(self, folder):
+    def data(self):
+        """The bytes of its file."""
         heads = [[head.dressed, head.city] for head in self.heads]
-        write(folder / FILE, json.dumps({"form": FORM, **vars(self), "heads": heads}, separators=(",", ":")).encode())
+        return json.dumps({"form": FORM, **vars(self), "heads": heads}, separators=(",", ":")).encode()
+
+    def digest(self):
+        from hashlib import sha256  # it takes long to load, and not each call needs it
+
+        return sha256(self.data()).hexdigest()
+
+    def save(self, folder):
+        write(folder / FILE, self.data())
 
     def asks(self):
         """The numbers of the rules that ask."""

@@ -9,6 +9,7 @@ from .replies import counts_of, replies
 
 OBJ = b"# cga_city obj\n"
 PIECE = 1 << 16
+PROGRAM = "program-"  # and some digits of its digest name the program of a cut
 AGAIN = "take it away by `tools/districts tidy`, and run the job again"
 PAST = (
     "past what a run takes, 400,000 shapes and 4,096 lots: cut with fewer lots a job (--lots); where its lots are of one "
@@ -38,6 +39,16 @@ def entry(line):
 
 def not_printed(path, why):
     return Refused(f"{path} isn't what its job prints, since {why}: {AGAIN}")
+
+
+def demand_digest(path, data):
+    """Refuses bytes that aren't those that the job printed, by the digest in the last line."""
+    from hashlib import sha256  # a check needs none
+
+    end = data.rfind(b"\n", 0, -1) + 1
+    words = data[end:].split()
+    if len(words) != 5 or words[3] != sha256(memoryview(data)[:end]).hexdigest().encode():
+        raise not_printed(path, "its digest is that of other bytes")
 
 
 @contextmanager
@@ -122,11 +133,15 @@ class Printed:
     def behind_town(self):
         """The lines from that of the counts on, without the one that ends the output."""
         *lines, end = self.from_last(b"\n# stats ").decode("latin-1").split("\n")
-        if end or not lines or lines.pop() != f"# job {self.job.name}" or not lines:
+        if end or not lines or not self.is_end(lines.pop().split(" ")) or not lines:
             raise self.broken("its end isn't that of this job")
         if town_counts(lines[0]).get("lots") != len(self.job.own) + len(self.job.ring):
             raise self.broken("it has other lots")
         return lines
+
+    def is_end(self, words):
+        """Whether the last line is of this job, by the program of the cut."""
+        return words[:3] == ["#", "job", self.job.name] and (PROGRAM + words[-1]).startswith(self.plan.program)
 
     def boxes(self, lines):
         """One, and for each lot its box, X before Z before Y."""

@@ -2,20 +2,26 @@
 from shlex import quote
 
 from .call import Refused
-from .printed import Printed
+from .printed import AGAIN, Printed, demand_digest
 from .progress import counted
 
 SHOWN = 5  # refusals that are told at once
 
 
 class Survey:
-    def __init__(self, folder, plan, jobs):
+    def __init__(self, folder, plan, jobs, is_whole=False):
+        """With `is_whole` each output is read as a whole, and its digest compared."""
         self.folder, self.told, self.to_run, self.refused = folder, {}, [], {}
         for job in counted(jobs, "jobs read"):
+            printed = Printed(folder, plan, job)
             try:
-                self.told[job.name] = Printed(folder, plan, job).told()
+                self.told[job.name] = printed.told()
+                if is_whole:
+                    demand_digest(printed.path, printed.path.read_bytes())
             except FileNotFoundError:
                 self.to_run.append(job)
+            except IsADirectoryError:
+                self.refused[job.name] = f"{folder / 'jobs' / job.name}.out is a folder: {AGAIN}"
             except Refused as refusal:
                 self.refused[job.name] = str(refusal)
 

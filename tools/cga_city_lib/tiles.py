@@ -25,11 +25,12 @@ def corners(box, one):
 
 
 def write_glb(given):
-    folder, plan, job = given
+    """Makes the tile of a job whose own lots have these names. (The plan as a whole would go to a process for each job.)"""
+    folder, job, names = given
     path = folder / "tiles" / f"{job.name}.glb"
     if not path.exists():
         source = folder / "jobs" / f"{job.name}.out"
-        places = objects(source, [plan.lots[at] for at in job.own])
+        places = objects(source, names)
         with source.open("rb") as file:
             file.seek(places[0].begin)
             town = file.read(places[-1].end - places[0].begin)
@@ -85,10 +86,11 @@ def levels(folder, plan, told):
 def write_tiles(folder, plan, told, number):
     """Makes the tiles that aren't there, and the tree over all; gives its path."""
     (folder / "tiles").mkdir(exist_ok=True)
+    given = [(folder, job, [plan.lots[at] for at in job.own]) for job in plan.jobs]
     with workers(number) as pool:
-        for _ in counted(pool(write_glb, [(folder, plan, job) for job in plan.jobs]), "tiles made", len(plan.jobs)):
+        for _ in counted(pool(write_glb, given), "tiles made", len(given)):
             pass
     path = folder / "tiles" / "tileset.json"
     root = tree(levels(folder, plan, told), grouped)
-    write(path, json.dumps(tileset(root), separators=(",", ":")).encode())
+    write(path, json.dumps(tileset(root, plan.digest()), separators=(",", ":")).encode())
     return path

@@ -64,6 +64,8 @@ def tree(tiles, grouped):
     return tiles[0]
 
 
-def tileset(root):
+def tileset(root, plan):
+    """The set as the file has it; first stands the digest of the plan that it is of."""
     error = max(root.error, root.diagonal())
-    return {"asset": {"version": "1.1", "generator": "tools/districts"}, "geometricError": error, "root": root.held()}
+    asset = {"version": "1.1", "generator": "tools/districts", "extras": {"plan": plan}}
+    return {"asset": asset, "geometricError": error, "root": root.held()}

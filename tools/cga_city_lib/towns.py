@@ -1,7 +1,10 @@
 """Where the lots stand in what a job printed of its town, and the lines of a lot with its vertices numbered anew."""
+import re
 from collections import namedtuple
 
-from .printed import OBJ, not_printed, reading
+from .printed import OBJ, demand_digest, not_printed, reading
+
+FACE = re.compile(rb"\nf ([\d ]+)")
 
 # of a lot: where its lines begin and end in the file, and how many vertices they have
 Place = namedtuple("Place", "begin end vertices")
@@ -9,7 +12,8 @@ Place = namedtuple("Place", "begin end vertices")
 
 def objects(path, names, text=0):
     """The places of these lots in one of the OBJ texts of a file, which has them in this order; others may follow."""
-    data, begin = path.read_bytes(), 0
+    data, begin, vertices = path.read_bytes(), 0, 0
+    demand_digest(path, data)
     with reading(path):
         for _ in range(text + 1):
             begin = data.index(OBJ, begin) + len(OBJ)
@@ -21,8 +25,17 @@ def objects(path, names, text=0):
             raise not_printed(path, f"the lot `{name}` isn't where it is to be")
         end = data.find(b"\no ", begin, last) + 1 or last
         places.append(Place(begin, end, data.count(b"\nv ", begin, end)))
+        vertices += places[-1].vertices
+        if largest(data, begin, end) > vertices:
+            raise not_printed(path, f"a face of the lot `{name}` names a corner that isn't there")
         begin = end
     return places
+
+
+def largest(data, begin, end):
+    """The largest number of a vertex in the faces of the last solid, where numbers are largest; 0 where none is drawn."""
+    faces = FACE.findall(data, max(begin, data.rfind(b"\ng ", begin, end)), end)
+    return max(map(int, b" ".join(faces).split()), default=0)
 
 
 def moved(lines, by):

@@ -18,10 +18,11 @@ for name in "argparse decimal fractions hashlib json random runpy threading unit
     importlib.import_module(name)
 
 TOP = Path(__file__).resolve().parent.parent.parent
-CUT, CHECKS, RINGS = (
+CUT, CHECKS, RINGS, DAMAGE = (
     "test_districts.Cut.test_",
     "test_districts_checks.Checks.test_",
     "test_districts_rings.Rings.test_",
+    "test_districts_damage.Damage.test_",
 )
 
 # its name, the file, what stands there, what is planted, and the test
@@ -78,9 +79,23 @@ BUGS = [
     (
         "half a file is whole",
         "printed.py",
-        'lines.pop() != f"# job {self.job.name}"',
-        "not lines.pop()",
+        'words[:3] == ["#", "job", self.job.name]',
+        'words[:2] == ["#", "job"]',
         CHECKS + "outputs_of_two_jobs_exchanged",
+    ),
+    (
+        "a digest that isn't compared",
+        "printed.py",
+        "words[3] != sha256(memoryview(data)[:end]).hexdigest().encode()",
+        "not words[3]",
+        DAMAGE + "an_output_that_is_damaged_in_one_place_is_named_and_run_again",
+    ),
+    (
+        "a town of another cut stays",
+        "of_plan.py",
+        "path.is_file() and not is_of(path, digest)",
+        "False",
+        DAMAGE + "a_town_of_another_cut_is_taken_away_whatever_the_clocks_say",
     ),
     (
         "boxes of other lots",

@@ -1,4 +1,5 @@
 """What tests of regions share: a folder, calls of the tool, jobs run by a program, and regions of random lots."""
+import hashlib
 import random
 import subprocess
 import sys
@@ -74,6 +75,13 @@ def answered(named, script):
     return (0, answer(script.decode("latin-1"))) if answer else program.run(named, script)
 
 
+def ended(out, name, program):
+    """An output as the script `job` leaves it."""
+    text = "".join(f"{line}\n" for line in out).encode("latin-1")
+    digests = [hashlib.sha256(data).hexdigest() for data in (text, program)]
+    return text + " ".join(["# job", name, *digests]).encode() + b"\n"
+
+
 def whole(program, lines, *words):
     """The town, the faults and the counts of one run."""
     head = [line for line in lines if line not in ("print", "bill", "model", "stats")]
@@ -112,6 +120,11 @@ class RegionTest(unittest.TestCase):
         self.write(lines)
         return self.call("cut", self.script, self.folder, "--lots", str(lots), "--program", program, *words)
 
+    def program_bytes(self):
+        """Of the copy that the cut made."""
+        (path,) = self.folder.glob("program-*")
+        return path.read_bytes()
+
     def jobs(self, kind="cga"):
         return sorted((self.folder / "jobs").glob(f"*.{kind}"))
 
@@ -129,7 +142,7 @@ class RegionTest(unittest.TestCase):
         for name in self.todo():
             job = self.folder / "jobs" / f"{name}.cga"
             out = run(program, job.read_text(encoding="latin-1").split("\n"), *words)
-            job.with_suffix(".out").write_text("\n".join([*out, f"# job {name}", ""]), encoding="latin-1")
+            job.with_suffix(".out").write_bytes(ended(out, name, self.program_bytes()))
 
     def rounds(self, most=30, program=STAND_IN, *words):
         """Runs jobs and checks until nothing is to be run; gives the rounds that it took, and the last answer."""
@@ -140,12 +153,15 @@ class RegionTest(unittest.TestCase):
                 return number, answer
         self.fail("the rounds don't come to an end")
 
-    def joined(self):
-        text = [
-            (self.folder / name).read_text(encoding="latin-1").split("\n")[:-1]
+    def joined(self, folder=None):
+        """The town, the faults and the counts, without the last line of each, which has the digest of the plan."""
+        texts = [
+            ((folder or self.folder) / name).read_text(encoding="latin-1").split("\n")[:-1]
             for name in ("town.obj", "town.faults", "counts")
         ]
-        return text[0], text[1], text[2][0]
+        digest = hashlib.sha256((self.folder / "plan.json").read_bytes()).hexdigest()
+        self.assertEqual([text.pop() for text in texts], 3 * [f"# plan {digest}"])
+        return texts[0], texts[1], texts[2][0]
 
     def assert_whole(self, lines, program=STAND_IN, *words):
         """What is joined is what one run prints, byte by byte."""

@@ -3,7 +3,7 @@ import os
 import resource
 import unittest
 
-from regions import RULES, STAND_IN, RegionTest, asking, chances
+from regions import RULES, STAND_IN, RegionTest, asking, chances, ended
 
 LOTS = [
     f"lot {name} {seed} {10 * x} 0 4 4 wall"
@@ -46,13 +46,15 @@ class Checks(RegionTest):
         self.run_jobs()
         path = self.output()
         whole = path.read_text()
-        end = f"# job {path.stem}\n"
+        end = whole.split("\n")[-2] + "\n"
         for text, told in (
             ("", "its rules are others"),
             (whole[: whole.index("o flat")], "its end isn't that of this job"),
             (whole[:-1], "its end isn't"),
             (whole.replace(end, ""), "its end isn't"),
             (whole.replace(end, "# job 0\n"), "its end isn't"),
+            (whole.replace(end, f"# job {path.stem}\n"), "its end isn't"),
+            (whole.replace(end, end[:-65] + 64 * "0" + "\n"), "its end isn't"),
             (whole + "# ok\n", "its end isn't"),
             ("# refused BadLot a\n" + whole, "refused BadLot a: mend"),
             (whole.replace("1: wall", "2: wall"), "its rules are others"),
@@ -76,7 +78,8 @@ class Checks(RegionTest):
         self.cut(REGION, 4096)
         self.run_jobs()
         path = self.output()
-        path.write_text(path.read_text().replace("o flat\n", "o a\n"))
+        lines = path.read_text().replace("o flat\n", "o a\n").split("\n")[:-2]
+        path.write_bytes(ended(lines, path.stem, self.program_bytes()))
         status, _, told = self.call("join", self.folder, "--workers", "1")
         self.assertEqual(status, 1)
         self.assertIn("the lot `flat` isn't where it is to be", told)
@@ -127,10 +130,10 @@ class Checks(RegionTest):
             (self.folder / name).write_text("half")
         self.assertEqual(self.call("tidy", self.folder)[1], f"{self.folder}: 5 files taken away\n")
 
-    def limited(self, *words):
-        """A call that can't write more than 100 bytes to a file."""
+    def limited(self, most, *words):
+        """A call that can't write more bytes to a file."""
         kept = resource.getrlimit(resource.RLIMIT_FSIZE)
-        resource.setrlimit(resource.RLIMIT_FSIZE, (100, kept[1]))
+        resource.setrlimit(resource.RLIMIT_FSIZE, (most, kept[1]))
         try:
             return self.call(*words)
         finally:
@@ -139,12 +142,13 @@ class Checks(RegionTest):
     def test_a_file_that_has_no_room_is_named(self):
         self.write(REGION)
         self.assert_refused(
-            self.limited("cut", self.script, self.folder, "--lots", "1", "--program", STAND_IN), ".cga: File too large"
+            self.limited(100, "cut", self.script, self.folder, "--lots", "1", "--program", STAND_IN),
+            ".cga: File too large",
         )
         self.cut(REGION, 1)
         self.run_jobs()
         for word, named in (("join", "town.obj.0.piece"), ("tiles", ".glb")):
-            status, _, told = self.limited(word, self.folder, "--workers", "1")
+            status, _, told = self.limited(128, word, self.folder, "--workers", "1")
             self.assertEqual((status, told.endswith(f"{named}: File too large\n")), (1, True), told)
         self.assertEqual(
             [path.name for path in self.folder.rglob("*.*") if "town" in path.name or path.suffix in (".new", ".glb")],
@@ -214,7 +218,8 @@ class Checks(RegionTest):
     def test_bills_are_sums(self):
         self.cut([*REGION, "bill"], 1)
         self.rounds()
-        self.assertEqual((self.folder / "town.bill").read_text(), "# bill 1\n# bill wall 6 6.000003 7.500000 0\n")
+        bill = (self.folder / "town.bill").read_text().split("\n")[:2]
+        self.assertEqual(bill, ["# bill 1", "# bill wall 6 6.000003 7.500000 0"])
 
     def test_models_are_joined(self):
         self.cut([*RULES[:1], "asset box", "f 1 2 3", "end", *RULES[1:], "dress wall box", *LOTS, "model"], 2)
@@ -223,7 +228,7 @@ class Checks(RegionTest):
         self.assertEqual(self.call("join", self.folder, "--workers", "1")[0], 0)
         lines = (self.folder / "model.obj").read_text().split("\n")
         self.assertEqual([line for line in lines if line.startswith("o ")], ["o a", "o flat", "o c", "o d"])
-        self.assertEqual((lines.count("g wall"), lines[-2]), (12, "f 89 90 91 92"))
+        self.assertEqual((lines.count("g wall"), lines[-3]), (12, "f 89 90 91 92"))
 
     def spoilt(self, chance, data):
         """The bytes with a part that went, a byte or a word that is another, or a line twice."""

@@ -1,4 +1,5 @@
 """Jobs of regions by make, by xargs and by a stand-in for Slurm: jobs that fail, that end late, and rounds."""
+import hashlib
 import os
 import re
 import shutil
@@ -199,17 +200,43 @@ class Engines(RegionTest):
 
     def test_a_job_that_runs_out_of_memory(self):
         """It has printed something by then, and that is gone."""
-        program = self.program(
-            "#!/bin/sh\necho '# ok'\nulimit -v 40000\nexec python3 -c 'kept = b\"x\" * (300 << 20)' 2>/dev/null\n"
-        )
         self.cut(REGION, 4096)
-        shutil.copyfile(program, next(self.folder.glob("program-*")))
+        self.put_program("echo '# ok'\nulimit -v 40000\nexec python3 -c 'kept = b\"x\" * (300 << 20)' 2>/dev/null\n")
         done = subprocess.run(
             ["sh", self.folder / "job", *self.todo()], capture_output=True, text=True, env=self.environment()
         )
         self.assertNotEqual(done.returncode, 0)
         self.assertIn("run it again, with more memory", done.stderr)
         self.assertEqual((len(self.todo()), self.jobs("part"), self.jobs("out")), (1, [], []))
+
+    def put_program(self, lines):
+        """Puts another program in the place of the one of the cut, for the script `job`, too."""
+        (old,) = self.folder.glob("program-*")
+        old.write_text("#!/bin/sh\n" + lines)
+        name = f"program-{hashlib.sha256(old.read_bytes()).hexdigest()[:20]}"
+        old.rename(self.folder / name)
+        job = self.folder / "job"
+        job.write_text(job.read_text().replace(old.name, name))
+
+    def job(self):
+        """Runs all jobs, and gives what the script tells."""
+        return subprocess.run(
+            ["sh", self.folder / "job", *self.todo()], capture_output=True, text=True, env=self.environment()
+        )
+
+    def test_a_job_whose_output_can_not_be_written_or_that_wants_memory(self):
+        self.cut(REGION, 4096)
+        for status, told in ((4, "the disk is full or closed: make room"), (6, "memory was wanting: run it again")):
+            self.put_program(f"exit {status}\n")
+            self.assertIn(told, self.job().stderr)
+
+    def test_a_job_by_another_program_than_that_of_the_cut(self):
+        self.cut(REGION, 4096)
+        (program,) = self.folder.glob("program-*")
+        program.write_text("#!/bin/sh\n")
+        done = self.job()
+        self.assertEqual((done.returncode, self.jobs("out")), (1, []))
+        self.assertEqual(done.stderr, f"{program.name} isn't the program of the cut: cut the script again\n")
 
     def test_a_process_of_a_join_or_of_tiles_that_is_killed(self):
         """It isn't waited for, and nothing half written stays."""
@@ -272,20 +299,6 @@ class Engines(RegionTest):
             (self.todo(), log.split("\n")[-2]), ([], f"{self.folder}: lots 3 shapes 6 instances 3 faults 1")
         )
         self.assertEqual(self.by_slurm()[1], "check 17; its end is told in slurm.log\n")
-
-    def test_the_lines_of_the_document(self):
-        text = (TOP / "docs" / "DISTRICTS.md").read_text(encoding="utf-8")
-        (self.top / "tools").symlink_to(TOP / "tools")
-        for lines in re.findall(r"^```sh\n(.*?)^```", text, re.MULTILINE | re.DOTALL):
-            self.folder = self.top / "region"
-            self.cut(REGION, 1)
-            done = subprocess.run(
-                ["bash", "-e", "-c", lines], cwd=self.top, capture_output=True, text=True, env=self.environment()
-            )
-            self.assertEqual(done.returncode, 0, done.stderr)
-            self.assertEqual(self.todo(), [])
-            self.assert_whole(REGION)
-            shutil.rmtree(self.folder)
 
 
 if __name__ == "__main__":
