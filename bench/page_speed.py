@@ -83,6 +83,14 @@ def attribute_of_all(town, turn):
     town.change(r"attr bay = [\d/]+", f"attr bay = {('3', '5/2')[turn % 2]}")
 
 
+def half_out(town, turn):
+    town.kept, town.lots = town.lots, town.lots[::2]
+
+
+def half_back(town, turn):
+    town.lots = town.kept
+
+
 CHANGES = {
     "a lot moved": move,
     "a lot added": add,
@@ -91,6 +99,7 @@ CHANGES = {
     "an attribute of few": attribute_of_few,
     "an attribute of all": attribute_of_all,
 }
+HALVES = {"half of the lots out": half_out, "half of the lots back": half_back}
 
 
 def seconds_of(process):
@@ -144,9 +153,16 @@ def measure(program, folder, lots, saves):
         first, used, rows = time.time() - begun, seconds_of(preview), []
         drawing, worked, triangles = frame(browser)
         sent = browser.run(SENT)
-        for name, change in CHANGES.items():
-            told = [saved(browser, preview, town, change, turn) for turn in range(saves)]
-            taken, drawn, more, spent = zip(*told)
+        halves = [
+            {name: saved(browser, preview, town, change, turn) for name, change in HALVES.items()}
+            for turn in range(saves)
+        ]
+        told = {
+            name: [saved(browser, preview, town, change, turn) for turn in range(saves)]
+            for name, change in CHANGES.items()
+        }
+        for name, times in {**told, **{name: [half[name] for half in halves] for name in HALVES}}.items():
+            taken, drawn, more, spent = zip(*times)
             rows.append(
                 (
                     f"{lots:,}",

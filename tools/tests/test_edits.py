@@ -154,6 +154,7 @@ def check(case, program, seed, saves):
         lines = file.lines()
         drawn, is_well = fresh(program, lines)
         answers, _ = town.show(lines, commands(lines))
+        town.publish()
         case.assertEqual(all(answer == ["# ok"] for answer in answers), is_well, lines)
         if is_well:
             case.assertEqual(shown.drawn, drawn, lines)
@@ -172,10 +173,12 @@ class Towns(unittest.TestCase):
         town = LiveTown(str(TESTS / "live_stand_in"), shown)
         self.addCleanup(town.close)
         town.show(SCRIPT, commands(SCRIPT))
+        town.publish()
         town.live.stop()
         town.live.process.wait()
         new = changed((8, []))
         self.assertEqual(town.show(new, commands(new))[0], [["# ok"]] * 2)
+        town.publish()
         self.assertEqual(sorted(shown.drawn), ["b shed gable 20 0 0 +X+Y+Z 10 1 8", "b shed hip 20 0 0 +X+Y+Z 10 1 8"])
 
     def test_what_is_shown_is_what_a_run_from_nothing_draws(self):
