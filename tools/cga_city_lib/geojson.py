@@ -1,43 +1,84 @@
-"""A map: the parcels and the streets of a GeoJSON file. What is wrong is told by the number of its feature, from 1."""
+"""A map: the parcels and the streets of a GeoJSON file, or of another one that GDAL turns into GeoJSON."""
 import json
 import os
+import shutil
+import subprocess
 from collections import namedtuple
 from decimal import Decimal
+from typing import Any, Dict, Iterator, List, Optional, Tuple
 
 from .call import Refused
+from .geometry import Position, is_geometry, line, pieces, polygon
+from .reference_system import CONVERT
+from .skipped import Skips
 from .strangers_text import told
 
-# lines are the ring of a parcel, or the lines of a street; each position is a pair of decimals
-Feature = namedtuple("Feature", "number lines properties")
+# part is the number of a polygon in its feature, from 1; lines are the ring of a parcel and those of its holes, or the lines
+# of a street
+Feature = namedtuple("Feature", "number part text lines properties")
 LARGEST = 256 << 20
-OF_DEGREES = ("CRS84", "4326", "4258", "4269")
-UNTRUE = ("3857", "900913", "3785", "102100")
+OF_GDAL = (".shp", ".gpkg", ".gml", ".kml", ".kmz", ".fgb", ".tab", ".mif", ".gdb", ".sqlite", ".zip", ".dxf")
 
 
 class Map:
-    def __init__(self, parcels, streets, others, system):
-        self.parcels, self.streets, self.others, self.system = parcels, streets, others, system
+    """What a file has: parcels, streets, the numbers of features that are neither, and its member `crs`."""
 
-    def positions(self):
-        return [at for feature in self.parcels + self.streets for line in feature.lines for at in line]
+    def __init__(self, crs: Any):
+        self.parcels: List[Feature] = []
+        self.streets: List[Feature] = []
+        self.others: List[int] = []
+        self.crs = crs
+
+    def features(self) -> Iterator[Feature]:
+        yield from self.parcels
+        yield from self.streets
+
+    def keep(self, features: List[Feature]) -> None:
+        """Only these features go on."""
+        kept = {(feature.number, feature.part, id(feature.lines)) for feature in features}
+        for some in (self.parcels, self.streets):
+            some[:] = [one for one in some if (one.number, one.part, id(one.lines)) in kept]
 
 
-def refused(number, why):
-    return Refused(f"feature {number}: {why}")
+def positions(features: List[Feature]) -> List[Position]:
+    return [at for feature in features for some in feature.lines for at in some]
 
 
-def text_of(path):
+def from_gdal(path: str) -> bytes:
+    """Another format as GeoJSON, where ogr2ogr of GDAL is there."""
+    if not os.path.exists(path):
+        raise FileNotFoundError(2, "No such file or directory", path)
+    if not shutil.which("ogr2ogr"):
+        raise Refused(
+            f"{path}: isn't GeoJSON, and `ogr2ogr` (Debian: gdal-bin), which reads it, isn't there: where it is, type `{CONVERT} {path}`"
+        )
+    source = "/vsizip/" * path.lower().endswith(".zip") + os.path.abspath(path)
+    command = ["ogr2ogr", "-f", "GeoJSON", "-lco", "RFC7946=NO", "/vsistdout/", source]
+    done = subprocess.run(command, stdout=subprocess.PIPE, stderr=subprocess.PIPE, check=False)
+    if done.returncode or not done.stdout:
+        why = (done.stderr.decode("utf-8", "replace").strip().splitlines() or ["no reason is told"])[-1]
+        raise Refused(f"{path}: ogr2ogr doesn't read it: {told(why)}")
+    return done.stdout
+
+
+def bytes_of(path: str) -> bytes:
+    if path.lower().endswith(OF_GDAL):
+        return from_gdal(path)
     with open(path, "rb") as file:
         if os.fstat(file.fileno()).st_size > LARGEST:
             raise Refused(f"{path}: has more than {LARGEST >> 20} MiB: cut the parcels of one town out of it")
-        data = file.read()
+        return file.read()
+
+
+def text_of(path: str) -> str:
+    data = bytes_of(path)
     try:
         return data.decode("utf-8-sig")
     except UnicodeDecodeError as fault:
         raise Refused(f"{path}: isn't text in UTF-8 (byte {fault.start + 1}): save it as GeoJSON in UTF-8") from None
 
 
-def parsed(path):
+def parsed(path: str) -> Any:
     text = text_of(path)
     if not text.strip():
         raise Refused(f"{path}: is empty: export the parcels as GeoJSON")
@@ -53,104 +94,87 @@ def parsed(path):
         raise Refused(f"{path}: a number has thousands of digits: export the map anew") from None
 
 
-def features_of(data, path):
+def features_of(data: Any, path: str) -> List[Any]:
     kind = data.get("type") if isinstance(data, dict) else None
-    features = [data] if kind == "Feature" else data.get("features") if kind == "FeatureCollection" else None
-    if not isinstance(features, list):
-        raise Refused(f"{path}: is JSON, and no GeoJSON: a FeatureCollection with a list of features is needed")
-    return features
+    if kind == "FeatureCollection" and isinstance(data.get("features"), list):
+        return list(data["features"])
+    if kind == "Feature":
+        return [data]
+    if kind and is_geometry(data):
+        return [{"type": "Feature", "properties": {}, "geometry": data}]
+    why = "TopoJSON, which `ogr2ogr -f GeoJSON new.geojson` turns" if kind == "Topology" else "JSON, and no GeoJSON"
+    raise Refused(f"{path}: is {why}: a FeatureCollection with a list of features is needed")
 
 
-def is_number(part):
-    return isinstance(part, (int, float, Decimal)) and not isinstance(part, bool)
-
-
-def position(at, number):
-    if not (isinstance(at, list) and len(at) >= 2 and all(map(is_number, at[:2]))):
-        raise refused(number, "a position isn't a list of two numbers")
-    if not all(abs(part) < 10**9 for part in at[:2]):
-        raise refused(number, f"a position is ({told(at[0])}, {told(at[1])}), which lies nowhere on a map")
-    return Decimal(at[0]), Decimal(at[1])
-
-
-def line(positions, number):
-    if not isinstance(positions, list):
-        raise refused(number, "the coordinates aren't lists of positions")
-    return [position(at, number) for at in positions]
-
-
-def ring(rings, number):
-    """The ring of a polygon, without the position that closes it."""
-    if not isinstance(rings, list) or not rings:
-        raise refused(number, "the polygon has no ring")
-    if len(rings) > 1:
-        raise refused(
-            number,
-            f"the polygon has {len(rings) - 1} hole{'s' * (len(rings) > 2)}, and a lot is a whole rectangle: "
-            "cut the parcel into parts without holes, or take them out of the map",
-        )
-    points = line(rings[0], number)
-    points = points[:-1] if points[:1] == points[-1:] else points
-    if len(set(points)) < 3:
-        raise refused(number, f"the polygon has {len(set(points))} corners, and at least three are needed")
-    return points
-
-
-def polygon(kind, at, number):
-    """The coordinates of the one polygon of a geometry."""
-    if kind == "Polygon":
-        return at
-    if not isinstance(at, list) or len(at) != 1:
-        many = len(at) if isinstance(at, list) else 0
-        raise refused(
-            number,
-            f"the MultiPolygon has {many} polygons, and a lot is one: make a feature of each (in QGIS: Multipart to singleparts)",
-        )
-    return at[0]
-
-
-def feature_of(feature, number):
-    """What kind of feature it is, and what is kept of it."""
+def properties_of(feature: Any) -> Dict[str, Any]:
     if not isinstance(feature, dict):
-        raise refused(number, "isn't an object")
+        raise Refused("isn't an object")
     geometry, properties = feature.get("geometry") or {}, feature.get("properties") or {}
     if not isinstance(geometry, dict) or not isinstance(properties, dict):
-        raise refused(number, "its geometry or its properties aren't an object")
-    kind, at = geometry.get("type"), geometry.get("coordinates")
-    if "id" in feature and "name" not in properties:
-        properties = {**properties, "name": feature["id"]}
-    if kind in ("Polygon", "MultiPolygon"):
-        return "parcels", Feature(number, [ring(polygon(kind, at, number), number)], properties)
-    if kind in ("LineString", "MultiLineString"):
-        lines = [at] if kind == "LineString" else at
-        return "streets", Feature(number, [line(some, number) for some in line_list(lines, number)], properties)
-    return "others", number
+        raise Refused("its geometry or its properties aren't an object")
+    if "id" in feature and properties.get("name") in (None, ""):
+        return {**properties, "name": feature["id"]}
+    return properties
 
 
-def line_list(lines, number):
-    if not isinstance(lines, list):
-        raise refused(number, "the coordinates aren't lists of lines")
-    return lines
-
-
-def system_of(data):
-    """`degrees` or `metres` where the file says its reference system, else nothing."""
+def name_of(feature: Any, word: str) -> str:
+    """The text by which the map names a feature."""
     try:
-        name = str(data["crs"]["properties"]["name"])
-    except (KeyError, TypeError):
-        return None
-    code = name.replace(":", " ").split()[-1:]
-    if code and code[0] in UNTRUE:
-        return "untrue"
-    return "degrees" if code and code[0] in OF_DEGREES else "metres"
+        given = properties_of(feature).get(word)
+    except Refused:
+        return ""
+    return "" if given is None or isinstance(given, (bool, list, dict)) else str(given).strip()
 
 
-def read_map(path):
+def read_map(path: str, word: str, skips: Skips) -> Map:
+    """The map; `word` is the property that names its parcels."""
     data = parsed(path)
-    found = {"parcels": [], "streets": [], "others": []}
+    found = Map(data.get("crs") if isinstance(data, dict) else None)
     for number, feature in enumerate(features_of(data, path), 1):
-        kind, kept = feature_of(feature, number)
-        found[kind].append(kept)
-    if not found["parcels"]:
+        text = name_of(feature, word)
+        taken = skips.tried(number, text, lambda: [(kind, piece) for kind, piece in pieces_of(feature)])
+        take(found, number, text, feature, taken, skips)
+    skips.check(found.parcels)
+    if not found.parcels:
         raise Refused(f"{path}: no feature is a polygon: export the parcels themselves, not their labels or borders")
-    return Map(*found.values(), system_of(data))
+    return found
+
+
+def pieces_of(feature: Any) -> Iterator[Tuple[str, Any]]:
+    properties_of(feature)
+    geometry = feature.get("geometry")
+    if geometry:
+        yield from pieces(geometry)
+
+
+def take(
+    found: Map, number: int, text: str, feature: Any, taken: Optional[List[Tuple[str, Any]]], skips: Skips
+) -> None:
+    """Puts the polygons of a feature to the parcels, and its lines to the streets."""
+    if taken is None:
+        return
+    if not taken:
+        found.others.append(number)
+        if is_empty(feature.get("geometry")):
+            skips.leave(number, text, "its geometry is empty")
+        return
+    properties, lines, part = properties_of(feature), [], 0
+    for kind, piece in taken:
+        reads = polygon if kind == "Polygon" else line
+        read = skips.tried(number, text, lambda: reads(piece))
+        if read is not None and kind == "Polygon":
+            part += 1
+            found.parcels.append(Feature(number, part, text, [read.ring, *read.holes], properties))
+        elif read is not None:
+            lines.append(read)
+    if lines:
+        found.streets.append(Feature(number, 1, text, lines, properties))
+
+
+def is_empty(geometry: Any) -> bool:
+    """Whether it is a polygon or lines without any part."""
+    return isinstance(geometry, dict) and geometry.get("type") in (
+        "MultiPolygon",
+        "MultiLineString",
+        "GeometryCollection",
+    )

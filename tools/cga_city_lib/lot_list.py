@@ -24,43 +24,48 @@ class Roots:
 
     def __init__(self, rules, symbol, defaults):
         self.rules, self.symbol, self.defaults = rules, symbol or rules.first_symbol(), defaults
+        self.replaced = 0  # values that aren't numbers, and that a default stands in for
 
-    def call(self, place, properties):
+    def call(self, properties):
         symbol = properties.get("symbol")
         symbol = self.symbol if symbol in (None, "") else symbol
         if not isinstance(symbol, str) or symbol not in self.rules.symbols:
             raise Refused(
-                f"{place}: no rule of {self.rules.path} has the symbol `{told(symbol)}`: give the parcel another `symbol`, or say --symbol"
+                f"no rule of {self.rules.path} has the symbol `{told(symbol)}`: give the parcel another `symbol`, or say --symbol"
             )
-        values = [self.value(place, symbol, word, properties) for word in self.rules.symbols[symbol]]
+        values = [self.value(symbol, word, properties) for word in self.rules.symbols[symbol]]
         return f"{symbol}({', '.join(values)})" if values else symbol
 
-    def value(self, place, symbol, word, properties):
-        given = properties.get(word)
-        given = self.defaults.get(word) if given in (None, "") else given
-        if given is None:
+    def value(self, symbol, word, properties):
+        given, default = properties.get(word), self.defaults.get(word)
+        text = None if given in (None, "") else numeral(given)
+        if text is None and default is not None:
+            self.replaced += given not in (None, "")
+            return default
+        if given in (None, ""):
             raise Refused(
-                f"{place}: has no `{word}`, which `{symbol}` takes: give it to the parcel, or say --default {word}=NUMBER"
+                f"has no `{word}`, which `{symbol}` takes: give it to the parcel, or say --default {word}=NUMBER"
             )
-        text = numeral(given)
         if text is None:
-            raise Refused(f"{place}: its `{word}`, {told(given)}, isn't a number of at most 18 digits")
+            raise Refused(
+                f"its `{word}`, {told(given)}, isn't a number of at most 18 digits; --default {word}=NUMBER stands in for it"
+            )
         return text
 
 
-def seed_of(place, properties, number):
+def seed_of(properties, number):
     given = properties.get("seed")
     text = str(number) if given in (None, "") else numeral(given) or ""
     if not (text.isascii() and text.isdigit()):
-        raise Refused(f"{place}: its `seed`, {told(given)}, isn't a whole number of at most 18 digits")
+        raise Refused(f"its `seed`, {told(given)}, isn't a whole number of at most 18 digits")
     return text
 
 
-def named_side(place, properties, side):
+def named_side(properties, side):
     """The direction on the map that the parcel's or the tool's word for its front says, if one does."""
     given = properties.get("front") or side
-    if given is not None and given not in COMPASS:
-        raise Refused(f"{place}: its `front`, {told(given)}, isn't one of {', '.join(COMPASS)}")
+    if given is not None and not (isinstance(given, str) and given in COMPASS):
+        raise Refused(f"its `front`, {told(given)}, isn't one of {', '.join(COMPASS)}")
     return COMPASS.get(given)
 
 

@@ -43,36 +43,47 @@ def header_of(path, cells):
 
 
 def lot_rows(path):
-    """The rows as properties, each with its place."""
+    """Each row as its line's number, its cells by the header, and what is wrong with it."""
     mark, ((_, first), *rows) = rows_of(path)
     header = header_of(path, first)
     for number, cells in rows:
+        why = None
         if len(cells) > len(header):
-            raise Refused(
-                f"line {number}: has {len(cells)} cells, and the header {len(header)}: put a cell that holds a `{mark}` into quotes"
-            )
+            why = f"has {len(cells)} cells, and the header {len(header)}: put a cell that holds a `{mark}` into quotes"
         if mark == ";":
             cells = [cell.replace(",", ".") if numeral(cell.replace(",", ".")) else cell for cell in cells]
-        yield f"line {number}", dict(zip(header, cells))
+        yield number, dict(zip(header, cells)), why
 
 
-def number_of(place, word, row):
+def number_of(word, row):
     text = numeral(row.get(word, ""))
     if text is None:
-        raise Refused(f"{place}: its `{word}`, {told(row.get(word, ''))}, isn't a number of at most 18 digits")
+        raise Refused(f"its `{word}`, {told(row.get(word, ''))}, isn't a number of at most 18 digits")
     if word in ("width", "depth") and Fraction(text) <= 0:
-        raise Refused(f"{place}: its `{word}` is {text}, and has to be above 0")
+        raise Refused(f"its `{word}` is {text}, and has to be above 0")
     return text
 
 
-def lots_of(path, roots, side):
+def lot_of(number, seed, row, why, roots, side):
+    """A row's lot, which has no name yet."""
+    if why:
+        raise Refused(why)
+    ground = tuple(number_of(word, row) for word in NEEDED[1:])
+    turns = OUTWARDS.index(named_side(row, side) or COMPASS["south"])
+    return Lot(f"line {number}", "", row.get("name", ""), seed_of(row, seed), ground, roots.call(row), turns)
+
+
+def lots_of(path, roots, side, skips):
+    """The lots of a table, and what else the row of each has."""
     rows = list(lot_rows(path))
     if not rows:
         raise Refused(f"{path}: has a header and no lots")
-    names = lot_names([row["name"] or f"lot_{number}" for number, (_, row) in enumerate(rows, 1)])
-    lots = []
-    for number, ((place, row), name) in enumerate(zip(rows, names), 1):
-        ground = tuple(number_of(place, word, row) for word in NEEDED[1:])
-        turns = OUTWARDS.index(named_side(place, row, side) or COMPASS["south"])
-        lots.append(Lot(place, name, row["name"], seed_of(place, row, number), ground, roots.call(place, row), turns))
-    return lots
+    found = []
+    for at, (number, row, why) in enumerate(rows, 1):
+        lot = skips.tried(number, row.get("name", ""), lambda: lot_of(number, at, row, why, roots, side))
+        if lot is not None:
+            found.append((at, lot, row))
+    skips.check(found)
+    names = lot_names([lot.text or f"lot_{at}" for at, lot, _ in found])
+    more = [{word: cell for word, cell in row.items() if word not in NEEDED} for _, _, row in found]
+    return [lot._replace(name=name) for (_, lot, _), name in zip(found, names)], more

@@ -1,20 +1,20 @@
-"""The groups of lots that a map or a table gives, and what had to be changed for it, in sentences."""
-import csv
+"""The lots of a map or of a table, with what had to be changed for it, in sentences."""
 from collections import namedtuple
-from fractions import Fraction
 
 from .call import Refused
 from .geojson import read_map
 from .ground import Ground
 from .lots_csv import lots_of
-from .numerals import numeral, on_grid
+from .numerals import on_grid
 from .parcels import Group, groups, larger, parcels_of, renamed
 from .program import MOST_LOTS
-from .rectangle import area, room
-from .strangers_text import cell, told
+from .skipped import Skips
+from .strangers_text import told
 
-# comment tells what the coordinates are
-Found = namedtuple("Found", "groups comment sentences")
+FEW_NAMES = 5  # so many are told one by one
+
+# comment tells what the coordinates are; ground is the map's plane, and nothing of a table
+Found = namedtuple("Found", "groups comment sentences skips ground")
 
 
 def lots_found(word, roots):
@@ -22,20 +22,24 @@ def lots_found(word, roots):
 
 
 def of_table(word, roots):
-    lots = lots_of(word.map, roots, word.front)
-    sentences = [f"{lot.place}, {told(lot.text)}: lot `{lot.name}`" for lot in lots if lot.text not in ("", lot.name)]
-    return Found([Group(0, [], [], lots)], "coordinates are those of the table", sentences)
+    skips = Skips("line", word.strict)
+    lots, rows = lots_of(word.map, roots, word.front, skips)
+    changed = [(lot.place, lot.text, lot.name) for lot in lots if lot.text not in ("", lot.name)]
+    group = Group(0, rows, [], lots)
+    sentences = [*of_defaults(roots), *of_names(changed)]
+    return Found([group], "coordinates are those of the table", sentences, skips, None)
 
 
 def of_map(word, roots):
-    town = read_map(word.map)
-    ground = Ground(town, word.units, word.origin)
-    parcels = parcels_of([ground.placed(feature) for feature in town.parcels], roots, word.front)
-    found = groups(
-        parcels, [ground.placed(feature) for feature in town.streets], word.tolerance, word.snap, word.decimals
-    )
+    skips = Skips("feature", word.strict)
+    town = read_map(word.map, word.name, skips)
+    ground = Ground(town, word.units, word.origin, word.swap, skips)
+    parcels = parcels_of([ground.placed(feature) for feature in town.parcels], roots, word.front, skips)
+    found = groups(parcels, [ground.placed(feature) for feature in town.streets], word, skips)
     comment = f"(0, 0) is {ground.told()}; coordinates are exact multiples of {on_grid(1, word.decimals)}"
-    return Found(found, comment, [*of_others(town), *of_rectangles(found), *of_names(parcels)])
+    changed = [(f"feature {number}", text, name) for text, name, number in renamed(parcels)]
+    sentences = [*ground.sentences, *of_others(town), *of_parts(parcels), *of_holes(parcels), *of_defaults(roots)]
+    return Found(found, comment, [*sentences, *of_rectangles(found), *of_names(changed)], skips, ground)
 
 
 def of_others(town):
@@ -43,9 +47,35 @@ def of_others(town):
         yield f"features that are neither polygons nor lines are passed over: {len(town.others)}, the first is feature {town.others[0]}"
 
 
-def of_names(parcels):
-    for text, name, number in renamed(parcels):
-        yield f"feature {number}, {text}: lot `{name}`"
+def of_parts(parcels):
+    parts = [parcel for parcel in parcels if parcel.part == 2]
+    if parts:
+        yield f"features of several polygons have a lot for each: {len(parts)}, the first is feature {parts[0].number}"
+
+
+def of_holes(parcels):
+    some = [parcel for parcel in parcels if parcel.holes]
+    if some:
+        yield (
+            f"parcels with holes are taken by their outer ring: {len(some)}, the first is feature {some[0].number}; "
+            "--list has their areas without the holes"
+        )
+
+
+def of_defaults(roots):
+    if roots.replaced:
+        yield f"values that aren't numbers, for which --default stands in: {roots.replaced}"
+
+
+def of_names(changed):
+    """Names that a script doesn't take: a few one by one, else how many."""
+    if len(changed) > FEW_NAMES:
+        place, text, name = changed[0]
+        first = f"{place}, {told(text)}: lot `{name}`"
+        yield f"names that a script doesn't take are changed: {len(changed):,}, the first is {first}; --list LIST.csv has all"
+        return
+    for place, text, name in changed:
+        yield f"{place}, {told(text)}: lot `{name}`"
 
 
 def of_rectangles(found):
@@ -81,34 +111,3 @@ def chosen(found, angle):
             f"one by --angle. They are {angles}{', ..' * (len(found) > 6)} degrees; --tolerance takes near ones as one"
         )
     return found[0]
-
-
-def parcel_rows(group):
-    for parcel, box, lot in zip(group.parcels, group.boxes, group.lots):
-        sizes = [f"{group.angle:g}", f"{area(parcel.ring):.2f}", f"{room(box):.2f}"]
-        yield parcel.number, [
-            lot.name,
-            parcel.number,
-            cell(told(parcel.text)),
-            lot.call,
-            *sizes,
-            numeral(parcel.limit) or "",
-        ]
-
-
-def lot_rows(group):
-    for number, lot in enumerate(group.lots, 1):
-        ground = f"{float(Fraction(lot.ground[2]) * Fraction(lot.ground[3])):.2f}"
-        yield number, [lot.name, number, cell(told(lot.text)), lot.call, "0", ground, ground, ""]
-
-
-def write_list(file, found):
-    """A row for each parcel, in the order of the map: what the lot is called, and what the parcel measures."""
-    out = csv.writer(file, lineterminator="\n")
-    out.writerow(["lot", "feature", "name", "root", "angle", "area", "rectangle", "limit"])
-    out.writerows(
-        row
-        for _, row in sorted(
-            row for group in found for row in (parcel_rows(group) if group.parcels else lot_rows(group))
-        )
-    )

@@ -31,3 +31,8 @@ def metres(longitude, latitude, middle):
     east = a + (1 - slope + c) * a**3 / 6 + (5 - 18 * slope + slope**2 + 72 * c - 58 * SECOND) * a**5 / 120
     north = a**2 / 2 + (5 - slope + 9 * c + 4 * c**2) * a**4 / 24
     return normal * east, meridian(up) - meridian(math.radians(middle[1])) + normal * math.tan(up) * north
+
+
+def turn_of(degrees):
+    """A difference of longitudes, from -180 and below 180."""
+    return (degrees + 180) % 360 - 180

@@ -7,12 +7,12 @@ from .lot_list import COMPASS, OUTWARDS, Lot, named_side, seed_of
 from .lot_names import lot_names
 from .numerals import on_grid
 from .progress import counted
-from .rectangle import area, away, corners, least_angle, room, sides, turned
+from .rectangle import area, away, corners, crosses_itself, least_angle, room, sides, turned
+from .skipped import place_of
 from .streets import Streets
-from .strangers_text import told
 
-# ring is the parcel's, in the plane of the map; call is how its root is called
-Parcel = namedtuple("Parcel", "number name text seed ring call side limit")
+# ring is the parcel's and holes those within, in the plane of the map; call is how its root is called
+Parcel = namedtuple("Parcel", "number part name text seed ring holes call side properties")
 Group = namedtuple("Group", "angle parcels boxes lots")  # boxes in the frame that is turned by the angle
 
 
@@ -37,32 +37,47 @@ def shared_angles(angles, tolerance):
 
 
 def text_of(feature):
-    given = feature.properties.get("name")
-    return "" if given is None or isinstance(given, (bool, list, dict)) else str(given)
+    """The name by the map; a further part of a feature has its number behind it."""
+    return f"{feature.text} ({feature.part})" if feature.text and feature.part > 1 else feature.text
 
 
-def parcels_of(features, roots, side):
-    texts = [text_of(feature) for feature in features]
-    names = lot_names([text or f"parcel_{feature.number}" for text, feature in zip(texts, features)])
-    found = []
-    for feature, text, name in zip(features, texts, names):
-        place = f"feature {feature.number}"
-        call, seed = roots.call(place, feature.properties), seed_of(place, feature.properties, feature.number)
-        if area(feature.lines[0]) < 1e-6:
-            raise Refused(f"{place}: the polygon has no area: its corners lie on one line, or its sides cross")
-        found.append(
-            Parcel(
-                feature.number,
-                name,
-                text,
-                seed,
-                feature.lines[0],
-                call,
-                named_side(place, feature.properties, side),
-                feature.properties.get("limit"),
-            )
-        )
-    return found
+def plain_name(feature):
+    return f"parcel_{feature.number}" + f"_{feature.part}" * (feature.part > 1)
+
+
+def parcel_of(feature, text, roots, side):
+    """A parcel that has no name of a lot yet."""
+    properties, (ring, *holes) = feature.properties, feature.lines
+    call, seed = roots.call(properties), seed_of(properties, feature.number)
+    if area(ring) < 1e-6:
+        raise Refused("the polygon has no area: its corners lie on one line, or its sides cross")
+    if crosses_itself(ring):
+        raise Refused("the polygon's sides cross each other: mend it (in QGIS: Fix geometries)")
+    where = named_side(properties, side)
+    return Parcel(feature.number, feature.part, "", text, seed, ring, holes, call, where, properties)
+
+
+def place_key(parcel):
+    """What two parcels share if they are one polygon."""
+    return frozenset((round(x, 3), round(z, 3)) for x, z in parcel.ring)
+
+
+def parcels_of(features, roots, side, skips):
+    found, known = [], {}
+    for feature in features:
+        text = text_of(feature)
+        parcel = skips.tried(feature.number, text, lambda: parcel_of(feature, text, roots, side))
+        if parcel is None:
+            continue
+        first = known.setdefault(place_key(parcel), parcel)
+        if first is parcel:
+            found.append((feature, parcel))
+        else:
+            place = place_of("feature", first.number, first.text)
+            skips.leave(feature.number, text, f"is the same polygon as {place}, and lies over it")
+    skips.check(found)
+    names = lot_names([parcel.text or plain_name(feature) for feature, parcel in found])
+    return [parcel._replace(name=name) for (_, parcel), name in zip(found, names)]
 
 
 def front(parcel, box, angle, streets):
@@ -88,33 +103,35 @@ def snapped(boxes, snap, places):
 
 
 def lot_of(parcel, box, on_steps, angle, streets, places):
-    place, (x, z, far_x, far_z) = f"feature {parcel.number}", on_steps
+    x, z, far_x, far_z = on_steps
     if far_x <= x or far_z <= z:
-        raise Refused(
-            f"{place}: is too small for a grid of {on_grid(1, places)}: say more --decimals, or a smaller --snap"
-        )
+        raise Refused(f"is too small for a grid of {on_grid(1, places)}: say more --decimals, or a smaller --snap")
     ground = tuple(on_grid(number, places) for number in (x, z, far_x - x, far_z - z))
-    return Lot(place, parcel.name, parcel.text, parcel.seed, ground, parcel.call, front(parcel, box, angle, streets))
+    place, turns = f"feature {parcel.number}", front(parcel, box, angle, streets)
+    return Lot(place, parcel.name, parcel.text, parcel.seed, ground, parcel.call, turns)
 
 
-def group(angle, parcels, streets, snap, places):
-    boxes = [sides(parcel.ring, angle) for parcel in parcels]
-    lots = [
-        lot_of(parcel, box, steps, angle, streets, places)
-        for parcel, box, steps in counted([*zip(parcels, boxes, snapped(boxes, snap, places))], "parcels")
-    ]
-    return Group(angle, parcels, boxes, lots)
+def group(angle, parcels, streets, word, skips):
+    boxes, kept = [sides(parcel.ring, angle) for parcel in parcels], []
+    for parcel, box, steps in counted([*zip(parcels, boxes, snapped(boxes, word.snap, word.decimals))], "parcels"):
+        lot = skips.tried(parcel.number, parcel.text, lambda: lot_of(parcel, box, steps, angle, streets, word.decimals))
+        if lot is not None:
+            kept.append((parcel, box, lot))
+    return Group(angle, *map(list, zip(*kept))) if kept else None
 
 
-def groups(parcels, streets, tolerance, snap, places):
+def groups(parcels, streets, word, skips):
     """The parcels by their angles, the group of most parcels first."""
     streets, found = Streets(streets), {}
-    for parcel, angle in zip(parcels, shared_angles([least_angle(parcel.ring) for parcel in parcels], tolerance)):
+    for parcel, angle in zip(parcels, shared_angles([least_angle(parcel.ring) for parcel in parcels], word.tolerance)):
         found.setdefault(angle, []).append(parcel)
-    return [
-        group(angle, some, streets, snap, places)
+    made = (
+        group(angle, some, streets, word, skips)
         for angle, some in sorted(found.items(), key=lambda item: (-len(item[1]), item[0]))
-    ]
+    )
+    kept = [some for some in made if some]
+    skips.check(kept)
+    return kept
 
 
 def larger(found):
@@ -125,6 +142,4 @@ def larger(found):
 
 
 def renamed(parcels):
-    return [
-        (told(parcel.text), parcel.name, parcel.number) for parcel in parcels if parcel.text not in ("", parcel.name)
-    ]
+    return [(parcel.text, parcel.name, parcel.number) for parcel in parcels if parcel.text not in ("", parcel.name)]

@@ -48,6 +48,25 @@ def least_angle(ring):
     return min(angle for angle in angles if room(sides(ring, angle)) <= least * (1 + 1e-9))
 
 
+def crosses_itself(ring):
+    """Whether two sides of a ring that don't follow each other cross."""
+    edges = [*zip(ring, ring[1:] + ring[:1])]
+    for k, (a, b) in enumerate(edges):
+        for p, q in edges[k + 2 : len(edges) - (k == 0)]:
+            if turn(a, b, p) * turn(a, b, q) < -1e-9 and turn(p, q, a) * turn(p, q, b) < -1e-9:
+                return True
+    return False
+
+
+def skew(ring):
+    """How many degrees a ring's corner that is the farthest from a right angle is off one; straight ones don't count."""
+    found = [0.0]
+    for p, q, r in zip(ring, ring[1:] + ring[:1], ring[2:] + ring[:2]):
+        at = math.degrees(math.atan2(abs(turn(p, q, r)), (q[0] - p[0]) * (r[0] - q[0]) + (q[1] - p[1]) * (r[1] - q[1])))
+        found += [abs(at - 90)] * (at > 30)
+    return max(found)
+
+
 def corners(box, angle):
     """The corners of a rectangle in the plane, in a ring."""
     x, z, far_x, far_z = box

@@ -119,17 +119,10 @@ class Maps(Called):
 
     def test_many_names_are_told_in_part(self):
         self.write(*[box(1000 + 20 * k, 2000, 9, 9, name=f"{k}/a", symbol="yard") for k in range(100)])
-        said = self.call()[2].split("\n")
         self.assertEqual(
-            (len(said), said[39:]),
-            (
-                42,
-                [
-                    "parcels: feature 40, 39/a: lot `p39_a`",
-                    "parcels: and 60 more; --list LIST.csv writes the lot of each name",
-                    "",
-                ],
-            ),
+            self.call()[2],
+            "parcels: names that a script doesn't take are changed: 100, the first is feature 1, 0/a: lot `p0_a`; "
+            "--list LIST.csv has all\n",
         )
 
     def test_a_rectangle_much_larger_than_its_parcel_is_told(self):
@@ -138,10 +131,11 @@ class Maps(Called):
 
     def test_numbers_that_are_not_there(self):
         self.write(box(1000, 2000, 9, 9), box(1010, 2000, 9, 9, floors="4"))
-        self.refused("feature 1: has no `floors`, which `house` takes")
+        self.refused("feature 1: has no `floors`, which `house` takes", words=("--strict",))
         self.assertIn("house(3/2)", self.call("--default", "floors=3/2")[1])
         self.write(box(1000, 2000, 9, 9, floors="many"))
         self.refused("feature 1: its `floors`, many, isn't a number")
+        self.assertIn("house(2)", self.call("--default", "floors=2")[1])
 
     def test_numbers_of_each_lot_need_no_more_than_512_rules(self):
         self.write(*[box(1000 + 10 * k, 2000, 10, 8, floors=k) for k in range(511)])
@@ -176,12 +170,12 @@ class Maps(Called):
         self.refused("isn't text in UTF-8 (byte 1)")
 
     def test_features_that_are_no_parcels(self):
-        ring, hole = [[0, 0], [9, 0], [9, 9], [0, 0]], [[1, 1], [2, 1], [2, 2], [1, 1]]
+        ring = [[0, 0], [9, 0], [9, 9], [0, 0]]
         for kind, at, told in (
-            ("Polygon", [ring, hole], "has 1 hole, and"),
-            ("Polygon", [ring, hole, hole], "has 2 holes, and"),
-            ("MultiPolygon", [[ring], [hole]], "has 2 polygons"),
-            ("MultiPolygon", [], "has 0 polygons"),
+            ("MultiPolygon", [], "its geometry is empty"),
+            ("MultiPolygon", 3, "aren't lists of polygons"),
+            ("Polygon", [ring, [[1, 1], [2, 1]]], "has 2 corners"),
+            ("Polygon", [[[0, 0], [9, 9], [9, 0], [0, 8], [0, 0]]], "sides cross each other"),
             ("Polygon", [], "has no ring"),
             ("Polygon", None, "has no ring"),
             ("Polygon", [[[0, 0], [1, 1], [0, 0]]], "has 2 corners"),
@@ -203,7 +197,10 @@ class Maps(Called):
                         "geometry": {"type": kind, "coordinates": at},
                     },
                 )
-                self.refused("feature 2: ", told, words=("--units", "metres"))
+                self.refused("feature 2: ", told, words=("--units", "metres", "--strict"))
+                status, out, said = self.call("--units", "metres")
+                self.assertEqual((status, out.count("\nlot ")), (3, 1))
+                self.assertIn(told, said)
         self.write(
             {
                 "type": "Feature",
@@ -274,9 +271,9 @@ class Maps(Called):
         self.assertEqual(
             (self.top / "list.csv").read_text().split("\n"),
             [
-                "lot,feature,name,root,angle,area,rectangle,limit",
-                "p1_2,1,1/2,house(3),0,80.00,80.00,12.5",
-                "b,2,'=b,yard,0,100.00,200.00,",
+                "lot,feature,name,root,angle,area,rectangle,limit,floors,symbol",
+                "p1_2,1,1/2,house(3),0,80.00,80.00,12.5,3,",
+                "b,2,'=b,yard,0,100.00,200.00,,,yard",
                 "",
             ],
         )
@@ -363,7 +360,7 @@ class Tables(Called):
     def test_a_list_of_lots(self):
         self.map.write_text("name,x,z,width,depth,symbol\na,0,0,5/2,10,yard\n")
         self.lots("--list", self.top / "list.csv")
-        self.assertEqual((self.top / "list.csv").read_text().split("\n")[1], "a,1,a,yard,0,25.00,25.00,")
+        self.assertEqual((self.top / "list.csv").read_text().split("\n")[1], "a,1,a,yard,0,25.00,25.00,,yard")
 
     def test_what_is_no_table(self):
         for text, told in (
@@ -371,10 +368,10 @@ class Tables(Called):
             ("name,x\n", "has no `z`"),
             ("name,x,z,width,depth\n", "has a header and no lots"),
             ("name,x,z,width,depth,x\n", "has `x` twice"),
-            ("name,x,z,width,depth,symbol\na,0,0,1,2,yard,3\n", "line 2: has 7 cells, and the header 6"),
+            ("name,x,z,width,depth,symbol\na,0,0,1,2,yard,3\n", "line 2 (a): has 7 cells, and the header 6"),
             ("name,x,z,width,depth,symbol\na,0,0,w,2,yard\n", "its `width`, w, isn't"),
-            ("name,x,z,width,depth,symbol\na,0,0,0,2,yard\n", "line 2: its `width` is 0"),
-            ("name,x,z,width,depth,symbol\na,0\n", "line 2: "),
+            ("name,x,z,width,depth,symbol\na,0,0,0,2,yard\n", "line 2 (a): its `width` is 0"),
+            ("name,x,z,width,depth,symbol\na,0\n", "line 2 (a): its `z`, , isn't"),
             ('name,x,z,width,depth\n"a', "isn't a table"),
             ("name,x,z,width,depth,symbol\na,0,nan,1,2,yard\n", "its `z`, nan"),
         ):

@@ -1,0 +1,65 @@
+"""The table of parcels that goes beside a script: each lot with its parcel's sizes and properties, and what was skipped."""
+import csv
+from fractions import Fraction
+from typing import Any, Dict, Iterator, List, TextIO, Tuple
+
+from .numerals import numeral
+from .parcels import Group
+from .rectangle import area, room
+from .skipped import Skips
+from .strangers_text import cell, told
+
+COLUMNS = ["lot", "feature", "name", "root", "angle", "area", "rectangle", "limit"]
+SKIPPED = "skipped"
+Row = Tuple[int, int, List[Any], Dict[str, Any]]
+
+
+def shown(value: Any) -> str:
+    """A property in a cell: nothing for none, true and false by their words, a list or an object by its kind."""
+    if value is None:
+        return ""
+    if isinstance(value, (list, dict)):
+        return "(list)" if isinstance(value, list) else "(object)"
+    text = str(value).lower() if isinstance(value, bool) else str(value)
+    return text if numeral(value) else cell(told(text))
+
+
+def parcel_rows(group: Group) -> Iterator[Row]:
+    for parcel, box, lot in zip(group.parcels, group.boxes, group.lots):
+        own = area(parcel.ring) - sum(map(area, parcel.holes))
+        limit = numeral(parcel.properties.get("limit")) or ""
+        sizes = [f"{group.angle:g}", f"{own:.2f}", f"{room(box):.2f}", limit]
+        head = [lot.name, parcel.number, cell(told(parcel.text)), lot.call]
+        yield parcel.number, parcel.part, head + sizes, parcel.properties
+
+
+def lot_rows(group: Group) -> Iterator[Row]:
+    for number, (lot, row) in enumerate(zip(group.lots, group.parcels), 1):
+        ground = f"{float(Fraction(lot.ground[2]) * Fraction(lot.ground[3])):.2f}"
+        limit = numeral(row.get("limit", "")) or ""
+        yield number, 1, [lot.name, number, cell(told(lot.text)), lot.call, "0", ground, ground, limit], row
+
+
+def property_columns(rows: List[Row]) -> Dict[str, str]:
+    """Each property's column, in the order of the map; `name` and `limit` have theirs."""
+    found: Dict[str, str] = {}
+    for *_, properties in rows:
+        for word in properties:
+            if word not in ("name", "limit") and word not in found:
+                taken = word in COLUMNS or word == SKIPPED
+                found[word] = f"map_{word}" if taken else word
+    return found
+
+
+def write_list(file: TextIO, groups: List[Group], skips: Skips) -> None:
+    """A row for each parcel, in the order of the map, and behind them one for each feature that is skipped."""
+    rows = [row for group in groups for row in (parcel_rows(group) if group.boxes else lot_rows(group))]
+    rows.sort(key=lambda row: row[:2])
+    columns, out = property_columns(rows), csv.writer(file, lineterminator="\n")
+    more = [SKIPPED] if skips.found else []
+    out.writerow([*COLUMNS, *(cell(told(head)) for head in columns.values()), *more])
+    for *_, cells, properties in rows:
+        out.writerow([*cells, *(shown(properties.get(word)) for word in columns), *([""] if more else [])])
+    for skip in sorted(skips.found):
+        between = [""] * (len(COLUMNS) - 3 + len(columns))
+        out.writerow(["", skip.number, cell(told(skip.text)), *between, cell(told(skip.why))])
