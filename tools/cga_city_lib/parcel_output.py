@@ -1,0 +1,47 @@
+"""What tools/parcels writes: the script of one group of parcels, or the town of all."""
+import os
+from typing import Any, Callable, List
+
+from .lot_list import script_of
+from .near_groups import sentences
+from .parcels import Group
+from .rules_file import Rules
+from .script import text_of
+from .strangers_text import told
+from .turned_town import write_town
+
+
+def script(word: Any, rules: Rules, group: Group, comment: str) -> bytes:
+    """The script of one group."""
+    turn = f"turned by {group.angle:g} degrees, so say --north {-group.angle:g} to tools/plan; " if group.angle else ""
+    head = f"# {len(group.lots)} lots of {told(os.path.basename(word.map))}, by tools/parcels; {turn}{comment}"
+    lines = [
+        "version 2",
+        head.encode("utf-8", "replace").decode("latin-1"),
+        "quiet",
+        *script_of(rules, group.lots),
+        "bill",
+        "print",
+    ]
+    return text_of(lines)
+
+
+def town(word: Any, rules: Rules, found: List[Group], say: Callable[[str], None]) -> None:
+    """Writes the town of all groups; a file of another name holds it until it is whole."""
+    for sentence in sentences(found, word.reach) if rules.asks else ():
+        say(sentence)
+    part = f"{word.town}.part"
+    try:
+        with open(part, "w", encoding="latin-1", newline="\n") as file:
+            faults = write_town(file, word.program, rules, found)
+        os.replace(part, word.town)
+    finally:
+        if os.path.exists(part):
+            os.unlink(part)
+    if faults:
+        say(
+            f"{len(faults)} shapes came to nothing, the first: {faults[0][2:]}; tools/lint tells why, of the script that --angle writes"
+        )
+    print(
+        f"{told(word.town)}: {sum(len(group.lots) for group in found)} lots at {len(found)} angle{'s' * (len(found) > 1)}"
+    )
