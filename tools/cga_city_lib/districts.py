@@ -9,7 +9,7 @@ from .checking import bill_text
 from .exact import parted
 from .files import alone, can_write, write
 from .head import head_of
-from .jobs import Cut, Program, cut_again, leftovers, todo
+from .jobs import Cut, Program, cut_again, leftovers, tiles_to_make, todo
 from .of_plan import line_of, of_others, take_others_away
 from .plan import Options, read_plan
 from .program import LAUNCHER, MOST_LOTS, is_proved
@@ -153,8 +153,14 @@ def status(words):
         print(f"{path} is of another cut: the next check takes it away")
 
 
+def tile(words):
+    from .tiles import write_some
+
+    write_some(words.folder, words.name)
+
+
 def names(words):
-    for name in todo(words.folder, read_plan(words.folder)):
+    for name in (tiles_to_make if words.tiles else todo)(words.folder, read_plan(words.folder)):
         print(name)
 
 
@@ -219,6 +225,16 @@ def add_check(known):
     known.add_argument("--all", action="store_true")
 
 
+def add_tile(known):
+    add_folder(known)
+    known.add_argument("name", nargs="+")
+
+
+def add_todo(known):
+    add_folder(known)
+    known.add_argument("--tiles", action="store_true")
+
+
 def add_workers(known):
     add_folder(known)
     known.add_argument("--workers", type=number_in(1, 256, int), default=os.cpu_count() or 1)
@@ -231,6 +247,7 @@ def add_join(known):
 
 def words():
     others = {"cut": add_cut, "check": add_check, "join": add_join, "tiles": add_workers}
+    others.update({"tile": add_tile, "todo": add_todo})
     return FirstWord({word: others.get(word, add_folder) for word in DOES})
 
 
@@ -239,4 +256,5 @@ def main(word):
     return DOES[word.word](word)
 
 
-DOES = {"cut": cut, "check": check, "join": joined, "tiles": tiled, "status": status, "todo": names, "tidy": tidy}
+DOES = {"cut": cut, "check": check, "join": joined, "tile": tile, "tiles": tiled, "status": status, "todo": names}
+DOES["tidy"] = tidy

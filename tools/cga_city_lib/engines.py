@@ -1,6 +1,9 @@
 """The files by which any engine runs the jobs of a region: one script that runs a job, and how make and Slurm call it."""
 import shlex
+from operator import attrgetter
 from pathlib import Path
+
+from .plan import tile_name
 
 TOOL = Path(__file__).resolve().parent.parent / "districts"
 
@@ -43,9 +46,10 @@ exec {tool} "$word" "$PWD" "$@"
 
 MAKEFILE = """\
 # Written by tools/districts. `make -j 8` runs the jobs that weren't run, and checks what they printed; `make -j 8 town.obj`
-# joins it, too. With RUN='srun -Q -n1' each job is a step of Slurm.
+# joins it, too, and `make -j 8 tiles/tileset.json` makes tiles. With RUN='srun -Q -n1' each job is a step of Slurm.
 RUN =
 JOBS := {jobs}
+TILES := {tiles}
 
 counts: plan.json $(JOBS:%=jobs/%.out)
 	@sh tool check || {{ [ $$? = 3 ] && $(MAKE) counts; }}
@@ -53,36 +57,59 @@ counts: plan.json $(JOBS:%=jobs/%.out)
 town.obj: counts
 	sh tool join
 
+tiles/tileset.json: counts $(TILES:%=tiles/%.glb)
+	sh tool tiles
+
 jobs/%.out: jobs/%.cga
 	$(RUN) sh job $*
+
+$(TILES:%=tiles/%.glb): | counts
+	$(RUN) sh tool tile $(@F:.glb=)
 """
 
 SLURM = """\
 #!/bin/sh
 # Written by tools/districts. `sh slurm [OPTION OF SBATCH ..]` submits the jobs that weren't run as one array, and behind it
-# a check, which submits the next round where there is one. THEN=join joins in the end, too. Call it again after a failure.
+# a check, which submits the next round where there is one. A task has EACH jobs, 200 if it isn't said. THEN=join joins in the
+# end, and THEN=tiles makes the tiles by an array of their own. Call it again after a failure.
 [ -n "$DISTRICTS_TASK" ] || cd "$(dirname "$0")" || exit 1  # Slurm runs a copy of this from elsewhere, but in this folder
-export THEN
-if [ "$DISTRICTS_TASK" = jobs ]; then
-  exec sh job $(awk -v task="$SLURM_ARRAY_TASK_ID" -v tasks="$DISTRICTS_TASKS" 'NR % tasks == task % tasks' "$DISTRICTS_TODO")
-elif [ "$DISTRICTS_TASK" = check ]; then
-  export DISTRICTS_TASK=
-  sh tool check && {{ [ -z "$THEN" ] || exec sh tool "$THEN"; }} || {{ status=$?; [ $status = 3 ] && exec sh slurm "$@"; exit $status; }}
-  exit
-fi
-most=$(scontrol show config 2>/dev/null | sed -n 's/^MaxArraySize *= *//p')
+export THEN EACH
+own() {
+  awk -v task="$SLURM_ARRAY_TASK_ID" -v tasks="$DISTRICTS_TASKS" 'NR % tasks == task % tasks' "$DISTRICTS_TODO"
+}
+# the words behind `sh slurm` for the task, a list of names, the task behind it, and the options of sbatch
+submit() {
+  task=$1 list=$2 next=$3
+  shift 3
+  number=$(wc -l <"$list")
+  most=$(scontrol show config 2>/dev/null | sed -n 's/^MaxArraySize *= *//p')
+  tasks=$(( (number + ${EACH:-200} - 1) / ${EACH:-200} ))
+  tasks=$(( tasks < ${most:-1001} ? tasks : ${most:-1001} - 1 ))
+  array= after=
+  if [ "$number" -gt 0 ]; then
+    mkdir -p logs
+    array=$(DISTRICTS_TASK=$task DISTRICTS_TASKS=$tasks DISTRICTS_TODO=$list sbatch --parsable --job-name=districts \\
+      --array="1-$tasks" --output="logs/%A_%a.log" "$@" slurm) || exit
+    after=--dependency=afterany:${array%%;*}
+  fi
+  end=$(DISTRICTS_TASK=$next sbatch --parsable --job-name=$next $after --output=slurm.log --open-mode=append "$@" slurm "$@") || exit
+  echo "${array:+$number $task in array ${array%%;*} of $tasks tasks, then }$next ${end%%;*}; its end is told in slurm.log"
+}
 list=todo-$$.$(date +%s)
-sh tool todo >"$list" || exit
-number=$(wc -l <"$list")
-tasks=$(( number < ${{most:-1001}} ? number : ${{most:-1001}} - 1 ))
-after=
-if [ "$number" -gt 0 ]; then
-  array=$(DISTRICTS_TASK=jobs DISTRICTS_TASKS=$tasks DISTRICTS_TODO=$list sbatch --parsable --job-name=districts \\
-    --array="1-$tasks" --output="slurm-%A_%a.log" "$@" slurm) || exit
-  after=--dependency=afterany:${{array%%;*}}
-fi
-check=$(DISTRICTS_TASK=check sbatch --parsable --job-name=check $after --output=slurm.log --open-mode=append "$@" slurm "$@") || exit
-echo "${{array:+$number jobs in array ${{array%%;*}} of $tasks tasks, then }}check ${{check%%;*}}; its end is told in slurm.log"
+case $DISTRICTS_TASK in
+  jobs) exec sh job $(own) ;;
+  tiles) exec sh tool tile $(own) ;;
+  tileset) exec sh tool tiles ;;
+  check)
+    export DISTRICTS_TASK=
+    sh tool check || { status=$?; [ $status = 3 ] && exec sh slurm "$@"; exit $status; }
+    case $THEN in
+      "") exit ;;
+      tiles) sh tool todo --tiles >"$list" && submit tiles "$list" tileset "$@" ;;
+      *) exec sh tool "$THEN" ;;
+    esac ;;
+  *) sh tool todo >"$list" && submit jobs "$list" check "$@" ;;
+esac
 """
 
 
@@ -91,5 +118,6 @@ def engines(program, words, jobs):
     call = " ".join(["./" + program, *map(shlex.quote, words)])
     yield "job", JOB.replace("{program}", call).replace("{name}", program)
     yield "tool", TOOL_CALL.format(tool=shlex.quote(str(TOOL)))
-    yield "Makefile", MAKEFILE.format(jobs=" ".join(dict.fromkeys(job.name for job in jobs)))
-    yield "slurm", SLURM.format()
+    names = [" ".join(dict.fromkeys(name(job) for job in jobs)) for name in (attrgetter("name"), tile_name)]
+    yield "Makefile", MAKEFILE.format(jobs=names[0], tiles=names[1])
+    yield "slurm", SLURM

@@ -9,7 +9,7 @@ from .engines import engines
 from .files import write
 from .findings import Findings, Lots
 from .of_plan import take_others_away
-from .plan import Job, Plan
+from .plan import Job, Plan, tile_name
 from .printed import PROGRAM
 from .progress import counted
 from .region import Region
@@ -131,6 +131,12 @@ def todo(folder, plan):
     return [name for name in names if not (folder / "jobs" / f"{name}.out").exists()]
 
 
+def tiles_to_make(folder, plan):
+    """The names of the tiles that aren't there."""
+    names = dict.fromkeys(map(tile_name, plan.jobs))
+    return [name for name in names if not (folder / "tiles" / f"{name}.glb").exists()]
+
+
 def leftovers(folder, plan, refused):
     """The files of no job of the cut, the outputs that are refused, and what is half written."""
     names = {job.name for job in plan.jobs}
@@ -139,6 +145,7 @@ def leftovers(folder, plan, refused):
         if name not in names or name in refused and path.suffix != ".cga" or path.suffix in HALF_WRITTEN:
             yield path
     yield from (path for path in folder.glob(f"{PROGRAM}*") if path.name != plan.program)
-    yield from folder.glob("todo-*")
-    yield from (path for path in folder.glob("tiles/*.glb") if path.stem not in names)
+    yield from [*folder.glob("todo-*"), *folder.glob("logs/*")]
+    tiles = set(map(tile_name, plan.jobs))
+    yield from (path for path in folder.glob("tiles/*.glb") if path.stem not in tiles)
     yield from (path for path in [*folder.glob("*.*.*"), *folder.glob("tiles/*.*.*")] if path.suffix in HALF_WRITTEN)

@@ -17,6 +17,12 @@ Job = namedtuple("Job", "name own ring square level")
 Options = namedtuple("Options", "most reach rings words errors")
 
 
+def tile_name(job):
+    """The name of a job's tile says all that it is made by: the output, how many of its lots are own ones, and its corner."""
+    x, z, _ = job.square
+    return f"{job.name}_{len(job.own)}_{x}_{z}"
+
+
 class Plan:
     def __init__(self, options, program, heads, asked, lots, jobs):
         self.options, self.program, self.heads = options, program, heads

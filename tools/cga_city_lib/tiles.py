@@ -7,12 +7,13 @@ from .checking import around
 from .exact import parted
 from .files import write
 from .joining import workers
+from .plan import tile_name
 from .printed import reading
 from .progress import counted
 from .quadtree import Quadtree
 from .tile_glb import ends_of, glb
 from .tileset import Tile, tileset, tree
-from .towns import objects
+from .towns import first_objects
 
 SMALLEST = 10**6  # boxes are rounded outwards to so many parts of a unit
 
@@ -25,24 +26,32 @@ def corners(box, one):
 
 
 def write_glb(given):
-    """Makes the tile of a job whose own lots have these names. (The plan as a whole would go to a process for each job.)"""
-    folder, job, names = given
-    path = folder / "tiles" / f"{job.name}.glb"
+    """Makes a tile by the output of its job and by its own name. (A plan would go to a process as a whole.)"""
+    folder, name = given
+    path = folder / "tiles" / f"{name}.glb"
     if not path.exists():
-        source = folder / "jobs" / f"{job.name}.out"
-        places = objects(source, names)
-        with source.open("rb") as file:
-            file.seek(places[0].begin)
-            town = file.read(places[-1].end - places[0].begin)
+        job, own, x, z = name.split("_")
+        source = folder / "jobs" / f"{job}.out"
         with reading(source):
-            write(path, glb(town, (job.square[0], 0, job.square[1])))
-    return job.name
+            write(path, glb(first_objects(source, int(own)), (int(x), 0, int(z))))
+
+
+def write_some(folder, names):
+    """What a job does that makes tiles of this name."""
+    (folder / "tiles").mkdir(exist_ok=True)
+    for name in names:
+        try:
+            write_glb((folder, name))
+        except (ValueError, FileNotFoundError):
+            raise Refused(
+                f"{name} is no tile of {folder}, or its job wasn't run: todo --tiles names those to make"
+            ) from None
 
 
 def drawn_box(folder, job):
     """The box of what a tile draws, or of the corner of its square where it draws nothing."""
     x, z, _ = job.square
-    path = folder / "tiles" / f"{job.name}.glb"
+    path = folder / "tiles" / f"{tile_name(job)}.glb"
     try:
         low, high = ends_of(path.read_bytes()) or ((0, 0, 0), (0, 0, 0))
     except (ValueError, TypeError, AttributeError, LookupError, struct.error):
@@ -54,7 +63,7 @@ def tile_of(folder, plan, job, told):
     boxes = told.boxes[: len(job.own)]
     box = corners(around(boxes), told.one) if boxes else drawn_box(folder, job)
     units, one = parted(plan.options.errors[job.level - 1]) if job.level else (0, 1)
-    return Tile(job.square, box, units / one, f"{job.name}.glb")
+    return Tile(job.square, box, units / one, f"{tile_name(job)}.glb")
 
 
 def grouped(squares):
@@ -86,7 +95,7 @@ def levels(folder, plan, told):
 def write_tiles(folder, plan, told, number):
     """Makes the tiles that aren't there, and the tree over all; gives its path."""
     (folder / "tiles").mkdir(exist_ok=True)
-    given = [(folder, job, [plan.lots[at] for at in job.own]) for job in plan.jobs]
+    given = [(folder, name) for name in dict.fromkeys(map(tile_name, plan.jobs))]
     with workers(number) as pool:
         for _ in counted(pool(write_glb, given), "tiles made", len(given)):
             pass

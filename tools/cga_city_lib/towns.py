@@ -10,10 +10,25 @@ FACE = re.compile(rb"\nf ([\d ]+)")
 Place = namedtuple("Place", "begin end vertices")
 
 
+def whole_output(path):
+    """The bytes of an output, which are those that its job printed."""
+    data = path.read_bytes()
+    demand_digest(path, data)
+    return data
+
+
+def first_objects(path, number):
+    """The lines of the first so many lots of the town."""
+    data = whole_output(path)
+    begin = end = data.index(OBJ) + len(OBJ)
+    for _ in range(number):
+        end = data.find(b"\no ", end) + 1 or data.index(b"\n# ", end - 1) + 1
+    return data[begin:end]
+
+
 def objects(path, names, text=0):
     """The places of these lots in one of the OBJ texts of a file, which has them in this order; others may follow."""
-    data, begin, vertices = path.read_bytes(), 0, 0
-    demand_digest(path, data)
+    data, begin, vertices = whole_output(path), 0, 0
     with reading(path):
         for _ in range(text + 1):
             begin = data.index(OBJ, begin) + len(OBJ)

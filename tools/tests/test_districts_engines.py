@@ -282,15 +282,36 @@ class Engines(RegionTest):
         self.cut(REACHING, 1)
         status, said, log = self.by_slurm(THEN="join")
         self.assertEqual(
-            (status, said), (0, "3 jobs in array 17 of 3 tasks, then check 17; its end is told in slurm.log\n")
+            (status, said), (0, "3 jobs in array 17 of 1 tasks, then check 17; its end is told in slurm.log\n")
         )
         self.assertIn("1 jobs to run; run them, and check again\n", log)
         self.assertIn("\n1 jobs in array 17 of 1 tasks", log)
         self.assert_whole(REACHING)
 
+    def test_slurm_makes_tiles_by_an_array_of_their_own(self):
+        self.cut(REGION, 1)
+        _, _, log = self.by_slurm(THEN="tiles", EACH="2")
+        self.assertIn("3 tiles in array 17 of 2 tasks, then tileset 17", log)
+        self.assertIn(str(self.folder / "tiles" / "tileset.json"), log.split("\n"))
+        self.assertEqual(self.call("todo", self.folder, "--tiles")[1], "")
+
+    @unittest.skipUnless(shutil.which("make"), "make isn't there")
+    def test_make_makes_tiles_as_jobs(self):
+        self.cut(REGION, 1)
+        status, _, told = self.made("tiles/tileset.json")
+        self.assertEqual((status, len(list(self.folder.glob("tiles/*.glb")))), (0, 3), told)
+        before = (self.folder / "tiles" / "tileset.json").read_bytes()
+        shutil.rmtree(self.folder / "tiles")
+        self.call("tiles", self.folder, "--workers", "1")
+        self.assertEqual((self.folder / "tiles" / "tileset.json").read_bytes(), before)
+        self.cut([*REGION[:-1], "lot c 3 20 0 4 4 wall"], 1)
+        self.assertEqual(self.made("tiles/tileset.json")[0], 0)
+        self.call("tidy", self.folder)
+        self.assertEqual(len(list(self.folder.glob("tiles/*.glb"))), 3)
+
     def test_slurm_goes_on_after_a_task_that_was_killed(self):
         self.cut(REGION, 1)
-        _, _, log = self.by_slurm(FAIL="yes")
+        _, _, log = self.by_slurm(FAIL="yes", EACH="1")
         self.assertIn("1 jobs weren't run", log)
         self.assertEqual(len(self.todo()), 1)
         _, said, log = self.by_slurm()
