@@ -84,6 +84,9 @@ def real_lines():
     return lines[: lines.index("end") + 1] + names + ["lot heavy 1 0 90 8 8 home", "lot slow 1 50 90 8 8 home"]
 
 
+EACH = 4  # jobs a task
+
+
 class Cluster:
     def __init__(self, folder):
         self.folder, self.started = folder, {}
@@ -190,7 +193,7 @@ class Region:
             ["sh", self.folder / "slurm", *words],
             stdout=subprocess.PIPE,
             text=True,
-            env={**os.environ, **environment},
+            env={**os.environ, "EACH": str(EACH), **environment},
             check=True,
         )
         print(done.stdout, end="")
@@ -198,8 +201,8 @@ class Region:
 
     def is_joined(self):
         """Whether all jobs were run, and what is joined is what one run prints."""
-        town = (self.folder / "town.obj").read_text().split("\n")[:-1]
-        return self.todo() == [] and town == whole(self.program, self.lines)[0]
+        *town, plan = (self.folder / "town.obj").read_text().split("\n")[:-1]
+        return self.todo() == [] and plan.startswith("# plan ") and town == whole(self.program, self.lines)[0]
 
     def job_of(self, lot):
         return next(path.stem for path in (self.folder / "jobs").glob("*.cga") if f"lot {lot} " in path.read_text())
@@ -220,7 +223,7 @@ class Region:
 
     def is_of(self, task, lot):
         listed = sorted(self.folder.glob("todo-*"), key=lambda path: path.stat().st_mtime)[-1].read_text().split()
-        tasks = min(len(listed), 4)
+        tasks = -(-len(listed) // EACH)
         number = int(task.partition("_")[2] or 0)
         return number and self.job_of(lot) in [
             name for at, name in enumerate(listed, 1) if at % tasks == number % tasks
