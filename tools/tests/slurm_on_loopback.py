@@ -267,6 +267,14 @@ def by_make(region):
         expect(done.returncode == 0 and region.is_joined(), f"what {told} joins is what one run prints: {done.stdout}")
 
 
+def tiles(region):
+    region.submit("--mem=600M", THEN="tiles")
+    wait(ended, "the queue to be empty", 900)
+    left = region.call("todo", region.folder, "--tiles")
+    made = (region.folder / "tiles" / "tileset.json").exists()
+    expect(made and left == "", f"each tile was made by a job: {left}")
+
+
 def expect(is_so, what):
     if not is_so:
         raise SystemExit(f"failed: {what}")
@@ -297,6 +305,7 @@ def main():
                 wait(ended, "the queue to be empty", 900)
             expect(region.is_joined(), "what is joined is what one run prints")
             by_make(region)
+            tiles(region)
         except SystemExit:
             print(said("squeue", "-a"), said("sinfo", "-N"), sep="\n")
             for path in [*region.folder.glob("slurm*.log"), *cluster.folder.glob("*.log")]:

@@ -267,6 +267,21 @@ class Engines(RegionTest):
         )
         self.assertEqual((done.returncode, done.stdout, done.stderr), (130, "", ""))
 
+    def test_a_pool_that_sees_no_folder(self):
+        self.cut(REACHING, 1, "--decimals", "2")
+        pool = [sys.executable, TOP / "examples" / "engines" / "pool.py", self.folder]
+        done = subprocess.run(pool, capture_output=True, text=True, env=self.environment())
+        self.assertEqual(done.returncode, 0, done.stderr)
+        self.assert_whole(REACHING, STAND_IN, "--decimals", "2")
+
+    def test_a_job_is_named_by_its_digest_as_the_page_says(self):
+        self.cut(REACHING, 1, "--decimals", "2")
+        (program,) = self.folder.glob("program-*")
+        self.assertEqual(program.name, f"program-{hashlib.sha256(program.read_bytes()).hexdigest()[:20]}")
+        for path in self.jobs():
+            data = b"".join(part.encode() + b"\0" for part in [program.name, "--decimals", "2"]) + path.read_bytes()
+            self.assertEqual(path.stem, hashlib.sha256(data).hexdigest()[:20])
+
     def by_slurm(self, **environment):
         (self.top / "sbatch").write_text(SBATCH)
         (self.top / "sbatch").chmod(0o755)
