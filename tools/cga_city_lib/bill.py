@@ -3,20 +3,19 @@ from collections import namedtuple
 from fractions import Fraction
 
 from .call import Refused
+from .replies import lines_with
 
 Entry = namedtuple("Entry", "number front box unmeasured")
 
 
-def read_bill(path):
-    """The entries by symbol, or nothing where no bill is there."""
+def read_bill(path, text):
+    """The entries by symbol, or nothing where no bill is in the text of that file."""
     bill = None
-    with open(path, encoding="utf-8", errors="replace") as file:
-        for line in file:
-            if line.startswith("# bill "):
-                words = line.split()
-                bill = {} if len(words) == 3 else bill
-                if len(words) == 7 and bill is not None:
-                    bill[words[2]] = entry(words, path)
+    for line in lines_with("# bill ", text):
+        words = line.split()
+        bill = {} if len(words) == 3 else bill
+        if len(words) == 7 and bill is not None:
+            bill[words[2]] = entry(words, path)
     return bill
 
 

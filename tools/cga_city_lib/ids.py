@@ -1,19 +1,19 @@
 """A name for each solid that stays over edits: LOT/PATH, from what `trace` told behind the town."""
 from .call import Refused
+from .replies import lines_with
 
 ADVICE = "write the line `trace` right behind `print`, with no edit between them"
 
 
-def steps_in(path):
-    """The last trace that a run printed, as (lot, path, symbol, number of children), or none."""
+def steps_in(text):
+    """The last trace in what a run printed, as (lot, path, symbol, number of children), or none."""
     steps = None
-    with open(path, encoding="utf-8", errors="replace") as file:
-        for line in file:
-            if line.startswith("# trace "):
-                steps = []
-            elif steps is not None and line.startswith("# step "):
-                lot, place, symbol, _, _, result = line.split()[2:8]
-                steps.append((lot, key(place), symbol, int(result) if result.isdigit() else 0))
+    for line in lines_with(("# trace ", "# step "), text):
+        if line.startswith("# trace "):
+            steps = []
+        elif steps is not None:
+            lot, place, symbol, _, _, result = line.split()[2:8]
+            steps.append((lot, key(place), symbol, int(result) if result.isdigit() else 0))
     return steps
 
 
@@ -42,3 +42,11 @@ def ids(town, steps):
         if [symbol for _, symbol in found.get(lot, [])] != [solid.symbol for solid in solids]:
             raise Refused(f"the trace has other solids of lot {lot!r} than the town: {ADVICE}")
     return {lot: [f"{lot}/{'/'.join(map(str, path))}" for path, _ in found.get(lot, [])] for lot in town.lots}
+
+
+def ids_of(found):
+    """The same of a town that was opened, and whether they stay over edits."""
+    if found.paths is not None:
+        return {lot: [lot + path for path in paths] for lot, paths in found.paths.items()}, True
+    steps = steps_in(found.text())
+    return ids(found.town, steps), steps is not None

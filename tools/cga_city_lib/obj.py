@@ -60,10 +60,3 @@ class Town:
 def read_town(path):
     with open(path, encoding="utf-8", errors="replace") as file:
         return Town(counted(file, "lines read", 0))
-
-
-def drawn_town(path):
-    town = read_town(path)
-    if not town.solids():
-        raise Refused(f"nothing is drawn in {path}")
-    return town

@@ -5,7 +5,6 @@ from decimal import Decimal, localcontext
 
 from .call import Refused
 from .eye import cross, dot, unit
-from .obj import drawn_town
 from .solids import SOLIDS
 
 DIGITS = 60  # more than a coordinate has, so that no difference of two is rounded
@@ -14,9 +13,8 @@ DIGITS = 60  # more than a coordinate has, so that no difference of two is round
 Place = namedtuple("Place", "lot number symbol kind ridge corner axes size")
 
 
-def sound_town(path):
-    """The town of a file, where each corner is three numbers and each face has three corners at least."""
-    town = drawn_town(path)
+def sound(town, path):
+    """The town of a file, if each corner is three numbers and each face has three corners at least."""
     for point in town.points:
         if len(point) != 3 or not all(map(math.isfinite, point)):
             raise Refused(f"{path}: a corner has to be three numbers, and one is {' '.join(map(str, point))!r}")

@@ -38,3 +38,9 @@ def counts_of(reply):
     """The counts in a reply to `stats`."""
     words = reply[0].split()[2:]
     return {name: int(number) for name, number in zip(words[::2], words[1::2])}
+
+
+def lines_with(heads, text):
+    """The lines of a text that begin with one of the heads. A text of OBJ is long, and few lines of it are replies."""
+    if "\n# " in text or text.startswith("# "):
+        yield from (line for line in text.split("\n") if line.startswith(heads))

@@ -19,7 +19,7 @@ from in_process import called  # noqa: E402
 from cga_city_lib.call import Refused  # noqa: E402
 from cga_city_lib.ids import ids, steps_in  # noqa: E402
 from cga_city_lib.obj import Town, read_town  # noqa: E402
-from cga_city_lib.places import places, quaternion, sound_town  # noqa: E402
+from cga_city_lib.places import places, quaternion  # noqa: E402
 
 UPRIGHT = [(1, 0, 0), (0, 1, 0), (0, 0, 1)]
 SIZES = [(10.0, 6.0, 8.0), (0.9, 1.2, 0.06), (3.0, 2.0, 7.5), (4.0, 2.5, 4.0)]
@@ -201,9 +201,7 @@ class Ids(unittest.TestCase):
         self.town = Town(solid_table.text(DRAWN).split("\n"))
 
     def steps(self, text):
-        file = self.folder / "printed"
-        file.write_text(text, encoding="utf-8")
-        return steps_in(file)
+        return steps_in(text)
 
     def test_solids_are_what_was_never_expanded(self):
         self.assertEqual(ids(self.town, self.steps("# ok\n" + TRACE)), {"b": ["b/0/0", "b/0/1", "b/2/0/0", "b/2/1"]})
@@ -296,8 +294,9 @@ class Tool(unittest.TestCase):
             ("", "nothing is drawn"),
         ):
             self.source.write_text(f"o a\ng b\n{bad}\n", encoding="utf-8")
-            with self.assertRaisesRegex((Refused, ValueError), why):
-                sound_town(self.source)
+            status, _, said = self.call("places.csv")
+            self.assertEqual(status, 1)
+            self.assertIn(why, said)
         self.assertEqual(self.call("places.txt")[0], 2)
         self.assertEqual(self.call("places.csv", "--metres", "0")[0], 1)
         self.assertEqual(self.call("places.csv", "--offset", "a", "b", "c")[0], 2)

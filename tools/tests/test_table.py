@@ -167,8 +167,8 @@ class Tables(Written):
 
     def test_what_is_no_town(self):
         for text, told in (
-            ("", "nothing is drawn"),
-            ("<html>", "nothing is drawn"),
+            ("", "is empty"),
+            ("<html>", "is HTML"),
             ("o a\ng b\nv 0 nan 0\nv 1 0 0\nv 0 1 0\nf 1 2 3\n", "vertex 1 hasn't three coordinates"),
             ("o a\ng b\nv 0 1e300 0\nv 1 0 0\nv 0 1 0\nf 1 2 3\n", "vertex 1"),
             ("o a\ng b\nv 0 0\nv 1 0 0\nv 0 1 0\nf 1 2 3\n", "vertex 1"),

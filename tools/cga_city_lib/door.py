@@ -1,0 +1,133 @@
+"""The one door of the tools: a town from a script, which a program derives, or from the OBJ text that a run printed."""
+import argparse
+import os
+import re
+import sys
+from functools import lru_cache
+from itertools import islice
+from typing import Dict, List, NamedTuple, Optional, Tuple
+
+from .call import Refused, Words, said
+from .given import Given, given
+from .instances import Lots, from_told, printed
+from .live import tells_changes
+from .numerals import numeral
+from .obj import Town
+from .pipe import Ended
+from .program import LAUNCHER
+from .progress import counted
+from .session import Session
+from .strangers_text import told as shown
+from .told_town import Script, check_settings, refusals, script_of, told_by
+
+LIVE = LAUNCHER.parent / "crates" / "cga_live" / "out" / "cga_live"
+
+
+class Opened(NamedTuple):
+    """A town, and the file that it came from; of a script the path of each solid, lot by lot."""
+
+    given: Given
+    town: Town
+    paths: Optional[Dict[str, List[str]]] = None
+
+    def text(self) -> str:
+        """What a run printed; nothing of a script."""
+        return "" if self.given.is_script else self.given.text()
+
+
+def setting(word: str) -> str:
+    """NAME=NUMBER as a line `attr` has it."""
+    name, _, value = word.partition("=")
+    number = numeral(value)
+    if not re.fullmatch(r"[A-Za-z_]\w*", name, re.ASCII) or number is None:
+        raise argparse.ArgumentTypeError(f"`{shown(word)}` isn't NAME=NUMBER, such as storey=3 or storey=7/2")
+    return f"{name} = {number}"
+
+
+def add_words(known: Words) -> None:
+    known.add_argument("--set", action="append", type=setting, default=[])
+    known.add_argument("--program")
+
+
+def opened(path: str, words: argparse.Namespace, is_ordered: bool = True) -> Opened:
+    """The town of a script at its end, or the last one of an OBJ text; solids in the order of `print`, where that is wanted."""
+    found = given(path)
+    check_words(words, found)
+    return read(found, words, is_ordered)
+
+
+def opened_both(old: str, new: str, words: argparse.Namespace) -> Tuple[Opened, Opened]:
+    """Two towns; it is the second one whose attributes are set."""
+    before, after = given(old), given(new)
+    check_words(words, after, before)
+    without = argparse.Namespace(**{**vars(words), "set": []})
+    return read(before, without, True), read(after, words, True)
+
+
+def check_words(words: argparse.Namespace, found: Given, *others: Given) -> None:
+    """Refuses words of scripts where only OBJ texts are given."""
+    if words.set and not found.is_script:
+        raise Refused(f"{found.path} is an OBJ text, and --set goes with a script")
+    if words.program and not any(file.is_script for file in (found, *others)):
+        raise Refused(f"{found.path} is an OBJ text, and --program goes with a script")
+
+
+def read(found: Given, words: argparse.Namespace, is_ordered: bool) -> Opened:
+    if found.is_script:
+        return scripted(found, words, is_ordered)
+    return Opened(found, Town(counted(found.text().split("\n"), "lines read", 0)))
+
+
+def opened_drawn(path: str, words: argparse.Namespace, is_ordered: bool = True) -> Opened:
+    found = opened(path, words, is_ordered)
+    if not found.town.solids():
+        raise Refused(f"nothing is drawn in {path}")
+    return found
+
+
+@lru_cache(maxsize=None)
+def teller(program: Optional[str]) -> Optional[str]:
+    """The program that tells instances, where one is there."""
+    if program is None or program == str(LAUNCHER):
+        return str(LIVE) if LIVE.exists() else None
+    return program if tells_changes(program) else None
+
+
+def scripted(found: Given, words: argparse.Namespace, is_ordered: bool) -> Opened:
+    script = script_of(found.path, found.data, words.set)
+    program = None if script.is_dressed() else teller(words.program)
+    if program is None:
+        return Opened(found, asked(script, words.program or str(LAUNCHER)))
+    told = told_by(program, script, is_ordered)
+    tell(script, told.answers)
+    lots = from_told(told)
+    return Opened(found, printed(lots), paths_of(lots, told.paths))
+
+
+def paths_of(lots: Lots, paths: Optional[List[str]]) -> Optional[Dict[str, List[str]]]:
+    if paths is None:
+        return None
+    rest = iter(paths)
+    return {lot: list(islice(rest, len(instances))) for lot, instances in lots.items()}
+
+
+def asked(script: Script, program: str) -> Town:
+    """The town that a program prints, dressed where its symbols are."""
+    session = Session(program)
+    try:
+        _, _, answers, _, town = session.ask(script.lines)
+    except Ended as fault:
+        raise Refused(f"{script.path}: there is no answer: {fault}") from None
+    finally:
+        session.close()
+    tell(script, answers)
+    return town
+
+
+def tell(script: Script, answers: List[List[str]]) -> None:
+    """Says of lines that the program refused the first one, and refuses a setting that it refused."""
+    check_settings(script, answers)
+    lines = refusals(script, answers)
+    if lines:
+        more = f"; {len(lines)} lines are refused, and tools/lint {script.path} tells all" if lines[1:] else ""
+        said(os.path.basename(sys.argv[0]), lines[0] + more)
