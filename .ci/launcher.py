@@ -1,6 +1,7 @@
 #!/usr/bin/env python3
-"""The launcher, tried in a copy with three crates and a stand-in for rt that does in a second what rt does in an hour."""
+"""The launcher, tried in a copy with three crates and a stand-in for the kit that does in a second what takes an hour."""
 import os
+import resource
 import shutil
 import signal
 import subprocess
@@ -9,13 +10,15 @@ from pathlib import Path
 
 from launcher_copy import Copy, waits_for
 
+WORDS = ["--decimals", "--town", "--checked", "--build", "--prove", "--proved", "--help"]
+
 
 class Words(Copy):
     def test_help(self):
         self.call("--help")
         self.check("help", self.status == 0)
         heads = [line.split()[0] for line in self.out.splitlines() if line.startswith("  --")]
-        self.check("help tells each word", heads == ["--decimals", "--town", "--prove", "--proved", "--help"])
+        self.check("help tells each word", heads == WORDS)
 
     def test_wrong_words(self):
         self.call("x")
@@ -29,6 +32,7 @@ class Words(Copy):
             ("--town 201", "from 1 to 200"),
             ("--town 2 x", "x is none"),
             ("--prove x", "--prove is none"),
+            ("--build cga_word", "takes the names cga_main, and not 'cga_word'"),
         ):
             self.call(*words.split())
             self.replies(f"wrong words: {words}", 2, "")
@@ -41,27 +45,21 @@ class Words(Copy):
         )
 
 
-class Unproved(Copy):
+class Checked(Copy):
     def test_no_rt(self):
-        self.call(PATH="/usr/bin:/bin")
+        self.call("--checked", PATH="/usr/bin:/bin")
         self.replies("no rt in the path", 1, "")
         self.says("it is said", "rt isn't on the PATH")
 
     def test_replies(self):
-        self.call("--proved")
-        self.replies("nothing is proved yet", 1, "not proved: cga_main isn't built yet\n")
-        self.call("--decimals", "2")
-        self.replies("an unproved reply", 0, "unproved --decimals 2\na script\n")
+        self.call("--checked", "--decimals", "2")
+        self.replies("a checked reply", 0, "checked --decimals 2\na script\n")
         self.says("it says so", "UNPROVED")
-        self.says("and what to do", "./cga_city --prove")
-        self.call(STAND_IN="ends5")
-        self.replies("the status of an unproved run", 5, "unproved\na script\n")
+        self.call("--checked", STAND_IN="ends5")
+        self.replies("the status of a checked run", 5, "checked\na script\n")
         self.says("what the run said", "cga_city: script too long")
-
-    def test_words_that_the_program_takes(self):
-        for words in (["--decimals=+007", "--town", "200"], ["--"], ["--decimals", "0", "--"]):
-            self.call(*words)
-            self.replies(f"words: {words}", 0, f"unproved {' '.join(words)}\n" + "a script\n" * ("--town" not in words))
+        self.in_terminal("--checked")
+        self.says("checked from a terminal", "Ctrl-D")
 
     def test_no_answer(self):
         for how, names, text in (
@@ -69,26 +67,154 @@ class Unproved(Copy):
             ("slow", ("a run past its time", "the time is said"), "took too long"),
             ("refused", ("sources that are refused", "why they are"), "src/main.rt:7"),
         ):
-            self.call(STAND_IN=how)
+            self.call("--checked", STAND_IN=how)
             self.replies(names[0], 1, "")
             self.says(names[1], text)
 
     def test_failing_ends(self):
         folder = os.open(self.work, os.O_RDONLY)
         self.addCleanup(os.close, folder)
-        self.call(script=folder)
+        self.call("--checked", script=folder)
         self.replies("a folder as the script", 3, "")
         with open("/dev/full", "wb") as full:
-            self.call(out=full)
+            self.call("--checked", out=full)
         self.check("a full disk", self.status == 4)
 
+
+class Kept(Copy):
+    """A program that is built without a proof, one test after the other in the order of the names."""
+
+    def setUp(self):
+        self.kept = self.main / "out" / "unproved" / "cga_main"
+
+    def is_kept(self, name, number, **how):
+        """Whether a call is replied to by a kept program, of so many builds."""
+        self.call(**how)
+        self.check(name, (self.status, self.out, self.builds()) == (0, "kept \na script\n", number))
+
+    def test_0_no_rt(self):
+        self.call(PATH="/usr/bin:/bin")
+        self.replies("no rt in the path", 1, "")
+        self.says("it is said", "rt isn't on the PATH")
+
+    def test_1_not_made(self):
+        for how, text in (("refused", "src/main.rt:7"), ("unlinked", "undefined symbol: strange")):
+            self.call(STAND_IN=how)
+            self.replies(f"a build that fails: {how}", 1, "")
+            self.says(f"why: {how}", text)
+            self.check(f"nothing is kept: {how}", sorted(os.listdir(self.kept.parent)) == ["build.log", "lock"])
+        limit = lambda: resource.setrlimit(resource.RLIMIT_FSIZE, (150, 150))  # noqa: E731
+        self.call(before=limit)
+        self.replies("a file that can't be written whole", 1, "")
+        self.check("and nothing is kept", sorted(os.listdir(self.kept.parent)) == ["build.log", "lock"])
+        self.check("without a trace", "Traceback" not in self.err)
+
+    def test_2_builds_once(self):
+        number = self.builds()
+        self.call("--proved")
+        self.replies("nothing is proved yet", 1, "not proved: cga_main isn't proved yet\n")
+        held, told = self.held(), self.work / "told"
+        first = self.begin("--decimals", "2", HELD=str(held))
+        waits_for(lambda: self.builds() > number)
+        with told.open("wb") as said:
+            second = self.begin(err=said)
+        waits_for(lambda: b"waiting for it" in told.read_bytes())
+        held.unlink()
+        self.end(first)
+        self.replies("the first call builds", 0, "kept --decimals 2\n")
+        self.says("it says how far it is", "step 1 of 2")
+        self.says("it says what replies", "UNPROVED")
+        self.says("and what to do", "./cga_city --prove")
+        self.end(second, said=told)
+        self.replies("a call beside it waits", 0, "kept \n")
+        self.check("one build is enough", self.builds() == number + 1)
+        self.is_kept("the next call", number + 1)
+        self.check("one line says so", self.err.count("\n") == 1 and "UNPROVED" in self.err)
+        self.check("nothing else is kept", len(os.listdir(self.kept.parent)) == 4)
+        self.in_terminal()
+        self.check("from a terminal", self.status == 0 and "Ctrl-D" in self.err)
+
+    def test_3_what_counts(self):
+        source, number = self.main / "src" / "main.rt", self.builds()
+        text = source.read_text()
+        source.touch()
+        (self.main / "proofs" / "More.antt").write_text("")
+        self.is_kept("a source that is touched, and a proof", number)
+        source.write_text(text + "// an edit\n")
+        self.is_kept("an edit", number + 1)
+        self.is_kept("a kept edit", number + 1)
+        self.add_kit("other kit")
+        self.is_kept("another kit", number + 2, PATH=f"{self.work}/other kit/bin:/usr/bin:/bin")
+        self.is_kept("no kit", number + 2, PATH="/usr/bin:/bin")
+        self.is_kept("the first kit again", number + 3)
+        whole = self.kept.read_bytes()
+        self.kept.write_bytes(whole[:20])
+        self.is_kept("a program that is cut", number + 4)
+        self.kept.with_name("cga_main.sources").write_text("half")
+        self.is_kept("a record that is broken", number + 5)
+        self.kept.with_name("cga_main.sources").unlink()
+        self.kept.with_name("cga_main.part").write_bytes(whole[:9])
+        self.is_kept("no record, and a part of a build", number + 6)
+        way = self.top / "tools" / "cga_city_lib" / "native.py"
+        way.write_text(way.read_text() + "# another way\n")
+        self.is_kept("another way to build", number + 7)
+
+    def test_4_an_edit_during_a_build(self):
+        source, number, held = self.main / "src" / "main.rt", self.builds(), self.held()
+        source.write_text("// one edit\n")
+        job = self.begin(HELD=str(held))
+        waits_for(lambda: self.builds() > number)
+        source.write_text("// another edit\n")
+        held.unlink()
+        self.end(job)
+        self.replies("an edit during a build", 1, "")
+        self.says("it is said", "a source changed while cga_main was built")
+        self.is_kept("and the next call builds", number + 2)
+
+    def test_5_a_checkout_that_is_only_read(self):
+        source, home = self.main / "src" / "main.rt", self.work / "home"
+        source.write_text("// only read\n")
+        home.mkdir()
+        shutil.rmtree(self.main / "out")
+        for path in (self.work, self.work / "elsewhere"):
+            path.chmod(0o777 if path != self.work else 0o755)
+        (self.work / "calls").chmod(0o666)
+        (self.work / "pid").chmod(0o666)
+        number, stranger = self.builds(), {}
+        if os.getuid() == 0:
+            os.chown(home, 65534, 65534)
+            stranger["before"] = lambda: os.setuid(65534)
+        self.main.chmod(0o555)
+        self.is_kept("it is kept in the user's cache", number + 1, **stranger)
+        self.check("there", [*home.glob(".cache/cga_city/*/cga_main/cga_main")])
+        self.is_kept("and found there", number + 1, **stranger)
+        shutil.rmtree(home / ".cache")
+        home.chmod(0o500)
+        if os.getuid() == 0:
+            os.chown(home, 0, 0)
+        self.call(**stranger)
+        self.replies("where nothing can be written", 1, "")
+        self.says("it is said", "can be written")
+        self.main.chmod(0o755)
+        home.chmod(0o755)
+
+    def test_6_words(self):
+        for words in (["--decimals=+007", "--town", "200"], ["--"], ["--decimals", "0", "--"]):
+            self.call(*words)
+            self.replies(f"words: {words}", 0, f"kept {' '.join(words)}\na script\n")
+        self.call("--build", "cga_main")
+        self.replies("built by its name", 0, "")
+        self.says("is said", "built: cga_main")
+
+
+class Elsewhere(Copy):
     def test_from_elsewhere(self):
         elsewhere = self.work / "elsewhere"
         self.call(city="../a city, with spaces/cga_city", cwd=elsewhere, CDPATH=str(self.top))
-        self.replies("from another folder, with CDPATH", 0, "unproved\na script\n")
+        self.replies("from another folder, with CDPATH", 0, "kept \na script\n")
         (elsewhere / "city").symlink_to(self.city)
         self.call(city=elsewhere / "city")
-        self.replies("through a symbolic link", 0, "unproved\na script\n")
+        self.replies("through a symbolic link", 0, "kept \na script\n")
         self.check("nothing is made beside the link", not [*(elsewhere / "crates").iterdir()])
 
 
@@ -107,6 +233,7 @@ class Builds(Copy):
     def ends_by(self, number, words):
         pid = self.work / "pid"
         pid.unlink(missing_ok=True)
+        shutil.rmtree(self.main / "out" / "unproved", ignore_errors=True)
         job = self.begin(*words, STAND_IN="hangs")
         waits_for(lambda: pid.exists() and pid.read_text())
         job.send_signal(number)
@@ -116,7 +243,7 @@ class Builds(Copy):
         self.check("and leaves nothing", not [*(self.work / "elsewhere").glob("*city*")])
 
     def test_signals(self):
-        for words in (["--prove"], []):
+        for words in (["--prove"], ["--checked"], []):
             for number in (signal.SIGTERM, signal.SIGINT, signal.SIGHUP):
                 self.ends_by(number, words)
 
@@ -124,7 +251,7 @@ class Builds(Copy):
         job = self.begin(script=subprocess.PIPE, before=lambda: signal.signal(signal.SIGHUP, signal.SIG_IGN))
         job.send_signal(signal.SIGHUP)
         self.end(job)
-        self.replies("a call that nohup keeps", 0, "unproved\na script\n")
+        self.replies("a call that nohup keeps", 0, "kept \na script\n")
 
 
 class Proved(Copy):
@@ -137,7 +264,7 @@ class Proved(Copy):
             waits_for(lambda: self.calls("run"))
             second = self.begin("--prove", err=said_second)
         self.call()
-        self.replies("a call beside a build", 0, "unproved\na script\n")
+        self.replies("a call beside a build", 0, "kept \na script\n")
         waits_for(other.read_text)
         held.unlink()
         self.end(first, said=told)
@@ -180,11 +307,9 @@ class Proved(Copy):
         self.check("a source that is touched", self.is_proved())
         source.write_text(text + "// an edit\n")
         self.call()
-        self.replies("after an edit", 0, "unproved\na script\n")
+        self.replies("after an edit", 0, "kept \na script\n")
         self.says("it says why", "crates/cga_main/src/main.rt has changed")
         self.check("and proves nothing unasked", self.calls("run") == ["cga_main"])
-        self.in_terminal()
-        self.says("unproved from a terminal", "Ctrl-D")
         source.write_text(text)
         self.check("an edit that is taken back", self.is_proved())
         times = source.stat()

@@ -36,15 +36,26 @@ class Copy(unittest.TestCase):
         (cls.top / "crates.txt").write_text(
             "# NAME: what it stands on\n" + "".join(f"{name}: {low}\n" for name, low in reversed(CRATES.items()))
         )
-        for name in ("bin", "elsewhere/crates"):
-            (cls.work / name).mkdir(parents=True)
-        shutil.copy(TOP / ".ci" / "rt_stand_in", cls.work / "bin" / "rt")
+        (cls.work / "elsewhere" / "crates").mkdir(parents=True)
+        cls.add_kit("kit")
         (cls.work / "calls").touch()
         cls.env = {
-            "PATH": f"{cls.work}/bin:/usr/bin:/bin",
+            "PATH": f"{cls.work}/kit/bin:/usr/bin:/bin",
             "WORK": str(cls.work),
             "TMPDIR": str(cls.work / "elsewhere"),
+            "HOME": str(cls.work / "home"),
         }
+
+    @classmethod
+    def add_kit(cls, name):
+        """A kit whose programs are all the stand-in."""
+        kit = cls.work / name
+        for path in ("bin/rt", "bin/rattle", "bin/rattle-link", "toolchain/bin/clang"):
+            (kit / path).parent.mkdir(parents=True, exist_ok=True)
+            shutil.copy(TOP / ".ci" / "rt_stand_in", kit / path)
+        (kit / "toolchain/bin/ld.lld").symlink_to("clang")
+        (kit / "KIT-ID").write_text(f"the kit {name}\n")
+        return kit / "bin"
 
     @classmethod
     def add_crate(cls, name):
@@ -91,11 +102,11 @@ class Copy(unittest.TestCase):
     def call(self, *words, script=subprocess.PIPE, **more):
         self.end(self.begin(*words, script=script, **more))
 
-    def in_terminal(self):
+    def in_terminal(self, *words):
         """A call whose standard input is a terminal; what it says stands in err."""
         child, terminal = pty.fork()
         if not child:
-            os.execve(self.city, [self.city], {**os.environ, **self.env})
+            os.execve(self.city, [self.city, *words], {**os.environ, **self.env})
         os.write(terminal, b"a script\n\4")
         said = b""
         try:
@@ -121,3 +132,7 @@ class Copy(unittest.TestCase):
     def is_proved(self):
         self.call("--proved")
         return self.status == 0
+
+    def builds(self):
+        """How many builds without a proof were begun."""
+        return len(self.calls("compile"))

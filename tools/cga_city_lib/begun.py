@@ -1,14 +1,17 @@
 """What this call has begun: a signal that ends the call ends that first."""
+import fcntl
 import shutil
 import signal
 import subprocess
 import sys
+import time
 from contextlib import contextmanager
 
 from .sources import say
 
 SIGNALS = [signal.SIGINT, signal.SIGTERM, signal.SIGHUP]
 USUAL = "half an hour to an hour on four processors"
+BEGUN = time.monotonic()
 
 
 class Signalled(BaseException):
@@ -77,3 +80,17 @@ def last_lines(path, number=12):
     """The end of what a process said, to standard error."""
     with open(path, encoding="utf-8", errors="replace") as file:
         sys.stderr.writelines(file.readlines()[-number:])
+
+
+def so_far():
+    minutes, seconds = divmod(int(time.monotonic() - BEGUN), 60)
+    return f"{minutes} min {seconds} s" if minutes else f"{seconds} s"
+
+
+def take(lock, text):
+    """Waits until no other call has the lock, and says so."""
+    try:
+        fcntl.flock(lock, fcntl.LOCK_EX | fcntl.LOCK_NB)
+    except BlockingIOError:
+        say(text)
+        fcntl.flock(lock, fcntl.LOCK_EX)

@@ -1,23 +1,16 @@
 """Proves and builds the programs, one call at a time, and says how far it is."""
-import fcntl
 import os
 import re
 import subprocess
 import time
 from contextlib import suppress
 
-from .begun import USUAL, begun, fail, heeding_signals, last_lines, need_rt
+from .begun import USUAL, begun, fail, heeding_signals, last_lines, need_rt, so_far, take
 from .sources import say
 
 PAUSE = 0.5
 AT_WORK = re.compile(r"^rt: (?:chose --jobs .* for (cga_[a-z_]*)$|waiting for another rt)", re.MULTILINE)
 SILENCE = 20  # seconds after which it says again where it is
-BEGUN = time.monotonic()
-
-
-def so_far():
-    minutes, seconds = divmod(int(time.monotonic() - BEGUN), 60)
-    return f"{minutes} min {seconds} s"
 
 
 def at_work(log, crates):
@@ -68,18 +61,10 @@ def build(program):
     program.keep(crates.values(), {**sums, **program.sums(program.own())})
 
 
-def take(lock):
-    try:
-        fcntl.flock(lock, fcntl.LOCK_EX | fcntl.LOCK_NB)
-    except BlockingIOError:
-        say("another call proves and builds the programs; waiting for it")
-        fcntl.flock(lock, fcntl.LOCK_EX)
-
-
 def prove_all(programs):
     os.makedirs(programs[0].out, exist_ok=True)
     with heeding_signals(), open(os.path.join(programs[0].out, "prove.lock"), "w") as lock:
-        take(lock)
+        take(lock, "another call proves and builds the programs; waiting for it")
         for program in programs:
             if program.fault():
                 need_rt()

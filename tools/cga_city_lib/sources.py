@@ -5,7 +5,6 @@ import os
 import sys
 
 PROGRAMS = ("cga_main", "cga_hulls", "cga_live")
-PARTS = ("src", "specs", "proofs")
 ENDINGS = (".rt", ".antt")
 
 
@@ -46,6 +45,8 @@ def sum_of(path):
 class Program:
     """A program of the repository, as cga_main, with what is kept of its sources."""
 
+    parts, made = ("src", "specs", "proofs"), "proved"
+
     def __init__(self, top, name):
         self.top, self.name = top, name
         self.folder = os.path.join(top, "crates", name)
@@ -75,12 +76,12 @@ class Program:
     def stamps(self, crates):
         """The stamp of each source by its path below the top."""
         from_top = len(self.top) + 1
-        folders = [os.path.join(self.top, "crates", crate, part) for crate in crates for part in PARTS]
+        folders = [os.path.join(self.top, "crates", crate, part) for crate in crates for part in self.parts]
         return {entry.path[from_top:]: stamp_of(entry.stat()) for folder in folders for entry in files_below(folder)}
 
     def own(self):
         """The same of the program itself."""
-        return {self.path[len(self.top) + 1 :]: stamp_of(os.stat(self.path))}
+        return {os.path.relpath(self.path, self.top): stamp_of(os.stat(self.path))}
 
     def kept(self):
         """What is kept: the lines of crates.txt, and each file's sum and stamp."""
@@ -105,15 +106,18 @@ class Program:
     def fault(self):
         """Why the program isn't taken for proved, in a few words; nothing where it is."""
         if not os.access(self.path, os.X_OK):
-            return f"{self.name} isn't built yet"
+            return f"{self.name} isn't {self.made} yet"
         try:
             lines, files = self.kept()
         except (OSError, ValueError):
             return f"nothing says of which sources {self.name} was made"
         crates = self.crates()
-        if lines != [*crates.values()]:
-            return "crates.txt has changed"
-        return self.fault_of_files(lines, files, {**self.stamps(crates), **self.own()})
+        return self.fault_of_lines(lines, [*crates.values()]) or self.fault_of_files(
+            lines, files, {**self.stamps(crates), **self.own()}
+        )
+
+    def fault_of_lines(self, lines, now):
+        return "crates.txt has changed" if lines != now else ""
 
     def fault_of_files(self, lines, files, now):
         for path in now.keys() ^ files.keys():

@@ -1,10 +1,10 @@
-"""A reply before any proof: the same code is built without proofs by `rt try`, which hands out at most 1 MiB."""
+"""`--checked`: a reply by `rt try`, which compiles the same code with its checks for this call, and hands out at most 1 MiB."""
 import os
 import re
 import sys
 import tempfile
 
-from .begun import USUAL, begun, fail, heeding_signals, last_lines, need_rt
+from .begun import begun, fail, heeding_signals, last_lines, need_rt
 from .sources import say
 
 MOST = 67108864  # the bytes of the longest script
@@ -12,9 +12,9 @@ SECONDS = "300"
 NO_ANSWERS = [
     (
         "the limit on each",
-        "the replies come to more than 1 MiB: make the proved program by ./cga_city --prove, or ask for less",
+        "the replies come to more than 1 MiB: leave out --checked, or ask for less",
     ),
-    ("time limit", "the run took too long: make the proved program by ./cga_city --prove, which is much faster"),
+    ("time limit", "the run took too long: leave out --checked, which is much faster"),
 ]
 
 
@@ -34,12 +34,12 @@ def take_script(path):
                 return
             script.write(data)
             size += len(data)
-    fail(f"the script has more than {MOST} bytes; the proved program replies to such a script")
+    fail(f"the script has more than {MOST} bytes, which is the most")
 
 
 def no_answer(status, err):
     """Says why there is none, from what rt said."""
-    say("there is no answer before a proof, and no part of one is handed out")
+    say("there is no answer, and no part of one is handed out")
     with open(err, encoding="utf-8", errors="replace") as file:
         why = [line for line in file if line.startswith("checked: no-answer")][-1:]
     for sign, told in NO_ANSWERS:
@@ -61,11 +61,12 @@ def hand_out(path):
         sys.exit(4)
 
 
-def reply_unproved(program, fault, words, is_read):
+def reply_checked(program, words, is_read):
     """The status of the run, or of the call where there is no answer."""
     need_rt()
-    say(f"{fault}, so THIS ANSWER IS UNPROVED: the same code is built without proofs, which takes a minute or two")
-    say(f"for the proved program: ./cga_city --prove ({USUAL}, once)")
+    say(
+        "THIS ANSWER IS UNPROVED: the same code is compiled with checks and without proofs, which takes a minute or two"
+    )
     with heeding_signals(), tempfile.TemporaryDirectory(prefix="cga_city-") as work:
         script, out, err = (os.path.join(work, name) for name in ("script", "out", "err"))
         open(script, "wb").close()
