@@ -1,15 +1,20 @@
 """Begins Blender with the add-on, without installing it, follows a script, and looks at its first town as a whole.
 
-usage: blender --python tools/blender/follow.py -- SCRIPT
+usage: blender --python tools/blender/follow.py -- SCRIPT [GROUND.json]
+
+GROUND.json is what tools/parcels --ground wrote beside the script: streets, water, parks and borders are an object more.
 """
 import os
 import sys
 from pathlib import Path
 
-sys.path.insert(0, str(Path(__file__).resolve().parent))
+HERE = Path(__file__).resolve().parent
+sys.path[:0] = [str(HERE), str(HERE.parent)]
 
 import bpy  # noqa: E402
 import cga_city_link  # noqa: E402
+
+from cga_city_lib.call import Refused  # noqa: E402
 
 
 def look_at(window, area):
@@ -37,10 +42,13 @@ def look():
 
 
 words = sys.argv[sys.argv.index("--") + 1 :] if "--" in sys.argv else []
-if len(words) != 1:
+if len(words) not in (1, 2):
     sys.exit(__doc__)
 cga_city_link.register()
 bpy.context.scene.cga_city_script = os.path.abspath(words[0])
-cga_city_link.follow(os.path.abspath(words[0]))
+try:
+    cga_city_link.follow(os.path.abspath(words[0]), ground=words[1] if len(words) > 1 else None)
+except (Refused, OSError) as fault:
+    sys.exit(str(fault))
 if not bpy.app.background:
     bpy.app.timers.register(look)

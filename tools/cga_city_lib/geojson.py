@@ -8,6 +8,7 @@ from decimal import Decimal
 from typing import Any, Dict, Iterator, List, Optional, Tuple
 
 from .call import Refused
+from .ground_kinds import area_kind, line_kind
 from .geometry import Position, is_geometry, line, pieces, polygon
 from .reference_system import CONVERT
 from .skipped import Skips
@@ -21,23 +22,26 @@ OF_GDAL = (".shp", ".gpkg", ".gml", ".kml", ".kmz", ".fgb", ".tab", ".mif", ".gd
 
 
 class Map:
-    """What a file has: parcels, streets, the numbers of features that are neither, and its member `crs`."""
+    """What a file has: parcels, streets, areas and ways that are other ground, the numbers of features that are passed over,
+    and its member `crs`."""
 
     def __init__(self, crs: Any):
         self.parcels: List[Feature] = []
         self.streets: List[Feature] = []
+        self.areas: List[Feature] = []
+        self.ways: List[Feature] = []
         self.others: List[int] = []
         self.crs = crs
 
     def features(self) -> Iterator[Feature]:
-        yield from self.parcels
-        yield from self.streets
+        for some in (self.parcels, self.streets, self.areas, self.ways):
+            yield from some
 
     def keep(self, features: List[Feature]) -> None:
         """Only these features go on."""
-        kept = {(feature.number, feature.part, id(feature.lines)) for feature in features}
-        for some in (self.parcels, self.streets):
-            some[:] = [one for one in some if (one.number, one.part, id(one.lines)) in kept]
+        kept = {id(feature) for feature in features}
+        for some in (self.parcels, self.streets, self.areas, self.ways):
+            some[:] = [one for one in some if id(one) in kept]
 
 
 def positions(features: List[Feature]) -> List[Position]:
@@ -159,16 +163,25 @@ def take(
             skips.leave(number, text, "its geometry is empty")
         return
     properties, lines, part = properties_of(feature), [], 0
+    polygons = found.areas if area_kind(properties) else found.parcels
     for kind, piece in taken:
         reads = polygon if kind == "Polygon" else line
         read = skips.tried(number, text, lambda: reads(piece))
         if read is not None and kind == "Polygon":
             part += 1
-            found.parcels.append(Feature(number, part, text, [read.ring, *read.holes], properties))
+            polygons.append(Feature(number, part, text, [read.ring, *read.holes], properties))
         elif read is not None:
             lines.append(read)
     if lines:
-        found.streets.append(Feature(number, 1, text, lines, properties))
+        take_lines(found, Feature(number, 1, text, lines, properties))
+
+
+def take_lines(found: Map, feature: Feature) -> None:
+    kind = line_kind(feature.properties)
+    if kind is None:
+        found.others.append(feature.number)
+    else:
+        (found.streets if kind == "street" else found.ways).append(feature)
 
 
 def is_empty(geometry: Any) -> bool:

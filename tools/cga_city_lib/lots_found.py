@@ -3,7 +3,7 @@ from collections import namedtuple
 
 from .call import Refused
 from .geojson import read_map
-from .ground import Ground
+from .map_plane import Plane
 from .lots_csv import lots_of
 from .numerals import on_grid
 from .parcels import Group, groups, larger, parcels_of, renamed
@@ -13,8 +13,8 @@ from .strangers_text import told
 
 FEW_NAMES = 5  # so many are told one by one
 
-# comment tells what the coordinates are; ground is the map's plane, and nothing of a table
-Found = namedtuple("Found", "groups comment sentences skips ground")
+# comment tells what the coordinates are; plane is the map's, town what is in it, and both are nothing of a table
+Found = namedtuple("Found", "groups comment sentences skips plane town")
 
 
 def lots_found(word, roots):
@@ -27,24 +27,38 @@ def of_table(word, roots):
     changed = [(lot.place, lot.text, lot.name) for lot in lots if lot.text not in ("", lot.name)]
     group = Group(0, rows, [], lots)
     sentences = [*of_defaults(roots), *of_names(changed)]
-    return Found([group], "coordinates are those of the table", sentences, skips, None)
+    return Found([group], "coordinates are those of the table", sentences, skips, None, None)
 
 
 def of_map(word, roots):
     skips = Skips("feature", word.strict)
     town = read_map(word.map, word.name, skips)
-    ground = Ground(town, word.units, word.origin, word.swap, skips)
-    parcels = parcels_of([ground.placed(feature) for feature in town.parcels], roots, word.front, skips)
-    found = groups(parcels, [ground.placed(feature) for feature in town.streets], word, skips)
-    comment = f"(0, 0) is {ground.told()}; coordinates are exact multiples of {on_grid(1, word.decimals)}"
+    plane = Plane(town, word.units, word.origin, word.swap, skips)
+    parcels = parcels_of([plane.placed(feature) for feature in town.parcels], roots, word.front, skips)
+    found = groups(parcels, [plane.placed(feature) for feature in town.streets], word, skips)
+    comment = f"(0, 0) is {plane.told()}; coordinates are exact multiples of {on_grid(1, word.decimals)}"
     changed = [(f"feature {number}", text, name) for text, name, number in renamed(parcels)]
-    sentences = [*ground.sentences, *of_others(town), *of_parts(parcels), *of_holes(parcels), *of_defaults(roots)]
-    return Found(found, comment, [*sentences, *of_rectangles(found), *of_names(changed)], skips, ground)
+    sentences = [
+        *plane.sentences,
+        *of_others(town),
+        *of_ground(town),
+        *of_parts(parcels),
+        *of_holes(parcels),
+        *of_defaults(roots),
+    ]
+    return Found(found, comment, [*sentences, *of_rectangles(found), *of_names(changed)], skips, plane, town)
 
 
 def of_others(town):
     if town.others:
         yield f"features that are neither polygons nor lines are passed over: {len(town.others)}, the first is feature {town.others[0]}"
+
+
+def of_ground(town):
+    some = town.areas + town.ways
+    if some:
+        number = min(feature.number for feature in some)
+        yield f"features that are ground, such as water or a park, and no parcels: {len(some)}, the first is feature {number}"
 
 
 def of_parts(parcels):

@@ -28,15 +28,18 @@ def take_tools(folder):
     return True
 
 
-def follow(path, folder=str(HERE), program=None, live=False):
-    """Begins to follow a script, in the place of the one that is followed."""
+def follow(path, folder=str(HERE), program=None, live=False, ground=None):
+    """Begins to follow a script, in the place of the one that is followed; `ground` is a file of tools/parcels --ground."""
     if not take_tools(folder):
         raise FileNotFoundError(f"{folder} isn't the folder of cga_city")
-    from .link import Link
+    from .link import Link, ground_update
     from .scene import Follower
 
+    told = ground_update(ground) if ground else None
     stop()
     following.append(Follower(Link(path, program, live)))
+    if told:
+        following[0].link.updates.put(told)
     if not bpy.app.timers.is_registered(tick):
         bpy.app.timers.register(tick, persistent=True)
     return following[0]

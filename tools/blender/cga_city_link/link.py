@@ -6,6 +6,8 @@ from fractions import Fraction
 from queue import Queue
 
 import cga_city
+from cga_city_lib.ground_file import read_ground
+from cga_city_lib.ground_solids import LOT, solids_of
 from cga_city_lib.script import words_of
 
 from .drawing import ByChanges, ByText
@@ -25,6 +27,11 @@ PLAIN = (
 
 # lots: the solids of each lot that is drawn otherwise; attributes: name and value; said: what was refused; seconds: what it took
 Update = namedtuple("Update", "lots attributes stats said seconds")
+
+
+def ground_update(path):
+    """The ground of a map as an object beside the lots."""
+    return Update({LOT: solids_of(read_ground(path))}, None, None, [], 0.0)
 
 
 class Link:

@@ -7,7 +7,7 @@ from .geojson import Feature, Map, positions
 from .geometry import Position
 from .mercator import metres, turn_of
 from .rectangle import skew
-from .reference_system import CONVERT, METRES, System, bounds, said_system
+from .reference_system import CONVERT, METRES, PLAIN, bounds, said_system
 from .skipped import Skips
 
 WIDEST = 100_000
@@ -46,7 +46,7 @@ def within(some: Sequence[Position], box: Tuple[float, float, float, float]) -> 
     return sum(west <= x <= east and south <= y <= north for x, y in some)
 
 
-class Ground:
+class Plane:
     """Where a map's positions lie in the town. `swap` takes the first number of each for the north."""
 
     def __init__(self, town: Map, units: Optional[str], origin: Optional[Position], swap: bool, skips: Skips):
@@ -177,6 +177,15 @@ class Ground:
     def placed(self, feature: Feature) -> Feature:
         return feature._replace(lines=[[self.place(at) for at in line] for line in feature.lines])
 
+    def code(self) -> str:
+        """The code of the reference system, as far as it is known: a map in degrees that names none is in WGS84."""
+        if self.system and self.system.code:
+            return str(self.system.code)
+        return PLAIN if self.is_degrees else ""
+
+    def units(self) -> str:
+        return str(self.system.units) if self.system else "degrees" if self.is_degrees else "metres"
+
     def told(self) -> str:
         if self.is_degrees:
             return f"longitude {self.origin[0]}, latitude {self.origin[1]}"
@@ -187,10 +196,3 @@ class Ground:
 def corners_of(some: List[Position]) -> List[Position]:
     east, north = (sorted((min(part), max(part))) for part in zip(*some))
     return [(x, y) for x in east for y in north]
-
-
-def code_of(system: Optional[System], is_degrees: bool) -> str:
-    """The code of the reference system, as far as it is known."""
-    if system and system.code:
-        return system.code
-    return "EPSG:4326" if is_degrees and system is None else ""
