@@ -1,39 +1,36 @@
-"""The program of docs/RECIPES.md that makes a script from a table, run as a reader would."""
+"""What docs/RECIPES.md says of a table of lots and of ports, run as a reader would."""
 import re
-import subprocess
-import sys
-import tempfile
 import unittest
 from pathlib import Path
 
-RECIPES = Path(__file__).resolve().parent.parent.parent / "docs" / "RECIPES.md"
-RULES = '1: shop(n) -> S(1r, 3 * n, 1r) I("cube")\n2: office(n) -> S(1r, 4 * n, 1r) I("cube")\n'
-SCRIPT = f"""version 2
-quiet
-city
-{RULES}9001: office_5 -> office(5)
-9002: shop_2 -> shop(2)
-9003: shop_3 -> shop(3)
-lot lot1_Baker_old 1 0 0 8 10 shop_2
-lot lot2_12_Mill_Lane 2 8 0 7.5 10 shop_3
-lot lot3_bank 3 15.5 0 9 10 office_5
-end
-print
-"""
+from in_process import called
+
+TOP = Path(__file__).resolve().parent.parent.parent
+RECIPES = (TOP / "docs" / "RECIPES.md").read_text(encoding="utf-8")
+LOTS = [  # the lots of the table, each with its parcel's first symbol
+    "lot Baker_old 1 0 0 16 24 house(2)",
+    "lot p12_Mill_Lane 2 16 0 18.5 24 house(3)",
+    "lot bank 3 40 0 30 24 block(5)",
+]
 
 
 class Table(unittest.TestCase):
-    def test_lots_from_a_table(self):
-        text = RECIPES.read_text(encoding="utf-8").partition("## Lots from a table")[2]
-        table = re.search(r"^```\n(name,.*?)^```", text, re.MULTILINE | re.DOTALL).group(1)
-        program = re.search(r"^```python\n(.*?)^```", text, re.MULTILINE | re.DOTALL).group(1)
-        with tempfile.TemporaryDirectory() as folder:
-            for name, content in (("rules.cga", RULES), ("lots.py", program)):
-                (Path(folder) / name).write_text(content, encoding="utf-8")
-            for mark in ("", "\ufeff"):  # a spreadsheet may put a mark before the first line
-                (Path(folder) / "lots.csv").write_bytes((mark + table.replace("\n", "\r\n")).encode())
-                done = subprocess.run([sys.executable, "-S", "lots.py"], cwd=folder, capture_output=True, text=True)
-                self.assertEqual((done.stdout, done.stderr), (SCRIPT, ""))
+    def test_lots_from_a_table(self) -> None:
+        shown = re.search(r"^```\n(name,.*?)^```", RECIPES, re.MULTILINE | re.DOTALL).group(1)
+        self.assertEqual((TOP / "examples" / "maps" / "lots.csv").read_text(encoding="utf-8"), shown)
+        status, out, _ = called("parcels", "examples/maps/lots.csv", "examples/maps/street.cga", folder=TOP)
+        roots = dict(re.findall(r"^\d+: (parcel_\d+) -> (.*)$", out, re.MULTILINE))
+        lots = re.findall(r"^(lot .*) (parcel_\d+)  #", out, re.MULTILINE)
+        self.assertEqual((status, [f"{lot} {roots[parcel]}" for lot, parcel in lots]), (0, LOTS))
+
+
+class Ports(unittest.TestCase):
+    def test_the_numbers_of_each_port(self) -> None:
+        rows = re.findall(r"^\| `(\w+\.cga)`: [^|]*\| (\d+) \| (\d+) \|", RECIPES, re.MULTILINE)
+        self.assertEqual(len(rows), 3)
+        for name, there, here in rows:
+            said = called("port", "--unchecked", TOP / "examples" / "cga" / name)[2]
+            self.assertIn(f"port: {here} rules of {there}; ", said)
 
 
 if __name__ == "__main__":

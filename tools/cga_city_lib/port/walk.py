@@ -1,0 +1,126 @@
+"""A successor, item by item: the items of a script that do what an operation or a part of CGA does."""
+from typing import Callable, Dict, List, Optional
+
+from .context import Context
+from .forms import ROOFS, State, drawn
+from .lost import Lost
+from .tree import Body, Bracket, Item, Items, Nothing, Operation, Split, Symbol, Taken
+from .values import Writer
+
+
+class Walk:
+    """The items of one sequence, with the state of the shape so far. `is_due` says that the shape is still to be drawn."""
+
+    def __init__(self, context: Context, state: State, here: Dict[str, str]) -> None:
+        self.context, self.state, self.here = context, state, here
+        self.texts: List[str] = []
+        self.moves: List[str] = []  # those that nothing follows yet
+        self.is_due = True
+
+    @property
+    def writer(self) -> Writer:
+        return self.context.writer(self.here)
+
+    def text(self) -> str:
+        """The items, without moves that nothing follows; NIL where there are none."""
+        if self.is_due:
+            self.draw()
+        return " ".join(self.texts) or "NIL"
+
+    def move(self, *texts: str) -> None:
+        """Moves, sizes and turns."""
+        self.moves += texts
+
+    def make(self, *texts: str) -> None:
+        """What makes something of the shape, which is done by this unless it is drawn later."""
+        for text in texts:
+            if text not in ("", "NIL"):
+                self.texts += [*self.moves, text]
+                self.moves = []
+        self.is_due = False
+
+    def items(self, items: List[Item]) -> None:
+        at = 0
+        while at < len(items):
+            at += self.one(items[at], items[at + 1 :])
+
+    def one(self, item: Item, rest: List[Item]) -> int:
+        """Does an item, and says how many items that were."""
+        from .steps import centred
+
+        try:
+            if centred(self, item, rest):
+                return 2
+            HANDLERS[type(item)](self, item)
+        except Lost as fault:
+            self.context.port.remarks.lost(item.line, getattr(item, "written", "") or symbol_text(item), str(fault))
+        return 1
+
+    def nearly(self, item: Item, reason: str) -> None:
+        self.context.port.remarks.nearly(item.line, getattr(item, "written", ""), reason)
+
+    def draw(self) -> None:
+        """Draws the shape, by a symbol of its own where its look is another than what the rule has drawn, or by its form."""
+        context, state = self.context, self.state
+        if state.form in ROOFS or state.form == "mesh":
+            self.make(context.port.formed(context, state))
+        elif state.look != context.port.looks.setdefault(context.symbol, state.look):
+            self.make(context.port.leaf(context.symbol, state, context.symbol))
+        else:
+            self.make(drawn(state))
+
+    def inner(self, body: Body, state: State, here: Optional[Dict[str, str]] = None) -> str:
+        """The items of a body in another state, as one text."""
+        return self.context.port.body_text(self.context, body, state, {**self.here, **(here or {})})
+
+
+def symbol_text(item: Item) -> str:
+    return item.name if isinstance(item, Symbol) else "[ .. ]"
+
+
+def on_bracket(walk: Walk, item: Bracket) -> None:
+    inner = Walk(walk.context, walk.state, walk.here)
+    inner.items(item.items)
+    text = inner.text()
+    walk.make(text if text == "NIL" else f"[ {text} ]")
+
+
+def on_symbol(walk: Walk, item: Symbol) -> None:
+    walk.make(walk.context.port.child(walk, item))
+
+
+def on_nothing(walk: Walk, item: Nothing) -> None:
+    walk.is_due = False
+
+
+def on_operation(walk: Walk, item: Operation) -> None:
+    from .steps import STEPS, no_step
+
+    STEPS.get(item.name, no_step)(walk, item)
+
+
+def on_split(walk: Walk, item: Split) -> None:
+    from .splits import split
+
+    walk.make(split(walk, item))
+
+
+def on_taken(walk: Walk, item: Taken) -> None:
+    from .components import TAKEN, no_taken
+
+    TAKEN.get(item.name, no_taken)(walk, item)
+    walk.is_due = False
+
+
+HANDLERS: Dict[type, Callable] = {
+    Bracket: on_bracket,
+    Symbol: on_symbol,
+    Nothing: on_nothing,
+    Operation: on_operation,
+    Split: on_split,
+    Taken: on_taken,
+}
+
+
+def items_of(body: Body) -> List[Item]:
+    return body.items if isinstance(body, Items) else []
