@@ -15,7 +15,7 @@ from bugs import TOP, Bug
 
 sys.path.insert(0, str(TOP / "tools"))
 
-from cga_city_lib.sources import PARTS, Program, files_below as sources_in  # noqa: E402
+from cga_city_lib.sources import Program, files_below as sources_in  # noqa: E402
 
 ONE = ["--jobs", "1", "--only"]
 
@@ -50,7 +50,7 @@ def lines_below(name: str) -> List[str]:
 
 def files_below(name: str) -> List[Path]:
     """The sources, definitions and proofs of a crate and of those below it."""
-    folders = [TOP / "crates" / crate / part for crate in Program(str(TOP), name).crates() for part in PARTS]
+    folders = [TOP / "crates" / crate / part for crate in Program(str(TOP), name).crates() for part in Program.parts]
     return sorted(Path(entry.path) for folder in folders for entry in sources_in(str(folder)))
 
 
