@@ -13,10 +13,10 @@ from .strangers_text import told
 
 Point = Tuple[float, float]
 FORMAT = "cga_city ground 1"
-# a band along a line, a polygon, and a parcel with what the map says of it
+# a band along a line, a polygon, and a parcel with what the map says of it; front is that of its lot, as two points
 Way = namedtuple("Way", "kind name width line")
 Area = namedtuple("Area", "kind name ring holes")
-Plot = namedtuple("Plot", "lot feature name area ring holes properties")
+Plot = namedtuple("Plot", "lot feature name area ring holes front properties")
 # system is the code, units those of its numbers; origin is (0, 0) in them, and angle how far the script is turned
 Place = namedtuple("Place", "system units origin angle")
 PLACES = 3
@@ -60,6 +60,7 @@ def data_of(ground: Ground) -> Dict[str, Any]:
                 "area": round(plot.area, PLACES),
                 "ring": rounded(plot.ring),
                 "holes": [rounded(hole) for hole in plot.holes],
+                "front": rounded(plot.front),
                 "properties": {word: plain(value) for word, value in plot.properties.items()},
             }
             for plot in ground.plots
@@ -85,7 +86,14 @@ def points_of(line: Any) -> List[Point]:
 def ground_of(data: Any) -> Ground:
     place = Place(**{**data["place"], "origin": tuple(map(str, data["place"]["origin"]))})
     plots = [
-        Plot(**{**one, "ring": points_of(one["ring"]), "holes": [points_of(hole) for hole in one["holes"]]})
+        Plot(
+            **{
+                **one,
+                "ring": points_of(one["ring"]),
+                "holes": [points_of(hole) for hole in one["holes"]],
+                "front": points_of(one["front"]),
+            }
+        )
         for one in data["plots"]
     ]
     ways = [Way(**{**one, "line": points_of(one["line"]), "width": float(one["width"])}) for one in data["ways"]]

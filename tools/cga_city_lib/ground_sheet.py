@@ -9,6 +9,7 @@ from .ground_solids import box_of
 from .sheet import Sheet, clean, short
 
 ORDER = ("wood", "park", "pavement", "water", "rail", "street")
+PLOT = "#eceee2"
 BORDER = 'fill="none" stroke="#333" stroke-width=".18" stroke-dasharray="3 .8 .4 .8"'
 KERB = 0.3
 HEIGHT = 2.2  # of a street's name, in millimetres
@@ -105,6 +106,8 @@ def below(sheet: Sheet, ground: Ground) -> None:
     """What lies under the town."""
     sheet.add('<g id="ground">')
     areas(sheet, ground, sheet.box)
+    plots = "".join(path_of(sheet, [plot.ring, *plot.holes]) for plot in ground.plots)
+    sheet.add(f'<path d="{plots}" fill="{PLOT}" fill-rule="evenodd"/>')
     ways(sheet, ground, sheet.box)
     area_names(sheet, ground)
     way_names(sheet, ground, sheet.box)
@@ -118,6 +121,14 @@ def borders(sheet: Sheet, ground: Ground) -> None:
         sheet.add(
             f'<path id="border.{clean(plot.lot)}" d="{rings}"><title>{clean(plot.name or plot.lot)}</title></path>'
         )
+    sheet.add("</g>")
+
+
+def fronts(sheet: Sheet, ground: Ground) -> None:
+    """The front line of each lot, which is the side of its rectangle that looks to the street."""
+    sheet.add('<g id="fronts" fill="none" stroke="#2456a6" stroke-width=".3">')
+    for plot in ground.plots:
+        sheet.add(f'<path id="front.{clean(plot.lot)}" d="{sheet.path(plot.front, False)}"/>')
     sheet.add("</g>")
 
 

@@ -8,7 +8,17 @@ from .numerals import decimal
 from .strangers_text import told
 
 
-OWN = ("lot", "feature", "root", "angle", "area", "rectangle", "limit", "skipped")  # other columns are told as they are
+OWN = (
+    "lot",
+    "feature",
+    "root",
+    "angle",
+    "area",
+    "rectangle",
+    "limit",
+    "overlap",
+    "skipped",
+)  # other columns are told as they are
 
 
 def read_facts(path: str) -> Dict[str, Dict[str, Any]]:

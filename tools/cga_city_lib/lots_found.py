@@ -6,6 +6,7 @@ from .geojson import read_map
 from .map_plane import Plane
 from .lots_csv import lots_of
 from .numerals import on_grid
+from .parcel_overlaps import by_lot, overlaps, sentence
 from .parcels import Group, groups, larger, parcels_of, renamed
 from .program import MOST_LOTS
 from .skipped import Skips
@@ -13,8 +14,9 @@ from .strangers_text import told
 
 FEW_NAMES = 5  # so many are told one by one
 
-# comment tells what the coordinates are; plane is the map's, town what is in it, and both are nothing of a table
-Found = namedtuple("Found", "groups comment sentences skips plane town")
+# comment tells what the coordinates are; plane is the map's, town what is in it, and both are nothing of a table; overlaps has
+# for a lot the area of its rectangle that others lie over
+Found = namedtuple("Found", "groups comment sentences skips plane town overlaps")
 
 
 def lots_found(word, roots):
@@ -27,7 +29,7 @@ def of_table(word, roots):
     changed = [(lot.place, lot.text, lot.name) for lot in lots if lot.text not in ("", lot.name)]
     group = Group(0, rows, [], lots)
     sentences = [*of_defaults(roots), *of_names(changed)]
-    return Found([group], "coordinates are those of the table", sentences, skips, None, None)
+    return Found([group], "coordinates are those of the table", sentences, skips, None, None, {})
 
 
 def of_map(word, roots):
@@ -46,7 +48,9 @@ def of_map(word, roots):
         *of_holes(parcels),
         *of_defaults(roots),
     ]
-    return Found(found, comment, [*sentences, *of_rectangles(found), *of_names(changed)], skips, plane, town)
+    pairs = list(overlaps(found))
+    sentences += [*of_rectangles(found, word.fit), *sentence(pairs, word.fit), *of_names(changed)]
+    return Found(found, comment, sentences, skips, plane, town, by_lot(pairs))
 
 
 def of_others(town):
@@ -92,13 +96,14 @@ def of_names(changed):
         yield f"{place}, {told(text)}: lot `{name}`"
 
 
-def of_rectangles(found):
-    much = sorted((part for part in larger(found) if part[0] > 0.1), key=lambda part: part[0], reverse=True)
+def of_rectangles(found, fit):
+    how = "smaller" if fit == "inside" else "larger"
+    much = sorted((part for part in larger(found) if abs(part[0]) > 0.1), key=lambda part: abs(part[0]), reverse=True)
     if much:
         part, parcel = much[0]
         yield (
-            f"rectangles that are more than a tenth larger than their parcels: {len(much)} of {sum(len(group.lots) for group in found)}; "
-            f"that of feature {parcel.number} (`{parcel.name}`) is the most, by {part:.0%}"
+            f"rectangles that are more than a tenth {how} than their parcels: {len(much)} of {sum(len(group.lots) for group in found)}; "
+            f"that of feature {parcel.number} (`{parcel.name}`) is the most, by {abs(part):.0%}"
         )
 
 

@@ -2,10 +2,11 @@
 from typing import Any, Iterator, List
 
 from .call import Refused
+from .fitting import front_line
 from .ground_file import Area, Ground, Place, Plot, Point, Way
 from .ground_kinds import area_kind, line_kind, width_of
 from .lots_found import Found
-from .rectangle import area, turned
+from .rectangle import area, corners, turned
 
 
 def turned_line(line: List[Point], angle: float) -> List[Point]:
@@ -14,10 +15,11 @@ def turned_line(line: List[Point], angle: float) -> List[Point]:
 
 def plots_of(found: Found, angle: float) -> Iterator[Plot]:
     for group in found.groups:
-        for parcel, lot in zip(group.parcels, group.lots):
+        for parcel, box, lot in zip(group.parcels, group.boxes, group.lots):
             ring, *holes = (turned_line(line, angle) for line in [parcel.ring, *parcel.holes])
+            front = turned_line(front_line(corners(box, group.angle), lot.turns), angle)
             own = area(ring) - sum(map(area, holes))
-            yield Plot(lot.name, parcel.number, parcel.text, own, ring, holes, parcel.properties)
+            yield Plot(lot.name, parcel.number, parcel.text, own, ring, holes, front, parcel.properties)
 
 
 def ways_of(found: Found, angle: float) -> Iterator[Way]:

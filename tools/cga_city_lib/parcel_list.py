@@ -3,13 +3,14 @@ import csv
 from fractions import Fraction
 from typing import Any, Dict, Iterator, List, TextIO, Tuple
 
+from .lots_found import Found
 from .numerals import numeral
 from .parcels import Group
 from .rectangle import area, room
-from .skipped import Skips
 from .strangers_text import cell, told
 
 COLUMNS = ["lot", "feature", "name", "root", "angle", "area", "rectangle", "limit"]
+OVERLAP = "overlap"
 SKIPPED = "skipped"
 Row = Tuple[int, int, List[Any], Dict[str, Any]]
 
@@ -46,20 +47,22 @@ def property_columns(rows: List[Row]) -> Dict[str, str]:
     for *_, properties in rows:
         for word in properties:
             if word not in ("name", "limit") and word not in found:
-                taken = word in COLUMNS or word == SKIPPED
+                taken = word in (*COLUMNS, OVERLAP, SKIPPED)
                 found[word] = f"map_{word}" if taken else word
     return found
 
 
-def write_list(file: TextIO, groups: List[Group], skips: Skips) -> None:
+def write_list(file: TextIO, found: Found) -> None:
     """A row for each parcel, in the order of the map, and behind them one for each feature that is skipped."""
-    rows = [row for group in groups for row in (parcel_rows(group) if group.boxes else lot_rows(group))]
+    rows = [row for group in found.groups for row in (parcel_rows(group) if group.boxes else lot_rows(group))]
     rows.sort(key=lambda row: row[:2])
-    columns, out = property_columns(rows), csv.writer(file, lineterminator="\n")
-    more = [SKIPPED] if skips.found else []
-    out.writerow([*COLUMNS, *(cell(told(head)) for head in columns.values()), *more])
+    columns, out, skips = property_columns(rows), csv.writer(file, lineterminator="\n"), found.skips.found
+    last = [OVERLAP] * bool(found.overlaps) + [SKIPPED] * bool(skips)
+    out.writerow([*COLUMNS, *(cell(told(head)) for head in columns.values()), *last])
     for *_, cells, properties in rows:
-        out.writerow([*cells, *(shown(properties.get(word)) for word in columns), *([""] if more else [])])
-    for skip in sorted(skips.found):
-        between = [""] * (len(COLUMNS) - 3 + len(columns))
+        over = f"{found.overlaps[cells[0]]:.2f}" if cells[0] in found.overlaps else ""
+        ends = [over] * bool(found.overlaps) + [""] * bool(skips)
+        out.writerow([*cells, *(shown(properties.get(word)) for word in columns), *ends])
+    for skip in sorted(skips):
+        between = [""] * (len(COLUMNS) - 3 + len(columns) + bool(found.overlaps))
         out.writerow(["", skip.number, cell(told(skip.text)), *between, cell(told(skip.why))])

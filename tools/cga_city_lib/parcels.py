@@ -3,11 +3,12 @@ import math
 from collections import namedtuple
 
 from .call import Refused
+from .fitting import angle_for, box_for
 from .lot_list import COMPASS, OUTWARDS, Lot, named_side, seed_of
 from .lot_names import lot_names
 from .numerals import on_grid
 from .progress import counted
-from .rectangle import area, away, corners, crosses_itself, least_angle, room, sides, turned
+from .rectangle import area, away, corners, crosses_itself, room, turned
 from .skipped import place_of
 from .streets import Streets
 
@@ -112,7 +113,7 @@ def lot_of(parcel, box, on_steps, angle, streets, places):
 
 
 def group(angle, parcels, streets, word, skips):
-    boxes, kept = [sides(parcel.ring, angle) for parcel in parcels], []
+    boxes, kept = [box_for(parcel.ring, angle, word.fit, word.decimals) for parcel in parcels], []
     for parcel, box, steps in counted([*zip(parcels, boxes, snapped(boxes, word.snap, word.decimals))], "parcels"):
         lot = skips.tried(parcel.number, parcel.text, lambda: lot_of(parcel, box, steps, angle, streets, word.decimals))
         if lot is not None:
@@ -123,7 +124,8 @@ def group(angle, parcels, streets, word, skips):
 def groups(parcels, streets, word, skips):
     """The parcels by their angles, the group of most parcels first."""
     streets, found = Streets(streets), {}
-    for parcel, angle in zip(parcels, shared_angles([least_angle(parcel.ring) for parcel in parcels], word.tolerance)):
+    angles = [angle_for(parcel.ring, word.fit, streets) for parcel in parcels]
+    for parcel, angle in zip(parcels, shared_angles(angles, word.tolerance)):
         found.setdefault(angle, []).append(parcel)
     made = (
         group(angle, some, streets, word, skips)
@@ -135,7 +137,7 @@ def groups(parcels, streets, word, skips):
 
 
 def larger(found):
-    """How much larger than its parcel each rectangle is, with the parcel."""
+    """How much larger than its parcel each rectangle is, with the parcel; below 0 where it is smaller."""
     return [
         (room(box) / area(parcel.ring) - 1, parcel) for some in found for parcel, box in zip(some.parcels, some.boxes)
     ]
