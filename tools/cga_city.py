@@ -23,7 +23,8 @@ from types import TracebackType
 from typing import Dict, List, NamedTuple, Optional, Tuple, Type
 
 from cga_city_lib.pipe import Ended, Pipe
-from cga_city_lib.program import LAUNCHER, is_proved
+from cga_city_lib.call import Refused as CannotBuild
+from cga_city_lib.program import ready
 
 # fmt: off
 from cga_city_lib.refusals import (
@@ -46,7 +47,6 @@ __all__ = [
     "UnknownSymbol", "WrongArity"]
 # fmt: on
 
-LIVE = LAUNCHER.parent / "crates" / "cga_live" / "out" / "cga_live"
 FENCE, FENCE_REPLY = (
     b"unlot 0\n",
     "# refused Unexpected at 7",
@@ -60,7 +60,7 @@ Numbers = Tuple[Fraction, Fraction, Fraction]
 
 
 class NotBuilt(Exception):
-    """The program isn't there yet."""
+    """The program isn't there and can't be built, or doesn't tell changes."""
 
 
 class Stats(NamedTuple):
@@ -129,7 +129,8 @@ class Changes(NamedTuple):
 
 
 class City:
-    """`with City() as city:` runs the proved program; City(live=True) runs cga_live, which tells what each edit changed.
+    """`with City() as city:` runs the program; City(live=True) runs cga_live, which tells what each edit changed. Where it isn't
+    proved yet, it is built without a proof once, in a minute or two, and a line on standard error says so.
 
     A program that writes nothing for `patience` seconds, while it is asked, is ended, and Ended is raised.
     """
@@ -251,12 +252,11 @@ class City:
 
 
 def built(live: bool) -> str:
-    """The program, where it is built; the launcher alone would answer at a script's end, and a City asks as it goes."""
-    if live and not LIVE.exists():
-        raise NotBuilt(f"{LIVE} isn't there: it is proved and built by `./cga_city --prove`")
-    if not live and not is_proved(str(LAUNCHER)):
-        raise NotBuilt(f"the program isn't proved and built yet: {LAUNCHER} --prove")
-    return str(LIVE if live else LAUNCHER)
+    """The proved program; where it isn't here, one that is built without a proof at the first call, and a line says so."""
+    try:
+        return ready(name="cga_live" if live else "cga_main")
+    except CannotBuild as fault:
+        raise NotBuilt(str(fault)) from None
 
 
 def is_passed_over(lines: List[str]) -> bool:

@@ -12,33 +12,22 @@ from .head import head_of
 from .jobs import Cut, Program, cut_again, leftovers, tiles_to_make, todo
 from .of_plan import line_of, of_others, take_others_away
 from .plan import Options, read_plan
-from .program import LAUNCHER, MOST_LOTS, is_proved
+from .program import MOST_LOTS, is_proved, ready
 from .quadtree import EDGE
 from .region import Region
 from .rounds import outcome
 from .strangers_text import told
 from .survey import Survey
 
-MAIN, HULLS = (LAUNCHER.parent / "crates" / name / "out" / name for name in ("cga_main", "cga_hulls"))
 AGAIN = 3  # the status where jobs are to be run again
 
 
 def chosen_program(named, asks=()):
-    """The program of the jobs: the one that is named, else the one that tells boxes, else the proved one."""
+    """The program of the jobs: the one that is named, else the one that tells boxes, which only asks need: where no rule asks
+    and it isn't proved, a proved cga_main goes before."""
     if named:
         return named
-    if HULLS.exists():
-        return str(HULLS)
-    if asks:
-        raise Refused(
-            f"rule {', '.join(asks)} asks by Scope.occ, so the jobs need the program cga_hulls, which isn't built: "
-            "run `rt run </dev/null` in crates/cga_hulls"
-        )
-    if not is_proved(str(LAUNCHER)):
-        raise Refused(
-            "jobs need a proved program: build one by `./cga_city --prove`, or by `rt run </dev/null` in crates/cga_hulls"
-        )
-    return str(MAIN)
+    return ready(name="cga_main" if not asks and not is_proved("cga_hulls") and is_proved("cga_main") else "cga_hulls")
 
 
 def cut(words):

@@ -14,13 +14,11 @@ from .live import tells_changes
 from .numerals import numeral
 from .obj import Town
 from .pipe import Ended
-from .program import LAUNCHER
+from .program import LAUNCHER, ready
 from .progress import counted
 from .session import Session
 from .strangers_text import told as shown
 from .told_town import Script, check_settings, refusals, script_of, told_by
-
-LIVE = LAUNCHER.parent / "crates" / "cga_live" / "out" / "cga_live"
 
 
 class Opened(NamedTuple):
@@ -87,9 +85,9 @@ def opened_drawn(path: str, words: argparse.Namespace, is_ordered: bool = True) 
 
 @lru_cache(maxsize=None)
 def teller(program: Optional[str]) -> Optional[str]:
-    """The program that tells instances, where one is there."""
+    """The program that tells instances, unless one is named that doesn't."""
     if program is None or program == str(LAUNCHER):
-        return str(LIVE) if LIVE.exists() else None
+        return ready(name="cga_live")
     return program if tells_changes(program) else None
 
 

@@ -4,8 +4,6 @@
 class Either:
     """What an edit changed tells nothing of assets, so that only what is printed has them."""
 
-    is_kept = True
-
     def __init__(self, live, printed):
         self.live, self.printed, self.now = live, printed, live
 

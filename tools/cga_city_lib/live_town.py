@@ -18,8 +18,6 @@ class LiveTown:
     """Shows what scripts come to. `held` is the sources that the program has, where they are known, and `changes` what went and
     came since the last publication, by how often each instance is drawn."""
 
-    is_kept = True
-
     def __init__(self, program, shown):
         self.program, self.shown = program, shown
         self.live, self.held, self.lines, self.answers = None, None, None, []

@@ -11,7 +11,6 @@ class PrintedTown:
     def __init__(self, program, shown):
         self.session, self.shown, self.meshes = Session(program), shown, Meshes()
         self.lines, self.stats, self.worked, self.drawn = [], None, None, None
-        self.is_kept = self.session.is_kept
 
     def stop(self):
         self.session.stop()

@@ -2,8 +2,11 @@
 long, and not each call of a tool needs it."""
 from pathlib import Path
 
+from .call import Refused
+
 LAUNCHER = Path(__file__).resolve().parent.parent.parent / "cga_city"
 MOST_LOTS = 4096  # of a run
+TOLD = set()
 
 
 def take_program(words):
@@ -14,18 +17,59 @@ def take_program(words):
     return str(LAUNCHER), words
 
 
-def is_proved(program):
-    """Whether a call replies line by line and at once; any other program than the launcher is taken to."""
-    if program != str(LAUNCHER):
-        return True
+def ready(program=None, name="cga_main"):
+    """The program that is named. In the launcher's place stands what the launcher would run, or another program of the
+    repository: the proved one, else one that is built without a proof once and kept, and a line says so."""
+    if program not in (None, str(LAUNCHER)):
+        return program
+    from .kept import NONE, here
+
+    top = str(LAUNCHER.parent)
+    kind, found, why = here(top, name)
+    if kind == NONE:
+        build(name)
+        kind, found, why = here(top, name)
+        if kind == NONE:
+            raise Refused(f"{name} isn't built: {why}")
+    tell(name, why)
+    return found.path
+
+
+def is_here(name):
+    """Whether a proved program or a kept one is here."""
+    from .kept import NONE, here
+
+    return here(str(LAUNCHER.parent), name)[0] != NONE
+
+
+def is_proved(name):
+    from .kept import PROVED, here
+
+    return here(str(LAUNCHER.parent), name)[0] == PROVED
+
+
+def build(name):
+    """Builds it by the launcher, which says how far it is. An interrupt ends both."""
     import subprocess
 
-    return subprocess.run([program, "--proved"], stdout=subprocess.DEVNULL).returncode == 0
+    if subprocess.run([str(LAUNCHER), "--build", name], stdin=subprocess.DEVNULL).returncode:
+        raise Refused(f"{name} isn't there and can't be built; the lines above say why")
+
+
+def tell(name, why):
+    """Says once of each program that it isn't proved."""
+    if why and name not in TOLD:
+        from .kept import say_unproved
+
+        say_unproved(why)
+        TOLD.add(name)
 
 
 def run(program, script):
     """The status of a run of the script, and its replies' lines."""
     import subprocess
 
-    done = subprocess.run([program], input=script, stdout=subprocess.PIPE)
+    from .sources import frugal
+
+    done = subprocess.run([ready(program)], input=script, stdout=subprocess.PIPE, env=frugal())
     return done.returncode, done.stdout.decode("latin-1").split("\n")[:-1]

@@ -4,16 +4,17 @@ from itertools import islice
 
 from .obj import Town
 from .pipe import Ended, while_written
-from .program import is_proved
+from .program import ready
 from .replies import counts_of, is_refused, replies
 from .script import commands, is_open, text_of, without
+from .sources import frugal
 
 OPEN = ["# refused OpenBlock"]
 
 
 class Session:
     def __init__(self, program):
-        self.program, self.is_kept = program, is_proved(program)
+        self.program = program
         self.process, self.fed, self.answers, self.stats = None, [], [], {}
 
     def close(self):
@@ -29,7 +30,9 @@ class Session:
 
     def begin(self):
         self.close()
-        self.process = subprocess.Popen([self.program], stdin=subprocess.PIPE, stdout=subprocess.PIPE)
+        self.process = subprocess.Popen(
+            [ready(self.program)], stdin=subprocess.PIPE, stdout=subprocess.PIPE, env=frugal()
+        )
         self.replies = replies(line.decode("latin-1").rstrip("\n") for line in self.process.stdout)
 
     def ask(self, lines):
@@ -42,12 +45,12 @@ class Session:
         if number == 0:
             return lines, found, [OPEN for _ in left_open], [], Town([])
         asks = ["faults", "print"] + ["model"] * any(command.words[:1] == ["dress"] for command in found) + ["stats"]
-        got = self.kept(closed, number, asks) if self.is_kept else self.anew(closed, number, asks)
+        got = self.got(closed, number, asks)
         faults, towns = got[number][1:], [reply for reply in got[number + 1 : -1] if not is_refused(reply)]
         self.stats = counts_of(got[-1])
         return lines, found, got[:number] + [OPEN for _ in left_open], faults, Town(towns[-1])
 
-    def kept(self, lines, number, asks):
+    def got(self, lines, number, asks):
         """The replies of the running program, which is begun anew where the script didn't only grow."""
         if not self.process or self.process.poll() is not None or lines[: len(self.fed)] != self.fed:
             self.begin()
@@ -61,12 +64,3 @@ class Session:
         cut = len(got) - len(asks)
         self.fed, self.answers = list(lines), self.answers + got[:cut]
         return self.answers + got[cut:]
-
-    def anew(self, lines, number, asks):
-        self.process = subprocess.Popen([self.program], stdin=subprocess.PIPE, stdout=subprocess.PIPE)
-        out, _ = self.process.communicate(text_of(lines + asks))
-        status, self.process = self.process.returncode, None
-        got = list(replies(out.decode("latin-1").split("\n")[:-1]))
-        if status or len(got) != number + len(asks):
-            raise Ended(f"the program ended with status {status}")
-        return got

@@ -9,7 +9,6 @@ from .pipe import Ended
 from .report import Report
 from .script import commands, lines_of
 
-SLOW = "the program isn't proved and built yet (./cga_city --prove does it), so what you see takes a minute or two at each save .."
 GONE = "the file is gone; the town is that of its last save"
 EMPTY = "the file is empty, so there is no town"
 EACH = 0.02  # seconds between two looks at the file
@@ -76,8 +75,6 @@ class Watch:
         return told.st_mtime_ns, told.st_size, told.st_ino
 
     def tell(self, change, words):
-        if not self.town.is_kept:
-            self.shown.put(said=SLOW, is_busy=True)
         try:
             change(words)
         except (Ended, Refused, OSError) as fault:

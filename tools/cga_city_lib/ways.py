@@ -1,5 +1,5 @@
 """The symbols above a shape that came to nothing, from its lot on: a second run of the script tells them by `trace`."""
-from .program import is_proved, run
+from .program import run
 from .script import commands, is_version, text_of
 
 
@@ -28,8 +28,8 @@ def traced(program, lines, wanted):
 
 
 def ways(program, lines, faults):
-    """For the first shape of each symbol and cause, by its lot and path, the symbols above it; none where it isn't quick to ask."""
-    if not faults or not is_proved(program):
+    """For the first shape of each symbol and cause, by its lot and path, the symbols above it."""
+    if not faults:
         return {}
     above = {(lot, path): [(lot, place) for place in places_above(path)] for lot, path in first_ones(faults)}
     symbols = traced(program, lines, {place for places in above.values() for place in places})

@@ -11,8 +11,7 @@ TESTS = Path(__file__).resolve().parent
 TOP = TESTS.parent.parent
 sys.path[:0] = [str(TESTS), str(TESTS.parent)]
 
-from cga_city_lib import districts  # noqa: E402
-from cga_city_lib.program import take_program  # noqa: E402
+from cga_city_lib.program import ready, take_program  # noqa: E402
 from cga_city_lib.script import lines_of  # noqa: E402
 from regions import RegionTest, value  # noqa: E402
 
@@ -90,13 +89,11 @@ class WithProgram(RegionTest):
 
 def main(words):
     program, named = take_program(words)[0], "--program" in words
-    hulls = program if named else str(districts.HULLS)
+    hulls = program if named else ready(name="cga_hulls")
     test, number = WithProgram(), 0
     for lines, sizes in [(houses(), (60, 9)), (boxes(400), (100,))]:
         for lots in sizes:
-            number += test.region(hulls if named or districts.HULLS.exists() else str(districts.MAIN), lines, lots)
-    if not named and not districts.HULLS.exists():
-        sys.exit("regions in which rules ask wait for cga_hulls: run `rt run </dev/null` in crates/cga_hulls")
+            number += test.region(hulls, lines, lots)
     asking = [
         [line for line in lines_of(script.read_bytes()) if line not in ("print", "faults", "stats")]
         for script in ASKING

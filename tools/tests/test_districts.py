@@ -10,7 +10,6 @@ from regions import RULES, STAND_IN, TOP, RegionTest, asking, chances, wait
 
 from cga_city_lib import deal, districts
 from cga_city_lib.apart import touch, touching
-from cga_city_lib.call import Refused
 from cga_city_lib.files import alone
 
 LOTS = [
@@ -218,7 +217,7 @@ class Cut(RegionTest):
     def test_decimals_where_a_rule_asks(self):
         lines = asking(*LOTS)
         self.write(lines)
-        with patch.object(districts, "HULLS", TOP / "tools" / "tests" / "region_stand_in.py"):
+        with patch.object(districts, "ready", lambda name: str(STAND_IN)):
             status, said, _ = self.call("cut", self.script, self.folder, "--lots", "3", "--decimals", "2")
         self.assertEqual((status, said.endswith("since a rule asks\n")), (0, True))
         self.rounds(30, STAND_IN, "--decimals", "2")
@@ -239,14 +238,17 @@ class Cut(RegionTest):
 
     def test_programs(self):
         nowhere = self.top / "nowhere"
-        with patch.object(districts, "HULLS", nowhere):
-            with self.assertRaises(Refused) as refusal:
-                districts.chosen_program(None, ["7"])
-            self.assertIn("rule 7 asks by Scope.occ, so the jobs need the program cga_hulls", str(refusal.exception))
-            with patch.object(districts, "is_proved", lambda program: False):
-                self.assert_refused(self.call("cut", "x", "y"), "x: No such file or directory")
-                self.write(REGION)
-                self.assert_refused(self.call("cut", self.script, self.folder), "jobs need a proved program")
+        for proved, asks, chosen in (
+            ([], [], "cga_hulls"),
+            (["cga_main"], [], "cga_main"),
+            (["cga_main"], ["7"], "cga_hulls"),
+            (["cga_main", "cga_hulls"], [], "cga_hulls"),
+        ):
+            with patch.object(districts, "is_proved", proved.__contains__), patch.object(
+                districts, "ready", lambda name: name
+            ):
+                self.assertEqual(districts.chosen_program(None, asks), chosen, (proved, asks))
+        self.assert_refused(self.call("cut", "x", "y"), "x: No such file or directory")
         self.folder = self.top / "fol\u03bb\u00e9 'der"
         self.assertEqual(self.cut(REGION)[0], 0, "paths are only data")
         self.assert_refused(self.cut(REGION, program=nowhere), "nowhere: No such file")

@@ -13,10 +13,11 @@ sys.path[:0] = [str(TESTS), str(TESTS.parent)]
 from drawn import Drawn  # noqa: E402
 from in_process import called  # noqa: E402
 from cga_city_lib.call import Words  # noqa: E402
-from cga_city_lib.door import LIVE, add_words, opened  # noqa: E402
+from cga_city_lib.door import add_words, opened  # noqa: E402
 from cga_city_lib.forms import form_of  # noqa: E402
 from cga_city_lib.instances import decimal  # noqa: E402
 from cga_city_lib.obj import Town  # noqa: E402
+from cga_city_lib.program import is_here  # noqa: E402
 from cga_city_lib.traced import children_in  # noqa: E402
 
 TELLER = TESTS / "live_stand_in"
@@ -234,7 +235,7 @@ class Refusals(Given):
         self.assertIn("there is no answer: the program ended with status 6", said)
 
 
-@unittest.skipUnless(LIVE.exists(), "cga_live isn't built")
+@unittest.skipUnless(is_here("cga_live"), "cga_live isn't built")
 class ByTheProgram(Given):
     def test_examples_are_what_their_runs_printed(self):
         known = Words()

@@ -20,7 +20,7 @@ from cga_city import City, Ended, Instance, NotBuilt, Refused  # noqa: E402
 from cga_city_lib.causes import CAUSES  # noqa: E402
 from cga_city_lib.ids import ids, key  # noqa: E402
 from cga_city_lib.obj import Town  # noqa: E402
-from cga_city_lib.program import LAUNCHER, is_proved  # noqa: E402
+from cga_city_lib import program  # noqa: E402
 from cga_city_lib.replies import replies  # noqa: E402
 
 OBJ = "# cga_city obj\no a\ng wall\nv 0 0 0\nv 1 0 0\nv 0 1 0\nf 1 2 3"
@@ -246,17 +246,19 @@ class Ends(Told):
         city.close()
 
     def test_where_nothing_is_built(self):
-        with mock.patch.object(cga_city, "LIVE", Path("/nowhere/cga_live")), self.assertRaisesRegex(
-            NotBuilt, "--prove"
-        ):
-            City(live=True)
-        with mock.patch.object(cga_city, "is_proved", lambda program: False), self.assertRaisesRegex(
-            NotBuilt, "--prove"
-        ):
-            City()
+        """A program that is built is run, and one that can't be is told."""
+        with tempfile.TemporaryDirectory() as top:
+            launcher = Path(top) / "cga_city"
+            launcher.write_text("#!/bin/sh\nexit 1\n")
+            launcher.chmod(0o755)
+            for live in (False, True):
+                with mock.patch.object(program, "LAUNCHER", launcher), self.assertRaisesRegex(
+                    NotBuilt, "can't be built"
+                ):
+                    City(live=live)
 
 
-@unittest.skipUnless(is_proved(str(LAUNCHER)), "the module with the program waits for a proved one: ./cga_city --prove")
+@unittest.skipUnless(program.is_here("cga_main"), "the module with the program waits for one: ./cga_city --build")
 class Program(unittest.TestCase):
     def test_stored_scripts(self):
         """Each command of scripts of version 2 is replied to as is stored, in one session for each."""

@@ -182,17 +182,14 @@ class Sessions(unittest.TestCase):
         )
 
     def test_a_program_that_is_ended(self):
-        for is_kept in (True, False):
-            with self.subTest(is_kept), tempfile.NamedTemporaryFile("w", suffix=".sh", delete=False) as program:
-                self.addCleanup(os.unlink, program.name)
-                program.write("#!/bin/sh\nexec sleep 60\n")
-                program.close()
-                os.chmod(program.name, 0o700)
-                session = Session(program.name)
-                session.is_kept = is_kept
-                threading.Timer(0.3, session.stop).start()
-                with self.assertRaisesRegex(Exception, "status -15"):
-                    session.ask(["print"])
+        with tempfile.NamedTemporaryFile("w", suffix=".sh", delete=False) as program:
+            self.addCleanup(os.unlink, program.name)
+            program.write("#!/bin/sh\nexec sleep 60\n")
+        os.chmod(program.name, 0o700)
+        session = Session(program.name)
+        threading.Timer(0.3, session.stop).start()
+        with self.assertRaisesRegex(Exception, "status -15"):
+            session.ask(["print"])
 
     def test_a_program_that_ends(self):
         with self.assertRaisesRegex(Exception, "status 6"):

@@ -16,13 +16,12 @@ sys.path[:0] = [str(TESTS), str(TESTS.parent)]
 
 import random_scripts  # noqa: E402
 import test_edits  # noqa: E402
-from cga_city_lib.program import run, take_program  # noqa: E402
+from cga_city_lib.program import is_here, ready, run, take_program  # noqa: E402
 from cga_city_lib.replies import replies  # noqa: E402
 from cga_city_lib.report import Report  # noqa: E402
 from cga_city_lib.script import commands, is_open, is_version, lines_of, text_of, without  # noqa: E402
 from cga_city_lib.session import Session  # noqa: E402
 
-LIVE = TOP / "crates" / "cga_live" / "out" / "cga_live"
 STORED = [script for folder in ("examples", "rows") for script in sorted((TOP / folder).glob("*.cga"))]
 LINTED = sorted((TESTS / "lint").glob("*.cga"))
 
@@ -52,7 +51,6 @@ def stored(program, script):
 def grown(program, name, data):
     """A script given at once, and in pieces to a running program, comes to the same replies, faults and town."""
     lines, session, whole = lines_of(data), Session(program), Session(program)
-    session.is_kept, whole.is_kept = True, False
     for end in [*range(0, len(lines), 1 + len(lines) // 6), len(lines)]:
         _, _, answers, faults, town = session.ask(lines[:end])
     said, found, all_answers, all_faults, all_town = whole.ask(lines)
@@ -94,8 +92,9 @@ def main(words):
     for name, data in scripts:
         quiet(program, name, data)
         grown(program, name, data)
-    if LIVE.exists():
-        saves = sum(test_edits.check(unittest.TestCase(), str(LIVE), seed, 25) for seed in range(1, 11))
+    if is_here("cga_live"):
+        live = ready(name="cga_live")
+        saves = sum(test_edits.check(unittest.TestCase(), live, seed, 25) for seed in range(1, 11))
         print(f"{saves} saves come to the town of a run from nothing")
     else:
         print("SKIPPED: saves sent as edits, since cga_live isn't built")

@@ -35,10 +35,10 @@ def ground_update(path):
 
 
 class Link:
-    """By cga_live where it is built, so that an edit costs what it changes, or by another program that is said."""
+    """By cga_live, so that an edit costs what it changes, or by another program that is said."""
 
     def __init__(self, path, program=None, live=False):
-        self.path, self.program, self.is_live = path, program, live if program else cga_city.LIVE.exists()
+        self.path, self.program, self.is_live = path, program, live if program else True
         self.updates, self.pending, self.lock = Queue(), {}, threading.Lock()
         self.city, self.drawing, self.done, self.seen, self.is_over = None, None, [], None, False
         self.thread = threading.Thread(target=self.run, daemon=True)
