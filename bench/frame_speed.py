@@ -24,7 +24,7 @@ sys.path[:0] = [str(TOP / "tools"), str(TOP / "tools" / "tests"), str(TOP / ".ci
 
 import tables  # noqa: E402
 from browser import Browser  # noqa: E402
-from cga_city_lib.page import colours_of, page  # noqa: E402
+from cga_city_lib.page import packed, page  # noqa: E402
 
 WALLS, WINDOWS = 40, 20  # of a house
 A_HOUSE = 2 * WALLS + 12 * WINDOWS + 8  # triangles
@@ -76,13 +76,7 @@ def house(number):
 
 def opened(triangles, folder, size, is_as_on_graphics):
     lines = [line for number in range(-(-triangles // A_HOUSE)) for line in house(number)]
-    data = {
-        "title": "a town",
-        "meshes": {},
-        "colours": colours_of(line[2:] for line in lines),
-        "from": "",
-        "lines": lines,
-    }
+    data = packed("a town", [line[2:] for line in lines], {})
     path = Path(folder) / "town.html"
     path.write_text(page(data), encoding="utf-8")
     browser = Browser(*size, patience=PATIENCE)

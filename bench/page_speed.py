@@ -28,10 +28,10 @@ from browser import Browser  # noqa: E402
 WATCH = """(() => {
   window.noted = {};
   const take_was = take, draw_was = draw, now = () => performance.timeOrigin + performance.now();
-  take = (told, lines) => {
-    take_was(told, lines);
-    if (lines.length) noted.taken = now();
-    noted.bytes = (noted.bytes || 0) + lines.join('\\n').length + JSON.stringify(told).length;
+  take = (told, data, from) => {
+    take_was(told, data, from);
+    if (told.tables.length) noted.taken = now();
+    noted.bytes = (noted.bytes || 0) + data.byteLength;
   };
   draw = () => { draw_was(); gl.readPixels(0, 0, 1, 1, gl.RGBA, gl.UNSIGNED_BYTE, new Uint8Array(4)); noted.drawn = now(); };
   ask_draw();

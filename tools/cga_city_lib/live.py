@@ -23,7 +23,7 @@ class Live:
         for line in self.process.stdout:
             if line.startswith(b"# changed "):
                 gone, come = map(int, line.split()[2:4])
-                told = [line[2:-1].decode("latin-1") for line in islice(self.process.stdout, gone + come)]
+                told = [line[2:-1] for line in islice(self.process.stdout, gone + come)]
                 self.changed(told[:gone], told[gone:])
             else:
                 yield line.decode("latin-1").rstrip("\n")

@@ -40,9 +40,8 @@ class LiveTown:
     def publish(self, **head):
         """Tells the pages all that changed in one step, with values of the head."""
         if self.is_another:
-            self.shown.replace((+self.changes).elements(), **head)
-        else:
-            self.shown.put((-self.changes).elements(), (+self.changes).elements(), **head)
+            self.changes.subtract(self.shown.drawn.counts())
+        self.shown.put(self.changes, **head)
         self.changes, self.is_another = Counter(), False
 
     def show(self, lines, found):

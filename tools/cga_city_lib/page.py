@@ -1,24 +1,27 @@
 """The page that shows a town and can be turned: as one file, or one that asks a preview for what to show."""
+import base64
 import json
+import zlib
 from pathlib import Path
 from urllib.parse import unquote
 
 from .colours import colour_of
 from .drawn import Meshes
+from .shown import Shown
 
 VIEWER = Path(__file__).parent / "viewer"
 SCRIPTS = [
     "gl",
-    "shaders",
     "meshes",
     "town",
+    "buffers",
+    "shaders",
     "camera",
     "picking",
     "glb_file",
     "tileset",
     "tiles",
     "tile_parts",
-    "buffers",
     "draw",
     "panel",
     "hands",
@@ -35,13 +38,14 @@ def data_of(town, title):
     """What the page is given of a town that doesn't change."""
     meshes = Meshes()
     lines = meshes.lines(town)
-    return {
-        "title": title,
-        "meshes": meshes.told,
-        "colours": colours_of(lines),
-        "from": "",
-        "lines": [f"+ {line}" for line in lines],
-    }
+    return packed(title, lines, meshes.told)
+
+
+def packed(title, lines, meshes):
+    """What a page is told of lines that tell instances, as a preview tells it, packed and in letters."""
+    shown = Shown(title)
+    shown.replace((line.encode() for line in lines), meshes=meshes, colours=colours_of(lines))
+    return {"packed": base64.b64encode(zlib.compress(shown.after(""))).decode("ascii")}
 
 
 def quoted(data):

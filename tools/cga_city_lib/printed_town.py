@@ -40,5 +40,5 @@ class PrintedTown:
         if self.drawn is None:
             self.shown.put(**head)
         else:
-            self.shown.replace(self.drawn, meshes=dict(self.meshes.told), **head)
+            self.shown.replace((line.encode() for line in self.drawn), meshes=dict(self.meshes.told), **head)
         self.drawn = None

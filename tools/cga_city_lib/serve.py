@@ -40,7 +40,7 @@ def handler(shown, turn):
                 return self.answer(404, b"")
             if name == "/":
                 return self.answer(200, page().encode(), "text/html; charset=utf-8")
-            self.answer(200, shown.after(stamp), "text/plain; charset=utf-8")
+            self.answer(200, shown.after(stamp), "application/octet-stream")
 
         def do_POST(self):
             size = self.headers["Content-Length"] or ""

@@ -1,64 +1,119 @@
-"""What a page shows: a head of some values, and the instances that are drawn. Whoever asks gets what has changed since."""
+"""What a page shows: a head of some values, and the instances that are drawn. Whoever asks gets what has changed since.
+
+An answer is binary: the length of its head, the head as JSON, and for each table of the head's `tables` the slots that
+changed, as whole numbers of 32 bits, and the floats of these slots or of all.
+"""
 import json
 import secrets
+import struct
 import threading
-from collections import Counter, deque
+from array import array
+from collections import Counter, deque, namedtuple
+from typing import Any, Deque, Dict, Iterable, List, Mapping, Tuple
 
-KEPT = 5000  # changes that whoever asks may be behind
+from .instances_table import SIZE, Instances, Table
+
+SPARE = 10_000  # slots that the log keeps beside as many as are drawn
+
+# what a change was: its number, how many lots and symbols had names before it, and the slots that changed by table
+Change = namedtuple("Change", "number lots symbols slots")
 
 
 class Shown:
     """Each change has a number; a page says the stamp of the last one that it knows, or none."""
 
-    def __init__(self, title):
+    def __init__(self, title: str) -> None:
         self.run, self.number, self.changed = secrets.token_hex(4), 0, threading.Condition()
-        self.drawn, self.log, self.head = Counter(), deque(maxlen=KEPT), {}
+        self.drawn, self.log, self.kept = Instances(), deque(), 0  # type: Instances, Deque[Change], int
+        self.head: Dict[str, Tuple[int, Any]] = {}
+        self.renewed: Dict[int, int] = {}  # the number of the change since which a table has to be told whole
         self.put(title=title, said="", is_busy=True, values={})
 
-    def put(self, gone=(), come=(), **head):
-        """Takes lines of instances that went and came, each as often as it did, and values of the head."""
-        counts = Counter(come)
-        counts.subtract(gone)
+    def put(self, changes: Mapping[bytes, int] = {}, **head: Any) -> None:
+        """Takes how much more often each line is drawn, and values of the head."""
         with self.changed:
-            changed = {
-                name: value for name, value in head.items() if name not in self.head or self.head[name][1] != value
-            }
-            if not changed and not any(counts.values()):
+            told = {name: value for name, value in head.items() if name not in self.head or self.head[name][1] != value}
+            if not told and not any(changes.values()):
                 return
             self.number += 1
-            self.head.update({name: (self.number, value) for name, value in changed.items()})
-            self.log.append((self.number, counts))
-            self.drawn.update(counts)
-            for line in counts:
-                if not self.drawn[line]:
-                    del self.drawn[line]
+            self.head.update({name: (self.number, value) for name, value in told.items()})
+            names = len(self.drawn.lots), len(self.drawn.symbols)
+            self.drawn.take(changes)
+            self.note(*names)
             self.changed.notify_all()
 
-    def replace(self, lines, **head):
-        """Puts a town in the place of what is drawn: only the difference is told."""
-        new = Counter(lines)
-        self.put((self.drawn - new).elements(), (new - self.drawn).elements(), **head)
+    def note(self, lots: int, symbols: int) -> None:
+        """Keeps which slots changed, for as many changes as are worth it."""
+        slots = {}
+        for table in self.drawn.numbered:
+            if table.is_new:
+                self.renewed[table.number], table.is_new = self.number, False
+            elif table.changed:
+                slots[table.number] = table.changed
+            table.changed = array("I")
+        self.log.append(Change(self.number, lots, symbols, slots))
+        self.kept += sum(map(len, slots.values()))
+        while self.kept > len(self.drawn.held) + SPARE:
+            self.kept -= sum(map(len, self.log.popleft().slots.values()))
 
-    def value(self, name, otherwise):
+    def replace(self, lines: Iterable[bytes], **head: Any) -> None:
+        """Puts a town in the place of what is drawn: only the difference is told."""
+        changes = Counter(lines)
+        changes.subtract(self.drawn.counts())
+        self.put(changes, **head)
+
+    def value(self, name: str, otherwise: Any) -> Any:
         return self.head[name][1] if name in self.head else otherwise
 
-    def known(self, stamp):
+    def known(self, stamp: str) -> int:
         """The number that a stamp says, or 0 where all has to be told."""
         run, _, number = stamp.partition(".")
-        if run != self.run or not number.isdigit() or not self.log:
+        if run != self.run or not number.isdigit():
             return 0
-        return int(number) if self.log[0][0] - 1 <= int(number) <= self.number else 0
+        first = self.log[0].number if self.log else self.number + 1
+        return int(number) if first - 1 <= int(number) <= self.number else 0
 
-    def after(self, stamp, seconds=20):
-        """A line with the values of the head that changed, and a line for each instance that went or came."""
+    def after(self, stamp: str, seconds: float = 20) -> bytes:
+        """The answer to a page that knows what a stamp says."""
         with self.changed:
             self.changed.wait_for(lambda: self.known(stamp) != self.number, seconds)
-            known, counts = self.known(stamp), Counter()
-            for number, change in self.log if known else ():
-                if number > known:
-                    counts.update(change)
-            told = {name: value for name, (number, value) in self.head.items() if number > known}
-            told.update(stamp=f"{self.run}.{self.number}", **{"from": stamp if known else ""})
-            lines = [f"- {line}" for line, count in counts.items() for _ in range(-count)]
-            lines += [f"+ {line}" for line, count in (counts if known else self.drawn).items() for _ in range(count)]
-        return "\n".join([json.dumps(told), *lines]).encode()
+            known = self.known(stamp)
+            head = {name: value for name, (number, value) in self.head.items() if number > known}
+            log = [change for change in self.log if change.number > known]
+            parts = list(filter(None, (self.part(table, known, log) for table in self.drawn.numbered)))
+            lots, symbols = (log[0].lots, log[0].symbols) if known and log else (0, 0) if not known else (None, None)
+            head.update(
+                stamp=f"{self.run}.{self.number}",
+                tables=[told for told, _ in parts],
+                offset=self.drawn.offset,
+                lots=names(self.drawn.lots, lots),
+                symbols=names(self.drawn.symbols, symbols),
+                **{"from": stamp if known else ""},
+            )
+            return message(head, [piece for _, pieces in parts for piece in pieces])
+
+    def part(self, table: Table, known: int, log: List[Change]) -> Any:
+        """What is told of a table, with its pieces, or nothing where nothing of it changed."""
+        total = len(table.data) // SIZE
+        told = {"mesh": table.mesh, "total": total, "whole": True, "slots": 0}
+        if not known or self.renewed.get(table.number, 0) > known:
+            return told, [bytes(table.data)]
+        slots = array("I", sorted({slot for change in log for slot in change.slots.get(table.number, ())}))
+        if not slots:
+            return None
+        told.update(slots=len(slots), whole=2 * len(slots) > total)
+        if told["whole"]:
+            return told, [slots.tobytes(), bytes(table.data)]
+        return told, [slots.tobytes(), *(table.data[SIZE * at : SIZE * at + SIZE] for at in slots)]
+
+
+def names(numbers: Dict[bytes, Any], first: Any) -> List[str]:
+    """The names from a number on."""
+    return [] if first is None else [name.decode("latin-1") for name in list(numbers)[first:]]
+
+
+def message(head: Dict[str, Any], pieces: List[bytes]) -> bytes:
+    """A head and what follows it, at a place that four divides."""
+    text = json.dumps(head).encode()
+    text += b" " * (-len(text) % 4)
+    return b"".join([struct.pack("<I", len(text)), text, *pieces])

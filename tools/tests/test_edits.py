@@ -157,7 +157,7 @@ def check(case, program, seed, saves):
         town.publish()
         case.assertEqual(all(answer == ["# ok"] for answer in answers), is_well, lines)
         if is_well:
-            case.assertEqual(shown.drawn, drawn, lines)
+            case.assertEqual(shown.drawn.counts(), drawn, lines)
             compared, well = compared + 1, (file.attribute, dict(file.rules), dict(file.lots))
         elif well:
             file.attribute, file.rules, file.lots = well[0], dict(well[1]), dict(well[2])
@@ -179,7 +179,9 @@ class Towns(unittest.TestCase):
         new = changed((8, []))
         self.assertEqual(town.show(new, commands(new))[0], [["# ok"]] * 2)
         town.publish()
-        self.assertEqual(sorted(shown.drawn), ["b shed gable 20 0 0 +X+Y+Z 10 1 8", "b shed hip 20 0 0 +X+Y+Z 10 1 8"])
+        self.assertEqual(
+            sorted(shown.drawn.held), [b"b shed gable 20 0 0 +X+Y+Z 10 1 8", b"b shed hip 20 0 0 +X+Y+Z 10 1 8"]
+        )
 
     def test_what_is_shown_is_what_a_run_from_nothing_draws(self):
         self.assertGreater(check(self, str(TESTS / "live_stand_in"), 1, 16), 6)

@@ -1,19 +1,23 @@
 """What a page is given of a town, and the page in a browser without a window, where Chromium is there."""
+import base64
 import json
 import re
 import sys
 import tempfile
 import unittest
+import zlib
 from pathlib import Path
 
 TESTS = Path(__file__).resolve().parent
 TOP = TESTS.parent.parent
 sys.path[:0] = [str(TESTS.parent), str(TESTS)]
 
+from answers import State  # noqa: E402
 from browser import CHROMIUM, shared  # noqa: E402
 from cga_city_lib.drawn import Meshes  # noqa: E402
 from cga_city_lib.obj import Town  # noqa: E402
-from cga_city_lib.page import data_of, page  # noqa: E402
+from cga_city_lib.page import data_of, packed, page  # noqa: E402
+from cga_city_lib.shown import Shown  # noqa: E402
 
 if not CHROMIUM:
     print(
@@ -56,7 +60,10 @@ class Data(unittest.TestCase):
         text = page(data_of(Town(cubes((0, 0, 0, 1, 1, 1))), "<!-- <script>"))
         (given,) = re.findall(r"^const given = (.*);$", text, re.MULTILINE)
         self.assertNotIn("<", given)
-        self.assertEqual(json.loads(given)["title"], "<!-- <script>")
+        state = State()
+        state.take(zlib.decompress(base64.b64decode(json.loads(given)["packed"])))
+        self.assertEqual(state.head["title"], "<!-- <script>")
+        self.assertEqual(list(state.drawn()), ["a wall mesh0 0 0 0 +X+Y+Z 1 1 1"])
 
 
 @unittest.skipUnless(CHROMIUM, "Chromium isn't there")
@@ -73,7 +80,7 @@ class InBrowser(unittest.TestCase):
     def show(self, town, title="town"):
         self.file.write_text(page(data_of(town, title)), encoding="utf-8")
         self.browser.open(f"file://{self.file}")
-        self.browser.wait("is_asked === false")
+        self.browser.wait("town.low !== null && is_asked === false")
         self.assertEqual(self.browser.run("[document.getElementById('said').textContent, gl.getError()]"), ["", 0])
 
     def run_(self, script):
@@ -246,47 +253,69 @@ class InBrowser(unittest.TestCase):
             [196, 212, 227, 255],
         )
 
+    def show_lines(self, *lines):
+        """Shows instances by their lines."""
+        self.file.write_text(page(packed("town", lines, {})), encoding="utf-8")
+        self.browser.open(f"file://{self.file}")
+        self.browser.wait("town.low !== null && is_asked === false")
+
+    def corners(self, mesh, first=0):
+        """The corners of the one instance of a mesh, in the world."""
+        told = self.run_(
+            f"(() => {{ const {{mesh, data}} = town.batches.get('{mesh}');"
+            f" return mesh.corners.slice({first}).map(corner => spot(corner, data, 0).map((at, k) => at + town.offset[k] + 0)); }})()"
+        )
+        return [tuple(round(part, 6) for part in corner) for corner in told]
+
     def test_the_solids_of_the_program_are_drawn_as_it_prints_them(self):
         """The corners of each solid are those of an example that printed it, by its unit mesh."""
-        self.show(Town(cubes((0, 0, 0, 1, 1, 1))))
-        for solid, (w, h, d), corners in (
-            ("hip", (6, 2, 4), [(2, 2, 2), (4, 2, 2)]),
-            ("hip", (4, 2, 6), [(2, 2, 2), (2, 2, 4)]),
-            ("gable", (6, 2, 4), [(0, 2, 2), (6, 2, 2)]),
-            ("gable", (4, 2, 6), [(2, 2, 0), (2, 2, 6)]),
-            ("shed", (6, 2, 4), [(6, 2, 4), (0, 2, 4)]),
+        for solid, way, (w, h, d), corners in (
+            ("hip", "_along", (6, 2, 4), [(2, 2, 2), (4, 2, 2)]),
+            ("hip", "_across", (4, 2, 6), [(2, 2, 2), (2, 2, 4)]),
+            ("gable", "_along", (6, 2, 4), [(0, 2, 2), (6, 2, 2)]),
+            ("gable", "_across", (4, 2, 6), [(2, 2, 0), (2, 2, 6)]),
+            ("shed", "", (6, 2, 4), [(6, 2, 4), (0, 2, 4)]),
         ):
             with self.subTest((solid, w, h, d)):
-                told = self.run_(
-                    f"(() => {{ const mesh = SOLIDS[mesh_of('{solid}', {w}, {d})], data = [0, 0, 0, {w}, 0, 0, 0, {h}, 0, 0, 0, {d}];"
-                    " return mesh.corners.slice(4).map(corner => spot(corner, data, 0)); })()"
-                )
-                self.assertEqual([tuple(round(part, 6) for part in corner) for corner in told], corners)
+                self.show_lines(f"a roof {solid} 0 0 0 +X+Y+Z {w} {h} {d}")
+                self.assertEqual(self.corners(solid + way, 4), corners)
 
     def test_a_quad_stands_where_its_axes_lead(self):
         """The right face of a box of 10 by 3 by 8: by the table of components its X leads along -Z, and its Z along X."""
-        self.show(Town(cubes((0, 0, 0, 1, 1, 1))))
-        told = self.run_(
-            "(() => { const one = parsed('a wall quad 10 0 8 -Z+Y+X 8 3 0'), data = [...one.corner, ...columns(one)];"
-            " return SOLIDS.quad.corners.map(corner => spot(corner, data, 0).map(part => part + 0)); })()"
-        )
-        self.assertEqual(told, [[10, 0, 8], [10, 0, 0], [10, 3, 0], [10, 3, 8]])
+        self.show_lines("a wall quad 10 0 8 -Z+Y+X 8 3 0")
+        self.assertEqual(self.corners("quad"), [(10, 0, 8), (10, 0, 0), (10, 3, 0), (10, 3, 8)])
+
+    def test_the_graphics_processor_puts_corners_where_the_script_does(self):
+        """Each corner of a turned roof that is seen is drawn where the script works it out: beside it are sky and roof."""
+        self.show_lines("a roof gable 5/2 0 9 -Z+Y+X 8 3 4", "a ground quad 0 0 0 +X+Y+Z 1 1/1000 0")
+        self.run_("(() => { shows.ground = shows.edges = false; })()")
+        for key in "1234":
+            self.browser.key(key)
+            for x, y, z in ((2.5, 0, 9), (6.5, 0, 1), (4.5, 3, 9), (4.5, 3, 1)):
+                left, top = self.place_of(x, y, z)
+                seen = self.pixels([(left + a, top + b) for a in (-4, 4) for b in (-4, 4)])
+                self.assertGreater(len(set(map(tuple, seen))), 1, (key, x, y, z))
 
     def test_what_comes_lights_up_and_what_goes_is_gone(self):
-        self.show(Town(cubes((0, 0, 0, 10, 6, 8))))
+        self.show_lines("a wall cube 0 0 0 +X+Y+Z 10 6 8")
         self.browser.key("1")
         place = self.place_of(5, 3, 8)
         before = self.pixel(*place)
+        shown = Shown("town")
+        shown.put({b"a wall cube 0 0 0 +X+Y+Z 10 6 8": 1})
+        stamp = f"{shown.run}.{shown.number}"
+        shown.put({b"a wall cube 0 0 0 +X+Y+Z 10 6 8": -1, b"a roof cube 0 0 0 +X+Y+Z 10 6 8": 1})
+        answer = list(shown.after(stamp))
         self.run_(
-            "(() => { const line = [...town.held.keys()][0], now = performance.now(); performance.now = () => now; head.save = 1;"
-            " take({from: 'x'}, ['- ' + line, '+ ' + line.replace('wall', 'roof')]); })()"
+            "(() => { const now = performance.now(); performance.now = () => now; head.save = 1;"
+            f" take_answer(new Uint8Array({answer}).buffer); }})()"
         )
         lit = self.pixel(*place)
         self.run_("(() => { const later = performance.now() + 1500; performance.now = () => later; })()")
         after = self.pixel(*place)
         self.assertGreater(lit[0] - lit[2], after[0] - after[2])
         self.assertNotEqual(before, after)
-        self.assertEqual(self.run_("[town.held.size, ...town.counts]"), [1, 0, 1])
+        self.assertEqual(self.run_("town.counts"), [0, 1])
 
 
 if __name__ == "__main__":

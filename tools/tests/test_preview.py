@@ -18,6 +18,7 @@ from unittest import mock
 TESTS = Path(__file__).resolve().parent
 sys.path.insert(0, str(TESTS))
 
+from answers import State  # noqa: E402
 from in_process import begun, called  # noqa: E402
 from cga_city_lib import watch  # noqa: E402
 
@@ -26,30 +27,27 @@ PATIENCE = 120  # seconds for what takes none on a machine with nothing else to 
 A, B = "lot a 1 0 0 10 8 house\n", "lot b 2 20 0 10 8 house\n"
 
 
-class Page:
-    """What a browser keeps of the answers: the values of the head, and how often each instance is drawn."""
+class Page(State):
+    """What a browser keeps of the answers; `last` is what the last one changed."""
 
     def __init__(self, port):
-        self.port, self.head, self.drawn, self.stamp, self.last = port, {}, Counter(), "", []
+        super().__init__()
+        self.port, self.stamp, self.last = port, "", []
 
     def get(self, path, host=None, body=None, origin=None):
         connection = http.client.HTTPConnection("127.0.0.1", self.port, timeout=PATIENCE)
         headers = {**({"Host": host} if host else {}), **({"Origin": origin} if origin else {})}
         connection.request("GET" if body is None else "POST", path, body=body, headers=headers)
         answer = connection.getresponse()
-        told = answer.read().decode()
+        told = answer.read()
         connection.close()
         return answer.status, told
 
     def follow(self):
-        head, *self.last = self.get(f"/state?{self.stamp}")[1].split("\n")
-        told = json.loads(head)
-        if not told["from"]:
-            self.drawn.clear()
-        self.stamp, self.head = told["stamp"], {**self.head, **told}
-        for line in self.last:
-            self.drawn[line[2:]] += 1 if line[0] == "+" else -1
-            assert self.drawn[line[2:]] >= 0, line
+        before = self.drawn()
+        self.take(self.get(f"/state?{self.stamp}")[1])
+        self.stamp, now = self.head["stamp"], self.drawn()
+        self.last = [f"- {line}" for line in before - now] + [f"+ {line}" for line in now - before]
 
     def until(self, saves):
         """Follows up to that save; the lines that came on the way."""
@@ -110,7 +108,7 @@ class Live(Preview):
     def test_a_save_sends_what_changed_and_no_more(self):
         self.begin(RULES + A + B)
         self.assertEqual(
-            sorted(self.page.drawn), ["a house cube 0 0 0 +X+Y+Z 10 3 8", "b house cube 20 0 0 +X+Y+Z 10 3 8"]
+            sorted(self.page.drawn()), ["a house cube 0 0 0 +X+Y+Z 10 3 8", "b house cube 20 0 0 +X+Y+Z 10 3 8"]
         )
         self.assertEqual(
             self.then(RULES + A + B.replace("20", "30")),
@@ -170,7 +168,7 @@ class Live(Preview):
         towns = set()
         while self.page.head["save"] < 2:
             self.page.follow()
-            towns.add(frozenset(line[0] for line in +self.page.drawn))
+            towns.add(frozenset(line[0] for line in self.page.drawn()))
         self.assertEqual(towns, {frozenset("bc")})
 
     def test_a_file_that_is_gone_or_empty_is_told(self):
@@ -190,12 +188,14 @@ class Live(Preview):
         self.then(RULES + A + B)
         other = Page(self.page.port)
         other.until(2)
-        self.assertEqual(other.drawn, self.page.drawn)
+        self.assertEqual(other.drawn(), self.page.drawn())
         self.assertEqual(other.head["rules"], {"house": [[1, 4]], "shed": [[2, 5]]})
 
     def test_what_no_edit_says_begins_anew_and_tells_the_difference(self):
         self.begin(RULES + A + B)
-        self.assertEqual(self.then(RULES + "lot c 3 40 0 10 8 shed\n" + A + B), ["+ c shed gable 40 0 0 +X+Y+Z 10 1 8"])
+        self.assertEqual(
+            self.then(RULES + "lot c 3 40 0 10 8 shed\n" + A + B), ["+ c shed gable_along 40 0 0 +X+Y+Z 10 1 8"]
+        )
 
 
 class Printed(Preview):
@@ -204,7 +204,7 @@ class Printed(Preview):
     def test_it_follows_the_file(self):
         self.begin("lot a 1 0 0 1 1 wall\n")
         self.assertEqual(self.page.head["said"], "")
-        self.assertEqual(list(self.page.drawn), ["a wall mesh0 0 0 0 +X+Y+Z 1 1 1"])
+        self.assertEqual(list(self.page.drawn()), ["a wall mesh0 0 0 0 +X+Y+Z 1 1 1"])
         came = self.then("lot a 1 0 0 1 1 wall\nlot b 1 3 0 1 1 wall\nlot c 1 0 0 0 1 wall\nlot flat 1 7 0 1 1 wall\n")
         self.assertEqual(came, ["+ b wall mesh0 3 0 0 +X+Y+Z 1 1 1", "+ flat wall mesh0 7 0 0 +X+Y+Z 1 1 1"])
         self.assertRegex(
@@ -212,14 +212,14 @@ class Printed(Preview):
         )
         self.script.unlink()
         self.then("# nothing\n")
-        self.assertEqual(+self.page.drawn, Counter())
+        self.assertEqual(self.page.drawn(), Counter())
 
     def test_it_answers_this_machine_alone(self):
         self.begin("lot a 1 0 0 1 1 wall\n")
         get = self.page.get
         self.assertEqual(get("/", "elsewhere.example")[0], 404)
         self.assertEqual(get("/", f"localhost:{self.page.port}")[0], 200)
-        self.assertIn("follow()", get("/")[1])
+        self.assertIn(b"follow()", get("/")[1])
         self.assertEqual(get("/../lint")[0], 404)
         self.assertEqual(self.page.set({"h": "1"}, "http://elsewhere.example"), 404)
         for wrong in ({"h": "1\nlot"}, {"h h": "1"}, ["h"]):

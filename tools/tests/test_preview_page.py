@@ -13,6 +13,9 @@ sys.path.insert(0, str(TESTS))
 
 from browser import CHROMIUM, shared  # noqa: E402
 
+LINES = """[...town.batches.values()].flatMap(({name, data, total}) => [...Array(total).keys()].map(slot => slot * FLOATS)
+  .filter(at => data[at + SYMBOL] >= 0).map(at => [town.lots[data[at + LOT]], town.symbols[data[at + SYMBOL]], name,
+  ...town.offset.map((from, k) => from + data[at + k]), ...data.subarray(at + SIZES, at + SIZES + 3)].join(' '))).sort()"""
 SCRIPT = 'rules\nattr h = 3\n1: house -> S(1r, h, 1r) I("cube")\nend\nlot a 1 0 0 10 8 house\n'
 
 
@@ -55,20 +58,20 @@ class PreviewPage(unittest.TestCase):
         seen = run("JSON.stringify(view)")
         # a typo leaves the town, greyed, and the view
         self.save(SCRIPT.replace('"cube"', '"cub"'))
-        self.assertEqual(run("[canvas.className, town.held.size, JSON.stringify(view)]"), ["stale", 1, seen])
+        self.assertEqual(run("[canvas.className, town.counts[0], JSON.stringify(view)]"), ["stale", 1, seen])
         self.assertIn("town.cga:3:13: Unexpected", run("box_of('said').textContent"))
         self.save(SCRIPT)
         self.assertEqual(
-            run("[canvas.className, town.held.size, JSON.stringify(view), box_of('said').textContent]"),
+            run("[canvas.className, town.counts[0], JSON.stringify(view), box_of('said').textContent]"),
             ["", 1, seen, ""],
         )
         # a slider changes the town, and another save sets it back
         run("(() => { const slider = box_of('slider_h'); slider.value = 5; slider.oninput(); })()")
-        self.browser.wait("town.held.has('a house cube 0 0 0 +X+Y+Z 10 5 8')")
+        self.browser.wait(f"({LINES})[0] === 'a house cube 0 0 0 10 5 8'")
         self.save(SCRIPT + "lot b 1 20 0 10 8 house\n")
         self.assertEqual(
-            run("[[...town.held.keys()].sort(), box_of('slider_h').value, JSON.stringify(view)]"),
-            [["a house cube 0 0 0 +X+Y+Z 10 3 8", "b house cube 20 0 0 +X+Y+Z 10 3 8"], "3", seen],
+            run(f"[{LINES}, box_of('slider_h').value, JSON.stringify(view)]"),
+            [["a house cube 0 0 0 10 3 8", "b house cube 20 0 0 10 3 8"], "3", seen],
         )
         self.assertIn("2 lots, 2 solids", run("box_of('sums').textContent"))
 

@@ -1,70 +1,83 @@
 'use strict';
-// The buffers of a mesh's instances. Where the processor alone draws, an instance costs as much as a call, so there each
-// instance has corners of its own.
-const FIELDS = [3, 3, 3, 3, 2]; // floats of an instance, as its attributes have them
+// The textures from which instances are drawn: one of a table's floats, and one of the corners of its mesh. A small mesh has its
+// indices once for each instance, since an instance costs as much as a call where the processor alone draws.
+const SMALL = 64; // triangles of a mesh
+const WIDE = 1024; // corners in a row of their texture
 
-const copies_of = batch => is_slow ? batch.mesh.corners.length : 1;
-
-function repeated(list, times) {
-  const all = new Float32Array(list.length * times);
-  for (let k = 0; k < times; k++) all.set(list, k * list.length);
-  return all;
-}
+const is_copied = batch => batch.triangles <= SMALL;
 
 function indices_of(batch, times) {
   const some = triangles_of(batch.mesh.faces), all = new Uint32Array(some.length * times), step = batch.mesh.corners.length;
-  for (let k = 0; k < times; k++) some.forEach((at, n) => { all[k * some.length + n] = k * step + at; });
+  for (let k = 0, at = 0; k < times; k++) for (let n = 0; n < some.length; n++) all[at++] = k * step + some[n];
   return all;
 }
 
-// Makes buffers with room for as many instances as the batch has.
+function floats_texture(unit, width, height, data) {
+  const made = texture(unit, gl.NEAREST);
+  gl.texImage2D(gl.TEXTURE_2D, 0, gl.RGBA32F, width, height, 0, gl.RGBA, gl.FLOAT, data);
+  return made;
+}
+
+// A corner with what bends it: 1 or -1 along X, 2 or -2 along Z.
+function corners_texture({corners}) {
+  const high = Math.ceil(corners.length / WIDE), data = new Float32Array(4 * WIDE * high);
+  corners.forEach(([x, y, z, bent_x = 0, bent_z = 0], k) => data.set([x, y, z, 2 * bent_x + 4 * bent_z], 4 * k));
+  return floats_texture(CORNERS, WIDE, high, data);
+}
+
+// Makes all that a table is drawn from, with room for as many instances as it has.
 function prepare(batch) {
-  for (const buffer of batch.buffers || []) gl.deleteBuffer(buffer);
-  batch.room = batch.data.length / FLOATS;
-  const own = is_slow ? batch.room : 1, indices = gl.createBuffer();
-  batch.vertices = batch.vertices || gl.createVertexArray();
+  drop(batch);
+  const indices = gl.createBuffer();
+  Object.assign(batch, {vertices: gl.createVertexArray(), indices, room: batch.rows});
   gl.bindVertexArray(batch.vertices);
-  const five = batch.mesh.corners.flatMap(([x, y, z, bent_x = 0, bent_z = 0]) => [x, y, z, bent_x, bent_z]);
-  const corners = attributes(repeated(five, own), 0, [3, 2], 0);
-  batch.instances = attributes(new Float32Array(batch.data.length * copies_of(batch)), 2, FIELDS, is_slow ? 0 : 1, gl.DYNAMIC_DRAW);
   gl.bindBuffer(gl.ELEMENT_ARRAY_BUFFER, indices);
-  gl.bufferData(gl.ELEMENT_ARRAY_BUFFER, indices_of(batch, own), gl.STATIC_DRAW);
-  batch.buffers = [corners, batch.instances, indices];
-  batch.changed = new Set(Array(batch.count).keys());
+  gl.bufferData(gl.ELEMENT_ARRAY_BUFFER, indices_of(batch, is_copied(batch) ? batch.rows * ROW : 1), gl.STATIC_DRAW);
+  batch.corners = corners_texture(batch.mesh);
+  batch.floats = floats_texture(INSTANCES, 3 * ROW, batch.rows, batch.data);
 }
 
-// The floats of some instances, each as often as it has corners of its own.
-function floats_of(batch, from, to) {
-  const copies = copies_of(batch);
-  if (copies === 1) return batch.data.subarray(from * FLOATS, to * FLOATS);
-  const all = new Float32Array((to - from) * copies * FLOATS);
-  for (let slot = from; slot < to; slot++) {
-    const one = batch.data.subarray(slot * FLOATS, (slot + 1) * FLOATS);
-    for (let k = 0; k < copies; k++) all.set(one, ((slot - from) * copies + k) * FLOATS);
-  }
-  return all;
+function drop(batch) {
+  if (!batch.vertices) return;
+  gl.deleteVertexArray(batch.vertices);
+  gl.deleteBuffer(batch.indices);
+  [batch.corners, batch.floats].forEach(one => gl.deleteTexture(one));
+  batch.vertices = null;
+}
+
+function bind(unit, one) {
+  gl.activeTexture(gl.TEXTURE0 + unit);
+  gl.bindTexture(gl.TEXTURE_2D, one);
+}
+
+// Sends rows from one to another, without the last.
+function send_rows(batch, from, to) {
+  gl.texSubImage2D(gl.TEXTURE_2D, 0, 0, from, 3 * ROW, to - from, gl.RGBA, gl.FLOAT, batch.data, from * ROW * FLOATS);
 }
 
 // Sends what has changed, and makes the batch the one that is drawn.
 function send(batch) {
-  if (batch.room !== batch.data.length / FLOATS) prepare(batch);
-  if (batch.changed.size) {
-    const step = 4 * FLOATS * copies_of(batch), write = (from, to) => gl.bufferSubData(gl.ARRAY_BUFFER, from * step, floats_of(batch, from, to));
-    gl.bindBuffer(gl.ARRAY_BUFFER, batch.instances);
-    if (8 * batch.changed.size > batch.count) write(0, batch.count);
-    else for (const slot of batch.changed) if (slot < batch.count) write(slot, slot + 1);
-    batch.changed.clear();
+  if (!batch.vertices || batch.room !== batch.rows) prepare(batch);
+  else {
+    bind(CORNERS, batch.corners);
+    bind(INSTANCES, batch.floats);
+    if (batch.is_new) send_rows(batch, 0, batch.rows);
+    else for (const row of batch.changed) send_rows(batch, row, row + 1);
   }
+  batch.is_new = false;
+  batch.changed.clear();
   gl.bindVertexArray(batch.vertices);
 }
 
-function draw_solids() {
+// Draws all solids by a program that is in use.
+function draw_solids(use) {
   for (const batch of town.batches.values()) {
     if (!batch.count) continue;
     send(batch);
+    use({copied: is_copied(batch) ? batch.mesh.corners.length : 0, instances: INSTANCES, corners: CORNERS});
     const indices = 3 * batch.triangles;
-    if (is_slow) gl.drawElements(gl.TRIANGLES, indices * batch.count, gl.UNSIGNED_INT, 0);
-    else gl.drawElementsInstanced(gl.TRIANGLES, indices, gl.UNSIGNED_INT, 0, batch.count);
+    if (is_copied(batch)) gl.drawElements(gl.TRIANGLES, indices * batch.total, gl.UNSIGNED_INT, 0);
+    else gl.drawElementsInstanced(gl.TRIANGLES, indices, gl.UNSIGNED_INT, 0, batch.total);
   }
-  if (tiles) tiles.draw();
+  if (tiles) tiles.draw(use);
 }

@@ -55,7 +55,7 @@ function shine() {
   gl.enable(gl.POLYGON_OFFSET_FILL);
   gl.polygonOffset(1.5, 4);
   programs.shadow({sun, colours: COLOURS, grow: 0});
-  draw_solids();
+  draw_solids(programs.shadow);
   gl.disable(gl.POLYGON_OFFSET_FILL);
   is_shadow_old = false;
 }
@@ -112,7 +112,7 @@ function draw_picture(moment) {
   gl.viewport(0, 0, parts.width, parts.height);
   gl.clear(gl.COLOR_BUFFER_BIT | gl.DEPTH_BUFFER_BIT);
   programs.solids(common);
-  draw_solids();
+  draw_solids(programs.solids);
   if (shows.ground && view.tilt >= 0) draw_ground(common);
   if (marked) {
     programs.lines({...common, tint: [.95, .3, .05, 1]});
@@ -137,9 +137,9 @@ function finish({base, high}) {
 }
 
 // The outline of an instance, or of none.
-function mark(entry) {
-  const corners = entry ? entry.batch.mesh.corners.map(corner => spot(corner, entry.batch.data, entry.slot * FLOATS)) : [];
-  const pairs = entry ? entry.batch.mesh.faces.flatMap(face => face.flatMap((at, k) => [corners[at], corners[face[(k + 1) % face.length]]])) : [];
+function mark(one) {
+  const corners = one ? one.batch.mesh.corners.map(corner => spot(corner, one.batch.data, one.slot * FLOATS)) : [];
+  const pairs = one ? one.batch.mesh.faces.flatMap(face => face.flatMap((at, k) => [corners[at], corners[face[(k + 1) % face.length]]])) : [];
   marked = pairs.length;
   if (!marked) return;
   gl.bindVertexArray(outline);

@@ -1,12 +1,13 @@
 'use strict';
 // Shows what the page was given, or asks the preview for each change.
 
-// What came: values of the head that changed, and the lines of what went and came.
-function take(told, lines) {
+// What came: values of the head that changed, and from a place of the data on the floats of the instances that did.
+function take(told, data, from) {
   if (!told.from) town.forget();
   add_meshes(told.meshes || {});
   const had_some = town.low !== null, lights_up = had_some && head.save > 0, now = moment();
-  const is_changed = (lines.length > 0 || !told.from) && take_lines(lines, lights_up ? now : -GLOW, !had_some || !head.save);
+  const is_changed = told.tables.length > 0 || !told.from;
+  if (is_changed) take_instances(told, data, from, lights_up ? now : OVER, !had_some || !head.save);
   if (is_changed && lights_up) drawn_last = now;
   head = {...(told.from ? head : NOTHING), ...told};
   document.title = head.title;
@@ -18,22 +19,33 @@ function take(told, lines) {
   sums();
 }
 
-// The view stays, unless nobody has turned it, and nothing was there before or the first town still grows.
-function take_lines(lines, moment, is_first) {
-  town.take(lines, moment);
+// The view stays, unless nobody has turned it, and nothing was there before.
+function take_instances(told, data, from, moment, is_first) {
+  town.take(told, data, from, moment);
   is_shadow_old = true;
   if (town.low && is_first && !is_touched) look_at(town);
-  return true;
+}
+
+// An answer: the length of its head, the head, and what follows it.
+function take_answer(data) {
+  const size = new DataView(data).getUint32(0, true), told = JSON.parse(new TextDecoder().decode(new Uint8Array(data, 4, size)));
+  take(told, data, 4 + size);
+  return told;
+}
+
+// The answer that stands in a page of one file, packed and in letters.
+async function take_packed(letters) {
+  const packed = Uint8Array.from(atob(letters), letter => letter.charCodeAt(0));
+  take_answer(await new Response(new Blob([packed]).stream().pipeThrough(new DecompressionStream('deflate'))).arrayBuffer());
 }
 
 async function follow() {
   let stamp = '', is_lost = false;
   for (;;) {
     try {
-      const answer = await (await fetch('state?' + stamp)).text(), lines = answer.split('\n'), told = JSON.parse(lines.shift());
-      if (is_lost || told.save !== undefined) notice(is_lost ? forgotten() : '');
+      const data = await (await fetch('state?' + stamp)).arrayBuffer(), was = head.values, told = take_answer(data);
+      if (is_lost || told.save !== undefined) notice(is_lost ? forgotten(was) : '');
       [stamp, is_lost] = [told.stamp, false];
-      take(told, lines);
     } catch (fault) {
       tell('the preview has ended');
       await new Promise(done => setTimeout(done, 1000));
@@ -43,15 +55,15 @@ async function follow() {
 }
 
 // What a preview that was begun again doesn't know any more.
-function forgotten() {
-  const lost = Object.entries(head.values).map(([name, value]) => `${name} ${value}`).join(', ');
+function forgotten(values) {
+  const lost = Object.entries(values).map(([name, value]) => `${name} ${value}`).join(', ');
   return lost && `The preview was begun again, and forgot the sliders: ${lost}. Each value is that of the script.`;
 }
 
 const given = /*TOWN*/null;
 if (!gl) tell('this browser has no WebGL 2');
 else if (given && given.tileset) open_tiles(given);
-else if (given) take(given, given.lines);
+else if (given) take_packed(given.packed);
 else {
   ask_draw();
   follow();

@@ -18,12 +18,6 @@ function add_meshes(given) {
   for (const name in given) SOLIDS[name] = given[name];
 }
 
-// The name of the mesh of a solid with these sizes.
-function mesh_of(solid, wide, deep) {
-  if (solid !== 'gable' && solid !== 'hip') return solid;
-  return solid + (wide >= deep ? '_along' : '_across');
-}
-
 function triangles_of(faces) {
   const found = [];
   for (const face of faces) for (let k = 1; k < face.length - 1; k++) found.push(face[0], face[k], face[k + 1]);
@@ -32,8 +26,7 @@ function triangles_of(faces) {
 
 // The place of a mesh's corner in the world of an instance, as the programs of the graphics processor work it out.
 function spot(corner, data, at) {
-  const [x, y, z, bent_x = 0, bent_z = 0] = corner;
-  const wide = Math.hypot(data[at + 3], data[at + 4], data[at + 5]), deep = Math.hypot(data[at + 9], data[at + 10], data[at + 11]);
+  const [x, y, z, bent_x = 0, bent_z = 0] = corner, way = columns(data, at), wide = data[at + SIZES], deep = data[at + SIZES + 2];
   const along = x + (bent_x ? bent_x * deep / wide : 0), back = z + (bent_z ? bent_z * wide / deep : 0);
-  return [0, 1, 2].map(k => data[at + k] + along * data[at + 3 + k] + y * data[at + 6 + k] + back * data[at + 9 + k]);
+  return [0, 1, 2].map(k => data[at + k] + along * way[k] + y * way[3 + k] + back * way[6 + k]);
 }

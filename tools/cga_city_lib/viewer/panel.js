@@ -42,22 +42,39 @@ function legend() {
 function pick(x, y) {
   if (tiles) return tiles.pick(x, y);
   const hit = town.low && met(x, y);
-  picked = hit ? hit.entry.line : null;
+  picked = hit ? {name: hit.batch.name, slot: hit.slot, floats: floats_at(hit)} : null;
   pick_again();
+}
+
+// What an instance is, without the moment at which it came.
+const floats_at = ({batch, slot}) => [...batch.data.subarray(slot * FLOATS, slot * FLOATS + MOMENT)].join();
+
+// The instance that was picked, wherever it is kept now.
+function picked_now() {
+  const batch = picked && town.batches.get(picked.name), is_it = slot => slot < batch.total && floats_at({batch, slot}) === picked.floats;
+  if (!batch) return null;
+  if (!is_it(picked.slot)) picked.slot = [...Array(batch.total).keys()].findIndex(is_it);
+  return picked.slot < 0 ? null : {batch, slot: picked.slot};
 }
 
 // Tells of what was picked for as long as it is there.
 function pick_again() {
-  const entry = picked && town.held.get(picked);
-  const [symbol, ...others] = entry ? told_of(entry.line, head.rules) : [];
+  const one = picked_now();
+  if (!one) picked = null;
+  const [symbol, ...others] = one ? told_of(one, head.rules) : [];
   const name = document.createElement('b');
   name.textContent = symbol || '';
-  box_of('picked').replaceChildren(...(entry ? [name, others.join(' \u00b7 ')] : []));
-  mark(entry);
+  box_of('picked').replaceChildren(...(one ? [name, others.join(' \u00b7 ')] : []));
+  mark(one);
   ask_draw();
 }
 
 // ---- sliders
+
+function number(text) {
+  const [top, bottom = 1] = text.split('/');
+  return top / bottom;
+}
 
 // Steps of one, two or five hundredths or the like, from 0 to three times the value.
 function slider(name, text) {

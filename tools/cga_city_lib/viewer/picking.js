@@ -29,9 +29,9 @@ function met_solid(eye, way, {mesh, data}, slot) {
 function candidates(eye, way) {
   const found = [], low = [0, 0, 0], high = [0, 0, 0], is_hidden = town.symbols.map(symbol => hidden.has(symbol));
   for (const batch of town.batches.values()) {
-    for (let slot = 0; slot < batch.count; slot++) {
+    for (let slot = 0; slot < batch.total; slot++) {
       const at = slot * FLOATS;
-      if (is_hidden[batch.data[at + 12]]) continue;
+      if (batch.is_free(slot) || is_hidden[batch.data[at + SYMBOL]]) continue;
       low.fill(Infinity);
       high.fill(-Infinity);
       widen(batch.data, at, low, high);
@@ -44,8 +44,8 @@ function candidates(eye, way) {
 
 // Solids in one plane are met in the order in which they are drawn: flat ones first, then by symbol.
 function order_of({data}, slot) {
-  const at = slot * FLOATS, is_flat = [3, 6, 9].some(axis => !data[at + axis] && !data[at + axis + 1] && !data[at + axis + 2]);
-  return (data[at + 12] & 3) + (is_flat ? 4 : 0);
+  const at = slot * FLOATS, is_flat = [0, 1, 2].some(axis => data[at + SIZES + axis] === 0);
+  return (data[at + SYMBOL] & 3) + (is_flat ? 4 : 0);
 }
 
 // The nearest instance on the way through a place of the window, and the point at which it is met.
@@ -56,9 +56,9 @@ function met(x, y) {
   for (const {batch, slot, far} of candidates(eye, way)) {
     if (far > best * (1 + 1e-5)) break;
     const real = met_solid(eye, way, batch, slot) * (1 - 1e-6 * order_of(batch, slot));
-    if (real < best) [best, found] = [real, batch.entries[slot]];
+    if (real < best) [best, found] = [real, {batch, slot}];
   }
-  return found && {entry: found, point: along(eye, best, way)};
+  return found && {...found, point: along(eye, best, way)};
 }
 
 // Where a place of the window is: on a solid, or on the ground, or as far as the centre.
@@ -72,11 +72,11 @@ function point_at(x, y) {
 const neat = value => String(+value.toFixed(3));
 
 // What the picked solid is, in words.
-function told_of(line, rules) {
-  const {lot, symbol, corner, axes, size} = parsed(line);
-  const low = corner[1] + Math.min(0, ...columns({axes, size}).filter((_, k) => k % 3 === 1));
-  const high = corner[1] + Math.max(0, ...columns({axes, size}).filter((_, k) => k % 3 === 1));
+function told_of({batch: {data}, slot}, rules) {
+  const at = slot * FLOATS, symbol = town.symbols[data[at + SYMBOL]], lot = town.lots[data[at + LOT]];
+  const ends = columns(data, at).filter((_, k) => k % 3 === 1), from = data[at + 1] + town.offset[1];
+  const [low, high] = [from + Math.min(0, ...ends), from + Math.max(0, ...ends)].map(neat);
   const by = (rules[symbol] || []).map(([id, place]) => `${id} (line ${place})`).join(', ');
-  return [decodeURIComponent(symbol), `lot ${decodeURIComponent(lot)}`, `size ${size.map(neat).join(' \u00d7 ')}`,
-    low === high ? `height ${neat(low)}` : `height ${neat(low)} to ${neat(high)}`, by && `rule ${by}`].filter(Boolean);
+  return [decodeURIComponent(symbol), `lot ${decodeURIComponent(lot)}`, `size ${[0, 1, 2].map(k => neat(data[at + SIZES + k])).join(' \u00d7 ')}`,
+    low === high ? `height ${low}` : `height ${low} to ${high}`, by && `rule ${by}`].filter(Boolean);
 }

@@ -1,26 +1,47 @@
 'use strict';
-// The programs of the graphics processor. An instance is a corner, three axes as long as its sizes, a symbol and the
-// moment at which it came; a mesh has its corners in a box of size 1, and what bends a hip's ridge to its sizes. It grows
-// by a part of a pixel, so that nothing shines through where corners of one wall stand along the side of another.
-const COLOURS = 0, SHADOWS = 1, PICTURE = 2, DEPTHS = 3; // units of textures
+// The programs of the graphics processor. A vertex finds its instance and its corner by its number, in two textures; a mesh
+// has its corners in a box of size 1, and what bends a hip's ridge to its sizes. It grows by a part of a pixel, so that nothing
+// shines through where corners of one wall stand along the side of another. A part of a tile has its corners as they stand.
+const COLOURS = 0, SHADOWS = 1, PICTURE = 2, DEPTHS = 3, INSTANCES = 4, CORNERS = 5; // units of textures
+const PART = -1; // in place of a mesh's number of corners
 const SUN = [-.3834, .7303, .5660];
 
 const INSTANCE = `
-layout(location = 0) in vec3 corner;
-layout(location = 1) in vec2 bend;
-layout(location = 2) in vec3 place;
-layout(location = 3) in vec3 along_x;
-layout(location = 4) in vec3 along_y;
-layout(location = 5) in vec3 along_z;
-layout(location = 6) in vec2 own;
-uniform sampler2D colours;
-uniform float grow;
-vec4 tone() { int number = int(own.x); return texelFetch(colours, ivec2(number & 255, number >> 8), 0); }
-vec3 side(vec3 axis, float part) { return axis == vec3(0.) ? axis : normalize(axis) * (2. * part - 1.); }
+layout(location = 0) in vec3 own_corner;
+uniform sampler2D colours, instances, corners;
+uniform int copied;
+uniform vec3 shift;
+uniform float own_symbol, grow;
+vec4 first, sizes, last, corner;
+void load() {
+  if (copied == ${PART}) {
+    first = vec4(shift, own_symbol);
+    sizes = vec4(1., 1., 1., 0. + 6. * 2. + 36. * 4.);
+    last = vec4(0., -9., 0., 0.);
+    corner = vec4(own_corner, 0.);
+    return;
+  }
+  int which = copied > 0 ? gl_VertexID / copied : gl_InstanceID, at = copied > 0 ? gl_VertexID % copied : gl_VertexID;
+  ivec2 place = ivec2(3 * (which & ${ROW - 1}), which / ${ROW});
+  first = texelFetch(instances, place, 0);
+  sizes = texelFetch(instances, place + ivec2(1, 0), 0);
+  last = texelFetch(instances, place + ivec2(2, 0), 0);
+  corner = texelFetch(corners, ivec2(at & ${WIDE - 1}, at / ${WIDE}), 0);
+}
+vec4 tone() { int number = int(first.w); return number < 0 ? vec4(0.) : texelFetch(colours, ivec2(number & 255, number >> 8), 0); }
+vec3 along(int way, float far) {
+  float signed_ = (way & 1) == 0 ? far : -far;
+  return way < 2 ? vec3(signed_, 0., 0.) : way < 4 ? vec3(0., signed_, 0.) : vec3(0., 0., signed_);
+}
+bool is_flat() { return sizes.x == 0. || sizes.y == 0. || sizes.z == 0.; }
 vec3 spot() {
-  float wide = length(along_x), deep = length(along_z);
-  float x = corner.x + (bend.x == 0. ? 0. : bend.x * deep / wide), z = corner.z + (bend.y == 0. ? 0. : bend.y * wide / deep);
-  return place + along_x * x + along_y * corner.y + along_z * z + grow * (side(along_x, corner.x) + side(along_y, corner.y) + side(along_z, corner.z));
+  int code = int(sizes.w), bend = int(corner.w);
+  float bent_x = bend == 1 || bend == -1 ? .5 * corner.w * sizes.z / sizes.x : 0.;
+  float bent_z = bend == 2 || bend == -2 ? .25 * corner.w * sizes.x / sizes.z : 0.;
+  vec3 part = (corner.xyz + vec3(bent_x, 0., bent_z)) * sizes.xyz;
+  vec3 more = grow * (2. * corner.xyz - 1.) * vec3(notEqual(sizes.xyz, vec3(0.)));
+  part += more;
+  return first.xyz + along(code % 6, part.x) + along(code / 6 % 6, part.y) + along(code / 36, part.z);
 }
 `;
 
@@ -48,12 +69,13 @@ uniform float now, nudge;
 out vec3 at;
 flat out vec3 tint;
 void main() {
+  load();
   vec4 shade = tone();
   at = spot();
   gl_Position = view * vec4(at, 1.);
-  float order = float(int(own.x) & 3) + (along_x == vec3(0.) || along_y == vec3(0.) || along_z == vec3(0.) ? 4. : 0.);
+  float order = float(int(first.w) & 3) + (is_flat() ? 4. : 0.);
   gl_Position.z -= nudge * order * gl_Position.w;
-  tint = mix(shade.rgb, vec3(1., .45, .05), .75 * clamp(1. - (now - own.y), 0., 1.));
+  tint = mix(shade.rgb, vec3(1., .45, .05), .75 * clamp(1. - (now - last.y), 0., 1.));
   if (shade.a < .5) gl_Position = vec4(2., 2., 2., 1.);
 }`;
 const SOLID = LIT + `
@@ -70,7 +92,10 @@ void main() {
 
 const SHADOW_AT = INSTANCE + `
 uniform mat4 sun;
-void main() { gl_Position = tone().a < .5 ? vec4(2., 2., 2., 1.) : sun * vec4(spot(), 1.); }`;
+void main() {
+  load();
+  gl_Position = tone().a < .5 ? vec4(2., 2., 2., 1.) : sun * vec4(spot(), 1.);
+}`;
 const SHADOW = 'void main() {}';
 
 const GROUND_AT = `

@@ -33,11 +33,9 @@ function forget_part({vertices, buffers}) {
   buffers.forEach(buffer => gl.deleteBuffer(buffer));
 }
 
-function draw_part({symbol, triangles, vertices}) {
+function draw_part(use, shift, {symbol, triangles, vertices}) {
   gl.bindVertexArray(vertices);
-  gl.vertexAttrib2f(1, 0, 0);
-  [[1, 0, 0], [0, 1, 0], [0, 0, 1]].forEach((axis, k) => gl.vertexAttrib3fv(3 + k, axis));
-  gl.vertexAttrib2f(6, symbol, -9);
+  use({copied: PART, shift, own_symbol: symbol, instances: INSTANCES, corners: CORNERS});
   gl.drawElements(gl.TRIANGLES, triangles.length, gl.UNSIGNED_INT, 0);
 }
 

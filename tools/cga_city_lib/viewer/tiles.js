@@ -93,10 +93,10 @@ class Tiles {
 
   // ---- drawing
 
-  draw() {
+  draw(use) {
     for (const tile of this.drawn) {
-      gl.vertexAttrib3fv(2, tile.origin.map((at, k) => at - town.offset[k]));
-      for (const part of tile.parts) draw_part(part);
+      const shift = minus(tile.origin, town.offset);
+      for (const part of tile.parts) draw_part(use, shift, part);
     }
   }
   // The sun's map covers what is looked at; of all of a region it would be too coarse.
