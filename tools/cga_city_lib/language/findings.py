@@ -5,7 +5,7 @@ from pathlib import Path
 from typing import Dict, List, NamedTuple
 
 from ..causes import CODES
-from ..program import LAUNCHER, is_proved
+from ..program import LAUNCHER, is_here, ready
 from ..replies import replies
 from ..report import Report
 from ..script import commands, is_open, text_of, tokens, without
@@ -34,9 +34,18 @@ class Runs(NamedTuple):
 
 
 def runs_by(program: str) -> Runs:
-    """The program, or the definition in Python as long as the launcher would have to build first."""
-    is_slow = program == str(LAUNCHER) and not is_proved(program)
-    return Runs(str(DEFINITION) if is_slow else program)
+    """The program that is named. In the launcher's place stands what it would run, or the definition in Python while that
+    is being built."""
+    if program != str(LAUNCHER):
+        return Runs(program)
+    return Runs(ready(program)) if is_here("cga_main") else Runs(str(DEFINITION))
+
+
+def build_if_needed(program: str) -> None:
+    """Has the launcher build the program if it isn't here, and doesn't wait for it."""
+    if program == str(LAUNCHER) and not is_here("cga_main"):
+        quiet = {"stdin": subprocess.DEVNULL, "stdout": subprocess.DEVNULL, "stderr": subprocess.DEVNULL}
+        subprocess.Popen([program, "--build", "cga_main"], **quiet)
 
 
 def findings(document: Document, runs: Runs) -> List[Dict]:

@@ -7,7 +7,7 @@ from ..call import Refused
 from .completion import completions
 from .edits import formatted, location, places, renamed, renumbered
 from .fates import Fates, fates
-from .findings import findings, runs_by
+from .findings import build_if_needed, findings, runs_by
 from .hover import hover
 from .messages import Message, Streams
 from .names import at_place, names_of
@@ -75,11 +75,12 @@ class Server:
 
     def look(self) -> None:
         """Looks at each script that has changed, at its last text alone."""
-        runs = runs_by(self.program)
+        build_if_needed(self.program)
         while True:
             waiting = [self.changed.get()]
             while not self.changed.empty():
                 waiting.append(self.changed.get())
+            runs = runs_by(self.program)
             for uri in dict.fromkeys(waiting):
                 document = self.documents.get(uri or "")
                 if document is not None:
