@@ -2,7 +2,7 @@
 use Rattle.std.proofs.Common.{◌≡◌, inr, ℕ, List, None, refl, arith}
 use Rattle.cga_top.proofs.Door.{unbegun_run}
 use Rattle.cga_top.specs.Outside.{Outside}
-use Rattle.cga_words.proofs.Door.{memory_not_used}
+use Rattle.cga_words.proofs.Door.{memory_not_used, townless_says}
 use Rattle.cga_words.specs.Exits.{line_of}
 use Rattle.cga_words.specs.Words.{decimals_of}
 use Rattle.cga_words.specs.declared.program_name.ProgramName.TheVariants.{Hulls}
@@ -19,5 +19,6 @@ wanting texts o number line n l = record {
   told = λ zero. absurd (omega (arith, n, zero));
   usage = λ e. absurd (memory_not_used e);
   refused = λ town. inr refl;
+  plain = λ name decimals few words. (memory_not_used, townless_says texts name decimals few words);
   complete = λ fine few reads writes. inr refl;
 }

@@ -1,5 +1,5 @@
 -- What the program's exit status and its line on standard error say.
-use Rattle.std.specs.Prelude.{◌≡◌, ◌⊎◌, ℕ, List, ◌++◌, IfSome}
+use Rattle.std.specs.Prelude.{◌≡◌, ◌≢◌, ◌≤◌, ◌⊎◌, ℕ, List, ◌++◌, true, Option, None, IfSome, unwrap_or}
 use Rattle.std.specs.Io.KnownBytes.{Appends}
 use Rattle.cga_outside.specs.Causes.{Rose}
 use Rattle.cga_top.specs.Hulls.{IsToldOf}
@@ -8,6 +8,7 @@ use Rattle.cga_top.specs.Output.{output_of}
 use Rattle.cga_top.specs.Statuses.{HoldsFew}
 use Rattle.cga_top.specs.Telling.{TellingMeans}
 use Rattle.cga_words.specs.Exits.{line_of, number_of}
+use Rattle.cga_words.specs.Plain.{plain_words}
 use Rattle.cga_words.specs.Words.{IsTownless, decimals_of}
 use Rattle.cga_words.specs.declared.program_name.ProgramName.TheVariants.{Hulls}
 use Rattle.cga_words.specs.declared.status.Status.{Status}
@@ -24,9 +25,8 @@ pub record IsEnd (texts : List (List ℕ)) (old new : Outside) (number : ℕ) (l
       × Appends old.held new.held (output_of (decimals_of texts) bytes ++ text))
   pub usage : status ≡ Usage → IsTownless texts → ⊥
   pub refused : (IsTownless texts → ⊥) → (status ≡ Usage) ⊎ (status ≡ NoMemory)
+  pub plain : (name : List ℕ) (decimals : Option ℕ) → IfSome decimals (λ n. n ≤ 9)
+      → texts ≡ plain_words name true decimals None
+      → (status ≢ Usage) × (decimals_of texts ≡ unwrap_or decimals 6)
   pub complete : IsTownless texts → HoldsFew old.left → (Rose old.reads_failed new.reads_failed → ⊥)
       → (Rose old.writes_failed new.writes_failed → ⊥) → (status ≡ Done) ⊎ (status ≡ NoMemory)
-
--- the same, whatever was expanded
-abbrev pub Ends : List (List ℕ) → Outside → (ℕ → Outside) → ℕ → List ℕ → Type 0
-Ends texts old new number line = (expanded : ℕ) × IsEnd texts old (new expanded) number line

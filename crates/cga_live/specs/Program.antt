@@ -31,7 +31,3 @@ pub record IsEnd (texts : List Text) (old new : Outside) (number : ℕ) (line : 
   pub complete : fault_of wordless_app texts ≡ [] → HoldsFew old.left
       → (Rose old.reads_failed new.reads_failed → ⊥) → (Rose old.writes_failed new.writes_failed → ⊥)
       → (status ≡ Done) ⊎ (status ≡ NoMemory)
-
--- the same, whatever was expanded
-abbrev pub Ends : List Text → Outside → (ℕ → Outside) → ℕ → List ℕ → Type 0
-Ends texts old new number line = (expanded : ℕ) × IsEnd texts old (new expanded) number line

@@ -17,7 +17,7 @@ ghost use Rattle.std.specs.IoError.{error_kind};
 ghost use Rattle.std.specs.Vec.Iter.{into_iter_items};
 ghost use Rattle.cga_live.specs.Live.{IsLiveOf};
 ghost use Rattle.cga_live.specs.Means.{LiveMeans};
-ghost use Rattle.cga_live.specs.Program.{Ends};
+ghost use Rattle.cga_live.specs.Program.{IsEnd};
 ghost use Rattle.cga_outside.specs.Causes.{Rose};
 ghost use Rattle.cga_top.specs.Hulls.{usual};
 ghost use Rattle.cga_top.specs.Outside.{outside_of};
@@ -32,6 +32,7 @@ use cga_fraction::Tests;
 use cga_outside::{Sink, Source, StdSink, StdSource};
 use cga_top::Status;
 use cga_words::{Exit, ProgramName, WordsFault, end, exit_of, given_words, read_none};
+use std::alloc::Global;
 use std::env::Args;
 use std::io::BufWriter;
 use std::marker::Brand;
@@ -41,20 +42,13 @@ use std::{env, io};
 
 // Replies to the script, and tells what its edits change, where there is no word.
 fn run<S: Source, K: Sink, E: Ledger, T: Ledger>(
-    rt: &mut HostRuntime,
+    alloc: Global,
     words: &[String],
     script: &mut S,
     out: &mut K,
-    expansions: Blank,
-    tests: Blank,
+    expansions: &mut Expansions<E>,
+    tests: &mut Tests<T>,
 ) -> Status
-    requires expansions_name { expansions.name ≡ E.name }
-    requires expansions_parts { expansions.parts ≡ E.parts }
-    requires expansions_some { 0 < expansions.parts }
-    requires tests_name { tests.name ≡ T.name }
-    requires tests_parts { tests.parts ≡ T.parts }
-    requires tests_some { 0 < tests.parts }
-
     // Where all was done, what was written is each line's reply and behind it what the line changed, of the bytes that the
     // source gave.
     ensures given { result ≡ Status.Done → (bytes : List ℕ) × (text : List ℕ)
@@ -67,10 +61,10 @@ fn run<S: Source, K: Sink, E: Ledger, T: Ledger>(
         × IsLiveOf usual bytes text
         × Appends (K.held out.old) (K.held out.new) text) }
 
-    // When each status comes, and what was read and written then.
-    ensures means { (expanded : ℕ) × LiveMeans usual result
-        (outside_of S.Source K.Sink script.old out.old 0)
-        (outside_of S.Source K.Sink script.new out.new expanded) }
+    // When each status comes, and what was read, written and expanded then.
+    ensures means { LiveMeans usual result
+        (outside_of S.Source K.Sink script.old out.old expansions.old)
+        (outside_of S.Source K.Sink script.new out.new expansions.new) }
 
     // Usage comes where `clap` refuses the words, and never where there is no word.
     ensures usage { result ≡ Status.Usage → fault_of wordless_app (map string_bytes words.now) ≢ [] }
@@ -86,19 +80,46 @@ fn run<S: Source, K: Sink, E: Ledger, T: Ledger>(
         → (Rose (K.faults out.old) (K.faults out.new) → ⊥)
         → (result ≡ Status.Done) ⊎ (result ≡ Status.NoMemory) }
 {
-    match read_none(rt.alloc(), words) {
+    match read_none(alloc, words) {
         Ok(()) => {}
         Err(WordsFault::Usage) => return Status::Usage,
         Err(WordsFault::NoMemory) => return Status::NoMemory,
     }
-    let mut expansions = Expansions::<E>::new(rt, expansions);
-    let mut tests = Tests::<T>::new(rt, tests);
-    run_live(rt.alloc(), script, out, &mut expansions, &mut tests)
+    run_live(alloc, script, out, expansions, tests)
 }
 
 // The whole program but for the system's own part: reads the words, replies to the script and tells it, and says how it
-// ended. Where the system doesn't give the words, nothing is read or written.
+// ended. Where the system doesn't give the words, nothing is read, written or expanded. Without the runtime it makes no
+// counter.
 fn program<S: Source, K: Sink, E: Ledger, T: Ledger>(
+    alloc: Global,
+    found: io::Result<Args>,
+    script: &mut S,
+    out: &mut K,
+    expansions: &mut Expansions<E>,
+    tests: &mut Tests<T>,
+) -> Exit
+    ensures given { IfOk found (λ given. IsEnd (map string_bytes (into_iter_items given))
+        (outside_of S.Source K.Sink script.old out.old expansions.old)
+        (outside_of S.Source K.Sink script.new out.new expansions.new) result.status (line_in result)) }
+    ensures refused { IfErr found (λ error. (result.status ≡ refusal_of (error_kind error))
+        × (line_in result ≡ refusal_line ProgramName.Live (error_kind error))
+        × (outside_of S.Source K.Sink script.new out.new expansions.new
+        ≡ outside_of S.Source K.Sink script.old out.old expansions.old)) }
+{
+    match given_words(alloc, ProgramName::Live, found) {
+        Ok(words) => {
+            let texts = words.as_slice();
+            let status = run(alloc, texts, script, out, expansions, tests);
+            exit_of(ProgramName::Live, status)
+        }
+        Err(exit) => exit,
+    }
+}
+
+// Makes the counters, over these ledgers, and hands them to the program. `main` can't, since the type of a counter names
+// its ledger.
+fn with_counters<S: Source, K: Sink, E: Ledger, T: Ledger>(
     rt: &mut HostRuntime,
     found: io::Result<Args>,
     script: &mut S,
@@ -112,21 +133,10 @@ fn program<S: Source, K: Sink, E: Ledger, T: Ledger>(
     requires tests_name { tests.name ≡ T.name }
     requires tests_parts { tests.parts ≡ T.parts }
     requires tests_some { 0 < tests.parts }
-    ensures given { IfOk found (λ given. Ends (map string_bytes (into_iter_items given))
-        (outside_of S.Source K.Sink script.old out.old 0)
-        (λ expanded. outside_of S.Source K.Sink script.new out.new expanded) result.status (line_in result)) }
-    ensures refused { IfErr found (λ error. (result.status ≡ refusal_of (error_kind error))
-        × (line_in result ≡ refusal_line ProgramName.Live (error_kind error))
-        × (outside_of S.Source K.Sink script.new out.new 0 ≡ outside_of S.Source K.Sink script.old out.old 0)) }
 {
-    match given_words(rt.alloc(), ProgramName::Live, found) {
-        Ok(words) => {
-            let texts = words.as_slice();
-            let status = run::<S, K, E, T>(rt, texts, script, out, expansions, tests);
-            exit_of(ProgramName::Live, status)
-        }
-        Err(exit) => exit,
-    }
+    let mut expansions = Expansions::<E>::new(rt, expansions);
+    let mut tests = Tests::<T>::new(rt, tests);
+    program(rt.alloc(), found, script, out, &mut expansions, &mut tests)
 }
 
 fn main(mut rt: HostRuntime) -> ExitCode {
@@ -135,7 +145,7 @@ fn main(mut rt: HostRuntime) -> ExitCode {
         Ok(writer) => {
             let mut script = StdSource::new(rt.reader());
             let mut out = StdSink::new(writer);
-            program::<_, _, Brand, Brand>(
+            with_counters::<_, _, Brand, Brand>(
                 &mut rt,
                 found,
                 &mut script,

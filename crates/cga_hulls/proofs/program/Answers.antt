@@ -1,7 +1,7 @@
 use Rattle.std.proofs.Common.{◌≡◌, ◌∙◌, map, string_bytes}
 use Rattle.std.specs.Vec.Iter.{into_iter_items}
 use Rattle.cga_hulls.proofs.Wanting.{wanting}
-use Rattle.cga_hulls.specs.Program.{Ends}
+use Rattle.cga_hulls.specs.Program.{IsEnd}
 use Rattle.cga_top.specs.Outside.{outside_of}
 use Rattle.cga_words.proofs.Door.{if_ok, of_words, zero_is_done}
 use Rattle.cga_words.specs.Exits.{line_in}
@@ -9,28 +9,28 @@ use Rattle.cga_hulls.proofs.program.Goals as goal
 
 pub returns-in-Ok-clause-given : goal.returns-in-Ok-clause-given
 returns-in-Ok-clause-given g c =
-    let r = c.run-status.ensures in
+    let r = c.run_with_hulls-status.ensures in
     let e = c.exit_of.ensures in
     let same : c.as_slice-texts.result.now ≡ c.in-Ok.words.items = c.as_slice-texts.ensures.value in
-    let old = outside_of g.S.Source g.K.Sink c.args.script.now c.args.out.now 0 in
+    let old = outside_of g.S.Source g.K.Sink c.args.script.now c.args.out.now c.args.expansions.now in
+    let new = outside_of g.S.Source g.K.Sink c.run_with_hulls-status.new.script c.run_with_hulls-status.new.out c.run_with_hulls-status.new.expansions in
     let exit = c.exit_of.result in
-    let new = outside_of g.S.Source g.K.Sink c.run-status.new.script c.run-status.new.out in
-    of_words (λ words. Ends (map string_bytes words) old new exit.status (line_in exit))
+    let done = zero_is_done c.run_with_hulls-status.result exit.status e.status in
+    of_words (λ words. IsEnd (map string_bytes words) old new exit.status (line_in exit))
     (λ given. into_iter_items given) c.args.found c.as_slice-texts.result.now
-    (if_ok c.args.found c.in-Ok.ensures.given (λ given is. same ∙ is)) (
-      r.means.0,
-      record {
-        status = c.run-status.result;
-        number_is = e.status;
-        line_is = e.line;
-        means = r.means.1;
-        told = λ zero. r.told (zero_is_done c.run-status.result c.exit_of.result.status e.status zero);
-        usage = r.usage;
-        refused = r.refused;
-        complete = r.complete;
-      },
-    )
+    (if_ok c.args.found c.in-Ok.ensures.given (λ given is. same ∙ is))
+    (record {
+      status = c.run_with_hulls-status.result;
+      number_is = e.status;
+      line_is = e.line;
+      means = r.means;
+      told = λ zero. r.told (done zero);
+      usage = r.usage;
+      refused = r.refused;
+      plain = r.plain;
+      complete = r.complete;
+    })
 
 pub returns-in-Err-clause-given : goal.returns-in-Err-clause-given
 returns-in-Err-clause-given g c =
-    if_ok c.args.found c.in-Err.ensures.given (λ given exit. (0, wanting (map string_bytes (into_iter_items given)) _ _ _ exit.0 exit.1))
+    if_ok c.args.found c.in-Err.ensures.given (λ given exit. wanting (map string_bytes (into_iter_items given)) _ _ _ exit.0 exit.1)

@@ -8,7 +8,7 @@ pub returns-clause-headline : goal.returns-clause-headline
 returns-clause-headline g c = λ done. live_headline _ _ _ _ c.run_live.ensures.means done
 
 pub returns-clause-means : goal.returns-clause-means
-returns-clause-means g c = (c.run_live.new.expansions, rw c.new-expansions.ensures at c.run_live.ensures.means)
+returns-clause-means g c = c.run_live.ensures.means
 
 pub returns-in-Err-NoMemory-clause-means : goal.returns-in-Err-NoMemory-clause-means
-returns-in-Err-NoMemory-clause-means g c = (0, none_means _ _)
+returns-in-Err-NoMemory-clause-means g c = none_means _ _
