@@ -13,6 +13,11 @@ from launcher_copy import Copy, waits_for
 WORDS = ["--decimals", "--town", "--checked", "--build", "--prove", "--proved", "--help"]
 
 
+def setUpModule():
+    """A gate that is begun in the background ignores Ctrl-C from the start, and what it begins would ignore it, too."""
+    signal.signal(signal.SIGINT, signal.default_int_handler)
+
+
 class Words(Copy):
     def test_help(self):
         self.call("--help")

@@ -1,5 +1,5 @@
 #!/usr/bin/env python3
-"""planted.py [--all] [--copy] [NAME ..]: the bugs of crates/*/planted, each refused by the function that it names.
+"""planted.py [--all] [--copy] [--jobs N] [NAME ..]: the bugs of crates/*/planted, each refused by the function that it names.
 
 It runs right behind `rt ci`, over the libraries that this leaves in crates/*/out, by the toolchain's own check of an edit. A
 bug counts if a goal of its function stays open, and for no other reason. With --copy each bug is planted in a copy, whose
@@ -11,7 +11,7 @@ import resource
 import sys
 import time
 from concurrent.futures import ProcessPoolExecutor
-from typing import Callable, Dict, List, NamedTuple, Tuple
+from typing import Callable, Dict, Iterator, List, NamedTuple, Tuple
 
 import kit
 from bugs import BY_FUNCTION, Bug, applied, bugs_of, crates
@@ -48,18 +48,23 @@ def processes() -> int:
     return max(1, min(len(os.sched_getaffinity(0)), free // MEMORY))
 
 
-def results(bugs: List[Bug], in_copy: bool) -> List[Tuple[Bug, Tried]]:
+def results(bugs: List[Bug], in_copy: bool, jobs: int) -> Iterator[Tuple[Bug, Tried]]:
     """Each bug with what its try came to: side by side, or one by one in a copy."""
     if in_copy:
         with kit.Copy() as copy:
-            return [(bug, tell(bug, tried(bug, copy.checked))) for bug in bugs]
-    with ProcessPoolExecutor(processes(), initializer=kit.load) as pool:
-        return [(bug, tell(bug, it)) for bug, it in zip(bugs, pool.map(tried_beside, bugs))]
+            yield from ((bug, tried(bug, copy.checked)) for bug in bugs)
+    elif bugs:
+        with ProcessPoolExecutor(jobs or processes(), initializer=kit.load) as pool:
+            yield from zip(bugs, pool.map(tried_beside, bugs))
 
 
-def tell(bug: Bug, it: Tried) -> Tried:
-    print(f"planted {bug.name}: {it.fault or f'refused by {bug.function}'}, {it.seconds:.0f} s", flush=True)
-    return it
+def told(found: Iterator[Tuple[Bug, Tried]], kept: Kept) -> Iterator[Tuple[Bug, Tried]]:
+    """Each as it comes: what passed is kept at once."""
+    for bug, it in found:
+        print(f"planted {bug.name}: {it.fault or f'refused by {bug.function}'}, {it.seconds:.0f} s", flush=True)
+        if not it.fault:
+            kept.keep(bug)
+        yield bug, it
 
 
 def table(found: List[Tuple[Bug, Tried]]) -> None:
@@ -79,35 +84,33 @@ def words() -> argparse.Namespace:
     parser = argparse.ArgumentParser(description=__doc__, formatter_class=argparse.RawDescriptionHelpFormatter)
     parser.add_argument("--all", action="store_true", help="take nothing that is kept")
     parser.add_argument("--copy", action="store_true", help="plant them in a copy, whose libraries rt check builds")
+    parser.add_argument("--jobs", type=int, default=0, metavar="N", help="so many side by side; else as many as fit")
     parser.add_argument("name", nargs="*", help="crates; all where none is named")
     return parser.parse_args()
 
 
-def main() -> int:
-    given, begun = words(), time.monotonic()
-    lacking = sorted(set(given.name) - {crate.name for crate in crates()})
+def chosen(names: List[str]) -> List[Bug]:
+    lacking = sorted(set(names) - {crate.name for crate in crates()})
     if lacking:
         sys.exit(f"planted.py: there is no crate {', '.join(lacking)}; crates.txt has them all")
-    every = [
-        bug for crate in crates() if not given.name or crate.name in given.name for bug in bugs_of(crate, BY_FUNCTION)
-    ]
-    kept = Kept(given.all)
+    return [bug for crate in crates() if not names or crate.name in names for bug in bugs_of(crate, BY_FUNCTION)]
+
+
+def main() -> int:
+    given, begun = words(), time.monotonic()
+    every, kept = chosen(given.name), Kept(given.all)
     new = sorted((bug for bug in every if not kept.has(bug)), key=lambda bug: (-size(bug.crate.name), bug.name))
     in_copy = given.copy or bool(new) and not kit.has_check()
     if in_copy and not given.copy:
         print(
-            "planted.py: the kit's rt has no check of an edit: each bug is planted in a copy, whose libraries are built first"
+            "planted.py: this kit's rt has no check of an edit: each bug is planted in a copy, which builds libraries"
         )
-    found = results(new, in_copy) if new else []
-    failed = [bug for bug, it in found if it.fault]
-    for bug, it in found:
-        if not it.fault:
-            kept.keep(bug)
+    found = list(told(results(new, in_copy, given.jobs), kept))
+    failed = sum(bool(it.fault) for _, it in found)
     table(found)
-    print(
-        f"tried {len(new)} in {(time.monotonic() - begun) / 60:.1f} minutes; {len(every) - len(new)} had passed earlier"
-    )
-    print(f"{len(every) - len(failed)} passed, {len(failed)} failed")
+    minutes = (time.monotonic() - begun) / 60
+    print(f"{len(new)} tried in {minutes:.1f} minutes; {len(every) - len(new)} had passed earlier")
+    print(f"{len(every) - failed} passed, {failed} failed")
     return 1 if failed else 0
 
 

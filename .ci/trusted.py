@@ -48,6 +48,21 @@ correct code wrongly. The program that `./cga_city --prove` leaves is LLVM's.
 """
 
 
+KITS = """
+## Two kits
+
+`rt version` prints the name of the toolchain's kit and the sum of its logic. The gate prints this line. The table
+names the kits that the gate was run with. Their logic is the same. Of a kit of another logic this page says nothing.
+
+| Kit | Sum of the logic |
+|---|---|
+| `rattle-kit-13b` | `dac8208d650f15bf` |
+| `rattle-kit-13f` | `dac8208d650f15bf` |
+
+What each kit keeps from one run to the next stands in [WORKING](WORKING.md#two-kits).
+"""
+
+
 class Unread(Exception):
     """Something was said that this page has no sentence for."""
 
@@ -175,7 +190,7 @@ def bare_section():
 
 def page(is_proved):
     said = said_section() if is_proved else kept_section()
-    return HEAD + said + COMPILERS + escapes_section() + bare_section()
+    return HEAD + said + KITS + COMPILERS + escapes_section() + bare_section()
 
 
 def main():
