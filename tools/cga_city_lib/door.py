@@ -5,28 +5,36 @@ import re
 import sys
 from functools import lru_cache
 from itertools import islice
-from typing import Dict, List, NamedTuple, Optional, Tuple
+from typing import Dict, List, Optional, Tuple
 
 from .call import Refused, Words, said
 from .given import Given, given
-from .instances import Lots, from_told, printed
+from .instances import PLACES, Lots, from_told, printed
 from .live import tells_changes
 from .numerals import numeral
 from .obj import Town
+from .obj_instances import from_obj, from_town
 from .pipe import Ended
 from .program import LAUNCHER, ready
-from .progress import counted
 from .session import Session
 from .strangers_text import told as shown
 from .told_town import Script, check_settings, refusals, script_of, told_by
 
 
-class Opened(NamedTuple):
-    """A town, and the file that it came from; of a script the path of each solid, lot by lot."""
+class Opened:
+    """A town, and the file that it came from: its instances lot by lot, and of a script the path of each."""
 
-    given: Given
-    town: Town
-    paths: Optional[Dict[str, List[str]]] = None
+    def __init__(self, given: Given, lots: Lots, places: int, town: Optional[Town] = None) -> None:
+        self.given, self.lots, self.places, self.read = given, lots, places, town
+        self.is_exact = given.is_script and town is None  # the numbers are those of the derivation, and not rounded
+        self.paths: Optional[Dict[str, List[str]]] = None
+
+    @property
+    def town(self) -> Town:
+        """Its corners and faces, as `print` writes them."""
+        if self.read is None:
+            self.read = printed(self.lots, self.places)
+        return self.read
 
     def text(self) -> str:
         """What a run printed; nothing of a script."""
@@ -73,12 +81,12 @@ def check_words(words: argparse.Namespace, found: Given, *others: Given) -> None
 def read(found: Given, words: argparse.Namespace, is_ordered: bool) -> Opened:
     if found.is_script:
         return scripted(found, words, is_ordered)
-    return Opened(found, Town(counted(found.text().split("\n"), "lines read", 0)))
+    return Opened(found, *from_obj(found.text()))
 
 
 def opened_drawn(path: str, words: argparse.Namespace, is_ordered: bool = True) -> Opened:
     found = opened(path, words, is_ordered)
-    if not found.town.solids():
+    if not any(found.lots.values()):
         raise Refused(f"nothing is drawn in {path}")
     return found
 
@@ -95,11 +103,12 @@ def scripted(found: Given, words: argparse.Namespace, is_ordered: bool) -> Opene
     script = script_of(found.path, found.data, words.set)
     program = None if script.is_dressed() else teller(words.program)
     if program is None:
-        return Opened(found, asked(script, words.program or str(LAUNCHER)))
+        return Opened(found, *from_town(asked(script, words.program or str(LAUNCHER))))
     told = told_by(program, script, is_ordered)
     tell(script, told.answers)
-    lots = from_told(told)
-    return Opened(found, printed(lots), paths_of(lots, told.paths))
+    opened = Opened(found, from_told(told), PLACES)
+    opened.paths = paths_of(opened.lots, told.paths)
+    return opened
 
 
 def paths_of(lots: Lots, paths: Optional[List[str]]) -> Optional[Dict[str, List[str]]]:

@@ -2,11 +2,12 @@
 from fractions import Fraction
 from functools import lru_cache
 from math import gcd
-from typing import NamedTuple, Optional, Sequence, Tuple
+from typing import List, NamedTuple, Optional, Sequence, Tuple
 
 from .solids import FACES, corners, ridge_of
 
 Whole = Tuple[int, int, int]
+Point = Tuple[float, float, float]
 Faces = Tuple[Tuple[int, ...], ...]
 FACES_FROM_0 = {solid: tuple(tuple(at - 1 for at in face) for face in faces) for solid, faces in FACES.items()}
 
@@ -26,6 +27,21 @@ class Form:
 
     def __init__(self, faces: Faces, corners: Tuple[Whole, ...], one: int, scope: Optional[Scope] = None) -> None:
         self.faces, self.corners, self.one, self.scope = faces, corners, one, scope
+        self._points: Optional[List[Point]] = None
+        self._ends: Optional[Tuple[Point, Point]] = None
+
+    def points(self) -> List[Point]:
+        """The corners as floats."""
+        if self._points is None:
+            self._points = [(x / self.one, y / self.one, z / self.one) for x, y, z in self.corners]
+        return self._points
+
+    def ends(self) -> Tuple[Point, Point]:
+        """The least and the greatest coordinate along each axis."""
+        if self._ends is None:
+            xs, ys, zs = zip(*self.points())
+            self._ends = (min(xs), min(ys), min(zs)), (max(xs), max(ys), max(zs))
+        return self._ends
 
 
 def axes_of(word: str) -> Tuple[Whole, Whole, Whole]:

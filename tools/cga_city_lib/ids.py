@@ -33,15 +33,15 @@ def traced(steps):
     return {lot: sorted(solids) for lot, solids in found.items()}
 
 
-def ids(town, steps):
+def ids(lots, steps):
     """For each lot the ids of its solids, in the order in which they are drawn; LOT#NUMBER where nothing was traced."""
     if steps is None:
-        return {lot: [f"{lot}#{number}" for number in range(len(solids))] for lot, solids in town.lots.items()}
+        return {lot: [f"{lot}#{number}" for number in range(len(solids))] for lot, solids in lots.items()}
     found = traced(steps)
-    for lot, solids in town.lots.items():
+    for lot, solids in lots.items():
         if [symbol for _, symbol in found.get(lot, [])] != [solid.symbol for solid in solids]:
             raise Refused(f"the trace has other solids of lot {lot!r} than the town: {ADVICE}")
-    return {lot: [f"{lot}/{'/'.join(map(str, path))}" for path, _ in found.get(lot, [])] for lot in town.lots}
+    return {lot: [f"{lot}/{'/'.join(map(str, path))}" for path, _ in found.get(lot, [])] for lot in lots}
 
 
 def ids_of(found):
@@ -49,4 +49,4 @@ def ids_of(found):
     if found.paths is not None:
         return {lot: [lot + path for path in paths] for lot, paths in found.paths.items()}, True
     steps = steps_in(found.text())
-    return ids(found.town, steps), steps is not None
+    return ids(found.lots, steps), steps is not None

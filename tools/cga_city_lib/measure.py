@@ -1,56 +1,52 @@
-"""What a solid measures, in whole steps of the last decimal that was printed, so that sums are exact."""
+"""What a solid measures, in whole steps of which so many make one unit of the town, so that sums are exact."""
 import math
-from collections import namedtuple
-from decimal import Decimal
-from functools import lru_cache
+from fractions import Fraction
+from typing import Dict, Iterable, List, NamedTuple, Optional, Sequence, Tuple
 
-from .call import Refused
 from .eye import cross, dot
-from .solids import SOLIDS
+from .forms import FACES_FROM_0, Faces, Form, Whole
+from .instances import Lots
 
-# plan and side are twice an area, volume six times one; front is in millionths, and nothing where the solid is a mesh
-Measure = namedtuple("Measure", "plan side front slack volume low top is_closed")
-MILLIONTHS = 6
-MOST_PLACES = 20
-FARTHEST = 1e12
-KINDS = {tuple(tuple(at - 1 for at in face) for face in faces): kind for faces, (kind, _) in SOLIDS.items()}
+KINDS = {faces: kind for (kind, _), faces in FACES_FROM_0.items()}
 
 
-def places_of(texts):
-    """The most decimals that a coordinate is written with."""
-    return max((len(part) - part.find(".") - 1 for text in texts for part in text if "." in part), default=0)
+class Measure(NamedTuple):
+    """`plan` and `side` are twice an area, `volume` six times one; `front` and `box` are in millionths, and none where the solid
+    is a mesh. `low` and `top` are told from the solid's first corner on."""
+
+    plan: int
+    side: int
+    front: Optional[int]
+    box: Optional[int]
+    slack: int
+    volume: int
+    low: int
+    top: int
 
 
-def whole(text, places):
-    """A coordinate as a whole number of steps."""
-    head, _, tail = text.partition(".")
-    if len(tail) <= places and (head + tail).lstrip("-").isdecimal():
-        return int(head + tail.ljust(places, "0"))
-    return int(Decimal(text).scaleb(places).to_integral_value())
-
-
-def minus(p, q):
+def minus(p: Whole, q: Whole) -> Whole:
     return p[0] - q[0], p[1] - q[1], p[2] - q[2]
 
 
-def length(a):
+def length(a: Whole) -> int:
     """To the nearest whole number; exact along an axis."""
     return math.isqrt(4 * dot(a, a) + 1) + 1 >> 1
 
 
-def doubled(corners):
+def doubled(corners: Sequence[Whole]) -> Whole:
     """The vector of twice the area of a face."""
     parts = [cross(minus(p, corners[0]), minus(q, corners[0])) for p, q in zip(corners[1:], corners[2:])]
-    return tuple(map(sum, zip(*parts))) or (0, 0, 0)
+    x, y, z = map(sum, zip(*parts)) if parts else (0, 0, 0)
+    return x, y, z
 
 
-def is_closed(faces):
+def is_closed(faces: Faces) -> bool:
     """Whether each edge has one face on each side."""
     edges = [edge for face in faces for edge in zip(face, face[1:] + face[:1])]
     return len(set(edges)) == len(edges) and {(b, a) for a, b in edges} == set(edges)
 
 
-def front_of(corners, faces):
+def front_of(corners: Sequence[Whole], faces: Faces) -> Optional[Tuple[int, int]]:
     """The width and the height of the scope that a solid was drawn into, where it is one of the program's."""
     kind = KINDS.get(faces)
     if kind is None:
@@ -62,47 +58,64 @@ def front_of(corners, faces):
     return length(right), abs(dot(minus(corners[4], corners[0]), up)) // (length(up) or 1)
 
 
-@lru_cache(maxsize=None)
-def measure(corners, faces, places):
-    """Of a solid by its corners, from the first of them, and its faces by their places among these."""
-    areas = [doubled([corners[at] for at in face]) for face in faces]
-    closed = len(faces) > 3 and is_closed(faces)
-    volume = sum(dot(corners[face[0]], area) for face, area in zip(faces, areas)) if closed else 0
-    up = sum(area[1] for area in areas if area[1] > 0), sum(-area[1] for area in areas if area[1] < 0)
-    side = sum(length((area[0], 0, area[2])) for area in areas if 1000 * abs(area[1]) <= abs(area[0]) + abs(area[2]))
-    heights = [corner[1] for corner in corners]
-    scope = front_of(corners, faces)
-    front = scope and millionths(scope[0] * scope[1], 2 * places)
-    return Measure(max(up), side, front, scope and sum(scope), abs(volume), min(heights), max(heights), closed)
-
-
-def millionths(number, places):
-    """A number of steps of so many decimals in millionths, halves away from zero."""
-    if places <= MILLIONTHS:
-        return number * 10 ** (MILLIONTHS - places)
-    step = 10 ** (places - MILLIONTHS)
-    return (number + step // 2) // step
-
-
-def check_points(points):
-    for number, point in enumerate(points, 1):
-        if len(point) != 3 or not all(abs(part) < FARTHEST for part in point):
-            raise Refused(f"vertex {number} hasn't three coordinates below {FARTHEST:.0e}: make the file anew")
+def millionths(upper: int, lower: int) -> int:
+    """A number that isn't below 0 in millionths, halves upwards."""
+    return (2 * upper * 10**6 + lower) // (2 * lower)
 
 
 class Measured:
-    """A town whose solids are measured."""
+    """A town whose solids are measured. Rounded coordinates may be off by a step, exact ones aren't."""
 
-    def __init__(self, town):
-        self.town, self.places = town, places_of(town.texts)
-        if self.places > MOST_PLACES:
-            raise Refused(f"a coordinate has {self.places} decimals, and at most {MOST_PLACES} are taken")
-        check_points(town.points)
-        self.points = [tuple(whole(part, self.places) for part in text) for text in town.texts]
+    def __init__(self, lots: Lots, is_exact: bool = False) -> None:
+        self.lots, self.is_exact = lots, is_exact
+        forms = {instance.form for instances in lots.values() for instance in instances}
+        self.one = (
+            math.lcm(*(form.one for form in forms)) if hasattr(math, "lcm") else least(form.one for form in forms)
+        )
+        self.heights: Dict[str, Fraction] = {}
+        self.known: Dict[Form, Measure] = {}
 
-    def solid(self, solid):
-        """Its measure, and the height of its first corner, above which its low and top are."""
-        used = sorted({at for face in solid.faces for at in face})
-        base, number = self.points[used[0]], {at: k for k, at in enumerate(used)}
-        corners = tuple(minus(self.points[at], base) for at in used)
-        return measure(corners, tuple(tuple(number[at] for at in face) for face in solid.faces), self.places), base[1]
+    def height(self, text: str) -> Fraction:
+        """A number of a corner."""
+        if text not in self.heights:
+            self.heights[text] = Fraction(text)
+        return self.heights[text]
+
+    def of(self, form: Form) -> Measure:
+        if form not in self.known:
+            self.known[form] = measure(form, self.one)
+        return self.known[form]
+
+
+def least(numbers: Iterable[int]) -> int:
+    """The least number that all of these divide."""
+    found = 1
+    for number in numbers:
+        found = found * number // math.gcd(found, number)
+    return found
+
+
+def measure(form: Form, one: int) -> Measure:
+    fine = one // form.one
+    corners: List[Whole] = [(x * fine, y * fine, z * fine) for x, y, z in form.corners]
+    areas = [doubled([corners[at] for at in face]) for face in form.faces]
+    closed = len(form.faces) > 3 and is_closed(form.faces)
+    volume = sum(dot(corners[face[0]], area) for face, area in zip(form.faces, areas)) if closed else 0
+    up = sum(area[1] for area in areas if area[1] > 0), sum(-area[1] for area in areas if area[1] < 0)
+    side = sum(length((area[0], 0, area[2])) for area in areas if 1000 * abs(area[1]) <= abs(area[0]) + abs(area[2]))
+    heights = [corner[1] for corner in corners]
+    front, box, slack = scope_of(form, corners, one)
+    return Measure(max(up), side, front, box, slack, abs(volume), min(heights), max(heights))
+
+
+def scope_of(form: Form, corners: Sequence[Whole], one: int) -> Tuple[Optional[int], Optional[int], int]:
+    """The front and the box of the scope in millionths, and how many steps the front is off for each step of a length."""
+    if form.scope:
+        w, h, d = form.scope.size
+        return millionths(*parts(w * h)), millionths(*parts(w * h * d)), 0
+    found = front_of(corners, form.faces)
+    return (millionths(found[0] * found[1], one * one), None, sum(found)) if found else (None, None, 0)
+
+
+def parts(number: Fraction) -> Tuple[int, int]:
+    return number.numerator, number.denominator

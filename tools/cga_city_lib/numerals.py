@@ -1,6 +1,7 @@
 """Numbers as a script writes them: decimals without an exponent, or a quotient of whole numbers."""
 import re
 from decimal import Decimal, InvalidOperation
+from fractions import Fraction
 
 DIGITS = 18
 
@@ -36,3 +37,16 @@ def plain(number):
 def on_grid(number, places):
     """The text of a whole number of steps of a grid, of which 10 to the number of places make 1."""
     return plain(Decimal(number).scaleb(-places))
+
+
+def fixed(upper: int, lower: int, places: int) -> str:
+    """A fraction with so many decimals, halves away from zero."""
+    steps = (2 * abs(upper) * 10**places + lower) // (2 * lower)
+    whole, rest = divmod(steps, 10**places)
+    return f"{'-' * (upper < 0 and steps > 0)}{whole}" + (f".{rest:0{places}d}" if places else "")
+
+
+def rounded(number: Fraction, places: int) -> str:
+    """The same without zeros that say nothing."""
+    text = fixed(number.numerator, number.denominator, places)
+    return text.rstrip("0").rstrip(".") if places else text

@@ -1,72 +1,101 @@
-"""Where each solid of a town stands: its corner, the turn of its scope, and its sizes, as exact as they were printed."""
+"""Where each solid of a town stands: its corner, the turn of its scope, and its sizes, as exact as they were told."""
 import math
-from collections import namedtuple
-from decimal import Decimal, localcontext
+from fractions import Fraction
+from functools import lru_cache
+from typing import Iterator, List, NamedTuple, Sequence, Tuple
 
 from .call import Refused
 from .eye import cross, dot, unit
-from .solids import SOLIDS
+from .forms import FACES_FROM_0, Form
+from .instances import Instance, Lots
 
-DIGITS = 60  # more than a coordinate has, so that no difference of two is rounded
+SOLIDS = {faces: solid for solid, faces in reversed(list(FACES_FROM_0.items()))}
+Vector = Tuple[float, float, float]
+Exact = Tuple[Fraction, Fraction, Fraction]
 
-# corner and size are decimals; axes are the scope's X, Y and Z in the world, three floats each
-Place = namedtuple("Place", "lot number symbol kind ridge corner axes size")
+
+class Stand(NamedTuple):
+    """The scope of a form: the axes are its X, Y and Z in the world."""
+
+    kind: str
+    ridge: str
+    axes: Tuple[Vector, Vector, Vector]
+    size: Exact
 
 
-def sound(town, path):
-    """The town of a file, if each corner is three numbers and each face has three corners at least."""
-    for point in town.points:
-        if len(point) != 3 or not all(map(math.isfinite, point)):
-            raise Refused(f"{path}: a corner has to be three numbers, and one is {' '.join(map(str, point))!r}")
-    if any(len(face) < 3 for solid in town.solids() for face in solid.faces):
+class Place(NamedTuple):
+    lot: str
+    number: int
+    symbol: str
+    kind: str
+    ridge: str
+    corner: Exact
+    axes: Tuple[Vector, Vector, Vector]
+    size: Exact
+
+
+class NoScope(Exception):
+    """The form was drawn into no scope, with what it is."""
+
+
+def check_faces(lots: Lots, path: object) -> None:
+    forms = {instance.form for instances in lots.values() for instance in instances}
+    if any(len(face) < 3 for form in forms for face in form.faces):
         raise Refused(f"{path}: a face has to have three corners at least")
-    return town
 
 
-def places(town):
+def places(lots: Lots) -> Iterator[Place]:
     """The place of each solid, lot by lot, in the order in which they are drawn."""
-    with localcontext() as context:
-        context.prec = DIGITS
-        for lot, solids in town.lots.items():
-            for number, solid in enumerate(solids):
-                yield place(town, lot, number, solid)
+    for lot, instances in lots.items():
+        for number, instance in enumerate(instances):
+            yield place(lot, number, instance)
 
 
-def place(town, lot, number, solid):
-    first = min(map(min, solid.faces))
-    found = SOLIDS.get(tuple(tuple(at - first + 1 for at in face) for face in solid.faces))
+def place(lot: str, number: int, instance: Instance) -> Place:
+    stand, (x, y, z) = stand_of(lot, number, instance.form), instance.corner
+    corner = Fraction(x), Fraction(y), Fraction(z)
+    return Place(lot, number, instance.symbol, stand.kind, stand.ridge, corner, stand.axes, stand.size)
+
+
+def stand_of(lot: str, number: int, form: Form) -> Stand:
+    try:
+        return stand(form)
+    except NoScope as why:
+        raise Refused(f"solid {number} of lot {lot!r} is {why}") from None
+
+
+@lru_cache(maxsize=None)
+def stand(form: Form) -> Stand:
+    if form.scope:
+        return Stand(form.scope.kind, form.scope.ridge, form.scope.axes, form.scope.size)
+    found = SOLIDS.get(form.faces)
     if found is None:
-        raise Refused(
-            f"solid {number} of lot {lot!r} is none that `print` draws, so it has no scope: "
+        raise NoScope(
+            "none that `print` draws, so it has no scope: "
             "take what a run printed by `print`, not by `model`, and not what tools/merge wrote"
         )
     kind, ridge = found
-    corner, *edges = edges_of(town, first, kind)
+    edges = edges_of(form, kind)
     axes = axes_of(edges, kind)
-    over = along(edges[1], axes[2 if ridge == "z" else 0])
-    size = tuple(along(edge, axis) for edge, axis in zip(edges, axes))
+    w, h, d = (along(edge, axis) for edge, axis in zip(edges, axes))
     if kind == "quad":
-        size = size[0], size[1], Decimal(0)
-    if min(size) < 0:
-        raise Refused(f"solid {number} of lot {lot!r} is a mirror image of one that `print` draws")
+        d = Fraction(0)
+    if min(w, h, d) < 0:
+        raise NoScope("a mirror image of one that `print` draws")
     if kind in ("gable", "hip") and ridge:
-        kind = "hip" if 4 * over > size[0 if ridge == "z" else 2] else "gable"
-    return Place(lot, number, solid.symbol, kind, ridge, corner, axes, size)
+        over = along(edges[1], axes[2 if ridge == "z" else 0])
+        kind = "hip" if 4 * over > (w if ridge == "z" else d) else "gable"
+    return Stand(kind, ridge, axes, (w, h, d))
 
 
-def edges_of(town, first, kind):
-    """The first corner, and from there the edges along X, up to the height, and along Z; a quad has none along Z."""
-    numbers = (0, 1, 3) if kind == "quad" else (0, 1, 4, 3)
-    corner, *others = [exact(town.texts[first + at]) for at in numbers]
-    edges = [tuple(b - a for a, b in zip(corner, other)) for other in others]
-    return [corner, *edges, (Decimal(0),) * 3][:4]
+def edges_of(form: Form, kind: str) -> List[Exact]:
+    """From the first corner the edges along X, up to the height, and along Z; a quad has none along Z."""
+    ends = [form.corners[at] for at in ((1, 3) if kind == "quad" else (1, 4, 3))]
+    edges = [(Fraction(x, form.one), Fraction(y, form.one), Fraction(z, form.one)) for x, y, z in ends]
+    return [*edges, (Fraction(0), Fraction(0), Fraction(0))][:3]
 
 
-def exact(text):
-    return tuple(map(Decimal, text))
-
-
-def axes_of(edges, kind):
+def axes_of(edges: Sequence[Exact], kind: str) -> Tuple[Vector, Vector, Vector]:
     """Three axes upright on each other, by the longer two of the edges; the second edge of a roof leans, and counts last."""
     floats = [tuple(map(float, edge)) for edge in edges]
     is_last = [dot(edge, edge) == 0 or axis == 1 and kind not in ("cube", "quad") for axis, edge in enumerate(floats)]
@@ -77,23 +106,24 @@ def axes_of(edges, kind):
     return axes[0], axes[1], axes[2]
 
 
-def upright(edge, axis):
+def upright(edge: Sequence[float], axis: Vector) -> Vector:
     """The direction of an edge without its part along an axis; any, where the edge is so short that it was printed as a point."""
     for direction in (edge, (0.0, 1.0, 0.0), (0.0, 0.0, 1.0)):
         part = dot(direction, axis)
         rest = tuple(a - part * b for a, b in zip(direction, axis))
         if dot(rest, rest) > 0:
             return unit(rest)
+    raise AssertionError("two directions can't both lie along one axis")
 
 
-def along(edge, axis):
+def along(edge: Exact, axis: Vector) -> Fraction:
     """How far an edge goes along an axis: exact where that is one of the world's."""
     if all(part in (-1, 0, 1) for part in axis):
-        return sum(int(part) * step for part, step in zip(axis, edge))
-    return Decimal(f"{dot(tuple(map(float, edge)), axis):.9f}")
+        return sum((int(part) * step for part, step in zip(axis, edge)), Fraction(0))
+    return Fraction(f"{dot(tuple(map(float, edge)), axis):.9f}")
 
 
-def quaternion(axes):
+def quaternion(axes: Sequence[Vector]) -> Tuple[float, ...]:
     """The turn that takes the world's axes to these, as (x, y, z, w) with w at least 0."""
     (a, d, g), (b, e, h), (c, f, i) = axes
     if a + e + i > 0:

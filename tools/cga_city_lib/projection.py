@@ -2,6 +2,8 @@
 import math
 from collections import namedtuple
 
+from .instances import Reals
+
 SIDES = {
     "front": (1, 0),
     "right": (0, -1),
@@ -104,12 +106,14 @@ def seen(faces, symbol, depth, is_closed):
 
 
 def project(town, view, depth, lots=None):
-    """The faces that are seen behind the plane, and what it cuts."""
-    faces, cuts, points = [], [], [view(p) for p in town.points]
+    """The faces that are seen behind the plane, and what it cuts, of a town's instances."""
+    faces, cuts, reals = [], [], Reals()
     depth = depth + HAIR
-    for lot, solids in town.lots.items():
-        for solid in solids if lots is None or lot in lots else ():
-            corners = [[points[at] for at in face] for face in solid.faces]
-            faces += seen(corners, solid.symbol, depth, len(corners) > 3)
-            cuts += cuts_of(corners, solid.symbol, depth)
+    for lot, instances in town.items():
+        for symbol, form, (x, y, z) in instances if lots is None or lot in lots else ():
+            a, b, c = reals[x], reals[y], reals[z]
+            points = [view((a + p[0], b + p[1], c + p[2])) for p in form.points()]
+            corners = [[points[at] for at in face] for face in form.faces]
+            faces += seen(corners, symbol, depth, len(corners) > 3)
+            cuts += cuts_of(corners, symbol, depth)
     return faces, cuts

@@ -5,11 +5,13 @@ A lot's node is moved by whole units, which floats of 32 bits hold exactly up to
 import math
 from array import array
 
-from .corners import Corners
+from .corners import Corners, Pattern, pattern_of
+from .forms import FACES_FROM_0
 from .glb import INSTANCING, Glb
+from .instances import Reals
 from .materials import Materials
 from .places import place, quaternion
-from .solids import FACES, corners
+from .solids import corners
 
 FINEST = 1e-6  # the least share of a hip's length that its slope takes
 
@@ -17,16 +19,15 @@ FINEST = 1e-6  # the least share of a hip's length that its slope takes
 class Scene:
     """`is_instance` says of a symbol whether each of its solids is an instance of a mesh in the unit box."""
 
-    def __init__(self, town, names, setting, is_instance):
-        self.town, self.names, self.is_instance, self.metres = town, names, is_instance, float(setting.metres)
-        self.offset = tuple(map(float, setting.offset))
-        self.points = [tuple(part - off for part, off in zip(point, self.offset)) for point in town.points]
+    def __init__(self, names, setting, is_instance):
+        self.names, self.is_instance, self.metres = names, is_instance, float(setting.metres)
+        self.offset, self.reals = tuple(map(float, setting.offset)), Reals()
         self.glb = Glb()
-        self.materials, self.units = Materials(self.glb), {}
+        self.materials, self.units, self.patterns = Materials(self.glb), {}, {}
 
     def file(self, lots):
-        """The bytes of the file of these lots, as pairs of a name and solids."""
-        nodes = [self.lot(name, solids) for name, solids in lots if solids]
+        """The bytes of the file of these lots, as pairs of a name and instances."""
+        nodes = [self.lot(name, instances) for name, instances in lots if instances]
         root = {"name": "town", "children": nodes, "extras": {"offset": list(self.offset), "metres": self.metres}}
         if self.metres != 1:
             root["scale"] = [self.metres] * 3
@@ -35,7 +36,7 @@ class Scene:
     def lot(self, name, solids):
         once, instances = {}, {}
         for number, solid in enumerate(solids):
-            found = place(self.town, name, number, solid) if self.is_instance(solid.symbol) else None
+            found = place(name, number, solid) if self.is_instance(solid.symbol) else None
             if found and all(scale_of(found)):
                 instances.setdefault((solid.symbol, found.kind, found.ridge, slope_of(found)), []).append(found)
             else:
@@ -51,14 +52,21 @@ class Scene:
 
     def low(self, solids):
         """A lot's low corner in whole units."""
-        used = [self.points[at] for at in {at for solid in solids for face in solid.faces for at in face}]
-        return tuple(float(math.floor(min(parts))) for parts in zip(*used))
+        ends = (
+            [at + least for at, least in zip(self.corner(corner), form.ends()[0])]
+            for form, corner in {(form, corner) for _, form, corner in solids}
+        )
+        return tuple(float(math.floor(min(parts))) for parts in zip(*ends))
+
+    def corner(self, texts):
+        """A corner without the offset."""
+        (x, y, z), reals, (a, b, c) = texts, self.reals, self.offset
+        return reals[x] - a, reals[y] - b, reals[z] - c
 
     def part(self, symbol, solids, low):
         found = Corners()
-        for solid in solids:
-            for face in solid.faces:
-                found.add([self.points[at] for at in face], low)
+        for _, form, corner in solids:
+            found.add(pattern_of(form, self.patterns), self.corner(corner), low)
         return found.primitive(self.glb, self.materials.of(symbol))
 
     def instances(self, kind, found, low):
@@ -90,8 +98,7 @@ class Scene:
             size = (slope, 1, 1) if ridge == "z" else (1, 1, slope)
             points = [tuple(part / whole for part, whole in zip(corner, size)) for corner in corners(kind, ridge, size)]
             found = Corners()
-            for face in FACES[kind, ridge]:
-                found.add([points[at - 1] for at in face])
+            found.add(Pattern(FACES_FROM_0[kind, ridge], points))
             parts = [found.primitive(self.glb, self.materials.of(symbol))]
             self.units[key] = self.glb.add(
                 "meshes", {"name": ".".join(filter(None, (symbol, kind, ridge))), "primitives": parts}

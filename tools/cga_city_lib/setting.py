@@ -4,6 +4,7 @@ from collections import namedtuple
 from decimal import Decimal, InvalidOperation
 
 from .call import Refused
+from .instances import box_of
 from .numerals import plain
 
 FAR = 10_000  # farther out, floats of 32 bits are apart by more than a thousandth
@@ -27,15 +28,14 @@ def number(text):
     return value
 
 
-def setting_of(town, words):
+def setting_of(lots, words):
     """The setting that the words say, or that fits the town."""
     if words.metres <= 0:
         raise Refused("--metres has to be above 0")
-    return Setting(tuple(words.offset) if words.offset else tuple(map(far, zip(*town.points))), words.metres)
+    return Setting(tuple(words.offset) if words.offset else tuple(map(far, *box_of(lots))), words.metres)
 
 
-def far(coordinates):
-    low, high = min(coordinates), max(coordinates)
+def far(low, high):
     return Decimal(math.floor(low / STEP) * STEP if max(abs(low), abs(high)) > FAR else 0)
 
 

@@ -1,64 +1,83 @@
 """Rows of a table of a town: sums over the solids of a lot, of a symbol, or of both."""
+from collections import Counter
 from fractions import Fraction
+from typing import Dict, Optional, Tuple
 
+from .forms import Form
+from .measure import Measure, Measured
 from .progress import counted
+
+Key = Tuple[str, ...]
 
 
 class Row:
-    """Whole numbers that are added up, in the steps of `places` decimals."""
+    """Whole numbers that are added up, in steps of which so many make one unit."""
 
-    def __init__(self, places):
-        self.places, self.solids, self.meshes, self.open = places, 0, 0, 0
-        self.sums = dict.fromkeys("plan side front slack volume floors".split(), 0)
-        self.highest = None
+    def __init__(self, one: int) -> None:
+        self.one, self.solids, self.meshes, self.unboxed = one, 0, 0, 0
+        self.plan = self.side = self.millionths = self.box = self.off = self.volume = self.floors = 0
+        self.highest: Optional[Fraction] = None
 
-    def add(self, measure, base, storeys):
-        self.solids += 1
-        self.open += not measure.is_closed
-        self.meshes += measure.front is None
-        for word in ("plan", "side", "volume", "front", "slack"):
-            self.sums[word] += getattr(measure, word) or 0
-        self.sums["floors"] += storeys * measure.plan
-        self.highest = max(base + measure.top, base + measure.top if self.highest is None else self.highest)
+    def add(self, measure: Measure, number: int, top: Fraction, storeys: int) -> None:
+        """As many equal solids, the highest of which ends there."""
+        self.solids += number
+        self.meshes += number * (measure.front is None)
+        self.unboxed += number * (measure.box is None)
+        self.plan += number * measure.plan
+        self.side += number * measure.side
+        self.millionths += number * (measure.front or 0)
+        self.box += number * (measure.box or 0)
+        self.off += number * measure.slack
+        self.volume += number * measure.volume
+        self.floors += number * storeys * measure.plan
+        if self.highest is None or top > self.highest:
+            self.highest = top
 
-    def part(self, word, by, power):
-        return Fraction(self.sums[word], by * 10 ** (power * self.places))
+    def front(self) -> Fraction:
+        return Fraction(self.millionths, 10**6)
 
-    def front(self):
-        return Fraction(self.sums["front"], 10**6)
-
-    def slack(self):
+    def slack(self) -> Fraction:
         """How much the fronts may be off, where each length is off by a step and each front is rounded."""
-        return self.part("slack", 1, 2) * 2 + Fraction(self.solids, 10**6)
+        return Fraction(2 * self.off, self.one**2) + Fraction(self.solids, 10**6)
 
-    def top(self):
-        return Fraction(self.highest, 10**self.places)
-
-    def cells(self):
+    def cells(self) -> Dict[str, Optional[Fraction]]:
         return {
             "solids": Fraction(self.solids),
-            "plan": self.part("plan", 2, 2),
-            "side": self.part("side", 2, 2),
+            "plan": Fraction(self.plan, 2 * self.one**2),
+            "side": Fraction(self.side, 2 * self.one**2),
             "front": self.front(),
-            "volume": self.part("volume", 6, 3),
-            "top": self.top(),
-            "floors": self.part("floors", 2, 2),
+            "box": None if self.unboxed else Fraction(self.box, 10**6),
+            "volume": Fraction(self.volume, 6 * self.one**3),
+            "top": self.highest,
+            "floors": Fraction(self.floors, 2 * self.one**2),
         }
 
 
-def storeys_of(measure, storey, places):
+def storeys_of(measure: Measure, storey: Optional[Fraction], measured: Measured) -> int:
     """How many whole storeys stand in the solid's height; one where no height of a storey is said."""
     if storey is None:
         return 1
-    return (measure.top - measure.low + 1) // (storey * 10**places)
+    height = measure.top - measure.low + (not measured.is_exact)
+    return int(height // (storey * measured.one))
 
 
-def rows_of(measured, by, floors):
-    """The rows by lot, by symbol, or by both; `floors` has a storey's height, or none, for each symbol that floors are drawn by."""
-    rows, drawn = {}, [(lot, solid) for lot, solids in measured.town.lots.items() for solid in solids]
-    for lot, solid in counted(drawn, "solids"):
-        measure, base = measured.solid(solid)
-        key = {"lot": (lot,), "symbol": (solid.symbol,), "both": (lot, solid.symbol)}[by]
-        storeys = storeys_of(measure, floors[solid.symbol], measured.places) if solid.symbol in floors else 0
-        rows.setdefault(key, Row(measured.places)).add(measure, base, storeys)
-    return rows
+def rows_of(measured: Measured, by: str, floors: Dict[str, Optional[Fraction]]) -> Dict[Key, Row]:
+    """The rows by lot in the town's order, by symbol in the order of names, or by both. `floors` has a storey's height, or none,
+    for each symbol that floors are drawn by."""
+    rows: Dict[Key, Row] = {}
+    for lot, instances in counted(measured.lots.items(), "lots", len(measured.lots)):
+        keys: Dict[str, Key] = {}
+        counts = Counter([(one[0], one[1], one[2][1]) for one in instances])
+        for (symbol, form, height), number in sorted(counts.items(), key=symbol_of):
+            measure = measured.of(form)
+            storeys = storeys_of(measure, floors[symbol], measured) if symbol in floors else 0
+            key = keys.get(symbol)
+            if key is None:
+                key = keys[symbol] = {"lot": (lot,), "symbol": (symbol,), "both": (lot, symbol)}[by]
+                rows.setdefault(key, Row(measured.one))
+            rows[key].add(measure, number, measured.height(height) + Fraction(measure.top, measured.one), storeys)
+    return dict(sorted(rows.items())) if by == "symbol" else rows
+
+
+def symbol_of(counted_form: Tuple[Tuple[str, Form, str], int]) -> str:
+    return counted_form[0][0]

@@ -19,6 +19,7 @@ from cga_city_lib.call import Refused, Words, call, number_in  # noqa: E402
 from cga_city_lib.drawn import Meshes  # noqa: E402
 from cga_city_lib.measure import Measured  # noqa: E402
 from cga_city_lib.obj import Town, read_town  # noqa: E402
+from cga_city_lib.obj_instances import from_town  # noqa: E402
 from cga_city_lib.render import render  # noqa: E402
 from cga_city_lib.strangers_text import cell, told  # noqa: E402
 from cga_city_lib.table_rows import rows_of  # noqa: E402
@@ -150,11 +151,16 @@ class Progress(unittest.TestCase):
 
     def test_tools_tell_how_far_they_are(self):
         town = Town(
-            Drawn().lot("a").solid("x", "cube", (0, 0, 0), (1, 1, 1)).solid("x", "cube", (2, 0, 0), (1, 1, 1)).lines
+            Drawn()
+            .lot("a")
+            .solid("x", "cube", (0, 0, 0), (1, 1, 1))
+            .lot("b")
+            .solid("x", "cube", (2, 0, 0), (1, 1, 1))
+            .lines
         )
         self.assertEqual(
-            self.told_by(lambda: rows_of(Measured(town), "lot", {})),
-            "\r\033[Ksolids: 0 of 2\r\033[Ksolids: 1 of 2\r\033[K",
+            self.told_by(lambda: rows_of(Measured(from_town(town).lots), "lot", {})),
+            "\r\033[Klots: 0 of 2\r\033[Klots: 1 of 2\r\033[K",
         )
         self.assertIn("solids: 1 of 2", self.told_by(lambda: Meshes().lines(town)))
         picture = self.told_by(lambda: render(town, "bird", 4, 4))

@@ -4,6 +4,7 @@ import json
 import sys
 import tempfile
 import unittest
+from fractions import Fraction
 from pathlib import Path
 
 TESTS = Path(__file__).resolve().parent
@@ -15,7 +16,7 @@ from in_process import called  # noqa: E402
 from cga_city_lib.call import Words  # noqa: E402
 from cga_city_lib.door import add_words, opened  # noqa: E402
 from cga_city_lib.forms import form_of  # noqa: E402
-from cga_city_lib.instances import decimal  # noqa: E402
+from cga_city_lib.numerals import fixed  # noqa: E402
 from cga_city_lib.obj import Town  # noqa: E402
 from cga_city_lib.program import is_here  # noqa: E402
 from cga_city_lib.traced import children_in  # noqa: E402
@@ -115,7 +116,7 @@ class Forms(unittest.TestCase):
             (-1, 2 * 10**6, "-0.000001"),
             (-1, 10**7, "0.000000"),
         ):
-            self.assertEqual(decimal(upper, lower), text)
+            self.assertEqual(fixed(upper, lower, 6), text)
 
 
 class Traces(unittest.TestCase):
@@ -136,9 +137,33 @@ class ByStandIn(Given):
         )
 
     def test_tables(self):
-        for by in ("lot", "symbol", "both"):
+        for by in ("lot", "both"):
             one, other = self.both("table", "--by", by, "--floor", "house")
             self.assertEqual(one, other)
+
+    def test_a_table_with_a_bill(self):
+        """Fronts of 36, 12, 12 and 4, and boxes of 324, 108, 30 and 10."""
+        drawn = of_script(3)
+        drawn.lines[:0] = ["# bill 1", "# bill house 4 64.000000 472.000000 0"]
+        self.town.write_text("\n".join(drawn.lines))
+        one = self.call("table", "--program", TELLER, self.script, "--by", "symbol")
+        self.assertEqual(one, self.call("table", self.town, "--by", "symbol"))
+        self.assertIn(",64,472,", one[0])
+
+    def test_sums_of_a_script_are_exact(self):
+        """A third of a unit times 3 is 1, and as printed it is 0.999999."""
+        self.script.write_text(SCRIPT.replace("12 9 house", "1/3 3 house"))
+        out, _ = self.call("table", "--program", TELLER, self.script)
+        row = next(csv.DictReader(out.split("\n")))
+        # a cube of a third by 3 by 3 and a gable as wide of height 1: volumes 3 and 1/2, fronts 1 and a third
+        self.assertEqual((row["plan"], row["volume"], row["front"]), ("2", "3.5", "1.333333"))
+        out, _ = self.call("table", "--program", TELLER, self.script, "--by", "symbol")
+        (row,) = csv.DictReader(out.split("\n"))
+        # with the lot of 4 by 2.5: boxes of 3, 1, 30 and 10
+        self.assertEqual(row["box"], "44")
+        self.town.write_text("\n".join(box(Drawn(), "b", 0, (Fraction(1, 3), 3, 3), (Fraction(1, 3), 1, 3)).lines))
+        out, _ = self.call("table", self.town)
+        self.assertEqual(next(csv.DictReader(out.split("\n")))["plan"], "1.999998")
 
     def test_places(self):
         targets = self.top / "script.csv", self.top / "obj.csv"

@@ -6,7 +6,7 @@ import random
 import sys
 import tempfile
 import unittest
-from decimal import Decimal
+from fractions import Fraction
 from itertools import product
 from pathlib import Path
 
@@ -19,6 +19,7 @@ from in_process import called  # noqa: E402
 from cga_city_lib.call import Refused  # noqa: E402
 from cga_city_lib.ids import ids, steps_in  # noqa: E402
 from cga_city_lib.obj import Town, read_town  # noqa: E402
+from cga_city_lib.obj_instances import from_town  # noqa: E402
 from cga_city_lib.places import places, quaternion  # noqa: E402
 
 UPRIGHT = [(1, 0, 0), (0, 1, 0), (0, 0, 1)]
@@ -35,6 +36,10 @@ def by_quaternion(turn, point):
     once = times((x, y, z), point)
     twice = times((x, y, z), once)
     return tuple(p + 2 * w * a + 2 * b for p, a, b in zip(point, once, twice))
+
+
+def places_in(lines):
+    return list(places(from_town(Town(lines)).lots))
 
 
 def apart(kind, corner, turn, size, points):
@@ -54,7 +59,7 @@ def corners_of(town):
 
 class PutTogether(unittest.TestCase):
     def check(self, town):
-        far, found = 0.0, list(places(town))
+        far, found = 0.0, list(places(from_town(town).lots))
         for place, points in zip(found, corners_of(town)):
             size = tuple(map(float, place.size))
             far = max(far, apart(place.kind, tuple(map(float, place.corner)), quaternion(place.axes), size, points))
@@ -94,11 +99,9 @@ class PutTogether(unittest.TestCase):
 
     def test_the_example_of_the_language(self):
         """After Ry(90) a scope of size (10, 6, 8) reaches from (0, 0, -10) to (8, 6, 0)."""
-        (place,) = places(
-            Town(
-                solid_table.text([("a", "s", "cube", (0, 0, 0), [(0, 0, -1), (0, 1, 0), (1, 0, 0)], (10, 6, 8))]).split(
-                    "\n"
-                )
+        (place,) = places_in(
+            solid_table.text([("a", "s", "cube", (0, 0, 0), [(0, 0, -1), (0, 1, 0), (1, 0, 0)], (10, 6, 8))]).split(
+                "\n"
             )
         )
         self.assertEqual((place.corner, place.size), ((0, 0, 0), (10, 6, 8)))
@@ -109,11 +112,11 @@ class PutTogether(unittest.TestCase):
         """A float of 64 bits can't hold them."""
         lines = solid_table.text([("a", "s", "quad", (0, 0, 0), UPRIGHT, (0.1, 3, 0))]).split("\n")
         lines = [
-            line.replace("v 0.000000", "v 2683141000000.100000").replace("v 0.100000", "v 2683141000000.200001")
+            line.replace("v 0.000000", "v 268314100000.100000").replace("v 0.100000", "v 268314100000.200001")
             for line in lines
         ]
-        (place,) = places(Town(lines))
-        self.assertEqual((place.corner[0], place.size[0]), (Decimal("2683141000000.1"), Decimal("0.100001")))
+        (place,) = places_in(lines)
+        self.assertEqual((place.corner[0], place.size[0]), (Fraction("268314100000.1"), Fraction("0.100001")))
 
     def test_a_size_that_was_rounded_away(self):
         for kind in ("cube", "shed", "gable", "hip"):
@@ -121,15 +124,11 @@ class PutTogether(unittest.TestCase):
 
     def test_what_print_does_not_draw(self):
         with self.assertRaisesRegex(Refused, "solid 0 of lot 'a' is none that `print` draws"):
-            list(places(Town("o a\ng b\nv 0 0 0\nv 1 0 0\nv 0 1 0\nf 1 2 3\n".split("\n"))))
+            places_in("o a\ng b\nv 0 0 0\nv 1 0 0\nv 0 1 0\nf 1 2 3\n".split("\n"))
         with self.assertRaisesRegex(Refused, "mirror image"):
-            list(
-                places(
-                    Town(
-                        solid_table.text(
-                            [("a", "s", "shed", (0, 0, 0), [(1, 0, 0), (0, 1, 0), (0, 0, -1)], (4, 5, 3))]
-                        ).split("\n")
-                    )
+            places_in(
+                solid_table.text([("a", "s", "shed", (0, 0, 0), [(1, 0, 0), (0, 1, 0), (0, 0, -1)], (4, 5, 3))]).split(
+                    "\n"
                 )
             )
 
@@ -198,7 +197,7 @@ class Ids(unittest.TestCase):
         folder = tempfile.TemporaryDirectory()
         self.addCleanup(folder.cleanup)
         self.folder = Path(folder.name)
-        self.town = Town(solid_table.text(DRAWN).split("\n"))
+        self.town = Town(solid_table.text(DRAWN).split("\n")).lots
 
     def steps(self, text):
         return steps_in(text)
@@ -213,7 +212,7 @@ class Ids(unittest.TestCase):
 
     def test_paths_go_by_numbers(self):
         steps = self.steps("# trace 1\n# step a / wall - - 11\n")
-        town = Town(solid_table.text([("a", "wall", "quad", (0, 0, 0), UPRIGHT, (1, 1, 0))] * 11).split("\n"))
+        town = Town(solid_table.text([("a", "wall", "quad", (0, 0, 0), UPRIGHT, (1, 1, 0))] * 11).split("\n")).lots
         self.assertEqual(ids(town, steps)["a"], [f"a/{number}" for number in range(11)])
 
     def test_without_a_trace(self):
@@ -286,8 +285,8 @@ class Tool(unittest.TestCase):
         self.assertEqual((status, said, fault.count("\n")), (1, "", 1))
         self.assertFalse((self.folder / "places.csv").exists())
         for bad, why in (
-            ("v nan 0 0\nf 1 1 1", "three numbers"),
-            ("v 0 0\nf 1 1 1", "three numbers"),
+            ("v nan 0 0\nf 1 1 1", "three numbers below"),
+            ("v 0 0\nf 1 1 1", "three numbers below"),
             ("v 0 0 0\nf 1 1", "three corners"),
             ("v a 0 0\nf 1 1 1", "'a'"),
             ("v 0 0 0\nf 1 2 1", "vertex 2"),

@@ -68,11 +68,11 @@ class Tables(Written):
         )
         self.assertEqual(
             [(row["symbol"], row["front"], row["volume"]) for row in self.rows("--by", "symbol")],
-            [("wall", "18", "0"), ("roof", "4", "10")],
+            [("roof", "4", "10"), ("wall", "18", "0")],
         )
         self.assertEqual(
             [(row["lot"], row["symbol"], row["front"]) for row in self.rows("--by", "both")],
-            [("a", "wall", "12"), ("a", "roof", "4"), ("b", "wall", "6")],
+            [("a", "roof", "4"), ("a", "wall", "12"), ("b", "wall", "6")],
         )
 
     def test_sums_are_exact(self):
@@ -169,7 +169,7 @@ class Tables(Written):
         for text, told in (
             ("", "is empty"),
             ("<html>", "is HTML"),
-            ("o a\ng b\nv 0 nan 0\nv 1 0 0\nv 0 1 0\nf 1 2 3\n", "vertex 1 hasn't three coordinates"),
+            ("o a\ng b\nv 0 nan 0\nv 1 0 0\nv 0 1 0\nf 1 2 3\n", "vertex 1 hasn't three numbers below 1e+12 as coordinates: '0 nan 0'"),
             ("o a\ng b\nv 0 1e300 0\nv 1 0 0\nv 0 1 0\nf 1 2 3\n", "vertex 1"),
             ("o a\ng b\nv 0 0\nv 1 0 0\nv 0 1 0\nf 1 2 3\n", "vertex 1"),
             ("o a\ng b\nv 0.1234567890123456789012 0 0\nv 1 0 0\nv 0 1 0\nf 1 2 3\n", "22 decimals"),
@@ -248,7 +248,7 @@ class Bills(Written):
         self.town.write_text((TOP / "examples" / "assets.out").read_text())
         self.assertEqual(
             [(row["symbol"], row["solids"], row["front"], row["box"]) for row in self.rows("--by", "symbol")],
-            [("house", "3", "150", "1332"), ("window", "18", "30.24", "6.048"), ("roof", "3", "50", "444")],
+            [("house", "3", "150", "1332"), ("roof", "3", "50", "444"), ("window", "18", "30.24", "6.048")],
         )
 
     def test_a_bill_of_another_town_is_told_and_not_taken(self):
