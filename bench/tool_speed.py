@@ -8,7 +8,6 @@ KINDS is `script`, `obj` or both with a comma between them. Without a TOOL all a
 """
 import argparse
 import os
-import resource
 import subprocess
 import sys
 import tempfile

@@ -67,7 +67,7 @@ def opened_both(old: str, new: str, words: argparse.Namespace) -> Tuple[Opened, 
     before, after = given(old), given(new)
     check_words(words, after, before)
     without = argparse.Namespace(**{**vars(words), "set": []})
-    return read(before, without, True), read(after, words, True)
+    return read(before, without, False), read(after, words, False)
 
 
 def check_words(words: argparse.Namespace, found: Given, *others: Given) -> None:

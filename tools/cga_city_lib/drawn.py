@@ -7,6 +7,7 @@ from functools import lru_cache
 from itertools import chain
 from urllib.parse import quote
 
+from .instances import Reals
 from .progress import counted
 
 AXES = "+X+Y+Z"
@@ -59,3 +60,26 @@ class Meshes:
     def lines(self, town):
         drawn = [(lot, solid) for lot, solids in town.lots.items() for solid in solids]
         return [self.line(name_of(lot), solid, town.points) for lot, solid in counted(drawn, "solids")]
+
+    def lines_of(self, lots):
+        """The same of instances; those of a script are told as they came."""
+        reals, known, lines = Reals(), {}, []
+        for lot, instances in counted(lots.items(), "lots"):
+            head = name_of(lot)
+            for symbol, form, corner in instances:
+                if form.scope:
+                    x, y, z = corner
+                    lines.append(f"{head} {name_of(symbol)} {form.scope.kind} {x} {y} {z} {form.scope.told}")
+                else:
+                    told = known.get(form) or known.setdefault(form, self.of_form(form))
+                    name, low, size = told
+                    place = [number_of(reals[text] + least) for text, least in zip(corner, low)]
+                    lines.append(" ".join([head, name_of(symbol), name, *place, AXES, *size]))
+        return lines
+
+    def of_form(self, form):
+        """The name of a form's mesh, its low corner from its first one on, and its size."""
+        low, high = form.ends()
+        corners = tuple(zip(*(parts_of(axis, a, b) for axis, a, b in zip(zip(*form.points()), low, high))))
+        size = [number_of(round(most - least, 9)) for least, most in zip(low, high)]
+        return self.name(corners, form.faces), low, size

@@ -20,6 +20,7 @@ class Scope(NamedTuple):
     word: str  # of the axes, as `+X+Y+Z`
     axes: Tuple[Whole, Whole, Whole]
     size: Tuple[Fraction, Fraction, Fraction]
+    told: str  # the axes and the size, as a program tells them
 
 
 class Form:
@@ -69,7 +70,7 @@ def form_of(kind: str, word: str, *sizes: str) -> Form:
     local = [tuple(map(Fraction, corner)) for corner in corners(kind, ridge, size)]
     one = over_one([part for corner in local for part in corner])
     turned = tuple(turn([int(part * one) for part in corner], axes) for corner in local)
-    return Form(FACES_FROM_0[kind, ridge], turned, one, Scope(kind, ridge, word, axes, size))
+    return Form(FACES_FROM_0[kind, ridge], turned, one, Scope(kind, ridge, word, axes, size, " ".join((word, *sizes))))
 
 
 def turn(corner: Sequence[int], axes: Sequence[Whole]) -> Whole:

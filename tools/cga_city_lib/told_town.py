@@ -61,11 +61,11 @@ class Teller:
     """A running program that tells changes. `drawn` has what it told in the order of the derivation, where it was one."""
 
     def __init__(self, program: str) -> None:
-        self.first: Optional[List[str]] = None
-        self.counts: Optional["Counter[str]"] = None
+        self.first: Optional[List[bytes]] = None
+        self.counts: Optional["Counter[bytes]"] = None
         self.live = Live(program, self.change)
 
-    def change(self, gone: List[str], come: List[str]) -> None:
+    def change(self, gone: List[bytes], come: List[bytes]) -> None:
         if self.first is None and not gone:
             self.first = come
             return
@@ -78,7 +78,8 @@ class Teller:
         return self.counts is None
 
     def drawn(self) -> List[str]:
-        return list(self.first or ()) if self.counts is None else list((+self.counts).elements())
+        lines = (self.first or ()) if self.counts is None else (+self.counts).elements()
+        return [line.decode("latin-1") for line in lines]
 
     def ask(self, lines: Sequence[str], number: int) -> List[List[str]]:
         """The replies to lines that have so many."""

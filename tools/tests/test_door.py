@@ -1,9 +1,12 @@
 """The tools with a script in the place of an OBJ text: what was given, the same replies, and attributes for one call."""
+import base64
 import csv
 import json
+import re
 import sys
 import tempfile
 import unittest
+import zlib
 from fractions import Fraction
 from pathlib import Path
 
@@ -194,7 +197,10 @@ class ByStandIn(Given):
     def test_pages(self):
         page = self.top / "page.html"
         self.call("view", "--program", TELLER, self.script, page)
-        self.assertIn('"title": "town"', page.read_text(encoding="utf-8"))
+        packed = re.search(r'\{"packed": "(.*?)"\}', page.read_text(encoding="utf-8")).group(1)
+        data = zlib.decompress(base64.b64decode(packed))
+        head = json.loads(data[4 : 4 + int.from_bytes(data[:4], "little")])
+        self.assertEqual((head["title"], head["lots"], head["symbols"]), ("town", ["b", "a"], ["house"]))
 
     def test_the_same_town(self):
         self.town.write_text("\n".join(of_script(3).lines))
