@@ -8,14 +8,14 @@ NAMES = re.compile(
 )
 # what the front end refuses, before the prover is asked
 UNREAD = re.compile(r"(?:\./)?(?:src|specs)/\S+: error(?:\[[\w-]+\])?:|\S+: error\[[\w-]+\]:")
-FUNCTION = re.compile(r"fn (\S+): (not proved|no proof)\b(.*)")
+FUNCTION = re.compile(r"fn (\S+): (not proved|no proof|could not tell)\b(.*)")
 OPEN_GOAL = re.compile(r"note: src/\S+: it is not proved that ")
 
 
 def page_error(function: str) -> "re.Pattern[str]":
     """An answer of the function's page of proof that doesn't fit its goal."""
     page = re.escape("/".join(function.split("::")))
-    return re.compile(rf"(?:\./)?proofs/{page}/(?:Answers|Invariants|Proof)\.antt:\d+:\d+: error: ")
+    return re.compile(rf"(?:\./)?proofs/{page}/(?:Answers|Proof)\.antt:\d+:\d+: error: ")
 
 
 def why_not(said: str, crate: str, function: str) -> str:
@@ -32,11 +32,13 @@ def why_not(said: str, crate: str, function: str) -> str:
 
 
 def fault_of_goals(lines: List[str], name: str, page: "re.Pattern[str]", ended: str) -> str:
-    open_ones = {match[1]: match[3] for line in lines for match in [FUNCTION.match(line)] if match}
+    open_ones = {match[1]: match[0] for line in lines for match in [FUNCTION.match(line)] if match}
     if not open_ones:
         return f"NOT REFUSED, the function is still proved ({ended})"
     if set(open_ones) != {name}:
         return f"refused by {', '.join(sorted(open_ones))}, and not by {name} alone"
+    if "could not tell" in open_ones[name]:
+        return "the prover could not tell, by a limit of its own: choose a change that it refuses sooner"
     if "did not prove" in open_ones[name] or any(OPEN_GOAL.match(line) or page.match(line) for line in lines):
         return ""
-    return f"no goal of {name} is told to be open{open_ones[name]}"
+    return f"no goal is told to be open: {open_ones[name]}"

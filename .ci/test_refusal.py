@@ -14,6 +14,8 @@ LINES = {
     "not proved": "fn cga_word::name::begins: not proved",
     "no proof": "fn cga_word::name::begins: no proof: expected answers in ./proofs; `search` did not prove `returns`",
     "no page": "fn cga_word::name::begins: no proof: expected ./proofs/name/begins/Invariants.antt",
+    "untold": "fn cga_word::name::begins: could not tell",
+    "invariant": "./proofs/name/begins/Invariants.antt:6:13: error: `decreases`: this has another type",
     "caller": "fn cga_word::name::is_name: not proved",
     "proved": "fn cga_word::name::begins: proved",
     "end": "only=1 proved=0",
@@ -40,8 +42,10 @@ class Refusals(unittest.TestCase):
             (("name gone", "open goal", "not proved", "end"), "what the edit took away"),
             (("open goal", "caller", "end"), "refused by cga_word::name::is_name, and not by cga_word::name::begins"),
             (("open goal", "caller", "not proved", "end"), "and not by cga_word::name::begins alone"),
-            (("no page", "end"), "no goal of"),
-            (("page of another", "not proved", "end"), "no goal of"),
+            (("no page", "end"), "no goal is told to be open"),
+            (("page of another", "not proved", "end"), "no goal is told to be open"),
+            (("invariant", "not proved", "end"), "no goal is told to be open"),
+            (("untold", "end"), "could not tell"),
             (("open goal", "not proved"), "came to no end"),
         ):
             with self.subTest(names):
