@@ -10,7 +10,7 @@ from pathlib import Path
 
 from launcher_copy import Copy, waits_for
 
-WORDS = ["--decimals", "--town", "--checked", "--build", "--prove", "--proved", "--help"]
+WORDS = ["--decimals", "--town", "--checked", "--build", "--prove", "--proved", "--version", "--help"]
 
 
 def setUpModule():

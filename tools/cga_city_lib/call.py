@@ -5,7 +5,9 @@ import os
 import re
 import sys
 
+from .guarded import INTERRUPTED, guard_if, is_on_guard, listen
 from .strangers_text import told
+from .version import VERSION
 
 PLAIN = re.compile(r"-\d+|-\d*\.\d+")  # the numbers below 0 that argparse takes for no option
 
@@ -68,6 +70,18 @@ def number_in(low, high, kind=float):
 def call(main, words, text, refused=1):
     """Ends with the status of `main`, which is given the words that were read. `refused` is the status of input that can't
     be taken, for a tool whose status 1 means something else."""
+    is_guarded = is_on_guard()
+    try:
+        listen()
+        status = status_of(main, words, text, refused)
+        guard_if(is_guarded)
+    except KeyboardInterrupt:
+        guard_if(is_guarded)
+        status = INTERRUPTED
+    sys.exit(status)
+
+
+def status_of(main, words, text, refused):
     name, status = os.path.basename(sys.argv[0]), refused
     try:
         status = end_of(main, words, text)
@@ -83,14 +97,17 @@ def call(main, words, text, refused=1):
         said(name, f"{fault.filename or 'output'}: {fault.strerror}")
     except (MemoryError, RecursionError):
         said(name, "the input is too large or too deeply nested for this machine's memory: cut it into parts")
-    except KeyboardInterrupt:
-        status = 130
-    sys.exit(status)
+    return status
 
 
 def end_of(main, words, text):
+    if sys.stdout is None:
+        raise Refused("standard output is closed: send it to a file or to /dev/null")
     if {"--help", "-h"} & set(sys.argv[1:]):
         print(text.strip())
+        status = 0
+    elif "--version" in sys.argv[1:]:
+        print(f"{os.path.basename(sys.argv[0])} of cga_city {VERSION}")
         status = 0
     else:
         sys.stdout.reconfigure(encoding="utf-8", newline="\n")
@@ -111,5 +128,6 @@ def joined(words):
 
 
 def said(name, text, status=1):
-    print(f"{name}: {text}", file=sys.stderr)
+    if sys.stderr is not None:
+        print(f"{name}: {text}", file=sys.stderr)
     return status

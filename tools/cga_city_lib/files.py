@@ -1,6 +1,7 @@
-"""Files of a folder that several programs may read and write at once: never changed in place, and one writer at a time."""
+"""How files are written: whole or not at all, and one writer at a time in a folder that several programs work in."""
 import fcntl
 import os
+import stat
 import sys
 from contextlib import contextmanager
 
@@ -9,17 +10,45 @@ from .call import Refused
 
 def write(path, data):
     """Gives the file these bytes, unless it has them; who reads the old ones reads on in these."""
-    if path.exists() and path.read_bytes() == data:
+    if path.is_file() and path.read_bytes() == data:
         return False
-    new = path.with_name(f"{path.name}.{os.getpid()}.new")
-    try:
-        with naming(path):
-            new.write_bytes(data)
-            new.replace(path)
-    finally:
-        if new.exists():
-            new.unlink()
+    with written(path) as file:
+        file.write(data)
     return True
+
+
+@contextmanager
+def written(path, **text):
+    """A file that is written to take a place; with an `encoding` it is one of text.
+
+    A regular file is replaced as soon as the new one is whole, so that nobody sees a half, and it keeps its mode; a link stays,
+    and the file that it names is replaced. What is no regular file, such as a pipe, is written into.
+    """
+    mode = "w" if text else "wb"
+    try:
+        old = os.stat(path)
+    except FileNotFoundError:
+        old = None
+    if is_written_into(path, old):
+        with naming(path), open(path, mode, **text) as file:
+            yield file
+        return
+    target = os.path.realpath(path)
+    new = f"{target}.{os.getpid()}.new"
+    try:
+        with naming(path), open(new, mode, **text) as file:
+            if old:
+                os.chmod(new, stat.S_IMODE(old.st_mode))
+            yield file
+        os.replace(new, target)
+    finally:
+        if os.path.lexists(new):
+            os.unlink(new)
+
+
+def is_written_into(path, old):
+    """Whether it is no regular file, or one that another process has open under a name of the system's."""
+    return bool(old and not stat.S_ISREG(old.st_mode)) or os.path.abspath(path).startswith(("/dev/", "/proc/"))
 
 
 @contextmanager

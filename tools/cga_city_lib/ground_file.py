@@ -8,7 +8,7 @@ from collections import namedtuple
 from typing import Any, Dict, List, Tuple
 
 from .call import Refused
-from .files import naming
+from .files import written
 from .strangers_text import told
 
 Point = Tuple[float, float]
@@ -75,7 +75,7 @@ def data_of(ground: Ground) -> Dict[str, Any]:
 
 def write_ground(path: str, ground: Ground) -> None:
     text = json.dumps(data_of(ground), separators=(",", ":"), ensure_ascii=False).replace("},{", "},\n{")
-    with naming(path), open(path, "w", encoding="utf-8", errors="replace") as file:
+    with written(path, encoding="utf-8", errors="replace") as file:
         file.write(text + "\n")
 
 

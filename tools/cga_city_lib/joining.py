@@ -8,7 +8,7 @@ from functools import partial
 from itertools import groupby
 
 from .call import Refused
-from .files import naming, write
+from .files import naming, write, written
 from .of_plan import line_of
 from .printed import OBJ, Printed, reading
 from .progress import counted
@@ -106,20 +106,18 @@ def write_piece(given):
 
 
 def join_text(path, found, pool, number, end):
-    """Writes one of the OBJ texts of the town to a file that has another name until it is whole."""
-    part = path.with_name(path.name + ".part")
+    """Writes one of the OBJ texts of the town."""
     given = [(path.with_name(f"{path.name}.{at}.piece"), run) for at, run in enumerate(pieces(found, PIECES * number))]
     try:
-        with naming(path), part.open("wb") as file:
+        with written(path) as file:
             file.write(OBJ)
             for piece in counted(pool(write_piece, given), "pieces joined", len(given)):
                 with piece.open("rb") as read:
                     shutil.copyfileobj(read, file, 1 << 24)
                 piece.unlink()
             file.write(end)
-        part.replace(path)
     finally:
-        for leftover in [part, *(piece for piece, _ in given)]:
+        for leftover, _ in given:
             if leftover.exists():
                 leftover.unlink()
 

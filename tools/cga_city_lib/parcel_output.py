@@ -2,6 +2,7 @@
 import os
 from typing import Any, Callable, List
 
+from .files import written
 from .lot_list import script_of
 from .near_groups import sentences
 from .parcels import Group
@@ -27,17 +28,11 @@ def script(word: Any, rules: Rules, group: Group, comment: str) -> bytes:
 
 
 def town(word: Any, rules: Rules, found: List[Group], say: Callable[[str], None]) -> None:
-    """Writes the town of all groups; a file of another name holds it until it is whole."""
+    """Writes the town of all groups."""
     for sentence in sentences(found, word.reach) if rules.asks else ():
         say(sentence)
-    part = f"{word.town}.part"
-    try:
-        with open(part, "w", encoding="latin-1", newline="\n") as file:
-            faults = write_town(file, word.program, rules, found)
-        os.replace(part, word.town)
-    finally:
-        if os.path.exists(part):
-            os.unlink(part)
+    with written(word.town, encoding="latin-1", newline="\n") as file:
+        faults = write_town(file, word.program, rules, found)
     if faults:
         say(
             f"{len(faults)} shapes came to nothing, the first: {faults[0][2:]}; tools/lint tells why, of the script that --angle writes"

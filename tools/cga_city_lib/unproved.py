@@ -1,6 +1,7 @@
 """`--checked`: a reply by `rt try`, which compiles the same code with its checks for this call, and hands out at most 1 MiB."""
 import os
 import re
+import signal
 import sys
 import tempfile
 
@@ -56,6 +57,8 @@ def hand_out(path):
     try:
         while left:
             left = left[os.write(1, left) :]
+    except BrokenPipeError:
+        sys.exit(128 + signal.SIGPIPE)  # as a program ends whose reader goes
     except OSError:
         say("cannot write")
         sys.exit(4)
