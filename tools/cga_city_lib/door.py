@@ -21,6 +21,9 @@ from .strangers_text import told as shown
 from .told_town import Script, check_settings, refusals, script_of, told_by
 
 
+KEPT: "Dict[str, Opened]" = {}  # towns of scripts that a process keeps, by their paths
+
+
 class Opened:
     """A town, and the file that it came from: its instances lot by lot, and of a script the path of each."""
 
@@ -57,6 +60,8 @@ def add_words(known: Words) -> None:
 
 def opened(path: str, words: argparse.Namespace, is_ordered: bool = True) -> Opened:
     """The town of a script at its end, or the last one of an OBJ text; solids in the order of `print`, where that is wanted."""
+    if path in KEPT and not is_ordered:
+        return KEPT[path]
     found = given(path)
     check_words(words, found)
     return read(found, words, is_ordered)

@@ -24,6 +24,12 @@ class Instance(NamedTuple):
 Lots = Dict[str, List[Instance]]
 
 
+def instance_of(line: str) -> Instance:
+    """The instance that a line tells."""
+    _, symbol, kind, x, y, z, axes, w, h, d = line.split(" ")
+    return Instance(symbol, form_of(kind, axes, w, h, d), (x, y, z))
+
+
 def from_told(told: Told) -> Lots:
     lots: Lots = {lot: [] for lot in told.lots}
     kept: Dict[str, str] = {}

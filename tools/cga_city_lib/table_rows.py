@@ -1,13 +1,39 @@
 """Rows of a table of a town: sums over the solids of a lot, of a symbol, or of both."""
 from collections import Counter
 from fractions import Fraction
-from typing import Dict, Optional, Tuple
+from typing import Callable, Dict, Optional, Tuple
 
 from .forms import Form
 from .measure import Measure, Measured
+from .numerals import decimal, rounded
 from .progress import counted
 
 Key = Tuple[str, ...]
+HEADS = {"lot": ["lot"], "symbol": ["symbol"], "both": ["lot", "symbol"], "town": []}
+KEYS: Dict[str, Callable[[str, str], Key]] = {
+    "lot": lambda lot, symbol: (lot,),
+    "symbol": lambda lot, symbol: (symbol,),
+    "both": lambda lot, symbol: (lot, symbol),
+    "town": lambda lot, symbol: (),
+}
+
+
+def fraction_word(word: str) -> Fraction:
+    if decimal(word) is None:
+        raise ValueError
+    return Fraction(word)
+
+
+def floor_word(word: str) -> Tuple[str, Optional[Fraction]]:
+    """A symbol that draws floors, perhaps with the height of a storey behind it."""
+    symbol, _, storey = word.partition("=")
+    if storey and not fraction_word(storey) > 0:
+        raise ValueError
+    return symbol, fraction_word(storey) if storey else None
+
+
+def shown(number: Optional[Fraction], places: int) -> str:
+    return "" if number is None else rounded(number, places)
 
 
 class Row:
@@ -62,7 +88,7 @@ def storeys_of(measure: Measure, storey: Optional[Fraction], measured: Measured)
 
 
 def rows_of(measured: Measured, by: str, floors: Dict[str, Optional[Fraction]]) -> Dict[Key, Row]:
-    """The rows by lot in the town's order, by symbol in the order of names, or by both. `floors` has a storey's height, or none,
+    """The rows by lot in the town's order, by symbol in the order of names, by both, or the town's. `floors` has a storey's height, or none,
     for each symbol that floors are drawn by."""
     rows: Dict[Key, Row] = {}
     for lot, instances in counted(measured.lots.items(), "lots", len(measured.lots)):
@@ -73,7 +99,7 @@ def rows_of(measured: Measured, by: str, floors: Dict[str, Optional[Fraction]]) 
             storeys = storeys_of(measure, floors[symbol], measured) if symbol in floors else 0
             key = keys.get(symbol)
             if key is None:
-                key = keys[symbol] = {"lot": (lot,), "symbol": (symbol,), "both": (lot, symbol)}[by]
+                key = keys[symbol] = KEYS[by](lot, symbol)
                 rows.setdefault(key, Row(measured.one))
             rows[key].add(measure, number, measured.height(height) + Fraction(measure.top, measured.one), storeys)
     return dict(sorted(rows.items())) if by == "symbol" else rows

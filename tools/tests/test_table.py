@@ -169,7 +169,10 @@ class Tables(Written):
         for text, told in (
             ("", "is empty"),
             ("<html>", "is HTML"),
-            ("o a\ng b\nv 0 nan 0\nv 1 0 0\nv 0 1 0\nf 1 2 3\n", "vertex 1 hasn't three numbers below 1e+12 as coordinates: '0 nan 0'"),
+            (
+                "o a\ng b\nv 0 nan 0\nv 1 0 0\nv 0 1 0\nf 1 2 3\n",
+                "vertex 1 hasn't three numbers below 1e+12 as coordinates: '0 nan 0'",
+            ),
             ("o a\ng b\nv 0 1e300 0\nv 1 0 0\nv 0 1 0\nf 1 2 3\n", "vertex 1"),
             ("o a\ng b\nv 0 0\nv 1 0 0\nv 0 1 0\nf 1 2 3\n", "vertex 1"),
             ("o a\ng b\nv 0.1234567890123456789012 0 0\nv 1 0 0\nv 0 1 0\nf 1 2 3\n", "22 decimals"),
