@@ -5,6 +5,7 @@ import os
 import re
 import sys
 
+from .ends import wait_at_ends
 from .guarded import INTERRUPTED, guard_if, is_on_guard, listen
 from .strangers_text import told
 from .version import VERSION
@@ -83,6 +84,7 @@ def call(main, words, text, refused=1):
 
 def status_of(main, words, text, refused):
     name, status = os.path.basename(sys.argv[0]), refused
+    wait_at_ends()
     try:
         status = end_of(main, words, text)
     except WrongWord as fault:
