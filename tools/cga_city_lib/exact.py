@@ -1,8 +1,9 @@
 """Numbers as they are spelt, held exactly: whole numbers over one denominator for all that is compared."""
 from math import gcd
+from typing import List, Sequence, Tuple
 
 
-def parted(text):
+def parted(text: str) -> Tuple[int, int]:
     """The numerator and the denominator of `-5`, `2.5` or `-5/2`. A ValueError where it spells no number."""
     upper, _, lower = text.partition("/")
     whole, _, decimals = upper.partition(".")
@@ -12,7 +13,7 @@ def parted(text):
     return numerator, denominator
 
 
-def over_one(columns):
+def over_one(columns: Sequence[Sequence[str]]) -> Tuple[int, List[List[int]]]:
     """One denominator, and the columns of texts as whole numbers over it."""
     try:
         return 1, [list(map(int, column)) for column in columns]

@@ -1,5 +1,6 @@
 """Lot lines: a region has many of them, so lines that are spelt as usual are read by one expression."""
 import re
+from typing import List, Match, Optional, Tuple
 
 from .script import LONGEST, words_of
 
@@ -7,12 +8,12 @@ VALUE = r"(-?\d+(?:\.\d+|/\d+)?)"
 USUAL = re.compile(rf"lot ([A-Za-z_]\w*) (\d+(?:\.0+)?) {VALUE} {VALUE} {VALUE} {VALUE} ([A-Za-z_]\w*)", re.ASCII)
 
 
-def usual(line):
+def usual(line: str) -> Optional[Match[str]]:
     """The match of a line with one blank between its parts: the name, the seed, four values and the symbol; else None."""
     return USUAL.fullmatch(line) if len(line) <= LONGEST else None
 
 
-def unusual(line):
+def unusual(line: str) -> Optional[Match[str]]:
     """The same of a line with other blanks or a comment; None where its parts can't be told."""
     words = words_of(line) if len(line) <= LONGEST else []
     values, at = [], 3
@@ -22,7 +23,7 @@ def unusual(line):
     return usual(" ".join(words[:3] + values + words[at:]))
 
 
-def value_at(words, at):
+def value_at(words: List[str], at: int) -> Tuple[str, int]:
     """A value, whose sign and whose slash are words of their own, and the place behind it."""
     last = at + (words[at] == "-")
     if words[last + 1 : last + 2] == ["/"]:

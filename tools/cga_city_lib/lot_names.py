@@ -1,17 +1,18 @@
 """Names of lots: each name of a map kept where it can be, else made one that a script takes, and no two alike."""
 import re
 import unicodedata
+from typing import Container, Iterable, List
 
 from .script import RESERVED
 
 LONGEST = 32
 
 
-def is_name(text):
+def is_name(text: str) -> bool:
     return re.fullmatch(r"[A-Za-z_]\w{0,31}", text, re.ASCII) is not None and text not in RESERVED
 
 
-def made(text):
+def made(text: str) -> str:
     """The nearest name: letters without their marks, `_` for what no name has, `p` in front of a digit."""
     plain = unicodedata.normalize("NFKD", text).encode("ascii", "ignore").decode()
     plain = re.sub(r"\W+", "_", plain, flags=re.ASCII).strip("_")[: LONGEST - 1]
@@ -20,7 +21,7 @@ def made(text):
     return plain if is_name(plain) else "p" + plain if plain[0].isdigit() else plain + "_"
 
 
-def unlike(name, taken):
+def unlike(name: str, taken: Container[str]) -> str:
     """The name, with a number behind it where it is taken."""
     number, other = 1, name
     while other in taken:
@@ -30,7 +31,7 @@ def unlike(name, taken):
     return other
 
 
-def lot_names(texts):
+def lot_names(texts: Iterable[str]) -> List[str]:
     """A name for each text; a text that is a name is kept by the first that has it."""
     kept = {}
     for at, text in enumerate(texts):

@@ -1,7 +1,10 @@
 """Materials of a glTF file: one for each symbol, by its colour and its texture."""
+from pathlib import Path
+from typing import Any, Dict
+
 from .call import Refused
 from .colours import look_of
-from .glb import TRANSFORM
+from .glb import TRANSFORM, Glb
 
 KINDS = {b"\x89PNG": "image/png", b"\xff\xd8\xff": "image/jpeg"}
 REPEAT = 10497
@@ -10,15 +13,15 @@ REPEAT = 10497
 class Materials:
     """The material of each symbol, which is made where it is asked for first; a picture comes into the file once."""
 
-    def __init__(self, glb):
+    def __init__(self, glb: Glb):
         self.glb, self.numbers, self.textures = glb, {}, {}
 
-    def of(self, symbol):
+    def of(self, symbol: str) -> int:
         if symbol not in self.numbers:
             self.numbers[symbol] = self.glb.add("materials", self.material(symbol))
         return self.numbers[symbol]
 
-    def material(self, symbol):
+    def material(self, symbol: str) -> Dict[str, Any]:
         look = look_of(symbol)
         shown = {
             "baseColorFactor": [*(linear(part / 255) for part in look.colour), 1],
@@ -34,7 +37,7 @@ class Materials:
             }
         return {"name": symbol, "doubleSided": True, "pbrMetallicRoughness": shown}
 
-    def texture(self, path):
+    def texture(self, path: Path) -> int:
         if path not in self.textures:
             data = path.read_bytes()
             kind = next((kind for mark, kind in KINDS.items() if data.startswith(mark)), None)
@@ -46,6 +49,6 @@ class Materials:
         return self.textures[path]
 
 
-def linear(part):
+def linear(part: float) -> float:
     """A part of a colour as light, by sRGB's curve."""
     return part / 12.92 if part <= 0.04045 else ((part + 0.055) / 1.055) ** 2.4

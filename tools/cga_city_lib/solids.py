@@ -3,6 +3,9 @@
 A solid is a kind and the way of its ridge: `x` or `z`, along the scope's own axis, and else "". A hip without a ridge ends
 in a point. The way is told beside the sizes, since sizes that were rounded don't tell the longer one.
 """
+from typing import Tuple
+
+Point = Tuple[float, float, float]
 
 FACES = {  # corners from 1, counter-clockwise as seen from outside
     ("cube", ""): ((4, 3, 7, 8), (3, 2, 6, 7), (2, 1, 5, 6), (1, 4, 8, 5), (8, 7, 6, 5), (1, 2, 3, 4)),
@@ -18,7 +21,7 @@ FACES = {  # corners from 1, counter-clockwise as seen from outside
 SOLIDS = {faces: solid for solid, faces in reversed(list(FACES.items()))}
 
 
-def top(kind, ridge, size):
+def top(kind: str, ridge: str, size: Point) -> Tuple[Point, ...]:
     """The corners above the base."""
     w, h, d = size
     if kind == "cube":
@@ -33,7 +36,7 @@ def top(kind, ridge, size):
     return ((w / 2, h, d / 2),)
 
 
-def corners(kind, ridge, size):
+def corners(kind: str, ridge: str, size: Point) -> Tuple[Point, ...]:
     """The corners in a scope of this size, in the order in which `print` writes them."""
     w, h, d = size
     if kind == "quad":
@@ -41,7 +44,7 @@ def corners(kind, ridge, size):
     return ((0, 0, 0), (w, 0, 0), (w, 0, d), (0, 0, d), *top(kind, ridge, size))
 
 
-def ridge_of(kind, size):
+def ridge_of(kind: str, size: Point) -> str:
     """The way of the ridge of a solid whose sizes are exact."""
     w, _, d = size
     if kind == "gable":

@@ -2,11 +2,13 @@
 import json
 import os
 from urllib.parse import quote
+from pathlib import Path
+from typing import Dict
 
 from .call import Refused
 
 
-def tiles_data(tileset, page):
+def tiles_data(tileset: Path, page: Path) -> Dict[str, str]:
     try:
         told = json.loads(tileset.read_bytes())
         is_one = told["asset"]["version"] == "1.1" and "boundingVolume" in told["root"]
@@ -17,6 +19,6 @@ def tiles_data(tileset, page):
     return {"title": tileset.absolute().parent.parent.name, "tileset": address(tileset, page)}
 
 
-def address(tileset, page):
+def address(tileset: Path, page: Path) -> str:
     """The tileset's path from the page's folder on."""
     return quote(os.path.relpath(tileset, page.absolute().parent).replace(os.sep, "/"))
