@@ -72,6 +72,12 @@ def has_check() -> bool:
     return callable(getattr(rt(), "checked", None)) and hasattr(getattr(rt(), "rtlib", None), "crates_below")
 
 
+def has_libraries(name: str) -> bool:
+    """Whether the libraries below a crate are those that `rt ci` left. `rt check` leaves others, each with a stamp."""
+    folders = [TOP / "crates" / low / "out" / "rlib" for low in Program(str(TOP), name).crates() if low != name]
+    return all((it / f"{it.parent.parent.name}.rlib").is_dir() and not (it / "stamp").exists() for it in folders)
+
+
 @functools.lru_cache(maxsize=None)
 def known() -> Dict[str, object]:
     return {crate.name: crate for crate in rt().rtlib.crates_below(str(TOP))}

@@ -96,16 +96,22 @@ def chosen(names: List[str]) -> List[Bug]:
     return [bug for crate in crates() if not names or crate.name in names for bug in bugs_of(crate, BY_FUNCTION)]
 
 
+def why_in_copy(bugs: List[Bug]) -> str:
+    """Why bugs can't be tried over what `rt ci` left; nothing where they can."""
+    if bugs and not kit.has_check():
+        return "this kit's rt has no check of an edit"
+    lacking = sorted({bug.crate.name for bug in bugs if not kit.has_libraries(bug.crate.name)})
+    return f"below {lacking[0]} the libraries in crates/*/out aren't those of rt ci" if lacking else ""
+
+
 def main() -> int:
     given, begun = words(), time.monotonic()
     every, kept = chosen(given.name), Kept(given.all)
     new = sorted((bug for bug in every if not kept.has(bug)), key=lambda bug: (-size(bug.crate.name), bug.name))
-    in_copy = given.copy or bool(new) and not kit.has_check()
-    if in_copy and not given.copy:
-        print(
-            "planted.py: this kit's rt has no check of an edit: each bug is planted in a copy, which builds libraries"
-        )
-    found = list(told(results(new, in_copy, given.jobs), kept))
+    why = "" if given.copy else why_in_copy(new)
+    if why:
+        print(f"planted.py: {why}: each bug is planted in a copy, which builds the libraries below its crate")
+    found = list(told(results(new, given.copy or bool(why), given.jobs), kept))
     failed = sum(bool(it.fault) for _, it in found)
     table(found)
     minutes = (time.monotonic() - begun) / 60
