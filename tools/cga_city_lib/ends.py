@@ -3,7 +3,7 @@ set them so that a read or a write that would have to wait fails. The programs c
 import os
 
 
-def wait_at_ends():
+def wait_at_ends() -> None:
     """From here on a read or a write at each end waits; an end that is closed stays closed."""
     for end in (0, 1, 2):
         try:
