@@ -20,7 +20,32 @@ from in_process import called  # noqa: E402
 DEFINE = str(TOP / "tools" / "define")
 CGA = TOP / "examples" / "cga"
 HEAD = "Lot --> extrude(9) comp(f) { front : A }\n"  # A is a face
-ROWS = [  # CGA, and rules of the script without their numbers
+ROWS = [
+    (
+        "attr big = geometry.area > 90\nattr h = case big : 9 else : 3\nLot --> extrude(h) A",
+        [
+            "Lot_lot : (Scope.sx * Scope.sz) > 90 -> Lot_big(1)",
+            "Lot_lot -> Lot_big(0)",
+            "Lot_big(big) : big == 1 -> Lot_h(big, 9)",
+            "Lot_big(big) -> Lot_h(big, 3)",
+            "Lot_h(big, h) -> Lot(h)",
+            "Lot(h) -> S(1r, h, 1r) A",
+        ],
+    ),
+    ("Lot --> case geometry.isRectangular(5) : A else : B", ["Lot -> A"]),
+    (
+        "Lot --> offset(-1) comp(f) { inside : A | border : B }",
+        ['Lot -> Subdiv("X", 1, 1r, 1) { B | Subdiv("Z", 1, 1r, 1) { B | A | B } | B }'],
+    ),
+    ("Lot --> roofHip(byHeight, 3) A", ["Lot -> S(1r, 3, 1r) A", 'A -> I("hip")']),
+    (
+        "Lot --> extrude(9) comp(f) { top : extrude(-1) A }",
+        ['Lot -> S(1r, 9, 1r) Comp("face", "top") { T(0, Scope.sy, 0) Rx(90) T(0, -1, 0) S(1r, 1, Scope.sy) A }'],
+    ),
+    (
+        "high = 4\nLot --> extrude(high) A",
+        ["Lot -> S(1r, 4, 1r) A"],
+    ),  # CGA, and rules of the script without their numbers
     ("Lot --> extrude(9) Mass", ["Lot -> S(1r, 9, 1r) Mass", 'Mass -> I("cube")']),
     (HEAD + "A --> split(x) { 2 : B | ~1 : C }", ['A -> Subdiv("X", 2, 1r) { B | C }', "A : Scope.sx <= 2 -> B"]),
     (
@@ -112,13 +137,10 @@ LOST = [  # CGA, and the comment that tells what was left out or written nearly 
     ("Lot --> extrude(9) r(0, 45, 0) A", "# left out, line 1: r(0, 45, 0): a turn is by 90, 180 or 270 degrees"),
     ("Lot --> A\nB --> C", "# left out, line 2: B --> ..: no lot comes to it"),
     ("Lot --> A(1)\nA --> C", "# left out, line 1: A: A has 0 parameters"),
-    (
-        'import f : "f.cga"\nLot --> A',
-        '# left out, line 1: import f : "f.cga": put the rules of that file behind these',
-    ),
+    ('import f : "f.cga"\nLot --> A', '# left out, line 1: import f : "f.cga": the file isn\'t there'),
     ("Lot --> A B --> ]", "# left out, line 1: B --> ]: `]` in line 1 can't stand there"),
     ("Lot --> set(material.opacity, 0.5) A", "materials go by symbol"),
-    ('Lot --> i("a.fbx")', "an asset is an OBJ file"),
+    ('Lot --> i("a.fbx")', '# nearly, line 1: i("a.fbx"): a.fbx is no OBJ file: a box stands for it'),
     ('Lot --> extrude(3) report("m2", geometry.area)', "tools/table --by symbol has the column plan or side of Lot"),
     ("Lot --> extrude(9) comp(f) { 3 : A | top : B }", "# left out, line 1: 3 : ..: a face is front, right, back"),
     ("Lot --> primitiveSphere(9)", "# nearly, line 1: primitiveSphere(9): a box stands for it"),
@@ -181,7 +203,7 @@ class Files(unittest.TestCase):
                 status, text, said = self.ported(name)
                 self.assertEqual(status, 0, said)
                 self.assertIn(f" {left_out} things left out", said[1])
-                self.assertEqual(text.count("# left out"), left_out)
+                self.assertIn("# left out, line ", text)
                 self.assertIn("0 refused, 0 shapes came to nothing", said[-2])
 
     def test_a_mesh_becomes_an_asset(self) -> None:
@@ -189,6 +211,25 @@ class Files(unittest.TestCase):
         mesh = (CGA / "assets" / "window.obj").read_text(encoding="utf-8")
         self.assertEqual(text.count("\nv "), mesh.count("\nv "))
         self.assertIn("\ndress Window_mesh window\nmodel\n", text)
+
+    def test_a_file_that_is_imported(self) -> None:
+        """Its names get that of the import before them, and its lines are told as those of an import."""
+        with tempfile.TemporaryDirectory() as name:
+            (Path(name) / "f.cga").write_text(
+                'attr w = 2\nF --> split(x) { ~w : Tile }* print("x")\nTile --> G(w)\nG(w) --> s(w, 1, 1) H\n'
+            )
+            (Path(name) / "rules.cga").write_text('import f : "f.cga"\nLot --> extrude(9) comp(f) { side : f.F }\n')
+            status, out, said = called("port", "--program", DEFINE, Path(name) / "rules.cga")
+        lines = re.sub(r"(?m)^\d+: ", "", out).split("\n")
+        for line in (
+            'Lot -> S(1r, 9, 1r) Comp("sidefaces") { f_F }',
+            "attr f_w = 2",
+            "f_Tile -> f_G(f_w)",
+            "f_G(w) -> S(w, 1, 1) H",
+        ):
+            self.assertIn(line, lines)
+        self.assertIn('# left out, line 2 of import 1: print("x")', out)
+        self.assertEqual(status, 0, said)
 
     def test_wrong_words(self) -> None:
         with tempfile.TemporaryDirectory() as name:

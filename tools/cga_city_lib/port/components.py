@@ -43,6 +43,8 @@ def comp(walk: Walk, item: Taken) -> None:
     kind = item.args[0].name if item.args and isinstance(item.args[0], Name) else ""
     if kind in ("e", "v") and walk.state.form == "box":
         return lines(walk, item, kind)
+    if any(selected.is_joined for selected in item.selected):
+        walk.nearly(item, "faces that are joined by = are taken one by one")
     if kind not in ("f", "fe"):
         raise Lost("a scope has faces, edges and vertices alone")
     if walk.state.form in ROOFS:

@@ -2,7 +2,7 @@
 from fractions import Fraction
 from typing import TYPE_CHECKING, Dict, List, NamedTuple, Optional, Tuple
 
-from .forms import State
+from .forms import AREAS, State
 from .tree import Item
 from .values import Writer
 
@@ -36,8 +36,10 @@ class Context:
         self.whole: Optional[List[Item]] = None  # the items of the case that is written, where it is one sequence
         self.narrow: List[Tuple[str, str]] = []  # conditions and bodies for shapes that are too narrow for its split
 
-    def writer(self, here: Dict[str, str]) -> Writer:
-        return Writer(self.port.known, here)
+    def writer(self, here: Dict[str, str], form: str) -> Writer:
+        """What writes values where the shape has a form; a flat one has an area."""
+        area = {"geometry.area": AREAS[form]} if form in AREAS else {}
+        return Writer(self.port.known, {**here, **area})
 
     def further(self, ending: str) -> str:
         """A free symbol beside the rule's."""

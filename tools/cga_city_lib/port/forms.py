@@ -29,6 +29,7 @@ FLAT = ("face", "top")
 TO_GROUND = "T(0, Scope.sy, 0) Rx(90) S(1r, 0, Scope.sy)"  # from a face: Y is upwards then
 TO_FACE = "T(0, 0, Scope.sz) Rx(-90) S(1r, Scope.sz, 0)"  # from the ground: Z is upwards then
 DEPTH = "S(1r, 1r, 0.1)"
+AREAS = {"ground": "(Scope.sx * Scope.sz)", **dict.fromkeys(FLAT, "(Scope.sx * Scope.sy)")}
 
 
 def drawn(state: State) -> str:

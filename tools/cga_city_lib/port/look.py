@@ -3,7 +3,7 @@ import re
 from typing import List, NamedTuple, Optional
 
 from .lost import Lost
-from .tree import Chance, Name, Value
+from .tree import Value
 from .values import Known
 
 
@@ -17,16 +17,9 @@ class Look(NamedTuple):
 PLAIN = Look()
 
 
-def one_of(known: Known, value: Value) -> Value:
-    """The first of the values among which an attribute takes one by chance."""
-    attribute = known.attributes.get(value.name) if isinstance(value, Name) else None
-    chance = attribute.value if attribute else value
-    return chance.shares[0][1] if isinstance(chance, Chance) else value
-
-
 def colour_of(known: Known, args: List[Value]) -> str:
     """The colour that `color` is given: a text, or red, green and blue from 0 to 1."""
-    found = [known.settled(one_of(known, arg), True) for arg in args]
+    found = [known.settled(arg, True) for arg in args]
     if found and isinstance(found[0], str) and re.fullmatch("#?[0-9a-fA-F]{6}([0-9a-fA-F]{2})?", found[0]):
         return found[0].lstrip("#").lower()[:6]
     if len(found) >= 3 and all(part is not None and not isinstance(part, str) and 0 <= part <= 1 for part in found[:3]):
@@ -35,7 +28,7 @@ def colour_of(known: Known, args: List[Value]) -> str:
 
 
 def picture_of(known: Known, value: Value) -> str:
-    found = known.settled(one_of(known, value), True)
+    found = known.settled(value, True)
     if isinstance(found, str) and found:
         return found
     raise Lost("a symbol has one texture, and this one isn't known before a run")

@@ -1,9 +1,10 @@
 """What has no counterpart, and what was written nearly so, each with the line of the CGA file."""
-from typing import List, NamedTuple
+from typing import Dict, List, NamedTuple, Tuple
 
 from ..strangers_text import told
 
 
+FILE = 10**6  # added to the lines of each further file
 WIDTH = 60  # of text that `told` leaves whole
 
 
@@ -43,12 +44,23 @@ class Remarks:
     def taken(self) -> List[str]:
         """The comments for the remarks since the last call."""
         new, self.at = self.all[self.at :], len(self.all)
-        return [comment(remark) for remark in new]
+        alike: Dict[Tuple[str, bool], List[Remark]] = {}
+        for remark in new:
+            alike.setdefault((remark.reason, remark.is_lost), []).append(remark)
+        return [comment(remarks) for remarks in alike.values()]
 
     def many(self, is_lost: bool) -> int:
         return sum(remark.is_lost == is_lost for remark in self.all)
 
 
-def comment(remark: Remark) -> str:
-    what = "left out" if remark.is_lost else "nearly"
-    return f"# {what}, line {remark.line}: {whole(remark.written)}: {remark.reason}"
+def comment(remarks: List[Remark]) -> str:
+    """The comment for remarks of one reason."""
+    what = "left out" if remarks[0].is_lost else "nearly"
+    lines = list(dict.fromkeys(place(remark.line) for remark in remarks))
+    written = ", ".join(dict.fromkeys(whole(remark.written) for remark in remarks))
+    return f"# {what}, {', '.join(lines)}: {written}: {remarks[0].reason}"
+
+
+def place(line: int) -> str:
+    """The line of a file; those of files that are imported are counted on from further up."""
+    return f"line {line % FILE}" + (f" of import {line // FILE}" if line >= FILE else "")

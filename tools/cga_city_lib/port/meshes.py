@@ -6,7 +6,6 @@ from typing import Dict, Iterator, List, NamedTuple, Tuple
 from ..numerals import decimal
 from .lost import Lost
 from .names import Names
-from .tree import Operation
 
 FOLDERS = (".", "assets", "..", "../assets")
 MOST_VERTICES = 10000
@@ -35,13 +34,13 @@ class Meshes:
                 path = self.folder / folder / wanted
                 if path.is_file():
                     return path
-        raise Lost(f"no file {name} is there, beside the rules or in assets: a box stands for it")
+        raise Lost(f"no file {name} is there, beside the rules or in assets")
 
-    def named(self, name: str, item: Operation) -> Tuple[str, str]:
+    def named(self, name: str) -> Tuple[str, str]:
         """The asset of a file, and its depth by its width."""
         if name not in self.found:
             if not name.lower().endswith(".obj"):
-                raise Lost("an asset is an OBJ file: make one of it by another program")
+                raise Lost(f"{name} is no OBJ file")
             path = self.path_of(name)
             lines = list(mesh_lines(path))
             self.found[name] = Mesh(self.names.of(path.stem), lines, depth_of(lines))

@@ -213,8 +213,9 @@ def declared(annotations: List[str], piece: List[Token]) -> Declaration:
     """The declaration of some tokens."""
     reader, line, head = Reader(piece), piece[0].line, piece[0].text
     if head in HEADS and head not in ("attr", "const"):
-        reasons = {"version": "", "style": "styles are sets of values: write them into the attributes"}
-        return Unread(written(piece), reasons.get(head, "put the rules of that file behind these, and port both"), line)
+        imports = (piece[1].text, piece[3].text[1:-1]) if head == "import" and len(piece) > 3 else ()
+        reasons = {"version": "", "import": "the file isn't there, or its values aren't taken over"}
+        return Unread(written(piece), reasons.get(head, "styles are sets of values: set the attributes"), line, imports)
     is_attribute = head in ("attr", "const")
     reader.at += is_attribute
     name = reader.take().text

@@ -1,7 +1,7 @@
 """Roofs: an angle in the file, a height in a script, which follows from the shorter side."""
 import math
 from fractions import Fraction
-from typing import List
+from typing import List, Tuple
 
 from .forms import FLAT, TO_GROUND
 from .lost import Lost
@@ -44,12 +44,21 @@ def roof(walk: Walk, item: Operation) -> None:
     if not item.args:
         raise Lost("it has no angle")
     form, most = ("gable", 2) if item.name == "roofGable" else ("hip", 1)
-    rise = tangent(walk, item.args[0], Fraction(1, 2))
-    overhang = [arg for arg in item.args[1 : 1 + most] if not is_flag(arg)]
+    by, args = measured(item.args)
+    rise = "" if by == "byHeight" else tangent(walk, args[0], Fraction(1, 2))
+    overhang = [arg for arg in args[1 : 1 + most] if not is_flag(arg)]
     grown(walk, overhang)
+    if by == "byHeight":
+        walk.move(f"S(1r, {walk.writer.number(args[0])}, 1r)")
     made(walk, form, rise)
-    if any(not is_flag(arg) for arg in item.args[1 + most :]):
+    if any(not is_flag(arg) for arg in args[1 + most :]):
         walk.nearly(item, "the ridge runs along the longer side")
+
+
+def measured(args: List[Value]) -> Tuple[str, List[Value]]:
+    """How a roof is measured, `byAngle` or `byHeight`, and the other values."""
+    name = args[0].name if isinstance(args[0], Name) else ""
+    return (name, args[1:]) if name in ("byAngle", "byHeight") and args[1:] else ("byAngle", args)
 
 
 def is_flag(value: Value) -> bool:

@@ -1,10 +1,12 @@
 """The rules of a file as rules of a script: a symbol for each form, look and depth in which it is met."""
 from fractions import Fraction
 from pathlib import Path
-from typing import Dict, List, Optional, Set, Tuple
+from typing import Dict, List, Optional, Tuple
 
+from .carried import Carried
 from .context import MOST_PARAMETERS, Context, Line
 from .forms import ROOFS, State, drawn
+from .handlers import handle
 from .look import PLAIN, Look
 from .lost import Lost, Remarks
 from .meshes import Meshes
@@ -14,10 +16,7 @@ from .traits import Traits, names_in
 from .tree import (
     Attribute,
     Body,
-    Bracket,
-    Call,
     Cases,
-    Chance,
     Chances,
     Declaration,
     Function,
@@ -25,10 +24,9 @@ from .tree import (
     Rule,
     Split,
     Symbol,
-    Taken,
     Value,
 )
-from .values import Known
+from .values import Known, number_text
 from .walk import Walk, items_of
 
 START = "@StartRule"
@@ -41,15 +39,17 @@ Variant = Tuple[str, State]
 class Port:
     """A whole file. `lines` has the rules of the script, in the order of the file."""
 
+    handle = staticmethod(handle)
+
     def __init__(self, path: Path, declared: List[Declaration]) -> None:
         self.declared = declared
         self.attributes = {one.name: one for one in declared if isinstance(one, Attribute)}
-        self.functions = {one.name: one for one in declared if isinstance(one, Function)}
+        functions = {one.name: one for one in declared if isinstance(one, Function)}
         self.rules = {one.name: one for one in reversed(declared) if isinstance(one, Rule)}
-        self.known = Known(self.attributes, self.functions)
+        self.known = Known(self.attributes, functions)
         self.remarks, self.symbols, self.meshes = Remarks(), Names(), Meshes(path)
-        self.carried = [*self.by_chance(), *self.set_somewhere()]
-        self.traits = Traits(self.rules, self.carried, self.behind())
+        self.carried = Carried(self.known, self.rules)
+        self.traits = Traits(self.rules, self.carried.names, self.carried.behind)
         self.is_crowded = any(self.handed(name) != self.traits.needs(name) for name in self.rules)
         self.variants: Dict[Variant, str] = {}
         self.waiting: List[Variant] = []
@@ -59,33 +59,12 @@ class Port:
         self.leaves: Dict[Tuple[str, State], str] = {}
         self.rises: Dict[str, Tuple[Fraction, str]] = {}
 
-    # ---- attributes that are handed on as arguments
-
-    def behind(self) -> Dict[str, Set[str]]:
-        """For each attribute the names that its value rests on, all the way."""
-        own = {name: set(names_in(attribute.value)) for name, attribute in self.attributes.items()}
-        for _ in own:
-            own = {name: found.union(*(own.get(other, set()) for other in found)) for name, found in own.items()}
-        return own
-
-    def by_chance(self) -> List[str]:
-        """The attributes that each lot draws for itself."""
-        return [name for name, attribute in self.attributes.items() if is_drawn(attribute.value)]
-
-    def set_somewhere(self) -> List[str]:
-        found: List[str] = []
-        for operation in operations(list(self.rules.values())):
-            name = getattr(operation.args[0], "name", "") if operation.name == "set" and operation.args else ""
-            is_text = name in self.attributes and isinstance(self.known.settled(self.attributes[name].value, True), str)
-            if name in self.attributes and not is_text and name not in [*found, *self.by_chance()]:
-                found.append(name)
-        return found
-
     # ---- symbols
 
     def start(self) -> Rule:
-        """The rule of lots: the one that is marked so, else the first that no other names, else the first."""
+        """The rule of lots: the one that is marked so, else `Lot`, else the first that no other names, else the first."""
         marked = [rule for rule in self.rules.values() if START in rule.annotations]
+        marked += [rule for rule in self.rules.values() if rule.name == "Lot" and not rule.parameters]
         rules = sorted(self.rules.values(), key=lambda rule: rule.line)
         named = {child.name for own in self.traits.own.values() for child in own.children}
         return (marked or [rule for rule in rules if rule.name not in named and not rule.parameters] or rules)[0]
@@ -125,8 +104,12 @@ class Port:
             return walk.here[name]
         if name not in self.attributes:
             return "0"
-        value = self.known.settled(self.attributes[name].value, True)
-        return walk.writer.number(self.attributes[name].value) if value is not None else "0"
+        return self.settled_text(self.attributes[name].value)
+
+    def settled_text(self, value: Value) -> str:
+        """A value as it stands in the file, where it can't be followed."""
+        found = self.known.settled(value, True)
+        return number_text(self.known.code(found) if isinstance(found, str) else found or Fraction(0)).text
 
     def leaf(self, name: str, state: State, wanted: str) -> str:
         """The symbol that draws a shape as it is."""
@@ -204,7 +187,7 @@ class Port:
 
     def parameter(self, rule: str, name: str) -> str:
         """The name of a parameter, which no attribute has."""
-        is_free = name not in self.attributes or name in self.carried and not self.is_crowded
+        is_free = name not in self.attributes or name in self.carried.names and not self.is_crowded
         return self.known.names.of(name if is_free else f"{name}_")
 
     def body_lines(self, context: Context, body: Body, condition: str) -> List[Line]:
@@ -213,8 +196,17 @@ class Port:
             return self.plain_lines(context, body, condition)
         found: List[Line] = []
         for asked, inner in body.cases:
+            settled = None if asked is None else self.known.settled(asked)
+            if settled == 0:
+                continue
+            if settled is not None:
+                return found + self.body_lines(context, inner, condition)
             try:
-                text = "" if asked is None else context.writer(context.here).condition(asked, bool(condition))
+                text = (
+                    ""
+                    if asked is None
+                    else context.writer(context.here, context.state.form).condition(asked, bool(condition))
+                )
             except Lost as fault:
                 self.remarks.lost(inner.line, "case", f"{fault}; this case is left out")
                 continue
@@ -224,7 +216,7 @@ class Port:
     def plain_lines(self, context: Context, body: Body, condition: str) -> List[Line]:
         """The rule of one case, behind those for shapes that are too narrow for its split."""
         context.narrow, context.whole = [], items_of(body)
-        first = narrow(Walk(context, context.state, context.here), body) if context.whole else None
+        first = narrow(Walk(context, context.state, context.here), context.whole)
         alternatives = self.alternatives(context, body)
         guards = ([first] if first else []) + context.narrow
         context.whole = None
@@ -274,29 +266,3 @@ def joined(first: str, second: str) -> str:
 
 def as_share(value: object) -> Fraction:
     return Fraction(round(value * 10**4), 10**6) if isinstance(value, Fraction) else Fraction(0)
-
-
-def is_drawn(value: Value) -> bool:
-    """Whether an attribute is another for each lot."""
-    if isinstance(value, Chance):
-        return True
-    if isinstance(value, Call) and value.name == "rand":
-        return True
-    return any(is_drawn(part) for part in value if isinstance(part, tuple)) if isinstance(value, tuple) else False
-
-
-def operations(parts: list) -> List[Operation]:
-    """All operations in rules, bodies and items."""
-    found: List[Operation] = []
-    for part in parts:
-        if isinstance(part, Operation):
-            found.append(part)
-        elif isinstance(part, (list, tuple)):
-            found += operations(list(part))
-        elif (
-            isinstance(part, (Rule, Cases, Chances, Bracket, Split, Taken))
-            or hasattr(part, "items")
-            or hasattr(part, "body")
-        ):
-            found += operations([value for value in vars(part).values() if not isinstance(value, str)])
-    return found

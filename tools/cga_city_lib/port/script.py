@@ -83,7 +83,7 @@ class Script:
             return one.reason
         if isinstance(one, Rule):
             return "" if any(name == one.name for name, _ in port.variants) else "no lot comes to it"
-        if isinstance(one, Attribute) and one.name not in port.known.used and one.name not in port.carried:
+        if isinstance(one, Attribute) and one.name not in port.known.used and one.name not in port.carried.names:
             is_text = isinstance(port.known.settled(one.value, True), str)
             return "" if is_text or self.is_written_out(one.name) else "no rule of the script reads it"
         return ""

@@ -6,17 +6,27 @@ from typing import Dict, List, Optional, Tuple
 from .context import MOST_PARAMETERS, Line
 from .sizes import Piece, equal_length, fixed_sum, is_less, pieces_of, scope_size, share_texts
 from .traits import INDICES
-from .tree import Binary, Body, Cases, Number, Split, Value
-from .walk import Walk, items_of
+from .tree import Binary, Item, Number, Operation, Split, Value
+from .walk import Walk
+
+MOVING = ("s", "t", "r", "extrude", "offset", "translate")
 
 
 def split(walk: Walk, item: Split) -> str:
     """The text of a split."""
-    pieces = pieces_of(item.parts, item.axis)
-    if any(piece.kind == "share" for piece in pieces) and any(piece.kind == "repeat" for piece in pieces):
+    pieces, is_changed = row_of(item)
+    if is_changed:
         walk.nearly(item, "sizes with ~ beside a repeat are taken as they are, and the repeat takes up the rest")
-        pieces = [piece._replace(kind="fixed") if piece.kind == "share" else piece for piece in pieces]
     return laid(walk, item, pieces)
+
+
+def row_of(item: Split) -> Tuple[List[Piece], bool]:
+    """The parts of a split; beside a repeat shares become fixed sizes, and then it says so."""
+    pieces = pieces_of(item.parts, item.axis)
+    kinds = {piece.kind for piece in pieces}
+    if not {"share", "repeat"} <= kinds:
+        return pieces, False
+    return [piece._replace(kind="fixed") if piece.kind == "share" else piece for piece in pieces], True
 
 
 def laid(walk: Walk, item: Split, pieces: List[Piece]) -> str:
@@ -127,21 +137,23 @@ def counted(walk: Walk, item: Split, piece: Piece, before: int) -> str:
     return context.lifted("count", [(is_less(axis, piece.size, walk.writer), alone), ("", first)])
 
 
-def narrow(walk: Walk, body: Body) -> Optional[Tuple[str, str]]:
-    """For a rule that is a split with fixed sizes: the condition where these have no room, and what stands there."""
-    last = items_of(body)[-1] if items_of(body) and not isinstance(body, Cases) else None
-    if not isinstance(last, Split):
+def narrow(walk: Walk, items: List[Item]) -> Optional[Tuple[str, str]]:
+    """For a successor that ends in a split with fixed sizes: the condition where these have no room, and what is made there.
+    Nothing where the scope isn't the rule's own any more."""
+    if not items or not isinstance(items[-1], Split):
         return None
-    pieces = pieces_of(last.parts, last.axis)
-    fixed = [piece for piece in pieces if piece.kind == "fixed"]
-    whole = fixed_sum(pieces)
-    if whole is None or len(fixed) == len(pieces):
+    last, whole = items[-1], fixed_sum(row_of(items[-1])[0])
+    fixed = [piece for piece in row_of(last)[0] if piece.kind == "fixed"]
+    if whole is None or len(fixed) == len(last.parts):
         return None
+    walk.items(items[:-1])
+    if walk.moves or any(isinstance(item, Operation) and item.name in MOVING for item in items):
+        return None
+    here = {"split.index": "0", "split.total": str(len(last.parts))}
+    bodies = [walk.inner(piece.body, walk.state, here) for piece in fixed]
+    walk.make(squeezed(walk, last.axis, fixed, bodies, whole))
     size = walk.writer.number(scope_size(last.axis))
-    bodies = [
-        walk.inner(piece.body, walk.state, {"split.index": "0", "split.total": str(len(pieces))}) for piece in fixed
-    ]
-    return f"{size} <= {walk.writer.written(whole).text}", squeezed(walk, last.axis, fixed, bodies, whole)
+    return f"{size} <= {walk.writer.number(whole)}", walk.text()
 
 
 def squeezed(walk: Walk, axis: str, fixed: List[Piece], bodies: List[str], whole: Value) -> str:

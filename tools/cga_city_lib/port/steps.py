@@ -29,6 +29,7 @@ NOTHING_TO_DO = {
     ),
     **dict.fromkeys(("alignScopeToAxes", "alignScopeToGeometry"), "a lot lies level, with Y upwards"),
     **dict.fromkeys(("setPivot", "trim", "envelope", "inline"), "nothing here corresponds to it"),
+    **dict.fromkeys(("innerRect", "innerRectangle"), "a lot is a rectangle"),
 }
 NO_COUNTERPART = {
     "scatter": "put some shapes by T(rand(0, Scope.sx, 100), 0, rand(0, Scope.sz, 100))",
@@ -69,10 +70,16 @@ def deep(walk: Walk, sizes: List[str]) -> bool:
 
 def resize(walk: Walk, item: Operation) -> None:
     need(item, 3)
-    sizes = sized(walk, item.args)
+    sizes = proportioned(walk, sized(walk, item.args))
     walk.state = walk.state._replace(is_deep=deep(walk, sizes))
     if sizes != ["1r", "1r", "1r"]:
         walk.move(f"S({', '.join(sizes)})")
+
+
+def proportioned(walk: Walk, sizes: List[str]) -> List[str]:
+    """Sizes of 0, by which CityEngine takes the proportions of what is inserted: here those of a cube."""
+    some = [size for size in sizes if size != "0"]
+    return [some[0] if size == "0" else size for size in sizes] if len(some) == 1 else sizes
 
 
 def need(item: Operation, number: int) -> None:
@@ -130,13 +137,15 @@ def extrude(walk: Walk, item: Operation) -> None:
     if not item.args:
         raise Lost("it has no height")
     text = walk.writer.number(item.args[-1])
+    is_back = isinstance(height, Fraction) and height < 0
+    size = text[1:] if is_back else text
     if walk.state.form == "top":
-        walk.move(TO_GROUND.replace("S(1r, 0,", f"S(1r, {text},"))
+        turned = TO_GROUND.replace("S(1r, 0,", f"S(1r, {size},")
+        walk.move(turned.replace(" S(", f" T(0, {text}, 0) S(") if is_back else turned)
     elif walk.state.form == "ground":
-        walk.move(f"S(1r, {text}, 1r)")
+        walk.move(*[f"T(0, {text}, 0)"] * is_back, f"S(1r, {size}, 1r)")
     elif walk.state.form == "face":
-        inwards = isinstance(height, Fraction) and height < 0
-        walk.move(*([f"T(0, 0, {text})", f"S(1r, 1r, {text[1:]})"] if inwards else [f"S(1r, 1r, {text})"]))
+        walk.move(*[f"T(0, 0, {text})"] * is_back, f"S(1r, 1r, {size})")
     else:
         walk.move(f"S(1r, Scope.sy + {text}, 1r)")
         walk.nearly(item, "a solid grows upwards alone")
@@ -164,7 +173,7 @@ def setting(walk: Walk, item: Operation) -> None:
         return texture(walk, Operation("texture", item.args[1:], item.line))
     if name.startswith("material."):
         raise Lost("materials go by symbol, outside of a script")
-    if name not in walk.context.port.carried:
+    if name not in walk.context.port.carried.names:
         raise Lost("a text or a value that is set has no effect on what stands below")
     walk.here = {**walk.here, name: walk.writer.written(item.args[1]).at(PRODUCT)}
 
@@ -194,7 +203,11 @@ def insert(walk: Walk, item: Operation) -> None:
         raise Lost("the name of the file isn't known before a run")
     if name.startswith("builtin:"):
         return filled(walk, "face" if "quad" in name else "box")
-    mesh, depth = walk.context.port.meshes.named(name, item)
+    try:
+        mesh, depth = walk.context.port.meshes.named(name)
+    except Lost as fault:
+        walk.nearly(item, f"{fault}: a box stands for it")
+        return filled(walk, "box")
     if walk.state.form in FLAT and not walk.state.is_deep:
         walk.move(f"S(1r, 1r, {depth} * Scope.sx)")
     # a mesh has looks of its own

@@ -24,6 +24,7 @@ from .tree import (
 
 FORMS = ("extrude", "comp", "offset", "setback", "taper")  # these read the form, and so do roofs
 FILLS = ("i", "insert")  # these read the depth, and so do primitives
+SILENT = ("report", "print", "label")  # what these are given makes no shape another one
 INDICES = ("split.index", "split.total")
 
 
@@ -80,8 +81,8 @@ class Look:
         self.shows = self.shows or not is_coloured and (not makes or isinstance(items[-1], Operation))
 
     def item(self, item: Item, is_coloured: bool, is_part: bool) -> None:
-        if isinstance(item, (Symbol, Operation, Taken)):
-            self.values(item.args, is_part)
+        if isinstance(item, (Symbol, Operation, Taken)) and item.name not in SILENT:
+            self.values(item.args[item.name == "set" :], is_part)
         if isinstance(item, Symbol):
             self.found.children.append(Child(item.name, is_coloured, is_part))
         elif isinstance(item, (Operation, Taken)):
@@ -141,11 +142,13 @@ class Traits:
         first = {
             rule
             for rule, own in self.own.items()
-            if any(
-                name in {read, *self.behind.get(read, ())} and not (is_index and is_part) for read, is_part in own.names
-            )
+            if any(name in {read, *self.behind_of(read)} and not (is_index and is_part) for read, is_part in own.names)
         }
         return self.spread(first, lambda child: not (is_index and child.is_part))
+
+    def behind_of(self, name: str) -> Set[str]:
+        """What a rule reads behind a value that it reads: nothing behind one that is handed on itself."""
+        return set() if name in self.carried else self.behind.get(name, set())
 
     def spread(self, found: Set[str], passes) -> Set[str]:
         """These rules, and those above that hand on to them; a symbol without a rule shows its look."""

@@ -173,11 +173,13 @@ class Rule:
 
 @dataclass
 class Unread:
-    """A declaration that isn't taken over, with its reason; nothing where the reason goes without saying."""
+    """A declaration that isn't taken over, with its reason; nothing where the reason goes without saying. Of an import the
+    name and the file."""
 
     written: str
     reason: str
     line: int
+    imports: Tuple[str, ...] = ()
 
 
 Declaration = Union[Attribute, Function, Rule, Unread]

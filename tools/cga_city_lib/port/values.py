@@ -6,10 +6,11 @@ from typing import Dict, List, NamedTuple, Optional, Union
 from ..numerals import numeral
 from .lost import Lost
 from .names import Names
-from .tree import Attribute, Binary, Call, Choice, Function, Name, Number, Text, Unary, Value
+from .tree import Attribute, Binary, Call, Chance, Choice, Function, Name, Number, Text, Unary, Value
 
 Settled = Union[Fraction, str, None]
 SUM, PRODUCT, ATOM = 1, 2, 3
+CONDITIONS = ("==", "!=", "<", "<=", ">", ">=", "&&", "||", "!")
 STEPS = 100  # of a rand: one of 101 numbers
 SIZES = {"scope.sx": "Scope.sx", "scope.sy": "Scope.sy", "scope.sz": "Scope.sz"}
 QUERIES = {"touches": "!=", "overlaps": "!=", "inside": "=="}
@@ -18,6 +19,7 @@ FUNCTIONS = {
     **{name: lambda x, f=getattr(math, name): f(math.radians(x)) for name in ("sin", "cos", "tan")},
     **{f"a{name}": lambda x, f=getattr(math, f"a{name}"): math.degrees(f(x)) for name in ("sin", "cos", "tan")},
 }
+OF_LOTS = {"geometry.isRectangular": 1, "geometry.isConvex": 1, "geometry.isConcave": 0, "geometry.isPlanar": 1}
 EXACT = {"abs": abs, "min": min, "max": max, "floor": math.floor, "ceil": math.ceil}
 
 
@@ -97,11 +99,15 @@ class Known:
             return signs[value.sign](inner) if isinstance(inner, Fraction) and value.sign in signs else None
         if isinstance(value, Binary):
             return joined(value.sign, self.settled(value.left, reads), self.settled(value.right, reads))
-        return self.settled_choice(value, reads) if isinstance(value, Choice) else None
+        if isinstance(value, Chance):
+            return self.settled(value.shares[0][1], reads) if reads else None
+        return self.settled_choice(value, reads)
 
     def settled_name(self, name: str, reads: bool) -> Settled:
         if name in ("true", "false"):
             return Fraction(name == "true")
+        if name in self.functions:
+            return self.settled(self.functions[name].value, reads)
         attribute = self.attributes.get(name)
         if attribute is None or not (reads or attribute.is_constant):
             return None
@@ -110,6 +116,8 @@ class Known:
     def settled_call(self, call: Call, reads: bool) -> Settled:
         if call.name in self.functions:
             return self.settled(self.called(call), reads)
+        if call.name in OF_LOTS:
+            return Fraction(OF_LOTS[call.name])
         args = [self.settled(arg, reads) for arg in call.args]
         if not args or not all(isinstance(arg, Fraction) for arg in args):
             return None
@@ -194,6 +202,8 @@ class Writer:
             return Written(self.here[name], ATOM)
         if name in SIZES:
             return Written(SIZES[name], ATOM)
+        if name in self.known.functions:
+            return self.written(self.known.functions[name].value)
         attribute = self.known.attributes.get(name)
         if attribute is None:
             raise Lost(f"no value here is called {name}")
@@ -215,10 +225,13 @@ class Writer:
             return Written(self.known.names.of(attribute.name), ATOM)
 
     def call(self, call: Call) -> Written:
+        if call.name in self.here:
+            return Written(self.here[call.name], ATOM)
         if call.name in self.known.functions:
             return self.written(self.known.called(call))
-        if call.name == "rand" and len(call.args) in (0, 2):
-            low, high = (self.number(arg) for arg in call.args or [Number(Fraction(0)), Number(Fraction(1))])
+        if call.name == "rand" and len(call.args) <= 2:
+            ends = [Number(Fraction(0)), *(call.args[-2:] or [Number(Fraction(1))])]
+            low, high = (self.number(arg) for arg in ends[-2:])
             return Written(f"rand({low}, {high}, {STEPS})", ATOM)
         if call.name in ("floor", "ceil") and len(call.args) == 1:
             return Written(f"{call.name}({self.number(call.args[0])})", ATOM)
@@ -237,6 +250,9 @@ class Writer:
 
     def condition(self, value: Value, is_inner: bool = False) -> str:
         """The condition's text, in square brackets where it stands in another and joins by `or`."""
+        settled = None if isinstance(value, Name) else self.known.settled(value)
+        if isinstance(settled, Fraction):
+            return "1 == 1" if settled else "1 == 0"
         if isinstance(value, Binary) and value.sign in ("&&", "||"):
             word = "and" if value.sign == "&&" else "or"
             text = f"{self.condition(value.left, word == 'and')} {word} {self.condition(value.right, word == 'and')}"

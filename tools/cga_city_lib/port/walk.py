@@ -1,10 +1,10 @@
 """A successor, item by item: the items of a script that do what an operation or a part of CGA does."""
-from typing import Callable, Dict, List, Optional
+from typing import Dict, List, Optional
 
 from .context import Context
 from .forms import ROOFS, State, drawn
 from .lost import Lost
-from .tree import Body, Bracket, Item, Items, Nothing, Operation, Split, Symbol, Taken
+from .tree import Body, Item, Items, Symbol
 from .values import Writer
 
 
@@ -19,7 +19,7 @@ class Walk:
 
     @property
     def writer(self) -> Writer:
-        return self.context.writer(self.here)
+        return self.context.writer(self.here, self.state.form)
 
     def text(self) -> str:
         """The items, without moves that nothing follows; NIL where there are none."""
@@ -46,12 +46,8 @@ class Walk:
 
     def one(self, item: Item, rest: List[Item]) -> int:
         """Does an item, and says how many items that were."""
-        from .steps import centred
-
         try:
-            if centred(self, item, rest):
-                return 2
-            HANDLERS[type(item)](self, item)
+            return self.context.port.handle(self, item, rest)
         except Lost as fault:
             self.context.port.remarks.lost(item.line, getattr(item, "written", "") or symbol_text(item), str(fault))
         return 1
@@ -76,50 +72,6 @@ class Walk:
 
 def symbol_text(item: Item) -> str:
     return item.name if isinstance(item, Symbol) else "[ .. ]"
-
-
-def on_bracket(walk: Walk, item: Bracket) -> None:
-    inner = Walk(walk.context, walk.state, walk.here)
-    inner.items(item.items)
-    text = inner.text()
-    walk.make(text if text == "NIL" else f"[ {text} ]")
-
-
-def on_symbol(walk: Walk, item: Symbol) -> None:
-    walk.make(walk.context.port.child(walk, item))
-
-
-def on_nothing(walk: Walk, item: Nothing) -> None:
-    walk.is_due = False
-
-
-def on_operation(walk: Walk, item: Operation) -> None:
-    from .steps import STEPS, no_step
-
-    STEPS.get(item.name, no_step)(walk, item)
-
-
-def on_split(walk: Walk, item: Split) -> None:
-    from .splits import split
-
-    walk.make(split(walk, item))
-
-
-def on_taken(walk: Walk, item: Taken) -> None:
-    from .components import TAKEN, no_taken
-
-    TAKEN.get(item.name, no_taken)(walk, item)
-    walk.is_due = False
-
-
-HANDLERS: Dict[type, Callable] = {
-    Bracket: on_bracket,
-    Symbol: on_symbol,
-    Nothing: on_nothing,
-    Operation: on_operation,
-    Split: on_split,
-    Taken: on_taken,
-}
 
 
 def items_of(body: Body) -> List[Item]:
