@@ -1,10 +1,13 @@
 """The planted bugs. Those of crates/NAME/must-fail are tried by `rt ci`, each over a proof of the whole crate. Those of
 crates/NAME/planted have a line `fn: PATH`, the function below the crate that has to refuse them, and are tried by it alone."""
+import re
 from pathlib import Path
-from typing import Dict, List, NamedTuple, Optional, Tuple
+from typing import Dict, List, NamedTuple, Optional, Set, Tuple
 
 TOP = Path(__file__).resolve().parent.parent
 WHOLE, BY_FUNCTION = "must-fail", "planted"
+# a function with its attributes, of which one may name the cycle of calls that it is in
+IN_CYCLE = re.compile(r"#\[cycle\((\w+)\)\]\n(?:\s*(?:#\[.*\]|//.*)\n)*\s*(?:pub(?:\([a-z]+\))? )?fn (\w+)")
 
 
 class Bug(NamedTuple):
@@ -22,6 +25,14 @@ class Bug(NamedTuple):
 def function_in(edit: Path) -> str:
     heads = [line[4:].strip() for line in edit.read_text(encoding="utf-8").splitlines() if line.startswith("fn: ")]
     return heads[0] if len(heads) == 1 else ""
+
+
+def cycle_of(bug: Bug, texts: Dict[str, str]) -> Set[str]:
+    """The functions that are proved as one with the bug's function: those of its cycle of calls, itself included."""
+    before, _, name = bug.function.rpartition("::")
+    cycles = {function: cycle for text in texts.values() for cycle, function in IN_CYCLE.findall(text)}
+    together = [other for other in cycles if cycles[other] == cycles.get(name)]
+    return {bug.function, *(f"{before}::{other}" for other in together)}
 
 
 def bugs_of(crate: Path, folder: str) -> List[Bug]:

@@ -89,9 +89,10 @@ def load() -> None:
     known()
 
 
-def checked_beside(bug: Bug, texts: Dict[str, str]) -> str:
-    """What a check of the bug's function says, over the libraries that `rt ci` left."""
-    return rt().checked(known()[bug.crate.name], texts, [*ONE, bug.function], None).stdout
+def checked_beside(bug: Bug, texts: Dict[str, str], lemmas: str) -> str:
+    """What a check of the bug's function says, over the libraries that `rt ci` left. A folder holds the lemmas of the crate
+    that earlier checks in it have read."""
+    return rt().checked(known()[bug.crate.name], texts, [*ONE, bug.function], lemmas).stdout
 
 
 class Copy:

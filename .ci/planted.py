@@ -6,16 +6,18 @@ bug counts if a goal of its function stays open, and for no other reason. With -
 libraries `rt check` builds. What passed is kept in the cache folder of the user, under the sums of all that it rests on;
 with --all each bug is tried. The last line is 'N passed, M failed'."""
 import argparse
+import itertools
 import os
 import resource
 import sys
+import tempfile
 import time
 from concurrent.futures import ProcessPoolExecutor
-from typing import Callable, Dict, Iterator, List, NamedTuple, Tuple
+from typing import Callable, Dict, List, NamedTuple, Tuple
 
 import kit
-from bugs import BY_FUNCTION, Bug, applied, bugs_of, crates
-from planted_kept import Kept
+from bugs import BY_FUNCTION, Bug, applied, bugs_of, crates, cycle_of
+from planted_kept import is_kept, keep
 from refusal import why_not
 
 MEMORY = 3_500_000_000  # the most that a check takes
@@ -32,13 +34,19 @@ def tried(bug: Bug, check: Callable[..., str]) -> Tried:
     texts, fault = applied(bug.edit, bug.crate)
     before = resource.getrusage(resource.RUSAGE_CHILDREN)
     if texts is not None:
-        fault = why_not(check(bug, texts), bug.crate.name, bug.function)
+        fault = why_not(check(bug, texts), bug.crate.name, bug.function, cycle_of(bug, texts))
     after = resource.getrusage(resource.RUSAGE_CHILDREN)
-    return Tried(fault, after.ru_utime + after.ru_stime - before.ru_utime - before.ru_stime)
+    it = Tried(fault, after.ru_utime + after.ru_stime - before.ru_utime - before.ru_stime)
+    print(f"planted {bug.name}: {it.fault or f'refused by {bug.function}'}, {it.seconds:.0f} s", flush=True)
+    if not it.fault:
+        keep(bug)
+    return it
 
 
-def tried_beside(bug: Bug) -> Tried:
-    return tried(bug, kit.checked_beside)
+def tried_beside(bugs: List[Bug]) -> List[Tried]:
+    """The bugs of a crate one after the other, so that what they cite of it is read once."""
+    with tempfile.TemporaryDirectory(prefix="cga-planted-") as lemmas:
+        return [tried(bug, lambda *edit: kit.checked_beside(*edit, lemmas)) for bug in bugs]
 
 
 def processes() -> int:
@@ -48,23 +56,14 @@ def processes() -> int:
     return max(1, min(len(os.sched_getaffinity(0)), free // MEMORY))
 
 
-def results(bugs: List[Bug], in_copy: bool, jobs: int) -> Iterator[Tuple[Bug, Tried]]:
-    """Each bug with what its try came to: side by side, or one by one in a copy."""
+def results(bugs: List[Bug], in_copy: bool, jobs: int) -> List[Tuple[Bug, Tried]]:
+    """Each bug with what its try came to: crates side by side, or one by one in a copy."""
     if in_copy:
         with kit.Copy() as copy:
-            yield from ((bug, tried(bug, copy.checked)) for bug in bugs)
-    elif bugs:
-        with ProcessPoolExecutor(jobs or processes(), initializer=kit.load) as pool:
-            yield from zip(bugs, pool.map(tried_beside, bugs))
-
-
-def told(found: Iterator[Tuple[Bug, Tried]], kept: Kept) -> Iterator[Tuple[Bug, Tried]]:
-    """Each as it comes: what passed is kept at once."""
-    for bug, it in found:
-        print(f"planted {bug.name}: {it.fault or f'refused by {bug.function}'}, {it.seconds:.0f} s", flush=True)
-        if not it.fault:
-            kept.keep(bug)
-        yield bug, it
+            return [(bug, tried(bug, copy.checked)) for bug in bugs]
+    by_crate = [list(some) for _, some in itertools.groupby(bugs, key=lambda bug: bug.crate)]
+    with ProcessPoolExecutor(jobs or processes(), initializer=kit.load) as pool:
+        return [row for some, tries in zip(by_crate, pool.map(tried_beside, by_crate)) for row in zip(some, tries)]
 
 
 def table(found: List[Tuple[Bug, Tried]]) -> None:
@@ -106,12 +105,13 @@ def why_in_copy(bugs: List[Bug]) -> str:
 
 def main() -> int:
     given, begun = words(), time.monotonic()
-    every, kept = chosen(given.name), Kept(given.all)
-    new = sorted((bug for bug in every if not kept.has(bug)), key=lambda bug: (-size(bug.crate.name), bug.name))
+    every = chosen(given.name)
+    new = [bug for bug in every if given.all or not is_kept(bug)]
+    new.sort(key=lambda bug: (-size(bug.crate.name), bug.name))
     why = "" if given.copy else why_in_copy(new)
     if why:
         print(f"planted.py: {why}: each bug is planted in a copy, which builds the libraries below its crate")
-    found = list(told(results(new, given.copy or bool(why), given.jobs), kept))
+    found = results(new, given.copy or bool(why), given.jobs) if new else []
     failed = sum(bool(it.fault) for _, it in found)
     table(found)
     minutes = (time.monotonic() - begun) / 60

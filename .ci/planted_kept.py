@@ -28,22 +28,19 @@ def sum_of_crate(name: str) -> str:
     return hashlib.sha256("\n".join(said).encode()).hexdigest()
 
 
-class Kept:
-    """What passed, one empty file for each. Where the folder can't be written, nothing is kept."""
+def path(bug: Bug) -> Path:
+    said = f"{sum_of_crate(bug.crate.name)} {bug.name} {sum_of(bug.edit)}"
+    return folder() / hashlib.sha256(said.encode()).hexdigest()
 
-    def __init__(self, takes_nothing: bool):
-        self.takes_nothing = takes_nothing
 
-    def path(self, bug: Bug) -> Path:
-        said = f"{sum_of_crate(bug.crate.name)} {bug.name} {sum_of(bug.edit)}"
-        return folder() / hashlib.sha256(said.encode()).hexdigest()
+def is_kept(bug: Bug) -> bool:
+    return path(bug).exists()
 
-    def has(self, bug: Bug) -> bool:
-        return not self.takes_nothing and self.path(bug).exists()
 
-    def keep(self, bug: Bug) -> None:
-        try:
-            folder().mkdir(parents=True, exist_ok=True)
-            self.path(bug).touch()
-        except OSError as fault:
-            print(f"planted.py: {fault.filename}: {fault.strerror}: what passed isn't kept")
+def keep(bug: Bug) -> None:
+    """An empty file for a bug that passed. Where the folder can't be written, nothing is kept."""
+    try:
+        folder().mkdir(parents=True, exist_ok=True)
+        path(bug).touch()
+    except OSError as fault:
+        print(f"planted.py: {fault.filename}: {fault.strerror}: what passed isn't kept")

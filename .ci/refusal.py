@@ -1,6 +1,6 @@
 """Whether the prover refuses a planted bug as it must: at a goal of the function that the bug names."""
 import re
-from typing import List
+from typing import List, Set
 
 # a page of the proof, or a clause, that names what the edit took away
 NAMES = re.compile(
@@ -18,8 +18,8 @@ def page_error(function: str) -> "re.Pattern[str]":
     return re.compile(rf"(?:\./)?proofs/{page}/(?:Answers|Proof)\.antt:\d+:\d+: error: ")
 
 
-def why_not(said: str, crate: str, function: str) -> str:
-    """Why what a check of the function said is no refusal by it; nothing where it is."""
+def why_not(said: str, crate: str, function: str, together: Set[str]) -> str:
+    """Why what a check of the function said is no refusal by it; nothing where it is. A cycle of calls is proved as one."""
     lines = said.split("\n")
     for form, why in ((NAMES, "a page names what the edit took away"), (UNREAD, "the prover wasn't reached")):
         found = next((line for line in lines if form.match(line)), "")
@@ -28,17 +28,20 @@ def why_not(said: str, crate: str, function: str) -> str:
     ended = next((line for line in lines if line.startswith("only=")), "")
     if not ended:
         return f"the check came to no end: {lines[-2][:200] if len(lines) > 1 else said[:200]}"
-    return fault_of_goals(lines, f"{crate}::{function}", page_error(function), ended)
-
-
-def fault_of_goals(lines: List[str], name: str, page: "re.Pattern[str]", ended: str) -> str:
     open_ones = {match[1]: match[0] for line in lines for match in [FUNCTION.match(line)] if match}
     if not open_ones:
         return f"NOT REFUSED, the function is still proved ({ended})"
-    if set(open_ones) != {name}:
-        return f"refused by {', '.join(sorted(open_ones))}, and not by {name} alone"
-    if "could not tell" in open_ones[name]:
+    others = sorted(set(open_ones) - {f"{crate}::{name}" for name in together})
+    own = open_ones.get(f"{crate}::{function}", "")
+    if others or not own:
+        return f"refused by {', '.join(others or sorted(open_ones))}, and not by {crate}::{function} alone"
+    return fault_of_goals(lines, own, page_error(function))
+
+
+def fault_of_goals(lines: List[str], own: str, page: "re.Pattern[str]") -> str:
+    """Why no goal of the function is open; nothing where one is."""
+    if "could not tell" in own:
         return "the prover could not tell, by a limit of its own: choose a change that it refuses sooner"
-    if "did not prove" in open_ones[name] or any(OPEN_GOAL.match(line) or page.match(line) for line in lines):
+    if "did not prove" in own or any(OPEN_GOAL.match(line) or page.match(line) for line in lines):
         return ""
-    return f"no goal is told to be open: {open_ones[name]}"
+    return f"no goal is told to be open: {own}"

@@ -1,7 +1,10 @@
 #!/usr/bin/env python3
 """What counts as a refusal of a planted bug, by what the prover says."""
 import unittest
+from pathlib import Path
+from typing import Set
 
+from bugs import Bug, cycle_of
 from refusal import why_not
 
 LINES = {
@@ -16,6 +19,7 @@ LINES = {
     "no page": "fn cga_word::name::begins: no proof: expected ./proofs/name/begins/Invariants.antt",
     "untold": "fn cga_word::name::begins: could not tell",
     "invariant": "./proofs/name/begins/Invariants.antt:6:13: error: `decreases`: this has another type",
+    "one of its cycle": "fn cga_word::name::continues: not proved",
     "caller": "fn cga_word::name::is_name: not proved",
     "proved": "fn cga_word::name::begins: proved",
     "end": "only=1 proved=0",
@@ -24,12 +28,18 @@ LINES = {
 
 
 def judged(*names: str) -> str:
-    return why_not("\n".join([*(LINES[name] for name in names), ""]), "cga_word", "name::begins")
+    said = "\n".join([*(LINES[name] for name in names), ""])
+    return why_not(said, "cga_word", "name::begins", {"name::begins", "name::continues"})
 
 
 class Refusals(unittest.TestCase):
     def test_refused(self) -> None:
-        for names in (("open goal", "no proof", "end"), ("no proof", "end"), ("answer", "not proved", "end")):
+        for names in (
+            ("open goal", "no proof", "end"),
+            ("no proof", "end"),
+            ("answer", "not proved", "end"),
+            ("open goal", "not proved", "one of its cycle", "end"),
+        ):
             with self.subTest(names):
                 self.assertEqual(judged(*names), "")
 
@@ -42,6 +52,7 @@ class Refusals(unittest.TestCase):
             (("name gone", "open goal", "not proved", "end"), "what the edit took away"),
             (("open goal", "caller", "end"), "refused by cga_word::name::is_name, and not by cga_word::name::begins"),
             (("open goal", "caller", "not proved", "end"), "and not by cga_word::name::begins alone"),
+            (("open goal", "one of its cycle", "end"), "and not by cga_word::name::begins alone"),
             (("no page", "end"), "no goal is told to be open"),
             (("page of another", "not proved", "end"), "no goal is told to be open"),
             (("invariant", "not proved", "end"), "no goal is told to be open"),
@@ -50,6 +61,30 @@ class Refusals(unittest.TestCase):
         ):
             with self.subTest(names):
                 self.assertIn(why, judged(*names))
+
+
+class Cycles(unittest.TestCase):
+    TEXT = """#[cycle(walk)]
+// a comment
+#[tactic(auto)]
+pub(crate) fn one() {}
+
+#[cycle(walk)]
+fn two() {}
+
+#[cycle(other)]
+fn three() {}
+
+fn four() {}
+"""
+
+    def cycle(self, function: str) -> Set[str]:
+        return cycle_of(Bug(Path("cga_word"), Path("a.edit"), function), {"src/walk.rt": self.TEXT})
+
+    def test_cycle(self) -> None:
+        self.assertEqual(self.cycle("walk::one"), {"walk::one", "walk::two"})
+        self.assertEqual(self.cycle("walk::three"), {"walk::three"})
+        self.assertEqual(self.cycle("walk::four"), {"walk::four"})
 
 
 if __name__ == "__main__":
