@@ -11,6 +11,7 @@
     forms         the form that a shape is drawn as, and the items that draw it
     sizes         sizes and lengths of splits
     splits        splits, repeats and numbers of parts
+    narrow        what a rule makes of shapes that are too narrow for it
     components    faces and edges of a scope
     steps         an operation each: moves, sizes, turns, extrusions, borders
     roofs         roofs by their angles

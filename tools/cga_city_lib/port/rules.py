@@ -11,7 +11,7 @@ from .look import PLAIN, Look
 from .lost import Lost, Remarks
 from .meshes import Meshes
 from .names import Names
-from .splits import narrow
+from .narrow import guards
 from .traits import Traits, names_in
 from .tree import (
     Attribute,
@@ -216,12 +216,13 @@ class Port:
     def plain_lines(self, context: Context, body: Body, condition: str) -> List[Line]:
         """The rule of one case, behind those for shapes that are too narrow for its split."""
         context.narrow, context.whole = [], items_of(body)
-        first = narrow(Walk(context, context.state, context.here), context.whole)
+        first = guards(Walk(context, context.state, context.here), context.whole)
         alternatives = self.alternatives(context, body)
-        guards = ([first] if first else []) + context.narrow
+        all_guards = first + context.narrow
         context.whole = None
         lines = [
-            Line(context.symbol, context.parameters, joined(condition, asked), [(text, None)]) for asked, text in guards
+            Line(context.symbol, context.parameters, joined(condition, asked), [(text, None)])
+            for asked, text in all_guards
         ]
         lines.append(Line(context.symbol, context.parameters, condition, alternatives))
         return [lines[0]._replace(comments=self.remarks.taken()), *lines[1:]]

@@ -1,15 +1,13 @@
 """Splits and repeats. What a size means there is told in `sizes`."""
 import re
 from fractions import Fraction
-from typing import Dict, List, Optional, Tuple
+from typing import Dict, List, Tuple
 
 from .context import MOST_PARAMETERS, Line
-from .sizes import Piece, equal_length, fixed_sum, is_less, pieces_of, scope_size, share_texts
+from .sizes import Piece, equal_length, is_less, pieces_of, scope_size, share_texts
 from .traits import INDICES
-from .tree import Binary, Item, Number, Operation, Split, Value
+from .tree import Binary, Number, Split, Value
 from .walk import Walk
-
-MOVING = ("s", "t", "r", "extrude", "offset", "translate")
 
 
 def split(walk: Walk, item: Split) -> str:
@@ -135,30 +133,3 @@ def counted(walk: Walk, item: Split, piece: Piece, before: int) -> str:
     first = Line(symbol, [str(before), equal_length(piece.size, axis, walk.writer), *context.parameters], "", []).head()
     alone = Line(symbol, [str(before), size, *context.parameters], "", []).head()
     return context.lifted("count", [(is_less(axis, piece.size, walk.writer), alone), ("", first)])
-
-
-def narrow(walk: Walk, items: List[Item]) -> Optional[Tuple[str, str]]:
-    """For a successor that ends in a split with fixed sizes: the condition where these have no room, and what is made there.
-    Nothing where the scope isn't the rule's own any more."""
-    if not items or not isinstance(items[-1], Split):
-        return None
-    last, whole = items[-1], fixed_sum(row_of(items[-1])[0])
-    fixed = [piece for piece in row_of(last)[0] if piece.kind == "fixed"]
-    if whole is None or len(fixed) == len(last.parts):
-        return None
-    walk.items(items[:-1])
-    if walk.moves or any(isinstance(item, Operation) and item.name in MOVING for item in items):
-        return None
-    here = {"split.index": "0", "split.total": str(len(last.parts))}
-    bodies = [walk.inner(piece.body, walk.state, here) for piece in fixed]
-    walk.make(squeezed(walk, last.axis, fixed, bodies, whole))
-    size = walk.writer.number(scope_size(last.axis))
-    return f"{size} <= {walk.writer.number(whole)}", walk.text()
-
-
-def squeezed(walk: Walk, axis: str, fixed: List[Piece], bodies: List[str], whole: Value) -> str:
-    """The fixed parts alone, each by its share of their sum."""
-    if len(set(bodies)) == 1:
-        return bodies[0]
-    lengths = [Binary("/", Binary("*", piece.size, scope_size(axis)), whole) for piece in fixed[:-1]]
-    return subdivided(axis, [*(walk.writer.number(length) for length in lengths), "1r"], bodies)
